@@ -1,0 +1,85 @@
+// What is answered.
+use crate::lists::{Groups, NameList, Names64};
+use crate::names::Name;
+use crate::numbers::{CompNo, ZoneNo};
+use crate::zone_sets::ZoneSet;
+use std::alloc::AllocError;
+
+/// Want of memory: std's error for it, under the name that signatures use.
+pub type NoMemory = AllocError;
+
+/// Why a command is refused. A refused command leaves everything as it was.
+#[derive(Clone, Copy, Debug, PartialEq, Eq)]
+pub enum Refusal {
+    /// The most zones, or compartments, are there.
+    Full,
+    /// A named zone is not made.
+    NoZone,
+    /// The named compartment is not made.
+    NoComp,
+    /// A register that the command reads is empty.
+    Empty,
+    /// A cell is of another kind than the command wants.
+    Kind,
+    /// The object has no such field.
+    NoField,
+    /// Two cells are of different compartments.
+    Cross,
+    /// The key is a wrapper.
+    WrapperKey,
+    /// A collection runs.
+    Running,
+    /// No collection runs.
+    Idle,
+    /// Some zone is marking.
+    Marking,
+}
+
+/// The last line of a command's answer.
+#[derive(Drop)]
+pub enum Reply {
+    /// A zone was made.
+    Zone(ZoneNo),
+    /// A compartment was made.
+    Comp(CompNo),
+    /// An object or a map was made.
+    Made(u64),
+    /// What a register holds now.
+    Named(Name),
+    /// A register is empty now.
+    Null,
+    /// The command is done.
+    Accepted,
+    /// There was no such entry.
+    Absent,
+    /// A collection began.
+    GcBegun,
+    /// This many units were done.
+    Sliced(u64),
+    /// A collection is over.
+    Collected,
+    /// The gray names, ascending.
+    Gray(NameList),
+    Refused(Refusal),
+}
+
+/// What a unit of collection reports.
+#[derive(Drop)]
+pub enum Report {
+    /// The groups were formed.
+    Groups(Groups),
+    /// A group ended: its zones, and its present gray names, ascending.
+    Ended(ZoneSet, NameList),
+    /// An arena was taken in: its number, and the names of the cells freed from it, ascending.
+    Swept(u32, Names64),
+    /// The collection is over.
+    Done,
+}
+
+/// Why a command on the graph was not done.
+#[derive(Clone, Copy, Debug, PartialEq, Eq)]
+pub enum CmdFault {
+    Refused(Refusal),
+    /// Memory was wanted, and everything is as it was.
+    NoMemory,
+}
