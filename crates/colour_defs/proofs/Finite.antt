@@ -11,7 +11,7 @@ use Rattle.colour_defs.specs.Closure.{HasEdge, Closure, from, along, weak}
 use Rattle.colour_defs.specs.World.{Names, Has}
 use Rattle.colour_defs.proofs.Lists.{nothing_in_none, contains_head, contains_tail, contains_cases, both_of}
 use Rattle.colour_defs.proofs.Names.{same_name-is, same_name-refl, eq_name-is, eq_name-refl}
-use Rattle.colour_defs.proofs.Commands.{in_insert, insert_has}
+use Rattle.colour_defs.proofs.ValidCommands.{in_insert, insert_has}
 
 -- the two tests of names agree
 pub eq_same : (x y : Name) → eq_by_cmp name_cmp x y ≡ same_name x y

@@ -21,8 +21,8 @@ use Rattle.colour_defs.proofs.Names.{eq_name-refl}
 use Rattle.colour_defs.proofs.Membership.{white_of}
 use Rattle.colour_defs.proofs.ZoneSets.{zones_in-first}
 use Rattle.colour_defs.proofs.Carried.{made_zone, reached_more}
-use Rattle.colour_defs.proofs.Commands.{command_valid}
-use Rattle.colour_defs.proofs.Runs.{first_valid}
+use Rattle.colour_defs.proofs.ValidCommands.{command_valid}
+use Rattle.colour_defs.proofs.ValidRuns.{first_valid}
 use Rattle.colour_defs.proofs.Finite.{reached_within, single, members_empty}
 use Rattle.colour_defs.proofs.LinkedAndDropped.{edges7, reg_root, w1, w2, w3, w4, w5, w6, w7}
 use Rattle.colour_defs.proofs.Inverted.{quiet_after, placed_after, ReportsAll, units_reports, place_owned, arena_listed}

@@ -19,8 +19,8 @@ use Rattle.colour_defs.specs.Rows.{comp_0, only_zone_0, gray_key, answers_gray_k
 use Rattle.colour_defs.specs.Laws.{IsValid}
 use Rattle.colour_defs.proofs.Lists.{nothing_in_none, contains_head, contains_tail, contains_cases, no_name_in_nulls, contains_set_cases}
 use Rattle.colour_defs.proofs.Membership.{gray_of, white_is_not_live}
-use Rattle.colour_defs.proofs.Commands.{insert_has, in_insert}
-use Rattle.colour_defs.proofs.Runs.{answer_valid}
+use Rattle.colour_defs.proofs.ValidCommands.{insert_has, in_insert}
+use Rattle.colour_defs.proofs.ValidRuns.{answer_valid}
 use Rattle.colour_defs.proofs.Finite.{Places, places_empty, places_insert, Members, members_empty, members_insert, no_name, reached_within, place_named, single, each_has, fresh_slot}
 use Rattle.colour_defs.proofs.Making.{object_world, made_world, new_lawful, map_lawful, room_first, room_next}
 use Rattle.colour_defs.proofs.OneZone.{grouped, forms_one_group, collect_lawful, sweep_of_nothing}

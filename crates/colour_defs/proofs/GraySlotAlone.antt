@@ -16,7 +16,7 @@ use Rattle.colour_defs.specs.Lawful.{Answers, Begins, IsLawfulOutput}
 use Rattle.colour_defs.specs.Rows.{only_zone_0, gray_slot_alone, answers_gray_slot_alone}
 use Rattle.colour_defs.proofs.Lists.{nothing_in_none, contains_head, contains_tail, no_name_in_nulls, contains_set_cases}
 use Rattle.colour_defs.proofs.Membership.{gray_of, white_is_not_live}
-use Rattle.colour_defs.proofs.Commands.{insert_has}
+use Rattle.colour_defs.proofs.ValidCommands.{insert_has}
 use Rattle.colour_defs.proofs.Finite.{Members, members_empty, members_insert, no_name, reached_within, place_named, single, each_has, insert_cases}
 use Rattle.colour_defs.proofs.OneZone.{grouped, forms_one_group, collect_lawful, sweep_of_nothing}
 use Rattle.colour_defs.proofs.LinkedAndDropped.{w1, w2, w3, w4, w5, a1, a2, a3, a4, a5, p4, places4}

@@ -11,10 +11,10 @@ use Rattle.colour_defs.specs.Laws.{IsValid, RegistersAreBlack, ClosuresAreClosed
 use Rattle.colour_defs.proofs.Carried.{black_closed, all_closed, black_in_all}
 use Rattle.colour_defs.specs.Closure.{Closure, from, along, weak}
 use Rattle.colour_defs.proofs.Lists.{nothing_in_none}
-use Rattle.colour_defs.proofs.Ending.{closed_at_end, gone_at_end, marks_end, runs_end}
+use Rattle.colour_defs.proofs.ValidEnds.{closed_at_end, gone_at_end, marks_end, runs_end}
 use Rattle.colour_defs.proofs.Membership.{zone_in}
-use Rattle.colour_defs.proofs.Reports.{no_marking}
-use Rattle.colour_defs.proofs.Runs.{run_valid, first_valid}
+use Rattle.colour_defs.proofs.ValidReports.{no_marking}
+use Rattle.colour_defs.proofs.ValidRuns.{run_valid, first_valid}
 
 pub lawful_valid : (cs : List Cmd) (answers : List (List Report × Reply)) (w : World) → Run first_world cs answers w → IsValid w
 lawful_valid cs answers w h = run_valid first_world cs answers w first_valid h

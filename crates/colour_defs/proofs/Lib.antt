@@ -6,10 +6,10 @@ pub mod Follows
 pub mod Woken
 pub mod Membership
 pub mod Carried
-pub mod Commands
-pub mod Ending
-pub mod Reports
-pub mod Runs
+pub mod ValidCommands
+pub mod ValidEnds
+pub mod ValidReports
+pub mod ValidRuns
 pub mod LawsOfRuns
 pub mod Refused
 pub mod Parts
@@ -26,3 +26,4 @@ pub mod GrayKey
 pub mod MadeWhileMarking
 pub mod Inverted
 pub mod FreedCellMissed
+pub mod Progress

@@ -20,8 +20,8 @@ use Rattle.colour_defs.specs.Laws.{IsValid}
 use Rattle.colour_defs.proofs.Lists.{nothing_in_none, contains_head, contains_tail, contains_cases, no_name_in_nulls}
 use Rattle.colour_defs.proofs.Names.{same_name-is}
 use Rattle.colour_defs.proofs.Membership.{white_of}
-use Rattle.colour_defs.proofs.Commands.{insert_has}
-use Rattle.colour_defs.proofs.Runs.{answer_valid, first_valid}
+use Rattle.colour_defs.proofs.ValidCommands.{insert_has}
+use Rattle.colour_defs.proofs.ValidRuns.{answer_valid, first_valid}
 use Rattle.colour_defs.proofs.Finite.{Places, place_in, places_empty, places_insert, Members, members_empty, members_insert, reached_within, fresh_slot, place_named, single, each_has, insert_cases}
 use Rattle.colour_defs.proofs.Making.{room_next, room_first, made_world, new_lawful}
 use Rattle.colour_defs.proofs.OneWhite.{after_remove, one_gone, others_stay, one_white, sweep_of_one}

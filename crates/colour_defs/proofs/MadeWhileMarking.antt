@@ -18,8 +18,8 @@ use Rattle.colour_defs.specs.Rows.{comp_0, only_zone_0, made_while_marking, answ
 use Rattle.colour_defs.proofs.Lists.{nothing_in_none, no_name_in_nulls}
 use Rattle.colour_defs.proofs.Membership.{white_of}
 use Rattle.colour_defs.proofs.ZoneSets.{zones_in-first}
-use Rattle.colour_defs.proofs.Commands.{insert_has}
-use Rattle.colour_defs.proofs.Runs.{no_one, no_black}
+use Rattle.colour_defs.proofs.ValidCommands.{insert_has}
+use Rattle.colour_defs.proofs.ValidRuns.{no_one, no_black}
 use Rattle.colour_defs.proofs.Finite.{Places, places_empty, places_insert, Members, members_empty, members_insert, no_name, reached_within, place_named, single}
 use Rattle.colour_defs.proofs.Making.{room_first}
 use Rattle.colour_defs.proofs.OneWhite.{one_gone, others_stay, one_white, sweep_of_one}

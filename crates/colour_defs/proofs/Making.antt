@@ -24,7 +24,7 @@ use Rattle.colour_defs.specs.Laws.{IsValid}
 use Rattle.colour_defs.proofs.Lists.{decided, nothing_in_none, get_push_here, get_past, no_name_in_nulls, choose}
 use Rattle.colour_defs.proofs.Follows.{made_edge}
 use Rattle.colour_defs.proofs.Carried.{nothing_new, no_comp}
-use Rattle.colour_defs.proofs.Commands.{in_insert, insert_has, placed_kept, placed_there}
+use Rattle.colour_defs.proofs.ValidCommands.{in_insert, insert_has, placed_kept, placed_there}
 use Rattle.colour_defs.proofs.Finite.{insert_cases}
 
 is_false : (b : Bool) → (b ≡ true → ⊥) → b ≡ false

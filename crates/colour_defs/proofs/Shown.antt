@@ -20,7 +20,7 @@ use Rattle.colour_defs.proofs.Follows.{Follows, follows}
 use Rattle.colour_defs.proofs.Woken.{woken_is}
 use Rattle.colour_defs.proofs.Refused.{refused_keeps}
 use Rattle.colour_defs.proofs.Carried.{Changes}
-use Rattle.colour_defs.proofs.Commands.{quiet_changes, waking_changes}
+use Rattle.colour_defs.proofs.ValidCommands.{quiet_changes, waking_changes}
 use Rattle.colour_defs.proofs.Parts.{agreement, held_same, slot_same, in_comp_same, target_here, pushed_here, written_here, here_stays, woken_here}
 
 -- an edge of the part is one of the whole

@@ -9,3 +9,4 @@ pub mod Lawful
 pub mod Laws
 pub mod Present
 pub mod Rows
+pub mod Reach

@@ -86,8 +86,13 @@ abbrev pub fits_comp : GraphState → CompNo → Option Name → Bool
 fits_comp g c None = true
 fits_comp g c (Some x) = is_in_comp g c x
 
+-- an object, if it is there, with this in a field
+abbrev pub with_field_in : Option Object → ℕ → Option Name → Option Object
+with_field_in None f v = None
+with_field_in (Some o) f v = Some (record o { fields = slice_set o.fields f v })
+
 abbrev pub with_field : GraphState → ℕ → Object → ℕ → Option Name → GraphState
-with_field g n o f v = record g { objects = slice_set g.objects n (Some (record o { fields = slice_set o.fields f v })) }
+with_field g n o f v = record g { objects = slice_set g.objects n (with_field_in (Some o) f v) }
 
 abbrev pub set_in : GraphState → ℕ → Option Object → ℕ → Option Name → GraphState × Reply
 set_in g n None f v = refuse g refusal.Kind

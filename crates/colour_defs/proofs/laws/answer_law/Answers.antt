@@ -1,4 +1,4 @@
-use Rattle.colour_defs.proofs.Runs.{answer_valid}
+use Rattle.colour_defs.proofs.ValidRuns.{answer_valid}
 use Rattle.colour_defs.proofs.laws.answer_law.Goals as goal
 
 pub returns : goal.returns

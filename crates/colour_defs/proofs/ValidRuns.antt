@@ -15,8 +15,8 @@ use Rattle.gz_names.specs.declared.replies.Reply.{Reply}
 use Rattle.colour_defs.specs.Lawful.{Answers, Slices, Run, RefusesToBegin, RefusesIdle, with_spent}
 use Rattle.colour_defs.specs.Laws.{IsValid}
 use Rattle.colour_defs.proofs.Lists.{get_contains, no_name_in_nulls}
-use Rattle.colour_defs.proofs.Commands.{command_valid}
-use Rattle.colour_defs.proofs.Reports.{units_valid, begin_valid, retallied_valid, spent_retallied}
+use Rattle.colour_defs.proofs.ValidCommands.{command_valid}
+use Rattle.colour_defs.proofs.ValidReports.{units_valid, begin_valid, retallied_valid, spent_retallied}
 
 slice_valid : (w : World) (reports : List Report) (n : ℕ) (v : World) → IsValid w → Slices w reports n v → IsValid v
 slice_valid w reports n v ok s = subst (λ z. IsValid z) (sym s.world_is) (retallied_valid s.after s.after.out s.after.white s.after.collection (with_spent n s.after.collection) (spent_retallied n s.after.collection) refl (units_valid w s.units s.after ok s.done))

@@ -12,7 +12,7 @@ use Rattle.gz_names.specs.declared.replies.Report.{Report}
 use Rattle.colour_defs.specs.Lawful.{FormsGroups, IsLawfulSweep, Finishes, IsOver, IsLawfulReport, IsLawfulUnit, quiet, says, last, AreLawfulUnits, Begins, with_sweep, with_spent}
 use Rattle.colour_defs.specs.Laws.{IsValidRunning, IsValidMarking, AreValidGroups, IsUngrouped, LeadsToBlack, IsValid}
 use Rattle.colour_defs.proofs.Lists.{nothing_in_none, contains_head, contains_tail, get_contains}
-use Rattle.colour_defs.proofs.Ending.{end_valid}
+use Rattle.colour_defs.proofs.ValidEnds.{end_valid}
 
 -- collections that differ only in their tallies
 pub data Retallied : Option Collection → Option Collection → Type 0 where

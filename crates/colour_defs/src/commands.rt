@@ -1,0 +1,387 @@
+// What each command does to the graph, and what it answers: the definitions of specs/Step.antt as
+// code.
+ghost use Rattle.std.specs.Prelude.{◌≡◌, IfOk, OnErr, OnOk};
+ghost use Rattle.gz_names.specs.declared.replies.Reply.TheVariants as reply;
+ghost use Rattle.colour_defs.specs.Graph.{object_of, register_cell, slot_cell};
+ghost use Rattle.colour_defs.specs.Step.{HasFewFields, del_from, entry_refusal, find_from, fits_comp, get_from, is_in_comp, make_comp, make_object, make_zone, map_comp, named_or_null, new_map, new_object, put_from, set_from, set_in, step_of, take_in_register, take_wrapper, target_of, unwrap_from, value_to_set, with_register, with_slot, wrap_from};
+
+use crate::fields::Fields;
+use crate::graph::{Graph, Object};
+use gz_names::{
+    COMP_LIMIT, CompNo, GraphCmd, GrayNo, Name, NoMemory, Refusal, Reg, Reply, ZONE_LIMIT, ZoneNo,
+};
+use std::alloc::Global;
+
+fn named_or_null(cell: &Option<Name>) -> Reply
+    ensures { result ≡ named_or_null cell.now }
+{
+    match cell {
+        None => Reply::Null,
+        Some(name) => Reply::Named(*name),
+    }
+}
+
+// A register takes a cell or becomes empty, and the reply names it.
+fn take_in_register(graph: &mut Graph, register: Reg, cell: Option<Name>) -> Reply
+    ensures graph { graph.new ≡ (take_in_register graph.old register cell).0 }
+    ensures reply { result ≡ (take_in_register graph.old register cell).1 }
+{
+    let reply = named_or_null(&cell);
+    graph.set_register(register, cell);
+    reply
+}
+
+fn make_zone(graph: &mut Graph) -> Reply
+    ensures graph { graph.new ≡ (make_zone graph.old).0 }
+    ensures reply { result ≡ (make_zone graph.old).1 }
+{
+    let next = graph.zones();
+    match ZoneNo::new(next) {
+        Some(zone) if next < ZONE_LIMIT => {
+            graph.add_zone();
+            Reply::Zone(zone)
+        }
+        _ => Reply::Refused(Refusal::Full),
+    }
+}
+
+fn make_comp(graph: &mut Graph, zone: ZoneNo) -> Result<Reply, NoMemory>
+    ensures graph { OnOk result (graph.new ≡ (make_comp graph.old zone).0) }
+    ensures reply { IfOk result (λ r. r ≡ (make_comp graph.old zone).1) }
+    ensures err { OnErr result (graph.new ≡ graph.old) }
+{
+    if zone.index() >= graph.zones() {
+        return Ok(Reply::Refused(Refusal::NoZone));
+    }
+    let count = graph.comps();
+    if count >= COMP_LIMIT as usize {
+        return Ok(Reply::Refused(Refusal::Full));
+    }
+    graph.add_comp(zone)?;
+    Ok(Reply::Comp(CompNo(count as u8)))
+}
+
+fn new_object(alloc: Global, comp: CompNo, count: u8) -> Result<Object, NoMemory>
+    ensures { IfOk result (λ o. o ≡ new_object comp count) }
+{
+    let fields = Fields::new(alloc, count)?;
+    Ok(Object {
+        comp,
+        is_map: false,
+        fields,
+    })
+}
+
+fn new_map(alloc: Global, comp: CompNo) -> Object
+    ensures { result ≡ new_map comp }
+{
+    Object {
+        comp,
+        is_map: true,
+        fields: Fields::empty(alloc),
+    }
+}
+
+// An object or a map with the next number; a register holds it.
+fn make_object(graph: &mut Graph, register: Reg, object: Object) -> Result<Reply, NoMemory>
+    ensures graph { OnOk result (graph.new ≡ (make_object graph.old register object).0) }
+    ensures reply { IfOk result (λ r. r ≡ (make_object graph.old register object).1) }
+    ensures err { OnErr result (graph.new ≡ graph.old) }
+{
+    if object.comp.0 as usize >= graph.comps() {
+        return Ok(Reply::Refused(Refusal::NoComp));
+    }
+    let number = graph.objects().len() as u64;
+    graph.add_object(object)?;
+    graph.set_register(register, Some(Name::Cell(number)));
+    Ok(Reply::Made(number))
+}
+
+fn get(graph: &mut Graph, register: Reg, source: Reg, field: u8) -> Reply
+    ensures graph { graph.new ≡ (get_from graph.old register (register_cell graph.old source) field).0 }
+    ensures reply { result ≡ (get_from graph.old register (register_cell graph.old source) field).1 }
+{
+    let number = match graph.register(source) {
+        None => return Reply::Refused(Refusal::Empty),
+        Some(Name::Wrap(_, _)) => return Reply::Refused(Refusal::Kind),
+        Some(Name::Cell(number)) => number,
+    };
+    let found = match graph.object(number) {
+        Some(object) if !object.is_map => object.fields.get(field as usize),
+        _ => return Reply::Refused(Refusal::Kind),
+    };
+    match found {
+        None => Reply::Refused(Refusal::NoField),
+        Some(cell) => take_in_register(graph, register, cell),
+    }
+}
+
+fn is_in_comp(graph: &Graph, comp: CompNo, name: Name) -> bool
+    ensures { result ≡ is_in_comp graph.now comp name }
+{
+    match graph.comp_of(name) {
+        None => false,
+        Some(own) => own == comp,
+    }
+}
+
+fn fits_comp(graph: &Graph, comp: CompNo, cell: &Option<Name>) -> bool
+    ensures { result ≡ fits_comp graph.now comp cell.now }
+{
+    match cell {
+        None => true,
+        Some(name) => is_in_comp(graph, comp, *name),
+    }
+}
+
+fn set_in(graph: &mut Graph, number: u64, field: u8, value: Option<Name>) -> Reply
+    ensures graph { graph.new ≡ (set_in graph.old number (object_of graph.old number) field value).0 }
+    ensures reply { result ≡ (set_in graph.old number (object_of graph.old number) field value).1 }
+{
+    let comp = match graph.object(number) {
+        Some(object) if !object.is_map => {
+            if field as usize >= object.fields.len() {
+                return Reply::Refused(Refusal::NoField);
+            }
+            object.comp
+        }
+        _ => return Reply::Refused(Refusal::Kind),
+    };
+    if !fits_comp(graph, comp, &value) {
+        return Reply::Refused(Refusal::Cross);
+    }
+    graph.set_field(number, field, value);
+    Reply::Accepted
+}
+
+// What a `set` is to write: null, or what a register holds, if it holds something.
+fn value_to_set(graph: &Graph, register: &Option<Reg>) -> Option<Option<Name>>
+    ensures { result ≡ value_to_set graph.now register.now }
+{
+    match register {
+        None => Some(None),
+        Some(register) => match graph.register(*register) {
+            None => None,
+            Some(name) => Some(Some(name)),
+        },
+    }
+}
+
+fn set(graph: &mut Graph, holder: Reg, field: u8, value: &Option<Reg>) -> Reply
+    ensures graph { graph.new ≡ (set_from graph.old (register_cell graph.old holder) field (value_to_set graph.old value.now)).0 }
+    ensures reply { result ≡ (set_from graph.old (register_cell graph.old holder) field (value_to_set graph.old value.now)).1 }
+{
+    match (graph.register(holder), value_to_set(graph, value)) {
+        (None, _) | (Some(_), None) => Reply::Refused(Refusal::Empty),
+        (Some(Name::Wrap(_, _)), Some(_)) => Reply::Refused(Refusal::Kind),
+        (Some(Name::Cell(number)), Some(value)) => set_in(graph, number, field, value),
+    }
+}
+
+// A register takes the wrapper of a target, which is made if it was never there.
+fn take_wrapper(
+    graph: &mut Graph,
+    register: Reg,
+    comp: CompNo,
+    target: u64,
+) -> Result<Reply, NoMemory>
+    ensures graph { OnOk result (graph.new ≡ (take_wrapper graph.old register comp target).0) }
+    ensures reply { IfOk result (λ r. r ≡ (take_wrapper graph.old register comp target).1) }
+    ensures err { OnErr result (graph.new ≡ graph.old) }
+{
+    if !graph.has_wrapper(comp, target) {
+        graph.add_wrapper(comp, target)?;
+    }
+    graph.set_register(register, Some(Name::Wrap(comp, target)));
+    Ok(Reply::Named(Name::Wrap(comp, target)))
+}
+
+// The number of the object or map that a name stands for.
+fn target_of(name: Name) -> u64
+    ensures { result ≡ target_of name }
+{
+    match name {
+        Name::Cell(number) => number,
+        Name::Wrap(_, target) => target,
+    }
+}
+
+fn wrap(graph: &mut Graph, register: Reg, source: Reg, comp: CompNo) -> Result<Reply, NoMemory>
+    ensures graph { OnOk result (graph.new ≡ (wrap_from graph.old register (register_cell graph.old source) comp).0) }
+    ensures reply { IfOk result (λ r. r ≡ (wrap_from graph.old register (register_cell graph.old source) comp).1) }
+    ensures err { OnErr result (graph.new ≡ graph.old) }
+{
+    let target = match graph.register(source) {
+        None => return Ok(Reply::Refused(Refusal::Empty)),
+        Some(name) => target_of(name),
+    };
+    if comp.0 as usize >= graph.comps() {
+        return Ok(Reply::Refused(Refusal::NoComp));
+    }
+    if is_in_comp(graph, comp, Name::Cell(target)) {
+        graph.set_register(register, Some(Name::Cell(target)));
+        return Ok(Reply::Named(Name::Cell(target)));
+    }
+    take_wrapper(graph, register, comp, target)
+}
+
+fn unwrap(graph: &mut Graph, register: Reg, source: Reg) -> Reply
+    ensures graph { graph.new ≡ (unwrap_from graph.old register (register_cell graph.old source)).0 }
+    ensures reply { result ≡ (unwrap_from graph.old register (register_cell graph.old source)).1 }
+{
+    match graph.register(source) {
+        None => Reply::Refused(Refusal::Empty),
+        Some(Name::Cell(_)) => Reply::Refused(Refusal::Kind),
+        Some(Name::Wrap(_, target)) => {
+            graph.set_register(register, Some(Name::Cell(target)));
+            Reply::Named(Name::Cell(target))
+        }
+    }
+}
+
+fn copy(graph: &mut Graph, register: Reg, source: Reg) -> Reply
+    ensures graph { graph.new ≡ with_register graph.old register (register_cell graph.old source) }
+    ensures reply { result ≡ reply.Accepted }
+{
+    let cell = graph.register(source);
+    graph.set_register(register, cell);
+    Reply::Accepted
+}
+
+fn hold(graph: &mut Graph, slot: GrayNo, register: Reg) -> Reply
+    ensures graph { graph.new ≡ with_slot graph.old slot (register_cell graph.old register) }
+    ensures reply { result ≡ reply.Accepted }
+{
+    let cell = graph.register(register);
+    graph.set_slot(slot, cell);
+    Reply::Accepted
+}
+
+fn expose(graph: &mut Graph, register: Reg, slot: GrayNo) -> Reply
+    ensures graph { graph.new ≡ (take_in_register graph.old register (slot_cell graph.old slot)).0 }
+    ensures reply { result ≡ (take_in_register graph.old register (slot_cell graph.old slot)).1 }
+{
+    let cell = graph.slot(slot);
+    take_in_register(graph, register, cell)
+}
+
+// The compartment of a map; None for what is no map.
+fn map_comp(graph: &Graph, name: Name) -> Option<CompNo>
+    ensures { result ≡ map_comp graph.now name }
+{
+    match name {
+        Name::Wrap(_, _) => None,
+        Name::Cell(number) => match graph.object(number) {
+            Some(object) if object.is_map => Some(object.comp),
+            _ => None,
+        },
+    }
+}
+
+// Why an entry of a map with this key and value is refused, if it is.
+fn entry_refusal(graph: &Graph, map: Name, key: Name, value: Name) -> Option<Refusal>
+    ensures { result ≡ entry_refusal graph.now map key value }
+{
+    match map_comp(graph, map) {
+        None => Some(Refusal::Kind),
+        Some(comp) => {
+            if !is_in_comp(graph, comp, key) || !is_in_comp(graph, comp, value) {
+                return Some(Refusal::Cross);
+            }
+            match key {
+                Name::Cell(_) => None,
+                Name::Wrap(_, _) => Some(Refusal::WrapperKey),
+            }
+        }
+    }
+}
+
+fn put(graph: &mut Graph, map: Reg, key: Reg, value: Reg) -> Result<Reply, NoMemory>
+    ensures graph { OnOk result (graph.new ≡ (put_from graph.old (register_cell graph.old map) (register_cell graph.old key) (register_cell graph.old value)).0) }
+    ensures reply { IfOk result (λ r. r ≡ (put_from graph.old (register_cell graph.old map) (register_cell graph.old key) (register_cell graph.old value)).1) }
+    ensures err { OnErr result (graph.new ≡ graph.old) }
+{
+    let (Some(map), Some(key), Some(value)) = (
+        graph.register(map),
+        graph.register(key),
+        graph.register(value),
+    ) else {
+        return Ok(Reply::Refused(Refusal::Empty));
+    };
+    if let Some(why) = entry_refusal(graph, map, key, value) {
+        return Ok(Reply::Refused(why));
+    }
+    graph.put_entry(map, key, value)?;
+    Ok(Reply::Accepted)
+}
+
+fn del(graph: &mut Graph, map: Reg, key: Reg) -> Reply
+    ensures graph { graph.new ≡ (del_from graph.old (register_cell graph.old map) (register_cell graph.old key)).0 }
+    ensures reply { result ≡ (del_from graph.old (register_cell graph.old map) (register_cell graph.old key)).1 }
+{
+    let (Some(map), Some(key)) = (graph.register(map), graph.register(key)) else {
+        return Reply::Refused(Refusal::Empty);
+    };
+    if let Some(why) = entry_refusal(graph, map, key, key) {
+        return Reply::Refused(why);
+    }
+    match graph.value_of(map, key) {
+        None => Reply::Absent,
+        Some(_) => {
+            graph.del_entry(map, key);
+            Reply::Accepted
+        }
+    }
+}
+
+fn find(graph: &mut Graph, register: Reg, map: Reg, key: Reg) -> Reply
+    ensures graph { graph.new ≡ (find_from graph.old register (register_cell graph.old map) (register_cell graph.old key)).0 }
+    ensures reply { result ≡ (find_from graph.old register (register_cell graph.old map) (register_cell graph.old key)).1 }
+{
+    let (Some(map), Some(key)) = (graph.register(map), graph.register(key)) else {
+        return Reply::Refused(Refusal::Empty);
+    };
+    match entry_refusal(graph, map, key, key) {
+        Some(why) => Reply::Refused(why),
+        None => {
+            let value = graph.value_of(map, key);
+            take_in_register(graph, register, value)
+        }
+    }
+}
+
+/// Does a command on the graph, and answers it. Want of memory is the one error, and leaves the
+/// graph as it was.
+pub fn step(alloc: Global, graph: &mut Graph, cmd: &GraphCmd) -> Result<Reply, NoMemory>
+    requires { HasFewFields cmd.now }
+    ensures graph { OnOk result (graph.new ≡ (step_of graph.old cmd.now).0) }
+    ensures reply { IfOk result (λ r. r ≡ (step_of graph.old cmd.now).1) }
+    ensures err { OnErr result (graph.new ≡ graph.old) }
+{
+    match cmd {
+        GraphCmd::Zone => Ok(make_zone(graph)),
+        GraphCmd::Comp(zone) => make_comp(graph, *zone),
+        GraphCmd::New(register, comp, count) => {
+            make_object(graph, *register, new_object(alloc, *comp, *count)?)
+        }
+        GraphCmd::Map(register, comp) => make_object(graph, *register, new_map(alloc, *comp)),
+        GraphCmd::Get(register, source, field) => Ok(get(graph, *register, *source, *field)),
+        GraphCmd::Set(holder, field, value) => Ok(set(graph, *holder, *field, value)),
+        GraphCmd::Wrap(register, source, comp) => wrap(graph, *register, *source, *comp),
+        GraphCmd::Unwrap(register, source) => Ok(unwrap(graph, *register, *source)),
+        GraphCmd::Copy(register, source) => Ok(copy(graph, *register, *source)),
+        GraphCmd::Drop(register) => {
+            graph.set_register(*register, None);
+            Ok(Reply::Accepted)
+        }
+        GraphCmd::Hold(slot, register) => Ok(hold(graph, *slot, *register)),
+        GraphCmd::Release(slot) => {
+            graph.set_slot(*slot, None);
+            Ok(Reply::Accepted)
+        }
+        GraphCmd::Expose(register, slot) => Ok(expose(graph, *register, *slot)),
+        GraphCmd::Put(map, key, value) => put(graph, *map, *key, *value),
+        GraphCmd::Del(map, key) => Ok(del(graph, *map, *key)),
+        GraphCmd::Find(register, map, key) => Ok(find(graph, *register, *map, *key)),
+    }
+}
