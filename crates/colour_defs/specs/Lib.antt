@@ -1,0 +1,11 @@
+pub mod Graph
+pub mod Step
+pub mod Closure
+pub mod Units
+pub mod World
+pub mod Groups
+pub mod Ends
+pub mod Lawful
+pub mod Laws
+pub mod Present
+pub mod Rows

@@ -1,0 +1,59 @@
+-- Worked rows: commands of a trace, and their answers.
+use Rattle.std.specs.Prelude.{List, [], ◌∷◌, Some}
+use Rattle.gz_names.specs.declared.names.Name.TheVariants.{Cell}
+use Rattle.gz_names.specs.declared.numbers.CompNo.{CompNo}
+use Rattle.gz_names.specs.declared.zone_sets.ZoneSet.{ZoneSet}
+use Rattle.gz_names.specs.declared.commands.GraphCmd.TheVariants.{Zone, Comp, New, Map, Set, Get, Drop, Hold, Expose, Put, Find}
+use Rattle.gz_names.specs.declared.commands.Cmd.{Cmd}
+use Rattle.gz_names.specs.declared.commands.Cmd.TheVariants.{Graph, Gc, Slice, Finish, Collect, Colours}
+use Rattle.gz_names.specs.declared.replies.Reply.{Reply}
+use Rattle.gz_names.specs.declared.replies.Reply.TheVariants as reply
+use Rattle.gz_names.specs.declared.replies.Report.{Report}
+use Rattle.gz_names.specs.declared.replies.Report.TheVariants.{Groups, Ended, Swept, Done}
+
+abbrev pub comp_0 : CompNo
+comp_0 = record { 0 = 0 }
+
+-- the set of zone 0
+abbrev pub only_zone_0 : ZoneSet
+only_zone_0 = record { bits = 1 }
+
+-- a command that reports nothing, by its reply
+abbrev pub quiet : Reply → List Report × Reply
+quiet answer = ([], answer)
+
+-- linked and dropped: cell 1 is held by cell 0, cell 2 by nothing
+abbrev pub linked_and_dropped : List Cmd
+linked_and_dropped = Graph Zone ∷ Graph (Comp 0) ∷ Graph (New 0 comp_0 1) ∷ Graph (New 1 comp_0 0) ∷ Graph (Set 0 0 (Some 1)) ∷ Graph (New 1 comp_0 0) ∷ Graph (Drop 1) ∷ Collect only_zone_0 ∷ Graph (Get 2 0 0) ∷ []
+
+abbrev pub answers_linked_and_dropped : List (List Report × Reply)
+answers_linked_and_dropped = quiet (reply.Zone 0) ∷ quiet (reply.Comp comp_0) ∷ quiet (reply.Made 0) ∷ quiet (reply.Made 1) ∷ quiet reply.Accepted ∷ quiet (reply.Made 2) ∷ quiet reply.Accepted
+    ∷ (Groups (only_zone_0 ∷ []) ∷ Ended only_zone_0 [] ∷ Swept 0 (Cell 2 ∷ []) ∷ Done ∷ [], reply.Collected) ∷ quiet (reply.Named (Cell 1)) ∷ []
+
+-- the same without the freed cell, which is wrong
+abbrev pub answers_without_freed_cell : List (List Report × Reply)
+answers_without_freed_cell = quiet (reply.Zone 0) ∷ quiet (reply.Comp comp_0) ∷ quiet (reply.Made 0) ∷ quiet (reply.Made 1) ∷ quiet reply.Accepted ∷ quiet (reply.Made 2) ∷ quiet reply.Accepted
+    ∷ (Groups (only_zone_0 ∷ []) ∷ Ended only_zone_0 [] ∷ Swept 0 [] ∷ Done ∷ [], reply.Collected) ∷ quiet (reply.Named (Cell 1)) ∷ []
+
+-- a gray slot alone holds cell 0, which holds cell 1; handed out, both turn black
+abbrev pub gray_slot_alone : List Cmd
+gray_slot_alone = Graph Zone ∷ Graph (Comp 0) ∷ Graph (New 0 comp_0 1) ∷ Graph (New 1 comp_0 0) ∷ Graph (Set 0 0 (Some 1)) ∷ Graph (Hold 3 0) ∷ Graph (Drop 0) ∷ Graph (Drop 1) ∷ Collect only_zone_0 ∷ Colours ∷ Graph (Expose 5 3) ∷ Colours ∷ []
+
+abbrev pub answers_gray_slot_alone : List (List Report × Reply)
+answers_gray_slot_alone = quiet (reply.Zone 0) ∷ quiet (reply.Comp comp_0) ∷ quiet (reply.Made 0) ∷ quiet (reply.Made 1) ∷ quiet reply.Accepted ∷ quiet reply.Accepted ∷ quiet reply.Accepted ∷ quiet reply.Accepted
+    ∷ (Groups (only_zone_0 ∷ []) ∷ Ended only_zone_0 (Cell 0 ∷ Cell 1 ∷ []) ∷ Swept 0 [] ∷ Done ∷ [], reply.Collected) ∷ quiet (reply.Gray (Cell 0 ∷ Cell 1 ∷ [])) ∷ quiet (reply.Named (Cell 0)) ∷ quiet (reply.Gray []) ∷ []
+
+-- a black map with a gray key: the value is gray, and turns black with the key
+abbrev pub gray_key : List Cmd
+gray_key = Graph Zone ∷ Graph (Comp 0) ∷ Graph (Map 0 comp_0) ∷ Graph (New 1 comp_0 0) ∷ Graph (New 2 comp_0 0) ∷ Graph (Put 0 1 2) ∷ Graph (Hold 0 1) ∷ Graph (Drop 1) ∷ Graph (Drop 2) ∷ Collect only_zone_0 ∷ Graph (Expose 1 0) ∷ Colours ∷ Graph (Find 3 0 1) ∷ []
+
+abbrev pub answers_gray_key : List (List Report × Reply)
+answers_gray_key = quiet (reply.Zone 0) ∷ quiet (reply.Comp comp_0) ∷ quiet (reply.Made 0) ∷ quiet (reply.Made 1) ∷ quiet (reply.Made 2) ∷ quiet reply.Accepted ∷ quiet reply.Accepted ∷ quiet reply.Accepted ∷ quiet reply.Accepted
+    ∷ (Groups (only_zone_0 ∷ []) ∷ Ended only_zone_0 (Cell 1 ∷ Cell 2 ∷ []) ∷ Swept 0 [] ∷ Done ∷ [], reply.Collected) ∷ quiet (reply.Named (Cell 1)) ∷ quiet (reply.Gray []) ∷ quiet (reply.Named (Cell 2)) ∷ []
+
+-- made and dropped while marking: the cell is kept by this collection, and the slice before it did nothing
+abbrev pub made_while_marking : List Cmd
+made_while_marking = Graph Zone ∷ Graph (Comp 0) ∷ Gc only_zone_0 ∷ Slice 0 ∷ Graph (New 0 comp_0 0) ∷ Graph (Drop 0) ∷ Finish ∷ []
+
+abbrev pub answers_made_while_marking : List (List Report × Reply)
+answers_made_while_marking = quiet (reply.Zone 0) ∷ quiet (reply.Comp comp_0) ∷ quiet reply.GcBegun ∷ quiet (reply.Sliced 0) ∷ quiet (reply.Made 0) ∷ quiet reply.Accepted ∷ (Groups (only_zone_0 ∷ []) ∷ Ended only_zone_0 [] ∷ Swept 0 [] ∷ Done ∷ [], reply.Sliced 3) ∷ []
