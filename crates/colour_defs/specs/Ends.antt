@@ -1,5 +1,5 @@
 -- What a group's end makes of the colours, the present cells and the arenas.
-use Rattle.std.specs.Prelude.{◌≡◌, ◌↔◌, ℕ, ◌+◌, not, List, [], ◌∷◌, Option, Some, None, IsTrue, Contains, nat_eq, if◌then◌else◌}
+use Rattle.std.specs.Prelude.{◌≡◌, ◌↔◌, ℕ, ◌+◌, not, List, [], ◌∷◌, Some, None, IsTrue, Contains, nat_eq, if◌then◌else◌}
 use Rattle.std.specs.List.{list_any, AllByRecursion, filter}
 use Rattle.std.specs.Ordering.{is_lt}
 use Rattle.std.specs.FinMap as map

@@ -3,14 +3,12 @@ use Rattle.std.specs.Prelude.{◌≡◌, ◌≢◌, ◌⊎◌, ◌↔◌, ℕ, �
 use Rattle.std.specs.List.{flat_map}
 use Rattle.std.specs.FinSet as set
 use Rattle.gz_names.specs.declared.names.Name.{Name}
-use Rattle.gz_names.specs.declared.zone_sets.ZoneSet.{ZoneSet}
 use Rattle.gz_names.specs.declared.commands.Cmd.{Cmd}
 use Rattle.gz_names.specs.declared.commands.Cmd.TheVariants as command
 use Rattle.gz_names.specs.declared.replies.Reply.{Reply}
 use Rattle.gz_names.specs.declared.replies.Reply.TheVariants as reply
 use Rattle.gz_names.specs.declared.replies.Report.{Report}
 use Rattle.gz_names.specs.declared.replies.Report.TheVariants as report
-use Rattle.gz_names.specs.declared.replies.Refusal.{Refusal}
 use Rattle.gz_names.specs.declared.replies.Refusal.TheVariants as refusal
 use Rattle.gz_names.specs.Zones.{zones_in}
 use Rattle.colour_defs.specs.Graph.{IsInZones}

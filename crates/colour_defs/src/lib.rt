@@ -3,6 +3,11 @@
 
 mod fields;
 mod graph;
+mod laws;
 
 pub use fields::Fields;
 pub use graph::{Entry, Graph, Object};
+pub use laws::{
+    agrees_law, answer_law, closure_law, end_law, garbage_law, presence_law, reached_law,
+    refusal_law, register_law, shown_law, starts_law, valid_law,
+};

@@ -1,0 +1,75 @@
+-- The laws of every lawful world.
+use Rattle.std.proofs.Common.{◌≡◌, inl, inr, ℕ, List, [], subst, Contains}
+use Rattle.gz_names.specs.declared.names.Name.{Name}
+use Rattle.colour_defs.specs.Graph.{IsInZones, GraphState}
+use Rattle.colour_defs.specs.World.{World, Has, BlackClosure, LiveClosure, first_world}
+use Rattle.gz_names.specs.declared.replies.Report.{Report}
+use Rattle.gz_names.specs.declared.commands.Cmd.{Cmd}
+use Rattle.gz_names.specs.declared.replies.Reply.{Reply}
+use Rattle.colour_defs.specs.Lawful.{Run, EndsGroup, Finishes}
+use Rattle.colour_defs.specs.Laws.{IsValid, RegistersAreBlack, ClosuresAreClosed, ClosuresAreClosedAtEnd, GarbageGoesAtEnd, GarbageIsGone, ReachedIsInClosures, IsInRegister, IsRoot, IsClosed}
+use Rattle.colour_defs.proofs.Carried.{black_closed, all_closed, black_in_all}
+use Rattle.colour_defs.specs.Closure.{Closure, from, along, weak}
+use Rattle.colour_defs.proofs.Lists.{nothing_in_none}
+use Rattle.colour_defs.proofs.Ending.{closed_at_end, gone_at_end, marks_end, runs_end}
+use Rattle.colour_defs.proofs.Membership.{zone_in}
+use Rattle.colour_defs.proofs.Reports.{no_marking}
+use Rattle.colour_defs.proofs.Runs.{run_valid, first_valid}
+
+pub lawful_valid : (cs : List Cmd) (answers : List (List Report × Reply)) (w : World) → Run first_world cs answers w → IsValid w
+lawful_valid cs answers w h = run_valid first_world cs answers w first_valid h
+
+pub registers_black : (w : World) → IsValid w → RegistersAreBlack w
+registers_black w ok = record {
+  marking = λ k e some. (ok.marking k e some).registers;
+  settled = λ s. (ok.settled s).closed.registers;
+}
+
+pub closures_closed : (w : World) → IsValid w → ClosuresAreClosed w
+closures_closed w ok = record {
+  black = λ k e some. black_closed w k (ok.marking k e some);
+  live = λ k e some. all_closed w k (ok.marking k e some);
+  settled = λ s. (ok.settled s).closed;
+}
+
+pub ends_gone : (w : World) (zones : List ℕ) (grays : List Name) (v : World) → IsValid w → (h : EndsGroup w zones grays v) → GarbageGoesAtEnd w h.collection zones v
+ends_gone w zones grays v ok h x here none = gone_at_end w v h.collection zones h.rest grays ok h.running h.first h.ends x here none
+
+no_zone : (g : GraphState) (zs : List ℕ) → zs ≡ [] → (x : Name) → IsInZones g zs x → ⊥
+no_zone g zs e x h = let z = zone_in g zs x h in nothing_in_none z.0 (subst (λ l. Contains l z.0) e z.2)
+
+pub done_gone : (w v : World) → IsValid w → (h : Finishes w v) → GarbageIsGone w h.over.collection
+done_gone w v ok h x none p =
+    let k = h.over.collection in
+    let empty = no_marking w h.over.collection (ok.groups h.over.collection [] h.over.running h.over.ended) in
+    (ok.running h.over.collection h.over.running).others x p (λ e. no_zone w.graph h.over.collection.marking empty x e) none
+
+in_closed : (g : GraphState) (start P : Name → Type 0) → ((x : Name) → start x → P x) → IsClosed g P → {x : Name} → Closure g start x → P x
+in_closed g start P h c (from s) = h _ s
+in_closed g start P h c (along r d) = c.edges _ _ (in_closed g start P h c r) d
+in_closed g start P h c (weak at m k) = c.entries _ _ _ at (in_closed g start P h c m) (in_closed g start P h c k)
+
+pub ends_closed : (w : World) (zones : List ℕ) (grays : List Name) (v : World) → IsValid w → (h : EndsGroup w zones grays v) → ClosuresAreClosedAtEnd h.collection v
+ends_closed w zones grays v ok h =
+    let c = closed_at_end w v h.collection zones h.rest grays ok h.running h.first h.ends in
+    let m = marks_end w v h.collection zones h.rest grays ok h.running h.first h.ends in
+    let r = runs_end w v h.collection zones h.rest grays ok h.running h.first h.ends in
+    record {
+      black = c.0;
+      live = c.1;
+      reached_black = λ x q. in_closed v.graph (IsInRegister v) (BlackClosure h.collection) (λ y s. m.registers s.0 y s.1) c.0 q;
+      reached_live = λ x q. in_closed v.graph (IsRoot v h.collection) (LiveClosure h.collection) (λ y s. elim s [
+        | inl a ↦ c.1.registers a.0 y a.1
+        | inr o ↦ elim o [ inl a ↦ m.slots a.0 y a.1 | inr a ↦ r.outside y a.0 a.1 ]
+      ]) c.1 q;
+    }
+
+pub reached_now : (w : World) → IsValid w → ReachedIsInClosures w
+reached_now w ok = record {
+  black = λ k e some x r. let m = ok.marking k e some in in_closed w.graph (IsInRegister w) (BlackClosure k) (λ y h. m.registers h.0 y h.1) (black_closed w k m) r;
+  live = λ k e some x r. let m = ok.marking k e some in in_closed w.graph (IsRoot w k) (LiveClosure k) (λ y s. elim s [
+    | inl h ↦ black_in_all w k m y (m.registers h.0 y h.1)
+    | inr o ↦ elim o [ inl h ↦ m.slots h.0 y h.1 | inr h ↦ (ok.running k e).outside y h.0 h.1 ]
+  ]) (all_closed w k m) r;
+  settled = λ s x r. let t = ok.settled s in in_closed w.graph (IsInRegister w) (Has w.black) (λ y h. t.closed.registers h.0 y h.1) t.closed r;
+}

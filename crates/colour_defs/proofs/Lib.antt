@@ -1,0 +1,17 @@
+pub mod Lists
+pub mod Names
+pub mod Entries
+pub mod Effects
+pub mod Follows
+pub mod Woken
+pub mod Membership
+pub mod Carried
+pub mod Commands
+pub mod Ending
+pub mod Reports
+pub mod Runs
+pub mod LawsOfRuns
+pub mod Refused
+pub mod Parts
+pub mod Shown
+pub mod Starts

@@ -1,0 +1,5 @@
+use Rattle.colour_defs.proofs.LawsOfRuns.{ends_closed}
+use Rattle.colour_defs.proofs.laws.end_law.Goals as goal
+
+pub returns : goal.returns
+returns c = ends_closed
