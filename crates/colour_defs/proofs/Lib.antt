@@ -15,3 +15,14 @@ pub mod Refused
 pub mod Parts
 pub mod Shown
 pub mod Starts
+pub mod ZoneSets
+pub mod Finite
+pub mod Making
+pub mod OneZone
+pub mod OneWhite
+pub mod LinkedAndDropped
+pub mod GraySlotAlone
+pub mod GrayKey
+pub mod MadeWhileMarking
+pub mod Inverted
+pub mod FreedCellMissed

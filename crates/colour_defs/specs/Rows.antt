@@ -51,9 +51,12 @@ abbrev pub answers_gray_key : List (List Report × Reply)
 answers_gray_key = quiet (reply.Zone 0) ∷ quiet (reply.Comp comp_0) ∷ quiet (reply.Made 0) ∷ quiet (reply.Made 1) ∷ quiet (reply.Made 2) ∷ quiet reply.Accepted ∷ quiet reply.Accepted ∷ quiet reply.Accepted ∷ quiet reply.Accepted
     ∷ (Groups (only_zone_0 ∷ []) ∷ Ended only_zone_0 (Cell 1 ∷ Cell 2 ∷ []) ∷ Swept 0 [] ∷ Done ∷ [], reply.Collected) ∷ quiet (reply.Named (Cell 1)) ∷ quiet (reply.Gray []) ∷ quiet (reply.Named (Cell 2)) ∷ []
 
--- made and dropped while marking: the cell is kept by this collection, and the slice before it did nothing
+-- made and dropped while marking: the slice before does nothing, this collection keeps the cell, and the next
+-- one frees it
 abbrev pub made_while_marking : List Cmd
-made_while_marking = Graph Zone ∷ Graph (Comp 0) ∷ Gc only_zone_0 ∷ Slice 0 ∷ Graph (New 0 comp_0 0) ∷ Graph (Drop 0) ∷ Finish ∷ []
+made_while_marking = Graph Zone ∷ Graph (Comp 0) ∷ Gc only_zone_0 ∷ Slice 0 ∷ Graph (New 0 comp_0 0) ∷ Graph (Drop 0) ∷ Finish ∷ Collect only_zone_0 ∷ []
 
 abbrev pub answers_made_while_marking : List (List Report × Reply)
-answers_made_while_marking = quiet (reply.Zone 0) ∷ quiet (reply.Comp comp_0) ∷ quiet reply.GcBegun ∷ quiet (reply.Sliced 0) ∷ quiet (reply.Made 0) ∷ quiet reply.Accepted ∷ (Groups (only_zone_0 ∷ []) ∷ Ended only_zone_0 [] ∷ Swept 0 [] ∷ Done ∷ [], reply.Sliced 3) ∷ []
+answers_made_while_marking = quiet (reply.Zone 0) ∷ quiet (reply.Comp comp_0) ∷ quiet reply.GcBegun ∷ quiet (reply.Sliced 0) ∷ quiet (reply.Made 0) ∷ quiet reply.Accepted
+    ∷ (Groups (only_zone_0 ∷ []) ∷ Ended only_zone_0 [] ∷ Swept 0 [] ∷ Done ∷ [], reply.Sliced 3)
+    ∷ (Groups (only_zone_0 ∷ []) ∷ Ended only_zone_0 [] ∷ Swept 0 (Cell 0 ∷ []) ∷ Done ∷ [], reply.Collected) ∷ []
