@@ -1,0 +1,26 @@
+use Rattle.std.proofs.Common.{ap, Ok}
+use Rattle.gz_io.proofs.Plain.{plain_no_feed, too_long_shows, not_ascii_shows}
+use Rattle.gz_io.proofs.Reading.{next_bytes, stays_too_long, stays_not_ascii}
+use Rattle.gz_io.proofs.reader.LineReader.next.Goals as goal
+
+pub returns-in-Ok-clause-bytes : goal.returns-in-Ok-clause-bytes
+returns-in-Ok-clause-bytes g c = next_bytes _ _ _ _ _ c.in-Ok.found _ c.in-Ok.ensures.known (λ e. c.in-Ok.ensures.end (ap (λ f. Ok f) e)) c.give_found.ensures
+
+pub returns-in-Ok-clause-takes_late : goal.returns-in-Ok-clause-takes_late
+returns-in-Ok-clause-takes_late g c = λ h. (c.in-Ok.ensures.shown (plain_no_feed _ h)).1
+
+pub returns-in-Ok-clause-stays_too_long : goal.returns-in-Ok-clause-stays_too_long
+returns-in-Ok-clause-stays_too_long g c = λ h.
+    let s = c.in-Ok.ensures.shown (too_long_shows _ h) in
+    let k = stays_too_long _ _ _ _ _ s.2 c.in-Ok.ensures.found c.give_found.ensures h in (k.0, s.1, k.1)
+
+pub returns-in-Ok-clause-stays_not_ascii : goal.returns-in-Ok-clause-stays_not_ascii
+returns-in-Ok-clause-stays_not_ascii g c = λ h.
+    let s = c.in-Ok.ensures.shown (not_ascii_shows _ h) in
+    let k = stays_not_ascii _ _ _ _ _ s.2 c.in-Ok.ensures.found c.give_found.ensures h in (k.0, s.1, k.1)
+
+pub returns-in-Err-clause-takes_late : goal.returns-in-Err-clause-takes_late
+returns-in-Err-clause-takes_late g c = λ h. absurd (let e = (c.in-Err.ensures.shown (plain_no_feed _ h)).0 in cc e)
+
+pub returns-in-Err-clause-stays_not_ascii : goal.returns-in-Err-clause-stays_not_ascii
+returns-in-Err-clause-stays_not_ascii g c = λ h. absurd (let e = (c.in-Err.ensures.shown (not_ascii_shows _ h)).0 in cc e)
