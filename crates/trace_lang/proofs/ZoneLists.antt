@@ -152,6 +152,16 @@ pub number_words-break : (xs : List ℕ) → IsBreak (number_words xs)
 number_words-break [] = tt
 number_words-break (x ∷ xs) = refl
 
+pub one_zone-has : (w z : ℕ) → HasZone w z → number_words (zones_from w z 1) ≡ number_word z
+one_zone-has w z h = ap number_words (zones_from-has w z 0 h ∙ ap (λ t. z ∷ t) (zones_from-nil w (z + 1))) ∙ append-nil (number_word z)
+
+pub one_zone-lacks : (w z : ℕ) → z < 64 → (HasZone w z → ⊥) → number_words (zones_from w z 1) ≡ []
+one_zone-lacks w z l h = ap number_words (zones_from-lacks w z 0 l h ∙ zones_from-nil w (z + 1))
+
+-- the zones below a place, and whether that one is there
+pub zones_below-more : (w z : ℕ) → z < 64 → number_words (zones_from w 0 (z + 1)) ≡ number_words (zones_from w 0 z) ++ number_words (zones_from w z 1)
+zones_below-more w z l = ap number_words (zones_from-split w 0 z 1 (z + 1) z refl (omega arith) (omega arith)) ∙ number_words-append (zones_from w 0 z) (zones_from w z 1)
+
 -- the next zone is added
 pub listed_more : (text : List ℕ) (word next zone new : ℕ) (rest others : List ℕ) → Listed text word next rest → next ≤ zone → zone < 64 → rest ≡ number_word zone ++ others → new < 2 ^ 64 → ((z : ℕ) → HasZone new z ↔ (HasZone word z ⊎ (z ≡ zone))) → Listed text new (zone + 1) others
 listed_more text word next zone new rest others l from small r fits added =

@@ -1,3 +1,5 @@
 pub mod Grammar
 pub mod Numbers
+pub mod Owing
+pub mod Texts
 pub mod Words

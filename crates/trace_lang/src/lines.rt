@@ -1,6 +1,6 @@
 // From a line to its command.
-ghost use Rattle.std.specs.Prelude.{◌≡◌, ◌<◌, ◌≤◌, ◌⊎◌, ◌↔◌, ◌++◌, ℕ, List, Some, Ok, IfSome, IfOk, MatchOption};
-ghost use Rattle.gz_names.specs.Zones.{HasZone};
+ghost use Rattle.std.specs.Prelude.{◌≡◌, ◌<◌, ◌≤◌, ◌++◌, ℕ, List, Some, Ok, IfSome, IfOk, MatchOption, length};
+ghost use Rattle.gz_io.specs.Lines.{IsPlain};
 ghost use Rattle.gz_names.specs.declared.commands.Cmd.{Cmd};
 ghost use Rattle.gz_names.specs.declared.commands.GraphCmd.{GraphCmd};
 ghost use Rattle.gz_names.specs.declared.zone_sets.ZoneSet.{ZoneSet};
@@ -12,6 +12,7 @@ ghost use Rattle.trace_lang.specs.Grammar.{Spells, SpellsRest, SpellsZones};
 use crate::arguments::{Field, FieldCount, Target, one, three, two};
 use crate::numbers::spaced_number;
 use crate::words::{Word, word_of};
+use crate::zone_bits::with_zone;
 use gz_names::{Cmd, GraphCmd, ZoneSet};
 
 /// The line is outside the grammar.
@@ -82,14 +83,6 @@ fn next_zone(text: &[u8], lowest: u64) -> Option<(u64, &[u8])>
     }
 }
 
-// The zones of a word and one more.
-fn with_zone(bits: u64, zone: u64) -> u64
-    requires { zone < 64 }
-    ensures { (z : ℕ) → HasZone result z ↔ (HasZone bits z ⊎ (z ≡ zone)) }
-{
-    bits | 1 << zone
-}
-
 // The set of zones that a text lists, each behind a space and greater than the one before.
 fn zone_list(text: &[u8]) -> Option<ZoneSet>
     ensures some { IfSome result (λ zones. SpellsZones zones text.now) }
@@ -132,6 +125,8 @@ fn command(word: Word, rest: &[u8]) -> Option<Cmd>
 pub fn parse(line: &[u8]) -> Result<Cmd, BadLine>
     ensures ok { IfOk result (Spells line.now) }
     ensures exact { (c : Cmd) → Spells line.now c → result ≡ Ok c }
+    ensures short { IfOk result (λ _. length line.now ≤ 189) }
+    ensures plain { IfOk result (λ _. IsPlain line.now) }
 {
     let Some((word, rest)) = first_word(line) else {
         return Err(BadLine);

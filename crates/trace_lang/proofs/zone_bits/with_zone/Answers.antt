@@ -1,6 +1,6 @@
 use Rattle.std.proofs.Common.{inl, inr}
 use Rattle.gz_names.proofs.Words.{HasZone-or, HasZone-only}
-use Rattle.trace_lang.proofs.lines.with_zone.Goals as goal
+use Rattle.trace_lang.proofs.zone_bits.with_zone.Goals as goal
 
 pub returns : goal.returns
 returns c = λ z.

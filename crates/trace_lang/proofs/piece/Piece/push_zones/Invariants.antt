@@ -1,0 +1,7 @@
+use Rattle.std.proofs.Common.{◌≡◌, ◌≤◌, ◌+◌, ◌*◌, ◌++◌, length}
+use Rattle.gz_names.specs.Zones.{zones_from}
+use Rattle.trace_lang.specs.Words.{number_words}
+use Rattle.trace_lang.proofs.piece.Piece.push_zones.Given as goal
+
+abbrev pub invariant-loop-zone : goal.invariant-loop-zone
+invariant-loop-zone l = (l.self ≡ l.fn.self ++ number_words (zones_from l.zones.bits 0 l.zone)) × (length l.self ≤ length l.fn.self + 3 * l.zone)

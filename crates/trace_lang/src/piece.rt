@@ -1,0 +1,123 @@
+// A piece of a line that may be long.
+ghost use Rattle.std.specs.Prelude.{◌≡◌, ◌≤◌, ◌<◌, ◌+◌, ◌++◌, ◌∷◌, ℕ, [], length};
+ghost use Rattle.gz_names.specs.Zones.{zones_in, zones_from};
+ghost use Rattle.trace_lang.specs.Words.{number_word, number_words};
+ghost use Rattle.trace_lang.specs.Texts.{name_text, bar_text};
+
+use crate::tail::Tail;
+use crate::zone_bits::has_zone;
+use gz_names::{Name, ZoneSet};
+use std::marker::Model;
+
+/// A piece of an output line, of at most 512 bytes, composed before it is written.
+#[derive(Drop)]
+pub struct Piece {
+    buf: [u8; 512],
+    len: usize,
+}
+
+impl Model for Piece {
+    ghost use Rattle.std.specs.Prelude.{◌≤◌, ℕ, List, take};
+
+    ghost Value = { List ℕ };
+
+    ghost view = { λ p. take p.len p.buf };
+
+    ghost invariant = { λ p. p.len ≤ 512 };
+}
+
+impl Piece {
+    pub fn new() -> Self
+        ensures { result ≡ [] }
+    {
+        Piece {
+            buf: [0; 512],
+            len: 0,
+        }
+    }
+
+    pub fn text(&self) -> &[u8]
+        ensures { result.now ≡ self.now }
+    {
+        &self.buf[..self.len]
+    }
+
+    pub fn len(&self) -> usize
+        ensures { result ≡ length self.now }
+    {
+        self.len
+    }
+
+    pub fn clear(&mut self)
+        ensures { self.new ≡ [] }
+    {
+        self.len = 0;
+    }
+
+    pub fn push(&mut self, bytes: &[u8])
+        requires { length self.old + length bytes.now ≤ 512 }
+        ensures { self.new ≡ self.old ++ bytes.now }
+    {
+        let end = self.len + bytes.len();
+        self.buf[self.len..end].copy_from_slice(bytes);
+        self.len = end;
+    }
+
+    /// Adds a number behind a space.
+    pub fn push_number(&mut self, n: u64)
+        requires { length self.old ≤ 490 }
+        ensures text { self.new ≡ self.old ++ number_word n }
+        ensures size { length self.new ≤ length self.old + 21 }
+    {
+        let mut tail = Tail::new();
+        tail.number(n);
+        tail.byte(b' ');
+        self.push(tail.text());
+    }
+
+    /// Adds a name behind a space.
+    pub fn push_name(&mut self, name: Name)
+        requires { length self.old ≤ 450 }
+        ensures text { self.new ≡ self.old ++ 32 ∷ name_text name }
+        ensures size { length self.new ≤ length self.old + 42 }
+    {
+        let mut tail = Tail::new();
+        tail.name(name);
+        tail.byte(b' ');
+        self.push(tail.text());
+    }
+
+    /// Adds the zones of a set, each behind a space.
+    pub fn push_zones(&mut self, zones: ZoneSet)
+        requires { length self.old ≤ 260 }
+        ensures text { self.new ≡ self.old ++ number_words (zones_in zones) }
+        ensures size { length self.new ≤ length self.old + 192 }
+    {
+        for zone in 0..64u64 {
+            self.push_zone(zone, zones.bits);
+        }
+    }
+
+    // Adds a zone behind a space, if the word has it.
+    fn push_zone(&mut self, zone: u64, bits: u64)
+        requires small { zone < 64 }
+        requires room { length self.old ≤ 490 }
+        ensures text { self.new ≡ self.old ++ number_words (zones_from bits zone 1) }
+        ensures size { length self.new ≤ length self.old + 3 }
+    {
+        if has_zone(bits, zone) {
+            self.push_number(zone);
+        }
+    }
+
+    /// Adds the bar before a group of zones that is not the first.
+    pub fn push_bar(&mut self, n: usize)
+        requires { length self.old ≤ 500 }
+        ensures text { self.new ≡ self.old ++ bar_text n }
+        ensures size { length self.new ≤ length self.old + 2 }
+    {
+        if n != 0 {
+            self.push(b" |");
+        }
+    }
+}

@@ -1,0 +1,214 @@
+// The texts of names, replies and reports. A line goes out in one piece, but for a list that is
+// longer than a piece.
+ghost use Rattle.std.specs.Prelude.{◌≡◌, ◌≤◌, ◌<◌, ◌++◌, length, OnOk, OnErr, codes};
+ghost use Rattle.std.specs.Fmt.{decimal};
+ghost use Rattle.std.specs.Io.KnownBytes.{Appends};
+ghost use Rattle.gz_io.specs.Causes.{HasCause, AppendsFront};
+ghost use Rattle.trace_lang.specs.Owing.{Owes};
+ghost use Rattle.trace_lang.specs.Texts.{name_text, names_text, name_words, refusal_text, reply_text, report_text, groups_text, line_of};
+
+use crate::piece::Piece;
+use crate::tail::Tail;
+use gz_io::{Sink, WriteFault, write_all};
+use gz_names::{Name, Refusal, Reply, Report, ZoneSet};
+
+// Writes what is held where it leaves little room.
+fn make_room<K: Sink>(piece: &mut Piece, sink: &mut K) -> Result<(), WriteFault>
+    ensures ok { OnOk result (Owes (K.written sink.old) (K.written sink.new) piece.new piece.old) }
+    ensures room { OnOk result (length piece.new ≤ 256) }
+    ensures err { OnErr result (AppendsFront (K.written sink.old) (K.written sink.new) piece.old) }
+    ensures cause { HasCause (K.faults sink.old) (K.faults sink.new) result }
+{
+    if piece.len() > 256 {
+        write_all(sink, piece.text())?;
+        piece.clear();
+    }
+    Ok(())
+}
+
+// Ends the line that is held.
+fn end_line<K: Sink>(piece: &mut Piece, sink: &mut K) -> Result<(), WriteFault>
+    requires { length piece.old < 512 }
+    ensures ok { OnOk result (Appends (K.written sink.old) (K.written sink.new) (line_of piece.old)) }
+    ensures err { OnErr result (AppendsFront (K.written sink.old) (K.written sink.new) (line_of piece.old)) }
+    ensures cause { HasCause (K.faults sink.old) (K.faults sink.new) result }
+{
+    piece.push(b"\n");
+    write_all(sink, piece.text())
+}
+
+// Ends the line that is held with names, each behind a space.
+fn end_with_some<K: Sink>(piece: &mut Piece, sink: &mut K, names: &[Name]) -> Result<(), WriteFault>
+    requires { length piece.old ≤ 256 }
+    ensures ok { OnOk result (Appends (K.written sink.old) (K.written sink.new) (line_of (piece.old ++ name_words names.now))) }
+    ensures err { OnErr result (AppendsFront (K.written sink.old) (K.written sink.new) (line_of (piece.old ++ name_words names.now))) }
+    ensures cause { HasCause (K.faults sink.old) (K.faults sink.new) result }
+{
+    for name in names {
+        match make_room(piece, sink) {
+            Ok(()) => piece.push_name(*name),
+            Err(fault) => return Err(fault),
+        }
+    }
+    end_line(piece, sink)
+}
+
+// Ends the line that is held with a list of names.
+fn end_with_names<K: Sink>(
+    piece: &mut Piece,
+    sink: &mut K,
+    names: &[Name],
+) -> Result<(), WriteFault>
+    requires { length piece.old ≤ 256 }
+    ensures ok { OnOk result (Appends (K.written sink.old) (K.written sink.new) (line_of (piece.old ++ names_text names.now))) }
+    ensures err { OnErr result (AppendsFront (K.written sink.old) (K.written sink.new) (line_of (piece.old ++ names_text names.now))) }
+    ensures cause { HasCause (K.faults sink.old) (K.faults sink.new) result }
+{
+    if names.is_empty() {
+        piece.push(b" -");
+        return end_line(piece, sink);
+    }
+    end_with_some(piece, sink, names)
+}
+
+// Ends the line that is held with groups of zones.
+fn end_with_groups<K: Sink>(
+    piece: &mut Piece,
+    sink: &mut K,
+    groups: &[ZoneSet],
+) -> Result<(), WriteFault>
+    requires { length piece.old ≤ 256 }
+    ensures ok { OnOk result (Appends (K.written sink.old) (K.written sink.new) (line_of (piece.old ++ groups_text 0 groups.now))) }
+    ensures err { OnErr result (AppendsFront (K.written sink.old) (K.written sink.new) (line_of (piece.old ++ groups_text 0 groups.now))) }
+    ensures cause { HasCause (K.faults sink.old) (K.faults sink.new) result }
+{
+    for (i, zones) in groups.iter().enumerate() {
+        match make_room(piece, sink) {
+            Ok(()) => {
+                piece.push_bar(i);
+                piece.push_zones(*zones);
+            }
+            Err(fault) => return Err(fault),
+        }
+    }
+    end_line(piece, sink)
+}
+
+// Writes a line of a word and a number.
+fn write_numbered<K: Sink>(sink: &mut K, word: &[u8], n: u64) -> Result<(), WriteFault>
+    requires { length word.now ≤ 6 }
+    ensures ok { OnOk result (Appends (K.written sink.old) (K.written sink.new) (line_of (word.now ++ decimal n))) }
+    ensures err { OnErr result (AppendsFront (K.written sink.old) (K.written sink.new) (line_of (word.now ++ decimal n))) }
+    ensures cause { HasCause (K.faults sink.old) (K.faults sink.new) result }
+{
+    let mut tail = Tail::new();
+    tail.byte(b'\n');
+    tail.number(n);
+    tail.bytes(word);
+    write_all(sink, tail.text())
+}
+
+// Writes a line of a name.
+fn write_named<K: Sink>(sink: &mut K, name: Name) -> Result<(), WriteFault>
+    ensures ok { OnOk result (Appends (K.written sink.old) (K.written sink.new) (line_of (name_text name))) }
+    ensures err { OnErr result (AppendsFront (K.written sink.old) (K.written sink.new) (line_of (name_text name))) }
+    ensures cause { HasCause (K.faults sink.old) (K.faults sink.new) result }
+{
+    let mut tail = Tail::new();
+    tail.byte(b'\n');
+    tail.name(name);
+    write_all(sink, tail.text())
+}
+
+// The line of a refusal.
+fn refusal_line(refusal: Refusal) -> &'static [u8]
+    ensures { result.now ≡ line_of (refusal_text refusal) }
+{
+    match refusal {
+        Refusal::Full => b"full\n",
+        Refusal::NoZone => b"no-zone\n",
+        Refusal::NoComp => b"no-comp\n",
+        Refusal::Empty => b"empty\n",
+        Refusal::Kind => b"kind\n",
+        Refusal::NoField => b"no-field\n",
+        Refusal::Cross => b"cross\n",
+        Refusal::WrapperKey => b"wrapper-key\n",
+        Refusal::Running => b"running\n",
+        Refusal::Idle => b"idle\n",
+        Refusal::Marking => b"marking\n",
+    }
+}
+
+// Writes the line of the gray names.
+fn write_gray<K: Sink>(sink: &mut K, names: &[Name]) -> Result<(), WriteFault>
+    ensures ok { OnOk result (Appends (K.written sink.old) (K.written sink.new) (line_of (codes "gray" ++ names_text names.now))) }
+    ensures err { OnErr result (AppendsFront (K.written sink.old) (K.written sink.new) (line_of (codes "gray" ++ names_text names.now))) }
+    ensures cause { HasCause (K.faults sink.old) (K.faults sink.new) result }
+{
+    let mut piece = Piece::new();
+    piece.push(b"gray");
+    end_with_names(&mut piece, sink, names)
+}
+
+/// Writes a name, without a line feed.
+pub fn write_name<K: Sink>(sink: &mut K, name: Name) -> Result<(), WriteFault>
+    ensures ok { OnOk result (Appends (K.written sink.old) (K.written sink.new) (name_text name)) }
+    ensures err { OnErr result (AppendsFront (K.written sink.old) (K.written sink.new) (name_text name)) }
+    ensures cause { HasCause (K.faults sink.old) (K.faults sink.new) result }
+{
+    let mut tail = Tail::new();
+    tail.name(name);
+    write_all(sink, tail.text())
+}
+
+/// Writes a reply with its line feed, or fails after a front of it.
+pub fn write_reply<K: Sink>(sink: &mut K, reply: &Reply) -> Result<(), WriteFault>
+    ensures ok { OnOk result (Appends (K.written sink.old) (K.written sink.new) (line_of (reply_text reply.now))) }
+    ensures err { OnErr result (AppendsFront (K.written sink.old) (K.written sink.new) (line_of (reply_text reply.now))) }
+    ensures cause { HasCause (K.faults sink.old) (K.faults sink.new) result }
+{
+    match reply {
+        Reply::Zone(zone) => write_numbered(sink, b"zone ", u64::from(zone.index())),
+        Reply::Comp(comp) => write_numbered(sink, b"comp ", u64::from(comp.0)),
+        Reply::Made(n) => write_numbered(sink, b"cell ", *n),
+        Reply::Named(name) => write_named(sink, *name),
+        Reply::Null => write_all(sink, b"null\n"),
+        Reply::Accepted => write_all(sink, b"ok\n"),
+        Reply::Absent => write_all(sink, b"absent\n"),
+        Reply::GcBegun => write_all(sink, b"gc ok\n"),
+        Reply::Sliced(k) => write_numbered(sink, b"slice ", *k),
+        Reply::Collected => write_all(sink, b"collected\n"),
+        Reply::Gray(names) => write_gray(sink, names.as_slice()),
+        Reply::Refused(refusal) => write_all(sink, refusal_line(*refusal)),
+    }
+}
+
+/// Writes a report with its line feed, or fails after a front of it.
+pub fn write_report<K: Sink>(sink: &mut K, report: &Report) -> Result<(), WriteFault>
+    ensures ok { OnOk result (Appends (K.written sink.old) (K.written sink.new) (line_of (report_text report.now))) }
+    ensures err { OnErr result (AppendsFront (K.written sink.old) (K.written sink.new) (line_of (report_text report.now))) }
+    ensures cause { HasCause (K.faults sink.old) (K.faults sink.new) result }
+{
+    let mut piece = Piece::new();
+    match report {
+        Report::Groups(groups) => {
+            piece.push(b"groups");
+            end_with_groups(&mut piece, sink, groups.as_slice())
+        }
+        Report::Ended(zones, names) => {
+            piece.push(b"ended");
+            piece.push_zones(*zones);
+            piece.push(b" gray");
+            end_with_names(&mut piece, sink, names.as_slice())
+        }
+        Report::Swept(arena, names) => {
+            piece.push(b"swept");
+            piece.push_number(u64::from(*arena));
+            end_with_names(&mut piece, sink, names.as_slice())
+        }
+        Report::Done => {
+            piece.push(b"done");
+            end_line(&mut piece, sink)
+        }
+    }
+}
