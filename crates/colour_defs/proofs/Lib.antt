@@ -12,6 +12,8 @@ pub mod ValidReports
 pub mod ValidRuns
 pub mod LawsOfRuns
 pub mod Refused
+pub mod Complete
+pub mod Alike
 pub mod Parts
 pub mod Shown
 pub mod Starts
