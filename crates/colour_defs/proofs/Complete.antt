@@ -7,8 +7,8 @@ use Rattle.gz_names.specs.declared.commands.GraphCmd.{GraphCmd}
 use Rattle.gz_names.specs.declared.replies.Refusal.{Refusal}
 use Rattle.colour_defs.specs.Graph.{GraphState, comp_of}
 use Rattle.colour_defs.specs.Closure.{HasEdge}
-use Rattle.colour_defs.specs.Step.{step_of}
-use Rattle.colour_defs.specs.World.{woken_by, refusal_in}
+use Rattle.colour_defs.specs.Step.{step_of, refusal_in}
+use Rattle.colour_defs.specs.World.{woken_by}
 use Rattle.colour_defs.specs.Laws.{IsWellFormed, IsNoWrapper}
 use Rattle.colour_defs.specs.Present.{IsHere, IsComplete}
 use Rattle.colour_defs.proofs.Effects.{Source, register, target, unwrapped, value, woken, effect_of}

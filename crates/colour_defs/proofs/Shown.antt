@@ -9,8 +9,8 @@ use Rattle.gz_names.specs.declared.replies.Refusal.{Refusal}
 use Rattle.colour_defs.specs.declared.graph.Object.{Object}
 use Rattle.colour_defs.specs.Graph.{GraphState, object_of, register_cell, value_of}
 use Rattle.colour_defs.specs.Closure.{HasEdge, HoldsInField}
-use Rattle.colour_defs.specs.Step.{step_of, target_of}
-use Rattle.colour_defs.specs.World.{World, CommandInWorld, Accepts, AcceptsUnless, with_counts, woken_by, woken_by_wrap, refusal_in}
+use Rattle.colour_defs.specs.Step.{step_of, target_of, refusal_in}
+use Rattle.colour_defs.specs.World.{World, CommandInWorld, Accepts, AcceptsUnless, with_counts, woken_by, woken_by_wrap}
 use Rattle.colour_defs.specs.Laws.{IsValid}
 use Rattle.colour_defs.specs.Present.{IsHere, IsComplete, IsPartOf, Agrees, Shows}
 use Rattle.colour_defs.proofs.Lists.{any_push_cases, first_of_both, second_of_both}

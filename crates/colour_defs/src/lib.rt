@@ -5,9 +5,9 @@
 //
 // What is kept
 // ------------
-// A graph that never frees takes commands (specs/Graph, specs/Step). What is reached in it from some
-// starts is a closure: the least set that has the starts, with each name the ends of its edges, and
-// with a map and a key the value of their entry (specs/Closure).
+// A graph that never frees takes commands (specs/Graph, specs/Step). What is reached in it from
+// some starts is a closure: the least set that has the starts, with each name the ends of its
+// edges, and with a map and a key the value of their entry (specs/Closure).
 //
 // A world (specs/World) is that graph with what a collector makes of it: the places of the present
 // cells, the zone of each arena, the arenas that are out for sweeping, the white cells that wait
@@ -15,24 +15,25 @@
 // `gc` and two sets of starts. Its black closure is what it finds black, its live closure what it
 // finds black or gray; both grow with each name that is woken while it runs.
 //
-//     no collection --gc--> marking --groups--> marking in groups --ended, for the last--> sweeping
-//          ^                                     |  ^                                         |
-//          |                                     +--+ ended, for another group                |
-//          +------------------------------------ done ----------------------------------------+
+//     no collection --gc--> marking --groups--> in groups --last ended--> sweeping --+
+//          ^                                      |   ^                              |
+//          |                                      +---+ another ended                |
+//          +----------------------------------- done --------------------------------+
 //
-// As a group ends (specs/Ends) exactly the black closure is black, the rest of the live closure gray,
-// and the remainder white: white names stop being present, and lie in their arenas until these are
-// taken in. Which reports are lawful, one unit after another, and so which answers to a list of
-// commands, is specs/Lawful. That a collection takes a bounded number of units is specs/Units.
+// As a group ends (specs/Ends) exactly the black closure is black, the rest of the live closure
+// gray, and the remainder white: white names stop being present, and lie in their arenas until
+// these are taken in. Which reports are lawful, one unit after another, and so which answers to a
+// list of commands, is specs/Lawful. That a collection takes a bounded number of units is
+// specs/Units.
 //
 // Why a snapshot
 // --------------
 // Cell 0 is scanned. Then the script reads cell 2 out of a field of cell 1, which is not scanned,
-// puts it into cell 0, and clears the field of cell 1. Cell 2 now hangs on a scanned cell alone, and
-// a collector that looks at the graph of today frees it under the script's hand. In the snapshot
-// cell 1 still holds cell 2, so it is in the black closure, whatever the script does since; hence the
-// barrier before a write. The closure law says for every lawful run that black leads to black and
-// live to live, in the graph as it is at that moment.
+// puts it into cell 0, clears the field of cell 1 and drops the register. Cell 2 now hangs on a
+// scanned cell alone, and a collector that looks at the graph of today frees it under the script's
+// hand. In the snapshot cell 1 still holds cell 2, so it is in the black closure, whatever the
+// script does since; hence the barrier before a write. The closure law says for every lawful run
+// that black leads to black and live to live, in the graph as it is at that moment.
 //
 // Why an order of groups
 // ----------------------
