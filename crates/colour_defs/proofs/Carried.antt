@@ -47,14 +47,14 @@ black_closed w k ok = record {
   entries = λ m q v e p r. elim (ok.entries m q v e) [ inl old ↦ weak old p r | inr b ↦ b ];
 }
 
-pub black_in_all : (w : World) (k : Collection) → IsValidMarking w k → (x : Name) → BlackClosure k x → LiveClosure k x
-black_in_all w k ok x h = reached_more k.snapshot _ _ (λ y s. elim s [ inl a ↦ inl (ok.starts y a) | inr b ↦ inr b ]) h
+pub black_in_live : (w : World) (k : Collection) → IsValidMarking w k → (x : Name) → BlackClosure k x → LiveClosure k x
+black_in_live w k ok x h = reached_more k.snapshot _ _ (λ y s. elim s [ inl a ↦ inl (ok.starts y a) | inr b ↦ inr b ]) h
 
-pub all_closed : (w : World) (k : Collection) → IsValidMarking w k → IsClosed w.graph (LiveClosure k)
-all_closed w k ok = record {
-  registers = λ r x e. black_in_all w k ok x (ok.registers r x e);
-  edges = λ x y p e. elim (ok.edges x y e) [ inl old ↦ along p old | inr q ↦ black_in_all w k ok y q ];
-  entries = λ m q v e p r. elim (ok.entries m q v e) [ inl old ↦ weak old p r | inr b ↦ black_in_all w k ok v b ];
+pub live_closed : (w : World) (k : Collection) → IsValidMarking w k → IsClosed w.graph (LiveClosure k)
+live_closed w k ok = record {
+  registers = λ r x e. black_in_live w k ok x (ok.registers r x e);
+  edges = λ x y p e. elim (ok.edges x y e) [ inl old ↦ along p old | inr q ↦ black_in_live w k ok y q ];
+  entries = λ m q v e p r. elim (ok.entries m q v e) [ inl old ↦ weak old p r | inr b ↦ black_in_live w k ok v b ];
 }
 
 pub nothing_new : (g : GraphState) (y : Name) → HasEdge g (Cell (length g.objects)) y → ⊥
@@ -96,7 +96,7 @@ groups_settled w v k awake tally gs e g = record {
   backward = subst (λ x. EachLater (LeadsToBlack v (record k { woken = awake; tally = tally })) x) (sym (no_groups w k gs e g)) tt;
 }
 
--- what a command does to a world, but for colours and collection
+-- what a command does to a world, but for colours and the collection
 pub record Changes (w : World) (o : Option Name) (v : World) : Type 0 where
   pub follow : Follows w.graph o v.graph
   pub kept : (x : Name) → IsPresent w x → IsPresent v x
@@ -176,20 +176,20 @@ module _ (w : World) (o : Option Name) (v : World) (ok : IsValid w) (c : Changes
     black_more : (x : Name) → BlackClosure k x → BlackClosure after x
     black_more x h = reached_more k.snapshot _ _ (λ y s. elim s [ inl a ↦ inl a | inr b ↦ inr (more y b) ]) h
 
-    all_more : (x : Name) → LiveClosure k x → LiveClosure after x
-    all_more x h = reached_more k.snapshot _ _ (λ y s. elim s [ inl a ↦ inl a | inr b ↦ inr (more y b) ]) h
+    live_more : (x : Name) → LiveClosure k x → LiveClosure after x
+    live_more x h = reached_more k.snapshot _ _ (λ y s. elim s [ inl a ↦ inl a | inr b ↦ inr (more y b) ]) h
 
     source_black : IsValidMarking w k → (x : Name) → Source w.graph o x → BlackClosure after x
     source_black m x s = from_source w (BlackClosure k) (BlackClosure after) ok (black_closed w k m) black_more o (λ y e. from (inr (has y e))) x s
 
-    black_all : IsValidMarking w k → (x : Name) → BlackClosure after x → LiveClosure after x
-    black_all m x h = reached_more k.snapshot _ _ (λ y s. elim s [ inl a ↦ inl (m.starts y a) | inr b ↦ inr b ]) h
+    black_is_live : IsValidMarking w k → (x : Name) → BlackClosure after x → LiveClosure after x
+    black_is_live m x h = reached_more k.snapshot _ _ (λ y s. elim s [ inl a ↦ inl (m.starts y a) | inr b ↦ inr b ]) h
 
     pub marking_carries : IsValidMarking w k → IsValidMarking v after
     marking_carries m = record {
       starts = m.starts;
       registers = λ r x e. source_black m x (c.follow.registers r x e);
-      slots = λ s x e. elim (c.follow.slots s x e) [ inl old ↦ all_more x (m.slots s x old) | inr src ↦ black_all m x (source_black m x src) ];
+      slots = λ s x e. elim (c.follow.slots s x e) [ inl old ↦ live_more x (m.slots s x old) | inr src ↦ black_is_live m x (source_black m x src) ];
       edges = λ x y e. elim (c.follow.edges x y e) [ inl old ↦ elim (m.edges x y old) [ inl was ↦ inl was | inr b ↦ inr (black_more y b) ] | inr src ↦ inr (source_black m y src) ];
       entries = λ a q u e. elim (c.follow.entries a q u e) [ inl old ↦ elim (m.entries a q u old) [ inl was ↦ inl was | inr b ↦ inr (black_more u b) ] | inr new ↦ inr (source_black m u new.1) ];
     }
@@ -198,11 +198,11 @@ module _ (w : World) (o : Option Name) (v : World) (ok : IsValid w) (c : Changes
     running_carries m = record {
       starts = m.starts;
       others = λ x p out none. elim (c.fresh x p) [
-        | inl there ↦ m.others x there (λ e. out (in_zones_stays w.graph o v.graph c.follow k.marking x e)) (λ h. none (all_more x h))
+        | inl there ↦ m.others x there (λ e. out (in_zones_stays w.graph o v.graph c.follow k.marking x e)) (λ h. none (live_more x h))
         | inr e ↦ none (from (inr (has x e)))
       ];
       outside = λ x p out. elim (c.fresh x p) [
-        | inl there ↦ all_more x (m.outside x there (λ e. out (in_zones_stays w.graph o v.graph c.follow k.zones x e)))
+        | inl there ↦ live_more x (m.outside x there (λ e. out (in_zones_stays w.graph o v.graph c.follow k.zones x e)))
         | inr e ↦ from (inr (has x e))
       ];
     }

@@ -27,18 +27,21 @@ pub data Source (g : GraphState) (w : Option Name) (x : Name) : Type 0 where
   value : (a b : ℕ) (m k : Name) → register_cell g a ≡ Some m → register_cell g b ≡ Some k → value_of g m k ≡ Some x → Source g w x
   woken : w ≡ Some x → Source g w x
 
+-- a command writes this, or nothing
 abbrev pub From : GraphState → Option Name → Option Name → Type 0
 From g w x = (y : Name) → x ≡ Some y → Source g w y
 
 abbrev pub HoldsNothing : Object → Type 0
 HoldsNothing o = (y : Name) → Contains o.fields (Some y) → ⊥
 
+-- an entry that is not refused
 pub record EntryOk (g : GraphState) (m k v : Name) : Type 0 where
   pub key : IsSameComp g m k
   pub value : IsSameComp g m v
   pub map_cell : IsNoWrapper m
   pub key_cell : IsNoWrapper k
 
+-- what a command does to a graph: nothing, or a change of one of these kinds. w is the name that it wakes
 pub data Effect (g : GraphState) (w : Option Name) : GraphState → Type 0 where
   keeps : Effect g w g
   zones : (n : ℕ) → Effect g w (record g { zones = n })
@@ -181,6 +184,7 @@ find_effect g w r a b (Some m) (Some k) em ek = find_unless_effect g w r a b m k
 make_effect : (g : GraphState) (r : ℕ) (o : Object) → HoldsNothing o → Effect g (Some (Cell (length g.objects))) (make_object g r o).0
 make_effect g r o nothing = choose (λ (p : GraphState × Reply). Effect g (Some (Cell (length g.objects))) p.0) (nat_lt o.comp.0 (length g.comps)) _ _ (λ _. makes r o nothing refl) (λ _. keeps)
 
+-- the one place where the sixteen commands are told apart
 pub effect_of : (g : GraphState) (c : GraphCmd) → Effect g (woken_by g c) (step_of g c).0
 effect_of g cmd.Zone = choose (λ (p : GraphState × Reply). Effect g None p.0) (nat_lt g.zones ZONE_LIMIT) _ _ (λ _. zones (g.zones + 1)) (λ _. keeps)
 effect_of g (cmd.Comp z) = choose (λ (p : GraphState × Reply). Effect g None p.0) (nat_lt z g.zones) _ _ (λ _. choose (λ (p : GraphState × Reply). Effect g None p.0) (nat_lt (length g.comps) COMP_LIMIT) _ _ (λ _. comps z) (λ _. keeps)) (λ _. keeps)

@@ -13,6 +13,7 @@ use Rattle.colour_defs.proofs.Lists.{set_cases, get_append, get_push_cases, get_
 use Rattle.colour_defs.proofs.Entries.{put_cases, del_keeps}
 use Rattle.colour_defs.proofs.Effects.{Source, register, woken, From, EntryOk, Effect, keeps, zones, comps, makes, takes, wraps, writes, slots, puts, dels, is_comp}
 
+-- what is in the graph after a command was in the graph before, or comes from a source; and what stays
 pub record Follows (g : GraphState) (w : Option Name) (h : GraphState) : Type 0 where
   pub registers : (r : ℕ) (x : Name) → register_cell h r ≡ Some x → Source g w x
   pub slots : (s : ℕ) (x : Name) → slot_cell h s ≡ Some x → (slot_cell g s ≡ Some x) ⊎ Source g w x

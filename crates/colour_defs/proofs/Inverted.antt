@@ -6,8 +6,8 @@ use Rattle.gz_names.specs.declared.names.Name.{Name}
 use Rattle.gz_names.specs.declared.commands.GraphCmd.{GraphCmd}
 use Rattle.gz_names.specs.declared.replies.Reply.{Reply}
 use Rattle.colour_defs.specs.Graph.{GraphState}
-use Rattle.colour_defs.specs.Step.{step_of}
-use Rattle.colour_defs.specs.World.{World, HasPlace, CommandInWorld, Accepts, AcceptsUnless, with_counts, woken_by, refusal_in, IsPlaceFor}
+use Rattle.colour_defs.specs.Step.{step_of, refusal_in}
+use Rattle.colour_defs.specs.World.{World, HasPlace, CommandInWorld, Accepts, AcceptsUnless, with_counts, woken_by, IsPlaceFor}
 use Rattle.gz_names.specs.declared.replies.Report.{Report}
 use Rattle.colour_defs.specs.Ends.{arenas_from}
 use Rattle.colour_defs.specs.Lawful.{IsLawfulReport, IsLawfulUnit, quiet, says, last, AreLawfulUnits}

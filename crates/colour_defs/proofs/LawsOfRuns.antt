@@ -8,7 +8,7 @@ use Rattle.gz_names.specs.declared.commands.Cmd.{Cmd}
 use Rattle.gz_names.specs.declared.replies.Reply.{Reply}
 use Rattle.colour_defs.specs.Lawful.{Run, EndsGroup, Finishes}
 use Rattle.colour_defs.specs.Laws.{IsValid, RegistersAreBlack, ClosuresAreClosed, ClosuresAreClosedAtEnd, GarbageGoesAtEnd, GarbageIsGone, ReachedIsInClosures, IsInRegister, IsRoot, IsClosed}
-use Rattle.colour_defs.proofs.Carried.{black_closed, all_closed, black_in_all}
+use Rattle.colour_defs.proofs.Carried.{black_closed, live_closed, black_in_live}
 use Rattle.colour_defs.specs.Closure.{Closure, from, along, weak}
 use Rattle.colour_defs.proofs.Lists.{nothing_in_none}
 use Rattle.colour_defs.proofs.ValidEnds.{closed_at_end, gone_at_end, marks_end, runs_end}
@@ -28,7 +28,7 @@ registers_black w ok = record {
 pub closures_closed : (w : World) → IsValid w → ClosuresAreClosed w
 closures_closed w ok = record {
   black = λ k e some. black_closed w k (ok.marking k e some);
-  live = λ k e some. all_closed w k (ok.marking k e some);
+  live = λ k e some. live_closed w k (ok.marking k e some);
   settled = λ s. (ok.settled s).closed;
 }
 
@@ -68,8 +68,8 @@ pub reached_now : (w : World) → IsValid w → ReachedIsInClosures w
 reached_now w ok = record {
   black = λ k e some x r. let m = ok.marking k e some in in_closed w.graph (IsInRegister w) (BlackClosure k) (λ y h. m.registers h.0 y h.1) (black_closed w k m) r;
   live = λ k e some x r. let m = ok.marking k e some in in_closed w.graph (IsRoot w k) (LiveClosure k) (λ y s. elim s [
-    | inl h ↦ black_in_all w k m y (m.registers h.0 y h.1)
+    | inl h ↦ black_in_live w k m y (m.registers h.0 y h.1)
     | inr o ↦ elim o [ inl h ↦ m.slots h.0 y h.1 | inr h ↦ (ok.running k e).outside y h.0 h.1 ]
-  ]) (all_closed w k m) r;
+  ]) (live_closed w k m) r;
   settled = λ s x r. let t = ok.settled s in in_closed w.graph (IsInRegister w) (Has w.black) (λ y h. t.closed.registers h.0 y h.1) t.closed r;
 }

@@ -12,6 +12,8 @@ pub mod ValidReports
 pub mod ValidRuns
 pub mod LawsOfRuns
 pub mod Refused
+pub mod Complete
+pub mod Alike
 pub mod Parts
 pub mod Shown
 pub mod Starts
@@ -27,3 +29,4 @@ pub mod MadeWhileMarking
 pub mod Inverted
 pub mod FreedCellMissed
 pub mod Progress
+pub mod Grown

@@ -17,8 +17,8 @@ use Rattle.gz_names.specs.declared.replies.Report.{Report}
 use Rattle.colour_defs.specs.declared.graph.Object.{Object}
 use Rattle.colour_defs.specs.Graph.{GraphState, comp_of, comp_of_object, zone_of_comp}
 use Rattle.colour_defs.specs.Closure.{HasEdge, Closure, from, along, weak}
-use Rattle.colour_defs.specs.Step.{new_object, new_map, make_object}
-use Rattle.colour_defs.specs.World.{World, Has, IsPresent, IsSettled, marking_of, IsPlaceFor, Wakes, with_counts, with_waking, AcceptsUnless, refusal_in}
+use Rattle.colour_defs.specs.Step.{new_object, new_map, make_object, refusal_in}
+use Rattle.colour_defs.specs.World.{World, Has, IsPresent, IsSettled, marking_of, IsPlaceFor, Wakes, with_counts, with_waking, AcceptsUnless}
 use Rattle.colour_defs.specs.Lawful.{Answers}
 use Rattle.colour_defs.specs.Laws.{IsValid}
 use Rattle.colour_defs.proofs.Lists.{decided, nothing_in_none, get_push_here, get_past, no_name_in_nulls, choose}

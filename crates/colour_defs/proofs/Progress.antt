@@ -61,13 +61,13 @@ reached_is_found g starts names has (weak {m} {k} {v} at p q) =
     let e = value_entry g.entries m k v at in
     let of_map : Contains names (e.0).map = subst (λ z. Contains names z) (sym e.2) (reached_is_found g starts names has p) in
     let of_key : Contains names (e.0).key = subst (λ z. Contains names z) (sym e.3) (reached_is_found g starts names has q) in
-    has v (inr (inr (e.0, e.1, of_map, of_key, ap (λ z. value_of g z (e.0).key) e.2 ∙ ap (λ z. value_of g m z) e.3 ∙ at)))
+    has v (inr (inr (e.0, e.1, (of_map, of_key, ap (λ z. value_of g z (e.0).key) e.2 ∙ ap (λ z. value_of g m z) e.3 ∙ at))))
 
 -- a name that is due beside reached names is reached
 due_is_reached : (g : GraphState) (starts names : List Name) (y : Name) → ((x : Name) → Contains names x → Closure g (Contains starts) x) → IsDue g starts names y → Closure g (Contains starts) y
 due_is_reached g starts names y sound (inl s) = from s
 due_is_reached g starts names y sound (inr (inl (x, h, e))) = along (sound x h) e
-due_is_reached g starts names y sound (inr (inr (e, c, m, k, at))) = weak at (sound e.map m) (sound e.key k)
+due_is_reached g starts names y sound (inr (inr (e, c, (m, k, at)))) = weak at (sound e.map m) (sound e.key k)
 
 -- an edge leads to what some object holds, or to the target of a wrapper
 held_at : (os : List (Option Object)) (n : ℕ) (y : Name) → HoldsInField (option_flatten (slice_get os n)) y → IsHeldIn os y
@@ -89,7 +89,7 @@ edge_cases g (Wrap c t) y h =
 due_is_end : (g : GraphState) (starts names all : List Name) → HasAllEnds g starts all → (y : Name) → IsDue g starts names y → Contains all y
 due_is_end g starts names all has y (inl s) = has.first y s
 due_is_end g starts names all has y (inr (inl (x, h, e))) = elim (edge_cases g x y e) [ inl o ↦ has.held y o | inr w ↦ has.targets y w ]
-due_is_end g starts names all has y (inr (inr (e, c, m, k, at))) = let d = value_entry g.entries e.map e.key y at in has.values y (d.0, d.1, d.4)
+due_is_end g starts names all has y (inr (inr (e, c, (m, k, at)))) = let d = value_entry g.entries e.map e.key y at in has.values y (d.0, d.1, d.4)
 
 -- what the four lists give together
 pub ends_found : (g : GraphState) (starts n1 n2 n3 n4 : List Name) → n1 ≡ starts → Gains n1 n2 (IsHeldIn g.objects) → Gains n2 n3 (IsTargetIn g.wrappers) → Gains n3 n4 (IsValueIn g.entries) → HasAllEnds g starts n4

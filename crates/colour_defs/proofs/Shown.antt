@@ -9,9 +9,9 @@ use Rattle.gz_names.specs.declared.replies.Refusal.{Refusal}
 use Rattle.colour_defs.specs.declared.graph.Object.{Object}
 use Rattle.colour_defs.specs.Graph.{GraphState, object_of, register_cell, value_of}
 use Rattle.colour_defs.specs.Closure.{HasEdge, HoldsInField}
-use Rattle.colour_defs.specs.Step.{step_of, target_of}
-use Rattle.colour_defs.specs.World.{World, CommandInWorld, Accepts, AcceptsUnless, with_counts, woken_by, woken_by_wrap, refusal_in}
-use Rattle.colour_defs.specs.Laws.{IsWellFormed, IsValid}
+use Rattle.colour_defs.specs.Step.{step_of, target_of, refusal_in}
+use Rattle.colour_defs.specs.World.{World, CommandInWorld, Accepts, AcceptsUnless, with_counts, woken_by, woken_by_wrap}
+use Rattle.colour_defs.specs.Laws.{IsValid}
 use Rattle.colour_defs.specs.Present.{IsHere, IsComplete, IsPartOf, Agrees, Shows}
 use Rattle.colour_defs.proofs.Lists.{any_push_cases, first_of_both, second_of_both}
 use Rattle.colour_defs.proofs.Names.{same_comp}
@@ -21,7 +21,9 @@ use Rattle.colour_defs.proofs.Woken.{woken_is}
 use Rattle.colour_defs.proofs.Refused.{refused_keeps}
 use Rattle.colour_defs.proofs.Carried.{Changes}
 use Rattle.colour_defs.proofs.ValidCommands.{quiet_changes, waking_changes}
-use Rattle.colour_defs.proofs.Parts.{agreement, held_same, slot_same, in_comp_same, target_here, pushed_here, written_here, here_stays, woken_here}
+use Rattle.colour_defs.proofs.Complete.{here_stays, woken_here}
+use Rattle.colour_defs.proofs.Alike.{held_same, slot_same, in_comp_same, target_here}
+use Rattle.colour_defs.proofs.Parts.{agreement, pushed_here, written_here}
 
 -- an edge of the part is one of the whole
 part_edge : (g h : GraphState) → IsPartOf g h → (x y : Name) → HasEdge h x y → HasEdge g x y
@@ -31,10 +33,6 @@ part_edge g h p (Cell n) y e = go (object_of h n) refl e
     go : (o : Option Object) → object_of h n ≡ o → HoldsInField o y → HoldsInField (object_of g n) y
     go None at e = absurd e
     go (Some o) at e = subst (λ z. HoldsInField z y) (sym (p.objects n o at)) e
-
-edge_here : (h : GraphState) → IsWellFormed h → (x y : Name) → HasEdge h x y → IsHere h x
-edge_here h well (Cell n) y e = let s = well.fields n y e in (s.0, s.1)
-edge_here h well (Wrap c t) y e = e.1
 
 pub shows_agrees : (w : World) (h : GraphState) → IsValid w → Shows w h → Agrees w.graph h
 shows_agrees w h ok s = record {

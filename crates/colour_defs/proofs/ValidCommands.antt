@@ -1,4 +1,4 @@
--- CommandInWorld lead from a valid world to a valid one.
+-- Commands lead from a valid world to a valid one.
 use Rattle.std.proofs.Common.{◌≡◌, ℕ, ◌⊎◌, inl, inr, List, [], ◌∷◌, Bool, true, false, ◌||◌, cond, refl, sym, ap, subst, ◌∙◌, Option, Some, None, is_some}
 use Rattle.std.specs.FinSet as set
 use Rattle.std.specs.FinMap as map
@@ -11,9 +11,9 @@ use Rattle.gz_names.specs.declared.replies.Reply.{Reply}
 use Rattle.gz_names.specs.declared.replies.Refusal.{Refusal}
 use Rattle.colour_defs.specs.Graph.{GraphState, zone_of}
 use Rattle.colour_defs.specs.Closure.{Closure}
-use Rattle.colour_defs.specs.Step.{step_of}
+use Rattle.colour_defs.specs.Step.{step_of, refusal_in}
 use Rattle.colour_defs.specs.Units.{Tally, with_woken, with_put}
-use Rattle.colour_defs.specs.World.{World, Collection, Names, Has, IsPresent, marking_of, HasPlace, Wakes, Accepts, AcceptsUnless, CommandInWorld, with_counts, with_waking, woken_by, refusal_in}
+use Rattle.colour_defs.specs.World.{World, Collection, Names, Has, IsPresent, marking_of, HasPlace, Wakes, Accepts, AcceptsUnless, CommandInWorld, with_counts, with_waking, woken_by}
 use Rattle.colour_defs.specs.Laws.{IsValidRunning, IsValidMarking, AreValidGroups, IsUngrouped, IsValid, HasSomeZone}
 use Rattle.colour_defs.proofs.Names.{eq_name-is, eq_name-refl}
 use Rattle.colour_defs.proofs.Effects.{effect_of}

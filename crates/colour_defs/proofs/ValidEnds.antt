@@ -10,7 +10,7 @@ use Rattle.colour_defs.specs.Ends.{IsLawfulEnd, IsWhiteOf, zones_without}
 use Rattle.colour_defs.specs.Laws.{NamesOnlyPresent, IsValidSettled, IsValidRunning, IsValidMarking, AreValidGroups, LeadsToBlack, IsValid, IsWellFormed, IsMade, IsClosed}
 use Rattle.colour_defs.proofs.Lists.{decided, nothing_in_none, contains_head, contains_tail, contains_cases}
 use Rattle.colour_defs.proofs.Membership.{among_from, among_to, without_has, without_was, zone_in, in_zone, same_zone_of, some_member, white_of, white_is_not_live}
-use Rattle.colour_defs.proofs.Carried.{black_in_all, black_closed, all_closed, each_later}
+use Rattle.colour_defs.proofs.Carried.{black_in_live, black_closed, live_closed, each_later}
 
 module _ (w v : World) (k : Collection) (group : List ℕ) (rest : List (List ℕ)) (grays : List Name) (ok : IsValid w) (running : w.collection ≡ Some k) (first : k.groups ≡ Some (group ∷ rest)) (e : IsLawfulEnd w k group rest grays v) where
   gs_ok : AreValidGroups w k (group ∷ rest)
@@ -36,9 +36,9 @@ module _ (w v : World) (k : Collection) (group : List ℕ) (rest : List (List �
   was_present : (x : Name) → IsPresent v x → IsPresent w x
   was_present x p = sym (ap is_some (e.stay x (not_white x p))) ∙ p
 
-  -- what stays of the group is in the gray closure
-  stays_in_all : (x : Name) → IsPresent v x → IsInZones w.graph group x → (LiveClosure k x → ⊥) → ⊥
-  stays_in_all x p here none = not_white x p (white_of w k group x (was_present x p) here none (λ b. none (black_in_all w k marks x b)))
+  -- what stays of the group is in the live closure
+  stays_in_live : (x : Name) → IsPresent v x → IsInZones w.graph group x → (LiveClosure k x → ⊥) → ⊥
+  stays_in_live x p here none = not_white x p (white_of w k group x (was_present x p) here none (λ b. none (black_in_live w k marks x b)))
 
   -- a cell of a later group that leads to a white cell
   later : (x y : Name) → IsPresent w x → HasEdge w.graph x y → IsWhiteOf w k group y → IsInZones w.graph k.marking x → (IsInZones w.graph group x → ⊥) → ⊥
@@ -59,9 +59,9 @@ module _ (w v : World) (k : Collection) (group : List ℕ) (rest : List (List �
   edge_stays x y p d =
       let px : IsPresent w x = was_present x p in
       not_white_stays y (ok.presence.edges x y px d) (λ white.
-      let no : (LiveClosure k x → ⊥) = λ a. white_is_not_live w k group y white ((all_closed w k marks).edges x y a d) in
+      let no : (LiveClosure k x → ⊥) = λ a. white_is_not_live w k group y white ((live_closed w k marks).edges x y a d) in
       elim (decided (is_in_zones w.graph group x)) [
-        | inl here ↦ stays_in_all x p here no
+        | inl here ↦ stays_in_live x p here no
         | inr out ↦ elim (decided (is_in_zones w.graph k.marking x)) [ inl here ↦ later x y px d white here out | inr other ↦ runs.others x px other no ]
       ])
 
@@ -71,7 +71,7 @@ module _ (w v : World) (k : Collection) (group : List ℕ) (rest : List (List �
       let mq = same_zone_of w.graph m q (ok.graph.keys m q u at) in
       let hm : IsInZones w.graph group m = ap (is_among group) mu ∙ white.here in
       let hq : IsInZones w.graph group q = sym (ap (is_among group) mq) ∙ hm in
-      stays_in_all m pm hm (λ am. stays_in_all q pq hq (λ aq. white_is_not_live w k group u white ((all_closed w k marks).entries m q u at am aq))))
+      stays_in_live m pm hm (λ am. stays_in_live q pq hq (λ aq. white_is_not_live w k group u white ((live_closed w k marks).entries m q u at am aq))))
 
   presence_ends : NamesOnlyPresent v
   presence_ends = record {
@@ -85,7 +85,7 @@ module _ (w v : World) (k : Collection) (group : List ℕ) (rest : List (List �
   others_end x p out none = elim (decided (is_in_zones w.graph k.marking x)) [
     | inr other ↦ runs.others x (was_present x p) other none
     | inl here ↦ elim (decided (is_in_zones w.graph group x)) [
-      | inl mine ↦ stays_in_all x p mine none
+      | inl mine ↦ stays_in_live x p mine none
       | inr not_mine ↦
           let z = zone_in w.graph k.marking x here in
           elim (decided (list_any (eqb z.0) group)) [
@@ -167,8 +167,8 @@ module _ (w v : World) (k : Collection) (group : List ℕ) (rest : List (List �
 
   -- the closures are closed as the group ends, also where it is the last
   pub closed_at_end : IsClosed v.graph (BlackClosure k) × IsClosed v.graph (LiveClosure k)
-  closed_at_end = subst (λ g. IsClosed g (BlackClosure k) × IsClosed g (LiveClosure k)) (sym e.graph_is) (black_closed w k marks, all_closed w k marks)
+  closed_at_end = subst (λ g. IsClosed g (BlackClosure k) × IsClosed g (LiveClosure k)) (sym e.graph_is) (black_closed w k marks, live_closed w k marks)
 
-  -- what is outside the gray closure is gone from the group's zones
+  -- what is outside the live closure is gone from the group's zones
   pub gone_at_end : (x : Name) → IsInZones w.graph group x → (LiveClosure k x → ⊥) → IsPresent v x → ⊥
-  gone_at_end x here none p = stays_in_all x p here none
+  gone_at_end x here none p = stays_in_live x p here none

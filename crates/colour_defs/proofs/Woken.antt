@@ -10,11 +10,12 @@ use Rattle.gz_names.specs.declared.replies.Reply.{Reply}
 use Rattle.gz_names.specs.declared.replies.Reply.TheVariants as reply
 use Rattle.colour_defs.specs.declared.graph.Object.{Object}
 use Rattle.colour_defs.specs.Graph.{GraphState, register_cell, slot_cell, has_wrapper, comp_of, comp_of_object}
-use Rattle.colour_defs.specs.Step.{step_of, with_register, is_in_comp, wrap_from, take_wrapper, target_of, make_object, new_object, new_map}
-use Rattle.colour_defs.specs.World.{woken_by, woken_by_wrap, refusal_in}
+use Rattle.colour_defs.specs.Step.{step_of, with_register, is_in_comp, wrap_from, take_wrapper, target_of, make_object, new_object, new_map, refusal_in}
+use Rattle.colour_defs.specs.World.{woken_by, woken_by_wrap}
 use Rattle.colour_defs.proofs.Lists.{choose, any_push, both_of, get_push_here}
 use Rattle.colour_defs.proofs.Effects.{Source, target_source}
 
+-- a woken name is that of a slot's cell, of a new cell, or of a wrapper of what a register stands for
 pub data Woken (g h : GraphState) (x : Name) : Type 0 where
   from_slot : (s : ℕ) → slot_cell g s ≡ Some x → Woken g h x
   new_cell : Cell (length g.objects) ≡ x → (d : CompNo) → comp_of h (Cell (length g.objects)) ≡ Some d → Woken g h x

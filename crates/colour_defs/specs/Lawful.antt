@@ -149,6 +149,10 @@ Run w (c ∷ cs) (a ∷ answers) v = (u : World) × Answers w c a.0 a.1 u × Run
 Run w [] (a ∷ answers) v = ⊥
 Run w (c ∷ cs) [] v = ⊥
 
+-- P holds of every world that a lawful run reaches
+abbrev pub HoldsInEveryRun : (World → Type 0) → Type 0
+HoldsInEveryRun P = (commands : List Cmd) (answers : List (List Report × Reply)) (w : World) → Run first_world commands answers w → P w
+
 -- these answers are lawful for these commands
 abbrev pub IsLawfulOutput : List Cmd → List (List Report × Reply) → Type 0
 IsLawfulOutput commands answers = (v : World) × Run first_world commands answers v

@@ -12,17 +12,25 @@ use Rattle.colour_defs.specs.Closure.{HasEdge}
 abbrev pub HasEdgeFrom : GraphState → List Name → Name → Type 0
 HasEdgeFrom g names y = (x : Name) × Contains names x × HasEdge g x y
 
--- y is the value of an entry whose map and key are among these names
+-- the map and the key of an entry are among these names, and y is the value that is found for them
+abbrev pub Gives : GraphState → List Name → Entry → Name → Type 0
+Gives g names e y = Contains names e.map × Contains names e.key × (value_of g e.map e.key ≡ Some y)
+
+-- one of the graph's entries gives y
 abbrev pub HasValueFrom : GraphState → List Name → Name → Type 0
-HasValueFrom g names y = (e : Entry) × Contains g.entries e × Contains names e.map × Contains names e.key × (value_of g e.map e.key ≡ Some y)
+HasValueFrom g names y = (e : Entry) × Contains g.entries e × Gives g names e y
 
 -- y belongs beside these names: it is a start, an edge leads to it, or an entry gives it
 abbrev pub IsDue : GraphState → List Name → List Name → Name → Type 0
 IsDue g starts names y = Contains starts y ⊎ HasEdgeFrom g names y ⊎ HasValueFrom g names y
 
+-- some field holds y
+abbrev pub IsFieldIn : List (Option Name) → Name → Type 0
+IsFieldIn fields y = Contains fields (Some y)
+
 -- some object holds y in a field
 abbrev pub IsHeldIn : List (Option Object) → Name → Type 0
-IsHeldIn objects y = (o : Object) × Contains objects (Some o) × Contains o.fields (Some y)
+IsHeldIn objects y = (o : Object) × Contains objects (Some o) × IsFieldIn o.fields y
 
 -- y is the target of one of these wrappers
 abbrev pub IsTargetIn : List (CompNo × ℕ) → Name → Type 0

@@ -2,7 +2,7 @@
 -- choice. Each command has a helper for each of its decisions, in the order in which the decisions are
 -- made: a helper named `from` goes by what a register holds, one named `in` by the object there, one named
 -- `unless` by the refusal that was found.
-use Rattle.std.specs.Prelude.{ℕ, ◌+◌, ◌≤◌, Bool, true, false, not, ◌&&◌, ◌==◌, nat_lt, if◌then◌else◌, List, [], ◌∷◌, ◌++◌, length, Option, Some, None, slice_get, slice_set, replicate}
+use Rattle.std.specs.Prelude.{◌≡◌, ℕ, ◌+◌, ◌≤◌, Bool, true, false, not, ◌&&◌, ◌==◌, nat_lt, if◌then◌else◌, List, [], ◌∷◌, ◌++◌, length, Option, Some, None, slice_get, slice_set, replicate}
 use Rattle.std.specs.List.{filter}
 use Rattle.gz_names.specs.declared.names.Name.{Name}
 use Rattle.gz_names.specs.declared.names.Name.TheVariants.{Cell, Wrap}
@@ -227,6 +227,25 @@ step_of g (cmd.Expose r s) = take_in_register g r (slot_cell g s)
 step_of g (cmd.Put m k v) = put_from g (register_cell g m) (register_cell g k) (register_cell g v)
 step_of g (cmd.Del m k) = del_from g (register_cell g m) (register_cell g k)
 step_of g (cmd.Find r m k) = find_from g r (register_cell g m) (register_cell g k)
+
+-- why a command was refused, by its reply, if it was
+abbrev pub refusal_in : Reply → Option Refusal
+refusal_in (reply.Zone z) = None
+refusal_in (reply.Comp c) = None
+refusal_in (reply.Made n) = None
+refusal_in (reply.Named x) = None
+refusal_in reply.Null = None
+refusal_in reply.Accepted = None
+refusal_in reply.Absent = None
+refusal_in reply.GcBegun = None
+refusal_in (reply.Sliced n) = None
+refusal_in reply.Collected = None
+refusal_in (reply.Gray names) = None
+refusal_in (reply.Refused why) = Some why
+
+-- a command is not refused
+abbrev pub IsAccepted : GraphState → GraphCmd → Type 0
+IsAccepted g c = refusal_in (step_of g c).1 ≡ None
 
 -- a command asks for no more fields than an object may have
 abbrev pub HasFewFields : GraphCmd → Type 0

@@ -9,12 +9,11 @@ use Rattle.gz_names.specs.declared.numbers.CompNo.{CompNo}
 use Rattle.gz_names.specs.declared.commands.GraphCmd.{GraphCmd}
 use Rattle.gz_names.specs.declared.commands.GraphCmd.TheVariants as cmd
 use Rattle.gz_names.specs.declared.replies.Reply.{Reply}
-use Rattle.gz_names.specs.declared.replies.Reply.TheVariants as reply
 use Rattle.gz_names.specs.declared.replies.Refusal.{Refusal}
 use Rattle.gz_names.specs.declared.limits.TheConstants.{SLOT_COUNT}
 use Rattle.gz_names.specs.Order.{name_cmp}
 use Rattle.colour_defs.specs.Graph.{GraphState, empty_graph, register_cell, slot_cell, zone_of, is_in_zones}
-use Rattle.colour_defs.specs.Step.{step_of, is_in_comp, target_of}
+use Rattle.colour_defs.specs.Step.{step_of, is_in_comp, target_of, refusal_in}
 use Rattle.colour_defs.specs.Closure.{Closure}
 use Rattle.colour_defs.specs.Units.{Tally, with_woken, with_put}
 
@@ -146,21 +145,6 @@ Wakes w collection (z ∷ zs) graph x v = (v.collection ≡ with_waking x collec
 abbrev pub Accepts : World → Option Collection → GraphState → Option Name → World → Type 0
 Accepts w collection graph None v = v ≡ record w { graph = graph; collection = collection }
 Accepts w collection graph (Some x) v = HasPlace w graph x v × Wakes w collection (marking_of w.collection) graph x v
-
--- why a command was refused, if it was
-abbrev pub refusal_in : Reply → Option Refusal
-refusal_in (reply.Zone z) = None
-refusal_in (reply.Comp c) = None
-refusal_in (reply.Made n) = None
-refusal_in (reply.Named x) = None
-refusal_in reply.Null = None
-refusal_in reply.Accepted = None
-refusal_in reply.Absent = None
-refusal_in reply.GcBegun = None
-refusal_in (reply.Sliced n) = None
-refusal_in reply.Collected = None
-refusal_in (reply.Gray names) = None
-refusal_in (reply.Refused why) = Some why
 
 -- a refused command leaves the world as it is
 abbrev pub AcceptsUnless : Option Refusal → World → Option Collection → GraphState → Option Name → World → Type 0

@@ -1,9 +1,9 @@
 // What each command does to the graph, and what it answers: the definitions of specs/Step.antt as
 // code.
-ghost use Rattle.std.specs.Prelude.{◌≡◌, IfOk, OnErr, OnOk};
-ghost use Rattle.gz_names.specs.declared.replies.Reply.TheVariants as reply;
+ghost use Rattle.std.specs.Prelude.{◌≡◌, ◌<◌, ◌↔◌, IfOk, IsTrue, OnErr, OnOk, length};
+ghost use Rattle.gz_names.specs.declared.commands.GraphCmd.TheVariants as cmd;
 ghost use Rattle.colour_defs.specs.Graph.{object_of, register_cell, slot_cell};
-ghost use Rattle.colour_defs.specs.Step.{HasFewFields, del_from, entry_refusal, find_from, fits_comp, get_from, is_in_comp, make_comp, make_object, make_zone, map_comp, named_or_null, new_map, new_object, put_from, set_from, set_in, step_of, take_in_register, take_wrapper, target_of, unwrap_from, value_to_set, with_register, with_slot, wrap_from};
+ghost use Rattle.colour_defs.specs.Step.{HasFewFields, IsAccepted, entry_refusal, fits_comp, is_in_comp, make_object, map_comp, named_or_null, set_in, step_of, take_in_register, take_wrapper, target_of, value_to_set};
 
 use crate::fields::Fields;
 use crate::graph::{Graph, Object};
@@ -32,8 +32,8 @@ fn take_in_register(graph: &mut Graph, register: Reg, cell: Option<Name>) -> Rep
 }
 
 fn make_zone(graph: &mut Graph) -> Reply
-    ensures graph { graph.new ≡ (make_zone graph.old).0 }
-    ensures reply { result ≡ (make_zone graph.old).1 }
+    ensures graph { graph.new ≡ (step_of graph.old cmd.Zone).0 }
+    ensures reply { result ≡ (step_of graph.old cmd.Zone).1 }
 {
     let next = graph.zones();
     match ZoneNo::new(next) {
@@ -46,8 +46,9 @@ fn make_zone(graph: &mut Graph) -> Reply
 }
 
 fn make_comp(graph: &mut Graph, zone: ZoneNo) -> Result<Reply, NoMemory>
-    ensures graph { OnOk result (graph.new ≡ (make_comp graph.old zone).0) }
-    ensures reply { IfOk result (λ r. r ≡ (make_comp graph.old zone).1) }
+    ensures graph { OnOk result (graph.new ≡ (step_of graph.old (cmd.Comp zone)).0) }
+    ensures reply { IfOk result (λ r. r ≡ (step_of graph.old (cmd.Comp zone)).1) }
+    ensures accepted { OnErr result (IsAccepted graph.old (cmd.Comp zone)) }
     ensures err { OnErr result (graph.new ≡ graph.old) }
 {
     if zone.index() >= graph.zones() {
@@ -61,45 +62,75 @@ fn make_comp(graph: &mut Graph, zone: ZoneNo) -> Result<Reply, NoMemory>
     Ok(Reply::Comp(CompNo(count as u8)))
 }
 
-fn new_object(alloc: Global, comp: CompNo, count: u8) -> Result<Object, NoMemory>
-    ensures { IfOk result (λ o. o ≡ new_object comp count) }
+// Whether a compartment was made.
+fn has_comp(graph: &Graph, comp: CompNo) -> bool
+    ensures { IsTrue result ↔ (comp.0 < length graph.now.comps) }
 {
-    let fields = Fields::new(alloc, count)?;
-    Ok(Object {
-        comp,
-        is_map: false,
-        fields,
-    })
+    (comp.0 as usize) < graph.comps()
 }
 
-fn new_map(alloc: Global, comp: CompNo) -> Object
-    ensures { result ≡ new_map comp }
-{
-    Object {
-        comp,
-        is_map: true,
-        fields: Fields::empty(alloc),
-    }
-}
-
-// An object or a map with the next number; a register holds it.
-fn make_object(graph: &mut Graph, register: Reg, object: Object) -> Result<Reply, NoMemory>
+// The object or map gets the next number, and a register holds it.
+fn add_object(graph: &mut Graph, register: Reg, object: Object) -> Result<Reply, NoMemory>
+    requires { object.comp.0 < length graph.old.comps }
     ensures graph { OnOk result (graph.new ≡ (make_object graph.old register object).0) }
     ensures reply { IfOk result (λ r. r ≡ (make_object graph.old register object).1) }
     ensures err { OnErr result (graph.new ≡ graph.old) }
 {
-    if object.comp.0 as usize >= graph.comps() {
-        return Ok(Reply::Refused(Refusal::NoComp));
-    }
     let number = graph.objects().len() as u64;
     graph.add_object(object)?;
     graph.set_register(register, Some(Name::Cell(number)));
     Ok(Reply::Made(number))
 }
 
+fn make_object(
+    alloc: Global,
+    graph: &mut Graph,
+    register: Reg,
+    comp: CompNo,
+    count: u8,
+) -> Result<Reply, NoMemory>
+    ensures graph { OnOk result (graph.new ≡ (step_of graph.old (cmd.New register comp count)).0) }
+    ensures reply { IfOk result (λ r. r ≡ (step_of graph.old (cmd.New register comp count)).1) }
+    ensures accepted { OnErr result (IsAccepted graph.old (cmd.New register comp count)) }
+    ensures err { OnErr result (graph.new ≡ graph.old) }
+{
+    if !has_comp(graph, comp) {
+        return Ok(Reply::Refused(Refusal::NoComp));
+    }
+    let fields = Fields::new(alloc, count)?;
+    let object = Object {
+        comp,
+        is_map: false,
+        fields,
+    };
+    add_object(graph, register, object)
+}
+
+fn make_map(
+    alloc: Global,
+    graph: &mut Graph,
+    register: Reg,
+    comp: CompNo,
+) -> Result<Reply, NoMemory>
+    ensures graph { OnOk result (graph.new ≡ (step_of graph.old (cmd.Map register comp)).0) }
+    ensures reply { IfOk result (λ r. r ≡ (step_of graph.old (cmd.Map register comp)).1) }
+    ensures accepted { OnErr result (IsAccepted graph.old (cmd.Map register comp)) }
+    ensures err { OnErr result (graph.new ≡ graph.old) }
+{
+    if !has_comp(graph, comp) {
+        return Ok(Reply::Refused(Refusal::NoComp));
+    }
+    let map = Object {
+        comp,
+        is_map: true,
+        fields: Fields::empty(alloc),
+    };
+    add_object(graph, register, map)
+}
+
 fn get(graph: &mut Graph, register: Reg, source: Reg, field: u8) -> Reply
-    ensures graph { graph.new ≡ (get_from graph.old register (register_cell graph.old source) field).0 }
-    ensures reply { result ≡ (get_from graph.old register (register_cell graph.old source) field).1 }
+    ensures graph { graph.new ≡ (step_of graph.old (cmd.Get register source field)).0 }
+    ensures reply { result ≡ (step_of graph.old (cmd.Get register source field)).1 }
 {
     let number = match graph.register(source) {
         None => return Reply::Refused(Refusal::Empty),
@@ -135,8 +166,10 @@ fn fits_comp(graph: &Graph, comp: CompNo, cell: &Option<Name>) -> bool
 }
 
 fn set_in(graph: &mut Graph, number: u64, field: u8, value: Option<Name>) -> Reply
-    ensures graph { graph.new ≡ (set_in graph.old number (object_of graph.old number) field value).0 }
-    ensures reply { result ≡ (set_in graph.old number (object_of graph.old number) field value).1 }
+    ensures graph { let object = object_of graph.old number in
+        graph.new ≡ (set_in graph.old number object field value).0 }
+    ensures reply { let object = object_of graph.old number in
+        result ≡ (set_in graph.old number object field value).1 }
 {
     let comp = match graph.object(number) {
         Some(object) if !object.is_map => {
@@ -168,8 +201,8 @@ fn value_to_set(graph: &Graph, register: &Option<Reg>) -> Option<Option<Name>>
 }
 
 fn set(graph: &mut Graph, holder: Reg, field: u8, value: &Option<Reg>) -> Reply
-    ensures graph { graph.new ≡ (set_from graph.old (register_cell graph.old holder) field (value_to_set graph.old value.now)).0 }
-    ensures reply { result ≡ (set_from graph.old (register_cell graph.old holder) field (value_to_set graph.old value.now)).1 }
+    ensures graph { graph.new ≡ (step_of graph.old (cmd.Set holder field value.now)).0 }
+    ensures reply { result ≡ (step_of graph.old (cmd.Set holder field value.now)).1 }
 {
     match (graph.register(holder), value_to_set(graph, value)) {
         (None, _) | (Some(_), None) => Reply::Refused(Refusal::Empty),
@@ -207,15 +240,17 @@ fn target_of(name: Name) -> u64
 }
 
 fn wrap(graph: &mut Graph, register: Reg, source: Reg, comp: CompNo) -> Result<Reply, NoMemory>
-    ensures graph { OnOk result (graph.new ≡ (wrap_from graph.old register (register_cell graph.old source) comp).0) }
-    ensures reply { IfOk result (λ r. r ≡ (wrap_from graph.old register (register_cell graph.old source) comp).1) }
+    ensures graph { OnOk result
+        (graph.new ≡ (step_of graph.old (cmd.Wrap register source comp)).0) }
+    ensures reply { IfOk result (λ r. r ≡ (step_of graph.old (cmd.Wrap register source comp)).1) }
+    ensures accepted { OnErr result (IsAccepted graph.old (cmd.Wrap register source comp)) }
     ensures err { OnErr result (graph.new ≡ graph.old) }
 {
     let target = match graph.register(source) {
         None => return Ok(Reply::Refused(Refusal::Empty)),
         Some(name) => target_of(name),
     };
-    if comp.0 as usize >= graph.comps() {
+    if !has_comp(graph, comp) {
         return Ok(Reply::Refused(Refusal::NoComp));
     }
     if is_in_comp(graph, comp, Name::Cell(target)) {
@@ -226,8 +261,8 @@ fn wrap(graph: &mut Graph, register: Reg, source: Reg, comp: CompNo) -> Result<R
 }
 
 fn unwrap(graph: &mut Graph, register: Reg, source: Reg) -> Reply
-    ensures graph { graph.new ≡ (unwrap_from graph.old register (register_cell graph.old source)).0 }
-    ensures reply { result ≡ (unwrap_from graph.old register (register_cell graph.old source)).1 }
+    ensures graph { graph.new ≡ (step_of graph.old (cmd.Unwrap register source)).0 }
+    ensures reply { result ≡ (step_of graph.old (cmd.Unwrap register source)).1 }
 {
     match graph.register(source) {
         None => Reply::Refused(Refusal::Empty),
@@ -240,8 +275,8 @@ fn unwrap(graph: &mut Graph, register: Reg, source: Reg) -> Reply
 }
 
 fn copy(graph: &mut Graph, register: Reg, source: Reg) -> Reply
-    ensures graph { graph.new ≡ with_register graph.old register (register_cell graph.old source) }
-    ensures reply { result ≡ reply.Accepted }
+    ensures graph { graph.new ≡ (step_of graph.old (cmd.Copy register source)).0 }
+    ensures reply { result ≡ (step_of graph.old (cmd.Copy register source)).1 }
 {
     let cell = graph.register(source);
     graph.set_register(register, cell);
@@ -249,8 +284,8 @@ fn copy(graph: &mut Graph, register: Reg, source: Reg) -> Reply
 }
 
 fn hold(graph: &mut Graph, slot: GrayNo, register: Reg) -> Reply
-    ensures graph { graph.new ≡ with_slot graph.old slot (register_cell graph.old register) }
-    ensures reply { result ≡ reply.Accepted }
+    ensures graph { graph.new ≡ (step_of graph.old (cmd.Hold slot register)).0 }
+    ensures reply { result ≡ (step_of graph.old (cmd.Hold slot register)).1 }
 {
     let cell = graph.register(register);
     graph.set_slot(slot, cell);
@@ -258,8 +293,8 @@ fn hold(graph: &mut Graph, slot: GrayNo, register: Reg) -> Reply
 }
 
 fn expose(graph: &mut Graph, register: Reg, slot: GrayNo) -> Reply
-    ensures graph { graph.new ≡ (take_in_register graph.old register (slot_cell graph.old slot)).0 }
-    ensures reply { result ≡ (take_in_register graph.old register (slot_cell graph.old slot)).1 }
+    ensures graph { graph.new ≡ (step_of graph.old (cmd.Expose register slot)).0 }
+    ensures reply { result ≡ (step_of graph.old (cmd.Expose register slot)).1 }
 {
     let cell = graph.slot(slot);
     take_in_register(graph, register, cell)
@@ -297,8 +332,9 @@ fn entry_refusal(graph: &Graph, map: Name, key: Name, value: Name) -> Option<Ref
 }
 
 fn put(graph: &mut Graph, map: Reg, key: Reg, value: Reg) -> Result<Reply, NoMemory>
-    ensures graph { OnOk result (graph.new ≡ (put_from graph.old (register_cell graph.old map) (register_cell graph.old key) (register_cell graph.old value)).0) }
-    ensures reply { IfOk result (λ r. r ≡ (put_from graph.old (register_cell graph.old map) (register_cell graph.old key) (register_cell graph.old value)).1) }
+    ensures graph { OnOk result (graph.new ≡ (step_of graph.old (cmd.Put map key value)).0) }
+    ensures reply { IfOk result (λ r. r ≡ (step_of graph.old (cmd.Put map key value)).1) }
+    ensures accepted { OnErr result (IsAccepted graph.old (cmd.Put map key value)) }
     ensures err { OnErr result (graph.new ≡ graph.old) }
 {
     let (Some(map), Some(key), Some(value)) = (
@@ -316,8 +352,8 @@ fn put(graph: &mut Graph, map: Reg, key: Reg, value: Reg) -> Result<Reply, NoMem
 }
 
 fn del(graph: &mut Graph, map: Reg, key: Reg) -> Reply
-    ensures graph { graph.new ≡ (del_from graph.old (register_cell graph.old map) (register_cell graph.old key)).0 }
-    ensures reply { result ≡ (del_from graph.old (register_cell graph.old map) (register_cell graph.old key)).1 }
+    ensures graph { graph.new ≡ (step_of graph.old (cmd.Del map key)).0 }
+    ensures reply { result ≡ (step_of graph.old (cmd.Del map key)).1 }
 {
     let (Some(map), Some(key)) = (graph.register(map), graph.register(key)) else {
         return Reply::Refused(Refusal::Empty);
@@ -335,8 +371,8 @@ fn del(graph: &mut Graph, map: Reg, key: Reg) -> Reply
 }
 
 fn find(graph: &mut Graph, register: Reg, map: Reg, key: Reg) -> Reply
-    ensures graph { graph.new ≡ (find_from graph.old register (register_cell graph.old map) (register_cell graph.old key)).0 }
-    ensures reply { result ≡ (find_from graph.old register (register_cell graph.old map) (register_cell graph.old key)).1 }
+    ensures graph { graph.new ≡ (step_of graph.old (cmd.Find register map key)).0 }
+    ensures reply { result ≡ (step_of graph.old (cmd.Find register map key)).1 }
 {
     let (Some(map), Some(key)) = (graph.register(map), graph.register(key)) else {
         return Reply::Refused(Refusal::Empty);
@@ -350,21 +386,22 @@ fn find(graph: &mut Graph, register: Reg, map: Reg, key: Reg) -> Reply
     }
 }
 
-/// Does a command on the graph, and answers it. Want of memory is the one error, and leaves the
-/// graph as it was.
+/// Does a command on the graph, and answers it. Refusals come before want of memory, which is the
+/// one error and leaves the graph as it was.
 pub fn step(alloc: Global, graph: &mut Graph, cmd: &GraphCmd) -> Result<Reply, NoMemory>
     requires { HasFewFields cmd.now }
     ensures graph { OnOk result (graph.new ≡ (step_of graph.old cmd.now).0) }
     ensures reply { IfOk result (λ r. r ≡ (step_of graph.old cmd.now).1) }
+    ensures accepted { OnErr result (IsAccepted graph.old cmd.now) }
     ensures err { OnErr result (graph.new ≡ graph.old) }
 {
     match cmd {
         GraphCmd::Zone => Ok(make_zone(graph)),
         GraphCmd::Comp(zone) => make_comp(graph, *zone),
         GraphCmd::New(register, comp, count) => {
-            make_object(graph, *register, new_object(alloc, *comp, *count)?)
+            make_object(alloc, graph, *register, *comp, *count)
         }
-        GraphCmd::Map(register, comp) => make_object(graph, *register, new_map(alloc, *comp)),
+        GraphCmd::Map(register, comp) => make_map(alloc, graph, *register, *comp),
         GraphCmd::Get(register, source, field) => Ok(get(graph, *register, *source, *field)),
         GraphCmd::Set(holder, field, value) => Ok(set(graph, *holder, *field, value)),
         GraphCmd::Wrap(register, source, comp) => wrap(graph, *register, *source, *comp),

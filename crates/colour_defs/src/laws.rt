@@ -9,73 +9,86 @@ ghost use Rattle.gz_names.specs.declared.replies.Report.{Report};
 ghost use Rattle.gz_names.specs.declared.replies.Refusal.{Refusal};
 ghost use Rattle.colour_defs.specs.Graph.{GraphState};
 ghost use Rattle.colour_defs.specs.Step.{step_of};
-ghost use Rattle.colour_defs.specs.World.{World, CommandInWorld, first_world};
-ghost use Rattle.colour_defs.specs.Lawful.{Run, Answers, EndsGroup, Finishes, AreLawfulUnits, StartsToAnswer};
+ghost use Rattle.colour_defs.specs.World.{World, CommandInWorld};
+ghost use Rattle.colour_defs.specs.Lawful.{Answers, EndsGroup, Finishes, AreLawfulUnits, StartsToAnswer, HoldsInEveryRun};
 ghost use Rattle.colour_defs.specs.Laws.{IsValid, NamesOnlyPresent, RegistersAreBlack, ClosuresAreClosed, ReachedIsInClosures, ClosuresAreClosedAtEnd, GarbageGoesAtEnd, GarbageIsGone};
 ghost use Rattle.colour_defs.specs.Present.{Agrees, Shows};
 
 /// Every world that a lawful run reaches is valid.
 pub fn valid_law()
-    ensures { (cs : List Cmd) (answers : List (List Report × Reply)) (w : World) → Run first_world cs answers w → IsValid w }
+    ensures { HoldsInEveryRun IsValid }
 {}
 
 /// One more lawful answer keeps a world valid.
 pub fn answer_law()
-    ensures { (w : World) (c : Cmd) (reports : List Report) (answer : Reply) (v : World) → IsValid w → Answers w c reports answer v → IsValid v }
+    ensures { (w v : World) (c : Cmd) (reports : List Report) (answer : Reply)
+        → IsValid w → Answers w c reports answer v → IsValid v }
 {}
 
 /// Registers, gray slots and what is present name what is present.
 pub fn presence_law()
-    ensures { (cs : List Cmd) (answers : List (List Report × Reply)) (w : World) → Run first_world cs answers w → NamesOnlyPresent w }
+    ensures { HoldsInEveryRun NamesOnlyPresent }
 {}
 
 /// Registers hold black cells.
 pub fn register_law()
-    ensures { (cs : List Cmd) (answers : List (List Report × Reply)) (w : World) → Run first_world cs answers w → RegistersAreBlack w }
+    ensures { HoldsInEveryRun RegistersAreBlack }
 {}
 
 /// Black leads to black, and live to live.
 pub fn closure_law()
-    ensures { (cs : List Cmd) (answers : List (List Report × Reply)) (w : World) → Run first_world cs answers w → ClosuresAreClosed w }
+    ensures { HoldsInEveryRun ClosuresAreClosed }
 {}
 
 /// What is reached now from a register is black, and what is reached from a root is live.
 pub fn reached_law()
-    ensures { (cs : List Cmd) (answers : List (List Report × Reply)) (w : World) → Run first_world cs answers w → ReachedIsInClosures w }
+    ensures { HoldsInEveryRun ReachedIsInClosures }
 {}
 
 /// The two laws before hold as a group ends, too, also as the last one ends.
 pub fn end_law()
-    ensures { (w : World) (zones : List ℕ) (grays : List Name) (v : World) → IsValid w → (h : EndsGroup w zones grays v) → ClosuresAreClosedAtEnd h.collection v }
+    ensures { (w v : World) (zones : List ℕ) (grays : List Name)
+        → IsValid w → (end : EndsGroup w zones grays v) → ClosuresAreClosedAtEnd end.collection v }
 {}
 
 /// What was garbage at `gc`, and was not woken or reached from a woken name since, goes with the
 /// group of its zone, and has gone when the collection is done.
 pub fn garbage_law()
-    ensures at_end { (w : World) (zones : List ℕ) (grays : List Name) (v : World) → IsValid w → (h : EndsGroup w zones grays v) → GarbageGoesAtEnd w h.collection zones v }
-    ensures when_done { (w v : World) → IsValid w → (h : Finishes w v) → GarbageIsGone w h.over.collection }
+    ensures at_end { (w v : World) (zones : List ℕ) (grays : List Name)
+        → IsValid w → (end : EndsGroup w zones grays v)
+        → GarbageGoesAtEnd w end.collection zones v }
+    ensures when_done { (w v : World)
+        → IsValid w → (done : Finishes w v) → GarbageIsGone w done.over.collection }
 {}
 
 /// A refused command leaves the graph as it is.
 pub fn refusal_law()
-    ensures { (g : GraphState) (c : GraphCmd) (why : Refusal) → (step_of g c).1 ≡ reply.Refused why → (step_of g c).0 ≡ g }
+    ensures { (g : GraphState) (c : GraphCmd) (why : Refusal)
+        → (step_of g c).1 ≡ reply.Refused why → (step_of g c).0 ≡ g }
 {}
 
 /// The present part of a graph answers every command as the whole graph does, and goes on to agree
 /// with it.
 pub fn agrees_law()
-    ensures { (g h : GraphState) (c : GraphCmd) → Agrees g h → ((step_of h c).1 ≡ (step_of g c).1) × Agrees (step_of g c).0 (step_of h c).0 }
+    ensures { (g h : GraphState) (c : GraphCmd)
+        → Agrees g h
+        → ((step_of h c).1 ≡ (step_of g c).1) × Agrees (step_of g c).0 (step_of h c).0 }
 {}
 
 /// A graph that shows what is present of a world answers every command as the world does, and goes
 /// on to show it.
 pub fn shown_law()
-    ensures { (w v : World) (h : GraphState) (c : GraphCmd) (answer : Reply) → IsValid w → Shows w h → CommandInWorld w c answer v → ((step_of h c).1 ≡ answer) × Shows v (step_of h c).0 }
+    ensures { (w v : World) (h : GraphState) (c : GraphCmd) (answer : Reply)
+        → IsValid w → Shows w h → CommandInWorld w c answer v
+        → ((step_of h c).1 ≡ answer) × Shows v (step_of h c).0 }
 {}
 
 /// The reports of a lawful answer may be written before its last line, and the first units of
 /// lawful units are lawful.
 pub fn starts_law()
-    ensures whole { (w : World) (c : Cmd) (reports : List Report) (answer : Reply) (v : World) → Answers w c reports answer v → StartsToAnswer w c reports }
-    ensures first_units { (w : World) (units more : List (List Report)) (v : World) → AreLawfulUnits w (units ++ more) v → (u : World) × AreLawfulUnits w units u × AreLawfulUnits u more v }
+    ensures whole { (w v : World) (c : Cmd) (reports : List Report) (answer : Reply)
+        → Answers w c reports answer v → StartsToAnswer w c reports }
+    ensures first_units { (w v : World) (units more : List (List Report))
+        → AreLawfulUnits w (units ++ more) v
+        → (u : World) × AreLawfulUnits w units u × AreLawfulUnits u more v }
 {}

@@ -1,4 +1,52 @@
-// The definitions of the collector, and the plain functions that compute them.
+// The definitions of the collector, laws of all its lawful runs, and the plain functions that
+// compute the graph's step and its closure.
+//
+// [gczone] Definitions
+//
+// What is kept
+// ------------
+// A graph that never frees takes commands (specs/Graph, specs/Step). What is reached in it from
+// some starts is a closure: the least set that has the starts, with each name the ends of its
+// edges, and with a map and a key the value of their entry (specs/Closure).
+//
+// A world (specs/World) is that graph with what a collector makes of it: the places of the present
+// cells, the zone of each arena, the arenas that are out for sweeping, the white cells that wait
+// there, the black names, and the collection that runs. The collection keeps the graph as it was at
+// `gc` and two sets of starts. Its black closure is what it finds black, its live closure what it
+// finds black or gray; both grow with each name that is woken while it runs.
+//
+//     no collection --gc--> marking --groups--> in groups --last ended--> sweeping --+
+//          ^                                      |   ^                              |
+//          |                                      +---+ another ended                |
+//          +----------------------------------- done --------------------------------+
+//
+// As a group ends (specs/Ends) exactly the black closure is black, the rest of the live closure
+// gray, and the remainder white: white names stop being present, and lie in their arenas until
+// these are taken in. Which reports are lawful, one unit after another, and so which answers to a
+// list of commands, is specs/Lawful. That a collection takes a bounded number of units is
+// specs/Units.
+//
+// Why a snapshot
+// --------------
+// Cell 0 is scanned. Then the script reads cell 2 out of a field of cell 1, which is not scanned,
+// puts it into cell 0, clears the field of cell 1 and drops the register. Cell 2 now hangs on a
+// scanned cell alone, and a collector that looks at the graph of today frees it under the script's
+// hand. In the snapshot cell 1 still holds cell 2, so it is in the black closure, whatever the
+// script does since; hence the barrier before a write. The closure law says for every lawful run
+// that black leads to black and live to live, in the graph as it is at that moment.
+//
+// Why an order of groups
+// ----------------------
+// Zone a ends after zone b, and a gray wrapper of a leads to a cell of b that is reached by nothing
+// else. As b ends nobody has marked that cell gray: it is freed, and the wrapper leads nowhere. The
+// invariant of all lawful runs (IsValid in specs/Laws) rules this out: a present wrapper of a later
+// group leads into an earlier one only to what is black.
+//
+// How the laws are proved
+// -----------------------
+// The commands are told apart once (proofs/Effects): each does one of ten kinds of change, and each
+// name that it writes comes from a register, from what a register leads to, or was woken. What such
+// a change keeps is in proofs/Follows; from there on no law looks at a command.
 #![tactic(auto)]
 
 mod commands;
@@ -7,6 +55,8 @@ mod graph;
 mod laws;
 mod reach;
 mod rows;
+#[cfg(test)]
+mod tests;
 
 pub use commands::step;
 pub use fields::Fields;

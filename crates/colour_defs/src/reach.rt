@@ -1,15 +1,15 @@
 // The closure, by search. One list has the names that are known to be reached, another one those
 // that may be:
 //
-//     names: reached, each once | rest: may be reached; whatever is due beside names is here or there
+//     names: reached, each once | rest: may be reached
 //
-// A name of the rest that is due beside the names moves over. Where none is, the names are closed.
+// What is due beside the names is among the names or in the rest. A name of the rest that is due
+// moves over; where none is, the names are closed.
 ghost use Rattle.std.specs.Prelude.{◌≡◌, ◌≢◌, ◌↔◌, AllPairs, Contains, IfNone, IfOk, IfSome, IsTrue, OnOk, Some, slice_get};
 ghost use Rattle.std.specs.Option.{option_copied};
 ghost use Rattle.gz_names.specs.declared.names.Name.{Name};
-ghost use Rattle.colour_defs.specs.Graph.{value_of};
 ghost use Rattle.colour_defs.specs.Closure.{Closure, HasEdge, HoldsInField};
-ghost use Rattle.colour_defs.specs.Reach.{AddsOnce, Gains, HasAllEnds, HasEdgeFrom, HasValueFrom, IsDue, IsHeldIn, IsTargetIn, IsValueIn};
+ghost use Rattle.colour_defs.specs.Reach.{AddsOnce, Gains, Gives, HasAllEnds, HasEdgeFrom, HasValueFrom, IsDue, IsFieldIn, IsHeldIn, IsTargetIn, IsValueIn};
 
 use crate::graph::{Entry, Graph, Object};
 use gz_names::{CompNo, Name, NoMemory};
@@ -49,7 +49,7 @@ fn has_edge_from(graph: &Graph, names: &[Name], to: Name) -> bool
 
 // Whether an entry gives a name, and its map and key are among the names.
 fn gives(graph: &Graph, names: &[Name], entry: Entry, to: Name) -> bool
-    ensures { IsTrue result ↔ (Contains names.now entry.map × Contains names.now entry.key × (value_of graph.now entry.map entry.key ≡ Some to)) }
+    ensures { IsTrue result ↔ Gives graph.now names.now entry to }
 {
     is_among(names, entry.map)
         && is_among(names, entry.key)
@@ -76,15 +76,17 @@ fn is_due(graph: &Graph, starts: &[Name], names: &[Name], name: Name) -> bool
 
 // The place of a name that is due.
 fn next_due(graph: &Graph, starts: &[Name], names: &[Name], rest: &[Name]) -> Option<usize>
-    ensures some { IfSome result (λ i. (y : Name) × (slice_get rest.now i ≡ Some y) × IsDue graph.now starts.now names.now y) }
-    ensures none { IfNone result ((y : Name) → Contains rest.now y → IsDue graph.now starts.now names.now y → ⊥) }
+    ensures some { IfSome result (λ i. (y : Name)
+        × (slice_get rest.now i ≡ Some y) × IsDue graph.now starts.now names.now y) }
+    ensures none { IfNone result ((y : Name)
+        → Contains rest.now y → IsDue graph.now starts.now names.now y → ⊥) }
 {
     rest.iter()
         .position(|name| is_due(graph, starts, names, *name))
 }
 
 fn add_held(names: &mut Vec<Name>, fields: &[Option<Name>]) -> Result<(), NoMemory>
-    ensures { OnOk result (Gains names.old.items names.new.items (λ y. Contains fields.now (Some y))) }
+    ensures { OnOk result (Gains names.old.items names.new.items (IsFieldIn fields.now)) }
 {
     for held in fields {
         if let Some(name) = held {
@@ -146,7 +148,8 @@ fn add_once(names: &mut Vec<Name>, name: Name) -> Result<(), NoMemory>
 
 /// What is reached in the graph from the starts, each name once. Want of memory is the one error.
 pub fn closure(alloc: Global, graph: &Graph, starts: &[Name]) -> Result<Vec<Name>, NoMemory>
-    ensures closure { IfOk result (λ names. (x : Name) → Contains names.items x ↔ Closure graph.now (Contains starts.now) x) }
+    ensures closure { IfOk result (λ names. (x : Name)
+        → Contains names.items x ↔ Closure graph.now (Contains starts.now) x) }
     ensures distinct { IfOk result (λ names. AllPairs (λ x y. x ≢ y) names.items) }
 {
     let mut rest = candidates(alloc, graph, starts)?;

@@ -2,4 +2,4 @@ use Rattle.colour_defs.proofs.LawsOfRuns.{ends_closed}
 use Rattle.colour_defs.proofs.laws.end_law.Goals as goal
 
 pub returns : goal.returns
-returns c = ends_closed
+returns c = λ w v zones grays. ends_closed w zones grays v
