@@ -36,16 +36,16 @@ pub not_ascii : (xs : List ℕ) → Finds xs found.NotAscii → IsNotAscii xs
 not_ascii xs h = record { line = take h.0 xs; byte = get_or xs h.0 0; rest = drop (h.0 + 1) xs; bytes = parted xs h.0 h.2; plain = h.3; size = (let l : length (take h.0 xs) ≡ h.0 = length-take-le h.0 xs (omega arith) in omega (arith, h.1)); high = h.4 }
 
 -- what is known of a place behind a plain front
-at_seam : (xs line rest : List ℕ) (b : ℕ) → xs ≡ line ++ (b ∷ rest) → get_or xs (length line) 0 ≡ b
+pub at_seam : (xs line rest : List ℕ) (b : ℕ) → xs ≡ line ++ (b ∷ rest) → get_or xs (length line) 0 ≡ b
 at_seam xs line rest b e = ap (λ t. get_or t (length line) 0) e ∙ get_or-append_seam line b rest 0
 
-before_seam : (xs line rest : List ℕ) (b i : ℕ) → xs ≡ line ++ (b ∷ rest) → IsPlain line → i < length line → (get_or xs i 0 < 128) × (get_or xs i 0 ≢ 10)
+pub before_seam : (xs line rest : List ℕ) (b i : ℕ) → xs ≡ line ++ (b ∷ rest) → IsPlain line → i < length line → (get_or xs i 0 < 128) × (get_or xs i 0 ≢ 10)
 before_seam xs line rest b i e p h =
     let same : get_or xs i 0 ≡ get_or line i 0 = ap (λ t. get_or t i 0) e ∙ get_or_append_left line (b ∷ rest) 0 i h in
     let P : ℕ → Type 0 = λ b. (b < 128) × (b ≢ 10) in
     subst P (sym same) (plain_get line i 0 p h)
 
-seam_fits : (xs line rest : List ℕ) (b : ℕ) → xs ≡ line ++ (b ∷ rest) → length line < length xs
+pub seam_fits : (xs line rest : List ℕ) (b : ℕ) → xs ≡ line ++ (b ∷ rest) → length line < length xs
 seam_fits xs line rest b e = let l : length xs ≡ length (line ++ (b ∷ rest)) = ap length e in omega (arith, length-append line (b ∷ rest))
 
 pub plain_no_feed : (xs : List ℕ) → Contains xs 10 → Finds xs found.More → ⊥

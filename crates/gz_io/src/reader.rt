@@ -53,7 +53,7 @@ impl LineReader {
     ghost use Rattle.std.specs.Prelude.{◌≡◌, ◌≢◌, ◌<◌, ◌≤◌, ◌+◌, ◌↔◌, ℕ, List, [], ◌++◌, length, take, drop, OnErr, IfOk, IsOk, IsTrue, Contains, Ok};
     ghost use Rattle.std.specs.Io.KnownBytes.{Consumes, Keeps, IsAtEnd, prepend_known};
     ghost use Rattle.gz_io.specs.Causes.{HasCause, Rose};
-    ghost use Rattle.gz_io.specs.Lines.{Gives, GivesKnown, IsTooLong, IsNotAscii, IsPlain};
+    ghost use Rattle.gz_io.specs.Lines.{Gives, GivesKnown, IsOnlyAnswer, IsTooLong, IsNotAscii, IsPlain};
     ghost use Rattle.gz_io.specs.Finding.{Finds, GivesFound};
 
     /// A reader that has taken nothing.
@@ -181,6 +181,7 @@ impl LineReader {
     /// again.
     pub fn next<S: Source>(&mut self, source: &mut S) -> Next
         ensures bytes { GivesKnown (prepend_known self.old.held (S.left source.old)) (prepend_known self.new.held (S.left source.new)) result self.new.line }
+        ensures exact { IsOnlyAnswer (prepend_known self.old.held (S.left source.old)) result }
         ensures takes_late { Contains self.old.held 10 → source.new ≡ source.old }
 
         ensures too_long { result ≡ Next.TooLong → IsTooLong self.new.held }

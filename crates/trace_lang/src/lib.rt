@@ -31,6 +31,8 @@ mod lines;
 mod numbers;
 mod piece;
 mod tail;
+#[cfg(test)]
+mod tests;
 mod words;
 mod write;
 mod zone_bits;

@@ -1,5 +1,6 @@
 use Rattle.std.proofs.Common.{ap, Ok}
 use Rattle.gz_io.proofs.Plain.{plain_no_feed, too_long_shows, not_ascii_shows}
+use Rattle.gz_io.proofs.Once.{only_answer}
 use Rattle.gz_io.proofs.Reading.{next_bytes, stays_too_long, stays_not_ascii}
 use Rattle.gz_io.proofs.reader.LineReader.next.Goals as goal
 
@@ -24,3 +25,6 @@ returns-in-Err-clause-takes_late g c = λ h. absurd (let e = (c.in-Err.ensures.s
 
 pub returns-in-Err-clause-stays_not_ascii : goal.returns-in-Err-clause-stays_not_ascii
 returns-in-Err-clause-stays_not_ascii g c = λ h. absurd (let e = (c.in-Err.ensures.shown (not_ascii_shows _ h)).0 in cc e)
+
+pub returns-in-Ok-clause-exact : goal.returns-in-Ok-clause-exact
+returns-in-Ok-clause-exact g c = only_answer _ _ _ _ (next_bytes _ _ _ _ _ c.in-Ok.found _ c.in-Ok.ensures.known (λ e. c.in-Ok.ensures.end (ap (λ f. Ok f) e)) c.give_found.ensures)
