@@ -1,0 +1,143 @@
+// What the roots hold.
+ghost use Rattle.std.specs.Prelude.{◌≡◌, ◌≢◌, ◌+◌, ◌++◌, ◌<◌, ◌↔◌, ℕ, None, Some, [], length, replicate, slice_get, slice_set, IfOk, IfSome, IfNone, OnOk, OnErr};
+ghost use Rattle.gz_names.specs.Zones.{HasZone};
+ghost use Rattle.roots.specs.Buffers.{places_in};
+
+use crate::buffers::{new_buffers, put_both, take_item};
+use gz_names::{GrayNo, NoMemory, Place, Reg, ZoneNo, ZoneSet};
+use std::alloc::Global;
+use std::marker::Model;
+
+/// The registers, the gray slots, and for each zone what waits for its gray marking.
+#[derive(Drop)]
+pub struct Roots {
+    regs: [Option<Place>; 16],
+    slots: [Option<Place>; 64],
+    // The places that wait for each zone.
+    buffers: Vec<Vec<Place>>,
+    // The zones for which something waits.
+    waiting: ZoneSet,
+}
+
+impl Model for Roots {
+    ghost use Rattle.std.specs.Prelude.{◌≡◌, length};
+    ghost use Rattle.roots.specs.Buffers.{lists_of, IsWaiting};
+    ghost use Rattle.roots.specs.RootsHeld.{RootsState};
+
+    ghost Value = { RootsState };
+
+    ghost view = { λ r. record {
+      regs = r.regs;
+      slots = r.slots;
+      buffers = lists_of r.buffers.items;
+    } };
+
+    ghost invariant = { λ r. (length r.buffers.items ≡ 64)
+        × IsWaiting (lists_of r.buffers.items) r.waiting.bits };
+}
+
+impl Roots {
+    ghost use Rattle.roots.specs.RootsHeld.{RootsState, buffer_of, buffered, buffered_all, waiting_count};
+
+    /// Empty registers and slots, and nothing that waits.
+    pub fn new(alloc: Global) -> Result<Self, NoMemory>
+        ensures { IfOk result
+            (λ roots. roots ≡ record {
+              regs = replicate 16 None;
+              slots = replicate 64 None;
+              buffers = replicate 64 [];
+            }) }
+    {
+        let buffers = new_buffers(alloc)?;
+        Ok(Roots {
+            regs: [None; 16],
+            slots: [None; 64],
+            buffers,
+            waiting: ZoneSet { bits: 0 },
+        })
+    }
+
+    /// What a register holds.
+    pub fn reg(&self, r: Reg) -> Option<Place>
+        ensures { slice_get self.now.regs r ≡ Some result }
+    {
+        self.regs[r.index() as usize]
+    }
+
+    /// A register takes a cell, or becomes empty.
+    pub fn set_reg(&mut self, r: Reg, v: Option<Place>)
+        ensures { self.new ≡ record self.old { regs = slice_set self.old.regs r v } }
+    {
+        self.regs[r.index() as usize] = v;
+    }
+
+    /// What a gray slot holds.
+    pub fn slot(&self, g: GrayNo) -> Option<Place>
+        ensures { slice_get self.now.slots g ≡ Some result }
+    {
+        self.slots[g.index() as usize]
+    }
+
+    /// A gray slot takes a cell, or becomes empty.
+    pub fn set_slot(&mut self, g: GrayNo, v: Option<Place>)
+        ensures { self.new ≡ record self.old { slots = slice_set self.old.slots g v } }
+    {
+        self.slots[g.index() as usize] = v;
+    }
+
+    /// Puts the cells of gray slots and the gray wrappers into the buffers of the zones that they
+    /// are given with. All memory is taken before anything is put in.
+    pub fn buffer_gray(
+        &mut self,
+        slots: &[(ZoneNo, Place)],
+        wrappers: &[(ZoneNo, Place)],
+    ) -> Result<(), NoMemory>
+        ensures ok { OnOk result
+            (self.new ≡ buffered_all (buffered_all self.old slots.now) wrappers.now) }
+        ensures zones { OnOk result ((z : ℕ) → z < 64 → buffer_of self.new z
+            ≡ buffer_of self.old z ++ (places_in z slots.now ++ places_in z wrappers.now)) }
+        ensures count { OnOk result (waiting_count self.new
+            ≡ waiting_count self.old + (length slots.now + length wrappers.now)) }
+        ensures err { OnErr result (self.new ≡ self.old) }
+    {
+        put_both(&mut self.buffers, &mut self.waiting, slots, wrappers)
+    }
+
+    /// Takes a place out of a zone's buffer.
+    pub fn next_buffered(&mut self, zone: ZoneNo) -> Option<Place>
+        ensures some { IfSome result (λ place. self.old ≡ buffered self.new zone place) }
+        ensures count { IfSome result (λ _. waiting_count self.old ≡ waiting_count self.new + 1) }
+        ensures none { IfNone result ((buffer_of self.old zone ≡ []) × (self.new ≡ self.old)) }
+    {
+        take_item(&mut self.buffers, &mut self.waiting, zone)
+    }
+
+    /// The zones whose buffers hold something.
+    pub fn waiting(&self) -> ZoneSet
+        ensures waiting { (z : ℕ) → HasZone result.bits z ↔ (buffer_of self.now z ≢ []) }
+        ensures idle { (z : ℕ) → (HasZone result.bits z → ⊥) → buffer_of self.now z ≡ [] }
+    {
+        self.waiting
+    }
+}
+
+#[cfg(test)]
+mod tests {
+    use super::*;
+    use std::test::Fail;
+
+    #[test]
+    fn buffers_of_two_zones(rt: HostRuntime) -> Result<(), Fail> {
+        let mut roots = Roots::new(rt.alloc())?;
+        let first = ZoneNo::new(0).ok_or("zone")?;
+        let last = ZoneNo::new(63).ok_or("zone")?;
+        let cell = Place::new(7, 5).ok_or("place")?;
+        let wrapper = Place::new(8, 63).ok_or("place")?;
+        roots.buffer_gray(&[(first, cell)], &[(last, wrapper)])?;
+        assert_eq!(rt; roots.next_buffered(first), Some(cell));
+        assert_eq!(rt; roots.next_buffered(first), None);
+        assert_eq!(rt; roots.next_buffered(last), Some(wrapper));
+        assert!(rt; roots.waiting().is_empty());
+        Ok(())
+    }
+}
