@@ -1,5 +1,5 @@
 -- Jobs whose arenas ascend, and a binary search over them.
-use Rattle.std.proofs.Common.{◌≡◌, ℕ, zero, suc, ◌<◌, ◌≤◌, Bool, cond, eqb, List, [], ◌∷◌, length, get_or, map, sym, ap, ◌∙◌, subst, inl, inr, arith, eq-eqb, ne_eqb, lt-ltb, ltb, Option, Some, None, Result, Ok, Err, position}
+use Rattle.std.proofs.Common.{◌≡◌, ℕ, zero, suc, ◌<◌, ◌≤◌, Bool, cond, eqb, List, [], ◌∷◌, ◌++◌, All, length, get_or, map, sym, ap, ◌∙◌, subst, inl, inr, arith, eq-eqb, ne_eqb, lt-ltb, ltb, Option, Some, None, Result, Ok, Err, position}
 use Rattle.std.specs.List.{position_or_len}
 use Rattle.std.specs.List.Sorted.{IsStrictlyIncreasing, IsNonDecreasingBy, IsBinarySearchResult, IsSearchInRange}
 use Rattle.std.specs.Ordering.{nat_cmp, ordering_index}
@@ -8,6 +8,7 @@ use Rattle.std.proofs.lemmas.Bool.{cases_lt}
 use Rattle.std.proofs.lemmas.Bool.Decides.{nat_tests}
 use Rattle.std.proofs.lemmas.Cmp.{ranked}
 use Rattle.std.proofs.lemmas.List.{get_or-map, length-map}
+use Rattle.std.proofs.lemmas.List.Elements.{All-head, All-tail}
 use Rattle.std.proofs.lemmas.List.Sorted.{IsNonDecreasingBy-from_default}
 use Rattle.std.proofs.lemmas.List.Sums.{position_or_len_is}
 use Rattle.std.proofs.lemmas.Map.Keys.{sorted_from_strictly_increasing, below_from_sorted}
@@ -27,6 +28,20 @@ ascend-cons job jobs first rest = record { below = by } where
   by zero (suc k) lt in_range = first k (omega arith)
   by (suc i) zero lt in_range = absurd (omega arith)
   by (suc i) (suc k) lt in_range = rest.below i k (omega arith) (omega arith)
+
+-- one more behind jobs of lower arenas
+pub ascend-push : (jobs : List Job) (job : Job) → ArenasAscend jobs → All (λ (j : Job). j.arena < job.arena) jobs → ArenasAscend (jobs ++ job ∷ [])
+ascend-push [] job up lower = ascend-cons job [] (λ k lt. absurd (omega arith)) ascend-nil
+ascend-push (j ∷ jobs) job up lower =
+    let rest : ArenasAscend jobs = record { below = λ i k lt in_range. up.below (suc i) (suc k) (omega arith) (omega arith) } in
+    ascend-cons j (jobs ++ job ∷ []) (first jobs (λ k in_range. up.below 0 (suc k) (omega arith) (omega arith)) (All-head (λ (i : Job). i.arena < job.arena) j jobs lower))
+    (ascend-push jobs job rest (All-tail (λ (i : Job). i.arena < job.arena) j jobs lower))
+  where
+    first : (js : List Job) → ((k : ℕ) → k < length js → j.arena < (job_at js k).arena) → j.arena < job.arena → (k : ℕ) → k < length (js ++ job ∷ []) → j.arena < (job_at (js ++ job ∷ []) k).arena
+    first [] low last zero lt = last
+    first [] low last (suc k) lt = absurd (omega arith)
+    first (x ∷ xs) low last zero lt = low 0 (omega arith)
+    first (x ∷ xs) low last (suc k) lt = first xs (λ n in_range. low (suc n) (omega arith)) last k (omega arith)
 
 -- the same from std's word on the list of the arenas
 pub ascend-from_increasing : (jobs : List Job) → IsStrictlyIncreasing (map (λ job. job.arena) jobs) → ArenasAscend jobs

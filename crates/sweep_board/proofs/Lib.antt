@@ -9,3 +9,4 @@ pub mod Opening
 pub mod Ascending
 pub mod FlightBits
 pub mod Sentences
+pub mod TakenBelow

@@ -1,5 +1,5 @@
 -- A seat's view at its start, and after each thing that it may learn.
-use Rattle.std.specs.Prelude.{ℕ, ◌+◌, ◌-◌, ◌==◌, Bool, List, [], ◌∷◌, ◌++◌, ◌⊎◌, Contains, bit_or}
+use Rattle.std.specs.Prelude.{◌≡◌, ℕ, ◌+◌, ◌-◌, ◌<◌, ◌≤◌, ◌==◌, Bool, true, false, List, [], ◌∷◌, ◌++◌, ◌⊎◌, Contains, bit_or}
 use Rattle.std.specs.List.{list_any}
 use Rattle.cell_bits.specs.declared.bits.Bits.{Bits}
 use Rattle.cell_bits.specs.declared.jobs.Job.{Job}
@@ -71,6 +71,11 @@ IsNoted v i = Contains v.passed i ⊎ Contains v.finished i
 -- whether main took the arena in
 abbrev pub is_taken : View → ℕ → Bool
 is_taken v i = list_any (λ t. t == i) v.taken
+
+-- main took in exactly the arenas below n, as it does in ascending order
+pub record HasTakenBelow (v : View) (n : ℕ) : Type 0 where
+  pub taken : (i : ℕ) → i < n → is_taken v i ≡ true
+  pub out : (i : ℕ) → n ≤ i → is_taken v i ≡ false
 
 -- the bits of an arena now: the gob word of hand-out, and the black word of hand-out with every mask that main woke
 abbrev pub bits_now : View → ℕ → Bits
