@@ -20,7 +20,7 @@ const CLAIMED: u64 = 1;
 
 const DONE: u64 = 2;
 
-// An arena's words: its state is the first, and these stand behind it.
+// Where an arena's other words stand behind its state, and how many it has.
 const BLACK: usize = 1;
 
 const GOB: usize = 2;
@@ -70,7 +70,8 @@ impl Board {
     ghost use Rattle.sweep_board.specs.Views.{at_stage, with_passed, with_finished, main_view, helper_view, with_helper, joined_view, with_done, with_look, with_wake, with_taken, bits_now, is_taken, IsDone, IsNoted};
     ghost use Rattle.sweep_board.specs.Seats.{claim_index, jobs_of, board_len, helper_view_of, main_view_of, IsHelperOf, IsMainOf, HoldsNoClaim, HoldsClaim};
 
-    /// A board over these jobs, and main's seat. Each arena is ready to be claimed.
+    /// A board over these jobs, and main's seat. Each arena is ready to be claimed. No other call
+    /// of a board takes memory.
     pub fn new(alloc: Global, jobs: &[Job]) -> Result<(Board, MainSeat), NoMemory>
         requires short { length jobs.now < 2 ^ 32 }
         requires ascending { ArenasAscend jobs.now }
@@ -170,8 +171,8 @@ impl Board {
     }
 
     /// Sweeps the claimed arena and makes it done. Answers its freed word, the slots of the cells
-    /// that were white at hand-out: main only wakes gray cells in flight, so neither of the two
-    /// loads can miss a slot that the other word has.
+    /// that were white at hand-out. Main wakes only slots whose gob bit is set, so it is the same
+    /// whether a wake comes before the load of black or after it.
     pub fn sweep(&self, seat: &mut HelperSeat, claim: Claim) -> u64
         requires board { IsHelperOf self.now seat.old }
         requires own { HoldsClaim seat.old claim }
@@ -191,8 +192,8 @@ impl Board {
         freed
     }
 
-    /// Turns the slots of the mask, gray or black ones, black. Main may do so while a helper sweeps
-    /// the arena.
+    /// Turns the slots of the mask black, slots whose gob bit is set. Main may do so while a helper
+    /// sweeps the arena, and until it takes the arena in.
     pub fn wake(&self, main: &mut MainSeat, index: u32, mask: u64)
         requires board { IsMainOf self.now main.old }
         requires index { index < board_len self.now }
