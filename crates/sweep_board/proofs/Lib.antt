@@ -1,0 +1,12 @@
+pub mod Words
+pub mod Totals
+pub mod Turns
+pub mod HelperSteps
+pub mod MainSteps
+pub mod SeatMoves
+pub mod AfterSteps
+pub mod Opening
+pub mod Ascending
+pub mod FlightBits
+pub mod Sentences
+pub mod TakenBelow
