@@ -1,0 +1,260 @@
+-- How far a replay has come.
+use Rattle.std.proofs.Common.{◌≡◌, ◌≢◌, ℕ, ◌+◌, ◌<◌, ◌≤◌, List, [], ◌∷◌, ◌++◌, length, take, refl, ap, sym, subst, ◌∙◌, arith, Option, Some, None, slice_get, append_assoc, inl, inr, ◌⊎◌}
+use Rattle.std.specs.Prelude.{⊤}
+use Rattle.std.specs.List.{flat_map}
+use Rattle.std.specs.Io.KnownBytes.{Appends, prepend_known}
+use Rattle.std.proofs.KnownBytes.{Appends-trans, Appends-nil}
+use Rattle.std.proofs.lemmas.Grind.{flat_map-append}
+use Rattle.std.proofs.lemmas.List.{append-nil, length-append}
+use Rattle.gz_io.specs.Lines.{IsPlain, EndsLine, Gives, GivesKnown}
+use Rattle.gz_io.specs.declared.reader.Next.{Next}
+use Rattle.gz_io.specs.declared.reader.Next.TheVariants as next
+use Rattle.gz_names.specs.declared.commands.Cmd.{Cmd}
+use Rattle.gz_names.specs.declared.replies.Reply.{Reply}
+use Rattle.gz_names.specs.declared.replies.Report.{Report}
+use Rattle.colour_defs.specs.World.{World, first_world}
+use Rattle.colour_defs.specs.Lawful.{Answers, Run}
+use Rattle.trace_cli.specs.Heap.{HeapState}
+use Rattle.trace_cli.specs.Lines.{lines_of, line_feeds}
+use Rattle.trace_cli.specs.Served.{StandsFor, IsBad}
+use Rattle.trace_cli.specs.Headline.{answer_lines, StandForAll, LeadsTo, WritesAnswer, WritesFront, Replays}
+use Rattle.trace_cli.specs.declared.exit.Exit.{Exit}
+use Rattle.trace_cli.specs.declared.exit.Exit.TheVariants as exit
+use Rattle.trace_cli.proofs.Lined.{line_given, line_feeds-append, line_feeds-plain, too_long_bad, not_ascii_bad}
+
+-- the lines that were answered, of which bytes they are, and what was written
+pub record Reached (input rest : List ℕ) (old new : Option (List ℕ)) (n : ℕ) (w : World) : Type 0 where
+  pub done : List (List ℕ)
+  pub output : List ℕ
+  pub text : List ℕ
+  pub lines : lines_of input ≡ done ++ lines_of rest
+  pub count : length done ≡ n
+  pub wrote : Appends old new output
+  pub leads : LeadsTo done output w
+  pub bytes : input ≡ text ++ rest
+  pub whole : line_feeds text ≤ n
+
+-- n lines were answered, and this world comes after them
+abbrev pub Stands : Option (List ℕ) → Option (List ℕ) → Option (List ℕ) → Option (List ℕ) → ℕ → World → Type 0
+Stands None rest old new n w = ⊤
+Stands (Some input) None old new n w = ⊥
+Stands (Some input) (Some rest) old new n w = Reached input rest old new n w
+
+pub stands_first : (left written : Option (List ℕ)) (held : List ℕ) → held ≡ [] → Stands left (prepend_known held left) written written 0 first_world
+stands_first None written held e = tt
+stands_first (Some input) written held e = record {
+  done = [];
+  output = [];
+  text = [];
+  lines = ap (λ (t : List ℕ). lines_of (t ++ input)) (sym e);
+  count = refl;
+  wrote = Appends-nil written;
+  leads = record { commands = []; answers = []; stand = tt; run = refl; written = refl };
+  bytes = ap (λ (t : List ℕ). t ++ input) (sym e);
+  whole = omega arith;
+}
+
+wrote_more : (i xs : List ℕ) (p q r : Option (List ℕ)) (n : ℕ) (w : World) (h : Reached i xs p q n w) → Appends q r [] → Appends p r h.output
+wrote_more i xs p q r n w h k = rw append-nil at (Appends-trans p q r h.output [] h.wrote k)
+
+pub stands_kept : (a b p q r : Option (List ℕ)) (n : ℕ) (w : World) → Stands a b p q n w → Appends q r [] → Stands a b p r n w
+stands_kept None b p q r n w h k = tt
+stands_kept (Some i) None p q r n w h k = absurd h
+stands_kept (Some i) (Some xs) p q r n w h k = record {
+  done = h.done;
+  output = h.output;
+  text = h.text;
+  lines = h.lines;
+  count = h.count;
+  wrote = wrote_more i xs p q r n w h k;
+  leads = h.leads;
+  bytes = h.bytes;
+  whole = h.whole;
+}
+
+stand_more : (lines : List (List ℕ)) (cs : List Cmd) (line : List ℕ) (c : Cmd) → StandForAll lines cs → StandsFor line c → StandForAll (lines ++ line ∷ []) (cs ++ c ∷ [])
+stand_more [] [] line c a h = (h, tt)
+stand_more (l ∷ lines) (d ∷ cs) line c a h = (a.0, stand_more lines cs line c a.1 h)
+stand_more [] (d ∷ cs) line c a h = absurd a
+stand_more (l ∷ lines) [] line c a h = absurd a
+
+run_more : (u w v : World) (cs : List Cmd) (answers : List (List Report × Reply)) (c : Cmd) (a : List Report × Reply) → Run u cs answers w → Answers w c a.0 a.1 v → Run u (cs ++ c ∷ []) (answers ++ a ∷ []) v
+run_more u w v [] [] c a r s = (v, subst (λ (x : World). Answers x c a.0 a.1 v) r s, refl)
+run_more u w v (d ∷ cs) (b ∷ answers) c a r s = (r.0, r.1, run_more r.0 w v cs answers c a r.2 s)
+run_more u w v [] (b ∷ answers) c a r s = absurd r
+run_more u w v (d ∷ cs) [] c a r s = absurd r
+
+-- one answer more
+leads_more : (lines : List (List ℕ)) (output line : List ℕ) (w v : World) (c : Cmd) (a : List Report × Reply) → LeadsTo lines output w → StandsFor line c → Answers w c a.0 a.1 v → LeadsTo (lines ++ line ∷ []) (output ++ answer_lines a) v
+leads_more lines output line w v c a h s k = record {
+  commands = h.commands ++ c ∷ [];
+  answers = h.answers ++ a ∷ [];
+  stand = stand_more lines h.commands line c h.stand s;
+  run = run_more first_world w v h.commands h.answers c a h.run k;
+  written = ap (λ (t : List ℕ). t ++ answer_lines a) h.written ∙ sym (flat_map-append answer_lines h.answers (a ∷ []) ∙ ap (λ (t : List ℕ). flat_map answer_lines h.answers ++ t) (append-nil (answer_lines a)));
+}
+
+-- the bytes of a line that was given
+line_bytes : (xs ys line : List ℕ) → IsPlain line → EndsLine xs ys line → (text : List ℕ) × (xs ≡ text ++ ys) × (line_feeds text ≤ 1)
+line_bytes xs ys line p (inl e) = (line ++ 10 ∷ [], e ∙ sym (append_assoc line (10 ∷ []) ys), omega (arith, line_feeds-append line (10 ∷ []), line_feeds-plain line p))
+line_bytes xs ys line p (inr e) = (line, e.0 ∙ sym (append-nil line) ∙ ap (λ (t : List ℕ). line ++ t) (sym e.2), omega (arith, line_feeds-plain line p))
+
+reached_more : (i xs ys : List ℕ) (p q r : Option (List ℕ)) (n : ℕ) (line : List ℕ) (w : World) (c : Cmd) (k : HeapState) → Reached i xs p q n w → IsPlain line → EndsLine xs ys line → StandsFor line c → (a : WritesAnswer w c k q r) → Reached i ys p r (n + 1) a.after
+reached_more i xs ys p q r n line w c k h plain ends s a =
+    let b = line_bytes xs ys line plain ends in
+    record {
+      done = h.done ++ line ∷ [];
+      output = h.output ++ answer_lines (a.reports, a.answer);
+      text = h.text ++ b.0;
+      lines = h.lines ∙ ap (λ (u : List (List ℕ)). h.done ++ u) (line_given xs ys line plain ends) ∙ sym (append_assoc h.done (line ∷ []) (lines_of ys));
+      count = omega (arith, length-append h.done (line ∷ []), h.count);
+      wrote = Appends-trans p q r h.output (answer_lines (a.reports, a.answer)) h.wrote a.written;
+      leads = leads_more h.done h.output line w a.after c (a.reports, a.answer) h.leads s a.answers;
+      bytes = h.bytes ∙ ap (λ (t : List ℕ). h.text ++ t) b.1 ∙ sym (append_assoc h.text b.0 ys);
+      whole = omega (arith, line_feeds-append h.text b.0, h.whole, b.2);
+    }
+
+pub stands_more : (a b c p q r : Option (List ℕ)) (n m : ℕ) (line : List ℕ) (w : World) (d : Cmd) (k : HeapState) → Stands a b p q n w → GivesKnown b c (next.Line m) line → StandsFor line d → (e : WritesAnswer w d k q r) → Stands a c p r (n + 1) e.after
+stands_more None b c p q r n m line w d k h t s e = tt
+stands_more (Some i) None c p q r n m line w d k h t s e = absurd h
+stands_more (Some i) (Some xs) None p q r n m line w d k h t s e = absurd t
+stands_more (Some i) (Some xs) (Some ys) p q r n m line w d k h t s e = reached_more i xs ys p q r n line w d k h t.2 t.3 s e
+
+seam : (done : List (List ℕ)) (line : List ℕ) (rest : List (List ℕ)) → slice_get (done ++ (line ∷ rest)) (length done) ≡ Some line
+seam [] line rest = refl
+seam (x ∷ done) line rest = seam done line rest
+
+front : (done rest : List (List ℕ)) → take (length done) (done ++ rest) ≡ done
+front [] rest = refl
+front (x ∷ done) rest = ap (λ (u : List (List ℕ)). x ∷ u) (front done rest)
+
+-- the lines that were answered are the first n
+first_n : (i xs : List ℕ) (p q : Option (List ℕ)) (n : ℕ) (w : World) (h : Reached i xs p q n w) → LeadsTo (take n (lines_of i)) h.output w
+first_n i xs p q n w h = subst (λ (u : List (List ℕ)). LeadsTo u h.output w) (sym (subst (λ (k : ℕ). take k (lines_of i) ≡ h.done) h.count (ap (λ (u : List (List ℕ)). take (length h.done) u) h.lines ∙ front h.done (lines_of xs)))) h.leads
+
+-- the next line is the n-th
+next_is : (i xs : List ℕ) (p q : Option (List ℕ)) (n : ℕ) (w : World) (line : List ℕ) (more : List (List ℕ)) (h : Reached i xs p q n w) → lines_of xs ≡ line ∷ more → slice_get (lines_of i) n ≡ Some line
+next_is i xs p q n w line more h e = subst (λ (m : ℕ). slice_get (lines_of i) m ≡ Some line) h.count (ap (λ (u : List (List ℕ)). slice_get u (length h.done)) (h.lines ∙ ap (λ (u : List (List ℕ)). h.done ++ u) e) ∙ seam h.done line more)
+
+no_more : (held ys : List ℕ) → held ++ ys ≡ [] → ys ≡ []
+no_more [] ys e = e
+no_more (b ∷ held) ys e = absurd (cc e)
+
+-- the exits: where nothing more was taken
+pub ends_write : (a l p q r : Option (List ℕ)) (held : List ℕ) (n : ℕ) (w : World) → Stands a (prepend_known held l) p q n w → Appends q r [] → Replays a l p r exit.WriteFault
+ends_write None l p q r held n w h k = tt
+ends_write (Some i) None p q r held n w h k = absurd h
+ends_write (Some i) (Some ys) p q r held n w h k = (h.output, wrote_more i (held ++ ys) p q r n w h k, (n, h.output, [], w, sym (append-nil h.output), first_n i (held ++ ys) p q n w h, inl refl))
+
+-- where the next line was asked for
+pub write_after : (a b l p q r : Option (List ℕ)) (held line : List ℕ) (res : Next) (n : ℕ) (w : World) → Stands a b p q n w → GivesKnown b (prepend_known held l) res line → Appends q r [] → Replays a l p r exit.WriteFault
+write_after None b l p q r held line res n w h t k = tt
+write_after (Some i) None l p q r held line res n w h t k = absurd h
+write_after (Some i) (Some xs) None p q r held line res n w h t k = absurd t
+write_after (Some i) (Some xs) (Some ys) p q r held line res n w h t k = (h.output, wrote_more i xs p q r n w h k, (n, h.output, [], w, sym (append-nil h.output), first_n i xs p q n w h, inl refl))
+
+pub done_after : (a b l p q r : Option (List ℕ)) (held line : List ℕ) (n : ℕ) (w : World) → Stands a b p q n w → GivesKnown b (prepend_known held l) next.End line → Appends q r [] → Replays a l p r exit.Done
+done_after None b l p q r held line n w h t k = tt
+done_after (Some i) None l p q r held line n w h t k = absurd h
+done_after (Some i) (Some xs) None p q r held line n w h t k = absurd t
+done_after (Some i) (Some xs) (Some ys) p q r held line n w h t k =
+    let all : lines_of i ≡ h.done = h.lines ∙ ap (λ (u : List ℕ). h.done ++ lines_of u) t.0 ∙ append-nil h.done in
+    (h.output, wrote_more i xs p q r n w h k, ((w, subst (λ (u : List (List ℕ)). LeadsTo u h.output w) (sym all) h.leads), no_more held ys t.1))
+
+pub read_after : (a b l p q r : Option (List ℕ)) (held line : List ℕ) (n : ℕ) (w : World) → Stands a b p q n w → GivesKnown b (prepend_known held l) next.ReadFault line → IsPlain held → Appends q r [] → Replays a l p r exit.ReadFault
+read_after None b l p q r held line n w h t plain k = tt
+read_after (Some i) None l p q r held line n w h t plain k = absurd h
+read_after (Some i) (Some xs) None p q r held line n w h t plain k = absurd t
+read_after (Some i) (Some xs) (Some ys) p q r held line n w h t plain k = (
+  h.output,
+  wrote_more i xs p q r n w h k,
+  (n, h.text ++ held, h.bytes ∙ ap (λ (u : List ℕ). h.text ++ u) (sym t) ∙ sym (append_assoc h.text held ys), omega (arith, line_feeds-append h.text held, line_feeds-plain held plain, h.whole), (w, first_n i xs p q n w h)),
+)
+
+pub memory_after : (a b l p q r : Option (List ℕ)) (held line : List ℕ) (res : Next) (n : ℕ) (w : World) → Stands a b p q n w → GivesKnown b (prepend_known held l) res line → Appends q r [] → Replays a l p r exit.NoMemory
+memory_after None b l p q r held line res n w h t k = tt
+memory_after (Some i) None l p q r held line res n w h t k = absurd h
+memory_after (Some i) (Some xs) None p q r held line res n w h t k = absurd t
+memory_after (Some i) (Some xs) (Some ys) p q r held line res n w h t k = (h.output, wrote_more i xs p q r n w h k, (n, (w, first_n i xs p q n w h)))
+
+gives_line : (xs ys line : List ℕ) (res : Next) → Gives xs ys res line → res ≢ next.End → res ≢ next.ReadFault → (l : List ℕ) × (more : List (List ℕ)) × (lines_of xs ≡ l ∷ more)
+gives_line xs ys line (next.Line m) g e f = (line, lines_of ys, line_given xs ys line g.2 g.3)
+gives_line xs ys line next.End g e f = absurd (e refl)
+gives_line xs ys line next.TooLong g e f = let b = too_long_bad xs g.1 in (b.0, b.1, b.2)
+gives_line xs ys line next.NotAscii g e f = let b = not_ascii_bad xs g.1 in (b.0, b.1, b.2)
+gives_line xs ys line next.ReadFault g e f = absurd (f refl)
+
+many : (i xs : List ℕ) (p q : Option (List ℕ)) (n : ℕ) (w : World) (l : List ℕ) (more : List (List ℕ)) (h : Reached i xs p q n w) → n ≡ 4294967295 → lines_of xs ≡ l ∷ more → 4294967295 < length (lines_of i)
+many i xs p q n w l more h e m = let s : length (lines_of i) ≡ length (h.done ++ (l ∷ more)) = ap length (h.lines ∙ ap (λ (u : List (List ℕ)). h.done ++ u) m) in omega (arith, s, length-append h.done (l ∷ more), h.count, e)
+
+pub many_after : (a b l p q r : Option (List ℕ)) (held line : List ℕ) (res : Next) (n : ℕ) (w : World) → Stands a b p q n w → GivesKnown b (prepend_known held l) res line → res ≢ next.End → res ≢ next.ReadFault → n ≡ 4294967295 → Appends q r [] → Replays a l p r exit.TooManyLines
+many_after None b l p q r held line res n w h t x y e k = tt
+many_after (Some i) None l p q r held line res n w h t x y e k = absurd h
+many_after (Some i) (Some xs) None p q r held line res n w h t x y e k = absurd t
+many_after (Some i) (Some xs) (Some ys) p q r held line res n w h t x y e k =
+    let g = gives_line xs (held ++ ys) line res t x y in
+    (h.output, wrote_more i xs p q r n w h k, (many i xs p q n w g.0 g.1 h e g.2, (w, subst (λ (m : ℕ). LeadsTo (take m (lines_of i)) h.output w) e (first_n i xs p q n w h))))
+
+pub too_long_after : (a b l p q r : Option (List ℕ)) (held line : List ℕ) (n : ℕ) (w : World) → Stands a b p q n w → GivesKnown b (prepend_known held l) next.TooLong line → Appends q r [] → Replays a l p r (exit.BadLine (n + 1))
+too_long_after None b l p q r held line n w h t k = tt
+too_long_after (Some i) None l p q r held line n w h t k = absurd h
+too_long_after (Some i) (Some xs) None p q r held line n w h t k = absurd t
+too_long_after (Some i) (Some xs) (Some ys) p q r held line n w h t k =
+    let g = too_long_bad xs t.1 in
+    (h.output, wrote_more i xs p q r n w h k, (n, g.0, refl, next_is i xs p q n w g.0 g.1 h g.2, g.3, (w, first_n i xs p q n w h)))
+
+pub not_ascii_after : (a b l p q r : Option (List ℕ)) (held line : List ℕ) (n : ℕ) (w : World) → Stands a b p q n w → GivesKnown b (prepend_known held l) next.NotAscii line → Appends q r [] → Replays a l p r (exit.BadLine (n + 1))
+not_ascii_after None b l p q r held line n w h t k = tt
+not_ascii_after (Some i) None l p q r held line n w h t k = absurd h
+not_ascii_after (Some i) (Some xs) None p q r held line n w h t k = absurd t
+not_ascii_after (Some i) (Some xs) (Some ys) p q r held line n w h t k =
+    let g = not_ascii_bad xs t.1 in
+    (h.output, wrote_more i xs p q r n w h k, (n, g.0, refl, next_is i xs p q n w g.0 g.1 h g.2, g.3, (w, first_n i xs p q n w h)))
+
+pub bad_after : (a b l p q r : Option (List ℕ)) (held line : List ℕ) (n m : ℕ) (w : World) → Stands a b p q n w → GivesKnown b (prepend_known held l) (next.Line m) line → IsBad line → Appends q r [] → Replays a l p r (exit.BadLine (n + 1))
+bad_after None b l p q r held line n m w h t bad k = tt
+bad_after (Some i) None l p q r held line n m w h t bad k = absurd h
+bad_after (Some i) (Some xs) None p q r held line n m w h t bad k = absurd t
+bad_after (Some i) (Some xs) (Some ys) p q r held line n m w h t bad k =
+    (h.output, wrote_more i xs p q r n w h k, (n, line, refl, next_is i xs p q n w line (lines_of (held ++ ys)) h (line_given xs (held ++ ys) line t.2 t.3), bad, (w, first_n i xs p q n w h)))
+
+pub part_after : (a b l p q r : Option (List ℕ)) (held line : List ℕ) (n m : ℕ) (w : World) (c : Cmd) → Stands a b p q n w → GivesKnown b (prepend_known held l) (next.Line m) line → StandsFor line c → WritesFront w c q r → Replays a l p r exit.WriteFault
+part_after None b l p q r held line n m w c h t s k = tt
+part_after (Some i) None l p q r held line n m w c h t s k = absurd h
+part_after (Some i) (Some xs) None p q r held line n m w c h t s k = absurd t
+part_after (Some i) (Some xs) (Some ys) p q r held line n m w c h t s k = (
+  h.output ++ k.written.0,
+  Appends-trans p q r h.output k.written.0 h.wrote k.written.3,
+  (
+    n,
+    h.output,
+    k.written.0,
+    w,
+    refl,
+    first_n i xs p q n w h,
+    inr (record {
+      line = line;
+      command = c;
+      text = k.text;
+      rest = k.written.1;
+      next = next_is i xs p q n w line (lines_of (held ++ ys)) h (line_given xs (held ++ ys) line t.2 t.3);
+      stands = s;
+      answers = k.answers;
+      front = k.written.2;
+    }),
+  ),
+)
+
+pub usage_ends : (left written : Option (List ℕ)) → Replays left left written written exit.Usage
+usage_ends None written = tt
+usage_ends (Some input) written = ([], Appends-nil written, (refl, refl))
+
+-- an exit, or that of a fault of the sink
+pub either : (P : Exit → Type 0) (r e : Exit) → (r ≡ e) ⊎ (r ≡ exit.WriteFault) → P e → P exit.WriteFault → P r
+either P r e (inl h) x y = subst P (sym h) x
+either P r e (inr h) x y = subst P (sym h) y
+
+-- the same at a line that is none of the language
+pub either_refusal : (P : Exit → Type 0) (r e : Exit) (n : ℕ) → (r ≡ e) ⊎ (r ≡ exit.WriteFault) → ((n ≡ 4294967295) × (e ≡ exit.TooManyLines)) ⊎ (e ≡ exit.BadLine (n + 1)) → (n ≡ 4294967295 → P exit.TooManyLines) → P (exit.BadLine (n + 1)) → P exit.WriteFault → P r
+either_refusal P r e n h (inl k) m b w = either P r e h (subst P (sym k.1) (m k.0)) w
+either_refusal P r e n h (inr k) m b w = either P r e h (subst P (sym k) b) w

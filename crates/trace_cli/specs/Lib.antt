@@ -1,0 +1,10 @@
+pub mod Heap
+pub mod Marking
+pub mod Represents
+pub mod Does
+pub mod Sweeping
+pub mod Collecting
+pub mod Served
+pub mod Lines
+pub mod CommandLine
+pub mod Headline
