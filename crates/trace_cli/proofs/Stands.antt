@@ -13,7 +13,8 @@ use Rattle.gz_names.specs.declared.commands.Cmd.{Cmd}
 use Rattle.gz_names.specs.declared.replies.Reply.{Reply}
 use Rattle.gz_names.specs.declared.replies.Report.{Report}
 use Rattle.colour_defs.specs.World.{World, first_world}
-use Rattle.colour_defs.specs.Lawful.{Answers, Run}
+use Rattle.colour_defs.specs.Lawful.{Answers}
+use Rattle.colour_defs.proofs.Grown.{run_more}
 use Rattle.trace_cli.specs.Heap.{HeapState}
 use Rattle.trace_cli.specs.Lines.{lines_of, line_feeds}
 use Rattle.trace_cli.specs.Served.{StandsFor, IsBad}
@@ -78,19 +79,13 @@ stand_more (l ∷ lines) (d ∷ cs) line c a h = (a.0, stand_more lines cs line 
 stand_more [] (d ∷ cs) line c a h = absurd a
 stand_more (l ∷ lines) [] line c a h = absurd a
 
-run_more : (u w v : World) (cs : List Cmd) (answers : List (List Report × Reply)) (c : Cmd) (a : List Report × Reply) → Run u cs answers w → Answers w c a.0 a.1 v → Run u (cs ++ c ∷ []) (answers ++ a ∷ []) v
-run_more u w v [] [] c a r s = (v, subst (λ (x : World). Answers x c a.0 a.1 v) r s, refl)
-run_more u w v (d ∷ cs) (b ∷ answers) c a r s = (r.0, r.1, run_more r.0 w v cs answers c a r.2 s)
-run_more u w v [] (b ∷ answers) c a r s = absurd r
-run_more u w v (d ∷ cs) [] c a r s = absurd r
-
 -- one answer more
 leads_more : (lines : List (List ℕ)) (output line : List ℕ) (w v : World) (c : Cmd) (a : List Report × Reply) → LeadsTo lines output w → StandsFor line c → Answers w c a.0 a.1 v → LeadsTo (lines ++ line ∷ []) (output ++ answer_lines a) v
 leads_more lines output line w v c a h s k = record {
   commands = h.commands ++ c ∷ [];
   answers = h.answers ++ a ∷ [];
   stand = stand_more lines h.commands line c h.stand s;
-  run = run_more first_world w v h.commands h.answers c a h.run k;
+  run = run_more first_world h.commands h.answers w c a.0 a.1 v h.run k;
   written = ap (λ (t : List ℕ). t ++ answer_lines a) h.written ∙ sym (flat_map-append answer_lines h.answers (a ∷ []) ∙ ap (λ (t : List ℕ). flat_map answer_lines h.answers ++ t) (append-nil (answer_lines a)));
 }
 
@@ -153,13 +148,13 @@ write_after (Some i) None l p q r held line res n w h t k = absurd h
 write_after (Some i) (Some xs) None p q r held line res n w h t k = absurd t
 write_after (Some i) (Some xs) (Some ys) p q r held line res n w h t k = (h.output, wrote_more i xs p q r n w h k, (n, h.output, [], w, sym (append-nil h.output), first_n i xs p q n w h, inl refl))
 
-pub done_after : (a b l p q r : Option (List ℕ)) (held line : List ℕ) (n : ℕ) (w : World) → Stands a b p q n w → GivesKnown b (prepend_known held l) next.End line → Appends q r [] → Replays a l p r exit.Done
-done_after None b l p q r held line n w h t k = tt
-done_after (Some i) None l p q r held line n w h t k = absurd h
-done_after (Some i) (Some xs) None p q r held line n w h t k = absurd t
-done_after (Some i) (Some xs) (Some ys) p q r held line n w h t k =
+pub done_after : (a b l p q r : Option (List ℕ)) (held line : List ℕ) (n : ℕ) (w : World) → Stands a b p q n w → GivesKnown b (prepend_known held l) next.End line → n ≤ 4294967295 → Appends q r [] → Replays a l p r exit.Done
+done_after None b l p q r held line n w h t most k = tt
+done_after (Some i) None l p q r held line n w h t most k = absurd h
+done_after (Some i) (Some xs) None p q r held line n w h t most k = absurd t
+done_after (Some i) (Some xs) (Some ys) p q r held line n w h t most k =
     let all : lines_of i ≡ h.done = h.lines ∙ ap (λ (u : List ℕ). h.done ++ lines_of u) t.0 ∙ append-nil h.done in
-    (h.output, wrote_more i xs p q r n w h k, ((w, subst (λ (u : List (List ℕ)). LeadsTo u h.output w) (sym all) h.leads), no_more held ys t.1))
+    (h.output, wrote_more i xs p q r n w h k, ((w, subst (λ (u : List (List ℕ)). LeadsTo u h.output w) (sym all) h.leads), no_more held ys t.1, omega (arith, (let e : length (lines_of i) ≡ length h.done = ap length all in e), h.count, most)))
 
 pub read_after : (a b l p q r : Option (List ℕ)) (held line : List ℕ) (n : ℕ) (w : World) → Stands a b p q n w → GivesKnown b (prepend_known held l) next.ReadFault line → IsPlain held → Appends q r [] → Replays a l p r exit.ReadFault
 read_after None b l p q r held line n w h t plain k = tt
@@ -195,28 +190,28 @@ many_after (Some i) (Some xs) (Some ys) p q r held line res n w h t x y e k =
     let g = gives_line xs (held ++ ys) line res t x y in
     (h.output, wrote_more i xs p q r n w h k, (many i xs p q n w g.0 g.1 h e g.2, (w, subst (λ (m : ℕ). LeadsTo (take m (lines_of i)) h.output w) e (first_n i xs p q n w h))))
 
-pub too_long_after : (a b l p q r : Option (List ℕ)) (held line : List ℕ) (n : ℕ) (w : World) → Stands a b p q n w → GivesKnown b (prepend_known held l) next.TooLong line → Appends q r [] → Replays a l p r (exit.BadLine (n + 1))
-too_long_after None b l p q r held line n w h t k = tt
-too_long_after (Some i) None l p q r held line n w h t k = absurd h
-too_long_after (Some i) (Some xs) None p q r held line n w h t k = absurd t
-too_long_after (Some i) (Some xs) (Some ys) p q r held line n w h t k =
+pub too_long_after : (a b l p q r : Option (List ℕ)) (held line : List ℕ) (n : ℕ) (w : World) → n < 4294967295 → Stands a b p q n w → GivesKnown b (prepend_known held l) next.TooLong line → Appends q r [] → Replays a l p r (exit.BadLine (n + 1))
+too_long_after None b l p q r held line n w few h t k = tt
+too_long_after (Some i) None l p q r held line n w few h t k = absurd h
+too_long_after (Some i) (Some xs) None p q r held line n w few h t k = absurd t
+too_long_after (Some i) (Some xs) (Some ys) p q r held line n w few h t k =
     let g = too_long_bad xs t.1 in
-    (h.output, wrote_more i xs p q r n w h k, (n, g.0, refl, next_is i xs p q n w g.0 g.1 h g.2, g.3, (w, first_n i xs p q n w h)))
+    (h.output, wrote_more i xs p q r n w h k, (n, g.0, refl, few, next_is i xs p q n w g.0 g.1 h g.2, g.3, (w, first_n i xs p q n w h)))
 
-pub not_ascii_after : (a b l p q r : Option (List ℕ)) (held line : List ℕ) (n : ℕ) (w : World) → Stands a b p q n w → GivesKnown b (prepend_known held l) next.NotAscii line → Appends q r [] → Replays a l p r (exit.BadLine (n + 1))
-not_ascii_after None b l p q r held line n w h t k = tt
-not_ascii_after (Some i) None l p q r held line n w h t k = absurd h
-not_ascii_after (Some i) (Some xs) None p q r held line n w h t k = absurd t
-not_ascii_after (Some i) (Some xs) (Some ys) p q r held line n w h t k =
+pub not_ascii_after : (a b l p q r : Option (List ℕ)) (held line : List ℕ) (n : ℕ) (w : World) → n < 4294967295 → Stands a b p q n w → GivesKnown b (prepend_known held l) next.NotAscii line → Appends q r [] → Replays a l p r (exit.BadLine (n + 1))
+not_ascii_after None b l p q r held line n w few h t k = tt
+not_ascii_after (Some i) None l p q r held line n w few h t k = absurd h
+not_ascii_after (Some i) (Some xs) None p q r held line n w few h t k = absurd t
+not_ascii_after (Some i) (Some xs) (Some ys) p q r held line n w few h t k =
     let g = not_ascii_bad xs t.1 in
-    (h.output, wrote_more i xs p q r n w h k, (n, g.0, refl, next_is i xs p q n w g.0 g.1 h g.2, g.3, (w, first_n i xs p q n w h)))
+    (h.output, wrote_more i xs p q r n w h k, (n, g.0, refl, few, next_is i xs p q n w g.0 g.1 h g.2, g.3, (w, first_n i xs p q n w h)))
 
-pub bad_after : (a b l p q r : Option (List ℕ)) (held line : List ℕ) (n m : ℕ) (w : World) → Stands a b p q n w → GivesKnown b (prepend_known held l) (next.Line m) line → IsBad line → Appends q r [] → Replays a l p r (exit.BadLine (n + 1))
-bad_after None b l p q r held line n m w h t bad k = tt
-bad_after (Some i) None l p q r held line n m w h t bad k = absurd h
-bad_after (Some i) (Some xs) None p q r held line n m w h t bad k = absurd t
-bad_after (Some i) (Some xs) (Some ys) p q r held line n m w h t bad k =
-    (h.output, wrote_more i xs p q r n w h k, (n, line, refl, next_is i xs p q n w line (lines_of (held ++ ys)) h (line_given xs (held ++ ys) line t.2 t.3), bad, (w, first_n i xs p q n w h)))
+pub bad_after : (a b l p q r : Option (List ℕ)) (held line : List ℕ) (n m : ℕ) (w : World) → n < 4294967295 → Stands a b p q n w → GivesKnown b (prepend_known held l) (next.Line m) line → IsBad line → Appends q r [] → Replays a l p r (exit.BadLine (n + 1))
+bad_after None b l p q r held line n m w few h t bad k = tt
+bad_after (Some i) None l p q r held line n m w few h t bad k = absurd h
+bad_after (Some i) (Some xs) None p q r held line n m w few h t bad k = absurd t
+bad_after (Some i) (Some xs) (Some ys) p q r held line n m w few h t bad k =
+    (h.output, wrote_more i xs p q r n w h k, (n, line, refl, few, next_is i xs p q n w line (lines_of (held ++ ys)) h (line_given xs (held ++ ys) line t.2 t.3), bad, (w, first_n i xs p q n w h)))
 
 pub part_after : (a b l p q r : Option (List ℕ)) (held line : List ℕ) (n m : ℕ) (w : World) (c : Cmd) → Stands a b p q n w → GivesKnown b (prepend_known held l) (next.Line m) line → StandsFor line c → WritesFront w c q r → Replays a l p r exit.WriteFault
 part_after None b l p q r held line n m w c h t s k = tt
@@ -255,6 +250,6 @@ either P r e (inl h) x y = subst P (sym h) x
 either P r e (inr h) x y = subst P (sym h) y
 
 -- the same at a line that is none of the language
-pub either_refusal : (P : Exit → Type 0) (r e : Exit) (n : ℕ) → (r ≡ e) ⊎ (r ≡ exit.WriteFault) → ((n ≡ 4294967295) × (e ≡ exit.TooManyLines)) ⊎ (e ≡ exit.BadLine (n + 1)) → (n ≡ 4294967295 → P exit.TooManyLines) → P (exit.BadLine (n + 1)) → P exit.WriteFault → P r
+pub either_refusal : (P : Exit → Type 0) (r e : Exit) (n : ℕ) → (r ≡ e) ⊎ (r ≡ exit.WriteFault) → ((n ≡ 4294967295) × (e ≡ exit.TooManyLines)) ⊎ ((n < 4294967295) × (e ≡ exit.BadLine (n + 1))) → (n ≡ 4294967295 → P exit.TooManyLines) → (n < 4294967295 → P (exit.BadLine (n + 1))) → P exit.WriteFault → P r
 either_refusal P r e n h (inl k) m b w = either P r e h (subst P (sym k.1) (m k.0)) w
-either_refusal P r e n h (inr k) m b w = either P r e h (subst P (sym k) b) w
+either_refusal P r e n h (inr k) m b w = either P r e h (subst P (sym k.1) (b k.0)) w

@@ -86,9 +86,9 @@ pub record BreaksOff (lines : List (List ℕ)) (k : ℕ) (w : World) (part : Lis
 
 -- what was written and what is left, by the exit, where the source told its bytes at entry
 abbrev pub EndsSo : Exit → List ℕ → List ℕ → List ℕ → Type 0
-EndsSo exit.Done input rest output = IsLawfulText (lines_of input) output × (rest ≡ [])
+EndsSo exit.Done input rest output = IsLawfulText (lines_of input) output × (rest ≡ []) × (length (lines_of input) ≤ 4294967295)
 EndsSo exit.Usage input rest output = (output ≡ []) × (rest ≡ input)
-EndsSo (exit.BadLine n) input rest output = (k : ℕ) × (line : List ℕ) × (n ≡ k + 1) × (slice_get (lines_of input) k ≡ Some line) × IsBad line × IsLawfulText (take k (lines_of input)) output
+EndsSo (exit.BadLine n) input rest output = (k : ℕ) × (line : List ℕ) × (n ≡ k + 1) × (k < 4294967295) × (slice_get (lines_of input) k ≡ Some line) × IsBad line × IsLawfulText (take k (lines_of input)) output
 EndsSo exit.ReadFault input rest output = (k : ℕ) × (taken : List ℕ) × (input ≡ taken ++ rest) × (line_feeds taken ≤ k) × IsLawfulText (take k (lines_of input)) output
 EndsSo exit.WriteFault input rest output = (k : ℕ) × (whole part : List ℕ) × (w : World) × (output ≡ whole ++ part) × LeadsTo (take k (lines_of input)) whole w × ((part ≡ []) ⊎ BreaksOff (lines_of input) k w part)
 EndsSo exit.NoMemory input rest output = (k : ℕ) × IsLawfulText (take k (lines_of input)) output
@@ -100,7 +100,13 @@ Replays None left old new result = ⊤
 Replays (Some input) None old new result = ⊥
 Replays (Some input) (Some rest) old new result = (output : List ℕ) × Appends old new output × EndsSo result input rest output
 
--- where the words are plain, no count rose and the lines are a trace, the replay comes to its end
+-- which exit comes where no count rose: the end, the first bad line, or one line too many
+pub record Ends (lines : List (List ℕ)) (result : Exit) : Type 0 where
+  pub at_end : (commands : List Cmd) → StandForAll lines commands → length lines ≤ 4294967295 → (result ≡ exit.Done) ⊎ (result ≡ exit.NoMemory)
+  pub at_bad : (n : ℕ) (line : List ℕ) (commands : List Cmd) → n < 4294967295 → slice_get lines n ≡ Some line → IsBad line → StandForAll (take n lines) commands → (result ≡ exit.BadLine (n + 1)) ⊎ (result ≡ exit.NoMemory)
+  pub at_most : (commands : List Cmd) → 4294967295 < length lines → StandForAll (take 4294967295 lines) commands → (result ≡ exit.TooManyLines) ⊎ (result ≡ exit.NoMemory)
+
+-- where the words are plain and no count rose, the lines alone say the exit, but for want of memory
 abbrev pub Completes : List (List ℕ) → Option (List ℕ) → ℕ → ℕ → ℕ → ℕ → Exit → Type 0
 Completes words None a b c d result = ⊤
-Completes words (Some input) a b c d result = ArePlain words → (Rose a b → ⊥) → (Rose c d → ⊥) → (commands : List Cmd) → StandForAll (lines_of input) commands → length (lines_of input) ≤ 4294967295 → (result ≡ exit.Done) ⊎ (result ≡ exit.NoMemory)
+Completes words (Some input) a b c d result = ArePlain words → (Rose a b → ⊥) → (Rose c d → ⊥) → Ends (lines_of input) result

@@ -41,7 +41,7 @@ fn flush_before<K: Sink>(reader: &LineReader, sink: &mut K) -> Result<(), Answer
 // The exit at a line that is none of the language, after so many lines.
 fn refusal(answered: u64) -> Exit
     requires { answered < 4294967296 }
-    ensures { ((answered ≡ 4294967295) × (result ≡ Exit.TooManyLines)) ⊎ (result ≡ Exit.BadLine (answered + 1)) }
+    ensures { ((answered ≡ 4294967295) × (result ≡ Exit.TooManyLines)) ⊎ ((answered < 4294967295) × (result ≡ Exit.BadLine (answered + 1))) }
 {
     if answered == 4294967295 {
         return Exit::TooManyLines;

@@ -43,7 +43,7 @@ returns-in-TooLong-clause-lawful g c =
     let kept = c.end_so-in-TooLong.ensures.kept in
     either_refusal (λ (e : Exit). Replays (g.S.Source.left c.args.source.now) (g.S.Source.left c.next.new.source) (g.K.Sink.written c.args.sink.now) (g.K.Sink.written c.end_so-in-TooLong.new.sink) e) _ _ c.loop-answered.answered c.end_so-in-TooLong.ensures.exit c.refusal.ensures
     (λ n. many_after _ _ _ _ _ _ c.next.new.self.held _ _ _ so.0 stands bytes (λ e. cc e) (λ e. cc e) n kept)
-    (too_long_after _ _ _ _ _ _ c.next.new.self.held _ _ so.0 stands bytes kept)
+    (λ few. too_long_after _ _ _ _ _ _ c.next.new.self.held _ _ so.0 few stands bytes kept)
     (write_after _ _ _ _ _ _ c.next.new.self.held _ _ _ so.0 stands bytes kept)
 
 pub returns-in-NotAscii-clause-lawful : goal.returns-in-NotAscii-clause-lawful
@@ -54,7 +54,7 @@ returns-in-NotAscii-clause-lawful g c =
     let kept = c.end_so-in-NotAscii.ensures.kept in
     either_refusal (λ (e : Exit). Replays (g.S.Source.left c.args.source.now) (g.S.Source.left c.next.new.source) (g.K.Sink.written c.args.sink.now) (g.K.Sink.written c.end_so-in-NotAscii.new.sink) e) _ _ c.loop-answered.answered c.end_so-in-NotAscii.ensures.exit c.refusal-in-NotAscii.ensures
     (λ n. many_after _ _ _ _ _ _ c.next.new.self.held _ _ _ so.0 stands bytes (λ e. cc e) (λ e. cc e) n kept)
-    (not_ascii_after _ _ _ _ _ _ c.next.new.self.held _ _ so.0 stands bytes kept)
+    (λ few. not_ascii_after _ _ _ _ _ _ c.next.new.self.held _ _ so.0 few stands bytes kept)
     (write_after _ _ _ _ _ _ c.next.new.self.held _ _ _ so.0 stands bytes kept)
 
 pub returns-in-End-clause-lawful : goal.returns-in-End-clause-lawful
@@ -64,7 +64,7 @@ returns-in-End-clause-lawful g c =
     let bytes = c.in-End.ensures.bytes in
     let kept = c.end_so-in-End.ensures.kept in
     either (λ (e : Exit). Replays (g.S.Source.left c.args.source.now) (g.S.Source.left c.next.new.source) (g.K.Sink.written c.args.sink.now) (g.K.Sink.written c.end_so-in-End.new.sink) e) _ _ c.end_so-in-End.ensures.exit
-    (done_after _ _ _ _ _ _ c.next.new.self.held _ _ so.0 stands bytes kept)
+    (done_after _ _ _ _ _ _ c.next.new.self.held _ _ so.0 stands bytes c.loop-answered.invariant.2 kept)
     (write_after _ _ _ _ _ _ c.next.new.self.held _ _ _ so.0 stands bytes kept)
 
 pub returns-in-ReadFault-clause-lawful : goal.returns-in-ReadFault-clause-lawful
@@ -108,7 +108,7 @@ returns-in-Err-Bad-clause-lawful g c =
     let bad = c.in-Err-Bad.ensures.bad (ap (λ e. Err e) c.in-Err-Bad.field-0-is) in
     let kept = Appends-trans _ _ _ [] [] bad.1 c.end_so-in-Err-Bad.ensures.kept in
     either (λ (e : Exit). Replays (g.S.Source.left c.args.source.now) (g.S.Source.left c.next.new.source) (g.K.Sink.written c.args.sink.now) (g.K.Sink.written c.end_so-in-Err-Bad.new.sink) e) _ _ c.end_so-in-Err-Bad.ensures.exit
-    (bad_after _ _ _ _ _ _ c.next.new.self.held c.next.new.self.line _ c.in-Line.field-0 so.0 stands bytes (λ d q. bad.0 d (subst (λ (l : List ℕ). StandsFor l d) (sym c.line.ensures) q)) kept)
+    (bad_after _ _ _ _ _ _ c.next.new.self.held c.next.new.self.line _ c.in-Line.field-0 so.0 (omega (arith, c.loop-answered.invariant.2, c.if-answered-eq4294967295.false)) stands bytes (λ d q. bad.0 d (subst (λ (l : List ℕ). StandsFor l d) (sym c.line.ensures) q)) kept)
     (write_after _ _ _ _ _ _ c.next.new.self.held _ _ _ so.0 stands bytes kept)
 
 pub returns-in-Err-Memory-clause-lawful : goal.returns-in-Err-Memory-clause-lawful
