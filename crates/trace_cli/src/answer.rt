@@ -20,7 +20,7 @@ use trace_lang::{parse, write_reply};
 /// Why a line was not answered whole.
 #[derive(Clone, Copy, Debug, PartialEq, Eq)]
 pub enum AnswerFault {
-    /// The line is none of the language.
+    /// The line is none that the program takes.
     Bad,
     /// Memory was wanted: nothing was written, and the heap is as it was.
     Memory,

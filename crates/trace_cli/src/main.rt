@@ -1,4 +1,30 @@
-// The program `gczone`: replays a trace of allocations, writes and collections.
+// [gczone] from bytes to bytes
+//
+// The program `gczone` replays a trace: it reads a line, answers it whole, and goes on.
+//
+//     replay     reads the lines, and ends with the exit that the lines and the counts of faults say
+//     answer     what one line is answered: parsed, served or refused, its reply written
+//     heap       the zone, the compartment, the registers and the cells, by positions
+//     marks      which positions are reached from the registers
+//     collect    marks, reports the only group and its end, and sweeps arena by arena
+//
+// A cell keeps its position for life; position 64 a + s is slot s of arena a. Names are given in the
+// order of making and never again, positions are: the lowest free one is taken first.
+//
+//     registers   r0 r1 ..          positions   0  1  2 | 64 65 ..
+//                  |  |                         |  |  |
+//                  0  2             cells       c0 c1 c4   (c2 and c3 were freed, c4 took position 2)
+//
+// The heap stands for a world of the definitions (`Represents` in specs/): the same objects, named by
+// their numbers, each at the place of its position; nothing is white, and no arena is out, between
+// two lines. Each command takes a heap that stands for a world to one that stands for the world after
+// it, with the reply that the definitions give; so what a replay has written is, at any moment, lawful
+// output for the lines that it has read, and at most a front of the next answer.
+//
+// Why a collection cannot stop half way: its reports go out arena by arena, and a failed write ends
+// the replay between two of them. What was written then is the start of a lawful answer, since each
+// report is lawful in the world that it is made in. Were the reports written first and the cells swept
+// afterwards, a freed name could be printed that a later look still finds.
 #![tactic(auto)]
 
 mod answer;
