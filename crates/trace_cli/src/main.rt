@@ -21,10 +21,9 @@
 // it, with the reply that the definitions give; so what a replay has written is, at any moment, lawful
 // output for the lines that it has read, and at most a front of the next answer.
 //
-// Why a collection cannot stop half way: its reports go out arena by arena, and a failed write ends
-// the replay between two of them. What was written then is the start of a lawful answer, since each
-// report is lawful in the world that it is made in. Were the reports written first and the cells swept
-// afterwards, a freed name could be printed that a later look still finds.
+// Why each report is lawful by itself: the reports go out arena by arena, and a failed write ends the
+// replay between two of them, or within one. What was written then is the start of a lawful answer,
+// since each report is lawful in the world that the reports before it lead to.
 #![tactic(auto)]
 
 mod answer;

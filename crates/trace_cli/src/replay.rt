@@ -38,7 +38,7 @@ fn flush_before<K: Sink>(reader: &LineReader, sink: &mut K) -> Result<(), Answer
     Ok(())
 }
 
-// The exit at a line that is none of the language, after so many lines.
+// The exit at a line that is too long or not of ASCII, after so many lines.
 fn refusal(answered: u64) -> Exit
     requires { answered < 4294967296 }
     ensures { ((answered ≡ 4294967295) × (result ≡ Exit.TooManyLines)) ⊎ ((answered < 4294967295) × (result ≡ Exit.BadLine (answered + 1))) }
