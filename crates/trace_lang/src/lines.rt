@@ -51,7 +51,7 @@ fn graph_command(word: Word, rest: &[u8]) -> Option<GraphCmd>
 {
     match word {
         Word::Zone => rest.is_empty().then_some(GraphCmd::Zone),
-        Word::Comp => one(rest).map(|z| GraphCmd::Comp(z)),
+        Word::Comp => one(rest).map(GraphCmd::Comp),
         Word::New => three(rest).map(|(r, c, n): (_, _, FieldCount)| GraphCmd::New(r, c, n.0)),
         Word::Map => two(rest).map(|(r, c)| GraphCmd::Map(r, c)),
         Word::Get => three(rest).map(|(r, s, f): (_, _, Field)| GraphCmd::Get(r, s, f.0)),
@@ -59,9 +59,9 @@ fn graph_command(word: Word, rest: &[u8]) -> Option<GraphCmd>
         Word::Wrap => three(rest).map(|(r, s, c)| GraphCmd::Wrap(r, s, c)),
         Word::Unwrap => two(rest).map(|(r, s)| GraphCmd::Unwrap(r, s)),
         Word::Copy => two(rest).map(|(r, s)| GraphCmd::Copy(r, s)),
-        Word::Drop => one(rest).map(|r| GraphCmd::Drop(r)),
+        Word::Drop => one(rest).map(GraphCmd::Drop),
         Word::Hold => two(rest).map(|(g, r)| GraphCmd::Hold(g, r)),
-        Word::Release => one(rest).map(|g| GraphCmd::Release(g)),
+        Word::Release => one(rest).map(GraphCmd::Release),
         Word::Expose => two(rest).map(|(r, g)| GraphCmd::Expose(r, g)),
         Word::Put => three(rest).map(|(m, k, v)| GraphCmd::Put(m, k, v)),
         Word::Del => two(rest).map(|(m, k)| GraphCmd::Del(m, k)),

@@ -1,6 +1,6 @@
 // The texts of names, replies and reports. A line goes out in one piece, but for a list that is
 // longer than a piece.
-ghost use Rattle.std.specs.Prelude.{◌≡◌, ◌≤◌, ◌<◌, ◌++◌, length, OnOk, OnErr, codes};
+ghost use Rattle.std.specs.Prelude.{◌≡◌, ◌≤◌, ◌<◌, ◌+◌, ◌++◌, length, OnOk, OnErr, codes};
 ghost use Rattle.std.specs.Fmt.{decimal};
 ghost use Rattle.std.specs.Io.KnownBytes.{Appends};
 ghost use Rattle.gz_io.specs.Causes.{HasCause, AppendsFront};
@@ -12,14 +12,21 @@ use crate::tail::Tail;
 use gz_io::{Sink, WriteFault, write_all};
 use gz_names::{Name, Refusal, Reply, Report, ZoneSet};
 
-// Writes what is held where it leaves little room.
-fn make_room<K: Sink>(piece: &mut Piece, sink: &mut K) -> Result<(), WriteFault>
+// What a name behind a space takes, and a line feed.
+const NAME_ROOM: usize = 48;
+
+// What a bar and the zones of a set take, and a line feed.
+const GROUP_ROOM: usize = 256;
+
+// Writes what is held where it leaves less room than this.
+fn make_room<K: Sink>(piece: &mut Piece, sink: &mut K, room: usize) -> Result<(), WriteFault>
+    requires { room ≤ 512 }
     ensures ok { OnOk result (Owes (K.written sink.old) (K.written sink.new) piece.new piece.old) }
-    ensures room { OnOk result (length piece.new ≤ 256) }
+    ensures room { OnOk result (length piece.new + room ≤ 512) }
     ensures err { OnErr result (AppendsFront (K.written sink.old) (K.written sink.new) piece.old) }
     ensures cause { HasCause (K.faults sink.old) (K.faults sink.new) result }
 {
-    if piece.len() > 256 {
+    if piece.len() > 512 - room {
         write_all(sink, piece.text())?;
         piece.clear();
     }
@@ -45,7 +52,7 @@ fn end_with_some<K: Sink>(piece: &mut Piece, sink: &mut K, names: &[Name]) -> Re
     ensures cause { HasCause (K.faults sink.old) (K.faults sink.new) result }
 {
     for name in names {
-        match make_room(piece, sink) {
+        match make_room(piece, sink, NAME_ROOM) {
             Ok(()) => piece.push_name(*name),
             Err(fault) => return Err(fault),
         }
@@ -83,7 +90,7 @@ fn end_with_groups<K: Sink>(
     ensures cause { HasCause (K.faults sink.old) (K.faults sink.new) result }
 {
     for (i, zones) in groups.iter().enumerate() {
-        match make_room(piece, sink) {
+        match make_room(piece, sink, GROUP_ROOM) {
             Ok(()) => {
                 piece.push_bar(i);
                 piece.push_zones(*zones);
