@@ -38,7 +38,8 @@ fn split_word(text: &[u8]) -> (&[u8], &[u8])
 // The word that a line begins with, and the rest.
 fn first_word(line: &[u8]) -> Option<(Word, &[u8])>
     ensures some { IfSome result (λ p. line.now ≡ word_text p.0 ++ p.1.now) }
-    ensures exact { (w : Word) (rest : List ℕ) → IsBreak rest → line.now ≡ word_text w ++ rest → MatchOption result ⊥ (λ p. (p.0 ≡ w) × (p.1.now ≡ rest)) }
+    ensures exact { (w : Word) (rest : List ℕ) → IsBreak rest → line.now ≡ word_text w ++ rest
+        → MatchOption result ⊥ (λ p. (p.0 ≡ w) × (p.1.now ≡ rest)) }
 {
     let (first, rest) = split_word(line);
     Some((word_of(first)?, rest))
@@ -72,8 +73,11 @@ fn graph_command(word: Word, rest: &[u8]) -> Option<GraphCmd>
 
 // A zone that is not below the lowest, and what follows it.
 fn next_zone(text: &[u8], lowest: u64) -> Option<(u64, &[u8])>
-    ensures some { IfSome result (λ p. (lowest ≤ p.0) × (p.0 < 64) × (text.now ≡ number_word p.0 ++ p.1.now)) }
-    ensures exact { (z : ℕ) (rest : List ℕ) → lowest ≤ z → z < 64 → IsBreak rest → text.now ≡ number_word z ++ rest → MatchOption result ⊥ (λ p. (p.0 ≡ z) × (p.1.now ≡ rest)) }
+    ensures some { IfSome result
+        (λ p. (lowest ≤ p.0) × (p.0 < 64) × (text.now ≡ number_word p.0 ++ p.1.now)) }
+    ensures exact { (z : ℕ) (rest : List ℕ) → lowest ≤ z → z < 64 → IsBreak rest
+        → text.now ≡ number_word z ++ rest
+        → MatchOption result ⊥ (λ p. (p.0 ≡ z) × (p.1.now ≡ rest)) }
 {
     let (zone, rest) = spaced_number(text, 64)?;
     if zone < lowest {
