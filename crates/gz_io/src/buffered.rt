@@ -31,7 +31,8 @@ impl<K: Sink + Drop> Model for Buffered<K> {
 
     ghost view = { λ b. record { inner = b.inner; held = take (b.len - b.sent) (drop b.sent b.buf) } };
 
-    ghost invariant = { λ b. (b.sent ≤ b.len) × (b.len ≤ 8192) × (b.len ≤ b.sent → b.len ≡ 0) × (length b.buf ≡ 8192) };
+    ghost invariant = { λ b. (b.sent ≤ b.len) × (b.len ≤ 8192) × (b.len ≤ b.sent → b.len ≡ 0)
+        × (length b.buf ≡ 8192) };
 }
 
 impl<K: Sink + Drop> Buffered<K> {
@@ -71,7 +72,8 @@ impl<K: Sink + Drop> Buffered<K> {
 
     // Hands on all that is held.
     fn pass_on(&mut self) -> Result<(), Failed>
-        ensures bytes { Keeps (append_known (K.written self.old.inner) self.old.held) (append_known (K.written self.new.inner) self.new.held) }
+        ensures bytes { Keeps (append_known (K.written self.old.inner) self.old.held)
+            (append_known (K.written self.new.inner) self.new.held) }
         ensures ok { OnOk result (self.new.held ≡ []) }
         ensures cause { HasCause (K.faults self.old.inner) (K.faults self.new.inner) result }
     {
@@ -92,7 +94,8 @@ fn send<K: Sink>(inner: &mut K, buf: &[u8; 8192], from: usize, end: usize) -> us
     requires fits { end ≤ 8192 }
     ensures from { from ≤ result }
     ensures most { result ≤ end }
-    ensures bytes { Appends (K.written inner.old) (K.written inner.new) (take (result - from) (drop from buf.now)) }
+    ensures bytes { Appends (K.written inner.old) (K.written inner.new)
+        (take (result - from) (drop from buf.now)) }
     ensures later { K.faults inner.old ≤ K.faults inner.new }
     ensures same { result ≡ end → K.faults inner.new ≡ K.faults inner.old }
     ensures cause { result < end → Rose (K.faults inner.old) (K.faults inner.new) }

@@ -108,7 +108,8 @@ impl Source for MemSource<'_> {
         ensures bytes { ReadConsumes (Some self.old.rest) (Some self.new.rest) result buf.new }
         ensures cause { HasCause self.old.script.faults self.new.script.faults result }
         ensures fails { IsErr result ↔ Contains self.old.script.failing self.old.script.calls }
-        ensures piece { IfOk result (λ n. n ≡ min (min (length buf.old) self.old.greatest) (length self.old.rest)) }
+        ensures piece { IfOk result
+            (λ n. n ≡ min (min (length buf.old) self.old.greatest) (length self.old.rest)) }
         ensures greatest { self.new.greatest ≡ self.old.greatest }
         ensures script { self.new.script ≡ after_call self.old.script result }
     {
@@ -162,7 +163,8 @@ impl Source for SureSource<'_> {
         ensures bound { ReadsAtMost result buf.new }
         ensures bytes { ReadConsumes (Some self.old.rest) (Some self.new.rest) result buf.new }
         ensures cause { HasCause 0 0 result }
-        ensures piece { result ≡ Ok (min (min (length buf.old) self.old.greatest) (length self.old.rest)) }
+        ensures piece { result ≡ Ok
+            (min (min (length buf.old) self.old.greatest) (length self.old.rest)) }
         ensures greatest { self.new.greatest ≡ self.old.greatest }
     {
         let count = buf.len().min(self.greatest).min(self.rest.len());
@@ -303,7 +305,8 @@ impl Sink for SureSink {
         ensures cause { HasCause 0 0 result }
         ensures piece { result ≡ Ok (min (length piece.now) self.old.greatest) }
         ensures greatest { self.new.greatest ≡ self.old.greatest }
-        ensures count { self.new.count ≡ min (self.old.count + min (length piece.now) self.old.greatest) (2 ^ 64 - 1) }
+        ensures count { self.new.count ≡ min
+            (self.old.count + min (length piece.now) self.old.greatest) (2 ^ 64 - 1) }
     {
         let count = piece.len().min(self.greatest);
         self.count = self.count.saturating_add(count as u64);

@@ -44,7 +44,10 @@ impl Model for LineReader {
 
     ghost Value = { Kept };
 
-    ghost view = { λ r. record { held = take (r.end - r.rest) (drop r.rest r.buf); line = take r.len (drop r.from r.buf) } };
+    ghost view = { λ r. record {
+      held = take (r.end - r.rest) (drop r.rest r.buf);
+      line = take r.len (drop r.from r.buf);
+    } };
 
     ghost invariant = { λ r. (r.rest ≤ r.end) × (r.end ≤ 4096) × (r.from + r.len ≤ 4096) };
 }
@@ -107,7 +110,8 @@ impl LineReader {
         requires plain { IsPlain self.old.held }
         ensures gives { Gives self.old.held self.new.held result self.new.line }
         ensures held { self.new.held ≡ [] }
-        ensures known { (result ≢ Next.TooLong) × (result ≢ Next.NotAscii) × (result ≢ Next.ReadFault) }
+        ensures known { (result ≢ Next.TooLong) × (result ≢ Next.NotAscii)
+            × (result ≢ Next.ReadFault) }
     {
         if self.rest == self.end {
             return Next::End;
@@ -121,8 +125,12 @@ impl LineReader {
     // Moves what is held to the front, and takes more behind it.
     fn fill<S: Source>(&mut self, source: &mut S) -> Result<usize, Failed>
         requires { length self.old.held < 4096 }
-        ensures ok { IfOk result (λ n. (bs : List ℕ) × (length bs ≡ n) × (self.new.held ≡ self.old.held ++ bs) × Consumes (S.left source.old) (S.left source.new) bs × (n ≡ 0 → IsAtEnd (S.left source.new))) }
-        ensures err { OnErr result ((self.new.held ≡ self.old.held) × Keeps (S.left source.old) (S.left source.new)) }
+        ensures ok { IfOk result (λ n. (bs : List ℕ) × (length bs ≡ n)
+            × (self.new.held ≡ self.old.held ++ bs)
+            × Consumes (S.left source.old) (S.left source.new) bs
+            × (n ≡ 0 → IsAtEnd (S.left source.new))) }
+        ensures err { OnErr result
+            ((self.new.held ≡ self.old.held) × Keeps (S.left source.old) (S.left source.new)) }
         ensures cause { HasCause (S.faults source.old) (S.faults source.new) result }
     {
         let (rest, end) = (self.rest, self.end);
@@ -138,11 +146,13 @@ impl LineReader {
 
     // Takes bytes until those held show what comes, or there are no more.
     fn fetch<S: Source>(&mut self, source: &mut S) -> Result<Found, Failed>
-        ensures known { Keeps (prepend_known self.old.held (S.left source.old)) (prepend_known self.new.held (S.left source.new)) }
+        ensures known { Keeps (prepend_known self.old.held (S.left source.old))
+            (prepend_known self.new.held (S.left source.new)) }
         ensures found { IfOk result (Finds self.new.held) }
         ensures end { result ≡ Ok Found.More → IsAtEnd (S.left source.new) }
         ensures err { OnErr result (Finds self.new.held Found.More) }
-        ensures shown { (Finds self.old.held Found.More → ⊥) → IsOk result × (source.new ≡ source.old) × (self.new ≡ self.old) }
+        ensures shown { (Finds self.old.held Found.More → ⊥) → IsOk result
+            × (source.new ≡ source.old) × (self.new ≡ self.old) }
         ensures cause { HasCause (S.faults source.old) (S.faults source.new) result }
     {
         loop {
@@ -180,14 +190,17 @@ impl LineReader {
     /// `NotAscii` every later call answers the same; after `ReadFault` and `End` it may be called
     /// again.
     pub fn next<S: Source>(&mut self, source: &mut S) -> Next
-        ensures bytes { GivesKnown (prepend_known self.old.held (S.left source.old)) (prepend_known self.new.held (S.left source.new)) result self.new.line }
+        ensures bytes { GivesKnown (prepend_known self.old.held (S.left source.old))
+            (prepend_known self.new.held (S.left source.new)) result self.new.line }
         ensures exact { IsOnlyAnswer (prepend_known self.old.held (S.left source.old)) result }
         ensures takes_late { Contains self.old.held 10 → source.new ≡ source.old }
 
         ensures too_long { result ≡ Next.TooLong → IsTooLong self.new.held }
         ensures not_ascii { result ≡ Next.NotAscii → IsNotAscii self.new.held }
-        ensures stays_too_long { IsTooLong self.old.held → (result ≡ Next.TooLong) × (source.new ≡ source.old) × (self.new ≡ self.old) }
-        ensures stays_not_ascii { IsNotAscii self.old.held → (result ≡ Next.NotAscii) × (source.new ≡ source.old) × (self.new ≡ self.old) }
+        ensures stays_too_long { IsTooLong self.old.held → (result ≡ Next.TooLong)
+            × (source.new ≡ source.old) × (self.new ≡ self.old) }
+        ensures stays_not_ascii { IsNotAscii self.old.held → (result ≡ Next.NotAscii)
+            × (source.new ≡ source.old) × (self.new ≡ self.old) }
 
         // no line feed is held at a fault, so every whole line of the bytes taken was given
         ensures none_held { result ≡ Next.ReadFault → IsPlain self.new.held }

@@ -16,7 +16,9 @@ pub trait Argument: Copy {
     /// The value whose word comes first, and what follows it.
     fn read(text: &[u8]) -> Option<(Self, &[u8])>
         ensures some { IfSome result (λ p. fits p.0 × (text.now ≡ word p.0 ++ p.1.now)) }
-        ensures exact { (x : Self) (rest : List ℕ) → fits x → IsBreak rest → text.now ≡ word x ++ rest → MatchOption result ⊥ (λ p. (p.0 ≡ x) × (p.1.now ≡ rest)) };
+        ensures exact { (x : Self) (rest : List ℕ) → fits x → IsBreak rest
+            → text.now ≡ word x ++ rest
+            → MatchOption result ⊥ (λ p. (p.0 ≡ x) × (p.1.now ≡ rest)) };
 
     // each word stands behind a space
     ghost spaced: { (x : Self) → (tail : List ℕ) × (word x ≡ 32 ∷ tail) };
@@ -157,8 +159,10 @@ pub fn one<A: Argument>(text: &[u8]) -> Option<A>
 
 /// The two values that a text is the words of.
 pub fn two<A: Argument, B: Argument>(text: &[u8]) -> Option<(A, B)>
-    ensures some { IfSome result (λ p. A.fits p.0 × B.fits p.1 × (text.now ≡ A.word p.0 ++ B.word p.1)) }
-    ensures exact { (x : A) (y : B) → A.fits x → B.fits y → text.now ≡ A.word x ++ B.word y → result ≡ Some (x, y) }
+    ensures some { IfSome result
+        (λ p. A.fits p.0 × B.fits p.1 × (text.now ≡ A.word p.0 ++ B.word p.1)) }
+    ensures exact { (x : A) (y : B) → A.fits x → B.fits y → text.now ≡ A.word x ++ B.word y
+        → result ≡ Some (x, y) }
 {
     let (x, rest) = A::read(text)?;
     Some((x, one(rest)?))
@@ -166,8 +170,10 @@ pub fn two<A: Argument, B: Argument>(text: &[u8]) -> Option<(A, B)>
 
 /// The three values that a text is the words of.
 pub fn three<A: Argument, B: Argument, C: Argument>(text: &[u8]) -> Option<(A, B, C)>
-    ensures some { IfSome result (λ p. A.fits p.0 × B.fits p.1 × C.fits p.2 × (text.now ≡ A.word p.0 ++ B.word p.1 ++ C.word p.2)) }
-    ensures exact { (x : A) (y : B) (z : C) → A.fits x → B.fits y → C.fits z → text.now ≡ A.word x ++ B.word y ++ C.word z → result ≡ Some (x, y, z) }
+    ensures some { IfSome result (λ p. A.fits p.0 × B.fits p.1 × C.fits p.2
+        × (text.now ≡ A.word p.0 ++ B.word p.1 ++ C.word p.2)) }
+    ensures exact { (x : A) (y : B) (z : C) → A.fits x → B.fits y → C.fits z
+        → text.now ≡ A.word x ++ B.word y ++ C.word z → result ≡ Some (x, y, z) }
 {
     let (x, rest) = A::read(text)?;
     let (y, z) = two(rest)?;

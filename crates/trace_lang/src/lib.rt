@@ -15,9 +15,9 @@
 // answers is in the table, and whatever the table has it answers. A parser that is only sound would
 // pass as well with a body that refuses every line.
 //
-// Each word begins with its space and ends at the next space or at the end of the line. A text is
-// cut there in one way only, and all exactness rests on that: `[20 0]` is `2` and `0 0` for a
-// parser that takes digits as it likes, and for this one it is `20` and `0`.
+// Each word begins with its space and ends at the next space or at the end of the line. So a text
+// is cut in one way only, and all exactness rests on that: in ` 12 3` a parser that stopped where
+// it liked could find the zone 1 and go on with `2 3`.
 //
 // A line of the grammar has at most 189 bytes (`collect` with all 64 zones), all below 128. So a
 // line that the reader refuses, since it is too long or is no ASCII, is outside the grammar.

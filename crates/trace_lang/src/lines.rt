@@ -38,7 +38,8 @@ fn split_word(text: &[u8]) -> (&[u8], &[u8])
 // The word that a line begins with, and the rest.
 fn first_word(line: &[u8]) -> Option<(Word, &[u8])>
     ensures some { IfSome result (λ p. line.now ≡ word_text p.0 ++ p.1.now) }
-    ensures exact { (w : Word) (rest : List ℕ) → IsBreak rest → line.now ≡ word_text w ++ rest → MatchOption result ⊥ (λ p. (p.0 ≡ w) × (p.1.now ≡ rest)) }
+    ensures exact { (w : Word) (rest : List ℕ) → IsBreak rest → line.now ≡ word_text w ++ rest
+        → MatchOption result ⊥ (λ p. (p.0 ≡ w) × (p.1.now ≡ rest)) }
 {
     let (first, rest) = split_word(line);
     Some((word_of(first)?, rest))
@@ -51,7 +52,7 @@ fn graph_command(word: Word, rest: &[u8]) -> Option<GraphCmd>
 {
     match word {
         Word::Zone => rest.is_empty().then_some(GraphCmd::Zone),
-        Word::Comp => one(rest).map(|z| GraphCmd::Comp(z)),
+        Word::Comp => one(rest).map(GraphCmd::Comp),
         Word::New => three(rest).map(|(r, c, n): (_, _, FieldCount)| GraphCmd::New(r, c, n.0)),
         Word::Map => two(rest).map(|(r, c)| GraphCmd::Map(r, c)),
         Word::Get => three(rest).map(|(r, s, f): (_, _, Field)| GraphCmd::Get(r, s, f.0)),
@@ -59,9 +60,9 @@ fn graph_command(word: Word, rest: &[u8]) -> Option<GraphCmd>
         Word::Wrap => three(rest).map(|(r, s, c)| GraphCmd::Wrap(r, s, c)),
         Word::Unwrap => two(rest).map(|(r, s)| GraphCmd::Unwrap(r, s)),
         Word::Copy => two(rest).map(|(r, s)| GraphCmd::Copy(r, s)),
-        Word::Drop => one(rest).map(|r| GraphCmd::Drop(r)),
+        Word::Drop => one(rest).map(GraphCmd::Drop),
         Word::Hold => two(rest).map(|(g, r)| GraphCmd::Hold(g, r)),
-        Word::Release => one(rest).map(|g| GraphCmd::Release(g)),
+        Word::Release => one(rest).map(GraphCmd::Release),
         Word::Expose => two(rest).map(|(r, g)| GraphCmd::Expose(r, g)),
         Word::Put => three(rest).map(|(m, k, v)| GraphCmd::Put(m, k, v)),
         Word::Del => two(rest).map(|(m, k)| GraphCmd::Del(m, k)),
@@ -72,8 +73,11 @@ fn graph_command(word: Word, rest: &[u8]) -> Option<GraphCmd>
 
 // A zone that is not below the lowest, and what follows it.
 fn next_zone(text: &[u8], lowest: u64) -> Option<(u64, &[u8])>
-    ensures some { IfSome result (λ p. (lowest ≤ p.0) × (p.0 < 64) × (text.now ≡ number_word p.0 ++ p.1.now)) }
-    ensures exact { (z : ℕ) (rest : List ℕ) → lowest ≤ z → z < 64 → IsBreak rest → text.now ≡ number_word z ++ rest → MatchOption result ⊥ (λ p. (p.0 ≡ z) × (p.1.now ≡ rest)) }
+    ensures some { IfSome result
+        (λ p. (lowest ≤ p.0) × (p.0 < 64) × (text.now ≡ number_word p.0 ++ p.1.now)) }
+    ensures exact { (z : ℕ) (rest : List ℕ) → lowest ≤ z → z < 64 → IsBreak rest
+        → text.now ≡ number_word z ++ rest
+        → MatchOption result ⊥ (λ p. (p.0 ≡ z) × (p.1.now ≡ rest)) }
 {
     let (zone, rest) = spaced_number(text, 64)?;
     if zone < lowest {

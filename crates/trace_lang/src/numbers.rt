@@ -9,7 +9,8 @@ ghost use Rattle.trace_lang.specs.Numbers.{front_digits, after_digits, read_on};
 fn digits(text: &[u8], limit: u64) -> Option<(u64, &[u8])>
     requires some { 0 < limit }
     requires most { limit ≤ 2 ^ 32 }
-    ensures some { IfSome result (λ p. (p.0 < limit) × (p.0 ≡ read_on 0 (front_digits text.now)) × (p.1.now ≡ after_digits text.now)) }
+    ensures some { IfSome result (λ p. (p.0 < limit) × (p.0 ≡ read_on 0 (front_digits text.now))
+        × (p.1.now ≡ after_digits text.now)) }
     ensures none { IfNone result (limit ≤ read_on 0 (front_digits text.now)) }
 {
     let mut n = 0u64;
@@ -33,7 +34,8 @@ fn number(text: &[u8], limit: u64) -> Option<(u64, &[u8])>
     requires some { 0 < limit }
     requires most { limit ≤ 2 ^ 32 }
     ensures some { IfSome result (λ p. (p.0 < limit) × (text.now ≡ decimal p.0 ++ p.1.now)) }
-    ensures exact { (n : ℕ) (rest : List ℕ) → n < limit → IsBreak rest → text.now ≡ decimal n ++ rest → MatchOption result ⊥ (λ p. (p.0 ≡ n) × (p.1.now ≡ rest)) }
+    ensures exact { (n : ℕ) (rest : List ℕ) → n < limit → IsBreak rest
+        → text.now ≡ decimal n ++ rest → MatchOption result ⊥ (λ p. (p.0 ≡ n) × (p.1.now ≡ rest)) }
 {
     if text.is_empty() || !text[0].is_ascii_digit() {
         return None;
@@ -49,7 +51,9 @@ pub fn spaced_number(text: &[u8], limit: u64) -> Option<(u64, &[u8])>
     requires some { 0 < limit }
     requires most { limit ≤ 2 ^ 32 }
     ensures some { IfSome result (λ p. (p.0 < limit) × (text.now ≡ number_word p.0 ++ p.1.now)) }
-    ensures exact { (n : ℕ) (rest : List ℕ) → n < limit → IsBreak rest → text.now ≡ number_word n ++ rest → MatchOption result ⊥ (λ p. (p.0 ≡ n) × (p.1.now ≡ rest)) }
+    ensures exact { (n : ℕ) (rest : List ℕ) → n < limit → IsBreak rest
+        → text.now ≡ number_word n ++ rest
+        → MatchOption result ⊥ (λ p. (p.0 ≡ n) × (p.1.now ≡ rest)) }
 {
     match text {
         [b' ', rest @ ..] => number(rest, limit),
@@ -61,8 +65,11 @@ pub fn spaced_number(text: &[u8], limit: u64) -> Option<(u64, &[u8])>
 pub fn lettered_number(text: &[u8], letter: u8, limit: u64) -> Option<(u64, &[u8])>
     requires some { 0 < limit }
     requires most { limit ≤ 2 ^ 32 }
-    ensures some { IfSome result (λ p. (p.0 < limit) × (text.now ≡ 32 ∷ letter ∷ decimal p.0 ++ p.1.now)) }
-    ensures exact { (n : ℕ) (rest : List ℕ) → n < limit → IsBreak rest → text.now ≡ 32 ∷ letter ∷ decimal n ++ rest → MatchOption result ⊥ (λ p. (p.0 ≡ n) × (p.1.now ≡ rest)) }
+    ensures some { IfSome result
+        (λ p. (p.0 < limit) × (text.now ≡ 32 ∷ letter ∷ decimal p.0 ++ p.1.now)) }
+    ensures exact { (n : ℕ) (rest : List ℕ) → n < limit → IsBreak rest
+        → text.now ≡ 32 ∷ letter ∷ decimal n ++ rest
+        → MatchOption result ⊥ (λ p. (p.0 ≡ n) × (p.1.now ≡ rest)) }
 {
     match text {
         [b' ', first, rest @ ..] if *first == letter => number(rest, limit),

@@ -77,7 +77,7 @@ impl Piece {
 
     /// Adds a name behind a space.
     pub fn push_name(&mut self, name: Name)
-        requires { length self.old ≤ 450 }
+        requires { length self.old ≤ 464 }
         ensures text { self.new ≡ self.old ++ 32 ∷ name_text name }
         ensures size { length self.new ≤ length self.old + 42 }
     {

@@ -237,6 +237,15 @@ fn long_lists_go_out_in_pieces(rt: HostRuntime) -> Result<(), Fail> {
     // behind a space, and a line feed.
     assert_eq!(rt; sink.bytes().len(), 4 + 10 * 2 + 90 * 3 + 900 * 4 + 1);
     assert!(rt; sink.bytes().ends_with(b" 998 999\n"));
+    // Sixty-four names of five digits are one piece.
+    let mut few = NameList::new(rt.alloc());
+    for n in 0..64u64 {
+        few.push(Name::Cell(10000 + n))?;
+    }
+    let mut one = MemSink::new(Vec::new(rt.alloc()), 4096, &[]);
+    assert!(rt; write_reply(&mut one, &Reply::Gray(few)).is_ok());
+    assert_eq!(rt; one.bytes().len(), 4 + 64 * 6 + 1);
+    assert_eq!(rt; one.calls(), 1);
     let mut alone = MemSink::new(Vec::new(rt.alloc()), 4096, &[]);
     assert!(rt; write_name(&mut alone, Name::Wrap(CompNo(10), 256)).is_ok());
     assert_eq!(rt; alone.bytes(), b"10:256".as_slice());

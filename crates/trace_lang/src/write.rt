@@ -1,6 +1,6 @@
 // The texts of names, replies and reports. A line goes out in one piece, but for a list that is
 // longer than a piece.
-ghost use Rattle.std.specs.Prelude.{◌≡◌, ◌≤◌, ◌<◌, ◌++◌, length, OnOk, OnErr, codes};
+ghost use Rattle.std.specs.Prelude.{◌≡◌, ◌≤◌, ◌<◌, ◌+◌, ◌++◌, length, OnOk, OnErr, codes};
 ghost use Rattle.std.specs.Fmt.{decimal};
 ghost use Rattle.std.specs.Io.KnownBytes.{Appends};
 ghost use Rattle.gz_io.specs.Causes.{HasCause, AppendsFront};
@@ -12,14 +12,21 @@ use crate::tail::Tail;
 use gz_io::{Sink, WriteFault, write_all};
 use gz_names::{Name, Refusal, Reply, Report, ZoneSet};
 
-// Writes what is held where it leaves little room.
-fn make_room<K: Sink>(piece: &mut Piece, sink: &mut K) -> Result<(), WriteFault>
+// What a name behind a space takes, and a line feed.
+const NAME_ROOM: usize = 48;
+
+// What a bar and the zones of a set take, and a line feed.
+const GROUP_ROOM: usize = 256;
+
+// Writes what is held where it leaves less room than this.
+fn make_room<K: Sink>(piece: &mut Piece, sink: &mut K, room: usize) -> Result<(), WriteFault>
+    requires { room ≤ 512 }
     ensures ok { OnOk result (Owes (K.written sink.old) (K.written sink.new) piece.new piece.old) }
-    ensures room { OnOk result (length piece.new ≤ 256) }
+    ensures room { OnOk result (length piece.new + room ≤ 512) }
     ensures err { OnErr result (AppendsFront (K.written sink.old) (K.written sink.new) piece.old) }
     ensures cause { HasCause (K.faults sink.old) (K.faults sink.new) result }
 {
-    if piece.len() > 256 {
+    if piece.len() > 512 - room {
         write_all(sink, piece.text())?;
         piece.clear();
     }
@@ -29,8 +36,10 @@ fn make_room<K: Sink>(piece: &mut Piece, sink: &mut K) -> Result<(), WriteFault>
 // Ends the line that is held.
 fn end_line<K: Sink>(piece: &mut Piece, sink: &mut K) -> Result<(), WriteFault>
     requires { length piece.old < 512 }
-    ensures ok { OnOk result (Appends (K.written sink.old) (K.written sink.new) (line_of piece.old)) }
-    ensures err { OnErr result (AppendsFront (K.written sink.old) (K.written sink.new) (line_of piece.old)) }
+    ensures ok { OnOk result
+        (Appends (K.written sink.old) (K.written sink.new) (line_of piece.old)) }
+    ensures err { OnErr result
+        (AppendsFront (K.written sink.old) (K.written sink.new) (line_of piece.old)) }
     ensures cause { HasCause (K.faults sink.old) (K.faults sink.new) result }
 {
     piece.push(b"\n");
@@ -40,12 +49,14 @@ fn end_line<K: Sink>(piece: &mut Piece, sink: &mut K) -> Result<(), WriteFault>
 // Ends the line that is held with names, each behind a space.
 fn end_with_some<K: Sink>(piece: &mut Piece, sink: &mut K, names: &[Name]) -> Result<(), WriteFault>
     requires { length piece.old ≤ 256 }
-    ensures ok { OnOk result (Appends (K.written sink.old) (K.written sink.new) (line_of (piece.old ++ name_words names.now))) }
-    ensures err { OnErr result (AppendsFront (K.written sink.old) (K.written sink.new) (line_of (piece.old ++ name_words names.now))) }
+    ensures ok { OnOk result (Appends (K.written sink.old) (K.written sink.new)
+        (line_of (piece.old ++ name_words names.now))) }
+    ensures err { OnErr result (AppendsFront (K.written sink.old) (K.written sink.new)
+        (line_of (piece.old ++ name_words names.now))) }
     ensures cause { HasCause (K.faults sink.old) (K.faults sink.new) result }
 {
     for name in names {
-        match make_room(piece, sink) {
+        match make_room(piece, sink, NAME_ROOM) {
             Ok(()) => piece.push_name(*name),
             Err(fault) => return Err(fault),
         }
@@ -60,8 +71,10 @@ fn end_with_names<K: Sink>(
     names: &[Name],
 ) -> Result<(), WriteFault>
     requires { length piece.old ≤ 256 }
-    ensures ok { OnOk result (Appends (K.written sink.old) (K.written sink.new) (line_of (piece.old ++ names_text names.now))) }
-    ensures err { OnErr result (AppendsFront (K.written sink.old) (K.written sink.new) (line_of (piece.old ++ names_text names.now))) }
+    ensures ok { OnOk result (Appends (K.written sink.old) (K.written sink.new)
+        (line_of (piece.old ++ names_text names.now))) }
+    ensures err { OnErr result (AppendsFront (K.written sink.old) (K.written sink.new)
+        (line_of (piece.old ++ names_text names.now))) }
     ensures cause { HasCause (K.faults sink.old) (K.faults sink.new) result }
 {
     if names.is_empty() {
@@ -78,12 +91,14 @@ fn end_with_groups<K: Sink>(
     groups: &[ZoneSet],
 ) -> Result<(), WriteFault>
     requires { length piece.old ≤ 256 }
-    ensures ok { OnOk result (Appends (K.written sink.old) (K.written sink.new) (line_of (piece.old ++ groups_text 0 groups.now))) }
-    ensures err { OnErr result (AppendsFront (K.written sink.old) (K.written sink.new) (line_of (piece.old ++ groups_text 0 groups.now))) }
+    ensures ok { OnOk result (Appends (K.written sink.old) (K.written sink.new)
+        (line_of (piece.old ++ groups_text 0 groups.now))) }
+    ensures err { OnErr result (AppendsFront (K.written sink.old) (K.written sink.new)
+        (line_of (piece.old ++ groups_text 0 groups.now))) }
     ensures cause { HasCause (K.faults sink.old) (K.faults sink.new) result }
 {
     for (i, zones) in groups.iter().enumerate() {
-        match make_room(piece, sink) {
+        match make_room(piece, sink, GROUP_ROOM) {
             Ok(()) => {
                 piece.push_bar(i);
                 piece.push_zones(*zones);
@@ -97,8 +112,10 @@ fn end_with_groups<K: Sink>(
 // Writes a line of a word and a number.
 fn write_numbered<K: Sink>(sink: &mut K, word: &[u8], n: u64) -> Result<(), WriteFault>
     requires { length word.now ≤ 6 }
-    ensures ok { OnOk result (Appends (K.written sink.old) (K.written sink.new) (line_of (word.now ++ decimal n))) }
-    ensures err { OnErr result (AppendsFront (K.written sink.old) (K.written sink.new) (line_of (word.now ++ decimal n))) }
+    ensures ok { OnOk result
+        (Appends (K.written sink.old) (K.written sink.new) (line_of (word.now ++ decimal n))) }
+    ensures err { OnErr result
+        (AppendsFront (K.written sink.old) (K.written sink.new) (line_of (word.now ++ decimal n))) }
     ensures cause { HasCause (K.faults sink.old) (K.faults sink.new) result }
 {
     let mut tail = Tail::new();
@@ -110,8 +127,10 @@ fn write_numbered<K: Sink>(sink: &mut K, word: &[u8], n: u64) -> Result<(), Writ
 
 // Writes a line of a name.
 fn write_named<K: Sink>(sink: &mut K, name: Name) -> Result<(), WriteFault>
-    ensures ok { OnOk result (Appends (K.written sink.old) (K.written sink.new) (line_of (name_text name))) }
-    ensures err { OnErr result (AppendsFront (K.written sink.old) (K.written sink.new) (line_of (name_text name))) }
+    ensures ok { OnOk result
+        (Appends (K.written sink.old) (K.written sink.new) (line_of (name_text name))) }
+    ensures err { OnErr result
+        (AppendsFront (K.written sink.old) (K.written sink.new) (line_of (name_text name))) }
     ensures cause { HasCause (K.faults sink.old) (K.faults sink.new) result }
 {
     let mut tail = Tail::new();
@@ -141,8 +160,10 @@ fn refusal_line(refusal: Refusal) -> &'static [u8]
 
 // Writes the line of the gray names.
 fn write_gray<K: Sink>(sink: &mut K, names: &[Name]) -> Result<(), WriteFault>
-    ensures ok { OnOk result (Appends (K.written sink.old) (K.written sink.new) (line_of (codes "gray" ++ names_text names.now))) }
-    ensures err { OnErr result (AppendsFront (K.written sink.old) (K.written sink.new) (line_of (codes "gray" ++ names_text names.now))) }
+    ensures ok { OnOk result (Appends (K.written sink.old) (K.written sink.new)
+        (line_of (codes "gray" ++ names_text names.now))) }
+    ensures err { OnErr result (AppendsFront (K.written sink.old) (K.written sink.new)
+        (line_of (codes "gray" ++ names_text names.now))) }
     ensures cause { HasCause (K.faults sink.old) (K.faults sink.new) result }
 {
     let mut piece = Piece::new();
@@ -153,7 +174,8 @@ fn write_gray<K: Sink>(sink: &mut K, names: &[Name]) -> Result<(), WriteFault>
 /// Writes a name, without a line feed.
 pub fn write_name<K: Sink>(sink: &mut K, name: Name) -> Result<(), WriteFault>
     ensures ok { OnOk result (Appends (K.written sink.old) (K.written sink.new) (name_text name)) }
-    ensures err { OnErr result (AppendsFront (K.written sink.old) (K.written sink.new) (name_text name)) }
+    ensures err { OnErr result
+        (AppendsFront (K.written sink.old) (K.written sink.new) (name_text name)) }
     ensures cause { HasCause (K.faults sink.old) (K.faults sink.new) result }
 {
     let mut tail = Tail::new();
@@ -163,8 +185,10 @@ pub fn write_name<K: Sink>(sink: &mut K, name: Name) -> Result<(), WriteFault>
 
 /// Writes a reply with its line feed, or fails after a front of it.
 pub fn write_reply<K: Sink>(sink: &mut K, reply: &Reply) -> Result<(), WriteFault>
-    ensures ok { OnOk result (Appends (K.written sink.old) (K.written sink.new) (line_of (reply_text reply.now))) }
-    ensures err { OnErr result (AppendsFront (K.written sink.old) (K.written sink.new) (line_of (reply_text reply.now))) }
+    ensures ok { OnOk result
+        (Appends (K.written sink.old) (K.written sink.new) (line_of (reply_text reply.now))) }
+    ensures err { OnErr result
+        (AppendsFront (K.written sink.old) (K.written sink.new) (line_of (reply_text reply.now))) }
     ensures cause { HasCause (K.faults sink.old) (K.faults sink.new) result }
 {
     match reply {
@@ -185,8 +209,10 @@ pub fn write_reply<K: Sink>(sink: &mut K, reply: &Reply) -> Result<(), WriteFaul
 
 /// Writes a report with its line feed, or fails after a front of it.
 pub fn write_report<K: Sink>(sink: &mut K, report: &Report) -> Result<(), WriteFault>
-    ensures ok { OnOk result (Appends (K.written sink.old) (K.written sink.new) (line_of (report_text report.now))) }
-    ensures err { OnErr result (AppendsFront (K.written sink.old) (K.written sink.new) (line_of (report_text report.now))) }
+    ensures ok { OnOk result
+        (Appends (K.written sink.old) (K.written sink.new) (line_of (report_text report.now))) }
+    ensures err { OnErr result (AppendsFront (K.written sink.old) (K.written sink.new)
+        (line_of (report_text report.now))) }
     ensures cause { HasCause (K.faults sink.old) (K.faults sink.new) result }
 {
     let mut piece = Piece::new();
