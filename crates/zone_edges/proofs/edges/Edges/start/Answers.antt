@@ -1,0 +1,10 @@
+use Rattle.gz_names.proofs.Words.{HasZone-none}
+use Rattle.zone_edges.proofs.edges.Edges.start.Goals as goal
+
+pub invariant_of-self : goal.invariant_of-self
+invariant_of-self c = record {
+  search = c.new-self-inside.ensures.search;
+  idle = c.new-self-inside.ensures.idle;
+  stepped_seen = λ z h. absurd (HasZone-none z h);
+  fresh = λ e. c.new-self-inside.ensures.unseen;
+}
