@@ -1,0 +1,4 @@
+pub mod Reading
+pub mod Linking
+pub mod Apart
+pub mod Noting
