@@ -45,7 +45,7 @@ impl Model for Stack {
 impl Stack {
     ghost use Rattle.mark_stack.specs.Stack.{Piles, pile_of, pushed};
 
-    /// Empty piles with no room. It takes no memory today; it may where piles have a fixed room.
+    /// Empty piles with no room. All memory comes with `reserve`.
     pub fn new(alloc: Global) -> Result<Self, NoMemory>
         ensures { IfOk result
             (λ stack. stack ≡ record { black = []; gray = []; wake = []; room = 0 }) }
@@ -58,7 +58,7 @@ impl Stack {
         })
     }
 
-    /// Gives each pile room for so many places more.
+    /// Gives each pile room for so many places more, as an arena with so many cells is made.
     pub fn reserve(&mut self, cells: u64) -> Result<(), NoMemory>
         ensures ok { OnOk result
             (self.new ≡ record self.old { room = self.old.room + cells }) }
@@ -72,7 +72,7 @@ impl Stack {
         Ok(())
     }
 
-    /// Puts a place on a pile, which has spare room.
+    /// Puts a place on a pile, which has spare room. It takes no memory.
     pub fn push(&mut self, pile: Pile, place: Place)
         requires { length (pile_of self.old pile) < self.old.room }
         ensures { self.new ≡ pushed self.old pile place }
@@ -84,7 +84,7 @@ impl Stack {
         }
     }
 
-    /// Takes the last place off a pile.
+    /// Takes the last place off a pile; `None` where the pile is empty.
     pub fn pop(&mut self, pile: Pile) -> Option<Place>
         ensures some { IfSome result (λ place. self.old ≡ pushed self.new pile place) }
         ensures none { IfNone result ((pile_of self.old pile ≡ []) × (self.new ≡ self.old)) }
