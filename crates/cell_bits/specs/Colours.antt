@@ -1,5 +1,5 @@
 -- Colours by the two words of bits.
-use Rattle.std.specs.Prelude.{◌≡◌, ℕ, ◌<◌, ◌==◌, Bool, Option, if◌then◌else◌, bit_and, bit_or}
+use Rattle.std.specs.Prelude.{◌≡◌, ℕ, ◌==◌, Bool, Option, if◌then◌else◌, bit_and, bit_or}
 use Rattle.std.specs.Option.{option_map}
 use Rattle.std.specs.Int.{bit_at, bit_not, w64}
 use Rattle.cell_bits.specs.declared.bits.Bits.{Bits}
@@ -17,7 +17,7 @@ white_mask_of b alloc_word = bit_and alloc_word (bit_not w64 (bit_or b.black b.g
 -- one cell has this colour now, and all others have their old one
 pub record Marks (old : Bits) (slot : ℕ) (colour : Colour) (new : Bits) : Type 0 where
   pub marked : colour_of new slot ≡ colour
-  pub others : (s : ℕ) → s < 64 → (s ≡ slot → ⊥) → colour_of new s ≡ colour_of old s
+  pub others : (s : ℕ) → (s ≡ slot → ⊥) → colour_of new s ≡ colour_of old s
 
 -- the bits of an arena after a wake: those of the mask are black, where the arena is the one that was woken
 abbrev pub woken_bits : Bool → ℕ → Option Bits → Option Bits

@@ -46,7 +46,7 @@ impl Bits {
     pub fn mark_black(&mut self, slot: u8) -> bool
         requires { slot < 64 }
         ensures set { IsTrue result ↔ (colour_of self.old slot ≢ Colour.Black) }
-        ensures black { (s : ℕ) → s < 64 → bit_at self.new.black s ≡ (if s == slot then 1 else bit_at self.old.black s) }
+        ensures black { (s : ℕ) → bit_at self.new.black s ≡ (if s == slot then 1 else bit_at self.old.black s) }
         ensures gob { self.new.gob ≡ self.old.gob }
         ensures marks { Marks self.old slot Colour.Black self.new }
     {
@@ -110,7 +110,7 @@ fn has_bit(word: u64, slot: u8) -> bool
 // A word with the bit of a slot set.
 fn with_bit(word: u64, slot: u8) -> u64
     requires { slot < 64 }
-    ensures { (s : ℕ) → s < 64 → bit_at result s ≡ (if s == slot then 1 else bit_at word s) }
+    ensures { (s : ℕ) → bit_at result s ≡ (if s == slot then 1 else bit_at word s) }
 {
     word | 1 << slot
 }

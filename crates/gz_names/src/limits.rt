@@ -1,10 +1,10 @@
 // The sizes of a heap (our choice, but for the 64 cells of an arena, which are the bits of a word).
 
-/// Zones that can be made. The program serves one zone for now; `ZoneSet` has room for 64.
-pub const ZONE_LIMIT: u8 = 1;
+/// A heap has at most 64 zones, one for each bit of a `ZoneSet`.
+pub const ZONE_LIMIT: u8 = 64;
 
-/// Compartments that can be made. The program serves one for now; `CompNo` has room for 256.
-pub const COMP_LIMIT: u16 = 1;
+/// A heap has at most 256 compartments, one for each `CompNo`.
+pub const COMP_LIMIT: u16 = 256;
 
 /// Registers, the black roots.
 pub const REGISTER_COUNT: u8 = 16;

@@ -118,7 +118,7 @@ impl GrayNo {
 pub struct CompNo(pub u8);
 
 /// Where a cell lies: an arena, and a slot of it, below 64.
-#[derive(Clone, Copy, Debug, PartialEq, Eq, PartialOrd, Ord)]
+#[derive(Clone, Copy, Debug, PartialEq, Eq, PartialOrd, Ord, Hash)]
 pub struct Place {
     arena: u32,
     slot: u8,

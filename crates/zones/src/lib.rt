@@ -28,4 +28,4 @@ mod states;
 mod zones_made;
 
 pub use states::State;
-pub use zones_made::{COMP_LIMIT, CompFault, ZONE_LIMIT, ZoneFault, Zones};
+pub use zones_made::{CompFault, ZoneFault, Zones};

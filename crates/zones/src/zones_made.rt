@@ -1,20 +1,14 @@
 // The zones and compartments that were made.
-ghost use Rattle.std.specs.Prelude.{◌≡◌, ◌≤◌, ◌<◌, ◌↔◌, ◌++◌, ◌∷◌, ◌⊎◌, ◌≢◌, [], ℕ, length, slice_get, slice_set, Some, IfOk, OnErr, IsSomeAnd};
+ghost use Rattle.std.specs.Prelude.{◌≡◌, ◌≤◌, ◌<◌, ◌↔◌, ◌++◌, ◌∷◌, ◌⊎◌, ◌≢◌, [], ℕ, length, slice_get, slice_set, Some, IfOk, OnErr, IsSomeAnd, All};
 ghost use Rattle.gz_names.specs.Zones.{HasZone};
 ghost use Rattle.zones.specs.States.{next_state, IsMarking};
 ghost use Rattle.zones.specs.ZonesMade.{word_of};
 ghost use Rattle.zones.specs.declared.states.State.{State};
 
 use crate::states::State;
-use gz_names::{CompNo, ZoneNo, ZoneSet};
+use gz_names::{COMP_LIMIT, CompNo, ZONE_LIMIT, ZoneNo, ZoneSet};
 use std::alloc::{AllocError, Global};
 use std::marker::Model;
-
-/// Most zones (our choice: a set of zones is one word).
-pub const ZONE_LIMIT: u8 = 64;
-
-/// Most compartments (our choice).
-pub const COMP_LIMIT: u16 = 256;
 
 /// Why a zone was not made.
 #[derive(Clone, Copy, Debug, PartialEq, Eq)]
@@ -93,6 +87,7 @@ impl Zones {
         ensures made { IfOk result
             (λ _. self.new ≡ record self.old { states = self.old.states ++ State.NoGC ∷ [] }) }
         ensures full { (result ≡ Err ZoneFault.Full) ↔ (length self.old.states ≡ ZONE_LIMIT) }
+        ensures most { length self.old.states ≤ ZONE_LIMIT }
         ensures err { OnErr result (self.new ≡ self.old) }
     {
         let Some(zone) = ZoneNo::new(self.zones()) else {
@@ -111,6 +106,7 @@ impl Zones {
         ensures no_zone { (result ≡ Err CompFault.NoZone) ↔ (length self.old.states ≤ zone) }
         ensures full { (result ≡ Err CompFault.Full)
             ↔ ((zone < length self.old.states) × (length self.old.comps ≡ COMP_LIMIT)) }
+        ensures most { length self.old.comps ≤ COMP_LIMIT }
         ensures err { OnErr result (self.new ≡ self.old) }
     {
         if zone.index() >= self.zones() {
@@ -167,6 +163,7 @@ impl Zones {
     pub fn comps(&self) -> u16
         ensures value { result ≡ length self.now.comps }
         ensures most { result ≤ COMP_LIMIT }
+        ensures homes { All (λ zone. zone < length self.now.states) self.now.comps }
     {
         self.comps.len() as u16
     }
