@@ -30,3 +30,4 @@ pub mod Inverted
 pub mod FreedCellMissed
 pub mod Progress
 pub mod Grown
+pub mod OneWayGray

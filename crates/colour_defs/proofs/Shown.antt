@@ -76,7 +76,7 @@ here_back h w (puts m k v ok src) x e = inl e
 here_back h w (dels m k) x e = inl e
 
 -- both graphs wake the same
-wakes_same : (g h : GraphState) → IsPartOf g h → IsComplete h → (c : GraphCmd) → woken_by h c ≡ woken_by g c
+pub wakes_same : (g h : GraphState) → IsPartOf g h → IsComplete h → (c : GraphCmd) → woken_by h c ≡ woken_by g c
 wakes_same g h p ok cmd.Zone = refl
 wakes_same g h p ok (cmd.Comp z) = refl
 wakes_same g h p ok (cmd.New r c n) = ap (λ k. Some (Cell k)) p.made

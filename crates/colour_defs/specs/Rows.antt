@@ -1,9 +1,10 @@
 -- Worked rows: commands of a trace, and their answers.
 use Rattle.std.specs.Prelude.{List, [], ◌∷◌, Some}
+use Rattle.gz_names.specs.declared.names.Name.TheVariants as name
 use Rattle.gz_names.specs.declared.names.Name.TheVariants.{Cell}
 use Rattle.gz_names.specs.declared.numbers.CompNo.{CompNo}
 use Rattle.gz_names.specs.declared.zone_sets.ZoneSet.{ZoneSet}
-use Rattle.gz_names.specs.declared.commands.GraphCmd.TheVariants.{Zone, Comp, New, Map, Set, Get, Drop, Hold, Expose, Put, Find}
+use Rattle.gz_names.specs.declared.commands.GraphCmd.TheVariants.{Zone, Comp, New, Map, Set, Get, Wrap, Drop, Hold, Expose, Put, Find}
 use Rattle.gz_names.specs.declared.commands.Cmd.{Cmd}
 use Rattle.gz_names.specs.declared.commands.Cmd.TheVariants.{Graph, Gc, Slice, Finish, Collect, Colours}
 use Rattle.gz_names.specs.declared.replies.Reply.{Reply}
@@ -60,3 +61,21 @@ abbrev pub answers_made_while_marking : List (List Report × Reply)
 answers_made_while_marking = quiet (reply.Zone 0) ∷ quiet (reply.Comp comp_0) ∷ quiet reply.GcBegun ∷ quiet (reply.Sliced 0) ∷ quiet (reply.Made 0) ∷ quiet reply.Accepted
     ∷ (Groups (only_zone_0 ∷ []) ∷ Ended only_zone_0 [] ∷ Swept 0 [] ∷ Done ∷ [], reply.Sliced 3)
     ∷ (Groups (only_zone_0 ∷ []) ∷ Ended only_zone_0 [] ∷ Swept 0 (Cell 0 ∷ []) ∷ Done ∷ [], reply.Collected) ∷ []
+
+abbrev pub comp_1 : CompNo
+comp_1 = record { 0 = 1 }
+
+-- the set of zone 1, and that of zones 0 and 1
+abbrev pub only_zone_1 : ZoneSet
+only_zone_1 = record { bits = 2 }
+
+abbrev pub zones_0_and_1 : ZoneSet
+zones_0_and_1 = record { bits = 3 }
+
+-- one way, gray: a gray cell of zone 0 holds a wrapper of a cell of zone 1, so zone 0 ends first
+abbrev pub one_way_gray : List Cmd
+one_way_gray = Graph Zone ∷ Graph Zone ∷ Graph (Comp 0) ∷ Graph (Comp 1) ∷ Graph (New 0 comp_0 1) ∷ Graph (New 1 comp_1 0) ∷ Graph (Wrap 2 1 comp_0) ∷ Graph (Set 0 0 (Some 2)) ∷ Graph (Hold 0 0) ∷ Graph (Drop 0) ∷ Graph (Drop 1) ∷ Graph (Drop 2) ∷ Collect zones_0_and_1 ∷ []
+
+abbrev pub answers_one_way_gray : List (List Report × Reply)
+answers_one_way_gray = quiet (reply.Zone 0) ∷ quiet (reply.Zone 1) ∷ quiet (reply.Comp comp_0) ∷ quiet (reply.Comp comp_1) ∷ quiet (reply.Made 0) ∷ quiet (reply.Made 1) ∷ quiet (reply.Named (name.Wrap comp_0 1)) ∷ quiet reply.Accepted ∷ quiet reply.Accepted ∷ quiet reply.Accepted ∷ quiet reply.Accepted ∷ quiet reply.Accepted
+    ∷ (Groups (only_zone_0 ∷ only_zone_1 ∷ []) ∷ Ended only_zone_0 (Cell 0 ∷ name.Wrap comp_0 1 ∷ []) ∷ Swept 0 [] ∷ Ended only_zone_1 (Cell 1 ∷ []) ∷ Swept 1 [] ∷ Done ∷ [], reply.Collected) ∷ []

@@ -7,9 +7,7 @@ ghost use Rattle.colour_defs.specs.Step.{HasFewFields, IsAccepted, entry_refusal
 
 use crate::fields::Fields;
 use crate::graph::{Graph, Object};
-use gz_names::{
-    COMP_LIMIT, CompNo, GraphCmd, GrayNo, Name, NoMemory, Refusal, Reg, Reply, ZONE_LIMIT, ZoneNo,
-};
+use gz_names::{COMP_LIMIT, CompNo, GraphCmd, GrayNo, Name, NoMemory, Refusal, Reg, Reply, ZoneNo};
 use std::alloc::Global;
 
 fn named_or_null(cell: &Option<Name>) -> Reply
@@ -35,14 +33,11 @@ fn make_zone(graph: &mut Graph) -> Reply
     ensures graph { graph.new ≡ (step_of graph.old cmd.Zone).0 }
     ensures reply { result ≡ (step_of graph.old cmd.Zone).1 }
 {
-    let next = graph.zones();
-    match ZoneNo::new(next) {
-        Some(zone) if next < ZONE_LIMIT => {
-            graph.add_zone();
-            Reply::Zone(zone)
-        }
-        _ => Reply::Refused(Refusal::Full),
-    }
+    let Some(zone) = ZoneNo::new(graph.zones()) else {
+        return Reply::Refused(Refusal::Full);
+    };
+    graph.add_zone();
+    Reply::Zone(zone)
 }
 
 fn make_comp(graph: &mut Graph, zone: ZoneNo) -> Result<Reply, NoMemory>

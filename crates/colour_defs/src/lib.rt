@@ -66,4 +66,7 @@ pub use laws::{
     refusal_law, register_law, shown_law, starts_law, valid_law,
 };
 pub use reach::closure;
-pub use rows::{gray_key_law, gray_slot_alone_law, linked_and_dropped_law, made_while_marking_law};
+pub use rows::{
+    gray_key_law, gray_slot_alone_law, linked_and_dropped_law, made_while_marking_law,
+    one_way_gray_law,
+};

@@ -93,6 +93,26 @@ fn value_is_reached_by_map_and_key(rt: HostRuntime) -> Result<(), Fail> {
     Ok(())
 }
 
+// 64 zones and 256 compartments are the most.
+#[test]
+fn heap_is_full(rt: HostRuntime) -> Result<(), Fail> {
+    let mut graph = Graph::new(rt.alloc());
+    for index in 0..64u8 {
+        let made = step(rt.alloc(), &mut graph, &GraphCmd::Zone)?;
+        assert!(rt; matches!(made, Reply::Zone(zone) if zone.index() == index));
+    }
+    let full = step(rt.alloc(), &mut graph, &GraphCmd::Zone)?;
+    assert_eq!(rt; refusal(full), Some(Refusal::Full));
+    let comp_made = GraphCmd::Comp(zone(&rt, 63));
+    for number in 0..=255u8 {
+        let made = step(rt.alloc(), &mut graph, &comp_made)?;
+        assert!(rt; matches!(made, Reply::Comp(comp) if comp.0 == number));
+    }
+    let full = step(rt.alloc(), &mut graph, &comp_made)?;
+    assert_eq!(rt; refusal(full), Some(Refusal::Full));
+    Ok(())
+}
+
 // Refusals, as far as one compartment shows them.
 #[test]
 fn commands_are_refused(rt: HostRuntime) -> Result<(), Fail> {

@@ -1,4 +1,4 @@
--- The heap of one zone, by positions: position 64 a + s is slot s of arena a.
+-- The heap with cells in one zone, by positions: position 64 a + s is slot s of arena a.
 use Rattle.std.specs.Prelude.{ℕ, suc, ◌+◌, ◌<◌, List, [], ◌∷◌, length, Option, Some, None, nat_lt, if◌then◌else◌, slice_get, slice_set, slice_index_or, replicate, IsSome}
 use Rattle.gz_names.specs.declared.limits.TheConstants.{ZONE_LIMIT, COMP_LIMIT}
 use Rattle.gz_names.specs.declared.commands.GraphCmd.{GraphCmd}

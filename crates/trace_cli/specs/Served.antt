@@ -1,4 +1,5 @@
--- The lines that the program serves so far: one zone, one compartment, objects, and whole collections.
+-- The lines that the program serves so far: zones, compartments of zone 0, objects of compartment 0, and whole
+-- collections of zone 0.
 use Rattle.std.specs.Prelude.{ℕ, Bool, true, false, ◌==◌, List, IsTrue}
 use Rattle.gz_names.specs.declared.commands.Cmd.{Cmd}
 use Rattle.gz_names.specs.declared.commands.Cmd.TheVariants as command

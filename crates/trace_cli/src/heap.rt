@@ -1,10 +1,10 @@
-// The heap of the one zone that is served for now: its registers, and one list of cells in which
-// position 64 a + s is slot s of arena a.
+// The heap that is served for now. Cells lie in compartment 0 of zone 0, in one list in which position
+// 64 a + s is slot s of arena a; of zones and compartments it keeps how many were made.
 ghost use Rattle.std.specs.Prelude.{true, ◌≡◌, ◌+◌, ◌<◌, None, IfOk, OnOk, OnErr, option_copied, slice_get, slice_set, length, replicate};
 
 use crate::cells::{is_taken, put_cell, sweep_arena, write_cell};
 use gz_names::{
-    COMP_LIMIT, CompNo, GraphCmd, Name, Names64, NoMemory, Refusal, Reg, Reply, ZONE_LIMIT, ZoneNo,
+    COMP_LIMIT, CompNo, GraphCmd, Name, Names64, NoMemory, Refusal, Reg, Reply, ZoneNo,
 };
 use std::alloc::Global;
 use std::marker::Model;
@@ -157,24 +157,19 @@ impl Heap {
         }
     }
 
-    /// Makes the zone.
+    /// Makes the next zone.
     pub fn make_zone(&mut self) -> Reply
         ensures heap { self.new ≡ (make_zone self.old).0 }
         ensures reply { result ≡ (make_zone self.old).1 }
     {
-        if self.zones >= ZONE_LIMIT {
+        let Some(zone) = ZoneNo::new(self.zones) else {
             return Reply::Refused(Refusal::Full);
-        }
-        match ZoneNo::new(self.zones) {
-            Some(zone) => {
-                self.zones += 1;
-                Reply::Zone(zone)
-            }
-            None => Reply::Refused(Refusal::Full),
-        }
+        };
+        self.zones += 1;
+        Reply::Zone(zone)
     }
 
-    /// Makes the compartment, in zone 0.
+    /// Makes the next compartment, in zone 0.
     pub fn make_comp(&mut self) -> Reply
         ensures heap { self.new ≡ (make_comp self.old).0 }
         ensures reply { result ≡ (make_comp self.old).1 }

@@ -4,7 +4,7 @@
 //
 //     replay     reads the lines, and ends with the exit that the lines and the counts of faults say
 //     answer     what one line is answered: parsed, served or refused, its reply written
-//     heap       the zone, the compartment, the registers and the cells, by positions
+//     heap       how many zones and compartments there are, the registers, the cells by positions
 //     marks      which positions are reached from the registers
 //     collect    marks, reports the only group and its end, and sweeps arena by arena
 //

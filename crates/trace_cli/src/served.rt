@@ -1,4 +1,5 @@
-// The lines that the program serves so far: one zone, one compartment, objects, whole collections.
+// The lines that the program serves so far: zones, compartments of zone 0, objects of compartment 0,
+// whole collections of zone 0.
 ghost use Rattle.std.specs.Prelude.{◌≡◌};
 ghost use Rattle.trace_cli.specs.Served.{is_served, is_served_command};
 

@@ -49,6 +49,18 @@ fn collections_of_an_empty_heap(rt: HostRuntime) -> Result<(), Fail> {
     )
 }
 
+// Zones and compartments besides those of the cells stay empty.
+#[test]
+fn other_zones_are_made(rt: HostRuntime) -> Result<(), Fail> {
+    check(
+        &rt,
+        rt.alloc(),
+        b"zone\ncomp 0\nzone\ncomp 0\nnew r0 0 0\ndrop r0\ncollect 0\n",
+        Exit::Done,
+        b"zone 0\ncomp 0\nzone 1\ncomp 1\ncell 0\nok\ngroups 0\nended 0 gray -\nswept 0 0\ndone\ncollected\n",
+    )
+}
+
 #[test]
 fn bad_lines_end_a_replay(rt: HostRuntime) -> Result<(), Fail> {
     check(&rt, rt.alloc(), b"zone \n", Exit::BadLine(1), b"")?;
