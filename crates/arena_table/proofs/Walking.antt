@@ -1,0 +1,131 @@
+-- The arenas that a walk over a set of zones has still to visit.
+use Rattle.std.proofs.Common.{◌≡◌, ◌≢◌, ◌<◌, ◌≤◌, ◌+◌, ◌*◌, ◌/◌, ◌%◌, ◌-◌, ◌^◌, bit_and, w64, ◌==◌, ◌↔◌, inl, inr, ℕ, zero, suc, Bool, true, false, cond, if◌then◌else◌, List, [], ◌∷◌, ◌++◌, All, length, drop, slice_get, slice_index, Option, Some, None, refl, sym, ◌∙◌, ap, subst, arith, eqb-true, eq-eqb}
+use Rattle.std.proofs.lemmas.Bool.{cases_eq}
+use Rattle.std.proofs.lemmas.Bool.Decides.{nat_tests}
+use Rattle.std.proofs.lemmas.Nat.Bits.{bit_at_lowest, bit_at-suc, bit_at-lt, bit_at-trailing_zeros}
+use Rattle.std.proofs.lemmas.List.FromFn.{length-range_with_len, get_or-range_with_len}
+use Rattle.std.proofs.lemmas.List.Elements.{All-tail}
+use Rattle.std.specs.Int.{bit_at, trailing_zeros}
+use Rattle.std.specs.List.{range_with_len}
+use Rattle.gz_names.specs.Zones.{HasZone}
+use Rattle.arena_table.specs.Slots.{Arena, at_bits, bit_of}
+use Rattle.arena_table.specs.Indexed.{HasBit, words_at, IsOwnedBy, is_owned, in_zones, numbers_from}
+use Rattle.arena_table.proofs.AtBits.{at_bits-zero, at_bits-lowest}
+
+-- whether an arena that there may be is one of a set of zones
+abbrev pub is_among : ℕ → Option Arena → Bool
+is_among word None = false
+is_among word (Some arena) = in_zones word arena.zone
+
+abbrev zone-below : Option Arena → Type 0
+zone-below None = ⊥
+zone-below (Some arena) = arena.zone < 64
+
+bit-cases : (b : Bool) (n : ℕ) → n ≡ bit_of b → (n == 1) ≡ b
+bit-cases true n e = ap (λ k. k == 1) e
+bit-cases false n e = ap (λ k. k == 1) e
+
+none-numbered : (word w a m : ℕ) → ((k : ℕ) → k < m → bit_at w k ≡ 0) → at_bits w (range_with_len a m) ≡ []
+none-numbered word w a zero bits = refl
+none-numbered word w a (suc m) bits =
+    let here : w % 2 ≡ 0 = sym (bit_at_lowest w) ∙ bits 0 (omega arith) in
+    ap (λ n. if n == 1 then a ∷ at_bits (w / 2) (range_with_len (a + 1) m) else at_bits (w / 2) (range_with_len (a + 1) m)) here ∙ none-numbered word (w / 2) (a + 1) m (λ k lt. sym (bit_at-suc w k) ∙ bits (suc k) (omega arith))
+
+-- a word of arenas, and the arenas after it
+numbers_from-block : (word w a m n : ℕ) (xs : List Arena) → a + m ≡ n → ((k : ℕ) → k < m → bit_at w k ≡ bit_of (is_among word (slice_get xs k))) → at_bits w (range_with_len a m) ++ numbers_from word n (drop m xs) ≡ numbers_from word a xs
+numbers_from-block word w a zero n xs e bits = ap (λ k. numbers_from word k xs) (let same : n ≡ a = omega arith in same)
+numbers_from-block word w a (suc m) n [] e bits = ap (λ ys. ys ++ []) (none-numbered word w a (suc m) bits)
+numbers_from-block word w a (suc m) n (x ∷ xs) e bits =
+    let rest = numbers_from-block word (w / 2) (a + 1) m n xs (omega arith) (λ k lt. sym (bit_at-suc w k) ∙ bits (suc k) (omega arith)) in
+    let here : w % 2 ≡ bit_of (in_zones word x.zone) = sym (bit_at_lowest w) ∙ bits 0 (omega arith) in
+    by (in_zones word x.zone) (bit-cases (in_zones word x.zone) (w % 2) here) (rest ∙ ap (λ k. numbers_from word k xs) (let same : a + 1 ≡ suc a = omega arith in same))
+  where
+    by : (b : Bool) → (w % 2 == 1) ≡ b → at_bits (w / 2) (range_with_len (a + 1) m) ++ numbers_from word n (drop m xs) ≡ numbers_from word (suc a) xs → (if w % 2 == 1 then a ∷ at_bits (w / 2) (range_with_len (a + 1) m) else at_bits (w / 2) (range_with_len (a + 1) m)) ++ numbers_from word n (drop m xs) ≡ cond b (a ∷ numbers_from word (suc a) xs) (numbers_from word (suc a) xs)
+    by true f r = ap (λ c. cond c (a ∷ at_bits (w / 2) (range_with_len (a + 1) m)) (at_bits (w / 2) (range_with_len (a + 1) m)) ++ numbers_from word n (drop m xs)) f ∙ ap (λ ys. a ∷ ys) r
+    by false f r = ap (λ c. cond c (a ∷ at_bits (w / 2) (range_with_len (a + 1) m)) (at_bits (w / 2) (range_with_len (a + 1) m)) ++ numbers_from word n (drop m xs)) f ∙ r
+
+slice_get-drop : (n k m : ℕ) (xs : List Arena) → n + k ≡ m → slice_get (drop n xs) k ≡ slice_get xs m
+slice_get-drop zero k m xs e = ap (slice_get xs) (let same : k ≡ m = omega arith in same)
+slice_get-drop (suc n) k m [] e = by m
+  where
+    by : (m : ℕ) → slice_get {X = Arena} (drop (suc n) []) k ≡ slice_get {X = Arena} [] m
+    by zero = refl
+    by (suc m) = refl
+slice_get-drop (suc n) k zero (x ∷ xs) e = absurd (omega arith)
+slice_get-drop (suc n) k (suc m) (x ∷ xs) e = slice_get-drop n k m xs (omega arith)
+
+drop-drop : (n m o : ℕ) (xs : List Arena) → n + m ≡ o → drop m (drop n xs) ≡ drop o xs
+drop-drop zero m o xs e = ap (λ k. drop k xs) (let same : m ≡ o = omega arith in same)
+drop-drop (suc n) m zero xs e = absurd (omega arith)
+drop-drop (suc n) zero (suc o) [] e = refl
+drop-drop (suc n) (suc m) (suc o) [] e = refl
+drop-drop (suc n) m (suc o) (x ∷ xs) e = drop-drop n m o xs (omega arith)
+
+drop-past : (n : ℕ) (xs : List Arena) → length xs ≤ n → drop n xs ≡ []
+drop-past zero [] h = refl
+drop-past zero (x ∷ xs) h = absurd (omega arith)
+drop-past (suc n) [] h = refl
+drop-past (suc n) (x ∷ xs) h = drop-past n xs (omega arith)
+
+-- where the walk has come to the last arena, none is left
+pub walk-none : (word n left base : ℕ) (arenas : List Arena) → left ≡ 0 → length arenas ≤ n → at_bits left (range_with_len base 64) ++ numbers_from word n (drop n arenas) ≡ []
+walk-none word n left base arenas e le = ap (λ l. at_bits l (range_with_len base 64) ++ numbers_from word n (drop n arenas)) e ∙ (ap (λ ys. ys ++ numbers_from word n (drop n arenas)) (at_bits-zero (range_with_len base 64)) ∙ ap (numbers_from word n) (drop-past n arenas le))
+
+-- the bit of an arena in a word of the arenas of a set of zones
+word-bit : (word w at k : ℕ) (owned : List (List ℕ)) (arenas : List Arena) → k < 64 → IsOwnedBy arenas owned → ((bit_at w k ≡ 1) ↔ ((z : ℕ) × HasZone word z × HasBit (words_at owned z) at k)) → bit_at w k ≡ bit_of (is_among word (slice_get arenas (64 * at + k)))
+unfolding HasZone
+word-bit word w at k owned arenas lt h bits = by (slice_get arenas (64 * at + k)) refl
+  where
+    here : (z : ℕ) → z < 64 → bit_at (slice_index (words_at owned z) at) k ≡ bit_of (is_owned z (slice_get arenas (64 * at + k)))
+    here z zone =
+        let q : (64 * at + k) / 64 ≡ at = omega arith in
+        let r : (64 * at + k) % 64 ≡ k = omega arith in
+        sym (ap (λ i. bit_at (slice_index (words_at owned z) i) ((64 * at + k) % 64)) q ∙ ap (λ i. bit_at (slice_index (words_at owned z) at) i) r) ∙ h.bits z (64 * at + k) zone
+
+    to : (b : Bool) → bit_of b ≡ 1 → b ≡ true
+    to true e = refl
+    to false e = absurd (omega arith)
+
+    by : (o : Option Arena) → slice_get arenas (64 * at + k) ≡ o → bit_at w k ≡ bit_of (is_among word o)
+    by None e = elim (cases_eq (bit_at w k) 1) [
+      | inl one ↦ (let s = bits.0 one in
+          let none : bit_at (slice_index (words_at owned s.0) at) k ≡ 0 = here s.0 s.1.0 ∙ ap (λ o. bit_of (is_owned s.0 o)) e in
+          absurd (let set : bit_at (slice_index (words_at owned s.0) at) k ≡ 1 = s.2 in omega arith))
+      | inr n ↦ (let lt2 = bit_at-lt w k in omega arith)
+    ]
+    by (Some arena) e =
+        let same-zone : arena.zone ≡ arena.zone = refl in
+        let zone : arena.zone < 64 = get-zone arenas (64 * at + k) arena h.zones e in
+        elim (cases_eq (bit_at w k) 1) [
+          | inl one ↦ (let s = bits.0 one in
+              let set : bit_of (arena.zone == s.0) ≡ 1 = sym (ap (λ o. bit_of (is_owned s.0 o)) e) ∙ (sym (here s.0 s.1.0) ∙ s.2) in
+              let same : arena.zone ≡ s.0 = eqb-true _ _ (to _ set) in
+              let in_zone : bit_at word arena.zone ≡ 1 = ap (bit_at word) same ∙ s.1.1 in
+              one ∙ sym (ap bit_of (eq-eqb _ _ in_zone)))
+          | inr n ↦ (elim (cases_eq (bit_at word arena.zone) 1) [
+            | inl in_zone ↦ absurd (n (bits.1 (arena.zone, (zone, in_zone), here arena.zone zone ∙ (ap (λ o. bit_of (is_owned arena.zone o)) e ∙ ap bit_of (eq-eqb _ _ same-zone)))))
+            | inr out ↦ (let lt2 = bit_at-lt w k in
+                let off : bit_of (bit_at word arena.zone == 1) ≡ 0 = grind (arith, nat_tests) in omega arith)
+          ])
+        ]
+      where
+        get-zone : (xs : List Arena) (i : ℕ) (x : Arena) → All (λ (a : Arena). a.zone < 64) xs → slice_get xs i ≡ Some x → x.zone < 64
+        get-zone [] i x all e = cc
+        get-zone (y ∷ xs) zero x all e = (let first : y.zone < 64 = all 0 y (omega arith) in subst (λ (o : Option Arena). zone-below o) e first)
+        get-zone (y ∷ xs) (suc i) x all e = get-zone xs i x (All-tail (λ (a : Arena). a.zone < 64) y xs all) e
+
+-- the next word of the walk
+pub walk-on : (word w at n : ℕ) (owned : List (List ℕ)) (arenas : List Arena) (left base : ℕ) → left ≡ 0 → at + 1 ≡ n → IsOwnedBy arenas owned → ((k : ℕ) → k < 64 → (bit_at w k ≡ 1) ↔ ((z : ℕ) × HasZone word z × HasBit (words_at owned z) at k)) → at_bits w (range_with_len (64 * at) 64) ++ numbers_from word (64 * n) (drop (64 * n) arenas) ≡ at_bits left (range_with_len base 64) ++ numbers_from word (64 * at) (drop (64 * at) arenas)
+walk-on word w at n owned arenas left base none next h bits =
+    let after : 64 * at + 64 ≡ 64 * n = omega arith in
+    let block = numbers_from-block word w (64 * at) 64 (64 * n) (drop (64 * at) arenas) after (λ k lt. word-bit word w at k owned arenas lt h (bits k lt) ∙ ap (λ o. bit_of (is_among word o)) (sym (slice_get-drop (64 * at) k (64 * at + k) arenas refl))) in
+    ap (λ xs. at_bits w (range_with_len (64 * at) 64) ++ numbers_from word (64 * n) xs) (sym (drop-drop (64 * at) 64 (64 * n) arenas after)) ∙ (block ∙ sym (ap (λ l. at_bits l (range_with_len base 64) ++ numbers_from word (64 * at) (drop (64 * at) arenas)) none ∙ ap (λ ys. ys ++ numbers_from word (64 * at) (drop (64 * at) arenas)) (at_bits-zero (range_with_len base 64))))
+
+-- the next arena of the walk
+pub walk-step : (word left base n : ℕ) (arenas : List Arena) → left ≢ 0 → left < 2 ^ 64 → at_bits left (range_with_len base 64) ++ numbers_from word n (drop n arenas) ≡ (base + trailing_zeros w64 left) ∷ (at_bits (bit_and left (left - 1)) (range_with_len base 64) ++ numbers_from word n (drop n arenas))
+walk-step word left base n arenas some fits =
+    let lowest = bit_at-trailing_zeros w64 left (omega arith) fits in
+    let t = trailing_zeros w64 left in
+    let within : t < 64 = lowest.0 in
+    let first = at_bits-lowest left (range_with_len base 64) 0 (omega arith) fits (let long = length-range_with_len base 64 in omega arith) in
+    ap (λ ys. ys ++ numbers_from word n (drop n arenas)) (first ∙ ap (λ (a : ℕ). a ∷ at_bits (bit_and left (left - 1)) (range_with_len base 64)) (get_or-range_with_len base 64 t 0 within))

@@ -1,0 +1,32 @@
+use Rattle.std.proofs.Common.{◌≡◌, ◌∙◌, ap, arith, ◌==◌, ◌&&◌, if◌then◌else◌, None}
+use Rattle.std.specs.Int.{bit_at}
+use Rattle.arena_table.specs.Slots.{cell_at, held_by}
+use Rattle.arena_table.specs.Table.{ArenasState}
+use Rattle.arena_table.proofs.Putting.{held_by-taken}
+use Rattle.arena_table.proofs.CellsAt.{cell_at-taken}
+use Rattle.arena_table.proofs.arenas.Arenas.take_in.Goals as goal
+
+pub overflow_sub-self : goal.overflow_sub-self
+overflow_sub-self c =
+    let taken = held_by-taken c.self.inside.store.arenas c.args.arena c.args.freed c.args.bits c.names_at-names.result c.names_at-names.ensures in
+    let counted = c.self.invariant.counted in
+    omega (arith, c.len.ensures.value)
+
+pub invariant_of-self : goal.invariant_of-self
+invariant_of-self c =
+    let taken = held_by-taken c.self.inside.store.arenas c.args.arena c.args.freed c.args.bits c.names_at-names.result c.names_at-names.ensures in
+    let counted = c.self.invariant.counted in
+    let fewer = c.self.invariant.fewer in
+    let now : held_by c.come_in.new.store.arenas ≡ held_by _ = ap held_by c.come_in.ensures.arenas in
+    record {
+      indexed = c.come_in.ensures.indexed;
+      few = c.self.invariant.few;
+      counted = omega (arith, c.len.ensures.value);
+      fewer = omega arith;
+      kept = λ r e. absurd (cc);
+    }
+
+pub returns-clause-cells : goal.returns-clause-cells
+returns-clause-cells c = λ p.
+    let same = ap (λ (s : ArenasState). cell_at s.arenas p) c.self.view_is in
+    ap (λ as'. cell_at as' p) c.come_in.ensures.arenas ∙ (cell_at-taken c.self.inside.store.arenas c.args.arena c.args.freed c.args.bits p ∙ ap (λ o. if (p.0 == c.args.arena) && (bit_at c.args.freed p.1 == 1) then None else o) same)

@@ -1,0 +1,222 @@
+// Sets of arenas.
+ghost use Rattle.std.specs.Prelude.{◌≡◌, ◌≤◌, ◌<◌, ◌+◌, ◌*◌, ◌==◌, ◌↔◌, ◌≢◌, ◌^◌, ◌/◌, [], ℕ, length, slice_index, OnOk, IfSome, IfNone, if◌then◌else◌};
+ghost use Rattle.std.specs.Int.{bit_at};
+ghost use Rattle.arena_table.specs.Sets.{arena_bit, IsSummed};
+
+use std::alloc::{AllocError, Global};
+use std::marker::Model;
+
+/// A set of arenas, which finds its lowest at once: a bit an arena, and over each 64 words of these
+/// a word whose bits say which of them are not 0.
+#[derive(Drop)]
+pub(crate) struct ArenaSet {
+    words: Vec<u64>,
+    groups: Vec<u64>,
+}
+
+impl Model for ArenaSet {
+    ghost use Rattle.std.specs.Prelude.{List, ℕ};
+    ghost use Rattle.arena_table.specs.Sets.{IsSummed};
+
+    ghost Value = { List ℕ };
+
+    ghost view = { λ s. s.words.items };
+
+    ghost invariant = { λ s. IsSummed s.words.items s.groups.items };
+}
+
+impl ArenaSet {
+    /// The set without arenas. It takes no memory.
+    pub fn new(alloc: Global) -> Self
+        ensures { result ≡ [] }
+    {
+        ArenaSet {
+            words: Vec::new(alloc),
+            groups: Vec::new(alloc),
+        }
+    }
+
+    /// Takes memory for the arenas below a number.
+    pub fn cover(&mut self, count: usize) -> Result<(), AllocError>
+        requires { count ≤ 2 ^ 32 }
+        ensures room { OnOk result (count ≤ 64 * length self.new) }
+        ensures kept { length self.old ≤ length self.new }
+        ensures same { (arena : ℕ) → arena_bit self.new arena ≡ arena_bit self.old arena }
+    {
+        cover_words(&mut self.words, &mut self.groups, count)
+    }
+
+    /// Adds an arena for which there is room.
+    pub fn insert(&mut self, arena: usize)
+        requires { arena < 64 * length self.old }
+        ensures room { length self.new ≡ length self.old }
+        ensures bits { (other : ℕ) → arena_bit self.new other
+            ≡ (if other == arena then 1 else arena_bit self.old other) }
+    {
+        insert_into(&mut self.words, &mut self.groups, arena);
+    }
+
+    /// Takes an arena out.
+    pub fn remove(&mut self, arena: usize)
+        requires { arena < 64 * length self.old }
+        ensures room { length self.new ≡ length self.old }
+        ensures bits { (other : ℕ) → arena_bit self.new other
+            ≡ (if other == arena then 0 else arena_bit self.old other) }
+    {
+        remove_from(&mut self.words, &mut self.groups, arena);
+    }
+
+    /// Takes all arenas out.
+    pub fn clear(&mut self)
+        ensures room { length self.new ≡ length self.old }
+        ensures bits { (arena : ℕ) → arena_bit self.new arena ≡ 0 }
+    {
+        clear_words(&mut self.words, &mut self.groups);
+    }
+
+    /// The lowest arena.
+    pub fn lowest(&self) -> Option<usize>
+        ensures some { IfSome result (λ arena. arena_bit self.now arena ≡ 1) }
+        ensures lowest { IfSome result
+            (λ arena. (other : ℕ) → other < arena → arena_bit self.now other ≡ 0) }
+        ensures none { IfNone result ((other : ℕ) → arena_bit self.now other ≡ 0) }
+    {
+        lowest_of(&self.words, &self.groups)
+    }
+
+    /// The bits of 64 arenas.
+    pub fn word(&self, index: usize) -> u64
+        ensures { result ≡ slice_index self.now index }
+    {
+        match self.words.get(index) {
+            Some(word) => *word,
+            None => 0,
+        }
+    }
+}
+
+// Appends words that are 0, until there is a bit for each arena below a number.
+fn cover_words(words: &mut Vec<u64>, groups: &mut Vec<u64>, count: usize) -> Result<(), AllocError>
+    requires count { count ≤ 2 ^ 32 }
+    requires summed { IsSummed words.old.items groups.old.items }
+    ensures summed { IsSummed words.new.items groups.new.items }
+    ensures room { OnOk result (count ≤ 64 * length words.new.items) }
+    ensures kept { length words.old.items ≤ length words.new.items }
+    ensures same { (arena : ℕ)
+        → arena_bit words.new.items arena ≡ arena_bit words.old.items arena }
+{
+    while words.len() * 64 < count {
+        cover_groups(words, groups)?;
+        words.push(0)?;
+    }
+    Ok(())
+}
+
+// Appends a word over the words that are 0, where there is none for one word more.
+fn cover_groups(words: &[u64], groups: &mut Vec<u64>) -> Result<(), AllocError>
+    requires { IsSummed words.now groups.old.items }
+    ensures summed { IsSummed words.now groups.new.items }
+    ensures room { OnOk result (length words.now < 64 * length groups.new.items) }
+{
+    if groups.len() * 64 <= words.len() {
+        groups.push(0)?;
+    }
+    Ok(())
+}
+
+// Sets the bit of an arena.
+fn insert_into(words: &mut [u64], groups: &mut [u64], arena: usize)
+    requires room { arena < 64 * length words.old }
+    requires summed { IsSummed words.old groups.old }
+    ensures summed { IsSummed words.new groups.new }
+    ensures bits { (other : ℕ) → arena_bit words.new other
+        ≡ (if other == arena then 1 else arena_bit words.old other) }
+{
+    set_bit(words, arena);
+    set_bit(groups, arena / 64);
+}
+
+// Clears the bit of an arena.
+fn remove_from(words: &mut [u64], groups: &mut [u64], arena: usize)
+    requires room { arena < 64 * length words.old }
+    requires summed { IsSummed words.old groups.old }
+    ensures summed { IsSummed words.new groups.new }
+    ensures bits { (other : ℕ) → arena_bit words.new other
+        ≡ (if other == arena then 0 else arena_bit words.old other) }
+{
+    clear_bit(words, arena);
+    if words[arena / 64] == 0 {
+        clear_bit(groups, arena / 64);
+    }
+}
+
+// Clears all bits.
+fn clear_words(words: &mut [u64], groups: &mut [u64])
+    requires { IsSummed words.old groups.old }
+    ensures summed { IsSummed words.new groups.new }
+    ensures bits { (arena : ℕ) → arena_bit words.new arena ≡ 0 }
+{
+    clear_all(words);
+    clear_all(groups);
+}
+
+// Makes all words 0.
+fn clear_all(words: &mut [u64])
+    ensures { (k : ℕ) → slice_index words.new k ≡ 0 }
+{
+    for word in words.iter_mut() {
+        *word = 0;
+    }
+}
+
+// The lowest arena whose bit is set.
+fn lowest_of(words: &[u64], groups: &[u64]) -> Option<usize>
+    requires { IsSummed words.now groups.now }
+    ensures some { IfSome result (λ arena. arena_bit words.now arena ≡ 1) }
+    ensures lowest { IfSome result
+        (λ arena. (other : ℕ) → other < arena → arena_bit words.now other ≡ 0) }
+    ensures none { IfNone result ((other : ℕ) → arena_bit words.now other ≡ 0) }
+{
+    let at = lowest_bit(groups)?;
+    let word = words[at];
+    Some(64 * at + word.trailing_zeros() as usize)
+}
+
+// Sets a bit of a list of words.
+fn set_bit(words: &mut [u64], index: usize)
+    requires { index < 64 * length words.old }
+    ensures bits { (other : ℕ) → arena_bit words.new other
+        ≡ (if other == index then 1 else arena_bit words.old other) }
+    ensures others { (word : ℕ) → word ≢ index / 64
+        → slice_index words.new word ≡ slice_index words.old word }
+{
+    words[index / 64] |= 1 << (index % 64);
+}
+
+// Clears a bit of a list of words.
+fn clear_bit(words: &mut [u64], index: usize)
+    requires { index < 64 * length words.old }
+    ensures bits { (other : ℕ) → arena_bit words.new other
+        ≡ (if other == index then 0 else arena_bit words.old other) }
+    ensures others { (word : ℕ) → word ≢ index / 64
+        → slice_index words.new word ≡ slice_index words.old word }
+    ensures zero { slice_index words.old (index / 64) ≡ 0 → slice_index words.new (index / 64) ≡ 0 }
+{
+    words[index / 64] &= !(1 << (index % 64));
+}
+
+// The lowest bit of a list of words.
+fn lowest_bit(words: &[u64]) -> Option<usize>
+    requires { length words.now < 2 ^ 32 }
+    ensures some { IfSome result (λ index. arena_bit words.now index ≡ 1) }
+    ensures lowest { IfSome result
+        (λ index. (other : ℕ) → other < index → arena_bit words.now other ≡ 0) }
+    ensures none { IfNone result ((other : ℕ) → arena_bit words.now other ≡ 0) }
+{
+    for (at, word) in words.iter().enumerate() {
+        if *word != 0 {
+            return Some(64 * at + word.trailing_zeros() as usize);
+        }
+    }
+    None
+}

@@ -1,0 +1,454 @@
+// The arenas of all zones.
+ghost use Rattle.std.specs.Prelude.{◌≡◌, ◌≢◌, ◌≤◌, ◌<◌, ◌+◌, ◌*◌, ◌==◌, ◌&&◌, [], ℕ, Bool, true, false, IsSome, IsSomeAnd, Some, None, length, replicate, slice_get, slice_set, IfOk, OnOk, OnErr, IfSome, IfNone, is_some, if◌then◌else◌};
+ghost use Rattle.std.specs.Int.{bit_at};
+ghost use Rattle.std.specs.Option.{ForSome, option_map};
+ghost use Rattle.gz_names.specs.declared.numbers.Place.{Place};
+ghost use Rattle.arena_table.specs.Cells.{field_count, field_of, state_of, with_value};
+ghost use Rattle.arena_table.specs.Slots.{Arena, IsWithin, alloc_word_of, at_bits, bit_of, cell_at, change_at, handed_out, held_by, is_out_at, names_of, taken_in, with_bits, with_cell, with_field};
+ghost use Rattle.arena_table.specs.Indexed.{IsIndexed, IsOwnedBy, is_open, words_at};
+ghost use Rattle.arena_table.specs.Placement.{place_for};
+ghost use Rattle.arena_table.specs.Table.{AreIn, HasRoom, grown_to, new_cell, in_these, jobs_from, no_bits, put_at, is_place};
+
+use crate::cells::{ARENA_LIMIT, Cell};
+use crate::index::Index;
+use crate::store::Store;
+use crate::walk::Walk;
+use cell_bits::{Bits, Job};
+use gz_names::{CompNo, Kind, Name, Names64, NoMemory, Place, ZoneNo, ZoneSet};
+use std::alloc::{AllocError, Global};
+use std::marker::Model;
+
+/// A place that is kept for a cell of a zone.
+#[derive(Clone, Copy, Debug, PartialEq, Eq)]
+pub struct Reserved {
+    pub zone: ZoneNo,
+    pub place: Place,
+}
+
+/// What is handed to sweeping.
+#[derive(Drop)]
+pub struct Jobs {
+    jobs: Vec<Job>,
+}
+
+impl Model for Jobs {
+    ghost use Rattle.std.specs.Prelude.{List};
+    ghost use Rattle.cell_bits.specs.declared.jobs.Job.{Job as AJob};
+
+    ghost Value = { List AJob };
+
+    ghost view = { λ j. j.jobs.items };
+}
+
+impl Jobs {
+    pub fn as_slice(&self) -> &[Job]
+        ensures { result.now ≡ self.now }
+    {
+        self.jobs.as_slice()
+    }
+
+    /// The jobs as a vector. It takes no memory.
+    pub fn into_vec(self) -> Vec<Job>
+        ensures { result.items ≡ self }
+    {
+        self.jobs
+    }
+}
+
+/// The arenas of all zones, and their cells.
+#[derive(Drop)]
+pub struct Arenas {
+    store: Store,
+    index: Index,
+    made: u64,
+    held: u64,
+    reserved: Option<Reserved>,
+}
+
+impl Model for Arenas {
+    ghost use Rattle.arena_table.specs.Table.{ArenasState, AreArenas};
+
+    ghost Value = { ArenasState };
+
+    ghost view = { λ a. record { arenas = a.store.arenas; made = a.made; reserved = a.reserved } };
+
+    ghost invariant = { λ a. AreArenas a.store a.index a.made a.held a.reserved };
+}
+
+impl Arenas {
+    ghost use Rattle.arena_table.specs.Table.{ArenasState};
+
+    /// No arenas.
+    pub fn new(alloc: Global) -> Result<Self, NoMemory>
+        ensures { IfOk result
+            (λ arenas. arenas ≡ record { arenas = []; made = 0; reserved = None }) }
+    {
+        let index = Index::new(alloc)?;
+        Ok(Arenas {
+            store: Store::new(alloc),
+            index,
+            made: 0,
+            held: 0,
+            reserved: None,
+        })
+    }
+
+    /// The place of the next cell of a zone: in its lowest arena that is not handed to sweeping and
+    /// has a free slot, at its lowest free slot; else at slot 0 of a new arena. It takes the memory
+    /// for it, so that `put_cell` takes none.
+    pub fn reserve_place(&mut self, zone: ZoneNo) -> Result<Place, NoMemory>
+        requires { self.old.made < 4294967295 }
+        ensures place { IfOk result (λ place. place ≡ place_for self.old.arenas zone) }
+        ensures free { IfOk result (λ place. cell_at self.old.arenas place ≡ None) }
+        ensures kept { IfOk result (λ place. self.new ≡ record self.old {
+          reserved = Some (record { zone = zone; place = place });
+        }) }
+        ensures err { OnErr result (self.new ≡ self.old) }
+    {
+        let place = match find_place(&self.store, &self.index, zone) {
+            Some(place) => place,
+            None => make_room(&mut self.store, &mut self.index, zone)?,
+        };
+        self.reserved = Some(Reserved { zone, place });
+        Ok(place)
+    }
+
+    /// Whether all arenas of a zone that are not handed to sweeping are full, so that its next cell
+    /// comes into a new arena.
+    pub fn is_full(&self, zone: ZoneNo) -> bool
+        ensures { result ≡ ((place_for self.now.arenas zone).0 == length self.now.arenas) }
+    {
+        match find_place(&self.store, &self.index, zone) {
+            Some(_) => false,
+            None => true,
+        }
+    }
+
+    /// Puts a cell, its fields null, at the place that is kept.
+    pub fn put_cell(&mut self, place: Place, kind: Kind, comp: CompNo, name: Name)
+        requires reserved { option_map (λ r. r.place) self.old.reserved ≡ Some place }
+        requires fields { field_count kind ≤ 8 }
+        ensures put { IfSome self.old.reserved (λ r. self.new ≡ record {
+          arenas = put_at self.old.arenas r.zone place (new_cell kind comp name);
+          made = self.old.made + 1;
+          reserved = None;
+        }) }
+        ensures cells { (p : Place) → cell_at self.new.arenas p ≡ (if is_place p place
+            then Some (new_cell kind comp name) else cell_at self.old.arenas p) }
+    {
+        if let Some(reserved) = self.reserved {
+            let cell = Cell::new(kind, comp, name);
+            put_in_zone(&mut self.store, &mut self.index, reserved.zone, place, cell);
+            self.made += 1;
+            self.held += 1;
+            self.reserved = None;
+        }
+    }
+
+    pub fn kind(&self, place: Place) -> Kind
+        requires { IsSome (cell_at self.now.arenas place) }
+        ensures { option_map (λ c. c.kind) (cell_at self.now.arenas place) ≡ Some result }
+    {
+        self.store.cell(place).kind
+    }
+
+    pub fn comp(&self, place: Place) -> CompNo
+        requires { IsSome (cell_at self.now.arenas place) }
+        ensures { option_map (λ c. c.comp) (cell_at self.now.arenas place) ≡ Some result }
+    {
+        self.store.cell(place).comp
+    }
+
+    pub fn name(&self, place: Place) -> Name
+        requires { IsSome (cell_at self.now.arenas place) }
+        ensures { option_map (λ c. c.name) (cell_at self.now.arenas place) ≡ Some result }
+    {
+        self.store.cell(place).name
+    }
+
+    /// What a field of a cell holds; `None` also past its fields.
+    pub fn field(&self, place: Place, f: u8) -> Option<Place>
+        requires { IsSome (cell_at self.now.arenas place) }
+        ensures { option_map (λ c. field_of c f) (cell_at self.now.arenas place) ≡ Some result }
+    {
+        self.store.cell(place).field(f)
+    }
+
+    /// A field of a cell takes a value.
+    pub fn set_field(&mut self, place: Place, f: u8, v: Option<Place>)
+        requires field { IsSomeAnd (cell_at self.old.arenas place) (λ c. f < length c.fields) }
+        requires value { ForSome v (λ p. p.0 < length self.old.arenas) }
+        ensures state { self.new ≡ record self.old {
+          arenas = change_at (with_field place.1 f v) self.old.arenas place.0;
+        } }
+        ensures cells { (p : Place) → cell_at self.new.arenas p ≡ (if is_place p place
+            then option_map (with_value f v) (cell_at self.old.arenas p)
+            else cell_at self.old.arenas p) }
+    {
+        self.store.set_field(place, f, v);
+    }
+
+    /// The mark bits of an arena.
+    pub fn bits(&self, arena: u32) -> Bits
+        requires { arena < length self.now.arenas }
+        ensures { option_map (λ a. a.bits) (slice_get self.now.arenas arena) ≡ Some result }
+    {
+        self.store.head(arena as usize).bits
+    }
+
+    /// An arena that is not handed to sweeping takes mark bits.
+    pub fn set_bits(&mut self, arena: u32, bits: Bits)
+        requires { IsSomeAnd (slice_get self.old.arenas arena) (λ a. a.is_out ≡ false) }
+        ensures { self.new ≡ record self.old {
+          arenas = change_at (with_bits bits) self.old.arenas arena;
+        } }
+    {
+        self.store.set_bits(arena as usize, bits);
+    }
+
+    /// Clears the mark bits of all arenas of these zones. It walks the arenas of these zones alone.
+    pub fn clear_bits(&mut self, zones: ZoneSet)
+        requires { AreIn zones.bits self.old.arenas }
+        ensures { self.new ≡ record self.old {
+          arenas = in_these (with_bits no_bits) zones.bits self.old.arenas;
+        } }
+    {
+        clear_in_zones(&mut self.store, &self.index, zones);
+    }
+
+    /// Hands all arenas of these zones to sweeping: their bits are in flight from now on, and they
+    /// take no cells. It walks the arenas of these zones alone.
+    pub fn hand_out(&mut self, alloc: Global, zones: ZoneSet) -> Result<Jobs, NoMemory>
+        requires { AreIn zones.bits self.old.arenas }
+        ensures jobs { IfOk result (λ jobs. jobs ≡ jobs_from zones.bits 0 self.old.arenas) }
+        ensures ok { OnOk result (self.new ≡ record self.old {
+          arenas = in_these handed_out zones.bits self.old.arenas;
+          reserved = None;
+        }) }
+        ensures cells { (p : Place)
+            → cell_at self.new.arenas p ≡ cell_at self.old.arenas p }
+        ensures err { OnErr result (self.new ≡ self.old) }
+    {
+        let jobs = jobs_in_zones(alloc, &self.store, &self.index, zones)?;
+        send_out(&mut self.store, &self.index, zones);
+        self.index.close_all(zones);
+        self.reserved = None;
+        Ok(Jobs { jobs })
+    }
+
+    /// Whether an arena is handed to sweeping.
+    pub fn is_out(&self, arena: u32) -> bool
+        ensures { result ≡ is_out_at self.now.arenas arena }
+    {
+        let arena = arena as usize;
+        if arena < self.store.len() {
+            self.store.head(arena).is_out
+        } else {
+            false
+        }
+    }
+
+    /// Takes an arena back from sweeping: its bits are the heap's again, the freed cells are gone,
+    /// and it takes cells if a slot is free. The answer is the names of the freed cells, in slot
+    /// order. It takes no memory.
+    pub fn take_in(&mut self, arena: u32, freed: u64, bits: Bits) -> Names64
+        requires out { IsSomeAnd (slice_get self.old.arenas arena) (λ a. a.is_out ≡ true) }
+        requires within { IsSomeAnd (slice_get self.old.arenas arena)
+            (λ a. IsWithin freed (alloc_word_of a.slots)) }
+        ensures names { IsSomeAnd (slice_get self.old.arenas arena)
+            (λ a. result ≡ names_of (at_bits freed a.slots)) }
+        ensures state { self.new ≡ record self.old {
+          arenas = change_at (taken_in freed bits) self.old.arenas arena;
+          reserved = None;
+        } }
+        ensures cells { (p : Place) → cell_at self.new.arenas p
+            ≡ (if (p.0 == arena) && (bit_at freed p.1 == 1) then None
+            else cell_at self.old.arenas p) }
+    {
+        let arena = arena as usize;
+        let names = self.store.names_at(arena, freed);
+        come_in(&mut self.store, &mut self.index, arena, freed, bits);
+        self.held -= names.len() as u64;
+        self.reserved = None;
+        names
+    }
+
+    /// How many cells were ever put.
+    pub fn made(&self) -> u64
+        ensures value { result ≡ self.now.made }
+        ensures few { result ≤ 4294967295 }
+    {
+        self.made
+    }
+
+    /// How many cells there are.
+    pub fn count(&self) -> u64
+        ensures value { result ≡ held_by self.now.arenas }
+        ensures few { result ≤ self.now.made }
+    {
+        self.held
+    }
+
+    /// How many arenas were made.
+    pub fn arenas(&self) -> u32
+        ensures { result ≡ length self.now.arenas }
+    {
+        self.store.len() as u32
+    }
+
+    /// The zone of an arena, if it was made.
+    pub fn owner(&self, arena: u32) -> Option<ZoneNo>
+        ensures { result ≡ option_map (λ a. a.zone) (slice_get self.now.arenas arena) }
+    {
+        let arena = arena as usize;
+        if arena < self.store.len() {
+            Some(self.store.head(arena).zone)
+        } else {
+            None
+        }
+    }
+
+    /// The slots of an arena at which cells stand.
+    pub fn alloc_word(&self, arena: u32) -> u64
+        requires { arena < length self.now.arenas }
+        ensures word { option_map (λ a. alloc_word_of a.slots) (slice_get self.now.arenas arena)
+            ≡ Some result }
+        ensures bits { (slot : ℕ) → bit_at result slot
+            ≡ bit_of (is_some (cell_at self.now.arenas (arena, slot))) }
+    {
+        self.store.head(arena as usize).alloc_word
+    }
+}
+
+// The place for a cell of a zone in the lowest arena that takes such cells.
+fn find_place(store: &Store, index: &Index, zone: ZoneNo) -> Option<Place>
+    requires { IsIndexed store.now.arenas index.now }
+    ensures some { IfSome result (λ place. place ≡ place_for store.now.arenas zone) }
+    ensures takes { IfSome result
+        (λ place. is_open zone (slice_get store.now.arenas place.0) ≡ true) }
+    ensures none { IfNone result (place_for store.now.arenas zone
+        ≡ (length store.now.arenas, 0)) }
+{
+    let arena = index.lowest_open(zone)?;
+    let slot = store.head(arena).alloc_word.trailing_ones();
+    Place::new(arena as u32, slot as u8)
+}
+
+// Takes memory for a new arena of a zone, and answers the place of its first cell.
+fn make_room(store: &mut Store, index: &mut Index, zone: ZoneNo) -> Result<Place, NoMemory>
+    requires { IsIndexed store.old.arenas index.old }
+    ensures place { IfOk result (λ place. place ≡ (length store.old.arenas, 0)) }
+    ensures room { OnOk result (HasRoom store.new index.new zone) }
+    ensures arenas { store.new.arenas ≡ store.old.arenas }
+    ensures indexed { IsIndexed store.new.arenas index.new }
+    ensures kept { (z : ℕ) → HasRoom store.old index.old z → HasRoom store.new index.new z }
+{
+    let arena = store.len();
+    if arena >= ARENA_LIMIT as usize {
+        return Err(AllocError);
+    }
+    store.reserve()?;
+    index.cover(zone, arena + 1)?;
+    Place::new(arena as u32, 0).ok_or(AllocError)
+}
+
+// A cell is put at a place of a zone, which is in an arena that takes cells or in a new one.
+fn put_in_zone(store: &mut Store, index: &mut Index, zone: ZoneNo, place: Place, cell: Cell)
+    requires indexed { IsIndexed store.old.arenas index.old }
+    requires place { place ≡ place_for store.old.arenas zone }
+    requires room { place.0 ≡ length store.old.arenas → HasRoom store.old index.old zone }
+    ensures arenas { store.new.arenas ≡ put_at store.old.arenas zone place (state_of cell) }
+    ensures indexed { IsIndexed store.new.arenas index.new }
+{
+    grow_to(store, index, zone, place.arena() as usize);
+    put_in_arena(store, index, zone, place, cell);
+}
+
+// An arena of a zone is made, if the number is that of the next.
+fn grow_to(store: &mut Store, index: &mut Index, zone: ZoneNo, arena: usize)
+    requires indexed { IsIndexed store.old.arenas index.old }
+    requires room { arena ≡ length store.old.arenas → HasRoom store.old index.old zone }
+    ensures arenas { store.new.arenas ≡ grown_to store.old.arenas zone arena }
+    ensures indexed { IsIndexed store.new.arenas index.new }
+{
+    if arena == store.len() {
+        store.push(zone);
+        index.add(zone, arena);
+        index.open(zone, arena);
+    }
+}
+
+// A cell is put into an arena of its zone that takes cells.
+fn put_in_arena(store: &mut Store, index: &mut Index, zone: ZoneNo, place: Place, cell: Cell)
+    requires indexed { IsIndexed store.old.arenas index.old }
+    requires takes { is_open zone (slice_get store.old.arenas place.0) ≡ true }
+    ensures arenas { store.new.arenas
+        ≡ change_at (with_cell place.1 (state_of cell)) store.old.arenas place.0 }
+    ensures indexed { IsIndexed store.new.arenas index.new }
+{
+    let arena = place.arena() as usize;
+    store.put(place, cell);
+    if store.head(arena).alloc_word == u64::MAX {
+        index.close(zone, arena);
+    }
+}
+
+// What of these zones is handed to sweeping.
+fn jobs_in_zones(
+    alloc: Global,
+    store: &Store,
+    index: &Index,
+    zones: ZoneSet,
+) -> Result<Vec<Job>, AllocError>
+    requires { IsOwnedBy store.now.arenas index.now.owned }
+    ensures { IfOk result (λ jobs. jobs.items ≡ jobs_from zones.bits 0 store.now.arenas) }
+{
+    let mut jobs = Vec::new(alloc);
+    let mut walk = Walk::over(zones);
+    while let Some(arena) = walk.next(store, index) {
+        let head = store.head(arena);
+        jobs.push(Job {
+            arena: arena as u32,
+            alloc_word: head.alloc_word,
+            bits: head.bits,
+        })?;
+    }
+    Ok(jobs)
+}
+
+// The arenas of these zones are handed to sweeping.
+fn send_out(store: &mut Store, index: &Index, zones: ZoneSet)
+    requires { IsOwnedBy store.old.arenas index.now.owned }
+    ensures { store.new.arenas ≡ in_these handed_out zones.bits store.old.arenas }
+{
+    let mut walk = Walk::over(zones);
+    while let Some(arena) = walk.next(store, index) {
+        store.set_out(arena);
+    }
+}
+
+// The bits of the arenas of these zones are cleared.
+fn clear_in_zones(store: &mut Store, index: &Index, zones: ZoneSet)
+    requires { IsOwnedBy store.old.arenas index.now.owned }
+    ensures arenas { store.new.arenas ≡ in_these (with_bits no_bits) zones.bits store.old.arenas }
+    ensures room { store.new.room ≡ store.old.room }
+{
+    let mut walk = Walk::over(zones);
+    while let Some(arena) = walk.next(store, index) {
+        store.set_bits(arena, Bits { black: 0, gob: 0 });
+    }
+}
+
+// An arena comes back from sweeping, without the freed cells.
+fn come_in(store: &mut Store, index: &mut Index, arena: usize, freed: u64, bits: Bits)
+    requires indexed { IsIndexed store.old.arenas index.old }
+    requires out { IsSomeAnd (slice_get store.old.arenas arena) (λ a. a.is_out ≡ true) }
+    ensures arenas { store.new.arenas ≡ change_at (taken_in freed bits) store.old.arenas arena }
+    ensures indexed { IsIndexed store.new.arenas index.new }
+{
+    store.take_in(arena, freed, bits);
+    let head = store.head(arena);
+    if head.alloc_word != u64::MAX {
+        index.open(head.zone, arena);
+    }
+}

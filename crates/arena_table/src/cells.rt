@@ -1,0 +1,112 @@
+// Cells as they are kept.
+ghost use Rattle.std.specs.Prelude.{◌≡◌, ◌≤◌, ◌<◌, ◌+◌, ◌*◌, ◌-◌, ◌^◌, ℕ, None, replicate, slice_set, length};
+ghost use Rattle.std.specs.Option.{ForSome};
+ghost use Rattle.arena_table.specs.Cells.{CellState, field_count, field_of, place_at, state_of};
+
+use gz_names::{CompNo, Kind, Name, Place};
+
+/// More arenas than can be made: a link to the last slot of the last arena still fits its four
+/// bytes.
+pub(crate) const ARENA_LIMIT: u32 = 67_108_863;
+
+/// What a field holds, in four bytes: 0 for null, and for a cell one more than its position among
+/// the slots of all arenas.
+#[derive(Clone, Copy)]
+pub(crate) struct Link {
+    pub position: u32,
+}
+
+/// A cell as it is kept, in 56 bytes.
+#[derive(Clone, Copy)]
+pub(crate) struct Cell {
+    pub name: Name,
+    pub fields: [Link; 8],
+    pub kind: Kind,
+    pub comp: CompNo,
+}
+
+/// What stands in a slot that holds no cell.
+pub(crate) const NO_CELL: Cell = Cell {
+    name: Name::Cell(0),
+    fields: [Link { position: 0 }; 8],
+    kind: Kind::Map,
+    comp: CompNo(0),
+};
+
+impl Link {
+    /// The link to a cell, or null.
+    pub fn to(value: Option<Place>) -> Self
+        requires { ForSome value (λ place. place.0 < ARENA_LIMIT) }
+        ensures { place_at result.position ≡ value }
+    {
+        match value {
+            Some(place) => Link {
+                position: 64 * place.arena() + u32::from(place.slot()) + 1,
+            },
+            None => Link { position: 0 },
+        }
+    }
+
+    /// The cell that a link leads to.
+    pub fn place(self) -> Option<Place>
+        ensures { result ≡ place_at self.position }
+    {
+        if self.position == 0 {
+            return None;
+        }
+        let at = self.position - 1;
+        Place::new(at / 64, (at % 64) as u8)
+    }
+}
+
+/// How many fields a cell of a kind has.
+pub(crate) fn fields_of(kind: Kind) -> u8
+    ensures { result ≡ field_count kind }
+{
+    match kind {
+        Kind::Object(count) => count,
+        Kind::Map => 0,
+        Kind::Wrapper => 1,
+    }
+}
+
+impl Cell {
+    /// A cell whose fields are null.
+    pub fn new(kind: Kind, comp: CompNo, name: Name) -> Self
+        requires { field_count kind ≤ 8 }
+        ensures { state_of result ≡ record {
+          kind = kind;
+          comp = comp;
+          name = name;
+          fields = replicate (field_count kind) None;
+        } }
+    {
+        Cell {
+            name,
+            fields: [Link { position: 0 }; 8],
+            kind,
+            comp,
+        }
+    }
+
+    /// What a field holds.
+    pub fn field(&self, f: u8) -> Option<Place>
+        ensures { result ≡ field_of (state_of self.now) f }
+    {
+        match self.fields.get(f as usize) {
+            Some(link) if f < fields_of(self.kind) => link.place(),
+            _ => None,
+        }
+    }
+
+    /// A field takes a value.
+    pub fn set_field(&mut self, f: u8, value: Option<Place>)
+        requires field { f < length (state_of self.old).fields }
+        requires value { ForSome value (λ place. place.0 < ARENA_LIMIT) }
+        ensures { state_of self.new ≡ record (state_of self.old) {
+          fields = slice_set (state_of self.old).fields f value;
+        } }
+    {
+        self.fields[f as usize] = Link::to(value);
+    }
+}

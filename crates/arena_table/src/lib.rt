@@ -1,0 +1,54 @@
+// The arenas of all zones, and the cells in them.
+//
+// [gczone] Arenas
+//
+// An arena is 64 slots for cells of one zone (js/src/gc/Heap.h has arenas of 4,096 bytes; 64 cells
+// of one size are our choice). Arenas are numbered over all zones in the order in which they are
+// made, and are never given up. A cell's place, arena and slot, stays the same while it lives. What
+// marking and sweeping look at is kept apart from the cells (as mark bits are in Heap.h):
+//
+//     heads     [ 0 | 1 | 2 | .. ]    32 bytes an arena: the word of its allocated slots, its two
+//                                     words of mark bits, its zone, whether it is out
+//     chunks    [ 0 | 1 | 2 | .. ]    64 cells of 56 bytes: name, kind, compartment, 8 fields of
+//                                     four bytes
+//
+// A slot has a cell where its bit of the allocation word is set; what a free slot's memory holds says
+// nothing. So freeing the white cells of an arena is one step on a word:
+//
+//     alloc   1 1 0 1     taken in with freed 0 1 0 0:
+//     freed   0 1 0 0     alloc 1 0 0 1, the name of the second slot's cell is answered,
+//                         and the next cell of the zone goes into the second slot
+//
+// A new cell goes to the lowest free slot of its zone's lowest arena that has one and is not out,
+// else to slot 0 of a new arena. Lowest, so that the same commands and the same sweeping always give
+// the same places; and old arenas fill up before memory grows. To find it no arena is walked: each
+// zone has two sets of arenas, a bit an arena, with a word over each 64 words:
+//
+//     groups   . . 1 .                  which words are not 0
+//     words    [0][0][0 0 1 1 ..][0]    which arenas are in the set
+//
+//     owned    all arenas of the zone: walks over a zone's arenas go by it
+//     open     those that are not out and have a free slot: its lowest takes the next cell
+//
+// A cell is made in two steps. `reserve_place` takes all memory that it needs, or leaves the table as
+// it was, and keeps the place; `put_cell` then can't fail. In between come other reservations of the
+// heap, as room on the mark stack, and where one of them fails nothing was made. A kept place lasts
+// until the cell is put, or arenas go out or come in: what that would rule out is a cell put into an
+// arena that went out meanwhile, white and not among the slots that the job lists.
+//
+// `hand_out` makes the arenas of a sweep group's zones *out*. Their bits are in flight from then on
+// (cell_bits, `Flight`), and they take no cells, so an arena's allocation word is the same as it comes
+// back. `take_in` ends that, with the freed slots and the bits with every wake. It answers names and
+// takes no memory: the sets have a bit for the arena since it was made.
+#![tactic(auto)]
+
+mod arena_sets;
+mod arenas;
+mod cells;
+mod index;
+mod store;
+#[cfg(test)]
+mod tests;
+mod walk;
+
+pub use arenas::{Arenas, Jobs, Reserved};

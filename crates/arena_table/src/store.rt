@@ -1,0 +1,186 @@
+// Arenas as they are kept.
+ghost use Rattle.std.specs.Prelude.{◌≡◌, ◌≤◌, ◌<◌, ◌+◌, ◌++◌, ◌∷◌, ◌^◌, [], ℕ, Bool, true, false, IsSome, IsSomeAnd, IsTrue, Some, None, length, map, slice_get, slice_set, OnOk, OnErr};
+ghost use Rattle.std.specs.Option.{ForSome, option_map};
+ghost use Rattle.arena_table.specs.Slots.{at_bits};
+
+use crate::cells::{ARENA_LIMIT, Cell, NO_CELL};
+use cell_bits::Bits;
+use gz_names::{Names64, Place, ZoneNo};
+use std::alloc::{AllocError, Global};
+use std::marker::Model;
+
+/// An arena without its cells.
+#[derive(Drop)]
+pub(crate) struct Head {
+    /// The slots at which cells stand.
+    pub alloc_word: u64,
+    pub bits: Bits,
+    pub zone: ZoneNo,
+    pub is_out: bool,
+}
+
+/// All arenas by number: what marking and sweeping look at most is kept apart from the cells.
+#[derive(Drop)]
+pub(crate) struct Store {
+    heads: Vec<Head>,
+    chunks: Vec<[Cell; 64]>,
+}
+
+impl Model for Store {
+    ghost use Rattle.std.specs.Prelude.{◌-◌, min, vec_len, vec_capacity};
+    ghost use Rattle.arena_table.specs.Stored.{StoreState, AreStored, arenas_of};
+
+    ghost Value = { StoreState };
+
+    ghost view = { λ s. record {
+      arenas = arenas_of s.heads.items s.chunks.items;
+      room = min (vec_capacity s.heads) (vec_capacity s.chunks) - vec_len s.heads;
+    } };
+
+    ghost invariant = { λ s. AreStored s.heads.items s.chunks.items };
+}
+
+impl Store {
+    ghost use Rattle.arena_table.specs.Cells.{state_of};
+    ghost use Rattle.arena_table.specs.Slots.{Arena, IsWithin, alloc_word_of, names_of, empty_arena, change_at, cell_at, with_cell, with_field, with_bits, handed_out, taken_in};
+    ghost use Rattle.arena_table.specs.Stored.{StoreState, IsHeadOf};
+
+    /// No arenas. It takes no memory.
+    pub fn new(alloc: Global) -> Self
+        ensures { result.arenas ≡ [] }
+    {
+        Store {
+            heads: Vec::new(alloc),
+            chunks: Vec::new(alloc),
+        }
+    }
+
+    /// How many arenas there are.
+    pub fn len(&self) -> usize
+        ensures value { result ≡ length self.now.arenas }
+        ensures few { result ≤ ARENA_LIMIT }
+    {
+        self.heads.len()
+    }
+
+    /// Takes memory for one arena more.
+    pub fn reserve(&mut self) -> Result<(), AllocError>
+        ensures room { OnOk result (0 < self.new.room) }
+        ensures kept { self.old.room ≤ self.new.room }
+        ensures same { self.new.arenas ≡ self.old.arenas }
+    {
+        self.heads.reserve(1)?;
+        self.chunks.reserve(1)?;
+        Ok(())
+    }
+
+    /// Makes an arena for which there is room.
+    pub fn push(&mut self, zone: ZoneNo)
+        requires room { 0 < self.old.room }
+        requires few { length self.old.arenas < ARENA_LIMIT }
+        ensures { self.new.arenas ≡ self.old.arenas ++ empty_arena zone ∷ [] }
+    {
+        self.heads.push_reserved(Head {
+            alloc_word: 0,
+            bits: Bits { black: 0, gob: 0 },
+            zone,
+            is_out: false,
+        });
+        self.chunks.push_reserved([NO_CELL; 64]);
+    }
+
+    /// The cell at a place.
+    pub fn cell(&self, place: Place) -> &Cell
+        requires { IsSome (cell_at self.now.arenas place) }
+        ensures { cell_at self.now.arenas place ≡ Some (state_of result.now) }
+    {
+        &self.chunks[place.arena() as usize][place.slot() as usize]
+    }
+
+    /// An arena without its cells.
+    pub fn head(&self, arena: usize) -> &Head
+        requires { arena < length self.now.arenas }
+        ensures head { IsSomeAnd (slice_get self.now.arenas arena) (λ a. IsHeadOf a result.now) }
+        ensures few { arena < ARENA_LIMIT }
+    {
+        &self.heads[arena]
+    }
+
+    /// A cell is put into a slot.
+    pub fn put(&mut self, place: Place, cell: Cell)
+        requires { place.0 < length self.old.arenas }
+        ensures { self.new.arenas
+            ≡ change_at (with_cell place.1 (state_of cell)) self.old.arenas place.0 }
+    {
+        let arena = place.arena() as usize;
+        let slot = place.slot();
+        self.heads[arena].alloc_word |= 1 << slot;
+        self.chunks[arena][slot as usize] = cell;
+    }
+
+    /// A field of a cell takes a value.
+    pub fn set_field(&mut self, place: Place, f: u8, value: Option<Place>)
+        requires field { IsSomeAnd (cell_at self.old.arenas place) (λ cell. f < length cell.fields) }
+        requires value { ForSome value (λ p. p.0 < length self.old.arenas) }
+        ensures arenas { self.new.arenas
+            ≡ change_at (with_field place.1 f value) self.old.arenas place.0 }
+        ensures room { self.new.room ≡ self.old.room }
+    {
+        let cell = &mut self.chunks[place.arena() as usize][place.slot() as usize];
+        cell.set_field(f, value);
+    }
+
+    /// An arena takes mark bits.
+    pub fn set_bits(&mut self, arena: usize, bits: Bits)
+        requires { arena < length self.old.arenas }
+        ensures arenas { self.new.arenas ≡ change_at (with_bits bits) self.old.arenas arena }
+        ensures room { self.new.room ≡ self.old.room }
+    {
+        self.heads[arena].bits = bits;
+    }
+
+    /// An arena is handed to sweeping.
+    pub fn set_out(&mut self, arena: usize)
+        requires { arena < length self.old.arenas }
+        ensures arenas { self.new.arenas ≡ change_at handed_out self.old.arenas arena }
+        ensures room { self.new.room ≡ self.old.room }
+    {
+        self.heads[arena].is_out = true;
+    }
+
+    /// An arena comes back from sweeping, without the freed cells.
+    pub fn take_in(&mut self, arena: usize, freed: u64, bits: Bits)
+        requires { arena < length self.old.arenas }
+        ensures { self.new.arenas ≡ change_at (taken_in freed bits) self.old.arenas arena }
+    {
+        let head = &mut self.heads[arena];
+        head.alloc_word &= !freed;
+        head.bits = bits;
+        head.is_out = false;
+    }
+
+    /// The names of the cells at the slots of a word, in slot order.
+    pub fn names_at(&self, arena: usize, word: u64) -> Names64
+        requires made { arena < length self.now.arenas }
+        requires cells { IsSomeAnd (slice_get self.now.arenas arena)
+            (λ a. IsWithin word (alloc_word_of a.slots)) }
+        ensures { IsSomeAnd (slice_get self.now.arenas arena)
+            (λ a. result ≡ names_of (at_bits word a.slots)) }
+    {
+        names_of_cells(&self.chunks[arena], word)
+    }
+}
+
+// The names of the cells at the slots of a word.
+fn names_of_cells(cells: &[Cell], word: u64) -> Names64
+    requires { length cells.now ≡ 64 }
+    ensures { result ≡ map (λ c. c.name) (at_bits word cells.now) }
+{
+    let mut names = Names64::new();
+    let mut left = word;
+    while left != 0 {
+        names.push(cells[left.trailing_zeros() as usize].name);
+        left &= left - 1;
+    }
+    names
+}
