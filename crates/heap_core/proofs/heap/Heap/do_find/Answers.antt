@@ -1,0 +1,10 @@
+use Rattle.gz_names.specs.declared.commands.GraphCmd.TheVariants as cmd
+use Rattle.heap_core.proofs.Fetched.{does-taken}
+use Rattle.heap_core.proofs.Stepping.{still-sound}
+use Rattle.heap_core.proofs.heap.Heap.do_find.Goals as goal
+
+pub returns-clause-step : goal.returns-clause-step
+returns-clause-step c = does-taken c.args.self.now c.take.new.self (λ r. cmd.Find r c.args.m c.args.k) c.args.r c.found-found.result c.take.result c.found-found.ensures.step c.found-found.ensures.present c.take.ensures
+
+pub returns-clause-sound : goal.returns-clause-sound
+returns-clause-sound c = still-sound c.args.self.now c.take.new.self (cmd.Find c.args.r c.args.m c.args.k) c.take.result c.requires.sound (returns-clause-step c)

@@ -1,0 +1,8 @@
+use Rattle.std.proofs.Common.{◌≡◌, ◌∙◌, ap, is_some}
+use Rattle.heap_core.specs.Shape.{out_of}
+use Rattle.heap_core.specs.Heap.{HeapState}
+use Rattle.heap_core.proofs.Views.{is_out-seen}
+use Rattle.heap_core.proofs.heap.Heap.is_out.Goals as goal
+
+pub returns : goal.returns
+returns c = c.is_out.ensures ∙ is_out-seen c.self.inside.arenas.arenas c.args.arena ∙ ap (λ (h : HeapState). is_some (out_of h.shape c.args.arena)) c.self.view_is

@@ -1,0 +1,10 @@
+pub mod Shape
+pub mod Heap
+pub mod Shows
+pub mod Answers
+pub mod Changes
+pub mod Sweeping
+pub mod Blackening
+pub mod Lookups
+pub mod Effects
+pub mod Peeks

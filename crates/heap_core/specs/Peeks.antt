@@ -1,0 +1,87 @@
+-- What a command will overwrite or remove, and what it will hand to its register.
+use Rattle.std.specs.Prelude.{◌≡◌, ℕ, Option, Some, None, is_some, slice_get, option_and_then, if◌then◌else◌}
+use Rattle.gz_names.specs.declared.commands.GraphCmd.{GraphCmd}
+use Rattle.gz_names.specs.declared.commands.GraphCmd.TheVariants as cmd
+use Rattle.gz_names.specs.declared.numbers.CompNo.{CompNo}
+use Rattle.gz_names.specs.declared.numbers.Place.{Place}
+use Rattle.gz_names.specs.declared.replies.Refusal.{Refusal}
+use Rattle.colour_defs.specs.Graph.{GraphState}
+use Rattle.colour_defs.specs.Step.{step_of, refusal_in}
+use Rattle.heap_core.specs.Heap.{HeapState, reg_of, slot_of}
+use Rattle.heap_core.specs.Shows.{Shows}
+use Rattle.heap_core.specs.Lookups.{held_field, held_value, seen_from, target_at}
+
+-- what a command overwrites or removes: a field's value, or an entry's
+abbrev pub stored : HeapState → GraphCmd → Option Place
+stored h cmd.Zone = None
+stored h (cmd.Comp z) = None
+stored h (cmd.New r c n) = None
+stored h (cmd.Map r c) = None
+stored h (cmd.Get r s f) = None
+stored h (cmd.Set s f t) = held_field h s f
+stored h (cmd.Wrap r s c) = None
+stored h (cmd.Unwrap r s) = None
+stored h (cmd.Copy r s) = None
+stored h (cmd.Drop r) = None
+stored h (cmd.Hold g r) = None
+stored h (cmd.Release g) = None
+stored h (cmd.Expose r g) = None
+stored h (cmd.Put m k v) = held_value h m k
+stored h (cmd.Del m k) = held_value h m k
+stored h (cmd.Find r m k) = None
+
+-- the present cell that a command hands to its register
+abbrev pub handed : HeapState → GraphCmd → Option Place
+handed h cmd.Zone = None
+handed h (cmd.Comp z) = None
+handed h (cmd.New r c n) = None
+handed h (cmd.Map r c) = None
+handed h (cmd.Get r s f) = held_field h s f
+handed h (cmd.Set s f t) = None
+handed h (cmd.Wrap r s c) = option_and_then (λ p. seen_from h.shape c (target_at h.shape p)) (reg_of h s)
+handed h (cmd.Unwrap r s) = held_field h s 0
+handed h (cmd.Copy r s) = reg_of h s
+handed h (cmd.Drop r) = None
+handed h (cmd.Hold g r) = None
+handed h (cmd.Release g) = None
+handed h (cmd.Expose r g) = slot_of h g
+handed h (cmd.Put m k v) = None
+handed h (cmd.Del m k) = None
+handed h (cmd.Find r m k) = held_value h m k
+
+-- nothing, where a command is refused
+abbrev pub unless_refused : Option Refusal → Option Place → Option Place
+unless_refused None p = p
+unless_refused (Some why) p = None
+
+-- on each graph that the heap shows, this is the value that the command overwrites or removes
+abbrev pub IsOld : HeapState → GraphCmd → Option Place → Type 0
+IsOld h c p = (g : GraphState) → Shows h g → p ≡ unless_refused (refusal_in (step_of g c).1) (stored h c)
+
+-- and this the present cell that it hands to its register
+abbrev pub IsHanded : HeapState → GraphCmd → Option Place → Type 0
+IsHanded h c p = (g : GraphState) → Shows h g → p ≡ unless_refused (refusal_in (step_of g c).1) (handed h c)
+
+-- the zone of a new wrapper of a register's cell in a compartment; none where the compartment sees the cell already
+abbrev pub wrapped_in : HeapState → Option Place → CompNo → Option ℕ
+wrapped_in h None c = None
+wrapped_in h (Some p) c = if is_some (seen_from h.shape c (target_at h.shape p)) then None else slice_get h.shape.comps c.0
+
+-- the zone in which a command makes a cell, if it makes one
+abbrev pub made_in : HeapState → GraphCmd → Option ℕ
+made_in h cmd.Zone = None
+made_in h (cmd.Comp z) = None
+made_in h (cmd.New r c n) = slice_get h.shape.comps c.0
+made_in h (cmd.Map r c) = slice_get h.shape.comps c.0
+made_in h (cmd.Get r s f) = None
+made_in h (cmd.Set s f t) = None
+made_in h (cmd.Wrap r s c) = wrapped_in h (reg_of h s) c
+made_in h (cmd.Unwrap r s) = None
+made_in h (cmd.Copy r s) = None
+made_in h (cmd.Drop r) = None
+made_in h (cmd.Hold g r) = None
+made_in h (cmd.Release g) = None
+made_in h (cmd.Expose r g) = None
+made_in h (cmd.Put m k v) = None
+made_in h (cmd.Del m k) = None
+made_in h (cmd.Find r m k) = None

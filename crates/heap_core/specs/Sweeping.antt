@@ -1,0 +1,66 @@
+-- What sweeping and a group's beginning and end change in a heap.
+use Rattle.std.specs.Prelude.{◌≡◌, ℕ, suc, ◌==◌, true, List, [], ◌∷◌, Option, Some, None, Bool, false, ◌&&◌, is_none, slice_get, ◌+◌, slice_set, All, if◌then◌else◌}
+use Rattle.gz_names.specs.declared.numbers.Place.{Place}
+use Rattle.cell_bits.specs.declared.bits.Bits.{Bits}
+use Rattle.cell_bits.specs.declared.jobs.Job.{Job}
+use Rattle.arena_table.specs.Indexed.{in_zones}
+use Rattle.arena_table.specs.Slots.{Arena, alloc_word_of, change_at, held_in, without_freed}
+use Rattle.arena_table.specs.Table.{no_bits}
+use Rattle.heap_core.specs.Shape.{ArenaShape, Shape, arena_shapes, cell_in_arena, cell_of, is_white}
+use Rattle.heap_core.specs.Heap.{HeapState}
+
+-- no arena of these zones is handed to sweeping
+abbrev pub AreKept : ℕ → Shape → Type 0
+AreKept word s = All (λ (arena : ArenaShape). in_zones word arena.zone ≡ true → arena.out ≡ None) s.arenas
+
+-- the bits of all arenas, clear in those of these zones
+abbrev pub cleared : ℕ → List ArenaShape → List Bits → List Bits
+cleared word [] colours = []
+cleared word (arena ∷ arenas) [] = []
+cleared word (arena ∷ arenas) (bits ∷ colours) = (if in_zones word arena.zone then no_bits else bits) ∷ cleared word arenas colours
+
+abbrev pub with_clear : HeapState → ℕ → HeapState
+with_clear h word = record h { colours = cleared word h.shape.arenas h.colours }
+
+-- the arenas, those of these zones handed to sweeping with their bits
+abbrev pub handed : ℕ → List ArenaShape → List Bits → List ArenaShape
+handed word [] colours = []
+handed word (arena ∷ arenas) [] = []
+handed word (arena ∷ arenas) (bits ∷ colours) = (if in_zones word arena.zone then record arena { out = Some bits } else arena) ∷ handed word arenas colours
+
+abbrev pub with_handed : HeapState → ℕ → HeapState
+with_handed h word = record h { shape = record h.shape { arenas = handed word h.shape.arenas h.colours } }
+
+-- what is handed to sweeping, where the first arena of the list has the number n
+abbrev pub jobs_of : ℕ → ℕ → List ArenaShape → List Bits → List Job
+jobs_of word n [] colours = []
+jobs_of word n (arena ∷ arenas) [] = []
+jobs_of word n (arena ∷ arenas) (bits ∷ colours) =
+    if in_zones word arena.zone
+    then record { arena = n; alloc_word = alloc_word_of arena.slots; bits = bits } ∷ jobs_of word (suc n) arenas colours
+    else jobs_of word (suc n) arenas colours
+
+-- an arena comes back from sweeping without the cells of a word
+abbrev pub come_in : ℕ → ArenaShape → ArenaShape
+come_in freed arena = record arena { out = None; slots = without_freed freed arena.slots }
+
+abbrev pub with_taken : HeapState → ℕ → ℕ → Bits → HeapState
+with_taken h a freed bits = record h { shape = record h.shape { arenas = change_at (come_in freed) h.shape.arenas a }; colours = slice_set h.colours a bits }
+
+-- whether no present cell is at a place
+abbrev pub is_absent : Shape → Place → Bool
+is_absent s p = is_none (cell_of s p)
+
+-- the same, by the arenas as they are kept
+abbrev pub is_absent_in : List Arena → Place → Bool
+is_absent_in arenas p = is_none (cell_in_arena (slice_get (arena_shapes arenas) p.0) p.1)
+
+-- whether a slot was white as its arena was handed to sweeping
+abbrev pub is_lost_in : Option Arena → ℕ → Bool
+is_lost_in None slot = false
+is_lost_in (Some arena) slot = arena.is_out && is_white arena.bits slot
+
+-- how many cells there are in all arenas
+abbrev pub held_in_all : List ArenaShape → ℕ
+held_in_all [] = 0
+held_in_all (arena ∷ arenas) = held_in arena.slots + held_in_all arenas

@@ -1,0 +1,319 @@
+// Commands of any kind.
+ghost use Rattle.std.specs.Prelude.{◌≡◌, ◌≤◌, ◌<◌, ◌+◌, Err, IsSome, OnErr, OnOk, false, true};
+ghost use Rattle.gz_names.specs.declared.replies.CmdFault.TheVariants as fault;
+ghost use Rattle.colour_defs.specs.Step.{HasFewFields};
+ghost use Rattle.heap_core.specs.Answers.{DoesStep, IsSound};
+ghost use Rattle.heap_core.specs.Effects.{Changes, HasRoom, takes_memory};
+ghost use Rattle.heap_core.specs.Peeks.{handed};
+
+use crate::heap::Heap;
+use gz_names::{CmdFault, GraphCmd, Reply};
+
+impl Heap {
+    /// Does a command on the graph; see the method of its word.
+    pub fn do_command(&mut self, cmd: &GraphCmd) -> Result<Reply, CmdFault>
+        requires sound { IsSound self.old }
+        requires few { HasRoom self.old cmd.now }
+        requires fields { HasFewFields cmd.now }
+        ensures step { DoesStep self.old cmd.now result self.new }
+        ensures change { OnOk result (Changes self.old cmd.now self.new) }
+        ensures err { OnErr result (self.new ≡ self.old) }
+        ensures sound { IsSound self.new }
+        ensures sure { takes_memory cmd.now ≡ false → result ≡ Err fault.NoMemory → ⊥ }
+        ensures seen { IsSome (handed self.old cmd.now) → result ≡ Err fault.NoMemory → ⊥ }
+        ensures made { self.new.made ≤ self.old.made + 1 }
+    {
+        match cmd {
+            GraphCmd::Zone => self.do_zone(),
+            GraphCmd::Comp(z) => self.do_comp(*z),
+            GraphCmd::New(r, c, n) => self.do_new(*r, *c, *n),
+            GraphCmd::Map(r, c) => self.do_map(*r, *c),
+            GraphCmd::Get(r, s, f) => self.do_get(*r, *s, *f),
+            GraphCmd::Set(s, f, t) => self.do_set(*s, *f, *t),
+            GraphCmd::Wrap(r, s, c) => self.do_wrap(*r, *s, *c),
+            GraphCmd::Unwrap(r, s) => self.do_unwrap(*r, *s),
+            GraphCmd::Copy(r, s) => self.do_copy(*r, *s),
+            GraphCmd::Drop(r) => self.do_drop(*r),
+            GraphCmd::Hold(g, r) => self.do_hold(*g, *r),
+            GraphCmd::Release(g) => self.do_release(*g),
+            GraphCmd::Expose(r, g) => self.do_expose(*r, *g),
+            GraphCmd::Put(m, k, v) => self.do_put(*m, *k, *v),
+            GraphCmd::Del(m, k) => self.do_del(*m, *k),
+            GraphCmd::Find(r, m, k) => self.do_find(*r, *m, *k),
+        }
+    }
+}
+
+#[cfg(test)]
+mod tests {
+    use super::*;
+    use gz_names::{CompNo, GrayNo, Name, Refusal, Reg, ZoneNo};
+    use std::test::Fail;
+
+    // The words of a trace; `Clear` is `set` with null.
+    #[derive(Clone, Copy)]
+    enum Word {
+        Zone,
+        Comp,
+        New,
+        Map,
+        Get,
+        Set,
+        Clear,
+        Wrap,
+        Unwrap,
+        Copy,
+        Drop,
+        Hold,
+        Release,
+        Expose,
+        Put,
+        Del,
+        Find,
+    }
+
+    // A reply, without the lists that no command on the graph answers.
+    #[derive(Clone, Copy, Debug, PartialEq, Eq)]
+    enum Answer {
+        Zone(u8),
+        Comp(u8),
+        Made(u64),
+        Named(Name),
+        Null,
+        Accepted,
+        Absent,
+        Refused(Refusal),
+        Other,
+    }
+
+    const EMPTY: Answer = Answer::Refused(Refusal::Empty);
+
+    const KIND: Answer = Answer::Refused(Refusal::Kind);
+
+    const CROSS: Answer = Answer::Refused(Refusal::Cross);
+
+    const FULL: Answer = Answer::Refused(Refusal::Full);
+
+    // A line of a trace: its word, the numbers that follow it, and the answer.
+    type Line = (Word, u8, u8, u8, Answer);
+
+    const REFUSALS: [Line; 26] = [
+        (Word::Zone, 0, 0, 0, Answer::Zone(0)),
+        (Word::Comp, 0, 0, 0, Answer::Comp(0)),
+        (Word::Get, 0, 1, 0, EMPTY),
+        (Word::New, 0, 0, 1, Answer::Made(0)),
+        (Word::Get, 1, 0, 1, Answer::Refused(Refusal::NoField)),
+        (Word::Get, 1, 0, 0, Answer::Null),
+        (Word::Map, 2, 0, 0, Answer::Made(1)),
+        (Word::Set, 2, 0, 0, KIND),
+        (Word::Put, 2, 0, 0, Answer::Accepted),
+        (Word::Find, 3, 2, 0, Answer::Named(Name::Cell(0))),
+        (Word::Del, 2, 0, 0, Answer::Accepted),
+        (Word::Del, 2, 0, 0, Answer::Absent),
+        (Word::Find, 3, 2, 0, Answer::Null),
+        (Word::New, 4, 1, 0, Answer::Refused(Refusal::NoComp)),
+        (Word::Comp, 1, 0, 0, Answer::Refused(Refusal::NoZone)),
+        (Word::Unwrap, 5, 0, 0, KIND),
+        (Word::Zone, 0, 0, 0, Answer::Zone(1)),
+        (Word::Comp, 1, 0, 0, Answer::Comp(1)),
+        (Word::New, 6, 1, 1, Answer::Made(2)),
+        (Word::Set, 6, 0, 0, CROSS),
+        (Word::Wrap, 7, 0, 1, Answer::Named(Name::Wrap(CompNo(1), 0))),
+        (Word::Set, 6, 0, 7, Answer::Accepted),
+        (Word::Map, 8, 1, 0, Answer::Made(3)),
+        (Word::Put, 8, 7, 6, Answer::Refused(Refusal::WrapperKey)),
+        (Word::Put, 8, 0, 6, CROSS),
+        (Word::Wrap, 9, 7, 0, Answer::Named(Name::Cell(0))),
+    ];
+
+    // Two zones, the second with two compartments.
+    const WRAPPERS: [Line; 33] = [
+        (Word::Zone, 0, 0, 0, Answer::Zone(0)),
+        (Word::Zone, 0, 0, 0, Answer::Zone(1)),
+        (Word::Comp, 0, 0, 0, Answer::Comp(0)),
+        (Word::Comp, 1, 0, 0, Answer::Comp(1)),
+        (Word::Comp, 1, 0, 0, Answer::Comp(2)),
+        (Word::New, 0, 0, 2, Answer::Made(0)),
+        (Word::New, 1, 1, 2, Answer::Made(1)),
+        (Word::New, 2, 2, 0, Answer::Made(2)),
+        (Word::Set, 1, 0, 2, CROSS),
+        (Word::Set, 1, 0, 0, CROSS),
+        (Word::Wrap, 3, 2, 1, Answer::Named(Name::Wrap(CompNo(1), 2))),
+        (Word::Set, 1, 0, 3, Answer::Accepted),
+        (Word::Wrap, 4, 0, 1, Answer::Named(Name::Wrap(CompNo(1), 0))),
+        (Word::Set, 1, 1, 4, Answer::Accepted),
+        (Word::Get, 5, 1, 1, Answer::Named(Name::Wrap(CompNo(1), 0))),
+        (Word::Unwrap, 6, 5, 0, Answer::Named(Name::Cell(0))),
+        (Word::Wrap, 7, 5, 2, Answer::Named(Name::Wrap(CompNo(2), 0))),
+        (Word::Wrap, 8, 7, 0, Answer::Named(Name::Cell(0))),
+        (Word::Wrap, 9, 7, 1, Answer::Named(Name::Wrap(CompNo(1), 0))),
+        (Word::Hold, 0, 4, 0, Answer::Accepted),
+        (Word::Drop, 4, 0, 0, Answer::Accepted),
+        (
+            Word::Expose,
+            10,
+            0,
+            0,
+            Answer::Named(Name::Wrap(CompNo(1), 0)),
+        ),
+        (Word::Release, 0, 0, 0, Answer::Accepted),
+        (Word::Expose, 10, 0, 0, Answer::Null),
+        (Word::Map, 11, 1, 0, Answer::Made(3)),
+        (Word::Put, 11, 1, 3, Answer::Accepted),
+        (Word::Put, 11, 1, 2, CROSS),
+        (
+            Word::Find,
+            12,
+            11,
+            1,
+            Answer::Named(Name::Wrap(CompNo(1), 2)),
+        ),
+        (Word::Put, 11, 1, 1, Answer::Accepted),
+        (Word::Find, 12, 11, 1, Answer::Named(Name::Cell(1))),
+        (Word::Copy, 13, 12, 0, Answer::Accepted),
+        (Word::Clear, 13, 1, 0, Answer::Accepted),
+        (Word::Get, 14, 1, 1, Answer::Null),
+    ];
+
+    const ENTRIES: [Line; 6] = [
+        (Word::Zone, 0, 0, 0, Answer::Zone(0)),
+        (Word::Comp, 0, 0, 0, Answer::Comp(0)),
+        (Word::New, 0, 0, 1, Answer::Made(0)),
+        (Word::Set, 0, 0, 0, Answer::Accepted),
+        (Word::Map, 1, 0, 0, Answer::Made(1)),
+        (Word::Put, 1, 0, 1, Answer::Accepted),
+    ];
+
+    fn reg(index: u8) -> Reg {
+        Reg::new(index % 16).unwrap()
+    }
+
+    fn zone(index: u8) -> ZoneNo {
+        ZoneNo::new(index % 64).unwrap()
+    }
+
+    fn slot(index: u8) -> GrayNo {
+        GrayNo::new(index % 64).unwrap()
+    }
+
+    fn command(word: Word, a: u8, b: u8, c: u8) -> GraphCmd
+        ensures { HasFewFields result }
+    {
+        match word {
+            Word::Zone => GraphCmd::Zone,
+            Word::Comp => GraphCmd::Comp(zone(a)),
+            Word::New => GraphCmd::New(reg(a), CompNo(b), c % 8),
+            Word::Map => GraphCmd::Map(reg(a), CompNo(b)),
+            Word::Get => GraphCmd::Get(reg(a), reg(b), c),
+            Word::Set => GraphCmd::Set(reg(a), b, Some(reg(c))),
+            Word::Clear => GraphCmd::Set(reg(a), b, None),
+            Word::Wrap => GraphCmd::Wrap(reg(a), reg(b), CompNo(c)),
+            Word::Unwrap => GraphCmd::Unwrap(reg(a), reg(b)),
+            Word::Copy => GraphCmd::Copy(reg(a), reg(b)),
+            Word::Drop => GraphCmd::Drop(reg(a)),
+            Word::Hold => GraphCmd::Hold(slot(a), reg(b)),
+            Word::Release => GraphCmd::Release(slot(a)),
+            Word::Expose => GraphCmd::Expose(reg(a), slot(b)),
+            Word::Put => GraphCmd::Put(reg(a), reg(b), reg(c)),
+            Word::Del => GraphCmd::Del(reg(a), reg(b)),
+            Word::Find => GraphCmd::Find(reg(a), reg(b), reg(c)),
+        }
+    }
+
+    // What the heap answers to a command.
+    fn answer_of(heap: &mut Heap, cmd: &GraphCmd) -> Answer
+        requires sound { IsSound heap.old }
+        requires fields { HasFewFields cmd.now }
+        ensures { IsSound heap.new }
+    {
+        if heap.made() >= 4294967295 {
+            return Answer::Other;
+        }
+        match heap.do_command(cmd) {
+            Ok(reply) => answer_in(&reply),
+            Err(CmdFault::Refused(why)) => Answer::Refused(why),
+            Err(CmdFault::NoMemory) => Answer::Other,
+        }
+    }
+
+    fn answer_in(reply: &Reply) -> Answer {
+        match reply {
+            Reply::Zone(zone) => Answer::Zone(zone.index()),
+            Reply::Comp(comp) => Answer::Comp(comp.0),
+            Reply::Made(number) => Answer::Made(*number),
+            Reply::Named(name) => Answer::Named(*name),
+            Reply::Null => Answer::Null,
+            Reply::Accepted => Answer::Accepted,
+            Reply::Absent => Answer::Absent,
+            _ => Answer::Other,
+        }
+    }
+
+    // The first line that is answered otherwise, by its place, and its answer.
+    fn first_wrong(heap: &mut Heap, lines: &[Line]) -> Option<(usize, Answer)>
+        requires { IsSound heap.old }
+        ensures { IsSound heap.new }
+    {
+        for (place, line) in lines.iter().enumerate() {
+            let answer = answer_of(heap, &command(line.0, line.1, line.2, line.3));
+            if answer != line.4 {
+                return Some((place, answer));
+            }
+        }
+        None
+    }
+
+    // How often a command is done before it is refused, up to 999 times.
+    fn times_done(heap: &mut Heap, cmd: &GraphCmd) -> u16
+        requires sound { IsSound heap.old }
+        requires fields { HasFewFields cmd.now }
+        ensures { IsSound heap.new }
+    {
+        for times in 0..999 {
+            if let Answer::Refused(_) = answer_of(heap, cmd) {
+                return times;
+            }
+        }
+        999
+    }
+
+    #[test]
+    fn refuses_in_order(rt: HostRuntime) -> Result<(), Fail> {
+        let mut heap = Heap::new(rt.alloc())?;
+        assert_eq!(rt; first_wrong(&mut heap, REFUSALS.as_slice()), None);
+        Ok(())
+    }
+
+    #[test]
+    fn sees_other_compartments_through_wrappers(rt: HostRuntime) -> Result<(), Fail> {
+        let mut heap = Heap::new(rt.alloc())?;
+        assert_eq!(rt; first_wrong(&mut heap, WRAPPERS.as_slice()), None);
+        Ok(())
+    }
+
+    #[test]
+    fn makes_64_zones_and_256_compartments(rt: HostRuntime) -> Result<(), Fail> {
+        let mut heap = Heap::new(rt.alloc())?;
+        assert_eq!(rt; times_done(&mut heap, &GraphCmd::Zone), 64);
+        assert_eq!(rt; answer_of(&mut heap, &GraphCmd::Zone), FULL);
+        assert_eq!(rt; times_done(&mut heap, &GraphCmd::Comp(zone(63))), 256);
+        assert_eq!(rt; answer_of(&mut heap, &GraphCmd::Comp(zone(0))), FULL);
+        Ok(())
+    }
+
+    #[test]
+    fn tells_what_a_command_changes_and_hands_out(rt: HostRuntime) -> Result<(), Fail> {
+        let mut heap = Heap::new(rt.alloc())?;
+        assert_eq!(rt; first_wrong(&mut heap, ENTRIES.as_slice()), None);
+        let (object, map) = (heap.reg(reg(0)), heap.reg(reg(1)));
+        assert_eq!(rt; heap.old_of(&GraphCmd::Set(reg(0), 0, None)), object);
+        assert_eq!(rt; heap.old_of(&GraphCmd::Set(reg(0), 1, None)), None);
+        assert_eq!(rt; heap.old_of(&GraphCmd::Put(reg(1), reg(0), reg(0))), map);
+        assert_eq!(rt; heap.handed_by(&GraphCmd::Get(reg(2), reg(0), 0)), object);
+        assert_eq!(rt;
+            heap.handed_by(&GraphCmd::Find(reg(2), reg(1), reg(0))),
+            map
+        );
+        Ok(())
+    }
+}

@@ -1,0 +1,619 @@
+// The heap of all zones, and what the crates above use of its parts.
+ghost use Rattle.std.specs.Prelude.{◌≡◌, ◌≢◌, ◌<◌, ◌≤◌, ◌+◌, ◌++◌, ◌∷◌, ◌↔◌, ◌==◌, ◌&&◌, [], ℕ, Bool, true, false, None, Some, length, replicate, slice_get, slice_set, slice_index_or, is_some, if◌then◌else◌, IfOk, IfSome, IfNone, IsSome, IsSomeAnd, OnOk, OnErr, Contains, Err, All};
+ghost use Rattle.cell_bits.specs.declared.bits.Colour.TheVariants as colour;
+ghost use Rattle.gz_names.specs.declared.numbers.Place.{Place as APlace};
+ghost use Rattle.std.specs.Int.{bit_at};
+ghost use Rattle.std.specs.Option.{ForSome, option_map};
+ghost use Rattle.gz_names.specs.Zones.{HasZone};
+ghost use Rattle.zones.specs.States.{next_state, IsMarking};
+ghost use Rattle.zones.specs.declared.states.State.{State as AState};
+ghost use Rattle.arena_table.specs.Cells.{field_count};
+ghost use Rattle.arena_table.specs.Table.{new_cell};
+ghost use Rattle.heap_core.specs.Shape.{Shape, IsPresent, is_white, cell_of, field_at, out_of, zone_of};
+ghost use Rattle.heap_core.specs.Heap.{HeapState, colour_of, reg_of, slot_of, with_reg, with_slot};
+ghost use Rattle.heap_core.specs.Changes.{Makes, MakesWrapper, Writes, next_place, with_comp, with_entry, with_number, with_zone, without_entry, wrapper_cell};
+ghost use Rattle.heap_core.specs.Blackening.{Blackens};
+ghost use Rattle.heap_core.specs.Sweeping.{AreKept, held_in_all, is_absent, is_absent_in, is_lost_in, jobs_of, with_clear, with_handed, with_taken};
+ghost use Rattle.arena_table.specs.Slots.{IsWithin, alloc_word_of, at_bits, cell_at, names_of};
+ghost use Rattle.wrappers.specs.WrapperMaps.{AreApart, list_of, place_of, without_dead};
+ghost use Rattle.weak_maps.specs.Lists.{is_same};
+ghost use Rattle.weak_maps.specs.WeakMaps.{IsSound as AreEntries, IsWithoutDead, listed_of_key, listed_of_map, parts, value_of};
+ghost use Rattle.roots.specs.Buffers.{buffer_at, places_in, put_all, put_at};
+ghost use Rattle.gz_names.specs.declared.names.Name.TheVariants.{Cell as ACell, Wrap as AWrap};
+ghost use Rattle.gz_names.specs.declared.commands.Kind.TheVariants as kind;
+
+use crate::steps::Steps;
+use arena_table::{Arenas, Jobs};
+use cell_bits::{Bits, Colour};
+use gz_names::{COMP_LIMIT, CompNo, GrayNo, Kind, Name, Names64, NoMemory, Place, Reg, ZONE_LIMIT, ZoneNo, ZoneSet};
+use roots::Roots;
+use std::alloc::{AllocError, Global};
+use std::marker::Model;
+use std::sync::ledger::Ledger;
+use weak_maps::WeakMaps;
+use wrappers::Wrappers;
+use zones::{CompFault, State, ZoneFault, Zones};
+
+/// The cells of all zones, and what holds them.
+#[derive(Drop)]
+pub struct Heap {
+    arenas: Arenas,
+    zones: Zones,
+    wrappers: Wrappers,
+    roots: Roots,
+    weak: WeakMaps,
+    // How many objects and maps were made: the number of the next.
+    objects: u64,
+}
+
+impl Model for Heap {
+    ghost use Rattle.heap_core.specs.Shape.{arena_shapes};
+    ghost use Rattle.heap_core.specs.Heap.{HeapState, bits_of};
+
+    ghost Value = { HeapState };
+
+    ghost view = { λ h. record {
+      shape = record {
+        arenas = arena_shapes h.arenas.arenas;
+        states = h.zones.states;
+        comps = h.zones.comps;
+        wrappers = h.wrappers;
+        weak = h.weak;
+        regs = h.roots.regs;
+        slots = h.roots.slots;
+        objects = h.objects;
+      };
+      colours = bits_of h.arenas.arenas;
+      buffers = h.roots.buffers;
+      made = h.arenas.made;
+    } };
+}
+
+impl Heap {
+    ghost use Rattle.heap_core.specs.Heap.{HeapState, IsEmpty};
+    ghost use Rattle.heap_core.specs.Answers.{IsSound};
+
+    /// A heap with nothing in it.
+    pub fn new(alloc: Global) -> Result<Self, NoMemory>
+        ensures empty { IfOk result IsEmpty }
+        ensures sound { IfOk result IsSound }
+    {
+        Ok(Heap {
+            arenas: Arenas::new(alloc)?,
+            zones: Zones::new(alloc),
+            wrappers: Wrappers::new(alloc)?,
+            roots: Roots::new(alloc)?,
+            weak: WeakMaps::new(alloc),
+            objects: 0,
+        })
+    }
+
+    /// The kind of a present cell.
+    pub fn kind(&self, place: Place) -> Kind
+        requires { IsPresent self.now.shape place }
+        ensures { option_map (λ c. c.kind) (cell_of self.now.shape place) ≡ Some result }
+    {
+        self.arenas.kind(place)
+    }
+
+    /// The compartment of a present cell.
+    pub fn comp(&self, place: Place) -> CompNo
+        requires { IsPresent self.now.shape place }
+        ensures { option_map (λ c. c.comp) (cell_of self.now.shape place) ≡ Some result }
+    {
+        self.arenas.comp(place)
+    }
+
+    /// The name of a present cell.
+    pub fn name(&self, place: Place) -> Name
+        requires { IsPresent self.now.shape place }
+        ensures { option_map (λ c. c.name) (cell_of self.now.shape place) ≡ Some result }
+    {
+        self.arenas.name(place)
+    }
+
+    /// The i-th edge of a present cell: what its field of this number holds; `None` exactly where
+    /// that is null or there is no such field. It is the only way to an edge, and counts itself.
+    pub fn reached_by<L: Ledger>(&self, place: Place, i: u8, steps: &mut Steps<L>) -> Option<Place>
+        requires { IsPresent self.now.shape place }
+        ensures edge { result ≡ field_at self.now.shape place i }
+        ensures steps { steps.new ≡ steps.old + 1 }
+    {
+        steps.tick();
+        self.arenas.field(place, i)
+    }
+
+    /// What a register holds.
+    pub fn reg(&self, r: Reg) -> Option<Place>
+        ensures value { result ≡ reg_of self.now r }
+        ensures held { slice_get self.now.shape.regs r ≡ Some result }
+    {
+        self.roots.reg(r)
+    }
+
+    /// What a gray slot holds.
+    pub fn slot(&self, g: GrayNo) -> Option<Place>
+        ensures value { result ≡ slot_of self.now g }
+        ensures held { slice_get self.now.shape.slots g ≡ Some result }
+    {
+        self.roots.slot(g)
+    }
+
+    /// How many cells were ever made.
+    pub fn made(&self) -> u64
+        ensures { result ≡ self.now.made }
+    {
+        self.arenas.made()
+    }
+
+    /// How many arenas were made.
+    pub fn arenas(&self) -> u32
+        ensures { result ≡ length self.now.shape.arenas }
+    {
+        self.arenas.arenas()
+    }
+
+    /// The zone of an arena, if it was made.
+    pub fn owner(&self, arena: u32) -> Option<ZoneNo>
+        ensures { result ≡ option_map (λ a. a.zone) (slice_get self.now.shape.arenas arena) }
+    {
+        self.arenas.owner(arena)
+    }
+
+    /// Whether an arena is handed to sweeping.
+    pub fn is_out(&self, arena: u32) -> bool
+        ensures { result ≡ is_some (out_of self.now.shape arena) }
+    {
+        self.arenas.is_out(arena)
+    }
+
+    /// The mark bits of an arena.
+    pub fn bits(&self, arena: u32) -> Bits
+        requires { arena < length self.now.colours }
+        ensures { slice_get self.now.colours arena ≡ Some result }
+    {
+        self.arenas.bits(arena)
+    }
+
+    /// An arena that is not handed to sweeping takes mark bits.
+    pub fn set_bits(&mut self, arena: u32, bits: Bits)
+        requires made { arena < length self.old.shape.arenas }
+        requires kept { out_of self.old.shape arena ≡ None }
+        ensures { self.new ≡ record self.old {
+          colours = slice_set self.old.colours arena bits;
+        } }
+    {
+        self.arenas.set_bits(arena, bits);
+    }
+
+    /// Whether the next cell of a zone comes into a new arena.
+    pub fn is_full(&self, zone: ZoneNo) -> bool
+        ensures { result
+            ≡ ((next_place self.now.shape zone).0 == length self.now.shape.arenas) }
+    {
+        self.arenas.is_full(zone)
+    }
+
+    /// How many zones are made.
+    pub fn zones(&self) -> u8
+        ensures { result ≡ length self.now.shape.states }
+    {
+        self.zones.zones()
+    }
+
+    /// How many compartments are made.
+    pub fn comps(&self) -> u16
+        ensures value { result ≡ length self.now.shape.comps }
+        ensures homes { All (λ zone. zone < length self.now.shape.states) self.now.shape.comps }
+    {
+        self.zones.comps()
+    }
+
+    /// The zone of a compartment.
+    pub fn zone_of(&self, comp: CompNo) -> ZoneNo
+        requires { comp.0 < length self.now.shape.comps }
+        ensures { slice_get self.now.shape.comps comp.0 ≡ Some result }
+    {
+        self.zones.zone_of(comp)
+    }
+
+    /// The state of a zone.
+    pub fn state(&self, zone: ZoneNo) -> State
+        requires { zone < length self.now.shape.states }
+        ensures { slice_get self.now.shape.states zone ≡ Some result }
+    {
+        self.zones.state(zone)
+    }
+
+    /// The zones that are in a state.
+    pub fn in_state(&self, state: State) -> ZoneSet
+        ensures { (z : ℕ) → HasZone result.bits z
+            ↔ (slice_get self.now.shape.states z ≡ Some state) }
+    {
+        self.zones.in_state(state)
+    }
+
+    /// The zones that are marking.
+    pub fn marking(&self) -> ZoneSet
+        ensures { (z : ℕ) → HasZone result.bits z
+            ↔ IsSomeAnd (slice_get self.now.shape.states z) IsMarking }
+    {
+        self.zones.marking()
+    }
+
+    /// Takes a zone on to the state that follows its own.
+    pub fn advance(&mut self, zone: ZoneNo)
+        requires { zone < length self.old.shape.states }
+        ensures { IsSomeAnd (slice_get self.old.shape.states zone)
+            (λ s. self.new ≡ record self.old { shape = record self.old.shape {
+              states = slice_set self.old.shape.states zone (next_state s);
+            } }) }
+    {
+        self.zones.advance(zone);
+    }
+
+    /// The place of the wrapper of a target in a compartment, if there is one.
+    pub fn find_wrapper(&self, comp: CompNo, target: u64) -> Option<Place>
+        ensures { result ≡ place_of self.now.shape.wrappers comp.0 target }
+    {
+        self.wrappers.find(comp, target)
+    }
+
+    /// The next wrapper of a zone, by a cursor that begins at 0; see `Wrappers::next_of`.
+    pub fn next_of(&self, zone: ZoneNo, cursor: &mut u64) -> Option<Place>
+        ensures place { result ≡ option_map (λ entry. entry.1)
+            (slice_get (list_of self.now.shape.wrappers zone) cursor.old) }
+        ensures cursor { cursor.new ≡ (if is_some result then cursor.old + 1 else cursor.old) }
+        ensures apart { AreApart self.now.shape.wrappers.lists }
+    {
+        self.wrappers.next_of(zone, cursor)
+    }
+
+    /// Puts the cells of gray slots and the gray wrappers into the buffers of the zones that they
+    /// are given with. All memory is taken before anything is put in.
+    pub fn buffer_gray(
+        &mut self,
+        slots: &[(ZoneNo, Place)],
+        wrappers: &[(ZoneNo, Place)],
+    ) -> Result<(), NoMemory>
+        ensures ok { OnOk result (self.new ≡ record self.old {
+          buffers = put_all (put_all self.old.buffers slots.now) wrappers.now;
+        }) }
+        ensures err { OnErr result (self.new ≡ self.old) }
+    {
+        self.roots.buffer_gray(slots, wrappers)
+    }
+
+    /// Takes a place out of a zone's buffer.
+    pub fn next_buffered(&mut self, zone: ZoneNo) -> Option<Place>
+        ensures some { IfSome result (λ place. self.old
+            ≡ record self.new { buffers = put_at self.new.buffers zone place }) }
+        ensures none { IfNone result ((buffer_at self.old.buffers zone ≡ [])
+            × (self.new ≡ self.old)) }
+    {
+        self.roots.next_buffered(zone)
+    }
+
+    /// The zones whose buffers hold something.
+    pub fn waiting(&self) -> ZoneSet
+        ensures waiting { (z : ℕ) → HasZone result.bits z ↔ (buffer_at self.now.buffers z ≢ []) }
+        ensures idle { (z : ℕ) → (HasZone result.bits z → ⊥)
+            → buffer_at self.now.buffers z ≡ [] }
+    {
+        self.roots.waiting()
+    }
+
+    /// The slots of an arena at which cells stand.
+    pub fn alloc_word(&self, arena: u32) -> u64
+        requires { arena < length self.now.shape.arenas }
+        ensures { option_map (λ a. alloc_word_of a.slots)
+            (slice_get self.now.shape.arenas arena) ≡ Some result }
+    {
+        self.arenas.alloc_word(arena)
+    }
+
+    /// Clears the mark bits of all arenas of these zones.
+    pub fn clear_bits(&mut self, zones: ZoneSet)
+        requires { AreKept zones.bits self.old.shape }
+        ensures { self.new ≡ with_clear self.old zones.bits }
+    {
+        self.arenas.clear_bits(zones);
+    }
+
+    /// Hands all arenas of these zones to sweeping: their white cells are not present any more.
+    pub fn hand_out(&mut self, alloc: Global, zones: ZoneSet) -> Result<Jobs, NoMemory>
+        requires { AreKept zones.bits self.old.shape }
+        ensures jobs { IfOk result
+            (λ jobs. jobs ≡ jobs_of zones.bits 0 self.old.shape.arenas self.old.colours) }
+        ensures ok { OnOk result (self.new ≡ with_handed self.old zones.bits) }
+        ensures err { OnErr result (self.new ≡ self.old) }
+    {
+        self.arenas.hand_out(alloc, zones)
+    }
+
+    /// Takes an arena back from sweeping, without its freed cells, whose names are answered in slot
+    /// order. It takes no memory.
+    pub fn take_in(&mut self, arena: u32, freed: u64, bits: Bits) -> Names64
+        requires out { is_some (out_of self.old.shape arena) ≡ true }
+        requires within { IsSomeAnd (slice_get self.old.shape.arenas arena)
+            (λ a. IsWithin freed (alloc_word_of a.slots)) }
+        ensures names { IsSomeAnd (slice_get self.old.shape.arenas arena)
+            (λ a. result ≡ names_of (at_bits freed a.slots)) }
+        ensures state { self.new ≡ with_taken self.old arena freed bits }
+    {
+        self.arenas.take_in(arena, freed, bits)
+    }
+
+    /// How many weak entries there are.
+    pub fn entries(&self) -> u64
+        ensures { result ≡ length self.now.shape.weak.entries }
+    {
+        self.weak.count()
+    }
+
+    /// Drops the wrappers of these zones, and the weak entries, that name a cell which is not
+    /// present any more. It walks the wrapper maps of these zones and the entries, and takes no
+    /// memory.
+    pub fn drop_dead(&mut self, zones: ZoneSet)
+        ensures rest { self.new ≡ record self.old { shape = record self.old.shape {
+          wrappers = self.new.shape.wrappers;
+          weak = self.new.shape.weak;
+        } } }
+        ensures wrappers { (z : ℕ) → list_of self.new.shape.wrappers z
+            ≡ without_dead (bit_at zones.bits z) (is_absent self.old.shape)
+            (list_of self.old.shape.wrappers z) }
+        ensures entries { IsWithoutDead (is_absent self.old.shape) self.old.shape.weak
+            self.new.shape.weak }
+    {
+        let arenas = &self.arenas;
+        self.wrappers
+            .drop_dead(zones, |place: Place| is_dead(arenas, place));
+        self.weak.drop_dead(|place: Place| is_dead(arenas, place));
+    }
+
+    /// How many cells there are, those included that are not swept yet.
+    pub fn count(&self) -> u64
+        ensures { result ≡ held_in_all self.now.shape.arenas }
+    {
+        self.arenas.count()
+    }
+
+    // Makes the next zone.
+    pub(crate) fn add_zone(&mut self) -> Result<ZoneNo, ZoneFault>
+        ensures number { IfOk result (λ z. z ≡ length self.old.shape.states) }
+        ensures made { IfOk result (λ _. self.new ≡ with_zone self.old) }
+        ensures full { (result ≡ Err ZoneFault.Full)
+            ↔ (length self.old.shape.states ≡ ZONE_LIMIT) }
+        ensures most { length self.old.shape.states ≤ ZONE_LIMIT }
+        ensures err { OnErr result (self.new ≡ self.old) }
+    {
+        self.zones.add_zone()
+    }
+
+    // Makes the next compartment, in a zone.
+    pub(crate) fn add_comp(&mut self, zone: ZoneNo) -> Result<CompNo, CompFault>
+        ensures number { IfOk result (λ c. c.0 ≡ length self.old.shape.comps) }
+        ensures made { IfOk result (λ _. self.new ≡ with_comp self.old zone) }
+        ensures no_zone { (result ≡ Err CompFault.NoZone)
+            ↔ (length self.old.shape.states ≤ zone) }
+        ensures full { (result ≡ Err CompFault.Full)
+            ↔ ((zone < length self.old.shape.states)
+            × (length self.old.shape.comps ≡ COMP_LIMIT)) }
+        ensures most { length self.old.shape.comps ≤ COMP_LIMIT }
+        ensures err { OnErr result (self.new ≡ self.old) }
+    {
+        self.zones.add_comp(zone)
+    }
+
+    // A register takes a cell, or becomes empty.
+    pub(crate) fn set_reg(&mut self, r: Reg, v: Option<Place>)
+        ensures { self.new ≡ with_reg self.old r v }
+    {
+        self.roots.set_reg(r, v);
+    }
+
+    // A gray slot takes a cell, or becomes empty.
+    pub(crate) fn set_slot(&mut self, g: GrayNo, v: Option<Place>)
+        ensures { self.new ≡ with_slot self.old g v }
+    {
+        self.roots.set_slot(g, v);
+    }
+
+    // What a field of a present cell holds.
+    pub(crate) fn field(&self, place: Place, f: u8) -> Option<Place>
+        requires { IsPresent self.now.shape place }
+        ensures { result ≡ field_at self.now.shape place f }
+    {
+        self.arenas.field(place, f)
+    }
+
+    // A field of a present cell takes a present cell, or becomes null.
+    pub(crate) fn set_field(&mut self, place: Place, f: u8, v: Option<Place>)
+        requires field { IsSomeAnd (cell_of self.old.shape place) (λ c. f < length c.fields) }
+        requires value { ForSome v (IsPresent self.old.shape) }
+        ensures { Writes self.old place f v self.new }
+    {
+        self.arenas.set_field(place, f, v);
+    }
+
+    // The number of the next object or map; it is used up.
+    pub(crate) fn next_number(&mut self) -> u64
+        requires { self.old.shape.objects ≤ 4294967295 }
+        ensures number { result ≡ self.old.shape.objects }
+        ensures used { self.new ≡ with_number self.old }
+    {
+        let number = self.objects;
+        self.objects += 1;
+        number
+    }
+
+    // How many objects and maps were made.
+    pub(crate) fn objects(&self) -> u64
+        ensures { result ≡ self.now.shape.objects }
+    {
+        self.objects
+    }
+
+    // Makes a black cell of a zone, its fields null, at the next place.
+    pub(crate) fn make_cell(
+        &mut self,
+        zone: ZoneNo,
+        kind: Kind,
+        comp: CompNo,
+        name: Name,
+    ) -> Result<Place, NoMemory>
+        requires few { self.old.made < 4294967295 }
+        requires fields { field_count kind ≤ 8 }
+        ensures ok { IfOk result
+            (λ p. Makes self.old zone p (new_cell kind comp name) self.new) }
+        ensures err { OnErr result (self.new ≡ self.old) }
+    {
+        let place = self.arenas.reserve_place(zone)?;
+        self.arenas.put_cell(place, kind, comp, name);
+        blacken(&mut self.arenas, place);
+        Ok(place)
+    }
+
+    // Makes the wrapper of a target in a compartment of a zone, and adds it to the wrapper map.
+    pub(crate) fn make_wrapper(
+        &mut self,
+        zone: ZoneNo,
+        comp: CompNo,
+        number: u64,
+        target: Place,
+    ) -> Result<Place, NoMemory>
+        requires few { self.old.made < 4294967295 }
+        requires absent { place_of self.old.shape.wrappers comp.0 number ≡ None }
+        requires one_zone { (z : ℕ) (entry : _)
+            → Contains (list_of self.old.shape.wrappers z) entry
+            → entry.0.comp ≡ comp.0
+            → z ≡ zone }
+        requires target { IsPresent self.old.shape target }
+        ensures ok { IfOk result
+            (λ p. MakesWrapper self.old zone comp number target p self.new) }
+        ensures err { OnErr result (self.new ≡ self.old) }
+    {
+        let place = self.arenas.reserve_place(zone)?;
+        self.wrappers.add(zone, comp, number, place)?;
+        self.arenas.put_cell(place, Kind::Wrapper, comp, Name::Wrap(comp, number));
+        self.arenas.set_field(place, 0, Some(target));
+        blacken(&mut self.arenas, place);
+        Ok(place)
+    }
+
+    /// The map, the key and the value of an entry of a weak map; `None` past the last.
+    pub fn entry(&self, index: u64) -> Option<(Place, Place, Place)>
+        ensures entry { result
+            ≡ option_map parts (slice_get self.now.shape.weak.entries index) }
+        ensures more { IfSome result (λ _. index < 18446744073709551615) }
+        ensures sound { AreEntries self.now.shape.weak }
+    {
+        self.weak.entry(index)
+    }
+
+    /// The same of the entries of one map.
+    pub fn entries_of_map(&self, map: Place, index: u64) -> Option<(Place, Place, Place)>
+        ensures entry { result
+            ≡ option_map parts (slice_get (listed_of_map self.now.shape.weak map) index) }
+        ensures more { IfSome result (λ _. index < 18446744073709551615) }
+        ensures sound { AreEntries self.now.shape.weak }
+    {
+        self.weak.entries_of_map(map, index)
+    }
+
+    /// The same of the entries of one key.
+    pub fn entries_of_key(&self, key: Place, index: u64) -> Option<(Place, Place, Place)>
+        ensures entry { result
+            ≡ option_map parts (slice_get (listed_of_key self.now.shape.weak key) index) }
+        ensures more { IfSome result (λ _. index < 18446744073709551615) }
+        ensures sound { AreEntries self.now.shape.weak }
+    {
+        self.weak.entries_of_key(key, index)
+    }
+
+    // The value of a key in a map.
+    pub(crate) fn find_entry(&self, map: Place, key: Place) -> Option<Place>
+        ensures { result ≡ value_of self.now.shape.weak map key }
+    {
+        self.weak.find(map, key)
+    }
+
+    // Gives a value to a key of a map.
+    pub(crate) fn put_entry(
+        &mut self,
+        map: Place,
+        key: Place,
+        value: Place,
+    ) -> Result<(), NoMemory>
+        ensures put { OnOk result (self.new ≡ with_entry self.old map key value) }
+        ensures found { OnOk result ((m k : APlace) → value_of self.new.shape.weak m k
+            ≡ (if is_same map m && is_same key k
+            then Some value
+            else value_of self.old.shape.weak m k)) }
+        ensures err { OnErr result (self.new ≡ self.old) }
+    {
+        self.weak.put(map, key, value)?;
+        Ok(())
+    }
+
+    // Takes the entry of a key out of a map, and answers the value that was there.
+    pub(crate) fn del_entry(&mut self, map: Place, key: Place) -> Option<Place>
+        ensures old { result ≡ value_of self.old.shape.weak map key }
+        ensures del { self.new ≡ without_entry self.old map key }
+        ensures found { (m k : APlace) → value_of self.new.shape.weak m k
+            ≡ (if is_same map m && is_same key k
+            then None
+            else value_of self.old.shape.weak m k) }
+    {
+        self.weak.del(map, key)
+    }
+}
+
+// A cell of an arena that is not out turns black.
+fn blacken(arenas: &mut Arenas, place: Place)
+    requires kept { IsSomeAnd (slice_get arenas.old.arenas place.0) (λ a. a.is_out ≡ false) }
+    ensures { Blackens arenas.old place arenas.new }
+{
+    let mut bits = arenas.bits(place.arena());
+    bits.mark_black(place.slot());
+    arenas.set_bits(place.arena(), bits);
+}
+
+// Whether no present cell is at a place.
+fn is_dead(arenas: &Arenas, place: Place) -> bool
+    ensures { result ≡ is_absent_in arenas.now.arenas place }
+{
+    if holds_cell(arenas, place) {
+        is_lost(arenas, place)
+    } else {
+        true
+    }
+}
+
+// Whether a cell lies at a place, present or not.
+fn holds_cell(arenas: &Arenas, place: Place) -> bool
+    ensures cell { result ≡ is_some (cell_at arenas.now.arenas place) }
+    ensures made { result ≡ true → place.0 < length arenas.now.arenas }
+{
+    place.arena() < arenas.arenas()
+        && (arenas.alloc_word(place.arena()) >> place.slot()) & 1 == 1
+}
+
+// Whether a slot was white as its arena was handed to sweeping.
+fn is_lost(arenas: &Arenas, place: Place) -> bool
+    requires { place.0 < length arenas.now.arenas }
+    ensures { result ≡ is_lost_in (slice_get arenas.now.arenas place.0) place.1 }
+{
+    let arena = place.arena();
+    let is_out = arenas.is_out(arena);
+    let is_white = white_slot(arenas.bits(arena), place.slot());
+    is_out & is_white
+}
+
+// Whether a slot is white.
+fn white_slot(bits: Bits, slot: u8) -> bool
+    requires { slot < 64 }
+    ensures { result ≡ is_white bits slot }
+{
+    bits.colour(slot) == Colour::White
+}
