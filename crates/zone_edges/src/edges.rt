@@ -1,17 +1,24 @@
 // The edges that are noted between zones, and the steps that group the zones.
-ghost use Rattle.std.specs.Prelude.{◌≡◌, ℕ, ◌⊎◌, ◌↔◌};
+ghost use Rattle.std.specs.Prelude.{◌≡◌, ℕ, ◌+◌, ◌⊎◌, ◌↔◌, None, length};
 ghost use Rattle.gz_names.specs.Zones.{HasZone};
+ghost use Rattle.heap_core.specs.Shape.{out_of};
 ghost use Rattle.zone_edges.specs.Groups.{Edge, AreComponents};
+ghost use Rattle.zone_edges.specs.Looks.{AreLeftBlack, AreWrappers, Looks, cursor_of, edges_read};
 
+use crate::look::{Look, edge_from, next_wrapper};
 use crate::search::Search;
 use gz_names::{Groups, ZoneNo, ZoneSet};
+use heap_core::{Heap, Steps};
 use std::marker::Model;
+use std::sync::ledger::Ledger;
 
-/// The zones of a collection, the edges noted between them, and which had their grouping step.
+/// The zones of a collection, the edges noted between them, which had their grouping step, and how
+/// many wrappers of each were looked at.
 #[derive(Drop)]
 pub struct Edges {
     search: Search,
     stepped: ZoneSet,
+    cursors: [u64; 64],
 }
 
 impl Model for Edges {
@@ -23,9 +30,10 @@ impl Model for Edges {
       zones = e.search.zones;
       sources = e.search.sources;
       stepped = e.stepped;
+      cursors = e.cursors;
     } };
 
-    ghost invariant = { λ e. IsBetween e.search e.stepped };
+    ghost invariant = { λ e. IsBetween e.search e.stepped e.cursors };
 }
 
 impl Edges {
@@ -34,21 +42,48 @@ impl Edges {
         ensures zones { result.zones.bits ≡ 0 }
         ensures edges { (a b : ℕ) → Edge result.sources a b → ⊥ }
         ensures stepped { result.stepped.bits ≡ 0 }
+        ensures cursors { (z : ℕ) → cursor_of result z ≡ 0 }
     {
         Edges {
             search: Search::new(ZoneSet { bits: 0 }),
             stepped: ZoneSet { bits: 0 },
+            cursors: [0; 64],
         }
     }
 
-    /// Begins with these zones. All noted edges and all steps are forgotten.
+    /// Begins with these zones. All noted edges, looks and steps are forgotten.
     pub fn start(&mut self, zones: ZoneSet)
         ensures zones { self.new.zones ≡ zones }
         ensures edges { (a b : ℕ) → Edge self.new.sources a b → ⊥ }
         ensures stepped { self.new.stepped.bits ≡ 0 }
+        ensures cursors { (z : ℕ) → cursor_of self.new z ≡ 0 }
     {
         self.search = Search::new(zones);
         self.stepped = ZoneSet { bits: 0 };
+        self.cursors = [0; 64];
+    }
+
+    /// Looks at the next wrapper of a zone. Where it leads to another one of the zones, to a cell
+    /// that is not black, an edge is noted from its zone to its target's. `Empty` exactly where each
+    /// wrapper was looked at. It takes no memory, and reads one edge for each look.
+    pub fn edge_unit<L: Ledger>(&mut self, heap: &Heap, steps: &mut Steps<L>) -> Look
+        requires kept { (a : ℕ) → out_of heap.now.shape a ≡ None }
+        requires sized { length heap.now.colours ≡ length heap.now.shape.arenas }
+        requires wrappers { AreWrappers heap.now.shape }
+        requires early { (self.old.stepped.bits ≡ 0) ⊎ AreLeftBlack heap.now self.old }
+        ensures looked { Looks heap.now self.old result self.new }
+        ensures zones { self.new.zones ≡ self.old.zones }
+        ensures stepped { self.new.stepped ≡ self.old.stepped }
+        ensures steps { steps.new ≡ steps.old + edges_read result }
+    {
+        let zones = self.search.zones;
+        let Some((zone, wrapper)) = next_wrapper(heap, zones, &mut self.cursors) else {
+            return Look::Empty;
+        };
+        if let Some(to) = edge_from(heap, zones, zone, wrapper, steps) {
+            self.search.note(zone, to);
+        }
+        Look::Did
     }
 
     /// Notes an edge between two zones, before the first step: `a` must not finish after `b`.
@@ -60,6 +95,7 @@ impl Edges {
             ↔ (Edge self.old.sources x y ⊎ ((x ≡ a) × (y ≡ b))) }
         ensures zones { self.new.zones ≡ self.old.zones }
         ensures stepped { self.new.stepped ≡ self.old.stepped }
+        ensures cursors { self.new.cursors ≡ self.old.cursors }
     {
         self.search.note(a, b);
     }
@@ -72,6 +108,7 @@ impl Edges {
             ↔ (HasZone self.old.stepped.bits z ⊎ (z ≡ zone)) }
         ensures zones { self.new.zones ≡ self.old.zones }
         ensures edges { self.new.sources ≡ self.old.sources }
+        ensures cursors { self.new.cursors ≡ self.old.cursors }
     {
         self.search.visit(zone);
         self.stepped = self.stepped.union(ZoneSet::only(zone));

@@ -24,7 +24,13 @@
 // from a to b and back, neither may finish after the other, so both finish at once. The groups are
 // therefore the strongly connected components of the edges, in an order in which no edge leads from
 // a later group to an earlier one. Edges are noted first; then each zone has one grouping step;
-// then the components are there. The look at wrappers is added with the heap.
+// then the components are there.
+//
+// The edges are found by looking at the wrappers of the zones, one at a time, and commands may run
+// between two looks. Each zone has a cursor into the list of its wrappers, which is in the order of
+// adding: those before the cursor were looked at, and new ones come in behind it. A wrapper that is
+// made after the first grouping step is looked at too, but it has a black target, since that came
+// from a register; so no edge is noted any more.
 //
 // The search is Tarjan's, against the direction of the edges, so that what must not finish later is
 // found earlier and the groups come out in their order. Of each zone the edges are taken once, as
@@ -51,9 +57,13 @@
 #![tactic(auto)]
 
 mod edges;
+mod look;
 mod search;
 
 pub use edges::Edges;
+pub use look::Look;
 
+#[cfg(test)]
+mod look_tests;
 #[cfg(test)]
 mod tests;

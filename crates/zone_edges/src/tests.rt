@@ -49,7 +49,7 @@ fn note_all(edges: &mut Edges, zones: ZoneSet, graph: &Table)
 }
 
 // Takes the step of each zone.
-fn group_all(edges: &mut Edges, zones: ZoneSet) -> Groups
+pub fn group_all(edges: &mut Edges, zones: ZoneSet) -> Groups
     requires zones { edges.old.zones ≡ zones }
     requires early { edges.old.stepped.bits ≡ 0 }
     ensures { AreComponents edges.old.sources zones result }

@@ -12,4 +12,5 @@ invariant_of-self c = record {
     | inr new ↦ subst (λ y. HasZone c.visit.new.self.seen.bits y) (sym ((c.only.ensures z).0 new)) c.visit.ensures.seen
   ];
   fresh = λ e. absurd (HasZone-none c.args.zone (subst (λ s. HasZone s c.args.zone) e ((c.union-self-inside.ensures c.args.zone).1 (inr ((c.only.ensures c.args.zone).1 refl)))));
+  sized = c.self.invariant.sized;
 }

@@ -1,4 +1,7 @@
+use Rattle.std.proofs.Common.{ℕ}
+use Rattle.std.proofs.Math.ListN.{length-replicate}
 use Rattle.gz_names.proofs.Words.{HasZone-none}
+use Rattle.zone_edges.proofs.Looking.{none_looked_at}
 use Rattle.zone_edges.proofs.edges.Edges.new.Goals as goal
 
 pub invariant_of-result : goal.invariant_of-result
@@ -7,4 +10,8 @@ invariant_of-result c = record {
   idle = c.new.ensures.idle;
   stepped_seen = λ z h. absurd (HasZone-none z h);
   fresh = λ e. c.new.ensures.unseen;
+  sized = length-replicate {A = ℕ} 64 0;
 }
+
+pub returns-clause-cursors : goal.returns-clause-cursors
+returns-clause-cursors c = none_looked_at

@@ -1,0 +1,94 @@
+-- The wrappers that are looked at, and the edges that they lead along.
+use Rattle.std.specs.Prelude.{◌≡◌, ◌≢◌, ℕ, zero, suc, ◌+◌, ◌-◌, ◌*◌, ◌<◌, ◌≤◌, ◌⊎◌, ◌↔◌, Option, Some, Contains, length, slice_get, slice_index_or}
+use Rattle.std.specs.Int.{bit_at}
+use Rattle.std.specs.Option.{option_map}
+use Rattle.gz_names.specs.Zones.{HasZone}
+use Rattle.gz_names.specs.declared.commands.Kind.TheVariants as kind
+use Rattle.gz_names.specs.declared.numbers.Place.{Place}
+use Rattle.gz_names.specs.declared.zone_sets.ZoneSet.{ZoneSet}
+use Rattle.cell_bits.specs.declared.bits.Colour.TheVariants as colour
+use Rattle.wrappers.specs.WrapperMaps.{AreApart, list_of}
+use Rattle.wrappers.specs.declared.wrapper_maps.WrapperKey.{WrapperKey}
+use Rattle.heap_core.specs.Shape.{Shape, IsPresent, cell_of, field_at, zone_of}
+use Rattle.heap_core.specs.Heap.{HeapState, colour_of}
+use Rattle.zone_edges.specs.declared.look.Look.{Look}
+use Rattle.zone_edges.specs.declared.look.Look.TheVariants.{Did, Empty}
+use Rattle.zone_edges.specs.Groups.{Edge}
+use Rattle.zone_edges.specs.Noted.{Noted}
+
+-- the wrapper at an index of a zone's list, in the order of adding
+abbrev pub wrapper_at : Shape → ℕ → ℕ → Option Place
+wrapper_at s zone index = option_map (λ entry. entry.1) (slice_get (list_of s.wrappers zone) index)
+
+-- how many wrappers of a zone were looked at
+abbrev pub cursor_of : Noted → ℕ → ℕ
+cursor_of n zone = slice_index_or n.cursors zone 0
+
+-- a wrapper was looked at: it stands before the cursor in the list of its zone
+pub record IsLookedAt (s : Shape) (n : Noted) (p : Place) : Type 0 where
+  pub index : ℕ
+  pub before : index < cursor_of n (zone_of s p)
+  pub stands : wrapper_at s (zone_of s p) index ≡ Some p
+
+-- each wrapper of the zones was looked at
+abbrev pub AreAllLookedAt : Shape → Noted → Type 0
+AreAllLookedAt s n = (z : ℕ) → HasZone n.zones.bits z → length (list_of s.wrappers z) ≤ cursor_of n z
+
+-- how many wrappers of the zones below a number are not looked at
+unfoldable pub left_below : Shape → Noted → ℕ → ℕ
+left_below s n zero = 0
+left_below s n (suc z) = left_below s n z + bit_at n.zones.bits z * (length (list_of s.wrappers z) - cursor_of n z)
+
+-- how many wrappers of the zones are not looked at
+abbrev pub left_to_look : Shape → Noted → ℕ
+left_to_look s n = left_below s n 64
+
+-- a place is a wrapper of a zone: a present cell of that kind, whose target is present
+pub record IsWrapperIn (s : Shape) (zone : ℕ) (p : Place) : Type 0 where
+  pub kind_is : option_map (λ cell. cell.kind) (cell_of s p) ≡ Some kind.Wrapper
+  pub zone_is : zone_of s p ≡ zone
+  pub target : Place
+  pub target_is : field_at s p 0 ≡ Some target
+  pub held : IsPresent s target
+
+-- the wrapper maps of each zone hold its wrappers, where no key stands twice in them
+abbrev pub AreWrappers : Shape → Type 0
+AreWrappers s = AreApart s.wrappers.lists → (z : ℕ) (entry : WrapperKey × Place) → Contains (list_of s.wrappers z) entry → IsWrapperIn s z entry.1
+
+-- a wrapper leads from one zone of a set to another, to a cell that is not black
+pub record LeadsFrom (h : HeapState) (zones : ZoneSet) (p : Place) (a b : ℕ) : Type 0 where
+  pub target : Place
+  pub target_is : field_at h.shape p 0 ≡ Some target
+  pub from : zone_of h.shape p ≡ a
+  pub to : zone_of h.shape target ≡ b
+  pub has_from : HasZone zones.bits a
+  pub has_to : HasZone zones.bits b
+  pub apart : a ≢ b
+  pub pale : colour_of h target ≢ colour.Black
+
+-- each wrapper of the zones that was not looked at has a black target
+abbrev pub AreLeftBlack : HeapState → Noted → Type 0
+AreLeftBlack h n = (z index : ℕ) (p q : Place) → HasZone n.zones.bits z → cursor_of n z ≤ index → wrapper_at h.shape z index ≡ Some p → field_at h.shape p 0 ≡ Some q → colour_of h q ≡ colour.Black
+
+-- one wrapper more was looked at, the next of its zone, and its edge is noted where it leads along one
+pub record LooksAtNext (h : HeapState) (old new : Noted) : Type 0 where
+  pub zone : ℕ
+  pub wrapper : Place
+  pub has_zone : HasZone old.zones.bits zone
+  pub next : wrapper_at h.shape zone (cursor_of old zone) ≡ Some wrapper
+  pub is_wrapper : IsWrapperIn h.shape zone wrapper
+  pub raised : cursor_of new zone ≡ cursor_of old zone + 1
+  pub others : (z : ℕ) → z ≢ zone → cursor_of new z ≡ cursor_of old z
+  pub looked : (p : Place) → IsLookedAt h.shape new p ↔ (IsLookedAt h.shape old p ⊎ (p ≡ wrapper))
+  pub edges : (a b : ℕ) → Edge new.sources a b ↔ (Edge old.sources a b ⊎ LeadsFrom h old.zones wrapper a b)
+  pub left : left_to_look h.shape old ≡ left_to_look h.shape new + 1
+
+-- what a look does
+abbrev pub Looks : HeapState → Noted → Look → Noted → Type 0
+Looks h old Did new = LooksAtNext h old new
+Looks h old Empty new = AreAllLookedAt h.shape old × (new ≡ old)
+
+-- how many edges a look reads
+abbrev pub edges_read : Look → ℕ
+edges_read Did = 1
+edges_read Empty = 0

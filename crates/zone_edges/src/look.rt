@@ -1,0 +1,80 @@
+// The look at one wrapper: which one is next, and the edge that it leads along.
+ghost use Rattle.std.specs.Prelude.{◌≡◌, ◌↔◌, ℕ, ◌+◌, ◌<◌, length, None, Some, slice_index, slice_set, IfSome, IfNone, IsTrue};
+ghost use Rattle.gz_names.specs.Zones.{HasZone};
+ghost use Rattle.heap_core.specs.Heap.{colour_of};
+ghost use Rattle.zone_edges.specs.Looks.{AreWrappers, IsWrapperIn, LeadsFrom, wrapper_at};
+
+use cell_bits::Colour;
+use gz_names::{Place, ZoneNo, ZoneSet};
+use heap_core::{Heap, Steps};
+use std::sync::ledger::Ledger;
+
+/// What a look did.
+#[derive(Clone, Copy, Debug, PartialEq, Eq)]
+pub enum Look {
+    /// It looked at one wrapper.
+    Did,
+    /// Each wrapper was looked at.
+    Empty,
+}
+
+/// The next wrapper of one of these zones by their cursors, and its zone; the zone's cursor is
+/// raised. `None` where all cursors are at the end.
+pub fn next_wrapper(heap: &Heap, zones: ZoneSet, cursors: &mut [u64; 64]) -> Option<(ZoneNo, Place)>
+    requires { AreWrappers heap.now.shape }
+    ensures zone { IfSome result (λ found. HasZone zones.bits found.0) }
+    ensures next { IfSome result (λ found. wrapper_at heap.now.shape found.0
+        (slice_index cursors.old found.0) ≡ Some found.1) }
+    ensures wrapper { IfSome result (λ found. IsWrapperIn heap.now.shape found.0 found.1) }
+    ensures raised { IfSome result (λ found. cursors.new
+        ≡ slice_set cursors.old found.0 (slice_index cursors.old found.0 + 1)) }
+    ensures none { IfNone result ((z : ℕ) → HasZone zones.bits z
+        → wrapper_at heap.now.shape z (slice_index cursors.old z) ≡ None) }
+    ensures same { IfNone result (cursors.new ≡ cursors.old) }
+{
+    let mut rest = zones;
+    'zones: while let Some(zone) = rest.first() {
+        let cursor = &mut cursors[usize::from(zone.index())];
+        if let Some(wrapper) = heap.next_of(zone, cursor) {
+            return Some((zone, wrapper));
+        }
+        rest.remove(zone);
+    }
+    None
+}
+
+/// The zone to which an edge is to be noted for a wrapper of a zone: its target's, where that is
+/// another one of these zones and the target is not black.
+pub fn edge_from<L: Ledger>(
+    heap: &Heap,
+    zones: ZoneSet,
+    zone: ZoneNo,
+    wrapper: Place,
+    steps: &mut Steps<L>,
+) -> Option<ZoneNo>
+    requires inside { HasZone zones.bits zone }
+    requires wrapper { IsWrapperIn heap.now.shape zone wrapper }
+    requires sized { length heap.now.colours ≡ length heap.now.shape.arenas }
+    ensures some { IfSome result (λ to. LeadsFrom heap.now zones wrapper zone to) }
+    ensures none { IfNone result ((a b : ℕ) → LeadsFrom heap.now zones wrapper a b → ⊥) }
+    ensures steps { steps.new ≡ steps.old + 1 }
+{
+    let Some(target) = heap.reached_by(wrapper, 0, steps) else {
+        return None;
+    };
+    let Some(to) = heap.owner(target.arena()) else {
+        return None;
+    };
+    if to == zone || !zones.contains(to) || is_black(heap, target) {
+        return None;
+    }
+    Some(to)
+}
+
+// Whether a present cell is black.
+fn is_black(heap: &Heap, place: Place) -> bool
+    requires { place.0 < length heap.now.colours }
+    ensures { IsTrue result ↔ (colour_of heap.now place ≡ Colour.Black) }
+{
+    heap.bits(place.arena()).colour(place.slot()) == Colour::Black
+}
