@@ -1,0 +1,124 @@
+-- Steps one after another.
+use Rattle.std.proofs.Common.{◌≡◌, ◌⊎◌, ◌+◌, ◌≤◌, ℕ, inl, inr, refl, sym, ap, ◌∙◌, subst, arith, length, length-append, ◌∷◌, []}
+use Rattle.gz_names.specs.declared.numbers.Place.{Place}
+use Rattle.mark_stack.specs.Stack.{Piles, pushed}
+use Rattle.mark_stack.specs.declared.stack.Pile.TheVariants as pile
+use Rattle.heap_core.specs.Shape.{Shape, is_marking}
+use Rattle.heap_core.specs.Heap.{HeapState, colour_of}
+use Rattle.barriers.specs.Colours.{IsBlack, left, whites, grays_outside}
+use Rattle.barriers.specs.Spreading.{Blackens, Spreads, Grows}
+
+-- the shape is as it was
+pub shape_is : (h k : HeapState) → k ≡ record h { colours = k.colours } → k.shape ≡ h.shape
+shape_is h k e = ap (λ (z : HeapState). z.shape) e
+
+rest_more : (h k l : HeapState) → k ≡ record h { colours = k.colours } → l ≡ record k { colours = l.colours } → l ≡ record h { colours = l.colours }
+rest_more h k l e f = f ∙ ap (λ (z : HeapState). record z { colours = l.colours }) e
+
+pub blackens_none : (P : Place → Type 0) (h : HeapState) → Blackens P h h
+blackens_none P h = record {
+  rest = refl;
+  sized = refl;
+  kept = λ y b. b;
+  only = λ y b. inl b;
+  others = λ y. inr refl;
+  whites_less = omega arith;
+}
+
+pub blackens_more : (P Q R : Place → Type 0) (h k l : HeapState) → Blackens P h k → Blackens Q k l → ((y : Place) → P y → R y) → ((y : Place) → Q y → R y) → Blackens R h l
+blackens_more P Q R h k l a b f g = record {
+  rest = rest_more h k l a.rest b.rest;
+  sized = b.sized ∙ a.sized;
+  kept = λ y c. b.kept y (a.kept y c);
+  only = λ y c. elim (b.only y c) [
+    | inl mid ↦ elim (a.only y mid) [ inl old ↦ inl old | inr new ↦ inr (f y new) ]
+    | inr new ↦ inr (g y new)
+  ];
+  others = λ y. elim (b.others y) [
+    | inl black ↦ inl black
+    | inr e ↦ elim (a.others y) [ inl black ↦ inl (b.kept y black) | inr d ↦ inr (e ∙ d) ]
+  ];
+  whites_less = omega (arith, a.whites_less, b.whites_less);
+}
+
+pub blackens_within : (P R : Place → Type 0) (h k : HeapState) → Blackens P h k → ((y : Place) → P y → R y) → Blackens R h k
+blackens_within P R h k a f = record {
+  rest = a.rest;
+  sized = a.sized;
+  kept = a.kept;
+  only = λ y c. elim (a.only y c) [ inl old ↦ inl old | inr new ↦ inr (f y new) ];
+  others = a.others;
+  whites_less = a.whites_less;
+}
+
+pub spreads_none : (P : Place → Type 0) (h : HeapState) (p : Piles) → Spreads P h p h p
+spreads_none P h p = record {
+  blackens = blackens_none P h;
+  gray_is = refl;
+  room_is = refl;
+  pile_kept = λ y c. c;
+  fresh = λ y b m. inl b;
+  left_less = omega arith;
+  work = omega arith;
+  grays = omega arith;
+}
+
+pub spreads_more : (P Q R : Place → Type 0) (h : HeapState) (p : Piles) (k : HeapState) (q : Piles) (l : HeapState) (r : Piles) → Spreads P h p k q → Spreads Q k q l r → ((y : Place) → P y → R y) → ((y : Place) → Q y → R y) → Spreads R h p l r
+spreads_more P Q R h p k q l r a b f g = record {
+  blackens = blackens_more P Q R h k l a.blackens b.blackens f g;
+  gray_is = b.gray_is ∙ a.gray_is;
+  room_is = b.room_is ∙ a.room_is;
+  pile_kept = λ y c. b.pile_kept y (a.pile_kept y c);
+  fresh = λ y c m. elim (b.fresh y c (ap (λ (s : Shape). is_marking s y) (shape_is h k a.blackens.rest) ∙ m)) [
+    | inl mid ↦ elim (a.fresh y mid m) [ inl old ↦ inl old | inr new ↦ inr (b.pile_kept y new) ]
+    | inr new ↦ inr new
+  ];
+  left_less = omega (arith, a.left_less, b.left_less);
+  work = omega (arith, a.work, b.work);
+  grays = omega (arith, a.grays, b.grays);
+}
+
+pub spreads_within : (P R : Place → Type 0) (h : HeapState) (p : Piles) (k : HeapState) (q : Piles) → Spreads P h p k q → ((y : Place) → P y → R y) → Spreads R h p k q
+spreads_within P R h p k q a f = record {
+  blackens = blackens_within P R h k a.blackens f;
+  gray_is = a.gray_is;
+  room_is = a.room_is;
+  pile_kept = a.pile_kept;
+  fresh = a.fresh;
+  left_less = a.left_less;
+  work = a.work;
+  grays = a.grays;
+}
+
+pub grows_none : (P : Place → Type 0) (h : HeapState) (p : Piles) → Grows P h p h p
+grows_none P h p = record {
+  spreads = spreads_none P h p;
+  wake_kept = λ y c. c;
+  woken = λ y b m. inl b;
+}
+
+pub grows_more : (P Q R : Place → Type 0) (h : HeapState) (p : Piles) (k : HeapState) (q : Piles) (l : HeapState) (r : Piles) → Grows P h p k q → Grows Q k q l r → ((y : Place) → P y → R y) → ((y : Place) → Q y → R y) → Grows R h p l r
+grows_more P Q R h p k q l r a b f g = record {
+  spreads = spreads_more P Q R h p k q l r a.spreads b.spreads f g;
+  wake_kept = λ y c. b.wake_kept y (a.wake_kept y c);
+  woken = λ y c m. elim (b.woken y c (ap (λ (s : Shape). is_marking s y) (shape_is h k a.spreads.blackens.rest) ∙ m)) [
+    | inl mid ↦ elim (a.woken y mid m) [ inl old ↦ inl old | inr new ↦ inr (b.wake_kept y new) ]
+    | inr new ↦ inr new
+  ];
+}
+
+popped : (P : Place → Type 0) (h : HeapState) (q : Piles) (x : Place) → Spreads P h (pushed q pile.Wake x) h q
+popped P h q x = record {
+  blackens = blackens_none P h;
+  gray_is = refl;
+  room_is = refl;
+  pile_kept = λ y c. c;
+  fresh = λ y b m. inl b;
+  left_less = omega arith;
+  work = omega (arith, length-append q.wake (x ∷ []));
+  grays = omega (arith, length-append q.wake (x ∷ []));
+}
+
+-- a woken cell was taken from its pile
+pub spreads_pop : (P : Place → Type 0) (h : HeapState) (p q : Piles) (x : Place) → p ≡ pushed q pile.Wake x → Spreads P h p h q
+spreads_pop P h p q x e = subst (λ (z : Piles). Spreads P h z h q) (sym e) (popped P h q x)

@@ -1,0 +1,199 @@
+-- A cell turns black, and goes on its zone's pile.
+use Rattle.std.proofs.Common.{◌≡◌, ◌⊎◌, ◌+◌, ◌≤◌, ℕ, Bool, true, false, inl, inr, refl, sym, ap, ◌∙◌, subst, arith, Contains, List, length, ◌∷◌, [], length-append, if◌then◌else◌}
+use Rattle.std.proofs.lemmas.List.Elements.{Contains-append_left, Contains-push, Contains-push_cases}
+use Rattle.gz_names.specs.declared.numbers.Place.{Place}
+use Rattle.cell_bits.specs.declared.bits.Bits.{Bits}
+use Rattle.mark_stack.specs.Stack.{Piles, pushed}
+use Rattle.mark_stack.specs.declared.stack.Pile.TheVariants as pile
+use Rattle.heap_core.specs.Shape.{Shape, is_marking, is_marking_state, state_in, IsPresent}
+use Rattle.heap_core.specs.Heap.{HeapState, colour_of}
+use Rattle.barriers.specs.Colours.{IsBlack, IsSeen, left, whites, grays_outside}
+use Rattle.barriers.specs.Invariant.{ColourInvariant, PileInvariant, InvariantWhile}
+use Rattle.barriers.specs.Spreading.{Blackened, Blackens, Grows, Turns}
+use Rattle.barriers.proofs.Places.{same_or_other}
+use Rattle.barriers.proofs.Blackening.{marking_or_not}
+use Rattle.barriers.proofs.Spreading.{grows_none}
+
+-- the piles, with one place put on that of its zone
+pub record Puts (s : Shape) (t : Place) (p q : Piles) : Type 0 where
+  pub black_kept : (y : Place) → Contains p.black y → Contains q.black y
+  pub wake_kept : (y : Place) → Contains p.wake y → Contains q.wake y
+  pub black_only : (y : Place) → Contains q.black y → Contains p.black y ⊎ ((t ≡ y) × (is_marking s t ≡ true))
+  pub wake_only : (y : Place) → Contains q.wake y → Contains p.wake y ⊎ ((t ≡ y) × (is_marking s t ≡ false))
+  pub black_has : is_marking s t ≡ true → Contains q.black t
+  pub wake_has : is_marking s t ≡ false → Contains q.wake t
+  pub gray_is : q.gray ≡ p.gray
+  pub room_is : q.room ≡ p.room
+  pub both_more : length q.black + length q.wake ≤ (length p.black + length p.wake) + 1
+  pub black_more : length q.black ≤ length p.black + 1
+  pub wake_more : length q.wake ≤ length p.wake + 1
+  pub wake_exact : length q.wake ≡ length p.wake + (if is_marking s t then 0 else 1)
+
+puts_black : (s : Shape) (t : Place) (p : Piles) → is_marking s t ≡ true → Puts s t p (pushed p pile.Black t)
+puts_black s t p m = record {
+  black_kept = λ y c. Contains-append_left p.black (t ∷ []) y c;
+  wake_kept = λ y c. c;
+  black_only = λ y c. elim (Contains-push_cases p.black t y c) [ inl old ↦ inl old | inr e ↦ inr (e, m) ];
+  wake_only = λ y c. inl c;
+  black_has = λ n. Contains-push p.black t;
+  wake_has = λ n. cc (m, n);
+  gray_is = refl;
+  room_is = refl;
+  both_more = omega (arith, length-append p.black (t ∷ []));
+  black_more = omega (arith, length-append p.black (t ∷ []));
+  wake_more = omega arith;
+  wake_exact = rw m (omega arith);
+}
+
+puts_wake : (s : Shape) (t : Place) (p : Piles) → is_marking s t ≡ false → Puts s t p (pushed p pile.Wake t)
+puts_wake s t p m = record {
+  black_kept = λ y c. c;
+  wake_kept = λ y c. Contains-append_left p.wake (t ∷ []) y c;
+  black_only = λ y c. inl c;
+  wake_only = λ y c. elim (Contains-push_cases p.wake t y c) [ inl old ↦ inl old | inr e ↦ inr (e, m) ];
+  black_has = λ n. cc (m, n);
+  wake_has = λ n. Contains-push p.wake t;
+  gray_is = refl;
+  room_is = refl;
+  both_more = omega (arith, length-append p.wake (t ∷ []));
+  black_more = omega arith;
+  wake_more = omega (arith, length-append p.wake (t ∷ []));
+  wake_exact = rw m (omega (arith, length-append p.wake (t ∷ [])));
+}
+
+module _ (h : HeapState) (ds : List Bits) (p q : Piles) (t : Place) (turned : Blackened h t (record h { colours = ds })) (puts : Puts h.shape t p q) where
+  abbrev k : HeapState
+  k = record h { colours = ds }
+
+  kept : (y : Place) → IsBlack h y → IsBlack k y
+  kept y b = elim (same_or_other y t) [
+    | inl same ↦ subst (λ z. IsBlack k z) (sym same) turned.black
+    | inr other ↦ turned.others y other ∙ b
+  ]
+
+  only : (y : Place) → IsBlack k y → IsBlack h y ⊎ (y ≡ t)
+  only y b = elim (same_or_other y t) [ inl same ↦ inr same | inr other ↦ inl (sym (turned.others y other) ∙ b) ]
+
+  others : (y : Place) → IsBlack k y ⊎ (colour_of k y ≡ colour_of h y)
+  others y = elim (same_or_other y t) [
+    | inl same ↦ inl (subst (λ z. IsBlack k z) (sym same) turned.black)
+    | inr other ↦ inr (turned.others y other)
+  ]
+
+  seen : (y : Place) → IsSeen h y → IsSeen k y
+  seen y s = elim (others y) [
+    | inl b ↦ inr b
+    | inr e ↦ elim s [ inl g ↦ inl (e ∙ g) | inr b ↦ inr (e ∙ b) ]
+  ]
+
+  grown : Grows (λ y. y ≡ t) h p k q
+  grown = record {
+    spreads = record {
+      blackens = record {
+        rest = refl;
+        sized = turned.sized;
+        kept = kept;
+        only = only;
+        others = others;
+        whites_less = turned.whites_less;
+      };
+      gray_is = puts.gray_is;
+      room_is = puts.room_is;
+      pile_kept = puts.black_kept;
+      fresh = λ y b m. elim (only y b) [
+        | inl was ↦ inl was
+        | inr e ↦ inr (subst (λ z. Contains q.black z) (sym e) (puts.black_has (subst (λ z. is_marking h.shape z ≡ true) e m)))
+      ];
+      left_less = omega (arith, turned.left_is);
+      work = omega (arith, turned.left_is, puts.both_more);
+      grays = omega (arith, turned.grays_is, puts.wake_exact);
+    };
+    wake_kept = puts.wake_kept;
+    woken = λ y b m. elim (only y b) [
+      | inl was ↦ inl was
+      | inr e ↦ inr (subst (λ z. Contains q.wake z) (sym e) (puts.wake_has (subst (λ z. is_marking h.shape z ≡ false) e m)))
+    ];
+  }
+
+  colours_kept : ColourInvariant h → ColourInvariant k
+  colours_kept inv = record {
+    shape = inv.shape;
+    sized = turned.sized ∙ inv.sized;
+    seen_present = λ y s. elim s [
+      | inl g ↦ elim (others y) [ inl b ↦ cc (b, g) | inr e ↦ inv.seen_present y (inl (sym e ∙ g)) ]
+      | inr b ↦ elim (only y b) [ inl was ↦ inv.seen_present y (inr was) | inr e ↦ subst (λ z. IsPresent h.shape z) (sym e) turned.present ]
+    ];
+    no_white = λ y present m. seen y (inv.no_white y present m);
+    no_gray = λ y state g. elim (others y) [ inl b ↦ cc (b, g) | inr e ↦ inv.no_gray y state (sym e ∙ g) ];
+    regs_black = λ y c. kept y (inv.regs_black y c);
+  }
+
+  piles_kept : PileInvariant h p → PileInvariant k q
+  piles_kept inv = record {
+    black = λ y c. elim (puts.black_only y c) [
+      | inl was ↦ (kept y (inv.black y was).0, (inv.black y was).1)
+      | inr n ↦ (subst (λ z. IsBlack k z) n.0 turned.black, subst (λ z. is_marking h.shape z ≡ true) n.0 n.1)
+    ];
+    wake = λ y c. elim (puts.wake_only y c) [
+      | inl was ↦ (kept y (inv.wake y was).0, (inv.wake y was).1)
+      | inr n ↦ (subst (λ z. IsBlack k z) n.0 turned.black, subst (λ z. is_marking h.shape z ≡ false) n.0 n.1)
+    ];
+    gray = λ y c. seen y (inv.gray y (subst (λ zs. Contains zs y) puts.gray_is c));
+    room = record {
+      black = omega (arith, inv.room.black, turned.left_is, turned.sized, puts.black_more);
+      wake = omega (arith, inv.room.wake, turned.left_is, turned.sized, puts.wake_more);
+      gray = omega (arith, inv.room.gray, turned.whites_less, turned.sized, ap (λ (z : List Place). length z) puts.gray_is);
+      room = omega (arith, inv.room.room, turned.sized, puts.room_is);
+    };
+  }
+
+  pending : Contains q.black t ⊎ Contains q.wake t
+  pending = elim (marking_or_not h.shape t) [ inl m ↦ inl (puts.black_has m) | inr m ↦ inr (puts.wake_has m) ]
+
+  invariant_kept : (followed : List Place) → InvariantWhile followed h p → InvariantWhile followed k q
+  invariant_kept followed inv = record {
+    colours = colours_kept inv.colours;
+    piles = piles_kept inv.piles;
+    closed = λ x y b e. elim (only x b) [
+      | inl was ↦ elim (inv.closed x y was e) [
+        | inl by ↦ inl (kept y by)
+        | inr (inl c) ↦ inr (inl (puts.black_kept x c))
+        | inr (inr (inl c)) ↦ inr (inr (inl (puts.wake_kept x c)))
+        | inr (inr (inr c)) ↦ inr (inr (inr c))
+      ]
+      | inr is ↦ elim pending [
+        | inl c ↦ inr (inl (subst (λ z. Contains q.black z) (sym is) c))
+        | inr c ↦ inr (inr (inl (subst (λ z. Contains q.wake z) (sym is) c)))
+      ]
+    ];
+    weak_closed = λ m n v e bm bn off. elim (only m bm) [
+      | inr is ↦ inr (inl (subst (λ z. Contains q.wake z) (sym is) (puts.wake_has (subst (λ z. is_marking h.shape z ≡ false) is (ap (λ z. is_marking_state (state_in h.shape z)) (inv.colours.shape.one_zone m n v e).0 ∙ off)))))
+      | inl wm ↦ elim (only n bn) [
+        | inr is ↦ inr (inr (inl (subst (λ z. Contains q.wake z) (sym is) (puts.wake_has (subst (λ z. is_marking h.shape z ≡ false) is (ap (λ z. is_marking_state (state_in h.shape z)) (inv.colours.shape.one_zone m n v e).1 ∙ off))))))
+        | inl wn ↦ elim (inv.weak_closed m n v e wm wn off) [
+          | inl b ↦ inl (kept v b)
+          | inr (inl w) ↦ inr (inl (puts.wake_kept m w))
+          | inr (inr (inl w)) ↦ inr (inr (inl (puts.wake_kept n w)))
+          | inr (inr (inr w)) ↦ inr (inr (inr w))
+        ]
+      ]
+    ];
+  }
+
+-- what turning a cell black gives
+pub record Effect (h : HeapState) (p : Piles) (t : Place) (k : HeapState) (q : Piles) : Type 0 where
+  pub grows : Grows (λ y. y ≡ t) h p k q
+  pub is_black : IsBlack k t
+  pub invariant : (followed : List Place) → InvariantWhile followed h p → InvariantWhile followed k q
+
+put_effect : (h : HeapState) (p : Piles) (t : Place) (k : HeapState) (q : Piles) → Blackened h t k → Puts h.shape t p q → Effect h p t k q
+put_effect h p t k q turned puts = subst (λ (z : HeapState). Blackened h t z → Effect h p t z q) (sym turned.rest) (λ tu. record {
+  grows = grown h k.colours p q t tu puts;
+  is_black = tu.black;
+  invariant = invariant_kept h k.colours p q t tu puts;
+}) turned
+
+pub turn_effect : (h : HeapState) (p : Piles) (t : Place) (k : HeapState) (q : Piles) → Turns h p t k q → Effect h p t k q
+turn_effect h p t k q (inl (b, ek, eq)) = subst (λ (z : HeapState). Effect h p t z q) (sym ek) (subst (λ (z : Piles). Effect h p t h z) (sym eq) (record { grows = grows_none (λ y. y ≡ t) h p; is_black = b; invariant = λ followed inv. inv }))
+turn_effect h p t k q (inr (inl (turned, m, eq))) = subst (λ (z : Piles). Effect h p t k z) (sym eq) (put_effect h p t k (pushed p pile.Black t) turned (puts_black h.shape t p m))
+turn_effect h p t k q (inr (inr (turned, m, eq))) = subst (λ (z : Piles). Effect h p t k z) (sym eq) (put_effect h p t k (pushed p pile.Wake t) turned (puts_wake h.shape t p m))

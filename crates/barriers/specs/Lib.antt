@@ -1,0 +1,11 @@
+pub mod Reached
+pub mod Colours
+pub mod PendingBlack
+pub mod PendingLive
+pub mod Invariant
+pub mod Spreading
+pub mod BlackBits
+pub mod Rewiring
+pub mod Birth
+pub mod Following
+pub mod Exposing
