@@ -1,11 +1,10 @@
 -- Steps one after another.
-use Rattle.std.proofs.Common.{◌≡◌, ◌⊎◌, ◌+◌, ◌≤◌, ℕ, inl, inr, refl, sym, ap, ◌∙◌, subst, arith, length, length-append, ◌∷◌, []}
+use Rattle.std.proofs.Common.{◌≡◌, inl, inr, refl, sym, ap, ◌∙◌, subst, arith, length-append, ◌∷◌, []}
 use Rattle.gz_names.specs.declared.numbers.Place.{Place}
 use Rattle.mark_stack.specs.Stack.{Piles, pushed}
 use Rattle.mark_stack.specs.declared.stack.Pile.TheVariants as pile
 use Rattle.heap_core.specs.Shape.{Shape, is_marking}
-use Rattle.heap_core.specs.Heap.{HeapState, colour_of}
-use Rattle.barriers.specs.Colours.{IsBlack, left, whites, grays_outside}
+use Rattle.heap_core.specs.Heap.{HeapState}
 use Rattle.barriers.specs.Spreading.{Blackens, Spreads, Grows}
 
 -- the shape is as it was

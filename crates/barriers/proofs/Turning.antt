@@ -1,5 +1,5 @@
 -- A cell turns black, and goes on its zone's pile.
-use Rattle.std.proofs.Common.{◌≡◌, ◌⊎◌, ◌+◌, ◌≤◌, ℕ, Bool, true, false, inl, inr, refl, sym, ap, ◌∙◌, subst, arith, Contains, List, length, ◌∷◌, [], length-append, if◌then◌else◌}
+use Rattle.std.proofs.Common.{◌≡◌, ◌⊎◌, ◌+◌, ◌≤◌, true, false, inl, inr, refl, sym, ap, ◌∙◌, subst, arith, Contains, List, length, ◌∷◌, [], length-append, if◌then◌else◌}
 use Rattle.std.proofs.lemmas.List.Elements.{Contains-append_left, Contains-push, Contains-push_cases}
 use Rattle.gz_names.specs.declared.numbers.Place.{Place}
 use Rattle.cell_bits.specs.declared.bits.Bits.{Bits}
@@ -7,9 +7,9 @@ use Rattle.mark_stack.specs.Stack.{Piles, pushed}
 use Rattle.mark_stack.specs.declared.stack.Pile.TheVariants as pile
 use Rattle.heap_core.specs.Shape.{Shape, is_marking, is_marking_state, state_in, IsPresent}
 use Rattle.heap_core.specs.Heap.{HeapState, colour_of}
-use Rattle.barriers.specs.Colours.{IsBlack, IsSeen, left, whites, grays_outside}
+use Rattle.barriers.specs.Colours.{IsBlack, IsSeen}
 use Rattle.barriers.specs.Invariant.{ColourInvariant, PileInvariant, InvariantWhile}
-use Rattle.barriers.specs.Spreading.{Blackened, Blackens, Grows, Turns}
+use Rattle.barriers.specs.Spreading.{Blackened, Grows, Turns}
 use Rattle.barriers.proofs.Places.{same_or_other}
 use Rattle.barriers.proofs.Blackening.{marking_or_not}
 use Rattle.barriers.proofs.Spreading.{grows_none}

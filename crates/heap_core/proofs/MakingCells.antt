@@ -1,12 +1,10 @@
 -- What a new cell changes in the heap.
-use Rattle.std.proofs.Common.{◌≡◌, ◌≢◌, ◌<◌, ◌+◌, ◌==◌, ◌&&◌, ◌⊎◌, inl, inr, ℕ, zero, suc, Bool, true, false, not, List, [], ◌∷◌, ◌++◌, length, map, Option, Some, None, IsSome, IsSomeAnd, IfSome, slice_get, slice_set, is_some, is_none, if◌then◌else◌, option_map, refl, sym, ◌∙◌, ap, subst, arith, eqb-true, eq-eqb, ne_eqb}
+use Rattle.std.proofs.Common.{◌≡◌, ◌≢◌, ◌<◌, ◌+◌, ◌==◌, ◌&&◌, ◌⊎◌, inl, inr, ℕ, zero, suc, Bool, true, false, not, List, [], ◌∷◌, ◌++◌, length, Option, Some, None, IsSomeAnd, IfSome, slice_get, slice_set, is_none, if◌then◌else◌, refl, sym, ◌∙◌, ap, subst, arith, eq-eqb, ne_eqb}
 use Rattle.std.proofs.lemmas.Bool.{cases_eq, and_from, and_left, and_right}
 use Rattle.std.proofs.lemmas.Nat.Bits.{bit_at-zero}
 use Rattle.std.proofs.lemmas.List.{length-append, length-map, length-set}
-use Rattle.std.specs.Int.{bit_at}
 use Rattle.gz_names.specs.declared.numbers.Place.{Place}
 use Rattle.cell_bits.specs.declared.bits.Bits.{Bits}
-use Rattle.cell_bits.specs.declared.bits.Colour.{Colour}
 use Rattle.cell_bits.specs.declared.bits.Colour.TheVariants as colour
 use Rattle.cell_bits.specs.Colours as bits
 use Rattle.cell_bits.specs.Colours.{Marks}
@@ -16,10 +14,10 @@ use Rattle.arena_table.specs.Placement.{place_for, place_from}
 use Rattle.arena_table.specs.Indexed.{is_open}
 use Rattle.arena_table.specs.Table.{ArenasState, grown_to, is_place, put_at}
 use Rattle.arena_table.proofs.Placing.{open-parts}
-use Rattle.arena_table.proofs.Putting.{grown-open, grown-within}
-use Rattle.arena_table.proofs.Changing.{length-change_at, slice_get-change_same}
-use Rattle.heap_core.specs.Shape.{ArenaShape, AreWhole, Shape, arena_shape, arena_shapes, cell_of, out_in, out_of, present_in, is_white, stored_at, zone_in, zone_of}
-use Rattle.heap_core.specs.Heap.{HeapState, bits_of, colour_in, colour_of}
+use Rattle.arena_table.proofs.Putting.{grown-open}
+use Rattle.arena_table.proofs.Changing.{length-change_at}
+use Rattle.heap_core.specs.Shape.{ArenaShape, AreWhole, Shape, arena_shape, arena_shapes, cell_of, out_in, present_in, is_white, stored_at, zone_in}
+use Rattle.heap_core.specs.Heap.{HeapState, bits_of, colour_in}
 use Rattle.heap_core.specs.Blackening.{Blackens}
 use Rattle.heap_core.specs.Changes.{Makes, next_place_from, takes_cells}
 use Rattle.heap_core.proofs.Views.{shapes-with_bits, bits-with_bits, with_arenas, with_state}

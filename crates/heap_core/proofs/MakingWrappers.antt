@@ -1,21 +1,20 @@
 -- What a new wrapper changes in the heap.
-use Rattle.std.proofs.Common.{◌≡◌, ◌≢◌, ◌<◌, ◌≤◌, ◌+◌, ◌==◌, ◌&&◌, ◌++◌, ◌⊎◌, inl, inr, ℕ, zero, suc, Bool, true, false, List, [], ◌∷◌, length, Option, Some, None, IsSomeAnd, IfSome, slice_get, if◌then◌else◌, option_map, eq-eqb, refl, sym, ◌∙◌, ap, subst, arith, set, get_or-set_same, get_or-set_other}
+use Rattle.std.proofs.Common.{◌≡◌, ◌<◌, ◌≤◌, ◌+◌, ◌==◌, ◌&&◌, ◌++◌, inl, inr, ℕ, zero, suc, Bool, true, false, List, [], ◌∷◌, length, Option, Some, None, IsSomeAnd, IfSome, slice_get, if◌then◌else◌, option_map, eq-eqb, refl, sym, ◌∙◌, ap, subst, arith, set, get_or-set_same, get_or-set_other}
 use Rattle.std.proofs.lemmas.Bool.{and_from, cases_lt}
 use Rattle.gz_names.specs.declared.names.Name.TheVariants.{Wrap}
 use Rattle.gz_names.specs.declared.numbers.CompNo.{CompNo}
 use Rattle.gz_names.specs.declared.numbers.Place.{Place}
 use Rattle.gz_names.specs.declared.commands.Kind.TheVariants as kind
 use Rattle.arena_table.specs.Cells.{CellState, with_value}
-use Rattle.arena_table.specs.Slots.{Arena, cell_at, change_at, empty_arena, with_cell, with_field}
+use Rattle.arena_table.specs.Slots.{Arena, cell_at, change_at, with_cell, with_field}
 use Rattle.arena_table.specs.Placement.{place_for}
 use Rattle.arena_table.specs.Table.{ArenasState, grown_to, is_place, new_cell, put_at}
 use Rattle.arena_table.proofs.Changing.{length-change_at}
 use Rattle.wrappers.specs.WrapperMaps.{WrappersState, add_at, list_at, list_of, place_of}
-use Rattle.wrappers.specs.declared.wrapper_maps.WrapperKey.{WrapperKey}
 use Rattle.heap_core.specs.Shape.{IsPresent}
 use Rattle.heap_core.specs.Heap.{HeapState}
 use Rattle.heap_core.specs.Blackening.{Blackens}
-use Rattle.heap_core.specs.Changes.{Makes, MakesWrapper, wrapper_cell}
+use Rattle.heap_core.specs.Changes.{MakesWrapper, wrapper_cell}
 use Rattle.heap_core.proofs.Views.{with_state}
 use Rattle.heap_core.proofs.MakingCells.{IsMade, length-grown, makes-seen, put-kept, put-state, put-with_field}
 use Rattle.heap_core.proofs.WritingFields.{present-within}
@@ -92,9 +91,9 @@ listed-in : (old new : WrappersState) (zone comp number : ℕ) (p : Place) → I
 listed-in old new zone comp number p h = elim (cases_lt zone (length old.lists)) [
   | inl lt ↦ lt
   | inr le ↦ (
-    let same : place_of new comp number ≡ None = ap (λ (w : WrappersState). place_of w comp number) (h.added ∙ ap (λ ls. record { lists = ls }) (past-end old.lists zone (list_at old.lists zone ++ (record { comp = comp; target = number }, p) ∷ []) le)) ∙ h.absent in
-    let there : place_of new comp number ≡ Some p = h.found comp number ∙ ap (λ b. if b then Some p else place_of old comp number) (and_from (comp == comp) (number == number) (eq-eqb _ _ refl) (eq-eqb _ _ refl)) in
-    absurd (cc (same, there)))
+      let same : place_of new comp number ≡ None = ap (λ (w : WrappersState). place_of w comp number) (h.added ∙ ap (λ ls. record { lists = ls }) (past-end old.lists zone (list_at old.lists zone ++ (record { comp = comp; target = number }, p) ∷ []) le)) ∙ h.absent in
+      let there : place_of new comp number ≡ Some p = h.found comp number ∙ ap (λ b. if b then Some p else place_of old comp number) (and_from (comp == comp) (number == number) (eq-eqb _ _ refl) (eq-eqb _ _ refl)) in
+      absurd (cc (same, there)))
 ]
 
 pub wrapper-seen : (h k : HeapState) (s t : ArenasState) (old new : WrappersState) (zone : ℕ) (comp : CompNo) (number : ℕ) (p target : Place) → with_state h s ≡ k → k.shape.wrappers ≡ old → IsMade s t zone p (wrapper_cell comp number target) → IsAdded old new zone comp.0 number p → MakesWrapper k zone comp number target p (record (with_state h t) { shape = record (with_state h t).shape { wrappers = new } })

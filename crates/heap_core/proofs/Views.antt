@@ -1,13 +1,12 @@
 -- How a change of the arenas shows in the heap.
-use Rattle.std.proofs.Common.{◌≡◌, ◌≢◌, ◌<◌, ◌+◌, ◌==◌, ◌&&◌, ℕ, zero, suc, Bool, true, false, List, [], ◌∷◌, ◌++◌, length, map, Option, Some, None, slice_get, slice_set, slice_index_or, option_map, unwrap_or, is_some, if◌then◌else◌, All, refl, sym, ◌∙◌, ap, subst, arith}
-use Rattle.std.proofs.lemmas.Bool.{false≢true}
+use Rattle.std.proofs.Common.{◌≡◌, ◌+◌, ◌&&◌, ℕ, zero, suc, Bool, true, false, List, [], ◌∷◌, Option, Some, None, slice_get, slice_set, option_map, unwrap_or, is_some, if◌then◌else◌, All, refl, sym, ◌∙◌, ap, subst}
 use Rattle.std.proofs.lemmas.List.Elements.{All-nil, All-cons, All-head, All-tail}
 use Rattle.cell_bits.specs.declared.bits.Bits.{Bits}
 use Rattle.cell_bits.specs.declared.jobs.Job.{Job}
 use Rattle.arena_table.specs.Slots.{Arena, alloc_word_of, change_at, handed_out, held_by, held_in, is_out_at, taken_in, with_bits}
 use Rattle.arena_table.specs.Indexed.{in_zones}
 use Rattle.arena_table.specs.Table.{ArenasState, AreIn, in_these, jobs_from, no_bits}
-use Rattle.heap_core.specs.Shape.{ArenaShape, Shape, arena_shape, arena_shapes, is_white, out_in, out_of}
+use Rattle.heap_core.specs.Shape.{ArenaShape, arena_shape, arena_shapes, is_white, out_in, out_of}
 use Rattle.heap_core.specs.Heap.{HeapState, bits_of}
 use Rattle.heap_core.specs.Sweeping.{AreKept, cleared, come_in, handed, held_in_all, is_lost_in, jobs_of, with_clear, with_handed, with_taken}
 

@@ -1,5 +1,5 @@
 -- What a written field changes in the heap.
-use Rattle.std.proofs.Common.{◌≡◌, ◌<◌, ◌==◌, ℕ, zero, suc, Bool, true, false, List, [], ◌∷◌, length, Option, Some, None, IsSome, slice_get, if◌then◌else◌, option_map, refl, sym, ◌∙◌, ap, subst, arith}
+use Rattle.std.proofs.Common.{◌≡◌, ◌<◌, ℕ, zero, suc, Bool, true, false, List, [], ◌∷◌, length, Option, Some, None, if◌then◌else◌, option_map, refl, sym, ◌∙◌, ap, subst, arith}
 use Rattle.std.proofs.lemmas.List.{length-map}
 use Rattle.std.specs.Option.{ForSome}
 use Rattle.gz_names.specs.declared.numbers.Place.{Place}
@@ -8,10 +8,10 @@ use Rattle.arena_table.specs.Cells.{CellState, with_value}
 use Rattle.arena_table.specs.Slots.{Arena, cell_at, change_at, change_cell, with_field}
 use Rattle.arena_table.specs.Table.{ArenasState, is_place}
 use Rattle.arena_table.proofs.Changing.{length-change_at}
-use Rattle.heap_core.specs.Shape.{ArenaShape, AreWhole, Shape, IsPresent, arena_shape, arena_shapes, cell_of, is_white}
+use Rattle.heap_core.specs.Shape.{ArenaShape, AreWhole, Shape, IsPresent, arena_shape, arena_shapes, is_white}
 use Rattle.heap_core.specs.Heap.{HeapState, bits_of}
 use Rattle.heap_core.specs.Changes.{Writes}
-use Rattle.heap_core.proofs.Views.{with_arenas, with_state}
+use Rattle.heap_core.proofs.Views.{with_state}
 use Rattle.heap_core.proofs.MakingCells.{cells-seen, stored-seen, whole-change, colours-change, out_at, out-change, visible, zone_at, zone-change}
 
 -- a present cell lies in an arena

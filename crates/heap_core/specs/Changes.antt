@@ -1,18 +1,16 @@
 -- What commands change in a heap, by places.
-use Rattle.std.specs.Prelude.{◌≡◌, ◌≢◌, ◌<◌, ℕ, zero, suc, ◌+◌, ◌==◌, ◌&&◌, Bool, true, false, List, [], ◌∷◌, ◌++◌, length, Option, Some, None, slice_get, slice_set, replicate, is_none, if◌then◌else◌, option_and_then}
+use Rattle.std.specs.Prelude.{◌≡◌, ◌≢◌, ◌<◌, ℕ, suc, ◌+◌, ◌==◌, ◌&&◌, Bool, List, [], ◌∷◌, ◌++◌, length, Option, Some, None, is_none, if◌then◌else◌}
 use Rattle.std.specs.Option.{option_map}
-use Rattle.gz_names.specs.declared.commands.Kind.{Kind}
 use Rattle.gz_names.specs.declared.commands.Kind.TheVariants as kind
-use Rattle.gz_names.specs.declared.names.Name.{Name}
-use Rattle.gz_names.specs.declared.names.Name.TheVariants.{Cell, Wrap}
+use Rattle.gz_names.specs.declared.names.Name.TheVariants.{Wrap}
 use Rattle.gz_names.specs.declared.numbers.CompNo.{CompNo}
 use Rattle.gz_names.specs.declared.numbers.Place.{Place}
 use Rattle.zones.specs.declared.states.State.TheVariants as state
 use Rattle.cell_bits.specs.declared.bits.Colour.TheVariants as colour
 use Rattle.arena_table.specs.Cells.{CellState, with_value}
 use Rattle.arena_table.specs.Slots.{has_free, first_free}
-use Rattle.arena_table.specs.Table.{new_cell, is_place}
-use Rattle.wrappers.specs.WrapperMaps.{WrappersState, place_of, list_of}
+use Rattle.arena_table.specs.Table.{is_place}
+use Rattle.wrappers.specs.WrapperMaps.{place_of, list_of}
 use Rattle.weak_maps.specs.WeakMaps.{put, del}
 use Rattle.heap_core.specs.Shape.{Shape, ArenaShape, AreWhole, cell_of, zone_of, out_of, stored_at}
 use Rattle.heap_core.specs.Heap.{HeapState, colour_of}

@@ -1,5 +1,5 @@
 -- The graph that a heap shows: its present cells under their names.
-use Rattle.std.specs.Prelude.{◌≡◌, ◌≤◌, ℕ, Bool, true, false, List, [], ◌∷◌, length, map, Option, Some, None, IsSome, IsTrue, slice_get, Contains}
+use Rattle.std.specs.Prelude.{◌≡◌, ◌≤◌, ℕ, Bool, true, false, [], ◌∷◌, length, map, Some, IsTrue, slice_get, Contains}
 use Rattle.gz_names.specs.declared.names.Name.{Name}
 use Rattle.gz_names.specs.declared.names.Name.TheVariants.{Cell, Wrap}
 use Rattle.gz_names.specs.declared.numbers.CompNo.{CompNo}

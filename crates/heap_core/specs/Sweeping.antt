@@ -1,5 +1,5 @@
 -- What sweeping and a group's beginning and end change in a heap.
-use Rattle.std.specs.Prelude.{◌≡◌, ℕ, suc, ◌==◌, true, List, [], ◌∷◌, Option, Some, None, Bool, false, ◌&&◌, is_none, slice_get, ◌+◌, slice_set, All, if◌then◌else◌}
+use Rattle.std.specs.Prelude.{◌≡◌, ℕ, suc, true, List, [], ◌∷◌, Option, Some, None, Bool, false, ◌&&◌, is_none, slice_get, ◌+◌, slice_set, All, if◌then◌else◌}
 use Rattle.gz_names.specs.declared.numbers.Place.{Place}
 use Rattle.cell_bits.specs.declared.bits.Bits.{Bits}
 use Rattle.cell_bits.specs.declared.jobs.Job.{Job}

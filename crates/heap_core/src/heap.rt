@@ -25,7 +25,10 @@ ghost use Rattle.gz_names.specs.declared.commands.Kind.TheVariants as kind;
 use crate::steps::Steps;
 use arena_table::{Arenas, Jobs};
 use cell_bits::{Bits, Colour};
-use gz_names::{COMP_LIMIT, CompNo, GrayNo, Kind, Name, Names64, NoMemory, Place, Reg, ZONE_LIMIT, ZoneNo, ZoneSet};
+use gz_names::{
+    COMP_LIMIT, CompNo, GrayNo, Kind, Name, Names64, NoMemory, Place, Reg, ZONE_LIMIT, ZoneNo,
+    ZoneSet,
+};
 use roots::Roots;
 use std::alloc::{AllocError, Global};
 use std::marker::Model;
@@ -245,9 +248,11 @@ impl Heap {
     pub fn advance(&mut self, zone: ZoneNo)
         requires { zone < length self.old.shape.states }
         ensures { IsSomeAnd (slice_get self.old.shape.states zone)
-            (λ s. self.new ≡ record self.old { shape = record self.old.shape {
-              states = slice_set self.old.shape.states zone (next_state s);
-            } }) }
+            (λ s. self.new ≡ record self.old {
+              shape = record self.old.shape {
+                states = slice_set self.old.shape.states zone (next_state s);
+              };
+            }) }
     {
         self.zones.advance(zone);
     }
@@ -355,10 +360,12 @@ impl Heap {
     /// present any more. It walks the wrapper maps of these zones and the entries, and takes no
     /// memory.
     pub fn drop_dead(&mut self, zones: ZoneSet)
-        ensures rest { self.new ≡ record self.old { shape = record self.old.shape {
-          wrappers = self.new.shape.wrappers;
-          weak = self.new.shape.weak;
-        } } }
+        ensures rest { self.new ≡ record self.old {
+          shape = record self.old.shape {
+            wrappers = self.new.shape.wrappers;
+            weak = self.new.shape.weak;
+          };
+        } }
         ensures wrappers { (z : ℕ) → list_of self.new.shape.wrappers z
             ≡ without_dead (bit_at zones.bits z) (is_absent self.old.shape)
             (list_of self.old.shape.wrappers z) }
@@ -495,7 +502,8 @@ impl Heap {
     {
         let place = self.arenas.reserve_place(zone)?;
         self.wrappers.add(zone, comp, number, place)?;
-        self.arenas.put_cell(place, Kind::Wrapper, comp, Name::Wrap(comp, number));
+        self.arenas
+            .put_cell(place, Kind::Wrapper, comp, Name::Wrap(comp, number));
         self.arenas.set_field(place, 0, Some(target));
         blacken(&mut self.arenas, place);
         Ok(place)
@@ -539,12 +547,7 @@ impl Heap {
     }
 
     // Gives a value to a key of a map.
-    pub(crate) fn put_entry(
-        &mut self,
-        map: Place,
-        key: Place,
-        value: Place,
-    ) -> Result<(), NoMemory>
+    pub(crate) fn put_entry(&mut self, map: Place, key: Place, value: Place) -> Result<(), NoMemory>
         ensures put { OnOk result (self.new ≡ with_entry self.old map key value) }
         ensures found { OnOk result ((m k : APlace) → value_of self.new.shape.weak m k
             ≡ (if is_same map m && is_same key k
@@ -595,8 +598,7 @@ fn holds_cell(arenas: &Arenas, place: Place) -> bool
     ensures cell { result ≡ is_some (cell_at arenas.now.arenas place) }
     ensures made { result ≡ true → place.0 < length arenas.now.arenas }
 {
-    place.arena() < arenas.arenas()
-        && (arenas.alloc_word(place.arena()) >> place.slot()) & 1 == 1
+    place.arena() < arenas.arenas() && (arenas.alloc_word(place.arena()) >> place.slot()) & 1 == 1
 }
 
 // Whether a slot was white as its arena was handed to sweeping.

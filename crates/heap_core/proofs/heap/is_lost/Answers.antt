@@ -1,4 +1,4 @@
-use Rattle.std.proofs.Common.{◌≡◌, ◌∙◌, ap, slice_get}
+use Rattle.std.proofs.Common.{◌∙◌, ap, slice_get}
 use Rattle.heap_core.specs.Sweeping.{is_lost_in}
 use Rattle.heap_core.proofs.Views.{lost-seen}
 use Rattle.heap_core.proofs.heap.is_lost.Goals as goal

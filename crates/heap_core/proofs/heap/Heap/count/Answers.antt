@@ -1,4 +1,4 @@
-use Rattle.std.proofs.Common.{◌≡◌, ◌∙◌, ap}
+use Rattle.std.proofs.Common.{◌∙◌, ap}
 use Rattle.heap_core.specs.Heap.{HeapState}
 use Rattle.heap_core.specs.Sweeping.{held_in_all}
 use Rattle.heap_core.proofs.Views.{held-seen}

@@ -1,4 +1,4 @@
-use Rattle.std.proofs.Common.{◌≡◌, ◌∙◌, ◌==◌, ap, sym, length, ℕ}
+use Rattle.std.proofs.Common.{◌∙◌, ◌==◌, ap, sym, length, ℕ}
 use Rattle.std.proofs.lemmas.List.{length-map}
 use Rattle.gz_names.specs.declared.numbers.Place.{Place}
 use Rattle.heap_core.specs.contracts.heap.Heap.{the_view}

@@ -1,4 +1,4 @@
-use Rattle.std.proofs.Common.{◌≡◌, ◌∙◌, ap, is_some}
+use Rattle.std.proofs.Common.{◌∙◌, ap, is_some}
 use Rattle.heap_core.specs.Shape.{out_of}
 use Rattle.heap_core.specs.Heap.{HeapState}
 use Rattle.heap_core.proofs.Views.{is_out-seen}

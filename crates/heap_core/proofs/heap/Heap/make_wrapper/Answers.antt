@@ -1,6 +1,5 @@
 use Rattle.std.proofs.Common.{◌≡◌, ◌∙◌, ap, sym, subst, ℕ, Contains}
-use Rattle.wrappers.specs.WrapperMaps.{WrappersState, list_of, place_of}
-use Rattle.wrappers.specs.declared.wrapper_maps.WrapperKey.{WrapperKey}
+use Rattle.wrappers.specs.WrapperMaps.{list_of, place_of}
 use Rattle.heap_core.specs.contracts.heap.Heap.{the_view}
 use Rattle.heap_core.specs.Heap.{HeapState}
 use Rattle.heap_core.proofs.MakingWrappers.{target-within, wrapper-made, wrapper-seen, written-kept}

@@ -1,6 +1,5 @@
-use Rattle.std.proofs.Common.{◌≡◌, ap, refl, List}
+use Rattle.std.proofs.Common.{ap, refl}
 use Rattle.arena_table.specs.Table.{ArenasState}
-use Rattle.wrappers.specs.WrapperMaps.{WrappersState}
 use Rattle.roots.specs.RootsHeld.{RootsState}
 use Rattle.weak_maps.specs.WeakMaps.{WeakMapsState, value_of}
 use Rattle.zones.specs.ZonesMade.{ZonesState}

@@ -1,4 +1,4 @@
-use Rattle.std.proofs.Common.{◌≡◌, ◌∙◌, sym, subst}
+use Rattle.std.proofs.Common.{◌∙◌, sym, subst}
 use Rattle.heap_core.specs.Shape.{IsPresent}
 use Rattle.heap_core.proofs.Seen.{target_present}
 use Rattle.heap_core.proofs.heap.Heap.wrapped_in.Goals as goal
