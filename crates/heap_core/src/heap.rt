@@ -1,5 +1,5 @@
 // The heap of all zones, and what the crates above use of its parts.
-ghost use Rattle.std.specs.Prelude.{◌≡◌, ◌≢◌, ◌<◌, ◌≤◌, ◌+◌, ◌++◌, ◌∷◌, ◌↔◌, ◌==◌, ◌&&◌, [], ℕ, Bool, true, false, None, Some, length, replicate, slice_get, slice_set, slice_index_or, is_some, if◌then◌else◌, IfOk, IfSome, IfNone, IsSome, IsSomeAnd, OnOk, OnErr, Contains, Err, All};
+ghost use Rattle.std.specs.Prelude.{◌≡◌, ◌≢◌, ◌<◌, ◌≤◌, ◌+◌, ◌++◌, ◌∷◌, ◌↔◌, ◌==◌, ◌&&◌, [], ℕ, Bool, true, false, None, Some, length, replicate, slice_get, slice_set, slice_index_or, is_some, sum_by, if◌then◌else◌, IfOk, IfSome, IfNone, IsSome, IsSomeAnd, OnOk, OnErr, Contains, Err, All};
 ghost use Rattle.cell_bits.specs.declared.bits.Colour.TheVariants as colour;
 ghost use Rattle.gz_names.specs.declared.numbers.Place.{Place as APlace};
 ghost use Rattle.std.specs.Int.{bit_at};
@@ -208,6 +208,7 @@ impl Heap {
     pub fn comps(&self) -> u16
         ensures value { result ≡ length self.now.shape.comps }
         ensures homes { All (λ zone. zone < length self.now.shape.states) self.now.shape.comps }
+        ensures most { result ≤ COMP_LIMIT }
     {
         self.zones.comps()
     }
@@ -293,6 +294,8 @@ impl Heap {
     pub fn next_buffered(&mut self, zone: ZoneNo) -> Option<Place>
         ensures some { IfSome result (λ place. self.old
             ≡ record self.new { buffers = put_at self.new.buffers zone place }) }
+        ensures count { IfSome result (λ _. sum_by length self.old.buffers
+            ≡ sum_by length self.new.buffers + 1) }
         ensures none { IfNone result ((buffer_at self.old.buffers zone ≡ [])
             × (self.new ≡ self.old)) }
     {
