@@ -65,7 +65,8 @@ impl Edges {
 
     /// Looks at the next wrapper of a zone. Where it leads to another one of the zones, to a cell
     /// that is not black, an edge is noted from its zone to its target's. `Empty` exactly where each
-    /// wrapper was looked at. It takes no memory, and reads one edge for each look.
+    /// wrapper was looked at. No arena is out, so all mark bits are the heap's. A look reads one
+    /// edge, and takes no memory.
     pub fn edge_unit<L: Ledger>(&mut self, heap: &Heap, steps: &mut Steps<L>) -> Look
         requires kept { (a : ℕ) → out_of heap.now.shape a ≡ None }
         requires sized { length heap.now.colours ≡ length heap.now.shape.arenas }
