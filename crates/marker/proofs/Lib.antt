@@ -1,0 +1,6 @@
+pub mod BlackSteps
+pub mod Graying
+pub mod Shading
+pub mod GrayLoops
+pub mod WaitingLists
+pub mod GraySteps

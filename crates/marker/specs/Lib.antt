@@ -1,0 +1,4 @@
+pub mod Shading
+pub mod GrayBits
+pub mod Waiting
+pub mod Units
