@@ -1,0 +1,5 @@
+use Rattle.slice_driver.proofs.SweepingLaws.{end_unit}
+use Rattle.slice_driver.proofs.end_laws.end_unit_law.Goals as goal
+
+pub returns : goal.returns
+returns c = end_unit

@@ -1,0 +1,5 @@
+use Rattle.slice_driver.proofs.SweepingLaws.{finishes_here}
+use Rattle.slice_driver.proofs.end_laws.finish_law.Goals as goal
+
+pub returns : goal.returns
+returns c = finishes_here

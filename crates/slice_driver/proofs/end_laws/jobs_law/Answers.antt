@@ -1,0 +1,5 @@
+use Rattle.slice_driver.proofs.GroupEndLaws.{jobs_flown}
+use Rattle.slice_driver.proofs.end_laws.jobs_law.Goals as goal
+
+pub returns : goal.returns
+returns c = jobs_flown

@@ -1,0 +1,5 @@
+use Rattle.slice_driver.proofs.SweepingLaws.{takes_in}
+use Rattle.slice_driver.proofs.end_laws.sweep_law.Goals as goal
+
+pub returns : goal.returns
+returns c = takes_in

@@ -1,0 +1,5 @@
+use Rattle.slice_driver.proofs.BeginsIn.{begins_in}
+use Rattle.slice_driver.proofs.laws.begins_law.Goals as goal
+
+pub returns : goal.returns
+returns c = begins_in

@@ -1,0 +1,5 @@
+use Rattle.slice_driver.proofs.Blackness.{reached_or}
+use Rattle.slice_driver.proofs.laws.reached_law.Goals as goal
+
+pub returns : goal.returns
+returns c = reached_or

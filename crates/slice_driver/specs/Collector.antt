@@ -1,0 +1,44 @@
+-- What a collector is, by the values of its parts.
+use Rattle.std.specs.Prelude.{◌≡◌, ◌<◌, ◌↔◌, ℕ, Bool, false, List, Option, Some, None}
+use Rattle.gz_names.specs.Zones.{HasZone}
+use Rattle.gz_names.specs.declared.zone_sets.ZoneSet.{ZoneSet}
+use Rattle.cell_bits.specs.declared.bits.Bits.{Bits}
+use Rattle.mark_stack.specs.Stack.{Piles}
+use Rattle.gray_lists.specs.Incoming.{Incoming}
+use Rattle.zone_edges.specs.Noted.{Noted}
+use Rattle.heap_core.specs.Shape.{Shape, out_of}
+use Rattle.heap_core.specs.Heap.{HeapState, joined}
+use Rattle.slice_driver.specs.declared.collector.Run.{Run}
+
+-- the collection that runs: its zones, and whether its groups are formed
+pub record RunState : Type 0 where
+  pub zones : ZoneSet
+  pub formed : Bool
+
+-- groups: those that have not ended, the current one first
+pub record CollectorState : Type 0 where
+  pub heap : HeapState
+  pub stack : Piles
+  pub lists : Incoming
+  pub edges : Noted
+  pub groups : List ZoneSet
+  pub run : Option RunState
+
+-- the heap of a collector, with the bits that are in flight
+abbrev pub heap_with : CollectorState → (ℕ → Option Bits) → HeapState
+heap_with c flown = joined c.heap flown
+
+-- the collection that runs, as it is kept
+abbrev pub run_of : Option Run → Option RunState
+run_of None = None
+run_of (Some run) = Some (record { zones = run.zones; formed = run.formed })
+
+-- the zones without a grouping step are those of the collection that the search does not know as stepped
+abbrev pub AreUngrouped : Noted → Option Run → ZoneSet → Type 0
+AreUngrouped edges None ungrouped = Unit {0}
+AreUngrouped edges (Some run) ungrouped = run.formed ≡ false → (z : ℕ) → HasZone ungrouped.bits z ↔ (HasZone run.zones.bits z × (HasZone edges.stepped.bits z → ⊥))
+
+-- what is kept besides: which zones wait for their grouping step, and below which arena none is handed to sweeping
+pub record IsKept (s : Shape) (edges : Noted) (run : Option Run) (ungrouped : ZoneSet) (out_from : ℕ) : Type 0 where
+  pub waiting : AreUngrouped edges run ungrouped
+  pub none_below : (a : ℕ) → a < out_from → out_of s a ≡ None

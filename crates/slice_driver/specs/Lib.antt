@@ -1,0 +1,12 @@
+pub mod Quiet
+pub mod GroupEnd
+pub mod Sweeping
+pub mod Grouping
+pub mod Collector
+pub mod Worlds
+pub mod Closures
+pub mod Represents
+pub mod Commands
+pub mod Steps
+pub mod Begins
+pub mod Units

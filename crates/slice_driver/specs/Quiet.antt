@@ -1,0 +1,66 @@
+-- A step that leaves the world as it is.
+use Rattle.std.specs.Prelude.{◌≡◌, ◌≢◌, ◌⊎◌, ◌↔◌, ℕ, true, false, length, Option, Some}
+use Rattle.gz_names.specs.declared.numbers.Place.{Place}
+use Rattle.cell_bits.specs.declared.bits.Bits.{Bits}
+use Rattle.zones.specs.declared.states.State.{State}
+use Rattle.zones.specs.declared.states.State.TheVariants as state
+use Rattle.colour_defs.specs.World.{World, Collection}
+use Rattle.heap_core.specs.Shape.{state_in}
+use Rattle.zone_edges.specs.Looks.{AreAllLookedAt}
+use Rattle.barriers.specs.Colours.{IsBlack}
+use Rattle.barriers.specs.Invariant.{MarkingInvariant}
+use Rattle.barriers.specs.PendingBlack.{PendingBlack}
+use Rattle.barriers.specs.PendingLive.{PendingLive, GrayInvariant}
+use Rattle.slice_driver.specs.Collector.{CollectorState, RunState, heap_with}
+use Rattle.slice_driver.specs.Worlds.{IsInFlight}
+use Rattle.slice_driver.specs.Represents.{AreLookedAt, IsCurrent, Represents, WaitsWhileMarking}
+
+-- a collection runs, and its groups are formed
+abbrev pub IsFormed : CollectorState → Type 0
+IsFormed c = (r : RunState) × (c.run ≡ Some r) × (r.formed ≡ true)
+
+-- a zone's state is as it was, or its gray marking begins: then it is one of the current group
+abbrev pub IsStateAfter : CollectorState → ℕ → State → Type 0
+IsStateAfter c z t = (t ≡ state_in c.heap.shape z) ⊎ (IsFormed c × IsCurrent c.groups z × (state_in c.heap.shape z ≡ state.MarkBlackOnly) × (t ≡ state.MarkBlackAndGray))
+
+-- nothing is in the heap but what was, its invariants hold, and as much is left to mark. Black may have spread, also in bits that are in flight
+pub record IsQuiet (c : CollectorState) (flown : ℕ → Option Bits) (d : CollectorState) (flying : ℕ → Option Bits) : Type 0 where
+  pub shape_is : d.heap.shape ≡ record c.heap.shape { states = d.heap.shape.states }
+  pub made_is : d.heap.made ≡ c.heap.made
+  pub run_is : d.run ≡ c.run
+  pub groups_is : d.groups ≡ c.groups
+  pub sized : length d.heap.shape.states ≡ length c.heap.shape.states
+  pub states : (z : ℕ) → IsStateAfter c z (state_in d.heap.shape z)
+  pub flies : IsInFlight d.heap.shape flying
+  pub marks : MarkingInvariant (heap_with d flying) d.stack
+  pub gray : GrayInvariant (heap_with d flying) d.stack d.lists
+  pub waits : WaitsWhileMarking d
+  pub darker : (p : Place) → IsBlack (heap_with c flown) p → IsBlack (heap_with d flying) p
+  pub black : (p : Place) → PendingBlack (heap_with d flying) d.stack p ↔ PendingBlack (heap_with c flown) c.stack p
+  pub live : (p : Place) → PendingLive (heap_with d flying) d.stack d.lists p ↔ PendingLive (heap_with c flown) c.stack c.lists p
+
+-- in each world that the collector stands for, what was noted before the groups are formed is noted rightly, and each wrapper that was looked at is accounted for
+abbrev pub KeepsLooks : CollectorState → (ℕ → Option Bits) → CollectorState → (ℕ → Option Bits) → Type 0
+KeepsLooks c flown d flying = (r : RunState) (w : World) (k : Collection) → Represents c flown w → c.run ≡ Some r → w.collection ≡ Some k → r.formed ≡ false → AreLookedAt (heap_with c flown) c r w k → AreLookedAt (heap_with d flying) d r w k
+
+-- the same edges are noted and the same wrappers were looked at, and no zone had its grouping step but where each wrapper was looked at
+pub record HasSameLooks (c d : CollectorState) : Type 0 where
+  pub zones_are : d.edges.zones ≡ c.edges.zones
+  pub sources_are : d.edges.sources ≡ c.edges.sources
+  pub cursors_are : d.edges.cursors ≡ c.edges.cursors
+  pub stepped : (d.edges.stepped ≡ c.edges.stepped) ⊎ AreAllLookedAt c.heap.shape c.edges
+
+-- gray marking of one zone of the current group begins, and nothing else changed
+pub record BeginsZone (c : CollectorState) (zone : ℕ) (d : CollectorState) : Type 0 where
+  pub formed : IsFormed c
+  pub current : IsCurrent c.groups zone
+  pub was : state_in c.heap.shape zone ≡ state.MarkBlackOnly
+  pub now : state_in d.heap.shape zone ≡ state.MarkBlackAndGray
+  pub others : (z : ℕ) → z ≢ zone → state_in d.heap.shape z ≡ state_in c.heap.shape z
+  pub sized : length d.heap.shape.states ≡ length c.heap.shape.states
+  pub heap_is : d.heap ≡ record c.heap { shape = record c.heap.shape { states = d.heap.shape.states } }
+  pub stack_is : d.stack ≡ c.stack
+  pub lists_is : d.lists ≡ c.lists
+  pub edges_is : d.edges ≡ c.edges
+  pub groups_is : d.groups ≡ c.groups
+  pub run_is : d.run ≡ c.run

@@ -1,0 +1,97 @@
+-- What a collector's calls do in the worlds that it stands for.
+use Rattle.std.specs.Prelude.{◌≡◌, ◌<◌, ◌==◌, ℕ, Bool, List, [], ◌∷◌, Option, Some, None, Result, Ok, Err, IsSome, Contains, AllPairs, slice_get, if◌then◌else◌}
+use Rattle.gz_names.specs.Zones.{zones_in}
+use Rattle.gz_names.specs.declared.commands.GraphCmd.{GraphCmd}
+use Rattle.gz_names.specs.declared.replies.Reply.{Reply}
+use Rattle.gz_names.specs.declared.replies.Reply.TheVariants as reply
+use Rattle.gz_names.specs.declared.replies.CmdFault.{CmdFault}
+use Rattle.gz_names.specs.declared.replies.CmdFault.TheVariants as fault
+use Rattle.gz_names.specs.declared.replies.Report.{Report}
+use Rattle.gz_names.specs.declared.replies.Report.TheVariants as report
+use Rattle.cell_bits.specs.declared.bits.Bits.{Bits}
+use Rattle.cell_bits.specs.declared.jobs.Job.{Job}
+use Rattle.colour_defs.specs.World.{World, CommandInWorld}
+use Rattle.colour_defs.specs.Lawful.{Begins, IsLawfulUnit}
+use Rattle.colour_defs.specs.Laws.{IsValid}
+use Rattle.cell_bits.specs.Colours.{white_mask_of}
+use Rattle.arena_table.specs.Slots.{alloc_word_of}
+use Rattle.heap_core.specs.Shape.{ArenaShape, Shape, out_of}
+use Rattle.slice_driver.specs.declared.collector.Unit.{Unit}
+use Rattle.slice_driver.specs.Collector.{CollectorState}
+use Rattle.slice_driver.specs.Represents.{Represents}
+
+-- no arena is in flight
+abbrev pub none_flown : ℕ → Option Bits
+none_flown a = None
+
+-- the bits of jobs, by arena
+abbrev pub flown_by : List Job → ℕ → Option Bits
+flown_by [] a = None
+flown_by (job ∷ jobs) a = if job.arena == a then Some job.bits else flown_by jobs a
+
+-- all but one arena are in flight on
+abbrev pub without_arena : (ℕ → Option Bits) → ℕ → ℕ → Option Bits
+without_arena flown taken a = if a == taken then None else flown a
+
+-- a collector stands for some valid world
+pub record IsSound (c : CollectorState) (flown : ℕ → Option Bits) : Type 0 where
+  pub world : World
+  pub valid : IsValid world
+  pub represents : Represents c flown world
+
+-- a command was answered: it is one in the world, or memory was wanted and the world is as it was
+abbrev pub AnswersIn : World → GraphCmd → Result Reply CmdFault → CollectorState → (ℕ → Option Bits) → Type 0
+AnswersIn w cmd (Ok answer) c flown = (v : World) × CommandInWorld w cmd answer v × Represents c flown v
+AnswersIn w cmd (Err (fault.Refused why)) c flown = CommandInWorld w cmd (reply.Refused why) w × Represents c flown w
+AnswersIn w cmd (Err fault.NoMemory) c flown = Represents c flown w
+
+-- in each world that the collector stood for
+abbrev pub DoesCommand : CollectorState → (ℕ → Option Bits) → GraphCmd → Result Reply CmdFault → CollectorState → (ℕ → Option Bits) → Type 0
+DoesCommand old flown cmd result new flying = (w : World) → IsValid w → Represents old flown w → AnswersIn w cmd result new flying
+
+-- a collection of these zones began
+abbrev pub BeginsIn : CollectorState → ℕ → CollectorState → Type 0
+BeginsIn old zones new = (w : World) → IsValid w → Represents old none_flown w → (v : World) × Begins w (zones_in (record { bits = zones })) v × Represents new none_flown v
+
+-- the reports of a unit
+abbrev pub with_done : Bool → List Report
+with_done finished = if finished then report.Done ∷ [] else []
+
+abbrev pub reports_of : Option Report → Bool → List Report
+reports_of None finished = []
+reports_of (Some r) finished = r ∷ with_done finished
+
+-- a unit was done: its reports are lawful, and the collector stands for the world after it
+abbrev pub DoesUnit : CollectorState → (ℕ → Option Bits) → List Report → CollectorState → (ℕ → Option Bits) → Type 0
+DoesUnit old flown reports new flying = (w : World) → IsValid w → Represents old flown w → (v : World) × IsLawfulUnit w reports v × Represents new flying v
+
+-- what is in flight after a unit: the arenas that it handed to sweeping, or what was
+abbrev pub flying_after : Option (List Job) → (ℕ → Option Bits) → ℕ → Option Bits
+flying_after None flown = flown
+flying_after (Some jobs) flown = flown_by jobs
+
+-- the lowest arena that is handed to sweeping
+pub record IsLowestOut (s : Shape) (a : ℕ) : Type 0 where
+  pub out : IsSome (out_of s a)
+  pub lowest : (b : ℕ) → b < a → out_of s b ≡ None
+
+-- a unit was done, or an arena is due, and the collector stands for what it stood for
+abbrev pub DoneOrDue : Option ℕ → CollectorState → (ℕ → Option Bits) → Unit → CollectorState → (ℕ → Option Bits) → Type 0
+DoneOrDue (Some a) old flown unit new flying = IsLowestOut new.heap.shape a × ((w : World) → Represents old flown w → Represents new flying w)
+DoneOrDue None old flown unit new flying = DoesUnit old flown (reports_of unit.report unit.finished) new (flying_after unit.handed flying)
+
+abbrev pub UnitDone : CollectorState → (ℕ → Option Bits) → Unit → CollectorState → (ℕ → Option Bits) → Type 0
+UnitDone old flown unit new flying = DoneOrDue unit.due old flown unit new flying
+
+-- the slots of an arena's white cells as it was handed to sweeping
+abbrev pub IsFreedWord : Shape → ℕ → ℕ → Type 0
+IsFreedWord s a freed = (arena : ArenaShape) (bits : Bits) → slice_get s.arenas a ≡ Some arena → arena.out ≡ Some bits → freed ≡ white_mask_of bits (alloc_word_of arena.slots)
+
+-- the freed words of arenas after a unit: those of what was handed to sweeping, or as they were
+abbrev pub WordsAfter : Shape → Option (List Job) → Shape → Type 0
+WordsAfter s None t = (a freed : ℕ) → IsFreedWord s a freed → IsFreedWord t a freed
+WordsAfter s (Some jobs) t = (job : Job) → Contains jobs job → IsFreedWord t job.arena (white_mask_of job.bits job.alloc_word)
+
+-- jobs by ascending arena
+abbrev pub AreAscendingJobs : List Job → Type 0
+AreAscendingJobs jobs = AllPairs (λ (j k : Job). j.arena < k.arena) jobs

@@ -1,0 +1,54 @@
+-- Where the cells of a heap lie in a world.
+use Rattle.std.specs.Prelude.{◌≡◌, ◌↔◌, ◌⊎◌, ℕ, suc, true, is_some, if◌then◌else◌, List, [], ◌∷◌, map, Option, Some, Contains}
+use Rattle.std.specs.FinMap as places
+use Rattle.std.specs.Int.{bit_at}
+use Rattle.gz_names.specs.declared.names.Name.{Name}
+use Rattle.gz_names.specs.declared.numbers.Place.{Place}
+use Rattle.cell_bits.specs.declared.bits.Bits.{Bits}
+use Rattle.arena_table.specs.Cells.{CellState}
+use Rattle.colour_defs.specs.Graph.{GraphState}
+use Rattle.colour_defs.specs.World.{World}
+use Rattle.colour_defs.specs.Present as present
+use Rattle.heap_core.specs.Shape.{ArenaShape, AreWhole, Shape, is_white, name_at, out_of, stored_at}
+use Rattle.heap_core.specs.Heap.{HeapState}
+use Rattle.heap_core.specs.Shows.{Shows}
+
+-- the zone of each arena
+abbrev pub owners_of : List ArenaShape → List ℕ
+owners_of arenas = map (λ (arena : ArenaShape). arena.zone) arenas
+
+-- the numbers of the arenas that are handed to sweeping, where the first of the list has the number n
+abbrev pub outs_from : ℕ → List ArenaShape → List ℕ
+outs_from n [] = []
+outs_from n (arena ∷ arenas) = if is_some arena.out then n ∷ outs_from (suc n) arenas else outs_from (suc n) arenas
+
+-- a cell that was white as its arena was handed to sweeping, and still lies there
+pub record IsUnswept (s : Shape) (p : Place) (x : Name) : Type 0 where
+  pub bits : Bits
+  pub cell : CellState
+  pub out_is : out_of s p.0 ≡ Some bits
+  pub white : is_white bits p.1 ≡ true
+  pub cell_is : stored_at s p ≡ Some cell
+  pub name_is : cell.name ≡ x
+
+-- the bits of an arena in flight: those at hand-out, but that gray slots may have turned black
+pub record IsWokenFrom (old new : Bits) : Type 0 where
+  pub gob : new.gob ≡ old.gob
+  pub kept : (i : ℕ) → bit_at old.black i ≡ 1 → bit_at new.black i ≡ 1
+  pub within : (i : ℕ) → bit_at new.black i ≡ 1 → (bit_at old.black i ≡ 1) ⊎ (bit_at old.gob i ≡ 1)
+
+-- exactly the arenas that are handed to sweeping are in flight
+pub record IsInFlight (s : Shape) (flown : ℕ → Option Bits) : Type 0 where
+  pub covers : (a : ℕ) → is_some (flown a) ≡ is_some (out_of s a)
+  pub woken : (a : ℕ) (old new : Bits) → out_of s a ≡ Some old → flown a ≡ Some new → IsWokenFrom old new
+
+-- the heap has the present cells of the world, each at its place
+pub record LiesIn (h : HeapState) (w : World) : Type 0 where
+  pub whole : AreWhole h.shape.arenas
+  pub graph : GraphState
+  pub shown : Shows h graph
+  pub part : present.Shows w graph
+  pub places_are : (x : Name) (p : Place) → (places.get w.places x ≡ Some p) ↔ (name_at h.shape p ≡ Some x)
+  pub owner_is : w.owner ≡ owners_of h.shape.arenas
+  pub out_is : w.out ≡ outs_from 0 h.shape.arenas
+  pub white_are : (x : Name) (p : Place) → Contains {X = Name × (ℕ × ℕ)} w.white (x, p) ↔ IsUnswept h.shape p x

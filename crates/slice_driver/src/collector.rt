@@ -1,0 +1,171 @@
+// The collector's parts, and what may be asked of it at any time.
+ghost use Rattle.std.specs.Prelude.{◌≡◌, ◌↔◌, ℕ, None, false, IsSome, IsTrue, IfOk, length};
+ghost use Rattle.colour_defs.specs.World.{first_world};
+ghost use Rattle.heap_core.specs.Shape.{is_marking_state, state_in};
+ghost use Rattle.heap_core.specs.Sweeping.{held_in_all};
+ghost use Rattle.slice_driver.specs.Units.{none_flown};
+ghost use Rattle.slice_driver.specs.Represents.{Represents};
+
+use arena_table::Jobs;
+use gray_lists::Lists;
+use gz_names::{NoMemory, Report, ZoneSet};
+use heap_core::Heap;
+use mark_stack::Stack;
+use std::alloc::Global;
+use std::marker::Model;
+use sweep_groups::GroupOrder;
+use zone_edges::Edges;
+
+/// The collection that runs.
+#[derive(Clone, Copy, Debug, PartialEq, Eq)]
+pub struct Run {
+    /// Its zones.
+    pub zones: ZoneSet,
+    /// Whether the groups are formed.
+    pub formed: bool,
+}
+
+/// What one unit did.
+#[derive(Drop)]
+pub struct Unit {
+    /// What it reports.
+    pub report: Option<Report>,
+    /// The arenas that it handed to sweeping, ascending.
+    pub handed: Option<Jobs>,
+    /// Whether the collection is over with it.
+    pub finished: bool,
+    /// The arena that is to be taken in: then nothing was done, and `take_one` does it.
+    pub due: Option<u32>,
+}
+
+/// A heap, and the collection that runs over it.
+#[derive(Drop)]
+pub struct Collector {
+    pub(crate) heap: Heap,
+    pub(crate) stack: Stack,
+    pub(crate) lists: Lists,
+    pub(crate) edges: Edges,
+    pub(crate) order: GroupOrder,
+    pub(crate) run: Option<Run>,
+    // The zones of the collection that had no grouping step yet.
+    pub(crate) ungrouped: ZoneSet,
+    // No arena below this one is handed to sweeping.
+    pub(crate) out_from: u32,
+}
+
+impl Model for Collector {
+    ghost use Rattle.slice_driver.specs.Collector.{CollectorState, IsKept, run_of};
+
+    ghost Value = { CollectorState };
+
+    ghost view = { λ c. record {
+      heap = c.heap;
+      stack = c.stack;
+      lists = c.lists;
+      edges = c.edges;
+      groups = c.order;
+      run = run_of c.run;
+    } };
+
+    ghost invariant = { λ c. IsKept c.heap.shape c.edges c.run c.ungrouped c.out_from };
+}
+
+impl Collector {
+    ghost use Rattle.slice_driver.specs.Collector.{CollectorState};
+
+    /// A collector of an empty heap. It stands for the first world.
+    pub fn new(alloc: Global) -> Result<Self, NoMemory>
+        ensures first { IfOk result (λ c. Represents c none_flown first_world) }
+        ensures idle { IfOk result (λ c. c.run ≡ None) }
+        ensures made { IfOk result (λ c. c.heap.made ≡ 0) }
+    {
+        Ok(Collector {
+            heap: Heap::new(alloc)?,
+            stack: Stack::new(alloc)?,
+            lists: Lists::new(alloc),
+            edges: Edges::new(),
+            order: GroupOrder::new(),
+            run: None,
+            ungrouped: ZoneSet::new(),
+            out_from: 0,
+        })
+    }
+
+    /// Whether a collection runs.
+    pub fn running(&self) -> bool
+        ensures { IsTrue result ↔ IsSome self.now.run }
+    {
+        self.run.is_some()
+    }
+
+    /// Whether no zone is marking.
+    pub fn settled(&self) -> bool
+        ensures { IsTrue result
+            ↔ ((z : ℕ) → is_marking_state (state_in self.now.heap.shape z) ≡ false) }
+    {
+        match self.heap.marking().first() {
+            Some(_) => false,
+            None => true,
+        }
+    }
+
+    /// How many cells were ever made.
+    pub fn made(&self) -> u64
+        ensures { result ≡ self.now.heap.made }
+    {
+        self.heap.made()
+    }
+
+    /// How many weak entries there are.
+    pub fn entries(&self) -> u64
+        ensures { result ≡ length self.now.heap.shape.weak.entries }
+    {
+        self.heap.entries()
+    }
+
+    /// How many cells are present, where no arena is handed to sweeping.
+    pub fn present(&self) -> u64
+        ensures { result ≡ held_in_all self.now.heap.shape.arenas }
+    {
+        self.heap.count()
+    }
+}
+
+impl Unit {
+    // A unit that reports nothing.
+    pub(crate) fn quiet() -> Self
+        ensures { result ≡ record { report = None; handed = None; finished = false; due = None } }
+    {
+        Unit {
+            report: None,
+            handed: None,
+            finished: false,
+            due: None,
+        }
+    }
+
+    // A unit that reports something.
+    pub(crate) fn of(report: Report) -> Self
+        ensures { result ≡ record {
+          report = Some report;
+          handed = None;
+          finished = false;
+          due = None;
+        } }
+    {
+        Unit {
+            report: Some(report),
+            ..Unit::quiet()
+        }
+    }
+
+    // No unit: an arena is to be taken in.
+    pub(crate) fn due(arena: u32) -> Self
+        ensures { result ≡ record { report = None; handed = None; finished = false; due = Some arena } }
+    {
+        Unit {
+            due: Some(arena),
+            ..Unit::quiet()
+        }
+    }
+}
