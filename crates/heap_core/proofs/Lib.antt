@@ -17,3 +17,4 @@ pub mod Seen
 pub mod Wrapped
 pub mod Keyed
 pub mod Empty
+pub mod Taking

@@ -1,5 +1,5 @@
 -- What each command on the graph leaves, by places.
-use Rattle.std.specs.Prelude.{◌≡◌, ◌≢◌, ◌<◌, ℕ, Bool, true, false, Result, Ok, Err, Option, Some, None, IsSomeAnd, replicate, slice_get}
+use Rattle.std.specs.Prelude.{◌≡◌, ◌≢◌, ◌<◌, ◌&&◌, ℕ, Bool, true, false, Result, Ok, Err, Option, Some, None, IsSomeAnd, replicate, slice_get, if◌then◌else◌}
 use Rattle.gz_names.specs.declared.names.Name.TheVariants.{Cell}
 use Rattle.gz_names.specs.declared.commands.Kind.{Kind}
 use Rattle.gz_names.specs.declared.commands.Kind.TheVariants as kind
@@ -14,6 +14,8 @@ use Rattle.gz_names.specs.declared.replies.Refusal.{Refusal}
 use Rattle.arena_table.specs.Cells.{field_count}
 use Rattle.arena_table.specs.Table.{new_cell}
 use Rattle.wrappers.specs.WrapperMaps.{place_of}
+use Rattle.weak_maps.specs.Lists.{is_same}
+use Rattle.weak_maps.specs.WeakMaps.{value_of}
 use Rattle.colour_defs.specs.declared.graph.Object.{Object}
 use Rattle.colour_defs.specs.Step.{named_or_null}
 use Rattle.heap_core.specs.Shape.{comp_at, held_name}
@@ -63,9 +65,14 @@ pub data Wraps (old : HeapState) (r s : ℕ) (c : CompNo) (new : HeapState) : Ty
 abbrev pub Puts : HeapState → ℕ → ℕ → ℕ → HeapState → Type 0
 Puts old m k v new = IsSomeAnd (reg_of old m) (λ map. IsSomeAnd (reg_of old k) (λ key. IsSomeAnd (reg_of old v) (λ value. new ≡ with_entry old map key value)))
 
--- it is there no more
+-- an entry is there no more, and each other one is found as before
+pub record IsWithout (old : HeapState) (map key : Place) (new : HeapState) : Type 0 where
+  pub rest : new ≡ without_entry old map key
+  pub values : (m k : Place) → value_of new.shape.weak m k ≡ (if is_same map m && is_same key k then None else value_of old.shape.weak m k)
+
+-- the entry of a register's map and another one's cell is there no more
 abbrev pub Dels : HeapState → ℕ → ℕ → HeapState → Type 0
-Dels old m k new = IsSomeAnd (reg_of old m) (λ map. IsSomeAnd (reg_of old k) (λ key. new ≡ without_entry old map key))
+Dels old m k new = IsSomeAnd (reg_of old m) (λ map. IsSomeAnd (reg_of old k) (λ key. IsWithout old map key new))
 
 -- what a command leaves, where it is done
 abbrev pub Changes : HeapState → GraphCmd → HeapState → Type 0

@@ -175,6 +175,36 @@ mod tests {
         (Word::Get, 14, 1, 1, Answer::Null),
     ];
 
+    // Two compartments of one zone.
+    const ONE_ZONE: [Line; 8] = [
+        (Word::Zone, 0, 0, 0, Answer::Zone(0)),
+        (Word::Comp, 0, 0, 0, Answer::Comp(0)),
+        (Word::Zone, 0, 0, 0, Answer::Zone(1)),
+        (Word::Comp, 0, 0, 0, Answer::Comp(1)),
+        (Word::New, 0, 0, 1, Answer::Made(0)),
+        (Word::New, 1, 1, 0, Answer::Made(1)),
+        (Word::Set, 0, 0, 1, CROSS),
+        (Word::Get, 2, 0, 0, Answer::Null),
+    ];
+
+    // Commands with more than one reason to be refused. Registers 8 and 9 are empty.
+    const REASONS: [Line; 14] = [
+        (Word::Zone, 0, 0, 0, Answer::Zone(0)),
+        (Word::Comp, 0, 0, 0, Answer::Comp(0)),
+        (Word::Comp, 0, 0, 0, Answer::Comp(1)),
+        (Word::New, 0, 0, 1, Answer::Made(0)),
+        (Word::New, 1, 1, 1, Answer::Made(1)),
+        (Word::Map, 2, 0, 0, Answer::Made(2)),
+        (Word::Wrap, 3, 0, 1, Answer::Named(Name::Wrap(CompNo(1), 0))),
+        (Word::Wrap, 4, 9, 2, EMPTY),
+        (Word::Set, 2, 1, 9, EMPTY),
+        (Word::Set, 2, 1, 1, KIND),
+        (Word::Set, 0, 1, 1, Answer::Refused(Refusal::NoField)),
+        (Word::Put, 0, 3, 8, EMPTY),
+        (Word::Put, 0, 3, 1, KIND),
+        (Word::Put, 2, 3, 1, CROSS),
+    ];
+
     const ENTRIES: [Line; 6] = [
         (Word::Zone, 0, 0, 0, Answer::Zone(0)),
         (Word::Comp, 0, 0, 0, Answer::Comp(0)),
@@ -263,24 +293,50 @@ mod tests {
         None
     }
 
-    // How often a command is done before it is refused, up to 999 times.
-    fn times_done(heap: &mut Heap, cmd: &GraphCmd) -> u16
-        requires sound { IsSound heap.old }
-        requires fields { HasFewFields cmd.now }
+    // How many zones are made, and answered with their numbers from 0, before another answer.
+    fn zones_made(heap: &mut Heap) -> u16
+        requires { IsSound heap.old }
         ensures { IsSound heap.new }
     {
-        for times in 0..999 {
-            if let Answer::Refused(_) = answer_of(heap, cmd) {
-                return times;
+        for number in 0..256u16 {
+            if answer_of(heap, &GraphCmd::Zone) != Answer::Zone(number as u8) {
+                return number;
             }
         }
-        999
+        256
+    }
+
+    // The same of compartments in a zone.
+    fn comps_made(heap: &mut Heap, home: ZoneNo) -> u16
+        requires { IsSound heap.old }
+        ensures { IsSound heap.new }
+    {
+        for number in 0..256u16 {
+            if answer_of(heap, &GraphCmd::Comp(home)) != Answer::Comp(number as u8) {
+                return number;
+            }
+        }
+        256
     }
 
     #[test]
     fn refuses_in_order(rt: HostRuntime) -> Result<(), Fail> {
         let mut heap = Heap::new(rt.alloc())?;
         assert_eq!(rt; first_wrong(&mut heap, REFUSALS.as_slice()), None);
+        Ok(())
+    }
+
+    #[test]
+    fn answers_the_first_reason(rt: HostRuntime) -> Result<(), Fail> {
+        let mut heap = Heap::new(rt.alloc())?;
+        assert_eq!(rt; first_wrong(&mut heap, REASONS.as_slice()), None);
+        Ok(())
+    }
+
+    #[test]
+    fn refuses_a_set_between_compartments_of_one_zone(rt: HostRuntime) -> Result<(), Fail> {
+        let mut heap = Heap::new(rt.alloc())?;
+        assert_eq!(rt; first_wrong(&mut heap, ONE_ZONE.as_slice()), None);
         Ok(())
     }
 
@@ -294,9 +350,9 @@ mod tests {
     #[test]
     fn makes_64_zones_and_256_compartments(rt: HostRuntime) -> Result<(), Fail> {
         let mut heap = Heap::new(rt.alloc())?;
-        assert_eq!(rt; times_done(&mut heap, &GraphCmd::Zone), 64);
+        assert_eq!(rt; zones_made(&mut heap), 64);
         assert_eq!(rt; answer_of(&mut heap, &GraphCmd::Zone), FULL);
-        assert_eq!(rt; times_done(&mut heap, &GraphCmd::Comp(zone(63))), 256);
+        assert_eq!(rt; comps_made(&mut heap, zone(63)), 256);
         assert_eq!(rt; answer_of(&mut heap, &GraphCmd::Comp(zone(0))), FULL);
         Ok(())
     }

@@ -9,7 +9,7 @@ ghost use Rattle.zones.specs.States.{next_state, IsMarking};
 ghost use Rattle.zones.specs.declared.states.State.{State as AState};
 ghost use Rattle.arena_table.specs.Cells.{field_count};
 ghost use Rattle.arena_table.specs.Table.{new_cell};
-ghost use Rattle.heap_core.specs.Shape.{Shape, IsPresent, is_white, cell_of, field_at, out_of, zone_of};
+ghost use Rattle.heap_core.specs.Shape.{Shape, IsPresent, is_white, cell_of, field_at, out_of, stored_at, zone_of};
 ghost use Rattle.heap_core.specs.Heap.{HeapState, colour_of, reg_of, slot_of, with_reg, with_slot};
 ghost use Rattle.heap_core.specs.Changes.{Makes, MakesWrapper, Writes, next_place, with_comp, with_entry, with_number, with_zone, without_entry, wrapper_cell};
 ghost use Rattle.heap_core.specs.Blackening.{Blackens};
@@ -130,6 +130,7 @@ impl Heap {
     pub fn reg(&self, r: Reg) -> Option<Place>
         ensures value { result ≡ reg_of self.now r }
         ensures held { slice_get self.now.shape.regs r ≡ Some result }
+        ensures count { length self.now.shape.regs ≡ 16 }
     {
         self.roots.reg(r)
     }
@@ -138,6 +139,7 @@ impl Heap {
     pub fn slot(&self, g: GrayNo) -> Option<Place>
         ensures value { result ≡ slot_of self.now g }
         ensures held { slice_get self.now.shape.slots g ≡ Some result }
+        ensures count { length self.now.shape.slots ≡ 64 }
     {
         self.roots.slot(g)
     }
@@ -178,6 +180,14 @@ impl Heap {
         self.arenas.bits(arena)
     }
 
+    /// The mark bits that an arena had as it was handed to sweeping.
+    pub fn bits_at_hand_out(&self, arena: u32) -> Bits
+        requires { IsSome (out_of self.now.shape arena) }
+        ensures { out_of self.now.shape arena ≡ Some result }
+    {
+        self.arenas.bits(arena)
+    }
+
     /// An arena that is not handed to sweeping takes mark bits.
     pub fn set_bits(&mut self, arena: u32, bits: Bits)
         requires made { arena < length self.old.shape.arenas }
@@ -199,7 +209,8 @@ impl Heap {
 
     /// How many zones are made.
     pub fn zones(&self) -> u8
-        ensures { result ≡ length self.now.shape.states }
+        ensures value { result ≡ length self.now.shape.states }
+        ensures most { result ≤ ZONE_LIMIT }
     {
         self.zones.zones()
     }
@@ -285,6 +296,9 @@ impl Heap {
         ensures ok { OnOk result (self.new ≡ record self.old {
           buffers = put_all (put_all self.old.buffers slots.now) wrappers.now;
         }) }
+        ensures zones { OnOk result ((z : ℕ) → z < 64 → buffer_at self.new.buffers z
+            ≡ buffer_at self.old.buffers z ++ (places_in z slots.now ++ places_in z wrappers.now)) }
+        ensures sized { length self.new.buffers ≡ 64 }
         ensures err { OnErr result (self.new ≡ self.old) }
     {
         self.roots.buffer_gray(slots, wrappers)
@@ -334,6 +348,7 @@ impl Heap {
         ensures jobs { IfOk result
             (λ jobs. jobs ≡ jobs_of zones.bits 0 self.old.shape.arenas self.old.colours) }
         ensures ok { OnOk result (self.new ≡ with_handed self.old zones.bits) }
+        ensures stored { (p : APlace) → stored_at self.new.shape p ≡ stored_at self.old.shape p }
         ensures err { OnErr result (self.new ≡ self.old) }
     {
         self.arenas.hand_out(alloc, zones)
@@ -348,6 +363,9 @@ impl Heap {
         ensures names { IsSomeAnd (slice_get self.old.shape.arenas arena)
             (λ a. result ≡ names_of (at_bits freed a.slots)) }
         ensures state { self.new ≡ with_taken self.old arena freed bits }
+        ensures stored { (p : APlace) → stored_at self.new.shape p
+            ≡ (if (p.0 == arena) && (bit_at freed p.1 == 1) then None
+            else stored_at self.old.shape p) }
     {
         self.arenas.take_in(arena, freed, bits)
     }
@@ -374,6 +392,9 @@ impl Heap {
             (list_of self.old.shape.wrappers z) }
         ensures entries { IsWithoutDead (is_absent self.old.shape) self.old.shape.weak
             self.new.shape.weak }
+        ensures fewer { length self.new.shape.weak.entries
+            ≤ length self.old.shape.weak.entries }
+        ensures apart { AreApart self.old.shape.wrappers.lists }
     {
         let arenas = &self.arenas;
         self.wrappers

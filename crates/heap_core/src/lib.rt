@@ -1,4 +1,54 @@
 // The heap of all zones: its cells, what names them, and each command on the graph.
+//
+// [gczone] The heap by places
+//
+// The heap puts its parts together: cells in arenas, zones and compartments, wrapper maps, registers
+// and gray slots, entries of weak maps. It does each of the sixteen commands on the graph, without
+// barriers; of colours it knows only that a new cell is black. It speaks of places, not of names,
+// and contracts see it as plain data:
+//
+//     shape      the arenas with their cells; the states of zones, the homes of compartments, the
+//                wrapper maps, the entries, what registers and gray slots hold
+//     colours    the two words of mark bits of each arena
+//     buffers    what waits for the gray marking of each zone
+//
+// Marking changes `colours` alone, so what is said of `shape` stays said through all of it.
+//
+// The definitions know no places. Their graph (colour_defs) keeps everything that was ever made under
+// its name, and never frees, so no reply tells when a collection ran. Here cells go, and their places
+// are given again. What lies between is presence: a cell is *present* unless it was white as its
+// arena was handed to sweeping.
+//
+//     an arena that is out    slot     0        1       2
+//     its bits at hand-out    black    1        0       0
+//                             gob      0        1       0
+//                                      present  present stands there until the arena is taken in,
+//                                                       and is not present
+//
+// So the white cells of a group are gone all at once, as its arenas are handed out, however long
+// helpers take to sweep them. The story that shows why: w is a wrapper of t in compartment c, it is
+// white, and its arena is out. The program wraps t in c again. Were w handed out because it still
+// stands there, the arena would be taken in a moment later, and the register would name a place
+// without a cell, then one with another cell. So `drop_dead` takes out what names a cell that is not
+// present, before any command runs, and `wrap` makes a new wrapper in an arena that is not out. It
+// has the name that w had, as in the graph that never frees, where w is still there.
+//
+// `Shows h g` ties the two: g is the graph of the present cells under their names. `IsSound h` says
+// that h shows some graph, and each command keeps that. By what goes wrong without its points:
+//
+//     .._held      fields, registers, slots and entries name present cells alone: else a place that
+//                  is given again would show another cell under the old one's name
+//     apart        a name is at one place: else a write to a cell could be missed by a read of it
+//     mapped       the wrapper maps name the wrappers: else a target would get a second wrapper
+//     at_home      a cell lies in its compartment's zone: else a collection of that zone would leave
+//                  it out, and one of another zone would sweep it
+//
+// A command answers and does on each such graph what the definitions say (`DoesStep`); that the
+// graph of what is present answers as the whole one does is a law of colour_defs (`agrees_law`).
+// What it changes by places stands beside that (`Changes`), for barriers and marking; what it will
+// overwrite, hand out or make is told before it runs (`old_of`, `handed_by`, `makes_in`), so that a
+// barrier can come first. Six commands may want memory. They take it before they change anything,
+// and a heap that was refused some is as it was.
 #![tactic(auto)]
 
 mod commands;

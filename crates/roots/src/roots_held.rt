@@ -59,7 +59,8 @@ impl Roots {
 
     /// What a register holds.
     pub fn reg(&self, r: Reg) -> Option<Place>
-        ensures { slice_get self.now.regs r ≡ Some result }
+        ensures held { slice_get self.now.regs r ≡ Some result }
+        ensures count { length self.now.regs ≡ 16 }
     {
         self.regs[r.index() as usize]
     }
@@ -73,7 +74,8 @@ impl Roots {
 
     /// What a gray slot holds.
     pub fn slot(&self, g: GrayNo) -> Option<Place>
-        ensures { slice_get self.now.slots g ≡ Some result }
+        ensures held { slice_get self.now.slots g ≡ Some result }
+        ensures count { length self.now.slots ≡ 64 }
     {
         self.slots[g.index() as usize]
     }
@@ -98,6 +100,7 @@ impl Roots {
             ≡ buffer_of self.old z ++ (places_in z slots.now ++ places_in z wrappers.now)) }
         ensures count { OnOk result (waiting_count self.new
             ≡ waiting_count self.old + (length slots.now + length wrappers.now)) }
+        ensures sized { length self.new.buffers ≡ 64 }
         ensures err { OnErr result (self.new ≡ self.old) }
     {
         put_both(&mut self.buffers, &mut self.waiting, slots, wrappers)

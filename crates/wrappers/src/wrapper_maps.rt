@@ -106,6 +106,7 @@ impl Wrappers {
         // The same of a test that may answer this or that.
         ensures kept { (z : ℕ) → DropsDead (bit_at zones.bits z) (D.post dead)
             (list_of self.old z) (list_of self.new z) }
+        ensures apart { AreApart self.old.lists }
     {
         drop_in_zones(&mut self.maps, zones, &dead);
     }
