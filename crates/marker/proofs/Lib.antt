@@ -4,3 +4,6 @@ pub mod Shading
 pub mod GrayLoops
 pub mod WaitingLists
 pub mod GraySteps
+mod WeakSteps
+mod WeakLoops
+pub mod GrayUnits

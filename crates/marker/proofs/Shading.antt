@@ -27,6 +27,7 @@ shaded_none P h p = record {
   only = λ y s. inl s;
   pile_kept = λ y c. c;
   pile_only = λ y c. inl c;
+  pile_state = λ y c. inl c;
   fresh = λ y s. inl s;
   once = λ o seen. o;
   black_pile_is = refl;
@@ -57,6 +58,10 @@ shaded_more P Q R h p k q l r a b f g = record {
     | inl mid ↦ elim (a.pile_only y mid) [ inl was ↦ inl was | inr new ↦ inr (new.0, b.kept y new.1) ]
     | inr new ↦ inr ((λ s. new.0 (a.kept y s)), new.1)
   ];
+  pile_state = λ y c. elim (b.pile_state y c) [
+    | inl mid ↦ a.pile_state y mid
+    | inr takes ↦ inr (ap (λ (z : HeapState). state_of z.shape y) (sym a.rest) ∙ takes)
+  ];
   fresh = λ y s. elim (b.fresh y s) [
     | inl mid ↦ elim (a.fresh y mid) [ inl old ↦ inl old | inr new ↦ inr (b.pile_kept y new) ]
     | inr new ↦ inr new
@@ -80,6 +85,7 @@ shaded_within P R h p k q a f = record {
   only = λ y s. elim (a.only y s) [ inl old ↦ inl old | inr new ↦ inr (f y new) ];
   pile_kept = a.pile_kept;
   pile_only = a.pile_only;
+  pile_state = a.pile_state;
   fresh = a.fresh;
   once = a.once;
   black_pile_is = a.black_pile_is;
@@ -147,6 +153,10 @@ module _ (h : HeapState) (ds : List Bits) (p : Piles) (t : Place) (grayed : Gray
     pile_only = λ y c. elim (Contains-push_cases p.gray t y c) [
       | inl was ↦ inl was
       | inr is ↦ inr ((λ s. not_seen (subst (IsSeen h) (sym is) s)), inl (subst (IsGray k) is grayed.gray))
+    ];
+    pile_state = λ y c. elim (Contains-push_cases p.gray t y c) [
+      | inl was ↦ inl was
+      | inr is ↦ inr (subst (λ z. state_of h.shape z ≡ state.MarkBlackAndGray) is grayed.takes)
     ];
     fresh = λ y s. elim (seen_only y s) [ inl was ↦ inl was | inr e ↦ inr (subst (λ z. Contains q.gray z) (sym e) (Contains-push p.gray t)) ];
     once = λ o seen. once_pushed p.gray t o (λ c. not_seen (seen t c));

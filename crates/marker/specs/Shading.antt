@@ -37,6 +37,7 @@ pub record Shaded (P : Place → Type 0) (h : HeapState) (p : Piles) (k : HeapSt
   pub only : (y : Place) → IsSeen k y → IsSeen h y ⊎ P y
   pub pile_kept : (y : Place) → Contains p.gray y → Contains q.gray y
   pub pile_only : (y : Place) → Contains q.gray y → Contains p.gray y ⊎ ((IsSeen h y → ⊥) × IsSeen k y)
+  pub pile_state : (y : Place) → Contains q.gray y → Contains p.gray y ⊎ (state_of h.shape y ≡ state.MarkBlackAndGray)
   pub fresh : (y : Place) → IsSeen k y → IsSeen h y ⊎ Contains q.gray y
   pub once : IsOnce p.gray → ((y : Place) → Contains p.gray y → IsSeen h y) → IsOnce q.gray
   pub black_pile_is : q.black ≡ p.black

@@ -1,18 +1,24 @@
 -- Units of marking: what they keep, where there is no work, and a number that they lower.
-use Rattle.std.specs.Prelude.{◌≡◌, ◌↔◌, ◌+◌, ◌*◌, ℕ, [], length, Some, slice_get, sum_by}
+use Rattle.std.specs.Prelude.{◌≡◌, ◌≢◌, ◌⊎◌, ◌↔◌, ◌<◌, ◌+◌, ◌*◌, ℕ, true, [], length, Contains, Some, slice_get, sum_by}
 use Rattle.gz_names.specs.Zones.{HasZone}
 use Rattle.gz_names.specs.declared.numbers.Place.{Place}
 use Rattle.cell_bits.specs.declared.bits.Colour.{Colour}
 use Rattle.cell_bits.specs.declared.bits.Colour.TheVariants as colour
-use Rattle.mark_stack.specs.Stack.{Piles}
+use Rattle.zones.specs.declared.states.State.TheVariants as state
+use Rattle.mark_stack.specs.Stack.{Piles, pushed}
+use Rattle.mark_stack.specs.declared.stack.Pile.{Pile}
+use Rattle.mark_stack.specs.declared.stack.Pile.TheVariants as pile
 use Rattle.gray_lists.specs.Incoming.{Incoming, list_of, waiting_count}
-use Rattle.heap_core.specs.Shape.{zone_of}
-use Rattle.heap_core.specs.Heap.{HeapState}
+use Rattle.heap_core.specs.Shape.{Shape, is_marking_state, state_in, state_of, zone_of}
+use Rattle.heap_core.specs.Heap.{HeapState, colour_of}
 use Rattle.barriers.specs.Reached.{HasEntry}
-use Rattle.barriers.specs.Colours.{IsBlack, IsSeen, left, whites}
+use Rattle.barriers.specs.Colours.{IsBlack, IsSeen, grays_outside, left, whites}
 use Rattle.barriers.specs.PendingBlack.{PendingBlack}
 use Rattle.barriers.specs.PendingLive.{PendingLive, GrayInvariant, buffer_of}
 use Rattle.barriers.specs.Invariant.{MarkingInvariant}
+use Rattle.barriers.specs.Exposing.{KeepsLive}
+use Rattle.marker.specs.GrayBits.{AreGraying}
+use Rattle.marker.specs.Waiting.{IsBlackOnlyComp}
 
 -- what is left to do: each unit that did something lowers it
 abbrev pub work_left : HeapState → Piles → Incoming → ℕ
@@ -35,6 +41,18 @@ pub record IsGrayIdle (h : HeapState) (p : Piles) (lists : Incoming) (group : �
   pub buffers : (z : ℕ) → HasZone group z → buffer_of h z ≡ []
   pub incoming : (z n : ℕ) → HasZone group z → slice_get h.shape.comps n ≡ Some z → list_of lists n ≡ []
 
+-- a piece of gray marking: it turns no cell black, and what waits now waited before, or is new on the gray pile in a zone that takes gray, or new on the list of a compartment whose zone takes none yet
+pub record DoesGray (h : HeapState) (p : Piles) (a : Incoming) (k : HeapState) (q : Piles) (b : Incoming) : Type 0 where
+  pub marks : Marks h p a k q b
+  pub less : work_left k q b < work_left h p a
+  pub black_is : (y : Place) → IsBlack k y ↔ IsBlack h y
+  pub black_pile : q.black ≡ p.black
+  pub room : q.room ≡ p.room
+  pub grays_is : grays_outside k ≡ grays_outside h
+  pub gray_pile : (x : Place) → Contains q.gray x → Contains p.gray x ⊎ (state_of h.shape x ≡ state.MarkBlackAndGray)
+  pub buffered : (z : ℕ) (x : Place) → Contains (buffer_of k z) x → Contains (buffer_of h z) x
+  pub incoming : (n : ℕ) (x : Place) → Contains (list_of b n) x → Contains (list_of a n) x ⊎ IsBlackOnlyComp h.shape n
+
 -- a cell has at least a colour
 abbrev pub HasColour : HeapState → Colour → Place → Type 0
 HasColour h colour.White x = Unit {0}
@@ -44,3 +62,44 @@ HasColour h colour.Black x = IsBlack h x
 -- the weak rule has no work for a colour and these zones
 abbrev pub IsFixed : HeapState → Colour → ℕ → Type 0
 IsFixed h c zones = (m k v : Place) → HasEntry h.shape m k v → HasColour h c m → HasColour h c k → HasZone zones (zone_of h.shape v) → HasColour h c v
+
+-- the weak rule has work at an entry whose value lies in these zones
+abbrev pub HasWork : HeapState → Colour → ℕ → Place → Place → Place → Type 0
+HasWork h c zones m k v = HasZone zones (zone_of h.shape v) × HasColour h c m × HasColour h c k × (HasColour h c v → ⊥)
+
+-- a cell that the weak rule has to colour
+pub record WantsColour (h : HeapState) (c : Colour) (zones : ℕ) (v : Place) : Type 0 where
+  pub map : Place
+  pub key : Place
+  pub entry : HasEntry h.shape map key v
+  pub work : HasWork h c zones map key v
+
+-- for black these zones are marking, for gray they are exactly those that take gray
+abbrev pub AreFor : Shape → Colour → ℕ → Type 0
+AreFor s colour.White zones = ⊥
+AreFor s colour.Gray zones = AreGraying s zones
+AreFor s colour.Black zones = (z : ℕ) → HasZone zones z → is_marking_state (state_in s z) ≡ true
+
+-- the pile of a cell that gets this colour
+abbrev pub pile_for : Colour → Pile
+pile_for colour.White = pile.Gray
+pile_for colour.Gray = pile.Gray
+pile_for colour.Black = pile.Black
+
+-- the weak rule gave one cell, the value of an entry, this colour and put it on its pile, and did nothing else; so both pending closures are as they were
+pub record DoesWeak (c : Colour) (zones : ℕ) (h : HeapState) (p : Piles) (k : HeapState) (q : Piles) : Type 0 where
+  pub value : Place
+  pub wanted : WantsColour h c zones value
+  pub coloured : colour_of k value ≡ c
+  pub others : (y : Place) → y ≢ value → colour_of k y ≡ colour_of h y
+  pub piles : q ≡ pushed p (pile_for c) value
+  pub rest : k ≡ record h { colours = k.colours }
+  pub invariant : MarkingInvariant k q
+  pub black_kept : (y : Place) → IsBlack h y → IsBlack k y
+  pub seen_kept : (y : Place) → IsSeen h y → IsSeen k y
+  pub gray_pile : (y : Place) → Contains q.gray y → Contains p.gray y ⊎ (state_of h.shape y ≡ state.MarkBlackAndGray)
+  pub pending_black : (y : Place) → PendingBlack k q y ↔ PendingBlack h p y
+  pub pending_live : KeepsLive h p k q
+  pub less : (lists : Incoming) → work_left k q lists < work_left h p lists
+  pub room : q.room ≡ p.room
+  pub grays_is : grays_outside k ≡ grays_outside h

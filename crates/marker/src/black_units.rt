@@ -50,7 +50,8 @@ pub fn black_unit<F: Flight, L: Ledger>(
         → work_left (joined heap.new (F.bits flight.new)) stack.new lists
         < work_left (joined heap.old (F.bits flight.old)) stack.old lists }
     ensures empty { (result ≡ Work.Empty) ↔ (stack.old.black ≡ []) }
-    ensures same { result ≡ Work.Empty → (heap.new ≡ heap.old) × (stack.new ≡ stack.old) }
+    ensures same { result ≡ Work.Empty → (heap.new ≡ heap.old) × (stack.new ≡ stack.old)
+        × (joined heap.old (F.bits flight.new) ≡ joined heap.old (F.bits flight.old)) }
     ensures steps { steps.new + 8 * grays_outside (joined heap.new (F.bits flight.new))
         ≤ steps.old + 8 * grays_outside (joined heap.old (F.bits flight.old)) + 8 }
     ensures covers { Covers heap.new.shape (F.bits flight.new) }
