@@ -30,7 +30,7 @@
 // between two looks. Each zone has a cursor into the list of its wrappers, which is in the order of
 // adding: those before the cursor were looked at, and new ones come in behind it. A wrapper that is
 // made after the first grouping step is looked at too, but it has a black target, since that came
-// from a register; so no edge is noted any more.
+// from a register (`left_black_law`); so no edge is noted any more.
 //
 // The search is Tarjan's, against the direction of the edges, so that what must not finish later is
 // found earlier and the groups come out in their order. Of each zone the edges are taken once, as
@@ -57,10 +57,12 @@
 #![tactic(auto)]
 
 mod edges;
+mod keeping;
 mod look;
 mod search;
 
 pub use edges::Edges;
+pub use keeping::left_black_law;
 pub use look::Look;
 
 #[cfg(test)]

@@ -1,0 +1,175 @@
+-- Commands keep that each wrapper that was not looked at has a black target.
+use Rattle.std.proofs.Common.{◌≡◌, ◌⊎◌, ◌++◌, ◌∷◌, ℕ, zero, suc, List, [], Option, Some, None, IsSomeAnd, inl, inr, slice_get, if◌then◌else◌, refl, sym, ap, subst, ◌∙◌}
+use Rattle.std.specs.Option.{option_map}
+use Rattle.std.proofs.lemmas.Bool.{cases_eq}
+use Rattle.gz_names.specs.declared.names.Name.{Name}
+use Rattle.gz_names.specs.declared.names.Name.TheVariants.{Cell, Wrap}
+use Rattle.gz_names.specs.declared.commands.Kind.{Kind}
+use Rattle.gz_names.specs.declared.commands.Kind.TheVariants as kind
+use Rattle.gz_names.specs.declared.commands.GraphCmd.{GraphCmd}
+use Rattle.gz_names.specs.declared.commands.GraphCmd.TheVariants as cmd
+use Rattle.gz_names.specs.declared.numbers.CompNo.{CompNo}
+use Rattle.gz_names.specs.declared.numbers.Place.{Place}
+use Rattle.cell_bits.specs.declared.bits.Bits.{Bits}
+use Rattle.cell_bits.specs.declared.bits.Colour.TheVariants as colour
+use Rattle.arena_table.specs.Cells.{CellState}
+use Rattle.arena_table.specs.Table.{new_cell}
+use Rattle.wrappers.specs.WrapperMaps.{AreApart, WrappersState, list_of}
+use Rattle.colour_defs.specs.Graph.{GraphState, register_cell}
+use Rattle.colour_defs.specs.Step.{refusal_in, set_from, step_of, value_to_set as set_value}
+use Rattle.heap_core.specs.Shape.{ArenaShape, cell_of, field_at, field_in, held_name}
+use Rattle.heap_core.specs.Heap.{HeapState, colour_of, colour_in, reg_of}
+use Rattle.heap_core.specs.Changes.{Makes, MakesWrapper, Writes, with_entry, wrapper_cell}
+use Rattle.heap_core.specs.Effects.{Changes, Dels, IsWithout, MakesHeld, Puts, Sets, Wraps, itself, found, made}
+use Rattle.heap_core.specs.Lookups.{number_at, target_at, value_to_set}
+use Rattle.heap_core.specs.Shows.{Shows, StandsFor, is_wrapper}
+use Rattle.heap_core.proofs.MakingCells.{same-place}
+use Rattle.heap_core.proofs.Places.{cell_named, present_cell}
+use Rattle.heap_core.proofs.Shown.{reg_present, reg_shown}
+use Rattle.zone_edges.specs.Looks.{AreLeftBlack, IsWrapperIn, WrapsBlack, wrapper_at}
+use Rattle.zone_edges.specs.Noted.{Noted}
+use Rattle.zone_edges.proofs.Looking.{stands_in}
+use Rattle.zone_edges.proofs.SoundWrappers.{sound_has_wrappers}
+
+-- the last element of a longer list, and those before it
+last_or_before : {X : Type 0} (xs : List X) (y : X) (i : ℕ) → (slice_get (xs ++ y ∷ []) i ≡ slice_get xs i) ⊎ (slice_get (xs ++ y ∷ []) i ≡ Some y)
+last_or_before [] y zero = inr refl
+last_or_before [] y (suc i) = inl refl
+last_or_before (x ∷ xs) y zero = inl refl
+last_or_before (x ∷ xs) y (suc i) = last_or_before xs y i
+
+-- a place whose kind is known holds a cell
+kind_there : (o : Option CellState) (k : Kind) → option_map (λ (cell : CellState). cell.kind) o ≡ Some k → (cell : CellState) × (o ≡ Some cell) × (cell.kind ≡ k)
+kind_there None k e = absurd (cc e)
+kind_there (Some cell) k e = (cell, refl, cc e)
+
+-- a `set` that is not refused writes no wrapper
+set_plain : (g : GraphState) (x : Name) (f : ℕ) (v : Option (Option Name)) → refusal_in (set_from g (Some x) f v).1 ≡ None → (n : ℕ) × (x ≡ Cell n)
+set_plain g (Cell n) f v e = (n, refl)
+set_plain g (Wrap c t) f None e = absurd (cc e)
+set_plain g (Wrap c t) f (Some v) e = absurd (cc e)
+
+-- the arenas, the wrapper maps and the colours are as they were
+left_same : (h k : HeapState) (n : Noted) → AreLeftBlack h n → k.shape.arenas ≡ h.shape.arenas → k.shape.wrappers ≡ h.shape.wrappers → k.colours ≡ h.colours → AreLeftBlack k n
+left_same h k n left arenas wrappers colours z i p q has from at to =
+    let black = left z i p q has from
+    (ap (λ (w : WrappersState). option_map (λ entry. entry.1) (slice_get (list_of w z) i)) (sym wrappers) ∙ at)
+    (ap (λ (xs : List ArenaShape). field_at (record h.shape { arenas = xs }) p 0) (sym arenas) ∙ to) in
+    ap (λ (xs : List Bits). colour_in (slice_get xs q.0) q.1) colours ∙ black
+
+module _ (old : HeapState) (g : GraphState) (n : Noted) (shows : Shows old g) (apart : AreApart old.shape.wrappers.lists) (left : AreLeftBlack old n) where
+  listed : (z i : ℕ) (p : Place) → wrapper_at old.shape z i ≡ Some p → IsWrapperIn old.shape z p
+  listed z i p at = stands_in old.shape z i p (sound_has_wrappers old (g, shows)) apart at
+
+  -- a heap whose arenas, wrapper maps and colours are as they were
+  by_parts : (new : HeapState) {k : HeapState} → new ≡ k → k.shape.arenas ≡ old.shape.arenas → k.shape.wrappers ≡ old.shape.wrappers → k.colours ≡ old.colours → AreLeftBlack new n
+  by_parts new {k} e arenas wrappers colours = subst (λ (h : HeapState). AreLeftBlack h n) (sym e) (left_same old k n left arenas wrappers colours)
+
+  -- a cell that is no wrapper was written
+  left_written : (new : HeapState) (p : Place) (f : ℕ) (v : Option Place) → Writes old p f v new → ((z : ℕ) → IsWrapperIn old.shape z p → ⊥) → AreLeftBlack new n
+  left_written new p f v w plain z i u q has from at to =
+      let stood : wrapper_at old.shape z i ≡ Some u = ap (λ (h : HeapState). wrapper_at h.shape z i) (sym w.rest) ∙ at in
+      let there = listed z i u stood in
+      elim (same-place u p) [
+        | inl same ↦ absurd (plain z (subst (IsWrapperIn old.shape z) same.0 there))
+        | inr other ↦ (let cell : cell_of new.shape u ≡ cell_of old.shape u = w.cells u ∙ ap (λ b. if b then option_map (Rattle.arena_table.specs.Cells.with_value f v) (cell_of old.shape u) else cell_of old.shape u) other.1 in
+            ap (λ (h : HeapState). colour_of h q) w.rest ∙ left z i u q has from stood (ap (λ o. field_in o 0) (sym cell) ∙ to))
+      ]
+
+  -- a black cell was made
+  left_made : (new : HeapState) (zone : ℕ) (p : Place) (cell : CellState) → Makes old zone p cell new → AreLeftBlack new n
+  left_made new zone p cell m z i u q has from at to =
+      let stood : wrapper_at old.shape z i ≡ Some u = ap (λ (h : HeapState). wrapper_at h.shape z i) (sym m.rest) ∙ at in
+      let there = listed z i u stood in
+      elim (same-place u p) [
+        | inl same ↦ (let k = kind_there (cell_of old.shape u) kind.Wrapper there.kind_is in absurd (cc (sym k.1 ∙ ap (cell_of old.shape) same.0 ∙ m.free)))
+        | inr other ↦ (let before : cell_of new.shape u ≡ cell_of old.shape u = m.cells u ∙ ap (λ b. if b then Some cell else cell_of old.shape u) other.1 in
+            let black = left z i u q has from stood (ap (λ o. field_in o 0) (sym before) ∙ to) in
+            elim (same-place q p) [ inl here ↦ ap (colour_of new) here.0 ∙ m.black | inr away ↦ m.colours q away.0 ∙ black ])
+      ]
+
+  -- a wrapper of a black cell was made
+  left_wrapped : (new : HeapState) (zone : ℕ) (comp : CompNo) (number : ℕ) (target p : Place) → MakesWrapper old zone comp number target p new → colour_of old target ≡ colour.Black → AreLeftBlack new n
+  left_wrapped new zone comp number target p m black z i u q has from at to =
+      let cells : (x : Place) → field_at new.shape x 0 ≡ field_at m.made.shape x 0 = λ x. ap (λ (h : HeapState). field_at h.shape x 0) m.rest in
+      let colours : colour_of new q ≡ colour_of m.made q = ap (λ (h : HeapState). colour_of h q) m.rest in
+      let maps : m.made.shape.wrappers ≡ old.shape.wrappers = ap (λ (h : HeapState). h.shape.wrappers) m.makes.rest in
+      let before : wrapper_at old.shape z i ≡ Some u → colour_of new q ≡ colour.Black = λ stood. colours ∙ left_made m.made zone p (wrapper_cell comp number target) m.makes z i u q has from (ap (λ (w : WrappersState). option_map (λ entry. entry.1) (slice_get (list_of w z) i)) maps ∙ stood) (sym (cells u) ∙ to) in
+      elim (cases_eq z zone) [
+        | inl here ↦ (let longer : slice_get (list_of new.shape.wrappers z) i ≡ slice_get (list_of old.shape.wrappers z ++ (record { comp = comp.0; target = number }, p) ∷ []) i = ap (λ y. slice_get (list_of new.shape.wrappers y) i) here ∙ ap (λ es. slice_get es i) m.listed ∙ ap (λ y. slice_get (list_of old.shape.wrappers y ++ (record { comp = comp.0; target = number }, p) ∷ []) i) (sym here) in
+            elim (last_or_before (list_of old.shape.wrappers z) (record { comp = comp.0; target = number }, p) i) [
+              | inl old_one ↦ before (ap (λ o. option_map (λ entry. entry.1) o) (sym (longer ∙ old_one)) ∙ at)
+              | inr last ↦ (let is : p ≡ u = cc (sym (ap (λ o. option_map (λ entry. entry.1) o) (longer ∙ last)) ∙ at) in
+                  let made_there : cell_of m.made.shape p ≡ Some (wrapper_cell comp number target) = m.makes.cells p ∙ ap (λ b. if b then Some (wrapper_cell comp number target) else cell_of old.shape p) (Rattle.heap_core.proofs.Places.place-same p) in
+                  let leads : target ≡ q = cc (sym (ap (λ o. field_in o 0) made_there) ∙ (ap (λ x. field_at m.made.shape x 0) is ∙ (sym (cells u) ∙ to))) in
+                  let still : colour_of m.made target ≡ colour.Black = elim (same-place target p) [ inl same ↦ ap (colour_of m.made) same.0 ∙ m.makes.black | inr other ↦ m.makes.colours target other.0 ∙ black ] in
+                  colours ∙ subst (λ x. colour_of m.made x ≡ colour.Black) leads still)
+            ])
+        | inr away ↦ before (ap (λ es. option_map (λ entry. entry.1) (slice_get es i)) (sym (m.others z away)) ∙ at)
+      ]
+
+  -- the cell that a `set` writes is no wrapper
+  left_set : (new : HeapState) (s f : ℕ) (t : Option ℕ) → refusal_in (step_of g (cmd.Set s f t)).1 ≡ None → Sets old s f t new → AreLeftBlack new n
+  left_set new s f t accepted sets = go (reg_of old s) refl sets
+    where
+      plain : (p : Place) → reg_of old s ≡ Some p → (z : ℕ) → IsWrapperIn old.shape z p → ⊥
+      plain p held z there =
+          let cell = present_cell old.shape p (reg_present old g s p shows held) in
+          let named : register_cell g s ≡ Some cell.0.name = reg_shown old g s shows ∙ (ap (held_name old.shape) held ∙ cell_named old.shape p cell.0 cell.1) in
+          let number = set_plain g cell.0.name f _ (ap (λ o. refusal_in (set_from g o f (set_value g t)).1) (sym named) ∙ accepted) in
+          let shown = shows.cells p cell.0 cell.1 in
+          let stands : StandsFor old.shape g p cell.0 (Cell number.0) = subst (StandsFor old.shape g p cell.0) number.1 shown.stands in
+          let k = kind_there (cell_of old.shape p) kind.Wrapper there.kind_is in
+          let same : k.0 ≡ cell.0 = cc (sym k.1 ∙ cell.1) in
+          absurd (cc (sym (ap (λ (c : CellState). is_wrapper c.kind) (sym same) ∙ ap is_wrapper k.2) ∙ stands.0))
+
+      go : (o : Option Place) → reg_of old s ≡ o → IsSomeAnd o (λ p. Writes old p f (value_to_set old t) new) → AreLeftBlack new n
+      go None at w = absurd w
+      go (Some p) at w = left_written new p f (value_to_set old t) w (plain p at)
+
+  -- an object or a map was made, and a register holds it
+  left_held : (new : HeapState) (r : ℕ) (k : Kind) (c : CompNo) → MakesHeld old r k c new → AreLeftBlack new n
+  left_held new r k c m = left_same m.made new n (left_made m.made m.zone m.place (new_cell k c (Cell old.shape.objects)) m.makes) (ap (λ (h : HeapState). h.shape.arenas) m.rest) (ap (λ (h : HeapState). h.shape.wrappers) m.rest) (ap (λ (h : HeapState). h.colours) m.rest)
+
+  -- a wrapper was found or made, and a register holds it
+  left_wraps : (new : HeapState) (r s : ℕ) (c : CompNo) → WrapsBlack old (cmd.Wrap r s c) → Wraps old r s c new → AreLeftBlack new n
+  left_wraps new r s c black (itself p e same is) = by_parts new is refl refl refl
+  left_wraps new r s c black (found p w e other at is) = by_parts new is refl refl refl
+  left_wraps new r s c black (made p e other at m) =
+      left_same m.between new n (left_wrapped m.between m.zone c (number_at old.shape (target_at old.shape p)) (target_at old.shape p) m.wrapper m.makes (black r s c p refl e)) (ap (λ (h : HeapState). h.shape.arenas) m.rest) (ap (λ (h : HeapState). h.shape.wrappers) m.rest) (ap (λ (h : HeapState). h.colours) m.rest)
+
+  left_put : (new : HeapState) (m k v : ℕ) → Puts old m k v new → AreLeftBlack new n
+  left_put new m k v puts = go (reg_of old m) (reg_of old k) (reg_of old v) puts
+    where
+      go : (a b d : Option Place) → IsSomeAnd a (λ map. IsSomeAnd b (λ key. IsSomeAnd d (λ value. new ≡ with_entry old map key value))) → AreLeftBlack new n
+      go None b d p = absurd p
+      go (Some map) None d p = absurd p
+      go (Some map) (Some key) None p = absurd p
+      go (Some map) (Some key) (Some value) p = by_parts new p refl refl refl
+
+  left_del : (new : HeapState) (m k : ℕ) → Dels old m k new → AreLeftBlack new n
+  left_del new m k dels = go (reg_of old m) (reg_of old k) dels
+    where
+      go : (a b : Option Place) → IsSomeAnd a (λ map. IsSomeAnd b (λ key. IsWithout old map key new)) → AreLeftBlack new n
+      go None b p = absurd p
+      go (Some map) None p = absurd p
+      go (Some map) (Some key) p = by_parts new p.rest refl refl refl
+
+  -- whatever a command changes
+  pub left_changes : (new : HeapState) (c : GraphCmd) → refusal_in (step_of g c).1 ≡ None → Changes old c new → WrapsBlack old c → AreLeftBlack new n
+  left_changes new cmd.Zone accepted e black = by_parts new e refl refl refl
+  left_changes new (cmd.Comp z) accepted e black = by_parts new e refl refl refl
+  left_changes new (cmd.New r c k) accepted m black = left_held new r (kind.Object k) c m
+  left_changes new (cmd.Map r c) accepted m black = left_held new r kind.Map c m
+  left_changes new (cmd.Get r s f) accepted e black = by_parts new e refl refl refl
+  left_changes new (cmd.Set s f t) accepted w black = left_set new s f t accepted w
+  left_changes new (cmd.Wrap r s c) accepted w black = left_wraps new r s c black w
+  left_changes new (cmd.Unwrap r s) accepted e black = by_parts new e refl refl refl
+  left_changes new (cmd.Copy r s) accepted e black = by_parts new e refl refl refl
+  left_changes new (cmd.Drop r) accepted e black = by_parts new e refl refl refl
+  left_changes new (cmd.Hold k r) accepted e black = by_parts new e refl refl refl
+  left_changes new (cmd.Release k) accepted e black = by_parts new e refl refl refl
+  left_changes new (cmd.Expose r k) accepted e black = by_parts new e refl refl refl
+  left_changes new (cmd.Put m k v) accepted p black = left_put new m k v p
+  left_changes new (cmd.Del m k) accepted p black = left_del new m k p
+  left_changes new (cmd.Find r m k) accepted e black = by_parts new e refl refl refl
