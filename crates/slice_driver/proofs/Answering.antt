@@ -29,7 +29,7 @@ use Rattle.slice_driver.specs.Worlds.{LiesIn, outs_from}
 use Rattle.slice_driver.specs.Closures.{AreBlack}
 use Rattle.slice_driver.specs.Represents.{IsIdle, Represents, RunsAs}
 use Rattle.slice_driver.specs.Commands.{DoesInWorld, Exposed, waking, with_colours}
-use Rattle.slice_driver.specs.Steps.{CommandSteps, Removes}
+use Rattle.slice_driver.specs.Steps.{CommandSteps}
 use Rattle.slice_driver.specs.Units.{AnswersIn, DoesCommand}
 use Rattle.slice_driver.proofs.Lying.{lies_coloured, refused_in, shows_coloured}
 use Rattle.slice_driver.proofs.Placing.{outs_has, outs_only}
@@ -39,7 +39,7 @@ use Rattle.slice_driver.proofs.Commanding.{does_command, exposed_black, exposed_
 use Rattle.slice_driver.proofs.Serving.{Serves, serves}
 
 -- more room
-marks_room : (h : HeapState) (p q : Piles) → q ≡ record p { room = q.room } → p.room ≤ q.room → MarkingInvariant h p → MarkingInvariant h q
+pub marks_room : (h : HeapState) (p q : Piles) → q ≡ record p { room = q.room } → p.room ≤ q.room → MarkingInvariant h p → MarkingInvariant h q
 marks_room h p q e more inv = subst (λ (z : Piles). MarkingInvariant h z) (sym e) (record {
   holds = record {
     colours = inv.holds.colours;
@@ -60,7 +60,7 @@ marks_room h p q e more inv = subst (λ (z : Piles). MarkingInvariant h z) (sym 
   none_woken = inv.none_woken;
 })
 
-gray_room : (h : HeapState) (p q : Piles) (lists more : Incoming) → q ≡ record p { room = q.room } → more ≡ record lists { room = more.room } → lists.room ≤ more.room → GrayInvariant h p lists → GrayInvariant h q more
+pub gray_room : (h : HeapState) (p q : Piles) (lists more : Incoming) → q ≡ record p { room = q.room } → more ≡ record lists { room = more.room } → lists.room ≤ more.room → GrayInvariant h p lists → GrayInvariant h q more
 gray_room h p q lists more e f le g = subst (λ (z : Piles). GrayInvariant h z more) (sym e) (subst (λ (z : Incoming). GrayInvariant h (record p { room = q.room }) z) (sym f) (record {
   buffered_seen = g.buffered_seen;
   buffered_present = g.buffered_present;
@@ -90,7 +90,7 @@ exposed_gray_pile : (o : Option Place) (h : HeapState) (s : Piles) (k : HeapStat
 exposed_gray_pile None h s k t e = ap (λ (z : Piles). z.gray) e.1
 exposed_gray_pile (Some x) h s k t e = e.spreads.gray_is
 
-exposed_rest : (o : Option Place) (h k : HeapState) (f e : ℕ → Option Bits) (s t : Piles) → Exposed o (joined h f) s (joined k e) t → k ≡ with_colours h k.colours
+pub exposed_rest : (o : Option Place) (h k : HeapState) (f e : ℕ → Option Bits) (s t : Piles) → Exposed o (joined h f) s (joined k e) t → k ≡ with_colours h k.colours
 exposed_rest None h k f e s t x = ap (λ (z : HeapState). with_colours z k.colours) x.0
 exposed_rest (Some p) h k f e s t x = ap (λ (z : HeapState). with_colours z k.colours) x.spreads.blackens.rest
 
@@ -239,7 +239,6 @@ module _ (c : CollectorState) (flown : ℕ → Option Bits) (command : GraphCmd)
   answered (Ok answer) is =
       let step : DoesStep m2 command (Ok answer) d.heap = subst (λ z. DoesStep m2 command z d.heap) is does in
       let change : Changes m2 command d.heap = subst (λ (z : HeapState). Changes z command d.heap) second_is (subst (λ z. OnOk z (Changes steps.second command d.heap)) is steps.change) in
-      let removes : Removes m2 command d.heap = subst (λ (z : HeapState). Removes z command d.heap) second_is (subst (λ z. OnOk z (Removes steps.second command d.heap)) is steps.removes) in
       let accepted : refusal_in (step_of rep.lies.graph command).1 ≡ None = (step rep.lies.graph shows2).0.1 in
       let stored_is : steps.old ≡ stored c.heap command = steps.old_is rep.lies.graph rep.lies.shown ∙ ap (λ o. unless_refused o (stored c.heap command)) accepted in
       let handed_is : steps.handed ≡ handed c.heap command = is2 rep.lies.graph (shows_coloured c.heap d1 rep.lies.graph rep.lies.shown) ∙ (ap (λ o. unless_refused o (handed m1 command)) accepted ∙ handed_plain c.heap d1 command) in
@@ -248,7 +247,7 @@ module _ (c : CollectorState) (flown : ℕ → Option Bits) (command : GraphCmd)
       command accepted
       (λ p e. exposed_keeps steps.handed (joined m1 steps.first_flown) steps.first_stack (joined m2 flying) d.stack e2 p (exposed_is steps.old (joined c.heap flown) steps.stack (joined m1 steps.first_flown) steps.first_stack e1 p (stored_is ∙ (sym (stored_plain c.heap d2 command) ∙ e))))
       (λ p e. exposed_is steps.handed (joined m1 steps.first_flown) steps.first_stack (joined m2 flying) d.stack e2 p (handed_is ∙ (sym (handed_plain c.heap d2 command) ∙ e)))
-      removes change in
+      change in
       let states : (z : ℕ) → state_in d.heap.shape z ≡ state.NoGC = λ z. served.states z ∙ idle.states z in
       let after : (p : Place) → is_marking d.heap.shape p ≡ false = λ p. ap is_marking_state (states (zone_of d.heap.shape p)) in
       let done : DoesInWorld w command answer d.heap (with_flown flying 0 d.heap.colours) = does_command w c.heap d.heap command answer flown steps.first_flown flying d1 d2 steps.stack steps.first_stack d.stack steps.old steps.handed ok rep.lies settled black inv0 none e1 e2 steps.old_is is2 covers step served.marks after change in

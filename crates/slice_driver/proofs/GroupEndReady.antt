@@ -90,7 +90,7 @@ module _ (c : CollectorState) (flown : ℕ → Option Bits) (w : World) (k : Col
   pub groups_ok : AreValidGroups w k (zones_in g ∷ map zones_in rest)
   groups_ok = ok.groups k _ at groups_are
 
-  some_zone : (z : ℕ) × Contains (zones_in g) z
+  pub some_zone : (z : ℕ) × Contains (zones_in g) z
   some_zone = some_member (zones_in g) (groups_ok.full (zones_in g) (contains_head _ _))
 
   pub tied : AreTied c.heap c.stack c.lists w k

@@ -68,7 +68,7 @@ module _ (c : CollectorState) (flown : ℕ → Option Bits) (w : World) (k : Col
   same_bits : (a : ℕ) (old new : Bits) → out_of d.heap.shape a ≡ Some old → flying a ≡ Some new → IsWokenFrom old new
   same_bits a old new o f =
       let same : old ≡ new = some_one old new (sym o ∙ sym (flies a) ∙ f) in
-      subst (λ (b : Bits). IsWokenFrom old b) same (record { gob = refl; kept = λ i b. b; within = λ i b. inl b })
+      subst (λ (b : Bits). IsWokenFrom old b) same (record { white = λ i e. e; gray = λ i e. inl e; black = λ i e. e })
 
   in_flight : IsInFlight d.heap.shape flying
   in_flight = record { covers = λ a. ap is_some (flies a); woken = same_bits }

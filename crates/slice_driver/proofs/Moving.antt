@@ -20,7 +20,7 @@ use Rattle.colour_defs.proofs.Names.{same_comp}
 use Rattle.heap_core.specs.Shape.{AreWhole, IsPresent, cell_of, comp_at, field_at, field_in, held_name, name_at}
 use Rattle.heap_core.specs.Heap.{HeapState, reg_of, slot_of, with_reg, with_slot}
 use Rattle.heap_core.specs.Changes.{Makes, Writes, with_comp, with_entry, with_zone, without_entry, wrapper_cell}
-use Rattle.heap_core.specs.Effects.{Changes, Dels, MakesHeld, Puts, Sets, Wraps, itself, found, made}
+use Rattle.heap_core.specs.Effects.{Changes, Dels, IsWithout, MakesHeld, Puts, Sets, Wraps, itself, found, made}
 use Rattle.heap_core.specs.Lookups.{held_field, held_value, number_at, number_in, seen_from, target_at, target_in, value_to_set}
 use Rattle.heap_core.specs.Peeks.{handed, stored}
 use Rattle.heap_core.specs.Shows.{Shows, is_wrapper}
@@ -208,10 +208,10 @@ module _ (old : HeapState) (g : GraphState) (shows : Shows old g) where
     moves_del : (m k : ℕ) → Dels old m k new → Moves old (cmd.Del m k) new
     moves_del m k dels = go (reg_of old m) (reg_of old k) dels
       where
-        go : (a b : Option Place) → IsSomeAnd a (λ map. IsSomeAnd b (λ key. new ≡ without_entry old map key)) → Moves old (cmd.Del m k) new
+        go : (a b : Option Place) → IsSomeAnd a (λ map. IsSomeAnd b (λ key. IsWithout old map key new)) → Moves old (cmd.Del m k) new
         go None b p = absurd p
         go (Some map) None p = absurd p
-        go (Some map) (Some key) p = quietly (cmd.Del m k) (without_entry old map key) p refl refl (λ j t. refl) (λ q h. elim h [ inl a ↦ held_values m k q a | inr b ↦ absurd (cc b) ])
+        go (Some map) (Some key) p = quietly (cmd.Del m k) (without_entry old map key) p.rest refl refl (λ j t. refl) (λ q h. elim h [ inl a ↦ held_values m k q a | inr b ↦ absurd (cc b) ])
 
     pub moves_of : (c : GraphCmd) → Changes old c new → Moves old c new
     moves_of cmd.Zone e = quietly cmd.Zone (with_zone old) e refl refl (λ j t. refl) none_handed

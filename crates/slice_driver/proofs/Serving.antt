@@ -1,5 +1,5 @@
 -- After a command the invariants of marking hold, and zones are in the states in which they were.
-use Rattle.std.proofs.Common.{◌≡◌, ◌<◌, ◌≤◌, ◌*◌, ◌&&◌, ℕ, Bool, true, false, List, length, Option, Some, None, IsSomeAnd, slice_get, if◌then◌else◌, option_and_then, cond, refl, sym, ap, subst, ◌∙◌, arith, nat_lt}
+use Rattle.std.proofs.Common.{◌≡◌, ◌<◌, ◌≤◌, ◌*◌, ℕ, Bool, true, false, List, length, Option, Some, None, IsSomeAnd, slice_get, if◌then◌else◌, option_and_then, cond, refl, sym, ap, subst, ◌∙◌, arith, nat_lt}
 use Rattle.gz_names.specs.declared.names.Name.{Name}
 use Rattle.gz_names.specs.declared.names.Name.TheVariants.{Cell, Wrap}
 use Rattle.gz_names.specs.declared.numbers.CompNo.{CompNo}
@@ -14,7 +14,6 @@ use Rattle.arena_table.specs.Cells.{CellState}
 use Rattle.arena_table.specs.Table.{new_cell}
 use Rattle.zones.specs.declared.states.State.{State}
 use Rattle.wrappers.specs.WrapperMaps.{place_of}
-use Rattle.weak_maps.specs.Lists.{is_same}
 use Rattle.weak_maps.specs.WeakMaps.{value_of}
 use Rattle.mark_stack.specs.Stack.{Piles}
 use Rattle.gray_lists.specs.Incoming.{Incoming}
@@ -28,8 +27,8 @@ use Rattle.colour_defs.proofs.Lists.{get_contains}
 use Rattle.colour_defs.proofs.Membership.{same_zone_of}
 use Rattle.heap_core.specs.Shape.{comp_at, field_at, held_name, name_at, state_in, state_or, zone_of}
 use Rattle.heap_core.specs.Heap.{HeapState, joined, reg_of, slot_of, with_reg, with_slot}
-use Rattle.heap_core.specs.Changes.{Writes, with_comp, with_entry, with_number, with_zone, without_entry, wrapper_cell}
-use Rattle.heap_core.specs.Effects.{Changes, Dels, HoldsWrapper, MakesHeld, Puts, Sets, Wraps, itself, found, made}
+use Rattle.heap_core.specs.Changes.{Writes, with_comp, with_entry, with_number, with_zone, wrapper_cell}
+use Rattle.heap_core.specs.Effects.{Changes, Dels, HoldsWrapper, IsWithout, MakesHeld, Puts, Sets, Wraps, itself, found, made}
 use Rattle.heap_core.specs.Lookups.{held_field, held_value, number_at, seen_from, target_at, value_to_set}
 use Rattle.heap_core.specs.Peeks.{handed, stored}
 use Rattle.heap_core.specs.Shows.{Shows}
@@ -199,35 +198,35 @@ module _ (old new : HeapState) (flown : ℕ → Option Bits) (s : Piles) (lists 
           (λ q e. black q (ap (λ o. option_and_then (λ n. option_and_then (λ j. value_of old.shape.weak n j) (reg_of old k)) o) ea ∙ (ap (λ o. option_and_then (λ j. value_of old.shape.weak map j) o) eb ∙ e)))
           (λ q e. subst (MayCome h map key) (some_one _ _ e) (record { black = held_black v value ed; map = reg_present old g m map shows ea; key = reg_present old g k key shows eb; map_zone = map_value; key_zone = sym map_key ∙ map_value })))
 
-  serves_del : (m k : ℕ) → ((map key n j : Place) → reg_of old m ≡ Some map → reg_of old k ≡ Some key → value_of new.shape.weak n j ≡ (if is_same map n && is_same key j then None else value_of old.shape.weak n j)) → ((p : Place) → held_value old m k ≡ Some p → IsBlack h p) → Dels old m k new → Serves h (joined new flown) s lists
-  serves_del m k values black dels = go (reg_of old m) refl (reg_of old k) refl dels
+  serves_del : (m k : ℕ) → ((p : Place) → held_value old m k ≡ Some p → IsBlack h p) → Dels old m k new → Serves h (joined new flown) s lists
+  serves_del m k black dels = go (reg_of old m) refl (reg_of old k) refl dels
     where
-      go : (a : Option Place) → reg_of old m ≡ a → (b : Option Place) → reg_of old k ≡ b → IsSomeAnd a (λ map. IsSomeAnd b (λ key. new ≡ without_entry old map key)) → Serves h (joined new flown) s lists
+      go : (a : Option Place) → reg_of old m ≡ a → (b : Option Place) → reg_of old k ≡ b → IsSomeAnd a (λ map. IsSomeAnd b (λ key. IsWithout old map key new)) → Serves h (joined new flown) s lists
       go None ea b eb p = absurd p
       go (Some map) ea None eb p = absurd p
       go (Some map) ea (Some key) eb p =
           let sets : SetsEntry h map key None (joined new flown) = record {
-            rest = ap (λ (z : HeapState). joined z flown) p ∙ ap (λ w. record h { shape = record h.shape { weak = w } }) (ap (λ (z : HeapState). z.shape.weak) (sym p));
-            values = λ n j. values map key n j ea eb;
+            rest = ap (λ (z : HeapState). joined z flown) p.rest ∙ ap (λ w. record h { shape = record h.shape { weak = w } }) (ap (λ (z : HeapState). z.shape.weak) (sym p.rest));
+            values = p.values;
           } in
           serves_rewired h (joined new flown) s lists inv gray (rewired_entry h map key None (joined new flown) sets ci
           (λ q e. black q (ap (λ o. option_and_then (λ n. option_and_then (λ j. value_of old.shape.weak n j) (reg_of old k)) o) ea ∙ (ap (λ o. option_and_then (λ j. value_of old.shape.weak map j) o) eb ∙ e)))
           (λ q e. absurd (cc e)))
 
-  pub serves : (c : GraphCmd) → refusal_in (step_of g c).1 ≡ None → ((p : Place) → stored old c ≡ Some p → IsBlack h p) → ((p : Place) → handed old c ≡ Some p → IsBlack h p) → ((m k : ℕ) (map key n j : Place) → c ≡ cmd.Del m k → reg_of old m ≡ Some map → reg_of old k ≡ Some key → value_of new.shape.weak n j ≡ (if is_same map n && is_same key j then None else value_of old.shape.weak n j)) → Changes old c new → Serves h (joined new flown) s lists
-  serves cmd.Zone acc st hd del e = rewired (with_zone old) e (rewired_zone h ci)
-  serves (cmd.Comp z) acc st hd del e = rewired (with_comp old z) e (rewired_comp h z ci)
-  serves (cmd.New r c n) acc st hd del m = serves_made r (kind.Object n) c m
-  serves (cmd.Map r c) acc st hd del m = serves_made r kind.Map c m
-  serves (cmd.Get r i f) acc st hd del e = rewired (with_reg old r (held_field old i f)) e (rewired_reg h r (held_field old i f) ci hd)
-  serves (cmd.Set i f t) acc st hd del w = serves_set i f t acc st w
-  serves (cmd.Wrap r i c) acc st hd del w = serves_wrap r i c hd w
-  serves (cmd.Unwrap r i) acc st hd del e = rewired (with_reg old r (held_field old i 0)) e (rewired_reg h r (held_field old i 0) ci hd)
-  serves (cmd.Copy r i) acc st hd del e = rewired (with_reg old r (reg_of old i)) e (rewired_reg h r (reg_of old i) ci hd)
-  serves (cmd.Drop r) acc st hd del e = rewired (with_reg old r None) e (rewired_reg h r None ci (λ y q. absurd (cc q)))
-  serves (cmd.Hold k r) acc st hd del e = rewired (with_slot old k (reg_of old r)) e (rewired_slot h k (reg_of old r) ci)
-  serves (cmd.Release k) acc st hd del e = rewired (with_slot old k None) e (rewired_slot h k None ci)
-  serves (cmd.Expose r k) acc st hd del e = rewired (with_reg old r (slot_of old k)) e (rewired_reg h r (slot_of old k) ci hd)
-  serves (cmd.Put m k v) acc st hd del p = serves_put m k v acc st p
-  serves (cmd.Del m k) acc st hd del p = serves_del m k (λ map key n j em ek. del m k map key n j refl em ek) st p
-  serves (cmd.Find r m k) acc st hd del e = rewired (with_reg old r (held_value old m k)) e (rewired_reg h r (held_value old m k) ci hd)
+  pub serves : (c : GraphCmd) → refusal_in (step_of g c).1 ≡ None → ((p : Place) → stored old c ≡ Some p → IsBlack h p) → ((p : Place) → handed old c ≡ Some p → IsBlack h p) → Changes old c new → Serves h (joined new flown) s lists
+  serves cmd.Zone acc st hd e = rewired (with_zone old) e (rewired_zone h ci)
+  serves (cmd.Comp z) acc st hd e = rewired (with_comp old z) e (rewired_comp h z ci)
+  serves (cmd.New r c n) acc st hd m = serves_made r (kind.Object n) c m
+  serves (cmd.Map r c) acc st hd m = serves_made r kind.Map c m
+  serves (cmd.Get r i f) acc st hd e = rewired (with_reg old r (held_field old i f)) e (rewired_reg h r (held_field old i f) ci hd)
+  serves (cmd.Set i f t) acc st hd w = serves_set i f t acc st w
+  serves (cmd.Wrap r i c) acc st hd w = serves_wrap r i c hd w
+  serves (cmd.Unwrap r i) acc st hd e = rewired (with_reg old r (held_field old i 0)) e (rewired_reg h r (held_field old i 0) ci hd)
+  serves (cmd.Copy r i) acc st hd e = rewired (with_reg old r (reg_of old i)) e (rewired_reg h r (reg_of old i) ci hd)
+  serves (cmd.Drop r) acc st hd e = rewired (with_reg old r None) e (rewired_reg h r None ci (λ y q. absurd (cc q)))
+  serves (cmd.Hold k r) acc st hd e = rewired (with_slot old k (reg_of old r)) e (rewired_slot h k (reg_of old r) ci)
+  serves (cmd.Release k) acc st hd e = rewired (with_slot old k None) e (rewired_slot h k None ci)
+  serves (cmd.Expose r k) acc st hd e = rewired (with_reg old r (slot_of old k)) e (rewired_reg h r (slot_of old k) ci hd)
+  serves (cmd.Put m k v) acc st hd p = serves_put m k v acc st p
+  serves (cmd.Del m k) acc st hd p = serves_del m k st p
+  serves (cmd.Find r m k) acc st hd e = rewired (with_reg old r (held_value old m k)) e (rewired_reg h r (held_value old m k) ci hd)

@@ -1,5 +1,5 @@
 -- A collector of an empty heap stands for the first world.
-use Rattle.std.proofs.Common.{◌≡◌, ℕ, zero, suc, List, [], length, Option, Some, None, is_some, slice_get, slice_index_or, replicate, refl, sym, ap, subst, ◌∙◌, inl, inr, arith, Contains}
+use Rattle.std.proofs.Common.{◌≡◌, ℕ, zero, suc, Bool, true, false, ◌&&◌, if◌then◌else◌, List, [], ◌∷◌, length, Option, Some, None, is_some, slice_get, slice_index_or, replicate, refl, sym, ap, subst, ◌∙◌, inl, inr, arith, Contains}
 use Rattle.std.specs.FinMap as places
 use Rattle.gz_names.specs.Order.{name_cmp}
 use Rattle.gz_names.specs.declared.names.Name.{Name}
@@ -10,6 +10,9 @@ use Rattle.zones.specs.declared.states.State.{State}
 use Rattle.zones.specs.declared.states.State.TheVariants as state
 use Rattle.mark_stack.specs.Stack.{Piles}
 use Rattle.gray_lists.specs.Incoming.{IsOnce, list_of}
+use Rattle.weak_maps.specs.Lists.{is_same}
+use Rattle.weak_maps.specs.WeakMaps.{EntryState, value_at}
+use Rattle.weak_maps.proofs.Places.{is_same-self}
 use Rattle.roots.specs.Buffers.{buffer_at}
 use Rattle.colour_defs.specs.Graph.{empty_graph}
 use Rattle.colour_defs.specs.World.{IsPresent as IsPresentName, first_world}
@@ -167,3 +170,13 @@ module _ (c : CollectorState) (e : IsEmpty c.heap) where
     black = λ s x p is. absurd (cc (no_name c.heap e p, is));
     runs = subst (λ r. RunsAs (heap_with c flight.none_flown) c first_world r None) (sym run) (record { states = no_state; kept = none_out; black = black; gray = gray });
   }
+
+-- weak maps without a value have no entry
+pub no_entries : (es : List EntryState) → ((m k : Place) → value_at es m k ≡ None) → length es ≡ 0
+no_entries [] none = refl
+no_entries (e ∷ es) none = absurd (by (is_same e.map e.map) (is_same e.key e.key) (is_same-self e.map) (is_same-self e.key) (none e.map e.key))
+  where
+    by : (x y : Bool) → x ≡ true → y ≡ true → (if x && y then Some e.value else value_at es e.map e.key) ≡ None → ⊥
+    by true true a b h = cc h
+    by true false a b h = cc b
+    by false y a b h = cc a

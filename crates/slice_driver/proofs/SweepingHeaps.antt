@@ -29,7 +29,7 @@ same_flown f g n [] same = refl
 same_flown f g n (own ∷ rest) same = λ i. ap (λ o. flown_or o own) (let zero_more : n + 0 ≡ n = omega arith in ap g (sym zero_more) ∙ same 0 ∙ ap f zero_more) i ∷ same_flown f g (suc n) rest (λ j. (let next : n + suc j ≡ suc n + j = omega arith in ap g (sym next) ∙ same (suc j) ∙ ap f next)) i
 
 -- an arena takes the bits that were in flight for it
-taken_colours : (f g : ℕ → Option Bits) (bits : Bits) (n a : ℕ) (colours : List Bits) → f (n + a) ≡ Some bits → g (n + a) ≡ None → ((i : ℕ) → i ≢ a → g (n + i) ≡ f (n + i)) → with_flown g n (slice_set colours a bits) ≡ with_flown f n colours
+pub taken_colours : (f g : ℕ → Option Bits) (bits : Bits) (n a : ℕ) (colours : List Bits) → f (n + a) ≡ Some bits → g (n + a) ≡ None → ((i : ℕ) → i ≢ a → g (n + i) ≡ f (n + i)) → with_flown g n (slice_set colours a bits) ≡ with_flown f n colours
 taken_colours f g bits n a [] was none others = refl
 taken_colours f g bits n zero (own ∷ rest) was none others =
     let zero_more : n + 0 ≡ n = omega arith in

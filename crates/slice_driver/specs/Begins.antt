@@ -1,5 +1,5 @@
 -- How marking begins, by places.
-use Rattle.std.specs.Prelude.{◌≡◌, ◌⊎◌, ◌↔◌, ◌≤◌, ◌*◌, ℕ, [], length, Some, Contains}
+use Rattle.std.specs.Prelude.{◌≡◌, ◌⊎◌, ◌↔◌, ◌<◌, ◌≤◌, ◌*◌, ℕ, [], length, Some, Contains}
 use Rattle.gz_names.specs.Zones.{HasZone}
 use Rattle.gz_names.specs.declared.numbers.Place.{Place}
 use Rattle.gz_names.specs.declared.zone_sets.ZoneSet.{ZoneSet}
@@ -18,6 +18,10 @@ use Rattle.barriers.specs.PendingLive.{buffer_of}
 -- a cell of one of these zones
 abbrev pub IsWithin : Shape → ZoneSet → Place → Type 0
 IsWithin s zones x = HasZone zones.bits (zone_of s x)
+
+-- each of these zones is made
+abbrev pub AreMade : Shape → ZoneSet → Type 0
+AreMade s zones = (z : ℕ) → HasZone zones.bits z → z < length s.states
 
 -- a register holds it, or a black cell of another zone leads to it
 abbrev pub IsBlackRoot : HeapState → ZoneSet → Place → Type 0

@@ -9,4 +9,12 @@ pub mod Represents
 pub mod Commands
 pub mod Steps
 pub mod Begins
+pub mod RootMarking
+pub mod GrayRoots
 pub mod Units
+pub mod Left
+pub mod Advancing
+pub mod Rooms
+pub mod Grays
+pub mod HandingOut
+pub mod Working

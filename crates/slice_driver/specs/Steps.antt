@@ -1,17 +1,14 @@
 -- What the call of a command does, step by step.
-use Rattle.std.specs.Prelude.{◌≡◌, ◌<◌, ◌≤◌, ◌*◌, ◌&&◌, ℕ, length, Option, Some, None, Result, Err, OnOk, OnErr, slice_get, if◌then◌else◌}
+use Rattle.std.specs.Prelude.{◌≡◌, ◌<◌, ◌≤◌, ◌*◌, ℕ, length, Option, Some, None, Result, Err, OnOk, OnErr, slice_get}
 use Rattle.gz_names.specs.declared.numbers.Place.{Place}
 use Rattle.gz_names.specs.declared.commands.GraphCmd.{GraphCmd}
-use Rattle.gz_names.specs.declared.commands.GraphCmd.TheVariants as cmd
 use Rattle.gz_names.specs.declared.replies.Reply.{Reply}
 use Rattle.gz_names.specs.declared.replies.CmdFault.{CmdFault}
 use Rattle.gz_names.specs.declared.replies.CmdFault.TheVariants as fault
 use Rattle.cell_bits.specs.declared.bits.Bits.{Bits}
 use Rattle.mark_stack.specs.Stack.{Piles}
-use Rattle.weak_maps.specs.Lists.{is_same}
-use Rattle.weak_maps.specs.WeakMaps.{value_of}
 use Rattle.heap_core.specs.Shape.{Shape}
-use Rattle.heap_core.specs.Heap.{HeapState, joined, reg_of}
+use Rattle.heap_core.specs.Heap.{HeapState, joined}
 use Rattle.heap_core.specs.Answers.{DoesStep}
 use Rattle.heap_core.specs.Effects.{Changes}
 use Rattle.heap_core.specs.Peeks.{IsHanded, IsOld}
@@ -22,10 +19,6 @@ use Rattle.slice_driver.specs.Commands.{Exposed}
 -- the zone of each compartment is made
 abbrev pub HomesAreMade : Shape → Type 0
 HomesAreMade s = (comp z : ℕ) → slice_get s.comps comp ≡ Some z → z < length s.states
-
--- where a command removed the entry of a register's map and another one's cell, there is none any more
-abbrev pub Removes : HeapState → GraphCmd → HeapState → Type 0
-Removes old c new = (m k : ℕ) (map key n j : Place) → c ≡ cmd.Del m k → reg_of old m ≡ Some map → reg_of old k ≡ Some key → value_of new.shape.weak n j ≡ (if is_same map n && is_same key j then None else value_of old.shape.weak n j)
 
 -- room was made on the stack and the lists; what the command overwrites or removes was exposed, then what it hands out; and the heap did the command. Where memory is wanted, nothing was handed out
 pub record CommandSteps (c : CollectorState) (flown : ℕ → Option Bits) (command : GraphCmd) (result : Result Reply CmdFault) (d : CollectorState) (flying : ℕ → Option Bits) : Type 0 where
@@ -49,7 +42,6 @@ pub record CommandSteps (c : CollectorState) (flown : ℕ → Option Bits) (comm
   pub change : OnOk result (Changes second command d.heap)
   pub err : OnErr result (d.heap ≡ second)
   pub sure : (p : Place) → handed ≡ Some p → result ≡ Err fault.NoMemory → ⊥
-  pub removes : OnOk result (Removes second command d.heap)
   pub homes : HomesAreMade c.heap.shape
   pub room : 64 * length d.heap.colours ≤ d.stack.room
   pub more_room : 64 * length d.heap.colours ≤ d.lists.room

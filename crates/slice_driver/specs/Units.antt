@@ -1,5 +1,5 @@
 -- What a collector's calls do in the worlds that it stands for.
-use Rattle.std.specs.Prelude.{◌≡◌, ◌<◌, ◌==◌, ℕ, Bool, List, [], ◌∷◌, Option, Some, None, Result, Ok, Err, IsSome, Contains, AllPairs, slice_get, if◌then◌else◌}
+use Rattle.std.specs.Prelude.{◌≡◌, ◌<◌, ◌==◌, ℕ, Bool, List, [], ◌∷◌, Option, Some, None, Result, Ok, Err, IsSome, slice_get, if◌then◌else◌, Contains, ⊤}
 use Rattle.gz_names.specs.Zones.{zones_in}
 use Rattle.gz_names.specs.declared.commands.GraphCmd.{GraphCmd}
 use Rattle.gz_names.specs.declared.replies.Reply.{Reply}
@@ -87,11 +87,21 @@ UnitDone old flown unit new flying = DoneOrDue unit.due old flown unit new flyin
 abbrev pub IsFreedWord : Shape → ℕ → ℕ → Type 0
 IsFreedWord s a freed = (arena : ArenaShape) (bits : Bits) → slice_get s.arenas a ≡ Some arena → arena.out ≡ Some bits → freed ≡ white_mask_of bits (alloc_word_of arena.slots)
 
--- the freed words of arenas after a unit: those of what was handed to sweeping, or as they were
-abbrev pub WordsAfter : Shape → Option (List Job) → Shape → Type 0
-WordsAfter s None t = (a freed : ℕ) → IsFreedWord s a freed → IsFreedWord t a freed
-WordsAfter s (Some jobs) t = (job : Job) → Contains jobs job → IsFreedWord t job.arena (white_mask_of job.bits job.alloc_word)
+-- the arenas that are handed to sweeping keep the slots of their white cells
+abbrev pub KeepsFreedWords : Shape → Shape → Type 0
+KeepsFreedWords s t = (a freed : ℕ) → IsFreedWord s a freed → IsFreedWord t a freed
 
--- jobs by ascending arena
+-- the arenas of jobs ascend
 abbrev pub AreAscendingJobs : List Job → Type 0
-AreAscendingJobs jobs = AllPairs (λ (j k : Job). j.arena < k.arena) jobs
+AreAscendingJobs [] = ⊤
+AreAscendingJobs (job ∷ jobs) = ((other : Job) → Contains jobs other → job.arena < other.arena) × AreAscendingJobs jobs
+
+-- jobs of arenas that are handed to sweeping, ascending, with the slots of their white cells
+pub record AreJobsOf (s : Shape) (jobs : List Job) : Type 0 where
+  pub ascending : AreAscendingJobs jobs
+  pub freed : (job : Job) → Contains jobs job → IsFreedWord s job.arena (white_mask_of job.bits job.alloc_word)
+
+-- a unit hands such jobs to sweeping, or none
+abbrev pub HandsJobs : Option (List Job) → Shape → Shape → Type 0
+HandsJobs None s t = KeepsFreedWords s t
+HandsJobs (Some jobs) s t = AreJobsOf t jobs

@@ -1,10 +1,11 @@
 -- Where the cells of a heap lie in a world.
 use Rattle.std.specs.Prelude.{◌≡◌, ◌↔◌, ◌⊎◌, ℕ, suc, true, is_some, if◌then◌else◌, List, [], ◌∷◌, map, Option, Some, Contains}
 use Rattle.std.specs.FinMap as places
-use Rattle.std.specs.Int.{bit_at}
 use Rattle.gz_names.specs.declared.names.Name.{Name}
 use Rattle.gz_names.specs.declared.numbers.Place.{Place}
 use Rattle.cell_bits.specs.declared.bits.Bits.{Bits}
+use Rattle.cell_bits.specs.declared.bits.Colour.TheVariants as colour
+use Rattle.cell_bits.specs.Colours.{colour_of}
 use Rattle.arena_table.specs.Cells.{CellState}
 use Rattle.colour_defs.specs.Graph.{GraphState}
 use Rattle.colour_defs.specs.World.{World}
@@ -31,11 +32,11 @@ pub record IsUnswept (s : Shape) (p : Place) (x : Name) : Type 0 where
   pub cell_is : stored_at s p ≡ Some cell
   pub name_is : cell.name ≡ x
 
--- the bits of an arena in flight: those at hand-out, but that gray slots may have turned black
+-- the bits of an arena in flight: the colours are those at hand-out, but that gray slots may have turned black
 pub record IsWokenFrom (old new : Bits) : Type 0 where
-  pub gob : new.gob ≡ old.gob
-  pub kept : (i : ℕ) → bit_at old.black i ≡ 1 → bit_at new.black i ≡ 1
-  pub within : (i : ℕ) → bit_at new.black i ≡ 1 → (bit_at old.black i ≡ 1) ⊎ (bit_at old.gob i ≡ 1)
+  pub white : (i : ℕ) → colour_of old i ≡ colour.White → colour_of new i ≡ colour.White
+  pub gray : (i : ℕ) → colour_of old i ≡ colour.Gray → (colour_of new i ≡ colour.Gray) ⊎ (colour_of new i ≡ colour.Black)
+  pub black : (i : ℕ) → colour_of old i ≡ colour.Black → colour_of new i ≡ colour.Black
 
 -- exactly the arenas that are handed to sweeping are in flight
 pub record IsInFlight (s : Shape) (flown : ℕ → Option Bits) : Type 0 where

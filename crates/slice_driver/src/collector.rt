@@ -67,7 +67,7 @@ impl Model for Collector {
       run = run_of c.run;
     } };
 
-    ghost invariant = { λ c. IsKept c.heap.shape c.edges c.run c.ungrouped c.out_from };
+    ghost invariant = { λ c. IsKept c.heap.shape c.edges c.order c.run c.ungrouped c.out_from };
 }
 
 impl Collector {
@@ -78,6 +78,7 @@ impl Collector {
         ensures first { IfOk result (λ c. Represents c none_flown first_world) }
         ensures idle { IfOk result (λ c. c.run ≡ None) }
         ensures made { IfOk result (λ c. c.heap.made ≡ 0) }
+        ensures entries { IfOk result (λ c. length c.heap.shape.weak.entries ≡ 0) }
     {
         Ok(Collector {
             heap: Heap::new(alloc)?,

@@ -21,13 +21,40 @@
 // laws.rt for commands and beginnings, in end_laws.rt for units. A unit is lawful in each world that
 // the collector stood for, and the collector stands for the world after it (`DoesUnit`).
 //
-// The calls that do these pieces in order are still to come.
+// `command` does a command where no collection runs: it makes room, exposes what is overwritten and what
+// is handed out, and lets the heap do the command. `gray_names` lists what is gray where no zone is
+// marking. `begin` begins a collection: mark bits are cleared, gray roots buffered, black roots marked.
+//
+// A collection goes on unit by unit. `unit` does the first of six steps that has work, each by the laws
+// of its step:
+//
+//     1 marks_black      a cell of the black pile, or a weak entry for black
+//     2 forms_groups     before the groups are formed, a look at a wrapper, or a grouping step
+//     3 begins_zone      gray marking of a zone of the current group begins
+//     4 marks_gray       a piece of gray marking of the group, or a weak entry for gray
+//     5 next_out         an arena that is out is due, and `take_one` takes it in
+//     6 end_group        the current group ends
+//
+// So a group is grouped once black marking rests, and ends once all of its marking rests and no arena
+// of the group before is out. Each unit lowers one number (`units_left`), so a collection comes to its
+// end.
 #![tactic(auto)]
 
+mod begin;
 mod collector;
+mod colours;
+mod commands;
 mod end_laws;
+mod ends;
+mod gray_roots;
+mod grouping_steps;
 mod laws;
+mod marking_steps;
+mod root_marking;
 #[cfg(test)]
 mod tests;
+mod units;
+mod zone_states;
 
+pub use begin::BeginFault;
 pub use collector::{Collector, Run, Unit};

@@ -1,7 +1,7 @@
 use Rattle.std.proofs.Common.{◌∙◌, ap, refl}
 use Rattle.mark_stack.specs.Stack.{Piles}
 use Rattle.gray_lists.specs.Incoming.{Incoming, list_of}
-use Rattle.slice_driver.proofs.Starting.{no_buffer, represents_first}
+use Rattle.slice_driver.proofs.Starting.{no_buffer, no_entries, represents_first}
 use Rattle.slice_driver.proofs.collector.Collector.new.Goals as goal
 
 pub returns-clause-first : goal.returns-clause-first
@@ -9,3 +9,6 @@ returns-clause-first c =
     let stack = c.in_ok-new-2.ensures in
     represents_first _ c.in_ok-new.ensures.empty (ap (λ (p : Piles). p.black) stack) (ap (λ (p : Piles). p.gray) stack) (ap (λ (p : Piles). p.wake) stack)
     (λ n. ap (λ (l : Incoming). list_of l n) c.new-3.ensures ∙ no_buffer 256 n) refl
+
+pub returns-clause-entries : goal.returns-clause-entries
+returns-clause-entries c = no_entries c.in_ok-new.field-0.shape.weak.entries c.in_ok-new.ensures.empty.entries

@@ -1,0 +1,31 @@
+use Rattle.std.proofs.Common.{◌≡◌, length, arith, subst, sym, ◌+◌}
+use Rattle.slice_driver.specs.GrayRoots.{Gathers, IsGrayAmong, IsGrayOf}
+use Rattle.slice_driver.proofs.GatheredRoots.{among_skip, among_step}
+use Rattle.slice_driver.proofs.gray_roots.gather_wrappers.Goals as goal
+use Rattle.slice_driver.proofs.gray_roots.gather_wrappers.Goals.{in-Some+in_ok-gather_of, in_default}
+
+pub loop-index-preserved : goal.loop-index-preserved
+loop-index-preserved g c =
+    let h = c.args.heap.now in
+    let i = c.loop-index.index in
+    let old = c.args.found.now.items in
+    let mid = c.loop-index.found.items in
+    elim c.match-outsider_at.branch [
+      | in-Some+in_ok-gather_of w ↦
+          let other = w.in-Some.ensures.some in
+          let new = w.gather_of.new.found.items in
+          record {
+            gathered = subst (λ v. Gathers (IsGrayAmong h c.args.zones (i + 1)) old v.items) (sym w.found-is)
+                (among_step h c.args.zones i old mid new other.1 c.loop-index.invariant.gathered (subst (λ z. Gathers (IsGrayOf h c.args.zones z) mid new) other.0 w.in_ok-gather_of.ensures));
+          }
+      | in_default w ↦ record {
+        gathered = subst (λ v. Gathers (IsGrayAmong h c.args.zones (i + 1)) old v.items) (sym w.found-is)
+            (among_skip h c.args.zones i old mid w.in_default.ensures.none c.loop-index.invariant.gathered);
+      }
+    ]
+
+pub returns : goal.returns
+returns g c =
+    let h = c.args.heap.now in
+    let ended : c.loop-index.index ≡ length h.shape.states = omega arith in
+    subst (λ n. Gathers (IsGrayAmong h c.args.zones n) c.args.found.now.items c.loop-index.found.items) ended c.loop-index.invariant.gathered

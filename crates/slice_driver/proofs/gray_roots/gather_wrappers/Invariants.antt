@@ -1,0 +1,7 @@
+use Rattle.slice_driver.specs.GrayRoots.{Gathers, IsGrayAmong}
+use Rattle.slice_driver.proofs.gray_roots.gather_wrappers.Given as goal
+
+abbrev pub invariant-loop-index : goal.invariant-loop-index
+invariant-loop-index g l = record {
+  gathered : Gathers (IsGrayAmong l.heap l.zones l.index) l.fn.found.items l.found.items;
+}

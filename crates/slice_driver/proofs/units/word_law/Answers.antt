@@ -1,0 +1,6 @@
+use Rattle.std.proofs.Common.{arith}
+use Rattle.slice_driver.proofs.GroupEndSteps.{small_word}
+use Rattle.slice_driver.proofs.units.word_law.Goals as goal
+
+pub returns : goal.returns
+returns c = small_word c.args.zones.bits (omega arith)

@@ -1,0 +1,105 @@
+-- What the steps of a unit do, and what they find done.
+use Rattle.std.specs.Prelude.{◌≡◌, ◌<◌, ℕ, Bool, true, false, List, [], Option, None, Some, IsSome, slice_get}
+use Rattle.std.specs.Int.{bit_at}
+use Rattle.gz_names.specs.Zones.{HasZone}
+use Rattle.gz_names.specs.declared.numbers.Place.{Place}
+use Rattle.gz_names.specs.declared.replies.Report.{Report}
+use Rattle.gz_names.specs.declared.zone_sets.ZoneSet.{ZoneSet}
+use Rattle.cell_bits.specs.declared.bits.Bits.{Bits}
+use Rattle.colour_defs.specs.World.{World}
+use Rattle.heap_core.specs.Shape.{is_marking, out_of, zone_of}
+use Rattle.barriers.specs.Reached.{HasEntry}
+use Rattle.barriers.specs.Colours.{IsBlack, IsSeen}
+use Rattle.marker.specs.GrayBits.{AreGraying}
+use Rattle.marker.specs.Units.{IsGrayIdle}
+use Rattle.zone_edges.specs.Looks.{AreAllLookedAt}
+use Rattle.slice_driver.specs.Collector.{CollectorState, RunState, heap_with}
+use Rattle.slice_driver.specs.Left.{units_left}
+use Rattle.slice_driver.specs.Quiet.{IsFormed}
+use Rattle.slice_driver.specs.Represents.{Represents}
+use Rattle.slice_driver.specs.Units.{DoesUnit, IsSound, KeepsFreedWords, reports_of}
+use Rattle.slice_driver.specs.declared.collector.Unit.{Unit}
+
+-- a unit with these reports was done, which hands out no arena and takes none in; the collection goes on, and less is left of it
+pub record GoesOn (c : CollectorState) (flown : ℕ → Option Bits) (reports : List Report) (d : CollectorState) (flying : ℕ → Option Bits) : Type 0 where
+  pub done : DoesUnit c flown reports d flying
+  pub words : KeepsFreedWords c.heap.shape d.heap.shape
+  pub running : IsSome d.run
+  pub made_is : d.heap.made ≡ c.heap.made
+  pub weak_is : d.heap.shape.weak ≡ c.heap.shape.weak
+  pub less : units_left d flying < units_left c flown
+
+-- nothing was done: the collector is as it was, and so are all colours, also those in flight
+pub record IsStill (c : CollectorState) (flown : ℕ → Option Bits) (d : CollectorState) (flying : ℕ → Option Bits) : Type 0 where
+  pub same : d ≡ c
+  pub colours : heap_with c flying ≡ heap_with c flown
+  pub worlds : (w : World) → Represents c flown w → Represents c flying w
+
+-- a step did a unit that reports nothing, or it found nothing to do
+abbrev pub DidOrStill : Bool → Type 0 → CollectorState → (ℕ → Option Bits) → CollectorState → (ℕ → Option Bits) → Type 0
+DidOrStill true found c flown d flying = GoesOn c flown [] d flying
+DidOrStill false found c flown d flying = IsStill c flown d flying × found
+
+-- the weak rule adds no black cell in a marking zone
+abbrev pub IsBlackFixed : CollectorState → (ℕ → Option Bits) → Type 0
+IsBlackFixed c flown = (m k v : Place) → HasEntry c.heap.shape m k v → IsBlack (heap_with c flown) m → IsBlack (heap_with c flown) k → is_marking c.heap.shape v ≡ true → IsBlack (heap_with c flown) v
+
+-- black marking has nothing left to do
+pub record IsBlackDone (c : CollectorState) (flown : ℕ → Option Bits) : Type 0 where
+  pub pile : c.stack.black ≡ []
+  pub fixed : IsBlackFixed c flown
+
+-- a collection runs, and its groups are not formed
+abbrev pub IsGrouping : CollectorState → Type 0
+IsGrouping c = (r : RunState) × (c.run ≡ Some r) × (r.formed ≡ false)
+
+-- a unit before the groups are formed: each wrapper was looked at, or one more was
+abbrev pub LooksOrAll : Bool → CollectorState → CollectorState → Type 0
+LooksOrAll true c d = (flown : ℕ → Option Bits) → IsSound c flown → IsBlackDone c flown → GoesOn c flown [] d flown
+LooksOrAll false c d = AreAllLookedAt c.heap.shape c.edges × (d ≡ c)
+
+-- the weak rule adds no gray cell in a group
+abbrev pub IsGrayFixed : CollectorState → (ℕ → Option Bits) → ZoneSet → Type 0
+IsGrayFixed c flown g = (m k v : Place) → HasEntry c.heap.shape m k v → IsSeen (heap_with c flown) m → IsSeen (heap_with c flown) k → HasZone g.bits (zone_of c.heap.shape v) → IsSeen (heap_with c flown) v
+
+-- the gray marking of a group has nothing left to do
+pub record IsGrayDone (c : CollectorState) (flown : ℕ → Option Bits) (g : ZoneSet) : Type 0 where
+  pub idle : IsGrayIdle c.heap c.stack c.lists g.bits
+  pub fixed : IsGrayFixed c flown g
+
+-- a unit of the grouping goes on with the collection
+pub record IsGroupingUnit (c : CollectorState) (unit : Unit) (d : CollectorState) : Type 0 where
+  pub handed : unit.handed ≡ None
+  pub finished : unit.finished ≡ false
+  pub due : unit.due ≡ None
+  pub goes : (flown : ℕ → Option Bits) → IsSound c flown → IsBlackDone c flown → GoesOn c flown (reports_of unit.report unit.finished) d flown
+
+-- the groups are not formed yet and such a unit was done, or they are
+abbrev pub GroupsOrFormed : Option Unit → CollectorState → CollectorState → Type 0
+GroupsOrFormed None c d = IsFormed c × (d ≡ c)
+GroupsOrFormed (Some unit) c d = IsGroupingUnit c unit d
+
+-- the zones of the current group have begun their gray marking, and no others
+abbrev pub HasBegun : CollectorState → Type 0
+HasBegun c = (g : ZoneSet) → slice_get c.groups 0 ≡ Some g → AreGraying c.heap.shape g.bits
+
+-- a zone of the current group began, or all have
+abbrev pub BeginsOrBegun : Bool → CollectorState → CollectorState → Type 0
+BeginsOrBegun true c d = (flown : ℕ → Option Bits) → IsSound c flown → GoesOn c flown [] d flown
+BeginsOrBegun false c d = HasBegun c × (d ≡ c)
+
+-- the gray marking of the current group has nothing left to do
+abbrev pub IsGroupDone : CollectorState → (ℕ → Option Bits) → Type 0
+IsGroupDone c flown = (g : ZoneSet) → slice_get c.groups 0 ≡ Some g → IsGrayDone c flown g
+
+-- what holds of the groups of a collection that runs: they are words of zones, and once they are formed one is left, or an arena is out
+pub record HasGroups (c : CollectorState) : Type 0 where
+  pub small : (g : ZoneSet) → slice_get c.groups 0 ≡ Some g → (z : ℕ) → bit_at g.bits z ≡ 1 → z < 64
+  pub more : IsFormed c → ((a : ℕ) → out_of c.heap.shape a ≡ None) → c.groups ≡ [] → ⊥
+
+-- the first four steps of a unit have no work: black marking is done, the groups are formed, the zones of the current group have begun their gray marking, and that is done
+pub record IsResting (c : CollectorState) (flown : ℕ → Option Bits) : Type 0 where
+  pub black : IsBlackDone c flown
+  pub formed : IsFormed c
+  pub begun : HasBegun c
+  pub group : IsGroupDone c flown

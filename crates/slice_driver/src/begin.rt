@@ -1,0 +1,91 @@
+// How a collection begins.
+ghost use Rattle.std.specs.Prelude.{◌≡◌, ◌↔◌, ◌<◌, ℕ, Err, None, Some, IfNone, IfSome, IsSome, IsTrue, OnErr, OnOk, false, length};
+ghost use Rattle.gz_names.specs.Zones.{HasZone};
+ghost use Rattle.zones.specs.declared.states.State.TheVariants as state;
+ghost use Rattle.heap_core.specs.Shape.{state_in};
+ghost use Rattle.slice_driver.specs.Begins.{AreMade};
+ghost use Rattle.slice_driver.specs.Units.{BeginsIn, IsSound, none_flown};
+
+use crate::collector::{Collector, Run};
+use crate::gray_roots::buffer_gray_roots;
+use crate::root_marking::{mark_registers, mark_targets};
+use crate::zone_states::advance_all;
+use gz_names::ZoneSet;
+use heap_core::{Heap, Steps};
+use std::alloc::{AllocError, Global};
+use std::sync::ledger::Ledger;
+use zones::State;
+
+/// Why a collection was not begun.
+#[derive(Clone, Copy, Debug, PartialEq, Eq)]
+pub enum BeginFault {
+    /// One runs.
+    Running,
+    /// One of the zones is not made.
+    NoZone,
+    NoMemory,
+}
+
+impl From<AllocError> for BeginFault {
+    ghost use Rattle.slice_driver.specs.declared.begin.BeginFault.TheVariants.{NoMemory};
+
+    ghost from_gives = { λ _ fault. fault ≡ NoMemory };
+
+    fn from(_error: AllocError) -> Self {
+        BeginFault::NoMemory
+    }
+}
+
+impl Collector {
+    /// Begins a collection of these zones (js/src/gc/GC.cpp, `beginMarkPhase`). Their mark bits are
+    /// cleared, and their gray roots are buffered: the cells that gray slots hold, and the gray
+    /// wrappers of other zones that lead into them. Their black roots are marked and put on the
+    /// stack: the cells that registers hold, and the targets of black wrappers of other zones. All
+    /// memory is taken first.
+    pub fn begin<L: Ledger>(
+        &mut self,
+        alloc: Global,
+        zones: ZoneSet,
+        steps: &mut Steps<L>,
+    ) -> Result<(), BeginFault>
+        requires sound { IsSound self.old none_flown }
+        requires some { (z : ℕ) × HasZone zones.bits z }
+        ensures begun { OnOk result (BeginsIn self.old zones.bits self.new) }
+        ensures started { OnOk result
+            (self.new.run ≡ Some (record { zones = zones; formed = false })) }
+        ensures running { (result ≡ Err BeginFault.Running) ↔ IsSome self.old.run }
+        ensures no_zone { (result ≡ Err BeginFault.NoZone)
+            ↔ ((self.old.run ≡ None) × (AreMade self.old.heap.shape zones → ⊥)) }
+        ensures made_zones { OnOk result (AreMade self.old.heap.shape zones) }
+        ensures refused { OnErr result (self.new ≡ self.old) }
+        ensures made { self.new.heap.made ≡ self.old.heap.made }
+        ensures weak { self.new.heap.shape.weak ≡ self.old.heap.shape.weak }
+    {
+        if self.running() {
+            return Err(BeginFault::Running);
+        }
+        if !are_made(&self.heap, zones) {
+            return Err(BeginFault::NoZone);
+        }
+        buffer_gray_roots(&mut self.heap, alloc, zones, steps)?;
+        self.heap.clear_bits(zones);
+        mark_registers(&mut self.heap, &mut self.stack, zones);
+        mark_targets(&mut self.heap, &mut self.stack, zones, steps);
+        advance_all(&mut self.heap, zones);
+        self.edges.start(zones);
+        self.ungrouped = zones;
+        self.run = Some(Run {
+            zones,
+            formed: false,
+        });
+        Ok(())
+    }
+}
+
+// Whether each of these zones is made, where all zones that are made are in no collection.
+fn are_made(heap: &Heap, zones: ZoneSet) -> bool
+    requires { (z : ℕ) → state_in heap.now.shape z ≡ state.NoGC }
+    ensures { IsTrue result ↔ AreMade heap.now.shape zones }
+{
+    zones.without(heap.in_state(State::NoGC)).first().is_none()
+}

@@ -1,0 +1,66 @@
+// What is gray.
+ghost use Rattle.std.specs.Prelude.{◌≡◌, ◌<◌, ◌++◌, IfOk, OnOk, length, true};
+ghost use Rattle.gz_names.specs.declared.numbers.Place.{Place as APlace};
+ghost use Rattle.colour_defs.specs.Ends.{Lists};
+ghost use Rattle.colour_defs.specs.World.{World, Has, IsPresent as IsPresentName, IsSettled};
+ghost use Rattle.heap_core.specs.Shape.{IsPresent};
+ghost use Rattle.heap_core.specs.Heap.{joined};
+ghost use Rattle.barriers.specs.Colours.{IsGray};
+ghost use Rattle.barriers.specs.Spreading.{Covers};
+ghost use Rattle.slice_driver.specs.Grays.{grays_below};
+ghost use Rattle.slice_driver.specs.Represents.{Represents};
+ghost use Rattle.slice_driver.specs.Units.{IsSound};
+
+use crate::collector::Collector;
+use barriers::colour;
+use cell_bits::{Colour, Flight};
+use gz_names::{Name, NameList, NoMemory, Place};
+use heap_core::Heap;
+use std::alloc::Global;
+
+impl Collector {
+    /// The names of the gray cells, ascending, where no zone is marking.
+    pub fn gray_names<F: Flight>(&self, alloc: Global, flight: &mut F) -> Result<NameList, NoMemory>
+        requires sound { IsSound self.now (F.bits flight.old) }
+        ensures names { IfOk result (λ names. (w : World)
+            → Represents self.now (F.bits flight.old) w → IsSettled w
+            → Lists (λ x. IsPresentName w x × (Has w.black x → ⊥)) names) }
+        ensures same { (w : World) → Represents self.now (F.bits flight.old) w
+            → Represents self.now (F.bits flight.new) w }
+        ensures origin { F.origin flight.new ≡ F.origin flight.old }
+    {
+        let mut names = Vec::new(alloc);
+        for arena in 0..self.heap.arenas() {
+            push_gray(&self.heap, flight, arena, &mut names)?;
+        }
+        names.sort_unstable();
+        Ok(NameList::from_vec(names))
+    }
+}
+
+// Adds the names of the gray cells of an arena.
+pub(crate) fn push_gray<F: Flight>(
+    heap: &Heap,
+    flight: &mut F,
+    arena: u32,
+    names: &mut Vec<Name>,
+) -> Result<(), NoMemory>
+    requires covers { Covers heap.now.shape (F.bits flight.old) }
+    requires made { arena < length heap.now.colours }
+    requires present { (p : APlace) → IsGray (joined heap.now (F.bits flight.old)) p
+        → IsPresent heap.now.shape p }
+    ensures names { OnOk result (names.new.items ≡ names.old.items
+        ++ grays_below (joined heap.now (F.bits flight.old)) arena 64) }
+    ensures same { joined heap.now (F.bits flight.new) ≡ joined heap.now (F.bits flight.old) }
+    ensures covers { Covers heap.now.shape (F.bits flight.new) }
+    ensures origin { F.origin flight.new ≡ F.origin flight.old }
+{
+    for slot in 0..64 {
+        if let Some(place) = Place::new(arena, slot)
+            && colour(heap, flight, place) == Colour::Gray
+        {
+            names.push(heap.name(place))?;
+        }
+    }
+    Ok(())
+}

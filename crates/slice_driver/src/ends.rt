@@ -1,0 +1,186 @@
+// The end of a group, and taking arenas in.
+ghost use Rattle.std.specs.Prelude.{◌≡◌, ◌↔◌, ◌<◌, ◌≤◌, ℕ, List, Option, None, Some, true, IsSome, IfOk, IfSome, IfNone, OnErr, length};
+ghost use Rattle.gz_names.specs.Zones.{HasZone};
+ghost use Rattle.std.specs.List.Sorted.{IsPermutation, IsSorted};
+ghost use Rattle.gz_names.specs.Order.{name_cmp};
+ghost use Rattle.gz_names.specs.declared.numbers.Place.{Place as APlace};
+ghost use Rattle.gz_names.specs.declared.zone_sets.ZoneSet.{ZoneSet as AZoneSet};
+ghost use Rattle.cell_bits.specs.declared.bits.Bits.{Bits as ABits};
+ghost use Rattle.heap_core.specs.Shape.{IsPresent, out_of};
+ghost use Rattle.barriers.specs.Colours.{IsGray};
+ghost use Rattle.slice_driver.specs.Advancing.{EndsSweeping};
+ghost use Rattle.slice_driver.specs.Grays.{grays_up_to, is_owned};
+ghost use Rattle.slice_driver.specs.GroupEnd.{IsReady};
+ghost use Rattle.slice_driver.specs.HandingOut.{HandsOut};
+ghost use Rattle.slice_driver.specs.Left.{units_left};
+ghost use Rattle.slice_driver.specs.Units.{DoesUnit, HandsJobs, IsFreedWord, IsLowestOut, IsSound, KeepsFreedWords, flying_after, reports_of, without_arena};
+
+use crate::collector::{Collector, Unit};
+use crate::colours::push_gray;
+use crate::zone_states::advance_all;
+use arena_table::Jobs;
+use cell_bits::{NoFlight, Taken};
+use gz_names::{NameList, NoMemory, Report, ZoneSet};
+use heap_core::Heap;
+use std::alloc::Global;
+use sweep_groups::GroupOrder;
+use zones::State;
+
+impl Collector {
+    /// Takes in the lowest arena that is handed to sweeping, with the slots of its white cells at
+    /// hand-out and the bits that were in flight for it. It takes no memory.
+    pub fn take_one(&mut self, taken: Taken, arena: u32) -> Unit
+        requires lowest { IsLowestOut self.old.heap.shape arena }
+        requires freed { IsFreedWord self.old.heap.shape arena taken.freed }
+        requires running { IsSome self.old.run }
+        ensures done { (flown : ℕ → Option ABits) → flown arena ≡ Some taken.bits
+            → DoesUnit self.old flown (reports_of result.report result.finished) self.new
+            (without_arena flown arena) }
+        ensures words { KeepsFreedWords self.old.heap.shape self.new.heap.shape }
+        ensures left { (flown : ℕ → Option ABits) → IsSound self.old flown
+            → flown arena ≡ Some taken.bits
+            → units_left self.new (without_arena flown arena) < units_left self.old flown }
+        ensures finished { (result.finished ≡ true) ↔ (self.new.run ≡ None) }
+        ensures none_handed { result.handed ≡ None }
+        ensures none_due { result.due ≡ None }
+        ensures made { self.new.heap.made ≡ self.old.heap.made }
+        ensures weak { self.new.heap.shape.weak ≡ self.old.heap.shape.weak }
+    {
+        let kept = self.heap.bits_at_hand_out(arena);
+        prove!(taken.freed == kept.white_mask(self.heap.alloc_word(arena)));
+        let mut names = self.heap.take_in(arena, taken.freed, taken.bits);
+        names.sort();
+        self.out_from = arena;
+        let finished = end_sweeping(&mut self.heap, &self.order, self.out_from);
+        if finished {
+            self.run = None;
+        }
+        Unit {
+            finished,
+            ..Unit::of(Report::Swept(arena, names))
+        }
+    }
+
+    /// The lowest arena that is handed to sweeping.
+    pub fn next_out(&self) -> Option<u32>
+        ensures some { IfSome result (IsLowestOut self.now.heap.shape) }
+        ensures none { IfNone result ((a : ℕ) → out_of self.now.heap.shape a ≡ None) }
+    {
+        first_out_from(&self.heap, self.out_from)
+    }
+
+    // Ends the current group, which is ready: its gray names are reported, its arenas are handed to
+    // sweeping, what names a cell that is not present any more is dropped, and its zones go on. All
+    // memory is taken before anything changes.
+    pub(crate) fn end_group(&mut self, alloc: Global) -> Result<Unit, NoMemory>
+        requires ready { (g : AZoneSet) × (rest : List AZoneSet) × IsReady self.old g rest }
+        requires sound { (flown : ℕ → Option ABits) × IsSound self.old flown }
+        ensures done { IfOk result (λ unit. (flown : ℕ → Option ABits)
+            → DoesUnit self.old flown (reports_of unit.report unit.finished) self.new
+            (flying_after unit.handed flown)) }
+        ensures jobs { IfOk result (λ unit. HandsJobs unit.handed self.old.heap.shape
+            self.new.heap.shape) }
+        ensures due { IfOk result (λ unit. unit.due ≡ None) }
+        ensures left { IfOk result (λ unit. (flown : ℕ → Option ABits) → IsSound self.old flown
+            → units_left self.new (flying_after unit.handed flown) < units_left self.old flown) }
+        ensures finished { IfOk result (λ unit. (unit.finished ≡ true) ↔ (self.new.run ≡ None)) }
+        ensures err { OnErr result (self.new ≡ self.old) }
+        ensures made { self.new.heap.made ≡ self.old.heap.made }
+        ensures entries { length self.new.heap.shape.weak.entries
+            ≤ length self.old.heap.shape.weak.entries }
+    {
+        let Some(group) = self.order.current() else {
+            unreachable!();
+        };
+        let grays = gray_names_in(alloc, &self.heap, group)?;
+        let handed = hand_out_group(alloc, &mut self.heap, group)?;
+        self.order.advance();
+        self.out_from = 0;
+        let finished = end_sweeping(&mut self.heap, &self.order, 0);
+        if finished {
+            self.run = None;
+        }
+        Ok(Unit {
+            handed,
+            finished,
+            ..Unit::of(Report::Ended(group, grays))
+        })
+    }
+}
+
+// Hands the arenas of a group to sweeping, drops what names a cell that is not present any more, and
+// takes the group's zones on. The memory is taken before anything changes.
+fn hand_out_group(alloc: Global, heap: &mut Heap, group: ZoneSet) -> Result<Option<Jobs>, NoMemory>
+    requires kept { (a : ℕ) → out_of heap.old.shape a ≡ None }
+    requires made { (z : ℕ) → HasZone group.bits z → z < length heap.old.shape.states }
+    ensures ok { IfOk result (λ jobs. HandsOut heap.old group jobs heap.new) }
+    ensures err { OnErr result (heap.new ≡ heap.old) }
+{
+    let jobs = heap.hand_out(alloc, group)?;
+    heap.drop_dead(group);
+    advance_all(heap, group);
+    if jobs.as_slice().is_empty() {
+        return Ok(None);
+    }
+    Ok(Some(jobs))
+}
+
+// Where no arena is out any more, the zones that were swept are finished; where no group is left
+// either, they are in no collection. True where that is so.
+pub(crate) fn end_sweeping(heap: &mut Heap, order: &GroupOrder, out_from: u32) -> bool
+    requires none_below { (a : ℕ) → a < out_from → out_of heap.old.shape a ≡ None }
+    ensures { EndsSweeping heap.old order.now result heap.new }
+{
+    if first_out_from(heap, out_from).is_some() {
+        return false;
+    }
+    advance_all(heap, heap.in_state(State::Sweep));
+    if order.current().is_some() {
+        return false;
+    }
+    advance_all(heap, heap.in_state(State::Finished));
+    true
+}
+
+// The lowest arena from this one on that is handed to sweeping.
+fn first_out_from(heap: &Heap, arena: u32) -> Option<u32>
+    requires none_below { (a : ℕ) → a < arena → out_of heap.now.shape a ≡ None }
+    ensures some { IfSome result (IsLowestOut heap.now.shape) }
+    ensures none { IfNone result ((a : ℕ) → out_of heap.now.shape a ≡ None) }
+{
+    for next in arena..heap.arenas() {
+        if heap.is_out(next) {
+            return Some(next);
+        }
+    }
+    None
+}
+
+// The names of the gray cells of these zones, ascending. No arena is out.
+fn gray_names_in(alloc: Global, heap: &Heap, zones: ZoneSet) -> Result<NameList, NoMemory>
+    requires kept { (a : ℕ) → out_of heap.now.shape a ≡ None }
+    requires sized { length heap.now.colours ≡ length heap.now.shape.arenas }
+    requires present { (p : APlace) → IsGray heap.now p → IsPresent heap.now.shape p }
+    ensures moved { IfOk result (λ names. IsPermutation (grays_up_to heap.now
+        (is_owned heap.now.shape zones.bits) (length heap.now.shape.arenas)) names) }
+    ensures sorted { IfOk result (IsSorted name_cmp) }
+{
+    let mut names = Vec::new(alloc);
+    for arena in 0..heap.arenas() {
+        if is_in(heap, zones, arena) {
+            push_gray(heap, &mut NoFlight, arena, &mut names)?;
+        }
+    }
+    names.sort_unstable();
+    Ok(NameList::from_vec(names))
+}
+
+// Whether an arena is one of these zones.
+fn is_in(heap: &Heap, zones: ZoneSet, arena: u32) -> bool
+    ensures { result ≡ is_owned heap.now.shape zones.bits arena }
+{
+    match heap.owner(arena) {
+        Some(zone) => zones.contains(zone),
+        None => false,
+    }
+}

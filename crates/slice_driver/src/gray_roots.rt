@@ -1,0 +1,179 @@
+// Buffering the gray roots of a collection.
+ghost use Rattle.std.specs.Prelude.{◌≡◌, ◌<◌, ◌+◌, ◌⊎◌, None, Some, Contains, IfNone, IfSome, OnErr, OnOk, length, slice_get};
+ghost use Rattle.gz_names.specs.Zones.{HasZone};
+ghost use Rattle.cell_bits.specs.declared.bits.Colour.TheVariants as colour;
+ghost use Rattle.heap_core.specs.Shape.{IsPresent, field_at, zone_of};
+ghost use Rattle.heap_core.specs.Heap.{colour_of};
+ghost use Rattle.zone_edges.specs.Looks.{AreWrappers, IsWrapperIn};
+ghost use Rattle.slice_driver.specs.GrayRoots.{Buffers, Gathers, IsFor, IsGrayAmong, IsGrayOf, IsGrayWrapper, IsInSlot};
+
+use crate::root_marking::{outsider_at, own_colour};
+use cell_bits::Colour;
+use gz_names::{GrayNo, NoMemory, Place, ZoneNo, ZoneSet};
+use heap_core::{Heap, Steps};
+use std::alloc::Global;
+use std::sync::ledger::Ledger;
+
+/// Buffers the gray roots of these zones: the cells that gray slots hold, and the gray wrappers of
+/// other zones that lead into them. All memory is taken before anything is put in.
+pub(crate) fn buffer_gray_roots<L: Ledger>(
+    heap: &mut Heap,
+    alloc: Global,
+    zones: ZoneSet,
+    steps: &mut Steps<L>,
+) -> Result<(), NoMemory>
+    requires held { (x : _) → Contains heap.old.shape.slots (Some x)
+        → IsPresent heap.old.shape x }
+    requires wrappers { AreWrappers heap.old.shape }
+    requires sized { length heap.old.colours ≡ length heap.old.shape.arenas }
+    ensures ok { OnOk result (Buffers heap.old zones heap.new) }
+    ensures err { OnErr result (heap.new ≡ heap.old) }
+{
+    let mut slots = Vec::new(alloc);
+    gather_slots(heap, zones, &mut slots)?;
+    let mut wrappers = Vec::new(alloc);
+    gather_wrappers(heap, zones, steps, &mut wrappers)?;
+    heap.buffer_gray(&slots, &wrappers)
+}
+
+// Gathers the cells of these zones that gray slots hold, each with its zone.
+fn gather_slots(
+    heap: &Heap,
+    zones: ZoneSet,
+    found: &mut Vec<(ZoneNo, Place)>,
+) -> Result<(), NoMemory>
+    requires held { (x : _) → Contains heap.now.shape.slots (Some x) → IsPresent heap.now.shape x }
+    ensures { OnOk result (Gathers (IsInSlot heap.now.shape zones) found.old.items found.new.items) }
+{
+    for index in 0..64u8 {
+        gather_slot(heap, zones, index, found)?;
+    }
+    Ok(())
+}
+
+// Gathers the gray wrappers of other zones whose targets lie in these zones, each with its
+// target's zone.
+fn gather_wrappers<L: Ledger>(
+    heap: &Heap,
+    zones: ZoneSet,
+    steps: &mut Steps<L>,
+    found: &mut Vec<(ZoneNo, Place)>,
+) -> Result<(), NoMemory>
+    requires wrappers { AreWrappers heap.now.shape }
+    requires sized { length heap.now.colours ≡ length heap.now.shape.arenas }
+    ensures { OnOk result (Gathers
+        (IsGrayAmong heap.now zones (length heap.now.shape.states)) found.old.items
+        found.new.items) }
+{
+    for index in 0..heap.zones() {
+        if let Some(zone) = outsider_at(zones, index) {
+            gather_of(heap, zone, zones, steps, found)?;
+        }
+    }
+    Ok(())
+}
+
+// The same for the wrappers of one zone.
+fn gather_of<L: Ledger>(
+    heap: &Heap,
+    zone: ZoneNo,
+    zones: ZoneSet,
+    steps: &mut Steps<L>,
+    found: &mut Vec<(ZoneNo, Place)>,
+) -> Result<(), NoMemory>
+    requires wrappers { AreWrappers heap.now.shape }
+    requires sized { length heap.now.colours ≡ length heap.now.shape.arenas }
+    ensures { OnOk result (Gathers (IsGrayOf heap.now zones zone) found.old.items found.new.items) }
+{
+    let mut cursor = 0;
+    while let Some(wrapper) = heap.next_of(zone, &mut cursor) {
+        gather_wrapper(heap, zones, wrapper, steps, found)?;
+    }
+    Ok(())
+}
+
+// Adds the cell that a gray slot holds, if it lies in one of these zones.
+fn gather_slot(
+    heap: &Heap,
+    zones: ZoneSet,
+    index: u8,
+    found: &mut Vec<(ZoneNo, Place)>,
+) -> Result<(), NoMemory>
+    requires index { index < 64 }
+    requires held { (x : _) → Contains heap.now.shape.slots (Some x)
+        → IsPresent heap.now.shape x }
+    ensures gathered { OnOk result (Gathers
+        (λ z x. (slice_get heap.now.shape.slots index ≡ Some (Some x))
+        × IsFor heap.now.shape zones x x z x) found.old.items found.new.items) }
+    ensures count { length heap.now.shape.slots ≡ 64 }
+{
+    match slot_at(heap, index) {
+        Some(place) => gather(heap, zones, place, place, found),
+        None => Ok(()),
+    }
+}
+
+// What a gray slot holds.
+fn slot_at(heap: &Heap, index: u8) -> Option<Place>
+    requires { index < 64 }
+    ensures held { slice_get heap.now.shape.slots index ≡ Some result }
+    ensures count { length heap.now.shape.slots ≡ 64 }
+{
+    match GrayNo::new(index) {
+        Some(slot) => heap.slot(slot),
+        None => None,
+    }
+}
+
+// Adds a wrapper, if it is gray and its target lies in one of these zones.
+fn gather_wrapper<L: Ledger>(
+    heap: &Heap,
+    zones: ZoneSet,
+    wrapper: Place,
+    steps: &mut Steps<L>,
+    found: &mut Vec<(ZoneNo, Place)>,
+) -> Result<(), NoMemory>
+    requires wrapper { (z : _) × IsWrapperIn heap.now.shape z wrapper }
+    requires sized { length heap.now.colours ≡ length heap.now.shape.arenas }
+    ensures { OnOk result (Gathers (IsGrayWrapper heap.now zones wrapper) found.old.items
+        found.new.items) }
+{
+    if own_colour(heap, wrapper) != Colour::Gray {
+        return Ok(());
+    }
+    match heap.reached_by(wrapper, 0, steps) {
+        Some(target) => gather(heap, zones, target, wrapper, found),
+        None => Ok(()),
+    }
+}
+
+// Adds a place with the zone of a cell, if that is one of these zones.
+fn gather(
+    heap: &Heap,
+    zones: ZoneSet,
+    cell: Place,
+    place: Place,
+    found: &mut Vec<(ZoneNo, Place)>,
+) -> Result<(), NoMemory>
+    requires { cell.0 < length heap.now.shape.arenas }
+    ensures { OnOk result (Gathers (IsFor heap.now.shape zones cell place) found.old.items
+        found.new.items) }
+{
+    if let Some(zone) = zone_in(heap, zones, cell) {
+        found.push((zone, place))?;
+    }
+    Ok(())
+}
+
+// The zone of a cell, if it is one of these zones.
+fn zone_in(heap: &Heap, zones: ZoneSet, cell: Place) -> Option<ZoneNo>
+    requires { cell.0 < length heap.now.shape.arenas }
+    ensures some { IfSome result (λ zone. (zone ≡ zone_of heap.now.shape cell)
+        × HasZone zones.bits zone) }
+    ensures none { IfNone result (HasZone zones.bits (zone_of heap.now.shape cell) → ⊥) }
+{
+    match heap.owner(cell.arena()) {
+        Some(zone) => zones.contains(zone).then_some(zone),
+        None => None,
+    }
+}

@@ -1,0 +1,78 @@
+// The steps of a unit that form the groups.
+ghost use Rattle.std.specs.Prelude.{◌≡◌, ℕ, Option, Some, false, IsSome};
+ghost use Rattle.cell_bits.specs.declared.bits.Bits.{Bits as ABits};
+ghost use Rattle.zone_edges.specs.Looks.{AreAllLookedAt};
+ghost use Rattle.slice_driver.specs.Units.{IsSound};
+ghost use Rattle.slice_driver.specs.Working.{GroupsOrFormed, IsBlackDone, IsGrouping, IsGroupingUnit, LooksOrAll};
+
+use crate::collector::{Collector, Run, Unit};
+use gz_names::{Groups, Report};
+use heap_core::Steps;
+use std::sync::ledger::Ledger;
+use zone_edges::Look;
+
+impl Collector {
+    // Looks at a wrapper. False where each was looked at.
+    fn looks<L: Ledger>(&mut self, steps: &mut Steps<L>) -> bool
+        requires sound { (flown : ℕ → Option ABits) × IsSound self.old flown }
+        requires grouping { IsGrouping self.old }
+        ensures { LooksOrAll result self.old self.new }
+    {
+        match self.edges.edge_unit(&self.heap, steps) {
+            Look::Did => true,
+            Look::Empty => false,
+        }
+    }
+
+    // One grouping step; the last one forms the groups.
+    fn group_step(&mut self, run: Run) -> Unit
+        requires sound { (flown : ℕ → Option ABits) × IsSound self.old flown }
+        requires grouping { self.old.run ≡ Some (record { zones = run.zones; formed = false }) }
+        requires looked { AreAllLookedAt self.old.heap.shape self.old.edges }
+        ensures { IsGroupingUnit self.old result self.new }
+    {
+        let Some(zone) = self.ungrouped.first() else {
+            return Unit::quiet();
+        };
+        self.edges.group_step(zone);
+        self.ungrouped.remove(zone);
+        if let Some(_) = self.ungrouped.first() {
+            return Unit::quiet();
+        }
+        self.run = Some(Run {
+            formed: true,
+            ..run
+        });
+        let groups = self.edges.components();
+        self.order.set(copy_of(&groups));
+        Unit::of(Report::Groups(groups))
+    }
+
+    // Before the groups are formed: looks at a wrapper, or else does a grouping step.
+    pub(crate) fn forms_groups<L: Ledger>(&mut self, steps: &mut Steps<L>) -> Option<Unit>
+        requires sound { (flown : ℕ → Option ABits) × IsSound self.old flown }
+        requires running { IsSome self.old.run }
+        ensures { GroupsOrFormed result self.old self.new }
+    {
+        let run = self.run?;
+        if run.formed {
+            return None;
+        }
+        if self.looks(steps) {
+            return Some(Unit::quiet());
+        }
+        Some(self.group_step(run))
+    }
+}
+
+// The same groups once more.
+fn copy_of(groups: &Groups) -> Groups
+    ensures { result ≡ groups.now }
+{
+    let sets = groups.as_slice();
+    let mut copy = Groups::new();
+    'copy: for index in 0..groups.len() {
+        copy.push(sets[index]);
+    }
+    copy
+}

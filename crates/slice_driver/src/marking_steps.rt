@@ -1,0 +1,162 @@
+// The steps of a unit that mark.
+ghost use Rattle.std.specs.Prelude.{◌≡◌, [], IsSome};
+ghost use Rattle.marker.specs.GrayBits.{AreGraying};
+ghost use Rattle.marker.specs.Units.{IsGrayIdle};
+ghost use Rattle.slice_driver.specs.Units.{IsSound};
+ghost use Rattle.slice_driver.specs.Working.{DidOrStill, HasBegun, IsBlackDone, IsBlackFixed, IsGrayDone, IsGrayFixed, IsGroupDone};
+
+use crate::collector::Collector;
+use cell_bits::{Colour, Flight};
+use gz_names::ZoneSet;
+use heap_core::Steps;
+use marker::{Work, black_unit, gray_unit, weak_unit};
+use std::sync::ledger::Ledger;
+
+impl Collector {
+    // Follows a cell of the black pile. False where there is none.
+    fn follows_black<F: Flight, L: Ledger>(&mut self, flight: &mut F, steps: &mut Steps<L>) -> bool
+        requires sound { IsSound self.old (F.bits flight.old) }
+        requires running { IsSome self.old.run }
+        ensures done { DidOrStill result (self.old.stack.black ≡ []) self.old
+            (F.bits flight.old) self.new (F.bits flight.new) }
+        ensures origin { F.origin flight.new ≡ F.origin flight.old }
+    {
+        match black_unit(&mut self.heap, &mut self.stack, flight, steps) {
+            Work::Did => true,
+            Work::Empty => false,
+        }
+    }
+
+    // Gives the value of a weak entry its black. False where there is none.
+    fn adds_black<F: Flight, L: Ledger>(&mut self, flight: &mut F, steps: &mut Steps<L>) -> bool
+        requires sound { IsSound self.old (F.bits flight.old) }
+        requires running { IsSome self.old.run }
+        ensures done { DidOrStill result (IsBlackFixed self.old (F.bits flight.new)) self.old
+            (F.bits flight.old) self.new (F.bits flight.new) }
+        ensures origin { F.origin flight.new ≡ F.origin flight.old }
+    {
+        let zones = self.heap.marking();
+        match weak_unit(
+            Colour::Black,
+            zones,
+            &mut self.heap,
+            &mut self.stack,
+            flight,
+            steps,
+        ) {
+            Work::Did => true,
+            Work::Empty => false,
+        }
+    }
+
+    // Black marking. False where it has nothing left to do.
+    pub(crate) fn marks_black<F: Flight, L: Ledger>(
+        &mut self,
+        flight: &mut F,
+        steps: &mut Steps<L>,
+    ) -> bool
+        requires sound { IsSound self.old (F.bits flight.old) }
+        requires running { IsSome self.old.run }
+        ensures done { DidOrStill result (IsBlackDone self.old (F.bits flight.new)) self.old
+            (F.bits flight.old) self.new (F.bits flight.new) }
+        ensures origin { F.origin flight.new ≡ F.origin flight.old }
+    {
+        if self.follows_black(flight, steps) {
+            return true;
+        }
+        self.adds_black(flight, steps)
+    }
+
+    // Does a piece of gray marking for a group. False where there is none.
+    fn follows_gray<F: Flight, L: Ledger>(
+        &mut self,
+        group: ZoneSet,
+        flight: &F,
+        steps: &mut Steps<L>,
+    ) -> bool
+        requires sound { IsSound self.old (F.bits flight.now) }
+        requires running { IsSome self.old.run }
+        requires begun { AreGraying self.old.heap.shape group.bits }
+        ensures done { DidOrStill result (IsGrayIdle self.old.heap self.old.stack self.old.lists
+            group.bits) self.old (F.bits flight.now) self.new (F.bits flight.now) }
+    {
+        match gray_unit(
+            group,
+            &mut self.heap,
+            &mut self.stack,
+            &mut self.lists,
+            flight,
+            steps,
+        ) {
+            Work::Did => true,
+            Work::Empty => false,
+        }
+    }
+
+    // Gives the value of a weak entry in a group its gray. False where there is none.
+    fn adds_gray<F: Flight, L: Ledger>(
+        &mut self,
+        group: ZoneSet,
+        flight: &mut F,
+        steps: &mut Steps<L>,
+    ) -> bool
+        requires sound { IsSound self.old (F.bits flight.old) }
+        requires running { IsSome self.old.run }
+        requires begun { AreGraying self.old.heap.shape group.bits }
+        ensures done { DidOrStill result (IsGrayFixed self.old (F.bits flight.new) group) self.old
+            (F.bits flight.old) self.new (F.bits flight.new) }
+        ensures origin { F.origin flight.new ≡ F.origin flight.old }
+    {
+        match weak_unit(
+            Colour::Gray,
+            group,
+            &mut self.heap,
+            &mut self.stack,
+            flight,
+            steps,
+        ) {
+            Work::Did => true,
+            Work::Empty => false,
+        }
+    }
+
+    // Gray marking of a group. False where it has nothing left to do.
+    fn marks_group<F: Flight, L: Ledger>(
+        &mut self,
+        group: ZoneSet,
+        flight: &mut F,
+        steps: &mut Steps<L>,
+    ) -> bool
+        requires sound { IsSound self.old (F.bits flight.old) }
+        requires running { IsSome self.old.run }
+        requires begun { AreGraying self.old.heap.shape group.bits }
+        ensures done { DidOrStill result (IsGrayDone self.old (F.bits flight.new) group) self.old
+            (F.bits flight.old) self.new (F.bits flight.new) }
+        ensures origin { F.origin flight.new ≡ F.origin flight.old }
+    {
+        if self.follows_gray(group, flight, steps) {
+            return true;
+        }
+        self.adds_gray(group, flight, steps)
+    }
+
+    // Gray marking of the current group, whose zones have begun. False where it has nothing left to
+    // do, or no group is left.
+    pub(crate) fn marks_gray<F: Flight, L: Ledger>(
+        &mut self,
+        flight: &mut F,
+        steps: &mut Steps<L>,
+    ) -> bool
+        requires sound { IsSound self.old (F.bits flight.old) }
+        requires running { IsSome self.old.run }
+        requires begun { HasBegun self.old }
+        ensures done { DidOrStill result (IsGroupDone self.old (F.bits flight.new)) self.old
+            (F.bits flight.old) self.new (F.bits flight.new) }
+        ensures origin { F.origin flight.new ≡ F.origin flight.old }
+    {
+        let Some(group) = self.order.current() else {
+            return false;
+        };
+        self.marks_group(group, flight, steps)
+    }
+}

@@ -1,0 +1,110 @@
+// One unit of a collection.
+ghost use Rattle.std.specs.Prelude.{◌≡◌, ◌↔◌, ◌<◌, ◌≤◌, ℕ, Option, None, Some, true, length, IsSome, IfOk, OnErr};
+ghost use Rattle.std.specs.Int.{bit_at};
+ghost use Rattle.cell_bits.specs.declared.bits.Bits.{Bits as ABits};
+ghost use Rattle.slice_driver.specs.Left.{Lowers, units_left};
+ghost use Rattle.slice_driver.specs.Quiet.{IsFormed};
+ghost use Rattle.slice_driver.specs.Represents.{Represents};
+ghost use Rattle.slice_driver.specs.Units.{HandsJobs, IsSound, UnitDone, flying_after};
+ghost use Rattle.slice_driver.specs.Working.{BeginsOrBegun, HasGroups, IsResting};
+
+use crate::collector::{Collector, Unit};
+use cell_bits::Flight;
+use gz_names::{NoMemory, ZoneSet};
+use heap_core::Steps;
+use std::alloc::Global;
+use std::sync::ledger::Ledger;
+use zones::State;
+
+impl Collector {
+    /// Does one unit of the collection that runs: the first of these that has work.
+    ///
+    /// 1. `marks_black`: a cell of the black pile, or a weak entry for black;
+    /// 2. `forms_groups`: before the groups are formed, a look at a wrapper, or a grouping step;
+    /// 3. `begins_zone`: the beginning of a zone of the current group;
+    /// 4. `marks_gray`: a piece of gray marking of the current group, or a weak entry for gray;
+    /// 5. `next_out`: an arena that is to be taken in, which is `due` and left to `take_one`; steps 1
+    ///    to 4 have no work then;
+    /// 6. `end_group`: the end of the current group.
+    ///
+    /// Only the end of a group takes memory, all of it before anything changes.
+    pub fn unit<F: Flight, L: Ledger>(
+        &mut self,
+        alloc: Global,
+        flight: &mut F,
+        steps: &mut Steps<L>,
+    ) -> Result<Unit, NoMemory>
+        requires sound { IsSound self.old (F.bits flight.old) }
+        requires running { IsSome self.old.run }
+        ensures done { IfOk result (λ unit. UnitDone self.old (F.bits flight.old) unit self.new
+            (F.bits flight.new)) }
+        ensures jobs { IfOk result (λ unit. HandsJobs unit.handed self.old.heap.shape
+            self.new.heap.shape) }
+        ensures due { IfOk result (λ unit. IsSome unit.due → unit.handed ≡ None) }
+        ensures resting { IfOk result (λ unit. IsSome unit.due
+            → IsResting self.new (F.bits flight.new)) }
+        ensures finished { IfOk result (λ unit. (unit.finished ≡ true) ↔ (self.new.run ≡ None)) }
+        ensures left { IfOk result (λ unit. Lowers unit.due
+            (units_left self.old (F.bits flight.old))
+            (units_left self.new (flying_after unit.handed (F.bits flight.new)))) }
+        ensures err { OnErr result ((w : _) → Represents self.old (F.bits flight.old) w
+            → Represents self.new (F.bits flight.new) w) }
+        ensures err_run { OnErr result (self.new.run ≡ self.old.run) }
+        ensures origin { F.origin flight.new ≡ F.origin flight.old }
+        ensures made { self.new.heap.made ≡ self.old.heap.made }
+        ensures entries { length self.new.heap.shape.weak.entries
+            ≤ length self.old.heap.shape.weak.entries }
+    {
+        if self.marks_black(flight, steps) {
+            return Ok(Unit::quiet());
+        }
+        if let Some(unit) = self.forms_groups(steps) {
+            return Ok(unit);
+        }
+        if self.begins_zone() {
+            return Ok(Unit::quiet());
+        }
+        if self.marks_gray(flight, steps) {
+            return Ok(Unit::quiet());
+        }
+        if let Some(arena) = self.next_out() {
+            return Ok(Unit::due(arena));
+        }
+        self.groups_law();
+        self.end_group(alloc)
+    }
+
+    // Takes a zone of the current group on to gray marking. False where all have begun.
+    fn begins_zone(&mut self) -> bool
+        requires sound { (flown : ℕ → Option ABits) × IsSound self.old flown }
+        requires formed { IsFormed self.old }
+        ensures { BeginsOrBegun result self.old self.new }
+    {
+        let Some(group) = self.order.current() else {
+            return false;
+        };
+        let waiting = self.heap.in_state(State::MarkBlackOnly);
+        let Some(zone) = group.without(group.without(waiting)).first() else {
+            return false;
+        };
+        self.heap.advance(zone);
+        true
+    }
+
+    // What holds of the groups. It does nothing.
+    fn groups_law(&self)
+        ensures { HasGroups self.now }
+    {
+        let Some(group) = self.order.current() else {
+            return;
+        };
+        word_law(group);
+    }
+}
+
+// A set of zones is a word of 64 bits. It does nothing.
+fn word_law(zones: ZoneSet)
+    ensures { (z : ℕ) → bit_at zones.bits z ≡ 1 → z < 64 }
+{
+    zones.is_empty();
+}
