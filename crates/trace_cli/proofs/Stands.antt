@@ -15,10 +15,14 @@ use Rattle.gz_names.specs.declared.replies.Report.{Report}
 use Rattle.colour_defs.specs.World.{World, first_world}
 use Rattle.colour_defs.specs.Lawful.{Answers}
 use Rattle.colour_defs.proofs.Grown.{run_more}
-use Rattle.trace_cli.specs.Heap.{HeapState}
+use Rattle.colour_defs.specs.Laws.{IsValid}
+use Rattle.slice_driver.specs.Collector.{CollectorState}
+use Rattle.slice_driver.specs.Represents.{Represents}
+use Rattle.slice_driver.specs.Units.{IsSound, none_flown}
+use Rattle.trace_cli.specs.Standing.{AnswersLine, IsFirst, IsReady, IsWithin, answers, first, ready}
 use Rattle.trace_cli.specs.Lines.{lines_of, line_feeds}
 use Rattle.trace_cli.specs.Served.{StandsFor, IsBad}
-use Rattle.trace_cli.specs.Headline.{answer_lines, StandForAll, LeadsTo, WritesAnswer, WritesFront, Replays}
+use Rattle.trace_cli.specs.Headline.{report_lines, answer_lines, StandForAll, LeadsTo, WritesAnswer, WritesFront, WritesStart, Replays}
 use Rattle.trace_cli.specs.declared.exit.Exit.{Exit}
 use Rattle.trace_cli.specs.declared.exit.Exit.TheVariants as exit
 use Rattle.trace_cli.proofs.Lined.{line_given, line_feeds-append, line_feeds-plain, too_long_bad, not_ascii_bad}
@@ -40,6 +44,46 @@ abbrev pub Stands : Option (List ℕ) → Option (List ℕ) → Option (List ℕ
 Stands None rest old new n w = ⊤
 Stands (Some input) None old new n w = ⊥
 Stands (Some input) (Some rest) old new n w = Reached input rest old new n w
+
+-- the collector stands for a valid world that the lines answered so far lead to
+pub record StandsIn (left rest old new : Option (List ℕ)) (n : ℕ) (c : CollectorState) : Type 0 where
+  pub world : World
+  pub represents : Represents c none_flown world
+  pub valid : IsValid world
+  pub stands : Stands left rest old new n world
+  pub within : IsWithin c n
+
+-- what is known of a first collector, of one that is ready, and of a line that was answered
+pub record First (c : CollectorState) : Type 0 where
+  pub represents : Represents c none_flown first_world
+  pub within : IsWithin c 0
+
+pub opened_first : {c : CollectorState} → IsFirst c → First c
+opened_first (first represents within) = record { represents = represents; within = within }
+
+pub record Ready (c : CollectorState) (n : ℕ) : Type 0 where
+  pub sound : IsSound c none_flown
+  pub within : IsWithin c n
+  pub below : n < 4294967295
+
+pub opened_ready : {c : CollectorState} {n : ℕ} → IsReady c n → Ready c n
+opened_ready (ready sound within below) = record { sound = sound; within = within; below = below }
+
+pub record Answered (line : List ℕ) (old : CollectorState) (n : ℕ) (new : CollectorState) (p q : Option (List ℕ)) : Type 0 where
+  pub command : Cmd
+  pub stands : StandsFor line command
+  pub writes : (w : World) → IsValid w → Represents old none_flown w → WritesAnswer w command new p q
+  pub within : IsWithin new (n + 1)
+
+pub opened_answer : {line : List ℕ} {old new : CollectorState} {n : ℕ} {p q : Option (List ℕ)} → AnswersLine line old n new p q → Answered line old n new p q
+opened_answer (answers command stands writes within) = record { command = command; stands = stands; writes = writes; within = within }
+
+-- the same, as one fact
+pub data Standing (left rest old new : Option (List ℕ)) (n : ℕ) (c : CollectorState) : Type 0 where
+  standing : StandsIn left rest old new n c → Standing left rest old new n c
+
+pub opened : {left rest old new : Option (List ℕ)} {n : ℕ} {c : CollectorState} → Standing left rest old new n c → StandsIn left rest old new n c
+opened (standing s) = s
 
 pub stands_first : (left written : Option (List ℕ)) (held : List ℕ) → held ≡ [] → Stands left (prepend_known held left) written written 0 first_world
 stands_first None written held e = tt
@@ -94,7 +138,7 @@ line_bytes : (xs ys line : List ℕ) → IsPlain line → EndsLine xs ys line �
 line_bytes xs ys line p (inl e) = (line ++ 10 ∷ [], e ∙ sym (append_assoc line (10 ∷ []) ys), omega (arith, line_feeds-append line (10 ∷ []), line_feeds-plain line p))
 line_bytes xs ys line p (inr e) = (line, e.0 ∙ sym (append-nil line) ∙ ap (λ (t : List ℕ). line ++ t) (sym e.2), omega (arith, line_feeds-plain line p))
 
-reached_more : (i xs ys : List ℕ) (p q r : Option (List ℕ)) (n : ℕ) (line : List ℕ) (w : World) (c : Cmd) (k : HeapState) → Reached i xs p q n w → IsPlain line → EndsLine xs ys line → StandsFor line c → (a : WritesAnswer w c k q r) → Reached i ys p r (n + 1) a.after
+reached_more : (i xs ys : List ℕ) (p q r : Option (List ℕ)) (n : ℕ) (line : List ℕ) (w : World) (c : Cmd) (k : CollectorState) → Reached i xs p q n w → IsPlain line → EndsLine xs ys line → StandsFor line c → (a : WritesAnswer w c k q r) → Reached i ys p r (n + 1) a.after
 reached_more i xs ys p q r n line w c k h plain ends s a =
     let b = line_bytes xs ys line plain ends in
     record {
@@ -109,7 +153,7 @@ reached_more i xs ys p q r n line w c k h plain ends s a =
       whole = omega (arith, line_feeds-append h.text b.0, h.whole, b.2);
     }
 
-pub stands_more : (a b c p q r : Option (List ℕ)) (n m : ℕ) (line : List ℕ) (w : World) (d : Cmd) (k : HeapState) → Stands a b p q n w → GivesKnown b c (next.Line m) line → StandsFor line d → (e : WritesAnswer w d k q r) → Stands a c p r (n + 1) e.after
+pub stands_more : (a b c p q r : Option (List ℕ)) (n m : ℕ) (line : List ℕ) (w : World) (d : Cmd) (k : CollectorState) → Stands a b p q n w → GivesKnown b c (next.Line m) line → StandsFor line d → (e : WritesAnswer w d k q r) → Stands a c p r (n + 1) e.after
 stands_more None b c p q r n m line w d k h t s e = tt
 stands_more (Some i) None c p q r n m line w d k h t s e = absurd h
 stands_more (Some i) (Some xs) None p q r n m line w d k h t s e = absurd t
@@ -166,11 +210,10 @@ read_after (Some i) (Some xs) (Some ys) p q r held line n w h t plain k = (
   (n, h.text ++ held, h.bytes ∙ ap (λ (u : List ℕ). h.text ++ u) (sym t) ∙ sym (append_assoc h.text held ys), omega (arith, line_feeds-append h.text held, line_feeds-plain held plain, h.whole), (w, first_n i xs p q n w h)),
 )
 
-pub memory_after : (a b l p q r : Option (List ℕ)) (held line : List ℕ) (res : Next) (n : ℕ) (w : World) → Stands a b p q n w → GivesKnown b (prepend_known held l) res line → Appends q r [] → Replays a l p r exit.NoMemory
-memory_after None b l p q r held line res n w h t k = tt
-memory_after (Some i) None l p q r held line res n w h t k = absurd h
-memory_after (Some i) (Some xs) None p q r held line res n w h t k = absurd t
-memory_after (Some i) (Some xs) (Some ys) p q r held line res n w h t k = (h.output, wrote_more i xs p q r n w h k, (n, (w, first_n i xs p q n w h)))
+pub ends_memory : (a l p q r : Option (List ℕ)) (held : List ℕ) (n : ℕ) (w : World) → Stands a (prepend_known held l) p q n w → Appends q r [] → Replays a l p r exit.NoMemory
+ends_memory None l p q r held n w h k = tt
+ends_memory (Some i) None p q r held n w h k = absurd h
+ends_memory (Some i) (Some ys) p q r held n w h k = (h.output, wrote_more i (held ++ ys) p q r n w h k, (n, h.output, [], w, sym (append-nil h.output), first_n i (held ++ ys) p q n w h, inl refl))
 
 gives_line : (xs ys line : List ℕ) (res : Next) → Gives xs ys res line → res ≢ next.End → res ≢ next.ReadFault → (l : List ℕ) × (more : List (List ℕ)) × (lines_of xs ≡ l ∷ more)
 gives_line xs ys line (next.Line m) g e f = (line, lines_of ys, line_given xs ys line g.2 g.3)
@@ -239,6 +282,40 @@ part_after (Some i) (Some xs) (Some ys) p q r held line n m w c h t s k = (
     }),
   ),
 )
+
+pub stop_after : (a b l p q r : Option (List ℕ)) (held line : List ℕ) (n m : ℕ) (w : World) (c : Cmd) → Stands a b p q n w → GivesKnown b (prepend_known held l) (next.Line m) line → StandsFor line c → WritesStart w c q r → Replays a l p r exit.NoMemory
+stop_after None b l p q r held line n m w c h t s k = tt
+stop_after (Some i) None l p q r held line n m w c h t s k = absurd h
+stop_after (Some i) (Some xs) None p q r held line n m w c h t s k = absurd t
+stop_after (Some i) (Some xs) (Some ys) p q r held line n m w c h t s k = (
+  h.output ++ report_lines k.reports,
+  Appends-trans p q r h.output (report_lines k.reports) h.wrote k.written,
+  (
+    n,
+    h.output,
+    report_lines k.reports,
+    w,
+    refl,
+    first_n i xs p q n w h,
+    inr (record {
+      line = line;
+      command = c;
+      reports = k.reports;
+      next = next_is i xs p q n w line (lines_of (held ++ ys)) h (line_given xs (held ++ ys) line t.2 t.3);
+      stands = s;
+      starts = k.starts;
+      part_is = refl;
+    }),
+  ),
+)
+
+-- the start of an answer stays so where nothing more is written
+pub start_kept : (w : World) (c : Cmd) (p q r : Option (List ℕ)) → WritesStart w c p q → Appends q r [] → WritesStart w c p r
+start_kept w c p q r h k = record { reports = h.reports; starts = h.starts; written = rw append-nil at (Appends-trans p q r (report_lines h.reports) [] h.written k) }
+
+-- and it is a front of an answer
+pub start_front : (w : World) (c : Cmd) (p q : Option (List ℕ)) → WritesStart w c p q → WritesFront w c p q
+start_front w c p q h = record { text = report_lines h.reports; answers = inr (h.reports, h.starts, refl); written = (report_lines h.reports, [], sym (append-nil (report_lines h.reports)), h.written) }
 
 pub usage_ends : (left written : Option (List ℕ)) → Replays left left written written exit.Usage
 usage_ends None written = tt

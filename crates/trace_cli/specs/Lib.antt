@@ -1,10 +1,7 @@
-pub mod Heap
-pub mod Marking
-pub mod Represents
-pub mod Does
-pub mod Sweeping
-pub mod Collecting
+pub mod Handed
 pub mod Served
 pub mod Lines
 pub mod CommandLine
 pub mod Headline
+pub mod Writing
+pub mod Standing

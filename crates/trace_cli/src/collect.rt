@@ -1,111 +1,201 @@
-// A whole collection of zone 0: mark, report the group and its end, sweep arena by arena.
-ghost use Rattle.std.specs.Prelude.{◌≡◌, ◌≢◌, ◌≤◌, ◌<◌, ◌^◌, ◌++◌, ◌∷◌, [], ℕ, List, Bool, OnOk, OnErr, IfOk, length, ◌⊎◌};
+// A collection by units, each report written as it comes.
+ghost use Rattle.std.specs.Prelude.{◌≡◌, ◌≢◌, ◌⊎◌, ◌≤◌, ◌<◌, [], ℕ, None, length, OnOk, OnErr, IfOk, IsSome};
 ghost use Rattle.std.specs.Io.KnownBytes.{Appends};
 ghost use Rattle.gz_io.specs.Causes.{HasCause, AppendsFront, Rose};
-ghost use Rattle.gz_names.specs.declared.replies.Report.{Report as TheReport};
-ghost use Rattle.gz_names.specs.declared.replies.Report.TheVariants as AReport;
-ghost use Rattle.gz_names.specs.declared.replies.Reply.TheVariants as AReply;
+ghost use Rattle.gz_names.specs.Zones.{HasZone};
 ghost use Rattle.gz_names.specs.declared.commands.Cmd.TheVariants as ACmd;
 ghost use Rattle.colour_defs.specs.World.{World};
-ghost use Rattle.trace_cli.specs.Marking.{IsInside, AreMarks};
-ghost use Rattle.trace_cli.specs.Represents.{arenas_for, Represents};
-ghost use Rattle.trace_cli.specs.Sweeping.{AreNumbered};
-ghost use Rattle.trace_cli.specs.Collecting.{zone_0, first_reports, AreSweepReports, IsSwept};
-ghost use Rattle.trace_cli.specs.Headline.{report_lines, answer_lines, BreaksOffAt, WritesAnswer, WritesFront};
+ghost use Rattle.colour_defs.specs.Laws.{IsValid};
+ghost use Rattle.slice_driver.specs.Represents.{Represents};
+ghost use Rattle.slice_driver.specs.Units.{AreJobsOf, DoesUnit, IsLowestOut, IsSound, flown_by, none_flown, reports_of};
+ghost use Rattle.slice_driver.specs.Left.{units_left};
+ghost use Rattle.trace_cli.specs.Headline.{report_lines, WritesAnswer, WritesFront, WritesStart};
+ghost use Rattle.trace_cli.specs.Writing.{BreaksInReply, BreaksInUnits, StopsInUnits, WritesCollection, WritesUnits};
 
-use crate::answer::AnswerFault;
-use crate::heap::Heap;
-use crate::marks::mark;
+use crate::answer::{AnswerFault, write_last};
+use crate::handed::Handed;
 use gz_io::{Sink, WriteFault};
-use gz_names::{Groups, NameList, Refusal, Reply, Report, ZoneSet};
+use gz_names::{NoMemory, Refusal, Reply, Report, ZoneSet};
+use heap_core::Steps;
+use slice_driver::{BeginFault, Collector, Unit};
 use std::alloc::Global;
-use trace_lang::{write_reply, write_report};
+use std::sync::ledger::Ledger;
+use trace_lang::write_report;
 
-// Reports the only group and its end. Nothing is gray, since no gray slot holds anything.
-fn report_group<K: Sink>(alloc: Global, sink: &mut K) -> Result<(), WriteFault>
-    ensures ok { OnOk result (Appends (K.written sink.old) (K.written sink.new) (report_lines first_reports)) }
-    ensures err { OnErr result (AppendsFront (K.written sink.old) (K.written sink.new) (report_lines first_reports)) }
-    ensures cause { HasCause (K.faults sink.old) (K.faults sink.new) result }
+// Sweeps the arena that is due, and takes it in.
+fn take_due(collector: &mut Collector, handed: &mut Handed, arena: u32) -> Unit
+    requires sound { IsSound collector.old (flown_by handed.old) }
+    requires running { IsSome collector.old.run }
+    requires jobs { AreJobsOf collector.old.heap.shape handed.old }
+    requires lowest { IsLowestOut collector.old.heap.shape arena }
+    ensures done { DoesUnit collector.old (flown_by handed.old)
+        (reports_of result.report result.finished) collector.new (flown_by handed.new) }
+    ensures left { units_left collector.new (flown_by handed.new)
+        < units_left collector.old (flown_by handed.old) }
+    ensures jobs { AreJobsOf collector.new.heap.shape handed.new }
+    ensures made { collector.new.heap.made ≡ collector.old.heap.made }
+    ensures weak { collector.new.heap.shape.weak ≡ collector.old.heap.shape.weak }
 {
-    let zone = ZoneSet { bits: 1 };
-    let mut groups = Groups::new();
-    groups.push(zone);
-    write_report(sink, &Report::Groups(groups))?;
-    write_report(sink, &Report::Ended(zone, NameList::new(alloc)))
+    let Some(taken) = handed.take() else {
+        unreachable!();
+    };
+    collector.take_one(taken, arena)
 }
 
-// Sweeps the arenas in ascending order, and reports each.
-fn sweep<K: Sink>(heap: &mut Heap, marks: &[bool], sink: &mut K) -> Result<(), WriteFault>
-    requires numbered { AreNumbered heap.old.cells }
-    requires most { length heap.old.cells < 2 ^ 32 }
-    ensures ok { OnOk result ((rs : List TheReport) × AreSweepReports heap.old.cells marks.now 0 rs × (length rs ≡ arenas_for (length heap.old.cells)) × Appends (K.written sink.old) (K.written sink.new) (report_lines rs)) }
-    ensures swept { OnOk result (IsSwept heap.old marks.now heap.new) }
-    ensures made { heap.new.made ≡ heap.old.made }
-    ensures err { OnErr result ((rs : List TheReport) × AreSweepReports heap.old.cells marks.now 0 rs × (length rs ≤ arenas_for (length heap.old.cells)) × AppendsFront (K.written sink.old) (K.written sink.new) (report_lines rs)) }
+// Does a unit: what it reports, and whether the collection is over. An arena that is due is taken in.
+fn do_unit<L: Ledger>(
+    alloc: Global,
+    collector: &mut Collector,
+    handed: &mut Handed,
+    steps: &mut Steps<L>,
+) -> Result<(Option<Report>, bool), NoMemory>
+    requires sound { IsSound collector.old (flown_by handed.old) }
+    requires running { IsSome collector.old.run }
+    requires jobs { AreJobsOf collector.old.heap.shape handed.old }
+    ensures done { IfOk result (λ did. DoesUnit collector.old (flown_by handed.old)
+        (reports_of did.0 did.1) collector.new (flown_by handed.new)) }
+    ensures left { OnOk result (units_left collector.new (flown_by handed.new)
+        < units_left collector.old (flown_by handed.old)) }
+    ensures jobs { OnOk result (AreJobsOf collector.new.heap.shape handed.new) }
+    ensures made { collector.new.heap.made ≡ collector.old.heap.made }
+    ensures entries { length collector.new.heap.shape.weak.entries
+        ≤ length collector.old.heap.shape.weak.entries }
+{
+    let Unit {
+        report,
+        handed: jobs,
+        finished,
+        due,
+    } = collector.unit(alloc, handed, steps)?;
+    let Some(arena) = due else {
+        handed.hand(jobs);
+        return Ok((report, finished));
+    };
+    let unit = take_due(collector, handed, arena);
+    Ok((unit.report, unit.finished))
+}
+
+// Writes what a unit reports; the last one is followed by `done`.
+fn write_reports<K: Sink>(
+    sink: &mut K,
+    report: &Option<Report>,
+    finished: bool,
+) -> Result<(), WriteFault>
+    ensures ok { OnOk result (Appends (K.written sink.old) (K.written sink.new)
+        (report_lines (reports_of report.now finished))) }
+    ensures err { OnErr result (AppendsFront (K.written sink.old) (K.written sink.new)
+        (report_lines (reports_of report.now finished))) }
     ensures cause { HasCause (K.faults sink.old) (K.faults sink.new) result }
 {
-    for arena in 0..heap.arenas() {
-        let mut freed = heap.sweep_arena(marks, arena);
-        freed.sort();
-        write_report(sink, &Report::Swept(arena as u32, freed))?;
+    let Some(report) = report else {
+        return Ok(());
+    };
+    write_report(sink, report)?;
+    if finished {
+        write_report(sink, &Report::Done)?;
     }
     Ok(())
 }
 
-// Ends a collection.
-fn report_done<K: Sink>(sink: &mut K) -> Result<(), WriteFault>
-    ensures ok { OnOk result (Appends (K.written sink.old) (K.written sink.new) (answer_lines (AReport.Done ∷ [], AReply.Collected))) }
-    ensures err { OnErr result (AppendsFront (K.written sink.old) (K.written sink.new) (answer_lines (AReport.Done ∷ [], AReply.Collected))) }
-    ensures cause { HasCause (K.faults sink.old) (K.faults sink.new) result }
-{
-    write_report(sink, &Report::Done)?;
-    write_reply(sink, &Reply::Collected)
-}
-
-// Writes what is known of a collection once the cells are marked.
-fn report_all<K: Sink>(
+// Does a unit, and writes its reports.
+fn answer_unit<K: Sink, L: Ledger>(
     alloc: Global,
-    heap: &mut Heap,
-    marks: &[bool],
+    collector: &mut Collector,
+    handed: &mut Handed,
     sink: &mut K,
-) -> Result<(), WriteFault>
-    requires numbered { AreNumbered heap.old.cells }
-    requires most { length heap.old.cells < 2 ^ 32 }
-    ensures ok { OnOk result ((rs : List TheReport) × AreSweepReports heap.old.cells marks.now 0 rs × (length rs ≡ arenas_for (length heap.old.cells)) × Appends (K.written sink.old) (K.written sink.new) (answer_lines (first_reports ++ (rs ++ AReport.Done ∷ []), AReply.Collected))) }
-    ensures swept { OnOk result (IsSwept heap.old marks.now heap.new) }
-    ensures made { heap.new.made ≡ heap.old.made }
-    ensures err { OnErr result ((rs : List TheReport) × AreSweepReports heap.old.cells marks.now 0 rs × BreaksOffAt (arenas_for (length heap.old.cells)) rs (K.written sink.old) (K.written sink.new)) }
-    ensures cause { HasCause (K.faults sink.old) (K.faults sink.new) result }
-{
-    report_group(alloc, sink)?;
-    sweep(heap, marks, sink)?;
-    report_done(sink)
-}
-
-/// Collects zone 0, and writes the reports and the reply.
-pub fn collect<K: Sink>(alloc: Global, heap: &mut Heap, sink: &mut K) -> Result<(), AnswerFault>
-    requires stands { (w : World) × Represents heap.old w }
-    requires made { heap.old.made < 4294967295 }
-    ensures ok { OnOk result ((w : World) → Represents heap.old w → WritesAnswer w (ACmd.Collect zone_0) heap.new (K.written sink.old) (K.written sink.new)) }
-    ensures made { heap.new.made ≡ heap.old.made }
+    steps: &mut Steps<L>,
+) -> Result<(), AnswerFault>
+    requires sound { IsSound collector.old (flown_by handed.old) }
+    requires running { IsSome collector.old.run }
+    requires jobs { AreJobsOf collector.old.heap.shape handed.old }
+    ensures ok { OnOk result ((w : World) → IsValid w → Represents collector.old (flown_by handed.old) w
+        → WritesUnits w collector.new (flown_by handed.new) (K.written sink.old) (K.written sink.new)) }
+    ensures left { OnOk result (units_left collector.new (flown_by handed.new)
+        < units_left collector.old (flown_by handed.old)) }
+    ensures jobs { OnOk result (AreJobsOf collector.new.heap.shape handed.new) }
+    ensures made { collector.new.heap.made ≡ collector.old.heap.made }
+    ensures entries { length collector.new.heap.shape.weak.entries
+        ≤ length collector.old.heap.shape.weak.entries }
     ensures memory { result ≡ Err AnswerFault.Memory → Appends (K.written sink.old) (K.written sink.new) [] }
-    ensures write { result ≡ Err AnswerFault.Write → (w : World) → Represents heap.old w → WritesFront w (ACmd.Collect zone_0) (K.written sink.old) (K.written sink.new) }
+    ensures write { result ≡ Err AnswerFault.Write → (w : World) → IsValid w → Represents collector.old (flown_by handed.old) w
+        → BreaksInUnits w (K.written sink.old) (K.written sink.new) }
     ensures good { result ≢ Err AnswerFault.Bad }
     ensures later { K.faults sink.old ≤ K.faults sink.new }
     ensures same { OnOk result (K.faults sink.new ≡ K.faults sink.old) }
     ensures cause { result ≡ Err AnswerFault.Write → Rose (K.faults sink.old) (K.faults sink.new) }
 {
-    if heap.zones() == 0 {
-        return match write_reply(sink, &Reply::Refused(Refusal::NoZone)) {
-            Ok(()) => Ok(()),
-            Err(_) => Err(AnswerFault::Write),
-        };
-    }
-    let Ok(marks) = mark(alloc, heap) else {
+    let Ok((report, finished)) = do_unit(alloc, collector, handed, steps) else {
         return Err(AnswerFault::Memory);
     };
-    match report_all(alloc, heap, marks.as_slice(), sink) {
+    match write_reports(sink, &report, finished) {
         Ok(()) => Ok(()),
         Err(_) => Err(AnswerFault::Write),
+    }
+}
+
+// Does unit after unit until the collection that runs is over, and writes their reports and the
+// reply.
+fn answer_collection<K: Sink, L: Ledger>(
+    alloc: Global,
+    collector: &mut Collector,
+    sink: &mut K,
+    steps: &mut Steps<L>,
+) -> Result<(), AnswerFault>
+    requires sound { IsSound collector.old none_flown }
+    ensures ok { OnOk result ((w : World) → IsValid w → Represents collector.old none_flown w
+        → WritesCollection w collector.new (K.written sink.old) (K.written sink.new)) }
+    ensures idle { OnOk result (collector.new.run ≡ None) }
+    ensures made { collector.new.heap.made ≡ collector.old.heap.made }
+    ensures entries { length collector.new.heap.shape.weak.entries
+        ≤ length collector.old.heap.shape.weak.entries }
+    ensures memory { result ≡ Err AnswerFault.Memory → (w : World) → IsValid w → Represents collector.old none_flown w
+        → StopsInUnits w (K.written sink.old) (K.written sink.new) }
+    ensures write { result ≡ Err AnswerFault.Write → (w : World) → IsValid w → Represents collector.old none_flown w
+        → BreaksInUnits w (K.written sink.old) (K.written sink.new) ⊎ BreaksInReply w (K.written sink.old) (K.written sink.new) }
+    ensures good { result ≢ Err AnswerFault.Bad }
+    ensures later { K.faults sink.old ≤ K.faults sink.new }
+    ensures same { OnOk result (K.faults sink.new ≡ K.faults sink.old) }
+    ensures cause { result ≡ Err AnswerFault.Write → Rose (K.faults sink.old) (K.faults sink.new) }
+{
+    let mut handed = Handed::new(alloc);
+    while collector.running() {
+        if let Err(fault) = answer_unit(alloc, collector, &mut handed, sink, steps) {
+            return Err(fault);
+        }
+    }
+    write_last(sink, &Reply::Collected)
+}
+
+/// Collects these zones, and writes the reports and the reply.
+pub fn collect<K: Sink, L: Ledger>(
+    alloc: Global,
+    collector: &mut Collector,
+    zones: ZoneSet,
+    sink: &mut K,
+    steps: &mut Steps<L>,
+) -> Result<(), AnswerFault>
+    requires sound { IsSound collector.old none_flown }
+    requires idle { collector.old.run ≡ None }
+    requires some { (z : ℕ) × HasZone zones.bits z }
+    ensures ok { OnOk result ((w : World) → IsValid w → Represents collector.old none_flown w
+        → WritesAnswer w (ACmd.Collect zones) collector.new (K.written sink.old) (K.written sink.new)) }
+    ensures idle { OnOk result (collector.new.run ≡ None) }
+    ensures made { collector.new.heap.made ≡ collector.old.heap.made }
+    ensures entries { length collector.new.heap.shape.weak.entries
+        ≤ length collector.old.heap.shape.weak.entries }
+    ensures memory { result ≡ Err AnswerFault.Memory → (w : World) → IsValid w → Represents collector.old none_flown w
+        → WritesStart w (ACmd.Collect zones) (K.written sink.old) (K.written sink.new) }
+    ensures write { result ≡ Err AnswerFault.Write → (w : World) → IsValid w → Represents collector.old none_flown w
+        → WritesFront w (ACmd.Collect zones) (K.written sink.old) (K.written sink.new) }
+    ensures good { result ≢ Err AnswerFault.Bad }
+    ensures later { K.faults sink.old ≤ K.faults sink.new }
+    ensures same { OnOk result (K.faults sink.new ≡ K.faults sink.old) }
+    ensures cause { result ≡ Err AnswerFault.Write → Rose (K.faults sink.old) (K.faults sink.new) }
+{
+    match collector.begin(alloc, zones, steps) {
+        Ok(()) => answer_collection(alloc, collector, sink, steps),
+        Err(BeginFault::Running) => write_last(sink, &Reply::Refused(Refusal::Running)),
+        Err(BeginFault::NoZone) => write_last(sink, &Reply::Refused(Refusal::NoZone)),
+        Err(BeginFault::NoMemory) => Err(AnswerFault::Memory),
     }
 }

@@ -4,34 +4,32 @@
 //
 //     replay     reads the lines, and ends with the exit that the lines and the counts of faults say
 //     answer     what one line is answered: parsed, served or refused, its reply written
-//     heap       how many zones and compartments there are, the registers, the cells by positions
-//     marks      which positions are reached from the registers
-//     collect    marks, reports the only group and its end, and sweeps arena by arena
+//     collect    a collection: begun, then unit after unit, each report written as it comes
+//     handed     the arenas that are handed to sweeping, while main sweeps by itself
 //
-// A cell keeps its position for life; position 64 a + s is slot s of arena a. Names are given in the
-// order of making and never again, positions are: the lowest free one is taken first.
+// The collector of `slice_driver` stands for a world of the definitions, with the bits that are in
+// flight (`Represents` in its specs/). Each command takes a collector that stands for a world to one
+// that stands for the world after it, with the reply that the definitions give; so what a replay has
+// written is, at any moment, lawful output for the lines that it has read, and at most a part of the
+// next answer. Between two lines no collection runs, and nothing is in flight.
 //
-//     registers   r0 r1 ..          positions   0  1  2 | 64 65 ..
-//                  |  |                         |  |  |
-//                  0  2             cells       c0 c1 c4   (c2 and c3 were freed, c4 took position 2)
+//     collect 0 1    begin   unit  unit  ..  unit     the end of a group hands arenas to sweeping
+//                                |            |
+//     written              groups ..   ended ..    swept ..   done   collected
 //
-// The heap stands for a world of the definitions (`Represents` in specs/): the same objects, named by
-// their numbers, each at the place of its position; nothing is white, and no arena is out, between
-// two lines. Each command takes a heap that stands for a world to one that stands for the world after
-// it, with the reply that the definitions give; so what a replay has written is, at any moment, lawful
-// output for the lines that it has read, and at most a front of the next answer.
+// A unit that finds an arena due does nothing: main then sweeps the lowest arena that is out (its
+// white slots are those of its job, a word operation), and the collector takes it in. `Handed` has
+// the jobs that are left and is the flight in which barriers and marking read and wake their bits.
 //
-// Why each report is lawful by itself: the reports go out arena by arena, and a failed write ends the
-// replay between two of them, or within one. What was written then is the start of a lawful answer,
-// since each report is lawful in the world that the reports before it lead to.
+// Why each report is lawful by itself: a failed write, or want of memory, ends the replay between two
+// reports, or within one. What was written then is the start of a lawful answer, since each unit is
+// lawful in the world that the units before it lead to.
 #![tactic(auto)]
 
 mod answer;
-mod cells;
 mod collect;
 mod exit;
-mod heap;
-mod marks;
+mod handed;
 mod replay;
 mod served;
 #[cfg(test)]

@@ -1,16 +1,27 @@
 // The reading loop: read a line, answer it whole, go on.
-ghost use Rattle.std.specs.Prelude.{◌≡◌, ◌≢◌, ◌↔◌, ◌+◌, ◌<◌, ◌≤◌, [], OnOk, OnErr, IsTrue, ◌⊎◌, map};
+ghost use Rattle.std.specs.Prelude.{◌≡◌, ◌≢◌, ◌↔◌, ◌+◌, ◌<◌, ◌≤◌, [], Err, IfOk, OnOk, OnErr, IsTrue, ◌⊎◌, map};
 ghost use Rattle.std.specs.Io.KnownBytes.{Appends};
 ghost use Rattle.gz_io.specs.Causes.{Rose};
+ghost use Rattle.gz_names.specs.declared.commands.Cmd.{Cmd as TheCmd};
+ghost use Rattle.colour_defs.specs.Laws.{IsValid};
+ghost use Rattle.colour_defs.specs.World.{World};
+ghost use Rattle.slice_driver.specs.Represents.{Represents};
+ghost use Rattle.slice_driver.specs.Units.{none_flown};
 ghost use Rattle.trace_cli.specs.CommandLine.{ArePlain};
-ghost use Rattle.trace_cli.specs.Headline.{Replays, Completes};
+ghost use Rattle.trace_cli.specs.Headline.{Replays, Completes, WritesFront, WritesStart};
+ghost use Rattle.trace_cli.specs.Served.{IsBad, StandsFor};
+ghost use Rattle.trace_cli.specs.Standing.{AnswersLine, IsFirst, IsReady};
 
 use crate::answer::{AnswerFault, answer_line};
 use crate::exit::Exit;
-use crate::heap::Heap;
 use gz_io::{Gate, LineReader, Next, Sink, Source};
+use gz_names::NoMemory;
+use heap_core::Steps;
+use slice_driver::Collector;
 use std::alloc::Global;
+use std::marker::Brand;
 use std::sync::Wait;
+use std::sync::ledger::{Blank, Ledger};
 use std::thread::Threads;
 
 // Hands on what is held back, and ends so.
@@ -49,8 +60,46 @@ fn refusal(answered: u64) -> Exit
     Exit::BadLine(answered + 1)
 }
 
-// Answers each line of a source, in order.
-fn answer_lines<S: Source, K: Sink>(alloc: Global, source: &mut S, sink: &mut K) -> Exit
+// A new collector.
+fn first_collector(alloc: Global) -> Result<Collector, NoMemory>
+    ensures { IfOk result IsFirst }
+{
+    Collector::new(alloc)
+}
+
+// Does what a line says, after so many lines, and writes the answer.
+fn answer_next<K: Sink, L: Ledger>(
+    alloc: Global,
+    collector: &mut Collector,
+    _answered: u64,
+    line: &[u8],
+    sink: &mut K,
+    steps: &mut Steps<L>,
+) -> Result<(), AnswerFault>
+    requires { IsReady collector.old _answered }
+    ensures ok { OnOk result (AnswersLine line.now collector.old _answered collector.new
+        (K.written sink.old) (K.written sink.new)) }
+    ensures bad { result ≡ Err AnswerFault.Bad → IsBad line.now × Appends (K.written sink.old) (K.written sink.new) [] }
+    ensures memory { result ≡ Err AnswerFault.Memory → (c : TheCmd) × StandsFor line.now c × ((w : World) → IsValid w → Represents collector.old none_flown w
+        → WritesStart w c (K.written sink.old) (K.written sink.new)) }
+    ensures write { result ≡ Err AnswerFault.Write → (c : TheCmd) × StandsFor line.now c × ((w : World) → IsValid w → Represents collector.old none_flown w
+        → WritesFront w c (K.written sink.old) (K.written sink.new)) }
+    ensures later { K.faults sink.old ≤ K.faults sink.new }
+    ensures same { OnOk result (K.faults sink.new ≡ K.faults sink.old) }
+    ensures cause { result ≡ Err AnswerFault.Write → Rose (K.faults sink.old) (K.faults sink.new) }
+{
+    answer_line(alloc, collector, line, sink, steps)
+}
+
+// Answers each line of a source, in order, on a new collector.
+fn answer_all<L: Ledger, S: Source, K: Sink>(
+    alloc: Global,
+    collector: &mut Collector,
+    source: &mut S,
+    sink: &mut K,
+    steps: &mut Steps<L>,
+) -> Exit
+    requires first { IsFirst collector.old }
     ensures lawful { Replays (S.left source.old) (S.left source.new) (K.written sink.old) (K.written sink.new) result }
     ensures quiet { result ≡ Exit.Done → (S.faults source.new ≡ S.faults source.old) × (K.faults sink.new ≡ K.faults sink.old) }
     ensures handed_on { result ≡ Exit.Done → K.behind sink.new ≡ 0 }
@@ -58,7 +107,6 @@ fn answer_lines<S: Source, K: Sink>(alloc: Global, source: &mut S, sink: &mut K)
     ensures write { result ≡ Exit.WriteFault → Rose (K.faults sink.old) (K.faults sink.new) }
     ensures runs { result ≢ Exit.Usage }
 {
-    let mut heap = Heap::new(alloc);
     let mut reader = LineReader::new();
     for answered in 0..4294967296u64 {
         if flush_before(&reader, sink).is_err() {
@@ -74,7 +122,7 @@ fn answer_lines<S: Source, K: Sink>(alloc: Global, source: &mut S, sink: &mut K)
         if answered == 4294967295 {
             return end_so(sink, Exit::TooManyLines);
         }
-        match answer_line(alloc, &mut heap, reader.line(), sink) {
+        match answer_next(alloc, collector, answered, reader.line(), sink, steps) {
             Ok(()) => {}
             Err(AnswerFault::Bad) => return end_so(sink, Exit::BadLine(answered + 1)),
             Err(AnswerFault::Memory) => return end_so(sink, Exit::NoMemory),
@@ -82,6 +130,30 @@ fn answer_lines<S: Source, K: Sink>(alloc: Global, source: &mut S, sink: &mut K)
         }
     }
     Exit::TooManyLines
+}
+
+// Answers each line of a source, in order. The steps of the answers are counted in a new ledger.
+fn answer_lines<L: Ledger, S: Source, K: Sink>(
+    alloc: Global,
+    source: &mut S,
+    sink: &mut K,
+    blank: Blank,
+) -> Exit
+    requires name { blank.name ≡ L.name }
+    requires parts { blank.parts ≡ L.parts }
+    requires some { 0 < blank.parts }
+    ensures lawful { Replays (S.left source.old) (S.left source.new) (K.written sink.old) (K.written sink.new) result }
+    ensures quiet { result ≡ Exit.Done → (S.faults source.new ≡ S.faults source.old) × (K.faults sink.new ≡ K.faults sink.old) }
+    ensures handed_on { result ≡ Exit.Done → K.behind sink.new ≡ 0 }
+    ensures read { result ≡ Exit.ReadFault → Rose (S.faults source.old) (S.faults source.new) }
+    ensures write { result ≡ Exit.WriteFault → Rose (K.faults sink.old) (K.faults sink.new) }
+    ensures runs { result ≢ Exit.Usage }
+{
+    let Ok(mut collector) = first_collector(alloc) else {
+        return end_so(sink, Exit::NoMemory);
+    };
+    let mut steps = Steps::<L>::new(blank);
+    answer_all(alloc, &mut collector, source, sink, &mut steps)
 }
 
 /// Replays a trace. The words are the command line's, the program's name first.
@@ -103,7 +175,7 @@ pub fn replay<R: Threads + Wait + Sync, S: Source + Send, K: Sink + Send, G: Gat
     ensures complete { Completes (map (λ w. w.now) words.now) (S.left source.old) (S.faults source.old) (S.faults source.new) (K.faults sink.old) (K.faults sink.new) result }
 {
     if is_plain(words) {
-        answer_lines(alloc, source, sink)
+        answer_lines::<Brand, S, K>(alloc, source, sink, Blank::new(1))
     } else {
         Exit::Usage
     }

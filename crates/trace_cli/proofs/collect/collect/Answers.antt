@@ -1,57 +1,29 @@
-use Rattle.std.proofs.Common.{◌∙◌, ◌<◌, ◌++◌, ◌∷◌, sym, subst, List, Bool, [], refl, inl, arith}
-use Rattle.gz_names.specs.declared.replies.Report.TheVariants as report
-use Rattle.gz_names.specs.declared.replies.Reply.TheVariants as reply
-use Rattle.gz_names.specs.declared.replies.Refusal.TheVariants as refusal
-use Rattle.trace_cli.specs.Marking.{AreMarks}
-use Rattle.trace_cli.specs.Collecting.{first_reports}
-use Rattle.trace_cli.specs.Headline.{answer_lines}
-use Rattle.trace_cli.proofs.Broken.{writes_front}
-use Rattle.trace_cli.proofs.Collected.{collects, refuses_no_zone}
-use Rattle.trace_cli.proofs.Reaching.{inside}
-use Rattle.trace_cli.proofs.Reported.{numbered}
+use Rattle.std.proofs.Common.{ap, subst, sym, Err}
+use Rattle.slice_driver.specs.Collector.{CollectorState}
+use Rattle.slice_driver.specs.Represents.{Represents}
+use Rattle.slice_driver.specs.Units.{none_flown}
+use Rattle.slice_driver.specs.declared.begin.BeginFault.{BeginFault}
+use Rattle.trace_cli.proofs.Answered.{ok_maps, err_is, begun_breaks, begun_sound, begun_stops, begun_writes, no_zone_breaks, no_zone_writes}
 use Rattle.trace_cli.proofs.collect.collect.Goals as goal
 
+pub answer_collection-requires : goal.answer_collection-requires
+answer_collection-requires g c = record { sound = begun_sound c.args.collector.now c.begin.new.self c.args.zones c.requires.sound c.in-Ok.ensures.begun }
+
 pub returns-in-Ok-clause-ok : goal.returns-in-Ok-clause-ok
-returns-in-Ok-clause-ok g c = λ w s. record {
-  reports = [];
-  answer = reply.Refused refusal.NoZone;
-  after = w;
-  represents = s;
-  answers = refuses_no_zone c.args.heap.now w s (sym c.zones.ensures ∙ c.if-zones-eq0.true);
-  written = c.in-Ok.ensures.ok;
-}
+returns-in-Ok-clause-ok g c = ok_maps _ (λ writes. begun_writes c.args.collector.now c.begin.new.self c.answer_collection.new.collector c.args.zones _ _ c.in-Ok.ensures.begun writes) c.answer_collection.ensures.ok
 
-pub returns-in-Err-clause-write : goal.returns-in-Err-clause-write
-returns-in-Err-clause-write g c = λ e w s. record {
-  text = answer_lines ([], reply.Refused refusal.NoZone);
-  answers = inl ([], reply.Refused refusal.NoZone, w, refuses_no_zone c.args.heap.now w s (sym c.zones.ensures ∙ c.if-zones-eq0.true), refl);
-  written = c.in-Err.ensures.err;
-}
+pub returns-in-Ok-clause-memory : goal.returns-in-Ok-clause-memory
+returns-in-Ok-clause-memory g c = λ e. begun_stops c.args.collector.now c.begin.new.self c.args.zones _ _ c.in-Ok.ensures.begun (c.answer_collection.ensures.memory e)
 
-pub mark-requires : goal.mark-requires
-mark-requires g c = inside c.args.heap.now c.requires.stands.0 c.requires.stands.1
+pub returns-in-Ok-clause-write : goal.returns-in-Ok-clause-write
+returns-in-Ok-clause-write g c = λ e. begun_breaks c.args.collector.now c.begin.new.self c.args.zones _ _ c.in-Ok.ensures.begun (c.answer_collection.ensures.write e)
 
-pub report_all-requires-clause-numbered : goal.report_all-requires-clause-numbered
-report_all-requires-clause-numbered g c = numbered c.args.heap.now c.requires.stands.0 c.requires.stands.1
+pub returns-in-Err-NoZone-clause-ok : goal.returns-in-Err-NoZone-clause-ok
+returns-in-Err-NoZone-clause-ok g c =
+    let none = (c.in-Err-NoZone.ensures.no_zone.0 (ap (λ (f : BeginFault). Err f) c.in-Err-NoZone.field-0-is)).1 in
+    ok_maps _ (λ written. no_zone_writes c.args.collector.now c.begin.new.self c.args.zones _ _ c.requires.idle none (λ w r. subst (λ (s : CollectorState). Represents s none_flown w) (sym c.in-Err-NoZone.ensures.refused) r) written) c.write_last-in-Err-NoZone.ensures.ok
 
-pub returns-in-Ok-report_all-clause-ok : goal.returns-in-Ok-report_all-clause-ok
-returns-in-Ok-report_all-clause-ok g c = λ w s. (
-    let so = c.in-Ok-report_all.ensures.ok in
-    let marks : AreMarks c.args.heap.now c.as_slice.result.now = subst (λ (xs : List Bool). AreMarks c.args.heap.now xs) (sym c.as_slice.ensures.value) c.in-Ok-mark.ensures in
-    let zone : 0 < c.args.heap.now.zones = omega (arith, c.zones.ensures, c.if-zones-eq0.false) in
-    let v = collects c.args.heap.now c.report_all.new.heap w c.as_slice.result.now so.0 s zone marks so.1 so.2 c.in-Ok-report_all.ensures.swept in
-    record {
-      reports = first_reports ++ (so.0 ++ report.Done ∷ []);
-      answer = reply.Collected;
-      after = v.0;
-      represents = v.1;
-      answers = v.2;
-      written = so.3;
-    })
-
-pub returns-clause-write : goal.returns-clause-write
-returns-clause-write g c = λ e w s. (
-    let so = c.in-Err-report_all.ensures.err in
-    let marks : AreMarks c.args.heap.now c.as_slice.result.now = subst (λ (xs : List Bool). AreMarks c.args.heap.now xs) (sym c.as_slice.ensures.value) c.in-Ok-mark.ensures in
-    let zone : 0 < c.args.heap.now.zones = omega (arith, c.zones.ensures, c.if-zones-eq0.false) in
-    writes_front c.args.heap.now w c.as_slice.result.now so.0 (g.K.Sink.written c.args.sink.now) (g.K.Sink.written c.report_all.new.sink) s zone marks so.1 so.2)
+pub returns-in-Err-NoZone-clause-write : goal.returns-in-Err-NoZone-clause-write
+returns-in-Err-NoZone-clause-write g c =
+    let none = (c.in-Err-NoZone.ensures.no_zone.0 (ap (λ (f : BeginFault). Err f) c.in-Err-NoZone.field-0-is)).1 in
+    λ e. no_zone_breaks c.args.collector.now c.args.zones _ _ c.requires.idle none (err_is _ _ c.write_last-in-Err-NoZone.ensures.err e)
