@@ -17,15 +17,6 @@ pub record HasAdvanced (word n : ℕ) (h k : HeapState) : Type 0 where
   pub later : (z : ℕ) → n ≤ z → state_in k.shape z ≡ state_in h.shape z
   pub others : (z : ℕ) → (HasZone word z → ⊥) → state_in k.shape z ≡ state_in h.shape z
 
-pub none_advanced : (word : ℕ) (h : HeapState) → HasAdvanced word 0 h h
-none_advanced word h = record {
-  rest = refl;
-  count = refl;
-  before = λ z has lt. absurd (omega arith);
-  later = λ z ge. refl;
-  others = λ z n. refl;
-}
-
 module _ (word i : ℕ) (h k : HeapState) (was : HasAdvanced word i h k) where
   -- a zone that is not of the word stays
   pub skips : (HasZone word i → ⊥) → HasAdvanced word (i + 1) h k

@@ -18,7 +18,7 @@ use Rattle.colour_defs.specs.Graph.{GraphState, IsInZones, value_of}
 use Rattle.colour_defs.specs.Closure.{Closure, HasEdge as HasNamedEdge}
 use Rattle.colour_defs.specs.World.{World, Collection, Has, IsSettled, BlackClosure, LiveClosure, IsPresent as IsPresentName, marking_of}
 use Rattle.colour_defs.specs.Lawful.{Begins}
-use Rattle.colour_defs.specs.Laws.{IsValid}
+use Rattle.colour_defs.specs.Laws.{IsValid, IsWellFormed}
 use Rattle.colour_defs.proofs.Lists.{contains_cases, contains_head, contains_tail, nothing_in_none}
 use Rattle.colour_defs.proofs.Finite.{no_name}
 use Rattle.colour_defs.proofs.Membership.{in_zone, zone_in}
@@ -424,6 +424,8 @@ module _ (h : HeapState) (old : Piles) (w v : World) (zones : ZoneSet) (k : Heap
     present = λ x r. subst (λ (u : World). IsPresentName u x) (sym bg.world_is) (closure_present h w l (IsLiveRoot h zones) (λ y. Has c.live_starts y ⊎ Has c.woken y) live_starts x (subst (λ g. Closure g (λ y. Has c.live_starts y ⊎ Has c.woken y) x) bg.snapshot_is r));
     edges_then = λ x y here e. inl (subst (λ g. HasNamedEdge g x y) (bg.snapshot_is ∙ ap (λ (u : World). u.graph) (sym bg.world_is)) e);
     entries_then = λ m q u pm pq e. inl (subst (λ g. value_of g m q ≡ Some u) (bg.snapshot_is ∙ ap (λ (u : World). u.graph) (sym bg.world_is)) e);
+    grown = subst (λ (g : GraphState). length c.snapshot.objects ≤ length g.objects) (bg.snapshot_is ∙ ap (λ (u : World). u.graph) (sym bg.world_is)) (omega arith);
+    formed = subst IsWellFormed (sym bg.snapshot_is) ok.graph;
   }
 
   -- the heap lies in the world that begins

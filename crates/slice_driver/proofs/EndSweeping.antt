@@ -1,6 +1,5 @@
 -- Zones that were swept are finished, and a collection is over.
-use Rattle.std.proofs.Common.{◌≡◌, ◌≢◌, ◌↔◌, ◌<◌, ℕ, true, false, Option, None, Some, IsSome, is_some, List, [], ◌∷◌, length, slice_get, refl, sym, ap, ◌∙◌}
-use Rattle.std.proofs.lemmas.Option.{slice_get_within}
+use Rattle.std.proofs.Common.{◌≡◌, ◌≢◌, ◌↔◌, ℕ, true, false, Option, None, Some, IsSome, is_some, List, [], ◌∷◌, slice_get, refl, sym, ap, ◌∙◌}
 use Rattle.gz_names.specs.Zones.{HasZone}
 use Rattle.gz_names.specs.declared.zone_sets.ZoneSet.{ZoneSet}
 use Rattle.cell_bits.specs.declared.bits.Bits.{Bits}
@@ -15,9 +14,6 @@ use Rattle.slice_driver.specs.Sweeping.{after_sweep}
 -- exactly the zones in a state
 abbrev pub AreInState : HeapState → State → ℕ → Type 0
 AreInState h t word = (z : ℕ) → HasZone word z ↔ (slice_get h.shape.states z ≡ Some t)
-
-pub in_state_made : (h : HeapState) (t : State) (word : ℕ) → AreInState h t word → (z : ℕ) → HasZone word z → z < length h.shape.states
-in_state_made h t word are z has = slice_get_within h.shape.states z t ((are z).0 has)
 
 state_there : (states : List State) (z : ℕ) (t : State) → t ≢ state.NoGC → state_or (slice_get states z) ≡ t → slice_get states z ≡ Some t
 state_there states z t ne e = go (slice_get states z) refl e

@@ -1,5 +1,5 @@
 -- What is in flight is only woken by a step of marking.
-use Rattle.std.proofs.Common.{◌≡◌, ◌⊎◌, ◌<◌, ℕ, zero, suc, Bool, true, false, List, [], ◌∷◌, length, Option, Some, None, IsSome, is_some, slice_get, if◌then◌else◌, inl, inr, refl, sym, ap, ◌∙◌, arith}
+use Rattle.std.proofs.Common.{◌≡◌, ◌⊎◌, ℕ, Bool, true, false, List, length, Option, Some, None, IsSome, is_some, slice_get, if◌then◌else◌, inl, inr, refl, sym, ap, ◌∙◌, arith}
 use Rattle.gz_names.specs.declared.numbers.Place.{Place}
 use Rattle.cell_bits.specs.declared.bits.Bits.{Bits}
 use Rattle.cell_bits.specs.declared.bits.Colour.TheVariants as colour
@@ -13,14 +13,7 @@ use Rattle.barriers.specs.Spreading.{Covers}
 use Rattle.barriers.proofs.Flying.{flown_there}
 use Rattle.barriers.proofs.NewCells.{white_tells}
 use Rattle.slice_driver.specs.Worlds.{IsInFlight, IsWokenFrom}
-
-within_arenas : (s : Shape) (a : ℕ) (b : Bits) → out_of s a ≡ Some b → a < length s.arenas
-within_arenas s a b e = go s.arenas a e
-  where
-    go : (xs : List ArenaShape) (i : ℕ) → out_in (slice_get xs i) ≡ Some b → i < length xs
-    go [] i e = absurd (cc e)
-    go (x ∷ xs) zero e = omega arith
-    go (x ∷ xs) (suc i) e = let r = go xs i e in omega (arith, r)
+use Rattle.slice_driver.proofs.Serving.{within_arenas}
 
 -- a present cell of an arena that is out was not white
 not_white : (s : Shape) (a i : ℕ) (b : Bits) → out_of s a ≡ Some b → IsPresent s (a, i) → is_white b i ≡ true → ⊥
@@ -45,10 +38,10 @@ some_flown (Some b) e = (b, refl)
 
 module _ (h k : HeapState) (flown flying : ℕ → Option Bits) (was : IsInFlight h.shape flown) (same : k.shape ≡ h.shape) (colours : ColourInvariant (joined h flown)) (after : ColourInvariant (joined k flying)) (covers : Covers k.shape flying) (sized : length h.colours ≡ length h.shape.arenas) (grown : length k.colours ≡ length k.shape.arenas) (darker : (p : Place) → IsBlack (joined h flown) p → IsBlack (joined k flying) p) (others : (p : Place) → IsBlack (joined k flying) p ⊎ ((colour_of (joined k flying) p ≡ colour_of (joined h flown) p) ⊎ (is_marking h.shape p ≡ true))) where
   colour_then : (a i : ℕ) (old prev : Bits) → out_of h.shape a ≡ Some old → flown a ≡ Some prev → colour_of (joined h flown) (a, i) ≡ bits.colour_of prev i
-  colour_then a i old prev out at = let lt = within_arenas h.shape a old out in ap (λ o. colour_in o i) (flown_there h flown a prev (omega (arith, lt, sized)) at)
+  colour_then a i old prev out at = let lt = within_arenas h.shape a (ap is_some out) in ap (λ o. colour_in o i) (flown_there h flown a prev (omega (arith, lt, sized)) at)
 
   colour_now : (a i : ℕ) (old new : Bits) → out_of k.shape a ≡ Some old → flying a ≡ Some new → colour_of (joined k flying) (a, i) ≡ bits.colour_of new i
-  colour_now a i old new out at = let lt = within_arenas k.shape a old out in ap (λ o. colour_in o i) (flown_there k flying a new (omega (arith, lt, grown)) at)
+  colour_now a i old new out at = let lt = within_arenas k.shape a (ap is_some out) in ap (λ o. colour_in o i) (flown_there k flying a new (omega (arith, lt, grown)) at)
 
   woken_from : (a : ℕ) (old prev new : Bits) → out_of k.shape a ≡ Some old → out_of h.shape a ≡ Some old → flown a ≡ Some prev → flying a ≡ Some new → IsWokenFrom old prev → IsWokenFrom old new
   woken_from a old prev new out out_then before now w = record {

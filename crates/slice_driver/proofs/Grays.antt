@@ -31,9 +31,6 @@ not_true false h = refl
 pub gray_pushed : (h : HeapState) (p : Place) (x : Name) → IsGray h p → name_at h.shape p ≡ Some x → gray_name h p ≡ x ∷ []
 gray_pushed h p x gray named = ap (λ c. if is_gray_colour c then names_in (name_at h.shape p) else []) gray ∙ ap names_in named
 
-pub gray_passed : (h : HeapState) (p : Place) → (IsGray h p → ⊥) → gray_name h p ≡ []
-gray_passed h p other = ap (λ b. if b then names_in (name_at h.shape p) else []) (not_true (is_gray_colour (colour_of h p)) (λ e. other (gray_is (colour_of h p) e)))
-
 listed_gray : (h : HeapState) (p : Place) (x : Name) → Contains (gray_name h p) x → IsGray h p × (name_at h.shape p ≡ Some x)
 listed_gray h p x c = go (is_gray_colour (colour_of h p)) refl c
   where

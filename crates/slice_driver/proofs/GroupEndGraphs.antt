@@ -211,8 +211,5 @@ module _ (g : GraphState) (keep : Name → Bool) where
       );
     }
 
-    pub edge_kept : (x y : Name) → IsPresent w x → keep x ≡ true → HasEdge g x y → keep y ≡ true
-    edge_kept = stays_along
-
     pub value_kept_too : (m k u : Name) → keep m ≡ true → keep k ≡ true → value_of g m k ≡ Some u → keep u ≡ true
     value_kept_too = value_stays

@@ -164,6 +164,8 @@ module _ (c : CollectorState) (flown : ℕ → Option Bits) (w : World) (k : Col
         ap is_some (place_ended c.heap g w x p.0 ((s.lies.places_are x p.0).1 p.1) (live_alive c flown w k g rest ok s ready at grays listed d.heap e p.0 ((was_tied.live x p.0 p.1).1 u))));
     edges_then = λ x y there ed. was_tied.edges_then x y (present_was x there) ed;
     entries_then = λ m q v pm pq f. was_tied.entries_then m q v (present_was m pm) (present_was q pq) f;
+    grown = was_tied.grown;
+    formed = was_tied.formed;
   }
 
   tied_after : AreTied d.heap d.stack d.lists world_after (ended_collection k g rest)

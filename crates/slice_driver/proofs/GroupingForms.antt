@@ -162,7 +162,7 @@ module _ (c d : CollectorState) (flown : ℕ → Option Bits) (w : World) (k : C
       subst (λ h. AreTied h d.stack d.lists after (formed_collection k groups)) (sym heap_same)
       (subst (λ p. AreTied (heap_with c flown) p d.lists after (formed_collection k groups)) (sym f.stack_is)
       (subst (λ l. AreTied (heap_with c flown) c.stack l after (formed_collection k groups)) (sym f.lists_is)
-      (record { black = t.black; live = t.live; present = t.present; edges_then = t.edges_then; entries_then = t.entries_then })))
+      (record { black = t.black; live = t.live; present = t.present; edges_then = t.edges_then; entries_then = t.entries_then; grown = t.grown; formed = t.formed })))
 
   -- all zones are in groups that have not ended
   behind_after : (h : HeapState) → h.shape ≡ c.heap.shape → AreBehind h d formed_run

@@ -21,7 +21,7 @@ use Rattle.slice_driver.specs.declared.collector.Run.{Run}
 use Rattle.slice_driver.proofs.Named.{some_one}
 use Rattle.slice_driver.specs.Grouping.{FormsIn, LooksIn}
 use Rattle.slice_driver.specs.Left.{grouping_left, ungrouped_below}
-use Rattle.slice_driver.specs.Quiet.{HasSameLooks, IsQuiet}
+use Rattle.slice_driver.specs.Quiet.{HasSameLooks, IsFormed, IsQuiet}
 use Rattle.slice_driver.specs.Represents.{AreLookedAt}
 use Rattle.slice_driver.specs.Units.{IsSound}
 use Rattle.slice_driver.specs.Working.{GoesOn, IsBlackDone, IsGrouping}
@@ -262,6 +262,10 @@ still_waiting old zone new zones ungrouped left s waiting less z = (
   λ h. (less z).1 ((waiting z).1 (h.0, λ was. h.1 ((s.stepped z).1 (inl was))), λ is. h.1 ((s.stepped z).1 (inr is))),
 )
 
+-- as a collection groups, its groups are not formed
+pub not_formed : (c : CollectorState) → IsGrouping c → IsFormed c → ⊥
+not_formed c g f = (let formed = ap (λ (r : RunState). r.formed) (some_one g.0 f.0 (sym g.1 ∙ f.1)) in let no = g.2 in let yes = f.2 in cc (formed, no, yes))
+
 -- which zones wait does not change with what is noted besides
 pub waiting_same : (n m : Noted) (o : Option Run) (u : ZoneSet) → m.stepped ≡ n.stepped → AreUngrouped n o u → AreUngrouped m o u
 waiting_same n m None u e a = tt
@@ -287,14 +291,6 @@ kept_waiting edges (Some run) u r e a =
 pub some_wait : (o : Option Run) (u : ZoneSet) (z : ℕ) → HasZone u.bits z → SomeWaits o u
 some_wait None u z h = tt
 some_wait (Some run) u z h = λ unformed. (z, h)
-
--- the components of some zones are some groups
-pub some_components : (sources : List ZoneSet) (zones : ZoneSet) (groups : List ZoneSet) (z : ℕ) → AreComponents sources zones groups → HasZone zones.bits z → groups ≡ [] → ⊥
-some_components sources zones groups z a h e =
-    let i = a.covered z h in
-    let lt : i.0 < length groups = i.1 in
-    let none : length groups ≡ 0 = ap (λ (xs : List ZoneSet). length xs) e in
-    omega (arith, lt, none)
 
 -- the step of a zone that waits
 pub steps_in : (c : CollectorState) (flown : ℕ → Option Bits) → IsSound c flown → (g : IsGrouping c) (o : Option Run) (u : ZoneSet) (zone : ℕ) (new : Noted) → run_of o ≡ Some g.0 → AreUngrouped c.edges o u → HasZone u.bits zone → ((z : ℕ) → HasZone new.stepped.bits z ↔ (HasZone c.edges.stepped.bits z ⊎ (z ≡ zone))) → new.zones ≡ c.edges.zones → new.sources ≡ c.edges.sources → new.cursors ≡ c.edges.cursors → StepsIn c.edges zone new

@@ -58,15 +58,6 @@ stay_same s t e whole = record {
   whole = subst AreWhole (sym e) whole;
 }
 
-pub stay_then : (s t u : Shape) → StayInPlace s t → StayInPlace t u → StayInPlace s u
-stay_then s t u a b = record {
-  names = λ p. b.names p ∙ a.names p;
-  owners = b.owners ∙ a.owners;
-  outs = b.outs ∙ a.outs;
-  unswept = λ p x. ((λ h. (a.unswept p x).0 ((b.unswept p x).0 h)), λ h. (b.unswept p x).1 ((a.unswept p x).1 h));
-  whole = b.whole;
-}
-
 -- a field was written
 written_name : (f : ℕ) (v : Option Place) (b : Bool) (o : Option CellState) → name_in (if b then option_map (with_value f v) o else o) ≡ name_in o
 written_name f v true None = refl

@@ -27,6 +27,7 @@ pub mod GroupingLooks
 pub mod GroupingForms
 pub mod GroupingLaws
 pub mod Named
+pub mod Tying
 pub mod Blackness
 pub mod Lying
 pub mod Placing
@@ -41,16 +42,17 @@ pub mod Begun
 pub mod Moving
 pub mod Commanding
 pub mod Serving
+pub mod Rooms
 pub mod Answering
 pub mod Starting
 pub mod Crossing
+pub mod JoinedChanges
+pub mod CommandRuns
 pub mod Advancing
 pub mod FirstOut
 pub mod EndSweeping
 pub mod TakingIn
 pub mod Kept
-pub mod Rooms
-pub mod Commanded
 pub mod Grays
 pub mod GrayNames
 pub mod MarkedRoots
@@ -70,3 +72,5 @@ pub mod MarkingUnits
 pub mod GroupingSteps
 pub mod ZoneSteps
 pub mod OneUnit
+pub mod Through
+pub mod Commanded

@@ -17,7 +17,7 @@ use Rattle.colour_defs.proofs.Lists.{contains_head, nothing_in_none}
 use Rattle.heap_core.specs.Shape.{Shape, is_marking, is_marking_state, state_in, state_of, state_or, zone_of}
 use Rattle.heap_core.specs.Heap.{HeapState, colour_of, joined}
 use Rattle.heap_core.proofs.MakingCells.{same-place}
-use Rattle.barriers.specs.Reached.{Reached}
+use Rattle.barriers.specs.Reached.{HasEntry, Reached}
 use Rattle.barriers.specs.Colours.{IsBlack, IsSeen}
 use Rattle.barriers.specs.Exposing.{KeepsLive}
 use Rattle.barriers.specs.Invariant.{MarkingInvariant}
@@ -25,13 +25,13 @@ use Rattle.barriers.specs.PendingBlack.{PendingBlack}
 use Rattle.barriers.specs.PendingLive.{GrayInvariant, buffer_of}
 use Rattle.barriers.specs.Spreading.{Blackens, Covers}
 use Rattle.marker.specs.GrayBits.{AreGraying}
-use Rattle.marker.specs.Units.{DoesGray, DoesWeak, IsFixed, work_left}
+use Rattle.marker.specs.Units.{DoesGray, DoesWeak, IsFixed, IsGrayIdle, WantsColour, work_left}
 use Rattle.slice_driver.specs.Collector.{CollectorState, heap_with}
 use Rattle.slice_driver.specs.Closures.{AreBlack}
 use Rattle.slice_driver.specs.Left.{units_left, grouping_left, steps_left, arenas_left}
 use Rattle.slice_driver.specs.Represents.{Represents, RunsAs, WaitsWhileMarking}
 use Rattle.slice_driver.specs.Units.{IsSound}
-use Rattle.slice_driver.specs.Working.{DidOrStill, GoesOn, IsBlackFixed, IsGrayFixed, IsStill}
+use Rattle.slice_driver.specs.Working.{DidOrStill, GoesOn, IsBlackDone, IsBlackFixed, IsGrayDone, IsGrayFixed, IsGroupDone, IsStill}
 use Rattle.slice_driver.proofs.Flights.{still_flies}
 use Rattle.slice_driver.proofs.MarkingSteps.{Marked, marked_goes, own_sized}
 use Rattle.slice_driver.proofs.QuietWorlds.{flies_same}
@@ -191,11 +191,21 @@ marking_found (Some state.MarkBlackAndGray) e = inr refl
 marking_found (Some state.Sweep) e = absurd (cc e)
 marking_found (Some state.Finished) e = absurd (cc e)
 
-pub black_fixed : (c : CollectorState) (flown flying : ℕ → Option Bits) (zones : ZoneSet) → ((z : ℕ) → HasZone zones.bits z ↔ IsSomeAnd (slice_get c.heap.shape.states z) IsMarking) → heap_with c flying ≡ heap_with c flown → IsFixed (heap_with c flown) colour.Black zones.bits → IsBlackFixed c flying
-black_fixed c flown flying zones marking e fixed m k v has bm bk mv = ap (λ h. colour_of h v) e ∙ fixed m k v has (ap (λ h. colour_of h m) (sym e) ∙ bm) (ap (λ h. colour_of h k) (sym e) ∙ bk) ((marking (zone_of c.heap.shape v)).1 (marking_found (slice_get c.heap.shape.states (zone_of c.heap.shape v)) mv))
+state_marking : (o : Option State) → IsSomeAnd o IsMarking → is_marking_state (state_or o) ≡ true
+state_marking None a = absurd a
+state_marking (Some s) a = elim a [ inl e ↦ ap is_marking_state e | inr e ↦ ap is_marking_state e ]
 
-pub gray_fixed : (c : CollectorState) (flown flying : ℕ → Option Bits) (g : ZoneSet) → heap_with c flying ≡ heap_with c flown → IsFixed (heap_with c flown) colour.Gray g.bits → IsGrayFixed c flying g
-gray_fixed c flown flying g e fixed m k v has sm sk here = subst (λ h. IsSeen h v) (sym e) (fixed m k v has (subst (λ h. IsSeen h m) e sm) (subst (λ h. IsSeen h k) e sk) here)
+-- the weak rule for black, where it adds nothing, and where it has a cell to colour
+module _ (c : CollectorState) (flown : ℕ → Option Bits) (zones : ZoneSet) (marking : (z : ℕ) → HasZone zones.bits z ↔ IsSomeAnd (slice_get c.heap.shape.states z) IsMarking) where
+  pub black_fixed : IsFixed (heap_with c flown) colour.Black zones.bits → IsBlackFixed c flown
+  black_fixed fixed m k v has bm bk mv = fixed m k v has bm bk ((marking (zone_of c.heap.shape v)).1 (marking_found (slice_get c.heap.shape.states (zone_of c.heap.shape v)) mv))
+
+  pub black_wanted : (x : Place) → WantsColour (heap_with c flown) colour.Black zones.bits x → IsBlackFixed c flown → ⊥
+  black_wanted x w fixed = w.work.3 (fixed w.map w.key x w.entry w.work.1 w.work.2 (state_marking (slice_get c.heap.shape.states (zone_of c.heap.shape x)) ((marking (zone_of c.heap.shape x)).0 w.work.0)))
+
+-- the same for gray
+pub gray_wanted : (c : CollectorState) (flown : ℕ → Option Bits) (g : ZoneSet) (x : Place) → WantsColour (heap_with c flown) colour.Gray g.bits x → IsGrayFixed c flown g → ⊥
+gray_wanted c flown g x w fixed = w.work.3 (fixed w.map w.key x w.entry w.work.1 w.work.2 w.work.0)
 
 -- one step after another that did nothing
 pub both_still : (c : CollectorState) (flown : ℕ → Option Bits) (d : CollectorState) (f1 : ℕ → Option Bits) (e : CollectorState) (f2 : ℕ → Option Bits) → IsStill c flown d f1 → IsStill d f1 e f2 → IsStill c flown e f2
@@ -204,6 +214,40 @@ both_still c flown d f1 e f2 a b = record {
   colours = subst (λ (x : CollectorState). heap_with x f2 ≡ heap_with x f1) a.same b.colours ∙ a.colours;
   worlds = λ w s. subst (λ (x : CollectorState). Represents x f1 w → Represents x f2 w) a.same (b.worlds w) (a.worlds w s);
 }
+
+-- with the same colours the same work is left
+module _ (c : CollectorState) (flown : ℕ → Option Bits) (d : CollectorState) (flying : ℕ → Option Bits) (a : IsStill c flown d flying) where
+  abbrev IsBlackFixedBy : HeapState → Type 0
+  IsBlackFixedBy h = (m k v : Place) → HasEntry c.heap.shape m k v → IsBlack h m → IsBlack h k → is_marking c.heap.shape v ≡ true → IsBlack h v
+
+  abbrev IsGrayFixedBy : ZoneSet → HeapState → Type 0
+  IsGrayFixedBy g h = (m k v : Place) → HasEntry c.heap.shape m k v → IsSeen h m → IsSeen h k → HasZone g.bits (zone_of c.heap.shape v) → IsSeen h v
+
+  pub still_black_fixed : IsBlackFixed c flown ↔ IsBlackFixed d flying
+  still_black_fixed = (
+    λ fixed. subst (λ (x : CollectorState). IsBlackFixed x flying) (sym a.same) (subst IsBlackFixedBy (sym a.colours) fixed),
+    λ fixed. subst IsBlackFixedBy a.colours (subst (λ (x : CollectorState). IsBlackFixed x flying) a.same fixed),
+  )
+
+  pub still_gray_fixed : (g : ZoneSet) → IsGrayFixed c flown g ↔ IsGrayFixed d flying g
+  still_gray_fixed g = (
+    λ fixed. subst (λ (x : CollectorState). IsGrayFixed x flying g) (sym a.same) (subst (IsGrayFixedBy g) (sym a.colours) fixed),
+    λ fixed. subst (IsGrayFixedBy g) a.colours (subst (λ (x : CollectorState). IsGrayFixed x flying g) a.same fixed),
+  )
+
+  pub still_black_done : IsBlackDone c flown → IsBlackDone d flying
+  still_black_done done = record {
+    pile = subst (λ (x : CollectorState). x.stack.black ≡ []) (sym a.same) done.pile;
+    fixed = still_black_fixed.0 done.fixed;
+  }
+
+  pub still_group_done : IsGroupDone c flown → IsGroupDone d flying
+  still_group_done done g at =
+      let was : IsGrayDone c flown g = done g (subst (λ (x : CollectorState). slice_get x.groups 0 ≡ Some g) a.same at) in
+      record {
+        idle = subst (λ (x : CollectorState). IsGrayIdle x.heap x.stack x.lists g.bits) (sym a.same) was.idle;
+        fixed = (still_gray_fixed g).0 was.fixed;
+      }
 
 pub still_sound : (c : CollectorState) (flown : ℕ → Option Bits) (d : CollectorState) (flying : ℕ → Option Bits) → IsStill c flown d flying → IsSound c flown → IsSound d flying
 still_sound c flown d flying a s = record { world = s.world; valid = s.valid; represents = subst (λ (x : CollectorState). Represents x flying s.world) (sym a.same) (a.worlds s.world s.represents) }
@@ -232,6 +276,6 @@ still_goes c flown d f1 rs e f2 a g = go
       less = subst (λ n. units_left e f2 < n) (ap (λ (x : CollectorState). units_left x f1) (sym a.same) ∙ still_left c flown d f1 a) moved.less;
     }
 
-pub then_marks : (b : Bool) (P Q : Type 0) (c : CollectorState) (flown : ℕ → Option Bits) (d : CollectorState) (f1 : ℕ → Option Bits) (e : CollectorState) (f2 : ℕ → Option Bits) → IsStill c flown d f1 → (P → Q) → DidOrStill b P d f1 e f2 → DidOrStill b Q c flown e f2
-then_marks true P Q c flown d f1 e f2 a f g = still_goes c flown d f1 [] e f2 a g
-then_marks false P Q c flown d f1 e f2 a f g = (both_still c flown d f1 e f2 a g.0, f g.1)
+pub then_marks : (b : Bool) (P Q : Type 0) (c : CollectorState) (flown : ℕ → Option Bits) (d : CollectorState) (f1 : ℕ → Option Bits) (e : CollectorState) (f2 : ℕ → Option Bits) → IsStill c flown d f1 → P ↔ Q → DidOrStill b P d f1 e f2 → DidOrStill b Q c flown e f2
+then_marks true P Q c flown d f1 e f2 a f g = (still_goes c flown d f1 [] e f2 a g.0, λ q. g.1 (f.1 q))
+then_marks false P Q c flown d f1 e f2 a f g = (both_still c flown d f1 e f2 a g.0, f.0 g.1)

@@ -1,13 +1,11 @@
 -- One unit, by what its steps did or found.
-use Rattle.std.proofs.Common.{◌≡◌, ◌↔◌, ◌<◌, ◌≤◌, ℕ, Bool, true, false, List, [], ◌∷◌, length, Option, Some, None, IsSome, is_some, Result, Ok, Err, IfOk, OnErr, slice_get, refl, sym, ap, subst, ◌∙◌, arith}
+use Rattle.std.proofs.Common.{◌≡◌, ◌↔◌, ◌<◌, ◌≤◌, ℕ, Bool, true, false, List, [], ◌∷◌, length, Option, Some, None, IsSome, is_some, Result, Ok, Err, IfOk, OnErr, slice_get, inl, inr, refl, sym, ap, subst, ◌∙◌, arith}
+use Rattle.std.proofs.lemmas.Bool.{cases_eq, cases_lt}
 use Rattle.gz_names.specs.declared.zone_sets.ZoneSet.{ZoneSet}
 use Rattle.cell_bits.specs.declared.bits.Bits.{Bits}
 use Rattle.cell_bits.specs.declared.jobs.Job.{Job}
 use Rattle.colour_defs.specs.World.{World}
-use Rattle.heap_core.specs.Shape.{Shape, is_marking, out_of}
-use Rattle.heap_core.specs.Heap.{HeapState}
-use Rattle.gz_names.specs.declared.numbers.Place.{Place}
-use Rattle.barriers.specs.Reached.{HasEntry}
+use Rattle.heap_core.specs.Shape.{Shape, out_of}
 use Rattle.barriers.specs.Colours.{IsBlack, IsSeen}
 use Rattle.slice_driver.specs.Collector.{CollectorState, HasMore, RunState, heap_with, run_of}
 use Rattle.slice_driver.specs.declared.collector.Run.{Run}
@@ -16,14 +14,14 @@ use Rattle.slice_driver.specs.GroupEnd.{IsReady}
 use Rattle.slice_driver.specs.Left.{Lowers, units_left}
 use Rattle.slice_driver.specs.Quiet.{IsFormed}
 use Rattle.slice_driver.specs.Represents.{Represents}
-use Rattle.slice_driver.specs.Units.{DoesUnit, DoneOrDue, HandsJobs, IsLowestOut, IsSound, KeepsFreedWords, UnitDone, flying_after, reports_of}
+use Rattle.slice_driver.specs.Units.{DoesUnit, DoneOrDue, HandsJobs, IsLowestOut, IsSound, UnitDone, flying_after, reports_of}
 use Rattle.slice_driver.specs.Working.{GoesOn, HasBegun, HasGroups, IsBlackDone, IsGroupDone, IsGroupingUnit, IsResting, IsStill}
 use Rattle.slice_driver.specs.declared.collector.Unit.{Unit}
 use Rattle.slice_driver.proofs.GroupingLooks.{own_heap}
-use Rattle.slice_driver.proofs.MarkingUnits.{both_still, still_goes, still_left, still_sound}
+use Rattle.slice_driver.proofs.MarkingUnits.{both_still, still_black_done, still_goes, still_group_done, still_left, still_sound}
 
 -- where no arena is due, nothing is asked
-pub not_due : (P : Type 0) (o : Option ℕ) → o ≡ None → IsSome o → P
+pub not_due : {X : Type 0} (P : Type 0) (o : Option X) → o ≡ None → IsSome o → P
 not_due P o none some = absurd (let is = ap is_some none in cc (some, is))
 
 pub none_due : (P : Unit → Type 0) {E : Type 0} (r : Result Unit E) → IfOk r (λ (unit : Unit). unit.due ≡ None) → IfOk r (λ (unit : Unit). IsSome unit.due → P unit)
@@ -58,59 +56,41 @@ says_goes c flown unit d flying handed finished due g = record {
 abbrev pub quiet_unit : Unit
 quiet_unit = record { report = None; handed = None; finished = false; due = None }
 
-abbrev pub due_unit : ℕ → Unit
-due_unit a = record { report = None; handed = None; finished = false; due = Some a }
-
 pub says_quiet : (c : CollectorState) (flown : ℕ → Option Bits) (unit : Unit) (d : CollectorState) (flying : ℕ → Option Bits) → unit ≡ quiet_unit → GoesOn c flown [] d flying → UnitSays c flown unit d flying
 says_quiet c flown unit d flying is g = subst (λ (u : Unit). UnitSays c flown u d flying) (sym is) (says_goes c flown quiet_unit d flying refl refl refl g)
 
-pub says_grouping : (c : CollectorState) (flown : ℕ → Option Bits) (e : CollectorState) (f : ℕ → Option Bits) (unit : Unit) (d : CollectorState) → IsStill c flown e f → IsSound e f → IsBlackDone e f → IsGroupingUnit e unit d → UnitSays c flown unit d f
-says_grouping c flown e f unit d still s black g = says_goes c flown unit d f g.handed g.finished g.due (still_goes c flown e f _ d f still (g.goes f s black))
+pub says_grouping : (c : CollectorState) (flown : ℕ → Option Bits) (e : CollectorState) (f : ℕ → Option Bits) (unit : Unit) (d : CollectorState) → IsStill c flown e f → IsSound e f → IsBlackDone c flown → IsGroupingUnit e unit d → UnitSays c flown unit d f
+says_grouping c flown e f unit d still s black g = says_goes c flown unit d f g.handed g.finished g.due (still_goes c flown e f _ d f still (g.goes f s (still_black_done c flown e f still black)))
 
 -- the collector stands for what it stood for
 moved : (c : CollectorState) (flown : ℕ → Option Bits) (d : CollectorState) (flying : ℕ → Option Bits) → IsStill c flown d flying → (w : World) → Represents c flown w → Represents d flying w
 moved c flown d flying a w s = subst (λ (x : CollectorState). Represents x flying w) (sym a.same) (a.worlds w s)
 
--- an arena is due
-pub says_due : (c : CollectorState) (flown : ℕ → Option Bits) (unit : Unit) (d : CollectorState) (flying : ℕ → Option Bits) (a : ℕ) → unit ≡ due_unit a → IsSome c.run → IsStill c flown d flying → IsLowestOut d.heap.shape a → UnitSays c flown unit d flying
-says_due c flown unit d flying a is running still lowest = subst (λ (u : Unit). UnitSays c flown u d flying) (sym is) (record {
-  done = (lowest, moved c flown d flying still);
-  jobs = subst (λ (x : CollectorState). KeepsFreedWords c.heap.shape x.heap.shape) (sym still.same) (λ b freed word. word);
-  due = λ some. refl;
-  finished = no_run false d.run refl (subst (λ (x : CollectorState). IsSome x.run) (sym still.same) running);
-  left = (let same = still_left c flown d flying still in omega (arith, same));
-  made = ap (λ (x : CollectorState). x.heap.made) still.same;
-  entries = (let same = ap (λ (x : CollectorState). length x.heap.shape.weak.entries) still.same in omega (arith, same));
-})
-
--- where all is done for the current group and no arena is out, the group is ready to end
-pub ready : (c : CollectorState) (first second : ℕ → Option Bits) → IsSound c second → IsFormed c → IsBlackDone c first → heap_with c second ≡ heap_with c first → HasBegun c → IsGroupDone c second → ((a : ℕ) → out_of c.heap.shape a ≡ None) → HasGroups c → (g : ZoneSet) × (rest : List ZoneSet) × IsReady c g rest
-ready c first second s formed black colours begun gray kept groups = go c.groups refl
+-- where the first four steps have no work and no arena is out, the group is ready to end
+pub ready : (c : CollectorState) (flown : ℕ → Option Bits) → IsSound c flown → IsResting c flown → ((a : ℕ) → out_of c.heap.shape a ≡ None) → HasGroups c → (g : ZoneSet) × (rest : List ZoneSet) × IsReady c g rest
+ready c flown s rests kept groups = go c.groups refl
   where
-    own : heap_with c second ≡ c.heap
-    own = own_heap c second s.world s.represents kept
-
-    own_first : heap_with c first ≡ c.heap
-    own_first = sym colours ∙ own
+    own : heap_with c flown ≡ c.heap
+    own = own_heap c flown s.world s.represents kept
 
     go : (gs : List ZoneSet) → c.groups ≡ gs → (g : ZoneSet) × (rest : List ZoneSet) × IsReady c g rest
-    go [] e = absurd (groups.more formed kept e)
+    go [] e = absurd (groups.more rests.formed kept e)
     go (g ∷ rest) e =
         let at : slice_get c.groups 0 ≡ Some g = ap (λ (xs : List ZoneSet). slice_get xs 0) e in
-        let done = gray g at in (
+        let done = rests.group g at in (
           g,
           rest,
           record {
-            run = formed.0;
-            running = formed.1;
-            formed = formed.2;
+            run = rests.formed.0;
+            running = rests.formed.1;
+            formed = rests.formed.2;
             groups_are = e;
             small = groups.small g at;
             kept = kept;
             marked = record {
-              begun = λ z h. (begun g at z).0 h;
-              black_empty = black.pile;
-              black_fixed = λ m k v has bm bk mv. subst (λ h. IsBlack h v) own_first (black.fixed m k v has (subst (λ h. IsBlack h m) (sym own_first) bm) (subst (λ h. IsBlack h k) (sym own_first) bk) mv);
+              begun = λ z h. (rests.begun g at z).0 h;
+              black_empty = rests.black.pile;
+              black_fixed = λ m k v has bm bk mv. subst (λ h. IsBlack h v) own (rests.black.fixed m k v has (subst (λ h. IsBlack h m) (sym own) bm) (subst (λ h. IsBlack h k) (sym own) bk) mv);
               gray_empty = done.idle.pile;
               none_buffered = done.idle.buffers;
               none_incoming = done.idle.incoming;
@@ -128,39 +108,42 @@ more_of s groups (Some run) r e formed m none empty = m empty none (ap (λ (x : 
 pub still_on : (c : CollectorState) (flown : ℕ → Option Bits) (d : CollectorState) (flying : ℕ → Option Bits) (e : CollectorState) → IsStill c flown d flying → e ≡ d → IsStill c flown e flying
 still_on c flown d flying e a same = subst (λ (x : CollectorState). IsStill c flown x flying) (sym same) a
 
+-- one arena is the lowest that is out
+pub one_lowest : (s : Shape) (a b : ℕ) → IsLowestOut s a → IsLowestOut s b → a ≡ b
+one_lowest s a b one other = elim (cases_lt a b) [
+  | inl lt ↦ not_due (a ≡ b) (out_of s a) (other.lowest a lt) one.out
+  | inr ge ↦ elim (cases_eq a b) [
+    | inl is ↦ is
+    | inr ne ↦ not_due (a ≡ b) (out_of s b) (one.lowest b (omega (arith, ge, ne))) other.out
+  ]
+]
+
 -- after four steps that found nothing to do
 module _ (c0 : CollectorState) (f0 : ℕ → Option Bits) (c1 : CollectorState) (f1 : ℕ → Option Bits) (c2 c3 c4 : CollectorState) (f2 : ℕ → Option Bits) (black : IsStill c0 f0 c1 f1) (grouped : c2 ≡ c1) (began : c3 ≡ c2) (gray : IsStill c3 f1 c4 f2) where
   pub all_still : IsStill c0 f0 c4 f2
   all_still = both_still c0 f0 c3 f1 c4 f2 (still_on c0 f0 c2 f1 c3 (still_on c0 f0 c1 f1 c2 black grouped) began) gray
 
-  pub group_ready : IsSound c0 f0 → IsBlackDone c0 f1 → IsFormed c1 → HasBegun c2 → IsGroupDone c3 f2 → ((a : ℕ) → out_of c4.heap.shape a ≡ None) → HasGroups c4 → (g : ZoneSet) × (rest : List ZoneSet) × IsReady c4 g rest
-  group_ready s done formed begun ended kept groups =
-      let to_two : c2 ≡ c4 = sym (gray.same ∙ began) in
-      let to_one : c1 ≡ c4 = sym (gray.same ∙ began ∙ grouped) in
-      ready c4 f1 f2 (still_sound c0 f0 c4 f2 all_still s)
-      (subst (λ (x : CollectorState). IsFormed x) to_one formed)
-      (subst (λ (x : CollectorState). IsBlackDone x f1) (sym all_still.same) done)
-      (subst (λ (x : CollectorState). heap_with x f2 ≡ heap_with x f1) (sym gray.same) gray.colours)
-      (subst (λ (x : CollectorState). HasBegun x) to_two begun)
-      (subst (λ (x : CollectorState). IsGroupDone x f2) (sym gray.same) ended)
-      kept groups
-
-  -- and nothing is left for them
-  pub four_rest : IsBlackDone c0 f1 → IsFormed c1 → HasBegun c2 → IsGroupDone c3 f2 → IsResting c4 f2
+  -- nothing is left for them
+  pub four_rest : IsBlackDone c0 f0 → IsFormed c1 → HasBegun c2 → IsGroupDone c3 f1 → IsResting c4 f2
   four_rest done formed begun ended =
       let to_two : c2 ≡ c4 = sym (gray.same ∙ began) in
       let to_one : c1 ≡ c4 = sym (gray.same ∙ began ∙ grouped) in
-      let now : IsBlackDone c4 f1 = subst (λ (x : CollectorState). IsBlackDone x f1) (sym all_still.same) done in
-      let colours : heap_with c4 f2 ≡ heap_with c4 f1 = subst (λ (x : CollectorState). heap_with x f2 ≡ heap_with x f1) (sym gray.same) gray.colours in
       record {
-        black = record {
-          pile = now.pile;
-          fixed = subst (λ (h : HeapState). (m k v : Place) → HasEntry c4.heap.shape m k v → IsBlack h m → IsBlack h k → is_marking c4.heap.shape v ≡ true → IsBlack h v) (sym colours) now.fixed;
-        };
+        black = still_black_done c0 f0 c4 f2 all_still done;
         formed = subst (λ (x : CollectorState). IsFormed x) to_one formed;
         begun = subst (λ (x : CollectorState). HasBegun x) to_two begun;
-        group = subst (λ (x : CollectorState). IsGroupDone x f2) (sym gray.same) ended;
+        group = still_group_done c3 f1 c4 f2 gray ended;
       }
+
+  pub group_ready : IsSound c0 f0 → IsBlackDone c0 f0 → IsFormed c1 → HasBegun c2 → IsGroupDone c3 f1 → ((a : ℕ) → out_of c4.heap.shape a ≡ None) → HasGroups c4 → (g : ZoneSet) × (rest : List ZoneSet) × IsReady c4 g rest
+  group_ready s done formed begun ended kept groups = ready c4 f2 (still_sound c0 f0 c4 f2 all_still s) (four_rest done formed begun ended) kept groups
+
+  -- the same arena is the lowest that is out
+  pub same_due : (a b : ℕ) → IsLowestOut c0.heap.shape a → IsLowestOut c4.heap.shape b → b ≡ a
+  same_due a b first second = one_lowest c0.heap.shape b a (subst (λ (x : CollectorState). IsLowestOut x.heap.shape b) all_still.same second) first
+
+  pub none_out : (a : ℕ) → IsLowestOut c0.heap.shape a → ((b : ℕ) → out_of c4.heap.shape b ≡ None) → ⊥
+  none_out a first none = not_due ⊥ (out_of c0.heap.shape a) (subst (λ (x : CollectorState). out_of x.heap.shape a ≡ None) all_still.same (none a)) first.out
 
 -- the end of a group
 module _ (c : CollectorState) (flown : ℕ → Option Bits) (e : CollectorState) (f : ℕ → Option Bits) (still : IsStill c flown e f) (s : IsSound e f) (d : CollectorState) where
@@ -187,3 +170,7 @@ module _ (c : CollectorState) (flown : ℕ → Option Bits) (e : CollectorState)
   pub ended_run : {E : Type 0} (r : Result Unit E) → OnErr r (d ≡ e) → OnErr r (d.run ≡ c.run)
   ended_run (Ok unit) err = tt
   ended_run (Err why) err = ap (λ (x : CollectorState). x.run) (err ∙ still.same)
+
+  pub ended_where : {E : Type 0} (P : CollectorState → Type 0) (r : Result Unit E) → OnErr r (d ≡ e) → P e → OnErr r (P d)
+  ended_where P (Ok unit) err p = tt
+  ended_where P (Err why) err p = subst P (sym err) p

@@ -127,6 +127,8 @@ module _ (c : CollectorState) (flown : ℕ → Option Bits) (d : CollectorState)
     present = t.present;
     edges_then = t.edges_then;
     entries_then = t.entries_then;
+    grown = t.grown;
+    formed = t.formed;
   }
 
   across_back : (r : RunState) (p x : Place) → LeadsAcross d.heap.shape r p x → LeadsAcross c.heap.shape r p x

@@ -1,4 +1,4 @@
--- How many arenas and entries a command leaves, and a collector that has more room.
+-- How many arenas and entries a command leaves, and invariants with more room.
 use Rattle.std.proofs.Common.{◌≡◌, ◌<◌, ◌≤◌, ◌+◌, ◌-◌, ◌==◌, ℕ, Bool, true, false, List, [], ◌∷◌, length, All, set, get_or, position, Option, Some, None, IsSomeAnd, is_some, slice_get, if◌then◌else◌, refl, sym, ap, subst, ◌∙◌, arith}
 use Rattle.std.specs.List.{swap_remove}
 use Rattle.std.specs.Option.{option_map_or}
@@ -17,7 +17,6 @@ use Rattle.wrappers.specs.WrapperMaps.{place_of}
 use Rattle.weak_maps.specs.WeakMaps.{EntryState, WeakMapsState, del, is_entry, put_at, value_at}
 use Rattle.weak_maps.proofs.Table.{length-put_at}
 use Rattle.colour_defs.specs.Step.{is_same_comp}
-use Rattle.colour_defs.specs.World.{World}
 use Rattle.heap_core.specs.Shape.{Shape, comp_at}
 use Rattle.heap_core.specs.Heap.{HeapState, reg_of}
 use Rattle.heap_core.specs.Changes.{Makes, next_place}
@@ -26,12 +25,12 @@ use Rattle.heap_core.specs.Lookups.{number_at, seen_from, target_at, value_to_se
 use Rattle.heap_core.specs.Changes.{Writes, with_entry}
 use Rattle.heap_core.specs.Peeks.{made_in, wrapped_in}
 use Rattle.heap_core.proofs.Seen.{same_comp-is}
-use Rattle.slice_driver.specs.Collector.{CollectorState, heap_with}
-use Rattle.slice_driver.specs.Represents.{IsIdle, Represents, RunsAs}
-use Rattle.slice_driver.specs.Rooms.{Widens, arenas_after}
+use Rattle.mark_stack.specs.Stack.{Piles}
+use Rattle.gray_lists.specs.Incoming.{Incoming}
+use Rattle.barriers.specs.Invariant.{MarkingInvariant}
+use Rattle.barriers.specs.PendingLive.{GrayInvariant}
+use Rattle.slice_driver.specs.Rooms.{arenas_after}
 use Rattle.slice_driver.specs.Steps.{HomesAreMade}
-use Rattle.slice_driver.proofs.Answering.{gray_room, marks_room}
-use Rattle.slice_driver.proofs.Begun.{none_runs}
 
 pub homes_made : (s : Shape) → All (λ z. z < length s.states) s.comps → HomesAreMade s
 homes_made s all comp z at = subst (λ n. n < length s.states) (get_or_from_slice_get s.comps comp z z at) (All-get_or (λ n. n < length s.states) s.comps comp z (slice_get_within s.comps comp z at) all)
@@ -189,30 +188,37 @@ module _ (old new : HeapState) where
     few_arenas (cmd.Del m k) p = arenas_del m k p
     few_arenas (cmd.Find r m k) e = as_many (ap (λ (h : HeapState). h.colours) e) None
 
--- the collector with the room of another one
-abbrev widened : CollectorState → CollectorState → CollectorState
-widened c d = record c { stack = record c.stack { room = d.stack.room }; lists = record c.lists { room = d.lists.room } }
-
--- with more room a collector that is idle stands for the same worlds
-pub represents_widened : (c d : CollectorState) (flown : ℕ → Option Bits) (w : World) → Widens c d → c.run ≡ None → Represents c flown w → Represents d flown w
-represents_widened c d flown w wide run rep = subst (λ e. Represents e flown w) (sym wide.rest) (record {
-  lies = rep.lies;
-  unswept_apart = rep.unswept_apart;
-  flies = rep.flies;
-  marks = marks_room (heap_with c flown) c.stack (widened c d).stack refl wide.stack rep.marks;
-  gray = gray_room (heap_with c flown) c.stack (widened c d).stack c.lists (widened c d).lists refl refl wide.lists rep.gray;
-  waits = record { gray = rep.waits.gray; buffered = rep.waits.buffered; incoming = rep.waits.incoming };
-  black = rep.black;
-  runs = subst (λ r. RunsAs (heap_with c flown) (widened c d) w r w.collection) (sym run) (subst (λ k. RunsAs (heap_with c flown) (widened c d) w None k) (sym none) (record {
-    states = idle.states;
-    kept = idle.kept;
-    black = idle.black;
-    gray = idle.gray;
-  }));
+-- more room
+pub marks_room : (h : HeapState) (p q : Piles) → q ≡ record p { room = q.room } → p.room ≤ q.room → MarkingInvariant h p → MarkingInvariant h q
+marks_room h p q e more inv = subst (λ (z : Piles). MarkingInvariant h z) (sym e) (record {
+  holds = record {
+    colours = inv.holds.colours;
+    piles = record {
+      black = inv.holds.piles.black;
+      wake = inv.holds.piles.wake;
+      gray = inv.holds.piles.gray;
+      room = record {
+        black = inv.holds.piles.room.black;
+        wake = inv.holds.piles.room.wake;
+        gray = inv.holds.piles.room.gray;
+        room = (let was = inv.holds.piles.room.room in omega (arith, was, more));
+      };
+    };
+    closed = inv.holds.closed;
+    weak_closed = inv.holds.weak_closed;
+  };
+  none_woken = inv.none_woken;
 })
-  where
-    none : w.collection ≡ None
-    none = none_runs c flown w run rep
 
-    idle : IsIdle c
-    idle = subst (λ k. RunsAs (heap_with c flown) c w None k) none (subst (λ r. RunsAs (heap_with c flown) c w r w.collection) run rep.runs)
+pub gray_room : (h : HeapState) (p q : Piles) (lists more : Incoming) → q ≡ record p { room = q.room } → more ≡ record lists { room = more.room } → lists.room ≤ more.room → GrayInvariant h p lists → GrayInvariant h q more
+gray_room h p q lists more e f le g = subst (λ (z : Piles). GrayInvariant h z more) (sym e) (subst (λ (z : Incoming). GrayInvariant h (record p { room = q.room }) z) (sym f) (record {
+  buffered_seen = g.buffered_seen;
+  buffered_present = g.buffered_present;
+  incoming_seen = g.incoming_seen;
+  closed = g.closed;
+  once = g.once;
+  apart = g.apart;
+  lists_apart = g.lists_apart;
+  few = g.few;
+  room = (let was = g.room in omega (arith, was, le));
+}))

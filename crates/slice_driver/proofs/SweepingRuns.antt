@@ -206,6 +206,8 @@ module _ (c : CollectorState) (flown : ℕ → Option Bits) (w : World) (k : Col
         present = b.present;
         edges_then = b.edges_then;
         entries_then = b.entries_then;
+        grown = b.grown;
+        formed = b.formed;
       }
 
   tied_after : AreTied (heap_with c flown) c.stack c.lists w k → AreTied (heap_with d flying) d.stack d.lists after (swept_collection k)

@@ -17,7 +17,7 @@ use Rattle.slice_driver.specs.Left.{grouping_left, steps_left, steps_of}
 use Rattle.slice_driver.specs.Quiet.{BeginsZone, IsFormed}
 use Rattle.slice_driver.specs.Represents.{IsCurrent, IsInGroups, Runs}
 use Rattle.slice_driver.specs.Units.{IsSound}
-use Rattle.slice_driver.specs.Working.{GoesOn}
+use Rattle.slice_driver.specs.Working.{GoesOn, HasBegun}
 use Rattle.slice_driver.proofs.Fewer.{arenas_same, fewer_steps, grouped}
 use Rattle.slice_driver.proofs.GroupEndReady.{collection_of, runs_of}
 use Rattle.slice_driver.proofs.GroupingLaws.{zone_unit}
@@ -150,6 +150,10 @@ all_begun c flown s formed g at none z = (on, back)
           absurd (let no = runs.1.states.outside z not_run in cc (e, no))
           )
     ]
+
+-- a zone of the current group that waits to begin has not begun
+pub not_begun : (c : CollectorState) (g : ZoneSet) (z : ℕ) → slice_get c.groups 0 ≡ Some g → HasZone g.bits z → slice_get c.heap.shape.states z ≡ Some state.MarkBlackOnly → HasBegun c → ⊥
+not_begun c g z at h found begun = (let both = (begun g at z).0 h in let only : state_in c.heap.shape z ≡ state.MarkBlackOnly = ap state_or found in cc (both, only))
 
 -- the zones of two words, by taking away twice
 pub in_both : (g w a b : ℕ) → ((z : ℕ) → HasZone a z ↔ (HasZone g z × (HasZone w z → ⊥))) → ((z : ℕ) → HasZone b z ↔ (HasZone g z × (HasZone a z → ⊥))) → (z : ℕ) → HasZone b z ↔ (HasZone g z × HasZone w z)

@@ -18,3 +18,4 @@ pub mod Rooms
 pub mod Grays
 pub mod HandingOut
 pub mod Working
+pub mod Serves

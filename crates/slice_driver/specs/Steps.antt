@@ -1,48 +1,78 @@
 -- What the call of a command does, step by step.
 use Rattle.std.specs.Prelude.{◌≡◌, ◌<◌, ◌≤◌, ◌*◌, ℕ, length, Option, Some, None, Result, Err, OnOk, OnErr, slice_get}
+use Rattle.std.specs.Option.{option_map}
 use Rattle.gz_names.specs.declared.numbers.Place.{Place}
 use Rattle.gz_names.specs.declared.commands.GraphCmd.{GraphCmd}
+use Rattle.gz_names.specs.declared.commands.GraphCmd.TheVariants as cmd
 use Rattle.gz_names.specs.declared.replies.Reply.{Reply}
 use Rattle.gz_names.specs.declared.replies.CmdFault.{CmdFault}
 use Rattle.gz_names.specs.declared.replies.CmdFault.TheVariants as fault
 use Rattle.cell_bits.specs.declared.bits.Bits.{Bits}
-use Rattle.mark_stack.specs.Stack.{Piles}
+use Rattle.wrappers.specs.WrapperMaps.{AreApart}
 use Rattle.heap_core.specs.Shape.{Shape}
-use Rattle.heap_core.specs.Heap.{HeapState, joined}
+use Rattle.heap_core.specs.Heap.{HeapState, joined, reg_of}
 use Rattle.heap_core.specs.Answers.{DoesStep}
 use Rattle.heap_core.specs.Effects.{Changes}
+use Rattle.heap_core.specs.Lookups.{target_at}
 use Rattle.heap_core.specs.Peeks.{IsHanded, IsOld}
 use Rattle.barriers.specs.Spreading.{Covers}
 use Rattle.slice_driver.specs.Collector.{CollectorState}
 use Rattle.slice_driver.specs.Commands.{Exposed}
+use Rattle.slice_driver.specs.Rooms.{Widens}
 
 -- the zone of each compartment is made
 abbrev pub HomesAreMade : Shape → Type 0
 HomesAreMade s = (comp z : ℕ) → slice_get s.comps comp ≡ Some z → z < length s.states
 
--- room was made on the stack and the lists; what the command overwrites or removes was exposed, then what it hands out; and the heap did the command. Where memory is wanted, nothing was handed out
+-- what a `wrap` is about: the target of a register's wrapper, or the register's cell itself
+abbrev pub wrapped_target : HeapState → GraphCmd → Option Place
+wrapped_target h cmd.Zone = None
+wrapped_target h (cmd.Comp z) = None
+wrapped_target h (cmd.New r c n) = None
+wrapped_target h (cmd.Map r c) = None
+wrapped_target h (cmd.Get r s f) = None
+wrapped_target h (cmd.Set s f t) = None
+wrapped_target h (cmd.Wrap r s c) = option_map (target_at h.shape) (reg_of h s)
+wrapped_target h (cmd.Unwrap r s) = None
+wrapped_target h (cmd.Copy r s) = None
+wrapped_target h (cmd.Drop r) = None
+wrapped_target h (cmd.Hold g r) = None
+wrapped_target h (cmd.Release g) = None
+wrapped_target h (cmd.Expose r g) = None
+wrapped_target h (cmd.Put m k v) = None
+wrapped_target h (cmd.Del m k) = None
+wrapped_target h (cmd.Find r m k) = None
+
+-- a cell went through a barrier, if there was one to expose, and the flight covers what it covered
+pub record GoesThrough (o : Option Place) (c : CollectorState) (flown : ℕ → Option Bits) (d : CollectorState) (flying : ℕ → Option Bits) : Type 0 where
+  pub exposed : Exposed o (joined c.heap flown) c.stack (joined d.heap flying) d.stack
+  pub rest : d ≡ record c { heap = d.heap; stack = d.stack }
+  pub covers : Covers d.heap.shape flying
+
+-- room was made on the stack and the lists; what the command overwrites or removes was exposed, then what a `wrap` is about, then what the command hands out; and the heap did the command. Where memory is wanted, nothing was handed out
 pub record CommandSteps (c : CollectorState) (flown : ℕ → Option Bits) (command : GraphCmd) (result : Result Reply CmdFault) (d : CollectorState) (flying : ℕ → Option Bits) : Type 0 where
-  pub stack : Piles
-  pub stack_is : stack ≡ record c.stack { room = stack.room }
-  pub stack_room : c.stack.room ≤ stack.room
-  pub lists_is : d.lists ≡ record c.lists { room = d.lists.room }
-  pub lists_room : c.lists.room ≤ d.lists.room
+  pub wide : CollectorState
+  pub widens : Widens c wide
   pub old : Option Place
-  pub first : HeapState
+  pub old_is : IsOld wide.heap command old
+  pub first : CollectorState
   pub first_flown : ℕ → Option Bits
-  pub first_stack : Piles
-  pub old_is : IsOld c.heap command old
-  pub old_exposed : Exposed old (joined c.heap flown) stack (joined first first_flown) first_stack
+  pub old_through : GoesThrough old wide flown first first_flown
+  pub target : Option Place
+  pub target_is : target ≡ wrapped_target first.heap command
+  pub second : CollectorState
+  pub second_flown : ℕ → Option Bits
+  pub target_through : GoesThrough target first first_flown second second_flown
   pub handed : Option Place
-  pub second : HeapState
-  pub handed_is : IsHanded first command handed
-  pub handed_exposed : Exposed handed (joined first first_flown) first_stack (joined second flying) d.stack
-  pub covers : Covers second.shape flying
-  pub step : DoesStep second command result d.heap
-  pub change : OnOk result (Changes second command d.heap)
-  pub err : OnErr result (d.heap ≡ second)
+  pub handed_is : IsHanded second.heap command handed
+  pub third : CollectorState
+  pub handed_through : GoesThrough handed second second_flown third flying
+  pub rest : d ≡ record third { heap = d.heap }
+  pub step : DoesStep third.heap command result d.heap
+  pub change : OnOk result (Changes third.heap command d.heap)
+  pub err : OnErr result (d.heap ≡ third.heap)
   pub sure : (p : Place) → handed ≡ Some p → result ≡ Err fault.NoMemory → ⊥
   pub homes : HomesAreMade c.heap.shape
+  pub apart : AreApart c.heap.shape.wrappers.lists
   pub room : 64 * length d.heap.colours ≤ d.stack.room
   pub more_room : 64 * length d.heap.colours ≤ d.lists.room
-  pub idle : d.run ≡ None

@@ -35,9 +35,9 @@ pub record IsStill (c : CollectorState) (flown : ℕ → Option Bits) (d : Colle
   pub colours : heap_with c flying ≡ heap_with c flown
   pub worlds : (w : World) → Represents c flown w → Represents c flying w
 
--- a step did a unit that reports nothing, or it found nothing to do
+-- a step had work and did a unit that reports nothing, or it found nothing to do
 abbrev pub DidOrStill : Bool → Type 0 → CollectorState → (ℕ → Option Bits) → CollectorState → (ℕ → Option Bits) → Type 0
-DidOrStill true found c flown d flying = GoesOn c flown [] d flying
+DidOrStill true found c flown d flying = GoesOn c flown [] d flying × (found → ⊥)
 DidOrStill false found c flown d flying = IsStill c flown d flying × found
 
 -- the weak rule adds no black cell in a marking zone
@@ -67,8 +67,9 @@ pub record IsGrayDone (c : CollectorState) (flown : ℕ → Option Bits) (g : Zo
   pub idle : IsGrayIdle c.heap c.stack c.lists g.bits
   pub fixed : IsGrayFixed c flown g
 
--- a unit of the grouping goes on with the collection
+-- a unit of the grouping goes on with the collection, whose groups are not formed
 pub record IsGroupingUnit (c : CollectorState) (unit : Unit) (d : CollectorState) : Type 0 where
+  pub unformed : IsFormed c → ⊥
   pub handed : unit.handed ≡ None
   pub finished : unit.finished ≡ false
   pub due : unit.due ≡ None
@@ -83,9 +84,9 @@ GroupsOrFormed (Some unit) c d = IsGroupingUnit c unit d
 abbrev pub HasBegun : CollectorState → Type 0
 HasBegun c = (g : ZoneSet) → slice_get c.groups 0 ≡ Some g → AreGraying c.heap.shape g.bits
 
--- a zone of the current group began, or all have
+-- a zone of the current group began, which had not, or all have
 abbrev pub BeginsOrBegun : Bool → CollectorState → CollectorState → Type 0
-BeginsOrBegun true c d = (flown : ℕ → Option Bits) → IsSound c flown → GoesOn c flown [] d flown
+BeginsOrBegun true c d = ((flown : ℕ → Option Bits) → IsSound c flown → GoesOn c flown [] d flown) × (HasBegun c → ⊥)
 BeginsOrBegun false c d = HasBegun c × (d ≡ c)
 
 -- the gray marking of the current group has nothing left to do
@@ -103,3 +104,7 @@ pub record IsResting (c : CollectorState) (flown : ℕ → Option Bits) : Type 0
   pub formed : IsFormed c
   pub begun : HasBegun c
   pub group : IsGroupDone c flown
+
+-- the first five steps have no work: those rest, and no arena is out
+abbrev pub IsAtGroupEnd : CollectorState → (ℕ → Option Bits) → Type 0
+IsAtGroupEnd c flown = IsResting c flown × ((a : ℕ) → out_of c.heap.shape a ≡ None)

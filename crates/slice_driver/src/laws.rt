@@ -176,10 +176,9 @@ pub fn begins_worlds_law()
 {}
 
 /// What the call of a command does step by step is the command in each world that the collector
-/// stood for, where no collection runs.
+/// stood for.
 pub fn command_law()
     ensures { (c d : CollectorState) (flown flying : ℕ → Option Bits) (cmd : GraphCmd)
         (result : Result Reply CmdFault)
-        → CommandSteps c flown cmd result d flying → c.run ≡ None
-        → DoesCommand c flown cmd result d flying }
+        → CommandSteps c flown cmd result d flying → DoesCommand c flown cmd result d flying }
 {}

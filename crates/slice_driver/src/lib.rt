@@ -21,9 +21,14 @@
 // laws.rt for commands and beginnings, in end_laws.rt for units. A unit is lawful in each world that
 // the collector stood for, and the collector stands for the world after it (`DoesUnit`).
 //
-// `command` does a command where no collection runs: it makes room, exposes what is overwritten and what
-// is handed out, and lets the heap do the command. `gray_names` lists what is gray where no zone is
-// marking. `begin` begins a collection: mark bits are cleared, gray roots buffered, black roots marked.
+// `command` does a command, also between two units of a collection: it makes room, exposes what is
+// overwritten, what a `wrap` is about and what is handed out, and lets the heap do the command. Each
+// barrier but that of a woken cell is on a cell that black marking would reach anyway, so it leaves
+// the world as it is; a woken cell joins the starts of both closures. A wrapper that is made is born
+// black. Were its target not exposed first, a black cell that no pile names would lead to a white one.
+//
+// `gray_names` lists what is gray where no zone is marking. `begin` begins a collection: mark bits are
+// cleared, gray roots buffered, black roots marked.
 //
 // A collection goes on unit by unit. `unit` does the first of six steps that has work, each by the laws
 // of its step:

@@ -31,7 +31,7 @@ impl Collector {
     fn adds_black<F: Flight, L: Ledger>(&mut self, flight: &mut F, steps: &mut Steps<L>) -> bool
         requires sound { IsSound self.old (F.bits flight.old) }
         requires running { IsSome self.old.run }
-        ensures done { DidOrStill result (IsBlackFixed self.old (F.bits flight.new)) self.old
+        ensures done { DidOrStill result (IsBlackFixed self.old (F.bits flight.old)) self.old
             (F.bits flight.old) self.new (F.bits flight.new) }
         ensures origin { F.origin flight.new ≡ F.origin flight.old }
     {
@@ -57,7 +57,7 @@ impl Collector {
     ) -> bool
         requires sound { IsSound self.old (F.bits flight.old) }
         requires running { IsSome self.old.run }
-        ensures done { DidOrStill result (IsBlackDone self.old (F.bits flight.new)) self.old
+        ensures done { DidOrStill result (IsBlackDone self.old (F.bits flight.old)) self.old
             (F.bits flight.old) self.new (F.bits flight.new) }
         ensures origin { F.origin flight.new ≡ F.origin flight.old }
     {
@@ -103,7 +103,7 @@ impl Collector {
         requires sound { IsSound self.old (F.bits flight.old) }
         requires running { IsSome self.old.run }
         requires begun { AreGraying self.old.heap.shape group.bits }
-        ensures done { DidOrStill result (IsGrayFixed self.old (F.bits flight.new) group) self.old
+        ensures done { DidOrStill result (IsGrayFixed self.old (F.bits flight.old) group) self.old
             (F.bits flight.old) self.new (F.bits flight.new) }
         ensures origin { F.origin flight.new ≡ F.origin flight.old }
     {
@@ -130,7 +130,7 @@ impl Collector {
         requires sound { IsSound self.old (F.bits flight.old) }
         requires running { IsSome self.old.run }
         requires begun { AreGraying self.old.heap.shape group.bits }
-        ensures done { DidOrStill result (IsGrayDone self.old (F.bits flight.new) group) self.old
+        ensures done { DidOrStill result (IsGrayDone self.old (F.bits flight.old) group) self.old
             (F.bits flight.old) self.new (F.bits flight.new) }
         ensures origin { F.origin flight.new ≡ F.origin flight.old }
     {
@@ -150,7 +150,7 @@ impl Collector {
         requires sound { IsSound self.old (F.bits flight.old) }
         requires running { IsSome self.old.run }
         requires begun { HasBegun self.old }
-        ensures done { DidOrStill result (IsGroupDone self.old (F.bits flight.new)) self.old
+        ensures done { DidOrStill result (IsGroupDone self.old (F.bits flight.old)) self.old
             (F.bits flight.old) self.new (F.bits flight.new) }
         ensures origin { F.origin flight.new ≡ F.origin flight.old }
     {

@@ -1,12 +1,12 @@
 // One unit of a collection.
-ghost use Rattle.std.specs.Prelude.{◌≡◌, ◌↔◌, ◌<◌, ◌≤◌, ℕ, Option, None, Some, true, length, IsSome, IfOk, OnErr};
+ghost use Rattle.std.specs.Prelude.{◌≡◌, ◌↔◌, ◌<◌, ◌≤◌, ℕ, Option, None, Some, true, length, IsSome, IsOkAnd, IfOk, OnErr};
 ghost use Rattle.std.specs.Int.{bit_at};
 ghost use Rattle.cell_bits.specs.declared.bits.Bits.{Bits as ABits};
 ghost use Rattle.slice_driver.specs.Left.{Lowers, units_left};
 ghost use Rattle.slice_driver.specs.Quiet.{IsFormed};
 ghost use Rattle.slice_driver.specs.Represents.{Represents};
-ghost use Rattle.slice_driver.specs.Units.{HandsJobs, IsSound, UnitDone, flying_after};
-ghost use Rattle.slice_driver.specs.Working.{BeginsOrBegun, HasGroups, IsResting};
+ghost use Rattle.slice_driver.specs.Units.{HandsJobs, IsLowestOut, IsSound, UnitDone, flying_after};
+ghost use Rattle.slice_driver.specs.Working.{BeginsOrBegun, HasGroups, IsAtGroupEnd, IsResting};
 
 use crate::collector::{Collector, Unit};
 use cell_bits::Flight;
@@ -23,11 +23,12 @@ impl Collector {
     /// 2. `forms_groups`: before the groups are formed, a look at a wrapper, or a grouping step;
     /// 3. `begins_zone`: the beginning of a zone of the current group;
     /// 4. `marks_gray`: a piece of gray marking of the current group, or a weak entry for gray;
-    /// 5. `next_out`: an arena that is to be taken in, which is `due` and left to `take_one`; steps 1
-    ///    to 4 have no work then;
+    /// 5. `next_out`: an arena that is to be taken in, which is `due` and left to `take_one`: so it is
+    ///    exactly where steps 1 to 4 have no work and an arena is out;
     /// 6. `end_group`: the end of the current group.
     ///
-    /// Only the end of a group takes memory, all of it before anything changes.
+    /// Only the end of a group takes memory, all of it before anything changes: so memory is wanted
+    /// only where steps 1 to 5 have no work.
     pub fn unit<F: Flight, L: Ledger>(
         &mut self,
         alloc: Global,
@@ -43,6 +44,8 @@ impl Collector {
         ensures due { IfOk result (λ unit. IsSome unit.due → unit.handed ≡ None) }
         ensures resting { IfOk result (λ unit. IsSome unit.due
             → IsResting self.new (F.bits flight.new)) }
+        ensures due_where { IsResting self.old (F.bits flight.old) → (a : ℕ)
+            → IsLowestOut self.old.heap.shape a → IsOkAnd result (λ unit. unit.due ≡ Some a) }
         ensures finished { IfOk result (λ unit. (unit.finished ≡ true) ↔ (self.new.run ≡ None)) }
         ensures left { IfOk result (λ unit. Lowers unit.due
             (units_left self.old (F.bits flight.old))
@@ -50,6 +53,7 @@ impl Collector {
         ensures err { OnErr result ((w : _) → Represents self.old (F.bits flight.old) w
             → Represents self.new (F.bits flight.new) w) }
         ensures err_run { OnErr result (self.new.run ≡ self.old.run) }
+        ensures err_where { OnErr result (IsAtGroupEnd self.new (F.bits flight.new)) }
         ensures origin { F.origin flight.new ≡ F.origin flight.old }
         ensures made { self.new.heap.made ≡ self.old.heap.made }
         ensures entries { length self.new.heap.shape.weak.entries

@@ -3,7 +3,7 @@ use Rattle.cell_bits.specs.declared.bits.Bits.{Bits}
 use Rattle.slice_driver.specs.Collector.{CollectorState, run_of}
 use Rattle.slice_driver.specs.Units.{IsSound}
 use Rattle.slice_driver.specs.Working.{DidOrStill, IsBlackFixed}
-use Rattle.slice_driver.proofs.MarkingUnits.{black_added, black_fixed, still}
+use Rattle.slice_driver.proofs.MarkingUnits.{black_added, black_fixed, black_wanted, still}
 use Rattle.slice_driver.proofs.collector.Collector.adds_black.Goals as goal
 use Rattle.slice_driver.proofs.collector.Collector.adds_black.Goals.{in-Did, in-Empty}
 
@@ -17,11 +17,11 @@ returns-clause-done g c =
     let d : CollectorState = record v { heap = c.weak_unit.new.heap; stack = c.weak_unit.new.stack } in
     let sound : IsSound v flown = subst (λ (x : CollectorState). IsSound x flown) (sym is) c.requires.sound in
     let running : IsSome v.run = subst (λ (x : CollectorState). IsSome x.run) (sym is) c.requires.running in
-    let here : DidOrStill c.match-weak_unit.result (IsBlackFixed v flying) v flown d flying = elim c.match-weak_unit.branch [
-      | in-Did w ↦ subst (λ b. DidOrStill b (IsBlackFixed v flying) v flown d flying) (sym w.result-is) (black_added v flown flying d.heap d.stack c.marking-zones.result.bits sound running e.covers (w.in-Did.ensures.does refl))
+    let here : DidOrStill c.match-weak_unit.result (IsBlackFixed v flown) v flown d flying = elim c.match-weak_unit.branch [
+      | in-Did w ↦ subst (λ b. DidOrStill b (IsBlackFixed v flown) v flown d flying) (sym w.result-is) (black_added v flown flying d.heap d.stack c.marking-zones.result.bits sound running e.covers (w.in-Did.ensures.does refl), (let does = w.in-Did.ensures.does refl in black_wanted v flown c.marking-zones.result c.marking-zones.ensures does.value does.wanted))
       | in-Empty w ↦ (
           let same = w.in-Empty.ensures.same refl in
-          subst (λ b. DidOrStill b (IsBlackFixed v flying) v flown d flying) (sym w.result-is) (still v flown flying d.heap d.stack e.covers same.0 same.1 same.2, black_fixed v flown flying c.marking-zones.result c.marking-zones.ensures same.2 (w.in-Empty.ensures.fixed.0 refl))
+          subst (λ b. DidOrStill b (IsBlackFixed v flown) v flown d flying) (sym w.result-is) (still v flown flying d.heap d.stack e.covers same.0 same.1 same.2, black_fixed v flown c.marking-zones.result c.marking-zones.ensures (w.in-Empty.ensures.fixed.0 refl))
           )
     ] in
-    subst (λ (x : CollectorState). DidOrStill c.match-weak_unit.result (IsBlackFixed x flying) x flown d flying) is here
+    subst (λ (x : CollectorState). DidOrStill c.match-weak_unit.result (IsBlackFixed x flown) x flown d flying) is here

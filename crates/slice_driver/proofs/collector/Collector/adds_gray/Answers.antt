@@ -4,7 +4,7 @@ use Rattle.slice_driver.specs.Collector.{CollectorState, run_of}
 use Rattle.slice_driver.specs.Units.{IsSound}
 use Rattle.marker.specs.GrayBits.{AreGraying}
 use Rattle.slice_driver.specs.Working.{DidOrStill, IsGrayFixed}
-use Rattle.slice_driver.proofs.MarkingUnits.{gray_added, gray_fixed, still}
+use Rattle.slice_driver.proofs.MarkingUnits.{gray_added, gray_wanted, still}
 use Rattle.slice_driver.proofs.collector.Collector.adds_gray.Goals as goal
 use Rattle.slice_driver.proofs.collector.Collector.adds_gray.Goals.{in-Did, in-Empty}
 
@@ -19,11 +19,11 @@ returns-clause-done g c =
     let sound : IsSound v flown = subst (λ (x : CollectorState). IsSound x flown) (sym is) c.requires.sound in
     let running : IsSome v.run = subst (λ (x : CollectorState). IsSome x.run) (sym is) c.requires.running in
     let begun : AreGraying v.heap.shape c.args.group.bits = subst (λ (x : CollectorState). AreGraying x.heap.shape c.args.group.bits) (sym is) c.requires.begun in
-    let here : DidOrStill c.match-weak_unit.result (IsGrayFixed v flying c.args.group) v flown d flying = elim c.match-weak_unit.branch [
-      | in-Did w ↦ subst (λ b. DidOrStill b (IsGrayFixed v flying c.args.group) v flown d flying) (sym w.result-is) (gray_added v flown flying d.heap d.stack c.args.group.bits sound running begun e.covers (w.in-Did.ensures.does refl))
+    let here : DidOrStill c.match-weak_unit.result (IsGrayFixed v flown c.args.group) v flown d flying = elim c.match-weak_unit.branch [
+      | in-Did w ↦ subst (λ b. DidOrStill b (IsGrayFixed v flown c.args.group) v flown d flying) (sym w.result-is) (gray_added v flown flying d.heap d.stack c.args.group.bits sound running begun e.covers (w.in-Did.ensures.does refl), (let does = w.in-Did.ensures.does refl in gray_wanted v flown c.args.group does.value does.wanted))
       | in-Empty w ↦ (
           let same = w.in-Empty.ensures.same refl in
-          subst (λ b. DidOrStill b (IsGrayFixed v flying c.args.group) v flown d flying) (sym w.result-is) (still v flown flying d.heap d.stack e.covers same.0 same.1 same.2, gray_fixed v flown flying c.args.group same.2 (w.in-Empty.ensures.fixed.0 refl))
+          subst (λ b. DidOrStill b (IsGrayFixed v flown c.args.group) v flown d flying) (sym w.result-is) (still v flown flying d.heap d.stack e.covers same.0 same.1 same.2, w.in-Empty.ensures.fixed.0 refl)
           )
     ] in
-    subst (λ (x : CollectorState). DidOrStill c.match-weak_unit.result (IsGrayFixed x flying c.args.group) x flown d flying) is here
+    subst (λ (x : CollectorState). DidOrStill c.match-weak_unit.result (IsGrayFixed x flown c.args.group) x flown d flying) is here

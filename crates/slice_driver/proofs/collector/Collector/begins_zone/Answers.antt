@@ -6,7 +6,7 @@ use Rattle.slice_driver.specs.Quiet.{IsFormed}
 use Rattle.slice_driver.specs.Units.{IsSound}
 use Rattle.slice_driver.specs.Working.{GoesOn, HasBegun}
 use Rattle.slice_driver.proofs.Named.{some_one}
-use Rattle.slice_driver.proofs.ZoneSteps.{advanced_to, all_begun, current_is, in_both, zone_goes}
+use Rattle.slice_driver.proofs.ZoneSteps.{advanced_to, all_begun, current_is, in_both, not_begun, zone_goes}
 use Rattle.slice_driver.proofs.collector.Collector.begins_zone.Goals as goal
 
 pub returns-in_default-first : goal.returns-in_default-first
@@ -31,4 +31,7 @@ returns c =
     let both = (in_both c.in-Some.group.bits c.in_state-waiting.result.bits c.without.result.bits c.without-2.result.bits c.without.ensures c.without-2.ensures zone).0 c.in-Some-first.ensures.some in
     let found = (c.in_state-waiting.ensures zone).0 both.1 in
     let d : CollectorState = record v { heap = c.advance.new.self } in
-    λ f s. subst (λ (x : CollectorState). IsSound x f → GoesOn x f [] d f) is (zone_goes v zone formed (current_is v.groups c.in-Some.group zone at both.0) found c.advance.new.self (advanced_to v.heap zone c.advance.new.self found c.advance.ensures) f) s
+    let waits : HasBegun v → ⊥ = λ begun. not_begun v c.in-Some.group zone at both.0 found begun in (
+      λ f s. subst (λ (x : CollectorState). IsSound x f → GoesOn x f [] d f) is (zone_goes v zone formed (current_is v.groups c.in-Some.group zone at both.0) found c.advance.new.self (advanced_to v.heap zone c.advance.new.self found c.advance.ensures) f) s,
+      subst (λ (x : CollectorState). HasBegun x → ⊥) is waits,
+    )

@@ -18,7 +18,7 @@ returns-clause-done g c =
     let sound : IsSound v flown = subst (λ (x : CollectorState). IsSound x flown) (sym is) c.requires.sound in
     let running : IsSome v.run = subst (λ (x : CollectorState). IsSome x.run) (sym is) c.requires.running in
     let here : DidOrStill c.match-black_unit.result (v.stack.black ≡ []) v flown d flying = elim c.match-black_unit.branch [
-      | in-Did w ↦ subst (λ b. DidOrStill b (v.stack.black ≡ []) v flown d flying) (sym w.result-is) (black_followed v flown flying d.heap d.stack sound running e.covers e.invariant e.blackens e.gray e.pending_black e.pending_live (w.in-Did.ensures.work refl))
+      | in-Did w ↦ subst (λ b. DidOrStill b (v.stack.black ≡ []) v flown d flying) (sym w.result-is) (black_followed v flown flying d.heap d.stack sound running e.covers e.invariant e.blackens e.gray e.pending_black e.pending_live (w.in-Did.ensures.work refl), λ none. let empty = w.in-Did.ensures.empty.1 none in cc empty)
       | in-Empty w ↦ (
           let same = w.in-Empty.ensures.same refl in
           subst (λ b. DidOrStill b (v.stack.black ≡ []) v flown d flying) (sym w.result-is) (still v flown flying d.heap d.stack e.covers same.0 same.1 same.2, w.in-Empty.ensures.empty.0 refl)

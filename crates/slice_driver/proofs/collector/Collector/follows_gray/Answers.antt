@@ -18,7 +18,7 @@ returns g c =
     let sound : IsSound v flown = subst (λ (x : CollectorState). IsSound x flown) (sym is) c.requires.sound in
     let running : IsSome v.run = subst (λ (x : CollectorState). IsSome x.run) (sym is) c.requires.running in
     let here : DidOrStill c.match-gray_unit.result (IsGrayIdle v.heap v.stack v.lists c.args.group.bits) v flown d flown = elim c.match-gray_unit.branch [
-      | in-Did w ↦ subst (λ b. DidOrStill b (IsGrayIdle v.heap v.stack v.lists c.args.group.bits) v flown d flown) (sym w.result-is) (gray_followed v flown d.heap d.stack d.lists sound running (w.in-Did.ensures.does refl))
+      | in-Did w ↦ subst (λ b. DidOrStill b (IsGrayIdle v.heap v.stack v.lists c.args.group.bits) v flown d flown) (sym w.result-is) (gray_followed v flown d.heap d.stack d.lists sound running (w.in-Did.ensures.does refl), λ idle. let empty = w.in-Did.ensures.empty.1 idle in cc empty)
       | in-Empty w ↦ (
           let same = w.in-Empty.ensures.same refl in
           subst (λ b. DidOrStill b (IsGrayIdle v.heap v.stack v.lists c.args.group.bits) v flown d flown) (sym w.result-is) (still_gray v flown d.heap d.stack d.lists same.0 same.1 same.2, w.in-Empty.ensures.empty.0 refl)

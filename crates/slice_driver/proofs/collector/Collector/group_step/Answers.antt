@@ -4,10 +4,11 @@ use Rattle.cell_bits.specs.declared.bits.Bits.{Bits}
 use Rattle.gz_names.specs.declared.zone_sets.ZoneSet.{ZoneSet}
 use Rattle.zone_edges.specs.Looks.{AreAllLookedAt}
 use Rattle.slice_driver.specs.Collector.{CollectorState, run_of}
+use Rattle.slice_driver.specs.Quiet.{IsFormed}
 use Rattle.slice_driver.specs.Units.{IsSound, reports_of}
 use Rattle.slice_driver.specs.Working.{GoesOn, IsGrouping}
 use Rattle.slice_driver.specs.declared.collector.Unit.{Unit}
-use Rattle.slice_driver.proofs.GroupingSteps.{all_stepped, forms_goes, kept_waiting, some_wait, step_goes, steps_in, still_waiting, waiting_in, zones_noted}
+use Rattle.slice_driver.proofs.GroupingSteps.{all_stepped, forms_goes, kept_waiting, not_formed, some_wait, step_goes, steps_in, still_waiting, waiting_in, zones_noted}
 use Rattle.slice_driver.proofs.collector.Collector.group_step.Goals as goal
 
 pub invariant_of-self : goal.invariant_of-self
@@ -47,6 +48,7 @@ returns-in-Some-first c =
     let d : CollectorState = record v { edges = c.group_step.new.self } in
     let goes : (f : ℕ → Option Bits) → IsSound v f → GoesOn v f [] d f = λ f s. step_goes v c.in-Some.zone c.group_step.new.self grouping looked steps f s in
     record {
+      unformed = subst (λ (x : CollectorState). IsFormed x → ⊥) c.self.view_is (not_formed v grouping);
       handed = ap (λ (u : Unit). u.handed) quiet.ensures;
       finished = ap (λ (u : Unit). u.finished) quiet.ensures;
       due = ap (λ (u : Unit). u.due) quiet.ensures;
@@ -66,6 +68,7 @@ returns c =
     let goes : (f : ℕ → Option Bits) → IsSound v f → GoesOn v f (report.Groups groups ∷ []) (d groups) f = λ f s. forms_goes v c.in-Some.zone c.group_step.new.self grouping looked steps f s groups c.components-groups.ensures in
     let set : c.set.new.self ≡ groups = c.set.ensures ∙ c.copy_of.ensures in
     record {
+      unformed = subst (λ (x : CollectorState). IsFormed x → ⊥) c.self.view_is (not_formed v grouping);
       handed = ap (λ (u : Unit). u.handed) c.of.ensures;
       finished = ap (λ (u : Unit). u.finished) c.of.ensures;
       due = ap (λ (u : Unit). u.due) c.of.ensures;

@@ -1,7 +1,5 @@
-use Rattle.std.proofs.Common.{subst}
-use Rattle.slice_driver.specs.Collector.{CollectorState}
 use Rattle.slice_driver.specs.Working.{IsBlackDone, IsBlackFixed}
-use Rattle.slice_driver.proofs.MarkingUnits.{still_sound, then_marks}
+use Rattle.slice_driver.proofs.MarkingUnits.{still_black_fixed, still_sound, then_marks}
 use Rattle.slice_driver.proofs.collector.Collector.marks_black.Goals as goal
 
 pub adds_black-requires-clause-sound : goal.adds_black-requires-clause-sound
@@ -9,7 +7,14 @@ adds_black-requires-clause-sound g c = still_sound _ _ _ _ c.if-follows_black.en
 
 pub returns-clause-done : goal.returns-clause-done
 returns-clause-done g c =
-    let flying = g.F.Flight.bits c.adds_black.new.flight in
+    let old = c.args.self.now in
+    let flown = g.F.Flight.bits c.args.flight.now in
+    let d = c.follows_black.new.self in
+    let f1 = g.F.Flight.bits c.follows_black.new.flight in
     let first = c.if-follows_black.ensures.done in
-    then_marks c.adds_black.result (IsBlackFixed c.follows_black.new.self flying) (IsBlackDone c.args.self.now flying) c.args.self.now (g.F.Flight.bits c.args.flight.now) c.follows_black.new.self (g.F.Flight.bits c.follows_black.new.flight) c.adds_black.new.self flying first.0
-    (λ fixed. record { pile = first.1; fixed = subst (λ (x : CollectorState). IsBlackFixed x flying) first.0.same fixed }) c.adds_black.ensures.done
+    let same = still_black_fixed old flown d f1 first.0 in
+    then_marks c.adds_black.result (IsBlackFixed d f1) (IsBlackDone old flown) old flown d f1 c.adds_black.new.self (g.F.Flight.bits c.adds_black.new.flight) first.0
+    (λ fixed. record { pile = first.1; fixed = same.1 fixed }, λ done. same.0 done.fixed) c.adds_black.ensures.done
+
+pub returns-then-follows_black-clause-done : goal.returns-then-follows_black-clause-done
+returns-then-follows_black-clause-done g c = (c.if-follows_black.ensures.done.0, λ done. c.if-follows_black.ensures.done.1 done.pile)

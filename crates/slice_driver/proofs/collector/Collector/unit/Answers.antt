@@ -1,47 +1,49 @@
-use Rattle.std.proofs.Common.{[], sym, subst}
+use Rattle.std.proofs.Common.{ℕ, [], Some, sym, ap, subst, ◌∙◌}
 use Rattle.slice_driver.specs.Collector.{CollectorState}
-use Rattle.slice_driver.specs.Working.{IsBlackDone, IsResting}
-use Rattle.slice_driver.proofs.MarkingUnits.{still_goes, still_sound}
-use Rattle.slice_driver.proofs.OneUnit.{all_still, four_rest, none_due, not_due, ended_done, ended_err, ended_left, group_ready, says_grouping, says_quiet, still_on}
+use Rattle.slice_driver.specs.Quiet.{IsFormed}
+use Rattle.slice_driver.specs.Working.{HasBegun, IsAtGroupEnd, IsResting}
+use Rattle.slice_driver.specs.declared.collector.Unit.{Unit}
+use Rattle.slice_driver.proofs.MarkingUnits.{still_goes, still_group_done, still_sound}
+use Rattle.slice_driver.proofs.OneUnit.{all_still, four_rest, none_due, none_out, not_due, ended_done, ended_err, ended_left, ended_where, group_ready, same_due, says_grouping, says_quiet, still_on}
 use Rattle.slice_driver.proofs.collector.Collector.unit.Goals as goal
 
 pub returns-then-marks_black-clause-done : goal.returns-then-marks_black-clause-done
-returns-then-marks_black-clause-done g c = (says_quiet c.args.self.now (g.F.Flight.bits c.args.flight.now) c.quiet.result c.marks_black.new.self (g.F.Flight.bits c.marks_black.new.flight) c.quiet.ensures c.if-marks_black.ensures.done).done
+returns-then-marks_black-clause-done g c = (says_quiet c.args.self.now (g.F.Flight.bits c.args.flight.now) c.quiet.result c.marks_black.new.self (g.F.Flight.bits c.marks_black.new.flight) c.quiet.ensures c.if-marks_black.ensures.done.0).done
 
 pub returns-in-Some-clause-done : goal.returns-in-Some-clause-done
 returns-in-Some-clause-done g c =
     let still = c.if-marks_black.ensures.done.0 in
-    (says_grouping c.args.self.now (g.F.Flight.bits c.args.flight.now) c.marks_black.new.self (g.F.Flight.bits c.marks_black.new.flight) c.in-Some.unit c.forms_groups.new.self still (still_sound c.args.self.now (g.F.Flight.bits c.args.flight.now) c.marks_black.new.self (g.F.Flight.bits c.marks_black.new.flight) still c.requires.sound) (subst (λ (x : CollectorState). IsBlackDone x (g.F.Flight.bits c.marks_black.new.flight)) (sym still.same) c.if-marks_black.ensures.done.1) c.in-Some.ensures).done
+    (says_grouping c.args.self.now (g.F.Flight.bits c.args.flight.now) c.marks_black.new.self (g.F.Flight.bits c.marks_black.new.flight) c.in-Some.unit c.forms_groups.new.self still (still_sound c.args.self.now (g.F.Flight.bits c.args.flight.now) c.marks_black.new.self (g.F.Flight.bits c.marks_black.new.flight) still c.requires.sound) c.if-marks_black.ensures.done.1 c.in-Some.ensures).done
 
 pub returns-in-Some-clause-jobs : goal.returns-in-Some-clause-jobs
 returns-in-Some-clause-jobs g c =
     let still = c.if-marks_black.ensures.done.0 in
-    (says_grouping c.args.self.now (g.F.Flight.bits c.args.flight.now) c.marks_black.new.self (g.F.Flight.bits c.marks_black.new.flight) c.in-Some.unit c.forms_groups.new.self still (still_sound c.args.self.now (g.F.Flight.bits c.args.flight.now) c.marks_black.new.self (g.F.Flight.bits c.marks_black.new.flight) still c.requires.sound) (subst (λ (x : CollectorState). IsBlackDone x (g.F.Flight.bits c.marks_black.new.flight)) (sym still.same) c.if-marks_black.ensures.done.1) c.in-Some.ensures).jobs
+    (says_grouping c.args.self.now (g.F.Flight.bits c.args.flight.now) c.marks_black.new.self (g.F.Flight.bits c.marks_black.new.flight) c.in-Some.unit c.forms_groups.new.self still (still_sound c.args.self.now (g.F.Flight.bits c.args.flight.now) c.marks_black.new.self (g.F.Flight.bits c.marks_black.new.flight) still c.requires.sound) c.if-marks_black.ensures.done.1 c.in-Some.ensures).jobs
 
 pub returns-in-Some-clause-left : goal.returns-in-Some-clause-left
 returns-in-Some-clause-left g c =
     let still = c.if-marks_black.ensures.done.0 in
-    (says_grouping c.args.self.now (g.F.Flight.bits c.args.flight.now) c.marks_black.new.self (g.F.Flight.bits c.marks_black.new.flight) c.in-Some.unit c.forms_groups.new.self still (still_sound c.args.self.now (g.F.Flight.bits c.args.flight.now) c.marks_black.new.self (g.F.Flight.bits c.marks_black.new.flight) still c.requires.sound) (subst (λ (x : CollectorState). IsBlackDone x (g.F.Flight.bits c.marks_black.new.flight)) (sym still.same) c.if-marks_black.ensures.done.1) c.in-Some.ensures).left
+    (says_grouping c.args.self.now (g.F.Flight.bits c.args.flight.now) c.marks_black.new.self (g.F.Flight.bits c.marks_black.new.flight) c.in-Some.unit c.forms_groups.new.self still (still_sound c.args.self.now (g.F.Flight.bits c.args.flight.now) c.marks_black.new.self (g.F.Flight.bits c.marks_black.new.flight) still c.requires.sound) c.if-marks_black.ensures.done.1 c.in-Some.ensures).left
 
 pub returns-in-Some-clause-made : goal.returns-in-Some-clause-made
 returns-in-Some-clause-made g c =
     let still = c.if-marks_black.ensures.done.0 in
-    (says_grouping c.args.self.now (g.F.Flight.bits c.args.flight.now) c.marks_black.new.self (g.F.Flight.bits c.marks_black.new.flight) c.in-Some.unit c.forms_groups.new.self still (still_sound c.args.self.now (g.F.Flight.bits c.args.flight.now) c.marks_black.new.self (g.F.Flight.bits c.marks_black.new.flight) still c.requires.sound) (subst (λ (x : CollectorState). IsBlackDone x (g.F.Flight.bits c.marks_black.new.flight)) (sym still.same) c.if-marks_black.ensures.done.1) c.in-Some.ensures).made
+    (says_grouping c.args.self.now (g.F.Flight.bits c.args.flight.now) c.marks_black.new.self (g.F.Flight.bits c.marks_black.new.flight) c.in-Some.unit c.forms_groups.new.self still (still_sound c.args.self.now (g.F.Flight.bits c.args.flight.now) c.marks_black.new.self (g.F.Flight.bits c.marks_black.new.flight) still c.requires.sound) c.if-marks_black.ensures.done.1 c.in-Some.ensures).made
 
 pub returns-then-begins_zone-clause-done : goal.returns-then-begins_zone-clause-done
 returns-then-begins_zone-clause-done g c =
     let still = still_on c.args.self.now (g.F.Flight.bits c.args.flight.now) c.marks_black.new.self (g.F.Flight.bits c.marks_black.new.flight) c.forms_groups.new.self c.if-marks_black.ensures.done.0 c.in_default.ensures.1 in
-    (says_quiet c.args.self.now (g.F.Flight.bits c.args.flight.now) c.quiet-then-begins_zone.result c.begins_zone.new.self (g.F.Flight.bits c.marks_black.new.flight) c.quiet-then-begins_zone.ensures (still_goes c.args.self.now (g.F.Flight.bits c.args.flight.now) c.forms_groups.new.self (g.F.Flight.bits c.marks_black.new.flight) [] c.begins_zone.new.self (g.F.Flight.bits c.marks_black.new.flight) still (c.if-begins_zone.ensures (g.F.Flight.bits c.marks_black.new.flight) (still_sound c.args.self.now (g.F.Flight.bits c.args.flight.now) c.forms_groups.new.self (g.F.Flight.bits c.marks_black.new.flight) still c.requires.sound)))).done
+    (says_quiet c.args.self.now (g.F.Flight.bits c.args.flight.now) c.quiet-then-begins_zone.result c.begins_zone.new.self (g.F.Flight.bits c.marks_black.new.flight) c.quiet-then-begins_zone.ensures (still_goes c.args.self.now (g.F.Flight.bits c.args.flight.now) c.forms_groups.new.self (g.F.Flight.bits c.marks_black.new.flight) [] c.begins_zone.new.self (g.F.Flight.bits c.marks_black.new.flight) still (c.if-begins_zone.ensures.0 (g.F.Flight.bits c.marks_black.new.flight) (still_sound c.args.self.now (g.F.Flight.bits c.args.flight.now) c.forms_groups.new.self (g.F.Flight.bits c.marks_black.new.flight) still c.requires.sound)))).done
 
 pub returns-then-begins_zone-clause-jobs : goal.returns-then-begins_zone-clause-jobs
 returns-then-begins_zone-clause-jobs g c =
     let still = still_on c.args.self.now (g.F.Flight.bits c.args.flight.now) c.marks_black.new.self (g.F.Flight.bits c.marks_black.new.flight) c.forms_groups.new.self c.if-marks_black.ensures.done.0 c.in_default.ensures.1 in
-    (says_quiet c.args.self.now (g.F.Flight.bits c.args.flight.now) c.quiet-then-begins_zone.result c.begins_zone.new.self (g.F.Flight.bits c.marks_black.new.flight) c.quiet-then-begins_zone.ensures (still_goes c.args.self.now (g.F.Flight.bits c.args.flight.now) c.forms_groups.new.self (g.F.Flight.bits c.marks_black.new.flight) [] c.begins_zone.new.self (g.F.Flight.bits c.marks_black.new.flight) still (c.if-begins_zone.ensures (g.F.Flight.bits c.marks_black.new.flight) (still_sound c.args.self.now (g.F.Flight.bits c.args.flight.now) c.forms_groups.new.self (g.F.Flight.bits c.marks_black.new.flight) still c.requires.sound)))).jobs
+    (says_quiet c.args.self.now (g.F.Flight.bits c.args.flight.now) c.quiet-then-begins_zone.result c.begins_zone.new.self (g.F.Flight.bits c.marks_black.new.flight) c.quiet-then-begins_zone.ensures (still_goes c.args.self.now (g.F.Flight.bits c.args.flight.now) c.forms_groups.new.self (g.F.Flight.bits c.marks_black.new.flight) [] c.begins_zone.new.self (g.F.Flight.bits c.marks_black.new.flight) still (c.if-begins_zone.ensures.0 (g.F.Flight.bits c.marks_black.new.flight) (still_sound c.args.self.now (g.F.Flight.bits c.args.flight.now) c.forms_groups.new.self (g.F.Flight.bits c.marks_black.new.flight) still c.requires.sound)))).jobs
 
 pub returns-then-begins_zone-clause-left : goal.returns-then-begins_zone-clause-left
 returns-then-begins_zone-clause-left g c =
     let still = still_on c.args.self.now (g.F.Flight.bits c.args.flight.now) c.marks_black.new.self (g.F.Flight.bits c.marks_black.new.flight) c.forms_groups.new.self c.if-marks_black.ensures.done.0 c.in_default.ensures.1 in
-    (says_quiet c.args.self.now (g.F.Flight.bits c.args.flight.now) c.quiet-then-begins_zone.result c.begins_zone.new.self (g.F.Flight.bits c.marks_black.new.flight) c.quiet-then-begins_zone.ensures (still_goes c.args.self.now (g.F.Flight.bits c.args.flight.now) c.forms_groups.new.self (g.F.Flight.bits c.marks_black.new.flight) [] c.begins_zone.new.self (g.F.Flight.bits c.marks_black.new.flight) still (c.if-begins_zone.ensures (g.F.Flight.bits c.marks_black.new.flight) (still_sound c.args.self.now (g.F.Flight.bits c.args.flight.now) c.forms_groups.new.self (g.F.Flight.bits c.marks_black.new.flight) still c.requires.sound)))).left
+    (says_quiet c.args.self.now (g.F.Flight.bits c.args.flight.now) c.quiet-then-begins_zone.result c.begins_zone.new.self (g.F.Flight.bits c.marks_black.new.flight) c.quiet-then-begins_zone.ensures (still_goes c.args.self.now (g.F.Flight.bits c.args.flight.now) c.forms_groups.new.self (g.F.Flight.bits c.marks_black.new.flight) [] c.begins_zone.new.self (g.F.Flight.bits c.marks_black.new.flight) still (c.if-begins_zone.ensures.0 (g.F.Flight.bits c.marks_black.new.flight) (still_sound c.args.self.now (g.F.Flight.bits c.args.flight.now) c.forms_groups.new.self (g.F.Flight.bits c.marks_black.new.flight) still c.requires.sound)))).left
 
 pub marks_gray-requires-clause-sound : goal.marks_gray-requires-clause-sound
 marks_gray-requires-clause-sound g c = still_sound c.args.self.now (g.F.Flight.bits c.args.flight.now) c.begins_zone.new.self (g.F.Flight.bits c.marks_black.new.flight) (still_on c.args.self.now (g.F.Flight.bits c.args.flight.now) c.forms_groups.new.self (g.F.Flight.bits c.marks_black.new.flight) c.begins_zone.new.self (still_on c.args.self.now (g.F.Flight.bits c.args.flight.now) c.marks_black.new.self (g.F.Flight.bits c.marks_black.new.flight) c.forms_groups.new.self c.if-marks_black.ensures.done.0 c.in_default.ensures.1) c.if-begins_zone.ensures.1) c.requires.sound
@@ -49,12 +51,12 @@ marks_gray-requires-clause-sound g c = still_sound c.args.self.now (g.F.Flight.b
 pub returns-then-marks_gray-clause-done : goal.returns-then-marks_gray-clause-done
 returns-then-marks_gray-clause-done g c =
     let still = still_on c.args.self.now (g.F.Flight.bits c.args.flight.now) c.forms_groups.new.self (g.F.Flight.bits c.marks_black.new.flight) c.begins_zone.new.self (still_on c.args.self.now (g.F.Flight.bits c.args.flight.now) c.marks_black.new.self (g.F.Flight.bits c.marks_black.new.flight) c.forms_groups.new.self c.if-marks_black.ensures.done.0 c.in_default.ensures.1) c.if-begins_zone.ensures.1 in
-    (says_quiet c.args.self.now (g.F.Flight.bits c.args.flight.now) c.quiet-then-marks_gray.result c.marks_gray.new.self (g.F.Flight.bits c.marks_gray.new.flight) c.quiet-then-marks_gray.ensures (still_goes c.args.self.now (g.F.Flight.bits c.args.flight.now) c.begins_zone.new.self (g.F.Flight.bits c.marks_black.new.flight) [] c.marks_gray.new.self (g.F.Flight.bits c.marks_gray.new.flight) still c.if-marks_gray.ensures.done)).done
+    (says_quiet c.args.self.now (g.F.Flight.bits c.args.flight.now) c.quiet-then-marks_gray.result c.marks_gray.new.self (g.F.Flight.bits c.marks_gray.new.flight) c.quiet-then-marks_gray.ensures (still_goes c.args.self.now (g.F.Flight.bits c.args.flight.now) c.begins_zone.new.self (g.F.Flight.bits c.marks_black.new.flight) [] c.marks_gray.new.self (g.F.Flight.bits c.marks_gray.new.flight) still c.if-marks_gray.ensures.done.0)).done
 
 pub returns-then-marks_gray-clause-jobs : goal.returns-then-marks_gray-clause-jobs
 returns-then-marks_gray-clause-jobs g c =
     let still = still_on c.args.self.now (g.F.Flight.bits c.args.flight.now) c.forms_groups.new.self (g.F.Flight.bits c.marks_black.new.flight) c.begins_zone.new.self (still_on c.args.self.now (g.F.Flight.bits c.args.flight.now) c.marks_black.new.self (g.F.Flight.bits c.marks_black.new.flight) c.forms_groups.new.self c.if-marks_black.ensures.done.0 c.in_default.ensures.1) c.if-begins_zone.ensures.1 in
-    (says_quiet c.args.self.now (g.F.Flight.bits c.args.flight.now) c.quiet-then-marks_gray.result c.marks_gray.new.self (g.F.Flight.bits c.marks_gray.new.flight) c.quiet-then-marks_gray.ensures (still_goes c.args.self.now (g.F.Flight.bits c.args.flight.now) c.begins_zone.new.self (g.F.Flight.bits c.marks_black.new.flight) [] c.marks_gray.new.self (g.F.Flight.bits c.marks_gray.new.flight) still c.if-marks_gray.ensures.done)).jobs
+    (says_quiet c.args.self.now (g.F.Flight.bits c.args.flight.now) c.quiet-then-marks_gray.result c.marks_gray.new.self (g.F.Flight.bits c.marks_gray.new.flight) c.quiet-then-marks_gray.ensures (still_goes c.args.self.now (g.F.Flight.bits c.args.flight.now) c.begins_zone.new.self (g.F.Flight.bits c.marks_black.new.flight) [] c.marks_gray.new.self (g.F.Flight.bits c.marks_gray.new.flight) still c.if-marks_gray.ensures.done.0)).jobs
 
 pub end_group-requires-clause-ready : goal.end_group-requires-clause-ready
 end_group-requires-clause-ready g c = group_ready c.args.self.now (g.F.Flight.bits c.args.flight.now) c.marks_black.new.self (g.F.Flight.bits c.marks_black.new.flight) c.forms_groups.new.self c.begins_zone.new.self c.marks_gray.new.self (g.F.Flight.bits c.marks_gray.new.flight) c.if-marks_black.ensures.done.0 c.in_default.ensures.1 c.if-begins_zone.ensures.1 c.if-marks_gray.ensures.done.0 c.requires.sound c.if-marks_black.ensures.done.1 c.in_default.ensures.0 c.if-begins_zone.ensures.0 c.if-marks_gray.ensures.done.1 c.in_default-next_out.ensures.none c.groups_law.ensures
@@ -82,3 +84,30 @@ returns-in-Some-next_out-clause-resting g c = λ some. four_rest c.args.self.now
 
 pub returns-clause-resting : goal.returns-clause-resting
 returns-clause-resting g c = none_due (λ unit. IsResting c.end_group.new.self (g.F.Flight.bits c.marks_gray.new.flight)) c.end_group.result c.end_group.ensures.due
+
+pub returns-then-marks_black-clause-due_where : goal.returns-then-marks_black-clause-due_where
+returns-then-marks_black-clause-due_where g c = λ rests a lowest. absurd (c.if-marks_black.ensures.done.1 rests.black)
+
+pub returns-in-Some-clause-due_where : goal.returns-in-Some-clause-due_where
+returns-in-Some-clause-due_where g c = λ rests a lowest. absurd (c.in-Some.ensures.unformed (subst (λ (x : CollectorState). IsFormed x) (sym c.if-marks_black.ensures.done.0.same) rests.formed))
+
+pub returns-then-begins_zone-clause-due_where : goal.returns-then-begins_zone-clause-due_where
+returns-then-begins_zone-clause-due_where g c =
+    let still = still_on c.args.self.now (g.F.Flight.bits c.args.flight.now) c.marks_black.new.self (g.F.Flight.bits c.marks_black.new.flight) c.forms_groups.new.self c.if-marks_black.ensures.done.0 c.in_default.ensures.1 in
+    λ rests a lowest. absurd (c.if-begins_zone.ensures.1 (subst (λ (x : CollectorState). HasBegun x) (sym still.same) rests.begun))
+
+pub returns-then-marks_gray-clause-due_where : goal.returns-then-marks_gray-clause-due_where
+returns-then-marks_gray-clause-due_where g c =
+    let still = still_on c.args.self.now (g.F.Flight.bits c.args.flight.now) c.forms_groups.new.self (g.F.Flight.bits c.marks_black.new.flight) c.begins_zone.new.self (still_on c.args.self.now (g.F.Flight.bits c.args.flight.now) c.marks_black.new.self (g.F.Flight.bits c.marks_black.new.flight) c.forms_groups.new.self c.if-marks_black.ensures.done.0 c.in_default.ensures.1) c.if-begins_zone.ensures.1 in
+    λ rests a lowest. absurd (c.if-marks_gray.ensures.done.1 (still_group_done c.args.self.now (g.F.Flight.bits c.args.flight.now) c.begins_zone.new.self (g.F.Flight.bits c.marks_black.new.flight) still rests.group))
+
+pub returns-in-Some-next_out-clause-due_where : goal.returns-in-Some-next_out-clause-due_where
+returns-in-Some-next_out-clause-due_where g c = λ rests a lowest. ap (λ (u : Unit). u.due) c.due.ensures ∙ ap (λ (b : ℕ). Some b) (same_due c.args.self.now (g.F.Flight.bits c.args.flight.now) c.marks_black.new.self (g.F.Flight.bits c.marks_black.new.flight) c.forms_groups.new.self c.begins_zone.new.self c.marks_gray.new.self (g.F.Flight.bits c.marks_gray.new.flight) c.if-marks_black.ensures.done.0 c.in_default.ensures.1 c.if-begins_zone.ensures.1 c.if-marks_gray.ensures.done.0 a c.in-Some-next_out.arena lowest c.in-Some-next_out.ensures.some)
+
+pub returns-clause-due_where : goal.returns-clause-due_where
+returns-clause-due_where g c = λ rests a lowest. absurd (none_out c.args.self.now (g.F.Flight.bits c.args.flight.now) c.marks_black.new.self (g.F.Flight.bits c.marks_black.new.flight) c.forms_groups.new.self c.begins_zone.new.self c.marks_gray.new.self (g.F.Flight.bits c.marks_gray.new.flight) c.if-marks_black.ensures.done.0 c.in_default.ensures.1 c.if-begins_zone.ensures.1 c.if-marks_gray.ensures.done.0 a lowest c.in_default-next_out.ensures.none)
+
+pub returns-clause-err_where : goal.returns-clause-err_where
+returns-clause-err_where g c =
+    let still = all_still c.args.self.now (g.F.Flight.bits c.args.flight.now) c.marks_black.new.self (g.F.Flight.bits c.marks_black.new.flight) c.forms_groups.new.self c.begins_zone.new.self c.marks_gray.new.self (g.F.Flight.bits c.marks_gray.new.flight) c.if-marks_black.ensures.done.0 c.in_default.ensures.1 c.if-begins_zone.ensures.1 c.if-marks_gray.ensures.done.0 in
+    ended_where c.args.self.now (g.F.Flight.bits c.args.flight.now) c.marks_gray.new.self (g.F.Flight.bits c.marks_gray.new.flight) still (still_sound c.args.self.now (g.F.Flight.bits c.args.flight.now) c.marks_gray.new.self (g.F.Flight.bits c.marks_gray.new.flight) still c.requires.sound) c.end_group.new.self (λ x. IsAtGroupEnd x (g.F.Flight.bits c.marks_gray.new.flight)) c.end_group.result c.end_group.ensures.err (four_rest c.args.self.now (g.F.Flight.bits c.args.flight.now) c.marks_black.new.self (g.F.Flight.bits c.marks_black.new.flight) c.forms_groups.new.self c.begins_zone.new.self c.marks_gray.new.self (g.F.Flight.bits c.marks_gray.new.flight) c.if-marks_black.ensures.done.0 c.in_default.ensures.1 c.if-begins_zone.ensures.1 c.if-marks_gray.ensures.done.0 c.if-marks_black.ensures.done.1 c.in_default.ensures.0 c.if-begins_zone.ensures.0 c.if-marks_gray.ensures.done.1, c.in_default-next_out.ensures.none)

@@ -3,4 +3,4 @@ use Rattle.slice_driver.proofs.Commanded.{first_sound}
 use Rattle.slice_driver.proofs.tests.Scene.new.Goals as goal
 
 pub invariant_of-result : goal.invariant_of-result
-invariant_of-result g c = (first_sound _ none_flown c.in-Ok.ensures.first, c.in-Ok.ensures.idle)
+invariant_of-result g c = first_sound _ none_flown c.in-Ok.ensures.first

@@ -1,0 +1,235 @@
+-- What a command changes in a heap it changes in the heap with the bits in flight in place; and wrapper lists only grow, by cells that are new.
+use Rattle.std.proofs.Common.{◌≡◌, ◌⊎◌, ◌<◌, ◌≤◌, ◌+◌, ◌++◌, ◌∷◌, ◌==◌, ℕ, zero, suc, Bool, true, false, List, [], length, Option, Some, None, IsSomeAnd, is_some, slice_get, inl, inr, refl, sym, ap, ◌∙◌, arith, if◌then◌else◌}
+use Rattle.std.specs.Option.{option_map}
+use Rattle.std.proofs.lemmas.Bool.{cases_eq}
+use Rattle.std.proofs.lemmas.Option.{slice_get_within}
+use Rattle.gz_names.specs.declared.commands.Kind.{Kind}
+use Rattle.gz_names.specs.declared.commands.Kind.TheVariants as kind
+use Rattle.gz_names.specs.declared.commands.GraphCmd.{GraphCmd}
+use Rattle.gz_names.specs.declared.commands.GraphCmd.TheVariants as cmd
+use Rattle.gz_names.specs.declared.numbers.CompNo.{CompNo}
+use Rattle.gz_names.specs.declared.numbers.Place.{Place}
+use Rattle.cell_bits.specs.declared.bits.Bits.{Bits}
+use Rattle.arena_table.specs.Cells.{CellState}
+use Rattle.wrappers.specs.WrapperMaps.{WrappersState, list_of}
+use Rattle.heap_core.specs.Shape.{ArenaShape, IsPresent, Shape, cell_of, out_in, out_of}
+use Rattle.heap_core.specs.Heap.{HeapState, colour_in, colour_of, flown_or, joined, reg_of}
+use Rattle.heap_core.specs.Changes.{Makes, MakesWrapper, Writes, with_entry}
+use Rattle.heap_core.specs.Effects.{Changes, Dels, HoldsWrapper, IsWithout, MakesHeld, Puts, Sets, Wraps, itself, found, made}
+use Rattle.heap_core.specs.Lookups.{value_to_set}
+use Rattle.barriers.specs.Spreading.{Covers}
+use Rattle.barriers.proofs.Flying.{flown_get, flown_length, flown_there, none_flown}
+use Rattle.zone_edges.specs.Looks.{wrapper_at}
+
+-- the colour of a place whose arena is not in flight
+own_seen : (h : HeapState) (flown : ℕ → Option Bits) (y : Place) → flown y.0 ≡ None → colour_of (joined h flown) y ≡ colour_of h y
+own_seen h flown y none = ap (λ (o : Option Bits). colour_in o y.1) (flown_get flown h.colours y.0 0 y.0 (omega arith) ∙ go (slice_get h.colours y.0))
+  where
+    go : (o : Option Bits) → option_map (flown_or (flown y.0)) o ≡ o
+    go None = refl
+    go (Some b) = ap (λ (f : Option Bits). Some (flown_or f b)) none
+
+-- an arena that is out is among those that are made
+out_within : (s : Shape) (a : ℕ) → is_some (out_of s a) ≡ true → a < length s.arenas
+out_within s a out = go (slice_get s.arenas a) refl out
+  where
+    go : (o : Option ArenaShape) → slice_get s.arenas a ≡ o → is_some (out_in o) ≡ true → a < length s.arenas
+    go None e out = cc out
+    go (Some arena) e out = slice_get_within s.arenas a arena e
+
+module _ (old : HeapState) (flown : ℕ → Option Bits) (covers : Covers old.shape flown) (sized : length old.colours ≡ length old.shape.arenas) where
+  -- a place whose colour is as it was
+  seen_same : (new : HeapState) (y : Place) → length old.colours ≤ length new.colours → colour_of new y ≡ colour_of old y → colour_of (joined new flown) y ≡ colour_of (joined old flown) y
+  seen_same new y longer same = go (flown y.0) refl
+    where
+      go : (o : Option Bits) → flown y.0 ≡ o → colour_of (joined new flown) y ≡ colour_of (joined old flown) y
+      go None e = own_seen new flown y e ∙ (same ∙ sym (own_seen old flown y e))
+      go (Some b) e =
+          let within : y.0 < length old.shape.arenas = out_within old.shape y.0 (sym (covers y.0) ∙ ap (λ (o : Option Bits). is_some o) e) in
+          ap (λ (o : Option Bits). colour_in o y.1) (flown_there new flown y.0 b (omega (arith, within, sized, longer)) e ∙ sym (flown_there old flown y.0 b (omega (arith, within, sized)) e))
+
+  writes_joined : (p : Place) (f : ℕ) (v : Option Place) (new : HeapState) → Writes old p f v new → Writes (joined old flown) p f v (joined new flown)
+  writes_joined p f v new w = record {
+    rest = ap (λ (h : HeapState). joined h flown) w.rest;
+    sized = w.sized;
+    zones = w.zones;
+    outs = w.outs;
+    cells = w.cells;
+    stored = w.stored;
+    whole = w.whole;
+  }
+
+  makes_joined : (zone : ℕ) (p : Place) (cell : CellState) (new : HeapState) → Makes old zone p cell new → Makes (joined old flown) zone p cell (joined new flown)
+  makes_joined zone p cell new m = record {
+    rest = ap (λ (h : HeapState). joined h flown) m.rest;
+    place_is = m.place_is;
+    free = m.free;
+    grown = m.grown;
+    coloured = flown_length flown 0 new.colours ∙ m.coloured;
+    zone_is = m.zone_is;
+    zones = m.zones;
+    outs = m.outs;
+    in_place = m.in_place;
+    cells = m.cells;
+    stored = m.stored;
+    whole = m.whole;
+    black = own_seen new flown p (none_flown (flown p.0) (covers p.0 ∙ ap (λ (o : Option Bits). is_some o) m.in_place)) ∙ m.black;
+    colours = λ q other. seen_same new q longer (m.colours q other);
+  }
+    where
+      by : (b : Bool) → length new.shape.arenas ≡ (if b then length old.shape.arenas + 1 else length old.shape.arenas) → length old.shape.arenas ≤ length new.shape.arenas
+      by true e = omega arith
+      by false e = omega arith
+
+      longer : length old.colours ≤ length new.colours
+      longer = let more = by (p.0 == length old.shape.arenas) m.grown in omega (arith, more, sized, m.coloured)
+
+  held_joined : (r : ℕ) (k : Kind) (c : CompNo) (new : HeapState) → MakesHeld old r k c new → MakesHeld (joined old flown) r k c (joined new flown)
+  held_joined r k c new m = record {
+    zone = m.zone;
+    place = m.place;
+    made = joined m.made flown;
+    home = m.home;
+    makes = makes_joined m.zone m.place _ m.made m.makes;
+    rest = ap (λ (h : HeapState). joined h flown) m.rest;
+  }
+
+  wrapper_joined : (zone : ℕ) (comp : CompNo) (number : ℕ) (target p : Place) (new : HeapState) → MakesWrapper old zone comp number target p new → MakesWrapper (joined old flown) zone comp number target p (joined new flown)
+  wrapper_joined zone comp number target p new m = record {
+    made = joined m.made flown;
+    makes = makes_joined zone p _ m.made m.makes;
+    rest = ap (λ (h : HeapState). joined h flown) m.rest;
+    found = m.found;
+    listed = m.listed;
+    others = m.others;
+  }
+
+  holds_joined : (r : ℕ) (c : CompNo) (t : Place) (new : HeapState) → HoldsWrapper old r c t new → HoldsWrapper (joined old flown) r c t (joined new flown)
+  holds_joined r c t new m = record {
+    zone = m.zone;
+    wrapper = m.wrapper;
+    between = joined m.between flown;
+    home = m.home;
+    makes = wrapper_joined m.zone c _ t m.wrapper m.between m.makes;
+    rest = ap (λ (h : HeapState). joined h flown) m.rest;
+  }
+
+  wraps_joined : (r s : ℕ) (c : CompNo) (new : HeapState) → Wraps old r s c new → Wraps (joined old flown) r s c (joined new flown)
+  wraps_joined r s c new (itself p held same is) = itself p held same (ap (λ (h : HeapState). joined h flown) is)
+  wraps_joined r s c new (found p wrapper held other at is) = found p wrapper held other at (ap (λ (h : HeapState). joined h flown) is)
+  wraps_joined r s c new (made p held other none m) = made p held other none (holds_joined r c _ new m)
+
+  sets_joined : (s f : ℕ) (t : Option ℕ) (new : HeapState) → Sets old s f t new → Sets (joined old flown) s f t (joined new flown)
+  sets_joined s f t new sets = go (reg_of old s) sets
+    where
+      go : (o : Option Place) → IsSomeAnd o (λ p. Writes old p f (value_to_set old t) new) → IsSomeAnd o (λ p. Writes (joined old flown) p f (value_to_set old t) (joined new flown))
+      go None w = absurd w
+      go (Some p) w = writes_joined p f (value_to_set old t) new w
+
+  puts_joined : (m k v : ℕ) (new : HeapState) → Puts old m k v new → Puts (joined old flown) m k v (joined new flown)
+  puts_joined m k v new puts = go (reg_of old m) (reg_of old k) (reg_of old v) puts
+    where
+      go : (a b d : Option Place) → IsSomeAnd a (λ map. IsSomeAnd b (λ key. IsSomeAnd d (λ value. new ≡ with_entry old map key value))) → IsSomeAnd a (λ map. IsSomeAnd b (λ key. IsSomeAnd d (λ value. joined new flown ≡ with_entry (joined old flown) map key value)))
+      go None b d p = absurd p
+      go (Some map) None d p = absurd p
+      go (Some map) (Some key) None p = absurd p
+      go (Some map) (Some key) (Some value) p = ap (λ (h : HeapState). joined h flown) p
+
+  dels_joined : (m k : ℕ) (new : HeapState) → Dels old m k new → Dels (joined old flown) m k (joined new flown)
+  dels_joined m k new dels = go (reg_of old m) (reg_of old k) dels
+    where
+      go : (a b : Option Place) → IsSomeAnd a (λ map. IsSomeAnd b (λ key. IsWithout old map key new)) → IsSomeAnd a (λ map. IsSomeAnd b (λ key. IsWithout (joined old flown) map key (joined new flown)))
+      go None b p = absurd p
+      go (Some map) None p = absurd p
+      go (Some map) (Some key) p = record { rest = ap (λ (h : HeapState). joined h flown) p.rest; values = p.values }
+
+  pub changes_joined : (new : HeapState) (c : GraphCmd) → Changes old c new → Changes (joined old flown) c (joined new flown)
+  changes_joined new cmd.Zone e = ap (λ (h : HeapState). joined h flown) e
+  changes_joined new (cmd.Comp z) e = ap (λ (h : HeapState). joined h flown) e
+  changes_joined new (cmd.New r c n) m = held_joined r (kind.Object n) c new m
+  changes_joined new (cmd.Map r c) m = held_joined r kind.Map c new m
+  changes_joined new (cmd.Get r s f) e = ap (λ (h : HeapState). joined h flown) e
+  changes_joined new (cmd.Set s f t) w = sets_joined s f t new w
+  changes_joined new (cmd.Wrap r s c) w = wraps_joined r s c new w
+  changes_joined new (cmd.Unwrap r s) e = ap (λ (h : HeapState). joined h flown) e
+  changes_joined new (cmd.Copy r s) e = ap (λ (h : HeapState). joined h flown) e
+  changes_joined new (cmd.Drop r) e = ap (λ (h : HeapState). joined h flown) e
+  changes_joined new (cmd.Hold g r) e = ap (λ (h : HeapState). joined h flown) e
+  changes_joined new (cmd.Release g) e = ap (λ (h : HeapState). joined h flown) e
+  changes_joined new (cmd.Expose r g) e = ap (λ (h : HeapState). joined h flown) e
+  changes_joined new (cmd.Put m k v) p = puts_joined m k v new p
+  changes_joined new (cmd.Del m k) p = dels_joined m k new p
+  changes_joined new (cmd.Find r m k) e = ap (λ (h : HeapState). joined h flown) e
+
+-- the last element of a longer list, and those before it
+last_or_before : {X : Type 0} (xs : List X) (y : X) (i : ℕ) → (slice_get (xs ++ y ∷ []) i ≡ slice_get xs i) ⊎ (slice_get (xs ++ y ∷ []) i ≡ Some y)
+last_or_before [] y zero = inr refl
+last_or_before [] y (suc i) = inl refl
+last_or_before (x ∷ xs) y zero = inl refl
+last_or_before (x ∷ xs) y (suc i) = last_or_before xs y i
+
+-- a wrapper that was there before a command stood where it stands after it
+module _ (old : HeapState) (zone index : ℕ) (p : Place) (there : IsPresent old.shape p) where
+  stood_same : (new : HeapState) {k : HeapState} → new ≡ k → k.shape.wrappers ≡ old.shape.wrappers → wrapper_at new.shape zone index ≡ Some p → wrapper_at old.shape zone index ≡ Some p
+  stood_same new {k} e wrappers at = ap (λ (w : WrappersState). option_map (λ entry. entry.1) (slice_get (list_of w zone) index)) (sym wrappers) ∙ (ap (λ (h : HeapState). wrapper_at h.shape zone index) (sym e) ∙ at)
+
+  stood_wrapped : (new : HeapState) (home : ℕ) (comp : CompNo) (number : ℕ) (target q : Place) → MakesWrapper old home comp number target q new → wrapper_at new.shape zone index ≡ Some p → wrapper_at old.shape zone index ≡ Some p
+  stood_wrapped new home comp number target q m at = elim (cases_eq zone home) [
+    | inl here ↦ (let longer : slice_get (list_of new.shape.wrappers zone) index ≡ slice_get (list_of old.shape.wrappers zone ++ (record { comp = comp.0; target = number }, q) ∷ []) index = ap (λ z. slice_get (list_of new.shape.wrappers z) index) here ∙ (ap (λ es. slice_get es index) m.listed ∙ ap (λ z. slice_get (list_of old.shape.wrappers z ++ (record { comp = comp.0; target = number }, q) ∷ []) index) (sym here)) in
+        elim (last_or_before (list_of old.shape.wrappers zone) (record { comp = comp.0; target = number }, q) index) [
+          | inl before ↦ ap (λ o. option_map (λ entry. entry.1) o) (sym (longer ∙ before)) ∙ at
+          | inr last ↦ (let is : q ≡ p = cc (sym (ap (λ o. option_map (λ entry. entry.1) o) (longer ∙ last)) ∙ at) in
+              absurd (cc (sym (ap (λ o. is_some o) (ap (cell_of old.shape) (sym is) ∙ m.makes.free)) ∙ there)))
+        ])
+    | inr away ↦ ap (λ es. option_map (λ entry. entry.1) (slice_get es index)) (sym (m.others zone away)) ∙ at
+  ]
+
+  stood_held : (new : HeapState) (r : ℕ) (k : Kind) (c : CompNo) → MakesHeld old r k c new → wrapper_at new.shape zone index ≡ Some p → wrapper_at old.shape zone index ≡ Some p
+  stood_held new r k c m at = stood_same m.made m.makes.rest refl (ap (λ (h : HeapState). wrapper_at h.shape zone index) (sym m.rest) ∙ at)
+
+  stood_wraps : (new : HeapState) (r s : ℕ) (c : CompNo) → Wraps old r s c new → wrapper_at new.shape zone index ≡ Some p → wrapper_at old.shape zone index ≡ Some p
+  stood_wraps new r s c (itself q held same is) at = stood_same new is refl at
+  stood_wraps new r s c (found q wrapper held other stands is) at = stood_same new is refl at
+  stood_wraps new r s c (made q held other none m) at = stood_wrapped m.between m.zone c _ _ m.wrapper m.makes (ap (λ (h : HeapState). wrapper_at h.shape zone index) (sym m.rest) ∙ at)
+
+  stood_set : (new : HeapState) (s f : ℕ) (t : Option ℕ) → Sets old s f t new → wrapper_at new.shape zone index ≡ Some p → wrapper_at old.shape zone index ≡ Some p
+  stood_set new s f t sets at = go (reg_of old s) sets
+    where
+      go : (o : Option Place) → IsSomeAnd o (λ q. Writes old q f (value_to_set old t) new) → wrapper_at old.shape zone index ≡ Some p
+      go None w = absurd w
+      go (Some q) w = stood_same new w.rest refl at
+
+  stood_put : (new : HeapState) (m k v : ℕ) → Puts old m k v new → wrapper_at new.shape zone index ≡ Some p → wrapper_at old.shape zone index ≡ Some p
+  stood_put new m k v puts at = go (reg_of old m) (reg_of old k) (reg_of old v) puts
+    where
+      go : (a b d : Option Place) → IsSomeAnd a (λ map. IsSomeAnd b (λ key. IsSomeAnd d (λ value. new ≡ with_entry old map key value))) → wrapper_at old.shape zone index ≡ Some p
+      go None b d e = absurd e
+      go (Some map) None d e = absurd e
+      go (Some map) (Some key) None e = absurd e
+      go (Some map) (Some key) (Some value) e = stood_same new e refl at
+
+  stood_del : (new : HeapState) (m k : ℕ) → Dels old m k new → wrapper_at new.shape zone index ≡ Some p → wrapper_at old.shape zone index ≡ Some p
+  stood_del new m k dels at = go (reg_of old m) (reg_of old k) dels
+    where
+      go : (a b : Option Place) → IsSomeAnd a (λ map. IsSomeAnd b (λ key. IsWithout old map key new)) → wrapper_at old.shape zone index ≡ Some p
+      go None b e = absurd e
+      go (Some map) None e = absurd e
+      go (Some map) (Some key) e = stood_same new e.rest refl at
+
+  pub stood_before : (new : HeapState) (c : GraphCmd) → Changes old c new → wrapper_at new.shape zone index ≡ Some p → wrapper_at old.shape zone index ≡ Some p
+  stood_before new cmd.Zone e = stood_same new e refl
+  stood_before new (cmd.Comp z) e = stood_same new e refl
+  stood_before new (cmd.New r c n) m = stood_held new r (kind.Object n) c m
+  stood_before new (cmd.Map r c) m = stood_held new r kind.Map c m
+  stood_before new (cmd.Get r s f) e = stood_same new e refl
+  stood_before new (cmd.Set s f t) w = stood_set new s f t w
+  stood_before new (cmd.Wrap r s c) w = stood_wraps new r s c w
+  stood_before new (cmd.Unwrap r s) e = stood_same new e refl
+  stood_before new (cmd.Copy r s) e = stood_same new e refl
+  stood_before new (cmd.Drop r) e = stood_same new e refl
+  stood_before new (cmd.Hold g r) e = stood_same new e refl
+  stood_before new (cmd.Release g) e = stood_same new e refl
+  stood_before new (cmd.Expose r g) e = stood_same new e refl
+  stood_before new (cmd.Put m k v) e = stood_put new m k v e
+  stood_before new (cmd.Del m k) e = stood_del new m k e
+  stood_before new (cmd.Find r m k) e = stood_same new e refl
