@@ -1,5 +1,5 @@
 -- A unit that finds an arena due: the first job is that arena's, and taking it in is a unit.
-use Rattle.std.proofs.Common.{◌≡◌, ℕ, ◌<◌, List, [], ◌∷◌, Option, Some, None, IsSome, is_some, true, refl, ap, sym, ◌∙◌, subst}
+use Rattle.std.proofs.Common.{◌≡◌, ℕ, ◌<◌, List, ◌∷◌, Option, Some, None, IsSome, is_some, true, refl, ap, sym, ◌∙◌, subst}
 use Rattle.std.proofs.lemmas.Bool.{eq-eqb}
 use Rattle.gz_names.specs.declared.replies.Report.{Report}
 use Rattle.cell_bits.specs.declared.bits.Bits.{Bits}
@@ -20,10 +20,6 @@ use Rattle.trace_cli.proofs.Flights.{left_same, represents_same}
 -- an arena that is due is in flight
 pub due_flies : (d : CollectorState) (jobs : List Job) (a : ℕ) (w : World) → Represents d (flown_by jobs) w → IsLowestOut d.heap.shape a → IsSome (flown_by jobs a)
 due_flies d jobs a w r low = r.flies.covers a ∙ low.out
-
--- so there is a job
-pub due_some : (d : CollectorState) (jobs : List Job) (a : ℕ) (w : World) → Represents d (flown_by jobs) w → IsLowestOut d.heap.shape a → jobs ≡ [] → ⊥
-due_some d jobs a w r low e = let some : IsSome (flown_by [] a) = subst (λ (xs : List Job). IsSome (flown_by xs a)) e (due_flies d jobs a w r low) in cc some
 
 -- the first one's arena is in flight
 first_flies : (job : Job) (jobs : List Job) → flown_by (job ∷ jobs) job.arena ≡ Some job.bits

@@ -1,5 +1,5 @@
 // The reading loop: read a line, answer it whole, go on.
-ghost use Rattle.std.specs.Prelude.{◌≡◌, ◌≢◌, ◌↔◌, ◌+◌, ◌<◌, ◌≤◌, [], Err, IfOk, OnOk, OnErr, IsTrue, ◌⊎◌, map};
+ghost use Rattle.std.specs.Prelude.{◌≡◌, ◌≢◌, ◌↔◌, ◌+◌, ◌<◌, ◌≤◌, [], Err, Contains, IfOk, OnOk, OnErr, IsTrue, ◌⊎◌, map};
 ghost use Rattle.std.specs.Io.KnownBytes.{Appends};
 ghost use Rattle.gz_io.specs.Causes.{Rose};
 ghost use Rattle.gz_names.specs.declared.commands.Cmd.{Cmd as TheCmd};
@@ -39,6 +39,7 @@ fn end_so<K: Sink>(sink: &mut K, exit: Exit) -> Exit
 // Hands on what is held back where the next line has to be asked for.
 fn flush_before<K: Sink>(reader: &LineReader, sink: &mut K) -> Result<(), AnswerFault>
     ensures kept { Appends (K.written sink.old) (K.written sink.new) [] }
+    ensures handed_on { OnOk result ((Contains reader.now.held 10 → ⊥) → K.behind sink.new ≡ 0) }
     ensures later { K.faults sink.old ≤ K.faults sink.new }
     ensures same { OnOk result (K.faults sink.new ≡ K.faults sink.old) }
     ensures cause { OnErr result (Rose (K.faults sink.old) (K.faults sink.new)) }
