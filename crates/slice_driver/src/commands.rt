@@ -1,5 +1,5 @@
 // Commands on the graph, with their barriers.
-ghost use Rattle.std.specs.Prelude.{◌≡◌, ◌≤◌, ◌<◌, ◌+◌, OnOk, All, length};
+ghost use Rattle.std.specs.Prelude.{◌≡◌, ◌≤◌, ◌<◌, ◌+◌, Err, OnErr, OnOk, All, false, length, true};
 ghost use Rattle.std.specs.Option.{ForSome};
 ghost use Rattle.gz_names.specs.declared.replies.CmdFault.TheVariants as fault;
 ghost use Rattle.colour_defs.specs.Step.{HasFewFields};
@@ -7,7 +7,7 @@ ghost use Rattle.wrappers.specs.WrapperMaps.{AreApart};
 ghost use Rattle.heap_core.specs.Shape.{IsPresent};
 ghost use Rattle.heap_core.specs.Heap.{joined};
 ghost use Rattle.heap_core.specs.Answers as heap;
-ghost use Rattle.heap_core.specs.Effects.{HasRoom};
+ghost use Rattle.heap_core.specs.Effects.{HasRoom, takes_memory};
 ghost use Rattle.heap_core.specs.Lookups.{target_at};
 ghost use Rattle.heap_core.specs.Peeks.{made_in};
 ghost use Rattle.barriers.specs.Invariant.{MarkingInvariant};
@@ -39,6 +39,7 @@ impl Collector {
         requires fields { HasFewFields cmd }
         ensures done { DoesCommand self.old (F.bits flight.old) cmd result self.new
             (F.bits flight.new) }
+        ensures sure { takes_memory cmd ≡ false → result ≡ Err fault.NoMemory → ⊥ }
         ensures run { self.new.run ≡ self.old.run }
         ensures origin { F.origin flight.new ≡ F.origin flight.old }
         ensures made { self.new.heap.made ≤ self.old.heap.made + 1 }
@@ -67,6 +68,7 @@ impl Collector {
         ensures roomy { OnOk result
             (IsRoomy self.new (arenas_after self.old.heap (made_in self.old.heap cmd.now))) }
         ensures widens { Widens self.old self.new }
+        ensures sure { OnErr result (takes_memory cmd.now ≡ true) }
     {
         let Some(zone) = self.heap.makes_in(cmd) else {
             return Ok(());

@@ -42,6 +42,7 @@ impl Collector {
         ensures jobs { IfOk result (λ unit. HandsJobs unit.handed self.old.heap.shape
             self.new.heap.shape) }
         ensures due { IfOk result (λ unit. IsSome unit.due → unit.handed ≡ None) }
+        ensures due_report { IfOk result (λ unit. IsSome unit.due → unit.report ≡ None) }
         ensures resting { IfOk result (λ unit. IsSome unit.due
             → IsResting self.new (F.bits flight.new)) }
         ensures due_where { IsResting self.old (F.bits flight.old) → (a : ℕ)
