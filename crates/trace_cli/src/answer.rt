@@ -1,5 +1,5 @@
 // What a line is answered.
-ghost use Rattle.std.specs.Prelude.{◌≡◌, ◌≢◌, ◌≤◌, ◌<◌, ◌+◌, [], None, length, OnOk, OnErr, IsTrue};
+ghost use Rattle.std.specs.Prelude.{◌≡◌, ◌≢◌, ◌≤◌, ◌<◌, ◌+◌, [], None, length, OnOk, OnErr, IsTrue, false};
 ghost use Rattle.std.specs.Io.KnownBytes.{Appends};
 ghost use Rattle.gz_io.specs.Causes.{AppendsFront, Rose};
 ghost use Rattle.gz_names.specs.declared.commands.Cmd.{Cmd as TheCmd};
@@ -8,6 +8,7 @@ ghost use Rattle.trace_lang.specs.Texts.{reply_text, line_of};
 ghost use Rattle.colour_defs.specs.World.{World};
 ghost use Rattle.colour_defs.specs.Laws.{IsValid};
 ghost use Rattle.colour_defs.specs.Step.{HasFewFields};
+ghost use Rattle.heap_core.specs.Effects.{takes_memory};
 ghost use Rattle.slice_driver.specs.Represents.{Represents};
 ghost use Rattle.slice_driver.specs.Units.{IsSound, none_flown};
 ghost use Rattle.trace_cli.specs.Served.{FitsLanguage, IsBad, StandsFor, is_served};
@@ -68,6 +69,7 @@ fn answer_command<K: Sink, L: Ledger>(
     ensures made { collector.new.heap.made ≤ collector.old.heap.made + 1 }
     ensures entries { length collector.new.heap.shape.weak.entries
         ≤ length collector.old.heap.shape.weak.entries + 1 }
+    ensures sure { takes_memory command.now ≡ false → result ≢ Err AnswerFault.Memory }
     ensures memory { result ≡ Err AnswerFault.Memory → Appends (K.written sink.old) (K.written sink.new) [] }
     ensures write { result ≡ Err AnswerFault.Write → (w : World) → IsValid w → Represents collector.old none_flown w
         → WritesFront w (ACmd.Graph command.now) (K.written sink.old) (K.written sink.new) }

@@ -43,6 +43,7 @@ fn flush_before<K: Sink>(reader: &LineReader, sink: &mut K) -> Result<(), Answer
     ensures later { K.faults sink.old ≤ K.faults sink.new }
     ensures same { OnOk result (K.faults sink.new ≡ K.faults sink.old) }
     ensures cause { OnErr result (Rose (K.faults sink.old) (K.faults sink.new)) }
+    ensures fault { OnErr result (result ≡ Err AnswerFault.Write) }
 {
     if !reader.has_line() && sink.flush().is_err() {
         return Err(AnswerFault::Write);
