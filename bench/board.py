@@ -10,40 +10,16 @@ of a run of no rounds. Processor time is the sum over all threads. Say nothing o
 what one run on one machine shows.
 """
 
-import resource
-import subprocess
 import sys
 import tempfile
-import time
-from pathlib import Path
 
-TOP = Path(__file__).resolve().parent.parent
+from programs import TOP, build_rust, run
+
 RATTLE = TOP / "crates/sweep_bench/out/sweep_bench"
-RUST_SOURCE = TOP / "bench/board_rust/main.rs"
-
-
-def build_rust(folder):
-    """Compiles the Rust program as the Rattle one is compiled: optimised, for the same processor."""
-    program = Path(folder) / "board_rust"
-    command = ["rustc", "--edition", "2024", "-O", "-C", "target-cpu=x86-64-v2"]
-    subprocess.run([*command, "-o", program, RUST_SOURCE], check=True)
-    return program
-
-
-def run(program, rounds, helpers):
-    """One run: what it printed, its wall time and its processor time, in milliseconds."""
-    before = resource.getrusage(resource.RUSAGE_CHILDREN)
-    start = time.perf_counter()
-    words = [str(program), str(rounds), str(helpers)]
-    done = subprocess.run(words, check=True, capture_output=True, text=True)
-    wall = time.perf_counter() - start
-    after = resource.getrusage(resource.RUSAGE_CHILDREN)
-    spent = after.ru_utime - before.ru_utime + after.ru_stime - before.ru_stime
-    return done.stdout, wall * 1000, spent * 1000
 
 
 def best(programs, rounds, helpers, tries):
-    """For each program its quickest wall and processor times, the runs taking turns."""
+    """For each program its quickest wall and processor times in milliseconds, the runs taking turns."""
     walls = [[] for _ in programs]
     spents = [[] for _ in programs]
     for _ in range(tries):
@@ -51,8 +27,8 @@ def best(programs, rounds, helpers, tries):
         for place, program in enumerate(programs):
             text, wall, spent = run(program, rounds, helpers)
             printed.add(text)
-            walls[place].append(wall)
-            spents[place].append(spent)
+            walls[place].append(wall * 1000)
+            spents[place].append(spent * 1000)
         if len(printed) != 1:
             sys.exit(f"the programs print different words: {sorted(printed)}")
     return [min(times) for times in walls], [min(times) for times in spents]
@@ -64,7 +40,7 @@ def main():
     if not RATTLE.exists():
         sys.exit("build the program first: (cd crates/sweep_bench && rt run -- 1 0)")
     with tempfile.TemporaryDirectory() as folder:
-        programs = [RATTLE, build_rust(folder)]
+        programs = [RATTLE, build_rust("board_rust", folder)]
         print(f"milliseconds a round of 100,000 arenas, the best of {tries} times {rounds} rounds")
         print("helpers   wall: Rattle   Rust  ratio   processor: Rattle   Rust  ratio")
         for helpers in range(5):

@@ -12,30 +12,21 @@ the steps and the groups cost; it is to be at most 20 microseconds a round. Say 
 figures but what one run on one machine shows.
 """
 
-import resource
-import subprocess
 import sys
-from pathlib import Path
 
-TOP = Path(__file__).resolve().parent.parent
+from programs import TOP, run
+
 PROGRAM = TOP / "crates/groups_bench/out/groups_bench"
 LIMIT = 20.0
 
 
-def run(rounds, steps):
-    """The processor time of one run, in microseconds."""
-    before = resource.getrusage(resource.RUSAGE_CHILDREN)
-    subprocess.run([PROGRAM, str(rounds), str(steps)], check=True, capture_output=True)
-    after = resource.getrusage(resource.RUSAGE_CHILDREN)
-    return (after.ru_utime - before.ru_utime + after.ru_stime - before.ru_stime) * 1e6
-
-
 def best(asked, tries):
-    """The quickest times of what was asked for, pairs of rounds and steps, the runs taking turns."""
+    """The quickest times in microseconds for pairs of rounds and steps, the runs taking turns."""
     times = [[] for _ in asked]
     for _ in range(tries):
         for place, (rounds, steps) in enumerate(asked):
-            times[place].append(run(rounds, steps))
+            _, _, spent = run(PROGRAM, rounds, steps)
+            times[place].append(spent * 1e6)
     return [min(some) for some in times]
 
 

@@ -16,9 +16,9 @@ import tempfile
 import time
 from pathlib import Path
 
-TOP = Path(__file__).resolve().parent.parent
+from programs import TOP, build_rust
+
 GCZONE = TOP / "crates/trace_cli/out/trace_cli"
-RUST_SOURCE = TOP / "bench/lines_rust/main.rs"
 LINES = 600_000
 
 
@@ -39,14 +39,6 @@ def write_trace(path):
     path.write_text("\n".join(lines) + "\n")
 
 
-def build_rust(folder):
-    """Compiles the Rust program as the Rattle one is compiled: optimised, for the same processor."""
-    program = folder / "lines_rust"
-    command = ["rustc", "--edition", "2024", "-O", "-C", "target-cpu=x86-64-v2"]
-    subprocess.run([*command, "-o", program, RUST_SOURCE], check=True)
-    return program
-
-
 def seconds(words, trace, output):
     with open(trace, "rb") as source, open(output, "wb") as sink:
         start = time.perf_counter()
@@ -62,7 +54,7 @@ def main():
         folder = Path(name)
         trace = folder / "lines.trace"
         write_trace(trace)
-        programs = {"gczone": [GCZONE, "run"], "plain Rust": [build_rust(folder)]}
+        programs = {"gczone": [GCZONE, "run"], "plain Rust": [build_rust("lines_rust", folder)]}
         best = {}
         for _ in range(tries):
             for program, words in programs.items():

@@ -13,47 +13,26 @@ program has no zones, flights or weak maps to ask. Say nothing of these figures 
 one machine shows.
 """
 
-import resource
-import subprocess
 import sys
 import tempfile
-from pathlib import Path
 
-TOP = Path(__file__).resolve().parent.parent
+from programs import TOP, build_rust, run
+
 RATTLE = TOP / "crates/marker_bench/out/marker_bench"
-RUST_SOURCE = TOP / "bench/marking_rust/main.rs"
 WAYS = ["build", "mark black", "gray to black"]
 LIMITS = [None, 40.0, 60.0]
 
 
-def build_rust(folder):
-    """Compiles the Rust program as the Rattle one is compiled: optimised, for the same processor."""
-    program = Path(folder) / "marking_rust"
-    command = ["rustc", "--edition", "2024", "-O", "-C", "target-cpu=x86-64-v2"]
-    subprocess.run([*command, "-o", program, RUST_SOURCE], check=True)
-    return program
-
-
-def run(program, cells, way):
-    """One run: what it printed, and its processor time in nanoseconds."""
-    before = resource.getrusage(resource.RUSAGE_CHILDREN)
-    words = [str(program), str(cells), str(way)]
-    done = subprocess.run(words, check=True, capture_output=True, text=True)
-    after = resource.getrusage(resource.RUSAGE_CHILDREN)
-    spent = after.ru_utime - before.ru_utime + after.ru_stime - before.ru_stime
-    return done.stdout, spent * 1e9
-
-
 def best(programs, cells, tries):
-    """For each program its quickest time for each way, the runs taking turns."""
+    """For each program its quickest time for each way in nanoseconds, the runs taking turns."""
     times = [[[] for _ in WAYS] for _ in programs]
     for _ in range(tries):
         for way in range(len(WAYS)):
             printed = set()
             for place, program in enumerate(programs):
-                text, spent = run(program, cells, way)
+                text, _, spent = run(program, cells, way)
                 printed.add(text)
-                times[place][way].append(spent)
+                times[place][way].append(spent * 1e9)
             if len(printed) != 1:
                 sys.exit(f"the programs print different words: {sorted(printed)}")
     return [[min(some) for some in ways] for ways in times]
@@ -67,7 +46,7 @@ def main():
     if not RATTLE.exists():
         sys.exit("build the program first: (cd crates/marker_bench && rt run -- 5000 1)")
     with tempfile.TemporaryDirectory() as folder:
-        rattle, rust = best([RATTLE, build_rust(folder)], cells, tries)
+        rattle, rust = best([RATTLE, build_rust("marking_rust", folder)], cells, tries)
     print(f"processor nanoseconds a cell, the best of {tries} times {cells} cells")
     print(f"{'':15}  Rattle    Rust   limit")
     over = False
