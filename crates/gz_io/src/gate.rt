@@ -1,4 +1,5 @@
 // A place where a test may hold a helper up.
+ghost use Rattle.std.specs.Prelude.{ℕ, ⊤};
 
 /// A place in a helper's work.
 #[derive(Clone, Copy, Debug, PartialEq, Eq)]
@@ -9,9 +10,20 @@ pub enum Point {
 
 /// Is called by helpers at each `Point`. It answers nothing and promises nothing, so a test may
 /// wait in it and choose a schedule (our choice; Firefox has zeal modes that yield at such points).
+/// Its two words are there for what helpers promise. Code that is generic over gates knows nothing of
+/// either: it has `passed` by a call of `at` alone, and can't take another gate's `name` for this one's.
 pub trait Gate {
+    ghost use Rattle.gz_io.specs.declared.gate.Point.{Point};
+
+    /// What a seat's view notes where a helper has passed a gate of this kind.
+    ghost name: { ℕ } = { 0 };
+
+    /// A helper stood at this point with this arena.
+    ghost passed: { Self → Point → ℕ → Type 0 } = { λ _ _ _. ⊤ };
+
     /// A helper stands at this point with this arena, named by its number.
-    fn at(&self, point: Point, arena: u32);
+    fn at(&self, point: Point, arena: u32)
+        ensures { passed self.now point arena };
 }
 
 /// The gate that does nothing.
