@@ -1,10 +1,13 @@
 // The walk of a helper, and main's work beside the helpers.
-ghost use Rattle.std.specs.Prelude.{◌≡◌, ℕ, ◌<◌, All, length};
-ghost use Rattle.sweep_board.specs.Seats.{board_len, helper_view_of};
+ghost use Rattle.std.specs.Prelude.{◌≡◌, ℕ, ◌<◌, All, length, slice_index_or};
+ghost use Rattle.gz_io.specs.declared.gate.Point.TheVariants as point;
+ghost use Rattle.sweep_board.specs.Rule.{job_at};
+ghost use Rattle.sweep_board.specs.Seats.{board_len, jobs_of, helper_view_of};
+ghost use Rattle.sweep_board.specs.declared.board.HelperSeat.{HelperSeat as ASeat};
 ghost use Rattle.sweep_board.specs.Views.{IsNoted};
-ghost use Rattle.helper_sweep.specs.Walks.{IsIdle, HasWalked};
+ghost use Rattle.helper_sweep.specs.Walks.{IsIdle, HasWalked, VisitsArena, WalksInOrder};
 
-use gz_io::{Gate, Point};
+use gz_io::Gate;
 use std::sync::Wait;
 use std::thread::{Threads, for_each_mut, join_mut};
 use sweep_board::{Board, HelperSeat};
@@ -18,24 +21,28 @@ pub trait MainWork {
         ensures { ran self.old self.new };
 }
 
-// Claims the arena and sweeps it, or notes that it is not ready.
+// Claims the arena, stands at the gate and sweeps it, or notes that it is not ready.
 fn visit<G: Gate>(board: &Board, seat: &mut HelperSeat, gate: &G, index: u32)
     requires idle { IsIdle board.now seat.old }
     requires index { index < board_len board.now }
     ensures idle { IsIdle board.now seat.new }
+    ensures visit { VisitsArena G.name (λ i. G.passed gate.now point.Claimed (job_at (jobs_of board.now) i).arena) index
+        (helper_view_of seat.old).visits (helper_view_of seat.new).visits }
     ensures here { IsNoted (helper_view_of seat.new) index }
     ensures kept { (i : ℕ) → IsNoted (helper_view_of seat.old) i → IsNoted (helper_view_of seat.new) i }
 {
     if let Some(claim) = board.claim(seat, index) {
-        gate.at(Point::Claimed, board.arena(index));
+        board.pass_gate(seat, &claim, gate);
         board.sweep(seat, claim);
     }
 }
 
-/// Walks over all arenas once, in ascending order, and sweeps those that it can claim.
+/// Walks over all arenas once, in ascending order, and sweeps those that it can claim. With each of
+/// them it stands at the gate after its claim and before any load.
 pub fn help<G: Gate>(board: &Board, seat: &mut HelperSeat, gate: &G)
     requires { IsIdle board.now seat.old }
-    ensures { HasWalked board.now seat.new }
+    ensures noted { HasWalked board.now seat.new }
+    ensures order { WalksInOrder board.now G.name (G.passed gate.now point.Claimed) seat.old seat.new }
 {
     for index in 0..board.len() {
         visit(board, seat, gate, index);
@@ -51,7 +58,9 @@ fn all_help<R: Threads + Sync, G: Gate + Sync>(
 )
     requires some { 0 < length seats.old }
     requires idle { All (IsIdle board.now) seats.old }
-    ensures { All (HasWalked board.now) seats.new }
+    ensures noted { All (HasWalked board.now) seats.new }
+    ensures order { (k : ℕ) (d : ASeat) → k < length seats.old → WalksInOrder board.now G.name
+        (G.passed gate.now point.Claimed) (slice_index_or seats.old k d) (slice_index_or seats.new k d) }
 {
     let helpers = seats.len();
     for_each_mut(rt, seats, helpers, &|_, seat| help(board, seat, gate));
@@ -68,6 +77,8 @@ pub fn with_helpers<R: Threads + Wait + Sync, G: Gate + Sync, M: MainWork + Send
 )
     requires { All (IsIdle board.now) seats.old }
     ensures seats { All (HasWalked board.now) seats.new }
+    ensures order { (k : ℕ) (d : ASeat) → k < length seats.old → WalksInOrder board.now G.name
+        (G.passed gate.now point.Claimed) (slice_index_or seats.old k d) (slice_index_or seats.new k d) }
     ensures work { M.ran main_work.old main_work.new }
 {
     if seats.is_empty() {

@@ -1,5 +1,6 @@
 pub mod Words
 pub mod Totals
+pub mod Sweeps
 pub mod Turns
 pub mod HelperSteps
 pub mod MainSteps

@@ -8,16 +8,18 @@ use native.Mathlib.Decide.{ℕ_discrete}
 use lib.ListN.{get_elem?}
 use Rattle.atomic_table.specs.Table.{State, step, keeps, Allows}
 use Rattle.cell_bits.specs.declared.jobs.Job.{Job}
-use Rattle.sweep_board.specs.declared.view.Role.TheVariants.{Main}
+use Rattle.sweep_board.specs.declared.view.Role.{Role}
+use Rattle.sweep_board.specs.declared.view.Role.TheVariants.{Main, Helper, Spent}
 use Rattle.sweep_board.specs.declared.view.Stage.{Stage}
 use Rattle.sweep_board.specs.declared.view.Stage.TheVariants.{Free, Claimed, LoadedBlack, LoadedBoth, StoredFreed}
 use Rattle.sweep_board.specs.declared.view.View.{View}
-use Rattle.sweep_board.specs.Rule.{job_at, state_at, black_at, gob_at, freed_at, white, weight, helper_weight, claim_of, mask_at, IsWoken, StageRule, BoardRule}
-use Rattle.sweep_board.specs.Views.{with_done, with_look, with_wake, with_taken, bits_now, IsDone, IsNoted}
+use Rattle.sweep_board.specs.Rule.{job_at, state_at, black_at, gob_at, freed_at, white, weight, helper_weight, claim_of, mask_at, sweeps_of, IsWoken, StageRule, BoardRule}
+use Rattle.sweep_board.specs.Views.{with_done, with_look, with_wake, with_taken, bits_now, IsDone, IsNoted, IsSwept}
 use Rattle.sweep_board.specs.Steps.{BoardSeat, wakes, looks, reads_freed, reads_black, takes}
 use Rattle.sweep_board.proofs.Words.{or_assoc, both_within}
 use Rattle.sweep_board.proofs.Turns.{Same, Turn, turned, elsewhere, passed_on, done_on, still, loaded}
-use Rattle.sweep_board.proofs.Totals.{total-le}
+use Rattle.sweep_board.proofs.Totals.{total-at, total-le, total-only}
+use Rattle.sweep_board.proofs.Sweeps.{times, times-contains}
 use Rattle.sweep_board.proofs.HelperSteps.{quarter, noted_up}
 
 quarter_one : (i : ℕ) → (4 * i + 1) / 4 ≡ i
@@ -65,12 +67,14 @@ module _ (jobs : List Job) (slots id : ℕ) (me : BoardSeat) (i : ℕ) (lt : i <
       let stage : StageRule jobs new me.0.stage = stage_on jobs old new (λ a. dite (ℕ_discrete a i) (λ e. subst (λ z. freed_at new z ≡ freed_at old z) (sym e) freed) (λ ne. (away a ne).freed)) me.0.stage fit.stage in record {
         long = length-set old (4 * i + 1) n;
         away = away;
-        arena = record { low = low; black-is = subst (λ z. IsWoken j.bits z) (sym black) still_woken; gob-is = gob ∙ arena.gob-is; freed-is = λ two. freed ∙ arena.freed-is (sym state ∙ two) };
+        arena = record { low = low; black-is = subst (λ z. IsWoken j.bits z) (sym black) still_woken; gob-is = gob ∙ arena.gob-is; untouched = λ zero. freed ∙ arena.untouched (sym state ∙ zero); freed-is = λ two. freed ∙ arena.freed-is (sym state ∙ two) };
         up = up;
         claim = let b = ap (λ (n : ℕ). weight (eqb n 1)) state in omega arith;
         claims = λ a ne. refl;
+        sweep = let b = ap (λ (n : ℕ). weight (eqb n 2)) state in omega arith;
+        sweeps = λ a ne. refl;
         freed = inl freed;
-        fits = record { stage = stage; idle = fit.idle; passed = passed_on old new i away up me.0.passed fit.passed; finished = done_on old new i away up low me.0.finished fit.finished; taken = done_on old new i away up low me.0.taken fit.taken };
+        fits = record { stage = stage; idle = fit.idle; passed = passed_on old new i away up me.0.passed fit.passed; finished = done_on old new i away up low me.0.finished fit.finished; taken = done_on old new i away up low me.0.taken fit.taken; spent = fit.spent };
         role = refl;
         helpers = refl;
         masks = λ a ne. mask_away me.0.woken i mask a ne;
@@ -99,30 +103,56 @@ module _ (jobs : List Job) (slots id : ℕ) (me : BoardSeat) (i : ℕ) (lt : i <
       let unclaimed : state_at s.words i ≢ 1 = λ e. let w : weight (eqb (state_at s.words i) 1) ≡ 1 = ap (λ (n : ℕ). weight (eqb n 1)) e in omega arith in
       omega arith
 
+  -- and where none is left, an arena that is done was swept by main's own, which took over what each helper's seat
+  -- swept
+  alone_swept : (s : State (Unit {0}) View) → BoardRule jobs s → get_elem? s.views id ≡ some me.0 → me.0.role ≡ Main
+      → state_at s.words i ≡ 2 → me.0.helpers ≡ 0 → IsSwept me.0 i
+  alone_swept s k at main two alone =
+      let mine = k.mains id me.0 at main in
+      let counts = mine.counts in
+      let none : (other : ℕ) (u : View) → other ≢ id → get_elem? s.views other ≡ some u → sweeps_of i u ≡ 0 =
+      λ other u ne there. by other u ne there u.role refl in
+      let only = total-only (sweeps_of i) s.views id me.0 at none in
+      let sweeps = k.sweeps i lt in
+      let one : weight (eqb (state_at s.words i) 2) ≡ 1 = ap weight (eq-eqb (state_at s.words i) 2 two) in
+      times-contains i me.0.swept (omega arith) where
+        by : (other : ℕ) (u : View) → other ≢ id → get_elem? s.views other ≡ some u
+            → (role : Role) → u.role ≡ role → sweeps_of i u ≡ 0
+        by other u ne there Main is =
+            absurd (ne ((k.mains other u there is).first ∙ sym (k.mains id me.0 at main).first))
+        by other u ne there Helper is =
+            let one : helper_weight u.role ≡ 1 = ap helper_weight is in
+            let least = total-at (λ x. helper_weight x.role) s.views other u there in
+            let counts = (k.mains id me.0 at main).counts in
+            absurd (omega arith)
+        by other u ne there Spent is = ap (times i) ((k.seats other u there).spent is)
+
   pub looking : me.0.role ≡ Main → Allows (BoardRule jobs) slots id me (4 * i) (λ n. n) (looks (step slots (4 * i) 0 0 none) me)
   looking main s k _ at _ =
       let x : ℕ = state_at s.words i in
       let fit = k.seats id me.0 at in
       let alone : IsNoted me.0 ((4 * i) / 4) → me.0.helpers ≡ 0 → x ≡ 2 = subst (λ n. IsNoted me.0 n → me.0.helpers ≡ 0 → x ≡ 2) (sym (quarter i)) (alone_done s k at main) in
       let known : IsDone me.0 ((4 * i) / 4) → x ≡ 2 = subst (λ n. IsDone me.0 n → x ≡ 2) (sym (quarter i)) (All-contains (λ a. state_at s.words a ≡ 2) me.0.finished i fit.finished) in
+      let swept : x ≡ 2 → me.0.helpers ≡ 0 → IsSwept me.0 ((4 * i) / 4) =
+      subst (λ n. x ≡ 2 → me.0.helpers ≡ 0 → IsSwept me.0 n) (sym (quarter i)) (alone_swept s k at main) in
       dite (ℕ_discrete x 2)
       (λ hit. let w : View = with_done me.0 i in (
         w,
         keeps,
         tt,
         loaded jobs s i id me.0 w k at lt (4 * i) s.homes
-            (still jobs s i id me.0 w k at lt (λ a. refl) (record { stage = fit.stage; idle = fit.idle; passed = fit.passed; finished = All-cons (λ a. state_at s.words a ≡ 2) i me.0.finished hit fit.finished; taken = fit.taken }) refl refl refl),
+            (still jobs s i id me.0 w k at lt (λ a. refl) (record { stage = fit.stage; idle = fit.idle; passed = fit.passed; finished = All-cons (λ a. state_at s.words a ≡ 2) i me.0.finished hit fit.finished; taken = fit.taken; spent = fit.spent }) refl refl refl refl),
         (let P : Type 0 = (w, me.1) ≡ (with_done me.0 ((4 * i) / 4), me.1) in let Q : Type 0 = (w, me.1) ≡ (with_look me.0 ((4 * i) / 4) x, me.1) in
-            (subst (λ b. MatchBool b P Q) (sym (eq-eqb x 2 hit)) (ap (λ (n : ℕ). (with_done me.0 n, me.1)) (sym (quarter i))), known, alone)),
+            (subst (λ b. MatchBool b P Q) (sym (eq-eqb x 2 hit)) (ap (λ (n : ℕ). (with_done me.0 n, me.1)) (sym (quarter i))), known, alone, swept)),
       ))
       (λ miss. let w : View = with_look me.0 i x in (
         w,
         keeps,
         tt,
         loaded jobs s i id me.0 w k at lt (4 * i) s.homes
-            (still jobs s i id me.0 w k at lt (λ a. refl) (record { stage = fit.stage; idle = fit.idle; passed = fit.passed; finished = fit.finished; taken = fit.taken }) refl refl refl),
+            (still jobs s i id me.0 w k at lt (λ a. refl) (record { stage = fit.stage; idle = fit.idle; passed = fit.passed; finished = fit.finished; taken = fit.taken; spent = fit.spent }) refl refl refl refl),
         (let P : Type 0 = (w, me.1) ≡ (with_done me.0 ((4 * i) / 4), me.1) in let Q : Type 0 = (w, me.1) ≡ (with_look me.0 ((4 * i) / 4) x, me.1) in
-            (subst (λ b. MatchBool b P Q) (sym (ne_eqb x 2 miss)) (ap (λ (n : ℕ). (with_look me.0 n x, me.1)) (sym (quarter i))), known, alone)),
+            (subst (λ b. MatchBool b P Q) (sym (ne_eqb x 2 miss)) (ap (λ (n : ℕ). (with_look me.0 n x, me.1)) (sym (quarter i))), known, alone, swept)),
       ))
 
   pub reading_freed : me.0.jobs ≡ jobs → Allows (BoardRule jobs) slots id me (4 * i + 3) (λ n. n) (reads_freed (step slots (4 * i + 3) 0 0 none) me)
@@ -130,7 +160,7 @@ module _ (jobs : List Job) (slots id : ℕ) (me : BoardSeat) (i : ℕ) (lt : i <
     me.0,
     keeps,
     tt,
-    loaded jobs s i id me.0 me.0 k at lt (4 * i + 3) s.homes (still jobs s i id me.0 me.0 k at lt (λ a. refl) fit refl refl refl),
+    loaded jobs s i id me.0 me.0 k at lt (4 * i + 3) s.homes (still jobs s i id me.0 me.0 k at lt (λ a. refl) fit refl refl refl refl),
     (
       refl,
       subst (λ n. Contains me.0.finished n → x ≡ white (job_at me.0.jobs n)) (sym (quarter_three i))
@@ -146,7 +176,7 @@ module _ (jobs : List Job) (slots id : ℕ) (me : BoardSeat) (i : ℕ) (lt : i <
     me.0,
     keeps,
     tt,
-    loaded jobs s i id me.0 me.0 k at lt (4 * i + 1) s.homes (still jobs s i id me.0 me.0 k at lt (λ a. refl) fit refl refl refl),
+    loaded jobs s i id me.0 me.0 k at lt (4 * i + 1) s.homes (still jobs s i id me.0 me.0 k at lt (λ a. refl) fit refl refl refl refl),
     (refl, black_read s k at same main),
   )
 
@@ -162,6 +192,7 @@ module _ (jobs : List Job) (slots id : ℕ) (me : BoardSeat) (i : ℕ) (lt : i <
           passed = fit.passed;
           finished = fit.finished;
           taken = All-cons (λ a. state_at s.words a ≡ 2) i me.0.taken (All-contains (λ a. state_at s.words a ≡ 2) me.0.finished i fit.finished seen) fit.taken;
-        }) refl refl refl),
+          spent = fit.spent;
+        }) refl refl refl refl),
     (ap (λ (n : ℕ). (with_taken me.0 n, me.1)) (sym (quarter_one i)), black_read s k at same main),
   )

@@ -55,8 +55,11 @@ opens js words is = subst (λ l. BoardRule js (opening l [] (main_view js))) (sy
     let ws : List ℕ = opening_words js (0 ∷ []) in
     let v : View = main_view js in record {
       sized = length-opening_words js (0 ∷ []);
-      arenas = λ i lt. let r = words_of js (0 ∷ []) i lt in let e0 = r.0 in record { low = omega arith; black-is = (0, r.1 ∙ sym (or_zero_r (job_at js i).bits.black), or_zero_l (job_at js i).bits.gob); gob-is = r.2; freed-is = λ two. absurd (omega arith) };
+      arenas = λ i lt. let r = words_of js (0 ∷ []) i lt in let e0 = r.0 in record { low = omega arith; black-is = (0, r.1 ∙ sym (or_zero_r (job_at js i).bits.black), or_zero_l (job_at js i).bits.gob); gob-is = r.2; untouched = λ zero. r.3; freed-is = λ two. absurd (omega arith) };
       claims = λ i lt. let r = words_of js (0 ∷ []) i lt in let e : weight (eqb (state_at ws i) 1) ≡ 0 = ap (λ (n : ℕ). weight (eqb n 1)) r.0 in omega arith;
+      sweeps = λ i lt.
+          let r = words_of js (0 ∷ []) i lt in
+          let e : weight (eqb (state_at ws i) 2) ≡ 0 = ap (λ (n : ℕ). weight (eqb n 2)) r.0 in omega arith;
       seats = λ id u there. subst (SeatRule js ws) ((only v u id there).1) (fresh_fits js js ws Main);
       mains = λ id u there main. let o = only v u id there in subst (λ (z : ℕ × View). MainRule js ws (v ∷ []) z.0 z.1) (λ p. (sym o.0 p, o.1 p))
           (let z : MainRule js ws (v ∷ []) 0 v = record { first = refl; counts = omega arith; woken = λ i lt. (words_of js (0 ∷ []) i lt).1 ∙ sym (or_zero_r (job_at js i).bits.black) } in z);

@@ -1,5 +1,5 @@
 -- Splitting a helper's seat off main's, and joining it again, keep the rule.
-use Rattle.std.proofs.Common.{◌≡◌, ℕ, ◌+◌, ◌<◌, List, [], ◌∷◌, ◌++◌, set, sym, ap, ◌∙◌, subst, ⊎_elim, arith}
+use Rattle.std.proofs.Common.{◌≡◌, ℕ, ◌+◌, ◌<◌, List, [], ◌∷◌, ◌++◌, set, refl, sym, ap, ◌∙◌, subst, ⊎_elim, arith}
 use Rattle.std.proofs.lemmas.List.Elements.{All-nil, All-append}
 use mathlib.Core.Option.{some}
 use lib.ListN.{get_elem?}
@@ -10,13 +10,14 @@ use Rattle.sweep_board.specs.declared.view.Role.{Role}
 use Rattle.sweep_board.specs.declared.view.Role.TheVariants.{Main, Helper, Spent}
 use Rattle.sweep_board.specs.declared.view.Stage.TheVariants.{Free}
 use Rattle.sweep_board.specs.declared.view.View.{View}
-use Rattle.sweep_board.specs.Rule.{state_at, total, helper_weight, claim_of, SeatRule, MainRule, BoardRule}
+use Rattle.sweep_board.specs.Rule.{state_at, total, helper_weight, claim_of, sweeps_of, SeatRule, MainRule, BoardRule}
 use Rattle.sweep_board.specs.Views.{helper_view, spent_view, fresh_view, with_helper, joined_view}
 use Rattle.sweep_board.proofs.Totals.{total-set, total-snoc}
+use Rattle.sweep_board.proofs.Sweeps.{times-append}
 
 -- a view that has learned nothing meets the rule
 pub fresh_fits : (jobs known : List Job) (words : List ℕ) (role : Role) → SeatRule jobs words (fresh_view known role)
-fresh_fits jobs known words role = record { stage = tt; idle = λ a. omega arith; passed = All-nil (λ a. 0 < state_at words a); finished = All-nil (λ a. state_at words a ≡ 2); taken = All-nil (λ a. state_at words a ≡ 2) }
+fresh_fits jobs known words role = record { stage = tt; idle = λ a. omega arith; passed = All-nil (λ a. 0 < state_at words a); finished = All-nil (λ a. state_at words a ≡ 2); taken = All-nil (λ a. state_at words a ≡ 2); spent = λ e. refl }
 
 pub splitting : (jobs : List Job) (id : ℕ) (v : View) → v.role ≡ Main → Splits (BoardRule jobs) id v (with_helper v) (helper_view v.jobs)
 splitting jobs id v main s k at =
@@ -28,8 +29,13 @@ splitting jobs id v main s k at =
       sized = k.sized;
       arenas = k.arenas;
       claims = λ a lt. let f : View → ℕ = λ x. claim_of a x.stage in let was = k.claims a lt in let t = total-set f s.views id v left at in let u = total-snoc f (set s.views id left) right in omega arith;
+      sweeps = λ a lt.
+          let f : View → ℕ = sweeps_of a in
+          let was = k.sweeps a lt in
+          let t = total-set f s.views id v left at in
+          let u = total-snoc f (set s.views id left) right in omega arith;
       seats = λ other u there. ⊎_elim
-          (λ inside. ⊎_elim (λ e. subst (SeatRule jobs s.words) e.1 (let z : SeatRule jobs s.words left = record { stage = fit.stage; idle = fit.idle; passed = fit.passed; finished = fit.finished; taken = fit.taken } in z)) (λ e. k.seats other u e.1) (at_set s.views id other left u inside))
+          (λ inside. ⊎_elim (λ e. subst (SeatRule jobs s.words) e.1 (let z : SeatRule jobs s.words left = record { stage = fit.stage; idle = fit.idle; passed = fit.passed; finished = fit.finished; taken = fit.taken; spent = fit.spent } in z)) (λ e. k.seats other u e.1) (at_set s.views id other left u inside))
           (λ e. subst (SeatRule jobs s.words) e (fresh_fits jobs v.jobs s.words Helper))
           (at_snoc (set s.views id left) right u other there);
       mains = λ other u there is. ⊎_elim
@@ -59,6 +65,12 @@ joining jobs id other v w main helper free s k at apart there =
       sized = k.sized;
       arenas = k.arenas;
       claims = λ a lt. let f : View → ℕ = λ x. claim_of a x.stage in let was = k.claims a lt in let t = total-set f s.views id v both at in let u = total-set f (set s.views id both) other w spent_view there in let e : claim_of a w.stage ≡ 0 = ap (claim_of a) free in omega arith;
+      sweeps = λ a lt.
+          let f : View → ℕ = sweeps_of a in
+          let was = k.sweeps a lt in
+          let t = total-set f s.views id v both at in
+          let u = total-set f (set s.views id both) other w spent_view there in
+          let e = times-append a w.swept v.swept in omega arith;
       seats = λ o u at'. ⊎_elim
           (λ e. subst (SeatRule jobs s.words) e.1 (fresh_fits jobs [] s.words Spent))
           (λ e. ⊎_elim
@@ -68,6 +80,7 @@ joining jobs id other v w main helper free s k at apart there =
             passed = All-append (λ a. 0 < state_at s.words a) w.passed v.passed fit'.passed fit.passed;
             finished = All-append (λ a. state_at s.words a ≡ 2) w.finished v.finished fit'.finished fit.finished;
             taken = fit.taken;
+            spent = λ e. let no : Spent ≡ Main = sym e ∙ main in absurd (cc);
           } in z))
           (λ f. k.seats o u f.1)
           (at_set s.views id o both u e.1))

@@ -1,5 +1,5 @@
 -- The board rule gives each of its sentences.
-use Rattle.std.proofs.Common.{◌≡◌, ℕ, suc, ◌<◌, ◌≤◌, true, eqb, List, [], ◌∷◌, sym, ap, ◌∙◌, subst, inl, inr, arith, bit_or, All, eq-eqb, eqb-true}
+use Rattle.std.proofs.Common.{◌≡◌, ℕ, suc, ◌<◌, ◌≤◌, true, eqb, List, [], ◌∷◌, sym, ap, ◌∙◌, subst, inl, inr, arith, bit_or, All, eq-eqb, eqb-true, ne_eqb}
 use Rattle.std.specs.List.{list_any}
 use Rattle.std.specs.Int.Bits.{or_self}
 use Rattle.std.proofs.lemmas.Bool.{cases_lt}
@@ -13,10 +13,11 @@ use Rattle.cell_bits.specs.declared.jobs.Job.{Job}
 use Rattle.sweep_board.specs.declared.view.Stage.{Stage}
 use Rattle.sweep_board.specs.declared.view.Stage.TheVariants.{Free, Claimed, LoadedBlack, LoadedBoth, StoredFreed}
 use Rattle.sweep_board.specs.declared.view.View.{View}
-use Rattle.sweep_board.specs.Rule.{job_at, state_at, weight, total, claim_of, IsWoken, StageRule, BoardRule}
+use Rattle.sweep_board.specs.Rule.{job_at, state_at, weight, total, claim_of, sweeps_of, IsWoken, StageRule, BoardRule}
 use Rattle.sweep_board.specs.InWords.{IsBlackOf, BoardRuleInWords}
 use Rattle.sweep_board.proofs.Words.{or_assoc, or_within}
-use Rattle.sweep_board.proofs.Totals.{total-two}
+use Rattle.sweep_board.proofs.Totals.{total-at, total-two}
+use Rattle.sweep_board.proofs.Sweeps.{times-contains, contains-times}
 use Rattle.sweep_board.proofs.Turns.{is_claimed, weight_le}
 
 -- a sum that isn't 0 has a view that isn't
@@ -61,10 +62,34 @@ in_words jobs s k = record {
       let sum = k.claims i lt in
       let le = weight_le (eqb (state_at s.words i) 1) in
       absurd (omega arith));
+  made-done = λ i lt is.
+      let one : weight (eqb (state_at s.words i) 2) ≡ 1 = ap weight (eq-eqb (state_at s.words i) 2 is) in
+      let sum = k.sweeps i lt in
+      let some_view = total-some (sweeps_of i) s.views (omega arith) in
+      (some_view.0, some_view.1, some_view.2, times-contains i some_view.1.swept some_view.3);
+  swept-is-done = λ i lt id v at has. dite (ℕ_discrete (state_at s.words i) 2) (λ e. e) (λ ne.
+      let least = total-at (sweeps_of i) s.views id v at in
+      let sum = k.sweeps i lt in
+      let some = contains-times i v.swept has in
+      let none : weight (eqb (state_at s.words i) 2) ≡ 0 = ap weight (ne_eqb (state_at s.words i) 2 ne) in
+      absurd (omega arith));
+  one-sweeper = λ i lt a b v u at there has has'. dite (ℕ_discrete a b) (λ e. e) (λ ne.
+      let two = total-two (sweeps_of i) s.views a b v u (λ e. ne (sym e)) at there in
+      let sum = k.sweeps i lt in
+      let le = weight_le (eqb (state_at s.words i) 2) in
+      let here = contains-times i v.swept has in
+      let other = contains-times i u.swept has' in
+      absurd (omega arith));
+  swept-once = λ i lt id v at.
+      let least = total-at (sweeps_of i) s.views id v at in
+      let sum = k.sweeps i lt in
+      let le = weight_le (eqb (state_at s.words i) 2) in
+      omega arith;
   taken-is-done = λ i id v at taken. at_found (λ a. state_at s.words a ≡ 2) v.taken i (k.seats id v at).taken taken;
   black-is = λ i lt id v at main. (k.mains id v at main).woken i lt;
   black-within = λ i lt. black_of (job_at jobs i) _ (k.arenas i lt).black-is;
   gob-is = λ i lt. (k.arenas i lt).gob-is;
+  untouched = λ i lt is. (k.arenas i lt).untouched is;
   stored-is = λ i id v at is. let rule : StageRule jobs s.words (StoredFreed i) = subst (StageRule jobs s.words) is (k.seats id v at).stage in rule.1;
   freed-is = λ i lt is. (k.arenas i lt).freed-is is;
   loaded-black = λ i black id v at is. let rule : StageRule jobs s.words (LoadedBlack i black) = subst (StageRule jobs s.words) is (k.seats id v at).stage in black_of (job_at jobs i) black rule.1;

@@ -31,6 +31,26 @@ module _ (f : View → ℕ) where
   total-snoc [] v = omega arith
   total-snoc (x ∷ xs) v = let rest = total-snoc xs v in omega arith
 
+  -- the sum where no view has a number
+  total-none : (views : List View) → ((id : ℕ) (v : View) → get_elem? views id ≡ some v → f v ≡ 0) → total f views ≡ 0
+  total-none [] none = omega arith
+  total-none (x ∷ xs) none =
+      let here : f x ≡ 0 = none 0 x (λ i. some x) in
+      let rest = total-none xs (λ id v at. none (suc id) v at) in omega arith
+
+  -- the sum where one view alone has a number
+  pub total-only : (views : List View) (id : ℕ) (v : View) → get_elem? views id ≡ some v
+      → ((other : ℕ) (u : View) → other ≢ id → get_elem? views other ≡ some u → f u ≡ 0) → total f views ≡ f v
+  total-only [] id v at none = absurd (some-ne-none v (sym at))
+  total-only (x ∷ xs) zero v at none =
+      let is : f x ≡ f v = ap f (some-injective x v at) in
+      let rest = total-none xs (λ other u there. none (suc other) u (λ e. absurd (omega (arith, e))) there) in
+      omega arith
+  total-only (x ∷ xs) (suc id) v at none =
+      let here : f x ≡ 0 = none 0 x (λ e. absurd (omega (arith, e))) (λ i. some x) in
+      let rest = total-only xs id v at (λ other u ne there. none (suc other) u (λ e. ne (omega (arith, e))) there) in
+      omega arith
+
 -- a sum of lower numbers is lower
 pub total-le : (f g : View → ℕ) (views : List View) → ((id : ℕ) (v : View) → get_elem? views id ≡ some v → f v ≤ g v) → total f views ≤ total g views
 total-le f g [] each = omega arith

@@ -13,8 +13,9 @@ use Rattle.sweep_board.specs.declared.view.Role.TheVariants.{Main}
 use Rattle.sweep_board.specs.declared.view.Stage.{Stage}
 use Rattle.sweep_board.specs.declared.view.Stage.TheVariants.{Free, Claimed, LoadedBlack, LoadedBoth, StoredFreed}
 use Rattle.sweep_board.specs.declared.view.View.{View}
-use Rattle.sweep_board.specs.Rule.{job_at, state_at, black_at, gob_at, freed_at, weight, total, helper_weight, claim_of, mask_at, IsWoken, StageRule, ArenaRule, SeatRule, MainRule, BoardRule}
+use Rattle.sweep_board.specs.Rule.{job_at, state_at, black_at, gob_at, freed_at, weight, total, helper_weight, claim_of, mask_at, sweeps_of, IsWoken, StageRule, ArenaRule, SeatRule, MainRule, BoardRule}
 use Rattle.sweep_board.proofs.Totals.{total-set, total-at, total-two}
+use Rattle.sweep_board.proofs.Sweeps.{times}
 
 -- the words of arena a are the same
 pub record Same (old new : List ℕ) (a : ℕ) : Type 0 where
@@ -31,6 +32,8 @@ pub record Turn (jobs : List Job) (old new : List ℕ) (i : ℕ) (v w : View) : 
   pub up : state_at old i ≤ state_at new i
   pub claim : claim_of i w.stage + weight (eqb (state_at old i) 1) ≡ claim_of i v.stage + weight (eqb (state_at new i) 1)
   pub claims : (a : ℕ) → a ≢ i → claim_of a w.stage ≡ claim_of a v.stage
+  pub sweep : sweeps_of i w + weight (eqb (state_at old i) 2) ≡ sweeps_of i v + weight (eqb (state_at new i) 2)
+  pub sweeps : (a : ℕ) → a ≢ i → sweeps_of a w ≡ sweeps_of a v
   pub freed : (freed_at new i ≡ freed_at old i) ⊎ (0 < claim_of i v.stage)
   pub fits : SeatRule jobs new w
   pub role : w.role ≡ v.role
@@ -40,7 +43,7 @@ pub record Turn (jobs : List Job) (old new : List ℕ) (i : ℕ) (v w : View) : 
   pub black : (black_at new i ≡ black_at old i) ⊎ (v.role ≡ Main)
 
 same_arena : (j : Job) (a b c d a' b' c' d' : ℕ) → a' ≡ a → b' ≡ b → c' ≡ c → d' ≡ d → ArenaRule j a b c d → ArenaRule j a' b' c' d'
-same_arena j a b c d a' b' c' d' p q r t f = record { low = subst (λ z. z ≤ 2) (sym p) f.low; black-is = subst (λ z. IsWoken j.bits z) (sym q) f.black-is; gob-is = r ∙ f.gob-is; freed-is = λ h. t ∙ f.freed-is (sym p ∙ h) }
+same_arena j a b c d a' b' c' d' p q r t f = record { low = subst (λ z. z ≤ 2) (sym p) f.low; black-is = subst (λ z. IsWoken j.bits z) (sym q) f.black-is; gob-is = r ∙ f.gob-is; untouched = λ h. t ∙ f.untouched (sym p ∙ h); freed-is = λ h. t ∙ f.freed-is (sym p ∙ h) }
 
 pub weight_le : (b : Bool) → weight b ≤ 1
 weight_le true = omega arith
@@ -111,6 +114,7 @@ module _ (jobs : List Job) (s : State (Unit {0}) View) (new : List ℕ) (i id : 
     passed = passed_on s.words new i t.away t.up u.passed f.passed;
     finished = done_on s.words new i t.away t.up t.arena.low u.finished f.finished;
     taken = done_on s.words new i t.away t.up t.arena.low u.taken f.taken;
+    spent = f.spent;
   }
 
   helpers_same : total (λ x. helper_weight x.role) (set s.views id w) ≡ total (λ x. helper_weight x.role) s.views
@@ -142,6 +146,16 @@ module _ (jobs : List Job) (s : State (Unit {0}) View) (new : List ℕ) (i id : 
       (λ r' was'. let c = t.claim in omega arith) r was)
       (λ ne. let c = t.claims a ne in let st = ap (λ (n : ℕ). weight (eqb n 1)) ((t.away a ne).state) in omega arith)
 
+  sweeps_kept : (a : ℕ) → a < length jobs → total (sweeps_of a) (set s.views id w) ≡ weight (eqb (state_at new a) 2)
+  sweeps_kept a lt' =
+      let r = total-set (sweeps_of a) s.views id v w at in
+      let was = k.sweeps a lt' in
+      dite (ℕ_discrete a i)
+      (λ e. subst (λ z. total (sweeps_of z) (set s.views id w) + sweeps_of z v ≡ total (sweeps_of z) s.views + sweeps_of z w
+      → total (sweeps_of z) s.views ≡ weight (eqb (state_at s.words z) 2) → total (sweeps_of z) (set s.views id w) ≡ weight (eqb (state_at new z) 2)) (sym e)
+      (λ r' was'. let c = t.sweep in omega arith) r was)
+      (λ ne. let c = t.sweeps a ne in let st = ap (λ (n : ℕ). weight (eqb n 2)) ((t.away a ne).state) in omega arith)
+
   -- the step keeps the rule
   pub turned : (homes : List (Option (Unit {0}))) → BoardRule jobs record { words = new; homes = homes; views = set s.views id w }
   turned homes = record {
@@ -150,6 +164,7 @@ module _ (jobs : List Job) (s : State (Unit {0}) View) (new : List ℕ) (i id : 
         (λ e. subst (λ z. ArenaRule (job_at jobs z) (state_at new z) (black_at new z) (gob_at new z) (freed_at new z)) (sym e) t.arena)
         (λ ne. let q = t.away a ne in same_arena (job_at jobs a) _ _ _ _ _ _ _ _ q.state q.black q.gob q.freed (k.arenas a lt'));
     claims = claims_kept;
+    sweeps = sweeps_kept;
     seats = λ other u there. ⊎_elim (λ h. subst (λ x. SeatRule jobs new x) h.1 t.fits) (λ h. keeps_seat other u h.0 h.1) (at_set s.views id other w u there);
     mains = λ other u there is. ⊎_elim
         (λ h. subst (λ (z : ℕ × View). MainRule jobs new (set s.views id w) z.0 z.1) (λ p. (sym h.0 p, h.1 p)) (main_same (sym t.role ∙ ap (λ (x : View). x.role) h.1 ∙ is)))
@@ -159,15 +174,17 @@ module _ (jobs : List Job) (s : State (Unit {0}) View) (new : List ℕ) (i id : 
 
 -- a step that changes no word
 module _ (jobs : List Job) (s : State (Unit {0}) View) (i id : ℕ) (v w : View) (k : BoardRule jobs s) (at : get_elem? s.views id ≡ some v) (lt : i < length jobs) where
-  pub still : ((a : ℕ) → claim_of a w.stage ≡ claim_of a v.stage) → SeatRule jobs s.words w → w.role ≡ v.role → w.helpers ≡ v.helpers → w.woken ≡ v.woken
+  pub still : ((a : ℕ) → claim_of a w.stage ≡ claim_of a v.stage) → SeatRule jobs s.words w → w.role ≡ v.role → w.helpers ≡ v.helpers → w.woken ≡ v.woken → w.swept ≡ v.swept
       → Turn jobs s.words s.words i v w
-  still same fits r n o = record {
+  still same fits r n o swept = record {
     long = refl;
     away = λ a ne. record { state = refl; black = refl; gob = refl; freed = refl };
     arena = k.arenas i lt;
     up = omega arith;
     claim = ap (λ (n : ℕ). n + weight (eqb (state_at s.words i) 1)) (same i);
     claims = λ a ne. same a;
+    sweep = ap (λ (ks : List ℕ). times i ks + weight (eqb (state_at s.words i) 2)) swept;
+    sweeps = λ a ne. ap (times a) swept;
     freed = inl refl;
     fits = fits;
     role = r;

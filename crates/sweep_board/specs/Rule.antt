@@ -1,6 +1,6 @@
 -- The board rule: what holds of the words and of all views between any two steps.
 -- Arena i has the words 4 i to 4 i + 3: its state, its black word, its gob word and its freed word.
-use Rattle.std.specs.Prelude.{◌≡◌, ℕ, ◌+◌, ◌*◌, ◌<◌, ◌≤◌, ◌==◌, Bool, true, false, List, [], ◌∷◌, length, slice_index, slice_index_or, bit_or, All}
+use Rattle.std.specs.Prelude.{◌≡◌, ℕ, ◌+◌, ◌*◌, ◌<◌, ◌≤◌, ◌==◌, Bool, true, false, List, [], ◌∷◌, length, slice_index, slice_index_or, bit_or, count_by, All}
 use mathlib.Core.Option.{some}
 use lib.ListN.{get_elem?}
 use Rattle.atomic_table.specs.Table.{State}
@@ -78,6 +78,10 @@ claim_of i (LoadedBlack k black) = weight (k == i)
 claim_of i (LoadedBoth k black gob) = weight (k == i)
 claim_of i (StoredFreed k) = weight (k == i)
 
+-- how often arena i stands among those that the view's seat swept
+abbrev pub sweeps_of : ℕ → View → ℕ
+sweeps_of i v = count_by (λ k. k == i) v.swept
+
 -- what was loaded of an arena is a black word that main may have woken, and the gob word; what was stored is its white cells
 abbrev pub StageRule : List Job → List ℕ → Stage → Type 0
 StageRule jobs words Free = Unit {0}
@@ -96,15 +100,18 @@ pub record ArenaRule (job : Job) (state black gob freed : ℕ) : Type 0 where
   pub low : state ≤ done
   pub black-is : IsWoken job.bits black
   pub gob-is : gob ≡ job.bits.gob
+  pub untouched : state ≡ ready → freed ≡ 0
   pub freed-is : state ≡ done → freed ≡ white job
 
--- what any view knows: only a helper holds a claim, and an arena that was noted has come so far, since no state word falls
+-- what any view knows: only a helper holds a claim, what a seat swept goes to main's as it is joined, and an arena that
+-- was noted has come so far, since no state word falls
 pub record SeatRule (jobs : List Job) (words : List ℕ) (v : View) : Type 0 where
   pub stage : StageRule jobs words v.stage
   pub idle : (i : ℕ) → claim_of i v.stage ≤ helper_weight v.role
   pub passed : All (λ i. ready < state_at words i) v.passed
   pub finished : All (λ i. state_at words i ≡ done) v.finished
   pub taken : All (λ i. state_at words i ≡ done) v.taken
+  pub spent : v.role ≡ Spent → v.swept ≡ []
 
 -- what main's view knows besides: it is the first seat's, it counts the helper seats, and each black word is that of hand-out with its masks
 pub record MainRule (jobs : List Job) (words : List ℕ) (views : List View) (id : ℕ) (v : View) : Type 0 where
@@ -112,11 +119,13 @@ pub record MainRule (jobs : List Job) (words : List ℕ) (views : List View) (id
   pub counts : total (λ u. helper_weight u.role) views ≡ v.helpers
   pub woken : (i : ℕ) → i < length jobs → black_at words i ≡ bit_or (job_at jobs i).bits.black (mask_at v.woken i)
 
--- the whole rule; an arena is claimed exactly where one view holds its claim (one word more than the arenas' is there for the table's own moves)
+-- the whole rule; an arena is claimed exactly where one view holds its claim, and done exactly where one view swept it,
+-- once (one word more than the arenas' is there for the table's own moves)
 pub record BoardRule (jobs : List Job) (s : State (Unit {0}) View) : Type 0 where
   pub sized : length s.words ≡ 4 * length jobs + 1
   pub arenas : (i : ℕ) → i < length jobs → ArenaRule (job_at jobs i) (state_at s.words i) (black_at s.words i) (gob_at s.words i) (freed_at s.words i)
   pub claims : (i : ℕ) → i < length jobs → total (λ v. claim_of i v.stage) s.views ≡ weight (state_at s.words i == claimed)
+  pub sweeps : (i : ℕ) → i < length jobs → total (sweeps_of i) s.views ≡ weight (state_at s.words i == done)
   pub seats : (id : ℕ) (v : View) → get_elem? s.views id ≡ some v → SeatRule jobs s.words v
   pub mains : (id : ℕ) (v : View) → get_elem? s.views id ≡ some v → v.role ≡ Main → MainRule jobs s.words s.views id v
 

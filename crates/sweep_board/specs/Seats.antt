@@ -1,5 +1,6 @@
 -- What clauses say of a board, its seats and a claim.
-use Rattle.std.specs.Prelude.{◌≡◌, ℕ, List, length}
+use Rattle.std.specs.Prelude.{◌≡◌, ℕ, List, length, Vec}
+use Rattle.std.specs.Global.{Global}
 use Rattle.cell_bits.specs.declared.jobs.Job.{Job}
 use Rattle.sweep_board.specs.declared.view.View.{View}
 use Rattle.sweep_board.specs.declared.view.Stage.TheVariants.{Free, Claimed}
@@ -11,6 +12,10 @@ use Rattle.sweep_board.specs.declared.board.Claim.{Claim}
 -- the board's jobs
 abbrev pub jobs_of : Board → List Job
 jobs_of b = b.jobs.items
+
+-- the key of the rule that the board's table is under
+abbrev pub key_of : Board → Vec Job Global
+key_of b = b.table.shared.key
 
 -- how many arenas the board has
 abbrev pub board_len : Board → ℕ

@@ -5,7 +5,7 @@ use Rattle.sweep_board.specs.declared.view.View.{View}
 use Rattle.sweep_board.specs.declared.view.Stage.{Stage}
 use Rattle.sweep_board.specs.declared.view.Stage.TheVariants.{Free, Claimed, LoadedBlack, LoadedBoth, StoredFreed}
 use Rattle.sweep_board.specs.Rule.{ready, done, job_at, white}
-use Rattle.sweep_board.specs.Views.{at_stage, with_passed, with_finished, with_done, with_look, with_wake, with_taken, IsDone, IsNoted, bits_now}
+use Rattle.sweep_board.specs.Views.{at_stage, with_passed, with_gate, with_finished, with_done, with_look, with_wake, with_taken, IsDone, IsNoted, IsSwept, bits_now}
 
 -- a seat of the board: its view, and no slots, since the board's table has none
 abbrev pub BoardSeat : Type 0
@@ -33,6 +33,10 @@ claims st m found m' =
     MatchBool (found == ready) (m' ≡ (at_stage m.0 (Claimed (st.word / 4)), m.1)) (m' ≡ (with_passed m.0 (st.word / 4), m.1))
     × (IsNoted m.0 (st.word / 4) → found ≢ ready)
 
+-- pass a gate of this name, with an arena that the seat claimed
+abbrev pub passes_gate : ℕ → Step (Unit {0}) → BoardSeat → ℕ → BoardSeat → Type 0
+passes_gate name st m found m' = m' ≡ (with_gate m.0 (st.word / 4) name, m.1)
+
 -- load black
 abbrev pub loads_black : Step (Unit {0}) → BoardSeat → ℕ → BoardSeat → Type 0
 loads_black st m found m' = m' ≡ (at_stage m.0 (LoadedBlack (arena_of m.0.stage) found), m.1)
@@ -53,12 +57,15 @@ stores_done st m stored m' = m' ≡ (with_finished m.0 (arena_of m.0.stage), m.1
 abbrev pub wakes : Step (Unit {0}) → BoardSeat → ℕ → BoardSeat → Type 0
 wakes st m found m' = m' ≡ (with_wake m.0 (st.word / 4) st.first, m.1)
 
--- look: main notes the state word. It finds an arena done that it knows to be so, and one that it noted as not ready where no helper's seat is left to hold its claim
+-- look: main notes the state word. It finds an arena done that it knows to be so, and one that it noted as not ready
+-- where no helper's seat is left to hold its claim. Where none is left, one that it finds done was swept by a seat that
+-- it joined
 abbrev pub looks : Step (Unit {0}) → BoardSeat → ℕ → BoardSeat → Type 0
 looks st m found m' =
     MatchBool (found == done) (m' ≡ (with_done m.0 (st.word / 4), m.1)) (m' ≡ (with_look m.0 (st.word / 4) found, m.1))
     × (IsDone m.0 (st.word / 4) → found ≡ done)
     × (IsNoted m.0 (st.word / 4) → m.0.helpers ≡ 0 → found ≡ done)
+    × (found ≡ done → m.0.helpers ≡ 0 → IsSwept m.0 (st.word / 4))
 
 -- read back freed, of an arena that was seen done
 abbrev pub reads_freed : Step (Unit {0}) → BoardSeat → ℕ → BoardSeat → Type 0

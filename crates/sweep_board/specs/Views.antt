@@ -8,11 +8,24 @@ use Rattle.sweep_board.specs.declared.view.Role.TheVariants.{Main, Helper, Spent
 use Rattle.sweep_board.specs.declared.view.Stage.{Stage}
 use Rattle.sweep_board.specs.declared.view.Stage.TheVariants.{Free}
 use Rattle.sweep_board.specs.declared.view.View.{View}
+use Rattle.sweep_board.specs.declared.view.Visit.TheVariants.{Passed, AtGate, Swept}
 use Rattle.sweep_board.specs.Rule.{job_at, mask_at}
 
 -- a view that has learned nothing
 abbrev pub fresh_view : List Job → Role → View
-fresh_view jobs role = record { jobs = jobs; role = role; stage = Free; passed = []; finished = []; woken = []; looked = []; taken = []; helpers = 0 }
+fresh_view jobs role = record {
+  jobs = jobs;
+  role = role;
+  stage = Free;
+  passed = [];
+  finished = [];
+  swept = [];
+  visits = [];
+  woken = [];
+  looked = [];
+  taken = [];
+  helpers = 0;
+}
 
 abbrev pub main_view : List Job → View
 main_view jobs = fresh_view jobs Main
@@ -30,11 +43,16 @@ at_stage v stage = record v { stage = stage }
 
 -- after a claim that another seat had won
 abbrev pub with_passed : View → ℕ → View
-with_passed v i = record v { passed = i ∷ v.passed }
+with_passed v i = record v { passed = i ∷ v.passed; visits = Passed i ∷ v.visits }
+
+-- after the seat passed a gate with an arena that it claimed
+abbrev pub with_gate : View → ℕ → ℕ → View
+with_gate v i name = record v { visits = AtGate i name ∷ v.visits }
 
 -- after the seat made its arena done, which spends the claim
 abbrev pub with_finished : View → ℕ → View
-with_finished v i = record v { stage = Free; finished = i ∷ v.finished }
+with_finished v i =
+    record v { stage = Free; finished = i ∷ v.finished; swept = i ∷ v.swept; visits = Swept i ∷ v.visits }
 
 -- after main saw an arena done
 abbrev pub with_done : View → ℕ → View
@@ -58,7 +76,17 @@ with_helper v = record v { helpers = v.helpers + 1 }
 
 -- after main joined a helper's seat: it takes over what the helper noted and made done
 abbrev pub joined_view : View → View → View
-joined_view v w = record v { passed = w.passed ++ v.passed; finished = w.finished ++ v.finished; helpers = v.helpers - 1 }
+joined_view v w =
+    record v {
+      passed = w.passed ++ v.passed;
+      finished = w.finished ++ v.finished;
+      swept = w.swept ++ v.swept;
+      helpers = v.helpers - 1;
+    }
+
+-- the arena was made done by the seat's own sweep, or by that of a seat that main joined
+abbrev pub IsSwept : View → ℕ → Type 0
+IsSwept v i = Contains v.swept i
 
 -- the seat saw the arena done, or made it so
 abbrev pub IsDone : View → ℕ → Type 0

@@ -4,12 +4,13 @@ ghost use Rattle.sweep_board.specs.declared.view.Role.TheVariants.{Main, Helper}
 ghost use Rattle.sweep_board.specs.Rule.{ArenasAscend};
 
 use crate::steps::{
-    Claims, JoinsHelper, LoadsBlack, LoadsGob, Looks, ReadsBlack, ReadsFreed, Ruled, SplitsHelper,
-    StoresDone, StoresFreed, Takes, Wakes,
+    Claims, JoinsHelper, LoadsBlack, LoadsGob, Looks, PassesGate, ReadsBlack, ReadsFreed, Ruled,
+    SplitsHelper, StoresDone, StoresFreed, Takes, Wakes,
 };
 use crate::view::View;
-use atomic_table::{Seat, Table};
+use atomic_table::{Seat, Table, TableRule};
 use cell_bits::{Bits, Colour, Job, Taken};
+use gz_io::{Gate, Point};
 use gz_names::NoMemory;
 use std::alloc::Global;
 
@@ -64,19 +65,25 @@ pub struct Claim {
 }
 
 impl Board {
+    ghost use Rattle.atomic_table.specs.Table.{opening};
     ghost use Rattle.cell_bits.specs.Colours.{colour_of};
+    ghost use Rattle.gz_io.specs.declared.gate.Point.TheVariants as point;
     ghost use Rattle.sweep_board.specs.declared.view.Stage.TheVariants.{Claimed};
-    ghost use Rattle.sweep_board.specs.Rule.{job_at, white, done, opening_words};
-    ghost use Rattle.sweep_board.specs.Views.{at_stage, with_passed, with_finished, main_view, helper_view, with_helper, joined_view, with_done, with_look, with_wake, with_taken, bits_now, is_taken, IsDone, IsNoted};
-    ghost use Rattle.sweep_board.specs.Seats.{claim_index, jobs_of, board_len, helper_view_of, main_view_of, IsHelperOf, IsMainOf, HoldsNoClaim, HoldsClaim};
+    ghost use Rattle.sweep_board.specs.Rule.{BoardRule, job_at, white, done};
+    ghost use Rattle.sweep_board.specs.Views.{at_stage, with_passed, with_gate, with_finished, main_view, helper_view, with_helper, joined_view, with_done, with_look, with_wake, with_taken, bits_now, is_taken, IsDone, IsNoted, IsSwept};
+    ghost use Rattle.sweep_board.specs.InWords.{OpensReady};
+    ghost use Rattle.sweep_board.specs.Seats.{claim_index, key_of, jobs_of, board_len, helper_view_of, main_view_of, IsHelperOf, IsMainOf, HoldsNoClaim, HoldsClaim};
 
-    /// A board over these jobs, and main's seat. Each arena is ready to be claimed. No other call
-    /// of a board takes memory.
+    /// A board over these jobs, and main's seat. Each arena is ready to be claimed: while main's is
+    /// the only seat, the rule of the board's table allows nothing else. No other call of a board
+    /// takes memory.
     pub fn new(alloc: Global, jobs: &[Job]) -> Result<(Board, MainSeat), NoMemory>
         requires short { length jobs.now < 2 ^ 32 }
         requires ascending { ArenasAscend jobs.now }
         ensures jobs { IfOk result (λ made. jobs_of made.0 ≡ jobs.now) }
         ensures main { IfOk result (λ made. IsMainOf made.0 made.1 × (main_view_of made.1 ≡ main_view jobs.now)) }
+        ensures ready { IfOk result (λ made. OpensReady jobs.now
+            (⟦<Ruled as TableRule<(), View, Vec<Job>>>⟧.holds (key_of made.0))) }
     {
         let words = Board::opening_words(alloc, jobs)?;
         let jobs = Vec::from_slice(alloc, jobs)?;
@@ -84,11 +91,12 @@ impl Board {
         Ok((Board { table, jobs }, MainSeat { seat }))
     }
 
-    // The words at the start. One more stands behind the arenas' words: splitting and joining
-    // seats is a step on some word, also where there is no arena.
+    // The words at the start: with these, and main's view alone, the board rule holds. One more
+    // stands behind the arenas' words: splitting and joining seats is a step on some word, also
+    // where there is no arena.
     fn opening_words(alloc: Global, jobs: &[Job]) -> Result<Vec<u64>, NoMemory>
         requires { length jobs.now < 2 ^ 32 }
-        ensures { IfOk result (λ words. words.items ≡ opening_words jobs.now (0 ∷ [])) }
+        ensures { IfOk result (λ words. BoardRule jobs.now (opening words.items [] (main_view jobs.now))) }
     {
         let mut words = Vec::with_capacity(alloc, WORDS * jobs.len() + 1)?;
         for job in jobs {
@@ -170,6 +178,23 @@ impl Board {
         }
     }
 
+    /// Stands at a gate with an arena that the seat claimed, so before `sweep` loads its words, which
+    /// takes the claim. The seat's view notes it.
+    pub fn pass_gate<G: Gate>(&self, seat: &mut HelperSeat, claim: &Claim, gate: &G)
+        requires board { IsHelperOf self.now seat.old }
+        requires own { HoldsClaim seat.old claim.now }
+        requires index { claim_index claim.now < board_len self.now }
+        ensures board { IsHelperOf self.now seat.new }
+        ensures passed { G.passed gate.now point.Claimed (job_at (jobs_of self.now) (claim_index claim.now)).arena }
+        ensures visit { helper_view_of seat.new ≡ with_gate (helper_view_of seat.old) (claim_index claim.now) G.name }
+    {
+        gate.at(Point::Claimed, self.arena(claim.index));
+        let state = WORDS * (claim.index as usize);
+        self.table
+            .shared
+            .load::<PassesGate<G>>(&mut seat.seat, state);
+    }
+
     /// Sweeps the claimed arena and makes it done. Answers its freed word, the slots of the cells
     /// that were white at hand-out. Main wakes only slots whose gob bit is set, so it is the same
     /// whether a wake comes before the load of black or after it.
@@ -224,7 +249,8 @@ impl Board {
 
     /// Takes an arena in, once and for all. None comes only where its state word wasn't DONE at
     /// this step: never for an arena that main knows to be done, nor, where all helpers' seats are
-    /// joined, for one that was noted.
+    /// joined, for one that was noted. Where they are joined, an arena that can be taken was swept
+    /// by one of them.
     pub fn try_take(&self, main: &mut MainSeat, index: u32) -> Option<Taken>
         requires board { IsMainOf self.now main.old }
         requires index { index < board_len self.now }
@@ -233,6 +259,7 @@ impl Board {
         ensures none { IfNone result ((state : ℕ) × (state ≢ done) × (main_view_of main.new ≡ with_look (main_view_of main.old) index state)) }
         ensures known { IsDone (main_view_of main.old) index → IsSome result }
         ensures alone { IsNoted (main_view_of main.old) index → (main_view_of main.old).helpers ≡ 0 → IsSome result }
+        ensures swept { IsSome result → (main_view_of main.old).helpers ≡ 0 → IsSwept (main_view_of main.old) index }
         ensures freed { IfSome result (λ taken. taken.freed ≡ white (job_at (jobs_of self.now) index)) }
         ensures bits { IfSome result (λ taken. taken.bits ≡ bits_now (main_view_of main.old) index) }
         ensures taken { IfSome result (λ taken. main_view_of main.new ≡ with_taken (with_done (main_view_of main.old) index) index) }

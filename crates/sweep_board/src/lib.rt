@@ -17,7 +17,12 @@
 //     READY ---------------> CLAIMED --------------------------> DONE - - - - - - -> TAKEN
 //            one seat wins            the claimer alone                 main's view alone
 //
+// A board opens with each arena READY and its freed word 0. An arena is DONE exactly where it stands
+// once in what all views say was swept: nothing but a claim and its sweep makes an arena done, and a
+// board that swept by itself as it opened would break the rule of its own table (`Board::new`).
 // A claim is one compare_exchange, so one seat gets it; `Claim` is a value that only `sweep` ends.
+// `pass_gate` is lent it, so a helper stands at its gate between the claim and the loads; it loads
+// the state word there, for no more than that its view notes the gate.
 // TAKEN is no state of the word: main's seat knows what it took in, and takes nothing twice.
 //
 // The story of a wake between two loads, in an arena of four slots, all allocated:
@@ -59,4 +64,4 @@ pub use board::{Board, Claim, HelperSeat, MainSeat};
 pub use cell_bits::{Bits, Colour, Flight, Job, NoFlight, Taken};
 pub use flight::{FlightOrigin, InFlight};
 pub use in_words::board_rule_in_words;
-pub use view::{Role, Stage, View};
+pub use view::{Role, Stage, View, Visit};

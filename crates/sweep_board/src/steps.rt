@@ -1,11 +1,13 @@
 // The rule of the board's table, and the kinds of step on its words.
 ghost use Rattle.sweep_board.specs.Rule.{BoardRule};
 ghost use Rattle.sweep_board.specs.Views.{main_view, helper_view, spent_view, with_helper, joined_view};
-ghost use Rattle.sweep_board.specs.Steps.{claims, loads_black, loads_gob, stores_freed, stores_done, wakes, looks, reads_freed, reads_black, takes};
+ghost use Rattle.sweep_board.specs.Steps.{claims, passes_gate, loads_black, loads_gob, stores_freed, stores_done, wakes, looks, reads_freed, reads_black, takes};
 
 use crate::view::View;
 use atomic_table::{Join, Play, Split, TableRule};
 use cell_bits::Job;
+use gz_io::Gate;
+use std::marker::PhantomData;
 
 /// The table's rule. Its key is the list of the board's jobs.
 pub struct Ruled;
@@ -38,6 +40,14 @@ pub struct Claims;
 
 impl Play<(), View> for Claims {
     ghost then = { claims };
+}
+
+pub struct PassesGate<G: Gate> {
+    gate: PhantomData<G>,
+}
+
+impl<G: Gate> Play<(), View> for PassesGate<G> {
+    ghost then = { passes_gate G.name };
 }
 
 pub struct LoadsBlack;

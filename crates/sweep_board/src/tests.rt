@@ -1,4 +1,5 @@
 use crate::{Bits, Board, Colour, Flight, InFlight, Job};
+use gz_io::FreeGate;
 use std::test::Fail;
 
 // Of four cells the first is black, the second gray, and the others are white.
@@ -18,6 +19,7 @@ fn a_wake_in_flight_is_not_lost(rt: HostRuntime) -> Result<(), Fail> {
     let mut helper = board.split(&mut main);
     assert!(rt; board.try_take(&mut main, 0).is_none());
     let claim = board.claim(&mut helper, 0).ok_or("claimed")?;
+    board.pass_gate(&mut helper, &claim, &FreeGate);
     board.wake(&mut main, 0, 0b0010);
     assert_eq!(rt; board.sweep(&mut helper, claim), 0b1100);
     let taken = board.try_take(&mut main, 0).ok_or("done")?;

@@ -20,6 +20,16 @@ pub enum Stage {
     StoredFreed(usize),
 }
 
+/// What a helper's seat came to at an arena.
+pub enum Visit {
+    /// A claim that another seat had won.
+    Passed(usize),
+    /// A gate, named by a number, after the claim and before any load.
+    AtGate(usize, u64),
+    /// The end of its sweep.
+    Swept(usize),
+}
+
 /// A seat's view: what its steps have told it. It changes only as the seat makes a step, and no
 /// value of it is made.
 pub struct View {
@@ -31,6 +41,11 @@ pub struct View {
     pub passed: LinkedList<usize>,
     /// Arenas that the seat made done, or saw done.
     pub finished: LinkedList<usize>,
+    /// Arenas that the seat made done by its own sweep, the newest first. Main's seat takes over
+    /// those of each seat that it joins.
+    pub swept: LinkedList<usize>,
+    /// What a helper's seat came to, in order, the newest first.
+    pub visits: LinkedList<Visit>,
     /// What main woke, the newest first: arenas and masks.
     pub woken: LinkedList<(usize, u64)>,
     /// What main saw of arenas that were not done: arenas and state words.

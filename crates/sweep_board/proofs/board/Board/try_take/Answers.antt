@@ -1,5 +1,5 @@
 use Rattle.std.proofs.Common.{rules, ◌<◌, ◌∙◌, length, sym, subst, ap, arith}
-use Rattle.sweep_board.specs.Views.{IsDone, IsNoted}
+use Rattle.sweep_board.specs.Views.{IsDone, IsNoted, IsSwept}
 use Rattle.sweep_board.specs.Steps.{BoardSeat}
 use Rattle.sweep_board.proofs.AfterSteps.{after_look}
 use Rattle.sweep_board.proofs.HelperSteps.{quarter}
@@ -14,6 +14,11 @@ returns-then-load-ne-DONE-clause-known c = λ has. absurd (c.if-load-ne-DONE.tru
 
 pub returns-then-load-ne-DONE-clause-alone : goal.returns-then-load-ne-DONE-clause-alone
 returns-then-load-ne-DONE-clause-alone c = λ has alone. absurd (c.if-load-ne-DONE.true (c.load.ensures.2.2 (subst (IsNoted c.args.main.now.seat.me.0) (sym (quarter c.args.index)) has) alone))
+
+pub returns-clause-swept : goal.returns-clause-swept
+returns-clause-swept c = λ _ alone.
+    subst (IsSwept c.args.main.now.seat.me.0) (quarter c.args.index)
+    (c.load.ensures.2.3 c.if-load-ne-DONE.false alone)
 
 pub load-freed-requires : goal.load-freed-requires
 load-freed-requires c =
