@@ -1,10 +1,12 @@
 -- Steps one after another.
-use Rattle.std.proofs.Common.{◌≡◌, inl, inr, refl, sym, ap, ◌∙◌, subst, arith, length-append, ◌∷◌, []}
+use Rattle.std.proofs.Common.{◌≡◌, inl, inr, refl, sym, ap, ◌∙◌, subst, arith, length-append, ◌∷◌, [], IsSomeAnd, slice_get}
+use Rattle.std.specs.Int.{bit_at}
 use Rattle.gz_names.specs.declared.numbers.Place.{Place}
 use Rattle.mark_stack.specs.Stack.{Piles, pushed}
 use Rattle.mark_stack.specs.declared.stack.Pile.TheVariants as pile
 use Rattle.heap_core.specs.Shape.{Shape, is_marking}
 use Rattle.heap_core.specs.Heap.{HeapState}
+use Rattle.barriers.specs.Colours.{HasGob, gobs}
 use Rattle.barriers.specs.Spreading.{Blackens, Spreads, Grows}
 
 -- the shape is as it was
@@ -14,11 +16,16 @@ shape_is h k e = ap (λ (z : HeapState). z.shape) e
 rest_more : (h k l : HeapState) → k ≡ record h { colours = k.colours } → l ≡ record k { colours = l.colours } → l ≡ record h { colours = l.colours }
 rest_more h k l e f = f ∙ ap (λ (z : HeapState). record z { colours = l.colours }) e
 
+-- where the words of gray bits are as they were, no slot lost its gray bit
+pub gob_kept : (h k : HeapState) → gobs k ≡ gobs h → (x : Place) → HasGob h x → HasGob k x
+gob_kept h k e x has = subst (λ words. IsSomeAnd (slice_get words x.0) (λ word. bit_at word x.1 ≡ 1)) (sym e) has
+
 pub blackens_none : (P : Place → Type 0) (h : HeapState) → Blackens P h h
 blackens_none P h = record {
   rest = refl;
   sized = refl;
   kept = λ y b. b;
+  gobs_is = refl;
   only = λ y b. inl b;
   others = λ y. inr refl;
   whites_less = omega arith;
@@ -29,6 +36,7 @@ blackens_more P Q R h k l a b f g = record {
   rest = rest_more h k l a.rest b.rest;
   sized = b.sized ∙ a.sized;
   kept = λ y c. b.kept y (a.kept y c);
+  gobs_is = b.gobs_is ∙ a.gobs_is;
   only = λ y c. elim (b.only y c) [
     | inl mid ↦ elim (a.only y mid) [ inl old ↦ inl old | inr new ↦ inr (f y new) ]
     | inr new ↦ inr (g y new)
@@ -45,6 +53,7 @@ blackens_within P R h k a f = record {
   rest = a.rest;
   sized = a.sized;
   kept = a.kept;
+  gobs_is = a.gobs_is;
   only = λ y c. elim (a.only y c) [ inl old ↦ inl old | inr new ↦ inr (f y new) ];
   others = a.others;
   whites_less = a.whites_less;

@@ -93,6 +93,7 @@ module _ (h : HeapState) (ds : List Bits) (p q : Piles) (t : Place) (turned : Bl
         rest = refl;
         sized = turned.sized;
         kept = kept;
+        gobs_is = turned.gobs_is;
         only = only;
         others = others;
         whites_less = turned.whites_less;

@@ -6,19 +6,20 @@ use Rattle.mark_stack.specs.Stack.{Piles, pushed}
 use Rattle.mark_stack.specs.declared.stack.Pile.TheVariants as pile
 use Rattle.heap_core.specs.Shape.{Shape, IsPresent, is_marking, out_of}
 use Rattle.heap_core.specs.Heap.{HeapState, colour_of}
-use Rattle.barriers.specs.Colours.{IsBlack, left, whites, grays_outside}
+use Rattle.barriers.specs.Colours.{IsBlack, gobs, left, whites, grays_outside}
 
 -- exactly the arenas that are handed to sweeping are in flight
 abbrev pub Covers : Shape → (ℕ → Option Bits) → Type 0
 Covers s flown = (a : ℕ) → is_some (flown a) ≡ is_some (out_of s a)
 
--- a cell turned black, and nothing else changed
+-- a cell turned black, and nothing else changed: no gray bit either
 pub record Blackened (h : HeapState) (x : Place) (k : HeapState) : Type 0 where
   pub rest : k ≡ record h { colours = k.colours }
   pub sized : length k.colours ≡ length h.colours
   pub present : IsPresent h.shape x
   pub was : IsBlack h x → ⊥
   pub black : IsBlack k x
+  pub gobs_is : gobs k ≡ gobs h
   pub others : (y : Place) → y ≢ x → colour_of k y ≡ colour_of h y
   pub left_is : left k + 1 ≡ left h
   pub whites_less : whites k ≤ whites h
@@ -31,11 +32,12 @@ Turns h p x k q =
     ⊎ ((Blackened h x k × (is_marking h.shape x ≡ true) × (q ≡ pushed p pile.Black x))
     ⊎ (Blackened h x k × (is_marking h.shape x ≡ false) × (q ≡ pushed p pile.Wake x)))
 
--- black spread to cells that meet P alone, and nothing else changed
+-- black spread to cells that meet P alone, and nothing else changed: no cell lost its black bit, and the gray bits are as they were
 pub record Blackens (P : Place → Type 0) (h k : HeapState) : Type 0 where
   pub rest : k ≡ record h { colours = k.colours }
   pub sized : length k.colours ≡ length h.colours
   pub kept : (y : Place) → IsBlack h y → IsBlack k y
+  pub gobs_is : gobs k ≡ gobs h
   pub only : (y : Place) → IsBlack k y → IsBlack h y ⊎ P y
   pub others : (y : Place) → IsBlack k y ⊎ (colour_of k y ≡ colour_of h y)
   pub whites_less : whites k ≤ whites h

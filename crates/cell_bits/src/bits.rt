@@ -62,6 +62,8 @@ impl Bits {
         requires { slot < 64 }
         ensures set { IsTrue result ↔ (colour_of self.old slot ≡ Colour.White) }
         ensures black { self.new.black ≡ self.old.black }
+        ensures gob { IsTrue result → (s : ℕ) → bit_at self.new.gob s
+            ≡ (if s == slot then 1 else bit_at self.old.gob s) }
         ensures marks { IsTrue result → Marks self.old slot Colour.Gray self.new }
         ensures same { colour_of self.old slot ≢ Colour.White → self.new ≡ self.old }
     {
@@ -76,6 +78,7 @@ impl Bits {
     pub fn unmark_gray(&mut self, slot: u8)
         requires slot { slot < 64 }
         requires gray { colour_of self.old slot ≡ Colour.Gray }
+        ensures black { (s : ℕ) → bit_at self.new.black s ≡ (if s == slot then 1 else bit_at self.old.black s) }
         ensures gob { self.new.gob ≡ self.old.gob }
         ensures marks { Marks self.old slot Colour.Black self.new }
     {

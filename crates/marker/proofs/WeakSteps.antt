@@ -19,7 +19,7 @@ use Rattle.barriers.specs.Invariant.{MarkingInvariant}
 use Rattle.barriers.specs.Spreading.{Blackened, Blackens, Turns}
 use Rattle.barriers.proofs.BlackClosure.{black_or_not, pending_is_reached, reached_is_pending, reached_more}
 use Rattle.barriers.proofs.LiveClosure.{seen_kept, white_or_seen}
-use Rattle.barriers.proofs.Spreading.{blackens_within}
+use Rattle.barriers.proofs.Spreading.{blackens_within, gob_kept}
 use Rattle.barriers.proofs.Turning.{Effect, turn_effect}
 use Rattle.marker.specs.Shading.{Grayed, Shaded, Shades}
 use Rattle.marker.specs.Units.{AreFor, DoesWeak, HasColour, Marks, WantsColour, work_left}
@@ -82,6 +82,7 @@ module _ (h : HeapState) (p : Piles) (zones : ℕ) (v : Place) (k : HeapState) (
     invariant = new;
     black_kept = blackens.kept;
     seen_kept = seen_kept (Reached h.shape (IsBlack h)) h k blackens;
+    gob_kept = gob_kept h k turned.gobs_is;
     gray_pile = λ y c. inl (subst (λ (z : Piles). Contains z.gray y) pushes c);
     pending_black = keeps.pending_black;
     pending_live = keeps.pending_live;
@@ -169,6 +170,7 @@ module _ (h : HeapState) (p : Piles) (zones : ℕ) (v : Place) (k : HeapState) (
     invariant = now;
     black_kept = λ y b. (sh.black_is y).1 b;
     seen_kept = sh.kept;
+    gob_kept = sh.gob_kept;
     gray_pile = gray_pile;
     pending_black = black_same;
     pending_live = λ lists g. (gray_holds lists g, (marks_here lists g).pending_live);

@@ -7,7 +7,7 @@ use Rattle.mark_stack.specs.declared.stack.Pile.TheVariants as pile
 use Rattle.gray_lists.specs.Incoming.{IsOnce}
 use Rattle.heap_core.specs.Shape.{HasEdge, IsPresent, Shape, state_of, zone_of}
 use Rattle.heap_core.specs.Heap.{HeapState, colour_of}
-use Rattle.barriers.specs.Colours.{IsBlack, IsGray, IsSeen, IsWhite, left, whites, grays_outside}
+use Rattle.barriers.specs.Colours.{HasGob, IsBlack, IsGray, IsSeen, IsWhite, left, whites, grays_outside}
 
 -- a white cell of a zone that takes gray turned gray, and nothing else changed
 pub record Grayed (h : HeapState) (x : Place) (k : HeapState) : Type 0 where
@@ -17,6 +17,7 @@ pub record Grayed (h : HeapState) (x : Place) (k : HeapState) : Type 0 where
   pub white : IsWhite h x
   pub takes : state_of h.shape x ≡ state.MarkBlackAndGray
   pub gray : IsGray k x
+  pub gob_kept : (y : Place) → HasGob h y → HasGob k y
   pub others : (y : Place) → y ≢ x → colour_of k y ≡ colour_of h y
   pub left_is : left k ≡ left h
   pub whites_is : whites k + 1 ≡ whites h
@@ -33,6 +34,7 @@ pub record Shaded (P : Place → Type 0) (h : HeapState) (p : Piles) (k : HeapSt
   pub rest : k ≡ record h { colours = k.colours }
   pub sized : length k.colours ≡ length h.colours
   pub black_is : (y : Place) → IsBlack k y ↔ IsBlack h y
+  pub gob_kept : (y : Place) → HasGob h y → HasGob k y
   pub kept : (y : Place) → IsSeen h y → IsSeen k y
   pub only : (y : Place) → IsSeen k y → IsSeen h y ⊎ P y
   pub pile_kept : (y : Place) → Contains p.gray y → Contains q.gray y

@@ -12,7 +12,7 @@ use Rattle.gray_lists.specs.Incoming.{Incoming, list_of, waiting_count}
 use Rattle.heap_core.specs.Shape.{Shape, is_marking_state, state_in, state_of, zone_of}
 use Rattle.heap_core.specs.Heap.{HeapState, colour_of}
 use Rattle.barriers.specs.Reached.{HasEntry}
-use Rattle.barriers.specs.Colours.{IsBlack, IsSeen, grays_outside, left, whites}
+use Rattle.barriers.specs.Colours.{HasGob, IsBlack, IsSeen, grays_outside, left, whites}
 use Rattle.barriers.specs.PendingBlack.{PendingBlack}
 use Rattle.barriers.specs.PendingLive.{PendingLive, GrayInvariant, buffer_of}
 use Rattle.barriers.specs.Invariant.{MarkingInvariant}
@@ -25,13 +25,14 @@ abbrev pub work_left : HeapState → Piles → Incoming → ℕ
 work_left h p lists =
     2 * left h + length p.black + (3 * whites h + (2 * length p.gray + (sum_by length h.buffers + waiting_count lists)))
 
--- a unit of marking: no cell loses its colour, and both pending closures are as they were
+-- a unit of marking: no cell loses its colour, and no slot a bit, and both pending closures are as they were
 pub record Marks (h : HeapState) (p : Piles) (a : Incoming) (k : HeapState) (q : Piles) (b : Incoming) : Type 0 where
   pub rest : k ≡ record h { colours = k.colours; buffers = k.buffers }
   pub invariant : MarkingInvariant k q
   pub gray : GrayInvariant k q b
   pub black_kept : (y : Place) → IsBlack h y → IsBlack k y
   pub seen_kept : (y : Place) → IsSeen h y → IsSeen k y
+  pub gob_kept : (y : Place) → HasGob h y → HasGob k y
   pub pending_black : (y : Place) → PendingBlack k q y ↔ PendingBlack h p y
   pub pending_live : (y : Place) → PendingLive k q b y ↔ PendingLive h p a y
 
@@ -97,6 +98,7 @@ pub record DoesWeak (c : Colour) (zones : ℕ) (h : HeapState) (p : Piles) (k : 
   pub invariant : MarkingInvariant k q
   pub black_kept : (y : Place) → IsBlack h y → IsBlack k y
   pub seen_kept : (y : Place) → IsSeen h y → IsSeen k y
+  pub gob_kept : (y : Place) → HasGob h y → HasGob k y
   pub gray_pile : (y : Place) → Contains q.gray y → Contains p.gray y ⊎ (state_of h.shape y ≡ state.MarkBlackAndGray)
   pub pending_black : (y : Place) → PendingBlack k q y ↔ PendingBlack h p y
   pub pending_live : KeepsLive h p k q
