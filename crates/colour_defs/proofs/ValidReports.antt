@@ -174,7 +174,7 @@ report_valid w (Ended zones grays) v ok h = end_valid w v h.collection (zones_in
 report_valid w (Swept arena freed) v ok h = sweep_valid w arena freed v ok h
 report_valid w Done v ok h = finish_valid w v ok h
 
-unit_valid : (w : World) {rs : List Report} {v : World} → IsValid w → IsLawfulUnit w rs v → IsValid v
+pub unit_valid : (w : World) {rs : List Report} {v : World} → IsValid w → IsLawfulUnit w rs v → IsValid v
 unit_valid w ok (quiet run) = ok
 unit_valid w ok (says {r} {v} run kind h over) = report_valid w r v ok h
 unit_valid w ok (last {r} {u} {v} run kind h done) = report_valid u Done v (report_valid w r u ok h) done

@@ -10,7 +10,7 @@ ghost use Rattle.gz_names.specs.declared.replies.Refusal.{Refusal};
 ghost use Rattle.colour_defs.specs.Graph.{GraphState};
 ghost use Rattle.colour_defs.specs.Step.{step_of};
 ghost use Rattle.colour_defs.specs.World.{World, CommandInWorld};
-ghost use Rattle.colour_defs.specs.Lawful.{Answers, EndsGroup, Finishes, AreLawfulUnits, StartsToAnswer, HoldsInEveryRun};
+ghost use Rattle.colour_defs.specs.Lawful.{Answers, Begins, EndsGroup, IsLawfulUnit, Finishes, AreLawfulUnits, StartsToAnswer, HoldsInEveryRun};
 ghost use Rattle.colour_defs.specs.Laws.{IsValid, NamesOnlyPresent, RegistersAreBlack, ClosuresAreClosed, ReachedIsInClosures, ClosuresAreClosedAtEnd, GarbageGoesAtEnd, GarbageIsGone};
 ghost use Rattle.colour_defs.specs.Present.{Agrees, Shows};
 
@@ -23,6 +23,17 @@ pub fn valid_law()
 pub fn answer_law()
     ensures { (w v : World) (c : Cmd) (reports : List Report) (answer : Reply)
         → IsValid w → Answers w c reports answer v → IsValid v }
+{}
+
+/// The reports of one unit keep a world valid, also between two commands' answers.
+pub fn unit_law()
+    ensures { (w v : World) (reports : List Report)
+        → IsValid w → IsLawfulUnit w reports v → IsValid v }
+{}
+
+/// The beginning of a collection keeps a world valid.
+pub fn begin_law()
+    ensures { (w v : World) (zones : List ℕ) → IsValid w → Begins w zones v → IsValid v }
 {}
 
 /// Registers, gray slots and what is present name what is present.

@@ -62,8 +62,8 @@ pub use commands::step;
 pub use fields::Fields;
 pub use graph::{Entry, Graph, Object};
 pub use laws::{
-    agrees_law, answer_law, closure_law, end_law, garbage_law, presence_law, reached_law,
-    refusal_law, register_law, shown_law, starts_law, valid_law,
+    agrees_law, answer_law, begin_law, closure_law, end_law, garbage_law, presence_law,
+    reached_law, refusal_law, register_law, shown_law, starts_law, unit_law, valid_law,
 };
 pub use reach::closure;
 pub use rows::{
