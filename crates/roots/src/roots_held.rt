@@ -1,5 +1,5 @@
 // What the roots hold.
-ghost use Rattle.std.specs.Prelude.{◌≡◌, ◌≢◌, ◌+◌, ◌++◌, ◌<◌, ◌↔◌, ℕ, None, Some, [], length, replicate, slice_get, slice_set, IfOk, IfSome, IfNone, OnOk, OnErr};
+ghost use Rattle.std.specs.Prelude.{◌≡◌, ◌≢◌, ◌+◌, ◌++◌, ◌<◌, ◌^◌, ◌↔◌, ℕ, None, Some, [], length, replicate, slice_get, slice_set, IfOk, IfSome, IfNone, OnOk, OnErr};
 ghost use Rattle.gz_names.specs.Zones.{HasZone};
 ghost use Rattle.roots.specs.Buffers.{places_in};
 
@@ -20,7 +20,7 @@ pub struct Roots {
 }
 
 impl Model for Roots {
-    ghost use Rattle.std.specs.Prelude.{◌≡◌, length};
+    ghost use Rattle.std.specs.Prelude.{◌≡◌, ◌<◌, ◌^◌, length, sum_by};
     ghost use Rattle.roots.specs.Buffers.{lists_of, IsWaiting};
     ghost use Rattle.roots.specs.RootsHeld.{RootsState};
 
@@ -33,7 +33,8 @@ impl Model for Roots {
     } };
 
     ghost invariant = { λ r. (length r.buffers.items ≡ 64)
-        × IsWaiting (lists_of r.buffers.items) r.waiting.bits };
+        × IsWaiting (lists_of r.buffers.items) r.waiting.bits
+        × (sum_by length (lists_of r.buffers.items) < 2 ^ 63) };
 }
 
 impl Roots {
@@ -94,6 +95,8 @@ impl Roots {
         slots: &[(ZoneNo, Place)],
         wrappers: &[(ZoneNo, Place)],
     ) -> Result<(), NoMemory>
+        requires few { waiting_count self.old + (length slots.now + length wrappers.now)
+            < 2 ^ 63 }
         ensures ok { OnOk result
             (self.new ≡ buffered_all (buffered_all self.old slots.now) wrappers.now) }
         ensures zones { OnOk result ((z : ℕ) → z < 64 → buffer_of self.new z
@@ -119,6 +122,7 @@ impl Roots {
     pub fn waiting(&self) -> ZoneSet
         ensures waiting { (z : ℕ) → HasZone result.bits z ↔ (buffer_of self.now z ≢ []) }
         ensures idle { (z : ℕ) → (HasZone result.bits z → ⊥) → buffer_of self.now z ≡ [] }
+        ensures few { waiting_count self.now < 2 ^ 63 }
     {
         self.waiting
     }

@@ -122,6 +122,7 @@ impl WeakMaps {
             + (if is_some (value_of self.old map key) then 0 else 1)) }
         ensures sound { OnOk result (IsSound self.new) }
         ensures err { OnErr result (self.new ≡ self.old) }
+        ensures wanted { OnErr result (value_of self.old map key ≡ None) }
     {
         if let Some(old) = self.table.get_mut(&EntryKey { map, key }) {
             return Ok(Some(mem::replace(old, value)));

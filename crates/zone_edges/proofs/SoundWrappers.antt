@@ -28,7 +28,7 @@ one_place es d e apart (i, below, here) (j, within, there) same = elim (cases_or
 ]
 
 -- an entry's place is found under its key
-found_there : (lists : List (List (WrapperKey × Place))) (z : ℕ) (e : WrapperKey × Place) → AreApart lists → Contains (list_at lists z) e → place_at lists e.0.comp e.0.target ≡ Some e.1
+pub found_there : (lists : List (List (WrapperKey × Place))) (z : ℕ) (e : WrapperKey × Place) → AreApart lists → Contains (list_at lists z) e → place_at lists e.0.comp e.0.target ≡ Some e.1
 found_there lists z e apart there =
     place_at-home lists z e.0.comp e.0.target (λ y d m k. apart.one_zone y z d e m there k) ∙ go (lookup (is_key e.0.comp e.0.target) (list_at lists z)) refl (lookup-Contains (list_at lists z) e.0.comp e.0.target)
   where

@@ -1,4 +1,5 @@
 use Rattle.std.proofs.Common.{◌≡◌, ◌∙◌, length, sym, ap}
+use Rattle.std.proofs.lemmas.Result.{err_from_is_err_and}
 use Rattle.weak_maps.specs.Tables.{entries_of}
 use Rattle.weak_maps.specs.WeakMaps.{WeakMapsState, value_at, put, put_at}
 use Rattle.weak_maps.proofs.Table.{value_at-entries, value_at-put_at, length-put_at, put_at-written}
@@ -31,6 +32,7 @@ returns-in-Some c =
       count = ap length given ∙ length-put_at (entries_of old) c.args.map c.args.key c.args.value;
       sound = IsSound-from_tied (record { entries = entries_of (c.get_mut.follows.lender c.replace.new.dest); by_map = c.self.inside.by_map; by_key = c.self.inside.by_key }) tied;
       err = tt;
+      wanted = tt;
     }
 
 pub add-requires : goal.add-requires
@@ -50,4 +52,10 @@ returns c =
       count = ap length given ∙ length-put_at (entries_of c.self.inside.table) c.args.map c.args.key c.args.value;
       sound = c.in_ok-add.ensures.sound;
       err = tt;
+      wanted = tt;
     }
+
+pub returns-in_err-add-clause-wanted : goal.returns-in_err-add-clause-wanted
+returns-in_err-add-clause-wanted c =
+    let given = err_from_is_err_and c.from_residual.result c.from_residual.ensures.1 in
+    rw (given.1, ← c.self.view_is) (value_at-entries c.self.inside.table c.args.map c.args.key ∙ sym c.in_default.ensures.value)
