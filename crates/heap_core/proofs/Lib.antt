@@ -18,3 +18,4 @@ pub mod Wrapped
 pub mod Keyed
 pub mod Empty
 pub mod Taking
+pub mod CellsMade

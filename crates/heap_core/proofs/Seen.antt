@@ -1,23 +1,26 @@
 -- What a compartment sees of a cell.
-use Rattle.std.proofs.Common.{◌≡◌, ◌≢◌, ◌<◌, ℕ, Bool, true, false, cond, eqb-true, eq-eqb, List, [], ◌∷◌, ◌++◌, Option, Some, None, length, slice_get, unwrap_or, refl, sym, ap, subst, ◌∙◌, arith, nat_lt}
+use Rattle.std.proofs.Common.{◌≡◌, ◌≢◌, ◌<◌, ℕ, Bool, true, false, cond, eqb-true, eq-eqb, List, [], ◌∷◌, ◌++◌, Option, Some, None, IsSome, is_some, if◌then◌else◌, length, slice_get, unwrap_or, refl, sym, ap, subst, ◌∙◌, arith, nat_lt}
 use Rattle.std.specs.Option.{option_map}
+use Rattle.std.proofs.lemmas.Option.{slice_get_within}
 use Rattle.std.proofs.lemmas.Bool.Decides.{nat_tests}
 use Rattle.gz_names.specs.declared.names.Name.{Name}
 use Rattle.gz_names.specs.declared.names.Name.TheVariants.{Cell, Wrap}
 use Rattle.gz_names.specs.declared.numbers.CompNo.{CompNo}
 use Rattle.gz_names.specs.declared.numbers.Place.{Place}
 use Rattle.gz_names.specs.declared.commands.GraphCmd.TheVariants as cmd
+use Rattle.gz_names.specs.declared.replies.Reply.{Reply}
 use Rattle.gz_names.specs.declared.replies.Reply.TheVariants as reply
 use Rattle.arena_table.specs.Cells.{CellState, field_of, joined}
 use Rattle.wrappers.specs.WrapperMaps.{place_of}
 use Rattle.colour_defs.specs.Graph.{GraphState, has_wrapper, comp_of}
 use Rattle.colour_defs.specs.Step as step
-use Rattle.colour_defs.specs.Step.{step_of, wrap_from, wrap_target, take_wrapper, target_of, take_in_register, is_same_comp, is_in_comp}
+use Rattle.colour_defs.specs.Step.{step_of, wrap_from, wrap_target, take_wrapper, target_of, take_in_register, is_same_comp, is_in_comp, refusal_in, IsAccepted}
 use Rattle.colour_defs.proofs.Names.{same_comp}
 use Rattle.heap_core.specs.Shape.{IsPresent, cell_of, comp_at, held_name, name_at}
 use Rattle.heap_core.specs.Heap.{HeapState, reg_of}
 use Rattle.heap_core.specs.Shows.{Shows, StandsFor, is_wrapper}
 use Rattle.heap_core.specs.Lookups.{number_at, number_in, seen_from, target_at, target_in}
+use Rattle.heap_core.specs.Peeks.{wrapped_in}
 use Rattle.heap_core.proofs.Places.{named_present, present_cell, cell_named}
 use Rattle.heap_core.proofs.Shown.{reg_present, reg_named, object_there, wrapper_there}
 use Rattle.heap_core.proofs.Written.{comp_shown}
@@ -150,3 +153,21 @@ module _ (h : HeapState) (g : GraphState) (r s : ℕ) (c : CompNo) (p : Place) (
             absent = is;
             step = wrap_there cell there ∙ rw (b, unknown) (ap (λ (i : ℕ). (record (step.with_register g r (Some (Wrap c i))) { wrappers = g.wrappers ++ (c, i) ∷ [] }, reply.Named (Wrap c i))) (sym n));
           }
+
+-- a `wrap` that makes a wrapper is not refused
+pub making_accepted : (h : HeapState) (g : GraphState) (r s : ℕ) (c : CompNo) → Shows h g → IsSome (wrapped_in h (reg_of h s) c) → IsAccepted g (cmd.Wrap r s c)
+making_accepted h g r s c shows some = by_reg (reg_of h s) refl some
+  where
+    by_home : (p : Place) → reg_of h s ≡ Some p → seen_from h.shape c (target_at h.shape p) ≡ None → (zone : Option ℕ) → slice_get h.shape.comps c.0 ≡ zone → IsSome zone → IsAccepted g (cmd.Wrap r s c)
+    by_home p held unseen None home none = absurd (cc none)
+    by_home p held unseen (Some zone) home there =
+        let unseen_is = wrap_unseen h g r s c p shows held (slice_get_within h.shape.comps c.0 zone home) unseen in
+        ap (λ (x : GraphState × Reply). refusal_in x.1) unseen_is.step
+
+    by_seen : (p : Place) → reg_of h s ≡ Some p → (v : Option Place) → seen_from h.shape c (target_at h.shape p) ≡ v → IsSome (if is_some v then None else slice_get h.shape.comps c.0) → IsAccepted g (cmd.Wrap r s c)
+    by_seen p held None unseen there = by_home p held unseen (slice_get h.shape.comps c.0) refl there
+    by_seen p held (Some v) seen none = absurd (cc none)
+
+    by_reg : (o : Option Place) → reg_of h s ≡ o → IsSome (wrapped_in h o c) → IsAccepted g (cmd.Wrap r s c)
+    by_reg None held none = absurd (cc none)
+    by_reg (Some p) held there = by_seen p held (seen_from h.shape c (target_at h.shape p)) refl there

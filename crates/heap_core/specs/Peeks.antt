@@ -1,10 +1,13 @@
--- What a command will overwrite or remove, and what it will hand to its register.
-use Rattle.std.specs.Prelude.{◌≡◌, ℕ, Option, Some, None, is_some, slice_get, option_and_then, if◌then◌else◌}
+-- What a command will overwrite or remove, what it is about, and what it will hand to its register.
+use Rattle.std.specs.Prelude.{◌≡◌, ℕ, Option, Some, None, Result, Ok, Err, is_some, slice_get, option_and_then, if◌then◌else◌}
+use Rattle.std.specs.Option.{option_map}
 use Rattle.gz_names.specs.declared.commands.GraphCmd.{GraphCmd}
 use Rattle.gz_names.specs.declared.commands.GraphCmd.TheVariants as cmd
 use Rattle.gz_names.specs.declared.numbers.CompNo.{CompNo}
 use Rattle.gz_names.specs.declared.numbers.Place.{Place}
+use Rattle.gz_names.specs.declared.replies.CmdFault.{CmdFault}
 use Rattle.gz_names.specs.declared.replies.Refusal.{Refusal}
+use Rattle.gz_names.specs.declared.replies.Reply.{Reply}
 use Rattle.colour_defs.specs.Graph.{GraphState}
 use Rattle.colour_defs.specs.Step.{step_of, refusal_in}
 use Rattle.heap_core.specs.Heap.{HeapState, reg_of, slot_of}
@@ -49,6 +52,25 @@ handed h (cmd.Put m k v) = None
 handed h (cmd.Del m k) = None
 handed h (cmd.Find r m k) = held_value h m k
 
+-- what a `wrap` is about: the target of a register's wrapper, or the register's cell itself
+abbrev pub wrapped_target : HeapState → GraphCmd → Option Place
+wrapped_target h cmd.Zone = None
+wrapped_target h (cmd.Comp z) = None
+wrapped_target h (cmd.New r c n) = None
+wrapped_target h (cmd.Map r c) = None
+wrapped_target h (cmd.Get r s f) = None
+wrapped_target h (cmd.Set s f t) = None
+wrapped_target h (cmd.Wrap r s c) = option_map (target_at h.shape) (reg_of h s)
+wrapped_target h (cmd.Unwrap r s) = None
+wrapped_target h (cmd.Copy r s) = None
+wrapped_target h (cmd.Drop r) = None
+wrapped_target h (cmd.Hold g r) = None
+wrapped_target h (cmd.Release g) = None
+wrapped_target h (cmd.Expose r g) = None
+wrapped_target h (cmd.Put m k v) = None
+wrapped_target h (cmd.Del m k) = None
+wrapped_target h (cmd.Find r m k) = None
+
 -- nothing, where a command is refused
 abbrev pub unless_refused : Option Refusal → Option Place → Option Place
 unless_refused None p = p
@@ -61,6 +83,10 @@ IsOld h c p = (g : GraphState) → Shows h g → p ≡ unless_refused (refusal_i
 -- and this the present cell that it hands to its register
 abbrev pub IsHanded : HeapState → GraphCmd → Option Place → Type 0
 IsHanded h c p = (g : GraphState) → Shows h g → p ≡ unless_refused (refusal_in (step_of g c).1) (handed h c)
+
+-- and this the object or map that a `wrap` is about
+abbrev pub IsWrapped : HeapState → GraphCmd → Option Place → Type 0
+IsWrapped h c p = (g : GraphState) → Shows h g → p ≡ unless_refused (refusal_in (step_of g c).1) (wrapped_target h c)
 
 -- the zone of a new wrapper of a register's cell in a compartment; none where the compartment sees the cell already
 abbrev pub wrapped_in : HeapState → Option Place → CompNo → Option ℕ
@@ -85,3 +111,8 @@ made_in h (cmd.Expose r g) = None
 made_in h (cmd.Put m k v) = None
 made_in h (cmd.Del m k) = None
 made_in h (cmd.Find r m k) = None
+
+-- how many cells a command made, by its result: one where it is answered and makes a cell
+abbrev pub cells_made : HeapState → GraphCmd → Result Reply CmdFault → ℕ
+cells_made h c (Ok answer) = if is_some (made_in h c) then 1 else 0
+cells_made h c (Err fault) = 0

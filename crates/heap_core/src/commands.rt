@@ -4,7 +4,7 @@ ghost use Rattle.gz_names.specs.declared.replies.CmdFault.TheVariants as fault;
 ghost use Rattle.colour_defs.specs.Step.{HasFewFields};
 ghost use Rattle.heap_core.specs.Answers.{DoesStep, IsSound};
 ghost use Rattle.heap_core.specs.Effects.{Changes, HasRoom, takes_memory};
-ghost use Rattle.heap_core.specs.Peeks.{handed};
+ghost use Rattle.heap_core.specs.Peeks.{cells_made, handed, stored};
 
 use crate::heap::Heap;
 use gz_names::{CmdFault, GraphCmd, Reply};
@@ -21,7 +21,8 @@ impl Heap {
         ensures sound { IsSound self.new }
         ensures sure { takes_memory cmd.now ≡ false → result ≡ Err fault.NoMemory → ⊥ }
         ensures seen { IsSome (handed self.old cmd.now) → result ≡ Err fault.NoMemory → ⊥ }
-        ensures made { self.new.made ≤ self.old.made + 1 }
+        ensures stored { IsSome (stored self.old cmd.now) → result ≡ Err fault.NoMemory → ⊥ }
+        ensures made { self.new.made ≡ self.old.made + cells_made self.old cmd.now result }
     {
         match cmd {
             GraphCmd::Zone => self.do_zone(),

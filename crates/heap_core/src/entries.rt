@@ -1,5 +1,5 @@
 // The entries of weak maps.
-ghost use Rattle.std.specs.Prelude.{◌≡◌, Err, IfErr, IfOk, OnErr, OnOk};
+ghost use Rattle.std.specs.Prelude.{◌≡◌, Err, IfErr, IfOk, IsSome, OnErr, OnOk};
 ghost use Rattle.std.specs.Option.{ForSome};
 ghost use Rattle.gz_names.specs.declared.commands.GraphCmd.TheVariants as cmd;
 ghost use Rattle.gz_names.specs.declared.replies.CmdFault.TheVariants as fault;
@@ -26,6 +26,7 @@ impl Heap {
         requires sound { IsSound self.old }
         ensures step { DoesStep self.old (cmd.Put m k v) result self.new }
         ensures change { OnOk result (Puts self.old m k v self.new) }
+        ensures stored { IsSome (held_value self.old m k) → result ≡ Err fault.NoMemory → ⊥ }
         ensures err { OnErr result (self.new ≡ self.old) }
         ensures sound { IsSound self.new }
     {

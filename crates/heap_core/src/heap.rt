@@ -1,5 +1,5 @@
 // The heap of all zones, and what the crates above use of its parts.
-ghost use Rattle.std.specs.Prelude.{◌≡◌, ◌≢◌, ◌<◌, ◌≤◌, ◌+◌, ◌++◌, ◌∷◌, ◌↔◌, ◌==◌, ◌&&◌, [], ℕ, Bool, true, false, None, Some, length, replicate, slice_get, slice_set, slice_index_or, is_some, sum_by, if◌then◌else◌, IfOk, IfSome, IfNone, IsSome, IsSomeAnd, OnOk, OnErr, Contains, Err, All};
+ghost use Rattle.std.specs.Prelude.{◌≡◌, ◌≢◌, ◌<◌, ◌≤◌, ◌+◌, ◌^◌, ◌++◌, ◌∷◌, ◌↔◌, ◌==◌, ◌&&◌, [], ℕ, Bool, true, false, None, Some, length, replicate, slice_get, slice_set, slice_index_or, is_some, sum_by, if◌then◌else◌, IfOk, IfSome, IfNone, IsSome, IsSomeAnd, OnOk, OnErr, Contains, Err, All};
 ghost use Rattle.cell_bits.specs.declared.bits.Colour.TheVariants as colour;
 ghost use Rattle.gz_names.specs.declared.numbers.Place.{Place as APlace};
 ghost use Rattle.std.specs.Int.{bit_at};
@@ -293,6 +293,8 @@ impl Heap {
         slots: &[(ZoneNo, Place)],
         wrappers: &[(ZoneNo, Place)],
     ) -> Result<(), NoMemory>
+        requires few { sum_by length self.old.buffers + (length slots.now + length wrappers.now)
+            < 2 ^ 63 }
         ensures ok { OnOk result (self.new ≡ record self.old {
           buffers = put_all (put_all self.old.buffers slots.now) wrappers.now;
         }) }
@@ -321,6 +323,7 @@ impl Heap {
         ensures waiting { (z : ℕ) → HasZone result.bits z ↔ (buffer_at self.now.buffers z ≢ []) }
         ensures idle { (z : ℕ) → (HasZone result.bits z → ⊥)
             → buffer_at self.now.buffers z ≡ [] }
+        ensures few { sum_by length self.now.buffers < 2 ^ 63 }
     {
         self.roots.waiting()
     }
@@ -578,6 +581,7 @@ impl Heap {
             then Some value
             else value_of self.old.shape.weak m k)) }
         ensures err { OnErr result (self.new ≡ self.old) }
+        ensures wanted { OnErr result (value_of self.old.shape.weak map key ≡ None) }
     {
         self.weak.put(map, key, value)?;
         Ok(())

@@ -46,9 +46,9 @@
 // A command answers and does on each such graph what the definitions say (`DoesStep`); that the
 // graph of what is present answers as the whole one does is a law of colour_defs (`agrees_law`).
 // What it changes by places stands beside that (`Changes`), for barriers and marking; what it will
-// overwrite, hand out or make is told before it runs (`old_of`, `handed_by`, `makes_in`), so that a
-// barrier can come first. Six commands may want memory. They take it before they change anything,
-// and a heap that was refused some is as it was.
+// overwrite, hand out or make, and what a `wrap` is about, is told before it runs (`old_of`,
+// `handed_by`, `makes_in`, `wrapped_by`), so that a barrier can come first. Six commands may want
+// memory. They take it before they change anything, and a heap that was refused some is as it was.
 #![tactic(auto)]
 
 mod commands;

@@ -1,14 +1,15 @@
-// What a command will overwrite or hand out, told without doing it.
-ghost use Rattle.std.specs.Prelude.{◌≡◌, slice_get};
+// What a command will overwrite, is about or will hand out, told without doing it.
+ghost use Rattle.std.specs.Prelude.{◌≡◌, IsSome, slice_get};
 ghost use Rattle.std.specs.Option.{ForSome};
 ghost use Rattle.gz_names.specs.declared.commands.GraphCmd.TheVariants as cmd;
 ghost use Rattle.colour_defs.specs.Graph.{GraphState, register_cell};
+ghost use Rattle.colour_defs.specs.Step.{IsAccepted};
 ghost use Rattle.heap_core.specs.Shape.{IsPresent};
 ghost use Rattle.heap_core.specs.Heap.{reg_of};
 ghost use Rattle.heap_core.specs.Shows.{Shows};
 ghost use Rattle.heap_core.specs.Answers.{IsSound};
 ghost use Rattle.heap_core.specs.Lookups.{held_value, refusal_by};
-ghost use Rattle.heap_core.specs.Peeks.{made_in, wrapped_in, IsHanded, IsOld, unless_refused};
+ghost use Rattle.heap_core.specs.Peeks.{made_in, wrapped_in, IsHanded, IsOld, IsWrapped, unless_refused};
 
 use crate::heap::Heap;
 use gz_names::{CompNo, GraphCmd, Place, Reg, ZoneNo};
@@ -49,11 +50,26 @@ impl Heap {
         }
     }
 
-    /// The zone in which a command will make a cell. `None` where it makes none, as where its
-    /// compartment is not made or its register is empty.
+    /// The object or map that a `wrap` is about: the target of a register's wrapper, or the
+    /// register's cell itself. `None` for other commands, and where the `wrap` is refused.
+    pub fn wrapped_by(&self, cmd: &GraphCmd) -> Option<Place>
+        requires { IsSound self.now }
+        ensures value { IsWrapped self.now cmd.now result }
+        ensures present { ForSome result (IsPresent self.now.shape) }
+    {
+        match cmd {
+            GraphCmd::Wrap(_, s, c) => self.to_wrap(*s, *c),
+            _ => None,
+        }
+    }
+
+    /// The zone in which a command will make a cell. `None` where it makes none, and where the
+    /// command is refused: its compartment is not made, or its register is empty.
     pub fn makes_in(&self, cmd: &GraphCmd) -> Option<ZoneNo>
         requires { IsSound self.now }
-        ensures { result ≡ made_in self.now cmd.now }
+        ensures zone { result ≡ made_in self.now cmd.now }
+        ensures accepted { IsSome result → (g : GraphState) → Shows self.now g
+            → IsAccepted g cmd.now }
     {
         match cmd {
             GraphCmd::New(_, c, _) => self.home(*c),
@@ -124,5 +140,14 @@ impl Heap {
             Ok(target) => self.seen_from(c, target),
             Err(_) => None,
         }
+    }
+
+    // The object or map that a `wrap` of a register's cell is about, unless it is refused.
+    fn to_wrap(&self, s: Reg, c: CompNo) -> Option<Place>
+        requires { IsSound self.now }
+        ensures value { (r : _) → IsWrapped self.now (cmd.Wrap r s c) result }
+        ensures present { ForSome result (IsPresent self.now.shape) }
+    {
+        self.wrappable(s, c).ok()
     }
 }
