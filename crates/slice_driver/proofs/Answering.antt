@@ -1,5 +1,5 @@
 -- The call of a command, also between two units of a collection.
-use Rattle.std.proofs.Common.{◌≡◌, ◌↔◌, ◌≤◌, ◌*◌, ℕ, false, List, length, Bool, true, Option, Some, None, is_some, Result, Ok, Err, OnOk, OnErr, Contains, slice_get, if◌then◌else◌, refl, sym, ap, subst, ◌∙◌, inl, inr}
+use Rattle.std.proofs.Common.{◌≡◌, ◌↔◌, ◌≤◌, ◌*◌, ℕ, false, List, length, Bool, true, Option, Some, None, is_some, Result, Ok, Err, OnOk, OnErr, Contains, slice_get, if◌then◌else◌, refl, sym, ap, subst, ◌∙◌, inl, inr, IsSome}
 use Rattle.std.specs.FinSet as set
 use Rattle.std.specs.Option.{option_map}
 use Rattle.gz_names.specs.declared.names.Name.{Name}
@@ -24,13 +24,13 @@ use Rattle.colour_defs.specs.Units.{Tally, with_put, with_woken}
 use Rattle.colour_defs.specs.World.{World, Collection, IsSettled, with_counts, woken_by, woken_by_wrap}
 use Rattle.colour_defs.proofs.Lists.{nothing_in_none}
 use Rattle.colour_defs.proofs.ValidCommands.{command_valid}
-use Rattle.heap_core.specs.Shape.{held_name, is_marking, is_marking_state, name_at, out_of, zone_of}
+use Rattle.heap_core.specs.Shape.{Shape, held_name, is_marking, is_marking_state, name_at, out_of, zone_of}
 use Rattle.heap_core.specs.Heap.{HeapState, colour_in, colour_of, joined, reg_of, slot_of, with_flown}
 use Rattle.heap_core.specs.Answers.{DoesStep}
 use Rattle.heap_core.specs.Changes.{Makes}
 use Rattle.heap_core.specs.Effects.{Changes}
 use Rattle.heap_core.specs.Lookups.{target_at}
-use Rattle.heap_core.specs.Peeks.{IsHanded, handed as handed_in, stored, unless_refused}
+use Rattle.heap_core.specs.Peeks.{IsHanded, handed as handed_in, stored, unless_refused, wrapped_target}
 use Rattle.heap_core.specs.Shows.{Shows}
 use Rattle.barriers.specs.Colours.{IsBlack}
 use Rattle.barriers.specs.Exposing.{BlackOr, Exposes}
@@ -44,13 +44,15 @@ use Rattle.slice_driver.specs.Collector.{CollectorState, RunState, heap_with}
 use Rattle.slice_driver.specs.Commands.{ComesTo, DoesInWorld, Exposed, KeepsBlack, SpreadsBlack, StayInPlace, Wakes, waking, with_colours}
 use Rattle.slice_driver.specs.Represents.{AreInStates, AreLookedAt, IsIdle, Represents, Runs, RunsAs, WaitsWhileMarking}
 use Rattle.slice_driver.specs.Serves.{Serves}
-use Rattle.slice_driver.specs.Steps.{CommandSteps, GoesThrough, HomesAreMade, wrapped_target}
-use Rattle.slice_driver.specs.Units.{AnswersIn, DoesCommand}
+use Rattle.slice_driver.specs.Steps.{CommandSteps, GoesThrough, HomesAreMade}
+use Rattle.slice_driver.specs.Units.{AnswersIn, DoesCommand, KeepsFreedWords}
 use Rattle.slice_driver.specs.Worlds.{IsInFlight, IsUnswept, LiesIn}
 use Rattle.slice_driver.proofs.Begun.{none_member}
 use Rattle.slice_driver.proofs.CommandRuns.{names_come, names_stay, runs_served, waits_served}
 use Rattle.slice_driver.proofs.Commanding.{exposed_marks, handed_plain, stored_plain}
 use Rattle.slice_driver.proofs.Flights.{still_flies}
+use Rattle.slice_driver.proofs.FreedWords.{keeps_words, same_words}
+use Rattle.heap_core.proofs.MakingCells.{same-place}
 use Rattle.slice_driver.proofs.Keeping.{stay_same}
 use Rattle.slice_driver.proofs.Lying.{lies_coloured, refused_in, shows_coloured, woken_in}
 use Rattle.slice_driver.proofs.MarkingSteps.{own_sized}
@@ -418,6 +420,21 @@ module _ (b : CollectorState) (flown : ℕ → Option Bits) (command : GraphCmd)
               (was k b.run (subst (λ u. RunsAs (joined m flying) t w b.run u) at there.runs) z has) _ (grown done.after done.graph_is),
         )
 
+    -- what is freed of the arenas that are out stays the same
+    pub words_moves : Moves m command new → KeepsFreedWords m.shape new.shape
+    words_moves (quiet stay wakes colours reach) = keeps_words m.shape new.shape lies.whole stay.whole served.outs (λ p out. stay.names p) stay.unswept
+    words_moves (finds p x named wakes colours arenas weak none_stored is_handed) =
+        let stay = stay_same m.shape new.shape arenas lies.whole in
+        keeps_words m.shape new.shape lies.whole stay.whole served.outs (λ q out. stay.names q) stay.unswept
+    words_moves (makes zone p x cell between comes wakes mk colours none_stored none_handed) = keeps_words m.shape new.shape lies.whole comes.whole served.outs (λ q out. elim (same-place q p) [
+      | inl here ↦ absurd (let none : out_of m.shape q.0 ≡ None = ap (λ (z : Place). out_of m.shape z.0) here.0 ∙ mk.in_place in some_out (out_of m.shape q.0) none out)
+      | inr away ↦ comes.names q ∙ ap (λ b. if b then Some x else name_at m.shape q) away.1
+    ]) comes.unswept
+      where
+        some_out : (o : Option Bits) → o ≡ None → IsSome o → ⊥
+        some_out None e some = cc some
+        some_out (Some b) e some = cc e
+
     pub answers_moves : Moves m command new → AnswersIn w command (Ok answer) d flying
     answers_moves (quiet stay wakes colours reach) = answers_quiet stay wakes colours (λ p e. reach p (inr (sym handed_is ∙ e)))
     answers_moves (finds p x named wakes colours arenas weak none_stored is_handed) = answers_found p x named wakes colours arenas weak (handed_is ∙ is_handed)
@@ -466,7 +483,11 @@ module _ (c : CollectorState) (flown : ℕ → Option Bits) (command : GraphCmd)
   first_stands = represents_through steps.old wide first flown steps.first_flown w steps.old_through old_reached wide_stands
 
   target_reached : IsReached steps.target first steps.first_flown
-  target_reached p e = held_reached first steps.first_flown w first_stands p (wrapped_held first.heap first_stands.lies.graph first_stands.lies.shown command p (sym steps.target_is ∙ e))
+  target_reached p e = go (refusal_in (step_of first_stands.lies.graph command).1) (steps.target_is first_stands.lies.graph first_stands.lies.shown)
+    where
+      go : (o : Option Refusal) → steps.target ≡ unless_refused o (wrapped_target first.heap command) → Reached first.heap.shape (IsBlack (heap_with first steps.first_flown)) p
+      go None is = held_reached first steps.first_flown w first_stands p (wrapped_held first.heap first_stands.lies.graph first_stands.lies.shown command p (sym is ∙ e))
+      go (Some why) is = absurd (cc (is, e))
 
   second_stands : Represents second steps.second_flown w
   second_stands = represents_through steps.target first second steps.first_flown steps.second_flown w steps.target_through target_reached first_stands
@@ -508,10 +529,13 @@ module _ (c : CollectorState) (flown : ℕ → Option Bits) (command : GraphCmd)
       exposed_keeps steps.target (heap_with first steps.first_flown) first.stack (heap_with second steps.second_flown) second.stack steps.target_through.exposed p
       (exposed_is steps.old (heap_with wide flown) wide.stack (heap_with first steps.first_flown) first.stack steps.old_through.exposed p (is ∙ here))
 
-  target_black : (r i : ℕ) (n : CompNo) (p : Place) → command ≡ cmd.Wrap r i n → reg_of second.heap i ≡ Some p → IsBlack (heap_with second steps.second_flown) (target_at second.heap.shape p)
-  target_black r i n p is e =
+  target_black : refusal_in (step_of first_stands.lies.graph command).1 ≡ None → (r i : ℕ) (n : CompNo) (p : Place) → command ≡ cmd.Wrap r i n → reg_of second.heap i ≡ Some p → IsBlack (heap_with second steps.second_flown) (target_at second.heap.shape p)
+  target_black accepted r i n p is e =
       let reg : reg_of first.heap i ≡ Some p = sym (ap (λ h. reg_of h i) second_rest) ∙ e in
-      let found : steps.target ≡ Some (target_at first.heap.shape p) = steps.target_is ∙ (ap (λ k. wrapped_target first.heap k) is ∙ ap (λ o. option_map (target_at first.heap.shape) o) reg) in
+      let found : steps.target ≡ Some (target_at first.heap.shape p) =
+      steps.target_is first_stands.lies.graph first_stands.lies.shown
+      ∙ (ap (λ o. unless_refused o (wrapped_target first.heap command)) accepted
+      ∙ (ap (λ k. wrapped_target first.heap k) is ∙ ap (λ o. option_map (target_at first.heap.shape) o) reg)) in
       let black = exposed_is steps.target (heap_with first steps.first_flown) first.stack (heap_with second steps.second_flown) second.stack steps.target_through.exposed (target_at first.heap.shape p) found in
       subst (λ q. IsBlack (heap_with second steps.second_flown) q) (ap (λ (h : HeapState). target_at h.shape p) (sym second_rest)) black
 
@@ -546,14 +570,21 @@ module _ (c : CollectorState) (flown : ℕ → Option Bits) (command : GraphCmd)
     accepted_wide : refusal_in (step_of wide_stands.lies.graph command).1 ≡ None
     accepted_wide = accepted_by wide_stands.lies.graph (shows_third wide_stands.lies.graph wide_stands.lies.shown)
 
+    accepted_first : refusal_in (step_of first_stands.lies.graph command).1 ≡ None
+    accepted_first = accepted_by first_stands.lies.graph (shows_last first_stands.lies.graph (subst (λ h. Shows h first_stands.lies.graph) (sym second_rest) (shows_coloured first.heap second.heap.colours first_stands.lies.graph first_stands.lies.shown)))
+
     pub answered_ok : AnswersIn w command (Ok answer) d flying
     answered_ok = subst (λ e. AnswersIn w command (Ok answer) e flying) (sym d_is)
-        (answers_moves second steps.second_flown command w ok second_stands ds steps.third.stack flying steps.handed steps.handed_is exposed_last covers_last accepted_here homes_second apart_second (stored_black accepted_wide) target_black answer d.heap step_ok change_ok room_last lists_last
+        (answers_moves second steps.second_flown command w ok second_stands ds steps.third.stack flying steps.handed steps.handed_is exposed_last covers_last accepted_here homes_second apart_second (stored_black accepted_wide) (target_black accepted_first) answer d.heap step_ok change_ok room_last lists_last
         (moves_of (with_colours second.heap ds) second_stands.lies.graph (shows_last second_stands.lies.graph second_stands.lies.shown) second_stands.lies.whole d.heap command change_ok))
 
     -- no arena is handed out or taken in
     pub outs_ok : (a : ℕ) → out_of d.heap.shape a ≡ out_of second.heap.shape a
-    outs_ok a = (served second steps.second_flown command w ok second_stands ds steps.third.stack flying steps.handed steps.handed_is exposed_last covers_last accepted_here homes_second apart_second (stored_black accepted_wide) target_black answer d.heap step_ok change_ok room_last lists_last).outs a
+    outs_ok a = (served second steps.second_flown command w ok second_stands ds steps.third.stack flying steps.handed steps.handed_is exposed_last covers_last accepted_here homes_second apart_second (stored_black accepted_wide) (target_black accepted_first) answer d.heap step_ok change_ok room_last lists_last).outs a
+
+    pub words_ok : KeepsFreedWords second.heap.shape d.heap.shape
+    words_ok = words_moves second steps.second_flown command w ok second_stands ds steps.third.stack flying steps.handed steps.handed_is exposed_last covers_last accepted_here homes_second apart_second (stored_black accepted_wide) (target_black accepted_first) answer d.heap step_ok change_ok room_last lists_last
+        (moves_of (with_colours second.heap ds) second_stands.lies.graph (shows_last second_stands.lies.graph second_stands.lies.shown) second_stands.lies.whole d.heap command change_ok)
 
   answered : (r : Result Reply CmdFault) → result ≡ r → AnswersIn w command r d flying
   answered (Ok answer) is = answered_ok answer is
@@ -583,6 +614,16 @@ module _ (c : CollectorState) (flown : ℕ → Option Bits) (command : GraphCmd)
       go : (r : Result Reply CmdFault) → result ≡ r → out_of d.heap.shape a ≡ out_of second.heap.shape a
       go (Ok answer) is = outs_ok answer is a
       go (Err why) is = same (subst (λ r. OnErr r (d.heap ≡ steps.third.heap)) is steps.err)
+
+  pub words_command : KeepsFreedWords c.heap.shape d.heap.shape
+  words_command = go result refl
+    where
+      first_same : second.heap.shape ≡ c.heap.shape
+      first_same = ap (λ (h : HeapState). h.shape) second_wide ∙ ap (λ (h : HeapState). h.shape) wide_heap
+
+      go : (r : Result Reply CmdFault) → result ≡ r → KeepsFreedWords c.heap.shape d.heap.shape
+      go (Ok answer) is = subst (λ (s : Shape). KeepsFreedWords s d.heap.shape) first_same (words_ok answer is)
+      go (Err why) is = same_words c.heap.shape d.heap.shape (ap (λ (h : HeapState). h.shape) (subst (λ r. OnErr r (d.heap ≡ steps.third.heap)) is steps.err) ∙ (ap (λ (h : HeapState). h.shape) third_rest ∙ first_same))
 
 pub serves_command : (c : CollectorState) (flown : ℕ → Option Bits) (command : GraphCmd) (result : Result Reply CmdFault) (d : CollectorState) (flying : ℕ → Option Bits) → CommandSteps c flown command result d flying → DoesCommand c flown command result d flying
 serves_command c flown command result d flying steps w ok rep = answers_command c flown command result d flying steps w ok rep

@@ -22,6 +22,7 @@ use Rattle.slice_driver.specs.Represents.{AreLookedAt, IsIdle, Represents, RunsA
 use Rattle.slice_driver.specs.Units as flight
 use Rattle.slice_driver.specs.Units.{BeginsIn}
 use Rattle.slice_driver.specs.Begins.{BeginsMarking}
+use Rattle.colour_defs.proofs.ValidReports.{begin_valid}
 use Rattle.slice_driver.proofs.BeginsIn.{begins_in}
 use Rattle.slice_driver.proofs.Beginning.{begins_marking, begins_tied, none_flown, runs_begun}
 
@@ -121,6 +122,6 @@ none_runs c flown w idle rep = go w.collection (subst (λ r. RunsAs (heap_with c
     go (Some k) runs = absurd runs
 
 pub begins_worlds : (c d : CollectorState) (zones : ZoneSet) → c.run ≡ None → BeginsMarking c.heap zones d.heap d.stack d.lists → ((z : ℕ) → HasZone zones.bits z → z < length c.heap.shape.states) → d.run ≡ Some (record { zones = zones; formed = false }) → d.edges.zones ≡ zones → ((a b : ℕ) → Edge d.edges.sources a b → ⊥) → ((z : ℕ) → cursor_of d.edges z ≡ 0) → d.edges.stepped.bits ≡ 0 → BeginsIn c zones.bits d
-begins_worlds c d zones idle b made run are none start fresh w ok rep =
-    let begun = begins_in w (zones_in zones) (none_runs c flight.none_flown w idle rep) (λ z has. subst (λ n. z < n) (sym rep.lies.shown.zones_are ∙ rep.lies.part.part.zones) (made z ((zones_in-has zones z).0 has))) in
-    (begun.0, begun.1, represents_begun c d flight.none_flown w begun.0 zones rep ok idle b begun.1 run (looked_begun d.heap d zones begun.0 begun.1.collection are none start fresh))
+begins_worlds c d zones idle b made run are none start fresh flown w ok rep =
+    let begun = begins_in w (zones_in zones) (none_runs c flown w idle rep) (λ z has. subst (λ n. z < n) (sym rep.lies.shown.zones_are ∙ rep.lies.part.part.zones) (made z ((zones_in-has zones z).0 has))) in
+    (begun.0, begun.1, begin_valid w (zones_in zones) begun.0 ok begun.1, represents_begun c d flown w begun.0 zones rep ok idle b begun.1 run (looked_begun d.heap d zones begun.0 begun.1.collection are none start fresh))

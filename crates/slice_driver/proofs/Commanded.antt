@@ -1,5 +1,6 @@
 -- From what the parts of the call of a command do to its steps.
-use Rattle.std.proofs.Common.{◌≡◌, ◌<◌, ◌≤◌, ◌+◌, ◌==◌, ℕ, List, length, All, Option, Some, None, IsSome, is_some, Result, Ok, Err, OnOk, OnErr, if◌then◌else◌, refl, sym, ap, subst, ◌∙◌, arith}
+use Rattle.std.proofs.Common.{◌≡◌, ◌<◌, ◌≤◌, ◌+◌, ◌==◌, ℕ, List, length, All, Option, Some, None, IsSome, is_some, true, Result, Ok, Err, IfOk, OnOk, OnErr, if◌then◌else◌, refl, sym, ap, subst, ◌∙◌, arith}
+use Rattle.std.specs.Result.{is_err}
 use Rattle.gz_names.specs.declared.numbers.Place.{Place}
 use Rattle.gz_names.specs.declared.numbers.CompNo.{CompNo}
 use Rattle.gz_names.specs.declared.commands.GraphCmd.{GraphCmd}
@@ -13,35 +14,33 @@ use Rattle.wrappers.specs.WrapperMaps.{AreApart}
 use Rattle.mark_stack.specs.Stack.{Piles}
 use Rattle.gray_lists.specs.Incoming.{Incoming}
 use Rattle.colour_defs.specs.Graph.{GraphState}
-use Rattle.colour_defs.specs.Step.{step_of, refusal_in}
+use Rattle.colour_defs.specs.Step.{IsAccepted, step_of, refusal_in}
 use Rattle.colour_defs.specs.World.{first_world}
 use Rattle.colour_defs.proofs.ValidCommands.{command_valid}
 use Rattle.colour_defs.proofs.ValidRuns.{first_valid}
-use Rattle.heap_core.specs.Shape.{IsPresent, out_of}
+use Rattle.heap_core.specs.Shape.{out_of}
 use Rattle.heap_core.specs.Heap.{HeapState, joined, reg_of}
 use Rattle.heap_core.specs.Answers as answers
 use Rattle.heap_core.specs.Answers.{DoesStep}
 use Rattle.heap_core.specs.Effects.{Changes}
 use Rattle.heap_core.specs.Changes.{next_place}
-use Rattle.heap_core.specs.Peeks.{IsHanded, IsOld, handed, made_in, unless_refused, wrapped_in}
+use Rattle.heap_core.specs.Peeks.{IsHanded, IsOld, IsWrapped, cells_made, handed, made_in, stored, unless_refused, wrapped_in, wrapped_target}
 use Rattle.heap_core.specs.Shows.{Shows}
-use Rattle.barriers.specs.Reached.{Reached}
-use Rattle.barriers.specs.Reached as reached
 use Rattle.barriers.specs.Invariant.{MarkingInvariant}
 use Rattle.barriers.proofs.Flying.{flown_length}
 use Rattle.gz_names.specs.declared.zone_sets.ZoneSet.{ZoneSet}
 use Rattle.zone_edges.specs.Noted.{Noted}
 use Rattle.slice_driver.specs.declared.collector.Run.{Run}
 use Rattle.slice_driver.specs.Collector.{CollectorState, HasMore, IsKept}
-use Rattle.slice_driver.specs.Commands.{Exposed, with_colours}
+use Rattle.slice_driver.specs.Commands.{Exposed, WantsMemory, with_colours}
 use Rattle.slice_driver.specs.Represents.{Represents}
 use Rattle.slice_driver.specs.Rooms.{IsRoomy, Widens, arenas_after}
-use Rattle.slice_driver.specs.Steps.{CommandSteps, GoesThrough, wrapped_target}
-use Rattle.slice_driver.specs.Units.{AnswersIn, DoesCommand, IsSound}
-use Rattle.slice_driver.proofs.Answering.{exposed_rest, outs_command, serves_command, through_rest, wrapped_held}
-use Rattle.slice_driver.proofs.Moving.{IsHeld}
-use Rattle.slice_driver.proofs.Commanding.{exposed_marks, handed_plain}
-use Rattle.slice_driver.proofs.Lying.{shows_coloured}
+use Rattle.slice_driver.specs.Steps.{CommandSteps, GoesThrough}
+use Rattle.slice_driver.specs.Units.{AnswersIn, DoesCommand, IsSound, KeepsFreedWords}
+use Rattle.slice_driver.proofs.FreedWords.{same_words}
+use Rattle.slice_driver.proofs.Answering.{exposed_rest, outs_command, serves_command, through_rest, words_command}
+use Rattle.slice_driver.proofs.Commanding.{exposed_marks, handed_plain, stored_plain}
+use Rattle.slice_driver.proofs.Lying.{accepted_in, shows_coloured}
 use Rattle.slice_driver.proofs.Rooms.{few_arenas, few_entries, homes_made, marks_room}
 use Rattle.slice_driver.proofs.Through.{represents_widened}
 
@@ -121,17 +120,50 @@ pub exposed_after : (o : Option Place) (c d : CollectorState) (flown flying : �
 exposed_after o c d flown flying e inv = exposed_marks o (joined c.heap flown) c.stack (joined d.heap flying) d.stack e inv
 
 -- where room is wanted, nothing was done
+pub wide_words : (c d : CollectorState) → Widens c d → KeepsFreedWords c.heap.shape d.heap.shape
+wide_words c d wide = same_words c.heap.shape d.heap.shape (ap (λ (h : HeapState). h.shape) (wide_heap c d wide))
+
 pub wants_room : (c d : CollectorState) (flown : ℕ → Option Bits) (command : GraphCmd) → Widens c d → DoesCommand c flown command (Err fault.NoMemory) d flown
 wants_room c d flown command wide w ok rep = represents_widened c d flown w wide rep
 
--- what is reached from registers is present, and so is what a `wrap` is about
-held_present : (h : HeapState) (g : GraphState) → Shows h g → {p : Place} → Reached h.shape (IsHeld h) p → IsPresent h.shape p
-held_present h g s (reached.from {x} held) = s.registers_held x held
-held_present h g s (reached.along {x} {y} r e) = s.fields_held x y e.0 e.2
-held_present h g s (reached.weak {m} {k} {v} e a b) = (s.entries_held m k v e).2
+no_old : (o : Option Refusal) → unless_refused o None ≡ None
+no_old None = refl
+no_old (Some why) = refl
 
-pub wrapped_present : (h : HeapState) (c : GraphCmd) (o : Option Place) → answers.IsSound h → o ≡ wrapped_target h c → (p : Place) → o ≡ Some p → IsPresent h.shape p
-wrapped_present h c o s e p is = held_present h s.0 s.1 (wrapped_held h s.0 s.1 c p (sym e ∙ is))
+none_left : {X : Type 0} (o : Option X) → (IsSome o → ⊥) → o ≡ None
+none_left None none = refl
+none_left (Some x) none = absurd (none refl)
+
+pub where_err : {T E P : Type 0} (r : Result T E) → is_err r ≡ true → OnErr r P → P
+where_err (Ok x) e p = absurd (cc e)
+where_err (Err y) e p = p
+
+-- only a `wrap` is about a cell
+no_target : (h : HeapState) (k : GraphCmd) → ((r s : ℕ) (c : CompNo) → k ≡ cmd.Wrap r s c → ⊥) → wrapped_target h k ≡ None
+no_target h cmd.Zone plain = refl
+no_target h (cmd.Comp z) plain = refl
+no_target h (cmd.New r c n) plain = refl
+no_target h (cmd.Map r c) plain = refl
+no_target h (cmd.Get r s f) plain = refl
+no_target h (cmd.Set s f t) plain = refl
+no_target h (cmd.Wrap r s c) plain = absurd (plain r s c refl)
+no_target h (cmd.Unwrap r s) plain = refl
+no_target h (cmd.Copy r s) plain = refl
+no_target h (cmd.Drop r) plain = refl
+no_target h (cmd.Hold g r) plain = refl
+no_target h (cmd.Release g) plain = refl
+no_target h (cmd.Expose r g) plain = refl
+no_target h (cmd.Put m k v) plain = refl
+no_target h (cmd.Del m k) plain = refl
+no_target h (cmd.Find r m k) plain = refl
+
+-- where room is wanted, the command makes a cell, so it is not refused
+pub room_wanted : (c d : CollectorState) (flown : ℕ → Option Bits) (command : GraphCmd) → Widens c d → ((g : GraphState) → Shows c.heap g → IsAccepted g command) → WantsMemory c flown command d flown
+room_wanted c d flown command wide accepted = record {
+  accepted = λ w ok rep. accepted_in w c.heap command ok rep.lies (accepted rep.lies.graph rep.lies.shown);
+  shape_is = ap (λ (h : HeapState). h.shape) (wide_heap c d wide);
+  kept = λ plain. (wide, refl);
+}
 
 -- what the parts of the call of a command do: room is made, what is overwritten, what a `wrap` is about and what is handed out go through a barrier, and the heap does the command
 pub record IsCall (c d1 d2 d3 d4 d : CollectorState) (flown f1 f2 f3 : ℕ → Option Bits) (command : GraphCmd) (result : Result Reply CmdFault) (old target given : Option Place) : Type 0 where
@@ -140,6 +172,8 @@ pub record IsCall (c d1 d2 d3 d4 d : CollectorState) (flown f1 f2 f3 : ℕ → O
   pub apart : AreApart c.heap.shape.wrappers.lists
   pub wide : Widens c d1
   pub roomy : IsRoomy d1 (arenas_after c.heap (made_in c.heap command))
+  pub kept : made_in c.heap command ≡ None → d1 ≡ c
+  pub accepted : IsSome (made_in c.heap command) → (g : GraphState) → Shows c.heap g → IsAccepted g command
   pub first : GoesThrough old d1 flown d2 f1
   pub second : GoesThrough target d2 f1 d3 f2
   pub third : GoesThrough given d3 f2 d4 f3
@@ -147,10 +181,11 @@ pub record IsCall (c d1 d2 d3 d4 d : CollectorState) (flown f1 f2 f3 : ℕ → O
   pub change : OnOk result (Changes d4.heap command d.heap)
   pub err : OnErr result (d.heap ≡ d4.heap)
   pub old_is : IsOld d1.heap command old
-  pub target_is : target ≡ wrapped_target d2.heap command
+  pub target_is : IsWrapped d2.heap command target
   pub handed_is : IsHanded d3.heap command given
   pub step : DoesStep d4.heap command result d.heap
   pub seen : IsSome (handed d4.heap command) → result ≡ Err fault.NoMemory → ⊥
+  pub stored_there : IsSome (stored d4.heap command) → result ≡ Err fault.NoMemory → ⊥
 
 module _ (c d1 d2 d3 d4 d : CollectorState) (flown f1 f2 f3 : ℕ → Option Bits) (command : GraphCmd) (result : Result Reply CmdFault) (old target given : Option Place) (call : IsCall c d1 d2 d3 d4 d flown f1 f2 f3 command result old target given) where
   shape_first : SameShape d1.heap d2.heap
@@ -214,6 +249,14 @@ module _ (c d1 d2 d3 d4 d : CollectorState) (flown f1 f2 f3 : ℕ → Option Bit
   pub run_after : d.run ≡ c.run
   run_after = ap (λ (z : CollectorState). z.run) call.rest ∙ (ap (λ (z : CollectorState). z.run) call.third.rest ∙ (ap (λ (z : CollectorState). z.run) call.second.rest ∙ (ap (λ (z : CollectorState). z.run) call.first.rest ∙ ap (λ (z : CollectorState). z.run) call.wide.rest)))
 
+  -- as many cells were made as the command makes where it was called
+  pub made_after : (answer : Result Reply CmdFault) → d.heap.made ≡ d4.heap.made + cells_made d4.heap command answer → d.heap.made ≡ c.heap.made + cells_made c.heap command answer
+  made_after answer done = subst (λ (n : ℕ). d.heap.made ≡ c.heap.made + n) (same answer) (done ∙ ap (λ (z : HeapState). z.made + cells_made d4.heap command answer) shape_is)
+    where
+      same : (r : Result Reply CmdFault) → cells_made d4.heap command r ≡ cells_made c.heap command r
+      same (Ok reply) = ap (λ (z : Option ℕ). if is_some z then 1 else 0) made_same
+      same (Err why) = refl
+
   pub entries_after : length d.heap.shape.weak.entries ≤ length c.heap.shape.weak.entries + 1
   entries_after = subst (λ (z : HeapState). length d.heap.shape.weak.entries ≤ length z.shape.weak.entries + 1) shape_is (go result call.change call.err)
     where
@@ -229,6 +272,99 @@ module _ (c d1 d2 d3 d4 d : CollectorState) (flown f1 f2 f3 : ℕ → Option Bit
       let there : handed d3.heap command ≡ Some p = some_handed (refusal_in (step_of shown.0 command).1) (handed d3.heap command) p (sym (call.handed_is shown.0 shown.1) ∙ is) in
       let here : handed d4.heap command ≡ Some p = ap (λ z. handed z command) shape_third ∙ (handed_plain d3.heap d4.heap.colours command ∙ there) in
       call.seen (ap is_some here) wants
+
+  -- the heap shows the same graphs through all steps
+  same_one : SameShape c.heap d1.heap
+  same_one = subst (λ z. SameShape z d1.heap) (wide_heap c d1 call.wide) refl
+
+  same_two : SameShape c.heap d2.heap
+  same_two = same_then c.heap d1.heap d2.heap same_one shape_first
+
+  same_three : SameShape c.heap d3.heap
+  same_three = same_then c.heap d2.heap d3.heap same_two shape_second
+
+  shown_at : (h : HeapState) → SameShape c.heap h → (g : GraphState) → Shows c.heap g → Shows h g
+  shown_at h same g s = subst (λ z. Shows z g) (sym same) (shows_coloured c.heap h.colours g s)
+
+  abbrev g : GraphState
+  g = call.sound.represents.lies.graph
+
+  abbrev s : Shows c.heap g
+  s = call.sound.represents.lies.shown
+
+  still_heap : (why : CmdFault) → result ≡ Err why → d.heap ≡ d4.heap
+  still_heap why is = subst (λ r. OnErr r (d.heap ≡ d4.heap)) is call.err
+
+  -- where nothing is exposed, only room is made
+  still : d.heap ≡ d4.heap → old ≡ None → target ≡ None → given ≡ None → (d ≡ d1) × (f3 ≡ flown)
+  still same no_old no_target no_given =
+      let one = call.first.still no_old in
+      let two = call.second.still no_target in
+      let three = call.third.still no_given in
+      (call.rest ∙ (ap (λ (h : HeapState). record d4 { heap = h }) same ∙ (three.0 ∙ (two.0 ∙ one.0))), three.1 ∙ (two.1 ∙ one.1))
+
+  -- an answer is no refusal
+  pub answered_call : IfOk result (λ answer. refusal_in answer ≡ None)
+  answered_call = go result refl
+    where
+      go : (r : Result Reply CmdFault) → result ≡ r → IfOk r (λ answer. refusal_in answer ≡ None)
+      go (Ok answer) is =
+          let step : DoesStep d4.heap command (Ok answer) d.heap = subst (λ r. DoesStep d4.heap command r d.heap) is call.step in
+          let said = (step g (shown_at d4.heap shape_is g s)).0 in
+          ap refusal_in said.0 ∙ said.1
+      go (Err why) is = tt
+
+  -- a refusal changes nothing
+  pub refused_call : (why : Refusal) → result ≡ Err (fault.Refused why) → (d ≡ c) × (f3 ≡ flown)
+  refused_call why is =
+      let step : DoesStep d4.heap command (Err (fault.Refused why)) d.heap = subst (λ r. DoesStep d4.heap command r d.heap) is call.step in
+      let said : refusal_in (step_of g command).1 ≡ Some why = ap refusal_in (step g (shown_at d4.heap shape_is g s)).0 in
+      let none : made_in c.heap command ≡ None = none_left (made_in c.heap command) (λ makes. (let accepted = call.accepted makes g s in cc (accepted, said))) in
+      let after = still (still_heap (fault.Refused why) is)
+      (call.old_is g (shown_at d1.heap same_one g s) ∙ ap (λ o. unless_refused o (stored d1.heap command)) said)
+      (call.target_is g (shown_at d2.heap same_two g s) ∙ ap (λ o. unless_refused o (wrapped_target d2.heap command)) said)
+      (call.handed_is g (shown_at d3.heap same_three g s) ∙ ap (λ o. unless_refused o (handed d3.heap command)) said)
+      in
+      (after.0 ∙ call.kept none, after.1)
+
+  -- memory is wanted only where the command is not refused
+  pub wanted_call : result ≡ Err fault.NoMemory → WantsMemory c flown command d f3
+  wanted_call wants = record {
+    accepted = λ w ok rep. accepted_in w c.heap command ok rep.lies (step rep.lies.graph (shown_at d4.heap shape_is rep.lies.graph rep.lies.shown)).0;
+    shape_is = ap (λ (h : HeapState). h.shape) same ∙ ap (λ (h : HeapState). h.shape) shape_is;
+    kept = λ plain. (let after = still same old_none (target_none plain) given_none in (subst (Widens c) (sym after.0) call.wide, after.1));
+  }
+    where
+      step : DoesStep d4.heap command (Err fault.NoMemory) d.heap
+      step = subst (λ r. DoesStep d4.heap command r d.heap) wants call.step
+
+      same : d.heap ≡ d4.heap
+      same = still_heap fault.NoMemory wants
+
+      why : Option Refusal
+      why = refusal_in (step_of g command).1
+
+      no_stored : stored d4.heap command ≡ None
+      no_stored = none_left (stored d4.heap command) (λ some. call.stored_there some wants)
+
+      stored_same : stored d1.heap command ≡ stored d4.heap command
+      stored_same =
+          ap (λ h. stored h command) same_one
+          ∙ (stored_plain c.heap d1.heap.colours command
+          ∙ sym (ap (λ h. stored h command) shape_is ∙ stored_plain c.heap d4.heap.colours command))
+
+      old_none : old ≡ None
+      old_none = call.old_is g (shown_at d1.heap same_one g s) ∙ (ap (unless_refused why) (stored_same ∙ no_stored) ∙ no_old why)
+
+      target_none : ((r s : ℕ) (c : CompNo) → command ≡ cmd.Wrap r s c → ⊥) → target ≡ None
+      target_none plain = call.target_is g (shown_at d2.heap same_two g s) ∙ (ap (unless_refused why) (no_target d2.heap command plain) ∙ no_old why)
+
+      given_none : given ≡ None
+      given_none = go given refl
+        where
+          go : (o : Option Place) → given ≡ o → given ≡ None
+          go None is = is
+          go (Some p) is = absurd (sure p is wants)
 
   steps : CommandSteps c flown command result d f3
   steps = record {
@@ -261,6 +397,10 @@ module _ (c d1 d2 d3 d4 d : CollectorState) (flown f1 f2 f3 : ℕ → Option Bit
 
   pub does_call : DoesCommand c flown command result d f3
   does_call = serves_command c flown command result d f3 steps
+
+  -- what is freed of the arenas that are out stays the same
+  pub words_call : KeepsFreedWords c.heap.shape d.heap.shape
+  words_call = words_command c flown command result d f3 steps call.sound.world call.sound.valid call.sound.represents
 
   -- no arena is handed out or taken in
   outs_call : (a : ℕ) → out_of d.heap.shape a ≡ out_of c.heap.shape a

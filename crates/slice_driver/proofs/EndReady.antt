@@ -1,15 +1,21 @@
 -- The current group, as a collector has it, and what holds of the heap where no arena is out.
 use Rattle.std.proofs.Common.{◌≡◌, ℕ, Option, None, Some, List, length, drop, slice_get, is_some, sym, ap, subst, ◌∙◌, inl}
+use Rattle.gz_names.specs.Zones.{zones_in}
 use Rattle.gz_names.specs.declared.numbers.Place.{Place}
 use Rattle.gz_names.specs.declared.zone_sets.ZoneSet.{ZoneSet}
 use Rattle.cell_bits.specs.declared.bits.Bits.{Bits}
+use Rattle.colour_defs.specs.Ends.{zones_without}
+use Rattle.colour_defs.specs.Laws.{IsValid}
+use Rattle.colour_defs.specs.World.{Collection, World}
 use Rattle.heap_core.specs.Shape.{IsPresent, out_of}
 use Rattle.heap_core.specs.Heap.{HeapState}
 use Rattle.barriers.specs.Colours.{IsGray}
 use Rattle.barriers.specs.Invariant.{MarkingInvariant}
 use Rattle.slice_driver.specs.Collector.{CollectorState, heap_with}
-use Rattle.slice_driver.specs.GroupEnd.{IsReady}
+use Rattle.slice_driver.specs.GroupEnd.{AreColoured, IsReady}
+use Rattle.slice_driver.specs.Represents.{Represents}
 use Rattle.slice_driver.specs.Units.{IsSound}
+use Rattle.slice_driver.proofs.GroupEndColours.{coloured}
 use Rattle.slice_driver.proofs.GroupEndReady.{joined_none, no_some}
 use Rattle.slice_driver.proofs.Named.{some_one}
 
@@ -23,6 +29,12 @@ ready_here v now is g rest ready group at =
     let here : IsReady v g rest = subst (λ x. IsReady x g rest) (sym is) ready in
     let same : g ≡ group = some_one _ _ (sym (ap (λ (gs : List ZoneSet). slice_get gs 0) here.groups_are) ∙ at) in
     record { rest = rest; ready = subst (λ x. IsReady v x rest) same here; behind = ap (λ (gs : List ZoneSet). drop 1 gs) here.groups_are }
+
+-- at the end of a group each present cell has the colour that the end asks
+pub ends_coloured : (v : CollectorState) (flown : ℕ → Option Bits) (g : ZoneSet) (rest : List ZoneSet) → IsReady v g rest → (w : World) (k : Collection) → IsValid w → Represents v flown w → w.collection ≡ Some k → AreColoured v.heap w.graph k (zones_without k.marking (zones_in g))
+ends_coloured v flown g rest ready w k ok rep is =
+    let own : heap_with v flown ≡ v.heap = joined_none v.heap flown (λ a. no_some (flown a) (rep.flies.covers a ∙ ap is_some (ready.kept a))) in
+    subst (λ h. AreColoured h w.graph k (zones_without k.marking (zones_in g))) own (coloured v flown w k g rest ok rep ready is)
 
 module _ (v : CollectorState) (flown : ℕ → Option Bits) (kept : (a : ℕ) → out_of v.heap.shape a ≡ None) (s : IsSound v flown) where
   own : heap_with v flown ≡ v.heap

@@ -12,9 +12,9 @@ use Rattle.heap_core.specs.Sweeping.{handed, jobs_of}
 use Rattle.slice_driver.specs.Advancing.{EndsSweeping}
 use Rattle.slice_driver.specs.Collector.{CollectorState, heap_with}
 use Rattle.slice_driver.specs.GroupEnd.{IsReady}
-use Rattle.slice_driver.specs.HandingOut.{AreJobs, HandsOut}
+use Rattle.slice_driver.specs.HandingOut.{HandsOut}
 use Rattle.slice_driver.specs.Left.{arenas_left, grouping_left, steps_left, steps_of, units_left}
-use Rattle.slice_driver.specs.Units.{IsSound, flown_by, flying_after}
+use Rattle.slice_driver.specs.Units.{AreJobs, IsSound, flown_by, flying_after}
 use Rattle.slice_driver.proofs.EndReady.{sized_here}
 use Rattle.slice_driver.proofs.Fewer.{arenas_handed, fewer_steps, grouped, marking_kept, own_flown, steps_kept, work_same}
 use Rattle.slice_driver.proofs.GroupEndCells.{has_in_zones, in_zones_has, zone_or_not}
@@ -57,7 +57,7 @@ module _ (c : CollectorState) (g : ZoneSet) (rest : List ZoneSet) (ready : IsRea
 
       go : (o : Option (List Job)) → AreJobs o (jobs_of g.bits 0 c.heap.shape.arenas c.heap.colours) → flying_after o flown a ≡ Some b → slice_get c.heap.colours a ≡ Some b
       go None is at = absurd (let none = none_flown a in cc (none, at))
-      go (Some js) is at = listed (ap (λ (x : List Job). flown_by x a) (sym is) ∙ at)
+      go (Some js) is at = listed (ap (λ (x : List Job). flown_by x a) (sym is.0) ∙ at)
 
   colours_same : with_flown (flying_after jobs flown) 0 k.colours ≡ with_flown flown 0 c.heap.colours
   colours_same =

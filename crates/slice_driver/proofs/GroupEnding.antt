@@ -18,10 +18,10 @@ use Rattle.heap_core.specs.Sweeping.{handed, jobs_of, with_handed}
 use Rattle.slice_driver.specs.Advancing.{EndsSweeping}
 use Rattle.slice_driver.specs.Collector.{CollectorState, heap_with}
 use Rattle.slice_driver.specs.GroupEnd.{AreJustFlown, EndsIn, EndsZones, IsEnded, IsGrayHere, IsReady}
-use Rattle.slice_driver.specs.HandingOut.{AreJobs, HandsOut}
+use Rattle.slice_driver.specs.HandingOut.{HandsOut}
 use Rattle.slice_driver.specs.Represents.{AreInStates, Represents}
 use Rattle.slice_driver.specs.Sweeping.{after_sweep}
-use Rattle.slice_driver.specs.Units.{DoesUnit, flown_by, flying_after, reports_of}
+use Rattle.slice_driver.specs.Units.{AreJobs, DoesUnit, flown_by, flying_after, reports_of}
 use Rattle.slice_driver.proofs.GroupEndCells.{some_out}
 use Rattle.slice_driver.proofs.GroupEndLaws.{group_ends, jobs_flown}
 use Rattle.slice_driver.proofs.GroupEndReady.{collection_of, no_some, runs_of}
@@ -92,7 +92,7 @@ module _ (c : CollectorState) (g : ZoneSet) (rest : List ZoneSet) (ready : IsRea
 
         go : (o : Option (List Job)) → AreJobs o (jobs_of g.bits 0 c.heap.shape.arenas c.heap.colours) → AreJustFlown n.shape (flying_after o flown)
         go None e a = none a ∙ (sym (ap (λ (js : List Job). flown_by js a) e) ∙ by_jobs a)
-        go (Some js) e a = ap (λ (js : List Job). flown_by js a) e ∙ by_jobs a
+        go (Some js) e a = ap (λ (js : List Job). flown_by js a) e.0 ∙ by_jobs a
 
   module _ (grays : List Name) (listed : Lists (IsGrayHere c.heap g) grays) (k : HeapState) (flown : ℕ → Option Bits) where
     none_flown : (w : World) → Represents c flown w → (a : ℕ) → flown a ≡ None

@@ -8,8 +8,7 @@ use Rattle.arena_table.specs.Slots.{alloc_word_of}
 use Rattle.colour_defs.proofs.Lists.{contains_cases, nothing_in_none}
 use Rattle.heap_core.specs.Shape.{ArenaShape, Shape, out_in, out_of}
 use Rattle.heap_core.specs.Sweeping.{handed, jobs_of}
-use Rattle.slice_driver.specs.HandingOut.{AreJobs}
-use Rattle.slice_driver.specs.Units.{AreAscendingJobs, AreJobsOf, HandsJobs, flown_by}
+use Rattle.slice_driver.specs.Units.{AreAscendingJobs, AreJobs, AreJobsOf, HandsJobs, flown_by}
 use Rattle.slice_driver.proofs.Named.{some_one}
 
 -- a job is that of an arena which is handed out
@@ -71,4 +70,4 @@ handed_jobs t word arenas colours e = record {
 pub hands_jobs : (s t : Shape) (word : ℕ) (arenas : List ArenaShape) (colours : List Bits) (jobs : Option (List Job)) → t.arenas ≡ handed word arenas colours → AreJobs jobs (jobs_of word 0 arenas colours) → ((a : ℕ) → flown_by (jobs_of word 0 arenas colours) a ≡ out_of t a) → HandsJobs jobs s t
 hands_jobs s t word arenas colours None e none flies = λ a freed was arena bits at out.
     absurd (let some : out_of t a ≡ Some bits = ap out_in at ∙ out in let no : None ≡ out_of t a = sym (ap (λ (js : List Job). flown_by js a) none) ∙ flies a in cc (some, no))
-hands_jobs s t word arenas colours (Some jobs) e is flies = subst (λ (js : List Job). AreJobsOf t js) (sym is) (handed_jobs t word arenas colours e)
+hands_jobs s t word arenas colours (Some jobs) e is flies = subst (λ (js : List Job). AreJobsOf t js) (sym is.0) (handed_jobs t word arenas colours e)

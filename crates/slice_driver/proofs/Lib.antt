@@ -74,3 +74,9 @@ pub mod ZoneSteps
 pub mod OneUnit
 pub mod Through
 pub mod Commanded
+pub mod FreedWords
+pub mod IdleFlight
+pub mod SoundAfter
+pub mod WorldRuns
+pub mod FewWrappers
+pub mod FewUnits

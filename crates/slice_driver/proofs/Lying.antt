@@ -14,7 +14,7 @@ use Rattle.arena_table.specs.Cells.{CellState}
 use Rattle.colour_defs.specs.declared.graph.Object.{Object}
 use Rattle.colour_defs.specs.Graph.{GraphState, object_of, has_wrapper, comp_of, comp_of_object, zone_of_comp}
 use Rattle.colour_defs.specs.Graph as graph
-use Rattle.colour_defs.specs.Step.{step_of, refusal_in}
+use Rattle.colour_defs.specs.Step.{IsAccepted, step_of, refusal_in}
 use Rattle.colour_defs.specs.World.{World, Accepts, AcceptsUnless, CommandInWorld, IsPresent as IsPresentName, with_counts, woken_by}
 use Rattle.colour_defs.specs.Laws.{IsValid, IsWellFormed}
 use Rattle.colour_defs.specs.Present as present
@@ -161,3 +161,9 @@ refused_in w old new c why ok l does =
     let a = agreement w.graph l.graph c (shows_agrees w l.graph ok l.part) in
     let said : (step_of w.graph c).1 ≡ reply.Refused why = sym a.0 ∙ d.0 in
     (d.1, (sym said, subst (λ (o : Option Refusal). AcceptsUnless o w (with_counts w.graph c w.collection) (step_of w.graph c).0 (woken_by w.graph c) w) (sym (ap refusal_in said)) refl))
+
+-- what is not refused by the heap is not refused in the world
+pub accepted_in : (w : World) (h : HeapState) (c : GraphCmd) → IsValid w → (l : LiesIn h w) → IsAccepted l.graph c → IsAccepted w.graph c
+accepted_in w h c ok l accepted =
+    let a = agreement w.graph l.graph c (shows_agrees w l.graph ok l.part) in
+    sym (ap refusal_in a.0) ∙ accepted

@@ -249,6 +249,15 @@ module _ (c : CollectorState) (flown : ℕ → Option Bits) (d : CollectorState)
         fixed = (still_gray_fixed g).0 was.fixed;
       }
 
+  -- and the same was done before
+  pub group_done_before : IsGroupDone d flying → IsGroupDone c flown
+  group_done_before done g at =
+      let is : IsGrayDone d flying g = done g (subst (λ (x : CollectorState). slice_get x.groups 0 ≡ Some g) (sym a.same) at) in
+      record {
+        idle = subst (λ (x : CollectorState). IsGrayIdle x.heap x.stack x.lists g.bits) a.same is.idle;
+        fixed = (still_gray_fixed g).1 is.fixed;
+      }
+
 pub still_sound : (c : CollectorState) (flown : ℕ → Option Bits) (d : CollectorState) (flying : ℕ → Option Bits) → IsStill c flown d flying → IsSound c flown → IsSound d flying
 still_sound c flown d flying a s = record { world = s.world; valid = s.valid; represents = subst (λ (x : CollectorState). Represents x flying s.world) (sym a.same) (a.worlds s.world s.represents) }
 

@@ -1,13 +1,16 @@
 -- What a command on the graph leaves in place, what it makes, and what it does in a world.
 use Rattle.std.specs.Prelude.{◌≡◌, ◌↔◌, ◌==◌, ◌++◌, ℕ, List, [], ◌∷◌, length, Option, Some, None, if◌then◌else◌}
 use Rattle.gz_names.specs.declared.names.Name.{Name}
+use Rattle.gz_names.specs.declared.numbers.CompNo.{CompNo}
 use Rattle.gz_names.specs.declared.numbers.Place.{Place}
 use Rattle.gz_names.specs.declared.commands.GraphCmd.{GraphCmd}
+use Rattle.gz_names.specs.declared.commands.GraphCmd.TheVariants as cmd
 use Rattle.gz_names.specs.declared.replies.Reply.{Reply}
 use Rattle.cell_bits.specs.declared.bits.Bits.{Bits}
 use Rattle.arena_table.specs.Table.{is_place}
 use Rattle.colour_defs.specs.Graph.{GraphState}
-use Rattle.colour_defs.specs.Step.{step_of}
+use Rattle.colour_defs.specs.Laws.{IsValid}
+use Rattle.colour_defs.specs.Step.{IsAccepted, step_of}
 use Rattle.colour_defs.specs.World.{World, Collection, CommandInWorld, IsSettled, with_counts, with_waking, woken_by}
 use Rattle.heap_core.specs.Shape.{AreWhole, Shape, IsPresent, name_at, zone_of}
 use Rattle.heap_core.specs.Heap.{HeapState}
@@ -19,6 +22,9 @@ use Rattle.barriers.specs.Colours.{IsBlack}
 use Rattle.barriers.specs.Exposing.{BlackOr, Exposes}
 use Rattle.slice_driver.specs.Worlds.{IsUnswept, LiesIn, outs_from, owners_of}
 use Rattle.slice_driver.specs.Closures.{AreBlack}
+use Rattle.slice_driver.specs.Collector.{CollectorState}
+use Rattle.slice_driver.specs.Represents.{Represents}
+use Rattle.slice_driver.specs.Rooms.{Widens}
 
 -- all cells stay where they are, present or not
 pub record StayInPlace (s t : Shape) : Type 0 where
@@ -73,3 +79,9 @@ pub record DoesInWorld (w : World) (c : GraphCmd) (answer : Reply) (new : HeapSt
   pub out_is : after.out ≡ w.out
   pub graph_is : after.graph ≡ (step_of w.graph c).0
   pub collection_is : after.collection ≡ waking (woken_by w.graph c) (with_counts w.graph c w.collection)
+
+-- memory was wanted for a command: in no valid world for which the collector stood is it refused, and no cell changed but in its colour; where the command is no `wrap`, there may be more room and nothing else changed, in flight either
+pub record WantsMemory (old : CollectorState) (flown : ℕ → Option Bits) (command : GraphCmd) (new : CollectorState) (flying : ℕ → Option Bits) : Type 0 where
+  pub accepted : (w : World) → IsValid w → Represents old flown w → IsAccepted w.graph command
+  pub shape_is : new.heap.shape ≡ old.heap.shape
+  pub kept : ((r s : ℕ) (c : CompNo) → command ≡ cmd.Wrap r s c → ⊥) → Widens old new × (flying ≡ flown)

@@ -1,11 +1,12 @@
 -- Gray roots are gathered as a collection begins.
-use Rattle.std.specs.Prelude.{◌≡◌, ◌⊎◌, ◌↔◌, ◌<◌, ℕ, List, Some, Contains, slice_get, length}
+use Rattle.std.specs.Prelude.{◌≡◌, ◌⊎◌, ◌↔◌, ◌<◌, ◌≤◌, ℕ, List, Some, Contains, slice_get, length}
 use Rattle.gz_names.specs.Zones.{HasZone}
 use Rattle.gz_names.specs.declared.numbers.Place.{Place}
 use Rattle.gz_names.specs.declared.numbers.ZoneNo.{ZoneNo}
 use Rattle.gz_names.specs.declared.zone_sets.ZoneSet.{ZoneSet}
 use Rattle.cell_bits.specs.declared.bits.Colour.TheVariants as colour
 use Rattle.roots.specs.Buffers.{buffer_at, places_in}
+use Rattle.wrappers.specs.WrapperMaps.{list_of}
 use Rattle.heap_core.specs.Shape.{Shape, field_at, zone_of}
 use Rattle.heap_core.specs.Heap.{HeapState, colour_of}
 use Rattle.slice_driver.specs.RootMarking.{LeadsAt}
@@ -43,6 +44,10 @@ IsGrayOf h zones zone z x = (i : ℕ) × IsGrayAt h zones zone i z x
 -- the same for the wrappers of the first zones, outside of these
 abbrev pub IsGrayAmong : HeapState → ZoneSet → ℕ → ℕ → Place → Type 0
 IsGrayAmong h zones n z x = (w : ℕ) × (w < n) × (HasZone zones.bits w → ⊥) × IsGrayOf h zones w z x
+
+-- no zone has more wrappers than there can be slots of cells
+abbrev pub HasFewWrappers : Shape → Type 0
+HasFewWrappers s = (z : ℕ) → length (list_of s.wrappers z) ≤ 274877906944
 
 -- exactly the gray roots of these zones were put into the buffers of their zones, and nothing else changed
 pub record Buffers (h : HeapState) (zones : ZoneSet) (k : HeapState) : Type 0 where

@@ -1,16 +1,12 @@
 -- The arenas of a group are handed to sweeping.
-use Rattle.std.specs.Prelude.{◌≡◌, ◌≤◌, List, [], length, Option, Some, None}
+use Rattle.std.specs.Prelude.{◌≤◌, List, length, Option}
 use Rattle.gz_names.specs.declared.zone_sets.ZoneSet.{ZoneSet}
 use Rattle.cell_bits.specs.declared.jobs.Job.{Job}
 use Rattle.heap_core.specs.Heap.{HeapState}
 use Rattle.heap_core.specs.Sweeping.{jobs_of, with_handed}
 use Rattle.slice_driver.specs.Advancing.{Advances}
 use Rattle.slice_driver.specs.GroupEnd.{DropsDead}
-
--- these jobs, or none where there are none
-abbrev pub AreJobs : Option (List Job) → List Job → Type 0
-AreJobs None jobs = jobs ≡ []
-AreJobs (Some handed) jobs = handed ≡ jobs
+use Rattle.slice_driver.specs.Units.{AreJobs}
 
 -- the arenas of a group are handed out, what is dead is dropped, and the zones of the group go on
 pub record HandsOut (h : HeapState) (g : ZoneSet) (jobs : Option (List Job)) (k : HeapState) : Type 0 where

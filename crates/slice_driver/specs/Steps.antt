@@ -1,20 +1,17 @@
 -- What the call of a command does, step by step.
 use Rattle.std.specs.Prelude.{◌≡◌, ◌<◌, ◌≤◌, ◌*◌, ℕ, length, Option, Some, None, Result, Err, OnOk, OnErr, slice_get}
-use Rattle.std.specs.Option.{option_map}
 use Rattle.gz_names.specs.declared.numbers.Place.{Place}
 use Rattle.gz_names.specs.declared.commands.GraphCmd.{GraphCmd}
-use Rattle.gz_names.specs.declared.commands.GraphCmd.TheVariants as cmd
 use Rattle.gz_names.specs.declared.replies.Reply.{Reply}
 use Rattle.gz_names.specs.declared.replies.CmdFault.{CmdFault}
 use Rattle.gz_names.specs.declared.replies.CmdFault.TheVariants as fault
 use Rattle.cell_bits.specs.declared.bits.Bits.{Bits}
 use Rattle.wrappers.specs.WrapperMaps.{AreApart}
 use Rattle.heap_core.specs.Shape.{Shape}
-use Rattle.heap_core.specs.Heap.{HeapState, joined, reg_of}
+use Rattle.heap_core.specs.Heap.{joined}
 use Rattle.heap_core.specs.Answers.{DoesStep}
 use Rattle.heap_core.specs.Effects.{Changes}
-use Rattle.heap_core.specs.Lookups.{target_at}
-use Rattle.heap_core.specs.Peeks.{IsHanded, IsOld}
+use Rattle.heap_core.specs.Peeks.{IsHanded, IsOld, IsWrapped}
 use Rattle.barriers.specs.Spreading.{Covers}
 use Rattle.slice_driver.specs.Collector.{CollectorState}
 use Rattle.slice_driver.specs.Commands.{Exposed}
@@ -24,29 +21,11 @@ use Rattle.slice_driver.specs.Rooms.{Widens}
 abbrev pub HomesAreMade : Shape → Type 0
 HomesAreMade s = (comp z : ℕ) → slice_get s.comps comp ≡ Some z → z < length s.states
 
--- what a `wrap` is about: the target of a register's wrapper, or the register's cell itself
-abbrev pub wrapped_target : HeapState → GraphCmd → Option Place
-wrapped_target h cmd.Zone = None
-wrapped_target h (cmd.Comp z) = None
-wrapped_target h (cmd.New r c n) = None
-wrapped_target h (cmd.Map r c) = None
-wrapped_target h (cmd.Get r s f) = None
-wrapped_target h (cmd.Set s f t) = None
-wrapped_target h (cmd.Wrap r s c) = option_map (target_at h.shape) (reg_of h s)
-wrapped_target h (cmd.Unwrap r s) = None
-wrapped_target h (cmd.Copy r s) = None
-wrapped_target h (cmd.Drop r) = None
-wrapped_target h (cmd.Hold g r) = None
-wrapped_target h (cmd.Release g) = None
-wrapped_target h (cmd.Expose r g) = None
-wrapped_target h (cmd.Put m k v) = None
-wrapped_target h (cmd.Del m k) = None
-wrapped_target h (cmd.Find r m k) = None
-
--- a cell went through a barrier, if there was one to expose, and the flight covers what it covered
+-- a cell went through a barrier, if there was one to expose, and the flight covers what it covered; where there was none, nothing changed
 pub record GoesThrough (o : Option Place) (c : CollectorState) (flown : ℕ → Option Bits) (d : CollectorState) (flying : ℕ → Option Bits) : Type 0 where
   pub exposed : Exposed o (joined c.heap flown) c.stack (joined d.heap flying) d.stack
   pub rest : d ≡ record c { heap = d.heap; stack = d.stack }
+  pub still : o ≡ None → (d ≡ c) × (flying ≡ flown)
   pub covers : Covers d.heap.shape flying
 
 -- room was made on the stack and the lists; what the command overwrites or removes was exposed, then what a `wrap` is about, then what the command hands out; and the heap did the command. Where memory is wanted, nothing was handed out
@@ -59,7 +38,7 @@ pub record CommandSteps (c : CollectorState) (flown : ℕ → Option Bits) (comm
   pub first_flown : ℕ → Option Bits
   pub old_through : GoesThrough old wide flown first first_flown
   pub target : Option Place
-  pub target_is : target ≡ wrapped_target first.heap command
+  pub target_is : IsWrapped first.heap command target
   pub second : CollectorState
   pub second_flown : ℕ → Option Bits
   pub target_through : GoesThrough target first first_flown second second_flown

@@ -1,5 +1,5 @@
 -- What a collector's calls do in the worlds that it stands for.
-use Rattle.std.specs.Prelude.{◌≡◌, ◌<◌, ◌==◌, ℕ, Bool, List, [], ◌∷◌, Option, Some, None, Result, Ok, Err, IsSome, slice_get, if◌then◌else◌, Contains, ⊤}
+use Rattle.std.specs.Prelude.{◌≡◌, ◌≢◌, ◌<◌, ◌==◌, ℕ, Bool, true, false, List, [], ◌∷◌, Option, Some, None, Result, Ok, Err, IsSome, slice_get, if◌then◌else◌, Contains, ⊤}
 use Rattle.gz_names.specs.Zones.{zones_in}
 use Rattle.gz_names.specs.declared.commands.GraphCmd.{GraphCmd}
 use Rattle.gz_names.specs.declared.replies.Reply.{Reply}
@@ -10,14 +10,18 @@ use Rattle.gz_names.specs.declared.replies.Report.{Report}
 use Rattle.gz_names.specs.declared.replies.Report.TheVariants as report
 use Rattle.cell_bits.specs.declared.bits.Bits.{Bits}
 use Rattle.cell_bits.specs.declared.jobs.Job.{Job}
-use Rattle.colour_defs.specs.World.{World, CommandInWorld}
+use Rattle.colour_defs.specs.Ends.{zones_without}
+use Rattle.colour_defs.specs.World.{World, Collection, CommandInWorld}
 use Rattle.colour_defs.specs.Lawful.{Begins, IsLawfulUnit}
 use Rattle.colour_defs.specs.Laws.{IsValid}
 use Rattle.cell_bits.specs.Colours.{white_mask_of}
 use Rattle.arena_table.specs.Slots.{alloc_word_of}
 use Rattle.heap_core.specs.Shape.{ArenaShape, Shape, out_of}
+use Rattle.heap_core.specs.Heap.{HeapState}
+use Rattle.heap_core.specs.Sweeping.{jobs_of}
 use Rattle.slice_driver.specs.declared.collector.Unit.{Unit}
 use Rattle.slice_driver.specs.Collector.{CollectorState}
+use Rattle.slice_driver.specs.GroupEnd.{AreColoured}
 use Rattle.slice_driver.specs.Represents.{Represents}
 
 -- no arena is in flight
@@ -49,9 +53,9 @@ AnswersIn w cmd (Err fault.NoMemory) c flown = Represents c flown w
 abbrev pub DoesCommand : CollectorState → (ℕ → Option Bits) → GraphCmd → Result Reply CmdFault → CollectorState → (ℕ → Option Bits) → Type 0
 DoesCommand old flown cmd result new flying = (w : World) → IsValid w → Represents old flown w → AnswersIn w cmd result new flying
 
--- a collection of these zones began
+-- a collection of these zones began in each world that the collector stood for, which is valid after it
 abbrev pub BeginsIn : CollectorState → ℕ → CollectorState → Type 0
-BeginsIn old zones new = (w : World) → IsValid w → Represents old none_flown w → (v : World) × Begins w (zones_in (record { bits = zones })) v × Represents new none_flown v
+BeginsIn old zones new = (flown : ℕ → Option Bits) (w : World) → IsValid w → Represents old flown w → (v : World) × Begins w (zones_in (record { bits = zones })) v × IsValid v × Represents new flown v
 
 -- the reports of a unit
 abbrev pub with_done : Bool → List Report
@@ -105,3 +109,32 @@ pub record AreJobsOf (s : Shape) (jobs : List Job) : Type 0 where
 abbrev pub HandsJobs : Option (List Job) → Shape → Shape → Type 0
 HandsJobs None s t = KeepsFreedWords s t
 HandsJobs (Some jobs) s t = AreJobsOf t jobs
+
+-- a unit reports the end of a group
+abbrev pub is_group_end : Option Report → Bool
+is_group_end None = false
+is_group_end (Some (report.Groups groups)) = false
+is_group_end (Some (report.Ended zones grays)) = true
+is_group_end (Some (report.Swept arena names)) = false
+is_group_end (Some report.Done) = false
+
+-- the jobs that a unit hands to sweeping, by its report: the arenas of the zones that end, with their bits
+abbrev pub jobs_at : Option Report → HeapState → List Job
+jobs_at None h = []
+jobs_at (Some (report.Groups groups)) h = []
+jobs_at (Some (report.Ended zones grays)) h = jobs_of zones.bits 0 h.shape.arenas h.colours
+jobs_at (Some (report.Swept arena names)) h = []
+jobs_at (Some report.Done) h = []
+
+-- exactly these jobs, or none where there are none
+abbrev pub AreJobs : Option (List Job) → List Job → Type 0
+AreJobs None jobs = jobs ≡ []
+AreJobs (Some handed) jobs = (handed ≡ jobs) × (jobs ≢ [])
+
+-- where a unit reports the end of a group, each present cell of any zone has by these bits the colour that the end asks
+abbrev pub EndsColoured : Option Report → CollectorState → (ℕ → Option Bits) → List Bits → Type 0
+EndsColoured None c flown colours = ⊤
+EndsColoured (Some (report.Groups groups)) c flown colours = ⊤
+EndsColoured (Some (report.Ended zones grays)) c flown colours = (w : World) (k : Collection) → IsValid w → Represents c flown w → w.collection ≡ Some k → AreColoured (record c.heap { colours = colours }) w.graph k (zones_without k.marking (zones_in zones))
+EndsColoured (Some (report.Swept arena names)) c flown colours = ⊤
+EndsColoured (Some report.Done) c flown colours = ⊤

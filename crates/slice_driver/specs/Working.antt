@@ -17,7 +17,7 @@ use Rattle.slice_driver.specs.Collector.{CollectorState, RunState, heap_with}
 use Rattle.slice_driver.specs.Left.{units_left}
 use Rattle.slice_driver.specs.Quiet.{IsFormed}
 use Rattle.slice_driver.specs.Represents.{Represents}
-use Rattle.slice_driver.specs.Units.{DoesUnit, IsSound, KeepsFreedWords, reports_of}
+use Rattle.slice_driver.specs.Units.{DoesUnit, IsSound, KeepsFreedWords, is_group_end, reports_of}
 use Rattle.slice_driver.specs.declared.collector.Unit.{Unit}
 
 -- a unit with these reports was done, which hands out no arena and takes none in; the collection goes on, and less is left of it
@@ -70,6 +70,7 @@ pub record IsGrayDone (c : CollectorState) (flown : ℕ → Option Bits) (g : Zo
 -- a unit of the grouping goes on with the collection, whose groups are not formed
 pub record IsGroupingUnit (c : CollectorState) (unit : Unit) (d : CollectorState) : Type 0 where
   pub unformed : IsFormed c → ⊥
+  pub goes_on : is_group_end unit.report ≡ false
   pub handed : unit.handed ≡ None
   pub finished : unit.finished ≡ false
   pub due : unit.due ≡ None

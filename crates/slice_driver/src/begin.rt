@@ -1,10 +1,11 @@
 // How a collection begins.
-ghost use Rattle.std.specs.Prelude.{◌≡◌, ◌↔◌, ◌<◌, ℕ, Err, None, Some, IfNone, IfSome, IsSome, IsTrue, OnErr, OnOk, false, length};
+ghost use Rattle.std.specs.Prelude.{◌≡◌, ◌↔◌, ◌<◌, ℕ, Err, None, Option, Some, IfNone, IfSome, IsSome, IsTrue, OnErr, OnOk, false, length};
 ghost use Rattle.gz_names.specs.Zones.{HasZone};
+ghost use Rattle.cell_bits.specs.declared.bits.Bits.{Bits as ABits};
 ghost use Rattle.zones.specs.declared.states.State.TheVariants as state;
 ghost use Rattle.heap_core.specs.Shape.{state_in};
 ghost use Rattle.slice_driver.specs.Begins.{AreMade};
-ghost use Rattle.slice_driver.specs.Units.{BeginsIn, IsSound, none_flown};
+ghost use Rattle.slice_driver.specs.Units.{BeginsIn, IsSound, KeepsFreedWords};
 
 use crate::collector::{Collector, Run};
 use crate::gray_roots::buffer_gray_roots;
@@ -41,14 +42,15 @@ impl Collector {
     /// cleared, and their gray roots are buffered: the cells that gray slots hold, and the gray
     /// wrappers of other zones that lead into them. Their black roots are marked and put on the
     /// stack: the cells that registers hold, and the targets of black wrappers of other zones. All
-    /// memory is taken first.
+    /// memory is taken first. It is refused where one runs, whatever is in flight, and then where one
+    /// of the zones is not made; after a fault the collector is as it was.
     pub fn begin<L: Ledger>(
         &mut self,
         alloc: Global,
         zones: ZoneSet,
         steps: &mut Steps<L>,
     ) -> Result<(), BeginFault>
-        requires sound { IsSound self.old none_flown }
+        requires sound { (flown : ℕ → Option ABits) × IsSound self.old flown }
         requires some { (z : ℕ) × HasZone zones.bits z }
         ensures begun { OnOk result (BeginsIn self.old zones.bits self.new) }
         ensures started { OnOk result
@@ -57,6 +59,9 @@ impl Collector {
         ensures no_zone { (result ≡ Err BeginFault.NoZone)
             ↔ ((self.old.run ≡ None) × (AreMade self.old.heap.shape zones → ⊥)) }
         ensures made_zones { OnOk result (AreMade self.old.heap.shape zones) }
+        ensures sound { (flown : ℕ → Option ABits) → IsSound self.old flown
+            → IsSound self.new flown }
+        ensures words { OnOk result (KeepsFreedWords self.old.heap.shape self.new.heap.shape) }
         ensures refused { OnErr result (self.new ≡ self.old) }
         ensures made { self.new.heap.made ≡ self.old.heap.made }
         ensures weak { self.new.heap.shape.weak ≡ self.old.heap.shape.weak }
@@ -67,6 +72,7 @@ impl Collector {
         if !are_made(&self.heap, zones) {
             return Err(BeginFault::NoZone);
         }
+        self.few_wrappers_law();
         buffer_gray_roots(&mut self.heap, alloc, zones, steps)?;
         self.heap.clear_bits(zones);
         mark_registers(&mut self.heap, &mut self.stack, zones);

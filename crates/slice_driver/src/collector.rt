@@ -1,6 +1,8 @@
 // The collector's parts, and what may be asked of it at any time.
-ghost use Rattle.std.specs.Prelude.{◌≡◌, ◌↔◌, ℕ, None, false, IsSome, IsTrue, IfOk, length};
-ghost use Rattle.colour_defs.specs.World.{first_world};
+ghost use Rattle.std.specs.Prelude.{◌≡◌, ◌↔◌, ℕ, None, Option, false, IsSome, IsTrue, IfOk, length};
+ghost use Rattle.cell_bits.specs.declared.bits.Bits.{Bits as ABits};
+ghost use Rattle.colour_defs.specs.Lawful.{IsRunning};
+ghost use Rattle.colour_defs.specs.World.{World, IsSettled, first_world};
 ghost use Rattle.heap_core.specs.Shape.{is_marking_state, state_in};
 ghost use Rattle.heap_core.specs.Sweeping.{held_in_all};
 ghost use Rattle.slice_driver.specs.Units.{none_flown};
@@ -92,17 +94,21 @@ impl Collector {
         })
     }
 
-    /// Whether a collection runs.
+    /// Whether a collection runs, in each world that the collector stands for.
     pub fn running(&self) -> bool
-        ensures { IsTrue result ↔ IsSome self.now.run }
+        ensures run { IsTrue result ↔ IsSome self.now.run }
+        ensures worlds { (flown : ℕ → Option ABits) (w : World) → Represents self.now flown w
+            → IsTrue result ↔ IsRunning w }
     {
         self.run.is_some()
     }
 
-    /// Whether no zone is marking.
+    /// Whether no zone is marking, in each world that the collector stands for.
     pub fn settled(&self) -> bool
-        ensures { IsTrue result
+        ensures states { IsTrue result
             ↔ ((z : ℕ) → is_marking_state (state_in self.now.heap.shape z) ≡ false) }
+        ensures worlds { (flown : ℕ → Option ABits) (w : World) → Represents self.now flown w
+            → IsTrue result ↔ IsSettled w }
     {
         match self.heap.marking().first() {
             Some(_) => false,

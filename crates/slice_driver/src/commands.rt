@@ -1,26 +1,26 @@
 // Commands on the graph, with their barriers.
-ghost use Rattle.std.specs.Prelude.{◌≡◌, ◌≤◌, ◌<◌, ◌+◌, Err, OnErr, OnOk, All, false, length, true};
+ghost use Rattle.std.specs.Prelude.{◌≡◌, ◌≤◌, ◌<◌, ◌+◌, Err, IfOk, IsSome, None, OnErr, OnOk, All, false, length, true};
 ghost use Rattle.std.specs.Option.{ForSome};
 ghost use Rattle.gz_names.specs.declared.replies.CmdFault.TheVariants as fault;
-ghost use Rattle.colour_defs.specs.Step.{HasFewFields};
+ghost use Rattle.colour_defs.specs.Graph.{GraphState};
+ghost use Rattle.colour_defs.specs.Step.{HasFewFields, IsAccepted, refusal_in};
 ghost use Rattle.wrappers.specs.WrapperMaps.{AreApart};
 ghost use Rattle.heap_core.specs.Shape.{IsPresent};
 ghost use Rattle.heap_core.specs.Heap.{joined};
 ghost use Rattle.heap_core.specs.Answers as heap;
 ghost use Rattle.heap_core.specs.Effects.{HasRoom, takes_memory};
-ghost use Rattle.heap_core.specs.Lookups.{target_at};
-ghost use Rattle.heap_core.specs.Peeks.{made_in};
+ghost use Rattle.heap_core.specs.Peeks.{cells_made, made_in};
+ghost use Rattle.heap_core.specs.Shows.{Shows};
 ghost use Rattle.barriers.specs.Invariant.{MarkingInvariant};
 ghost use Rattle.barriers.specs.Spreading.{Covers};
-ghost use Rattle.slice_driver.specs.Commands.{Exposed};
+ghost use Rattle.slice_driver.specs.Commands.{Exposed, WantsMemory};
 ghost use Rattle.slice_driver.specs.Rooms.{IsRoomy, Widens, arenas_after};
-ghost use Rattle.slice_driver.specs.Steps.{wrapped_target};
-ghost use Rattle.slice_driver.specs.Units.{DoesCommand, IsSound};
+ghost use Rattle.slice_driver.specs.Units.{DoesCommand, IsSound, KeepsFreedWords};
 
 use crate::collector::Collector;
 use barriers::expose;
 use cell_bits::Flight;
-use gz_names::{CmdFault, GraphCmd, Kind, NoMemory, Place, Reply, ZoneNo};
+use gz_names::{CmdFault, GraphCmd, NoMemory, Place, Reply, ZoneNo};
 use heap_core::Steps;
 use std::sync::ledger::Ledger;
 
@@ -28,6 +28,11 @@ impl Collector {
     /// Does a command on the graph, also between two units of a collection. What it overwrites or
     /// removes is exposed first, and so are what a `wrap` is about and what the command hands to a
     /// register (js/src/gc/Barrier.h, pre-write and read barrier).
+    ///
+    /// A command that is refused returns `Refused`, with the reason, and changes nothing, neither
+    /// the collector nor a colour in flight. Only a command that is not refused returns `NoMemory`,
+    /// and only one that makes something: then the graph is as it was. There may be more room on
+    /// the stack and the lists, and a `wrap` may have exposed its target; nothing else changed.
     pub fn command<F: Flight, L: Ledger>(
         &mut self,
         flight: &mut F,
@@ -39,10 +44,18 @@ impl Collector {
         requires fields { HasFewFields cmd }
         ensures done { DoesCommand self.old (F.bits flight.old) cmd result self.new
             (F.bits flight.new) }
+        ensures answered { IfOk result (λ answer. refusal_in answer ≡ None) }
+        ensures refused { (why : _) → result ≡ Err (fault.Refused why)
+            → (self.new ≡ self.old) × (F.bits flight.new ≡ F.bits flight.old) }
+        ensures wanted { result ≡ Err fault.NoMemory → WantsMemory self.old (F.bits flight.old) cmd
+            self.new (F.bits flight.new) }
         ensures sure { takes_memory cmd ≡ false → result ≡ Err fault.NoMemory → ⊥ }
+        ensures sound { IsSound self.new (F.bits flight.new) }
+        ensures words { KeepsFreedWords self.old.heap.shape self.new.heap.shape }
         ensures run { self.new.run ≡ self.old.run }
         ensures origin { F.origin flight.new ≡ F.origin flight.old }
-        ensures made { self.new.heap.made ≤ self.old.heap.made + 1 }
+        ensures made { self.new.heap.made
+            ≡ self.old.heap.made + cells_made self.old.heap cmd result }
         ensures entries { length self.new.heap.shape.weak.entries
             ≤ length self.old.heap.shape.weak.entries + 1 }
     {
@@ -53,7 +66,7 @@ impl Collector {
         }
         let old = self.heap.old_of(&cmd);
         self.expose(flight, old, steps);
-        let target = self.wrapped_target(&cmd, steps);
+        let target = self.heap.wrapped_by(&cmd);
         self.expose(flight, target, steps);
         let handed = self.heap.handed_by(&cmd);
         self.expose(flight, handed, steps);
@@ -61,13 +74,17 @@ impl Collector {
     }
 
     // Makes room on the stack and the lists for the cells of a new arena, where a command makes a
-    // cell that comes into one.
+    // cell that comes into one. A command that is refused makes none.
     fn make_room(&mut self, cmd: &GraphCmd) -> Result<(), NoMemory>
         requires sound { heap.IsSound self.old.heap }
         requires roomy { IsRoomy self.old (length self.old.heap.colours) }
         ensures roomy { OnOk result
             (IsRoomy self.new (arenas_after self.old.heap (made_in self.old.heap cmd.now))) }
         ensures widens { Widens self.old self.new }
+        ensures kept { made_in self.old.heap cmd.now ≡ None → self.new ≡ self.old }
+        ensures makes { OnErr result (IsSome (made_in self.old.heap cmd.now)) }
+        ensures accepted { IsSome (made_in self.old.heap cmd.now) → (g : GraphState)
+            → Shows self.old.heap g → IsAccepted g cmd.now }
         ensures sure { OnErr result (takes_memory cmd.now ≡ true) }
     {
         let Some(zone) = self.heap.makes_in(cmd) else {
@@ -78,31 +95,6 @@ impl Collector {
         }
         self.stack.reserve(64)?;
         self.lists.reserve(64)
-    }
-
-    // What a `wrap` is about: the target of a register's wrapper, or the register's cell itself. A
-    // wrapper that is made is black, so its target has to be.
-    fn wrapped_target<L: Ledger>(&self, cmd: &GraphCmd, steps: &mut Steps<L>) -> Option<Place>
-        requires { heap.IsSound self.now.heap }
-        ensures { result ≡ wrapped_target self.now.heap cmd.now }
-    {
-        let GraphCmd::Wrap(_, from, _) = cmd else {
-            return None;
-        };
-        let place = self.heap.reg(*from)?;
-        Some(self.target(place, steps))
-    }
-
-    // What a present cell stands for: a wrapper's target, or the cell itself.
-    fn target<L: Ledger>(&self, place: Place, steps: &mut Steps<L>) -> Place
-        requires { IsPresent self.now.heap.shape place }
-        ensures { result ≡ target_at self.now.heap.shape place }
-    {
-        match self.heap.kind(place) {
-            Kind::Wrapper => self.heap.reached_by(place, 0, steps).unwrap_or(place),
-            Kind::Object(_) => place,
-            Kind::Map => place,
-        }
     }
 
     // Exposes a cell, if there is one to expose.
@@ -122,6 +114,8 @@ impl Collector {
           heap = self.new.heap;
           stack = self.new.stack;
         } }
+        ensures still { place ≡ None
+            → (self.new ≡ self.old) × (F.bits flight.new ≡ F.bits flight.old) }
         ensures covers { Covers self.new.heap.shape (F.bits flight.new) }
         ensures origin { F.origin flight.new ≡ F.origin flight.old }
     {
@@ -138,7 +132,7 @@ impl Collector {
     }
 
     // No wrapper stands twice in the maps. It does nothing.
-    fn wrappers_law(&self)
+    pub(crate) fn wrappers_law(&self)
         ensures { AreApart self.now.heap.shape.wrappers.lists }
     {
         if let Some(zone) = ZoneNo::new(0) {

@@ -13,7 +13,7 @@ ghost use Rattle.slice_driver.specs.Grays.{grays_up_to, is_owned};
 ghost use Rattle.slice_driver.specs.GroupEnd.{IsReady};
 ghost use Rattle.slice_driver.specs.HandingOut.{HandsOut};
 ghost use Rattle.slice_driver.specs.Left.{units_left};
-ghost use Rattle.slice_driver.specs.Units.{DoesUnit, HandsJobs, IsFreedWord, IsLowestOut, IsSound, KeepsFreedWords, flying_after, reports_of, without_arena};
+ghost use Rattle.slice_driver.specs.Units.{AreJobs, DoesUnit, EndsColoured, HandsJobs, IsFreedWord, IsLowestOut, IsSound, KeepsFreedWords, is_group_end, flying_after, jobs_at, reports_of, without_arena};
 
 use crate::collector::{Collector, Unit};
 use crate::colours::push_gray;
@@ -36,6 +36,8 @@ impl Collector {
         ensures done { (flown : ℕ → Option ABits) → flown arena ≡ Some taken.bits
             → DoesUnit self.old flown (reports_of result.report result.finished) self.new
             (without_arena flown arena) }
+        ensures sound { (flown : ℕ → Option ABits) → IsSound self.old flown
+            → flown arena ≡ Some taken.bits → IsSound self.new (without_arena flown arena) }
         ensures words { KeepsFreedWords self.old.heap.shape self.new.heap.shape }
         ensures left { (flown : ℕ → Option ABits) → IsSound self.old flown
             → flown arena ≡ Some taken.bits
@@ -78,8 +80,13 @@ impl Collector {
         ensures done { IfOk result (λ unit. (flown : ℕ → Option ABits)
             → DoesUnit self.old flown (reports_of unit.report unit.finished) self.new
             (flying_after unit.handed flown)) }
+        ensures handed { IfOk result (λ unit. AreJobs unit.handed
+            (jobs_at unit.report self.old.heap)) }
         ensures jobs { IfOk result (λ unit. HandsJobs unit.handed self.old.heap.shape
             self.new.heap.shape) }
+        ensures coloured { IfOk result (λ unit. (flown : ℕ → Option ABits)
+            → EndsColoured unit.report self.old flown self.new.heap.colours) }
+        ensures ended { IfOk result (λ unit. is_group_end unit.report ≡ true) }
         ensures due { IfOk result (λ unit. unit.due ≡ None) }
         ensures left { IfOk result (λ unit. (flown : ℕ → Option ABits) → IsSound self.old flown
             → units_left self.new (flying_after unit.handed flown) < units_left self.old flown) }

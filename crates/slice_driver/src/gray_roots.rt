@@ -1,11 +1,11 @@
 // Buffering the gray roots of a collection.
-ghost use Rattle.std.specs.Prelude.{◌≡◌, ◌<◌, ◌+◌, ◌⊎◌, None, Some, Contains, IfNone, IfSome, OnErr, OnOk, length, slice_get};
+ghost use Rattle.std.specs.Prelude.{◌≡◌, ◌<◌, ◌≤◌, ◌+◌, ◌⊎◌, None, Some, Contains, IfNone, IfSome, OnErr, OnOk, length, slice_get, sum_by};
 ghost use Rattle.gz_names.specs.Zones.{HasZone};
 ghost use Rattle.cell_bits.specs.declared.bits.Colour.TheVariants as colour;
 ghost use Rattle.heap_core.specs.Shape.{IsPresent, field_at, zone_of};
 ghost use Rattle.heap_core.specs.Heap.{colour_of};
 ghost use Rattle.zone_edges.specs.Looks.{AreWrappers, IsWrapperIn};
-ghost use Rattle.slice_driver.specs.GrayRoots.{Buffers, Gathers, IsFor, IsGrayAmong, IsGrayOf, IsGrayWrapper, IsInSlot};
+ghost use Rattle.slice_driver.specs.GrayRoots.{Buffers, Gathers, HasFewWrappers, IsFor, IsGrayAmong, IsGrayOf, IsGrayWrapper, IsInSlot};
 
 use crate::root_marking::{outsider_at, own_colour};
 use cell_bits::Colour;
@@ -26,6 +26,8 @@ pub(crate) fn buffer_gray_roots<L: Ledger>(
         → IsPresent heap.old.shape x }
     requires wrappers { AreWrappers heap.old.shape }
     requires sized { length heap.old.colours ≡ length heap.old.shape.arenas }
+    requires few { HasFewWrappers heap.old.shape }
+    requires empty { sum_by length heap.old.buffers ≡ 0 }
     ensures ok { OnOk result (Buffers heap.old zones heap.new) }
     ensures err { OnErr result (heap.new ≡ heap.old) }
 {
@@ -43,7 +45,9 @@ fn gather_slots(
     found: &mut Vec<(ZoneNo, Place)>,
 ) -> Result<(), NoMemory>
     requires held { (x : _) → Contains heap.now.shape.slots (Some x) → IsPresent heap.now.shape x }
-    ensures { OnOk result (Gathers (IsInSlot heap.now.shape zones) found.old.items found.new.items) }
+    ensures gathered { OnOk result (Gathers (IsInSlot heap.now.shape zones) found.old.items
+        found.new.items) }
+    ensures few { OnOk result (length found.new.items ≤ length found.old.items + 64) }
 {
     for index in 0..64u8 {
         gather_slot(heap, zones, index, found)?;
@@ -61,9 +65,11 @@ fn gather_wrappers<L: Ledger>(
 ) -> Result<(), NoMemory>
     requires wrappers { AreWrappers heap.now.shape }
     requires sized { length heap.now.colours ≡ length heap.now.shape.arenas }
-    ensures { OnOk result (Gathers
+    requires few { HasFewWrappers heap.now.shape }
+    ensures gathered { OnOk result (Gathers
         (IsGrayAmong heap.now zones (length heap.now.shape.states)) found.old.items
         found.new.items) }
+    ensures few { OnOk result (length found.new.items ≤ length found.old.items + 17592186044416) }
 {
     for index in 0..heap.zones() {
         if let Some(zone) = outsider_at(zones, index) {
@@ -83,7 +89,10 @@ fn gather_of<L: Ledger>(
 ) -> Result<(), NoMemory>
     requires wrappers { AreWrappers heap.now.shape }
     requires sized { length heap.now.colours ≡ length heap.now.shape.arenas }
-    ensures { OnOk result (Gathers (IsGrayOf heap.now zones zone) found.old.items found.new.items) }
+    requires few { HasFewWrappers heap.now.shape }
+    ensures gathered { OnOk result (Gathers (IsGrayOf heap.now zones zone) found.old.items
+        found.new.items) }
+    ensures few { OnOk result (length found.new.items ≤ length found.old.items + 274877906944) }
 {
     let mut cursor = 0;
     while let Some(wrapper) = heap.next_of(zone, &mut cursor) {
@@ -105,6 +114,7 @@ fn gather_slot(
     ensures gathered { OnOk result (Gathers
         (λ z x. (slice_get heap.now.shape.slots index ≡ Some (Some x))
         × IsFor heap.now.shape zones x x z x) found.old.items found.new.items) }
+    ensures few { OnOk result (length found.new.items ≤ length found.old.items + 1) }
     ensures count { length heap.now.shape.slots ≡ 64 }
 {
     match slot_at(heap, index) {
@@ -135,8 +145,9 @@ fn gather_wrapper<L: Ledger>(
 ) -> Result<(), NoMemory>
     requires wrapper { (z : _) × IsWrapperIn heap.now.shape z wrapper }
     requires sized { length heap.now.colours ≡ length heap.now.shape.arenas }
-    ensures { OnOk result (Gathers (IsGrayWrapper heap.now zones wrapper) found.old.items
-        found.new.items) }
+    ensures gathered { OnOk result (Gathers (IsGrayWrapper heap.now zones wrapper)
+        found.old.items found.new.items) }
+    ensures few { OnOk result (length found.new.items ≤ length found.old.items + 1) }
 {
     if own_colour(heap, wrapper) != Colour::Gray {
         return Ok(());
@@ -156,8 +167,9 @@ fn gather(
     found: &mut Vec<(ZoneNo, Place)>,
 ) -> Result<(), NoMemory>
     requires { cell.0 < length heap.now.shape.arenas }
-    ensures { OnOk result (Gathers (IsFor heap.now.shape zones cell place) found.old.items
-        found.new.items) }
+    ensures gathered { OnOk result (Gathers (IsFor heap.now.shape zones cell place)
+        found.old.items found.new.items) }
+    ensures few { OnOk result (length found.new.items ≤ length found.old.items + 1) }
 {
     if let Some(zone) = zone_in(heap, zones, cell) {
         found.push((zone, place))?;

@@ -41,11 +41,12 @@
 //     6 end_group        the current group ends
 //
 // So a group is grouped once black marking rests, and ends once all of its marking rests and no arena
-// of the group before is out. Each unit lowers one number (`units_left`), so a collection comes to its
-// end.
+// of the group before is out. Each unit lowers one number (`units_left`), which is below 2^64
+// (`units_law`), so a collection comes to its end.
 #![tactic(auto)]
 
 mod begin;
+mod bounds;
 mod collector;
 mod colours;
 mod commands;

@@ -4,9 +4,8 @@ ghost use Rattle.std.specs.Int.{bit_at};
 ghost use Rattle.cell_bits.specs.declared.bits.Bits.{Bits as ABits};
 ghost use Rattle.slice_driver.specs.Left.{Lowers, units_left};
 ghost use Rattle.slice_driver.specs.Quiet.{IsFormed};
-ghost use Rattle.slice_driver.specs.Represents.{Represents};
-ghost use Rattle.slice_driver.specs.Units.{HandsJobs, IsLowestOut, IsSound, UnitDone, flying_after};
-ghost use Rattle.slice_driver.specs.Working.{BeginsOrBegun, HasGroups, IsAtGroupEnd, IsResting};
+ghost use Rattle.slice_driver.specs.Units.{AreJobs, EndsColoured, HandsJobs, IsLowestOut, IsSound, UnitDone, is_group_end, flying_after, jobs_at};
+ghost use Rattle.slice_driver.specs.Working.{BeginsOrBegun, HasGroups, IsAtGroupEnd, IsResting, IsStill};
 
 use crate::collector::{Collector, Unit};
 use cell_bits::Flight;
@@ -24,11 +23,13 @@ impl Collector {
     /// 3. `begins_zone`: the beginning of a zone of the current group;
     /// 4. `marks_gray`: a piece of gray marking of the current group, or a weak entry for gray;
     /// 5. `next_out`: an arena that is to be taken in, which is `due` and left to `take_one`: so it is
-    ///    exactly where steps 1 to 4 have no work and an arena is out;
-    /// 6. `end_group`: the end of the current group.
+    ///    exactly where steps 1 to 4 have no work and an arena is out, and then nothing is done;
+    /// 6. `end_group`: the end of the current group. Its report comes exactly where steps 1 to 5 have
+    ///    no work, and each present cell of any zone has the colour then that the end asks. The
+    ///    arenas of the group are handed to sweeping with their bits.
     ///
     /// Only the end of a group takes memory, all of it before anything changes: so memory is wanted
-    /// only where steps 1 to 5 have no work.
+    /// only where steps 1 to 5 have no work, and then nothing is done.
     pub fn unit<F: Flight, L: Ledger>(
         &mut self,
         alloc: Global,
@@ -39,22 +40,31 @@ impl Collector {
         requires running { IsSome self.old.run }
         ensures done { IfOk result (λ unit. UnitDone self.old (F.bits flight.old) unit self.new
             (F.bits flight.new)) }
+        ensures sound { IfOk result (λ unit. IsSound self.new
+            (flying_after unit.handed (F.bits flight.new))) }
+        ensures handed { IfOk result (λ unit. AreJobs unit.handed
+            (jobs_at unit.report self.old.heap)) }
         ensures jobs { IfOk result (λ unit. HandsJobs unit.handed self.old.heap.shape
             self.new.heap.shape) }
+        ensures coloured { IfOk result (λ unit. EndsColoured unit.report self.old
+            (F.bits flight.old) self.new.heap.colours) }
+        ensures ended_where { IfOk result (λ unit. (is_group_end unit.report ≡ true)
+            ↔ IsAtGroupEnd self.old (F.bits flight.old)) }
         ensures due { IfOk result (λ unit. IsSome unit.due → unit.handed ≡ None) }
         ensures due_report { IfOk result (λ unit. IsSome unit.due → unit.report ≡ None) }
-        ensures resting { IfOk result (λ unit. IsSome unit.due
-            → IsResting self.new (F.bits flight.new)) }
+        ensures due_still { IfOk result (λ unit. IsSome unit.due
+            → IsStill self.old (F.bits flight.old) self.new (F.bits flight.new)) }
+        ensures due_rests { IfOk result (λ unit. IsSome unit.due
+            → IsResting self.old (F.bits flight.old)) }
         ensures due_where { IsResting self.old (F.bits flight.old) → (a : ℕ)
             → IsLowestOut self.old.heap.shape a → IsOkAnd result (λ unit. unit.due ≡ Some a) }
         ensures finished { IfOk result (λ unit. (unit.finished ≡ true) ↔ (self.new.run ≡ None)) }
         ensures left { IfOk result (λ unit. Lowers unit.due
             (units_left self.old (F.bits flight.old))
             (units_left self.new (flying_after unit.handed (F.bits flight.new)))) }
-        ensures err { OnErr result ((w : _) → Represents self.old (F.bits flight.old) w
-            → Represents self.new (F.bits flight.new) w) }
-        ensures err_run { OnErr result (self.new.run ≡ self.old.run) }
-        ensures err_where { OnErr result (IsAtGroupEnd self.new (F.bits flight.new)) }
+        ensures err { OnErr result (IsStill self.old (F.bits flight.old) self.new
+            (F.bits flight.new)) }
+        ensures err_where { OnErr result (IsAtGroupEnd self.old (F.bits flight.old)) }
         ensures origin { F.origin flight.new ≡ F.origin flight.old }
         ensures made { self.new.heap.made ≡ self.old.heap.made }
         ensures entries { length self.new.heap.shape.weak.entries

@@ -21,10 +21,19 @@ loop-wrapper-preserved g c =
     let new = c.gather_wrapper.new.found.items in
     let at = sym c.in-Some.ensures.place in
     record {
+      before = omega (arith, c.in-Some.ensures.cursor, within_list h.shape zone i u at);
+      few = (let was = c.loop-wrapper.invariant.few in let more = c.in_ok-gather_wrapper.ensures.few in omega (arith, was, more, c.in-Some.ensures.cursor));
       gathered = subst (λ n. Gathers (IsGrayBefore h c.args.zones zone n) old new) (sym c.in-Some.ensures.cursor)
           (gray_step h c.args.zones zone i old mid new c.loop-wrapper.invariant.gathered
-          (gray_at h c.args.zones zone i u at (stands_in h.shape zone i u c.requires.wrappers c.in-Some.ensures.apart at).zone_is mid new c.in_ok-gather_wrapper.ensures));
+          (gray_at h c.args.zones zone i u at (stands_in h.shape zone i u c.requires.wrappers c.in-Some.ensures.apart at).zone_is mid new c.in_ok-gather_wrapper.ensures.gathered));
     }
 
-pub returns : goal.returns
-returns g c = gray_all c.args.heap.now c.args.zones c.args.zone c.loop-wrapper.cursor c.args.found.now.items c.loop-wrapper.found.items (sym c.in_default.ensures.place) c.loop-wrapper.invariant.gathered
+pub returns-clause-gathered : goal.returns-clause-gathered
+returns-clause-gathered g c = gray_all c.args.heap.now c.args.zones c.args.zone c.loop-wrapper.cursor c.args.found.now.items c.loop-wrapper.found.items (sym c.in_default.ensures.place) c.loop-wrapper.invariant.gathered
+
+pub returns-clause-few : goal.returns-clause-few
+returns-clause-few g c =
+    let most = c.requires.few c.args.zone in
+    let before = c.loop-wrapper.invariant.before in
+    let few = c.loop-wrapper.invariant.few in
+    omega (arith, most, before, few)

@@ -1,4 +1,4 @@
-use Rattle.std.proofs.Common.{◌≡◌, length, arith, subst, sym, ◌+◌}
+use Rattle.std.proofs.Common.{◌≡◌, length, arith, ap, subst, sym, ◌+◌}
 use Rattle.slice_driver.specs.GrayRoots.{Gathers, IsGrayAmong, IsGrayOf}
 use Rattle.slice_driver.proofs.GatheredRoots.{among_skip, among_step}
 use Rattle.slice_driver.proofs.gray_roots.gather_wrappers.Goals as goal
@@ -15,17 +15,19 @@ loop-index-preserved g c =
           let other = w.in-Some.ensures.some in
           let new = w.gather_of.new.found.items in
           record {
+            few = (let was = c.loop-index.invariant.few in let more = w.in_ok-gather_of.ensures.few in let is = ap (λ v. length v.items) w.found-is in omega (arith, was, more, is));
             gathered = subst (λ v. Gathers (IsGrayAmong h c.args.zones (i + 1)) old v.items) (sym w.found-is)
-                (among_step h c.args.zones i old mid new other.1 c.loop-index.invariant.gathered (subst (λ z. Gathers (IsGrayOf h c.args.zones z) mid new) other.0 w.in_ok-gather_of.ensures));
+                (among_step h c.args.zones i old mid new other.1 c.loop-index.invariant.gathered (subst (λ z. Gathers (IsGrayOf h c.args.zones z) mid new) other.0 w.in_ok-gather_of.ensures.gathered));
           }
       | in_default w ↦ record {
+        few = (let was = c.loop-index.invariant.few in let is = ap (λ v. length v.items) w.found-is in omega (arith, was, is));
         gathered = subst (λ v. Gathers (IsGrayAmong h c.args.zones (i + 1)) old v.items) (sym w.found-is)
             (among_skip h c.args.zones i old mid w.in_default.ensures.none c.loop-index.invariant.gathered);
       }
     ]
 
-pub returns : goal.returns
-returns g c =
+pub returns-clause-gathered : goal.returns-clause-gathered
+returns-clause-gathered g c =
     let h = c.args.heap.now in
     let ended : c.loop-index.index ≡ length h.shape.states = omega arith in
     subst (λ n. Gathers (IsGrayAmong h c.args.zones n) c.args.found.now.items c.loop-index.found.items) ended c.loop-index.invariant.gathered

@@ -1,7 +1,7 @@
 use Rattle.std.proofs.Common.{sym, ap, subst}
 use Rattle.slice_driver.specs.Collector.{CollectorState, run_of}
 use Rattle.slice_driver.specs.Quiet.{IsFormed}
-use Rattle.slice_driver.specs.Units.{reports_of}
+use Rattle.slice_driver.specs.Units.{is_group_end, reports_of}
 use Rattle.slice_driver.specs.Working.{GoesOn, IsGrouping}
 use Rattle.slice_driver.specs.declared.collector.Unit.{Unit}
 use Rattle.slice_driver.proofs.GroupingSteps.{not_formed}
@@ -14,6 +14,7 @@ returns-then-looks g c =
     let grouping : IsGrouping v = (record { zones = run.zones; formed = run.formed }, ap run_of c.in_ok-run.was, c.if-run.false) in
     record {
       unformed = subst (λ (x : CollectorState). IsFormed x → ⊥) c.self.view_is (not_formed v grouping);
+      goes_on = ap (λ (u : Unit). is_group_end u.report) c.quiet.ensures;
       handed = ap (λ (u : Unit). u.handed) c.quiet.ensures;
       finished = ap (λ (u : Unit). u.finished) c.quiet.ensures;
       due = ap (λ (u : Unit). u.due) c.quiet.ensures;

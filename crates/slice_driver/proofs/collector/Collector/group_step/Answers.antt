@@ -5,7 +5,7 @@ use Rattle.gz_names.specs.declared.zone_sets.ZoneSet.{ZoneSet}
 use Rattle.zone_edges.specs.Looks.{AreAllLookedAt}
 use Rattle.slice_driver.specs.Collector.{CollectorState, run_of}
 use Rattle.slice_driver.specs.Quiet.{IsFormed}
-use Rattle.slice_driver.specs.Units.{IsSound, reports_of}
+use Rattle.slice_driver.specs.Units.{IsSound, is_group_end, reports_of}
 use Rattle.slice_driver.specs.Working.{GoesOn, IsGrouping}
 use Rattle.slice_driver.specs.declared.collector.Unit.{Unit}
 use Rattle.slice_driver.proofs.GroupingSteps.{all_stepped, forms_goes, kept_waiting, not_formed, some_wait, step_goes, steps_in, still_waiting, waiting_in, zones_noted}
@@ -49,6 +49,7 @@ returns-in-Some-first c =
     let goes : (f : ℕ → Option Bits) → IsSound v f → GoesOn v f [] d f = λ f s. step_goes v c.in-Some.zone c.group_step.new.self grouping looked steps f s in
     record {
       unformed = subst (λ (x : CollectorState). IsFormed x → ⊥) c.self.view_is (not_formed v grouping);
+      goes_on = ap (λ (u : Unit). is_group_end u.report) quiet.ensures;
       handed = ap (λ (u : Unit). u.handed) quiet.ensures;
       finished = ap (λ (u : Unit). u.finished) quiet.ensures;
       due = ap (λ (u : Unit). u.due) quiet.ensures;
@@ -69,6 +70,7 @@ returns c =
     let set : c.set.new.self ≡ groups = c.set.ensures ∙ c.copy_of.ensures in
     record {
       unformed = subst (λ (x : CollectorState). IsFormed x → ⊥) c.self.view_is (not_formed v grouping);
+      goes_on = ap (λ (u : Unit). is_group_end u.report) c.of.ensures;
       handed = ap (λ (u : Unit). u.handed) c.of.ensures;
       finished = ap (λ (u : Unit). u.finished) c.of.ensures;
       due = ap (λ (u : Unit). u.due) c.of.ensures;

@@ -15,6 +15,7 @@ use Rattle.slice_driver.specs.declared.collector.Unit.{Unit}
 use Rattle.slice_driver.specs.declared.collector.Run.{Run}
 use Rattle.slice_driver.specs.Units.{DoesUnit, IsFreedWord, IsLowestOut, IsSound, KeepsFreedWords, reports_of, without_arena}
 use Rattle.slice_driver.proofs.Named.{some_one}
+use Rattle.slice_driver.proofs.SoundAfter.{unit_sound}
 use Rattle.slice_driver.proofs.TakingIn.{takes_unit}
 use Rattle.slice_driver.specs.Left.{units_left}
 use Rattle.slice_driver.proofs.FewerTaken.{taking_lowers}
@@ -111,3 +112,6 @@ returns-clause-left c = λ flown sound at.
     ] in
     subst (λ (x : CollectorState). units_left c.if-finished.self (without_arena flown a) < units_left x flown) is
     (subst (λ (x : CollectorState). units_left x (without_arena flown a) < units_left v flown) self_is less)
+
+pub returns-clause-sound : goal.returns-clause-sound
+returns-clause-sound c = λ flown s at. unit_sound c.args.self.now _ flown (without_arena flown c.args.arena) _ (returns-clause-done c flown at) s

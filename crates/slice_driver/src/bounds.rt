@@ -1,0 +1,39 @@
+// What bounds the work of a collection.
+ghost use Rattle.std.specs.Prelude.{◌<◌, ◌≤◌, ◌^◌, ℕ, Option, length, sum_by};
+ghost use Rattle.cell_bits.specs.declared.bits.Bits.{Bits};
+ghost use Rattle.slice_driver.specs.GrayRoots.{HasFewWrappers};
+ghost use Rattle.slice_driver.specs.Left.{units_left};
+ghost use Rattle.slice_driver.specs.Units.{IsSound, none_flown};
+
+use crate::collector::Collector;
+
+impl Collector {
+    /// Fewer units are left of a collection than a `u64` counts. It does nothing.
+    pub fn units_law(&self)
+        ensures { (flown : ℕ → Option Bits) → IsSound self.now flown
+            → units_left self.now flown < 2 ^ 64 }
+    {
+        self.sizes_law();
+        self.wrappers_law();
+    }
+
+    // No zone has more wrappers than there can be slots of cells. It does nothing.
+    pub(crate) fn few_wrappers_law(&self)
+        requires { IsSound self.now none_flown }
+        ensures { HasFewWrappers self.now.heap.shape }
+    {
+        self.sizes_law();
+        self.wrappers_law();
+    }
+
+    // How many arenas, buffered places and zones there are at most. It does nothing.
+    pub(crate) fn sizes_law(&self)
+        ensures arenas { length self.now.heap.shape.arenas < 2 ^ 32 }
+        ensures buffered { sum_by length self.now.heap.buffers < 2 ^ 63 }
+        ensures zones { length self.now.heap.shape.states ≤ 64 }
+    {
+        self.heap.arenas();
+        self.heap.waiting();
+        self.heap.zones();
+    }
+}
