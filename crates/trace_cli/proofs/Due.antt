@@ -1,5 +1,5 @@
 -- A unit that finds an arena due: the first job is that arena's, and taking it in is a unit.
-use Rattle.std.proofs.Common.{◌≡◌, ℕ, ◌<◌, List, ◌∷◌, Option, Some, None, IsSome, is_some, true, refl, ap, sym, ◌∙◌, subst}
+use Rattle.std.proofs.Common.{◌≡◌, ℕ, ◌<◌, ◌≤◌, arith, List, ◌∷◌, Option, Some, None, IsSome, is_some, true, refl, ap, sym, ◌∙◌, subst}
 use Rattle.std.proofs.lemmas.Bool.{eq-eqb}
 use Rattle.gz_names.specs.declared.replies.Report.{Report}
 use Rattle.cell_bits.specs.declared.bits.Bits.{Bits}
@@ -11,6 +11,7 @@ use Rattle.heap_core.specs.Shape.{Shape, out_of}
 use Rattle.slice_driver.specs.Collector.{CollectorState}
 use Rattle.slice_driver.specs.Represents.{Represents}
 use Rattle.slice_driver.specs.Left.{Lowers, units_left}
+use Rattle.slice_driver.specs.Working.{IsStill}
 use Rattle.slice_driver.specs.declared.collector.Unit.{Unit}
 use Rattle.slice_driver.specs.Units.{AreAscendingJobs, AreJobsOf, DoesUnit, DoneOrDue, HandsJobs, IsFreedWord, IsLowestOut, IsSound, KeepsFreedWords, UnitDone, flown_by, flying_after, reports_of, without_arena}
 use Rattle.trace_cli.specs.Handed.{TakesFirst, left_after, origin_of, whites_of}
@@ -58,6 +59,13 @@ due_does d e jobs rest a taken reports h does w ok r =
     let done = does (flown_by jobs) h.flies w ok r in
     (done.0, done.1, represents_same e (without_arena (flown_by jobs) a) (flown_by rest) done.0 h.left done.2)
 
+-- the collector goes on to stand for a valid world
+pub due_keeps : (d e : CollectorState) (jobs rest : List Job) (a : ℕ) (taken : Taken) → IsSound d (flown_by jobs) → HasDue d jobs rest a taken
+    → ((flown : ℕ → Option Bits) → IsSound d flown → flown a ≡ Some taken.bits → IsSound e (without_arena flown a)) → IsSound e (flown_by rest)
+due_keeps d e jobs rest a taken s h keeps =
+    let after = keeps (flown_by jobs) s h.flies in
+    record { world = after.world; valid = after.valid; represents = represents_same e (without_arena (flown_by jobs) a) (flown_by rest) after.world h.left after.represents }
+
 -- it lowers what is left
 pub due_lowers : (d e : CollectorState) (jobs rest : List Job) (a : ℕ) (taken : Taken) → IsSound d (flown_by jobs) → HasDue d jobs rest a taken
     → ((flown : ℕ → Option Bits) → IsSound d flown → flown a ≡ Some taken.bits → units_left e (without_arena flown a) < units_left d flown) → units_left e (flown_by rest) < units_left d (flown_by jobs)
@@ -88,6 +96,16 @@ unit_does c d old jobs left unit done none e =
     let does : DoesUnit c (flown_by old) (reports_of unit.report unit.finished) d (flying_after unit.handed (flown_by jobs)) = subst (λ (o : Option ℕ). DoneOrDue o c (flown_by old) unit d (flown_by jobs)) none done in
     subst (λ (f : ℕ → Option Bits). DoesUnit c (flown_by old) (reports_of unit.report unit.finished) d f) (unit_flies unit jobs left e) does
 
+pub unit_keeps : (d : CollectorState) (jobs left : List Job) (unit : Unit) → IsSound d (flying_after unit.handed (flown_by jobs)) → left ≡ left_after unit.handed jobs → IsSound d (flown_by left)
+unit_keeps d jobs left unit s e = subst (λ (f : ℕ → Option Bits). IsSound d f) (unit_flies unit jobs left e) s
+
+-- where a unit wanted memory, nothing was done
+pub wanting_keeps : (c d : CollectorState) (old jobs : List Job) → IsStill c (flown_by old) d (flown_by jobs) → IsSound c (flown_by old) → IsSound d (flown_by jobs)
+wanting_keeps c d old jobs still s = record { world = s.world; valid = s.valid; represents = subst (λ (x : CollectorState). Represents x (flown_by jobs) s.world) (sym still.same) (still.worlds s.world s.represents) }
+
+pub wanting_jobs : (c d : CollectorState) (old jobs : List Job) → d ≡ c → origin_of jobs ≡ origin_of old → AreJobsOf c.heap.shape old → AreJobsOf d.heap.shape jobs
+wanting_jobs c d old jobs same origin are = subst (λ (x : CollectorState). AreJobsOf x.heap.shape jobs) (sym same) (jobs_kept c.heap.shape c.heap.shape old jobs (λ a freed is. is) origin are)
+
 pub unit_lowers : (c d : CollectorState) (old jobs left : List Job) (unit : Unit) → Lowers unit.due (units_left c (flown_by old)) (units_left d (flying_after unit.handed (flown_by jobs))) → unit.due ≡ None → left ≡ left_after unit.handed jobs → units_left d (flown_by left) < units_left c (flown_by old)
 unit_lowers c d old jobs left unit lowers none e =
     let less : units_left d (flying_after unit.handed (flown_by jobs)) < units_left c (flown_by old) = subst (λ (o : Option ℕ). Lowers o (units_left c (flown_by old)) (units_left d (flying_after unit.handed (flown_by jobs)))) none lowers in
@@ -110,3 +128,12 @@ due_hands_none unit a none some = none (ap is_some some)
 
 pub due_jobs : (s t : Shape) (old jobs : List Job) (unit : Unit) (a : ℕ) → origin_of jobs ≡ origin_of old → AreJobsOf s old → HandsJobs unit.handed s t → (IsSome unit.due → unit.handed ≡ None) → unit.due ≡ Some a → AreJobsOf t jobs
 due_jobs s t old jobs unit a origin are hands none some = unit_jobs s t old jobs jobs unit origin are hands (ap (λ (o : Option (List Job)). left_after o jobs) (sym (due_hands_none unit a none some)))
+
+-- what is lowered as the arena comes in was not raised before
+pub due_lower : (c d : CollectorState) (old jobs : List Job) (unit : Unit) (a n : ℕ)
+    → Lowers unit.due (units_left c (flown_by old)) (units_left d (flying_after unit.handed (flown_by jobs)))
+    → unit.due ≡ Some a → (IsSome unit.due → unit.handed ≡ None) → n < units_left d (flown_by jobs) → n < units_left c (flown_by old)
+due_lower c d old jobs unit a n lowers some none less =
+    let most : units_left d (flying_after unit.handed (flown_by jobs)) ≤ units_left c (flown_by old) = subst (λ (o : Option ℕ). Lowers o (units_left c (flown_by old)) (units_left d (flying_after unit.handed (flown_by jobs)))) some lowers in
+    let here : units_left d (flown_by jobs) ≤ units_left c (flown_by old) = subst (λ (h : Option (List Job)). units_left d (flying_after h (flown_by jobs)) ≤ units_left c (flown_by old)) (due_hands_none unit a none some) most in
+    omega (arith, here, less)

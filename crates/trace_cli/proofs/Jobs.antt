@@ -12,7 +12,7 @@ use Rattle.cell_bits.specs.declared.bits.Bits.{Bits}
 use Rattle.cell_bits.specs.declared.jobs.Job.{Job}
 use Rattle.colour_defs.proofs.Lists.{nothing_in_none, contains_head, contains_tail, contains_cases}
 use Rattle.heap_core.specs.Shape.{Shape}
-use Rattle.slice_driver.specs.Units.{AreAscendingJobs, AreJobsOf, IsFreedWord, KeepsFreedWords, flown_by, without_arena}
+use Rattle.slice_driver.specs.Units.{AreAscendingJobs, AreJobsOf, IsFreedWord, KeepsFreedWords, flown_by, none_flown, without_arena}
 use Rattle.trace_cli.specs.Handed.{whites_of, freed_job, origin_of}
 
 max_assoc : (a b c : ℕ) → max (max a b) c ≡ max a (max b c)
@@ -94,6 +94,14 @@ jobs_kept s t old new keeps e h = record {
 
 pub jobs_none : (s : Shape) → AreJobsOf s []
 jobs_none s = record { ascending = tt; freed = λ x c. absurd (nothing_in_none x c) }
+
+-- jobs of which nothing is in flight are none
+pub none_jobs : (jobs : List Job) → flown_by jobs ≡ none_flown → jobs ≡ []
+none_jobs [] e = refl
+none_jobs (job ∷ jobs) e =
+    let here : flown_by (job ∷ jobs) job.arena ≡ Some job.bits = ap (λ (b : Bool). cond b (Some job.bits) (flown_by jobs job.arena)) (eq-eqb job.arena job.arena refl) in
+    let none : flown_by (job ∷ jobs) job.arena ≡ None = ap (λ (f : ℕ → Option Bits). f job.arena) e in
+    absurd (cc (here, none))
 
 -- without the first
 pub jobs_rest : (s : Shape) (job : Job) (jobs : List Job) → AreJobsOf s (job ∷ jobs) → AreJobsOf s jobs

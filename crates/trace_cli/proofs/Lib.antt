@@ -9,3 +9,4 @@ pub mod Lined
 pub mod Stands
 pub mod Complete
 pub mod Words
+pub mod Slicing

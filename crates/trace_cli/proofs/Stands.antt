@@ -12,14 +12,16 @@ use Rattle.gz_io.specs.declared.reader.Next.TheVariants as next
 use Rattle.gz_names.specs.declared.commands.Cmd.{Cmd}
 use Rattle.gz_names.specs.declared.replies.Reply.{Reply}
 use Rattle.gz_names.specs.declared.replies.Report.{Report}
+use Rattle.cell_bits.specs.declared.jobs.Job.{Job}
 use Rattle.colour_defs.specs.World.{World, first_world}
 use Rattle.colour_defs.specs.Lawful.{Answers}
 use Rattle.colour_defs.proofs.Grown.{run_more}
 use Rattle.colour_defs.specs.Laws.{IsValid}
 use Rattle.slice_driver.specs.Collector.{CollectorState}
 use Rattle.slice_driver.specs.Represents.{Represents}
-use Rattle.slice_driver.specs.Units.{IsSound, none_flown}
-use Rattle.trace_cli.specs.Standing.{AnswersLine, IsFirst, IsReady, IsWithin, answers, first, ready}
+use Rattle.slice_driver.specs.Units.{AreJobsOf, IsSound, flown_by, none_flown}
+use Rattle.trace_cli.specs.Standing.{AnswersLine, IsFirst, IsLeft, IsReady, IsWithin, answers, first, ready}
+use Rattle.trace_cli.specs.Standing as facts
 use Rattle.trace_cli.specs.Lines.{lines_of, line_feeds}
 use Rattle.trace_cli.specs.Served.{StandsFor, IsBad}
 use Rattle.trace_cli.specs.Headline.{report_lines, answer_lines, StandForAll, LeadsTo, WritesAnswer, WritesFront, WritesStart, Replays}
@@ -46,44 +48,58 @@ Stands (Some input) None old new n w = ⊥
 Stands (Some input) (Some rest) old new n w = Reached input rest old new n w
 
 -- the collector stands for a valid world that the lines answered so far lead to
-pub record StandsIn (left rest old new : Option (List ℕ)) (n : ℕ) (c : CollectorState) : Type 0 where
+pub record StandsIn (left rest old new : Option (List ℕ)) (n : ℕ) (c : CollectorState) (jobs : List Job) : Type 0 where
   pub world : World
-  pub represents : Represents c none_flown world
+  pub represents : Represents c (flown_by jobs) world
+  pub fit : AreJobsOf c.heap.shape jobs
   pub valid : IsValid world
   pub stands : Stands left rest old new n world
   pub within : IsWithin c n
 
 -- what is known of a first collector, of one that is ready, and of a line that was answered
 pub record First (c : CollectorState) : Type 0 where
+  pub valid : IsValid first_world
   pub represents : Represents c none_flown first_world
   pub within : IsWithin c 0
 
 pub opened_first : {c : CollectorState} → IsFirst c → First c
-opened_first (first represents within) = record { represents = represents; within = within }
+opened_first (first valid represents within) = record { valid = valid; represents = represents; within = within }
 
-pub record Ready (c : CollectorState) (n : ℕ) : Type 0 where
-  pub sound : IsSound c none_flown
+pub record Ready (c : CollectorState) (jobs : List Job) (n : ℕ) : Type 0 where
+  pub sound : IsSound c (flown_by jobs)
+  pub fit : AreJobsOf c.heap.shape jobs
   pub within : IsWithin c n
   pub below : n < 4294967295
 
-pub opened_ready : {c : CollectorState} {n : ℕ} → IsReady c n → Ready c n
-opened_ready (ready sound within below) = record { sound = sound; within = within; below = below }
+pub opened_ready : {c : CollectorState} {jobs : List Job} {n : ℕ} → IsReady c jobs n → Ready c jobs n
+opened_ready (ready sound fit within below) = record { sound = sound; fit = fit; within = within; below = below }
 
-pub record Answered (line : List ℕ) (old : CollectorState) (n : ℕ) (new : CollectorState) (p q : Option (List ℕ)) : Type 0 where
+pub record Left (c : CollectorState) (jobs : List Job) : Type 0 where
+  pub sound : IsSound c (flown_by jobs)
+  pub fit : AreJobsOf c.heap.shape jobs
+
+pub opened_left : {c : CollectorState} {jobs : List Job} → IsLeft c jobs → Left c jobs
+opened_left (facts.left sound fit) = record { sound = sound; fit = fit }
+
+pub record Answered (line : List ℕ) (old : CollectorState) (jobs : List Job) (n : ℕ) (new : CollectorState) (left : List Job) (p q : Option (List ℕ)) : Type 0 where
   pub command : Cmd
   pub stands : StandsFor line command
-  pub writes : (w : World) → IsValid w → Represents old none_flown w → WritesAnswer w command new p q
+  pub writes : (w : World) → IsValid w → Represents old (flown_by jobs) w → WritesAnswer w command new left p q
+  pub fit : AreJobsOf new.heap.shape left
   pub within : IsWithin new (n + 1)
 
-pub opened_answer : {line : List ℕ} {old new : CollectorState} {n : ℕ} {p q : Option (List ℕ)} → AnswersLine line old n new p q → Answered line old n new p q
-opened_answer (answers command stands writes within) = record { command = command; stands = stands; writes = writes; within = within }
+pub opened_answer : {line : List ℕ} {old new : CollectorState} {jobs left : List Job} {n : ℕ} {p q : Option (List ℕ)} → AnswersLine line old jobs n new left p q → Answered line old jobs n new left p q
+opened_answer (answers command stands writes fit within) = record { command = command; stands = stands; writes = writes; fit = fit; within = within }
 
 -- the same, as one fact
-pub data Standing (left rest old new : Option (List ℕ)) (n : ℕ) (c : CollectorState) : Type 0 where
-  standing : StandsIn left rest old new n c → Standing left rest old new n c
+pub data Standing (left rest old new : Option (List ℕ)) (n : ℕ) (c : CollectorState) (jobs : List Job) : Type 0 where
+  standing : StandsIn left rest old new n c jobs → Standing left rest old new n c jobs
 
-pub opened : {left rest old new : Option (List ℕ)} {n : ℕ} {c : CollectorState} → Standing left rest old new n c → StandsIn left rest old new n c
+pub opened : {left rest old new : Option (List ℕ)} {n : ℕ} {c : CollectorState} {jobs : List Job} → Standing left rest old new n c jobs → StandsIn left rest old new n c jobs
 opened (standing s) = s
+
+pub left_standing : {left rest old new : Option (List ℕ)} {n : ℕ} {c : CollectorState} {jobs : List Job} → Standing left rest old new n c jobs → IsLeft c jobs
+left_standing (standing s) = facts.left (record { world = s.world; valid = s.valid; represents = s.represents }) s.fit
 
 pub stands_first : (left written : Option (List ℕ)) (held : List ℕ) → held ≡ [] → Stands left (prepend_known held left) written written 0 first_world
 stands_first None written held e = tt
@@ -138,8 +154,8 @@ line_bytes : (xs ys line : List ℕ) → IsPlain line → EndsLine xs ys line �
 line_bytes xs ys line p (inl e) = (line ++ 10 ∷ [], e ∙ sym (append_assoc line (10 ∷ []) ys), omega (arith, line_feeds-append line (10 ∷ []), line_feeds-plain line p))
 line_bytes xs ys line p (inr e) = (line, e.0 ∙ sym (append-nil line) ∙ ap (λ (t : List ℕ). line ++ t) (sym e.2), omega (arith, line_feeds-plain line p))
 
-reached_more : (i xs ys : List ℕ) (p q r : Option (List ℕ)) (n : ℕ) (line : List ℕ) (w : World) (c : Cmd) (k : CollectorState) → Reached i xs p q n w → IsPlain line → EndsLine xs ys line → StandsFor line c → (a : WritesAnswer w c k q r) → Reached i ys p r (n + 1) a.after
-reached_more i xs ys p q r n line w c k h plain ends s a =
+reached_more : (i xs ys : List ℕ) (p q r : Option (List ℕ)) (n : ℕ) (line : List ℕ) (w : World) (c : Cmd) (k : CollectorState) (jobs : List Job) → Reached i xs p q n w → IsPlain line → EndsLine xs ys line → StandsFor line c → (a : WritesAnswer w c k jobs q r) → Reached i ys p r (n + 1) a.after
+reached_more i xs ys p q r n line w c k jobs h plain ends s a =
     let b = line_bytes xs ys line plain ends in
     record {
       done = h.done ++ line ∷ [];
@@ -153,11 +169,11 @@ reached_more i xs ys p q r n line w c k h plain ends s a =
       whole = omega (arith, line_feeds-append h.text b.0, h.whole, b.2);
     }
 
-pub stands_more : (a b c p q r : Option (List ℕ)) (n m : ℕ) (line : List ℕ) (w : World) (d : Cmd) (k : CollectorState) → Stands a b p q n w → GivesKnown b c (next.Line m) line → StandsFor line d → (e : WritesAnswer w d k q r) → Stands a c p r (n + 1) e.after
-stands_more None b c p q r n m line w d k h t s e = tt
-stands_more (Some i) None c p q r n m line w d k h t s e = absurd h
-stands_more (Some i) (Some xs) None p q r n m line w d k h t s e = absurd t
-stands_more (Some i) (Some xs) (Some ys) p q r n m line w d k h t s e = reached_more i xs ys p q r n line w d k h t.2 t.3 s e
+pub stands_more : (a b c p q r : Option (List ℕ)) (n m : ℕ) (line : List ℕ) (w : World) (d : Cmd) (k : CollectorState) (jobs : List Job) → Stands a b p q n w → GivesKnown b c (next.Line m) line → StandsFor line d → (e : WritesAnswer w d k jobs q r) → Stands a c p r (n + 1) e.after
+stands_more None b c p q r n m line w d k jobs h t s e = tt
+stands_more (Some i) None c p q r n m line w d k jobs h t s e = absurd h
+stands_more (Some i) (Some xs) None p q r n m line w d k jobs h t s e = absurd t
+stands_more (Some i) (Some xs) (Some ys) p q r n m line w d k jobs h t s e = reached_more i xs ys p q r n line w d k jobs h t.2 t.3 s e
 
 seam : (done : List (List ℕ)) (line : List ℕ) (rest : List (List ℕ)) → slice_get (done ++ (line ∷ rest)) (length done) ≡ Some line
 seam [] line rest = refl
@@ -300,6 +316,7 @@ stop_after (Some i) (Some xs) (Some ys) p q r held line n m w c h t s k = (
     inr (record {
       line = line;
       command = c;
+      accepted = k.accepted;
       reports = k.reports;
       next = next_is i xs p q n w line (lines_of (held ++ ys)) h (line_given xs (held ++ ys) line t.2 t.3);
       stands = s;
@@ -311,7 +328,7 @@ stop_after (Some i) (Some xs) (Some ys) p q r held line n m w c h t s k = (
 
 -- the start of an answer stays so where nothing more is written
 pub start_kept : (w : World) (c : Cmd) (p q r : Option (List ℕ)) → WritesStart w c p q → Appends q r [] → WritesStart w c p r
-start_kept w c p q r h k = record { reports = h.reports; starts = h.starts; written = rw append-nil at (Appends-trans p q r (report_lines h.reports) [] h.written k) }
+start_kept w c p q r h k = record { accepted = h.accepted; reports = h.reports; starts = h.starts; written = rw append-nil at (Appends-trans p q r (report_lines h.reports) [] h.written k) }
 
 -- and it is a front of an answer
 pub start_front : (w : World) (c : Cmd) (p q : Option (List ℕ)) → WritesStart w c p q → WritesFront w c p q

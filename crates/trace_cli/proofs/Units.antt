@@ -1,10 +1,10 @@
 -- Units one after another, with what is written of them.
-use Rattle.std.proofs.Common.{◌≡◌, ◌↔◌, ℕ, Bool, true, false, List, [], ◌∷◌, ◌++◌, Option, Some, None, IsSome, refl, ap, sym, ◌∙◌, subst}
+use Rattle.std.proofs.Common.{◌≡◌, ◌↔◌, ◌+◌, arith, length, ℕ, Bool, true, false, List, [], ◌∷◌, ◌++◌, Option, Some, None, IsSome, refl, ap, sym, ◌∙◌, subst}
 use Rattle.std.specs.Prelude.{IsTrue}
 use Rattle.std.specs.Io.KnownBytes.{Appends}
 use Rattle.std.proofs.KnownBytes.{Appends-trans, Appends-nil}
 use Rattle.std.proofs.lemmas.Grind.{flat_map-append}
-use Rattle.std.proofs.lemmas.List.{append-nil}
+use Rattle.std.proofs.lemmas.List.{append-nil, length-append}
 use Rattle.gz_io.specs.Causes.{AppendsFront}
 use Rattle.gz_names.specs.declared.replies.Report.{Report}
 use Rattle.gz_names.specs.declared.replies.Reply.TheVariants as reply
@@ -13,13 +13,11 @@ use Rattle.cell_bits.specs.declared.bits.Bits.{Bits}
 use Rattle.colour_defs.specs.World.{World}
 use Rattle.colour_defs.specs.Laws.{IsValid}
 use Rattle.colour_defs.specs.Lawful.{AreLawfulUnits, IsLawfulUnit}
-use Rattle.colour_defs.proofs.ValidReports.{units_valid}
 use Rattle.slice_driver.specs.Collector.{CollectorState, RunState}
 use Rattle.slice_driver.specs.Represents.{Represents}
-use Rattle.slice_driver.specs.Units.{IsSound, none_flown}
 use Rattle.trace_cli.specs.Headline.{report_lines}
 use Rattle.trace_cli.specs.Writing.{reports_in, BreaksInReply, BreaksInUnits, StopsInUnits, WritesCollection, WritesUnits}
-use Rattle.trace_cli.proofs.Flights.{idle_flight, idle_world}
+use Rattle.trace_cli.proofs.Flights.{idle_world}
 use Rattle.trace_cli.proofs.Written.{report_lines-append, both_written, then_front_written}
 
 units_append : (w u v : World) (xs ys : List (List Report)) → AreLawfulUnits w xs u → AreLawfulUnits u ys v → AreLawfulUnits w (xs ++ ys) v
@@ -33,56 +31,53 @@ lines_append xs ys = ap report_lines (flat_map-append (λ (u : List Report). u) 
 one_flat : (reports : List Report) → reports_in (reports ∷ []) ≡ reports
 one_flat reports = append-nil reports
 
-pub one_unit : (w v : World) (c : CollectorState) (flown : ℕ → Option Bits) (reports : List Report) (p q : Option (List ℕ)) → IsLawfulUnit w reports v → Represents c flown v → Appends p q (report_lines reports) → WritesUnits w c flown p q
-one_unit w v c flown reports p q lawful stands written = record {
+pub one_unit : (w v : World) (c : CollectorState) (flown : ℕ → Option Bits) (reports : List Report) (p q : Option (List ℕ)) → IsLawfulUnit w reports v → IsValid v → Represents c flown v → Appends p q (report_lines reports) → WritesUnits w c flown 1 p q
+one_unit w v c flown reports p q lawful ok stands written = record {
   units = reports ∷ [];
+  number = refl;
   after = v;
   done = (v, lawful, refl);
+  valid = ok;
   represents = stands;
   written = subst (λ (rs : List Report). Appends p q (report_lines rs)) (sym (one_flat reports)) written;
 }
 
-pub one_breaks : (w v : World) (reports : List Report) (p q : Option (List ℕ)) → IsLawfulUnit w reports v → AppendsFront p q (report_lines reports) → BreaksInUnits w p q
+pub one_breaks : (w v : World) (reports : List Report) (p q : Option (List ℕ)) → IsLawfulUnit w reports v → AppendsFront p q (report_lines reports) → BreaksInUnits w 1 p q
 one_breaks w v reports p q lawful written = record {
   units = reports ∷ [];
+  most = omega arith;
   after = v;
   done = (v, lawful, refl);
   written = subst (λ (rs : List Report). AppendsFront p q (report_lines rs)) (sym (one_flat reports)) written;
 }
 
 -- none yet
-pub no_units : (w : World) (c : CollectorState) (flown : ℕ → Option Bits) (p : Option (List ℕ)) → Represents c flown w → WritesUnits w c flown p p
-no_units w c flown p stands = record { units = []; after = w; done = refl; represents = stands; written = Appends-nil p }
+pub no_units : (w : World) (c : CollectorState) (flown : ℕ → Option Bits) (p : Option (List ℕ)) → IsValid w → Represents c flown w → WritesUnits w c flown 0 p p
+no_units w c flown p ok stands = record { units = []; number = refl; after = w; done = refl; valid = ok; represents = stands; written = Appends-nil p }
 
 -- more units
-pub more_units : (w : World) (c d : CollectorState) (f g : ℕ → Option Bits) (p q r : Option (List ℕ)) → (h : WritesUnits w c f p q) → WritesUnits h.after d g q r → WritesUnits w d g p r
-more_units w c d f g p q r h k = record {
+pub more_units : (w : World) (c d : CollectorState) (f g : ℕ → Option Bits) (n m : ℕ) (p q r : Option (List ℕ)) → (h : WritesUnits w c f n p q) → WritesUnits h.after d g m q r → WritesUnits w d g (n + m) p r
+more_units w c d f g n m p q r h k = record {
   units = h.units ++ k.units;
+  number = omega (arith, length-append h.units k.units, h.number, k.number);
   after = k.after;
   done = units_append w h.after k.after h.units k.units h.done k.done;
+  valid = k.valid;
   represents = k.represents;
   written = both_written p q r (report_lines (reports_in h.units)) (report_lines (reports_in k.units)) _ (lines_append h.units k.units) h.written k.written;
 }
 
-pub more_breaks : (w : World) (c : CollectorState) (f : ℕ → Option Bits) (p q r : Option (List ℕ)) → (h : WritesUnits w c f p q) → BreaksInUnits h.after q r → BreaksInUnits w p r
-more_breaks w c f p q r h k = record {
+pub more_breaks : (w : World) (c : CollectorState) (f : ℕ → Option Bits) (n m : ℕ) (p q r : Option (List ℕ)) → (h : WritesUnits w c f n p q) → BreaksInUnits h.after m q r → BreaksInUnits w (n + m) p r
+more_breaks w c f n m p q r h k = record {
   units = h.units ++ k.units;
+  most = omega (arith, length-append h.units k.units, h.number, k.most);
   after = k.after;
   done = units_append w h.after k.after h.units k.units h.done k.done;
   written = then_front_written p q r (report_lines (reports_in h.units)) (report_lines (reports_in k.units)) _ (lines_append h.units k.units) h.written k.written;
 }
 
-pub stops_after : (w : World) (c : CollectorState) (f : ℕ → Option Bits) (p q r : Option (List ℕ)) → (h : WritesUnits w c f p q) → Appends q r [] → StopsInUnits w p r
-stops_after w c f p q r h k = record { units = h.units; after = h.after; done = h.done; written = rw append-nil at (Appends-trans p q r (report_lines (reports_in h.units)) [] h.written k) }
-
-pub valid_after : (w : World) (c : CollectorState) (f : ℕ → Option Bits) (p q : Option (List ℕ)) → IsValid w → (h : WritesUnits w c f p q) → IsValid h.after
-valid_after w c f p q ok h = units_valid w h.units h.after ok h.done
-
--- the collector is sound after units
-pub sound_after : (c d : CollectorState) (f g : ℕ → Option Bits) (p q : Option (List ℕ)) → IsSound c f → ((w : World) → IsValid w → Represents c f w → WritesUnits w d g p q) → IsSound d g
-sound_after c d f g p q s writes =
-    let h = writes s.world s.valid s.represents in
-    record { world = h.after; valid = valid_after s.world d g p q s.valid h; represents = h.represents }
+pub stops_after : (w : World) (c : CollectorState) (f : ℕ → Option Bits) (n : ℕ) (p q r : Option (List ℕ)) → (h : WritesUnits w c f n p q) → Appends q r [] → StopsInUnits w n p r
+stops_after w c f n p q r h k = record { units = h.units; most = omega (arith, h.number); after = h.after; done = h.done; written = rw append-nil at (Appends-trans p q r (report_lines (reports_in h.units)) [] h.written k) }
 
 -- a collection that does not run
 pub not_running : (b : Bool) (r : Option RunState) → IsTrue b ↔ IsSome r → b ≡ false → r ≡ None
@@ -90,19 +85,19 @@ not_running b None h e = refl
 not_running b (Some x) h e = absurd (let t : b ≡ true = h.1 refl in cc (t, e))
 
 -- all units of a collection, and its reply
-pub collection_ends : (w : World) (c : CollectorState) (f : ℕ → Option Bits) (p q r : Option (List ℕ)) → c.run ≡ None → WritesUnits w c f p q → Appends q r (line_of (reply_text reply.Collected)) → WritesCollection w c p r
-collection_ends w c f p q r idle h k = record {
+pub collection_ends : (w : World) (c : CollectorState) (f : ℕ → Option Bits) (n : ℕ) (p q r : Option (List ℕ)) → c.run ≡ None → WritesUnits w c f n p q → Appends q r (line_of (reply_text reply.Collected)) → WritesCollection w c f p r
+collection_ends w c f n p q r idle h k = record {
   units = h.units;
   after = h.after;
   done = h.done;
   over = idle_world c f h.after h.represents idle;
-  represents = idle_flight c f h.after h.represents idle;
+  represents = h.represents;
   written = both_written p q r (report_lines (reports_in h.units)) (line_of (reply_text reply.Collected)) _ refl h.written k;
 }
 
 -- the same where a front of the reply was written
-pub collection_fronts : (w : World) (c : CollectorState) (f : ℕ → Option Bits) (p q r : Option (List ℕ)) → c.run ≡ None → WritesUnits w c f p q → AppendsFront q r (line_of (reply_text reply.Collected)) → BreaksInReply w p r
-collection_fronts w c f p q r idle h k = record {
+pub collection_fronts : (w : World) (c : CollectorState) (f : ℕ → Option Bits) (n : ℕ) (p q r : Option (List ℕ)) → c.run ≡ None → WritesUnits w c f n p q → AppendsFront q r (line_of (reply_text reply.Collected)) → BreaksInReply w p r
+collection_fronts w c f n p q r idle h k = record {
   units = h.units;
   after = h.after;
   done = h.done;
@@ -111,5 +106,5 @@ collection_fronts w c f p q r idle h k = record {
 }
 
 -- the same in each world that the collector stood for
-pub units_end : (c d : CollectorState) (f : ℕ → Option Bits) (p q r : Option (List ℕ)) → d.run ≡ None → ((w : World) → IsValid w → Represents c none_flown w → WritesUnits w d f p q) → Appends q r (line_of (reply_text reply.Collected)) → (w : World) → IsValid w → Represents c none_flown w → WritesCollection w d p r
-units_end c d f p q r idle writes k w ok stands = collection_ends w d f p q r idle (writes w ok stands) k
+pub units_end : (c d : CollectorState) (e f : ℕ → Option Bits) (p q r : Option (List ℕ)) → d.run ≡ None → ((w : World) → IsValid w → Represents c e w → (n : ℕ) × WritesUnits w d f n p q) → Appends q r (line_of (reply_text reply.Collected)) → (w : World) → IsValid w → Represents c e w → WritesCollection w d f p r
+units_end c d e f p q r idle writes k w ok stands = (let h = writes w ok stands in collection_ends w d f h.0 p q r idle h.1 k)

@@ -1,28 +1,32 @@
 -- What the reading loop knows of its collector, as single facts.
-use Rattle.std.specs.Prelude.{◌≡◌, ◌<◌, ◌≤◌, ◌+◌, ℕ, List, Option, None, length}
+use Rattle.std.specs.Prelude.{◌≡◌, ◌<◌, ◌≤◌, ◌+◌, ℕ, List, Option, length}
 use Rattle.gz_names.specs.declared.commands.Cmd.{Cmd}
+use Rattle.cell_bits.specs.declared.jobs.Job.{Job}
 use Rattle.colour_defs.specs.Laws.{IsValid}
 use Rattle.colour_defs.specs.World.{World, first_world}
 use Rattle.slice_driver.specs.Collector.{CollectorState}
 use Rattle.slice_driver.specs.Represents.{Represents}
-use Rattle.slice_driver.specs.Units.{IsSound, none_flown}
+use Rattle.slice_driver.specs.Units.{AreJobsOf, IsSound, flown_by, none_flown}
 use Rattle.trace_cli.specs.Headline.{WritesAnswer}
 use Rattle.trace_cli.specs.Served.{StandsFor}
 
--- no collection runs, and so many cells and weak entries were made at most
+-- so many cells and weak entries were made at most
 pub record IsWithin (c : CollectorState) (n : ℕ) : Type 0 where
-  pub idle : c.run ≡ None
   pub made : c.heap.made ≤ n
   pub entries : length c.heap.shape.weak.entries ≤ n
 
--- a collector that stands for the first world
+-- a collector that stands for the first world, which is valid
 pub data IsFirst (c : CollectorState) : Type 0 where
-  first : Represents c none_flown first_world → IsWithin c 0 → IsFirst c
+  first : IsValid first_world → Represents c none_flown first_world → IsWithin c 0 → IsFirst c
 
--- a collector that stands for some world, after so many lines
-pub data IsReady (c : CollectorState) (n : ℕ) : Type 0 where
-  ready : IsSound c none_flown → IsWithin c n → n < 4294967295 → IsReady c n
+-- a collector that stands for some world, with the arenas of these jobs in flight, after so many lines
+pub data IsReady (c : CollectorState) (jobs : List Job) (n : ℕ) : Type 0 where
+  ready : IsSound c (flown_by jobs) → AreJobsOf c.heap.shape jobs → IsWithin c n → n < 4294967295 → IsReady c jobs n
+
+-- a collector that stands for some world, with the arenas of these jobs in flight
+pub data IsLeft (c : CollectorState) (jobs : List Job) : Type 0 where
+  left : IsSound c (flown_by jobs) → AreJobsOf c.heap.shape jobs → IsLeft c jobs
 
 -- a line stands for a command, which was answered whole in each world that the collector stood for
-pub data AnswersLine (line : List ℕ) (old : CollectorState) (n : ℕ) (new : CollectorState) (p q : Option (List ℕ)) : Type 0 where
-  answers : (c : Cmd) → StandsFor line c → ((w : World) → IsValid w → Represents old none_flown w → WritesAnswer w c new p q) → IsWithin new (n + 1) → AnswersLine line old n new p q
+pub data AnswersLine (line : List ℕ) (old : CollectorState) (jobs : List Job) (n : ℕ) (new : CollectorState) (left : List Job) (p q : Option (List ℕ)) : Type 0 where
+  answers : (c : Cmd) → StandsFor line c → ((w : World) → IsValid w → Represents old (flown_by jobs) w → WritesAnswer w c new left p q) → AreJobsOf new.heap.shape left → IsWithin new (n + 1) → AnswersLine line old jobs n new left p q

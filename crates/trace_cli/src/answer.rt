@@ -1,5 +1,5 @@
 // What a line is answered.
-ghost use Rattle.std.specs.Prelude.{◌≡◌, ◌≢◌, ◌≤◌, ◌<◌, ◌+◌, [], None, length, OnOk, OnErr, IsTrue, false};
+ghost use Rattle.std.specs.Prelude.{◌≡◌, ◌≢◌, ◌≤◌, ◌<◌, ◌+◌, [], None, length, OnOk, OnErr, false};
 ghost use Rattle.std.specs.Io.KnownBytes.{Appends};
 ghost use Rattle.gz_io.specs.Causes.{AppendsFront, Rose};
 ghost use Rattle.gz_names.specs.declared.commands.Cmd.{Cmd as TheCmd};
@@ -10,15 +10,15 @@ ghost use Rattle.colour_defs.specs.Laws.{IsValid};
 ghost use Rattle.colour_defs.specs.Step.{HasFewFields};
 ghost use Rattle.heap_core.specs.Effects.{takes_memory};
 ghost use Rattle.slice_driver.specs.Represents.{Represents};
-ghost use Rattle.slice_driver.specs.Units.{IsSound, none_flown};
-ghost use Rattle.trace_cli.specs.Served.{FitsLanguage, IsBad, StandsFor, is_served};
+ghost use Rattle.slice_driver.specs.Units.{AreJobsOf, IsSound, flown_by};
+ghost use Rattle.trace_cli.specs.Served.{FitsLanguage, IsBad, StandsFor};
 ghost use Rattle.trace_cli.specs.Headline.{WritesAnswer, WritesFront, WritesStart};
 
 use crate::collect::collect;
-use crate::served::is_served;
-use cell_bits::NoFlight;
+use crate::handed::Handed;
+use crate::slices::{finish, gc, slice};
 use gz_io::Sink;
-use gz_names::{Cmd, CmdFault, GraphCmd, Reply};
+use gz_names::{Cmd, CmdFault, GraphCmd, Refusal, Reply};
 use heap_core::Steps;
 use slice_driver::Collector;
 use std::alloc::Global;
@@ -54,84 +54,95 @@ pub fn write_last<K: Sink>(sink: &mut K, reply: &Reply) -> Result<(), AnswerFaul
 // Does a command on the graph, and writes the reply.
 fn answer_command<K: Sink, L: Ledger>(
     collector: &mut Collector,
+    handed: &mut Handed,
     command: &GraphCmd,
     sink: &mut K,
     steps: &mut Steps<L>,
 ) -> Result<(), AnswerFault>
-    requires sound { IsSound collector.old none_flown }
-    requires idle { collector.old.run ≡ None }
+    requires sound { IsSound collector.old (flown_by handed.old) }
+    requires jobs { AreJobsOf collector.old.heap.shape handed.old }
     requires made { collector.old.heap.made < 4294967295 }
     requires entries { length collector.old.heap.shape.weak.entries < 4294967295 }
     requires fields { HasFewFields command.now }
-    ensures ok { OnOk result ((w : World) → IsValid w → Represents collector.old none_flown w
-        → WritesAnswer w (ACmd.Graph command.now) collector.new (K.written sink.old) (K.written sink.new)) }
-    ensures idle { OnOk result (collector.new.run ≡ None) }
+    ensures ok { OnOk result ((w : World) → IsValid w → Represents collector.old (flown_by handed.old) w
+        → WritesAnswer w (ACmd.Graph command.now) collector.new handed.new (K.written sink.old) (K.written sink.new)) }
+    ensures sound { IsSound collector.new (flown_by handed.new) }
+    ensures jobs { AreJobsOf collector.new.heap.shape handed.new }
     ensures made { collector.new.heap.made ≤ collector.old.heap.made + 1 }
     ensures entries { length collector.new.heap.shape.weak.entries
         ≤ length collector.old.heap.shape.weak.entries + 1 }
     ensures sure { takes_memory command.now ≡ false → result ≢ Err AnswerFault.Memory }
-    ensures memory { result ≡ Err AnswerFault.Memory → Appends (K.written sink.old) (K.written sink.new) [] }
-    ensures write { result ≡ Err AnswerFault.Write → (w : World) → IsValid w → Represents collector.old none_flown w
+    ensures memory { result ≡ Err AnswerFault.Memory → (w : World) → IsValid w → Represents collector.old (flown_by handed.old) w
+        → WritesStart w (ACmd.Graph command.now) (K.written sink.old) (K.written sink.new) }
+    ensures write { result ≡ Err AnswerFault.Write → (w : World) → IsValid w → Represents collector.old (flown_by handed.old) w
         → WritesFront w (ACmd.Graph command.now) (K.written sink.old) (K.written sink.new) }
     ensures good { result ≢ Err AnswerFault.Bad }
     ensures later { K.faults sink.old ≤ K.faults sink.new }
     ensures same { OnOk result (K.faults sink.new ≡ K.faults sink.old) }
     ensures cause { result ≡ Err AnswerFault.Write → Rose (K.faults sink.old) (K.faults sink.new) }
 {
-    match collector.command(&mut NoFlight, *command, steps) {
+    match collector.command(handed, *command, steps) {
         Ok(reply) => write_last(sink, &reply),
         Err(CmdFault::Refused(why)) => write_last(sink, &Reply::Refused(why)),
         Err(CmdFault::NoMemory) => Err(AnswerFault::Memory),
     }
 }
 
-// Writes the gray names. No zone is marking, since no collection runs.
+// Writes the gray names, where no zone is marking.
 fn answer_colours<K: Sink>(
     alloc: Global,
     collector: &Collector,
+    handed: &mut Handed,
     sink: &mut K,
 ) -> Result<(), AnswerFault>
-    requires sound { IsSound collector.now none_flown }
-    requires idle { collector.now.run ≡ None }
-    ensures ok { OnOk result ((w : World) → IsValid w → Represents collector.now none_flown w
-        → WritesAnswer w ACmd.Colours collector.now (K.written sink.old) (K.written sink.new)) }
-    ensures memory { result ≡ Err AnswerFault.Memory → Appends (K.written sink.old) (K.written sink.new) [] }
-    ensures write { result ≡ Err AnswerFault.Write → (w : World) → IsValid w → Represents collector.now none_flown w
+    requires sound { IsSound collector.now (flown_by handed.old) }
+    requires jobs { AreJobsOf collector.now.heap.shape handed.old }
+    ensures ok { OnOk result ((w : World) → IsValid w → Represents collector.now (flown_by handed.old) w
+        → WritesAnswer w ACmd.Colours collector.now handed.new (K.written sink.old) (K.written sink.new)) }
+    ensures sound { IsSound collector.now (flown_by handed.new) }
+    ensures jobs { AreJobsOf collector.now.heap.shape handed.new }
+    ensures memory { result ≡ Err AnswerFault.Memory → (w : World) → IsValid w → Represents collector.now (flown_by handed.old) w
+        → WritesStart w ACmd.Colours (K.written sink.old) (K.written sink.new) }
+    ensures write { result ≡ Err AnswerFault.Write → (w : World) → IsValid w → Represents collector.now (flown_by handed.old) w
         → WritesFront w ACmd.Colours (K.written sink.old) (K.written sink.new) }
     ensures good { result ≢ Err AnswerFault.Bad }
     ensures later { K.faults sink.old ≤ K.faults sink.new }
     ensures same { OnOk result (K.faults sink.new ≡ K.faults sink.old) }
     ensures cause { result ≡ Err AnswerFault.Write → Rose (K.faults sink.old) (K.faults sink.new) }
 {
-    let Ok(names) = collector.gray_names(alloc, &mut NoFlight) else {
+    if !collector.settled() {
+        return write_last(sink, &Reply::Refused(Refusal::Marking));
+    }
+    let Ok(names) = collector.gray_names(alloc, handed) else {
         return Err(AnswerFault::Memory);
     };
     write_last(sink, &Reply::Gray(names))
 }
 
-// Does a command that is served, and writes the answer.
-fn answer_served<K: Sink, L: Ledger>(
+// Does a command, and writes the answer.
+fn answer_parsed<K: Sink, L: Ledger>(
     alloc: Global,
     collector: &mut Collector,
+    handed: &mut Handed,
     cmd: &Cmd,
     sink: &mut K,
     steps: &mut Steps<L>,
 ) -> Result<(), AnswerFault>
-    requires sound { IsSound collector.old none_flown }
-    requires idle { collector.old.run ≡ None }
+    requires sound { IsSound collector.old (flown_by handed.old) }
+    requires jobs { AreJobsOf collector.old.heap.shape handed.old }
     requires made { collector.old.heap.made < 4294967295 }
     requires entries { length collector.old.heap.shape.weak.entries < 4294967295 }
-    requires served { IsTrue (is_served cmd.now) }
     requires fits { FitsLanguage cmd.now }
-    ensures ok { OnOk result ((w : World) → IsValid w → Represents collector.old none_flown w
-        → WritesAnswer w cmd.now collector.new (K.written sink.old) (K.written sink.new)) }
-    ensures idle { OnOk result (collector.new.run ≡ None) }
+    ensures ok { OnOk result ((w : World) → IsValid w → Represents collector.old (flown_by handed.old) w
+        → WritesAnswer w cmd.now collector.new handed.new (K.written sink.old) (K.written sink.new)) }
+    ensures sound { IsSound collector.new (flown_by handed.new) }
+    ensures jobs { AreJobsOf collector.new.heap.shape handed.new }
     ensures made { collector.new.heap.made ≤ collector.old.heap.made + 1 }
     ensures entries { length collector.new.heap.shape.weak.entries
         ≤ length collector.old.heap.shape.weak.entries + 1 }
-    ensures memory { result ≡ Err AnswerFault.Memory → (w : World) → IsValid w → Represents collector.old none_flown w
+    ensures memory { result ≡ Err AnswerFault.Memory → (w : World) → IsValid w → Represents collector.old (flown_by handed.old) w
         → WritesStart w cmd.now (K.written sink.old) (K.written sink.new) }
-    ensures write { result ≡ Err AnswerFault.Write → (w : World) → IsValid w → Represents collector.old none_flown w
+    ensures write { result ≡ Err AnswerFault.Write → (w : World) → IsValid w → Represents collector.old (flown_by handed.old) w
         → WritesFront w cmd.now (K.written sink.old) (K.written sink.new) }
     ensures good { result ≢ Err AnswerFault.Bad }
     ensures later { K.faults sink.old ≤ K.faults sink.new }
@@ -139,10 +150,12 @@ fn answer_served<K: Sink, L: Ledger>(
     ensures cause { result ≡ Err AnswerFault.Write → Rose (K.faults sink.old) (K.faults sink.new) }
 {
     match cmd {
-        Cmd::Graph(command) => answer_command(collector, command, sink, steps),
-        Cmd::Collect(zones) => collect(alloc, collector, *zones, sink, steps),
-        Cmd::Colours => answer_colours(alloc, collector, sink),
-        Cmd::Gc(_) | Cmd::Slice(_) | Cmd::Finish => unreachable!(),
+        Cmd::Graph(command) => answer_command(collector, handed, command, sink, steps),
+        Cmd::Collect(zones) => collect(alloc, collector, handed, *zones, sink, steps),
+        Cmd::Colours => answer_colours(alloc, collector, handed, sink),
+        Cmd::Gc(zones) => gc(alloc, collector, handed, *zones, sink, steps),
+        Cmd::Slice(budget) => slice(alloc, collector, handed, *budget, sink, steps),
+        Cmd::Finish => finish(alloc, collector, handed, sink, steps),
     }
 }
 
@@ -150,24 +163,26 @@ fn answer_served<K: Sink, L: Ledger>(
 pub fn answer_line<K: Sink, L: Ledger>(
     alloc: Global,
     collector: &mut Collector,
+    handed: &mut Handed,
     line: &[u8],
     sink: &mut K,
     steps: &mut Steps<L>,
 ) -> Result<(), AnswerFault>
-    requires sound { IsSound collector.old none_flown }
-    requires idle { collector.old.run ≡ None }
+    requires sound { IsSound collector.old (flown_by handed.old) }
+    requires jobs { AreJobsOf collector.old.heap.shape handed.old }
     requires made { collector.old.heap.made < 4294967295 }
     requires entries { length collector.old.heap.shape.weak.entries < 4294967295 }
-    ensures ok { OnOk result ((c : TheCmd) × StandsFor line.now c × ((w : World) → IsValid w → Represents collector.old none_flown w
-        → WritesAnswer w c collector.new (K.written sink.old) (K.written sink.new))) }
-    ensures idle { OnOk result (collector.new.run ≡ None) }
+    ensures ok { OnOk result ((c : TheCmd) × StandsFor line.now c × ((w : World) → IsValid w → Represents collector.old (flown_by handed.old) w
+        → WritesAnswer w c collector.new handed.new (K.written sink.old) (K.written sink.new))) }
+    ensures sound { IsSound collector.new (flown_by handed.new) }
+    ensures jobs { AreJobsOf collector.new.heap.shape handed.new }
     ensures made { collector.new.heap.made ≤ collector.old.heap.made + 1 }
     ensures entries { length collector.new.heap.shape.weak.entries
         ≤ length collector.old.heap.shape.weak.entries + 1 }
     ensures bad { result ≡ Err AnswerFault.Bad → IsBad line.now × Appends (K.written sink.old) (K.written sink.new) [] }
-    ensures memory { result ≡ Err AnswerFault.Memory → (c : TheCmd) × StandsFor line.now c × ((w : World) → IsValid w → Represents collector.old none_flown w
+    ensures memory { result ≡ Err AnswerFault.Memory → (c : TheCmd) × StandsFor line.now c × ((w : World) → IsValid w → Represents collector.old (flown_by handed.old) w
         → WritesStart w c (K.written sink.old) (K.written sink.new)) }
-    ensures write { result ≡ Err AnswerFault.Write → (c : TheCmd) × StandsFor line.now c × ((w : World) → IsValid w → Represents collector.old none_flown w
+    ensures write { result ≡ Err AnswerFault.Write → (c : TheCmd) × StandsFor line.now c × ((w : World) → IsValid w → Represents collector.old (flown_by handed.old) w
         → WritesFront w c (K.written sink.old) (K.written sink.new)) }
     ensures later { K.faults sink.old ≤ K.faults sink.new }
     ensures same { OnOk result (K.faults sink.new ≡ K.faults sink.old) }
@@ -176,8 +191,5 @@ pub fn answer_line<K: Sink, L: Ledger>(
     let Ok(cmd) = parse(line) else {
         return Err(AnswerFault::Bad);
     };
-    if !is_served(&cmd) {
-        return Err(AnswerFault::Bad);
-    }
-    answer_served(alloc, collector, &cmd, sink, steps)
+    answer_parsed(alloc, collector, handed, &cmd, sink, steps)
 }

@@ -3,19 +3,22 @@
 // The program `gczone` replays a trace: it reads a line, answers it whole, and goes on.
 //
 //     replay     reads the lines, and ends with the exit that the lines and the counts of faults say
-//     answer     what one line is answered: parsed, served or refused, its reply written
-//     collect    a collection: begun, then unit after unit, each report written as it comes
+//     answer     what one line is answered: parsed, done, its reply written
+//     collect    a collection in one command: begun, then unit after unit, each report written as it comes
+//     slices     a collection in slices: `gc` begins it, `slice` does some of its units, `finish` the rest
 //     handed     the arenas that are handed to sweeping, while main sweeps by itself
 //
 // The collector of `slice_driver` stands for a world of the definitions, with the bits that are in
 // flight (`Represents` in its specs/). Each command takes a collector that stands for a world to one
 // that stands for the world after it, with the reply that the definitions give; so what a replay has
 // written is, at any moment, lawful output for the lines that it has read, and at most a part of the
-// next answer. Between two lines no collection runs, and nothing is in flight.
+// next answer. Between two lines a collection may run, and arenas may be out: the reading loop keeps
+// their jobs beside the collector.
 //
-//     collect 0 1    begin   unit  unit  ..  unit     the end of a group hands arenas to sweeping
-//                                |            |
-//     written              groups ..   ended ..    swept ..   done   collected
+//     gc 0 1         begin                            gc ok
+//     slice 2        unit  unit                       groups 0 | 1   slice 2
+//     set r0 0 -     command, with its barriers       ok
+//     finish         unit  unit  unit  ..  unit       ended ..   swept ..   done   slice K
 //
 // A unit that finds an arena due does nothing: main then sweeps the lowest arena that is out (its
 // white slots are those of its job, a word operation), and the collector takes it in. `Handed` has
@@ -31,7 +34,7 @@ mod collect;
 mod exit;
 mod handed;
 mod replay;
-mod served;
+mod slices;
 #[cfg(test)]
 mod tests;
 

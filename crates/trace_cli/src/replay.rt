@@ -6,14 +6,17 @@ ghost use Rattle.gz_names.specs.declared.commands.Cmd.{Cmd as TheCmd};
 ghost use Rattle.colour_defs.specs.Laws.{IsValid};
 ghost use Rattle.colour_defs.specs.World.{World};
 ghost use Rattle.slice_driver.specs.Represents.{Represents};
-ghost use Rattle.slice_driver.specs.Units.{none_flown};
+ghost use Rattle.slice_driver.specs.Units.{flown_by};
 ghost use Rattle.trace_cli.specs.CommandLine.{ArePlain};
 ghost use Rattle.trace_cli.specs.Headline.{Replays, Completes, WritesFront, WritesStart};
 ghost use Rattle.trace_cli.specs.Served.{IsBad, StandsFor};
-ghost use Rattle.trace_cli.specs.Standing.{AnswersLine, IsFirst, IsReady};
+ghost use Rattle.trace_cli.specs.Standing.{AnswersLine, IsFirst, IsLeft, IsReady};
 
 use crate::answer::{AnswerFault, answer_line};
+use crate::collect::take_rest;
 use crate::exit::Exit;
+use crate::handed::Handed;
+use colour_defs::{answer_law, valid_law};
 use gz_io::{Gate, LineReader, Next, Sink, Source};
 use gz_names::NoMemory;
 use heap_core::Steps;
@@ -66,6 +69,7 @@ fn refusal(answered: u64) -> Exit
 fn first_collector(alloc: Global) -> Result<Collector, NoMemory>
     ensures { IfOk result IsFirst }
 {
+    valid_law();
     Collector::new(alloc)
 }
 
@@ -73,42 +77,48 @@ fn first_collector(alloc: Global) -> Result<Collector, NoMemory>
 fn answer_next<K: Sink, L: Ledger>(
     alloc: Global,
     collector: &mut Collector,
+    handed: &mut Handed,
     _answered: u64,
     line: &[u8],
     sink: &mut K,
     steps: &mut Steps<L>,
 ) -> Result<(), AnswerFault>
-    requires { IsReady collector.old _answered }
-    ensures ok { OnOk result (AnswersLine line.now collector.old _answered collector.new
-        (K.written sink.old) (K.written sink.new)) }
+    requires { IsReady collector.old handed.old _answered }
+    ensures ok { OnOk result (AnswersLine line.now collector.old handed.old _answered
+        collector.new handed.new (K.written sink.old) (K.written sink.new)) }
+    ensures left { IsLeft collector.new handed.new }
     ensures bad { result ≡ Err AnswerFault.Bad → IsBad line.now × Appends (K.written sink.old) (K.written sink.new) [] }
-    ensures memory { result ≡ Err AnswerFault.Memory → (c : TheCmd) × StandsFor line.now c × ((w : World) → IsValid w → Represents collector.old none_flown w
+    ensures memory { result ≡ Err AnswerFault.Memory → (c : TheCmd) × StandsFor line.now c × ((w : World) → IsValid w → Represents collector.old (flown_by handed.old) w
         → WritesStart w c (K.written sink.old) (K.written sink.new)) }
-    ensures write { result ≡ Err AnswerFault.Write → (c : TheCmd) × StandsFor line.now c × ((w : World) → IsValid w → Represents collector.old none_flown w
+    ensures write { result ≡ Err AnswerFault.Write → (c : TheCmd) × StandsFor line.now c × ((w : World) → IsValid w → Represents collector.old (flown_by handed.old) w
         → WritesFront w c (K.written sink.old) (K.written sink.new)) }
     ensures later { K.faults sink.old ≤ K.faults sink.new }
     ensures same { OnOk result (K.faults sink.new ≡ K.faults sink.old) }
     ensures cause { result ≡ Err AnswerFault.Write → Rose (K.faults sink.old) (K.faults sink.new) }
 {
-    answer_line(alloc, collector, line, sink, steps)
+    answer_line(alloc, collector, handed, line, sink, steps)
 }
 
 // Answers each line of a source, in order, on a new collector.
 fn answer_all<L: Ledger, S: Source, K: Sink>(
     alloc: Global,
     collector: &mut Collector,
+    handed: &mut Handed,
     source: &mut S,
     sink: &mut K,
     steps: &mut Steps<L>,
 ) -> Exit
     requires first { IsFirst collector.old }
+    requires none { handed.old ≡ [] }
     ensures lawful { Replays (S.left source.old) (S.left source.new) (K.written sink.old) (K.written sink.new) result }
     ensures quiet { result ≡ Exit.Done → (S.faults source.new ≡ S.faults source.old) × (K.faults sink.new ≡ K.faults sink.old) }
     ensures handed_on { result ≡ Exit.Done → K.behind sink.new ≡ 0 }
     ensures read { result ≡ Exit.ReadFault → Rose (S.faults source.old) (S.faults source.new) }
     ensures write { result ≡ Exit.WriteFault → Rose (K.faults sink.old) (K.faults sink.new) }
     ensures runs { result ≢ Exit.Usage }
+    ensures left { IsLeft collector.new handed.new }
 {
+    answer_law();
     let mut reader = LineReader::new();
     for answered in 0..4294967296u64 {
         if flush_before(&reader, sink).is_err() {
@@ -124,7 +134,15 @@ fn answer_all<L: Ledger, S: Source, K: Sink>(
         if answered == 4294967295 {
             return end_so(sink, Exit::TooManyLines);
         }
-        match answer_next(alloc, collector, answered, reader.line(), sink, steps) {
+        match answer_next(
+            alloc,
+            collector,
+            handed,
+            answered,
+            reader.line(),
+            sink,
+            steps,
+        ) {
             Ok(()) => {}
             Err(AnswerFault::Bad) => return end_so(sink, Exit::BadLine(answered + 1)),
             Err(AnswerFault::Memory) => return end_so(sink, Exit::NoMemory),
@@ -135,6 +153,7 @@ fn answer_all<L: Ledger, S: Source, K: Sink>(
 }
 
 // Answers each line of a source, in order. The steps of the answers are counted in a new ledger.
+// Whatever the exit, the arenas that are still handed to sweeping are taken in.
 fn answer_lines<L: Ledger, S: Source, K: Sink>(
     alloc: Global,
     source: &mut S,
@@ -155,7 +174,10 @@ fn answer_lines<L: Ledger, S: Source, K: Sink>(
         return end_so(sink, Exit::NoMemory);
     };
     let mut steps = Steps::<L>::new(blank);
-    answer_all(alloc, &mut collector, source, sink, &mut steps)
+    let mut handed = Handed::new(alloc);
+    let exit = answer_all(alloc, &mut collector, &mut handed, source, sink, &mut steps);
+    take_rest(&mut collector, &mut handed);
+    exit
 }
 
 /// Replays a trace. The words are the command line's, the program's name first.

@@ -1,4 +1,4 @@
-use Rattle.trace_cli.proofs.Due.{has_due, due_does, due_leaves, due_lowers}
+use Rattle.trace_cli.proofs.Due.{has_due, due_does, due_keeps, due_leaves, due_lowers}
 use Rattle.trace_cli.proofs.collect.take_due.Goals as goal
 
 pub take_one-requires-clause-freed : goal.take_one-requires-clause-freed
@@ -16,3 +16,8 @@ returns-clause-left c =
 
 pub returns-clause-jobs : goal.returns-clause-jobs
 returns-clause-jobs c = due_leaves c.args.collector.now c.take_one.new.self c.args.handed.now c.take.new.self c.in-Some.taken c.requires.jobs c.in-Some.ensures.some c.take_one.ensures.words
+
+pub returns-clause-sound : goal.returns-clause-sound
+returns-clause-sound c =
+    let due = has_due c.args.collector.now c.args.handed.now c.take.new.self c.args.arena c.in-Some.taken c.requires.sound c.requires.lowest c.requires.jobs c.in-Some.ensures.some in
+    due_keeps c.args.collector.now c.take_one.new.self c.args.handed.now c.take.new.self c.args.arena c.in-Some.taken c.requires.sound due c.take_one.ensures.sound

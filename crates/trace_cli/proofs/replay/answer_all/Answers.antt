@@ -7,9 +7,12 @@ use Rattle.trace_cli.specs.Served.{StandsFor}
 use Rattle.trace_cli.specs.Headline.{Replays}
 use Rattle.trace_cli.specs.declared.exit.Exit.{Exit}
 use Rattle.trace_cli.specs.declared.exit.Exit.TheVariants as exit
-use Rattle.colour_defs.proofs.ValidRuns.{answer_valid, first_valid}
+use Rattle.cell_bits.specs.declared.jobs.Job.{Job}
+use Rattle.slice_driver.specs.Represents.{Represents}
+use Rattle.slice_driver.specs.Units.{AreJobsOf, flown_by}
 use Rattle.trace_cli.specs.Standing.{ready}
-use Rattle.trace_cli.proofs.Stands.{opened, opened_answer, opened_first, standing, stands_first, stands_kept, stands_more, ends_write, write_after, done_after, read_after, stop_after, start_kept, start_front, many_after, too_long_after, not_ascii_after, bad_after, part_after, either, either_refusal}
+use Rattle.trace_cli.proofs.Jobs.{jobs_none}
+use Rattle.trace_cli.proofs.Stands.{left_standing, opened, opened_answer, opened_first, standing, stands_first, stands_kept, stands_more, ends_write, write_after, done_after, read_after, stop_after, start_kept, start_front, many_after, too_long_after, not_ascii_after, bad_after, part_after, either, either_refusal}
 use Rattle.trace_cli.proofs.replay.answer_all.Goals as goal
 
 -- what a call ensures at `Ok`, where it was no `Err`
@@ -25,7 +28,7 @@ end_quiet r a b (inr h) e = absurd (cc (h.0, e))
 pub loop-answered-init : goal.loop-answered-init
 loop-answered-init g c =
     let first = opened_first c.requires.first in (
-      standing (record { world = first_world; represents = first.represents; valid = first_valid; stands = stands_first _ _ _ c.new-reader.ensures.held; within = first.within }),
+      standing (record { world = first_world; represents = subst (λ (xs : List Job). Represents c.args.collector.now (flown_by xs) first_world) (sym c.requires.none) first.represents; fit = subst (λ (xs : List Job). AreJobsOf c.args.collector.now.heap.shape xs) (sym c.requires.none) (jobs_none c.args.collector.now.heap.shape); valid = first.valid; stands = stands_first _ _ _ c.new-reader.ensures.held; within = first.within }),
       omega arith,
       refl,
       refl,
@@ -82,7 +85,7 @@ loop-answered-preserved g c =
     let stands = stands_kept _ _ _ _ _ _ so.world so.stands c.flush_before.ensures.kept in
     let done = opened_answer c.in-Ok.ensures.ok in
     let writes = done.writes so.world so.valid so.represents in (
-      standing (record { world = writes.after; represents = writes.represents; valid = answer_valid so.world done.command writes.reports writes.answer writes.after so.valid writes.answers; stands = stands_more _ _ _ _ _ _ _ _ _ so.world done.command c.answer_next.new.collector stands c.in-Line.ensures.bytes (subst (λ (l : List ℕ). StandsFor l done.command) c.line.ensures done.stands) writes; within = done.within }),
+      standing (record { world = writes.after; represents = writes.represents; fit = done.fit; valid = c.answer_law.ensures so.world writes.after done.command writes.reports writes.answer so.valid writes.answers; stands = stands_more _ _ _ _ _ _ _ _ _ so.world done.command c.answer_next.new.collector c.answer_next.new.handed stands c.in-Line.ensures.bytes (subst (λ (l : List ℕ). StandsFor l done.command) c.line.ensures done.stands) writes; within = done.within }),
       omega (arith, c.loop-answered.invariant.1, c.if-answered-eq4294967295.false),
       c.in-Line.ensures.same (λ e. cc e) ∙ c.loop-answered.invariant.2,
       c.in-Ok.ensures.same ∙ from_ok c.flush_before.result (sym c.is_err.ensures.value ∙ c.if-is_err.false) c.flush_before.ensures.same ∙ c.loop-answered.invariant.3,
@@ -135,4 +138,31 @@ returns-in-End-clause-quiet g c = λ e.
 pub answer_next-requires : goal.answer_next-requires
 answer_next-requires g c =
     let so = opened c.loop-answered.invariant.0 in
-    ready (record { world = so.world; valid = so.valid; represents = so.represents }) so.within (omega (arith, c.loop-answered.invariant.1, c.if-answered-eq4294967295.false))
+    ready (record { world = so.world; valid = so.valid; represents = so.represents }) so.fit so.within (omega (arith, c.loop-answered.invariant.1, c.if-answered-eq4294967295.false))
+
+pub returns-then-is_err-clause-left : goal.returns-then-is_err-clause-left
+returns-then-is_err-clause-left g c = left_standing c.loop-answered.invariant.0
+
+pub returns-in-ReadFault-clause-left : goal.returns-in-ReadFault-clause-left
+returns-in-ReadFault-clause-left g c = left_standing c.loop-answered.invariant.0
+
+pub returns-in-End-clause-left : goal.returns-in-End-clause-left
+returns-in-End-clause-left g c = left_standing c.loop-answered.invariant.0
+
+pub returns-in-TooLong-clause-left : goal.returns-in-TooLong-clause-left
+returns-in-TooLong-clause-left g c = left_standing c.loop-answered.invariant.0
+
+pub returns-in-NotAscii-clause-left : goal.returns-in-NotAscii-clause-left
+returns-in-NotAscii-clause-left g c = left_standing c.loop-answered.invariant.0
+
+pub returns-then-answered-eq4294967295-clause-left : goal.returns-then-answered-eq4294967295-clause-left
+returns-then-answered-eq4294967295-clause-left g c = left_standing c.loop-answered.invariant.0
+
+pub returns-in-Err-Bad-clause-left : goal.returns-in-Err-Bad-clause-left
+returns-in-Err-Bad-clause-left g c = c.in-Err-Bad.ensures.left
+
+pub returns-in-Err-Memory-clause-left : goal.returns-in-Err-Memory-clause-left
+returns-in-Err-Memory-clause-left g c = c.in-Err-Memory.ensures.left
+
+pub returns-in-Err-Write-clause-left : goal.returns-in-Err-Write-clause-left
+returns-in-Err-Write-clause-left g c = c.in-Err-Write.ensures.left

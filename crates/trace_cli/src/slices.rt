@@ -1,0 +1,210 @@
+// Collections by slices: `gc` begins one, `slice` does some of its units, and `finish` the rest.
+ghost use Rattle.std.specs.Prelude.{◌≡◌, ◌≢◌, ◌≤◌, ◌<◌, [], ℕ, None, length, IfOk, OnOk};
+ghost use Rattle.std.specs.Io.KnownBytes.{Appends};
+ghost use Rattle.gz_io.specs.Causes.{Rose};
+ghost use Rattle.gz_names.specs.Zones.{HasZone};
+ghost use Rattle.gz_names.specs.declared.commands.Cmd.TheVariants as ACmd;
+ghost use Rattle.colour_defs.specs.World.{World};
+ghost use Rattle.colour_defs.specs.Laws.{IsValid};
+ghost use Rattle.slice_driver.specs.Represents.{Represents};
+ghost use Rattle.slice_driver.specs.Units.{AreJobsOf, IsSound, flown_by};
+ghost use Rattle.trace_cli.specs.Headline.{WritesAnswer, WritesFront, WritesStart};
+ghost use Rattle.trace_cli.specs.Writing.{BreaksInUnits, StopsInUnits, WritesUnits};
+
+use crate::answer::{AnswerFault, write_last};
+use crate::collect::answer_unit;
+use crate::handed::Handed;
+use gz_io::Sink;
+use gz_names::{Refusal, Reply, ZoneSet};
+use heap_core::Steps;
+use slice_driver::{BeginFault, Collector};
+use std::alloc::Global;
+use std::sync::ledger::Ledger;
+
+/// Begins a collection of these zones, and writes the reply.
+pub fn gc<K: Sink, L: Ledger>(
+    alloc: Global,
+    collector: &mut Collector,
+    _handed: &Handed,
+    zones: ZoneSet,
+    sink: &mut K,
+    steps: &mut Steps<L>,
+) -> Result<(), AnswerFault>
+    requires sound { IsSound collector.old (flown_by _handed.now) }
+    requires jobs { AreJobsOf collector.old.heap.shape _handed.now }
+    requires some { (z : ℕ) × HasZone zones.bits z }
+    ensures ok { OnOk result ((w : World) → IsValid w → Represents collector.old (flown_by _handed.now) w
+        → WritesAnswer w (ACmd.Gc zones) collector.new _handed.now (K.written sink.old) (K.written sink.new)) }
+    ensures sound { IsSound collector.new (flown_by _handed.now) }
+    ensures jobs { AreJobsOf collector.new.heap.shape _handed.now }
+    ensures made { collector.new.heap.made ≡ collector.old.heap.made }
+    ensures entries { length collector.new.heap.shape.weak.entries
+        ≤ length collector.old.heap.shape.weak.entries }
+    ensures memory { result ≡ Err AnswerFault.Memory → (w : World) → IsValid w → Represents collector.old (flown_by _handed.now) w
+        → WritesStart w (ACmd.Gc zones) (K.written sink.old) (K.written sink.new) }
+    ensures write { result ≡ Err AnswerFault.Write → (w : World) → IsValid w → Represents collector.old (flown_by _handed.now) w
+        → WritesFront w (ACmd.Gc zones) (K.written sink.old) (K.written sink.new) }
+    ensures good { result ≢ Err AnswerFault.Bad }
+    ensures later { K.faults sink.old ≤ K.faults sink.new }
+    ensures same { OnOk result (K.faults sink.new ≡ K.faults sink.old) }
+    ensures cause { result ≡ Err AnswerFault.Write → Rose (K.faults sink.old) (K.faults sink.new) }
+{
+    match collector.begin(alloc, zones, steps) {
+        Ok(()) => write_last(sink, &Reply::GcBegun),
+        Err(BeginFault::Running) => write_last(sink, &Reply::Refused(Refusal::Running)),
+        Err(BeginFault::NoZone) => write_last(sink, &Reply::Refused(Refusal::NoZone)),
+        Err(BeginFault::NoMemory) => Err(AnswerFault::Memory),
+    }
+}
+
+// Does units of the collection that runs until it is over, at most so many, and writes their reports:
+// how many it did.
+fn answer_units<K: Sink, L: Ledger>(
+    alloc: Global,
+    collector: &mut Collector,
+    handed: &mut Handed,
+    budget: u32,
+    sink: &mut K,
+    steps: &mut Steps<L>,
+) -> Result<u32, AnswerFault>
+    requires sound { IsSound collector.old (flown_by handed.old) }
+    requires jobs { AreJobsOf collector.old.heap.shape handed.old }
+    ensures ok { IfOk result (λ done. (w : World) → IsValid w → Represents collector.old (flown_by handed.old) w
+        → WritesUnits w collector.new (flown_by handed.new) done (K.written sink.old) (K.written sink.new)) }
+    ensures most { IfOk result (λ done. done ≤ budget) }
+    ensures over { IfOk result (λ done. done < budget → collector.new.run ≡ None) }
+    ensures sound { IsSound collector.new (flown_by handed.new) }
+    ensures jobs { AreJobsOf collector.new.heap.shape handed.new }
+    ensures made { collector.new.heap.made ≡ collector.old.heap.made }
+    ensures entries { length collector.new.heap.shape.weak.entries
+        ≤ length collector.old.heap.shape.weak.entries }
+    ensures memory { result ≡ Err AnswerFault.Memory → (w : World) → IsValid w → Represents collector.old (flown_by handed.old) w
+        → StopsInUnits w budget (K.written sink.old) (K.written sink.new) }
+    ensures write { result ≡ Err AnswerFault.Write → (w : World) → IsValid w → Represents collector.old (flown_by handed.old) w
+        → BreaksInUnits w budget (K.written sink.old) (K.written sink.new) }
+    ensures good { result ≢ Err AnswerFault.Bad }
+    ensures later { K.faults sink.old ≤ K.faults sink.new }
+    ensures same { OnOk result (K.faults sink.new ≡ K.faults sink.old) }
+    ensures cause { result ≡ Err AnswerFault.Write → Rose (K.faults sink.old) (K.faults sink.new) }
+{
+    for done in 0..budget {
+        if !collector.running() {
+            return Ok(done);
+        }
+        if let Err(fault) = answer_unit(alloc, collector, handed, sink, steps) {
+            return Err(fault);
+        }
+    }
+    Ok(budget)
+}
+
+/// Does at most so many units of the collection that runs, and writes their reports and the reply.
+pub fn slice<K: Sink, L: Ledger>(
+    alloc: Global,
+    collector: &mut Collector,
+    handed: &mut Handed,
+    budget: u32,
+    sink: &mut K,
+    steps: &mut Steps<L>,
+) -> Result<(), AnswerFault>
+    requires sound { IsSound collector.old (flown_by handed.old) }
+    requires jobs { AreJobsOf collector.old.heap.shape handed.old }
+    ensures ok { OnOk result ((w : World) → IsValid w → Represents collector.old (flown_by handed.old) w
+        → WritesAnswer w (ACmd.Slice budget) collector.new handed.new (K.written sink.old) (K.written sink.new)) }
+    ensures sound { IsSound collector.new (flown_by handed.new) }
+    ensures jobs { AreJobsOf collector.new.heap.shape handed.new }
+    ensures made { collector.new.heap.made ≡ collector.old.heap.made }
+    ensures entries { length collector.new.heap.shape.weak.entries
+        ≤ length collector.old.heap.shape.weak.entries }
+    ensures memory { result ≡ Err AnswerFault.Memory → (w : World) → IsValid w → Represents collector.old (flown_by handed.old) w
+        → WritesStart w (ACmd.Slice budget) (K.written sink.old) (K.written sink.new) }
+    ensures write { result ≡ Err AnswerFault.Write → (w : World) → IsValid w → Represents collector.old (flown_by handed.old) w
+        → WritesFront w (ACmd.Slice budget) (K.written sink.old) (K.written sink.new) }
+    ensures good { result ≢ Err AnswerFault.Bad }
+    ensures later { K.faults sink.old ≤ K.faults sink.new }
+    ensures same { OnOk result (K.faults sink.new ≡ K.faults sink.old) }
+    ensures cause { result ≡ Err AnswerFault.Write → Rose (K.faults sink.old) (K.faults sink.new) }
+{
+    if !collector.running() {
+        return write_last(sink, &Reply::Refused(Refusal::Idle));
+    }
+    match answer_units(alloc, collector, handed, budget, sink, steps) {
+        Ok(done) => write_last(sink, &Reply::Sliced(u64::from(done))),
+        Err(fault) => Err(fault),
+    }
+}
+
+// Does unit after unit until the collection that runs is over, and writes their reports: how many it
+// did. Each lowers what is left, which is below 2^64 (`units_law`), so their number is.
+fn answer_rest<K: Sink, L: Ledger>(
+    alloc: Global,
+    collector: &mut Collector,
+    handed: &mut Handed,
+    sink: &mut K,
+    steps: &mut Steps<L>,
+) -> Result<u64, AnswerFault>
+    requires sound { IsSound collector.old (flown_by handed.old) }
+    requires jobs { AreJobsOf collector.old.heap.shape handed.old }
+    ensures ok { IfOk result (λ done. (w : World) → IsValid w → Represents collector.old (flown_by handed.old) w
+        → WritesUnits w collector.new (flown_by handed.new) done (K.written sink.old) (K.written sink.new)) }
+    ensures over { OnOk result (collector.new.run ≡ None) }
+    ensures sound { IsSound collector.new (flown_by handed.new) }
+    ensures jobs { AreJobsOf collector.new.heap.shape handed.new }
+    ensures made { collector.new.heap.made ≡ collector.old.heap.made }
+    ensures entries { length collector.new.heap.shape.weak.entries
+        ≤ length collector.old.heap.shape.weak.entries }
+    ensures memory { result ≡ Err AnswerFault.Memory → (w : World) → IsValid w → Represents collector.old (flown_by handed.old) w
+        → (n : ℕ) × StopsInUnits w n (K.written sink.old) (K.written sink.new) }
+    ensures write { result ≡ Err AnswerFault.Write → (w : World) → IsValid w → Represents collector.old (flown_by handed.old) w
+        → (n : ℕ) × BreaksInUnits w n (K.written sink.old) (K.written sink.new) }
+    ensures good { result ≢ Err AnswerFault.Bad }
+    ensures later { K.faults sink.old ≤ K.faults sink.new }
+    ensures same { OnOk result (K.faults sink.new ≡ K.faults sink.old) }
+    ensures cause { result ≡ Err AnswerFault.Write → Rose (K.faults sink.old) (K.faults sink.new) }
+{
+    collector.units_law();
+    let mut done = 0u64;
+    while collector.running() {
+        if let Err(fault) = answer_unit(alloc, collector, handed, sink, steps) {
+            return Err(fault);
+        }
+        done += 1;
+    }
+    Ok(done)
+}
+
+/// Does unit after unit until the collection that runs is over, and writes their reports and the
+/// reply.
+pub fn finish<K: Sink, L: Ledger>(
+    alloc: Global,
+    collector: &mut Collector,
+    handed: &mut Handed,
+    sink: &mut K,
+    steps: &mut Steps<L>,
+) -> Result<(), AnswerFault>
+    requires sound { IsSound collector.old (flown_by handed.old) }
+    requires jobs { AreJobsOf collector.old.heap.shape handed.old }
+    ensures ok { OnOk result ((w : World) → IsValid w → Represents collector.old (flown_by handed.old) w
+        → WritesAnswer w ACmd.Finish collector.new handed.new (K.written sink.old) (K.written sink.new)) }
+    ensures sound { IsSound collector.new (flown_by handed.new) }
+    ensures jobs { AreJobsOf collector.new.heap.shape handed.new }
+    ensures made { collector.new.heap.made ≡ collector.old.heap.made }
+    ensures entries { length collector.new.heap.shape.weak.entries
+        ≤ length collector.old.heap.shape.weak.entries }
+    ensures memory { result ≡ Err AnswerFault.Memory → (w : World) → IsValid w → Represents collector.old (flown_by handed.old) w
+        → WritesStart w ACmd.Finish (K.written sink.old) (K.written sink.new) }
+    ensures write { result ≡ Err AnswerFault.Write → (w : World) → IsValid w → Represents collector.old (flown_by handed.old) w
+        → WritesFront w ACmd.Finish (K.written sink.old) (K.written sink.new) }
+    ensures good { result ≢ Err AnswerFault.Bad }
+    ensures later { K.faults sink.old ≤ K.faults sink.new }
+    ensures same { OnOk result (K.faults sink.new ≡ K.faults sink.old) }
+    ensures cause { result ≡ Err AnswerFault.Write → Rose (K.faults sink.old) (K.faults sink.new) }
+{
+    if !collector.running() {
+        return write_last(sink, &Reply::Refused(Refusal::Idle));
+    }
+    match answer_rest(alloc, collector, handed, sink, steps) {
+        Ok(done) => write_last(sink, &Reply::Sliced(done)),
+        Err(fault) => Err(fault),
+    }
+}
