@@ -371,6 +371,10 @@ mod tests {
             heap.handed_by(&GraphCmd::Find(reg(2), reg(1), reg(0))),
             map
         );
+        let wrap = GraphCmd::Wrap(reg(2), reg(0), CompNo(0));
+        assert_eq!(rt; heap.wrapped_by(&wrap), object);
+        let refused = GraphCmd::Wrap(reg(2), reg(0), CompNo(9));
+        assert_eq!(rt; heap.wrapped_by(&refused), None);
         Ok(())
     }
 }

@@ -12,8 +12,7 @@ use Rattle.wrappers.specs.WrapperMaps.{AreApart, list_of}
 use Rattle.heap_core.specs.Shape.{ArenaShape, Shape, is_marking_state, state_in}
 use Rattle.zone_edges.specs.Looks.{cursor_of, left_below}
 use Rattle.zone_edges.specs.Noted.{Noted}
-use Rattle.barriers.proofs.Flying.{flown_length}
-use Rattle.slice_driver.specs.Collector.{CollectorState, RunState, heap_with}
+use Rattle.slice_driver.specs.Collector.{CollectorState, RunState}
 use Rattle.slice_driver.specs.GrayRoots.{HasFewWrappers}
 use Rattle.slice_driver.specs.Left.{arenas_left, grouping_left, steps_left, steps_of, ungrouped_below, units_left}
 use Rattle.slice_driver.specs.Units.{IsSound}

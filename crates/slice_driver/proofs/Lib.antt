@@ -80,3 +80,5 @@ pub mod SoundAfter
 pub mod WorldRuns
 pub mod FewWrappers
 pub mod FewUnits
+pub mod SetBits
+pub mod PresentCells

@@ -19,3 +19,4 @@ pub mod Grays
 pub mod HandingOut
 pub mod Working
 pub mod Serves
+pub mod Present

@@ -3,7 +3,7 @@ ghost use Rattle.std.specs.Prelude.{◌<◌, ◌≤◌, ◌^◌, ℕ, Option, le
 ghost use Rattle.cell_bits.specs.declared.bits.Bits.{Bits};
 ghost use Rattle.slice_driver.specs.GrayRoots.{HasFewWrappers};
 ghost use Rattle.slice_driver.specs.Left.{units_left};
-ghost use Rattle.slice_driver.specs.Units.{IsSound, none_flown};
+ghost use Rattle.slice_driver.specs.Units.{IsSound};
 
 use crate::collector::Collector;
 
@@ -19,7 +19,7 @@ impl Collector {
 
     // No zone has more wrappers than there can be slots of cells. It does nothing.
     pub(crate) fn few_wrappers_law(&self)
-        requires { IsSound self.now none_flown }
+        requires { (flown : ℕ → Option Bits) × IsSound self.now flown }
         ensures { HasFewWrappers self.now.heap.shape }
     {
         self.sizes_law();

@@ -4,7 +4,6 @@ ghost use Rattle.cell_bits.specs.declared.bits.Bits.{Bits as ABits};
 ghost use Rattle.colour_defs.specs.Lawful.{IsRunning};
 ghost use Rattle.colour_defs.specs.World.{World, IsSettled, first_world};
 ghost use Rattle.heap_core.specs.Shape.{is_marking_state, state_in};
-ghost use Rattle.heap_core.specs.Sweeping.{held_in_all};
 ghost use Rattle.slice_driver.specs.Units.{none_flown};
 ghost use Rattle.slice_driver.specs.Represents.{Represents};
 
@@ -128,13 +127,6 @@ impl Collector {
         ensures { result ≡ length self.now.heap.shape.weak.entries }
     {
         self.heap.entries()
-    }
-
-    /// How many cells are present, where no arena is handed to sweeping.
-    pub fn present(&self) -> u64
-        ensures { result ≡ held_in_all self.now.heap.shape.arenas }
-    {
-        self.heap.count()
     }
 }
 

@@ -56,6 +56,7 @@ mod gray_roots;
 mod grouping_steps;
 mod laws;
 mod marking_steps;
+mod present;
 mod root_marking;
 #[cfg(test)]
 mod tests;

@@ -1,14 +1,14 @@
 use Rattle.std.proofs.Common.{◌<◌, Some, false, subst, rules}
 use Rattle.gz_names.specs.Zones.{HasZone}
 use Rattle.gz_names.proofs.Words.{HasZone-none}
-use Rattle.slice_driver.specs.Units.{BeginsIn}
+use Rattle.slice_driver.specs.Units.{BeginsIn, none_flown}
 use Rattle.slice_driver.specs.Collector.{CollectorState}
 use Rattle.slice_driver.specs.contracts.collector.Collector.{the_view}
 use Rattle.slice_driver.proofs.GroupEndSteps.{small_word}
 use Rattle.slice_driver.proofs.FewUnits.{none_buffered}
 use Rattle.slice_driver.proofs.IdleFlight.{idle_sound}
 use Rattle.slice_driver.proofs.SoundAfter.{begin_sound, none_words}
-use Rattle.slice_driver.proofs.BegunSteps.{at_rest, begun_worlds, held_begun, kept_begun, made_marked, marks_of, none_out, not_running, nothing_buffered, ready_begun, ready_marked, wrappers_marked, wrappers_of}
+use Rattle.slice_driver.proofs.BegunSteps.{at_rest, begun_worlds, held_begun, kept_begun, made_marked, marks_of, none_out, nothing_buffered, ready_begun, ready_marked, wrappers_marked, wrappers_of}
 use Rattle.slice_driver.proofs.collector.Collector.begin.Goals as goal
 
 pub buffer_gray_roots-requires-clause-held : goal.buffer_gray_roots-requires-clause-held
@@ -27,7 +27,7 @@ buffer_gray_roots-requires-clause-sized g c =
     (marks_of (the_view c.self.inside) rest.world rest.represents rest.idle).holds.colours.sized
 
 pub few_wrappers_law-requires : goal.few_wrappers_law-requires
-few_wrappers_law-requires g c = idle_sound c.args.self.now c.requires.sound.0 c.requires.sound.1 (not_running c.running.result c.args.self.now.run c.running.ensures.run c.if-running.false)
+few_wrappers_law-requires g c = c.requires.sound
 
 pub buffer_gray_roots-requires-clause-empty : goal.buffer_gray_roots-requires-clause-empty
 buffer_gray_roots-requires-clause-empty g c =

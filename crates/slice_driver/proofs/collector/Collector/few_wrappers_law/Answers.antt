@@ -1,6 +1,5 @@
-use Rattle.slice_driver.specs.Units.{none_flown}
 use Rattle.slice_driver.proofs.FewUnits.{few_in_zone}
 use Rattle.slice_driver.proofs.collector.Collector.few_wrappers_law.Goals as goal
 
 pub returns : goal.returns
-returns c = few_in_zone c.args.self.now none_flown c.requires c.sizes_law.ensures.arenas c.wrappers_law.ensures
+returns c = few_in_zone c.args.self.now c.requires.0 c.requires.1 c.sizes_law.ensures.arenas c.wrappers_law.ensures
