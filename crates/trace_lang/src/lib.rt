@@ -27,6 +27,7 @@
 #![tactic(auto)]
 
 mod arguments;
+mod laws;
 mod lines;
 mod numbers;
 mod piece;
@@ -37,5 +38,6 @@ mod words;
 mod write;
 mod zone_bits;
 
+pub use laws::{spelling_law, zones_law};
 pub use lines::{BadLine, parse};
 pub use write::{write_name, write_reply, write_report};
