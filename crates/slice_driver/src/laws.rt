@@ -35,10 +35,11 @@ ghost use Rattle.zone_edges.specs.Groups.{Edge};
 ghost use Rattle.zone_edges.specs.Looks.{cursor_of};
 ghost use Rattle.slice_driver.specs.Collector.{CollectorState};
 ghost use Rattle.slice_driver.specs.Units.{BeginsIn, DoesCommand};
+ghost use Rattle.slice_driver.specs.Represents.{Represents};
 ghost use Rattle.slice_driver.specs.Worlds.{LiesIn};
 ghost use Rattle.slice_driver.specs.Closures.{AreBlack, AreTied};
 ghost use Rattle.slice_driver.specs.Steps.{CommandSteps};
-ghost use Rattle.slice_driver.specs.Begins.{BeginsMarking, IsListed};
+ghost use Rattle.slice_driver.specs.Begins.{AreMade, BeginsMarking, IsListed};
 ghost use Rattle.slice_driver.specs.Commands.{ComesTo, DoesInWorld, KeepsBlack, SpreadsBlack, StayInPlace, Wakes, with_colours};
 
 /// What is reached from black cells and from one more is reached from their names.
@@ -181,4 +182,12 @@ pub fn command_law()
     ensures { (c d : CollectorState) (flown flying : ℕ → Option Bits) (cmd : GraphCmd)
         (result : Result Reply CmdFault)
         → CommandSteps c flown cmd result d flying → DoesCommand c flown cmd result d flying }
+{}
+
+/// Zones are made in the collector exactly where they are in a world that it stands for.
+pub fn zones_made_law()
+    ensures { (c : CollectorState) (flown : ℕ → Option Bits) (w : World) (zones : ZoneSet)
+        → Represents c flown w
+        → AreMade c.heap.shape zones
+        ↔ ((z : ℕ) → Contains (zones_in zones) z → z < w.graph.zones) }
 {}

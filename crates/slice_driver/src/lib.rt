@@ -65,3 +65,4 @@ mod zone_states;
 
 pub use begin::BeginFault;
 pub use collector::{Collector, Run, Unit};
+pub use laws::zones_made_law;
