@@ -29,5 +29,4 @@ pub mod MadeWhileMarking
 pub mod Inverted
 pub mod FreedCellMissed
 pub mod Progress
-pub mod Grown
 pub mod OneWayGray

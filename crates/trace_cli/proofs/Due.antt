@@ -6,7 +6,6 @@ use Rattle.cell_bits.specs.declared.bits.Bits.{Bits}
 use Rattle.cell_bits.specs.declared.jobs.Job.{Job}
 use Rattle.cell_bits.specs.declared.jobs.Taken.{Taken}
 use Rattle.colour_defs.specs.World.{World}
-use Rattle.colour_defs.proofs.Lists.{contains_head}
 use Rattle.heap_core.specs.Shape.{Shape, out_of}
 use Rattle.slice_driver.specs.Collector.{CollectorState}
 use Rattle.slice_driver.specs.Represents.{Represents}
@@ -14,6 +13,7 @@ use Rattle.slice_driver.specs.Left.{Lowers, units_left}
 use Rattle.slice_driver.specs.Working.{IsStill}
 use Rattle.slice_driver.specs.declared.collector.Unit.{Unit}
 use Rattle.slice_driver.specs.Units.{AreAscendingJobs, AreJobsOf, DoesUnit, DoneOrDue, HandsJobs, IsFreedWord, IsLowestOut, IsSound, KeepsFreedWords, UnitDone, flown_by, flying_after, reports_of, without_arena}
+use Rattle.trace_cli.proofs.Runs.{first_member}
 use Rattle.trace_cli.specs.Handed.{TakesFirst, left_after, origin_of, whites_of}
 use Rattle.trace_cli.proofs.Jobs.{first_lowest, jobs_kept, jobs_rest, without_first}
 use Rattle.trace_cli.proofs.Flights.{left_same, represents_same}
@@ -47,7 +47,7 @@ has_due d jobs rest a taken s low are takes =
     let fit : AreJobsOf d.heap.shape (takes.job ∷ rest) = subst (λ (xs : List Job). AreJobsOf d.heap.shape xs) takes.first are in
     let arena : takes.job.arena ≡ a = due_first d takes.job rest a s.world fit.ascending stands low in
     record {
-      freed = subst (λ (n : ℕ). IsFreedWord d.heap.shape a n) (sym takes.freed) (subst (λ (n : ℕ). IsFreedWord d.heap.shape n (whites_of takes.job)) arena (fit.freed takes.job (contains_head takes.job rest)));
+      freed = subst (λ (n : ℕ). IsFreedWord d.heap.shape a n) (sym takes.freed) (subst (λ (n : ℕ). IsFreedWord d.heap.shape n (whites_of takes.job)) arena (fit.freed takes.job (first_member takes.job rest)));
       flies = ap (λ (xs : List Job). flown_by xs a) takes.first ∙ ap (flown_by (takes.job ∷ rest)) (sym arena) ∙ first_flies takes.job rest ∙ ap (λ (b : Bits). Some b) (sym takes.bits);
       left = λ b. ap (λ (xs : List Job). without_arena (flown_by xs) a b) takes.first ∙ without_first takes.job rest a arena fit.ascending b;
     }

@@ -10,9 +10,9 @@ use Rattle.std.proofs.lemmas.Bool.{eqb-true, eq-eqb, lt-ltb}
 use Rattle.cell_bits.specs.Colours.{woken_bits}
 use Rattle.cell_bits.specs.declared.bits.Bits.{Bits}
 use Rattle.cell_bits.specs.declared.jobs.Job.{Job}
-use Rattle.colour_defs.proofs.Lists.{nothing_in_none, contains_head, contains_tail, contains_cases}
 use Rattle.heap_core.specs.Shape.{Shape}
 use Rattle.slice_driver.specs.Units.{AreAscendingJobs, AreJobsOf, IsFreedWord, KeepsFreedWords, flown_by, none_flown, without_arena}
+use Rattle.trace_cli.proofs.Runs.{first_member, later_member, member_cases, none_in_none}
 use Rattle.trace_cli.specs.Handed.{whites_of, freed_job, origin_of}
 
 max_assoc : (a b c : ℕ) → max (max a b) c ≡ max a (max b c)
@@ -64,13 +64,13 @@ whites_woken mask job gray = ap (λ (n : ℕ). bit_and job.alloc_word (bit_not w
 
 -- a job with the same origin
 pub origin_has : (xs ys : List Job) (x : Job) → origin_of xs ≡ origin_of ys → Contains xs x → (y : Job) × Contains ys y × (y.arena ≡ x.arena) × (whites_of y ≡ whites_of x)
-origin_has [] ys x e c = absurd (nothing_in_none x c)
+origin_has [] ys x e c = absurd (none_in_none x c)
 origin_has (j ∷ xs) [] x e c = absurd (cc e)
 origin_has (j ∷ xs) (k ∷ ys) x e c =
     let first : freed_job j ≡ freed_job k = cc e in
-    let rest : origin_of xs ≡ origin_of ys = cc e in elim (contains_cases j xs x c) [
-      | inl same ↦ (k, contains_head k ys, ap (λ (t : Job). t.arena) (sym first) ∙ ap (λ (t : Job). t.arena) same, ap (λ (t : Job). t.alloc_word) (sym first) ∙ ap whites_of same)
-      | inr t ↦ let r = origin_has xs ys x rest t in (r.0, contains_tail k ys r.0 r.1, r.2, r.3)
+    let rest : origin_of xs ≡ origin_of ys = cc e in elim (member_cases j xs x c) [
+      | inl same ↦ (k, first_member k ys, ap (λ (t : Job). t.arena) (sym first) ∙ ap (λ (t : Job). t.arena) same, ap (λ (t : Job). t.alloc_word) (sym first) ∙ ap whites_of same)
+      | inr t ↦ let r = origin_has xs ys x rest t in (r.0, later_member k ys r.0 r.1, r.2, r.3)
     ]
 
 pub ascending_same : (xs ys : List Job) → origin_of xs ≡ origin_of ys → AreAscendingJobs ys → AreAscendingJobs xs
@@ -93,7 +93,7 @@ jobs_kept s t old new keeps e h = record {
 }
 
 pub jobs_none : (s : Shape) → AreJobsOf s []
-jobs_none s = record { ascending = tt; freed = λ x c. absurd (nothing_in_none x c) }
+jobs_none s = record { ascending = tt; freed = λ x c. absurd (none_in_none x c) }
 
 -- jobs of which nothing is in flight are none
 pub none_jobs : (jobs : List Job) → flown_by jobs ≡ none_flown → jobs ≡ []
@@ -105,7 +105,7 @@ none_jobs (job ∷ jobs) e =
 
 -- without the first
 pub jobs_rest : (s : Shape) (job : Job) (jobs : List Job) → AreJobsOf s (job ∷ jobs) → AreJobsOf s jobs
-jobs_rest s job jobs h = record { ascending = h.ascending.1; freed = λ x c. h.freed x (contains_tail job jobs x c) }
+jobs_rest s job jobs h = record { ascending = h.ascending.1; freed = λ x c. h.freed x (later_member job jobs x c) }
 
 -- what is in flight is some job's
 pub flown_some : (jobs : List Job) (a : ℕ) → IsSome (flown_by jobs a) → (job : Job) × Contains jobs job × (job.arena ≡ a)
@@ -113,13 +113,13 @@ flown_some [] a some = absurd (cc some)
 flown_some (job ∷ jobs) a some = by (eqb job.arena a) refl some (flown_some jobs a)
   where
     by : (b : Bool) → eqb job.arena a ≡ b → IsSome (cond b (Some job.bits) (flown_by jobs a)) → (IsSome (flown_by jobs a) → (j : Job) × Contains jobs j × (j.arena ≡ a)) → (j : Job) × Contains (job ∷ jobs) j × (j.arena ≡ a)
-    by true e s rest = (job, contains_head job jobs, eqb-true job.arena a e)
-    by false e s rest = let r = rest s in (r.0, contains_tail job jobs r.0 r.1, r.2)
+    by true e s rest = (job, first_member job jobs, eqb-true job.arena a e)
+    by false e s rest = let r = rest s in (r.0, later_member job jobs r.0 r.1, r.2)
 
 -- the first of ascending jobs is that of the lowest arena in flight
 pub first_lowest : (job : Job) (jobs : List Job) (a : ℕ) → AreAscendingJobs (job ∷ jobs) → IsSome (flown_by (job ∷ jobs) a) → (job.arena < a → ⊥) → job.arena ≡ a
 first_lowest job jobs a up some least =
-    let r = flown_some (job ∷ jobs) a some in elim (contains_cases job jobs r.0 r.1) [
+    let r = flown_some (job ∷ jobs) a some in elim (member_cases job jobs r.0 r.1) [
       | inl same ↦ ap (λ (t : Job). t.arena) same ∙ r.2
       | inr t ↦ absurd (let less : job.arena < r.0.arena = up.0 r.0 t in least (subst (λ (n : ℕ). job.arena < n) r.2 less))
     ]

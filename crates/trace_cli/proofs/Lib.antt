@@ -10,3 +10,4 @@ pub mod Stands
 pub mod Complete
 pub mod Words
 pub mod Slicing
+pub mod Runs

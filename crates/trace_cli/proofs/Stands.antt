@@ -15,7 +15,7 @@ use Rattle.gz_names.specs.declared.replies.Report.{Report}
 use Rattle.cell_bits.specs.declared.jobs.Job.{Job}
 use Rattle.colour_defs.specs.World.{World, first_world}
 use Rattle.colour_defs.specs.Lawful.{Answers}
-use Rattle.colour_defs.proofs.Grown.{run_more}
+use Rattle.trace_cli.proofs.Runs.{run_more}
 use Rattle.colour_defs.specs.Laws.{IsValid}
 use Rattle.slice_driver.specs.Collector.{CollectorState}
 use Rattle.slice_driver.specs.Represents.{Represents}
@@ -27,7 +27,7 @@ use Rattle.trace_cli.specs.Served.{StandsFor, IsBad}
 use Rattle.trace_cli.specs.Headline.{report_lines, answer_lines, StandForAll, LeadsTo, WritesAnswer, WritesFront, WritesStart, Replays}
 use Rattle.trace_cli.specs.declared.exit.Exit.{Exit}
 use Rattle.trace_cli.specs.declared.exit.Exit.TheVariants as exit
-use Rattle.trace_cli.proofs.Lined.{line_given, line_feeds-append, line_feeds-plain, too_long_bad, not_ascii_bad}
+use Rattle.trace_cli.proofs.Lined.{AreFine, line_given, line_feeds-append, line_feeds-plain, too_long_bad, not_ascii_bad}
 
 -- the lines that were answered, of which bytes they are, and what was written
 pub record Reached (input rest : List ℕ) (old new : Option (List ℕ)) (n : ℕ) (w : World) : Type 0 where
@@ -231,38 +231,38 @@ ends_memory None l p q r held n w h k = tt
 ends_memory (Some i) None p q r held n w h k = absurd h
 ends_memory (Some i) (Some ys) p q r held n w h k = (h.output, wrote_more i (held ++ ys) p q r n w h k, (n, h.output, [], w, sym (append-nil h.output), first_n i (held ++ ys) p q n w h, inl refl))
 
-gives_line : (xs ys line : List ℕ) (res : Next) → Gives xs ys res line → res ≢ next.End → res ≢ next.ReadFault → (l : List ℕ) × (more : List (List ℕ)) × (lines_of xs ≡ l ∷ more)
-gives_line xs ys line (next.Line m) g e f = (line, lines_of ys, line_given xs ys line g.2 g.3)
-gives_line xs ys line next.End g e f = absurd (e refl)
-gives_line xs ys line next.TooLong g e f = let b = too_long_bad xs g.1 in (b.0, b.1, b.2)
-gives_line xs ys line next.NotAscii g e f = let b = not_ascii_bad xs g.1 in (b.0, b.1, b.2)
-gives_line xs ys line next.ReadFault g e f = absurd (f refl)
+gives_line : AreFine → (xs ys line : List ℕ) (res : Next) → Gives xs ys res line → res ≢ next.End → res ≢ next.ReadFault → (l : List ℕ) × (more : List (List ℕ)) × (lines_of xs ≡ l ∷ more)
+gives_line fine xs ys line (next.Line m) g e f = (line, lines_of ys, line_given xs ys line g.2 g.3)
+gives_line fine xs ys line next.End g e f = absurd (e refl)
+gives_line fine xs ys line next.TooLong g e f = let b = too_long_bad fine xs g.1 in (b.0, b.1, b.2)
+gives_line fine xs ys line next.NotAscii g e f = let b = not_ascii_bad fine xs g.1 in (b.0, b.1, b.2)
+gives_line fine xs ys line next.ReadFault g e f = absurd (f refl)
 
 many : (i xs : List ℕ) (p q : Option (List ℕ)) (n : ℕ) (w : World) (l : List ℕ) (more : List (List ℕ)) (h : Reached i xs p q n w) → n ≡ 4294967295 → lines_of xs ≡ l ∷ more → 4294967295 < length (lines_of i)
 many i xs p q n w l more h e m = let s : length (lines_of i) ≡ length (h.done ++ (l ∷ more)) = ap length (h.lines ∙ ap (λ (u : List (List ℕ)). h.done ++ u) m) in omega (arith, s, length-append h.done (l ∷ more), h.count, e)
 
-pub many_after : (a b l p q r : Option (List ℕ)) (held line : List ℕ) (res : Next) (n : ℕ) (w : World) → Stands a b p q n w → GivesKnown b (prepend_known held l) res line → res ≢ next.End → res ≢ next.ReadFault → n ≡ 4294967295 → Appends q r [] → Replays a l p r exit.TooManyLines
-many_after None b l p q r held line res n w h t x y e k = tt
-many_after (Some i) None l p q r held line res n w h t x y e k = absurd h
-many_after (Some i) (Some xs) None p q r held line res n w h t x y e k = absurd t
-many_after (Some i) (Some xs) (Some ys) p q r held line res n w h t x y e k =
-    let g = gives_line xs (held ++ ys) line res t x y in
+pub many_after : AreFine → (a b l p q r : Option (List ℕ)) (held line : List ℕ) (res : Next) (n : ℕ) (w : World) → Stands a b p q n w → GivesKnown b (prepend_known held l) res line → res ≢ next.End → res ≢ next.ReadFault → n ≡ 4294967295 → Appends q r [] → Replays a l p r exit.TooManyLines
+many_after fine None b l p q r held line res n w h t x y e k = tt
+many_after fine (Some i) None l p q r held line res n w h t x y e k = absurd h
+many_after fine (Some i) (Some xs) None p q r held line res n w h t x y e k = absurd t
+many_after fine (Some i) (Some xs) (Some ys) p q r held line res n w h t x y e k =
+    let g = gives_line fine xs (held ++ ys) line res t x y in
     (h.output, wrote_more i xs p q r n w h k, (many i xs p q n w g.0 g.1 h e g.2, (w, subst (λ (m : ℕ). LeadsTo (take m (lines_of i)) h.output w) e (first_n i xs p q n w h))))
 
-pub too_long_after : (a b l p q r : Option (List ℕ)) (held line : List ℕ) (n : ℕ) (w : World) → n < 4294967295 → Stands a b p q n w → GivesKnown b (prepend_known held l) next.TooLong line → Appends q r [] → Replays a l p r (exit.BadLine (n + 1))
-too_long_after None b l p q r held line n w few h t k = tt
-too_long_after (Some i) None l p q r held line n w few h t k = absurd h
-too_long_after (Some i) (Some xs) None p q r held line n w few h t k = absurd t
-too_long_after (Some i) (Some xs) (Some ys) p q r held line n w few h t k =
-    let g = too_long_bad xs t.1 in
+pub too_long_after : AreFine → (a b l p q r : Option (List ℕ)) (held line : List ℕ) (n : ℕ) (w : World) → n < 4294967295 → Stands a b p q n w → GivesKnown b (prepend_known held l) next.TooLong line → Appends q r [] → Replays a l p r (exit.BadLine (n + 1))
+too_long_after fine None b l p q r held line n w few h t k = tt
+too_long_after fine (Some i) None l p q r held line n w few h t k = absurd h
+too_long_after fine (Some i) (Some xs) None p q r held line n w few h t k = absurd t
+too_long_after fine (Some i) (Some xs) (Some ys) p q r held line n w few h t k =
+    let g = too_long_bad fine xs t.1 in
     (h.output, wrote_more i xs p q r n w h k, (n, g.0, refl, few, next_is i xs p q n w g.0 g.1 h g.2, g.3, (w, first_n i xs p q n w h)))
 
-pub not_ascii_after : (a b l p q r : Option (List ℕ)) (held line : List ℕ) (n : ℕ) (w : World) → n < 4294967295 → Stands a b p q n w → GivesKnown b (prepend_known held l) next.NotAscii line → Appends q r [] → Replays a l p r (exit.BadLine (n + 1))
-not_ascii_after None b l p q r held line n w few h t k = tt
-not_ascii_after (Some i) None l p q r held line n w few h t k = absurd h
-not_ascii_after (Some i) (Some xs) None p q r held line n w few h t k = absurd t
-not_ascii_after (Some i) (Some xs) (Some ys) p q r held line n w few h t k =
-    let g = not_ascii_bad xs t.1 in
+pub not_ascii_after : AreFine → (a b l p q r : Option (List ℕ)) (held line : List ℕ) (n : ℕ) (w : World) → n < 4294967295 → Stands a b p q n w → GivesKnown b (prepend_known held l) next.NotAscii line → Appends q r [] → Replays a l p r (exit.BadLine (n + 1))
+not_ascii_after fine None b l p q r held line n w few h t k = tt
+not_ascii_after fine (Some i) None l p q r held line n w few h t k = absurd h
+not_ascii_after fine (Some i) (Some xs) None p q r held line n w few h t k = absurd t
+not_ascii_after fine (Some i) (Some xs) (Some ys) p q r held line n w few h t k =
+    let g = not_ascii_bad fine xs t.1 in
     (h.output, wrote_more i xs p q r n w h k, (n, g.0, refl, few, next_is i xs p q n w g.0 g.1 h g.2, g.3, (w, first_n i xs p q n w h)))
 
 pub bad_after : (a b l p q r : Option (List ℕ)) (held line : List ℕ) (n m : ℕ) (w : World) → n < 4294967295 → Stands a b p q n w → GivesKnown b (prepend_known held l) (next.Line m) line → IsBad line → Appends q r [] → Replays a l p r (exit.BadLine (n + 1))

@@ -23,7 +23,7 @@ use heap_core::Steps;
 use slice_driver::Collector;
 use std::alloc::Global;
 use std::sync::ledger::Ledger;
-use trace_lang::{parse, write_reply};
+use trace_lang::{parse, write_reply, zones_law};
 
 /// Why a line was not answered whole.
 #[derive(Clone, Copy, Debug, PartialEq, Eq)]
@@ -188,6 +188,7 @@ pub fn answer_line<K: Sink, L: Ledger>(
     ensures same { OnOk result (K.faults sink.new ≡ K.faults sink.old) }
     ensures cause { result ≡ Err AnswerFault.Write → Rose (K.faults sink.old) (K.faults sink.new) }
 {
+    zones_law();
     let Ok(cmd) = parse(line) else {
         return Err(AnswerFault::Bad);
     };

@@ -20,7 +20,7 @@ use colour_defs::unit_law;
 use gz_io::{Sink, WriteFault};
 use gz_names::{NoMemory, Refusal, Reply, Report, ZoneSet};
 use heap_core::Steps;
-use slice_driver::{BeginFault, Collector, Unit};
+use slice_driver::{BeginFault, Collector, Unit, zones_made_law};
 use std::alloc::Global;
 use std::sync::ledger::Ledger;
 use trace_lang::write_report;
@@ -213,6 +213,7 @@ pub fn collect<K: Sink, L: Ledger>(
     ensures same { OnOk result (K.faults sink.new ≡ K.faults sink.old) }
     ensures cause { result ≡ Err AnswerFault.Write → Rose (K.faults sink.old) (K.faults sink.new) }
 {
+    zones_made_law();
     match collector.begin(alloc, zones, steps) {
         Ok(()) => answer_collection(alloc, collector, handed, sink, steps),
         Err(BeginFault::Running) => write_last(sink, &Reply::Refused(Refusal::Running)),

@@ -26,7 +26,8 @@
 //
 // Why each report is lawful by itself: a failed write, or want of memory, ends the replay between two
 // reports, or within one. What was written then is the start of a lawful answer, since each unit is
-// lawful in the world that the units before it lead to.
+// lawful in the world that the units before it lead to. Memory is wanted only by a command that is not
+// refused. Whatever the exit, main takes in the arenas that are still out, and writes nothing of them.
 #![tactic(auto)]
 
 mod answer;

@@ -26,6 +26,7 @@ use std::marker::Brand;
 use std::sync::Wait;
 use std::sync::ledger::{Blank, Ledger};
 use std::thread::Threads;
+use trace_lang::spelling_law;
 
 // Hands on what is held back, and ends so.
 fn end_so<K: Sink>(sink: &mut K, exit: Exit) -> Exit
@@ -119,6 +120,7 @@ fn answer_all<L: Ledger, S: Source, K: Sink>(
     ensures left { IsLeft collector.new handed.new }
 {
     answer_law();
+    spelling_law();
     let mut reader = LineReader::new();
     for answered in 0..4294967296u64 {
         if flush_before(&reader, sink).is_err() {

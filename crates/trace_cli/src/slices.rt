@@ -17,7 +17,7 @@ use crate::handed::Handed;
 use gz_io::Sink;
 use gz_names::{Refusal, Reply, ZoneSet};
 use heap_core::Steps;
-use slice_driver::{BeginFault, Collector};
+use slice_driver::{BeginFault, Collector, zones_made_law};
 use std::alloc::Global;
 use std::sync::ledger::Ledger;
 
@@ -49,6 +49,7 @@ pub fn gc<K: Sink, L: Ledger>(
     ensures same { OnOk result (K.faults sink.new ≡ K.faults sink.old) }
     ensures cause { result ≡ Err AnswerFault.Write → Rose (K.faults sink.old) (K.faults sink.new) }
 {
+    zones_made_law();
     match collector.begin(alloc, zones, steps) {
         Ok(()) => write_last(sink, &Reply::GcBegun),
         Err(BeginFault::Running) => write_last(sink, &Reply::Refused(Refusal::Running)),

@@ -44,8 +44,8 @@ returns-in-TooLong-clause-lawful g c =
     let bytes = c.in-TooLong.ensures.bytes in
     let kept = c.end_so-in-TooLong.ensures.kept in
     either_refusal (λ (e : Exit). Replays (g.S.Source.left c.args.source.now) (g.S.Source.left c.next.new.source) (g.K.Sink.written c.args.sink.now) (g.K.Sink.written c.end_so-in-TooLong.new.sink) e) _ _ c.loop-answered.answered c.end_so-in-TooLong.ensures.exit c.refusal.ensures
-    (λ n. many_after _ _ _ _ _ _ c.next.new.self.held _ _ _ so.world stands bytes (λ e. cc e) (λ e. cc e) n kept)
-    (λ few. too_long_after _ _ _ _ _ _ c.next.new.self.held _ _ so.world few stands bytes kept)
+    (λ n. many_after (record { short = c.spelling_law.ensures.short; plain = c.spelling_law.ensures.plain }) _ _ _ _ _ _ c.next.new.self.held _ _ _ so.world stands bytes (λ e. cc e) (λ e. cc e) n kept)
+    (λ few. too_long_after (record { short = c.spelling_law.ensures.short; plain = c.spelling_law.ensures.plain }) _ _ _ _ _ _ c.next.new.self.held _ _ so.world few stands bytes kept)
     (write_after _ _ _ _ _ _ c.next.new.self.held _ _ _ so.world stands bytes kept)
 
 pub returns-in-NotAscii-clause-lawful : goal.returns-in-NotAscii-clause-lawful
@@ -55,8 +55,8 @@ returns-in-NotAscii-clause-lawful g c =
     let bytes = c.in-NotAscii.ensures.bytes in
     let kept = c.end_so-in-NotAscii.ensures.kept in
     either_refusal (λ (e : Exit). Replays (g.S.Source.left c.args.source.now) (g.S.Source.left c.next.new.source) (g.K.Sink.written c.args.sink.now) (g.K.Sink.written c.end_so-in-NotAscii.new.sink) e) _ _ c.loop-answered.answered c.end_so-in-NotAscii.ensures.exit c.refusal-in-NotAscii.ensures
-    (λ n. many_after _ _ _ _ _ _ c.next.new.self.held _ _ _ so.world stands bytes (λ e. cc e) (λ e. cc e) n kept)
-    (λ few. not_ascii_after _ _ _ _ _ _ c.next.new.self.held _ _ so.world few stands bytes kept)
+    (λ n. many_after (record { short = c.spelling_law.ensures.short; plain = c.spelling_law.ensures.plain }) _ _ _ _ _ _ c.next.new.self.held _ _ _ so.world stands bytes (λ e. cc e) (λ e. cc e) n kept)
+    (λ few. not_ascii_after (record { short = c.spelling_law.ensures.short; plain = c.spelling_law.ensures.plain }) _ _ _ _ _ _ c.next.new.self.held _ _ so.world few stands bytes kept)
     (write_after _ _ _ _ _ _ c.next.new.self.held _ _ _ so.world stands bytes kept)
 
 pub returns-in-End-clause-lawful : goal.returns-in-End-clause-lawful
@@ -98,7 +98,7 @@ returns-then-answered-eq4294967295-clause-lawful g c =
     let bytes = c.in-Line.ensures.bytes in
     let kept = c.end_so-then-answered-eq4294967295.ensures.kept in
     either (λ (e : Exit). Replays (g.S.Source.left c.args.source.now) (g.S.Source.left c.next.new.source) (g.K.Sink.written c.args.sink.now) (g.K.Sink.written c.end_so-then-answered-eq4294967295.new.sink) e) _ _ c.end_so-then-answered-eq4294967295.ensures.exit
-    (many_after _ _ _ _ _ _ c.next.new.self.held _ _ _ so.world stands bytes (λ e. cc e) (λ e. cc e) c.if-answered-eq4294967295.true kept)
+    (many_after (record { short = c.spelling_law.ensures.short; plain = c.spelling_law.ensures.plain }) _ _ _ _ _ _ c.next.new.self.held _ _ _ so.world stands bytes (λ e. cc e) (λ e. cc e) c.if-answered-eq4294967295.true kept)
     (write_after _ _ _ _ _ _ c.next.new.self.held _ _ _ so.world stands bytes kept)
 
 pub returns-in-Err-Bad-clause-lawful : goal.returns-in-Err-Bad-clause-lawful
