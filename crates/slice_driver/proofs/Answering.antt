@@ -422,12 +422,14 @@ module _ (b : CollectorState) (flown : ℕ → Option Bits) (command : GraphCmd)
 
     -- what is freed of the arenas that are out stays the same
     pub words_moves : Moves m command new → KeepsFreedWords m.shape new.shape
-    words_moves (quiet stay wakes colours reach) = keeps_words m.shape new.shape lies.whole stay.whole served.outs (λ p out. stay.names p) stay.unswept
+    words_moves (quiet stay wakes colours reach) = keeps_words m.shape new.shape lies.whole stay.whole served.outs
+        (λ p out. stay.names p) stay.unswept
     words_moves (finds p x named wakes colours arenas weak none_stored is_handed) =
         let stay = stay_same m.shape new.shape arenas lies.whole in
         keeps_words m.shape new.shape lies.whole stay.whole served.outs (λ q out. stay.names q) stay.unswept
     words_moves (makes zone p x cell between comes wakes mk colours none_stored none_handed) = keeps_words m.shape new.shape lies.whole comes.whole served.outs (λ q out. elim (same-place q p) [
-      | inl here ↦ absurd (let none : out_of m.shape q.0 ≡ None = ap (λ (z : Place). out_of m.shape z.0) here.0 ∙ mk.in_place in some_out (out_of m.shape q.0) none out)
+      | inl here ↦ absurd (let none : out_of m.shape q.0 ≡ None = ap (λ (z : Place). out_of m.shape z.0) here.0
+          ∙ mk.in_place in some_out (out_of m.shape q.0) none out)
       | inr away ↦ comes.names q ∙ ap (λ b. if b then Some x else name_at m.shape q) away.1
     ]) comes.unswept
       where
@@ -483,10 +485,13 @@ module _ (c : CollectorState) (flown : ℕ → Option Bits) (command : GraphCmd)
   first_stands = represents_through steps.old wide first flown steps.first_flown w steps.old_through old_reached wide_stands
 
   target_reached : IsReached steps.target first steps.first_flown
-  target_reached p e = go (refusal_in (step_of first_stands.lies.graph command).1) (steps.target_is first_stands.lies.graph first_stands.lies.shown)
+  target_reached p e = go (refusal_in (step_of first_stands.lies.graph command).1)
+      (steps.target_is first_stands.lies.graph first_stands.lies.shown)
     where
-      go : (o : Option Refusal) → steps.target ≡ unless_refused o (wrapped_target first.heap command) → Reached first.heap.shape (IsBlack (heap_with first steps.first_flown)) p
-      go None is = held_reached first steps.first_flown w first_stands p (wrapped_held first.heap first_stands.lies.graph first_stands.lies.shown command p (sym is ∙ e))
+      go : (o : Option Refusal) → steps.target ≡ unless_refused o (wrapped_target first.heap command)
+          → Reached first.heap.shape (IsBlack (heap_with first steps.first_flown)) p
+      go None is = held_reached first steps.first_flown w first_stands p
+          (wrapped_held first.heap first_stands.lies.graph first_stands.lies.shown command p (sym is ∙ e))
       go (Some why) is = absurd (cc (is, e))
 
   second_stands : Represents second steps.second_flown w
@@ -529,7 +534,9 @@ module _ (c : CollectorState) (flown : ℕ → Option Bits) (command : GraphCmd)
       exposed_keeps steps.target (heap_with first steps.first_flown) first.stack (heap_with second steps.second_flown) second.stack steps.target_through.exposed p
       (exposed_is steps.old (heap_with wide flown) wide.stack (heap_with first steps.first_flown) first.stack steps.old_through.exposed p (is ∙ here))
 
-  target_black : refusal_in (step_of first_stands.lies.graph command).1 ≡ None → (r i : ℕ) (n : CompNo) (p : Place) → command ≡ cmd.Wrap r i n → reg_of second.heap i ≡ Some p → IsBlack (heap_with second steps.second_flown) (target_at second.heap.shape p)
+  target_black : refusal_in (step_of first_stands.lies.graph command).1 ≡ None → (r i : ℕ) (n : CompNo) (p : Place)
+      → command ≡ cmd.Wrap r i n → reg_of second.heap i ≡ Some p → IsBlack (heap_with second steps.second_flown)
+      (target_at second.heap.shape p)
   target_black accepted r i n p is e =
       let reg : reg_of first.heap i ≡ Some p = sym (ap (λ h. reg_of h i) second_rest) ∙ e in
       let found : steps.target ≡ Some (target_at first.heap.shape p) =
@@ -571,7 +578,10 @@ module _ (c : CollectorState) (flown : ℕ → Option Bits) (command : GraphCmd)
     accepted_wide = accepted_by wide_stands.lies.graph (shows_third wide_stands.lies.graph wide_stands.lies.shown)
 
     accepted_first : refusal_in (step_of first_stands.lies.graph command).1 ≡ None
-    accepted_first = accepted_by first_stands.lies.graph (shows_last first_stands.lies.graph (subst (λ h. Shows h first_stands.lies.graph) (sym second_rest) (shows_coloured first.heap second.heap.colours first_stands.lies.graph first_stands.lies.shown)))
+    accepted_first = accepted_by first_stands.lies.graph
+        (shows_last first_stands.lies.graph
+        (subst (λ h. Shows h first_stands.lies.graph) (sym second_rest)
+        (shows_coloured first.heap second.heap.colours first_stands.lies.graph first_stands.lies.shown)))
 
     pub answered_ok : AnswersIn w command (Ok answer) d flying
     answered_ok = subst (λ e. AnswersIn w command (Ok answer) e flying) (sym d_is)
@@ -584,7 +594,8 @@ module _ (c : CollectorState) (flown : ℕ → Option Bits) (command : GraphCmd)
 
     pub words_ok : KeepsFreedWords second.heap.shape d.heap.shape
     words_ok = words_moves second steps.second_flown command w ok second_stands ds steps.third.stack flying steps.handed steps.handed_is exposed_last covers_last accepted_here homes_second apart_second (stored_black accepted_wide) (target_black accepted_first) answer d.heap step_ok change_ok room_last lists_last
-        (moves_of (with_colours second.heap ds) second_stands.lies.graph (shows_last second_stands.lies.graph second_stands.lies.shown) second_stands.lies.whole d.heap command change_ok)
+        (moves_of (with_colours second.heap ds) second_stands.lies.graph
+        (shows_last second_stands.lies.graph second_stands.lies.shown) second_stands.lies.whole d.heap command change_ok)
 
   answered : (r : Result Reply CmdFault) → result ≡ r → AnswersIn w command r d flying
   answered (Ok answer) is = answered_ok answer is
@@ -623,7 +634,9 @@ module _ (c : CollectorState) (flown : ℕ → Option Bits) (command : GraphCmd)
 
       go : (r : Result Reply CmdFault) → result ≡ r → KeepsFreedWords c.heap.shape d.heap.shape
       go (Ok answer) is = subst (λ (s : Shape). KeepsFreedWords s d.heap.shape) first_same (words_ok answer is)
-      go (Err why) is = same_words c.heap.shape d.heap.shape (ap (λ (h : HeapState). h.shape) (subst (λ r. OnErr r (d.heap ≡ steps.third.heap)) is steps.err) ∙ (ap (λ (h : HeapState). h.shape) third_rest ∙ first_same))
+      go (Err why) is = same_words c.heap.shape d.heap.shape
+          (ap (λ (h : HeapState). h.shape) (subst (λ r. OnErr r (d.heap ≡ steps.third.heap)) is steps.err) ∙
+          (ap (λ (h : HeapState). h.shape) third_rest ∙ first_same))
 
 pub serves_command : (c : CollectorState) (flown : ℕ → Option Bits) (command : GraphCmd) (result : Result Reply CmdFault) (d : CollectorState) (flying : ℕ → Option Bits) → CommandSteps c flown command result d flying → DoesCommand c flown command result d flying
 serves_command c flown command result d flying steps w ok rep = answers_command c flown command result d flying steps w ok rep

@@ -123,5 +123,13 @@ none_runs c flown w idle rep = go w.collection (subst (λ r. RunsAs (heap_with c
 
 pub begins_worlds : (c d : CollectorState) (zones : ZoneSet) → c.run ≡ None → BeginsMarking c.heap zones d.heap d.stack d.lists → ((z : ℕ) → HasZone zones.bits z → z < length c.heap.shape.states) → d.run ≡ Some (record { zones = zones; formed = false }) → d.edges.zones ≡ zones → ((a b : ℕ) → Edge d.edges.sources a b → ⊥) → ((z : ℕ) → cursor_of d.edges z ≡ 0) → d.edges.stepped.bits ≡ 0 → BeginsIn c zones.bits d
 begins_worlds c d zones idle b made run are none start fresh flown w ok rep =
-    let begun = begins_in w (zones_in zones) (none_runs c flown w idle rep) (λ z has. subst (λ n. z < n) (sym rep.lies.shown.zones_are ∙ rep.lies.part.part.zones) (made z ((zones_in-has zones z).0 has))) in
-    (begun.0, begun.1, begin_valid w (zones_in zones) begun.0 ok begun.1, represents_begun c d flown w begun.0 zones rep ok idle b begun.1 run (looked_begun d.heap d zones begun.0 begun.1.collection are none start fresh))
+    let begun = begins_in w (zones_in zones) (none_runs c flown w idle rep)
+    (λ z has. subst (λ n. z < n) (sym rep.lies.shown.zones_are ∙ rep.lies.part.part.zones)
+    (made z ((zones_in-has zones z).0 has))) in (
+      begun.0,
+      begun.1,
+      begin_valid w
+          (zones_in zones) begun.0 ok begun.1,
+      represents_begun c d flown w begun.0 zones rep ok idle b begun.1 run
+          (looked_begun d.heap d zones begun.0 begun.1.collection are none start fresh),
+    )

@@ -54,7 +54,8 @@ pub record IsAtRest (c : CollectorState) : Type 0 where
   pub represents : Represents c flight.none_flown world
   pub idle : c.run ≡ None
 
-pub at_rest : (c d : CollectorState) → c ≡ d → (d.run ≡ None → IsSound d flight.none_flown) → (b : Bool) → (IsTrue b ↔ IsSome d.run) → b ≡ false → IsAtRest c
+pub at_rest : (c d : CollectorState) → c ≡ d → (d.run ≡ None → IsSound d flight.none_flown) → (b : Bool) →
+    (IsTrue b ↔ IsSome d.run) → b ≡ false → IsAtRest c
 at_rest c d same sound b e f =
     let idle = not_running b d.run e f in
     subst IsAtRest (sym same) (record { world = (sound idle).world; represents = (sound idle).represents; idle = idle })

@@ -139,7 +139,8 @@ where_err (Ok x) e p = absurd (cc e)
 where_err (Err y) e p = p
 
 -- only a `wrap` is about a cell
-no_target : (h : HeapState) (k : GraphCmd) → ((r s : ℕ) (c : CompNo) → k ≡ cmd.Wrap r s c → ⊥) → wrapped_target h k ≡ None
+no_target : (h : HeapState) (k : GraphCmd) → ((r s : ℕ) (c : CompNo) → k ≡ cmd.Wrap r s c → ⊥)
+    → wrapped_target h k ≡ None
 no_target h cmd.Zone plain = refl
 no_target h (cmd.Comp z) plain = refl
 no_target h (cmd.New r c n) plain = refl
@@ -158,7 +159,8 @@ no_target h (cmd.Del m k) plain = refl
 no_target h (cmd.Find r m k) plain = refl
 
 -- where room is wanted, the command makes a cell, so it is not refused
-pub room_wanted : (c d : CollectorState) (flown : ℕ → Option Bits) (command : GraphCmd) → Widens c d → ((g : GraphState) → Shows c.heap g → IsAccepted g command) → WantsMemory c flown command d flown
+pub room_wanted : (c d : CollectorState) (flown : ℕ → Option Bits) (command : GraphCmd) → Widens c d →
+    ((g : GraphState) → Shows c.heap g → IsAccepted g command) → WantsMemory c flown command d flown
 room_wanted c d flown command wide accepted = record {
   accepted = λ w ok rep. accepted_in w c.heap command ok rep.lies (accepted rep.lies.graph rep.lies.shown);
   shape_is = ap (λ (h : HeapState). h.shape) (wide_heap c d wide);
@@ -250,8 +252,10 @@ module _ (c d1 d2 d3 d4 d : CollectorState) (flown f1 f2 f3 : ℕ → Option Bit
   run_after = ap (λ (z : CollectorState). z.run) call.rest ∙ (ap (λ (z : CollectorState). z.run) call.third.rest ∙ (ap (λ (z : CollectorState). z.run) call.second.rest ∙ (ap (λ (z : CollectorState). z.run) call.first.rest ∙ ap (λ (z : CollectorState). z.run) call.wide.rest)))
 
   -- as many cells were made as the command makes where it was called
-  pub made_after : (answer : Result Reply CmdFault) → d.heap.made ≡ d4.heap.made + cells_made d4.heap command answer → d.heap.made ≡ c.heap.made + cells_made c.heap command answer
-  made_after answer done = subst (λ (n : ℕ). d.heap.made ≡ c.heap.made + n) (same answer) (done ∙ ap (λ (z : HeapState). z.made + cells_made d4.heap command answer) shape_is)
+  pub made_after : (answer : Result Reply CmdFault) → d.heap.made ≡ d4.heap.made + cells_made d4.heap command answer
+      → d.heap.made ≡ c.heap.made + cells_made c.heap command answer
+  made_after answer done = subst (λ (n : ℕ). d.heap.made ≡ c.heap.made + n) (same answer)
+      (done ∙ ap (λ (z : HeapState). z.made + cells_made d4.heap command answer) shape_is)
     where
       same : (r : Result Reply CmdFault) → cells_made d4.heap command r ≡ cells_made c.heap command r
       same (Ok reply) = ap (λ (z : Option ℕ). if is_some z then 1 else 0) made_same
@@ -300,8 +304,11 @@ module _ (c d1 d2 d3 d4 d : CollectorState) (flown f1 f2 f3 : ℕ → Option Bit
   still same no_old no_target no_given =
       let one = call.first.still no_old in
       let two = call.second.still no_target in
-      let three = call.third.still no_given in
-      (call.rest ∙ (ap (λ (h : HeapState). record d4 { heap = h }) same ∙ (three.0 ∙ (two.0 ∙ one.0))), three.1 ∙ (two.1 ∙ one.1))
+      let three = call.third.still no_given in (
+        call.rest ∙ (ap (λ (h : HeapState). record d4 { heap = h }) same ∙ (three.0 ∙ (two.0 ∙ one.0))),
+        three.1 ∙
+            (two.1 ∙ one.1),
+      )
 
   -- an answer is no refusal
   pub answered_call : IfOk result (λ answer. refusal_in answer ≡ None)
@@ -309,7 +316,8 @@ module _ (c d1 d2 d3 d4 d : CollectorState) (flown f1 f2 f3 : ℕ → Option Bit
     where
       go : (r : Result Reply CmdFault) → result ≡ r → IfOk r (λ answer. refusal_in answer ≡ None)
       go (Ok answer) is =
-          let step : DoesStep d4.heap command (Ok answer) d.heap = subst (λ r. DoesStep d4.heap command r d.heap) is call.step in
+          let step : DoesStep d4.heap command (Ok answer) d.heap = subst
+          (λ r. DoesStep d4.heap command r d.heap) is call.step in
           let said = (step g (shown_at d4.heap shape_is g s)).0 in
           ap refusal_in said.0 ∙ said.1
       go (Err why) is = tt
@@ -317,12 +325,16 @@ module _ (c d1 d2 d3 d4 d : CollectorState) (flown f1 f2 f3 : ℕ → Option Bit
   -- a refusal changes nothing
   pub refused_call : (why : Refusal) → result ≡ Err (fault.Refused why) → (d ≡ c) × (f3 ≡ flown)
   refused_call why is =
-      let step : DoesStep d4.heap command (Err (fault.Refused why)) d.heap = subst (λ r. DoesStep d4.heap command r d.heap) is call.step in
-      let said : refusal_in (step_of g command).1 ≡ Some why = ap refusal_in (step g (shown_at d4.heap shape_is g s)).0 in
-      let none : made_in c.heap command ≡ None = none_left (made_in c.heap command) (λ makes. (let accepted = call.accepted makes g s in cc (accepted, said))) in
+      let step : DoesStep d4.heap command (Err (fault.Refused why)) d.heap = subst
+      (λ r. DoesStep d4.heap command r d.heap) is call.step in
+      let said : refusal_in (step_of g command).1 ≡ Some why = ap refusal_in
+      (step g (shown_at d4.heap shape_is g s)).0 in
+      let none : made_in c.heap command ≡ None = none_left (made_in c.heap command)
+      (λ makes. (let accepted = call.accepted makes g s in cc (accepted, said))) in
       let after = still (still_heap (fault.Refused why) is)
       (call.old_is g (shown_at d1.heap same_one g s) ∙ ap (λ o. unless_refused o (stored d1.heap command)) said)
-      (call.target_is g (shown_at d2.heap same_two g s) ∙ ap (λ o. unless_refused o (wrapped_target d2.heap command)) said)
+      (call.target_is g (shown_at d2.heap same_two g s) ∙ ap
+      (λ o. unless_refused o (wrapped_target d2.heap command)) said)
       (call.handed_is g (shown_at d3.heap same_three g s) ∙ ap (λ o. unless_refused o (handed d3.heap command)) said)
       in
       (after.0 ∙ call.kept none, after.1)
@@ -330,9 +342,11 @@ module _ (c d1 d2 d3 d4 d : CollectorState) (flown f1 f2 f3 : ℕ → Option Bit
   -- memory is wanted only where the command is not refused
   pub wanted_call : result ≡ Err fault.NoMemory → WantsMemory c flown command d f3
   wanted_call wants = record {
-    accepted = λ w ok rep. accepted_in w c.heap command ok rep.lies (step rep.lies.graph (shown_at d4.heap shape_is rep.lies.graph rep.lies.shown)).0;
+    accepted = λ w ok rep. accepted_in w c.heap command ok rep.lies
+        (step rep.lies.graph (shown_at d4.heap shape_is rep.lies.graph rep.lies.shown)).0;
     shape_is = ap (λ (h : HeapState). h.shape) same ∙ ap (λ (h : HeapState). h.shape) shape_is;
-    kept = λ plain. (let after = still same old_none (target_none plain) given_none in (subst (Widens c) (sym after.0) call.wide, after.1));
+    kept = λ plain. (let after = still same old_none (target_none plain) given_none in
+        (subst (Widens c) (sym after.0) call.wide, after.1));
   }
     where
       step : DoesStep d4.heap command (Err fault.NoMemory) d.heap
@@ -354,10 +368,12 @@ module _ (c d1 d2 d3 d4 d : CollectorState) (flown f1 f2 f3 : ℕ → Option Bit
           ∙ sym (ap (λ h. stored h command) shape_is ∙ stored_plain c.heap d4.heap.colours command))
 
       old_none : old ≡ None
-      old_none = call.old_is g (shown_at d1.heap same_one g s) ∙ (ap (unless_refused why) (stored_same ∙ no_stored) ∙ no_old why)
+      old_none = call.old_is g (shown_at d1.heap same_one g s) ∙
+          (ap (unless_refused why) (stored_same ∙ no_stored) ∙ no_old why)
 
       target_none : ((r s : ℕ) (c : CompNo) → command ≡ cmd.Wrap r s c → ⊥) → target ≡ None
-      target_none plain = call.target_is g (shown_at d2.heap same_two g s) ∙ (ap (unless_refused why) (no_target d2.heap command plain) ∙ no_old why)
+      target_none plain = call.target_is g (shown_at d2.heap same_two g s) ∙
+          (ap (unless_refused why) (no_target d2.heap command plain) ∙ no_old why)
 
       given_none : given ≡ None
       given_none = go given refl

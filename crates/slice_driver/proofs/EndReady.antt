@@ -31,10 +31,14 @@ ready_here v now is g rest ready group at =
     record { rest = rest; ready = subst (λ x. IsReady v x rest) same here; behind = ap (λ (gs : List ZoneSet). drop 1 gs) here.groups_are }
 
 -- at the end of a group each present cell has the colour that the end asks
-pub ends_coloured : (v : CollectorState) (flown : ℕ → Option Bits) (g : ZoneSet) (rest : List ZoneSet) → IsReady v g rest → (w : World) (k : Collection) → IsValid w → Represents v flown w → w.collection ≡ Some k → AreColoured v.heap w.graph k (zones_without k.marking (zones_in g))
+pub ends_coloured : (v : CollectorState) (flown : ℕ → Option Bits) (g : ZoneSet) (rest : List ZoneSet)
+    → IsReady v g rest → (w : World) (k : Collection) → IsValid w → Represents v flown w → w.collection ≡ Some k
+    → AreColoured v.heap w.graph k (zones_without k.marking (zones_in g))
 ends_coloured v flown g rest ready w k ok rep is =
-    let own : heap_with v flown ≡ v.heap = joined_none v.heap flown (λ a. no_some (flown a) (rep.flies.covers a ∙ ap is_some (ready.kept a))) in
-    subst (λ h. AreColoured h w.graph k (zones_without k.marking (zones_in g))) own (coloured v flown w k g rest ok rep ready is)
+    let own : heap_with v flown ≡ v.heap = joined_none v.heap flown
+    (λ a. no_some (flown a) (rep.flies.covers a ∙ ap is_some (ready.kept a))) in
+    subst (λ h. AreColoured h w.graph k (zones_without k.marking (zones_in g))) own
+    (coloured v flown w k g rest ok rep ready is)
 
 module _ (v : CollectorState) (flown : ℕ → Option Bits) (kept : (a : ℕ) → out_of v.heap.shape a ≡ None) (s : IsSound v flown) where
   own : heap_with v flown ≡ v.heap

@@ -24,12 +24,14 @@ bit_times zero n lt = omega arith
 bit_times (suc zero) n lt = omega arith
 bit_times (suc (suc b)) n lt = absurd (omega (arith, lt))
 
-few_looks : (s : Shape) (n : Noted) (most : ℕ) → ((z : ℕ) → length (list_of s.wrappers z) ≤ most) → (k : ℕ) → left_below s n k ≤ k * most
+few_looks : (s : Shape) (n : Noted) (most : ℕ) → ((z : ℕ) → length (list_of s.wrappers z) ≤ most) → (k : ℕ)
+    → left_below s n k ≤ k * most
 unfolding left_below
 few_looks s n most each zero = omega arith
 few_looks s n most each (suc z) =
     let rest = few_looks s n most each z in
-    let here = bit_times (bit_at n.zones.bits z) (length (list_of s.wrappers z) - cursor_of n z) (bit_at-lt n.zones.bits z) in
+    let here = bit_times (bit_at n.zones.bits z) (length (list_of s.wrappers z) - cursor_of n z)
+    (bit_at-lt n.zones.bits z) in
     let few = each z in
     omega (arith, rest, here, few)
 
@@ -41,7 +43,8 @@ few_ungrouped n (suc z) =
     let here = bit_times (bit_at n.zones.bits z) (1 - bit_at n.stepped.bits z) (bit_at-lt n.zones.bits z) in
     omega (arith, rest, here)
 
-few_groupings : (s : Shape) (n : Noted) (run : Option RunState) (most : ℕ) → ((z : ℕ) → length (list_of s.wrappers z) ≤ most) → grouping_left s n run ≤ 64 * most + 64
+few_groupings : (s : Shape) (n : Noted) (run : Option RunState) (most : ℕ) →
+    ((z : ℕ) → length (list_of s.wrappers z) ≤ most) → grouping_left s n run ≤ 64 * most + 64
 few_groupings s n None most each = omega arith
 few_groupings s n (Some run) most each = go run.formed
   where
@@ -64,12 +67,14 @@ few_arenas : (s : Shape) (arenas : List ArenaShape) → arenas_left s arenas ≤
 few_arenas s [] = omega arith
 few_arenas s (arena ∷ arenas) = go (is_some arena.out || is_marking_state (state_in s arena.zone)) (few_arenas s arenas)
   where
-    go : (b : Bool) → arenas_left s arenas ≤ length arenas → (if b then 1 else 0) + arenas_left s arenas ≤ suc (length arenas)
+    go : (b : Bool) → arenas_left s arenas ≤ length arenas → (if b then 1 else 0) + arenas_left s arenas ≤ suc
+        (length arenas)
     go true rest = omega (arith, rest)
     go false rest = omega (arith, rest)
 
 -- fewer wrappers of each zone than slots of fewer than 2^32 arenas
-pub few_in_zone : (c : CollectorState) (flown : ℕ → Option Bits) → IsSound c flown → length c.heap.shape.arenas < 2 ^ 32 → AreApart c.heap.shape.wrappers.lists → HasFewWrappers c.heap.shape
+pub few_in_zone : (c : CollectorState) (flown : ℕ → Option Bits) → IsSound c flown
+    → length c.heap.shape.arenas < 2 ^ 32 → AreApart c.heap.shape.wrappers.lists → HasFewWrappers c.heap.shape
 few_in_zone c flown sound arenas apart z =
     let lies = sound.represents.lies in
     let few = few_wrappers c.heap lies.graph lies.whole lies.shown apart z in
@@ -85,7 +90,8 @@ none_buffered (b ∷ bs) none =
     omega (arith, first, rest, both)
 
 -- the number of units that are left is one of 64 bits
-pub few_units : (c : CollectorState) → length c.heap.shape.arenas < 2 ^ 32 → sum_by length c.heap.buffers < 2 ^ 63 → length c.heap.shape.states ≤ 64 → AreApart c.heap.shape.wrappers.lists
+pub few_units : (c : CollectorState) → length c.heap.shape.arenas < 2 ^ 32 → sum_by length c.heap.buffers < 2 ^ 63
+    → length c.heap.shape.states ≤ 64 → AreApart c.heap.shape.wrappers.lists
     → (flown : ℕ → Option Bits) → IsSound c flown → units_left c flown < 2 ^ 64
 few_units c arenas buffered zones apart flown sound =
     let r = sound.represents in

@@ -37,14 +37,17 @@ same_key j k e =
     let named : ◌≡◌ {A = CompNo} (record { 0 = j.comp }) (record { 0 = k.comp }) = cc e in
     let comp : j.comp ≡ k.comp = ap (λ (c : CompNo). c.0) named in
     let target : j.target ≡ k.target = cc e in
-    ap (λ (c : ℕ). record { comp = c; target = j.target }) comp ∙ ap (λ (t : ℕ). record { comp = k.comp; target = t }) target
+    ap (λ (c : ℕ). record { comp = c; target = j.target }) comp ∙ ap
+    (λ (t : ℕ). record { comp = k.comp; target = t }) target
 
-module _ (h : HeapState) (g : GraphState) (whole : AreWhole h.shape.arenas) (shown : Shows h g) (apart : AreApart h.shape.wrappers.lists) (z : ℕ) where
+module _ (h : HeapState) (g : GraphState) (whole : AreWhole h.shape.arenas) (shown : Shows h g)
+    (apart : AreApart h.shape.wrappers.lists) (z : ℕ) where
   abbrev entries : List (WrapperKey × Place)
   entries = list_of h.shape.wrappers z
 
   named : (e : WrapperKey × Place) → Contains entries e → name_at h.shape e.1 ≡ Some (key_name e.0)
-  named e there = shown.mapped (record { 0 = e.0.comp }) e.0.target e.1 (found_there h.shape.wrappers.lists z e apart there)
+  named e there = shown.mapped (record { 0 = e.0.comp }) e.0.target e.1
+      (found_there h.shape.wrappers.lists z e apart there)
 
   within : (e : WrapperKey × Place) → Contains entries e → (e.1.0 < length h.shape.arenas) × (e.1.1 < 64)
   within e there = present_within h.shape e.1 whole (named_present h.shape e.1 (key_name e.0) (named e there))
@@ -55,7 +58,8 @@ module _ (h : HeapState) (g : GraphState) (whole : AreWhole h.shape.arenas) (sho
       let high = within e second in
       let arena : d.1.0 ≡ e.1.0 = omega (arith, low, high, same) in
       let slot : d.1.1 ≡ e.1.1 = omega (arith, low, high, same) in
-      let place : d.1 ≡ e.1 = ap (λ (a : ℕ). record { 0 = a; 1 = d.1.1 }) arena ∙ ap (λ (s : ℕ). record { 0 = e.1.0; 1 = s }) slot in
+      let place : d.1 ≡ e.1 = ap (λ (a : ℕ). record { 0 = a; 1 = d.1.1 }) arena ∙ ap
+      (λ (s : ℕ). record { 0 = e.1.0; 1 = s }) slot in
       let names = sym (named d first) ∙ (ap (name_at h.shape) place ∙ named e second) in
       same_key d.0 e.0 (cc names)
 
@@ -69,7 +73,8 @@ module _ (h : HeapState) (g : GraphState) (whole : AreWhole h.shape.arenas) (sho
       let second : j < length entries = omega (arith, count, below) in
       let d = get_or entries i some_entry in
       let e = get_or entries j some_entry in
-      let one = one_slot d e (Contains-get_or entries i some_entry first) (Contains-get_or entries j some_entry second) (sym (at i n first) ∙ (same ∙ at j n second)) in
+      let one = one_slot d e (Contains-get_or entries i some_entry first) (Contains-get_or entries j some_entry second)
+      (sym (at i n first) ∙ (same ∙ at j n second)) in
       apart.distinct z i j some_entry before second one
 
   small : (q : ℕ) → list_any (λ m. q == m) (map number entries) ≡ true → q < 64 * length h.shape.arenas
@@ -85,6 +90,7 @@ module _ (h : HeapState) (g : GraphState) (whole : AreWhole h.shape.arenas) (sho
   -- a zone has no more wrappers than there are slots
   pub few_wrappers : length (list_of h.shape.wrappers z) ≤ 64 * length h.shape.arenas
   few_wrappers =
-      let most = length-le_from_distinct_below (map number entries) (64 * length h.shape.arenas) (IsDistinct-from_AllPairs Decides-eqb (map number entries) distinct) small in
+      let most = length-le_from_distinct_below (map number entries) (64 * length h.shape.arenas)
+      (IsDistinct-from_AllPairs Decides-eqb (map number entries) distinct) small in
       let count = length-map entries number in
       omega (arith, most, count)

@@ -70,4 +70,5 @@ handed_jobs t word arenas colours e = record {
 pub hands_jobs : (s t : Shape) (word : ℕ) (arenas : List ArenaShape) (colours : List Bits) (jobs : Option (List Job)) → t.arenas ≡ handed word arenas colours → AreJobs jobs (jobs_of word 0 arenas colours) → ((a : ℕ) → flown_by (jobs_of word 0 arenas colours) a ≡ out_of t a) → HandsJobs jobs s t
 hands_jobs s t word arenas colours None e none flies = λ a freed was arena bits at out.
     absurd (let some : out_of t a ≡ Some bits = ap out_in at ∙ out in let no : None ≡ out_of t a = sym (ap (λ (js : List Job). flown_by js a) none) ∙ flies a in cc (some, no))
-hands_jobs s t word arenas colours (Some jobs) e is flies = subst (λ (js : List Job). AreJobsOf t js) (sym is.0) (handed_jobs t word arenas colours e)
+hands_jobs s t word arenas colours (Some jobs) e is flies = subst (λ (js : List Job). AreJobsOf t js) (sym is.0)
+    (handed_jobs t word arenas colours e)

@@ -163,7 +163,8 @@ refused_in w old new c why ok l does =
     (d.1, (sym said, subst (λ (o : Option Refusal). AcceptsUnless o w (with_counts w.graph c w.collection) (step_of w.graph c).0 (woken_by w.graph c) w) (sym (ap refusal_in said)) refl))
 
 -- what is not refused by the heap is not refused in the world
-pub accepted_in : (w : World) (h : HeapState) (c : GraphCmd) → IsValid w → (l : LiesIn h w) → IsAccepted l.graph c → IsAccepted w.graph c
+pub accepted_in : (w : World) (h : HeapState) (c : GraphCmd) → IsValid w → (l : LiesIn h w) → IsAccepted l.graph c
+    → IsAccepted w.graph c
 accepted_in w h c ok l accepted =
     let a = agreement w.graph l.graph c (shows_agrees w l.graph ok l.part) in
     sym (ap refusal_in a.0) ∙ accepted

@@ -252,7 +252,8 @@ module _ (c : CollectorState) (flown : ℕ → Option Bits) (d : CollectorState)
   -- and the same was done before
   pub group_done_before : IsGroupDone d flying → IsGroupDone c flown
   group_done_before done g at =
-      let is : IsGrayDone d flying g = done g (subst (λ (x : CollectorState). slice_get x.groups 0 ≡ Some g) (sym a.same) at) in
+      let is : IsGrayDone d flying g = done g
+      (subst (λ (x : CollectorState). slice_get x.groups 0 ≡ Some g) (sym a.same) at) in
       record {
         idle = subst (λ (x : CollectorState). IsGrayIdle x.heap x.stack x.lists g.bits) a.same is.idle;
         fixed = (still_gray_fixed g).1 is.fixed;

@@ -47,7 +47,9 @@ pub record UnitSays (c : CollectorState) (flown : ℕ → Option Bits) (unit : U
   pub entries : length d.heap.shape.weak.entries ≤ length c.heap.shape.weak.entries
 
 -- so after it the collector stands for a valid world
-pub says_sound : (c : CollectorState) (flown : ℕ → Option Bits) (unit : Unit) (d : CollectorState) (flying : ℕ → Option Bits) → UnitSays c flown unit d flying → IsSound c flown → IsSound d (flying_after unit.handed flying)
+pub says_sound : (c : CollectorState) (flown : ℕ → Option Bits) (unit : Unit) (d : CollectorState)
+    (flying : ℕ → Option Bits) → UnitSays c flown unit d flying → IsSound c flown → IsSound d
+    (flying_after unit.handed flying)
 says_sound c flown unit d flying says s = done_sound c flown unit unit.due d flying says.done says.due s
 
 no_run : (b : Bool) (o : Option RunState) → b ≡ false → IsSome o → (b ≡ true) ↔ (o ≡ None)
@@ -61,7 +63,8 @@ no_jobs (Some (report.Ended zones grays)) h e = absurd (cc e)
 no_jobs (Some (report.Swept arena names)) h e = refl
 no_jobs (Some report.Done) h e = refl
 
-no_colours : (r : Option Report) (c : CollectorState) (flown : ℕ → Option Bits) (colours : List Bits) → is_group_end r ≡ false → EndsColoured r c flown colours
+no_colours : (r : Option Report) (c : CollectorState) (flown : ℕ → Option Bits) (colours : List Bits)
+    → is_group_end r ≡ false → EndsColoured r c flown colours
 no_colours None c flown colours e = tt
 no_colours (Some (report.Groups groups)) c flown colours e = tt
 no_colours (Some (report.Ended zones grays)) c flown colours e = absurd (cc e)
@@ -69,13 +72,17 @@ no_colours (Some (report.Swept arena names)) c flown colours e = tt
 no_colours (Some report.Done) c flown colours e = tt
 
 -- a unit that ends no group, where none is at its end
-pub not_at_end : (unit : Unit) (P : Type 0) → is_group_end unit.report ≡ false → (P → ⊥) → (is_group_end unit.report ≡ true) ↔ P
+pub not_at_end : (unit : Unit) (P : Type 0) → is_group_end unit.report ≡ false → (P → ⊥) →
+    (is_group_end unit.report ≡ true) ↔ P
 not_at_end unit P goes_on none = (λ e. absurd (cc (e, goes_on)), λ p. absurd (none p))
 
 -- a unit that goes on
-pub says_goes : (c : CollectorState) (flown : ℕ → Option Bits) (unit : Unit) (d : CollectorState) (flying : ℕ → Option Bits) → is_group_end unit.report ≡ false → unit.handed ≡ None → unit.finished ≡ false → unit.due ≡ None → GoesOn c flown (reports_of unit.report unit.finished) d flying → UnitSays c flown unit d flying
+pub says_goes : (c : CollectorState) (flown : ℕ → Option Bits) (unit : Unit) (d : CollectorState)
+    (flying : ℕ → Option Bits) → is_group_end unit.report ≡ false → unit.handed ≡ None → unit.finished ≡ false
+    → unit.due ≡ None → GoesOn c flown (reports_of unit.report unit.finished) d flying → UnitSays c flown unit d flying
 says_goes c flown unit d flying goes_on handed finished due g = record {
-  handed = subst (λ (h : Option (List Job)). AreJobs h (jobs_at unit.report c.heap)) (sym handed) (no_jobs unit.report c.heap goes_on);
+  handed = subst (λ (h : Option (List Job)). AreJobs h (jobs_at unit.report c.heap)) (sym handed)
+      (no_jobs unit.report c.heap goes_on);
   coloured = no_colours unit.report c flown d.heap.colours goes_on;
   done = subst (λ (o : Option ℕ). DoneOrDue o c flown unit d flying) (sym due) (subst (λ (h : Option (List Job)). DoesUnit c flown (reports_of unit.report unit.finished) d (flying_after h flying)) (sym handed) g.done);
   jobs = subst (λ (h : Option (List Job)). HandsJobs h c.heap.shape d.heap.shape) (sym handed) g.words;
@@ -90,10 +97,12 @@ abbrev pub quiet_unit : Unit
 quiet_unit = record { report = None; handed = None; finished = false; due = None }
 
 pub says_quiet : (c : CollectorState) (flown : ℕ → Option Bits) (unit : Unit) (d : CollectorState) (flying : ℕ → Option Bits) → unit ≡ quiet_unit → GoesOn c flown [] d flying → UnitSays c flown unit d flying
-says_quiet c flown unit d flying is g = subst (λ (u : Unit). UnitSays c flown u d flying) (sym is) (says_goes c flown quiet_unit d flying refl refl refl refl g)
+says_quiet c flown unit d flying is g = subst (λ (u : Unit). UnitSays c flown u d flying) (sym is)
+    (says_goes c flown quiet_unit d flying refl refl refl refl g)
 
 pub says_grouping : (c : CollectorState) (flown : ℕ → Option Bits) (e : CollectorState) (f : ℕ → Option Bits) (unit : Unit) (d : CollectorState) → IsStill c flown e f → IsSound e f → IsBlackDone c flown → IsGroupingUnit e unit d → UnitSays c flown unit d f
-says_grouping c flown e f unit d still s black g = says_goes c flown unit d f g.goes_on g.handed g.finished g.due (still_goes c flown e f _ d f still (g.goes f s (still_black_done c flown e f still black)))
+says_grouping c flown e f unit d still s black g = says_goes c flown unit d f g.goes_on g.handed g.finished g.due
+    (still_goes c flown e f _ d f still (g.goes f s (still_black_done c flown e f still black)))
 
 -- the collector stands for what it stood for
 moved : (c : CollectorState) (flown : ℕ → Option Bits) (d : CollectorState) (flying : ℕ → Option Bits) → IsStill c flown d flying → (w : World) → Represents c flown w → Represents d flying w
@@ -182,7 +191,8 @@ module _ (c0 : CollectorState) (f0 : ℕ → Option Bits) (c1 : CollectorState) 
 
   -- where one is out, no group is at its end
   pub one_out : (a : ℕ) → IsLowestOut c4.heap.shape a → IsAtGroupEnd c0 f0 → ⊥
-  one_out a lowest at = not_due ⊥ (out_of c4.heap.shape a) (subst (λ (x : CollectorState). out_of x.heap.shape a ≡ None) (sym all_still.same) (at.1 a)) lowest.out
+  one_out a lowest at = not_due ⊥ (out_of c4.heap.shape a)
+      (subst (λ (x : CollectorState). out_of x.heap.shape a ≡ None) (sym all_still.same) (at.1 a)) lowest.out
 
   pub group_ready : IsSound c0 f0 → IsBlackDone c0 f0 → IsFormed c1 → HasBegun c2 → IsGroupDone c3 f1 → ((a : ℕ) → out_of c4.heap.shape a ≡ None) → HasGroups c4 → (g : ZoneSet) × (rest : List ZoneSet) × IsReady c4 g rest
   group_ready s done formed begun ended kept groups = ready c4 f2 (still_sound c0 f0 c4 f2 all_still s) (four_rest done formed begun ended) kept groups
@@ -205,8 +215,11 @@ module _ (c : CollectorState) (flown : ℕ → Option Bits) (e : CollectorState)
   ended_done (Ok unit) done due = subst (λ (o : Option ℕ). DoneOrDue o c flown unit d f) (sym due) (λ w ok rep. done f w ok (moved c flown e f still w rep))
   ended_done (Err why) done due = tt
 
-  pub ended_sound : {E : Type 0} (r : Result Unit E) → IfOk r (λ (unit : Unit). (g : ℕ → Option Bits) → DoesUnit e g (reports_of unit.report unit.finished) d (flying_after unit.handed g)) → IfOk r (λ (unit : Unit). IsSound d (flying_after unit.handed f))
-  ended_sound (Ok unit) done = unit_sound e d f (flying_after unit.handed f) (reports_of unit.report unit.finished) (done f) s
+  pub ended_sound : {E : Type 0} (r : Result Unit E) → IfOk r
+      (λ (unit : Unit). (g : ℕ → Option Bits) → DoesUnit e g (reports_of unit.report unit.finished) d
+      (flying_after unit.handed g)) → IfOk r (λ (unit : Unit). IsSound d (flying_after unit.handed f))
+  ended_sound (Ok unit) done = unit_sound e d f (flying_after unit.handed f) (reports_of unit.report unit.finished)
+      (done f) s
   ended_sound (Err why) done = tt
 
   pub ended_jobs : {E : Type 0} (r : Result Unit E) → IfOk r (λ (unit : Unit). HandsJobs unit.handed e.heap.shape d.heap.shape) → IfOk r (λ (unit : Unit). HandsJobs unit.handed c.heap.shape d.heap.shape)
@@ -221,22 +234,31 @@ module _ (c : CollectorState) (flown : ℕ → Option Bits) (e : CollectorState)
   ended_left (Ok unit) left due = subst (λ (o : Option ℕ). Lowers o (units_left c flown) (units_left d (flying_after unit.handed f))) (sym due) (let lt = left f s in let same = still_left c flown e f still in omega (arith, lt, same))
   ended_left (Err why) left due = tt
 
-  pub ended_handed : {E : Type 0} (r : Result Unit E) → IfOk r (λ (unit : Unit). AreJobs unit.handed (jobs_at unit.report e.heap)) → IfOk r (λ (unit : Unit). AreJobs unit.handed (jobs_at unit.report c.heap))
-  ended_handed (Ok unit) handed = subst (λ (x : CollectorState). AreJobs unit.handed (jobs_at unit.report x.heap)) still.same handed
+  pub ended_handed : {E : Type 0} (r : Result Unit E) → IfOk r
+      (λ (unit : Unit). AreJobs unit.handed (jobs_at unit.report e.heap)) → IfOk r
+      (λ (unit : Unit). AreJobs unit.handed (jobs_at unit.report c.heap))
+  ended_handed (Ok unit) handed = subst (λ (x : CollectorState). AreJobs unit.handed
+      (jobs_at unit.report x.heap)) still.same handed
   ended_handed (Err why) handed = tt
 
-  coloured_before : (r : Option Report) (colours : List Bits) → EndsColoured r e f colours → EndsColoured r c flown colours
+  coloured_before : (r : Option Report) (colours : List Bits) → EndsColoured r e f colours
+      → EndsColoured r c flown colours
   coloured_before None colours h = tt
   coloured_before (Some (report.Groups groups)) colours h = tt
-  coloured_before (Some (report.Ended zones grays)) colours h = λ w k ok rep is. subst (λ (x : CollectorState). AreColoured (record x.heap { colours = colours }) w.graph k (zones_without k.marking (zones_in zones))) still.same (h w k ok (moved c flown e f still w rep) is)
+  coloured_before (Some (report.Ended zones grays)) colours h = λ w k ok rep is. subst
+      (λ (x : CollectorState). AreColoured (record x.heap { colours = colours }) w.graph k
+      (zones_without k.marking (zones_in zones))) still.same (h w k ok (moved c flown e f still w rep) is)
   coloured_before (Some (report.Swept arena names)) colours h = tt
   coloured_before (Some report.Done) colours h = tt
 
-  pub ended_coloured : {E : Type 0} (r : Result Unit E) → IfOk r (λ (unit : Unit). (g : ℕ → Option Bits) → EndsColoured unit.report e g d.heap.colours) → IfOk r (λ (unit : Unit). EndsColoured unit.report c flown d.heap.colours)
+  pub ended_coloured : {E : Type 0} (r : Result Unit E) → IfOk r
+      (λ (unit : Unit). (g : ℕ → Option Bits) → EndsColoured unit.report e g d.heap.colours) → IfOk r
+      (λ (unit : Unit). EndsColoured unit.report c flown d.heap.colours)
   ended_coloured (Ok unit) coloured = coloured_before unit.report d.heap.colours (coloured f)
   ended_coloured (Err why) coloured = tt
 
-  pub ended_where : {E : Type 0} (r : Result Unit E) → IfOk r (λ (unit : Unit). is_group_end unit.report ≡ true) → IsAtGroupEnd c flown → IfOk r (λ (unit : Unit). (is_group_end unit.report ≡ true) ↔ IsAtGroupEnd c flown)
+  pub ended_where : {E : Type 0} (r : Result Unit E) → IfOk r (λ (unit : Unit). is_group_end unit.report ≡ true)
+      → IsAtGroupEnd c flown → IfOk r (λ (unit : Unit). (is_group_end unit.report ≡ true) ↔ IsAtGroupEnd c flown)
   ended_where (Ok unit) ended at = (λ e. at, λ a. ended)
   ended_where (Err why) ended at = tt
 

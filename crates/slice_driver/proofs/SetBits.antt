@@ -18,7 +18,8 @@ from_first f zero = omega arith
 from_first f (suc n) = let rest = from_first f n in omega (arith, rest)
 
 -- a count split in two, slot by slot
-pub split : (f g h : ℕ → Bool) (n : ℕ) → ((i : ℕ) → i < n → one_if (f i) ≡ one_if (g i) + one_if (h i)) → slots_below f n ≡ slots_below g n + slots_below h n
+pub split : (f g h : ℕ → Bool) (n : ℕ) → ((i : ℕ) → i < n → one_if (f i) ≡ one_if (g i) + one_if (h i))
+    → slots_below f n ≡ slots_below g n + slots_below h n
 unfolding slots_below
 split f g h zero each = omega arith
 split f g h (suc n) each =
@@ -52,7 +53,8 @@ digits (suc d) w =
     let first = from_first (has_bit w) d in
     let low = one_bit (bit_at w 0) (bit_at-lt w 0) ∙ bit_at_lowest w in
     let rest = digits d (w / 2) in
-    let same = same_below (has_bit (w / 2)) (λ i. has_bit w (suc i)) d (λ i lt. ap (λ (b : ℕ). b == 1) (bit_at-suc w i)) in
+    let same = same_below (has_bit (w / 2)) (λ i. has_bit w (suc i)) d
+    (λ i lt. ap (λ (b : ℕ). b == 1) (bit_at-suc w i)) in
     omega (arith, first, low, rest, same)
 
 below_power : (n : ℕ) → n < 2 ^ n
@@ -69,5 +71,6 @@ ones_are_bits w fits =
     let all = digits w w in
     let own = past (has_bit w) w 64 (none_from w w (below_power w)) in
     let whole = past (has_bit w) 64 w (none_from w 64 fits) in
-    let order : slots_below (has_bit w) (64 + w) ≡ slots_below (has_bit w) (w + 64) = ap (slots_below (has_bit w)) (omega arith) in
+    let order : slots_below (has_bit w) (64 + w) ≡ slots_below (has_bit w) (w + 64) = ap (slots_below (has_bit w))
+    (omega arith) in
     all ∙ sym own ∙ order ∙ whole

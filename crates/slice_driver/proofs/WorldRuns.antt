@@ -25,7 +25,8 @@ settled_as : (h : HeapState) (c : CollectorState) (w : World) (r : Option RunSta
 settled_as h c w None None runs rests = refl
 settled_as h c w None (Some k) runs rests = absurd runs
 settled_as h c w (Some r) None runs rests = absurd runs
-settled_as h c w (Some r) (Some k) runs rests = none_in_it k.marking (λ z has. let marks = (runs.marking_are z).0 has in let none = rests z in cc (marks, none))
+settled_as h c w (Some r) (Some k) runs rests = none_in_it k.marking
+    (λ z has. let marks = (runs.marking_are z).0 has in let none = rests z in cc (marks, none))
 
 -- where no zone is marking in the collector, the world is settled
 pub world_settled : (c : CollectorState) (flown : ℕ → Option Bits) (w : World) → Represents c flown w →

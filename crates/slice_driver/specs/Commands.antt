@@ -81,7 +81,8 @@ pub record DoesInWorld (w : World) (c : GraphCmd) (answer : Reply) (new : HeapSt
   pub collection_is : after.collection ≡ waking (woken_by w.graph c) (with_counts w.graph c w.collection)
 
 -- memory was wanted for a command: in no valid world for which the collector stood is it refused, and no cell changed but in its colour; where the command is no `wrap`, there may be more room and nothing else changed, in flight either
-pub record WantsMemory (old : CollectorState) (flown : ℕ → Option Bits) (command : GraphCmd) (new : CollectorState) (flying : ℕ → Option Bits) : Type 0 where
+pub record WantsMemory (old : CollectorState) (flown : ℕ → Option Bits) (command : GraphCmd) (new : CollectorState)
+    (flying : ℕ → Option Bits) : Type 0 where
   pub accepted : (w : World) → IsValid w → Represents old flown w → IsAccepted w.graph command
   pub shape_is : new.heap.shape ≡ old.heap.shape
   pub kept : ((r s : ℕ) (c : CompNo) → command ≡ cmd.Wrap r s c → ⊥) → Widens old new × (flying ≡ flown)

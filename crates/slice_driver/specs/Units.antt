@@ -55,7 +55,8 @@ DoesCommand old flown cmd result new flying = (w : World) → IsValid w → Repr
 
 -- a collection of these zones began in each world that the collector stood for, which is valid after it
 abbrev pub BeginsIn : CollectorState → ℕ → CollectorState → Type 0
-BeginsIn old zones new = (flown : ℕ → Option Bits) (w : World) → IsValid w → Represents old flown w → (v : World) × Begins w (zones_in (record { bits = zones })) v × IsValid v × Represents new flown v
+BeginsIn old zones new = (flown : ℕ → Option Bits) (w : World) → IsValid w → Represents old flown w → (v : World)
+    × Begins w (zones_in (record { bits = zones })) v × IsValid v × Represents new flown v
 
 -- the reports of a unit
 abbrev pub with_done : Bool → List Report
@@ -135,6 +136,8 @@ AreJobs (Some handed) jobs = (handed ≡ jobs) × (jobs ≢ [])
 abbrev pub EndsColoured : Option Report → CollectorState → (ℕ → Option Bits) → List Bits → Type 0
 EndsColoured None c flown colours = ⊤
 EndsColoured (Some (report.Groups groups)) c flown colours = ⊤
-EndsColoured (Some (report.Ended zones grays)) c flown colours = (w : World) (k : Collection) → IsValid w → Represents c flown w → w.collection ≡ Some k → AreColoured (record c.heap { colours = colours }) w.graph k (zones_without k.marking (zones_in zones))
+EndsColoured (Some (report.Ended zones grays)) c flown colours = (w : World) (k : Collection) → IsValid w
+    → Represents c flown w → w.collection ≡ Some k → AreColoured (record c.heap { colours = colours }) w.graph k
+    (zones_without k.marking (zones_in zones))
 EndsColoured (Some (report.Swept arena names)) c flown colours = ⊤
 EndsColoured (Some report.Done) c flown colours = ⊤

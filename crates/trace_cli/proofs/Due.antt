@@ -47,7 +47,9 @@ has_due d jobs rest a taken s low are takes =
     let fit : AreJobsOf d.heap.shape (takes.job ∷ rest) = subst (λ (xs : List Job). AreJobsOf d.heap.shape xs) takes.first are in
     let arena : takes.job.arena ≡ a = due_first d takes.job rest a s.world fit.ascending stands low in
     record {
-      freed = subst (λ (n : ℕ). IsFreedWord d.heap.shape a n) (sym takes.freed) (subst (λ (n : ℕ). IsFreedWord d.heap.shape n (whites_of takes.job)) arena (fit.freed takes.job (first_member takes.job rest)));
+      freed = subst (λ (n : ℕ). IsFreedWord d.heap.shape a n) (sym takes.freed)
+          (subst (λ (n : ℕ). IsFreedWord d.heap.shape n (whites_of takes.job)) arena
+          (fit.freed takes.job (first_member takes.job rest)));
       flies = ap (λ (xs : List Job). flown_by xs a) takes.first ∙ ap (flown_by (takes.job ∷ rest)) (sym arena) ∙ first_flies takes.job rest ∙ ap (λ (b : Bits). Some b) (sym takes.bits);
       left = λ b. ap (λ (xs : List Job). without_arena (flown_by xs) a b) takes.first ∙ without_first takes.job rest a arena fit.ascending b;
     }
@@ -60,11 +62,18 @@ due_does d e jobs rest a taken reports h does w ok r =
     (done.0, done.1, represents_same e (without_arena (flown_by jobs) a) (flown_by rest) done.0 h.left done.2)
 
 -- the collector goes on to stand for a valid world
-pub due_keeps : (d e : CollectorState) (jobs rest : List Job) (a : ℕ) (taken : Taken) → IsSound d (flown_by jobs) → HasDue d jobs rest a taken
-    → ((flown : ℕ → Option Bits) → IsSound d flown → flown a ≡ Some taken.bits → IsSound e (without_arena flown a)) → IsSound e (flown_by rest)
+pub due_keeps : (d e : CollectorState) (jobs rest : List Job) (a : ℕ) (taken : Taken) → IsSound d (flown_by jobs)
+    → HasDue d jobs rest a taken
+    → ((flown : ℕ → Option Bits) → IsSound d flown → flown a ≡ Some taken.bits → IsSound e (without_arena flown a))
+    → IsSound e (flown_by rest)
 due_keeps d e jobs rest a taken s h keeps =
     let after = keeps (flown_by jobs) s h.flies in
-    record { world = after.world; valid = after.valid; represents = represents_same e (without_arena (flown_by jobs) a) (flown_by rest) after.world h.left after.represents }
+    record {
+      world = after.world;
+      valid = after.valid;
+      represents = represents_same e (without_arena (flown_by jobs) a)
+          (flown_by rest) after.world h.left after.represents;
+    }
 
 -- it lowers what is left
 pub due_lowers : (d e : CollectorState) (jobs rest : List Job) (a : ℕ) (taken : Taken) → IsSound d (flown_by jobs) → HasDue d jobs rest a taken
@@ -96,15 +105,25 @@ unit_does c d old jobs left unit done none e =
     let does : DoesUnit c (flown_by old) (reports_of unit.report unit.finished) d (flying_after unit.handed (flown_by jobs)) = subst (λ (o : Option ℕ). DoneOrDue o c (flown_by old) unit d (flown_by jobs)) none done in
     subst (λ (f : ℕ → Option Bits). DoesUnit c (flown_by old) (reports_of unit.report unit.finished) d f) (unit_flies unit jobs left e) does
 
-pub unit_keeps : (d : CollectorState) (jobs left : List Job) (unit : Unit) → IsSound d (flying_after unit.handed (flown_by jobs)) → left ≡ left_after unit.handed jobs → IsSound d (flown_by left)
+pub unit_keeps : (d : CollectorState) (jobs left : List Job) (unit : Unit) → IsSound d
+    (flying_after unit.handed (flown_by jobs)) → left ≡ left_after unit.handed jobs → IsSound d (flown_by left)
 unit_keeps d jobs left unit s e = subst (λ (f : ℕ → Option Bits). IsSound d f) (unit_flies unit jobs left e) s
 
 -- where a unit wanted memory, nothing was done
-pub wanting_keeps : (c d : CollectorState) (old jobs : List Job) → IsStill c (flown_by old) d (flown_by jobs) → IsSound c (flown_by old) → IsSound d (flown_by jobs)
-wanting_keeps c d old jobs still s = record { world = s.world; valid = s.valid; represents = subst (λ (x : CollectorState). Represents x (flown_by jobs) s.world) (sym still.same) (still.worlds s.world s.represents) }
+pub wanting_keeps : (c d : CollectorState) (old jobs : List Job) → IsStill c (flown_by old) d (flown_by jobs)
+    → IsSound c (flown_by old) → IsSound d (flown_by jobs)
+wanting_keeps c d old jobs still s = record {
+  world = s.world;
+  valid = s.valid;
+  represents = subst
+      (λ (x : CollectorState). Represents x (flown_by jobs) s.world) (sym still.same)
+      (still.worlds s.world s.represents);
+}
 
-pub wanting_jobs : (c d : CollectorState) (old jobs : List Job) → d ≡ c → origin_of jobs ≡ origin_of old → AreJobsOf c.heap.shape old → AreJobsOf d.heap.shape jobs
-wanting_jobs c d old jobs same origin are = subst (λ (x : CollectorState). AreJobsOf x.heap.shape jobs) (sym same) (jobs_kept c.heap.shape c.heap.shape old jobs (λ a freed is. is) origin are)
+pub wanting_jobs : (c d : CollectorState) (old jobs : List Job) → d ≡ c → origin_of jobs ≡ origin_of old
+    → AreJobsOf c.heap.shape old → AreJobsOf d.heap.shape jobs
+wanting_jobs c d old jobs same origin are = subst (λ (x : CollectorState). AreJobsOf x.heap.shape jobs) (sym same)
+    (jobs_kept c.heap.shape c.heap.shape old jobs (λ a freed is. is) origin are)
 
 pub unit_lowers : (c d : CollectorState) (old jobs left : List Job) (unit : Unit) → Lowers unit.due (units_left c (flown_by old)) (units_left d (flying_after unit.handed (flown_by jobs))) → unit.due ≡ None → left ≡ left_after unit.handed jobs → units_left d (flown_by left) < units_left c (flown_by old)
 unit_lowers c d old jobs left unit lowers none e =
@@ -132,8 +151,13 @@ due_jobs s t old jobs unit a origin are hands none some = unit_jobs s t old jobs
 -- what is lowered as the arena comes in was not raised before
 pub due_lower : (c d : CollectorState) (old jobs : List Job) (unit : Unit) (a n : ℕ)
     → Lowers unit.due (units_left c (flown_by old)) (units_left d (flying_after unit.handed (flown_by jobs)))
-    → unit.due ≡ Some a → (IsSome unit.due → unit.handed ≡ None) → n < units_left d (flown_by jobs) → n < units_left c (flown_by old)
+    → unit.due ≡ Some a → (IsSome unit.due → unit.handed ≡ None) → n < units_left d (flown_by jobs) → n < units_left c
+    (flown_by old)
 due_lower c d old jobs unit a n lowers some none less =
-    let most : units_left d (flying_after unit.handed (flown_by jobs)) ≤ units_left c (flown_by old) = subst (λ (o : Option ℕ). Lowers o (units_left c (flown_by old)) (units_left d (flying_after unit.handed (flown_by jobs)))) some lowers in
-    let here : units_left d (flown_by jobs) ≤ units_left c (flown_by old) = subst (λ (h : Option (List Job)). units_left d (flying_after h (flown_by jobs)) ≤ units_left c (flown_by old)) (due_hands_none unit a none some) most in
+    let most : units_left d (flying_after unit.handed (flown_by jobs)) ≤ units_left c (flown_by old) = subst
+    (λ (o : Option ℕ). Lowers o (units_left c (flown_by old))
+    (units_left d (flying_after unit.handed (flown_by jobs)))) some lowers in
+    let here : units_left d (flown_by jobs) ≤ units_left c (flown_by old) = subst
+    (λ (h : Option (List Job)). units_left d (flying_after h (flown_by jobs)) ≤ units_left c (flown_by old))
+    (due_hands_none unit a none some) most in
     omega (arith, here, less)

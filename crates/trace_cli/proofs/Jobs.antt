@@ -69,7 +69,13 @@ origin_has (j ∷ xs) [] x e c = absurd (cc e)
 origin_has (j ∷ xs) (k ∷ ys) x e c =
     let first : freed_job j ≡ freed_job k = cc e in
     let rest : origin_of xs ≡ origin_of ys = cc e in elim (member_cases j xs x c) [
-      | inl same ↦ (k, first_member k ys, ap (λ (t : Job). t.arena) (sym first) ∙ ap (λ (t : Job). t.arena) same, ap (λ (t : Job). t.alloc_word) (sym first) ∙ ap whites_of same)
+      | inl same ↦ (
+        k,
+        first_member k ys,
+        ap (λ (t : Job). t.arena) (sym first) ∙ ap (λ (t : Job). t.arena) same,
+        ap
+            (λ (t : Job). t.alloc_word) (sym first) ∙ ap whites_of same,
+      )
       | inr t ↦ let r = origin_has xs ys x rest t in (r.0, later_member k ys r.0 r.1, r.2, r.3)
     ]
 
@@ -99,7 +105,8 @@ jobs_none s = record { ascending = tt; freed = λ x c. absurd (none_in_none x c)
 pub none_jobs : (jobs : List Job) → flown_by jobs ≡ none_flown → jobs ≡ []
 none_jobs [] e = refl
 none_jobs (job ∷ jobs) e =
-    let here : flown_by (job ∷ jobs) job.arena ≡ Some job.bits = ap (λ (b : Bool). cond b (Some job.bits) (flown_by jobs job.arena)) (eq-eqb job.arena job.arena refl) in
+    let here : flown_by (job ∷ jobs) job.arena ≡ Some job.bits = ap
+    (λ (b : Bool). cond b (Some job.bits) (flown_by jobs job.arena)) (eq-eqb job.arena job.arena refl) in
     let none : flown_by (job ∷ jobs) job.arena ≡ None = ap (λ (f : ℕ → Option Bits). f job.arena) e in
     absurd (cc (here, none))
 

@@ -42,7 +42,8 @@ lies_spent h w n l = record {
   white_are = l.white_are;
 }
 
-runs_spent : (h : HeapState) (c : CollectorState) (w : World) (n : ℕ) (o : Option RunState) (u : Option Collection) → RunsAs h c w o u → RunsAs h c (spent n w) o (with_spent n u)
+runs_spent : (h : HeapState) (c : CollectorState) (w : World) (n : ℕ) (o : Option RunState) (u : Option Collection)
+    → RunsAs h c w o u → RunsAs h c (spent n w) o (with_spent n u)
 runs_spent h c w n None None i = i
 runs_spent h c w n None (Some k) i = i
 runs_spent h c w n (Some r) None i = i
@@ -51,12 +52,39 @@ runs_spent h c w n (Some r) (Some k) i = record {
   marking_are = i.marking_are;
   groups_are = i.groups_are;
   states = i.states;
-  tied = λ z has. (let t = i.tied z has in record { black = t.black; live = t.live; present = t.present; edges_then = t.edges_then; entries_then = t.entries_then; grown = t.grown; formed = t.formed });
-  early = λ unformed. (let l = i.early unformed in record { zones_are = l.zones_are; first = λ a b e. (let f = l.first a b e in (f.0, f.1, f.2, f.3, f.4, record { present = f.5.present; of = f.5.of; into = f.5.into; outside = f.5.outside })); looked = l.looked; left_black = l.left_black });
+  tied = λ z has. (let t = i.tied z has in record {
+    black = t.black;
+    live = t.live;
+    present = t.present;
+    edges_then = t.edges_then;
+    entries_then = t.entries_then;
+    grown = t.grown;
+    formed = t.formed;
+  });
+  early = λ unformed. (let l = i.early unformed in record {
+    zones_are = l.zones_are;
+    first = λ a b e.
+        (let f = l.first a b e in (
+          f.0,
+          f.1,
+          f.2,
+          f.3,
+          f.4,
+          record {
+            present = f.5.present;
+            of = f.5.of;
+            into = f.5.into;
+            outside = f.5.outside;
+          },
+        ));
+    looked = l.looked;
+    left_black = l.left_black;
+  });
   late = i.late;
 }
 
-represents_spent : (c : CollectorState) (f : ℕ → Option Bits) (w : World) (n : ℕ) → Represents c f w → Represents c f (spent n w)
+represents_spent : (c : CollectorState) (f : ℕ → Option Bits) (w : World) (n : ℕ) → Represents c f w → Represents c f
+    (spent n w)
 represents_spent c f w n r = record {
   lies = lies_spent c.heap w n r.lies;
   unswept_apart = r.unswept_apart;
@@ -69,12 +97,22 @@ represents_spent c f w n r = record {
 }
 
 -- units of a collection that ran, in a slice
-module _ (c d : CollectorState) (jobs left : List Job) (budget n : ℕ) (runs : IsSome c.run) (most : n ≤ budget) (over : n < budget → d.run ≡ None) (w : World) (stands : Represents c (flown_by jobs) w) (p q r : Option (List ℕ)) (h : WritesUnits w d (flown_by left) n p q) where
+module _ (c d : CollectorState) (jobs left : List Job) (budget n : ℕ) (runs : IsSome c.run) (most : n ≤ budget)
+    (over : n < budget → d.run ≡ None) (w : World) (stands : Represents c (flown_by jobs) w) (p q r : Option (List ℕ))
+    (h : WritesUnits w d (flown_by left) n p q) where
   abbrev after : World
   after = spent n h.after
 
   slices : Slices w (reports_in h.units) n after
-  slices = record { running = running_world c (flown_by jobs) w stands runs; units = h.units; after = h.after; done = h.done; number = h.number; reports_are = refl; world_is = refl }
+  slices = record {
+    running = running_world c (flown_by jobs) w stands runs;
+    units = h.units;
+    after = h.after;
+    done = h.done;
+    number = h.number;
+    reports_are = refl;
+    world_is = refl;
+  }
 
   none_left : n < budget → after.collection ≡ None
   none_left less = ap (with_spent n) (idle_world d (flown_by left) h.after h.represents (over less))
@@ -86,44 +124,73 @@ module _ (c d : CollectorState) (jobs left : List Job) (budget n : ℕ) (runs : 
     after = after;
     represents = represents_spent d (flown_by left) h.after n h.represents;
     answers = inl (n, refl, slices, most, none_left);
-    written = both_written p q r (report_lines (reports_in h.units)) (line_of (reply_text (reply.Sliced n))) _ refl h.written written;
+    written = both_written p q r (report_lines (reports_in h.units))
+        (line_of (reply_text (reply.Sliced n))) _ refl h.written written;
   }
 
   slice_broken : AppendsFront q r (line_of (reply_text (reply.Sliced n))) → WritesFront w (command.Slice budget) p r
   slice_broken written = record {
     text = answer_lines (reports_in h.units, reply.Sliced n);
     answers = inl (reports_in h.units, reply.Sliced n, after, inl (n, refl, slices, most, none_left), refl);
-    written = then_front_written p q r (report_lines (reports_in h.units)) (line_of (reply_text (reply.Sliced n))) _ refl h.written written;
+    written = then_front_written p q r (report_lines (reports_in h.units))
+        (line_of (reply_text (reply.Sliced n))) _ refl h.written written;
   }
 
   -- the same where all that was left was done
-  finish_written : d.run ≡ None → Appends q r (line_of (reply_text (reply.Sliced n))) → WritesAnswer w command.Finish d left p r
+  finish_written : d.run ≡ None → Appends q r (line_of (reply_text (reply.Sliced n)))
+      → WritesAnswer w command.Finish d left p r
   finish_written idle written = record {
     reports = reports_in h.units;
     answer = reply.Sliced n;
     after = after;
     represents = represents_spent d (flown_by left) h.after n h.represents;
     answers = inl (n, refl, slices, ap (with_spent n) (idle_world d (flown_by left) h.after h.represents idle));
-    written = both_written p q r (report_lines (reports_in h.units)) (line_of (reply_text (reply.Sliced n))) _ refl h.written written;
+    written = both_written p q r (report_lines (reports_in h.units))
+        (line_of (reply_text (reply.Sliced n))) _ refl h.written written;
   }
 
-  finish_broken : d.run ≡ None → AppendsFront q r (line_of (reply_text (reply.Sliced n))) → WritesFront w command.Finish p r
+  finish_broken : d.run ≡ None → AppendsFront q r (line_of (reply_text (reply.Sliced n)))
+      → WritesFront w command.Finish p r
   finish_broken idle written = record {
     text = answer_lines (reports_in h.units, reply.Sliced n);
-    answers = inl (reports_in h.units, reply.Sliced n, after, inl (n, refl, slices, ap (with_spent n) (idle_world d (flown_by left) h.after h.represents idle)), refl);
-    written = then_front_written p q r (report_lines (reports_in h.units)) (line_of (reply_text (reply.Sliced n))) _ refl h.written written;
+    answers = inl (
+      reports_in h.units,
+      reply.Sliced n,
+      after,
+      inl
+          (n, refl, slices, ap (with_spent n) (idle_world d (flown_by left) h.after h.represents idle)),
+      refl,
+    );
+    written = then_front_written p q r (report_lines (reports_in h.units))
+        (line_of (reply_text (reply.Sliced n))) _ refl h.written written;
   }
 
-pub finish_writes : (c d : CollectorState) (jobs left : List Job) (n : ℕ) (p q r : Option (List ℕ)) → IsSome c.run → d.run ≡ None → ((w : World) → IsValid w → Represents c (flown_by jobs) w → WritesUnits w d (flown_by left) n p q) → Appends q r (line_of (reply_text (reply.Sliced n))) → (w : World) → IsValid w → Represents c (flown_by jobs) w → WritesAnswer w command.Finish d left p r
-finish_writes c d jobs left n p q r runs over does written w ok stands = finish_written c d jobs left n n runs (omega arith) (λ less. over) w stands p q r (does w ok stands) over written
+pub finish_writes : (c d : CollectorState) (jobs left : List Job) (n : ℕ) (p q r : Option (List ℕ)) → IsSome c.run
+    → d.run ≡ None → ((w : World) → IsValid w → Represents c (flown_by jobs) w → WritesUnits w d (flown_by left) n p q)
+    → Appends q r (line_of (reply_text (reply.Sliced n))) → (w : World) → IsValid w → Represents c (flown_by jobs) w
+    → WritesAnswer w command.Finish d left p r
+finish_writes c d jobs left n p q r runs over does written w ok stands = finish_written c d jobs left n n runs
+    (omega arith) (λ less. over) w stands p q r (does w ok stands) over written
 
-pub finish_breaks : (c d : CollectorState) (jobs left : List Job) (n : ℕ) (p q r : Option (List ℕ)) → IsSome c.run → d.run ≡ None → ((w : World) → IsValid w → Represents c (flown_by jobs) w → WritesUnits w d (flown_by left) n p q) → AppendsFront q r (line_of (reply_text (reply.Sliced n))) → (w : World) → IsValid w → Represents c (flown_by jobs) w → WritesFront w command.Finish p r
-finish_breaks c d jobs left n p q r runs over does written w ok stands = finish_broken c d jobs left n n runs (omega arith) (λ less. over) w stands p q r (does w ok stands) over written
+pub finish_breaks : (c d : CollectorState) (jobs left : List Job) (n : ℕ) (p q r : Option (List ℕ)) → IsSome c.run
+    → d.run ≡ None → ((w : World) → IsValid w → Represents c (flown_by jobs) w → WritesUnits w d (flown_by left) n p q)
+    → AppendsFront q r (line_of (reply_text (reply.Sliced n))) → (w : World) → IsValid w → Represents c
+    (flown_by jobs) w → WritesFront w command.Finish p r
+finish_breaks c d jobs left n p q r runs over does written w ok stands = finish_broken c d jobs left n n runs
+    (omega arith) (λ less. over) w stands p q r (does w ok stands) over written
 
-pub slice_writes : (c d : CollectorState) (jobs left : List Job) (budget n : ℕ) (p q r : Option (List ℕ)) → IsSome c.run → n ≤ budget → (n < budget → d.run ≡ None) → ((w : World) → IsValid w → Represents c (flown_by jobs) w → WritesUnits w d (flown_by left) n p q) → Appends q r (line_of (reply_text (reply.Sliced n))) → (w : World) → IsValid w → Represents c (flown_by jobs) w → WritesAnswer w (command.Slice budget) d left p r
+pub slice_writes : (c d : CollectorState) (jobs left : List Job) (budget n : ℕ) (p q r : Option (List ℕ))
+    → IsSome c.run → n ≤ budget → (n < budget → d.run ≡ None) →
+    ((w : World) → IsValid w → Represents c (flown_by jobs) w → WritesUnits w d (flown_by left) n p q) → Appends q r
+    (line_of (reply_text (reply.Sliced n))) → (w : World) → IsValid w → Represents c (flown_by jobs) w → WritesAnswer w
+    (command.Slice budget) d left p r
 slice_writes c d jobs left budget n p q r runs most over does written w ok stands = slice_written c d jobs left budget n runs most over w stands p q r (does w ok stands) written
 
-pub slice_breaks : (c d : CollectorState) (jobs left : List Job) (budget n : ℕ) (p q r : Option (List ℕ)) → IsSome c.run → n ≤ budget → (n < budget → d.run ≡ None) → ((w : World) → IsValid w → Represents c (flown_by jobs) w → WritesUnits w d (flown_by left) n p q) → AppendsFront q r (line_of (reply_text (reply.Sliced n))) → (w : World) → IsValid w → Represents c (flown_by jobs) w → WritesFront w (command.Slice budget) p r
+pub slice_breaks : (c d : CollectorState) (jobs left : List Job) (budget n : ℕ) (p q r : Option (List ℕ))
+    → IsSome c.run → n ≤ budget → (n < budget → d.run ≡ None) →
+    ((w : World) → IsValid w → Represents c (flown_by jobs) w → WritesUnits w d (flown_by left) n p q)
+    → AppendsFront q r (line_of (reply_text (reply.Sliced n))) → (w : World) → IsValid w → Represents c
+    (flown_by jobs) w → WritesFront w (command.Slice budget) p r
 slice_breaks c d jobs left budget n p q r runs most over does written w ok stands = slice_broken c d jobs left budget n runs most over w stands p q r (does w ok stands) written
 
 -- one that stopped or broke off among its units
@@ -135,38 +202,96 @@ finish_accepted : (w : World) → IsRunning w → IsAccepted w command.Finish
 finish_accepted w running reports why v (inl h) = cc h.1
 finish_accepted w running reports why v (inr h) = let idle = h.1 in let some = running.1 in cc (idle, some)
 
-pub units_stop : (w : World) (budget : ℕ) (p q : Option (List ℕ)) → IsRunning w → StopsInUnits w budget p q → WritesStart w (command.Slice budget) p q
-units_stop w budget p q running h = record { accepted = slice_accepted w budget running; reports = reports_in h.units; starts = (h.units, h.most, record { after = h.after; done = h.done; reports_are = refl }); written = h.written }
+pub units_stop : (w : World) (budget : ℕ) (p q : Option (List ℕ)) → IsRunning w → StopsInUnits w budget p q
+    → WritesStart w (command.Slice budget) p q
+units_stop w budget p q running h = record {
+  accepted = slice_accepted w budget running;
+  reports = reports_in h.units;
+  starts = (h.units, h.most, record { after = h.after; done = h.done; reports_are = refl });
+  written = h.written;
+}
 
-pub units_break : (w : World) (budget : ℕ) (p q : Option (List ℕ)) → BreaksInUnits w budget p q → WritesFront w (command.Slice budget) p q
-units_break w budget p q h = record { text = report_lines (reports_in h.units); answers = inr (reports_in h.units, (h.units, h.most, record { after = h.after; done = h.done; reports_are = refl }), refl); written = h.written }
+pub units_break : (w : World) (budget : ℕ) (p q : Option (List ℕ)) → BreaksInUnits w budget p q → WritesFront w
+    (command.Slice budget) p q
+units_break w budget p q h = record {
+  text = report_lines (reports_in h.units);
+  answers = inr
+      (reports_in h.units, (h.units, h.most, record { after = h.after; done = h.done; reports_are = refl }), refl);
+  written = h.written;
+}
 
-pub rest_stops : (w : World) (p q : Option (List ℕ)) → IsRunning w → (n : ℕ) × StopsInUnits w n p q → WritesStart w command.Finish p q
-rest_stops w p q running (n, h) = record { accepted = finish_accepted w running; reports = reports_in h.units; starts = (h.units, record { after = h.after; done = h.done; reports_are = refl }); written = h.written }
+pub rest_stops : (w : World) (p q : Option (List ℕ)) → IsRunning w → (n : ℕ) × StopsInUnits w n p q
+    → WritesStart w command.Finish p q
+rest_stops w p q running (n, h) = record {
+  accepted = finish_accepted w running;
+  reports = reports_in h.units;
+  starts =
+      (h.units, record { after = h.after; done = h.done; reports_are = refl });
+  written = h.written;
+}
 
-pub rest_breaks : (w : World) (p q : Option (List ℕ)) → (n : ℕ) × BreaksInUnits w n p q → WritesFront w command.Finish p q
-rest_breaks w p q (n, h) = record { text = report_lines (reports_in h.units); answers = inr (reports_in h.units, (h.units, record { after = h.after; done = h.done; reports_are = refl }), refl); written = h.written }
+pub rest_breaks : (w : World) (p q : Option (List ℕ)) → (n : ℕ) × BreaksInUnits w n p q
+    → WritesFront w command.Finish p q
+rest_breaks w p q (n, h) = record {
+  text = report_lines (reports_in h.units);
+  answers = inr
+      (reports_in h.units, (h.units, record { after = h.after; done = h.done; reports_are = refl }), refl);
+  written = h.written;
+}
 
 -- no collection runs
-refuses_idle : (c : CollectorState) (f : ℕ → Option Bits) (w : World) → Represents c f w → c.run ≡ None → RefusesIdle w [] (reply.Refused refusal.Idle) w
+refuses_idle : (c : CollectorState) (f : ℕ → Option Bits) (w : World) → Represents c f w → c.run ≡ None
+    → RefusesIdle w [] (reply.Refused refusal.Idle) w
 refuses_idle c f w stands idle = (refl, idle_world c f w stands idle, record { silent = refl; same = refl })
 
 -- `slice` and `finish` are refused alike
 abbrev pub Goings : Cmd → Type 0
-Goings cmd = (w : World) → RefusesIdle w [] (reply.Refused refusal.Idle) w → Answers w cmd [] (reply.Refused refusal.Idle) w
+Goings cmd = (w : World) → RefusesIdle w [] (reply.Refused refusal.Idle) w → Answers w cmd []
+    (reply.Refused refusal.Idle) w
 
-pub idle_writes : (c : CollectorState) (jobs : List Job) (cmd : Cmd) (p q : Option (List ℕ)) → Goings cmd → c.run ≡ None → Appends p q (line_of (reply_text (reply.Refused refusal.Idle))) → (w : World) → IsValid w → Represents c (flown_by jobs) w → WritesAnswer w cmd c jobs p q
-idle_writes c jobs cmd p q goes idle written w ok stands = record { reports = []; answer = reply.Refused refusal.Idle; after = w; represents = stands; answers = goes w (refuses_idle c (flown_by jobs) w stands idle); written = written }
+pub idle_writes : (c : CollectorState) (jobs : List Job) (cmd : Cmd) (p q : Option (List ℕ)) → Goings cmd
+    → c.run ≡ None → Appends p q (line_of (reply_text (reply.Refused refusal.Idle))) → (w : World) → IsValid w
+    → Represents c (flown_by jobs) w → WritesAnswer w cmd c jobs p q
+idle_writes c jobs cmd p q goes idle written w ok stands = record {
+  reports = [];
+  answer = reply.Refused refusal.Idle;
+  after = w;
+  represents = stands;
+  answers = goes w (refuses_idle c (flown_by jobs) w stands idle);
+  written = written;
+}
 
-pub idle_breaks : (c : CollectorState) (jobs : List Job) (cmd : Cmd) (p q : Option (List ℕ)) → Goings cmd → c.run ≡ None → AppendsFront p q (line_of (reply_text (reply.Refused refusal.Idle))) → (w : World) → IsValid w → Represents c (flown_by jobs) w → WritesFront w cmd p q
-idle_breaks c jobs cmd p q goes idle written w ok stands = record { text = answer_lines ([], reply.Refused refusal.Idle); answers = inl ([], reply.Refused refusal.Idle, w, goes w (refuses_idle c (flown_by jobs) w stands idle), refl); written = written }
+pub idle_breaks : (c : CollectorState) (jobs : List Job) (cmd : Cmd) (p q : Option (List ℕ)) → Goings cmd
+    → c.run ≡ None → AppendsFront p q (line_of (reply_text (reply.Refused refusal.Idle))) → (w : World) → IsValid w
+    → Represents c (flown_by jobs) w → WritesFront w cmd p q
+idle_breaks c jobs cmd p q goes idle written w ok stands = record {
+  text = answer_lines
+      ([], reply.Refused refusal.Idle);
+  answers = inl
+      ([], reply.Refused refusal.Idle, w, goes w (refuses_idle c (flown_by jobs) w stands idle), refl);
+  written = written;
+}
 
 -- fewer units are at most as many
 pub stops_within : (w : World) (n m : ℕ) (p q : Option (List ℕ)) → n ≤ m → StopsInUnits w n p q → StopsInUnits w m p q
-stops_within w n m p q le h = record { units = h.units; most = omega (arith, h.most, le); after = h.after; done = h.done; written = h.written }
+stops_within w n m p q le h = record {
+  units = h.units;
+  most = omega (arith, h.most, le);
+  after = h.after;
+  done = h.done;
+  written = h.written;
+}
 
-pub breaks_within : (w : World) (n m : ℕ) (p q : Option (List ℕ)) → n ≤ m → BreaksInUnits w n p q → BreaksInUnits w m p q
-breaks_within w n m p q le h = record { units = h.units; most = omega (arith, h.most, le); after = h.after; done = h.done; written = h.written }
+pub breaks_within : (w : World) (n m : ℕ) (p q : Option (List ℕ)) → n ≤ m → BreaksInUnits w n p q
+    → BreaksInUnits w m p q
+breaks_within w n m p q le h = record {
+  units = h.units;
+  most = omega (arith, h.most, le);
+  after = h.after;
+  done = h.done;
+  written = h.written;
+}
 
-pub as_many : (w : World) (c : CollectorState) (f : ℕ → Option Bits) (n m : ℕ) (p q : Option (List ℕ)) → n ≡ m → WritesUnits w c f n p q → WritesUnits w c f m p q
+pub as_many : (w : World) (c : CollectorState) (f : ℕ → Option Bits) (n m : ℕ) (p q : Option (List ℕ)) → n ≡ m
+    → WritesUnits w c f n p q → WritesUnits w c f m p q
 as_many w c f n m p q e h = subst (λ (k : ℕ). WritesUnits w c f k p q) e h

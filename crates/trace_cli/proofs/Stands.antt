@@ -81,24 +81,34 @@ pub record Left (c : CollectorState) (jobs : List Job) : Type 0 where
 pub opened_left : {c : CollectorState} {jobs : List Job} → IsLeft c jobs → Left c jobs
 opened_left (facts.left sound fit) = record { sound = sound; fit = fit }
 
-pub record Answered (line : List ℕ) (old : CollectorState) (jobs : List Job) (n : ℕ) (new : CollectorState) (left : List Job) (p q : Option (List ℕ)) : Type 0 where
+pub record Answered (line : List ℕ) (old : CollectorState) (jobs : List Job) (n : ℕ) (new : CollectorState)
+    (left : List Job) (p q : Option (List ℕ)) : Type 0 where
   pub command : Cmd
   pub stands : StandsFor line command
   pub writes : (w : World) → IsValid w → Represents old (flown_by jobs) w → WritesAnswer w command new left p q
   pub fit : AreJobsOf new.heap.shape left
   pub within : IsWithin new (n + 1)
 
-pub opened_answer : {line : List ℕ} {old new : CollectorState} {jobs left : List Job} {n : ℕ} {p q : Option (List ℕ)} → AnswersLine line old jobs n new left p q → Answered line old jobs n new left p q
-opened_answer (answers command stands writes fit within) = record { command = command; stands = stands; writes = writes; fit = fit; within = within }
+pub opened_answer : {line : List ℕ} {old new : CollectorState} {jobs left : List Job} {n : ℕ} {p q : Option (List ℕ)}
+    → AnswersLine line old jobs n new left p q → Answered line old jobs n new left p q
+opened_answer (answers command stands writes fit within) = record {
+  command = command;
+  stands = stands;
+  writes = writes;
+  fit = fit;
+  within = within;
+}
 
 -- the same, as one fact
 pub data Standing (left rest old new : Option (List ℕ)) (n : ℕ) (c : CollectorState) (jobs : List Job) : Type 0 where
   standing : StandsIn left rest old new n c jobs → Standing left rest old new n c jobs
 
-pub opened : {left rest old new : Option (List ℕ)} {n : ℕ} {c : CollectorState} {jobs : List Job} → Standing left rest old new n c jobs → StandsIn left rest old new n c jobs
+pub opened : {left rest old new : Option (List ℕ)} {n : ℕ} {c : CollectorState} {jobs : List Job}
+    → Standing left rest old new n c jobs → StandsIn left rest old new n c jobs
 opened (standing s) = s
 
-pub left_standing : {left rest old new : Option (List ℕ)} {n : ℕ} {c : CollectorState} {jobs : List Job} → Standing left rest old new n c jobs → IsLeft c jobs
+pub left_standing : {left rest old new : Option (List ℕ)} {n : ℕ} {c : CollectorState} {jobs : List Job}
+    → Standing left rest old new n c jobs → IsLeft c jobs
 left_standing (standing s) = facts.left (record { world = s.world; valid = s.valid; represents = s.represents }) s.fit
 
 pub stands_first : (left written : Option (List ℕ)) (held : List ℕ) → held ≡ [] → Stands left (prepend_known held left) written written 0 first_world
@@ -154,7 +164,9 @@ line_bytes : (xs ys line : List ℕ) → IsPlain line → EndsLine xs ys line �
 line_bytes xs ys line p (inl e) = (line ++ 10 ∷ [], e ∙ sym (append_assoc line (10 ∷ []) ys), omega (arith, line_feeds-append line (10 ∷ []), line_feeds-plain line p))
 line_bytes xs ys line p (inr e) = (line, e.0 ∙ sym (append-nil line) ∙ ap (λ (t : List ℕ). line ++ t) (sym e.2), omega (arith, line_feeds-plain line p))
 
-reached_more : (i xs ys : List ℕ) (p q r : Option (List ℕ)) (n : ℕ) (line : List ℕ) (w : World) (c : Cmd) (k : CollectorState) (jobs : List Job) → Reached i xs p q n w → IsPlain line → EndsLine xs ys line → StandsFor line c → (a : WritesAnswer w c k jobs q r) → Reached i ys p r (n + 1) a.after
+reached_more : (i xs ys : List ℕ) (p q r : Option (List ℕ)) (n : ℕ) (line : List ℕ) (w : World) (c : Cmd)
+    (k : CollectorState) (jobs : List Job) → Reached i xs p q n w → IsPlain line → EndsLine xs ys line
+    → StandsFor line c → (a : WritesAnswer w c k jobs q r) → Reached i ys p r (n + 1) a.after
 reached_more i xs ys p q r n line w c k jobs h plain ends s a =
     let b = line_bytes xs ys line plain ends in
     record {
@@ -169,11 +181,14 @@ reached_more i xs ys p q r n line w c k jobs h plain ends s a =
       whole = omega (arith, line_feeds-append h.text b.0, h.whole, b.2);
     }
 
-pub stands_more : (a b c p q r : Option (List ℕ)) (n m : ℕ) (line : List ℕ) (w : World) (d : Cmd) (k : CollectorState) (jobs : List Job) → Stands a b p q n w → GivesKnown b c (next.Line m) line → StandsFor line d → (e : WritesAnswer w d k jobs q r) → Stands a c p r (n + 1) e.after
+pub stands_more : (a b c p q r : Option (List ℕ)) (n m : ℕ) (line : List ℕ) (w : World) (d : Cmd) (k : CollectorState)
+    (jobs : List Job) → Stands a b p q n w → GivesKnown b c (next.Line m) line → StandsFor line d →
+    (e : WritesAnswer w d k jobs q r) → Stands a c p r (n + 1) e.after
 stands_more None b c p q r n m line w d k jobs h t s e = tt
 stands_more (Some i) None c p q r n m line w d k jobs h t s e = absurd h
 stands_more (Some i) (Some xs) None p q r n m line w d k jobs h t s e = absurd t
-stands_more (Some i) (Some xs) (Some ys) p q r n m line w d k jobs h t s e = reached_more i xs ys p q r n line w d k jobs h t.2 t.3 s e
+stands_more (Some i) (Some xs)
+    (Some ys) p q r n m line w d k jobs h t s e = reached_more i xs ys p q r n line w d k jobs h t.2 t.3 s e
 
 seam : (done : List (List ℕ)) (line : List ℕ) (rest : List (List ℕ)) → slice_get (done ++ (line ∷ rest)) (length done) ≡ Some line
 seam [] line rest = refl
@@ -231,7 +246,8 @@ ends_memory None l p q r held n w h k = tt
 ends_memory (Some i) None p q r held n w h k = absurd h
 ends_memory (Some i) (Some ys) p q r held n w h k = (h.output, wrote_more i (held ++ ys) p q r n w h k, (n, h.output, [], w, sym (append-nil h.output), first_n i (held ++ ys) p q n w h, inl refl))
 
-gives_line : AreFine → (xs ys line : List ℕ) (res : Next) → Gives xs ys res line → res ≢ next.End → res ≢ next.ReadFault → (l : List ℕ) × (more : List (List ℕ)) × (lines_of xs ≡ l ∷ more)
+gives_line : AreFine → (xs ys line : List ℕ) (res : Next) → Gives xs ys res line → res ≢ next.End
+    → res ≢ next.ReadFault → (l : List ℕ) × (more : List (List ℕ)) × (lines_of xs ≡ l ∷ more)
 gives_line fine xs ys line (next.Line m) g e f = (line, lines_of ys, line_given xs ys line g.2 g.3)
 gives_line fine xs ys line next.End g e f = absurd (e refl)
 gives_line fine xs ys line next.TooLong g e f = let b = too_long_bad fine xs g.1 in (b.0, b.1, b.2)
@@ -241,7 +257,9 @@ gives_line fine xs ys line next.ReadFault g e f = absurd (f refl)
 many : (i xs : List ℕ) (p q : Option (List ℕ)) (n : ℕ) (w : World) (l : List ℕ) (more : List (List ℕ)) (h : Reached i xs p q n w) → n ≡ 4294967295 → lines_of xs ≡ l ∷ more → 4294967295 < length (lines_of i)
 many i xs p q n w l more h e m = let s : length (lines_of i) ≡ length (h.done ++ (l ∷ more)) = ap length (h.lines ∙ ap (λ (u : List (List ℕ)). h.done ++ u) m) in omega (arith, s, length-append h.done (l ∷ more), h.count, e)
 
-pub many_after : AreFine → (a b l p q r : Option (List ℕ)) (held line : List ℕ) (res : Next) (n : ℕ) (w : World) → Stands a b p q n w → GivesKnown b (prepend_known held l) res line → res ≢ next.End → res ≢ next.ReadFault → n ≡ 4294967295 → Appends q r [] → Replays a l p r exit.TooManyLines
+pub many_after : AreFine → (a b l p q r : Option (List ℕ)) (held line : List ℕ) (res : Next) (n : ℕ) (w : World)
+    → Stands a b p q n w → GivesKnown b (prepend_known held l) res line → res ≢ next.End → res ≢ next.ReadFault
+    → n ≡ 4294967295 → Appends q r [] → Replays a l p r exit.TooManyLines
 many_after fine None b l p q r held line res n w h t x y e k = tt
 many_after fine (Some i) None l p q r held line res n w h t x y e k = absurd h
 many_after fine (Some i) (Some xs) None p q r held line res n w h t x y e k = absurd t
@@ -249,7 +267,9 @@ many_after fine (Some i) (Some xs) (Some ys) p q r held line res n w h t x y e k
     let g = gives_line fine xs (held ++ ys) line res t x y in
     (h.output, wrote_more i xs p q r n w h k, (many i xs p q n w g.0 g.1 h e g.2, (w, subst (λ (m : ℕ). LeadsTo (take m (lines_of i)) h.output w) e (first_n i xs p q n w h))))
 
-pub too_long_after : AreFine → (a b l p q r : Option (List ℕ)) (held line : List ℕ) (n : ℕ) (w : World) → n < 4294967295 → Stands a b p q n w → GivesKnown b (prepend_known held l) next.TooLong line → Appends q r [] → Replays a l p r (exit.BadLine (n + 1))
+pub too_long_after : AreFine → (a b l p q r : Option (List ℕ)) (held line : List ℕ) (n : ℕ) (w : World)
+    → n < 4294967295 → Stands a b p q n w → GivesKnown b (prepend_known held l) next.TooLong line → Appends q r []
+    → Replays a l p r (exit.BadLine (n + 1))
 too_long_after fine None b l p q r held line n w few h t k = tt
 too_long_after fine (Some i) None l p q r held line n w few h t k = absurd h
 too_long_after fine (Some i) (Some xs) None p q r held line n w few h t k = absurd t
@@ -257,7 +277,9 @@ too_long_after fine (Some i) (Some xs) (Some ys) p q r held line n w few h t k =
     let g = too_long_bad fine xs t.1 in
     (h.output, wrote_more i xs p q r n w h k, (n, g.0, refl, few, next_is i xs p q n w g.0 g.1 h g.2, g.3, (w, first_n i xs p q n w h)))
 
-pub not_ascii_after : AreFine → (a b l p q r : Option (List ℕ)) (held line : List ℕ) (n : ℕ) (w : World) → n < 4294967295 → Stands a b p q n w → GivesKnown b (prepend_known held l) next.NotAscii line → Appends q r [] → Replays a l p r (exit.BadLine (n + 1))
+pub not_ascii_after : AreFine → (a b l p q r : Option (List ℕ)) (held line : List ℕ) (n : ℕ) (w : World)
+    → n < 4294967295 → Stands a b p q n w → GivesKnown b (prepend_known held l) next.NotAscii line → Appends q r []
+    → Replays a l p r (exit.BadLine (n + 1))
 not_ascii_after fine None b l p q r held line n w few h t k = tt
 not_ascii_after fine (Some i) None l p q r held line n w few h t k = absurd h
 not_ascii_after fine (Some i) (Some xs) None p q r held line n w few h t k = absurd t
@@ -328,7 +350,12 @@ stop_after (Some i) (Some xs) (Some ys) p q r held line n m w c h t s k = (
 
 -- the start of an answer stays so where nothing more is written
 pub start_kept : (w : World) (c : Cmd) (p q r : Option (List ℕ)) → WritesStart w c p q → Appends q r [] → WritesStart w c p r
-start_kept w c p q r h k = record { accepted = h.accepted; reports = h.reports; starts = h.starts; written = rw append-nil at (Appends-trans p q r (report_lines h.reports) [] h.written k) }
+start_kept w c p q r h k = record {
+  accepted = h.accepted;
+  reports = h.reports;
+  starts = h.starts;
+  written = rw append-nil at (Appends-trans p q r (report_lines h.reports) [] h.written k);
+}
 
 -- and it is a front of an answer
 pub start_front : (w : World) (c : Cmd) (p q : Option (List ℕ)) → WritesStart w c p q → WritesFront w c p q

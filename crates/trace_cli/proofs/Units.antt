@@ -31,7 +31,9 @@ lines_append xs ys = ap report_lines (flat_map-append (λ (u : List Report). u) 
 one_flat : (reports : List Report) → reports_in (reports ∷ []) ≡ reports
 one_flat reports = append-nil reports
 
-pub one_unit : (w v : World) (c : CollectorState) (flown : ℕ → Option Bits) (reports : List Report) (p q : Option (List ℕ)) → IsLawfulUnit w reports v → IsValid v → Represents c flown v → Appends p q (report_lines reports) → WritesUnits w c flown 1 p q
+pub one_unit : (w v : World) (c : CollectorState) (flown : ℕ → Option Bits) (reports : List Report)
+    (p q : Option (List ℕ)) → IsLawfulUnit w reports v → IsValid v → Represents c flown v → Appends p q
+    (report_lines reports) → WritesUnits w c flown 1 p q
 one_unit w v c flown reports p q lawful ok stands written = record {
   units = reports ∷ [];
   number = refl;
@@ -42,7 +44,8 @@ one_unit w v c flown reports p q lawful ok stands written = record {
   written = subst (λ (rs : List Report). Appends p q (report_lines rs)) (sym (one_flat reports)) written;
 }
 
-pub one_breaks : (w v : World) (reports : List Report) (p q : Option (List ℕ)) → IsLawfulUnit w reports v → AppendsFront p q (report_lines reports) → BreaksInUnits w 1 p q
+pub one_breaks : (w v : World) (reports : List Report) (p q : Option (List ℕ)) → IsLawfulUnit w reports v
+    → AppendsFront p q (report_lines reports) → BreaksInUnits w 1 p q
 one_breaks w v reports p q lawful written = record {
   units = reports ∷ [];
   most = omega arith;
@@ -52,11 +55,21 @@ one_breaks w v reports p q lawful written = record {
 }
 
 -- none yet
-pub no_units : (w : World) (c : CollectorState) (flown : ℕ → Option Bits) (p : Option (List ℕ)) → IsValid w → Represents c flown w → WritesUnits w c flown 0 p p
-no_units w c flown p ok stands = record { units = []; number = refl; after = w; done = refl; valid = ok; represents = stands; written = Appends-nil p }
+pub no_units : (w : World) (c : CollectorState) (flown : ℕ → Option Bits) (p : Option (List ℕ)) → IsValid w
+    → Represents c flown w → WritesUnits w c flown 0 p p
+no_units w c flown p ok stands = record {
+  units = [];
+  number = refl;
+  after = w;
+  done = refl;
+  valid = ok;
+  represents = stands;
+  written = Appends-nil p;
+}
 
 -- more units
-pub more_units : (w : World) (c d : CollectorState) (f g : ℕ → Option Bits) (n m : ℕ) (p q r : Option (List ℕ)) → (h : WritesUnits w c f n p q) → WritesUnits h.after d g m q r → WritesUnits w d g (n + m) p r
+pub more_units : (w : World) (c d : CollectorState) (f g : ℕ → Option Bits) (n m : ℕ) (p q r : Option (List ℕ)) →
+    (h : WritesUnits w c f n p q) → WritesUnits h.after d g m q r → WritesUnits w d g (n + m) p r
 more_units w c d f g n m p q r h k = record {
   units = h.units ++ k.units;
   number = omega (arith, length-append h.units k.units, h.number, k.number);
@@ -67,7 +80,8 @@ more_units w c d f g n m p q r h k = record {
   written = both_written p q r (report_lines (reports_in h.units)) (report_lines (reports_in k.units)) _ (lines_append h.units k.units) h.written k.written;
 }
 
-pub more_breaks : (w : World) (c : CollectorState) (f : ℕ → Option Bits) (n m : ℕ) (p q r : Option (List ℕ)) → (h : WritesUnits w c f n p q) → BreaksInUnits h.after m q r → BreaksInUnits w (n + m) p r
+pub more_breaks : (w : World) (c : CollectorState) (f : ℕ → Option Bits) (n m : ℕ) (p q r : Option (List ℕ)) →
+    (h : WritesUnits w c f n p q) → BreaksInUnits h.after m q r → BreaksInUnits w (n + m) p r
 more_breaks w c f n m p q r h k = record {
   units = h.units ++ k.units;
   most = omega (arith, length-append h.units k.units, h.number, k.most);
@@ -76,8 +90,15 @@ more_breaks w c f n m p q r h k = record {
   written = then_front_written p q r (report_lines (reports_in h.units)) (report_lines (reports_in k.units)) _ (lines_append h.units k.units) h.written k.written;
 }
 
-pub stops_after : (w : World) (c : CollectorState) (f : ℕ → Option Bits) (n : ℕ) (p q r : Option (List ℕ)) → (h : WritesUnits w c f n p q) → Appends q r [] → StopsInUnits w n p r
-stops_after w c f n p q r h k = record { units = h.units; most = omega (arith, h.number); after = h.after; done = h.done; written = rw append-nil at (Appends-trans p q r (report_lines (reports_in h.units)) [] h.written k) }
+pub stops_after : (w : World) (c : CollectorState) (f : ℕ → Option Bits) (n : ℕ) (p q r : Option (List ℕ)) →
+    (h : WritesUnits w c f n p q) → Appends q r [] → StopsInUnits w n p r
+stops_after w c f n p q r h k = record {
+  units = h.units;
+  most = omega (arith, h.number);
+  after = h.after;
+  done = h.done;
+  written = rw append-nil at (Appends-trans p q r (report_lines (reports_in h.units)) [] h.written k);
+}
 
 -- a collection that does not run
 pub not_running : (b : Bool) (r : Option RunState) → IsTrue b ↔ IsSome r → b ≡ false → r ≡ None
@@ -85,7 +106,9 @@ not_running b None h e = refl
 not_running b (Some x) h e = absurd (let t : b ≡ true = h.1 refl in cc (t, e))
 
 -- all units of a collection, and its reply
-pub collection_ends : (w : World) (c : CollectorState) (f : ℕ → Option Bits) (n : ℕ) (p q r : Option (List ℕ)) → c.run ≡ None → WritesUnits w c f n p q → Appends q r (line_of (reply_text reply.Collected)) → WritesCollection w c f p r
+pub collection_ends : (w : World) (c : CollectorState) (f : ℕ → Option Bits) (n : ℕ) (p q r : Option (List ℕ))
+    → c.run ≡ None → WritesUnits w c f n p q → Appends q r (line_of (reply_text reply.Collected))
+    → WritesCollection w c f p r
 collection_ends w c f n p q r idle h k = record {
   units = h.units;
   after = h.after;
@@ -96,7 +119,9 @@ collection_ends w c f n p q r idle h k = record {
 }
 
 -- the same where a front of the reply was written
-pub collection_fronts : (w : World) (c : CollectorState) (f : ℕ → Option Bits) (n : ℕ) (p q r : Option (List ℕ)) → c.run ≡ None → WritesUnits w c f n p q → AppendsFront q r (line_of (reply_text reply.Collected)) → BreaksInReply w p r
+pub collection_fronts : (w : World) (c : CollectorState) (f : ℕ → Option Bits) (n : ℕ) (p q r : Option (List ℕ))
+    → c.run ≡ None → WritesUnits w c f n p q → AppendsFront q r (line_of (reply_text reply.Collected))
+    → BreaksInReply w p r
 collection_fronts w c f n p q r idle h k = record {
   units = h.units;
   after = h.after;
@@ -106,5 +131,8 @@ collection_fronts w c f n p q r idle h k = record {
 }
 
 -- the same in each world that the collector stood for
-pub units_end : (c d : CollectorState) (e f : ℕ → Option Bits) (p q r : Option (List ℕ)) → d.run ≡ None → ((w : World) → IsValid w → Represents c e w → (n : ℕ) × WritesUnits w d f n p q) → Appends q r (line_of (reply_text reply.Collected)) → (w : World) → IsValid w → Represents c e w → WritesCollection w d f p r
-units_end c d e f p q r idle writes k w ok stands = (let h = writes w ok stands in collection_ends w d f h.0 p q r idle h.1 k)
+pub units_end : (c d : CollectorState) (e f : ℕ → Option Bits) (p q r : Option (List ℕ)) → d.run ≡ None →
+    ((w : World) → IsValid w → Represents c e w → (n : ℕ) × WritesUnits w d f n p q) → Appends q r
+    (line_of (reply_text reply.Collected)) → (w : World) → IsValid w → Represents c e w → WritesCollection w d f p r
+units_end c d e f p q r idle writes k w ok stands =
+    (let h = writes w ok stands in collection_ends w d f h.0 p q r idle h.1 k)

@@ -28,5 +28,8 @@ pub data IsLeft (c : CollectorState) (jobs : List Job) : Type 0 where
   left : IsSound c (flown_by jobs) → AreJobsOf c.heap.shape jobs → IsLeft c jobs
 
 -- a line stands for a command, which was answered whole in each world that the collector stood for
-pub data AnswersLine (line : List ℕ) (old : CollectorState) (jobs : List Job) (n : ℕ) (new : CollectorState) (left : List Job) (p q : Option (List ℕ)) : Type 0 where
-  answers : (c : Cmd) → StandsFor line c → ((w : World) → IsValid w → Represents old (flown_by jobs) w → WritesAnswer w c new left p q) → AreJobsOf new.heap.shape left → IsWithin new (n + 1) → AnswersLine line old jobs n new left p q
+pub data AnswersLine (line : List ℕ) (old : CollectorState) (jobs : List Job) (n : ℕ) (new : CollectorState)
+    (left : List Job) (p q : Option (List ℕ)) : Type 0 where
+  answers : (c : Cmd) → StandsFor line c →
+      ((w : World) → IsValid w → Represents old (flown_by jobs) w → WritesAnswer w c new left p q)
+      → AreJobsOf new.heap.shape left → IsWithin new (n + 1) → AnswersLine line old jobs n new left p q

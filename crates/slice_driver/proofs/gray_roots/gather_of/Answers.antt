@@ -22,10 +22,12 @@ loop-wrapper-preserved g c =
     let at = sym c.in-Some.ensures.place in
     record {
       before = omega (arith, c.in-Some.ensures.cursor, within_list h.shape zone i u at);
-      few = (let was = c.loop-wrapper.invariant.few in let more = c.in_ok-gather_wrapper.ensures.few in omega (arith, was, more, c.in-Some.ensures.cursor));
+      few = (let was = c.loop-wrapper.invariant.few in let more = c.in_ok-gather_wrapper.ensures.few in omega
+          (arith, was, more, c.in-Some.ensures.cursor));
       gathered = subst (λ n. Gathers (IsGrayBefore h c.args.zones zone n) old new) (sym c.in-Some.ensures.cursor)
           (gray_step h c.args.zones zone i old mid new c.loop-wrapper.invariant.gathered
-          (gray_at h c.args.zones zone i u at (stands_in h.shape zone i u c.requires.wrappers c.in-Some.ensures.apart at).zone_is mid new c.in_ok-gather_wrapper.ensures.gathered));
+          (gray_at h c.args.zones zone i u at
+          (stands_in h.shape zone i u c.requires.wrappers c.in-Some.ensures.apart at).zone_is mid new c.in_ok-gather_wrapper.ensures.gathered));
     }
 
 pub returns-clause-gathered : goal.returns-clause-gathered

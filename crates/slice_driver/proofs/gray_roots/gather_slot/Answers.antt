@@ -10,4 +10,5 @@ gather-requires c =
     arena_made s c.in-Some.place (c.requires.held c.in-Some.place (contains_at s.slots c.args.index (Some c.in-Some.place) c.in-Some.ensures.held))
 
 pub returns-in-Some-clause-gathered : goal.returns-in-Some-clause-gathered
-returns-in-Some-clause-gathered c = on_ok c.gather.result (slot_at c.args.heap.now.shape c.args.zones c.args.index c.in-Some.place c.in-Some.ensures.held c.args.found.now.items c.gather.new.found.items) c.gather.ensures.gathered
+returns-in-Some-clause-gathered c = on_ok c.gather.result
+    (slot_at c.args.heap.now.shape c.args.zones c.args.index c.in-Some.place c.in-Some.ensures.held c.args.found.now.items c.gather.new.found.items) c.gather.ensures.gathered

@@ -8,4 +8,5 @@ pub returns-in-Some-clause-gathered : goal.returns-in-Some-clause-gathered
 returns-in-Some-clause-gathered g c =
     let h = c.args.heap.now in
     let gray : colour_of h c.args.wrapper ≡ colour.Gray = search rules in
-    on_ok c.gather.result (wrapper_gray h c.args.zones c.args.wrapper c.in-Some.target gray (sym c.in-Some.ensures.edge) c.args.found.now.items c.gather.new.found.items) c.gather.ensures.gathered
+    on_ok c.gather.result (wrapper_gray h c.args.zones c.args.wrapper c.in-Some.target gray
+    (sym c.in-Some.ensures.edge) c.args.found.now.items c.gather.new.found.items) c.gather.ensures.gathered

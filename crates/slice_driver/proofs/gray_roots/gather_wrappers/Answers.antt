@@ -15,12 +15,15 @@ loop-index-preserved g c =
           let other = w.in-Some.ensures.some in
           let new = w.gather_of.new.found.items in
           record {
-            few = (let was = c.loop-index.invariant.few in let more = w.in_ok-gather_of.ensures.few in let is = ap (λ v. length v.items) w.found-is in omega (arith, was, more, is));
+            few = (let was = c.loop-index.invariant.few in let more = w.in_ok-gather_of.ensures.few in let is = ap
+                (λ v. length v.items) w.found-is in omega (arith, was, more, is));
             gathered = subst (λ v. Gathers (IsGrayAmong h c.args.zones (i + 1)) old v.items) (sym w.found-is)
-                (among_step h c.args.zones i old mid new other.1 c.loop-index.invariant.gathered (subst (λ z. Gathers (IsGrayOf h c.args.zones z) mid new) other.0 w.in_ok-gather_of.ensures.gathered));
+                (among_step h c.args.zones i old mid new other.1 c.loop-index.invariant.gathered
+                (subst (λ z. Gathers (IsGrayOf h c.args.zones z) mid new) other.0 w.in_ok-gather_of.ensures.gathered));
           }
       | in_default w ↦ record {
-        few = (let was = c.loop-index.invariant.few in let is = ap (λ v. length v.items) w.found-is in omega (arith, was, is));
+        few = (let was = c.loop-index.invariant.few in let is = ap (λ v. length v.items) w.found-is in omega
+            (arith, was, is));
         gathered = subst (λ v. Gathers (IsGrayAmong h c.args.zones (i + 1)) old v.items) (sym w.found-is)
             (among_skip h c.args.zones i old mid w.in_default.ensures.none c.loop-index.invariant.gathered);
       }

@@ -22,8 +22,10 @@ returns-clause-lost c = λ a at.
     (let bits = c.bits_at_hand_out.result in
     let white = c.white_mask-white.result in
     let out = sym (ap out_in at) ∙ c.bits_at_hand_out.ensures in
-    let word = some_one _ _ (sym c.alloc_word-alloc_word.ensures ∙ ap (option_map (λ (x : ArenaShape). alloc_word_of x.slots)) at) in
-    let slots = subst (λ (w : ℕ). (i : ℕ) → i < 64 → (bit_at white i ≡ 1) ↔ ((bit_at w i ≡ 1) × (colour_of bits i ≡ colour.White))) word c.white_mask-white.ensures.slots in
+    let word = some_one _ _ (sym c.alloc_word-alloc_word.ensures ∙ ap
+    (option_map (λ (x : ArenaShape). alloc_word_of x.slots)) at) in
+    let slots = subst (λ (w : ℕ). (i : ℕ) → i < 64 → (bit_at white i ≡ 1) ↔
+    ((bit_at w i ≡ 1) × (colour_of bits i ≡ colour.White))) word c.white_mask-white.ensures.slots in
     let parts = some_present a bits white (c.requires.whole c.args.arena a at) out slots in
     let ones = c.from.ensures ∙ ones_are_bits white c.white_mask-white.type_inv in
     omega (arith, parts, ones))

@@ -20,17 +20,24 @@ loop-alloc-preserved g c =
     let does = c.in_default.ensures.ok in (
       c.in_default.ensures.sound,
       c.in_default.ensures.jobs,
-      λ w ok r. (let h = so.2 w ok r in (h.0 + 1, more_units w _ _ _ _ _ _ _ _ _ h.1 (does h.1.after h.1.valid h.1.represents))),
+      λ w ok r. (let h = so.2 w ok r in (
+        h.0 + 1,
+        more_units w _ _ _ _ _ _ _ _ _ h.1
+            (does h.1.after h.1.valid h.1.represents),
+      )),
       c.in_default.ensures.made ∙ so.3,
       omega (arith, c.in_default.ensures.entries, so.4),
       c.in_default.ensures.same ∙ so.5,
     )
 
 pub returns-in-Err-clause-memory : goal.returns-in-Err-clause-memory
-returns-in-Err-clause-memory g c = λ e w ok r. (let h = c.loop-alloc.invariant.2 w ok r in (h.0, stops_after w _ _ _ _ _ _ h.1 (c.in-Err.ensures.memory e)))
+returns-in-Err-clause-memory g c = λ e w ok r.
+    (let h = c.loop-alloc.invariant.2 w ok r in (h.0, stops_after w _ _ _ _ _ _ h.1 (c.in-Err.ensures.memory e)))
 
 pub returns-in-Err-clause-write : goal.returns-in-Err-clause-write
-returns-in-Err-clause-write g c = λ e w ok r. (let h = c.loop-alloc.invariant.2 w ok r in inl (h.0 + 1, more_breaks w _ _ _ _ _ _ _ h.1 (c.in-Err.ensures.write e h.1.after h.1.valid h.1.represents)))
+returns-in-Err-clause-write g c = λ e w ok r.
+    (let h = c.loop-alloc.invariant.2 w ok r in inl
+    (h.0 + 1, more_breaks w _ _ _ _ _ _ _ h.1 (c.in-Err.ensures.write e h.1.after h.1.valid h.1.represents)))
 
 pub returns-clause-ok : goal.returns-clause-ok
 returns-clause-ok g c =
@@ -40,7 +47,8 @@ returns-clause-ok g c =
 pub returns-clause-write : goal.returns-clause-write
 returns-clause-write g c =
     let idle = not_running c.running.result c.loop-alloc.collector.run c.running.ensures.run c.loop-alloc-test.false in
-    λ e w ok r. (let h = c.loop-alloc.invariant.2 w ok r in inr (collection_fronts w _ _ _ _ _ _ idle h.1 (err_is _ _ c.write_last.ensures.err e)))
+    λ e w ok r. (let h = c.loop-alloc.invariant.2 w ok r in inr
+    (collection_fronts w _ _ _ _ _ _ idle h.1 (err_is _ _ c.write_last.ensures.err e)))
 
 pub returns-clause-jobs : goal.returns-clause-jobs
 returns-clause-jobs g c = c.loop-alloc.invariant.1

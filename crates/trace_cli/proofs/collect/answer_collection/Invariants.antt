@@ -10,7 +10,8 @@ use Rattle.trace_cli.proofs.collect.answer_collection.Given as goal
 abbrev pub invariant-loop-alloc : goal.invariant-loop-alloc
 invariant-loop-alloc g l = IsSound l.collector (flown_by l.handed)
     × AreJobsOf l.collector.heap.shape l.handed
-    × ((w : World) → IsValid w → Represents l.fn.collector (flown_by l.fn.handed) w → (n : ℕ) × WritesUnits w l.collector (flown_by l.handed) n (g.K.Sink.written l.fn.sink) (g.K.Sink.written l.sink))
+    × ((w : World) → IsValid w → Represents l.fn.collector (flown_by l.fn.handed) w → (n : ℕ)
+    × WritesUnits w l.collector (flown_by l.handed) n (g.K.Sink.written l.fn.sink) (g.K.Sink.written l.sink))
     × (l.collector.heap.made ≡ l.fn.collector.heap.made)
     × (length l.collector.heap.shape.weak.entries ≤ length l.fn.collector.heap.shape.weak.entries)
     × (g.K.Sink.faults l.sink ≡ g.K.Sink.faults l.fn.sink)

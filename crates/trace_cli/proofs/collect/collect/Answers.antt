@@ -12,7 +12,10 @@ use Rattle.trace_cli.proofs.collect.collect.Goals as goal
 
 pub answer_collection-requires : goal.answer_collection-requires
 answer_collection-requires g c =
-    record { sound = c.in-Ok.ensures.sound (flown_by c.args.handed.now) c.requires.sound; jobs = jobs_kept c.args.collector.now.heap.shape c.begin.new.self.heap.shape c.args.handed.now c.args.handed.now c.in-Ok.ensures.words refl c.requires.jobs }
+    record {
+      sound = c.in-Ok.ensures.sound (flown_by c.args.handed.now) c.requires.sound;
+      jobs = jobs_kept c.args.collector.now.heap.shape c.begin.new.self.heap.shape c.args.handed.now c.args.handed.now c.in-Ok.ensures.words refl c.requires.jobs;
+    }
 
 pub returns-in-Ok-clause-ok : goal.returns-in-Ok-clause-ok
 returns-in-Ok-clause-ok g c =
@@ -20,37 +23,54 @@ returns-in-Ok-clause-ok g c =
 
 pub returns-in-Ok-clause-memory : goal.returns-in-Ok-clause-memory
 returns-in-Ok-clause-memory g c =
-    λ e. begun_stops c.args.collector.now c.begin.new.self c.args.handed.now c.args.zones c.in-Ok.ensures.begun _ _ (c.answer_collection.ensures.memory e)
+    λ e. begun_stops c.args.collector.now c.begin.new.self c.args.handed.now c.args.zones c.in-Ok.ensures.begun _ _
+    (c.answer_collection.ensures.memory e)
 
 pub returns-in-Ok-clause-write : goal.returns-in-Ok-clause-write
 returns-in-Ok-clause-write g c =
-    λ e. begun_breaks c.args.collector.now c.begin.new.self c.args.handed.now c.args.zones c.in-Ok.ensures.begun _ _ (c.answer_collection.ensures.write e)
+    λ e. begun_breaks c.args.collector.now c.begin.new.self c.args.handed.now c.args.zones c.in-Ok.ensures.begun _ _
+    (c.answer_collection.ensures.write e)
 
 pub returns-in-Err-Running-clause-ok : goal.returns-in-Err-Running-clause-ok
 returns-in-Err-Running-clause-ok g c =
     let runs = c.in-Err-Running.ensures.running.0 (ap (λ (f : BeginFault). Err f) c.in-Err-Running.field-0-is) in
-    ok_maps _ (λ written. refusal_writes c.args.collector.now c.begin.new.self c.args.handed.now c.args.zones _ _ _ _ (λ w answer refuses. inr refuses) (λ w r. one_runs c.args.collector.now (flown_by c.args.handed.now) w c.args.zones r runs) c.in-Err-Running.ensures.refused written) c.write_last.ensures.ok
+    ok_maps _ (λ written. refusal_writes c.args.collector.now c.begin.new.self c.args.handed.now c.args.zones _ _ _ _
+    (λ w answer refuses. inr refuses) (λ w r. one_runs c.args.collector.now
+    (flown_by c.args.handed.now) w c.args.zones r runs) c.in-Err-Running.ensures.refused written) c.write_last.ensures.ok
 
 pub returns-in-Err-Running-clause-write : goal.returns-in-Err-Running-clause-write
 returns-in-Err-Running-clause-write g c =
     let runs = c.in-Err-Running.ensures.running.0 (ap (λ (f : BeginFault). Err f) c.in-Err-Running.field-0-is) in
-    λ e. refusal_breaks c.args.collector.now c.args.handed.now c.args.zones _ _ _ _ (λ w answer refuses. inr refuses) (λ w r. one_runs c.args.collector.now (flown_by c.args.handed.now) w c.args.zones r runs) (err_is _ _ c.write_last.ensures.err e)
+    λ e. refusal_breaks c.args.collector.now c.args.handed.now c.args.zones _ _ _ _ (λ w answer refuses. inr refuses)
+    (λ w r. one_runs c.args.collector.now (flown_by c.args.handed.now) w c.args.zones r runs)
+    (err_is _ _ c.write_last.ensures.err e)
 
 pub returns-in-Err-Running-clause-jobs : goal.returns-in-Err-Running-clause-jobs
-returns-in-Err-Running-clause-jobs g c = subst (λ (d : CollectorState). AreJobsOf d.heap.shape c.args.handed.now) (sym c.in-Err-Running.ensures.refused) c.requires.jobs
+returns-in-Err-Running-clause-jobs g c = subst (λ (d : CollectorState). AreJobsOf d.heap.shape c.args.handed.now)
+    (sym c.in-Err-Running.ensures.refused) c.requires.jobs
 
 pub returns-in-Err-NoZone-clause-ok : goal.returns-in-Err-NoZone-clause-ok
 returns-in-Err-NoZone-clause-ok g c =
     let none = c.in-Err-NoZone.ensures.no_zone.0 (ap (λ (f : BeginFault). Err f) c.in-Err-NoZone.field-0-is) in
-    ok_maps _ (λ written. refusal_writes c.args.collector.now c.begin.new.self c.args.handed.now c.args.zones _ _ _ _ (λ w answer refuses. inr refuses) (λ w r. no_zone c.args.collector.now (flown_by c.args.handed.now) w c.args.zones c.zones_made_law.ensures r none.0 none.1) c.in-Err-NoZone.ensures.refused written) c.write_last-in-Err-NoZone.ensures.ok
+    ok_maps _ (λ written. refusal_writes c.args.collector.now c.begin.new.self c.args.handed.now c.args.zones _ _ _ _
+    (λ w answer refuses. inr refuses) (λ w r. no_zone c.args.collector.now
+    (flown_by c.args.handed.now) w c.args.zones c.zones_made_law.ensures r none.0 none.1) c.in-Err-NoZone.ensures.refused written) c.write_last-in-Err-NoZone.ensures.ok
 
 pub returns-in-Err-NoZone-clause-write : goal.returns-in-Err-NoZone-clause-write
 returns-in-Err-NoZone-clause-write g c =
     let none = c.in-Err-NoZone.ensures.no_zone.0 (ap (λ (f : BeginFault). Err f) c.in-Err-NoZone.field-0-is) in
-    λ e. refusal_breaks c.args.collector.now c.args.handed.now c.args.zones _ _ _ _ (λ w answer refuses. inr refuses) (λ w r. no_zone c.args.collector.now (flown_by c.args.handed.now) w c.args.zones c.zones_made_law.ensures r none.0 none.1) (err_is _ _ c.write_last-in-Err-NoZone.ensures.err e)
+    λ e. refusal_breaks c.args.collector.now c.args.handed.now c.args.zones _ _ _ _ (λ w answer refuses. inr refuses)
+    (λ w r. no_zone c.args.collector.now
+    (flown_by c.args.handed.now) w c.args.zones c.zones_made_law.ensures r none.0 none.1)
+    (err_is _ _ c.write_last-in-Err-NoZone.ensures.err e)
 
 pub returns-in-Err-NoZone-clause-jobs : goal.returns-in-Err-NoZone-clause-jobs
-returns-in-Err-NoZone-clause-jobs g c = subst (λ (d : CollectorState). AreJobsOf d.heap.shape c.args.handed.now) (sym c.in-Err-NoZone.ensures.refused) c.requires.jobs
+returns-in-Err-NoZone-clause-jobs g c = subst (λ (d : CollectorState). AreJobsOf d.heap.shape c.args.handed.now)
+    (sym c.in-Err-NoZone.ensures.refused) c.requires.jobs
 
 pub returns-in-Err-NoMemory-clause-memory : goal.returns-in-Err-NoMemory-clause-memory
-returns-in-Err-NoMemory-clause-memory g c = λ e. begin_stops c.args.collector.now c.args.handed.now c.args.zones (command.Collect c.args.zones) c.begin.result _ _ c.zones_made_law.ensures (λ w idle made. collect_accepted w c.args.zones idle made) (λ w. inl refl) c.begin.ensures.running c.begin.ensures.no_zone (c.in-Err-NoMemory.is ∙ ap (λ (f : BeginFault). Err f) c.in-Err-NoMemory.field-0-is) (Appends-nil _)
+returns-in-Err-NoMemory-clause-memory g c = λ e. begin_stops c.args.collector.now c.args.handed.now c.args.zones
+    (command.Collect c.args.zones) c.begin.result _ _ c.zones_made_law.ensures
+    (λ w idle made. collect_accepted w c.args.zones idle made)
+    (λ w. inl refl) c.begin.ensures.running c.begin.ensures.no_zone
+    (c.in-Err-NoMemory.is ∙ ap (λ (f : BeginFault). Err f) c.in-Err-NoMemory.field-0-is) (Appends-nil _)

@@ -7,4 +7,5 @@ pub loop-arena-init : goal.loop-arena-init
 loop-arena-init c = let left = opened_left c.requires in (left.sound, left.fit)
 
 pub take_due-requires-clause-running : goal.take_due-requires-clause-running
-take_due-requires-clause-running c = out_runs c.loop-arena.collector (flown_by c.loop-arena.handed) c.in-Some.arena c.loop-arena.invariant.0 c.in-Some.ensures.some.out
+take_due-requires-clause-running c = out_runs c.loop-arena.collector
+    (flown_by c.loop-arena.handed) c.in-Some.arena c.loop-arena.invariant.0 c.in-Some.ensures.some.out

@@ -28,7 +28,18 @@ end_quiet r a b (inr h) e = absurd (cc (h.0, e))
 pub loop-answered-init : goal.loop-answered-init
 loop-answered-init g c =
     let first = opened_first c.requires.first in (
-      standing (record { world = first_world; represents = subst (λ (xs : List Job). Represents c.args.collector.now (flown_by xs) first_world) (sym c.requires.none) first.represents; fit = subst (λ (xs : List Job). AreJobsOf c.args.collector.now.heap.shape xs) (sym c.requires.none) (jobs_none c.args.collector.now.heap.shape); valid = first.valid; stands = stands_first _ _ _ c.new-reader.ensures.held; within = first.within }),
+      standing (record {
+        world = first_world;
+        represents = subst
+            (λ (xs : List Job). Represents c.args.collector.now (flown_by xs) first_world)
+            (sym c.requires.none) first.represents;
+        fit = subst
+            (λ (xs : List Job). AreJobsOf c.args.collector.now.heap.shape xs) (sym c.requires.none)
+            (jobs_none c.args.collector.now.heap.shape);
+        valid = first.valid;
+        stands = stands_first _ _ _ c.new-reader.ensures.held;
+        within = first.within;
+      }),
       omega arith,
       refl,
       refl,
@@ -44,8 +55,15 @@ returns-in-TooLong-clause-lawful g c =
     let bytes = c.in-TooLong.ensures.bytes in
     let kept = c.end_so-in-TooLong.ensures.kept in
     either_refusal (λ (e : Exit). Replays (g.S.Source.left c.args.source.now) (g.S.Source.left c.next.new.source) (g.K.Sink.written c.args.sink.now) (g.K.Sink.written c.end_so-in-TooLong.new.sink) e) _ _ c.loop-answered.answered c.end_so-in-TooLong.ensures.exit c.refusal.ensures
-    (λ n. many_after (record { short = c.spelling_law.ensures.short; plain = c.spelling_law.ensures.plain }) _ _ _ _ _ _ c.next.new.self.held _ _ _ so.world stands bytes (λ e. cc e) (λ e. cc e) n kept)
-    (λ few. too_long_after (record { short = c.spelling_law.ensures.short; plain = c.spelling_law.ensures.plain }) _ _ _ _ _ _ c.next.new.self.held _ _ so.world few stands bytes kept)
+    (λ n. many_after (record {
+      short = c.spelling_law.ensures.short;
+      plain = c.spelling_law.ensures.plain;
+    }) _ _ _ _ _ _ c.next.new.self.held _ _ _ so.world stands bytes
+    (λ e. cc e) (λ e. cc e) n kept)
+    (λ few. too_long_after (record {
+      short = c.spelling_law.ensures.short;
+      plain = c.spelling_law.ensures.plain;
+    }) _ _ _ _ _ _ c.next.new.self.held _ _ so.world few stands bytes kept)
     (write_after _ _ _ _ _ _ c.next.new.self.held _ _ _ so.world stands bytes kept)
 
 pub returns-in-NotAscii-clause-lawful : goal.returns-in-NotAscii-clause-lawful
@@ -55,8 +73,15 @@ returns-in-NotAscii-clause-lawful g c =
     let bytes = c.in-NotAscii.ensures.bytes in
     let kept = c.end_so-in-NotAscii.ensures.kept in
     either_refusal (λ (e : Exit). Replays (g.S.Source.left c.args.source.now) (g.S.Source.left c.next.new.source) (g.K.Sink.written c.args.sink.now) (g.K.Sink.written c.end_so-in-NotAscii.new.sink) e) _ _ c.loop-answered.answered c.end_so-in-NotAscii.ensures.exit c.refusal-in-NotAscii.ensures
-    (λ n. many_after (record { short = c.spelling_law.ensures.short; plain = c.spelling_law.ensures.plain }) _ _ _ _ _ _ c.next.new.self.held _ _ _ so.world stands bytes (λ e. cc e) (λ e. cc e) n kept)
-    (λ few. not_ascii_after (record { short = c.spelling_law.ensures.short; plain = c.spelling_law.ensures.plain }) _ _ _ _ _ _ c.next.new.self.held _ _ so.world few stands bytes kept)
+    (λ n. many_after (record {
+      short = c.spelling_law.ensures.short;
+      plain = c.spelling_law.ensures.plain;
+    }) _ _ _ _ _ _ c.next.new.self.held _ _ _ so.world stands bytes
+    (λ e. cc e) (λ e. cc e) n kept)
+    (λ few. not_ascii_after (record {
+      short = c.spelling_law.ensures.short;
+      plain = c.spelling_law.ensures.plain;
+    }) _ _ _ _ _ _ c.next.new.self.held _ _ so.world few stands bytes kept)
     (write_after _ _ _ _ _ _ c.next.new.self.held _ _ _ so.world stands bytes kept)
 
 pub returns-in-End-clause-lawful : goal.returns-in-End-clause-lawful
@@ -85,7 +110,14 @@ loop-answered-preserved g c =
     let stands = stands_kept _ _ _ _ _ _ so.world so.stands c.flush_before.ensures.kept in
     let done = opened_answer c.in-Ok.ensures.ok in
     let writes = done.writes so.world so.valid so.represents in (
-      standing (record { world = writes.after; represents = writes.represents; fit = done.fit; valid = c.answer_law.ensures so.world writes.after done.command writes.reports writes.answer so.valid writes.answers; stands = stands_more _ _ _ _ _ _ _ _ _ so.world done.command c.answer_next.new.collector c.answer_next.new.handed stands c.in-Line.ensures.bytes (subst (λ (l : List ℕ). StandsFor l done.command) c.line.ensures done.stands) writes; within = done.within }),
+      standing (record {
+        world = writes.after;
+        represents = writes.represents;
+        fit = done.fit;
+        valid = c.answer_law.ensures so.world writes.after done.command writes.reports writes.answer so.valid writes.answers;
+        stands = stands_more _ _ _ _ _ _ _ _ _ so.world done.command c.answer_next.new.collector c.answer_next.new.handed stands c.in-Line.ensures.bytes (subst (λ (l : List ℕ). StandsFor l done.command) c.line.ensures done.stands) writes;
+        within = done.within;
+      }),
       omega (arith, c.loop-answered.invariant.1, c.if-answered-eq4294967295.false),
       c.in-Line.ensures.same (λ e. cc e) ∙ c.loop-answered.invariant.2,
       c.in-Ok.ensures.same ∙ from_ok c.flush_before.result (sym c.is_err.ensures.value ∙ c.if-is_err.false) c.flush_before.ensures.same ∙ c.loop-answered.invariant.3,
@@ -98,7 +130,11 @@ returns-then-answered-eq4294967295-clause-lawful g c =
     let bytes = c.in-Line.ensures.bytes in
     let kept = c.end_so-then-answered-eq4294967295.ensures.kept in
     either (λ (e : Exit). Replays (g.S.Source.left c.args.source.now) (g.S.Source.left c.next.new.source) (g.K.Sink.written c.args.sink.now) (g.K.Sink.written c.end_so-then-answered-eq4294967295.new.sink) e) _ _ c.end_so-then-answered-eq4294967295.ensures.exit
-    (many_after (record { short = c.spelling_law.ensures.short; plain = c.spelling_law.ensures.plain }) _ _ _ _ _ _ c.next.new.self.held _ _ _ so.world stands bytes (λ e. cc e) (λ e. cc e) c.if-answered-eq4294967295.true kept)
+    (many_after (record {
+      short = c.spelling_law.ensures.short;
+      plain = c.spelling_law.ensures.plain;
+    }) _ _ _ _ _ _ c.next.new.self.held _ _ _ so.world stands bytes
+    (λ e. cc e) (λ e. cc e) c.if-answered-eq4294967295.true kept)
     (write_after _ _ _ _ _ _ c.next.new.self.held _ _ _ so.world stands bytes kept)
 
 pub returns-in-Err-Bad-clause-lawful : goal.returns-in-Err-Bad-clause-lawful
@@ -138,7 +174,8 @@ returns-in-End-clause-quiet g c = λ e.
 pub answer_next-requires : goal.answer_next-requires
 answer_next-requires g c =
     let so = opened c.loop-answered.invariant.0 in
-    ready (record { world = so.world; valid = so.valid; represents = so.represents }) so.fit so.within (omega (arith, c.loop-answered.invariant.1, c.if-answered-eq4294967295.false))
+    ready (record { world = so.world; valid = so.valid; represents = so.represents }) so.fit so.within
+    (omega (arith, c.loop-answered.invariant.1, c.if-answered-eq4294967295.false))
 
 pub returns-then-is_err-clause-left : goal.returns-then-is_err-clause-left
 returns-then-is_err-clause-left g c = left_standing c.loop-answered.invariant.0

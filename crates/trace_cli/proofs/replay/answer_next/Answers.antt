@@ -19,7 +19,12 @@ answer_line-requires-clause-entries g c = let r = opened_ready c.requires in ome
 pub returns-clause-ok : goal.returns-clause-ok
 returns-clause-ok g c =
     let r = opened_ready c.requires in
-    ok_maps c.answer_line.result (λ done. answers done.0 done.1 done.2 c.answer_line.ensures.jobs (record { made = omega (arith, r.within.made, c.answer_line.ensures.made); entries = omega (arith, r.within.entries, c.answer_line.ensures.entries) })) c.answer_line.ensures.ok
+    ok_maps c.answer_line.result (λ done. answers done.0 done.1 done.2 c.answer_line.ensures.jobs
+    (record {
+      made = omega (arith, r.within.made, c.answer_line.ensures.made);
+      entries = omega
+          (arith, r.within.entries, c.answer_line.ensures.entries);
+    })) c.answer_line.ensures.ok
 
 pub returns-clause-left : goal.returns-clause-left
 returns-clause-left g c = left c.answer_line.ensures.sound c.answer_line.ensures.jobs

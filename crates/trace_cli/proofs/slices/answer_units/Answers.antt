@@ -23,11 +23,17 @@ pub returns-then-not-running-clause-over : goal.returns-then-not-running-clause-
 returns-then-not-running-clause-over g c = λ less. not_running c.running.result c.loop-done.collector.run c.running.ensures.run c.if-not-running.true
 
 pub returns-in-Err-clause-memory : goal.returns-in-Err-clause-memory
-returns-in-Err-clause-memory g c = λ e w ok r. stops_within w _ _ _ _ c.loop-done.auto.done-end (stops_after w _ _ _ _ _ _ (c.loop-done.invariant.2 w ok r) (c.in-Err.ensures.memory (same_fault _ _ e)))
+returns-in-Err-clause-memory g c = λ e w ok r. stops_within w _ _ _ _ c.loop-done.auto.done-end
+    (stops_after w _ _ _ _ _ _ (c.loop-done.invariant.2 w ok r) (c.in-Err.ensures.memory (same_fault _ _ e)))
 
 pub returns-in-Err-clause-write : goal.returns-in-Err-clause-write
-returns-in-Err-clause-write g c = λ e w ok r. (let h = c.loop-done.invariant.2 w ok r in breaks_within w (c.loop-done.done + 1) c.args.budget _ _ (let less = c.loop-done-test.true in omega (arith, less)) (more_breaks w _ _ _ _ _ _ _ h (c.in-Err.ensures.write (same_fault _ _ e) h.after h.valid h.represents)))
+returns-in-Err-clause-write g c = λ e w ok r.
+    (let h = c.loop-done.invariant.2 w ok r in breaks_within w (c.loop-done.done + 1) c.args.budget _ _
+    (let less = c.loop-done-test.true in omega (arith, less))
+    (more_breaks w _ _ _ _ _ _ _ h (c.in-Err.ensures.write (same_fault _ _ e) h.after h.valid h.represents)))
 
 pub returns-clause-ok : goal.returns-clause-ok
 returns-clause-ok g c = λ w ok r.
-    (let all : c.loop-done.done ≡ c.args.budget = (let a = c.loop-done.auto.done-end in let b = c.loop-done-test.false in omega (arith, a, b)) in as_many w _ _ _ _ _ _ all (c.loop-done.invariant.2 w ok r))
+    (let all : c.loop-done.done ≡ c.args.budget =
+    (let a = c.loop-done.auto.done-end in let b = c.loop-done-test.false in omega
+    (arith, a, b)) in as_many w _ _ _ _ _ _ all (c.loop-done.invariant.2 w ok r))

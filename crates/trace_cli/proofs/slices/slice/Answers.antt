@@ -11,19 +11,28 @@ use Rattle.trace_cli.proofs.Units.{not_running}
 use Rattle.trace_cli.proofs.slices.slice.Goals as goal
 
 pub returns-then-not-running-clause-ok : goal.returns-then-not-running-clause-ok
-returns-then-not-running-clause-ok g c = ok_maps _ (λ written. idle_writes c.args.collector.now c.args.handed.now _ _ _ (λ w refuses. inr refuses) (not_running c.running.result c.args.collector.now.run c.running.ensures.run c.if-not-running.true) written) c.write_last.ensures.ok
+returns-then-not-running-clause-ok g c = ok_maps _
+    (λ written. idle_writes c.args.collector.now c.args.handed.now _ _ _ (λ w refuses. inr refuses)
+    (not_running c.running.result c.args.collector.now.run c.running.ensures.run c.if-not-running.true) written) c.write_last.ensures.ok
 
 pub returns-then-not-running-clause-write : goal.returns-then-not-running-clause-write
-returns-then-not-running-clause-write g c = λ e. idle_breaks c.args.collector.now c.args.handed.now _ _ _ (λ w refuses. inr refuses) (not_running c.running.result c.args.collector.now.run c.running.ensures.run c.if-not-running.true) (err_is _ _ c.write_last.ensures.err e)
+returns-then-not-running-clause-write g c = λ e. idle_breaks c.args.collector.now c.args.handed.now _ _ _
+    (λ w refuses. inr refuses)
+    (not_running c.running.result c.args.collector.now.run c.running.ensures.run c.if-not-running.true)
+    (err_is _ _ c.write_last.ensures.err e)
 
 pub returns-in-Ok-clause-ok : goal.returns-in-Ok-clause-ok
-returns-in-Ok-clause-ok g c = ok_maps _ (λ written. slice_writes c.args.collector.now c.answer_units.new.collector c.args.handed.now c.answer_units.new.handed c.args.budget c.in-Ok.done _ _ _ (c.running.ensures.run.0 c.if-not-running.false) c.in-Ok.ensures.most c.in-Ok.ensures.over c.in-Ok.ensures.ok (subst (λ (n : ℕ). Appends (g.K.Sink.written c.answer_units.new.sink) (g.K.Sink.written c.write_last-in-Ok.new.sink) (line_of (reply_text (reply.Sliced n)))) c.from.ensures written)) c.write_last-in-Ok.ensures.ok
+returns-in-Ok-clause-ok g c = ok_maps _
+    (λ written. slice_writes c.args.collector.now c.answer_units.new.collector c.args.handed.now c.answer_units.new.handed c.args.budget c.in-Ok.done _ _ _ (c.running.ensures.run.0 c.if-not-running.false) c.in-Ok.ensures.most c.in-Ok.ensures.over c.in-Ok.ensures.ok (subst (λ (n : ℕ). Appends (g.K.Sink.written c.answer_units.new.sink) (g.K.Sink.written c.write_last-in-Ok.new.sink) (line_of (reply_text (reply.Sliced n)))) c.from.ensures written)) c.write_last-in-Ok.ensures.ok
 
 pub returns-in-Ok-clause-write : goal.returns-in-Ok-clause-write
 returns-in-Ok-clause-write g c = λ e. slice_breaks c.args.collector.now c.answer_units.new.collector c.args.handed.now c.answer_units.new.handed c.args.budget c.in-Ok.done _ _ _ (c.running.ensures.run.0 c.if-not-running.false) c.in-Ok.ensures.most c.in-Ok.ensures.over c.in-Ok.ensures.ok (subst (λ (n : ℕ). AppendsFront (g.K.Sink.written c.answer_units.new.sink) (g.K.Sink.written c.write_last-in-Ok.new.sink) (line_of (reply_text (reply.Sliced n)))) c.from.ensures (err_is _ _ c.write_last-in-Ok.ensures.err e))
 
 pub returns-in-Err-clause-memory : goal.returns-in-Err-clause-memory
-returns-in-Err-clause-memory g c = λ e w ok r. units_stop w c.args.budget _ _ (running_world c.args.collector.now (flown_by c.args.handed.now) w r (c.running.ensures.run.0 c.if-not-running.false)) (c.in-Err.ensures.memory (same_fault _ _ e) w ok r)
+returns-in-Err-clause-memory g c = λ e w ok r. units_stop w c.args.budget _ _
+    (running_world c.args.collector.now (flown_by c.args.handed.now) w r
+    (c.running.ensures.run.0 c.if-not-running.false)) (c.in-Err.ensures.memory (same_fault _ _ e) w ok r)
 
 pub returns-in-Err-clause-write : goal.returns-in-Err-clause-write
-returns-in-Err-clause-write g c = λ e w ok r. units_break w c.args.budget _ _ (c.in-Err.ensures.write (same_fault _ _ e) w ok r)
+returns-in-Err-clause-write g c = λ e w ok r. units_break w c.args.budget _ _
+    (c.in-Err.ensures.write (same_fault _ _ e) w ok r)

@@ -13,17 +13,20 @@ use Rattle.slice_driver.proofs.collector.Collector.begin.Goals as goal
 
 pub buffer_gray_roots-requires-clause-held : goal.buffer_gray_roots-requires-clause-held
 buffer_gray_roots-requires-clause-held g c =
-    let rest = at_rest (the_view c.self.inside) c.args.self.now c.self.view_is (idle_sound c.args.self.now c.requires.sound.0 c.requires.sound.1) c.running.result c.running.ensures.run c.if-running.false in
+    let rest = at_rest (the_view c.self.inside) c.args.self.now c.self.view_is
+    (idle_sound c.args.self.now c.requires.sound.0 c.requires.sound.1) c.running.result c.running.ensures.run c.if-running.false in
     rest.represents.lies.shown.slots_held
 
 pub buffer_gray_roots-requires-clause-wrappers : goal.buffer_gray_roots-requires-clause-wrappers
 buffer_gray_roots-requires-clause-wrappers g c =
-    let rest = at_rest (the_view c.self.inside) c.args.self.now c.self.view_is (idle_sound c.args.self.now c.requires.sound.0 c.requires.sound.1) c.running.result c.running.ensures.run c.if-running.false in
+    let rest = at_rest (the_view c.self.inside) c.args.self.now c.self.view_is
+    (idle_sound c.args.self.now c.requires.sound.0 c.requires.sound.1) c.running.result c.running.ensures.run c.if-running.false in
     wrappers_of (the_view c.self.inside) rest.world rest.represents rest.idle
 
 pub buffer_gray_roots-requires-clause-sized : goal.buffer_gray_roots-requires-clause-sized
 buffer_gray_roots-requires-clause-sized g c =
-    let rest = at_rest (the_view c.self.inside) c.args.self.now c.self.view_is (idle_sound c.args.self.now c.requires.sound.0 c.requires.sound.1) c.running.result c.running.ensures.run c.if-running.false in
+    let rest = at_rest (the_view c.self.inside) c.args.self.now c.self.view_is
+    (idle_sound c.args.self.now c.requires.sound.0 c.requires.sound.1) c.running.result c.running.ensures.run c.if-running.false in
     (marks_of (the_view c.self.inside) rest.world rest.represents rest.idle).holds.colours.sized
 
 pub few_wrappers_law-requires : goal.few_wrappers_law-requires
@@ -31,45 +34,53 @@ few_wrappers_law-requires g c = c.requires.sound
 
 pub buffer_gray_roots-requires-clause-empty : goal.buffer_gray_roots-requires-clause-empty
 buffer_gray_roots-requires-clause-empty g c =
-    let rest = at_rest (the_view c.self.inside) c.args.self.now c.self.view_is (idle_sound c.args.self.now c.requires.sound.0 c.requires.sound.1) c.running.result c.running.ensures.run c.if-running.false in
-    none_buffered c.self.inside.heap.buffers (nothing_buffered (the_view c.self.inside) rest.world rest.represents rest.idle)
+    let rest = at_rest (the_view c.self.inside) c.args.self.now c.self.view_is
+    (idle_sound c.args.self.now c.requires.sound.0 c.requires.sound.1) c.running.result c.running.ensures.run c.if-running.false in
+    none_buffered c.self.inside.heap.buffers
+    (nothing_buffered (the_view c.self.inside) rest.world rest.represents rest.idle)
 
 pub clear_bits-requires : goal.clear_bits-requires
 clear_bits-requires g c =
-    let rest = at_rest (the_view c.self.inside) c.args.self.now c.self.view_is (idle_sound c.args.self.now c.requires.sound.0 c.requires.sound.1) c.running.result c.running.ensures.run c.if-running.false in
+    let rest = at_rest (the_view c.self.inside) c.args.self.now c.self.view_is
+    (idle_sound c.args.self.now c.requires.sound.0 c.requires.sound.1) c.running.result c.running.ensures.run c.if-running.false in
     kept_begun (the_view c.self.inside) rest c.args.zones c.buffer_gray_roots.new.heap c.in_ok-buffer_gray_roots.ensures.ok
 
 pub mark_registers-requires-clause-ready : goal.mark_registers-requires-clause-ready
 mark_registers-requires-clause-ready g c =
-    let rest = at_rest (the_view c.self.inside) c.args.self.now c.self.view_is (idle_sound c.args.self.now c.requires.sound.0 c.requires.sound.1) c.running.result c.running.ensures.run c.if-running.false in
+    let rest = at_rest (the_view c.self.inside) c.args.self.now c.self.view_is
+    (idle_sound c.args.self.now c.requires.sound.0 c.requires.sound.1) c.running.result c.running.ensures.run c.if-running.false in
     let fits : c.args.zones.bits < 18446744073709551616 = search rules in
     let small = small_word c.args.zones.bits fits in
     ready_begun (the_view c.self.inside) rest c.args.zones small c.buffer_gray_roots.new.heap c.in_ok-buffer_gray_roots.ensures.ok c.clear_bits.new.self c.clear_bits.ensures
 
 pub mark_targets-requires-clause-ready : goal.mark_targets-requires-clause-ready
 mark_targets-requires-clause-ready g c =
-    let rest = at_rest (the_view c.self.inside) c.args.self.now c.self.view_is (idle_sound c.args.self.now c.requires.sound.0 c.requires.sound.1) c.running.result c.running.ensures.run c.if-running.false in
+    let rest = at_rest (the_view c.self.inside) c.args.self.now c.self.view_is
+    (idle_sound c.args.self.now c.requires.sound.0 c.requires.sound.1) c.running.result c.running.ensures.run c.if-running.false in
     let fits : c.args.zones.bits < 18446744073709551616 = search rules in
     let small = small_word c.args.zones.bits fits in
     ready_marked (the_view c.self.inside) rest c.args.zones small c.buffer_gray_roots.new.heap c.in_ok-buffer_gray_roots.ensures.ok c.clear_bits.new.self c.clear_bits.ensures c.mark_registers.new.heap c.mark_registers.new.stack c.mark_registers.ensures
 
 pub mark_targets-requires-clause-wrappers : goal.mark_targets-requires-clause-wrappers
 mark_targets-requires-clause-wrappers g c =
-    let rest = at_rest (the_view c.self.inside) c.args.self.now c.self.view_is (idle_sound c.args.self.now c.requires.sound.0 c.requires.sound.1) c.running.result c.running.ensures.run c.if-running.false in
+    let rest = at_rest (the_view c.self.inside) c.args.self.now c.self.view_is
+    (idle_sound c.args.self.now c.requires.sound.0 c.requires.sound.1) c.running.result c.running.ensures.run c.if-running.false in
     let fits : c.args.zones.bits < 18446744073709551616 = search rules in
     let small = small_word c.args.zones.bits fits in
     wrappers_marked (the_view c.self.inside) rest c.args.zones small c.buffer_gray_roots.new.heap c.in_ok-buffer_gray_roots.ensures.ok c.clear_bits.new.self c.clear_bits.ensures c.mark_registers.new.heap c.mark_registers.new.stack c.mark_registers.ensures
 
 pub mark_registers-requires-clause-held : goal.mark_registers-requires-clause-held
 mark_registers-requires-clause-held g c =
-    let rest = at_rest (the_view c.self.inside) c.args.self.now c.self.view_is (idle_sound c.args.self.now c.requires.sound.0 c.requires.sound.1) c.running.result c.running.ensures.run c.if-running.false in
+    let rest = at_rest (the_view c.self.inside) c.args.self.now c.self.view_is
+    (idle_sound c.args.self.now c.requires.sound.0 c.requires.sound.1) c.running.result c.running.ensures.run c.if-running.false in
     let fits : c.args.zones.bits < 18446744073709551616 = search rules in
     let small = small_word c.args.zones.bits fits in
     held_begun (the_view c.self.inside) rest c.args.zones small c.buffer_gray_roots.new.heap c.in_ok-buffer_gray_roots.ensures.ok c.clear_bits.new.self c.clear_bits.ensures
 
 pub advance_all-requires : goal.advance_all-requires
 advance_all-requires g c =
-    let rest = at_rest (the_view c.self.inside) c.args.self.now c.self.view_is (idle_sound c.args.self.now c.requires.sound.0 c.requires.sound.1) c.running.result c.running.ensures.run c.if-running.false in
+    let rest = at_rest (the_view c.self.inside) c.args.self.now c.self.view_is
+    (idle_sound c.args.self.now c.requires.sound.0 c.requires.sound.1) c.running.result c.running.ensures.run c.if-running.false in
     let fits : c.args.zones.bits < 18446744073709551616 = search rules in
     let small = small_word c.args.zones.bits fits in
     let made = c.are_made.ensures.0 c.if-not-are_made.false in
@@ -80,7 +91,8 @@ advance_all-requires g c =
 
 pub invariant_of-self-2 : goal.invariant_of-self-2
 invariant_of-self-2 g c =
-    let rest = at_rest (the_view c.self.inside) c.args.self.now c.self.view_is (idle_sound c.args.self.now c.requires.sound.0 c.requires.sound.1) c.running.result c.running.ensures.run c.if-running.false in
+    let rest = at_rest (the_view c.self.inside) c.args.self.now c.self.view_is
+    (idle_sound c.args.self.now c.requires.sound.0 c.requires.sound.1) c.running.result c.running.ensures.run c.if-running.false in
     let fits : c.args.zones.bits < 18446744073709551616 = search rules in
     let small = small_word c.args.zones.bits fits in
     let made = c.are_made.ensures.0 c.if-not-are_made.false in
@@ -96,7 +108,8 @@ invariant_of-self-2 g c =
 
 pub returns-clause-begun : goal.returns-clause-begun
 returns-clause-begun g c =
-    let rest = at_rest (the_view c.self.inside) c.args.self.now c.self.view_is (idle_sound c.args.self.now c.requires.sound.0 c.requires.sound.1) c.running.result c.running.ensures.run c.if-running.false in
+    let rest = at_rest (the_view c.self.inside) c.args.self.now c.self.view_is
+    (idle_sound c.args.self.now c.requires.sound.0 c.requires.sound.1) c.running.result c.running.ensures.run c.if-running.false in
     let fits : c.args.zones.bits < 18446744073709551616 = search rules in
     let small = small_word c.args.zones.bits fits in
     let made = c.are_made.ensures.0 c.if-not-are_made.false in
@@ -111,7 +124,8 @@ returns-clause-sound g c = λ flown s. begin_sound c.args.self.now _ c.args.zone
 
 pub returns-clause-words : goal.returns-clause-words
 returns-clause-words g c =
-    let rest = at_rest (the_view c.self.inside) c.args.self.now c.self.view_is (idle_sound c.args.self.now c.requires.sound.0 c.requires.sound.1) c.running.result c.running.ensures.run c.if-running.false in
+    let rest = at_rest (the_view c.self.inside) c.args.self.now c.self.view_is
+    (idle_sound c.args.self.now c.requires.sound.0 c.requires.sound.1) c.running.result c.running.ensures.run c.if-running.false in
     let fits : c.args.zones.bits < 18446744073709551616 = search rules in
     let small = small_word c.args.zones.bits fits in
     let made = c.are_made.ensures.0 c.if-not-are_made.false in

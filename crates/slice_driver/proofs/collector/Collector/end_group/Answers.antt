@@ -118,29 +118,44 @@ returns-clause-left c = λ flown sound_then.
 
 pub returns-clause-handed : goal.returns-clause-handed
 returns-clause-handed c =
-    let report_is : c.of.result.report ≡ Some (report.Ended c.in-Some.group c.in_ok-grays.grays) = ap (λ (u : Unit). u.report) c.of.ensures in
+    let report_is : c.of.result.report ≡ Some (report.Ended c.in-Some.group c.in_ok-grays.grays) = ap
+    (λ (u : Unit). u.report) c.of.ensures in
     let out : HandsOut c.self.inside.heap c.in-Some.group c.in_ok-handed.handed c.hand_out_group.new.heap = c.in_ok-handed.ensures.ok in
     let here : HeapState → Option Report → Type 0 = λ h r. AreJobs c.in_ok-handed.handed (jobs_at r h) in
-    subst (here c.args.self.now.heap) (sym report_is) (subst (λ (x : CollectorState). here x.heap (Some (report.Ended c.in-Some.group c.in_ok-grays.grays))) c.self.view_is out.jobs_are)
+    subst (here c.args.self.now.heap) (sym report_is)
+    (subst (λ (x : CollectorState). here x.heap
+    (Some (report.Ended c.in-Some.group c.in_ok-grays.grays))) c.self.view_is out.jobs_are)
 
 pub returns-clause-coloured : goal.returns-clause-coloured
 returns-clause-coloured c = λ flown.
-    let v : CollectorState = record { heap = c.self.inside.heap; stack = c.self.inside.stack; lists = c.self.inside.lists; edges = c.self.inside.edges; groups = c.self.inside.order; run = run_of c.self.inside.run } in
+    let v : CollectorState = record {
+      heap = c.self.inside.heap;
+      stack = c.self.inside.stack;
+      lists = c.self.inside.lists;
+      edges = c.self.inside.edges;
+      groups = c.self.inside.order;
+      run = run_of c.self.inside.run;
+    } in
     let group : ZoneSet = c.in-Some.group in
     let here : IsReadyHere v group = ready_here v c.args.self.now c.self.view_is c.requires.ready.0 c.requires.ready.1 c.requires.ready.2 group (sym c.current.ensures ∙ c.in-Some.is) in
     let h : HeapState = c.self.inside.heap in
     let k : HeapState = c.end_sweeping-finished.new.heap in
     let out : HandsOut h group c.in_ok-handed.handed c.hand_out_group.new.heap = c.in_ok-handed.ensures.ok in
-    let colours : k.colours ≡ h.colours = ap (λ (x : HeapState). x.colours) c.end_sweeping-finished.ensures.rest ∙ (ap (λ (x : HeapState). x.colours) out.goes.rest ∙ ap (λ (x : HeapState). x.colours) out.drops.rest) in
+    let colours : k.colours ≡ h.colours = ap (λ (x : HeapState). x.colours) c.end_sweeping-finished.ensures.rest ∙
+    (ap (λ (x : HeapState). x.colours) out.goes.rest ∙ ap (λ (x : HeapState). x.colours) out.drops.rest) in
     let same : c.if-finished.self.heap ≡ k = elim c.if-finished.branch [
       | then-finished w ↦ ap (λ (x : CollectorState). x.heap) w.self-is
       | else-finished w ↦ ap (λ (x : CollectorState). x.heap) w.self-is
     ] in
-    let report_is : c.of.result.report ≡ Some (report.Ended group c.in_ok-grays.grays) = ap (λ (u : Unit). u.report) c.of.ensures in
-    let ended : EndsColoured (Some (report.Ended group c.in_ok-grays.grays)) v flown h.colours = ends_coloured v flown group here.rest here.ready in
+    let report_is : c.of.result.report ≡ Some (report.Ended group c.in_ok-grays.grays) = ap
+    (λ (u : Unit). u.report) c.of.ensures in
+    let ended : EndsColoured (Some
+    (report.Ended group c.in_ok-grays.grays)) v flown h.colours = ends_coloured v flown group here.rest here.ready in
     subst (λ (r : Option Report). EndsColoured r c.args.self.now flown c.if-finished.self.heap.colours) (sym report_is)
-    (subst (λ (bs : List Bits). EndsColoured (Some (report.Ended group c.in_ok-grays.grays)) c.args.self.now flown bs) (sym (ap (λ (x : HeapState). x.colours) same ∙ colours))
-    (subst (λ (x : CollectorState). EndsColoured (Some (report.Ended group c.in_ok-grays.grays)) x flown h.colours) c.self.view_is ended))
+    (subst (λ (bs : List Bits). EndsColoured (Some (report.Ended group c.in_ok-grays.grays)) c.args.self.now flown bs)
+    (sym (ap (λ (x : HeapState). x.colours) same ∙ colours))
+    (subst (λ (x : CollectorState). EndsColoured
+    (Some (report.Ended group c.in_ok-grays.grays)) x flown h.colours) c.self.view_is ended))
 
 pub returns-clause-ended : goal.returns-clause-ended
 returns-clause-ended c = ap (λ (u : Unit). is_group_end u.report) c.of.ensures

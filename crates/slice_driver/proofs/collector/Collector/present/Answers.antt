@@ -12,5 +12,6 @@ returns-in_default c =
 
 pub lost_from-requires-clause-first : goal.lost_from-requires-clause-first
 lost_from-requires-clause-first c =
-    let out = subst (λ (s : CollectorState). IsSome (out_of s.heap.shape c.in-Some.first)) (sym c.self.view_is) c.in-Some.ensures.some.out in
+    let out = subst (λ (s : CollectorState). IsSome (out_of s.heap.shape c.in-Some.first))
+    (sym c.self.view_is) c.in-Some.ensures.some.out in
     out_made c.self.inside.heap.shape.arenas c.in-Some.first out

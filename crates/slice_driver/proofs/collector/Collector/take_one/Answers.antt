@@ -114,4 +114,5 @@ returns-clause-left c = λ flown sound at.
     (subst (λ (x : CollectorState). units_left x (without_arena flown a) < units_left v flown) self_is less)
 
 pub returns-clause-sound : goal.returns-clause-sound
-returns-clause-sound c = λ flown s at. unit_sound c.args.self.now _ flown (without_arena flown c.args.arena) _ (returns-clause-done c flown at) s
+returns-clause-sound c = λ flown s at. unit_sound c.args.self.now _ flown (without_arena flown c.args.arena) _
+    (returns-clause-done c flown at) s

@@ -95,50 +95,92 @@ pub returns-clause-due_where : goal.returns-clause-due_where
 returns-clause-due_where g c = λ rests a lowest. absurd (none_out c.args.self.now (g.F.Flight.bits c.args.flight.now) c.marks_black.new.self (g.F.Flight.bits c.marks_black.new.flight) c.forms_groups.new.self c.begins_zone.new.self c.marks_gray.new.self (g.F.Flight.bits c.marks_gray.new.flight) c.if-marks_black.ensures.done.0 c.in_default.ensures.1 c.if-begins_zone.ensures.1 c.if-marks_gray.ensures.done.0 a lowest c.in_default-next_out.ensures.none)
 
 pub returns-then-marks_black-clause-ended_where : goal.returns-then-marks_black-clause-ended_where
-returns-then-marks_black-clause-ended_where g c = not_at_end c.quiet.result (IsAtGroupEnd c.args.self.now (g.F.Flight.bits c.args.flight.now)) (ap (λ (u : Unit). is_group_end u.report) c.quiet.ensures) (λ at. c.if-marks_black.ensures.done.1 at.0.black)
+returns-then-marks_black-clause-ended_where g c = not_at_end c.quiet.result
+    (IsAtGroupEnd c.args.self.now (g.F.Flight.bits c.args.flight.now))
+    (ap (λ (u : Unit). is_group_end u.report) c.quiet.ensures) (λ at. c.if-marks_black.ensures.done.1 at.0.black)
 
 pub returns-in-Some-clause-ended_where : goal.returns-in-Some-clause-ended_where
-returns-in-Some-clause-ended_where g c = not_at_end c.in-Some.unit (IsAtGroupEnd c.args.self.now (g.F.Flight.bits c.args.flight.now)) c.in-Some.ensures.goes_on (λ at. c.in-Some.ensures.unformed (subst (λ (x : CollectorState). IsFormed x) (sym c.if-marks_black.ensures.done.0.same) at.0.formed))
+returns-in-Some-clause-ended_where g c = not_at_end c.in-Some.unit
+    (IsAtGroupEnd c.args.self.now (g.F.Flight.bits c.args.flight.now)) c.in-Some.ensures.goes_on
+    (λ at. c.in-Some.ensures.unformed (subst (λ (x : CollectorState). IsFormed x)
+    (sym c.if-marks_black.ensures.done.0.same) at.0.formed))
 
 pub returns-then-begins_zone-clause-ended_where : goal.returns-then-begins_zone-clause-ended_where
 returns-then-begins_zone-clause-ended_where g c =
-    let still = still_on c.args.self.now (g.F.Flight.bits c.args.flight.now) c.marks_black.new.self (g.F.Flight.bits c.marks_black.new.flight) c.forms_groups.new.self c.if-marks_black.ensures.done.0 c.in_default.ensures.1 in
-    not_at_end c.quiet-then-begins_zone.result (IsAtGroupEnd c.args.self.now (g.F.Flight.bits c.args.flight.now)) (ap (λ (u : Unit). is_group_end u.report) c.quiet-then-begins_zone.ensures) (λ at. c.if-begins_zone.ensures.1 (subst (λ (x : CollectorState). HasBegun x) (sym still.same) at.0.begun))
+    let still = still_on c.args.self.now (g.F.Flight.bits c.args.flight.now) c.marks_black.new.self
+    (g.F.Flight.bits c.marks_black.new.flight) c.forms_groups.new.self c.if-marks_black.ensures.done.0 c.in_default.ensures.1 in
+    not_at_end c.quiet-then-begins_zone.result (IsAtGroupEnd c.args.self.now (g.F.Flight.bits c.args.flight.now))
+    (ap (λ (u : Unit). is_group_end u.report) c.quiet-then-begins_zone.ensures)
+    (λ at. c.if-begins_zone.ensures.1 (subst (λ (x : CollectorState). HasBegun x) (sym still.same) at.0.begun))
 
 pub returns-then-marks_gray-clause-ended_where : goal.returns-then-marks_gray-clause-ended_where
 returns-then-marks_gray-clause-ended_where g c =
-    let still = still_on c.args.self.now (g.F.Flight.bits c.args.flight.now) c.forms_groups.new.self (g.F.Flight.bits c.marks_black.new.flight) c.begins_zone.new.self (still_on c.args.self.now (g.F.Flight.bits c.args.flight.now) c.marks_black.new.self (g.F.Flight.bits c.marks_black.new.flight) c.forms_groups.new.self c.if-marks_black.ensures.done.0 c.in_default.ensures.1) c.if-begins_zone.ensures.1 in
-    not_at_end c.quiet-then-marks_gray.result (IsAtGroupEnd c.args.self.now (g.F.Flight.bits c.args.flight.now)) (ap (λ (u : Unit). is_group_end u.report) c.quiet-then-marks_gray.ensures) (λ at. c.if-marks_gray.ensures.done.1 (still_group_done c.args.self.now (g.F.Flight.bits c.args.flight.now) c.begins_zone.new.self (g.F.Flight.bits c.marks_black.new.flight) still at.0.group))
+    let still = still_on c.args.self.now (g.F.Flight.bits c.args.flight.now) c.forms_groups.new.self
+    (g.F.Flight.bits c.marks_black.new.flight) c.begins_zone.new.self
+    (still_on c.args.self.now (g.F.Flight.bits c.args.flight.now) c.marks_black.new.self
+    (g.F.Flight.bits c.marks_black.new.flight) c.forms_groups.new.self c.if-marks_black.ensures.done.0 c.in_default.ensures.1) c.if-begins_zone.ensures.1 in
+    not_at_end c.quiet-then-marks_gray.result (IsAtGroupEnd c.args.self.now (g.F.Flight.bits c.args.flight.now))
+    (ap (λ (u : Unit). is_group_end u.report) c.quiet-then-marks_gray.ensures)
+    (λ at. c.if-marks_gray.ensures.done.1
+    (still_group_done c.args.self.now (g.F.Flight.bits c.args.flight.now) c.begins_zone.new.self
+    (g.F.Flight.bits c.marks_black.new.flight) still at.0.group))
 
 pub returns-in-Some-next_out-clause-ended_where : goal.returns-in-Some-next_out-clause-ended_where
-returns-in-Some-next_out-clause-ended_where g c = not_at_end c.due.result (IsAtGroupEnd c.args.self.now (g.F.Flight.bits c.args.flight.now)) (ap (λ (u : Unit). is_group_end u.report) c.due.ensures) (one_out c.args.self.now (g.F.Flight.bits c.args.flight.now) c.marks_black.new.self (g.F.Flight.bits c.marks_black.new.flight) c.forms_groups.new.self c.begins_zone.new.self c.marks_gray.new.self (g.F.Flight.bits c.marks_gray.new.flight) c.if-marks_black.ensures.done.0 c.in_default.ensures.1 c.if-begins_zone.ensures.1 c.if-marks_gray.ensures.done.0 c.in-Some-next_out.arena c.in-Some-next_out.ensures.some)
+returns-in-Some-next_out-clause-ended_where g c = not_at_end c.due.result
+    (IsAtGroupEnd c.args.self.now (g.F.Flight.bits c.args.flight.now))
+    (ap (λ (u : Unit). is_group_end u.report) c.due.ensures)
+    (one_out c.args.self.now (g.F.Flight.bits c.args.flight.now) c.marks_black.new.self
+    (g.F.Flight.bits c.marks_black.new.flight) c.forms_groups.new.self c.begins_zone.new.self c.marks_gray.new.self
+    (g.F.Flight.bits c.marks_gray.new.flight) c.if-marks_black.ensures.done.0 c.in_default.ensures.1 c.if-begins_zone.ensures.1 c.if-marks_gray.ensures.done.0 c.in-Some-next_out.arena c.in-Some-next_out.ensures.some)
 
 pub returns-clause-ended_where : goal.returns-clause-ended_where
 returns-clause-ended_where g c =
-    let still = all_still c.args.self.now (g.F.Flight.bits c.args.flight.now) c.marks_black.new.self (g.F.Flight.bits c.marks_black.new.flight) c.forms_groups.new.self c.begins_zone.new.self c.marks_gray.new.self (g.F.Flight.bits c.marks_gray.new.flight) c.if-marks_black.ensures.done.0 c.in_default.ensures.1 c.if-begins_zone.ensures.1 c.if-marks_gray.ensures.done.0 in
-    let sound = still_sound c.args.self.now (g.F.Flight.bits c.args.flight.now) c.marks_gray.new.self (g.F.Flight.bits c.marks_gray.new.flight) still c.requires.sound in
-    ended_where c.args.self.now (g.F.Flight.bits c.args.flight.now) c.marks_gray.new.self (g.F.Flight.bits c.marks_gray.new.flight) still sound c.end_group.new.self c.end_group.result c.end_group.ensures.ended (four_rested c.args.self.now (g.F.Flight.bits c.args.flight.now) c.marks_black.new.self (g.F.Flight.bits c.marks_black.new.flight) c.forms_groups.new.self c.begins_zone.new.self c.marks_gray.new.self (g.F.Flight.bits c.marks_gray.new.flight) c.if-marks_black.ensures.done.0 c.in_default.ensures.1 c.if-begins_zone.ensures.1 c.if-marks_gray.ensures.done.0 c.if-marks_black.ensures.done.1 c.in_default.ensures.0 c.if-begins_zone.ensures.0 c.if-marks_gray.ensures.done.1, none_out_before c.args.self.now (g.F.Flight.bits c.args.flight.now) c.marks_black.new.self (g.F.Flight.bits c.marks_black.new.flight) c.forms_groups.new.self c.begins_zone.new.self c.marks_gray.new.self (g.F.Flight.bits c.marks_gray.new.flight) c.if-marks_black.ensures.done.0 c.in_default.ensures.1 c.if-begins_zone.ensures.1 c.if-marks_gray.ensures.done.0 c.in_default-next_out.ensures.none)
+    let still = all_still c.args.self.now (g.F.Flight.bits c.args.flight.now) c.marks_black.new.self
+    (g.F.Flight.bits c.marks_black.new.flight) c.forms_groups.new.self c.begins_zone.new.self c.marks_gray.new.self
+    (g.F.Flight.bits c.marks_gray.new.flight) c.if-marks_black.ensures.done.0 c.in_default.ensures.1 c.if-begins_zone.ensures.1 c.if-marks_gray.ensures.done.0 in
+    let sound = still_sound c.args.self.now (g.F.Flight.bits c.args.flight.now) c.marks_gray.new.self
+    (g.F.Flight.bits c.marks_gray.new.flight) still c.requires.sound in
+    ended_where c.args.self.now (g.F.Flight.bits c.args.flight.now) c.marks_gray.new.self
+    (g.F.Flight.bits c.marks_gray.new.flight) still sound c.end_group.new.self c.end_group.result c.end_group.ensures.ended (four_rested c.args.self.now (g.F.Flight.bits c.args.flight.now) c.marks_black.new.self (g.F.Flight.bits c.marks_black.new.flight) c.forms_groups.new.self c.begins_zone.new.self c.marks_gray.new.self (g.F.Flight.bits c.marks_gray.new.flight) c.if-marks_black.ensures.done.0 c.in_default.ensures.1 c.if-begins_zone.ensures.1 c.if-marks_gray.ensures.done.0 c.if-marks_black.ensures.done.1 c.in_default.ensures.0 c.if-begins_zone.ensures.0 c.if-marks_gray.ensures.done.1, none_out_before c.args.self.now (g.F.Flight.bits c.args.flight.now) c.marks_black.new.self (g.F.Flight.bits c.marks_black.new.flight) c.forms_groups.new.self c.begins_zone.new.self c.marks_gray.new.self (g.F.Flight.bits c.marks_gray.new.flight) c.if-marks_black.ensures.done.0 c.in_default.ensures.1 c.if-begins_zone.ensures.1 c.if-marks_gray.ensures.done.0 c.in_default-next_out.ensures.none)
 
 pub returns-clause-handed : goal.returns-clause-handed
 returns-clause-handed g c =
-    let still = all_still c.args.self.now (g.F.Flight.bits c.args.flight.now) c.marks_black.new.self (g.F.Flight.bits c.marks_black.new.flight) c.forms_groups.new.self c.begins_zone.new.self c.marks_gray.new.self (g.F.Flight.bits c.marks_gray.new.flight) c.if-marks_black.ensures.done.0 c.in_default.ensures.1 c.if-begins_zone.ensures.1 c.if-marks_gray.ensures.done.0 in
-    let sound = still_sound c.args.self.now (g.F.Flight.bits c.args.flight.now) c.marks_gray.new.self (g.F.Flight.bits c.marks_gray.new.flight) still c.requires.sound in
-    ended_handed c.args.self.now (g.F.Flight.bits c.args.flight.now) c.marks_gray.new.self (g.F.Flight.bits c.marks_gray.new.flight) still sound c.end_group.new.self c.end_group.result c.end_group.ensures.handed
+    let still = all_still c.args.self.now (g.F.Flight.bits c.args.flight.now) c.marks_black.new.self
+    (g.F.Flight.bits c.marks_black.new.flight) c.forms_groups.new.self c.begins_zone.new.self c.marks_gray.new.self
+    (g.F.Flight.bits c.marks_gray.new.flight) c.if-marks_black.ensures.done.0 c.in_default.ensures.1 c.if-begins_zone.ensures.1 c.if-marks_gray.ensures.done.0 in
+    let sound = still_sound c.args.self.now (g.F.Flight.bits c.args.flight.now) c.marks_gray.new.self
+    (g.F.Flight.bits c.marks_gray.new.flight) still c.requires.sound in
+    ended_handed c.args.self.now (g.F.Flight.bits c.args.flight.now) c.marks_gray.new.self
+    (g.F.Flight.bits c.marks_gray.new.flight) still sound c.end_group.new.self c.end_group.result c.end_group.ensures.handed
 
 pub returns-clause-coloured : goal.returns-clause-coloured
 returns-clause-coloured g c =
-    let still = all_still c.args.self.now (g.F.Flight.bits c.args.flight.now) c.marks_black.new.self (g.F.Flight.bits c.marks_black.new.flight) c.forms_groups.new.self c.begins_zone.new.self c.marks_gray.new.self (g.F.Flight.bits c.marks_gray.new.flight) c.if-marks_black.ensures.done.0 c.in_default.ensures.1 c.if-begins_zone.ensures.1 c.if-marks_gray.ensures.done.0 in
-    let sound = still_sound c.args.self.now (g.F.Flight.bits c.args.flight.now) c.marks_gray.new.self (g.F.Flight.bits c.marks_gray.new.flight) still c.requires.sound in
-    ended_coloured c.args.self.now (g.F.Flight.bits c.args.flight.now) c.marks_gray.new.self (g.F.Flight.bits c.marks_gray.new.flight) still sound c.end_group.new.self c.end_group.result c.end_group.ensures.coloured
+    let still = all_still c.args.self.now (g.F.Flight.bits c.args.flight.now) c.marks_black.new.self
+    (g.F.Flight.bits c.marks_black.new.flight) c.forms_groups.new.self c.begins_zone.new.self c.marks_gray.new.self
+    (g.F.Flight.bits c.marks_gray.new.flight) c.if-marks_black.ensures.done.0 c.in_default.ensures.1 c.if-begins_zone.ensures.1 c.if-marks_gray.ensures.done.0 in
+    let sound = still_sound c.args.self.now (g.F.Flight.bits c.args.flight.now) c.marks_gray.new.self
+    (g.F.Flight.bits c.marks_gray.new.flight) still c.requires.sound in
+    ended_coloured c.args.self.now (g.F.Flight.bits c.args.flight.now) c.marks_gray.new.self
+    (g.F.Flight.bits c.marks_gray.new.flight) still sound c.end_group.new.self c.end_group.result c.end_group.ensures.coloured
 
 pub returns-clause-err : goal.returns-clause-err
 returns-clause-err g c =
-    let still = all_still c.args.self.now (g.F.Flight.bits c.args.flight.now) c.marks_black.new.self (g.F.Flight.bits c.marks_black.new.flight) c.forms_groups.new.self c.begins_zone.new.self c.marks_gray.new.self (g.F.Flight.bits c.marks_gray.new.flight) c.if-marks_black.ensures.done.0 c.in_default.ensures.1 c.if-begins_zone.ensures.1 c.if-marks_gray.ensures.done.0 in
-    let sound = still_sound c.args.self.now (g.F.Flight.bits c.args.flight.now) c.marks_gray.new.self (g.F.Flight.bits c.marks_gray.new.flight) still c.requires.sound in
-    ended_err c.args.self.now (g.F.Flight.bits c.args.flight.now) c.marks_gray.new.self (g.F.Flight.bits c.marks_gray.new.flight) still sound c.end_group.new.self c.end_group.result c.end_group.ensures.err
+    let still = all_still c.args.self.now (g.F.Flight.bits c.args.flight.now) c.marks_black.new.self
+    (g.F.Flight.bits c.marks_black.new.flight) c.forms_groups.new.self c.begins_zone.new.self c.marks_gray.new.self
+    (g.F.Flight.bits c.marks_gray.new.flight) c.if-marks_black.ensures.done.0 c.in_default.ensures.1 c.if-begins_zone.ensures.1 c.if-marks_gray.ensures.done.0 in
+    let sound = still_sound c.args.self.now (g.F.Flight.bits c.args.flight.now) c.marks_gray.new.self
+    (g.F.Flight.bits c.marks_gray.new.flight) still c.requires.sound in
+    ended_err c.args.self.now (g.F.Flight.bits c.args.flight.now) c.marks_gray.new.self
+    (g.F.Flight.bits c.marks_gray.new.flight) still sound c.end_group.new.self c.end_group.result c.end_group.ensures.err
 
 pub returns-clause-err_where : goal.returns-clause-err_where
-returns-clause-err_where g c = on_err (IsAtGroupEnd c.args.self.now (g.F.Flight.bits c.args.flight.now)) c.end_group.result (four_rested c.args.self.now (g.F.Flight.bits c.args.flight.now) c.marks_black.new.self (g.F.Flight.bits c.marks_black.new.flight) c.forms_groups.new.self c.begins_zone.new.self c.marks_gray.new.self (g.F.Flight.bits c.marks_gray.new.flight) c.if-marks_black.ensures.done.0 c.in_default.ensures.1 c.if-begins_zone.ensures.1 c.if-marks_gray.ensures.done.0 c.if-marks_black.ensures.done.1 c.in_default.ensures.0 c.if-begins_zone.ensures.0 c.if-marks_gray.ensures.done.1, none_out_before c.args.self.now (g.F.Flight.bits c.args.flight.now) c.marks_black.new.self (g.F.Flight.bits c.marks_black.new.flight) c.forms_groups.new.self c.begins_zone.new.self c.marks_gray.new.self (g.F.Flight.bits c.marks_gray.new.flight) c.if-marks_black.ensures.done.0 c.in_default.ensures.1 c.if-begins_zone.ensures.1 c.if-marks_gray.ensures.done.0 c.in_default-next_out.ensures.none)
+returns-clause-err_where g c = on_err (IsAtGroupEnd c.args.self.now
+    (g.F.Flight.bits c.args.flight.now)) c.end_group.result (
+      four_rested c.args.self.now (g.F.Flight.bits c.args.flight.now) c.marks_black.new.self
+          (g.F.Flight.bits c.marks_black.new.flight) c.forms_groups.new.self c.begins_zone.new.self c.marks_gray.new.self
+          (g.F.Flight.bits c.marks_gray.new.flight) c.if-marks_black.ensures.done.0 c.in_default.ensures.1 c.if-begins_zone.ensures.1 c.if-marks_gray.ensures.done.0 c.if-marks_black.ensures.done.1 c.in_default.ensures.0 c.if-begins_zone.ensures.0 c.if-marks_gray.ensures.done.1,
+      none_out_before c.args.self.now (g.F.Flight.bits c.args.flight.now) c.marks_black.new.self (g.F.Flight.bits c.marks_black.new.flight) c.forms_groups.new.self c.begins_zone.new.self c.marks_gray.new.self (g.F.Flight.bits c.marks_gray.new.flight) c.if-marks_black.ensures.done.0 c.in_default.ensures.1 c.if-begins_zone.ensures.1 c.if-marks_gray.ensures.done.0 c.in_default-next_out.ensures.none,
+    )
 
 pub returns-in-Some-clause-due_still : goal.returns-in-Some-clause-due_still
 returns-in-Some-clause-due_still g c = not_due _ c.in-Some.unit.due c.in-Some.ensures.due
@@ -147,79 +189,169 @@ pub returns-in-Some-clause-due_rests : goal.returns-in-Some-clause-due_rests
 returns-in-Some-clause-due_rests g c = not_due _ c.in-Some.unit.due c.in-Some.ensures.due
 
 pub returns-in-Some-next_out-clause-due_still : goal.returns-in-Some-next_out-clause-due_still
-returns-in-Some-next_out-clause-due_still g c = λ some. all_still c.args.self.now (g.F.Flight.bits c.args.flight.now) c.marks_black.new.self (g.F.Flight.bits c.marks_black.new.flight) c.forms_groups.new.self c.begins_zone.new.self c.marks_gray.new.self (g.F.Flight.bits c.marks_gray.new.flight) c.if-marks_black.ensures.done.0 c.in_default.ensures.1 c.if-begins_zone.ensures.1 c.if-marks_gray.ensures.done.0
+returns-in-Some-next_out-clause-due_still g c = λ some. all_still c.args.self.now
+    (g.F.Flight.bits c.args.flight.now) c.marks_black.new.self
+    (g.F.Flight.bits c.marks_black.new.flight) c.forms_groups.new.self c.begins_zone.new.self c.marks_gray.new.self
+    (g.F.Flight.bits c.marks_gray.new.flight) c.if-marks_black.ensures.done.0 c.in_default.ensures.1 c.if-begins_zone.ensures.1 c.if-marks_gray.ensures.done.0
 
 pub returns-in-Some-next_out-clause-due_rests : goal.returns-in-Some-next_out-clause-due_rests
-returns-in-Some-next_out-clause-due_rests g c = λ some. four_rested c.args.self.now (g.F.Flight.bits c.args.flight.now) c.marks_black.new.self (g.F.Flight.bits c.marks_black.new.flight) c.forms_groups.new.self c.begins_zone.new.self c.marks_gray.new.self (g.F.Flight.bits c.marks_gray.new.flight) c.if-marks_black.ensures.done.0 c.in_default.ensures.1 c.if-begins_zone.ensures.1 c.if-marks_gray.ensures.done.0 c.if-marks_black.ensures.done.1 c.in_default.ensures.0 c.if-begins_zone.ensures.0 c.if-marks_gray.ensures.done.1
+returns-in-Some-next_out-clause-due_rests g c = λ some. four_rested c.args.self.now
+    (g.F.Flight.bits c.args.flight.now) c.marks_black.new.self
+    (g.F.Flight.bits c.marks_black.new.flight) c.forms_groups.new.self c.begins_zone.new.self c.marks_gray.new.self
+    (g.F.Flight.bits c.marks_gray.new.flight) c.if-marks_black.ensures.done.0 c.in_default.ensures.1 c.if-begins_zone.ensures.1 c.if-marks_gray.ensures.done.0 c.if-marks_black.ensures.done.1 c.in_default.ensures.0 c.if-begins_zone.ensures.0 c.if-marks_gray.ensures.done.1
 
 pub returns-clause-due_still : goal.returns-clause-due_still
-returns-clause-due_still g c = none_due (λ unit. IsStill c.args.self.now (g.F.Flight.bits c.args.flight.now) c.end_group.new.self (g.F.Flight.bits c.marks_gray.new.flight)) c.end_group.result c.end_group.ensures.due
+returns-clause-due_still g c = none_due (λ unit. IsStill c.args.self.now
+    (g.F.Flight.bits c.args.flight.now) c.end_group.new.self
+    (g.F.Flight.bits c.marks_gray.new.flight)) c.end_group.result c.end_group.ensures.due
 
 pub returns-clause-due_rests : goal.returns-clause-due_rests
-returns-clause-due_rests g c = none_due (λ unit. IsResting c.args.self.now (g.F.Flight.bits c.args.flight.now)) c.end_group.result c.end_group.ensures.due
+returns-clause-due_rests g c = none_due (λ unit. IsResting c.args.self.now
+    (g.F.Flight.bits c.args.flight.now)) c.end_group.result c.end_group.ensures.due
 
 pub returns-then-marks_black-clause-handed : goal.returns-then-marks_black-clause-handed
-returns-then-marks_black-clause-handed g c = (says_quiet c.args.self.now (g.F.Flight.bits c.args.flight.now) c.quiet.result c.marks_black.new.self (g.F.Flight.bits c.marks_black.new.flight) c.quiet.ensures c.if-marks_black.ensures.done.0).handed
+returns-then-marks_black-clause-handed g c =
+    (says_quiet c.args.self.now (g.F.Flight.bits c.args.flight.now) c.quiet.result c.marks_black.new.self
+    (g.F.Flight.bits c.marks_black.new.flight) c.quiet.ensures c.if-marks_black.ensures.done.0).handed
 
 pub returns-then-marks_black-clause-coloured : goal.returns-then-marks_black-clause-coloured
-returns-then-marks_black-clause-coloured g c = (says_quiet c.args.self.now (g.F.Flight.bits c.args.flight.now) c.quiet.result c.marks_black.new.self (g.F.Flight.bits c.marks_black.new.flight) c.quiet.ensures c.if-marks_black.ensures.done.0).coloured
+returns-then-marks_black-clause-coloured g c =
+    (says_quiet c.args.self.now (g.F.Flight.bits c.args.flight.now) c.quiet.result c.marks_black.new.self
+    (g.F.Flight.bits c.marks_black.new.flight) c.quiet.ensures c.if-marks_black.ensures.done.0).coloured
 
 pub returns-in-Some-clause-handed : goal.returns-in-Some-clause-handed
 returns-in-Some-clause-handed g c =
     let still = c.if-marks_black.ensures.done.0 in
-    (says_grouping c.args.self.now (g.F.Flight.bits c.args.flight.now) c.marks_black.new.self (g.F.Flight.bits c.marks_black.new.flight) c.in-Some.unit c.forms_groups.new.self still (still_sound c.args.self.now (g.F.Flight.bits c.args.flight.now) c.marks_black.new.self (g.F.Flight.bits c.marks_black.new.flight) still c.requires.sound) c.if-marks_black.ensures.done.1 c.in-Some.ensures).handed
+    (says_grouping c.args.self.now (g.F.Flight.bits c.args.flight.now) c.marks_black.new.self
+    (g.F.Flight.bits c.marks_black.new.flight) c.in-Some.unit c.forms_groups.new.self still
+    (still_sound c.args.self.now (g.F.Flight.bits c.args.flight.now) c.marks_black.new.self
+    (g.F.Flight.bits c.marks_black.new.flight) still c.requires.sound) c.if-marks_black.ensures.done.1 c.in-Some.ensures).handed
 
 pub returns-in-Some-clause-coloured : goal.returns-in-Some-clause-coloured
 returns-in-Some-clause-coloured g c =
     let still = c.if-marks_black.ensures.done.0 in
-    (says_grouping c.args.self.now (g.F.Flight.bits c.args.flight.now) c.marks_black.new.self (g.F.Flight.bits c.marks_black.new.flight) c.in-Some.unit c.forms_groups.new.self still (still_sound c.args.self.now (g.F.Flight.bits c.args.flight.now) c.marks_black.new.self (g.F.Flight.bits c.marks_black.new.flight) still c.requires.sound) c.if-marks_black.ensures.done.1 c.in-Some.ensures).coloured
+    (says_grouping c.args.self.now (g.F.Flight.bits c.args.flight.now) c.marks_black.new.self
+    (g.F.Flight.bits c.marks_black.new.flight) c.in-Some.unit c.forms_groups.new.self still
+    (still_sound c.args.self.now (g.F.Flight.bits c.args.flight.now) c.marks_black.new.self
+    (g.F.Flight.bits c.marks_black.new.flight) still c.requires.sound) c.if-marks_black.ensures.done.1 c.in-Some.ensures).coloured
 
 pub returns-then-begins_zone-clause-handed : goal.returns-then-begins_zone-clause-handed
 returns-then-begins_zone-clause-handed g c =
-    let still = still_on c.args.self.now (g.F.Flight.bits c.args.flight.now) c.marks_black.new.self (g.F.Flight.bits c.marks_black.new.flight) c.forms_groups.new.self c.if-marks_black.ensures.done.0 c.in_default.ensures.1 in
-    (says_quiet c.args.self.now (g.F.Flight.bits c.args.flight.now) c.quiet-then-begins_zone.result c.begins_zone.new.self (g.F.Flight.bits c.marks_black.new.flight) c.quiet-then-begins_zone.ensures (still_goes c.args.self.now (g.F.Flight.bits c.args.flight.now) c.forms_groups.new.self (g.F.Flight.bits c.marks_black.new.flight) [] c.begins_zone.new.self (g.F.Flight.bits c.marks_black.new.flight) still (c.if-begins_zone.ensures.0 (g.F.Flight.bits c.marks_black.new.flight) (still_sound c.args.self.now (g.F.Flight.bits c.args.flight.now) c.forms_groups.new.self (g.F.Flight.bits c.marks_black.new.flight) still c.requires.sound)))).handed
+    let still = still_on c.args.self.now (g.F.Flight.bits c.args.flight.now) c.marks_black.new.self
+    (g.F.Flight.bits c.marks_black.new.flight) c.forms_groups.new.self c.if-marks_black.ensures.done.0 c.in_default.ensures.1 in
+    (says_quiet c.args.self.now
+    (g.F.Flight.bits c.args.flight.now) c.quiet-then-begins_zone.result c.begins_zone.new.self
+    (g.F.Flight.bits c.marks_black.new.flight) c.quiet-then-begins_zone.ensures
+    (still_goes c.args.self.now (g.F.Flight.bits c.args.flight.now) c.forms_groups.new.self
+    (g.F.Flight.bits c.marks_black.new.flight) [] c.begins_zone.new.self
+    (g.F.Flight.bits c.marks_black.new.flight) still
+    (c.if-begins_zone.ensures.0 (g.F.Flight.bits c.marks_black.new.flight)
+    (still_sound c.args.self.now (g.F.Flight.bits c.args.flight.now) c.forms_groups.new.self
+    (g.F.Flight.bits c.marks_black.new.flight) still c.requires.sound)))).handed
 
 pub returns-then-begins_zone-clause-coloured : goal.returns-then-begins_zone-clause-coloured
 returns-then-begins_zone-clause-coloured g c =
-    let still = still_on c.args.self.now (g.F.Flight.bits c.args.flight.now) c.marks_black.new.self (g.F.Flight.bits c.marks_black.new.flight) c.forms_groups.new.self c.if-marks_black.ensures.done.0 c.in_default.ensures.1 in
-    (says_quiet c.args.self.now (g.F.Flight.bits c.args.flight.now) c.quiet-then-begins_zone.result c.begins_zone.new.self (g.F.Flight.bits c.marks_black.new.flight) c.quiet-then-begins_zone.ensures (still_goes c.args.self.now (g.F.Flight.bits c.args.flight.now) c.forms_groups.new.self (g.F.Flight.bits c.marks_black.new.flight) [] c.begins_zone.new.self (g.F.Flight.bits c.marks_black.new.flight) still (c.if-begins_zone.ensures.0 (g.F.Flight.bits c.marks_black.new.flight) (still_sound c.args.self.now (g.F.Flight.bits c.args.flight.now) c.forms_groups.new.self (g.F.Flight.bits c.marks_black.new.flight) still c.requires.sound)))).coloured
+    let still = still_on c.args.self.now (g.F.Flight.bits c.args.flight.now) c.marks_black.new.self
+    (g.F.Flight.bits c.marks_black.new.flight) c.forms_groups.new.self c.if-marks_black.ensures.done.0 c.in_default.ensures.1 in
+    (says_quiet c.args.self.now
+    (g.F.Flight.bits c.args.flight.now) c.quiet-then-begins_zone.result c.begins_zone.new.self
+    (g.F.Flight.bits c.marks_black.new.flight) c.quiet-then-begins_zone.ensures
+    (still_goes c.args.self.now (g.F.Flight.bits c.args.flight.now) c.forms_groups.new.self
+    (g.F.Flight.bits c.marks_black.new.flight) [] c.begins_zone.new.self
+    (g.F.Flight.bits c.marks_black.new.flight) still
+    (c.if-begins_zone.ensures.0 (g.F.Flight.bits c.marks_black.new.flight)
+    (still_sound c.args.self.now (g.F.Flight.bits c.args.flight.now) c.forms_groups.new.self
+    (g.F.Flight.bits c.marks_black.new.flight) still c.requires.sound)))).coloured
 
 pub returns-then-marks_gray-clause-handed : goal.returns-then-marks_gray-clause-handed
 returns-then-marks_gray-clause-handed g c =
-    let still = still_on c.args.self.now (g.F.Flight.bits c.args.flight.now) c.forms_groups.new.self (g.F.Flight.bits c.marks_black.new.flight) c.begins_zone.new.self (still_on c.args.self.now (g.F.Flight.bits c.args.flight.now) c.marks_black.new.self (g.F.Flight.bits c.marks_black.new.flight) c.forms_groups.new.self c.if-marks_black.ensures.done.0 c.in_default.ensures.1) c.if-begins_zone.ensures.1 in
-    (says_quiet c.args.self.now (g.F.Flight.bits c.args.flight.now) c.quiet-then-marks_gray.result c.marks_gray.new.self (g.F.Flight.bits c.marks_gray.new.flight) c.quiet-then-marks_gray.ensures (still_goes c.args.self.now (g.F.Flight.bits c.args.flight.now) c.begins_zone.new.self (g.F.Flight.bits c.marks_black.new.flight) [] c.marks_gray.new.self (g.F.Flight.bits c.marks_gray.new.flight) still c.if-marks_gray.ensures.done.0)).handed
+    let still = still_on c.args.self.now (g.F.Flight.bits c.args.flight.now) c.forms_groups.new.self
+    (g.F.Flight.bits c.marks_black.new.flight) c.begins_zone.new.self
+    (still_on c.args.self.now (g.F.Flight.bits c.args.flight.now) c.marks_black.new.self
+    (g.F.Flight.bits c.marks_black.new.flight) c.forms_groups.new.self c.if-marks_black.ensures.done.0 c.in_default.ensures.1) c.if-begins_zone.ensures.1 in
+    (says_quiet c.args.self.now
+    (g.F.Flight.bits c.args.flight.now) c.quiet-then-marks_gray.result c.marks_gray.new.self
+    (g.F.Flight.bits c.marks_gray.new.flight) c.quiet-then-marks_gray.ensures
+    (still_goes c.args.self.now (g.F.Flight.bits c.args.flight.now) c.begins_zone.new.self
+    (g.F.Flight.bits c.marks_black.new.flight) [] c.marks_gray.new.self
+    (g.F.Flight.bits c.marks_gray.new.flight) still c.if-marks_gray.ensures.done.0)).handed
 
 pub returns-then-marks_gray-clause-coloured : goal.returns-then-marks_gray-clause-coloured
 returns-then-marks_gray-clause-coloured g c =
-    let still = still_on c.args.self.now (g.F.Flight.bits c.args.flight.now) c.forms_groups.new.self (g.F.Flight.bits c.marks_black.new.flight) c.begins_zone.new.self (still_on c.args.self.now (g.F.Flight.bits c.args.flight.now) c.marks_black.new.self (g.F.Flight.bits c.marks_black.new.flight) c.forms_groups.new.self c.if-marks_black.ensures.done.0 c.in_default.ensures.1) c.if-begins_zone.ensures.1 in
-    (says_quiet c.args.self.now (g.F.Flight.bits c.args.flight.now) c.quiet-then-marks_gray.result c.marks_gray.new.self (g.F.Flight.bits c.marks_gray.new.flight) c.quiet-then-marks_gray.ensures (still_goes c.args.self.now (g.F.Flight.bits c.args.flight.now) c.begins_zone.new.self (g.F.Flight.bits c.marks_black.new.flight) [] c.marks_gray.new.self (g.F.Flight.bits c.marks_gray.new.flight) still c.if-marks_gray.ensures.done.0)).coloured
+    let still = still_on c.args.self.now (g.F.Flight.bits c.args.flight.now) c.forms_groups.new.self
+    (g.F.Flight.bits c.marks_black.new.flight) c.begins_zone.new.self
+    (still_on c.args.self.now (g.F.Flight.bits c.args.flight.now) c.marks_black.new.self
+    (g.F.Flight.bits c.marks_black.new.flight) c.forms_groups.new.self c.if-marks_black.ensures.done.0 c.in_default.ensures.1) c.if-begins_zone.ensures.1 in
+    (says_quiet c.args.self.now
+    (g.F.Flight.bits c.args.flight.now) c.quiet-then-marks_gray.result c.marks_gray.new.self
+    (g.F.Flight.bits c.marks_gray.new.flight) c.quiet-then-marks_gray.ensures
+    (still_goes c.args.self.now (g.F.Flight.bits c.args.flight.now) c.begins_zone.new.self
+    (g.F.Flight.bits c.marks_black.new.flight) [] c.marks_gray.new.self
+    (g.F.Flight.bits c.marks_gray.new.flight) still c.if-marks_gray.ensures.done.0)).coloured
 
 pub returns-then-marks_black-clause-sound : goal.returns-then-marks_black-clause-sound
-returns-then-marks_black-clause-sound g c = says_sound c.args.self.now (g.F.Flight.bits c.args.flight.now) c.quiet.result c.marks_black.new.self (g.F.Flight.bits c.marks_black.new.flight) (says_quiet c.args.self.now (g.F.Flight.bits c.args.flight.now) c.quiet.result c.marks_black.new.self (g.F.Flight.bits c.marks_black.new.flight) c.quiet.ensures c.if-marks_black.ensures.done.0) c.requires.sound
+returns-then-marks_black-clause-sound g c = says_sound c.args.self.now
+    (g.F.Flight.bits c.args.flight.now) c.quiet.result c.marks_black.new.self
+    (g.F.Flight.bits c.marks_black.new.flight)
+    (says_quiet c.args.self.now (g.F.Flight.bits c.args.flight.now) c.quiet.result c.marks_black.new.self
+    (g.F.Flight.bits c.marks_black.new.flight) c.quiet.ensures c.if-marks_black.ensures.done.0) c.requires.sound
 
 pub returns-in-Some-clause-sound : goal.returns-in-Some-clause-sound
 returns-in-Some-clause-sound g c =
     let still = c.if-marks_black.ensures.done.0 in
-    says_sound c.args.self.now (g.F.Flight.bits c.args.flight.now) c.in-Some.unit c.forms_groups.new.self (g.F.Flight.bits c.marks_black.new.flight) (says_grouping c.args.self.now (g.F.Flight.bits c.args.flight.now) c.marks_black.new.self (g.F.Flight.bits c.marks_black.new.flight) c.in-Some.unit c.forms_groups.new.self still (still_sound c.args.self.now (g.F.Flight.bits c.args.flight.now) c.marks_black.new.self (g.F.Flight.bits c.marks_black.new.flight) still c.requires.sound) c.if-marks_black.ensures.done.1 c.in-Some.ensures) c.requires.sound
+    says_sound c.args.self.now (g.F.Flight.bits c.args.flight.now) c.in-Some.unit c.forms_groups.new.self
+    (g.F.Flight.bits c.marks_black.new.flight)
+    (says_grouping c.args.self.now (g.F.Flight.bits c.args.flight.now) c.marks_black.new.self
+    (g.F.Flight.bits c.marks_black.new.flight) c.in-Some.unit c.forms_groups.new.self still
+    (still_sound c.args.self.now (g.F.Flight.bits c.args.flight.now) c.marks_black.new.self
+    (g.F.Flight.bits c.marks_black.new.flight) still c.requires.sound) c.if-marks_black.ensures.done.1 c.in-Some.ensures) c.requires.sound
 
 pub returns-then-begins_zone-clause-sound : goal.returns-then-begins_zone-clause-sound
 returns-then-begins_zone-clause-sound g c =
-    let still = still_on c.args.self.now (g.F.Flight.bits c.args.flight.now) c.marks_black.new.self (g.F.Flight.bits c.marks_black.new.flight) c.forms_groups.new.self c.if-marks_black.ensures.done.0 c.in_default.ensures.1 in
-    says_sound c.args.self.now (g.F.Flight.bits c.args.flight.now) c.quiet-then-begins_zone.result c.begins_zone.new.self (g.F.Flight.bits c.marks_black.new.flight) (says_quiet c.args.self.now (g.F.Flight.bits c.args.flight.now) c.quiet-then-begins_zone.result c.begins_zone.new.self (g.F.Flight.bits c.marks_black.new.flight) c.quiet-then-begins_zone.ensures (still_goes c.args.self.now (g.F.Flight.bits c.args.flight.now) c.forms_groups.new.self (g.F.Flight.bits c.marks_black.new.flight) [] c.begins_zone.new.self (g.F.Flight.bits c.marks_black.new.flight) still (c.if-begins_zone.ensures.0 (g.F.Flight.bits c.marks_black.new.flight) (still_sound c.args.self.now (g.F.Flight.bits c.args.flight.now) c.forms_groups.new.self (g.F.Flight.bits c.marks_black.new.flight) still c.requires.sound)))) c.requires.sound
+    let still = still_on c.args.self.now (g.F.Flight.bits c.args.flight.now) c.marks_black.new.self
+    (g.F.Flight.bits c.marks_black.new.flight) c.forms_groups.new.self c.if-marks_black.ensures.done.0 c.in_default.ensures.1 in
+    says_sound c.args.self.now
+    (g.F.Flight.bits c.args.flight.now) c.quiet-then-begins_zone.result c.begins_zone.new.self
+    (g.F.Flight.bits c.marks_black.new.flight)
+    (says_quiet c.args.self.now
+    (g.F.Flight.bits c.args.flight.now) c.quiet-then-begins_zone.result c.begins_zone.new.self
+    (g.F.Flight.bits c.marks_black.new.flight) c.quiet-then-begins_zone.ensures
+    (still_goes c.args.self.now (g.F.Flight.bits c.args.flight.now) c.forms_groups.new.self
+    (g.F.Flight.bits c.marks_black.new.flight) [] c.begins_zone.new.self
+    (g.F.Flight.bits c.marks_black.new.flight) still
+    (c.if-begins_zone.ensures.0 (g.F.Flight.bits c.marks_black.new.flight)
+    (still_sound c.args.self.now (g.F.Flight.bits c.args.flight.now) c.forms_groups.new.self
+    (g.F.Flight.bits c.marks_black.new.flight) still c.requires.sound)))) c.requires.sound
 
 pub returns-then-marks_gray-clause-sound : goal.returns-then-marks_gray-clause-sound
 returns-then-marks_gray-clause-sound g c =
-    let still = still_on c.args.self.now (g.F.Flight.bits c.args.flight.now) c.forms_groups.new.self (g.F.Flight.bits c.marks_black.new.flight) c.begins_zone.new.self (still_on c.args.self.now (g.F.Flight.bits c.args.flight.now) c.marks_black.new.self (g.F.Flight.bits c.marks_black.new.flight) c.forms_groups.new.self c.if-marks_black.ensures.done.0 c.in_default.ensures.1) c.if-begins_zone.ensures.1 in
-    says_sound c.args.self.now (g.F.Flight.bits c.args.flight.now) c.quiet-then-marks_gray.result c.marks_gray.new.self (g.F.Flight.bits c.marks_gray.new.flight) (says_quiet c.args.self.now (g.F.Flight.bits c.args.flight.now) c.quiet-then-marks_gray.result c.marks_gray.new.self (g.F.Flight.bits c.marks_gray.new.flight) c.quiet-then-marks_gray.ensures (still_goes c.args.self.now (g.F.Flight.bits c.args.flight.now) c.begins_zone.new.self (g.F.Flight.bits c.marks_black.new.flight) [] c.marks_gray.new.self (g.F.Flight.bits c.marks_gray.new.flight) still c.if-marks_gray.ensures.done.0)) c.requires.sound
+    let still = still_on c.args.self.now (g.F.Flight.bits c.args.flight.now) c.forms_groups.new.self
+    (g.F.Flight.bits c.marks_black.new.flight) c.begins_zone.new.self
+    (still_on c.args.self.now (g.F.Flight.bits c.args.flight.now) c.marks_black.new.self
+    (g.F.Flight.bits c.marks_black.new.flight) c.forms_groups.new.self c.if-marks_black.ensures.done.0 c.in_default.ensures.1) c.if-begins_zone.ensures.1 in
+    says_sound c.args.self.now (g.F.Flight.bits c.args.flight.now) c.quiet-then-marks_gray.result c.marks_gray.new.self
+    (g.F.Flight.bits c.marks_gray.new.flight)
+    (says_quiet c.args.self.now
+    (g.F.Flight.bits c.args.flight.now) c.quiet-then-marks_gray.result c.marks_gray.new.self
+    (g.F.Flight.bits c.marks_gray.new.flight) c.quiet-then-marks_gray.ensures
+    (still_goes c.args.self.now (g.F.Flight.bits c.args.flight.now) c.begins_zone.new.self
+    (g.F.Flight.bits c.marks_black.new.flight) [] c.marks_gray.new.self
+    (g.F.Flight.bits c.marks_gray.new.flight) still c.if-marks_gray.ensures.done.0)) c.requires.sound
 
 pub returns-clause-sound : goal.returns-clause-sound
 returns-clause-sound g c =
-    let still = all_still c.args.self.now (g.F.Flight.bits c.args.flight.now) c.marks_black.new.self (g.F.Flight.bits c.marks_black.new.flight) c.forms_groups.new.self c.begins_zone.new.self c.marks_gray.new.self (g.F.Flight.bits c.marks_gray.new.flight) c.if-marks_black.ensures.done.0 c.in_default.ensures.1 c.if-begins_zone.ensures.1 c.if-marks_gray.ensures.done.0 in
-    let sound = still_sound c.args.self.now (g.F.Flight.bits c.args.flight.now) c.marks_gray.new.self (g.F.Flight.bits c.marks_gray.new.flight) still c.requires.sound in
-    ended_sound c.args.self.now (g.F.Flight.bits c.args.flight.now) c.marks_gray.new.self (g.F.Flight.bits c.marks_gray.new.flight) still sound c.end_group.new.self c.end_group.result c.end_group.ensures.done
+    let still = all_still c.args.self.now (g.F.Flight.bits c.args.flight.now) c.marks_black.new.self
+    (g.F.Flight.bits c.marks_black.new.flight) c.forms_groups.new.self c.begins_zone.new.self c.marks_gray.new.self
+    (g.F.Flight.bits c.marks_gray.new.flight) c.if-marks_black.ensures.done.0 c.in_default.ensures.1 c.if-begins_zone.ensures.1 c.if-marks_gray.ensures.done.0 in
+    let sound = still_sound c.args.self.now (g.F.Flight.bits c.args.flight.now) c.marks_gray.new.self
+    (g.F.Flight.bits c.marks_gray.new.flight) still c.requires.sound in
+    ended_sound c.args.self.now (g.F.Flight.bits c.args.flight.now) c.marks_gray.new.self
+    (g.F.Flight.bits c.marks_gray.new.flight) still sound c.end_group.new.self c.end_group.result c.end_group.ensures.done
 
 pub returns-in-Some-next_out-clause-sound : goal.returns-in-Some-next_out-clause-sound
 returns-in-Some-next_out-clause-sound g c =
     let still = all_still c.args.self.now (g.F.Flight.bits c.args.flight.now) c.marks_black.new.self (g.F.Flight.bits c.marks_black.new.flight) c.forms_groups.new.self c.begins_zone.new.self c.marks_gray.new.self (g.F.Flight.bits c.marks_gray.new.flight) c.if-marks_black.ensures.done.0 c.in_default.ensures.1 c.if-begins_zone.ensures.1 c.if-marks_gray.ensures.done.0 in
-    let sound = still_sound c.args.self.now (g.F.Flight.bits c.args.flight.now) c.marks_gray.new.self (g.F.Flight.bits c.marks_gray.new.flight) still c.requires.sound in
-    subst (λ (u : Unit). IsSound c.marks_gray.new.self (flying_after u.handed (g.F.Flight.bits c.marks_gray.new.flight))) (sym c.due.ensures) sound
+    let sound = still_sound c.args.self.now (g.F.Flight.bits c.args.flight.now) c.marks_gray.new.self
+    (g.F.Flight.bits c.marks_gray.new.flight) still c.requires.sound in
+    subst (λ (u : Unit). IsSound c.marks_gray.new.self
+    (flying_after u.handed (g.F.Flight.bits c.marks_gray.new.flight))) (sym c.due.ensures) sound
