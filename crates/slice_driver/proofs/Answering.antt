@@ -427,11 +427,12 @@ module _ (b : CollectorState) (flown : ℕ → Option Bits) (command : GraphCmd)
     words_moves (finds p x named wakes colours arenas weak none_stored is_handed) =
         let stay = stay_same m.shape new.shape arenas lies.whole in
         keeps_words m.shape new.shape lies.whole stay.whole served.outs (λ q out. stay.names q) stay.unswept
-    words_moves (makes zone p x cell between comes wakes mk colours none_stored none_handed) = keeps_words m.shape new.shape lies.whole comes.whole served.outs (λ q out. elim (same-place q p) [
-      | inl here ↦ absurd (let none : out_of m.shape q.0 ≡ None = ap (λ (z : Place). out_of m.shape z.0) here.0
-          ∙ mk.in_place in some_out (out_of m.shape q.0) none out)
-      | inr away ↦ comes.names q ∙ ap (λ b. if b then Some x else name_at m.shape q) away.1
-    ]) comes.unswept
+    words_moves (makes zone p x cell between comes wakes mk colours none_stored none_handed) = keeps_words m.shape
+        new.shape lies.whole comes.whole served.outs (λ q out. elim (same-place q p) [
+          | inl here ↦ absurd (let none : out_of m.shape q.0 ≡ None = ap (λ (z : Place). out_of m.shape z.0) here.0
+              ∙ mk.in_place in some_out (out_of m.shape q.0) none out)
+          | inr away ↦ comes.names q ∙ ap (λ b. if b then Some x else name_at m.shape q) away.1
+        ]) comes.unswept
       where
         some_out : (o : Option Bits) → o ≡ None → IsSome o → ⊥
         some_out None e some = cc some
@@ -585,15 +586,22 @@ module _ (c : CollectorState) (flown : ℕ → Option Bits) (command : GraphCmd)
 
     pub answered_ok : AnswersIn w command (Ok answer) d flying
     answered_ok = subst (λ e. AnswersIn w command (Ok answer) e flying) (sym d_is)
-        (answers_moves second steps.second_flown command w ok second_stands ds steps.third.stack flying steps.handed steps.handed_is exposed_last covers_last accepted_here homes_second apart_second (stored_black accepted_wide) (target_black accepted_first) answer d.heap step_ok change_ok room_last lists_last
+        (answers_moves second steps.second_flown command w ok second_stands ds steps.third.stack flying steps.handed
+        steps.handed_is exposed_last covers_last accepted_here homes_second apart_second
+        (stored_black accepted_wide) (target_black accepted_first) answer d.heap step_ok change_ok room_last
+        lists_last
         (moves_of (with_colours second.heap ds) second_stands.lies.graph (shows_last second_stands.lies.graph second_stands.lies.shown) second_stands.lies.whole d.heap command change_ok))
 
     -- no arena is handed out or taken in
     pub outs_ok : (a : ℕ) → out_of d.heap.shape a ≡ out_of second.heap.shape a
-    outs_ok a = (served second steps.second_flown command w ok second_stands ds steps.third.stack flying steps.handed steps.handed_is exposed_last covers_last accepted_here homes_second apart_second (stored_black accepted_wide) (target_black accepted_first) answer d.heap step_ok change_ok room_last lists_last).outs a
+    outs_ok a = (served second steps.second_flown command w ok second_stands ds steps.third.stack flying steps.handed
+        steps.handed_is exposed_last covers_last accepted_here homes_second apart_second (stored_black accepted_wide)
+        (target_black accepted_first) answer d.heap step_ok change_ok room_last lists_last).outs a
 
     pub words_ok : KeepsFreedWords second.heap.shape d.heap.shape
-    words_ok = words_moves second steps.second_flown command w ok second_stands ds steps.third.stack flying steps.handed steps.handed_is exposed_last covers_last accepted_here homes_second apart_second (stored_black accepted_wide) (target_black accepted_first) answer d.heap step_ok change_ok room_last lists_last
+    words_ok = words_moves second steps.second_flown command w ok second_stands ds steps.third.stack flying
+        steps.handed steps.handed_is exposed_last covers_last accepted_here homes_second apart_second
+        (stored_black accepted_wide) (target_black accepted_first) answer d.heap step_ok change_ok room_last lists_last
         (moves_of (with_colours second.heap ds) second_stands.lies.graph
         (shows_last second_stands.lies.graph second_stands.lies.shown) second_stands.lies.whole d.heap command change_ok)
 

@@ -55,7 +55,14 @@ module _ (jobs : List Job) (slots id : ℕ) (me : BoardSeat) (i : ℕ) (lt : i <
       let is : helper_weight me.0.role ≡ 1 = ap helper_weight helper in record {
         long = length-set old (4 * i) 1;
         away = away;
-        arena = record { low = low; black-is = subst (λ z. IsWoken (job_at jobs i).bits z) (sym black) arena.black-is; gob-is = gob ∙ arena.gob-is; untouched = λ zero. absurd (omega arith); freed-is = λ two. absurd (omega arith) };
+        arena = record {
+          low = low;
+          black-is = subst (λ z. IsWoken (job_at jobs i).bits z) (sym black) arena.black-is;
+          gob-is = gob ∙ arena.gob-is;
+          untouched = λ zero. absurd (omega arith);
+          freed-is = λ two. absurd
+              (omega arith);
+        };
         up = up;
         claim = let a = self_claim i in let b = none_before i in let c : weight (eqb (state_at old i) 1) ≡ 0 = ap (λ (n : ℕ). weight (eqb n 1)) is_ready in let d : weight (eqb (state_at new i) 1) ≡ 1 = ap (λ (n : ℕ). weight (eqb n 1)) now in omega arith;
         claims = λ a ne. other_claim i a ne ∙ sym (none_before a);
@@ -64,7 +71,15 @@ module _ (jobs : List Job) (slots id : ℕ) (me : BoardSeat) (i : ℕ) (lt : i <
             let d : weight (eqb (state_at new i) 2) ≡ 0 = ap (λ (n : ℕ). weight (eqb n 2)) now in omega arith;
         sweeps = λ a ne. refl;
         freed = inl freed;
-        fits = record { stage = lt; idle = λ a. let le = weight_le (eqb i a) in omega arith; passed = passed_on old new i away up me.0.passed fit.passed; finished = done_on old new i away up low me.0.finished fit.finished; taken = done_on old new i away up low me.0.taken fit.taken; spent = fit.spent };
+        fits = record {
+          stage = lt;
+          idle = λ a. let le = weight_le (eqb i a) in omega arith;
+          passed = passed_on old new
+              i away up me.0.passed fit.passed;
+          finished = done_on old new i away up low me.0.finished fit.finished;
+          taken = done_on old new i away up low me.0.taken fit.taken;
+          spent = fit.spent;
+        };
         role = refl;
         helpers = refl;
         masks = λ a ne. refl;
@@ -92,7 +107,17 @@ module _ (jobs : List Job) (slots id : ℕ) (me : BoardSeat) (i : ℕ) (lt : i <
         tt,
         subst (λ b. BoardRule jobs (stepped s (4 * i) (either b 1 x) id me.1 w keeps)) (sym (ne_eqb x 0 miss))
             (loaded jobs s i id me.0 w k at lt (4 * i) s.homes
-            (still jobs s i id me.0 w k at lt (λ a. refl) (record { stage = fit.stage; idle = fit.idle; passed = All-cons (λ a. 0 < state_at s.words a) i me.0.passed (omega arith) fit.passed; finished = fit.finished; taken = fit.taken; spent = fit.spent }) refl refl refl refl)),
+            (still jobs s i id me.0 w k at lt (λ a. refl)
+            (record {
+              stage = fit.stage;
+              idle = fit.idle;
+              passed = All-cons (λ a. 0 < state_at s.words a) i
+                  me.0.passed (omega arith) fit.passed;
+              finished = fit.finished;
+              taken = fit.taken;
+              spent = fit.spent;
+            })
+            refl refl refl refl)),
         (let P : Type 0 = (w, me.1) ≡ (at_stage me.0 (Claimed ((4 * i) / 4)), me.1) in let Q : Type 0 = (w, me.1) ≡ (with_passed me.0 ((4 * i) / 4), me.1) in
             (subst (λ b. MatchBool b P Q) (sym (ne_eqb x 0 miss)) (ap (λ (n : ℕ). (with_passed me.0 n, me.1)) (sym (quarter i))), known)),
       ))
@@ -106,7 +131,16 @@ module _ (jobs : List Job) (slots id : ℕ) (me : BoardSeat) (i : ℕ) (lt : i <
         keeps,
         tt,
         loaded jobs s i id me.0 w k at lt (4 * i) s.homes
-            (still jobs s i id me.0 w k at lt (λ a. refl) (record { stage = fit.stage; idle = fit.idle; passed = fit.passed; finished = fit.finished; taken = fit.taken; spent = fit.spent }) refl refl refl refl),
+            (still jobs s i id me.0 w k at lt (λ a. refl)
+            (record {
+              stage = fit.stage;
+              idle = fit.idle;
+              passed = fit.passed;
+              finished = fit.finished;
+              taken =
+                  fit.taken;
+              spent = fit.spent;
+            }) refl refl refl refl),
         ap (λ (n : ℕ). (with_gate me.0 n name, me.1)) (sym (quarter i)),
       )
 
@@ -122,7 +156,16 @@ module _ (jobs : List Job) (slots id : ℕ) (me : BoardSeat) (i : ℕ) (lt : i <
         keeps,
         tt,
         loaded jobs s i id me.0 w k at lt (4 * i + 1) s.homes
-            (still jobs s i id me.0 w k at lt same (record { stage = stage; idle = λ a. let e = same a in let f = fit.idle a in omega arith; passed = fit.passed; finished = fit.finished; taken = fit.taken; spent = fit.spent }) refl refl refl refl),
+            (still jobs s i id me.0 w k at lt same
+            (record {
+              stage = stage;
+              idle = λ a. let e = same a in let f = fit.idle a in omega arith;
+              passed =
+                  fit.passed;
+              finished = fit.finished;
+              taken = fit.taken;
+              spent = fit.spent;
+            }) refl refl refl refl),
         refl,
       )
 
@@ -140,7 +183,16 @@ module _ (jobs : List Job) (slots id : ℕ) (me : BoardSeat) (i : ℕ) (lt : i <
         keeps,
         tt,
         loaded jobs s i id me.0 w k at lt (4 * i + 2) s.homes
-            (still jobs s i id me.0 w k at lt same (record { stage = stage; idle = λ a. let e = same a in let f = fit.idle a in omega arith; passed = fit.passed; finished = fit.finished; taken = fit.taken; spent = fit.spent }) refl refl refl refl),
+            (still jobs s i id me.0 w k at lt same
+            (record {
+              stage = stage;
+              idle = λ a. let e = same a in let f = fit.idle a in omega arith;
+              passed =
+                  fit.passed;
+              finished = fit.finished;
+              taken = fit.taken;
+              spent = fit.spent;
+            }) refl refl refl refl),
         refl,
       )
 
@@ -168,14 +220,29 @@ module _ (jobs : List Job) (slots id : ℕ) (me : BoardSeat) (i : ℕ) (lt : i <
       let stage : StageRule jobs new w.stage = subst (λ n. StageRule jobs new (StoredFreed n)) (sym j) (lt, freed ∙ whites) in record {
         long = length-set old (4 * i + 3) n;
         away = away;
-        arena = record { low = low; black-is = subst (λ z. IsWoken (job_at jobs i).bits z) (sym black) arena.black-is; gob-is = gob ∙ arena.gob-is; untouched = λ zero. absurd (omega arith); freed-is = λ two. freed ∙ whites };
+        arena = record {
+          low = low;
+          black-is = subst (λ z. IsWoken (job_at jobs i).bits z) (sym black) arena.black-is;
+          gob-is = gob ∙ arena.gob-is;
+          untouched = λ zero. absurd (omega arith);
+          freed-is = λ two. freed ∙ whites;
+        };
         up = up;
         claim = let a = same i in let b = ap (λ (n : ℕ). weight (eqb n 1)) state in omega arith;
         claims = λ a ne. same a;
         sweep = let b = ap (λ (n : ℕ). weight (eqb n 2)) state in omega arith;
         sweeps = λ a ne. refl;
         freed = inr (omega arith);
-        fits = record { stage = stage; idle = λ a. let e = same a in let f = fit.idle a in omega arith; passed = passed_on old new i away up me.0.passed fit.passed; finished = done_on old new i away up low me.0.finished fit.finished; taken = done_on old new i away up low me.0.taken fit.taken; spent = fit.spent };
+        fits = record {
+          stage = stage;
+          idle = λ a. let e = same a in let f = fit.idle a in omega arith;
+          passed =
+              passed_on old new i away up me.0.passed fit.passed;
+          finished = done_on old new i away up low me.0.finished
+              fit.finished;
+          taken = done_on old new i away up low me.0.taken fit.taken;
+          spent = fit.spent;
+        };
         role = refl;
         helpers = refl;
         masks = λ a ne. refl;
@@ -220,7 +287,13 @@ module _ (jobs : List Job) (slots id : ℕ) (me : BoardSeat) (i : ℕ) (lt : i <
       let list : All (λ a. state_at new a ≡ 2) (arena_of me.0.stage ∷ me.0.finished) = All-cons (λ a. state_at new a ≡ 2) (arena_of me.0.stage) me.0.finished (subst (λ z. state_at new z ≡ 2) (sym j) now) (done_on old new i away up low me.0.finished fit.finished) in record {
         long = length-set old (4 * i) 2;
         away = away;
-        arena = record { low = low; black-is = subst (λ z. IsWoken (job_at jobs i).bits z) (sym black) arena.black-is; gob-is = gob ∙ arena.gob-is; untouched = λ zero. absurd (omega arith); freed-is = λ two. freed ∙ stored.1 };
+        arena = record {
+          low = low;
+          black-is = subst (λ z. IsWoken (job_at jobs i).bits z) (sym black) arena.black-is;
+          gob-is = gob ∙ arena.gob-is;
+          untouched = λ zero. absurd (omega arith);
+          freed-is = λ two. freed ∙ stored.1;
+        };
         up = up;
         claim = let c : weight (eqb (state_at old i) 1) ≡ 1 = ap (λ (n : ℕ). weight (eqb n 1)) one in let d : weight (eqb (state_at new i) 1) ≡ 0 = ap (λ (n : ℕ). weight (eqb n 1)) now in omega arith;
         claims = λ a ne. sym (ap (claim_of a) is ∙ other_claim i a ne);
@@ -230,7 +303,16 @@ module _ (jobs : List Job) (slots id : ℕ) (me : BoardSeat) (i : ℕ) (lt : i <
             let more = times-same i (arena_of me.0.stage) me.0.swept j in omega arith;
         sweeps = λ a ne. times-other a (arena_of me.0.stage) me.0.swept (λ e. ne (sym e ∙ j));
         freed = inl freed;
-        fits = record { stage = tt; idle = λ a. omega arith; passed = passed_on old new i away up me.0.passed fit.passed; finished = list; taken = done_on old new i away up low me.0.taken fit.taken; spent = λ e. let none : helper_weight me.0.role ≡ 0 = ap helper_weight e in let f = fit.idle i in absurd (omega arith) };
+        fits = record {
+          stage = tt;
+          idle = λ a. omega arith;
+          passed = passed_on old new i away up me.0.passed
+              fit.passed;
+          finished = list;
+          taken = done_on old new i away up low me.0.taken fit.taken;
+          spent = λ e.
+              let none : helper_weight me.0.role ≡ 0 = ap helper_weight e in let f = fit.idle i in absurd (omega arith);
+        };
         role = refl;
         helpers = refl;
         masks = λ a ne. refl;

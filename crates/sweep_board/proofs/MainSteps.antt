@@ -67,14 +67,30 @@ module _ (jobs : List Job) (slots id : ℕ) (me : BoardSeat) (i : ℕ) (lt : i <
       let stage : StageRule jobs new me.0.stage = stage_on jobs old new (λ a. dite (ℕ_discrete a i) (λ e. subst (λ z. freed_at new z ≡ freed_at old z) (sym e) freed) (λ ne. (away a ne).freed)) me.0.stage fit.stage in record {
         long = length-set old (4 * i + 1) n;
         away = away;
-        arena = record { low = low; black-is = subst (λ z. IsWoken j.bits z) (sym black) still_woken; gob-is = gob ∙ arena.gob-is; untouched = λ zero. freed ∙ arena.untouched (sym state ∙ zero); freed-is = λ two. freed ∙ arena.freed-is (sym state ∙ two) };
+        arena = record {
+          low = low;
+          black-is = subst (λ z. IsWoken j.bits z) (sym black) still_woken;
+          gob-is = gob ∙
+              arena.gob-is;
+          untouched = λ zero. freed ∙ arena.untouched (sym state ∙ zero);
+          freed-is = λ two. freed ∙
+              arena.freed-is (sym state ∙ two);
+        };
         up = up;
         claim = let b = ap (λ (n : ℕ). weight (eqb n 1)) state in omega arith;
         claims = λ a ne. refl;
         sweep = let b = ap (λ (n : ℕ). weight (eqb n 2)) state in omega arith;
         sweeps = λ a ne. refl;
         freed = inl freed;
-        fits = record { stage = stage; idle = fit.idle; passed = passed_on old new i away up me.0.passed fit.passed; finished = done_on old new i away up low me.0.finished fit.finished; taken = done_on old new i away up low me.0.taken fit.taken; spent = fit.spent };
+        fits = record {
+          stage = stage;
+          idle = fit.idle;
+          passed = passed_on old new i away up me.0.passed fit.passed;
+          finished = done_on old new i away up low me.0.finished fit.finished;
+          taken = done_on old new i away up low
+              me.0.taken fit.taken;
+          spent = fit.spent;
+        };
         role = refl;
         helpers = refl;
         masks = λ a ne. mask_away me.0.woken i mask a ne;
@@ -141,18 +157,47 @@ module _ (jobs : List Job) (slots id : ℕ) (me : BoardSeat) (i : ℕ) (lt : i <
         keeps,
         tt,
         loaded jobs s i id me.0 w k at lt (4 * i) s.homes
-            (still jobs s i id me.0 w k at lt (λ a. refl) (record { stage = fit.stage; idle = fit.idle; passed = fit.passed; finished = All-cons (λ a. state_at s.words a ≡ 2) i me.0.finished hit fit.finished; taken = fit.taken; spent = fit.spent }) refl refl refl refl),
-        (let P : Type 0 = (w, me.1) ≡ (with_done me.0 ((4 * i) / 4), me.1) in let Q : Type 0 = (w, me.1) ≡ (with_look me.0 ((4 * i) / 4) x, me.1) in
-            (subst (λ b. MatchBool b P Q) (sym (eq-eqb x 2 hit)) (ap (λ (n : ℕ). (with_done me.0 n, me.1)) (sym (quarter i))), known, alone, swept)),
+            (still jobs s i id me.0 w k at lt (λ a. refl)
+            (record {
+              stage = fit.stage;
+              idle = fit.idle;
+              passed = fit.passed;
+              finished = All-cons
+                  (λ a. state_at s.words a ≡ 2) i me.0.finished hit fit.finished;
+              taken = fit.taken;
+              spent = fit.spent;
+            })
+            refl refl refl refl),
+        (let P : Type 0 = (w, me.1) ≡ (with_done me.0 ((4 * i) / 4), me.1) in let Q : Type 0 = (w, me.1) ≡ (with_look me.0 ((4 * i) / 4) x, me.1) in (
+          subst (λ b. MatchBool b P Q) (sym (eq-eqb x 2 hit))
+              (ap (λ (n : ℕ). (with_done me.0 n, me.1)) (sym (quarter i))),
+          known,
+          alone,
+          swept,
+        )),
       ))
       (λ miss. let w : View = with_look me.0 i x in (
         w,
         keeps,
         tt,
         loaded jobs s i id me.0 w k at lt (4 * i) s.homes
-            (still jobs s i id me.0 w k at lt (λ a. refl) (record { stage = fit.stage; idle = fit.idle; passed = fit.passed; finished = fit.finished; taken = fit.taken; spent = fit.spent }) refl refl refl refl),
-        (let P : Type 0 = (w, me.1) ≡ (with_done me.0 ((4 * i) / 4), me.1) in let Q : Type 0 = (w, me.1) ≡ (with_look me.0 ((4 * i) / 4) x, me.1) in
-            (subst (λ b. MatchBool b P Q) (sym (ne_eqb x 2 miss)) (ap (λ (n : ℕ). (with_look me.0 n x, me.1)) (sym (quarter i))), known, alone, swept)),
+            (still jobs s i id me.0 w k at lt (λ a. refl)
+            (record {
+              stage = fit.stage;
+              idle = fit.idle;
+              passed = fit.passed;
+              finished = fit.finished;
+              taken =
+                  fit.taken;
+              spent = fit.spent;
+            }) refl refl refl refl),
+        (let P : Type 0 = (w, me.1) ≡ (with_done me.0 ((4 * i) / 4), me.1) in let Q : Type 0 = (w, me.1) ≡ (with_look me.0 ((4 * i) / 4) x, me.1) in (
+          subst (λ b. MatchBool b P Q) (sym (ne_eqb x 2 miss))
+              (ap (λ (n : ℕ). (with_look me.0 n x, me.1)) (sym (quarter i))),
+          known,
+          alone,
+          swept,
+        )),
       ))
 
   pub reading_freed : me.0.jobs ≡ jobs → Allows (BoardRule jobs) slots id me (4 * i + 3) (λ n. n) (reads_freed (step slots (4 * i + 3) 0 0 none) me)

@@ -55,7 +55,18 @@ opens js words is = subst (λ l. BoardRule js (opening l [] (main_view js))) (sy
     let ws : List ℕ = opening_words js (0 ∷ []) in
     let v : View = main_view js in record {
       sized = length-opening_words js (0 ∷ []);
-      arenas = λ i lt. let r = words_of js (0 ∷ []) i lt in let e0 = r.0 in record { low = omega arith; black-is = (0, r.1 ∙ sym (or_zero_r (job_at js i).bits.black), or_zero_l (job_at js i).bits.gob); gob-is = r.2; untouched = λ zero. r.3; freed-is = λ two. absurd (omega arith) };
+      arenas = λ i lt. let r = words_of js (0 ∷ []) i lt in let e0 = r.0 in record {
+        low = omega arith;
+        black-is = (
+          0,
+          r.1 ∙ sym (or_zero_r (job_at js i).bits.black),
+          or_zero_l
+              (job_at js i).bits.gob,
+        );
+        gob-is = r.2;
+        untouched = λ zero. r.3;
+        freed-is = λ two. absurd (omega arith);
+      };
       claims = λ i lt. let r = words_of js (0 ∷ []) i lt in let e : weight (eqb (state_at ws i) 1) ≡ 0 = ap (λ (n : ℕ). weight (eqb n 1)) r.0 in omega arith;
       sweeps = λ i lt.
           let r = words_of js (0 ∷ []) i lt in

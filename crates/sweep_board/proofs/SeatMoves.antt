@@ -17,7 +17,16 @@ use Rattle.sweep_board.proofs.Sweeps.{times-append}
 
 -- a view that has learned nothing meets the rule
 pub fresh_fits : (jobs known : List Job) (words : List ℕ) (role : Role) → SeatRule jobs words (fresh_view known role)
-fresh_fits jobs known words role = record { stage = tt; idle = λ a. omega arith; passed = All-nil (λ a. 0 < state_at words a); finished = All-nil (λ a. state_at words a ≡ 2); taken = All-nil (λ a. state_at words a ≡ 2); spent = λ e. refl }
+fresh_fits jobs known words role = record {
+  stage = tt;
+  idle = λ a. omega arith;
+  passed = All-nil
+      (λ a. 0 < state_at words a);
+  finished = All-nil (λ a. state_at words a ≡ 2);
+  taken = All-nil
+      (λ a. state_at words a ≡ 2);
+  spent = λ e. refl;
+}
 
 pub splitting : (jobs : List Job) (id : ℕ) (v : View) → v.role ≡ Main → Splits (BoardRule jobs) id v (with_helper v) (helper_view v.jobs)
 splitting jobs id v main s k at =
@@ -35,7 +44,15 @@ splitting jobs id v main s k at =
           let t = total-set f s.views id v left at in
           let u = total-snoc f (set s.views id left) right in omega arith;
       seats = λ other u there. ⊎_elim
-          (λ inside. ⊎_elim (λ e. subst (SeatRule jobs s.words) e.1 (let z : SeatRule jobs s.words left = record { stage = fit.stage; idle = fit.idle; passed = fit.passed; finished = fit.finished; taken = fit.taken; spent = fit.spent } in z)) (λ e. k.seats other u e.1) (at_set s.views id other left u inside))
+          (λ inside. ⊎_elim (λ e. subst (SeatRule jobs s.words) e.1
+          (let z : SeatRule jobs s.words left = record {
+            stage = fit.stage;
+            idle = fit.idle;
+            passed = fit.passed;
+            finished = fit.finished;
+            taken = fit.taken;
+            spent = fit.spent;
+          } in z)) (λ e. k.seats other u e.1) (at_set s.views id other left u inside))
           (λ e. subst (SeatRule jobs s.words) e (fresh_fits jobs v.jobs s.words Helper))
           (at_snoc (set s.views id left) right u other there);
       mains = λ other u there is. ⊎_elim

@@ -43,7 +43,14 @@ pub record Turn (jobs : List Job) (old new : List ℕ) (i : ℕ) (v w : View) : 
   pub black : (black_at new i ≡ black_at old i) ⊎ (v.role ≡ Main)
 
 same_arena : (j : Job) (a b c d a' b' c' d' : ℕ) → a' ≡ a → b' ≡ b → c' ≡ c → d' ≡ d → ArenaRule j a b c d → ArenaRule j a' b' c' d'
-same_arena j a b c d a' b' c' d' p q r t f = record { low = subst (λ z. z ≤ 2) (sym p) f.low; black-is = subst (λ z. IsWoken j.bits z) (sym q) f.black-is; gob-is = r ∙ f.gob-is; untouched = λ h. t ∙ f.untouched (sym p ∙ h); freed-is = λ h. t ∙ f.freed-is (sym p ∙ h) }
+same_arena j a b c d a' b' c' d' p q r t f = record {
+  low = subst (λ z. z ≤ 2) (sym p) f.low;
+  black-is = subst (λ z. IsWoken j.bits z) (sym q) f.black-is;
+  gob-is = r ∙
+      f.gob-is;
+  untouched = λ h. t ∙ f.untouched (sym p ∙ h);
+  freed-is = λ h. t ∙ f.freed-is (sym p ∙ h);
+}
 
 pub weight_le : (b : Bool) → weight b ≤ 1
 weight_le true = omega arith
@@ -152,7 +159,8 @@ module _ (jobs : List Job) (s : State (Unit {0}) View) (new : List ℕ) (i id : 
       let was = k.sweeps a lt' in
       dite (ℕ_discrete a i)
       (λ e. subst (λ z. total (sweeps_of z) (set s.views id w) + sweeps_of z v ≡ total (sweeps_of z) s.views + sweeps_of z w
-      → total (sweeps_of z) s.views ≡ weight (eqb (state_at s.words z) 2) → total (sweeps_of z) (set s.views id w) ≡ weight (eqb (state_at new z) 2)) (sym e)
+      → total (sweeps_of z) s.views ≡ weight (eqb (state_at s.words z) 2) → total (sweeps_of z) (set s.views id w) ≡
+      weight (eqb (state_at new z) 2)) (sym e)
       (λ r' was'. let c = t.sweep in omega arith) r was)
       (λ ne. let c = t.sweeps a ne in let st = ap (λ (n : ℕ). weight (eqb n 2)) ((t.away a ne).state) in omega arith)
 
@@ -174,7 +182,8 @@ module _ (jobs : List Job) (s : State (Unit {0}) View) (new : List ℕ) (i id : 
 
 -- a step that changes no word
 module _ (jobs : List Job) (s : State (Unit {0}) View) (i id : ℕ) (v w : View) (k : BoardRule jobs s) (at : get_elem? s.views id ≡ some v) (lt : i < length jobs) where
-  pub still : ((a : ℕ) → claim_of a w.stage ≡ claim_of a v.stage) → SeatRule jobs s.words w → w.role ≡ v.role → w.helpers ≡ v.helpers → w.woken ≡ v.woken → w.swept ≡ v.swept
+  pub still : ((a : ℕ) → claim_of a w.stage ≡ claim_of a v.stage) → SeatRule jobs s.words w → w.role ≡ v.role →
+      w.helpers ≡ v.helpers → w.woken ≡ v.woken → w.swept ≡ v.swept
       → Turn jobs s.words s.words i v w
   still same fits r n o swept = record {
     long = refl;

@@ -184,14 +184,16 @@ pub slice_writes : (c d : CollectorState) (jobs left : List Job) (budget n : ℕ
     ((w : World) → IsValid w → Represents c (flown_by jobs) w → WritesUnits w d (flown_by left) n p q) → Appends q r
     (line_of (reply_text (reply.Sliced n))) → (w : World) → IsValid w → Represents c (flown_by jobs) w → WritesAnswer w
     (command.Slice budget) d left p r
-slice_writes c d jobs left budget n p q r runs most over does written w ok stands = slice_written c d jobs left budget n runs most over w stands p q r (does w ok stands) written
+slice_writes c d jobs left budget n p q r runs most over does written w ok stands = slice_written c d jobs left budget
+    n runs most over w stands p q r (does w ok stands) written
 
 pub slice_breaks : (c d : CollectorState) (jobs left : List Job) (budget n : ℕ) (p q r : Option (List ℕ))
     → IsSome c.run → n ≤ budget → (n < budget → d.run ≡ None) →
     ((w : World) → IsValid w → Represents c (flown_by jobs) w → WritesUnits w d (flown_by left) n p q)
     → AppendsFront q r (line_of (reply_text (reply.Sliced n))) → (w : World) → IsValid w → Represents c
     (flown_by jobs) w → WritesFront w (command.Slice budget) p r
-slice_breaks c d jobs left budget n p q r runs most over does written w ok stands = slice_broken c d jobs left budget n runs most over w stands p q r (does w ok stands) written
+slice_breaks c d jobs left budget n p q r runs most over does written w ok stands = slice_broken c d jobs left budget n
+    runs most over w stands p q r (does w ok stands) written
 
 -- one that stopped or broke off among its units
 slice_accepted : (w : World) (n : ℕ) → IsRunning w → IsAccepted w (command.Slice n)

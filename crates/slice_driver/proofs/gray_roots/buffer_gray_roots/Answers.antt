@@ -16,5 +16,6 @@ returns-clause-ok g c =
     let of_wrappers : Gathers (IsGrayAmong h zones (length h.shape.states)) [] wrappers =
     subst (λ new. Gathers (IsGrayAmong h zones (length h.shape.states)) [] new) (sym c.deref-2.ensures.value)
     (subst (λ old. Gathers (IsGrayAmong h zones
-    (length h.shape.states)) old c.gather_wrappers.new.found.items) c.new-wrappers.ensures.items c.in_ok-gather_wrappers.ensures.gathered) in
+    (length h.shape.states)) old c.gather_wrappers.new.found.items) c.new-wrappers.ensures.items
+    c.in_ok-gather_wrappers.ensures.gathered) in
     on_ok_both c.buffer_gray.result (λ is at. buffers_all h c.buffer_gray.new.self zones slots wrappers is at c.buffer_gray.ensures.sized of_slots of_wrappers) c.buffer_gray.ensures.ok c.buffer_gray.ensures.zones

@@ -11,4 +11,5 @@ returns-in_ok-push-clause-gathered c =
     (gathers_for h c.args.zones c.args.cell c.args.place c.in-Some.zone old c.in-Some.ensures.some.0 c.in-Some.ensures.some.1)
 
 pub returns-in_default-clause-gathered : goal.returns-in_default-clause-gathered
-returns-in_default-clause-gathered c = gathers_out c.args.heap.now.shape c.args.zones c.args.cell c.args.place c.args.found.now.items c.in_default.ensures.none
+returns-in_default-clause-gathered c = gathers_out c.args.heap.now.shape c.args.zones c.args.cell c.args.place
+    c.args.found.now.items c.in_default.ensures.none

@@ -27,11 +27,13 @@ loop-wrapper-preserved g c =
       gathered = subst (λ n. Gathers (IsGrayBefore h c.args.zones zone n) old new) (sym c.in-Some.ensures.cursor)
           (gray_step h c.args.zones zone i old mid new c.loop-wrapper.invariant.gathered
           (gray_at h c.args.zones zone i u at
-          (stands_in h.shape zone i u c.requires.wrappers c.in-Some.ensures.apart at).zone_is mid new c.in_ok-gather_wrapper.ensures.gathered));
+          (stands_in h.shape zone i u c.requires.wrappers c.in-Some.ensures.apart at).zone_is mid new
+          c.in_ok-gather_wrapper.ensures.gathered));
     }
 
 pub returns-clause-gathered : goal.returns-clause-gathered
-returns-clause-gathered g c = gray_all c.args.heap.now c.args.zones c.args.zone c.loop-wrapper.cursor c.args.found.now.items c.loop-wrapper.found.items (sym c.in_default.ensures.place) c.loop-wrapper.invariant.gathered
+returns-clause-gathered g c = gray_all c.args.heap.now c.args.zones c.args.zone c.loop-wrapper.cursor
+    c.args.found.now.items c.loop-wrapper.found.items (sym c.in_default.ensures.place) c.loop-wrapper.invariant.gathered
 
 pub returns-clause-few : goal.returns-clause-few
 returns-clause-few g c =

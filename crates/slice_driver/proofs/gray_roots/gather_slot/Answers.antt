@@ -11,4 +11,5 @@ gather-requires c =
 
 pub returns-in-Some-clause-gathered : goal.returns-in-Some-clause-gathered
 returns-in-Some-clause-gathered c = on_ok c.gather.result
-    (slot_at c.args.heap.now.shape c.args.zones c.args.index c.in-Some.place c.in-Some.ensures.held c.args.found.now.items c.gather.new.found.items) c.gather.ensures.gathered
+    (slot_at c.args.heap.now.shape c.args.zones c.args.index c.in-Some.place c.in-Some.ensures.held
+    c.args.found.now.items c.gather.new.found.items) c.gather.ensures.gathered

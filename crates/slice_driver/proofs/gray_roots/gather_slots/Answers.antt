@@ -11,4 +11,6 @@ loop-index-preserved c = record {
 }
 
 pub returns-clause-gathered : goal.returns-clause-gathered
-returns-clause-gathered c = slot_all c.args.heap.now.shape c.args.zones c.loop-index.index c.args.found.now.items c.loop-index.found.items (omega (arith, c.loop-index.invariant.counted (omega arith))) c.loop-index.invariant.gathered
+returns-clause-gathered c = slot_all c.args.heap.now.shape c.args.zones c.loop-index.index c.args.found.now.items
+    c.loop-index.found.items (omega (arith, c.loop-index.invariant.counted (omega arith)))
+    c.loop-index.invariant.gathered

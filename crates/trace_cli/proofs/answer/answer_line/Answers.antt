@@ -11,4 +11,5 @@ answer_parsed-requires-clause-fits g c = fits_language c.zones_law.ensures c.arg
 
 pub returns-clause-ok : goal.returns-clause-ok
 returns-clause-ok g c = ok_maps _
-    (λ writes. line_answers c.args.line.now c.in-Ok.cmd c.args.collector.now c.answer_parsed.new.collector c.args.handed.now c.answer_parsed.new.handed _ _ c.in-Ok.ensures.ok writes) c.answer_parsed.ensures.ok
+    (λ writes. line_answers c.args.line.now c.in-Ok.cmd c.args.collector.now c.answer_parsed.new.collector
+    c.args.handed.now c.answer_parsed.new.handed _ _ c.in-Ok.ensures.ok writes) c.answer_parsed.ensures.ok

@@ -14,12 +14,15 @@ pub answer_collection-requires : goal.answer_collection-requires
 answer_collection-requires g c =
     record {
       sound = c.in-Ok.ensures.sound (flown_by c.args.handed.now) c.requires.sound;
-      jobs = jobs_kept c.args.collector.now.heap.shape c.begin.new.self.heap.shape c.args.handed.now c.args.handed.now c.in-Ok.ensures.words refl c.requires.jobs;
+      jobs = jobs_kept c.args.collector.now.heap.shape c.begin.new.self.heap.shape c.args.handed.now c.args.handed.now
+          c.in-Ok.ensures.words refl c.requires.jobs;
     }
 
 pub returns-in-Ok-clause-ok : goal.returns-in-Ok-clause-ok
 returns-in-Ok-clause-ok g c =
-    ok_maps _ (λ writes. begun_writes c.args.collector.now c.begin.new.self c.args.handed.now c.args.zones c.in-Ok.ensures.begun c.answer_collection.new.collector c.answer_collection.new.handed _ _ writes) c.answer_collection.ensures.ok
+    ok_maps _ (λ writes. begun_writes c.args.collector.now c.begin.new.self c.args.handed.now c.args.zones
+    c.in-Ok.ensures.begun c.answer_collection.new.collector c.answer_collection.new.handed _ _ writes)
+    c.answer_collection.ensures.ok
 
 pub returns-in-Ok-clause-memory : goal.returns-in-Ok-clause-memory
 returns-in-Ok-clause-memory g c =
@@ -54,7 +57,8 @@ returns-in-Err-NoZone-clause-ok g c =
     let none = c.in-Err-NoZone.ensures.no_zone.0 (ap (λ (f : BeginFault). Err f) c.in-Err-NoZone.field-0-is) in
     ok_maps _ (λ written. refusal_writes c.args.collector.now c.begin.new.self c.args.handed.now c.args.zones _ _ _ _
     (λ w answer refuses. inr refuses) (λ w r. no_zone c.args.collector.now
-    (flown_by c.args.handed.now) w c.args.zones c.zones_made_law.ensures r none.0 none.1) c.in-Err-NoZone.ensures.refused written) c.write_last-in-Err-NoZone.ensures.ok
+    (flown_by c.args.handed.now) w c.args.zones c.zones_made_law.ensures r none.0 none.1)
+    c.in-Err-NoZone.ensures.refused written) c.write_last-in-Err-NoZone.ensures.ok
 
 pub returns-in-Err-NoZone-clause-write : goal.returns-in-Err-NoZone-clause-write
 returns-in-Err-NoZone-clause-write g c =

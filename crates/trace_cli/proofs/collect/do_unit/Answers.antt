@@ -20,13 +20,18 @@ pub returns-clause-done : goal.returns-clause-done
 returns-clause-done g c = λ w ok r. c.take_due-unit.ensures.done w ok (unit_dues c.args.collector.now c.unit.new.self c.args.handed.now c.unit.new.flight c.in_ok-report.field-0 c.in-Some.arena c.in_ok-report.ensures.done c.in-Some.is w r)
 
 pub returns-in_default-clause-sound : goal.returns-in_default-clause-sound
-returns-in_default-clause-sound g c = unit_keeps c.unit.new.self c.unit.new.flight c.hand.new.self c.in_ok-report.field-0 c.in_ok-report.ensures.sound c.hand.ensures
+returns-in_default-clause-sound g c = unit_keeps c.unit.new.self c.unit.new.flight c.hand.new.self
+    c.in_ok-report.field-0 c.in_ok-report.ensures.sound c.hand.ensures
 
 pub returns-in_err-report-clause-sound : goal.returns-in_err-report-clause-sound
-returns-in_err-report-clause-sound g c = wanting_keeps c.args.collector.now c.unit.new.self c.args.handed.now c.unit.new.flight c.in_err-report.ensures.err c.requires.sound
+returns-in_err-report-clause-sound g c = wanting_keeps c.args.collector.now c.unit.new.self c.args.handed.now
+    c.unit.new.flight c.in_err-report.ensures.err c.requires.sound
 
 pub returns-in_err-report-clause-jobs : goal.returns-in_err-report-clause-jobs
-returns-in_err-report-clause-jobs g c = wanting_jobs c.args.collector.now c.unit.new.self c.args.handed.now c.unit.new.flight c.in_err-report.ensures.err.same c.in_err-report.ensures.origin c.requires.jobs
+returns-in_err-report-clause-jobs g c = wanting_jobs c.args.collector.now c.unit.new.self c.args.handed.now
+    c.unit.new.flight c.in_err-report.ensures.err.same c.in_err-report.ensures.origin c.requires.jobs
 
 pub returns-clause-left : goal.returns-clause-left
-returns-clause-left g c = due_lower c.args.collector.now c.unit.new.self c.args.handed.now c.unit.new.flight c.in_ok-report.field-0 c.in-Some.arena _ c.in_ok-report.ensures.left c.in-Some.is c.in_ok-report.ensures.due c.take_due-unit.ensures.left
+returns-clause-left g c = due_lower c.args.collector.now c.unit.new.self c.args.handed.now c.unit.new.flight
+    c.in_ok-report.field-0 c.in-Some.arena _ c.in_ok-report.ensures.left c.in-Some.is c.in_ok-report.ensures.due
+    c.take_due-unit.ensures.left

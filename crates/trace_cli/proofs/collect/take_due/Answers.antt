@@ -19,5 +19,7 @@ returns-clause-jobs c = due_leaves c.args.collector.now c.take_one.new.self c.ar
 
 pub returns-clause-sound : goal.returns-clause-sound
 returns-clause-sound c =
-    let due = has_due c.args.collector.now c.args.handed.now c.take.new.self c.args.arena c.in-Some.taken c.requires.sound c.requires.lowest c.requires.jobs c.in-Some.ensures.some in
-    due_keeps c.args.collector.now c.take_one.new.self c.args.handed.now c.take.new.self c.args.arena c.in-Some.taken c.requires.sound due c.take_one.ensures.sound
+    let due = has_due c.args.collector.now c.args.handed.now c.take.new.self c.args.arena c.in-Some.taken
+    c.requires.sound c.requires.lowest c.requires.jobs c.in-Some.ensures.some in
+    due_keeps c.args.collector.now c.take_one.new.self c.args.handed.now c.take.new.self c.args.arena c.in-Some.taken
+    c.requires.sound due c.take_one.ensures.sound

@@ -115,7 +115,9 @@ loop-answered-preserved g c =
         represents = writes.represents;
         fit = done.fit;
         valid = c.answer_law.ensures so.world writes.after done.command writes.reports writes.answer so.valid writes.answers;
-        stands = stands_more _ _ _ _ _ _ _ _ _ so.world done.command c.answer_next.new.collector c.answer_next.new.handed stands c.in-Line.ensures.bytes (subst (λ (l : List ℕ). StandsFor l done.command) c.line.ensures done.stands) writes;
+        stands = stands_more _ _ _ _ _ _ _ _ _ so.world done.command c.answer_next.new.collector
+            c.answer_next.new.handed stands c.in-Line.ensures.bytes
+            (subst (λ (l : List ℕ). StandsFor l done.command) c.line.ensures done.stands) writes;
         within = done.within;
       }),
       omega (arith, c.loop-answered.invariant.1, c.if-answered-eq4294967295.false),

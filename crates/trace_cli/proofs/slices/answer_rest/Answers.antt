@@ -5,8 +5,16 @@ use Rattle.trace_cli.proofs.Units.{more_breaks, more_units, no_units, stops_afte
 use Rattle.trace_cli.proofs.slices.answer_rest.Goals as goal
 
 pub loop-alloc-init : goal.loop-alloc-init
-loop-alloc-init g c =
-    (c.requires.sound, c.requires.jobs, λ w ok r. no_units w _ _ _ ok r, refl, omega arith, refl, omega arith, c.units_law.ensures (flown_by c.args.handed.now) c.requires.sound)
+loop-alloc-init g c = (
+  c.requires.sound,
+  c.requires.jobs,
+  λ w ok r. no_units w _ _ _ ok r,
+  refl,
+  omega arith,
+  refl,
+  omega arith,
+  c.units_law.ensures (flown_by c.args.handed.now) c.requires.sound,
+)
 
 pub loop-alloc-preserved : goal.loop-alloc-preserved
 loop-alloc-preserved g c =

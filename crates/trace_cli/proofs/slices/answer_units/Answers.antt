@@ -20,7 +20,8 @@ loop-done-preserved g c =
     )
 
 pub returns-then-not-running-clause-over : goal.returns-then-not-running-clause-over
-returns-then-not-running-clause-over g c = λ less. not_running c.running.result c.loop-done.collector.run c.running.ensures.run c.if-not-running.true
+returns-then-not-running-clause-over g c = λ less. not_running c.running.result c.loop-done.collector.run
+    c.running.ensures.run c.if-not-running.true
 
 pub returns-in-Err-clause-memory : goal.returns-in-Err-clause-memory
 returns-in-Err-clause-memory g c = λ e w ok r. stops_within w _ _ _ _ c.loop-done.auto.done-end

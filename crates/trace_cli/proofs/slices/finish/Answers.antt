@@ -19,10 +19,14 @@ returns-then-not-running-clause-write g c = λ e. idle_breaks c.args.collector.n
 
 pub returns-in-Ok-clause-ok : goal.returns-in-Ok-clause-ok
 returns-in-Ok-clause-ok g c = ok_maps _
-    (λ written. finish_writes c.args.collector.now c.answer_rest.new.collector c.args.handed.now c.answer_rest.new.handed c.in-Ok.done _ _ _ (c.running.ensures.run.0 c.if-not-running.false) c.in-Ok.ensures.over c.in-Ok.ensures.ok written) c.write_last-in-Ok.ensures.ok
+    (λ written. finish_writes c.args.collector.now c.answer_rest.new.collector c.args.handed.now
+    c.answer_rest.new.handed c.in-Ok.done _ _ _ (c.running.ensures.run.0 c.if-not-running.false)
+    c.in-Ok.ensures.over c.in-Ok.ensures.ok written) c.write_last-in-Ok.ensures.ok
 
 pub returns-in-Ok-clause-write : goal.returns-in-Ok-clause-write
-returns-in-Ok-clause-write g c = λ e. finish_breaks c.args.collector.now c.answer_rest.new.collector c.args.handed.now c.answer_rest.new.handed c.in-Ok.done _ _ _ (c.running.ensures.run.0 c.if-not-running.false) c.in-Ok.ensures.over c.in-Ok.ensures.ok (err_is _ _ c.write_last-in-Ok.ensures.err e)
+returns-in-Ok-clause-write g c = λ e. finish_breaks c.args.collector.now c.answer_rest.new.collector c.args.handed.now
+    c.answer_rest.new.handed c.in-Ok.done _ _ _ (c.running.ensures.run.0 c.if-not-running.false) c.in-Ok.ensures.over
+    c.in-Ok.ensures.ok (err_is _ _ c.write_last-in-Ok.ensures.err e)
 
 pub returns-in-Err-clause-memory : goal.returns-in-Err-clause-memory
 returns-in-Err-clause-memory g c = λ e w ok r. rest_stops w _ _

@@ -12,7 +12,8 @@ use Rattle.trace_cli.proofs.slices.gc.Goals as goal
 
 pub returns-in-Ok-clause-ok : goal.returns-in-Ok-clause-ok
 returns-in-Ok-clause-ok g c =
-    ok_maps _ (λ written. gc_writes c.args.collector.now c.begin.new.self c.args._handed.now c.args.zones c.in-Ok.ensures.begun _ _ written) c.write_last.ensures.ok
+    ok_maps _ (λ written. gc_writes c.args.collector.now c.begin.new.self c.args._handed.now c.args.zones
+    c.in-Ok.ensures.begun _ _ written) c.write_last.ensures.ok
 
 pub returns-in-Ok-clause-write : goal.returns-in-Ok-clause-write
 returns-in-Ok-clause-write g c =
@@ -21,7 +22,8 @@ returns-in-Ok-clause-write g c =
 
 pub returns-in-Ok-clause-jobs : goal.returns-in-Ok-clause-jobs
 returns-in-Ok-clause-jobs g c =
-    jobs_kept c.args.collector.now.heap.shape c.begin.new.self.heap.shape c.args._handed.now c.args._handed.now c.in-Ok.ensures.words refl c.requires.jobs
+    jobs_kept c.args.collector.now.heap.shape c.begin.new.self.heap.shape c.args._handed.now c.args._handed.now
+    c.in-Ok.ensures.words refl c.requires.jobs
 
 pub returns-in-Err-Running-clause-ok : goal.returns-in-Err-Running-clause-ok
 returns-in-Err-Running-clause-ok g c =
@@ -46,7 +48,8 @@ returns-in-Err-NoZone-clause-ok g c =
     let none = c.in-Err-NoZone.ensures.no_zone.0 (ap (λ (f : BeginFault). Err f) c.in-Err-NoZone.field-0-is) in
     ok_maps _ (λ written. refusal_writes c.args.collector.now c.begin.new.self c.args._handed.now c.args.zones _ _ _ _
     (λ w answer refuses. inr refuses) (λ w r. no_zone c.args.collector.now
-    (flown_by c.args._handed.now) w c.args.zones c.zones_made_law.ensures r none.0 none.1) c.in-Err-NoZone.ensures.refused written) c.write_last-in-Err-NoZone.ensures.ok
+    (flown_by c.args._handed.now) w c.args.zones c.zones_made_law.ensures r none.0 none.1)
+    c.in-Err-NoZone.ensures.refused written) c.write_last-in-Err-NoZone.ensures.ok
 
 pub returns-in-Err-NoZone-clause-write : goal.returns-in-Err-NoZone-clause-write
 returns-in-Err-NoZone-clause-write g c =

@@ -23,10 +23,20 @@ returns-then-not-running-clause-write g c = λ e. idle_breaks c.args.collector.n
 
 pub returns-in-Ok-clause-ok : goal.returns-in-Ok-clause-ok
 returns-in-Ok-clause-ok g c = ok_maps _
-    (λ written. slice_writes c.args.collector.now c.answer_units.new.collector c.args.handed.now c.answer_units.new.handed c.args.budget c.in-Ok.done _ _ _ (c.running.ensures.run.0 c.if-not-running.false) c.in-Ok.ensures.most c.in-Ok.ensures.over c.in-Ok.ensures.ok (subst (λ (n : ℕ). Appends (g.K.Sink.written c.answer_units.new.sink) (g.K.Sink.written c.write_last-in-Ok.new.sink) (line_of (reply_text (reply.Sliced n)))) c.from.ensures written)) c.write_last-in-Ok.ensures.ok
+    (λ written. slice_writes c.args.collector.now c.answer_units.new.collector c.args.handed.now
+    c.answer_units.new.handed c.args.budget c.in-Ok.done _ _ _ (c.running.ensures.run.0 c.if-not-running.false)
+    c.in-Ok.ensures.most c.in-Ok.ensures.over c.in-Ok.ensures.ok
+    (subst (λ (n : ℕ). Appends (g.K.Sink.written c.answer_units.new.sink)
+    (g.K.Sink.written c.write_last-in-Ok.new.sink) (line_of (reply_text (reply.Sliced n)))) c.from.ensures
+    written)) c.write_last-in-Ok.ensures.ok
 
 pub returns-in-Ok-clause-write : goal.returns-in-Ok-clause-write
-returns-in-Ok-clause-write g c = λ e. slice_breaks c.args.collector.now c.answer_units.new.collector c.args.handed.now c.answer_units.new.handed c.args.budget c.in-Ok.done _ _ _ (c.running.ensures.run.0 c.if-not-running.false) c.in-Ok.ensures.most c.in-Ok.ensures.over c.in-Ok.ensures.ok (subst (λ (n : ℕ). AppendsFront (g.K.Sink.written c.answer_units.new.sink) (g.K.Sink.written c.write_last-in-Ok.new.sink) (line_of (reply_text (reply.Sliced n)))) c.from.ensures (err_is _ _ c.write_last-in-Ok.ensures.err e))
+returns-in-Ok-clause-write g c = λ e. slice_breaks c.args.collector.now c.answer_units.new.collector c.args.handed.now
+    c.answer_units.new.handed c.args.budget c.in-Ok.done _ _ _ (c.running.ensures.run.0 c.if-not-running.false)
+    c.in-Ok.ensures.most c.in-Ok.ensures.over c.in-Ok.ensures.ok
+    (subst (λ (n : ℕ). AppendsFront (g.K.Sink.written c.answer_units.new.sink)
+    (g.K.Sink.written c.write_last-in-Ok.new.sink) (line_of (reply_text (reply.Sliced n)))) c.from.ensures
+    (err_is _ _ c.write_last-in-Ok.ensures.err e))
 
 pub returns-in-Err-clause-memory : goal.returns-in-Err-clause-memory
 returns-in-Err-clause-memory g c = λ e w ok r. units_stop w c.args.budget _ _

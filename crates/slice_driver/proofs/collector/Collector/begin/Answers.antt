@@ -129,7 +129,9 @@ returns-clause-words g c =
     let fits : c.args.zones.bits < 18446744073709551616 = search rules in
     let small = small_word c.args.zones.bits fits in
     let made = c.are_made.ensures.0 c.if-not-are_made.false in
-    let out = none_out (the_view c.self.inside) rest c.args.zones small c.buffer_gray_roots.new.heap c.in_ok-buffer_gray_roots.ensures.ok c.clear_bits.new.self c.clear_bits.ensures
-    c.mark_registers.new.heap c.mark_registers.new.stack c.mark_registers.ensures c.mark_targets.new.heap c.mark_targets.new.stack c.mark_targets.ensures made
+    let out = none_out (the_view c.self.inside) rest c.args.zones small c.buffer_gray_roots.new.heap
+    c.in_ok-buffer_gray_roots.ensures.ok c.clear_bits.new.self c.clear_bits.ensures
+    c.mark_registers.new.heap c.mark_registers.new.stack c.mark_registers.ensures c.mark_targets.new.heap
+    c.mark_targets.new.stack c.mark_targets.ensures made
     c.advance_all.new.heap c.advance_all.ensures in
     none_words c.args.self.now.heap.shape c.advance_all.new.heap.shape out

@@ -24,7 +24,8 @@ after g c = record {
 call : (g : Over) (c : After-do_command g)
     → IsCall c.args.self.now c.make_room.new.self c.expose.new.self c.expose-2.new.self c.expose-3.new.self (after g c)
     (g.F.Flight.bits c.args.flight.now) (g.F.Flight.bits c.expose.new.flight) (g.F.Flight.bits c.expose-2.new.flight)
-    (g.F.Flight.bits c.expose-3.new.flight) c.args.cmd c.do_command.result c.old_of-old.result c.wrapped_by-target.result c.handed_by-handed.result
+    (g.F.Flight.bits c.expose-3.new.flight) c.args.cmd c.do_command.result c.old_of-old.result
+    c.wrapped_by-target.result c.handed_by-handed.result
 call g c =
     let done = c.do_command.ensures in
     let here = ap (λ (z : CollectorState). z.heap) c.self-4.view_is in
@@ -114,7 +115,9 @@ pub invariant_of-self : goal.invariant_of-self
 invariant_of-self g c =
     let here = ap (λ (z : CollectorState). z.heap.shape) c.self-4.view_is in
     kept_call _ _ _ _ _ _ _ _ _ _ _ _ _ _ _
-    (call g c) c.self-4.inside.edges c.self-4.inside.order c.self-4.inside.run c.self-4.inside.ungrouped c.self-4.inside.out_from (subst (λ s. IsKept s c.self-4.inside.edges c.self-4.inside.order c.self-4.inside.run c.self-4.inside.ungrouped c.self-4.inside.out_from) here c.self-4.invariant)
+    (call g c) c.self-4.inside.edges c.self-4.inside.order c.self-4.inside.run c.self-4.inside.ungrouped
+    c.self-4.inside.out_from (subst (λ s. IsKept s c.self-4.inside.edges c.self-4.inside.order c.self-4.inside.run
+    c.self-4.inside.ungrouped c.self-4.inside.out_from) here c.self-4.invariant)
 
 pub returns-clause-done : goal.returns-clause-done
 returns-clause-done g c = does_call _ _ _ _ _ _ _ _ _ _ _ _ _ _ _ (call g c)

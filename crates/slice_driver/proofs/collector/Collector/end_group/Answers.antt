@@ -137,7 +137,8 @@ returns-clause-coloured c = λ flown.
       run = run_of c.self.inside.run;
     } in
     let group : ZoneSet = c.in-Some.group in
-    let here : IsReadyHere v group = ready_here v c.args.self.now c.self.view_is c.requires.ready.0 c.requires.ready.1 c.requires.ready.2 group (sym c.current.ensures ∙ c.in-Some.is) in
+    let here : IsReadyHere v group = ready_here v c.args.self.now c.self.view_is c.requires.ready.0 c.requires.ready.1
+    c.requires.ready.2 group (sym c.current.ensures ∙ c.in-Some.is) in
     let h : HeapState = c.self.inside.heap in
     let k : HeapState = c.end_sweeping-finished.new.heap in
     let out : HandsOut h group c.in_ok-handed.handed c.hand_out_group.new.heap = c.in_ok-handed.ensures.ok in

@@ -118,7 +118,8 @@ returns-then-marks_gray-clause-ended_where g c =
     let still = still_on c.args.self.now (g.F.Flight.bits c.args.flight.now) c.forms_groups.new.self
     (g.F.Flight.bits c.marks_black.new.flight) c.begins_zone.new.self
     (still_on c.args.self.now (g.F.Flight.bits c.args.flight.now) c.marks_black.new.self
-    (g.F.Flight.bits c.marks_black.new.flight) c.forms_groups.new.self c.if-marks_black.ensures.done.0 c.in_default.ensures.1) c.if-begins_zone.ensures.1 in
+    (g.F.Flight.bits c.marks_black.new.flight) c.forms_groups.new.self c.if-marks_black.ensures.done.0
+    c.in_default.ensures.1) c.if-begins_zone.ensures.1 in
     not_at_end c.quiet-then-marks_gray.result (IsAtGroupEnd c.args.self.now (g.F.Flight.bits c.args.flight.now))
     (ap (λ (u : Unit). is_group_end u.report) c.quiet-then-marks_gray.ensures)
     (λ at. c.if-marks_gray.ensures.done.1
@@ -131,23 +132,40 @@ returns-in-Some-next_out-clause-ended_where g c = not_at_end c.due.result
     (ap (λ (u : Unit). is_group_end u.report) c.due.ensures)
     (one_out c.args.self.now (g.F.Flight.bits c.args.flight.now) c.marks_black.new.self
     (g.F.Flight.bits c.marks_black.new.flight) c.forms_groups.new.self c.begins_zone.new.self c.marks_gray.new.self
-    (g.F.Flight.bits c.marks_gray.new.flight) c.if-marks_black.ensures.done.0 c.in_default.ensures.1 c.if-begins_zone.ensures.1 c.if-marks_gray.ensures.done.0 c.in-Some-next_out.arena c.in-Some-next_out.ensures.some)
+    (g.F.Flight.bits c.marks_gray.new.flight) c.if-marks_black.ensures.done.0 c.in_default.ensures.1
+    c.if-begins_zone.ensures.1 c.if-marks_gray.ensures.done.0 c.in-Some-next_out.arena
+    c.in-Some-next_out.ensures.some)
 
 pub returns-clause-ended_where : goal.returns-clause-ended_where
 returns-clause-ended_where g c =
     let still = all_still c.args.self.now (g.F.Flight.bits c.args.flight.now) c.marks_black.new.self
     (g.F.Flight.bits c.marks_black.new.flight) c.forms_groups.new.self c.begins_zone.new.self c.marks_gray.new.self
-    (g.F.Flight.bits c.marks_gray.new.flight) c.if-marks_black.ensures.done.0 c.in_default.ensures.1 c.if-begins_zone.ensures.1 c.if-marks_gray.ensures.done.0 in
+    (g.F.Flight.bits c.marks_gray.new.flight) c.if-marks_black.ensures.done.0 c.in_default.ensures.1
+    c.if-begins_zone.ensures.1 c.if-marks_gray.ensures.done.0 in
     let sound = still_sound c.args.self.now (g.F.Flight.bits c.args.flight.now) c.marks_gray.new.self
     (g.F.Flight.bits c.marks_gray.new.flight) still c.requires.sound in
     ended_where c.args.self.now (g.F.Flight.bits c.args.flight.now) c.marks_gray.new.self
-    (g.F.Flight.bits c.marks_gray.new.flight) still sound c.end_group.new.self c.end_group.result c.end_group.ensures.ended (four_rested c.args.self.now (g.F.Flight.bits c.args.flight.now) c.marks_black.new.self (g.F.Flight.bits c.marks_black.new.flight) c.forms_groups.new.self c.begins_zone.new.self c.marks_gray.new.self (g.F.Flight.bits c.marks_gray.new.flight) c.if-marks_black.ensures.done.0 c.in_default.ensures.1 c.if-begins_zone.ensures.1 c.if-marks_gray.ensures.done.0 c.if-marks_black.ensures.done.1 c.in_default.ensures.0 c.if-begins_zone.ensures.0 c.if-marks_gray.ensures.done.1, none_out_before c.args.self.now (g.F.Flight.bits c.args.flight.now) c.marks_black.new.self (g.F.Flight.bits c.marks_black.new.flight) c.forms_groups.new.self c.begins_zone.new.self c.marks_gray.new.self (g.F.Flight.bits c.marks_gray.new.flight) c.if-marks_black.ensures.done.0 c.in_default.ensures.1 c.if-begins_zone.ensures.1 c.if-marks_gray.ensures.done.0 c.in_default-next_out.ensures.none)
+    (g.F.Flight.bits c.marks_gray.new.flight) still sound c.end_group.new.self c.end_group.result
+    c.end_group.ensures.ended (
+      four_rested c.args.self.now (g.F.Flight.bits c.args.flight.now)
+          c.marks_black.new.self (g.F.Flight.bits c.marks_black.new.flight) c.forms_groups.new.self
+          c.begins_zone.new.self c.marks_gray.new.self (g.F.Flight.bits c.marks_gray.new.flight)
+          c.if-marks_black.ensures.done.0 c.in_default.ensures.1 c.if-begins_zone.ensures.1
+          c.if-marks_gray.ensures.done.0 c.if-marks_black.ensures.done.1 c.in_default.ensures.0
+          c.if-begins_zone.ensures.0 c.if-marks_gray.ensures.done.1,
+      none_out_before c.args.self.now
+          (g.F.Flight.bits c.args.flight.now) c.marks_black.new.self (g.F.Flight.bits c.marks_black.new.flight)
+          c.forms_groups.new.self c.begins_zone.new.self c.marks_gray.new.self (g.F.Flight.bits c.marks_gray.new.flight)
+          c.if-marks_black.ensures.done.0 c.in_default.ensures.1 c.if-begins_zone.ensures.1
+          c.if-marks_gray.ensures.done.0 c.in_default-next_out.ensures.none,
+    )
 
 pub returns-clause-handed : goal.returns-clause-handed
 returns-clause-handed g c =
     let still = all_still c.args.self.now (g.F.Flight.bits c.args.flight.now) c.marks_black.new.self
     (g.F.Flight.bits c.marks_black.new.flight) c.forms_groups.new.self c.begins_zone.new.self c.marks_gray.new.self
-    (g.F.Flight.bits c.marks_gray.new.flight) c.if-marks_black.ensures.done.0 c.in_default.ensures.1 c.if-begins_zone.ensures.1 c.if-marks_gray.ensures.done.0 in
+    (g.F.Flight.bits c.marks_gray.new.flight) c.if-marks_black.ensures.done.0 c.in_default.ensures.1
+    c.if-begins_zone.ensures.1 c.if-marks_gray.ensures.done.0 in
     let sound = still_sound c.args.self.now (g.F.Flight.bits c.args.flight.now) c.marks_gray.new.self
     (g.F.Flight.bits c.marks_gray.new.flight) still c.requires.sound in
     ended_handed c.args.self.now (g.F.Flight.bits c.args.flight.now) c.marks_gray.new.self
@@ -157,7 +175,8 @@ pub returns-clause-coloured : goal.returns-clause-coloured
 returns-clause-coloured g c =
     let still = all_still c.args.self.now (g.F.Flight.bits c.args.flight.now) c.marks_black.new.self
     (g.F.Flight.bits c.marks_black.new.flight) c.forms_groups.new.self c.begins_zone.new.self c.marks_gray.new.self
-    (g.F.Flight.bits c.marks_gray.new.flight) c.if-marks_black.ensures.done.0 c.in_default.ensures.1 c.if-begins_zone.ensures.1 c.if-marks_gray.ensures.done.0 in
+    (g.F.Flight.bits c.marks_gray.new.flight) c.if-marks_black.ensures.done.0 c.in_default.ensures.1
+    c.if-begins_zone.ensures.1 c.if-marks_gray.ensures.done.0 in
     let sound = still_sound c.args.self.now (g.F.Flight.bits c.args.flight.now) c.marks_gray.new.self
     (g.F.Flight.bits c.marks_gray.new.flight) still c.requires.sound in
     ended_coloured c.args.self.now (g.F.Flight.bits c.args.flight.now) c.marks_gray.new.self
@@ -167,7 +186,8 @@ pub returns-clause-err : goal.returns-clause-err
 returns-clause-err g c =
     let still = all_still c.args.self.now (g.F.Flight.bits c.args.flight.now) c.marks_black.new.self
     (g.F.Flight.bits c.marks_black.new.flight) c.forms_groups.new.self c.begins_zone.new.self c.marks_gray.new.self
-    (g.F.Flight.bits c.marks_gray.new.flight) c.if-marks_black.ensures.done.0 c.in_default.ensures.1 c.if-begins_zone.ensures.1 c.if-marks_gray.ensures.done.0 in
+    (g.F.Flight.bits c.marks_gray.new.flight) c.if-marks_black.ensures.done.0 c.in_default.ensures.1
+    c.if-begins_zone.ensures.1 c.if-marks_gray.ensures.done.0 in
     let sound = still_sound c.args.self.now (g.F.Flight.bits c.args.flight.now) c.marks_gray.new.self
     (g.F.Flight.bits c.marks_gray.new.flight) still c.requires.sound in
     ended_err c.args.self.now (g.F.Flight.bits c.args.flight.now) c.marks_gray.new.self
@@ -178,8 +198,14 @@ returns-clause-err_where g c = on_err (IsAtGroupEnd c.args.self.now
     (g.F.Flight.bits c.args.flight.now)) c.end_group.result (
       four_rested c.args.self.now (g.F.Flight.bits c.args.flight.now) c.marks_black.new.self
           (g.F.Flight.bits c.marks_black.new.flight) c.forms_groups.new.self c.begins_zone.new.self c.marks_gray.new.self
-          (g.F.Flight.bits c.marks_gray.new.flight) c.if-marks_black.ensures.done.0 c.in_default.ensures.1 c.if-begins_zone.ensures.1 c.if-marks_gray.ensures.done.0 c.if-marks_black.ensures.done.1 c.in_default.ensures.0 c.if-begins_zone.ensures.0 c.if-marks_gray.ensures.done.1,
-      none_out_before c.args.self.now (g.F.Flight.bits c.args.flight.now) c.marks_black.new.self (g.F.Flight.bits c.marks_black.new.flight) c.forms_groups.new.self c.begins_zone.new.self c.marks_gray.new.self (g.F.Flight.bits c.marks_gray.new.flight) c.if-marks_black.ensures.done.0 c.in_default.ensures.1 c.if-begins_zone.ensures.1 c.if-marks_gray.ensures.done.0 c.in_default-next_out.ensures.none,
+          (g.F.Flight.bits c.marks_gray.new.flight) c.if-marks_black.ensures.done.0 c.in_default.ensures.1
+          c.if-begins_zone.ensures.1 c.if-marks_gray.ensures.done.0 c.if-marks_black.ensures.done.1
+          c.in_default.ensures.0 c.if-begins_zone.ensures.0 c.if-marks_gray.ensures.done.1,
+      none_out_before c.args.self.now (g.F.Flight.bits c.args.flight.now) c.marks_black.new.self
+          (g.F.Flight.bits c.marks_black.new.flight) c.forms_groups.new.self c.begins_zone.new.self
+          c.marks_gray.new.self (g.F.Flight.bits c.marks_gray.new.flight) c.if-marks_black.ensures.done.0
+          c.in_default.ensures.1 c.if-begins_zone.ensures.1 c.if-marks_gray.ensures.done.0
+          c.in_default-next_out.ensures.none,
     )
 
 pub returns-in-Some-clause-due_still : goal.returns-in-Some-clause-due_still
@@ -192,13 +218,16 @@ pub returns-in-Some-next_out-clause-due_still : goal.returns-in-Some-next_out-cl
 returns-in-Some-next_out-clause-due_still g c = λ some. all_still c.args.self.now
     (g.F.Flight.bits c.args.flight.now) c.marks_black.new.self
     (g.F.Flight.bits c.marks_black.new.flight) c.forms_groups.new.self c.begins_zone.new.self c.marks_gray.new.self
-    (g.F.Flight.bits c.marks_gray.new.flight) c.if-marks_black.ensures.done.0 c.in_default.ensures.1 c.if-begins_zone.ensures.1 c.if-marks_gray.ensures.done.0
+    (g.F.Flight.bits c.marks_gray.new.flight) c.if-marks_black.ensures.done.0 c.in_default.ensures.1
+    c.if-begins_zone.ensures.1 c.if-marks_gray.ensures.done.0
 
 pub returns-in-Some-next_out-clause-due_rests : goal.returns-in-Some-next_out-clause-due_rests
 returns-in-Some-next_out-clause-due_rests g c = λ some. four_rested c.args.self.now
     (g.F.Flight.bits c.args.flight.now) c.marks_black.new.self
     (g.F.Flight.bits c.marks_black.new.flight) c.forms_groups.new.self c.begins_zone.new.self c.marks_gray.new.self
-    (g.F.Flight.bits c.marks_gray.new.flight) c.if-marks_black.ensures.done.0 c.in_default.ensures.1 c.if-begins_zone.ensures.1 c.if-marks_gray.ensures.done.0 c.if-marks_black.ensures.done.1 c.in_default.ensures.0 c.if-begins_zone.ensures.0 c.if-marks_gray.ensures.done.1
+    (g.F.Flight.bits c.marks_gray.new.flight) c.if-marks_black.ensures.done.0 c.in_default.ensures.1
+    c.if-begins_zone.ensures.1 c.if-marks_gray.ensures.done.0 c.if-marks_black.ensures.done.1
+    c.in_default.ensures.0 c.if-begins_zone.ensures.0 c.if-marks_gray.ensures.done.1
 
 pub returns-clause-due_still : goal.returns-clause-due_still
 returns-clause-due_still g c = none_due (λ unit. IsStill c.args.self.now
@@ -268,7 +297,8 @@ returns-then-marks_gray-clause-handed g c =
     let still = still_on c.args.self.now (g.F.Flight.bits c.args.flight.now) c.forms_groups.new.self
     (g.F.Flight.bits c.marks_black.new.flight) c.begins_zone.new.self
     (still_on c.args.self.now (g.F.Flight.bits c.args.flight.now) c.marks_black.new.self
-    (g.F.Flight.bits c.marks_black.new.flight) c.forms_groups.new.self c.if-marks_black.ensures.done.0 c.in_default.ensures.1) c.if-begins_zone.ensures.1 in
+    (g.F.Flight.bits c.marks_black.new.flight) c.forms_groups.new.self c.if-marks_black.ensures.done.0
+    c.in_default.ensures.1) c.if-begins_zone.ensures.1 in
     (says_quiet c.args.self.now
     (g.F.Flight.bits c.args.flight.now) c.quiet-then-marks_gray.result c.marks_gray.new.self
     (g.F.Flight.bits c.marks_gray.new.flight) c.quiet-then-marks_gray.ensures
@@ -281,7 +311,8 @@ returns-then-marks_gray-clause-coloured g c =
     let still = still_on c.args.self.now (g.F.Flight.bits c.args.flight.now) c.forms_groups.new.self
     (g.F.Flight.bits c.marks_black.new.flight) c.begins_zone.new.self
     (still_on c.args.self.now (g.F.Flight.bits c.args.flight.now) c.marks_black.new.self
-    (g.F.Flight.bits c.marks_black.new.flight) c.forms_groups.new.self c.if-marks_black.ensures.done.0 c.in_default.ensures.1) c.if-begins_zone.ensures.1 in
+    (g.F.Flight.bits c.marks_black.new.flight) c.forms_groups.new.self c.if-marks_black.ensures.done.0
+    c.in_default.ensures.1) c.if-begins_zone.ensures.1 in
     (says_quiet c.args.self.now
     (g.F.Flight.bits c.args.flight.now) c.quiet-then-marks_gray.result c.marks_gray.new.self
     (g.F.Flight.bits c.marks_gray.new.flight) c.quiet-then-marks_gray.ensures
@@ -328,7 +359,8 @@ returns-then-marks_gray-clause-sound g c =
     let still = still_on c.args.self.now (g.F.Flight.bits c.args.flight.now) c.forms_groups.new.self
     (g.F.Flight.bits c.marks_black.new.flight) c.begins_zone.new.self
     (still_on c.args.self.now (g.F.Flight.bits c.args.flight.now) c.marks_black.new.self
-    (g.F.Flight.bits c.marks_black.new.flight) c.forms_groups.new.self c.if-marks_black.ensures.done.0 c.in_default.ensures.1) c.if-begins_zone.ensures.1 in
+    (g.F.Flight.bits c.marks_black.new.flight) c.forms_groups.new.self c.if-marks_black.ensures.done.0
+    c.in_default.ensures.1) c.if-begins_zone.ensures.1 in
     says_sound c.args.self.now (g.F.Flight.bits c.args.flight.now) c.quiet-then-marks_gray.result c.marks_gray.new.self
     (g.F.Flight.bits c.marks_gray.new.flight)
     (says_quiet c.args.self.now
@@ -342,7 +374,8 @@ pub returns-clause-sound : goal.returns-clause-sound
 returns-clause-sound g c =
     let still = all_still c.args.self.now (g.F.Flight.bits c.args.flight.now) c.marks_black.new.self
     (g.F.Flight.bits c.marks_black.new.flight) c.forms_groups.new.self c.begins_zone.new.self c.marks_gray.new.self
-    (g.F.Flight.bits c.marks_gray.new.flight) c.if-marks_black.ensures.done.0 c.in_default.ensures.1 c.if-begins_zone.ensures.1 c.if-marks_gray.ensures.done.0 in
+    (g.F.Flight.bits c.marks_gray.new.flight) c.if-marks_black.ensures.done.0 c.in_default.ensures.1
+    c.if-begins_zone.ensures.1 c.if-marks_gray.ensures.done.0 in
     let sound = still_sound c.args.self.now (g.F.Flight.bits c.args.flight.now) c.marks_gray.new.self
     (g.F.Flight.bits c.marks_gray.new.flight) still c.requires.sound in
     ended_sound c.args.self.now (g.F.Flight.bits c.args.flight.now) c.marks_gray.new.self

@@ -13,4 +13,7 @@ loop-job-preserved c = c.in_ok-extend_from_slice.ensures.items ∙ one_more c.ar
 
 pub returns : goal.returns
 returns c = opens c.args.jobs.now _
-    (c.in_ok-push.ensures.items ∙ ap (λ (l : List ℕ). l ++ 0 ∷ []) (c.loop-job.invariant ∙ ap (λ (l : List Job). opening_words l []) (take-all c.args.jobs.now c.loop-job.job-index (omega arith))) ∙ sym (opening_words-rest c.args.jobs.now (0 ∷ [])))
+    (c.in_ok-push.ensures.items ∙ ap (λ (l : List ℕ). l ++ 0 ∷ [])
+    (c.loop-job.invariant ∙ ap (λ (l : List Job). opening_words l [])
+    (take-all c.args.jobs.now c.loop-job.job-index (omega arith))) ∙ sym
+    (opening_words-rest c.args.jobs.now (0 ∷ [])))
