@@ -19,7 +19,6 @@ use Rattle.slice_driver.specs.Collector.{CollectorState, heap_with}
 use Rattle.slice_driver.specs.Worlds.{IsInFlight, LiesIn}
 use Rattle.slice_driver.specs.Closures.{AreBlack, AreTied}
 use Rattle.slice_driver.specs.Represents.{AreLookedAt, IsIdle, Represents, RunsAs, WaitsWhileMarking}
-use Rattle.slice_driver.specs.Units as flight
 use Rattle.slice_driver.specs.Units.{BeginsIn}
 use Rattle.slice_driver.specs.Begins.{BeginsMarking}
 use Rattle.colour_defs.proofs.ValidReports.{begin_valid}

@@ -82,3 +82,4 @@ pub mod FewWrappers
 pub mod FewUnits
 pub mod SetBits
 pub mod PresentCells
+pub mod QuietUnits

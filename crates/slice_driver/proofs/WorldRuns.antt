@@ -1,5 +1,5 @@
 -- Whether a collection runs and whether a zone is marking, in a collector and in each world that it stands for.
-use Rattle.std.proofs.Common.{◌≡◌, ◌↔◌, ℕ, Option, Some, None, IsSome, List, Contains, [], false, refl}
+use Rattle.std.proofs.Common.{◌≡◌, ◌↔◌, ℕ, Option, Some, None, IsSome, [], false, refl}
 use Rattle.cell_bits.specs.declared.bits.Bits.{Bits}
 use Rattle.colour_defs.specs.Lawful.{IsRunning}
 use Rattle.colour_defs.specs.World.{World, Collection, IsSettled, marking_of}

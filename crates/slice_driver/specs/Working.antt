@@ -1,5 +1,5 @@
 -- What the steps of a unit do, and what they find done.
-use Rattle.std.specs.Prelude.{◌≡◌, ◌<◌, ℕ, Bool, true, false, List, [], Option, None, Some, IsSome, slice_get}
+use Rattle.std.specs.Prelude.{◌≡◌, ◌<◌, ◌≤◌, ◌+◌, ℕ, Bool, true, false, List, [], Option, None, Some, IsSome, slice_get}
 use Rattle.std.specs.Int.{bit_at}
 use Rattle.gz_names.specs.Zones.{HasZone}
 use Rattle.gz_names.specs.declared.numbers.Place.{Place}
@@ -109,3 +109,23 @@ pub record IsResting (c : CollectorState) (flown : ℕ → Option Bits) : Type 0
 -- the first five steps have no work: those rest, and no arena is out
 abbrev pub IsAtGroupEnd : CollectorState → (ℕ → Option Bits) → Type 0
 IsAtGroupEnd c flown = IsResting c flown × ((a : ℕ) → out_of c.heap.shape a ≡ None)
+
+-- no unit that reports nothing is left: black marking is done; before the groups are formed each wrapper was looked at,
+-- and after that the zones of the current group have begun their gray marking, and that is done
+pub record IsQuietDone (c : CollectorState) (flown : ℕ → Option Bits) : Type 0 where
+  pub black : IsBlackDone c flown
+  pub looked : IsGrouping c → AreAllLookedAt c.heap.shape c.edges
+  pub begun : IsFormed c → HasBegun c
+  pub group : IsFormed c → IsGroupDone c flown
+
+-- a unit was done that reports nothing, or there is none to do
+abbrev pub QuietOrNone : Bool → CollectorState → (ℕ → Option Bits) → CollectorState → (ℕ → Option Bits) → Type 0
+QuietOrNone true c flown d flying = GoesOn c flown [] d flying
+QuietOrNone false c flown d flying = IsStill c flown d flying × IsQuietDone c flown
+
+-- so many units were done that report nothing: the worlds are as they were, and each unit lowered what is left
+pub record DoesQuietUnits (n : ℕ) (c : CollectorState) (flown : ℕ → Option Bits) (d : CollectorState)
+    (flying : ℕ → Option Bits) : Type 0 where
+  pub none : n ≡ 0 → IsStill c flown d flying
+  pub some : 0 < n → GoesOn c flown [] d flying
+  pub less : units_left d flying + n ≤ units_left c flown

@@ -13,7 +13,7 @@ use zone_edges::Look;
 
 impl Collector {
     // Looks at a wrapper. False where each was looked at.
-    fn looks<L: Ledger>(&mut self, steps: &mut Steps<L>) -> bool
+    pub(crate) fn looks<L: Ledger>(&mut self, steps: &mut Steps<L>) -> bool
         requires sound { (flown : ℕ → Option ABits) × IsSound self.old flown }
         requires grouping { IsGrouping self.old }
         ensures { LooksOrAll result self.old self.new }

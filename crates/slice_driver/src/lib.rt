@@ -40,6 +40,9 @@
 //     5 next_out         an arena that is out is due, and `take_one` takes it in
 //     6 end_group        the current group ends
 //
+// Most units report nothing. `quiet_units` does many of these in one call (steps 1, 3, 4 and the looks of step 2): each
+// leaves the world as it is, so many are told like one, and no report is built or moved for them.
+//
 // So a group is grouped once black marking rests, and ends once all of its marking rests and no arena
 // of the group before is out. Each unit lowers one number (`units_left`), which is below 2^64
 // (`units_law`), so a collection comes to its end.
@@ -57,6 +60,7 @@ mod grouping_steps;
 mod laws;
 mod marking_steps;
 mod present;
+mod quiet_units;
 mod root_marking;
 #[cfg(test)]
 mod tests;

@@ -90,7 +90,7 @@ impl Collector {
     }
 
     // Takes a zone of the current group on to gray marking. False where all have begun.
-    fn begins_zone(&mut self) -> bool
+    pub(crate) fn begins_zone(&mut self) -> bool
         requires sound { (flown : ℕ → Option ABits) × IsSound self.old flown }
         requires formed { IsFormed self.old }
         ensures { BeginsOrBegun result self.old self.new }

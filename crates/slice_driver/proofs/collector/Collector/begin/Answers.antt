@@ -1,7 +1,7 @@
 use Rattle.std.proofs.Common.{◌<◌, Some, false, subst, rules}
 use Rattle.gz_names.specs.Zones.{HasZone}
 use Rattle.gz_names.proofs.Words.{HasZone-none}
-use Rattle.slice_driver.specs.Units.{BeginsIn, none_flown}
+use Rattle.slice_driver.specs.Units.{BeginsIn}
 use Rattle.slice_driver.specs.Collector.{CollectorState}
 use Rattle.slice_driver.specs.contracts.collector.Collector.{the_view}
 use Rattle.slice_driver.proofs.GroupEndSteps.{small_word}

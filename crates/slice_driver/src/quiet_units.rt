@@ -1,0 +1,77 @@
+// Units that report nothing, many in one call.
+ghost use Rattle.std.specs.Prelude.{◌≡◌, ◌≤◌, ◌<◌, IsSome, MatchBool};
+ghost use Rattle.slice_driver.specs.Quiet.{IsFormed};
+ghost use Rattle.slice_driver.specs.Units.{IsSound, KeepsFreedWords};
+ghost use Rattle.slice_driver.specs.Working.{DoesQuietUnits, IsGrouping, IsQuietDone, QuietOrNone};
+
+use crate::collector::Collector;
+use cell_bits::Flight;
+use heap_core::Steps;
+use std::sync::ledger::Ledger;
+
+impl Collector {
+    /// Does units of the collection that runs while they report nothing and hand no arena to
+    /// sweeping, at most `limit`, and returns how many it did. Each does the first of these that has
+    /// work: black marking, a look at a wrapper, the beginning of a zone, gray marking. Fewer than
+    /// `limit` are done exactly when none of these has work left. What is left for `unit` then is a
+    /// grouping step, the end of a group, or an arena that is due.
+    ///
+    /// Such a unit leaves each world as it is. It takes no memory, and builds no report.
+    pub fn quiet_units<F: Flight, L: Ledger>(
+        &mut self,
+        limit: u64,
+        flight: &mut F,
+        steps: &mut Steps<L>,
+    ) -> u64
+        requires sound { IsSound self.old (F.bits flight.old) }
+        requires running { IsSome self.old.run }
+        ensures most { result ≤ limit }
+        ensures done { DoesQuietUnits result self.old (F.bits flight.old) self.new
+            (F.bits flight.new) }
+        ensures rests { result < limit → IsQuietDone self.new (F.bits flight.new) }
+        ensures sound { IsSound self.new (F.bits flight.new) }
+        ensures words { KeepsFreedWords self.old.heap.shape self.new.heap.shape }
+        ensures running { IsSome self.new.run }
+        ensures origin { F.origin flight.new ≡ F.origin flight.old }
+        ensures made { self.new.heap.made ≡ self.old.heap.made }
+        ensures weak { self.new.heap.shape.weak ≡ self.old.heap.shape.weak }
+    {
+        for count in 0..limit {
+            if !self.quiet_unit(flight, steps) {
+                return count;
+            }
+        }
+        limit
+    }
+
+    // Does a unit that reports nothing. Returns false when there is none to do.
+    fn quiet_unit<F: Flight, L: Ledger>(&mut self, flight: &mut F, steps: &mut Steps<L>) -> bool
+        requires sound { IsSound self.old (F.bits flight.old) }
+        requires running { IsSome self.old.run }
+        ensures done { QuietOrNone result self.old (F.bits flight.old) self.new
+            (F.bits flight.new) }
+        ensures origin { F.origin flight.new ≡ F.origin flight.old }
+    {
+        if self.marks_black(flight, steps) {
+            return true;
+        }
+        if self.is_grouping() {
+            return self.looks(steps);
+        }
+        if self.begins_zone() {
+            return true;
+        }
+        self.marks_gray(flight, steps)
+    }
+
+    // Returns whether the groups of the collection that runs are still to be formed.
+    fn is_grouping(&self) -> bool
+        requires running { IsSome self.now.run }
+        ensures { MatchBool result (IsGrouping self.now) (IsFormed self.now) }
+    {
+        match self.run {
+            Some(run) => !run.formed,
+            None => false,
+        }
+    }
+}
