@@ -1,163 +1,342 @@
-#!/usr/bin/env python3
-"""The program on traces of one kind each, from 10^4 to 10^6 cells: how its time grows.
+"""The traces of bench/speed.py: for each family a generator of its lines, by scale.
 
-    ./gczone run < examples/first.trace    # proves and builds the program
-    bench/families.py [TRIES] [FAMILY ..]
-
-Each family is a trace that makes N cells, and collects them at its end or now and then. It is run whole,
-and without its collections; of TRIES runs of each (3) the quickest counts. Printed are lines a second
-without collections, nanoseconds a cell for the collections (the difference, by N), both of processor time,
-and bytes of memory a cell (greatest resident size less that of an empty run; of small runs it is hidden by
-the starter's). Flat columns are what is looked for. Say nothing of these figures but what one run on one machine shows.
+A family is a shape of heap or of work. At scale 1 it makes about 10^6 cells, or has about 10^6 lines. The numbers come
+from a generator with a fixed seed, so a family and a scale give one trace.
 """
 
-import os
-import subprocess
-import sys
-import tempfile
-from pathlib import Path
+import random
 
-TOP = Path(__file__).resolve().parent.parent
-GCZONE = TOP / "crates/trace_cli/out/trace_cli"
-SIZES = (10_000, 100_000, 1_000_000)
-ONE = ["zone", "comp 0"]
+FAMILIES = {}
 
 
-def commands(count):
-    """Commands on the graph alone, on 16 objects: so many lines in place of cells."""
-    yield from ONE
-    yield from (f"new r{index} 0 8" for index in range(16))
-    for index in range(count):
-        a, b = index * 7 % 16, index * 5 % 16
-        yield f"set r{a} {index % 8} r{b}" if index % 2 else f"get r{b} r{a} {index % 8}"
+def family(generate):
+    FAMILIES[generate.__name__] = generate
+    return generate
 
 
-def tree(count):
-    """A tree with eight branches a cell, built level by level below a spine."""
-    yield from ONE
-    yield "new r0 0 8"
-    made = 1
-    while made < count:
-        yield "new r1 0 8"
-        yield "set r1 0 r0"
-        for field in range(1, 8):
-            yield "new r2 0 0"
-            yield f"set r1 {field} r2"
-        yield "copy r0 r1"
-        made += 8
-    yield from ("drop r1", "drop r2", "collect 0", "drop r0", "collect 0")
+def places(zones):
+    """Zones, with a compartment of the same number in each."""
+    yield from (["zone"] * zones)
+    yield from (f"comp {zone}" for zone in range(zones))
 
 
-def half_gray(count):
-    """Two lists of half the cells each, one held by a register, one by a gray slot; then the gray one is exposed."""
-    yield from ONE
-    for register in (0, 1):
-        yield f"new r{register} 0 1"
-        for _ in range(count // 2 - 1):
-            yield "new r2 0 1"
-            yield f"set r2 0 r{register}"
+def zone_list(count):
+    return " ".join(map(str, range(count)))
+
+
+def collect(times, zones=1):
+    yield from [f"collect {zone_list(zones)}"] * times
+
+
+def drop_all():
+    yield from (f"drop r{register}" for register in range(16))
+
+
+def grow(register, kind="new", size=1, comp=0, spare=15):
+    """A cell that leads to what a register holds; the register then holds the cell."""
+    yield f"{kind} r{spare} {comp} {size}"
+    yield f"set r{spare} 0 r{register}"
+    yield f"copy r{register} r{spare}"
+
+
+@family
+def commands(scale):
+    """Reads, writes and copies among 16 objects; no collection."""
+    draw = random.Random("commands").randrange
+    yield from places(1)
+    yield from (f"new r{register} 0 8" for register in range(16))
+    for _ in range(int(2_000_000 * scale)):
+        kind, a, b, field = draw(3), draw(16), draw(16), draw(8)
+        yield (f"get r{a} r{b} {field}", f"set r{a} {field} r{b}", f"copy r{a} r{b}")[kind]
+
+
+@family
+def churn(scale):
+    """Most cells die young: one in fifty is kept, and a collection comes every 20,000 cells."""
+    draw = random.Random("churn").random
+    yield from places(1)
+    yield "new r0 0 2"
+    for index in range(int(1_000_000 * scale)):
+        if draw() < 0.02:
+            yield from grow(0, size=2)
+        else:
+            yield "new r1 0 2"
+        if index % 20_000 == 19_999:
+            yield from collect(1)
+    yield from drop_all()
+    yield from collect(1)
+
+
+@family
+def placement(scale):
+    """Full arenas, half of them with one hole, which are filled anew after each of eight collections."""
+    draw = random.Random("placement").randrange
+    yield from places(1)
+    yield "new r0 0 1"
+    holes = 0
+    for _ in range(int(10_000 * scale)):
+        hole = draw(128)
+        for slot in range(64):
+            if slot == hole:
+                yield "new r1 0 0"
+                holes += 1
+            else:
+                yield from grow(0)
+    yield "drop r1"
+    for _ in range(8):
+        yield from collect(1)
+        yield from (["new r1 0 0"] * holes)
+    yield from collect(1)
+
+
+@family
+def tree(scale):
+    """A tree with four branches a cell, built depth first, and collected five times."""
+    left = int(1_000_000 * scale)
+
+    def below(depth):
+        nonlocal left
+        for field in range(4):
+            if left > 0:
+                left -= 1
+                yield f"new r{depth + 1} 0 4"
+                yield f"set r{depth} {field} r{depth + 1}"
+                if depth < 9:
+                    yield from below(depth + 1)
+
+    yield from places(1)
+    yield "new r0 0 4"
+    yield from below(0)
+    yield from (f"drop r{register}" for register in range(1, 16))
+    yield from collect(5)
+
+
+@family
+def lists(scale):
+    """14 lists that grow by turns, half of them held by gray slots alone; five collections."""
+    draw = random.Random("lists").randrange
+    yield from places(1)
+    yield from (f"new r{number} 0 1" for number in range(14))
+    for _ in range(int(1_000_000 * scale)):
+        yield from grow(draw(14))
+    for number in range(7):
+        yield f"hold g{number} r{number}"
+        yield f"drop r{number}"
+    yield "drop r15"
+    yield from collect(5)
+
+
+@family
+def exposed(scale):
+    """14 gray lists, which turn black as each is exposed, outside collections; five times."""
+    draw = random.Random("exposed").randrange
+    yield from places(1)
+    yield from (f"new r{number} 0 1" for number in range(14))
+    for _ in range(int(500_000 * scale)):
+        yield from grow(draw(14))
+    yield from (f"hold g{number} r{number}" for number in range(14))
+    for _ in range(5):
+        yield from drop_all()
+        yield from collect(1)
+        yield from (f"expose r{number} g{number}" for number in range(14))
+
+
+@family
+def wide(scale):
+    """Lists of cells with eight fields, seven of them leaves, the link last or first: long piles of marked cells."""
+    yield from places(1)
+    for register, link, leaves in ((0, 7, range(7)), (1, 0, range(1, 8))):
+        for index in range(int(60_000 * scale)):
+            yield "new r2 0 8"
+            for field in leaves:
+                yield "new r3 0 0"
+                yield f"set r2 {field} r3"
+            if index > 0:
+                yield f"set r2 {link} r{register}"
             yield f"copy r{register} r2"
-    yield from ("hold g0 r1", "drop r1", "drop r2", "collect 0", "expose r1 g0", "collect 0")
+    yield "drop r2"
+    yield "drop r3"
+    yield from collect(5)
 
 
-def wrapper_chain(count):
-    """A list over 64 zones, each link through a wrapper: half of the cells are wrappers."""
-    for zone in range(64):
-        yield "zone"
-        yield f"comp {zone}"
-    zones = " ".join(map(str, range(64)))
-    yield "new r0 0 1"
-    for index in range(1, count // 2):
-        comp = index % 64
-        yield f"new r1 {comp} 1"
-        yield f"wrap r2 r0 {comp}"
-        yield "set r1 0 r2"
-        yield "copy r0 r1"
-    yield from ("drop r1", "drop r2", f"collect {zones}", "hold g0 r0", "drop r0", f"collect {zones}")
-    yield from ("release g0", f"collect {zones}")
-
-
-def churn(count):
-    """Cells that die at once, 1,000 between two collections."""
-    yield from ONE
-    for index in range(count):
+@family
+def wrappers(scale):
+    """Each of some cells is wrapped in 63 compartments, and found again; then the wrappers die."""
+    yield from places(64)
+    for _ in range(int(8_000 * scale)):
         yield "new r0 0 1"
-        if index % 1000 == 999:
-            yield "drop r0"
-            yield "collect 0"
+        yield "hold g0 r0"
+        for comp in range(1, 64):
+            yield f"wrap r1 r0 {comp}"
+        for comp in range(1, 64):
+            yield f"wrap r1 r0 {comp}"
+    yield from drop_all()
+    yield from collect(1, 64)
 
 
-def placement(count):
-    """Half of the cells die here and there; as many are made in their places."""
-    yield from ONE
-    yield "new r0 0 1"
-    for index in range(count // 2):
-        yield "new r1 0 1"
-        if index % 3:
-            yield "set r1 0 r0"
-            yield "copy r0 r1"
-    yield from ("drop r1", "collect 0")
-    for _ in range(count // 2):
-        yield "new r1 0 1"
-        yield "set r1 0 r0"
+@family
+def zone_chain(scale):
+    """Chains through 64 zones, each link a gray wrapper: 64 groups, five times; then all is let go."""
+    yield from places(64)
+    yield "new r0 0 2"
+    yield "hold g0 r0"
+    for _ in range(int(1_500 * scale)):
+        yield "new r1 0 2"
+        yield "set r0 0 r1"
         yield "copy r0 r1"
-    yield from ("drop r1", "collect 0")
+        for zone in range(1, 64):
+            yield f"new r2 {zone} 2"
+            yield f"wrap r3 r2 {zone - 1}"
+            yield "set r1 1 r3"
+            yield "copy r1 r2"
+    yield from drop_all()
+    yield from collect(5, 64)
+    yield "release g0"
+    yield from collect(1, 64)
 
 
-FAMILIES = {f.__name__: f for f in (commands, tree, half_gray, wrapper_chain, churn, placement)}
+@family
+def groups(scale):
+    """32 zones with a gray wrapper from each to each other one, one group; collected many times."""
+    yield from places(32)
+    for zone in range(32):
+        yield f"new r0 {zone} 8"
+        yield f"hold g{zone} r0"
+    for zone in range(32):
+        yield f"expose r0 g{zone}"
+        for other in range(32):
+            yield f"expose r1 g{other}"
+            yield f"wrap r2 r1 {zone}"
+            yield f"new r3 {zone} 2"
+            yield "set r3 0 r2"
+            yield f"get r4 r0 0"
+            yield "set r3 1 r4"
+            yield "set r0 0 r3"
+    yield from drop_all()
+    yield from collect(int(1_000 * scale), 32)
 
 
-def run(trace):
-    """Seconds of a processor, and the greatest resident size in bytes."""
-    with open(trace, "rb") as source, open(os.devnull, "wb") as sink:
-        program = subprocess.Popen([GCZONE, "run"], stdin=source, stdout=sink)
-        _, status, usage = os.wait4(program.pid, 0)
-        program.returncode = os.waitstatus_to_exitcode(status)
-        if program.returncode != 0:
-            sys.exit(f"{trace}: status {program.returncode}")
-        return usage.ru_utime + usage.ru_stime, usage.ru_maxrss * 1024
+@family
+def small_zone(scale):
+    """A small zone is collected 2,000 times beside a large one with wrappers into two others."""
+    yield from places(4)
+    yield "new r0 0 2"
+    for index in range(int(100_000 * scale)):
+        yield f"new r1 {1 + index % 2} 0"
+        yield "wrap r2 r1 0"
+        yield from grow(0, size=2)
+        yield "set r0 1 r2"
+    for _ in range(int(2_000 * scale)):
+        yield "new r3 3 1"
+        yield "collect 3"
 
 
-def write(trace, lines):
-    """How many lines were written. No list is kept: a program that is started counts its starter's memory."""
-    count = 0
-    with open(trace, "w") as sink:
-        for count, line in enumerate(lines, 1):
-            sink.write(line + "\n")
-    return count
+@family
+def ephemerons(scale):
+    """A chain of entries of one map, each value the key of the next; black, then gray, then dropped."""
+    yield from places(1)
+    yield "map r0 0"
+    yield "new r1 0 0"
+    for _ in range(int(200_000 * scale)):
+        yield "new r2 0 0"
+        yield "put r0 r2 r1"
+        yield "copy r1 r2"
+    yield "drop r2"
+    yield from collect(3)
+    yield "hold g0 r1"
+    yield "drop r1"
+    yield from collect(3)
+    yield "release g0"
+    yield from collect(1)
 
 
-def quickest(trace, tries):
-    """The least seconds and the least size of some runs on a trace."""
-    found = [run(trace) for _ in range(tries)]
-    return min(seconds for seconds, _ in found), min(size for _, size in found)
+@family
+def entries(scale):
+    """Entries of 8 maps are put, found and deleted; no collection until the end."""
+    draw = random.Random("entries").randrange
+    yield from places(1)
+    yield from (f"map r{register} 0" for register in range(8))
+    for _ in range(int(250_000 * scale)):
+        a, b = draw(8), draw(8)
+        yield "new r8 0 0"
+        yield f"put r{a} r8 r{b}"
+        yield f"find r9 r{a} r8"
+        yield f"put r{b} r8 r{a}"
+        if draw(2):
+            yield f"del r{a} r8"
+    yield from drop_all()
+    yield from collect(1)
 
 
-def measure(trace, family, size, tries, start_up, empty):
-    """A row on one family and size."""
-    whole_count = write(trace, FAMILIES[family](size))
-    whole, memory = quickest(trace, tries)
-    count = write(trace, (line for line in FAMILIES[family](size) if not line.startswith("collect")))
-    built = whole if count == whole_count else quickest(trace, tries)[0]
-    return (
-        f"{family:13} {size:9,} cells  {count / (built - start_up) / 1e6:5.1f} million lines a second"
-        f"  {(whole - built) / size * 1e9:6.0f} ns a cell  {(memory - empty) / size:5.0f} bytes a cell"
-    )
+@family
+def slices(scale):
+    """Slices of 100 units between writes and reads, over a heap of 200,000 cells in two zones."""
+    draw = random.Random("slices").randrange
+    yield from places(2)
+    for slot in range(8):
+        yield f"new r{slot} 0 4"
+        yield f"hold g{slot} r{slot}"
+    for _ in range(int(200_000 * scale)):
+        list_number = draw(8)
+        yield "new r15 0 4"
+        yield f"set r15 {draw(2)} r{draw(8)}"
+        yield f"set r15 2 r{list_number}"
+        yield f"copy r{list_number} r15"
+    for _ in range(int(60_000 * scale)):
+        if draw(100) == 0:
+            yield "gc 0 1"
+        yield "slice 100"
+        for _ in range(4):
+            to, a, b, field = 8 + draw(8), draw(16), draw(16), draw(4)
+            yield (
+                f"new r{to} {draw(2)} 4",
+                f"get r{to} r{a} {field}",
+                f"set r{a} {field} r{b}",
+                f"copy r{to} r{a}",
+                f"wrap r{to} r{a} {draw(2)}",
+                f"expose r{to} g{draw(8)}",
+            )[draw(6)]
+    yield "finish"
+    yield from collect(1, 2)
 
 
-def main():
-    tries = int(sys.argv[1]) if len(sys.argv) > 1 else 3
-    families = sys.argv[2:] or list(FAMILIES)
-    if not GCZONE.exists():
-        sys.exit("build the program first: ./gczone run < examples/first.trace")
-    with tempfile.TemporaryDirectory() as folder:
-        trace = Path(folder) / "trace"
-        write(trace, ["zone"])
-        start_up, empty = quickest(trace, tries)
-        for family in families:
-            for size in SIZES:
-                print(measure(trace, family, size, tries, start_up, empty))
+@family
+def mixed(scale):
+    """Commands of all kinds by chance, in four zones and eight compartments, with collections in slices."""
+    draw = random.Random("mixed").randrange
+    yield from places(4)
+    yield from (f"comp {zone}" for zone in range(4))
+    for _ in range(int(1_000_000 * scale)):
+        a, b, c, comp, field, slot = draw(16), draw(16), draw(16), draw(8), draw(4), draw(64)
+        kind = draw(20)
+        if kind < 5:
+            yield f"new r{a} {comp} {draw(5)}"
+        elif kind == 5:
+            yield f"map r{a} {comp}"
+        elif kind < 8:
+            yield f"get r{a} r{b} {field}"
+        elif kind < 11:
+            yield f"set r{a} {field} r{b}"
+        elif kind == 19:
+            if draw(4):
+                yield f"slice {draw(64)}"
+            else:
+                yield "gc " + " ".join(sorted({str(draw(4)) for _ in range(3)}))
+        else:
+            yield (
+                f"wrap r{a} r{b} {comp}",
+                f"unwrap r{a} r{b}",
+                f"put r{a} r{b} r{c}",
+                f"find r{a} r{b} r{c}",
+                f"del r{a} r{b}",
+                f"hold g{slot} r{a}",
+                f"expose r{a} g{slot}",
+                f"drop r{a}",
+            )[kind - 11]
+    yield "finish"
+    yield from collect(1, 4)
+    yield "colours"
 
 
-if __name__ == "__main__":
-    main()
+# Between two slices the programs may have come to different points: the definitions leave the order of the steps free.
+REPLIES_ALONE = {"slices", "mixed"}
