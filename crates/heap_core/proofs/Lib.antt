@@ -19,3 +19,4 @@ pub mod Keyed
 pub mod Empty
 pub mod Taking
 pub mod CellsMade
+pub mod Reaching

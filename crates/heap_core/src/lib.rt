@@ -58,6 +58,10 @@ mod heap;
 mod holding;
 mod making;
 mod peeks;
+#[cfg(test)]
+mod random_commands;
+#[cfg(test)]
+mod reached;
 mod steps;
 mod wrapping;
 
