@@ -174,6 +174,16 @@ impl Arenas {
         self.store.cell(place).field(f)
     }
 
+    /// How many fields a cell has.
+    pub fn field_count(&self, place: Place) -> u8
+        requires { IsSome (cell_at self.now.arenas place) }
+        ensures count { option_map (λ c. length c.fields) (cell_at self.now.arenas place)
+            ≡ Some result }
+        ensures most { result ≤ 8 }
+    {
+        self.store.cell(place).field_count()
+    }
+
     /// A field of a cell takes a value.
     pub fn set_field(&mut self, place: Place, f: u8, v: Option<Place>)
         requires field { IsSomeAnd (cell_at self.old.arenas place) (λ c. f < length c.fields) }

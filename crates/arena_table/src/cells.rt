@@ -99,6 +99,14 @@ impl Cell {
         }
     }
 
+    /// How many fields the cell has.
+    pub fn field_count(&self) -> u8
+        ensures count { result ≡ length (state_of self.now).fields }
+        ensures most { result ≤ 8 }
+    {
+        fields_of(self.kind).min(8)
+    }
+
     /// A field takes a value.
     pub fn set_field(&mut self, f: u8, value: Option<Place>)
         requires field { f < length (state_of self.old).fields }
