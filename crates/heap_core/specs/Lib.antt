@@ -1,4 +1,5 @@
 pub mod Shape
+pub mod Edges
 pub mod Heap
 pub mod Shows
 pub mod Answers

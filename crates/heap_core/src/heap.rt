@@ -10,6 +10,7 @@ ghost use Rattle.zones.specs.declared.states.State.{State as AState};
 ghost use Rattle.arena_table.specs.Cells.{field_count};
 ghost use Rattle.arena_table.specs.Table.{new_cell};
 ghost use Rattle.heap_core.specs.Shape.{Shape, IsPresent, is_white, cell_of, field_at, out_of, stored_at, zone_of};
+ghost use Rattle.heap_core.specs.Edges.{edge_count};
 ghost use Rattle.heap_core.specs.Heap.{HeapState, colour_of, reg_of, slot_of, with_reg, with_slot};
 ghost use Rattle.heap_core.specs.Changes.{Makes, MakesWrapper, Writes, next_place, with_comp, with_entry, with_number, with_zone, without_entry, wrapper_cell};
 ghost use Rattle.heap_core.specs.Blackening.{Blackens};
@@ -124,6 +125,17 @@ impl Heap {
     {
         steps.tick();
         self.arenas.field(place, i)
+    }
+
+    /// How many edges a present cell has, null or not: as many as it has fields. At a number from
+    /// there on `reached_by` answers `None`.
+    pub fn edge_count(&self, place: Place) -> u8
+        requires { IsPresent self.now.shape place }
+        ensures count { result ≡ edge_count self.now.shape place }
+        ensures most { result ≤ 8 }
+        ensures past { (f : ℕ) → result ≤ f → field_at self.now.shape place f ≡ None }
+    {
+        self.arenas.field_count(place)
     }
 
     /// What a register holds.
