@@ -2,3 +2,4 @@ pub mod Reading
 pub mod Linking
 pub mod Apart
 pub mod Noting
+pub mod Headed

@@ -1,2 +1,3 @@
 pub mod Incoming
 pub mod Nodes
+pub mod CompSets

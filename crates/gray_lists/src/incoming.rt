@@ -1,6 +1,8 @@
 // The incoming gray wrappers, by the compartment of their targets.
-ghost use Rattle.std.specs.Prelude.{◌≡◌, ◌<◌, ◌+◌, ◌∷◌, ℕ, [], length, replicate, Contains, IfSome, IfNone, OnOk, OnErr};
+ghost use Rattle.std.specs.Prelude.{◌≡◌, ◌≢◌, ◌≤◌, ◌<◌, ◌↔◌, ◌+◌, ◌∷◌, ℕ, [], length, replicate, Contains, IfSome, IfNone, OnOk, OnErr};
+ghost use Rattle.gray_lists.specs.CompSets.{HasComp};
 
+use crate::comp_sets::CompSet;
 use crate::nodes::{Node, put_node, take_node};
 use gz_names::{CompNo, NoMemory, Place};
 use std::alloc::{AllocError, Global};
@@ -14,6 +16,8 @@ pub struct Lists {
     heads: [Option<u32>; 256],
     // Where the first free node stands.
     free: Option<u32>,
+    // The compartments whose lists are not empty.
+    waiting: CompSet,
     // How many wrappers the lists can hold together.
     room: usize,
 }
@@ -22,6 +26,7 @@ impl Model for Lists {
     ghost use Rattle.std.specs.Prelude.{vec_capacity};
     ghost use Rattle.gray_lists.specs.Incoming.{Incoming};
     ghost use Rattle.gray_lists.specs.Nodes.{lists_of, IsSound};
+    ghost use Rattle.gray_lists.specs.CompSets.{AreHeaded};
 
     ghost Value = { Incoming };
 
@@ -30,7 +35,8 @@ impl Model for Lists {
       room = l.room;
     } };
 
-    ghost invariant = { λ l. IsSound l.nodes.items (vec_capacity l.nodes) l.heads l.free l.room };
+    ghost invariant = { λ l. IsSound l.nodes.items (vec_capacity l.nodes) l.heads l.free l.room
+        × AreHeaded l.heads l.waiting.words };
 }
 
 impl Lists {
@@ -44,6 +50,7 @@ impl Lists {
             nodes: Vec::new(alloc),
             heads: [None; 256],
             free: None,
+            waiting: CompSet::new(),
             room: 0,
         }
     }
@@ -76,6 +83,7 @@ impl Lists {
         let next = self.heads[comp.0 as usize];
         let at = put_node(&mut self.nodes, &mut self.free, Node { wrapper, next });
         self.heads[comp.0 as usize] = Some(at);
+        self.waiting.insert(comp);
     }
 
     /// Takes the wrapper that was noted last off the list of a compartment; `None` where the list is
@@ -92,7 +100,29 @@ impl Lists {
         let at = self.heads[comp.0 as usize]?;
         let node = take_node(&mut self.nodes, &mut self.free, at);
         self.heads[comp.0 as usize] = node.next;
+        leave_empty(&mut self.waiting, comp, node.next);
         Some(node.wrapper)
+    }
+
+    /// The lowest compartment from a number on for which a wrapper waits. It looks at no list.
+    pub fn next_waiting(&self, from: u16) -> Option<CompNo>
+        ensures some { IfSome result (λ c. (from ≤ c.0) × (list_of self.now c.0 ≢ [])) }
+        ensures between { IfSome result
+            (λ c. (n : ℕ) → from ≤ n → n < c.0 → list_of self.now n ≡ []) }
+        ensures none { IfNone result ((n : ℕ) → from ≤ n → list_of self.now n ≡ []) }
+    {
+        self.waiting.first_from(from)
+    }
+}
+
+// A compartment goes out of the set, if its list has no first node any more.
+fn leave_empty(waiting: &mut CompSet, comp: CompNo, first: Option<u32>)
+    ensures some { IfSome first (λ _. waiting.new.words ≡ waiting.old.words) }
+    ensures none { IfNone first ((c : ℕ) → HasComp waiting.new.words c
+        ↔ (HasComp waiting.old.words c × (c ≢ comp.0))) }
+{
+    if first.is_none() {
+        waiting.remove(comp);
     }
 }
 
@@ -111,7 +141,10 @@ mod tests {
         let taken = lists.next_incoming(CompNo(255)).ok_or("wrapper")?;
         lists.note(CompNo(0), taken);
         assert_eq!(rt; lists.next_incoming(CompNo(255)), None);
+        assert_eq!(rt; lists.next_waiting(0), Some(CompNo(0)));
+        assert_eq!(rt; lists.next_waiting(1), None);
         assert_eq!(rt; lists.next_incoming(CompNo(0)), Some(wrapper));
+        assert_eq!(rt; lists.next_waiting(0), None);
         Ok(())
     }
 }

@@ -28,6 +28,9 @@
 // node of a list to the front of the free list. So each call but `reserve` is a few reads and
 // writes, however many wrappers wait, and nobody searches.
 //
+// Beside the lists stands the set of the compartments whose lists are not empty, a bit a compartment,
+// so that gray marking finds what waits by four words and not by 256 lists.
+//
 // Gray marking has no answer for want of memory, so memory comes first: `reserve` is called before a
 // wrapper is made. A wrapper stands on at most one list, and once, so no more can wait than there
 // are wrappers:
@@ -39,6 +42,7 @@
 // list, and dead wrappers would be handed out as gray.
 #![tactic(auto)]
 
+mod comp_sets;
 mod incoming;
 mod nodes;
 

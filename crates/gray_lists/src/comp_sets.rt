@@ -1,0 +1,96 @@
+// Sets of compartments, a bit a compartment.
+ghost use Rattle.std.specs.Prelude.{◌≡◌, ◌≢◌, ◌≤◌, ◌<◌, ◌↔◌, ◌⊎◌, ℕ, IfSome, IfNone};
+ghost use Rattle.gz_names.specs.Zones.{HasZone};
+ghost use Rattle.gray_lists.specs.CompSets.{HasComp};
+
+use gz_names::CompNo;
+
+// Compartment c is in the set where bit c % 64 of word c / 64 is set.
+#[derive(Clone, Copy)]
+pub(crate) struct CompSet {
+    pub(crate) words: [u64; 4],
+}
+
+impl CompSet {
+    // No compartment.
+    pub(crate) fn new() -> Self
+        ensures { (c : ℕ) → HasComp result.words c → ⊥ }
+    {
+        CompSet { words: [0; 4] }
+    }
+
+    // Adds a compartment, if it is not there.
+    pub(crate) fn insert(&mut self, comp: CompNo)
+        ensures { (c : ℕ) → HasComp self.new.words c
+            ↔ (HasComp self.old.words c ⊎ (c ≡ comp.0)) }
+    {
+        let at = (comp.0 / 64) as usize;
+        self.words[at] = with_bit(self.words[at], comp.0 % 64);
+    }
+
+    // Takes a compartment out, if it is there.
+    pub(crate) fn remove(&mut self, comp: CompNo)
+        ensures { (c : ℕ) → HasComp self.new.words c
+            ↔ (HasComp self.old.words c × (c ≢ comp.0)) }
+    {
+        let at = (comp.0 / 64) as usize;
+        self.words[at] = without_bit(self.words[at], comp.0 % 64);
+    }
+
+    // The lowest compartment from a number on. It looks at four words at most.
+    pub(crate) fn first_from(&self, from: u16) -> Option<CompNo>
+        ensures some { IfSome result (λ c. (from ≤ c.0) × HasComp self.now.words c.0) }
+        ensures between { IfSome result
+            (λ c. (n : ℕ) → from ≤ n → n < c.0 → HasComp self.now.words n → ⊥) }
+        ensures none { IfNone result ((n : ℕ) → from ≤ n → HasComp self.now.words n → ⊥) }
+    {
+        let mut at = from;
+        while at < 256 {
+            let word = at / 64;
+            if let Some(bit) = lowest_from(self.words[word as usize], (at % 64) as u8) {
+                return Some(CompNo((64 * word) as u8 + bit));
+            }
+            at = 64 * word + 64;
+        }
+        None
+    }
+}
+
+// A word with a bit set.
+fn with_bit(word: u64, bit: u8) -> u64
+    requires { bit < 64 }
+    ensures { (b : ℕ) → HasZone result b ↔ (HasZone word b ⊎ (b ≡ bit)) }
+{
+    word | 1 << bit
+}
+
+// A word with a bit clear.
+fn without_bit(word: u64, bit: u8) -> u64
+    requires { bit < 64 }
+    ensures { (b : ℕ) → HasZone result b ↔ (HasZone word b × (b ≢ bit)) }
+{
+    word & !(1 << bit)
+}
+
+// The lowest bit of a word that is set, from a number on.
+fn lowest_from(word: u64, from: u8) -> Option<u8>
+    requires { from < 64 }
+    ensures some { IfSome result (λ bit. (from ≤ bit) × (bit < 64) × HasZone word bit) }
+    ensures between { IfSome result (λ bit. (b : ℕ) → from ≤ b → b < bit → HasZone word b → ⊥) }
+    ensures none { IfNone result ((b : ℕ) → from ≤ b → HasZone word b → ⊥) }
+{
+    let rest = bits_from(word, from);
+    if rest == 0 {
+        None
+    } else {
+        Some(rest.trailing_zeros() as u8)
+    }
+}
+
+// The bits of a word from a number on.
+fn bits_from(word: u64, from: u8) -> u64
+    requires { from < 64 }
+    ensures { (b : ℕ) → HasZone result b ↔ (HasZone word b × (from ≤ b)) }
+{
+    word & u64::MAX << from
+}
