@@ -1,5 +1,5 @@
 -- What one look does: the cursor that it raises, the wrapper that stands there, and the edge that it notes.
-use Rattle.std.proofs.Common.{◌≡◌, ◌≢◌, ◌<◌, ◌≤◌, ◌+◌, ◌⊎◌, ◌↔◌, ℕ, zero, suc, inl, inr, Option, Some, None, List, length, replicate, get_or, set, slice_get, refl, sym, ap, subst, ◌∙◌, arith, get_or-set_same, get_or-set_other}
+use Rattle.std.proofs.Common.{◌≡◌, ◌≢◌, ◌<◌, ◌≤◌, ◌+◌, ◌⊎◌, ◌↔◌, ℕ, zero, suc, inl, inr, Option, Some, None, IfSome, List, length, replicate, get_or, set, slice_get, refl, sym, ap, subst, ◌∙◌, arith, get_or-set_same, get_or-set_other}
 use Rattle.std.proofs.Math.ListN.{length-replicate}
 use Rattle.std.proofs.lemmas.List.{get_or-replicate, get_or_past}
 use Rattle.std.specs.Int.{bit_at}
@@ -48,6 +48,12 @@ stands_in s zone index p are apart stands =
     let e = entry_at s zone index p stands in
     let entries = list_of s.wrappers zone in
     subst (IsWrapperIn s zone) e.place_is (are apart zone e.entry (index, slice_get_within entries index e.entry e.found, get_or_from_slice_get entries index e.entry e.entry e.found))
+
+-- so it is of what stands there, if anything does
+pub stands_if : (s : Shape) (zone index : ℕ) (o : Option Place) → AreWrappers s → AreApart s.wrappers.lists
+    → wrapper_at s zone index ≡ o → IfSome o (IsWrapperIn s zone)
+stands_if s zone index None are apart stands = tt
+stands_if s zone index (Some p) are apart stands = stands_in s zone index p are apart stands
 
 -- a wrapper leads along one edge at most
 pub leads_along_one : (h : HeapState) (zones : ZoneSet) (p : Place) (a b x y : ℕ) → LeadsFrom h zones p a b → LeadsFrom h zones p x y → (x ≡ a) × (y ≡ b)

@@ -19,6 +19,8 @@ pub struct Edges {
     search: Search,
     stepped: ZoneSet,
     cursors: [u64; 64],
+    // The zone whose wrapper was looked at last.
+    current: Option<ZoneNo>,
 }
 
 impl Model for Edges {
@@ -48,6 +50,7 @@ impl Edges {
             search: Search::new(ZoneSet { bits: 0 }),
             stepped: ZoneSet { bits: 0 },
             cursors: [0; 64],
+            current: None,
         }
     }
 
@@ -61,6 +64,7 @@ impl Edges {
         self.search = Search::new(zones);
         self.stepped = ZoneSet { bits: 0 };
         self.cursors = [0; 64];
+        self.current = None;
     }
 
     /// Looks at the next wrapper of a zone. Where it leads to another one of the zones, to a cell
@@ -78,9 +82,11 @@ impl Edges {
         ensures steps { steps.new ≡ steps.old + edges_read result }
     {
         let zones = self.search.zones;
-        let Some((zone, wrapper)) = next_wrapper(heap, zones, &mut self.cursors) else {
+        let Some((zone, wrapper)) = next_wrapper(heap, zones, self.current, &mut self.cursors)
+        else {
             return Look::Empty;
         };
+        self.current = Some(zone);
         if let Some(to) = edge_from(heap, zones, zone, wrapper, steps) {
             self.search.note(zone, to);
         }

@@ -28,7 +28,8 @@
 //
 // The edges are found by looking at the wrappers of the zones, one at a time, and commands may run
 // between two looks. Each zone has a cursor into the list of its wrappers, which is in the order of
-// adding: those before the cursor were looked at, and new ones come in behind it. A wrapper that is
+// adding: those before the cursor were looked at, and new ones come in behind it. One zone is looked
+// at until its cursor is at the end, and then the lowest that has wrappers left. A wrapper that is
 // made after the first grouping step is looked at too, but it has a black target, since that came
 // from a register (`left_black_law`); so no edge is noted any more.
 //

@@ -19,8 +19,57 @@ pub enum Look {
 }
 
 /// The next wrapper of one of these zones by their cursors, and its zone; the zone's cursor is
-/// raised. `None` where all cursors are at the end.
-pub fn next_wrapper(heap: &Heap, zones: ZoneSet, cursors: &mut [u64; 64]) -> Option<(ZoneNo, Place)>
+/// raised. `None` where all cursors are at the end. As long as the current zone is one of them and
+/// has wrappers left, it looks at no other.
+pub fn next_wrapper(
+    heap: &Heap,
+    zones: ZoneSet,
+    current: Option<ZoneNo>,
+    cursors: &mut [u64; 64],
+) -> Option<(ZoneNo, Place)>
+    requires { AreWrappers heap.now.shape }
+    ensures zone { IfSome result (λ found. HasZone zones.bits found.0) }
+    ensures next { IfSome result (λ found. wrapper_at heap.now.shape found.0
+        (slice_index cursors.old found.0) ≡ Some found.1) }
+    ensures wrapper { IfSome result (λ found. IsWrapperIn heap.now.shape found.0 found.1) }
+    ensures raised { IfSome result (λ found. cursors.new
+        ≡ slice_set cursors.old found.0 (slice_index cursors.old found.0 + 1)) }
+    ensures none { IfNone result ((z : ℕ) → HasZone zones.bits z
+        → wrapper_at heap.now.shape z (slice_index cursors.old z) ≡ None) }
+    ensures same { IfNone result (cursors.new ≡ cursors.old) }
+{
+    match next_in_current(heap, zones, current, cursors) {
+        Some(found) => Some(found),
+        None => next_in_any(heap, zones, cursors),
+    }
+}
+
+// The next wrapper of the current zone, if that is one of these.
+fn next_in_current(
+    heap: &Heap,
+    zones: ZoneSet,
+    current: Option<ZoneNo>,
+    cursors: &mut [u64; 64],
+) -> Option<(ZoneNo, Place)>
+    requires { AreWrappers heap.now.shape }
+    ensures zone { IfSome result (λ found. HasZone zones.bits found.0) }
+    ensures next { IfSome result (λ found. wrapper_at heap.now.shape found.0
+        (slice_index cursors.old found.0) ≡ Some found.1) }
+    ensures wrapper { IfSome result (λ found. IsWrapperIn heap.now.shape found.0 found.1) }
+    ensures raised { IfSome result (λ found. cursors.new
+        ≡ slice_set cursors.old found.0 (slice_index cursors.old found.0 + 1)) }
+    ensures same { IfNone result (cursors.new ≡ cursors.old) }
+{
+    let zone = current?;
+    if !zones.contains(zone) {
+        return None;
+    }
+    let wrapper = next_in(heap, zone, cursors)?;
+    Some((zone, wrapper))
+}
+
+// The next wrapper of the lowest of these zones that has one left.
+fn next_in_any(heap: &Heap, zones: ZoneSet, cursors: &mut [u64; 64]) -> Option<(ZoneNo, Place)>
     requires { AreWrappers heap.now.shape }
     ensures zone { IfSome result (λ found. HasZone zones.bits found.0) }
     ensures next { IfSome result (λ found. wrapper_at heap.now.shape found.0
@@ -34,13 +83,28 @@ pub fn next_wrapper(heap: &Heap, zones: ZoneSet, cursors: &mut [u64; 64]) -> Opt
 {
     let mut rest = zones;
     'zones: while let Some(zone) = rest.first() {
-        let cursor = &mut cursors[usize::from(zone.index())];
-        if let Some(wrapper) = heap.next_of(zone, cursor) {
+        if let Some(wrapper) = next_in(heap, zone, cursors) {
             return Some((zone, wrapper));
         }
         rest.remove(zone);
     }
     None
+}
+
+// The next wrapper of a zone by its cursor, which is raised; `None` where that is at the end.
+fn next_in(heap: &Heap, zone: ZoneNo, cursors: &mut [u64; 64]) -> Option<Place>
+    requires { AreWrappers heap.now.shape }
+    ensures next { IfSome result (λ wrapper. wrapper_at heap.now.shape zone
+        (slice_index cursors.old zone) ≡ Some wrapper) }
+    ensures wrapper { IfSome result (IsWrapperIn heap.now.shape zone) }
+    ensures raised { IfSome result (λ _. cursors.new
+        ≡ slice_set cursors.old zone (slice_index cursors.old zone + 1)) }
+    ensures none { IfNone result (wrapper_at heap.now.shape zone (slice_index cursors.old zone)
+        ≡ None) }
+    ensures same { IfNone result (cursors.new ≡ cursors.old) }
+{
+    let cursor = &mut cursors[usize::from(zone.index())];
+    heap.next_of(zone, cursor)
 }
 
 /// The zone to which an edge is to be noted for a wrapper of a zone: its target's, where that is

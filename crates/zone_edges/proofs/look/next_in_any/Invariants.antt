@@ -2,7 +2,7 @@ use Rattle.std.proofs.Common.{◌≡◌, ℕ, ◌⊎◌, None, slice_index}
 use Rattle.gz_names.specs.Zones.{HasZone}
 use Rattle.zone_edges.specs.Looks.{wrapper_at}
 use Rattle.zone_edges.specs.Sets.{size}
-use Rattle.zone_edges.proofs.look.next_wrapper.Given as goal
+use Rattle.zone_edges.proofs.look.next_in_any.Given as goal
 
 abbrev pub invariant-zones : goal.invariant-zones
 invariant-zones l = record {
