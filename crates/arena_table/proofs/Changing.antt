@@ -4,7 +4,7 @@ use Rattle.std.proofs.lemmas.List.Elements.{All-nil, All-cons, All-head, All-tai
 use Rattle.gz_names.specs.declared.numbers.Place.{Place}
 use Rattle.cell_bits.specs.declared.bits.Bits.{Bits}
 use Rattle.arena_table.specs.Cells.{CellState, with_value}
-use Rattle.arena_table.specs.Slots.{Arena, change_at, change_cell, with_bits, with_field, has_free, first_free, held_in, held_by, bit_of}
+use Rattle.arena_table.specs.Slots.{Arena, change_at, change_cell, with_bits, with_field, has_free, first_free, held_in, held_by, bit_of, is_out_at}
 use Rattle.arena_table.specs.Stored.{StoreState}
 use Rattle.arena_table.specs.Indexed.{IndexState, IsIndexed, IsOwnedBy, is_open, is_owned, in_zones}
 use Rattle.arena_table.specs.Placement.{place_from}
@@ -121,10 +121,21 @@ IsIndexed-like xs ys index h i = record {
   covered = λ z a lt own. i.covered z a lt (sym (like-owned z xs ys a h) ∙ own);
 }
 
+like-out : (xs ys : List Arena) (a : ℕ) → AreLike xs ys → is_out_at xs a ≡ is_out_at ys a
+like-out [] [] a h = refl
+like-out [] (y ∷ ys) a h = absurd h
+like-out (x ∷ xs) [] a h = absurd h
+like-out (x ∷ xs) (y ∷ ys) zero h = sym h.0.is_out
+like-out (x ∷ xs) (y ∷ ys) (suc a) h = like-out xs ys a h.1
+
 -- all that always holds, where only such arenas are changed
-pub AreArenas-like : (store changed : StoreState) (index : IndexState) (made held : ℕ) (reserved : Option Reserved) → AreArenas store index made held reserved → AreLike store.arenas changed.arenas → changed.room ≡ store.room → AreArenas changed index made held reserved
-AreArenas-like store changed index made held reserved h like room = record {
+pub AreArenas-like : (store changed : StoreState) (index : IndexState) (out : List ℕ) (made held : ℕ) (reserved : Option Reserved) → AreArenas store index out made held reserved → AreLike store.arenas changed.arenas → changed.room ≡ store.room → AreArenas changed index out made held reserved
+AreArenas-like store changed index out made held reserved h like room = record {
   indexed = IsIndexed-like store.arenas changed.arenas index like h.indexed;
+  out_of = record {
+    bits = λ a. h.out_of.bits a ∙ ap bit_of (like-out store.arenas changed.arenas a like);
+    room = (let was = h.out_of.room in let long = like-length store.arenas changed.arenas like in omega arith);
+  };
   few = h.few;
   counted = h.counted ∙ sym (like-held store.arenas changed.arenas like);
   fewer = h.fewer;
@@ -139,6 +150,8 @@ AreArenas-like store changed index made held reserved h like room = record {
           owned = (let was = old.owned in omega arith);
           open_ = (let was = old.open_ in omega arith);
         });
+    out_room = λ end. (let old = k.out_room (end ∙ like-length store.arenas changed.arenas like) in
+        let long = like-length store.arenas changed.arenas like in omega arith);
   });
 }
 

@@ -15,4 +15,5 @@ pub mod HandingOut
 pub mod Indexing
 pub mod Putting
 pub mod Visiting
+pub mod Outs
 pub mod Laws

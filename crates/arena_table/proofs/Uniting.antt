@@ -1,9 +1,10 @@
 -- The bits of several sets together.
-use Rattle.std.proofs.Common.{◌≡◌, ◌≢◌, ◌<◌, ◌-◌, ◌^◌, ◌↔◌, ◌⊎◌, inl, inr, ℕ, List, max, sym, ◌∙◌, ap, subst, arith, bit_and, bit_or, w64}
+use Rattle.std.proofs.Common.{◌≡◌, ◌≢◌, ◌<◌, ◌≤◌, ◌-◌, ◌^◌, ◌↔◌, ◌⊎◌, inl, inr, ℕ, List, Option, Some, None, IfSome, max, sym, ◌∙◌, ap, subst, arith, bit_and, bit_or, w64, slice_index}
 use Rattle.std.proofs.lemmas.Bool.{cases_eq}
 use Rattle.std.proofs.lemmas.Nat.Bits.{bit_at-lt, bit_at-zero, bit_at_or, bit_at-trailing_zeros}
 use Rattle.std.specs.Int.{bit_at, trailing_zeros}
 use Rattle.gz_names.specs.Zones.{HasZone}
+use Rattle.arena_table.specs.Sets.{IsBefore}
 use Rattle.arena_table.specs.Indexed.{HasBit, words_at}
 use Rattle.arena_table.proofs.WordBits.{if_same, if_other}
 use Rattle.arena_table.proofs.LowestBit.{bit_at-rest}
@@ -70,3 +71,51 @@ united-all sets zones at left word h none k lt = (
     | inr one ↦ one
   ]),
 )
+
+-- the lowest word from one on is found that is not 0 in some of the zones, and these are left
+pub record IsSeeking (sets : List (List ℕ)) (zones from left : ℕ) (found : Option ℕ) : Type 0 where
+  pub on : IfSome found (λ at. (from ≤ at) × (at < 2 ^ 26))
+  pub some : IfSome found (λ at. (z : ℕ) × HasZone zones z × (slice_index (words_at sets z) at ≢ 0))
+  pub within : (z : ℕ) → HasZone left z → HasZone zones z
+  pub lowest : (z word : ℕ) → HasZone zones z → from ≤ word → IsBefore found word → HasZone left z ⊎ (slice_index (words_at sets z) word ≡ 0)
+
+pub IsSeeking-none : (sets : List (List ℕ)) (zones from : ℕ) → IsSeeking sets zones from zones None
+IsSeeking-none sets zones from = record {
+  on = tt;
+  some = tt;
+  within = λ z h. h;
+  lowest = λ z word has ge before. inl has;
+}
+
+-- the lowest zone is looked at
+pub IsSeeking-more : (sets : List (List ℕ)) (zones from left : ℕ) (found next lower : Option ℕ) → IsSeeking sets zones from left found → 0 < left → left < 2 ^ 64 → IfSome next (λ at. (from ≤ at) × (at < 2 ^ 26)) → IfSome next (λ at. slice_index (words_at sets (trailing_zeros w64 left)) at ≢ 0) → ((word : ℕ) → from ≤ word → IsBefore next word → slice_index (words_at sets (trailing_zeros w64 left)) word ≡ 0) → (lower ≡ found) ⊎ (lower ≡ next) → ((n : ℕ) → IsBefore lower n → IsBefore found n × IsBefore next n) → IsSeeking sets zones from (bit_and left (left - 1)) lower
+IsSeeking-more sets zones from left found next lower h some fits on there empty one low = record {
+  on = elim one [
+    | inl e ↦ subst (λ (o : Option ℕ). IfSome o (λ at. (from ≤ at) × (at < 2 ^ 26))) (sym e) h.on
+    | inr e ↦ subst (λ (o : Option ℕ). IfSome o (λ at. (from ≤ at) × (at < 2 ^ 26))) (sym e) on
+  ];
+  some = elim one [
+    | inl e ↦ subst (λ (o : Option ℕ). IfSome o (λ at. (z : ℕ) × HasZone zones z × (slice_index (words_at sets z) at ≢ 0))) (sym e) h.some
+    | inr e ↦ subst (λ (o : Option ℕ). IfSome o (λ at. (z : ℕ) × HasZone zones z × (slice_index (words_at sets z) at ≢ 0))) (sym e) (in-zone next there)
+  ];
+  within = λ z k. h.within z (HasZone-of_rest left z some fits k);
+  lowest = λ z word has ge before. (let both = low word before in elim (h.lowest z word has ge both.0) [
+    | inl l ↦ (elim (cases_eq z (trailing_zeros w64 left)) [
+      | inl e ↦ inr (ap (λ y. slice_index (words_at sets y) word) e ∙ empty word ge both.1)
+      | inr n ↦ inl (HasZone-rest left z some fits l n)
+    ])
+    | inr none ↦ inr none
+  ]);
+}
+  where
+    in-zone : (o : Option ℕ) → IfSome o (λ at. slice_index (words_at sets (trailing_zeros w64 left)) at ≢ 0) → IfSome o (λ at. (z : ℕ) × HasZone zones z × (slice_index (words_at sets z) at ≢ 0))
+    in-zone None t = tt
+    in-zone (Some at) t = (trailing_zeros w64 left, h.within _ (HasZone-lowest left some fits), t)
+
+-- when none is left, all are looked at
+pub sought-all : (sets : List (List ℕ)) (zones from left : ℕ) (found : Option ℕ) → IsSeeking sets zones from left found → left ≡ 0 → (z word : ℕ) → HasZone zones z → from ≤ word → IsBefore found word → slice_index (words_at sets z) word ≡ 0
+unfolding HasZone
+sought-all sets zones from left found h none z word has ge before = elim (h.lowest z word has ge before) [
+  | inl l ↦ absurd (let one : bit_at left z ≡ 1 = l.1 in let zero_bit : bit_at left z ≡ 0 = ap (λ w. bit_at w z) none ∙ bit_at-zero z in omega arith)
+  | inr e ↦ e
+]

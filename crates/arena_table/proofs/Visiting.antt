@@ -49,9 +49,9 @@ jobs-numbered word n arenas (x ∷ xs) h = by (in_zones word x.zone) (jobs-numbe
 pub record IsListing (arenas : List Arena) (word : ℕ) (jobs : List Job) (walk : Walk) : Type 0 where
   pub listed : jobs ++ map (job-at arenas) (walk_rest arenas walk) ≡ jobs_from word 0 arenas
   pub within : AreBelow (length arenas) (walk_rest arenas walk)
-  pub below : walk.base ≤ 2 ^ 32
+  pub below : (walk.base ≤ 2 ^ 32) × (walk.at ≤ 2 ^ 26)
 
-pub IsListing-first : (arenas : List Arena) (word : ℕ) (jobs : List Job) (walk : Walk) → jobs ≡ [] → walk_rest arenas walk ≡ numbers_from word 0 arenas → walk.base ≤ 2 ^ 32 → IsListing arenas word jobs walk
+pub IsListing-first : (arenas : List Arena) (word : ℕ) (jobs : List Job) (walk : Walk) → jobs ≡ [] → walk_rest arenas walk ≡ numbers_from word 0 arenas → (walk.base ≤ 2 ^ 32) × (walk.at ≤ 2 ^ 26) → IsListing arenas word jobs walk
 IsListing-first arenas word jobs walk none rest below = record {
   listed = ap (λ js. js ++ map (job-at arenas) (walk_rest arenas walk)) none ∙ (ap (map (job-at arenas)) rest ∙ jobs-numbered word 0 arenas arenas (λ k. ap (slice_get arenas) (let same : 0 + k ≡ k = omega arith in same)));
   within = subst (AreBelow (length arenas)) (sym rest) (numbers-below word 0 (length arenas) arenas (omega arith));
@@ -61,7 +61,7 @@ IsListing-first arenas word jobs walk none rest below = record {
 pub IsListing-within : (arenas : List Arena) (word : ℕ) (jobs : List Job) (walk next : Walk) (a : ℕ) → IsListing arenas word jobs walk → walk_rest arenas walk ≡ a ∷ walk_rest arenas next → a < length arenas
 IsListing-within arenas word jobs walk next a h e = (subst (AreBelow (length arenas)) e h.within).0
 
-pub IsListing-next : (arenas : List Arena) (word : ℕ) (jobs : List Job) (walk next : Walk) (a : ℕ) (head : Head) → IsListing arenas word jobs walk → walk_rest arenas walk ≡ a ∷ walk_rest arenas next → next.base ≤ 2 ^ 32 → IsSomeAnd (slice_get arenas a) (λ x. IsHeadOf x head) → IsListing arenas word (jobs ++ record { arena = a; alloc_word = head.alloc_word; bits = head.bits } ∷ []) next
+pub IsListing-next : (arenas : List Arena) (word : ℕ) (jobs : List Job) (walk next : Walk) (a : ℕ) (head : Head) → IsListing arenas word jobs walk → walk_rest arenas walk ≡ a ∷ walk_rest arenas next → (next.base ≤ 2 ^ 32) × (next.at ≤ 2 ^ 26) → IsSomeAnd (slice_get arenas a) (λ x. IsHeadOf x head) → IsListing arenas word (jobs ++ record { arena = a; alloc_word = head.alloc_word; bits = head.bits } ∷ []) next
 IsListing-next arenas word jobs walk next a head h e below is = record {
   listed = append_assoc jobs _ _ ∙ (ap (λ j. jobs ++ j ∷ map (job-at arenas) (walk_rest arenas next)) (sym (by (slice_get arenas a) is)) ∙ (ap (λ ns. jobs ++ map (job-at arenas) ns) (sym e) ∙ h.listed));
   within = (subst (AreBelow (length arenas)) e h.within).1;
@@ -130,9 +130,9 @@ pub record IsChanging (f : Arena → Arena) (before arenas : List Arena) (sets :
   pub changed : changed-all f (walk_rest arenas walk) arenas ≡ in_these f word before
   pub owned : IsOwnedBy arenas sets
   pub within : AreBelow (length arenas) (walk_rest arenas walk)
-  pub below : walk.base ≤ 2 ^ 32
+  pub below : (walk.base ≤ 2 ^ 32) × (walk.at ≤ 2 ^ 26)
 
-pub IsChanging-first : (f : Arena → Arena) (arenas : List Arena) (sets : List (List ℕ)) (word : ℕ) (walk : Walk) → IsOwnedBy arenas sets → walk_rest arenas walk ≡ numbers_from word 0 arenas → walk.base ≤ 2 ^ 32 → IsChanging f arenas arenas sets word walk
+pub IsChanging-first : (f : Arena → Arena) (arenas : List Arena) (sets : List (List ℕ)) (word : ℕ) (walk : Walk) → IsOwnedBy arenas sets → walk_rest arenas walk ≡ numbers_from word 0 arenas → (walk.base ≤ 2 ^ 32) × (walk.at ≤ 2 ^ 26) → IsChanging f arenas arenas sets word walk
 IsChanging-first f arenas sets word walk owned rest below = record {
   changed = ap (λ ns. changed-all f ns arenas) rest ∙ changed-numbered f word 0 [] arenas refl;
   owned = owned;
@@ -143,7 +143,7 @@ IsChanging-first f arenas sets word walk owned rest below = record {
 pub IsChanging-within : (f : Arena → Arena) (before arenas : List Arena) (sets : List (List ℕ)) (word : ℕ) (walk next : Walk) (a : ℕ) → IsChanging f before arenas sets word walk → walk_rest arenas walk ≡ a ∷ walk_rest arenas next → a < length arenas
 IsChanging-within f before arenas sets word walk next a h e = (subst (AreBelow (length arenas)) e h.within).0
 
-pub IsChanging-next : (f : Arena → Arena) (before arenas now : List Arena) (sets : List (List ℕ)) (word : ℕ) (walk next : Walk) (a : ℕ) → IsChanging f before arenas sets word walk → ((x : Arena) → (f x).zone ≡ x.zone) → walk_rest arenas walk ≡ a ∷ walk_rest arenas next → next.base ≤ 2 ^ 32 → now ≡ change_at f arenas a → IsChanging f before now sets word next
+pub IsChanging-next : (f : Arena → Arena) (before arenas now : List Arena) (sets : List (List ℕ)) (word : ℕ) (walk next : Walk) (a : ℕ) → IsChanging f before arenas sets word walk → ((x : Arena) → (f x).zone ≡ x.zone) → walk_rest arenas walk ≡ a ∷ walk_rest arenas next → (next.base ≤ 2 ^ 32) × (next.at ≤ 2 ^ 26) → now ≡ change_at f arenas a → IsChanging f before now sets word next
 IsChanging-next f before arenas now sets word walk next a h keeps e below is = subst (λ xs. IsChanging f before xs sets word next) (sym is) (record {
   changed = ap (λ ns. changed-all f ns (change_at f arenas a)) (rest-change f arenas next a keeps) ∙ (sym (ap (λ ns. changed-all f ns arenas) e) ∙ h.changed);
   owned = IsOwnedBy-change f arenas sets a keeps h.owned;

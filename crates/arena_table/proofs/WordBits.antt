@@ -1,9 +1,10 @@
 -- What a write to one word does to the bits of a list of words.
-use Rattle.std.proofs.Common.{◌≡◌, ◌≢◌, ◌<◌, ◌≤◌, ◌+◌, ◌*◌, ◌/◌, ◌%◌, ◌^◌, ◌==◌, inl, inr, ℕ, zero, suc, List, [], ◌∷◌, ◌++◌, length, get_or, set, slice_index, if◌then◌else◌, refl, sym, ◌∙◌, ap, arith, bit_and, bit_or, w64, get_or-set_same, get_or-set_other, length-append}
+use Rattle.std.proofs.Common.{◌≡◌, ◌≢◌, ◌<◌, ◌≤◌, ◌+◌, ◌*◌, ◌/◌, ◌%◌, ◌^◌, ◌-◌, ◌==◌, inl, inr, ℕ, zero, suc, List, [], ◌∷◌, ◌++◌, length, get_or, set, slice_index, if◌then◌else◌, refl, sym, ◌∙◌, ap, arith, bit_and, bit_or, w64, get_or-set_same, get_or-set_other, length-append}
 use Rattle.std.proofs.lemmas.List.{get_or_past}
+use Rattle.std.proofs.lemmas.Nat.{shr-shr, shr_le}
 use Rattle.std.proofs.lemmas.Bool.{cases_eq, cases_lt}
 use Rattle.std.proofs.lemmas.Bool.Decides.{nat_tests}
-use Rattle.std.proofs.lemmas.Nat.Bits.{bit_at-zero, bit_at_set_same, bit_at_set_other, bit_at_clear_same, bit_at_clear_other, bit_at-trailing_zeros}
+use Rattle.std.proofs.lemmas.Nat.Bits.{bit_at-zero, bit_at_above, bit_at_set_same, bit_at_set_other, bit_at_clear_same, bit_at_clear_other, bit_at-trailing_zeros}
 use Rattle.std.specs.Int.{bit_at, bit_not, trailing_zeros}
 use Rattle.arena_table.specs.Sets.{arena_bit, IsSummed}
 
@@ -135,6 +136,60 @@ bits-below_lowest ws at w e n fits before other lt =
           let under : other % 64 < trailing_zeros w64 w = omega arith in
           ap (λ k. bit_at (get_or ws k 0) (other % 64)) here ∙ (ap (λ v. bit_at v (other % 64)) e ∙ t.2 (other % 64) under))
     ]
+
+-- the same from a word on
+pub bits-between : (ws : List ℕ) (first at w : ℕ) → get_or ws at 0 ≡ w → w ≢ 0 → w < 2 ^ 64 → ((k : ℕ) → first ≤ k → k < at → get_or ws k 0 ≡ 0) → (other : ℕ) → 64 * first ≤ other → other < 64 * at + trailing_zeros w64 w → arena_bit ws other ≡ 0
+bits-between ws first at w e n fits before other ge lt =
+    let t = bit_at-trailing_zeros w64 w (omega arith) fits in
+    let below : trailing_zeros w64 w < 64 = t.0 in
+    elim (cases_lt (other / 64) at) [
+      | inl less ↦ (ap (λ v. bit_at v (other % 64)) (before (other / 64) (omega arith) less) ∙ bit_at-zero (other % 64))
+      | inr more ↦ (let here : other / 64 ≡ at = omega arith in
+          let under : other % 64 < trailing_zeros w64 w = omega arith in
+          ap (λ k. bit_at (get_or ws k 0) (other % 64)) here ∙ (ap (λ v. bit_at v (other % 64)) e ∙ t.2 (other % 64) under))
+    ]
+
+-- where all words from one on are 0, there are no bits
+pub bits-past : (ws : List ℕ) (first : ℕ) → ((k : ℕ) → first ≤ k → get_or ws k 0 ≡ 0) → (other : ℕ) → 64 * first ≤ other → arena_bit ws other ≡ 0
+bits-past ws first none other ge = ap (λ v. bit_at v (other % 64)) (none (other / 64) (omega arith)) ∙ bit_at-zero (other % 64)
+
+-- the bits of a word that was shifted down are those of the word from a bit on
+pub bit_at-shifted : (w s k : ℕ) → bit_at (w / 2 ^ s) k ≡ bit_at w (s + k)
+bit_at-shifted w s k = ap (λ v. v % 2) (shr-shr w s k)
+
+-- the rest of a word, from the bit of a number on
+in-word : (ws : List ℕ) (from other w : ℕ) → get_or ws (from / 64) 0 ≡ w → from ≤ other → other / 64 ≡ from / 64 → arena_bit ws other ≡ bit_at (w / 2 ^ (from % 64)) (other - from)
+in-word ws from other w e ge same =
+    let place : other % 64 ≡ from % 64 + (other - from) = omega arith in
+    ap (λ k. bit_at (get_or ws k 0) (other % 64)) same ∙ (ap (λ v. bit_at v (other % 64)) e ∙ (ap (bit_at w) place ∙ sym (bit_at-shifted w (from % 64) (other - from))))
+
+pub none-in_word : (ws : List ℕ) (from w : ℕ) → get_or ws (from / 64) 0 ≡ w → w / 2 ^ (from % 64) ≡ 0 → (other : ℕ) → from ≤ other → other / 64 ≡ from / 64 → arena_bit ws other ≡ 0
+none-in_word ws from w e none other ge same = in-word ws from other w e ge same ∙ (ap (λ v. bit_at v (other - from)) none ∙ bit_at-zero (other - from))
+
+-- its lowest bit
+pub record IsLowestIn (ws : List ℕ) (from found : ℕ) : Type 0 where
+  pub here : found / 64 ≡ from / 64
+  pub some : arena_bit ws found ≡ 1
+  pub lowest : (other : ℕ) → from ≤ other → other / 64 ≡ from / 64 → other < found → arena_bit ws other ≡ 0
+
+pub lowest-in_word : (ws : List ℕ) (from w : ℕ) → get_or ws (from / 64) 0 ≡ w → w < 2 ^ 64 → w / 2 ^ (from % 64) ≢ 0 → IsLowestIn ws from (from + trailing_zeros w64 (w / 2 ^ (from % 64)))
+lowest-in_word ws from w e fits n =
+    let rest = w / 2 ^ (from % 64) in
+    let small : w / 2 ^ (from % 64) < 2 ^ 64 = (let le = shr_le w (from % 64) in omega (arith, le)) in
+    let t = bit_at-trailing_zeros w64 (w / 2 ^ (from % 64)) (omega arith) small in
+    let z = trailing_zeros w64 (w / 2 ^ (from % 64)) in
+    let one : bit_at w (from % 64 + trailing_zeros w64 (w / 2 ^ (from % 64))) ≡ 1 = sym (bit_at-shifted w (from % 64) (trailing_zeros w64 (w / 2 ^ (from % 64)))) ∙ t.1 in
+    let within : from % 64 + trailing_zeros w64 (w / 2 ^ (from % 64)) < 64 = elim (cases_lt (from % 64 + trailing_zeros w64 (w / 2 ^ (from % 64))) 64) [
+      | inl lt ↦ lt
+      | inr ge ↦ absurd (let above = bit_at_above w 64 (from % 64 + trailing_zeros w64 (w / 2 ^ (from % 64))) fits (omega arith) in omega (arith, one, above))
+    ] in
+    let here : (from + trailing_zeros w64 (w / 2 ^ (from % 64))) / 64 ≡ from / 64 = omega (arith, within) in
+    let less : (from + trailing_zeros w64 (w / 2 ^ (from % 64))) - from ≡ trailing_zeros w64 (w / 2 ^ (from % 64)) = omega arith in
+    record {
+      here = here;
+      some = in-word ws from _ w e (omega arith) here ∙ (ap (bit_at (w / 2 ^ (from % 64))) less ∙ t.1);
+      lowest = λ other ge same lt. in-word ws from other w e ge same ∙ t.2 (other - from) (omega (arith, ge, lt));
+    }
 
 -- with no bit over the words there is none in them
 pub bits-none : (ws gs : List ℕ) → IsSummed ws gs → ((w : ℕ) → arena_bit gs w ≡ 0) → (other : ℕ) → arena_bit ws other ≡ 0

@@ -40,6 +40,11 @@ pub record IsIndexed (arenas : List Arena) (index : IndexState) : Type 0 where
 abbrev pub in_zones : ℕ → ℕ → Bool
 in_zones word zone = bit_at word zone == 1
 
+-- whether an arena that there may be is one of a set of zones
+abbrev pub is_among : ℕ → Option Arena → Bool
+is_among word None = false
+is_among word (Some arena) = in_zones word arena.zone
+
 -- the numbers of the arenas of a set of zones, ascending, where the first of the list has the number n
 abbrev pub numbers_from : ℕ → ℕ → List Arena → List ℕ
 numbers_from word n [] = []

@@ -1,5 +1,5 @@
 -- Sets of arenas as lists of words, a bit an arena.
-use Rattle.std.specs.Prelude.{◌≡◌, ◌+◌, ◌/◌, ◌%◌, ◌*◌, ◌≤◌, ◌^◌, ◌↔◌, ◌≢◌, ℕ, List, length, slice_index}
+use Rattle.std.specs.Prelude.{◌≡◌, ◌+◌, ◌/◌, ◌%◌, ◌*◌, ◌<◌, ◌≤◌, ◌^◌, ◌↔◌, ◌≢◌, ⊤, ℕ, List, Option, Some, None, length, slice_index}
 use Rattle.std.specs.Int.{bit_at}
 
 -- the bit of an arena
@@ -12,3 +12,8 @@ pub record IsSummed (words groups : List ℕ) : Type 0 where
   pub room : length words ≤ 64 * length groups
   pub tight : 64 * length groups ≤ length words + 64
   pub summed : (w : ℕ) → (arena_bit groups w ≡ 1) ↔ (slice_index words w ≢ 0)
+
+-- a number comes before the one that a search found; all do where it found none
+abbrev pub IsBefore : Option ℕ → ℕ → Type 0
+IsBefore None n = ⊤
+IsBefore (Some found) n = n < found

@@ -8,7 +8,8 @@ use Rattle.gz_names.specs.declared.numbers.Place.{Place}
 use Rattle.cell_bits.specs.declared.bits.Bits.{Bits}
 use Rattle.cell_bits.specs.declared.jobs.Job.{Job}
 use Rattle.arena_table.specs.Cells.{CellState, field_count}
-use Rattle.arena_table.specs.Slots.{Arena, change_at, empty_arena, with_cell, alloc_word_of, held_by}
+use Rattle.arena_table.specs.Slots.{Arena, change_at, empty_arena, with_cell, alloc_word_of, held_by, bit_of, is_out_at}
+use Rattle.arena_table.specs.Sets.{arena_bit}
 use Rattle.arena_table.specs.Stored.{StoreState}
 use Rattle.arena_table.specs.Indexed.{IndexState, IsIndexed, words_at, in_zones}
 use Rattle.arena_table.specs.Placement.{place_for}
@@ -60,17 +61,24 @@ pub record HasRoom (store : StoreState) (index : IndexState) (zone : ℕ) : Type
   pub owned : length store.arenas < 64 * length (words_at index.owned zone)
   pub open_ : length store.arenas < 64 * length (words_at index.open_ zone)
 
+-- a set has exactly the arenas that are handed to sweeping, and a bit for each arena
+pub record AreOut (arenas : List Arena) (words : List ℕ) : Type 0 where
+  pub bits : (a : ℕ) → arena_bit words a ≡ bit_of (is_out_at arenas a)
+  pub room : length arenas ≤ 64 * length words
+
 -- a place is kept for a cell of a zone: where it is the first of a new arena, there is room for that
-pub record IsReserved (store : StoreState) (index : IndexState) (made : ℕ) (r : Reserved) : Type 0 where
+pub record IsReserved (store : StoreState) (index : IndexState) (out : List ℕ) (made : ℕ) (r : Reserved) : Type 0 where
   pub zone : r.zone < 64
   pub place : r.place ≡ place_for store.arenas r.zone
   pub few : made < 4294967295
   pub room : r.place.0 ≡ length store.arenas → HasRoom store index r.zone
+  pub out_room : r.place.0 ≡ length store.arenas → length store.arenas < 64 * length out
 
 -- what always holds
-pub record AreArenas (store : StoreState) (index : IndexState) (made held : ℕ) (reserved : Option Reserved) : Type 0 where
+pub record AreArenas (store : StoreState) (index : IndexState) (out : List ℕ) (made held : ℕ) (reserved : Option Reserved) : Type 0 where
   pub indexed : IsIndexed store.arenas index
+  pub out_of : AreOut store.arenas out
   pub few : made ≤ 4294967295
   pub counted : held ≡ held_by store.arenas
   pub fewer : held ≤ made
-  pub kept : ForSome reserved (IsReserved store index made)
+  pub kept : ForSome reserved (IsReserved store index out made)

@@ -1,7 +1,7 @@
 // Sets of arenas.
 ghost use Rattle.std.specs.Prelude.{◌≡◌, ◌≤◌, ◌<◌, ◌+◌, ◌*◌, ◌==◌, ◌↔◌, ◌≢◌, ◌^◌, ◌/◌, [], ℕ, length, slice_index, OnOk, IfSome, IfNone, if◌then◌else◌};
 ghost use Rattle.std.specs.Int.{bit_at};
-ghost use Rattle.arena_table.specs.Sets.{arena_bit, IsSummed};
+ghost use Rattle.arena_table.specs.Sets.{arena_bit, IsBefore, IsSummed};
 
 use std::alloc::{AllocError, Global};
 use std::marker::Model;
@@ -80,8 +80,20 @@ impl ArenaSet {
         ensures lowest { IfSome result
             (λ arena. (other : ℕ) → other < arena → arena_bit self.now other ≡ 0) }
         ensures none { IfNone result ((other : ℕ) → arena_bit self.now other ≡ 0) }
+        ensures few { IfSome result (λ arena. arena < 2 ^ 32) }
     {
         lowest_of(&self.words, &self.groups)
+    }
+
+    /// The number of the lowest word from this one on that is not 0.
+    pub fn next_word(&self, from: usize) -> Option<usize>
+        requires { from ≤ 2 ^ 26 }
+        ensures on { IfSome result (λ at. (from ≤ at) × (at < 2 ^ 26)) }
+        ensures some { IfSome result (λ at. slice_index self.now at ≢ 0) }
+        ensures lowest { (word : ℕ) → from ≤ word → IsBefore result word
+            → slice_index self.now word ≡ 0 }
+    {
+        next_word_of(&self.words, &self.groups, from)
     }
 
     /// The bits of 64 arenas.
@@ -176,10 +188,23 @@ fn lowest_of(words: &[u64], groups: &[u64]) -> Option<usize>
     ensures lowest { IfSome result
         (λ arena. (other : ℕ) → other < arena → arena_bit words.now other ≡ 0) }
     ensures none { IfNone result ((other : ℕ) → arena_bit words.now other ≡ 0) }
+    ensures few { IfSome result (λ arena. arena < 2 ^ 32) }
 {
-    let at = lowest_bit(groups)?;
+    let at = lowest_bit(groups, 0)?;
     let word = words[at];
     Some(64 * at + word.trailing_zeros() as usize)
+}
+
+// The number of the lowest word from this one on that is not 0.
+fn next_word_of(words: &[u64], groups: &[u64], from: usize) -> Option<usize>
+    requires summed { IsSummed words.now groups.now }
+    requires from { from ≤ 2 ^ 26 }
+    ensures on { IfSome result (λ at. (from ≤ at) × (at < 2 ^ 26)) }
+    ensures some { IfSome result (λ at. slice_index words.now at ≢ 0) }
+    ensures lowest { (word : ℕ) → from ≤ word → IsBefore result word
+        → slice_index words.now word ≡ 0 }
+{
+    next_bit(groups, from)
 }
 
 // Sets a bit of a list of words.
@@ -205,16 +230,49 @@ fn clear_bit(words: &mut [u64], index: usize)
     words[index / 64] &= !(1 << (index % 64));
 }
 
-// The lowest bit of a list of words.
-fn lowest_bit(words: &[u64]) -> Option<usize>
-    requires { length words.now < 2 ^ 32 }
+// The lowest bit of a list of words from an index on.
+fn next_bit(words: &[u64], from: usize) -> Option<usize>
+    requires few { length words.now < 2 ^ 32 }
+    requires from { from < 2 ^ 32 }
+    ensures on { IfSome result (λ index. from ≤ index) }
     ensures some { IfSome result (λ index. arena_bit words.now index ≡ 1) }
-    ensures lowest { IfSome result
-        (λ index. (other : ℕ) → other < index → arena_bit words.now other ≡ 0) }
-    ensures none { IfNone result ((other : ℕ) → arena_bit words.now other ≡ 0) }
+    ensures lowest { (other : ℕ) → from ≤ other → IsBefore result other
+        → arena_bit words.now other ≡ 0 }
 {
-    for (at, word) in words.iter().enumerate() {
-        if *word != 0 {
+    match bit_in_word(words, from) {
+        Some(index) => Some(index),
+        None => lowest_bit(words, from / 64 + 1),
+    }
+}
+
+// The lowest bit from an index on in the word of that index.
+fn bit_in_word(words: &[u64], from: usize) -> Option<usize>
+    requires { from < 2 ^ 32 }
+    ensures on { IfSome result (λ index. from ≤ index) }
+    ensures some { IfSome result (λ index. arena_bit words.now index ≡ 1) }
+    ensures lowest { (other : ℕ) → from ≤ other → other / 64 ≡ from / 64 → IsBefore result other
+        → arena_bit words.now other ≡ 0 }
+    ensures here { IfSome result (λ index. index / 64 ≡ from / 64) }
+{
+    let word = words.get(from / 64)?;
+    let rest = *word >> (from % 64);
+    if rest == 0 {
+        return None;
+    }
+    Some(from + rest.trailing_zeros() as usize)
+}
+
+// The lowest bit of a list of words from a word on.
+fn lowest_bit(words: &[u64], first: usize) -> Option<usize>
+    requires { length words.now < 2 ^ 32 }
+    ensures on { IfSome result (λ index. 64 * first ≤ index) }
+    ensures some { IfSome result (λ index. arena_bit words.now index ≡ 1) }
+    ensures lowest { (other : ℕ) → 64 * first ≤ other → IsBefore result other
+        → arena_bit words.now other ≡ 0 }
+{
+    for at in first..words.len() {
+        let word = words[at];
+        if word != 0 {
             return Some(64 * at + word.trailing_zeros() as usize);
         }
     }

@@ -5,10 +5,12 @@ ghost use Rattle.std.specs.Option.{ForSome, option_map};
 ghost use Rattle.gz_names.specs.declared.numbers.Place.{Place};
 ghost use Rattle.arena_table.specs.Cells.{field_count, field_of, state_of, with_value};
 ghost use Rattle.arena_table.specs.Slots.{Arena, IsWithin, alloc_word_of, at_bits, bit_of, cell_at, change_at, handed_out, held_by, is_out_at, names_of, taken_in, with_bits, with_cell, with_field};
-ghost use Rattle.arena_table.specs.Indexed.{IsIndexed, IsOwnedBy, is_open, words_at};
+ghost use Rattle.arena_table.specs.Sets.{arena_bit};
+ghost use Rattle.arena_table.specs.Indexed.{IsIndexed, IsOwnedBy, is_among, is_open, words_at};
 ghost use Rattle.arena_table.specs.Placement.{place_for};
-ghost use Rattle.arena_table.specs.Table.{AreIn, HasRoom, grown_to, new_cell, in_these, jobs_from, no_bits, put_at, is_place};
+ghost use Rattle.arena_table.specs.Table.{AreIn, AreOut, HasRoom, grown_to, new_cell, in_these, jobs_from, no_bits, put_at, is_place};
 
+use crate::arena_sets::ArenaSet;
 use crate::cells::{ARENA_LIMIT, Cell};
 use crate::index::Index;
 use crate::store::Store;
@@ -60,6 +62,8 @@ impl Jobs {
 pub struct Arenas {
     store: Store,
     index: Index,
+    // Those that are handed to sweeping.
+    out: ArenaSet,
     made: u64,
     held: u64,
     reserved: Option<Reserved>,
@@ -72,7 +76,7 @@ impl Model for Arenas {
 
     ghost view = { λ a. record { arenas = a.store.arenas; made = a.made; reserved = a.reserved } };
 
-    ghost invariant = { λ a. AreArenas a.store a.index a.made a.held a.reserved };
+    ghost invariant = { λ a. AreArenas a.store a.index a.out a.made a.held a.reserved };
 }
 
 impl Arenas {
@@ -87,6 +91,7 @@ impl Arenas {
         Ok(Arenas {
             store: Store::new(alloc),
             index,
+            out: ArenaSet::new(alloc),
             made: 0,
             held: 0,
             reserved: None,
@@ -107,7 +112,7 @@ impl Arenas {
     {
         let place = match find_place(&self.store, &self.index, zone) {
             Some(place) => place,
-            None => make_room(&mut self.store, &mut self.index, zone)?,
+            None => make_room(&mut self.store, &mut self.index, &mut self.out, zone)?,
         };
         self.reserved = Some(Reserved { zone, place });
         Ok(place)
@@ -240,7 +245,7 @@ impl Arenas {
         ensures err { OnErr result (self.new ≡ self.old) }
     {
         let jobs = jobs_in_zones(alloc, &self.store, &self.index, zones)?;
-        send_out(&mut self.store, &self.index, zones);
+        send_out(&mut self.store, &self.index, &mut self.out, zones);
         self.index.close_all(zones);
         self.reserved = None;
         Ok(Jobs { jobs })
@@ -256,6 +261,32 @@ impl Arenas {
         } else {
             false
         }
+    }
+
+    /// The lowest arena that is handed to sweeping. It walks over no arenas.
+    pub fn first_out(&self) -> Option<u32>
+        ensures out { IfSome result (λ arena. is_out_at self.now.arenas arena ≡ true) }
+        ensures lowest { IfSome result
+            (λ arena. (other : ℕ) → other < arena → is_out_at self.now.arenas other ≡ false) }
+        ensures none { IfNone result ((other : ℕ) → is_out_at self.now.arenas other ≡ false) }
+    {
+        let arena = self.out.lowest()?;
+        Some(arena as u32)
+    }
+
+    /// The lowest arena of these zones from a number on. It walks over no arenas of other zones.
+    pub fn next_in(&self, zones: ZoneSet, from: u32) -> Option<u32>
+        ensures among { IfSome result (λ arena. (from ≤ arena)
+            × (is_among zones.bits (slice_get self.now.arenas arena) ≡ true)) }
+        ensures lowest { IfSome result (λ arena. (other : ℕ) → from ≤ other → other < arena
+            → is_among zones.bits (slice_get self.now.arenas other) ≡ false) }
+        ensures none { IfNone result ((other : ℕ) → from ≤ other
+            → is_among zones.bits (slice_get self.now.arenas other) ≡ false) }
+    {
+        let mut walk = Walk::starting_at(&self.index, zones, from as usize);
+        let arena = walk.next(&self.index)?;
+        prove!(arena < self.store.len());
+        Some(arena as u32)
     }
 
     /// Takes an arena back from sweeping: its bits are the heap's again, the freed cells are gone,
@@ -278,6 +309,7 @@ impl Arenas {
         let arena = arena as usize;
         let names = self.store.names_at(arena, freed);
         come_in(&mut self.store, &mut self.index, arena, freed, bits);
+        self.out.remove(arena);
         self.held -= names.len() as u64;
         self.reserved = None;
         names
@@ -345,13 +377,21 @@ fn find_place(store: &Store, index: &Index, zone: ZoneNo) -> Option<Place>
 }
 
 // Takes memory for a new arena of a zone, and answers the place of its first cell.
-fn make_room(store: &mut Store, index: &mut Index, zone: ZoneNo) -> Result<Place, NoMemory>
+fn make_room(
+    store: &mut Store,
+    index: &mut Index,
+    out: &mut ArenaSet,
+    zone: ZoneNo,
+) -> Result<Place, NoMemory>
     requires { IsIndexed store.old.arenas index.old }
     ensures place { IfOk result (λ place. place ≡ (length store.old.arenas, 0)) }
     ensures room { OnOk result (HasRoom store.new index.new zone) }
     ensures arenas { store.new.arenas ≡ store.old.arenas }
     ensures indexed { IsIndexed store.new.arenas index.new }
     ensures kept { (z : ℕ) → HasRoom store.old index.old z → HasRoom store.new index.new z }
+    ensures out_room { OnOk result (length store.old.arenas < 64 * length out.new) }
+    ensures out_kept { length out.old ≤ length out.new }
+    ensures out_same { (a : ℕ) → arena_bit out.new a ≡ arena_bit out.old a }
 {
     let arena = store.len();
     if arena >= ARENA_LIMIT as usize {
@@ -359,6 +399,7 @@ fn make_room(store: &mut Store, index: &mut Index, zone: ZoneNo) -> Result<Place
     }
     store.reserve()?;
     index.cover(zone, arena + 1)?;
+    out.cover(arena + 1)?;
     Place::new(arena as u32, 0).ok_or(AllocError)
 }
 
@@ -415,7 +456,7 @@ fn jobs_in_zones(
 {
     let mut jobs = Vec::new(alloc);
     let mut walk = Walk::over(zones);
-    while let Some(arena) = walk.next(store, index) {
+    while let Some(arena) = walk.next(index) {
         let head = store.head(arena);
         jobs.push(Job {
             arena: arena as u32,
@@ -427,13 +468,16 @@ fn jobs_in_zones(
 }
 
 // The arenas of these zones are handed to sweeping.
-fn send_out(store: &mut Store, index: &Index, zones: ZoneSet)
-    requires { IsOwnedBy store.old.arenas index.now.owned }
-    ensures { store.new.arenas ≡ in_these handed_out zones.bits store.old.arenas }
+fn send_out(store: &mut Store, index: &Index, out: &mut ArenaSet, zones: ZoneSet)
+    requires owned { IsOwnedBy store.old.arenas index.now.owned }
+    requires out { AreOut store.old.arenas out.old }
+    ensures arenas { store.new.arenas ≡ in_these handed_out zones.bits store.old.arenas }
+    ensures out { AreOut store.new.arenas out.new }
 {
     let mut walk = Walk::over(zones);
-    while let Some(arena) = walk.next(store, index) {
+    while let Some(arena) = walk.next(index) {
         store.set_out(arena);
+        out.insert(arena);
     }
 }
 
@@ -444,7 +488,7 @@ fn clear_in_zones(store: &mut Store, index: &Index, zones: ZoneSet)
     ensures room { store.new.room ≡ store.old.room }
 {
     let mut walk = Walk::over(zones);
-    while let Some(arena) = walk.next(store, index) {
+    while let Some(arena) = walk.next(index) {
         store.set_bits(arena, Bits { black: 0, gob: 0 });
     }
 }

@@ -1,8 +1,8 @@
 // Which arenas a zone has, and which of them take cells.
-ghost use Rattle.std.specs.Prelude.{◌≡◌, ◌≤◌, ◌<◌, ◌+◌, ◌*◌, ◌==◌, ◌&&◌, ◌↔◌, ◌≢◌, ◌^◌, [], ℕ, length, replicate, slice_index, OnOk, IfOk, IfSome, IfNone, if◌then◌else◌};
+ghost use Rattle.std.specs.Prelude.{◌≡◌, ◌≤◌, ◌<◌, ◌+◌, ◌*◌, ◌==◌, ◌&&◌, ◌↔◌, ◌≢◌, ◌⊎◌, ◌^◌, [], ℕ, length, replicate, slice_index, OnOk, IfOk, IfSome, IfNone, if◌then◌else◌};
 ghost use Rattle.std.specs.Int.{bit_at};
 ghost use Rattle.gz_names.specs.Zones.{HasZone};
-ghost use Rattle.arena_table.specs.Sets.{arena_bit};
+ghost use Rattle.arena_table.specs.Sets.{arena_bit, IsBefore};
 ghost use Rattle.arena_table.specs.Indexed.{HasBit, words_at};
 
 use crate::arena_sets::ArenaSet;
@@ -131,6 +131,18 @@ impl Index {
     {
         united(&self.owned, zones.bits, at)
     }
+
+    /// The number of the lowest word from this one on that is not 0 for the arenas of a set of zones.
+    pub fn next_word(&self, zones: ZoneSet, from: usize) -> Option<usize>
+        requires { from ≤ 2 ^ 26 }
+        ensures on { IfSome result (λ at. (from ≤ at) × (at < 2 ^ 26)) }
+        ensures some { IfSome result (λ at. (z : ℕ) × HasZone zones.bits z
+            × (slice_index (words_at self.now.owned z) at ≢ 0)) }
+        ensures lowest { (z word : ℕ) → HasZone zones.bits z → from ≤ word → IsBefore result word
+            → slice_index (words_at self.now.owned z) word ≡ 0 }
+    {
+        next_of_all(&self.owned, zones.bits, from)
+    }
 }
 
 // Takes memory for a zone's arenas below a number, in one of its sets.
@@ -173,6 +185,38 @@ fn united(sets: &[ArenaSet], zones: u64, at: usize) -> u64
         left &= left - 1;
     }
     word
+}
+
+// The number of the lowest word from this one on that is not 0 in one of the sets of a word's zones.
+fn next_of_all(sets: &[ArenaSet], zones: u64, from: usize) -> Option<usize>
+    requires sets { length sets.now ≡ 64 }
+    requires from { from ≤ 2 ^ 26 }
+    ensures on { IfSome result (λ at. (from ≤ at) × (at < 2 ^ 26)) }
+    ensures some { IfSome result (λ at. (z : ℕ) × HasZone zones z
+        × (slice_index (words_at sets.now z) at ≢ 0)) }
+    ensures lowest { (z word : ℕ) → HasZone zones z → from ≤ word → IsBefore result word
+        → slice_index (words_at sets.now z) word ≡ 0 }
+{
+    let mut left = zones;
+    let mut lowest = None;
+    while left != 0 {
+        let next = sets[left.trailing_zeros() as usize].next_word(from);
+        lowest = lower(lowest, next);
+        left &= left - 1;
+    }
+    lowest
+}
+
+// The lower of two numbers, of which each may be missing.
+fn lower(a: Option<usize>, b: Option<usize>) -> Option<usize>
+    ensures one { (result ≡ a) ⊎ (result ≡ b) }
+    ensures lowest { (n : ℕ) → IsBefore result n → IsBefore a n × IsBefore b n }
+{
+    match (a, b) {
+        (Some(x), Some(y)) => Some(x.min(y)),
+        (Some(x), None) => Some(x),
+        (None, _) => b,
+    }
 }
 
 // Empty sets, one a zone.

@@ -27,8 +27,12 @@
 //     groups   . . 1 .                  which words are not 0
 //     words    [0][0][0 0 1 1 ..][0]    which arenas are in the set
 //
-//     owned    all arenas of the zone: walks over a zone's arenas go by it
+//     owned    all arenas of the zone: walks over a zone's arenas go by it, and pass whole words
+//              without arenas by the words over them
 //     open     those that are not out and have a free slot: its lowest takes the next cell
+//
+// One such set more, over all zones, has the arenas that are out: sweeping takes in its lowest. So what
+// a walk costs depends on the arenas of its zones, and not on those of other zones.
 //
 // A cell is made in two steps. `reserve_place` takes all memory that it needs, or leaves the table as
 // it was, and keeps the place; `put_cell` then can't fail. In between come other reservations of the

@@ -1,10 +1,9 @@
 // A walk over the arenas of a set of zones.
-ghost use Rattle.std.specs.Prelude.{◌≡◌, ◌≤◌, ◌<◌, ◌∷◌, ◌^◌, [], ℕ, IfSome, IfNone};
+ghost use Rattle.std.specs.Prelude.{◌≡◌, ◌≤◌, ◌<◌, ◌∷◌, ◌^◌, [], ℕ, drop, IfSome, IfNone};
 ghost use Rattle.arena_table.specs.Indexed.{IsOwnedBy, numbers_from};
 ghost use Rattle.arena_table.specs.Walks.{walk_rest};
 
 use crate::index::Index;
-use crate::store::Store;
 use gz_names::ZoneSet;
 
 /// A walk over the arenas of a set of zones by number: 64 arenas at a time are read as a word, of
@@ -21,7 +20,7 @@ impl Walk {
     /// A walk over all arenas of these zones.
     pub fn over(zones: ZoneSet) -> Self
         ensures rest { (arenas : _) → walk_rest arenas result ≡ numbers_from zones.bits 0 arenas }
-        ensures below { result.base ≤ 2 ^ 32 }
+        ensures below { (result.base ≤ 2 ^ 32) × (result.at ≤ 2 ^ 26) }
     {
         Walk {
             zones,
@@ -31,22 +30,35 @@ impl Walk {
         }
     }
 
+    /// A walk over the arenas of these zones from a number on.
+    pub fn starting_at(index: &Index, zones: ZoneSet, from: usize) -> Self
+        requires { from < 2 ^ 32 }
+        ensures rest { (arenas : _) → IsOwnedBy arenas index.now.owned
+            → walk_rest arenas result ≡ numbers_from zones.bits from (drop from arenas) }
+        ensures below { (result.base ≤ 2 ^ 32) × (result.at ≤ 2 ^ 26) }
+    {
+        Walk {
+            zones,
+            left: index.word(zones, from / 64) >> (from % 64),
+            base: from,
+            at: from / 64 + 1,
+        }
+    }
+
     /// The next arena.
-    pub fn next(&mut self, store: &Store, index: &Index) -> Option<usize>
-        requires owned { IsOwnedBy store.now.arenas index.now.owned }
-        requires below { self.old.base ≤ 2 ^ 32 }
-        ensures some { IfSome result (λ arena. walk_rest store.now.arenas self.old
-            ≡ arena ∷ walk_rest store.now.arenas self.new) }
-        ensures none { IfNone result (walk_rest store.now.arenas self.old ≡ []) }
-        ensures below { self.new.base ≤ 2 ^ 32 }
+    pub fn next(&mut self, index: &Index) -> Option<usize>
+        requires below { (self.old.base ≤ 2 ^ 32) × (self.old.at ≤ 2 ^ 26) }
+        ensures some { IfSome result (λ arena. (arenas : _) → IsOwnedBy arenas index.now.owned
+            → walk_rest arenas self.old ≡ arena ∷ walk_rest arenas self.new) }
+        ensures none { IfNone result ((arenas : _) → IsOwnedBy arenas index.now.owned
+            → walk_rest arenas self.old ≡ []) }
+        ensures below { (self.new.base ≤ 2 ^ 32) × (self.new.at ≤ 2 ^ 26) }
     {
         while self.left == 0 {
-            if self.at >= store.len().div_ceil(64) {
-                return None;
-            }
-            self.base = 64 * self.at;
-            self.left = index.word(self.zones, self.at);
-            self.at += 1;
+            let at = index.next_word(self.zones, self.at)?;
+            self.base = 64 * at;
+            self.left = index.word(self.zones, at);
+            self.at = at + 1;
         }
         let slot = self.left.trailing_zeros() as usize;
         self.left &= self.left - 1;

@@ -1,10 +1,12 @@
 use Rattle.std.proofs.Common.{refl, arith}
+use Rattle.arena_table.proofs.Outs.{AreOut-none}
 use Rattle.arena_table.proofs.Placing.{IsIndexed-none}
 use Rattle.arena_table.proofs.arenas.Arenas.new.Goals as goal
 
 pub invariant_of-result : goal.invariant_of-result
 invariant_of-result c = record {
   indexed = IsIndexed-none c.new-2.result.arenas c.in_ok-index.index c.new-2.ensures c.in_ok-index.ensures;
+  out_of = AreOut-none c.new-2.result.arenas c.new-3.result c.new-2.ensures c.new-3.ensures;
   few = omega arith;
   counted = rw c.new-2.ensures refl;
   fewer = omega arith;

@@ -1,15 +1,18 @@
 use Rattle.std.proofs.Common.{◌∙◌, ap, sym, arith, Some, if◌then◌else◌}
+use Rattle.gz_names.specs.declared.numbers.Place.{Place}
 use Rattle.arena_table.specs.Cells.{state_of}
 use Rattle.arena_table.specs.Slots.{cell_at, held_by}
 use Rattle.arena_table.specs.Table.{ArenasState, new_cell, is_place}
 use Rattle.arena_table.proofs.Putting.{grown-within, grown-slot, held_by-put, kept-place}
 use Rattle.arena_table.proofs.CellsAt.{cell_at-put}
+use Rattle.arena_table.proofs.Outs.{AreOut-put}
 use Rattle.arena_table.proofs.arenas.Arenas.put_cell.Goals as goal
 
 pub invariant_of-self : goal.invariant_of-self
 invariant_of-self c =
     let kept = c.self.invariant.kept c.in-Some.reserved c.in-Some.is in
-    let place = kept-place c.args.self.now.reserved c.in-Some.reserved c.args.place (sym (ap (λ (s : ArenasState). s.reserved) c.self.view_is) ∙ c.in-Some.is) c.requires.reserved ∙ kept.place in
+    let placed = kept-place c.args.self.now.reserved c.in-Some.reserved c.args.place (sym (ap (λ (s : ArenasState). s.reserved) c.self.view_is) ∙ c.in-Some.is) c.requires.reserved in
+    let place = placed ∙ kept.place in
     let put = held_by-put c.self.inside.store.arenas c.in-Some.reserved.zone c.args.place (state_of c.new-cell.result) place in
     let now = ap held_by c.put_in_zone.ensures.arenas in
     let counted = c.self.invariant.counted in
@@ -17,6 +20,7 @@ invariant_of-self c =
     let few = kept.few in
     record {
       indexed = c.put_in_zone.ensures.indexed;
+      out_of = AreOut-put c.self.inside.store.arenas c.put_in_zone.new.store.arenas c.self.inside.out c.in-Some.reserved.zone c.args.place (state_of c.new-cell.result) c.self.invariant.out_of c.put_in_zone.ensures.arenas (λ end. kept.out_room (sym (ap (λ (p : Place). p.0) placed) ∙ end));
       few = omega arith;
       counted = omega arith;
       fewer = omega arith;

@@ -1,9 +1,11 @@
-use Rattle.std.proofs.Common.{◌≡◌, ◌∙◌, ap, arith, ◌==◌, ◌&&◌, if◌then◌else◌, None}
+use Rattle.std.proofs.Common.{◌≡◌, ◌∙◌, ap, arith, ◌==◌, ◌&&◌, if◌then◌else◌, None, false, refl}
 use Rattle.std.specs.Int.{bit_at}
-use Rattle.arena_table.specs.Slots.{cell_at, held_by}
+use Rattle.arena_table.specs.Slots.{cell_at, held_by, taken_in}
 use Rattle.arena_table.specs.Table.{ArenasState}
 use Rattle.arena_table.proofs.Putting.{held_by-taken}
 use Rattle.arena_table.proofs.CellsAt.{cell_at-taken}
+use Rattle.arena_table.proofs.Indexing.{out-within}
+use Rattle.arena_table.proofs.Outs.{AreOut-turned}
 use Rattle.arena_table.proofs.arenas.Arenas.take_in.Goals as goal
 
 pub overflow_sub-self : goal.overflow_sub-self
@@ -20,6 +22,7 @@ invariant_of-self c =
     let now : held_by c.come_in.new.store.arenas ≡ held_by _ = ap held_by c.come_in.ensures.arenas in
     record {
       indexed = c.come_in.ensures.indexed;
+      out_of = AreOut-turned (taken_in c.args.freed c.args.bits) false c.self.inside.store.arenas c.come_in.new.store.arenas c.self.inside.out c.remove.new.self c.args.arena c.self.invariant.out_of (λ x. refl) (out-within c.self.inside.store.arenas c.args.arena (rw (ap (λ (s : ArenasState). s.arenas) c.self.view_is) c.requires.out)) c.come_in.ensures.arenas c.remove.ensures.room c.remove.ensures.bits;
       few = c.self.invariant.few;
       counted = omega (arith, c.len.ensures.value);
       fewer = omega arith;
