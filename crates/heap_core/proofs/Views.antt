@@ -1,12 +1,12 @@
 -- How a change of the arenas shows in the heap.
-use Rattle.std.proofs.Common.{◌≡◌, ◌+◌, ◌&&◌, ℕ, zero, suc, Bool, true, false, List, [], ◌∷◌, Option, Some, None, slice_get, slice_set, option_map, unwrap_or, is_some, if◌then◌else◌, All, refl, sym, ◌∙◌, ap, subst}
+use Rattle.std.proofs.Common.{◌≡◌, ◌+◌, ◌&&◌, ℕ, zero, suc, Bool, true, false, List, [], ◌∷◌, Option, Some, None, slice_get, slice_set, option_map, unwrap_or, IfNone, IsSome, is_some, if◌then◌else◌, All, refl, sym, ◌∙◌, ap, subst}
 use Rattle.std.proofs.lemmas.List.Elements.{All-nil, All-cons, All-head, All-tail}
 use Rattle.cell_bits.specs.declared.bits.Bits.{Bits}
 use Rattle.cell_bits.specs.declared.jobs.Job.{Job}
 use Rattle.arena_table.specs.Slots.{Arena, alloc_word_of, change_at, handed_out, held_by, held_in, is_out_at, taken_in, with_bits}
-use Rattle.arena_table.specs.Indexed.{in_zones}
+use Rattle.arena_table.specs.Indexed.{in_zones, is_among}
 use Rattle.arena_table.specs.Table.{ArenasState, AreIn, in_these, jobs_from, no_bits}
-use Rattle.heap_core.specs.Shape.{ArenaShape, arena_shape, arena_shapes, is_white, out_in, out_of}
+use Rattle.heap_core.specs.Shape.{ArenaShape, arena_shape, arena_shapes, is_owned_in, is_white, out_in, out_of}
 use Rattle.heap_core.specs.Heap.{HeapState, bits_of}
 use Rattle.heap_core.specs.Sweeping.{AreKept, cleared, come_in, handed, held_in_all, is_lost_in, jobs_of, with_clear, with_handed, with_taken}
 
@@ -20,6 +20,11 @@ with_parts h xs bs = record h { shape = record h.shape { arenas = xs }; colours 
 pub with_arenas-is : (h : HeapState) (xs : List Arena) (ss : List ArenaShape) (bs : List Bits) → arena_shapes xs ≡ ss → bits_of xs ≡ bs → with_arenas h xs h.made ≡ with_parts h ss bs
 with_arenas-is h xs ss bs e f = ap (λ (s : List ArenaShape). with_parts h s (bits_of xs)) e ∙ ap (λ (b : List Bits). with_parts h ss b) f
 
+-- what follows from what is said where there is none
+pub none_then : {P Q : Type 0} (o : Option ℕ) → IfNone o P → (P → Q) → IfNone o Q
+none_then None p f = f p
+none_then (Some a) p f = p
+
 -- whether an arena is out
 pub is_out-seen : (xs : List Arena) (a : ℕ) → is_out_at xs a ≡ is_some (out_in (slice_get (arena_shapes xs) a))
 is_out-seen [] a = refl
@@ -29,6 +34,26 @@ is_out-seen (x ∷ xs) zero = by x.is_out
     by true = refl
     by false = refl
 is_out-seen (x ∷ xs) (suc a) = is_out-seen xs a
+
+pub not_out-seen : (xs : List Arena) (a : ℕ) → is_out_at xs a ≡ false → out_in (slice_get (arena_shapes xs) a) ≡ None
+not_out-seen xs a e = by (out_in (slice_get (arena_shapes xs) a)) (sym (is_out-seen xs a) ∙ e)
+  where
+    by : (o : Option Bits) → is_some o ≡ false → o ≡ None
+    by None none = refl
+    by (Some bits) none = absurd (cc none)
+
+pub out-seen : (xs : List Arena) (a : ℕ) → is_out_at xs a ≡ true → IsSome (out_in (slice_get (arena_shapes xs) a))
+out-seen xs a e = by (out_in (slice_get (arena_shapes xs) a)) (sym (is_out-seen xs a) ∙ e)
+  where
+    by : (o : Option Bits) → is_some o ≡ true → IsSome o
+    by None some = absurd (cc some)
+    by (Some bits) some = some
+
+-- whether an arena is one of a set of zones
+pub among-seen : (xs : List Arena) (word a : ℕ) → is_owned_in word (slice_get (arena_shapes xs) a) ≡ is_among word (slice_get xs a)
+among-seen [] word a = refl
+among-seen (x ∷ xs) word zero = refl
+among-seen (x ∷ xs) word (suc a) = among-seen xs word a
 
 out-none : (b : Bool) (bits : Bits) → (if b then Some bits else None) ≡ None → b ≡ false
 out-none true bits e = absurd (cc e)

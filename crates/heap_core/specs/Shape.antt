@@ -10,6 +10,7 @@ use Rattle.zones.specs.declared.states.State.{State}
 use Rattle.zones.specs.declared.states.State.TheVariants as state
 use Rattle.arena_table.specs.Cells.{CellState, field_of}
 use Rattle.arena_table.specs.Slots.{Arena, cell_in}
+use Rattle.arena_table.specs.Indexed.{in_zones}
 use Rattle.wrappers.specs.WrapperMaps.{WrappersState}
 use Rattle.weak_maps.specs.WeakMaps.{WeakMapsState}
 
@@ -82,6 +83,14 @@ zone_in (Some arena) = arena.zone
 -- the zone of a place: that of its arena
 abbrev pub zone_of : Shape → Place → ℕ
 zone_of s p = zone_in (slice_get s.arenas p.0)
+
+-- whether an arena is one of these zones
+abbrev pub is_owned_in : ℕ → Option ArenaShape → Bool
+is_owned_in word None = false
+is_owned_in word (Some arena) = in_zones word arena.zone
+
+abbrev pub is_owned : Shape → ℕ → ℕ → Bool
+is_owned s word a = is_owned_in word (slice_get s.arenas a)
 
 abbrev pub state_or : Option State → State
 state_or None = state.NoGC

@@ -9,7 +9,7 @@ ghost use Rattle.zones.specs.States.{next_state, IsMarking};
 ghost use Rattle.zones.specs.declared.states.State.{State as AState};
 ghost use Rattle.arena_table.specs.Cells.{field_count};
 ghost use Rattle.arena_table.specs.Table.{new_cell};
-ghost use Rattle.heap_core.specs.Shape.{Shape, IsPresent, is_white, cell_of, field_at, out_of, stored_at, zone_of};
+ghost use Rattle.heap_core.specs.Shape.{Shape, IsPresent, is_owned, is_white, cell_of, field_at, out_of, stored_at, zone_of};
 ghost use Rattle.heap_core.specs.Edges.{edge_count};
 ghost use Rattle.heap_core.specs.Heap.{HeapState, colour_of, reg_of, slot_of, with_reg, with_slot};
 ghost use Rattle.heap_core.specs.Changes.{Makes, MakesWrapper, Writes, next_place, with_comp, with_entry, with_number, with_zone, without_entry, wrapper_cell};
@@ -182,6 +182,28 @@ impl Heap {
         ensures { result ≡ is_some (out_of self.now.shape arena) }
     {
         self.arenas.is_out(arena)
+    }
+
+    /// The lowest arena that is handed to sweeping. It walks over no arenas.
+    pub fn first_out(&self) -> Option<u32>
+        ensures out { IfSome result (λ arena. IsSome (out_of self.now.shape arena)) }
+        ensures lowest { IfSome result
+            (λ arena. (other : ℕ) → other < arena → out_of self.now.shape other ≡ None) }
+        ensures none { IfNone result ((arena : ℕ) → out_of self.now.shape arena ≡ None) }
+    {
+        self.arenas.first_out()
+    }
+
+    /// The lowest arena of these zones from a number on. It walks over no arenas of other zones.
+    pub fn next_in(&self, zones: ZoneSet, from: u32) -> Option<u32>
+        ensures owned { IfSome result (λ arena. (from ≤ arena)
+            × (is_owned self.now.shape zones.bits arena ≡ true)) }
+        ensures lowest { IfSome result (λ arena. (other : ℕ) → from ≤ other → other < arena
+            → is_owned self.now.shape zones.bits other ≡ false) }
+        ensures none { IfNone result ((other : ℕ) → from ≤ other
+            → is_owned self.now.shape zones.bits other ≡ false) }
+    {
+        self.arenas.next_in(zones, from)
     }
 
     /// The mark bits of an arena.
