@@ -1,5 +1,6 @@
 pub mod Between
 pub mod Buffer
+pub mod Lanes
 pub mod Once
 pub mod Pieces
 pub mod Plain

@@ -1,11 +1,22 @@
 -- What bytes that are held show of the next line, before the rest of the input is known.
-use Rattle.std.specs.Prelude.{◌≡◌, ◌≢◌, ℕ, ◌<◌, ◌≤◌, List, [], ◌∷◌, ◌++◌, length, take, slice_index}
+use Rattle.std.specs.Prelude.{◌≡◌, ◌≢◌, ℕ, ◌<◌, ◌≤◌, Bool, List, [], ◌∷◌, ◌++◌, ◌||◌, ◌==◌, not, nat_le, length, take, slice_index, ◌⊎◌}
 use Rattle.gz_io.specs.Kept.{Kept}
 use Rattle.gz_io.specs.Lines.{IsPlain, IsTooLong, IsNotAscii, Gives}
 use Rattle.gz_io.specs.declared.reader.Next.{Next}
 use Rattle.gz_io.specs.declared.reader.Next.TheVariants as next
 use Rattle.gz_io.specs.declared.find.Found.{Found}
 use Rattle.gz_io.specs.declared.find.Found.TheVariants as found
+
+-- the test of a byte that no line may have, and of one that a line may have
+abbrev pub is_stop : ℕ → Bool
+is_stop b = b == 10 || nat_le 128 b
+
+abbrev pub is_plain : ℕ → Bool
+is_plain b = not (is_stop b)
+
+-- a byte that no line may have
+abbrev pub Stops : ℕ → Type 0
+Stops b = (b ≡ 10) ⊎ (128 ≤ b)
 
 -- the bytes show this by themselves
 abbrev pub Finds : List ℕ → Found → Type 0

@@ -6,8 +6,9 @@
 //     |  handed on  |   held    |    free    |
 //
 // A write to the sink may fail in the middle. Then what was not sent stays held.
-ghost use Rattle.std.specs.Prelude.{◌≡◌, ◌<◌, ◌≤◌, ◌-◌, ◌+◌, ℕ, [], OnOk, length, take, drop, ◌++◌, OnErr};
-ghost use Rattle.std.specs.Io.KnownBytes.{Appends, Keeps, append_known};
+ghost use Rattle.std.specs.Prelude.{◌≡◌, ◌<◌, ◌≤◌, ◌-◌, ◌+◌, ℕ, [], true, false, OnOk, length, take, drop, ◌++◌, OnErr, IfOk};
+ghost use Rattle.std.specs.Io.{WritesAtMost};
+ghost use Rattle.std.specs.Io.KnownBytes.{Appends, WriteAppends, Keeps, append_known};
 ghost use Rattle.gz_io.specs.Causes.{HasCause, Rose};
 
 use crate::outside::{Failed, Sink};
@@ -56,6 +57,21 @@ impl<K: Sink + Drop> Buffered<K> {
         &self.inner
     }
 
+    // Holds the piece where there is room for all of it, and tells whether there is.
+    fn hold_whole(&mut self, piece: &[u8]) -> bool
+        ensures whole { result ≡ true → self.new.held ≡ self.old.held ++ piece.now }
+        ensures none { result ≡ false → self.new ≡ self.old }
+        ensures inner { self.new.inner ≡ self.old.inner }
+    {
+        if piece.len() > 8192 - self.len {
+            return false;
+        }
+        let end = self.len + piece.len();
+        self.buf[self.len..end].copy_from_slice(piece);
+        self.len += piece.len();
+        true
+    }
+
     // Holds a front of the piece, as much as there is room for, and answers its length.
     fn hold(&mut self, piece: &[u8]) -> usize
         ensures most { result ≤ length piece.now }
@@ -85,6 +101,23 @@ impl<K: Sink + Drop> Buffered<K> {
         self.sent = 0;
         self.len = 0;
         Ok(())
+    }
+
+    // Holds a front of a piece for which there is not room, where need be after it hands on all.
+    #[cold]
+    fn put_front(&mut self, piece: &[u8]) -> Result<usize, Failed>
+        ensures bound { WritesAtMost result piece.now }
+        ensures some { IfOk result (λ n. 0 < length piece.now → 0 < n) }
+        ensures bytes { WriteAppends (append_known (K.written self.old.inner) self.old.held)
+            (append_known (K.written self.new.inner) self.new.held) result piece.now }
+        ensures cause { HasCause (K.faults self.old.inner) (K.faults self.new.inner) result }
+    {
+        let count = self.hold(piece);
+        if count > 0 || piece.is_empty() {
+            return Ok(count);
+        }
+        self.pass_on()?;
+        Ok(self.hold(piece))
     }
 }
 
@@ -118,12 +151,10 @@ impl<K: Sink + Drop> Sink for Buffered<K> {
     ghost behind = { λ b. length b.held + K.behind b.inner };
 
     fn put(&mut self, piece: &[u8]) -> Result<usize, Failed> {
-        let count = self.hold(piece);
-        if count > 0 || piece.is_empty() {
-            return Ok(count);
+        if self.hold_whole(piece) {
+            return Ok(piece.len());
         }
-        self.pass_on()?;
-        Ok(self.hold(piece))
+        self.put_front(piece)
     }
 
     fn flush(&mut self) -> Result<(), Failed> {

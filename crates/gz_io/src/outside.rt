@@ -50,8 +50,9 @@ pub trait Sink {
         ensures cause { HasCause (faults self.old) (faults self.new) result };
 }
 
-/// Writes the whole piece, or fails after a front of it.
-pub fn write_all<K: Sink>(sink: &mut K, piece: &[u8]) -> Result<(), WriteFault>
+// Writes what is left of a piece, or fails after a front of it.
+#[cold]
+fn write_rest<K: Sink>(sink: &mut K, piece: &[u8]) -> Result<(), WriteFault>
     ensures ok { OnOk result (Appends (K.written sink.old) (K.written sink.new) piece.now) }
     ensures err { OnErr result (AppendsFront (K.written sink.old) (K.written sink.new) piece.now) }
     ensures cause { HasCause (K.faults sink.old) (K.faults sink.new) result }
@@ -64,4 +65,17 @@ pub fn write_all<K: Sink>(sink: &mut K, piece: &[u8]) -> Result<(), WriteFault>
         }
     }
     Ok(())
+}
+
+/// Writes the whole piece, or fails after a front of it.
+pub fn write_all<K: Sink>(sink: &mut K, piece: &[u8]) -> Result<(), WriteFault>
+    ensures ok { OnOk result (Appends (K.written sink.old) (K.written sink.new) piece.now) }
+    ensures err { OnErr result (AppendsFront (K.written sink.old) (K.written sink.new) piece.now) }
+    ensures cause { HasCause (K.faults sink.old) (K.faults sink.new) result }
+{
+    match sink.put(piece) {
+        Ok(count) if count == piece.len() => Ok(()),
+        Ok(count) => write_rest(sink, &piece[count..]),
+        Err(_) => Err(WriteFault),
+    }
 }

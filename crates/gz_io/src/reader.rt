@@ -5,10 +5,11 @@
 //     0        from    from + len     rest          end       4096
 //     |  given  |  line  |   given     |    held     |   free   |
 //
-// Held bytes were taken from the source and stand in no line that was given. As they show a whole
-// line, or that there is none, nothing is taken. Where they show neither they are fewer than 256,
-// so that after they are moved to the front there is room. A line that is too long or is no ASCII
-// stays held, so that each later call finds it again; no state for 'stopped' is kept.
+// Held bytes were taken from the source and stand in no line that was given. What they show of the
+// next line is found once, as they change, and kept beside them. As they show a whole line, or that
+// there is none, nothing is taken. Where they show neither they are fewer than 256, so that after they
+// are moved to the front there is room. A line that is too long or is no ASCII stays held, so that each
+// later call answers it again; no state for 'stopped' is kept.
 use crate::find::{Found, find_line};
 use crate::outside::{Failed, Source};
 use std::marker::Model;
@@ -36,11 +37,14 @@ pub struct LineReader {
     len: usize,
     rest: usize,
     end: usize,
+    // what the held bytes show
+    found: Found,
 }
 
 impl Model for LineReader {
     ghost use Rattle.std.specs.Prelude.{◌≤◌, ◌+◌, ◌-◌, take, drop};
     ghost use Rattle.gz_io.specs.Kept.{Kept};
+    ghost use Rattle.gz_io.specs.Finding.{Finds};
 
     ghost Value = { Kept };
 
@@ -49,7 +53,8 @@ impl Model for LineReader {
       line = take r.len (drop r.from r.buf);
     } };
 
-    ghost invariant = { λ r. (r.rest ≤ r.end) × (r.end ≤ 4096) × (r.from + r.len ≤ 4096) };
+    ghost invariant = { λ r. (r.rest ≤ r.end) × (r.end ≤ 4096) × (r.from + r.len ≤ 4096)
+        × Finds (take (r.end - r.rest) (drop r.rest r.buf)) r.found };
 }
 
 impl LineReader {
@@ -70,6 +75,7 @@ impl LineReader {
             len: 0,
             rest: 0,
             end: 0,
+            found: Found::More,
         }
     }
 
@@ -84,13 +90,18 @@ impl LineReader {
     pub fn has_line(&self) -> bool
         ensures { IsTrue result ↔ Contains self.now.held 10 }
     {
-        self.buf[self.rest..self.end].contains(&b'\n')
+        match self.found {
+            Found::Line(_) => true,
+            Found::More => false,
+            // A line feed may stand behind a bad line.
+            Found::TooLong | Found::NotAscii => self.buf[self.rest..self.end].contains(&b'\n'),
+        }
     }
 
-    fn find_held(&self) -> Found
+    fn found(&self) -> Found
         ensures { Finds self.now.held result }
     {
-        find_line(&self.buf[self.rest..self.end])
+        self.found
     }
 
     // Gives the first bytes held as a line, and drops the line feed behind them.
@@ -102,6 +113,7 @@ impl LineReader {
         self.from = self.rest;
         self.len = len;
         self.rest += len + 1;
+        self.found = find_line(&self.buf[self.rest..self.end]);
     }
 
     // Gives what is held as the last line, if there is any.
@@ -119,10 +131,12 @@ impl LineReader {
         self.from = self.rest;
         self.len = self.end - self.rest;
         self.rest = self.end;
+        self.found = Found::More;
         Next::Line(self.len)
     }
 
     // Moves what is held to the front, and takes more behind it.
+    #[cold]
     fn fill<S: Source>(&mut self, source: &mut S) -> Result<usize, Failed>
         requires { length self.old.held < 4096 }
         ensures ok { IfOk result (λ n. (bs : List ℕ) × (length bs ≡ n)
@@ -141,6 +155,7 @@ impl LineReader {
         self.len = 0;
         let count = source.take(&mut self.buf[self.end..])?;
         self.end += count;
+        self.found = find_line(&self.buf[..self.end]);
         Ok(count)
     }
 
@@ -156,7 +171,7 @@ impl LineReader {
         ensures cause { HasCause (S.faults source.old) (S.faults source.new) result }
     {
         loop {
-            match self.find_held() {
+            match self.found() {
                 Found::More => {}
                 found => return Ok(found),
             }
