@@ -4,6 +4,7 @@ use Rattle.std.specs.Char.{is_ascii_digit}
 use Rattle.std.specs.Str.{all_ascii_digits}
 use Rattle.std.specs.Fmt.{decimal}
 use Rattle.std.proofs.Math.Seq.{drop-cons}
+use Rattle.std.proofs.lemmas.Bool.{agree_below_at}
 use Rattle.std.proofs.lemmas.Str.Parse.{IsNumeralModel, numerals_by_fold}
 use Rattle.std.proofs.lemmas.Fmt.{decimal_digit, digits_decimal, digits_value-decimal, decimal-digits_value, decimal_nonempty, first_decimal}
 use Rattle.trace_lang.specs.Words.{IsBreak}
@@ -119,3 +120,62 @@ zero_front (b ∷ bs) some z = ap (λ k. k ∷ bs) z ∙ ap (λ t. t ++ bs) (sym
 pub zero_parts : (text : List ℕ) → 0 < length text → get_or text 0 0 ≡ 48 → text ≡ 48 ∷ drop 1 text
 zero_parts [] some z = absurd (omega arith)
 zero_parts (b ∷ bs) some z = ap (λ k. k ∷ bs) z
+
+-- numbers of one digit and of two
+digit_is : (d : ℕ) → d < 10 → is_ascii_digit (48 + d) ≡ true
+digit_is d h = agree_below_at (λ k. is_ascii_digit (48 + k)) (λ _. true) 10 d refl h
+
+pub one_digit : (text rest : List ℕ) (d : ℕ) → d < 10 → text ≡ (48 + d) ∷ rest → text ≡ decimal d ++ rest
+one_digit text rest d h e = e ∙ ap (λ t. t ++ rest) (sym (decimal_digit d h))
+
+two_text : (d e : ℕ) → 0 < d → d < 10 → e < 10 → decimal (10 * d + e) ≡ (48 + d) ∷ (48 + e) ∷ []
+two_text d e some h k =
+    let ds = (48 + d) ∷ (48 + e) ∷ [] in
+    let all : all_ascii_digits ds ≡ true = rw (digit_is d h) (rw (digit_is e k) refl) in
+    let value : read_on 0 ds ≡ 10 * d + e = omega arith in
+    ap decimal (sym value) ∙ decimal-digits_value own ds all (omega arith) (λ z. absurd (omega (arith, z))) (omega (arith, value))
+
+pub two_digits : (text rest others : List ℕ) (d e : ℕ) → 0 < d → d < 10 → e < 10 → text ≡ (48 + d) ∷ rest → rest ≡ (48 + e) ∷ others → text ≡ decimal (10 * d + e) ++ others
+two_digits text rest others d e some h k p q = p ∙ ap (λ t. (48 + d) ∷ t) q ∙ ap (λ t. t ++ others) (sym (two_text d e some h k))
+
+-- digits that no digit follows
+ends_by : (rest : List ℕ) → (0 < length rest → is_ascii_digit (get_or rest 0 0) ≡ false) → (front_digits rest ≡ []) × (after_digits rest ≡ rest)
+ends_by [] none = (refl, refl)
+ends_by (b ∷ bs) none = let other = none (omega arith) in (rw other refl, rw other refl)
+
+starts_with : (text rest : List ℕ) (d : ℕ) → d < 10 → text ≡ (48 + d) ∷ rest → (front_digits text ≡ (48 + d) ∷ front_digits rest) × (after_digits text ≡ after_digits rest)
+starts_with text rest d h e = (ap front_digits e ∙ rw (digit_is d h) refl, ap after_digits e ∙ rw (digit_is d h) refl)
+
+pub only_one : (text rest r : List ℕ) (d n : ℕ) → d < 10 → n < 2 ^ 32 → text ≡ (48 + d) ∷ rest → (0 < length rest → is_ascii_digit (get_or rest 0 0) ≡ false) → IsBreak r → text ≡ decimal n ++ r → (d ≡ n) × (rest ≡ r)
+only_one text rest r d n h small e none b is =
+    let f = decimal_front text r n small b is in
+    let s = starts_with text rest d h e in
+    let t = ends_by rest none in
+    let value : n ≡ read_on 0 ((48 + d) ∷ []) = f.0 ∙ ap (read_on 0) (s.0 ∙ ap (λ ds. (48 + d) ∷ ds) t.0) in
+    (omega (arith, value), sym (f.1 ∙ s.1 ∙ t.1))
+
+-- a third digit makes a hundred
+not_third : (c : ℕ) (cs : List ℕ) (k : ℕ) (t : Bool) → is_ascii_digit c ≡ t → 10 ≤ k → read_on k (if t then c ∷ front_digits cs else []) < 100 → t ≡ false
+not_third c cs k false e h m = refl
+not_third c cs k true e h m = absurd (omega (arith, m, read_on-ge (10 * k + (c - 48)) (front_digits cs)))
+
+no_third : (others : List ℕ) (k : ℕ) → 10 ≤ k → read_on k (front_digits others) < 100 → 0 < length others → is_ascii_digit (get_or others 0 0) ≡ false
+no_third [] k h m some = absurd (omega (arith, some))
+no_third (c ∷ cs) k h m some = not_third c cs k (is_ascii_digit c) refl h m
+
+pub only_two : (text rest others r : List ℕ) (d e n : ℕ) → 0 < d → d < 10 → e < 10 → n < 100 → text ≡ (48 + d) ∷ rest → rest ≡ (48 + e) ∷ others → IsBreak r → text ≡ decimal n ++ r → (10 * d + e ≡ n) × (others ≡ r)
+only_two text rest others r d e n some h k small p q b is =
+    let f = decimal_front text r n (omega arith) b is in
+    let s = starts_with text rest d h p in
+    let t = starts_with rest others e k q in
+    let both : 10 * (10 * 0 + (48 + d - 48)) + (48 + e - 48) ≡ 10 * d + e = omega arith in
+    let value : n ≡ read_on (10 * d + e) (front_digits others) = f.0 ∙ ap (read_on 0) (s.0 ∙ ap (λ ds. (48 + d) ∷ ds) t.0) ∙ ap (λ m. read_on m (front_digits others)) both in
+    let u = ends_by others (no_third others (10 * d + e) (omega arith) (omega (arith, value))) in
+    let whole : n ≡ 10 * d + e = value ∙ ap (read_on (10 * d + e)) u.0 in
+    (sym whole, sym (f.1 ∙ s.1 ∙ t.1 ∙ u.1))
+
+pub digit_first : (text rest : List ℕ) (d : ℕ) → d < 10 → text ≡ (48 + d) ∷ rest → (0 < length text) × (is_ascii_digit (get_or text 0 0) ≡ true) × (get_or text 0 0 ≡ 48 + d)
+digit_first text rest d h e =
+    let at : get_or text 0 0 ≡ 48 + d = ap (λ t. get_or t 0 0) e in
+    let some : length text ≡ length ((48 + d) ∷ rest) = ap length e in
+    (omega (arith, some), ap is_ascii_digit at ∙ digit_is d h, at)

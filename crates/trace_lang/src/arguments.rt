@@ -31,6 +31,7 @@ impl Argument for Reg {
 
     ghost spaced = { λ r. (_, refl) };
 
+    #[inline(always)]
     fn read(text: &[u8]) -> Option<(Self, &[u8])> {
         let (n, rest) = lettered_number(text, b'r', 16)?;
         Some((Reg::new(n as u8)?, rest))
@@ -44,6 +45,7 @@ impl Argument for GrayNo {
 
     ghost spaced = { λ g. (_, refl) };
 
+    #[inline(always)]
     fn read(text: &[u8]) -> Option<(Self, &[u8])> {
         let (n, rest) = lettered_number(text, b'g', 64)?;
         Some((GrayNo::new(n as u8)?, rest))
@@ -57,6 +59,7 @@ impl Argument for ZoneNo {
 
     ghost spaced = { λ z. (_, refl) };
 
+    #[inline(always)]
     fn read(text: &[u8]) -> Option<(Self, &[u8])> {
         let (n, rest) = spaced_number(text, 64)?;
         Some((ZoneNo::new(n as u8)?, rest))
@@ -70,6 +73,7 @@ impl Argument for CompNo {
 
     ghost spaced = { λ d. (_, refl) };
 
+    #[inline(always)]
     fn read(text: &[u8]) -> Option<(Self, &[u8])> {
         let (n, rest) = spaced_number(text, 256)?;
         Some((CompNo(n as u8), rest))
@@ -87,6 +91,7 @@ impl Argument for FieldCount {
 
     ghost spaced = { λ n. (_, refl) };
 
+    #[inline(always)]
     fn read(text: &[u8]) -> Option<(Self, &[u8])> {
         let (n, rest) = spaced_number(text, 9)?;
         Some((FieldCount(n as u8), rest))
@@ -104,6 +109,7 @@ impl Argument for Field {
 
     ghost spaced = { λ f. (_, refl) };
 
+    #[inline(always)]
     fn read(text: &[u8]) -> Option<(Self, &[u8])> {
         let (n, rest) = spaced_number(text, 8)?;
         Some((Field(n as u8), rest))
@@ -118,6 +124,7 @@ impl Argument for u32 {
 
     ghost spaced = { λ n. (_, refl) };
 
+    #[inline(always)]
     fn read(text: &[u8]) -> Option<(Self, &[u8])> {
         let (n, rest) = spaced_number(text, 1 << 32)?;
         Some((n as u32, rest))
@@ -135,6 +142,7 @@ impl Argument for Target {
 
     ghost spaced = { λ t. target_spaced t.0 };
 
+    #[inline(always)]
     fn read(text: &[u8]) -> Option<(Self, &[u8])> {
         match text {
             [b' ', b'-', rest @ ..] => Some((Target(None), rest)),
@@ -149,6 +157,7 @@ impl Argument for Target {
 }
 
 /// The value that a text is the word of.
+#[inline(always)]
 pub fn one<A: Argument>(text: &[u8]) -> Option<A>
     ensures some { IfSome result (λ x. A.fits x × (text.now ≡ A.word x)) }
     ensures exact { (x : A) → A.fits x → text.now ≡ A.word x → result ≡ Some x }
@@ -158,6 +167,7 @@ pub fn one<A: Argument>(text: &[u8]) -> Option<A>
 }
 
 /// The two values that a text is the words of.
+#[inline(always)]
 pub fn two<A: Argument, B: Argument>(text: &[u8]) -> Option<(A, B)>
     ensures some { IfSome result
         (λ p. A.fits p.0 × B.fits p.1 × (text.now ≡ A.word p.0 ++ B.word p.1)) }
@@ -169,6 +179,7 @@ pub fn two<A: Argument, B: Argument>(text: &[u8]) -> Option<(A, B)>
 }
 
 /// The three values that a text is the words of.
+#[inline(always)]
 pub fn three<A: Argument, B: Argument, C: Argument>(text: &[u8]) -> Option<(A, B, C)>
     ensures some { IfSome result (λ p. A.fits p.0 × B.fits p.1 × C.fits p.2
         × (text.now ≡ A.word p.0 ++ B.word p.1 ++ C.word p.2)) }

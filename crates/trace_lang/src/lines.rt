@@ -20,7 +20,7 @@ use gz_names::{Cmd, GraphCmd, ZoneSet};
 pub struct BadLine;
 
 // A text as far as its first space, and the rest.
-fn split_word(text: &[u8]) -> (&[u8], &[u8])
+fn split_at_space(text: &[u8]) -> (&[u8], &[u8])
     ensures parts { text.now ≡ result.0.now ++ result.1.now }
     ensures word { IsWord result.0.now }
     ensures rest { IsBreak result.1.now }
@@ -33,6 +33,22 @@ fn split_word(text: &[u8]) -> (&[u8], &[u8])
         end += 1;
     }
     (&text[..end], &text[end..])
+}
+
+// The same.
+fn split_word(text: &[u8]) -> (&[u8], &[u8])
+    ensures parts { text.now ≡ result.0.now ++ result.1.now }
+    ensures word { IsWord result.0.now }
+    ensures rest { IsBreak result.1.now }
+{
+    // Most lines begin with a word of three or four letters.
+    match text {
+        [a, b, c, b' ', ..] if *a != b' ' && *b != b' ' && *c != b' ' => text.split_at(3),
+        [a, b, c, d, b' ', ..] if *a != b' ' && *b != b' ' && *c != b' ' && *d != b' ' => {
+            text.split_at(4)
+        }
+        _ => split_at_space(text),
+    }
 }
 
 // The word that a line begins with, and the rest.

@@ -1,11 +1,13 @@
 // Numbers at the front of a text.
-ghost use Rattle.std.specs.Prelude.{◌≡◌, ◌<◌, ◌≤◌, ◌^◌, ◌++◌, ◌∷◌, ℕ, List, IfSome, IfNone, MatchOption};
+ghost use Rattle.std.specs.Prelude.{◌≡◌, ◌<◌, ◌≤◌, ◌+◌, ◌^◌, ◌++◌, ◌∷◌, ℕ, List, IfSome, IfNone, MatchOption, false, length, slice_index};
+ghost use Rattle.std.specs.Char.{is_ascii_digit};
 ghost use Rattle.std.specs.Fmt.{decimal};
 ghost use Rattle.trace_lang.specs.Words.{IsBreak, number_word};
 ghost use Rattle.trace_lang.specs.Numbers.{front_digits, after_digits, read_on};
 
 // The number that the digits in front are, if it is below the limit, and what follows them. It is 0
 // where there are none.
+#[inline(never)]
 fn digits(text: &[u8], limit: u64) -> Option<(u64, &[u8])>
     requires some { 0 < limit }
     requires most { limit ≤ 2 ^ 32 }
@@ -28,8 +30,29 @@ fn digits(text: &[u8], limit: u64) -> Option<(u64, &[u8])>
     Some((n, &text[count..]))
 }
 
+// The digit that a text begins with, and what follows it.
+fn first_digit(text: &[u8]) -> Option<(u64, &[u8])>
+    ensures some { IfSome result (λ p. (p.0 < 10) × (text.now ≡ (48 + p.0) ∷ p.1.now)) }
+    ensures none { IfNone result
+        (0 < length text.now → is_ascii_digit (slice_index text.now 0) ≡ false) }
+{
+    match text {
+        [first, rest @ ..] if first.is_ascii_digit() => Some((u64::from(*first - b'0'), rest)),
+        _ => None,
+    }
+}
+
+// A number and what follows it, if it is below the limit.
+fn below(n: u64, limit: u64, rest: &[u8]) -> Option<(u64, &[u8])>
+    ensures some { IfSome result (λ p. (p.0 < limit) × (p.0 ≡ n) × (p.1.now ≡ rest.now)) }
+    ensures none { IfNone result (limit ≤ n) }
+{
+    if n < limit { Some((n, rest)) } else { None }
+}
+
 // The number below a limit that a text begins with, and what follows it. A number is `0`, or
-// digits of which the first is not `0`.
+// digits of which the first is not `0`. Where the limit allows no third digit, none is looked for.
+#[inline(always)]
 fn number(text: &[u8], limit: u64) -> Option<(u64, &[u8])>
     requires some { 0 < limit }
     requires most { limit ≤ 2 ^ 32 }
@@ -37,16 +60,21 @@ fn number(text: &[u8], limit: u64) -> Option<(u64, &[u8])>
     ensures exact { (n : ℕ) (rest : List ℕ) → n < limit → IsBreak rest
         → text.now ≡ decimal n ++ rest → MatchOption result ⊥ (λ p. (p.0 ≡ n) × (p.1.now ≡ rest)) }
 {
-    if text.is_empty() || !text[0].is_ascii_digit() {
-        return None;
+    let (first, rest) = first_digit(text)?;
+    if first == 0 {
+        return Some((0, rest));
     }
-    if text[0] == b'0' {
-        return Some((0, &text[1..]));
+    let Some((second, others)) = first_digit(rest) else {
+        return below(first, limit, rest);
+    };
+    if limit <= 100 {
+        return below(10 * first + second, limit, others);
     }
     digits(text, limit)
 }
 
 /// A number below a limit behind a space, and what follows it.
+#[inline(always)]
 pub fn spaced_number(text: &[u8], limit: u64) -> Option<(u64, &[u8])>
     requires some { 0 < limit }
     requires most { limit ≤ 2 ^ 32 }
@@ -62,6 +90,7 @@ pub fn spaced_number(text: &[u8], limit: u64) -> Option<(u64, &[u8])>
 }
 
 /// A letter behind a space and a number below a limit, and what follows them.
+#[inline(always)]
 pub fn lettered_number(text: &[u8], letter: u8, limit: u64) -> Option<(u64, &[u8])>
     requires some { 0 < limit }
     requires most { limit ≤ 2 ^ 32 }
