@@ -87,15 +87,23 @@ impl LineReader {
     }
 
     /// Whether a line feed is held, so that the next call takes nothing.
+    #[inline(always)]
     pub fn has_line(&self) -> bool
         ensures { IsTrue result ↔ Contains self.now.held 10 }
     {
         match self.found {
             Found::Line(_) => true,
             Found::More => false,
-            // A line feed may stand behind a bad line.
-            Found::TooLong | Found::NotAscii => self.buf[self.rest..self.end].contains(&b'\n'),
+            Found::TooLong | Found::NotAscii => self.holds_feed(),
         }
+    }
+
+    // A line feed may stand behind a bad line too.
+    #[cold]
+    fn holds_feed(&self) -> bool
+        ensures { IsTrue result ↔ Contains self.now.held 10 }
+    {
+        self.buf[self.rest..self.end].contains(&b'\n')
     }
 
     fn found(&self) -> Found
@@ -204,6 +212,7 @@ impl LineReader {
     /// The bytes to come are those held and those that are left in the source. After `TooLong` and
     /// `NotAscii` every later call answers the same; after `ReadFault` and `End` it may be called
     /// again.
+    #[inline(always)]
     pub fn next<S: Source>(&mut self, source: &mut S) -> Next
         ensures bytes { GivesKnown (prepend_known self.old.held (S.left source.old))
             (prepend_known self.new.held (S.left source.new)) result self.new.line }
