@@ -35,13 +35,12 @@ fn split_at_space(text: &[u8]) -> (&[u8], &[u8])
     (&text[..end], &text[end..])
 }
 
-// The same.
+// The same, in a few steps for a word of three or four letters, as most lines begin with.
 fn split_word(text: &[u8]) -> (&[u8], &[u8])
     ensures parts { text.now ≡ result.0.now ++ result.1.now }
     ensures word { IsWord result.0.now }
     ensures rest { IsBreak result.1.now }
 {
-    // Most lines begin with a word of three or four letters.
     match text {
         [a, b, c, b' ', ..] if *a != b' ' && *b != b' ' && *c != b' ' => text.split_at(3),
         [a, b, c, d, b' ', ..] if *a != b' ' && *b != b' ' && *c != b' ' && *d != b' ' => {

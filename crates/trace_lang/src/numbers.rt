@@ -51,7 +51,8 @@ fn below(n: u64, limit: u64, rest: &[u8]) -> Option<(u64, &[u8])>
 }
 
 // The number below a limit that a text begins with, and what follows it. A number is `0`, or
-// digits of which the first is not `0`. Where the limit allows no third digit, none is looked for.
+// digits of which the first is not `0`. Where the limit allows no third digit, none is looked for:
+// one that stands there begins no word, so the rest of the line is refused.
 #[inline(always)]
 fn number(text: &[u8], limit: u64) -> Option<(u64, &[u8])>
     requires some { 0 < limit }
