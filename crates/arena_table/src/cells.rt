@@ -93,8 +93,9 @@ impl Cell {
     pub fn field(&self, f: u8) -> Option<Place>
         ensures { result ≡ field_of (state_of self.now) f }
     {
+        // A link that is null is told by one look, so the kind comes second.
         match self.fields.get(f as usize) {
-            Some(link) if f < fields_of(self.kind) => link.place(),
+            Some(link) if link.position != 0 && f < fields_of(self.kind) => link.place(),
             _ => None,
         }
     }
