@@ -18,10 +18,13 @@ pub comp_parts : (c k : ℕ) → c / 64 ≡ k / 64 → c % 64 ≡ k % 64 → c �
 comp_parts c k e f = omega arith
 
 -- a compartment more, and one less
-pub HasComp-more : (words : List ℕ) (k word : ℕ) → k / 64 < length words → ((b : ℕ) → HasZone word b ↔ (HasZone (get_or words (k / 64) 0) b ⊎ (b ≡ k % 64))) → (c : ℕ) → HasComp (set words (k / 64) word) c ↔ (HasComp words c ⊎ (c ≡ k))
+pub HasComp-more : (words : List ℕ) (k word : ℕ) → k / 64 < length words
+    → ((b : ℕ) → HasZone word b ↔ (HasZone (get_or words (k / 64) 0) b ⊎ (b ≡ k % 64))) → (c : ℕ)
+    → HasComp (set words (k / 64) word) c ↔ (HasComp words c ⊎ (c ≡ k))
 HasComp-more words k word h is c = elim (cases_eq (c / 64) (k / 64)) [
   | inl e ↦ (
-      let here : get_or (set words (k / 64) word) (c / 64) 0 ≡ word = ap (λ n. get_or (set words (k / 64) word) n 0) e ∙ get_or-set_same words (k / 64) word 0 h in
+      let here : get_or (set words (k / 64) word) (c / 64) 0 ≡ word = ap (λ n. get_or (set words (k / 64) word) n 0) e
+      ∙ get_or-set_same words (k / 64) word 0 h in
       let there : get_or words (c / 64) 0 ≡ get_or words (k / 64) 0 = ap (λ n. get_or words n 0) e in (
         λ x. elim ((is (c % 64)).0 (subst (λ v. HasZone v (c % 64)) here x)) [
           | inl old ↦ inl (subst (λ v. HasZone v (c % 64)) (sym there) old)
@@ -33,7 +36,8 @@ HasComp-more words k word h is c = elim (cases_eq (c / 64) (k / 64)) [
         ])),
       ))
   | inr n ↦ (
-      let other : get_or (set words (k / 64) word) (c / 64) 0 ≡ get_or words (c / 64) 0 = get_or-set_other words (k / 64) (c / 64) word 0 n in (
+      let other : get_or (set words (k / 64) word) (c / 64) 0 ≡ get_or words (c / 64) 0 =
+      get_or-set_other words (k / 64) (c / 64) word 0 n in (
         λ x. inl (subst (λ v. HasZone v (c % 64)) other x),
         λ x. elim x [
           | inl old ↦ subst (λ v. HasZone v (c % 64)) (sym other) old
@@ -42,17 +46,22 @@ HasComp-more words k word h is c = elim (cases_eq (c / 64) (k / 64)) [
       ))
 ]
 
-pub HasComp-less : (words : List ℕ) (k word : ℕ) → k / 64 < length words → ((b : ℕ) → HasZone word b ↔ (HasZone (get_or words (k / 64) 0) b × (b ≢ k % 64))) → (c : ℕ) → HasComp (set words (k / 64) word) c ↔ (HasComp words c × (c ≢ k))
+pub HasComp-less : (words : List ℕ) (k word : ℕ) → k / 64 < length words
+    → ((b : ℕ) → HasZone word b ↔ (HasZone (get_or words (k / 64) 0) b × (b ≢ k % 64))) → (c : ℕ)
+    → HasComp (set words (k / 64) word) c ↔ (HasComp words c × (c ≢ k))
 HasComp-less words k word h is c = elim (cases_eq (c / 64) (k / 64)) [
   | inl e ↦ (
-      let here : get_or (set words (k / 64) word) (c / 64) 0 ≡ word = ap (λ n. get_or (set words (k / 64) word) n 0) e ∙ get_or-set_same words (k / 64) word 0 h in
+      let here : get_or (set words (k / 64) word) (c / 64) 0 ≡ word = ap (λ n. get_or (set words (k / 64) word) n 0) e
+      ∙ get_or-set_same words (k / 64) word 0 h in
       let there : get_or words (c / 64) 0 ≡ get_or words (k / 64) 0 = ap (λ n. get_or words n 0) e in (
         λ x. (let y = (is (c % 64)).0 (subst (λ v. HasZone v (c % 64)) here x) in
             (subst (λ v. HasZone v (c % 64)) (sym there) y.0, λ same. y.1 (ap (λ n. n % 64) same))),
-        λ x. subst (λ v. HasZone v (c % 64)) (sym here) ((is (c % 64)).1 (subst (λ v. HasZone v (c % 64)) there x.0, λ same. x.1 (comp_parts c k e same))),
+        λ x. subst (λ v. HasZone v (c % 64)) (sym here)
+            ((is (c % 64)).1 (subst (λ v. HasZone v (c % 64)) there x.0, λ same. x.1 (comp_parts c k e same))),
       ))
   | inr n ↦ (
-      let other : get_or (set words (k / 64) word) (c / 64) 0 ≡ get_or words (c / 64) 0 = get_or-set_other words (k / 64) (c / 64) word 0 n in (
+      let other : get_or (set words (k / 64) word) (c / 64) 0 ≡ get_or words (c / 64) 0 =
+      get_or-set_other words (k / 64) (c / 64) word 0 n in (
         λ x. (subst (λ v. HasZone v (c % 64)) other x, λ same. n (ap (λ m. m / 64) same)),
         λ x. subst (λ v. HasZone v (c % 64)) (sym other) x.0,
       ))
@@ -79,10 +88,13 @@ pub HasComp-at : (words : List ℕ) (w bit : ℕ) → bit < 64 → HasZone (get_
 HasComp-at words w bit h x =
     let a : (64 * w + bit) / 64 ≡ w = omega arith in
     let b : (64 * w + bit) % 64 ≡ bit = omega arith in
-    subst (λ n. HasZone (get_or words ((64 * w + bit) / 64) 0) n) (sym b) (subst (λ n. HasZone (get_or words n 0) bit) (sym a) x)
+    subst (λ n. HasZone (get_or words ((64 * w + bit) / 64) 0) n) (sym b)
+    (subst (λ n. HasZone (get_or words n 0) bit) (sym a) x)
 
 -- no compartment up to a bit of a word, where none is below a number of that word, and no bit from there on
-pub HasComp-none : (words : List ℕ) (from at bit : ℕ) → ((n : ℕ) → from ≤ n → n < at → HasComp words n → ⊥) → ((b : ℕ) → at % 64 ≤ b → b < bit → HasZone (get_or words (at / 64) 0) b → ⊥) → bit ≤ 64 → (n : ℕ) → from ≤ n → n < 64 * (at / 64) + bit → HasComp words n → ⊥
+pub HasComp-none : (words : List ℕ) (from at bit : ℕ) → ((n : ℕ) → from ≤ n → n < at → HasComp words n → ⊥)
+    → ((b : ℕ) → at % 64 ≤ b → b < bit → HasZone (get_or words (at / 64) 0) b → ⊥) → bit ≤ 64 → (n : ℕ) → from ≤ n
+    → n < 64 * (at / 64) + bit → HasComp words n → ⊥
 HasComp-none words from at bit below here most n le lt x = elim (cases_lt n at) [
   | inl old ↦ below n le old x
   | inr new ↦ (
@@ -91,15 +103,19 @@ HasComp-none words from at bit below here most n le lt x = elim (cases_lt n at) 
 ]
 
 -- the bits from a number on
-pub HasZone-from : (word from b : ℕ) → from < 64 → HasZone (bit_and word (18446744073709551615 * 2 ^ from % 18446744073709551616)) b ↔ (HasZone word b × (from ≤ b))
+pub HasZone-from : (word from b : ℕ) → from < 64
+    → HasZone (bit_and word (18446744073709551615 * 2 ^ from % 18446744073709551616)) b ↔ (HasZone word b × (from ≤ b))
 unfolding HasZone
 HasZone-from word from b h =
-    let mask : 18446744073709551615 * 2 ^ from % 18446744073709551616 ≡ 2 ^ 64 - 2 ^ from = ones_shl 64 from (omega arith) in
-    let e : bit_at (bit_and word (18446744073709551615 * 2 ^ from % 18446744073709551616)) b ≡ _ = ap (λ m. bit_at (bit_and word m) b) mask ∙ bit_at_and word (2 ^ 64 - 2 ^ from) b in
+    let mask : 18446744073709551615 * 2 ^ from % 18446744073709551616 ≡ 2 ^ 64 - 2 ^ from =
+    ones_shl 64 from (omega arith) in
+    let e : bit_at (bit_and word (18446744073709551615 * 2 ^ from % 18446744073709551616)) b ≡ _ =
+    ap (λ m. bit_at (bit_and word m) b) mask ∙ bit_at_and word (2 ^ 64 - 2 ^ from) b in
     let p = bit_at-lt word b in
     elim (cases_lt b from) [
       | inl lt ↦ (let none : bit_at (2 ^ 64 - 2 ^ from) b ≡ 0 = bit_at_mask_below from 64 b lt in (
-        λ x. absurd (let one : bit_at (bit_and word (18446744073709551615 * 2 ^ from % 18446744073709551616)) b ≡ 1 = x.1 in omega arith),
+        λ x. absurd (let one : bit_at (bit_and word (18446744073709551615 * 2 ^ from % 18446744073709551616)) b ≡ 1 =
+            x.1 in omega arith),
         λ x. absurd (let le : from ≤ b = x.1 in omega arith),
       ))
       | inr le ↦ (
@@ -123,23 +139,29 @@ AreHeaded-none words none c = (
 )
 
 -- a list has a first wrapper now
-pub AreHeaded-more : (heads : List (Option ℕ)) (words news : List ℕ) (k at : ℕ) → k < length heads → AreHeaded heads words → ((c : ℕ) → HasComp news c ↔ (HasComp words c ⊎ (c ≡ k))) → AreHeaded (set heads k (Some at)) news
+pub AreHeaded-more : (heads : List (Option ℕ)) (words news : List ℕ) (k at : ℕ) → k < length heads
+    → AreHeaded heads words → ((c : ℕ) → HasComp news c ↔ (HasComp words c ⊎ (c ≡ k)))
+    → AreHeaded (set heads k (Some at)) news
 AreHeaded-more heads words news k at h old new c = elim (cases_eq c k) [
   | inl e ↦ (
-      let here : get_or (set heads k (Some at)) c None ≡ Some at = ap (λ n. get_or (set heads k (Some at)) n None) e ∙ get_or-set_same heads k (Some at) None h in
+      let here : get_or (set heads k (Some at)) c None ≡ Some at = ap (λ n. get_or (set heads k (Some at)) n None) e
+      ∙ get_or-set_same heads k (Some at) None h in
       (λ _ none. cc (here, none), λ _. (new c).1 (inr e)))
   | inr n ↦ (
-      let other : get_or (set heads k (Some at)) c None ≡ get_or heads c None = get_or-set_other heads k c (Some at) None n in (
+      let other : get_or (set heads k (Some at)) c None ≡ get_or heads c None =
+      get_or-set_other heads k c (Some at) None n in (
         λ x none. elim ((new c).0 x) [ inl was ↦ (old c).0 was (sym other ∙ none) | inr e ↦ absurd (n e) ],
         λ some. (new c).1 (inl ((old c).1 (λ none. some (other ∙ none)))),
       ))
 ]
 
 -- a list still has one
-pub AreHeaded-same : (heads : List (Option ℕ)) (words : List ℕ) (k i : ℕ) (next : Option ℕ) → k < length heads → get_or heads k None ≡ Some i → next ≢ None → AreHeaded heads words → AreHeaded (set heads k next) words
+pub AreHeaded-same : (heads : List (Option ℕ)) (words : List ℕ) (k i : ℕ) (next : Option ℕ) → k < length heads
+    → get_or heads k None ≡ Some i → next ≢ None → AreHeaded heads words → AreHeaded (set heads k next) words
 AreHeaded-same heads words k i next h was some old c = elim (cases_eq c k) [
   | inl e ↦ (
-      let here : get_or (set heads k next) c None ≡ next = ap (λ n. get_or (set heads k next) n None) e ∙ get_or-set_same heads k next None h in
+      let here : get_or (set heads k next) c None ≡ next = ap (λ n. get_or (set heads k next) n None) e
+      ∙ get_or-set_same heads k next None h in
       let before : get_or heads c None ≡ Some i = ap (λ n. get_or heads n None) e ∙ was in
       (λ _ none. some (sym here ∙ none), λ _. (old c).1 (λ none. cc (before, none))))
   | inr n ↦ (
@@ -148,35 +170,47 @@ AreHeaded-same heads words k i next h was some old c = elim (cases_eq c k) [
 ]
 
 -- a list has none any more
-pub AreHeaded-less : (heads : List (Option ℕ)) (words news : List ℕ) (k : ℕ) (next : Option ℕ) → k < length heads → next ≡ None → AreHeaded heads words → ((c : ℕ) → HasComp news c ↔ (HasComp words c × (c ≢ k))) → AreHeaded (set heads k next) news
+pub AreHeaded-less : (heads : List (Option ℕ)) (words news : List ℕ) (k : ℕ) (next : Option ℕ) → k < length heads
+    → next ≡ None → AreHeaded heads words → ((c : ℕ) → HasComp news c ↔ (HasComp words c × (c ≢ k)))
+    → AreHeaded (set heads k next) news
 AreHeaded-less heads words news k next h gone old new c = elim (cases_eq c k) [
   | inl e ↦ (
-      let here : get_or (set heads k next) c None ≡ next = ap (λ n. get_or (set heads k next) n None) e ∙ get_or-set_same heads k next None h in
+      let here : get_or (set heads k next) c None ≡ next = ap (λ n. get_or (set heads k next) n None) e
+      ∙ get_or-set_same heads k next None h in
       (λ x _. ((new c).0 x).1 e, λ some. absurd (some (here ∙ gone))))
   | inr n ↦ (
-      let other : get_or (set heads k next) c None ≡ get_or heads c None = get_or-set_other heads k c next None n in
-      (λ x none. (old c).0 ((new c).0 x).0 (sym other ∙ none), λ x. (new c).1 ((old c).1 (λ none. x (other ∙ none)), n)))
+      let other : get_or (set heads k next) c None ≡ get_or heads c None = get_or-set_other heads k c next None n in (
+        λ x none. (old c).0 ((new c).0 x).0 (sym other ∙ none),
+        λ x. (new c).1 ((old c).1 (λ none. x (other ∙ none)), n),
+      ))
 ]
 
 -- a list's first wrapper was taken
-pub AreHeaded-taken : (heads : List (Option ℕ)) (words news : List ℕ) (k i : ℕ) (next : Option ℕ) → k < length heads → get_or heads k None ≡ Some i → AreHeaded heads words → IfSome next (λ _. news ≡ words) → IfNone next ((c : ℕ) → HasComp news c ↔ (HasComp words c × (c ≢ k))) → AreHeaded (set heads k next) news
+pub AreHeaded-taken : (heads : List (Option ℕ)) (words news : List ℕ) (k i : ℕ) (next : Option ℕ) → k < length heads
+    → get_or heads k None ≡ Some i → AreHeaded heads words → IfSome next (λ _. news ≡ words)
+    → IfNone next ((c : ℕ) → HasComp news c ↔ (HasComp words c × (c ≢ k))) → AreHeaded (set heads k next) news
 AreHeaded-taken heads words news k i None h was old some none = AreHeaded-less heads words news k None h refl old none
 AreHeaded-taken heads words news k i (Some j) h was old some none =
-    subst (λ ws. AreHeaded (set heads k (Some j)) ws) (sym some) (AreHeaded-same heads words k i (Some j) h was (λ e. cc e) old)
+    subst (λ ws. AreHeaded (set heads k (Some j)) ws) (sym some)
+    (AreHeaded-same heads words k i (Some j) h was (λ e. cc e) old)
 
 -- a wrapper waits exactly for the compartments of the set
-pub headed-waits : (nodes : List Node) (heads : List (Option ℕ)) (free : Option ℕ) (lists : List (List Place)) (spare : List Place) (words : List ℕ) (c : ℕ) → Links nodes heads free lists spare → AreHeaded heads words → HasComp words c → list_at lists c ≢ []
+pub headed-waits : (nodes : List Node) (heads : List (Option ℕ)) (free : Option ℕ) (lists : List (List Place))
+    (spare : List Place) (words : List ℕ) (c : ℕ) → Links nodes heads free lists spare → AreHeaded heads words
+    → HasComp words c → list_at lists c ≢ []
 headed-waits nodes heads free lists spare words c links headed has empty = (headed c).0 has (elim (cases_lt c 256) [
   | inl lt ↦ subst (λ ws. Chain nodes links.standing c (get_or heads c None) ws) empty (links.waits c lt)
   | inr le ↦ (let made = links.heads_made in get_or_past heads c None (omega arith))
 ])
 
-pub headless-empty : (nodes : List Node) (heads : List (Option ℕ)) (words : List ℕ) (c : ℕ) → AreHeaded heads words → (HasComp words c → ⊥) → list_at (lists_of nodes heads) c ≡ []
+pub headless-empty : (nodes : List Node) (heads : List (Option ℕ)) (words : List ℕ) (c : ℕ) → AreHeaded heads words
+    → (HasComp words c → ⊥) → list_at (lists_of nodes heads) c ≡ []
 headless-empty nodes heads words c headed none = go (get_or heads c None) refl
   where
     go : (o : Option ℕ) → get_or heads c None ≡ o → list_at (lists_of nodes heads) c ≡ []
     go (Some i) e = absurd (none ((headed c).1 (λ n. cc (e, n))))
     go None e = elim (cases_lt c (length heads)) [
       | inl lt ↦ list_at-headless nodes heads c lt e
-      | inr le ↦ (let same = length-map heads (walk nodes (length nodes)) in get_or_past (lists_of nodes heads) c [] (omega arith))
+      | inr le ↦ (let same = length-map heads (walk nodes (length nodes)) in get_or_past (lists_of nodes heads) c []
+          (omega arith))
     ]

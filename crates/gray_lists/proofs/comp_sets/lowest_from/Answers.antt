@@ -15,4 +15,6 @@ returns-else-rest-eq0-clause-some c =
     (found.1, first.0, found.0)
 
 pub returns-else-rest-eq0-clause-between : goal.returns-else-rest-eq0-clause-between
-returns-else-rest-eq0-clause-between c = λ b le lt h. HasZone-lowest c.bits_from-rest.result (omega arith) (omega arith) b lt ((c.bits_from-rest.ensures b).1 (h, le))
+returns-else-rest-eq0-clause-between c =
+    λ b le lt h. HasZone-lowest c.bits_from-rest.result (omega arith) (omega arith) b lt
+    ((c.bits_from-rest.ensures b).1 (h, le))
