@@ -430,11 +430,10 @@ module _ (c d1 d2 d3 d4 d : CollectorState) (flown f1 f2 f3 : ℕ → Option Bit
   more_call groups (Some run) m = λ none rests formed. m none (λ a. sym (outs_last a) ∙ rests a) formed
 
   -- so what the collector keeps besides it still keeps
-  pub kept_call : (edges : Noted) (groups : List ZoneSet) (r : Option Run) (ungrouped : ZoneSet) (from : ℕ) → IsKept d4.heap.shape edges groups r ungrouped from → IsKept d.heap.shape edges groups r ungrouped from
-  kept_call edges groups r ungrouped from k = record {
+  pub kept_call : (edges : Noted) (groups : List ZoneSet) (r : Option Run) (ungrouped : ZoneSet) → IsKept d4.heap.shape edges groups r ungrouped → IsKept d.heap.shape edges groups r ungrouped
+  kept_call edges groups r ungrouped k = record {
     waiting = k.waiting;
     some_waits = k.some_waits;
-    none_below = λ a lt. outs_last a ∙ k.none_below a lt;
     more = more_call groups r k.more;
   }
 

@@ -1,7 +1,7 @@
 -- The lowest arena that is handed to sweeping.
-use Rattle.std.proofs.Common.{◌≡◌, ◌<◌, ◌≤◌, ◌+◌, ℕ, zero, suc, false, Option, None, Some, is_some, List, [], ◌∷◌, length, slice_get, refl, ap, ◌∙◌, arith, inl, inr}
-use Rattle.std.proofs.lemmas.Bool.{cases_lt, cases_eq}
+use Rattle.std.proofs.Common.{◌≡◌, ◌<◌, ◌≤◌, ℕ, zero, suc, false, Option, None, Some, IfSome, IsSome, is_some, List, [], ◌∷◌, length, slice_get, refl, arith}
 use Rattle.heap_core.specs.Shape.{ArenaShape, Shape, out_in, out_of}
+use Rattle.slice_driver.specs.Units.{IsLowestOut}
 
 -- past the last arena none is out
 pub out_past : (arenas : List ArenaShape) (a : ℕ) → length arenas ≤ a → out_in (slice_get arenas a) ≡ None
@@ -13,14 +13,7 @@ pub is_none : {X : Type 0} (o : Option X) → is_some o ≡ false → o ≡ None
 is_none None e = refl
 is_none (Some b) e = absurd (cc e)
 
-pub none_below_next : (s : Shape) (next : ℕ) → ((a : ℕ) → a < next → out_of s a ≡ None) → is_some (out_of s next) ≡ false → (a : ℕ) → a < next + 1 → out_of s a ≡ None
-none_below_next s next low none a lt = elim (cases_eq a next) [
-  | inl is ↦ ap (out_of s) is ∙ is_none (out_of s next) none
-  | inr ne ↦ low a (omega arith)
-]
-
-pub none_at_all : (s : Shape) (next : ℕ) → ((a : ℕ) → a < next → out_of s a ≡ None) → length s.arenas ≤ next → (a : ℕ) → out_of s a ≡ None
-none_at_all s next low le a = elim (cases_lt a next) [
-  | inl lt ↦ low a lt
-  | inr ge ↦ out_past s.arenas a (omega arith)
-]
+-- the lowest arena that is out, by what is said of it in two parts
+pub lowest_out : (s : Shape) (o : Option ℕ) → IfSome o (λ a. IsSome (out_of s a)) → IfSome o (λ a. (b : ℕ) → b < a → out_of s b ≡ None) → IfSome o (IsLowestOut s)
+lowest_out s None out low = tt
+lowest_out s (Some a) out low = record { out = out; lowest = low }

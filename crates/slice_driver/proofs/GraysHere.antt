@@ -4,23 +4,21 @@ use Rattle.std.specs.Int.{bit_at}
 use Rattle.std.proofs.lemmas.List.{append-nil}
 use Rattle.std.specs.List.Sorted.{IsPermutation, IsSorted}
 use Rattle.std.specs.Prelude.{if◌then◌else◌}
-use Rattle.std.specs.Option.{option_map}
 use Rattle.gz_names.specs.Order.{name_cmp}
 use Rattle.gz_names.specs.Zones.{HasZone}
 use Rattle.gz_names.specs.declared.names.Name.{Name}
 use Rattle.gz_names.specs.declared.numbers.Place.{Place}
 use Rattle.gz_names.specs.declared.zone_sets.ZoneSet.{ZoneSet}
-use Rattle.arena_table.specs.Indexed.{in_zones}
 use Rattle.colour_defs.specs.Ends.{Lists}
-use Rattle.heap_core.specs.Shape.{ArenaShape, AreWhole, IsPresent, Shape, cell_in_arena, zone_in, zone_of}
+use Rattle.heap_core.specs.Shape.{ArenaShape, AreWhole, IsPresent, Shape, cell_in_arena, is_owned, is_owned_in, zone_in, zone_of}
 use Rattle.heap_core.specs.Heap.{HeapState}
 use Rattle.barriers.specs.Colours.{IsGray}
 use Rattle.slice_driver.specs.GroupEnd.{IsGrayHere}
-use Rattle.slice_driver.specs.Grays.{IsGrayIn, grays_below, grays_up_to, is_owned, is_owned_in}
+use Rattle.slice_driver.specs.Grays.{IsGrayIn, grays_below, grays_up_to}
 use Rattle.slice_driver.proofs.GrayNames.{present_within}
 use Rattle.slice_driver.proofs.Grays.{AreNamedApart, grays_listed}
-use Rattle.slice_driver.proofs.GroupEndCells.{has_in_zones, in_zones_has, same_test}
-use Rattle.slice_driver.proofs.Named.{named_present, some_one}
+use Rattle.slice_driver.proofs.GroupEndCells.{has_in_zones, in_zones_has}
+use Rattle.slice_driver.proofs.Named.{named_present}
 
 -- an arena whose cells are not listed
 pub grays_passed : (h : HeapState) (test : ℕ → Bool) (a : ℕ) (xs : List Name) → xs ≡ grays_up_to h test a → test a ≡ false → xs ≡ grays_up_to h test (a + 1)
@@ -57,10 +55,3 @@ module _ (h : HeapState) (g : ZoneSet) (small : (z : ℕ) → bit_at g.bits z �
           λ i. (l.has x).1 (record { place = i.place; named = i.named; here = here_owned i.place i.here (named_present h.shape i.place x i.named); gray = i.gray }),
         );
       }
-
--- a test of an arena's zone
-pub owned_test : (g : ZoneSet) → ((z : ℕ) → bit_at g.bits z ≡ 1 → z < 64) → (r : Bool) (o : Option ArenaShape) (zone : ℕ) → option_map (λ (a : ArenaShape). a.zone) o ≡ Some zone → IsTrue r ↔ HasZone g.bits zone → r ≡ is_owned_in g.bits o
-owned_test g small r None zone e both = absurd (cc e)
-owned_test g small r (Some arena) zone e both =
-    let same : arena.zone ≡ zone = some_one _ _ e in
-    same_test r (in_zones g.bits arena.zone) (λ t. has_in_zones g arena.zone (subst (λ z. HasZone g.bits z) (sym same) (both.0 t))) (λ t. both.1 (subst (λ z. HasZone g.bits z) same (in_zones_has g small arena.zone t)))

@@ -58,6 +58,7 @@ pub mod GrayNames
 pub mod MarkedRoots
 pub mod GatheredRoots
 pub mod GraysHere
+pub mod GraySlots
 pub mod GroupEnding
 pub mod JobsHanded
 pub mod EndReady

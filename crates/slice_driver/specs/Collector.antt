@@ -1,5 +1,5 @@
 -- What a collector is, by the values of its parts.
-use Rattle.std.specs.Prelude.{◌≡◌, ◌<◌, ◌↔◌, ℕ, Bool, true, false, List, [], Option, Some, None}
+use Rattle.std.specs.Prelude.{◌≡◌, ◌↔◌, ℕ, Bool, true, false, List, [], Option, Some, None}
 use Rattle.gz_names.specs.Zones.{HasZone}
 use Rattle.gz_names.specs.declared.zone_sets.ZoneSet.{ZoneSet}
 use Rattle.cell_bits.specs.declared.bits.Bits.{Bits}
@@ -48,9 +48,8 @@ abbrev pub HasMore : Shape → List ZoneSet → Option Run → Type 0
 HasMore s groups None = Unit {0}
 HasMore s groups (Some run) = groups ≡ [] → ((a : ℕ) → out_of s a ≡ None) → run.formed ≡ true → ⊥
 
--- what is kept besides: which zones wait for their grouping step, below which arena none is handed to sweeping, and that a collection has something left to do
-pub record IsKept (s : Shape) (edges : Noted) (groups : List ZoneSet) (run : Option Run) (ungrouped : ZoneSet) (out_from : ℕ) : Type 0 where
+-- what is kept besides: which zones wait for their grouping step, and that a collection has something left to do
+pub record IsKept (s : Shape) (edges : Noted) (groups : List ZoneSet) (run : Option Run) (ungrouped : ZoneSet) : Type 0 where
   pub waiting : AreUngrouped edges run ungrouped
   pub some_waits : SomeWaits run ungrouped
-  pub none_below : (a : ℕ) → a < out_from → out_of s a ≡ None
   pub more : HasMore s groups run

@@ -1,11 +1,10 @@
 -- The names of the gray cells, in the order of their places.
-use Rattle.std.specs.Prelude.{◌≡◌, ◌++◌, ℕ, zero, suc, Bool, true, false, List, [], ◌∷◌, Option, Some, None, if◌then◌else◌, slice_get}
+use Rattle.std.specs.Prelude.{◌≡◌, ◌++◌, ℕ, zero, suc, Bool, true, false, List, [], ◌∷◌, Option, Some, None, if◌then◌else◌}
 use Rattle.gz_names.specs.declared.names.Name.{Name}
 use Rattle.gz_names.specs.declared.numbers.Place.{Place}
 use Rattle.cell_bits.specs.declared.bits.Colour.{Colour}
 use Rattle.cell_bits.specs.declared.bits.Colour.TheVariants as colour
-use Rattle.arena_table.specs.Indexed.{in_zones}
-use Rattle.heap_core.specs.Shape.{ArenaShape, Shape, name_at}
+use Rattle.heap_core.specs.Shape.{name_at}
 use Rattle.heap_core.specs.Heap.{HeapState, colour_of}
 use Rattle.barriers.specs.Colours.{IsGray}
 
@@ -39,11 +38,3 @@ pub record IsGrayIn (h : HeapState) (test : ℕ → Bool) (x : Name) : Type 0 wh
   pub named : name_at h.shape place ≡ Some x
   pub here : test place.0 ≡ true
   pub gray : IsGray h place
-
--- whether an arena is one of these zones
-abbrev pub is_owned_in : ℕ → Option ArenaShape → Bool
-is_owned_in word None = false
-is_owned_in word (Some arena) = in_zones word arena.zone
-
-abbrev pub is_owned : Shape → ℕ → ℕ → Bool
-is_owned s word a = is_owned_in word (slice_get s.arenas a)

@@ -50,8 +50,6 @@ pub struct Collector {
     pub(crate) run: Option<Run>,
     // The zones of the collection that had no grouping step yet.
     pub(crate) ungrouped: ZoneSet,
-    // No arena below this one is handed to sweeping.
-    pub(crate) out_from: u32,
 }
 
 impl Model for Collector {
@@ -68,7 +66,7 @@ impl Model for Collector {
       run = run_of c.run;
     } };
 
-    ghost invariant = { λ c. IsKept c.heap.shape c.edges c.order c.run c.ungrouped c.out_from };
+    ghost invariant = { λ c. IsKept c.heap.shape c.edges c.order c.run c.ungrouped };
 }
 
 impl Collector {
@@ -89,7 +87,6 @@ impl Collector {
             order: GroupOrder::new(),
             run: None,
             ungrouped: ZoneSet::new(),
-            out_from: 0,
         })
     }
 

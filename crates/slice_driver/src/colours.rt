@@ -1,5 +1,7 @@
 // What is gray.
-ghost use Rattle.std.specs.Prelude.{◌≡◌, ◌<◌, ◌++◌, IfOk, OnOk, length, true};
+ghost use Rattle.std.specs.Prelude.{◌≡◌, ◌<◌, ◌↔◌, ◌++◌, ℕ, IfOk, OnOk, length, true};
+ghost use Rattle.std.specs.Int.{bit_at};
+ghost use Rattle.cell_bits.specs.Colours.{colour_of};
 ghost use Rattle.gz_names.specs.declared.numbers.Place.{Place as APlace};
 ghost use Rattle.colour_defs.specs.Ends.{Lists};
 ghost use Rattle.colour_defs.specs.World.{World, Has, IsPresent as IsPresentName, IsSettled};
@@ -13,7 +15,7 @@ ghost use Rattle.slice_driver.specs.Units.{IsSound};
 
 use crate::collector::Collector;
 use barriers::colour;
-use cell_bits::{Colour, Flight};
+use cell_bits::{Bits, Colour, Flight};
 use gz_names::{Name, NameList, NoMemory, Place};
 use heap_core::Heap;
 use std::alloc::Global;
@@ -55,12 +57,73 @@ pub(crate) fn push_gray<F: Flight>(
     ensures covers { Covers heap.now.shape (F.bits flight.new) }
     ensures origin { F.origin flight.new ≡ F.origin flight.old }
 {
+    if heap.is_out(arena) {
+        push_flown_gray(heap, flight, arena, names)
+    } else {
+        push_own_gray(heap, arena, names)
+    }
+}
+
+// The same where the arena is out: the flight answers each slot's colour.
+fn push_flown_gray<F: Flight>(
+    heap: &Heap,
+    flight: &mut F,
+    arena: u32,
+    names: &mut Vec<Name>,
+) -> Result<(), NoMemory>
+    requires covers { Covers heap.now.shape (F.bits flight.old) }
+    requires made { arena < length heap.now.colours }
+    requires present { (p : APlace) → IsGray (joined heap.now (F.bits flight.old)) p
+        → IsPresent heap.now.shape p }
+    ensures names { OnOk result (names.new.items ≡ names.old.items
+        ++ grays_below (joined heap.now (F.bits flight.old)) arena 64) }
+    ensures same { joined heap.now (F.bits flight.new) ≡ joined heap.now (F.bits flight.old) }
+    ensures covers { Covers heap.now.shape (F.bits flight.new) }
+    ensures origin { F.origin flight.new ≡ F.origin flight.old }
+{
     for slot in 0..64 {
         if let Some(place) = Place::new(arena, slot)
             && colour(heap, flight, place) == Colour::Gray
         {
             names.push(heap.name(place))?;
         }
+    }
+    Ok(())
+}
+
+// The same by the bits of the arena itself: only its gray slots are looked at.
+pub(crate) fn push_own_gray(heap: &Heap, arena: u32, names: &mut Vec<Name>) -> Result<(), NoMemory>
+    requires made { arena < length heap.now.colours }
+    requires present { (slot : ℕ) → IsGray heap.now (arena, slot)
+        → IsPresent heap.now.shape (arena, slot) }
+    ensures { OnOk result (names.new.items ≡ names.old.items ++ grays_below heap.now arena 64) }
+{
+    let bits = heap.bits(arena);
+    push_at(heap, arena, gray_slots(&bits), names)
+}
+
+// The slots of the gray cells.
+fn gray_slots(bits: &Bits) -> u64
+    ensures { (slot : ℕ) → slot < 64
+        → (bit_at result slot ≡ 1) ↔ (colour_of bits.now slot ≡ Colour.Gray) }
+{
+    bits.gob & !bits.black
+}
+
+// Adds the names of the cells at the gray slots of an arena.
+fn push_at(heap: &Heap, arena: u32, slots: u64, names: &mut Vec<Name>) -> Result<(), NoMemory>
+    requires gray { (slot : ℕ) → slot < 64
+        → (bit_at slots slot ≡ 1) ↔ IsGray heap.now (arena, slot) }
+    requires present { (slot : ℕ) → IsGray heap.now (arena, slot)
+        → IsPresent heap.now.shape (arena, slot) }
+    ensures { OnOk result (names.new.items ≡ names.old.items ++ grays_below heap.now arena 64) }
+{
+    let mut left = slots;
+    while left != 0 {
+        if let Some(place) = Place::new(arena, left.trailing_zeros() as u8) {
+            names.push(heap.name(place))?;
+        }
+        left &= left - 1;
     }
     Ok(())
 }

@@ -6,20 +6,20 @@ ghost use Rattle.gz_names.specs.Order.{name_cmp};
 ghost use Rattle.gz_names.specs.declared.numbers.Place.{Place as APlace};
 ghost use Rattle.gz_names.specs.declared.zone_sets.ZoneSet.{ZoneSet as AZoneSet};
 ghost use Rattle.cell_bits.specs.declared.bits.Bits.{Bits as ABits};
-ghost use Rattle.heap_core.specs.Shape.{IsPresent, out_of};
+ghost use Rattle.heap_core.specs.Shape.{IsPresent, is_owned, out_of};
 ghost use Rattle.barriers.specs.Colours.{IsGray};
 ghost use Rattle.slice_driver.specs.Advancing.{EndsSweeping};
-ghost use Rattle.slice_driver.specs.Grays.{grays_up_to, is_owned};
+ghost use Rattle.slice_driver.specs.Grays.{grays_up_to};
 ghost use Rattle.slice_driver.specs.GroupEnd.{IsReady};
 ghost use Rattle.slice_driver.specs.HandingOut.{HandsOut};
 ghost use Rattle.slice_driver.specs.Left.{units_left};
 ghost use Rattle.slice_driver.specs.Units.{AreJobs, DoesUnit, EndsColoured, HandsJobs, IsFreedWord, IsLowestOut, IsSound, KeepsFreedWords, is_group_end, flying_after, jobs_at, reports_of, without_arena};
 
 use crate::collector::{Collector, Unit};
-use crate::colours::push_gray;
+use crate::colours::push_own_gray;
 use crate::zone_states::advance_all;
 use arena_table::Jobs;
-use cell_bits::{NoFlight, Taken};
+use cell_bits::Taken;
 use gz_names::{NameList, NoMemory, Report, ZoneSet};
 use heap_core::Heap;
 use std::alloc::Global;
@@ -52,8 +52,7 @@ impl Collector {
         prove!(taken.freed == kept.white_mask(self.heap.alloc_word(arena)));
         let mut names = self.heap.take_in(arena, taken.freed, taken.bits);
         names.sort();
-        self.out_from = arena;
-        let finished = end_sweeping(&mut self.heap, &self.order, self.out_from);
+        let finished = end_sweeping(&mut self.heap, &self.order);
         if finished {
             self.run = None;
         }
@@ -68,7 +67,7 @@ impl Collector {
         ensures some { IfSome result (IsLowestOut self.now.heap.shape) }
         ensures none { IfNone result ((a : ℕ) → out_of self.now.heap.shape a ≡ None) }
     {
-        first_out_from(&self.heap, self.out_from)
+        self.heap.first_out()
     }
 
     // Ends the current group, which is ready: its gray names are reported, its arenas are handed to
@@ -102,8 +101,7 @@ impl Collector {
         let grays = gray_names_in(alloc, &self.heap, group)?;
         let handed = hand_out_group(alloc, &mut self.heap, group)?;
         self.order.advance();
-        self.out_from = 0;
-        let finished = end_sweeping(&mut self.heap, &self.order, 0);
+        let finished = end_sweeping(&mut self.heap, &self.order);
         if finished {
             self.run = None;
         }
@@ -134,11 +132,10 @@ fn hand_out_group(alloc: Global, heap: &mut Heap, group: ZoneSet) -> Result<Opti
 
 // Where no arena is out any more, the zones that were swept are finished; where no group is left
 // either, they are in no collection. True where that is so.
-pub(crate) fn end_sweeping(heap: &mut Heap, order: &GroupOrder, out_from: u32) -> bool
-    requires none_below { (a : ℕ) → a < out_from → out_of heap.old.shape a ≡ None }
+pub(crate) fn end_sweeping(heap: &mut Heap, order: &GroupOrder) -> bool
     ensures { EndsSweeping heap.old order.now result heap.new }
 {
-    if first_out_from(heap, out_from).is_some() {
+    if heap.first_out().is_some() {
         return false;
     }
     advance_all(heap, heap.in_state(State::Sweep));
@@ -147,20 +144,6 @@ pub(crate) fn end_sweeping(heap: &mut Heap, order: &GroupOrder, out_from: u32) -
     }
     advance_all(heap, heap.in_state(State::Finished));
     true
-}
-
-// The lowest arena from this one on that is handed to sweeping.
-fn first_out_from(heap: &Heap, arena: u32) -> Option<u32>
-    requires none_below { (a : ℕ) → a < arena → out_of heap.now.shape a ≡ None }
-    ensures some { IfSome result (IsLowestOut heap.now.shape) }
-    ensures none { IfNone result ((a : ℕ) → out_of heap.now.shape a ≡ None) }
-{
-    for next in arena..heap.arenas() {
-        if heap.is_out(next) {
-            return Some(next);
-        }
-    }
-    None
 }
 
 // The names of the gray cells of these zones, ascending. No arena is out.
@@ -173,21 +156,12 @@ fn gray_names_in(alloc: Global, heap: &Heap, zones: ZoneSet) -> Result<NameList,
     ensures sorted { IfOk result (IsSorted name_cmp) }
 {
     let mut names = Vec::new(alloc);
-    for arena in 0..heap.arenas() {
-        if is_in(heap, zones, arena) {
-            push_gray(heap, &mut NoFlight, arena, &mut names)?;
-        }
+    let mut from = 0;
+    while let Some(arena) = heap.next_in(zones, from) {
+        prove!(arena < heap.arenas());
+        push_own_gray(heap, arena, &mut names)?;
+        from = arena + 1;
     }
     names.sort_unstable();
     Ok(NameList::from_vec(names))
-}
-
-// Whether an arena is one of these zones.
-fn is_in(heap: &Heap, zones: ZoneSet, arena: u32) -> bool
-    ensures { result ≡ is_owned heap.now.shape zones.bits arena }
-{
-    match heap.owner(arena) {
-        Some(zone) => zones.contains(zone),
-        None => false,
-    }
 }

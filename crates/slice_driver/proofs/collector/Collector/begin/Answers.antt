@@ -102,7 +102,6 @@ invariant_of-self-2 g c =
     record {
       waiting = λ unformed z. ((λ has. (has, λ st. HasZone-none z (subst (λ word. HasZone word z) c.start.ensures.stepped st))), λ both. both.0);
       some_waits = λ unformed. c.requires.some;
-      none_below = λ a below. out a;
       more = λ none kept formed. absurd (cc formed);
     }
 

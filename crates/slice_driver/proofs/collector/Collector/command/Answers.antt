@@ -116,8 +116,8 @@ invariant_of-self g c =
     let here = ap (λ (z : CollectorState). z.heap.shape) c.self-4.view_is in
     kept_call _ _ _ _ _ _ _ _ _ _ _ _ _ _ _
     (call g c) c.self-4.inside.edges c.self-4.inside.order c.self-4.inside.run c.self-4.inside.ungrouped
-    c.self-4.inside.out_from (subst (λ s. IsKept s c.self-4.inside.edges c.self-4.inside.order c.self-4.inside.run
-    c.self-4.inside.ungrouped c.self-4.inside.out_from) here c.self-4.invariant)
+    (subst (λ s. IsKept s c.self-4.inside.edges c.self-4.inside.order c.self-4.inside.run
+    c.self-4.inside.ungrouped) here c.self-4.invariant)
 
 pub returns-clause-done : goal.returns-clause-done
 returns-clause-done g c = does_call _ _ _ _ _ _ _ _ _ _ _ _ _ _ _ (call g c)

@@ -1,4 +1,4 @@
-use Rattle.std.proofs.Common.{◌≡◌, ◌<◌, ℕ, Bool, Option, None, Some, false, List, length, if◌then◌else◌, sym, ap, subst, ◌∙◌, arith}
+use Rattle.std.proofs.Common.{◌≡◌, ◌<◌, ℕ, Bool, Option, None, Some, false, List, length, if◌then◌else◌, sym, ap, subst, ◌∙◌}
 use Rattle.gz_names.specs.declared.names.Name.{Name}
 use Rattle.gz_names.specs.declared.numbers.Place.{Place}
 use Rattle.gz_names.specs.declared.replies.Report.{Report}
@@ -43,7 +43,6 @@ pub invariant_of-self-else-finished : goal.invariant_of-self-else-finished
 invariant_of-self-else-finished c = record {
   waiting = c.self.invariant.waiting;
   some_waits = c.self.invariant.some_waits;
-  none_below = λ b lt. absurd (omega (arith, lt));
   more = go c.self.inside.run c.if-finished.ensures;
 }
   where

@@ -22,7 +22,6 @@ invariant_of-self c =
     record {
       waiting = kept_waiting c.group_step.new.self c.self.inside.run c.remove.new.self grouping.0 grouping.1 (still_waiting v.edges c.in-Some.zone c.group_step.new.self c.args.run.zones c.self.inside.ungrouped c.remove.new.self steps waiting c.remove.ensures);
       some_waits = some_wait c.self.inside.run c.remove.new.self c.in-Some-first.field-0 c.in-Some-first.ensures.some;
-      none_below = c.self.invariant.none_below;
       more = c.self.invariant.more;
     }
 

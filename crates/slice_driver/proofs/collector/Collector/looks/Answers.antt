@@ -30,7 +30,6 @@ pub invariant_of-self : goal.invariant_of-self
 invariant_of-self g c = record {
   waiting = waiting_same c.self.inside.edges c.edge_unit.new.self c.self.inside.run c.self.inside.ungrouped c.edge_unit.ensures.stepped c.self.invariant.waiting;
   some_waits = c.self.invariant.some_waits;
-  none_below = c.self.invariant.none_below;
   more = c.self.invariant.more;
 }
 

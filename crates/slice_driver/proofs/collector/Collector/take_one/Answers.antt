@@ -1,4 +1,4 @@
-use Rattle.std.proofs.Common.{◌≡◌, ◌<◌, ℕ, Bool, Option, None, Some, false, List, IsSome, IsSomeAnd, IsPermutation, if◌then◌else◌, sym, ap, subst, ◌∙◌, arith, slice_get}
+use Rattle.std.proofs.Common.{◌≡◌, ◌<◌, Bool, Option, None, Some, false, List, IsSome, IsSomeAnd, IsPermutation, if◌then◌else◌, sym, ap, subst, ◌∙◌, arith, slice_get}
 use Rattle.std.proofs.lemmas.Nat.{or_lt}
 use Rattle.gz_names.specs.declared.names.Name.{Name}
 use Rattle.gz_names.specs.declared.replies.Report.{Report}
@@ -19,24 +19,16 @@ use Rattle.slice_driver.proofs.SoundAfter.{unit_sound}
 use Rattle.slice_driver.proofs.TakingIn.{takes_unit}
 use Rattle.slice_driver.specs.Left.{units_left}
 use Rattle.slice_driver.proofs.FewerTaken.{taking_lowers}
-use Rattle.slice_driver.proofs.Kept.{more_left, none_below_taken, out_rest, words_both, words_rest, words_taken}
+use Rattle.slice_driver.proofs.Kept.{more_left, words_both, words_rest, words_taken}
 use Rattle.slice_driver.proofs.collector.Collector.take_one.Goals as goal
 use Rattle.slice_driver.proofs.collector.Collector.take_one.Goals.{then-finished, else-finished}
-
-pub end_sweeping-finished-requires : goal.end_sweeping-finished-requires
-end_sweeping-finished-requires c =
-    let low = subst (λ (v : CollectorState). (b : ℕ) → b < c.args.arena → out_of v.heap.shape b ≡ None) (sym c.self.view_is) c.requires.lowest.lowest in
-    record { none_below = subst (λ (h : HeapState). (b : ℕ) → b < c.args.arena → out_of h.shape b ≡ None) (sym c.take_in-names.ensures.state) (none_below_taken c.self.inside.heap c.args.arena c.args.taken.freed c.args.taken.bits low) }
 
 pub invariant_of-self-else-finished : goal.invariant_of-self-else-finished
 invariant_of-self-else-finished c =
     let ends : EndsSweeping c.take_in-names.new.self c.self.inside.order false c.end_sweeping-finished.new.heap = c.if-finished.ensures in
-    let low = subst (λ (v : CollectorState). (b : ℕ) → b < c.args.arena → out_of v.heap.shape b ≡ None) (sym c.self.view_is) c.requires.lowest.lowest in
-    let low_now = subst (λ (h : HeapState). (b : ℕ) → b < c.args.arena → out_of h.shape b ≡ None) (sym c.take_in-names.ensures.state) (none_below_taken c.self.inside.heap c.args.arena c.args.taken.freed c.args.taken.bits low) in
     record {
       waiting = c.self.invariant.waiting;
       some_waits = c.self.invariant.some_waits;
-      none_below = λ b lt. out_rest c.take_in-names.new.self c.end_sweeping-finished.new.heap ends.rest b ∙ low_now b lt;
       more = go c.self.inside.run ends;
     }
   where

@@ -2,7 +2,7 @@ use Rattle.std.proofs.Common.{◌≡◌, ◌++◌}
 use Rattle.heap_core.specs.Heap.{joined}
 use Rattle.barriers.specs.Spreading.{Covers}
 use Rattle.slice_driver.specs.Grays.{grays_below}
-use Rattle.slice_driver.proofs.colours.push_gray.Given as goal
+use Rattle.slice_driver.proofs.colours.push_flown_gray.Given as goal
 
 abbrev pub invariant-loop-slot : goal.invariant-loop-slot
 invariant-loop-slot g l = record {
