@@ -10,7 +10,7 @@ to run, whatever else the machine does. A program that takes longer than --limit
 number.
 
 With --time: wall time, processor time and greatest memory of both programs at scale 1, and the ratios. The programs
-take turns, and of three runs the quickest counts. Memory below that of Python itself, some 10 MB, cannot be told. Say
+take turns, and of three runs the quickest counts. Memory below that of this script, up to 25 MB, cannot be told. Say
 nothing of times but what one run on one machine shows.
 
 Both programs must write the same bytes, but for the number of a `slice`; where commands come between slices, the same
