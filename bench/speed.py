@@ -6,8 +6,8 @@
 
 For each family of traces (bench/families.py) and each scale (0.02 and 0.32): the lines, the instructions a line of
 both programs as valgrind counts them (less those of a run on one line), and their ratio. These are the same from run
-to run, whatever else the machine does. A program that takes longer than --limit seconds under valgrind (300) gets no
-number.
+to run, whatever else the machine does. Where a program takes longer than --limit seconds under valgrind (300) there are
+no numbers, and the outputs are not compared.
 
 With --time: wall time, processor time and greatest memory of both programs at scale 1, and the ratios. The programs
 take turns, and of three runs the quickest counts. Memory below that of this script, up to 25 MB, cannot be told. Say
