@@ -84,3 +84,5 @@ pub mod FewUnits
 pub mod SetBits
 pub mod PresentCells
 pub mod QuietUnits
+pub mod TakingDue
+pub mod UnitSteps

@@ -18,5 +18,6 @@ pub mod Rooms
 pub mod Grays
 pub mod HandingOut
 pub mod Working
+pub mod Advances
 pub mod Serves
 pub mod Present

@@ -16,6 +16,7 @@ use Rattle.colour_defs.specs.Lawful.{Begins, IsLawfulUnit}
 use Rattle.colour_defs.specs.Laws.{IsValid}
 use Rattle.cell_bits.specs.Colours.{white_mask_of}
 use Rattle.arena_table.specs.Slots.{alloc_word_of}
+use Rattle.sweeping.specs.ArenasOut as arenas
 use Rattle.heap_core.specs.Shape.{ArenaShape, Shape, out_of}
 use Rattle.heap_core.specs.Heap.{HeapState}
 use Rattle.heap_core.specs.Sweeping.{jobs_of}
@@ -30,8 +31,7 @@ none_flown a = None
 
 -- the bits of jobs, by arena
 abbrev pub flown_by : List Job → ℕ → Option Bits
-flown_by [] a = None
-flown_by (job ∷ jobs) a = if job.arena == a then Some job.bits else flown_by jobs a
+flown_by = arenas.flown_by
 
 -- all but one arena are in flight on
 abbrev pub without_arena : (ℕ → Option Bits) → ℕ → ℕ → Option Bits
@@ -72,8 +72,7 @@ DoesUnit old flown reports new flying = (w : World) → IsValid w → Represents
 
 -- what is in flight after a unit: the arenas that it handed to sweeping, or what was
 abbrev pub flying_after : Option (List Job) → (ℕ → Option Bits) → ℕ → Option Bits
-flying_after None flown = flown
-flying_after (Some jobs) flown = flown_by jobs
+flying_after = arenas.flying_after
 
 -- the lowest arena that is handed to sweeping
 pub record IsLowestOut (s : Shape) (a : ℕ) : Type 0 where

@@ -48,6 +48,7 @@
 // (`units_law`), so a collection comes to its end.
 #![tactic(auto)]
 
+mod advance;
 mod begin;
 mod bounds;
 mod collector;
@@ -67,6 +68,7 @@ mod tests;
 mod units;
 mod zone_states;
 
+pub use advance::Step;
 pub use begin::BeginFault;
 pub use collector::{Collector, Run, Unit};
 pub use laws::zones_made_law;

@@ -1,7 +1,6 @@
-pub mod Jobs
+pub mod ArenasOut
 pub mod Flights
 pub mod Written
-pub mod Due
 pub mod Units
 pub mod Spelled
 pub mod Answered

@@ -1,5 +1,5 @@
 -- Runs that are one answer longer, and members of lists.
-use Rattle.std.proofs.Common.{◌≡◌, ◌⊎◌, ℕ, zero, suc, List, [], ◌∷◌, ◌++◌, Contains, inl, inr, refl, subst, arith}
+use Rattle.std.proofs.Common.{◌≡◌, List, [], ◌∷◌, ◌++◌, Contains, refl, subst, arith}
 use Rattle.gz_names.specs.declared.commands.Cmd.{Cmd}
 use Rattle.gz_names.specs.declared.replies.Reply.{Reply}
 use Rattle.gz_names.specs.declared.replies.Report.{Report}
@@ -17,13 +17,3 @@ run_more w (d ∷ cs) [] u c reports answer v run one = absurd run
 
 pub none_in_none : {X : Type 0} (x : X) → Contains [] x → ⊥
 none_in_none x (k, below, is) = omega (arith, below)
-
-pub first_member : {X : Type 0} (x : X) (xs : List X) → Contains (x ∷ xs) x
-first_member x xs = (0, omega arith, refl)
-
-pub later_member : {X : Type 0} (y : X) (xs : List X) (x : X) → Contains xs x → Contains (y ∷ xs) x
-later_member y xs x (k, below, is) = (suc k, omega (arith, below), is)
-
-pub member_cases : {X : Type 0} (y : X) (xs : List X) (x : X) → Contains (y ∷ xs) x → (y ≡ x) ⊎ Contains xs x
-member_cases y xs x (zero, below, is) = inl is
-member_cases y xs x (suc k, below, is) = inr (k, omega (arith, below), is)

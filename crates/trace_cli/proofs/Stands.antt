@@ -17,9 +17,11 @@ use Rattle.colour_defs.specs.World.{World, first_world}
 use Rattle.colour_defs.specs.Lawful.{Answers}
 use Rattle.trace_cli.proofs.Runs.{run_more}
 use Rattle.colour_defs.specs.Laws.{IsValid}
+use Rattle.sweeping.specs.ArenasOut.{outs_of}
+use Rattle.slice_driver.specs.Advances.{AreOut}
 use Rattle.slice_driver.specs.Collector.{CollectorState}
 use Rattle.slice_driver.specs.Represents.{Represents}
-use Rattle.slice_driver.specs.Units.{AreJobsOf, IsSound, flown_by, none_flown}
+use Rattle.slice_driver.specs.Units.{IsSound, flown_by, none_flown}
 use Rattle.trace_cli.specs.Standing.{AnswersLine, IsFirst, IsLeft, IsReady, IsWithin, answers, first, ready}
 use Rattle.trace_cli.specs.Standing as facts
 use Rattle.trace_cli.specs.Lines.{lines_of, line_feeds}
@@ -51,7 +53,7 @@ Stands (Some input) (Some rest) old new n w = Reached input rest old new n w
 pub record StandsIn (left rest old new : Option (List ℕ)) (n : ℕ) (c : CollectorState) (jobs : List Job) : Type 0 where
   pub world : World
   pub represents : Represents c (flown_by jobs) world
-  pub fit : AreJobsOf c.heap.shape jobs
+  pub fit : AreOut c.heap.shape (outs_of jobs)
   pub valid : IsValid world
   pub stands : Stands left rest old new n world
   pub within : IsWithin c n
@@ -67,7 +69,7 @@ opened_first (first valid represents within) = record { valid = valid; represent
 
 pub record Ready (c : CollectorState) (jobs : List Job) (n : ℕ) : Type 0 where
   pub sound : IsSound c (flown_by jobs)
-  pub fit : AreJobsOf c.heap.shape jobs
+  pub fit : AreOut c.heap.shape (outs_of jobs)
   pub within : IsWithin c n
   pub below : n < 4294967295
 
@@ -76,7 +78,7 @@ opened_ready (ready sound fit within below) = record { sound = sound; fit = fit;
 
 pub record Left (c : CollectorState) (jobs : List Job) : Type 0 where
   pub sound : IsSound c (flown_by jobs)
-  pub fit : AreJobsOf c.heap.shape jobs
+  pub fit : AreOut c.heap.shape (outs_of jobs)
 
 pub opened_left : {c : CollectorState} {jobs : List Job} → IsLeft c jobs → Left c jobs
 opened_left (facts.left sound fit) = record { sound = sound; fit = fit }
@@ -86,7 +88,7 @@ pub record Answered (line : List ℕ) (old : CollectorState) (jobs : List Job) (
   pub command : Cmd
   pub stands : StandsFor line command
   pub writes : (w : World) → IsValid w → Represents old (flown_by jobs) w → WritesAnswer w command new left p q
-  pub fit : AreJobsOf new.heap.shape left
+  pub fit : AreOut new.heap.shape (outs_of left)
   pub within : IsWithin new (n + 1)
 
 pub opened_answer : {line : List ℕ} {old new : CollectorState} {jobs left : List Job} {n : ℕ} {p q : Option (List ℕ)}

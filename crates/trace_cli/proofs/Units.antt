@@ -1,5 +1,5 @@
 -- Units one after another, with what is written of them.
-use Rattle.std.proofs.Common.{◌≡◌, ◌↔◌, ◌+◌, arith, length, ℕ, Bool, true, false, List, [], ◌∷◌, ◌++◌, Option, Some, None, IsSome, refl, ap, sym, ◌∙◌, subst}
+use Rattle.std.proofs.Common.{◌≡◌, ◌↔◌, ◌+◌, arith, length, ℕ, Bool, true, false, not, if◌then◌else◌, List, [], ◌∷◌, ◌++◌, Option, Some, None, IsSome, refl, ap, sym, ◌∙◌, subst}
 use Rattle.std.specs.Prelude.{IsTrue}
 use Rattle.std.specs.Io.KnownBytes.{Appends}
 use Rattle.std.proofs.KnownBytes.{Appends-trans, Appends-nil}
@@ -12,9 +12,12 @@ use Rattle.trace_lang.specs.Texts.{reply_text, line_of}
 use Rattle.cell_bits.specs.declared.bits.Bits.{Bits}
 use Rattle.colour_defs.specs.World.{World}
 use Rattle.colour_defs.specs.Laws.{IsValid}
-use Rattle.colour_defs.specs.Lawful.{AreLawfulUnits, IsLawfulUnit}
+use Rattle.colour_defs.specs.Lawful.{AreLawfulUnits}
 use Rattle.slice_driver.specs.Collector.{CollectorState, RunState}
+use Rattle.slice_driver.specs.Advances.{Advances, told}
 use Rattle.slice_driver.specs.Represents.{Represents}
+use Rattle.slice_driver.specs.Units.{reports_of}
+use Rattle.slice_driver.specs.declared.advance.Step.{Step}
 use Rattle.trace_cli.specs.Headline.{report_lines}
 use Rattle.trace_cli.specs.Writing.{reports_in, BreaksInReply, BreaksInUnits, StopsInUnits, WritesCollection, WritesUnits}
 use Rattle.trace_cli.proofs.Flights.{idle_world}
@@ -27,32 +30,50 @@ units_append w u v (x ∷ xs) ys k h = (k.0, k.1, units_append k.0 u v xs ys k.2
 lines_append : (xs ys : List (List Report)) → report_lines (reports_in (xs ++ ys)) ≡ report_lines (reports_in xs) ++ report_lines (reports_in ys)
 lines_append xs ys = ap report_lines (flat_map-append (λ (u : List Report). u) xs ys) ∙ report_lines-append (reports_in xs) (reports_in ys)
 
--- one unit by itself
-one_flat : (reports : List Report) → reports_in (reports ∷ []) ≡ reports
-one_flat reports = append-nil reports
+-- the units of a step, with what is written of them
+module _ (limit : ℕ) (c d : CollectorState) (f g : ℕ → Option Bits) (outs : List (ℕ × ℕ)) (before place : Option Report)
+    (step : Step) (a : Advances limit c f before step d g outs place) (w : World) (ok : IsValid w)
+    (stands : Represents c f w) (p q : Option (List ℕ)) where
+  pub step_writes : Appends p q (report_lines (told step place)) → WritesUnits w d g step.units p q
+  step_writes written =
+      let u = a.done w ok stands in record {
+        units = u.units;
+        number = u.number;
+        after = u.after;
+        done = u.done;
+        valid = u.valid;
+        represents = u.represents;
+        written = subst (λ (rs : List Report). Appends p q (report_lines rs)) (sym u.reports_are) written;
+      }
 
-pub one_unit : (w v : World) (c : CollectorState) (flown : ℕ → Option Bits) (reports : List Report)
-    (p q : Option (List ℕ)) → IsLawfulUnit w reports v → IsValid v → Represents c flown v → Appends p q
-    (report_lines reports) → WritesUnits w c flown 1 p q
-one_unit w v c flown reports p q lawful ok stands written = record {
-  units = reports ∷ [];
-  number = refl;
-  after = v;
-  done = (v, lawful, refl);
-  valid = ok;
-  represents = stands;
-  written = subst (λ (rs : List Report). Appends p q (report_lines rs)) (sym (one_flat reports)) written;
-}
+  pub step_breaks : AppendsFront p q (report_lines (told step place)) → BreaksInUnits w limit p q
+  step_breaks written =
+      let u = a.done w ok stands in record {
+        units = u.units;
+        most = omega (arith, u.number, a.most);
+        after = u.after;
+        done = u.done;
+        written = subst (λ (rs : List Report). AppendsFront p q (report_lines rs)) (sym u.reports_are) written;
+      }
 
-pub one_breaks : (w v : World) (reports : List Report) (p q : Option (List ℕ)) → IsLawfulUnit w reports v
-    → AppendsFront p q (report_lines reports) → BreaksInUnits w 1 p q
-one_breaks w v reports p q lawful written = record {
-  units = reports ∷ [];
-  most = omega arith;
-  after = v;
-  done = (v, lawful, refl);
-  written = subst (λ (rs : List Report). AppendsFront p q (report_lines rs)) (sym (one_flat reports)) written;
-}
+-- what a step tells, by the test whether it tells nothing
+told_by : (b : Bool) (reports : List Report) → not b ≡ true → (if b then reports else []) ≡ []
+told_by true reports e = absurd (cc e)
+told_by false reports e = refl
+
+all_by : (b : Bool) (reports : List Report) → not b ≡ false → (if b then reports else []) ≡ reports
+all_by true reports e = refl
+all_by false reports e = absurd (cc e)
+
+pub told_some : (step : Step) (place : Option Report) → not step.reported ≡ false
+    → told step place ≡ reports_of place step.finished
+told_some step place e = all_by step.reported (reports_of place step.finished) e
+
+-- a step that tells nothing writes nothing
+pub silent_written : (step : Step) (place : Option Report) (p : Option (List ℕ)) → not step.reported ≡ true
+    → Appends p p (report_lines (told step place))
+silent_written step place p e = subst (λ (rs : List Report). Appends p p (report_lines rs))
+    (sym (told_by step.reported (reports_of place step.finished) e)) (Appends-nil p)
 
 -- none yet
 pub no_units : (w : World) (c : CollectorState) (flown : ℕ → Option Bits) (p : Option (List ℕ)) → IsValid w

@@ -1,4 +1,3 @@
-pub mod Handed
 pub mod Served
 pub mod Lines
 pub mod CommandLine

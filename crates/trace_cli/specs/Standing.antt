@@ -4,9 +4,11 @@ use Rattle.gz_names.specs.declared.commands.Cmd.{Cmd}
 use Rattle.cell_bits.specs.declared.jobs.Job.{Job}
 use Rattle.colour_defs.specs.Laws.{IsValid}
 use Rattle.colour_defs.specs.World.{World, first_world}
+use Rattle.sweeping.specs.ArenasOut.{outs_of}
+use Rattle.slice_driver.specs.Advances.{AreOut}
 use Rattle.slice_driver.specs.Collector.{CollectorState}
 use Rattle.slice_driver.specs.Represents.{Represents}
-use Rattle.slice_driver.specs.Units.{AreJobsOf, IsSound, flown_by, none_flown}
+use Rattle.slice_driver.specs.Units.{IsSound, flown_by, none_flown}
 use Rattle.trace_cli.specs.Headline.{WritesAnswer}
 use Rattle.trace_cli.specs.Served.{StandsFor}
 
@@ -21,15 +23,15 @@ pub data IsFirst (c : CollectorState) : Type 0 where
 
 -- a collector that stands for some world, with the arenas of these jobs in flight, after so many lines
 pub data IsReady (c : CollectorState) (jobs : List Job) (n : ℕ) : Type 0 where
-  ready : IsSound c (flown_by jobs) → AreJobsOf c.heap.shape jobs → IsWithin c n → n < 4294967295 → IsReady c jobs n
+  ready : IsSound c (flown_by jobs) → AreOut c.heap.shape (outs_of jobs) → IsWithin c n → n < 4294967295 → IsReady c jobs n
 
 -- a collector that stands for some world, with the arenas of these jobs in flight
 pub data IsLeft (c : CollectorState) (jobs : List Job) : Type 0 where
-  left : IsSound c (flown_by jobs) → AreJobsOf c.heap.shape jobs → IsLeft c jobs
+  left : IsSound c (flown_by jobs) → AreOut c.heap.shape (outs_of jobs) → IsLeft c jobs
 
 -- a line stands for a command, which was answered whole in each world that the collector stood for
 pub data AnswersLine (line : List ℕ) (old : CollectorState) (jobs : List Job) (n : ℕ) (new : CollectorState)
     (left : List Job) (p q : Option (List ℕ)) : Type 0 where
   answers : (c : Cmd) → StandsFor line c →
       ((w : World) → IsValid w → Represents old (flown_by jobs) w → WritesAnswer w c new left p q)
-      → AreJobsOf new.heap.shape left → IsWithin new (n + 1) → AnswersLine line old jobs n new left p q
+      → AreOut new.heap.shape (outs_of left) → IsWithin new (n + 1) → AnswersLine line old jobs n new left p q

@@ -9,13 +9,14 @@ ghost use Rattle.colour_defs.specs.World.{World};
 ghost use Rattle.colour_defs.specs.Laws.{IsValid};
 ghost use Rattle.colour_defs.specs.Step.{HasFewFields};
 ghost use Rattle.heap_core.specs.Effects.{takes_memory};
+ghost use Rattle.sweeping.specs.ArenasOut.{outs_of};
+ghost use Rattle.slice_driver.specs.Advances.{AreOut};
 ghost use Rattle.slice_driver.specs.Represents.{Represents};
-ghost use Rattle.slice_driver.specs.Units.{AreJobsOf, IsSound, flown_by};
+ghost use Rattle.slice_driver.specs.Units.{IsSound, flown_by};
 ghost use Rattle.trace_cli.specs.Served.{FitsLanguage, IsBad, StandsFor};
 ghost use Rattle.trace_cli.specs.Headline.{WritesAnswer, WritesFront, WritesStart};
 
 use crate::collect::collect;
-use crate::handed::Handed;
 use crate::slices::{finish, gc, slice};
 use gz_io::Sink;
 use gz_names::{Cmd, CmdFault, GraphCmd, Refusal, Reply};
@@ -23,6 +24,7 @@ use heap_core::Steps;
 use slice_driver::Collector;
 use std::alloc::Global;
 use std::sync::ledger::Ledger;
+use sweeping::MainSweeper;
 use trace_lang::{parse, write_reply, zones_law};
 
 /// Why a line was not answered whole.
@@ -54,20 +56,20 @@ pub fn write_last<K: Sink>(sink: &mut K, reply: &Reply) -> Result<(), AnswerFaul
 // Does a command on the graph, and writes the reply.
 fn answer_command<K: Sink, L: Ledger>(
     collector: &mut Collector,
-    handed: &mut Handed,
+    handed: &mut MainSweeper,
     command: &GraphCmd,
     sink: &mut K,
     steps: &mut Steps<L>,
 ) -> Result<(), AnswerFault>
     requires sound { IsSound collector.old (flown_by handed.old) }
-    requires jobs { AreJobsOf collector.old.heap.shape handed.old }
+    requires jobs { AreOut collector.old.heap.shape (outs_of handed.old) }
     requires made { collector.old.heap.made < 4294967295 }
     requires entries { length collector.old.heap.shape.weak.entries < 4294967295 }
     requires fields { HasFewFields command.now }
     ensures ok { OnOk result ((w : World) → IsValid w → Represents collector.old (flown_by handed.old) w
         → WritesAnswer w (ACmd.Graph command.now) collector.new handed.new (K.written sink.old) (K.written sink.new)) }
     ensures sound { IsSound collector.new (flown_by handed.new) }
-    ensures jobs { AreJobsOf collector.new.heap.shape handed.new }
+    ensures jobs { AreOut collector.new.heap.shape (outs_of handed.new) }
     ensures made { collector.new.heap.made ≤ collector.old.heap.made + 1 }
     ensures entries { length collector.new.heap.shape.weak.entries
         ≤ length collector.old.heap.shape.weak.entries + 1 }
@@ -92,15 +94,15 @@ fn answer_command<K: Sink, L: Ledger>(
 fn answer_colours<K: Sink>(
     alloc: Global,
     collector: &Collector,
-    handed: &mut Handed,
+    handed: &mut MainSweeper,
     sink: &mut K,
 ) -> Result<(), AnswerFault>
     requires sound { IsSound collector.now (flown_by handed.old) }
-    requires jobs { AreJobsOf collector.now.heap.shape handed.old }
+    requires jobs { AreOut collector.now.heap.shape (outs_of handed.old) }
     ensures ok { OnOk result ((w : World) → IsValid w → Represents collector.now (flown_by handed.old) w
         → WritesAnswer w ACmd.Colours collector.now handed.new (K.written sink.old) (K.written sink.new)) }
     ensures sound { IsSound collector.now (flown_by handed.new) }
-    ensures jobs { AreJobsOf collector.now.heap.shape handed.new }
+    ensures jobs { AreOut collector.now.heap.shape (outs_of handed.new) }
     ensures memory { result ≡ Err AnswerFault.Memory → (w : World) → IsValid w → Represents collector.now (flown_by handed.old) w
         → WritesStart w ACmd.Colours (K.written sink.old) (K.written sink.new) }
     ensures write { result ≡ Err AnswerFault.Write → (w : World) → IsValid w → Represents collector.now (flown_by handed.old) w
@@ -123,20 +125,20 @@ fn answer_colours<K: Sink>(
 fn answer_parsed<K: Sink, L: Ledger>(
     alloc: Global,
     collector: &mut Collector,
-    handed: &mut Handed,
+    handed: &mut MainSweeper,
     cmd: &Cmd,
     sink: &mut K,
     steps: &mut Steps<L>,
 ) -> Result<(), AnswerFault>
     requires sound { IsSound collector.old (flown_by handed.old) }
-    requires jobs { AreJobsOf collector.old.heap.shape handed.old }
+    requires jobs { AreOut collector.old.heap.shape (outs_of handed.old) }
     requires made { collector.old.heap.made < 4294967295 }
     requires entries { length collector.old.heap.shape.weak.entries < 4294967295 }
     requires fits { FitsLanguage cmd.now }
     ensures ok { OnOk result ((w : World) → IsValid w → Represents collector.old (flown_by handed.old) w
         → WritesAnswer w cmd.now collector.new handed.new (K.written sink.old) (K.written sink.new)) }
     ensures sound { IsSound collector.new (flown_by handed.new) }
-    ensures jobs { AreJobsOf collector.new.heap.shape handed.new }
+    ensures jobs { AreOut collector.new.heap.shape (outs_of handed.new) }
     ensures made { collector.new.heap.made ≤ collector.old.heap.made + 1 }
     ensures entries { length collector.new.heap.shape.weak.entries
         ≤ length collector.old.heap.shape.weak.entries + 1 }
@@ -163,19 +165,19 @@ fn answer_parsed<K: Sink, L: Ledger>(
 pub fn answer_line<K: Sink, L: Ledger>(
     alloc: Global,
     collector: &mut Collector,
-    handed: &mut Handed,
+    handed: &mut MainSweeper,
     line: &[u8],
     sink: &mut K,
     steps: &mut Steps<L>,
 ) -> Result<(), AnswerFault>
     requires sound { IsSound collector.old (flown_by handed.old) }
-    requires jobs { AreJobsOf collector.old.heap.shape handed.old }
+    requires jobs { AreOut collector.old.heap.shape (outs_of handed.old) }
     requires made { collector.old.heap.made < 4294967295 }
     requires entries { length collector.old.heap.shape.weak.entries < 4294967295 }
     ensures ok { OnOk result ((c : TheCmd) × StandsFor line.now c × ((w : World) → IsValid w → Represents collector.old (flown_by handed.old) w
         → WritesAnswer w c collector.new handed.new (K.written sink.old) (K.written sink.new))) }
     ensures sound { IsSound collector.new (flown_by handed.new) }
-    ensures jobs { AreJobsOf collector.new.heap.shape handed.new }
+    ensures jobs { AreOut collector.new.heap.shape (outs_of handed.new) }
     ensures made { collector.new.heap.made ≤ collector.old.heap.made + 1 }
     ensures entries { length collector.new.heap.shape.weak.entries
         ≤ length collector.old.heap.shape.weak.entries + 1 }

@@ -1,5 +1,5 @@
-// A collection by units, each report written as it comes.
-ghost use Rattle.std.specs.Prelude.{◌≡◌, ◌≢◌, ◌⊎◌, ◌≤◌, ◌<◌, [], ℕ, None, length, OnOk, OnErr, IfOk, IsSome};
+// A collection by steps, each report written as it comes.
+ghost use Rattle.std.specs.Prelude.{◌≡◌, ◌≢◌, ◌⊎◌, ◌≤◌, ◌<◌, ◌+◌, [], ℕ, None, length, OnOk, OnErr, IfOk, IsSome};
 ghost use Rattle.std.specs.Io.KnownBytes.{Appends};
 ghost use Rattle.gz_io.specs.Causes.{HasCause, AppendsFront, Rose};
 ghost use Rattle.gz_names.specs.Zones.{HasZone};
@@ -7,87 +7,33 @@ ghost use Rattle.gz_names.specs.declared.commands.Cmd.TheVariants as ACmd;
 ghost use Rattle.colour_defs.specs.World.{World};
 ghost use Rattle.colour_defs.specs.Laws.{IsValid};
 ghost use Rattle.heap_core.specs.Shape.{out_of};
+ghost use Rattle.sweeping.specs.ArenasOut.{outs_of};
+ghost use Rattle.slice_driver.specs.Advances.{AreOut};
 ghost use Rattle.slice_driver.specs.Represents.{Represents};
-ghost use Rattle.slice_driver.specs.Units.{AreJobsOf, DoesUnit, IsLowestOut, IsSound, flown_by, reports_of};
+ghost use Rattle.slice_driver.specs.Units.{IsSound, flown_by, reports_of};
 ghost use Rattle.slice_driver.specs.Left.{units_left};
 ghost use Rattle.trace_cli.specs.Headline.{report_lines, WritesAnswer, WritesFront, WritesStart};
 ghost use Rattle.trace_cli.specs.Standing.{IsLeft};
 ghost use Rattle.trace_cli.specs.Writing.{BreaksInReply, BreaksInUnits, StopsInUnits, WritesCollection, WritesUnits};
 
 use crate::answer::{AnswerFault, write_last};
-use crate::handed::Handed;
-use colour_defs::unit_law;
 use gz_io::{Sink, WriteFault};
-use gz_names::{NoMemory, Refusal, Reply, Report, ZoneSet};
+use gz_names::{Refusal, Reply, Report, ZoneSet};
 use heap_core::Steps;
-use slice_driver::{BeginFault, Collector, Unit, zones_made_law};
+use slice_driver::{BeginFault, Collector, zones_made_law};
 use std::alloc::Global;
 use std::sync::ledger::Ledger;
+use sweeping::MainSweeper;
 use trace_lang::write_report;
 
-// Sweeps the arena that is due, and takes it in.
-fn take_due(collector: &mut Collector, handed: &mut Handed, arena: u32) -> Unit
-    requires sound { IsSound collector.old (flown_by handed.old) }
-    requires running { IsSome collector.old.run }
-    requires jobs { AreJobsOf collector.old.heap.shape handed.old }
-    requires lowest { IsLowestOut collector.old.heap.shape arena }
-    ensures done { DoesUnit collector.old (flown_by handed.old)
-        (reports_of result.report result.finished) collector.new (flown_by handed.new) }
-    ensures left { units_left collector.new (flown_by handed.new)
-        < units_left collector.old (flown_by handed.old) }
-    ensures sound { IsSound collector.new (flown_by handed.new) }
-    ensures jobs { AreJobsOf collector.new.heap.shape handed.new }
-    ensures made { collector.new.heap.made ≡ collector.old.heap.made }
-    ensures weak { collector.new.heap.shape.weak ≡ collector.old.heap.shape.weak }
-{
-    let Some(taken) = handed.take() else {
-        unreachable!();
-    };
-    collector.take_one(taken, arena)
-}
-
 /// Takes in the arenas that are still handed to sweeping, and writes nothing.
-pub fn take_rest(collector: &mut Collector, handed: &mut Handed)
+pub fn take_rest(collector: &mut Collector, handed: &mut MainSweeper)
     requires { IsLeft collector.old handed.old }
     ensures { (a : ℕ) → out_of collector.new.heap.shape a ≡ None }
 {
     while let Some(arena) = collector.next_out() {
-        take_due(collector, handed, arena);
+        collector.take_due(handed, arena);
     }
-}
-
-// Does a unit: what it reports, and whether the collection is over. An arena that is due is taken in.
-fn do_unit<L: Ledger>(
-    alloc: Global,
-    collector: &mut Collector,
-    handed: &mut Handed,
-    steps: &mut Steps<L>,
-) -> Result<(Option<Report>, bool), NoMemory>
-    requires sound { IsSound collector.old (flown_by handed.old) }
-    requires running { IsSome collector.old.run }
-    requires jobs { AreJobsOf collector.old.heap.shape handed.old }
-    ensures done { IfOk result (λ did. DoesUnit collector.old (flown_by handed.old)
-        (reports_of did.0 did.1) collector.new (flown_by handed.new)) }
-    ensures left { OnOk result (units_left collector.new (flown_by handed.new)
-        < units_left collector.old (flown_by handed.old)) }
-    ensures sound { IsSound collector.new (flown_by handed.new) }
-    ensures jobs { AreJobsOf collector.new.heap.shape handed.new }
-    ensures made { collector.new.heap.made ≡ collector.old.heap.made }
-    ensures entries { length collector.new.heap.shape.weak.entries
-        ≤ length collector.old.heap.shape.weak.entries }
-{
-    let Unit {
-        report,
-        handed: jobs,
-        finished,
-        due,
-    } = collector.unit(alloc, handed, steps)?;
-    let Some(arena) = due else {
-        handed.hand(jobs);
-        return Ok((report, finished));
-    };
-    let unit = take_due(collector, handed, arena);
-    Ok((unit.report, unit.finished))
 }
 
 // Writes what a unit reports; the last one is followed by `done`.
@@ -112,59 +58,67 @@ fn write_reports<K: Sink>(
     Ok(())
 }
 
-/// Does a unit, and writes its reports.
-pub fn answer_unit<K: Sink, L: Ledger>(
+/// Does a step of the collection that runs, at most `limit` units, and writes what they report:
+/// returns how many it did. `report` is a place for a report, lent for as long as steps go on.
+pub fn answer_step<K: Sink, L: Ledger>(
     alloc: Global,
     collector: &mut Collector,
-    handed: &mut Handed,
+    handed: &mut MainSweeper,
+    limit: u64,
+    report: &mut Option<Report>,
     sink: &mut K,
     steps: &mut Steps<L>,
-) -> Result<(), AnswerFault>
+) -> Result<u64, AnswerFault>
     requires sound { IsSound collector.old (flown_by handed.old) }
     requires running { IsSome collector.old.run }
-    requires jobs { AreJobsOf collector.old.heap.shape handed.old }
-    ensures ok { OnOk result ((w : World) → IsValid w → Represents collector.old (flown_by handed.old) w
-        → WritesUnits w collector.new (flown_by handed.new) 1 (K.written sink.old) (K.written sink.new)) }
-    ensures left { OnOk result (units_left collector.new (flown_by handed.new)
-        < units_left collector.old (flown_by handed.old)) }
+    requires jobs { AreOut collector.old.heap.shape (outs_of handed.old) }
+    requires some { 0 < limit }
+    ensures ok { IfOk result (λ done. (w : World) → IsValid w → Represents collector.old (flown_by handed.old) w
+        → WritesUnits w collector.new (flown_by handed.new) done (K.written sink.old) (K.written sink.new)) }
+    ensures some { IfOk result (λ done. 0 < done) }
+    ensures most { IfOk result (λ done. done ≤ limit) }
+    ensures left { IfOk result (λ done. units_left collector.new (flown_by handed.new) + done
+        ≤ units_left collector.old (flown_by handed.old)) }
     ensures sound { IsSound collector.new (flown_by handed.new) }
-    ensures jobs { AreJobsOf collector.new.heap.shape handed.new }
+    ensures jobs { AreOut collector.new.heap.shape (outs_of handed.new) }
     ensures made { collector.new.heap.made ≡ collector.old.heap.made }
     ensures entries { length collector.new.heap.shape.weak.entries
         ≤ length collector.old.heap.shape.weak.entries }
     ensures memory { result ≡ Err AnswerFault.Memory → Appends (K.written sink.old) (K.written sink.new) [] }
     ensures write { result ≡ Err AnswerFault.Write → (w : World) → IsValid w → Represents collector.old (flown_by handed.old) w
-        → BreaksInUnits w 1 (K.written sink.old) (K.written sink.new) }
+        → BreaksInUnits w limit (K.written sink.old) (K.written sink.new) }
     ensures good { result ≢ Err AnswerFault.Bad }
     ensures later { K.faults sink.old ≤ K.faults sink.new }
     ensures same { OnOk result (K.faults sink.new ≡ K.faults sink.old) }
     ensures cause { result ≡ Err AnswerFault.Write → Rose (K.faults sink.old) (K.faults sink.new) }
 {
-    unit_law();
-    let Ok((report, finished)) = do_unit(alloc, collector, handed, steps) else {
+    let Ok(step) = collector.advance_over(alloc, limit, handed, report, steps) else {
         return Err(AnswerFault::Memory);
     };
-    match write_reports(sink, &report, finished) {
-        Ok(()) => Ok(()),
+    if !step.reported {
+        return Ok(step.units);
+    }
+    match write_reports(sink, report, step.finished) {
+        Ok(()) => Ok(step.units),
         Err(_) => Err(AnswerFault::Write),
     }
 }
 
-// Does unit after unit until the collection that runs is over, and writes their reports and the
+// Does step after step until the collection that runs is over, and writes their reports and the
 // reply.
 fn answer_collection<K: Sink, L: Ledger>(
     alloc: Global,
     collector: &mut Collector,
-    handed: &mut Handed,
+    handed: &mut MainSweeper,
     sink: &mut K,
     steps: &mut Steps<L>,
 ) -> Result<(), AnswerFault>
     requires sound { IsSound collector.old (flown_by handed.old) }
-    requires jobs { AreJobsOf collector.old.heap.shape handed.old }
+    requires jobs { AreOut collector.old.heap.shape (outs_of handed.old) }
     ensures ok { OnOk result ((w : World) → IsValid w → Represents collector.old (flown_by handed.old) w
         → WritesCollection w collector.new (flown_by handed.new) (K.written sink.old) (K.written sink.new)) }
     ensures sound { IsSound collector.new (flown_by handed.new) }
-    ensures jobs { AreJobsOf collector.new.heap.shape handed.new }
+    ensures jobs { AreOut collector.new.heap.shape (outs_of handed.new) }
     ensures made { collector.new.heap.made ≡ collector.old.heap.made }
     ensures entries { length collector.new.heap.shape.weak.entries
         ≤ length collector.old.heap.shape.weak.entries }
@@ -177,9 +131,11 @@ fn answer_collection<K: Sink, L: Ledger>(
     ensures same { OnOk result (K.faults sink.new ≡ K.faults sink.old) }
     ensures cause { result ≡ Err AnswerFault.Write → Rose (K.faults sink.old) (K.faults sink.new) }
 {
+    let mut report = None;
     while collector.running() {
-        if let Err(fault) = answer_unit(alloc, collector, handed, sink, steps) {
-            return Err(fault);
+        match answer_step(alloc, collector, handed, u64::MAX, &mut report, sink, steps) {
+            Ok(_) => {}
+            Err(fault) => return Err(fault),
         }
     }
     write_last(sink, &Reply::Collected)
@@ -189,18 +145,18 @@ fn answer_collection<K: Sink, L: Ledger>(
 pub fn collect<K: Sink, L: Ledger>(
     alloc: Global,
     collector: &mut Collector,
-    handed: &mut Handed,
+    handed: &mut MainSweeper,
     zones: ZoneSet,
     sink: &mut K,
     steps: &mut Steps<L>,
 ) -> Result<(), AnswerFault>
     requires sound { IsSound collector.old (flown_by handed.old) }
-    requires jobs { AreJobsOf collector.old.heap.shape handed.old }
+    requires jobs { AreOut collector.old.heap.shape (outs_of handed.old) }
     requires some { (z : ℕ) × HasZone zones.bits z }
     ensures ok { OnOk result ((w : World) → IsValid w → Represents collector.old (flown_by handed.old) w
         → WritesAnswer w (ACmd.Collect zones) collector.new handed.new (K.written sink.old) (K.written sink.new)) }
     ensures sound { IsSound collector.new (flown_by handed.new) }
-    ensures jobs { AreJobsOf collector.new.heap.shape handed.new }
+    ensures jobs { AreOut collector.new.heap.shape (outs_of handed.new) }
     ensures made { collector.new.heap.made ≡ collector.old.heap.made }
     ensures entries { length collector.new.heap.shape.weak.entries
         ≤ length collector.old.heap.shape.weak.entries }

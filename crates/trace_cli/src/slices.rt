@@ -6,37 +6,39 @@ ghost use Rattle.gz_names.specs.Zones.{HasZone};
 ghost use Rattle.gz_names.specs.declared.commands.Cmd.TheVariants as ACmd;
 ghost use Rattle.colour_defs.specs.World.{World};
 ghost use Rattle.colour_defs.specs.Laws.{IsValid};
+ghost use Rattle.sweeping.specs.ArenasOut.{outs_of};
+ghost use Rattle.slice_driver.specs.Advances.{AreOut};
 ghost use Rattle.slice_driver.specs.Represents.{Represents};
-ghost use Rattle.slice_driver.specs.Units.{AreJobsOf, IsSound, flown_by};
+ghost use Rattle.slice_driver.specs.Units.{IsSound, flown_by};
 ghost use Rattle.trace_cli.specs.Headline.{WritesAnswer, WritesFront, WritesStart};
 ghost use Rattle.trace_cli.specs.Writing.{BreaksInUnits, StopsInUnits, WritesUnits};
 
 use crate::answer::{AnswerFault, write_last};
-use crate::collect::answer_unit;
-use crate::handed::Handed;
+use crate::collect::answer_step;
 use gz_io::Sink;
 use gz_names::{Refusal, Reply, ZoneSet};
 use heap_core::Steps;
 use slice_driver::{BeginFault, Collector, zones_made_law};
 use std::alloc::Global;
 use std::sync::ledger::Ledger;
+use sweeping::MainSweeper;
 
 /// Begins a collection of these zones, and writes the reply.
 pub fn gc<K: Sink, L: Ledger>(
     alloc: Global,
     collector: &mut Collector,
-    _handed: &Handed,
+    _handed: &MainSweeper,
     zones: ZoneSet,
     sink: &mut K,
     steps: &mut Steps<L>,
 ) -> Result<(), AnswerFault>
     requires sound { IsSound collector.old (flown_by _handed.now) }
-    requires jobs { AreJobsOf collector.old.heap.shape _handed.now }
+    requires jobs { AreOut collector.old.heap.shape (outs_of _handed.now) }
     requires some { (z : ℕ) × HasZone zones.bits z }
     ensures ok { OnOk result ((w : World) → IsValid w → Represents collector.old (flown_by _handed.now) w
         → WritesAnswer w (ACmd.Gc zones) collector.new _handed.now (K.written sink.old) (K.written sink.new)) }
     ensures sound { IsSound collector.new (flown_by _handed.now) }
-    ensures jobs { AreJobsOf collector.new.heap.shape _handed.now }
+    ensures jobs { AreOut collector.new.heap.shape (outs_of _handed.now) }
     ensures made { collector.new.heap.made ≡ collector.old.heap.made }
     ensures entries { length collector.new.heap.shape.weak.entries
         ≤ length collector.old.heap.shape.weak.entries }
@@ -63,19 +65,19 @@ pub fn gc<K: Sink, L: Ledger>(
 fn answer_units<K: Sink, L: Ledger>(
     alloc: Global,
     collector: &mut Collector,
-    handed: &mut Handed,
-    budget: u32,
+    handed: &mut MainSweeper,
+    budget: u64,
     sink: &mut K,
     steps: &mut Steps<L>,
-) -> Result<u32, AnswerFault>
+) -> Result<u64, AnswerFault>
     requires sound { IsSound collector.old (flown_by handed.old) }
-    requires jobs { AreJobsOf collector.old.heap.shape handed.old }
+    requires jobs { AreOut collector.old.heap.shape (outs_of handed.old) }
     ensures ok { IfOk result (λ done. (w : World) → IsValid w → Represents collector.old (flown_by handed.old) w
         → WritesUnits w collector.new (flown_by handed.new) done (K.written sink.old) (K.written sink.new)) }
     ensures most { IfOk result (λ done. done ≤ budget) }
     ensures over { IfOk result (λ done. done < budget → collector.new.run ≡ None) }
     ensures sound { IsSound collector.new (flown_by handed.new) }
-    ensures jobs { AreJobsOf collector.new.heap.shape handed.new }
+    ensures jobs { AreOut collector.new.heap.shape (outs_of handed.new) }
     ensures made { collector.new.heap.made ≡ collector.old.heap.made }
     ensures entries { length collector.new.heap.shape.weak.entries
         ≤ length collector.old.heap.shape.weak.entries }
@@ -88,32 +90,40 @@ fn answer_units<K: Sink, L: Ledger>(
     ensures same { OnOk result (K.faults sink.new ≡ K.faults sink.old) }
     ensures cause { result ≡ Err AnswerFault.Write → Rose (K.faults sink.old) (K.faults sink.new) }
 {
-    for done in 0..budget {
-        if !collector.running() {
-            return Ok(done);
-        }
-        if let Err(fault) = answer_unit(alloc, collector, handed, sink, steps) {
-            return Err(fault);
+    let mut report = None;
+    let mut done = 0u64;
+    while done < budget && collector.running() {
+        match answer_step(
+            alloc,
+            collector,
+            handed,
+            budget - done,
+            &mut report,
+            sink,
+            steps,
+        ) {
+            Ok(more) => done += more,
+            Err(fault) => return Err(fault),
         }
     }
-    Ok(budget)
+    Ok(done)
 }
 
 /// Does at most so many units of the collection that runs, and writes their reports and the reply.
 pub fn slice<K: Sink, L: Ledger>(
     alloc: Global,
     collector: &mut Collector,
-    handed: &mut Handed,
+    handed: &mut MainSweeper,
     budget: u32,
     sink: &mut K,
     steps: &mut Steps<L>,
 ) -> Result<(), AnswerFault>
     requires sound { IsSound collector.old (flown_by handed.old) }
-    requires jobs { AreJobsOf collector.old.heap.shape handed.old }
+    requires jobs { AreOut collector.old.heap.shape (outs_of handed.old) }
     ensures ok { OnOk result ((w : World) → IsValid w → Represents collector.old (flown_by handed.old) w
         → WritesAnswer w (ACmd.Slice budget) collector.new handed.new (K.written sink.old) (K.written sink.new)) }
     ensures sound { IsSound collector.new (flown_by handed.new) }
-    ensures jobs { AreJobsOf collector.new.heap.shape handed.new }
+    ensures jobs { AreOut collector.new.heap.shape (outs_of handed.new) }
     ensures made { collector.new.heap.made ≡ collector.old.heap.made }
     ensures entries { length collector.new.heap.shape.weak.entries
         ≤ length collector.old.heap.shape.weak.entries }
@@ -129,28 +139,28 @@ pub fn slice<K: Sink, L: Ledger>(
     if !collector.running() {
         return write_last(sink, &Reply::Refused(Refusal::Idle));
     }
-    match answer_units(alloc, collector, handed, budget, sink, steps) {
-        Ok(done) => write_last(sink, &Reply::Sliced(u64::from(done))),
+    match answer_units(alloc, collector, handed, u64::from(budget), sink, steps) {
+        Ok(done) => write_last(sink, &Reply::Sliced(done)),
         Err(fault) => Err(fault),
     }
 }
 
-// Does unit after unit until the collection that runs is over, and writes their reports: how many it
-// did. Each lowers what is left, which is below 2^64 (`units_law`), so their number is.
+// Does step after step until the collection that runs is over, and writes their reports: how many
+// units it did. Each lowers what is left, which is below 2^64 (`units_law`), so their number is.
 fn answer_rest<K: Sink, L: Ledger>(
     alloc: Global,
     collector: &mut Collector,
-    handed: &mut Handed,
+    handed: &mut MainSweeper,
     sink: &mut K,
     steps: &mut Steps<L>,
 ) -> Result<u64, AnswerFault>
     requires sound { IsSound collector.old (flown_by handed.old) }
-    requires jobs { AreJobsOf collector.old.heap.shape handed.old }
+    requires jobs { AreOut collector.old.heap.shape (outs_of handed.old) }
     ensures ok { IfOk result (λ done. (w : World) → IsValid w → Represents collector.old (flown_by handed.old) w
         → WritesUnits w collector.new (flown_by handed.new) done (K.written sink.old) (K.written sink.new)) }
     ensures over { OnOk result (collector.new.run ≡ None) }
     ensures sound { IsSound collector.new (flown_by handed.new) }
-    ensures jobs { AreJobsOf collector.new.heap.shape handed.new }
+    ensures jobs { AreOut collector.new.heap.shape (outs_of handed.new) }
     ensures made { collector.new.heap.made ≡ collector.old.heap.made }
     ensures entries { length collector.new.heap.shape.weak.entries
         ≤ length collector.old.heap.shape.weak.entries }
@@ -164,31 +174,32 @@ fn answer_rest<K: Sink, L: Ledger>(
     ensures cause { result ≡ Err AnswerFault.Write → Rose (K.faults sink.old) (K.faults sink.new) }
 {
     collector.units_law();
+    let mut report = None;
     let mut done = 0u64;
     while collector.running() {
-        if let Err(fault) = answer_unit(alloc, collector, handed, sink, steps) {
-            return Err(fault);
+        match answer_step(alloc, collector, handed, u64::MAX, &mut report, sink, steps) {
+            Ok(more) => done += more,
+            Err(fault) => return Err(fault),
         }
-        done += 1;
     }
     Ok(done)
 }
 
-/// Does unit after unit until the collection that runs is over, and writes their reports and the
+/// Does step after step until the collection that runs is over, and writes their reports and the
 /// reply.
 pub fn finish<K: Sink, L: Ledger>(
     alloc: Global,
     collector: &mut Collector,
-    handed: &mut Handed,
+    handed: &mut MainSweeper,
     sink: &mut K,
     steps: &mut Steps<L>,
 ) -> Result<(), AnswerFault>
     requires sound { IsSound collector.old (flown_by handed.old) }
-    requires jobs { AreJobsOf collector.old.heap.shape handed.old }
+    requires jobs { AreOut collector.old.heap.shape (outs_of handed.old) }
     ensures ok { OnOk result ((w : World) → IsValid w → Represents collector.old (flown_by handed.old) w
         → WritesAnswer w ACmd.Finish collector.new handed.new (K.written sink.old) (K.written sink.new)) }
     ensures sound { IsSound collector.new (flown_by handed.new) }
-    ensures jobs { AreJobsOf collector.new.heap.shape handed.new }
+    ensures jobs { AreOut collector.new.heap.shape (outs_of handed.new) }
     ensures made { collector.new.heap.made ≡ collector.old.heap.made }
     ensures entries { length collector.new.heap.shape.weak.entries
         ≤ length collector.old.heap.shape.weak.entries }

@@ -2,7 +2,7 @@
 ghost use Rattle.std.specs.Prelude.{Some, None};
 
 use crate::exit::Exit;
-use crate::replay::replay;
+use crate::reading::replay;
 use gz_io::{Failed, FreeGate, MemSink, MemSource, Sink, Source};
 use std::alloc::Global;
 use std::process::Abort;

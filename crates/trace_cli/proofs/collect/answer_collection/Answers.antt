@@ -1,6 +1,6 @@
 use Rattle.std.proofs.Common.{◌+◌, refl, arith, ◌∙◌, inl, inr}
 use Rattle.slice_driver.specs.Units.{flown_by}
-use Rattle.trace_cli.proofs.Answered.{ok_maps, err_is}
+use Rattle.trace_cli.proofs.Answered.{ok_maps, err_is, same_fault}
 use Rattle.trace_cli.proofs.Units.{collection_fronts, more_breaks, more_units, no_units, not_running, stops_after, units_end}
 use Rattle.trace_cli.proofs.collect.answer_collection.Goals as goal
 
@@ -17,27 +17,27 @@ loop-alloc-init g c = (
 pub loop-alloc-preserved : goal.loop-alloc-preserved
 loop-alloc-preserved g c =
     let so = c.loop-alloc.invariant in
-    let does = c.in_default.ensures.ok in (
-      c.in_default.ensures.sound,
-      c.in_default.ensures.jobs,
+    let did = c.in-Ok.ensures in (
+      did.sound,
+      did.jobs,
       λ w ok r. (let h = so.2 w ok r in (
-        h.0 + 1,
+        h.0 + c.in-Ok.field-0,
         more_units w _ _ _ _ _ _ _ _ _ h.1
-            (does h.1.after h.1.valid h.1.represents),
+            (did.ok h.1.after h.1.valid h.1.represents),
       )),
-      c.in_default.ensures.made ∙ so.3,
-      omega (arith, c.in_default.ensures.entries, so.4),
-      c.in_default.ensures.same ∙ so.5,
+      did.made ∙ so.3,
+      omega (arith, did.entries, so.4),
+      did.same ∙ so.5,
     )
 
 pub returns-in-Err-clause-memory : goal.returns-in-Err-clause-memory
 returns-in-Err-clause-memory g c = λ e w ok r.
-    (let h = c.loop-alloc.invariant.2 w ok r in (h.0, stops_after w _ _ _ _ _ _ h.1 (c.in-Err.ensures.memory e)))
+    (let h = c.loop-alloc.invariant.2 w ok r in (h.0, stops_after w _ _ _ _ _ _ h.1 (c.in-Err.ensures.memory (same_fault _ _ e))))
 
 pub returns-in-Err-clause-write : goal.returns-in-Err-clause-write
 returns-in-Err-clause-write g c = λ e w ok r.
     (let h = c.loop-alloc.invariant.2 w ok r in inl
-    (h.0 + 1, more_breaks w _ _ _ _ _ _ _ h.1 (c.in-Err.ensures.write e h.1.after h.1.valid h.1.represents)))
+    (h.0 + 18446744073709551615, more_breaks w _ _ _ _ _ _ _ h.1 (c.in-Err.ensures.write (same_fault _ _ e) h.1.after h.1.valid h.1.represents)))
 
 pub returns-clause-ok : goal.returns-clause-ok
 returns-clause-ok g c =

@@ -1,9 +1,11 @@
 use Rattle.std.proofs.Common.{inr, refl, ap, subst, sym, Err}
-use Rattle.slice_driver.specs.Units.{AreJobsOf, flown_by}
+use Rattle.sweeping.specs.ArenasOut.{outs_of}
+use Rattle.slice_driver.specs.Advances.{AreOut}
+use Rattle.slice_driver.specs.Units.{flown_by}
 use Rattle.slice_driver.specs.declared.begin.BeginFault.{BeginFault}
 use Rattle.slice_driver.specs.Collector.{CollectorState}
 use Rattle.trace_cli.proofs.Answered.{ok_maps, err_is, begun_breaks, begun_stops, begun_writes, no_zone, one_runs, refusal_breaks, refusal_writes}
-use Rattle.trace_cli.proofs.Jobs.{jobs_kept}
+use Rattle.trace_cli.proofs.ArenasOut.{out_kept}
 use Rattle.std.proofs.Common.{◌∙◌, inl}
 use Rattle.std.proofs.KnownBytes.{Appends-nil}
 use Rattle.gz_names.specs.declared.commands.Cmd.TheVariants as command
@@ -14,7 +16,7 @@ pub answer_collection-requires : goal.answer_collection-requires
 answer_collection-requires g c =
     record {
       sound = c.in-Ok.ensures.sound (flown_by c.args.handed.now) c.requires.sound;
-      jobs = jobs_kept c.args.collector.now.heap.shape c.begin.new.self.heap.shape c.args.handed.now c.args.handed.now
+      jobs = out_kept c.args.collector.now.heap.shape c.begin.new.self.heap.shape c.args.handed.now c.args.handed.now
           c.in-Ok.ensures.words refl c.requires.jobs;
     }
 
@@ -49,7 +51,7 @@ returns-in-Err-Running-clause-write g c =
     (err_is _ _ c.write_last.ensures.err e)
 
 pub returns-in-Err-Running-clause-jobs : goal.returns-in-Err-Running-clause-jobs
-returns-in-Err-Running-clause-jobs g c = subst (λ (d : CollectorState). AreJobsOf d.heap.shape c.args.handed.now)
+returns-in-Err-Running-clause-jobs g c = subst (λ (d : CollectorState). AreOut d.heap.shape (outs_of c.args.handed.now))
     (sym c.in-Err-Running.ensures.refused) c.requires.jobs
 
 pub returns-in-Err-NoZone-clause-ok : goal.returns-in-Err-NoZone-clause-ok
@@ -69,7 +71,7 @@ returns-in-Err-NoZone-clause-write g c =
     (err_is _ _ c.write_last-in-Err-NoZone.ensures.err e)
 
 pub returns-in-Err-NoZone-clause-jobs : goal.returns-in-Err-NoZone-clause-jobs
-returns-in-Err-NoZone-clause-jobs g c = subst (λ (d : CollectorState). AreJobsOf d.heap.shape c.args.handed.now)
+returns-in-Err-NoZone-clause-jobs g c = subst (λ (d : CollectorState). AreOut d.heap.shape (outs_of c.args.handed.now))
     (sym c.in-Err-NoZone.ensures.refused) c.requires.jobs
 
 pub returns-in-Err-NoMemory-clause-memory : goal.returns-in-Err-NoMemory-clause-memory

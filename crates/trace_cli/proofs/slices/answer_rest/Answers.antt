@@ -19,14 +19,14 @@ loop-alloc-init g c = (
 pub loop-alloc-preserved : goal.loop-alloc-preserved
 loop-alloc-preserved g c =
     let so = c.loop-alloc.invariant in
-    let does = c.in_default.ensures.ok in (
-      c.in_default.ensures.sound,
-      c.in_default.ensures.jobs,
-      λ w ok r. (let h = so.2 w ok r in more_units w _ _ _ _ _ _ _ _ _ h (does h.after h.valid h.represents)),
-      c.in_default.ensures.made ∙ so.3,
-      omega (arith, c.in_default.ensures.entries, so.4),
-      c.in_default.ensures.same ∙ so.5,
-      omega (arith, c.in_default.ensures.left, so.6),
+    let did = c.in-Ok.ensures in (
+      did.sound,
+      did.jobs,
+      λ w ok r. (let h = so.2 w ok r in more_units w _ _ _ _ _ _ _ _ _ h (did.ok h.after h.valid h.represents)),
+      did.made ∙ so.3,
+      omega (arith, did.entries, so.4),
+      did.same ∙ so.5,
+      omega (arith, did.left, so.6),
       so.7,
     )
 
@@ -40,7 +40,7 @@ returns-in-Err-clause-memory g c = λ e w ok r. (
 pub returns-in-Err-clause-write : goal.returns-in-Err-clause-write
 returns-in-Err-clause-write g c = λ e w ok r.
     (let h = c.loop-alloc.invariant.2 w ok r in (
-      c.loop-alloc.done + 1,
+      c.loop-alloc.done + 18446744073709551615,
       more_breaks w _ _ _ _ _ _ _ h
           (c.in-Err.ensures.write (same_fault _ _ e) h.after h.valid h.represents),
     ))

@@ -1,9 +1,11 @@
 use Rattle.std.proofs.Common.{inr, refl, ap, subst, sym, Err}
-use Rattle.slice_driver.specs.Units.{AreJobsOf, flown_by}
+use Rattle.sweeping.specs.ArenasOut.{outs_of}
+use Rattle.slice_driver.specs.Advances.{AreOut}
+use Rattle.slice_driver.specs.Units.{flown_by}
 use Rattle.slice_driver.specs.declared.begin.BeginFault.{BeginFault}
 use Rattle.slice_driver.specs.Collector.{CollectorState}
 use Rattle.trace_cli.proofs.Answered.{ok_maps, err_is, gc_breaks, gc_writes, no_zone, one_runs, refusal_breaks, refusal_writes}
-use Rattle.trace_cli.proofs.Jobs.{jobs_kept}
+use Rattle.trace_cli.proofs.ArenasOut.{out_kept}
 use Rattle.std.proofs.Common.{◌∙◌}
 use Rattle.std.proofs.KnownBytes.{Appends-nil}
 use Rattle.gz_names.specs.declared.commands.Cmd.TheVariants as command
@@ -22,7 +24,7 @@ returns-in-Ok-clause-write g c =
 
 pub returns-in-Ok-clause-jobs : goal.returns-in-Ok-clause-jobs
 returns-in-Ok-clause-jobs g c =
-    jobs_kept c.args.collector.now.heap.shape c.begin.new.self.heap.shape c.args._handed.now c.args._handed.now
+    out_kept c.args.collector.now.heap.shape c.begin.new.self.heap.shape c.args._handed.now c.args._handed.now
     c.in-Ok.ensures.words refl c.requires.jobs
 
 pub returns-in-Err-Running-clause-ok : goal.returns-in-Err-Running-clause-ok
@@ -40,7 +42,7 @@ returns-in-Err-Running-clause-write g c =
     (err_is _ _ c.write_last-in-Err-Running.ensures.err e)
 
 pub returns-in-Err-Running-clause-jobs : goal.returns-in-Err-Running-clause-jobs
-returns-in-Err-Running-clause-jobs g c = subst (λ (d : CollectorState). AreJobsOf d.heap.shape c.args._handed.now)
+returns-in-Err-Running-clause-jobs g c = subst (λ (d : CollectorState). AreOut d.heap.shape (outs_of c.args._handed.now))
     (sym c.in-Err-Running.ensures.refused) c.requires.jobs
 
 pub returns-in-Err-NoZone-clause-ok : goal.returns-in-Err-NoZone-clause-ok
@@ -60,7 +62,7 @@ returns-in-Err-NoZone-clause-write g c =
     (err_is _ _ c.write_last-in-Err-NoZone.ensures.err e)
 
 pub returns-in-Err-NoZone-clause-jobs : goal.returns-in-Err-NoZone-clause-jobs
-returns-in-Err-NoZone-clause-jobs g c = subst (λ (d : CollectorState). AreJobsOf d.heap.shape c.args._handed.now)
+returns-in-Err-NoZone-clause-jobs g c = subst (λ (d : CollectorState). AreOut d.heap.shape (outs_of c.args._handed.now))
     (sym c.in-Err-NoZone.ensures.refused) c.requires.jobs
 
 pub returns-in-Err-NoMemory-clause-memory : goal.returns-in-Err-NoMemory-clause-memory

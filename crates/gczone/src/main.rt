@@ -1,0 +1,49 @@
+// The program: a trace on standard input, its answers on standard output.
+//
+// It hands the words of the command line and the standard streams to `replay`, whose contract says
+// what is written and how a replay ends. The text of an exit goes to standard error, and its status
+// is that of the program.
+#![tactic(auto)]
+
+use gz_io::{Buffered, FreeGate, StdSink, StdSource};
+use std::env;
+use std::process::ExitCode;
+use trace_cli::{Exit, replay};
+
+// The arguments. Some that are no text are no words that the program takes.
+fn arguments(rt: &HostRuntime) -> Result<Vec<String>, Exit> {
+    let Ok(arguments) = env::args(rt) else {
+        return Err(Exit::Usage);
+    };
+    arguments.collect(rt.alloc()).map_err(|_| Exit::NoMemory)
+}
+
+fn main(rt: HostRuntime) -> ExitCode {
+    let alloc = rt.alloc();
+    let mut source = StdSource::new(rt.stdin());
+    let mut sink = Buffered::new(StdSink::new(rt.stdout()));
+    let exit = match arguments(&rt) {
+        Ok(arguments) => {
+            let words: Result<Vec<&str>, _> = arguments
+                .iter()
+                .map(|word| word.as_str())
+                .collect(alloc);
+            match words {
+                Ok(words) => replay(
+                    &rt,
+                    alloc,
+                    words.as_slice(),
+                    &mut source,
+                    &mut sink,
+                    &FreeGate,
+                ),
+                Err(_) => Exit::NoMemory,
+            }
+        }
+        Err(exit) => exit,
+    };
+    if exit != Exit::Done {
+        let _ = eprintln!(rt; "{exit}");
+    }
+    ExitCode::from(exit.status())
+}

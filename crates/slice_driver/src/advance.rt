@@ -1,0 +1,192 @@
+// Steps of a collection, whoever sweeps: the one place where units, due arenas and their sweeping meet.
+ghost use Rattle.std.specs.Prelude.{◌≡◌, ◌↔◌, ◌<◌, None, true, IfOk, IsSome, OnErr, if◌then◌else◌, is_some};
+ghost use Rattle.sweeping.specs.ArenasOut.{flying_after, outs_after};
+ghost use Rattle.slice_driver.specs.Advances.{Advances, AreOut};
+ghost use Rattle.slice_driver.specs.Left.{units_left};
+ghost use Rattle.slice_driver.specs.Units.{DoesUnit, IsLowestOut, IsSound, reports_of};
+ghost use Rattle.slice_driver.specs.Working.{IsStill};
+
+use crate::collector::{Collector, Unit};
+use arena_table::Jobs;
+use gz_names::{NoMemory, Report};
+use heap_core::Steps;
+use std::alloc::Global;
+use std::sync::ledger::Ledger;
+use sweeping::{Sweeper, Sweeping};
+
+/// What a step of a collection did.
+#[derive(Drop)]
+pub struct Step {
+    /// How many units were done.
+    pub units: u64,
+    /// Whether they report something, which was put into the place for a report.
+    pub reported: bool,
+    /// Whether the collection is over with them.
+    pub finished: bool,
+    /// The arenas that they handed to sweeping, ascending.
+    pub handed: Option<Jobs>,
+}
+
+impl Collector {
+    /// Does some units of the collection that runs, at most `limit`: those that report nothing, as
+    /// many as come one after another, or one that reports something. What it reports is put into
+    /// `report`, which is left as it is when nothing is reported (a report is large, and most steps
+    /// have none). An arena that is due is taken in: who sweeps hands over what was swept.
+    ///
+    /// The arenas that a unit hands to sweeping are the caller's: who sweeps by itself takes them
+    /// over, and a board may be entered with them.
+    ///
+    /// Returns `NoMemory` only where a group is to end; then nothing was done.
+    pub fn advance<F: Sweeping, L: Ledger>(
+        &mut self,
+        alloc: Global,
+        limit: u64,
+        flight: &mut F,
+        report: &mut Option<Report>,
+        steps: &mut Steps<L>,
+    ) -> Result<Step, NoMemory>
+        requires sound { IsSound self.old (F.bits flight.old) }
+        requires running { IsSome self.old.run }
+        requires out { AreOut self.old.heap.shape (F.left (F.origin flight.old)) }
+        requires some { 0 < limit }
+        ensures done { IfOk result (λ step. Advances limit self.old (F.bits flight.old) report.old
+            step self.new (flying_after step.handed (F.bits flight.new))
+            (outs_after step.handed (F.left (F.origin flight.new))) report.new) }
+        ensures err { OnErr result (IsStill self.old (F.bits flight.old) self.new
+            (F.bits flight.new)) }
+        ensures err_report { OnErr result (report.new ≡ report.old) }
+        ensures err_out { OnErr result (F.origin flight.new ≡ F.origin flight.old) }
+        ensures home { F.home (F.origin flight.new) ≡ F.home (F.origin flight.old) }
+    {
+        let quiet = self.quiet_units(limit, flight, steps);
+        if quiet > 0 {
+            return Ok(Step {
+                units: quiet,
+                reported: false,
+                finished: false,
+                handed: None,
+            });
+        }
+        self.advance_one(alloc, flight, report, steps)
+    }
+
+    /// Does a step like `advance`, where who sweeps takes over what the step hands to sweeping.
+    pub fn advance_over<F: Sweeper, L: Ledger>(
+        &mut self,
+        alloc: Global,
+        limit: u64,
+        sweeper: &mut F,
+        report: &mut Option<Report>,
+        steps: &mut Steps<L>,
+    ) -> Result<Step, NoMemory>
+        requires sound { IsSound self.old (F.bits sweeper.old) }
+        requires running { IsSome self.old.run }
+        requires out { AreOut self.old.heap.shape (F.left (F.origin sweeper.old)) }
+        requires some { 0 < limit }
+        ensures done { IfOk result (λ step. Advances limit self.old (F.bits sweeper.old) report.old
+            step self.new (F.bits sweeper.new) (F.left (F.origin sweeper.new)) report.new) }
+        ensures handed { IfOk result (λ step. step.handed ≡ None) }
+        ensures err { OnErr result (IsStill self.old (F.bits sweeper.old) self.new
+            (F.bits sweeper.new)) }
+        ensures err_report { OnErr result (report.new ≡ report.old) }
+        ensures err_out { OnErr result (F.origin sweeper.new ≡ F.origin sweeper.old) }
+        ensures home { F.home (F.origin sweeper.new) ≡ F.home (F.origin sweeper.old) }
+    {
+        let Step {
+            units,
+            reported,
+            finished,
+            handed,
+        } = self.advance(alloc, limit, sweeper, report, steps)?;
+        sweeper.take_over(handed);
+        Ok(Step {
+            units,
+            reported,
+            finished,
+            handed: None,
+        })
+    }
+
+    // Does one unit, whichever it is.
+    fn advance_one<F: Sweeping, L: Ledger>(
+        &mut self,
+        alloc: Global,
+        flight: &mut F,
+        report: &mut Option<Report>,
+        steps: &mut Steps<L>,
+    ) -> Result<Step, NoMemory>
+        requires sound { IsSound self.old (F.bits flight.old) }
+        requires running { IsSome self.old.run }
+        requires out { AreOut self.old.heap.shape (F.left (F.origin flight.old)) }
+        ensures done { IfOk result (λ step. Advances 1 self.old (F.bits flight.old) report.old step
+            self.new (flying_after step.handed (F.bits flight.new))
+            (outs_after step.handed (F.left (F.origin flight.new))) report.new) }
+        ensures err { OnErr result (IsStill self.old (F.bits flight.old) self.new
+            (F.bits flight.new)) }
+        ensures err_report { OnErr result (report.new ≡ report.old) }
+        ensures err_out { OnErr result (F.origin flight.new ≡ F.origin flight.old) }
+        ensures home { F.home (F.origin flight.new) ≡ F.home (F.origin flight.old) }
+    {
+        let unit = self.unit(alloc, flight, steps)?;
+        match unit.due {
+            Some(arena) => {
+                let unit = self.take_due(flight, arena);
+                Ok(tell(unit, report))
+            }
+            None => Ok(tell(unit, report)),
+        }
+    }
+
+    /// Takes the lowest arena in that is out: who sweeps hands over what was swept.
+    pub fn take_due<F: Sweeping>(&mut self, flight: &mut F, arena: u32) -> Unit
+        requires sound { IsSound self.old (F.bits flight.old) }
+        requires running { IsSome self.old.run }
+        requires out { AreOut self.old.heap.shape (F.left (F.origin flight.old)) }
+        requires lowest { IsLowestOut self.old.heap.shape arena }
+        ensures done { DoesUnit self.old (F.bits flight.old)
+            (reports_of result.report result.finished) self.new (F.bits flight.new) }
+        ensures left { units_left self.new (F.bits flight.new)
+            < units_left self.old (F.bits flight.old) }
+        ensures finished { (result.finished ≡ true) ↔ (self.new.run ≡ None) }
+        ensures none_handed { result.handed ≡ None }
+        ensures sound { IsSound self.new (F.bits flight.new) }
+        ensures out { AreOut self.new.heap.shape (F.left (F.origin flight.new)) }
+        ensures home { F.home (F.origin flight.new) ≡ F.home (F.origin flight.old) }
+        ensures made { self.new.heap.made ≡ self.old.heap.made }
+        ensures weak { self.new.heap.shape.weak ≡ self.old.heap.shape.weak }
+    {
+        if flight.is_empty() {
+            unreachable!();
+        }
+        let taken = flight.take_lowest();
+        self.take_one(taken, arena)
+    }
+}
+
+// What one unit did, its report put into its place.
+fn tell(unit: Unit, report: &mut Option<Report>) -> Step
+    ensures step { result ≡ record {
+      units = 1;
+      reported = is_some unit.report;
+      finished = unit.finished;
+      handed = unit.handed;
+    } }
+    ensures told { report.new ≡ (if is_some unit.report then unit.report else report.old) }
+{
+    let Unit {
+        report: said,
+        handed,
+        finished,
+        due: _,
+    } = unit;
+    let reported = said.is_some();
+    if reported {
+        *report = said;
+    }
+    Step {
+        units: 1,
+        reported,
+        finished,
+        handed,
+    }
+}

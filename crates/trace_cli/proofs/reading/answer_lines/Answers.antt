@@ -1,0 +1,13 @@
+use Rattle.std.proofs.Common.{refl, []}
+use Rattle.colour_defs.specs.World.{first_world}
+use Rattle.trace_cli.specs.Headline.{Replays}
+use Rattle.trace_cli.specs.declared.exit.Exit.{Exit}
+use Rattle.trace_cli.proofs.Stands.{either, ends_memory, ends_write, stands_first}
+use Rattle.trace_cli.proofs.reading.answer_lines.Goals as goal
+
+pub returns-in_default-clause-lawful : goal.returns-in_default-clause-lawful
+returns-in_default-clause-lawful g c =
+    let stands = stands_first (g.S.Source.left c.args.source.now) (g.K.Sink.written c.args.sink.now) [] refl in
+    either (λ (e : Exit). Replays (g.S.Source.left c.args.source.now) (g.S.Source.left c.args.source.now) (g.K.Sink.written c.args.sink.now) (g.K.Sink.written c.end_so.new.sink) e) _ _ c.end_so.ensures.exit
+    (ends_memory _ _ _ _ _ [] 0 first_world stands c.end_so.ensures.kept)
+    (ends_write _ _ _ _ _ [] 0 first_world stands c.end_so.ensures.kept)
