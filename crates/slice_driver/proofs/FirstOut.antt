@@ -14,6 +14,7 @@ is_none None e = refl
 is_none (Some b) e = absurd (cc e)
 
 -- the lowest arena that is out, by what is said of it in two parts
-pub lowest_out : (s : Shape) (o : Option ℕ) → IfSome o (λ a. IsSome (out_of s a)) → IfSome o (λ a. (b : ℕ) → b < a → out_of s b ≡ None) → IfSome o (IsLowestOut s)
+pub lowest_out : (s : Shape) (o : Option ℕ) → IfSome o (λ a. IsSome (out_of s a))
+    → IfSome o (λ a. (b : ℕ) → b < a → out_of s b ≡ None) → IfSome o (IsLowestOut s)
 lowest_out s None out low = tt
 lowest_out s (Some a) out low = record { out = out; lowest = low }

@@ -4,7 +4,8 @@ use Rattle.slice_driver.proofs.GraySlots.{IsLeft}
 use Rattle.slice_driver.proofs.colours.push_at.Given as goal
 
 abbrev pub invariant-loop-left : goal.invariant-loop-left
-invariant-loop-left l = (n : ℕ) × IsLeft l.fn.slots l.left n × (l.names.items ≡ l.fn.names.items ++ grays_below l.heap l.arena n)
+invariant-loop-left l = (n : ℕ) × IsLeft l.fn.slots l.left n ×
+    (l.names.items ≡ l.fn.names.items ++ grays_below l.heap l.arena n)
 
 abbrev pub decreases-loop-left : goal.decreases-loop-left
 decreases-loop-left l = l.left

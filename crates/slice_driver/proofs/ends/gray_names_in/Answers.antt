@@ -16,9 +16,11 @@ loop-arena-preserved c =
     let test = is_owned h.shape c.args.zones.bits in
     let a = c.in-Some.arena in
     let on = c.in-Some.ensures.owned in
-    let skipped = arenas_skipped h test (a - c.loop-arena.from) c.loop-arena.from a (omega (arith, on.0)) c.in-Some.ensures.lowest in
+    let skipped = arenas_skipped h test (a - c.loop-arena.from) c.loop-arena.from a
+    (omega (arith, on.0)) c.in-Some.ensures.lowest in
     record {
-      names = grays_more h test a c.loop-arena.names.items c.push_own_gray.new.names.items (c.loop-arena.invariant.names ∙ skipped) on.1 c.in_ok-push_own_gray.ensures;
+      names = grays_more h test a c.loop-arena.names.items c.push_own_gray.new.names.items (c.loop-arena.invariant.names
+          ∙ skipped) on.1 c.in_ok-push_own_gray.ensures;
       within = (let lt = owned_made h.shape.arenas c.args.zones.bits a on.1 in omega (arith, lt));
     }
 
@@ -27,6 +29,9 @@ returns-clause-moved c =
     let h : HeapState = c.args.heap.now in
     let test = is_owned h.shape c.args.zones.bits in
     let n = length h.shape.arenas in
-    let skipped = arenas_skipped h test (length h.shape.arenas - c.loop-arena.from) c.loop-arena.from (length h.shape.arenas) (omega (arith, c.loop-arena.invariant.within)) (λ k ge lt. c.in_default.ensures.none k ge) in
+    let skipped = arenas_skipped h test (length h.shape.arenas - c.loop-arena.from) c.loop-arena.from
+    (length h.shape.arenas) (omega (arith, c.loop-arena.invariant.within))
+    (λ k ge lt. c.in_default.ensures.none k ge) in
     subst (λ (xs : List Name). IsPermutation xs c.from_vec.result) (c.loop-arena.invariant.names ∙ skipped)
-    (subst (λ (xs : List Name). IsPermutation c.loop-arena.names.items xs) (sym c.from_vec.ensures) c.sort_unstable.ensures.permutation)
+    (subst (λ (xs : List Name). IsPermutation c.loop-arena.names.items xs)
+    (sym c.from_vec.ensures) c.sort_unstable.ensures.permutation)
