@@ -1,16 +1,18 @@
-// A place where a test may hold a helper up.
+// A place where a test may hold up a helper or a marker.
 ghost use Rattle.std.specs.Prelude.{ℕ, ⊤};
 
-/// A place in a helper's work.
+/// A place in the work of a helper or a marker.
 #[derive(Clone, Copy, Debug, PartialEq, Eq)]
 pub enum Point {
     /// An arena was claimed, and none of its words was loaded yet.
     Claimed,
+    /// A marker is about to try a cell of an arena.
+    Tried,
 }
 
-/// Is called by helpers at each `Point`. It answers nothing and promises nothing, so a test may
-/// wait in it and choose a schedule (our choice; Firefox has zeal modes that yield at such points).
-/// Its two words are there for what helpers promise. Code that is generic over gates knows nothing of
+/// Is called by helpers and markers at each `Point`. It answers nothing and promises nothing, so a
+/// test may wait in it and choose a schedule (our choice; Firefox has zeal modes that yield at such
+/// points). Its two words are there for what helpers promise. Code that is generic over gates knows nothing of
 /// either: it has `passed` by a call of `at` alone, and can't take another gate's `name` for this one's.
 pub trait Gate {
     ghost use Rattle.gz_io.specs.declared.gate.Point.{Point};

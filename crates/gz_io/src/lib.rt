@@ -21,8 +21,8 @@
 // `MemSink`); and one in memory that never fails (`SureSource`, `SureSink`). `Buffered` stands
 // before any sink; `main` writes through a `Buffered<StdSink>`.
 //
-// A helper stops at a gate between its claim of an arena and its loads. The program's gate does
-// nothing; a test's gate may wait there.
+// A helper stops at a gate between its claim of an arena and its loads, and a marker before it tries a
+// cell. The program's gate does nothing; a test's gate may wait there.
 #![tactic(auto)]
 
 mod buffered;

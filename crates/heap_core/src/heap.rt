@@ -117,7 +117,8 @@ impl Heap {
     }
 
     /// The i-th edge of a present cell: what its field of this number holds; `None` exactly where
-    /// that is null or there is no such field. It is the only way to an edge, and counts itself.
+    /// that is null or there is no such field. It counts itself. Nothing else in a unit's work may read an
+    /// edge: `edge_at` is for markers that run beside each other, outside units.
     pub fn reached_by<L: Ledger>(&self, place: Place, i: u8, steps: &mut Steps<L>) -> Option<Place>
         requires { IsPresent self.now.shape place }
         ensures edge { result ≡ field_at self.now.shape place i }

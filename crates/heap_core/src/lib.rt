@@ -52,6 +52,7 @@
 #![tactic(auto)]
 
 mod commands;
+mod edges;
 mod entries;
 mod fields;
 mod heap;
