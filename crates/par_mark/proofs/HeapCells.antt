@@ -1,0 +1,46 @@
+-- Where the cells of a heap are.
+use Rattle.std.proofs.Common.{◌≡◌, ℕ, zero, suc, ◌<◌, ◌≤◌, Bool, true, false, List, [], ◌∷◌, length, Option, Some, None, IsSome, slice_get, option_and_then, refl, sym, ap, ◌∙◌, subst, arith, if◌then◌else◌}
+use Rattle.gz_names.specs.declared.numbers.Place.{Place}
+use Rattle.cell_bits.specs.declared.bits.Bits.{Bits}
+use Rattle.arena_table.specs.Cells.{CellState}
+use Rattle.arena_table.specs.Slots.{cell_in}
+use Rattle.heap_core.specs.Shape.{Shape, ArenaShape, AreWhole, IsPresent, HasEdge, cell_in_arena, cell_of, field_at, is_white, present_in, zone_of}
+use Rattle.par_mark.specs.Edges.{Leads}
+use Rattle.par_mark.specs.Heaps.{HasCell}
+
+there : {A : Type 0} (xs : List A) (i : ℕ) (x : A) → slice_get xs i ≡ Some x → i < length xs
+there [] i x e = cc e
+there (y ∷ ys) zero x e = omega arith
+there (y ∷ ys) (suc i) x e = let r = there ys i x e in omega arith
+
+in_slots : (slots : List (Option CellState)) (slot : ℕ) (o : Option (Option CellState)) → slice_get slots slot ≡ o
+    → IsSome (option_and_then (λ cell. cell) o) → slot < length slots
+in_slots slots slot None e some' = cc some'
+in_slots slots slot (Some c) e some' = there slots slot c e
+
+not_white : (white : Bool) (o : Option CellState) → IsSome (if white then None else o) → IsSome o
+not_white true o some' = cc some'
+not_white false o some' = some'
+
+stands_in : (out : Option Bits) (slots : List (Option CellState)) (slot : ℕ) → IsSome (present_in out slots slot)
+    → IsSome (cell_in slots slot)
+stands_in None slots slot some' = some'
+stands_in (Some bits) slots slot some' = not_white (is_white bits slot) (cell_in slots slot) some'
+
+in_arena : (arenas : List ArenaShape) (p : ℕ × ℕ) (o : Option ArenaShape) → AreWhole arenas → slice_get arenas p.0 ≡ o
+    → IsSome (cell_in_arena o p.1) → (p.0 < length arenas) × (p.1 < 64)
+in_arena arenas p None whole e some' = cc some'
+in_arena arenas p (Some arena) whole e some' =
+    let l = whole p.0 arena e in
+    let s = in_slots arena.slots p.1 (slice_get arena.slots p.1) refl (stands_in arena.out arena.slots p.1 some') in
+    (there arenas p.0 arena e, omega arith)
+
+-- a present cell lies in an arena that was made, in one of its 64 slots
+pub inside : (s : Shape) (p : ℕ × ℕ) → HasCell s p → (p.0 < length s.arenas) × (p.1 < 64)
+inside s p h = in_arena s.arenas p (slice_get s.arenas p.0) h.whole refl h.present
+
+-- edges lead to cells, where present cells lie in zones that were made and name present cells
+pub leads_on : (s : Shape) → ((x : ℕ × ℕ) → IsPresent s x → zone_of s x < length s.states)
+    → ((x y : ℕ × ℕ) → HasEdge s x y → IsPresent s y) → (p q : ℕ × ℕ) → HasCell s p → Leads (field_at s) p q
+    → HasCell s q
+leads_on s made targets p q h l = let y = targets p q l in record { present = y; zone = made q y; whole = h.whole }

@@ -1,0 +1,12 @@
+pub mod Members
+pub mod Balancing
+pub mod Scanning
+pub mod Accounting
+pub mod Running
+pub mod Cells
+pub mod Merging
+pub mod Reaching
+pub mod Pigeons
+pub mod TestCells
+pub mod HeapCells
+pub mod Closing

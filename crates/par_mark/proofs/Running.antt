@@ -1,0 +1,115 @@
+-- A marker's run.
+use Rattle.std.proofs.Common.{◌≡◌, ◌≢◌, ℕ, ◌+◌, ◌-◌, ◌<◌, ◌≤◌, Bool, true, false, List, [], ◌∷◌, ◌++◌, length, Option, Some, None, sym, refl, ap, ◌∙◌, subst, arith, All, vec_capacity}
+use Rattle.std.proofs.lemmas.List.Elements.{All-nil, All-same}
+use Rattle.crossbeam_queue.specs.Passes.{view}
+use Rattle.mark_words.specs.declared.view.MarkView.{MarkView}
+use Rattle.mark_words.specs.Sums.{weigh, only, times}
+use Rattle.mark_words.specs.Rule.{bit_of}
+use Rattle.mark_words.specs.Seats.{view_of}
+use Rattle.par_mark.specs.declared.donations.QueueView.{QueueView}
+use Rattle.par_mark.specs.declared.marker.Marker.{Marker}
+use Rattle.par_mark.specs.declared.lists.Lists.{Lists}
+use Rattle.par_mark.specs.Edges.{out}
+use Rattle.par_mark.specs.Accounts.{Accounts, HasRoom}
+use Rattle.par_mark.specs.Lists.{AreAsLarge, tries_of, tries_room, won_of, outside_of}
+use Rattle.par_mark.specs.Markers.{IsOpen, IsReady, HasRun}
+use Rattle.par_mark.specs.Tries.{IsDonated, kept, given, HasTurned, TakenWasPut, done}
+use Rattle.par_mark.proofs.Accounting.{gave}
+use Rattle.par_mark.proofs.Scanning.{weigh-one}
+
+module _ (edge : ℕ × ℕ → ℕ → Option (ℕ × ℕ)) (marking : ℕ × ℕ → Bool) (P : ℕ × ℕ → Type 0) where
+  -- books in which nothing was done yet
+  pub opened : (tries outside : List (ℕ × ℕ)) (v : MarkView) (d : QueueView) → outside ≡ [] → v.won ≡ []
+      → v.known ≡ [] → d.put ≡ [] → d.taken ≡ [] → All P tries → Accounts edge marking P tries [] tries outside v d
+  opened tries outside v d o w k p t all = record {
+    balance = λ h. let a : weigh h outside ≡ 0 = ap (weigh h) o in
+        let b : weigh (out edge h) v.won ≡ 0 = ap (weigh (out edge h)) w in
+        let c : weigh h v.known ≡ 0 = ap (weigh h) k in let e : weigh h d.put ≡ 0 = ap (weigh h) p in
+        let f : weigh h d.taken ≡ 0 = ap (weigh h) t in omega arith;
+    taken = λ h. let f : weigh h d.taken ≡ 0 = ap (weigh h) t in omega arith;
+    won_known = λ h. let b : weigh h v.won ≡ 0 = ap (weigh h) w in omega arith;
+    once = λ q. let b : times q v.won ≡ 0 = ap (times q) w in omega arith;
+    fresh = All-same (λ (q : ℕ × ℕ). bit_of v.first q ≡ 0) v.won [] w (All-nil (λ (q : ℕ × ℕ). bit_of v.first q ≡ 0));
+    inside = All-same (λ (q : ℕ × ℕ). marking q ≡ true) v.won [] w (All-nil (λ (q : ℕ × ℕ). marking q ≡ true));
+    tried_inside = All-same (λ (q : ℕ × ℕ). marking q ≡ true) v.known [] k (All-nil (λ (q : ℕ × ℕ). marking q ≡ true));
+    beyond = All-same (λ (q : ℕ × ℕ). marking q ≡ false) outside [] o (All-nil (λ (q : ℕ × ℕ). marking q ≡ false));
+    listed = All-nil P;
+    tries_listed = all;
+    won_listed = All-same P v.won [] w (All-nil P);
+  }
+
+  pub starts : (turns : ℕ) (m : Marker) → IsReady edge marking P turns m → HasRun edge marking P m m
+  starts turns m r = record {
+    accounts = opened (tries_of m.lists) (outside_of m.lists) (view_of m.seat) (view m.pass) r.outside_empty r.no_won
+        r.no_known r.no_put r.no_taken r.listed;
+    won_is = r.won_empty ∙ sym r.no_won;
+    room = record { tries = refl; won = refl; outside = refl };
+    parts_is = refl;
+    queue_parts = refl;
+  }
+
+  -- one turn more, and what it donated
+  pub goes_on : (m old new : Marker) (middle : Lists) (d : QueueView)
+      → HasRun edge marking P m old
+      → HasTurned edge marking P (tries_of old.lists) (won_of old.lists) (outside_of old.lists) (view_of old.seat)
+      (view old.pass) (tries_of middle) (won_of middle) (outside_of middle) (view_of new.seat) d
+      → IsDonated (tries_of middle) d (tries_of new.lists) (view new.pass)
+      → won_of new.lists ≡ won_of middle → outside_of new.lists ≡ outside_of middle
+      → AreAsLarge m.lists new.lists → (view new.pass).parts ≡ d.parts
+      → HasRun edge marking P m new
+  goes_on m old new middle d r t g won outside room parts = record {
+    accounts = subst (λ (l : List (ℕ × ℕ)). Accounts edge marking P (tries_of m.lists) [] (tries_of new.lists) l
+        (view_of new.seat) (view new.pass)) (sym outside)
+        (gave edge marking P (tries_of m.lists) (tries_of middle) (tries_of new.lists) (outside_of middle)
+        (view_of new.seat) d (view new.pass) g (t.accounts (tries_of m.lists) r.accounts));
+    won_is = won ∙ t.won_is r.won_is;
+    room = room;
+    parts_is = t.parts_is ∙ r.parts_is;
+    queue_parts = parts ∙ t.queue_parts ∙ r.queue_parts;
+  }
+
+  pub donated_parts : (tries tries' : List (ℕ × ℕ)) (d d' : QueueView) → IsDonated tries d tries' d'
+      → d'.parts ≡ d.parts
+  donated_parts tries tries' d d' (kept e f) = ap (λ (x : QueueView). x.parts) f
+  donated_parts tries tries' d d' (given p e f) = ap (λ (x : QueueView). x.parts) f
+
+  -- what was done has room
+  pub within : (firsts tries outside : List (ℕ × ℕ)) (v : MarkView) (d : QueueView) (most : ℕ)
+      → Accounts edge marking P firsts [] tries outside v d → TakenWasPut d
+      → HasRoom edge marking P (weigh (λ _. 1) firsts) most
+      → done v outside + weigh (λ _. 1) tries ≤ most
+  within firsts tries outside v d most a t has = let b = a.balance (λ _. 1) in let u = t (λ _. 1) in
+      let r = has v.won a.once a.won_listed in omega arith
+
+  pub won_within : (firsts tries outside : List (ℕ × ℕ)) (v : MarkView) (d : QueueView)
+      → Accounts edge marking P firsts [] tries outside v d → length v.won ≤ done v outside
+  won_within firsts tries outside v d a = let k = a.won_known (λ _. 1) in let l = weigh-one v.won in omega arith
+
+  pub outside_within : (outside : List (ℕ × ℕ)) (v : MarkView) → length outside ≤ done v outside
+  outside_within outside v = let l = weigh-one outside in omega arith
+
+  -- main's books as turns go on
+  pub still_room : (now : Lists) (v w : MarkView) (d f : QueueView) (old : Lists) → (b : IsOpen edge marking P old v d)
+      → Accounts edge marking P b.firsts [] (tries_of now) (outside_of now) w f → TakenWasPut f → won_of now ≡ w.won
+      → AreAsLarge old now
+      → (length (won_of now) < vec_capacity now.won) × (length (outside_of now) < vec_capacity now.outside)
+      × HasRoom edge marking P (weigh (λ _. 1) b.firsts) (tries_room now)
+  still_room now v w d f old b a t is large =
+      let r = within b.firsts (tries_of now) (outside_of now) w f b.most a t b.room in
+      let k = won_within b.firsts (tries_of now) (outside_of now) w f a in
+      let o = outside_within (outside_of now) w in
+      let e : length (won_of now) ≡ length w.won = ap length is in
+      let l0 = large.won in
+      let l1 = large.outside in
+      let l2 = large.tries in
+      let m0 = b.won_most in
+      let m1 = b.outside_most in
+      let m2 = b.tries_most in ((omega arith), (omega arith), λ ps once all. let h = b.room ps once all in omega arith)
+
+  pub less_left : (tries outside outside' : List (ℕ × ℕ)) (firsts tries' : List (ℕ × ℕ)) (v w : MarkView)
+      (d : QueueView) (most room : ℕ) → done w outside' ≡ done v outside + 1
+      → Accounts edge marking P firsts [] tries' outside' w d → TakenWasPut d
+      → HasRoom edge marking P (weigh (λ _. 1) firsts) most → most < room
+      → room - done w outside' < room - done v outside
+  less_left tries outside outside' firsts tries' v w d most room one a t has lt =
+      let r = within firsts tries' outside' w d most a t has in omega arith

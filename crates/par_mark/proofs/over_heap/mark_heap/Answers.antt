@@ -1,0 +1,20 @@
+use Rattle.std.proofs.Common.{rules, ℕ, ◌<◌, ◌≡◌, length, subst, sym, All}
+use Rattle.std.proofs.lemmas.List.Elements.{All-weaker}
+use Rattle.heap_core.specs.Shape.{IsPresent}
+use Rattle.par_mark.specs.Heaps.{HasCell}
+use Rattle.par_mark.proofs.HeapCells.{inside, leads_on}
+use Rattle.par_mark.proofs.over_heap.mark_heap.Goals as goal
+
+pub mark_black-requires-clause-present : goal.mark_black-requires-clause-present
+mark_black-requires-clause-present g c κs within =
+    All-weaker (IsPresent c.args.heap.now.shape) (HasCell c.args.heap.now.shape)
+    (λ p x. record { present = x; zone = c.requires.made p x; whole = c.requires.whole }) c.args.from.now
+    c.requires.present
+
+pub mark_black-requires-clause-targets : goal.mark_black-requires-clause-targets
+mark_black-requires-clause-targets g c κs within =
+    λ p q h l. leads_on c.args.heap.now.shape c.requires.made c.requires.targets p q h l
+
+pub mark_black-requires-clause-words : goal.mark_black-requires-clause-words
+mark_black-requires-clause-words g c κs within =
+    λ p h. subst (λ (n : ℕ). p.0 < n) (sym c.requires.words) (inside c.args.heap.now.shape p h).0

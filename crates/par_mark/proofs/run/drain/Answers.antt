@@ -1,0 +1,70 @@
+use Rattle.std.proofs.Common.{rules, ◌≡◌, ◌≤◌, ◌<◌, ℕ, List, [], length, All, sym, ap, subst, refl, ◌∙◌, arith, vec_capacity, vec_len}
+use Rattle.crossbeam_queue.specs.Passes.{view}
+use Rattle.mark_words.specs.Seats.{view_of}
+use Rattle.mark_words.specs.declared.view.MarkView.{MarkView}
+use Rattle.par_mark.specs.declared.donations.QueueView.{QueueView}
+use Rattle.par_mark.specs.Accounts.{Accounts}
+use Rattle.par_mark.specs.Lists.{AreAsLarge, outside_of, tries_of, won_of}
+use Rattle.par_mark.proofs.Running.{still_room, less_left}
+use Rattle.par_mark.proofs.run.drain.Goals as goal
+
+pub turn-requires-clause-accounts : goal.turn-requires-clause-accounts
+turn-requires-clause-accounts g c =
+    let b = c.requires.accounts in
+    let i = c.loop.invariant in
+    let a = i.7 b.firsts b.accounts in
+    let r = still_room (g.H.Graph.edge c.args.heap.now) (g.H.Graph.marking c.args.heap.now) g.L.PlaceList.places
+    c.loop.lists _ (view_of c.loop.seat) _ (view c.loop.pass) c.args.lists.now b a i.5 i.6 i.4 in (b.firsts, a, r.2)
+
+pub turn-requires-clause-won_room : goal.turn-requires-clause-won_room
+turn-requires-clause-won_room g c =
+    let b = c.requires.accounts in
+    let i = c.loop.invariant in
+    let r = still_room (g.H.Graph.edge c.args.heap.now) (g.H.Graph.marking c.args.heap.now) g.L.PlaceList.places
+    c.loop.lists _ (view_of c.loop.seat) _ (view c.loop.pass) c.args.lists.now b (i.7 b.firsts b.accounts) i.5 i.6
+    i.4 in
+    let s : vec_len c.loop.lists.won < vec_capacity c.loop.lists.won =
+    (let h = r.0 in let o = c.loop.lists.won.ok.0 in omega arith) in s
+
+pub turn-requires-clause-outside_room : goal.turn-requires-clause-outside_room
+turn-requires-clause-outside_room g c =
+    let b = c.requires.accounts in
+    let i = c.loop.invariant in
+    let r = still_room (g.H.Graph.edge c.args.heap.now) (g.H.Graph.marking c.args.heap.now) g.L.PlaceList.places
+    c.loop.lists _ (view_of c.loop.seat) _ (view c.loop.pass) c.args.lists.now b (i.7 b.firsts b.accounts) i.5 i.6
+    i.4 in
+    let s : vec_len c.loop.lists.outside < vec_capacity c.loop.lists.outside =
+    (let h = r.1 in let o = c.loop.lists.outside.ok.0 in omega arith) in s
+
+pub loop-smaller : goal.loop-smaller
+loop-smaller g c =
+    let b = c.requires.accounts in
+    let i = c.loop.invariant in
+    let t = c.loop-test.ensures.turned refl in
+    less_left (g.H.Graph.edge c.args.heap.now) (g.H.Graph.marking c.args.heap.now) g.L.PlaceList.places
+    (tries_of c.loop.lists) (outside_of c.loop.lists) (outside_of c.turn.new.lists) b.firsts
+    (tries_of c.turn.new.lists) (view_of c.loop.seat) (view_of c.turn.new.seat) (view c.turn.new.pass) b.most _
+    t.one_done (t.accounts b.firsts (i.7 b.firsts b.accounts)) (t.whole_taken i.3 i.5) b.room b.won_most
+
+pub loop-preserved : goal.loop-preserved
+loop-preserved g c =
+    let i = c.loop.invariant in
+    let t = c.loop-test.ensures.turned refl in
+    let l = c.turn.ensures.room in (
+      search rules,
+      t.parts_is ∙ i.1,
+      search rules,
+      t.queue_parts ∙ i.3,
+      record { tries = l.tries ∙ i.4.tries; won = l.won ∙ i.4.won; outside = l.outside ∙ i.4.outside },
+      t.whole_taken i.3 i.5,
+      t.won_is i.6,
+      λ firsts a. t.accounts firsts (i.7 firsts a),
+    )
+
+pub returns-clause-accounts : goal.returns-clause-accounts
+returns-clause-accounts g c = λ firsts a.
+    let n = c.loop-test.ensures.none refl in
+    let b = c.loop.invariant.7 firsts a in
+    subst (λ (x : List (ℕ × ℕ) × (List (ℕ × ℕ) × (MarkView × QueueView))). Accounts (g.H.Graph.edge c.args.heap.now)
+    (g.H.Graph.marking c.args.heap.now) g.L.PlaceList.places firsts [] x.0 x.1.0 x.1.1.0 x.1.1.1)
+    (λ k. (n.0 k, (sym n.3 k, (sym n.4 k, sym n.5 k)))) b

@@ -1,0 +1,64 @@
+-- What a caller begins with and ends with.
+use Rattle.std.specs.Prelude.{◌≡◌, ℕ, ◌+◌, ◌<◌, ◌≤◌, Bool, true, false, List, [], Option, All, vec_capacity}
+use Rattle.crossbeam_queue.specs.Passes.{view}
+use Rattle.mark_words.specs.Sums.{weigh, times}
+use Rattle.mark_words.specs.Rule.{bit_of}
+use Rattle.mark_words.specs.Steps.{KnowsAll}
+use Rattle.par_mark.specs.Edges.{out}
+use Rattle.mark_words.specs.Seats.{view_of}
+use Rattle.par_mark.specs.declared.marker.Marker.{Marker}
+use Rattle.par_mark.specs.Accounts.{Accounts, HasRoom}
+use Rattle.par_mark.specs.Lists.{AreAsLarge, tries_of, tries_room, won_of, outside_of}
+use Rattle.mark_words.specs.declared.view.MarkView.{MarkView}
+use Rattle.par_mark.specs.declared.donations.QueueView.{QueueView}
+use Rattle.par_mark.specs.declared.lists.Lists.{Lists}
+use Rattle.par_mark.specs.Tries.{TakenWasPut}
+
+module _ (edge : ℕ × ℕ → ℕ → Option (ℕ × ℕ)) (marking : ℕ × ℕ → Bool) (P : ℕ × ℕ → Type 0) where
+  -- it has done nothing yet, and has room for so many turns
+  pub record IsReady (turns : ℕ) (m : Marker) : Type 0 where
+    pub parts : 0 < (view_of m.seat).parts
+    pub queue_parts : 0 < (view m.pass).parts
+    pub no_won : (view_of m.seat).won ≡ []
+    pub no_known : (view_of m.seat).known ≡ []
+    pub no_put : (view m.pass).put ≡ []
+    pub no_taken : (view m.pass).taken ≡ []
+    pub won_empty : won_of m.lists ≡ []
+    pub outside_empty : outside_of m.lists ≡ []
+    pub listed : All P (tries_of m.lists)
+    pub room : HasRoom edge marking P (weigh (λ _. 1) (tries_of m.lists)) (tries_room m.lists)
+    pub won_room : turns ≤ vec_capacity m.lists.won
+    pub outside_room : turns ≤ vec_capacity m.lists.outside
+
+  -- it has made turns, and accounts for all that it began with
+  pub record HasRun (m m' : Marker) : Type 0 where
+    pub accounts : Accounts edge marking P (tries_of m.lists) [] (tries_of m'.lists) (outside_of m'.lists)
+        (view_of m'.seat) (view m'.pass)
+    pub won_is : won_of m'.lists ≡ (view_of m'.seat).won
+    pub room : AreAsLarge m.lists m'.lists
+    pub parts_is : (view_of m'.seat).parts ≡ (view_of m.seat).parts
+    pub queue_parts : (view m'.pass).parts ≡ (view m.pass).parts
+
+  -- main's account after both callers have ended, and room for all that may come
+  pub record IsOpen (lists : Lists) (v : MarkView) (d : QueueView) : Type 0 where
+    pub firsts : List (ℕ × ℕ)
+    pub accounts : Accounts edge marking P firsts [] (tries_of lists) (outside_of lists) v d
+    pub taken_put : TakenWasPut d
+    pub won_is : won_of lists ≡ v.won
+    pub most : ℕ
+    pub room : HasRoom edge marking P (weigh (λ _. 1) firsts) most
+    pub tries_most : most ≤ tries_room lists
+    pub won_most : most < vec_capacity lists.won
+    pub outside_most : most < vec_capacity lists.outside
+
+  -- all is tried: each first try and each target of a won cell was tried or lies outside, as often as it came up
+  pub record HasSettled (firsts won outside : List (ℕ × ℕ)) (v : MarkView) : Type 0 where
+    pub won_is : v.won ≡ won
+    pub settled : (h : ℕ × ℕ → ℕ) → weigh h v.known + weigh h outside ≡ weigh h firsts + weigh (out edge h) won
+    pub once : (q : ℕ × ℕ) → times q won ≤ 1
+    pub fresh : All (λ q. bit_of v.first q ≡ 0) won
+    pub inside : All (λ q. marking q ≡ true) won
+    pub tried_inside : All (λ q. marking q ≡ true) v.known
+    pub beyond : All (λ q. marking q ≡ false) outside
+    pub listed : All P won
+    pub knows : KnowsAll v

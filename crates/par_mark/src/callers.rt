@@ -1,0 +1,180 @@
+// Marking by two callers.
+ghost use Rattle.std.specs.Prelude.{◌≡◌, ◌+◌, ◌<◌, ◌≤◌, ℕ, List, [], ◌∷◌, ◌++◌, length, All, Contains, IfOk, OnOk, OnErr};
+ghost use Rattle.crossbeam_queue.specs.Passes.{view, IsPassOf};
+ghost use Rattle.mark_words.specs.Seats.{first_of, view_of, IsSeatOf};
+ghost use Rattle.mark_words.specs.Sums.{weigh, whole};
+ghost use Rattle.mark_words.specs.Views.{first_view};
+ghost use Rattle.par_mark.specs.Edges.{Leads};
+ghost use Rattle.par_mark.specs.Marking.{HasMarked, Sought};
+ghost use Rattle.par_mark.specs.Accounts.{HasRoom};
+ghost use Rattle.par_mark.specs.Lists.{AreNew, tries_of};
+ghost use Rattle.par_mark.specs.Markers.{HasRun, HasSettled, IsReady};
+ghost use Rattle.par_mark.specs.Queues.{IsUnused};
+ghost use Rattle.par_mark.specs.Tries.{Serves};
+
+use crate::donations::{Ring, Splits};
+use crate::first_tries::first_tries;
+use crate::gather::{append_lists, join_one, new_lists, settle};
+use crate::graph::Graph;
+use crate::lists::Lists;
+use crate::marker::Marker;
+use crate::queue::Queue;
+use crate::run::{drain, run};
+use gz_io::Gate;
+use gz_names::{NoMemory, Place};
+use mark_words::{Marks, PlaceList, Seat};
+use std::alloc::{AllocError, Global};
+use std::sync::Wait;
+use std::thread::{Threads, join};
+
+/// What marking found.
+#[derive(Debug, Drop)]
+pub struct Marked {
+    /// The cells that turned black, each once.
+    pub won: Vec<Place>,
+    /// The targets that lie outside the marking zones, of the cells that turned black and of those that
+    /// marking began from. One that is a target of several edges comes as often.
+    pub outside: Vec<Place>,
+}
+
+// Runs both callers, each in a thread of its own if one can be made.
+fn run_both<R: Threads + Wait + Sync, H: Graph + Sync, L: PlaceList + Sync, G: Gate + Sync>(
+    rt: &R,
+    heap: &H,
+    marks: &Marks<L>,
+    ring: &Ring<L>,
+    gate: &G,
+    turns: usize,
+    one: Marker,
+    two: Marker,
+) -> (Marker, Marker)
+    requires serves { Serves (H.has heap.now) (H.edge heap.now) (H.marking heap.now) (first_of marks.now) L.places }
+    requires seats { IsSeatOf marks.now one.seat × IsSeatOf marks.now two.seat }
+    requires passes { IsPassOf ring.now one.pass × IsPassOf ring.now two.pass }
+    requires one { IsReady (H.edge heap.now) (H.marking heap.now) L.places turns one }
+    requires two { IsReady (H.edge heap.now) (H.marking heap.now) L.places turns two }
+    ensures seats { IsSeatOf marks.now result.0.seat × IsSeatOf marks.now result.1.seat }
+    ensures passes { IsPassOf ring.now result.0.pass × IsPassOf ring.now result.1.pass }
+    ensures one { HasRun (H.edge heap.now) (H.marking heap.now) L.places one result.0 }
+    ensures two { HasRun (H.edge heap.now) (H.marking heap.now) L.places two result.1 }
+{
+    join(
+        rt,
+        move ||
+            requires { IsSeatOf marks.now one.seat × IsPassOf ring.now one.pass
+                × Serves (H.has heap.now) (H.edge heap.now) (H.marking heap.now) (first_of marks.now) L.places
+                × IsReady (H.edge heap.now) (H.marking heap.now) L.places turns one }
+            ensures { IsSeatOf marks.entry.now result.seat × IsPassOf ring.entry.now result.pass
+                × HasRun (H.edge heap.entry.now) (H.marking heap.entry.now) L.places one result }
+        { run(rt, heap, marks, ring, gate, turns, one) },
+        move ||
+            requires { IsSeatOf marks.now two.seat × IsPassOf ring.now two.pass
+                × Serves (H.has heap.now) (H.edge heap.now) (H.marking heap.now) (first_of marks.now) L.places
+                × IsReady (H.edge heap.now) (H.marking heap.now) L.places turns two }
+            ensures { IsSeatOf marks.entry.now result.seat × IsPassOf ring.entry.now result.pass
+                × HasRun (H.edge heap.entry.now) (H.marking heap.entry.now) L.places two result }
+        { run(rt, heap, marks, ring, gate, turns, two) },
+    )
+}
+
+/// Marks black, by two callers, the cells of marking zones that edges reach from the cells of `from`,
+/// through cells of marking zones that are not black. What is left is told by `HasMarked`: which cells
+/// are black, that each cell of `from` and each cell won was scanned once, and what lies outside.
+/// The place list of the marks is exactly what may be tried. `NoMemory` comes before any step, and then
+/// the marks are as they were. The gate is called before each try that one of the callers makes.
+pub fn mark<R: Threads + Wait + Sync, H: Graph + Sync, L: PlaceList + Sync, G: Gate + Sync>(
+    rt: &R,
+    alloc: Global,
+    heap: &H,
+    from: &[Place],
+    marks: &Marks<L>,
+    seat: &mut Seat,
+    queue: &mut Queue<L>,
+    gate: &G,
+) -> Result<Marked, NoMemory>
+    requires present { All (H.has heap.now) from.now }
+    requires targets { (p q : ℕ × ℕ) → H.has heap.now p → Leads (H.edge heap.now) p q → H.has heap.now q }
+    requires words { (p : ℕ × ℕ) → H.has heap.now p → p.0 < length (first_of marks.now) }
+    requires listed { (q : ℕ × ℕ) → L.places q → Sought (H.edge heap.now) (H.marking heap.now) (first_of marks.now)
+        from.now q }
+    requires lists { (q : ℕ × ℕ) → Sought (H.edge heap.now) (H.marking heap.now) (first_of marks.now) from.now q
+        → L.places q }
+    requires seat { IsSeatOf marks.now seat.old × (view_of seat.old ≡ first_view (first_of marks.now)) }
+    requires queue { IsUnused queue.old }
+    ensures seat { IsSeatOf marks.now seat.new × ((view_of seat.new).parts ≡ whole) }
+    ensures marked { IfOk result (λ m. HasMarked (H.edge heap.now) (H.marking heap.now) (first_of marks.now) from.now
+        m.won.items m.outside.items (view_of seat.new)) }
+    ensures unchanged { OnErr result (view_of seat.new ≡ view_of seat.old) }
+{
+    let tries = first_tries(alloc, heap, from)?;
+    let room = tries
+        .len()
+        .checked_add(heap.most_edges())
+        .ok_or(AllocError)?;
+    let spare = room.checked_add(1).ok_or(AllocError)?;
+    let (front, back) = tries.as_slice().split_at(tries.len() / 2);
+    let front = new_lists(alloc, front, room, spare)?;
+    let back = new_lists(alloc, back, room, spare)?;
+    Ok(mark_from(rt, heap, marks, seat, queue, gate, room, front, back))
+}
+
+// Marks from these tries: the callers run, and then main tries what they left.
+fn mark_from<R: Threads + Wait + Sync, H: Graph + Sync, L: PlaceList + Sync, G: Gate + Sync>(
+    rt: &R,
+    heap: &H,
+    marks: &Marks<L>,
+    seat: &mut Seat,
+    queue: &mut Queue<L>,
+    gate: &G,
+    turns: usize,
+    front: Lists,
+    back: Lists,
+) -> Marked
+    requires serves { Serves (H.has heap.now) (H.edge heap.now) (H.marking heap.now) (first_of marks.now) L.places }
+    requires seat { IsSeatOf marks.now seat.old × (view_of seat.old ≡ first_view (first_of marks.now)) }
+    requires queue { IsUnused queue.old }
+    requires front { AreNew (tries_of front) turns (turns + 1) front }
+    requires back { AreNew (tries_of back) turns (turns + 1) back }
+    requires front_listed { All L.places (tries_of front) }
+    requires back_listed { All L.places (tries_of back) }
+    requires room { HasRoom (H.edge heap.now) (H.marking heap.now) L.places
+        (weigh (λ _. 1) (tries_of front) + weigh (λ _. 1) (tries_of back)) turns }
+    ensures seat { IsSeatOf marks.now seat.new × ((view_of seat.new).parts ≡ whole) }
+    ensures accounts { HasSettled (H.edge heap.now) (H.marking heap.now) L.places (tries_of front ++ tries_of back)
+        result.won.items result.outside.items (view_of seat.new) }
+{
+    let one = Marker {
+        seat: marks.split(seat),
+        pass: queue.ring.another::<Splits>(&mut queue.pass),
+        lists: front,
+    };
+    let two = Marker {
+        seat: marks.split(seat),
+        pass: queue.ring.another::<Splits>(&mut queue.pass),
+        lists: back,
+    };
+    let ring = &queue.ring;
+    let (one, two) = run_both(rt, heap, marks, ring, gate, turns, one, two);
+    let Marker {
+        seat: one_seat,
+        pass: one_pass,
+        mut lists,
+    } = one;
+    let Marker {
+        seat: two_seat,
+        pass: two_pass,
+        lists: others,
+    } = two;
+    join_one(marks, ring, seat, &mut queue.pass, one_seat, one_pass);
+    join_one(marks, ring, seat, &mut queue.pass, two_seat, two_pass);
+    settle(marks, ring, seat, &mut queue.pass);
+    append_lists(&mut lists, others);
+    drain(rt, heap, marks, ring, seat, &mut queue.pass, &mut lists);
+    settle(marks, ring, seat, &mut queue.pass);
+    let Lists {
+        tries: _,
+        won,
+        outside,
+    } = lists;
+    Marked { won, outside }
+}

@@ -1,0 +1,25 @@
+// The tries that marking begins with.
+ghost use Rattle.std.specs.Prelude.{◌≡◌, ◌+◌, ◌*◌, ◌<◌, ◌≤◌, ℕ, List, [], ◌∷◌, ◌++◌, length, vec_len, vec_capacity, All, IfOk};
+ghost use Rattle.par_mark.specs.Edges.{all_targets};
+
+use crate::graph::Graph;
+use crate::turns::scan;
+use gz_names::{NoMemory, Place};
+use std::alloc::{AllocError, Global};
+
+/// The targets of all these cells, in order.
+pub(crate) fn first_tries<H: Graph>(
+    alloc: Global,
+    heap: &H,
+    from: &[Place],
+) -> Result<Vec<Place>, NoMemory>
+    requires { All (H.has heap.now) from.now }
+    ensures { IfOk result (λ tries. tries.items ≡ all_targets (H.edge heap.now) from.now) }
+{
+    let room = from.len().checked_mul(8).ok_or(AllocError)?;
+    let mut tries = Vec::with_capacity(alloc, room)?;
+    for place in from {
+        scan(heap, *place, &mut tries);
+    }
+    Ok(tries)
+}

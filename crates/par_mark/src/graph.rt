@@ -1,0 +1,34 @@
+// What marking reads of a heap.
+ghost use Rattle.std.specs.Prelude.{◌≡◌, ◌≤◌, ℕ, Bool, List, All, Option};
+ghost use Rattle.mark_words.specs.Sums.{times, weigh};
+ghost use Rattle.par_mark.specs.Edges.{degree};
+
+use gz_names::Place;
+
+/// A heap, as far as marking reads it.
+pub trait Graph {
+    /// There is a cell at this place.
+    ghost has: { Self → ℕ × ℕ → Type 0 };
+
+    /// What a field of a cell holds.
+    ghost edge: { Self → ℕ × ℕ → ℕ → Option (ℕ × ℕ) };
+
+    /// Whether the zone of a cell is marking.
+    ghost marking: { Self → ℕ × ℕ → Bool };
+
+    /// What a field of a cell holds; `None` if that is null or there is no such field. A cell has at most
+    /// eight fields.
+    fn edge_at(&self, place: Place, i: u8) -> Option<Place>
+        requires { has self.now place }
+        ensures { result ≡ edge self.now place i };
+
+    /// Whether the zone of a cell is marking.
+    fn is_marking(&self, place: Place) -> bool
+        requires { has self.now place }
+        ensures { result ≡ marking self.now place };
+
+    /// A bound on edges: no set of cells has more edges than this together.
+    fn most_edges(&self) -> usize
+        ensures { (ps : List (ℕ × ℕ)) → ((p : ℕ × ℕ) → times p ps ≤ 1) → All (has self.now) ps
+            → weigh (degree (edge self.now)) ps ≤ result };
+}

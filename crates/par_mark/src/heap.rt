@@ -1,0 +1,36 @@
+// The heap as marking reads it.
+ghost use Rattle.std.specs.Prelude.{◌≡◌, ◌≤◌, ℕ, Bool, List, All, Option};
+ghost use Rattle.mark_words.specs.Sums.{times, weigh};
+ghost use Rattle.heap_core.specs.Shape.{field_at, is_marking};
+ghost use Rattle.par_mark.specs.Edges.{degree};
+ghost use Rattle.par_mark.specs.Heaps.{HasCell};
+
+use crate::graph::Graph;
+use gz_names::Place;
+use heap_core::Heap;
+
+// The most edges that the 64 cells of an arena can have.
+const ARENA_EDGES: usize = 512;
+
+impl Graph for Heap {
+    ghost has = { λ h p. HasCell h.shape p };
+
+    ghost edge = { λ h p i. field_at h.shape p i };
+
+    ghost marking = { λ h p. is_marking h.shape p };
+
+    fn edge_at(&self, place: Place, i: u8) -> Option<Place> {
+        Heap::edge_at(self, place, i)
+    }
+
+    fn is_marking(&self, place: Place) -> bool {
+        match self.owner(place.arena()) {
+            Some(zone) => self.state(zone).is_marking(),
+            None => false,
+        }
+    }
+
+    fn most_edges(&self) -> usize {
+        ARENA_EDGES * self.arenas() as usize
+    }
+}

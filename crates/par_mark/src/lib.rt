@@ -1,0 +1,83 @@
+// Black marking by two threads.
+//
+// [gczone] Parallel black marking
+//
+// Marking begins from black cells that were not scanned yet. Main reads their edges, and each target is
+// a *try*: a place that is to be tried. The list of tries is cut in two, and two callers work on the
+// halves in parallel, each with a list of its own. What one caller does with a try:
+//
+//      own list, or, if it is empty, the queue
+//                      |
+//                      v
+//                    a try ----------------------------+--------------------+
+//                      |                               |                    |
+//                      | its zone is marking,          | its zone is        | its zone isn't
+//                      | its bit was clear             | marking, its bit   | marking
+//                      v                               v was set            v
+//            the caller has *won* the cell,        nothing more         the cell goes to
+//            and scans it: its targets become                           `outside`, for main
+//            tries in the caller's list
+//                      |
+//                      | more than 16 tries: one goes to the queue, where the other caller finds it
+//                      v
+//                    queue, of 256 places
+//
+// What comes from the queue is tried at once, so no try is given away twice. A caller stops when its
+// list is empty and it finds nothing in the queue. The other may still have work then, and may still
+// give some away; so main tries whatever is left when both callers have ended.
+//
+// Nothing is forgotten and nothing is scanned twice, in every order of the callers' steps. The proof is
+// a conservation law. Count tries, each as often as it comes up. For each caller, at all times,
+//
+//     tries that it began with + targets of the cells that it won + tries that it took
+//         = tries in its list + tries that it gave away + tries that it made + what it found outside
+//
+// (`Accounts`), and for the queue (`Balanced`)
+//
+//     what both gave away = what both took + what stands in the queue
+//
+// These are equations for each place, and so for every way to give places weights and add them up: the
+// contracts have them in that form. When main is alone and finds nothing to try, lists and queue are
+// empty, and the sum over all seats is
+//
+//     tries made + outside = targets of the cells that marking began from + targets of all cells won
+//
+// So each of these cells was scanned, once, and each of its targets was tried or is in `outside`. What
+// was tried is black; hence black cells lead to black cells or to those outside, and by induction along
+// edges all that is reached is black (proofs/Reaching.antt). That induction is the only place where the
+// proof speaks of what is reached; all that the threads do is sums.
+//
+// What the law rules out: if a try that the full queue refuses were dropped, or if main left the queue
+// undrained, a reached cell could stay white, and be swept. If two callers could both win a cell, its
+// targets would be counted twice.
+//
+// `Graph` is what marking reads of a heap, so that the proof, and a test, can do without one. `mark`
+// works on marks and a queue, `mark_black` takes black words and answers them, and `mark_heap` does so
+// for the heap. All memory is reserved before the first step. Each caller's list stands in a
+// `CachePadded`, so that one caller's pushes don't slow down the other's.
+#![tactic(auto)]
+
+mod callers;
+mod closed;
+mod donations;
+mod first_tries;
+mod gather;
+mod graph;
+mod heap;
+mod lists;
+mod marker;
+mod over_heap;
+mod over_words;
+mod queue;
+mod run;
+#[cfg(test)]
+mod tests;
+mod turns;
+
+pub use callers::{Marked, mark};
+pub use closed::closes_up_law;
+pub use donations::{DonationRule, QueueView};
+pub use graph::Graph;
+pub use over_heap::mark_heap;
+pub use over_words::mark_black;
+pub use queue::Queue;

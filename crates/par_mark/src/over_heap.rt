@@ -1,0 +1,36 @@
+// Marking a heap.
+ghost use Rattle.std.specs.Prelude.{◌≡◌, ◌<◌, ℕ, length, All, IfOk};
+ghost use Rattle.heap_core.specs.Shape.{AreWhole, HasEdge, IsPresent, field_at, is_marking, zone_of};
+ghost use Rattle.par_mark.specs.Marking.{HasBlackened};
+
+use crate::callers::Marked;
+use crate::over_words::mark_black;
+use gz_io::Gate;
+use gz_names::{NoMemory, Place};
+use heap_core::Heap;
+use std::alloc::Global;
+use std::sync::Wait;
+use std::thread::Threads;
+
+/// Marks black, by two callers, the cells of marking zones that edges of a heap reach from these cells,
+/// through cells of marking zones that are not black. It takes the black word of each arena, and answers
+/// the black word of each arena as marking leaves it, with the cells that turned black and the targets
+/// outside the marking zones. The heap does not change. `NoMemory` comes before any step.
+pub fn mark_heap<R: Threads + Wait + Sync, G: Gate + Sync>(
+    rt: &R,
+    alloc: Global,
+    heap: &Heap,
+    from: &[Place],
+    words: Vec<u64>,
+    gate: &G,
+) -> Result<(Vec<u64>, Marked), NoMemory>
+    requires present { All (IsPresent heap.now.shape) from.now }
+    requires made { (x : ℕ × ℕ) → IsPresent heap.now.shape x → zone_of heap.now.shape x < length heap.now.shape.states }
+    requires targets { (x y : ℕ × ℕ) → HasEdge heap.now.shape x y → IsPresent heap.now.shape y }
+    requires whole { AreWhole heap.now.shape.arenas }
+    requires words { length words.items ≡ length heap.now.shape.arenas }
+    ensures { IfOk result (λ r. HasBlackened (field_at heap.now.shape) (is_marking heap.now.shape) words.items
+        from.now r.0.items r.1.won.items r.1.outside.items) }
+{
+    mark_black(rt, alloc, heap, from, words, gate)
+}

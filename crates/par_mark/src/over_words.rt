@@ -1,0 +1,58 @@
+// Marking over black words.
+ghost use Rattle.std.specs.Prelude.{◌≡◌, ◌<◌, ℕ, List, length, All, IfOk};
+ghost use Rattle.par_mark.specs.Edges.{Leads};
+ghost use Rattle.par_mark.specs.Marking.{HasBlackened, Sought};
+
+use crate::callers::{Marked, mark};
+use crate::graph::Graph;
+use crate::queue::Queue;
+use gz_io::Gate;
+use gz_names::{NoMemory, Place};
+use mark_words::{Marks, PlaceList};
+use std::alloc::Global;
+use std::marker::Brand;
+use std::sync::Wait;
+use std::thread::Threads;
+
+// The same, with a place list that is what may be tried.
+fn mark_listed<R: Threads + Wait + Sync, H: Graph + Sync, L: PlaceList + Sync, G: Gate + Sync>(
+    rt: &R,
+    alloc: Global,
+    heap: &H,
+    from: &[Place],
+    words: Vec<u64>,
+    gate: &G,
+) -> Result<(Vec<u64>, Marked), NoMemory>
+    requires present { All (H.has heap.now) from.now }
+    requires targets { (p q : ℕ × ℕ) → H.has heap.now p → Leads (H.edge heap.now) p q → H.has heap.now q }
+    requires words { (p : ℕ × ℕ) → H.has heap.now p → p.0 < length words.items }
+    requires listed { (q : ℕ × ℕ) → L.places q → Sought (H.edge heap.now) (H.marking heap.now) words.items from.now q }
+    requires lists { (q : ℕ × ℕ) → Sought (H.edge heap.now) (H.marking heap.now) words.items from.now q → L.places q }
+    ensures { IfOk result (λ r. HasBlackened (H.edge heap.now) (H.marking heap.now) words.items from.now r.0.items
+        r.1.won.items r.1.outside.items) }
+{
+    let (marks, mut seat) = Marks::<L>::new(alloc, words)?;
+    let mut queue = Queue::<L>::new(alloc)?;
+    let marked = mark(rt, alloc, heap, from, &marks, &mut seat, &mut queue, gate)?;
+    Ok((marks.close(seat), marked))
+}
+
+/// Marks black, by two callers, the cells of marking zones that edges reach from these cells, through
+/// cells of marking zones that are not black. It takes the black word of each arena, and answers the
+/// black word of each arena as marking leaves it. `NoMemory` comes before any step.
+pub fn mark_black<R: Threads + Wait + Sync, H: Graph + Sync, G: Gate + Sync>(
+    rt: &R,
+    alloc: Global,
+    heap: &H,
+    from: &[Place],
+    words: Vec<u64>,
+    gate: &G,
+) -> Result<(Vec<u64>, Marked), NoMemory>
+    requires present { All (H.has heap.now) from.now }
+    requires targets { (p q : ℕ × ℕ) → H.has heap.now p → Leads (H.edge heap.now) p q → H.has heap.now q }
+    requires words { (p : ℕ × ℕ) → H.has heap.now p → p.0 < length words.items }
+    ensures { IfOk result (λ r. HasBlackened (H.edge heap.now) (H.marking heap.now) words.items from.now r.0.items
+        r.1.won.items r.1.outside.items) }
+{
+    mark_listed::<R, H, Brand, G>(rt, alloc, heap, from, words, gate)
+}
