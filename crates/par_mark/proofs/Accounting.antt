@@ -1,6 +1,6 @@
 -- What turns do to a marker's account.
-use Rattle.std.proofs.Common.{◌≡◌, ◌≢◌, ℕ, zero, suc, ◌+◌, ◌<◌, ◌≤◌, Bool, true, false, List, [], ◌∷◌, ◌++◌, length, Option, Some, None, sym, refl, ap, ◌∙◌, subst, arith, All}
-use Rattle.std.proofs.lemmas.List.Elements.{All-cons, All-nil, All-append, All-head, All-tail, All-weaker}
+use Rattle.std.proofs.Common.{◌≡◌, ℕ, zero, suc, ◌+◌, ◌<◌, ◌≤◌, Bool, true, false, List, [], ◌∷◌, ◌++◌, length, Option, Some, None, sym, refl, ap, ◌∙◌, subst, arith, All}
+use Rattle.std.proofs.lemmas.List.Elements.{All-cons, All-nil, All-append, All-head, All-tail}
 use Rattle.std.proofs.lemmas.List.{length-append}
 use mathlib.Core.Logic.{dite}
 use native.Mathlib.Decide.{ℕ_discrete}
@@ -11,12 +11,11 @@ use Rattle.mark_words.specs.Views.{with_known, with_won}
 use Rattle.mark_words.specs.Steps.{Wins}
 use Rattle.mark_words.proofs.Counts.{weigh-append, weigh-snoc, only-same, only-arena, only-slot}
 use Rattle.par_mark.specs.declared.donations.QueueView.{QueueView}
-use Rattle.par_mark.specs.Donations.{queue_view, HasPut, HasTaken}
-use Rattle.par_mark.specs.Edges.{held, first_targets, targets, out, degree, Leads}
+use Rattle.par_mark.specs.Donations.{HasTaken}
+use Rattle.par_mark.specs.Edges.{held, first_targets, targets, out, degree}
 use Rattle.par_mark.specs.Accounts.{Accounts, HasRoom}
 use Rattle.par_mark.specs.Tries.{IsTaken, own, queued, IsDonated, kept, given, IsTried, beyond, black, fresh, Serves, HasTurned, TakenWasPut, done}
 use Rattle.par_mark.proofs.Balancing.{last_listed}
-use Rattle.par_mark.proofs.Members.{all_counted}
 use Rattle.par_mark.proofs.Scanning.{weigh-one}
 
 one : ℕ × ℕ → ℕ
@@ -99,32 +98,22 @@ module _ (edge : ℕ × ℕ → ℕ → Option (ℕ × ℕ)) (marking : ℕ × �
 
   pub gave : (firsts tries tries' outside : List (ℕ × ℕ)) (v : MarkView) (d d' : QueueView)
       → IsDonated tries d tries' d' → Books firsts [] tries outside v d → Books firsts [] tries' outside v d'
-  gave firsts tries tries' outside v d d' (kept e f) a = subst (Books firsts [] tries' outside v) (sym f) record {
-    balance = λ h. let c = a.balance h in let s = e h in omega arith;
-    taken = a.taken;
-    won_known = a.won_known;
-    once = a.once;
-    fresh = a.fresh;
-    inside = a.inside;
-    tried_inside = a.tried_inside;
-    beyond = a.beyond;
-    listed = a.listed;
-    tries_listed = all_counted P tries' tries a.tries_listed (λ q. let s = e (only q) in omega arith);
-    won_listed = a.won_listed;
-  }
-  gave firsts tries tries' outside v d d' (given p e f) a = subst (Books firsts [] tries' outside v) (sym f) record {
-    balance = λ h. let c = a.balance h in let s = e h in let t = weigh-snoc h d.put p in omega arith;
-    taken = a.taken;
-    won_known = a.won_known;
-    once = a.once;
-    fresh = a.fresh;
-    inside = a.inside;
-    tried_inside = a.tried_inside;
-    beyond = a.beyond;
-    listed = a.listed;
-    tries_listed = all_counted P tries' tries a.tries_listed (λ q. let s = e (only q) in omega arith);
-    won_listed = a.won_listed;
-  }
+  gave firsts tries tries' outside v d d' (kept e f) a =
+      subst (λ (x : List (ℕ × ℕ) × QueueView). Books firsts [] x.0 outside v x.1) (λ i. (sym e i, sym f i)) a
+  gave firsts tries tries' outside v d d' (given p e f) a = subst (Books firsts [] tries' outside v) (sym f)
+      (let b = subst (λ (l : List (ℕ × ℕ)). Books firsts [] l outside v d) e a in record {
+        balance = λ h. let c = b.balance h in let t = weigh-snoc h d.put p in omega arith;
+        taken = b.taken;
+        won_known = b.won_known;
+        once = b.once;
+        fresh = b.fresh;
+        inside = b.inside;
+        tried_inside = b.tried_inside;
+        beyond = b.beyond;
+        listed = b.listed;
+        tries_listed = All-tail P p tries' b.tries_listed;
+        won_listed = b.won_listed;
+      })
 
   -- there is room for the targets of a cell that was won
   pub room_for : (firsts tries outside : List (ℕ × ℕ)) (v w : MarkView) (d : QueueView) (p : ℕ × ℕ) (room : ℕ)

@@ -1,15 +1,13 @@
 -- Edges of black cells after marking.
-use Rattle.std.proofs.Common.{◌≡◌, ◌≢◌, ℕ, ◌+◌, ◌<◌, ◌⊎◌, inl, inr, ⊎_elim, Bool, true, false, List, length, Option, sym, refl, ap, ◌∙◌, subst, arith, All, Contains}
+use Rattle.std.proofs.Common.{◌≡◌, ◌⊎◌, inl, inr, ⊎_elim, Bool, true, false, refl, arith, Contains}
 use Rattle.std.proofs.lemmas.List.Elements.{All-contains_itself}
 use mathlib.Core.Logic.{dite}
 use native.Mathlib.Decide.{ℕ_discrete}
 use Rattle.std.specs.Int.{bit_at}
 use Rattle.std.proofs.lemmas.Nat.Bits.{bit_at-lt}
-use Rattle.mark_words.specs.Sums.{times}
 use Rattle.mark_words.specs.Rule.{bit_of}
-use Rattle.par_mark.specs.Edges.{Leads}
-use Rattle.par_mark.specs.Marking.{Reached, near, far, HasBlackened}
-use Rattle.par_mark.specs.Closed.{ClosesUp, IsClosedBut}
+use Rattle.par_mark.specs.Marking.{Reached, near, far}
+use Rattle.par_mark.specs.Closed.{ClosesUp}
 use Rattle.par_mark.proofs.Members.{from_times}
 
 either : (b : Bool) → (b ≡ true) ⊎ (b ≡ false)

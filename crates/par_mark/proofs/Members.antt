@@ -1,11 +1,10 @@
 -- What is counted in a list is in it.
-use Rattle.std.proofs.Common.{◌≡◌, ◌≢◌, ℕ, zero, suc, ◌+◌, ◌-◌, ◌<◌, ◌≤◌, List, [], ◌∷◌, ◌++◌, length, get_or, set, take, sym, refl, ap, ◌∙◌, subst, arith, All, Contains, swap_remove, sum_by}
+use Rattle.std.proofs.Common.{◌≡◌, ℕ, ◌+◌, ◌<◌, ◌≤◌, List, [], ◌∷◌, subst, arith, All, Contains}
 use Rattle.std.proofs.lemmas.List.Elements.{All-cons, All-nil, All-head, All-tail, All-weaker, All-contains, All-contains_itself}
-use Rattle.std.proofs.lemmas.List.Sums.{sum_by-cons, sum_by-swap_remove}
 use mathlib.Core.Logic.{dite}
 use native.Mathlib.Decide.{ℕ_discrete}
 use Rattle.mark_words.specs.Sums.{weigh, only, times}
-use Rattle.mark_words.proofs.Counts.{only-same, only-arena, only-slot, weigh-append, weigh-snoc}
+use Rattle.mark_words.proofs.Counts.{only-same, only-arena, only-slot}
 
 -- what is counted is there
 pub from_times : (R : ℕ × ℕ → Type 0) (ps : List (ℕ × ℕ)) (q : ℕ × ℕ) → All R ps → 0 < times q ps → R q
@@ -30,19 +29,3 @@ times_in ps p lt = from_times (Contains ps) ps p (All-contains_itself ps) lt
 
 pub in_times : (ps : List (ℕ × ℕ)) (p : ℕ × ℕ) → Contains ps p → 0 < times p ps
 in_times ps p c = let s = in_sum (only p) ps p c in let o = only-same p in omega arith
-
--- a list whose places all count in another has what the other has
-pub all_counted : (P : ℕ × ℕ → Type 0) (ps qs : List (ℕ × ℕ)) → All P qs → ((q : ℕ × ℕ) → times q ps ≤ times q qs)
-    → All P ps
-all_counted P ps qs all le = All-weaker (Contains ps) P
-    (λ q c. let i = in_times ps q c in let l = le q in from_times P qs q all (omega arith)) ps (All-contains_itself ps)
-
-weigh-sum : (h : ℕ × ℕ → ℕ) (ps : List (ℕ × ℕ)) → weigh h ps ≡ sum_by h ps
-weigh-sum h [] = refl
-weigh-sum h (p ∷ ps) = let r = weigh-sum h ps in let c = sum_by-cons h p ps in omega arith
-
--- the first place leaves a list, and the last takes its place
-pub weigh-first : (h : ℕ × ℕ → ℕ) (ps : List (ℕ × ℕ)) (p : ℕ × ℕ) → 0 < length ps → p ≡ get_or ps 0 p
-    → weigh h ps ≡ weigh h (swap_remove ps 0 p) + h p
-weigh-first h ps p some' is = let a = weigh-sum h ps in let b = weigh-sum h (swap_remove ps 0 p) in
-    let s = sum_by-swap_remove h ps 0 p some' in let e = ap h is in omega arith

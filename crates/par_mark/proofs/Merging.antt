@@ -1,6 +1,6 @@
 -- The books of both callers in one.
-use Rattle.std.proofs.Common.{◌≡◌, ◌≢◌, ℕ, ◌+◌, ◌<◌, ◌≤◌, Bool, true, false, List, [], ◌∷◌, ◌++◌, length, Option, sym, refl, ap, ◌∙◌, subst, arith, All, vec_capacity}
-use Rattle.std.proofs.lemmas.List.Elements.{All-nil, All-same, All-append, All-head, All-tail}
+use Rattle.std.proofs.Common.{◌≡◌, ℕ, ◌+◌, ◌≤◌, Bool, true, false, List, [], ◌++◌, length, Option, sym, refl, ap, ◌∙◌, subst, arith, All}
+use Rattle.std.proofs.lemmas.List.Elements.{All-nil, All-same, All-append}
 use Rattle.std.proofs.lemmas.List.{length-append}
 use mathlib.Core.Logic.{dite}
 use native.Mathlib.Decide.{ℕ_discrete}
@@ -10,16 +10,16 @@ use Rattle.mark_words.specs.Sums.{weigh, only, times, whole}
 use Rattle.mark_words.specs.Rule.{bit_of}
 use Rattle.mark_words.specs.Steps.{KnowsAll}
 use Rattle.mark_words.specs.Seats.{view_of}
-use Rattle.mark_words.proofs.Counts.{weigh-append, only-arena, only-slot}
+use Rattle.mark_words.proofs.Counts.{weigh-append}
 use Rattle.par_mark.specs.declared.donations.QueueView.{QueueView}
 use Rattle.par_mark.specs.declared.marker.Marker.{Marker}
 use Rattle.par_mark.specs.declared.lists.Lists.{Lists}
 use Rattle.par_mark.specs.Edges.{out}
 use Rattle.par_mark.specs.Accounts.{Accounts, HasRoom}
 use Rattle.par_mark.specs.Donations.{Total}
-use Rattle.par_mark.specs.Lists.{AreAsLarge, AreNew, tries_of, tries_room, won_of, outside_of}
-use Rattle.par_mark.specs.Markers.{IsReady, HasRun, IsOpen, HasSettled}
-use Rattle.par_mark.specs.Tries.{TakenWasPut, done}
+use Rattle.par_mark.specs.Lists.{tries_of, won_of, outside_of}
+use Rattle.par_mark.specs.Markers.{HasRun, HasSettled}
+use Rattle.par_mark.specs.Tries.{TakenWasPut}
 use Rattle.par_mark.proofs.Members.{from_times}
 use Rattle.par_mark.proofs.Scanning.{weigh-one}
 use Rattle.par_mark.proofs.Running.{within, won_within, outside_within}

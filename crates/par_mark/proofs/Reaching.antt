@@ -1,16 +1,15 @@
 -- What is black in the end is what is reached.
-use Rattle.std.proofs.Common.{◌≡◌, ◌≢◌, ℕ, zero, suc, ◌+◌, ◌<◌, ◌≤◌, ◌⊎◌, inl, inr, ⊎_elim, ◌↔◌, Bool, true, false, true≢false, List, [], ◌∷◌, ◌++◌, length, Option, Some, None, sym, refl, ap, ◌∙◌, subst, arith, All, Contains}
+use Rattle.std.proofs.Common.{◌≡◌, ℕ, zero, suc, ◌+◌, ◌<◌, ◌⊎◌, inl, inr, ⊎_elim, Bool, true, false, true≢false, List, [], ◌∷◌, ◌++◌, length, Option, Some, None, sym, ap, ◌∙◌, subst, arith, All, Contains}
 use Rattle.std.specs.Int.{bit_at}
 use Rattle.std.proofs.lemmas.Nat.Bits.{bit_at-lt}
-use Rattle.std.proofs.lemmas.List.Elements.{All-cons, All-nil, All-append, All-head, All-tail, All-weaker, All-contains, All-contains_itself}
+use Rattle.std.proofs.lemmas.List.Elements.{All-cons, All-nil, All-append, All-head, All-tail, All-contains, All-contains_itself}
 use mathlib.Core.Logic.{dite}
 use native.Mathlib.Decide.{ℕ_discrete}
 use Rattle.mark_words.specs.declared.view.MarkView.{MarkView}
 use Rattle.mark_words.specs.Sums.{weigh, only, times}
 use Rattle.mark_words.specs.Rule.{bit_of}
 use Rattle.mark_words.proofs.Counts.{weigh-append, only-same, only-arena, only-slot}
-use Rattle.par_mark.specs.Edges.{held, first_targets, targets, out, degree, all_targets, Leads}
-use Rattle.par_mark.specs.Accounts.{HasRoom}
+use Rattle.par_mark.specs.Edges.{held, first_targets, targets, out, all_targets, Leads}
 use Rattle.par_mark.specs.Markers.{HasSettled}
 use Rattle.par_mark.specs.Marking.{Reached, near, far, Sought, HasMarked, HasBlackened}
 use Rattle.par_mark.specs.Tries.{Serves}

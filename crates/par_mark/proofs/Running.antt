@@ -1,9 +1,9 @@
 -- A marker's run.
-use Rattle.std.proofs.Common.{◌≡◌, ◌≢◌, ℕ, ◌+◌, ◌-◌, ◌<◌, ◌≤◌, Bool, true, false, List, [], ◌∷◌, ◌++◌, length, Option, Some, None, sym, refl, ap, ◌∙◌, subst, arith, All, vec_capacity}
+use Rattle.std.proofs.Common.{◌≡◌, ℕ, ◌+◌, ◌-◌, ◌<◌, ◌≤◌, Bool, true, false, List, [], length, Option, sym, refl, ap, ◌∙◌, subst, arith, All, vec_capacity}
 use Rattle.std.proofs.lemmas.List.Elements.{All-nil, All-same}
 use Rattle.crossbeam_queue.specs.Passes.{view}
 use Rattle.mark_words.specs.declared.view.MarkView.{MarkView}
-use Rattle.mark_words.specs.Sums.{weigh, only, times}
+use Rattle.mark_words.specs.Sums.{weigh, times}
 use Rattle.mark_words.specs.Rule.{bit_of}
 use Rattle.mark_words.specs.Seats.{view_of}
 use Rattle.par_mark.specs.declared.donations.QueueView.{QueueView}

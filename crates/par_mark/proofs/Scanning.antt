@@ -38,6 +38,16 @@ none_more field n old e = ap (λ (l : List (ℕ × ℕ)). old ++ l)
     (sym (append-nil (first_targets field n)) ∙ ap (λ (o : Option (ℕ × ℕ)). first_targets field n ++ held o) (sym e))
     ∙ ap (λ (m : ℕ). old ++ first_targets field m) (next n)
 
+-- past the last field there is nothing more
+pub all_fields : (field : ℕ → Option (ℕ × ℕ)) (n m : ℕ) → n ≤ m → ((i : ℕ) → n ≤ i → i < m → field i ≡ None)
+    → first_targets field n ≡ first_targets field m
+all_fields field n zero le past = ap (first_targets field) (let e : n ≡ 0 = omega arith in e)
+all_fields field n (suc m) le past = dite (ℕ_discrete n (suc m))
+    (λ e. ap (first_targets field) e)
+    (λ ne. all_fields field n m (omega arith) (λ i low high. past i low (omega arith))
+    ∙ sym (append-nil (first_targets field m))
+    ∙ ap (λ (o : Option (ℕ × ℕ)). first_targets field m ++ held o) (sym (past m (omega arith) (omega arith))))
+
 -- there is room for one more
 pub room_more : (field : ℕ → Option (ℕ × ℕ)) (n : ℕ) (q : ℕ × ℕ) → n < 8 → field n ≡ Some q
     → length (first_targets field n) + 1 ≤ length (first_targets field 8)

@@ -1,8 +1,7 @@
 -- The graph of the tests.
-use Rattle.std.proofs.Common.{◌≡◌, ◌≢◌, ℕ, ◌<◌, ◌≤◌, ◌&&◌, Bool, true, false, true≢false, nat_lt, List, Option, Some, None, refl, sym, ap, ◌∙◌, subst, arith, if◌then◌else◌}
+use Rattle.std.proofs.Common.{◌≡◌, ℕ, ◌<◌, ◌&&◌, Bool, true, false, true≢false, nat_lt, Option, Some, None, refl, sym, ap, ◌∙◌, subst, if◌then◌else◌}
 use Rattle.std.proofs.lemmas.Bool.{ltb-true, lt-ltb}
-use Rattle.par_mark.specs.Edges.{Leads}
-use Rattle.par_mark.specs.TestGraphs.{in_grid, inside, field_in, edge_in}
+use Rattle.par_mark.specs.TestGraphs.{in_grid, inside}
 
 abbrev there : Option (ℕ × ℕ) → Bool
 there None = false

@@ -1,5 +1,5 @@
 -- The conservation law of one caller.
-use Rattle.std.specs.Prelude.{◌≡◌, ℕ, ◌+◌, ◌≤◌, Bool, true, false, List, [], ◌∷◌, Option, All}
+use Rattle.std.specs.Prelude.{◌≡◌, ℕ, ◌+◌, ◌≤◌, Bool, true, false, List, Option, All}
 use Rattle.mark_words.specs.declared.view.MarkView.{MarkView}
 use Rattle.mark_words.specs.Sums.{weigh, times}
 use Rattle.mark_words.specs.Rule.{bit_of}

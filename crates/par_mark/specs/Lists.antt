@@ -1,5 +1,6 @@
 -- What clauses say of a caller's lists.
 use Rattle.std.specs.Prelude.{◌≡◌, ℕ, ◌+◌, ◌≤◌, List, [], length, vec_capacity}
+use Rattle.std.specs.VecDeque.{deque_capacity}
 use Rattle.crossbeam_utils.specs.Padded.{padded_value}
 use Rattle.par_mark.specs.declared.lists.Lists.{Lists}
 
@@ -13,7 +14,7 @@ abbrev pub won_of : Lists → List (ℕ × ℕ)
 won_of l = l.won.items
 
 abbrev pub tries_room : Lists → ℕ
-tries_room l = vec_capacity (padded_value l.tries)
+tries_room l = deque_capacity (padded_value l.tries)
 
 -- each list has the room that it had
 pub record AreAsLarge (l l' : Lists) : Type 0 where

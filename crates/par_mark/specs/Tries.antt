@@ -16,11 +16,10 @@ pub data IsTaken (P : ℕ × ℕ → Type 0) (p : ℕ × ℕ) (tries : List (ℕ
   own : tries ≡ tries' ++ p ∷ [] → d' ≡ d → IsTaken P p tries d tries' d'
   queued : tries ≡ [] → tries' ≡ [] → HasTaken P d p d' → IsTaken P p tries d tries' d'
 
--- a try of the list is given away, or none; the others may change their order
+-- the oldest try of the list is given away, or none
 pub data IsDonated (tries : List (ℕ × ℕ)) (d : QueueView) (tries' : List (ℕ × ℕ)) (d' : QueueView) : Type 0 where
-  kept : ((h : ℕ × ℕ → ℕ) → weigh h tries' ≡ weigh h tries) → d' ≡ d → IsDonated tries d tries' d'
-  given : (p : ℕ × ℕ) → ((h : ℕ × ℕ → ℕ) → weigh h tries ≡ weigh h tries' + h p) → HasPut d p d'
-      → IsDonated tries d tries' d'
+  kept : tries' ≡ tries → d' ≡ d → IsDonated tries d tries' d'
+  given : (p : ℕ × ℕ) → tries ≡ p ∷ tries' → HasPut d p d' → IsDonated tries d tries' d'
 
 module _ (edge : ℕ × ℕ → ℕ → Option (ℕ × ℕ)) (marking : ℕ × ℕ → Bool) where
   pub data IsTried (p : ℕ × ℕ) (tries won outside : List (ℕ × ℕ)) (v : MarkView) (tries' won' outside' : List (ℕ × ℕ))

@@ -1,11 +1,12 @@
 // The tries that marking begins with.
-ghost use Rattle.std.specs.Prelude.{◌≡◌, ◌+◌, ◌*◌, ◌<◌, ◌≤◌, ℕ, List, [], ◌∷◌, ◌++◌, length, vec_len, vec_capacity, All, IfOk};
+ghost use Rattle.std.specs.Prelude.{◌≡◌, ◌+◌, ◌*◌, ◌<◌, ◌≤◌, ℕ, List, [], ◌∷◌, ◌++◌, length, All, IfOk};
 ghost use Rattle.par_mark.specs.Edges.{all_targets};
 
 use crate::graph::Graph;
 use crate::turns::scan;
 use gz_names::{NoMemory, Place};
 use std::alloc::{AllocError, Global};
+use std::collections::VecDeque;
 
 /// The targets of all these cells, in order.
 pub(crate) fn first_tries<H: Graph>(
@@ -17,9 +18,9 @@ pub(crate) fn first_tries<H: Graph>(
     ensures { IfOk result (λ tries. tries.items ≡ all_targets (H.edge heap.now) from.now) }
 {
     let room = from.len().checked_mul(8).ok_or(AllocError)?;
-    let mut tries = Vec::with_capacity(alloc, room)?;
+    let mut tries = VecDeque::with_capacity(alloc, room)?;
     for place in from {
         scan(heap, *place, &mut tries);
     }
-    Ok(tries)
+    Ok(tries.into_vec())
 }

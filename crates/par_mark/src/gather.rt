@@ -15,6 +15,7 @@ use crossbeam_utils::CachePadded;
 use gz_names::{NoMemory, Place};
 use mark_words::{Marks, PlaceList, Seat};
 use std::alloc::Global;
+use std::collections::VecDeque;
 
 /// Lists for a caller that begins with these tries: room for so many tries, and spare places for what
 /// it wins and finds outside.
@@ -32,7 +33,7 @@ pub(crate) fn new_lists(
     let won = Vec::with_capacity(alloc, spare)?;
     let outside = Vec::with_capacity(alloc, spare)?;
     Ok(Lists {
-        tries: CachePadded::new(own),
+        tries: CachePadded::new(VecDeque::from_vec(own)),
         won,
         outside,
     })

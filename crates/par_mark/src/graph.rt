@@ -1,5 +1,5 @@
 // What marking reads of a heap.
-ghost use Rattle.std.specs.Prelude.{◌≡◌, ◌≤◌, ℕ, Bool, List, All, Option};
+ghost use Rattle.std.specs.Prelude.{◌≡◌, ◌<◌, ◌≤◌, ℕ, Bool, List, All, Option, None};
 ghost use Rattle.mark_words.specs.Sums.{times, weigh};
 ghost use Rattle.par_mark.specs.Edges.{degree};
 
@@ -21,6 +21,12 @@ pub trait Graph {
     fn edge_at(&self, place: Place, i: u8) -> Option<Place>
         requires { has self.now place }
         ensures { result ≡ edge self.now place i };
+
+    /// How many fields a cell has, at most eight: from this number on they hold nothing.
+    fn edge_count(&self, place: Place) -> u8
+        requires { has self.now place }
+        ensures most { result ≤ 8 }
+        ensures past { (i : ℕ) → result ≤ i → i < 8 → edge self.now place i ≡ None };
 
     /// Whether the zone of a cell is marking.
     fn is_marking(&self, place: Place) -> bool

@@ -23,6 +23,10 @@ impl Graph for Heap {
         Heap::edge_at(self, place, i)
     }
 
+    fn edge_count(&self, place: Place) -> u8 {
+        Heap::edge_count(self, place)
+    }
+
     fn is_marking(&self, place: Place) -> bool {
         match self.owner(place.arena()) {
             Some(zone) => self.state(zone).is_marking(),

@@ -1,5 +1,6 @@
 // A caller's turn: it takes a try, makes it, and may give one away.
 ghost use Rattle.std.specs.Prelude.{◌≡◌, ◌+◌, ◌<◌, ◌≤◌, ℕ, List, [], ◌∷◌, ◌++◌, length, vec_len, vec_capacity, IfSome, IfNone, All, IsTrue, true, false};
+ghost use Rattle.std.specs.VecDeque.{deque_len, deque_capacity};
 ghost use Rattle.crossbeam_queue.specs.Passes.{view, IsSamePass, IsPassOf};
 ghost use Rattle.mark_words.specs.declared.view.MarkView.{MarkView as AView};
 ghost use Rattle.mark_words.specs.Seats.{first_of, view_of, IsSeatOf};
@@ -17,21 +18,22 @@ use crate::lists::Lists;
 use gz_io::{Gate, Point};
 use gz_names::Place;
 use mark_words::{Marks, PlaceList, Seat};
+use std::collections::VecDeque;
 use std::sync::Wait;
 
 // A caller with more tries than this gives one away.
 const OWN_TRIES: usize = 16;
 
 /// Scans a cell: the targets of its edges become tries.
-pub(crate) fn scan<H: Graph>(heap: &H, place: Place, tries: &mut Vec<Place>)
+pub(crate) fn scan<H: Graph>(heap: &H, place: Place, tries: &mut VecDeque<Place>)
     requires present { H.has heap.now place }
-    requires room { vec_len tries.old + length (targets (H.edge heap.now) place) ≤ vec_capacity tries.old }
+    requires room { deque_len tries.old + length (targets (H.edge heap.now) place) ≤ deque_capacity tries.old }
     ensures tries { tries.new.items ≡ tries.old.items ++ targets (H.edge heap.now) place }
-    ensures room { vec_capacity tries.new ≡ vec_capacity tries.old }
+    ensures room { deque_capacity tries.new ≡ deque_capacity tries.old }
 {
-    for i in 0..8u8 {
+    for i in 0..heap.edge_count(place) {
         if let Some(target) = heap.edge_at(place, i) {
-            tries.push_reserved(target);
+            tries.push_back_reserved(target);
         }
     }
 }
@@ -77,44 +79,49 @@ pub(crate) fn take<L: PlaceList, R: Wait>(
     rt: &R,
     ring: &Ring<L>,
     pass: &mut QueuePass,
-    tries: &mut Vec<Place>,
+    tries: &mut VecDeque<Place>,
 ) -> Option<Place>
     requires pass { IsPassOf ring.now pass.old }
     requires parts { 0 < (view pass.old).parts }
     ensures pass { IsPassOf ring.now pass.new }
-    ensures room { vec_capacity tries.new ≡ vec_capacity tries.old }
+    ensures room { deque_capacity tries.new ≡ deque_capacity tries.old }
     ensures some { IfSome result (λ place. IsTaken L.places place tries.old.items (view pass.old) tries.new.items
         (view pass.new)) }
     ensures none { IfNone result ((tries.old.items ≡ []) × (tries.new.items ≡ []) × (view pass.new ≡ view pass.old)
         × Total (view pass.old) []) }
 {
-    if let Some(place) = tries.pop() {
+    if let Some(place) = tries.pop_back() {
         return Some(place);
     }
     ring.pop_as::<Takes<L>, R>(rt, pass)
 }
 
-/// Gives the try at the front of the list away, if there are many. One that the full queue refuses stays.
+/// Gives the oldest try away if there are many, since an old one has much to reach. One that the full
+/// queue refuses stays.
 pub(crate) fn donate<L: PlaceList, R: Wait>(
     rt: &R,
     ring: &Ring<L>,
     pass: &mut QueuePass,
-    tries: &mut Vec<Place>,
+    tries: &mut VecDeque<Place>,
 )
     requires pass { IsPassOf ring.now pass.old }
     requires parts { 0 < (view pass.old).parts }
     requires listed { All L.places tries.old.items }
     ensures pass { IsPassOf ring.now pass.new }
-    ensures room { vec_capacity tries.new ≡ vec_capacity tries.old }
+    ensures room { deque_capacity tries.new ≡ deque_capacity tries.old }
     ensures donated { IsDonated tries.old.items (view pass.old) tries.new.items (view pass.new) }
 {
     if tries.len() <= OWN_TRIES {
         return;
     }
-    let place = tries.swap_remove(0);
-    match ring.push_as::<Donates, R>(rt, pass, place) {
-        Ok(()) => {}
-        Err(place) => tries.push_reserved(place),
+    let Some(oldest) = tries.front() else {
+        return;
+    };
+    match ring.push_as::<Donates, R>(rt, pass, *oldest) {
+        Ok(()) => {
+            tries.pop_front();
+        }
+        Err(_) => {}
     }
 }
 

@@ -1,10 +1,10 @@
-use Rattle.std.proofs.Common.{rules, ◌≡◌, ◌≤◌, ◌<◌, ◌+◌, ℕ, List, [], ◌++◌, length, All, Contains, sym, ap, subst, refl, ◌∙◌, arith}
+use Rattle.std.proofs.Common.{rules, ◌≡◌, ◌+◌, ℕ, List, ◌++◌, length, All, sym, ap, ◌∙◌, arith}
 use Rattle.std.proofs.lemmas.List.Elements.{All-contains_itself, All-weaker, All-same}
 use Rattle.mark_words.specs.Seats.{first_of, view_of}
-use Rattle.mark_words.specs.Sums.{weigh, times}
+use Rattle.mark_words.specs.Sums.{weigh}
 use Rattle.mark_words.proofs.Counts.{weigh-append}
 use Rattle.par_mark.specs.Lists.{tries_of}
-use Rattle.par_mark.specs.Edges.{all_targets, degree, out}
+use Rattle.par_mark.specs.Edges.{all_targets}
 use Rattle.par_mark.proofs.Cells.{weigh-all_targets}
 use Rattle.par_mark.proofs.Reaching.{serves, tries_sought, marked, front_all, back_all}
 use Rattle.par_mark.proofs.Scanning.{weigh-one}

@@ -1,14 +1,14 @@
-use Rattle.std.proofs.Common.{rules, ◌≡◌, ◌≤◌, ◌<◌, ◌+◌, ℕ, List, [], ◌++◌, length, All, sym, ap, subst, refl, ◌∙◌, arith, vec_capacity, vec_len}
+use Rattle.std.proofs.Common.{rules, ◌≡◌, ℕ, List, [], ◌++◌, sym, ap, subst, ◌∙◌, arith}
 use Rattle.crossbeam_queue.specs.Passes.{view}
 use Rattle.mark_words.specs.declared.view.MarkView.{MarkView}
 use Rattle.mark_words.specs.Seats.{first_of, view_of}
-use Rattle.mark_words.specs.Sums.{weigh, whole}
+use Rattle.mark_words.specs.Sums.{whole}
 use Rattle.mark_words.specs.Views.{first_view, with_less, joined}
 use Rattle.par_mark.specs.declared.donations.QueueView.{QueueView}
 use Rattle.par_mark.specs.Accounts.{Accounts}
 use Rattle.par_mark.specs.Donations.{queue_view, joined_view}
 use Rattle.par_mark.specs.Donations as donations
-use Rattle.par_mark.specs.Lists.{tries_of, tries_room, won_of, outside_of}
+use Rattle.par_mark.specs.Lists.{tries_of, won_of, outside_of}
 use Rattle.par_mark.proofs.Balancing.{forks}
 use Rattle.par_mark.proofs.Merging.{Together, together, settled}
 use Rattle.par_mark.proofs.callers.mark_from.Goals as goal

@@ -1,4 +1,5 @@
-use Rattle.std.proofs.Common.{rules, ◌≡◌, ◌≤◌, ◌+◌, ℕ, List, ◌++◌, length, vec_len, vec_capacity, sym, ap, ◌∙◌, arith, take}
+use Rattle.std.proofs.Common.{◌≤◌, ◌+◌, ℕ, List, ◌++◌, length, sym, ap, ◌∙◌, arith, take}
+use Rattle.std.specs.VecDeque.{deque_len, deque_capacity}
 use Rattle.par_mark.specs.Edges.{targets, all_targets}
 use Rattle.par_mark.proofs.Cells.{some_room, one_cell}
 use Rattle.par_mark.proofs.first_tries.first_tries.Goals as goal
@@ -10,8 +11,8 @@ scan-requires-clause-room g c =
     let l = ap length c.loop-place.invariant.0 in
     let o = c.loop-place.tries.ok.0 in
     let k = c.loop-place.invariant.1 in
-    let goal_is : vec_len c.loop-place.tries + length (targets edge c.place-item.result)
-    ≤ vec_capacity c.loop-place.tries = omega arith in goal_is
+    let goal_is : deque_len c.loop-place.tries + length (targets edge c.place-item.result)
+    ≤ deque_capacity c.loop-place.tries = omega arith in goal_is
 
 pub loop-place-preserved : goal.loop-place-preserved
 loop-place-preserved g c = (

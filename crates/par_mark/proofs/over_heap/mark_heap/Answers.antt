@@ -1,4 +1,4 @@
-use Rattle.std.proofs.Common.{rules, ℕ, ◌<◌, ◌≡◌, length, subst, sym, All}
+use Rattle.std.proofs.Common.{ℕ, ◌<◌, subst, sym}
 use Rattle.std.proofs.lemmas.List.Elements.{All-weaker}
 use Rattle.heap_core.specs.Shape.{IsPresent}
 use Rattle.par_mark.specs.Heaps.{HasCell}

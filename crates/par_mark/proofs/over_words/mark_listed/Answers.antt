@@ -1,5 +1,5 @@
-use Rattle.std.proofs.Common.{rules, ℕ, List, subst, sym}
-use Rattle.par_mark.specs.Marking.{HasBlackened, Sought}
+use Rattle.std.proofs.Common.{ℕ, List, subst}
+use Rattle.par_mark.specs.Marking.{Sought}
 use Rattle.par_mark.proofs.over_words.mark_listed.Goals as goal
 
 pub mark-requires-clause-lists : goal.mark-requires-clause-lists

@@ -1,10 +1,10 @@
-use Rattle.std.proofs.Common.{rules, ◌≡◌, ◌≤◌, ◌<◌, ℕ, List, [], length, All, sym, ap, subst, refl, ◌∙◌, arith, vec_capacity, vec_len}
+use Rattle.std.proofs.Common.{rules, ◌<◌, ℕ, List, [], sym, subst, refl, ◌∙◌, arith, vec_capacity, vec_len}
 use Rattle.crossbeam_queue.specs.Passes.{view}
 use Rattle.mark_words.specs.Seats.{view_of}
 use Rattle.mark_words.specs.declared.view.MarkView.{MarkView}
 use Rattle.par_mark.specs.declared.donations.QueueView.{QueueView}
 use Rattle.par_mark.specs.Accounts.{Accounts}
-use Rattle.par_mark.specs.Lists.{AreAsLarge, outside_of, tries_of, won_of}
+use Rattle.par_mark.specs.Lists.{outside_of, tries_of}
 use Rattle.par_mark.proofs.Running.{still_room, less_left}
 use Rattle.par_mark.proofs.run.drain.Goals as goal
 

@@ -1,8 +1,8 @@
-use Rattle.std.proofs.Common.{rules, ◌≡◌, ◌≤◌, ℕ, List, length, All, sym, ap, subst, refl, ◌∙◌, arith, vec_capacity}
+use Rattle.std.proofs.Common.{rules, All, sym, ap, subst, refl, ◌∙◌, arith}
+use Rattle.std.specs.VecDeque.{deque_capacity}
 use Rattle.crossbeam_queue.specs.Passes.{view}
-use Rattle.mark_words.specs.Seats.{view_of}
-use Rattle.par_mark.specs.Lists.{AreAsLarge, outside_of, tries_of, won_of}
-use Rattle.par_mark.specs.Tries.{IsDonated, HasTurned}
+use Rattle.par_mark.specs.Lists.{tries_of}
+use Rattle.par_mark.specs.Tries.{IsDonated}
 use Rattle.par_mark.proofs.Running.{goes_on, donated_parts}
 use Rattle.par_mark.proofs.run.run.Goals as goal
 
@@ -25,7 +25,7 @@ loop-preserved g c =
       goes_on (g.H.Graph.edge c.args.heap.now) (g.H.Graph.marking c.args.heap.now) g.L.PlaceList.places c.args.marker
           c.loop.marker _ c.turn.new.lists (view c.turn.new.pass) run turned gave refl refl
           record {
-            tries = c.donate.ensures.room ∙ ap (λ v. vec_capacity v) c.deref_mut.ensures.value
+            tries = c.donate.ensures.room ∙ ap (λ v. deque_capacity v) c.deref_mut.ensures.value
                 ∙ c.turn.ensures.room.tries ∙ run.room.tries;
             won = c.turn.ensures.room.won ∙ run.room.won;
             outside = c.turn.ensures.room.outside ∙ run.room.outside;

@@ -1,6 +1,6 @@
-use Rattle.std.proofs.Common.{◌≡◌, ◌≤◌, [], length}
-use Rattle.crossbeam_queue.specs.Passes.{view, IsPassOf}
-use Rattle.mark_words.specs.Seats.{view_of, IsSeatOf}
+use Rattle.std.proofs.Common.{◌≤◌, length}
+use Rattle.crossbeam_queue.specs.Passes.{IsPassOf}
+use Rattle.mark_words.specs.Seats.{IsSeatOf}
 use Rattle.par_mark.specs.Markers.{HasRun}
 use Rattle.par_mark.specs.Lists.{won_of, outside_of}
 use Rattle.par_mark.proofs.run.run.Given as goal

@@ -1,5 +1,6 @@
-use Rattle.std.proofs.Common.{rules, ◌≡◌, ℕ, List, [], ◌∷◌, ◌++◌, sym, ap, ◌∙◌}
-use Rattle.par_mark.proofs.Scanning.{one_more, none_more, nothing}
+use Rattle.std.proofs.Common.{rules, ◌≡◌, ℕ, List, [], ◌∷◌, ◌++◌, Option, sym, ap, ◌∙◌}
+use Rattle.par_mark.specs.Edges.{first_targets}
+use Rattle.par_mark.proofs.Scanning.{all_fields, one_more, none_more, nothing}
 use Rattle.par_mark.proofs.turns.scan.Goals as goal
 use Rattle.par_mark.proofs.turns.scan.Goals.{in-Some, in_default}
 
@@ -10,10 +11,10 @@ loop-i-preserved g c =
     let i = c.loop-i.i in
     elim c.match-edge_at.branch [
       | in-Some w ↦ rw (w.tries-is) (
-        one_more field i old w.push_reserved.new.self.items w.in-Some.target (sym c.edge_at.ensures ∙ w.in-Some.is)
-            (w.push_reserved.ensures.items ∙ ap (λ (l : List (ℕ × ℕ)). l ++ w.in-Some.target ∷ [])
+        one_more field i old w.push_back_reserved.new.self.items w.in-Some.target (sym c.edge_at.ensures ∙ w.in-Some.is)
+            (w.push_back_reserved.ensures.items ∙ ap (λ (l : List (ℕ × ℕ)). l ++ w.in-Some.target ∷ [])
             c.loop-i.invariant.0),
-        w.push_reserved.ensures.capacity ∙ c.loop-i.invariant.1,
+        w.push_back_reserved.ensures.capacity ∙ c.loop-i.invariant.1,
       )
       | in_default w ↦ rw (w.tries-is) (
         c.loop-i.invariant.0
@@ -21,3 +22,12 @@ loop-i-preserved g c =
         c.loop-i.invariant.1,
       )
     ]
+
+pub returns-clause-tries : goal.returns-clause-tries
+returns-clause-tries g c =
+    let field : ℕ → Option (ℕ × ℕ) = g.H.Graph.edge c.args.heap.now c.args.place in
+    let old : List (ℕ × ℕ) = c.args.tries.now.items in
+    let end : c.loop-i.i ≡ c.edge_count-i-end.result = search rules in
+    c.loop-i.invariant.0 ∙ ap (λ (n : ℕ). old ++ first_targets field n) end
+    ∙ ap (λ (l : List (ℕ × ℕ)). old ++ l)
+    (all_fields field c.edge_count-i-end.result 8 c.edge_count-i-end.ensures.most c.edge_count-i-end.ensures.past)

@@ -1,9 +1,10 @@
-use Rattle.std.proofs.Common.{rules, ◌≡◌, ℕ, List, sym, ap, subst, ◌∙◌, vec_capacity}
+use Rattle.std.proofs.Common.{ℕ, List, sym, ap, subst, ◌∙◌}
+use Rattle.std.specs.VecDeque.{deque_capacity}
 use Rattle.crossbeam_queue.specs.Passes.{view}
 use Rattle.mark_words.specs.Seats.{first_of, view_of}
 use Rattle.mark_words.specs.Sums.{weigh}
 use Rattle.par_mark.specs.Accounts.{HasRoom}
-use Rattle.par_mark.specs.Lists.{outside_of, tries_of, tries_room, won_of}
+use Rattle.par_mark.specs.Lists.{outside_of, tries_of, won_of}
 use Rattle.par_mark.specs.Tries.{IsTaken}
 use Rattle.par_mark.proofs.Accounting.{took, room_for, turned}
 use Rattle.par_mark.proofs.turns.turn.Goals as goal
@@ -24,7 +25,7 @@ try_place-requires-clause-tries_room g c = λ w wins.
     c.requires.accounts.1)
     wins
     (subst (HasRoom (g.H.Graph.edge c.args.heap.now) (g.H.Graph.marking c.args.heap.now) g.L.PlaceList.places
-    (weigh (λ _. 1) c.requires.accounts.0)) (ap (λ v. vec_capacity v) (sym c.deref_mut.ensures.value)
+    (weigh (λ _. 1) c.requires.accounts.0)) (ap (λ v. deque_capacity v) (sym c.deref_mut.ensures.value)
     ∙ sym c.take.ensures.room) c.requires.accounts.2)
 
 pub returns-clause-turned : goal.returns-clause-turned

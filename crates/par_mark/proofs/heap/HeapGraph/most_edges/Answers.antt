@@ -1,4 +1,4 @@
-use Rattle.std.proofs.Common.{rules, ◌≡◌, ◌≤◌, ◌<◌, ◌*◌, ℕ, List, length, All, ap, arith}
+use Rattle.std.proofs.Common.{◌<◌, ℕ, length, arith}
 use Rattle.std.proofs.lemmas.List.Elements.{All-weaker}
 use Rattle.heap_core.specs.Shape.{field_at}
 use Rattle.par_mark.specs.Heaps.{HasCell}
