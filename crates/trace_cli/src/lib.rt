@@ -5,7 +5,7 @@
 //
 //     reading    reads the lines, and ends with the exit that the lines and the counts of faults say
 //     answer     what one line is answered: parsed, done, its reply written
-//     collect    a collection in one command: begun, then unit after unit, each report written as it comes
+//     collect    a step of a collection, with what it reports written; a collection in one command
 //     slices     a collection in slices: `gc` begins it, `slice` does some of its units, `finish` the rest
 //
 // The collector of `slice_driver` stands for a world of the definitions, with the bits that are in
@@ -20,9 +20,11 @@
 //     set r0 0 -     command, with its barriers       ok
 //     finish         unit  unit  unit  ..  unit       ended ..   swept ..   done   slice K
 //
-// A unit that finds an arena due does nothing: main then sweeps the lowest arena that is out (its
-// white slots are those of its job, a word operation), and the collector takes it in. `Handed` has
-// the jobs that are left and is the flight in which barriers and marking read and wake their bits.
+// All units are done by `Collector::advance_over`, a step at a time: many units that report nothing, or
+// one that does. `MainSweeper` keeps the jobs of the arenas that are out; where one is due, it sweeps the
+// lowest (its white slots are those of its job, a word operation), and the collector takes it in. It is
+// also the flight in which barriers and marking read and wake their bits. A slice is as many units as it
+// is allowed, however steps cut them.
 //
 // Why each report is lawful by itself: a failed write, or want of memory, ends the replay between two
 // reports, or within one. What was written then is the start of a lawful answer, since each unit is
