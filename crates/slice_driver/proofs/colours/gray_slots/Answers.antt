@@ -1,5 +1,5 @@
 use Rattle.std.proofs.Common.{arith}
-use Rattle.slice_driver.proofs.GraySlots.{gray_bit}
+use Rattle.slice_driver.proofs.group_end.GraySlots.{gray_bit}
 use Rattle.slice_driver.proofs.colours.gray_slots.Goals as goal
 
 pub returns : goal.returns

@@ -2,7 +2,7 @@ use Rattle.std.proofs.Common.{◌<◌, ◌+◌, ◌∙◌, ap, sym, subst, arith
 use Rattle.std.specs.Int.{trailing_zeros}
 use Rattle.gz_names.specs.declared.numbers.Place.{Place}
 use Rattle.heap_core.specs.Shape.{IsPresent, name_at}
-use Rattle.slice_driver.proofs.GraySlots.{gray_more, grays_done, next_slot}
+use Rattle.slice_driver.proofs.group_end.GraySlots.{gray_more, grays_done, next_slot}
 use Rattle.slice_driver.proofs.colours.push_at.Goals.{in-Some+in_ok-push, in_default}
 use Rattle.slice_driver.proofs.colours.push_at.Goals as goal
 

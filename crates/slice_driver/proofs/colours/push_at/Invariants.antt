@@ -1,6 +1,6 @@
 use Rattle.std.proofs.Common.{◌≡◌, ◌++◌, ℕ}
 use Rattle.slice_driver.specs.Grays.{grays_below}
-use Rattle.slice_driver.proofs.GraySlots.{IsLeft}
+use Rattle.slice_driver.proofs.group_end.GraySlots.{IsLeft}
 use Rattle.slice_driver.proofs.colours.push_at.Given as goal
 
 abbrev pub invariant-loop-left : goal.invariant-loop-left

@@ -1,7 +1,7 @@
 use Rattle.std.proofs.Common.{◌≡◌, ◌++◌, ◌∙◌, None, ap, sym}
 use Rattle.std.proofs.lemmas.Result.{on_ok_weaker}
-use Rattle.slice_driver.proofs.FirstOut.{is_none}
-use Rattle.slice_driver.proofs.GraySlots.{own_colour, own_grays}
+use Rattle.slice_driver.proofs.taking_in.FirstOut.{is_none}
+use Rattle.slice_driver.proofs.group_end.GraySlots.{own_colour, own_grays}
 use Rattle.slice_driver.proofs.colours.push_gray.Goals as goal
 
 pub push_own_gray-requires-clause-present : goal.push_own_gray-requires-clause-present

@@ -1,4 +1,4 @@
-use Rattle.slice_driver.proofs.GroupEndColours.{coloured}
+use Rattle.slice_driver.proofs.group_end.Colours.{coloured}
 use Rattle.slice_driver.proofs.end_laws.end_colours_law.Goals as goal
 
 pub returns : goal.returns

@@ -1,4 +1,4 @@
-use Rattle.slice_driver.proofs.GroupEndLaws.{group_ends}
+use Rattle.slice_driver.proofs.group_end.Laws.{group_ends}
 use Rattle.slice_driver.proofs.end_laws.end_law.Goals as goal
 
 pub returns : goal.returns

@@ -1,4 +1,4 @@
-use Rattle.slice_driver.proofs.GroupEndLaws.{jobs_flown}
+use Rattle.slice_driver.proofs.group_end.Laws.{jobs_flown}
 use Rattle.slice_driver.proofs.end_laws.jobs_law.Goals as goal
 
 pub returns : goal.returns

@@ -1,4 +1,4 @@
-use Rattle.slice_driver.proofs.GroupingLaws.{look_unit}
+use Rattle.slice_driver.proofs.grouping.Laws.{look_unit}
 use Rattle.slice_driver.proofs.end_laws.look_law.Goals as goal
 
 pub returns : goal.returns

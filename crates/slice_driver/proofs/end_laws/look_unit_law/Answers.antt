@@ -1,4 +1,4 @@
-use Rattle.slice_driver.proofs.QuietSteps.{quiet}
+use Rattle.slice_driver.proofs.marking.Steps.{quiet}
 use Rattle.slice_driver.proofs.end_laws.look_unit_law.Goals as goal
 
 pub returns : goal.returns

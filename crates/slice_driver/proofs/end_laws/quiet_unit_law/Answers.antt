@@ -1,4 +1,4 @@
-use Rattle.slice_driver.proofs.QuietSteps.{keeps_looks, quiet}
+use Rattle.slice_driver.proofs.marking.Steps.{keeps_looks, quiet}
 use Rattle.slice_driver.proofs.end_laws.quiet_unit_law.Goals as goal
 
 pub returns : goal.returns

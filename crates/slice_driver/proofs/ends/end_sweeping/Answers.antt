@@ -1,7 +1,7 @@
 use Rattle.std.proofs.Common.{◌≡◌, ℕ, true, false, None, Some, Option, IsSome, is_some, sym, ap, ◌∙◌, IfSome, IfNone}
 use Rattle.heap_core.specs.Shape.{Shape, out_of}
-use Rattle.slice_driver.proofs.FirstOut.{is_none}
-use Rattle.slice_driver.proofs.EndSweeping.{still_out, group_left, none_left, first_none, not_first}
+use Rattle.slice_driver.proofs.taking_in.FirstOut.{is_none}
+use Rattle.slice_driver.proofs.taking_in.EndSweeping.{still_out, group_left, none_left, first_none, not_first}
 use Rattle.slice_driver.proofs.ends.end_sweeping.Goals as goal
 
 -- an arena is out, or none is

@@ -3,8 +3,8 @@ use Rattle.std.specs.List.Sorted.{IsPermutation}
 use Rattle.gz_names.specs.declared.names.Name.{Name}
 use Rattle.heap_core.specs.Heap.{HeapState}
 use Rattle.heap_core.specs.Shape.{is_owned}
-use Rattle.slice_driver.proofs.Grays.{grays_more}
-use Rattle.slice_driver.proofs.GraySlots.{arenas_skipped, owned_made}
+use Rattle.slice_driver.proofs.group_end.Grays.{grays_more}
+use Rattle.slice_driver.proofs.group_end.GraySlots.{arenas_skipped, owned_made}
 use Rattle.slice_driver.proofs.ends.gray_names_in.Goals as goal
 
 pub push_own_gray-requires-clause-present : goal.push_own_gray-requires-clause-present

@@ -1,6 +1,6 @@
 use Rattle.std.proofs.Common.{[], subst, sym, length}
 use Rattle.slice_driver.specs.GrayRoots.{Gathers, IsGrayAmong, IsInSlot}
-use Rattle.slice_driver.proofs.GatheredRoots.{buffers_all, on_ok_both}
+use Rattle.slice_driver.proofs.beginning.GatheredRoots.{buffers_all, on_ok_both}
 use Rattle.slice_driver.proofs.gray_roots.buffer_gray_roots.Goals as goal
 
 pub returns-clause-ok : goal.returns-clause-ok

@@ -1,6 +1,6 @@
 use Rattle.std.proofs.Common.{subst, sym}
 use Rattle.slice_driver.specs.GrayRoots.{Gathers, IsFor}
-use Rattle.slice_driver.proofs.GatheredRoots.{gathers_for, gathers_out}
+use Rattle.slice_driver.proofs.beginning.GatheredRoots.{gathers_for, gathers_out}
 use Rattle.slice_driver.proofs.gray_roots.gather.Goals as goal
 
 pub returns-in_ok-push-clause-gathered : goal.returns-in_ok-push-clause-gathered

@@ -1,7 +1,7 @@
 use Rattle.std.proofs.Common.{sym, subst, arith}
 use Rattle.zone_edges.proofs.Looking.{stands_in, within_list}
 use Rattle.slice_driver.specs.GrayRoots.{Gathers, IsGrayBefore}
-use Rattle.slice_driver.proofs.GatheredRoots.{gray_all, gray_at, gray_step}
+use Rattle.slice_driver.proofs.beginning.GatheredRoots.{gray_all, gray_at, gray_step}
 use Rattle.slice_driver.proofs.gray_roots.gather_of.Goals as goal
 
 pub gather_wrapper-requires-clause-wrapper : goal.gather_wrapper-requires-clause-wrapper

@@ -1,7 +1,7 @@
 use Rattle.std.proofs.Common.{Some}
 use Rattle.colour_defs.proofs.Lists.{contains_at}
 use Rattle.heap_core.proofs.Added.{arena_made}
-use Rattle.slice_driver.proofs.GatheredRoots.{on_ok, slot_at}
+use Rattle.slice_driver.proofs.beginning.GatheredRoots.{on_ok, slot_at}
 use Rattle.slice_driver.proofs.gray_roots.gather_slot.Goals as goal
 
 pub gather-requires : goal.gather-requires

@@ -1,5 +1,5 @@
 use Rattle.std.proofs.Common.{arith}
-use Rattle.slice_driver.proofs.GatheredRoots.{slot_all, slot_step}
+use Rattle.slice_driver.proofs.beginning.GatheredRoots.{slot_all, slot_step}
 use Rattle.slice_driver.proofs.gray_roots.gather_slots.Goals as goal
 
 pub loop-index-preserved : goal.loop-index-preserved

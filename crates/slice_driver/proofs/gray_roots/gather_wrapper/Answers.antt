@@ -1,7 +1,7 @@
 use Rattle.std.proofs.Common.{◌≡◌, rules, sym}
 use Rattle.cell_bits.specs.declared.bits.Colour.TheVariants as colour
 use Rattle.heap_core.specs.Heap.{colour_of}
-use Rattle.slice_driver.proofs.GatheredRoots.{on_ok, wrapper_gray}
+use Rattle.slice_driver.proofs.beginning.GatheredRoots.{on_ok, wrapper_gray}
 use Rattle.slice_driver.proofs.gray_roots.gather_wrapper.Goals as goal
 
 pub returns-in-Some-clause-gathered : goal.returns-in-Some-clause-gathered

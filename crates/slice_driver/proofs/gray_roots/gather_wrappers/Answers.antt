@@ -1,6 +1,6 @@
 use Rattle.std.proofs.Common.{◌≡◌, length, arith, ap, subst, sym, ◌+◌}
 use Rattle.slice_driver.specs.GrayRoots.{Gathers, IsGrayAmong, IsGrayOf}
-use Rattle.slice_driver.proofs.GatheredRoots.{among_skip, among_step}
+use Rattle.slice_driver.proofs.beginning.GatheredRoots.{among_skip, among_step}
 use Rattle.slice_driver.proofs.gray_roots.gather_wrappers.Goals as goal
 use Rattle.slice_driver.proofs.gray_roots.gather_wrappers.Goals.{in-Some+in_ok-gather_of, in_default}
 

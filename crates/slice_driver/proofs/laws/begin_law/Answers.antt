@@ -1,4 +1,4 @@
-use Rattle.slice_driver.proofs.Beginning.{begins_marking, begins_tied}
+use Rattle.slice_driver.proofs.beginning.Beginning.{begins_marking, begins_tied}
 use Rattle.slice_driver.proofs.laws.begin_law.Goals as goal
 
 pub returns-clause-marking : goal.returns-clause-marking

@@ -1,4 +1,4 @@
-use Rattle.slice_driver.proofs.Begun.{begins_worlds}
+use Rattle.slice_driver.proofs.beginning.Begun.{begins_worlds}
 use Rattle.slice_driver.proofs.laws.begins_worlds_law.Goals as goal
 
 pub returns : goal.returns

@@ -1,4 +1,4 @@
-use Rattle.slice_driver.proofs.Lying.{lies_coloured, lies_plain}
+use Rattle.slice_driver.proofs.abstraction.Lying.{lies_coloured, lies_plain}
 use Rattle.slice_driver.proofs.laws.colours_law.Goals as goal
 
 pub returns : goal.returns

@@ -1,4 +1,4 @@
-use Rattle.slice_driver.proofs.Answering.{serves_command}
+use Rattle.slice_driver.proofs.commanding.Answering.{serves_command}
 use Rattle.slice_driver.proofs.laws.command_law.Goals as goal
 
 pub returns : goal.returns

@@ -1,4 +1,4 @@
-use Rattle.slice_driver.proofs.Crossing.{crosses, listed_present}
+use Rattle.slice_driver.proofs.abstraction.Crossing.{crosses, listed_present}
 use Rattle.slice_driver.proofs.laws.crossing_law.Goals as goal
 
 pub returns-clause-leads : goal.returns-clause-leads

@@ -1,4 +1,4 @@
-use Rattle.slice_driver.proofs.Waking.{does_found}
+use Rattle.slice_driver.proofs.commanding.Waking.{does_found}
 use Rattle.slice_driver.proofs.laws.found_law.Goals as goal
 
 pub returns : goal.returns

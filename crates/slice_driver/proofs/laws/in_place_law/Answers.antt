@@ -1,4 +1,4 @@
-use Rattle.slice_driver.proofs.Keeping.{comes_makes, comes_wrapper, stay_same, stay_writes}
+use Rattle.slice_driver.proofs.abstraction.Keeping.{comes_makes, comes_wrapper, stay_same, stay_writes}
 use Rattle.slice_driver.proofs.laws.in_place_law.Goals as goal
 
 pub returns-clause-same : goal.returns-clause-same

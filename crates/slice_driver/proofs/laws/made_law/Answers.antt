@@ -1,4 +1,4 @@
-use Rattle.slice_driver.proofs.Waking.{does_made}
+use Rattle.slice_driver.proofs.commanding.Waking.{does_made}
 use Rattle.slice_driver.proofs.laws.made_law.Goals as goal
 
 pub returns : goal.returns

@@ -1,4 +1,4 @@
-use Rattle.slice_driver.proofs.Lying.{refused_in}
+use Rattle.slice_driver.proofs.abstraction.Lying.{refused_in}
 use Rattle.slice_driver.proofs.laws.refused_law.Goals as goal
 
 pub returns : goal.returns

@@ -1,5 +1,5 @@
 use Rattle.heap_core.specs.Heap.{joined}
-use Rattle.slice_driver.proofs.Woken.{exposes_spreads, made_black, one_spreads, others_keep}
+use Rattle.slice_driver.proofs.commanding.Woken.{exposes_spreads, made_black, one_spreads, others_keep}
 use Rattle.slice_driver.proofs.laws.spreads_law.Goals as goal
 
 pub returns-clause-exposed : goal.returns-clause-exposed

@@ -1,6 +1,6 @@
 use Rattle.std.proofs.Common.{◌≡◌, ◌+◌, ℕ, length, subst, sum_by, take, arith}
 use Rattle.slice_driver.specs.Present.{present_in_arena}
-use Rattle.slice_driver.proofs.PresentCells.{counts_all, counts_on, held_of, none_lost}
+use Rattle.slice_driver.proofs.taking_in.PresentCells.{counts_all, counts_on, held_of, none_lost}
 use Rattle.slice_driver.proofs.present.lost_from.Goals as goal
 
 pub loop-arena-init : goal.loop-arena-init

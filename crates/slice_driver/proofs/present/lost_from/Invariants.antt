@@ -1,6 +1,6 @@
 use Rattle.std.proofs.Common.{◌≡◌, ◌≤◌, ◌+◌, ◌*◌, sum_by, take}
 use Rattle.slice_driver.specs.Present.{present_in_arena}
-use Rattle.slice_driver.proofs.PresentCells.{held_of}
+use Rattle.slice_driver.proofs.taking_in.PresentCells.{held_of}
 use Rattle.slice_driver.proofs.present.lost_from.Given as goal
 
 abbrev pub invariant-loop-arena : goal.invariant-loop-arena

@@ -5,10 +5,10 @@ use Rattle.cell_bits.specs.declared.bits.Colour.TheVariants as colour
 use Rattle.cell_bits.specs.Colours.{colour_of}
 use Rattle.arena_table.specs.Slots.{alloc_word_of}
 use Rattle.heap_core.specs.Shape.{ArenaShape, out_in}
-use Rattle.slice_driver.proofs.FirstOut.{is_none}
-use Rattle.slice_driver.proofs.Named.{some_one}
-use Rattle.slice_driver.proofs.PresentCells.{all_present, some_present}
-use Rattle.slice_driver.proofs.SetBits.{ones_are_bits}
+use Rattle.slice_driver.proofs.taking_in.FirstOut.{is_none}
+use Rattle.slice_driver.proofs.abstraction.Named.{some_one}
+use Rattle.slice_driver.proofs.taking_in.PresentCells.{all_present, some_present}
+use Rattle.slice_driver.proofs.taking_in.SetBits.{ones_are_bits}
 use Rattle.slice_driver.proofs.present.lost_in.Goals as goal
 
 pub returns-then-not-is_out-clause-lost : goal.returns-then-not-is_out-clause-lost

@@ -1,5 +1,5 @@
 use Rattle.barriers.proofs.Slots.{no_black_bit}
-use Rattle.slice_driver.proofs.MarkedRoots.{room_for}
+use Rattle.slice_driver.proofs.beginning.MarkedRoots.{room_for}
 use Rattle.slice_driver.proofs.root_marking.mark_black.Goals as goal
 
 pub push-requires : goal.push-requires

@@ -2,7 +2,7 @@ use Rattle.std.proofs.Common.{arith, ◌≡◌, ◌<◌, length, slice_get, Some
 use Rattle.colour_defs.proofs.Lists.{contains_at}
 use Rattle.heap_core.specs.Shape.{Shape}
 use Rattle.heap_core.proofs.Added.{arena_made}
-use Rattle.slice_driver.proofs.MarkedRoots.{held_all, held_first, held_skip, held_step, marks_into, ready_still, shape_still}
+use Rattle.slice_driver.proofs.beginning.MarkedRoots.{held_all, held_first, held_skip, held_step, marks_into, ready_still, shape_still}
 use Rattle.slice_driver.proofs.root_marking.mark_registers.Goals as goal
 use Rattle.slice_driver.proofs.root_marking.mark_registers.Goals.{in-Some, in_default}
 

@@ -1,4 +1,4 @@
-use Rattle.slice_driver.proofs.MarkedRoots.{marks_black}
+use Rattle.slice_driver.proofs.beginning.MarkedRoots.{marks_black}
 use Rattle.slice_driver.proofs.root_marking.mark_root.Goals as goal
 
 pub returns-then-is_in : goal.returns-then-is_in

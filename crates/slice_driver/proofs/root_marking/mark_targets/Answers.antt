@@ -1,6 +1,6 @@
 use Rattle.std.proofs.Common.{subst}
 use Rattle.slice_driver.specs.RootMarking.{IsTargetOf, Marks}
-use Rattle.slice_driver.proofs.MarkedRoots.{among_skip, among_step, marks_into, wrappers_still}
+use Rattle.slice_driver.proofs.beginning.MarkedRoots.{among_skip, among_step, marks_into, wrappers_still}
 use Rattle.slice_driver.proofs.root_marking.mark_targets.Goals as goal
 use Rattle.slice_driver.proofs.root_marking.mark_targets.Goals.{in-Some, in_default}
 

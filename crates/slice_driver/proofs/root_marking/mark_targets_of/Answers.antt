@@ -2,7 +2,7 @@ use Rattle.std.proofs.Common.{sym, subst, arith, ◌≡◌, Some}
 use Rattle.zone_edges.specs.Looks.{wrapper_at}
 use Rattle.zone_edges.proofs.Looking.{within_list}
 use Rattle.slice_driver.specs.RootMarking.{IsTargetBefore, Marks}
-use Rattle.slice_driver.proofs.MarkedRoots.{stands_still, target_all, target_step, wrapper_still, zone_still}
+use Rattle.slice_driver.proofs.beginning.MarkedRoots.{stands_still, target_all, target_step, wrapper_still, zone_still}
 use Rattle.slice_driver.proofs.root_marking.mark_targets_of.Goals as goal
 
 pub mark_target-requires-clause-wrapper : goal.mark_target-requires-clause-wrapper

@@ -1,5 +1,5 @@
 use Rattle.std.proofs.Common.{arith}
-use Rattle.slice_driver.proofs.GroupEndSteps.{small_word}
+use Rattle.slice_driver.proofs.group_end.Steps.{small_word}
 use Rattle.slice_driver.proofs.units.word_law.Goals as goal
 
 pub returns : goal.returns

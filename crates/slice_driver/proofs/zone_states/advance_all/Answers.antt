@@ -2,7 +2,7 @@ use Rattle.std.proofs.Common.{◌≡◌, ◌<◌, ◌+◌, None, SomeIff, IsSome
 use Rattle.gz_names.specs.Zones.{HasZone}
 use Rattle.gz_names.proofs.Words.{HasZone-below}
 use Rattle.zones.specs.States.{next_state}
-use Rattle.slice_driver.proofs.Advancing.{HasAdvanced, advanced_next, skips}
+use Rattle.slice_driver.proofs.taking_in.Advancing.{HasAdvanced, advanced_next, skips}
 use Rattle.slice_driver.proofs.zone_states.advance_all.Goals as goal
 use Rattle.slice_driver.proofs.zone_states.advance_all.Goals.{in-Some+then-contains, in_default, in_default-via-in-None-1, in_default-via-in-Some+else-contains}
 

@@ -1,4 +1,4 @@
-use Rattle.slice_driver.proofs.Advancing.{HasAdvanced}
+use Rattle.slice_driver.proofs.taking_in.Advancing.{HasAdvanced}
 use Rattle.slice_driver.proofs.zone_states.advance_all.Given as goal
 
 abbrev pub invariant-loop-index : goal.invariant-loop-index

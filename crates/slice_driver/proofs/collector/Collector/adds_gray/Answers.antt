@@ -4,7 +4,7 @@ use Rattle.slice_driver.specs.Collector.{CollectorState, run_of}
 use Rattle.slice_driver.specs.Units.{IsSound}
 use Rattle.marker.specs.GrayBits.{AreGraying}
 use Rattle.slice_driver.specs.Working.{DidOrStill, IsGrayFixed}
-use Rattle.slice_driver.proofs.MarkingUnits.{gray_added, gray_wanted, still}
+use Rattle.slice_driver.proofs.marking.MarkingUnits.{gray_added, gray_wanted, still}
 use Rattle.slice_driver.proofs.collector.Collector.adds_gray.Goals as goal
 use Rattle.slice_driver.proofs.collector.Collector.adds_gray.Goals.{in-Did, in-Empty}
 

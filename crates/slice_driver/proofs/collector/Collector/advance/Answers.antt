@@ -1,5 +1,5 @@
 use Rattle.std.proofs.Common.{◌≡◌, ◌<◌, arith, ap}
-use Rattle.slice_driver.proofs.UnitSteps.{ok_still, quiet_advances}
+use Rattle.slice_driver.proofs.taking_in.UnitSteps.{ok_still, quiet_advances}
 use Rattle.slice_driver.proofs.collector.Collector.advance.Goals as goal
 
 pub returns-then-quiet-gt0-clause-done : goal.returns-then-quiet-gt0-clause-done

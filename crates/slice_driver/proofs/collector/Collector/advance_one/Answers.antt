@@ -1,8 +1,8 @@
 use Rattle.std.proofs.Common.{arith, ap, is_some}
 use Rattle.sweeping.specs.ArenasOut.{flying_after, outs_after}
 use Rattle.slice_driver.specs.Left.{units_left}
-use Rattle.slice_driver.proofs.TakingDue.{ascend_handed, out_handed}
-use Rattle.slice_driver.proofs.UnitSteps.{due_advances, one_advances, still_advances, unit_does, unit_lowers}
+use Rattle.slice_driver.proofs.taking_in.TakingDue.{ascend_handed, out_handed}
+use Rattle.slice_driver.proofs.taking_in.UnitSteps.{due_advances, one_advances, still_advances, unit_does, unit_lowers}
 use Rattle.slice_driver.proofs.collector.Collector.advance_one.Goals as goal
 
 pub returns-in-Some-clause-done : goal.returns-in-Some-clause-done

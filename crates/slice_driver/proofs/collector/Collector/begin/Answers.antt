@@ -4,11 +4,11 @@ use Rattle.gz_names.proofs.Words.{HasZone-none}
 use Rattle.slice_driver.specs.Units.{BeginsIn}
 use Rattle.slice_driver.specs.Collector.{CollectorState}
 use Rattle.slice_driver.specs.contracts.collector.Collector.{the_view}
-use Rattle.slice_driver.proofs.GroupEndSteps.{small_word}
-use Rattle.slice_driver.proofs.FewUnits.{none_buffered}
-use Rattle.slice_driver.proofs.IdleFlight.{idle_sound}
-use Rattle.slice_driver.proofs.SoundAfter.{begin_sound, none_words}
-use Rattle.slice_driver.proofs.BegunSteps.{at_rest, begun_worlds, held_begun, kept_begun, made_marked, marks_of, none_out, nothing_buffered, ready_begun, ready_marked, wrappers_marked, wrappers_of}
+use Rattle.slice_driver.proofs.group_end.Steps.{small_word}
+use Rattle.slice_driver.proofs.measure.FewUnits.{none_buffered}
+use Rattle.slice_driver.proofs.abstraction.IdleFlight.{idle_sound}
+use Rattle.slice_driver.proofs.abstraction.SoundAfter.{begin_sound, none_words}
+use Rattle.slice_driver.proofs.beginning.BegunSteps.{at_rest, begun_worlds, held_begun, kept_begun, made_marked, marks_of, none_out, nothing_buffered, ready_begun, ready_marked, wrappers_marked, wrappers_of}
 use Rattle.slice_driver.proofs.collector.Collector.begin.Goals as goal
 
 pub buffer_gray_roots-requires-clause-held : goal.buffer_gray_roots-requires-clause-held

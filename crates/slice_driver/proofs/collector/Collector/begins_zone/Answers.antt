@@ -5,8 +5,8 @@ use Rattle.slice_driver.specs.Collector.{CollectorState, run_of}
 use Rattle.slice_driver.specs.Quiet.{IsFormed}
 use Rattle.slice_driver.specs.Units.{IsSound}
 use Rattle.slice_driver.specs.Working.{GoesOn, HasBegun}
-use Rattle.slice_driver.proofs.Named.{some_one}
-use Rattle.slice_driver.proofs.ZoneSteps.{advanced_to, all_begun, current_is, in_both, not_begun, zone_goes}
+use Rattle.slice_driver.proofs.abstraction.Named.{some_one}
+use Rattle.slice_driver.proofs.marking.ZoneSteps.{advanced_to, all_begun, current_is, in_both, not_begun, zone_goes}
 use Rattle.slice_driver.proofs.collector.Collector.begins_zone.Goals as goal
 
 pub returns-in_default-first : goal.returns-in_default-first

@@ -5,7 +5,7 @@ use Rattle.heap_core.specs.Effects.{Changes}
 use Rattle.heap_core.specs.Heap.{HeapState}
 use Rattle.heap_core.specs.Peeks.{IsHanded, IsOld, IsWrapped, cells_made, handed, stored}
 use Rattle.slice_driver.specs.Collector.{CollectorState, IsKept, run_of}
-use Rattle.slice_driver.proofs.Commanded.{IsCall, does_call, entries_after, exposed_after, kept_call, made_after, run_after, sound_roomy, through_sound, wants_room, wide_marks, wide_sound, wide_words, words_call, answered_call, command_sound, refused_call, room_wanted, wanted_call, where_err}
+use Rattle.slice_driver.proofs.commanding.Commanded.{IsCall, does_call, entries_after, exposed_after, kept_call, made_after, run_after, sound_roomy, through_sound, wants_room, wide_marks, wide_sound, wide_words, words_call, answered_call, command_sound, refused_call, room_wanted, wanted_call, where_err}
 use Rattle.slice_driver.proofs.collector.Collector.command.Given.{Over}
 use Rattle.slice_driver.proofs.collector.Collector.command.Goals as goal
 use Rattle.slice_driver.proofs.collector.Collector.command.Goals.{After-do_command}

@@ -19,13 +19,13 @@ use Rattle.slice_driver.specs.Units.{AreJobs, DoesUnit, EndsColoured, HandsJobs,
 use Rattle.slice_driver.specs.declared.collector.Run.{Run}
 use Rattle.slice_driver.specs.declared.collector.Unit.{Unit}
 use Rattle.slice_driver.specs.Left.{units_left}
-use Rattle.slice_driver.proofs.FewerEnded.{ending_lowers}
-use Rattle.slice_driver.proofs.EndReady.{IsReadyHere, ends_coloured, gray_present, ready_here, sized_here}
-use Rattle.slice_driver.proofs.GraysHere.{grays_here}
-use Rattle.slice_driver.proofs.GroupEnding.{ends_group}
-use Rattle.slice_driver.proofs.GroupEndLaws.{jobs_flown}
-use Rattle.slice_driver.proofs.JobsHanded.{hands_jobs}
-use Rattle.slice_driver.proofs.Kept.{more_left}
+use Rattle.slice_driver.proofs.measure.FewerEnded.{ending_lowers}
+use Rattle.slice_driver.proofs.group_end.EndReady.{IsReadyHere, ends_coloured, gray_present, ready_here, sized_here}
+use Rattle.slice_driver.proofs.group_end.GraysHere.{grays_here}
+use Rattle.slice_driver.proofs.group_end.GroupEnding.{ends_group}
+use Rattle.slice_driver.proofs.group_end.Laws.{jobs_flown}
+use Rattle.slice_driver.proofs.group_end.JobsHanded.{hands_jobs}
+use Rattle.slice_driver.proofs.taking_in.Kept.{more_left}
 use Rattle.slice_driver.proofs.collector.Collector.end_group.Goals as goal
 use Rattle.slice_driver.proofs.collector.Collector.end_group.Goals.{then-finished, else-finished}
 

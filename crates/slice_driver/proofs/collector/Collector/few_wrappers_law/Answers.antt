@@ -1,4 +1,4 @@
-use Rattle.slice_driver.proofs.FewUnits.{few_in_zone}
+use Rattle.slice_driver.proofs.measure.FewUnits.{few_in_zone}
 use Rattle.slice_driver.proofs.collector.Collector.few_wrappers_law.Goals as goal
 
 pub returns : goal.returns

@@ -3,7 +3,7 @@ use Rattle.cell_bits.specs.declared.bits.Bits.{Bits}
 use Rattle.slice_driver.specs.Collector.{CollectorState, run_of}
 use Rattle.slice_driver.specs.Units.{IsSound}
 use Rattle.slice_driver.specs.Working.{DidOrStill}
-use Rattle.slice_driver.proofs.MarkingUnits.{black_followed, still}
+use Rattle.slice_driver.proofs.marking.MarkingUnits.{black_followed, still}
 use Rattle.slice_driver.proofs.collector.Collector.follows_black.Goals as goal
 use Rattle.slice_driver.proofs.collector.Collector.follows_black.Goals.{in-Did, in-Empty}
 

@@ -4,7 +4,7 @@ use Rattle.slice_driver.specs.Collector.{CollectorState, run_of}
 use Rattle.slice_driver.specs.Units.{IsSound}
 use Rattle.marker.specs.Units.{IsGrayIdle}
 use Rattle.slice_driver.specs.Working.{DidOrStill}
-use Rattle.slice_driver.proofs.MarkingUnits.{gray_followed, still_gray}
+use Rattle.slice_driver.proofs.marking.MarkingUnits.{gray_followed, still_gray}
 use Rattle.slice_driver.proofs.collector.Collector.follows_gray.Goals as goal
 use Rattle.slice_driver.proofs.collector.Collector.follows_gray.Goals.{in-Did, in-Empty}
 

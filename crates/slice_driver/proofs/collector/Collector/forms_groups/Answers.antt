@@ -4,7 +4,7 @@ use Rattle.slice_driver.specs.Quiet.{IsFormed}
 use Rattle.slice_driver.specs.Units.{is_group_end, reports_of}
 use Rattle.slice_driver.specs.Working.{GoesOn, IsGrouping}
 use Rattle.slice_driver.specs.declared.collector.Unit.{Unit}
-use Rattle.slice_driver.proofs.GroupingSteps.{not_formed}
+use Rattle.slice_driver.proofs.grouping.Steps.{not_formed}
 use Rattle.slice_driver.proofs.collector.Collector.forms_groups.Goals as goal
 
 pub returns-then-looks : goal.returns-then-looks

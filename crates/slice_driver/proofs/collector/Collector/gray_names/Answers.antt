@@ -7,8 +7,8 @@ use Rattle.heap_core.specs.Heap.{HeapState, joined}
 use Rattle.barriers.specs.Spreading.{Covers}
 use Rattle.slice_driver.specs.Collector.{CollectorState}
 use Rattle.slice_driver.specs.Grays.{grays_below, grays_up_to}
-use Rattle.slice_driver.proofs.Grays.{grays_more}
-use Rattle.slice_driver.proofs.GrayNames.{arena_coloured, represents_flown, settled_grays}
+use Rattle.slice_driver.proofs.group_end.Grays.{grays_more}
+use Rattle.slice_driver.proofs.group_end.GrayNames.{arena_coloured, represents_flown, settled_grays}
 use Rattle.slice_driver.proofs.collector.Collector.gray_names.Goals as goal
 
 pub push_gray-requires-clause-made : goal.push_gray-requires-clause-made

@@ -8,7 +8,7 @@ use Rattle.slice_driver.specs.Quiet.{IsFormed}
 use Rattle.slice_driver.specs.Units.{IsSound, is_group_end, reports_of}
 use Rattle.slice_driver.specs.Working.{GoesOn, IsGrouping}
 use Rattle.slice_driver.specs.declared.collector.Unit.{Unit}
-use Rattle.slice_driver.proofs.GroupingSteps.{all_stepped, forms_goes, kept_waiting, not_formed, some_wait, step_goes, steps_in, still_waiting, waiting_in, zones_noted}
+use Rattle.slice_driver.proofs.grouping.Steps.{all_stepped, forms_goes, kept_waiting, not_formed, some_wait, step_goes, steps_in, still_waiting, waiting_in, zones_noted}
 use Rattle.slice_driver.proofs.collector.Collector.group_step.Goals as goal
 
 pub invariant_of-self : goal.invariant_of-self

@@ -2,7 +2,7 @@ use Rattle.std.proofs.Common.{sym, ap, subst}
 use Rattle.slice_driver.specs.Collector.{CollectorState, run_of}
 use Rattle.slice_driver.specs.Units.{IsSound}
 use Rattle.slice_driver.specs.Working.{IsGrouping, LooksOrAll}
-use Rattle.slice_driver.proofs.GroupingSteps.{early, look_goes, none_out, sized, waiting_same, wrappers}
+use Rattle.slice_driver.proofs.grouping.Steps.{early, look_goes, none_out, sized, waiting_same, wrappers}
 use Rattle.slice_driver.proofs.collector.Collector.looks.Goals as goal
 use Rattle.slice_driver.proofs.collector.Collector.looks.Goals.{in-Did, in-Empty}
 

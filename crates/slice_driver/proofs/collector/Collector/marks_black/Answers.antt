@@ -1,5 +1,5 @@
 use Rattle.slice_driver.specs.Working.{IsBlackDone, IsBlackFixed}
-use Rattle.slice_driver.proofs.MarkingUnits.{still_black_fixed, still_sound, then_marks}
+use Rattle.slice_driver.proofs.marking.MarkingUnits.{still_black_fixed, still_sound, then_marks}
 use Rattle.slice_driver.proofs.collector.Collector.marks_black.Goals as goal
 
 pub adds_black-requires-clause-sound : goal.adds_black-requires-clause-sound

@@ -1,5 +1,5 @@
 use Rattle.slice_driver.specs.Working.{IsGrayDone, IsGrayFixed}
-use Rattle.slice_driver.proofs.MarkingUnits.{still_gray_fixed, then_marks}
+use Rattle.slice_driver.proofs.marking.MarkingUnits.{still_gray_fixed, then_marks}
 use Rattle.slice_driver.proofs.collector.Collector.marks_group.Goals as goal
 
 pub returns-clause-done : goal.returns-clause-done

@@ -1,7 +1,7 @@
 use Rattle.std.proofs.Common.{◌∙◌, ap, refl}
 use Rattle.mark_stack.specs.Stack.{Piles}
 use Rattle.gray_lists.specs.Incoming.{Incoming, list_of}
-use Rattle.slice_driver.proofs.Starting.{no_buffer, no_entries, represents_first}
+use Rattle.slice_driver.proofs.abstraction.Starting.{no_buffer, no_entries, represents_first}
 use Rattle.slice_driver.proofs.collector.Collector.new.Goals as goal
 
 pub returns-clause-first : goal.returns-clause-first

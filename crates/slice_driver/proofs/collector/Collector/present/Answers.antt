@@ -2,7 +2,7 @@ use Rattle.std.proofs.Common.{IsSome, ap, sym, subst, ◌∙◌}
 use Rattle.heap_core.specs.Shape.{out_of}
 use Rattle.heap_core.specs.Sweeping.{held_in_all}
 use Rattle.slice_driver.specs.Collector.{CollectorState}
-use Rattle.slice_driver.proofs.PresentCells.{none_lost_at_all, out_made}
+use Rattle.slice_driver.proofs.taking_in.PresentCells.{none_lost_at_all, out_made}
 use Rattle.slice_driver.proofs.collector.Collector.present.Goals as goal
 
 pub returns-in_default : goal.returns-in_default

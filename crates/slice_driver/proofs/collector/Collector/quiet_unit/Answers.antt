@@ -1,9 +1,9 @@
 use Rattle.std.proofs.Common.{[], sym, subst}
 use Rattle.slice_driver.specs.Quiet.{IsFormed}
 use Rattle.slice_driver.specs.Working.{HasBegun}
-use Rattle.slice_driver.proofs.MarkingUnits.{still_goes, still_sound}
-use Rattle.slice_driver.proofs.OneUnit.{still_on}
-use Rattle.slice_driver.proofs.QuietUnits.{grays_quietly, looks_quietly}
+use Rattle.slice_driver.proofs.marking.MarkingUnits.{still_goes, still_sound}
+use Rattle.slice_driver.proofs.marking.OneUnit.{still_on}
+use Rattle.slice_driver.proofs.marking.Units.{grays_quietly, looks_quietly}
 use Rattle.slice_driver.proofs.collector.Collector.quiet_unit.Goals as goal
 
 pub returns-then-is_grouping-clause-done : goal.returns-then-is_grouping-clause-done

@@ -1,5 +1,5 @@
 use Rattle.std.proofs.Common.{◌∙◌}
-use Rattle.slice_driver.proofs.QuietUnits.{last_quiet, more_quiet, quiet_sound, quiet_words, still_quiet_done}
+use Rattle.slice_driver.proofs.marking.Units.{last_quiet, more_quiet, quiet_sound, quiet_words, still_quiet_done}
 use Rattle.slice_driver.proofs.collector.Collector.quiet_units.Goals as goal
 
 pub quiet_unit-requires-clause-sound : goal.quiet_unit-requires-clause-sound

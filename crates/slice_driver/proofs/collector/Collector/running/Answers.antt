@@ -1,5 +1,5 @@
 use Rattle.std.proofs.Common.{◌↔◌, IsSome, IsTrue, rules}
-use Rattle.slice_driver.proofs.WorldRuns.{world_runs}
+use Rattle.slice_driver.proofs.abstraction.WorldRuns.{world_runs}
 use Rattle.slice_driver.proofs.collector.Collector.running.Goals as goal
 
 pub returns-clause-worlds : goal.returns-clause-worlds

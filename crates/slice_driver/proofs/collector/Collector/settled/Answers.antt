@@ -1,6 +1,6 @@
 use Rattle.std.proofs.Common.{◌≡◌, ℕ, false, refl, rules}
 use Rattle.heap_core.specs.Shape.{is_marking_state, state_in}
-use Rattle.slice_driver.proofs.WorldRuns.{world_settled}
+use Rattle.slice_driver.proofs.abstraction.WorldRuns.{world_settled}
 use Rattle.slice_driver.proofs.collector.Collector.settled.Goals as goal
 
 pub returns-in-None-clause-worlds : goal.returns-in-None-clause-worlds

@@ -1,4 +1,4 @@
-use Rattle.slice_driver.proofs.TakingDue.{due_does, due_flies, due_freed, due_keeps, due_lowers, due_out, some_left}
+use Rattle.slice_driver.proofs.taking_in.TakingDue.{due_does, due_flies, due_freed, due_keeps, due_lowers, due_out, some_left}
 use Rattle.slice_driver.proofs.collector.Collector.take_due.Goals as goal
 
 pub unreachable-requires : goal.unreachable-requires

@@ -14,12 +14,12 @@ use Rattle.slice_driver.specs.Sweeping.{AreFreed, FitsWords}
 use Rattle.slice_driver.specs.declared.collector.Unit.{Unit}
 use Rattle.slice_driver.specs.declared.collector.Run.{Run}
 use Rattle.slice_driver.specs.Units.{DoesUnit, IsFreedWord, IsLowestOut, IsSound, KeepsFreedWords, reports_of, without_arena}
-use Rattle.slice_driver.proofs.Named.{some_one}
-use Rattle.slice_driver.proofs.SoundAfter.{unit_sound}
-use Rattle.slice_driver.proofs.TakingIn.{takes_unit}
+use Rattle.slice_driver.proofs.abstraction.Named.{some_one}
+use Rattle.slice_driver.proofs.abstraction.SoundAfter.{unit_sound}
+use Rattle.slice_driver.proofs.taking_in.TakingIn.{takes_unit}
 use Rattle.slice_driver.specs.Left.{units_left}
-use Rattle.slice_driver.proofs.FewerTaken.{taking_lowers}
-use Rattle.slice_driver.proofs.Kept.{more_left, words_both, words_rest, words_taken}
+use Rattle.slice_driver.proofs.measure.FewerTaken.{taking_lowers}
+use Rattle.slice_driver.proofs.taking_in.Kept.{more_left, words_both, words_rest, words_taken}
 use Rattle.slice_driver.proofs.collector.Collector.take_one.Goals as goal
 use Rattle.slice_driver.proofs.collector.Collector.take_one.Goals.{then-finished, else-finished}
 

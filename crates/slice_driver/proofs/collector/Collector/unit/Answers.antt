@@ -4,8 +4,8 @@ use Rattle.slice_driver.specs.Quiet.{IsFormed}
 use Rattle.slice_driver.specs.Working.{HasBegun, IsAtGroupEnd, IsResting, IsStill}
 use Rattle.slice_driver.specs.Units.{IsSound, flying_after, is_group_end}
 use Rattle.slice_driver.specs.declared.collector.Unit.{Unit}
-use Rattle.slice_driver.proofs.MarkingUnits.{still_goes, still_group_done, still_sound}
-use Rattle.slice_driver.proofs.OneUnit.{all_still, ended_coloured, ended_done, ended_err, ended_handed, ended_left, ended_sound, ended_where, four_rested, group_ready, none_due, none_out, none_out_before, not_at_end, not_due, on_err, one_out, same_due, says_grouping, says_quiet, says_sound, still_on}
+use Rattle.slice_driver.proofs.marking.MarkingUnits.{still_goes, still_group_done, still_sound}
+use Rattle.slice_driver.proofs.marking.OneUnit.{all_still, ended_coloured, ended_done, ended_err, ended_handed, ended_left, ended_sound, ended_where, four_rested, group_ready, none_due, none_out, none_out_before, not_at_end, not_due, on_err, one_out, same_due, says_grouping, says_quiet, says_sound, still_on}
 use Rattle.slice_driver.proofs.collector.Collector.unit.Goals as goal
 
 pub returns-then-marks_black-clause-done : goal.returns-then-marks_black-clause-done

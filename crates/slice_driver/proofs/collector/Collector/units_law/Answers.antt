@@ -1,4 +1,4 @@
-use Rattle.slice_driver.proofs.FewUnits.{few_units}
+use Rattle.slice_driver.proofs.measure.FewUnits.{few_units}
 use Rattle.slice_driver.proofs.collector.Collector.units_law.Goals as goal
 
 pub returns : goal.returns

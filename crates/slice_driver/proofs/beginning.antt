@@ -1,0 +1,9 @@
+-- The beginning of a collection: bits cleared, roots gathered and marked, and the world in which it begins.
+pub mod Beginning
+pub mod BeginsIn
+pub mod Begun
+pub mod BegunSteps
+pub mod ClearedBits
+pub mod FewWrappers
+pub mod GatheredRoots
+pub mod MarkedRoots

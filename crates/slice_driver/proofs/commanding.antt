@@ -1,0 +1,13 @@
+-- Commands: what they wake, what their barriers and changes keep, and how they are answered in each world.
+pub mod Answering
+pub mod CommandRuns
+pub mod Commanded
+pub mod Commanding
+pub mod FreedWords
+pub mod JoinedChanges
+pub mod Quiet
+pub mod Rooms
+pub mod Serving
+pub mod Through
+pub mod Waking
+pub mod Woken

@@ -1,0 +1,650 @@
+-- The call of a command, also between two units of a collection.
+use Rattle.std.proofs.Common.{◌≡◌, ◌↔◌, ◌≤◌, ◌*◌, ℕ, false, List, length, Bool, true, Option, Some, None, is_some, Result, Ok, Err, OnOk, OnErr, Contains, slice_get, if◌then◌else◌, refl, sym, ap, subst, ◌∙◌, inl, inr, IsSome}
+use Rattle.std.specs.FinSet as set
+use Rattle.std.specs.Option.{option_map}
+use Rattle.gz_names.specs.declared.names.Name.{Name}
+use Rattle.gz_names.specs.declared.names.Name.TheVariants.{Cell, Wrap}
+use Rattle.gz_names.specs.declared.numbers.CompNo.{CompNo}
+use Rattle.gz_names.specs.declared.numbers.Place.{Place}
+use Rattle.gz_names.specs.declared.commands.GraphCmd.{GraphCmd}
+use Rattle.gz_names.specs.declared.commands.GraphCmd.TheVariants as cmd
+use Rattle.gz_names.specs.declared.replies.Reply.{Reply}
+use Rattle.gz_names.specs.declared.replies.CmdFault.{CmdFault}
+use Rattle.gz_names.specs.declared.replies.CmdFault.TheVariants as fault
+use Rattle.gz_names.specs.declared.replies.Refusal.{Refusal}
+use Rattle.cell_bits.specs.declared.bits.Bits.{Bits}
+use Rattle.arena_table.specs.Cells.{CellState}
+use Rattle.wrappers.specs.WrapperMaps.{AreApart}
+use Rattle.mark_stack.specs.Stack.{Piles}
+use Rattle.gray_lists.specs.Incoming.{Incoming}
+use Rattle.colour_defs.specs.Graph.{GraphState, register_cell}
+use Rattle.colour_defs.specs.Laws.{IsValid}
+use Rattle.colour_defs.specs.Step.{is_in_comp, refusal_in, step_of, target_of}
+use Rattle.colour_defs.specs.Units.{Tally, with_put, with_woken}
+use Rattle.colour_defs.specs.World.{World, Collection, IsSettled, with_counts, woken_by, woken_by_wrap}
+use Rattle.colour_defs.proofs.Lists.{nothing_in_none}
+use Rattle.colour_defs.proofs.ValidCommands.{command_valid}
+use Rattle.heap_core.specs.Shape.{Shape, held_name, is_marking, is_marking_state, name_at, out_of, zone_of}
+use Rattle.heap_core.specs.Heap.{HeapState, colour_in, colour_of, joined, reg_of, slot_of, with_flown}
+use Rattle.heap_core.specs.Answers.{DoesStep}
+use Rattle.heap_core.specs.Changes.{Makes}
+use Rattle.heap_core.specs.Effects.{Changes}
+use Rattle.heap_core.specs.Lookups.{target_at}
+use Rattle.heap_core.specs.Peeks.{IsHanded, handed as handed_in, stored, unless_refused, wrapped_target}
+use Rattle.heap_core.specs.Shows.{Shows}
+use Rattle.barriers.specs.Colours.{IsBlack}
+use Rattle.barriers.specs.Exposing.{BlackOr, Exposes}
+use Rattle.barriers.specs.Invariant.{MarkingInvariant}
+use Rattle.barriers.specs.PendingLive.{GrayInvariant}
+use Rattle.barriers.specs.Reached.{Reached}
+use Rattle.barriers.specs.Spreading.{Covers}
+use Rattle.barriers.proofs.BlackClosure.{reached_more}
+use Rattle.slice_driver.specs.Closures.{AreTied}
+use Rattle.slice_driver.specs.Collector.{CollectorState, RunState, heap_with}
+use Rattle.slice_driver.specs.Commands.{ComesTo, DoesInWorld, Exposed, KeepsBlack, SpreadsBlack, StayInPlace, Wakes, waking, with_colours}
+use Rattle.slice_driver.specs.Represents.{AreInStates, AreLookedAt, IsIdle, Represents, Runs, RunsAs, WaitsWhileMarking}
+use Rattle.slice_driver.specs.Serves.{Serves}
+use Rattle.slice_driver.specs.Steps.{CommandSteps, GoesThrough, HomesAreMade}
+use Rattle.slice_driver.specs.Units.{AnswersIn, DoesCommand, KeepsFreedWords}
+use Rattle.slice_driver.specs.Worlds.{IsInFlight, IsUnswept, LiesIn}
+use Rattle.slice_driver.proofs.beginning.Begun.{none_member}
+use Rattle.slice_driver.proofs.commanding.CommandRuns.{names_come, names_stay, runs_served, waits_served}
+use Rattle.slice_driver.proofs.commanding.Commanding.{exposed_marks, handed_plain, stored_plain}
+use Rattle.slice_driver.proofs.marking.Flights.{still_flies}
+use Rattle.slice_driver.proofs.commanding.FreedWords.{keeps_words, same_words}
+use Rattle.heap_core.proofs.MakingCells.{same-place}
+use Rattle.slice_driver.proofs.abstraction.Keeping.{stay_same}
+use Rattle.slice_driver.proofs.abstraction.Lying.{lies_coloured, refused_in, shows_coloured, woken_in}
+use Rattle.slice_driver.proofs.marking.MarkingSteps.{own_sized}
+use Rattle.slice_driver.proofs.marking.MarkingUnits.{waits_on}
+use Rattle.slice_driver.proofs.abstraction.Named.{some_one}
+use Rattle.slice_driver.proofs.abstraction.Moving.{IsHeld, Moves, finds, makes, moves_of, quiet, stored_held, target_held}
+use Rattle.slice_driver.proofs.commanding.Quiet.{does_quiet}
+use Rattle.slice_driver.proofs.marking.Steps.{settled_states}
+use Rattle.slice_driver.proofs.commanding.Serving.{serves}
+use Rattle.slice_driver.proofs.commanding.Through.{IsReached, represents_exposed, represents_through, represents_widened}
+use Rattle.slice_driver.proofs.abstraction.Tying.{objects_grow, tied_exposed, tied_made, tied_served}
+use Rattle.slice_driver.proofs.commanding.Waking.{does_found, does_made}
+use Rattle.slice_driver.proofs.commanding.Woken.{made_black, one_spreads, others_keep, reached_kept, wakes_slot}
+
+-- through a barrier
+pub exposed_is : (o : Option Place) (h : HeapState) (s : Piles) (k : HeapState) (t : Piles) → Exposed o h s k t → (p : Place) → o ≡ Some p → IsBlack k p
+exposed_is None h s k t e p is = absurd (cc is)
+exposed_is (Some x) h s k t e p is = (let same : x ≡ p = cc is in subst (IsBlack k) same e.black)
+
+pub exposed_keeps : (o : Option Place) (h : HeapState) (s : Piles) (k : HeapState) (t : Piles) → Exposed o h s k t → (p : Place) → IsBlack h p → IsBlack k p
+exposed_keeps None h s k t e p b = subst (λ z. IsBlack z p) (sym e.0) b
+exposed_keeps (Some x) h s k t e p b = e.spreads.blackens.kept p b
+
+pub exposed_rest : (o : Option Place) (h k : HeapState) (f e : ℕ → Option Bits) (s t : Piles) → Exposed o (joined h f) s (joined k e) t → k ≡ with_colours h k.colours
+exposed_rest None h k f e s t x = ap (λ (z : HeapState). with_colours z k.colours) x.0
+exposed_rest (Some p) h k f e s t x = ap (λ (z : HeapState). with_colours z k.colours) x.spreads.blackens.rest
+
+exposed_gray : (o : Option Place) (h k : HeapState) (s t : Piles) (lists : Incoming) → Exposed o h s k t → GrayInvariant h s lists → GrayInvariant k t lists
+exposed_gray None h k s t lists e g = subst (λ z. GrayInvariant z t lists) (sym e.0) (subst (λ z. GrayInvariant h z lists) (sym e.1) g)
+exposed_gray (Some x) h k s t lists e g = (e.pending_live lists g).0
+
+-- what registers hold and what they reach is reached from black
+held_reached : (c : CollectorState) (flown : ℕ → Option Bits) (w : World) → Represents c flown w → (p : Place) → Reached c.heap.shape (IsHeld c.heap) p → Reached c.heap.shape (IsBlack (heap_with c flown)) p
+held_reached c flown w rep p r = reached_more c.heap.shape (IsHeld c.heap) (IsBlack (heap_with c flown)) (λ y held. rep.marks.holds.colours.regs_black y held) r
+
+-- what a `wrap` is about is reached from registers
+pub wrapped_held : (h : HeapState) (g : GraphState) → Shows h g → (c : GraphCmd) (p : Place) → wrapped_target h c ≡ Some p → Reached h.shape (IsHeld h) p
+wrapped_held h g shows cmd.Zone p e = absurd (cc e)
+wrapped_held h g shows (cmd.Comp z) p e = absurd (cc e)
+wrapped_held h g shows (cmd.New r c n) p e = absurd (cc e)
+wrapped_held h g shows (cmd.Map r c) p e = absurd (cc e)
+wrapped_held h g shows (cmd.Get r s f) p e = absurd (cc e)
+wrapped_held h g shows (cmd.Set s f t) p e = absurd (cc e)
+wrapped_held h g shows (cmd.Wrap r s c) p e = go (reg_of h s) refl e
+  where
+    go : (o : Option Place) → reg_of h s ≡ o → option_map (target_at h.shape) o ≡ Some p → Reached h.shape (IsHeld h) p
+    go None at is = absurd (cc is)
+    go (Some q) at is = (let same : target_at h.shape q ≡ p = cc is in subst (Reached h.shape (IsHeld h)) same (target_held h g shows s q at))
+wrapped_held h g shows (cmd.Unwrap r s) p e = absurd (cc e)
+wrapped_held h g shows (cmd.Copy r s) p e = absurd (cc e)
+wrapped_held h g shows (cmd.Drop r) p e = absurd (cc e)
+wrapped_held h g shows (cmd.Hold k r) p e = absurd (cc e)
+wrapped_held h g shows (cmd.Release k) p e = absurd (cc e)
+wrapped_held h g shows (cmd.Expose r k) p e = absurd (cc e)
+wrapped_held h g shows (cmd.Put m k v) p e = absurd (cc e)
+wrapped_held h g shows (cmd.Del m k) p e = absurd (cc e)
+wrapped_held h g shows (cmd.Find r m k) p e = absurd (cc e)
+
+none_waking : (o : Option Name) → waking o None ≡ None
+none_waking None = refl
+none_waking (Some x) = refl
+
+-- a command that makes an object gives it the next number
+next_number : (w : World) (h : HeapState) (c : GraphCmd) (x : Name) → IsValid w → (l : LiesIn h w) → handed_in h c ≡ None → woken_by w.graph c ≡ Some x → (n : ℕ) → x ≡ Cell n → n ≡ length w.graph.objects
+next_number w h cmd.Zone x ok l none e n is = absurd (cc e)
+next_number w h (cmd.Comp z) x ok l none e n is = absurd (cc e)
+next_number w h (cmd.New r c f) x ok l none e n is = cc (e, is)
+next_number w h (cmd.Map r c) x ok l none e n is = cc (e, is)
+next_number w h (cmd.Get r s f) x ok l none e n is = absurd (cc e)
+next_number w h (cmd.Set s f t) x ok l none e n is = absurd (cc e)
+next_number w h (cmd.Wrap r s c) x ok l none e n is = absurd (go (register_cell w.graph s) e)
+  where
+    go2 : (y : Name) (b : Bool) → (if b then None else Some (Wrap c (target_of y))) ≡ Some x → ⊥
+    go2 y true q = cc q
+    go2 y false q = cc (q, is)
+
+    go : (o : Option Name) → woken_by_wrap w.graph o c ≡ Some x → ⊥
+    go None q = cc q
+    go (Some y) q = go2 y (is_in_comp w.graph c (Cell (target_of y))) q
+next_number w h (cmd.Unwrap r s) x ok l none e n is = absurd (cc e)
+next_number w h (cmd.Copy r s) x ok l none e n is = absurd (cc e)
+next_number w h (cmd.Drop r) x ok l none e n is = absurd (cc e)
+next_number w h (cmd.Hold k r) x ok l none e n is = absurd (cc e)
+next_number w h (cmd.Release k) x ok l none e n is = absurd (cc e)
+next_number w h (cmd.Expose r k) x ok l none e n is =
+    let named : woken_by w.graph (cmd.Expose r k) ≡ held_name h.shape (slot_of h k) = woken_in w h (cmd.Expose r k) (held_name h.shape (slot_of h k)) ok l (wakes_slot h r k) in
+    let nothing : woken_by w.graph (cmd.Expose r k) ≡ None = named ∙ ap (held_name h.shape) none in
+    absurd (cc (nothing, e))
+next_number w h (cmd.Put m k v) x ok l none e n is = absurd (cc e)
+next_number w h (cmd.Del m k) x ok l none e n is = absurd (cc e)
+next_number w h (cmd.Find r m k) x ok l none e n is = absurd (cc e)
+
+-- a collection with one woken name more
+abbrev with_name : Name → Collection → Collection
+with_name x k = record k { woken = set.insert k.woken x }
+
+-- the last two steps: what is handed out goes through a barrier, and the heap does the command
+module _ (b : CollectorState) (flown : ℕ → Option Bits) (command : GraphCmd) (w : World) (ok : IsValid w) (rep : Represents b flown w) (ds : List Bits) (stack : Piles) (flying : ℕ → Option Bits) (given : Option Place) (given_is : IsHanded b.heap command given) (exposed : Exposed given (heap_with b flown) b.stack (joined (with_colours b.heap ds) flying) stack) (covers : Covers b.heap.shape flying) where
+  abbrev m : HeapState
+  m = with_colours b.heap ds
+
+  abbrev t : CollectorState
+  t = record b { heap = m; stack = stack }
+
+  lies : LiesIn m w
+  lies = lies_coloured b.heap ds w rep.lies
+
+  lies_joined : LiesIn (joined m flying) w
+  lies_joined = lies_coloured b.heap (with_flown flying 0 ds) w rep.lies
+
+  shows : Shows m rep.lies.graph
+  shows = shows_coloured b.heap ds rep.lies.graph rep.lies.shown
+
+  inv : MarkingInvariant (joined m flying) stack
+  inv = exposed_marks given (heap_with b flown) b.stack (joined m flying) stack exposed rep.marks
+
+  gray : GrayInvariant (joined m flying) stack b.lists
+  gray = exposed_gray given (heap_with b flown) (joined m flying) b.stack stack b.lists exposed rep.gray
+
+  -- nothing was handed out
+  pub nothing_handed : given ≡ None → Represents t flying w
+  nothing_handed none = represents_exposed b flown w rep m stack flying covers given exposed (λ p e. absurd (cc (none, e)))
+
+  module _ (accepted : refusal_in (step_of rep.lies.graph command).1 ≡ None) (homes : HomesAreMade b.heap.shape) (apart : AreApart b.heap.shape.wrappers.lists) (stored_black : (p : Place) → stored b.heap command ≡ Some p → IsBlack (heap_with b flown) p) (target_black : (r i : ℕ) (c : CompNo) (p : Place) → command ≡ cmd.Wrap r i c → reg_of b.heap i ≡ Some p → IsBlack (heap_with b flown) (target_at b.heap.shape p)) (answer : Reply) (new : HeapState) (does : DoesStep m command (Ok answer) new) (change : Changes m command new) (room : 64 * length new.colours ≤ stack.room) (more_room : 64 * length new.colours ≤ b.lists.room) where
+    abbrev es : List Bits
+    es = with_flown flying 0 new.colours
+
+    abbrev d : CollectorState
+    d = record t { heap = new }
+
+    handed_is : given ≡ handed_in m command
+    handed_is = given_is rep.lies.graph rep.lies.shown ∙ (ap (λ o. unless_refused o (handed_in b.heap command)) accepted ∙ sym (handed_plain b.heap ds command))
+
+    keeps : (p : Place) → IsBlack (heap_with b flown) p → IsBlack (joined m flying) p
+    keeps p black = exposed_keeps given (heap_with b flown) b.stack (joined m flying) stack exposed p black
+
+    wraps_black : (r i : ℕ) (c : CompNo) (p : Place) → command ≡ cmd.Wrap r i c → reg_of m i ≡ Some p → IsBlack (joined m flying) (target_at m.shape p)
+    wraps_black r i c p is e = keeps (target_at b.heap.shape p) (target_black r i c p is e)
+
+    pub served : Serves (joined m flying) (joined new flying) stack b.lists
+    served = serves m new flying stack b.lists rep.lies.graph shows inv gray covers homes room more_room command accepted
+        (λ p e. keeps p (stored_black p (sym (stored_plain b.heap ds command) ∙ e)))
+        (λ p e. exposed_is given (heap_with b flown) b.stack (joined m flying) stack exposed p (handed_is ∙ e))
+        wraps_black change
+
+    grown : (v : World) → v.graph ≡ (step_of w.graph command).0 → length w.graph.objects ≤ length v.graph.objects
+    grown v e = subst (λ (g : GraphState). length w.graph.objects ≤ length g.objects) (sym e) (objects_grow w.graph command)
+
+    lies_after : (v : World) → LiesIn new v → LiesIn (joined new flying) v
+    lies_after v l = lies_coloured new es v l
+
+    -- a collector without a collection
+    idle_served : IsIdle t → IsIdle d
+    idle_served i = record {
+      states = λ z. served.states z ∙ i.states z;
+      kept = λ a. served.outs a ∙ i.kept a;
+      black = i.black;
+      gray = i.gray;
+    }
+
+    flies_served : IsInFlight m.shape flying → IsInFlight new.shape flying
+    flies_served f = record {
+      covers = λ a. f.covers a ∙ ap is_some (sym (served.outs a));
+      woken = λ a old now out at. f.woken a old now (sym (served.outs a) ∙ out) at;
+    }
+
+    -- after the change the collector stands for the world after the command
+    represents_after : (done : DoesInWorld w command answer new es) → ((p : Place) (x : Name) → IsUnswept new.shape p x ↔ IsUnswept m.shape p x) → IsInFlight m.shape flying → WaitsWhileMarking t → RunsAs (joined new flying) d done.after b.run done.after.collection → AnswersIn w command (Ok answer) d flying
+    represents_after done unswept flies waits runs = (
+      done.after,
+      done.command,
+      record {
+        lies = done.lies;
+        unswept_apart = λ x p q up uq. rep.unswept_apart x p q ((unswept p x).0 up) ((unswept q x).0 uq);
+        flies = flies_served flies;
+        marks = served.marks;
+        gray = served.gray;
+        waits = waits_served t d flying refl served waits;
+        black = done.black;
+        runs = runs;
+      },
+    )
+
+    -- the collection that runs, by what it is after the command
+    module _ (done : DoesInWorld w command answer new es) (names : (q : Place) (y : Name) → name_at m.shape q ≡ Some y → name_at new.shape q ≡ Some y) where
+      runs_on : (k kk : Collection) (r : RunState) → kk ≡ record k { tally = kk.tally; woken = kk.woken } → Runs (joined m flying) t w r k → ((z : ℕ) → Contains kk.marking z → AreTied (joined new flying) stack b.lists done.after kk) → Runs (joined new flying) d done.after r kk
+      runs_on k kk r same runs tied = runs_served t d flying refl served inv w done.after k kk lies done.lies ok same names command rep.lies.graph change shows accepted apart (λ r2 i c p is e. wraps_black r2 i c p is e) covers r runs tied
+
+      none_after : w.collection ≡ None → done.after.collection ≡ None
+      none_after none = done.collection_is ∙ (ap (λ k. waking (woken_by w.graph command) (with_counts w.graph command k)) none ∙ none_waking (woken_by w.graph command))
+
+      abbrev TiesAfter : Option Name → Collection → Type 0
+      TiesAfter o k = (kk : Collection) → waking o (with_counts w.graph command (Some k)) ≡ Some kk → (kk ≡ record k { tally = kk.tally; woken = kk.woken }) × ((z : ℕ) → Contains kk.marking z → AreTied (joined new flying) stack b.lists done.after kk)
+
+      runs_all : (o : Option RunState) (u : Option Collection) → w.collection ≡ u → RunsAs (joined m flying) t w o u → ((k : Collection) → w.collection ≡ Some k → TiesAfter (woken_by w.graph command) k) → RunsAs (joined new flying) d done.after o done.after.collection
+      runs_all None None e i ties = subst (λ c. RunsAs (joined new flying) d done.after None c) (sym (none_after e)) (idle_served i)
+      runs_all None (Some k) e i ties = absurd i
+      runs_all (Some r) None e i ties = absurd i
+      runs_all (Some r) (Some k) e i ties = go (waking (woken_by w.graph command) (with_counts w.graph command (Some k))) refl
+        where
+          some : (o : Option Name) → waking o (with_counts w.graph command (Some k)) ≡ None → ⊥
+          some None f = cc f
+          some (Some x) f = cc f
+
+          go : (c : Option Collection) → waking (woken_by w.graph command) (with_counts w.graph command (Some k)) ≡ c → RunsAs (joined new flying) d done.after (Some r) done.after.collection
+          go None f = absurd (some (woken_by w.graph command) f)
+          go (Some kk) f =
+              let after : done.after.collection ≡ Some kk = done.collection_is ∙ (ap (λ k. waking (woken_by w.graph command) (with_counts w.graph command k)) e ∙ f) in
+              let tied = ties k e kk f in
+              subst (λ c. RunsAs (joined new flying) d done.after (Some r) c) (sym after) (runs_on k kk r tied.0 i tied.1)
+
+    -- nothing moves, and what was handed out was reached from registers
+    answers_quiet : StayInPlace m.shape new.shape → Wakes m command None → new.colours ≡ ds → ((p : Place) → given ≡ Some p → Reached b.heap.shape (IsHeld b.heap) p) → AnswersIn w command (Ok answer) d flying
+    answers_quiet stay wakes colours reach =
+        let there : Represents t flying w = represents_exposed b flown w rep m stack flying covers given exposed (λ p e. held_reached b flown w rep p (reach p e)) in
+        let same : KeepsBlack (joined m flying) (with_colours new es) = λ p here. (
+          λ black. ap (λ (bs : List Bits). colour_in (slice_get (with_flown flying 0 bs) p.0) p.1) (sym colours) ∙ black,
+          λ black. ap (λ (bs : List Bits). colour_in (slice_get (with_flown flying 0 bs) p.0) p.1) colours ∙ black,
+        ) in
+        let done : DoesInWorld w command answer new es = does_quiet w m new command answer (with_flown flying 0 ds) es ok lies there.black does stay wakes same in
+        let none : woken_by w.graph command ≡ None = woken_in w m command None ok lies wakes in
+        represents_after done stay.unswept there.flies there.waits
+        (runs_all done (names_stay m.shape new.shape stay) b.run w.collection refl there.runs (λ k at kk e. ties done none stay k at there.runs kk e))
+      where
+        ties : (done : DoesInWorld w command answer new es) → woken_by w.graph command ≡ None → StayInPlace m.shape new.shape → (k : Collection) → w.collection ≡ Some k → RunsAs (joined m flying) t w b.run w.collection → (kk : Collection) → waking (woken_by w.graph command) (with_counts w.graph command (Some k)) ≡ Some kk → (kk ≡ record k { tally = kk.tally; woken = kk.woken }) × ((z : ℕ) → Contains kk.marking z → AreTied (joined new flying) stack b.lists done.after kk)
+        ties done none stay k at runs kk e =
+            let is : record k { tally = with_woken w.graph k.zones (woken_by w.graph command) (with_put w.graph k.zones command k.tally) } ≡ kk = by (woken_by w.graph command) none e in
+            subst (λ z. (z ≡ record k { tally = z.tally; woken = z.woken }) × ((y : ℕ) → Contains z.marking y → AreTied (joined new flying) stack b.lists done.after z)) is (refl, λ z has. tied_served (joined m flying) (joined new flying) stack b.lists w done.after k _ lies_joined (lies_after done.after done.lies) served stay.names (grown done.after done.graph_is) (was b.run (subst (λ u. RunsAs (joined m flying) t w b.run u) at runs) z has))
+          where
+            by : (o : Option Name) → o ≡ None → waking o (with_counts w.graph command (Some k)) ≡ Some kk → record k { tally = with_woken w.graph k.zones (woken_by w.graph command) (with_put w.graph k.zones command k.tally) } ≡ kk
+            by None n e = cc e
+            by (Some x) n e = absurd (cc n)
+
+            was : (o : Option RunState) → RunsAs (joined m flying) t w o (Some k) → (z : ℕ) → Contains k.marking z → AreTied (joined m flying) stack b.lists w k
+            was None i z has = absurd i
+            was (Some r) i z has = i.tied z has
+
+    -- a cell that is there is handed out, and wakes
+    answers_found : (p : Place) (x : Name) → name_at m.shape p ≡ Some x → Wakes m command (Some x) → new.colours ≡ ds → new.shape.arenas ≡ m.shape.arenas → new.shape.weak ≡ m.shape.weak → given ≡ Some p → AnswersIn w command (Ok answer) d flying
+    answers_found p x named wakes colours arenas weak is = represents_after done stay.unswept flies waits (runs_found b.run w.collection refl rep.runs)
+      where
+        ex : Exposes (heap_with b flown) b.stack p (joined m flying) stack
+        ex = subst (λ o. Exposed o (heap_with b flown) b.stack (joined m flying) stack) is exposed
+
+        stay : StayInPlace m.shape new.shape
+        stay = stay_same m.shape new.shape arenas lies.whole
+
+        colour_same : (q : Place) → colour_of (with_colours new es) q ≡ colour_of (joined m flying) q
+        colour_same q = ap (λ (bs : List Bits). colour_in (slice_get (with_flown flying 0 bs) q.0) q.1) colours
+
+        none : IsSettled w → (q : Place) → is_marking b.heap.shape q ≡ false
+        none settled q = settled_states (heap_with b flown) b w b.run w.collection rep.runs settled (zone_of b.heap.shape q)
+
+        spreads : IsSettled w → SpreadsBlack (heap_with b flown) p (with_colours new es)
+        spreads settled q = (
+          λ black. reached_kept m.shape new.shape (BlackOr (heap_with b flown) p) arenas weak ((ex.settled (none settled) q).0 (sym (colour_same q) ∙ black)),
+          λ r. colour_same q ∙ (ex.settled (none settled) q).1 (reached_kept new.shape m.shape (BlackOr (heap_with b flown) p) (sym arenas) (sym weak) r),
+        )
+
+        done : DoesInWorld w command answer new es
+        done = does_found w m new command answer (with_flown flown 0 b.heap.colours) es p x ok lies rep.marks.holds.colours (λ s. rep.black s) does stay wakes named spreads
+
+        woken : woken_by w.graph command ≡ Some x
+        woken = woken_in w m command (Some x) ok lies wakes
+
+        flies : IsInFlight m.shape flying
+        flies = still_flies b.heap m flown flying rep.flies refl rep.marks.holds.colours inv.holds.colours covers (own_sized b.heap flown b.stack rep.marks) (own_sized m flying stack inv) ex.spreads.blackens.kept (λ y. elim (ex.spreads.blackens.others y) [ inl black ↦ inl black | inr e ↦ inr (inl e) ])
+
+        waits : WaitsWhileMarking t
+        waits = waits_on b m stack refl refl rep.waits (λ none. ex.spreads.gray_is ∙ rep.waits.gray none)
+
+        idle_found : IsIdle b → IsIdle t
+        idle_found i = record {
+          states = i.states;
+          kept = i.kept;
+          black = none_member stack.black (λ q has. (let marking = (inv.holds.piles.black q has).1 in cc (marking, ap is_marking_state (i.states (zone_of m.shape q)))));
+          gray = ex.spreads.gray_is ∙ i.gray;
+        }
+
+        states_found : (r : RunState) → AreInStates b r → AreInStates t r
+        states_found r s = record {
+          outside = s.outside;
+          made = s.made;
+          early = s.early;
+          later = s.later;
+          ended = s.ended;
+          sweeping = s.sweeping;
+          swept = s.swept;
+        }
+
+        looked_found : (r : RunState) (k : Collection) → AreLookedAt (heap_with b flown) b r w k → AreLookedAt (joined m flying) t r w (with_name x k)
+        looked_found r k l = record {
+          zones_are = l.zones_are;
+          first = l.first;
+          looked = λ y z across at. elim (l.looked y z (record { edge = across.edge; from = across.from; to = across.to; apart = across.apart }) (record { index = at.index; before = at.before; stands = at.stands })) [ inl black ↦ inl (keeps z black) | inr e ↦ inr e ];
+          left_black = elim l.left_black [ inl fresh ↦ inl fresh | inr black ↦ inr (λ z i y q here past at held. keeps q (black z i y q here past at held)) ];
+        }
+
+        runs_woken : (r : RunState) (k : Collection) → w.collection ≡ Some k → Runs (heap_with b flown) b w r k → Runs (joined m flying) t w r (with_name x k)
+        runs_woken r k at i = record {
+          zones_are = i.zones_are;
+          marking_are = i.marking_are;
+          groups_are = i.groups_are;
+          states = states_found r i.states;
+          tied = λ z has. tied_exposed (heap_with b flown) (joined m flying) b.stack stack b.lists w k p x ok (lies_coloured b.heap (with_flown flown 0 b.heap.colours) w rep.lies) at (λ none. nothing_in_none z (subst (λ zs. Contains zs z) none has)) rep.marks rep.gray ex named (i.tied z has);
+          early = λ unformed. looked_found r k (i.early unformed);
+          late = λ formed y z across here gone. keeps z (i.late formed y z (record { edge = across.edge; from = across.from; to = across.to; apart = across.apart }) here gone);
+        }
+
+        collection_found : (k kk : Collection) → (o : Option Name) → o ≡ Some x → waking o (with_counts w.graph command (Some k)) ≡ Some kk → record k { tally = with_woken w.graph k.zones (woken_by w.graph command) (with_put w.graph k.zones command k.tally); woken = set.insert k.woken x } ≡ kk
+        collection_found k kk None n e = absurd (cc n)
+        collection_found k kk (Some y) n e = some_one _ _ (ap (λ (z : Name). Some (record k { tally = with_woken w.graph k.zones (woken_by w.graph command) (with_put w.graph k.zones command k.tally); woken = set.insert k.woken z })) (sym (some_one _ _ n)) ∙ e)
+
+        runs_found : (o : Option RunState) (u : Option Collection) → w.collection ≡ u → RunsAs (heap_with b flown) b w o u → RunsAs (joined new flying) d done.after o done.after.collection
+        runs_found None None e i = subst (λ c. RunsAs (joined new flying) d done.after None c) (sym (none_after done (names_stay m.shape new.shape stay) e)) (idle_served (idle_found i))
+        runs_found None (Some k) e i = absurd i
+        runs_found (Some r) None e i = absurd i
+        runs_found (Some r) (Some k) e i =
+            let tally : Tally = with_woken w.graph k.zones (woken_by w.graph command) (with_put w.graph k.zones command k.tally) in
+            let kk : Collection = record k { tally = tally; woken = set.insert k.woken x } in
+            let now : done.after.collection ≡ waking (Some x) (with_counts w.graph command (Some k)) = done.collection_is ∙ (ap (λ u. waking (woken_by w.graph command) (with_counts w.graph command u)) e ∙ ap (λ o. waking o (with_counts w.graph command (Some k))) woken) in
+            let running = runs_woken r k e i in
+            subst (λ c. RunsAs (joined new flying) d done.after (Some r) c) (sym now)
+            (runs_on done (names_stay m.shape new.shape stay) (with_name x k) kk r refl running (λ z has. tied_served (joined m flying) (joined new flying) stack b.lists w done.after (with_name x k) tally lies_joined (lies_after done.after done.lies) served stay.names (grown done.after done.graph_is) (running.tied z has)))
+
+    -- a cell is made, and wakes
+    answers_made : (zone : ℕ) (p : Place) (x : Name) (cell : CellState) (between : HeapState) → ComesTo m.shape new.shape zone p x → Wakes m command (Some x) → Makes m zone p cell between → new.colours ≡ between.colours → given ≡ None → AnswersIn w command (Ok answer) d flying
+    answers_made zone p x cell between comes wakes mk colours nothing = represents_after done comes.unswept there.flies there.waits (runs_all done (names_come m.shape new.shape zone p x comes) b.run w.collection refl there.runs ties)
+      where
+        there : Represents t flying w
+        there = nothing_handed nothing
+
+        sized : length m.colours ≡ length m.shape.arenas
+        sized = own_sized m flying stack inv
+
+        colour_same : (q : Place) → colour_of (joined new flying) q ≡ colour_of (joined between flying) q
+        colour_same q = ap (λ (bs : List Bits). colour_in (slice_get (with_flown flying 0 bs) q.0) q.1) colours
+
+        none_marking : IsSettled w → (q : Place) → is_marking new.shape q ≡ false
+        none_marking settled q = ap is_marking_state (served.states (zone_of new.shape q)) ∙ settled_states (joined m flying) t w b.run w.collection there.runs settled (zone_of new.shape q)
+
+        spreads : IsSettled w → SpreadsBlack (joined m flying) p (joined new flying)
+        spreads settled = one_spreads (joined m flying) (joined new flying) stack p served.marks (none_marking settled) (colour_same p ∙ made_black m zone p cell between flying mk covers sized) (λ q n. colour_same q ∙ others_keep m zone p cell between flying mk covers sized q n)
+
+        done : DoesInWorld w command answer new es
+        done = does_made w m new command answer (with_flown flying 0 ds) es p x ok lies there.marks.holds.colours (λ s. there.black s) zone does comes wakes spreads
+
+        woken : woken_by w.graph command ≡ Some x
+        woken = woken_in w m command (Some x) ok lies wakes
+
+        collection_made : (k kk : Collection) → (o : Option Name) → o ≡ Some x → waking o (with_counts w.graph command (Some k)) ≡ Some kk → record k { tally = with_woken w.graph k.zones (woken_by w.graph command) (with_put w.graph k.zones command k.tally); woken = set.insert k.woken x } ≡ kk
+        collection_made k kk None n e = absurd (cc n)
+        collection_made k kk (Some y) n e = some_one _ _ (ap (λ (z : Name). Some (record k { tally = with_woken w.graph k.zones (woken_by w.graph command) (with_put w.graph k.zones command k.tally); woken = set.insert k.woken z })) (sym (some_one _ _ n)) ∙ e)
+
+        was : (k : Collection) (o : Option RunState) → RunsAs (joined m flying) t w o (Some k) → (z : ℕ) → Contains k.marking z → AreTied (joined m flying) stack b.lists w k
+        was k None i z has = absurd i
+        was k (Some r) i z has = i.tied z has
+
+        ties : (k : Collection) → w.collection ≡ Some k → (kk : Collection) → waking (woken_by w.graph command) (with_counts w.graph command (Some k)) ≡ Some kk → (kk ≡ record k { tally = kk.tally; woken = kk.woken }) × ((z : ℕ) → Contains kk.marking z → AreTied (joined new flying) stack b.lists done.after kk)
+        ties k at kk e = subst (λ z. (z ≡ record k { tally = z.tally; woken = z.woken }) × ((y : ℕ) → Contains z.marking y → AreTied (joined new flying) stack b.lists done.after z)) (collection_made k kk (woken_by w.graph command) woken e) (
+          refl,
+          λ z has.
+              tied_made (joined m flying) (joined new flying) stack b.lists w done.after k zone p x ok (command_valid w done.after command answer ok done.command) at lies_joined (lies_after done.after done.lies) served comes
+              (next_number w m command x ok lies (sym handed_is ∙ nothing) woken)
+              (was k b.run (subst (λ u. RunsAs (joined m flying) t w b.run u) at there.runs) z has) _ (grown done.after done.graph_is),
+        )
+
+    -- what is freed of the arenas that are out stays the same
+    pub words_moves : Moves m command new → KeepsFreedWords m.shape new.shape
+    words_moves (quiet stay wakes colours reach) = keeps_words m.shape new.shape lies.whole stay.whole served.outs
+        (λ p out. stay.names p) stay.unswept
+    words_moves (finds p x named wakes colours arenas weak none_stored is_handed) =
+        let stay = stay_same m.shape new.shape arenas lies.whole in
+        keeps_words m.shape new.shape lies.whole stay.whole served.outs (λ q out. stay.names q) stay.unswept
+    words_moves (makes zone p x cell between comes wakes mk colours none_stored none_handed) = keeps_words m.shape
+        new.shape lies.whole comes.whole served.outs (λ q out. elim (same-place q p) [
+          | inl here ↦ absurd (let none : out_of m.shape q.0 ≡ None = ap (λ (z : Place). out_of m.shape z.0) here.0
+              ∙ mk.in_place in some_out (out_of m.shape q.0) none out)
+          | inr away ↦ comes.names q ∙ ap (λ b. if b then Some x else name_at m.shape q) away.1
+        ]) comes.unswept
+      where
+        some_out : (o : Option Bits) → o ≡ None → IsSome o → ⊥
+        some_out None e some = cc some
+        some_out (Some b) e some = cc e
+
+    pub answers_moves : Moves m command new → AnswersIn w command (Ok answer) d flying
+    answers_moves (quiet stay wakes colours reach) = answers_quiet stay wakes colours (λ p e. reach p (inr (sym handed_is ∙ e)))
+    answers_moves (finds p x named wakes colours arenas weak none_stored is_handed) = answers_found p x named wakes colours arenas weak (handed_is ∙ is_handed)
+    answers_moves (makes zone p x cell between comes wakes m2 colours none_stored none_handed) = answers_made zone p x cell between comes wakes m2 colours (handed_is ∙ none_handed)
+
+-- a barrier changes colours alone
+pub through_rest : (o : Option Place) (c : CollectorState) (flown : ℕ → Option Bits) (d : CollectorState) (flying : ℕ → Option Bits) → GoesThrough o c flown d flying → d.heap ≡ with_colours c.heap d.heap.colours
+through_rest o c flown d flying t = exposed_rest o c.heap d.heap flown flying c.stack d.stack t.exposed
+
+module _ (c : CollectorState) (flown : ℕ → Option Bits) (command : GraphCmd) (result : Result Reply CmdFault) (d : CollectorState) (flying : ℕ → Option Bits) (steps : CommandSteps c flown command result d flying) (w : World) (ok : IsValid w) (rep : Represents c flown w) where
+  abbrev wide : CollectorState
+  wide = steps.wide
+
+  abbrev first : CollectorState
+  first = steps.first
+
+  abbrev second : CollectorState
+  second = steps.second
+
+  wide_heap : wide.heap ≡ c.heap
+  wide_heap = ap (λ (e : CollectorState). e.heap) steps.widens.rest
+
+  first_rest : first.heap ≡ with_colours wide.heap first.heap.colours
+  first_rest = through_rest steps.old wide flown first steps.first_flown steps.old_through
+
+  second_rest : second.heap ≡ with_colours first.heap second.heap.colours
+  second_rest = through_rest steps.target first steps.first_flown second steps.second_flown steps.target_through
+
+  third_rest : steps.third.heap ≡ with_colours second.heap steps.third.heap.colours
+  third_rest = through_rest steps.handed second steps.second_flown steps.third flying steps.handed_through
+
+  second_wide : second.heap ≡ with_colours wide.heap second.heap.colours
+  second_wide = second_rest ∙ ap (λ (h : HeapState). with_colours h second.heap.colours) first_rest
+
+  wide_stands : Represents wide flown w
+  wide_stands = represents_widened c wide flown w steps.widens rep
+
+  old_reached : IsReached steps.old wide flown
+  old_reached p e = go (refusal_in (step_of wide_stands.lies.graph command).1) (steps.old_is wide_stands.lies.graph wide_stands.lies.shown)
+    where
+      go : (o : Option Refusal) → steps.old ≡ unless_refused o (stored wide.heap command) → Reached wide.heap.shape (IsBlack (heap_with wide flown)) p
+      go None is = held_reached wide flown w wide_stands p (stored_held wide.heap wide_stands.lies.graph wide_stands.lies.shown command p (sym is ∙ e))
+      go (Some why) is = absurd (cc (is, e))
+
+  first_stands : Represents first steps.first_flown w
+  first_stands = represents_through steps.old wide first flown steps.first_flown w steps.old_through old_reached wide_stands
+
+  target_reached : IsReached steps.target first steps.first_flown
+  target_reached p e = go (refusal_in (step_of first_stands.lies.graph command).1)
+      (steps.target_is first_stands.lies.graph first_stands.lies.shown)
+    where
+      go : (o : Option Refusal) → steps.target ≡ unless_refused o (wrapped_target first.heap command)
+          → Reached first.heap.shape (IsBlack (heap_with first steps.first_flown)) p
+      go None is = held_reached first steps.first_flown w first_stands p
+          (wrapped_held first.heap first_stands.lies.graph first_stands.lies.shown command p (sym is ∙ e))
+      go (Some why) is = absurd (cc (is, e))
+
+  second_stands : Represents second steps.second_flown w
+  second_stands = represents_through steps.target first second steps.first_flown steps.second_flown w steps.target_through target_reached first_stands
+
+  abbrev ds : List Bits
+  ds = steps.third.heap.colours
+
+  abbrev last : CollectorState
+  last = record second { heap = with_colours second.heap ds; stack = steps.third.stack }
+
+  third_is : steps.third ≡ last
+  third_is = steps.handed_through.rest ∙ ap (λ (h : HeapState). record second { heap = h; stack = steps.third.stack }) third_rest
+
+  d_is : d ≡ record last { heap = d.heap }
+  d_is = steps.rest ∙ ap (λ (e : CollectorState). record e { heap = d.heap }) third_is
+
+  exposed_last : Exposed steps.handed (heap_with second steps.second_flown) second.stack (joined (with_colours second.heap ds) flying) steps.third.stack
+  exposed_last = subst (λ h. Exposed steps.handed (heap_with second steps.second_flown) second.stack (joined h flying) steps.third.stack) third_rest steps.handed_through.exposed
+
+  covers_last : Covers second.heap.shape flying
+  covers_last = subst (λ (h : HeapState). Covers h.shape flying) third_rest steps.handed_through.covers
+
+  does : DoesStep (with_colours second.heap ds) command result d.heap
+  does = subst (λ h. DoesStep h command result d.heap) third_rest steps.step
+
+  shows_last : (g : GraphState) → Shows second.heap g → Shows (with_colours second.heap ds) g
+  shows_last g s = shows_coloured second.heap ds g s
+
+  -- where nothing was handed out and nothing done, the collector stands for what it stood for
+  still_stands : d.heap ≡ steps.third.heap → steps.handed ≡ None → Represents d flying w
+  still_stands same none =
+      let there : Represents last flying w = nothing_handed second steps.second_flown command w ok second_stands ds steps.third.stack flying steps.handed steps.handed_is exposed_last covers_last none in
+      subst (λ e. Represents e flying w) (sym (d_is ∙ ap (λ (h : HeapState). record last { heap = h }) (same ∙ third_rest))) there
+
+  stored_black : refusal_in (step_of wide_stands.lies.graph command).1 ≡ None → (p : Place) → stored second.heap command ≡ Some p → IsBlack (heap_with second steps.second_flown) p
+  stored_black accepted p e =
+      let is : steps.old ≡ stored wide.heap command = steps.old_is wide_stands.lies.graph wide_stands.lies.shown ∙ ap (λ o. unless_refused o (stored wide.heap command)) accepted in
+      let here : stored wide.heap command ≡ Some p = sym (ap (λ h. stored h command) second_wide ∙ stored_plain wide.heap second.heap.colours command) ∙ e in
+      exposed_keeps steps.target (heap_with first steps.first_flown) first.stack (heap_with second steps.second_flown) second.stack steps.target_through.exposed p
+      (exposed_is steps.old (heap_with wide flown) wide.stack (heap_with first steps.first_flown) first.stack steps.old_through.exposed p (is ∙ here))
+
+  target_black : refusal_in (step_of first_stands.lies.graph command).1 ≡ None → (r i : ℕ) (n : CompNo) (p : Place)
+      → command ≡ cmd.Wrap r i n → reg_of second.heap i ≡ Some p → IsBlack (heap_with second steps.second_flown)
+      (target_at second.heap.shape p)
+  target_black accepted r i n p is e =
+      let reg : reg_of first.heap i ≡ Some p = sym (ap (λ h. reg_of h i) second_rest) ∙ e in
+      let found : steps.target ≡ Some (target_at first.heap.shape p) =
+      steps.target_is first_stands.lies.graph first_stands.lies.shown
+      ∙ (ap (λ o. unless_refused o (wrapped_target first.heap command)) accepted
+      ∙ (ap (λ k. wrapped_target first.heap k) is ∙ ap (λ o. option_map (target_at first.heap.shape) o) reg)) in
+      let black = exposed_is steps.target (heap_with first steps.first_flown) first.stack (heap_with second steps.second_flown) second.stack steps.target_through.exposed (target_at first.heap.shape p) found in
+      subst (λ q. IsBlack (heap_with second steps.second_flown) q) (ap (λ (h : HeapState). target_at h.shape p) (sym second_rest)) black
+
+  homes_second : HomesAreMade second.heap.shape
+  homes_second = subst (λ (h : HeapState). HomesAreMade h.shape) (sym second_wide) (subst (λ (h : HeapState). HomesAreMade h.shape) (sym wide_heap) steps.homes)
+
+  apart_second : AreApart second.heap.shape.wrappers.lists
+  apart_second = subst (λ (h : HeapState). AreApart h.shape.wrappers.lists) (sym second_wide) (subst (λ (h : HeapState). AreApart h.shape.wrappers.lists) (sym wide_heap) steps.apart)
+
+  shows_third : (g : GraphState) → Shows wide.heap g → Shows (with_colours second.heap ds) g
+  shows_third g s = shows_last g (subst (λ h. Shows h g) (sym second_wide) (shows_coloured wide.heap second.heap.colours g s))
+
+  module _ (answer : Reply) (is : result ≡ Ok answer) where
+    step_ok : DoesStep (with_colours second.heap ds) command (Ok answer) d.heap
+    step_ok = subst (λ r. DoesStep (with_colours second.heap ds) command r d.heap) is does
+
+    accepted_by : (g : GraphState) → Shows (with_colours second.heap ds) g → refusal_in (step_of g command).1 ≡ None
+    accepted_by g s = (step_ok g s).0.1
+
+    change_ok : Changes (with_colours second.heap ds) command d.heap
+    change_ok = subst (λ h. Changes h command d.heap) third_rest (subst (λ r. OnOk r (Changes steps.third.heap command d.heap)) is steps.change)
+
+    room_last : 64 * length d.heap.colours ≤ steps.third.stack.room
+    room_last = subst (λ (e : CollectorState). 64 * length d.heap.colours ≤ e.stack.room) steps.rest steps.room
+
+    lists_last : 64 * length d.heap.colours ≤ second.lists.room
+    lists_last = subst (λ (e : CollectorState). 64 * length d.heap.colours ≤ e.lists.room) d_is steps.more_room
+
+    accepted_here : refusal_in (step_of second_stands.lies.graph command).1 ≡ None
+    accepted_here = accepted_by second_stands.lies.graph (shows_last second_stands.lies.graph second_stands.lies.shown)
+
+    accepted_wide : refusal_in (step_of wide_stands.lies.graph command).1 ≡ None
+    accepted_wide = accepted_by wide_stands.lies.graph (shows_third wide_stands.lies.graph wide_stands.lies.shown)
+
+    accepted_first : refusal_in (step_of first_stands.lies.graph command).1 ≡ None
+    accepted_first = accepted_by first_stands.lies.graph
+        (shows_last first_stands.lies.graph
+        (subst (λ h. Shows h first_stands.lies.graph) (sym second_rest)
+        (shows_coloured first.heap second.heap.colours first_stands.lies.graph first_stands.lies.shown)))
+
+    pub answered_ok : AnswersIn w command (Ok answer) d flying
+    answered_ok = subst (λ e. AnswersIn w command (Ok answer) e flying) (sym d_is)
+        (answers_moves second steps.second_flown command w ok second_stands ds steps.third.stack flying steps.handed
+        steps.handed_is exposed_last covers_last accepted_here homes_second apart_second
+        (stored_black accepted_wide) (target_black accepted_first) answer d.heap step_ok change_ok room_last
+        lists_last
+        (moves_of (with_colours second.heap ds) second_stands.lies.graph (shows_last second_stands.lies.graph second_stands.lies.shown) second_stands.lies.whole d.heap command change_ok))
+
+    -- no arena is handed out or taken in
+    pub outs_ok : (a : ℕ) → out_of d.heap.shape a ≡ out_of second.heap.shape a
+    outs_ok a = (served second steps.second_flown command w ok second_stands ds steps.third.stack flying steps.handed
+        steps.handed_is exposed_last covers_last accepted_here homes_second apart_second (stored_black accepted_wide)
+        (target_black accepted_first) answer d.heap step_ok change_ok room_last lists_last).outs a
+
+    pub words_ok : KeepsFreedWords second.heap.shape d.heap.shape
+    words_ok = words_moves second steps.second_flown command w ok second_stands ds steps.third.stack flying
+        steps.handed steps.handed_is exposed_last covers_last accepted_here homes_second apart_second
+        (stored_black accepted_wide) (target_black accepted_first) answer d.heap step_ok change_ok room_last lists_last
+        (moves_of (with_colours second.heap ds) second_stands.lies.graph
+        (shows_last second_stands.lies.graph second_stands.lies.shown) second_stands.lies.whole d.heap command change_ok)
+
+  answered : (r : Result Reply CmdFault) → result ≡ r → AnswersIn w command r d flying
+  answered (Ok answer) is = answered_ok answer is
+  answered (Err (fault.Refused why)) is =
+      let step : DoesStep (with_colours second.heap ds) command (Err (fault.Refused why)) d.heap = subst (λ r. DoesStep (with_colours second.heap ds) command r d.heap) is does in
+      let said : refusal_in (step_of second_stands.lies.graph command).1 ≡ Some why = ap refusal_in (step second_stands.lies.graph (shows_last second_stands.lies.graph second_stands.lies.shown)).0 in
+      let none : steps.handed ≡ None = steps.handed_is second_stands.lies.graph second_stands.lies.shown ∙ ap (λ o. unless_refused o (handed_in second.heap command)) said in
+      ((refused_in w (with_colours second.heap ds) d.heap command why ok (lies_coloured second.heap ds w second_stands.lies) step).1, still_stands (subst (λ r. OnErr r (d.heap ≡ steps.third.heap)) is steps.err) none)
+  answered (Err fault.NoMemory) is = still_stands (subst (λ r. OnErr r (d.heap ≡ steps.third.heap)) is steps.err) (no_handed steps.handed (λ p e. steps.sure p e is))
+    where
+      no_handed : (o : Option Place) → ((p : Place) → o ≡ Some p → ⊥) → o ≡ None
+      no_handed None none = refl
+      no_handed (Some p) none = absurd (none p refl)
+
+  pub answers_command : AnswersIn w command result d flying
+  answers_command = answered result refl
+
+  shape_outs : (a : ℕ) → out_of second.heap.shape a ≡ out_of c.heap.shape a
+  shape_outs a = ap (λ (h : HeapState). out_of h.shape a) second_wide ∙ ap (λ (h : HeapState). out_of h.shape a) wide_heap
+
+  pub outs_command : (a : ℕ) → out_of d.heap.shape a ≡ out_of c.heap.shape a
+  outs_command a = go result refl ∙ shape_outs a
+    where
+      same : d.heap ≡ steps.third.heap → out_of d.heap.shape a ≡ out_of second.heap.shape a
+      same e = ap (λ (h : HeapState). out_of h.shape a) e ∙ ap (λ (h : HeapState). out_of h.shape a) third_rest
+
+      go : (r : Result Reply CmdFault) → result ≡ r → out_of d.heap.shape a ≡ out_of second.heap.shape a
+      go (Ok answer) is = outs_ok answer is a
+      go (Err why) is = same (subst (λ r. OnErr r (d.heap ≡ steps.third.heap)) is steps.err)
+
+  pub words_command : KeepsFreedWords c.heap.shape d.heap.shape
+  words_command = go result refl
+    where
+      first_same : second.heap.shape ≡ c.heap.shape
+      first_same = ap (λ (h : HeapState). h.shape) second_wide ∙ ap (λ (h : HeapState). h.shape) wide_heap
+
+      go : (r : Result Reply CmdFault) → result ≡ r → KeepsFreedWords c.heap.shape d.heap.shape
+      go (Ok answer) is = subst (λ (s : Shape). KeepsFreedWords s d.heap.shape) first_same (words_ok answer is)
+      go (Err why) is = same_words c.heap.shape d.heap.shape
+          (ap (λ (h : HeapState). h.shape) (subst (λ r. OnErr r (d.heap ≡ steps.third.heap)) is steps.err) ∙
+          (ap (λ (h : HeapState). h.shape) third_rest ∙ first_same))
+
+pub serves_command : (c : CollectorState) (flown : ℕ → Option Bits) (command : GraphCmd) (result : Result Reply CmdFault) (d : CollectorState) (flying : ℕ → Option Bits) → CommandSteps c flown command result d flying → DoesCommand c flown command result d flying
+serves_command c flown command result d flying steps w ok rep = answers_command c flown command result d flying steps w ok rep

@@ -1,0 +1,22 @@
+-- The end of a group: when it is ready, its colours, its gray names, its jobs, and the world after it.
+pub mod Cells
+pub mod Colours
+pub mod EndReady
+pub mod Graphs
+pub mod GrayNames
+pub mod GraySlots
+pub mod Grays
+pub mod GraysHere
+pub mod GroupEnding
+pub mod Heaps
+pub mod JobsHanded
+pub mod Laws
+pub mod Lies
+pub mod Maps
+pub mod Marks
+pub mod Places
+pub mod Ready
+pub mod Runs
+pub mod Steps
+pub mod Worlds
+pub mod Wrappers

@@ -1,0 +1,138 @@
+-- The names of gray cells in the worlds that a collector stands for, where no zone is marking.
+use Rattle.std.proofs.Common.{◌≡◌, ◌↔◌, ◌<◌, ℕ, Bool, true, false, List, length, Option, Some, None, IsSome, is_some, slice_get, option_and_then, refl, sym, ap, subst, ◌∙◌, inl, inr, arith}
+use Rattle.std.specs.List.Sorted.{IsPermutation, IsSorted}
+use Rattle.std.specs.Prelude.{if◌then◌else◌}
+use Rattle.std.proofs.lemmas.Option.{slice_get_within}
+use Rattle.gz_names.specs.Order.{name_cmp}
+use Rattle.gz_names.specs.declared.names.Name.{Name}
+use Rattle.gz_names.specs.declared.numbers.Place.{Place}
+use Rattle.cell_bits.specs.declared.bits.Bits.{Bits}
+use Rattle.arena_table.specs.Cells.{CellState}
+use Rattle.arena_table.specs.Slots.{cell_in}
+use Rattle.colour_defs.specs.Ends.{Lists}
+use Rattle.colour_defs.specs.World.{World, Has, IsPresent as IsPresentName, IsSettled}
+use Rattle.heap_core.specs.Shape.{ArenaShape, AreWhole, IsPresent, Shape, is_white, name_at, out_in, out_of, present_in, zone_of}
+use Rattle.heap_core.specs.Heap.{HeapState, joined}
+use Rattle.barriers.specs.Colours.{IsGray}
+use Rattle.barriers.specs.Invariant.{ColourInvariant, MarkingInvariant}
+use Rattle.barriers.specs.PendingLive.{GrayInvariant}
+use Rattle.barriers.specs.Spreading.{Covers}
+use Rattle.barriers.proofs.Flying.{flown_length, flown_there}
+use Rattle.slice_driver.specs.Closures.{AreBlack}
+use Rattle.slice_driver.specs.Collector.{CollectorState, heap_with}
+use Rattle.slice_driver.specs.Grays.{IsGrayIn, grays_up_to}
+use Rattle.slice_driver.specs.Represents.{Represents, RunsAs}
+use Rattle.slice_driver.specs.Units.{IsSound}
+use Rattle.slice_driver.specs.Worlds.{IsWokenFrom}
+use Rattle.slice_driver.proofs.group_end.Grays.{grays_listed}
+use Rattle.slice_driver.proofs.abstraction.Named.{named_present, place_of, present_named}
+use Rattle.slice_driver.proofs.marking.Steps.{settled_states}
+
+-- a present cell is at a slot of an arena
+there : (slots : List (Option CellState)) (i : ℕ) → IsSome (cell_in slots i) → i < length slots
+there slots i some = go (slice_get slots i) refl some
+  where
+    go : (o : Option (Option CellState)) → slice_get slots i ≡ o → IsSome (option_and_then (λ cell. cell) o) → i < length slots
+    go None e some = absurd (cc some)
+    go (Some cell) e some = slice_get_within slots i cell e
+
+stands : (o : Option Bits) (slots : List (Option CellState)) (i : ℕ) → IsSome (present_in o slots i) → IsSome (cell_in slots i)
+stands None slots i some = some
+stands (Some bits) slots i some = go (is_white bits i) some
+  where
+    go : (b : Bool) → IsSome (if b then None else cell_in slots i) → IsSome (cell_in slots i)
+    go true some = absurd (cc some)
+    go false some = some
+
+pub present_within : (s : Shape) (p : Place) → AreWhole s.arenas → IsPresent s p → (p.0 < length s.arenas) × (p.1 < 64)
+present_within s p whole some = go (slice_get s.arenas p.0) refl some
+  where
+    go : (o : Option ArenaShape) → slice_get s.arenas p.0 ≡ o → IsSome (Rattle.heap_core.specs.Shape.cell_in_arena o p.1) → (p.0 < length s.arenas) × (p.1 < 64)
+    go None e some = absurd (cc some)
+    go (Some arena) e some =
+        let n = there arena.slots p.1 (stands arena.out arena.slots p.1 some) in
+        let m = whole p.0 arena e in
+        (slice_get_within s.arenas p.0 arena e, omega (arith, n, m))
+
+-- what is listed by one condition is listed by another one that is the same
+lists_as : (P Q : Name → Type 0) (xs : List Name) → ((x : Name) → P x ↔ Q x) → Lists P xs → Lists Q xs
+lists_as P Q xs same l = record {
+  ascending = l.ascending;
+  has = λ x. ((λ c. (same x).0 ((l.has x).0 c)), λ q. (l.has x).1 ((same x).1 q));
+}
+
+-- in a settled world the gray names are those that are present and not black
+pub settled_grays : (c : CollectorState) (flown : ℕ → Option Bits) (w : World) (names : List Name) → Represents c flown w → IsSettled w → IsPermutation (grays_up_to (joined c.heap flown) (λ a. true) (length c.heap.shape.arenas)) names → IsSorted name_cmp names → Lists (λ x. IsPresentName w x × (Has w.black x → ⊥)) names
+settled_grays c flown w names rep settled moved sorted = lists_as (IsGrayIn h all) (λ x. IsPresentName w x × (Has w.black x → ⊥)) names (λ x. (out x, back x)) (grays_listed h all (length c.heap.shape.arenas) names rep.lies.shown.apart (λ p g. present_within c.heap.shape p rep.lies.whole (colours.seen_present p (inl g))) moved sorted)
+  where
+    h : HeapState
+    h = joined c.heap flown
+
+    all : ℕ → Bool
+    all a = true
+
+    colours : ColourInvariant (joined c.heap flown)
+    colours = rep.marks.holds.colours
+
+    out : (x : Name) → IsGrayIn (joined c.heap flown) (λ a. true) x → IsPresentName w x × (Has w.black x → ⊥)
+    out x g = (
+      present_named c.heap w rep.lies g.place x g.named,
+      λ has. (let black = (rep.black settled x g.place g.named).0 has in cc (g.gray, black)),
+    )
+
+    back : (x : Name) → IsPresentName w x × (Has w.black x → ⊥) → IsGrayIn (joined c.heap flown) (λ a. true) x
+    back x at =
+        let p = place_of c.heap w rep.lies x at.0 in
+        let none = settled_states (heap_with c flown) c w c.run w.collection rep.runs settled (zone_of c.heap.shape p.0) in
+        elim (colours.no_white p.0 (named_present c.heap.shape p.0 x p.1) none) [
+          | inl gray ↦ record { place = p.0; named = p.1; here = refl; gray = gray }
+          | inr black ↦ absurd (at.1 ((rep.black settled x p.0 p.1).1 black))
+        ]
+
+-- the same bits in flight: the same worlds
+pub represents_flown : (c : CollectorState) (flown flying : ℕ → Option Bits) (w : World) → Covers c.heap.shape flying → joined c.heap flying ≡ joined c.heap flown → Represents c flown w → Represents c flying w
+represents_flown c flown flying w covers same rep = record {
+  lies = rep.lies;
+  unswept_apart = rep.unswept_apart;
+  flies = record { covers = covers; woken = woken };
+  marks = subst (λ h. MarkingInvariant h c.stack) (sym same) rep.marks;
+  gray = subst (λ h. GrayInvariant h c.stack c.lists) (sym same) rep.gray;
+  waits = rep.waits;
+  black = λ settled. subst (λ h. AreBlack h w) (sym same) (rep.black settled);
+  runs = subst (λ h. RunsAs h c w c.run w.collection) (sym same) rep.runs;
+}
+  where
+    few : (a : ℕ) (old : Bits) → out_of c.heap.shape a ≡ Some old → a < length c.heap.colours
+    few a old out =
+        let n = rep.marks.holds.colours.sized in
+        let m = flown_length flown 0 c.heap.colours in
+        let lt = within (slice_get c.heap.shape.arenas a) refl out in
+        omega (arith, n, m, lt)
+      where
+        within : (o : Option ArenaShape) → slice_get c.heap.shape.arenas a ≡ o → out_in o ≡ Some old → a < length c.heap.shape.arenas
+        within None e at = absurd (cc at)
+        within (Some arena) e at = slice_get_within c.heap.shape.arenas a arena e
+
+    woken : (a : ℕ) (old new : Bits) → out_of c.heap.shape a ≡ Some old → flying a ≡ Some new → IsWokenFrom old new
+    woken a old new out at = go (flown a) refl (rep.flies.covers a ∙ ap is_some out)
+      where
+        go : (o : Option Bits) → flown a ≡ o → is_some o ≡ true → IsWokenFrom old new
+        go None e some = absurd (cc some)
+        go (Some b) e some =
+            let lt = few a old out in
+            let now = flown_there c.heap flying a new lt at in
+            let was = flown_there c.heap flown a b lt e in
+            let is : Some new ≡ Some b = sym now ∙ (ap (λ (h : HeapState). slice_get h.colours a) same ∙ was) in
+            let one : b ≡ new = cc is in
+            rep.flies.woken a old new out (e ∙ ap (λ z. Some z) one)
+
+-- a gray cell is present
+pub gray_present : (c : CollectorState) (flown flying : ℕ → Option Bits) → IsSound c flown → joined c.heap flying ≡ joined c.heap flown → (p : Place) → IsGray (joined c.heap flying) p → IsPresent c.heap.shape p
+gray_present c flown flying s same p g = s.represents.marks.holds.colours.seen_present p (inl (subst (λ h. IsGray h p) same g))
+
+-- each arena has its bits
+pub arena_coloured : (c : CollectorState) (flown : ℕ → Option Bits) (a : ℕ) → IsSound c flown → a < length c.heap.shape.arenas → a < length c.heap.colours
+arena_coloured c flown a s lt =
+    let n = s.represents.marks.holds.colours.sized in
+    let m = flown_length flown 0 c.heap.colours in
+    omega (arith, n, m, lt)

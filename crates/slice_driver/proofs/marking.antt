@@ -1,0 +1,12 @@
+-- Units that report nothing: marking, the beginnings of zones, and why they leave each world as it is.
+pub mod Cells
+pub mod Flights
+pub mod MarkingSteps
+pub mod MarkingUnits
+pub mod Marks
+pub mod OneUnit
+pub mod Steps
+pub mod Units
+pub mod Worlds
+pub mod ZoneSteps
+pub mod Zones

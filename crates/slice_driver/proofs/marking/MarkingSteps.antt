@@ -1,0 +1,88 @@
+-- A step of marking leaves the world as it is, and lowers what is left.
+use Rattle.std.proofs.Common.{◌≡◌, ◌↔◌, ◌<◌, ◌+◌, ℕ, [], length, Option, IsSome, inl, refl, sym, ap, subst, ◌∙◌, arith}
+use Rattle.gz_names.specs.declared.numbers.Place.{Place}
+use Rattle.cell_bits.specs.declared.bits.Bits.{Bits}
+use Rattle.mark_stack.specs.Stack.{Piles}
+use Rattle.heap_core.specs.Shape.{Shape, state_in}
+use Rattle.heap_core.specs.Heap.{HeapState, colour_of}
+use Rattle.barriers.specs.Colours.{IsBlack}
+use Rattle.barriers.specs.Invariant.{MarkingInvariant}
+use Rattle.barriers.specs.PendingBlack.{PendingBlack}
+use Rattle.barriers.specs.PendingLive.{PendingLive, GrayInvariant}
+use Rattle.barriers.proofs.Flying.{flown_length}
+use Rattle.marker.specs.Units.{work_left}
+use Rattle.zone_edges.specs.Noted.{Noted}
+use Rattle.slice_driver.specs.Collector.{CollectorState, RunState, heap_with}
+use Rattle.slice_driver.specs.Left.{arenas_left, grouping_left, steps_left}
+use Rattle.slice_driver.specs.Quiet.{IsQuiet}
+use Rattle.slice_driver.specs.Represents.{WaitsWhileMarking}
+use Rattle.slice_driver.specs.Units.{IsFreedWord, KeepsFreedWords}
+use Rattle.slice_driver.specs.Working.{GoesOn}
+use Rattle.slice_driver.specs.Worlds.{IsInFlight}
+use Rattle.slice_driver.proofs.grouping.Laws.{quiet_unit}
+use Rattle.slice_driver.proofs.marking.Steps.{looks_same}
+
+-- a step of marking: what it keeps, and that work was done
+pub record Marked (c : CollectorState) (flown : ℕ → Option Bits) (d : CollectorState) (flying : ℕ → Option Bits) : Type 0 where
+  pub shape_is : d.heap.shape ≡ c.heap.shape
+  pub made_is : d.heap.made ≡ c.heap.made
+  pub edges_is : d.edges ≡ c.edges
+  pub groups_is : d.groups ≡ c.groups
+  pub run_is : d.run ≡ c.run
+  pub flies : IsInFlight d.heap.shape flying
+  pub marks : MarkingInvariant (heap_with d flying) d.stack
+  pub gray : GrayInvariant (heap_with d flying) d.stack d.lists
+  pub waits : WaitsWhileMarking d
+  pub darker : (p : Place) → IsBlack (heap_with c flown) p → IsBlack (heap_with d flying) p
+  pub black : (p : Place) → PendingBlack (heap_with d flying) d.stack p ↔ PendingBlack (heap_with c flown) c.stack p
+  pub live : (p : Place) → PendingLive (heap_with d flying) d.stack d.lists p ↔ PendingLive (heap_with c flown) c.stack c.lists p
+
+-- the bits of the arenas, flown or not, are as many
+pub own_sized : (h : HeapState) (flown : ℕ → Option Bits) (p : Piles) → MarkingInvariant (Rattle.heap_core.specs.Heap.joined h flown) p → length h.colours ≡ length h.shape.arenas
+own_sized h flown p m = sym (flown_length flown 0 h.colours) ∙ m.holds.colours.sized
+
+module _ (c : CollectorState) (flown : ℕ → Option Bits) (d : CollectorState) (flying : ℕ → Option Bits) (m : Marked c flown d flying) where
+  pub marked_quiet : IsQuiet c flown d flying
+  marked_quiet = record {
+    shape_is = subst (λ (t : Shape). t ≡ record c.heap.shape { states = t.states }) (sym m.shape_is) refl;
+    made_is = m.made_is;
+    run_is = m.run_is;
+    groups_is = m.groups_is;
+    sized = ap (λ (t : Shape). length t.states) m.shape_is;
+    states = λ z. inl (ap (λ (t : Shape). state_in t z) m.shape_is);
+    flies = m.flies;
+    marks = m.marks;
+    gray = m.gray;
+    waits = m.waits;
+    darker = m.darker;
+    black = m.black;
+    live = m.live;
+  }
+
+  -- all but the work of marking is as it was
+  abbrev rest_left : CollectorState → ℕ
+  rest_left x = grouping_left x.heap.shape x.edges x.run + (steps_left x.heap.shape.states + arenas_left x.heap.shape x.heap.shape.arenas)
+
+  same_rest : rest_left d ≡ rest_left c
+  same_rest =
+      ap (λ (s : Shape). grouping_left s d.edges d.run + (steps_left s.states + arenas_left s s.arenas)) m.shape_is
+      ∙ ap (λ (e : Noted). grouping_left c.heap.shape e d.run + (steps_left c.heap.shape.states + arenas_left c.heap.shape c.heap.shape.arenas)) m.edges_is
+      ∙ ap (λ (o : Option RunState). grouping_left c.heap.shape c.edges o + (steps_left c.heap.shape.states + arenas_left c.heap.shape c.heap.shape.arenas)) m.run_is
+
+  pub same_words : KeepsFreedWords c.heap.shape d.heap.shape
+  same_words a freed is = subst (λ (s : Shape). IsFreedWord s a freed) (sym m.shape_is) is
+
+  pub marked_goes : IsSome c.run → work_left (heap_with d flying) d.stack d.lists < work_left (heap_with c flown) c.stack c.lists → GoesOn c flown [] d flying
+  marked_goes running less =
+      let q = marked_quiet in
+      record {
+        done = quiet_unit c d flown flying running q (looks_same c flown d flying q m.edges_is);
+        words = same_words;
+        running = subst (λ (o : Option RunState). IsSome o) (sym m.run_is) running;
+        made_is = m.made_is;
+        weak_is = ap (λ (t : Shape). t.weak) m.shape_is;
+        less = sum_less _ _ _ _ less same_rest;
+      }
+    where
+      sum_less : (a b x y : ℕ) → a < b → x ≡ y → a + x < b + y
+      sum_less a b x y lt e = omega (arith, lt, e)

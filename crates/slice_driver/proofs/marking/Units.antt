@@ -1,0 +1,151 @@
+-- Units that report nothing, one after another.
+use Rattle.std.proofs.Common.{◌≡◌, ◌+◌, ℕ, zero, suc, Bool, true, false, [], Option, IsSome, refl, sym, ap, subst, ◌∙◌, arith}
+use Rattle.cell_bits.specs.declared.bits.Bits.{Bits}
+use Rattle.colour_defs.specs.Lawful.{IsLawfulUnit, quiet}
+use Rattle.colour_defs.specs.World.{World}
+use Rattle.colour_defs.proofs.ValidReports.{unit_valid}
+use Rattle.zone_edges.specs.Looks.{AreAllLookedAt}
+use Rattle.slice_driver.specs.Collector.{CollectorState, RunState}
+use Rattle.slice_driver.specs.Quiet.{IsFormed}
+use Rattle.slice_driver.specs.Represents.{Represents}
+use Rattle.slice_driver.specs.Units.{IsSound, KeepsFreedWords}
+use Rattle.slice_driver.specs.Working.{DidOrStill, DoesQuietUnits, GoesOn, LooksOrAll, QuietOrNone, HasBegun, IsBlackDone, IsGroupDone, IsGrouping, IsQuietDone, IsStill}
+use Rattle.slice_driver.proofs.marking.MarkingUnits.{both_still, group_done_before, still_black_done, still_goes, still_group_done, still_left, still_sound}
+use Rattle.slice_driver.proofs.abstraction.Named.{some_one}
+use Rattle.slice_driver.proofs.abstraction.SoundAfter.{unit_sound}
+
+-- a unit without a report leaves the world as it is, so two are told like one
+quiet_then : (w v u : World) → IsLawfulUnit w [] v → IsLawfulUnit v [] u → IsLawfulUnit w [] u
+quiet_then w v u (quiet running) second = second
+
+pub goes_then : (c : CollectorState) (f : ℕ → Option Bits) (d : CollectorState) (g : ℕ → Option Bits)
+    (e : CollectorState) (h : ℕ → Option Bits) → GoesOn c f [] d g → GoesOn d g [] e h → GoesOn c f [] e h
+goes_then c f d g e h a b = record {
+  done = λ w ok r. (
+      let one = a.done w ok r in
+      let two = b.done one.0 (unit_valid w ok one.1) one.2 in
+      (two.0, quiet_then w one.0 two.0 one.1 two.1, two.2));
+  words = λ n freed is. b.words n freed (a.words n freed is);
+  running = b.running;
+  made_is = b.made_is ∙ a.made_is;
+  weak_is = b.weak_is ∙ a.weak_is;
+  less = omega (arith, a.less, b.less);
+}
+
+-- nothing is done after a unit
+goes_still : (c : CollectorState) (f : ℕ → Option Bits) (d : CollectorState) (g : ℕ → Option Bits)
+    (e : CollectorState) (h : ℕ → Option Bits) → GoesOn c f [] d g → IsStill d g e h → GoesOn c f [] e h
+goes_still c f d g e h a b = record {
+  done = λ w ok r. (
+      let one = a.done w ok r in
+      (one.0, one.1, subst (λ (x : CollectorState). Represents x h one.0) (sym b.same) (b.worlds one.0 one.2)));
+  words = subst (λ (x : CollectorState). KeepsFreedWords c.heap.shape x.heap.shape) (sym b.same) a.words;
+  running = subst (λ (x : CollectorState). IsSome x.run) (sym b.same) a.running;
+  made_is = ap (λ (x : CollectorState). x.heap.made) b.same ∙ a.made_is;
+  weak_is = ap (λ (x : CollectorState). x.heap.shape.weak) b.same ∙ a.weak_is;
+  less = (let same = still_left d g e h b in let lt = a.less in omega (arith, same, lt));
+}
+
+nothing_done : (c : CollectorState) (f : ℕ → Option Bits) → IsStill c f c f
+nothing_done c f = record { same = refl; colours = refl; worlds = λ w r. r }
+
+pub no_quiet : (c : CollectorState) (f : ℕ → Option Bits) → DoesQuietUnits 0 c f c f
+no_quiet c f = record { none = λ e. nothing_done c f; some = λ lt. absurd (omega (arith, lt)); less = omega arith }
+
+pub more_quiet : (n : ℕ) (c : CollectorState) (f : ℕ → Option Bits) (d : CollectorState) (g : ℕ → Option Bits)
+    (e : CollectorState) (h : ℕ → Option Bits) → DoesQuietUnits n c f d g → GoesOn d g [] e h
+    → DoesQuietUnits (n + 1) c f e h
+more_quiet n c f d g e h did goes = record {
+  none = λ is. absurd (omega (arith, is));
+  some = λ lt. one_more n did;
+  less = (let was = did.less in let now = goes.less in omega (arith, was, now));
+}
+  where
+    one_more : (m : ℕ) → DoesQuietUnits m c f d g → GoesOn c f [] e h
+    one_more zero m = still_goes c f d g [] e h (m.none refl) goes
+    one_more (suc k) m = goes_then c f d g e h (m.some (omega arith)) goes
+
+-- the last call finds nothing to do
+pub last_quiet : (n : ℕ) (c : CollectorState) (f : ℕ → Option Bits) (d : CollectorState) (g : ℕ → Option Bits)
+    (e : CollectorState) (h : ℕ → Option Bits) → DoesQuietUnits n c f d g → IsStill d g e h
+    → DoesQuietUnits n c f e h
+last_quiet n c f d g e h did still = record {
+  none = λ is. both_still c f d g e h (did.none is) still;
+  some = λ lt. goes_still c f d g e h (did.some lt) still;
+  less = (let was = did.less in let same = still_left d g e h still in omega (arith, was, same));
+}
+
+-- where no such unit was left, none is
+pub still_quiet_done : (c : CollectorState) (f : ℕ → Option Bits) (d : CollectorState) (g : ℕ → Option Bits)
+    → IsStill c f d g → IsQuietDone c f → IsQuietDone d g
+still_quiet_done c f d g still done = record {
+  black = still_black_done c f d g still done.black;
+  looked = subst (λ (x : CollectorState). IsGrouping x → AreAllLookedAt x.heap.shape x.edges) (sym still.same) done.looked;
+  begun = subst (λ (x : CollectorState). IsFormed x → HasBegun x) (sym still.same) done.begun;
+  group = λ formed. still_group_done c f d g still (done.group (subst IsFormed still.same formed));
+}
+
+-- groups that are formed are not still to be formed
+pub not_both : (c : CollectorState) → IsGrouping c → IsFormed c → ⊥
+not_both c g formed = (
+    let same = some_one g.0 formed.0 (sym g.1 ∙ formed.1) in
+    let bits = ap (λ (r : RunState). r.formed) same in
+    cc (bits, g.2, formed.2))
+
+-- the collector after so many units
+pub quiet_sound : (n : ℕ) (c : CollectorState) (f : ℕ → Option Bits) (d : CollectorState) (g : ℕ → Option Bits)
+    → DoesQuietUnits n c f d g → IsSound c f → IsSound d g
+quiet_sound zero c f d g did s = still_sound c f d g (did.none refl) s
+quiet_sound (suc k) c f d g did s = unit_sound c d f g [] (did.some (omega arith)).done s
+
+pub quiet_running : (n : ℕ) (c : CollectorState) (f : ℕ → Option Bits) (d : CollectorState) (g : ℕ → Option Bits)
+    → DoesQuietUnits n c f d g → IsSome c.run → IsSome d.run
+quiet_running zero c f d g did running = subst (λ (x : CollectorState). IsSome x.run) (sym (did.none refl).same) running
+quiet_running (suc k) c f d g did running = (did.some (omega arith)).running
+
+pub quiet_words : (n : ℕ) (c : CollectorState) (f : ℕ → Option Bits) (d : CollectorState) (g : ℕ → Option Bits)
+    → DoesQuietUnits n c f d g → KeepsFreedWords c.heap.shape d.heap.shape
+quiet_words zero c f d g did = subst (λ (x : CollectorState). KeepsFreedWords c.heap.shape x.heap.shape)
+    (sym (did.none refl).same) (λ a freed is. is)
+quiet_words (suc k) c f d g did = (did.some (omega arith)).words
+
+pub quiet_made : (n : ℕ) (c : CollectorState) (f : ℕ → Option Bits) (d : CollectorState) (g : ℕ → Option Bits)
+    → DoesQuietUnits n c f d g → d.heap.made ≡ c.heap.made
+quiet_made zero c f d g did = ap (λ (x : CollectorState). x.heap.made) (did.none refl).same
+quiet_made (suc k) c f d g did = (did.some (omega arith)).made_is
+
+pub quiet_weak : (n : ℕ) (c : CollectorState) (f : ℕ → Option Bits) (d : CollectorState) (g : ℕ → Option Bits)
+    → DoesQuietUnits n c f d g → d.heap.shape.weak ≡ c.heap.shape.weak
+quiet_weak zero c f d g did = ap (λ (x : CollectorState). x.heap.shape.weak) (did.none refl).same
+quiet_weak (suc k) c f d g did = (did.some (omega arith)).weak_is
+
+-- after black marking that found nothing to do
+module _ (c : CollectorState) (f : ℕ → Option Bits) (s : IsSound c f) (e : CollectorState) (g : ℕ → Option Bits)
+    (still : IsStill c f e g) (black : IsBlackDone c f) where
+  -- a look at a wrapper
+  pub looks_quietly : (b : Bool) (d : CollectorState) → IsGrouping e → LooksOrAll b e d → QuietOrNone b c f d g
+  looks_quietly true d grouping looks =
+      still_goes c f e g [] d g still (looks g (still_sound c f e g still s) (still_black_done c f e g still black))
+  looks_quietly false d grouping looks = (
+    subst (λ (x : CollectorState). IsStill c f x g) (sym looks.1) still,
+    record {
+      black = black;
+      looked = λ g. subst (λ (x : CollectorState). AreAllLookedAt x.heap.shape x.edges) still.same looks.0;
+      begun = λ formed. absurd (not_both e grouping (subst IsFormed (sym still.same) formed));
+      group = λ formed. absurd (not_both e grouping (subst IsFormed (sym still.same) formed));
+    },
+  )
+
+  -- gray marking, once the zones of the group have begun
+  pub grays_quietly : (b : Bool) (d : CollectorState) (h : ℕ → Option Bits) → IsFormed e → HasBegun e
+      → DidOrStill b (IsGroupDone e g) e g d h → QuietOrNone b c f d h
+  grays_quietly true d h formed begun did = still_goes c f e g [] d h still did.0
+  grays_quietly false d h formed begun did = (
+    both_still c f e g d h still did.0,
+    record {
+      black = black;
+      looked = λ grouping. absurd (not_both e (subst IsGrouping (sym still.same) grouping) formed);
+      begun = λ was. subst HasBegun still.same begun;
+      group = λ was. group_done_before c f e g still did.1;
+    },
+  )

@@ -1,0 +1,40 @@
+-- Heaps with the same cells and the same arenas have the same cells of a world.
+use Rattle.std.proofs.Common.{◌≡◌, ◌↔◌, ℕ, List, Option, Some, Contains, refl, sym, ap, subst, ◌∙◌}
+use Rattle.gz_names.specs.declared.names.Name.{Name}
+use Rattle.gz_names.specs.declared.numbers.Place.{Place}
+use Rattle.colour_defs.specs.World.{World}
+use Rattle.heap_core.specs.Shape.{ArenaShape, AreWhole, Shape, out_in, stored_in}
+use Rattle.std.proofs.Common.{slice_get}
+use Rattle.cell_bits.specs.declared.bits.Bits.{Bits}
+use Rattle.heap_core.specs.Heap.{HeapState}
+use Rattle.slice_driver.specs.Worlds.{IsInFlight, IsUnswept, LiesIn, outs_from, owners_of}
+use Rattle.slice_driver.proofs.marking.Cells.{HasSameCells, name_same, shows_same}
+
+-- what stands in arenas and is not present, by the arenas alone
+pub unswept_same : (s t : Shape) (p : Place) (x : Name) → t.arenas ≡ s.arenas → IsUnswept s p x → IsUnswept t p x
+unswept_same s t p x e u = record {
+  bits = u.bits;
+  cell = u.cell;
+  out_is = subst (λ (xs : List ArenaShape). out_in (slice_get xs p.0) ≡ Some u.bits) (sym e) u.out_is;
+  white = u.white;
+  cell_is = subst (λ (xs : List ArenaShape). stored_in (slice_get xs p.0) p.1 ≡ Some u.cell) (sym e) u.cell_is;
+  name_is = u.name_is;
+}
+
+pub lies_same : (h k : HeapState) (w : World) → HasSameCells h k → k.shape.arenas ≡ h.shape.arenas → LiesIn h w → LiesIn k w
+lies_same h k w same e l = record {
+  whole = subst (λ (xs : List ArenaShape). AreWhole xs) (sym e) l.whole;
+  graph = l.graph;
+  shown = shows_same h k same l.graph l.shown;
+  part = l.part;
+  places_are = λ x p. ((λ at. name_same h k same p ∙ (l.places_are x p).0 at), λ named. (l.places_are x p).1 (sym (name_same h k same p) ∙ named));
+  owner_is = l.owner_is ∙ ap owners_of (sym e);
+  out_is = l.out_is ∙ ap (outs_from 0) (sym e);
+  white_are = λ x p. ((λ c. unswept_same h.shape k.shape p x e ((l.white_are x p).0 c)), λ u. (l.white_are x p).1 (unswept_same k.shape h.shape p x (sym e) u));
+}
+
+pub flies_same : (s t : Shape) (flown : ℕ → Option Bits) → t.arenas ≡ s.arenas → IsInFlight s flown → IsInFlight t flown
+flies_same s t flown e f = record {
+  covers = λ a. f.covers a ∙ ap (λ (xs : List ArenaShape). Rattle.std.proofs.Common.is_some (out_in (slice_get xs a))) (sym e);
+  woken = λ a old new out. f.woken a old new (subst (λ (xs : List ArenaShape). out_in (slice_get xs a) ≡ Some old) e out);
+}

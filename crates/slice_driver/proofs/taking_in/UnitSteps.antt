@@ -1,0 +1,240 @@
+-- Steps of a collection: units that report nothing, and one that is told.
+use Rattle.std.proofs.Common.{◌≡◌, ◌↔◌, ◌<◌, ◌≤◌, ◌+◌, ℕ, zero, suc, Bool, true, false, List, [], ◌∷◌, length, Option, Some, None, Result, Ok, Err, IfOk, IsSome, is_some, refl, ap, sym, ◌∙◌, subst, arith, if◌then◌else◌, append-nil}
+use Rattle.std.specs.List.{flat_map}
+use Rattle.gz_names.specs.declared.replies.Report.{Report}
+use Rattle.cell_bits.specs.declared.bits.Bits.{Bits}
+use Rattle.cell_bits.specs.declared.jobs.Job.{Job}
+use Rattle.sweeping.specs.ArenasOut.{AscendHanded, flying_after, outs_after}
+use Rattle.colour_defs.specs.World.{World}
+use Rattle.colour_defs.specs.Laws.{IsValid}
+use Rattle.colour_defs.specs.Lawful.{AreLawfulUnits, IsLawfulUnit, IsRunning, quiet, says, last}
+use Rattle.colour_defs.proofs.ValidReports.{unit_valid}
+use Rattle.heap_core.specs.Shape.{Shape}
+use Rattle.slice_driver.specs.Advances.{Advances, AreOut, DoesUnits, UnitsDone, told}
+use Rattle.slice_driver.specs.Collector.{CollectorState, RunState}
+use Rattle.slice_driver.specs.Left.{Lowers, units_left}
+use Rattle.slice_driver.specs.Represents.{Represents}
+use Rattle.slice_driver.specs.Units.{DoesUnit, DoneOrDue, HandsJobs, IsSound, KeepsFreedWords, UnitDone, reports_of}
+use Rattle.slice_driver.specs.Working.{DoesQuietUnits, GoesOn, IsStill}
+use Rattle.slice_driver.specs.declared.advance.Step.{Step}
+use Rattle.slice_driver.specs.declared.collector.Unit.{Unit}
+use Rattle.slice_driver.proofs.marking.MarkingUnits.{still_left, still_sound}
+use Rattle.slice_driver.proofs.abstraction.SoundAfter.{unit_sound}
+use Rattle.slice_driver.proofs.taking_in.TakingDue.{ascend_handed, out_handed, out_kept}
+
+-- a unit that reports nothing leaves the world as it is
+quiet_world : (w v : World) (reports : List Report) → reports ≡ [] → IsLawfulUnit w reports v → IsRunning w × (v ≡ w)
+quiet_world w v _ e (quiet running) = (running, refl)
+quiet_world w v _ e (says running other lawful more) = absurd (cc e)
+quiet_world w v _ e (last running other lawful done) = absurd (cc e)
+
+-- so many of them
+abbrev silent : ℕ → List (List Report)
+silent zero = []
+silent (suc n) = [] ∷ silent n
+
+silent_long : (n : ℕ) → length (silent n) ≡ n
+silent_long zero = refl
+silent_long (suc n) = ap suc (silent_long n)
+
+silent_flat : (n : ℕ) → flat_map (λ (u : List Report). u) (silent n) ≡ []
+silent_flat zero = refl
+silent_flat (suc n) = silent_flat n
+
+silent_lawful : (n : ℕ) (w : World) → IsRunning w → AreLawfulUnits w (silent n) w
+silent_lawful zero w running = refl
+silent_lawful (suc n) w running = (w, quiet running, silent_lawful n w running)
+
+quiet_done : (c d : CollectorState) (f g : ℕ → Option Bits) (n : ℕ) → DoesUnit c f [] d g → DoesUnits c f n [] d g
+quiet_done c d f g n does w ok r =
+    let done = does w ok r in
+    let same = quiet_world w done.0 [] refl done.1 in record {
+      units = silent n;
+      number = silent_long n;
+      reports_are = silent_flat n;
+      after = w;
+      done = silent_lawful n w same.0;
+      valid = ok;
+      represents = subst (λ (v : World). Represents d g v) same.1 done.2;
+    }
+
+-- one unit
+one_done : (c d : CollectorState) (f g : ℕ → Option Bits) (reports : List Report) → DoesUnit c f reports d g
+    → DoesUnits c f 1 reports d g
+one_done c d f g reports does w ok r =
+    let done = does w ok r in record {
+      units = reports ∷ [];
+      number = refl;
+      reports_are = append-nil reports;
+      after = done.0;
+      done = (done.0, done.1, refl);
+      valid = unit_valid w ok done.1;
+      represents = done.2;
+    }
+
+runs_on : (b : Bool) (o : Option RunState) → b ≡ false → IsSome o → (b ≡ true) ↔ (o ≡ None)
+runs_on b o e some = (
+  λ t. absurd (cc (t, e)),
+  λ n. absurd (let none = ap is_some n in cc (some, none)),
+)
+
+-- some units that report nothing
+pub quiet_advances : (limit n : ℕ) (c d : CollectorState) (f g : ℕ → Option Bits) (outs rest : List (ℕ × ℕ))
+    (place : Option Report) → DoesQuietUnits n c f d g → 0 < n → n ≤ limit → IsSound d g → rest ≡ outs
+    → AreOut c.heap.shape outs
+    → Advances limit c f place (record { units = n; reported = false; finished = false; handed = None }) d g rest place
+quiet_advances limit n c d f g outs rest place does some most s same are =
+    let goes = does.some some in record {
+      done = quiet_done c d f g n goes.done;
+      some = some;
+      most = most;
+      less = does.less;
+      told_some = λ e. absurd (cc e);
+      told_none = λ e. refl;
+      finished = runs_on false d.run refl goes.running;
+      sound = s;
+      out = out_kept c.heap.shape d.heap.shape outs rest same goes.words are;
+      ascending = tt;
+      made = goes.made_is;
+      entries = let e = ap (λ ws. length ws.entries) goes.weak_is in omega (arith, e);
+    }
+
+-- what one unit told, in its place
+abbrev pub step_of : Unit → Step
+step_of unit = record { units = 1; reported = is_some unit.report; finished = unit.finished; handed = unit.handed }
+
+abbrev pub place_of : Option Report → Option Report → Option Report
+place_of said before = if is_some said then said else before
+
+told_said : (said before : Option Report) (finished : Bool)
+    → (if is_some said then reports_of (place_of said before) finished else []) ≡ reports_of said finished
+told_said None before finished = refl
+told_said (Some r) before finished = refl
+
+said_some : (said before : Option Report) → is_some said ≡ true → IsSome (place_of said before)
+said_some None before e = absurd (cc e)
+said_some (Some r) before e = refl
+
+said_none : (said before : Option Report) → is_some said ≡ false → place_of said before ≡ before
+said_none None before e = refl
+said_none (Some r) before e = absurd (cc e)
+
+-- one unit was done and told
+module _ (c d : CollectorState) (f g : ℕ → Option Bits) (outs : List (ℕ × ℕ)) (unit : Unit)
+    (before place : Option Report) (step : Step) (step_is : step ≡ step_of unit)
+    (place_is : place ≡ place_of unit.report before) where
+  pub one_advances : DoesUnit c f (reports_of unit.report unit.finished) d (flying_after unit.handed g)
+      → units_left d (flying_after unit.handed g) < units_left c f → (unit.finished ≡ true) ↔ (d.run ≡ None)
+      → IsSound d (flying_after unit.handed g) → AreOut d.heap.shape (outs_after unit.handed outs)
+      → AscendHanded unit.handed → d.heap.made ≡ c.heap.made
+      → length d.heap.shape.weak.entries ≤ length c.heap.shape.weak.entries
+      → Advances 1 c f before step d (flying_after step.handed g) (outs_after step.handed outs) place
+  one_advances does less finished sound out up made entries =
+      subst (λ (s : Step). Advances 1 c f before s d (flying_after s.handed g) (outs_after s.handed outs) place)
+      (sym step_is)
+      (subst (λ (p : Option Report). Advances 1 c f before (step_of unit) d (flying_after unit.handed g)
+      (outs_after unit.handed outs) p) (sym place_is) (record {
+        done = subst (λ (rs : List Report). DoesUnits c f 1 rs d (flying_after unit.handed g))
+            (sym (told_said unit.report before unit.finished))
+            (one_done c d f (flying_after unit.handed g) (reports_of unit.report unit.finished) does);
+        some = omega arith;
+        most = omega arith;
+        less = omega (arith, less);
+        told_some = said_some unit.report before;
+        told_none = said_none unit.report before;
+        finished = finished;
+        sound = sound;
+        out = out;
+        ascending = up;
+        made = made;
+        entries = entries;
+      }))
+
+-- the same after nothing was done
+pub still_advances : (limit : ℕ) (c d e : CollectorState) (f g h : ℕ → Option Bits) (outs : List (ℕ × ℕ))
+    (before place : Option Report) (step : Step) → 0 < limit → IsStill c f d g → Advances 1 d g before step e h outs place
+    → Advances limit c f before step e h outs place
+still_advances limit c d e f g h outs before place step some still a = record {
+  done = λ w ok r. (let u = a.done w ok (subst (λ (x : CollectorState). Represents x g w) (sym still.same)
+      (still.worlds w r)) in record {
+        units = u.units;
+        number = u.number;
+        reports_are = u.reports_are;
+        after = u.after;
+        done = u.done;
+        valid = u.valid;
+        represents = u.represents;
+      });
+  some = a.some;
+  most = omega (arith, a.most, some);
+  less = let same = still_left c f d g still in omega (arith, a.less, same);
+  told_some = a.told_some;
+  told_none = a.told_none;
+  finished = a.finished;
+  sound = a.sound;
+  out = a.out;
+  ascending = a.ascending;
+  made = a.made ∙ ap (λ (x : CollectorState). x.heap.made) still.same;
+  entries = let e = ap (λ (x : CollectorState). length x.heap.shape.weak.entries) still.same in omega (arith, e, a.entries);
+}
+
+-- the arenas that are out are out still
+pub still_out : (c d : CollectorState) (f g : ℕ → Option Bits) (outs rest : List (ℕ × ℕ)) → IsStill c f d g
+    → rest ≡ outs → AreOut c.heap.shape outs → AreOut d.heap.shape rest
+still_out c d f g outs rest still same are = subst (λ (x : CollectorState). AreOut x.heap.shape rest) (sym still.same)
+    (subst (λ (xs : List (ℕ × ℕ)). AreOut c.heap.shape xs) (sym same) are)
+
+-- a unit that found no arena due
+pub unit_does : (c d : CollectorState) (f g : ℕ → Option Bits) (unit : Unit) → UnitDone c f unit d g → unit.due ≡ None
+    → DoesUnit c f (reports_of unit.report unit.finished) d (flying_after unit.handed g)
+unit_does c d f g unit done none = subst (λ (o : Option ℕ). DoneOrDue o c f unit d g) none done
+
+pub unit_lowers : (unit : Unit) (old new : ℕ) → Lowers unit.due old new → unit.due ≡ None → new < old
+unit_lowers unit old new lowers none = subst (λ (o : Option ℕ). Lowers o old new) none lowers
+
+-- the arena that was due was taken in and told
+pub due_advances : (c d : CollectorState) (f g : ℕ → Option Bits) (outs : List (ℕ × ℕ)) (unit : Unit)
+    (before place : Option Report) (step : Step) → step ≡ step_of unit → place ≡ place_of unit.report before
+    → unit.handed ≡ None → DoesUnit c f (reports_of unit.report unit.finished) d g → units_left d g < units_left c f
+    → (unit.finished ≡ true) ↔ (d.run ≡ None) → IsSound d g → AreOut d.heap.shape outs → d.heap.made ≡ c.heap.made
+    → d.heap.shape.weak ≡ c.heap.shape.weak
+    → Advances 1 c f before step d (flying_after step.handed g) (outs_after step.handed outs) place
+due_advances c d f g outs unit before place step step_is place_is none does less finished sound out made weak =
+    one_advances c d f g outs unit before place step step_is place_is
+    (subst (λ (h : Option (List Job)). DoesUnit c f (reports_of unit.report unit.finished) d (flying_after h g)) (sym none)
+    does)
+    (subst (λ (h : Option (List Job)). units_left d (flying_after h g) < units_left c f) (sym none) less) finished
+    (subst (λ (h : Option (List Job)). IsSound d (flying_after h g)) (sym none) sound)
+    (subst (λ (h : Option (List Job)). AreOut d.heap.shape (outs_after h outs)) (sym none) out)
+    (subst (λ (h : Option (List Job)). AscendHanded h) (sym none) tt) made
+    (let e = ap (λ ws. length ws.entries) weak in omega (arith, e))
+
+pub ok_still : {E : Type 0} (r : Result Step E) (limit : ℕ) (c d e : CollectorState) (f g h : ℕ → Option Bits)
+    (outs : List (ℕ × ℕ)) (before place : Option Report) → 0 < limit → IsStill c f d g
+    → IfOk r (λ step. Advances 1 d g before step e (flying_after step.handed h) (outs_after step.handed outs) place)
+    → IfOk r
+    (λ step. Advances limit c f before step e (flying_after step.handed h) (outs_after step.handed outs) place)
+ok_still (Ok step) limit c d e f g h outs before place some still a =
+    still_advances limit c d e f g (flying_after step.handed h) (outs_after step.handed outs) before place step some
+    still a
+ok_still (Err why) limit c d e f g h outs before place some still a = tt
+
+-- what the step handed out was taken over
+pub over_advances : (limit : ℕ) (c d : CollectorState) (f g h : ℕ → Option Bits) (outs rest : List (ℕ × ℕ))
+    (before place : Option Report) (step : Step) → h ≡ flying_after step.handed g → rest ≡ outs_after step.handed outs
+    → Advances limit c f before step d (flying_after step.handed g) (outs_after step.handed outs) place
+    → Advances limit c f before (record step { handed = None }) d h rest place
+over_advances limit c d f g h outs rest before place step bits_are outs_are a = record {
+  done = subst (λ (x : ℕ → Option Bits). DoesUnits c f step.units (told step place) d x) (sym bits_are) a.done;
+  some = a.some;
+  most = a.most;
+  less = subst (λ (x : ℕ → Option Bits). units_left d x + step.units ≤ units_left c f) (sym bits_are) a.less;
+  told_some = a.told_some;
+  told_none = a.told_none;
+  finished = a.finished;
+  sound = subst (λ (x : ℕ → Option Bits). IsSound d x) (sym bits_are) a.sound;
+  out = subst (λ (xs : List (ℕ × ℕ)). AreOut d.heap.shape xs) (sym outs_are) a.out;
+  ascending = tt;
+  made = a.made;
+  entries = a.entries;
+}
