@@ -9,6 +9,7 @@ pub mod Laws
 pub mod PresentCells
 pub mod Runs
 pub mod SetBits
+pub mod Sessions
 pub mod Slots
 pub mod Sorted
 pub mod TakingDue

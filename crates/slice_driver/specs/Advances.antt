@@ -1,5 +1,5 @@
 -- What a step of a collection does, whoever sweeps.
-use Rattle.std.specs.Prelude.{◌≡◌, ◌↔◌, ◌<◌, ◌≤◌, ◌+◌, ℕ, Bool, true, false, List, [], Option, None, IsSome, if◌then◌else◌, length, Contains}
+use Rattle.std.specs.Prelude.{◌≡◌, ◌↔◌, ◌<◌, ◌≤◌, ◌+◌, ℕ, true, false, List, [], Option, None, IsSome, if◌then◌else◌, length, Contains}
 use Rattle.std.specs.List.{flat_map}
 use Rattle.gz_names.specs.declared.replies.Report.{Report}
 use Rattle.cell_bits.specs.declared.bits.Bits.{Bits}

@@ -21,3 +21,4 @@ pub mod Working
 pub mod Advances
 pub mod Serves
 pub mod Present
+pub mod Sessions

@@ -1,5 +1,5 @@
 // Steps of a collection, whoever sweeps: the one place where units, due arenas and their sweeping meet.
-ghost use Rattle.std.specs.Prelude.{◌≡◌, ◌↔◌, ◌<◌, None, true, IfOk, IsSome, OnErr, if◌then◌else◌, is_some};
+ghost use Rattle.std.specs.Prelude.{◌≡◌, ◌↔◌, ◌<◌, None, false, true, IfOk, IsSome, OnErr, if◌then◌else◌, is_some};
 ghost use Rattle.sweeping.specs.ArenasOut.{flying_after, outs_after};
 ghost use Rattle.slice_driver.specs.Advances.{Advances, AreOut};
 ghost use Rattle.slice_driver.specs.Left.{units_left};
@@ -25,6 +25,20 @@ pub struct Step {
     pub finished: bool,
     /// The arenas that they handed to sweeping, ascending.
     pub handed: Option<Jobs>,
+}
+
+impl Step {
+    // No unit was done.
+    pub(crate) fn none() -> Self
+        ensures { result ≡ record { units = 0; reported = false; finished = false; handed = None } }
+    {
+        Step {
+            units: 0,
+            reported: false,
+            finished: false,
+            handed: None,
+        }
+    }
 }
 
 impl Collector {

@@ -1,5 +1,5 @@
 -- The arena that is due is the lowest that is out, whoever sweeps: taking it in is a unit.
-use Rattle.std.proofs.Common.{◌≡◌, ◌≢◌, ◌↔◌, ℕ, ◌<◌, ◌≤◌, Bool, true, false, List, [], ◌∷◌, Option, Some, None, IsSome, IsTrue, is_some, refl, ap, sym, ◌∙◌, subst, arith, eqb, if◌then◌else◌, inl, inr}
+use Rattle.std.proofs.Common.{◌≡◌, ◌≢◌, ◌↔◌, ℕ, ◌<◌, ◌≤◌, Bool, true, false, List, [], ◌∷◌, Option, Some, None, IsTrue, is_some, ap, sym, ◌∙◌, subst, arith, eqb, if◌then◌else◌, inl, inr}
 use Rattle.std.specs.List.{Contains}
 use Rattle.std.proofs.lemmas.Bool.{cases_lt}
 use Rattle.gz_names.specs.declared.replies.Report.{Report}

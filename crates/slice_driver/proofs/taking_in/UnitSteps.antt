@@ -6,21 +6,18 @@ use Rattle.cell_bits.specs.declared.bits.Bits.{Bits}
 use Rattle.cell_bits.specs.declared.jobs.Job.{Job}
 use Rattle.sweeping.specs.ArenasOut.{AscendHanded, flying_after, outs_after}
 use Rattle.colour_defs.specs.World.{World}
-use Rattle.colour_defs.specs.Laws.{IsValid}
 use Rattle.colour_defs.specs.Lawful.{AreLawfulUnits, IsLawfulUnit, IsRunning, quiet, says, last}
 use Rattle.colour_defs.proofs.ValidReports.{unit_valid}
-use Rattle.heap_core.specs.Shape.{Shape}
-use Rattle.slice_driver.specs.Advances.{Advances, AreOut, DoesUnits, UnitsDone, told}
+use Rattle.slice_driver.specs.Advances.{Advances, AreOut, DoesUnits, told}
 use Rattle.slice_driver.specs.Collector.{CollectorState, RunState}
 use Rattle.slice_driver.specs.Left.{Lowers, units_left}
 use Rattle.slice_driver.specs.Represents.{Represents}
-use Rattle.slice_driver.specs.Units.{DoesUnit, DoneOrDue, HandsJobs, IsSound, KeepsFreedWords, UnitDone, reports_of}
-use Rattle.slice_driver.specs.Working.{DoesQuietUnits, GoesOn, IsStill}
+use Rattle.slice_driver.specs.Units.{DoesUnit, DoneOrDue, IsSound, UnitDone, reports_of}
+use Rattle.slice_driver.specs.Working.{DoesQuietUnits, IsStill}
 use Rattle.slice_driver.specs.declared.advance.Step.{Step}
 use Rattle.slice_driver.specs.declared.collector.Unit.{Unit}
-use Rattle.slice_driver.proofs.marking.MarkingUnits.{still_left, still_sound}
-use Rattle.slice_driver.proofs.abstraction.SoundAfter.{unit_sound}
-use Rattle.slice_driver.proofs.taking_in.TakingDue.{ascend_handed, out_handed, out_kept}
+use Rattle.slice_driver.proofs.marking.MarkingUnits.{still_left}
+use Rattle.slice_driver.proofs.taking_in.TakingDue.{out_kept}
 
 -- a unit that reports nothing leaves the world as it is
 quiet_world : (w v : World) (reports : List Report) → reports ≡ [] → IsLawfulUnit w reports v → IsRunning w × (v ≡ w)

@@ -1,0 +1,8 @@
+use Rattle.slice_driver.proofs.taking_in.Sessions.{new_first, new_sound}
+use Rattle.slice_driver.proofs.session.Session+MainSweeper.new.Goals as goal
+
+pub invariant_of-result : goal.invariant_of-result
+invariant_of-result c = new_sound c.in_ok-new.field-0 c.new-2.result c.new-2.ensures c.in_ok-new.ensures.first
+
+pub returns-clause-first : goal.returns-clause-first
+returns-clause-first c = new_first c.in_ok-new.field-0 c.new-2.result c.new-2.ensures c.in_ok-new.ensures.first

@@ -1,0 +1,98 @@
+-- What a session promises, from what its collector does.
+use Rattle.std.proofs.Common.{◌≡◌, ◌<◌, ℕ, [], List, Option, Some, None, Result, Ok, Err, IfOk, IfSome, OnErr, OnOk, IsSome, false, refl, sym, subst, arith}
+use Rattle.gz_names.specs.declared.replies.CmdFault.{CmdFault}
+use Rattle.gz_names.specs.declared.replies.Reply.{Reply}
+use Rattle.gz_names.specs.declared.replies.Report.{Report}
+use Rattle.cell_bits.specs.declared.bits.Bits.{Bits}
+use Rattle.cell_bits.specs.declared.jobs.Job.{Job}
+use Rattle.colour_defs.specs.World.{World, first_world}
+use Rattle.colour_defs.proofs.ValidRuns.{first_valid}
+use Rattle.sweeping.specs.ArenasOut.{flown_by, outs_of}
+use Rattle.heap_core.specs.Shape.{Shape}
+use Rattle.slice_driver.specs.Advances.{Advances, AreOut}
+use Rattle.slice_driver.specs.Collector.{CollectorState}
+use Rattle.slice_driver.specs.Sessions.{SessionSteps, outcome_of}
+use Rattle.slice_driver.specs.Represents.{Represents}
+use Rattle.slice_driver.specs.Units.{IsFreedWord, IsSound, KeepsFreedWords, none_flown}
+use Rattle.slice_driver.specs.Working.{IsStill}
+use Rattle.slice_driver.specs.declared.advance.Step.{Step}
+use Rattle.slice_driver.specs.declared.session.SessionFault.{SessionFault}
+use Rattle.slice_driver.proofs.marking.MarkingUnits.{still_sound}
+use Rattle.slice_driver.proofs.taking_in.TakingDue.{out_none}
+
+abbrev pub no_step : Step
+no_step = record { units = 0; reported = false; finished = false; handed = None }
+
+-- no unit was done
+none_done : (limit : ℕ) (c : CollectorState) (f : ℕ → Option Bits) (report : Option Report)
+    → (0 < limit → IsSome c.run → ⊥) → SessionSteps limit c f no_step c f report
+none_done limit c f report idle = record {
+  done = λ w ok r. record {
+    units = [];
+    number = refl;
+    reports_are = refl;
+    after = w;
+    done = refl;
+    valid = ok;
+    represents = r;
+  };
+  most = omega arith;
+  some = λ lt running. absurd (idle lt running);
+  less = omega arith;
+}
+
+pub no_step_done : (step : Step) (limit : ℕ) (c : CollectorState) (f : ℕ → Option Bits) (report : Option Report)
+    → step ≡ no_step → (0 < limit → IsSome c.run → ⊥) → SessionSteps limit c f step c f report
+no_step_done step limit c f report is idle = subst (λ (x : Step). SessionSteps limit c f x c f report) (sym is)
+    (none_done limit c f report idle)
+
+-- words are kept where a call did its work, and where it did nothing
+pub begin_words : {E : Type 0} {X : Type 0} (r : Result X E) (s t : Shape) → OnOk r (KeepsFreedWords s t) → OnErr r (t ≡ s)
+    → KeepsFreedWords s t
+begin_words (Ok done) s t words same = words
+begin_words (Err why) s t words same = λ a freed is. subst (λ (x : Shape). IsFreedWord x a freed) (sym same) is
+
+module _ (limit : ℕ) (c : CollectorState) (f : ℕ → Option Bits) (before : Option Report) (d : CollectorState)
+    (g : ℕ → Option Bits) (now : Option Report) where
+  -- a step of a session is one of its collector
+  pub ok_steps : {E : Type 0} (r : Result Step E) (outs : List (ℕ × ℕ))
+      → IfOk r (λ (step : Step). Advances limit c f before step d g outs now)
+      → IfOk r (λ (step : Step). SessionSteps limit c f step d g now)
+  ok_steps (Ok step) outs a = record { done = a.done; most = a.most; some = λ lt running. a.some; less = a.less }
+  ok_steps (Err why) outs a = tt
+
+  -- the collector stands for a valid world after it
+  pub after_sound : {E : Type 0} (r : Result Step E) (outs : List (ℕ × ℕ)) → IsSound c f
+      → IfOk r (λ (step : Step). Advances limit c f before step d g outs now) → OnErr r (IsStill c f d g) → IsSound d g
+  after_sound (Ok step) outs s a still = a.sound
+  after_sound (Err why) outs s a still = still_sound c f d g still s
+
+  -- and who sweeps has the arenas that are out
+  pub after_out : {E O : Type 0} (r : Result Step E) (left : O → List (ℕ × ℕ)) (p q : O) → AreOut c.heap.shape (left p)
+      → IfOk r (λ (step : Step). Advances limit c f before step d g (left q) now) → OnErr r (IsStill c f d g)
+      → OnErr r (q ≡ p) → AreOut d.heap.shape (left q)
+  after_out {O = O} (Ok step) left p q out a still same = a.out
+  after_out {O = O} (Err why) left p q out a still same = subst (λ (x : CollectorState). AreOut x.heap.shape (left q)) (sym still.same)
+      (subst (λ (o : O). AreOut c.heap.shape (left o)) (sym same) out)
+
+-- the collector stands for what it stood for, with other bits in flight
+pub flies_sound : (c : CollectorState) (f g : ℕ → Option Bits)
+    → ((w : World) → Represents c f w → Represents c g w) → IsSound c f → IsSound c g
+flies_sound c f g same s = record { world = s.world; valid = s.valid; represents = same s.world s.represents }
+
+-- a new session
+pub new_sound : (c : CollectorState) (jobs : List Job) → jobs ≡ [] → Represents c none_flown first_world
+    → IsSound c (flown_by jobs) × AreOut c.heap.shape (outs_of jobs)
+new_sound c jobs is rep = subst (λ (xs : List Job). IsSound c (flown_by xs) × AreOut c.heap.shape (outs_of xs)) (sym is) (
+  record { world = first_world; valid = first_valid; represents = rep },
+  out_none c.heap.shape,
+)
+
+pub new_first : (c : CollectorState) (jobs : List Job) → jobs ≡ [] → Represents c none_flown first_world
+    → Represents c (flown_by jobs) first_world
+new_first c jobs is rep = subst (λ (xs : List Job). Represents c (flown_by xs) first_world) (sym is) rep
+
+-- what a session tells of a command is what came of it
+pub told_done : (r : Result Reply SessionFault) (o : Result Reply CmdFault) (P : Result Reply CmdFault → Type 0)
+    → outcome_of r ≡ Some o → P o → IfSome (outcome_of r) P
+told_done r o P is p = subst (λ (x : Option (Result Reply CmdFault)). IfSome x P) (sym is) p

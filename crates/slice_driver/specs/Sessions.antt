@@ -1,0 +1,44 @@
+-- A collector with who sweeps, as an embedder sees it.
+use Rattle.std.specs.Prelude.{◌<◌, ◌≤◌, ◌+◌, ℕ, List, Option, Some, None, Result, Ok, Err, IsSome}
+use Rattle.gz_names.specs.declared.names.Name.{Name}
+use Rattle.gz_names.specs.declared.replies.CmdFault.{CmdFault}
+use Rattle.gz_names.specs.declared.replies.CmdFault.TheVariants as fault
+use Rattle.gz_names.specs.declared.replies.Reply.{Reply}
+use Rattle.gz_names.specs.declared.replies.Report.{Report}
+use Rattle.cell_bits.specs.declared.bits.Bits.{Bits}
+use Rattle.colour_defs.specs.Ends.{Lists}
+use Rattle.colour_defs.specs.World.{World, Has, IsPresent, IsSettled}
+use Rattle.colour_defs.specs.Laws.{IsValid}
+use Rattle.slice_driver.specs.declared.session.SessionFault.{SessionFault}
+use Rattle.slice_driver.specs.declared.session.SessionFault.TheVariants as session
+use Rattle.slice_driver.specs.declared.advance.Step.{Step}
+use Rattle.slice_driver.specs.Advances.{DoesUnits, told}
+use Rattle.slice_driver.specs.Collector.{CollectorState}
+use Rattle.slice_driver.specs.Left.{units_left}
+use Rattle.slice_driver.specs.Represents.{Represents}
+
+-- a collector, who sweeps, and the last report
+pub record SessionState (S : Type 0) : Type 0 where
+  pub collector : CollectorState
+  pub sweeper : S
+  pub report : Option Report
+
+-- what came of a command, if it was asked for at all
+abbrev pub outcome_of : Result Reply SessionFault → Option (Result Reply CmdFault)
+outcome_of (Ok reply) = Some (Ok reply)
+outcome_of (Err (session.Refused why)) = Some (Err (fault.Refused why))
+outcome_of (Err session.NoMemory) = Some (Err fault.NoMemory)
+outcome_of (Err session.Full) = None
+
+-- a step was done: at most so many units, some where a collection runs, and what they report is told
+pub record SessionSteps (limit : ℕ) (old : CollectorState) (flown : ℕ → Option Bits) (step : Step) (new : CollectorState)
+    (flying : ℕ → Option Bits) (report : Option Report) : Type 0 where
+  pub done : DoesUnits old flown step.units (told step report) new flying
+  pub most : step.units ≤ limit
+  pub some : 0 < limit → IsSome old.run → 0 < step.units
+  pub less : units_left new flying + step.units ≤ units_left old flown
+
+-- the names of the gray cells in each valid world that a collector stands for; in none of these is a zone marking
+abbrev pub AreGrayNames : CollectorState → (ℕ → Option Bits) → List Name → Type 0
+AreGrayNames c flown names = (w : World) → IsValid w → Represents c flown w → IsSettled w
+    × Lists (λ x. IsPresent w x × (Has w.black x → ⊥)) names
