@@ -350,6 +350,14 @@ impl Arenas {
         }
     }
 
+    /// The zone of a place whose arena was made.
+    pub fn zone_at(&self, place: Place) -> ZoneNo
+        requires { place.0 < length self.now.arenas }
+        ensures { option_map (λ a. a.zone) (slice_get self.now.arenas place.0) ≡ Some result }
+    {
+        self.store.head(place.arena() as usize).zone
+    }
+
     /// The slots of an arena at which cells stand.
     pub fn alloc_word(&self, arena: u32) -> u64
         requires { arena < length self.now.arenas }
