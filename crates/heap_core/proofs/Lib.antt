@@ -1,4 +1,5 @@
 pub mod Views
+pub mod MarkBits
 pub mod MakingCells
 pub mod WritingFields
 pub mod MakingWrappers

@@ -1,12 +1,13 @@
 -- Places that are one, and cells that are present.
-use Rattle.std.proofs.Common.{◌≡◌, Bool, true, false, eqb, eqb-true, eq-eqb, List, [], ◌∷◌, map, Option, Some, None, IsSome, is_some, refl, ap, Contains}
+use Rattle.std.proofs.Common.{◌≡◌, ◌<◌, Bool, true, false, eqb, eqb-true, eq-eqb, List, [], ◌∷◌, length, map, Option, Some, None, IsSome, is_some, refl, ap, subst, slice_get, Contains}
+use Rattle.std.proofs.lemmas.Option.{slice_get_within}
 use Rattle.std.specs.Option.{option_map}
 use Rattle.gz_names.specs.declared.names.Name.{Name}
 use Rattle.gz_names.specs.declared.numbers.Place.{Place}
 use Rattle.colour_defs.proofs.Lists.{first_of_both, second_of_both, both_of, contains_head, contains_tail}
 use Rattle.arena_table.specs.Cells.{CellState}
 use Rattle.arena_table.specs.Table.{is_place}
-use Rattle.heap_core.specs.Shape.{Shape, IsPresent, cell_of, name_at}
+use Rattle.heap_core.specs.Shape.{ArenaShape, Shape, IsPresent, cell_in_arena, cell_of, name_at}
 
 pub place-is : (p q : Place) → is_place p q ≡ true → p ≡ q
 place-is p q e =
@@ -32,6 +33,14 @@ named_present s p x e = go (cell_of s p) e
     go : (o : Option CellState) → option_map (λ (cell : CellState). cell.name) o ≡ Some x → IsSome o
     go None e = absurd (cc e)
     go (Some cell) e = refl
+
+-- the arena of a present cell was made
+pub present_within : (s : Shape) (p : Place) → IsPresent s p → p.0 < length s.arenas
+present_within s p e = go (slice_get s.arenas p.0) refl
+  where
+    go : (o : Option ArenaShape) → slice_get s.arenas p.0 ≡ o → p.0 < length s.arenas
+    go None is = absurd (let gone : IsSome (cell_in_arena None p.1) = subst (λ o. IsSome (cell_in_arena o p.1)) is e in cc gone)
+    go (Some arena) is = slice_get_within s.arenas p.0 arena is
 
 pub present_cell : (s : Shape) (p : Place) → IsPresent s p → (cell : CellState) × (cell_of s p ≡ Some cell)
 present_cell s p e = go (cell_of s p) refl e

@@ -1,5 +1,6 @@
 -- How a change of the arenas shows in the heap.
-use Rattle.std.proofs.Common.{◌≡◌, ◌+◌, ◌&&◌, ℕ, zero, suc, Bool, true, false, List, [], ◌∷◌, Option, Some, None, slice_get, slice_set, option_map, unwrap_or, IfNone, IsSome, is_some, if◌then◌else◌, All, refl, sym, ◌∙◌, ap, subst}
+use Rattle.std.proofs.Common.{◌≡◌, ◌+◌, ◌&&◌, ℕ, zero, suc, Bool, true, false, List, [], ◌∷◌, length, Option, Some, None, slice_get, slice_set, option_map, unwrap_or, IfNone, IsSome, is_some, if◌then◌else◌, All, refl, sym, ◌∙◌, ap, subst}
+use Rattle.std.proofs.lemmas.List.{length-map}
 use Rattle.std.proofs.lemmas.List.Elements.{All-nil, All-cons, All-head, All-tail}
 use Rattle.cell_bits.specs.declared.bits.Bits.{Bits}
 use Rattle.cell_bits.specs.declared.jobs.Job.{Job}
@@ -74,7 +75,7 @@ bits-with_bits (x ∷ xs) zero bits = refl
 bits-with_bits (x ∷ xs) (suc a) bits = ap (λ (b : List Bits). x.bits ∷ b) (bits-with_bits xs a bits)
 
 -- arenas of some zones are changed
-out-kept : (x : Arena) → (arena_shape x).out ≡ None → x.is_out ≡ false
+pub out-kept : (x : Arena) → (arena_shape x).out ≡ None → x.is_out ≡ false
 out-kept x e = out-none x.is_out x.bits e
 
 pub are-in : (word : ℕ) (xs : List Arena) → All (λ (s : ArenaShape). in_zones word s.zone ≡ true → s.out ≡ None) (arena_shapes xs) → AreIn word xs
@@ -142,6 +143,10 @@ bits-taken (x ∷ xs) (suc a) freed bits = ap (λ (b : List Bits). x.bits ∷ b)
 -- the heap with its arenas in this state, and how each call of the arenas shows
 abbrev pub with_state : HeapState → ArenasState → HeapState
 with_state h s = with_arenas h s.arenas s.made
+
+-- there are mark bits for each arena
+pub sized : (h k : HeapState) (s : ArenasState) → with_state h s ≡ k → length k.colours ≡ length k.shape.arenas
+sized h k s v = subst (λ (k : HeapState). length k.colours ≡ length k.shape.arenas) v (length-map s.arenas (λ (arena : Arena). arena.bits) ∙ sym (length-map s.arenas arena_shape))
 
 state-is : (h : HeapState) (s t : ArenasState) (ss : List ArenaShape) (bs : List Bits) → t.made ≡ s.made → arena_shapes t.arenas ≡ ss → bits_of t.arenas ≡ bs → with_state h t ≡ with_parts (with_state h s) ss bs
 state-is h s t ss bs m e f = ap (λ (n : ℕ). with_arenas h t.arenas n) m ∙ (ap (λ (x : List ArenaShape). with_parts (with_arenas h t.arenas s.made) x (bits_of t.arenas)) e ∙ ap (λ (b : List Bits). with_parts (with_state h s) ss b) f)

@@ -1,6 +1,7 @@
 pub mod Shape
 pub mod Edges
 pub mod Heap
+pub mod MarkBits
 pub mod Shows
 pub mod Answers
 pub mod Changes

@@ -1,5 +1,5 @@
 // The heap of all zones, and what the crates above use of its parts.
-ghost use Rattle.std.specs.Prelude.{◌≡◌, ◌≢◌, ◌<◌, ◌≤◌, ◌+◌, ◌^◌, ◌++◌, ◌∷◌, ◌↔◌, ◌==◌, ◌&&◌, [], ℕ, Bool, true, false, None, Some, length, replicate, slice_get, slice_set, slice_index_or, is_some, sum_by, if◌then◌else◌, IfOk, IfSome, IfNone, IsSome, IsSomeAnd, OnOk, OnErr, Contains, Err, All};
+ghost use Rattle.std.specs.Prelude.{◌≡◌, ◌≢◌, ◌<◌, ◌≤◌, ◌+◌, ◌^◌, ◌++◌, ◌∷◌, ◌↔◌, ◌==◌, ◌&&◌, [], ℕ, Bool, true, false, None, Some, length, replicate, slice_get, slice_set, slice_index_or, is_some, sum_by, if◌then◌else◌, IfOk, IfSome, IfNone, IsSome, IsSomeAnd, IsTrue, MatchBool, OnOk, OnErr, Contains, Err, All};
 ghost use Rattle.cell_bits.specs.declared.bits.Colour.TheVariants as colour;
 ghost use Rattle.gz_names.specs.declared.numbers.Place.{Place as APlace};
 ghost use Rattle.std.specs.Int.{bit_at};
@@ -14,6 +14,7 @@ ghost use Rattle.heap_core.specs.Edges.{edge_count};
 ghost use Rattle.heap_core.specs.Heap.{HeapState, colour_of, reg_of, slot_of, with_reg, with_slot};
 ghost use Rattle.heap_core.specs.Changes.{Makes, MakesWrapper, Writes, next_place, with_comp, with_entry, with_number, with_zone, without_entry, wrapper_cell};
 ghost use Rattle.heap_core.specs.Blackening.{Blackens};
+ghost use Rattle.heap_core.specs.MarkBits.{TakesBlack, TakesGray};
 ghost use Rattle.heap_core.specs.Sweeping.{AreKept, held_in_all, is_absent, is_absent_in, is_lost_in, jobs_of, with_clear, with_handed, with_taken};
 ghost use Rattle.arena_table.specs.Slots.{IsWithin, alloc_word_of, at_bits, cell_at, names_of};
 ghost use Rattle.wrappers.specs.WrapperMaps.{AreApart, list_of, place_of, without_dead};
@@ -178,6 +179,22 @@ impl Heap {
         self.arenas.owner(arena)
     }
 
+    /// The zone of a place whose arena was made.
+    pub fn zone_at(&self, place: Place) -> ZoneNo
+        requires { place.0 < length self.now.shape.arenas }
+        ensures { result ≡ zone_of self.now.shape place }
+    {
+        self.arenas.zone_at(place)
+    }
+
+    /// Whether a place, whose arena was made, lies in one of these zones.
+    pub fn lies_in(&self, place: Place, zones: ZoneSet) -> bool
+        requires { place.0 < length self.now.shape.arenas }
+        ensures { IsTrue result ↔ HasZone zones.bits (zone_of self.now.shape place) }
+    {
+        zones.contains(self.zone_at(place))
+    }
+
     /// Whether an arena is handed to sweeping.
     pub fn is_out(&self, arena: u32) -> bool
         ensures { result ≡ is_some (out_of self.now.shape arena) }
@@ -232,6 +249,45 @@ impl Heap {
         } }
     {
         self.arenas.set_bits(arena, bits);
+    }
+
+    /// The colour of a place by the heap's own mark bits.
+    pub fn colour(&self, place: Place) -> Colour
+        requires { place.0 < length self.now.colours }
+        ensures { result ≡ colour_of self.now place }
+    {
+        self.bits(place.arena()).colour(place.slot())
+    }
+
+    /// Turns a cell black whose arena is not handed to sweeping. True exactly where that set a bit.
+    pub fn mark_black(&mut self, place: Place) -> bool
+        requires made { place.0 < length self.old.colours }
+        requires kept { out_of self.old.shape place.0 ≡ None }
+        ensures { MatchBool result (TakesBlack self.old place self.new)
+            ((colour_of self.old place ≡ Colour.Black) × (self.new ≡ self.old)) }
+    {
+        let mut bits = self.arenas.bits(place.arena());
+        let is_new = bits.mark_black(place.slot());
+        if is_new {
+            self.arenas.set_bits(place.arena(), bits);
+        }
+        is_new
+    }
+
+    /// Turns a white cell gray whose arena is not handed to sweeping. True exactly where that set a
+    /// bit; a gray or black cell stays as it is.
+    pub fn mark_gray(&mut self, place: Place) -> bool
+        requires made { place.0 < length self.old.colours }
+        requires kept { out_of self.old.shape place.0 ≡ None }
+        ensures { MatchBool result (TakesGray self.old place self.new)
+            ((colour_of self.old place ≢ Colour.White) × (self.new ≡ self.old)) }
+    {
+        let mut bits = self.arenas.bits(place.arena());
+        let is_new = bits.mark_gray(place.slot());
+        if is_new {
+            self.arenas.set_bits(place.arena(), bits);
+        }
+        is_new
     }
 
     /// Whether the next cell of a zone comes into a new arena.

@@ -1,6 +1,5 @@
-use Rattle.std.proofs.Common.{◌≡◌, ℕ, Option, None, Some, IfNone, ap, subst}
+use Rattle.std.proofs.Common.{ap}
 use Rattle.std.proofs.lemmas.Option.{IfSome_then}
-use Rattle.heap_core.specs.Shape.{out_of}
 use Rattle.heap_core.specs.Heap.{HeapState}
 use Rattle.heap_core.proofs.Views.{none_then, not_out-seen, out-seen}
 use Rattle.heap_core.proofs.heap.Heap.first_out.Goals as goal
