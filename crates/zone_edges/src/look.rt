@@ -126,19 +126,9 @@ pub fn edge_from<L: Ledger>(
     let Some(target) = heap.reached_by(wrapper, 0, steps) else {
         return None;
     };
-    let Some(to) = heap.owner(target.arena()) else {
-        return None;
-    };
-    if to == zone || !zones.contains(to) || is_black(heap, target) {
+    let to = heap.zone_at(target);
+    if to == zone || !zones.contains(to) || heap.colour(target) == Colour::Black {
         return None;
     }
     Some(to)
-}
-
-// Whether a present cell is black.
-fn is_black(heap: &Heap, place: Place) -> bool
-    requires { place.0 < length heap.now.colours }
-    ensures { IsTrue result ↔ (colour_of heap.now place ≡ Colour.Black) }
-{
-    heap.bits(place.arena()).colour(place.slot()) == Colour::Black
 }
