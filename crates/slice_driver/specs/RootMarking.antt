@@ -12,7 +12,7 @@ use Rattle.heap_core.specs.Heap.{HeapState, colour_of}
 use Rattle.zone_edges.specs.Looks.{wrapper_at}
 use Rattle.barriers.specs.Colours.{IsBlack, IsGray}
 use Rattle.barriers.specs.Invariant.{HasRoom}
-use Rattle.barriers.specs.BlackBits.{TakesBlack}
+use Rattle.heap_core.specs.MarkBits.{TakesBlack}
 use Rattle.slice_driver.specs.Begins.{IsWithin}
 
 -- the cells of these zones that meet P turned black, and those that were not black before are on the black pile

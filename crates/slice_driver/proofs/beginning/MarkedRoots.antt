@@ -22,7 +22,7 @@ use Rattle.heap_core.specs.Shape.{Shape, field_at, is_white, out_of, zone_of}
 use Rattle.heap_core.specs.Heap.{HeapState, colour_of, colour_in}
 use Rattle.barriers.specs.Colours.{IsBlack, lacks_black, left, whites}
 use Rattle.barriers.specs.Invariant.{HasRoom}
-use Rattle.barriers.specs.BlackBits.{SetsBlack}
+use Rattle.heap_core.specs.MarkBits.{SetsBlack}
 use Rattle.barriers.proofs.BlackClosure.{black_or_not}
 use Rattle.barriers.proofs.Places.{same_or_other, same_place}
 use Rattle.barriers.proofs.Slots.{black_now, colour_elsewhere, left_less, not_black_bit, slots_fewer, slots_set, white_no_more}
