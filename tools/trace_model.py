@@ -1,0 +1,307 @@
+"""A trace, its output, and a small model of the graph: shared by tools/draw and tools/explain.
+
+The model is plain Python and proved in nothing. It replays the commands of a trace beside the program's own output: the
+output tells which cells were freed, and the model tells which cells there are and what holds what.
+"""
+
+import difflib
+import subprocess
+from pathlib import Path
+
+TOP = Path(__file__).resolve().parent.parent
+PROGRAM = TOP / "crates/gczone/out/gczone"
+REPORTS = ("groups", "ended", "swept", "done")
+
+# The forms of the commands: r a register, t a register or `-`, g a gray slot, z a zone, c a compartment, n the number of
+# fields of an object, f a field, u a number of units, Z one or more zones that ascend.
+FORMS = {
+    "zone": "", "comp": "z", "new": "rcn", "map": "rc", "get": "rrf", "set": "rft", "wrap": "rrc", "unwrap": "rr",
+    "copy": "rr", "drop": "r", "hold": "gr", "release": "g", "expose": "rg", "put": "rrr", "del": "rr", "find": "rrr",
+    "gc": "Z", "slice": "u", "finish": "", "collect": "Z", "colours": "",
+}
+PARTS = {
+    "r": ("a register, r0 to r15", "r", 15), "t": ("a register, r0 to r15, or -", "r", 15),
+    "g": ("a gray slot, g0 to g63", "g", 63), "z": ("a zone, 0 to 63", "", 63), "c": ("a compartment, 0 to 255", "", 255),
+    "n": ("a number of fields, 0 to 8", "", 8), "f": ("a field, 0 to 7", "", 7),
+    "u": ("a number of units, 0 to 4294967295", "", 4294967295),
+}
+
+
+class Unproved(Exception):
+    """The program is not built."""
+
+
+def run(text, unproved=False):
+    """The output lines, the exit status and the error text of the program on a trace."""
+    if unproved:
+        command = [TOP / "gczone", "try"]
+    elif PROGRAM.exists():
+        command = [PROGRAM, "run"]
+    else:
+        raise Unproved("the program is not built: `./gczone run < /dev/null` does it, and --try runs it unproved")
+    done = subprocess.run(command, input=text, capture_output=True, check=False)
+    return done.stdout.decode().splitlines(), done.returncode, done.stderr.decode().strip()
+
+
+def split_lines(data):
+    """The lines of a trace, as bytes."""
+    lines = data.split(b"\n")
+    return lines[:-1] if lines[-1] == b"" else lines
+
+
+def answers(commands, output):
+    """The output lines of each command: reports, and last the reply. Commands without a reply are left out."""
+    rest = iter(output)
+    result = []
+    for _ in commands:
+        own = []
+        for line in rest:
+            own.append(line)
+            if line.split(" ")[0] not in REPORTS:
+                break
+        else:
+            break
+        result.append(own)
+    return result
+
+
+def number_fault(text, kind):
+    """Why a word is no argument of this kind, or None."""
+    meaning, letter, most = PARTS[kind]
+    if kind == "t" and text == "-":
+        return None
+    if letter and not text.startswith(letter):
+        return f"'{text}' is not {meaning}"
+    digits = text[len(letter):]
+    if not digits.isdigit():
+        return f"'{text}' is not {meaning}"
+    if digits != str(int(digits)):
+        return f"'{text}' has a 0 in front: a number is 0, or begins with another digit"
+    if int(digits) > most:
+        return f"'{text}' is out of range: {meaning}"
+    return None
+
+
+def form_of(word):
+    """A command's form in words."""
+    names = {"t": "r or -", "u": "n", "Z": "z .."}
+    return " ".join([word, *(names.get(kind, kind) for kind in FORMS[word])])
+
+
+def fault_of(line):
+    """Why a line (bytes, without its line feed) is bad, or None when it is a command."""
+    long = len(line) > 255
+    odd = next((at for at, byte in enumerate(line) if byte >= 128), None)
+    if odd is not None and not (long and odd >= 255):
+        return f"byte {odd + 1} is {line[odd]}: a trace is ASCII, all bytes are below 128"
+    if long:
+        return f"the line has {len(line)} bytes: 255 are the most"
+    text = line.decode("ascii")
+    if not text:
+        return "the line is empty: there are no empty lines and no comments"
+    if "\r" in text:
+        return f"byte {text.index(chr(13)) + 1} is a carriage return: lines end with a line feed alone"
+    if "\t" in text:
+        return f"byte {text.index(chr(9)) + 1} is a tab: words have one space between them"
+    other = next((at for at, letter in enumerate(text) if not 32 <= ord(letter) < 127), None)
+    if other is not None:
+        return f"byte {other + 1} is {ord(text[other])}, which is part of no word"
+    if text.startswith(" "):
+        return "the line begins with a space"
+    if text.endswith(" "):
+        return "the line ends with a space"
+    if "  " in text:
+        return f"there are two spaces at byte {text.index('  ') + 1}: words have exactly one between them"
+    word, *rest = text.split(" ")
+    if word not in FORMS:
+        near = difflib.get_close_matches(word.lower(), FORMS, 1)
+        hint = f"; did you mean '{near[0]}'?" if near else ""
+        if word.startswith(("#", "//", ";", "--")):
+            hint = "; there are no comments"
+        return f"'{word}' is no command{hint}"
+    kinds = FORMS[word]
+    if kinds == "Z":
+        if not rest:
+            return f"zones are missing: {form_of(word)}"
+        faults = [fault for fault in (number_fault(part, "z") for part in rest) if fault]
+        if faults:
+            return faults[0]
+        for before, after in zip(rest, rest[1:]):
+            if int(after) <= int(before):
+                return f"zone {after} stands after zone {before}: zones ascend, each once"
+        return None
+    if len(rest) != len(kinds):
+        return f"{len(rest)} arguments, where {word} takes {len(kinds)}: {form_of(word)}"
+    return next((fault for fault in map(number_fault, rest, kinds) if fault), None)
+
+
+def name_order(name):
+    """Objects and maps before wrappers, each by their numbers."""
+    comp, colon, target = name.partition(":")
+    return (1, int(comp), int(target)) if colon else (0, int(name), 0)
+
+
+class Cell:
+    """A cell: its name, kind, compartment, arena and slot."""
+
+    def __init__(self, name, kind, comp, place):
+        self.name, self.kind, self.comp, self.place = name, kind, comp, place
+        self.fields = []
+        self.target = None
+
+
+class Model:
+    """The cells that are present, and what holds them."""
+
+    def __init__(self):
+        self.zones, self.comps = 0, []
+        self.cells = {}
+        self.wrappers = {}
+        self.entries = {}
+        self.registers, self.gray = {}, {}
+        self.arenas = []
+        self.slots = {}
+        self.out = set()
+        self.collecting = None
+        self.marking = set()
+        self.crossing = []
+        self.objects = 0
+
+    def place_for(self, zone):
+        """The place of the next cell of a zone, which is taken by it."""
+        for arena, owner in enumerate(self.arenas):
+            if owner == zone and arena not in self.out:
+                slot = next((slot for slot in range(64) if (arena, slot) not in self.slots), None)
+                if slot is not None:
+                    return arena, slot
+        self.arenas.append(zone)
+        return len(self.arenas) - 1, 0
+
+    def make(self, name, kind, comp):
+        cell = Cell(name, kind, comp, self.place_for(self.comps[comp]))
+        self.slots[cell.place] = cell
+        self.cells[name] = cell
+        return cell
+
+    def zone_of(self, cell):
+        return self.comps[cell.comp]
+
+    def wrappers_between(self, zones):
+        """The names of the wrappers that lead from these zones to other ones of them."""
+        ends = [(cell.name, self.zone_of(cell), self.zone_of(cell.target)) for cell in self.wrappers.values()]
+        return [name for name, own, other in ends if own != other and {own, other} <= zones]
+
+    def command(self, words, reply):
+        """Does a command on the graph that was not refused."""
+        word, *args = words
+        regs = self.registers
+        if word == "zone":
+            self.zones += 1
+        elif word == "comp":
+            self.comps.append(int(args[0]))
+        elif word in ("new", "map"):
+            cell = self.make(str(self.objects), "object" if word == "new" else "map", int(args[1]))
+            cell.fields = [None] * int(args[2]) if word == "new" else []
+            self.objects += 1
+            regs[args[0]] = cell
+        elif word == "get":
+            regs[args[0]] = regs[args[1]].fields[int(args[2])]
+        elif word == "set":
+            regs[args[0]].fields[int(args[1])] = None if args[2] == "-" else regs.get(args[2])
+        elif word == "wrap":
+            target = regs[args[1]].target or regs[args[1]]
+            comp = int(args[2])
+            if target.comp == comp:
+                regs[args[0]] = target
+            else:
+                if (comp, target.name) not in self.wrappers:
+                    cell = self.make(f"{comp}:{target.name}", "wrapper", comp)
+                    cell.target = target
+                    self.wrappers[comp, target.name] = cell
+                regs[args[0]] = self.wrappers[comp, target.name]
+        elif word == "unwrap":
+            regs[args[0]] = regs[args[1]].target
+        elif word == "copy":
+            regs[args[0]] = regs.get(args[1])
+        elif word == "drop":
+            regs[args[0]] = None
+        elif word == "hold":
+            self.gray[args[0]] = regs.get(args[1])
+        elif word == "release":
+            self.gray[args[0]] = None
+        elif word == "expose":
+            regs[args[0]] = self.gray.get(args[1])
+        elif word == "put":
+            self.entries[regs[args[0]].name, regs[args[1]].name] = tuple(regs[part] for part in args)
+        elif word == "del":
+            if reply == "ok":
+                del self.entries[regs[args[0]].name, regs[args[1]].name]
+        elif word == "find":
+            entry = self.entries.get((regs[args[1]].name, regs[args[2]].name))
+            regs[args[0]] = entry[2] if entry else None
+        elif word in ("gc", "collect"):
+            self.collecting = {int(part) for part in args}
+            self.marking = set(self.collecting)
+
+    def report(self, line, dead):
+        """Takes in a report of a collection; `dead` has the names that `swept` lines tell after an `ended` line."""
+        word, *rest = line.split(" ")
+        if word == "groups":
+            self.crossing = self.wrappers_between(self.collecting)
+        elif word == "ended":
+            zones = {int(part) for part in rest[: rest.index("gray")]}
+            self.marking -= zones
+            self.out = {arena for arena, zone in enumerate(self.arenas) if zone in zones}
+            gone = {id(self.cells[name]) for name in dead}
+            for name in dead:
+                cell = self.cells.pop(name)
+                if cell.target:
+                    del self.wrappers[cell.comp, cell.target.name]
+            self.entries = {key: entry for key, entry in self.entries.items() if not any(id(cell) in gone for cell in entry)}
+        elif word == "swept":
+            arena = int(rest[0])
+            self.out.discard(arena)
+            for name in rest[1:]:
+                place = next((place for place, cell in self.slots.items() if place[0] == arena and cell.name == name), None)
+                if place:
+                    del self.slots[place]
+        elif word == "done":
+            self.collecting = None
+
+
+def dead_after(reports, at):
+    """The names in the `swept` lines between one `ended` line and the next."""
+    names = []
+    for line in reports[at + 1:]:
+        word, *rest = line.split(" ")
+        if word in ("ended", "done"):
+            break
+        if word == "swept":
+            names += [name for name in rest[1:] if name != "-"]
+    return names
+
+
+REFUSALS = {"full", "no-zone", "no-comp", "empty", "kind", "no-field", "cross", "wrapper-key", "running", "idle", "marking"}
+
+
+def replay(lines, output, later=()):
+    """Yields, for each command that was answered, its words, its output lines, and the model after it.
+
+    `lines` are the texts of commands, `output` the program's output lines, and `later` the output lines that would come
+    after it, so that the cells which a group left dead are known before they are swept.
+    """
+    model = Model()
+    told = answers(lines, output)
+    reports = [line for own in told for line in own[:-1]]
+    reports += [line for line in later if line.split(" ")[0] in REPORTS]
+    at = 0
+    for text, own in zip(lines, told):
+        words = text.split(" ")
+        if words[0] in ("gc", "collect") and own[-1] in ("gc ok", "collected"):
+            model.command(words, own[-1])
+        for line in own[:-1]:
+            model.report(line, dead_after(reports, at) if line.startswith("ended ") else ())
+            at += 1
+        if own[-1] not in REFUSALS and words[0] not in ("gc", "collect"):
+            model.command(words, own[-1])
+        yield words, own, model
