@@ -1,0 +1,109 @@
+"""Tests what the documents show: their commands, their links, and the clauses that docs/PROOFS.md names."""
+
+import re
+import shutil
+import subprocess
+from pathlib import Path
+
+TOP = Path(__file__).resolve().parent.parent
+SECONDS = 30
+# What a command needs beside Python: it is not run where this is missing.
+NEEDS = {"tools/draw": "dot"}
+
+
+def documents():
+    return sorted(path for folder in (".", "docs", "examples", "examples/differences") for path in (TOP / folder).glob("*.md"))
+
+
+def commands(text):
+    """Each command of a fenced block, with the lines that are to be its output."""
+    found = []
+    fenced = False
+    for line in text.splitlines():
+        if line.startswith("```"):
+            fenced = not fenced
+            found.append(None)
+        elif fenced and line.startswith("$ "):
+            found.append((line[2:], []))
+        elif fenced and found and found[-1]:
+            found[-1][1].append(line)
+    return [entry for entry in found if entry]
+
+
+def fits(wanted, found):
+    """Whether lines are those wanted, of which `..` stands for any lines."""
+    if not wanted:
+        return not found
+    if wanted[0] == "..":
+        return any(fits(wanted[1:], found[at:]) for at in range(len(found) + 1))
+    return bool(found) and found[0] == wanted[0] and fits(wanted[1:], found[1:])
+
+
+def check_command(command, wanted):
+    if any(tool in command and "--dot" not in command and not shutil.which(need) for tool, need in NEEDS.items()):
+        return []
+    run = subprocess.run(
+        ["sh", "-c", command], cwd=TOP, stdin=subprocess.DEVNULL, stdout=subprocess.PIPE, stderr=subprocess.STDOUT,
+        timeout=SECONDS, check=False,
+    )
+    found = run.stdout.decode(errors="replace").splitlines()
+    if fits(wanted, [line.rstrip() for line in found]):
+        return []
+    return [f"`{command}` prints:\n  " + "\n  ".join(found[:40])]
+
+
+def check_links(path, text):
+    links = re.findall(r"\]\(([^)#\s]+)[^)]*\)", text)
+    return [f"no {link}" for link in links if "://" not in link and not (path.parent / link).exists()]
+
+
+def check_document(path):
+    """What is wrong in a document: links that lead nowhere, and commands that print something else."""
+    text = path.read_text()
+    wrong = check_links(path, text)
+    for command, wanted in commands(text):
+        while wanted and not wanted[-1]:
+            wanted.pop()
+        wrong += check_command(command, wanted)
+    return wrong
+
+
+def heads(path):
+    """The signature and contract of each function of a file, by its name."""
+    found = {}
+    pattern = r"(?m)^\s*(?:pub(?:\(crate\))? )?fn (\w+).*(?:\n(?!\s*\{\s*$)(?!\s*(?:pub(?:\(crate\))? )?fn ).*)*"
+    for match in re.finditer(pattern, path.read_text()):
+        found.setdefault(match[1], []).append(match[0])
+    return found
+
+
+def has_clauses(head, clauses):
+    """Whether a contract has these clauses; with none named, whether it has one without a name."""
+    names = [re.escape(name) + " " for name in clauses] or [""]
+    return all(re.search(rf"ensures {name}\{{", head) for name in names)
+
+
+def check_clauses(path):
+    """What the rows of docs/PROOFS.md name that is not in the sources."""
+    wrong = []
+    for line in path.read_text().splitlines():
+        cells = [cell.strip() for cell in line.strip("|").split("|")]
+        if len(cells) != 4 or not cells[2].endswith(".rt"):
+            continue
+        source = TOP / "crates" / cells[2]
+        if not source.exists():
+            wrong.append(f"no {cells[2]}")
+            continue
+        found = heads(source)
+        for part in cells[1].split(";"):
+            name, _, rest = part.strip().partition(":")
+            clauses = re.findall(r"`(\w+)`", rest)
+            if not any(has_clauses(head, clauses) for head in found.get(name.strip("`"), [])):
+                wrong.append(f"{cells[2]}: {part.strip()}")
+    return wrong
+
+
+def checks():
+    """Names and checks of all documents."""
+    found = [(str(path.relative_to(TOP)), lambda path=path: check_document(path)) for path in documents()]
+    return [*found, ("clauses in docs/PROOFS.md", lambda: check_clauses(TOP / "docs/PROOFS.md"))]
