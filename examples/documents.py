@@ -1,4 +1,7 @@
-"""Tests what the documents show: their commands, their links, and the clauses that docs/PROOFS.md names."""
+"""Tests what the documents show: their commands, their links, their pictures, and the clauses that docs/PROOFS.md names.
+
+examples/check does this with all else; `python3 examples/documents.py` does it alone, and prints what is wrong.
+"""
 
 import re
 import shutil
@@ -7,7 +10,7 @@ from pathlib import Path
 
 TOP = Path(__file__).resolve().parent.parent
 SECONDS = 30
-# What a command needs beside Python: it is not run where this is missing.
+# What a command needs beside Python. It is not run when this is missing.
 NEEDS = {"tools/draw": "dot"}
 
 
@@ -40,8 +43,9 @@ def fits(wanted, found):
 
 
 def check_command(command, wanted):
-    if any(tool in command and "--dot" not in command and not shutil.which(need) for tool, need in NEEDS.items()):
-        return []
+    if not any(flag in command for flag in ("--dot", "--check", "timeline")):
+        if any(tool in command and not shutil.which(need) for tool, need in NEEDS.items()):
+            return []
     run = subprocess.run(
         ["sh", "-c", command], cwd=TOP, stdin=subprocess.DEVNULL, stdout=subprocess.PIPE, stderr=subprocess.STDOUT,
         timeout=SECONDS, check=False,
@@ -106,4 +110,12 @@ def check_clauses(path):
 def checks():
     """Names and checks of all documents."""
     found = [(str(path.relative_to(TOP)), lambda path=path: check_document(path)) for path in documents()]
-    return [*found, ("clauses in docs/PROOFS.md", lambda: check_clauses(TOP / "docs/PROOFS.md"))]
+    found.append(("clauses in docs/PROOFS.md", lambda: check_clauses(TOP / "docs/PROOFS.md")))
+    found.append(("pictures", lambda: check_command("tools/draw pictures --check", [])))
+    return found
+
+
+if __name__ == "__main__":
+    for name, check in checks():
+        for fault in check():
+            print(f"{name}: {fault}")
