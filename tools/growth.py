@@ -32,7 +32,8 @@ def growth():
 
     height = HEAD + ROW_HEIGHT * len(found) + 12
     parts = [
-        f'<svg xmlns="http://www.w3.org/2000/svg" width="{LEFT + WIDTH + 60}" height="{height}" font-family="sans-serif" font-size="11">',
+        f'<svg xmlns="http://www.w3.org/2000/svg" width="{LEFT + WIDTH + 60}" height="{height}"',
+        ' font-family="sans-serif" font-size="11">',
         f'<rect width="{LEFT + WIDTH + 60}" height="{height}" fill="white"/>',
         '<text x="8" y="14">instructions a line, gczone to plain Rust: dot at scale 0.02, ring at scale 0.32</text>',
     ]
@@ -42,7 +43,8 @@ def growth():
     for at, (family, both) in enumerate(found.items()):
         y = HEAD + at * ROW_HEIGHT + 6
         parts.append(f'<text x="8" y="{y + 4}">{family}</text>')
-        parts.append(f'<line x1="{x(both[0])}" y1="{y}" x2="{x(both[-1])}" y2="{y}" stroke="#a04000" stroke-width="2"/>')
+        ends = f'x1="{x(both[0])}" y1="{y}" x2="{x(both[-1])}" y2="{y}"'
+        parts.append(f'<line {ends} stroke="#a04000" stroke-width="2"/>')
         parts.append(f'<circle cx="{x(both[0])}" cy="{y}" r="4" fill="#202020"/>')
         if both[1:]:
             parts.append(f'<circle cx="{x(both[1])}" cy="{y}" r="4" fill="white" stroke="#202020" stroke-width="1.5"/>')

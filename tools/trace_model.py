@@ -12,8 +12,8 @@ TOP = Path(__file__).resolve().parent.parent
 PROGRAM = TOP / "crates/gczone/out/gczone"
 REPORTS = ("groups", "ended", "swept", "done")
 
-# The forms of the commands: r a register, t a register or `-`, g a gray slot, z a zone, c a compartment, n the number of
-# fields of an object, f a field, u a number of units, Z one or more zones that ascend.
+# The forms of the commands: r a register, t a register or `-`, g a gray slot, z a zone, c a compartment, n the number
+# of fields of an object, f a field, u a number of units, Z one or more zones that ascend.
 FORMS = {
     "zone": "", "comp": "z", "new": "rcn", "map": "rc", "get": "rrf", "set": "rft", "wrap": "rrc", "unwrap": "rr",
     "copy": "rr", "drop": "r", "hold": "gr", "release": "g", "expose": "rg", "put": "rrr", "del": "rr", "find": "rrr",
@@ -21,7 +21,8 @@ FORMS = {
 }
 PARTS = {
     "r": ("a register, r0 to r15", "r", 15), "t": ("a register, r0 to r15, or -", "r", 15),
-    "g": ("a gray slot, g0 to g63", "g", 63), "z": ("a zone, 0 to 63", "", 63), "c": ("a compartment, 0 to 255", "", 255),
+    "g": ("a gray slot, g0 to g63", "g", 63), "z": ("a zone, 0 to 63", "", 63),
+    "c": ("a compartment, 0 to 255", "", 255),
     "n": ("a number of fields, 0 to 8", "", 8), "f": ("a field, 0 to 7", "", 7),
     "u": ("a number of units, 0 to 4294967295", "", 4294967295),
 }
@@ -257,13 +258,14 @@ class Model:
                 cell = self.cells.pop(name)
                 if cell.target:
                     del self.wrappers[cell.comp, cell.target.name]
-            self.entries = {key: entry for key, entry in self.entries.items() if not any(id(cell) in gone for cell in entry)}
+            self.entries = {
+                key: entry for key, entry in self.entries.items() if not any(id(cell) in gone for cell in entry)
+            }
         elif word == "swept":
             arena = int(rest[0])
             self.out.discard(arena)
             for name in rest[1:]:
-                place = next((place for place, cell in self.slots.items() if place[0] == arena and cell.name == name), None)
-                if place:
+                for place in [place for place, cell in self.slots.items() if place[0] == arena and cell.name == name]:
                     del self.slots[place]
         elif word == "done":
             self.collecting = None
@@ -281,7 +283,9 @@ def dead_after(reports, at):
     return names
 
 
-REFUSALS = {"full", "no-zone", "no-comp", "empty", "kind", "no-field", "cross", "wrapper-key", "running", "idle", "marking"}
+REFUSALS = {
+    "full", "no-zone", "no-comp", "empty", "kind", "no-field", "cross", "wrapper-key", "running", "idle", "marking",
+}
 
 
 def replay(lines, output, later=()):
