@@ -1,2 +1,4 @@
+pub mod DumpTexts
+pub mod Dumps
 pub mod Order
 pub mod Zones

@@ -9,6 +9,7 @@
 #![tactic(auto)]
 
 mod commands;
+mod dumps;
 mod limits;
 mod lists;
 mod names;
@@ -17,6 +18,7 @@ mod replies;
 mod zone_sets;
 
 pub use commands::{Cmd, GraphCmd, Kind};
+pub use dumps::{DumpColour, DumpFault, DumpLine};
 pub use limits::{
     COMP_LIMIT, FIELD_LIMIT, GRAY_SLOT_COUNT, REGISTER_COUNT, SLOT_COUNT, ZONE_LIMIT,
 };
