@@ -1,0 +1,5 @@
+pub mod Decimals
+pub mod Lined
+pub mod Options
+pub mod Reading
+pub mod Searching

@@ -1,0 +1,4 @@
+pub mod Checking
+pub mod Digits
+pub mod Seen
+pub mod Words
