@@ -140,6 +140,13 @@ impl Heap {
         self.arenas.field_count(place)
     }
 
+    /// Whether no present cell is at a place.
+    pub fn is_absent(&self, place: Place) -> bool
+        ensures { result ≡ is_absent self.now.shape place }
+    {
+        is_dead(&self.arenas, place)
+    }
+
     /// What a register holds.
     pub fn reg(&self, r: Reg) -> Option<Place>
         ensures value { result ≡ reg_of self.now r }
