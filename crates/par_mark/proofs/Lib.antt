@@ -1,6 +1,7 @@
 pub mod Members
 pub mod Balancing
 pub mod Scanning
+pub mod Counting
 pub mod Accounting
 pub mod Running
 pub mod Cells

@@ -5,12 +5,10 @@ ghost use Rattle.heap_core.specs.Shape.{field_at, is_marking};
 ghost use Rattle.par_mark.specs.Edges.{degree};
 ghost use Rattle.par_mark.specs.Heaps.{HasCell};
 
+use crate::edges::count_edges;
 use crate::graph::Graph;
 use gz_names::Place;
 use heap_core::Heap;
-
-// The most edges that the 64 cells of an arena can have.
-const ARENA_EDGES: usize = 512;
 
 impl Graph for Heap {
     ghost has = { λ h p. HasCell h.shape p };
@@ -35,6 +33,6 @@ impl Graph for Heap {
     }
 
     fn most_edges(&self) -> usize {
-        ARENA_EDGES * self.arenas() as usize
+        count_edges(self)
     }
 }

@@ -18,7 +18,7 @@
 //            and scans it: its targets become                           `outside`, for main
 //            tries in the caller's list
 //                      |
-//                      | more than 16 tries: one goes to the queue, where the other caller finds it
+//                      | more than 16 tries: the oldest goes to the queue, where the other caller finds it
 //                      v
 //                    queue, of 256 places
 //
@@ -53,13 +53,15 @@
 //
 // `Graph` is what marking reads of a heap, so that the proof, and a test, can do without one. `mark`
 // works on marks and a queue, `mark_black` takes black words and answers them, and `mark_heap` does so
-// for the heap. All memory is reserved before the first step. Each caller's list stands in a
+// for the heap. All memory is reserved before the first step: the lists have room for as many tries as
+// there are edges, which one pass over the heap counts first. Each caller's list stands in a
 // `CachePadded`, so that one caller's pushes don't slow down the other's.
 #![tactic(auto)]
 
 mod callers;
 mod closed;
 mod donations;
+mod edges;
 mod first_tries;
 mod gather;
 mod graph;
