@@ -8,7 +8,8 @@ pub loop-slot-preserved : goal.loop-slot-preserved
 loop-slot-preserved c =
     let f : ℕ × ℕ → ℕ = degree (field_at c.args.heap.now.shape) in
     let there : c.in-Some.place ≡ (c.args.arena, c.loop-slot.slot) = search rules in
-    let o = one_slot f c.args.arena c.loop-slot.slot c.cell_edges-count.result (c.cell_edges-count.ensures.edges ∙ ap f there) in
+    let o = one_slot f c.args.arena c.loop-slot.slot c.cell_edges-count.result
+    (c.cell_edges-count.ensures.edges ∙ ap f there) in
     let i = c.loop-slot.invariant in
     let m = c.cell_edges-count.ensures.most in
     let a = i.0 in let b = i.1 in (omega arith, omega arith)
