@@ -84,3 +84,15 @@ run_stop xs i n room e few =
 pub high_byte : (xs : List ℕ) (m n : ℕ) → n < m → Stops (get_or (take m xs) n 0) → get_or xs n 0 ≢ 10 → 128 ≤ get_or xs n 0
 high_byte xs m n h (inl e) o = absurd (o (sym (get_or-take m xs n 0 h) ∙ e))
 high_byte xs m n h (inr k) o = omega (arith, k, get_or-take m xs n 0 h)
+
+-- of the first 16 bytes some are plain, and one stands behind them
+pub stops_early : (xs : List ℕ) (n : ℕ) → 16 ≤ length xs → n ≡ prefix_len is_plain (take 16 xs) → n ≢ 16 → (n < 16) × IsPlain (take n xs) × Stops (get_or xs n 0)
+stops_early xs n long e other =
+    let few : n < 16 = omega (arith, e, prefix_len-le-length is_plain (take 16 xs), length-take 16 xs, other) in
+    let same : 0 + n ≡ n = omega arith in
+    (few, subst (λ k. IsPlain (take k xs)) same (plain_run xs 0 n tt e), subst (λ k. Stops (get_or xs k 0)) same (run_stop xs 0 n (omega (arith, long)) e few))
+
+-- a byte that no line may have and that is no line feed
+pub high_stop : (b : ℕ) → Stops b → b ≢ 10 → 128 ≤ b
+high_stop b (inl e) o = absurd (o e)
+high_stop b (inr k) o = k
