@@ -4,6 +4,7 @@ use Rattle.std.specs.Char.{is_ascii_digit}
 use Rattle.std.specs.Str.{all_ascii_digits}
 use Rattle.std.specs.Fmt.{decimal}
 use Rattle.std.proofs.Math.Seq.{drop-cons}
+use Rattle.std.proofs.lemmas.List.{length-append}
 use Rattle.std.proofs.lemmas.Bool.{agree_below_at}
 use Rattle.std.proofs.lemmas.Str.Parse.{IsNumeralModel, numerals_by_fold}
 use Rattle.std.proofs.lemmas.Fmt.{decimal_digit, digits_decimal, digits_value-decimal, decimal-digits_value, decimal_nonempty, first_decimal}
@@ -179,3 +180,22 @@ digit_first text rest d h e =
     let at : get_or text 0 0 ≡ 48 + d = ap (λ t. get_or t 0 0) e in
     let some : length text ≡ length ((48 + d) ∷ rest) = ap length e in
     (omega (arith, some), ap is_ascii_digit at ∙ digit_is d h, at)
+
+-- a number goes on from its first digit
+pub from_first : (rest : List ℕ) (d : ℕ) → d < 10 → (read_on 0 (front_digits ((48 + d) ∷ rest)) ≡ read_on d (front_digits rest)) × (after_digits ((48 + d) ∷ rest) ≡ after_digits rest)
+from_first rest d h =
+    let s = starts_with ((48 + d) ∷ rest) rest d h refl in
+    let value : 10 * 0 + (48 + d - 48) ≡ d = omega arith in
+    (ap (read_on 0) s.0 ∙ ap (λ m. read_on m (front_digits rest)) value, s.1)
+
+get_or-seam : (front rest : List ℕ) → get_or (front ++ rest) (length front) 0 ≡ get_or rest 0 0
+get_or-seam [] rest = refl
+get_or-seam (b ∷ bs) rest = get_or-seam bs rest
+
+-- where a number comes next, so does a digit
+pub digit_next : (text front rest : List ℕ) (n : ℕ) → n < 2 ^ 32 → text ≡ front ++ (decimal n ++ rest) → (length front < length text) × (is_ascii_digit (get_or text (length front) 0) ≡ true)
+digit_next text front rest n h e =
+    let first = decimal_first (decimal n ++ rest) rest n h refl in
+    let long : length text ≡ length (front ++ (decimal n ++ rest)) = ap length e in
+    let at : get_or text (length front) 0 ≡ get_or (decimal n ++ rest) 0 0 = ap (λ t. get_or t (length front) 0) e ∙ get_or-seam front (decimal n ++ rest) in
+    (omega (arith, long, length-append front (decimal n ++ rest), first.0), ap is_ascii_digit at ∙ first.1)

@@ -35,32 +35,18 @@ fn split_at_space(text: &[u8]) -> (&[u8], &[u8])
     (&text[..end], &text[end..])
 }
 
-// The same, in a few steps for a word of three or four letters, as most lines begin with.
-fn split_word(text: &[u8]) -> (&[u8], &[u8])
-    ensures parts { text.now ≡ result.0.now ++ result.1.now }
-    ensures word { IsWord result.0.now }
-    ensures rest { IsBreak result.1.now }
-{
-    match text {
-        [a, b, c, b' ', ..] if *a != b' ' && *b != b' ' && *c != b' ' => text.split_at(3),
-        [a, b, c, d, b' ', ..] if *a != b' ' && *b != b' ' && *c != b' ' && *d != b' ' => {
-            text.split_at(4)
-        }
-        _ => split_at_space(text),
-    }
-}
-
 // The word that a line begins with, and the rest.
 fn first_word(line: &[u8]) -> Option<(Word, &[u8])>
     ensures some { IfSome result (λ p. line.now ≡ word_text p.0 ++ p.1.now) }
     ensures exact { (w : Word) (rest : List ℕ) → IsBreak rest → line.now ≡ word_text w ++ rest
         → MatchOption result ⊥ (λ p. (p.0 ≡ w) × (p.1.now ≡ rest)) }
 {
-    let (first, rest) = split_word(line);
+    let (first, rest) = split_at_space(line);
     Some((word_of(first)?, rest))
 }
 
 // The command on the graph for a word and the rest of its line.
+#[inline(always)]
 fn graph_command(word: Word, rest: &[u8]) -> Option<GraphCmd>
     ensures some { IfSome result (λ c. SpellsRest word rest.now (Graph c)) }
     ensures exact { (c : GraphCmd) → SpellsRest word rest.now (Graph c) → result ≡ Some c }
@@ -126,6 +112,7 @@ fn zone_list(text: &[u8]) -> Option<ZoneSet>
 }
 
 // The command for a word and the rest of its line.
+#[inline(always)]
 fn command(word: Word, rest: &[u8]) -> Option<Cmd>
     ensures some { IfSome result (λ c. SpellsRest word rest.now c) }
     ensures exact { (c : Cmd) → SpellsRest word rest.now c → result ≡ Some c }
@@ -140,6 +127,32 @@ fn command(word: Word, rest: &[u8]) -> Option<Cmd>
     }
 }
 
+// The command that a line stands for, whatever its first word is.
+#[inline(never)]
+fn any_command(line: &[u8]) -> Option<Cmd>
+    ensures some { IfSome result (Spells line.now) }
+    ensures exact { (c : Cmd) → Spells line.now c → result ≡ Some c }
+{
+    let (word, rest) = first_word(line)?;
+    command(word, rest)
+}
+
+// The same, in a few steps for the words that most lines begin with.
+#[inline(always)]
+fn command_of(line: &[u8]) -> Option<Cmd>
+    ensures some { IfSome result (Spells line.now) }
+    ensures exact { (c : Cmd) → Spells line.now c → result ≡ Some c }
+{
+    match line {
+        [b'g', b'e', b't', b' ', ..] => command(Word::Get, &line[3..]),
+        [b's', b'e', b't', b' ', ..] => command(Word::Set, &line[3..]),
+        [b'n', b'e', b'w', b' ', ..] => command(Word::New, &line[3..]),
+        [b'c', b'o', b'p', b'y', rest @ ..] => command(Word::Copy, rest),
+        [b'd', b'r', b'o', b'p', rest @ ..] => command(Word::Drop, rest),
+        _ => any_command(line),
+    }
+}
+
 /// The command that a line stands for.
 pub fn parse(line: &[u8]) -> Result<Cmd, BadLine>
     ensures ok { IfOk result (Spells line.now) }
@@ -147,10 +160,7 @@ pub fn parse(line: &[u8]) -> Result<Cmd, BadLine>
     ensures short { IfOk result (λ _. length line.now ≤ 189) }
     ensures plain { IfOk result (λ _. IsPlain line.now) }
 {
-    let Some((word, rest)) = first_word(line) else {
-        return Err(BadLine);
-    };
-    match command(word, rest) {
+    match command_of(line) {
         Some(cmd) => Ok(cmd),
         None => Err(BadLine),
     }

@@ -5,17 +5,17 @@ ghost use Rattle.std.specs.Fmt.{decimal};
 ghost use Rattle.trace_lang.specs.Words.{IsBreak, number_word};
 ghost use Rattle.trace_lang.specs.Numbers.{front_digits, after_digits, read_on};
 
-// The number that the digits in front are, if it is below the limit, and what follows them. It is 0
-// where there are none.
+// The number that a number goes on to by the digits in front, if it is below the limit, and what follows
+// them.
 #[inline(never)]
-fn digits(text: &[u8], limit: u64) -> Option<(u64, &[u8])>
-    requires some { 0 < limit }
+fn digits(first: u64, text: &[u8], limit: u64) -> Option<(u64, &[u8])>
+    requires below { first < limit }
     requires most { limit ≤ 2 ^ 32 }
-    ensures some { IfSome result (λ p. (p.0 < limit) × (p.0 ≡ read_on 0 (front_digits text.now))
+    ensures some { IfSome result (λ p. (p.0 < limit) × (p.0 ≡ read_on first (front_digits text.now))
         × (p.1.now ≡ after_digits text.now)) }
-    ensures none { IfNone result (limit ≤ read_on 0 (front_digits text.now)) }
+    ensures none { IfNone result (limit ≤ read_on first (front_digits text.now)) }
 {
-    let mut n = 0u64;
+    let mut n = first;
     let mut count = 0usize;
     for digit in text {
         if !digit.is_ascii_digit() {
@@ -30,19 +30,34 @@ fn digits(text: &[u8], limit: u64) -> Option<(u64, &[u8])>
     Some((n, &text[count..]))
 }
 
+// The digit that a byte is.
+#[inline(always)]
+fn digit(byte: u8) -> Option<u64>
+    ensures some { IfSome result (λ d. (d < 10) × (byte ≡ 48 + d)) }
+    ensures none { IfNone result (is_ascii_digit byte ≡ false) }
+{
+    if byte.is_ascii_digit() {
+        Some(u64::from(byte - b'0'))
+    } else {
+        None
+    }
+}
+
 // The digit that a text begins with, and what follows it.
+#[inline(always)]
 fn first_digit(text: &[u8]) -> Option<(u64, &[u8])>
     ensures some { IfSome result (λ p. (p.0 < 10) × (text.now ≡ (48 + p.0) ∷ p.1.now)) }
     ensures none { IfNone result
         (0 < length text.now → is_ascii_digit (slice_index text.now 0) ≡ false) }
 {
     match text {
-        [first, rest @ ..] if first.is_ascii_digit() => Some((u64::from(*first - b'0'), rest)),
+        [first, rest @ ..] => Some((digit(*first)?, rest)),
         _ => None,
     }
 }
 
 // A number and what follows it, if it is below the limit.
+#[inline(always)]
 fn below(n: u64, limit: u64, rest: &[u8]) -> Option<(u64, &[u8])>
     ensures some { IfSome result (λ p. (p.0 < limit) × (p.0 ≡ n) × (p.1.now ≡ rest.now)) }
     ensures none { IfNone result (limit ≤ n) }
@@ -50,28 +65,30 @@ fn below(n: u64, limit: u64, rest: &[u8]) -> Option<(u64, &[u8])>
     if n < limit { Some((n, rest)) } else { None }
 }
 
-// The number below a limit that a text begins with, and what follows it. A number is `0`, or
+// The number below a limit that begins with a digit, and what follows it. A number is `0`, or
 // digits of which the first is not `0`. Where the limit allows no third digit, none is looked for:
 // one that stands there begins no word, so the rest of the line is refused.
 #[inline(always)]
-fn number(text: &[u8], limit: u64) -> Option<(u64, &[u8])>
+fn number(first: u64, rest: &[u8], limit: u64) -> Option<(u64, &[u8])>
+    requires digit { first < 10 }
     requires some { 0 < limit }
     requires most { limit ≤ 2 ^ 32 }
-    ensures some { IfSome result (λ p. (p.0 < limit) × (text.now ≡ decimal p.0 ++ p.1.now)) }
-    ensures exact { (n : ℕ) (rest : List ℕ) → n < limit → IsBreak rest
-        → text.now ≡ decimal n ++ rest → MatchOption result ⊥ (λ p. (p.0 ≡ n) × (p.1.now ≡ rest)) }
+    ensures some { IfSome result
+        (λ p. (p.0 < limit) × ((48 + first) ∷ rest.now ≡ decimal p.0 ++ p.1.now)) }
+    ensures exact { (n : ℕ) (others : List ℕ) → n < limit → IsBreak others
+        → (48 + first) ∷ rest.now ≡ decimal n ++ others
+        → MatchOption result ⊥ (λ p. (p.0 ≡ n) × (p.1.now ≡ others)) }
 {
-    let (first, rest) = first_digit(text)?;
-    if first == 0 {
-        return Some((0, rest));
-    }
     let Some((second, others)) = first_digit(rest) else {
         return below(first, limit, rest);
     };
+    if first == 0 {
+        return Some((0, rest));
+    }
     if limit <= 100 {
         return below(10 * first + second, limit, others);
     }
-    digits(text, limit)
+    digits(first, rest, limit)
 }
 
 /// A number below a limit behind a space, and what follows it.
@@ -85,7 +102,7 @@ pub fn spaced_number(text: &[u8], limit: u64) -> Option<(u64, &[u8])>
         → MatchOption result ⊥ (λ p. (p.0 ≡ n) × (p.1.now ≡ rest)) }
 {
     match text {
-        [b' ', rest @ ..] => number(rest, limit),
+        [b' ', first, rest @ ..] => number(digit(*first)?, rest, limit),
         _ => None,
     }
 }
@@ -102,7 +119,9 @@ pub fn lettered_number(text: &[u8], letter: u8, limit: u64) -> Option<(u64, &[u8
         → MatchOption result ⊥ (λ p. (p.0 ≡ n) × (p.1.now ≡ rest)) }
 {
     match text {
-        [b' ', first, rest @ ..] if *first == letter => number(rest, limit),
+        [b' ', second, first, rest @ ..] if *second == letter => {
+            number(digit(*first)?, rest, limit)
+        }
         _ => None,
     }
 }

@@ -70,6 +70,7 @@ impl Tail {
     }
 
     /// Puts a name in front.
+    #[inline(always)]
     pub fn name(&mut self, name: Name)
         requires { length self.old ≤ 1 }
         ensures text { self.new ≡ name_text name ++ self.old }

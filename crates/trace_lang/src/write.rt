@@ -110,6 +110,7 @@ fn end_with_groups<K: Sink>(
 }
 
 // Writes a line of a word and a number.
+#[inline(always)]
 fn write_numbered<K: Sink>(sink: &mut K, word: &[u8], n: u64) -> Result<(), WriteFault>
     requires { length word.now ≤ 6 }
     ensures ok { OnOk result
@@ -126,6 +127,7 @@ fn write_numbered<K: Sink>(sink: &mut K, word: &[u8], n: u64) -> Result<(), Writ
 }
 
 // Writes a line of a name.
+#[inline(always)]
 fn write_named<K: Sink>(sink: &mut K, name: Name) -> Result<(), WriteFault>
     ensures ok { OnOk result
         (Appends (K.written sink.old) (K.written sink.new) (line_of (name_text name))) }
@@ -159,6 +161,7 @@ fn refusal_line(refusal: Refusal) -> &'static [u8]
 }
 
 // Writes the line of the gray names.
+#[cold]
 fn write_gray<K: Sink>(sink: &mut K, names: &[Name]) -> Result<(), WriteFault>
     ensures ok { OnOk result (Appends (K.written sink.old) (K.written sink.new)
         (line_of (codes "gray" ++ names_text names.now))) }
@@ -184,6 +187,7 @@ pub fn write_name<K: Sink>(sink: &mut K, name: Name) -> Result<(), WriteFault>
 }
 
 /// Writes a reply with its line feed, or fails after a front of it.
+#[inline(always)]
 pub fn write_reply<K: Sink>(sink: &mut K, reply: &Reply) -> Result<(), WriteFault>
     ensures ok { OnOk result
         (Appends (K.written sink.old) (K.written sink.new) (line_of (reply_text reply.now))) }

@@ -11,7 +11,7 @@ returns-then-n-limit-clause-none c =
     let i = c.loop-digit.digit-index in
     let n = c.loop-digit.n in
     let step : read_on n (front_digits (drop i text)) ≡ _ = next_digit text i n c.loop-digit-test.true (sym c.is_ascii_digit.ensures.value ∙ c.if-not-is_ascii_digit.false) in
-    let count : read_on 0 (front_digits text) ≡ read_on n (front_digits (drop i text)) = c.loop-digit.invariant.2 ∙ ap (λ k. read_on n (front_digits (drop k text))) c.loop-digit.invariant.0 in
+    let count : read_on c.args.first (front_digits text) ≡ read_on n (front_digits (drop i text)) = c.loop-digit.invariant.2 ∙ ap (λ k. read_on n (front_digits (drop k text))) c.loop-digit.invariant.0 in
     omega (arith, count, step, read_on-ge (10 * n + (get_or text i 0 - 48)) (front_digits (drop (i + 1) text)), c.if-n-limit.true, c.from.ensures)
 
 pub returns-clause-some : goal.returns-clause-some
