@@ -39,6 +39,7 @@ pub enum AnswerFault {
 }
 
 /// Writes the reply that ends an answer.
+#[inline(always)]
 pub fn write_last<K: Sink>(sink: &mut K, reply: &Reply) -> Result<(), AnswerFault>
     ensures ok { OnOk result (Appends (K.written sink.old) (K.written sink.new) (line_of (reply_text reply.now))) }
     ensures err { OnErr result (AppendsFront (K.written sink.old) (K.written sink.new) (line_of (reply_text reply.now))) }
@@ -91,6 +92,7 @@ fn answer_command<K: Sink, L: Ledger>(
 }
 
 // Writes the gray names, where no zone is marking.
+#[inline(never)]
 fn answer_colours<K: Sink>(
     alloc: Global,
     collector: &Collector,

@@ -142,6 +142,7 @@ fn answer_collection<K: Sink, L: Ledger>(
 }
 
 /// Collects these zones, and writes the reports and the reply.
+#[inline(never)]
 pub fn collect<K: Sink, L: Ledger>(
     alloc: Global,
     collector: &mut Collector,

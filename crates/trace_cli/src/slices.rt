@@ -24,6 +24,7 @@ use std::sync::ledger::Ledger;
 use sweeping::MainSweeper;
 
 /// Begins a collection of these zones, and writes the reply.
+#[inline(never)]
 pub fn gc<K: Sink, L: Ledger>(
     alloc: Global,
     collector: &mut Collector,
@@ -110,6 +111,7 @@ fn answer_units<K: Sink, L: Ledger>(
 }
 
 /// Does at most so many units of the collection that runs, and writes their reports and the reply.
+#[inline(never)]
 pub fn slice<K: Sink, L: Ledger>(
     alloc: Global,
     collector: &mut Collector,
@@ -187,6 +189,7 @@ fn answer_rest<K: Sink, L: Ledger>(
 
 /// Does step after step until the collection that runs is over, and writes their reports and the
 /// reply.
+#[inline(never)]
 pub fn finish<K: Sink, L: Ledger>(
     alloc: Global,
     collector: &mut Collector,
