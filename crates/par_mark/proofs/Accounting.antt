@@ -16,6 +16,7 @@ use Rattle.par_mark.specs.Edges.{held, first_targets, targets, out, degree}
 use Rattle.par_mark.specs.Accounts.{Accounts, HasRoom}
 use Rattle.par_mark.specs.Tries.{IsTaken, own, queued, IsDonated, kept, given, IsTried, beyond, black, fresh, Serves, HasTurned, TakenWasPut, done}
 use Rattle.par_mark.proofs.Balancing.{last_listed}
+use Rattle.par_mark.proofs.Growing.{grown_more, taken_grows, tried_grows}
 use Rattle.par_mark.proofs.Scanning.{weigh-one}
 
 one : ℕ × ℕ → ℕ
@@ -196,6 +197,9 @@ module _ (edge : ℕ × ℕ → ℕ → Option (ℕ × ℕ)) (marking : ℕ × �
     turned tries tries'' won outside tries' won' outside' v v' d d' p same t y = record {
       accounts = λ firsts a. tried firsts tries'' won outside tries' won' outside' v v' d' p same y
           (took firsts tries tries'' outside v d d' p t a);
+      grown = grown_more outside outside outside' v v v' d d' d'
+          (taken_grows edge marking P tries tries'' outside v d d' p t)
+          (tried_grows edge marking P tries'' won outside tries' won' outside' v v' d' p y);
       won_is = won_was y;
       won_most = won_more y;
       outside_most = outside_more y;

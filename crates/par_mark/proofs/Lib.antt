@@ -2,10 +2,12 @@ pub mod Members
 pub mod Balancing
 pub mod Scanning
 pub mod Counting
+pub mod Growing
 pub mod Accounting
 pub mod Running
 pub mod Cells
 pub mod Merging
+pub mod Sharing
 pub mod Reaching
 pub mod Pigeons
 pub mod TestCells

@@ -50,12 +50,28 @@ TakenWasPut d = (h : ℕ × ℕ → ℕ) → weigh h d.taken ≤ weigh h d.put
 abbrev pub done : MarkView → List (ℕ × ℕ) → ℕ
 done v outside = weigh (λ _. 1) v.known + weigh (λ _. 1) outside
 
+-- what turns have won, tried, taken from the queue and found outside stands behind what was there before them; nothing
+-- was given away
+pub record HasGrown (outside : List (ℕ × ℕ)) (v : MarkView) (d : QueueView) (outside' : List (ℕ × ℕ)) (v' : MarkView)
+    (d' : QueueView) : Type 0 where
+  pub won : List (ℕ × ℕ)
+  pub tried : List (ℕ × ℕ)
+  pub taken : List (ℕ × ℕ)
+  pub beyond : List (ℕ × ℕ)
+  pub won_is : v'.won ≡ v.won ++ won
+  pub tried_is : v'.known ≡ v.known ++ tried
+  pub taken_is : d'.taken ≡ d.taken ++ taken
+  pub beyond_is : outside' ≡ outside ++ beyond
+  pub put_is : d'.put ≡ d.put
+  pub won_tried : (h : ℕ × ℕ → ℕ) → weigh h won ≤ weigh h tried
+
 -- a try was taken and made
 pub record HasTurned (edge : ℕ × ℕ → ℕ → Option (ℕ × ℕ)) (marking : ℕ × ℕ → Bool) (P : ℕ × ℕ → Type 0)
     (tries won outside : List (ℕ × ℕ)) (v : MarkView) (d : QueueView) (tries' won' outside' : List (ℕ × ℕ))
     (v' : MarkView) (d' : QueueView) : Type 0 where
   pub accounts : (firsts : List (ℕ × ℕ)) → Accounts edge marking P firsts [] tries outside v d
       → Accounts edge marking P firsts [] tries' outside' v' d'
+  pub grown : HasGrown outside v d outside' v' d'
   pub won_is : won ≡ v.won → won' ≡ v'.won
   pub won_most : length won' ≤ length won + 1
   pub outside_most : length outside' ≤ length outside + 1

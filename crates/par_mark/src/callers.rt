@@ -4,12 +4,13 @@ ghost use Rattle.crossbeam_queue.specs.Passes.{view, IsPassOf};
 ghost use Rattle.mark_words.specs.Seats.{first_of, view_of, IsSeatOf};
 ghost use Rattle.mark_words.specs.Sums.{weigh, whole};
 ghost use Rattle.mark_words.specs.Views.{first_view};
-ghost use Rattle.par_mark.specs.Edges.{Leads};
+ghost use Rattle.par_mark.specs.Edges.{Leads, all_targets};
 ghost use Rattle.par_mark.specs.Marking.{HasMarked, Sought};
 ghost use Rattle.par_mark.specs.Accounts.{HasRoom};
 ghost use Rattle.par_mark.specs.Lists.{AreNew, tries_of};
 ghost use Rattle.par_mark.specs.Markers.{HasRun, HasSettled, IsReady};
 ghost use Rattle.par_mark.specs.Queues.{IsUnused};
+ghost use Rattle.par_mark.specs.Shares.{AreShared};
 ghost use Rattle.par_mark.specs.Tries.{Serves};
 
 use crate::donations::{Ring, Splits};
@@ -80,6 +81,9 @@ fn run_both<R: Threads + Wait + Sync, H: Graph + Sync, L: PlaceList + Sync, G: G
 /// Marks black, by two callers, the cells of marking zones that edges reach from the cells of `from`,
 /// through cells of marking zones that are not black. What is left is told by `HasMarked`: which cells
 /// are black, that each cell of `from` and each cell won was scanned once, and what lies outside.
+/// `AreShared` tells it for each caller and for main, which tries what the callers left: what it began
+/// with, won and found outside, that it scanned each cell that it won, once, and no other, and that what
+/// was given to the queue was taken from it.
 /// The place list of the marks is exactly what may be tried. `NoMemory` comes before any step, and then
 /// the marks are as they were. The gate is called before each try that one of the callers makes.
 pub fn mark<R: Threads + Wait + Sync, H: Graph + Sync, L: PlaceList + Sync, G: Gate + Sync>(
@@ -104,6 +108,8 @@ pub fn mark<R: Threads + Wait + Sync, H: Graph + Sync, L: PlaceList + Sync, G: G
     ensures seat { IsSeatOf marks.now seat.new × ((view_of seat.new).parts ≡ whole) }
     ensures marked { IfOk result (λ m. HasMarked (H.edge heap.now) (H.marking heap.now) (first_of marks.now) from.now
         m.won.items m.outside.items (view_of seat.new)) }
+    ensures shares { IfOk result (λ m. AreShared (H.edge heap.now) (all_targets (H.edge heap.now) from.now) m.won.items
+        m.outside.items (view_of seat.new).known) }
     ensures unchanged { OnErr result (view_of seat.new ≡ view_of seat.old) }
 {
     let tries = first_tries(alloc, heap, from)?;
@@ -142,6 +148,8 @@ fn mark_from<R: Threads + Wait + Sync, H: Graph + Sync, L: PlaceList + Sync, G: 
     ensures seat { IsSeatOf marks.now seat.new × ((view_of seat.new).parts ≡ whole) }
     ensures accounts { HasSettled (H.edge heap.now) (H.marking heap.now) L.places (tries_of front ++ tries_of back)
         result.won.items result.outside.items (view_of seat.new) }
+    ensures shares { AreShared (H.edge heap.now) (tries_of front ++ tries_of back) result.won.items result.outside.items
+        (view_of seat.new).known }
 {
     let one = Marker {
         seat: marks.split(seat),

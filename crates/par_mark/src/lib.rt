@@ -42,10 +42,14 @@
 //
 //     tries made + outside = targets of the cells that marking began from + targets of all cells won
 //
-// So each of these cells was scanned, once, and each of its targets was tried or is in `outside`. What
-// was tried is black; hence black cells lead to black cells or to those outside, and by induction along
-// edges all that is reached is black (proofs/Reaching.antt). That induction is the only place where the
-// proof speaks of what is reached; all that the threads do is sums.
+// So each of these cells was scanned, once, and each of its targets was tried or is in `outside`. The
+// public calls tell this sum (`scanned` of `HasMarked`), and the first equation for each caller and for
+// main by itself (`AreShared`): a caller that scanned what another one won, or scanned a cell twice,
+// would hold targets that its own wins do not account for.
+//
+// What was tried is black; hence black cells lead to black cells or to those outside, and by induction
+// along edges all that is reached is black (proofs/Reaching.antt). That induction is the only place
+// where the proof speaks of what is reached; all that the threads do is sums.
 //
 // What the law rules out: if a try that the full queue refuses were dropped, or if main left the queue
 // undrained, a reached cell could stay white, and be swept. If two callers could both win a cell, its

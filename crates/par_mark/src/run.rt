@@ -7,7 +7,7 @@ ghost use Rattle.par_mark.specs.Accounts.{Accounts, HasRoom};
 ghost use Rattle.par_mark.specs.Donations.{Total};
 ghost use Rattle.par_mark.specs.Lists.{AreAsLarge, outside_of, tries_of, tries_room, won_of};
 ghost use Rattle.par_mark.specs.Markers.{IsOpen, IsReady, HasRun};
-ghost use Rattle.par_mark.specs.Tries.{Serves, TakenWasPut};
+ghost use Rattle.par_mark.specs.Tries.{HasGrown, Serves, TakenWasPut};
 
 use crate::donations::{QueuePass, Ring};
 use crate::graph::Graph;
@@ -77,6 +77,8 @@ pub(crate) fn drain<R: Wait, H: Graph, L: PlaceList>(
         → Accounts (H.edge heap.now) (H.marking heap.now) L.places firsts [] [] (outside_of lists.new)
         (view_of seat.new) (view pass.new) }
     ensures won_is { won_of lists.new ≡ (view_of seat.new).won }
+    ensures grown { HasGrown (outside_of lists.old) (view_of seat.old) (view pass.old) (outside_of lists.new)
+        (view_of seat.new) (view pass.new) }
     ensures empty { Total (view pass.new) [] }
 {
     while turn(rt, heap, marks, ring, &FreeGate, seat, pass, lists) {}

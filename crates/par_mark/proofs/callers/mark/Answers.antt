@@ -1,10 +1,11 @@
-use Rattle.std.proofs.Common.{rules, ◌≡◌, ◌+◌, ℕ, List, ◌++◌, length, All, sym, ap, ◌∙◌, arith}
+use Rattle.std.proofs.Common.{rules, ◌≡◌, ◌+◌, ℕ, List, ◌++◌, length, All, sym, ap, subst, ◌∙◌, arith}
 use Rattle.std.proofs.lemmas.List.Elements.{All-contains_itself, All-weaker, All-same}
 use Rattle.mark_words.specs.Seats.{first_of, view_of}
 use Rattle.mark_words.specs.Sums.{weigh}
 use Rattle.mark_words.proofs.Counts.{weigh-append}
 use Rattle.par_mark.specs.Lists.{tries_of}
 use Rattle.par_mark.specs.Edges.{all_targets}
+use Rattle.par_mark.specs.Shares.{AreShared}
 use Rattle.par_mark.proofs.Cells.{weigh-all_targets}
 use Rattle.par_mark.proofs.Reaching.{serves, tries_sought, marked, front_all, back_all}
 use Rattle.par_mark.proofs.Scanning.{weigh-one}
@@ -85,3 +86,15 @@ returns-clause-marked g c =
     c.mark_from.result.outside.items (view_of c.mark_from.new.seat) c.mark_from.ensures.accounts
     (λ h. ap (weigh h) is ∙ weigh-all_targets edge h from)
     c.mark_from.ensures.seat.0.1
+
+pub returns-clause-shares : goal.returns-clause-shares
+returns-clause-shares g c =
+    let edge = g.H.Graph.edge c.args.heap.now in
+    let from : List (ℕ × ℕ) = c.args.from.now in
+    let front : List (ℕ × ℕ) = tries_of c.in_ok-front.front in
+    let back : List (ℕ × ℕ) = tries_of c.in_ok-back.back in
+    let is : front ++ back ≡ all_targets edge from =
+    (λ i. c.in_ok-front.ensures.tries_are i ++ c.in_ok-back.ensures.tries_are i)
+    ∙ sym c.split_at.ensures.by_index.0 ∙ c.as_slice.ensures.value ∙ c.in_ok-tries.ensures in
+    subst (λ (firsts : List (ℕ × ℕ)). AreShared edge firsts c.mark_from.result.won.items
+    c.mark_from.result.outside.items (view_of c.mark_from.new.seat).known) is c.mark_from.ensures.shares

@@ -5,6 +5,8 @@ use Rattle.mark_words.specs.declared.view.MarkView.{MarkView}
 use Rattle.par_mark.specs.declared.donations.QueueView.{QueueView}
 use Rattle.par_mark.specs.Accounts.{Accounts}
 use Rattle.par_mark.specs.Lists.{outside_of, tries_of}
+use Rattle.par_mark.specs.Tries.{HasGrown}
+use Rattle.par_mark.proofs.Growing.{grown_more, grown_none}
 use Rattle.par_mark.proofs.Running.{still_room, less_left}
 use Rattle.par_mark.proofs.run.drain.Goals as goal
 
@@ -36,6 +38,19 @@ turn-requires-clause-outside_room g c =
     let s : vec_len c.loop.lists.outside < vec_capacity c.loop.lists.outside =
     (let h = r.1 in let o = c.loop.lists.outside.ok.0 in omega arith) in s
 
+pub loop-init : goal.loop-init
+loop-init g c = (
+  c.requires.seat.0,
+  refl,
+  c.requires.pass.0,
+  c.requires.pass.1,
+  record { tries = refl; won = refl; outside = refl },
+  c.requires.accounts.taken_put,
+  c.requires.accounts.won_is,
+  λ firsts a. a,
+  grown_none (outside_of c.args.lists.now) (view_of c.args.seat.now) (view c.args.pass.now),
+)
+
 pub loop-smaller : goal.loop-smaller
 loop-smaller g c =
     let b = c.requires.accounts in
@@ -59,6 +74,7 @@ loop-preserved g c =
       t.whole_taken i.3 i.5,
       t.won_is i.6,
       λ firsts a. t.accounts firsts (i.7 firsts a),
+      grown_more _ _ _ _ _ _ _ _ _ i.8 t.grown,
     )
 
 pub returns-clause-accounts : goal.returns-clause-accounts
@@ -68,3 +84,10 @@ returns-clause-accounts g c = λ firsts a.
     subst (λ (x : List (ℕ × ℕ) × (List (ℕ × ℕ) × (MarkView × QueueView))). Accounts (g.H.Graph.edge c.args.heap.now)
     (g.H.Graph.marking c.args.heap.now) g.L.PlaceList.places firsts [] x.0 x.1.0 x.1.1.0 x.1.1.1)
     (λ k. (n.0 k, (sym n.3 k, (sym n.4 k, sym n.5 k)))) b
+
+pub returns-clause-grown : goal.returns-clause-grown
+returns-clause-grown g c =
+    let n = c.loop-test.ensures.none refl in
+    subst (λ (x : List (ℕ × ℕ) × (MarkView × QueueView)). HasGrown (outside_of c.args.lists.now)
+    (view_of c.args.seat.now) (view c.args.pass.now) x.0 x.1.0 x.1.1)
+    (λ k. (sym n.3 k, (sym n.4 k, sym n.5 k))) c.loop.invariant.8

@@ -1,0 +1,103 @@
+-- The shares of the two callers and of main.
+use Rattle.std.proofs.Common.{◌≡◌, ℕ, ◌+◌, Bool, List, [], ◌++◌, Option, sym, refl, ap, ◌∙◌, arith}
+use Rattle.crossbeam_queue.specs.Passes.{view}
+use Rattle.mark_words.specs.declared.view.MarkView.{MarkView}
+use Rattle.mark_words.specs.Seats.{view_of}
+use Rattle.mark_words.specs.Sums.{weigh, whole}
+use Rattle.mark_words.proofs.Counts.{weigh-append}
+use Rattle.par_mark.specs.declared.donations.QueueView.{QueueView}
+use Rattle.par_mark.specs.declared.marker.Marker.{Marker}
+use Rattle.par_mark.specs.Accounts.{Accounts}
+use Rattle.par_mark.specs.Donations.{Total}
+use Rattle.par_mark.specs.Edges.{out}
+use Rattle.par_mark.specs.Lists.{tries_of, outside_of}
+use Rattle.par_mark.specs.Markers.{HasRun}
+use Rattle.par_mark.specs.Shares.{Share, ScansItsOwn, AreShared}
+use Rattle.par_mark.specs.Tries.{HasGrown}
+
+module _ (edge : ℕ × ℕ → ℕ → Option (ℕ × ℕ)) (marking : ℕ × ℕ → Bool) (P : ℕ × ℕ → Type 0) where
+  -- a caller's share, by what it began with and what it ended with
+  abbrev share_of : Marker → Marker → Share
+  share_of m one = record {
+    firsts = tries_of m.lists;
+    left = tries_of one.lists;
+    given = (view one.pass).put;
+    taken = (view one.pass).taken;
+    tried = (view_of one.seat).known;
+    won = (view_of one.seat).won;
+    outside = outside_of one.lists;
+  }
+
+  scans : (m one : Marker) → HasRun edge marking P m one → ScansItsOwn edge (share_of m one)
+  scans m one r = record {
+    scanned = λ h. let b = r.accounts.balance h in omega arith;
+    won_tried = r.accounts.won_known;
+  }
+
+  -- main's share, by what stood in its lists as it began to try and what was added
+  abbrev main_share : (tries won tried taken beyond : List (ℕ × ℕ)) → Share
+  main_share tries won tried taken beyond = record {
+    firsts = tries;
+    left = [];
+    given = [];
+    taken = taken;
+    tried = tried;
+    won = won;
+    outside = beyond;
+  }
+
+  main_scans : (firsts tries o o' : List (ℕ × ℕ)) (v v' : MarkView) (d d' : QueueView) → (g : HasGrown o v d o' v' d')
+      → Accounts edge marking P firsts [] tries o v d → Accounts edge marking P firsts [] [] o' v' d'
+      → ScansItsOwn edge (main_share tries g.won g.tried g.taken g.beyond)
+  main_scans firsts tries o o' v v' d d' g a b = record {
+    scanned = λ h.
+        let x = a.balance h in
+        let y = b.balance h in
+        let w : weigh (out edge h) v'.won ≡ weigh (out edge h) v.won + weigh (out edge h) g.won =
+        ap (weigh (out edge h)) g.won_is ∙ weigh-append (out edge h) v.won g.won in
+        let k : weigh h v'.known ≡ weigh h v.known + weigh h g.tried = ap (weigh h) g.tried_is
+        ∙ weigh-append h v.known g.tried in
+        let t : weigh h d'.taken ≡ weigh h d.taken + weigh h g.taken = ap (weigh h) g.taken_is
+        ∙ weigh-append h d.taken g.taken in
+        let p : weigh h d'.put ≡ weigh h d.put = ap (weigh h) g.put_is in
+        let e : weigh h o' ≡ weigh h o + weigh h g.beyond = ap (weigh h) g.beyond_is ∙ weigh-append h o g.beyond in
+        omega arith;
+    won_tried = g.won_tried;
+  }
+
+  pub shared : (m n one two : Marker) (tries o o' won : List (ℕ × ℕ)) (v v' : MarkView) (d d' : QueueView)
+      → HasRun edge marking P m one → HasRun edge marking P n two
+      → v.won ≡ (view_of one.seat).won ++ (view_of two.seat).won
+      → v.known ≡ (view_of one.seat).known ++ (view_of two.seat).known
+      → d.put ≡ (view one.pass).put ++ (view two.pass).put
+      → d.taken ≡ (view one.pass).taken ++ (view two.pass).taken
+      → tries ≡ tries_of one.lists ++ tries_of two.lists
+      → o ≡ outside_of one.lists ++ outside_of two.lists
+      → Accounts edge marking P (tries_of m.lists ++ tries_of n.lists) [] tries o v d
+      → Accounts edge marking P (tries_of m.lists ++ tries_of n.lists) [] [] o' v' d'
+      → HasGrown o v d o' v' d' → d'.parts ≡ whole → Total d' [] → v'.won ≡ won
+      → AreShared edge (tries_of m.lists ++ tries_of n.lists) won o' v'.known
+  shared m n one two tries o o' won v v' d d' r s won_is known_is put_is taken_is tries_is outside_is a b g all total is
+      = record {
+        one = share_of m one;
+        two = share_of n two;
+        main = main_share tries g.won g.tried g.taken g.beyond;
+        one_scans = scans m one r;
+        two_scans = scans n two s;
+        main_scans = main_scans (tries_of m.lists ++ tries_of n.lists) tries o o' v v' d d' g a b;
+        cut = refl;
+        left_to_main = tries_is;
+        none_left = refl;
+        none_given = refl;
+        queue = λ h.
+            let t = total all h in
+            let p : weigh h d'.put ≡ weigh h (view one.pass).put + weigh h (view two.pass).put =
+            ap (weigh h) (g.put_is ∙ put_is) ∙ weigh-append h (view one.pass).put (view two.pass).put in
+            let x : weigh h d'.taken ≡ weigh h d.taken + weigh h g.taken = ap (weigh h) g.taken_is
+            ∙ weigh-append h d.taken g.taken in
+            let y : weigh h d.taken ≡ weigh h (view one.pass).taken + weigh h (view two.pass).taken =
+            ap (weigh h) taken_is ∙ weigh-append h (view one.pass).taken (view two.pass).taken in omega arith;
+        won_is = sym is ∙ g.won_is ∙ ap (λ (l : List (ℕ × ℕ)). l ++ g.won) won_is;
+        outside_is = g.beyond_is ∙ ap (λ (l : List (ℕ × ℕ)). l ++ g.beyond) outside_is;
+        tried_is = g.tried_is ∙ ap (λ (l : List (ℕ × ℕ)). l ++ g.tried) known_is;
+      }
