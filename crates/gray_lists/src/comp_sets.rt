@@ -1,5 +1,5 @@
 // Sets of compartments, a bit a compartment.
-ghost use Rattle.std.specs.Prelude.{◌≡◌, ◌≢◌, ◌≤◌, ◌<◌, ◌↔◌, ◌⊎◌, ℕ, IfSome, IfNone};
+ghost use Rattle.std.specs.Prelude.{◌≡◌, ◌≢◌, ◌≤◌, ◌<◌, ◌↔◌, ◌⊎◌, ℕ, IsTrue, IfSome, IfNone};
 ghost use Rattle.gz_names.specs.Zones.{HasZone};
 ghost use Rattle.gray_lists.specs.CompSets.{HasComp};
 
@@ -37,6 +37,13 @@ impl CompSet {
         self.words[at] = without_bit(self.words[at], comp.0 % 64);
     }
 
+    // Whether there is no compartment in the set.
+    pub(crate) fn is_empty(&self) -> bool
+        ensures { IsTrue result → (c : ℕ) → HasComp self.now.words c → ⊥ }
+    {
+        self.words == [0; 4]
+    }
+
     // The lowest compartment from a number on. It looks at four words at most.
     pub(crate) fn first_from(&self, from: u16) -> Option<CompNo>
         ensures some { IfSome result (λ c. (from ≤ c.0) × HasComp self.now.words c.0) }
@@ -44,6 +51,9 @@ impl CompSet {
             (λ c. (n : ℕ) → from ≤ n → n < c.0 → HasComp self.now.words n → ⊥) }
         ensures none { IfNone result ((n : ℕ) → from ≤ n → HasComp self.now.words n → ⊥) }
     {
+        if self.is_empty() {
+            return None;
+        }
         let mut at = from;
         while at < 256 {
             let word = at / 64;
