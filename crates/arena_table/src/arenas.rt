@@ -385,6 +385,8 @@ fn find_place(store: &Store, index: &Index, zone: ZoneNo) -> Option<Place>
 }
 
 // Takes memory for a new arena of a zone, and answers the place of its first cell.
+#[cold]
+#[inline(never)]
 fn make_room(
     store: &mut Store,
     index: &mut Index,

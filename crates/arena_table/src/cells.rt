@@ -25,11 +25,11 @@ pub(crate) struct Cell {
     pub comp: CompNo,
 }
 
-/// What stands in a slot that holds no cell.
+/// What stands in a slot that holds no cell: bytes that are all 0.
 pub(crate) const NO_CELL: Cell = Cell {
     name: Name::Cell(0),
     fields: [Link { position: 0 }; 8],
-    kind: Kind::Map,
+    kind: Kind::Object(0),
     comp: CompNo(0),
 };
 

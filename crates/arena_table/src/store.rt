@@ -75,6 +75,8 @@ impl Store {
     }
 
     /// Makes an arena for which there is room.
+    #[cold]
+    #[inline(never)]
     pub fn push(&mut self, zone: ZoneNo)
         requires room { 0 < self.old.room }
         requires few { length self.old.arenas < ARENA_LIMIT }
