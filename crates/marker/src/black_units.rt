@@ -28,6 +28,7 @@ pub enum Work {
 }
 
 /// Follows one cell of the black pile.
+#[inline(always)]
 pub fn black_unit<F: Flight, L: Ledger>(
     heap: &mut Heap,
     stack: &mut Stack,
