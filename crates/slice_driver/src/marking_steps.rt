@@ -50,6 +50,7 @@ impl Collector {
     }
 
     // Black marking. False where it has nothing left to do.
+    #[inline(always)]
     pub(crate) fn marks_black<F: Flight, L: Ledger>(
         &mut self,
         flight: &mut F,

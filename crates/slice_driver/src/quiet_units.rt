@@ -45,6 +45,7 @@ impl Collector {
     }
 
     // Does a unit that reports nothing. Returns false when there is none to do.
+    #[inline(always)]
     fn quiet_unit<F: Flight, L: Ledger>(&mut self, flight: &mut F, steps: &mut Steps<L>) -> bool
         requires sound { IsSound self.old (F.bits flight.old) }
         requires running { IsSome self.old.run }
