@@ -1,5 +1,6 @@
 -- Slices of a collection: what was written of them, and the world after them.
-use Rattle.std.proofs.Common.{◌≡◌, ◌≤◌, ◌<◌, ℕ, List, [], Option, Some, None, IsSome, arith, refl, ap, subst, sym, ◌∙◌, inl, inr}
+use Rattle.std.proofs.Common.{◌≡◌, ◌≤◌, ◌<◌, ℕ, List, [], Option, Some, None, IsSome, arith, refl, ap, subst, sym, ◌∙◌}
+use Rattle.std.proofs.Common.{inl, inr}
 use Rattle.std.specs.Io.KnownBytes.{Appends}
 use Rattle.gz_io.specs.Causes.{AppendsFront}
 use Rattle.gz_names.specs.declared.commands.Cmd.{Cmd}

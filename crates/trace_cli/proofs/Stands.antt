@@ -1,5 +1,6 @@
 -- How far a replay has come.
-use Rattle.std.proofs.Common.{◌≡◌, ◌≢◌, ℕ, ◌+◌, ◌<◌, ◌≤◌, List, [], ◌∷◌, ◌++◌, length, take, refl, ap, sym, subst, ◌∙◌, arith, Option, Some, None, slice_get, append_assoc, inl, inr, ◌⊎◌}
+use Rattle.std.proofs.Common.{◌≡◌, ◌≢◌, ℕ, ◌+◌, ◌<◌, ◌≤◌, List, [], ◌∷◌, ◌++◌, length, take, refl, ap, sym, subst, ◌∙◌}
+use Rattle.std.proofs.Common.{arith, Option, Some, None, slice_get, append_assoc, inl, inr, ◌⊎◌}
 use Rattle.std.specs.Prelude.{⊤}
 use Rattle.std.specs.List.{flat_map}
 use Rattle.std.specs.Io.KnownBytes.{Appends, prepend_known}
@@ -22,14 +23,16 @@ use Rattle.slice_driver.specs.Advances.{AreOut}
 use Rattle.slice_driver.specs.Collector.{CollectorState}
 use Rattle.slice_driver.specs.Represents.{Represents}
 use Rattle.slice_driver.specs.Units.{IsSound, flown_by, none_flown}
-use Rattle.trace_cli.specs.Standing.{AnswersLine, IsFirst, IsLeft, IsReady, IsWithin, answers, first, ready}
+use Rattle.trace_cli.specs.Standing.{EachWorld, AnswersLine, IsFirst, IsLeft, IsReady, IsWithin, answers, first, ready}
 use Rattle.trace_cli.specs.Standing as facts
 use Rattle.trace_cli.specs.Lines.{lines_of, line_feeds}
 use Rattle.trace_cli.specs.Served.{StandsFor, IsBad}
-use Rattle.trace_cli.specs.Headline.{report_lines, answer_lines, StandForAll, LeadsTo, WritesAnswer, WritesFront, WritesStart, Replays}
+use Rattle.trace_cli.specs.Headline.{report_lines, answer_lines, StandForAll, LeadsTo, WritesAnswer, WritesFront}
+use Rattle.trace_cli.specs.Headline.{WritesStart, Replays}
 use Rattle.trace_cli.specs.declared.exit.Exit.{Exit}
 use Rattle.trace_cli.specs.declared.exit.Exit.TheVariants as exit
-use Rattle.trace_cli.proofs.Lined.{AreFine, line_given, line_feeds-append, line_feeds-plain, too_long_bad, not_ascii_bad}
+use Rattle.trace_cli.proofs.Lined.{AreFine, line_given, line_feeds-append, line_feeds-plain, too_long_bad}
+use Rattle.trace_cli.proofs.Lined.{not_ascii_bad}
 
 -- the lines that were answered, of which bytes they are, and what was written
 pub record Reached (input rest : List ℕ) (old new : Option (List ℕ)) (n : ℕ) (w : World) : Type 0 where
@@ -87,7 +90,7 @@ pub record Answered (line : List ℕ) (old : CollectorState) (jobs : List Job) (
     (left : List Job) (p q : Option (List ℕ)) : Type 0 where
   pub command : Cmd
   pub stands : StandsFor line command
-  pub writes : (w : World) → IsValid w → Represents old (flown_by jobs) w → WritesAnswer w command new left p q
+  pub writes : EachWorld old (flown_by jobs) (λ w. WritesAnswer w command new left p q)
   pub fit : AreOut new.heap.shape (outs_of left)
   pub within : IsWithin new (n + 1)
 
@@ -113,7 +116,8 @@ pub left_standing : {left rest old new : Option (List ℕ)} {n : ℕ} {c : Colle
     → Standing left rest old new n c jobs → IsLeft c jobs
 left_standing (standing s) = facts.left (record { world = s.world; valid = s.valid; represents = s.represents }) s.fit
 
-pub stands_first : (left written : Option (List ℕ)) (held : List ℕ) → held ≡ [] → Stands left (prepend_known held left) written written 0 first_world
+pub stands_first : (left written : Option (List ℕ)) (held : List ℕ) → held ≡ []
+    → Stands left (prepend_known held left) written written 0 first_world
 stands_first None written held e = tt
 stands_first (Some input) written held e = record {
   done = [];
@@ -127,10 +131,12 @@ stands_first (Some input) written held e = record {
   whole = omega arith;
 }
 
-wrote_more : (i xs : List ℕ) (p q r : Option (List ℕ)) (n : ℕ) (w : World) (h : Reached i xs p q n w) → Appends q r [] → Appends p r h.output
+wrote_more : (i xs : List ℕ) (p q r : Option (List ℕ)) (n : ℕ) (w : World) (h : Reached i xs p q n w) → Appends q r []
+    → Appends p r h.output
 wrote_more i xs p q r n w h k = rw append-nil at (Appends-trans p q r h.output [] h.wrote k)
 
-pub stands_kept : (a b p q r : Option (List ℕ)) (n : ℕ) (w : World) → Stands a b p q n w → Appends q r [] → Stands a b p r n w
+pub stands_kept : (a b p q r : Option (List ℕ)) (n : ℕ) (w : World) → Stands a b p q n w → Appends q r []
+    → Stands a b p r n w
 stands_kept None b p q r n w h k = tt
 stands_kept (Some i) None p q r n w h k = absurd h
 stands_kept (Some i) (Some xs) p q r n w h k = record {
@@ -145,26 +151,45 @@ stands_kept (Some i) (Some xs) p q r n w h k = record {
   whole = h.whole;
 }
 
-stand_more : (lines : List (List ℕ)) (cs : List Cmd) (line : List ℕ) (c : Cmd) → StandForAll lines cs → StandsFor line c → StandForAll (lines ++ line ∷ []) (cs ++ c ∷ [])
+stand_more : (lines : List (List ℕ)) (cs : List Cmd) (line : List ℕ) (c : Cmd) → StandForAll lines cs → StandsFor line c
+    → StandForAll (lines ++ line ∷ []) (cs ++ c ∷ [])
 stand_more [] [] line c a h = (h, tt)
 stand_more (l ∷ lines) (d ∷ cs) line c a h = (a.0, stand_more lines cs line c a.1 h)
 stand_more [] (d ∷ cs) line c a h = absurd a
 stand_more (l ∷ lines) [] line c a h = absurd a
 
 -- one answer more
-leads_more : (lines : List (List ℕ)) (output line : List ℕ) (w v : World) (c : Cmd) (a : List Report × Reply) → LeadsTo lines output w → StandsFor line c → Answers w c a.0 a.1 v → LeadsTo (lines ++ line ∷ []) (output ++ answer_lines a) v
+leads_more : (lines : List (List ℕ)) (output line : List ℕ) (w v : World) (c : Cmd) (a : List Report × Reply)
+    → LeadsTo lines output w → StandsFor line c → Answers w c a.0 a.1 v
+    → LeadsTo (lines ++ line ∷ []) (output ++ answer_lines a) v
 leads_more lines output line w v c a h s k = record {
   commands = h.commands ++ c ∷ [];
   answers = h.answers ++ a ∷ [];
   stand = stand_more lines h.commands line c h.stand s;
   run = run_more first_world h.commands h.answers w c a.0 a.1 v h.run k;
-  written = ap (λ (t : List ℕ). t ++ answer_lines a) h.written ∙ sym (flat_map-append answer_lines h.answers (a ∷ []) ∙ ap (λ (t : List ℕ). flat_map answer_lines h.answers ++ t) (append-nil (answer_lines a)));
+  written =
+      ap (λ (t : List ℕ). t ++ answer_lines a) h.written ∙ sym (flat_map-append answer_lines h.answers (a ∷ []) ∙ ap
+      (λ (t : List ℕ). flat_map answer_lines h.answers ++ t) (append-nil (answer_lines a)));
 }
 
 -- the bytes of a line that was given
-line_bytes : (xs ys line : List ℕ) → IsPlain line → EndsLine xs ys line → (text : List ℕ) × (xs ≡ text ++ ys) × (line_feeds text ≤ 1)
-line_bytes xs ys line p (inl e) = (line ++ 10 ∷ [], e ∙ sym (append_assoc line (10 ∷ []) ys), omega (arith, line_feeds-append line (10 ∷ []), line_feeds-plain line p))
-line_bytes xs ys line p (inr e) = (line, e.0 ∙ sym (append-nil line) ∙ ap (λ (t : List ℕ). line ++ t) (sym e.2), omega (arith, line_feeds-plain line p))
+line_bytes : (xs ys line : List ℕ) → IsPlain line → EndsLine xs ys line
+    → (text : List ℕ) × (xs ≡ text ++ ys) × (line_feeds text ≤ 1)
+line_bytes xs ys line p (inl e) = (
+  line ++ 10 ∷ [],
+  e ∙ sym (append_assoc line (10 ∷ []) ys),
+  omega (
+    arith,
+    line_feeds-append line (10 ∷ []),
+    line_feeds-plain line p,
+  ),
+)
+line_bytes xs ys line p (inr e) = (
+  line,
+  e.0 ∙ sym (append-nil line) ∙ ap
+      (λ (t : List ℕ). line ++ t) (sym e.2),
+  omega (arith, line_feeds-plain line p),
+)
 
 reached_more : (i xs ys : List ℕ) (p q r : Option (List ℕ)) (n : ℕ) (line : List ℕ) (w : World) (c : Cmd)
     (k : CollectorState) (jobs : List Job) → Reached i xs p q n w → IsPlain line → EndsLine xs ys line
@@ -175,7 +200,9 @@ reached_more i xs ys p q r n line w c k jobs h plain ends s a =
       done = h.done ++ line ∷ [];
       output = h.output ++ answer_lines (a.reports, a.answer);
       text = h.text ++ b.0;
-      lines = h.lines ∙ ap (λ (u : List (List ℕ)). h.done ++ u) (line_given xs ys line plain ends) ∙ sym (append_assoc h.done (line ∷ []) (lines_of ys));
+      lines =
+          h.lines ∙ ap (λ (u : List (List ℕ)). h.done ++ u) (line_given xs ys line plain ends)
+          ∙ sym (append_assoc h.done (line ∷ []) (lines_of ys));
       count = omega (arith, length-append h.done (line ∷ []), h.count);
       wrote = Appends-trans p q r h.output (answer_lines (a.reports, a.answer)) h.wrote a.written;
       leads = leads_more h.done h.output line w a.after c (a.reports, a.answer) h.leads s a.answers;
@@ -192,7 +219,8 @@ stands_more (Some i) (Some xs) None p q r n m line w d k jobs h t s e = absurd t
 stands_more (Some i) (Some xs)
     (Some ys) p q r n m line w d k jobs h t s e = reached_more i xs ys p q r n line w d k jobs h t.2 t.3 s e
 
-seam : (done : List (List ℕ)) (line : List ℕ) (rest : List (List ℕ)) → slice_get (done ++ (line ∷ rest)) (length done) ≡ Some line
+seam : (done : List (List ℕ)) (line : List ℕ) (rest : List (List ℕ))
+    → slice_get (done ++ (line ∷ rest)) (length done) ≡ Some line
 seam [] line rest = refl
 seam (x ∷ done) line rest = seam done line rest
 
@@ -201,52 +229,118 @@ front [] rest = refl
 front (x ∷ done) rest = ap (λ (u : List (List ℕ)). x ∷ u) (front done rest)
 
 -- the lines that were answered are the first n
-first_n : (i xs : List ℕ) (p q : Option (List ℕ)) (n : ℕ) (w : World) (h : Reached i xs p q n w) → LeadsTo (take n (lines_of i)) h.output w
-first_n i xs p q n w h = subst (λ (u : List (List ℕ)). LeadsTo u h.output w) (sym (subst (λ (k : ℕ). take k (lines_of i) ≡ h.done) h.count (ap (λ (u : List (List ℕ)). take (length h.done) u) h.lines ∙ front h.done (lines_of xs)))) h.leads
+first_n : (i xs : List ℕ) (p q : Option (List ℕ)) (n : ℕ) (w : World) (h : Reached i xs p q n w)
+    → LeadsTo (take n (lines_of i)) h.output w
+first_n i xs p q n w h =
+    subst (λ (u : List (List ℕ)). LeadsTo u h.output w)
+    (sym (subst (λ (k : ℕ). take k (lines_of i) ≡ h.done) h.count (ap
+    (λ (u : List (List ℕ)). take (length h.done) u) h.lines ∙ front h.done (lines_of xs)))) h.leads
 
 -- the next line is the n-th
-next_is : (i xs : List ℕ) (p q : Option (List ℕ)) (n : ℕ) (w : World) (line : List ℕ) (more : List (List ℕ)) (h : Reached i xs p q n w) → lines_of xs ≡ line ∷ more → slice_get (lines_of i) n ≡ Some line
-next_is i xs p q n w line more h e = subst (λ (m : ℕ). slice_get (lines_of i) m ≡ Some line) h.count (ap (λ (u : List (List ℕ)). slice_get u (length h.done)) (h.lines ∙ ap (λ (u : List (List ℕ)). h.done ++ u) e) ∙ seam h.done line more)
+next_is :
+    (i xs : List ℕ) (p q : Option (List ℕ)) (n : ℕ) (w : World) (line : List ℕ) (more : List (List ℕ))
+    (h : Reached i xs p q n w)
+    → lines_of xs ≡ line ∷ more → slice_get (lines_of i) n ≡ Some line
+next_is i xs p q n w line more h e =
+    subst (λ (m : ℕ). slice_get (lines_of i) m ≡ Some line) h.count (ap
+    (λ (u : List (List ℕ)). slice_get u (length h.done)) (h.lines ∙ ap (λ (u : List (List ℕ)). h.done ++ u) e)
+    ∙ seam h.done line more)
 
 no_more : (held ys : List ℕ) → held ++ ys ≡ [] → ys ≡ []
 no_more [] ys e = e
 no_more (b ∷ held) ys e = absurd (cc e)
 
 -- the exits: where nothing more was taken
-pub ends_write : (a l p q r : Option (List ℕ)) (held : List ℕ) (n : ℕ) (w : World) → Stands a (prepend_known held l) p q n w → Appends q r [] → Replays a l p r exit.WriteFault
+pub ends_write : (a l p q r : Option (List ℕ)) (held : List ℕ) (n : ℕ) (w : World)
+    → Stands a (prepend_known held l) p q n w → Appends q r [] → Replays a l p r exit.WriteFault
 ends_write None l p q r held n w h k = tt
 ends_write (Some i) None p q r held n w h k = absurd h
-ends_write (Some i) (Some ys) p q r held n w h k = (h.output, wrote_more i (held ++ ys) p q r n w h k, (n, h.output, [], w, sym (append-nil h.output), first_n i (held ++ ys) p q n w h, inl refl))
+ends_write (Some i) (Some ys) p q r held n w h k = (
+  h.output,
+  wrote_more i (held ++ ys) p q r n w h k,
+  record {
+    answered = n;
+    whole = h.output;
+    part = [];
+    world = w;
+    parts = sym (append-nil h.output);
+    leads = first_n i (held ++ ys) p q n w h;
+    last = inl refl;
+  },
+)
 
 -- where the next line was asked for
-pub write_after : (a b l p q r : Option (List ℕ)) (held line : List ℕ) (res : Next) (n : ℕ) (w : World) → Stands a b p q n w → GivesKnown b (prepend_known held l) res line → Appends q r [] → Replays a l p r exit.WriteFault
+pub write_after : (a b l p q r : Option (List ℕ)) (held line : List ℕ) (res : Next) (n : ℕ) (w : World)
+    → Stands a b p q n w → GivesKnown b (prepend_known held l) res line → Appends q r []
+    → Replays a l p r exit.WriteFault
 write_after None b l p q r held line res n w h t k = tt
 write_after (Some i) None l p q r held line res n w h t k = absurd h
 write_after (Some i) (Some xs) None p q r held line res n w h t k = absurd t
-write_after (Some i) (Some xs) (Some ys) p q r held line res n w h t k = (h.output, wrote_more i xs p q r n w h k, (n, h.output, [], w, sym (append-nil h.output), first_n i xs p q n w h, inl refl))
+write_after (Some i) (Some xs) (Some ys) p q r held line res n w h t k = (
+  h.output,
+  wrote_more i xs p q r n w h k,
+  record {
+    answered = n;
+    whole = h.output;
+    part = [];
+    world = w;
+    parts = sym (append-nil h.output);
+    leads = first_n i xs p q n w h;
+    last = inl refl;
+  },
+)
 
-pub done_after : (a b l p q r : Option (List ℕ)) (held line : List ℕ) (n : ℕ) (w : World) → Stands a b p q n w → GivesKnown b (prepend_known held l) next.End line → n ≤ 4294967295 → Appends q r [] → Replays a l p r exit.Done
+pub done_after : (a b l p q r : Option (List ℕ)) (held line : List ℕ) (n : ℕ) (w : World) → Stands a b p q n w
+    → GivesKnown b (prepend_known held l) next.End line → n ≤ 4294967295 → Appends q r [] → Replays a l p r exit.Done
 done_after None b l p q r held line n w h t most k = tt
 done_after (Some i) None l p q r held line n w h t most k = absurd h
 done_after (Some i) (Some xs) None p q r held line n w h t most k = absurd t
 done_after (Some i) (Some xs) (Some ys) p q r held line n w h t most k =
-    let all : lines_of i ≡ h.done = h.lines ∙ ap (λ (u : List ℕ). h.done ++ lines_of u) t.0 ∙ append-nil h.done in
-    (h.output, wrote_more i xs p q r n w h k, ((w, subst (λ (u : List (List ℕ)). LeadsTo u h.output w) (sym all) h.leads), no_more held ys t.1, omega (arith, (let e : length (lines_of i) ≡ length h.done = ap length all in e), h.count, most)))
+    let all : lines_of i ≡ h.done = h.lines ∙ ap (λ (u : List ℕ). h.done ++ lines_of u) t.0 ∙ append-nil h.done in (
+      h.output,
+      wrote_more i xs p q r n w h k,
+      record {
+        lawful = (w, subst (λ (u : List (List ℕ)). LeadsTo u h.output w) (sym all) h.leads);
+        read = no_more held ys t.1;
+        few = omega (arith, (let e : length (lines_of i) ≡ length h.done = ap length all in e), h.count, most);
+      },
+    )
 
-pub read_after : (a b l p q r : Option (List ℕ)) (held line : List ℕ) (n : ℕ) (w : World) → Stands a b p q n w → GivesKnown b (prepend_known held l) next.ReadFault line → IsPlain held → Appends q r [] → Replays a l p r exit.ReadFault
+pub read_after : (a b l p q r : Option (List ℕ)) (held line : List ℕ) (n : ℕ) (w : World) → Stands a b p q n w
+    → GivesKnown b (prepend_known held l) next.ReadFault line → IsPlain held → Appends q r []
+    → Replays a l p r exit.ReadFault
 read_after None b l p q r held line n w h t plain k = tt
 read_after (Some i) None l p q r held line n w h t plain k = absurd h
 read_after (Some i) (Some xs) None p q r held line n w h t plain k = absurd t
 read_after (Some i) (Some xs) (Some ys) p q r held line n w h t plain k = (
   h.output,
   wrote_more i xs p q r n w h k,
-  (n, h.text ++ held, h.bytes ∙ ap (λ (u : List ℕ). h.text ++ u) (sym t) ∙ sym (append_assoc h.text held ys), omega (arith, line_feeds-append h.text held, line_feeds-plain held plain, h.whole), (w, first_n i xs p q n w h)),
+  record {
+    answered = n;
+    taken = h.text ++ held;
+    bytes = h.bytes ∙ ap (λ (u : List ℕ). h.text ++ u) (sym t) ∙ sym (append_assoc h.text held ys);
+    whole = omega (arith, line_feeds-append h.text held, line_feeds-plain held plain, h.whole);
+    lawful = (w, first_n i xs p q n w h);
+  },
 )
 
-pub ends_memory : (a l p q r : Option (List ℕ)) (held : List ℕ) (n : ℕ) (w : World) → Stands a (prepend_known held l) p q n w → Appends q r [] → Replays a l p r exit.NoMemory
+pub ends_memory : (a l p q r : Option (List ℕ)) (held : List ℕ) (n : ℕ) (w : World)
+    → Stands a (prepend_known held l) p q n w → Appends q r [] → Replays a l p r exit.NoMemory
 ends_memory None l p q r held n w h k = tt
 ends_memory (Some i) None p q r held n w h k = absurd h
-ends_memory (Some i) (Some ys) p q r held n w h k = (h.output, wrote_more i (held ++ ys) p q r n w h k, (n, h.output, [], w, sym (append-nil h.output), first_n i (held ++ ys) p q n w h, inl refl))
+ends_memory (Some i) (Some ys) p q r held n w h k = (
+  h.output,
+  wrote_more i (held ++ ys) p q r n w h k,
+  record {
+    answered = n;
+    whole = h.output;
+    part = [];
+    world = w;
+    parts = sym (append-nil h.output);
+    leads = first_n i (held ++ ys) p q n w h;
+    last = inl refl;
+  },
+)
 
 gives_line : AreFine → (xs ys line : List ℕ) (res : Next) → Gives xs ys res line → res ≢ next.End
     → res ≢ next.ReadFault → (l : List ℕ) × (more : List (List ℕ)) × (lines_of xs ≡ l ∷ more)
@@ -256,8 +350,13 @@ gives_line fine xs ys line next.TooLong g e f = let b = too_long_bad fine xs g.1
 gives_line fine xs ys line next.NotAscii g e f = let b = not_ascii_bad fine xs g.1 in (b.0, b.1, b.2)
 gives_line fine xs ys line next.ReadFault g e f = absurd (f refl)
 
-many : (i xs : List ℕ) (p q : Option (List ℕ)) (n : ℕ) (w : World) (l : List ℕ) (more : List (List ℕ)) (h : Reached i xs p q n w) → n ≡ 4294967295 → lines_of xs ≡ l ∷ more → 4294967295 < length (lines_of i)
-many i xs p q n w l more h e m = let s : length (lines_of i) ≡ length (h.done ++ (l ∷ more)) = ap length (h.lines ∙ ap (λ (u : List (List ℕ)). h.done ++ u) m) in omega (arith, s, length-append h.done (l ∷ more), h.count, e)
+many :
+    (i xs : List ℕ) (p q : Option (List ℕ)) (n : ℕ) (w : World) (l : List ℕ) (more : List (List ℕ))
+    (h : Reached i xs p q n w)
+    → n ≡ 4294967295 → lines_of xs ≡ l ∷ more → 4294967295 < length (lines_of i)
+many i xs p q n w l more h e m =
+    let s : length (lines_of i) ≡ length (h.done ++ (l ∷ more)) = ap length (h.lines ∙ ap
+    (λ (u : List (List ℕ)). h.done ++ u) m) in omega (arith, s, length-append h.done (l ∷ more), h.count, e)
 
 pub many_after : AreFine → (a b l p q r : Option (List ℕ)) (held line : List ℕ) (res : Next) (n : ℕ) (w : World)
     → Stands a b p q n w → GivesKnown b (prepend_known held l) res line → res ≢ next.End → res ≢ next.ReadFault
@@ -266,8 +365,14 @@ many_after fine None b l p q r held line res n w h t x y e k = tt
 many_after fine (Some i) None l p q r held line res n w h t x y e k = absurd h
 many_after fine (Some i) (Some xs) None p q r held line res n w h t x y e k = absurd t
 many_after fine (Some i) (Some xs) (Some ys) p q r held line res n w h t x y e k =
-    let g = gives_line fine xs (held ++ ys) line res t x y in
-    (h.output, wrote_more i xs p q r n w h k, (many i xs p q n w g.0 g.1 h e g.2, (w, subst (λ (m : ℕ). LeadsTo (take m (lines_of i)) h.output w) e (first_n i xs p q n w h))))
+    let g = gives_line fine xs (held ++ ys) line res t x y in (
+      h.output,
+      wrote_more i xs p q r n w h k,
+      record {
+        many = many i xs p q n w g.0 g.1 h e g.2;
+        lawful = (w, subst (λ (m : ℕ). LeadsTo (take m (lines_of i)) h.output w) e (first_n i xs p q n w h));
+      },
+    )
 
 pub too_long_after : AreFine → (a b l p q r : Option (List ℕ)) (held line : List ℕ) (n : ℕ) (w : World)
     → n < 4294967295 → Stands a b p q n w → GivesKnown b (prepend_known held l) next.TooLong line → Appends q r []
@@ -276,8 +381,19 @@ too_long_after fine None b l p q r held line n w few h t k = tt
 too_long_after fine (Some i) None l p q r held line n w few h t k = absurd h
 too_long_after fine (Some i) (Some xs) None p q r held line n w few h t k = absurd t
 too_long_after fine (Some i) (Some xs) (Some ys) p q r held line n w few h t k =
-    let g = too_long_bad fine xs t.1 in
-    (h.output, wrote_more i xs p q r n w h k, (n, g.0, refl, few, next_is i xs p q n w g.0 g.1 h g.2, g.3, (w, first_n i xs p q n w h)))
+    let g = too_long_bad fine xs t.1 in (
+      h.output,
+      wrote_more i xs p q r n w h k,
+      record {
+        answered = n;
+        line = g.0;
+        number = refl;
+        few = few;
+        next = next_is i xs p q n w g.0 g.1 h g.2;
+        bad = g.3;
+        lawful = (w, first_n i xs p q n w h);
+      },
+    )
 
 pub not_ascii_after : AreFine → (a b l p q r : Option (List ℕ)) (held line : List ℕ) (n : ℕ) (w : World)
     → n < 4294967295 → Stands a b p q n w → GivesKnown b (prepend_known held l) next.NotAscii line → Appends q r []
@@ -286,31 +402,57 @@ not_ascii_after fine None b l p q r held line n w few h t k = tt
 not_ascii_after fine (Some i) None l p q r held line n w few h t k = absurd h
 not_ascii_after fine (Some i) (Some xs) None p q r held line n w few h t k = absurd t
 not_ascii_after fine (Some i) (Some xs) (Some ys) p q r held line n w few h t k =
-    let g = not_ascii_bad fine xs t.1 in
-    (h.output, wrote_more i xs p q r n w h k, (n, g.0, refl, few, next_is i xs p q n w g.0 g.1 h g.2, g.3, (w, first_n i xs p q n w h)))
+    let g = not_ascii_bad fine xs t.1 in (
+      h.output,
+      wrote_more i xs p q r n w h k,
+      record {
+        answered = n;
+        line = g.0;
+        number = refl;
+        few = few;
+        next = next_is i xs p q n w g.0 g.1 h g.2;
+        bad = g.3;
+        lawful = (w, first_n i xs p q n w h);
+      },
+    )
 
-pub bad_after : (a b l p q r : Option (List ℕ)) (held line : List ℕ) (n m : ℕ) (w : World) → n < 4294967295 → Stands a b p q n w → GivesKnown b (prepend_known held l) (next.Line m) line → IsBad line → Appends q r [] → Replays a l p r (exit.BadLine (n + 1))
+pub bad_after : (a b l p q r : Option (List ℕ)) (held line : List ℕ) (n m : ℕ) (w : World) → n < 4294967295
+    → Stands a b p q n w → GivesKnown b (prepend_known held l) (next.Line m) line → IsBad line → Appends q r []
+    → Replays a l p r (exit.BadLine (n + 1))
 bad_after None b l p q r held line n m w few h t bad k = tt
 bad_after (Some i) None l p q r held line n m w few h t bad k = absurd h
 bad_after (Some i) (Some xs) None p q r held line n m w few h t bad k = absurd t
-bad_after (Some i) (Some xs) (Some ys) p q r held line n m w few h t bad k =
-    (h.output, wrote_more i xs p q r n w h k, (n, line, refl, few, next_is i xs p q n w line (lines_of (held ++ ys)) h (line_given xs (held ++ ys) line t.2 t.3), bad, (w, first_n i xs p q n w h)))
+bad_after (Some i) (Some xs) (Some ys) p q r held line n m w few h t bad k = (
+  h.output,
+  wrote_more i xs p q r n w h k,
+  record {
+    answered = n;
+    line = line;
+    number = refl;
+    few = few;
+    next = next_is i xs p q n w line (lines_of (held ++ ys)) h (line_given xs (held ++ ys) line t.2 t.3);
+    bad = bad;
+    lawful = (w, first_n i xs p q n w h);
+  },
+)
 
-pub part_after : (a b l p q r : Option (List ℕ)) (held line : List ℕ) (n m : ℕ) (w : World) (c : Cmd) → Stands a b p q n w → GivesKnown b (prepend_known held l) (next.Line m) line → StandsFor line c → WritesFront w c q r → Replays a l p r exit.WriteFault
+pub part_after : (a b l p q r : Option (List ℕ)) (held line : List ℕ) (n m : ℕ) (w : World) (c : Cmd)
+    → Stands a b p q n w → GivesKnown b (prepend_known held l) (next.Line m) line → StandsFor line c
+    → WritesFront w c q r → Replays a l p r exit.WriteFault
 part_after None b l p q r held line n m w c h t s k = tt
 part_after (Some i) None l p q r held line n m w c h t s k = absurd h
 part_after (Some i) (Some xs) None p q r held line n m w c h t s k = absurd t
 part_after (Some i) (Some xs) (Some ys) p q r held line n m w c h t s k = (
   h.output ++ k.written.0,
   Appends-trans p q r h.output k.written.0 h.wrote k.written.3,
-  (
-    n,
-    h.output,
-    k.written.0,
-    w,
-    refl,
-    first_n i xs p q n w h,
-    inr (record {
+  record {
+    answered = n;
+    whole = h.output;
+    part = k.written.0;
+    world = w;
+    parts = refl;
+    leads = first_n i xs p q n w h;
+    last = inr (record {
       line = line;
       command = c;
       text = k.text;
@@ -319,25 +461,27 @@ part_after (Some i) (Some xs) (Some ys) p q r held line n m w c h t s k = (
       stands = s;
       answers = k.answers;
       front = k.written.2;
-    }),
-  ),
+    });
+  },
 )
 
-pub stop_after : (a b l p q r : Option (List ℕ)) (held line : List ℕ) (n m : ℕ) (w : World) (c : Cmd) → Stands a b p q n w → GivesKnown b (prepend_known held l) (next.Line m) line → StandsFor line c → WritesStart w c q r → Replays a l p r exit.NoMemory
+pub stop_after : (a b l p q r : Option (List ℕ)) (held line : List ℕ) (n m : ℕ) (w : World) (c : Cmd)
+    → Stands a b p q n w → GivesKnown b (prepend_known held l) (next.Line m) line → StandsFor line c
+    → WritesStart w c q r → Replays a l p r exit.NoMemory
 stop_after None b l p q r held line n m w c h t s k = tt
 stop_after (Some i) None l p q r held line n m w c h t s k = absurd h
 stop_after (Some i) (Some xs) None p q r held line n m w c h t s k = absurd t
 stop_after (Some i) (Some xs) (Some ys) p q r held line n m w c h t s k = (
   h.output ++ report_lines k.reports,
   Appends-trans p q r h.output (report_lines k.reports) h.wrote k.written,
-  (
-    n,
-    h.output,
-    report_lines k.reports,
-    w,
-    refl,
-    first_n i xs p q n w h,
-    inr (record {
+  record {
+    answered = n;
+    whole = h.output;
+    part = report_lines k.reports;
+    world = w;
+    parts = refl;
+    leads = first_n i xs p q n w h;
+    last = inr (record {
       line = line;
       command = c;
       accepted = k.accepted;
@@ -346,12 +490,13 @@ stop_after (Some i) (Some xs) (Some ys) p q r held line n m w c h t s k = (
       stands = s;
       starts = k.starts;
       part_is = refl;
-    }),
-  ),
+    });
+  },
 )
 
 -- the start of an answer stays so where nothing more is written
-pub start_kept : (w : World) (c : Cmd) (p q r : Option (List ℕ)) → WritesStart w c p q → Appends q r [] → WritesStart w c p r
+pub start_kept : (w : World) (c : Cmd) (p q r : Option (List ℕ)) → WritesStart w c p q → Appends q r []
+    → WritesStart w c p r
 start_kept w c p q r h k = record {
   accepted = h.accepted;
   reports = h.reports;
@@ -361,11 +506,15 @@ start_kept w c p q r h k = record {
 
 -- and it is a front of an answer
 pub start_front : (w : World) (c : Cmd) (p q : Option (List ℕ)) → WritesStart w c p q → WritesFront w c p q
-start_front w c p q h = record { text = report_lines h.reports; answers = inr (h.reports, h.starts, refl); written = (report_lines h.reports, [], sym (append-nil (report_lines h.reports)), h.written) }
+start_front w c p q h = record {
+  text = report_lines h.reports;
+  answers = inr (h.reports, h.starts, refl);
+  written = (report_lines h.reports, [], sym (append-nil (report_lines h.reports)), h.written);
+}
 
 pub usage_ends : (left written : Option (List ℕ)) → Replays left left written written exit.Usage
 usage_ends None written = tt
-usage_ends (Some input) written = ([], Appends-nil written, (refl, refl))
+usage_ends (Some input) written = ([], Appends-nil written, record { none = refl; kept = refl })
 
 -- an exit, or that of a fault of the sink
 pub either : (P : Exit → Type 0) (r e : Exit) → (r ≡ e) ⊎ (r ≡ exit.WriteFault) → P e → P exit.WriteFault → P r
@@ -373,6 +522,8 @@ either P r e (inl h) x y = subst P (sym h) x
 either P r e (inr h) x y = subst P (sym h) y
 
 -- the same at a line that is none of the language
-pub either_refusal : (P : Exit → Type 0) (r e : Exit) (n : ℕ) → (r ≡ e) ⊎ (r ≡ exit.WriteFault) → ((n ≡ 4294967295) × (e ≡ exit.TooManyLines)) ⊎ ((n < 4294967295) × (e ≡ exit.BadLine (n + 1))) → (n ≡ 4294967295 → P exit.TooManyLines) → (n < 4294967295 → P (exit.BadLine (n + 1))) → P exit.WriteFault → P r
+pub either_refusal : (P : Exit → Type 0) (r e : Exit) (n : ℕ) → (r ≡ e) ⊎ (r ≡ exit.WriteFault)
+    → ((n ≡ 4294967295) × (e ≡ exit.TooManyLines)) ⊎ ((n < 4294967295) × (e ≡ exit.BadLine (n + 1)))
+    → (n ≡ 4294967295 → P exit.TooManyLines) → (n < 4294967295 → P (exit.BadLine (n + 1))) → P exit.WriteFault → P r
 either_refusal P r e n h (inl k) m b w = either P r e h (subst P (sym k.1) (m k.0)) w
 either_refusal P r e n h (inr k) m b w = either P r e h (subst P (sym k.1) (b k.0)) w

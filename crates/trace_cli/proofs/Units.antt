@@ -1,5 +1,6 @@
 -- Units one after another, with what is written of them.
-use Rattle.std.proofs.Common.{◌≡◌, ◌↔◌, ◌+◌, arith, length, ℕ, Bool, true, false, not, if◌then◌else◌, List, [], ◌∷◌, ◌++◌, Option, Some, None, IsSome, refl, ap, sym, ◌∙◌, subst}
+use Rattle.std.proofs.Common.{◌≡◌, ◌↔◌, ◌+◌, arith, length, ℕ, Bool, true, false, not, if◌then◌else◌, List, [], ◌∷◌}
+use Rattle.std.proofs.Common.{◌++◌, Option, Some, None, IsSome, refl, ap, sym, ◌∙◌, subst}
 use Rattle.std.specs.Prelude.{IsTrue}
 use Rattle.std.specs.Io.KnownBytes.{Appends}
 use Rattle.std.proofs.KnownBytes.{Appends-trans, Appends-nil}
@@ -19,16 +20,21 @@ use Rattle.slice_driver.specs.Represents.{Represents}
 use Rattle.slice_driver.specs.Units.{reports_of}
 use Rattle.slice_driver.specs.declared.advance.Step.{Step}
 use Rattle.trace_cli.specs.Headline.{report_lines}
-use Rattle.trace_cli.specs.Writing.{reports_in, BreaksInReply, BreaksInUnits, StopsInUnits, WritesCollection, WritesUnits}
+use Rattle.trace_cli.specs.Writing.{reports_in, BreaksInReply, BreaksInUnits, StopsInUnits, WritesCollection}
+use Rattle.trace_cli.specs.Writing.{WritesUnits}
 use Rattle.trace_cli.proofs.Flights.{idle_world}
 use Rattle.trace_cli.proofs.Written.{report_lines-append, both_written, then_front_written}
 
-units_append : (w u v : World) (xs ys : List (List Report)) → AreLawfulUnits w xs u → AreLawfulUnits u ys v → AreLawfulUnits w (xs ++ ys) v
+units_append : (w u v : World) (xs ys : List (List Report)) → AreLawfulUnits w xs u → AreLawfulUnits u ys v
+    → AreLawfulUnits w (xs ++ ys) v
 units_append w u v [] ys e h = subst (λ (t : World). AreLawfulUnits t ys v) e h
 units_append w u v (x ∷ xs) ys k h = (k.0, k.1, units_append k.0 u v xs ys k.2 h)
 
-lines_append : (xs ys : List (List Report)) → report_lines (reports_in (xs ++ ys)) ≡ report_lines (reports_in xs) ++ report_lines (reports_in ys)
-lines_append xs ys = ap report_lines (flat_map-append (λ (u : List Report). u) xs ys) ∙ report_lines-append (reports_in xs) (reports_in ys)
+lines_append : (xs ys : List (List Report))
+    → report_lines (reports_in (xs ++ ys)) ≡ report_lines (reports_in xs) ++ report_lines (reports_in ys)
+lines_append xs ys =
+    ap report_lines (flat_map-append (λ (u : List Report). u) xs ys)
+    ∙ report_lines-append (reports_in xs) (reports_in ys)
 
 -- the units of a step, with what is written of them
 module _ (limit : ℕ) (c d : CollectorState) (f g : ℕ → Option Bits) (outs : List (ℕ × ℕ)) (before place : Option Report)
@@ -98,7 +104,9 @@ more_units w c d f g n m p q r h k = record {
   done = units_append w h.after k.after h.units k.units h.done k.done;
   valid = k.valid;
   represents = k.represents;
-  written = both_written p q r (report_lines (reports_in h.units)) (report_lines (reports_in k.units)) _ (lines_append h.units k.units) h.written k.written;
+  written =
+      both_written p q r (report_lines (reports_in h.units)) (report_lines (reports_in k.units)) _
+      (lines_append h.units k.units) h.written k.written;
 }
 
 pub more_breaks : (w : World) (c : CollectorState) (f : ℕ → Option Bits) (n m : ℕ) (p q r : Option (List ℕ)) →
@@ -108,7 +116,9 @@ more_breaks w c f n m p q r h k = record {
   most = omega (arith, length-append h.units k.units, h.number, k.most);
   after = k.after;
   done = units_append w h.after k.after h.units k.units h.done k.done;
-  written = then_front_written p q r (report_lines (reports_in h.units)) (report_lines (reports_in k.units)) _ (lines_append h.units k.units) h.written k.written;
+  written =
+      then_front_written p q r (report_lines (reports_in h.units)) (report_lines (reports_in k.units)) _
+      (lines_append h.units k.units) h.written k.written;
 }
 
 pub stops_after : (w : World) (c : CollectorState) (f : ℕ → Option Bits) (n : ℕ) (p q r : Option (List ℕ)) →
@@ -136,7 +146,8 @@ collection_ends w c f n p q r idle h k = record {
   done = h.done;
   over = idle_world c f h.after h.represents idle;
   represents = h.represents;
-  written = both_written p q r (report_lines (reports_in h.units)) (line_of (reply_text reply.Collected)) _ refl h.written k;
+  written =
+      both_written p q r (report_lines (reports_in h.units)) (line_of (reply_text reply.Collected)) _ refl h.written k;
 }
 
 -- the same where a front of the reply was written
@@ -148,7 +159,9 @@ collection_fronts w c f n p q r idle h k = record {
   after = h.after;
   done = h.done;
   over = idle_world c f h.after h.represents idle;
-  written = then_front_written p q r (report_lines (reports_in h.units)) (line_of (reply_text reply.Collected)) _ refl h.written k;
+  written =
+      then_front_written p q r (report_lines (reports_in h.units)) (line_of (reply_text reply.Collected)) _ refl
+      h.written k;
 }
 
 -- the same in each world that the collector stood for

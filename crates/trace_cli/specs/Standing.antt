@@ -1,6 +1,7 @@
 -- What the reading loop knows of its collector, as single facts.
 use Rattle.std.specs.Prelude.{◌≡◌, ◌<◌, ◌≤◌, ◌+◌, ℕ, List, Option, length}
 use Rattle.gz_names.specs.declared.commands.Cmd.{Cmd}
+use Rattle.cell_bits.specs.declared.bits.Bits.{Bits}
 use Rattle.cell_bits.specs.declared.jobs.Job.{Job}
 use Rattle.colour_defs.specs.Laws.{IsValid}
 use Rattle.colour_defs.specs.World.{World, first_world}
@@ -11,6 +12,10 @@ use Rattle.slice_driver.specs.Represents.{Represents}
 use Rattle.slice_driver.specs.Units.{IsSound, flown_by, none_flown}
 use Rattle.trace_cli.specs.Headline.{WritesAnswer}
 use Rattle.trace_cli.specs.Served.{StandsFor}
+
+-- this holds of each valid world that the collector stands for, with these bits in flight
+abbrev pub EachWorld : CollectorState → (ℕ → Option Bits) → (World → Type 0) → Type 0
+EachWorld c flown P = (w : World) → IsValid w → Represents c flown w → P w
 
 -- so many cells and weak entries were made at most
 pub record IsWithin (c : CollectorState) (n : ℕ) : Type 0 where
@@ -23,7 +28,8 @@ pub data IsFirst (c : CollectorState) : Type 0 where
 
 -- a collector that stands for some world, with the arenas of these jobs in flight, after so many lines
 pub data IsReady (c : CollectorState) (jobs : List Job) (n : ℕ) : Type 0 where
-  ready : IsSound c (flown_by jobs) → AreOut c.heap.shape (outs_of jobs) → IsWithin c n → n < 4294967295 → IsReady c jobs n
+  ready : IsSound c (flown_by jobs) → AreOut c.heap.shape (outs_of jobs) → IsWithin c n → n < 4294967295
+      → IsReady c jobs n
 
 -- a collector that stands for some world, with the arenas of these jobs in flight
 pub data IsLeft (c : CollectorState) (jobs : List Job) : Type 0 where
@@ -33,5 +39,5 @@ pub data IsLeft (c : CollectorState) (jobs : List Job) : Type 0 where
 pub data AnswersLine (line : List ℕ) (old : CollectorState) (jobs : List Job) (n : ℕ) (new : CollectorState)
     (left : List Job) (p q : Option (List ℕ)) : Type 0 where
   answers : (c : Cmd) → StandsFor line c →
-      ((w : World) → IsValid w → Represents old (flown_by jobs) w → WritesAnswer w c new left p q)
+      EachWorld old (flown_by jobs) (λ w. WritesAnswer w c new left p q)
       → AreOut new.heap.shape (outs_of left) → IsWithin new (n + 1) → AnswersLine line old jobs n new left p q

@@ -5,16 +5,14 @@ ghost use Rattle.gz_io.specs.Causes.{AppendsFront, Rose};
 ghost use Rattle.gz_names.specs.declared.commands.Cmd.{Cmd as TheCmd};
 ghost use Rattle.gz_names.specs.declared.commands.Cmd.TheVariants as ACmd;
 ghost use Rattle.trace_lang.specs.Texts.{reply_text, line_of};
-ghost use Rattle.colour_defs.specs.World.{World};
-ghost use Rattle.colour_defs.specs.Laws.{IsValid};
 ghost use Rattle.colour_defs.specs.Step.{HasFewFields};
 ghost use Rattle.heap_core.specs.Effects.{takes_memory};
 ghost use Rattle.sweeping.specs.ArenasOut.{outs_of};
 ghost use Rattle.slice_driver.specs.Advances.{AreOut};
-ghost use Rattle.slice_driver.specs.Represents.{Represents};
 ghost use Rattle.slice_driver.specs.Units.{IsSound, flown_by};
 ghost use Rattle.trace_cli.specs.Served.{FitsLanguage, IsBad, StandsFor};
 ghost use Rattle.trace_cli.specs.Headline.{WritesAnswer, WritesFront, WritesStart};
+ghost use Rattle.trace_cli.specs.Standing.{EachWorld};
 
 use crate::collect::collect;
 use crate::slices::{finish, gc, slice};
@@ -42,7 +40,8 @@ pub enum AnswerFault {
 #[inline(always)]
 pub fn write_last<K: Sink>(sink: &mut K, reply: &Reply) -> Result<(), AnswerFault>
     ensures ok { OnOk result (Appends (K.written sink.old) (K.written sink.new) (line_of (reply_text reply.now))) }
-    ensures err { OnErr result (AppendsFront (K.written sink.old) (K.written sink.new) (line_of (reply_text reply.now))) }
+    ensures err { OnErr result (AppendsFront (K.written sink.old) (K.written sink.new)
+        (line_of (reply_text reply.now))) }
     ensures fault { OnErr result (result ≡ Err AnswerFault.Write) }
     ensures later { K.faults sink.old ≤ K.faults sink.new }
     ensures same { OnOk result (K.faults sink.new ≡ K.faults sink.old) }
@@ -67,18 +66,19 @@ fn answer_command<K: Sink, L: Ledger>(
     requires made { collector.old.heap.made < 4294967295 }
     requires entries { length collector.old.heap.shape.weak.entries < 4294967295 }
     requires fields { HasFewFields command.now }
-    ensures ok { OnOk result ((w : World) → IsValid w → Represents collector.old (flown_by handed.old) w
-        → WritesAnswer w (ACmd.Graph command.now) collector.new handed.new (K.written sink.old) (K.written sink.new)) }
+    ensures ok { OnOk result (EachWorld collector.old (flown_by handed.old)
+        (λ w. WritesAnswer w (ACmd.Graph command.now) collector.new handed.new (K.written sink.old)
+        (K.written sink.new))) }
     ensures sound { IsSound collector.new (flown_by handed.new) }
     ensures jobs { AreOut collector.new.heap.shape (outs_of handed.new) }
     ensures made { collector.new.heap.made ≤ collector.old.heap.made + 1 }
     ensures entries { length collector.new.heap.shape.weak.entries
         ≤ length collector.old.heap.shape.weak.entries + 1 }
     ensures sure { takes_memory command.now ≡ false → result ≢ Err AnswerFault.Memory }
-    ensures memory { result ≡ Err AnswerFault.Memory → (w : World) → IsValid w → Represents collector.old (flown_by handed.old) w
-        → WritesStart w (ACmd.Graph command.now) (K.written sink.old) (K.written sink.new) }
-    ensures write { result ≡ Err AnswerFault.Write → (w : World) → IsValid w → Represents collector.old (flown_by handed.old) w
-        → WritesFront w (ACmd.Graph command.now) (K.written sink.old) (K.written sink.new) }
+    ensures memory { result ≡ Err AnswerFault.Memory → EachWorld collector.old (flown_by handed.old)
+        (λ w. WritesStart w (ACmd.Graph command.now) (K.written sink.old) (K.written sink.new)) }
+    ensures write { result ≡ Err AnswerFault.Write → EachWorld collector.old (flown_by handed.old)
+        (λ w. WritesFront w (ACmd.Graph command.now) (K.written sink.old) (K.written sink.new)) }
     ensures good { result ≢ Err AnswerFault.Bad }
     ensures later { K.faults sink.old ≤ K.faults sink.new }
     ensures same { OnOk result (K.faults sink.new ≡ K.faults sink.old) }
@@ -101,14 +101,14 @@ fn answer_colours<K: Sink>(
 ) -> Result<(), AnswerFault>
     requires sound { IsSound collector.now (flown_by handed.old) }
     requires jobs { AreOut collector.now.heap.shape (outs_of handed.old) }
-    ensures ok { OnOk result ((w : World) → IsValid w → Represents collector.now (flown_by handed.old) w
-        → WritesAnswer w ACmd.Colours collector.now handed.new (K.written sink.old) (K.written sink.new)) }
+    ensures ok { OnOk result (EachWorld collector.now (flown_by handed.old)
+        (λ w. WritesAnswer w ACmd.Colours collector.now handed.new (K.written sink.old) (K.written sink.new))) }
     ensures sound { IsSound collector.now (flown_by handed.new) }
     ensures jobs { AreOut collector.now.heap.shape (outs_of handed.new) }
-    ensures memory { result ≡ Err AnswerFault.Memory → (w : World) → IsValid w → Represents collector.now (flown_by handed.old) w
-        → WritesStart w ACmd.Colours (K.written sink.old) (K.written sink.new) }
-    ensures write { result ≡ Err AnswerFault.Write → (w : World) → IsValid w → Represents collector.now (flown_by handed.old) w
-        → WritesFront w ACmd.Colours (K.written sink.old) (K.written sink.new) }
+    ensures memory { result ≡ Err AnswerFault.Memory → EachWorld collector.now (flown_by handed.old)
+        (λ w. WritesStart w ACmd.Colours (K.written sink.old) (K.written sink.new)) }
+    ensures write { result ≡ Err AnswerFault.Write → EachWorld collector.now (flown_by handed.old)
+        (λ w. WritesFront w ACmd.Colours (K.written sink.old) (K.written sink.new)) }
     ensures good { result ≢ Err AnswerFault.Bad }
     ensures later { K.faults sink.old ≤ K.faults sink.new }
     ensures same { OnOk result (K.faults sink.new ≡ K.faults sink.old) }
@@ -137,17 +137,17 @@ fn answer_parsed<K: Sink, L: Ledger>(
     requires made { collector.old.heap.made < 4294967295 }
     requires entries { length collector.old.heap.shape.weak.entries < 4294967295 }
     requires fits { FitsLanguage cmd.now }
-    ensures ok { OnOk result ((w : World) → IsValid w → Represents collector.old (flown_by handed.old) w
-        → WritesAnswer w cmd.now collector.new handed.new (K.written sink.old) (K.written sink.new)) }
+    ensures ok { OnOk result (EachWorld collector.old (flown_by handed.old)
+        (λ w. WritesAnswer w cmd.now collector.new handed.new (K.written sink.old) (K.written sink.new))) }
     ensures sound { IsSound collector.new (flown_by handed.new) }
     ensures jobs { AreOut collector.new.heap.shape (outs_of handed.new) }
     ensures made { collector.new.heap.made ≤ collector.old.heap.made + 1 }
     ensures entries { length collector.new.heap.shape.weak.entries
         ≤ length collector.old.heap.shape.weak.entries + 1 }
-    ensures memory { result ≡ Err AnswerFault.Memory → (w : World) → IsValid w → Represents collector.old (flown_by handed.old) w
-        → WritesStart w cmd.now (K.written sink.old) (K.written sink.new) }
-    ensures write { result ≡ Err AnswerFault.Write → (w : World) → IsValid w → Represents collector.old (flown_by handed.old) w
-        → WritesFront w cmd.now (K.written sink.old) (K.written sink.new) }
+    ensures memory { result ≡ Err AnswerFault.Memory → EachWorld collector.old (flown_by handed.old)
+        (λ w. WritesStart w cmd.now (K.written sink.old) (K.written sink.new)) }
+    ensures write { result ≡ Err AnswerFault.Write → EachWorld collector.old (flown_by handed.old)
+        (λ w. WritesFront w cmd.now (K.written sink.old) (K.written sink.new)) }
     ensures good { result ≢ Err AnswerFault.Bad }
     ensures later { K.faults sink.old ≤ K.faults sink.new }
     ensures same { OnOk result (K.faults sink.new ≡ K.faults sink.old) }
@@ -176,18 +176,20 @@ pub fn answer_line<K: Sink, L: Ledger>(
     requires jobs { AreOut collector.old.heap.shape (outs_of handed.old) }
     requires made { collector.old.heap.made < 4294967295 }
     requires entries { length collector.old.heap.shape.weak.entries < 4294967295 }
-    ensures ok { OnOk result ((c : TheCmd) × StandsFor line.now c × ((w : World) → IsValid w → Represents collector.old (flown_by handed.old) w
-        → WritesAnswer w c collector.new handed.new (K.written sink.old) (K.written sink.new))) }
+    ensures ok { OnOk result ((c : TheCmd) × StandsFor line.now c × EachWorld collector.old (flown_by handed.old)
+        (λ w. WritesAnswer w c collector.new handed.new (K.written sink.old) (K.written sink.new))) }
     ensures sound { IsSound collector.new (flown_by handed.new) }
     ensures jobs { AreOut collector.new.heap.shape (outs_of handed.new) }
     ensures made { collector.new.heap.made ≤ collector.old.heap.made + 1 }
     ensures entries { length collector.new.heap.shape.weak.entries
         ≤ length collector.old.heap.shape.weak.entries + 1 }
     ensures bad { result ≡ Err AnswerFault.Bad → IsBad line.now × Appends (K.written sink.old) (K.written sink.new) [] }
-    ensures memory { result ≡ Err AnswerFault.Memory → (c : TheCmd) × StandsFor line.now c × ((w : World) → IsValid w → Represents collector.old (flown_by handed.old) w
-        → WritesStart w c (K.written sink.old) (K.written sink.new)) }
-    ensures write { result ≡ Err AnswerFault.Write → (c : TheCmd) × StandsFor line.now c × ((w : World) → IsValid w → Represents collector.old (flown_by handed.old) w
-        → WritesFront w c (K.written sink.old) (K.written sink.new)) }
+    ensures memory { result ≡ Err AnswerFault.Memory → (c : TheCmd) × StandsFor line.now c
+        × EachWorld collector.old (flown_by handed.old)
+        (λ w. WritesStart w c (K.written sink.old) (K.written sink.new)) }
+    ensures write { result ≡ Err AnswerFault.Write → (c : TheCmd) × StandsFor line.now c
+        × EachWorld collector.old (flown_by handed.old)
+        (λ w. WritesFront w c (K.written sink.old) (K.written sink.new)) }
     ensures later { K.faults sink.old ≤ K.faults sink.new }
     ensures same { OnOk result (K.faults sink.new ≡ K.faults sink.old) }
     ensures cause { result ≡ Err AnswerFault.Write → Rose (K.faults sink.old) (K.faults sink.new) }

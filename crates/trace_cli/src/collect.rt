@@ -4,16 +4,13 @@ ghost use Rattle.std.specs.Io.KnownBytes.{Appends};
 ghost use Rattle.gz_io.specs.Causes.{HasCause, AppendsFront, Rose};
 ghost use Rattle.gz_names.specs.Zones.{HasZone};
 ghost use Rattle.gz_names.specs.declared.commands.Cmd.TheVariants as ACmd;
-ghost use Rattle.colour_defs.specs.World.{World};
-ghost use Rattle.colour_defs.specs.Laws.{IsValid};
 ghost use Rattle.heap_core.specs.Shape.{out_of};
 ghost use Rattle.sweeping.specs.ArenasOut.{outs_of};
 ghost use Rattle.slice_driver.specs.Advances.{AreOut};
-ghost use Rattle.slice_driver.specs.Represents.{Represents};
 ghost use Rattle.slice_driver.specs.Units.{IsSound, flown_by, reports_of};
 ghost use Rattle.slice_driver.specs.Left.{units_left};
 ghost use Rattle.trace_cli.specs.Headline.{report_lines, WritesAnswer, WritesFront, WritesStart};
-ghost use Rattle.trace_cli.specs.Standing.{IsLeft};
+ghost use Rattle.trace_cli.specs.Standing.{EachWorld, IsLeft};
 ghost use Rattle.trace_cli.specs.Writing.{BreaksInReply, BreaksInUnits, StopsInUnits, WritesCollection, WritesUnits};
 
 use crate::answer::{AnswerFault, write_last};
@@ -73,8 +70,8 @@ pub fn answer_step<K: Sink, L: Ledger>(
     requires running { IsSome collector.old.run }
     requires jobs { AreOut collector.old.heap.shape (outs_of handed.old) }
     requires some { 0 < limit }
-    ensures ok { IfOk result (λ done. (w : World) → IsValid w → Represents collector.old (flown_by handed.old) w
-        → WritesUnits w collector.new (flown_by handed.new) done (K.written sink.old) (K.written sink.new)) }
+    ensures ok { IfOk result (λ done. EachWorld collector.old (flown_by handed.old)
+        (λ w. WritesUnits w collector.new (flown_by handed.new) done (K.written sink.old) (K.written sink.new))) }
     ensures some { IfOk result (λ done. 0 < done) }
     ensures most { IfOk result (λ done. done ≤ limit) }
     ensures left { IfOk result (λ done. units_left collector.new (flown_by handed.new) + done
@@ -85,8 +82,8 @@ pub fn answer_step<K: Sink, L: Ledger>(
     ensures entries { length collector.new.heap.shape.weak.entries
         ≤ length collector.old.heap.shape.weak.entries }
     ensures memory { result ≡ Err AnswerFault.Memory → Appends (K.written sink.old) (K.written sink.new) [] }
-    ensures write { result ≡ Err AnswerFault.Write → (w : World) → IsValid w → Represents collector.old (flown_by handed.old) w
-        → BreaksInUnits w limit (K.written sink.old) (K.written sink.new) }
+    ensures write { result ≡ Err AnswerFault.Write → EachWorld collector.old (flown_by handed.old)
+        (λ w. BreaksInUnits w limit (K.written sink.old) (K.written sink.new)) }
     ensures good { result ≢ Err AnswerFault.Bad }
     ensures later { K.faults sink.old ≤ K.faults sink.new }
     ensures same { OnOk result (K.faults sink.new ≡ K.faults sink.old) }
@@ -115,17 +112,18 @@ fn answer_collection<K: Sink, L: Ledger>(
 ) -> Result<(), AnswerFault>
     requires sound { IsSound collector.old (flown_by handed.old) }
     requires jobs { AreOut collector.old.heap.shape (outs_of handed.old) }
-    ensures ok { OnOk result ((w : World) → IsValid w → Represents collector.old (flown_by handed.old) w
-        → WritesCollection w collector.new (flown_by handed.new) (K.written sink.old) (K.written sink.new)) }
+    ensures ok { OnOk result (EachWorld collector.old (flown_by handed.old)
+        (λ w. WritesCollection w collector.new (flown_by handed.new) (K.written sink.old) (K.written sink.new))) }
     ensures sound { IsSound collector.new (flown_by handed.new) }
     ensures jobs { AreOut collector.new.heap.shape (outs_of handed.new) }
     ensures made { collector.new.heap.made ≡ collector.old.heap.made }
     ensures entries { length collector.new.heap.shape.weak.entries
         ≤ length collector.old.heap.shape.weak.entries }
-    ensures memory { result ≡ Err AnswerFault.Memory → (w : World) → IsValid w → Represents collector.old (flown_by handed.old) w
-        → (n : ℕ) × StopsInUnits w n (K.written sink.old) (K.written sink.new) }
-    ensures write { result ≡ Err AnswerFault.Write → (w : World) → IsValid w → Represents collector.old (flown_by handed.old) w
-        → ((n : ℕ) × BreaksInUnits w n (K.written sink.old) (K.written sink.new)) ⊎ BreaksInReply w (K.written sink.old) (K.written sink.new) }
+    ensures memory { result ≡ Err AnswerFault.Memory → EachWorld collector.old (flown_by handed.old)
+        (λ w. (n : ℕ) × StopsInUnits w n (K.written sink.old) (K.written sink.new)) }
+    ensures write { result ≡ Err AnswerFault.Write → EachWorld collector.old (flown_by handed.old)
+        (λ w. ((n : ℕ) × BreaksInUnits w n (K.written sink.old) (K.written sink.new))
+        ⊎ BreaksInReply w (K.written sink.old) (K.written sink.new)) }
     ensures good { result ≢ Err AnswerFault.Bad }
     ensures later { K.faults sink.old ≤ K.faults sink.new }
     ensures same { OnOk result (K.faults sink.new ≡ K.faults sink.old) }
@@ -154,17 +152,17 @@ pub fn collect<K: Sink, L: Ledger>(
     requires sound { IsSound collector.old (flown_by handed.old) }
     requires jobs { AreOut collector.old.heap.shape (outs_of handed.old) }
     requires some { (z : ℕ) × HasZone zones.bits z }
-    ensures ok { OnOk result ((w : World) → IsValid w → Represents collector.old (flown_by handed.old) w
-        → WritesAnswer w (ACmd.Collect zones) collector.new handed.new (K.written sink.old) (K.written sink.new)) }
+    ensures ok { OnOk result (EachWorld collector.old (flown_by handed.old)
+        (λ w. WritesAnswer w (ACmd.Collect zones) collector.new handed.new (K.written sink.old) (K.written sink.new))) }
     ensures sound { IsSound collector.new (flown_by handed.new) }
     ensures jobs { AreOut collector.new.heap.shape (outs_of handed.new) }
     ensures made { collector.new.heap.made ≡ collector.old.heap.made }
     ensures entries { length collector.new.heap.shape.weak.entries
         ≤ length collector.old.heap.shape.weak.entries }
-    ensures memory { result ≡ Err AnswerFault.Memory → (w : World) → IsValid w → Represents collector.old (flown_by handed.old) w
-        → WritesStart w (ACmd.Collect zones) (K.written sink.old) (K.written sink.new) }
-    ensures write { result ≡ Err AnswerFault.Write → (w : World) → IsValid w → Represents collector.old (flown_by handed.old) w
-        → WritesFront w (ACmd.Collect zones) (K.written sink.old) (K.written sink.new) }
+    ensures memory { result ≡ Err AnswerFault.Memory → EachWorld collector.old (flown_by handed.old)
+        (λ w. WritesStart w (ACmd.Collect zones) (K.written sink.old) (K.written sink.new)) }
+    ensures write { result ≡ Err AnswerFault.Write → EachWorld collector.old (flown_by handed.old)
+        (λ w. WritesFront w (ACmd.Collect zones) (K.written sink.old) (K.written sink.new)) }
     ensures good { result ≢ Err AnswerFault.Bad }
     ensures later { K.faults sink.old ≤ K.faults sink.new }
     ensures same { OnOk result (K.faults sink.new ≡ K.faults sink.old) }

@@ -1,16 +1,14 @@
 // The reading loop: read a line, answer it whole, go on.
-ghost use Rattle.std.specs.Prelude.{◌≡◌, ◌≢◌, ◌↔◌, ◌+◌, ◌<◌, ◌≤◌, [], Err, Contains, IfOk, OnOk, OnErr, IsTrue, ◌⊎◌, map};
+ghost use Rattle.std.specs.Prelude.{◌≡◌, ◌≢◌, ◌↔◌, ◌+◌, ◌<◌, ◌≤◌, [], Err, Contains, IfOk, OnOk, OnErr, IsTrue, ◌⊎◌};
+ghost use Rattle.std.specs.Prelude.{map};
 ghost use Rattle.std.specs.Io.KnownBytes.{Appends};
 ghost use Rattle.gz_io.specs.Causes.{Rose};
 ghost use Rattle.gz_names.specs.declared.commands.Cmd.{Cmd as TheCmd};
-ghost use Rattle.colour_defs.specs.Laws.{IsValid};
-ghost use Rattle.colour_defs.specs.World.{World};
-ghost use Rattle.slice_driver.specs.Represents.{Represents};
 ghost use Rattle.slice_driver.specs.Units.{flown_by};
 ghost use Rattle.trace_cli.specs.CommandLine.{ArePlain};
 ghost use Rattle.trace_cli.specs.Headline.{Replays, Completes, WritesFront, WritesStart};
 ghost use Rattle.trace_cli.specs.Served.{IsBad, StandsFor};
-ghost use Rattle.trace_cli.specs.Standing.{AnswersLine, IsFirst, IsLeft, IsReady};
+ghost use Rattle.trace_cli.specs.Standing.{EachWorld, AnswersLine, IsFirst, IsLeft, IsReady};
 
 use crate::answer::{AnswerFault, answer_line};
 use crate::collect::take_rest;
@@ -32,7 +30,8 @@ use trace_lang::spelling_law;
 fn end_so<K: Sink>(sink: &mut K, exit: Exit) -> Exit
     ensures exit { (result ≡ exit) ⊎ (result ≡ Exit.WriteFault) }
     ensures kept { Appends (K.written sink.old) (K.written sink.new) [] }
-    ensures cause { ((result ≡ exit) × (K.faults sink.new ≡ K.faults sink.old) × (K.behind sink.new ≡ 0)) ⊎ ((result ≡ Exit.WriteFault) × Rose (K.faults sink.old) (K.faults sink.new)) }
+    ensures cause { ((result ≡ exit) × (K.faults sink.new ≡ K.faults sink.old) × (K.behind sink.new ≡ 0))
+        ⊎ ((result ≡ Exit.WriteFault) × Rose (K.faults sink.old) (K.faults sink.new)) }
 {
     match sink.flush() {
         Ok(()) => exit,
@@ -58,7 +57,8 @@ fn flush_before<K: Sink>(reader: &LineReader, sink: &mut K) -> Result<(), Answer
 // The exit at a line that is too long or not of ASCII, after so many lines.
 fn refusal(answered: u64) -> Exit
     requires { answered < 4294967296 }
-    ensures { ((answered ≡ 4294967295) × (result ≡ Exit.TooManyLines)) ⊎ ((answered < 4294967295) × (result ≡ Exit.BadLine (answered + 1))) }
+    ensures { ((answered ≡ 4294967295) × (result ≡ Exit.TooManyLines))
+        ⊎ ((answered < 4294967295) × (result ≡ Exit.BadLine (answered + 1))) }
 {
     if answered == 4294967295 {
         return Exit::TooManyLines;
@@ -89,10 +89,12 @@ fn answer_next<K: Sink, L: Ledger>(
         collector.new handed.new (K.written sink.old) (K.written sink.new)) }
     ensures left { IsLeft collector.new handed.new }
     ensures bad { result ≡ Err AnswerFault.Bad → IsBad line.now × Appends (K.written sink.old) (K.written sink.new) [] }
-    ensures memory { result ≡ Err AnswerFault.Memory → (c : TheCmd) × StandsFor line.now c × ((w : World) → IsValid w → Represents collector.old (flown_by handed.old) w
-        → WritesStart w c (K.written sink.old) (K.written sink.new)) }
-    ensures write { result ≡ Err AnswerFault.Write → (c : TheCmd) × StandsFor line.now c × ((w : World) → IsValid w → Represents collector.old (flown_by handed.old) w
-        → WritesFront w c (K.written sink.old) (K.written sink.new)) }
+    ensures memory { result ≡ Err AnswerFault.Memory → (c : TheCmd) × StandsFor line.now c
+        × EachWorld collector.old (flown_by handed.old)
+        (λ w. WritesStart w c (K.written sink.old) (K.written sink.new)) }
+    ensures write { result ≡ Err AnswerFault.Write → (c : TheCmd) × StandsFor line.now c
+        × EachWorld collector.old (flown_by handed.old)
+        (λ w. WritesFront w c (K.written sink.old) (K.written sink.new)) }
     ensures later { K.faults sink.old ≤ K.faults sink.new }
     ensures same { OnOk result (K.faults sink.new ≡ K.faults sink.old) }
     ensures cause { result ≡ Err AnswerFault.Write → Rose (K.faults sink.old) (K.faults sink.new) }
@@ -112,7 +114,8 @@ fn answer_all<L: Ledger, S: Source, K: Sink>(
     requires first { IsFirst collector.old }
     requires none { handed.old ≡ [] }
     ensures lawful { Replays (S.left source.old) (S.left source.new) (K.written sink.old) (K.written sink.new) result }
-    ensures quiet { result ≡ Exit.Done → (S.faults source.new ≡ S.faults source.old) × (K.faults sink.new ≡ K.faults sink.old) }
+    ensures quiet { result ≡ Exit.Done → (S.faults source.new ≡ S.faults source.old)
+        × (K.faults sink.new ≡ K.faults sink.old) }
     ensures handed_on { result ≡ Exit.Done → K.behind sink.new ≡ 0 }
     ensures read { result ≡ Exit.ReadFault → Rose (S.faults source.old) (S.faults source.new) }
     ensures write { result ≡ Exit.WriteFault → Rose (K.faults sink.old) (K.faults sink.new) }
@@ -166,7 +169,8 @@ fn answer_lines<L: Ledger, S: Source, K: Sink>(
     requires parts { blank.parts ≡ L.parts }
     requires some { 0 < blank.parts }
     ensures lawful { Replays (S.left source.old) (S.left source.new) (K.written sink.old) (K.written sink.new) result }
-    ensures quiet { result ≡ Exit.Done → (S.faults source.new ≡ S.faults source.old) × (K.faults sink.new ≡ K.faults sink.old) }
+    ensures quiet { result ≡ Exit.Done → (S.faults source.new ≡ S.faults source.old)
+        × (K.faults sink.new ≡ K.faults sink.old) }
     ensures handed_on { result ≡ Exit.Done → K.behind sink.new ≡ 0 }
     ensures read { result ≡ Exit.ReadFault → Rose (S.faults source.old) (S.faults source.new) }
     ensures write { result ≡ Exit.WriteFault → Rose (K.faults sink.old) (K.faults sink.new) }
@@ -192,13 +196,15 @@ pub fn replay<R: Threads + Wait + Sync, S: Source + Send, K: Sink + Send, G: Gat
     _gate: &G,
 ) -> Exit
     ensures lawful { Replays (S.left source.old) (S.left source.new) (K.written sink.old) (K.written sink.new) result }
-    ensures quiet { result ≡ Exit.Done → (S.faults source.new ≡ S.faults source.old) × (K.faults sink.new ≡ K.faults sink.old) }
+    ensures quiet { result ≡ Exit.Done → (S.faults source.new ≡ S.faults source.old)
+        × (K.faults sink.new ≡ K.faults sink.old) }
     ensures handed_on { result ≡ Exit.Done → K.behind sink.new ≡ 0 }
     ensures read { result ≡ Exit.ReadFault → Rose (S.faults source.old) (S.faults source.new) }
     ensures write { result ≡ Exit.WriteFault → Rose (K.faults sink.old) (K.faults sink.new) }
     ensures usage { result ≡ Exit.Usage ↔ (ArePlain (map (λ w. w.now) words.now) → ⊥) }
     ensures untouched { result ≡ Exit.Usage → (source.new ≡ source.old) × (sink.new ≡ sink.old) }
-    ensures complete { Completes (map (λ w. w.now) words.now) (S.left source.old) (S.faults source.old) (S.faults source.new) (K.faults sink.old) (K.faults sink.new) result }
+    ensures complete { Completes (map (λ w. w.now) words.now) (S.left source.old) (S.faults source.old)
+        (S.faults source.new) (K.faults sink.old) (K.faults sink.new) result }
 {
     if is_plain(words) {
         answer_lines::<Brand, S, K>(alloc, source, sink, Blank::new(1))

@@ -4,13 +4,11 @@ ghost use Rattle.std.specs.Io.KnownBytes.{Appends};
 ghost use Rattle.gz_io.specs.Causes.{Rose};
 ghost use Rattle.gz_names.specs.Zones.{HasZone};
 ghost use Rattle.gz_names.specs.declared.commands.Cmd.TheVariants as ACmd;
-ghost use Rattle.colour_defs.specs.World.{World};
-ghost use Rattle.colour_defs.specs.Laws.{IsValid};
 ghost use Rattle.sweeping.specs.ArenasOut.{outs_of};
 ghost use Rattle.slice_driver.specs.Advances.{AreOut};
-ghost use Rattle.slice_driver.specs.Represents.{Represents};
 ghost use Rattle.slice_driver.specs.Units.{IsSound, flown_by};
 ghost use Rattle.trace_cli.specs.Headline.{WritesAnswer, WritesFront, WritesStart};
+ghost use Rattle.trace_cli.specs.Standing.{EachWorld};
 ghost use Rattle.trace_cli.specs.Writing.{BreaksInUnits, StopsInUnits, WritesUnits};
 
 use crate::answer::{AnswerFault, write_last};
@@ -36,17 +34,17 @@ pub fn gc<K: Sink, L: Ledger>(
     requires sound { IsSound collector.old (flown_by _handed.now) }
     requires jobs { AreOut collector.old.heap.shape (outs_of _handed.now) }
     requires some { (z : ℕ) × HasZone zones.bits z }
-    ensures ok { OnOk result ((w : World) → IsValid w → Represents collector.old (flown_by _handed.now) w
-        → WritesAnswer w (ACmd.Gc zones) collector.new _handed.now (K.written sink.old) (K.written sink.new)) }
+    ensures ok { OnOk result (EachWorld collector.old (flown_by _handed.now)
+        (λ w. WritesAnswer w (ACmd.Gc zones) collector.new _handed.now (K.written sink.old) (K.written sink.new))) }
     ensures sound { IsSound collector.new (flown_by _handed.now) }
     ensures jobs { AreOut collector.new.heap.shape (outs_of _handed.now) }
     ensures made { collector.new.heap.made ≡ collector.old.heap.made }
     ensures entries { length collector.new.heap.shape.weak.entries
         ≤ length collector.old.heap.shape.weak.entries }
-    ensures memory { result ≡ Err AnswerFault.Memory → (w : World) → IsValid w → Represents collector.old (flown_by _handed.now) w
-        → WritesStart w (ACmd.Gc zones) (K.written sink.old) (K.written sink.new) }
-    ensures write { result ≡ Err AnswerFault.Write → (w : World) → IsValid w → Represents collector.old (flown_by _handed.now) w
-        → WritesFront w (ACmd.Gc zones) (K.written sink.old) (K.written sink.new) }
+    ensures memory { result ≡ Err AnswerFault.Memory → EachWorld collector.old (flown_by _handed.now)
+        (λ w. WritesStart w (ACmd.Gc zones) (K.written sink.old) (K.written sink.new)) }
+    ensures write { result ≡ Err AnswerFault.Write → EachWorld collector.old (flown_by _handed.now)
+        (λ w. WritesFront w (ACmd.Gc zones) (K.written sink.old) (K.written sink.new)) }
     ensures good { result ≢ Err AnswerFault.Bad }
     ensures later { K.faults sink.old ≤ K.faults sink.new }
     ensures same { OnOk result (K.faults sink.new ≡ K.faults sink.old) }
@@ -73,8 +71,8 @@ fn answer_units<K: Sink, L: Ledger>(
 ) -> Result<u64, AnswerFault>
     requires sound { IsSound collector.old (flown_by handed.old) }
     requires jobs { AreOut collector.old.heap.shape (outs_of handed.old) }
-    ensures ok { IfOk result (λ done. (w : World) → IsValid w → Represents collector.old (flown_by handed.old) w
-        → WritesUnits w collector.new (flown_by handed.new) done (K.written sink.old) (K.written sink.new)) }
+    ensures ok { IfOk result (λ done. EachWorld collector.old (flown_by handed.old)
+        (λ w. WritesUnits w collector.new (flown_by handed.new) done (K.written sink.old) (K.written sink.new))) }
     ensures most { IfOk result (λ done. done ≤ budget) }
     ensures over { IfOk result (λ done. done < budget → collector.new.run ≡ None) }
     ensures sound { IsSound collector.new (flown_by handed.new) }
@@ -82,10 +80,10 @@ fn answer_units<K: Sink, L: Ledger>(
     ensures made { collector.new.heap.made ≡ collector.old.heap.made }
     ensures entries { length collector.new.heap.shape.weak.entries
         ≤ length collector.old.heap.shape.weak.entries }
-    ensures memory { result ≡ Err AnswerFault.Memory → (w : World) → IsValid w → Represents collector.old (flown_by handed.old) w
-        → StopsInUnits w budget (K.written sink.old) (K.written sink.new) }
-    ensures write { result ≡ Err AnswerFault.Write → (w : World) → IsValid w → Represents collector.old (flown_by handed.old) w
-        → BreaksInUnits w budget (K.written sink.old) (K.written sink.new) }
+    ensures memory { result ≡ Err AnswerFault.Memory → EachWorld collector.old (flown_by handed.old)
+        (λ w. StopsInUnits w budget (K.written sink.old) (K.written sink.new)) }
+    ensures write { result ≡ Err AnswerFault.Write → EachWorld collector.old (flown_by handed.old)
+        (λ w. BreaksInUnits w budget (K.written sink.old) (K.written sink.new)) }
     ensures good { result ≢ Err AnswerFault.Bad }
     ensures later { K.faults sink.old ≤ K.faults sink.new }
     ensures same { OnOk result (K.faults sink.new ≡ K.faults sink.old) }
@@ -122,17 +120,17 @@ pub fn slice<K: Sink, L: Ledger>(
 ) -> Result<(), AnswerFault>
     requires sound { IsSound collector.old (flown_by handed.old) }
     requires jobs { AreOut collector.old.heap.shape (outs_of handed.old) }
-    ensures ok { OnOk result ((w : World) → IsValid w → Represents collector.old (flown_by handed.old) w
-        → WritesAnswer w (ACmd.Slice budget) collector.new handed.new (K.written sink.old) (K.written sink.new)) }
+    ensures ok { OnOk result (EachWorld collector.old (flown_by handed.old)
+        (λ w. WritesAnswer w (ACmd.Slice budget) collector.new handed.new (K.written sink.old) (K.written sink.new))) }
     ensures sound { IsSound collector.new (flown_by handed.new) }
     ensures jobs { AreOut collector.new.heap.shape (outs_of handed.new) }
     ensures made { collector.new.heap.made ≡ collector.old.heap.made }
     ensures entries { length collector.new.heap.shape.weak.entries
         ≤ length collector.old.heap.shape.weak.entries }
-    ensures memory { result ≡ Err AnswerFault.Memory → (w : World) → IsValid w → Represents collector.old (flown_by handed.old) w
-        → WritesStart w (ACmd.Slice budget) (K.written sink.old) (K.written sink.new) }
-    ensures write { result ≡ Err AnswerFault.Write → (w : World) → IsValid w → Represents collector.old (flown_by handed.old) w
-        → WritesFront w (ACmd.Slice budget) (K.written sink.old) (K.written sink.new) }
+    ensures memory { result ≡ Err AnswerFault.Memory → EachWorld collector.old (flown_by handed.old)
+        (λ w. WritesStart w (ACmd.Slice budget) (K.written sink.old) (K.written sink.new)) }
+    ensures write { result ≡ Err AnswerFault.Write → EachWorld collector.old (flown_by handed.old)
+        (λ w. WritesFront w (ACmd.Slice budget) (K.written sink.old) (K.written sink.new)) }
     ensures good { result ≢ Err AnswerFault.Bad }
     ensures later { K.faults sink.old ≤ K.faults sink.new }
     ensures same { OnOk result (K.faults sink.new ≡ K.faults sink.old) }
@@ -158,18 +156,18 @@ fn answer_rest<K: Sink, L: Ledger>(
 ) -> Result<u64, AnswerFault>
     requires sound { IsSound collector.old (flown_by handed.old) }
     requires jobs { AreOut collector.old.heap.shape (outs_of handed.old) }
-    ensures ok { IfOk result (λ done. (w : World) → IsValid w → Represents collector.old (flown_by handed.old) w
-        → WritesUnits w collector.new (flown_by handed.new) done (K.written sink.old) (K.written sink.new)) }
+    ensures ok { IfOk result (λ done. EachWorld collector.old (flown_by handed.old)
+        (λ w. WritesUnits w collector.new (flown_by handed.new) done (K.written sink.old) (K.written sink.new))) }
     ensures over { OnOk result (collector.new.run ≡ None) }
     ensures sound { IsSound collector.new (flown_by handed.new) }
     ensures jobs { AreOut collector.new.heap.shape (outs_of handed.new) }
     ensures made { collector.new.heap.made ≡ collector.old.heap.made }
     ensures entries { length collector.new.heap.shape.weak.entries
         ≤ length collector.old.heap.shape.weak.entries }
-    ensures memory { result ≡ Err AnswerFault.Memory → (w : World) → IsValid w → Represents collector.old (flown_by handed.old) w
-        → (n : ℕ) × StopsInUnits w n (K.written sink.old) (K.written sink.new) }
-    ensures write { result ≡ Err AnswerFault.Write → (w : World) → IsValid w → Represents collector.old (flown_by handed.old) w
-        → (n : ℕ) × BreaksInUnits w n (K.written sink.old) (K.written sink.new) }
+    ensures memory { result ≡ Err AnswerFault.Memory → EachWorld collector.old (flown_by handed.old)
+        (λ w. (n : ℕ) × StopsInUnits w n (K.written sink.old) (K.written sink.new)) }
+    ensures write { result ≡ Err AnswerFault.Write → EachWorld collector.old (flown_by handed.old)
+        (λ w. (n : ℕ) × BreaksInUnits w n (K.written sink.old) (K.written sink.new)) }
     ensures good { result ≢ Err AnswerFault.Bad }
     ensures later { K.faults sink.old ≤ K.faults sink.new }
     ensures same { OnOk result (K.faults sink.new ≡ K.faults sink.old) }
@@ -199,17 +197,17 @@ pub fn finish<K: Sink, L: Ledger>(
 ) -> Result<(), AnswerFault>
     requires sound { IsSound collector.old (flown_by handed.old) }
     requires jobs { AreOut collector.old.heap.shape (outs_of handed.old) }
-    ensures ok { OnOk result ((w : World) → IsValid w → Represents collector.old (flown_by handed.old) w
-        → WritesAnswer w ACmd.Finish collector.new handed.new (K.written sink.old) (K.written sink.new)) }
+    ensures ok { OnOk result (EachWorld collector.old (flown_by handed.old)
+        (λ w. WritesAnswer w ACmd.Finish collector.new handed.new (K.written sink.old) (K.written sink.new))) }
     ensures sound { IsSound collector.new (flown_by handed.new) }
     ensures jobs { AreOut collector.new.heap.shape (outs_of handed.new) }
     ensures made { collector.new.heap.made ≡ collector.old.heap.made }
     ensures entries { length collector.new.heap.shape.weak.entries
         ≤ length collector.old.heap.shape.weak.entries }
-    ensures memory { result ≡ Err AnswerFault.Memory → (w : World) → IsValid w → Represents collector.old (flown_by handed.old) w
-        → WritesStart w ACmd.Finish (K.written sink.old) (K.written sink.new) }
-    ensures write { result ≡ Err AnswerFault.Write → (w : World) → IsValid w → Represents collector.old (flown_by handed.old) w
-        → WritesFront w ACmd.Finish (K.written sink.old) (K.written sink.new) }
+    ensures memory { result ≡ Err AnswerFault.Memory → EachWorld collector.old (flown_by handed.old)
+        (λ w. WritesStart w ACmd.Finish (K.written sink.old) (K.written sink.new)) }
+    ensures write { result ≡ Err AnswerFault.Write → EachWorld collector.old (flown_by handed.old)
+        (λ w. WritesFront w ACmd.Finish (K.written sink.old) (K.written sink.new)) }
     ensures good { result ≢ Err AnswerFault.Bad }
     ensures later { K.faults sink.old ≤ K.faults sink.new }
     ensures same { OnOk result (K.faults sink.new ≡ K.faults sink.old) }

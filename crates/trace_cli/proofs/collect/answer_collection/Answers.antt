@@ -1,7 +1,8 @@
 use Rattle.std.proofs.Common.{◌+◌, refl, arith, ◌∙◌, inl, inr}
 use Rattle.slice_driver.specs.Units.{flown_by}
 use Rattle.trace_cli.proofs.Answered.{ok_maps, err_is, same_fault}
-use Rattle.trace_cli.proofs.Units.{collection_fronts, more_breaks, more_units, no_units, not_running, stops_after, units_end}
+use Rattle.trace_cli.proofs.Units.{collection_fronts, more_breaks, more_units, no_units, not_running, stops_after}
+use Rattle.trace_cli.proofs.Units.{units_end}
 use Rattle.trace_cli.proofs.collect.answer_collection.Goals as goal
 
 pub loop-alloc-init : goal.loop-alloc-init
@@ -32,12 +33,16 @@ loop-alloc-preserved g c =
 
 pub returns-in-Err-clause-memory : goal.returns-in-Err-clause-memory
 returns-in-Err-clause-memory g c = λ e w ok r.
-    (let h = c.loop-alloc.invariant.2 w ok r in (h.0, stops_after w _ _ _ _ _ _ h.1 (c.in-Err.ensures.memory (same_fault _ _ e))))
+    (let h = c.loop-alloc.invariant.2 w ok r
+    in (h.0, stops_after w _ _ _ _ _ _ h.1 (c.in-Err.ensures.memory (same_fault _ _ e))))
 
 pub returns-in-Err-clause-write : goal.returns-in-Err-clause-write
 returns-in-Err-clause-write g c = λ e w ok r.
-    (let h = c.loop-alloc.invariant.2 w ok r in inl
-    (h.0 + 18446744073709551615, more_breaks w _ _ _ _ _ _ _ h.1 (c.in-Err.ensures.write (same_fault _ _ e) h.1.after h.1.valid h.1.represents)))
+    (let h = c.loop-alloc.invariant.2 w ok r in inl (
+      h.0 + 18446744073709551615,
+      more_breaks w _ _ _ _ _ _ _ h.1 (c.in-Err.ensures.write (same_fault _ _ e) h.1.after
+          h.1.valid h.1.represents),
+    ))
 
 pub returns-clause-ok : goal.returns-clause-ok
 returns-clause-ok g c =

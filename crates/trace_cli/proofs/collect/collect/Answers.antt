@@ -4,7 +4,8 @@ use Rattle.slice_driver.specs.Advances.{AreOut}
 use Rattle.slice_driver.specs.Units.{flown_by}
 use Rattle.slice_driver.specs.declared.begin.BeginFault.{BeginFault}
 use Rattle.slice_driver.specs.Collector.{CollectorState}
-use Rattle.trace_cli.proofs.Answered.{ok_maps, err_is, begun_breaks, begun_stops, begun_writes, no_zone, one_runs, refusal_breaks, refusal_writes}
+use Rattle.trace_cli.proofs.Answered.{ok_maps, err_is, begun_breaks, begun_stops, begun_writes, no_zone, one_runs}
+use Rattle.trace_cli.proofs.Answered.{refusal_breaks, refusal_writes}
 use Rattle.trace_cli.proofs.ArenasOut.{out_kept}
 use Rattle.std.proofs.Common.{◌∙◌, inl}
 use Rattle.std.proofs.KnownBytes.{Appends-nil}
@@ -41,7 +42,8 @@ returns-in-Err-Running-clause-ok g c =
     let runs = c.in-Err-Running.ensures.running.0 (ap (λ (f : BeginFault). Err f) c.in-Err-Running.field-0-is) in
     ok_maps _ (λ written. refusal_writes c.args.collector.now c.begin.new.self c.args.handed.now c.args.zones _ _ _ _
     (λ w answer refuses. inr refuses) (λ w r. one_runs c.args.collector.now
-    (flown_by c.args.handed.now) w c.args.zones r runs) c.in-Err-Running.ensures.refused written) c.write_last.ensures.ok
+    (flown_by c.args.handed.now) w c.args.zones r runs) c.in-Err-Running.ensures.refused written)
+    c.write_last.ensures.ok
 
 pub returns-in-Err-Running-clause-write : goal.returns-in-Err-Running-clause-write
 returns-in-Err-Running-clause-write g c =

@@ -8,6 +8,7 @@ use Rattle.trace_cli.proofs.reading.answer_lines.Goals as goal
 pub returns-in_default-clause-lawful : goal.returns-in_default-clause-lawful
 returns-in_default-clause-lawful g c =
     let stands = stands_first (g.S.Source.left c.args.source.now) (g.K.Sink.written c.args.sink.now) [] refl in
-    either (λ (e : Exit). Replays (g.S.Source.left c.args.source.now) (g.S.Source.left c.args.source.now) (g.K.Sink.written c.args.sink.now) (g.K.Sink.written c.end_so.new.sink) e) _ _ c.end_so.ensures.exit
+    either (λ (e : Exit). Replays (g.S.Source.left c.args.source.now) (g.S.Source.left c.args.source.now)
+    (g.K.Sink.written c.args.sink.now) (g.K.Sink.written c.end_so.new.sink) e) _ _ c.end_so.ensures.exit
     (ends_memory _ _ _ _ _ [] 0 first_world stands c.end_so.ensures.kept)
     (ends_write _ _ _ _ _ [] 0 first_world stands c.end_so.ensures.kept)

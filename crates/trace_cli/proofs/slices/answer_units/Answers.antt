@@ -5,7 +5,8 @@ use Rattle.trace_cli.proofs.Units.{more_breaks, more_units, no_units, not_runnin
 use Rattle.trace_cli.proofs.slices.answer_units.Goals as goal
 
 pub loop-done-init : goal.loop-done-init
-loop-done-init g c = (c.requires.sound, c.requires.jobs, λ w ok r. no_units w _ _ _ ok r, refl, omega arith, refl, omega arith)
+loop-done-init g c =
+    (c.requires.sound, c.requires.jobs, λ w ok r. no_units w _ _ _ ok r, refl, omega arith, refl, omega arith)
 
 pub loop-done-preserved : goal.loop-done-preserved
 loop-done-preserved g c =

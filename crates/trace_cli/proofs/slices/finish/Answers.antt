@@ -9,7 +9,8 @@ use Rattle.trace_cli.proofs.slices.finish.Goals as goal
 pub returns-then-not-running-clause-ok : goal.returns-then-not-running-clause-ok
 returns-then-not-running-clause-ok g c = ok_maps _
     (λ written. idle_writes c.args.collector.now c.args.handed.now _ _ _ (λ w refuses. inr refuses)
-    (not_running c.running.result c.args.collector.now.run c.running.ensures.run c.if-not-running.true) written) c.write_last.ensures.ok
+    (not_running c.running.result c.args.collector.now.run c.running.ensures.run c.if-not-running.true) written)
+    c.write_last.ensures.ok
 
 pub returns-then-not-running-clause-write : goal.returns-then-not-running-clause-write
 returns-then-not-running-clause-write g c = λ e. idle_breaks c.args.collector.now c.args.handed.now _ _ _

@@ -4,7 +4,8 @@ use Rattle.slice_driver.specs.Advances.{AreOut}
 use Rattle.slice_driver.specs.Units.{flown_by}
 use Rattle.slice_driver.specs.declared.begin.BeginFault.{BeginFault}
 use Rattle.slice_driver.specs.Collector.{CollectorState}
-use Rattle.trace_cli.proofs.Answered.{ok_maps, err_is, gc_breaks, gc_writes, no_zone, one_runs, refusal_breaks, refusal_writes}
+use Rattle.trace_cli.proofs.Answered.{ok_maps, err_is, gc_breaks, gc_writes, no_zone, one_runs, refusal_breaks}
+use Rattle.trace_cli.proofs.Answered.{refusal_writes}
 use Rattle.trace_cli.proofs.ArenasOut.{out_kept}
 use Rattle.std.proofs.Common.{◌∙◌}
 use Rattle.std.proofs.KnownBytes.{Appends-nil}
@@ -32,7 +33,8 @@ returns-in-Err-Running-clause-ok g c =
     let runs = c.in-Err-Running.ensures.running.0 (ap (λ (f : BeginFault). Err f) c.in-Err-Running.field-0-is) in
     ok_maps _ (λ written. refusal_writes c.args.collector.now c.begin.new.self c.args._handed.now c.args.zones _ _ _ _
     (λ w answer refuses. inr refuses) (λ w r. one_runs c.args.collector.now
-    (flown_by c.args._handed.now) w c.args.zones r runs) c.in-Err-Running.ensures.refused written) c.write_last-in-Err-Running.ensures.ok
+    (flown_by c.args._handed.now) w c.args.zones r runs) c.in-Err-Running.ensures.refused written)
+    c.write_last-in-Err-Running.ensures.ok
 
 pub returns-in-Err-Running-clause-write : goal.returns-in-Err-Running-clause-write
 returns-in-Err-Running-clause-write g c =
@@ -42,7 +44,8 @@ returns-in-Err-Running-clause-write g c =
     (err_is _ _ c.write_last-in-Err-Running.ensures.err e)
 
 pub returns-in-Err-Running-clause-jobs : goal.returns-in-Err-Running-clause-jobs
-returns-in-Err-Running-clause-jobs g c = subst (λ (d : CollectorState). AreOut d.heap.shape (outs_of c.args._handed.now))
+returns-in-Err-Running-clause-jobs g c =
+    subst (λ (d : CollectorState). AreOut d.heap.shape (outs_of c.args._handed.now))
     (sym c.in-Err-Running.ensures.refused) c.requires.jobs
 
 pub returns-in-Err-NoZone-clause-ok : goal.returns-in-Err-NoZone-clause-ok

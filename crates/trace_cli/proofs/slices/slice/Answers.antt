@@ -1,6 +1,7 @@
 use Rattle.std.proofs.Common.{◌<◌, ◌≤◌, ℕ, arith, inr}
 use Rattle.trace_cli.proofs.Answered.{ok_maps, err_is, same_fault}
-use Rattle.trace_cli.proofs.Slicing.{breaks_within, idle_breaks, idle_writes, slice_breaks, slice_writes, stops_within, units_break, units_stop}
+use Rattle.trace_cli.proofs.Slicing.{breaks_within, idle_breaks, idle_writes, slice_breaks, slice_writes, stops_within}
+use Rattle.trace_cli.proofs.Slicing.{units_break, units_stop}
 use Rattle.slice_driver.specs.Units.{flown_by}
 use Rattle.trace_cli.proofs.Flights.{running_world}
 use Rattle.trace_cli.proofs.Units.{not_running}
@@ -9,7 +10,8 @@ use Rattle.trace_cli.proofs.slices.slice.Goals as goal
 pub returns-then-not-running-clause-ok : goal.returns-then-not-running-clause-ok
 returns-then-not-running-clause-ok g c = ok_maps _
     (λ written. idle_writes c.args.collector.now c.args.handed.now _ _ _ (λ w refuses. inr refuses)
-    (not_running c.running.result c.args.collector.now.run c.running.ensures.run c.if-not-running.true) written) c.write_last.ensures.ok
+    (not_running c.running.result c.args.collector.now.run c.running.ensures.run c.if-not-running.true) written)
+    c.write_last.ensures.ok
 
 pub returns-then-not-running-clause-write : goal.returns-then-not-running-clause-write
 returns-then-not-running-clause-write g c = λ e. idle_breaks c.args.collector.now c.args.handed.now _ _ _
@@ -24,7 +26,8 @@ returns-in-Ok-clause-ok g c =
     let most : c.in-Ok.done ≤ c.args.budget = omega (arith, same, at_most) in
     ok_maps _ (λ written. slice_writes c.args.collector.now c.answer_units.new.collector c.args.handed.now
     c.answer_units.new.handed c.args.budget c.in-Ok.done _ _ _ (c.running.ensures.run.0 c.if-not-running.false)
-    most (λ less. c.in-Ok.ensures.over (omega (arith, same, less))) c.in-Ok.ensures.ok written) c.write_last-in-Ok.ensures.ok
+    most (λ less. c.in-Ok.ensures.over (omega (arith, same, less))) c.in-Ok.ensures.ok written)
+    c.write_last-in-Ok.ensures.ok
 
 pub returns-in-Ok-clause-write : goal.returns-in-Ok-clause-write
 returns-in-Ok-clause-write g c =
