@@ -1,5 +1,6 @@
 -- Bytes allow one answer.
-use Rattle.std.proofs.Common.{◌≡◌, ◌≢◌, ℕ, ◌<◌, ◌≤◌, List, [], ◌∷◌, ◌++◌, length, get_or, refl, ap, sym, subst, ◌∙◌, arith, inl, inr, ◌⊎◌, Option, Some, None}
+use Rattle.std.proofs.Common.{◌≡◌, ◌≢◌, ℕ, ◌<◌, ◌≤◌, List, [], ◌∷◌, ◌++◌, length, get_or, refl, ap, sym, subst, ◌∙◌}
+use Rattle.std.proofs.Common.{arith, inl, inr, ◌⊎◌, Option, Some, None}
 use Rattle.std.proofs.lemmas.Bool.{cases_lt}
 use Rattle.gz_io.specs.Lines.{IsPlain, EndsLine, IsTooLong, IsNotAscii, Gives, GivesKnown, IsOnlyAnswer}
 use Rattle.gz_io.specs.declared.reader.Next.{Next}
@@ -32,7 +33,8 @@ longest xs l m b c f g s = elim (cases_lt (length l) (length m)) [
 ]
 
 same_byte : (xs l m : List ℕ) (b c : ℕ) → Front xs l b → Front xs m c → length l ≡ length m → b ≡ c
-same_byte xs l m b c f g e = sym (at_seam xs l f.rest b f.bytes) ∙ ap (λ k. get_or xs k 0) e ∙ at_seam xs m g.rest c g.bytes
+same_byte xs l m b c f g e =
+    sym (at_seam xs l f.rest b f.bytes) ∙ ap (λ k. get_or xs k 0) e ∙ at_seam xs m g.rest c g.bytes
 
 -- plain bytes have no such byte
 no_stop : (xs l : List ℕ) (b : ℕ) → IsPlain xs → Front xs l b → Stops b → ⊥
@@ -57,8 +59,10 @@ two_lines : (xs ys zs l m : List ℕ) → IsPlain l → IsPlain m → EndsLine x
 two_lines xs ys zs l m p q (inl e) (inl f) =
     let a = longest xs l m 10 10 (fed xs ys l p e) (fed xs zs m q f) (inl refl) in
     let b = longest xs m l 10 10 (fed xs zs m q f) (fed xs ys l p e) (inl refl) in omega arith
-two_lines xs ys zs l m p q (inl e) (inr f) = absurd (no_stop xs l 10 (subst IsPlain (sym f.0) q) (fed xs ys l p e) (inl refl))
-two_lines xs ys zs l m p q (inr e) (inl f) = absurd (no_stop xs m 10 (subst IsPlain (sym e.0) p) (fed xs zs m q f) (inl refl))
+two_lines xs ys zs l m p q (inl e) (inr f) =
+    absurd (no_stop xs l 10 (subst IsPlain (sym f.0) q) (fed xs ys l p e) (inl refl))
+two_lines xs ys zs l m p q (inr e) (inl f) =
+    absurd (no_stop xs m 10 (subst IsPlain (sym e.0) p) (fed xs zs m q f) (inl refl))
 two_lines xs ys zs l m p q (inr e) (inr f) = ap length (sym e.0 ∙ f.0)
 
 line_no_end : (xs ys l : List ℕ) → IsPlain l → EndsLine xs ys l → xs ≡ [] → ⊥
@@ -80,11 +84,14 @@ line_no_high xs ys l p (inl e) t =
 line_no_high xs ys l p (inr e) t = no_stop xs t.line t.byte (subst IsPlain (sym e.0) p) (high xs t) (inr t.high)
 
 long_no_high : (xs : List ℕ) → IsTooLong xs → IsNotAscii xs → ⊥
-long_no_high xs t u = omega (arith, longest xs u.line t.line u.byte t.byte (high xs u) (long xs t) (inr u.high), t.size, u.size)
+long_no_high xs t u =
+    omega (arith, longest xs u.line t.line u.byte t.byte (high xs u) (long xs t) (inr u.high), t.size, u.size)
 
-once : (xs ys zs l m : List ℕ) (r s : Next) → Gives xs ys r l → Gives xs zs s m → s ≢ next.ReadFault → (r ≡ next.ReadFault) ⊎ (r ≡ s)
+once : (xs ys zs l m : List ℕ) (r s : Next) → Gives xs ys r l → Gives xs zs s m → s ≢ next.ReadFault
+    → (r ≡ next.ReadFault) ⊎ (r ≡ s)
 once xs ys zs l m next.ReadFault s g h n = inl refl
-once xs ys zs l m (next.Line a) (next.Line b) g h n = inr (ap (λ k. next.Line k) (g.0 ∙ two_lines xs ys zs l m g.2 h.2 g.3 h.3 ∙ sym h.0))
+once xs ys zs l m (next.Line a) (next.Line b) g h n =
+    inr (ap (λ k. next.Line k) (g.0 ∙ two_lines xs ys zs l m g.2 h.2 g.3 h.3 ∙ sym h.0))
 once xs ys zs l m (next.Line a) next.End g h n = absurd (line_no_end xs ys l g.2 g.3 h.0)
 once xs ys zs l m (next.Line a) next.TooLong g h n = absurd (line_no_long xs ys l (omega (arith, g.0, g.1)) g.2 g.3 h.1)
 once xs ys zs l m (next.Line a) next.NotAscii g h n = absurd (line_no_high xs ys l g.2 g.3 h.1)
@@ -102,7 +109,8 @@ once xs ys zs l m next.NotAscii next.TooLong g h n = absurd (long_no_high xs h.1
 once xs ys zs l m next.NotAscii next.NotAscii g h n = inr refl
 once xs ys zs l m r next.ReadFault g h n = absurd (n refl)
 
-pub only_answer : (a b : Option (List ℕ)) (line : List ℕ) (result : Next) → GivesKnown a b result line → IsOnlyAnswer a result
+pub only_answer : (a b : Option (List ℕ)) (line : List ℕ) (result : Next) → GivesKnown a b result line
+    → IsOnlyAnswer a result
 only_answer None b line result g = tt
 only_answer (Some xs) None line result g = absurd g
 only_answer (Some xs) (Some ys) line result g = λ r zs m h n. once xs ys zs line m result r g h n

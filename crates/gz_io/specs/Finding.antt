@@ -1,5 +1,6 @@
 -- What bytes that are held show of the next line, before the rest of the input is known.
-use Rattle.std.specs.Prelude.{◌≡◌, ◌≢◌, ℕ, ◌<◌, ◌≤◌, Bool, List, [], ◌∷◌, ◌++◌, ◌||◌, ◌==◌, not, nat_le, length, take, slice_index, ◌⊎◌}
+use Rattle.std.specs.Prelude.{◌≡◌, ◌≢◌, ℕ, ◌<◌, ◌≤◌, Bool, List, [], ◌∷◌, ◌++◌, ◌||◌, ◌==◌, not, nat_le, length, take}
+use Rattle.std.specs.Prelude.{slice_index, ◌⊎◌}
 use Rattle.gz_io.specs.Kept.{Kept}
 use Rattle.gz_io.specs.Lines.{IsPlain, IsTooLong, IsNotAscii, Gives}
 use Rattle.gz_io.specs.declared.reader.Next.{Next}
@@ -27,7 +28,11 @@ Finds xs found.More = (length xs ≤ 255) × IsPlain xs
 
 -- what a reader answers that holds bytes which show this; where they show nothing they are all that come
 abbrev pub GivesFound : Found → Kept → Kept → Next → Type 0
-GivesFound (found.Line n) old new result = (result ≡ next.Line n) × (n ≡ length new.line) × (n ≤ 255) × IsPlain new.line × (old.held ≡ new.line ++ 10 ∷ new.held)
+GivesFound (found.Line n) old new result =
+    (result ≡ next.Line n) × (n ≡ length new.line) × (n ≤ 255) × IsPlain new.line
+    × (old.held ≡ new.line ++ 10 ∷ new.held)
 GivesFound found.TooLong old new result = (result ≡ next.TooLong) × (new ≡ old) × IsTooLong old.held
 GivesFound found.NotAscii old new result = (result ≡ next.NotAscii) × (new ≡ old) × IsNotAscii old.held
-GivesFound found.More old new result = Gives old.held new.held result new.line × (new.held ≡ []) × (result ≢ next.TooLong) × (result ≢ next.NotAscii) × (result ≢ next.ReadFault)
+GivesFound found.More old new result =
+    Gives old.held new.held result new.line × (new.held ≡ []) × (result ≢ next.TooLong) × (result ≢ next.NotAscii)
+    × (result ≢ next.ReadFault)

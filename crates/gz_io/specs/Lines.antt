@@ -49,4 +49,5 @@ GivesKnown (Some xs) (Some ys) result line = Gives xs ys result line
 -- an answer that the bytes allow is the one that was given, but where the source failed
 abbrev pub IsOnlyAnswer : Option (List ℕ) → Next → Type 0
 IsOnlyAnswer None result = ⊤
-IsOnlyAnswer (Some xs) result = (r : Next) (ys line : List ℕ) → Gives xs ys r line → r ≢ next.ReadFault → (result ≡ next.ReadFault) ⊎ (result ≡ r)
+IsOnlyAnswer (Some xs) result =
+    (r : Next) (ys line : List ℕ) → Gives xs ys r line → r ≢ next.ReadFault → (result ≡ next.ReadFault) ⊎ (result ≡ r)

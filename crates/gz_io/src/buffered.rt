@@ -6,7 +6,8 @@
 //     |  handed on  |   held    |    free    |
 //
 // A write to the sink may fail in the middle. Then what was not sent stays held.
-ghost use Rattle.std.specs.Prelude.{◌≡◌, ◌<◌, ◌≤◌, ◌-◌, ◌+◌, ℕ, [], true, false, OnOk, length, take, drop, ◌++◌, OnErr, IfOk};
+ghost use Rattle.std.specs.Prelude.{◌≡◌, ◌<◌, ◌≤◌, ◌-◌, ◌+◌, ℕ, [], true, false, OnOk, length, take, drop, ◌++◌, OnErr};
+ghost use Rattle.std.specs.Prelude.{IfOk};
 ghost use Rattle.std.specs.Io.{WritesAtMost};
 ghost use Rattle.std.specs.Io.KnownBytes.{Appends, WriteAppends, Keeps, append_known};
 ghost use Rattle.gz_io.specs.Causes.{HasCause, Rose};

@@ -1,6 +1,7 @@
 // Sources and sinks in memory. Two of them fail at chosen calls, so that a test can have every
 // fault at every place; two never fail, and take no memory.
-ghost use Rattle.std.specs.Prelude.{◌≡◌, ◌<◌, ◌≤◌, ◌+◌, ◌-◌, ◌^◌, ◌↔◌, ◌++◌, ℕ, [], Some, None, Contains, IfOk, IsOk, IsErr, IsTrue, length, min, drop};
+ghost use Rattle.std.specs.Prelude.{◌≡◌, ◌<◌, ◌≤◌, ◌+◌, ◌-◌, ◌^◌, ◌↔◌, ◌++◌, ℕ, [], Some, None, Contains, IfOk, IsOk};
+ghost use Rattle.std.specs.Prelude.{IsErr, IsTrue, length, min, drop};
 ghost use Rattle.std.specs.Io.{ReadsAtMost, WritesAtMost};
 ghost use Rattle.std.specs.Io.KnownBytes.{ReadConsumes, WriteAppends, Keeps};
 ghost use Rattle.gz_io.specs.Causes.{HasCause};

@@ -58,7 +58,8 @@ impl Model for LineReader {
 }
 
 impl LineReader {
-    ghost use Rattle.std.specs.Prelude.{◌≡◌, ◌≢◌, ◌<◌, ◌≤◌, ◌+◌, ◌↔◌, ℕ, List, [], ◌++◌, length, take, drop, OnErr, IfOk, IsOk, IsTrue, Contains, Ok};
+    ghost use Rattle.std.specs.Prelude.{◌≡◌, ◌≢◌, ◌<◌, ◌≤◌, ◌+◌, ◌↔◌, ℕ, List, [], ◌++◌, length, take, drop, OnErr};
+    ghost use Rattle.std.specs.Prelude.{IfOk, IsOk, IsTrue, Contains, Ok};
     ghost use Rattle.std.specs.Io.KnownBytes.{Consumes, Keeps, IsAtEnd, prepend_known};
     ghost use Rattle.gz_io.specs.Causes.{HasCause, Rose};
     ghost use Rattle.gz_io.specs.Lines.{Gives, GivesKnown, IsOnlyAnswer, IsTooLong, IsNotAscii, IsPlain};

@@ -10,10 +10,12 @@ returns-in-Some-2 c =
     let most = length-take c.min.result bytes in
     let few : end < 255 = omega (arith, most) in
     let at = c.in-Some-2.ensures.lookup in
-    let other : get_or bytes end 0 ≢ 10 = λ e. c.in-Some.field-0-test.1 (ap (λ b. b.now) c.in-Some-2.field-0-is ∙ at.3.1 0 ∙ e) in (
+    let other : get_or bytes end 0 ≢ 10 = λ e. c.in-Some.field-0-test.1 (ap (λ b. b.now) c.in-Some-2.field-0-is
+    ∙ at.3.1 0 ∙ e) in (
       end,
       few,
       at.3.0,
       search (rules, take-take, c.plain_end-end.ensures.plain),
-      high_byte bytes c.min.result end (omega (arith, at.3.0)) (c.plain_end-end.ensures.stop (omega (arith, most, at.3.0))) other,
+      high_byte bytes c.min.result end (omega (arith, at.3.0))
+          (c.plain_end-end.ensures.stop (omega (arith, most, at.3.0))) other,
     )

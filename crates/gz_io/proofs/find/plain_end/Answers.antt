@@ -6,7 +6,8 @@ use Rattle.gz_io.proofs.Pieces.{taken_of_rest}
 use Rattle.gz_io.proofs.Plain.{plain_more}
 use Rattle.gz_io.proofs.find.plain_end.Goals as goal
 
-of_rest : (bytes : List ℕ) (end n : ℕ) → n ≡ prefix_len is_plain (take 16 (take (length bytes - end) (drop end bytes))) → n ≡ prefix_len is_plain (take 16 (drop end bytes))
+of_rest : (bytes : List ℕ) (end n : ℕ) → n ≡ prefix_len is_plain (take 16 (take (length bytes - end) (drop end bytes)))
+    → n ≡ prefix_len is_plain (take 16 (drop end bytes))
 of_rest bytes end n e = e ∙ ap (λ t. prefix_len is_plain (take 16 t)) (taken_of_rest bytes end)
 
 pub returns-then-plain-lt16-clause-plain : goal.returns-then-plain-lt16-clause-plain
@@ -27,4 +28,8 @@ loop-end-preserved c =
     )
 
 pub loop-end-2-preserved : goal.loop-end-2-preserved
-loop-end-2-preserved c = (omega arith, plain_more c.args.bytes.now c.loop-end-2.end (omega arith) c.loop-end-2.invariant.1 (omega arith) (λ e. c.if-bytes-end-ne10.true e))
+loop-end-2-preserved c = (
+  omega arith,
+  plain_more c.args.bytes.now c.loop-end-2.end (omega arith) c.loop-end-2.invariant.1 (omega arith)
+      (λ e. c.if-bytes-end-ne10.true e),
+)

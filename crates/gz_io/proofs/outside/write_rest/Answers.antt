@@ -9,11 +9,20 @@ loop-done-preserved g c =
     let piece = c.args.piece.now in
     let done = c.loop-done.done in
     let n = c.in-Ok.count in
-    let fits : done + n ≤ length piece = omega (arith, taken_of_rest_length piece done, c.in-Ok.ensures.bound) in
-    (fits, rw take-add (Appends-trans _ _ _ (take done piece) (take n (drop done piece)) c.loop-done.invariant.1 (rw taken_of_rest at c.in-Ok.ensures.bytes)), c.in-Ok.ensures.cause.same ∙ c.loop-done.invariant.2)
+    let fits : done + n ≤ length piece = omega (arith, taken_of_rest_length piece done, c.in-Ok.ensures.bound) in (
+      fits,
+      rw take-add (Appends-trans _ _ _ (take done piece) (take n (drop done piece)) c.loop-done.invariant.1
+          (rw taken_of_rest at c.in-Ok.ensures.bytes)),
+      c.in-Ok.ensures.cause.same ∙ c.loop-done.invariant.2,
+    )
 
 pub returns-in-Err-clause-err : goal.returns-in-Err-clause-err
 returns-in-Err-clause-err g c =
     let piece = c.args.piece.now in
-    let done = c.loop-done.done in
-    (take done piece, drop done piece, sym (take-append-drop done piece), Appends-kept _ _ _ (take done piece) c.loop-done.invariant.1 c.in-Err.ensures.bytes)
+    let done = c.loop-done.done in (
+      take done piece,
+      drop done piece,
+      sym (take-append-drop done piece),
+      Appends-kept _ _ _ (take done piece)
+          c.loop-done.invariant.1 c.in-Err.ensures.bytes,
+    )

@@ -8,6 +8,7 @@ returns-clause-held g c =
     let b = c.self.inside in
     let n = c.min-count.result in
     let h = c.copy_from_slice.ensures.after in
-    put_more b.buf c.copy_from_slice.new.self b.sent b.len _ n (omega arith) (omega arith) (ap length h ∙ length-take-le n c.args.piece.now (omega arith))
+    put_more b.buf c.copy_from_slice.new.self b.sent b.len _ n (omega arith) (omega arith) (ap length h
+    ∙ length-take-le n c.args.piece.now (omega arith))
     ∙ ap (λ t. t ++ c.copy_from_slice.new.self) (ap (λ k. k.held) c.self.view_is)
     ∙ ap (λ t. c.args.self.now.held ++ t) h

@@ -6,6 +6,7 @@ pub returns-clause-whole : goal.returns-clause-whole
 returns-clause-whole g c = λ _.
     let b = c.self.inside in
     let h = c.copy_from_slice.ensures.after in
-    put_more b.buf c.copy_from_slice.new.self b.sent b.len _ (length c.args.piece.now) (omega arith) (omega arith) (ap length h)
+    put_more b.buf c.copy_from_slice.new.self b.sent b.len _ (length c.args.piece.now) (omega arith) (omega arith)
+    (ap length h)
     ∙ ap (λ t. t ++ c.copy_from_slice.new.self) (ap (λ k. k.held) c.self.view_is)
     ∙ ap (λ t. c.args.self.now.held ++ t) h

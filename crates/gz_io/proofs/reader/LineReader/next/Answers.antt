@@ -5,7 +5,9 @@ use Rattle.gz_io.proofs.Reading.{next_bytes, stays_too_long, stays_not_ascii}
 use Rattle.gz_io.proofs.reader.LineReader.next.Goals as goal
 
 pub returns-in-Ok-clause-bytes : goal.returns-in-Ok-clause-bytes
-returns-in-Ok-clause-bytes g c = next_bytes _ _ _ _ _ c.in-Ok.found _ c.in-Ok.ensures.known (λ e. c.in-Ok.ensures.end (ap (λ f. Ok f) e)) c.give_found.ensures
+returns-in-Ok-clause-bytes g c =
+    next_bytes _ _ _ _ _ c.in-Ok.found _ c.in-Ok.ensures.known (λ e. c.in-Ok.ensures.end (ap (λ f. Ok f) e))
+    c.give_found.ensures
 
 pub returns-in-Ok-clause-takes_late : goal.returns-in-Ok-clause-takes_late
 returns-in-Ok-clause-takes_late g c = λ h. (c.in-Ok.ensures.shown (plain_no_feed _ h)).1
@@ -24,7 +26,10 @@ pub returns-in-Err-clause-takes_late : goal.returns-in-Err-clause-takes_late
 returns-in-Err-clause-takes_late g c = λ h. absurd (let e = (c.in-Err.ensures.shown (plain_no_feed _ h)).0 in cc e)
 
 pub returns-in-Err-clause-stays_not_ascii : goal.returns-in-Err-clause-stays_not_ascii
-returns-in-Err-clause-stays_not_ascii g c = λ h. absurd (let e = (c.in-Err.ensures.shown (not_ascii_shows _ h)).0 in cc e)
+returns-in-Err-clause-stays_not_ascii g c =
+    λ h. absurd (let e = (c.in-Err.ensures.shown (not_ascii_shows _ h)).0 in cc e)
 
 pub returns-in-Ok-clause-exact : goal.returns-in-Ok-clause-exact
-returns-in-Ok-clause-exact g c = only_answer _ _ _ _ (next_bytes _ _ _ _ _ c.in-Ok.found _ c.in-Ok.ensures.known (λ e. c.in-Ok.ensures.end (ap (λ f. Ok f) e)) c.give_found.ensures)
+returns-in-Ok-clause-exact g c =
+    only_answer _ _ _ _ (next_bytes _ _ _ _ _ c.in-Ok.found _ c.in-Ok.ensures.known
+    (λ e. c.in-Ok.ensures.end (ap (λ f. Ok f) e)) c.give_found.ensures)
