@@ -1,5 +1,7 @@
 -- Numbers in decimal at the front of a text.
-use Rattle.std.proofs.Common.{◌≡◌, ◌≢◌, ℕ, ◌+◌, ◌-◌, ◌*◌, ◌^◌, ◌<◌, ◌≤◌, zero, suc, drop, List, [], ◌∷◌, ◌++◌, length, get_or, refl, ap, sym, subst, ◌∙◌, arith, add-one, true, false, Bool, rules, if◌then◌else◌}
+use Rattle.std.proofs.Common.{◌≡◌, ◌≢◌, ℕ, ◌+◌, ◌-◌, ◌*◌, ◌^◌, ◌<◌, ◌≤◌, zero, suc, drop, List, [], ◌∷◌, ◌++◌, length}
+use Rattle.std.proofs.Common.{get_or, refl, ap, sym, subst, ◌∙◌, arith, add-one, true, false, Bool, rules}
+use Rattle.std.proofs.Common.{if◌then◌else◌}
 use Rattle.std.specs.Char.{is_ascii_digit}
 use Rattle.std.specs.Str.{all_ascii_digits}
 use Rattle.std.specs.Fmt.{decimal}
@@ -7,7 +9,8 @@ use Rattle.std.proofs.Math.Seq.{drop-cons}
 use Rattle.std.proofs.lemmas.List.{length-append}
 use Rattle.std.proofs.lemmas.Bool.{agree_below_at}
 use Rattle.std.proofs.lemmas.Str.Parse.{IsNumeralModel, numerals_by_fold}
-use Rattle.std.proofs.lemmas.Fmt.{decimal_digit, digits_decimal, digits_value-decimal, decimal-digits_value, decimal_nonempty, first_decimal}
+use Rattle.std.proofs.lemmas.Fmt.{decimal_digit, digits_decimal, digits_value-decimal, decimal-digits_value}
+use Rattle.std.proofs.lemmas.Fmt.{decimal_nonempty, first_decimal}
 use Rattle.trace_lang.specs.Words.{IsBreak}
 use Rattle.trace_lang.specs.Numbers.{front_digits, after_digits, read_on}
 
@@ -20,21 +23,26 @@ read_on-ge n [] = omega arith
 read_on-ge n (d ∷ ds) = omega (arith, read_on-ge (10 * n + (d - 48)) ds)
 
 -- a digit that comes next
-pub next_digit : (xs : List ℕ) (i n : ℕ) → i < length xs → is_ascii_digit (get_or xs i 0) ≡ true → read_on n (front_digits (drop i xs)) ≡ read_on (10 * n + (get_or xs i 0 - 48)) (front_digits (drop (i + 1) xs))
+pub next_digit : (xs : List ℕ) (i n : ℕ) → i < length xs → is_ascii_digit (get_or xs i 0) ≡ true
+    → read_on n (front_digits (drop i xs)) ≡ read_on (10 * n + (get_or xs i 0 - 48)) (front_digits (drop (i + 1) xs))
 next_digit xs i n h d = rw (drop-cons xs i 0 h) (rw d (rw add-one refl))
 
-pub next_after : (xs : List ℕ) (i : ℕ) → i < length xs → is_ascii_digit (get_or xs i 0) ≡ true → after_digits (drop i xs) ≡ after_digits (drop (i + 1) xs)
+pub next_after : (xs : List ℕ) (i : ℕ) → i < length xs → is_ascii_digit (get_or xs i 0) ≡ true
+    → after_digits (drop i xs) ≡ after_digits (drop (i + 1) xs)
 next_after xs i h d = rw (drop-cons xs i 0 h) (rw d (rw add-one refl))
 
 -- another byte ends the number
-pub last_digit : (xs : List ℕ) (i n : ℕ) → i < length xs → is_ascii_digit (get_or xs i 0) ≡ false → read_on n (front_digits (drop i xs)) ≡ n
+pub last_digit : (xs : List ℕ) (i n : ℕ) → i < length xs → is_ascii_digit (get_or xs i 0) ≡ false
+    → read_on n (front_digits (drop i xs)) ≡ n
 last_digit xs i n h d = rw (drop-cons xs i 0 h) (rw d refl)
 
-pub last_after : (xs : List ℕ) (i : ℕ) → i < length xs → is_ascii_digit (get_or xs i 0) ≡ false → after_digits (drop i xs) ≡ drop i xs
+pub last_after : (xs : List ℕ) (i : ℕ) → i < length xs → is_ascii_digit (get_or xs i 0) ≡ false
+    → after_digits (drop i xs) ≡ drop i xs
 last_after xs i h d = rw (drop-cons xs i 0 h) (rw d refl)
 
 -- a text is its first digits and what follows them
-parts_by : (b : ℕ) (bs : List ℕ) (t : Bool) → bs ≡ front_digits bs ++ after_digits bs → b ∷ bs ≡ (if t then b ∷ front_digits bs else []) ++ (if t then after_digits bs else b ∷ bs)
+parts_by : (b : ℕ) (bs : List ℕ) (t : Bool) → bs ≡ front_digits bs ++ after_digits bs
+    → b ∷ bs ≡ (if t then b ∷ front_digits bs else []) ++ (if t then after_digits bs else b ∷ bs)
 parts_by b bs true h = ap (λ t. b ∷ t) h
 parts_by b bs false h = refl
 
@@ -42,7 +50,8 @@ pub digits_parts : (xs : List ℕ) → xs ≡ front_digits xs ++ after_digits xs
 digits_parts [] = refl
 digits_parts (b ∷ bs) = parts_by b bs (is_ascii_digit b) (digits_parts bs)
 
-all_by : (b : ℕ) (bs : List ℕ) (t : Bool) → is_ascii_digit b ≡ t → all_ascii_digits (front_digits bs) ≡ true → all_ascii_digits (if t then b ∷ front_digits bs else []) ≡ true
+all_by : (b : ℕ) (bs : List ℕ) (t : Bool) → is_ascii_digit b ≡ t → all_ascii_digits (front_digits bs) ≡ true
+    → all_ascii_digits (if t then b ∷ front_digits bs else []) ≡ true
 all_by b bs true e h = rw e h
 all_by b bs false e h = refl
 
@@ -58,10 +67,12 @@ front_break : (rest : List ℕ) → IsBreak rest → (front_digits rest ≡ []) 
 front_break [] h = (refl, refl)
 front_break (b ∷ bs) h = (rw (break_first b h) refl, rw (break_first b h) refl)
 
-first_of_all : (d : ℕ) (ds : List ℕ) → all_ascii_digits (d ∷ ds) ≡ true → (is_ascii_digit d ≡ true) × (all_ascii_digits ds ≡ true)
+first_of_all : (d : ℕ) (ds : List ℕ) → all_ascii_digits (d ∷ ds) ≡ true
+    → (is_ascii_digit d ≡ true) × (all_ascii_digits ds ≡ true)
 first_of_all d ds h = search (rules)
 
-pub front_digits-append : (ds rest : List ℕ) → all_ascii_digits ds ≡ true → IsBreak rest → (front_digits (ds ++ rest) ≡ ds) × (after_digits (ds ++ rest) ≡ rest)
+pub front_digits-append : (ds rest : List ℕ) → all_ascii_digits ds ≡ true → IsBreak rest
+    → (front_digits (ds ++ rest) ≡ ds) × (after_digits (ds ++ rest) ≡ rest)
 front_digits-append [] rest h b = front_break rest b
 front_digits-append (d ∷ ds) rest h b =
     let p = first_of_all d ds h in
@@ -72,36 +83,49 @@ front_digits-append (d ∷ ds) rest h b =
 decimal_all : (n : ℕ) → n < 2 ^ 32 → (all_ascii_digits (decimal n) ≡ true) × (read_on 0 (decimal n) ≡ n)
 decimal_all n h = (digits_decimal own n (omega arith), digits_value-decimal own n (omega arith))
 
-pub decimal_front : (text rest : List ℕ) (n : ℕ) → n < 2 ^ 32 → IsBreak rest → text ≡ decimal n ++ rest → (n ≡ read_on 0 (front_digits text)) × (rest ≡ after_digits text)
+pub decimal_front : (text rest : List ℕ) (n : ℕ) → n < 2 ^ 32 → IsBreak rest → text ≡ decimal n ++ rest
+    → (n ≡ read_on 0 (front_digits text)) × (rest ≡ after_digits text)
 decimal_front text rest n h b e =
     let d = decimal_all n h in
     let p = front_digits-append (decimal n) rest d.0 b in
     (sym (ap (λ t. read_on 0 (front_digits t)) e ∙ ap (read_on 0) p.0 ∙ d.1), sym (ap after_digits e ∙ p.1))
 
-first_digit : (ds rest : List ℕ) → 0 < length ds → all_ascii_digits ds ≡ true → (0 < length (ds ++ rest)) × (is_ascii_digit (get_or (ds ++ rest) 0 0) ≡ true)
+first_digit : (ds rest : List ℕ) → 0 < length ds → all_ascii_digits ds ≡ true
+    → (0 < length (ds ++ rest)) × (is_ascii_digit (get_or (ds ++ rest) 0 0) ≡ true)
 first_digit [] rest h a = absurd (omega arith)
 first_digit (d ∷ ds) rest h a = (omega arith, (first_of_all d ds a).0)
 
-pub decimal_first : (text rest : List ℕ) (n : ℕ) → n < 2 ^ 32 → text ≡ decimal n ++ rest → (0 < length text) × (is_ascii_digit (get_or text 0 0) ≡ true)
-decimal_first text rest n h e = subst (λ t. (0 < length t) × (is_ascii_digit (get_or t 0 0) ≡ true)) (sym e) (first_digit (decimal n) rest (decimal_nonempty n (omega arith)) (decimal_all n h).0)
+pub decimal_first : (text rest : List ℕ) (n : ℕ) → n < 2 ^ 32 → text ≡ decimal n ++ rest
+    → (0 < length text) × (is_ascii_digit (get_or text 0 0) ≡ true)
+decimal_first text rest n h e =
+    subst (λ t. (0 < length t) × (is_ascii_digit (get_or t 0 0) ≡ true)) (sym e)
+    (first_digit (decimal n) rest (decimal_nonempty n (omega arith)) (decimal_all n h).0)
 
 -- a zero in front is all of the number
 get_or-front : (ds rest : List ℕ) → 0 < length ds → get_or (ds ++ rest) 0 0 ≡ get_or ds 0 0
 get_or-front [] rest h = absurd (omega arith)
 get_or-front (d ∷ ds) rest h = refl
 
-pub decimal_zero : (text rest others : List ℕ) (n : ℕ) → n < 2 ^ 32 → text ≡ 48 ∷ others → text ≡ decimal n ++ rest → (0 ≡ n) × (others ≡ rest)
-decimal_zero text rest others zero h z e = (refl, ap (drop 1) (sym z ∙ e ∙ ap (λ t. t ++ rest) (decimal_digit 0 (omega arith))))
+pub decimal_zero : (text rest others : List ℕ) (n : ℕ) → n < 2 ^ 32 → text ≡ 48 ∷ others → text ≡ decimal n ++ rest
+    → (0 ≡ n) × (others ≡ rest)
+decimal_zero text rest others zero h z e =
+    (refl, ap (drop 1) (sym z ∙ e ∙ ap (λ t. t ++ rest) (decimal_digit 0 (omega arith))))
 decimal_zero text rest others (suc n) h z e =
-    let first : get_or text 0 0 ≡ get_or (decimal (suc n)) 0 0 = ap (λ t. get_or t 0 0) e ∙ get_or-front (decimal (suc n)) rest (decimal_nonempty (suc n) (omega arith)) in
+    let first : get_or text 0 0 ≡ get_or (decimal (suc n)) 0 0 =
+    ap (λ t. get_or t 0 0) e ∙ get_or-front (decimal (suc n)) rest (decimal_nonempty (suc n) (omega arith)) in
     let zero_first : get_or text 0 0 ≡ 48 = ap (λ t. get_or t 0 0) z in
     absurd (omega (arith, first, zero_first, first_decimal (suc n) (omega arith) (omega arith)))
 
 -- digits in front of which the first is no zero
-digits_number : (b : ℕ) (bs : List ℕ) → is_ascii_digit b ≡ true → b ≢ 48 → read_on 0 (front_digits (b ∷ bs)) < 2 ^ 32 → decimal (read_on 0 (front_digits (b ∷ bs))) ≡ front_digits (b ∷ bs)
-digits_number b bs d other h = decimal-digits_value own (front_digits (b ∷ bs)) (front_digits-all (b ∷ bs)) (rw d (omega arith)) (rw d (λ e. absurd (other e))) (omega arith)
+digits_number : (b : ℕ) (bs : List ℕ) → is_ascii_digit b ≡ true → b ≢ 48 → read_on 0 (front_digits (b ∷ bs)) < 2 ^ 32
+    → decimal (read_on 0 (front_digits (b ∷ bs))) ≡ front_digits (b ∷ bs)
+digits_number b bs d other h =
+    decimal-digits_value own (front_digits (b ∷ bs)) (front_digits-all (b ∷ bs)) (rw d (omega arith)) (rw d
+    (λ e. absurd (other e))) (omega arith)
 
-pub front_number : (text rest : List ℕ) (n : ℕ) → 0 < length text → is_ascii_digit (get_or text 0 0) ≡ true → get_or text 0 0 ≢ 48 → n < 2 ^ 32 → n ≡ read_on 0 (front_digits text) → rest ≡ after_digits text → text ≡ decimal n ++ rest
+pub front_number : (text rest : List ℕ) (n : ℕ) → 0 < length text → is_ascii_digit (get_or text 0 0) ≡ true
+    → get_or text 0 0 ≢ 48 → n < 2 ^ 32 → n ≡ read_on 0 (front_digits text) → rest ≡ after_digits text
+    → text ≡ decimal n ++ rest
 front_number [] rest n some d other h e r = absurd (omega arith)
 front_number (b ∷ bs) rest n some d other h e r =
     digits_parts (b ∷ bs)
@@ -109,7 +133,8 @@ front_number (b ∷ bs) rest n some d other h e r =
     ∙ ap (λ t. decimal n ++ t) (sym r)
 
 -- a text without a digit in front holds no number
-pub no_decimal : (text rest : List ℕ) (n : ℕ) → n < 2 ^ 32 → (0 < length text → is_ascii_digit (get_or text 0 0) ≡ false) → text ≡ decimal n ++ rest → ⊥
+pub no_decimal : (text rest : List ℕ) (n : ℕ) → n < 2 ^ 32
+    → (0 < length text → is_ascii_digit (get_or text 0 0) ≡ false) → text ≡ decimal n ++ rest → ⊥
 no_decimal text rest n h none e =
     let first = decimal_first text rest n h e in
     let other = none first.0 in cc (first.1, other)
@@ -134,20 +159,27 @@ two_text d e some h k =
     let ds = (48 + d) ∷ (48 + e) ∷ [] in
     let all : all_ascii_digits ds ≡ true = rw (digit_is d h) (rw (digit_is e k) refl) in
     let value : read_on 0 ds ≡ 10 * d + e = omega arith in
-    ap decimal (sym value) ∙ decimal-digits_value own ds all (omega arith) (λ z. absurd (omega (arith, z))) (omega (arith, value))
+    ap decimal (sym value) ∙ decimal-digits_value own ds all (omega arith)
+    (λ z. absurd (omega (arith, z))) (omega (arith, value))
 
-pub two_digits : (text rest others : List ℕ) (d e : ℕ) → 0 < d → d < 10 → e < 10 → text ≡ (48 + d) ∷ rest → rest ≡ (48 + e) ∷ others → text ≡ decimal (10 * d + e) ++ others
-two_digits text rest others d e some h k p q = p ∙ ap (λ t. (48 + d) ∷ t) q ∙ ap (λ t. t ++ others) (sym (two_text d e some h k))
+pub two_digits : (text rest others : List ℕ) (d e : ℕ) → 0 < d → d < 10 → e < 10 → text ≡ (48 + d) ∷ rest
+    → rest ≡ (48 + e) ∷ others → text ≡ decimal (10 * d + e) ++ others
+two_digits text rest others d e some h k p q =
+    p ∙ ap (λ t. (48 + d) ∷ t) q ∙ ap (λ t. t ++ others) (sym (two_text d e some h k))
 
 -- digits that no digit follows
-ends_by : (rest : List ℕ) → (0 < length rest → is_ascii_digit (get_or rest 0 0) ≡ false) → (front_digits rest ≡ []) × (after_digits rest ≡ rest)
+ends_by : (rest : List ℕ) → (0 < length rest → is_ascii_digit (get_or rest 0 0) ≡ false)
+    → (front_digits rest ≡ []) × (after_digits rest ≡ rest)
 ends_by [] none = (refl, refl)
 ends_by (b ∷ bs) none = let other = none (omega arith) in (rw other refl, rw other refl)
 
-starts_with : (text rest : List ℕ) (d : ℕ) → d < 10 → text ≡ (48 + d) ∷ rest → (front_digits text ≡ (48 + d) ∷ front_digits rest) × (after_digits text ≡ after_digits rest)
+starts_with : (text rest : List ℕ) (d : ℕ) → d < 10 → text ≡ (48 + d) ∷ rest
+    → (front_digits text ≡ (48 + d) ∷ front_digits rest) × (after_digits text ≡ after_digits rest)
 starts_with text rest d h e = (ap front_digits e ∙ rw (digit_is d h) refl, ap after_digits e ∙ rw (digit_is d h) refl)
 
-pub only_one : (text rest r : List ℕ) (d n : ℕ) → d < 10 → n < 2 ^ 32 → text ≡ (48 + d) ∷ rest → (0 < length rest → is_ascii_digit (get_or rest 0 0) ≡ false) → IsBreak r → text ≡ decimal n ++ r → (d ≡ n) × (rest ≡ r)
+pub only_one : (text rest r : List ℕ) (d n : ℕ) → d < 10 → n < 2 ^ 32 → text ≡ (48 + d) ∷ rest
+    → (0 < length rest → is_ascii_digit (get_or rest 0 0) ≡ false) → IsBreak r → text ≡ decimal n ++ r
+    → (d ≡ n) × (rest ≡ r)
 only_one text rest r d n h small e none b is =
     let f = decimal_front text r n small b is in
     let s = starts_with text rest d h e in
@@ -156,33 +188,40 @@ only_one text rest r d n h small e none b is =
     (omega (arith, value), sym (f.1 ∙ s.1 ∙ t.1))
 
 -- a third digit makes a hundred
-not_third : (c : ℕ) (cs : List ℕ) (k : ℕ) (t : Bool) → is_ascii_digit c ≡ t → 10 ≤ k → read_on k (if t then c ∷ front_digits cs else []) < 100 → t ≡ false
+not_third : (c : ℕ) (cs : List ℕ) (k : ℕ) (t : Bool) → is_ascii_digit c ≡ t → 10 ≤ k
+    → read_on k (if t then c ∷ front_digits cs else []) < 100 → t ≡ false
 not_third c cs k false e h m = refl
 not_third c cs k true e h m = absurd (omega (arith, m, read_on-ge (10 * k + (c - 48)) (front_digits cs)))
 
-no_third : (others : List ℕ) (k : ℕ) → 10 ≤ k → read_on k (front_digits others) < 100 → 0 < length others → is_ascii_digit (get_or others 0 0) ≡ false
+no_third : (others : List ℕ) (k : ℕ) → 10 ≤ k → read_on k (front_digits others) < 100 → 0 < length others
+    → is_ascii_digit (get_or others 0 0) ≡ false
 no_third [] k h m some = absurd (omega (arith, some))
 no_third (c ∷ cs) k h m some = not_third c cs k (is_ascii_digit c) refl h m
 
-pub only_two : (text rest others r : List ℕ) (d e n : ℕ) → 0 < d → d < 10 → e < 10 → n < 100 → text ≡ (48 + d) ∷ rest → rest ≡ (48 + e) ∷ others → IsBreak r → text ≡ decimal n ++ r → (10 * d + e ≡ n) × (others ≡ r)
+pub only_two : (text rest others r : List ℕ) (d e n : ℕ) → 0 < d → d < 10 → e < 10 → n < 100 → text ≡ (48 + d) ∷ rest
+    → rest ≡ (48 + e) ∷ others → IsBreak r → text ≡ decimal n ++ r → (10 * d + e ≡ n) × (others ≡ r)
 only_two text rest others r d e n some h k small p q b is =
     let f = decimal_front text r n (omega arith) b is in
     let s = starts_with text rest d h p in
     let t = starts_with rest others e k q in
     let both : 10 * (10 * 0 + (48 + d - 48)) + (48 + e - 48) ≡ 10 * d + e = omega arith in
-    let value : n ≡ read_on (10 * d + e) (front_digits others) = f.0 ∙ ap (read_on 0) (s.0 ∙ ap (λ ds. (48 + d) ∷ ds) t.0) ∙ ap (λ m. read_on m (front_digits others)) both in
+    let value : n ≡ read_on (10 * d + e) (front_digits others) =
+    f.0 ∙ ap (read_on 0) (s.0 ∙ ap (λ ds. (48 + d) ∷ ds) t.0) ∙ ap (λ m. read_on m (front_digits others)) both in
     let u = ends_by others (no_third others (10 * d + e) (omega arith) (omega (arith, value))) in
     let whole : n ≡ 10 * d + e = value ∙ ap (read_on (10 * d + e)) u.0 in
     (sym whole, sym (f.1 ∙ s.1 ∙ t.1 ∙ u.1))
 
-pub digit_first : (text rest : List ℕ) (d : ℕ) → d < 10 → text ≡ (48 + d) ∷ rest → (0 < length text) × (is_ascii_digit (get_or text 0 0) ≡ true) × (get_or text 0 0 ≡ 48 + d)
+pub digit_first : (text rest : List ℕ) (d : ℕ) → d < 10 → text ≡ (48 + d) ∷ rest
+    → (0 < length text) × (is_ascii_digit (get_or text 0 0) ≡ true) × (get_or text 0 0 ≡ 48 + d)
 digit_first text rest d h e =
     let at : get_or text 0 0 ≡ 48 + d = ap (λ t. get_or t 0 0) e in
     let some : length text ≡ length ((48 + d) ∷ rest) = ap length e in
     (omega (arith, some), ap is_ascii_digit at ∙ digit_is d h, at)
 
 -- a number goes on from its first digit
-pub from_first : (rest : List ℕ) (d : ℕ) → d < 10 → (read_on 0 (front_digits ((48 + d) ∷ rest)) ≡ read_on d (front_digits rest)) × (after_digits ((48 + d) ∷ rest) ≡ after_digits rest)
+pub from_first : (rest : List ℕ) (d : ℕ) → d < 10
+    → (read_on 0 (front_digits ((48 + d) ∷ rest)) ≡ read_on d (front_digits rest))
+    × (after_digits ((48 + d) ∷ rest) ≡ after_digits rest)
 from_first rest d h =
     let s = starts_with ((48 + d) ∷ rest) rest d h refl in
     let value : 10 * 0 + (48 + d - 48) ≡ d = omega arith in
@@ -193,9 +232,11 @@ get_or-seam [] rest = refl
 get_or-seam (b ∷ bs) rest = get_or-seam bs rest
 
 -- where a number comes next, so does a digit
-pub digit_next : (text front rest : List ℕ) (n : ℕ) → n < 2 ^ 32 → text ≡ front ++ (decimal n ++ rest) → (length front < length text) × (is_ascii_digit (get_or text (length front) 0) ≡ true)
+pub digit_next : (text front rest : List ℕ) (n : ℕ) → n < 2 ^ 32 → text ≡ front ++ (decimal n ++ rest)
+    → (length front < length text) × (is_ascii_digit (get_or text (length front) 0) ≡ true)
 digit_next text front rest n h e =
     let first = decimal_first (decimal n ++ rest) rest n h refl in
     let long : length text ≡ length (front ++ (decimal n ++ rest)) = ap length e in
-    let at : get_or text (length front) 0 ≡ get_or (decimal n ++ rest) 0 0 = ap (λ t. get_or t (length front) 0) e ∙ get_or-seam front (decimal n ++ rest) in
+    let at : get_or text (length front) 0 ≡ get_or (decimal n ++ rest) 0 0 =
+    ap (λ t. get_or t (length front) 0) e ∙ get_or-seam front (decimal n ++ rest) in
     (omega (arith, long, length-append front (decimal n ++ rest), first.0), ap is_ascii_digit at ∙ first.1)

@@ -1,5 +1,6 @@
 -- What was written of a text and what is held back.
-use Rattle.std.proofs.Common.{◌≡◌, ℕ, ◌+◌, ◌<◌, ◌≤◌, take, drop, List, [], ◌∷◌, ◌++◌, length, get_or, refl, ap, sym, subst, ◌∙◌, arith, append_assoc, take-append-drop, Option, true, false}
+use Rattle.std.proofs.Common.{◌≡◌, ℕ, ◌+◌, ◌<◌, ◌≤◌, take, drop, List, [], ◌∷◌, ◌++◌, length, get_or, refl, ap, sym}
+use Rattle.std.proofs.Common.{subst, ◌∙◌, arith, append_assoc, take-append-drop, Option, true, false}
 use Rattle.std.proofs.lemmas.List.{append-nil, length-take-le}
 use Rattle.std.specs.Prelude.{codes, ◌==◌}
 use Rattle.std.proofs.lemmas.Bool.{eqb-true}
@@ -18,20 +19,33 @@ pub owes_first : (a : Option (List ℕ)) (held : List ℕ) → Owes a a held hel
 owes_first a held = ([], Appends-nil a, refl)
 
 -- what is held grows
-pub owes_more : (a b : Option (List ℕ)) (held text more : List ℕ) → Owes a b held text → Owes a b (held ++ more) (text ++ more)
+pub owes_more : (a b : Option (List ℕ)) (held text more : List ℕ) → Owes a b held text
+    → Owes a b (held ++ more) (text ++ more)
 owes_more a b held text more h = (h.0, h.1, ap (λ t. t ++ more) h.2 ∙ append_assoc h.0 held more)
 
 -- some of what is held is written
-pub owes_sent : (a b c : Option (List ℕ)) (held rest text : List ℕ) → Owes a b held text → Owes b c rest held → Owes a c rest text
-owes_sent a b c held rest text h k = (h.0 ++ k.0, Appends-trans a b c h.0 k.0 h.1 k.1, h.2 ∙ ap (λ t. h.0 ++ t) k.2 ∙ sym (append_assoc h.0 k.0 rest))
+pub owes_sent : (a b c : Option (List ℕ)) (held rest text : List ℕ) → Owes a b held text → Owes b c rest held
+    → Owes a c rest text
+owes_sent a b c held rest text h k =
+    (h.0 ++ k.0, Appends-trans a b c h.0 k.0 h.1 k.1, h.2 ∙ ap (λ t. h.0 ++ t) k.2 ∙ sym (append_assoc h.0 k.0 rest))
 
 -- all that is held is written, and more
-pub owes_end : (a b c : Option (List ℕ)) (held text more : List ℕ) → Owes a b held text → Appends b c (held ++ more) → Appends a c (text ++ more)
-owes_end a b c held text more h k = subst (λ t. Appends a c t) (sym (ap (λ t. t ++ more) h.2 ∙ append_assoc h.0 held more)) (Appends-trans a b c h.0 (held ++ more) h.1 k)
+pub owes_end : (a b c : Option (List ℕ)) (held text more : List ℕ) → Owes a b held text → Appends b c (held ++ more)
+    → Appends a c (text ++ more)
+owes_end a b c held text more h k =
+    subst (λ t. Appends a c t) (sym (ap (λ t. t ++ more) h.2 ∙ append_assoc h.0 held more))
+    (Appends-trans a b c h.0 (held ++ more) h.1 k)
 
 -- a front of what is held, and of more, is written
-pub owes_front : (a b c : Option (List ℕ)) (held text more : List ℕ) → Owes a b held text → AppendsFront b c (held ++ more) → AppendsFront a c (text ++ more)
-owes_front a b c held text more h k = (h.0 ++ k.0, k.1, ap (λ t. t ++ more) h.2 ∙ append_assoc h.0 held more ∙ ap (λ t. h.0 ++ t) k.2 ∙ sym (append_assoc h.0 k.0 k.1), Appends-trans a b c h.0 k.0 h.1 k.3)
+pub owes_front : (a b c : Option (List ℕ)) (held text more : List ℕ) → Owes a b held text
+    → AppendsFront b c (held ++ more) → AppendsFront a c (text ++ more)
+owes_front a b c held text more h k = (
+  h.0 ++ k.0,
+  k.1,
+  ap (λ t. t ++ more) h.2 ∙ append_assoc h.0 held more ∙ ap (λ t. h.0 ++ t) k.2
+      ∙ sym (append_assoc h.0 k.0 k.1),
+  Appends-trans a b c h.0 k.0 h.1 k.3,
+)
 
 pub front_more : (a b : Option (List ℕ)) (text more : List ℕ) → AppendsFront a b text → AppendsFront a b (text ++ more)
 front_more a b text more h = (h.0, h.1 ++ more, ap (λ t. t ++ more) h.2 ∙ append_assoc h.0 h.1 more, h.3)
@@ -40,30 +54,43 @@ pub owes_moved : (a b : Option (List ℕ)) (held new text : List ℕ) → new �
 owes_moved a b held new text e h = subst (λ t. Owes a b t text) (sym e) h
 
 -- a step of a loop: room is made, and then more is held
-pub owes_step : (a b c : Option (List ℕ)) (held mid new text next more : List ℕ) → Owes a b held text → Owes b c mid held → new ≡ mid ++ more → next ≡ text ++ more → Owes a c new next
-owes_step a b c held mid new text next more h k n e = subst (λ t. Owes a c t next) (sym n) (subst (λ t. Owes a c (mid ++ more) t) (sym e) (owes_more a c mid text more (owes_sent a b c held mid text h k)))
+pub owes_step : (a b c : Option (List ℕ)) (held mid new text next more : List ℕ) → Owes a b held text
+    → Owes b c mid held → new ≡ mid ++ more → next ≡ text ++ more → Owes a c new next
+owes_step a b c held mid new text next more h k n e =
+    subst (λ t. Owes a c t next) (sym n) (subst
+    (λ t. Owes a c (mid ++ more) t) (sym e) (owes_more a c mid text more (owes_sent a b c held mid text h k)))
 
 -- a front of what is held was written
-pub front_step : (a b c : Option (List ℕ)) (held text all more : List ℕ) → Owes a b held text → AppendsFront b c held → all ≡ text ++ more → AppendsFront a c all
+pub front_step : (a b c : Option (List ℕ)) (held text all more : List ℕ) → Owes a b held text → AppendsFront b c held
+    → all ≡ text ++ more → AppendsFront a c all
 front_step a b c held text all more h k e =
     let f : AppendsFront b c (held ++ []) = front_more b c held [] k in
     let g : AppendsFront a c (text ++ []) = owes_front a b c held text [] h f in
-    subst (λ t. AppendsFront a c t) (sym e) (front_more a c text more (subst (λ t. AppendsFront a c t) (append-nil text) g))
+    subst (λ t. AppendsFront a c t) (sym e)
+    (front_more a c text more (subst (λ t. AppendsFront a c t) (append-nil text) g))
 
 pub name_words-push : (xs : List Name) (x : Name) → name_words (xs ++ x ∷ []) ≡ name_words xs ++ (32 ∷ name_text x)
 name_words-push [] x = ap (λ t. 32 ∷ t) (append-nil (name_text x))
-name_words-push (y ∷ xs) x = ap (λ t. 32 ∷ t) (ap (λ t. name_text y ++ t) (name_words-push xs x) ∙ sym (append_assoc (name_text y) (name_words xs) (32 ∷ name_text x)))
+name_words-push (y ∷ xs) x =
+    ap (λ t. 32 ∷ t) (ap (λ t. name_text y ++ t) (name_words-push xs x)
+    ∙ sym (append_assoc (name_text y) (name_words xs) (32 ∷ name_text x)))
 
-pub taken_next : {X : Type 0} (xs : List X) (i : ℕ) (d : X) → i < length xs → take (i + 1) xs ≡ take i xs ++ get_or xs i d ∷ []
+pub taken_next : {X : Type 0} (xs : List X) (i : ℕ) (d : X) → i < length xs
+    → take (i + 1) xs ≡ take i xs ++ get_or xs i d ∷ []
 taken_next xs i d h = take-add i 1 xs ∙ ap (λ t. take i xs ++ take 1 t) (drop-cons xs i d h)
 
 pub name_words-append : (xs ys : List Name) → name_words (xs ++ ys) ≡ name_words xs ++ name_words ys
 name_words-append [] ys = refl
-name_words-append (x ∷ xs) ys = ap (λ t. 32 ∷ t) (ap (λ t. name_text x ++ t) (name_words-append xs ys) ∙ sym (append_assoc (name_text x) (name_words xs) (name_words ys)))
+name_words-append (x ∷ xs) ys =
+    ap (λ t. 32 ∷ t) (ap (λ t. name_text x ++ t) (name_words-append xs ys)
+    ∙ sym (append_assoc (name_text x) (name_words xs) (name_words ys)))
 
-pub groups_text-append : (n m : ℕ) (xs ys : List ZoneSet) → m ≡ n + length xs → groups_text n (xs ++ ys) ≡ groups_text n xs ++ groups_text m ys
+pub groups_text-append : (n m : ℕ) (xs ys : List ZoneSet) → m ≡ n + length xs
+    → groups_text n (xs ++ ys) ≡ groups_text n xs ++ groups_text m ys
 groups_text-append n m [] ys e = ap (λ k. groups_text k ys) (let k : n ≡ m = omega (arith, e) in k)
-groups_text-append n m (x ∷ xs) ys e = ap (λ t. (bar_text n ++ number_words (zones_in x)) ++ t) (groups_text-append (n + 1) m xs ys (omega (arith, e))) ∙ sym (append_assoc (bar_text n ++ number_words (zones_in x)) (groups_text (n + 1) xs) (groups_text m ys))
+groups_text-append n m (x ∷ xs) ys e =
+    ap (λ t. (bar_text n ++ number_words (zones_in x)) ++ t) (groups_text-append (n + 1) m xs ys (omega (arith, e)))
+    ∙ sym (append_assoc (bar_text n ++ number_words (zones_in x)) (groups_text (n + 1) xs) (groups_text m ys))
 
 pub names_none : (xs : List Name) → (length xs == 0) ≡ true → names_text xs ≡ codes " -"
 names_none [] h = refl
@@ -76,24 +103,39 @@ names_some (x ∷ xs) h = refl
 assoc4 : (o a b n : List ℕ) → (o ++ (a ++ b)) ++ n ≡ (o ++ a) ++ (b ++ n)
 assoc4 o a b n = ap (λ t. t ++ n) (sym (append_assoc o a b)) ∙ append_assoc (o ++ a) b n
 
-pub some_rest : (old : List ℕ) (xs : List Name) (i : ℕ) → line_of (old ++ name_words xs) ≡ (old ++ name_words (take i xs)) ++ (name_words (drop i xs) ++ 10 ∷ [])
-some_rest old xs i = ap (λ t. line_of (old ++ t)) (ap name_words (sym (take-append-drop i xs)) ∙ name_words-append (take i xs) (drop i xs)) ∙ assoc4 old (name_words (take i xs)) (name_words (drop i xs)) (10 ∷ [])
+pub some_rest : (old : List ℕ) (xs : List Name) (i : ℕ)
+    → line_of (old ++ name_words xs) ≡ (old ++ name_words (take i xs)) ++ (name_words (drop i xs) ++ 10 ∷ [])
+some_rest old xs i =
+    ap (λ t. line_of (old ++ t)) (ap name_words (sym (take-append-drop i xs)) ∙ name_words-append (take i xs)
+    (drop i xs)) ∙ assoc4 old (name_words (take i xs)) (name_words (drop i xs)) (10 ∷ [])
 
-pub group_rest : (old : List ℕ) (xs : List ZoneSet) (i : ℕ) → i ≤ length xs → line_of (old ++ groups_text 0 xs) ≡ (old ++ groups_text 0 (take i xs)) ++ (groups_text i (drop i xs) ++ 10 ∷ [])
+pub group_rest : (old : List ℕ) (xs : List ZoneSet) (i : ℕ) → i ≤ length xs
+    → line_of (old ++ groups_text 0 xs) ≡ (old ++ groups_text 0 (take i xs)) ++ (groups_text i (drop i xs) ++ 10 ∷ [])
 group_rest old xs i h =
     let l : length (take i xs) ≡ i = length-take-le i xs h in
-    ap (λ t. line_of (old ++ t)) (ap (groups_text 0) (sym (take-append-drop i xs)) ∙ groups_text-append 0 i (take i xs) (drop i xs) (omega (arith, l))) ∙ assoc4 old (groups_text 0 (take i xs)) (groups_text i (drop i xs)) (10 ∷ [])
+    ap (λ t. line_of (old ++ t)) (ap (groups_text 0) (sym (take-append-drop i xs)) ∙ groups_text-append 0 i (take i xs)
+    (drop i xs) (omega (arith, l))) ∙ assoc4 old (groups_text 0 (take i xs)) (groups_text i (drop i xs)) (10 ∷ [])
 
-pub some_next : (old : List ℕ) (xs : List Name) (i : ℕ) (d : Name) → i < length xs → old ++ name_words (take (i + 1) xs) ≡ (old ++ name_words (take i xs)) ++ (32 ∷ name_text (get_or xs i d))
-some_next old xs i d h = ap (λ t. old ++ t) (ap name_words (taken_next xs i d h) ∙ name_words-push (take i xs) (get_or xs i d)) ∙ sym (append_assoc old (name_words (take i xs)) (32 ∷ name_text (get_or xs i d)))
+pub some_next : (old : List ℕ) (xs : List Name) (i : ℕ) (d : Name) → i < length xs
+    → old ++ name_words (take (i + 1) xs) ≡ (old ++ name_words (take i xs)) ++ (32 ∷ name_text (get_or xs i d))
+some_next old xs i d h =
+    ap (λ t. old ++ t) (ap name_words (taken_next xs i d h) ∙ name_words-push (take i xs) (get_or xs i d))
+    ∙ sym (append_assoc old (name_words (take i xs)) (32 ∷ name_text (get_or xs i d)))
 
-pub group_next : (old : List ℕ) (xs : List ZoneSet) (i : ℕ) (d : ZoneSet) → i < length xs → old ++ groups_text 0 (take (i + 1) xs) ≡ (old ++ groups_text 0 (take i xs)) ++ (bar_text i ++ number_words (zones_in (get_or xs i d)))
+pub group_next : (old : List ℕ) (xs : List ZoneSet) (i : ℕ) (d : ZoneSet) → i < length xs
+    → old ++ groups_text 0 (take (i + 1) xs) ≡ (old ++ groups_text 0 (take i xs))
+    ++ (bar_text i ++ number_words (zones_in (get_or xs i d)))
 group_next old xs i d h =
     let l : length (take i xs) ≡ i = length-take-le i xs (omega arith) in
-    ap (λ t. old ++ t) (ap (groups_text 0) (taken_next xs i d h) ∙ groups_text-append 0 i (take i xs) (get_or xs i d ∷ []) (omega (arith, l)) ∙ ap (λ t. groups_text 0 (take i xs) ++ t) (append-nil (bar_text i ++ number_words (zones_in (get_or xs i d))))) ∙ sym (append_assoc old (groups_text 0 (take i xs)) (bar_text i ++ number_words (zones_in (get_or xs i d))))
+    ap (λ t. old ++ t) (ap (groups_text 0) (taken_next xs i d h) ∙ groups_text-append 0 i (take i xs)
+    (get_or xs i d ∷ []) (omega (arith, l)) ∙ ap
+    (λ t. groups_text 0 (take i xs) ++ t) (append-nil (bar_text i ++ number_words (zones_in (get_or xs i d)))))
+    ∙ sym (append_assoc old (groups_text 0 (take i xs)) (bar_text i ++ number_words (zones_in (get_or xs i d))))
 
-pub end_front : (a b c : Option (List ℕ)) (held text all : List ℕ) → Owes a b held text → all ≡ text → AppendsFront b c (line_of held) → AppendsFront a c (line_of all)
-end_front a b c held text all h e k = subst (λ t. AppendsFront a c (line_of t)) (sym e) (owes_front a b c held text (10 ∷ []) h k)
+pub end_front : (a b c : Option (List ℕ)) (held text all : List ℕ) → Owes a b held text → all ≡ text
+    → AppendsFront b c (line_of held) → AppendsFront a c (line_of all)
+end_front a b c held text all h e k =
+    subst (λ t. AppendsFront a c (line_of t)) (sym e) (owes_front a b c held text (10 ∷ []) h k)
 
 pub two_pieces : (mid push new x y : List ℕ) → push ≡ mid ++ x → new ≡ push ++ y → new ≡ mid ++ (x ++ y)
 two_pieces mid push new x y p n = n ∙ ap (λ t. t ++ y) p ∙ append_assoc mid x y

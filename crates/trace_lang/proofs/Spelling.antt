@@ -1,5 +1,6 @@
 -- Words of a text.
-use Rattle.std.proofs.Common.{rules, ◌-◌, ◌≤◌, sym, ◌≡◌, ◌≢◌, ℕ, ◌+◌, ◌<◌, zero, suc, take, drop, List, [], ◌∷◌, ◌++◌, length, get_or, refl, ap, ◌∙◌, arith, add-one, true, false, Bool, if◌then◌else◌}
+use Rattle.std.proofs.Common.{rules, ◌-◌, ◌≤◌, sym, ◌≡◌, ◌≢◌, ℕ, ◌+◌, ◌<◌, zero, suc, take, drop, List, [], ◌∷◌, ◌++◌}
+use Rattle.std.proofs.Common.{length, get_or, refl, ap, ◌∙◌, arith, add-one, true, false, Bool, if◌then◌else◌}
 use Rattle.std.specs.Prelude.{◌==◌, codes}
 use Rattle.std.proofs.lemmas.Bool.{eqb-false}
 use Rattle.std.proofs.lemmas.List.{take_all}
@@ -7,7 +8,8 @@ use Rattle.trace_lang.specs.declared.words.Word.{Word}
 use Rattle.trace_lang.specs.declared.words.Word.TheVariants as word
 use Rattle.trace_lang.specs.Words.{IsBreak, IsWord, word_text}
 
-pub word_more : (xs : List ℕ) (i : ℕ) → i < length xs → IsWord (take i xs) → get_or xs i 0 ≢ 32 → IsWord (take (i + 1) xs)
+pub word_more : (xs : List ℕ) (i : ℕ) → i < length xs → IsWord (take i xs) → get_or xs i 0 ≢ 32
+    → IsWord (take (i + 1) xs)
 word_more [] i h p other = absurd (omega arith)
 word_more (x ∷ xs) zero h p other = (other, tt)
 word_more (x ∷ xs) (suc i) h p other = rw add-one (p.0, rw add-one at (word_more xs i (omega arith) p.1 other))
@@ -29,7 +31,8 @@ abbrev no_space : List ℕ → Bool
 no_space [] = true
 no_space (b ∷ bs) = if b == 32 then false else no_space bs
 
-no_space_parts : (b : ℕ) (bs : List ℕ) (t : Bool) → (b == 32) ≡ t → (if t then false else no_space bs) ≡ true → (b ≢ 32) × (no_space bs ≡ true)
+no_space_parts : (b : ℕ) (bs : List ℕ) (t : Bool) → (b == 32) ≡ t → (if t then false else no_space bs) ≡ true
+    → (b ≢ 32) × (no_space bs ≡ true)
 no_space_parts b bs true e h = absurd (cc h)
 no_space_parts b bs false e h = (eqb-false b 32 e, h)
 
@@ -80,7 +83,8 @@ pub only_drop : (w : Word) (rest r : List ℕ) → codes "drop" ++ rest ≡ word
 only_drop w rest r e = search (rules, e)
 
 -- a text by its first bytes
-pub front_three : (xs : List ℕ) (a b c : ℕ) → 3 ≤ length xs → get_or xs 0 0 ≡ a → get_or xs 1 0 ≡ b → get_or xs 2 0 ≡ c → xs ≡ a ∷ b ∷ c ∷ take (length xs - 3) (drop 3 xs)
+pub front_three : (xs : List ℕ) (a b c : ℕ) → 3 ≤ length xs → get_or xs 0 0 ≡ a → get_or xs 1 0 ≡ b → get_or xs 2 0 ≡ c
+    → xs ≡ a ∷ b ∷ c ∷ take (length xs - 3) (drop 3 xs)
 front_three [] a b c h p q r = absurd (omega arith)
 front_three (x ∷ []) a b c h p q r = absurd (omega arith)
 front_three (x ∷ y ∷ []) a b c h p q r = absurd (omega arith)
@@ -88,11 +92,13 @@ front_three (x ∷ y ∷ z ∷ ts) a b c h p q r =
     ap (λ t. t ∷ y ∷ z ∷ ts) p ∙ ap (λ t. a ∷ t ∷ z ∷ ts) q ∙ ap (λ t. a ∷ b ∷ t ∷ ts) r
     ∙ ap (λ t. a ∷ b ∷ c ∷ t) (sym (take_all (length (x ∷ y ∷ z ∷ ts) - 3) ts (omega arith)))
 
-pub front_four : (xs : List ℕ) (a b c d : ℕ) → 4 ≤ length xs → get_or xs 0 0 ≡ a → get_or xs 1 0 ≡ b → get_or xs 2 0 ≡ c → get_or xs 3 0 ≡ d → xs ≡ a ∷ b ∷ c ∷ d ∷ take (length xs - 4) (drop 4 xs)
+pub front_four : (xs : List ℕ) (a b c d : ℕ) → 4 ≤ length xs → get_or xs 0 0 ≡ a → get_or xs 1 0 ≡ b → get_or xs 2 0 ≡ c
+    → get_or xs 3 0 ≡ d → xs ≡ a ∷ b ∷ c ∷ d ∷ take (length xs - 4) (drop 4 xs)
 front_four [] a b c d h p q r s = absurd (omega arith)
 front_four (x ∷ []) a b c d h p q r s = absurd (omega arith)
 front_four (x ∷ y ∷ []) a b c d h p q r s = absurd (omega arith)
 front_four (x ∷ y ∷ z ∷ []) a b c d h p q r s = absurd (omega arith)
 front_four (x ∷ y ∷ z ∷ w ∷ ts) a b c d h p q r s =
-    ap (λ t. t ∷ y ∷ z ∷ w ∷ ts) p ∙ ap (λ t. a ∷ t ∷ z ∷ w ∷ ts) q ∙ ap (λ t. a ∷ b ∷ t ∷ w ∷ ts) r ∙ ap (λ t. a ∷ b ∷ c ∷ t ∷ ts) s
+    ap (λ t. t ∷ y ∷ z ∷ w ∷ ts) p ∙ ap (λ t. a ∷ t ∷ z ∷ w ∷ ts) q ∙ ap (λ t. a ∷ b ∷ t ∷ w ∷ ts) r ∙ ap
+    (λ t. a ∷ b ∷ c ∷ t ∷ ts) s
     ∙ ap (λ t. a ∷ b ∷ c ∷ d ∷ t) (sym (take_all (length (x ∷ y ∷ z ∷ w ∷ ts) - 4) ts (omega arith)))

@@ -1,5 +1,6 @@
 -- The zones of a word in order.
-use Rattle.std.proofs.Common.{◌≡◌, ◌≢◌, ℕ, ◌+◌, ◌-◌, ◌^◌, ◌<◌, ◌≤◌, ◌⊎◌, ◌↔◌, inl, inr, zero, suc, List, [], ◌∷◌, ◌++◌, refl, ap, sym, subst, append_assoc, ◌∙◌, arith, Bool, true, false, if◌then◌else◌}
+use Rattle.std.proofs.Common.{◌≡◌, ◌≢◌, ℕ, ◌+◌, ◌-◌, ◌^◌, ◌<◌, ◌≤◌, ◌⊎◌, ◌↔◌, inl, inr, zero, suc, List, [], ◌∷◌, ◌++◌}
+use Rattle.std.proofs.Common.{refl, ap, sym, subst, append_assoc, ◌∙◌, arith, Bool, true, false, if◌then◌else◌}
 use Rattle.std.specs.Prelude.{◌==◌}
 use Rattle.std.specs.Int.{bit_at}
 use Rattle.std.proofs.lemmas.Bool.{eqb-true, eqb-false, cases_lt}
@@ -28,10 +29,12 @@ pub zones_from-has : (w n count : ℕ) → HasZone w n → zones_from w n (suc c
 unfolding HasZone zones_from
 zones_from-has w n count h = rw h.1 refl
 
-pub zones_from-lacks : (w n count : ℕ) → n < 64 → (HasZone w n → ⊥) → zones_from w n (suc count) ≡ zones_from w (n + 1) count
+pub zones_from-lacks : (w n count : ℕ) → n < 64 → (HasZone w n → ⊥)
+    → zones_from w n (suc count) ≡ zones_from w (n + 1) count
 unfolding zones_from
 zones_from-lacks w n count l h = go (bit_at w n == 1) refl where
-  go : (t : Bool) → (bit_at w n == 1) ≡ t → (if t then n ∷ zones_from w (n + 1) count else zones_from w (n + 1) count) ≡ zones_from w (n + 1) count
+  go : (t : Bool) → (bit_at w n == 1) ≡ t
+      → (if t then n ∷ zones_from w (n + 1) count else zones_from w (n + 1) count) ≡ zones_from w (n + 1) count
   go true e = absurd (h (has_by_bit w n l e))
   go false e = refl
 
@@ -40,33 +43,40 @@ unfolding zones_from
 zones_from-nil w n = refl
 
 -- zones below a place, and from it on
-pub zones_from-split : (w n a b c m : ℕ) → c ≡ a + b → m ≡ n + a → n + a ≤ 64 → zones_from w n c ≡ zones_from w n a ++ zones_from w m b
+pub zones_from-split : (w n a b c m : ℕ) → c ≡ a + b → m ≡ n + a → n + a ≤ 64
+    → zones_from w n c ≡ zones_from w n a ++ zones_from w m b
 zones_from-split w n zero b c m e f l =
     let same_count : c ≡ b = omega (arith, e) in
     let same_first : n ≡ m = omega (arith, f) in
-    ap (λ k. zones_from w n k) same_count ∙ ap (λ k. zones_from w k b) same_first ∙ ap (λ t. t ++ zones_from w m b) (sym (zones_from-nil w n))
+    ap (λ k. zones_from w n k) same_count ∙ ap (λ k. zones_from w k b) same_first ∙ ap
+    (λ t. t ++ zones_from w m b) (sym (zones_from-nil w n))
 zones_from-split w n (suc a) b zero m e f l = absurd (omega (arith, e))
 zones_from-split w n (suc a) b (suc c) m e f l =
     let rest = zones_from-split w (n + 1) a b c m (omega (arith, e)) (omega (arith, f)) (omega arith) in
     elim (has_or_not w n (omega arith)) [
-      | inl h ↦ zones_from-has w n c h ∙ ap (λ t. n ∷ t) rest ∙ ap (λ t. t ++ zones_from w m b) (sym (zones_from-has w n a h))
-      | inr h ↦ zones_from-lacks w n c (omega arith) h ∙ rest ∙ ap (λ t. t ++ zones_from w m b) (sym (zones_from-lacks w n a (omega arith) h))
+      | inl h ↦ zones_from-has w n c h ∙ ap (λ t. n ∷ t) rest ∙ ap
+          (λ t. t ++ zones_from w m b) (sym (zones_from-has w n a h))
+      | inr h ↦ zones_from-lacks w n c (omega arith) h ∙ rest ∙ ap
+          (λ t. t ++ zones_from w m b) (sym (zones_from-lacks w n a (omega arith) h))
     ]
 
-pub zones_from-none : (w n count : ℕ) → n + count ≤ 64 → ((z : ℕ) → n ≤ z → z < n + count → HasZone w z → ⊥) → zones_from w n count ≡ []
+pub zones_from-none : (w n count : ℕ) → n + count ≤ 64 → ((z : ℕ) → n ≤ z → z < n + count → HasZone w z → ⊥)
+    → zones_from w n count ≡ []
 zones_from-none w n zero l none = zones_from-nil w n
 zones_from-none w n (suc count) l none =
     zones_from-lacks w n count (omega arith) (none n (omega arith) (omega arith))
     ∙ zones_from-none w (n + 1) count (omega arith) (λ z a b. none z (omega arith) (omega arith))
 
-pub zones_from-same : (v w n count : ℕ) → n + count ≤ 64 → ((z : ℕ) → n ≤ z → z < n + count → HasZone v z ↔ HasZone w z) → zones_from v n count ≡ zones_from w n count
+pub zones_from-same : (v w n count : ℕ) → n + count ≤ 64 → ((z : ℕ) → n ≤ z → z < n + count → HasZone v z ↔ HasZone w z)
+    → zones_from v n count ≡ zones_from w n count
 zones_from-same v w n zero l same = zones_from-nil v n ∙ sym (zones_from-nil w n)
 zones_from-same v w n (suc count) l same =
     let rest = zones_from-same v w (n + 1) count (omega arith) (λ z a b. same z (omega arith) (omega arith)) in
     let here = same n (omega arith) (omega arith) in
     elim (has_or_not v n (omega arith)) [
       | inl h ↦ zones_from-has v n count h ∙ ap (λ t. n ∷ t) rest ∙ sym (zones_from-has w n count (here.0 h))
-      | inr h ↦ zones_from-lacks v n count (omega arith) h ∙ rest ∙ sym (zones_from-lacks w n count (omega arith) (λ k. h (here.1 k)))
+      | inr h ↦ zones_from-lacks v n count (omega arith) h ∙ rest ∙ sym (zones_from-lacks w n count (omega arith)
+          (λ k. h (here.1 k)))
     ]
 
 -- the lowest zone from the n-th on
@@ -80,9 +90,17 @@ pub record IsNext (w n count zone : ℕ) : Type 0 where
 next_here : (w n count : ℕ) → HasZone w n → IsNext w n (suc count) n
 next_here w n count h =
     let rest : count ≡ n + suc count - (n + 1) = omega arith in
-    record { from = omega arith; below = omega arith; has = h; none_between = λ z a b. absurd (omega arith); first = zones_from-has w n count h ∙ ap (λ k. n ∷ zones_from w (n + 1) k) rest }
+    record {
+      from = omega arith;
+      below = omega arith;
+      has = h;
+      none_between = λ z a b. absurd (omega arith);
+      first
+          = zones_from-has w n count h ∙ ap (λ k. n ∷ zones_from w (n + 1) k) rest;
+    }
 
-next_later : (w n count zone : ℕ) → n < 64 → (HasZone w n → ⊥) → IsNext w (n + 1) count zone → IsNext w n (suc count) zone
+next_later : (w n count zone : ℕ) → n < 64 → (HasZone w n → ⊥) → IsNext w (n + 1) count zone
+    → IsNext w n (suc count) zone
 next_later w n count zone l h p =
     let rest : n + 1 + count - (zone + 1) ≡ n + suc count - (zone + 1) = omega arith in
     record {
@@ -111,7 +129,8 @@ none_from w n zero z l e a b h = absurd (omega arith)
 none_from w n (suc count) z l e a b h = elim (has_or_not w n (omega arith)) [
   | inl k ↦ (let other : n ∷ zones_from w (n + 1) count ≡ [] = sym (zones_from-has w n count k) ∙ e in cc other)
   | inr k ↦ elim (cases_lt n z) [
-    | inl m ↦ none_from w (n + 1) count z (omega arith) (sym (zones_from-lacks w n count (omega arith) k) ∙ e) (omega arith) (omega arith) h
+    | inl m ↦ none_from w (n + 1) count z (omega arith) (sym (zones_from-lacks w n count (omega arith) k) ∙ e)
+        (omega arith) (omega arith) h
     | inr m ↦ (let same : z ≡ n = omega arith in k (subst (HasZone w) same h))
   ]
 ]
@@ -146,37 +165,60 @@ pub record Follows (word other next : ℕ) (rest : List ℕ) : Type 0 where
 -- numbers behind spaces
 pub number_words-append : (xs ys : List ℕ) → number_words (xs ++ ys) ≡ number_words xs ++ number_words ys
 number_words-append [] ys = refl
-number_words-append (x ∷ xs) ys = ap (λ t. number_word x ++ t) (number_words-append xs ys) ∙ sym (append_assoc (number_word x) (number_words xs) (number_words ys))
+number_words-append (x ∷ xs) ys =
+    ap (λ t. number_word x ++ t) (number_words-append xs ys)
+    ∙ sym (append_assoc (number_word x) (number_words xs) (number_words ys))
 
 pub number_words-break : (xs : List ℕ) → IsBreak (number_words xs)
 number_words-break [] = tt
 number_words-break (x ∷ xs) = refl
 
 pub one_zone-has : (w z : ℕ) → HasZone w z → number_words (zones_from w z 1) ≡ number_word z
-one_zone-has w z h = ap number_words (zones_from-has w z 0 h ∙ ap (λ t. z ∷ t) (zones_from-nil w (z + 1))) ∙ append-nil (number_word z)
+one_zone-has w z h =
+    ap number_words (zones_from-has w z 0 h ∙ ap (λ t. z ∷ t) (zones_from-nil w (z + 1))) ∙ append-nil (number_word z)
 
 pub one_zone-lacks : (w z : ℕ) → z < 64 → (HasZone w z → ⊥) → number_words (zones_from w z 1) ≡ []
 one_zone-lacks w z l h = ap number_words (zones_from-lacks w z 0 l h ∙ zones_from-nil w (z + 1))
 
 -- the zones below a place, and whether that one is there
-pub zones_below-more : (w z : ℕ) → z < 64 → number_words (zones_from w 0 (z + 1)) ≡ number_words (zones_from w 0 z) ++ number_words (zones_from w z 1)
-zones_below-more w z l = ap number_words (zones_from-split w 0 z 1 (z + 1) z refl (omega arith) (omega arith)) ∙ number_words-append (zones_from w 0 z) (zones_from w z 1)
+pub zones_below-more : (w z : ℕ) → z < 64
+    → number_words (zones_from w 0 (z + 1)) ≡ number_words (zones_from w 0 z) ++ number_words (zones_from w z 1)
+zones_below-more w z l =
+    ap number_words (zones_from-split w 0 z 1 (z + 1) z refl (omega arith) (omega arith))
+    ∙ number_words-append (zones_from w 0 z) (zones_from w z 1)
 
 -- the next zone is added
-pub listed_more : (text : List ℕ) (word next zone new : ℕ) (rest others : List ℕ) → Listed text word next rest → next ≤ zone → zone < 64 → rest ≡ number_word zone ++ others → new < 2 ^ 64 → ((z : ℕ) → HasZone new z ↔ (HasZone word z ⊎ (z ≡ zone))) → Listed text new (zone + 1) others
+pub listed_more : (text : List ℕ) (word next zone new : ℕ) (rest others : List ℕ) → Listed text word next rest
+    → next ≤ zone → zone < 64 → rest ≡ number_word zone ++ others → new < 2 ^ 64
+    → ((z : ℕ) → HasZone new z ↔ (HasZone word z ⊎ (z ≡ zone))) → Listed text new (zone + 1) others
 listed_more text word next zone new rest others l from small r fits added =
-    let before : zones_from new 0 next ≡ zones_from word 0 next = zones_from-same new word 0 next (omega arith) (λ z a b. (λ h. elim ((added z).0 h) [ inl k ↦ k | inr e ↦ absurd (omega (arith, e, b)) ], λ h. (added z).1 (inl h))) in
-    let none : zones_from new next (zone - next) ≡ [] = zones_from-none new next (zone - next) (omega arith) (λ z a b h. elim ((added z).0 h) [ inl k ↦ omega (arith, l.below z k) | inr e ↦ omega (arith, e, b) ]) in
-    let last : zones_from new zone 1 ≡ zone ∷ [] = zones_from-has new zone 0 ((added zone).1 (inr refl)) ∙ ap (λ t. zone ∷ t) (zones_from-nil new (zone + 1)) in
-    let tail : zones_from new next (zone + 1 - next) ≡ zone ∷ [] = zones_from-split new next (zone - next) 1 (zone + 1 - next) zone (omega arith) (omega arith) (omega arith) ∙ ap (λ t. t ++ zones_from new zone 1) none ∙ last in
-    let all : zones_from new 0 (zone + 1) ≡ zones_from word 0 next ++ zone ∷ [] = zones_from-split new 0 next (zone + 1 - next) (zone + 1) next (omega arith) (omega arith) (omega arith) ∙ ap (λ t. t ++ zones_from new next (zone + 1 - next)) before ∙ ap (λ t. zones_from word 0 next ++ t) tail in
+    let before : zones_from new 0 next ≡ zones_from word 0 next =
+    zones_from-same new word 0 next (omega arith)
+    (λ z a b. (
+      λ h. elim ((added z).0 h) [ inl k ↦ k | inr e ↦ absurd (omega (arith, e, b)) ],
+      λ h. (added z).1
+          (inl h),
+    )) in
+    let none : zones_from new next (zone - next) ≡ [] =
+    zones_from-none new next (zone - next) (omega arith)
+    (λ z a b h. elim ((added z).0 h) [ inl k ↦ omega (arith, l.below z k) | inr e ↦ omega (arith, e, b) ]) in
+    let last : zones_from new zone 1 ≡ zone ∷ [] =
+    zones_from-has new zone 0 ((added zone).1 (inr refl)) ∙ ap (λ t. zone ∷ t) (zones_from-nil new (zone + 1)) in
+    let tail : zones_from new next (zone + 1 - next) ≡ zone ∷ [] =
+    zones_from-split new next (zone - next) 1 (zone + 1 - next) zone (omega arith) (omega arith) (omega arith)
+    ∙ ap (λ t. t ++ zones_from new zone 1) none ∙ last in
+    let all : zones_from new 0 (zone + 1) ≡ zones_from word 0 next ++ zone ∷ [] =
+    zones_from-split new 0 next (zone + 1 - next) (zone + 1) next (omega arith) (omega arith) (omega arith)
+    ∙ ap (λ t. t ++ zones_from new next (zone + 1 - next)) before ∙ ap (λ t. zones_from word 0 next ++ t) tail in
     record {
       fits = fits;
       below = λ z h. elim ((added z).0 h) [ inl k ↦ omega (arith, l.below z k) | inr e ↦ omega (arith, e) ];
       text_is = l.text_is
           ∙ ap (λ t. number_words (zones_from word 0 next) ++ t) r
           ∙ sym (append_assoc (number_words (zones_from word 0 next)) (number_word zone) others)
-          ∙ ap (λ t. t ++ others) (ap (λ t. number_words (zones_from word 0 next) ++ t) (sym (append-nil (number_word zone))) ∙ sym (number_words-append (zones_from word 0 next) (zone ∷ [])) ∙ ap number_words (sym all));
+          ∙ ap (λ t. t ++ others) (ap (λ t. number_words (zones_from word 0 next) ++ t)
+          (sym (append-nil (number_word zone))) ∙ sym (number_words-append (zones_from word 0 next) (zone ∷ []))
+          ∙ ap number_words (sym all));
     }
 
 -- a rest that is not empty begins with the lowest of the zones to come
@@ -185,25 +227,43 @@ pub record Begins (other next : ℕ) (rest : List ℕ) : Type 0 where
   pub is_next : IsNext other next (64 - next) zone
   pub rest_is : rest ≡ number_word zone ++ number_words (zones_from other (zone + 1) (64 - (zone + 1)))
 
-pub begins : (word other next : ℕ) (rest : List ℕ) → Follows word other next rest → next ≤ 64 → rest ≢ [] → Begins other next rest
+pub begins : (word other next : ℕ) (rest : List ℕ) → Follows word other next rest → next ≤ 64 → rest ≢ []
+    → Begins other next rest
 begins word other next rest f l some = elim (next_zone other next (64 - next) (omega arith)) [
   | inl e ↦ absurd (some (f.rest_is ∙ ap number_words e))
   | inr p ↦ (
       let count : next + (64 - next) - (p.0 + 1) ≡ 64 - (p.0 + 1) = omega arith in
-      record { zone = p.0; is_next = p.1; rest_is = f.rest_is ∙ ap number_words p.1.first ∙ ap (λ k. number_word p.0 ++ number_words (zones_from other (p.0 + 1) k)) count }
+      record {
+        zone = p.0;
+        is_next = p.1;
+        rest_is = f.rest_is ∙ ap number_words p.1.first ∙ ap
+            (λ k. number_word p.0 ++ number_words (zones_from other (p.0 + 1) k)) count;
+      }
       )
 ]
 
-pub follows_first : (word other : ℕ) (text : List ℕ) → ((z : ℕ) → HasZone word z → ⊥) → text ≡ number_words (zones_from other 0 64) → Follows word other 0 text
+pub follows_first : (word other : ℕ) (text : List ℕ) → ((z : ℕ) → HasZone word z → ⊥)
+    → text ≡ number_words (zones_from other 0 64) → Follows word other 0 text
 follows_first word other text none e = record { same = λ z l. absurd (omega arith); rest_is = e }
 
 pub listed_first : (word : ℕ) (text : List ℕ) → word ≡ 0 → ((z : ℕ) → HasZone word z → ⊥) → Listed text word 0 text
-listed_first word text e none = record { fits = omega (arith, e); below = λ z h. absurd (none z h); text_is = ap (λ t. number_words t ++ text) (sym (zones_from-nil word 0)) }
+listed_first word text e none =
+    record {
+      fits = omega (arith, e);
+      below = λ z h. absurd (none z h);
+      text_is = ap
+          (λ t. number_words t ++ text) (sym (zones_from-nil word 0));
+    }
 
-pub follows_more : (text : List ℕ) (word other next zone new : ℕ) (rest others : List ℕ) → Listed text word next rest → Follows word other next rest → next ≤ zone → zone < 64 → rest ≢ [] → ((x : ℕ) (r : List ℕ) → next ≤ x → x < 64 → IsBreak r → rest ≡ number_word x ++ r → (zone ≡ x) × (others ≡ r)) → ((z : ℕ) → HasZone new z ↔ (HasZone word z ⊎ (z ≡ zone))) → Follows new other (zone + 1) others
+pub follows_more : (text : List ℕ) (word other next zone new : ℕ) (rest others : List ℕ) → Listed text word next rest
+    → Follows word other next rest → next ≤ zone → zone < 64 → rest ≢ []
+    → ((x : ℕ) (r : List ℕ) → next ≤ x → x < 64 → IsBreak r → rest ≡ number_word x ++ r → (zone ≡ x) × (others ≡ r))
+    → ((z : ℕ) → HasZone new z ↔ (HasZone word z ⊎ (z ≡ zone))) → Follows new other (zone + 1) others
 follows_more text word other next zone new rest others l f from small some exact added =
     let b = begins word other next rest f (omega arith) some in
-    let q = exact b.zone (number_words (zones_from other (b.zone + 1) (64 - (b.zone + 1)))) b.is_next.from (omega (arith, b.is_next.below)) (number_words-break _) b.rest_is in
+    let q =
+    exact b.zone (number_words (zones_from other (b.zone + 1) (64 - (b.zone + 1)))) b.is_next.from
+    (omega (arith, b.is_next.below)) (number_words-break _) b.rest_is in
     let is : b.zone ≡ zone = sym q.0 in
     record {
       same = λ z a. elim (cases_lt z next) [
@@ -213,7 +273,10 @@ follows_more text word other next zone new rest others l f from small some exact
         )
         | inr m ↦ elim (cases_lt z zone) [
           | inl n ↦ (
-            λ h. elim ((added z).0 h) [ inl k ↦ absurd (omega (arith, l.below z k)) | inr e ↦ absurd (omega (arith, e)) ],
+            λ h. elim ((added z).0 h) [
+              | inl k ↦ absurd (omega (arith, l.below z k))
+              | inr e ↦ absurd (omega (arith, e))
+            ],
             λ h. absurd (b.is_next.none_between z m (omega (arith, is)) h),
           )
           | inr n ↦ (
@@ -230,7 +293,8 @@ no_zones : (xs : List ℕ) → [] ≡ number_words xs → xs ≡ []
 no_zones [] e = refl
 no_zones (x ∷ xs) e = absurd (cc e)
 
-pub follows_all : (text : List ℕ) (word other next : ℕ) (rest : List ℕ) → Listed text word next rest → Follows word other next rest → next ≤ 64 → rest ≡ [] → other < 2 ^ 64 → word ≡ other
+pub follows_all : (text : List ℕ) (word other next : ℕ) (rest : List ℕ) → Listed text word next rest
+    → Follows word other next rest → next ≤ 64 → rest ≡ [] → other < 2 ^ 64 → word ≡ other
 follows_all text word other next rest l f m e fits = same_zones word other l.fits fits (λ z a. elim (cases_lt z next) [
   | inl b ↦ f.same z b
   | inr b ↦ (
@@ -239,8 +303,12 @@ follows_all text word other next rest l f m e fits = same_zones word other l.fit
   )
 ])
 
-pub listed_all : (text : List ℕ) (word next : ℕ) (rest : List ℕ) → Listed text word next rest → next ≤ 64 → rest ≡ [] → text ≡ number_words (zones_from word 0 64)
+pub listed_all : (text : List ℕ) (word next : ℕ) (rest : List ℕ) → Listed text word next rest → next ≤ 64 → rest ≡ []
+    → text ≡ number_words (zones_from word 0 64)
 listed_all text word next rest l m e =
     let none = zones_from-none word next (64 - next) (omega arith) (λ z a b h. absurd (omega (arith, l.below z h))) in
-    let all : zones_from word 0 64 ≡ zones_from word 0 next = zones_from-split word 0 next (64 - next) 64 next (omega arith) (omega arith) (omega arith) ∙ ap (λ t. zones_from word 0 next ++ t) none ∙ append-nil (zones_from word 0 next) in
-    l.text_is ∙ ap (λ t. number_words (zones_from word 0 next) ++ t) e ∙ append-nil (number_words (zones_from word 0 next)) ∙ ap number_words (sym all)
+    let all : zones_from word 0 64 ≡ zones_from word 0 next =
+    zones_from-split word 0 next (64 - next) 64 next (omega arith) (omega arith) (omega arith)
+    ∙ ap (λ t. zones_from word 0 next ++ t) none ∙ append-nil (zones_from word 0 next) in
+    l.text_is ∙ ap (λ t. number_words (zones_from word 0 next) ++ t) e
+    ∙ append-nil (number_words (zones_from word 0 next)) ∙ ap number_words (sym all)

@@ -20,20 +20,38 @@ SpellsZones zones rest = (0 < zones.bits) × (zones.bits < 2 ^ 64) × (rest ≡ 
 abbrev pub SpellsRest : Word → List ℕ → Cmd → Type 0
 SpellsRest word.Zone rest c = (c ≡ Graph cmd.Zone) × (rest ≡ [])
 SpellsRest word.Comp rest c = (z : ℕ) × (c ≡ Graph (cmd.Comp z)) × (z < 64) × (rest ≡ number_word z)
-SpellsRest word.New rest c = (r : ℕ) × (d : CompNo) × (n : ℕ) × (c ≡ Graph (cmd.New r d n)) × (r < 16) × (d.0 < 256) × (n < 9) × (rest ≡ reg_word r ++ number_word d.0 ++ number_word n)
-SpellsRest word.Map rest c = (r : ℕ) × (d : CompNo) × (c ≡ Graph (cmd.Map r d)) × (r < 16) × (d.0 < 256) × (rest ≡ reg_word r ++ number_word d.0)
-SpellsRest word.Get rest c = (r s f : ℕ) × (c ≡ Graph (cmd.Get r s f)) × (r < 16) × (s < 16) × (f < 8) × (rest ≡ reg_word r ++ reg_word s ++ number_word f)
-SpellsRest word.Set rest c = (s f : ℕ) × (t : Option ℕ) × (c ≡ Graph (cmd.Set s f t)) × (s < 16) × (f < 8) × FitsTarget t × (rest ≡ reg_word s ++ number_word f ++ target_word t)
-SpellsRest word.Wrap rest c = (r s : ℕ) × (d : CompNo) × (c ≡ Graph (cmd.Wrap r s d)) × (r < 16) × (s < 16) × (d.0 < 256) × (rest ≡ reg_word r ++ reg_word s ++ number_word d.0)
-SpellsRest word.Unwrap rest c = (r s : ℕ) × (c ≡ Graph (cmd.Unwrap r s)) × (r < 16) × (s < 16) × (rest ≡ reg_word r ++ reg_word s)
-SpellsRest word.Copy rest c = (r s : ℕ) × (c ≡ Graph (cmd.Copy r s)) × (r < 16) × (s < 16) × (rest ≡ reg_word r ++ reg_word s)
+SpellsRest word.New rest c =
+    (r : ℕ) × (d : CompNo) × (n : ℕ) × (c ≡ Graph (cmd.New r d n)) × (r < 16) × (d.0 < 256) × (n < 9)
+    × (rest ≡ reg_word r ++ number_word d.0 ++ number_word n)
+SpellsRest word.Map rest c =
+    (r : ℕ) × (d : CompNo) × (c ≡ Graph (cmd.Map r d)) × (r < 16) × (d.0 < 256) × (rest ≡ reg_word r ++ number_word d.0)
+SpellsRest word.Get rest c =
+    (r s f : ℕ) × (c ≡ Graph (cmd.Get r s f)) × (r < 16) × (s < 16) × (f < 8)
+    × (rest ≡ reg_word r ++ reg_word s ++ number_word f)
+SpellsRest word.Set rest c =
+    (s f : ℕ) × (t : Option ℕ) × (c ≡ Graph (cmd.Set s f t)) × (s < 16) × (f < 8) × FitsTarget t
+    × (rest ≡ reg_word s ++ number_word f ++ target_word t)
+SpellsRest word.Wrap rest c =
+    (r s : ℕ) × (d : CompNo) × (c ≡ Graph (cmd.Wrap r s d)) × (r < 16) × (s < 16) × (d.0 < 256)
+    × (rest ≡ reg_word r ++ reg_word s ++ number_word d.0)
+SpellsRest word.Unwrap rest c =
+    (r s : ℕ) × (c ≡ Graph (cmd.Unwrap r s)) × (r < 16) × (s < 16) × (rest ≡ reg_word r ++ reg_word s)
+SpellsRest word.Copy rest c =
+    (r s : ℕ) × (c ≡ Graph (cmd.Copy r s)) × (r < 16) × (s < 16) × (rest ≡ reg_word r ++ reg_word s)
 SpellsRest word.Drop rest c = (r : ℕ) × (c ≡ Graph (cmd.Drop r)) × (r < 16) × (rest ≡ reg_word r)
-SpellsRest word.Hold rest c = (g r : ℕ) × (c ≡ Graph (cmd.Hold g r)) × (g < 64) × (r < 16) × (rest ≡ gray_word g ++ reg_word r)
+SpellsRest word.Hold rest c =
+    (g r : ℕ) × (c ≡ Graph (cmd.Hold g r)) × (g < 64) × (r < 16) × (rest ≡ gray_word g ++ reg_word r)
 SpellsRest word.Release rest c = (g : ℕ) × (c ≡ Graph (cmd.Release g)) × (g < 64) × (rest ≡ gray_word g)
-SpellsRest word.Expose rest c = (r g : ℕ) × (c ≡ Graph (cmd.Expose r g)) × (r < 16) × (g < 64) × (rest ≡ reg_word r ++ gray_word g)
-SpellsRest word.Put rest c = (m k v : ℕ) × (c ≡ Graph (cmd.Put m k v)) × (m < 16) × (k < 16) × (v < 16) × (rest ≡ reg_word m ++ reg_word k ++ reg_word v)
-SpellsRest word.Del rest c = (m k : ℕ) × (c ≡ Graph (cmd.Del m k)) × (m < 16) × (k < 16) × (rest ≡ reg_word m ++ reg_word k)
-SpellsRest word.Find rest c = (r m k : ℕ) × (c ≡ Graph (cmd.Find r m k)) × (r < 16) × (m < 16) × (k < 16) × (rest ≡ reg_word r ++ reg_word m ++ reg_word k)
+SpellsRest word.Expose rest c =
+    (r g : ℕ) × (c ≡ Graph (cmd.Expose r g)) × (r < 16) × (g < 64) × (rest ≡ reg_word r ++ gray_word g)
+SpellsRest word.Put rest c =
+    (m k v : ℕ) × (c ≡ Graph (cmd.Put m k v)) × (m < 16) × (k < 16) × (v < 16)
+    × (rest ≡ reg_word m ++ reg_word k ++ reg_word v)
+SpellsRest word.Del rest c =
+    (m k : ℕ) × (c ≡ Graph (cmd.Del m k)) × (m < 16) × (k < 16) × (rest ≡ reg_word m ++ reg_word k)
+SpellsRest word.Find rest c =
+    (r m k : ℕ) × (c ≡ Graph (cmd.Find r m k)) × (r < 16) × (m < 16) × (k < 16)
+    × (rest ≡ reg_word r ++ reg_word m ++ reg_word k)
 SpellsRest word.Gc rest c = (zones : ZoneSet) × (c ≡ Gc zones) × SpellsZones zones rest
 SpellsRest word.Slice rest c = (n : ℕ) × (c ≡ Slice n) × (n < 2 ^ 32) × (rest ≡ number_word n)
 SpellsRest word.Finish rest c = (c ≡ Finish) × (rest ≡ [])

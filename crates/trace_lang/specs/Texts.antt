@@ -66,7 +66,8 @@ groups_text n (g ∷ gs) = (bar_text n ++ number_words (zones_in g)) ++ groups_t
 
 abbrev pub report_text : Report → List ℕ
 report_text (report.Groups groups) = codes "groups" ++ groups_text 0 groups
-report_text (report.Ended zones names) = codes "ended" ++ number_words (zones_in zones) ++ codes " gray" ++ names_text names
+report_text (report.Ended zones names) =
+    codes "ended" ++ number_words (zones_in zones) ++ codes " gray" ++ names_text names
 report_text (report.Swept arena names) = codes "swept " ++ decimal arena ++ names_text names
 report_text report.Done = codes "done"
 

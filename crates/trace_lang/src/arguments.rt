@@ -1,7 +1,8 @@
 // The words that follow the first one, by what they stand for.
 ghost use Rattle.std.specs.Prelude.{◌≡◌, ◌<◌, ◌≤◌, ◌++◌, ◌∷◌, ◌^◌, ℕ, List, [], Some, refl, IfSome, MatchOption};
 ghost use Rattle.std.specs.Fmt.{decimal};
-ghost use Rattle.trace_lang.specs.Words.{IsBreak, number_word, reg_word, gray_word, target_word, target_spaced, FitsTarget};
+ghost use Rattle.trace_lang.specs.Words.{IsBreak, number_word, reg_word, gray_word, target_word, target_spaced};
+ghost use Rattle.trace_lang.specs.Words.{FitsTarget};
 
 use crate::numbers::{lettered_number, spaced_number};
 use gz_names::{CompNo, GrayNo, Reg, ZoneNo};

@@ -2,10 +2,9 @@
 ghost use Rattle.std.specs.Prelude.{◌≡◌, ◌<◌, ◌≤◌, ◌++◌, ℕ, List, Some, Ok, IfSome, IfOk, MatchOption, length};
 ghost use Rattle.gz_io.specs.Lines.{IsPlain};
 ghost use Rattle.gz_names.specs.declared.commands.Cmd.{Cmd};
-ghost use Rattle.gz_names.specs.declared.commands.GraphCmd.{GraphCmd};
 ghost use Rattle.gz_names.specs.declared.zone_sets.ZoneSet.{ZoneSet};
-ghost use Rattle.gz_names.specs.declared.commands.Cmd.TheVariants.{Graph};
 ghost use Rattle.trace_lang.specs.declared.words.Word.{Word};
+ghost use Rattle.trace_lang.specs.declared.words.Word.TheVariants as AWord;
 ghost use Rattle.trace_lang.specs.Words.{word_text, number_word, IsBreak, IsWord};
 ghost use Rattle.trace_lang.specs.Grammar.{Spells, SpellsRest, SpellsZones};
 
@@ -43,33 +42,6 @@ fn first_word(line: &[u8]) -> Option<(Word, &[u8])>
 {
     let (first, rest) = split_at_space(line);
     Some((word_of(first)?, rest))
-}
-
-// The command on the graph for a word and the rest of its line.
-#[inline(always)]
-fn graph_command(word: Word, rest: &[u8]) -> Option<GraphCmd>
-    ensures some { IfSome result (λ c. SpellsRest word rest.now (Graph c)) }
-    ensures exact { (c : GraphCmd) → SpellsRest word rest.now (Graph c) → result ≡ Some c }
-{
-    match word {
-        Word::Zone => rest.is_empty().then_some(GraphCmd::Zone),
-        Word::Comp => one(rest).map(GraphCmd::Comp),
-        Word::New => three(rest).map(|(r, c, n): (_, _, FieldCount)| GraphCmd::New(r, c, n.0)),
-        Word::Map => two(rest).map(|(r, c)| GraphCmd::Map(r, c)),
-        Word::Get => three(rest).map(|(r, s, f): (_, _, Field)| GraphCmd::Get(r, s, f.0)),
-        Word::Set => three(rest).map(|(s, f, t): (_, Field, Target)| GraphCmd::Set(s, f.0, t.0)),
-        Word::Wrap => three(rest).map(|(r, s, c)| GraphCmd::Wrap(r, s, c)),
-        Word::Unwrap => two(rest).map(|(r, s)| GraphCmd::Unwrap(r, s)),
-        Word::Copy => two(rest).map(|(r, s)| GraphCmd::Copy(r, s)),
-        Word::Drop => one(rest).map(GraphCmd::Drop),
-        Word::Hold => two(rest).map(|(g, r)| GraphCmd::Hold(g, r)),
-        Word::Release => one(rest).map(GraphCmd::Release),
-        Word::Expose => two(rest).map(|(r, g)| GraphCmd::Expose(r, g)),
-        Word::Put => three(rest).map(|(m, k, v)| GraphCmd::Put(m, k, v)),
-        Word::Del => two(rest).map(|(m, k)| GraphCmd::Del(m, k)),
-        Word::Find => three(rest).map(|(r, m, k)| GraphCmd::Find(r, m, k)),
-        Word::Gc | Word::Slice | Word::Finish | Word::Collect | Word::Colours => None,
-    }
 }
 
 // A zone that is not below the lowest, and what follows it.
@@ -111,19 +83,78 @@ fn zone_list(text: &[u8]) -> Option<ZoneSet>
     }
 }
 
-// The command for a word and the rest of its line.
+// The command of a line that begins with `new`, by the rest of the line.
 #[inline(always)]
+fn new_command(rest: &[u8]) -> Option<Cmd>
+    ensures some { IfSome result (SpellsRest AWord.New rest.now) }
+    ensures exact { (c : Cmd) → SpellsRest AWord.New rest.now c → result ≡ Some c }
+{
+    three(rest).map(|(r, c, n): (_, _, FieldCount)| Cmd::Graph(GraphCmd::New(r, c, n.0)))
+}
+
+// The same of `get`.
+#[inline(always)]
+fn get_command(rest: &[u8]) -> Option<Cmd>
+    ensures some { IfSome result (SpellsRest AWord.Get rest.now) }
+    ensures exact { (c : Cmd) → SpellsRest AWord.Get rest.now c → result ≡ Some c }
+{
+    three(rest).map(|(r, s, f): (_, _, Field)| Cmd::Graph(GraphCmd::Get(r, s, f.0)))
+}
+
+// The same of `set`.
+#[inline(always)]
+fn set_command(rest: &[u8]) -> Option<Cmd>
+    ensures some { IfSome result (SpellsRest AWord.Set rest.now) }
+    ensures exact { (c : Cmd) → SpellsRest AWord.Set rest.now c → result ≡ Some c }
+{
+    three(rest).map(|(s, f, t): (_, Field, Target)| Cmd::Graph(GraphCmd::Set(s, f.0, t.0)))
+}
+
+// The same of `copy`.
+#[inline(always)]
+fn copy_command(rest: &[u8]) -> Option<Cmd>
+    ensures some { IfSome result (SpellsRest AWord.Copy rest.now) }
+    ensures exact { (c : Cmd) → SpellsRest AWord.Copy rest.now c → result ≡ Some c }
+{
+    two(rest).map(|(r, s)| Cmd::Graph(GraphCmd::Copy(r, s)))
+}
+
+// The same of `drop`.
+#[inline(always)]
+fn drop_command(rest: &[u8]) -> Option<Cmd>
+    ensures some { IfSome result (SpellsRest AWord.Drop rest.now) }
+    ensures exact { (c : Cmd) → SpellsRest AWord.Drop rest.now c → result ≡ Some c }
+{
+    one(rest).map(|r| Cmd::Graph(GraphCmd::Drop(r)))
+}
+
+// The command for a word and the rest of its line.
 fn command(word: Word, rest: &[u8]) -> Option<Cmd>
-    ensures some { IfSome result (λ c. SpellsRest word rest.now c) }
+    ensures some { IfSome result (SpellsRest word rest.now) }
     ensures exact { (c : Cmd) → SpellsRest word rest.now c → result ≡ Some c }
 {
     match word {
-        Word::Gc => Some(Cmd::Gc(zone_list(rest)?)),
-        Word::Slice => Some(Cmd::Slice(one(rest)?)),
+        Word::Zone => rest.is_empty().then_some(Cmd::Graph(GraphCmd::Zone)),
+        Word::Comp => one(rest).map(|z| Cmd::Graph(GraphCmd::Comp(z))),
+        Word::New => new_command(rest),
+        Word::Map => two(rest).map(|(r, c)| Cmd::Graph(GraphCmd::Map(r, c))),
+        Word::Get => get_command(rest),
+        Word::Set => set_command(rest),
+        Word::Wrap => three(rest).map(|(r, s, c)| Cmd::Graph(GraphCmd::Wrap(r, s, c))),
+        Word::Unwrap => two(rest).map(|(r, s)| Cmd::Graph(GraphCmd::Unwrap(r, s))),
+        Word::Copy => copy_command(rest),
+        Word::Drop => drop_command(rest),
+        Word::Hold => two(rest).map(|(g, r)| Cmd::Graph(GraphCmd::Hold(g, r))),
+        Word::Release => one(rest).map(|g| Cmd::Graph(GraphCmd::Release(g))),
+        Word::Expose => two(rest).map(|(r, g)| Cmd::Graph(GraphCmd::Expose(r, g))),
+        Word::Put => three(rest).map(|(m, k, v)| Cmd::Graph(GraphCmd::Put(m, k, v))),
+        Word::Del => two(rest).map(|(m, k)| Cmd::Graph(GraphCmd::Del(m, k))),
+        Word::Find => three(rest).map(|(r, m, k)| Cmd::Graph(GraphCmd::Find(r, m, k))),
+        Word::Gc => zone_list(rest).map(Cmd::Gc),
+        Word::Slice => one(rest).map(Cmd::Slice),
         Word::Finish => rest.is_empty().then_some(Cmd::Finish),
-        Word::Collect => Some(Cmd::Collect(zone_list(rest)?)),
+        Word::Collect => zone_list(rest).map(Cmd::Collect),
         Word::Colours => rest.is_empty().then_some(Cmd::Colours),
-        _ => Some(Cmd::Graph(graph_command(word, rest)?)),
     }
 }
 
@@ -144,11 +175,11 @@ fn command_of(line: &[u8]) -> Option<Cmd>
     ensures exact { (c : Cmd) → Spells line.now c → result ≡ Some c }
 {
     match line {
-        [b'g', b'e', b't', b' ', ..] => command(Word::Get, &line[3..]),
-        [b's', b'e', b't', b' ', ..] => command(Word::Set, &line[3..]),
-        [b'n', b'e', b'w', b' ', ..] => command(Word::New, &line[3..]),
-        [b'c', b'o', b'p', b'y', rest @ ..] => command(Word::Copy, rest),
-        [b'd', b'r', b'o', b'p', rest @ ..] => command(Word::Drop, rest),
+        [b'g', b'e', b't', b' ', ..] => get_command(&line[3..]),
+        [b's', b'e', b't', b' ', ..] => set_command(&line[3..]),
+        [b'n', b'e', b'w', b' ', ..] => new_command(&line[3..]),
+        [b'c', b'o', b'p', b'y', rest @ ..] => copy_command(rest),
+        [b'd', b'r', b'o', b'p', rest @ ..] => drop_command(rest),
         _ => any_command(line),
     }
 }

@@ -1,5 +1,6 @@
 // Numbers at the front of a text.
-ghost use Rattle.std.specs.Prelude.{◌≡◌, ◌<◌, ◌≤◌, ◌+◌, ◌^◌, ◌++◌, ◌∷◌, ℕ, List, IfSome, IfNone, MatchOption, false, length, slice_index};
+ghost use Rattle.std.specs.Prelude.{◌≡◌, ◌<◌, ◌≤◌, ◌+◌, ◌^◌, ◌++◌, ◌∷◌, ℕ, List, IfSome, IfNone, MatchOption, false};
+ghost use Rattle.std.specs.Prelude.{length, slice_index};
 ghost use Rattle.std.specs.Char.{is_ascii_digit};
 ghost use Rattle.std.specs.Fmt.{decimal};
 ghost use Rattle.trace_lang.specs.Words.{IsBreak, number_word};

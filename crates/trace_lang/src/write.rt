@@ -5,7 +5,8 @@ ghost use Rattle.std.specs.Fmt.{decimal};
 ghost use Rattle.std.specs.Io.KnownBytes.{Appends};
 ghost use Rattle.gz_io.specs.Causes.{HasCause, AppendsFront};
 ghost use Rattle.trace_lang.specs.Owing.{Owes};
-ghost use Rattle.trace_lang.specs.Texts.{name_text, names_text, name_words, refusal_text, reply_text, report_text, groups_text, line_of};
+ghost use Rattle.trace_lang.specs.Texts.{name_text, names_text, name_words, refusal_text, reply_text, report_text};
+ghost use Rattle.trace_lang.specs.Texts.{groups_text, line_of};
 
 use crate::piece::Piece;
 use crate::tail::Tail;

@@ -4,7 +4,8 @@ use Rattle.std.proofs.lemmas.List.{append-nil}
 use Rattle.trace_lang.proofs.arguments.one.Goals as goal
 
 pub returns-in_err-x-clause-exact : goal.returns-in_err-x-clause-exact
-returns-in_err-x-clause-exact g c = λ x fits e. absurd (c.in_err-x.ensures.exact x [] fits tt (e ∙ sym (append-nil (g.A.Argument.word x))))
+returns-in_err-x-clause-exact g c =
+    λ x fits e. absurd (c.in_err-x.ensures.exact x [] fits tt (e ∙ sym (append-nil (g.A.Argument.word x))))
 
 pub returns-else-is_empty-clause-exact : goal.returns-else-is_empty-clause-exact
 returns-else-is_empty-clause-exact g c = λ x fits e.

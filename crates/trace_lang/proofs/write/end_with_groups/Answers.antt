@@ -6,15 +6,23 @@ use Rattle.trace_lang.proofs.Owing.{front_step, group_rest, owes_step, group_nex
 use Rattle.trace_lang.proofs.write.end_with_groups.Goals as goal
 
 pub returns-in-Err-clause-err : goal.returns-in-Err-clause-err
-returns-in-Err-clause-err g c = front_step _ _ _ c.loop-i.piece _ _ _ c.loop-i.invariant.0 c.in-Err.ensures.err (group_rest c.args.piece.now c.args.groups.now c.loop-i.i (omega (arith, c.loop-i-test.true)))
+returns-in-Err-clause-err g c =
+    front_step _ _ _ c.loop-i.piece _ _ _ c.loop-i.invariant.0 c.in-Err.ensures.err
+    (group_rest c.args.piece.now c.args.groups.now c.loop-i.i (omega (arith, c.loop-i-test.true)))
 
 pub loop-i-preserved : goal.loop-i-preserved
 loop-i-preserved g c =
     let same = c.in-Ok.ensures.cause.same in (
-      owes_step _ _ _ c.loop-i.piece c.make_room.new.piece c.push_zones.new.self _ _ _ c.loop-i.invariant.0 c.in-Ok.ensures.ok (two_pieces _ _ _ _ _ c.push_bar.ensures.text c.push_zones.ensures.text) (group_next c.args.piece.now c.args.groups.now c.loop-i.i _ c.loop-i-test.true),
+      owes_step _ _ _ c.loop-i.piece c.make_room.new.piece c.push_zones.new.self _ _ _ c.loop-i.invariant.0
+          c.in-Ok.ensures.ok (two_pieces _ _ _ _ _ c.push_bar.ensures.text c.push_zones.ensures.text)
+          (group_next c.args.piece.now c.args.groups.now c.loop-i.i _ c.loop-i-test.true),
       omega (arith, c.push_zones.ensures.size, c.push_bar.ensures.size, c.in-Ok.ensures.room),
       same ∙ c.loop-i.invariant.2,
     )
 
 pub returns-clause-err : goal.returns-clause-err
-returns-clause-err g c = on_err_weaker c.end_line.result (end_front _ _ _ c.loop-i.piece (c.args.piece.now ++ groups_text 0 (take c.loop-i.i c.args.groups.now)) _ c.loop-i.invariant.0 (ap (λ t. c.args.piece.now ++ groups_text 0 t) (sym (take_all c.loop-i.i c.args.groups.now c.loop-i-test.false)))) c.end_line.ensures.err
+returns-clause-err g c =
+    on_err_weaker c.end_line.result
+    (end_front _ _ _ c.loop-i.piece (c.args.piece.now ++ groups_text 0 (take c.loop-i.i c.args.groups.now)) _
+    c.loop-i.invariant.0 (ap (λ t. c.args.piece.now ++ groups_text 0 t)
+    (sym (take_all c.loop-i.i c.args.groups.now c.loop-i-test.false)))) c.end_line.ensures.err

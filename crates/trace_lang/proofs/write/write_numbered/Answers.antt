@@ -9,6 +9,8 @@ pub returns-clause-err : goal.returns-clause-err
 returns-clause-err g c =
     let text : c.text.result.now ≡ line_of (c.args.word.now ++ decimal c.args.n) = c.text.ensures
     ∙ c.bytes.ensures
-    ∙ ap (λ t. c.args.word.now ++ t) (c.number.ensures.text ∙ ap (λ t. decimal c.args.n ++ t) (c.byte.ensures ∙ ap (λ t. 10 ∷ t) c.new-tail.ensures))
+    ∙ ap (λ t. c.args.word.now ++ t) (c.number.ensures.text ∙ ap (λ t. decimal c.args.n ++ t) (c.byte.ensures ∙ ap
+    (λ t. 10 ∷ t) c.new-tail.ensures))
     ∙ sym (append_assoc c.args.word.now (decimal c.args.n) (10 ∷ [])) in
-    subst (λ t. OnErr c.write_all.result (AppendsFront (g.K.Sink.written c.args.sink.now) (g.K.Sink.written c.write_all.new.sink) t)) text c.write_all.ensures.err
+    subst (λ t. OnErr c.write_all.result (AppendsFront (g.K.Sink.written c.args.sink.now)
+    (g.K.Sink.written c.write_all.new.sink) t)) text c.write_all.ensures.err

@@ -6,7 +6,11 @@ use Rattle.trace_lang.proofs.ZoneLists.{zones_from-nil, zones_below-more}
 use Rattle.trace_lang.proofs.piece.Piece.push_zones.Goals as goal
 
 pub loop-zone-init : goal.loop-zone-init
-loop-zone-init c = (sym (ap (λ t. c.args.self.now ++ number_words t) (zones_from-nil c.args.zones.bits 0) ∙ append-nil c.args.self.now), omega arith)
+loop-zone-init c = (
+  sym (ap (λ t. c.args.self.now ++ number_words t) (zones_from-nil c.args.zones.bits 0)
+      ∙ append-nil c.args.self.now),
+  omega arith,
+)
 
 pub loop-zone-preserved : goal.loop-zone-preserved
 loop-zone-preserved c =

@@ -4,4 +4,6 @@ use Rattle.trace_lang.specs.Words.{number_words}
 use Rattle.trace_lang.proofs.piece.Piece.push_zones.Given as goal
 
 abbrev pub invariant-loop-zone : goal.invariant-loop-zone
-invariant-loop-zone l = (l.self ≡ l.fn.self ++ number_words (zones_from l.zones.bits 0 l.zone)) × (length l.self ≤ length l.fn.self + 3 * l.zone)
+invariant-loop-zone l =
+    (l.self ≡ l.fn.self ++ number_words (zones_from l.zones.bits 0 l.zone))
+    × (length l.self ≤ length l.fn.self + 3 * l.zone)

@@ -14,4 +14,11 @@ pub returns-clause-size : goal.returns-clause-size
 returns-clause-size c =
     let held = ap length c.self.view_is in
     let fits = length-decimal-le 20 c.args.n (omega arith) (omega (arith, c.ranges.n)) (omega (arith, c.ranges.n)) in
-    omega (arith, held, ap length c.write_digits-self-inside.ensures.written, length-append (decimal c.args.n) (drop c.self.inside.start c.self.inside.buf), fits)
+    omega (
+      arith,
+      held,
+      ap length c.write_digits-self-inside.ensures.written,
+      length-append (decimal c.args.n)
+          (drop c.self.inside.start c.self.inside.buf),
+      fits,
+    )
