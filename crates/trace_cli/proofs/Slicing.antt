@@ -15,7 +15,7 @@ use Rattle.colour_defs.specs.Laws.{IsValid}
 use Rattle.colour_defs.specs.Lawful.{Answers, IsRunning, RefusesIdle, Slices, with_spent}
 use Rattle.heap_core.specs.Heap.{HeapState}
 use Rattle.slice_driver.specs.Collector.{CollectorState, RunState, heap_with}
-use Rattle.slice_driver.specs.Represents.{Represents, Runs, RunsAs}
+use Rattle.slice_driver.specs.Represents.{Represents, RunsAs}
 use Rattle.slice_driver.specs.Units.{flown_by}
 use Rattle.slice_driver.specs.Worlds.{LiesIn}
 use Rattle.trace_cli.specs.Headline.{report_lines, answer_lines, IsAccepted, WritesAnswer, WritesFront, WritesStart}

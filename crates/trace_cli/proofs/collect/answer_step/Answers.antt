@@ -1,4 +1,4 @@
-use Rattle.std.proofs.Common.{List, ℕ, subst, sym}
+use Rattle.std.proofs.Common.{List, subst, sym}
 use Rattle.std.specs.Io.KnownBytes.{Appends}
 use Rattle.gz_io.specs.Causes.{AppendsFront}
 use Rattle.gz_names.specs.declared.replies.Report.{Report}

@@ -1,7 +1,7 @@
-use Rattle.std.proofs.Common.{◌≡◌, ◌<◌, ◌≤◌, ◌+◌, ◌-◌, refl, arith, ◌∙◌}
+use Rattle.std.proofs.Common.{◌≤◌, ◌+◌, ◌-◌, refl, arith, ◌∙◌}
 use Rattle.trace_cli.proofs.Answered.{same_fault}
 use Rattle.trace_cli.proofs.Slicing.{breaks_within, stops_within}
-use Rattle.trace_cli.proofs.Units.{more_breaks, more_units, no_units, not_running, stops_after}
+use Rattle.trace_cli.proofs.Units.{more_breaks, more_units, no_units, stops_after}
 use Rattle.trace_cli.proofs.slices.answer_units.Goals as goal
 
 pub loop-done-init : goal.loop-done-init

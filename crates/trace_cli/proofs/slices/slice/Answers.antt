@@ -1,4 +1,4 @@
-use Rattle.std.proofs.Common.{◌<◌, ◌≤◌, ℕ, arith, inr}
+use Rattle.std.proofs.Common.{◌≤◌, arith, inr}
 use Rattle.trace_cli.proofs.Answered.{ok_maps, err_is, same_fault}
 use Rattle.trace_cli.proofs.Slicing.{breaks_within, idle_breaks, idle_writes, slice_breaks, slice_writes, stops_within}
 use Rattle.trace_cli.proofs.Slicing.{units_break, units_stop}
