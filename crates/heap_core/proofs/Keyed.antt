@@ -334,6 +334,16 @@ del_step h g m k map key value s i =
     ∙ ap (step.del_unless g i.x.cell.name i.y.cell.name) (ap (step.entry_refusal g i.x.cell.name i.y.cell.name) (sym same) ∙ i.allowed)
     ∙ ap (step.del_value g i.x.cell.name i.y.cell.name) (value_shown h g map key i.x.cell.name i.y.cell.name s i.x.name_is i.y.name_is)
 
+del_sure : (g : GraphState) (x y : Name) (o : Option Name) → refusal_in (step.del_value g x y o).1 ≡ None
+del_sure g x y None = refl
+del_sure g x y (Some z) = refl
+
+pub del_accepted : (h : HeapState) (g : GraphState) (m k : ℕ) (map key value : Place) → Shows h g → IsEntry h m k k map key value → refusal_in (step_of g (cmd.Del m k)).1 ≡ None
+del_accepted h g m k map key value s i =
+    let n = entry_shown h g m k k map key value s i in
+    ap (λ (p : GraphState × Reply). refusal_in p.1) (del_step h g m k map key value s n)
+    ∙ del_sure g n.x.cell.name n.y.cell.name (held_name h.shape (value_of h.shape.weak map key))
+
 pub does-del : (h : HeapState) (m k : ℕ) (map key value : Place) (v : Place) → IsEntry h m k k map key value → value_of h.shape.weak map key ≡ Some v
     → ((a b : Place) → value_of (del h.shape.weak map key) a b ≡ cond (is_same map a && is_same key b) None (value_of h.shape.weak a b))
     → DoesStep h (cmd.Del m k) (Ok reply.Accepted) (without_entry h map key)

@@ -179,14 +179,14 @@ wraps-seen h k r s c t v may seen rest = go (is_same_comp (comp_at h.shape (targ
     go false same e = effect.found may.place v may.held (same_comp-not (comp_at h.shape (target_at h.shape may.place)) c same) e rest
 
 -- where it sees nothing, its wrapper is made, or memory is wanted
-unseen_absent : (h : HeapState) (c : CompNo) (t : Place) → seen_from h.shape c t ≡ None → (comp_at h.shape t ≢ Some c) × (place_of h.shape.wrappers c.0 (number_at h.shape t) ≡ None)
+pub unseen_absent : (h : HeapState) (c : CompNo) (t : Place) → seen_from h.shape c t ≡ None → (comp_at h.shape t ≢ Some c) × (place_of h.shape.wrappers c.0 (number_at h.shape t) ≡ None)
 unseen_absent h c t e = go (is_same_comp (comp_at h.shape t) c) refl e
   where
     go : (b : Bool) → is_same_comp (comp_at h.shape t) c ≡ b → cond b (Some t) (place_of h.shape.wrappers c.0 (number_at h.shape t)) ≡ None → (comp_at h.shape t ≢ Some c) × (place_of h.shape.wrappers c.0 (number_at h.shape t) ≡ None)
     go true same e = absurd (cc e)
     go false same e = (same_comp-not (comp_at h.shape t) c same, e)
 
-does-unseen_made : (h k : HeapState) (r s : ℕ) (c : CompNo) (t : Place) → IsWrappable h s c t → seen_from h.shape c t ≡ None → HoldsWrapper h r c t k → DoesStep h (cmd.Wrap r s c) (Ok (reply.Named (Wrap c (number_at h.shape t)))) k
+pub does-unseen_made : (h k : HeapState) (r s : ℕ) (c : CompNo) (t : Place) → IsWrappable h s c t → seen_from h.shape c t ≡ None → HoldsWrapper h r c t k → DoesStep h (cmd.Wrap r s c) (Ok (reply.Named (Wrap c (number_at h.shape t)))) k
 does-unseen_made h k r s c t may unseen made = does-accepted h (cmd.Wrap r s c) (reply.Named (Wrap c (number_at h.shape t))) k (λ g shows. (
     let u : IsUnseen h g r s c t = subst (λ (x : Place). IsUnseen h g r s c x) (sym may.target_is) (wrap_unseen h g r s c may.place shows may.held may.there (ap (seen_from h.shape c) (sym may.target_is) ∙ unseen)) in
     record {

@@ -41,6 +41,10 @@ with_flown flown n (own ∷ rest) = flown_or (flown n) own ∷ with_flown flown 
 abbrev pub joined : HeapState → (ℕ → Option Bits) → HeapState
 joined h flown = record h { colours = with_flown flown 0 h.colours }
 
+-- the heap with other bits
+abbrev pub with_colours : HeapState → List Bits → HeapState
+with_colours h colours = record h { colours = colours }
+
 -- a register holds this
 abbrev pub with_reg : HeapState → ℕ → Option Place → HeapState
 with_reg h r v = record h { shape = record h.shape { regs = slice_set h.shape.regs r v } }

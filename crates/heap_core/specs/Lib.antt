@@ -10,3 +10,4 @@ pub mod Blackening
 pub mod Lookups
 pub mod Effects
 pub mod Peeks
+pub mod Plans

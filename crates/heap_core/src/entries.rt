@@ -1,16 +1,13 @@
-// The entries of weak maps.
-ghost use Rattle.std.specs.Prelude.{◌≡◌, Err, IfErr, IfOk, IsSome, OnErr, OnOk};
+// What commands on the entries of weak maps look up.
+ghost use Rattle.std.specs.Prelude.{◌≡◌, IfErr, IfOk};
 ghost use Rattle.std.specs.Option.{ForSome};
 ghost use Rattle.gz_names.specs.declared.commands.GraphCmd.TheVariants as cmd;
-ghost use Rattle.gz_names.specs.declared.replies.CmdFault.TheVariants as fault;
 ghost use Rattle.heap_core.specs.Shape.{IsPresent, cell_of};
-ghost use Rattle.heap_core.specs.Heap.{with_reg};
-ghost use Rattle.heap_core.specs.Answers.{DoesStep, IsSound};
+ghost use Rattle.heap_core.specs.Answers.{IsSound};
 ghost use Rattle.heap_core.specs.Lookups.{Hands, IsEntry, IsNoEntry, entry_refusal, held_value, key_refusal};
-ghost use Rattle.heap_core.specs.Effects.{Dels, Puts};
 
 use crate::heap::Heap;
-use gz_names::{CmdFault, Kind, Place, Refusal, Reg, Reply};
+use gz_names::{Kind, Place, Refusal, Reg};
 
 // The map, the key and the value of an entry.
 #[derive(Clone, Copy)]
@@ -21,55 +18,6 @@ pub(crate) struct Entry {
 }
 
 impl Heap {
-    /// The entry of a map's key gets a value, or is added: map, key, value.
-    pub fn do_put(&mut self, m: Reg, k: Reg, v: Reg) -> Result<Reply, CmdFault>
-        requires sound { IsSound self.old }
-        ensures step { DoesStep self.old (cmd.Put m k v) result self.new }
-        ensures change { OnOk result (Puts self.old m k v self.new) }
-        ensures stored { IsSome (held_value self.old m k) → result ≡ Err fault.NoMemory → ⊥ }
-        ensures err { OnErr result (self.new ≡ self.old) }
-        ensures sound { IsSound self.new }
-    {
-        match self.entry_named(m, k, v) {
-            Ok(entry) => match self.put_entry(entry.map, entry.key, entry.value) {
-                Ok(()) => Ok(Reply::Accepted),
-                Err(_) => Err(CmdFault::NoMemory),
-            },
-            Err(why) => Err(CmdFault::Refused(why)),
-        }
-    }
-
-    /// The entry of a map's key is removed: map, key.
-    pub fn do_del(&mut self, m: Reg, k: Reg) -> Result<Reply, CmdFault>
-        requires sound { IsSound self.old }
-        ensures step { DoesStep self.old (cmd.Del m k) result self.new }
-        ensures change { OnOk result (Dels self.old m k self.new) }
-        ensures err { OnErr result (self.new ≡ self.old) }
-        ensures sound { IsSound self.new }
-        ensures sure { result ≡ Err fault.NoMemory → ⊥ }
-    {
-        match self.entry_named(m, k, k) {
-            Ok(entry) => match self.del_entry(entry.map, entry.key) {
-                Some(_) => Ok(Reply::Accepted),
-                None => Ok(Reply::Absent),
-            },
-            Err(why) => Err(CmdFault::Refused(why)),
-        }
-    }
-
-    /// A register holds the value of a map's key: register, map, key.
-    pub fn do_find(&mut self, r: Reg, m: Reg, k: Reg) -> Result<Reply, CmdFault>
-        requires sound { IsSound self.old }
-        ensures step { DoesStep self.old (cmd.Find r m k) result self.new }
-        ensures change { OnOk result (self.new ≡ with_reg self.old r (held_value self.old m k)) }
-        ensures err { OnErr result (self.new ≡ self.old) }
-        ensures sound { IsSound self.new }
-        ensures sure { result ≡ Err fault.NoMemory → ⊥ }
-    {
-        let found = self.found(m, k);
-        self.take(r, &found)
-    }
-
     // What a `find` hands to its register, or why it is refused.
     pub(crate) fn found(&self, m: Reg, k: Reg) -> Result<Option<Place>, Refusal>
         requires sound { IsSound self.now }

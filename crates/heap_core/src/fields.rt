@@ -1,63 +1,15 @@
-// Reading and writing fields.
-ghost use Rattle.std.specs.Prelude.{◌≡◌, Err, IfErr, IfOk, OnErr, OnOk, Some};
+// What commands on fields look up.
+ghost use Rattle.std.specs.Prelude.{◌≡◌, IfErr, IfOk, Some};
 ghost use Rattle.std.specs.Option.{ForSome, option_map};
 ghost use Rattle.gz_names.specs.declared.commands.GraphCmd.TheVariants as cmd;
-ghost use Rattle.gz_names.specs.declared.replies.CmdFault.TheVariants as fault;
 ghost use Rattle.heap_core.specs.Shape.{IsPresent, cell_of};
-ghost use Rattle.heap_core.specs.Heap.{with_reg};
-ghost use Rattle.heap_core.specs.Answers.{DoesStep, IsSound};
+ghost use Rattle.heap_core.specs.Answers.{IsSound};
 ghost use Rattle.heap_core.specs.Lookups.{Hands, IsRefused, IsWritable, field_refusal, fits_in, held_field, is_filled, value_to_set};
-ghost use Rattle.heap_core.specs.Effects.{Sets};
 
 use crate::heap::Heap;
-use gz_names::{CmdFault, CompNo, Kind, Place, Refusal, Reg, Reply};
+use gz_names::{CompNo, Kind, Place, Refusal, Reg};
 
 impl Heap {
-    /// A register holds what a field of another one's object holds.
-    pub fn do_get(&mut self, r: Reg, s: Reg, f: u8) -> Result<Reply, CmdFault>
-        requires sound { IsSound self.old }
-        ensures step { DoesStep self.old (cmd.Get r s f) result self.new }
-        ensures change { OnOk result (self.new ≡ with_reg self.old r (held_field self.old s f)) }
-        ensures err { OnErr result (self.new ≡ self.old) }
-        ensures sound { IsSound self.new }
-        ensures sure { result ≡ Err fault.NoMemory → ⊥ }
-    {
-        let found = self.got(s, f);
-        self.take(r, &found)
-    }
-
-    /// A register holds the target of another one's wrapper.
-    pub fn do_unwrap(&mut self, r: Reg, s: Reg) -> Result<Reply, CmdFault>
-        requires sound { IsSound self.old }
-        ensures step { DoesStep self.old (cmd.Unwrap r s) result self.new }
-        ensures change { OnOk result (self.new ≡ with_reg self.old r (held_field self.old s 0)) }
-        ensures err { OnErr result (self.new ≡ self.old) }
-        ensures sound { IsSound self.new }
-        ensures sure { result ≡ Err fault.NoMemory → ⊥ }
-    {
-        let found = self.unwrapped(s);
-        self.take(r, &found)
-    }
-
-    /// A field of a register's object holds what another register holds, or null.
-    pub fn do_set(&mut self, s: Reg, f: u8, t: Option<Reg>) -> Result<Reply, CmdFault>
-        requires sound { IsSound self.old }
-        ensures step { DoesStep self.old (cmd.Set s f t) result self.new }
-        ensures change { OnOk result (Sets self.old s f t self.new) }
-        ensures err { OnErr result (self.new ≡ self.old) }
-        ensures sound { IsSound self.new }
-        ensures sure { result ≡ Err fault.NoMemory → ⊥ }
-    {
-        match self.written(s, f, &t) {
-            Ok(place) => {
-                let value = self.value_to_set(&t);
-                self.set_field(place, f, value);
-                Ok(Reply::Accepted)
-            }
-            Err(why) => Err(CmdFault::Refused(why)),
-        }
-    }
-
     // What a `get` hands to its register, or why it is refused.
     pub(crate) fn got(&self, s: Reg, f: u8) -> Result<Option<Place>, Refusal>
         requires sound { IsSound self.now }

@@ -45,26 +45,29 @@
 //
 // A command answers and does on each such graph what the definitions say (`DoesStep`); that the
 // graph of what is present answers as the whole one does is a law of colour_defs (`agrees_law`).
-// What it changes by places stands beside that (`Changes`), for barriers and marking; what it will
-// overwrite, hand out or make, and what a `wrap` is about, is told before it runs (`old_of`,
-// `handed_by`, `makes_in`, `wrapped_by`), so that a barrier can come first. Six commands may want
-// memory. They take it before they change anything, and a heap that was refused some is as it was.
+// `resolve` looks a command up once: it is refused, or a plan tells what it overwrites, hands out or
+// makes and what a `wrap` is about, and names its change, which is one of nine kinds (`Change`). A
+// plan stays true while colours alone change, so barriers come between it and `commit`, which makes
+// the change and cannot be refused. Some changes may want memory. They take it before they change
+// anything, and a heap that was refused some is as it was.
 #![tactic(auto)]
 
 mod commands;
+mod commit;
 mod edges;
 mod entries;
 mod fields;
 mod heap;
-mod holding;
 mod making;
-mod peeks;
+mod plans;
 #[cfg(test)]
 mod random_commands;
 #[cfg(test)]
 mod reached;
+mod resolve;
 mod steps;
 mod wrapping;
 
 pub use heap::Heap;
+pub use plans::{Change, Plan};
 pub use steps::Steps;

@@ -1,101 +1,68 @@
 // Making zones, compartments, objects and maps.
-ghost use Rattle.std.specs.Prelude.{◌≡◌, ◌<◌, ◌≤◌, ◌↔◌, IsTrue, OnErr, OnOk, false, length};
-ghost use Rattle.gz_names.specs.declared.commands.GraphCmd.{GraphCmd};
-ghost use Rattle.gz_names.specs.declared.commands.GraphCmd.TheVariants as cmd;
-ghost use Rattle.gz_names.specs.declared.commands.Kind.TheVariants as kind;
+ghost use Rattle.std.specs.Prelude.{◌≡◌, ◌≢◌, ◌<◌, ◌≤◌, ◌↔◌, IfOk, IsTrue, OnErr, Some, length, slice_get};
+ghost use Rattle.gz_names.specs.declared.replies.Reply.TheVariants as reply;
 ghost use Rattle.arena_table.specs.Cells.{field_count};
-ghost use Rattle.colour_defs.specs.Graph.{GraphState};
-ghost use Rattle.colour_defs.specs.Step.{make_object, step_of};
-ghost use Rattle.heap_core.specs.Shows.{is_wrapper};
-ghost use Rattle.heap_core.specs.Effects.{MakesHeld, object_of_kind};
+ghost use Rattle.heap_core.specs.Answers.{IsSound};
 ghost use Rattle.heap_core.specs.Changes.{with_comp, with_zone};
-ghost use Rattle.heap_core.specs.Answers.{DoesStep, IsSound};
+ghost use Rattle.heap_core.specs.Effects.{MakesHeld};
 
 use crate::heap::Heap;
-use gz_names::{CmdFault, CompNo, Kind, Name, Refusal, Reg, Reply, ZoneNo};
+use gz_names::{COMP_LIMIT, CompNo, Kind, Name, NoMemory, Reg, Reply, ZONE_LIMIT, ZoneNo};
+use std::alloc::AllocError;
 use zones::{CompFault, ZoneFault};
 
 impl Heap {
-    /// Makes the next zone.
-    pub fn do_zone(&mut self) -> Result<Reply, CmdFault>
-        requires sound { IsSound self.old }
-        ensures step { DoesStep self.old cmd.Zone result self.new }
-        ensures change { OnOk result (self.new ≡ with_zone self.old) }
+    // Makes the next zone.
+    pub(crate) fn next_zone(&mut self) -> Result<Reply, NoMemory>
+        requires { length self.old.shape.states ≢ ZONE_LIMIT }
+        ensures change { IfOk result (λ answer. (self.new ≡ with_zone self.old)
+            × (answer ≡ reply.Zone (length self.old.shape.states))) }
         ensures err { OnErr result (self.new ≡ self.old) }
-        ensures sound { IsSound self.new }
     {
         match self.add_zone() {
             Ok(zone) => Ok(Reply::Zone(zone)),
-            Err(ZoneFault::Full) => Err(CmdFault::Refused(Refusal::Full)),
-            Err(ZoneFault::NoMemory) => Err(CmdFault::NoMemory),
+            Err(ZoneFault::NoMemory) => Err(AllocError),
+            Err(ZoneFault::Full) => unreachable!(),
         }
     }
 
-    /// Makes the next compartment, in a zone.
-    pub fn do_comp(&mut self, z: ZoneNo) -> Result<Reply, CmdFault>
-        requires sound { IsSound self.old }
-        ensures step { DoesStep self.old (cmd.Comp z) result self.new }
-        ensures change { OnOk result (self.new ≡ with_comp self.old z) }
+    // Makes the next compartment, in a zone.
+    pub(crate) fn next_comp(&mut self, zone: ZoneNo) -> Result<Reply, NoMemory>
+        requires zone { zone < length self.old.shape.states }
+        requires few { length self.old.shape.comps ≢ COMP_LIMIT }
+        ensures change { IfOk result (λ answer. (self.new ≡ with_comp self.old zone)
+            × (answer ≡ reply.Comp (record { 0 = length self.old.shape.comps }))) }
         ensures err { OnErr result (self.new ≡ self.old) }
-        ensures sound { IsSound self.new }
     {
-        match self.add_comp(z) {
+        match self.add_comp(zone) {
             Ok(comp) => Ok(Reply::Comp(comp)),
-            Err(CompFault::NoZone) => Err(CmdFault::Refused(Refusal::NoZone)),
-            Err(CompFault::Full) => Err(CmdFault::Refused(Refusal::Full)),
-            Err(CompFault::NoMemory) => Err(CmdFault::NoMemory),
+            Err(CompFault::NoMemory) => Err(AllocError),
+            Err(CompFault::NoZone) => unreachable!(),
+            Err(CompFault::Full) => unreachable!(),
         }
     }
 
-    /// Makes an object with this many null fields, which a register holds.
-    pub fn do_new(&mut self, r: Reg, c: CompNo, n: u8) -> Result<Reply, CmdFault>
+    // Makes an object or a map in a compartment of a zone, with the next number; a register holds it.
+    pub(crate) fn hold_cell(
+        &mut self,
+        r: Reg,
+        zone: ZoneNo,
+        c: CompNo,
+        kind: Kind,
+    ) -> Result<Reply, NoMemory>
         requires sound { IsSound self.old }
-        requires few { self.old.made < 4294967295 }
-        requires fields { n ≤ 8 }
-        ensures step { DoesStep self.old (cmd.New r c n) result self.new }
-        ensures change { OnOk result (MakesHeld self.old r (kind.Object n) c self.new) }
-        ensures err { OnErr result (self.new ≡ self.old) }
-        ensures sound { IsSound self.new }
-    {
-        self.make(r, c, Kind::Object(n))
-    }
-
-    /// Makes a weak map without entries, which a register holds.
-    pub fn do_map(&mut self, r: Reg, c: CompNo) -> Result<Reply, CmdFault>
-        requires sound { IsSound self.old }
-        requires few { self.old.made < 4294967295 }
-        ensures step { DoesStep self.old (cmd.Map r c) result self.new }
-        ensures change { OnOk result (MakesHeld self.old r kind.Map c self.new) }
-        ensures err { OnErr result (self.new ≡ self.old) }
-        ensures sound { IsSound self.new }
-    {
-        self.make(r, c, Kind::Map)
-    }
-
-    // Makes an object or a map of a compartment, which a register holds.
-    fn make(&mut self, r: Reg, c: CompNo, kind: Kind) -> Result<Reply, CmdFault>
-        requires sound { IsSound self.old }
-        requires few { self.old.made < 4294967295 }
+        requires home { slice_get self.old.shape.comps c.0 ≡ Some zone }
         requires fields { field_count kind ≤ 8 }
-        requires plain { is_wrapper kind ≡ false }
-        ensures step { (x : GraphCmd) → ((g : GraphState) → step_of g x
-            ≡ make_object g r (object_of_kind kind c)) → DoesStep self.old x result self.new }
-        ensures change { OnOk result (MakesHeld self.old r kind c self.new) }
+        requires few { self.old.made < 4294967295 }
+        ensures change { IfOk result (λ answer. MakesHeld self.old r kind c self.new
+            × (answer ≡ reply.Made self.old.shape.objects)) }
         ensures err { OnErr result (self.new ≡ self.old) }
     {
-        if !self.has_comp(c) {
-            return Err(CmdFault::Refused(Refusal::NoComp));
-        }
-        let zone = self.zone_of(c);
         let number = self.objects();
-        match self.make_cell(zone, kind, c, Name::Cell(number)) {
-            Ok(place) => {
-                self.next_number();
-                self.set_reg(r, Some(place));
-                Ok(Reply::Made(number))
-            }
-            Err(_) => Err(CmdFault::NoMemory),
-        }
+        let place = self.make_cell(zone, kind, c, Name::Cell(number))?;
+        self.next_number();
+        self.set_reg(r, Some(place));
+        Ok(Reply::Made(number))
     }
 
     // Whether a compartment was made.

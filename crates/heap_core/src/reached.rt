@@ -29,8 +29,10 @@ fn held(alloc: Global, heap: &Heap) -> Result<Vec<Place>, NoMemory>
     let mut found = Vec::new(alloc);
     for index in 0..16 {
         let register = Reg::new(index).unwrap();
-        if let Some(place) = heap.handed_by(&GraphCmd::Copy(register, register)) {
-            add(heap, &mut found, place)?;
+        if let Ok(plan) = heap.resolve(&GraphCmd::Copy(register, register)) {
+            if let Some(place) = plan.handed() {
+                add(heap, &mut found, place)?;
+            }
         }
     }
     Ok(found)

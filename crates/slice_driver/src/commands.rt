@@ -61,33 +61,31 @@ impl Collector {
     {
         self.homes_law();
         self.wrappers_law();
-        if self.make_room(&cmd).is_err() {
+        let plan = match self.heap.resolve(&cmd) {
+            Ok(plan) => plan,
+            Err(why) => return Err(CmdFault::Refused(why)),
+        };
+        if self.make_room(plan.makes_in()).is_err() {
             return Err(CmdFault::NoMemory);
         }
-        let old = self.heap.old_of(&cmd);
-        self.expose(flight, old, steps);
-        let target = self.heap.wrapped_by(&cmd);
-        self.expose(flight, target, steps);
-        let handed = self.heap.handed_by(&cmd);
-        self.expose(flight, handed, steps);
-        self.heap.do_command(&cmd)
+        self.expose(flight, plan.overwritten, steps);
+        self.expose(flight, plan.wrapped, steps);
+        self.expose(flight, plan.handed(), steps);
+        match self.heap.commit(&plan) {
+            Ok(reply) => Ok(reply),
+            Err(_) => Err(CmdFault::NoMemory),
+        }
     }
 
-    // Makes room on the stack and the lists for the cells of a new arena, where a command makes a
-    // cell that comes into one. A command that is refused makes none.
-    fn make_room(&mut self, cmd: &GraphCmd) -> Result<(), NoMemory>
-        requires sound { heap.IsSound self.old.heap }
+    // Makes room on the stack and the lists for the cells of a new arena, where a cell is made in a
+    // zone and comes into one.
+    fn make_room(&mut self, made_in: Option<ZoneNo>) -> Result<(), NoMemory>
         requires roomy { IsRoomy self.old (length self.old.heap.colours) }
-        ensures roomy { OnOk result
-            (IsRoomy self.new (arenas_after self.old.heap (made_in self.old.heap cmd.now))) }
+        ensures roomy { OnOk result (IsRoomy self.new (arenas_after self.old.heap made_in)) }
         ensures widens { Widens self.old self.new }
-        ensures kept { made_in self.old.heap cmd.now ≡ None → self.new ≡ self.old }
-        ensures makes { OnErr result (IsSome (made_in self.old.heap cmd.now)) }
-        ensures accepted { IsSome (made_in self.old.heap cmd.now) → (g : GraphState)
-            → Shows self.old.heap g → IsAccepted g cmd.now }
-        ensures sure { OnErr result (takes_memory cmd.now ≡ true) }
+        ensures makes { OnErr result (IsSome made_in) }
     {
-        let Some(zone) = self.heap.makes_in(cmd) else {
+        let Some(zone) = made_in else {
             return Ok(());
         };
         if !self.heap.is_full(zone) {

@@ -1,5 +1,5 @@
 -- From what the parts of the call of a command do to its steps.
-use Rattle.std.proofs.Common.{◌≡◌, ◌<◌, ◌≤◌, ◌+◌, ◌==◌, ℕ, List, length, All, Option, Some, None, IsSome, is_some, true, Result, Ok, Err, IfOk, OnOk, OnErr, if◌then◌else◌, refl, sym, ap, subst, ◌∙◌, arith}
+use Rattle.std.proofs.Common.{◌≡◌, ◌<◌, ◌≤◌, ◌+◌, ◌==◌, ℕ, List, length, All, Option, Some, None, IsSome, is_some, true, false, Result, Ok, Err, IfOk, OnOk, OnErr, if◌then◌else◌, refl, sym, ap, subst, ◌∙◌, arith}
 use Rattle.std.specs.Result.{is_err}
 use Rattle.gz_names.specs.declared.numbers.Place.{Place}
 use Rattle.gz_names.specs.declared.numbers.CompNo.{CompNo}
@@ -14,7 +14,7 @@ use Rattle.wrappers.specs.WrapperMaps.{AreApart}
 use Rattle.mark_stack.specs.Stack.{Piles}
 use Rattle.gray_lists.specs.Incoming.{Incoming}
 use Rattle.colour_defs.specs.Graph.{GraphState}
-use Rattle.colour_defs.specs.Step.{IsAccepted, step_of, refusal_in}
+use Rattle.colour_defs.specs.Step.{HasFewFields, IsAccepted, step_of, refusal_in}
 use Rattle.colour_defs.specs.World.{first_world}
 use Rattle.colour_defs.proofs.ValidCommands.{command_valid}
 use Rattle.colour_defs.proofs.ValidRuns.{first_valid}
@@ -22,10 +22,16 @@ use Rattle.heap_core.specs.Shape.{out_of}
 use Rattle.heap_core.specs.Heap.{HeapState, joined, reg_of}
 use Rattle.heap_core.specs.Answers as answers
 use Rattle.heap_core.specs.Answers.{DoesStep}
-use Rattle.heap_core.specs.Effects.{Changes}
+use Rattle.heap_core.specs.Effects.{Changes, takes_memory}
 use Rattle.heap_core.specs.Changes.{next_place}
 use Rattle.heap_core.specs.Peeks.{IsHanded, IsOld, IsWrapped, cells_made, handed, made_in, stored, unless_refused, wrapped_in, wrapped_target}
 use Rattle.heap_core.specs.Shows.{Shows}
+use Rattle.heap_core.specs.Lookups.{IsRefused}
+use Rattle.heap_core.specs.declared.plans.Change.{Change}
+use Rattle.heap_core.specs.declared.plans.Plan.{Plan}
+use Rattle.heap_core.specs.Plans.{ChangesBy, IsAble, IsPlanIn, IsPlanOf, MayWant, handed_by, made_by}
+use Rattle.heap_core.proofs.Planned.{handed-sure, is-handed, is-old, is-wrapped, made-cells, planned-at, planned-here, stored-sure}
+use Rattle.heap_core.proofs.Stepping.{does-refused}
 use Rattle.barriers.specs.Invariant.{MarkingInvariant}
 use Rattle.barriers.proofs.Flying.{flown_length}
 use Rattle.gz_names.specs.declared.zone_sets.ZoneSet.{ZoneSet}
@@ -40,7 +46,7 @@ use Rattle.slice_driver.specs.Units.{AnswersIn, DoesCommand, IsSound, KeepsFreed
 use Rattle.slice_driver.proofs.commanding.FreedWords.{same_words}
 use Rattle.slice_driver.proofs.commanding.Answering.{exposed_rest, outs_command, serves_command, through_rest, words_command}
 use Rattle.slice_driver.proofs.commanding.Commanding.{exposed_marks, handed_plain, stored_plain}
-use Rattle.slice_driver.proofs.abstraction.Lying.{accepted_in, shows_coloured}
+use Rattle.slice_driver.proofs.abstraction.Lying.{accepted_in, refused_in, shows_coloured}
 use Rattle.slice_driver.proofs.commanding.Rooms.{few_arenas, few_entries, homes_made, marks_room}
 use Rattle.slice_driver.proofs.commanding.Through.{represents_widened}
 
@@ -86,6 +92,9 @@ no_fewer h (Some zone) = omega arith
 -- the heap but for its colours
 abbrev pub SameShape : HeapState → HeapState → Type 0
 SameShape h k = k ≡ with_colours h k.colours
+
+same_then : (h k l : HeapState) → SameShape h k → SameShape k l → SameShape h l
+same_then h k l a b = b ∙ ap (λ (z : HeapState). with_colours z l.colours) a
 
 pub through_shape : (o : Option Place) (c d : CollectorState) (flown flying : ℕ → Option Bits) → Exposed o (joined c.heap flown) c.stack (joined d.heap flying) d.stack → SameShape c.heap d.heap
 through_shape o c d flown flying e = exposed_rest o c.heap d.heap flown flying c.stack d.stack e
@@ -174,8 +183,6 @@ pub record IsCall (c d1 d2 d3 d4 d : CollectorState) (flown f1 f2 f3 : ℕ → O
   pub apart : AreApart c.heap.shape.wrappers.lists
   pub wide : Widens c d1
   pub roomy : IsRoomy d1 (arenas_after c.heap (made_in c.heap command))
-  pub kept : made_in c.heap command ≡ None → d1 ≡ c
-  pub accepted : IsSome (made_in c.heap command) → (g : GraphState) → Shows c.heap g → IsAccepted g command
   pub first : GoesThrough old d1 flown d2 f1
   pub second : GoesThrough target d2 f1 d3 f2
   pub third : GoesThrough given d3 f2 d4 f3
@@ -198,9 +205,6 @@ module _ (c d1 d2 d3 d4 d : CollectorState) (flown f1 f2 f3 : ℕ → Option Bit
 
   shape_third : SameShape d3.heap d4.heap
   shape_third = through_rest given d3 f2 d4 f3 call.third
-
-  same_then : (h k l : HeapState) → SameShape h k → SameShape k l → SameShape h l
-  same_then h k l a b = b ∙ ap (λ (z : HeapState). with_colours z l.colours) a
 
   shape_is : SameShape c.heap d4.heap
   shape_is = subst (λ z. SameShape z d4.heap) (wide_heap c d1 call.wide) (same_then d1.heap d2.heap d4.heap shape_first (same_then d2.heap d3.heap d4.heap shape_second shape_third))
@@ -322,23 +326,6 @@ module _ (c d1 d2 d3 d4 d : CollectorState) (flown f1 f2 f3 : ℕ → Option Bit
           ap refusal_in said.0 ∙ said.1
       go (Err why) is = tt
 
-  -- a refusal changes nothing
-  pub refused_call : (why : Refusal) → result ≡ Err (fault.Refused why) → (d ≡ c) × (f3 ≡ flown)
-  refused_call why is =
-      let step : DoesStep d4.heap command (Err (fault.Refused why)) d.heap = subst
-      (λ r. DoesStep d4.heap command r d.heap) is call.step in
-      let said : refusal_in (step_of g command).1 ≡ Some why = ap refusal_in
-      (step g (shown_at d4.heap shape_is g s)).0 in
-      let none : made_in c.heap command ≡ None = none_left (made_in c.heap command)
-      (λ makes. (let accepted = call.accepted makes g s in cc (accepted, said))) in
-      let after = still (still_heap (fault.Refused why) is)
-      (call.old_is g (shown_at d1.heap same_one g s) ∙ ap (λ o. unless_refused o (stored d1.heap command)) said)
-      (call.target_is g (shown_at d2.heap same_two g s) ∙ ap
-      (λ o. unless_refused o (wrapped_target d2.heap command)) said)
-      (call.handed_is g (shown_at d3.heap same_three g s) ∙ ap (λ o. unless_refused o (handed d3.heap command)) said)
-      in
-      (after.0 ∙ call.kept none, after.1)
-
   -- memory is wanted only where the command is not refused
   pub wanted_call : result ≡ Err fault.NoMemory → WantsMemory c flown command d f3
   wanted_call wants = record {
@@ -436,6 +423,112 @@ module _ (c d1 d2 d3 d4 d : CollectorState) (flown f1 f2 f3 : ℕ → Option Bit
     some_waits = k.some_waits;
     more = more_call groups r k.more;
   }
+
+-- what the heap answers to a plan, as the collector hands it on
+abbrev pub as_fault : {E : Type 0} → Result Reply E → Result Reply CmdFault
+as_fault (Ok answer) = Ok answer
+as_fault (Err why) = Err fault.NoMemory
+
+-- what the parts of the call of a command do that is not refused: room is made, the plan's cells go through a barrier, and its change is made
+pub record IsPlanned (E : Type 0) (c d1 d2 d3 d4 d : CollectorState) (flown f1 f2 f3 : ℕ → Option Bits) (command : GraphCmd) (plan : Plan) (committed : Result Reply E) : Type 0 where
+  pub sound : IsSound c flown
+  pub homes : All (λ z. z < length c.heap.shape.states) c.heap.shape.comps
+  pub apart : AreApart c.heap.shape.wrappers.lists
+  pub few : HasFewFields command
+  pub planned : IsPlanOf c.heap command plan
+  pub wide : Widens c d1
+  pub roomy : IsRoomy d1 (arenas_after c.heap (made_by plan.change))
+  pub first : GoesThrough plan.overwritten d1 flown d2 f1
+  pub second : GoesThrough plan.wrapped d2 f1 d3 f2
+  pub third : GoesThrough (handed_by plan.change) d3 f2 d4 f3
+  pub rest : d ≡ record d4 { heap = d.heap }
+  pub change : IfOk committed (λ answer. ChangesBy d4.heap plan.change answer d.heap)
+  pub err : OnErr committed (d.heap ≡ d4.heap)
+  pub wanted : OnErr committed (MayWant d4.heap.shape plan.change)
+
+module _ (E : Type 0) (c d1 d2 d3 d4 d : CollectorState) (flown f1 f2 f3 : ℕ → Option Bits) (command : GraphCmd) (plan : Plan) (committed : Result Reply E) (p : IsPlanned E c d1 d2 d3 d4 d flown f1 f2 f3 command plan committed) where
+  wide_same : SameShape c.heap d1.heap
+  wide_same = subst (λ z. SameShape z d1.heap) (wide_heap c d1 p.wide) refl
+
+  first_same : SameShape c.heap d2.heap
+  first_same = same_then c.heap d1.heap d2.heap wide_same (through_rest plan.overwritten d1 flown d2 f1 p.first)
+
+  second_same : SameShape c.heap d3.heap
+  second_same = same_then c.heap d2.heap d3.heap first_same (through_rest plan.wrapped d2 f1 d3 f2 p.second)
+
+  third_same : SameShape c.heap d4.heap
+  third_same = same_then c.heap d3.heap d4.heap second_same (through_rest (handed_by plan.change) d3 f2 d4 f3 p.third)
+
+  -- the plan is one of the heap to which it is committed
+  last_plan : IsPlanIn d4.heap command plan
+  last_plan = planned-at c.heap d4.heap command plan third_same p.planned
+
+  did : (r : Result Reply E) → IfOk r (λ answer. ChangesBy d4.heap plan.change answer d.heap) → OnErr r (d.heap ≡ d4.heap)
+      → DoesStep d4.heap command (as_fault r) d.heap × OnOk (as_fault r) (Changes d4.heap command d.heap) × OnErr (as_fault r) (d.heap ≡ d4.heap)
+  did (Ok answer) by same = (let both = last_plan.does p.few answer d.heap by in (both.0, both.1, tt))
+  did (Err why) by same = (λ g s. (last_plan.accepted g s, same), tt, same)
+
+  sure_where : (r : Result Reply E) → OnErr r (MayWant d4.heap.shape plan.change) → (MayWant d4.heap.shape plan.change → ⊥)
+      → as_fault r ≡ Err fault.NoMemory → ⊥
+  sure_where (Ok answer) may never is = absurd (cc is)
+  sure_where (Err why) may never is = never may
+
+  pub planned_call : IsCall c d1 d2 d3 d4 d flown f1 f2 f3 command (as_fault committed) plan.overwritten plan.wrapped (handed_by plan.change)
+  planned_call = record {
+    sound = p.sound;
+    homes = p.homes;
+    apart = p.apart;
+    wide = p.wide;
+    roomy = subst (λ (o : Option ℕ). IsRoomy d1 (arenas_after c.heap o)) (planned-here c.heap command plan p.planned).made p.roomy;
+    first = p.first;
+    second = p.second;
+    third = p.third;
+    rest = p.rest;
+    change = (did committed p.change p.err).1;
+    err = (did committed p.change p.err).2;
+    old_is = is-old d1.heap command plan (planned-at c.heap d1.heap command plan wide_same p.planned);
+    target_is = is-wrapped d2.heap command plan (planned-at c.heap d2.heap command plan first_same p.planned);
+    handed_is = is-handed d3.heap command plan (planned-at c.heap d3.heap command plan second_same p.planned);
+    step = (did committed p.change p.err).0;
+    seen = λ some. sure_where committed p.wanted (handed-sure d4.heap command plan last_plan some);
+    stored_there = λ some. sure_where committed p.wanted (stored-sure d4.heap command plan last_plan some);
+  }
+
+  -- memory is wanted only for a command that may want some
+  pub sure_call : takes_memory command ≡ false → as_fault committed ≡ Err fault.NoMemory → ⊥
+  sure_call never = sure_where committed p.wanted (λ may. (let some = last_plan.wants may in cc (never, some)))
+
+  -- as many cells are made as the command makes
+  pub made_call : d.heap.made ≡ d4.heap.made + cells_made d4.heap command (as_fault committed)
+  made_call = go committed p.change p.err
+    where
+      go : (r : Result Reply E) → IfOk r (λ answer. ChangesBy d4.heap plan.change answer d.heap) → OnErr r (d.heap ≡ d4.heap)
+          → d.heap.made ≡ d4.heap.made + cells_made d4.heap command (as_fault r)
+      go (Ok answer) by same = made-cells d4.heap command plan last_plan answer d.heap by
+      go (Err why) by same = let n = ap (λ (h : HeapState). h.made) same in omega (arith, n)
+
+-- a plan stays one through barriers, and where room is made
+pub through_plan : (o : Option Place) (c d : CollectorState) (flown flying : ℕ → Option Bits) (command : GraphCmd) (plan : Plan)
+    → Exposed o (joined c.heap flown) c.stack (joined d.heap flying) d.stack → IsPlanOf c.heap command plan → IsPlanOf d.heap command plan
+through_plan o c d flown flying command plan e is = subst (λ h. IsPlanOf h command plan) (sym (through_shape o c d flown flying e)) is
+
+pub wide_plan : (c d : CollectorState) (command : GraphCmd) (plan : Plan) → Widens c d → IsPlanOf c.heap command plan → IsPlanOf d.heap command plan
+wide_plan c d command plan wide is = subst (λ h. IsPlanOf h command plan) (sym (wide_heap c d wide)) is
+
+-- and its change can be made
+pub through_able : (o : Option Place) (c d : CollectorState) (flown flying : ℕ → Option Bits) (ch : Change)
+    → Exposed o (joined c.heap flown) c.stack (joined d.heap flying) d.stack → IsAble c.heap.shape c.heap.made ch → IsAble d.heap.shape d.heap.made ch
+through_able o c d flown flying ch e able = subst (λ (h : HeapState). IsAble h.shape h.made ch) (sym (through_shape o c d flown flying e)) able
+
+pub wide_able : (c d : CollectorState) (ch : Change) → Widens c d → IsAble c.heap.shape c.heap.made ch → IsAble d.heap.shape d.heap.made ch
+wide_able c d ch wide able = subst (λ (h : HeapState). IsAble h.shape h.made ch) (sym (wide_heap c d wide)) able
+
+-- where a command is refused, nothing was done
+pub refused_at : (c : CollectorState) (flown : ℕ → Option Bits) (command : GraphCmd) (why : Refusal) → IsRefused c.heap command why
+    → DoesCommand c flown command (Err (fault.Refused why)) c flown
+refused_at c flown command why is w ok rep =
+    let step : DoesStep c.heap command (Err (fault.Refused why)) c.heap = does-refused c.heap command why is in
+    ((refused_in w c.heap c.heap command why ok rep.lies step).1, rep)
 
 -- after a command the collector stands for some valid world, as before
 pub command_sound : (c d : CollectorState) (flown flying : ℕ → Option Bits) (command : GraphCmd) (result : Result Reply CmdFault) → DoesCommand c flown command result d flying → IsSound c flown → IsSound d flying

@@ -1,0 +1,436 @@
+-- The plans of the commands.
+use Rattle.std.proofs.Common.{◌≡◌, ◌≢◌, ◌<◌, ◌≤◌, ℕ, Bool, true, false, List, Option, Some, None, Result, Ok, Err, length, is_some, slice_get, if◌then◌else◌, refl, sym, ap, subst, ◌∙◌, arith}
+use Rattle.std.specs.Prelude.{option_and_then}
+use Rattle.std.specs.Option.{ForSome, option_map}
+use Rattle.std.proofs.lemmas.Option.{slice_get_within}
+use Rattle.gz_names.specs.declared.limits.TheConstants.{ZONE_LIMIT, COMP_LIMIT}
+use Rattle.gz_names.specs.declared.commands.Kind.{Kind}
+use Rattle.gz_names.specs.declared.commands.Kind.TheVariants as kind
+use Rattle.gz_names.specs.declared.commands.GraphCmd.{GraphCmd}
+use Rattle.gz_names.specs.declared.commands.GraphCmd.TheVariants as cmd
+use Rattle.gz_names.specs.declared.numbers.CompNo.{CompNo}
+use Rattle.gz_names.specs.declared.numbers.Place.{Place}
+use Rattle.gz_names.specs.declared.replies.Reply.{Reply}
+use Rattle.gz_names.specs.declared.replies.Reply.TheVariants as reply
+use Rattle.cell_bits.specs.declared.bits.Bits.{Bits}
+use Rattle.arena_table.specs.Cells.{field_count}
+use Rattle.weak_maps.specs.WeakMaps.{value_of}
+use Rattle.colour_defs.specs.Graph.{GraphState}
+use Rattle.colour_defs.specs.Step.{HasFewFields, IsAccepted, make_object, named_or_null, refusal_in, step_of, take_in_register}
+use Rattle.heap_core.specs.declared.plans.Change.{Change}
+use Rattle.heap_core.specs.declared.plans.Change.TheVariants as change
+use Rattle.heap_core.specs.declared.plans.Plan.{Plan}
+use Rattle.heap_core.specs.Shape.{IsPresent, field_at, held_name}
+use Rattle.heap_core.specs.Heap.{HeapState, reg_of, slot_of, with_colours, with_reg, with_slot}
+use Rattle.heap_core.specs.Shows.{Shows, is_wrapper}
+use Rattle.heap_core.specs.Answers.{DoesStep, IsSound}
+use Rattle.heap_core.specs.Changes.{Writes, with_comp, with_zone, without_entry}
+use Rattle.heap_core.specs.Effects.{Changes, HasRoom, HoldsWrapper, IsWithout, MakesHeld, object_of_kind, takes_memory}
+use Rattle.heap_core.specs.Lookups.{Hands, IsEntry, IsWrappable, IsWritable, held_field, held_value, seen_from, target_at, value_to_set}
+use Rattle.heap_core.specs.Peeks.{handed, made_in, stored, wrapped_in, wrapped_target}
+use Rattle.heap_core.specs.Plans.{ChangesBy, IsAble, IsPlanIn, IsPlanOf, IsWith, MayWant}
+use Rattle.heap_core.proofs.Shown.{reg_present, slot_present, slot_shown}
+use Rattle.heap_core.proofs.Held.{does-copy, does-drop, does-hold, does-release, does-take, named_sure}
+use Rattle.heap_core.proofs.Grown.{does-comp, does-zone}
+use Rattle.heap_core.proofs.Made.{does-make, does-make_wanting}
+use Rattle.heap_core.proofs.Written.{value_present}
+use Rattle.heap_core.proofs.Writing.{does-set, field_within, set_accepted}
+use Rattle.heap_core.proofs.Seen.{wrap_seen, wrap_unseen}
+use Rattle.heap_core.proofs.Wrapped.{does-unseen_made, unseen_absent, wraps-seen, wraps-unseen}
+use Rattle.heap_core.proofs.Keyed.{del_accepted, does-del, does-del_absent, does-put, does-put_wanting}
+
+-- colours do not count
+pub shows_coloured : (h : HeapState) (ds : List Bits) (g : GraphState) → Shows h g → Shows (with_colours h ds) g
+shows_coloured h ds g s = record {
+  zones_are = s.zones_are;
+  comps_are = s.comps_are;
+  objects_made = s.objects_made;
+  registers_are = s.registers_are;
+  slots_are = s.slots_are;
+  registers_held = s.registers_held;
+  slots_held = s.slots_held;
+  fields_held = s.fields_held;
+  cells = s.cells;
+  apart = s.apart;
+  objects_are = s.objects_are;
+  wrappers_are = s.wrappers_are;
+  mapped = s.mapped;
+  maps_at_home = s.maps_at_home;
+  entries_held = s.entries_held;
+  entries_are = s.entries_are;
+  entries_known = s.entries_known;
+  few_objects = s.few_objects;
+}
+
+shows_before : (h : HeapState) (ds : List Bits) (g : GraphState) → Shows (with_colours h ds) g → Shows h g
+shows_before h ds g s = shows_coloured (with_colours h ds) h.colours g s
+
+-- a plan whose change is that of a register
+abbrev register_plan : ℕ → Option Place → Bool → Option Place → Plan
+register_plan r v named w = record { overwritten = None; wrapped = w; change = change.Register r v named }
+
+-- what a command says of itself that overwrites nothing and makes no cell
+record Plain (h : HeapState) (c : GraphCmd) (v w : Option Place) : Type 0 where
+  stored_is : stored h c ≡ None
+  wrapped_is : w ≡ wrapped_target h c
+  handed_is : v ≡ handed h c
+  made_is : made_in h c ≡ None
+  wrapped_there : ForSome w (IsPresent h.shape)
+
+registers : (h : HeapState) (c : GraphCmd) (r : ℕ) (v : Option Place) (named : Bool) (w : Option Place)
+    → Plain h c v w
+    → ForSome v (IsPresent h.shape)
+    → ((g : GraphState) → Shows h g → IsAccepted g c)
+    → ((answer : Reply) → answer ≡ (if named then named_or_null (held_name h.shape v) else reply.Accepted)
+    → DoesStep h c (Ok answer) (with_reg h r v))
+    → Changes h c (with_reg h r v)
+    → IsPlanIn h c (register_plan r v named w)
+registers h c r v named w plain there accepted does changes = record {
+  accepted = accepted;
+  overwritten = sym plain.stored_is;
+  wrapped = plain.wrapped_is;
+  handed = plain.handed_is;
+  made = sym plain.made_is;
+  replaced = refl;
+  overwritten_there = λ p e. absurd (cc e);
+  wrapped_there = plain.wrapped_there;
+  handed_there = there;
+  able = λ room few. there;
+  wants = λ none. absurd none;
+  does = λ few answer new by. (subst (λ (n : HeapState). DoesStep h c (Ok answer) n) (sym by.0) (does answer by.1), subst (λ (n : HeapState). Changes h c n) (sym by.0) changes);
+}
+
+-- a look-up, whose reply names what was found
+fetches : (h : HeapState) (c : GraphCmd) (r : ℕ) (v w : Option Place)
+    → Plain h c v w
+    → ForSome v (IsPresent h.shape)
+    → ((g : GraphState) → Shows h g → step_of g c ≡ take_in_register g r (held_name h.shape v))
+    → Changes h c (with_reg h r v)
+    → IsPlanIn h c (register_plan r v true w)
+fetches h c r v w plain there hands changes = registers h c r v true w plain there
+    (λ g s. ap (λ (p : GraphState × Reply). refusal_in p.1) (hands g s) ∙ named_sure (held_name h.shape v))
+    (λ answer is. subst (λ (a : Reply). DoesStep h c (Ok a) (with_reg h r v)) (sym is)
+    (does-take h c r v (λ g s. there) hands))
+    changes
+
+none_there : (h : HeapState) → ForSome None (IsPresent h.shape)
+none_there h p e = absurd (cc e)
+
+pub plans-get : (h : HeapState) (r s f : ℕ) (v : Option Place) → Hands h (λ r. cmd.Get r s f) (Ok v) → v ≡ held_field h s f → ForSome v (IsPresent h.shape)
+    → IsPlanIn h (cmd.Get r s f) (register_plan r v true None)
+plans-get h r s f v hands is there = fetches h (cmd.Get r s f) r v None
+    (record { stored_is = refl; wrapped_is = refl; handed_is = is; made_is = refl; wrapped_there = none_there h }) there (hands r)
+    (ap (with_reg h r) is)
+
+pub plans-unwrap : (h : HeapState) (r s : ℕ) (v : Option Place) → Hands h (λ r. cmd.Unwrap r s) (Ok v) → v ≡ held_field h s 0 → ForSome v (IsPresent h.shape)
+    → IsPlanIn h (cmd.Unwrap r s) (register_plan r v true None)
+plans-unwrap h r s v hands is there = fetches h (cmd.Unwrap r s) r v None
+    (record { stored_is = refl; wrapped_is = refl; handed_is = is; made_is = refl; wrapped_there = none_there h }) there (hands r)
+    (ap (with_reg h r) is)
+
+pub plans-find : (h : HeapState) (r m k : ℕ) (v : Option Place) → Hands h (λ r. cmd.Find r m k) (Ok v) → v ≡ held_value h m k → ForSome v (IsPresent h.shape)
+    → IsPlanIn h (cmd.Find r m k) (register_plan r v true None)
+plans-find h r m k v hands is there = fetches h (cmd.Find r m k) r v None
+    (record { stored_is = refl; wrapped_is = refl; handed_is = is; made_is = refl; wrapped_there = none_there h }) there (hands r)
+    (ap (with_reg h r) is)
+
+pub plans-expose : (h : HeapState) (g : GraphState) (r k : ℕ) → Shows h g → IsPlanIn h (cmd.Expose r k) (register_plan r (slot_of h k) true None)
+plans-expose h g r k s = fetches h (cmd.Expose r k) r (slot_of h k) None
+    (record { stored_is = refl; wrapped_is = refl; handed_is = refl; made_is = refl; wrapped_there = none_there h })
+    (λ p e. slot_present h g k p s e) (λ j t. ap (λ x. take_in_register j r x) (slot_shown h j k t)) refl
+
+pub plans-copy : (h : HeapState) (g : GraphState) (r s : ℕ) → Shows h g → IsPlanIn h (cmd.Copy r s) (register_plan r (reg_of h s) false None)
+plans-copy h g r s shows = registers h (cmd.Copy r s) r (reg_of h s) false None
+    (record { stored_is = refl; wrapped_is = refl; handed_is = refl; made_is = refl; wrapped_there = none_there h })
+    (λ p e. reg_present h g s p shows e) (λ j t. (does-copy h r s j t).0.1)
+    (λ answer is. subst (λ (a : Reply). DoesStep h (cmd.Copy r s) (Ok a) (with_reg h r (reg_of h s))) (sym is) (does-copy h r s))
+    refl
+
+pub plans-drop : (h : HeapState) (r : ℕ) → IsPlanIn h (cmd.Drop r) (register_plan r None false None)
+plans-drop h r = registers h (cmd.Drop r) r None false None
+    (record { stored_is = refl; wrapped_is = refl; handed_is = refl; made_is = refl; wrapped_there = none_there h })
+    (none_there h) (λ j t. refl)
+    (λ answer is. subst (λ (a : Reply). DoesStep h (cmd.Drop r) (Ok a) (with_reg h r None)) (sym is) (does-drop h r))
+    refl
+
+-- a plan whose change overwrites nothing and is about no cell to wrap
+abbrev plain_plan : Change → Plan
+plain_plan ch = record { overwritten = None; wrapped = None; change = ch }
+
+pub plans-hold : (h : HeapState) (g : GraphState) (k r : ℕ) → Shows h g → IsPlanIn h (cmd.Hold k r) (plain_plan (change.Slot k (reg_of h r)))
+plans-hold h g k r shows = record {
+  accepted = λ j t. (does-hold h k r j t).0.1;
+  overwritten = refl;
+  wrapped = refl;
+  handed = refl;
+  made = refl;
+  replaced = refl;
+  overwritten_there = none_there h;
+  wrapped_there = none_there h;
+  handed_there = none_there h;
+  able = λ room few p e. reg_present h g r p shows e;
+  wants = λ none. absurd none;
+  does = λ few answer new by. (
+    subst (λ (n : HeapState). DoesStep h (cmd.Hold k r) (Ok answer) n) (sym by.0)
+        (subst (λ (a : Reply). DoesStep h (cmd.Hold k r) (Ok a) (with_slot h k (reg_of h r))) (sym by.1) (does-hold h k r)),
+    by.0,
+  );
+}
+
+pub plans-release : (h : HeapState) (k : ℕ) → IsPlanIn h (cmd.Release k) (plain_plan (change.Slot k None))
+plans-release h k = record {
+  accepted = λ j t. refl;
+  overwritten = refl;
+  wrapped = refl;
+  handed = refl;
+  made = refl;
+  replaced = refl;
+  overwritten_there = none_there h;
+  wrapped_there = none_there h;
+  handed_there = none_there h;
+  able = λ room few. none_there h;
+  wants = λ none. absurd none;
+  does = λ few answer new by. (
+    subst (λ (n : HeapState). DoesStep h (cmd.Release k) (Ok answer) n) (sym by.0)
+        (subst (λ (a : Reply). DoesStep h (cmd.Release k) (Ok a) (with_slot h k None)) (sym by.1) (does-release h k)),
+    by.0,
+  );
+}
+
+pub plans-zone : (h : HeapState) → length h.shape.states ≤ ZONE_LIMIT → length h.shape.states ≢ ZONE_LIMIT → IsPlanIn h cmd.Zone (plain_plan change.Zone)
+plans-zone h most not = record {
+  accepted = λ j t. (does-zone h (length h.shape.states) refl most not j t).0.1;
+  overwritten = refl;
+  wrapped = refl;
+  handed = refl;
+  made = refl;
+  replaced = refl;
+  overwritten_there = none_there h;
+  wrapped_there = none_there h;
+  handed_there = none_there h;
+  able = λ room few. not;
+  wants = λ may. refl;
+  does = λ few answer new by. (
+    subst (λ (n : HeapState). DoesStep h cmd.Zone (Ok answer) n) (sym by.0)
+        (subst (λ (a : Reply). DoesStep h cmd.Zone (Ok a) (with_zone h)) (sym by.1) (does-zone h (length h.shape.states) refl most not)),
+    by.0,
+  );
+}
+
+pub plans-comp : (h : HeapState) (z : ℕ) → z < length h.shape.states → length h.shape.comps ≤ COMP_LIMIT → length h.shape.comps ≢ COMP_LIMIT → IsPlanIn h (cmd.Comp z) (plain_plan (change.Comp z))
+plans-comp h z there most not =
+    let c : CompNo = record { 0 = length h.shape.comps } in
+    record {
+      accepted = λ j t. (does-comp h z c refl there most not j t).0.1;
+      overwritten = refl;
+      wrapped = refl;
+      handed = refl;
+      made = refl;
+      replaced = refl;
+      overwritten_there = none_there h;
+      wrapped_there = none_there h;
+      handed_there = none_there h;
+      able = λ room few. (there, not);
+      wants = λ may. refl;
+      does = λ few answer new by. (
+        subst (λ (n : HeapState). DoesStep h (cmd.Comp z) (Ok answer) n) (sym by.0)
+            (subst (λ (a : Reply). DoesStep h (cmd.Comp z) (Ok a) (with_comp h z)) (sym by.1) (does-comp h z c refl there most not)),
+        by.0,
+      );
+    }
+
+pub plans-new : (h : HeapState) (r : ℕ) (c : CompNo) (n z : ℕ) → slice_get h.shape.comps c.0 ≡ Some z → IsPlanIn h (cmd.New r c n) (plain_plan (change.Cell r z c (kind.Object n)))
+plans-new h r c n z home = record {
+  accepted = λ g s. (does-make_wanting h r (kind.Object n) c (cmd.New r c n) (λ j. refl) (slice_get_within h.shape.comps c.0 z home) g s).0;
+  overwritten = refl;
+  wrapped = refl;
+  handed = refl;
+  made = sym home;
+  replaced = refl;
+  overwritten_there = none_there h;
+  wrapped_there = none_there h;
+  handed_there = none_there h;
+  able = λ room few. (home, few, room);
+  wants = λ may. refl;
+  does = λ few answer new by. (
+    subst (λ (a : Reply). DoesStep h (cmd.New r c n) (Ok a) new) (sym by.1)
+        (does-make h new r (kind.Object n) c (cmd.New r c n) (λ j. refl) refl few by.0),
+    by.0,
+  );
+}
+
+pub plans-map : (h : HeapState) (r : ℕ) (c : CompNo) (z : ℕ) → slice_get h.shape.comps c.0 ≡ Some z → IsPlanIn h (cmd.Map r c) (plain_plan (change.Cell r z c kind.Map))
+plans-map h r c z home = record {
+  accepted = λ g s. (does-make_wanting h r kind.Map c (cmd.Map r c) (λ j. refl) (slice_get_within h.shape.comps c.0 z home) g s).0;
+  overwritten = refl;
+  wrapped = refl;
+  handed = refl;
+  made = sym home;
+  replaced = refl;
+  overwritten_there = none_there h;
+  wrapped_there = none_there h;
+  handed_there = none_there h;
+  able = λ room few. (home, omega arith, room);
+  wants = λ may. refl;
+  does = λ few answer new by. (
+    subst (λ (a : Reply). DoesStep h (cmd.Map r c) (Ok a) new) (sym by.1)
+        (does-make h new r kind.Map c (cmd.Map r c) (λ j. refl) refl (omega arith) by.0),
+    by.0,
+  );
+}
+
+pub plans-set : (h : HeapState) (g : GraphState) (s f : ℕ) (t : Option ℕ) (p : Place) (old value : Option Place) → Shows h g → IsWritable h s f t p
+    → old ≡ field_at h.shape p f → value ≡ value_to_set h t
+    → IsPlanIn h (cmd.Set s f t) (record { overwritten = old; wrapped = None; change = change.Field p f value })
+plans-set h g s f t p old value shows may old_is value_is =
+    let there : ForSome value (IsPresent h.shape) = subst (λ v. ForSome v (IsPresent h.shape)) (sym value_is) (value_present h g t shows) in
+    record {
+      accepted = λ j k. set_accepted h j s f t p k may;
+      overwritten = old_is ∙ sym (ap (λ (o : Option Place). option_and_then (λ (q : Place). field_at h.shape q f) o) may.held);
+      wrapped = refl;
+      handed = refl;
+      made = refl;
+      replaced = old_is;
+      overwritten_there = λ q e. shows.fields_held p q f (sym old_is ∙ e);
+      wrapped_there = none_there h;
+      handed_there = none_there h;
+      able = λ room few. (field_within h g p f shows may.field, there);
+      wants = λ none. absurd none;
+      does = λ few answer new by. (
+          let w : Writes h p f (value_to_set h t) new = subst (λ v. Writes h p f v new) value_is by.0 in (
+            subst (λ (a : Reply). DoesStep h (cmd.Set s f t) (Ok a) new) (sym by.1)
+                (does-set h new s f t p may w),
+            rw may.held w,
+          ));
+    }
+
+pub plans-put : (h : HeapState) (g : GraphState) (m k v : ℕ) (map key value : Place) (old : Option Place) → Shows h g → IsEntry h m k v map key value
+    → old ≡ value_of h.shape.weak map key
+    → IsPlanIn h (cmd.Put m k v) (record { overwritten = old; wrapped = None; change = change.Put map key value })
+plans-put h g m k v map key value old shows i old_is = record {
+  accepted = λ j s. (does-put_wanting h m k v map key value i j s).0;
+  overwritten = old_is
+      ∙ sym (ap (λ (o : Option Place). option_and_then (λ (y : Place). value_of h.shape.weak map y) o) i.key_held)
+      ∙ sym (ap (λ (o : Option Place). option_and_then (λ (x : Place). option_and_then (λ (y : Place). value_of h.shape.weak x y) (reg_of h k)) o) i.map_held);
+  wrapped = refl;
+  handed = refl;
+  made = refl;
+  replaced = old_is;
+  overwritten_there = λ q e. (shows.entries_held map key q (sym old_is ∙ e)).2;
+  wrapped_there = none_there h;
+  handed_there = none_there h;
+  able = λ room few. (reg_present h g m map shows i.map_held, reg_present h g k key shows i.key_held, reg_present h g v value shows i.value_held);
+  wants = λ may. refl;
+  does = λ few answer new by. (
+    subst (λ (a : Reply). DoesStep h (cmd.Put m k v) (Ok a) new) (sym by.1)
+        (subst (λ (n : HeapState). DoesStep h (cmd.Put m k v) (Ok reply.Accepted) n) (sym by.0.rest)
+        (does-put h m k v map key value i
+        (λ a b. ap (λ (n : HeapState). value_of n.shape.weak a b) (sym by.0.rest) ∙ by.0.values a b))),
+    rw (i.map_held, i.key_held, i.value_held) by.0.rest,
+  );
+}
+
+-- what a `del` answers, by the value that was there
+abbrev said : Option Place → Reply
+said o = if is_some o then reply.Accepted else reply.Absent
+
+pub plans-del : (h : HeapState) (g : GraphState) (m k : ℕ) (map key value : Place) (old : Option Place) → Shows h g → IsEntry h m k k map key value
+    → old ≡ value_of h.shape.weak map key
+    → IsPlanIn h (cmd.Del m k) (record { overwritten = old; wrapped = None; change = change.Del map key })
+plans-del h g m k map key value old shows i old_is = record {
+  accepted = λ j s. del_accepted h j m k map key value s i;
+  overwritten = old_is
+      ∙ sym (ap (λ (o : Option Place). option_and_then (λ (y : Place). value_of h.shape.weak map y) o) i.key_held)
+      ∙ sym (ap (λ (o : Option Place). option_and_then (λ (x : Place). option_and_then (λ (y : Place). value_of h.shape.weak x y) (reg_of h k)) o) i.map_held);
+  wrapped = refl;
+  handed = refl;
+  made = refl;
+  replaced = old_is;
+  overwritten_there = λ q e. (shows.entries_held map key q (sym old_is ∙ e)).2;
+  wrapped_there = none_there h;
+  handed_there = none_there h;
+  able = λ room few. (reg_present h g m map shows i.map_held, reg_present h g k key shows i.key_held);
+  wants = λ none. absurd none;
+  does = λ few answer new by. (
+    subst (λ (a : Reply). DoesStep h (cmd.Del m k) (Ok a) new) (sym by.1)
+        (subst (λ (n : HeapState). DoesStep h (cmd.Del m k) (Ok (said (value_of h.shape.weak map key))) n) (sym by.0.rest)
+        (does new by.0 (value_of h.shape.weak map key) refl)),
+    rw (i.map_held, i.key_held) by.0,
+  );
+}
+  where
+    does : (new : HeapState) → IsWithout h map key new → (o : Option Place) → value_of h.shape.weak map key ≡ o
+        → DoesStep h (cmd.Del m k) (Ok (said o)) (without_entry h map key)
+    does new by None is = does-del_absent h m k map key value i is
+        (λ a b. ap (λ (n : HeapState). value_of n.shape.weak a b) (sym by.rest) ∙ by.values a b)
+    does new by (Some v) is = does-del h m k map key value v i is
+        (λ a b. ap (λ (n : HeapState). value_of n.shape.weak a b) (sym by.rest) ∙ by.values a b)
+
+-- what a compartment sees of a register's cell, by the target
+module _ (h : HeapState) (s : ℕ) (c : CompNo) (t : Place) (may : IsWrappable h s c t) where
+  abbrev sees : Place → Option Place
+  sees p = seen_from h.shape c (target_at h.shape p)
+
+  seen_at : (o : Option Place) → seen_from h.shape c t ≡ o → sees may.place ≡ o
+  seen_at o e = ap (seen_from h.shape c) (sym may.target_is) ∙ e
+
+  handed_at : (o : Option Place) → seen_from h.shape c t ≡ o → o ≡ option_and_then sees (reg_of h s)
+  handed_at o e = sym (ap (λ (x : Option Place). option_and_then sees x) may.held ∙ seen_at o e)
+
+  wrapped_at : Some t ≡ option_map (target_at h.shape) (reg_of h s)
+  wrapped_at = sym (ap (λ (x : Option Place). option_map (target_at h.shape) x) may.held ∙ ap (λ (x : Place). Some x) (sym may.target_is))
+
+  made_at : (o : Option Place) → seen_from h.shape c t ≡ o → wrapped_in h (reg_of h s) c ≡ (if is_some o then None else slice_get h.shape.comps c.0)
+  made_at o e = ap (λ (x : Option Place). wrapped_in h x c) may.held ∙ ap (λ (x : Option Place). if is_some x then None else slice_get h.shape.comps c.0) (seen_at o e)
+
+pub plans-wrap_seen : (h : HeapState) (r s : ℕ) (c : CompNo) (t v : Place) → IsWrappable h s c t → IsPresent h.shape t → IsPresent h.shape v → seen_from h.shape c t ≡ Some v
+    → IsPlanIn h (cmd.Wrap r s c) (register_plan r (Some v) true (Some t))
+plans-wrap_seen h r s c t v may there found seen = fetches h (cmd.Wrap r s c) r (Some v) (Some t)
+    (record {
+      stored_is = refl;
+      wrapped_is = wrapped_at h s c t may;
+      handed_is = handed_at h s c t may (Some v) seen;
+      made_is = made_at h s c t may (Some v) seen;
+      wrapped_there = λ p e. subst (IsPresent h.shape) (cc e) there;
+    })
+    (λ p e. subst (IsPresent h.shape) (cc e) found)
+    (λ g shows. wrap_seen h g r s c may.place shows may.held may.there v (seen_at h s c t may (Some v) seen))
+    (wraps-seen h (with_reg h r (Some v)) r s c t v may seen refl)
+
+pub plans-wrap_unseen : (h : HeapState) (r s : ℕ) (c : CompNo) (t : Place) (z : ℕ) → IsWrappable h s c t → IsPresent h.shape t → slice_get h.shape.comps c.0 ≡ Some z
+    → seen_from h.shape c t ≡ None → IsPlanIn h (cmd.Wrap r s c) (record { overwritten = None; wrapped = Some t; change = change.Wrapper r z c t })
+plans-wrap_unseen h r s c t z may there home unseen = record {
+  accepted = λ g shows. (let u = wrap_unseen h g r s c may.place shows may.held may.there (seen_at h s c t may None unseen) in
+      ap (λ (p : GraphState × Reply). refusal_in p.1) u.step);
+  overwritten = refl;
+  wrapped = wrapped_at h s c t may;
+  handed = handed_at h s c t may None unseen;
+  made = sym (made_at h s c t may None unseen ∙ home);
+  replaced = refl;
+  overwritten_there = none_there h;
+  wrapped_there = λ p e. subst (IsPresent h.shape) (cc e) there;
+  handed_there = none_there h;
+  able = λ room few. (home, there, (unseen_absent h c t unseen).1, room);
+  wants = λ may. refl;
+  does = λ few answer new by. (
+    subst (λ (a : Reply). DoesStep h (cmd.Wrap r s c) (Ok a) new) (sym by.1)
+        (does-unseen_made h new r s c t may unseen by.0),
+    wraps-unseen h new r s c t (Ok answer) may unseen by.0,
+  );
+}
+
+-- what was looked up does not depend on colours
+pub sound_coloured : (h : HeapState) (ds : List Bits) → IsSound h → IsSound (with_colours h ds)
+sound_coloured h ds s = (s.0, shows_coloured h ds s.0 s.1)
+
+pub hands_coloured : (h : HeapState) (ds : List Bits) (c : ℕ → GraphCmd) (v : Option Place) → Hands h c (Ok v) → Hands (with_colours h ds) c (Ok v)
+hands_coloured h ds c v hands r g s = hands r g (shows_before h ds g s)
+
+pub writable_coloured : (h : HeapState) (ds : List Bits) (s f : ℕ) (t : Option ℕ) (p : Place) → IsWritable h s f t p → IsWritable (with_colours h ds) s f t p
+writable_coloured h ds s f t p may = record { held = may.held; filled = may.filled; field = may.field; fits = may.fits }
+
+pub wrappable_coloured : (h : HeapState) (ds : List Bits) (s : ℕ) (c : CompNo) (t : Place) → IsWrappable h s c t → IsWrappable (with_colours h ds) s c t
+wrappable_coloured h ds s c t may = record { place = may.place; held = may.held; target_is = may.target_is; there = may.there }
+
+pub entry_coloured : (h : HeapState) (ds : List Bits) (m k v : ℕ) (map key value : Place) → IsEntry h m k v map key value → IsEntry (with_colours h ds) m k v map key value
+entry_coloured h ds m k v map key value i = record { map_held = i.map_held; key_held = i.key_held; value_held = i.value_held; allowed = i.allowed }
