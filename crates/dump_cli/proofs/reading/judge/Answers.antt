@@ -1,0 +1,38 @@
+use Rattle.std.proofs.Common.{◌∙◌, arith}
+use Rattle.std.specs.declared.alloc.AllocError.{AllocError}
+use Rattle.dump_cli.proofs.Read.{bad_of, end_verdict, gives_of, goes_on, refusal_verdict, says_verdict}
+use Rattle.dump_cli.proofs.reading.judge.Goals as goal
+
+pub returns-in-End-clause-verdict : goal.returns-in-End-clause-verdict
+returns-in-End-clause-verdict g c = λ input e.
+    let i = c.loop-read.invariant.so input e in
+    let given = gives_of _ _ _ _ i.1 c.in-End.ensures.bytes i.2 in
+    end_verdict input i.0 i.1 c.end.result i.3 given.2.0 (c.end.ensures i.0 i.3.sound i.4)
+
+pub returns-in-TooLong-clause-verdict : goal.returns-in-TooLong-clause-verdict
+returns-in-TooLong-clause-verdict g c = λ input e.
+    let i = c.loop-read.invariant.so input e in
+    let given = gives_of _ _ _ _ i.1 c.next.ensures.bytes i.2 in
+    refusal_verdict input i.0 i.1 c.loop-read.read c.refusal.result i.3 i.5
+    (bad_of i.1 given.0 _ _ given.2 c.in-TooLong.is) c.refusal.ensures
+
+pub returns-in-Ok-Some-clause-verdict : goal.returns-in-Ok-Some-clause-verdict
+returns-in-Ok-Some-clause-verdict g c = λ input e.
+    let i = c.loop-read.invariant.so input e in
+    let given = gives_of _ _ _ _ i.1 c.in-Line.ensures.bytes i.2 in
+    says_verdict AllocError input i.0 i.1 given.0 c.next.new.self.line c.line.result.now c.in-Ok-Some.field-0
+    c.in-Ok-Some.verdict c.line-in-loop-read.new.self i.3 given.2.3 c.line.ensures c.in-Ok-Some.field-0-is
+    (c.in-Ok-Some.ensures.says i.0 i.3.sound i.4)
+
+pub loop-read-preserved : goal.loop-read-preserved
+loop-read-preserved g c = record {
+  count = omega (arith, c.in-Ok-None.ensures.count, c.loop-read.invariant.count);
+  quiet = c.in-Line.ensures.same (λ p. cc p) ∙ c.loop-read.invariant.quiet;
+  so = λ input e.
+      let i = c.loop-read.invariant.so input e in
+      let given = gives_of _ _ _ _ i.1 c.in-Line.ensures.bytes i.2 in
+      let all = goes_on AllocError input i.0 i.1 given.0 c.next.new.self.line c.line.result.now c.in-Ok-None.field-0
+      c.line-in-loop-read.new.self c.loop-read.read i.3 given.2.3 c.line.ensures c.in-Ok-None.field-0-is
+      (c.in-Ok-None.ensures.says i.0 i.3.sound i.4) i.5 in
+      (all.0, given.0, given.1, all.1, all.2, all.3);
+}
