@@ -88,8 +88,11 @@ def has_clauses(head, clauses):
 
 
 def check_clauses(path):
-    """What the rows of docs/PROOFS.md name that is not in the sources."""
-    wrong = []
+    """What docs/PROOFS.md names that is not in the sources: definitions, functions and clauses."""
+    sources = [source for folder in ("src", "specs") for source in TOP.glob(f"crates/*/{folder}/**/*.*t*")]
+    words = {word for source in sources for word in re.findall(r"\w+", source.read_text())}
+    named = re.findall(r"`([A-Z]\w+|[a-z]+_\w+)`", path.read_text())
+    wrong = [f"no {name}" for name in named if name not in words]
     for line in path.read_text().splitlines():
         cells = [cell.strip() for cell in line.strip("|").split("|")]
         if len(cells) != 4 or not cells[2].endswith(".rt"):
