@@ -2,3 +2,4 @@ pub mod Finding
 pub mod Adding
 pub mod Dropping
 pub mod Lists
+pub mod NotedZones

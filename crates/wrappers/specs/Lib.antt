@@ -1,1 +1,2 @@
 pub mod WrapperMaps
+pub mod TargetZones

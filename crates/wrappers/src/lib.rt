@@ -21,10 +21,15 @@
 // zones would never be seen, so the target's zone could end its marking before the wrapper's.
 //
 // Each zone has a map of its own, so that the end of a group walks the maps of its zones alone.
+// Beside them `TargetZones` notes for each zone in which zones the targets of its wrappers lie, so that a
+// walk can pass over zones that cannot lead into a collection.
+//
 // All wrappers of a compartment are in one zone, the compartment's; which one is remembered from
 // the last wrapper that was added.
 #![tactic(auto)]
 
+mod target_zones;
 mod wrapper_maps;
 
+pub use target_zones::TargetZones;
 pub use wrapper_maps::{WrapperKey, Wrappers};

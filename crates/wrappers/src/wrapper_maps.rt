@@ -1,5 +1,5 @@
 // The wrappers of each zone.
-ghost use Rattle.std.specs.Prelude.{◌<◌, ◌≡◌, ◌+◌, ◌++◌, ◌∷◌, ◌==◌, ◌&&◌, ℕ, Bool, List, None, Some, [], length, map, replicate, slice_get, slice_index_or, not, filter, Contains, IfOk, IfSome, IfNone, OnOk, OnErr, is_some, if◌then◌else◌};
+ghost use Rattle.std.specs.Prelude.{◌<◌, ◌≡◌, ◌↔◌, IsTrue, ◌+◌, ◌++◌, ◌∷◌, ◌==◌, ◌&&◌, ℕ, Bool, List, None, Some, [], length, map, replicate, slice_get, slice_index_or, not, filter, Contains, IfOk, IfSome, IfNone, OnOk, OnErr, is_some, if◌then◌else◌};
 ghost use Rattle.std.specs.Int.{bit_at};
 ghost use Rattle.std.specs.Map.{lookup};
 ghost use Rattle.std.specs.Option.{option_map};
@@ -122,6 +122,14 @@ impl Wrappers {
     {
         next_in_zone(&self.maps, zone, cursor)
     }
+
+    /// Whether a zone has no wrappers.
+    pub fn has_none(&self, zone: ZoneNo) -> bool
+        ensures value { IsTrue result ↔ (list_of self.now zone ≡ []) }
+        ensures apart { AreApart self.now.lists }
+    {
+        has_none_in_zone(&self.maps, zone)
+    }
 }
 
 // Empty maps, one a zone.
@@ -197,6 +205,15 @@ fn next_in_zone(
     }
     *cursor += 1;
     Some(map[at])
+}
+
+// Whether a zone has no wrappers.
+fn has_none_in_zone(maps: &[IndexMap<WrapperKey, Place>], zone: ZoneNo) -> bool
+    requires { length maps.now ≡ 64 }
+    ensures { IsTrue result ↔ (list_at (lists_of maps.now) zone ≡ []) }
+{
+    let map = &maps[zone.index() as usize];
+    map.is_empty()
 }
 
 // Drops the entries of dead cells from the maps of these zones.
