@@ -38,6 +38,7 @@ use Rattle.heap_core.proofs.Writing.{does-set, field_within, set_accepted}
 use Rattle.heap_core.proofs.Seen.{wrap_seen, wrap_unseen}
 use Rattle.heap_core.proofs.Wrapped.{does-unseen_made, unseen_absent, wraps-seen, wraps-unseen}
 use Rattle.heap_core.proofs.Keyed.{del_accepted, does-del, does-del_absent, does-put, does-put_wanting}
+use Rattle.heap_core.proofs.NotedTargets.{written-other}
 
 -- colours do not count
 pub shows_coloured : (h : HeapState) (ds : List Bits) (g : GraphState) → Shows h g → Shows (with_colours h ds) g
@@ -294,7 +295,7 @@ plans-set h g s f t p old value shows may old_is value_is =
       overwritten_there = λ q e. shows.fields_held p q f (sym old_is ∙ e);
       wrapped_there = none_there h;
       handed_there = none_there h;
-      able = λ room few. (field_within h g p f shows may.field, there);
+      able = λ room few. (field_within h g p f shows may.field, there, written-other _ f may.field);
       wants = λ none. absurd none;
       does = λ few answer new by. (
           let w : Writes h p f (value_to_set h t) new = subst (λ v. Writes h p f v new) value_is by.0 in (

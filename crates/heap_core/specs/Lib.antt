@@ -11,3 +11,4 @@ pub mod Lookups
 pub mod Effects
 pub mod Peeks
 pub mod Plans
+pub mod TargetZones

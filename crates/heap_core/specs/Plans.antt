@@ -1,9 +1,10 @@
 -- The change that a command makes, by kinds, and what a plan says of its command.
 use Rattle.std.specs.Prelude.{◌≡◌, ◌≢◌, ◌<◌, ◌≤◌, ◌&&◌, ℕ, Bool, true, false, List, Option, Some, None, Result, Ok, Err, length, is_some, slice_get, IsSomeAnd, if◌then◌else◌}
-use Rattle.std.specs.Option.{ForSome}
+use Rattle.std.specs.Option.{ForSome, option_map}
 use Rattle.gz_names.specs.declared.limits.TheConstants.{ZONE_LIMIT, COMP_LIMIT}
 use Rattle.gz_names.specs.declared.names.Name.TheVariants.{Wrap}
 use Rattle.gz_names.specs.declared.commands.GraphCmd.{GraphCmd}
+use Rattle.gz_names.specs.declared.commands.Kind.TheVariants as kind
 use Rattle.gz_names.specs.declared.numbers.Place.{Place}
 use Rattle.gz_names.specs.declared.replies.Reply.{Reply}
 use Rattle.gz_names.specs.declared.replies.Reply.TheVariants as reply
@@ -71,6 +72,7 @@ IsAble s n (change.Wrapper r z c t) = (slice_get s.comps c.0 ≡ Some z) × IsPr
 IsAble s n (change.Register r v named) = ForSome v (IsPresent s)
 IsAble s n (change.Slot g v) = ForSome v (IsPresent s)
 IsAble s n (change.Field p f v) = IsSomeAnd (cell_of s p) (λ c. f < length c.fields) × ForSome v (IsPresent s)
+    × (option_map (λ c. c.kind) (cell_of s p) ≡ Some kind.Wrapper → ⊥)
 IsAble s n (change.Put m k v) = IsPresent s m × IsPresent s k × IsPresent s v
 IsAble s n (change.Del m k) = IsPresent s m × IsPresent s k
 

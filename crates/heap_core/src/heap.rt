@@ -15,6 +15,8 @@ ghost use Rattle.heap_core.specs.Heap.{HeapState, colour_of, reg_of, slot_of, wi
 ghost use Rattle.heap_core.specs.Changes.{Makes, MakesWrapper, Writes, next_place, with_comp, with_entry, with_number, with_zone, without_entry, wrapper_cell};
 ghost use Rattle.heap_core.specs.Blackening.{Blackens};
 ghost use Rattle.heap_core.specs.MarkBits.{TakesBlack, TakesGray};
+ghost use Rattle.heap_core.specs.TargetZones.{IsListedWrapper, owner_in};
+ghost use Rattle.wrappers.specs.TargetZones.{IsNoted};
 ghost use Rattle.heap_core.specs.Sweeping.{AreKept, held_in_all, is_absent, is_absent_in, is_lost_in, jobs_of, with_clear, with_handed, with_taken};
 ghost use Rattle.arena_table.specs.Slots.{IsWithin, alloc_word_of, at_bits, cell_at, names_of};
 ghost use Rattle.wrappers.specs.WrapperMaps.{AreApart, list_of, place_of, without_dead};
@@ -36,7 +38,7 @@ use std::alloc::{AllocError, Global};
 use std::marker::Model;
 use std::sync::ledger::Ledger;
 use weak_maps::WeakMaps;
-use wrappers::Wrappers;
+use wrappers::{TargetZones, Wrappers};
 use zones::{CompFault, State, ZoneFault, Zones};
 
 /// The cells of all zones, and what holds them.
@@ -45,6 +47,8 @@ pub struct Heap {
     arenas: Arenas,
     zones: Zones,
     wrappers: Wrappers,
+    // For each zone the zones in which targets of its wrappers ever lay.
+    target_zones: TargetZones,
     roots: Roots,
     weak: WeakMaps,
     // How many objects and maps were made: the number of the next.
@@ -72,6 +76,10 @@ impl Model for Heap {
       buffers = h.roots.buffers;
       made = h.arenas.made;
     } };
+
+    ghost use Rattle.heap_core.specs.TargetZones.{AreTargetsNoted};
+
+    ghost invariant = { λ h. AreTargetsNoted h.arenas.arenas h.target_zones };
 }
 
 impl Heap {
@@ -87,6 +95,7 @@ impl Heap {
             arenas: Arenas::new(alloc)?,
             zones: Zones::new(alloc),
             wrappers: Wrappers::new(alloc)?,
+            target_zones: TargetZones::new(),
             roots: Roots::new(alloc)?,
             weak: WeakMaps::new(alloc),
             objects: 0,
@@ -384,6 +393,21 @@ impl Heap {
         self.wrappers.next_of(zone, cursor)
     }
 
+    /// The zones in which the targets of a zone's wrappers lie, and perhaps others: those in which the
+    /// target of a wrapper of the zone ever lay, and none when it has no wrapper (our choice). It looks
+    /// at no wrapper.
+    pub fn target_zones(&self, zone: ZoneNo) -> ZoneSet
+        ensures targets { (p target : APlace) → IsListedWrapper self.now.shape zone p target
+            → HasZone result.bits (zone_of self.now.shape target) }
+        ensures apart { AreApart self.now.shape.wrappers.lists }
+    {
+        if self.wrappers.has_none(zone) {
+            ZoneSet::new()
+        } else {
+            self.target_zones.of(zone)
+        }
+    }
+
     /// Puts the cells of gray slots and the gray wrappers into the buffers of the zones that they
     /// are given with. All memory is taken before anything is put in.
     pub fn buffer_gray(
@@ -563,6 +587,8 @@ impl Heap {
     pub(crate) fn set_field(&mut self, place: Place, f: u8, v: Option<Place>)
         requires field { IsSomeAnd (cell_of self.old.shape place) (λ c. f < length c.fields) }
         requires value { ForSome v (IsPresent self.old.shape) }
+        requires other { option_map (λ c. c.kind) (cell_of self.old.shape place)
+            ≡ Some kind.Wrapper → ⊥ }
         ensures { Writes self.old place f v self.new }
     {
         self.arenas.set_field(place, f, v);
@@ -627,6 +653,7 @@ impl Heap {
     {
         let place = self.arenas.reserve_place(zone)?;
         self.wrappers.add(zone, comp, number, place)?;
+        note_target(&self.arenas, &mut self.target_zones, zone, target);
         self.arenas
             .put_cell(place, Kind::Wrapper, comp, Name::Wrap(comp, number));
         self.arenas.set_field(place, 0, Some(target));
@@ -695,6 +722,18 @@ impl Heap {
             else value_of self.old.shape.weak m k) }
     {
         self.weak.del(map, key)
+    }
+}
+
+// Notes the zone in which the target of a wrapper lies for the wrapper's zone.
+fn note_target(arenas: &Arenas, target_zones: &mut TargetZones, zone: ZoneNo, target: Place)
+    requires { target.0 < length arenas.now.arenas }
+    ensures noted { (to : ℕ) × (owner_in arenas.now.arenas target.0 ≡ Some to)
+        × IsNoted target_zones.new zone to }
+    ensures kept { (a b : ℕ) → IsNoted target_zones.old a b → IsNoted target_zones.new a b }
+{
+    if let Some(to) = arenas.owner(target.arena()) {
+        target_zones.note(zone, to);
     }
 }
 

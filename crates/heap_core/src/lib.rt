@@ -43,6 +43,11 @@
 //     at_home      a cell lies in its compartment's zone: else a collection of that zone would leave
 //                  it out, and one of another zone would sweep it
 //
+// The heap notes for each zone the zones in which the targets of its wrappers lie (`target_zones`), so
+// that the beginning of a collection looks at no wrapper of a zone that leads elsewhere. It is an
+// invariant of the heap that none is missing: a zone that were left out could have a gray wrapper into
+// a collected one, whose target would be swept.
+//
 // A command answers and does on each such graph what the definitions say (`DoesStep`); that the
 // graph of what is present answers as the whole one does is a law of colour_defs (`agrees_law`).
 // `resolve` looks a command up once: it is refused, or a plan tells what it overwrites, hands out or

@@ -5,6 +5,7 @@ use Rattle.heap_core.specs.Heap.{HeapState}
 use Rattle.heap_core.specs.Sweeping.{jobs_of}
 use Rattle.heap_core.proofs.Taking.{handed-stored}
 use Rattle.heap_core.proofs.Views.{hand_out-seen, kept-in, jobs-seen}
+use Rattle.heap_core.proofs.NotedTargets.{noted-hand_out}
 use Rattle.heap_core.proofs.heap.Heap.hand_out.Goals as goal
 
 pub hand_out-requires : goal.hand_out-requires
@@ -18,3 +19,6 @@ returns-clause-ok c = on_ok_weaker c.hand_out.result (λ e. hand_out-seen (the_v
 
 pub returns-clause-stored : goal.returns-clause-stored
 returns-clause-stored c = handed-stored (the_view c.self.inside) c.args.self.now c.self.inside.arenas c.hand_out.new.self c.self.view_is c.hand_out.ensures.cells
+
+pub invariant_of-self : goal.invariant_of-self
+invariant_of-self c = noted-hand_out c.self.inside.arenas c.hand_out.new.self c.args.zones.bits _ c.hand_out.result c.hand_out.ensures.ok c.hand_out.ensures.err c.self.invariant

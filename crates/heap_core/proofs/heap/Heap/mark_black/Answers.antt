@@ -2,6 +2,7 @@ use Rattle.std.proofs.Common.{refl, ◌∙◌, ap}
 use Rattle.heap_core.specs.contracts.heap.Heap.{the_view}
 use Rattle.arena_table.specs.Slots.{change_at, with_bits}
 use Rattle.heap_core.proofs.MarkBits.{colour-at, kept-at, takes_black, was_black}
+use Rattle.heap_core.proofs.NotedTargets.{noted-set_bits}
 use Rattle.heap_core.proofs.heap.Heap.mark_black.Goals as goal
 
 pub set_bits-requires : goal.set_bits-requires
@@ -19,3 +20,7 @@ returns-else-is_new c = rw c.if-is_new.false (
       ∙ was_black c.bits-bits.result c.slot.result c.mark_black-is_new.result c.mark_black-is_new.ensures.set c.if-is_new.false,
   refl,
 )
+
+pub invariant_of-self : goal.invariant_of-self
+invariant_of-self c = noted-set_bits c.self.inside.arenas c.set_bits.new.self c.arena-then-is_new.result
+    c.mark_black-is_new.new.self _ c.set_bits.ensures c.self.invariant
