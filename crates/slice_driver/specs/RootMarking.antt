@@ -57,6 +57,15 @@ IsTargetBefore h zone n x = (i : ℕ) × (i < n) × (u : Place) × LeadsAt colou
 abbrev pub IsTargetOf : HeapState → ℕ → Place → Type 0
 IsTargetOf h zone x = (i : ℕ) × (u : Place) × LeadsAt colour.Black h zone i u x
 
+-- no wrapper of a zone's list leads into these zones
+abbrev pub LeadsElsewhere : Shape → ZoneSet → ℕ → Type 0
+LeadsElsewhere s zones zone = (i : ℕ) (u x : Place) → wrapper_at s zone i ≡ Some u → field_at s u 0 ≡ Some x
+    → IsWithin s zones x → ⊥
+
+-- a zone is one of these, or no wrapper of it leads into them
+abbrev pub IsNoSource : Shape → ZoneSet → ℕ → Type 0
+IsNoSource s zones zone = HasZone zones.bits zone ⊎ LeadsElsewhere s zones zone
+
 -- a black wrapper of one of the first zones, outside of these, leads to a cell
 abbrev pub IsTargetAmong : HeapState → ZoneSet → ℕ → Place → Type 0
 IsTargetAmong h zones n x = (z : ℕ) × (z < n) × (HasZone zones.bits z → ⊥) × IsTargetOf h z x

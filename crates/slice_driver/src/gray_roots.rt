@@ -1,13 +1,10 @@
 // Buffering the gray roots of a collection.
-ghost use Rattle.std.specs.Prelude.{◌≡◌, ◌<◌, ◌≤◌, ◌+◌, ◌⊎◌, None, Some, Contains, IfNone, IfSome, OnErr, OnOk, length, slice_get, sum_by};
-ghost use Rattle.gz_names.specs.Zones.{HasZone};
-ghost use Rattle.cell_bits.specs.declared.bits.Colour.TheVariants as colour;
-ghost use Rattle.heap_core.specs.Shape.{IsPresent, field_at, zone_of};
-ghost use Rattle.heap_core.specs.Heap.{colour_of};
+ghost use Rattle.std.specs.Prelude.{◌≡◌, ◌<◌, ◌≤◌, ◌+◌, Some, Contains, OnErr, OnOk, length, slice_get, sum_by};
+ghost use Rattle.heap_core.specs.Shape.{IsPresent};
 ghost use Rattle.zone_edges.specs.Looks.{AreWrappers, IsWrapperIn};
 ghost use Rattle.slice_driver.specs.GrayRoots.{Buffers, Gathers, HasFewWrappers, IsFor, IsGrayAmong, IsGrayOf, IsGrayWrapper, IsInSlot};
 
-use crate::root_marking::{outsider_at, own_colour};
+use crate::root_marking::source_at;
 use cell_bits::Colour;
 use gz_names::{GrayNo, NoMemory, Place, ZoneNo, ZoneSet};
 use heap_core::{Heap, Steps};
@@ -56,7 +53,7 @@ fn gather_slots(
 }
 
 // Gathers the gray wrappers of other zones whose targets lie in these zones, each with its
-// target's zone.
+// target's zone. It looks at the wrappers of those zones alone of which one may lead into these.
 fn gather_wrappers<L: Ledger>(
     heap: &Heap,
     zones: ZoneSet,
@@ -72,7 +69,7 @@ fn gather_wrappers<L: Ledger>(
     ensures few { OnOk result (length found.new.items ≤ length found.old.items + 17592186044416) }
 {
     for index in 0..heap.zones() {
-        if let Some(zone) = outsider_at(zones, index) {
+        if let Some(zone) = source_at(heap, zones, index) {
             gather_of(heap, zone, zones, steps, found)?;
         }
     }
@@ -149,7 +146,7 @@ fn gather_wrapper<L: Ledger>(
         found.old.items found.new.items) }
     ensures few { OnOk result (length found.new.items ≤ length found.old.items + 1) }
 {
-    if own_colour(heap, wrapper) != Colour::Gray {
+    if heap.colour(wrapper) != Colour::Gray {
         return Ok(());
     }
     match heap.reached_by(wrapper, 0, steps) {
@@ -171,21 +168,9 @@ fn gather(
         found.old.items found.new.items) }
     ensures few { OnOk result (length found.new.items ≤ length found.old.items + 1) }
 {
-    if let Some(zone) = zone_in(heap, zones, cell) {
+    let zone = heap.zone_at(cell);
+    if zones.contains(zone) {
         found.push((zone, place))?;
     }
     Ok(())
-}
-
-// The zone of a cell, if it is one of these zones.
-fn zone_in(heap: &Heap, zones: ZoneSet, cell: Place) -> Option<ZoneNo>
-    requires { cell.0 < length heap.now.shape.arenas }
-    ensures some { IfSome result (λ zone. (zone ≡ zone_of heap.now.shape cell)
-        × HasZone zones.bits zone) }
-    ensures none { IfNone result (HasZone zones.bits (zone_of heap.now.shape cell) → ⊥) }
-{
-    match heap.owner(cell.arena()) {
-        Some(zone) => zones.contains(zone).then_some(zone),
-        None => None,
-    }
 }

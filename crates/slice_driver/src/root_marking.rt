@@ -1,14 +1,10 @@
 // Marking the black roots of a collection.
-ghost use Rattle.std.specs.Prelude.{◌≡◌, ◌<◌, ◌↔◌, ◌+◌, None, Some, Contains, IfNone, IfSome, IsTrue, length, slice_get};
+ghost use Rattle.std.specs.Prelude.{◌≡◌, ◌<◌, None, Some, Contains, IfNone, IfSome, IsTrue, length, slice_get};
 ghost use Rattle.gz_names.specs.Zones.{HasZone};
-ghost use Rattle.cell_bits.specs.declared.bits.Colour.TheVariants as colour;
-ghost use Rattle.heap_core.specs.Shape.{IsPresent, field_at, out_of};
-ghost use Rattle.heap_core.specs.Heap.{colour_of};
+ghost use Rattle.heap_core.specs.Shape.{IsPresent, field_at};
 ghost use Rattle.zone_edges.specs.Looks.{AreWrappers, IsWrapperIn};
 ghost use Rattle.barriers.specs.Colours.{IsBlack};
-ghost use Rattle.barriers.specs.Invariant.{HasRoom};
-ghost use Rattle.slice_driver.specs.Begins.{IsWithin};
-ghost use Rattle.slice_driver.specs.RootMarking.{Blackens, IsReady, IsTargetAmong, IsTargetOf, Marks};
+ghost use Rattle.slice_driver.specs.RootMarking.{Blackens, IsNoSource, IsReady, IsTargetAmong, IsTargetOf, LeadsElsewhere, Marks};
 
 use cell_bits::Colour;
 use gz_names::{Place, Reg, ZoneNo, ZoneSet};
@@ -30,7 +26,8 @@ pub(crate) fn mark_registers(heap: &mut Heap, stack: &mut Stack, zones: ZoneSet)
     }
 }
 
-/// Marks the targets in these zones of the black wrappers of other zones.
+/// Marks the targets in these zones of the black wrappers of other zones. It looks at the wrappers of
+/// those zones alone of which one may lead into these.
 pub(crate) fn mark_targets<L: Ledger>(
     heap: &mut Heap,
     stack: &mut Stack,
@@ -43,14 +40,38 @@ pub(crate) fn mark_targets<L: Ledger>(
         stack.old heap.new stack.new }
 {
     for index in 0..heap.zones() {
-        if let Some(zone) = outsider_at(zones, index) {
+        if let Some(zone) = source_at(heap, zones, index) {
             mark_targets_of(heap, stack, zone, zones, steps);
         }
     }
 }
 
-/// The zone of a number, if it is none of these zones.
-pub(crate) fn outsider_at(zones: ZoneSet, index: u8) -> Option<ZoneNo>
+/// The zone of a number, if it is none of these zones and a wrapper of it may lead into them.
+pub(crate) fn source_at(heap: &Heap, zones: ZoneSet, index: u8) -> Option<ZoneNo>
+    requires index { index < 64 }
+    requires wrappers { AreWrappers heap.now.shape }
+    ensures some { IfSome result (λ zone. (zone ≡ index) × (HasZone zones.bits index → ⊥)) }
+    ensures none { IfNone result (IsNoSource heap.now.shape zones index) }
+{
+    match outsider_at(zones, index) {
+        Some(zone) => (!leads_elsewhere(heap, zone, zones)).then_some(zone),
+        None => None,
+    }
+}
+
+// Whether no wrapper of a zone leads into these zones, as far as the zones of its targets tell.
+fn leads_elsewhere(heap: &Heap, zone: ZoneNo, zones: ZoneSet) -> bool
+    requires { AreWrappers heap.now.shape }
+    ensures { IsTrue result → LeadsElsewhere heap.now.shape zones zone }
+{
+    heap.target_zones(zone)
+        .intersection(zones)
+        .first()
+        .is_none()
+}
+
+// The zone of a number, if it is none of these zones.
+fn outsider_at(zones: ZoneSet, index: u8) -> Option<ZoneNo>
     requires { index < 64 }
     ensures some { IfSome result (λ zone. (zone ≡ index) × (HasZone zones.bits index → ⊥)) }
     ensures none { IfNone result (HasZone zones.bits index) }
@@ -106,7 +127,7 @@ fn mark_target<L: Ledger>(
         (λ x. IsBlack heap.old wrapper × (field_at heap.old.shape wrapper 0 ≡ Some x)) zones
         heap.old stack.old heap.new stack.new }
 {
-    if own_colour(heap, wrapper) == Colour::Black
+    if heap.colour(wrapper) == Colour::Black
         && let Some(target) = heap.reached_by(wrapper, 0, steps)
     {
         mark_root(heap, stack, zones, target);
@@ -119,28 +140,9 @@ fn mark_root(heap: &mut Heap, stack: &mut Stack, zones: ZoneSet, place: Place)
     requires made { place.0 < length heap.old.shape.arenas }
     ensures { Marks (λ x. x ≡ place) zones heap.old stack.old heap.new stack.new }
 {
-    if is_in(heap, zones, place) {
+    if heap.lies_in(place, zones) {
         mark_black(heap, stack, place);
     }
-}
-
-// Whether a place lies in one of these zones.
-fn is_in(heap: &Heap, zones: ZoneSet, place: Place) -> bool
-    requires { place.0 < length heap.now.shape.arenas }
-    ensures { IsTrue result ↔ IsWithin heap.now.shape zones place }
-{
-    match heap.owner(place.arena()) {
-        Some(zone) => zones.contains(zone),
-        None => false,
-    }
-}
-
-/// The colour of a cell whose arena is not out.
-pub(crate) fn own_colour(heap: &Heap, place: Place) -> Colour
-    requires { place.0 < length heap.now.colours }
-    ensures { result ≡ colour_of heap.now place }
-{
-    heap.bits(place.arena()).colour(place.slot())
 }
 
 // Marks a cell black and pending, if it is not black yet.
@@ -149,9 +151,7 @@ fn mark_black(heap: &mut Heap, stack: &mut Stack, place: Place)
     requires ready { IsReady heap.old stack.old }
     ensures { Blackens heap.old stack.old place heap.new stack.new }
 {
-    let mut bits = heap.bits(place.arena());
-    if bits.mark_black(place.slot()) {
-        heap.set_bits(place.arena(), bits);
+    if heap.mark_black(place) {
         stack.push(Pile::Black, place);
     }
 }

@@ -18,6 +18,7 @@ use Rattle.heap_core.specs.Shape.{Shape, field_at, zone_of}
 use Rattle.heap_core.specs.Heap.{HeapState, colour_of}
 use Rattle.zone_edges.specs.Looks.{wrapper_at}
 use Rattle.slice_driver.specs.GrayRoots.{Buffers, Gathers, IsFor, IsGrayAmong, IsGrayAt, IsGrayBefore, IsGrayOf, IsGrayWrapper, IsInSlot, IsSlotBefore}
+use Rattle.slice_driver.specs.RootMarking.{IsNoSource}
 use Rattle.slice_driver.proofs.beginning.MarkedRoots.{before_or_last, below_none}
 use Rattle.slice_driver.proofs.abstraction.Named.{some_one}
 
@@ -177,12 +178,17 @@ module _ (h : HeapState) (zones : ZoneSet) where
     ],
   )) (gathers_then (IsGrayAmong h zones i) (IsGrayOf h zones i) old mid new g k)
 
-  pub among_skip : (i : ℕ) (old new : List (ZoneNo × Place)) → HasZone zones.bits i → Gathers (IsGrayAmong h zones i) old new → Gathers (IsGrayAmong h zones (i + 1)) old new
-  among_skip i old new has g = gathers_same (IsGrayAmong h zones i) (IsGrayAmong h zones (i + 1)) old new (λ z x. (
+  none_from : (i z : ℕ) (x : Place) → IsNoSource h.shape zones i → (HasZone zones.bits i → ⊥) → IsGrayOf h zones i z x → ⊥
+  none_from i z x (inl has) other of = other has
+  none_from i z x (inr elsewhere) other of =
+      elsewhere of.0 x of.1.1 of.1.2.stands of.1.2.target (subst (λ j. HasZone zones.bits j) (sym of.1.3) of.1.0)
+
+  pub among_skip : (i : ℕ) (old new : List (ZoneNo × Place)) → IsNoSource h.shape zones i → Gathers (IsGrayAmong h zones i) old new → Gathers (IsGrayAmong h zones (i + 1)) old new
+  among_skip i old new none g = gathers_same (IsGrayAmong h zones i) (IsGrayAmong h zones (i + 1)) old new (λ z x. (
     (λ b. (b.0, omega (arith, b.1), b.2, b.3)),
     λ b. elim (before_or_last b.0 i b.1) [
       | inl less ↦ (b.0, less, b.2, b.3)
-      | inr e ↦ absurd (b.2 (subst (λ j. HasZone zones.bits j) (sym e) has))
+      | inr e ↦ absurd (none_from i z x none (subst (λ j. HasZone zones.bits j → ⊥) e b.2) (subst (λ j. IsGrayOf h zones j z x) e b.3))
     ],
   )) g
 

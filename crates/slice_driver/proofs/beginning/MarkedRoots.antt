@@ -27,7 +27,7 @@ use Rattle.barriers.proofs.BlackClosure.{black_or_not}
 use Rattle.barriers.proofs.Places.{same_or_other, same_place}
 use Rattle.barriers.proofs.Slots.{black_now, colour_elsewhere, left_less, not_black_bit, slots_fewer, slots_set, white_no_more}
 use Rattle.slice_driver.specs.Begins.{IsWithin}
-use Rattle.slice_driver.specs.RootMarking.{Blackens, IsHeldBefore, IsReady, IsTargetAmong, IsTargetBefore, IsTargetOf, Marks}
+use Rattle.slice_driver.specs.RootMarking.{Blackens, IsHeldBefore, IsNoSource, IsReady, IsTargetAmong, IsTargetBefore, IsTargetOf, Marks}
 use Rattle.slice_driver.proofs.abstraction.Named.{some_one}
 
 -- nothing turned black
@@ -313,14 +313,20 @@ module _ (h : HeapState) (zones : ZoneSet) (p : Piles) where
   pub among_first : HasRoom h p → Marks (IsTargetAmong h zones 0) zones h p h p
   among_first room = marks_still (IsTargetAmong h zones 0) zones h p room (λ x t w. absurd (omega (arith, t.1)))
 
-  pub among_skip : (i : ℕ) (k : HeapState) (q : Piles) → HasZone zones.bits i → Marks (IsTargetAmong h zones i) zones h p k q → Marks (IsTargetAmong h zones (i + 1)) zones h p k q
-  among_skip i k q has m = marks_same (IsTargetAmong h zones i) (IsTargetAmong h zones (i + 1)) zones h p k q (λ x w. (
-    (λ t. (t.0, omega (arith, t.1), t.2, t.3)),
-    λ t. elim (before_or_last t.0 i t.1) [
-      | inl less ↦ (t.0, less, t.2, t.3)
-      | inr e ↦ absurd (t.2 (subst (λ z. HasZone zones.bits z) (sym e) has))
-    ],
-  )) m
+  none_from : (i : ℕ) (x : Place) → IsNoSource h.shape zones i → (HasZone zones.bits i → ⊥) → IsWithin h.shape zones x → IsTargetOf h i x → ⊥
+  none_from i x (inl has) other w of = other has
+  none_from i x (inr elsewhere) other w of = elsewhere of.0 of.1 x of.2.stands of.2.target w
+
+  pub among_skip : (i : ℕ) (k : HeapState) (q : Piles) → IsNoSource k.shape zones i → Marks (IsTargetAmong h zones i) zones h p k q → Marks (IsTargetAmong h zones (i + 1)) zones h p k q
+  among_skip i k q none m =
+      let none_then : IsNoSource h.shape zones i = subst (λ (s : Shape). IsNoSource s zones i) (shape_still (IsTargetAmong h zones i) zones h p k q m) none in
+      marks_same (IsTargetAmong h zones i) (IsTargetAmong h zones (i + 1)) zones h p k q (λ x w. (
+        (λ t. (t.0, omega (arith, t.1), t.2, t.3)),
+        λ t. elim (before_or_last t.0 i t.1) [
+          | inl less ↦ (t.0, less, t.2, t.3)
+          | inr e ↦ absurd (none_from i x none_then (subst (λ z. HasZone zones.bits z → ⊥) e t.2) w (subst (λ z. IsTargetOf h z x) e t.3))
+        ],
+      )) m
 
   pub among_step : (i : ℕ) (k : HeapState) (q : Piles) (l : HeapState) (r : Piles) → (HasZone zones.bits i → ⊥) → Marks (IsTargetAmong h zones i) zones h p k q → Marks (IsTargetOf k i) zones k q l r → Marks (IsTargetAmong h zones (i + 1)) zones h p l r
   among_step i k q l r other m n =

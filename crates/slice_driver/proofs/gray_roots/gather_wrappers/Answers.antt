@@ -10,7 +10,7 @@ loop-index-preserved g c =
     let i = c.loop-index.index in
     let old = c.args.found.now.items in
     let mid = c.loop-index.found.items in
-    elim c.match-outsider_at.branch [
+    elim c.match-source_at.branch [
       | in-Some+in_ok-gather_of w ↦
           let other = w.in-Some.ensures.some in
           let new = w.gather_of.new.found.items in

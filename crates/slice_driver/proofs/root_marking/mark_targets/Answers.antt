@@ -4,13 +4,16 @@ use Rattle.slice_driver.proofs.beginning.MarkedRoots.{among_skip, among_step, ma
 use Rattle.slice_driver.proofs.root_marking.mark_targets.Goals as goal
 use Rattle.slice_driver.proofs.root_marking.mark_targets.Goals.{in-Some, in_default}
 
+pub source_at-requires-clause-wrappers : goal.source_at-requires-clause-wrappers
+source_at-requires-clause-wrappers g c = wrappers_still _ _ _ _ _ _ c.loop-index.invariant.marks c.requires.wrappers
+
 pub mark_targets_of-requires-clause-wrappers : goal.mark_targets_of-requires-clause-wrappers
 mark_targets_of-requires-clause-wrappers g c = wrappers_still _ _ _ _ _ _ c.loop-index.invariant.marks c.requires.wrappers
 
 pub loop-index-preserved : goal.loop-index-preserved
 loop-index-preserved g c =
     let m = c.loop-index.invariant.marks in
-    elim c.match-outsider_at.branch [
+    elim c.match-source_at.branch [
       | in-Some w ↦
           let member = w.in-Some.ensures.some in
           record { marks = marks_into _ _ _ _ _ _ _ _ w.heap-is w.stack-is (among_step _ _ _ c.loop-index.index _ _ _ _ member.1 m (subst (λ z. Marks (IsTargetOf c.loop-index.heap z) c.args.zones c.loop-index.heap c.loop-index.stack w.mark_targets_of.new.heap w.mark_targets_of.new.stack) member.0 w.mark_targets_of.ensures)) }
