@@ -164,6 +164,7 @@ fn answer_parsed<K: Sink, L: Ledger>(
 }
 
 /// Does what a line says, and writes the answer.
+#[inline(always)]
 pub fn answer_line<K: Sink, L: Ledger>(
     alloc: Global,
     collector: &mut Collector,

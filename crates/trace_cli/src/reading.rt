@@ -75,6 +75,7 @@ fn first_collector(alloc: Global) -> Result<Collector, NoMemory>
 }
 
 // Does what a line says, after so many lines, and writes the answer.
+#[inline(always)]
 fn answer_next<K: Sink, L: Ledger>(
     alloc: Global,
     collector: &mut Collector,
