@@ -11,7 +11,7 @@ from pathlib import Path
 TOP = Path(__file__).resolve().parent.parent
 SECONDS = 30
 # What a command needs beside Python. It is not run when this is missing.
-NEEDS = {"tools/draw": "dot"}
+NEEDS = {"tools/draw": "dot", "tools/check-heap-log": str(TOP / "crates/check_dump/out/check_dump")}
 
 
 def documents():
@@ -88,9 +88,10 @@ def has_clauses(head, clauses):
 
 
 def check_clauses(path):
-    """What docs/PROOFS.md names that is not in the sources: definitions, functions and clauses."""
+    """What docs/PROOFS.md names that is not there: crates, definitions, functions and clauses."""
     sources = [source for folder in ("src", "specs") for source in TOP.glob(f"crates/*/{folder}/**/*.*t*")]
     words = {word for source in sources for word in re.findall(r"\w+", source.read_text())}
+    words |= {crate.name for crate in TOP.glob("crates/*")}
     named = re.findall(r"`([A-Z]\w+|[a-z]+_\w+)`", path.read_text())
     wrong = [f"no {name}" for name in named if name not in words]
     for line in path.read_text().splitlines():
