@@ -29,4 +29,5 @@ pub returns-clause-sound : goal.returns-clause-sound
 returns-clause-sound c = sound-empty _ (returns-clause-empty c)
 
 pub invariant_of-result : goal.invariant_of-result
-invariant_of-result c = subst (λ (s : ArenasState). AreTargetsNoted s.arenas c.new-4.result) (sym c.in_ok-new.ensures) (noted-none c.new-4.result)
+invariant_of-result c = subst (λ (s : ArenasState). AreTargetsNoted s.arenas c.new-4.result) (sym c.in_ok-new.ensures)
+    (noted-none c.new-4.result)
