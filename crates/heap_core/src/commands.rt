@@ -512,14 +512,20 @@ mod tests {
     fn handed(heap: &Heap, cmd: &GraphCmd) -> Option<Place>
         requires { IsSound heap.now }
     {
-        heap.resolve(cmd).ok()?.handed()
+        match heap.resolve(cmd) {
+            Ok(plan) => plan.handed(),
+            Err(_) => None,
+        }
     }
 
     // What a `wrap` will be about.
     fn wrapped(heap: &Heap, cmd: &GraphCmd) -> Option<Place>
         requires { IsSound heap.now }
     {
-        heap.resolve(cmd).ok()?.wrapped
+        match heap.resolve(cmd) {
+            Ok(plan) => plan.wrapped,
+            Err(_) => None,
+        }
     }
 
     #[test]
