@@ -14,6 +14,7 @@ use std::sync::ledger::Ledger;
 
 impl Collector {
     // Follows a cell of the black pile. False where there is none.
+    #[inline(always)]
     fn follows_black<F: Flight, L: Ledger>(&mut self, flight: &mut F, steps: &mut Steps<L>) -> bool
         requires sound { IsSound self.old (F.bits flight.old) }
         requires running { IsSome self.old.run }
