@@ -25,11 +25,11 @@ pub(crate) struct Cell {
     pub comp: CompNo,
 }
 
-/// What stands in a slot that holds no cell: bytes that are all 0.
+/// What stands in a slot that holds no cell.
 pub(crate) const NO_CELL: Cell = Cell {
     name: Name::Cell(0),
     fields: [Link { position: 0 }; 8],
-    kind: Kind::Object(0),
+    kind: Kind::Map,
     comp: CompNo(0),
 };
 
