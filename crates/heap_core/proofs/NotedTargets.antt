@@ -131,23 +131,23 @@ pub noted-set_bits : (s t : ArenasState) (a : ℕ) (bits : Bits) (noted : List Z
     → AreTargetsNoted t.arenas noted
 noted-set_bits s t a bits noted is n = subst (λ (x : ArenasState). AreTargetsNoted x.arenas noted) (sym is)
     (noted-same s.arenas (change_at (with_bits bits) s.arenas a) noted
-        (owner-change (with_bits bits) (λ x. refl) s.arenas a)
-        (λ p. cells-change (with_bits bits) (λ x. refl) s.arenas a p.0 p.1) n)
+    (owner-change (with_bits bits) (λ x. refl) s.arenas a)
+    (λ p. cells-change (with_bits bits) (λ x. refl) s.arenas a p.0 p.1) n)
 
 pub noted-clear_bits : (s t : ArenasState) (word : ℕ) (noted : List ZoneSet)
     → t ≡ record s { arenas = in_these (with_bits no_bits) word s.arenas } → AreTargetsNoted s.arenas noted
     → AreTargetsNoted t.arenas noted
 noted-clear_bits s t word noted is n = subst (λ (x : ArenasState). AreTargetsNoted x.arenas noted) (sym is)
     (noted-same s.arenas (in_these (with_bits no_bits) word s.arenas) noted
-        (owner-these (with_bits no_bits) (λ x. refl) word s.arenas)
-        (λ p. cells-these (with_bits no_bits) (λ x. refl) word s.arenas p.0 p.1) n)
+    (owner-these (with_bits no_bits) (λ x. refl) word s.arenas)
+    (λ p. cells-these (with_bits no_bits) (λ x. refl) word s.arenas p.0 p.1) n)
 
 pub noted-handed : (s t : ArenasState) (word : ℕ) (noted : List ZoneSet)
     → t ≡ record s { arenas = in_these handed_out word s.arenas; reserved = None } → AreTargetsNoted s.arenas noted
     → AreTargetsNoted t.arenas noted
 noted-handed s t word noted is n = subst (λ (x : ArenasState). AreTargetsNoted x.arenas noted) (sym is)
     (noted-same s.arenas (in_these handed_out word s.arenas) noted (owner-these handed_out (λ x. refl) word s.arenas)
-        (λ p. cells-these handed_out (λ x. refl) word s.arenas p.0 p.1) n)
+    (λ p. cells-these handed_out (λ x. refl) word s.arenas p.0 p.1) n)
 
 pub noted-hand_out : {T E : Type 0} (s t : ArenasState) (word : ℕ) (noted : List ZoneSet) (result : Result T E)
     → OnOk result (t ≡ record s { arenas = in_these handed_out word s.arenas; reserved = None }) → OnErr result (t ≡ s)
@@ -162,9 +162,13 @@ pub noted-taken : (s t : ArenasState) (a freed : ℕ) (bits : Bits) (noted : Lis
     → AreTargetsNoted s.arenas noted → AreTargetsNoted t.arenas noted
 noted-taken s t a freed bits noted is cells n = noted-kept s.arenas t.arenas noted noted
     (λ b z e. ap (λ (x : ArenasState). owner_in x.arenas b) is ∙
-        (owner-change (taken_in freed bits) (λ x. refl) s.arenas a b ∙ e))
-    (λ p target cell at wraps. record { cell = cell; at = left p cell ((p.0 == a) && (bit_at freed p.1 == 1))
-        (sym (cells p) ∙ at); wraps = wraps })
+    (owner-change (taken_in freed bits) (λ x. refl) s.arenas a b ∙ e))
+    (λ p target cell at wraps. record {
+      cell = cell;
+      at = left p cell ((p.0 == a) && (bit_at freed p.1 == 1))
+          (sym (cells p) ∙ at);
+      wraps = wraps;
+    })
     (λ b c e. e) n
   where
     left : (p : Place) (cell : CellState) (b : Bool) → (if b then None else cell_at s.arenas p) ≡ Some cell
@@ -180,7 +184,7 @@ pub noted-written : (s t : ArenasState) (place : Place) (f : ℕ) (v : Option Pl
     kind.Wrapper → ⊥) → AreTargetsNoted s.arenas noted → AreTargetsNoted t.arenas noted
 noted-written s t place f v noted is cells other n = noted-kept s.arenas t.arenas noted noted
     (λ b z e. ap (λ (x : ArenasState). owner_in x.arenas b) is ∙
-        (owner-change (with_field place.1 f v) (λ x. refl) s.arenas place.0 b ∙ e))
+    (owner-change (with_field place.1 f v) (λ x. refl) s.arenas place.0 b ∙ e))
     (λ p target cell at wraps. stood p target cell (is_place p place) refl (sym (cells p) ∙ at) wraps)
     (λ b c e. e) n
   where
@@ -196,8 +200,8 @@ noted-written s t place f v noted is cells other n = noted-kept s.arenas t.arena
         → IsWrapperOf cell target → StoodAt s.arenas p target
     stood p target cell true same e wraps =
         absurd (no_wrapper (cell_at s.arenas p) target cell
-            (subst (λ (q : Place). option_map (λ (c : CellState). c.kind) (cell_at s.arenas q) ≡ Some kind.Wrapper → ⊥)
-            (sym (place-is p place same)) other) e wraps)
+        (subst (λ (q : Place). option_map (λ (c : CellState). c.kind) (cell_at s.arenas q) ≡ Some kind.Wrapper → ⊥)
+        (sym (place-is p place same)) other) e wraps)
     stood p target cell false same e wraps = record { cell = cell; at = e; wraps = wraps }
 
 -- a cell is made: a wrapper, whose target's zone is noted, or a cell whose fields are null
@@ -258,11 +262,17 @@ noted-made s t zone p cell old new m with more n = record {
 -- a cell whose fields are null is no wrapper of anything
 pub null-noted : (xs : List Arena) (noted : List ZoneSet) (zone : ℕ) (k : Kind) (comp : CompNo) (name : Name)
     → IsNotedWith xs noted zone (new_cell k comp name)
-null-noted xs noted zone k comp name = record { targets = λ target wraps. absurd
-    (null (field_count k) target wraps.target_is) }
+null-noted xs noted zone k comp name = record {
+  targets = λ target wraps. absurd
+      (null (field_count k) target wraps.target_is);
+}
   where
-    null : (n : ℕ) (target : Place) → field_of (record { kind = k; comp = comp; name = name; fields = replicate n None
-        }) 0 ≡ Some target → ⊥
+    null : (n : ℕ) (target : Place) → field_of (record {
+      kind = k;
+      comp = comp;
+      name = name;
+      fields = replicate n None;
+    }) 0 ≡ Some target → ⊥
     null zero target e = cc e
     null (suc n) target e = cc e
 
@@ -302,7 +312,7 @@ written-other None f e k = cc e
 written-other (Some cell) f e k =
     let is : cell.kind ≡ kind.Wrapper = cc k in
     let refused : Some (field_refusal kind.Wrapper f) ≡ Some None = ap (λ (x : Kind). Some (field_refusal x f)) (sym is)
-        ∙ e in
+    ∙ e in
     cc refused
 
 pub stands-other : (h k : HeapState) (s : ArenasState) (p : Place) (n : ℕ) → with_state h s ≡ k
@@ -331,10 +341,10 @@ target-noted h k s noted zone word view n word_is p target w = go (cell_of k.sha
     go (Some cell) at is =
         let held : field_of cell 0 ≡ Some target = sym (ap (λ (o : Option CellState). field_in o 0) at) ∙ w.target_is in
         let t = n.targets p target cell (stands-seen h k s p cell view at)
-            (record { kind_is = cc is; target_is = held }) in
+        (record { kind_is = cc is; target_is = held }) in
         let from : t.from ≡ zone = sym (zones p t.from t.from_is) ∙ w.zone_is in
         subst (λ z. HasZone word z) (sym (zones target t.to t.to_is))
-            ((word_is t.to).1 (subst (λ z. IsNoted noted z t.to) from t.is_noted))
+        ((word_is t.to).1 (subst (λ z. IsNoted noted z t.to) from t.is_noted))
 
 pub none-listed : (s : Shape) (zone : ℕ) (p target : Place) → list_of s.wrappers zone ≡ []
     → IsListedWrapper s zone p target → ⊥

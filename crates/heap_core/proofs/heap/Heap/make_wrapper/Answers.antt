@@ -19,42 +19,68 @@ add-requires-clause-one_zone c = subst (λ (h : HeapState). (z : ℕ) (e : _) �
 pub set_field-requires-clause-value : goal.set_field-requires-clause-value
 set_field-requires-clause-value c = target-within (the_view c.self.inside) c.args.self.now c.self.inside.arenas
     c.reserve_place.new.self c.put_cell.new.self c.args.zone c.args.comp c.args.number c.in_ok-place.place c.args.target
-    c.self.view_is c.requires.target (record { place_is = c.in_ok-place.ensures.place; free =
-    c.in_ok-place.ensures.free; kept = c.in_ok-place.ensures.kept; put = c.put_cell.ensures.put })
+    c.self.view_is c.requires.target (record {
+      place_is = c.in_ok-place.ensures.place;
+      free =
+          c.in_ok-place.ensures.free;
+      kept = c.in_ok-place.ensures.kept;
+      put = c.put_cell.ensures.put;
+    })
 
 pub blacken-requires : goal.blacken-requires
-blacken-requires c = record { kept = written-kept c.self.inside.arenas c.reserve_place.new.self c.put_cell.new.self
-    c.set_field.new.self c.args.zone c.args.comp c.args.number c.in_ok-place.place c.args.target
-    (record { place_is = c.in_ok-place.ensures.place; free = c.in_ok-place.ensures.free; kept =
-    c.in_ok-place.ensures.kept; put = c.put_cell.ensures.put }) c.set_field.ensures.state }
+blacken-requires c = record {
+  kept = written-kept c.self.inside.arenas c.reserve_place.new.self c.put_cell.new.self
+      c.set_field.new.self c.args.zone c.args.comp c.args.number c.in_ok-place.place c.args.target
+      (record {
+        place_is = c.in_ok-place.ensures.place;
+        free = c.in_ok-place.ensures.free;
+        kept =
+            c.in_ok-place.ensures.kept;
+        put = c.put_cell.ensures.put;
+      }) c.set_field.ensures.state;
+}
 
 pub returns-clause-ok : goal.returns-clause-ok
 returns-clause-ok c = wrapper-seen (the_view c.self.inside) c.args.self.now c.self.inside.arenas c.blacken.new.arenas
     c.self.inside.wrappers c.add.new.self c.args.zone c.args.comp c.args.number c.in_ok-place.place c.args.target
     c.self.view_is (ap (λ (h : HeapState). h.shape.wrappers) (sym c.self.view_is))
     (wrapper-made c.self.inside.arenas c.reserve_place.new.self c.put_cell.new.self c.set_field.new.self
-        c.blacken.new.arenas c.args.zone c.args.comp c.args.number c.in_ok-place.place c.args.target
-        (record { place_is = c.in_ok-place.ensures.place; free = c.in_ok-place.ensures.free; kept =
-        c.in_ok-place.ensures.kept; put = c.put_cell.ensures.put }) c.put_cell.ensures.cells c.set_field.ensures.state
-        c.set_field.ensures.cells c.blacken.ensures)
-    (record { added = c.in_ok-add.ensures.added; found = c.in_ok-add.ensures.found; absent = ap
-        (λ (h : HeapState). place_of h.shape.wrappers c.args.comp.0 c.args.number) c.self.view_is ∙ c.requires.absent })
+    c.blacken.new.arenas c.args.zone c.args.comp c.args.number c.in_ok-place.place c.args.target
+    (record {
+      place_is = c.in_ok-place.ensures.place;
+      free = c.in_ok-place.ensures.free;
+      kept =
+          c.in_ok-place.ensures.kept;
+      put = c.put_cell.ensures.put;
+    }) c.put_cell.ensures.cells c.set_field.ensures.state
+    c.set_field.ensures.cells c.blacken.ensures)
+    (record {
+      added = c.in_ok-add.ensures.added;
+      found = c.in_ok-add.ensures.found;
+      absent = ap
+          (λ (h : HeapState). place_of h.shape.wrappers c.args.comp.0 c.args.number) c.self.view_is ∙ c.requires.absent;
+    })
 
 pub note_target-requires : goal.note_target-requires
 note_target-requires c = subst (λ (s : ArenasState). c.args.target.0 < length s.arenas) (sym c.in_ok-place.ensures.kept)
     (present-within (with_state (the_view c.self.inside) c.self.inside.arenas).shape c.self.inside.arenas.arenas
-        c.args.target refl (subst (λ (h : HeapState). IsPresent h.shape c.args.target) (sym c.self.view_is)
-        c.requires.target))
+    c.args.target refl (subst (λ (h : HeapState). IsPresent h.shape c.args.target) (sym c.self.view_is)
+    c.requires.target))
 
 pub invariant_of-self-2 : goal.invariant_of-self-2
 invariant_of-self-2 c =
     let target = c.note_target.ensures.noted in
     noted-made c.self.inside.arenas c.blacken.new.arenas c.args.zone c.in_ok-place.place
-        (wrapper_cell c.args.comp c.args.number c.args.target) _ _
+    (wrapper_cell c.args.comp c.args.number c.args.target) _ _
     (wrapper-made c.self.inside.arenas c.reserve_place.new.self c.put_cell.new.self c.set_field.new.self
-        c.blacken.new.arenas c.args.zone c.args.comp c.args.number c.in_ok-place.place c.args.target
-        (record { place_is = c.in_ok-place.ensures.place; free = c.in_ok-place.ensures.free; kept =
-        c.in_ok-place.ensures.kept; put = c.put_cell.ensures.put }) c.put_cell.ensures.cells c.set_field.ensures.state
-        c.set_field.ensures.cells c.blacken.ensures)
+    c.blacken.new.arenas c.args.zone c.args.comp c.args.number c.in_ok-place.place c.args.target
+    (record {
+      place_is = c.in_ok-place.ensures.place;
+      free = c.in_ok-place.ensures.free;
+      kept =
+          c.in_ok-place.ensures.kept;
+      put = c.put_cell.ensures.put;
+    }) c.put_cell.ensures.cells c.set_field.ensures.state
+    c.set_field.ensures.cells c.blacken.ensures)
     (wrapper-noted _ _ _ _ _ _ target.0 (subst (λ (s : ArenasState). owner_in s.arenas c.args.target.0 ≡ Some target.0)
-        c.in_ok-place.ensures.kept target.1) target.2) c.note_target.ensures.kept c.self.invariant
+    c.in_ok-place.ensures.kept target.1) target.2) c.note_target.ensures.kept c.self.invariant

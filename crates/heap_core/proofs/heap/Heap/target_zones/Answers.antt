@@ -9,7 +9,7 @@ pub returns-then-has_none-clause-targets : goal.returns-then-has_none-clause-tar
 returns-then-has_none-clause-targets c = λ p target listed. absurd
     (none-listed c.args.self.now.shape c.args.zone p target
     (sym (ap (λ (h : HeapState). list_of h.shape.wrappers c.args.zone) c.self.view_is) ∙ c.has_none.ensures.value.0
-        c.if-has_none.true) listed)
+    c.if-has_none.true) listed)
 
 pub returns-else-has_none-clause-targets : goal.returns-else-has_none-clause-targets
 returns-else-has_none-clause-targets c = target-noted (the_view c.self.inside) c.args.self.now c.self.inside.arenas
