@@ -17,13 +17,14 @@ mod numbers;
 mod replies;
 mod zone_sets;
 
-pub use commands::{Cmd, GraphCmd, Kind};
+pub use commands::{Cmd, GraphCmd, Kind, WeakCmd};
 pub use dumps::{DumpColour, DumpFault, DumpLine};
 pub use limits::{
-    COMP_LIMIT, FIELD_LIMIT, GRAY_SLOT_COUNT, REGISTER_COUNT, SLOT_COUNT, ZONE_LIMIT,
+    COMP_LIMIT, FIELD_LIMIT, GRAY_SLOT_COUNT, REGISTER_COUNT, SLOT_COUNT, WEAK_SLOT_COUNT,
+    ZONE_LIMIT,
 };
-pub use lists::{Groups, NameList, Names64};
+pub use lists::{DumpLines, Groups, NameList, Names64};
 pub use names::{Name, name_order};
-pub use numbers::{CompNo, GrayNo, Place, Reg, ZoneNo};
+pub use numbers::{CompNo, GrayNo, Place, Reg, WeakNo, ZoneNo};
 pub use replies::{CmdFault, NoMemory, Refusal, Reply, Report};
 pub use zone_sets::ZoneSet;

@@ -1,5 +1,5 @@
 // What is answered.
-use crate::lists::{Groups, NameList, Names64};
+use crate::lists::{DumpLines, Groups, NameList, Names64};
 use crate::names::Name;
 use crate::numbers::{CompNo, ZoneNo};
 use crate::zone_sets::ZoneSet;
@@ -31,7 +31,7 @@ pub enum Refusal {
     Running,
     /// No collection runs.
     Idle,
-    /// Some zone is marking.
+    /// Some zone is marking, or a collection is being prepared.
     Marking,
 }
 
@@ -50,7 +50,7 @@ pub enum Reply {
     Null,
     /// The command is done.
     Accepted,
-    /// There was no such entry.
+    /// There was no such entry, or the cell was not watched.
     Absent,
     /// A collection began.
     GcBegun,
@@ -58,22 +58,33 @@ pub enum Reply {
     Sliced(u64),
     /// A collection is over.
     Collected,
+    /// The collection that ran is given up, or was over.
+    ResetDone,
     /// The gray names, ascending.
     Gray(NameList),
+    /// The lines of a dump.
+    Dump(DumpLines),
+    /// This many cells were moved, and this many arenas given up.
+    Compacted(u64, u32),
     Refused(Refusal),
 }
 
 /// What a unit of collection reports.
 #[derive(Drop)]
 pub enum Report {
+    /// The zones are prepared, and marking begins.
+    Started,
     /// The groups were formed.
     Groups(Groups),
-    /// A group ended: its zones, and its present gray names, ascending.
-    Ended(ZoneSet, NameList),
+    /// A group ended: its zones, its present gray names, and the watched names that died with it,
+    /// both ascending. Where none was watched, the third list is empty and is not printed.
+    Ended(ZoneSet, NameList, NameList),
     /// An arena was taken in: its number, and the names of the cells freed from it, ascending.
     Swept(u32, Names64),
     /// The collection is over.
     Done,
+    /// The collection was given up while these zones were being prepared or were marking.
+    Stopped(ZoneSet),
 }
 
 /// Why a command on the graph was not done.
