@@ -13,7 +13,7 @@ use Rattle.gz_names.specs.declared.replies.Refusal.TheVariants as refusal
 use Rattle.colour_defs.specs.declared.graph.Object.{Object}
 use Rattle.colour_defs.specs.Graph.{GraphState, object_of, register_cell, slot_cell, has_wrapper, value_of, comp_of, comp_of_object}
 use Rattle.colour_defs.specs.Step.{step_of, with_register, with_field, fits_comp, is_in_comp, is_same_comp, get_from, get_in, get_value, set_from, set_in, value_to_set, some_value, wrap_from, unwrap_from, target_of, put_from, put_unless, put_entry, del_from, del_unless, del_value, del_entry, find_from, find_unless, entry_refusal, entry_refusal_in, map_comp, map_comp_in, key_refusal, new_object, new_map, make_object, named_or_null, refuse}
-use Rattle.colour_defs.specs.Present.{IsHere, IsComplete, IsPartOf}
+use Rattle.colour_defs.specs.Present.{IsHere, IsKeyHere, IsComplete, IsPartOf}
 
 -- both graphs change alike
 pub data Both (g h : GraphState) : GraphState → GraphState → Type 0 where
@@ -66,6 +66,11 @@ module _ (g h : GraphState) (p : IsPartOf g h) (ok : IsComplete h) where
 
   pub slot_same : (s : ℕ) → slot_cell h s ≡ slot_cell g s
   slot_same s = ap (λ rs. slice_index_or rs s None) p.slots
+
+  -- a key that is here stands for what is here
+  pub key_stands : (k : Name) → IsHere h k → IsKeyHere h k
+  key_stands (Cell n) here = here
+  key_stands (Wrap c t) here = ok.edges (Wrap c t) (Cell t) here (refl, here)
 
   comps_same : length h.comps ≡ length g.comps
   comps_same = ap length p.comps
@@ -175,7 +180,7 @@ module _ (g h : GraphState) (p : IsPartOf g h) (ok : IsComplete h) where
 
       go : (o : Option Refusal) → Alike g h (del_unless g m k o) (del_unless h m k o)
       go (Some why) = both_refuse why
-      go None = subst (λ z. Alike g h (del_value g m k z) (del_value h m k (value_of h m k))) (p.entries m k (hm m refl) (hk k refl)) (found (value_of h m k))
+      go None = subst (λ z. Alike g h (del_value g m k z) (del_value h m k (value_of h m k))) (p.entries m k (hm m refl) (key_stands k (hk k refl))) (found (value_of h m k))
 
   find_both : (r : ℕ) (m k : Option Name) → AllHere h m → AllHere h k → Alike g h (find_from g r m k) (find_from h r m k)
   find_both r None k hm hk = both_refuse refusal.Empty
@@ -184,7 +189,7 @@ module _ (g h : GraphState) (p : IsPartOf g h) (ok : IsComplete h) where
     where
       go : (o : Option Refusal) → Alike g h (find_unless g r m k o) (find_unless h r m k o)
       go (Some why) = both_refuse why
-      go None = let e : value_of h m k ≡ value_of g m k = p.entries m k (hm m refl) (hk k refl) in record { reply = ap named_or_null e; graphs = takes r (value_of g m k) (value_of h m k) e }
+      go None = let e : value_of h m k ≡ value_of g m k = p.entries m k (hm m refl) (key_stands k (hk k refl)) in record { reply = ap named_or_null e; graphs = takes r (value_of g m k) (value_of h m k) e }
 
   make_both : (r : ℕ) (o : Object) → Alike g h (make_object g r o) (make_object h r o)
   make_both r o = choose_both (Alike g h) (nat_lt o.comp.0 (length g.comps)) (nat_lt o.comp.0 (length h.comps)) _ _ _ _ (ap (λ n. nat_lt o.comp.0 n) comps_same) (λ _. record { reply = ap (λ n. reply.Made n) p.made; graphs = makes r o }) (λ _. both_refuse refusal.NoComp)

@@ -1,10 +1,11 @@
 -- A black map with a gray key: the answers are lawful.
-use Rattle.std.proofs.Common.{◌≡◌, ℕ, zero, suc, ◌+◌, ◌<◌, ◌⊎◌, inl, inr, List, [], ◌∷◌, Bool, true, false, ◌&&◌, cond, refl, sym, ap, subst, ◌∙◌, arith, Some, None, Contains, is_some, replicate}
+use Rattle.std.proofs.Common.{◌≡◌, ℕ, zero, suc, ◌+◌, ◌<◌, ◌⊎◌, inl, inr, List, [], ◌∷◌, ◌++◌, Bool, true, false, ◌&&◌, cond, refl, sym, ap, subst, ◌∙◌, arith, Some, None, Contains, is_some, replicate}
 use Rattle.std.specs.FinSet as set
 use Rattle.std.specs.FinMap as map
 use Rattle.gz_names.specs.Order.{same_name}
 use Rattle.gz_names.specs.declared.names.Name.{Name}
 use Rattle.gz_names.specs.declared.names.Name.TheVariants.{Cell, Wrap}
+use Rattle.gz_names.specs.declared.numbers.CompNo.{CompNo}
 use Rattle.gz_names.specs.declared.commands.GraphCmd.TheVariants as cmd
 use Rattle.gz_names.specs.declared.commands.Cmd.TheVariants.{Graph, Collect, Colours}
 use Rattle.gz_names.specs.declared.replies.Reply.TheVariants as reply
@@ -12,10 +13,10 @@ use Rattle.gz_names.specs.declared.replies.Report.TheVariants.{Groups, Ended, Sw
 use Rattle.colour_defs.specs.Graph.{value_of, IsInZones}
 use Rattle.colour_defs.specs.Closure.{HasEdge, Closure, from, weak}
 use Rattle.colour_defs.specs.Step.{step_of, new_map}
-use Rattle.colour_defs.specs.World.{World, Collection, Names, Has, IsPresent, BlackClosure, LiveClosure, first_tally}
+use Rattle.colour_defs.specs.World.{World, Collection, first_preparation, Names, Has, IsPresent, BlackClosure, LiveClosure, first_tally}
 use Rattle.colour_defs.specs.Ends.{IsLawfulEnd, IsWhiteOf, Lists}
-use Rattle.colour_defs.specs.Lawful.{Answers, Begins, IsLawfulOutput}
-use Rattle.colour_defs.specs.Rows.{comp_0, only_zone_0, gray_key, answers_gray_key}
+use Rattle.colour_defs.specs.Lawful.{Beginning, at_once, Answers, AnswersBy, Begins, IsLawfulOutputBy}
+use Rattle.colour_defs.specs.Rows.{comp_0, only_zone_0, gray_key, answers_gray_key, started}
 use Rattle.colour_defs.specs.Laws.{IsValid}
 use Rattle.colour_defs.proofs.Lists.{nothing_in_none, contains_head, contains_tail, contains_cases, no_name_in_nulls, contains_set_cases}
 use Rattle.colour_defs.proofs.Membership.{gray_of, white_is_not_live}
@@ -23,17 +24,17 @@ use Rattle.colour_defs.proofs.ValidCommands.{insert_has, in_insert}
 use Rattle.colour_defs.proofs.ValidRuns.{answer_valid}
 use Rattle.colour_defs.proofs.Finite.{Places, places_empty, places_insert, Members, members_empty, members_insert, no_name, reached_within, place_named, single, each_has, fresh_slot}
 use Rattle.colour_defs.proofs.Making.{object_world, made_world, new_lawful, map_lawful, room_first, room_next}
-use Rattle.colour_defs.proofs.OneZone.{grouped, forms_one_group, collect_lawful, sweep_of_nothing}
+use Rattle.colour_defs.proofs.OneZone.{prepared, prepares_one, loses_nothing, grouped, forms_one_group, collect_lawful, sweep_of_nothing}
 use Rattle.colour_defs.proofs.LinkedAndDropped.{w1, w2, a1, a2, v2, only_arena}
 
 abbrev w3 : World
-w3 = object_world w2 0 (new_map comp_0) (0, 0) (0 ∷ [])
+w3 = object_world w2 0 (new_map comp_0) (0, 0) (Some 0 ∷ [])
 
 abbrev w4 : World
-w4 = made_world w3 1 comp_0 0 (0, 1) (0 ∷ [])
+w4 = made_world w3 1 comp_0 0 (0, 1) (Some 0 ∷ [])
 
 abbrev w5 : World
-w5 = made_world w4 2 comp_0 0 (0, 2) (0 ∷ [])
+w5 = made_world w4 2 comp_0 0 (0, 2) (Some 0 ∷ [])
 
 abbrev w6 : World
 w6 = record w5 { graph = (step_of w5.graph (cmd.Put 0 1 2)).0 }
@@ -48,10 +49,10 @@ abbrev w8 : World
 w8 = record w7b { graph = (step_of w7b.graph (cmd.Drop 2)).0 }
 
 a3 : Answers w2 (Graph (cmd.Map 0 comp_0)) [] (reply.Made 0) w3
-a3 = map_lawful w2 0 comp_0 0 (0, 0) (0 ∷ []) v2 refl refl refl (room_first w2 0 (λ b e. cc e))
+a3 = map_lawful w2 0 comp_0 0 (0, 0) (Some 0 ∷ []) v2 (record { none_running = refl; none_preparing = refl }) refl refl (room_first w2 0 (λ b e. cc e))
 
 v3 : IsValid w3
-v3 = answer_valid w2 (Graph (cmd.Map 0 comp_0)) [] (reply.Made 0) w3 v2 a3
+v3 = answer_valid at_once w2 (Graph (cmd.Map 0 comp_0)) [] (reply.Made 0) w3 v2 a3
 
 abbrev p3 : List (Name × (ℕ × ℕ))
 p3 = (Cell 0, (0, 0)) ∷ []
@@ -81,13 +82,13 @@ used4 (suc zero) h = (Cell 1, places4 (Cell 1))
 used4 (suc (suc s)) h = absurd (omega arith)
 
 a4 : Answers w3 (Graph (cmd.New 1 comp_0 0)) [] (reply.Made 1) w4
-a4 = new_lawful w3 1 comp_0 0 0 (0, 1) (0 ∷ []) v3 refl refl refl (room_next w3 0 0 1 refl only_arena refl (omega arith) used3 (λ x e. fresh_slot p3 (0, 1) refl x (sym (places3 x) ∙ e)))
+a4 = new_lawful w3 1 comp_0 0 0 (0, 1) (Some 0 ∷ []) v3 (record { none_running = refl; none_preparing = refl }) refl refl (room_next w3 0 0 1 refl only_arena refl (omega arith) used3 (λ x e. fresh_slot p3 (0, 1) refl x (sym (places3 x) ∙ e)))
 
 v4 : IsValid w4
-v4 = answer_valid w3 (Graph (cmd.New 1 comp_0 0)) [] (reply.Made 1) w4 v3 a4
+v4 = answer_valid at_once w3 (Graph (cmd.New 1 comp_0 0)) [] (reply.Made 1) w4 v3 a4
 
 a5 : Answers w4 (Graph (cmd.New 2 comp_0 0)) [] (reply.Made 2) w5
-a5 = new_lawful w4 2 comp_0 0 0 (0, 2) (0 ∷ []) v4 refl refl refl (room_next w4 0 0 2 refl only_arena refl (omega arith) used4 (λ x e. fresh_slot p4 (0, 2) refl x (sym (places4 x) ∙ e)))
+a5 = new_lawful w4 2 comp_0 0 0 (0, 2) (Some 0 ∷ []) v4 (record { none_running = refl; none_preparing = refl }) refl refl (room_next w4 0 0 2 refl only_arena refl (omega arith) used4 (λ x e. fresh_slot p4 (0, 2) refl x (sym (places4 x) ∙ e)))
 
 abbrev b3 : List Name
 b3 = Cell 2 ∷ Cell 1 ∷ Cell 0 ∷ []
@@ -99,7 +100,7 @@ abbrev roots : Names
 roots = set.insert blacks (Cell 1)
 
 abbrev k0 : Collection
-k0 = record { zones = 0 ∷ []; marking = 0 ∷ []; snapshot = w8.graph; black_starts = blacks; live_starts = roots; woken = set.empty; groups = None; tally = first_tally w8 (0 ∷ []) }
+k0 = record { zones = 0 ∷ []; marking = 0 ∷ []; snapshot = w8.graph; black_starts = blacks; live_starts = roots; woken = set.empty; groups = None; tally = first_tally (prepared w8) (first_preparation w8 (0 ∷ [])) }
 
 abbrev k1 : Collection
 k1 = grouped k0
@@ -111,10 +112,10 @@ abbrev k3 : Collection
 k3 = record k2 { tally = record k2.tally { sweeps = k2.tally.sweeps + 1 } }
 
 abbrev u0 : World
-u0 = record w8 { collection = Some k0 }
+u0 = record w8 { black = set.empty; collection = Some k0 }
 
 abbrev u1 : World
-u1 = record w8 { collection = Some k1 }
+u1 = record w8 { black = set.empty; collection = Some k1 }
 
 abbrev u2 : World
 u2 = record w8 { out = 0 ∷ []; black = blacks; collection = Some k2 }
@@ -152,10 +153,11 @@ in_reg x c = elim (contains_cases (Some (Cell 0)) (replicate 15 None) (Some x) c
 root_held : (x : Name) → Contains (Cell 1 ∷ Cell 0 ∷ []) x → Has blacks x ⊎ (Contains w8.graph.slots (Some x) ⊎ (IsPresent w8 x × (IsInZones w8.graph (0 ∷ []) x → ⊥)))
 root_held = each_has (λ x. Has blacks x ⊎ (Contains w8.graph.slots (Some x) ⊎ (IsPresent w8 x × (IsInZones w8.graph (0 ∷ []) x → ⊥)))) (Cell 1 ∷ Cell 0 ∷ []) (inr (inl (0, omega arith, refl)), (inl (insert_has set.empty (Cell 0)), tt))
 
-begins : Begins w8 (0 ∷ []) u0
+begins : Begins (prepared w8) (0 ∷ []) u0
 begins = record {
-  idle = refl;
-  made = λ z c. let e = single 0 z c in omega (arith, e);
+  preparation = first_preparation w8 (0 ∷ []);
+  was = refl;
+  of_zones = refl;
   collection = k0;
   world_is = refl;
   zones_are = refl;
@@ -168,7 +170,7 @@ begins = record {
     (λ h. inl (subst (λ z. Contains w8.graph.registers (Some z)) (single (Cell 0) x ((blacks_are x).0 h)) (contains_head (Some (Cell 0)) (replicate 15 None)))),
     λ h. elim h [
       | inl c ↦ subst (λ z. Has blacks z) (in_reg x c) (insert_has set.empty (Cell 0))
-      | inr b ↦ absurd (b.1 (all_in_zone x ((black8 x).0 b.0)))
+      | inr b ↦ absurd (no_name x b)
     ],
   );
   live_starts = λ x. (
@@ -194,6 +196,13 @@ value_is m q v e = go (same_name (Cell 0) m && same_name (Cell 1) q) e
     go true e = cc e
     go false e = cc e
 
+no_wrapper_key : (m v : Name) (c : CompNo) (t : ℕ) → value_of w8.graph m (Wrap c t) ≡ Some v → ⊥
+no_wrapper_key m v c t e = go (same_name (Cell 0) m) e
+  where
+    go : (b : Bool) → cond (b && false) (Some (Cell 2)) None ≡ Some v → ⊥
+    go true e = cc e
+    go false e = cc e
+
 black0 : BlackClosure k1 (Cell 0)
 black0 = from (inl (insert_has set.empty (Cell 0)))
 
@@ -204,6 +213,7 @@ only_black x h = single (Cell 0) x (reached_within w8.graph _ (Cell 0 ∷ [])
     (λ m q v at hm hq.
     let zero_key : value_of w8.graph (Cell 0) (Cell 0) ≡ Some v = subst (λ z. value_of w8.graph (Cell 0) z ≡ Some v) (sym (single (Cell 0) q hq)) (subst (λ z. value_of w8.graph z q ≡ Some v) (sym (single (Cell 0) m hm)) at) in
     absurd (cc zero_key))
+    (λ m v c t at hm ht. absurd (no_wrapper_key m v c t at))
     h)
 
 gray0 : LiveClosure k1 (Cell 0)
@@ -247,6 +257,7 @@ ends = record {
   stay = λ x n. refl;
   white_are = λ x p. ((λ c. absurd (nothing_in_none (x, p) c)), λ h. absurd (no_white x h.0));
   out_is = refl;
+  preparing_is = refl;
   collection_is = refl;
   black_are = λ s x. (
     (λ h. subst (λ z. BlackClosure k1 z × IsPresent u2 z) (single (Cell 0) x ((blacks_are x).0 h)) (black0, ap is_some (places5 (Cell 0)))),
@@ -254,8 +265,8 @@ ends = record {
   );
 }
 
-collected : Answers w8 (Collect only_zone_0) (Groups (only_zone_0 ∷ []) ∷ Ended only_zone_0 grays ∷ Swept 0 [] ∷ Done ∷ []) reply.Collected w9
-collected = collect_lawful w8 u0 u1 u2 u3 w9 grays [] begins (forms_one_group u0 k0 refl refl refl) (record { collection = k1; rest = []; running = refl; first = refl; ends = ends }) (sweep_of_nothing u2 refl refl) (record { over = record { collection = k3; running = refl; ended = refl; none_out = refl }; world_is = refl })
+collected : (how : Beginning) → AnswersBy how w8 (Collect only_zone_0) (started how ++ (Groups (only_zone_0 ∷ []) ∷ Ended only_zone_0 grays [] ∷ Swept 0 [] ∷ Done ∷ [])) reply.Collected w9
+collected how = collect_lawful how w8 u0 u1 u2 u3 w9 grays [] (prepares_one w8 (record { none_running = refl; none_preparing = refl }) (omega arith) (λ x h. all_in_zone x ((black8 x).0 h))) begins (forms_one_group u0 k0 refl refl refl) (record { collection = k1; rest = []; running = refl; first = refl; ends = ends; loses = loses_nothing _ _ refl refl }) (sweep_of_nothing u2 refl refl) (record { over = record { collection = k3; running = refl; ended = refl; none_out = refl }; world_is = refl }) refl
 
 abbrev w10 : World
 w10 = record w9 { graph = (step_of w9.graph (cmd.Expose 1 0)).0; black = set.insert roots (Cell 2) }
@@ -274,6 +285,7 @@ within10 x h = reached_within w10.graph start10 b3
     ])
     (λ y z c d. absurd (no_edge y z d))
     (λ m q v at hm hq. subst (λ z. Contains b3 z) (value_is m q v at) (contains_head (Cell 2) (Cell 1 ∷ Cell 0 ∷ [])))
+    (λ m v c t at hm ht. absurd (no_wrapper_key m v c t at))
     h
 
 exposed : Answers w9 (Graph (cmd.Expose 1 0)) [] (reply.Named (Cell 1)) w10
@@ -288,6 +300,8 @@ exposed = (
         made = λ n. absurd (n (ap is_some (places5 (Cell 1))));
         out_is = refl;
         white_is = refl;
+        weak_is = refl;
+        preparing_is = refl;
       },
       (refl, λ y. ((λ h. let c = (black8 y).0 h in (reached10 y c, all_present y c)), λ h. (black8 y).1 (within10 y h.0))),
     ),
@@ -300,8 +314,8 @@ no_gray = record { ascending = tt; has = λ x. ((λ c. absurd (nothing_in_none x
 abbrev w11 : World
 w11 = record w10 { graph = (step_of w10.graph (cmd.Find 3 0 1)).0 }
 
-pub gray_key_lawful : IsLawfulOutput gray_key answers_gray_key
-gray_key_lawful = (w11, (w1, a1, (w2, a2, (w3, a3, (w4, a4, (w5, a5, (w6, (refl, (refl, refl)), (w7, (refl, (refl, refl)), (w7b, (refl, (refl, refl)), (w8, (refl, (refl, refl)), (w9, collected, (w10, exposed, (w10, colours, (w11, (refl, (refl, refl)), refl))))))))))))))
+pub gray_key_lawful : (how : Beginning) → IsLawfulOutputBy how gray_key (answers_gray_key how)
+gray_key_lawful how = (w11, (w1, a1, (w2, a2, (w3, a3, (w4, a4, (w5, a5, (w6, (refl, (refl, refl)), (w7, (refl, (refl, refl)), (w7b, (refl, (refl, refl)), (w8, (refl, (refl, refl)), (w9, collected how, (w10, exposed, (w10, colours, (w11, (refl, (refl, refl)), refl))))))))))))))
   where
     colours : Answers w10 Colours [] (reply.Gray []) w10
-    colours = inl ([], refl, refl, no_gray, record { silent = refl; same = refl })
+    colours = inl ([], refl, record { none_marking = refl; none_preparing = refl }, no_gray, record { silent = refl; same = refl })

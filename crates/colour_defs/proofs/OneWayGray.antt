@@ -1,5 +1,5 @@
 -- One way, gray: the answers are lawful.
-use Rattle.std.proofs.Common.{◌≡◌, ℕ, zero, suc, ◌+◌, ◌<◌, ◌⊎◌, inl, inr, List, [], ◌∷◌, Bool, true, false, refl, sym, ap, subst, ◌∙◌, arith, Some, None, IsTrue, Contains, is_some, slice_get, replicate, eqb, eqb-true, ◌&&◌, ◌||◌}
+use Rattle.std.proofs.Common.{◌≡◌, ℕ, zero, suc, ◌+◌, ◌<◌, ◌⊎◌, inl, inr, List, [], ◌∷◌, ◌++◌, Bool, true, false, refl, sym, ap, subst, ◌∙◌, arith, Option, Some, None, IsTrue, Contains, is_some, slice_get, replicate, eqb, eqb-true, ◌&&◌, ◌||◌}
 use Rattle.std.specs.FinSet as set
 use Rattle.std.specs.FinMap as map
 use Rattle.gz_names.specs.Zones.{zones_in, zones_from}
@@ -9,21 +9,24 @@ use Rattle.gz_names.specs.declared.numbers.CompNo.{CompNo}
 use Rattle.gz_names.specs.declared.commands.GraphCmd.TheVariants as cmd
 use Rattle.gz_names.specs.declared.commands.Cmd.TheVariants.{Graph, Collect}
 use Rattle.gz_names.specs.declared.replies.Reply.TheVariants as reply
+use Rattle.gz_names.specs.declared.replies.Report.{Report}
 use Rattle.gz_names.specs.declared.replies.Report.TheVariants.{Groups, Ended, Swept, Done}
 use Rattle.colour_defs.specs.Graph.{zone_of, has_wrapper, IsInZones}
 use Rattle.colour_defs.specs.Closure.{HasEdge, Closure, from, along}
 use Rattle.colour_defs.specs.Step.{step_of}
-use Rattle.colour_defs.specs.World.{World, Collection, Names, Has, IsPresent, BlackClosure, LiveClosure, first_world, first_tally}
+use Rattle.colour_defs.specs.World.{World, Collection, Names, Has, IsPresent, BlackClosure, LiveClosure, first_world, first_preparation, first_tally}
 use Rattle.colour_defs.specs.Groups.{AreLawfulGroups, AreAscending, IsFirstEdge, LeadsWithin, here}
-use Rattle.colour_defs.specs.Ends.{IsLawfulEnd, IsWhiteOf}
-use Rattle.colour_defs.specs.Lawful.{Answers, Begins, FormsGroups, EndsGroup, IsLawfulSweep, says, last, IsLawfulOutput}
-use Rattle.colour_defs.specs.Rows.{comp_0, comp_1, only_zone_0, only_zone_1, zones_0_and_1, one_way_gray, answers_one_way_gray}
+use Rattle.colour_defs.specs.Ends.{IsLawfulEnd}
+use Rattle.colour_defs.specs.Lawful.{Beginning, at_once, Answers, AnswersBy, Prepares, Begins, BeginsBy, AreLawfulUnits, FormsGroups, EndsGroup, IsLawfulSweep, says, last, IsLawfulOutputBy}
+use Rattle.colour_defs.specs.Rows.{comp_0, comp_1, only_zone_0, only_zone_1, zones_0_and_1, one_way_gray, answers_one_way_gray, started}
 use Rattle.colour_defs.specs.Laws.{IsValid}
 use Rattle.colour_defs.proofs.Lists.{nothing_in_none, contains_head, contains_tail, contains_cases, no_name_in_nulls, contains_set_cases}
 use Rattle.colour_defs.proofs.Membership.{gray_of, white_is_not_live}
 use Rattle.colour_defs.proofs.ValidCommands.{insert_has}
 use Rattle.colour_defs.proofs.ValidRuns.{answer_valid, first_valid}
 use Rattle.colour_defs.proofs.Finite.{Places, places_empty, places_insert, Members, members_empty, members_insert, no_name, reached_within, fresh_slot, place_named, single, each_has, insert_cases}
+use Rattle.colour_defs.proofs.OneZone.{loses_nothing}
+use Rattle.colour_defs.proofs.Beginnings.{begun_world, starting_units, begins_either, units_either, reports_either}
 use Rattle.colour_defs.proofs.Making.{room_next, room_first, made_world, new_lawful}
 
 abbrev w1 : World
@@ -39,10 +42,10 @@ abbrev w4 : World
 w4 = record w3 { graph = (step_of w3.graph (cmd.Comp 1)).0 }
 
 abbrev w5 : World
-w5 = made_world w4 0 comp_0 1 (0, 0) (0 ∷ [])
+w5 = made_world w4 0 comp_0 1 (0, 0) (Some 0 ∷ [])
 
 abbrev w6 : World
-w6 = made_world w5 1 comp_1 0 (1, 0) (0 ∷ 1 ∷ [])
+w6 = made_world w5 1 comp_1 0 (1, 0) (Some 0 ∷ Some 1 ∷ [])
 
 abbrev w7 : World
 w7 = record w6 { graph = (step_of w6.graph (cmd.Wrap 2 1 comp_0)).0; places = map.insert w6.places (Wrap comp_0 1) (0, 1); black = set.insert w6.black (Wrap comp_0 1) }
@@ -75,20 +78,20 @@ a4 : Answers w3 (Graph (cmd.Comp 1)) [] (reply.Comp comp_1) w4
 a4 = (refl, (refl, refl))
 
 v4 : IsValid w4
-v4 = answer_valid w3 (Graph (cmd.Comp 1)) [] (reply.Comp comp_1) w4 (answer_valid w2 (Graph (cmd.Comp 0)) [] (reply.Comp comp_0) w3 (answer_valid w1 (Graph cmd.Zone) [] (reply.Zone 1) w2 (answer_valid first_world (Graph cmd.Zone) [] (reply.Zone 0) w1 first_valid a1) a2) a3) a4
+v4 = answer_valid at_once w3 (Graph (cmd.Comp 1)) [] (reply.Comp comp_1) w4 (answer_valid at_once w2 (Graph (cmd.Comp 0)) [] (reply.Comp comp_0) w3 (answer_valid at_once w1 (Graph cmd.Zone) [] (reply.Zone 1) w2 (answer_valid at_once first_world (Graph cmd.Zone) [] (reply.Zone 0) w1 first_valid a1) a2) a3) a4
 
 a5 : Answers w4 (Graph (cmd.New 0 comp_0 1)) [] (reply.Made 0) w5
-a5 = new_lawful w4 0 comp_0 1 0 (0, 0) (0 ∷ []) v4 refl refl refl (room_first w4 0 (λ b e. cc e))
+a5 = new_lawful w4 0 comp_0 1 0 (0, 0) (Some 0 ∷ []) v4 (record { none_running = refl; none_preparing = refl }) refl refl (room_first w4 0 (λ b e. cc e))
 
 v5 : IsValid w5
-v5 = answer_valid w4 (Graph (cmd.New 0 comp_0 1)) [] (reply.Made 0) w5 v4 a5
+v5 = answer_valid at_once w4 (Graph (cmd.New 0 comp_0 1)) [] (reply.Made 0) w5 v4 a5
 
-no_one_arena : (b : ℕ) → slice_get {X = ℕ} (0 ∷ []) b ≡ Some 1 → ⊥
+no_one_arena : (b : ℕ) → slice_get {X = Option ℕ} (Some 0 ∷ []) b ≡ Some (Some 1) → ⊥
 no_one_arena zero e = cc e
 no_one_arena (suc b) e = cc e
 
 a6 : Answers w5 (Graph (cmd.New 1 comp_1 0)) [] (reply.Made 1) w6
-a6 = new_lawful w5 1 comp_1 0 1 (1, 0) (0 ∷ 1 ∷ []) v5 refl refl refl (room_first w5 1 no_one_arena)
+a6 = new_lawful w5 1 comp_1 0 1 (1, 0) (Some 0 ∷ Some 1 ∷ []) v5 (record { none_running = refl; none_preparing = refl }) refl refl (room_first w5 1 no_one_arena)
 
 abbrev p6 : List (Name × (ℕ × ℕ))
 p6 = (Cell 1, (1, 0)) ∷ (Cell 0, (0, 0)) ∷ []
@@ -102,7 +105,7 @@ places6 = places_insert w5.places ((Cell 0, (0, 0)) ∷ []) (Cell 1) (1, 0) (pla
 places7 : Places w7.places p7
 places7 = places_insert w6.places p6 (Wrap comp_0 1) (0, 1) places6
 
-only_arena : (b : ℕ) → slice_get {X = ℕ} (0 ∷ 1 ∷ []) b ≡ Some 0 → b ≡ 0
+only_arena : (b : ℕ) → slice_get {X = Option ℕ} (Some 0 ∷ Some 1 ∷ []) b ≡ Some (Some 0) → b ≡ 0
 only_arena zero e = refl
 only_arena (suc zero) e = absurd (cc e)
 only_arena (suc (suc b)) e = absurd (cc e)
@@ -161,6 +164,7 @@ within7 x h = reached_within w7.graph start7 b7
     (λ y s. elim s [ inl a ↦ contains_tail (Wrap comp_0 1) b6 y ((black6 y).0 a) | inr e ↦ subst (λ n. Contains b7 n) e (contains_head (Wrap comp_0 1) b6) ])
     (λ y z c d. subst (λ n. Contains b7 n) (edges7 y z d) one_in)
     (λ m q v at hm hq. absurd (cc at))
+    (λ m v c t at hm ht. absurd (cc at))
     h
 
 a7 : Answers w6 (Graph (cmd.Wrap 2 1 comp_0)) [] (reply.Named (Wrap comp_0 1)) w7
@@ -175,6 +179,8 @@ a7 = (
         made = λ n. (0, (0, 1), refl, room_next w6 0 0 1 refl only_arena refl (omega arith) used6 (λ x e. fresh_slot p6 (0, 1) refl x (sym (places6 x) ∙ e)), refl);
         out_is = refl;
         white_is = refl;
+        weak_is = refl;
+        preparing_is = refl;
       },
       (refl, λ y. ((λ h. let c = (black7 y).0 h in (started7 y c, all_present y c)), λ h. (black7 y).1 (within7 y h.0))),
     ),
@@ -191,8 +197,12 @@ roots = set.insert set.empty (Cell 0)
 abbrev gs : List (List ℕ)
 gs = (0 ∷ []) ∷ (1 ∷ []) ∷ []
 
+-- both zones are prepared: no cell is black from then on
+abbrev prepared12 : World
+prepared12 = record w12 { black = set.empty; preparing = Some (first_preparation w12 both) }
+
 abbrev k0 : Collection
-k0 = record { zones = both; marking = both; snapshot = w12.graph; black_starts = set.empty; live_starts = roots; woken = set.empty; groups = None; tally = first_tally w12 both }
+k0 = record { zones = both; marking = both; snapshot = w12.graph; black_starts = set.empty; live_starts = roots; woken = set.empty; groups = None; tally = first_tally prepared12 (first_preparation w12 both) }
 
 abbrev k1 : Collection
 k1 = record k0 { groups = Some gs }
@@ -210,16 +220,16 @@ abbrev k5 : Collection
 k5 = record k4 { tally = record k4.tally { sweeps = k4.tally.sweeps + 1 } }
 
 abbrev u0 : World
-u0 = record w12 { collection = Some k0 }
+u0 = record w12 { black = set.empty; collection = Some k0 }
 
 abbrev u1 : World
-u1 = record w12 { collection = Some k1 }
+u1 = record w12 { black = set.empty; collection = Some k1 }
 
 abbrev u2 : World
-u2 = record w12 { out = 0 ∷ []; collection = Some k2 }
+u2 = record w12 { out = 0 ∷ []; black = set.empty; collection = Some k2 }
 
 abbrev u3 : World
-u3 = record w12 { collection = Some k3 }
+u3 = record w12 { black = set.empty; collection = Some k3 }
 
 abbrev u4 : World
 u4 = record w12 { out = 1 ∷ []; black = set.empty; collection = Some k4 }
@@ -239,10 +249,20 @@ all_in_zones = each_has (λ x. IsInZones w12.graph both x) b7 (refl, (refl, (ref
 in_slot : (x : Name) → Contains w12.graph.slots (Some x) → Cell 0 ≡ x
 in_slot x c = elim (contains_set_cases (replicate 64 None) 0 (Some (Cell 0)) (Some x) c) [ inl t ↦ absurd (no_name_in_nulls 64 x t) | inr e ↦ cc e ]
 
-begins : Begins w12 both u0
-begins = record {
-  idle = refl;
+prepares : Prepares w12 both prepared12
+prepares = record {
+  idle = record { none_running = refl; none_preparing = refl };
   made = λ z c. elim (contains_cases 0 (1 ∷ []) z c) [ inl e ↦ omega (arith, e) | inr t ↦ let e = single 1 z t in omega (arith, e) ];
+  some = λ e. cc e;
+  world_is = refl;
+  black_are = λ x. ((λ h. absurd (no_name x h)), λ h. absurd (h.1 (all_in_zones x ((black7 x).0 h.0))));
+}
+
+begins : Begins prepared12 both u0
+begins = record {
+  preparation = first_preparation w12 both;
+  was = refl;
+  of_zones = refl;
   collection = k0;
   world_is = refl;
   zones_are = refl;
@@ -255,7 +275,7 @@ begins = record {
     (λ h. absurd (no_name x h)),
     λ h. elim h [
       | inl c ↦ absurd (no_name_in_nulls 16 x c)
-      | inr b ↦ absurd (b.1 (all_in_zones x ((black7 x).0 b.0)))
+      | inr b ↦ absurd (no_name x b)
     ],
   );
   live_starts = λ x. (
@@ -296,8 +316,10 @@ groups = record {
     (λ h c a b ca cb e.
         let eh : ◌≡◌ {A = List ℕ} (1 ∷ []) h = single (1 ∷ []) h c in
         let ea = single 1 a (subst (λ l. Contains l a) (sym eh) ca) in
-        let ez = wrapper_zone e.3 e.4 a e.5.present e.5.of in
-        omega (arith, ea, ez)),
+        elim e.3 [
+          | inl l ↦ let ez = wrapper_zone l.0 l.1 a l.2.present l.2.of in omega (arith, ea, ez)
+          | inr l ↦ cc (l.3.2)
+        ]),
     ((λ h c. absurd (nothing_in_none h c)), tt),
   );
 }
@@ -321,7 +343,7 @@ all_gray : (x : Name) → Contains b7 x → LiveClosure k1 x
 all_gray = each_has (LiveClosure k1) b7 (gray_wrap, (gray1, (gray0, tt)))
 
 none_black : (x : Name) → BlackClosure k1 x → ⊥
-none_black x h = nothing_in_none x (reached_within w12.graph _ [] (λ y s. elim s [ inl a ↦ absurd (no_name y a) | inr t ↦ absurd (no_name y t) ]) (λ y z c d. absurd (nothing_in_none y c)) (λ m q v at hm hq. absurd (cc at)) h)
+none_black x h = nothing_in_none x (reached_within w12.graph _ [] (λ y s. elim s [ inl a ↦ absurd (no_name y a) | inr t ↦ absurd (no_name y t) ]) (λ y z c d. absurd (nothing_in_none y c)) (λ m q v at hm hq. absurd (cc at)) (λ m v c t at hm ht. absurd (cc at)) h)
 
 abbrev first_grays : List Name
 first_grays = Cell 0 ∷ Wrap comp_0 1 ∷ []
@@ -354,8 +376,9 @@ ends_first = record {
   stay = λ x n. refl;
   white_are = λ x p. ((λ c. absurd (nothing_in_none (x, p) c)), λ h. absurd (white_is_not_live u1 k1 (0 ∷ []) x h.0 (all_gray x (present7 x h.0.present))));
   out_is = refl;
+  preparing_is = refl;
   collection_is = refl;
-  black_are = λ s x. absurd (cc s);
+  black_are = λ s x. absurd (cc s.none_marking);
 }
 
 ends_second : IsLawfulEnd u3 k3 (1 ∷ []) [] (Cell 1 ∷ []) u4
@@ -374,6 +397,7 @@ ends_second = record {
   stay = λ x n. refl;
   white_are = λ x p. ((λ c. absurd (nothing_in_none (x, p) c)), λ h. absurd (white_is_not_live u3 k3 (1 ∷ []) x h.0 (all_gray x (present7 x h.0.present))));
   out_is = refl;
+  preparing_is = refl;
   collection_is = refl;
   black_are = λ s x. ((λ h. absurd (no_name x h)), λ h. absurd (none_black x h.0));
 }
@@ -409,37 +433,44 @@ zones_01 : zones_in zones_0_and_1 ≡ both
 unfolding zones_in zones_from
 zones_01 = refl
 
-collected : Answers w12 (Collect zones_0_and_1) (Groups (only_zone_0 ∷ only_zone_1 ∷ []) ∷ Ended only_zone_0 first_grays ∷ Swept 0 [] ∷ Ended only_zone_1 (Cell 1 ∷ []) ∷ Swept 1 [] ∷ Done ∷ []) reply.Collected w13
-collected = inl (
-  refl,
-  record {
-    begun = u0;
-    begins = subst (λ z. Begins w12 z u0) (sym zones_01) begins;
-    units = (Groups (only_zone_0 ∷ only_zone_1 ∷ []) ∷ []) ∷ (Ended only_zone_0 first_grays ∷ []) ∷ (Swept 0 [] ∷ []) ∷ (Ended only_zone_1 (Cell 1 ∷ []) ∷ []) ∷ (Swept 1 [] ∷ Done ∷ []) ∷ [];
-    done = (
-      u1,
-      says (k0, refl) (λ e. cc e) (rw (zones_0, zones_1) forms) (λ o. cc (o.running, o.ended)),
+-- the units after its beginning
+abbrev units12 : List (List Report)
+units12 = (Groups (only_zone_0 ∷ only_zone_1 ∷ []) ∷ []) ∷ (Ended only_zone_0 first_grays [] ∷ []) ∷ (Swept 0 [] ∷ []) ∷ (Ended only_zone_1 (Cell 1 ∷ []) [] ∷ []) ∷ (Swept 1 [] ∷ Done ∷ []) ∷ []
+
+done12 : AreLawfulUnits u0 units12 w13
+done12 = (
+  u1,
+  says (inl (k0, refl)) (λ e. cc e) (rw (zones_0, zones_1) forms) (λ o. cc (o.running, o.ended)),
+  (
+    u2,
+    says (inl (k1, refl)) (λ e. cc e) (subst (λ z. EndsGroup u1 z first_grays [] u2) (sym zones_0) (record { collection = k1; rest = (1 ∷ []) ∷ []; running = refl; first = refl; ends = ends_first; loses = loses_nothing u1 u2 refl refl })) (λ o. cc o.none_out),
+    (
+      u3,
+      says (inl (k2, refl)) (λ e. cc e) sweeps_first (λ o. cc (o.running, o.ended)),
       (
-        u2,
-        says (k1, refl) (λ e. cc e) (subst (λ z. EndsGroup u1 z first_grays u2) (sym zones_0) (record { collection = k1; rest = (1 ∷ []) ∷ []; running = refl; first = refl; ends = ends_first })) (λ o. cc o.none_out),
-        (
-          u3,
-          says (k2, refl) (λ e. cc e) sweeps_first (λ o. cc (o.running, o.ended)),
-          (
-            u4,
-            says (k3, refl) (λ e. cc e) (subst (λ z. EndsGroup u3 z (Cell 1 ∷ []) u4) (sym zones_1) (record { collection = k3; rest = []; running = refl; first = refl; ends = ends_second })) (λ o. cc o.none_out),
-            (w13, last (k4, refl) (λ e. cc e) sweeps_second (record { over = record { collection = k5; running = refl; ended = refl; none_out = refl }; world_is = refl }), refl),
-          ),
-        ),
+        u4,
+        says (inl (k3, refl)) (λ e. cc e) (subst (λ z. EndsGroup u3 z (Cell 1 ∷ []) [] u4) (sym zones_1) (record { collection = k3; rest = []; running = refl; first = refl; ends = ends_second; loses = loses_nothing u3 u4 refl refl })) (λ o. cc o.none_out),
+        (w13, last (inl (k4, refl)) (λ e. cc e) sweeps_second (record { over = record { collection = k5; running = refl; ended = refl; none_out = refl }; world_is = refl }), refl),
       ),
-    );
-    reports_are = refl;
-    over = refl;
-  },
+    ),
+  ),
 )
   where
     forms : FormsGroups u0 gs u1
     forms = record { collection = k0; running = refl; none_yet = refl; lawful = groups; world_is = refl }
 
-pub one_way_gray_lawful : IsLawfulOutput one_way_gray answers_one_way_gray
-one_way_gray_lawful = (w13, (w1, a1, (w2, a2, (w3, a3, (w4, a4, (w5, a5, (w6, a6, (w7, a7, (w8, (refl, (refl, refl)), (w9, (refl, (refl, refl)), (w10, (refl, (refl, refl)), (w11, (refl, (refl, refl)), (w12, (refl, (refl, refl)), (w13, collected, refl))))))))))))))
+collected : (how : Beginning) → AnswersBy how w12 (Collect zones_0_and_1) (started how ++ (Groups (only_zone_0 ∷ only_zone_1 ∷ []) ∷ Ended only_zone_0 first_grays [] ∷ Swept 0 [] ∷ Ended only_zone_1 (Cell 1 ∷ []) [] ∷ Swept 1 [] ∷ Done ∷ [])) reply.Collected w13
+collected how = inl (
+  refl,
+  record {
+    begun = begun_world how prepared12 u0;
+    begins = subst (λ z. BeginsBy how w12 z (begun_world how prepared12 u0)) (sym zones_01) (begins_either how both w12 prepared12 u0 prepares begins);
+    units = starting_units how ++ units12;
+    done = units_either how both prepared12 u0 begins units12 w13 done12;
+    reports_are = reports_either how units12;
+    over = record { none_running = refl; none_preparing = refl };
+  },
+)
+
+pub one_way_gray_lawful : (how : Beginning) → IsLawfulOutputBy how one_way_gray (answers_one_way_gray how)
+one_way_gray_lawful how = (w13, (w1, a1, (w2, a2, (w3, a3, (w4, a4, (w5, a5, (w6, a6, (w7, a7, (w8, (refl, (refl, refl)), (w9, (refl, (refl, refl)), (w10, (refl, (refl, refl)), (w11, (refl, (refl, refl)), (w12, (refl, (refl, refl)), (w13, collected how, refl))))))))))))))

@@ -240,7 +240,10 @@ refusal_in reply.Absent = None
 refusal_in reply.GcBegun = None
 refusal_in (reply.Sliced n) = None
 refusal_in reply.Collected = None
+refusal_in reply.ResetDone = None
 refusal_in (reply.Gray names) = None
+refusal_in (reply.Dump lines) = None
+refusal_in (reply.Compacted moved given) = None
 refusal_in (reply.Refused why) = Some why
 
 -- a command is not refused

@@ -1,5 +1,8 @@
-use Rattle.colour_defs.proofs.ValidReports.{begin_valid}
+use Rattle.colour_defs.proofs.ValidReports.{prepare_valid, begin_valid}
 use Rattle.colour_defs.proofs.laws.begin_law.Goals as goal
 
-pub returns : goal.returns
-returns c = λ w v zones ok begins. begin_valid w zones v ok begins
+pub returns-clause-prepares : goal.returns-clause-prepares
+returns-clause-prepares c = λ w v zones. prepare_valid w zones v
+
+pub returns-clause-begins : goal.returns-clause-begins
+returns-clause-begins c = λ w v zones. begin_valid w zones v
