@@ -49,7 +49,8 @@ weak_line e = line.Weak e.map e.key e.value
 -- by map, then by key
 abbrev pub IsAscendingWeak : List WeakLine → Type 0
 IsAscendingWeak [] = Unit {0}
-IsAscendingWeak (e ∷ es) = AllByRecursion (λ d. IsTrue (is_lt (ordering_then (name_cmp (Cell e.map) (Cell d.map)) (name_cmp e.key d.key)))) es × IsAscendingWeak es
+IsAscendingWeak (e ∷ es) =
+    AllByRecursion (λ d. IsTrue (is_lt (ordering_then (name_cmp (Cell e.map) (Cell d.map)) (name_cmp e.key d.key)))) es × IsAscendingWeak es
 
 -- an entry whose map and key are present
 pub record IsWeakOf (w : World) (e : WeakLine) : Type 0 where
@@ -64,4 +65,5 @@ pub record IsDump (w : World) (lines : List DumpLine) : Type 0 where
   pub weaks : List WeakLine
   pub weaks_ascend : IsAscendingWeak weaks
   pub weaks_are : (e : WeakLine) → Contains weaks e ↔ IsWeakOf w e
-  pub lines_are : lines ≡ map (cell_line w) cells ++ (flat_map (edge_lines w.graph) cells ++ (map weak_line weaks ++ line.End ∷ []))
+  pub lines_are : lines ≡ map (cell_line w) cells
+      ++ (flat_map (edge_lines w.graph) cells ++ (map weak_line weaks ++ line.End ∷ []))

@@ -41,7 +41,9 @@ pub record Begins (w : World) (zones : List ℕ) (v : World) : Type 0 where
   pub groups_are : collection.groups ≡ None
   pub tally_is : collection.tally ≡ first_tally w preparation
   pub black_starts : (x : Name) → Has collection.black_starts x ↔ (Contains w.graph.registers (Some x) ⊎ Has w.black x)
-  pub live_starts : (x : Name) → Has collection.live_starts x ↔ (Has collection.black_starts x ⊎ (Contains w.graph.slots (Some x) ⊎ (IsPresent w x × (IsInZones w.graph zones x → ⊥))))
+  pub live_starts : (x : Name) → Has collection.live_starts x
+      ↔ (Has collection.black_starts x
+      ⊎ (Contains w.graph.slots (Some x) ⊎ (IsPresent w x × (IsInZones w.graph zones x → ⊥))))
 
 -- the groups of a collection are formed, once
 pub record FormsGroups (w : World) (groups : List (List ℕ)) (v : World) : Type 0 where
@@ -96,8 +98,10 @@ IsLawfulReport w (report.Stopped zones) v = ⊥
 -- the reports of one unit: none, or one, or the last one and `done` right after it
 pub data IsLawfulUnit (w : World) : List Report → World → Type 0 where
   quiet : IsRunning w → IsLawfulUnit w [] w
-  says : {r : Report} {v : World} → IsRunning w → r ≢ report.Done → IsLawfulReport w r v → (IsOver v → ⊥) → IsLawfulUnit w (r ∷ []) v
-  last : {r : Report} {u v : World} → IsRunning w → r ≢ report.Done → IsLawfulReport w r u → IsLawfulReport u report.Done v → IsLawfulUnit w (r ∷ report.Done ∷ []) v
+  says : {r : Report} {v : World} → IsRunning w → r ≢ report.Done → IsLawfulReport w r v → (IsOver v → ⊥)
+      → IsLawfulUnit w (r ∷ []) v
+  last : {r : Report} {u v : World} → IsRunning w → r ≢ report.Done → IsLawfulReport w r u
+      → IsLawfulReport u report.Done v → IsLawfulUnit w (r ∷ report.Done ∷ []) v
 
 -- units one after another, each with its reports
 abbrev pub AreLawfulUnits : World → List (List Report) → World → Type 0
@@ -142,7 +146,8 @@ pub record ChangesNothing (w : World) (reports : List Report) (v : World) : Type
 abbrev pub RefusesToBegin : World → List ℕ → List Report → Reply → World → Type 0
 RefusesToBegin w zones reports answer v =
     ((answer ≡ reply.Refused refusal.Running) × IsRunning w × ChangesNothing w reports v)
-    ⊎ ((answer ≡ reply.Refused refusal.NoZone) × IsIdle w × (((z : ℕ) → Contains zones z → z < w.graph.zones) → ⊥) × ChangesNothing w reports v)
+    ⊎ ((answer ≡ reply.Refused refusal.NoZone) × IsIdle w × (((z : ℕ) → Contains zones z → z < w.graph.zones) → ⊥)
+    × ChangesNothing w reports v)
 
 -- what `slice`, `finish` and `reset` are refused by
 abbrev pub RefusesIdle : World → List Report → Reply → World → Type 0
@@ -164,12 +169,17 @@ pub record Slices (w : World) (reports : List Report) (n : ℕ) (v : World) : Ty
   pub done : AreLawfulUnits w units after
   pub number : length units ≡ n
   pub reports_are : reports ≡ flat_map (λ u. u) units
-  pub world_is : v ≡ record after { preparing = with_spent_preparing n after.preparing; collection = with_spent n after.collection }
+  pub world_is : v ≡ record after {
+    preparing = with_spent_preparing n after.preparing;
+    collection = with_spent n after.collection;
+  }
 
 -- the tally of the collection that runs. While it is prepared, it is the one with which marking would begin now;
 -- what that counts is the same at each moment of a slice until marking begins
 abbrev pub HasTally : World → Tally → Type 0
-HasTally w t = ((k : Collection) × (w.collection ≡ Some k) × (t ≡ k.tally)) ⊎ ((p : Preparation) × (w.preparing ≡ Some p) × (t ≡ first_tally w p))
+HasTally w t =
+    ((k : Collection) × (w.collection ≡ Some k) × (t ≡ k.tally))
+    ⊎ ((p : Preparation) × (w.preparing ≡ Some p) × (t ≡ first_tally w p))
 
 -- a slice that keeps the bound on units. It stands beside lawful output, and joins `Slices` once it is proved of the
 -- program
@@ -191,7 +201,8 @@ pub record Collects (how : Beginning) (w : World) (zones : List ℕ) (reports : 
 -- arenas are taken in, one after another
 abbrev pub AreLawfulSweeps : World → List Report → World → Type 0
 AreLawfulSweeps w [] v = v ≡ w
-AreLawfulSweeps w (report.Swept arena freed ∷ rs) v = (u : World) × IsLawfulSweep w arena freed u × AreLawfulSweeps u rs v
+AreLawfulSweeps w (report.Swept arena freed ∷ rs) v =
+    (u : World) × IsLawfulSweep w arena freed u × AreLawfulSweeps u rs v
 AreLawfulSweeps w (report.Started ∷ rs) v = ⊥
 AreLawfulSweeps w (report.Groups groups ∷ rs) v = ⊥
 AreLawfulSweeps w (report.Ended zones grays told ∷ rs) v = ⊥
@@ -200,12 +211,15 @@ AreLawfulSweeps w (report.Stopped zones ∷ rs) v = ⊥
 
 -- the zones that a collection is still preparing or marking
 abbrev pub IsUnfinished : World → ℕ → Type 0
-IsUnfinished w z = Contains (marking_of w.collection) z ⊎ ((p : Preparation) × (w.preparing ≡ Some p) × Contains p.zones z)
+IsUnfinished w z =
+    Contains (marking_of w.collection) z ⊎ ((p : Preparation) × (w.preparing ≡ Some p) × Contains p.zones z)
 
 -- what counts as black as a collection is given up: what it would find black, or, while it is prepared, what is
 -- black
 abbrev pub IsBlackSoFar : World → Name → Type 0
-IsBlackSoFar w x = ((k : Collection) × (w.collection ≡ Some k) × BlackClosure k x × IsPresent w x) ⊎ ((p : Preparation) × (w.preparing ≡ Some p) × Has w.black x)
+IsBlackSoFar w x =
+    ((k : Collection) × (w.collection ≡ Some k) × BlackClosure k x × IsPresent w x)
+    ⊎ ((p : Preparation) × (w.preparing ≡ Some p) × Has w.black x)
 
 -- a collection is given up, with no arena out: every present cell of the zones that it was still preparing or
 -- marking becomes black, and so does what is reached from there and from what is black so far (resetting of
@@ -216,7 +230,8 @@ pub record Stops (w : World) (zones : List ℕ) (v : World) : Type 0 where
   pub not_over : IsOver w → ⊥
   pub zones_are : (z : ℕ) → Contains zones z ↔ IsUnfinished w z
   pub world_is : v ≡ record w { black = v.black; preparing = None; collection = None }
-  pub black_are : (x : Name) → Has v.black x ↔ (Closure w.graph (λ s. IsBlackSoFar w s ⊎ (IsPresent w s × IsInZones w.graph zones s)) x × IsPresent w x)
+  pub black_are : (x : Name) → Has v.black x
+      ↔ (Closure w.graph (λ s. IsBlackSoFar w s ⊎ (IsPresent w s × IsInZones w.graph zones s)) x × IsPresent w x)
 
 -- the last report of a reset, once no arena is out: the collection is over with it, or is given up
 abbrev pub LastOfReset : World → Report → World → Type 0
@@ -241,19 +256,29 @@ pub record Resets (w : World) (reports : List Report) (v : World) : Type 0 where
 abbrev pub AnswersBy : Beginning → World → Cmd → List Report → Reply → World → Type 0
 AnswersBy how w (command.Graph c) reports answer v = (reports ≡ []) × CommandInWorld w c answer v
 AnswersBy how w (command.Weak c) reports answer v = (reports ≡ []) × WeakInWorld w c answer v
-AnswersBy how w (command.Gc zones) reports answer v = ((answer ≡ reply.GcBegun) × (reports ≡ []) × BeginsBy how w (zones_in zones) v) ⊎ RefusesToBegin w (zones_in zones) reports answer v
-AnswersBy how w (command.Slice n) reports answer v = ((k : ℕ) × (answer ≡ reply.Sliced k) × Slices w reports k v × (k ≤ n) × (k < n → IsIdle v)) ⊎ RefusesIdle w reports answer v
-AnswersBy how w command.Finish reports answer v = ((k : ℕ) × (answer ≡ reply.Sliced k) × Slices w reports k v × IsIdle v) ⊎ RefusesIdle w reports answer v
-AnswersBy how w (command.Collect zones) reports answer v = ((answer ≡ reply.Collected) × Collects how w (zones_in zones) reports v) ⊎ RefusesToBegin w (zones_in zones) reports answer v
-AnswersBy how w command.Reset reports answer v = ((answer ≡ reply.ResetDone) × Resets w reports v) ⊎ RefusesIdle w reports answer v
+AnswersBy how w (command.Gc zones) reports answer v =
+    ((answer ≡ reply.GcBegun) × (reports ≡ []) × BeginsBy how w (zones_in zones) v)
+    ⊎ RefusesToBegin w (zones_in zones) reports answer v
+AnswersBy how w (command.Slice n) reports answer v =
+    ((k : ℕ) × (answer ≡ reply.Sliced k) × Slices w reports k v × (k ≤ n) × (k < n → IsIdle v))
+    ⊎ RefusesIdle w reports answer v
+AnswersBy how w command.Finish reports answer v =
+    ((k : ℕ) × (answer ≡ reply.Sliced k) × Slices w reports k v × IsIdle v) ⊎ RefusesIdle w reports answer v
+AnswersBy how w (command.Collect zones) reports answer v =
+    ((answer ≡ reply.Collected) × Collects how w (zones_in zones) reports v)
+    ⊎ RefusesToBegin w (zones_in zones) reports answer v
+AnswersBy how w command.Reset reports answer v =
+    ((answer ≡ reply.ResetDone) × Resets w reports v) ⊎ RefusesIdle w reports answer v
 AnswersBy how w command.Colours reports answer v =
-    ((names : List Name) × (answer ≡ reply.Gray names) × IsSettled w × Lists (λ x. IsPresent w x × (Has w.black x → ⊥)) names × ChangesNothing w reports v)
+    ((names : List Name) × (answer ≡ reply.Gray names) × IsSettled w
+    × Lists (λ x. IsPresent w x × (Has w.black x → ⊥)) names × ChangesNothing w reports v)
     ⊎ ((answer ≡ reply.Refused refusal.Marking) × (IsSettled w → ⊥) × ChangesNothing w reports v)
 AnswersBy how w command.Dump reports answer v =
     ((lines : List DumpLine) × (answer ≡ reply.Dump lines) × IsSettled w × IsDump w lines × ChangesNothing w reports v)
     ⊎ ((answer ≡ reply.Refused refusal.Marking) × (IsSettled w → ⊥) × ChangesNothing w reports v)
 AnswersBy how w (command.Compact zone) reports answer v =
-    ((moved : ℕ) × (given : ℕ) × (answer ≡ reply.Compacted moved given) × (reports ≡ []) × Compacts w zone moved given v)
+    ((moved : ℕ) × (given : ℕ) × (answer ≡ reply.Compacted moved given) × (reports ≡ [])
+    × Compacts w zone moved given v)
     ⊎ RefusesToBegin w (zone ∷ []) reports answer v
 
 abbrev pub Answers : World → Cmd → List Report → Reply → World → Type 0
@@ -271,7 +296,9 @@ Run = RunBy beginning
 
 -- P holds of every world that a lawful run reaches, however collections begin
 abbrev pub HoldsInEveryRun : (World → Type 0) → Type 0
-HoldsInEveryRun P = (how : Beginning) (commands : List Cmd) (answers : List (List Report × Reply)) (w : World) → RunBy how first_world commands answers w → P w
+HoldsInEveryRun P =
+    (how : Beginning) (commands : List Cmd) (answers : List (List Report × Reply)) (w : World)
+    → RunBy how first_world commands answers w → P w
 
 -- these answers are lawful for these commands
 abbrev pub IsLawfulOutputBy : Beginning → List Cmd → List (List Report × Reply) → Type 0
@@ -288,16 +315,20 @@ pub record DoesUnits (w : World) (units : List (List Report)) (reports : List Re
 
 -- what a reset may have reported by some moment: some of its sweeps, or all of its reports
 abbrev pub StartsToReset : World → List Report → Type 0
-StartsToReset w reports = IsRunning w × (((v : World) × AreLawfulSweeps w reports v) ⊎ ((v : World) × Resets w reports v))
+StartsToReset w reports =
+    IsRunning w × (((v : World) × AreLawfulSweeps w reports v) ⊎ ((v : World) × Resets w reports v))
 
 -- what a command may have written by some moment before its last line
 abbrev pub StartsToAnswerBy : Beginning → World → Cmd → List Report → Type 0
 StartsToAnswerBy how w (command.Graph c) reports = reports ≡ []
 StartsToAnswerBy how w (command.Weak c) reports = reports ≡ []
 StartsToAnswerBy how w (command.Gc zones) reports = reports ≡ []
-StartsToAnswerBy how w (command.Slice n) reports = (units : List (List Report)) × (length units ≤ n) × DoesUnits w units reports
+StartsToAnswerBy how w (command.Slice n) reports =
+    (units : List (List Report)) × (length units ≤ n) × DoesUnits w units reports
 StartsToAnswerBy how w command.Finish reports = (units : List (List Report)) × DoesUnits w units reports
-StartsToAnswerBy how w (command.Collect zones) reports = (reports ≡ []) ⊎ ((begun : World) × BeginsBy how w (zones_in zones) begun × (units : List (List Report)) × DoesUnits begun units reports)
+StartsToAnswerBy how w (command.Collect zones) reports =
+    (reports ≡ []) ⊎ ((begun : World) × BeginsBy how w (zones_in zones) begun × (units : List (List Report))
+    × DoesUnits begun units reports)
 StartsToAnswerBy how w command.Reset reports = (reports ≡ []) ⊎ StartsToReset w reports
 StartsToAnswerBy how w command.Colours reports = reports ≡ []
 StartsToAnswerBy how w command.Dump reports = reports ≡ []

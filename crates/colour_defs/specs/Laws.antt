@@ -21,7 +21,8 @@ pub record NamesOnlyPresent (w : World) : Type 0 where
   pub slots : (s : ℕ) (x : Name) → slot_cell w.graph s ≡ Some x → IsPresent w x
   pub edges : (x y : Name) → IsPresent w x → HasEdge w.graph x y → IsPresent w y
   pub entries : (m k v : Name) → value_of w.graph m k ≡ Some v → IsPresent w m → IsPresent w k → IsPresent w v
-  pub keys : (m v : Name) (c : CompNo) (t : ℕ) → value_of w.graph m (Wrap c t) ≡ Some v → IsPresent w m → IsPresent w (Cell t) → IsPresent w (Wrap c t)
+  pub keys : (m v : Name) (c : CompNo) (t : ℕ) → value_of w.graph m (Wrap c t) ≡ Some v → IsPresent w m
+      → IsPresent w (Cell t) → IsPresent w (Wrap c t)
   pub weak : (q : ℕ) (x : Name) → weak_cell w q ≡ Some x → IsPresent w x
   pub watched : (x : Name) → Has w.weak.watched x → IsPresent w x
 
@@ -37,7 +38,8 @@ pub record IsClosedWithin (g : GraphState) (IsIn : Name → Type 0) (P : Name �
   pub registers : (r : ℕ) (x : Name) → register_cell g r ≡ Some x → IsIn x → P x
   pub edges : (x y : Name) → P x → HasEdge g x y → IsIn y → P y
   pub entries : (m k v : Name) → value_of g m k ≡ Some v → P m → P k → IsIn v → P v
-  pub delegates : (m v : Name) (c : CompNo) (t : ℕ) → value_of g m (Wrap c t) ≡ Some v → P m → P (Cell t) → IsIn (Wrap c t) → P (Wrap c t)
+  pub delegates : (m v : Name) (c : CompNo) (t : ℕ) → value_of g m (Wrap c t) ≡ Some v → P m → P (Cell t)
+      → IsIn (Wrap c t) → P (Wrap c t)
 
 -- some zone of the collection is marking
 abbrev pub IsMarking : Collection → Type 0
@@ -46,9 +48,11 @@ IsMarking k = k.marking ≡ [] → ⊥
 -- the register law: registers hold black cells, by the closure while some zone is marking, by the black names where
 -- none is. While a collection is prepared, this is said of the cells that it leaves out
 pub record RegistersAreBlack (w : World) : Type 0 where
-  pub marking : (k : Collection) → w.collection ≡ Some k → IsMarking k → (r : ℕ) (x : Name) → register_cell w.graph r ≡ Some x → BlackClosure k x
+  pub marking : (k : Collection) → w.collection ≡ Some k → IsMarking k → (r : ℕ) (x : Name)
+      → register_cell w.graph r ≡ Some x → BlackClosure k x
   pub settled : IsSettled w → (r : ℕ) (x : Name) → register_cell w.graph r ≡ Some x → Has w.black x
-  pub preparing : (p : Preparation) → w.preparing ≡ Some p → (r : ℕ) (x : Name) → register_cell w.graph r ≡ Some x → (IsInZones w.graph p.zones x → ⊥) → Has w.black x
+  pub preparing : (p : Preparation) → w.preparing ≡ Some p → (r : ℕ) (x : Name) → register_cell w.graph r ≡ Some x
+      → (IsInZones w.graph p.zones x → ⊥) → Has w.black x
 
 -- the closure law: black leads to black and live to live, in the graph as it is now; while a collection is prepared,
 -- among the cells that it leaves out
@@ -64,14 +68,18 @@ IsInRegister w x = (r : ℕ) × (register_cell w.graph r ≡ Some x)
 
 -- a register or a gray slot holds x, or x is present outside the collected zones
 abbrev pub IsRoot : World → Collection → Name → Type 0
-IsRoot w k x = IsInRegister w x ⊎ ((s : ℕ) × (slot_cell w.graph s ≡ Some x)) ⊎ (IsPresent w x × (IsInZones w.graph k.zones x → ⊥))
+IsRoot w k x =
+    IsInRegister w x ⊎ ((s : ℕ) × (slot_cell w.graph s ≡ Some x)) ⊎ (IsPresent w x × (IsInZones w.graph k.zones x → ⊥))
 
 -- what is reached now is in the closures
 pub record ReachedIsInClosures (w : World) : Type 0 where
-  pub black : (k : Collection) → w.collection ≡ Some k → IsMarking k → (x : Name) → Closure w.graph (IsInRegister w) x → BlackClosure k x
-  pub live : (k : Collection) → w.collection ≡ Some k → IsMarking k → (x : Name) → Closure w.graph (IsRoot w k) x → LiveClosure k x
+  pub black : (k : Collection) → w.collection ≡ Some k → IsMarking k → (x : Name) → Closure w.graph (IsInRegister w) x
+      → BlackClosure k x
+  pub live : (k : Collection) → w.collection ≡ Some k → IsMarking k → (x : Name) → Closure w.graph (IsRoot w k) x
+      → LiveClosure k x
   pub settled : IsSettled w → (x : Name) → Closure w.graph (IsInRegister w) x → Has w.black x
-  pub preparing : (p : Preparation) → w.preparing ≡ Some p → (x : Name) → ClosureWithin w.graph (IsLeftOut w p) (IsInRegister w) x → Has w.black x
+  pub preparing : (p : Preparation) → w.preparing ≡ Some p → (x : Name)
+      → ClosureWithin w.graph (IsLeftOut w p) (IsInRegister w) x → Has w.black x
 
 -- the closure law as a group ends, also the last one: the closures are closed, and have what is reached then
 pub record ClosuresAreClosedAtEnd (k : Collection) (v : World) : Type 0 where
@@ -93,7 +101,8 @@ GarbageIsGone w k = (x : Name) → (LiveClosure k x → ⊥) → IsPresent w x �
 pub record IsTight (w : World) (zone given : ℕ) (v : World) : Type 0 where
   pub present : (x : Name) → IsPresent v x ↔ IsPresent w x
   pub owned : length (arenas_from 0 v.owner (zone ∷ [])) + given ≡ length (arenas_from 0 w.owner (zone ∷ []))
-  pub fewest : (n : ℕ) → count_by (λ x. is_in_zones w.graph (zone ∷ []) x) (map.keys w.places) ≤ 64 * n → length (arenas_from 0 w.owner (zone ∷ [])) ≤ given + n
+  pub fewest : (n : ℕ) → count_by (λ x. is_in_zones w.graph (zone ∷ []) x) (map.keys w.places) ≤ 64 * n
+      → length (arenas_from 0 w.owner (zone ∷ [])) ≤ given + n
 
 -- weak slots and watched cells keep what is still present, and nothing else
 pub record KeepsWeak (w v : World) : Type 0 where
@@ -119,7 +128,8 @@ pub record IsWellFormed (g : GraphState) : Type 0 where
   pub values : (m k v : Name) → value_of g m k ≡ Some v → IsSameComp g m v
   pub no_wrappers : (m k v : Name) → value_of g m k ≡ Some v → IsNoWrapper m
   pub plain_keys : (m k v : Name) → value_of g m k ≡ Some v → IsNoWrapper k
-  pub delegates : (m v : Name) (c : CompNo) (t : ℕ) → value_of g m (Wrap c t) ≡ Some v → (d : CompNo) × (comp_of g (Cell t) ≡ Some d)
+  pub delegates : (m v : Name) (c : CompNo) (t : ℕ) → value_of g m (Wrap c t) ≡ Some v → (d : CompNo)
+      × (comp_of g (Cell t) ≡ Some d)
 
 abbrev pub HasSomeZone : GraphState → Name → Type 0
 HasSomeZone g x = (z : ℕ) × (zone_of g x ≡ Some z)
@@ -157,16 +167,23 @@ pub record IsValidMarking (w : World) (k : Collection) : Type 0 where
   pub slots : (s : ℕ) (x : Name) → slot_cell w.graph s ≡ Some x → LiveClosure k x
   pub edges : (x y : Name) → HasEdge w.graph x y → HasEdge k.snapshot x y ⊎ BlackClosure k y
   pub entries : (m q v : Name) → value_of w.graph m q ≡ Some v → (value_of k.snapshot m q ≡ Some v) ⊎ BlackClosure k v
-  pub keys : (m q v : Name) → value_of w.graph m q ≡ Some v → ((u : Name) × (value_of k.snapshot m q ≡ Some u)) ⊎ BlackClosure k q
-  pub kept : (m q u : Name) → value_of k.snapshot m q ≡ Some u → ((v : Name) × (value_of w.graph m q ≡ Some v)) ⊎ BlackClosure k q
+  pub keys : (m q v : Name) → value_of w.graph m q ≡ Some v → ((u : Name) × (value_of k.snapshot m q ≡ Some u))
+      ⊎ BlackClosure k q
+  pub kept : (m q u : Name) → value_of k.snapshot m q ≡ Some u → ((v : Name) × (value_of w.graph m q ≡ Some v))
+      ⊎ BlackClosure k q
 
 -- a present wrapper of a later group leads into an earlier one only to what is black
 abbrev pub LeadsToBlack : World → Collection → List ℕ → List ℕ → Type 0
-LeadsToBlack w k g h = (c : CompNo) (t a b : ℕ) → IsPresent w (Wrap c t) → zone_of w.graph (Wrap c t) ≡ Some a → zone_of w.graph (Cell t) ≡ Some b → Contains h a → Contains g b → (BlackClosure k (Cell t) → ⊥) → ⊥
+LeadsToBlack w k g h =
+    (c : CompNo) (t a b : ℕ) → IsPresent w (Wrap c t) → zone_of w.graph (Wrap c t) ≡ Some a
+    → zone_of w.graph (Cell t) ≡ Some b → Contains h a → Contains g b → (BlackClosure k (Cell t) → ⊥) → ⊥
 
 -- a present wrapper of an earlier group that is a key of a present map leads into a later one only to what is black
 abbrev pub KeysLeadToBlack : World → Collection → List ℕ → List ℕ → Type 0
-KeysLeadToBlack w k g h = (c : CompNo) (t a b : ℕ) → IsPresent w (Wrap c t) → IsKeyOfPresent w w.graph (Wrap c t) → zone_of w.graph (Wrap c t) ≡ Some a → zone_of w.graph (Cell t) ≡ Some b → Contains g a → Contains h b → (BlackClosure k (Cell t) → ⊥) → ⊥
+KeysLeadToBlack w k g h =
+    (c : CompNo) (t a b : ℕ) → IsPresent w (Wrap c t) → IsKeyOfPresent w w.graph (Wrap c t)
+    → zone_of w.graph (Wrap c t) ≡ Some a → zone_of w.graph (Cell t) ≡ Some b → Contains g a → Contains h b
+    → (BlackClosure k (Cell t) → ⊥) → ⊥
 
 -- the groups that have not ended part the marking zones
 pub record AreValidGroups (w : World) (k : Collection) (gs : List (List ℕ)) : Type 0 where
@@ -192,5 +209,6 @@ pub record IsValid (w : World) : Type 0 where
   pub preparing : (p : Preparation) → w.preparing ≡ Some p → IsValidPreparing w p
   pub running : (k : Collection) → w.collection ≡ Some k → IsValidRunning w k
   pub marking : (k : Collection) → w.collection ≡ Some k → IsMarking k → IsValidMarking w k
-  pub groups : (k : Collection) (gs : List (List ℕ)) → w.collection ≡ Some k → k.groups ≡ Some gs → AreValidGroups w k gs
+  pub groups : (k : Collection) (gs : List (List ℕ)) → w.collection ≡ Some k → k.groups ≡ Some gs
+      → AreValidGroups w k gs
   pub ungrouped : (k : Collection) → w.collection ≡ Some k → k.groups ≡ None → IsUngrouped k

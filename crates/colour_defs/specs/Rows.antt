@@ -41,42 +41,81 @@ units_to_start at_once = 0
 
 -- linked and dropped: cell 1 is held by cell 0, cell 2 by nothing
 abbrev pub linked_and_dropped : List Cmd
-linked_and_dropped = Graph Zone ∷ Graph (Comp 0) ∷ Graph (New 0 comp_0 1) ∷ Graph (New 1 comp_0 0) ∷ Graph (Set 0 0 (Some 1)) ∷ Graph (New 1 comp_0 0) ∷ Graph (Drop 1) ∷ Collect only_zone_0 ∷ Graph (Get 2 0 0) ∷ []
+linked_and_dropped =
+    Graph Zone ∷ Graph (Comp 0) ∷ Graph (New 0 comp_0 1) ∷ Graph (New 1 comp_0 0) ∷ Graph (Set 0 0 (Some 1))
+    ∷ Graph (New 1 comp_0 0) ∷ Graph (Drop 1) ∷ Collect only_zone_0 ∷ Graph (Get 2 0 0) ∷ []
 
 abbrev pub answers_linked_and_dropped : Beginning → List (List Report × Reply)
-answers_linked_and_dropped how = quiet (reply.Zone 0) ∷ quiet (reply.Comp comp_0) ∷ quiet (reply.Made 0) ∷ quiet (reply.Made 1) ∷ quiet reply.Accepted ∷ quiet (reply.Made 2) ∷ quiet reply.Accepted
-    ∷ (started how ++ (Groups (only_zone_0 ∷ []) ∷ Ended only_zone_0 [] [] ∷ Swept 0 (Cell 2 ∷ []) ∷ Done ∷ []), reply.Collected) ∷ quiet (reply.Named (Cell 1)) ∷ []
+answers_linked_and_dropped how =
+    quiet (reply.Zone 0) ∷ quiet (reply.Comp comp_0) ∷ quiet (reply.Made 0) ∷ quiet (reply.Made 1)
+    ∷ quiet reply.Accepted ∷ quiet (reply.Made 2) ∷ quiet reply.Accepted
+    ∷ (
+      started how ++ (Groups (only_zone_0 ∷ []) ∷ Ended only_zone_0 [] [] ∷ Swept 0 (Cell 2 ∷ []) ∷ Done
+          ∷ []),
+      reply.Collected,
+    ) ∷ quiet (reply.Named (Cell 1)) ∷ []
 
 -- the same without the freed cell, which is wrong
 abbrev pub answers_without_freed_cell : Beginning → List (List Report × Reply)
-answers_without_freed_cell how = quiet (reply.Zone 0) ∷ quiet (reply.Comp comp_0) ∷ quiet (reply.Made 0) ∷ quiet (reply.Made 1) ∷ quiet reply.Accepted ∷ quiet (reply.Made 2) ∷ quiet reply.Accepted
-    ∷ (started how ++ (Groups (only_zone_0 ∷ []) ∷ Ended only_zone_0 [] [] ∷ Swept 0 [] ∷ Done ∷ []), reply.Collected) ∷ quiet (reply.Named (Cell 1)) ∷ []
+answers_without_freed_cell how =
+    quiet (reply.Zone 0) ∷ quiet (reply.Comp comp_0) ∷ quiet (reply.Made 0) ∷ quiet (reply.Made 1)
+    ∷ quiet reply.Accepted ∷ quiet (reply.Made 2) ∷ quiet reply.Accepted
+    ∷ (started how ++ (Groups (only_zone_0 ∷ []) ∷ Ended only_zone_0 [] [] ∷ Swept 0 [] ∷ Done ∷ []), reply.Collected)
+    ∷ quiet (reply.Named (Cell 1)) ∷ []
 
 -- a gray slot alone holds cell 0, which holds cell 1; handed out, both turn black
 abbrev pub gray_slot_alone : List Cmd
-gray_slot_alone = Graph Zone ∷ Graph (Comp 0) ∷ Graph (New 0 comp_0 1) ∷ Graph (New 1 comp_0 0) ∷ Graph (Set 0 0 (Some 1)) ∷ Graph (Hold 3 0) ∷ Graph (Drop 0) ∷ Graph (Drop 1) ∷ Collect only_zone_0 ∷ Colours ∷ Graph (Expose 5 3) ∷ Colours ∷ []
+gray_slot_alone =
+    Graph Zone ∷ Graph (Comp 0) ∷ Graph (New 0 comp_0 1) ∷ Graph (New 1 comp_0 0) ∷ Graph (Set 0 0 (Some 1))
+    ∷ Graph (Hold 3 0) ∷ Graph (Drop 0) ∷ Graph (Drop 1) ∷ Collect only_zone_0 ∷ Colours ∷ Graph (Expose 5 3)
+    ∷ Colours ∷ []
 
 abbrev pub answers_gray_slot_alone : Beginning → List (List Report × Reply)
-answers_gray_slot_alone how = quiet (reply.Zone 0) ∷ quiet (reply.Comp comp_0) ∷ quiet (reply.Made 0) ∷ quiet (reply.Made 1) ∷ quiet reply.Accepted ∷ quiet reply.Accepted ∷ quiet reply.Accepted ∷ quiet reply.Accepted
-    ∷ (started how ++ (Groups (only_zone_0 ∷ []) ∷ Ended only_zone_0 (Cell 0 ∷ Cell 1 ∷ []) [] ∷ Swept 0 [] ∷ Done ∷ []), reply.Collected) ∷ quiet (reply.Gray (Cell 0 ∷ Cell 1 ∷ [])) ∷ quiet (reply.Named (Cell 0)) ∷ quiet (reply.Gray []) ∷ []
+answers_gray_slot_alone how =
+    quiet (reply.Zone 0) ∷ quiet (reply.Comp comp_0) ∷ quiet (reply.Made 0) ∷ quiet (reply.Made 1)
+    ∷ quiet reply.Accepted ∷ quiet reply.Accepted ∷ quiet reply.Accepted ∷ quiet reply.Accepted
+    ∷ (
+      started how ++ (Groups (only_zone_0 ∷ []) ∷ Ended only_zone_0 (Cell 0 ∷ Cell 1 ∷ []) [] ∷ Swept 0 [] ∷ Done
+          ∷ []),
+      reply.Collected,
+    ) ∷ quiet (reply.Gray (Cell 0 ∷ Cell 1 ∷ [])) ∷ quiet (reply.Named (Cell 0))
+    ∷ quiet (reply.Gray []) ∷ []
 
 -- a black map with a gray key: the value is gray, and turns black with the key
 abbrev pub gray_key : List Cmd
-gray_key = Graph Zone ∷ Graph (Comp 0) ∷ Graph (Map 0 comp_0) ∷ Graph (New 1 comp_0 0) ∷ Graph (New 2 comp_0 0) ∷ Graph (Put 0 1 2) ∷ Graph (Hold 0 1) ∷ Graph (Drop 1) ∷ Graph (Drop 2) ∷ Collect only_zone_0 ∷ Graph (Expose 1 0) ∷ Colours ∷ Graph (Find 3 0 1) ∷ []
+gray_key =
+    Graph Zone ∷ Graph (Comp 0) ∷ Graph (Map 0 comp_0) ∷ Graph (New 1 comp_0 0) ∷ Graph (New 2 comp_0 0)
+    ∷ Graph (Put 0 1 2) ∷ Graph (Hold 0 1) ∷ Graph (Drop 1) ∷ Graph (Drop 2) ∷ Collect only_zone_0
+    ∷ Graph (Expose 1 0) ∷ Colours ∷ Graph (Find 3 0 1) ∷ []
 
 abbrev pub answers_gray_key : Beginning → List (List Report × Reply)
-answers_gray_key how = quiet (reply.Zone 0) ∷ quiet (reply.Comp comp_0) ∷ quiet (reply.Made 0) ∷ quiet (reply.Made 1) ∷ quiet (reply.Made 2) ∷ quiet reply.Accepted ∷ quiet reply.Accepted ∷ quiet reply.Accepted ∷ quiet reply.Accepted
-    ∷ (started how ++ (Groups (only_zone_0 ∷ []) ∷ Ended only_zone_0 (Cell 1 ∷ Cell 2 ∷ []) [] ∷ Swept 0 [] ∷ Done ∷ []), reply.Collected) ∷ quiet (reply.Named (Cell 1)) ∷ quiet (reply.Gray []) ∷ quiet (reply.Named (Cell 2)) ∷ []
+answers_gray_key how =
+    quiet (reply.Zone 0) ∷ quiet (reply.Comp comp_0) ∷ quiet (reply.Made 0) ∷ quiet (reply.Made 1)
+    ∷ quiet (reply.Made 2) ∷ quiet reply.Accepted ∷ quiet reply.Accepted ∷ quiet reply.Accepted ∷ quiet reply.Accepted
+    ∷ (
+      started how ++ (Groups (only_zone_0 ∷ []) ∷ Ended only_zone_0 (Cell 1 ∷ Cell 2 ∷ []) [] ∷ Swept 0 [] ∷ Done
+          ∷ []),
+      reply.Collected,
+    ) ∷ quiet (reply.Named (Cell 1)) ∷ quiet (reply.Gray []) ∷ quiet (reply.Named (Cell 2))
+    ∷ []
 
 -- made and dropped while marking: the slice before begins the marking, this collection keeps the cell, and the next
 -- one frees it
 abbrev pub made_while_marking : Beginning → List Cmd
-made_while_marking how = Graph Zone ∷ Graph (Comp 0) ∷ Gc only_zone_0 ∷ Slice (units_to_start how) ∷ Graph (New 0 comp_0 0) ∷ Graph (Drop 0) ∷ Finish ∷ Collect only_zone_0 ∷ []
+made_while_marking how =
+    Graph Zone ∷ Graph (Comp 0) ∷ Gc only_zone_0 ∷ Slice (units_to_start how) ∷ Graph (New 0 comp_0 0)
+    ∷ Graph (Drop 0) ∷ Finish ∷ Collect only_zone_0 ∷ []
 
 abbrev pub answers_made_while_marking : Beginning → List (List Report × Reply)
-answers_made_while_marking how = quiet (reply.Zone 0) ∷ quiet (reply.Comp comp_0) ∷ quiet reply.GcBegun ∷ (started how, reply.Sliced (units_to_start how)) ∷ quiet (reply.Made 0) ∷ quiet reply.Accepted
+answers_made_while_marking how =
+    quiet (reply.Zone 0) ∷ quiet (reply.Comp comp_0) ∷ quiet reply.GcBegun
+    ∷ (started how, reply.Sliced (units_to_start how)) ∷ quiet (reply.Made 0) ∷ quiet reply.Accepted
     ∷ (Groups (only_zone_0 ∷ []) ∷ Ended only_zone_0 [] [] ∷ Swept 0 [] ∷ Done ∷ [], reply.Sliced 3)
-    ∷ (started how ++ (Groups (only_zone_0 ∷ []) ∷ Ended only_zone_0 [] [] ∷ Swept 0 (Cell 0 ∷ []) ∷ Done ∷ []), reply.Collected) ∷ []
+    ∷ (
+      started how ++ (Groups (only_zone_0 ∷ []) ∷ Ended only_zone_0 [] [] ∷ Swept 0 (Cell 0 ∷ []) ∷ Done
+          ∷ []),
+      reply.Collected,
+    ) ∷ []
 
 abbrev pub comp_1 : CompNo
 comp_1 = record { 0 = 1 }
@@ -90,35 +129,60 @@ zones_0_and_1 = record { bits = 3 }
 
 -- one way, gray: a gray cell of zone 0 holds a wrapper of a cell of zone 1, so zone 0 ends first
 abbrev pub one_way_gray : List Cmd
-one_way_gray = Graph Zone ∷ Graph Zone ∷ Graph (Comp 0) ∷ Graph (Comp 1) ∷ Graph (New 0 comp_0 1) ∷ Graph (New 1 comp_1 0) ∷ Graph (Wrap 2 1 comp_0) ∷ Graph (Set 0 0 (Some 2)) ∷ Graph (Hold 0 0) ∷ Graph (Drop 0) ∷ Graph (Drop 1) ∷ Graph (Drop 2) ∷ Collect zones_0_and_1 ∷ []
+one_way_gray =
+    Graph Zone ∷ Graph Zone ∷ Graph (Comp 0) ∷ Graph (Comp 1) ∷ Graph (New 0 comp_0 1) ∷ Graph (New 1 comp_1 0)
+    ∷ Graph (Wrap 2 1 comp_0) ∷ Graph (Set 0 0 (Some 2)) ∷ Graph (Hold 0 0) ∷ Graph (Drop 0) ∷ Graph (Drop 1)
+    ∷ Graph (Drop 2) ∷ Collect zones_0_and_1 ∷ []
 
 abbrev pub answers_one_way_gray : Beginning → List (List Report × Reply)
-answers_one_way_gray how = quiet (reply.Zone 0) ∷ quiet (reply.Zone 1) ∷ quiet (reply.Comp comp_0) ∷ quiet (reply.Comp comp_1) ∷ quiet (reply.Made 0) ∷ quiet (reply.Made 1) ∷ quiet (reply.Named (name.Wrap comp_0 1)) ∷ quiet reply.Accepted ∷ quiet reply.Accepted ∷ quiet reply.Accepted ∷ quiet reply.Accepted ∷ quiet reply.Accepted
-    ∷ (started how ++ (Groups (only_zone_0 ∷ only_zone_1 ∷ []) ∷ Ended only_zone_0 (Cell 0 ∷ name.Wrap comp_0 1 ∷ []) [] ∷ Swept 0 [] ∷ Ended only_zone_1 (Cell 1 ∷ []) [] ∷ Swept 1 [] ∷ Done ∷ []), reply.Collected) ∷ []
+answers_one_way_gray how =
+    quiet (reply.Zone 0) ∷ quiet (reply.Zone 1) ∷ quiet (reply.Comp comp_0) ∷ quiet (reply.Comp comp_1)
+    ∷ quiet (reply.Made 0) ∷ quiet (reply.Made 1) ∷ quiet (reply.Named (name.Wrap comp_0 1)) ∷ quiet reply.Accepted
+    ∷ quiet reply.Accepted ∷ quiet reply.Accepted ∷ quiet reply.Accepted ∷ quiet reply.Accepted
+    ∷ (
+      started how ++ (Groups (only_zone_0 ∷ only_zone_1 ∷ []) ∷ Ended only_zone_0 (Cell 0 ∷ name.Wrap comp_0 1
+          ∷ []) [] ∷ Swept 0 [] ∷ Ended only_zone_1 (Cell 1 ∷ []) [] ∷ Swept 1 [] ∷ Done ∷ []),
+      reply.Collected,
+    ) ∷ []
 
 -- made and dropped while its zone is prepared: the cell is white, and this collection frees it; colours are not told
 abbrev pub made_while_preparing : List Cmd
-made_while_preparing = Graph Zone ∷ Graph (Comp 0) ∷ Gc only_zone_0 ∷ Graph (New 0 comp_0 0) ∷ Graph (Drop 0) ∷ Colours ∷ Finish ∷ []
+made_while_preparing =
+    Graph Zone ∷ Graph (Comp 0) ∷ Gc only_zone_0 ∷ Graph (New 0 comp_0 0) ∷ Graph (Drop 0) ∷ Colours ∷ Finish ∷ []
 
 abbrev pub answers_while_preparing : List Name → List (List Report × Reply)
-answers_while_preparing freed = quiet (reply.Zone 0) ∷ quiet (reply.Comp comp_0) ∷ quiet reply.GcBegun ∷ quiet (reply.Made 0) ∷ quiet reply.Accepted ∷ quiet (reply.Refused refusal.Marking)
+answers_while_preparing freed =
+    quiet (reply.Zone 0) ∷ quiet (reply.Comp comp_0) ∷ quiet reply.GcBegun ∷ quiet (reply.Made 0)
+    ∷ quiet reply.Accepted ∷ quiet (reply.Refused refusal.Marking)
     ∷ (Started ∷ Groups (only_zone_0 ∷ []) ∷ Ended only_zone_0 [] [] ∷ Swept 0 freed ∷ Done ∷ [], reply.Sliced 4) ∷ []
 
 -- given up: the cell that a gray slot holds becomes black with all of its zone
 abbrev pub given_up : List Cmd
-given_up = Graph Zone ∷ Graph (Comp 0) ∷ Graph (New 0 comp_0 0) ∷ Graph (Hold 0 0) ∷ Graph (Drop 0) ∷ Gc only_zone_0 ∷ Reset ∷ Colours ∷ []
+given_up =
+    Graph Zone ∷ Graph (Comp 0) ∷ Graph (New 0 comp_0 0) ∷ Graph (Hold 0 0) ∷ Graph (Drop 0) ∷ Gc only_zone_0 ∷ Reset
+    ∷ Colours ∷ []
 
 abbrev pub answers_given_up : List Name → List (List Report × Reply)
-answers_given_up grays = quiet (reply.Zone 0) ∷ quiet (reply.Comp comp_0) ∷ quiet (reply.Made 0) ∷ quiet reply.Accepted ∷ quiet reply.Accepted ∷ quiet reply.GcBegun
+answers_given_up grays =
+    quiet (reply.Zone 0) ∷ quiet (reply.Comp comp_0) ∷ quiet (reply.Made 0) ∷ quiet reply.Accepted
+    ∷ quiet reply.Accepted ∷ quiet reply.GcBegun
     ∷ (Stopped only_zone_0 ∷ [], reply.ResetDone) ∷ quiet (reply.Gray grays) ∷ []
 
 -- named by a weak slot and watched: neither keeps cell 0; its death is told, and the slot loses it
 abbrev pub weakly_named : List Cmd
-weakly_named = Graph Zone ∷ Graph (Comp 0) ∷ Graph (New 0 comp_0 0) ∷ Weak (Weaken 0 0) ∷ Weak (Watch 0) ∷ Graph (Drop 0) ∷ Collect only_zone_0 ∷ Weak (Deref 1 0) ∷ []
+weakly_named =
+    Graph Zone ∷ Graph (Comp 0) ∷ Graph (New 0 comp_0 0) ∷ Weak (Weaken 0 0) ∷ Weak (Watch 0) ∷ Graph (Drop 0)
+    ∷ Collect only_zone_0 ∷ Weak (Deref 1 0) ∷ []
 
 abbrev pub answers_weakly_named : Beginning → Reply → List (List Report × Reply)
-answers_weakly_named how read = quiet (reply.Zone 0) ∷ quiet (reply.Comp comp_0) ∷ quiet (reply.Made 0) ∷ quiet reply.Accepted ∷ quiet reply.Accepted ∷ quiet reply.Accepted
-    ∷ (started how ++ (Groups (only_zone_0 ∷ []) ∷ Ended only_zone_0 [] (Cell 0 ∷ []) ∷ Swept 0 (Cell 0 ∷ []) ∷ Done ∷ []), reply.Collected) ∷ quiet read ∷ []
+answers_weakly_named how read =
+    quiet (reply.Zone 0) ∷ quiet (reply.Comp comp_0) ∷ quiet (reply.Made 0) ∷ quiet reply.Accepted
+    ∷ quiet reply.Accepted ∷ quiet reply.Accepted
+    ∷ (
+      started how ++ (Groups (only_zone_0 ∷ []) ∷ Ended only_zone_0 [] (Cell 0 ∷ []) ∷ Swept 0 (Cell 0 ∷ []) ∷ Done
+          ∷ []),
+      reply.Collected,
+    ) ∷ quiet read ∷ []
 
 -- a compaction then gives up the arena in which it lay
 abbrev pub compacted : List Cmd

@@ -40,19 +40,28 @@ abbrev pub take_in_register : GraphState → ℕ → Option Name → GraphState 
 take_in_register g r x = (with_register g r x, named_or_null x)
 
 abbrev pub make_zone : GraphState → GraphState × Reply
-make_zone g = if nat_lt g.zones ZONE_LIMIT then (record g { zones = g.zones + 1 }, reply.Zone g.zones) else refuse g refusal.Full
+make_zone g =
+    if nat_lt g.zones ZONE_LIMIT then (record g { zones = g.zones + 1 }, reply.Zone g.zones) else refuse g refusal.Full
 
 abbrev pub make_comp : GraphState → ℕ → GraphState × Reply
 make_comp g z =
     if nat_lt z g.zones
-    then (if nat_lt (length g.comps) COMP_LIMIT then (record g { comps = g.comps ++ z ∷ [] }, reply.Comp (record { 0 = length g.comps })) else refuse g refusal.Full)
+    then (if nat_lt (length g.comps) COMP_LIMIT
+    then (record g { comps = g.comps ++ z ∷ [] }, reply.Comp (record { 0 = length g.comps }))
+    else refuse g refusal.Full)
     else refuse g refusal.NoZone
 
 -- an object or a map with the next number; a register holds it
 abbrev pub make_object : GraphState → ℕ → Object → GraphState × Reply
 make_object g r o =
     if nat_lt o.comp.0 (length g.comps)
-    then (record g { objects = g.objects ++ Some o ∷ []; registers = slice_set g.registers r (Some (Cell (length g.objects))) }, reply.Made (length g.objects))
+    then (
+      record g {
+        objects = g.objects ++ Some o ∷ [];
+        registers = slice_set g.registers r (Some (Cell (length g.objects)));
+      },
+      reply.Made (length g.objects),
+    )
     else refuse g refusal.NoComp
 
 abbrev pub new_object : CompNo → ℕ → Object
@@ -99,7 +108,9 @@ set_in g n None f v = refuse g refusal.Kind
 set_in g n (Some o) f v =
     if o.is_map
     then refuse g refusal.Kind
-    else (if nat_lt f (length o.fields) then (if fits_comp g o.comp v then (with_field g n o f v, reply.Accepted) else refuse g refusal.Cross) else refuse g refusal.NoField)
+    else (if nat_lt f (length o.fields)
+    then (if fits_comp g o.comp v then (with_field g n o f v, reply.Accepted) else refuse g refusal.Cross)
+    else refuse g refusal.NoField)
 
 -- by what the register of the object holds, and by what is to be written, which is None where the register
 -- of the value is empty
@@ -132,11 +143,13 @@ take_wrapper g r c t =
 
 -- a target of the compartment itself needs no wrapper
 abbrev pub wrap_target : GraphState → ℕ → CompNo → ℕ → GraphState × Reply
-wrap_target g r c t = if is_in_comp g c (Cell t) then (with_register g r (Some (Cell t)), reply.Named (Cell t)) else take_wrapper g r c t
+wrap_target g r c t =
+    if is_in_comp g c (Cell t) then (with_register g r (Some (Cell t)), reply.Named (Cell t)) else take_wrapper g r c t
 
 abbrev pub wrap_from : GraphState → ℕ → Option Name → CompNo → GraphState × Reply
 wrap_from g r None c = refuse g refusal.Empty
-wrap_from g r (Some x) c = if nat_lt c.0 (length g.comps) then wrap_target g r c (target_of x) else refuse g refusal.NoComp
+wrap_from g r (Some x) c =
+    if nat_lt c.0 (length g.comps) then wrap_target g r c (target_of x) else refuse g refusal.NoComp
 
 abbrev pub unwrap_from : GraphState → ℕ → Option Name → GraphState × Reply
 unwrap_from g r None = refuse g refusal.Empty

@@ -7,24 +7,30 @@
 // ------------
 // A graph that never frees takes commands (specs/Graph, specs/Step). What is reached in it from
 // some starts is a closure: the least set that has the starts, with each name the ends of its
-// edges, and with a map and a key the value of their entry (specs/Closure).
+// edges, with a map and a key the value of their entry, and with a map and the target of a wrapper
+// that is a key the wrapper (specs/Closure).
 //
 // A world (specs/World) is that graph with what a collector makes of it: the places of the present
 // cells, the zone of each arena, the arenas that are out for sweeping, the white cells that wait
-// there, the black names, and the collection that runs. The collection keeps the graph as it was at
-// `gc` and two sets of starts. Its black closure is what it finds black, its live closure what it
-// finds black or gray; both grow with each name that is woken while it runs.
+// there, the black names, what weak slots name and whose death is watched, and the collection that
+// is prepared or runs. Once its marking has begun the collection keeps the graph as it was then and
+// two sets of starts. Its black closure is what it finds black, its live closure what it finds black
+// or gray; both grow with each name that is woken while it runs.
 //
-//     no collection --gc--> marking --groups--> in groups --last ended--> sweeping --+
-//          ^                                      |   ^                              |
-//          |                                      +---+ another ended                |
-//          +----------------------------------- done --------------------------------+
+//     no collection --gc--> preparing --started--> marking --groups--> in groups --last ended--> sweeping --+
+//          ^  ^                  |                    |                  |  |  ^                    |       |
+//          |  |                  |                    |                  |  +--+ another ended      |       |
+//          |  +---- reset -------+--------------------+------------------+--------------------------+       |
+//          +------------------------------------------ done ------------------------------------------------+
+//
+// For now `gc` goes on to marking at once, and writes no line for it (`beginning` in specs/Lawful).
 //
 // As a group ends (specs/Ends) exactly the black closure is black, the rest of the live closure
 // gray, and the remainder white: white names stop being present, and lie in their arenas until
 // these are taken in. Which reports are lawful, one unit after another, and so which answers to a
 // list of commands, is specs/Lawful. That a collection takes a bounded number of units is
-// specs/Units.
+// specs/Units. Weak slots and watches are specs/WeakRefs, dumps specs/Dumps, compaction
+// specs/Compaction; none of the three has a part in marking.
 //
 // Why a snapshot
 // --------------
@@ -44,7 +50,7 @@
 //
 // How the laws are proved
 // -----------------------
-// The commands are told apart once (proofs/Effects): each does one of ten kinds of change, and each
+// The commands are told apart once (proofs/Effects): each does one of a few kinds of change, and each
 // name that it writes comes from a register, from what a register leads to, or was woken. What such
 // a change keeps is in proofs/Follows; from there on no law looks at a command.
 #![tactic(auto)]
