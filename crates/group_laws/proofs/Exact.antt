@@ -6,7 +6,8 @@ use Rattle.std.proofs.lemmas.Option.{get_or_from_slice_get, slice_get-get_or}
 use Rattle.gz_names.specs.declared.names.Name.{Name}
 use Rattle.colour_defs.specs.Groups.{IsFirstEdge, IsLastEdge, EachLater, LeadsWithin, here, next, AreLawfulGroups}
 use Rattle.colour_defs.specs.World.{Has, World, Collection}
-use Rattle.colour_defs.proofs.Carried.{reached_more}
+use Rattle.colour_defs.specs.Laws.{IsMarking, IsValid}
+use Rattle.colour_defs.proofs.EdgesAgree.{edges_agree}
 use Rattle.group_laws.specs.Laws.{GroupsAreComponents}
 
 -- what holds of each group and each later one, by their places
@@ -22,22 +23,10 @@ widened : (IsEdge : ℕ → ℕ → Type 0) (g h : List ℕ) → ((z : ℕ) → 
 widened IsEdge g h more here = here
 widened IsEdge g h more (next p e c) = next (widened IsEdge g h more p) e (more _ c)
 
-module _ (w : World) (k : Collection) (groups : List (List ℕ)) (is : AreLawfulGroups w k groups) (none : (x : Name) → Has k.woken x → ⊥) where
-  -- a first edge is a last one, since the black closure is what it was
+module _ (w : World) (k : Collection) (groups : List (List ℕ)) (ok : IsValid w) (running : w.collection ≡ Some k) (some : IsMarking k) (is : AreLawfulGroups w k groups) (none : (x : Name) → Has k.woken x → ⊥) where
+  -- a first edge is a last one, since nothing was woken
   still : (a b : ℕ) → IsFirstEdge w k a b → IsLastEdge w k a b
-  still a b e = (
-    e.0,
-    e.1,
-    e.2,
-    e.3,
-    e.4,
-    record {
-      present = e.5.present;
-      of = e.5.of;
-      into = e.5.into;
-      outside = λ h. e.5.outside (reached_more k.snapshot _ _ (λ x s. elim s [ inl start ↦ start | inr woken ↦ absurd (none x woken) ]) h);
-    },
-  )
+  still a b e = (edges_agree w k ok running some none a b).0 e
 
   -- the place of a zone's group
   place : (z : ℕ) → Contains k.zones z → (i : ℕ) × (i < length groups) × Contains (get_or groups i []) z
@@ -62,12 +51,12 @@ module _ (w : World) (k : Collection) (groups : List (List ℕ)) (is : AreLawful
       ]
 
 pub groups_are_components : GroupsAreComponents
-groups_are_components w k groups is none a b ha hb = (
+groups_are_components w k groups ok running some is none a b ha hb = (
   λ h. (widened (IsFirstEdge w k) h.0 k.zones (λ z c. is.only h.0 z h.1 c) (is.strong h.0 h.1 a b h.2 h.3), widened (IsFirstEdge w k) h.0 k.zones (λ z c. is.only h.0 z h.1 c) (is.strong h.0 h.1 b a h.3 h.2)),
-  λ h. (let p = place w k groups is none a ha in
-      let q = place w k groups is none b hb in
-      let le : p.0 ≤ q.0 = not_later w k groups is none p.0 q.0 p.1 q.1 h.0 p.2 q.2 in
-      let ge : q.0 ≤ p.0 = not_later w k groups is none q.0 p.0 q.1 p.1 h.1 q.2 p.2 in
+  λ h. (let p = place w k groups ok running some is none a ha in
+      let q = place w k groups ok running some is none b hb in
+      let le : p.0 ≤ q.0 = not_later w k groups ok running some is none p.0 q.0 p.1 q.1 h.0 p.2 q.2 in
+      let ge : q.0 ≤ p.0 = not_later w k groups ok running some is none q.0 p.0 q.1 p.1 h.1 q.2 p.2 in
       let same : q.0 ≡ p.0 = omega arith in
       (get_or groups p.0 [], Contains-get_or groups p.0 [] p.1, p.2, subst (λ i. Contains (get_or groups i []) b) same q.2)),
 )

@@ -1,10 +1,11 @@
 -- What ties the components of noted edges to the groups that are lawful in a world.
-use Rattle.std.specs.Prelude.{◌≡◌, ◌↔◌, ℕ, List, map, Contains}
+use Rattle.std.specs.Prelude.{◌≡◌, ◌↔◌, ℕ, List, map, Some, Contains}
 use Rattle.gz_names.specs.Zones.{zones_in}
 use Rattle.gz_names.specs.declared.zone_sets.ZoneSet.{ZoneSet}
 use Rattle.gz_names.specs.declared.names.Name.{Name}
 use Rattle.colour_defs.specs.World.{Has, World, Collection}
 use Rattle.colour_defs.specs.Groups.{IsFirstEdge, IsLastEdge, LeadsWithin, AreLawfulGroups}
+use Rattle.colour_defs.specs.Laws.{IsMarking, IsValid}
 use Rattle.zone_edges.specs.Groups.{Edge, AreComponents}
 
 -- components are lawful groups, where what was noted lies between the last edges and the first ones
@@ -20,6 +21,9 @@ ComponentsAreLawful = (w : World) (k : Collection) (sources : List ZoneSet) (zon
 -- to the other: lawful groups are then the strongly connected components
 abbrev pub GroupsAreComponents : Type 0
 GroupsAreComponents = (w : World) (k : Collection) (groups : List (List ℕ))
+    → IsValid w
+    → w.collection ≡ Some k
+    → IsMarking k
     → AreLawfulGroups w k groups
     → ((x : Name) → Has k.woken x → ⊥)
     → (a b : ℕ) → Contains k.zones a → Contains k.zones b
