@@ -39,6 +39,23 @@ impl Step {
             handed: None,
         }
     }
+
+    // One unit was done, which reports something and hands nothing to sweeping.
+    fn swept(finished: bool) -> Self
+        ensures { result ≡ record {
+          units = 1;
+          reported = true;
+          finished = finished;
+          handed = None;
+        } }
+    {
+        Step {
+            units: 1,
+            reported: true,
+            finished,
+            handed: None,
+        }
+    }
 }
 
 impl Collector {
@@ -81,6 +98,9 @@ impl Collector {
                 handed: None,
             });
         }
+        if let Some(arena) = self.next_out() {
+            return Ok(Step::swept(self.take_due_into(flight, arena, report)));
+        }
         self.advance_one(alloc, flight, report, steps)
     }
 
@@ -121,7 +141,8 @@ impl Collector {
         })
     }
 
-    // Does one unit, whichever it is.
+    // Does one unit, whichever it is. An arena that is due is taken in at once by `advance`, so that its
+    // report is built where it stays.
     fn advance_one<F: Sweeping, L: Ledger>(
         &mut self,
         alloc: Global,
@@ -143,10 +164,7 @@ impl Collector {
     {
         let unit = self.unit(alloc, flight, steps)?;
         match unit.due {
-            Some(arena) => {
-                let unit = self.take_due(flight, arena);
-                Ok(tell(unit, report))
-            }
+            Some(arena) => Ok(Step::swept(self.take_due_into(flight, arena, report))),
             None => Ok(tell(unit, report)),
         }
     }
@@ -169,11 +187,44 @@ impl Collector {
         ensures made { self.new.heap.made ≡ self.old.heap.made }
         ensures weak { self.new.heap.shape.weak ≡ self.old.heap.shape.weak }
     {
+        let mut report = None;
+        let finished = self.take_due_into(flight, arena, &mut report);
+        Unit {
+            report,
+            handed: None,
+            finished,
+            due: None,
+        }
+    }
+
+    // The same, with what it reports put into a place: returns whether the collection is over.
+    fn take_due_into<F: Sweeping>(
+        &mut self,
+        flight: &mut F,
+        arena: u32,
+        report: &mut Option<Report>,
+    ) -> bool
+        requires sound { IsSound self.old (F.bits flight.old) }
+        requires running { IsSome self.old.run }
+        requires out { AreOut self.old.heap.shape (F.left (F.origin flight.old)) }
+        requires lowest { IsLowestOut self.old.heap.shape arena }
+        ensures done { DoesUnit self.old (F.bits flight.old) (reports_of report.new result)
+            self.new (F.bits flight.new) }
+        ensures told { IsSome report.new }
+        ensures left { units_left self.new (F.bits flight.new)
+            < units_left self.old (F.bits flight.old) }
+        ensures finished { (result ≡ true) ↔ (self.new.run ≡ None) }
+        ensures sound { IsSound self.new (F.bits flight.new) }
+        ensures out { AreOut self.new.heap.shape (F.left (F.origin flight.new)) }
+        ensures home { F.home (F.origin flight.new) ≡ F.home (F.origin flight.old) }
+        ensures made { self.new.heap.made ≡ self.old.heap.made }
+        ensures weak { self.new.heap.shape.weak ≡ self.old.heap.shape.weak }
+    {
         if flight.is_empty() {
             unreachable!();
         }
         let taken = flight.take_lowest();
-        self.take_one(taken, arena)
+        self.take_one_into(taken, arena, report)
     }
 }
 

@@ -48,6 +48,40 @@ impl Collector {
         ensures made { self.new.heap.made ≡ self.old.heap.made }
         ensures weak { self.new.heap.shape.weak ≡ self.old.heap.shape.weak }
     {
+        let mut report = None;
+        let finished = self.take_one_into(taken, arena, &mut report);
+        Unit {
+            report,
+            handed: None,
+            finished,
+            due: None,
+        }
+    }
+
+    // The same, with what it reports put into a place: returns whether the collection is over.
+    pub(crate) fn take_one_into(
+        &mut self,
+        taken: Taken,
+        arena: u32,
+        report: &mut Option<Report>,
+    ) -> bool
+        requires lowest { IsLowestOut self.old.heap.shape arena }
+        requires freed { IsFreedWord self.old.heap.shape arena taken.freed }
+        requires running { IsSome self.old.run }
+        ensures done { (flown : ℕ → Option ABits) → flown arena ≡ Some taken.bits
+            → DoesUnit self.old flown (reports_of report.new result) self.new
+            (without_arena flown arena) }
+        ensures told { IsSome report.new }
+        ensures sound { (flown : ℕ → Option ABits) → IsSound self.old flown
+            → flown arena ≡ Some taken.bits → IsSound self.new (without_arena flown arena) }
+        ensures words { KeepsFreedWords self.old.heap.shape self.new.heap.shape }
+        ensures left { (flown : ℕ → Option ABits) → IsSound self.old flown
+            → flown arena ≡ Some taken.bits
+            → units_left self.new (without_arena flown arena) < units_left self.old flown }
+        ensures finished { (result ≡ true) ↔ (self.new.run ≡ None) }
+        ensures made { self.new.heap.made ≡ self.old.heap.made }
+        ensures weak { self.new.heap.shape.weak ≡ self.old.heap.shape.weak }
+    {
         let kept = self.heap.bits_at_hand_out(arena);
         prove!(taken.freed == kept.white_mask(self.heap.alloc_word(arena)));
         let mut names = self.heap.take_in(arena, taken.freed, taken.bits);
@@ -56,10 +90,8 @@ impl Collector {
         if finished {
             self.run = None;
         }
-        Unit {
-            finished,
-            ..Unit::of(Report::Swept(arena, names))
-        }
+        *report = Some(Report::Swept(arena, names));
+        finished
     }
 
     /// The lowest arena that is handed to sweeping.
@@ -106,9 +138,10 @@ impl Collector {
             self.run = None;
         }
         Ok(Unit {
+            report: Some(Report::Ended(group, grays)),
             handed,
             finished,
-            ..Unit::of(Report::Ended(group, grays))
+            due: None,
         })
     }
 }

@@ -206,6 +206,18 @@ due_advances c d f g outs unit before place step step_is place_is none does less
     (subst (λ (h : Option (List Job)). AscendHanded h) (sym none) tt) made
     (let e = ap (λ ws. length ws.entries) weak in omega (arith, e))
 
+-- the same, where its report was put into its place
+pub due_into : (c d : CollectorState) (f g : ℕ → Option Bits) (outs : List (ℕ × ℕ)) (before place : Option Report)
+    (finished : Bool) (step : Step) → step ≡ record { units = 1; reported = true; finished = finished; handed = None }
+    → IsSome place → DoesUnit c f (reports_of place finished) d g → units_left d g < units_left c f
+    → (finished ≡ true) ↔ (d.run ≡ None) → IsSound d g → AreOut d.heap.shape outs → d.heap.made ≡ c.heap.made
+    → d.heap.shape.weak ≡ c.heap.shape.weak
+    → Advances 1 c f before step d (flying_after step.handed g) (outs_after step.handed outs) place
+due_into c d f g outs before place finished step step_is told does less over sound out made weak =
+    due_advances c d f g outs (record { report = place; handed = None; finished = finished; due = None }) before place step
+    (step_is ∙ ap (λ (b : Bool). record { units = 1; reported = b; finished = finished; handed = None }) (sym told))
+    (sym (ap (λ (b : Bool). if b then place else before) told)) refl does less over sound out made weak
+
 pub ok_still : {E : Type 0} (r : Result Step E) (limit : ℕ) (c d e : CollectorState) (f g h : ℕ → Option Bits)
     (outs : List (ℕ × ℕ)) (before place : Option Report) → 0 < limit → IsStill c f d g
     → IfOk r (λ step. Advances 1 d g before step e (flying_after step.handed h) (outs_after step.handed outs) place)

@@ -1,5 +1,6 @@
 use Rattle.std.proofs.Common.{◌≡◌, ◌<◌, arith, ap}
-use Rattle.slice_driver.proofs.taking_in.UnitSteps.{ok_still, quiet_advances}
+use Rattle.sweeping.specs.ArenasOut.{flying_after, outs_after}
+use Rattle.slice_driver.proofs.taking_in.UnitSteps.{due_into, ok_still, quiet_advances, still_advances}
 use Rattle.slice_driver.proofs.collector.Collector.advance.Goals as goal
 
 pub returns-then-quiet-gt0-clause-done : goal.returns-then-quiet-gt0-clause-done
@@ -12,6 +13,22 @@ returns-then-quiet-gt0-clause-done g c =
     (g.F.Sweeping.left (g.F.Flight.origin c.quiet_units-quiet.new.flight)) c.args.report.now
     c.quiet_units-quiet.ensures.done some c.quiet_units-quiet.ensures.most c.quiet_units-quiet.ensures.sound
     (ap g.F.Sweeping.left c.quiet_units-quiet.ensures.origin) c.requires.out
+
+pub returns-in-Some-clause-done : goal.returns-in-Some-clause-done
+returns-in-Some-clause-done g c =
+    let none = c.if-quiet-gt0.false in
+    let zero : c.quiet_units-quiet.result ≡ 0 = omega (arith, none) in
+    let took = c.take_due_into.ensures in
+    still_advances c.args.limit c.args.self.now c.quiet_units-quiet.new.self c.take_due_into.new.self
+    (g.F.Flight.bits c.args.flight.now) (g.F.Flight.bits c.quiet_units-quiet.new.flight)
+    (flying_after c.swept.result.handed (g.F.Flight.bits c.take_due_into.new.flight))
+    (outs_after c.swept.result.handed (g.F.Sweeping.left (g.F.Flight.origin c.take_due_into.new.flight)))
+    c.args.report.now c.take_due_into.new.report c.swept.result c.requires.some
+    (c.quiet_units-quiet.ensures.done.none zero)
+    (due_into c.quiet_units-quiet.new.self c.take_due_into.new.self (g.F.Flight.bits c.quiet_units-quiet.new.flight)
+    (g.F.Flight.bits c.take_due_into.new.flight) (g.F.Sweeping.left (g.F.Flight.origin c.take_due_into.new.flight))
+    c.args.report.now c.take_due_into.new.report c.take_due_into.result c.swept.result c.swept.ensures took.told
+    took.done took.left took.finished took.sound took.out took.made took.weak)
 
 pub returns-clause-done : goal.returns-clause-done
 returns-clause-done g c =

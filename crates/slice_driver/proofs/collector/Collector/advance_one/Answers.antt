@@ -2,30 +2,30 @@ use Rattle.std.proofs.Common.{arith, ap, is_some}
 use Rattle.sweeping.specs.ArenasOut.{flying_after, outs_after}
 use Rattle.slice_driver.specs.Left.{units_left}
 use Rattle.slice_driver.proofs.taking_in.TakingDue.{ascend_handed, out_handed}
-use Rattle.slice_driver.proofs.taking_in.UnitSteps.{due_advances, one_advances, still_advances, unit_does, unit_lowers}
+use Rattle.slice_driver.proofs.taking_in.UnitSteps.{due_into, one_advances, still_advances, unit_does, unit_lowers}
 use Rattle.slice_driver.proofs.collector.Collector.advance_one.Goals as goal
 
 pub returns-in-Some-clause-done : goal.returns-in-Some-clause-done
 returns-in-Some-clause-done g c =
     let still = c.in_ok-unit.ensures.due_still (ap is_some c.in-Some.is) in
-    let took = c.take_due-unit.ensures in
-    still_advances 1 c.args.self.now c.unit.new.self c.take_due-unit.new.self (g.F.Flight.bits c.args.flight.now)
-    (g.F.Flight.bits c.unit.new.flight) (flying_after c.tell.result.handed (g.F.Flight.bits c.take_due-unit.new.flight))
-    (outs_after c.tell.result.handed (g.F.Sweeping.left (g.F.Flight.origin c.take_due-unit.new.flight)))
-    c.args.report.now c.tell.new.report c.tell.result
+    let took = c.take_due_into.ensures in
+    still_advances 1 c.args.self.now c.unit.new.self c.take_due_into.new.self (g.F.Flight.bits c.args.flight.now)
+    (g.F.Flight.bits c.unit.new.flight) (flying_after c.swept.result.handed (g.F.Flight.bits c.take_due_into.new.flight))
+    (outs_after c.swept.result.handed (g.F.Sweeping.left (g.F.Flight.origin c.take_due_into.new.flight)))
+    c.args.report.now c.take_due_into.new.report c.swept.result
     (omega arith) still
-    (due_advances c.unit.new.self c.take_due-unit.new.self (g.F.Flight.bits c.unit.new.flight)
-    (g.F.Flight.bits c.take_due-unit.new.flight) (g.F.Sweeping.left (g.F.Flight.origin c.take_due-unit.new.flight))
-    c.take_due-unit.result c.args.report.now c.tell.new.report c.tell.result c.tell.ensures.step c.tell.ensures.told
-    took.none_handed took.done took.left took.finished took.sound took.out took.made took.weak)
+    (due_into c.unit.new.self c.take_due_into.new.self (g.F.Flight.bits c.unit.new.flight)
+    (g.F.Flight.bits c.take_due_into.new.flight) (g.F.Sweeping.left (g.F.Flight.origin c.take_due_into.new.flight))
+    c.args.report.now c.take_due_into.new.report c.take_due_into.result c.swept.result c.swept.ensures took.told
+    took.done took.left took.finished took.sound took.out took.made took.weak)
 
 pub returns-in-None-clause-done : goal.returns-in-None-clause-done
 returns-in-None-clause-done g c =
     let unit = c.in_ok-unit.unit in
     let did = c.in_ok-unit.ensures in
     one_advances c.args.self.now c.unit.new.self (g.F.Flight.bits c.args.flight.now) (g.F.Flight.bits c.unit.new.flight)
-    (g.F.Sweeping.left (g.F.Flight.origin c.unit.new.flight)) unit c.args.report.now c.tell-in-None.new.report
-    c.tell-in-None.result c.tell-in-None.ensures.step c.tell-in-None.ensures.told
+    (g.F.Sweeping.left (g.F.Flight.origin c.unit.new.flight)) unit c.args.report.now c.tell.new.report
+    c.tell.result c.tell.ensures.step c.tell.ensures.told
     (unit_does c.args.self.now c.unit.new.self (g.F.Flight.bits c.args.flight.now) (g.F.Flight.bits c.unit.new.flight)
     unit did.done c.in-None.is)
     (unit_lowers unit (units_left c.args.self.now (g.F.Flight.bits c.args.flight.now))

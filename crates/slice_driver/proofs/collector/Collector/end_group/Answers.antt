@@ -15,9 +15,8 @@ use Rattle.slice_driver.specs.Advancing.{EndsSweeping}
 use Rattle.slice_driver.specs.Collector.{CollectorState, HasMore, run_of}
 use Rattle.slice_driver.specs.GroupEnd.{IsGrayHere}
 use Rattle.slice_driver.specs.HandingOut.{HandsOut}
-use Rattle.slice_driver.specs.Units.{AreJobs, DoesUnit, EndsColoured, HandsJobs, IsSound, is_group_end, flying_after, jobs_at, reports_of}
+use Rattle.slice_driver.specs.Units.{AreJobs, DoesUnit, EndsColoured, HandsJobs, IsSound, flying_after, jobs_at, reports_of}
 use Rattle.slice_driver.specs.declared.collector.Run.{Run}
-use Rattle.slice_driver.specs.declared.collector.Unit.{Unit}
 use Rattle.slice_driver.specs.Left.{units_left}
 use Rattle.slice_driver.proofs.measure.FewerEnded.{ending_lowers}
 use Rattle.slice_driver.proofs.group_end.EndReady.{IsReadyHere, ends_coloured, gray_present, ready_here, sized_here}
@@ -66,15 +65,13 @@ returns-clause-done c = λ flown.
     let ends : EndsSweeping m here.rest over k = subst (λ (gs : List ZoneSet). EndsSweeping m gs over k) behind c.end_sweeping-finished.ensures in
     let listed : Lists (IsGrayHere v.heap group) grays = grays_here v.heap group here.ready.small grays sound.represents.lies.whole sound.represents.lies.shown.apart (gray_present v c.requires.sound.0 here.ready.kept sound) c.in_ok-grays.ensures.moved c.in_ok-grays.ensures.sorted in
     let unit = ends_group v group here.rest here.ready jobs m c.in_ok-handed.ensures.ok grays listed k flown over ends in
-    let report_is : c.of.result.report ≡ Some (report.Ended group grays) = ap (λ (u : Unit). u.report) c.of.ensures in
     let moved : record v { heap = k; groups = here.rest; run = if over then None else v.run } ≡ record v { heap = k; groups = c.advance.new.self; run = if over then None else v.run } = ap (λ (gs : List ZoneSet). record v { heap = k; groups = gs; run = if over then None else v.run }) (sym behind) in
     let self_is : record v { heap = k; groups = c.advance.new.self; run = if over then None else v.run } ≡ c.if-finished.self = elim c.if-finished.branch [
       | then-finished w ↦ ap (λ (b : Bool). record v { heap = k; groups = c.advance.new.self; run = if b then None else v.run }) w.if-finished.true ∙ sym w.self-is
       | else-finished w ↦ ap (λ (b : Bool). record v { heap = k; groups = c.advance.new.self; run = if b then None else v.run }) w.if-finished.false ∙ sym w.self-is
     ] in
-    subst (λ (x : CollectorState). DoesUnit x flown (reports_of c.of.result.report over) c.if-finished.self (flying_after jobs flown)) is
-    (subst (λ (r : Option Report). DoesUnit v flown (reports_of r over) c.if-finished.self (flying_after jobs flown)) (sym report_is)
-    (subst (λ (x : CollectorState). DoesUnit v flown (reports_of (Some (report.Ended group grays)) over) x (flying_after jobs flown)) (moved ∙ self_is) unit))
+    subst (λ (x : CollectorState). DoesUnit x flown (reports_of (Some (report.Ended group grays)) over) c.if-finished.self (flying_after jobs flown)) is
+    (subst (λ (x : CollectorState). DoesUnit v flown (reports_of (Some (report.Ended group grays)) over) x (flying_after jobs flown)) (moved ∙ self_is) unit)
 
 pub returns-clause-jobs : goal.returns-clause-jobs
 returns-clause-jobs c =
@@ -117,13 +114,10 @@ returns-clause-left c = λ flown sound_then.
 
 pub returns-clause-handed : goal.returns-clause-handed
 returns-clause-handed c =
-    let report_is : c.of.result.report ≡ Some (report.Ended c.in-Some.group c.in_ok-grays.grays) = ap
-    (λ (u : Unit). u.report) c.of.ensures in
     let out : HandsOut c.self.inside.heap c.in-Some.group c.in_ok-handed.handed c.hand_out_group.new.heap = c.in_ok-handed.ensures.ok in
     let here : HeapState → Option Report → Type 0 = λ h r. AreJobs c.in_ok-handed.handed (jobs_at r h) in
-    subst (here c.args.self.now.heap) (sym report_is)
-    (subst (λ (x : CollectorState). here x.heap
-    (Some (report.Ended c.in-Some.group c.in_ok-grays.grays))) c.self.view_is out.jobs_are)
+    subst (λ (x : CollectorState). here x.heap
+    (Some (report.Ended c.in-Some.group c.in_ok-grays.grays))) c.self.view_is out.jobs_are
 
 pub returns-clause-coloured : goal.returns-clause-coloured
 returns-clause-coloured c = λ flown.
@@ -147,15 +141,9 @@ returns-clause-coloured c = λ flown.
       | then-finished w ↦ ap (λ (x : CollectorState). x.heap) w.self-is
       | else-finished w ↦ ap (λ (x : CollectorState). x.heap) w.self-is
     ] in
-    let report_is : c.of.result.report ≡ Some (report.Ended group c.in_ok-grays.grays) = ap
-    (λ (u : Unit). u.report) c.of.ensures in
     let ended : EndsColoured (Some
     (report.Ended group c.in_ok-grays.grays)) v flown h.colours = ends_coloured v flown group here.rest here.ready in
-    subst (λ (r : Option Report). EndsColoured r c.args.self.now flown c.if-finished.self.heap.colours) (sym report_is)
-    (subst (λ (bs : List Bits). EndsColoured (Some (report.Ended group c.in_ok-grays.grays)) c.args.self.now flown bs)
+    subst (λ (bs : List Bits). EndsColoured (Some (report.Ended group c.in_ok-grays.grays)) c.args.self.now flown bs)
     (sym (ap (λ (x : HeapState). x.colours) same ∙ colours))
     (subst (λ (x : CollectorState). EndsColoured
-    (Some (report.Ended group c.in_ok-grays.grays)) x flown h.colours) c.self.view_is ended))
-
-pub returns-clause-ended : goal.returns-clause-ended
-returns-clause-ended c = ap (λ (u : Unit). is_group_end u.report) c.of.ensures
+    (Some (report.Ended group c.in_ok-grays.grays)) x flown h.colours) c.self.view_is ended)

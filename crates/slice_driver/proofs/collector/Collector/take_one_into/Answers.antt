@@ -1,7 +1,6 @@
 use Rattle.std.proofs.Common.{◌≡◌, ◌<◌, Bool, Option, None, Some, false, List, IsSome, IsSomeAnd, IsPermutation, if◌then◌else◌, sym, ap, subst, ◌∙◌, arith, slice_get}
 use Rattle.std.proofs.lemmas.Nat.{or_lt}
 use Rattle.gz_names.specs.declared.names.Name.{Name}
-use Rattle.gz_names.specs.declared.replies.Report.{Report}
 use Rattle.gz_names.specs.declared.replies.Report.TheVariants as report
 use Rattle.cell_bits.specs.declared.bits.Bits.{Bits as ABits}
 use Rattle.arena_table.specs.Slots.{at_bits, names_of}
@@ -11,7 +10,6 @@ use Rattle.heap_core.specs.Sweeping.{with_taken}
 use Rattle.slice_driver.specs.Advancing.{EndsSweeping}
 use Rattle.slice_driver.specs.Collector.{CollectorState, HasMore, run_of}
 use Rattle.slice_driver.specs.Sweeping.{AreFreed, FitsWords}
-use Rattle.slice_driver.specs.declared.collector.Unit.{Unit}
 use Rattle.slice_driver.specs.declared.collector.Run.{Run}
 use Rattle.slice_driver.specs.Units.{DoesUnit, IsFreedWord, IsLowestOut, IsSound, KeepsFreedWords, reports_of, without_arena}
 use Rattle.slice_driver.proofs.abstraction.Named.{some_one}
@@ -20,8 +18,8 @@ use Rattle.slice_driver.proofs.taking_in.TakingIn.{takes_unit}
 use Rattle.slice_driver.specs.Left.{units_left}
 use Rattle.slice_driver.proofs.measure.FewerTaken.{taking_lowers}
 use Rattle.slice_driver.proofs.taking_in.Kept.{more_left, words_both, words_rest, words_taken}
-use Rattle.slice_driver.proofs.collector.Collector.take_one.Goals as goal
-use Rattle.slice_driver.proofs.collector.Collector.take_one.Goals.{then-finished, else-finished}
+use Rattle.slice_driver.proofs.collector.Collector.take_one_into.Goals as goal
+use Rattle.slice_driver.proofs.collector.Collector.take_one_into.Goals.{then-finished, else-finished}
 
 pub invariant_of-self-else-finished : goal.invariant_of-self-else-finished
 invariant_of-self-else-finished c =
@@ -58,14 +56,12 @@ returns-clause-done c = λ flown at.
     (subst (λ (x : CollectorState). IsFreedWord x.heap.shape a freed) (sym is) c.requires.freed)
     (subst (λ (x : CollectorState). IsSome x.run) (sym is) c.requires.running)
     fits listed k over ends in
-    let report_is : c.of.result.report ≡ Some (report.Swept a names) = ap (λ (u : Unit). u.report) c.of.ensures in
     let self_is : record v { heap = k; run = if over then None else v.run } ≡ c.if-finished.self = elim c.if-finished.branch [
       | then-finished w ↦ ap (λ (b : Bool). record v { heap = k; run = if b then None else v.run }) w.if-finished.true ∙ sym w.self-is
       | else-finished w ↦ ap (λ (b : Bool). record v { heap = k; run = if b then None else v.run }) w.if-finished.false ∙ sym w.self-is
     ] in
-    subst (λ (x : CollectorState). DoesUnit x flown (reports_of c.of.result.report over) c.if-finished.self (without_arena flown a)) is
-    (subst (λ (r : Option Report). DoesUnit v flown (reports_of r over) c.if-finished.self (without_arena flown a)) (sym report_is)
-    (subst (λ (x : CollectorState). DoesUnit v flown (reports_of (Some (report.Swept a names)) over) x (without_arena flown a)) self_is unit))
+    subst (λ (x : CollectorState). DoesUnit x flown (reports_of (Some (report.Swept a names)) over) c.if-finished.self (without_arena flown a)) is
+    (subst (λ (x : CollectorState). DoesUnit v flown (reports_of (Some (report.Swept a names)) over) x (without_arena flown a)) self_is unit)
   where
     at_arena : (o : Option ArenaShape) (arena : ArenaShape) → o ≡ Some arena → IsSomeAnd o (λ z. c.take_in-names.result ≡ names_of (at_bits c.args.taken.freed z.slots)) → c.take_in-names.result ≡ names_of (at_bits c.args.taken.freed arena.slots)
     at_arena None arena e n = absurd n
