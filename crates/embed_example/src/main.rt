@@ -14,13 +14,13 @@ use sweeping::MainSweeper;
 fn print_report(rt: &HostRuntime, report: &Option<Report>) -> Option<()> {
     match report {
         Some(Report::Groups(groups)) => println!(rt; "groups: {}", groups.len()).ok(),
-        Some(Report::Ended(_, grays)) => {
+        Some(Report::Ended(_, grays, _)) => {
             println!(rt; "a group ends: {} gray", grays.as_slice().len()).ok()
         }
         Some(Report::Swept(arena, names)) => {
             println!(rt; "arena {arena}: {} freed", names.as_slice().len()).ok()
         }
-        Some(Report::Done) | None => Some(()),
+        Some(Report::Started | Report::Done | Report::Stopped(_)) | None => Some(()),
     }
 }
 

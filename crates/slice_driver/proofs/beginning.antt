@@ -6,4 +6,5 @@ pub mod BegunSteps
 pub mod ClearedBits
 pub mod FewWrappers
 pub mod GatheredRoots
+pub mod HasBegun
 pub mod MarkedRoots

@@ -40,7 +40,7 @@ pub record ComesTo (s t : Shape) (zone : ℕ) (p : Place) (x : Name) : Type 0 wh
   pub free : IsPresent s p → ⊥
   pub names : (q : Place) → name_at t q ≡ (if is_place q p then Some x else name_at s q)
   pub zone_is : zone_of t p ≡ zone
-  pub owners : owners_of t.arenas ≡ (if p.0 == length s.arenas then owners_of s.arenas ++ zone ∷ [] else owners_of s.arenas)
+  pub owners : owners_of t.arenas ≡ (if p.0 == length s.arenas then owners_of s.arenas ++ Some zone ∷ [] else owners_of s.arenas)
   pub outs : outs_from 0 t.arenas ≡ outs_from 0 s.arenas
   pub unswept : (q : Place) (y : Name) → IsUnswept t q y ↔ IsUnswept s q y
   pub whole : AreWhole t.arenas

@@ -12,7 +12,7 @@ use Rattle.cell_bits.specs.declared.bits.Bits.{Bits}
 use Rattle.cell_bits.specs.declared.jobs.Job.{Job}
 use Rattle.colour_defs.specs.Ends.{zones_without}
 use Rattle.colour_defs.specs.World.{World, Collection, CommandInWorld}
-use Rattle.colour_defs.specs.Lawful.{Begins, IsLawfulUnit}
+use Rattle.colour_defs.specs.Lawful.{BeginsAtOnce, IsLawfulUnit}
 use Rattle.colour_defs.specs.Laws.{IsValid}
 use Rattle.cell_bits.specs.Colours.{white_mask_of}
 use Rattle.arena_table.specs.Slots.{alloc_word_of}
@@ -53,10 +53,11 @@ AnswersIn w cmd (Err fault.NoMemory) c flown = Represents c flown w
 abbrev pub DoesCommand : CollectorState → (ℕ → Option Bits) → GraphCmd → Result Reply CmdFault → CollectorState → (ℕ → Option Bits) → Type 0
 DoesCommand old flown cmd result new flying = (w : World) → IsValid w → Represents old flown w → AnswersIn w cmd result new flying
 
--- a collection of these zones began in each world that the collector stood for, which is valid after it
+-- a collection of these zones was prepared and began its marking at once, in each world that the collector stood for,
+-- which is valid after it
 abbrev pub BeginsIn : CollectorState → ℕ → CollectorState → Type 0
 BeginsIn old zones new = (flown : ℕ → Option Bits) (w : World) → IsValid w → Represents old flown w → (v : World)
-    × Begins w (zones_in (record { bits = zones })) v × IsValid v × Represents new flown v
+    × BeginsAtOnce w (zones_in (record { bits = zones })) v × IsValid v × Represents new flown v
 
 -- the reports of a unit
 abbrev pub with_done : Bool → List Report
@@ -114,17 +115,21 @@ HandsJobs (Some jobs) s t = AreJobsOf t jobs
 abbrev pub is_group_end : Option Report → Bool
 is_group_end None = false
 is_group_end (Some (report.Groups groups)) = false
-is_group_end (Some (report.Ended zones grays)) = true
+is_group_end (Some (report.Ended zones grays told)) = true
 is_group_end (Some (report.Swept arena names)) = false
+is_group_end (Some report.Started) = false
 is_group_end (Some report.Done) = false
+is_group_end (Some (report.Stopped zones)) = false
 
 -- the jobs that a unit hands to sweeping, by its report: the arenas of the zones that end, with their bits
 abbrev pub jobs_at : Option Report → HeapState → List Job
 jobs_at None h = []
 jobs_at (Some (report.Groups groups)) h = []
-jobs_at (Some (report.Ended zones grays)) h = jobs_of zones.bits 0 h.shape.arenas h.colours
+jobs_at (Some (report.Ended zones grays told)) h = jobs_of zones.bits 0 h.shape.arenas h.colours
 jobs_at (Some (report.Swept arena names)) h = []
+jobs_at (Some report.Started) h = []
 jobs_at (Some report.Done) h = []
+jobs_at (Some (report.Stopped zones)) h = []
 
 -- exactly these jobs, or none where there are none
 abbrev pub AreJobs : Option (List Job) → List Job → Type 0
@@ -135,8 +140,10 @@ AreJobs (Some handed) jobs = (handed ≡ jobs) × (jobs ≢ [])
 abbrev pub EndsColoured : Option Report → CollectorState → (ℕ → Option Bits) → List Bits → Type 0
 EndsColoured None c flown colours = ⊤
 EndsColoured (Some (report.Groups groups)) c flown colours = ⊤
-EndsColoured (Some (report.Ended zones grays)) c flown colours = (w : World) (k : Collection) → IsValid w
+EndsColoured (Some (report.Ended zones grays told)) c flown colours = (w : World) (k : Collection) → IsValid w
     → Represents c flown w → w.collection ≡ Some k → AreColoured (record c.heap { colours = colours }) w.graph k
     (zones_without k.marking (zones_in zones))
 EndsColoured (Some (report.Swept arena names)) c flown colours = ⊤
+EndsColoured (Some report.Started) c flown colours = ⊤
 EndsColoured (Some report.Done) c flown colours = ⊤
+EndsColoured (Some (report.Stopped zones)) c flown colours = ⊤

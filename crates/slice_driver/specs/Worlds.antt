@@ -1,5 +1,5 @@
 -- Where the cells of a heap lie in a world.
-use Rattle.std.specs.Prelude.{◌≡◌, ◌↔◌, ◌⊎◌, ℕ, suc, true, is_some, if◌then◌else◌, List, [], ◌∷◌, map, Option, Some, Contains}
+use Rattle.std.specs.Prelude.{◌≡◌, ◌↔◌, ◌⊎◌, ℕ, suc, true, is_some, if◌then◌else◌, List, [], ◌∷◌, map, Option, Some, None, Contains}
 use Rattle.std.specs.FinMap as places
 use Rattle.gz_names.specs.declared.names.Name.{Name}
 use Rattle.gz_names.specs.declared.numbers.Place.{Place}
@@ -8,15 +8,15 @@ use Rattle.cell_bits.specs.declared.bits.Colour.TheVariants as colour
 use Rattle.cell_bits.specs.Colours.{colour_of}
 use Rattle.arena_table.specs.Cells.{CellState}
 use Rattle.colour_defs.specs.Graph.{GraphState}
-use Rattle.colour_defs.specs.World.{World}
+use Rattle.colour_defs.specs.World.{World, no_weak_names}
 use Rattle.colour_defs.specs.Present as present
 use Rattle.heap_core.specs.Shape.{ArenaShape, AreWhole, Shape, is_white, name_at, out_of, stored_at}
 use Rattle.heap_core.specs.Heap.{HeapState}
 use Rattle.heap_core.specs.Shows.{Shows}
 
 -- the zone of each arena
-abbrev pub owners_of : List ArenaShape → List ℕ
-owners_of arenas = map (λ (arena : ArenaShape). arena.zone) arenas
+abbrev pub owners_of : List ArenaShape → List (Option ℕ)
+owners_of arenas = map (λ (arena : ArenaShape). Some arena.zone) arenas
 
 -- the numbers of the arenas that are handed to sweeping, where the first of the list has the number n
 abbrev pub outs_from : ℕ → List ArenaShape → List ℕ
@@ -51,5 +51,7 @@ pub record LiesIn (h : HeapState) (w : World) : Type 0 where
   pub part : present.Shows w graph
   pub places_are : (x : Name) (p : Place) → (places.get w.places x ≡ Some p) ↔ (name_at h.shape p ≡ Some x)
   pub owner_is : w.owner ≡ owners_of h.shape.arenas
+  pub weak_is : w.weak ≡ no_weak_names
+  pub calm : w.preparing ≡ None
   pub out_is : w.out ≡ outs_from 0 h.shape.arenas
   pub white_are : (x : Name) (p : Place) → Contains {X = Name × (ℕ × ℕ)} w.white (x, p) ↔ IsUnswept h.shape p x

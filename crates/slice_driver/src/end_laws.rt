@@ -48,7 +48,7 @@ pub fn end_law()
         (g : AZoneSet) (rest : List AZoneSet) (grays : List AName)
         → IsValid w → Represents c flown w → IsReady c g rest → EndsIn c g rest d
         → AreJustFlown d.heap.shape flying → Lists (IsGrayHere c.heap g) grays
-        → (v : World) × EndsGroup w (zones_in g) grays v × IsValid v × Represents d flying v }
+        → (v : World) × EndsGroup w (zones_in g) grays [] v × IsValid v × Represents d flying v }
 {}
 
 /// A group ends step by step: its arenas are handed out, what is dead is dropped, its zones go on.
@@ -92,7 +92,7 @@ pub fn end_unit_law()
         (g : AZoneSet) (rest : List AZoneSet) (grays : List AName)
         → IsReady c g rest → EndsIn c g rest d → AreJustFlown d.heap.shape flying
         → Lists (IsGrayHere c.heap g) grays → (IsAllDone d → ⊥)
-        → DoesUnit c flown (report.Ended g grays ∷ []) d flying }
+        → DoesUnit c flown (report.Ended g grays [] ∷ []) d flying }
 {}
 
 /// The unit that ends the last group, none of whose zones has an arena.
@@ -101,7 +101,7 @@ pub fn end_last_unit_law()
         (g : AZoneSet) (rest : List AZoneSet) (grays : List AName)
         → IsReady c g rest → EndsIn c g rest d → AreJustFlown d.heap.shape flying
         → Lists (IsGrayHere c.heap g) grays → IsAllDone d → FinishesIn d f
-        → DoesUnit c flown (report.Ended g grays ∷ report.Done ∷ []) f flying }
+        → DoesUnit c flown (report.Ended g grays [] ∷ report.Done ∷ []) f flying }
 {}
 
 /// The unit that takes an arena in, where more is left to do.
@@ -145,7 +145,7 @@ pub fn look_law()
 pub fn form_law()
     ensures { (c d : CollectorState) (flown : ℕ → Option ABits) (w : World)
         (groups : List AZoneSet)
-        → Represents c flown w → FormsIn c groups d
+        → IsValid w → Represents c flown w → FormsIn c groups d
         → (v : World) × FormsGroups w (map zones_in groups) v × Represents d flown v }
 {}
 

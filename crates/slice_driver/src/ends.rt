@@ -104,7 +104,7 @@ impl Collector {
 
     // Ends the current group, which is ready: its gray names are reported, its arenas are handed to
     // sweeping, what names a cell that is not present any more is dropped, and its zones go on. All
-    // memory is taken before anything changes.
+    // memory is taken before anything changes. No cell is watched, so the report tells of none.
     pub(crate) fn end_group(&mut self, alloc: Global) -> Result<Unit, NoMemory>
         requires ready { (g : AZoneSet) × (rest : List AZoneSet) × IsReady self.old g rest }
         requires sound { (flown : ℕ → Option ABits) × IsSound self.old flown }
@@ -138,7 +138,7 @@ impl Collector {
             self.run = None;
         }
         Ok(Unit {
-            report: Some(Report::Ended(group, grays)),
+            report: Some(Report::Ended(group, grays, NameList::new(alloc))),
             handed,
             finished,
             due: None,

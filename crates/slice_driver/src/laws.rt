@@ -1,5 +1,5 @@
 // Laws that tie the collector to worlds. Each is the contract of a function that does nothing.
-ghost use Rattle.std.specs.Prelude.{◌≡◌, ◌⊎◌, ◌↔◌, ◌<◌, ◌≢◌, ℕ, List, Option, Some, None, Result, Ok, Err, Contains, false, length};
+ghost use Rattle.std.specs.Prelude.{◌≡◌, ◌⊎◌, ◌↔◌, ◌<◌, ◌≢◌, ℕ, List, [], Option, Some, None, Result, Ok, Err, Contains, false, length};
 ghost use Rattle.gz_names.specs.declared.names.Name.{Name};
 ghost use Rattle.gz_names.specs.declared.names.Name.TheVariants.{Wrap};
 ghost use Rattle.gz_names.specs.declared.numbers.CompNo.{CompNo};
@@ -16,12 +16,12 @@ ghost use Rattle.cell_bits.specs.declared.bits.Bits.{Bits};
 ghost use Rattle.arena_table.specs.Cells.{CellState};
 ghost use Rattle.wrappers.specs.WrapperMaps.{AreApart, list_of};
 ghost use Rattle.wrappers.specs.declared.wrapper_maps.WrapperKey.{WrapperKey};
+ghost use Rattle.colour_defs.specs.Lawful.{BeginsAtOnce};
 ghost use Rattle.colour_defs.specs.Closure.{Closure};
-ghost use Rattle.colour_defs.specs.World.{World, CommandInWorld, Has, IsSettled};
+ghost use Rattle.colour_defs.specs.World.{World, CommandInWorld, Has, IsIdle, IsSettled};
 ghost use Rattle.colour_defs.specs.Laws.{IsValid};
 ghost use Rattle.mark_stack.specs.Stack.{Piles};
 ghost use Rattle.gray_lists.specs.Incoming.{Incoming};
-ghost use Rattle.colour_defs.specs.Lawful.{Begins};
 ghost use Rattle.heap_core.specs.Shape.{AreWhole, HasEdge, Shape, is_marking, name_at, out_of, zone_of};
 ghost use Rattle.heap_core.specs.Heap.{HeapState, joined};
 ghost use Rattle.heap_core.specs.Changes.{Makes, MakesWrapper, Writes};
@@ -143,8 +143,8 @@ pub fn made_law()
 /// A collection of zones that are made may begin in a world where none runs.
 pub fn begins_law()
     ensures { (w : World) (zones : List ℕ)
-        → w.collection ≡ None → ((z : ℕ) → Contains zones z → z < w.graph.zones)
-        → (v : World) × Begins w zones v }
+        → IsIdle w → zones ≢ [] → ((z : ℕ) → Contains zones z → z < w.graph.zones)
+        → (v : World) × BeginsAtOnce w zones v }
 {}
 
 /// As marking begins where no zone was marking and no arena was out, its invariants hold; the heap lies
@@ -160,15 +160,15 @@ pub fn begin_law()
         (w v : World)
         → MarkingInvariant h old → BeginsMarking h zones k stack lists
         → ((p : Place) → is_marking h.shape p ≡ false) → ((a : ℕ) → out_of h.shape a ≡ None)
-        → LiesIn h w → IsValid w → AreBlack h w → (begins : Begins w (zones_in zones) v)
-        → LiesIn k v × AreTied k stack lists v begins.collection }
+        → LiesIn h w → IsValid w → AreBlack h w → (begins : BeginsAtOnce w (zones_in zones) v)
+        → LiesIn k v × AreTied k stack lists v begins.begins.collection }
 {}
 
 /// Where marking began by places, and no edge is noted and no wrapper was looked at, a collection
 /// began in each world that the collector stood for.
 pub fn begins_worlds_law()
     ensures { (c d : CollectorState) (zones : ZoneSet)
-        → c.run ≡ None → BeginsMarking c.heap zones d.heap d.stack d.lists
+        → zones_in zones ≢ [] → c.run ≡ None → BeginsMarking c.heap zones d.heap d.stack d.lists
         → ((z : ℕ) → HasZone zones.bits z → z < length c.heap.shape.states)
         → d.run ≡ Some (record { zones = zones; formed = false })
         → d.edges.zones ≡ zones → ((a b : ℕ) → Edge d.edges.sources a b → ⊥)

@@ -27,8 +27,9 @@
 // the world as it is; a woken cell joins the starts of both closures. A wrapper that is made is born
 // black. Were its target not exposed first, a black cell that no pile names would lead to a white one.
 //
-// `gray_names` lists what is gray where no zone is marking. `begin` begins a collection: mark bits are
-// cleared, gray roots buffered, black roots marked.
+// `gray_names` lists what is gray where no zone is marking. `begin` begins a collection: its zones are
+// prepared and its marking begins at once, with no unit between. Mark bits are cleared, gray roots
+// buffered, black roots marked.
 //
 // A collection goes on unit by unit. `unit` does the first of six steps that has work, each by the laws
 // of its step:

@@ -28,12 +28,12 @@ pub owners_same : (xs ys : List ArenaShape) → length xs ≡ length ys → ((a 
 owners_same [] [] e f = refl
 owners_same [] (y ∷ ys) e f = absurd (omega (arith, e))
 owners_same (x ∷ xs) [] e f = absurd (omega (arith, e))
-owners_same (x ∷ xs) (y ∷ ys) e f = ap (λ z. z ∷ owners_of xs) (f 0 (omega arith)) ∙ ap (λ zs. y.zone ∷ zs) (owners_same xs ys (omega (arith, e)) (λ a lt. f (suc a) (omega (arith, lt))))
+owners_same (x ∷ xs) (y ∷ ys) e f = ap (λ z. Some z ∷ owners_of xs) (f 0 (omega arith)) ∙ ap (λ zs. Some y.zone ∷ zs) (owners_same xs ys (omega (arith, e)) (λ a lt. f (suc a) (omega (arith, lt))))
 
-pub owners_more : (xs ys : List ArenaShape) (zone : ℕ) → length xs ≡ length ys + 1 → ((a : ℕ) → a < length ys → zone_in (slice_get xs a) ≡ zone_in (slice_get ys a)) → zone_in (slice_get xs (length ys)) ≡ zone → owners_of xs ≡ owners_of ys ++ zone ∷ []
+pub owners_more : (xs ys : List ArenaShape) (zone : ℕ) → length xs ≡ length ys + 1 → ((a : ℕ) → a < length ys → zone_in (slice_get xs a) ≡ zone_in (slice_get ys a)) → zone_in (slice_get xs (length ys)) ≡ zone → owners_of xs ≡ owners_of ys ++ Some zone ∷ []
 owners_more [] ys zone e f z = absurd (omega (arith, e))
-owners_more (x ∷ xs) [] zone e f z = ap (λ k. k ∷ owners_of xs) z ∙ ap (λ zs. zone ∷ zs) (owners_same xs [] (omega (arith, e)) (λ a lt. absurd (omega (arith, lt))))
-owners_more (x ∷ xs) (y ∷ ys) zone e f z = ap (λ k. k ∷ owners_of xs) (f 0 (omega arith)) ∙ ap (λ zs. y.zone ∷ zs) (owners_more xs ys zone (omega (arith, e)) (λ a lt. f (suc a) (omega (arith, lt))) z)
+owners_more (x ∷ xs) [] zone e f z = ap (λ k. Some k ∷ owners_of xs) z ∙ ap (λ zs. Some zone ∷ zs) (owners_same xs [] (omega (arith, e)) (λ a lt. absurd (omega (arith, lt))))
+owners_more (x ∷ xs) (y ∷ ys) zone e f z = ap (λ k. Some k ∷ owners_of xs) (f 0 (omega arith)) ∙ ap (λ zs. Some y.zone ∷ zs) (owners_more xs ys zone (omega (arith, e)) (λ a lt. f (suc a) (omega (arith, lt))) z)
 
 -- cells that are not swept, where what stands there keeps its name
 stored_named : (o u : Option CellState) (cell : CellState) → name_in u ≡ name_in o → o ≡ Some cell → (other : CellState) × (u ≡ Some other) × (other.name ≡ cell.name)
@@ -93,7 +93,7 @@ comes_makes old zone p cell new m whole = record {
     named true o = refl
     named false o = refl
 
-    owners : (b : Bool) → (p.0 == length old.shape.arenas) ≡ b → owners_of new.shape.arenas ≡ (if b then owners_of old.shape.arenas ++ zone ∷ [] else owners_of old.shape.arenas)
+    owners : (b : Bool) → (p.0 == length old.shape.arenas) ≡ b → owners_of new.shape.arenas ≡ (if b then owners_of old.shape.arenas ++ Some zone ∷ [] else owners_of old.shape.arenas)
     owners true e = owners_more new.shape.arenas old.shape.arenas zone (m.grown ∙ ap (λ b. if b then length old.shape.arenas + 1 else length old.shape.arenas) e) (λ a lt. m.zones (a, 0) lt) (ap (λ (n : ℕ). zone_in (slice_get new.shape.arenas n)) (sym (eqb-true p.0 (length old.shape.arenas) e)) ∙ m.zone_is)
     owners false e = owners_same new.shape.arenas old.shape.arenas (m.grown ∙ ap (λ b. if b then length old.shape.arenas + 1 else length old.shape.arenas) e) (λ a lt. m.zones (a, 0) lt)
 

@@ -15,7 +15,7 @@ use Rattle.colour_defs.specs.declared.graph.Object.{Object}
 use Rattle.colour_defs.specs.Graph.{GraphState, object_of, has_wrapper, comp_of, comp_of_object, zone_of_comp}
 use Rattle.colour_defs.specs.Graph as graph
 use Rattle.colour_defs.specs.Step.{IsAccepted, step_of, refusal_in}
-use Rattle.colour_defs.specs.World.{World, Accepts, AcceptsUnless, CommandInWorld, IsPresent as IsPresentName, with_counts, woken_by}
+use Rattle.colour_defs.specs.World.{World, no_weak_names, Preparation, Accepts, AcceptsIn, AcceptsUnless, CommandInWorld, also_woken_by, IsPresent as IsPresentName, with_counts, woken_by}
 use Rattle.colour_defs.specs.Laws.{IsValid, IsWellFormed}
 use Rattle.colour_defs.specs.Present as present
 use Rattle.colour_defs.proofs.Shown.{shows_agrees, wakes_same}
@@ -53,8 +53,8 @@ present_at v x there = go (places.get v.places x) refl there
     go None at there = absurd (cc there)
     go (Some p) at there = (p, at)
 
-pub lies_from : (h : HeapState) (g : GraphState) (v : World) → Shows h g → IsWellFormed g → present.IsPartOf v.graph g → AreWhole h.shape.arenas → ((x : Name) (p : Place) → (places.get v.places x ≡ Some p) ↔ (name_at h.shape p ≡ Some x)) → v.owner ≡ owners_of h.shape.arenas → v.out ≡ outs_from 0 h.shape.arenas → ((x : Name) (p : Place) → Contains {X = Name × (ℕ × ℕ)} v.white (x, p) ↔ IsUnswept h.shape p x) → LiesIn h v
-lies_from h g v s well part whole at owner out white = record {
+pub lies_from : (h : HeapState) (g : GraphState) (v : World) → Shows h g → IsWellFormed g → present.IsPartOf v.graph g → AreWhole h.shape.arenas → ((x : Name) (p : Place) → (places.get v.places x ≡ Some p) ↔ (name_at h.shape p ≡ Some x)) → v.owner ≡ owners_of h.shape.arenas → v.weak ≡ no_weak_names → v.preparing ≡ None → v.out ≡ outs_from 0 h.shape.arenas → ((x : Name) (p : Place) → Contains {X = Name × (ℕ × ℕ)} v.white (x, p) ↔ IsUnswept h.shape p x) → LiesIn h v
+lies_from h g v s well part whole at owner weak calm out white = record {
   whole = whole;
   graph = g;
   shown = s;
@@ -68,6 +68,8 @@ lies_from h g v s well part whole at owner out white = record {
   };
   places_are = at;
   owner_is = owner;
+  weak_is = weak;
+  calm = calm;
   out_is = out;
   white_are = white;
 }
@@ -97,11 +99,12 @@ pub woken_in : (w : World) (old : HeapState) (c : GraphCmd) (x : Option Name) �
 woken_in w old c x ok l wakes = sym (wakes_same w.graph l.graph l.part.part (shows_agrees w l.graph ok l.part).complete c) ∙ wakes l.graph l.shown
 
 -- an accepted command
-pub command_accepted : (w v : World) (c : GraphCmd) (answer : Reply) (x : Option Name) → answer ≡ (step_of w.graph c).1 → refusal_in (step_of w.graph c).1 ≡ None → woken_by w.graph c ≡ x → Accepts w (with_counts w.graph c w.collection) (step_of w.graph c).0 x v → CommandInWorld w c answer v
-command_accepted w v c answer x said accepted wakes a = (
+pub command_accepted : (w v : World) (c : GraphCmd) (answer : Reply) (x : Option Name) → w.preparing ≡ None → answer ≡ (step_of w.graph c).1 → refusal_in (step_of w.graph c).1 ≡ None → woken_by w.graph c ≡ x → Accepts w (with_counts w.graph c w.collection) (step_of w.graph c).0 x v → CommandInWorld w c answer v
+command_accepted w v c answer x calm said accepted wakes a = (
   said,
-  subst (λ (o : Option Refusal). AcceptsUnless o w (with_counts w.graph c w.collection) (step_of w.graph c).0 (woken_by w.graph c) v) (sym accepted)
-      (subst (λ (o : Option Name). Accepts w (with_counts w.graph c w.collection) (step_of w.graph c).0 o v) (sym wakes) a),
+  subst (λ (o : Option Refusal). AcceptsUnless o w (with_counts w.graph c w.collection) (step_of w.graph c).0 (woken_by w.graph c) (also_woken_by w.graph c) v) (sym accepted)
+      (subst (λ (p : Option Preparation). AcceptsIn p w (with_counts w.graph c w.collection) (step_of w.graph c).0 (woken_by w.graph c) (also_woken_by w.graph c) v) (sym calm)
+      (subst (λ (o : Option Name). Accepts w (with_counts w.graph c w.collection) (step_of w.graph c).0 o v) (sym wakes) a)),
 )
 
 -- the zone of a present cell, by its name
@@ -147,6 +150,8 @@ lies_coloured h ds w l = record {
   part = l.part;
   places_are = l.places_are;
   owner_is = l.owner_is;
+  weak_is = l.weak_is;
+  calm = l.calm;
   out_is = l.out_is;
   white_are = l.white_are;
 }
@@ -160,7 +165,7 @@ refused_in w old new c why ok l does =
     let d = does l.graph l.shown in
     let a = agreement w.graph l.graph c (shows_agrees w l.graph ok l.part) in
     let said : (step_of w.graph c).1 ≡ reply.Refused why = sym a.0 ∙ d.0 in
-    (d.1, (sym said, subst (λ (o : Option Refusal). AcceptsUnless o w (with_counts w.graph c w.collection) (step_of w.graph c).0 (woken_by w.graph c) w) (sym (ap refusal_in said)) refl))
+    (d.1, (sym said, subst (λ (o : Option Refusal). AcceptsUnless o w (with_counts w.graph c w.collection) (step_of w.graph c).0 (woken_by w.graph c) (also_woken_by w.graph c) w) (sym (ap refusal_in said)) refl))
 
 -- what is not refused by the heap is not refused in the world
 pub accepted_in : (w : World) (h : HeapState) (c : GraphCmd) → IsValid w → (l : LiesIn h w) → IsAccepted l.graph c

@@ -6,7 +6,7 @@ use Rattle.gz_names.specs.declared.names.Name.TheVariants.{Cell, Wrap}
 use Rattle.gz_names.specs.declared.numbers.Place.{Place}
 use Rattle.arena_table.specs.Cells.{CellState, joined, field_of}
 use Rattle.colour_defs.specs.Graph.{GraphState, object_of, value_of}
-use Rattle.colour_defs.specs.Closure.{Closure, HoldsInField, from, along, weak}
+use Rattle.colour_defs.specs.Closure.{Closure, HoldsInField, from, along, weak, delegate}
 use Rattle.colour_defs.specs.Closure as names
 use Rattle.colour_defs.specs.World.{World, IsPresent as IsPresentName}
 use Rattle.colour_defs.specs.Present as present
@@ -95,6 +95,14 @@ module _ (h : HeapState) (w : World) (l : LiesIn h w) where
   here : (p : Place) (x : Name) → name_at h.shape p ≡ Some x → present.IsHere l.graph x
   here p x e = (l.part.here x).1 (present_named p x e)
 
+  -- what a key stands for is here: it, or a wrapper's target
+  pub key_here : (p : Place) (x : Name) → name_at h.shape p ≡ Some x → present.IsKeyHere l.graph x
+  key_here p (Cell n) e = here p (Cell n) e
+  key_here p (Wrap c t) e =
+      let cell = named_cell h.shape p (Wrap c t) e in
+      let stands : StandsFor h.shape l.graph p cell.0 (Wrap c t) = subst (λ z. StandsFor h.shape l.graph p cell.0 z) cell.2 (l.shown.cells p cell.0 cell.1).stands in
+      here stands.target (Cell t) stands.target_is
+
   pub edge_named : (p q : Place) (x y : Name) → name_at h.shape p ≡ Some x → name_at h.shape q ≡ Some y → HasEdge h.shape p q → names.HasEdge w.graph x y
   edge_named p q x y np nq e =
       let c = named_cell h.shape p x np in
@@ -126,7 +134,7 @@ module _ (h : HeapState) (w : World) (l : LiesIn h w) where
         let j = reached_named b in
         let n = name_of h.shape v (l.shown.entries_held m k v e).2 in
         let value : value_of l.graph i.0 j.0 ≡ Some n.0 = l.shown.entries_are m k v i.0 j.0 n.0 e i.1 j.1 n.1 in
-        (n.0, n.1, weak (sym (l.part.part.entries i.0 j.0 (here m i.0 i.1) (here k j.0 j.1)) ∙ value) i.2 j.2)
+        (n.0, n.1, weak (sym (l.part.part.entries i.0 j.0 (here m i.0 i.1) (key_here k j.0 j.1)) ∙ value) i.2 j.2)
 
     pub closure_placed : {x : Name} → Closure w.graph Q x → (p : Place) × (name_at h.shape p ≡ Some x) × Reached h.shape P p
     closure_placed (from {x} st) = let at = place_of x (starts.named x st) in (at.0, at.1, reached.from ((starts.same at.0 x at.1).1 st))
@@ -134,10 +142,15 @@ module _ (h : HeapState) (w : World) (l : LiesIn h w) where
         let i = closure_placed r in
         let q = edge_placed i.0 x y i.1 e in
         (q.0, q.2, reached.along i.2 q.1)
+    closure_placed (delegate {m} {v} {c} {t} e a b) =
+        let i = closure_placed a in
+        let j = closure_placed b in
+        let value : value_of l.graph m (Wrap c t) ≡ Some v = l.part.part.entries m (Wrap c t) (here i.0 m i.1) (here j.0 (Cell t) j.1) ∙ e in
+        absurd (l.part.well_formed.plain_keys m (Wrap c t) v value)
     closure_placed (weak {m} {k} {v} e a b) =
         let i = closure_placed a in
         let j = closure_placed b in
-        let value : value_of l.graph m k ≡ Some v = l.part.part.entries m k (here i.0 m i.1) (here j.0 k j.1) ∙ e in
+        let value : value_of l.graph m k ≡ Some v = l.part.part.entries m k (here i.0 m i.1) (key_here j.0 k j.1) ∙ e in
         let entry = l.shown.entries_known m k v value in
         let at_map : entry.0 ≡ i.0 = l.shown.apart entry.0 i.0 m entry.4 i.1 in
         let at_key : entry.1 ≡ j.0 = l.shown.apart entry.1 j.0 k entry.5 j.1 in

@@ -138,14 +138,14 @@ outs_only n (x ∷ xs) k c = go (λ t. outs_only (suc n) xs k t) x.out refl c
     go more (Some b) out c = elim (contains_cases n (outs_from (suc n) xs) k c) [ inl e ↦ (0, omega (arith, e), ap is_some out) | inr t ↦ next (more t) ]
 
 -- free slots of the world
-arena_owned : (xs : List ArenaShape) (a zone : ℕ) → slice_get (owners_of xs) a ≡ Some zone → (arena : ArenaShape) × (slice_get xs a ≡ Some arena) × (arena.zone ≡ zone)
+arena_owned : (xs : List ArenaShape) (a zone : ℕ) → slice_get (owners_of xs) a ≡ Some (Some zone) → (arena : ArenaShape) × (slice_get xs a ≡ Some arena) × (arena.zone ≡ zone)
 arena_owned [] a zone e = absurd (cc e)
-arena_owned (x ∷ xs) zero zone e = (x, refl, some_one _ _ e)
+arena_owned (x ∷ xs) zero zone e = (x, refl, cc e)
 arena_owned (x ∷ xs) (suc a) zone e = arena_owned xs a zone e
 
-owned_arena : (xs : List ArenaShape) (a : ℕ) (arena : ArenaShape) → slice_get xs a ≡ Some arena → slice_get (owners_of xs) a ≡ Some arena.zone
+owned_arena : (xs : List ArenaShape) (a : ℕ) (arena : ArenaShape) → slice_get xs a ≡ Some arena → slice_get (owners_of xs) a ≡ Some (Some arena.zone)
 owned_arena [] a arena e = absurd (cc e)
-owned_arena (x ∷ xs) zero arena e = ap (λ o. option_map (λ (y : ArenaShape). y.zone) o) e
+owned_arena (x ∷ xs) zero arena e = ap (λ o. option_map (λ (y : ArenaShape). Some y.zone) o) e
 owned_arena (x ∷ xs) (suc a) arena e = owned_arena xs a arena e
 
 kept_cell : (s : Shape) (p : Place) (arena : ArenaShape) → slice_get s.arenas p.0 ≡ Some arena → arena.out ≡ None → cell_of s p ≡ cell_in arena.slots p.1
@@ -157,7 +157,7 @@ from_zero k = omega arith
 module _ (h : HeapState) (w : World) (l : LiesIn h w) where
   free_in_heap : (zone : ℕ) (q : Place) → IsFreeSlot w zone q → IsFreeIn h.shape.arenas zone q
   free_in_heap zone q f =
-      let owned = arena_owned h.shape.arenas q.0 zone (subst (λ xs. slice_get xs q.0 ≡ Some zone) l.owner_is f.owned) in
+      let owned = arena_owned h.shape.arenas q.0 zone (subst (λ xs. slice_get xs q.0 ≡ Some (Some zone)) l.owner_is f.owned) in
       let kept : owned.0.out ≡ None = no_bits owned.0.out (λ some. f.not_out (subst (λ xs. Contains xs q.0) (sym l.out_is) (subst (λ k. Contains (outs_from 0 h.shape.arenas) k) (from_zero q.0) (outs_has 0 h.shape.arenas q.0 (subst (λ o. IsSome (out_in o)) (sym owned.1) some))))) in
       record {
         arena = owned.0;
@@ -178,7 +178,7 @@ module _ (h : HeapState) (w : World) (l : LiesIn h w) where
 
   free_in_world : (zone : ℕ) (q : Place) → IsFreeIn h.shape.arenas zone q → IsFreeSlot w zone q
   free_in_world zone q f = record {
-    owned = subst (λ xs. slice_get xs q.0 ≡ Some zone) (sym l.owner_is) (owned_arena h.shape.arenas q.0 f.arena f.there ∙ ap (λ z. Some z) f.zone_is);
+    owned = subst (λ xs. slice_get xs q.0 ≡ Some (Some zone)) (sym l.owner_is) (owned_arena h.shape.arenas q.0 f.arena f.there ∙ ap (λ z. Some (Some z)) f.zone_is);
     not_out = λ c. (let o = outs_only 0 h.shape.arenas q.0 (subst (λ xs. Contains xs q.0) l.out_is c) in
         let some : IsSome (out_in (slice_get h.shape.arenas q.0)) = subst (λ k. IsSome (out_in (slice_get h.shape.arenas k))) (sym (o.1 ∙ from_zero o.0)) o.2 in
         let none : out_in (slice_get h.shape.arenas q.0) ≡ None = ap out_in f.there ∙ f.kept in cc (some, none));
@@ -188,22 +188,22 @@ module _ (h : HeapState) (w : World) (l : LiesIn h w) where
   }
 
   -- the next place is the one for a new cell of the zone
-  pub place_is_for : (zone : ℕ) (p : Place) (owner : List ℕ) → p ≡ next_place h.shape zone → owner ≡ (if p.0 == length h.shape.arenas then owners_of h.shape.arenas ++ zone ∷ [] else owners_of h.shape.arenas) → IsPlaceFor w zone p owner
+  pub place_is_for : (zone : ℕ) (p : Place) (owner : List (Option ℕ)) → p ≡ next_place h.shape zone → owner ≡ (if p.0 == length h.shape.arenas then owners_of h.shape.arenas ++ Some zone ∷ [] else owners_of h.shape.arenas) → IsPlaceFor w zone p owner
   place_is_for zone p owner e owners = elim (lowest_or_none 0 h.shape.arenas zone l.whole) [
     | inl low ↦
         let is : low.place ≡ p = ap (λ (k : ℕ). (k, low.place.1)) (sym (from_zero low.place.0)) ∙ (sym low.next_is ∙ sym e) in
         let lt : low.place.0 < length h.shape.arenas = slice_get_within h.shape.arenas low.place.0 low.free.arena low.free.there in
         let other : (low.place.0 == length h.shape.arenas) ≡ false = less_other low.place.0 (length h.shape.arenas) lt in
-        subst (λ q. owner ≡ (if q.0 == length h.shape.arenas then owners_of h.shape.arenas ++ zone ∷ [] else owners_of h.shape.arenas) → IsPlaceFor w zone q owner) is
-        (λ o. inl (free_in_world zone low.place low.free, o ∙ ap (λ b. if b then owners_of h.shape.arenas ++ zone ∷ [] else owners_of h.shape.arenas) other ∙ sym l.owner_is, λ q f. low.lowest q (free_in_heap zone q f))) owners
+        subst (λ q. owner ≡ (if q.0 == length h.shape.arenas then owners_of h.shape.arenas ++ Some zone ∷ [] else owners_of h.shape.arenas) → IsPlaceFor w zone q owner) is
+        (λ o. inl (free_in_world zone low.place low.free, o ∙ ap (λ b. if b then owners_of h.shape.arenas ++ Some zone ∷ [] else owners_of h.shape.arenas) other ∙ sym l.owner_is, λ q f. low.lowest q (free_in_heap zone q f))) owners
     | inr none ↦
         let is : (length h.shape.arenas, 0) ≡ p = ap (λ (k : ℕ). (k, 0)) (sym (from_zero (length h.shape.arenas))) ∙ (sym none.next_is ∙ sym e) in
-        let size : length w.owner ≡ length h.shape.arenas = ap (λ (xs : List ℕ). length xs) l.owner_is ∙ length-map h.shape.arenas (λ (arena : ArenaShape). arena.zone) in
-        subst (λ q. owner ≡ (if q.0 == length h.shape.arenas then owners_of h.shape.arenas ++ zone ∷ [] else owners_of h.shape.arenas) → IsPlaceFor w zone q owner) is
+        let size : length w.owner ≡ length h.shape.arenas = ap (λ (xs : List (Option ℕ)). length xs) l.owner_is ∙ length-map h.shape.arenas (λ (arena : ArenaShape). Some arena.zone) in
+        subst (λ q. owner ≡ (if q.0 == length h.shape.arenas then owners_of h.shape.arenas ++ Some zone ∷ [] else owners_of h.shape.arenas) → IsPlaceFor w zone q owner) is
         (λ o. inr (
           λ q f. none.none q (free_in_heap zone q f),
           ap (λ (k : ℕ). (k, 0)) (sym size),
-          o ∙ ap (λ b. if b then owners_of h.shape.arenas ++ zone ∷ [] else owners_of h.shape.arenas) (eq-eqb (length h.shape.arenas) (length h.shape.arenas) refl) ∙ ap (λ (xs : List ℕ). xs ++ zone ∷ []) (sym l.owner_is),
+          o ∙ ap (λ b. if b then owners_of h.shape.arenas ++ Some zone ∷ [] else owners_of h.shape.arenas) (eq-eqb (length h.shape.arenas) (length h.shape.arenas) refl) ∙ ap (λ (xs : List (Option ℕ)). xs ++ Some zone ∷ []) (sym l.owner_is),
         )) owners
   ]
     where

@@ -92,6 +92,8 @@ module _ (c : CollectorState) (e : IsEmpty c.heap) where
     };
     places_are = λ x p. ((λ is. absurd (let none : places.get first_world.places x ≡ None = places.get-empty name_cmp x in cc (none, is))), λ is. absurd (cc (no_name c.heap e p, is)));
     owner_is = sym (ap owners_of e.arenas);
+    weak_is = refl;
+    calm = refl;
     out_is = sym (ap (outs_from 0) e.arenas);
     white_are = λ x p. ((λ has. absurd (nothing_in_none {X = Name × (ℕ × ℕ)} (x, p) has)), λ un. absurd (let none = none_out p.0 in cc (none, un.out_is)));
   }

@@ -11,14 +11,14 @@ use Rattle.mark_stack.specs.Stack.{Piles}
 use Rattle.gray_lists.specs.Incoming.{Incoming}
 use Rattle.colour_defs.specs.declared.graph.Object.{Object}
 use Rattle.colour_defs.specs.Graph.{GraphState, comp_of, comp_of_object, object_of, value_of}
-use Rattle.colour_defs.specs.Closure.{Closure, HoldsInField, from, along, weak}
+use Rattle.colour_defs.specs.Closure.{Closure, HoldsInField, from, along, weak, delegate}
 use Rattle.colour_defs.specs.Closure as names
 use Rattle.colour_defs.specs.Step.{step_of, with_field_in}
 use Rattle.colour_defs.specs.Units.{Tally}
 use Rattle.colour_defs.specs.World.{World, Collection, Names, Has, IsPresent, BlackClosure, LiveClosure, woken_by}
 use Rattle.colour_defs.specs.Present as present
 use Rattle.colour_defs.specs.Laws.{IsMarking, IsValid}
-use Rattle.colour_defs.proofs.Effects.{Effect, effect_of, keeps, zones, comps, makes, takes, wraps, writes, slots, puts, dels}
+use Rattle.colour_defs.proofs.Effects.{Waking, waking_of, Effect, effect_of, keeps, zones, comps, makes, takes, wraps, writes, slots, puts, dels}
 use Rattle.colour_defs.proofs.Finite.{insert_cases}
 use Rattle.colour_defs.proofs.Lists.{length_push, length_set}
 use Rattle.colour_defs.proofs.ValidCommands.{in_insert, insert_has}
@@ -40,7 +40,7 @@ use Rattle.slice_driver.specs.Worlds.{LiesIn}
 use Rattle.slice_driver.specs.Closures.{AreTied}
 use Rattle.slice_driver.specs.Commands.{ComesTo}
 use Rattle.slice_driver.specs.Serves.{IsNew, Serves}
-use Rattle.slice_driver.proofs.abstraction.Named.{AreSameStarts, closure_present, edge_named, edge_placed, name_of, named_present, place_of, present_named, same_reached, some_one}
+use Rattle.slice_driver.proofs.abstraction.Named.{key_here, AreSameStarts, closure_present, edge_named, edge_placed, name_of, named_present, place_of, present_named, same_reached, some_one}
 
 -- what a collection reaches from some starts and from what was woken
 abbrev FromStarts : Names → Collection → Name → Type 0
@@ -56,6 +56,7 @@ from_more k S T more (from (inl s)) = from (inl (more _ s))
 from_more k S T more (from (inr u)) = from (inr u)
 from_more k S T more (along c e) = along (from_more k S T more c) e
 from_more k S T more (weak e a b) = weak e (from_more k S T more a) (from_more k S T more b)
+from_more k S T more (delegate e a b) = delegate e (from_more k S T more a) (from_more k S T more b)
 
 -- what was reached is so where x was woken besides
 from_woken : (k : Collection) (S : Names) (x : Name) → {y : Name} → FromStarts S k y → FromStarts S (woken_with k x) y
@@ -63,6 +64,7 @@ from_woken k S x (from (inl s)) = from (inl s)
 from_woken k S x (from (inr u)) = from (inr (in_insert k.woken x _ u))
 from_woken k S x (along c e) = along (from_woken k S x c) e
 from_woken k S x (weak e a b) = weak e (from_woken k S x a) (from_woken k S x b)
+from_woken k S x (delegate e a b) = delegate e (from_woken k S x a) (from_woken k S x b)
 
 -- what is reached in a heap is present
 present_reached : (h : HeapState) (P : Place → Type 0) → ColourInvariant h → ((p : Place) → P p → shape.IsPresent h.shape p) → {p : Place} → Reached h.shape P p → shape.IsPresent h.shape p
@@ -82,11 +84,11 @@ module _ (h : HeapState) (w : World) (l : LiesIn h w) where
   here p x e = (l.part.here x).1 (present_named h w l p x e)
 
   entry_named : (a b c : Place) (m q u : Name) → name_at h.shape a ≡ Some m → name_at h.shape b ≡ Some q → name_at h.shape c ≡ Some u → HasEntry h.shape a b c → value_of w.graph m q ≡ Some u
-  entry_named a b c m q u na nb nc e = sym (l.part.part.entries m q (here a m na) (here b q nb)) ∙ l.shown.entries_are a b c m q u e na nb nc
+  entry_named a b c m q u na nb nc e = sym (l.part.part.entries m q (here a m na) (key_here h w l b q nb)) ∙ l.shown.entries_are a b c m q u e na nb nc
 
   entry_placed : (a b : Place) (m q u : Name) → name_at h.shape a ≡ Some m → name_at h.shape b ≡ Some q → value_of w.graph m q ≡ Some u → (c : Place) × HasEntry h.shape a b c × (name_at h.shape c ≡ Some u)
   entry_placed a b m q u na nb e =
-      let known = l.shown.entries_known m q u (l.part.part.entries m q (here a m na) (here b q nb) ∙ e) in
+      let known = l.shown.entries_known m q u (l.part.part.entries m q (here a m na) (key_here h w l b q nb) ∙ e) in
       let at_map : known.0 ≡ a = l.shown.apart known.0 a m known.4 na in
       let at_key : known.1 ≡ b = l.shown.apart known.1 b q known.5 nb in
       (known.2, subst (λ z. HasEntry h.shape a z known.2) at_key (subst (λ z. HasEntry h.shape z known.1 known.2) at_map known.3), known.6)
@@ -113,6 +115,7 @@ module _ (h j : HeapState) (s t : Piles) (lists : Incoming) (w : World) (k : Col
     closure_then (from (inr is)) = from (inr (subst (Has (set.insert k.woken x)) is (insert_has k.woken x)))
     closure_then (along {x = y} {y = z} c e) = elim ((ok.marking k running marking).edges y z e) [ inl old ↦ along (closure_then c) old | inr b ↦ from_woken k S x (dark z b) ]
     closure_then (weak {m} {k = q} {v = u} e a b) = elim ((ok.marking k running marking).entries m q u e) [ inl old ↦ weak old (closure_then a) (closure_then b) | inr d ↦ from_woken k S x (dark u d) ]
+    closure_then (delegate {m} {v = u} {c} {t} e a b) = absurd (ok.graph.plain_keys m (Wrap c t) u e)
 
     closure_there : (y : Name) → Closure w.graph (λ z. FromStarts S k z ⊎ (x ≡ z)) y → IsPresent w y
     closure_there y c = closure_present h w l (λ q. P q ⊎ (q ≡ p)) (λ z. FromStarts S k z ⊎ (x ≡ z)) starts y c
@@ -127,6 +130,7 @@ module _ (h j : HeapState) (s t : Piles) (lists : Incoming) (w : World) (k : Col
         let am = closure_now a in
         let bq = closure_now b in
         elim (tied.entries_then m q u (closure_there m am) (closure_there q bq) e) [ inl still ↦ weak still am bq | inr d ↦ from (inl (dark u d)) ]
+    closure_now (delegate {m} {v = u} {c} {t} e a b) = absurd (tied.formed.plain_keys m (Wrap c t) u e)
 
     reached_woken : (q : Place) (y : Name) → name_at h.shape q ≡ Some y → Reached h.shape (λ z. P z ⊎ (z ≡ p)) q ↔ FromStarts S (woken_with k x) y
     reached_woken q y e =
@@ -248,11 +252,11 @@ module _ (h j : HeapState) (s : Piles) (lists : Incoming) (w v : World) (k : Col
   -- nor an entry of the new cell
   no_map : (y q u : Name) → x ≡ y → value_of k.snapshot y q ≡ Some u → ⊥
   no_map (Cell n) q u is e = (let r = tied.formed.keys (Cell n) q u e in no_comp n r.0 is r.1)
-  no_map (Wrap c t) q u is e = (tied.formed.no_wrappers (Wrap c t) q u e).0
+  no_map (Wrap c t) q u is e = tied.formed.no_wrappers (Wrap c t) q u e
 
   no_key : (o y u : Name) → x ≡ y → value_of k.snapshot o y ≡ Some u → ⊥
   no_key o (Cell n) u is e = (let r = tied.formed.keys o (Cell n) u e in no_comp n r.0 is r.2)
-  no_key o (Wrap c t) u is e = (tied.formed.no_wrappers o (Wrap c t) u e).1
+  no_key o (Wrap c t) u is e = tied.formed.plain_keys o (Wrap c t) u e
 
   -- an edge that the snapshot has of the new cell is that of a wrapper that was made again
   edge_made : (y z : Name) → x ≡ y → names.HasEdge k.snapshot y z → names.HasEdge v.graph y z
@@ -285,6 +289,7 @@ module _ (h j : HeapState) (s : Piles) (lists : Incoming) (w v : World) (k : Col
     | inr is ↦ absurd (no_map o q u is e)
     | inl old ↦ elim (reached_before S dark b) [ inr is ↦ absurd (no_key o q u is e) | inl also ↦ inl (weak e old also) ]
   ]
+  reached_before S dark (delegate {m = o} {v = u} {c} {t} e a b) = absurd (tied.formed.plain_keys o (Wrap c t) u e)
 
   woken_here : (S : Names) (y : Name) → x ≡ y → FromStarts S (woken_with k x) y
   woken_here S y is = from (inr (subst (Has (set.insert k.woken x)) is (insert_has k.woken x)))
@@ -329,7 +334,7 @@ module _ (h j : HeapState) (s : Piles) (lists : Incoming) (w v : World) (k : Col
   }
 
 -- no object is ever taken from a graph
-no_fewer : (g : GraphState) (n : Option Name) {h : GraphState} → Effect g n h → length g.objects ≤ length h.objects
+no_fewer : (g : GraphState) (n : Waking) {h : GraphState} → Effect g n h → length g.objects ≤ length h.objects
 no_fewer g n keeps = omega arith
 no_fewer g n (zones c) = omega arith
 no_fewer g n (comps z) = omega arith
@@ -339,7 +344,7 @@ no_fewer g n (wraps r c t is src) = omega arith
 no_fewer g n (writes i o f v at src fits) = (let long = length_set g.objects i (with_field_in (Some o) f v) in omega (arith, long))
 no_fewer g n (slots i x src) = omega arith
 no_fewer g n (puts m k v fits src) = omega arith
-no_fewer g n (dels m k) = omega arith
+no_fewer g n (dels m k held) = omega arith
 
 pub objects_grow : (g : GraphState) (c : GraphCmd) → length g.objects ≤ length (step_of g c).0.objects
-objects_grow g c = no_fewer g (woken_by g c) (effect_of g c)
+objects_grow g c = no_fewer g (waking_of g c) (effect_of g c)

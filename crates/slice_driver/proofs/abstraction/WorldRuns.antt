@@ -1,5 +1,5 @@
 -- Whether a collection runs and whether a zone is marking, in a collector and in each world that it stands for.
-use Rattle.std.proofs.Common.{◌≡◌, ◌↔◌, ℕ, Option, Some, None, IsSome, [], false, refl}
+use Rattle.std.proofs.Common.{◌≡◌, ◌↔◌, ℕ, Option, Some, None, IsSome, inl, inr, [], false, refl}
 use Rattle.cell_bits.specs.declared.bits.Bits.{Bits}
 use Rattle.colour_defs.specs.Lawful.{IsRunning}
 use Rattle.colour_defs.specs.World.{World, Collection, IsSettled, marking_of}
@@ -18,7 +18,11 @@ runs_as h c w (Some r) (Some k) runs = (λ some. (k, refl), λ j. refl)
 
 pub world_runs : (c : CollectorState) (flown : ℕ → Option Bits) (w : World) → Represents c flown w →
     IsSome c.run ↔ IsRunning w
-world_runs c flown w rep = runs_as (heap_with c flown) c w c.run w.collection rep.runs
+world_runs c flown w rep =
+    let runs = runs_as (heap_with c flown) c w c.run w.collection rep.runs in (
+      λ some. inl (runs.0 some),
+      λ r. elim r [ inl j ↦ runs.1 j | inr p ↦ absurd (let calm = rep.lies.calm in let is = p.1 in cc (calm, is)) ],
+    )
 
 settled_as : (h : HeapState) (c : CollectorState) (w : World) (r : Option RunState) (k : Option Collection) →
     RunsAs h c w r k → ((z : ℕ) → is_marking_state (state_in c.heap.shape z) ≡ false) → marking_of k ≡ []
@@ -31,4 +35,7 @@ settled_as h c w (Some r) (Some k) runs rests = none_in_it k.marking
 -- where no zone is marking in the collector, the world is settled
 pub world_settled : (c : CollectorState) (flown : ℕ → Option Bits) (w : World) → Represents c flown w →
     ((z : ℕ) → is_marking_state (state_in c.heap.shape z) ≡ false) → IsSettled w
-world_settled c flown w rep rests = settled_as (heap_with c flown) c w c.run w.collection rep.runs rests
+world_settled c flown w rep rests = record {
+  none_marking = settled_as (heap_with c flown) c w c.run w.collection rep.runs rests;
+  none_preparing = rep.lies.calm;
+}

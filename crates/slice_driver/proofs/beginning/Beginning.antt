@@ -17,7 +17,6 @@ use Rattle.gray_lists.specs.Incoming.{Incoming, IsOnce, list_at, list_of, waitin
 use Rattle.colour_defs.specs.Graph.{GraphState, IsInZones, value_of}
 use Rattle.colour_defs.specs.Closure.{Closure, HasEdge as HasNamedEdge}
 use Rattle.colour_defs.specs.World.{World, Collection, Has, IsSettled, BlackClosure, LiveClosure, IsPresent as IsPresentName, marking_of}
-use Rattle.colour_defs.specs.Lawful.{Begins}
 use Rattle.colour_defs.specs.Laws.{IsValid, IsWellFormed}
 use Rattle.colour_defs.proofs.Lists.{contains_cases, contains_head, contains_tail, nothing_in_none}
 use Rattle.colour_defs.proofs.Finite.{no_name}
@@ -36,6 +35,7 @@ use Rattle.barriers.specs.Spreading.{Covers}
 use Rattle.barriers.proofs.Slots.{slots_most}
 use Rattle.barriers.proofs.BlackClosure.{none_on_wake, pending_is_reached, reached_from, reached_is_pending, reached_more}
 use Rattle.barriers.proofs.LiveClosure.{live_is_reached, reached_is_live}
+use Rattle.slice_driver.proofs.beginning.HasBegun.{HasBegun}
 use Rattle.slice_driver.specs.Worlds.{LiesIn, owners_of, outs_from}
 use Rattle.slice_driver.specs.Closures.{AreBlack, AreTied}
 use Rattle.slice_driver.specs.Collector.{CollectorState, RunState}
@@ -243,7 +243,7 @@ module _ (h : HeapState) (w : World) (l : LiesIn h w) (zones : ZoneSet) where
   zones_named : (p : Place) (x : Name) → name_at h.shape p ≡ Some x → IsWithin h.shape zones p → IsInZones w.graph (zones_in zones) x
   zones_named p x e within = in_zone w.graph (zones_in zones) x (zone_of h.shape p) (zone_named h l.graph w.graph p x l.shown l.part.part e) ((zones_in-has zones (zone_of h.shape p)).1 within)
 
-  zones_placed : (p : Place) (x : Name) → name_at h.shape p ≡ Some x → IsInZones w.graph (zones_in zones) x → IsWithin h.shape zones p
+  pub zones_placed : (p : Place) (x : Name) → name_at h.shape p ≡ Some x → IsInZones w.graph (zones_in zones) x → IsWithin h.shape zones p
   zones_placed p x e within =
       let z = zone_in w.graph (zones_in zones) x within in
       let same : z.0 ≡ zone_of h.shape p = some_one _ _ (sym z.1 ∙ zone_named h l.graph w.graph p x l.shown l.part.part e) in
@@ -279,12 +279,12 @@ IsBlackStart h zones x = Contains h.shape.regs (Some x) ⊎ ((IsWithin h.shape z
 abbrev IsLiveRoot : HeapState → ZoneSet → Place → Type 0
 IsLiveRoot h zones x = IsBlackStart h zones x ⊎ (Contains h.shape.slots (Some x) ⊎ (IsPresent h.shape x × (IsWithin h.shape zones x → ⊥)))
 
-module _ (h : HeapState) (old : Piles) (w v : World) (zones : ZoneSet) (k : HeapState) (stack : Piles) (lists : Incoming) (inv : MarkingInvariant h old) (b : BeginsMarking h zones k stack lists) (settled : (x : Place) → is_marking h.shape x ≡ false) (none_out : (a : ℕ) → out_of h.shape a ≡ None) (l : LiesIn h w) (ok : IsValid w) (black : AreBlack h w) (bg : Begins w (zones_in zones) v) where
+module _ (h : HeapState) (old : Piles) (w v : World) (zones : ZoneSet) (k : HeapState) (stack : Piles) (lists : Incoming) (inv : MarkingInvariant h old) (b : BeginsMarking h zones k stack lists) (settled : (x : Place) → is_marking h.shape x ≡ false) (none_out : (a : ℕ) → out_of h.shape a ≡ None) (l : LiesIn h w) (ok : IsValid w) (black : AreBlack h w) (bg : HasBegun w (zones_in zones) v) where
   abbrev c : Collection
   c = bg.collection
 
   none_marking : IsSettled w
-  none_marking = ap (λ o. marking_of o) bg.idle
+  none_marking = record { none_marking = ap (λ o. marking_of o) bg.idle.none_running; none_preparing = bg.idle.none_preparing }
 
   begun : MarkingInvariant k stack
   begun = marking_begun h old zones k stack lists inv b settled none_out l.shown.registers_held l.shown.slots_held
@@ -451,7 +451,7 @@ module _ (h : HeapState) (old : Piles) (w v : World) (zones : ZoneSet) (k : Heap
     few_objects = subst (λ n. h.shape.objects ≤ n) (sym b.made_is) l.shown.few_objects;
   })
 
-  lies_here : LiesIn k (record w { collection = v.collection })
+  lies_here : LiesIn k (record w { black = v.black; collection = v.collection })
   lies_here = record {
     whole = subst AreWhole (ap (λ (s : Shape). s.arenas) (sym b.shape_is)) l.whole;
     graph = l.graph;
@@ -459,6 +459,8 @@ module _ (h : HeapState) (old : Piles) (w v : World) (zones : ZoneSet) (k : Heap
     part = record { well_formed = l.part.well_formed; part = l.part.part; here = l.part.here };
     places_are = subst (λ (s : Shape). (x : Name) (p : Place) → (places.get w.places x ≡ Some p) ↔ (name_at s p ≡ Some x)) (sym b.shape_is) l.places_are;
     owner_is = l.owner_is ∙ ap (λ (s : Shape). owners_of s.arenas) (sym b.shape_is);
+    weak_is = l.weak_is;
+    calm = l.calm;
     out_is = l.out_is ∙ ap (λ (s : Shape). outs_from 0 s.arenas) (sym b.shape_is);
     white_are = λ x p. (let same = (stay_same h.shape k.shape (ap (λ (s : Shape). s.arenas) b.shape_is) l.whole).unswept p x in (
       λ has. same.1 ((l.white_are x p).0 has),
@@ -467,7 +469,7 @@ module _ (h : HeapState) (old : Piles) (w v : World) (zones : ZoneSet) (k : Heap
   }
 
   pub lies_begun : LiesIn k v
-  lies_begun = subst (λ (u : World). LiesIn k u) (ap (λ o. record w { collection = o }) (ap (λ (u : World). u.collection) bg.world_is) ∙ sym bg.world_is) lies_here
+  lies_begun = subst (λ (u : World). LiesIn k u) (ap (λ o. record w { black = v.black; collection = o }) (ap (λ (u : World). u.collection) bg.world_is) ∙ sym bg.world_is) lies_here
 
 -- where no arena is out, none is in flight
 own_bits : (flown : ℕ → Option Bits) (n : ℕ) (xs : List Bits) → ((a : ℕ) → flown a ≡ None) → with_flown flown n xs ≡ xs
@@ -510,7 +512,7 @@ module _ (h : HeapState) (zones : ZoneSet) (c : CollectorState) (b : BeginsMarki
   )
 
   -- but for what was looked at, the collection that has begun runs
-  pub runs_begun : (w v : World) (bg : Begins w (zones_in zones) v) → ((z : ℕ) → HasZone zones.bits z → z < length h.shape.states) → AreTied c.heap c.stack c.lists v bg.collection → AreLookedAt c.heap c run v bg.collection → Runs c.heap c v run bg.collection
+  pub runs_begun : (w v : World) (bg : HasBegun w (zones_in zones) v) → ((z : ℕ) → HasZone zones.bits z → z < length h.shape.states) → AreTied c.heap c.stack c.lists v bg.collection → AreLookedAt c.heap c run v bg.collection → Runs c.heap c v run bg.collection
   runs_begun w v bg made tied looked = record {
     zones_are = bg.zones_are;
     marking_are = λ z. subst (λ zs. Contains zs z ↔ (is_marking_state (state_in c.heap.shape z) ≡ true)) (sym bg.marking_are) (marking_are_begun z);
@@ -524,5 +526,5 @@ module _ (h : HeapState) (zones : ZoneSet) (c : CollectorState) (b : BeginsMarki
 pub begins_marking : (h k : HeapState) (old stack : Piles) (lists : Incoming) (zones : ZoneSet) (w : World) → MarkingInvariant h old → BeginsMarking h zones k stack lists → ((x : Place) → is_marking h.shape x ≡ false) → ((a : ℕ) → out_of h.shape a ≡ None) → LiesIn h w → MarkingInvariant k stack × GrayInvariant k stack lists
 begins_marking h k old stack lists zones w inv b settled none_out l = (marking_begun h old zones k stack lists inv b settled none_out l.shown.registers_held l.shown.slots_held, gray_begun h old zones k stack lists inv b settled none_out l.shown.registers_held l.shown.slots_held)
 
-pub begins_tied : (h k : HeapState) (old stack : Piles) (lists : Incoming) (zones : ZoneSet) (w v : World) → MarkingInvariant h old → BeginsMarking h zones k stack lists → ((x : Place) → is_marking h.shape x ≡ false) → ((a : ℕ) → out_of h.shape a ≡ None) → LiesIn h w → IsValid w → AreBlack h w → (bg : Begins w (zones_in zones) v) → LiesIn k v × AreTied k stack lists v bg.collection
+pub begins_tied : (h k : HeapState) (old stack : Piles) (lists : Incoming) (zones : ZoneSet) (w v : World) → MarkingInvariant h old → BeginsMarking h zones k stack lists → ((x : Place) → is_marking h.shape x ≡ false) → ((a : ℕ) → out_of h.shape a ≡ None) → LiesIn h w → IsValid w → AreBlack h w → (bg : HasBegun w (zones_in zones) v) → LiesIn k v × AreTied k stack lists v bg.collection
 begins_tied h k old stack lists zones w v inv b settled none_out l ok black bg = (lies_begun h old w v zones k stack lists inv b settled none_out l ok black bg, tied_begun h old w v zones k stack lists inv b settled none_out l ok black bg)

@@ -1,11 +1,10 @@
 -- A collector that has begun a collection stands for the world in which it begins.
-use Rattle.std.proofs.Common.{◌≡◌, ◌<◌, ℕ, false, List, [], ◌∷◌, length, Option, Some, None, is_some, refl, sym, ap, subst, ◌∙◌, inl, arith, Contains}
+use Rattle.std.proofs.Common.{◌≡◌, ◌≢◌, ◌<◌, ℕ, false, List, [], ◌∷◌, length, Option, Some, None, is_some, refl, sym, ap, subst, ◌∙◌, inl, arith, Contains}
 use Rattle.gz_names.specs.Zones.{HasZone, zones_in}
 use Rattle.gz_names.specs.declared.numbers.Place.{Place}
 use Rattle.gz_names.specs.declared.zone_sets.ZoneSet.{ZoneSet}
 use Rattle.cell_bits.specs.declared.bits.Bits.{Bits}
 use Rattle.colour_defs.specs.World.{World, Collection, Has, IsSettled, marking_of}
-use Rattle.colour_defs.specs.Lawful.{Begins}
 use Rattle.colour_defs.specs.Laws.{IsValid}
 use Rattle.colour_defs.proofs.Lists.{contains_head, nothing_in_none}
 use Rattle.colour_defs.proofs.ZoneSets.{zones_in-has}
@@ -15,23 +14,24 @@ use Rattle.zone_edges.specs.Groups.{Edge}
 use Rattle.zone_edges.specs.Looks.{cursor_of}
 use Rattle.barriers.specs.PendingLive.{GrayInvariant, buffer_of}
 use Rattle.barriers.specs.Invariant.{MarkingInvariant}
+use Rattle.slice_driver.proofs.beginning.HasBegun.{HasBegun}
 use Rattle.slice_driver.specs.Collector.{CollectorState, heap_with}
 use Rattle.slice_driver.specs.Worlds.{IsInFlight, LiesIn}
 use Rattle.slice_driver.specs.Closures.{AreBlack, AreTied}
 use Rattle.slice_driver.specs.Represents.{AreLookedAt, IsIdle, Represents, RunsAs, WaitsWhileMarking}
 use Rattle.slice_driver.specs.Units.{BeginsIn}
 use Rattle.slice_driver.specs.Begins.{BeginsMarking}
-use Rattle.colour_defs.proofs.ValidReports.{begin_valid}
-use Rattle.slice_driver.proofs.beginning.BeginsIn.{begins_in}
-use Rattle.slice_driver.proofs.beginning.Beginning.{begins_marking, begins_tied, none_flown, runs_begun}
+use Rattle.colour_defs.proofs.ValidReports.{begin_valid, prepare_valid}
+use Rattle.slice_driver.proofs.beginning.BeginsIn.{begins_in, has_begun}
+use Rattle.slice_driver.proofs.beginning.Beginning.{begins_marking, begins_tied, none_flown, runs_begun, zones_placed}
 
 pub none_member : {X : Type 0} (xs : List X) → ((x : X) → Contains xs x → ⊥) → xs ≡ []
 none_member [] none = refl
 none_member (x ∷ xs) none = absurd (none x (contains_head x xs))
 
-module _ (c d : CollectorState) (flown : ℕ → Option Bits) (w v : World) (zones : ZoneSet) (rep : Represents c flown w) (ok : IsValid w) (idle_run : c.run ≡ None) (b : BeginsMarking c.heap zones d.heap d.stack d.lists) (bg : Begins w (zones_in zones) v) where
+module _ (c d : CollectorState) (flown : ℕ → Option Bits) (w v : World) (zones : ZoneSet) (rep : Represents c flown w) (ok : IsValid w) (idle_run : c.run ≡ None) (b : BeginsMarking c.heap zones d.heap d.stack d.lists) (bg : HasBegun w (zones_in zones) v) where
   idle : IsIdle c
-  idle = subst (λ k. RunsAs (heap_with c flown) c w None k) bg.idle (subst (λ r. RunsAs (heap_with c flown) c w r w.collection) idle_run rep.runs)
+  idle = subst (λ k. RunsAs (heap_with c flown) c w None k) bg.idle.none_running (subst (λ r. RunsAs (heap_with c flown) c w r w.collection) idle_run rep.runs)
 
   own : joined c.heap flown ≡ c.heap
   own = none_flown c.heap flown rep.flies.covers idle.kept
@@ -43,7 +43,7 @@ module _ (c d : CollectorState) (flown : ℕ → Option Bits) (w v : World) (zon
   none_marking p = ap is_marking_state (idle.states (zone_of c.heap.shape p))
 
   black : AreBlack c.heap w
-  black = subst (λ h. AreBlack h w) own (rep.black (ap marking_of bg.idle))
+  black = subst (λ h. AreBlack h w) own (rep.black (record { none_marking = ap marking_of bg.idle.none_running; none_preparing = bg.idle.none_preparing }))
 
   begun : MarkingInvariant d.heap d.stack × GrayInvariant d.heap d.stack d.lists
   begun = begins_marking c.heap d.heap c.stack d.stack d.lists zones w marks b none_marking idle.kept rep.lies
@@ -73,7 +73,7 @@ module _ (c d : CollectorState) (flown : ℕ → Option Bits) (w v : World) (zon
   -- where no zone is to be marked, black is as it was
   no_zone : IsSettled v → (z : ℕ) → HasZone zones.bits z → ⊥
   no_zone settled z has =
-      let empty : zones_in zones ≡ [] = sym bg.marking_are ∙ (sym (ap (λ (u : World). marking_of u.collection) bg.world_is) ∙ settled) in
+      let empty : zones_in zones ≡ [] = sym bg.marking_are ∙ (sym (ap (λ (u : World). marking_of u.collection) bg.world_is) ∙ settled.none_marking) in
       nothing_in_none z (subst (λ zs. Contains zs z) empty ((zones_in-has zones z).1 has))
 
   black_begun : IsSettled v → AreBlack d.heap v
@@ -81,8 +81,8 @@ module _ (c d : CollectorState) (flown : ℕ → Option Bits) (w v : World) (zon
       let was : name_at c.heap.shape p ≡ Some x = subst (λ (s : Shape). name_at s p ≡ Some x) b.shape_is e in
       let both = black x p was in
       let same = b.outside p (λ within. no_zone settled (zone_of c.heap.shape p) within) in (
-        λ has. same ∙ both.0 (subst (λ (u : World). Has u.black x) bg.world_is has),
-        λ is. subst (λ (u : World). Has u.black x) (sym bg.world_is) (both.1 (sym same ∙ is)),
+        λ has. same ∙ both.0 ((bg.black_are x).0 has).0,
+        λ is. (bg.black_are x).1 (both.1 (sym same ∙ is), λ here. no_zone settled (zone_of c.heap.shape p) (zones_placed c.heap w rep.lies zones p x was here)),
       )
 
   zones_made : (z : ℕ) → HasZone zones.bits z → z < length c.heap.shape.states
@@ -120,15 +120,15 @@ none_runs c flown w idle rep = go w.collection (subst (λ r. RunsAs (heap_with c
     go None runs = refl
     go (Some k) runs = absurd runs
 
-pub begins_worlds : (c d : CollectorState) (zones : ZoneSet) → c.run ≡ None → BeginsMarking c.heap zones d.heap d.stack d.lists → ((z : ℕ) → HasZone zones.bits z → z < length c.heap.shape.states) → d.run ≡ Some (record { zones = zones; formed = false }) → d.edges.zones ≡ zones → ((a b : ℕ) → Edge d.edges.sources a b → ⊥) → ((z : ℕ) → cursor_of d.edges z ≡ 0) → d.edges.stepped.bits ≡ 0 → BeginsIn c zones.bits d
-begins_worlds c d zones idle b made run are none start fresh flown w ok rep =
-    let begun = begins_in w (zones_in zones) (none_runs c flown w idle rep)
+pub begins_worlds : (c d : CollectorState) (zones : ZoneSet) → zones_in zones ≢ [] → c.run ≡ None → BeginsMarking c.heap zones d.heap d.stack d.lists → ((z : ℕ) → HasZone zones.bits z → z < length c.heap.shape.states) → d.run ≡ Some (record { zones = zones; formed = false }) → d.edges.zones ≡ zones → ((a b : ℕ) → Edge d.edges.sources a b → ⊥) → ((z : ℕ) → cursor_of d.edges z ≡ 0) → d.edges.stepped.bits ≡ 0 → BeginsIn c zones.bits d
+begins_worlds c d zones some idle b made run are none start fresh flown w ok rep =
+    let begun = begins_in w (zones_in zones) (record { none_running = none_runs c flown w idle rep; none_preparing = rep.lies.calm }) some
     (λ z has. subst (λ n. z < n) (sym rep.lies.shown.zones_are ∙ rep.lies.part.part.zones)
-    (made z ((zones_in-has zones z).0 has))) in (
+    (made z ((zones_in-has zones z).0 has))) in
+    let seen = has_begun w (zones_in zones) begun.0 begun.1 in (
       begun.0,
       begun.1,
-      begin_valid w
-          (zones_in zones) begun.0 ok begun.1,
-      represents_begun c d flown w begun.0 zones rep ok idle b begun.1 run
-          (looked_begun d.heap d zones begun.0 begun.1.collection are none start fresh),
+      begin_valid begun.1.between (zones_in zones) begun.0 (prepare_valid w (zones_in zones) begun.1.between ok begun.1.prepares) begun.1.begins,
+      represents_begun c d flown w begun.0 zones rep ok idle b seen run
+          (looked_begun d.heap d zones begun.0 seen.collection are none start fresh),
     )

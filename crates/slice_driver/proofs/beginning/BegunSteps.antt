@@ -1,7 +1,7 @@
 -- The steps by which a collection begins.
-use Rattle.std.proofs.Common.{◌≡◌, ◌⊎◌, ◌↔◌, ◌<◌, ℕ, Bool, true, false, List, [], length, Option, Some, None, Contains, IsSome, IsTrue, refl, sym, ap, subst, ◌∙◌, inl, inr, arith, option_map, slice_get}
+use Rattle.std.proofs.Common.{◌≡◌, ◌≢◌, ◌⊎◌, ◌↔◌, ◌<◌, ℕ, Bool, true, false, List, [], length, Option, Some, None, Contains, IsSome, IsTrue, refl, sym, ap, subst, ◌∙◌, inl, inr, arith, option_map, slice_get}
 use Rattle.std.proofs.lemmas.Option.{slice_get-get_or}
-use Rattle.gz_names.specs.Zones.{HasZone}
+use Rattle.gz_names.specs.Zones.{HasZone, zones_in}
 use Rattle.gz_names.specs.declared.numbers.Place.{Place}
 use Rattle.gz_names.specs.declared.zone_sets.ZoneSet.{ZoneSet}
 use Rattle.std.specs.Int.{bit_at}
@@ -331,13 +331,13 @@ module _ (c : CollectorState) (rest : IsAtRest c) (zones : ZoneSet) (small : (z 
           let last = shape_still (IsTargetAmong k zones (length k.shape.states)) zones k q l r targets in
           ap (λ (h : HeapState). out_of h.shape x) on.rest ∙ (ap (λ (s : Shape). out_of s x) (last ∙ first ∙ ap (λ (h : HeapState). h.shape) same) ∙ (idle_of c rest.world rest.represents rest.idle).kept x)
 
-      module _ (edges : Noted) (are : edges.zones ≡ zones) (none : (x y : ℕ) → Edge edges.sources x y → ⊥) (start : (z : ℕ) → cursor_of edges z ≡ 0) (fresh : edges.stepped.bits ≡ 0) where
+      module _ (some : zones_in zones ≢ []) (edges : Noted) (are : edges.zones ≡ zones) (none : (x y : ℕ) → Edge edges.sources x y → ⊥) (start : (z : ℕ) → cursor_of edges z ≡ 0) (fresh : edges.stepped.bits ≡ 0) where
         abbrev started : CollectorState → CollectorState
         started d = record d { edges = edges; run = Some (record { zones = zones; formed = false }) }
 
         begins_by : (states : List State) → length states ≡ length l.shape.states → ((z : ℕ) → HasZone zones.bits z → z < length l.shape.states → state_or (slice_get states z) ≡ next_state (state_in l.shape z)) → ((z : ℕ) → (HasZone zones.bits z → ⊥) → state_or (slice_get states z) ≡ state_in l.shape z) → BeginsIn c zones.bits (started (record marked { heap = record l { shape = record l.shape { states = states } } }))
         begins_by states count on others =
-            begins_worlds c (started (record marked { heap = record l { shape = record l.shape { states = states } } })) zones rest.idle
+            begins_worlds c (started (record marked { heap = record l { shape = record l.shape { states = states } } })) zones some rest.idle
             (begins c rest.world rest.represents rest.idle zones small b.buffers k q
             (subst (λ (x : HeapState). Marks (λ y. Contains x.shape.regs (Some y)) zones x c.stack k q) same regs)
             l r targets put.roots states made count on others)

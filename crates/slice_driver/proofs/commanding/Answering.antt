@@ -304,7 +304,7 @@ module _ (b : CollectorState) (flown : ℕ → Option Bits) (command : GraphCmd)
         colour_same q = ap (λ (bs : List Bits). colour_in (slice_get (with_flown flying 0 bs) q.0) q.1) colours
 
         none : IsSettled w → (q : Place) → is_marking b.heap.shape q ≡ false
-        none settled q = settled_states (heap_with b flown) b w b.run w.collection rep.runs settled (zone_of b.heap.shape q)
+        none settled q = settled_states (heap_with b flown) b w b.run w.collection rep.runs settled.none_marking (zone_of b.heap.shape q)
 
         spreads : IsSettled w → SpreadsBlack (heap_with b flown) p (with_colours new es)
         spreads settled q = (
@@ -392,7 +392,7 @@ module _ (b : CollectorState) (flown : ℕ → Option Bits) (command : GraphCmd)
         colour_same q = ap (λ (bs : List Bits). colour_in (slice_get (with_flown flying 0 bs) q.0) q.1) colours
 
         none_marking : IsSettled w → (q : Place) → is_marking new.shape q ≡ false
-        none_marking settled q = ap is_marking_state (served.states (zone_of new.shape q)) ∙ settled_states (joined m flying) t w b.run w.collection there.runs settled (zone_of new.shape q)
+        none_marking settled q = ap is_marking_state (served.states (zone_of new.shape q)) ∙ settled_states (joined m flying) t w b.run w.collection there.runs settled.none_marking (zone_of new.shape q)
 
         spreads : IsSettled w → SpreadsBlack (joined m flying) p (joined new flying)
         spreads settled = one_spreads (joined m flying) (joined new flying) stack p served.marks (none_marking settled) (colour_same p ∙ made_black m zone p cell between flying mk covers sized) (λ q n. colour_same q ∙ others_keep m zone p cell between flying mk covers sized q n)

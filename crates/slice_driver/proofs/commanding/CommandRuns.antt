@@ -129,7 +129,15 @@ module _ (c d : CollectorState) (flying : ℕ → Option Bits) (rest : d ≡ rec
         record { present = from.0; of = from.1 ∙ l.of; into = to.1 ∙ l.into; outside = l.outside }
 
     pub first_served : (a b : ℕ) → IsFirstEdge w k a b → IsFirstEdge v kk a b
-    first_served a b e = subst (λ (x : Collection). IsFirstEdge v x a b) (sym same) (e.0, e.1, e.2, e.3, e.4, leads_still (Closure k.snapshot (Has k.black_starts)) a b e.3 e.4 e.5)
+    first_served a b e = subst (λ (x : Collection). IsFirstEdge v x a b) (sym same) (
+      e.0,
+      e.1,
+      e.2,
+      elim e.3 [
+        | inl l ↦ inl (l.0, l.1, leads_still (Closure k.snapshot (Has k.black_starts)) a b l.0 l.1 l.2)
+        | inr l ↦ inr (l.0, l.1, leads_still (Closure k.snapshot (Has k.black_starts)) b a l.0 l.1 l.2, (l.3.0, l.3.1, l.3.2, (name_still l.3.0 l.3.3).0))
+      ],
+    )
 
   module _ (marks : MarkingInvariant old c.stack) (w v : World) (k kk : Collection) (lies : LiesIn c.heap w) (lies_after : LiesIn d.heap v) (ok : IsValid w) (same : kk ≡ record k { tally = kk.tally; woken = kk.woken }) (names : (q : Place) (y : Name) → name_at c.heap.shape q ≡ Some y → name_at d.heap.shape q ≡ Some y) (cmd : GraphCmd) (g : GraphState) (changes : Changes c.heap cmd d.heap) (shows : Shows c.heap g) (accepted : refusal_in (step_of g cmd).1 ≡ None) (apart : AreApart c.heap.shape.wrappers.lists) (black : WrapsBlack old cmd) (covers : Covers c.heap.shape flying) where
     sized : length c.heap.colours ≡ length c.heap.shape.arenas

@@ -25,14 +25,16 @@ counted_marking w c None = refl
 counted_marking w c (Some k) = refl
 
 -- where all cells stay in place, the heap lies in each world with the graph after the step, and else as before
-pub lies_still : (w v : World) (old new : HeapState) (c : GraphCmd) (answer : Reply) (l : LiesIn old w) → IsStepIn w old new c answer l → StayInPlace old.shape new.shape → v.graph ≡ (step_of w.graph c).0 → v.places ≡ w.places → v.owner ≡ w.owner → v.out ≡ w.out → v.white ≡ w.white → LiesIn new v
-lies_still w v old new c answer l step stay graph at owner out white =
+pub lies_still : (w v : World) (old new : HeapState) (c : GraphCmd) (answer : Reply) (l : LiesIn old w) → IsStepIn w old new c answer l → StayInPlace old.shape new.shape → v.graph ≡ (step_of w.graph c).0 → v.places ≡ w.places → v.owner ≡ w.owner → v.weak ≡ w.weak → v.preparing ≡ w.preparing → v.out ≡ w.out → v.white ≡ w.white → LiesIn new v
+lies_still w v old new c answer l step stay graph at owner weak calm out white =
     lies_from new (step_of l.graph c).0 v step.shown step.well_formed (subst (λ g. IsPartOf g (step_of l.graph c).0) (sym graph) step.part) stay.whole
     (λ x p. (
       λ e. stay.names p ∙ (l.places_are x p).0 (ap (λ m. places.get m x) (sym at) ∙ e),
       λ e. ap (λ m. places.get m x) at ∙ (l.places_are x p).1 (sym (stay.names p) ∙ e),
     ))
     (owner ∙ (l.owner_is ∙ sym stay.owners))
+    (weak ∙ l.weak_is)
+    (calm ∙ l.calm)
     (out ∙ (l.out_is ∙ sym stay.outs))
     (λ x p. (
       λ has. (stay.unswept p x).1 ((l.white_are x p).0 (subst (λ (ws : List (Name × (ℕ × ℕ))). Contains ws (x, p)) white has)),
@@ -46,11 +48,11 @@ does_quiet w old new c answer ds es ok l black does stay quiet same =
     let v : World = record w { graph = (step_of w.graph c).0; collection = with_counts w.graph c w.collection } in
     record {
       after = v;
-      command = command_accepted w v c answer None step.answer_is step.accepted none refl;
-      lies = lies_still w v old new c answer l step stay refl refl refl refl refl;
+      command = command_accepted w v c answer None l.calm step.answer_is step.accepted none refl;
+      lies = lies_still w v old new c answer l step stay refl refl refl refl refl refl refl;
       black = λ settled x p e. (
           let was : name_at old.shape p ≡ Some x = sym (stay.names p) ∙ e in
-          let both = black (sym (counted_marking w c w.collection) ∙ settled) x p was in
+          let both = black (record { none_marking = sym (counted_marking w c w.collection) ∙ settled.none_marking; none_preparing = l.calm }) x p was in
           let there = named_present old.shape p x was in (
             λ has. (same p there).1 (both.0 has),
             λ b. both.1 ((same p there).0 b),

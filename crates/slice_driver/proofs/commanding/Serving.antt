@@ -328,7 +328,7 @@ module _ (old new : HeapState) (flown : ℕ → Option Bits) (s : Piles) (lists 
           let rk : register_cell g k ≡ Some xk.0 = reg_shown old g k shows ∙ (ap (held_name old.shape) eb ∙ xk.1) in
           let rv : register_cell g v ≡ Some xv.0 = reg_shown old g v shows ∙ (ap (held_name old.shape) ed ∙ xv.1) in
           let acc : refusal_in (put_from g (Some xm.0) (Some xk.0) (Some xv.0)).1 ≡ None = sym (ap (λ o. refusal_in (put_from g o (register_cell g k) (register_cell g v)).1) rm ∙ (ap (λ o. refusal_in (put_from g (Some xm.0) o (register_cell g v)).1) rk ∙ ap (λ o. refusal_in (put_from g (Some xm.0) (Some xk.0) o).1) rv)) ∙ accepted in
-          let entry = entry_ok g xm.0 xk.0 xv.0 (put_allowed g xm.0 xk.0 xv.0 acc) in
+          let entry = entry_ok g xm.0 xk.0 xv.0 (k, rk) (put_allowed g xm.0 xk.0 xv.0 acc) in
           let map_value = one_zone map value xm.0 xv.0 xm.1 xv.1 entry.value in
           let map_key = one_zone map key xm.0 xk.0 xm.1 xk.1 entry.key in
           rewired (with_entry old map key value) p (rewired_entry h map key (Some value) (with_entry h map key value) (puts_entry h map key value) ci

@@ -41,7 +41,7 @@ record IsThere (s t : Shape) (p : Place) (x : Name) : Type 0 where
   fresh : (q : Place) (y : Name) → name_at t q ≡ Some y → (name_at s q ≡ Some y) ⊎ ((q ≡ p) × (x ≡ y))
 
 -- the world afterwards, but for the black names
-abbrev world_after : World → GraphCmd → Name → places.FinMap name_cmp (ℕ × ℕ) → List ℕ → Names → World
+abbrev world_after : World → GraphCmd → Name → places.FinMap name_cmp (ℕ × ℕ) → List (Option ℕ) → Names → World
 world_after w c x at owner black = record w { graph = (step_of w.graph c).0; places = at; owner = owner; black = black; collection = with_waking x (with_counts w.graph c w.collection) }
 
 module _ (w : World) (old new : HeapState) (c : GraphCmd) (answer : Reply) (ds es : List Bits) (p : Place) (x : Name) (ok : IsValid w) (l : LiesIn old w) (colours : ColourInvariant (with_colours old ds)) (black : IsSettled w → AreBlack (with_colours old ds) w) where
@@ -67,13 +67,13 @@ module _ (w : World) (old new : HeapState) (c : GraphCmd) (answer : Reply) (ds e
     ];
   }
 
-  module _ (at : places.FinMap name_cmp (ℕ × ℕ)) (owner : List ℕ) (step : IsStepIn w old new c answer l) (is : IsThere old.shape new.shape p x) (wakes : woken_by w.graph c ≡ Some x) (lies : (b : Names) → LiesIn new (world_after w c x at owner b)) (has : (b : Names) → HasPlace w (step_of w.graph c).0 x (world_after w c x at owner b)) (spread : IsSettled w → (q : Place) → IsBlack (with_colours new es) q ↔ Reached new.shape (BlackOr (with_colours old ds) p) q) where
+  module _ (at : places.FinMap name_cmp (ℕ × ℕ)) (owner : List (Option ℕ)) (step : IsStepIn w old new c answer l) (is : IsThere old.shape new.shape p x) (wakes : woken_by w.graph c ≡ Some x) (lies : (b : Names) → LiesIn new (world_after w c x at owner b)) (has : (b : Names) → HasPlace w (step_of w.graph c).0 x (world_after w c x at owner b)) (spread : IsSettled w → (q : Place) → IsBlack (with_colours new es) q ↔ Reached new.shape (BlackOr (with_colours old ds) p) q) where
     does_in : (b : Names) → world.Wakes w (with_counts w.graph c w.collection) (marking_of w.collection) (step_of w.graph c).0 x (world_after w c x at owner b) → (IsSettled w → AreBlack (with_colours new es) (world_after w c x at owner b)) → DoesInWorld w c answer new es
     does_in b k blacks = record {
       after = world_after w c x at owner b;
-      command = command_accepted w (world_after w c x at owner b) c answer (Some x) step.answer_is step.accepted wakes (has b, k);
+      command = command_accepted w (world_after w c x at owner b) c answer (Some x) l.calm step.answer_is step.accepted wakes (has b, k);
       lies = lies b;
-      black = λ settled. blacks (sym (woken_marking x (with_counts w.graph c w.collection) ∙ counted_marking w c w.collection) ∙ settled);
+      black = λ settled. blacks (record { none_marking = sym (woken_marking x (with_counts w.graph c w.collection) ∙ counted_marking w c w.collection) ∙ settled.none_marking; none_preparing = l.calm });
       out_is = refl;
       graph_is = refl;
       collection_is = ap (λ o. waking o (with_counts w.graph c w.collection)) (sym wakes);
@@ -88,7 +88,7 @@ module _ (w : World) (old new : HeapState) (c : GraphCmd) (answer : Reply) (ds e
         let Q : Name → Type 0 = λ s. Has w.black s ⊎ (x ≡ s) in
         let st : AreSameStarts new v P Q = starts_same v lv is settled in
         does_in (black_names k at)
-        (subst (λ zs. world.Wakes w (with_counts w.graph c w.collection) zs (step_of w.graph c).0 x v) (sym settled) (
+        (subst (λ zs. world.Wakes w (with_counts w.graph c w.collection) zs (step_of w.graph c).0 x v) (sym settled.none_marking) (
           refl,
           λ y. (
             λ h. (let b = black_named k at y h in
@@ -107,8 +107,8 @@ module _ (w : World) (old new : HeapState) (c : GraphCmd) (answer : Reply) (ds e
     does_waking = go (marking_of w.collection) refl
       where
         go : (zs : List ℕ) → marking_of w.collection ≡ zs → DoesInWorld w c answer new es
-        go [] e = does_settled e
-        go (z ∷ zs) e = does_in w.black (subst (λ ys. world.Wakes w (with_counts w.graph c w.collection) ys (step_of w.graph c).0 x (world_after w c x at owner w.black)) (sym e) (refl, refl)) (λ settled. absurd (cc (settled, e)))
+        go [] e = does_settled (record { none_marking = e; none_preparing = l.calm })
+        go (z ∷ zs) e = does_in w.black (subst (λ ys. world.Wakes w (with_counts w.graph c w.collection) ys (step_of w.graph c).0 x (world_after w c x at owner w.black)) (sym e) (refl, refl)) (λ settled. absurd (cc (settled.none_marking, e)))
 
   -- the cell was there
   pub does_found : DoesStep old c (Ok answer) new → StayInPlace old.shape new.shape → Wakes old c (Some x) → name_at old.shape p ≡ Some x → (IsSettled w → (q : Place) → IsBlack (with_colours new es) q ↔ Reached new.shape (BlackOr (with_colours old ds) p) q) → DoesInWorld w c answer new es
@@ -117,13 +117,15 @@ module _ (w : World) (old new : HeapState) (c : GraphCmd) (answer : Reply) (ds e
       does_waking w.places w.owner step
       (record { named = stay.names p ∙ e; kept = λ q y was. stay.names q ∙ was; fresh = λ q y now. inl (sym (stay.names q) ∙ now) })
       (woken_in w old c (Some x) ok l wakes)
-      (λ b. lies_still w (world_after w c x w.places w.owner b) old new c answer l step stay refl refl refl refl refl)
+      (λ b. lies_still w (world_after w c x w.places w.owner b) old new c answer l step stay refl refl refl refl refl refl refl)
       (λ b. record {
         graph_is = refl;
         found = λ there. (refl, refl);
         made = λ absent. absurd (absent (present_named old w l p x e));
         out_is = refl;
         white_is = refl;
+        weak_is = refl;
+        preparing_is = refl;
       })
       spread
 
@@ -178,6 +180,8 @@ module _ (w : World) (old new : HeapState) (c : GraphCmd) (answer : Reply) (ds e
       lies_from new (step_of l.graph c).0 (world_after w c x placed (owners_of new.shape.arenas) b) step.shown step.well_formed step.part m.whole
       (placed_are step zone m)
       refl
+      l.weak_is
+      l.calm
       (l.out_is ∙ sym m.outs)
       (λ y q. ((λ has. (m.unswept q y).1 ((l.white_are y q).0 has)), λ un. (l.white_are y q).1 ((m.unswept q y).0 un)))
 
@@ -194,5 +198,7 @@ module _ (w : World) (old new : HeapState) (c : GraphCmd) (answer : Reply) (ds e
         made = λ absent. (zone, p, zone_named new (step_of l.graph c).0 (step_of w.graph c).0 p x step.shown step.part is.named ∙ ap (λ z. Some z) m.zone_is, place_is_for old w l zone p (owners_of new.shape.arenas) m.place_is m.owners, refl);
         out_is = refl;
         white_is = refl;
+        weak_is = refl;
+        preparing_is = refl;
       })
       spread

@@ -168,7 +168,7 @@ module _ (h k : HeapState) (g : ZoneSet) (arenas_are : k.shape.arenas ≡ handed
 handed_owners : (word : ℕ) (arenas : List ArenaShape) (colours : List Bits) → length colours ≡ length arenas → owners_of (handed word arenas colours) ≡ owners_of arenas
 handed_owners word [] colours e = refl
 handed_owners word (arena ∷ arenas) [] e = absurd (omega arith)
-handed_owners word (arena ∷ arenas) (own ∷ colours) e = λ i. by (in_zones word arena.zone) i ∷ handed_owners word arenas colours (omega arith) i
+handed_owners word (arena ∷ arenas) (own ∷ colours) e = λ i. Some (by (in_zones word arena.zone) i) ∷ handed_owners word arenas colours (omega arith) i
   where
     by : (t : Bool) → (cond t (record arena { out = Some own }) arena).zone ≡ arena.zone
     by true = refl

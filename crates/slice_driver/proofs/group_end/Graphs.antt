@@ -12,7 +12,7 @@ use Rattle.colour_defs.specs.Graph.{GraphState, comp_of, comp_of_object, has_wra
 use Rattle.colour_defs.specs.Closure.{HasEdge, HoldsInField}
 use Rattle.colour_defs.specs.World.{World, IsPresent}
 use Rattle.colour_defs.specs.Laws.{IsSameComp, IsWellFormed, NamesOnlyPresent}
-use Rattle.colour_defs.specs.Present.{IsHere, IsPartOf, Shows}
+use Rattle.colour_defs.specs.Present.{IsHere, IsKeyHere, IsPartOf, Shows}
 use Rattle.colour_defs.proofs.Lists.{both_of, first_of_both, second_of_both}
 use Rattle.colour_defs.proofs.Names.{same_comp, same_name-is}
 use Rattle.slice_driver.proofs.abstraction.Named.{part_edge}
@@ -162,7 +162,11 @@ module _ (g : GraphState) (keep : Name → Bool) where
   cell_here (Cell n) c plain e = (c, e)
   cell_here (Wrap d t) c plain e = absurd plain
 
-  module _ (w v : World) (s : Shows w g) (same : v.graph ≡ w.graph) (stays : (x : Name) → IsPresent v x ↔ (IsPresent w x × (keep x ≡ true))) (presence : NamesOnlyPresent v) where
+  key_as_here : (h : GraphState) (k : Name) → Rattle.colour_defs.specs.Laws.IsNoWrapper k → IsHere h k → IsKeyHere h k
+  key_as_here h (Cell n) plain here = here
+  key_as_here h (Wrap c t) plain here = absurd plain
+
+  module _ (w v : World) (s : Shows w g) (same : v.graph ≡ w.graph) (stays : (x : Name) → IsPresent v x ↔ (IsPresent w x × (keep x ≡ true))) (presence : NamesOnlyPresent v) (whole : IsWellFormed w.graph) where
     edge_here : (n : ℕ) (y : Name) → HasEdge (restrict g keep) (Cell n) y → (keep (Cell n) ≡ true) × HasEdge g (Cell n) y × IsPresent w (Cell n)
     edge_here n y e = go (object_of (restrict g keep) n) refl e
       where
@@ -177,9 +181,10 @@ module _ (g : GraphState) (keep : Name → Bool) where
     value_stays m k u tm tk e =
         let nw = s.well_formed.no_wrappers m k u e in
         let sc = s.well_formed.keys m k u e in
-        let hm = cell_here m sc.0 nw.0 sc.1 in
-        let hk = cell_here k sc.0 nw.1 sc.2 in
-        ((stays u).0 (presence.entries m k u (subst (λ h. value_of h m k ≡ Some u) (sym same) (sym (s.part.entries m k hm hk) ∙ e)) ((stays m).1 ((s.here m).0 hm, tm)) ((stays k).1 ((s.here k).0 hk, tk)))).1
+        let hm = cell_here m sc.0 nw sc.1 in
+        let plain = s.well_formed.plain_keys m k u e in
+        let hk = cell_here k sc.0 plain sc.2 in
+        ((stays u).0 (presence.entries m k u (subst (λ h. value_of h m k ≡ Some u) (sym same) (sym (s.part.entries m k hm (key_as_here g k plain hk)) ∙ e)) ((stays m).1 ((s.here m).0 hm, tm)) ((stays k).1 ((s.here k).0 hk, tk)))).1
 
     well_formed : IsWellFormed (restrict g keep)
     well_formed = record {
@@ -187,6 +192,8 @@ module _ (g : GraphState) (keep : Name → Bool) where
       keys = λ m k u e. (let r = value_back m k u e in comps_on m k r.0 r.1 (s.well_formed.keys m k u r.2));
       values = λ m k u e. (let r = value_back m k u e in comps_on m u r.0 (value_stays m k u r.0 r.1 r.2) (s.well_formed.values m k u r.2));
       no_wrappers = λ m k u e. s.well_formed.no_wrappers m k u (value_back m k u e).2;
+      plain_keys = λ m k u e. s.well_formed.plain_keys m k u (value_back m k u e).2;
+      delegates = λ m u c t e. absurd (s.well_formed.plain_keys m (Wrap c t) u (value_back m (Wrap c t) u e).2);
     }
 
     part : IsPartOf w.graph (restrict g keep)
@@ -198,8 +205,19 @@ module _ (g : GraphState) (keep : Name → Bool) where
       made = objects_kept ∙ s.part.made;
       objects = λ n o e. s.part.objects n o (object_back n o e).1;
       wrappers = λ c t e. s.part.wrappers c t (wrapper_back c t e).1;
-      entries = λ m k hm hk. (let a = here_back m hm in let b = here_back k hk in value_on m k a.1 b.1 ∙ s.part.entries m k a.0 b.0);
+      entries = entries;
     }
+      where
+        no_entry : (h : GraphState) → IsWellFormed h → (m : Name) (c : CompNo) (t : ℕ) → value_of h m (Wrap c t) ≡ None
+        no_entry h well m c t = go (value_of h m (Wrap c t)) refl
+          where
+            go : (o : Option Name) → value_of h m (Wrap c t) ≡ o → value_of h m (Wrap c t) ≡ None
+            go None e = e
+            go (Some u) e = absurd (well.plain_keys m (Wrap c t) u e)
+
+        entries : (m k : Name) → IsHere (restrict g keep) m → IsKeyHere (restrict g keep) k → value_of (restrict g keep) m k ≡ value_of w.graph m k
+        entries m (Cell n) hm hk = (let a = here_back m hm in let b = here_back (Cell n) hk in value_on m (Cell n) a.1 b.1 ∙ s.part.entries m (Cell n) a.0 b.0)
+        entries m (Wrap c t) hm hk = no_entry (restrict g keep) well_formed m c t ∙ sym (no_entry w.graph whole m c t)
 
     pub shows_restricted : Shows v (restrict g keep)
     shows_restricted = record {

@@ -83,7 +83,7 @@ settled_grays c flown w names rep settled moved sorted = lists_as (IsGrayIn h al
     back : (x : Name) → IsPresentName w x × (Has w.black x → ⊥) → IsGrayIn (joined c.heap flown) (λ a. true) x
     back x at =
         let p = place_of c.heap w rep.lies x at.0 in
-        let none = settled_states (heap_with c flown) c w c.run w.collection rep.runs settled (zone_of c.heap.shape p.0) in
+        let none = settled_states (heap_with c flown) c w c.run w.collection rep.runs settled.none_marking (zone_of c.heap.shape p.0) in
         elim (colours.no_white p.0 (named_present c.heap.shape p.0 x p.1) none) [
           | inl gray ↦ record { place = p.0; named = p.1; here = refl; gray = gray }
           | inr black ↦ absurd (at.1 ((rep.black settled x p.0 p.1).1 black))

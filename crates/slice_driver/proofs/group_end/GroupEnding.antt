@@ -104,7 +104,7 @@ module _ (c : CollectorState) (g : ZoneSet) (rest : List ZoneSet) (ready : IsRea
     states_in : (w : World) → Represents c flown w → AreInStates c ready.run
     states_in w s = let kind = collection_of c (heap_with c flown) w ready.run ready.running s.runs in (runs_of c (heap_with c flown) w ready.run kind.0 ready.running kind.1 s.runs).states
 
-    ends_on : EndsSweeping m rest false k → DoesUnit c flown (report.Ended g grays ∷ []) (record c { heap = k; groups = rest }) (flying_after jobs flown)
+    ends_on : EndsSweeping m rest false k → DoesUnit c flown (report.Ended g grays [] ∷ []) (record c { heap = k; groups = rest }) (flying_after jobs flown)
     ends_on e w ok s =
         let has : HasStates k = record { rest_is = e.rest; sized = e.sized; still = λ b some. (e.still b some).1; swept = λ none. (e.swept none refl).1 } in
         let no_sweep = (states_in w s).swept ready.kept in
@@ -112,7 +112,7 @@ module _ (c : CollectorState) (g : ZoneSet) (rest : List ZoneSet) (ready : IsRea
         (λ done. (e.swept (λ b. sym (out_same k has no_sweep b) ∙ done.kept b) refl).0 done.none_left)
         w ok s
 
-    ends_last : EndsSweeping m rest true k → DoesUnit c flown (report.Ended g grays ∷ report.Done ∷ []) (record c { heap = k; groups = rest; run = None }) (flying_after jobs flown)
+    ends_last : EndsSweeping m rest true k → DoesUnit c flown (report.Ended g grays [] ∷ report.Done ∷ []) (record c { heap = k; groups = rest; run = None }) (flying_after jobs flown)
     ends_last e w ok s =
         let over = e.ended refl in
         let n : HeapState = all_swept m in
@@ -141,6 +141,6 @@ module _ (c : CollectorState) (g : ZoneSet) (rest : List ZoneSet) (ready : IsRea
         })
         w ok s
 
-    pub ends_group : (over : Bool) → EndsSweeping m rest over k → DoesUnit c flown (reports_of (Some (report.Ended g grays)) over) (record c { heap = k; groups = rest; run = if over then None else c.run }) (flying_after jobs flown)
+    pub ends_group : (over : Bool) → EndsSweeping m rest over k → DoesUnit c flown (reports_of (Some (report.Ended g grays [])) over) (record c { heap = k; groups = rest; run = if over then None else c.run }) (flying_after jobs flown)
     ends_group true e = ends_last e
     ends_group false e = ends_on e

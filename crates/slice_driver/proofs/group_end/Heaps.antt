@@ -22,6 +22,7 @@ use Rattle.colour_defs.specs.World.{World, Collection, IsPresent as IsPresentNam
 use Rattle.colour_defs.specs.Ends.{Lists}
 use Rattle.colour_defs.specs.Laws.{IsValid}
 use Rattle.colour_defs.specs.Present as present
+use Rattle.colour_defs.proofs.OneZone.{loses_nothing}
 use Rattle.colour_defs.proofs.Lists.{both_of, contains_cases, contains_head, nothing_in_none}
 use Rattle.colour_defs.proofs.ValidEnds.{end_valid}
 use Rattle.heap_core.specs.Shape.{HasEdge, IsPresent, cell_of, field_at, field_in, held_name, name_at, zone_of}
@@ -78,7 +79,7 @@ module _ (c : CollectorState) (flown : ℕ → Option Bits) (w : World) (k : Col
   after = ended c.heap w k g rest
 
   pub valid : IsValid after
-  valid = end_valid w after k (zones_in g) (map zones_in rest) grays ok at (groups_are c flown w k g rest ok s ready at) (lawful_end c flown w k g rest ok s ready at grays listed)
+  valid = end_valid w after k (zones_in g) (map zones_in rest) grays ok at (groups_are c flown w k g rest ok s ready at) [] (lawful_end c flown w k g rest ok s ready at grays listed) (loses_nothing w after s.lies.weak_is s.lies.weak_is)
 
   pub sized : length c.heap.colours ≡ length c.heap.shape.arenas
   sized = (inv c flown w k g rest ok s ready at).holds.colours.sized
@@ -148,7 +149,7 @@ module _ (c : CollectorState) (flown : ℕ → Option Bits) (w : World) (k : Col
   shown = s.lies.shown
 
   pub part : present.Shows after graph_after
-  part = shows_restricted s.lies.graph keep w after s.lies.part refl stays valid.presence
+  part = shows_restricted s.lies.graph keep w after s.lies.part refl stays valid.presence ok.graph
 
   reg_alive : (p : Place) → Contains c.heap.shape.regs (Some p) → is_dead c.heap g p ≡ false
   reg_alive p held =
@@ -288,7 +289,7 @@ module _ (c : CollectorState) (flown : ℕ → Option Bits) (w : World) (k : Col
       let o = shown.entries_known x y z r.2 in
       let am = kept_alive o.0 x o.4 r.0 in
       let aq = kept_alive o.1 y o.5 r.1 in
-      let av = kept_alive o.2 z o.6 (value_kept_too s.lies.graph keep w after s.lies.part refl stays valid.presence x y z r.0 r.1 r.2) in
+      let av = kept_alive o.2 z o.6 (value_kept_too s.lies.graph keep w after s.lies.part refl stays valid.presence ok.graph x y z r.0 r.1 r.2) in
       let nm = name_on o.0 am ∙ o.4 in
       let nq = name_on o.1 aq ∙ o.5 in
       let nv = name_on o.2 av ∙ o.6 in

@@ -21,7 +21,7 @@ use Rattle.slice_driver.proofs.group_end.Ready.{collection_of}
 use Rattle.slice_driver.proofs.group_end.Runs.{represents_after}
 use Rattle.slice_driver.proofs.group_end.Worlds.{ended, ends_group}
 
-pub group_ends : (c d : CollectorState) (flown flying : ℕ → Option Bits) (w : World) (g : ZoneSet) (rest : List ZoneSet) (grays : List Name) → IsValid w → Represents c flown w → IsReady c g rest → EndsIn c g rest d → AreJustFlown d.heap.shape flying → Lists (IsGrayHere c.heap g) grays → (v : World) × EndsGroup w (zones_in g) grays v × IsValid v × Represents d flying v
+pub group_ends : (c d : CollectorState) (flown flying : ℕ → Option Bits) (w : World) (g : ZoneSet) (rest : List ZoneSet) (grays : List Name) → IsValid w → Represents c flown w → IsReady c g rest → EndsIn c g rest d → AreJustFlown d.heap.shape flying → Lists (IsGrayHere c.heap g) grays → (v : World) × EndsGroup w (zones_in g) grays [] v × IsValid v × Represents d flying v
 group_ends c d flown flying w g rest grays ok s ready ends flies listed =
     let k = collection_of c (heap_with c flown) w ready.run ready.running s.runs in (
       ended c.heap w k.0 g rest,

@@ -73,6 +73,8 @@ module _ (c : CollectorState) (flown : ℕ → Option Bits) (w : World) (k : Col
       (whole_at_end c.heap n g (arenas_are c flown w k g rest ok s ready at grays listed n e) (sized c flown w k g rest ok s ready at grays listed n e) ready.kept s.lies.whole)
       places_after
       (s.lies.owner_is ∙ sym (owners_at_end c.heap n g (arenas_are c flown w k g rest ok s ready at grays listed n e) (sized c flown w k g rest ok s ready at grays listed n e)))
+      s.lies.weak_is
+      s.lies.calm
       (ap (λ owner. arenas_from 0 owner (zones_in g)) s.lies.owner_is ∙ sym (outs_at_end c.heap n g (arenas_are c flown w k g rest ok s ready at grays listed n e) (sized c flown w k g rest ok s ready at grays listed n e) ready.small ready.kept))
       (λ x p. (
         λ l. (let r = placed_by_has (is_dead c.heap g) (places.entries w.places) x p l in dead_unswept x p ((s.lies.places_are x p).0 ((entries_are w.places x p).0 r.0)) r.1),

@@ -1,5 +1,5 @@
 -- The world after the end of a group.
-use Rattle.std.proofs.Common.{◌≡◌, ◌↔◌, ℕ, Bool, true, false, not, cond, refl, sym, ap, ◌∙◌, subst, Option, None, Some, is_some, List, map, Contains}
+use Rattle.std.proofs.Common.{◌≡◌, ◌↔◌, ℕ, Bool, true, false, not, cond, refl, sym, ap, ◌∙◌, subst, Option, None, Some, is_some, List, [], map, Contains}
 use Rattle.std.specs.FinMap as places
 use Rattle.gz_names.specs.Zones.{HasZone, zones_in}
 use Rattle.gz_names.specs.declared.names.Name.{Name}
@@ -19,6 +19,7 @@ use Rattle.colour_defs.proofs.Lists.{first_of_both, second_of_both, both_of}
 use Rattle.colour_defs.proofs.Membership.{in_zone, zone_in}
 use Rattle.colour_defs.proofs.Names.{names_apart}
 use Rattle.colour_defs.proofs.ZoneSets.{zones_in-has}
+use Rattle.colour_defs.proofs.OneZone.{loses_nothing}
 use Rattle.heap_core.specs.Shape.{name_at, zone_of}
 use Rattle.heap_core.specs.Heap.{HeapState, colour_of}
 use Rattle.barriers.specs.Colours.{IsBlack, IsWhite}
@@ -206,6 +207,7 @@ module _ (c : CollectorState) (flown : ℕ → Option Bits) (w : World) (k : Col
     grays_are = record { ascending = l.ascending; has = λ x. ((λ m. gray_of_group x ((l.has x).0 m)), λ is. (l.has x).1 (group_gray x is)) };
     graph_is = refl;
     owner_is = refl;
+    preparing_is = refl;
     gone = gone;
     stay = stay;
     white_are = white_are;
@@ -214,11 +216,12 @@ module _ (c : CollectorState) (flown : ℕ → Option Bits) (w : World) (k : Col
     black_are = λ settled x. black_are x;
   }
 
-  pub ends_group : (grays : List Name) → Lists (IsGrayHere c.heap g) grays → EndsGroup w (zones_in g) grays (ended c.heap w k g rest)
+  pub ends_group : (grays : List Name) → Lists (IsGrayHere c.heap g) grays → EndsGroup w (zones_in g) grays [] (ended c.heap w k g rest)
   ends_group grays l = record {
     collection = k;
     rest = map zones_in rest;
     running = at;
     first = groups_are c flown w k g rest ok s ready at;
     ends = lawful_end grays l;
+    loses = loses_nothing w (ended c.heap w k g rest) s.lies.weak_is s.lies.weak_is;
   }

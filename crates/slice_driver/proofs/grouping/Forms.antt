@@ -1,5 +1,5 @@
 -- As the groups are formed the collector stands for the world in which they are.
-use Rattle.std.proofs.Common.{◌≡◌, ◌↔◌, ◌<◌, ℕ, true, cond, inl, inr, refl, sym, ap, ◌∙◌, subst, arith, Option, None, Some, IsTrue, List, [], length, map, get_or, Contains, slice_get, slice_index_or, option_map}
+use Rattle.std.proofs.Common.{◌≡◌, ◌≢◌, ◌↔◌, ◌<◌, ℕ, true, cond, inl, inr, refl, sym, ap, ◌∙◌, subst, arith, Option, None, Some, IsTrue, List, [], length, map, get_or, Contains, slice_get, slice_index_or, option_map}
 use Rattle.std.proofs.lemmas.List.{get_or_default}
 use Rattle.std.proofs.lemmas.List.Elements.{Contains-get_or}
 use Rattle.std.proofs.lemmas.Option.{slice_get-get_or}
@@ -15,9 +15,10 @@ use Rattle.wrappers.specs.declared.wrapper_maps.WrapperKey.{WrapperKey}
 use Rattle.mark_stack.specs.Stack.{Piles}
 use Rattle.gray_lists.specs.Incoming.{Incoming, list_of as waiting_for}
 use Rattle.colour_defs.specs.Graph.{zone_of as zone_of_name}
-use Rattle.colour_defs.specs.Groups.{AreLawfulGroups, IsLastEdge}
+use Rattle.colour_defs.specs.Groups.{AreLawfulGroups, IsLastEdge, LeadsOutside}
+use Rattle.colour_defs.specs.Laws.{IsValid}
 use Rattle.colour_defs.specs.Lawful.{FormsGroups}
-use Rattle.colour_defs.specs.World.{World, Collection, IsSettled, marking_of}
+use Rattle.colour_defs.specs.World.{World, Collection, IsSettled, marking_of, BlackClosure}
 use Rattle.colour_defs.proofs.ZoneSets.{zones_in-has}
 use Rattle.heap_core.specs.Shape.{is_marking_state, name_at, state_in, zone_of}
 use Rattle.heap_core.specs.Heap.{HeapState, joined}
@@ -58,11 +59,13 @@ lies_running h w o l = record {
   part = record { well_formed = l.part.well_formed; part = l.part.part; here = l.part.here };
   places_are = l.places_are;
   owner_is = l.owner_is;
+  weak_is = l.weak_is;
+  calm = l.calm;
   out_is = l.out_is;
   white_are = l.white_are;
 }
 
-module _ (c d : CollectorState) (flown : ℕ → Option Bits) (w : World) (k : Collection) (groups : List ZoneSet) (s : Represents c flown w) (f : FormsIn c groups d) (at : w.collection ≡ Some k) where
+module _ (c d : CollectorState) (flown : ℕ → Option Bits) (w : World) (k : Collection) (groups : List ZoneSet) (ok : IsValid w) (s : Represents c flown w) (f : FormsIn c groups d) (at : w.collection ≡ Some k) where
   runs : Runs (heap_with c flown) c w f.run k
   runs = runs_of c (heap_with c flown) w f.run k f.running at s.runs
 
@@ -100,9 +103,8 @@ module _ (c d : CollectorState) (flown : ℕ → Option Bits) (w : World) (k : C
   has_made : (comp : CompNo) (t : ℕ) → Rattle.colour_defs.specs.World.IsPresent w (Wrap comp t) → IsTrue (Rattle.colour_defs.specs.Graph.has_wrapper w.graph comp t)
   has_made comp t there = s.lies.part.part.wrappers comp t ((s.lies.part.here (Wrap comp t)).1 there)
 
-  -- each last edge is noted
-  last_noted : (a b : ℕ) → IsLastEdge w k a b → Edge c.edges.sources a b
-  last_noted a b (apart, la, lb, comp, t, e) =
+  direct : (a b : ℕ) → a ≢ b → Contains k.zones a → Contains k.zones b → (comp : CompNo) (t : ℕ) → LeadsOutside w (BlackClosure k) a b comp t → Edge c.edges.sources a b
+  direct a b apart la lb comp t e =
       let p = place_named c.heap w s.lies (Wrap comp t) e.present in
       let q = edge_placed c.heap w s.lies p.0 (Wrap comp t) (Cell t) p.1 (refl, has_made comp t e.present) in
       let from : zone_of c.heap.shape p.0 ≡ a = some_one _ _ (sym (zone_is (Wrap comp t) p.0 p.1) ∙ e.of) in
@@ -114,6 +116,10 @@ module _ (c d : CollectorState) (flown : ℕ → Option Bits) (w : World) (k : C
         | inl black ↦ absurd (e.outside (((tied_by a (in_zones a la)).black (Cell t) q.0 q.2).0 (black_closure.black black)))
         | inr n ↦ subst (λ z. Edge c.edges.sources z b) from (subst (λ z. Edge c.edges.sources (zone_of c.heap.shape p.0) z) to n)
       ]
+
+  -- each last edge is noted
+  last_noted : (a b : ℕ) → IsLastEdge w k a b → Edge c.edges.sources a b
+  last_noted a b (apart, la, lb, way) = elim way [ inl l ↦ direct a b apart la lb l.0 l.1 l.2 | inr q ↦ absurd (ok.graph.plain_keys q.3.0 (Wrap q.0 q.1) q.3.1 q.3.2) ]
 
   lawful : AreLawfulGroups w k (map zones_in groups)
   lawful = components_are_lawful w k c.edges.sources f.run.zones groups runs.zones_are components noted.first last_noted
@@ -195,6 +201,6 @@ module _ (c d : CollectorState) (flown : ℕ → Option Bits) (w : World) (k : C
     marks = subst (λ h. MarkingInvariant h d.stack) (sym heap_same) (subst (λ p. MarkingInvariant (heap_with c flown) p) (sym f.stack_is) s.marks);
     gray = subst (λ h. GrayInvariant h d.stack d.lists) (sym heap_same) (subst (λ p. GrayInvariant (heap_with c flown) p d.lists) (sym f.stack_is) (subst (λ l. GrayInvariant (heap_with c flown) c.stack l) (sym f.lists_is) s.gray));
     waits = waits_after;
-    black = λ settled. subst (λ h. AreBlack h after) (sym heap_same) (λ x p named. s.black (ap marking_of at ∙ settled) x p named);
+    black = λ settled. subst (λ h. AreBlack h after) (sym heap_same) (λ x p named. s.black (record { none_marking = ap marking_of at ∙ settled.none_marking; none_preparing = s.lies.calm }) x p named);
     runs = subst (λ (o : Option RunState). RunsAs (heap_with d flown) d after o (Some (formed_collection k groups))) (sym f.run_is) runs_after;
   }

@@ -7,6 +7,7 @@ use Rattle.gz_names.specs.declared.numbers.Place.{Place}
 use Rattle.cell_bits.specs.declared.bits.Bits.{Bits}
 use Rattle.zones.specs.declared.states.State.TheVariants as state
 use Rattle.heap_core.specs.Shape.{out_of, state_in, zone_of}
+use Rattle.colour_defs.specs.Laws.{IsValid}
 use Rattle.colour_defs.specs.Lawful.{FormsGroups, quiet, says}
 use Rattle.colour_defs.specs.World.{World}
 use Rattle.slice_driver.specs.Collector.{CollectorState, RunState, heap_with}
@@ -30,16 +31,16 @@ quiet_unit c d flown flying some q e w ok s = (w, quiet (some_running c flown w 
 pub look_unit : (c d : CollectorState) (flown : ℕ → Option Bits) → IsSome c.run → LooksIn c d → DoesUnit c flown [] d flown
 look_unit c d flown some l w ok s = (w, quiet (some_running c flown w some s), stands_quiet c flown d flown (quiet_look c d l flown w s) w (keeps_look c d l flown) s)
 
-pub groups_form : (c d : CollectorState) (flown : ℕ → Option Bits) (w : World) (groups : List ZoneSet) → Represents c flown w → FormsIn c groups d → (v : World) × FormsGroups w (map zones_in groups) v × Represents d flown v
-groups_form c d flown w groups s f =
+pub groups_form : (c d : CollectorState) (flown : ℕ → Option Bits) (w : World) (groups : List ZoneSet) → IsValid w → Represents c flown w → FormsIn c groups d → (v : World) × FormsGroups w (map zones_in groups) v × Represents d flown v
+groups_form c d flown w groups ok s f =
     let k = collection_of c (heap_with c flown) w f.run f.running s.runs in
-    (after c d flown w k.0 groups s f k.1, forms c d flown w k.0 groups s f k.1, represents_formed c d flown w k.0 groups s f k.1)
+    (after c d flown w k.0 groups ok s f k.1, forms c d flown w k.0 groups ok s f k.1, represents_formed c d flown w k.0 groups ok s f k.1)
 
 pub form_unit : (c d : CollectorState) (flown : ℕ → Option Bits) (groups : List ZoneSet) → FormsIn c groups d → DoesUnit c flown (report.Groups groups ∷ []) d flown
 form_unit c d flown groups f w ok s =
     let k = collection_of c (heap_with c flown) w f.run f.running s.runs in
-    let v = groups_form c d flown w groups s f in
-    (v.0, says (running_of c flown w f.run f.running s) (λ q. cc q) v.1 (λ over. some_group c d flown w k.0 groups s f k.1 (sym f.groups_is ∙ (over_done d flown v.0 v.2 over).none_left)), v.2)
+    let v = groups_form c d flown w groups ok s f in
+    (v.0, says (running_of c flown w f.run f.running s) (λ q. cc q) v.1 (λ over. some_group c d flown w k.0 groups ok s f k.1 (sym f.groups_is ∙ (over_done d flown v.0 v.2 over).none_left)), v.2)
 
 -- the beginning step of a zone
 pub zone_unit : (c d : CollectorState) (flown : ℕ → Option Bits) (zone : ℕ) → BeginsZone c zone d → DoesUnit c flown [] d flown

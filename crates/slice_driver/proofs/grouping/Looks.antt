@@ -114,16 +114,18 @@ module _ (c d : CollectorState) (l : LooksIn c d) where
               e.apart,
               listed a e.has_from,
               listed b e.has_to,
-              comp,
-              t,
-              record {
-                present = present_named c.heap w s.lies p (Wrap comp t) named;
-                of = zone_named c.heap s.lies.graph w.graph p (Wrap comp t) s.lies.shown s.lies.part.part named ∙ ap (λ z. Some z) e.from;
-                into = zone_named c.heap s.lies.graph w.graph e.target (Cell t) s.lies.shown s.lies.part.part target ∙ ap (λ z. Some z) e.to;
-                outside = λ closed.
-                    let black : BlackClosure k (Cell t) = reached_more k.snapshot _ _ (λ y start. inl start) closed in
-                    e.pale (black_reached c.heap c.stack inv l.black_empty l.black_fixed (pending_is_reached c.heap c.stack inv (((tied_by a e.has_from).black (Cell t) e.target target).1 black)));
-              },
+              inl (
+                comp,
+                t,
+                record {
+                  present = present_named c.heap w s.lies p (Wrap comp t) named;
+                  of = zone_named c.heap s.lies.graph w.graph p (Wrap comp t) s.lies.shown s.lies.part.part named ∙ ap (λ z. Some z) e.from;
+                  into = zone_named c.heap s.lies.graph w.graph e.target (Cell t) s.lies.shown s.lies.part.part target ∙ ap (λ z. Some z) e.to;
+                  outside = λ closed.
+                      let black : BlackClosure k (Cell t) = reached_more k.snapshot _ _ (λ y start. inl start) closed in
+                      e.pale (black_reached c.heap c.stack inv l.black_empty l.black_fixed (pending_is_reached c.heap c.stack inv (((tied_by a e.has_from).black (Cell t) e.target target).1 black)));
+                },
+              ),
             )
 
         go : (o : Option CellState) → cell_of c.heap.shape p ≡ o → option_map (λ (z : CellState). z.kind) o ≡ Some kind.Wrapper → IsFirstEdge w k a b

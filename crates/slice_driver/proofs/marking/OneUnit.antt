@@ -59,17 +59,21 @@ no_run b o e some = (λ t. absurd (cc (t, e)), λ n. absurd (let none = ap is_so
 no_jobs : (r : Option Report) (h : HeapState) → is_group_end r ≡ false → AreJobs None (jobs_at r h)
 no_jobs None h e = refl
 no_jobs (Some (report.Groups groups)) h e = refl
-no_jobs (Some (report.Ended zones grays)) h e = absurd (cc e)
+no_jobs (Some (report.Ended zones grays told)) h e = absurd (cc e)
 no_jobs (Some (report.Swept arena names)) h e = refl
+no_jobs (Some report.Started) h e = refl
 no_jobs (Some report.Done) h e = refl
+no_jobs (Some (report.Stopped zones)) h e = refl
 
 no_colours : (r : Option Report) (c : CollectorState) (flown : ℕ → Option Bits) (colours : List Bits)
     → is_group_end r ≡ false → EndsColoured r c flown colours
 no_colours None c flown colours e = tt
 no_colours (Some (report.Groups groups)) c flown colours e = tt
-no_colours (Some (report.Ended zones grays)) c flown colours e = absurd (cc e)
+no_colours (Some (report.Ended zones grays told)) c flown colours e = absurd (cc e)
 no_colours (Some (report.Swept arena names)) c flown colours e = tt
+no_colours (Some report.Started) c flown colours e = tt
 no_colours (Some report.Done) c flown colours e = tt
+no_colours (Some (report.Stopped zones)) c flown colours e = tt
 
 -- a unit that ends no group, where none is at its end
 pub not_at_end : (unit : Unit) (P : Type 0) → is_group_end unit.report ≡ false → (P → ⊥) →
@@ -245,11 +249,13 @@ module _ (c : CollectorState) (flown : ℕ → Option Bits) (e : CollectorState)
       → EndsColoured r c flown colours
   coloured_before None colours h = tt
   coloured_before (Some (report.Groups groups)) colours h = tt
-  coloured_before (Some (report.Ended zones grays)) colours h = λ w k ok rep is. subst
+  coloured_before (Some (report.Ended zones grays told)) colours h = λ w k ok rep is. subst
       (λ (x : CollectorState). AreColoured (record x.heap { colours = colours }) w.graph k
       (zones_without k.marking (zones_in zones))) still.same (h w k ok (moved c flown e f still w rep) is)
   coloured_before (Some (report.Swept arena names)) colours h = tt
+  coloured_before (Some report.Started) colours h = tt
   coloured_before (Some report.Done) colours h = tt
+  coloured_before (Some (report.Stopped zones)) colours h = tt
 
   pub ended_coloured : {E : Type 0} (r : Result Unit E) → IfOk r
       (λ (unit : Unit). (g : ℕ → Option Bits) → EndsColoured unit.report e g d.heap.colours) → IfOk r

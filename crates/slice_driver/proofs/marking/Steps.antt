@@ -211,7 +211,7 @@ module _ (c : CollectorState) (flown : ℕ → Option Bits) (d : CollectorState)
 
     black_after : IsSettled w → AreBlack (heap_with d flying) w
     black_after settled x p named =
-        let none : (z : ℕ) → is_marking_state (state_in c.heap.shape z) ≡ false = settled_states (heap_with c flown) c w c.run w.collection old.runs settled in
+        let none : (z : ℕ) → is_marking_state (state_in c.heap.shape z) ≡ false = settled_states (heap_with c flown) c w c.run w.collection old.runs settled.none_marking in
         let before = settled_pending (heap_with c flown) c.stack old.marks (λ y. none (zone_of c.heap.shape y)) p in
         let after = settled_pending (heap_with d flying) d.stack q.marks (λ y. marking_same (zone_of d.heap.shape y) ∙ none (zone_of d.heap.shape y)) p in
         let was = old.black settled x p (sym (name_same p) ∙ named) in

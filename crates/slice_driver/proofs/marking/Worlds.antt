@@ -29,6 +29,8 @@ lies_same h k w same e l = record {
   part = l.part;
   places_are = λ x p. ((λ at. name_same h k same p ∙ (l.places_are x p).0 at), λ named. (l.places_are x p).1 (sym (name_same h k same p) ∙ named));
   owner_is = l.owner_is ∙ ap owners_of (sym e);
+  weak_is = l.weak_is;
+  calm = l.calm;
   out_is = l.out_is ∙ ap (outs_from 0) (sym e);
   white_are = λ x p. ((λ c. unswept_same h.shape k.shape p x e ((l.white_are x p).0 c)), λ u. (l.white_are x p).1 (unswept_same k.shape h.shape p x (sym e) u));
 }

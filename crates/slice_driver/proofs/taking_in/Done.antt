@@ -33,6 +33,8 @@ lies_idle h w l = record {
   part = record { well_formed = l.part.well_formed; part = l.part.part; here = l.part.here };
   places_are = l.places_are;
   owner_is = l.owner_is;
+  weak_is = l.weak_is;
+  calm = l.calm;
   out_is = l.out_is;
   white_are = l.white_are;
 }
@@ -111,7 +113,7 @@ module _ (c d : CollectorState) (flown : ℕ → Option Bits) (w : World) (k : C
   }
 
   settled : IsSettled w
-  settled = ap Rattle.colour_defs.specs.World.marking_of at ∙ none k.marking (λ z m. cc ((runs.marking_are z).0 m, not_marking z))
+  settled = record { none_marking = ap Rattle.colour_defs.specs.World.marking_of at ∙ none k.marking (λ z m. cc ((runs.marking_are z).0 m, not_marking z)); none_preparing = s.lies.calm }
     where
       none : (zs : List ℕ) → ((z : ℕ) → Contains zs z → ⊥) → zs ≡ []
       none [] h = refl

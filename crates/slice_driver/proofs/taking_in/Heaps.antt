@@ -56,8 +56,8 @@ outs_after f out n (suc a) (x ∷ arenas) some low =
 
 owners_after : (f : ArenaShape → ArenaShape) → ((x : ArenaShape) → (f x).zone ≡ x.zone) → (a : ℕ) (arenas : List ArenaShape) → owners_of (change_at f arenas a) ≡ owners_of arenas
 owners_after f zone a [] = refl
-owners_after f zone zero (x ∷ arenas) = λ i. zone x i ∷ owners_of arenas
-owners_after f zone (suc a) (x ∷ arenas) = ap (λ l. x.zone ∷ l) (owners_after f zone a arenas)
+owners_after f zone zero (x ∷ arenas) = λ i. Some (zone x i) ∷ owners_of arenas
+owners_after f zone (suc a) (x ∷ arenas) = ap (λ l. Some x.zone ∷ l) (owners_after f zone a arenas)
 
 pub marking_after_sweep : (t : State) → is_marking_state (after_sweep t) ≡ is_marking_state t
 marking_after_sweep state.NoGC = refl

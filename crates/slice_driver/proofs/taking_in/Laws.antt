@@ -1,5 +1,5 @@
 -- Units that end a group, take an arena in, or finish a collection.
-use Rattle.std.proofs.Common.{◌≡◌, ℕ, zero, suc, Bool, true, false, cond, refl, sym, ◌∙◌, subst, Option, None, Some, IsSome, is_some, List, [], ◌∷◌, map, slice_get}
+use Rattle.std.proofs.Common.{◌≡◌, ℕ, zero, suc, Bool, true, false, cond, inl, refl, sym, ◌∙◌, subst, Option, None, Some, IsSome, is_some, List, [], ◌∷◌, map, slice_get}
 use Rattle.gz_names.specs.Zones.{zones_in}
 use Rattle.gz_names.specs.declared.names.Name.{Name}
 use Rattle.gz_names.specs.declared.replies.Report.TheVariants as report
@@ -74,7 +74,7 @@ over_done c flown w s o = go c.run refl (subst (λ (z : Option Collection). Runs
         record { run = r; running = e; formed = f.0; none_left = f.1; kept = none_out c.heap.shape.arenas 0 (sym s.lies.out_is ∙ o.none_out) }
 
 pub running_of : (c : CollectorState) (flown : ℕ → Option Bits) (w : World) (r : RunState) → c.run ≡ Some r → Represents c flown w → IsRunning w
-running_of c flown w r e s = let k = collection_of c (heap_with c flown) w r e s.runs in (k.0, k.1)
+running_of c flown w r e s = let k = collection_of c (heap_with c flown) w r e s.runs in inl (k.0, k.1)
 
 pub some_running : (c : CollectorState) (flown : ℕ → Option Bits) (w : World) → IsSome c.run → Represents c flown w → IsRunning w
 some_running c flown w some s = go c.run refl some
@@ -84,12 +84,12 @@ some_running c flown w some s = go c.run refl some
     go (Some r) e f = running_of c flown w r e s
 
 -- the unit that ends a group
-pub end_unit : (c d : CollectorState) (flown flying : ℕ → Option Bits) (g : ZoneSet) (rest : List ZoneSet) (grays : List Name) → IsReady c g rest → EndsIn c g rest d → AreJustFlown d.heap.shape flying → Lists (IsGrayHere c.heap g) grays → (IsAllDone d → ⊥) → DoesUnit c flown (report.Ended g grays ∷ []) d flying
+pub end_unit : (c d : CollectorState) (flown flying : ℕ → Option Bits) (g : ZoneSet) (rest : List ZoneSet) (grays : List Name) → IsReady c g rest → EndsIn c g rest d → AreJustFlown d.heap.shape flying → Lists (IsGrayHere c.heap g) grays → (IsAllDone d → ⊥) → DoesUnit c flown (report.Ended g grays [] ∷ []) d flying
 end_unit c d flown flying g rest grays ready ends flies listed more w ok s =
     let e = group_ends c d flown flying w g rest grays ok s ready ends flies listed in
     (e.0, says (running_of c flown w ready.run ready.running s) (λ q. cc q) e.1 (λ over. more (over_done d flying e.0 e.3 over)), e.3)
 
-pub end_last_unit : (c d f : CollectorState) (flown flying : ℕ → Option Bits) (g : ZoneSet) (rest : List ZoneSet) (grays : List Name) → IsReady c g rest → EndsIn c g rest d → AreJustFlown d.heap.shape flying → Lists (IsGrayHere c.heap g) grays → IsAllDone d → FinishesIn d f → DoesUnit c flown (report.Ended g grays ∷ report.Done ∷ []) f flying
+pub end_last_unit : (c d f : CollectorState) (flown flying : ℕ → Option Bits) (g : ZoneSet) (rest : List ZoneSet) (grays : List Name) → IsReady c g rest → EndsIn c g rest d → AreJustFlown d.heap.shape flying → Lists (IsGrayHere c.heap g) grays → IsAllDone d → FinishesIn d f → DoesUnit c flown (report.Ended g grays [] ∷ report.Done ∷ []) f flying
 end_last_unit c d f flown flying g rest grays ready ends flies listed done finish w ok s =
     let e = group_ends c d flown flying w g rest grays ok s ready ends flies listed in
     let o = finishes_here d f flying e.0 e.3 done finish in

@@ -89,6 +89,8 @@ module _ (c : CollectorState) (flown : ℕ → Option Bits) (w : World) (k : Col
       λ named. (s.lies.places_are x p).1 (sym (name_same c.heap d.heap (same_cells c flown w a freed bits d s t) p) ∙ named),
     );
     owner_is = s.lies.owner_is ∙ sym (owners_same c flown w a freed bits d s t);
+    weak_is = s.lies.weak_is;
+    calm = s.lies.calm;
     out_is = refl;
     white_are = λ x p. (
       λ l. (let f = (white_are x p).0 l in unswept_on c flown w a freed bits d s t p x ((s.lies.white_are x p).0 f.0) f.1),
@@ -249,7 +251,7 @@ module _ (c : CollectorState) (flown : ℕ → Option Bits) (w : World) (k : Col
     gray = subst (λ p. GrayInvariant (heap_with d flying) p d.lists) (sym t.stack_is) (subst (λ l. GrayInvariant (heap_with d flying) c.stack l) (sym t.lists_is) (gray_kept (heap_with c flown) (heap_with d flying) (same_marks c flown w a freed bits d s t) c.stack c.lists s.gray));
     waits = waits_after;
     black = λ settled x p named. (
-        let b = s.black (ap marking_of at ∙ settled) x p (sym (name_same c.heap d.heap (same_cells c flown w a freed bits d s t) p) ∙ named) in (
+        let b = s.black (record { none_marking = ap marking_of at ∙ settled.none_marking; none_preparing = s.lies.calm }) x p (sym (name_same c.heap d.heap (same_cells c flown w a freed bits d s t) p) ∙ named) in (
           λ h. black_on (heap_with c flown) (heap_with d flying) (same_marks c flown w a freed bits d s t) p (b.0 h),
           λ h. b.1 (black_back (heap_with c flown) (heap_with d flying) (same_marks c flown w a freed bits d s t) p h),
         ));

@@ -1,6 +1,8 @@
-use Rattle.std.proofs.Common.{◌<◌, Some, false, subst, rules}
+use Rattle.std.proofs.Common.{◌<◌, Some, Contains, false, subst, rules}
 use Rattle.gz_names.specs.Zones.{HasZone}
 use Rattle.gz_names.proofs.Words.{HasZone-none}
+use Rattle.colour_defs.proofs.Lists.{nothing_in_none}
+use Rattle.colour_defs.proofs.ZoneSets.{zones_in-has}
 use Rattle.slice_driver.specs.Units.{BeginsIn}
 use Rattle.slice_driver.specs.Collector.{CollectorState}
 use Rattle.slice_driver.specs.contracts.collector.Collector.{the_view}
@@ -114,6 +116,7 @@ returns-clause-begun g c =
     let made = c.are_made.ensures.0 c.if-not-are_made.false in
     let begun = begun_worlds (the_view c.self.inside) rest c.args.zones small c.buffer_gray_roots.new.heap c.in_ok-buffer_gray_roots.ensures.ok c.clear_bits.new.self c.clear_bits.ensures
     c.mark_registers.new.heap c.mark_registers.new.stack c.mark_registers.ensures c.mark_targets.new.heap c.mark_targets.new.stack c.mark_targets.ensures made
+    (λ none. nothing_in_none c.requires.some.0 (subst (λ zs. Contains zs c.requires.some.0) none ((zones_in-has c.args.zones c.requires.some.0).1 c.requires.some.1)))
     c.start.new.self c.start.ensures.zones c.start.ensures.edges c.start.ensures.cursors c.start.ensures.stepped
     c.advance_all.new.heap c.advance_all.ensures in
     subst (λ (s : CollectorState). BeginsIn s c.args.zones.bits (record (the_view c.self.inside) { heap = c.advance_all.new.heap; stack = c.mark_targets.new.stack; edges = c.start.new.self; run = Some (record { zones = c.args.zones; formed = false }) })) c.self.view_is begun

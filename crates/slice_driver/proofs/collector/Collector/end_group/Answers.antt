@@ -1,4 +1,4 @@
-use Rattle.std.proofs.Common.{◌≡◌, ◌<◌, ℕ, Bool, Option, None, Some, false, List, length, if◌then◌else◌, sym, ap, subst, ◌∙◌}
+use Rattle.std.proofs.Common.{◌≡◌, ◌<◌, ℕ, Bool, Option, None, Some, false, List, [], length, if◌then◌else◌, sym, ap, subst, ◌∙◌}
 use Rattle.gz_names.specs.declared.names.Name.{Name}
 use Rattle.gz_names.specs.declared.numbers.Place.{Place}
 use Rattle.gz_names.specs.declared.replies.Report.{Report}
@@ -65,13 +65,16 @@ returns-clause-done c = λ flown.
     let ends : EndsSweeping m here.rest over k = subst (λ (gs : List ZoneSet). EndsSweeping m gs over k) behind c.end_sweeping-finished.ensures in
     let listed : Lists (IsGrayHere v.heap group) grays = grays_here v.heap group here.ready.small grays sound.represents.lies.whole sound.represents.lies.shown.apart (gray_present v c.requires.sound.0 here.ready.kept sound) c.in_ok-grays.ensures.moved c.in_ok-grays.ensures.sorted in
     let unit = ends_group v group here.rest here.ready jobs m c.in_ok-handed.ensures.ok grays listed k flown over ends in
+    let told : List Name = c.new.result in
+    let none : [] ≡ told = sym c.new.ensures in
     let moved : record v { heap = k; groups = here.rest; run = if over then None else v.run } ≡ record v { heap = k; groups = c.advance.new.self; run = if over then None else v.run } = ap (λ (gs : List ZoneSet). record v { heap = k; groups = gs; run = if over then None else v.run }) (sym behind) in
     let self_is : record v { heap = k; groups = c.advance.new.self; run = if over then None else v.run } ≡ c.if-finished.self = elim c.if-finished.branch [
       | then-finished w ↦ ap (λ (b : Bool). record v { heap = k; groups = c.advance.new.self; run = if b then None else v.run }) w.if-finished.true ∙ sym w.self-is
       | else-finished w ↦ ap (λ (b : Bool). record v { heap = k; groups = c.advance.new.self; run = if b then None else v.run }) w.if-finished.false ∙ sym w.self-is
     ] in
-    subst (λ (x : CollectorState). DoesUnit x flown (reports_of (Some (report.Ended group grays)) over) c.if-finished.self (flying_after jobs flown)) is
-    (subst (λ (x : CollectorState). DoesUnit v flown (reports_of (Some (report.Ended group grays)) over) x (flying_after jobs flown)) (moved ∙ self_is) unit)
+    subst (λ (x : CollectorState). DoesUnit x flown (reports_of (Some (report.Ended group grays told)) over) c.if-finished.self (flying_after jobs flown)) is
+    (subst (λ (xs : List Name). DoesUnit v flown (reports_of (Some (report.Ended group grays xs)) over) c.if-finished.self (flying_after jobs flown)) none
+    (subst (λ (x : CollectorState). DoesUnit v flown (reports_of (Some (report.Ended group grays [])) over) x (flying_after jobs flown)) (moved ∙ self_is) unit))
 
 pub returns-clause-jobs : goal.returns-clause-jobs
 returns-clause-jobs c =
@@ -117,7 +120,7 @@ returns-clause-handed c =
     let out : HandsOut c.self.inside.heap c.in-Some.group c.in_ok-handed.handed c.hand_out_group.new.heap = c.in_ok-handed.ensures.ok in
     let here : HeapState → Option Report → Type 0 = λ h r. AreJobs c.in_ok-handed.handed (jobs_at r h) in
     subst (λ (x : CollectorState). here x.heap
-    (Some (report.Ended c.in-Some.group c.in_ok-grays.grays))) c.self.view_is out.jobs_are
+    (Some (report.Ended c.in-Some.group c.in_ok-grays.grays c.new.result))) c.self.view_is out.jobs_are
 
 pub returns-clause-coloured : goal.returns-clause-coloured
 returns-clause-coloured c = λ flown.
@@ -142,8 +145,8 @@ returns-clause-coloured c = λ flown.
       | else-finished w ↦ ap (λ (x : CollectorState). x.heap) w.self-is
     ] in
     let ended : EndsColoured (Some
-    (report.Ended group c.in_ok-grays.grays)) v flown h.colours = ends_coloured v flown group here.rest here.ready in
-    subst (λ (bs : List Bits). EndsColoured (Some (report.Ended group c.in_ok-grays.grays)) c.args.self.now flown bs)
+    (report.Ended group c.in_ok-grays.grays c.new.result)) v flown h.colours = ends_coloured v flown group here.rest here.ready in
+    subst (λ (bs : List Bits). EndsColoured (Some (report.Ended group c.in_ok-grays.grays c.new.result)) c.args.self.now flown bs)
     (sym (ap (λ (x : HeapState). x.colours) same ∙ colours))
     (subst (λ (x : CollectorState). EndsColoured
-    (Some (report.Ended group c.in_ok-grays.grays)) x flown h.colours) c.self.view_is ended)
+    (Some (report.Ended group c.in_ok-grays.grays c.new.result)) x flown h.colours) c.self.view_is ended)
