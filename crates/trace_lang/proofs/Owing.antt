@@ -10,10 +10,13 @@ use Rattle.std.proofs.KnownBytes.{Appends-trans, Appends-nil}
 use Rattle.gz_io.specs.Causes.{AppendsFront}
 use Rattle.gz_names.specs.declared.names.Name.{Name}
 use Rattle.gz_names.specs.declared.zone_sets.ZoneSet.{ZoneSet}
+use Rattle.gz_names.specs.declared.dumps.DumpLine.{DumpLine}
+use Rattle.gz_names.specs.DumpTexts.{dump_text}
 use Rattle.gz_names.specs.Zones.{zones_in}
 use Rattle.trace_lang.specs.Owing.{Owes}
 use Rattle.trace_lang.specs.Words.{number_words}
 use Rattle.trace_lang.specs.Texts.{name_words, names_text, name_text, bar_text, groups_text, line_of}
+use Rattle.trace_lang.specs.Texts.{break_text, dump_lines_text, told_text, told_line}
 
 pub owes_first : (a : Option (List ℕ)) (held : List ℕ) → Owes a a held held
 owes_first a held = ([], Appends-nil a, refl)
@@ -139,3 +142,73 @@ end_front a b c held text all h e k =
 
 pub two_pieces : (mid push new x y : List ℕ) → push ≡ mid ++ x → new ≡ push ++ y → new ≡ mid ++ (x ++ y)
 two_pieces mid push new x y p n = n ∙ ap (λ t. t ++ y) p ∙ append_assoc mid x y
+
+-- the lines of a dump, in two parts
+pub dump_lines-append : (n m : ℕ) (xs ys : List DumpLine) → m ≡ n + length xs
+    → dump_lines_text n (xs ++ ys) ≡ dump_lines_text n xs ++ dump_lines_text m ys
+dump_lines-append n m [] ys e = ap (λ k. dump_lines_text k ys) (let k : n ≡ m = omega (arith, e) in k)
+dump_lines-append n m (x ∷ xs) ys e =
+    ap (λ t. (break_text n ++ dump_text x) ++ t) (dump_lines-append (n + 1) m xs ys (omega (arith, e)))
+    ∙ sym (append_assoc (break_text n ++ dump_text x) (dump_lines_text (n + 1) xs) (dump_lines_text m ys))
+
+pub dump_rest : (xs : List DumpLine) (i : ℕ) → i ≤ length xs
+    → line_of (dump_lines_text 0 xs) ≡ dump_lines_text 0 (take i xs) ++ (dump_lines_text i (drop i xs) ++ 10 ∷ [])
+dump_rest xs i h =
+    let l : length (take i xs) ≡ i = length-take-le i xs h in
+    ap line_of (ap (dump_lines_text 0) (sym (take-append-drop i xs)) ∙ dump_lines-append 0 i (take i xs) (drop i xs)
+    (omega (arith, l))) ∙ append_assoc (dump_lines_text 0 (take i xs)) (dump_lines_text i (drop i xs)) (10 ∷ [])
+
+pub dump_next : (xs : List DumpLine) (i : ℕ) (d : DumpLine) → i < length xs
+    → dump_lines_text 0 (take (i + 1) xs) ≡ dump_lines_text 0 (take i xs) ++ (break_text i ++ dump_text (get_or xs i d))
+dump_next xs i d h =
+    let l : length (take i xs) ≡ i = length-take-le i xs (omega arith) in
+    ap (dump_lines_text 0) (taken_next xs i d h)
+    ∙ dump_lines-append 0 i (take i xs) (get_or xs i d ∷ []) (omega (arith, l)) ∙ ap
+    (λ t. dump_lines_text 0 (take i xs) ++ t) (append-nil (break_text i ++ dump_text (get_or xs i d)))
+
+-- the line of what is told stands behind the line before it
+pub told_behind : (text : List ℕ) (xs : List Name) → line_of (text ++ told_text xs) ≡ line_of text ++ told_line xs
+told_behind text [] = ap line_of (append-nil text) ∙ sym (append-nil (line_of text))
+told_behind text (x ∷ xs) =
+    append_assoc text (told_text (x ∷ xs)) (10 ∷ []) ∙ ap (λ t. text ++ t) tail
+    ∙ sym (append_assoc text (10 ∷ []) (told_line (x ∷ xs)))
+  where
+    tail : told_text (x ∷ xs) ++ 10 ∷ [] ≡ (10 ∷ []) ++ told_line (x ∷ xs)
+    tail = ap (λ t. 10 ∷ t) (append_assoc (codes "told") (name_words (x ∷ xs)) (10 ∷ []))
+
+pub told_some : (xs : List Name) → (length xs == 0) ≡ false → told_line xs ≡ line_of (codes "told" ++ name_words xs)
+told_some [] h = absurd (cc h)
+told_some (x ∷ xs) h = refl
+
+-- what is written in two steps, of which the second may stop early
+after_front : (a b c : Option (List ℕ)) (x y : List ℕ) → Appends a b x → AppendsFront b c y
+    → AppendsFront a c (x ++ y)
+after_front a b c x y h k = (
+  x ++ k.0,
+  k.1,
+  ap (λ t. x ++ t) k.2 ∙ sym (append_assoc x k.0 k.1),
+  Appends-trans a b c x k.0 h k.3,
+)
+
+-- the lines of a group's end, by its piece, its gray names and the line of what is told
+ended_text : (piece zs names : List ℕ) (told : List Name) → piece ≡ (codes "ended" ++ zs) ++ codes " gray"
+    → line_of (codes "ended" ++ zs ++ codes " gray" ++ names ++ told_text told)
+    ≡ line_of (piece ++ names) ++ told_line told
+ended_text piece zs names told e =
+    told_behind (((codes "ended" ++ zs) ++ codes " gray") ++ names) told
+    ∙ ap (λ t. line_of (t ++ names) ++ told_line told) (sym e)
+
+pub ended_front : (a b : Option (List ℕ)) (piece zs names : List ℕ) (told : List Name)
+    → piece ≡ (codes "ended" ++ zs) ++ codes " gray" → AppendsFront a b (line_of (piece ++ names))
+    → AppendsFront a b (line_of (codes "ended" ++ zs ++ codes " gray" ++ names ++ told_text told))
+ended_front a b piece zs names told e h =
+    subst (λ t. AppendsFront a b t) (sym (ended_text piece zs names told e))
+    (front_more a b (line_of (piece ++ names)) (told_line told) h)
+
+pub ended_told : (a b c : Option (List ℕ)) (piece zs names : List ℕ) (told : List Name)
+    → piece ≡ (codes "ended" ++ zs) ++ codes " gray" → Appends a b (line_of (piece ++ names))
+    → AppendsFront b c (told_line told)
+    → AppendsFront a c (line_of (codes "ended" ++ zs ++ codes " gray" ++ names ++ told_text told))
+ended_told a b c piece zs names told e h k =
+    subst (λ t. AppendsFront a c t) (sym (ended_text piece zs names told e))
+    (after_front a b c (line_of (piece ++ names)) (told_line told) h k)

@@ -1,5 +1,5 @@
 // From a line to its command.
-ghost use Rattle.std.specs.Prelude.{◌≡◌, ◌<◌, ◌≤◌, ◌++◌, ℕ, List, Some, Ok, IfSome, IfOk, MatchOption, length};
+ghost use Rattle.std.specs.Prelude.{◌≡◌, ◌<◌, ◌≤◌, ◌++◌, ℕ, List, [], Some, Ok, IfSome, IfOk, MatchOption, length};
 ghost use Rattle.gz_io.specs.Lines.{IsPlain};
 ghost use Rattle.gz_names.specs.declared.commands.Cmd.{Cmd};
 ghost use Rattle.gz_names.specs.declared.zone_sets.ZoneSet.{ZoneSet};
@@ -128,13 +128,21 @@ fn drop_command(rest: &[u8]) -> Option<Cmd>
     one(rest).map(|r| Cmd::Graph(GraphCmd::Drop(r)))
 }
 
+// A command of one word, if the line is over.
+fn no_more(rest: &[u8], cmd: Cmd) -> Option<Cmd>
+    ensures some { IfSome result (λ c. (c ≡ cmd) × (rest.now ≡ [])) }
+    ensures exact { rest.now ≡ [] → result ≡ Some cmd }
+{
+    if rest.is_empty() { Some(cmd) } else { None }
+}
+
 // The command for a word and the rest of its line.
 fn command(word: Word, rest: &[u8]) -> Option<Cmd>
     ensures some { IfSome result (SpellsRest word rest.now) }
     ensures exact { (c : Cmd) → SpellsRest word rest.now c → result ≡ Some c }
 {
     match word {
-        Word::Zone => rest.is_empty().then_some(Cmd::Graph(GraphCmd::Zone)),
+        Word::Zone => no_more(rest, Cmd::Graph(GraphCmd::Zone)),
         Word::Comp => one(rest).map(|z| Cmd::Graph(GraphCmd::Comp(z))),
         Word::New => new_command(rest),
         Word::Map => two(rest).map(|(r, c)| Cmd::Graph(GraphCmd::Map(r, c))),
@@ -152,9 +160,9 @@ fn command(word: Word, rest: &[u8]) -> Option<Cmd>
         Word::Find => three(rest).map(|(r, m, k)| Cmd::Graph(GraphCmd::Find(r, m, k))),
         Word::Gc => zone_list(rest).map(Cmd::Gc),
         Word::Slice => one(rest).map(Cmd::Slice),
-        Word::Finish => rest.is_empty().then_some(Cmd::Finish),
+        Word::Finish => no_more(rest, Cmd::Finish),
         Word::Collect => zone_list(rest).map(Cmd::Collect),
-        Word::Colours => rest.is_empty().then_some(Cmd::Colours),
+        Word::Colours => no_more(rest, Cmd::Colours),
     }
 }
 

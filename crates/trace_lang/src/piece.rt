@@ -2,11 +2,12 @@
 ghost use Rattle.std.specs.Prelude.{◌≡◌, ◌≤◌, ◌<◌, ◌+◌, ◌++◌, ◌∷◌, ℕ, [], length};
 ghost use Rattle.gz_names.specs.Zones.{zones_in, zones_from};
 ghost use Rattle.trace_lang.specs.Words.{number_word, number_words};
-ghost use Rattle.trace_lang.specs.Texts.{name_text, bar_text};
+ghost use Rattle.gz_names.specs.DumpTexts.{dump_text};
+ghost use Rattle.trace_lang.specs.Texts.{name_text, bar_text, break_text};
 
 use crate::tail::Tail;
 use crate::zone_bits::has_zone;
-use gz_names::{Name, ZoneSet};
+use gz_names::{DumpColour, DumpLine, Name, ZoneSet};
 use std::marker::Model;
 
 /// A piece of an output line, of at most 512 bytes, composed before it is written.
@@ -118,6 +119,47 @@ impl Piece {
     {
         if n != 0 {
             self.push(b" |");
+        }
+    }
+
+    /// Adds the line feed before a line of a dump that is not the first.
+    pub fn push_break(&mut self, n: usize)
+        requires { length self.old ≤ 500 }
+        ensures text { self.new ≡ self.old ++ break_text n }
+        ensures size { length self.new ≤ length self.old + 1 }
+    {
+        if n != 0 {
+            self.push(b"\n");
+        }
+    }
+
+    /// Adds a line of a dump, without a line feed.
+    pub fn push_dump(&mut self, line: DumpLine)
+        requires { length self.old ≤ 257 }
+        ensures text { self.new ≡ self.old ++ dump_text line }
+        ensures size { length self.new ≤ length self.old + 120 }
+    {
+        match line {
+            DumpLine::Cell(name, colour) => {
+                self.push(b"cell");
+                self.push_name(name);
+                self.push(match colour {
+                    DumpColour::Black => b" b",
+                    DumpColour::Gray => b" g",
+                });
+            }
+            DumpLine::Edge(object, name) => {
+                self.push(b"edge");
+                self.push_number(object);
+                self.push_name(name);
+            }
+            DumpLine::Weak(map, key, value) => {
+                self.push(b"weak");
+                self.push_number(map);
+                self.push_name(key);
+                self.push_name(value);
+            }
+            DumpLine::End => self.push(b"end"),
         }
     }
 }

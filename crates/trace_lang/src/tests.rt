@@ -1,8 +1,8 @@
 use crate::{parse, write_name, write_reply, write_report};
 use gz_io::MemSink;
 use gz_names::{
-    Cmd, CompNo, GraphCmd, GrayNo, Groups, Name, NameList, Names64, Refusal, Reg, Reply, Report,
-    ZoneNo, ZoneSet,
+    Cmd, CompNo, DumpColour, DumpLine, DumpLines, GraphCmd, GrayNo, Groups, Name, NameList,
+    Names64, Refusal, Reg, Reply, Report, ZoneNo, ZoneSet,
 };
 use std::process::Abort;
 use std::test::Fail;
@@ -136,7 +136,7 @@ fn three_names(rt: &HostRuntime) -> Result<NameList, Fail> {
 
 #[test]
 fn reply_texts(rt: HostRuntime) -> Result<(), Fail> {
-    let replies: [(Reply, &[u8]); 14] = [
+    let replies: [(Reply, &[u8]); 16] = [
         (Reply::Zone(zone(&rt, 63)), b"zone 63\n"),
         (Reply::Comp(CompNo(255)), b"comp 255\n"),
         (Reply::Made(0), b"cell 0\n"),
@@ -150,6 +150,8 @@ fn reply_texts(rt: HostRuntime) -> Result<(), Fail> {
         (Reply::Collected, b"collected\n"),
         (Reply::Gray(three_names(&rt)?), b"gray 7 12 2:7\n"),
         (Reply::Gray(NameList::new(rt.alloc())), b"gray -\n"),
+        (Reply::ResetDone, b"reset ok\n"),
+        (Reply::Compacted(65, 1), b"compacted 65 1\n"),
         (Reply::Refused(Refusal::WrapperKey), b"wrapper-key\n"),
     ];
     for (reply, text) in &replies {
@@ -192,14 +194,23 @@ fn report_texts(rt: HostRuntime) -> Result<(), Fail> {
     let mut freed = Names64::new();
     freed.push(Name::Cell(3));
     freed.push(Name::Wrap(CompNo(255), 4294967295));
-    let reports: [(Report, &[u8]); 6] = [
+    let reports: [(Report, &[u8]); 8] = [
+        (Report::Started, b"started\n"),
         (Report::Groups(groups), b"groups 0 2 | 1\n"),
         (
-            Report::Ended(ZoneSet { bits: 0b101 }, three_names(&rt)?),
+            Report::Ended(
+                ZoneSet { bits: 0b101 },
+                three_names(&rt)?,
+                NameList::new(rt.alloc()),
+            ),
             b"ended 0 2 gray 7 12 2:7\n",
         ),
         (
-            Report::Ended(ZoneSet { bits: 1 << 63 }, NameList::new(rt.alloc())),
+            Report::Ended(
+                ZoneSet { bits: 1 << 63 },
+                NameList::new(rt.alloc()),
+                NameList::new(rt.alloc()),
+            ),
             b"ended 63 gray -\n",
         ),
         (
@@ -208,6 +219,7 @@ fn report_texts(rt: HostRuntime) -> Result<(), Fail> {
         ),
         (Report::Swept(0, Names64::new()), b"swept 0 -\n"),
         (Report::Done, b"done\n"),
+        (Report::Stopped(ZoneSet { bits: 0b11 }), b"stopped 0 1\n"),
     ];
     for (report, text) in &reports {
         // Pieces of one byte, and a fault at each call, leave a front of the line.
@@ -222,6 +234,35 @@ fn report_texts(rt: HostRuntime) -> Result<(), Fail> {
         assert_eq!(rt; sink.bytes(), *text);
         assert_eq!(rt; sink.calls(), 1);
     }
+    Ok(())
+}
+
+#[test]
+fn watched_names_that_died_have_a_line(rt: HostRuntime) -> Result<(), Fail> {
+    let report = Report::Ended(
+        ZoneSet { bits: 1 },
+        NameList::new(rt.alloc()),
+        three_names(&rt)?,
+    );
+    let mut sink = MemSink::new(Vec::new(rt.alloc()), 4096, &[]);
+    assert!(rt; write_report(&mut sink, &report).is_ok());
+    let text: &[u8] = b"ended 0 gray -\ntold 7 12 2:7\n";
+    assert_eq!(rt; sink.bytes(), text);
+    Ok(())
+}
+
+#[test]
+fn a_dump_is_written_line_by_line(rt: HostRuntime) -> Result<(), Fail> {
+    let mut lines = DumpLines::new(rt.alloc());
+    lines.push(DumpLine::Cell(Name::Cell(0), DumpColour::Black))?;
+    lines.push(DumpLine::Cell(Name::Wrap(CompNo(1), 0), DumpColour::Gray))?;
+    lines.push(DumpLine::Edge(0, Name::Cell(0)))?;
+    lines.push(DumpLine::Weak(2, Name::Cell(0), Name::Wrap(CompNo(1), 0)))?;
+    lines.push(DumpLine::End)?;
+    let mut sink = MemSink::new(Vec::new(rt.alloc()), 4096, &[]);
+    assert!(rt; write_reply(&mut sink, &Reply::Dump(lines)).is_ok());
+    let text: &[u8] = b"cell 0 b\ncell 1:0 g\nedge 0 0\nweak 2 0 1:0\nend\n";
+    assert_eq!(rt; sink.bytes(), text);
     Ok(())
 }
 

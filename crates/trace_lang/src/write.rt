@@ -4,20 +4,25 @@ ghost use Rattle.std.specs.Prelude.{◌≡◌, ◌≤◌, ◌<◌, ◌+◌, ◌+
 ghost use Rattle.std.specs.Fmt.{decimal};
 ghost use Rattle.std.specs.Io.KnownBytes.{Appends};
 ghost use Rattle.gz_io.specs.Causes.{HasCause, AppendsFront};
+ghost use Rattle.gz_names.specs.Zones.{zones_in};
+ghost use Rattle.trace_lang.specs.Words.{number_word, number_words};
 ghost use Rattle.trace_lang.specs.Owing.{Owes};
 ghost use Rattle.trace_lang.specs.Texts.{name_text, names_text, name_words, refusal_text, reply_text, report_text};
-ghost use Rattle.trace_lang.specs.Texts.{groups_text, line_of};
+ghost use Rattle.trace_lang.specs.Texts.{groups_text, dump_lines_text, told_line, told_text, line_of};
 
 use crate::piece::Piece;
 use crate::tail::Tail;
 use gz_io::{Sink, WriteFault, write_all};
-use gz_names::{Name, Refusal, Reply, Report, ZoneSet};
+use gz_names::{DumpLine, Name, Refusal, Reply, Report, ZoneSet};
 
 // What a name behind a space takes, and a line feed.
 const NAME_ROOM: usize = 48;
 
 // What a bar and the zones of a set take, and a line feed.
 const GROUP_ROOM: usize = 256;
+
+// What a line of a dump takes, and its line feed.
+const DUMP_ROOM: usize = 256;
 
 // Writes what is held where it leaves less room than this.
 fn make_room<K: Sink>(piece: &mut Piece, sink: &mut K, room: usize) -> Result<(), WriteFault>
@@ -108,6 +113,82 @@ fn end_with_groups<K: Sink>(
         }
     }
     end_line(piece, sink)
+}
+
+// Writes the lines of a dump.
+fn write_dump<K: Sink>(sink: &mut K, lines: &[DumpLine]) -> Result<(), WriteFault>
+    ensures ok { OnOk result (Appends (K.written sink.old) (K.written sink.new)
+        (line_of (dump_lines_text 0 lines.now))) }
+    ensures err { OnErr result (AppendsFront (K.written sink.old) (K.written sink.new)
+        (line_of (dump_lines_text 0 lines.now))) }
+    ensures cause { HasCause (K.faults sink.old) (K.faults sink.new) result }
+{
+    let mut piece = Piece::new();
+    for (i, line) in lines.iter().enumerate() {
+        match make_room(&mut piece, sink, DUMP_ROOM) {
+            Ok(()) => {
+                piece.push_break(i);
+                piece.push_dump(*line);
+            }
+            Err(fault) => return Err(fault),
+        }
+    }
+    end_line(&mut piece, sink)
+}
+
+// Writes how many cells were moved and how many arenas given up.
+fn write_compacted<K: Sink>(sink: &mut K, moved: u64, given: u64) -> Result<(), WriteFault>
+    ensures ok { OnOk result (Appends (K.written sink.old) (K.written sink.new)
+        (line_of (codes "compacted" ++ number_word moved ++ number_word given))) }
+    ensures err { OnErr result (AppendsFront (K.written sink.old) (K.written sink.new)
+        (line_of (codes "compacted" ++ number_word moved ++ number_word given))) }
+    ensures cause { HasCause (K.faults sink.old) (K.faults sink.new) result }
+{
+    let mut piece = Piece::new();
+    piece.push(b"compacted");
+    piece.push_number(moved);
+    piece.push_number(given);
+    end_line(&mut piece, sink)
+}
+
+// Writes the line of the watched names that died, where there are some.
+fn write_told<K: Sink>(sink: &mut K, names: &[Name]) -> Result<(), WriteFault>
+    ensures ok { OnOk result (Appends (K.written sink.old) (K.written sink.new) (told_line names.now)) }
+    ensures err { OnErr result (AppendsFront (K.written sink.old) (K.written sink.new)
+        (told_line names.now)) }
+    ensures cause { HasCause (K.faults sink.old) (K.faults sink.new) result }
+{
+    if names.is_empty() {
+        return Ok(());
+    }
+    let mut piece = Piece::new();
+    piece.push(b"told");
+    end_with_some(&mut piece, sink, names)
+}
+
+// Writes the end of a group: its zones, its gray names, and the watched names that died with it.
+fn write_ended<K: Sink>(
+    sink: &mut K,
+    zones: ZoneSet,
+    grays: &[Name],
+    told: &[Name],
+) -> Result<(), WriteFault>
+    ensures ok { OnOk result (Appends (K.written sink.old) (K.written sink.new) (line_of
+        (codes "ended" ++ number_words (zones_in zones) ++ codes " gray" ++ names_text grays.now
+        ++ told_text told.now))) }
+    ensures err { OnErr result (AppendsFront (K.written sink.old) (K.written sink.new) (line_of
+        (codes "ended" ++ number_words (zones_in zones) ++ codes " gray" ++ names_text grays.now
+        ++ told_text told.now))) }
+    ensures cause { HasCause (K.faults sink.old) (K.faults sink.new) result }
+{
+    let mut piece = Piece::new();
+    piece.push(b"ended");
+    piece.push_zones(zones);
+    piece.push(b" gray");
+    match end_with_names(&mut piece, sink, grays) {
+        Ok(()) => write_told(sink, told),
+        Err(fault) => Err(fault),
+    }
 }
 
 // Writes a line of a word and a number.
@@ -207,7 +288,10 @@ pub fn write_reply<K: Sink>(sink: &mut K, reply: &Reply) -> Result<(), WriteFaul
         Reply::GcBegun => write_all(sink, b"gc ok\n"),
         Reply::Sliced(k) => write_numbered(sink, b"slice ", *k),
         Reply::Collected => write_all(sink, b"collected\n"),
+        Reply::ResetDone => write_all(sink, b"reset ok\n"),
         Reply::Gray(names) => write_gray(sink, names.as_slice()),
+        Reply::Dump(lines) => write_dump(sink, lines.as_slice()),
+        Reply::Compacted(moved, given) => write_compacted(sink, *moved, u64::from(*given)),
         Reply::Refused(refusal) => write_all(sink, refusal_line(*refusal)),
     }
 }
@@ -222,15 +306,16 @@ pub fn write_report<K: Sink>(sink: &mut K, report: &Report) -> Result<(), WriteF
 {
     let mut piece = Piece::new();
     match report {
+        Report::Started => {
+            piece.push(b"started");
+            end_line(&mut piece, sink)
+        }
         Report::Groups(groups) => {
             piece.push(b"groups");
             end_with_groups(&mut piece, sink, groups.as_slice())
         }
-        Report::Ended(zones, names) => {
-            piece.push(b"ended");
-            piece.push_zones(*zones);
-            piece.push(b" gray");
-            end_with_names(&mut piece, sink, names.as_slice())
+        Report::Ended(zones, grays, told) => {
+            write_ended(sink, *zones, grays.as_slice(), told.as_slice())
         }
         Report::Swept(arena, names) => {
             piece.push(b"swept");
@@ -239,6 +324,11 @@ pub fn write_report<K: Sink>(sink: &mut K, report: &Report) -> Result<(), WriteF
         }
         Report::Done => {
             piece.push(b"done");
+            end_line(&mut piece, sink)
+        }
+        Report::Stopped(zones) => {
+            piece.push(b"stopped");
+            piece.push_zones(*zones);
             end_line(&mut piece, sink)
         }
     }

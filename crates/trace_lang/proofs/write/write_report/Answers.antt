@@ -2,23 +2,9 @@ use Rattle.std.proofs.Common.{◌≡◌, ap, sym, subst, ◌∙◌, ◌++◌}
 use Rattle.std.specs.Prelude.{OnErr, codes}
 use Rattle.std.specs.Fmt.{decimal}
 use Rattle.gz_io.specs.Causes.{AppendsFront}
-use Rattle.gz_names.specs.Zones.{zones_in}
-use Rattle.trace_lang.specs.Words.{number_words, number_word}
+use Rattle.trace_lang.specs.Words.{number_word}
 use Rattle.trace_lang.specs.Texts.{line_of, names_text, report_text}
 use Rattle.trace_lang.proofs.write.write_report.Goals as goal
-
-pub returns-in-Ended-clause-err : goal.returns-in-Ended-clause-err
-returns-in-Ended-clause-err g c =
-    let first : c.push-in-Ended.new.self ≡ codes "ended" =
-    c.push-in-Ended.ensures ∙ ap (λ t. t ++ codes "ended") c.new-piece.ensures in
-    let front : c.push-in-Ended-2.new.self ≡ (codes "ended" ++ number_words (zones_in c.in-Ended.zones)) ++ codes
-    " gray" = c.push-in-Ended-2.ensures ∙ ap (λ t. t ++ codes " gray") (c.push_zones.ensures.text ∙ ap
-    (λ t. t ++ number_words (zones_in c.in-Ended.zones)) first) in
-    let all : c.push-in-Ended-2.new.self ++ names_text c.as_slice-in-Ended.result.now ≡ report_text c.args.report.now =
-    ap (λ t. c.push-in-Ended-2.new.self ++ names_text t) c.as_slice-in-Ended.ensures
-    ∙ ap (λ t. t ++ names_text c.in-Ended.names) front ∙ ap report_text (sym c.in-Ended.is) in
-    subst (λ t. OnErr c.end_with_names.result (AppendsFront (g.K.Sink.written c.args.sink.now)
-    (g.K.Sink.written c.end_with_names.new.sink) (line_of t))) all c.end_with_names.ensures.err
 
 pub returns-in-Swept-clause-err : goal.returns-in-Swept-clause-err
 returns-in-Swept-clause-err g c =
@@ -30,5 +16,5 @@ returns-in-Swept-clause-err g c =
     let all : c.push_number.new.self ++ names_text c.as_slice-in-Swept.result.now ≡ report_text c.args.report.now =
     ap (λ t. c.push_number.new.self ++ names_text t) c.as_slice-in-Swept.ensures
     ∙ ap (λ t. t ++ names_text c.in-Swept.names) front ∙ ap report_text (sym c.in-Swept.is) in
-    subst (λ t. OnErr c.end_with_names-in-Swept.result (AppendsFront (g.K.Sink.written c.args.sink.now)
-    (g.K.Sink.written c.end_with_names-in-Swept.new.sink) (line_of t))) all c.end_with_names-in-Swept.ensures.err
+    subst (λ t. OnErr c.end_with_names.result (AppendsFront (g.K.Sink.written c.args.sink.now)
+    (g.K.Sink.written c.end_with_names.new.sink) (line_of t))) all c.end_with_names.ensures.err
