@@ -10,9 +10,9 @@ use Rattle.gz_names.specs.declared.replies.Refusal.TheVariants as refusal
 use Rattle.cell_bits.specs.declared.bits.Bits.{Bits}
 use Rattle.cell_bits.specs.declared.jobs.Job.{Job}
 use Rattle.trace_lang.specs.Texts.{reply_text, line_of}
-use Rattle.colour_defs.specs.World.{Collection, World, marking_of}
+use Rattle.colour_defs.specs.World.{Collection, World, IsIdle, marking_of}
 use Rattle.colour_defs.specs.Laws.{IsValid}
-use Rattle.colour_defs.specs.Lawful.{Answers, IsRunning, RefusesIdle, Slices, with_spent}
+use Rattle.colour_defs.specs.Lawful.{Answers, IsRunning, RefusesIdle, Slices, with_spent, with_spent_preparing}
 use Rattle.heap_core.specs.Heap.{HeapState}
 use Rattle.slice_driver.specs.Collector.{CollectorState, RunState, heap_with}
 use Rattle.slice_driver.specs.Represents.{Represents, RunsAs}
@@ -20,12 +20,19 @@ use Rattle.slice_driver.specs.Units.{flown_by}
 use Rattle.slice_driver.specs.Worlds.{LiesIn}
 use Rattle.trace_cli.specs.Headline.{report_lines, answer_lines, IsAccepted, WritesAnswer, WritesFront, WritesStart}
 use Rattle.trace_cli.specs.Writing.{reports_in, BreaksInUnits, StopsInUnits, WritesUnits}
+use Rattle.trace_cli.proofs.Answered.{not_both}
 use Rattle.trace_cli.proofs.Flights.{idle_world, running_world}
 use Rattle.trace_cli.proofs.Written.{both_written, then_front_written}
 
 -- the world in which so many units more were counted
 abbrev spent : ℕ → World → World
-spent n w = record w { collection = with_spent n w.collection }
+spent n w = record w { preparing = with_spent_preparing n w.preparing; collection = with_spent n w.collection }
+
+idle_spent : (n : ℕ) (w : World) → IsIdle w → IsIdle (spent n w)
+idle_spent n w idle = record {
+  none_running = ap (with_spent n) idle.none_running;
+  none_preparing = ap (with_spent_preparing n) idle.none_preparing;
+}
 
 marking_spent : (n : ℕ) (o : Option Collection) → marking_of (with_spent n o) ≡ marking_of o
 marking_spent n None = refl
@@ -41,6 +48,8 @@ lies_spent h w n l = record {
   owner_is = l.owner_is;
   out_is = l.out_is;
   white_are = l.white_are;
+  weak_is = l.weak_is;
+  calm = ap (with_spent_preparing n) l.calm;
 }
 
 runs_spent : (h : HeapState) (c : CollectorState) (w : World) (n : ℕ) (o : Option RunState) (u : Option Collection)
@@ -69,14 +78,19 @@ runs_spent h c w n (Some r) (Some k) i = record {
           f.0,
           f.1,
           f.2,
-          f.3,
-          f.4,
-          record {
-            present = f.5.present;
-            of = f.5.of;
-            into = f.5.into;
-            outside = f.5.outside;
-          },
+          elim f.3 [
+            | inl s ↦ inl (
+              s.0,
+              s.1,
+              record { present = s.2.present; of = s.2.of; into = s.2.into; outside = s.2.outside },
+            )
+            | inr s ↦ inr (
+              s.0,
+              s.1,
+              record { present = s.2.present; of = s.2.of; into = s.2.into; outside = s.2.outside },
+              s.3,
+            )
+          ],
         ));
     looked = l.looked;
     left_black = l.left_black;
@@ -93,7 +107,10 @@ represents_spent c f w n r = record {
   marks = r.marks;
   gray = r.gray;
   waits = r.waits;
-  black = λ settled. r.black (sym (marking_spent n w.collection) ∙ settled);
+  black = λ settled. r.black (record {
+    none_marking = sym (marking_spent n w.collection) ∙ settled.none_marking;
+    none_preparing = r.lies.calm;
+  });
   runs = runs_spent (heap_with c f) c w n c.run w.collection r.runs;
 }
 
@@ -115,8 +132,8 @@ module _ (c d : CollectorState) (jobs left : List Job) (budget n : ℕ) (runs : 
     world_is = refl;
   }
 
-  none_left : n < budget → after.collection ≡ None
-  none_left less = ap (with_spent n) (idle_world d (flown_by left) h.after h.represents (over less))
+  none_left : n < budget → IsIdle after
+  none_left less = idle_spent n h.after (idle_world d (flown_by left) h.after h.represents (over less))
 
   slice_written : Appends q r (line_of (reply_text (reply.Sliced n))) → WritesAnswer w (command.Slice budget) d left p r
   slice_written written = record {
@@ -145,7 +162,7 @@ module _ (c d : CollectorState) (jobs left : List Job) (budget n : ℕ) (runs : 
     answer = reply.Sliced n;
     after = after;
     represents = represents_spent d (flown_by left) h.after n h.represents;
-    answers = inl (n, refl, slices, ap (with_spent n) (idle_world d (flown_by left) h.after h.represents idle));
+    answers = inl (n, refl, slices, idle_spent n h.after (idle_world d (flown_by left) h.after h.represents idle));
     written = both_written p q r (report_lines (reports_in h.units))
         (line_of (reply_text (reply.Sliced n))) _ refl h.written written;
   }
@@ -159,7 +176,7 @@ module _ (c d : CollectorState) (jobs left : List Job) (budget n : ℕ) (runs : 
       reply.Sliced n,
       after,
       inl
-          (n, refl, slices, ap (with_spent n) (idle_world d (flown_by left) h.after h.represents idle)),
+          (n, refl, slices, idle_spent n h.after (idle_world d (flown_by left) h.after h.represents idle)),
       refl,
     );
     written = then_front_written p q r (report_lines (reports_in h.units))
@@ -199,11 +216,11 @@ slice_breaks c d jobs left budget n p q r runs most over does written w ok stand
 -- one that stopped or broke off among its units
 slice_accepted : (w : World) (n : ℕ) → IsRunning w → IsAccepted w (command.Slice n)
 slice_accepted w n running reports why v (inl h) = cc h.1
-slice_accepted w n running reports why v (inr h) = let idle = h.1 in let some = running.1 in cc (idle, some)
+slice_accepted w n running reports why v (inr h) = not_both w h.1 running
 
 finish_accepted : (w : World) → IsRunning w → IsAccepted w command.Finish
 finish_accepted w running reports why v (inl h) = cc h.1
-finish_accepted w running reports why v (inr h) = let idle = h.1 in let some = running.1 in cc (idle, some)
+finish_accepted w running reports why v (inr h) = not_both w h.1 running
 
 pub units_stop : (w : World) (budget : ℕ) (p q : Option (List ℕ)) → IsRunning w → StopsInUnits w budget p q
     → WritesStart w (command.Slice budget) p q

@@ -160,6 +160,8 @@ fn answer_parsed<K: Sink, L: Ledger>(
         Cmd::Gc(zones) => gc(alloc, collector, handed, *zones, sink, steps),
         Cmd::Slice(budget) => slice(alloc, collector, handed, *budget, sink, steps),
         Cmd::Finish => finish(alloc, collector, handed, sink, steps),
+        // No line of the language stands for these.
+        Cmd::Weak(_) | Cmd::Reset | Cmd::Dump | Cmd::Compact(_) => Err(AnswerFault::Bad),
     }
 }
 

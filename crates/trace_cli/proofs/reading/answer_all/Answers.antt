@@ -3,6 +3,7 @@ use Rattle.std.specs.Prelude.{OnOk}
 use Rattle.std.specs.Result.{is_err}
 use Rattle.std.proofs.KnownBytes.{Appends-trans}
 use Rattle.colour_defs.specs.World.{first_world}
+use Rattle.colour_defs.specs.Lawful.{beginning}
 use Rattle.trace_cli.specs.Served.{StandsFor}
 use Rattle.trace_cli.specs.Headline.{Replays}
 use Rattle.trace_cli.specs.declared.exit.Exit.{Exit}
@@ -130,7 +131,7 @@ loop-answered-preserved g c =
         represents = writes.represents;
         fit = done.fit;
         valid =
-            c.answer_law.ensures so.world writes.after done.command writes.reports writes.answer so.valid
+            c.answer_law.ensures beginning so.world writes.after done.command writes.reports writes.answer so.valid
             writes.answers;
         stands = stands_more _ _ _ _ _ _ _ _ _ so.world done.command c.answer_next.new.collector
             c.answer_next.new.handed stands c.in-Line.ensures.bytes

@@ -1,6 +1,7 @@
 use Rattle.std.proofs.Common.{◌≡◌, [], Result, Ok, Err, IfOk, length, refl, arith}
 use Rattle.colour_defs.specs.Laws.{IsValid}
 use Rattle.colour_defs.specs.World.{first_world}
+use Rattle.colour_defs.specs.Lawful.{beginning}
 use Rattle.slice_driver.specs.Collector.{CollectorState}
 use Rattle.slice_driver.specs.Represents.{Represents}
 use Rattle.slice_driver.specs.Units.{none_flown}
@@ -16,4 +17,4 @@ first_of (Err why) valid represents made entries = tt
 
 pub returns : goal.returns
 returns c = first_of c.new.result
-    (c.valid_law.ensures [] [] first_world refl) c.new.ensures.first c.new.ensures.made c.new.ensures.entries
+    (c.valid_law.ensures beginning [] [] first_world refl) c.new.ensures.first c.new.ensures.made c.new.ensures.entries
