@@ -136,6 +136,14 @@ module _ (edge : ℕ × ℕ → ℕ → Option (ℕ × ℕ)) (marking : ℕ × �
         (λ ne. let r = sum_has (Contains from) (out edge (only q)) from (All-contains_itself from) (omega arith) in
         (r.0, inl r.1, count_leads r.0 q r.2))
 
+    -- no place outside the marking zones was tried, so each such target is outside, as often as it is a target
+    outside_is_all : (q : ℕ × ℕ) → marking q ≡ false
+        → times q outside ≡ weigh (out edge (only q)) from + weigh (out edge (only q)) won
+    outside_is_all q m = let e = s.settled (only q) in let b = begun (only q) in dite (ℕ_discrete (times q v.known) 0)
+        (λ z. omega arith)
+        (λ ne. absurd (true≢false (sym (from_times (λ (r : ℕ × ℕ). marking r ≡ true) v.known q s.tried_inside
+        (omega arith)) ∙ m)))
+
     is_outside : (q p : ℕ × ℕ) → marking q ≡ false → Contains from p ⊎ Contains won p → Leads edge p q
         → Contains outside q
     is_outside q p m side l =
@@ -143,10 +151,7 @@ module _ (edge : ℕ × ℕ → ℕ → Option (ℕ × ℕ)) (marking : ℕ × �
         let lt : 0 < weigh (out edge (only q)) from + weigh (out edge (only q)) won =
         ⊎_elim (λ c. let i = in_sum (out edge (only q)) from p c in omega arith)
         (λ c. let i = in_sum (out edge (only q)) won p c in omega arith) side in
-        dite (ℕ_discrete (times q v.known) 0)
-        (λ z. let e = s.settled (only q) in let b = begun (only q) in times_in outside q (omega arith))
-        (λ ne. absurd (true≢false (sym (from_times (λ (r : ℕ × ℕ). marking r ≡ true) v.known q s.tried_inside
-        (omega arith)) ∙ m)))
+        let t = outside_is_all q m in times_in outside q (omega arith)
 
     pub marked : HasMarked edge marking first from won outside v
     marked = record {
@@ -164,6 +169,7 @@ module _ (edge : ℕ × ℕ → ℕ → Option (ℕ × ℕ)) (marking : ℕ × �
         )),
         (λ x. is_outside q x.1.0 x.0 x.1.1 x.1.2),
       );
+      outside_times = outside_is_all;
     }
 
 pub front_all : (P : ℕ × ℕ → Type 0) (xs ys : List (ℕ × ℕ)) → All P (xs ++ ys) → All P xs
@@ -186,6 +192,7 @@ blackened edge marking first from last won outside v m sized bits = record {
   turned = turned;
   inside = m.inside;
   outside_is = m.outside_is;
+  outside_times = m.outside_times;
 }
   where
     turned : (q : ℕ × ℕ) → q.0 < length first → bit_of last q ≡ bit_of first q + times q won

@@ -1,7 +1,7 @@
 -- What marking has to make black, and what it leaves.
 use Rattle.std.specs.Prelude.{◌≡◌, ℕ, ◌+◌, ◌<◌, ◌≤◌, ◌⊎◌, ◌↔◌, Bool, true, false, List, length, Option, All, Contains}
 use Rattle.mark_words.specs.declared.view.MarkView.{MarkView}
-use Rattle.mark_words.specs.Sums.{weigh, times}
+use Rattle.mark_words.specs.Sums.{only, weigh, times}
 use Rattle.mark_words.specs.Rule.{bit_of}
 use Rattle.par_mark.specs.Edges.{Leads, out}
 
@@ -26,9 +26,12 @@ module _ (edge : ℕ × ℕ → ℕ → Option (ℕ × ℕ)) (marking : ℕ × �
     -- each given cell and each cell that was won was scanned once: each of its targets was tried or lies outside, as
     -- often as it is a target
     pub scanned : (h : ℕ × ℕ → ℕ) → weigh h v.known + weigh h outside ≡ weigh (out edge h) from + weigh (out edge h) won
-    -- outside are the targets that lie outside the marking zones, of the given cells and of those that were won
+    -- outside are the targets that lie outside the marking zones, of the given cells and of those that were won,
     pub outside_is : (q : ℕ × ℕ) → Contains outside q
         ↔ ((marking q ≡ false) × ((p : ℕ × ℕ) × (Contains from p ⊎ Contains won p) × Leads edge p q))
+    -- and as often as they are targets
+    pub outside_times : (q : ℕ × ℕ) → marking q ≡ false
+        → times q outside ≡ weigh (out edge (only q)) from + weigh (out edge (only q)) won
 
   -- the words after marking
   pub record HasBlackened (last : List ℕ) (won outside : List (ℕ × ℕ)) : Type 0 where
@@ -38,6 +41,9 @@ module _ (edge : ℕ × ℕ → ℕ → Option (ℕ × ℕ)) (marking : ℕ × �
     -- those that turned black, each once
     pub turned : (q : ℕ × ℕ) → q.0 < length first → bit_of last q ≡ bit_of first q + times q won
     pub inside : All (λ q. marking q ≡ true) won
-    -- outside are the targets that lie outside the marking zones, of the given cells and of those that turned black
+    -- outside are the targets that lie outside the marking zones, of the given cells and of those that turned black,
     pub outside_is : (q : ℕ × ℕ) → Contains outside q
         ↔ ((marking q ≡ false) × ((p : ℕ × ℕ) × (Contains from p ⊎ Contains won p) × Leads edge p q))
+    -- and as often as they are targets
+    pub outside_times : (q : ℕ × ℕ) → marking q ≡ false
+        → times q outside ≡ weigh (out edge (only q)) from + weigh (out edge (only q)) won

@@ -85,7 +85,8 @@ fn run_both<R: Threads + Wait + Sync, H: Graph + Sync, L: PlaceList + Sync, G: G
 /// with, won and found outside, that it scanned each cell that it won, once, and no other, and that what
 /// was given to the queue was taken from it.
 /// The place list of the marks is exactly what may be tried. `NoMemory` comes before any step, and then
-/// the marks are as they were. The gate is called before each try that one of the callers makes.
+/// the marks and the queue are as they were. The gate is called before each try that one of the callers
+/// makes.
 pub fn mark<R: Threads + Wait + Sync, H: Graph + Sync, L: PlaceList + Sync, G: Gate + Sync>(
     rt: &R,
     alloc: Global,
@@ -110,7 +111,7 @@ pub fn mark<R: Threads + Wait + Sync, H: Graph + Sync, L: PlaceList + Sync, G: G
         m.won.items m.outside.items (view_of seat.new)) }
     ensures shares { IfOk result (λ m. AreShared (H.edge heap.now) (all_targets (H.edge heap.now) from.now) m.won.items
         m.outside.items (view_of seat.new).known) }
-    ensures unchanged { OnErr result (view_of seat.new ≡ view_of seat.old) }
+    ensures unchanged { OnErr result ((view_of seat.new ≡ view_of seat.old) × IsUnused queue.new) }
 {
     let tries = first_tries(alloc, heap, from)?;
     let room = tries
