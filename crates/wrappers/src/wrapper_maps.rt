@@ -123,6 +123,13 @@ impl Wrappers {
         next_in_zone(&self.maps, zone, cursor)
     }
 
+    /// No wrapper stands twice in the maps. It does nothing.
+    pub fn apart_law(&self)
+        ensures { AreApart self.now.lists }
+    {
+        let _ = &self.maps;
+    }
+
     /// Whether a zone has no wrappers.
     pub fn has_none(&self, zone: ZoneNo) -> bool
         ensures value { IsTrue result ↔ (list_of self.now zone ≡ []) }
