@@ -1,7 +1,30 @@
 -- `get` and `unwrap`.
-use Rattle.std.proofs.Common.{◌≡◌, ◌<◌, ◌≤◌, ℕ, Bool, true, false, cond, List, Option, Some, None, Result, Ok, Err, map, length, slice_get, refl, sym, ap, ◌∙◌, arith, nat_lt}
-use Rattle.std.specs.Prelude.{IfOk}
-use Rattle.std.specs.Option.{ForSome, option_map}
+use Rattle.std.proofs.Common.{
+  ◌≡◌,
+  ◌<◌,
+  ◌≤◌,
+  ℕ,
+  Bool,
+  true,
+  false,
+  cond,
+  List,
+  Option,
+  Some,
+  None,
+  Ok,
+  Err,
+  map,
+  length,
+  slice_get,
+  refl,
+  sym,
+  ap,
+  ◌∙◌,
+  arith,
+  nat_lt,
+}
+use Rattle.std.specs.Option.{option_map}
 use Rattle.std.proofs.lemmas.Bool.{ltb-true}
 use Rattle.std.proofs.lemmas.Bool.Decides.{nat_tests}
 use Rattle.std.proofs.lemmas.Option.{slice_get-map, slice_get-get_or, slice_get_past}
@@ -9,30 +32,18 @@ use Rattle.gz_names.specs.declared.names.Name.{Name}
 use Rattle.gz_names.specs.declared.numbers.Place.{Place}
 use Rattle.gz_names.specs.declared.commands.Kind.{Kind}
 use Rattle.gz_names.specs.declared.commands.Kind.TheVariants as kind
-use Rattle.gz_names.specs.declared.commands.GraphCmd.{GraphCmd}
 use Rattle.gz_names.specs.declared.commands.GraphCmd.TheVariants as cmd
-use Rattle.gz_names.specs.declared.replies.Reply.{Reply}
-use Rattle.gz_names.specs.declared.replies.CmdFault.{CmdFault}
 use Rattle.gz_names.specs.declared.replies.Refusal.{Refusal}
 use Rattle.gz_names.specs.declared.replies.Refusal.TheVariants as refusal
 use Rattle.arena_table.specs.Cells.{CellState, field_count, field_of, joined}
 use Rattle.colour_defs.specs.declared.graph.Object.{Object}
 use Rattle.colour_defs.specs.Graph.{GraphState}
 use Rattle.colour_defs.specs.Step.{step_of, refuse, take_in_register, get_from, get_in, get_value, unwrap_from}
-use Rattle.heap_core.specs.Shape.{IsPresent, cell_of, field_at, field_in, held_name}
+use Rattle.heap_core.specs.Shape.{cell_of, field_at, field_in, held_name}
 use Rattle.heap_core.specs.Heap.{HeapState, reg_of}
 use Rattle.heap_core.specs.Shows.{Shows, is_wrapper, is_map, object_at}
-use Rattle.heap_core.specs.Answers.{DoesStep}
 use Rattle.heap_core.specs.Lookups.{Hands, field_refusal}
-use Rattle.heap_core.specs.Effects.{Takes}
 use Rattle.heap_core.proofs.Shown.{of_map, reg_named, object_there, wrapper_there}
-use Rattle.heap_core.proofs.Stepping.{does-refused}
-use Rattle.heap_core.proofs.Held.{does-take}
-
--- a command does what its look-up says
-pub does-taken : (h k : HeapState) (c : ℕ → GraphCmd) (r : ℕ) (found : Result (Option Place) Refusal) (result : Result Reply CmdFault) → Hands h c found → IfOk found (λ v. ForSome v (IsPresent h.shape)) → Takes h r found result k → DoesStep h (c r) result k
-does-taken h k c r (Ok v) result hands there takes = rw (takes.0, takes.1) (does-take h (c r) r v (λ g s. there) (λ g s. hands r g s))
-does-taken h k c r (Err why) result hands there takes = rw (takes.0, takes.1) (does-refused h (c r) why (λ g s. hands r g s))
 
 -- a field of an object, as the graph has it
 get_within : (h : HeapState) (g : GraphState) (r : ℕ) (cell : CellState) (f : ℕ) → f < length cell.fields → get_value g r (slice_get (map (held_name h.shape) cell.fields) f) ≡ take_in_register g r (held_name h.shape (field_of cell f))

@@ -14,10 +14,10 @@ use Rattle.colour_defs.specs.Step as step
 use Rattle.colour_defs.specs.Step.{step_of, take_in_register, named_or_null, refusal_in}
 use Rattle.colour_defs.proofs.Lists.{contains_set_cases}
 use Rattle.heap_core.specs.Shape.{IsPresent, held_name}
-use Rattle.heap_core.specs.Heap.{HeapState, reg_of, slot_of, with_reg, with_slot}
+use Rattle.heap_core.specs.Heap.{HeapState, reg_of, with_reg, with_slot}
 use Rattle.heap_core.specs.Shows.{Shows, IsWrapperOf}
 use Rattle.heap_core.specs.Answers.{DoesStep}
-use Rattle.heap_core.proofs.Shown.{stands_as, reg_shown, slot_shown, reg_present, slot_present}
+use Rattle.heap_core.proofs.Shown.{stands_as, reg_shown, reg_present}
 use Rattle.heap_core.proofs.Stepping.{does-accepted}
 
 -- a cell stands for its name also where only registers and slots are others
@@ -118,6 +118,3 @@ does-release h g = does-accepted h (cmd.Release g) reply.Accepted (with_slot h g
   sure = refl;
   shows = shows-with_slot h j g None k (λ p e. absurd (cc e));
 })
-
-pub does-expose : (h : HeapState) (r g : ℕ) → DoesStep h (cmd.Expose r g) (Ok (named_or_null (held_name h.shape (slot_of h g)))) (with_reg h r (slot_of h g))
-does-expose h r g = does-take h (cmd.Expose r g) r (slot_of h g) (λ j s p e. slot_present h j g p s e) (λ j s. ap (λ (x : Option Name). take_in_register j r x) (slot_shown h j g s))

@@ -1,5 +1,42 @@
 -- Objects and maps are made.
-use Rattle.std.proofs.Common.{◌≡◌, ◌+◌, ◌<◌, ◌≤◌, ℕ, zero, suc, Bool, true, false, cond, inl, inr, List, [], ◌∷◌, ◌++◌, Option, Some, None, Ok, Err, map, length, replicate, slice_get, slice_set, refl, sym, ap, subst, ◌∙◌, arith, add-one, nat_lt, Contains}
+use Rattle.std.proofs.Common.{
+  ◌≡◌,
+  ◌+◌,
+  ◌<◌,
+  ◌≤◌,
+  ℕ,
+  zero,
+  suc,
+  Bool,
+  true,
+  false,
+  cond,
+  inl,
+  inr,
+  List,
+  [],
+  ◌∷◌,
+  ◌++◌,
+  Option,
+  Some,
+  None,
+  Ok,
+  Err,
+  map,
+  length,
+  replicate,
+  slice_get,
+  slice_set,
+  refl,
+  sym,
+  ap,
+  subst,
+  ◌∙◌,
+  arith,
+  add-one,
+  nat_lt,
+  Contains,
+}
 use Rattle.std.specs.Option.{option_flatten}
 use Rattle.std.proofs.lemmas.Bool.Decides.{nat_tests}
 use Rattle.std.proofs.lemmas.List.{length-replicate}
@@ -13,7 +50,6 @@ use Rattle.gz_names.specs.declared.commands.GraphCmd.{GraphCmd}
 use Rattle.gz_names.specs.declared.replies.Reply.{Reply}
 use Rattle.gz_names.specs.declared.replies.Reply.TheVariants as reply
 use Rattle.gz_names.specs.declared.replies.CmdFault.TheVariants as fault
-use Rattle.gz_names.specs.declared.replies.Refusal.TheVariants as refusal
 use Rattle.arena_table.specs.Cells.{field_count, joined}
 use Rattle.arena_table.specs.Table.{new_cell}
 use Rattle.wrappers.specs.WrapperMaps.{WrappersState, list_of, place_of}
@@ -28,7 +64,7 @@ use Rattle.heap_core.specs.Shows.{Shows, StandsFor, is_wrapper, is_map, object_a
 use Rattle.heap_core.specs.Answers.{DoesStep}
 use Rattle.heap_core.specs.Effects.{MakesHeld, object_of_kind}
 use Rattle.heap_core.proofs.Places.{place-same, named_present, present_cell, cell_named, cell_present}
-use Rattle.heap_core.proofs.Stepping.{does-accepted, does-wanting, does-refused}
+use Rattle.heap_core.proofs.Stepping.{does-accepted, does-wanting}
 use Rattle.heap_core.proofs.Held.{shows-with_reg}
 use Rattle.heap_core.proofs.Added.{Adds, shows-added}
 
@@ -142,9 +178,3 @@ does-make h k r kind c x is plain few made = does-accepted h x (reply.Made h.sha
 
 pub does-make_wanting : (h : HeapState) (r : ℕ) (kind : Kind) (c : CompNo) (x : GraphCmd) → ((g : GraphState) → step_of g x ≡ make_object g r (object_of_kind kind c)) → c.0 < length h.shape.comps → DoesStep h x (Err fault.NoMemory) h
 does-make_wanting h r kind c x is there = does-wanting h x (λ g s. ap (λ (p : GraphState × Reply). refusal_in p.1) (is g ∙ make_there h g r kind c s there))
-
-pub does-make_nowhere : (h : HeapState) (r : ℕ) (kind : Kind) (c : CompNo) (x : GraphCmd) → ((g : GraphState) → step_of g x ≡ make_object g r (object_of_kind kind c)) → length h.shape.comps ≤ c.0 → DoesStep h x (Err (fault.Refused refusal.NoComp)) h
-does-make_nowhere h r kind c x is past = does-refused h x refusal.NoComp (λ g s. is g ∙ (
-    let made : length g.comps ≡ length h.shape.comps = ap (λ (xs : List ℕ). length xs) s.comps_are in
-    let t : nat_lt c.0 (length g.comps) ≡ false = grind (arith, nat_tests) in
-    rw t refl))

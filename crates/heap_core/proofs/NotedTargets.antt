@@ -1,5 +1,40 @@
 -- What keeps the zones of all targets noted.
-use Rattle.std.proofs.Common.{◌≡◌, ◌<◌, ◌==◌, ◌&&◌, ◌++◌, ◌∷◌, ◌↔◌, ℕ, zero, suc, Bool, true, false, List, [], length, replicate, Option, Some, None, IsSomeAnd, OnErr, OnOk, Result, Ok, Err, slice_get, option_map, if◌then◌else◌, refl, sym, ◌∙◌, ap, subst, arith}
+use Rattle.std.proofs.Common.{
+  ◌≡◌,
+  ◌<◌,
+  ◌==◌,
+  ◌&&◌,
+  ◌++◌,
+  ◌∷◌,
+  ◌↔◌,
+  ℕ,
+  zero,
+  suc,
+  Bool,
+  true,
+  false,
+  List,
+  [],
+  length,
+  replicate,
+  Option,
+  Some,
+  None,
+  IsSomeAnd,
+  OnErr,
+  OnOk,
+  Result,
+  Ok,
+  Err,
+  slice_get,
+  option_map,
+  if◌then◌else◌,
+  refl,
+  sym,
+  ◌∙◌,
+  ap,
+  subst,
+}
 use Rattle.std.specs.Int.{bit_at}
 use Rattle.gz_names.specs.declared.commands.Kind.{Kind}
 use Rattle.gz_names.specs.declared.commands.Kind.TheVariants as kind
@@ -10,7 +45,18 @@ use Rattle.gz_names.specs.declared.zone_sets.ZoneSet.{ZoneSet}
 use Rattle.cell_bits.specs.declared.bits.Bits.{Bits}
 use Rattle.arena_table.specs.Cells.{CellState, field_count, field_of, with_value}
 use Rattle.arena_table.specs.Indexed.{in_zones}
-use Rattle.arena_table.specs.Slots.{Arena, cell_at, cell_in, change_at, empty_arena, handed_out, taken_in, with_bits, with_cell, with_field}
+use Rattle.arena_table.specs.Slots.{
+  Arena,
+  cell_at,
+  cell_in,
+  change_at,
+  empty_arena,
+  handed_out,
+  taken_in,
+  with_bits,
+  with_cell,
+  with_field,
+}
 use Rattle.arena_table.specs.Table.{ArenasState, grown_to, in_these, is_place, new_cell, no_bits, put_at}
 use Rattle.wrappers.specs.TargetZones.{IsNoted}
 use Rattle.heap_core.specs.Changes.{wrapper_cell}
@@ -18,7 +64,6 @@ use Rattle.wrappers.specs.WrapperMaps.{list_of}
 use Rattle.wrappers.specs.declared.wrapper_maps.WrapperKey.{WrapperKey}
 use Rattle.gz_names.specs.Zones.{HasZone}
 use Rattle.heap_core.specs.Heap.{HeapState}
-use Rattle.heap_core.specs.Lookups.{field_refusal}
 use Rattle.heap_core.specs.Shape.{Shape, cell_of, field_in, is_white, zone_of}
 use Rattle.heap_core.specs.TargetZones.{AreTargetsNoted, IsListedWrapper, IsTargetNoted, IsWrapperOf, owner_in}
 use Rattle.heap_core.proofs.MakingCells.{IsMade, cells-seen, out_at, put-kept, put-zone, visible, zone_at}
@@ -304,16 +349,6 @@ owner-seen : (xs : List Arena) (a z : ℕ) → owner_in xs a ≡ Some z → zone
 owner-seen [] a z e = absurd (cc e)
 owner-seen (x ∷ xs) zero z e = cc e
 owner-seen (x ∷ xs) (suc a) z e = owner-seen xs a z e
-
--- a cell that may be written by a command is no wrapper
-pub written-other : (o : Option CellState) (f : ℕ) → option_map (λ (cell : CellState). field_refusal cell.kind f) o ≡
-    Some None → option_map (λ (cell : CellState). cell.kind) o ≡ Some kind.Wrapper → ⊥
-written-other None f e k = cc e
-written-other (Some cell) f e k =
-    let is : cell.kind ≡ kind.Wrapper = cc k in
-    let refused : Some (field_refusal kind.Wrapper f) ≡ Some None = ap (λ (x : Kind). Some (field_refusal x f)) (sym is)
-    ∙ e in
-    cc refused
 
 pub stands-other : (h k : HeapState) (s : ArenasState) (p : Place) (n : ℕ) → with_state h s ≡ k
     → IsSomeAnd (cell_of k.shape p) (λ cell. n < length cell.fields)

@@ -1,5 +1,5 @@
 -- What a plan says of the change that is made by it.
-use Rattle.std.proofs.Common.{◌≡◌, ◌+◌, ℕ, Option, Some, None, Ok, Err, IsSome, is_some, if◌then◌else◌, sym, ap, subst, ◌∙◌, arith}
+use Rattle.std.proofs.Common.{◌≡◌, ◌+◌, ℕ, Option, Ok, Err, IsSome, is_some, if◌then◌else◌, sym, ap, subst, ◌∙◌, arith}
 use Rattle.gz_names.specs.declared.numbers.Place.{Place}
 use Rattle.gz_names.specs.declared.commands.GraphCmd.{GraphCmd}
 use Rattle.gz_names.specs.declared.replies.Reply.{Reply}
@@ -11,7 +11,16 @@ use Rattle.heap_core.specs.declared.plans.Plan.{Plan}
 use Rattle.heap_core.specs.Shape.{Shape}
 use Rattle.heap_core.specs.Heap.{HeapState, with_colours}
 use Rattle.heap_core.specs.Answers.{DoesStep}
-use Rattle.heap_core.specs.Peeks.{IsHanded, IsOld, IsWrapped, cells_made, handed, stored, unless_refused, wrapped_target}
+use Rattle.heap_core.specs.Peeks.{
+  IsHanded,
+  IsOld,
+  IsWrapped,
+  cells_made,
+  handed,
+  stored,
+  unless_refused,
+  wrapped_target,
+}
 use Rattle.heap_core.specs.Plans.{ChangesBy, IsPlanIn, IsPlanOf, MayWant, handed_by, made_by, overwritten_by}
 use Rattle.heap_core.proofs.Stepping.{does-wanting}
 
@@ -22,11 +31,14 @@ abbrev one_if_made : Change → ℕ
 one_if_made ch = if is_some (made_by ch) then 1 else 0
 
 -- a change makes one cell or none
-made-by_change : (old new : HeapState) (ch : Change) (answer : Reply) → ChangesBy old ch answer new → new.made ≡ old.made + one_if_made ch
+made-by_change : (old new : HeapState) (ch : Change) (answer : Reply) → ChangesBy old ch answer new
+    → new.made ≡ old.made + one_if_made ch
 made-by_change old new change.Zone answer by = let n = ap made_of by.0 in omega (arith, n)
 made-by_change old new (change.Comp z) answer by = let n = ap made_of by.0 in omega (arith, n)
-made-by_change old new (change.Cell r z c k) answer by = let n = ap made_of by.0.rest ∙ ap made_of by.0.makes.rest in omega (arith, n)
-made-by_change old new (change.Wrapper r z c t) answer by = let n = ap made_of by.0.rest ∙ (ap made_of by.0.makes.rest ∙ ap made_of by.0.makes.makes.rest) in omega (arith, n)
+made-by_change old new (change.Cell r z c k) answer by = let n = ap made_of by.0.rest ∙ ap made_of by.0.makes.rest in
+    omega (arith, n)
+made-by_change old new (change.Wrapper r z c t) answer by = let n = ap made_of by.0.rest
+    ∙ (ap made_of by.0.makes.rest ∙ ap made_of by.0.makes.makes.rest) in omega (arith, n)
 made-by_change old new (change.Register r v named) answer by = let n = ap made_of by.0 in omega (arith, n)
 made-by_change old new (change.Slot g v) answer by = let n = ap made_of by.0 in omega (arith, n)
 made-by_change old new (change.Field p f v) answer by = let n = ap made_of by.0.rest in omega (arith, n)
@@ -34,7 +46,7 @@ made-by_change old new (change.Put m k v) answer by = let n = ap made_of by.0.re
 made-by_change old new (change.Del m k) answer by = let n = ap made_of by.0.rest in omega (arith, n)
 
 -- a change that hands a cell out wants no memory, nor does one that overwrites or removes something
-handed-wants : (s : Shape) (ch : Change) → IsSome (handed_by ch) → MayWant s ch → ⊥
+pub handed-wants : (s : Shape) (ch : Change) → IsSome (handed_by ch) → MayWant s ch → ⊥
 handed-wants s change.Zone some may = absurd (cc some)
 handed-wants s (change.Comp z) some may = absurd (cc some)
 handed-wants s (change.Cell r z c k) some may = absurd (cc some)
@@ -45,7 +57,7 @@ handed-wants s (change.Field p f v) some may = may
 handed-wants s (change.Put m k v) some may = absurd (cc some)
 handed-wants s (change.Del m k) some may = may
 
-overwritten-wants : (s : Shape) (ch : Change) → IsSome (overwritten_by s ch) → MayWant s ch → ⊥
+pub overwritten-wants : (s : Shape) (ch : Change) → IsSome (overwritten_by s ch) → MayWant s ch → ⊥
 overwritten-wants s change.Zone some may = absurd (cc some)
 overwritten-wants s (change.Comp z) some may = absurd (cc some)
 overwritten-wants s (change.Cell r z c k) some may = absurd (cc some)
@@ -76,24 +88,29 @@ module _ (h : HeapState) (c : GraphCmd) (plan : Plan) (is : IsPlanIn h c plan) w
   handed-sure some = handed-wants h.shape plan.change (subst (λ (o : Option Place). IsSome o) (sym is.handed) some)
 
   pub stored-sure : IsSome (stored h c) → MayWant h.shape plan.change → ⊥
-  stored-sure some = overwritten-wants h.shape plan.change (subst (λ (o : Option Place). IsSome o) (sym is.overwritten ∙ is.replaced) some)
+  stored-sure some = overwritten-wants h.shape plan.change
+      (subst (λ (o : Option Place). IsSome o) (sym is.overwritten ∙ is.replaced) some)
 
   -- what the plan's parts are on each graph that the heap shows
   pub is-old : IsOld h c plan.overwritten
   is-old g s = is.overwritten ∙ sym (ap (λ (o : Option Refusal). unless_refused o (stored h c)) (is.accepted g s))
 
   pub is-wrapped : IsWrapped h c plan.wrapped
-  is-wrapped g s = is.wrapped ∙ sym (ap (λ (o : Option Refusal). unless_refused o (wrapped_target h c)) (is.accepted g s))
+  is-wrapped g s = is.wrapped
+      ∙ sym (ap (λ (o : Option Refusal). unless_refused o (wrapped_target h c)) (is.accepted g s))
 
   pub is-handed : IsHanded h c (handed_by plan.change)
   is-handed g s = is.handed ∙ sym (ap (λ (o : Option Refusal). unless_refused o (handed h c)) (is.accepted g s))
 
-  pub made-cells : (answer : Reply) (new : HeapState) → ChangesBy h plan.change answer new → new.made ≡ h.made + cells_made h c (Ok answer)
-  made-cells answer new by = made-by_change h new plan.change answer by ∙ ap (λ (o : Option ℕ). h.made + (if is_some o then 1 else 0)) is.made
+  pub made-cells : (answer : Reply) (new : HeapState) → ChangesBy h plan.change answer new
+      → new.made ≡ h.made + cells_made h c (Ok answer)
+  made-cells answer new by = made-by_change h new plan.change answer by
+      ∙ ap (λ (o : Option ℕ). h.made + (if is_some o then 1 else 0)) is.made
 
 -- at the heap itself, and at one that differs in colours alone
 pub planned-here : (h : HeapState) (c : GraphCmd) (plan : Plan) → IsPlanOf h c plan → IsPlanIn h c plan
 planned-here h c plan is = is h.colours
 
-pub planned-at : (h k : HeapState) (c : GraphCmd) (plan : Plan) → k ≡ with_colours h k.colours → IsPlanOf h c plan → IsPlanIn k c plan
+pub planned-at : (h k : HeapState) (c : GraphCmd) (plan : Plan) → k ≡ with_colours h k.colours → IsPlanOf h c plan
+    → IsPlanIn k c plan
 planned-at h k c plan same is = subst (λ (z : HeapState). IsPlanIn z c plan) (sym same) (is k.colours)

@@ -1,26 +1,64 @@
 -- What a compartment sees of a cell.
-use Rattle.std.proofs.Common.{◌≡◌, ◌≢◌, ◌<◌, ℕ, Bool, true, false, cond, eqb-true, eq-eqb, List, [], ◌∷◌, ◌++◌, Option, Some, None, IsSome, is_some, if◌then◌else◌, length, slice_get, unwrap_or, refl, sym, ap, subst, ◌∙◌, arith, nat_lt}
+use Rattle.std.proofs.Common.{
+  ◌≡◌,
+  ◌≢◌,
+  ◌<◌,
+  ℕ,
+  Bool,
+  true,
+  false,
+  cond,
+  eqb-true,
+  eq-eqb,
+  List,
+  [],
+  ◌∷◌,
+  ◌++◌,
+  Option,
+  Some,
+  None,
+  if◌then◌else◌,
+  length,
+  slice_get,
+  unwrap_or,
+  refl,
+  sym,
+  ap,
+  subst,
+  ◌∙◌,
+  arith,
+  nat_lt,
+}
 use Rattle.std.specs.Option.{option_map}
-use Rattle.std.proofs.lemmas.Option.{slice_get_within}
 use Rattle.std.proofs.lemmas.Bool.Decides.{nat_tests}
 use Rattle.gz_names.specs.declared.names.Name.{Name}
 use Rattle.gz_names.specs.declared.names.Name.TheVariants.{Cell, Wrap}
 use Rattle.gz_names.specs.declared.numbers.CompNo.{CompNo}
 use Rattle.gz_names.specs.declared.numbers.Place.{Place}
 use Rattle.gz_names.specs.declared.commands.GraphCmd.TheVariants as cmd
-use Rattle.gz_names.specs.declared.replies.Reply.{Reply}
 use Rattle.gz_names.specs.declared.replies.Reply.TheVariants as reply
 use Rattle.arena_table.specs.Cells.{CellState, field_of, joined}
 use Rattle.wrappers.specs.WrapperMaps.{place_of}
 use Rattle.colour_defs.specs.Graph.{GraphState, has_wrapper, comp_of}
 use Rattle.colour_defs.specs.Step as step
-use Rattle.colour_defs.specs.Step.{step_of, wrap_from, wrap_target, take_wrapper, target_of, take_in_register, is_same_comp, is_in_comp, refusal_in, IsAccepted}
+use Rattle.colour_defs.specs.Step.{
+  step_of,
+  wrap_from,
+  wrap_target,
+  take_wrapper,
+  target_of,
+  take_in_register,
+  is_same_comp,
+  is_in_comp,
+  refusal_in,
+  IsAccepted,
+}
+use Rattle.colour_defs.specs.World.{woken_by, woken_by_wrap}
 use Rattle.colour_defs.proofs.Names.{same_comp}
 use Rattle.heap_core.specs.Shape.{IsPresent, cell_of, comp_at, held_name, name_at}
 use Rattle.heap_core.specs.Heap.{HeapState, reg_of}
 use Rattle.heap_core.specs.Shows.{Shows, StandsFor, is_wrapper}
 use Rattle.heap_core.specs.Lookups.{number_at, number_in, seen_from, target_at, target_in}
-use Rattle.heap_core.specs.Peeks.{wrapped_in}
 use Rattle.heap_core.proofs.Places.{named_present, present_cell, cell_named}
 use Rattle.heap_core.proofs.Shown.{reg_present, reg_named, object_there, wrapper_there}
 use Rattle.heap_core.proofs.Written.{comp_shown}
@@ -131,6 +169,18 @@ module _ (h : HeapState) (g : GraphState) (r s : ℕ) (c : CompNo) (p : Place) (
           let known : has_wrapper g c k.number ≡ true = wrapper_known h g c k.number v shows at in
           wrap_there cell there ∙ rw (b, known) (ap (take_in_register g r) (sym (shows.mapped c k.number v at)))
 
+  -- what is woken: nothing, where the target is of the compartment, else its wrapper
+  pub wrap_woken : (b : Bool) → is_same_comp (comp_at h.shape (target_at h.shape p)) c ≡ b
+      → woken_by g (cmd.Wrap r s c) ≡ (if b then None else Some (Wrap c (number_at h.shape (target_at h.shape p))))
+  wrap_woken b same =
+      let cell = present_cell h.shape p (reg_present h g s p shows held) in
+      let k = target_there h g p cell.0 shows cell.1 in
+      let test : is_in_comp g c (Cell k.number) ≡ b = tested cell.0 cell.1 ∙ same in
+      ap (λ (o : Option Name). woken_by_wrap g o c) (reg_named h g s p cell.0 shows held cell.1)
+      ∙ ap (λ (n : ℕ). if is_in_comp g c (Cell n) then None else Some (Wrap c n)) k.number_is
+      ∙ ap (λ (x : Bool). if x then None else Some (Wrap c k.number)) test
+      ∙ ap (λ (n : ℕ). if b then None else Some (Wrap c n)) (sym (number_shown cell.0 cell.1))
+
   -- where it sees nothing, a wrapper is made
   pub wrap_unseen : seen_from h.shape c (target_at h.shape p) ≡ None → IsUnseen h g r s c (target_at h.shape p)
   wrap_unseen unseen =
@@ -153,21 +203,3 @@ module _ (h : HeapState) (g : GraphState) (r s : ℕ) (c : CompNo) (p : Place) (
             absent = is;
             step = wrap_there cell there ∙ rw (b, unknown) (ap (λ (i : ℕ). (record (step.with_register g r (Some (Wrap c i))) { wrappers = g.wrappers ++ (c, i) ∷ [] }, reply.Named (Wrap c i))) (sym n));
           }
-
--- a `wrap` that makes a wrapper is not refused
-pub making_accepted : (h : HeapState) (g : GraphState) (r s : ℕ) (c : CompNo) → Shows h g → IsSome (wrapped_in h (reg_of h s) c) → IsAccepted g (cmd.Wrap r s c)
-making_accepted h g r s c shows some = by_reg (reg_of h s) refl some
-  where
-    by_home : (p : Place) → reg_of h s ≡ Some p → seen_from h.shape c (target_at h.shape p) ≡ None → (zone : Option ℕ) → slice_get h.shape.comps c.0 ≡ zone → IsSome zone → IsAccepted g (cmd.Wrap r s c)
-    by_home p held unseen None home none = absurd (cc none)
-    by_home p held unseen (Some zone) home there =
-        let unseen_is = wrap_unseen h g r s c p shows held (slice_get_within h.shape.comps c.0 zone home) unseen in
-        ap (λ (x : GraphState × Reply). refusal_in x.1) unseen_is.step
-
-    by_seen : (p : Place) → reg_of h s ≡ Some p → (v : Option Place) → seen_from h.shape c (target_at h.shape p) ≡ v → IsSome (if is_some v then None else slice_get h.shape.comps c.0) → IsAccepted g (cmd.Wrap r s c)
-    by_seen p held None unseen there = by_home p held unseen (slice_get h.shape.comps c.0) refl there
-    by_seen p held (Some v) seen none = absurd (cc none)
-
-    by_reg : (o : Option Place) → reg_of h s ≡ o → IsSome (wrapped_in h o c) → IsAccepted g (cmd.Wrap r s c)
-    by_reg None held none = absurd (cc none)
-    by_reg (Some p) held there = by_seen p held (seen_from h.shape c (target_at h.shape p)) refl there

@@ -1,6 +1,42 @@
 -- `wrap`.
-use Rattle.std.proofs.Common.{◌≡◌, ◌≢◌, ◌+◌, ◌⊎◌, ◌&&◌, ℕ, zero, suc, Bool, true, false, cond, inl, inr, eqb, eqb-true, eq-eqb, List, [], ◌∷◌, ◌++◌, Option, Some, None, Result, Ok, Err, IfOk, OnOk, OnErr, slice_get, refl, sym, ap, subst, ◌∙◌, arith, Contains}
-use Rattle.std.specs.Prelude.{IfErr}
+use Rattle.std.proofs.Common.{
+  ◌≡◌,
+  ◌≢◌,
+  ◌+◌,
+  ◌⊎◌,
+  ◌&&◌,
+  ℕ,
+  zero,
+  suc,
+  Bool,
+  true,
+  false,
+  cond,
+  inl,
+  inr,
+  eqb,
+  eqb-true,
+  eq-eqb,
+  List,
+  [],
+  ◌∷◌,
+  ◌++◌,
+  Option,
+  Some,
+  None,
+  Result,
+  Ok,
+  Err,
+  OnOk,
+  slice_get,
+  refl,
+  sym,
+  ap,
+  subst,
+  ◌∙◌,
+  arith,
+  Contains,
+}
 use Rattle.std.proofs.lemmas.Bool.{cases_eq}
 use Rattle.gz_names.specs.declared.names.Name.{Name}
 use Rattle.gz_names.specs.declared.names.Name.TheVariants.{Cell, Wrap}
@@ -10,14 +46,24 @@ use Rattle.gz_names.specs.declared.commands.GraphCmd.TheVariants as cmd
 use Rattle.gz_names.specs.declared.replies.Reply.{Reply}
 use Rattle.gz_names.specs.declared.replies.Reply.TheVariants as reply
 use Rattle.gz_names.specs.declared.replies.CmdFault.{CmdFault}
-use Rattle.gz_names.specs.declared.replies.CmdFault.TheVariants as fault
 use Rattle.arena_table.specs.Cells.{joined}
 use Rattle.wrappers.specs.WrapperMaps.{list_of, place_of}
 use Rattle.wrappers.specs.declared.wrapper_maps.WrapperKey.{WrapperKey}
 use Rattle.colour_defs.specs.Graph.{GraphState}
 use Rattle.colour_defs.specs.Step as step
 use Rattle.colour_defs.specs.Step.{is_same_comp}
-use Rattle.colour_defs.proofs.Lists.{any_append, any_push, any_push_cases, first_of_both, second_of_both, both_of, contains_cases, contains_head, contains_tail, nothing_in_none}
+use Rattle.colour_defs.proofs.Lists.{
+  any_append,
+  any_push,
+  any_push_cases,
+  first_of_both,
+  second_of_both,
+  both_of,
+  contains_cases,
+  contains_head,
+  contains_tail,
+  nothing_in_none,
+}
 use Rattle.colour_defs.proofs.Names.{same_comp}
 use Rattle.heap_core.specs.Shape.{IsPresent, cell_of, comp_at, held_name, name_at, zone_of}
 use Rattle.heap_core.specs.Heap.{HeapState, with_reg}
@@ -28,10 +74,10 @@ use Rattle.heap_core.specs.Effects as effect
 use Rattle.heap_core.specs.Lookups.{IsWrappable, number_at, seen_from, target_at}
 use Rattle.heap_core.specs.Effects.{HoldsWrapper, Wraps}
 use Rattle.heap_core.proofs.Places.{place-same, named_present, cell_named, cell_present}
-use Rattle.heap_core.proofs.Stepping.{does-accepted, does-wanting}
-use Rattle.heap_core.proofs.Held.{shows-with_reg, does-take}
+use Rattle.heap_core.proofs.Stepping.{does-accepted}
+use Rattle.heap_core.proofs.Held.{shows-with_reg}
 use Rattle.heap_core.proofs.Added.{Adds, shows-added}
-use Rattle.heap_core.proofs.Seen.{IsUnseen, wrap_seen, wrap_unseen, wrapper_mapped, same_comp-is, same_comp-not}
+use Rattle.heap_core.proofs.Seen.{IsUnseen, wrap_unseen, wrapper_mapped, same_comp-is, same_comp-not}
 
 -- what is in a list with one more at its end
 push_cases : {X : Type 0} (xs : List X) (z x : X) → Contains (xs ++ z ∷ []) x → Contains xs x ⊎ (z ≡ x)
@@ -163,14 +209,6 @@ seen_present h g c t v s there seen = go (is_same_comp (comp_at h.shape t) c) se
     go true e = subst (IsPresent h.shape) (cc e) there
     go false e = named_present h.shape v (Wrap c (number_at h.shape t)) (s.mapped c (number_at h.shape t) v e)
 
-pub does-seen : (h : HeapState) (r s : ℕ) (c : CompNo) (t v : Place) (x : Name) → IsWrappable h s c t → seen_from h.shape c t ≡ Some v → name_at h.shape v ≡ Some x → DoesStep h (cmd.Wrap r s c) (Ok (reply.Named x)) (with_reg h r (Some v))
-does-seen h r s c t v x may seen name =
-    let at : seen_from h.shape c (target_at h.shape may.place) ≡ Some v = ap (seen_from h.shape c) (sym may.target_is) ∙ seen in
-    subst (λ (y : Option Name). DoesStep h (cmd.Wrap r s c) (Ok (step.named_or_null y)) (with_reg h r (Some v))) name
-    (does-take h (cmd.Wrap r s c) r (Some v)
-    (λ g k p e. named_present h.shape p x (ap (name_at h.shape) (cc (sym e)) ∙ name))
-    (λ g k. wrap_seen h g r s c may.place k may.held may.there v at))
-
 pub wraps-seen : (h k : HeapState) (r s : ℕ) (c : CompNo) (t v : Place) → IsWrappable h s c t → seen_from h.shape c t ≡ Some v → k ≡ with_reg h r (Some v) → Wraps h r s c k
 wraps-seen h k r s c t v may seen rest = go (is_same_comp (comp_at h.shape (target_at h.shape may.place)) c) refl (ap (seen_from h.shape c) (sym may.target_is) ∙ seen)
   where
@@ -196,12 +234,6 @@ does-unseen_made h k r s c t may unseen made = does-accepted h (cmd.Wrap r s c) 
       shows = subst (λ (x : HeapState). Shows x (record (step.with_register g r (Some (Wrap c (number_at h.shape t)))) { wrappers = g.wrappers ++ (c, number_at h.shape t) ∷ [] })) (sym made.rest)
           (shows-wrapper h made.between g made.zone c (number_at h.shape t) t made.wrapper shows made.home u.name_is u.absent made.makes r);
     }))
-
-pub does-unseen : (h k : HeapState) (r s : ℕ) (c : CompNo) (t : Place) (result : Result Reply CmdFault) → IsWrappable h s c t → seen_from h.shape c t ≡ None → OnOk result (HoldsWrapper h r c t k) → IfOk result (λ answer. answer ≡ reply.Named (Wrap c (number_at h.shape t))) → IfErr result (λ why. why ≡ fault.NoMemory) → OnErr result (k ≡ h) → DoesStep h (cmd.Wrap r s c) result k
-does-unseen h k r s c t (Ok answer) may unseen made is want err = rw is (does-unseen_made h k r s c t may unseen made)
-does-unseen h k r s c t (Err why) may unseen made is want err = rw (want, err) (does-wanting h (cmd.Wrap r s c) (λ g shows. (
-    let u : IsUnseen h g r s c t = subst (λ (x : Place). IsUnseen h g r s c x) (sym may.target_is) (wrap_unseen h g r s c may.place shows may.held may.there (ap (seen_from h.shape c) (sym may.target_is) ∙ unseen)) in
-    ap (λ (p : GraphState × Reply). step.refusal_in p.1) u.step)))
 
 pub wraps-unseen : (h k : HeapState) (r s : ℕ) (c : CompNo) (t : Place) (result : Result Reply CmdFault) → IsWrappable h s c t → seen_from h.shape c t ≡ None → OnOk result (HoldsWrapper h r c t k) → OnOk result (Wraps h r s c k)
 wraps-unseen h k r s c t (Err why) may unseen holds = tt

@@ -1,6 +1,32 @@
 -- What a heap shows after a field was written.
-use Rattle.std.proofs.Common.{◌≡◌, ◌≢◌, ◌<◌, ◌⊎◌, ℕ, Bool, true, false, cond, inl, inr, List, Option, Some, None, Ok, map, length, slice_get, slice_set, refl, sym, ap, subst, ◌∙◌, arith, Contains}
-use Rattle.std.specs.Prelude.{IsSomeAnd}
+use Rattle.std.proofs.Common.{
+  ◌≡◌,
+  ◌≢◌,
+  ◌⊎◌,
+  ℕ,
+  Bool,
+  true,
+  false,
+  cond,
+  inl,
+  inr,
+  List,
+  Option,
+  Some,
+  None,
+  Ok,
+  map,
+  length,
+  slice_get,
+  slice_set,
+  refl,
+  sym,
+  ap,
+  subst,
+  ◌∙◌,
+  arith,
+  Contains,
+}
 use Rattle.std.specs.Option.{ForSome, option_map, option_flatten}
 use Rattle.std.proofs.lemmas.List.{map-set}
 use Rattle.gz_names.specs.declared.names.Name.{Name}
@@ -10,7 +36,7 @@ use Rattle.gz_names.specs.declared.numbers.Place.{Place}
 use Rattle.gz_names.specs.declared.commands.GraphCmd.TheVariants as cmd
 use Rattle.gz_names.specs.declared.replies.Reply.{Reply}
 use Rattle.gz_names.specs.declared.replies.Reply.TheVariants as reply
-use Rattle.arena_table.specs.Cells.{CellState, field_count, joined, with_value}
+use Rattle.arena_table.specs.Cells.{CellState, joined, with_value}
 use Rattle.arena_table.specs.Table.{is_place}
 use Rattle.wrappers.specs.WrapperMaps.{WrappersState, list_of, place_of}
 use Rattle.colour_defs.specs.declared.graph.Object.{Object}
@@ -197,17 +223,6 @@ does-set h k s f t p may w = does-accepted h (cmd.Set s f t) reply.Accepted k (�
       sure = refl;
       shows = shows-written h k g p c.0 o.number f (value_to_set h t) shows c.1 o.name_is plain o.object_is (value_present h g t shows) w;
     }))
-
--- a field that is not refused is there
-pub field_within : (h : HeapState) (g : GraphState) (p : Place) (f : ℕ) → Shows h g → option_map (λ (cell : CellState). field_refusal cell.kind f) (cell_of h.shape p) ≡ Some None → IsSomeAnd (cell_of h.shape p) (λ (cell : CellState). f < length cell.fields)
-field_within h g p f s may =
-    let c = of_map (λ (cell : CellState). field_refusal cell.kind f) (cell_of h.shape p) None may in
-    let n = field_there c.0.kind f c.2 in
-    let size : length c.0.fields ≡ field_count c.0.kind = (s.cells p c.0 c.1).sized in
-    let count : field_count c.0.kind ≡ n.0 = ap field_count n.1 in
-    let below : f < n.0 = n.2 in
-    let within : f < length c.0.fields = omega arith in
-    subst (λ (o : Option CellState). IsSomeAnd o (λ (cell : CellState). f < length cell.fields)) (sym c.1) within
 
 -- what may be written is not refused
 pub set_accepted : (h : HeapState) (g : GraphState) (s f : ℕ) (t : Option ℕ) (p : Place) → Shows h g → IsWritable h s f t p → step.refusal_in (step_of g (cmd.Set s f t)).1 ≡ None

@@ -1,5 +1,21 @@
 -- What each command on the graph leaves, by places.
-use Rattle.std.specs.Prelude.{◌≡◌, ◌≢◌, ◌<◌, ◌&&◌, ℕ, Bool, true, false, Result, Ok, Err, Option, Some, None, IsSomeAnd, replicate, slice_get, if◌then◌else◌}
+use Rattle.std.specs.Prelude.{
+  ◌≡◌,
+  ◌≢◌,
+  ◌<◌,
+  ◌&&◌,
+  ℕ,
+  Bool,
+  true,
+  false,
+  Option,
+  Some,
+  None,
+  IsSomeAnd,
+  replicate,
+  slice_get,
+  if◌then◌else◌,
+}
 use Rattle.gz_names.specs.declared.names.Name.TheVariants.{Cell}
 use Rattle.gz_names.specs.declared.commands.Kind.{Kind}
 use Rattle.gz_names.specs.declared.commands.Kind.TheVariants as kind
@@ -7,27 +23,26 @@ use Rattle.gz_names.specs.declared.commands.GraphCmd.{GraphCmd}
 use Rattle.gz_names.specs.declared.commands.GraphCmd.TheVariants as cmd
 use Rattle.gz_names.specs.declared.numbers.CompNo.{CompNo}
 use Rattle.gz_names.specs.declared.numbers.Place.{Place}
-use Rattle.gz_names.specs.declared.replies.Reply.{Reply}
-use Rattle.gz_names.specs.declared.replies.CmdFault.{CmdFault}
-use Rattle.gz_names.specs.declared.replies.CmdFault.TheVariants as fault
-use Rattle.gz_names.specs.declared.replies.Refusal.{Refusal}
 use Rattle.arena_table.specs.Cells.{field_count}
 use Rattle.arena_table.specs.Table.{new_cell}
 use Rattle.wrappers.specs.WrapperMaps.{place_of}
 use Rattle.weak_maps.specs.Lists.{is_same}
 use Rattle.weak_maps.specs.WeakMaps.{value_of}
 use Rattle.colour_defs.specs.declared.graph.Object.{Object}
-use Rattle.colour_defs.specs.Step.{named_or_null}
-use Rattle.heap_core.specs.Shape.{comp_at, held_name}
+use Rattle.heap_core.specs.Shape.{comp_at}
 use Rattle.heap_core.specs.Heap.{HeapState, reg_of, slot_of, with_reg, with_slot}
-use Rattle.heap_core.specs.Changes.{Makes, MakesWrapper, Writes, with_comp, with_entry, with_number, with_zone, without_entry}
+use Rattle.heap_core.specs.Changes.{
+  Makes,
+  MakesWrapper,
+  Writes,
+  with_comp,
+  with_entry,
+  with_number,
+  with_zone,
+  without_entry,
+}
 use Rattle.heap_core.specs.Shows.{is_map}
 use Rattle.heap_core.specs.Lookups.{held_field, held_value, number_at, target_at, value_to_set}
-
--- a register took what was looked up, and it is answered; or the refusal is answered, and nothing is changed
-abbrev pub Takes : HeapState → ℕ → Result (Option Place) Refusal → Result Reply CmdFault → HeapState → Type 0
-Takes old r (Ok v) result new = (result ≡ Ok (named_or_null (held_name old.shape v))) × (new ≡ with_reg old r v)
-Takes old r (Err why) result new = (result ≡ Err (fault.Refused why)) × (new ≡ old)
 
 -- a field of a register's object was written
 abbrev pub Sets : HeapState → ℕ → ℕ → Option ℕ → HeapState → Type 0

@@ -334,7 +334,8 @@ impl Heap {
     /// The zone of a compartment.
     pub fn zone_of(&self, comp: CompNo) -> ZoneNo
         requires { comp.0 < length self.now.shape.comps }
-        ensures { slice_get self.now.shape.comps comp.0 ≡ Some result }
+        ensures value { slice_get self.now.shape.comps comp.0 ≡ Some result }
+        ensures made { result < length self.now.shape.states }
     {
         self.zones.zone_of(comp)
     }
@@ -391,6 +392,13 @@ impl Heap {
         ensures apart { AreApart self.now.shape.wrappers.lists }
     {
         self.wrappers.next_of(zone, cursor)
+    }
+
+    /// No wrapper stands twice in the wrapper maps. It does nothing.
+    pub fn wrappers_law(&self)
+        ensures { AreApart self.now.shape.wrappers.lists }
+    {
+        self.wrappers.apart_law();
     }
 
     /// The zones in which the targets of a zone's wrappers lie, and perhaps others: those in which the

@@ -1,12 +1,9 @@
 // Commands are resolved: what they will do, or why they are refused.
-ghost use Rattle.std.specs.Prelude.{◌≡◌, IfErr, IfOk};
+ghost use Rattle.std.specs.Prelude.{IfErr, IfOk};
 ghost use Rattle.std.specs.Option.{ForSome};
 ghost use Rattle.gz_names.specs.declared.commands.GraphCmd.TheVariants as cmd;
-ghost use Rattle.colour_defs.specs.Graph.{GraphState};
-ghost use Rattle.colour_defs.specs.Step.{make_object, step_of};
 ghost use Rattle.heap_core.specs.Shape.{IsPresent};
 ghost use Rattle.heap_core.specs.Answers.{IsSound};
-ghost use Rattle.heap_core.specs.Effects.{object_of_kind};
 ghost use Rattle.heap_core.specs.Lookups.{IsRefused};
 ghost use Rattle.heap_core.specs.Peeks.{IsOld};
 ghost use Rattle.heap_core.specs.Plans.{IsPlanOf};

@@ -4,4 +4,6 @@ use Rattle.heap_core.proofs.Resolved.{plans-comp}
 use Rattle.heap_core.proofs.heap.Heap.resolve_comp.Goals as goal
 
 pub returns-clause-plan : goal.returns-clause-plan
-returns-clause-plan c = rw c.of.ensures (λ ds. plans-comp (with_colours c.args.self.now ds) c.args.z (omega arith) (omega arith) (omega arith))
+returns-clause-plan c =
+    rw c.of.ensures (λ ds. plans-comp (with_colours c.args.self.now ds) c.args.z (omega arith) (omega arith)
+    (omega arith))

@@ -3,4 +3,6 @@ use Rattle.heap_core.proofs.Resolved.{plans-map}
 use Rattle.heap_core.proofs.heap.Heap.resolve_map.Goals as goal
 
 pub returns-clause-plan : goal.returns-clause-plan
-returns-clause-plan c = rw c.of.ensures (λ ds. plans-map (with_colours c.args.self.now ds) c.args.r c.args.c c.zone_of.result c.zone_of.ensures)
+returns-clause-plan c =
+    rw c.of.ensures (λ ds. plans-map (with_colours c.args.self.now ds) c.args.r c.args.c c.zone_of.result
+    (record { home = c.zone_of.ensures.value; made = c.zone_of.ensures.made }))

@@ -4,5 +4,7 @@ use Rattle.heap_core.proofs.Resolved.{hands_coloured, plans-unwrap}
 use Rattle.heap_core.proofs.heap.Heap.resolve_unwrap.Goals as goal
 
 pub returns-in-Ok-clause-plan : goal.returns-in-Ok-clause-plan
-returns-in-Ok-clause-plan c = rw c.of.ensures (λ ds. plans-unwrap (with_colours c.args.self.now ds) c.args.r c.args.s c.in-Ok.held
-    (hands_coloured c.args.self.now ds (λ r. cmd.Unwrap r c.args.s) c.in-Ok.held c.in-Ok.ensures.step) c.in-Ok.ensures.value c.in-Ok.ensures.present)
+returns-in-Ok-clause-plan c =
+    rw c.of.ensures (λ ds. plans-unwrap (with_colours c.args.self.now ds) c.args.r c.args.s c.in-Ok.held
+    (hands_coloured c.args.self.now ds (λ r. cmd.Unwrap r c.args.s) c.in-Ok.held c.in-Ok.ensures.step)
+    c.in-Ok.ensures.value c.in-Ok.ensures.present)
