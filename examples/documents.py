@@ -1,21 +1,33 @@
-"""Tests what the documents show: their commands, their links, their pictures, and the clauses that docs/PROOFS.md names.
+"""Tests what the documents show: commands, links, pictures, and the clauses that docs/PROOFS.md names.
 
-examples/check does this with all else; `python3 examples/documents.py` does it alone, and prints what is wrong.
+examples/check does this with all else; `python3 examples/documents.py` does it alone, and prints what is wrong. It
+builds nothing: a command that needs a program which is not built is not run, and it says so.
 """
 
 import re
 import shutil
 import subprocess
+import sys
 from pathlib import Path
 
 TOP = Path(__file__).resolve().parent.parent
 SECONDS = 30
-# What a command needs beside Python. It is not run when this is missing.
-NEEDS = {"tools/draw": "dot", "tools/check-heap-log": str(TOP / "crates/check_dump/out/check_dump")}
+PROGRAM = str(TOP / "crates/gczone/out/gczone")
+# What a command needs beside Python. It is not run when one of these is missing.
+NEEDS = {
+    "./gczone run": [PROGRAM],
+    "tools/explain": [PROGRAM],
+    "tools/draw": [PROGRAM, "dot"],
+    "tools/check-heap-log": [str(TOP / "crates/check_dump/out/check_dump")],
+}
+# These draw without Graphviz.
+NO_DOT = ("--dot", "--check", "timeline")
+PICTURES = "tools/draw pictures --check"
 
 
 def documents():
-    return sorted(path for folder in (".", "docs", "examples", "examples/differences") for path in (TOP / folder).glob("*.md"))
+    folders = (".", "docs", "examples", "examples/differences")
+    return sorted(path for folder in folders for path in (TOP / folder).glob("*.md"))
 
 
 def commands(text):
@@ -42,10 +54,17 @@ def fits(wanted, found):
     return bool(found) and found[0] == wanted[0] and fits(wanted[1:], found[1:])
 
 
+def missing(command):
+    """What a command needs that is not there."""
+    needs = [need for tool, tool_needs in NEEDS.items() if tool in command for need in tool_needs]
+    if any(flag in command for flag in NO_DOT):
+        needs = [need for need in needs if need != "dot"]
+    return [need for need in needs if not shutil.which(need)]
+
+
 def check_command(command, wanted):
-    if not any(flag in command for flag in ("--dot", "--check", "timeline")):
-        if any(tool in command and not shutil.which(need) for tool, need in NEEDS.items()):
-            return []
+    if missing(command):
+        return []
     run = subprocess.run(
         ["sh", "-c", command], cwd=TOP, stdin=subprocess.DEVNULL, stdout=subprocess.PIPE, stderr=subprocess.STDOUT,
         timeout=SECONDS, check=False,
@@ -111,17 +130,24 @@ def check_clauses(path):
     return wrong
 
 
+def not_run():
+    """The commands of the documents that need something which is missing."""
+    shown = [command for path in documents() for command, _ in commands(path.read_text())]
+    return [command for command in shown + [PICTURES] if missing(command)]
+
+
 def checks():
     """Names and checks of all documents."""
     found = [(str(path.relative_to(TOP)), lambda path=path: check_document(path)) for path in documents()]
     found.append(("clauses in docs/PROOFS.md", lambda: check_clauses(TOP / "docs/PROOFS.md")))
-    found.append(("pictures", lambda: check_command("tools/draw pictures --check", [])))
+    found.append(("pictures", lambda: check_command(PICTURES, [])))
     return found
 
 
 if __name__ == "__main__":
-    # Builds what is missing before anything is timed.
-    subprocess.run([TOP / "gczone", "run"], stdin=subprocess.DEVNULL, stdout=subprocess.DEVNULL, check=True)
-    for name, check in checks():
-        for fault in check():
-            print(f"{name}: {fault}")
+    faults = [f"{name}: {fault}" for name, check in checks() for fault in check()]
+    for fault in faults:
+        print(fault)
+    for command in not_run():
+        print(f"not run: `{command}` needs {', '.join(missing(command))}")
+    sys.exit(1 if faults else 0)
