@@ -1,0 +1,4 @@
+pub mod Sorted
+pub mod Starts
+pub mod Written
+pub mod Runs
