@@ -11,16 +11,7 @@ use Rattle.heap_core.specs.declared.plans.Plan.{Plan}
 use Rattle.heap_core.specs.Shape.{Shape}
 use Rattle.heap_core.specs.Heap.{HeapState, with_colours}
 use Rattle.heap_core.specs.Answers.{DoesStep}
-use Rattle.heap_core.specs.Peeks.{
-  IsHanded,
-  IsOld,
-  IsWrapped,
-  cells_made,
-  handed,
-  stored,
-  unless_refused,
-  wrapped_target,
-}
+use Rattle.heap_core.specs.Peeks.{IsOld, cells_made, handed, stored, unless_refused}
 use Rattle.heap_core.specs.Plans.{ChangesBy, IsPlanIn, IsPlanOf, MayWant, handed_by, made_by, overwritten_by}
 use Rattle.heap_core.proofs.Stepping.{does-wanting}
 
@@ -91,16 +82,9 @@ module _ (h : HeapState) (c : GraphCmd) (plan : Plan) (is : IsPlanIn h c plan) w
   stored-sure some = overwritten-wants h.shape plan.change
       (subst (λ (o : Option Place). IsSome o) (sym is.overwritten ∙ is.replaced) some)
 
-  -- what the plan's parts are on each graph that the heap shows
+  -- what the plan overwrites, on each graph that the heap shows
   pub is-old : IsOld h c plan.overwritten
   is-old g s = is.overwritten ∙ sym (ap (λ (o : Option Refusal). unless_refused o (stored h c)) (is.accepted g s))
-
-  pub is-wrapped : IsWrapped h c plan.wrapped
-  is-wrapped g s = is.wrapped
-      ∙ sym (ap (λ (o : Option Refusal). unless_refused o (wrapped_target h c)) (is.accepted g s))
-
-  pub is-handed : IsHanded h c (handed_by plan.change)
-  is-handed g s = is.handed ∙ sym (ap (λ (o : Option Refusal). unless_refused o (handed h c)) (is.accepted g s))
 
   pub made-cells : (answer : Reply) (new : HeapState) → ChangesBy h plan.change answer new
       → new.made ≡ h.made + cells_made h c (Ok answer)

@@ -1,5 +1,18 @@
 -- What a command will overwrite or remove, what it is about, and what it will hand to its register.
-use Rattle.std.specs.Prelude.{◌≡◌, ℕ, Option, Some, None, Result, Ok, Err, is_some, slice_get, option_and_then, if◌then◌else◌}
+use Rattle.std.specs.Prelude.{
+  ◌≡◌,
+  ℕ,
+  Option,
+  Some,
+  None,
+  Result,
+  Ok,
+  Err,
+  is_some,
+  slice_get,
+  option_and_then,
+  if◌then◌else◌,
+}
 use Rattle.std.specs.Option.{option_map}
 use Rattle.gz_names.specs.declared.commands.GraphCmd.{GraphCmd}
 use Rattle.gz_names.specs.declared.commands.GraphCmd.TheVariants as cmd
@@ -79,14 +92,6 @@ unless_refused (Some why) p = None
 -- on each graph that the heap shows, this is the value that the command overwrites or removes
 abbrev pub IsOld : HeapState → GraphCmd → Option Place → Type 0
 IsOld h c p = (g : GraphState) → Shows h g → p ≡ unless_refused (refusal_in (step_of g c).1) (stored h c)
-
--- and this the present cell that it hands to its register
-abbrev pub IsHanded : HeapState → GraphCmd → Option Place → Type 0
-IsHanded h c p = (g : GraphState) → Shows h g → p ≡ unless_refused (refusal_in (step_of g c).1) (handed h c)
-
--- and this the object or map that a `wrap` is about
-abbrev pub IsWrapped : HeapState → GraphCmd → Option Place → Type 0
-IsWrapped h c p = (g : GraphState) → Shows h g → p ≡ unless_refused (refusal_in (step_of g c).1) (wrapped_target h c)
 
 -- the zone of a new wrapper of a register's cell in a compartment; none where the compartment sees the cell already
 abbrev pub wrapped_in : HeapState → Option Place → CompNo → Option ℕ

@@ -1,10 +1,8 @@
 -- What a command on the graph leaves in place, what it makes, and what it does in a world.
 use Rattle.std.specs.Prelude.{◌≡◌, ◌↔◌, ◌==◌, ◌++◌, ℕ, List, [], ◌∷◌, length, Option, Some, None, if◌then◌else◌}
 use Rattle.gz_names.specs.declared.names.Name.{Name}
-use Rattle.gz_names.specs.declared.numbers.CompNo.{CompNo}
 use Rattle.gz_names.specs.declared.numbers.Place.{Place}
 use Rattle.gz_names.specs.declared.commands.GraphCmd.{GraphCmd}
-use Rattle.gz_names.specs.declared.commands.GraphCmd.TheVariants as cmd
 use Rattle.gz_names.specs.declared.replies.Reply.{Reply}
 use Rattle.cell_bits.specs.declared.bits.Bits.{Bits}
 use Rattle.arena_table.specs.Table.{is_place}
@@ -14,6 +12,7 @@ use Rattle.colour_defs.specs.Step.{IsAccepted, step_of}
 use Rattle.colour_defs.specs.World.{World, Collection, CommandInWorld, IsSettled, with_counts, with_waking, woken_by}
 use Rattle.heap_core.specs.Shape.{AreWhole, Shape, IsPresent, name_at, zone_of}
 use Rattle.heap_core.specs.Heap.{HeapState}
+use Rattle.heap_core.specs.Plans.{IsNoWrap}
 use Rattle.heap_core.specs.Shows.{Shows}
 use Rattle.heap_core.specs.Changes.{next_place}
 use Rattle.mark_stack.specs.Stack.{Piles}
@@ -85,4 +84,4 @@ pub record WantsMemory (old : CollectorState) (flown : ℕ → Option Bits) (com
     (flying : ℕ → Option Bits) : Type 0 where
   pub accepted : (w : World) → IsValid w → Represents old flown w → IsAccepted w.graph command
   pub shape_is : new.heap.shape ≡ old.heap.shape
-  pub kept : ((r s : ℕ) (c : CompNo) → command ≡ cmd.Wrap r s c → ⊥) → Widens old new × (flying ≡ flown)
+  pub kept : IsNoWrap command → Widens old new × (flying ≡ flown)

@@ -1,5 +1,5 @@
 // Commands on the graph, with their barriers.
-ghost use Rattle.std.specs.Prelude.{◌≡◌, ◌≤◌, ◌<◌, ◌+◌, Err, IfOk, IsSome, None, OnErr, OnOk, All, false, length, true};
+ghost use Rattle.std.specs.Prelude.{◌≡◌, ◌≤◌, ◌<◌, ◌+◌, Err, IfOk, IsSome, None, OnErr, OnOk, false, length, true};
 ghost use Rattle.std.specs.Option.{ForSome};
 ghost use Rattle.gz_names.specs.declared.replies.CmdFault.TheVariants as fault;
 ghost use Rattle.colour_defs.specs.Graph.{GraphState};
@@ -59,7 +59,6 @@ impl Collector {
         ensures entries { length self.new.heap.shape.weak.entries
             ≤ length self.old.heap.shape.weak.entries + 1 }
     {
-        self.homes_law();
         self.wrappers_law();
         let plan = match self.heap.resolve(&cmd) {
             Ok(plan) => plan,
@@ -122,19 +121,10 @@ impl Collector {
         }
     }
 
-    // The zone of each compartment is made. It does nothing.
-    fn homes_law(&self)
-        ensures { All (λ zone. zone < length self.now.heap.shape.states) self.now.heap.shape.comps }
-    {
-        self.heap.comps();
-    }
-
     // No wrapper stands twice in the maps. It does nothing.
     pub(crate) fn wrappers_law(&self)
         ensures { AreApart self.now.heap.shape.wrappers.lists }
     {
-        if let Some(zone) = ZoneNo::new(0) {
-            self.heap.next_of(zone, &mut 0);
-        }
+        self.heap.wrappers_law();
     }
 }

@@ -1,31 +1,52 @@
--- Commands keep that each wrapper that was not looked at has a black target.
-use Rattle.std.proofs.Common.{◌≡◌, ◌⊎◌, ◌++◌, ◌∷◌, ℕ, zero, suc, List, [], Option, Some, None, IsSomeAnd, inl, inr, slice_get, if◌then◌else◌, refl, sym, ap, subst, ◌∙◌}
+-- Changes keep that each wrapper that was not looked at has a black target.
+use Rattle.std.proofs.Common.{
+  ◌≡◌,
+  ◌⊎◌,
+  ◌++◌,
+  ◌∷◌,
+  ℕ,
+  zero,
+  suc,
+  List,
+  [],
+  Option,
+  Some,
+  None,
+  IsSomeAnd,
+  inl,
+  inr,
+  slice_get,
+  if◌then◌else◌,
+  refl,
+  sym,
+  ap,
+  subst,
+  ◌∙◌,
+}
 use Rattle.std.specs.Option.{option_map}
 use Rattle.std.proofs.lemmas.Bool.{cases_eq}
-use Rattle.gz_names.specs.declared.names.Name.{Name}
-use Rattle.gz_names.specs.declared.names.Name.TheVariants.{Cell, Wrap}
+use Rattle.gz_names.specs.declared.names.Name.TheVariants.{Cell}
 use Rattle.gz_names.specs.declared.commands.Kind.{Kind}
 use Rattle.gz_names.specs.declared.commands.Kind.TheVariants as kind
-use Rattle.gz_names.specs.declared.commands.GraphCmd.{GraphCmd}
-use Rattle.gz_names.specs.declared.commands.GraphCmd.TheVariants as cmd
 use Rattle.gz_names.specs.declared.numbers.CompNo.{CompNo}
 use Rattle.gz_names.specs.declared.numbers.Place.{Place}
+use Rattle.gz_names.specs.declared.replies.Reply.{Reply}
 use Rattle.cell_bits.specs.declared.bits.Bits.{Bits}
 use Rattle.cell_bits.specs.declared.bits.Colour.TheVariants as colour
 use Rattle.arena_table.specs.Cells.{CellState}
 use Rattle.arena_table.specs.Table.{new_cell}
 use Rattle.wrappers.specs.WrapperMaps.{AreApart, WrappersState, list_of}
-use Rattle.colour_defs.specs.Graph.{GraphState, register_cell}
-use Rattle.colour_defs.specs.Step.{refusal_in, set_from, step_of, value_to_set as set_value}
-use Rattle.heap_core.specs.Shape.{ArenaShape, cell_of, field_at, field_in, held_name}
-use Rattle.heap_core.specs.Heap.{HeapState, colour_of, colour_in, reg_of}
-use Rattle.heap_core.specs.Changes.{Makes, MakesWrapper, Writes, with_entry, wrapper_cell}
-use Rattle.heap_core.specs.Effects.{Changes, Dels, IsWithout, MakesHeld, Puts, Sets, Wraps, itself, found, made}
-use Rattle.heap_core.specs.Lookups.{number_at, target_at, value_to_set}
-use Rattle.heap_core.specs.Shows.{Shows, StandsFor, is_wrapper}
+use Rattle.colour_defs.specs.Graph.{GraphState}
+use Rattle.heap_core.specs.declared.plans.Change.{Change}
+use Rattle.heap_core.specs.declared.plans.Change.TheVariants as change
+use Rattle.heap_core.specs.Shape.{ArenaShape, cell_of, field_at, field_in}
+use Rattle.heap_core.specs.Heap.{HeapState, colour_of, colour_in}
+use Rattle.heap_core.specs.Changes.{Makes, MakesWrapper, Writes, wrapper_cell}
+use Rattle.heap_core.specs.Effects.{HoldsWrapper, MakesHeld}
+use Rattle.heap_core.specs.Lookups.{number_at}
+use Rattle.heap_core.specs.Plans.{ChangesBy, HasField, IsAble}
+use Rattle.heap_core.specs.Shows.{Shows, is_wrapper}
 use Rattle.heap_core.proofs.MakingCells.{same-place}
-use Rattle.heap_core.proofs.Places.{cell_named, present_cell}
-use Rattle.heap_core.proofs.Shown.{reg_present, reg_shown}
 use Rattle.zone_edges.specs.Looks.{AreLeftBlack, IsWrapperIn, WrapsBlack, wrapper_at}
 use Rattle.zone_edges.specs.Noted.{Noted}
 use Rattle.zone_edges.proofs.Looking.{stands_in}
@@ -42,12 +63,6 @@ last_or_before (x ∷ xs) y (suc i) = last_or_before xs y i
 kind_there : (o : Option CellState) (k : Kind) → option_map (λ (cell : CellState). cell.kind) o ≡ Some k → (cell : CellState) × (o ≡ Some cell) × (cell.kind ≡ k)
 kind_there None k e = absurd (cc e)
 kind_there (Some cell) k e = (cell, refl, cc e)
-
--- a `set` that is not refused writes no wrapper
-set_plain : (g : GraphState) (x : Name) (f : ℕ) (v : Option (Option Name)) → refusal_in (set_from g (Some x) f v).1 ≡ None → (n : ℕ) × (x ≡ Cell n)
-set_plain g (Cell n) f v e = (n, refl)
-set_plain g (Wrap c t) f None e = absurd (cc e)
-set_plain g (Wrap c t) f (Some v) e = absurd (cc e)
 
 -- the arenas, the wrapper maps and the colours are as they were
 left_same : (h k : HeapState) (n : Noted) → AreLeftBlack h n → k.shape.arenas ≡ h.shape.arenas → k.shape.wrappers ≡ h.shape.wrappers → k.colours ≡ h.colours → AreLeftBlack k n
@@ -108,68 +123,35 @@ module _ (old : HeapState) (g : GraphState) (n : Noted) (shows : Shows old g) (a
         | inr away ↦ before (ap (λ es. option_map (λ entry. entry.1) (slice_get es i)) (sym (m.others z away)) ∙ at)
       ]
 
-  -- the cell that a `set` writes is no wrapper
-  left_set : (new : HeapState) (s f : ℕ) (t : Option ℕ) → refusal_in (step_of g (cmd.Set s f t)).1 ≡ None → Sets old s f t new → AreLeftBlack new n
-  left_set new s f t accepted sets = go (reg_of old s) refl sets
-    where
-      plain : (p : Place) → reg_of old s ≡ Some p → (z : ℕ) → IsWrapperIn old.shape z p → ⊥
-      plain p held z there =
-          let cell = present_cell old.shape p (reg_present old g s p shows held) in
-          let named : register_cell g s ≡ Some cell.0.name = reg_shown old g s shows ∙ (ap (held_name old.shape) held ∙ cell_named old.shape p cell.0 cell.1) in
-          let number = set_plain g cell.0.name f _ (ap (λ o. refusal_in (set_from g o f (set_value g t)).1) (sym named) ∙ accepted) in
-          let shown = shows.cells p cell.0 cell.1 in
-          let stands : StandsFor old.shape g p cell.0 (Cell number.0) = subst (StandsFor old.shape g p cell.0) number.1 shown.stands in
-          let k = kind_there (cell_of old.shape p) kind.Wrapper there.kind_is in
-          let same : k.0 ≡ cell.0 = cc (sym k.1 ∙ cell.1) in
-          absurd (cc (sym (ap (λ (c : CellState). is_wrapper c.kind) (sym same) ∙ ap is_wrapper k.2) ∙ stands.0))
-
-      go : (o : Option Place) → reg_of old s ≡ o → IsSomeAnd o (λ p. Writes old p f (value_to_set old t) new) → AreLeftBlack new n
-      go None at w = absurd w
-      go (Some p) at w = left_written new p f (value_to_set old t) w (plain p at)
+  -- a cell with a field of its own is no wrapper
+  plain : (p : Place) (f : ℕ) → IsSomeAnd (cell_of old.shape p) (λ (c : CellState). HasField c f) → (z : ℕ)
+      → IsWrapperIn old.shape z p → ⊥
+  plain p f has z there =
+      let k = kind_there (cell_of old.shape p) kind.Wrapper there.kind_is in
+      let field : HasField k.0 f = subst (λ o. IsSomeAnd o (λ (c : CellState). HasField c f)) k.1 has in
+      cc (sym (ap is_wrapper k.2) ∙ field.plain)
 
   -- an object or a map was made, and a register holds it
   left_held : (new : HeapState) (r : ℕ) (k : Kind) (c : CompNo) → MakesHeld old r k c new → AreLeftBlack new n
   left_held new r k c m = left_same m.made new n (left_made m.made m.zone m.place (new_cell k c (Cell old.shape.objects)) m.makes) (ap (λ (h : HeapState). h.shape.arenas) m.rest) (ap (λ (h : HeapState). h.shape.wrappers) m.rest) (ap (λ (h : HeapState). h.colours) m.rest)
 
-  -- a wrapper was found or made, and a register holds it
-  left_wraps : (new : HeapState) (r s : ℕ) (c : CompNo) → WrapsBlack old (cmd.Wrap r s c) → Wraps old r s c new → AreLeftBlack new n
-  left_wraps new r s c black (itself p e same is) = by_parts new is refl refl refl
-  left_wraps new r s c black (found p w e other at is) = by_parts new is refl refl refl
-  left_wraps new r s c black (made p e other at m) =
-      left_same m.between new n (left_wrapped m.between m.zone c (number_at old.shape (target_at old.shape p)) (target_at old.shape p) m.wrapper m.makes (black r s c p refl e)) (ap (λ (h : HeapState). h.shape.arenas) m.rest) (ap (λ (h : HeapState). h.shape.wrappers) m.rest) (ap (λ (h : HeapState). h.colours) m.rest)
+  -- a wrapper of a black cell was made, and a register holds it
+  left_holds : (new : HeapState) (r : ℕ) (c : CompNo) (t : Place) → colour_of old t ≡ colour.Black
+      → HoldsWrapper old r c t new → AreLeftBlack new n
+  left_holds new r c t black m =
+      left_same m.between new n (left_wrapped m.between m.zone c (number_at old.shape t) t m.wrapper m.makes black)
+      (ap (λ (h : HeapState). h.shape.arenas) m.rest) (ap (λ (h : HeapState). h.shape.wrappers) m.rest)
+      (ap (λ (h : HeapState). h.colours) m.rest)
 
-  left_put : (new : HeapState) (m k v : ℕ) → Puts old m k v new → AreLeftBlack new n
-  left_put new m k v puts = go (reg_of old m) (reg_of old k) (reg_of old v) puts
-    where
-      go : (a b d : Option Place) → IsSomeAnd a (λ map. IsSomeAnd b (λ key. IsSomeAnd d (λ value. new ≡ with_entry old map key value))) → AreLeftBlack new n
-      go None b d p = absurd p
-      go (Some map) None d p = absurd p
-      go (Some map) (Some key) None p = absurd p
-      go (Some map) (Some key) (Some value) p = by_parts new p refl refl refl
-
-  left_del : (new : HeapState) (m k : ℕ) → Dels old m k new → AreLeftBlack new n
-  left_del new m k dels = go (reg_of old m) (reg_of old k) dels
-    where
-      go : (a b : Option Place) → IsSomeAnd a (λ map. IsSomeAnd b (λ key. IsWithout old map key new)) → AreLeftBlack new n
-      go None b p = absurd p
-      go (Some map) None p = absurd p
-      go (Some map) (Some key) p = by_parts new p.rest refl refl refl
-
-  -- whatever a command changes
-  pub left_changes : (new : HeapState) (c : GraphCmd) → refusal_in (step_of g c).1 ≡ None → Changes old c new → WrapsBlack old c → AreLeftBlack new n
-  left_changes new cmd.Zone accepted e black = by_parts new e refl refl refl
-  left_changes new (cmd.Comp z) accepted e black = by_parts new e refl refl refl
-  left_changes new (cmd.New r c k) accepted m black = left_held new r (kind.Object k) c m
-  left_changes new (cmd.Map r c) accepted m black = left_held new r kind.Map c m
-  left_changes new (cmd.Get r s f) accepted e black = by_parts new e refl refl refl
-  left_changes new (cmd.Set s f t) accepted w black = left_set new s f t accepted w
-  left_changes new (cmd.Wrap r s c) accepted w black = left_wraps new r s c black w
-  left_changes new (cmd.Unwrap r s) accepted e black = by_parts new e refl refl refl
-  left_changes new (cmd.Copy r s) accepted e black = by_parts new e refl refl refl
-  left_changes new (cmd.Drop r) accepted e black = by_parts new e refl refl refl
-  left_changes new (cmd.Hold k r) accepted e black = by_parts new e refl refl refl
-  left_changes new (cmd.Release k) accepted e black = by_parts new e refl refl refl
-  left_changes new (cmd.Expose r k) accepted e black = by_parts new e refl refl refl
-  left_changes new (cmd.Put m k v) accepted p black = left_put new m k v p
-  left_changes new (cmd.Del m k) accepted p black = left_del new m k p
-  left_changes new (cmd.Find r m k) accepted e black = by_parts new e refl refl refl
+  -- whatever is changed
+  pub left_changes : (new : HeapState) (made : ℕ) (ch : Change) (answer : Reply) → IsAble old.shape made ch
+      → WrapsBlack old ch → ChangesBy old ch answer new → AreLeftBlack new n
+  left_changes new made change.Zone answer able black by = by_parts new by.0 refl refl refl
+  left_changes new made (change.Comp z) answer able black by = by_parts new by.0 refl refl refl
+  left_changes new made (change.Cell r z c k) answer able black by = left_held new r k c by.0
+  left_changes new made (change.Wrapper r z c t) answer able black by = left_holds new r c t (black r z c t refl) by.0
+  left_changes new made (change.Register r v named) answer able black by = by_parts new by.0 refl refl refl
+  left_changes new made (change.Slot k v) answer able black by = by_parts new by.0 refl refl refl
+  left_changes new made (change.Field p f v) answer able black by = left_written new p f v by.0 (plain p f able.0)
+  left_changes new made (change.Put m k v) answer able black by = by_parts new by.0.rest refl refl refl
+  left_changes new made (change.Del m k) answer able black by = by_parts new by.0.rest refl refl refl

@@ -1,20 +1,38 @@
 -- The wrappers that are looked at, and the edges that they lead along.
-use Rattle.std.specs.Prelude.{◌≡◌, ◌≢◌, ℕ, zero, suc, ◌+◌, ◌-◌, ◌*◌, ◌<◌, ◌≤◌, ◌⊎◌, ◌↔◌, Option, Some, Contains, length, slice_get, slice_index_or}
+use Rattle.std.specs.Prelude.{
+  ◌≡◌,
+  ◌≢◌,
+  ℕ,
+  zero,
+  suc,
+  ◌+◌,
+  ◌-◌,
+  ◌*◌,
+  ◌<◌,
+  ◌≤◌,
+  ◌⊎◌,
+  ◌↔◌,
+  Option,
+  Some,
+  Contains,
+  length,
+  slice_get,
+  slice_index_or,
+}
 use Rattle.std.specs.Int.{bit_at}
 use Rattle.std.specs.Option.{option_map}
 use Rattle.gz_names.specs.Zones.{HasZone}
 use Rattle.gz_names.specs.declared.commands.Kind.TheVariants as kind
-use Rattle.gz_names.specs.declared.commands.GraphCmd.{GraphCmd}
-use Rattle.gz_names.specs.declared.commands.GraphCmd.TheVariants as cmd
 use Rattle.gz_names.specs.declared.numbers.CompNo.{CompNo}
 use Rattle.gz_names.specs.declared.numbers.Place.{Place}
 use Rattle.gz_names.specs.declared.zone_sets.ZoneSet.{ZoneSet}
 use Rattle.cell_bits.specs.declared.bits.Colour.TheVariants as colour
 use Rattle.wrappers.specs.WrapperMaps.{AreApart, list_of}
 use Rattle.wrappers.specs.declared.wrapper_maps.WrapperKey.{WrapperKey}
+use Rattle.heap_core.specs.declared.plans.Change.{Change}
+use Rattle.heap_core.specs.declared.plans.Change.TheVariants as change
 use Rattle.heap_core.specs.Shape.{Shape, IsPresent, cell_of, field_at, zone_of}
-use Rattle.heap_core.specs.Heap.{HeapState, colour_of, reg_of}
-use Rattle.heap_core.specs.Lookups.{target_at}
+use Rattle.heap_core.specs.Heap.{HeapState, colour_of}
 use Rattle.zone_edges.specs.declared.look.Look.{Look}
 use Rattle.zone_edges.specs.declared.look.Look.TheVariants.{Did, Empty}
 use Rattle.zone_edges.specs.Groups.{Edge}
@@ -74,9 +92,9 @@ pub record LeadsFrom (h : HeapState) (zones : ZoneSet) (p : Place) (a b : ℕ) :
 abbrev pub AreLeftBlack : HeapState → Noted → Type 0
 AreLeftBlack h n = (z index : ℕ) (p q : Place) → HasZone n.zones.bits z → cursor_of n z ≤ index → wrapper_at h.shape z index ≡ Some p → field_at h.shape p 0 ≡ Some q → colour_of h q ≡ colour.Black
 
--- the target of the wrapper that a command may make is black
-abbrev pub WrapsBlack : HeapState → GraphCmd → Type 0
-WrapsBlack h c = (r s : ℕ) (comp : CompNo) (p : Place) → c ≡ cmd.Wrap r s comp → reg_of h s ≡ Some p → colour_of h (target_at h.shape p) ≡ colour.Black
+-- the target of the wrapper that a change makes, if it makes one, is black
+abbrev pub WrapsBlack : HeapState → Change → Type 0
+WrapsBlack h ch = (r z : ℕ) (comp : CompNo) (t : Place) → ch ≡ change.Wrapper r z comp t → colour_of h t ≡ colour.Black
 
 -- one wrapper more was looked at, the next of its zone, and its edge is noted where it leads along one
 pub record LooksAtNext (h : HeapState) (old new : Noted) : Type 0 where

@@ -1,36 +1,63 @@
 -- The call of a command, also between two units of a collection.
-use Rattle.std.proofs.Common.{◌≡◌, ◌↔◌, ◌≤◌, ◌*◌, ℕ, false, List, length, Bool, true, Option, Some, None, is_some, Result, Ok, Err, OnOk, OnErr, Contains, slice_get, if◌then◌else◌, refl, sym, ap, subst, ◌∙◌, inl, inr, IsSome}
+use Rattle.std.proofs.Common.{
+  ◌≡◌,
+  ◌↔◌,
+  ◌≤◌,
+  ◌*◌,
+  ℕ,
+  false,
+  List,
+  length,
+  Option,
+  Some,
+  None,
+  is_some,
+  Result,
+  Ok,
+  Err,
+  IfErr,
+  IfOk,
+  OnErr,
+  Contains,
+  slice_get,
+  if◌then◌else◌,
+  refl,
+  sym,
+  ap,
+  subst,
+  ◌∙◌,
+  inl,
+  inr,
+  IsSome,
+}
 use Rattle.std.specs.FinSet as set
-use Rattle.std.specs.Option.{option_map}
 use Rattle.gz_names.specs.declared.names.Name.{Name}
-use Rattle.gz_names.specs.declared.names.Name.TheVariants.{Cell, Wrap}
-use Rattle.gz_names.specs.declared.numbers.CompNo.{CompNo}
+use Rattle.gz_names.specs.declared.names.Name.TheVariants.{Cell}
 use Rattle.gz_names.specs.declared.numbers.Place.{Place}
 use Rattle.gz_names.specs.declared.commands.GraphCmd.{GraphCmd}
-use Rattle.gz_names.specs.declared.commands.GraphCmd.TheVariants as cmd
 use Rattle.gz_names.specs.declared.replies.Reply.{Reply}
 use Rattle.gz_names.specs.declared.replies.CmdFault.{CmdFault}
 use Rattle.gz_names.specs.declared.replies.CmdFault.TheVariants as fault
-use Rattle.gz_names.specs.declared.replies.Refusal.{Refusal}
 use Rattle.cell_bits.specs.declared.bits.Bits.{Bits}
 use Rattle.arena_table.specs.Cells.{CellState}
 use Rattle.wrappers.specs.WrapperMaps.{AreApart}
 use Rattle.mark_stack.specs.Stack.{Piles}
 use Rattle.gray_lists.specs.Incoming.{Incoming}
-use Rattle.colour_defs.specs.Graph.{GraphState, register_cell}
+use Rattle.colour_defs.specs.Graph.{GraphState}
 use Rattle.colour_defs.specs.Laws.{IsValid}
-use Rattle.colour_defs.specs.Step.{is_in_comp, refusal_in, step_of, target_of}
+use Rattle.colour_defs.specs.Step.{step_of}
 use Rattle.colour_defs.specs.Units.{Tally, with_put, with_woken}
-use Rattle.colour_defs.specs.World.{World, Collection, IsSettled, with_counts, woken_by, woken_by_wrap}
+use Rattle.colour_defs.specs.World.{World, Collection, IsSettled, with_counts, woken_by}
 use Rattle.colour_defs.proofs.Lists.{nothing_in_none}
 use Rattle.colour_defs.proofs.ValidCommands.{command_valid}
-use Rattle.heap_core.specs.Shape.{Shape, held_name, is_marking, is_marking_state, name_at, out_of, zone_of}
-use Rattle.heap_core.specs.Heap.{HeapState, colour_in, colour_of, joined, reg_of, slot_of, with_flown}
+use Rattle.heap_core.specs.declared.plans.Change.{Change}
+use Rattle.heap_core.specs.declared.plans.Plan.{Plan}
+use Rattle.heap_core.specs.Shape.{Shape, is_marking, is_marking_state, name_at, out_of, zone_of}
+use Rattle.heap_core.specs.Heap.{HeapState, colour_in, colour_of, joined, with_flown}
 use Rattle.heap_core.specs.Answers.{DoesStep}
 use Rattle.heap_core.specs.Changes.{Makes}
-use Rattle.heap_core.specs.Effects.{Changes}
-use Rattle.heap_core.specs.Lookups.{target_at}
-use Rattle.heap_core.specs.Peeks.{IsHanded, handed as handed_in, stored, unless_refused, wrapped_target}
+use Rattle.heap_core.specs.Plans.{ChangesBy, IsAble, IsPlanIn, IsTarget, MayWant, handed_by, overwritten_by}
+use Rattle.heap_core.proofs.Planned.{handed-wants, planned-at, planned-here}
 use Rattle.heap_core.specs.Shows.{Shows}
 use Rattle.barriers.specs.Colours.{IsBlack}
 use Rattle.barriers.specs.Exposing.{BlackOr, Exposes}
@@ -38,34 +65,50 @@ use Rattle.barriers.specs.Invariant.{MarkingInvariant}
 use Rattle.barriers.specs.PendingLive.{GrayInvariant}
 use Rattle.barriers.specs.Reached.{Reached}
 use Rattle.barriers.specs.Spreading.{Covers}
+use Rattle.zone_edges.specs.Looks.{WrapsBlack}
 use Rattle.barriers.proofs.BlackClosure.{reached_more}
 use Rattle.slice_driver.specs.Closures.{AreTied}
 use Rattle.slice_driver.specs.Collector.{CollectorState, RunState, heap_with}
-use Rattle.slice_driver.specs.Commands.{ComesTo, DoesInWorld, Exposed, KeepsBlack, SpreadsBlack, StayInPlace, Wakes, waking, with_colours}
+use Rattle.slice_driver.specs.Commands.{
+  ComesTo,
+  DoesInWorld,
+  Exposed,
+  KeepsBlack,
+  SpreadsBlack,
+  StayInPlace,
+  Wakes,
+  waking,
+  with_colours,
+}
 use Rattle.slice_driver.specs.Represents.{AreInStates, AreLookedAt, IsIdle, Represents, Runs, RunsAs, WaitsWhileMarking}
 use Rattle.slice_driver.specs.Serves.{Serves}
-use Rattle.slice_driver.specs.Steps.{CommandSteps, GoesThrough, HomesAreMade}
+use Rattle.slice_driver.specs.Steps.{CommandSteps, GoesThrough}
 use Rattle.slice_driver.specs.Units.{AnswersIn, DoesCommand, KeepsFreedWords}
 use Rattle.slice_driver.specs.Worlds.{IsInFlight, IsUnswept, LiesIn}
 use Rattle.slice_driver.proofs.beginning.Begun.{none_member}
 use Rattle.slice_driver.proofs.commanding.CommandRuns.{names_come, names_stay, runs_served, waits_served}
-use Rattle.slice_driver.proofs.commanding.Commanding.{exposed_marks, handed_plain, stored_plain}
+use Rattle.slice_driver.proofs.commanding.Commanding.{exposed_marks}
 use Rattle.slice_driver.proofs.marking.Flights.{still_flies}
 use Rattle.slice_driver.proofs.commanding.FreedWords.{keeps_words, same_words}
 use Rattle.heap_core.proofs.MakingCells.{same-place}
 use Rattle.slice_driver.proofs.abstraction.Keeping.{stay_same}
-use Rattle.slice_driver.proofs.abstraction.Lying.{lies_coloured, refused_in, shows_coloured, woken_in}
+use Rattle.slice_driver.proofs.abstraction.Lying.{lies_coloured, shows_coloured, woken_in}
 use Rattle.slice_driver.proofs.marking.MarkingSteps.{own_sized}
 use Rattle.slice_driver.proofs.marking.MarkingUnits.{waits_on}
 use Rattle.slice_driver.proofs.abstraction.Named.{some_one}
-use Rattle.slice_driver.proofs.abstraction.Moving.{IsHeld, Moves, finds, makes, moves_of, quiet, stored_held, target_held}
+use Rattle.slice_driver.proofs.abstraction.Moving.{IsHeld, Moves, finds, makes, moves_of, near_reached, quiet}
 use Rattle.slice_driver.proofs.commanding.Quiet.{does_quiet}
 use Rattle.slice_driver.proofs.marking.Steps.{settled_states}
 use Rattle.slice_driver.proofs.commanding.Serving.{serves}
-use Rattle.slice_driver.proofs.commanding.Through.{IsReached, represents_exposed, represents_through, represents_widened}
+use Rattle.slice_driver.proofs.commanding.Through.{
+  IsReached,
+  represents_exposed,
+  represents_through,
+  represents_widened,
+}
 use Rattle.slice_driver.proofs.abstraction.Tying.{objects_grow, tied_exposed, tied_made, tied_served}
 use Rattle.slice_driver.proofs.commanding.Waking.{does_found, does_made}
-use Rattle.slice_driver.proofs.commanding.Woken.{made_black, one_spreads, others_keep, reached_kept, wakes_slot}
+use Rattle.slice_driver.proofs.commanding.Woken.{made_black, one_spreads, others_keep, reached_kept}
 
 -- through a barrier
 pub exposed_is : (o : Option Place) (h : HeapState) (s : Piles) (k : HeapState) (t : Piles) → Exposed o h s k t → (p : Place) → o ≡ Some p → IsBlack k p
@@ -88,69 +131,22 @@ exposed_gray (Some x) h k s t lists e g = (e.pending_live lists g).0
 held_reached : (c : CollectorState) (flown : ℕ → Option Bits) (w : World) → Represents c flown w → (p : Place) → Reached c.heap.shape (IsHeld c.heap) p → Reached c.heap.shape (IsBlack (heap_with c flown)) p
 held_reached c flown w rep p r = reached_more c.heap.shape (IsHeld c.heap) (IsBlack (heap_with c flown)) (λ y held. rep.marks.holds.colours.regs_black y held) r
 
--- what a `wrap` is about is reached from registers
-pub wrapped_held : (h : HeapState) (g : GraphState) → Shows h g → (c : GraphCmd) (p : Place) → wrapped_target h c ≡ Some p → Reached h.shape (IsHeld h) p
-wrapped_held h g shows cmd.Zone p e = absurd (cc e)
-wrapped_held h g shows (cmd.Comp z) p e = absurd (cc e)
-wrapped_held h g shows (cmd.New r c n) p e = absurd (cc e)
-wrapped_held h g shows (cmd.Map r c) p e = absurd (cc e)
-wrapped_held h g shows (cmd.Get r s f) p e = absurd (cc e)
-wrapped_held h g shows (cmd.Set s f t) p e = absurd (cc e)
-wrapped_held h g shows (cmd.Wrap r s c) p e = go (reg_of h s) refl e
-  where
-    go : (o : Option Place) → reg_of h s ≡ o → option_map (target_at h.shape) o ≡ Some p → Reached h.shape (IsHeld h) p
-    go None at is = absurd (cc is)
-    go (Some q) at is = (let same : target_at h.shape q ≡ p = cc is in subst (Reached h.shape (IsHeld h)) same (target_held h g shows s q at))
-wrapped_held h g shows (cmd.Unwrap r s) p e = absurd (cc e)
-wrapped_held h g shows (cmd.Copy r s) p e = absurd (cc e)
-wrapped_held h g shows (cmd.Drop r) p e = absurd (cc e)
-wrapped_held h g shows (cmd.Hold k r) p e = absurd (cc e)
-wrapped_held h g shows (cmd.Release k) p e = absurd (cc e)
-wrapped_held h g shows (cmd.Expose r k) p e = absurd (cc e)
-wrapped_held h g shows (cmd.Put m k v) p e = absurd (cc e)
-wrapped_held h g shows (cmd.Del m k) p e = absurd (cc e)
-wrapped_held h g shows (cmd.Find r m k) p e = absurd (cc e)
-
 none_waking : (o : Option Name) → waking o None ≡ None
 none_waking None = refl
 none_waking (Some x) = refl
-
--- a command that makes an object gives it the next number
-next_number : (w : World) (h : HeapState) (c : GraphCmd) (x : Name) → IsValid w → (l : LiesIn h w) → handed_in h c ≡ None → woken_by w.graph c ≡ Some x → (n : ℕ) → x ≡ Cell n → n ≡ length w.graph.objects
-next_number w h cmd.Zone x ok l none e n is = absurd (cc e)
-next_number w h (cmd.Comp z) x ok l none e n is = absurd (cc e)
-next_number w h (cmd.New r c f) x ok l none e n is = cc (e, is)
-next_number w h (cmd.Map r c) x ok l none e n is = cc (e, is)
-next_number w h (cmd.Get r s f) x ok l none e n is = absurd (cc e)
-next_number w h (cmd.Set s f t) x ok l none e n is = absurd (cc e)
-next_number w h (cmd.Wrap r s c) x ok l none e n is = absurd (go (register_cell w.graph s) e)
-  where
-    go2 : (y : Name) (b : Bool) → (if b then None else Some (Wrap c (target_of y))) ≡ Some x → ⊥
-    go2 y true q = cc q
-    go2 y false q = cc (q, is)
-
-    go : (o : Option Name) → woken_by_wrap w.graph o c ≡ Some x → ⊥
-    go None q = cc q
-    go (Some y) q = go2 y (is_in_comp w.graph c (Cell (target_of y))) q
-next_number w h (cmd.Unwrap r s) x ok l none e n is = absurd (cc e)
-next_number w h (cmd.Copy r s) x ok l none e n is = absurd (cc e)
-next_number w h (cmd.Drop r) x ok l none e n is = absurd (cc e)
-next_number w h (cmd.Hold k r) x ok l none e n is = absurd (cc e)
-next_number w h (cmd.Release k) x ok l none e n is = absurd (cc e)
-next_number w h (cmd.Expose r k) x ok l none e n is =
-    let named : woken_by w.graph (cmd.Expose r k) ≡ held_name h.shape (slot_of h k) = woken_in w h (cmd.Expose r k) (held_name h.shape (slot_of h k)) ok l (wakes_slot h r k) in
-    let nothing : woken_by w.graph (cmd.Expose r k) ≡ None = named ∙ ap (held_name h.shape) none in
-    absurd (cc (nothing, e))
-next_number w h (cmd.Put m k v) x ok l none e n is = absurd (cc e)
-next_number w h (cmd.Del m k) x ok l none e n is = absurd (cc e)
-next_number w h (cmd.Find r m k) x ok l none e n is = absurd (cc e)
 
 -- a collection with one woken name more
 abbrev with_name : Name → Collection → Collection
 with_name x k = record k { woken = set.insert k.woken x }
 
 -- the last two steps: what is handed out goes through a barrier, and the heap does the command
-module _ (b : CollectorState) (flown : ℕ → Option Bits) (command : GraphCmd) (w : World) (ok : IsValid w) (rep : Represents b flown w) (ds : List Bits) (stack : Piles) (flying : ℕ → Option Bits) (given : Option Place) (given_is : IsHanded b.heap command given) (exposed : Exposed given (heap_with b flown) b.stack (joined (with_colours b.heap ds) flying) stack) (covers : Covers b.heap.shape flying) where
+module _ (b : CollectorState) (flown : ℕ → Option Bits) (command : GraphCmd) (ch : Change) (w : World) (ok : IsValid w)
+    (rep : Represents b flown w) (ds : List Bits) (stack : Piles) (flying : ℕ → Option Bits)
+    (exposed : Exposed (handed_by ch) (heap_with b flown) b.stack (joined (with_colours b.heap ds) flying) stack)
+    (covers : Covers b.heap.shape flying) where
+  abbrev given : Option Place
+  given = handed_by ch
+
   abbrev m : HeapState
   m = with_colours b.heap ds
 
@@ -176,26 +172,27 @@ module _ (b : CollectorState) (flown : ℕ → Option Bits) (command : GraphCmd)
   pub nothing_handed : given ≡ None → Represents t flying w
   nothing_handed none = represents_exposed b flown w rep m stack flying covers given exposed (λ p e. absurd (cc (none, e)))
 
-  module _ (accepted : refusal_in (step_of rep.lies.graph command).1 ≡ None) (homes : HomesAreMade b.heap.shape) (apart : AreApart b.heap.shape.wrappers.lists) (stored_black : (p : Place) → stored b.heap command ≡ Some p → IsBlack (heap_with b flown) p) (target_black : (r i : ℕ) (c : CompNo) (p : Place) → command ≡ cmd.Wrap r i c → reg_of b.heap i ≡ Some p → IsBlack (heap_with b flown) (target_at b.heap.shape p)) (answer : Reply) (new : HeapState) (does : DoesStep m command (Ok answer) new) (change : Changes m command new) (room : 64 * length new.colours ≤ stack.room) (more_room : 64 * length new.colours ≤ b.lists.room) where
+  module _ (able : IsAble b.heap.shape b.heap.made ch) (apart : AreApart b.heap.shape.wrappers.lists)
+      (gone_black : (p : Place) → overwritten_by b.heap.shape ch ≡ Some p → IsBlack (heap_with b flown) p)
+      (target_black : WrapsBlack (heap_with b flown) ch) (answer : Reply) (new : HeapState)
+      (does : DoesStep m command (Ok answer) new) (change : ChangesBy m ch answer new)
+      (room : 64 * length new.colours ≤ stack.room) (more_room : 64 * length new.colours ≤ b.lists.room) where
     abbrev es : List Bits
     es = with_flown flying 0 new.colours
 
     abbrev d : CollectorState
     d = record t { heap = new }
 
-    handed_is : given ≡ handed_in m command
-    handed_is = given_is rep.lies.graph rep.lies.shown ∙ (ap (λ o. unless_refused o (handed_in b.heap command)) accepted ∙ sym (handed_plain b.heap ds command))
-
     keeps : (p : Place) → IsBlack (heap_with b flown) p → IsBlack (joined m flying) p
     keeps p black = exposed_keeps given (heap_with b flown) b.stack (joined m flying) stack exposed p black
 
-    wraps_black : (r i : ℕ) (c : CompNo) (p : Place) → command ≡ cmd.Wrap r i c → reg_of m i ≡ Some p → IsBlack (joined m flying) (target_at m.shape p)
-    wraps_black r i c p is e = keeps (target_at b.heap.shape p) (target_black r i c p is e)
+    wraps_black : WrapsBlack (joined m flying) ch
+    wraps_black r z c t is = keeps t (target_black r z c t is)
 
     pub served : Serves (joined m flying) (joined new flying) stack b.lists
-    served = serves m new flying stack b.lists rep.lies.graph shows inv gray covers homes room more_room command accepted
-        (λ p e. keeps p (stored_black p (sym (stored_plain b.heap ds command) ∙ e)))
-        (λ p e. exposed_is given (heap_with b flown) b.stack (joined m flying) stack exposed p (handed_is ∙ e))
+    served = serves m new flying stack b.lists inv gray covers room more_room b.heap.made ch answer able
+        (λ p e. keeps p (gone_black p e))
+        (λ p e. exposed_is given (heap_with b flown) b.stack (joined m flying) stack exposed p e)
         wraps_black change
 
     grown : (v : World) → v.graph ≡ (step_of w.graph command).0 → length w.graph.objects ≤ length v.graph.objects
@@ -239,7 +236,9 @@ module _ (b : CollectorState) (flown : ℕ → Option Bits) (command : GraphCmd)
     -- the collection that runs, by what it is after the command
     module _ (done : DoesInWorld w command answer new es) (names : (q : Place) (y : Name) → name_at m.shape q ≡ Some y → name_at new.shape q ≡ Some y) where
       runs_on : (k kk : Collection) (r : RunState) → kk ≡ record k { tally = kk.tally; woken = kk.woken } → Runs (joined m flying) t w r k → ((z : ℕ) → Contains kk.marking z → AreTied (joined new flying) stack b.lists done.after kk) → Runs (joined new flying) d done.after r kk
-      runs_on k kk r same runs tied = runs_served t d flying refl served inv w done.after k kk lies done.lies ok same names command rep.lies.graph change shows accepted apart (λ r2 i c p is e. wraps_black r2 i c p is e) covers r runs tied
+      runs_on k kk r same runs tied = runs_served t d flying refl served inv w done.after k kk lies done.lies ok same
+          names ch answer
+          rep.lies.graph change shows able apart wraps_black covers r runs tied
 
       none_after : w.collection ≡ None → done.after.collection ≡ None
       none_after none = done.collection_is ∙ (ap (λ k. waking (woken_by w.graph command) (with_counts w.graph command k)) none ∙ none_waking (woken_by w.graph command))
@@ -379,8 +378,13 @@ module _ (b : CollectorState) (flown : ℕ → Option Bits) (command : GraphCmd)
             (runs_on done (names_stay m.shape new.shape stay) (with_name x k) kk r refl running (λ z has. tied_served (joined m flying) (joined new flying) stack b.lists w done.after (with_name x k) tally lies_joined (lies_after done.after done.lies) served stay.names (grown done.after done.graph_is) (running.tied z has)))
 
     -- a cell is made, and wakes
-    answers_made : (zone : ℕ) (p : Place) (x : Name) (cell : CellState) (between : HeapState) → ComesTo m.shape new.shape zone p x → Wakes m command (Some x) → Makes m zone p cell between → new.colours ≡ between.colours → given ≡ None → AnswersIn w command (Ok answer) d flying
-    answers_made zone p x cell between comes wakes mk colours nothing = represents_after done comes.unswept there.flies there.waits (runs_all done (names_come m.shape new.shape zone p x comes) b.run w.collection refl there.runs ties)
+    answers_made : (zone : ℕ) (p : Place) (x : Name) (cell : CellState) (between : HeapState)
+        → ComesTo m.shape new.shape zone p x → Wakes m command (Some x) → Makes m zone p cell between
+        → new.colours ≡ between.colours → given ≡ None → ((n : ℕ) → x ≡ Cell n → n ≡ m.shape.objects)
+        → AnswersIn w command (Ok answer) d flying
+    answers_made zone p x cell between comes wakes mk colours nothing number =
+        represents_after done comes.unswept there.flies there.waits
+        (runs_all done (names_come m.shape new.shape zone p x comes) b.run w.collection refl there.runs ties)
       where
         there : Represents t flying w
         there = nothing_handed nothing
@@ -416,18 +420,18 @@ module _ (b : CollectorState) (flown : ℕ → Option Bits) (command : GraphCmd)
           refl,
           λ z has.
               tied_made (joined m flying) (joined new flying) stack b.lists w done.after k zone p x ok (command_valid w done.after command answer ok done.command) at lies_joined (lies_after done.after done.lies) served comes
-              (next_number w m command x ok lies (sym handed_is ∙ nothing) woken)
+              (λ n is. number n is ∙ (sym lies.shown.objects_made ∙ lies.part.part.made))
               (was k b.run (subst (λ u. RunsAs (joined m flying) t w b.run u) at there.runs) z has) _ (grown done.after done.graph_is),
         )
 
     -- what is freed of the arenas that are out stays the same
-    pub words_moves : Moves m command new → KeepsFreedWords m.shape new.shape
+    pub words_moves : Moves m command ch new → KeepsFreedWords m.shape new.shape
     words_moves (quiet stay wakes colours reach) = keeps_words m.shape new.shape lies.whole stay.whole served.outs
         (λ p out. stay.names p) stay.unswept
-    words_moves (finds p x named wakes colours arenas weak none_stored is_handed) =
+    words_moves (finds p x named wakes colours arenas weak is_handed) =
         let stay = stay_same m.shape new.shape arenas lies.whole in
         keeps_words m.shape new.shape lies.whole stay.whole served.outs (λ q out. stay.names q) stay.unswept
-    words_moves (makes zone p x cell between comes wakes mk colours none_stored none_handed) = keeps_words m.shape
+    words_moves (makes zone p x cell between comes wakes mk colours none_handed number) = keeps_words m.shape
         new.shape lies.whole comes.whole served.outs (λ q out. elim (same-place q p) [
           | inl here ↦ absurd (let none : out_of m.shape q.0 ≡ None = ap (λ (z : Place). out_of m.shape z.0) here.0
               ∙ mk.in_place in some_out (out_of m.shape q.0) none out)
@@ -438,16 +442,20 @@ module _ (b : CollectorState) (flown : ℕ → Option Bits) (command : GraphCmd)
         some_out None e some = cc some
         some_out (Some b) e some = cc e
 
-    pub answers_moves : Moves m command new → AnswersIn w command (Ok answer) d flying
-    answers_moves (quiet stay wakes colours reach) = answers_quiet stay wakes colours (λ p e. reach p (inr (sym handed_is ∙ e)))
-    answers_moves (finds p x named wakes colours arenas weak none_stored is_handed) = answers_found p x named wakes colours arenas weak (handed_is ∙ is_handed)
-    answers_moves (makes zone p x cell between comes wakes m2 colours none_stored none_handed) = answers_made zone p x cell between comes wakes m2 colours (handed_is ∙ none_handed)
+    pub answers_moves : Moves m command ch new → AnswersIn w command (Ok answer) d flying
+    answers_moves (quiet stay wakes colours reach) = answers_quiet stay wakes colours reach
+    answers_moves (finds p x named wakes colours arenas weak is_handed) =
+        answers_found p x named wakes colours arenas weak is_handed
+    answers_moves (makes zone p x cell between comes wakes mk colours none_handed number) =
+        answers_made zone p x cell between comes wakes mk colours none_handed number
 
 -- a barrier changes colours alone
 pub through_rest : (o : Option Place) (c : CollectorState) (flown : ℕ → Option Bits) (d : CollectorState) (flying : ℕ → Option Bits) → GoesThrough o c flown d flying → d.heap ≡ with_colours c.heap d.heap.colours
 through_rest o c flown d flying t = exposed_rest o c.heap d.heap flown flying c.stack d.stack t.exposed
 
-module _ (c : CollectorState) (flown : ℕ → Option Bits) (command : GraphCmd) (result : Result Reply CmdFault) (d : CollectorState) (flying : ℕ → Option Bits) (steps : CommandSteps c flown command result d flying) (w : World) (ok : IsValid w) (rep : Represents c flown w) where
+module _ (c : CollectorState) (flown : ℕ → Option Bits) (command : GraphCmd) (result : Result Reply CmdFault)
+    (d : CollectorState) (flying : ℕ → Option Bits) (steps : CommandSteps c flown command result d flying) (w : World)
+    (ok : IsValid w) (rep : Represents c flown w) where
   abbrev wide : CollectorState
   wide = steps.wide
 
@@ -457,114 +465,116 @@ module _ (c : CollectorState) (flown : ℕ → Option Bits) (command : GraphCmd)
   abbrev second : CollectorState
   second = steps.second
 
+  abbrev plan : Plan
+  plan = steps.plan
+
   wide_heap : wide.heap ≡ c.heap
   wide_heap = ap (λ (e : CollectorState). e.heap) steps.widens.rest
 
   first_rest : first.heap ≡ with_colours wide.heap first.heap.colours
-  first_rest = through_rest steps.old wide flown first steps.first_flown steps.old_through
+  first_rest = through_rest plan.overwritten wide flown first steps.first_flown steps.old_through
 
   second_rest : second.heap ≡ with_colours first.heap second.heap.colours
-  second_rest = through_rest steps.target first steps.first_flown second steps.second_flown steps.target_through
+  second_rest = through_rest plan.wrapped first steps.first_flown second steps.second_flown steps.target_through
 
   third_rest : steps.third.heap ≡ with_colours second.heap steps.third.heap.colours
-  third_rest = through_rest steps.handed second steps.second_flown steps.third flying steps.handed_through
+  third_rest = through_rest (handed_by plan.change) second steps.second_flown steps.third flying steps.handed_through
 
   second_wide : second.heap ≡ with_colours wide.heap second.heap.colours
   second_wide = second_rest ∙ ap (λ (h : HeapState). with_colours h second.heap.colours) first_rest
 
-  wide_stands : Represents wide flown w
-  wide_stands = represents_widened c wide flown w steps.widens rep
-
-  old_reached : IsReached steps.old wide flown
-  old_reached p e = go (refusal_in (step_of wide_stands.lies.graph command).1) (steps.old_is wide_stands.lies.graph wide_stands.lies.shown)
-    where
-      go : (o : Option Refusal) → steps.old ≡ unless_refused o (stored wide.heap command) → Reached wide.heap.shape (IsBlack (heap_with wide flown)) p
-      go None is = held_reached wide flown w wide_stands p (stored_held wide.heap wide_stands.lies.graph wide_stands.lies.shown command p (sym is ∙ e))
-      go (Some why) is = absurd (cc (is, e))
-
-  first_stands : Represents first steps.first_flown w
-  first_stands = represents_through steps.old wide first flown steps.first_flown w steps.old_through old_reached wide_stands
-
-  target_reached : IsReached steps.target first steps.first_flown
-  target_reached p e = go (refusal_in (step_of first_stands.lies.graph command).1)
-      (steps.target_is first_stands.lies.graph first_stands.lies.shown)
-    where
-      go : (o : Option Refusal) → steps.target ≡ unless_refused o (wrapped_target first.heap command)
-          → Reached first.heap.shape (IsBlack (heap_with first steps.first_flown)) p
-      go None is = held_reached first steps.first_flown w first_stands p
-          (wrapped_held first.heap first_stands.lies.graph first_stands.lies.shown command p (sym is ∙ e))
-      go (Some why) is = absurd (cc (is, e))
-
-  second_stands : Represents second steps.second_flown w
-  second_stands = represents_through steps.target first second steps.first_flown steps.second_flown w steps.target_through target_reached first_stands
-
   abbrev ds : List Bits
   ds = steps.third.heap.colours
 
+  abbrev last_heap : HeapState
+  last_heap = with_colours second.heap ds
+
+  -- the plan is one of each heap between the barriers
+  plan_wide : IsPlanIn wide.heap command plan
+  plan_wide = planned-here wide.heap command plan steps.planned
+
+  plan_first : IsPlanIn first.heap command plan
+  plan_first = planned-at wide.heap first.heap command plan first_rest steps.planned
+
+  plan_second : IsPlanIn second.heap command plan
+  plan_second = planned-at wide.heap second.heap command plan second_wide steps.planned
+
+  plan_last : IsPlanIn last_heap command plan
+  plan_last = planned-at wide.heap last_heap command plan (ap (λ (h : HeapState). with_colours h ds) second_wide)
+      steps.planned
+
+  wide_stands : Represents wide flown w
+  wide_stands = represents_widened c wide flown w steps.widens rep
+
+  old_reached : IsReached plan.overwritten wide flown
+  old_reached p e = held_reached wide flown w wide_stands p
+      (near_reached wide.heap wide_stands.lies.graph wide_stands.lies.shown p (plan_wide.overwritten_near p e))
+
+  first_stands : Represents first steps.first_flown w
+  first_stands = represents_through plan.overwritten wide first flown steps.first_flown w steps.old_through old_reached
+      wide_stands
+
+  target_reached : IsReached plan.wrapped first steps.first_flown
+  target_reached p e = held_reached first steps.first_flown w first_stands p
+      (near_reached first.heap first_stands.lies.graph first_stands.lies.shown p (plan_first.wrapped_near p e))
+
+  second_stands : Represents second steps.second_flown w
+  second_stands = represents_through plan.wrapped first second steps.first_flown steps.second_flown w
+      steps.target_through target_reached first_stands
+
   abbrev last : CollectorState
-  last = record second { heap = with_colours second.heap ds; stack = steps.third.stack }
+  last = record second { heap = last_heap; stack = steps.third.stack }
 
   third_is : steps.third ≡ last
-  third_is = steps.handed_through.rest ∙ ap (λ (h : HeapState). record second { heap = h; stack = steps.third.stack }) third_rest
+  third_is = steps.handed_through.rest
+      ∙ ap (λ (h : HeapState). record second { heap = h; stack = steps.third.stack }) third_rest
 
   d_is : d ≡ record last { heap = d.heap }
   d_is = steps.rest ∙ ap (λ (e : CollectorState). record e { heap = d.heap }) third_is
 
-  exposed_last : Exposed steps.handed (heap_with second steps.second_flown) second.stack (joined (with_colours second.heap ds) flying) steps.third.stack
-  exposed_last = subst (λ h. Exposed steps.handed (heap_with second steps.second_flown) second.stack (joined h flying) steps.third.stack) third_rest steps.handed_through.exposed
+  exposed_last : Exposed (handed_by plan.change) (heap_with second steps.second_flown) second.stack
+      (joined last_heap flying) steps.third.stack
+  exposed_last = subst (λ h. Exposed (handed_by plan.change) (heap_with second steps.second_flown) second.stack
+      (joined h flying) steps.third.stack) third_rest steps.handed_through.exposed
 
   covers_last : Covers second.heap.shape flying
   covers_last = subst (λ (h : HeapState). Covers h.shape flying) third_rest steps.handed_through.covers
 
-  does : DoesStep (with_colours second.heap ds) command result d.heap
-  does = subst (λ h. DoesStep h command result d.heap) third_rest steps.step
-
-  shows_last : (g : GraphState) → Shows second.heap g → Shows (with_colours second.heap ds) g
-  shows_last g s = shows_coloured second.heap ds g s
-
   -- where nothing was handed out and nothing done, the collector stands for what it stood for
-  still_stands : d.heap ≡ steps.third.heap → steps.handed ≡ None → Represents d flying w
+  still_stands : d.heap ≡ steps.third.heap → handed_by plan.change ≡ None → Represents d flying w
   still_stands same none =
-      let there : Represents last flying w = nothing_handed second steps.second_flown command w ok second_stands ds steps.third.stack flying steps.handed steps.handed_is exposed_last covers_last none in
-      subst (λ e. Represents e flying w) (sym (d_is ∙ ap (λ (h : HeapState). record last { heap = h }) (same ∙ third_rest))) there
+      let there : Represents last flying w = nothing_handed second steps.second_flown command plan.change w ok
+      second_stands ds steps.third.stack flying exposed_last covers_last none in
+      subst (λ e. Represents e flying w)
+      (sym (d_is ∙ ap (λ (h : HeapState). record last { heap = h }) (same ∙ third_rest))) there
 
-  stored_black : refusal_in (step_of wide_stands.lies.graph command).1 ≡ None → (p : Place) → stored second.heap command ≡ Some p → IsBlack (heap_with second steps.second_flown) p
-  stored_black accepted p e =
-      let is : steps.old ≡ stored wide.heap command = steps.old_is wide_stands.lies.graph wide_stands.lies.shown ∙ ap (λ o. unless_refused o (stored wide.heap command)) accepted in
-      let here : stored wide.heap command ≡ Some p = sym (ap (λ h. stored h command) second_wide ∙ stored_plain wide.heap second.heap.colours command) ∙ e in
-      exposed_keeps steps.target (heap_with first steps.first_flown) first.stack (heap_with second steps.second_flown) second.stack steps.target_through.exposed p
-      (exposed_is steps.old (heap_with wide flown) wide.stack (heap_with first steps.first_flown) first.stack steps.old_through.exposed p (is ∙ here))
+  gone_black : (p : Place) → overwritten_by second.heap.shape plan.change ≡ Some p
+      → IsBlack (heap_with second steps.second_flown) p
+  gone_black p e =
+      exposed_keeps plan.wrapped (heap_with first steps.first_flown) first.stack
+      (heap_with second steps.second_flown) second.stack steps.target_through.exposed p
+      (exposed_is plan.overwritten (heap_with wide flown) wide.stack (heap_with first steps.first_flown) first.stack
+      steps.old_through.exposed p (plan_second.replaced ∙ e))
 
-  target_black : refusal_in (step_of first_stands.lies.graph command).1 ≡ None → (r i : ℕ) (n : CompNo) (p : Place)
-      → command ≡ cmd.Wrap r i n → reg_of second.heap i ≡ Some p → IsBlack (heap_with second steps.second_flown)
-      (target_at second.heap.shape p)
-  target_black accepted r i n p is e =
-      let reg : reg_of first.heap i ≡ Some p = sym (ap (λ h. reg_of h i) second_rest) ∙ e in
-      let found : steps.target ≡ Some (target_at first.heap.shape p) =
-      steps.target_is first_stands.lies.graph first_stands.lies.shown
-      ∙ (ap (λ o. unless_refused o (wrapped_target first.heap command)) accepted
-      ∙ (ap (λ k. wrapped_target first.heap k) is ∙ ap (λ o. option_map (target_at first.heap.shape) o) reg)) in
-      let black = exposed_is steps.target (heap_with first steps.first_flown) first.stack (heap_with second steps.second_flown) second.stack steps.target_through.exposed (target_at first.heap.shape p) found in
-      subst (λ q. IsBlack (heap_with second steps.second_flown) q) (ap (λ (h : HeapState). target_at h.shape p) (sym second_rest)) black
+  target_black : WrapsBlack (heap_with second steps.second_flown) plan.change
+  target_black r z comp t is =
+      exposed_is plan.wrapped (heap_with first steps.first_flown) first.stack
+      (heap_with second steps.second_flown) second.stack steps.target_through.exposed t
+      (subst (IsTarget plan.wrapped) is plan_wide.target)
 
-  homes_second : HomesAreMade second.heap.shape
-  homes_second = subst (λ (h : HeapState). HomesAreMade h.shape) (sym second_wide) (subst (λ (h : HeapState). HomesAreMade h.shape) (sym wide_heap) steps.homes)
+  able_second : IsAble second.heap.shape second.heap.made plan.change
+  able_second = subst (λ (h : HeapState). IsAble h.shape h.made plan.change) (sym second_wide) steps.able
 
   apart_second : AreApart second.heap.shape.wrappers.lists
-  apart_second = subst (λ (h : HeapState). AreApart h.shape.wrappers.lists) (sym second_wide) (subst (λ (h : HeapState). AreApart h.shape.wrappers.lists) (sym wide_heap) steps.apart)
-
-  shows_third : (g : GraphState) → Shows wide.heap g → Shows (with_colours second.heap ds) g
-  shows_third g s = shows_last g (subst (λ h. Shows h g) (sym second_wide) (shows_coloured wide.heap second.heap.colours g s))
+  apart_second = subst (λ (h : HeapState). AreApart h.shape.wrappers.lists) (sym second_wide) steps.apart
 
   module _ (answer : Reply) (is : result ≡ Ok answer) where
-    step_ok : DoesStep (with_colours second.heap ds) command (Ok answer) d.heap
-    step_ok = subst (λ r. DoesStep (with_colours second.heap ds) command r d.heap) is does
+    change_ok : ChangesBy last_heap plan.change answer d.heap
+    change_ok = subst (λ h. ChangesBy h plan.change answer d.heap) third_rest
+        (subst (λ r. IfOk r (λ a. ChangesBy steps.third.heap plan.change a d.heap)) is steps.change)
 
-    accepted_by : (g : GraphState) → Shows (with_colours second.heap ds) g → refusal_in (step_of g command).1 ≡ None
-    accepted_by g s = (step_ok g s).0.1
-
-    change_ok : Changes (with_colours second.heap ds) command d.heap
-    change_ok = subst (λ h. Changes h command d.heap) third_rest (subst (λ r. OnOk r (Changes steps.third.heap command d.heap)) is steps.change)
+    step_ok : DoesStep last_heap command (Ok answer) d.heap
+    step_ok = (plan_last.does steps.few answer d.heap change_ok).0
 
     room_last : 64 * length d.heap.colours ≤ steps.third.stack.room
     room_last = subst (λ (e : CollectorState). 64 * length d.heap.colours ≤ e.stack.room) steps.rest steps.room
@@ -572,51 +582,48 @@ module _ (c : CollectorState) (flown : ℕ → Option Bits) (command : GraphCmd)
     lists_last : 64 * length d.heap.colours ≤ second.lists.room
     lists_last = subst (λ (e : CollectorState). 64 * length d.heap.colours ≤ e.lists.room) d_is steps.more_room
 
-    accepted_here : refusal_in (step_of second_stands.lies.graph command).1 ≡ None
-    accepted_here = accepted_by second_stands.lies.graph (shows_last second_stands.lies.graph second_stands.lies.shown)
-
-    accepted_wide : refusal_in (step_of wide_stands.lies.graph command).1 ≡ None
-    accepted_wide = accepted_by wide_stands.lies.graph (shows_third wide_stands.lies.graph wide_stands.lies.shown)
-
-    accepted_first : refusal_in (step_of first_stands.lies.graph command).1 ≡ None
-    accepted_first = accepted_by first_stands.lies.graph
-        (shows_last first_stands.lies.graph
-        (subst (λ h. Shows h first_stands.lies.graph) (sym second_rest)
-        (shows_coloured first.heap second.heap.colours first_stands.lies.graph first_stands.lies.shown)))
+    moves_ok : Moves last_heap command plan.change d.heap
+    moves_ok = moves_of last_heap second_stands.lies.graph
+        (shows_coloured second.heap ds second_stands.lies.graph second_stands.lies.shown) second_stands.lies.whole
+        command d.heap second.heap.made plan.change answer able_second plan_last.wakes change_ok
 
     pub answered_ok : AnswersIn w command (Ok answer) d flying
     answered_ok = subst (λ e. AnswersIn w command (Ok answer) e flying) (sym d_is)
-        (answers_moves second steps.second_flown command w ok second_stands ds steps.third.stack flying steps.handed
-        steps.handed_is exposed_last covers_last accepted_here homes_second apart_second
-        (stored_black accepted_wide) (target_black accepted_first) answer d.heap step_ok change_ok room_last
-        lists_last
-        (moves_of (with_colours second.heap ds) second_stands.lies.graph (shows_last second_stands.lies.graph second_stands.lies.shown) second_stands.lies.whole d.heap command change_ok))
+        (answers_moves second steps.second_flown command plan.change w ok second_stands ds steps.third.stack flying
+        exposed_last covers_last able_second apart_second gone_black target_black answer d.heap step_ok change_ok
+        room_last lists_last moves_ok)
 
     -- no arena is handed out or taken in
     pub outs_ok : (a : ℕ) → out_of d.heap.shape a ≡ out_of second.heap.shape a
-    outs_ok a = (served second steps.second_flown command w ok second_stands ds steps.third.stack flying steps.handed
-        steps.handed_is exposed_last covers_last accepted_here homes_second apart_second (stored_black accepted_wide)
-        (target_black accepted_first) answer d.heap step_ok change_ok room_last lists_last).outs a
+    outs_ok a = (served second steps.second_flown command plan.change w ok second_stands ds steps.third.stack flying
+        exposed_last covers_last able_second apart_second gone_black target_black answer d.heap step_ok change_ok
+        room_last lists_last).outs a
 
     pub words_ok : KeepsFreedWords second.heap.shape d.heap.shape
-    words_ok = words_moves second steps.second_flown command w ok second_stands ds steps.third.stack flying
-        steps.handed steps.handed_is exposed_last covers_last accepted_here homes_second apart_second
-        (stored_black accepted_wide) (target_black accepted_first) answer d.heap step_ok change_ok room_last lists_last
-        (moves_of (with_colours second.heap ds) second_stands.lies.graph
-        (shows_last second_stands.lies.graph second_stands.lies.shown) second_stands.lies.whole d.heap command change_ok)
+    words_ok = words_moves second steps.second_flown command plan.change w ok second_stands ds steps.third.stack flying
+        exposed_last covers_last able_second apart_second gone_black target_black answer d.heap step_ok change_ok
+        room_last lists_last moves_ok
+
+  -- a change that wants memory hands nothing out
+  none_handed : MayWant steps.third.heap.shape plan.change → handed_by plan.change ≡ None
+  none_handed may = go (handed_by plan.change) refl
+    where
+      go : (o : Option Place) → handed_by plan.change ≡ o → handed_by plan.change ≡ None
+      go None e = e
+      go (Some p) e = absurd (handed-wants steps.third.heap.shape plan.change (ap is_some e) may)
 
   answered : (r : Result Reply CmdFault) → result ≡ r → AnswersIn w command r d flying
   answered (Ok answer) is = answered_ok answer is
   answered (Err (fault.Refused why)) is =
-      let step : DoesStep (with_colours second.heap ds) command (Err (fault.Refused why)) d.heap = subst (λ r. DoesStep (with_colours second.heap ds) command r d.heap) is does in
-      let said : refusal_in (step_of second_stands.lies.graph command).1 ≡ Some why = ap refusal_in (step second_stands.lies.graph (shows_last second_stands.lies.graph second_stands.lies.shown)).0 in
-      let none : steps.handed ≡ None = steps.handed_is second_stands.lies.graph second_stands.lies.shown ∙ ap (λ o. unless_refused o (handed_in second.heap command)) said in
-      ((refused_in w (with_colours second.heap ds) d.heap command why ok (lies_coloured second.heap ds w second_stands.lies) step).1, still_stands (subst (λ r. OnErr r (d.heap ≡ steps.third.heap)) is steps.err) none)
-  answered (Err fault.NoMemory) is = still_stands (subst (λ r. OnErr r (d.heap ≡ steps.third.heap)) is steps.err) (no_handed steps.handed (λ p e. steps.sure p e is))
-    where
-      no_handed : (o : Option Place) → ((p : Place) → o ≡ Some p → ⊥) → o ≡ None
-      no_handed None none = refl
-      no_handed (Some p) none = absurd (none p refl)
+      let wanted : (fault.Refused why ≡ fault.NoMemory) × MayWant steps.third.heap.shape plan.change =
+      subst (λ r. IfErr r (λ why. (why ≡ fault.NoMemory) × MayWant steps.third.heap.shape plan.change)) is
+      steps.wanted in
+      absurd (cc wanted.0)
+  answered (Err fault.NoMemory) is =
+      let wanted : (fault.NoMemory ≡ fault.NoMemory) × MayWant steps.third.heap.shape plan.change =
+      subst (λ r. IfErr r (λ why. (why ≡ fault.NoMemory) × MayWant steps.third.heap.shape plan.change)) is
+      steps.wanted in
+      still_stands (subst (λ r. OnErr r (d.heap ≡ steps.third.heap)) is steps.err) (none_handed wanted.1)
 
   pub answers_command : AnswersIn w command result d flying
   answers_command = answered result refl

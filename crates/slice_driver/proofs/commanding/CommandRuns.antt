@@ -1,11 +1,34 @@
 -- What a collection that runs keeps over a command's change of the heap, besides the tie to its closures.
-use Rattle.std.proofs.Common.{◌≡◌, ◌⊎◌, ◌<◌, ◌≤◌, ℕ, if◌then◌else◌, List, length, map, Option, Some, None, IsSome, Contains, inl, inr, refl, sym, ap, subst, ◌∙◌, arith}
+use Rattle.std.proofs.Common.{
+  ◌≡◌,
+  ◌⊎◌,
+  ◌<◌,
+  ◌≤◌,
+  ℕ,
+  if◌then◌else◌,
+  List,
+  length,
+  map,
+  Option,
+  Some,
+  None,
+  IsSome,
+  Contains,
+  inl,
+  inr,
+  refl,
+  sym,
+  ap,
+  subst,
+  ◌∙◌,
+  arith,
+}
 use Rattle.gz_names.specs.Zones.{HasZone, zones_in}
 use Rattle.gz_names.specs.declared.names.Name.{Name}
 use Rattle.gz_names.specs.declared.names.Name.TheVariants.{Cell, Wrap}
-use Rattle.gz_names.specs.declared.commands.GraphCmd.{GraphCmd}
 use Rattle.gz_names.specs.declared.numbers.CompNo.{CompNo}
 use Rattle.gz_names.specs.declared.numbers.Place.{Place}
+use Rattle.gz_names.specs.declared.replies.Reply.{Reply}
 use Rattle.cell_bits.specs.declared.bits.Bits.{Bits}
 use Rattle.wrappers.specs.WrapperMaps.{AreApart}
 use Rattle.colour_defs.specs.Graph.{GraphState}
@@ -13,11 +36,11 @@ use Rattle.colour_defs.specs.Graph as graph
 use Rattle.colour_defs.specs.Groups.{IsFirstEdge, LeadsOutside}
 use Rattle.colour_defs.specs.Closure.{Closure}
 use Rattle.colour_defs.specs.Laws.{IsValid}
-use Rattle.colour_defs.specs.Step.{refusal_in, step_of}
 use Rattle.colour_defs.specs.World.{Collection, Has, IsPresent as IsPresentName, World}
 use Rattle.heap_core.specs.Shape.{HasEdge, IsPresent, Shape, is_marking_state, name_at, out_of, zone_of}
 use Rattle.heap_core.specs.Heap.{HeapState, joined}
-use Rattle.heap_core.specs.Effects.{Changes}
+use Rattle.heap_core.specs.declared.plans.Change.{Change}
+use Rattle.heap_core.specs.Plans.{ChangesBy, IsAble}
 use Rattle.heap_core.specs.Shows.{Shows}
 use Rattle.heap_core.proofs.MakingCells.{same-place}
 use Rattle.barriers.specs.Colours.{IsBlack}
@@ -31,7 +54,15 @@ use Rattle.zone_edges.proofs.LeftBlack.{left_changes}
 use Rattle.slice_driver.specs.Closures.{AreTied}
 use Rattle.slice_driver.specs.Collector.{CollectorState, RunState}
 use Rattle.slice_driver.specs.Commands.{ComesTo, StayInPlace}
-use Rattle.slice_driver.specs.Represents.{AreBehind, AreInStates, AreLookedAt, IsInGroups, LeadsAcross, Runs, WaitsWhileMarking}
+use Rattle.slice_driver.specs.Represents.{
+  AreBehind,
+  AreInStates,
+  AreLookedAt,
+  IsInGroups,
+  LeadsAcross,
+  Runs,
+  WaitsWhileMarking,
+}
 use Rattle.slice_driver.specs.Serves.{Serves}
 use Rattle.slice_driver.specs.Worlds.{LiesIn}
 use Rattle.slice_driver.proofs.group_end.Places.{edge_from}
@@ -139,7 +170,14 @@ module _ (c d : CollectorState) (flying : ℕ → Option Bits) (rest : d ≡ rec
       ],
     )
 
-  module _ (marks : MarkingInvariant old c.stack) (w v : World) (k kk : Collection) (lies : LiesIn c.heap w) (lies_after : LiesIn d.heap v) (ok : IsValid w) (same : kk ≡ record k { tally = kk.tally; woken = kk.woken }) (names : (q : Place) (y : Name) → name_at c.heap.shape q ≡ Some y → name_at d.heap.shape q ≡ Some y) (cmd : GraphCmd) (g : GraphState) (changes : Changes c.heap cmd d.heap) (shows : Shows c.heap g) (accepted : refusal_in (step_of g cmd).1 ≡ None) (apart : AreApart c.heap.shape.wrappers.lists) (black : WrapsBlack old cmd) (covers : Covers c.heap.shape flying) where
+  module _ (marks : MarkingInvariant old c.stack) (w v : World) (k kk : Collection) (lies : LiesIn c.heap w)
+      (lies_after : LiesIn d.heap v) (ok : IsValid w)
+      (same : kk ≡ record k { tally = kk.tally; woken = kk.woken })
+      (names : (q : Place) (y : Name) → name_at c.heap.shape q ≡ Some y → name_at d.heap.shape q ≡ Some y)
+      (ch : Change) (answer : Reply) (g : GraphState) (changes : ChangesBy c.heap ch answer d.heap)
+      (shows : Shows c.heap g) (able : IsAble c.heap.shape c.heap.made ch)
+      (apart : AreApart c.heap.shape.wrappers.lists) (black : WrapsBlack old ch)
+      (covers : Covers c.heap.shape flying) where
     sized : length c.heap.colours ≡ length c.heap.shape.arenas
     sized = sym (flown_length flying 0 c.heap.colours) ∙ marks.holds.colours.sized
 
@@ -149,11 +187,14 @@ module _ (c d : CollectorState) (flying : ℕ → Option Bits) (rest : d ≡ rec
         record {
           index = l.index;
           before = subst (λ z. l.index < cursor_of c.edges z) zone l.before;
-          stands = subst (λ z. wrapper_at c.heap.shape z l.index ≡ Some p) zone (stood_before c.heap (zone_of d.heap.shape p) l.index p (edge_from c.heap.shape p q e) d.heap cmd changes l.stands);
+          stands = subst (λ z. wrapper_at c.heap.shape z l.index ≡ Some p) zone
+              (stood_before c.heap (zone_of d.heap.shape p) l.index p (edge_from c.heap.shape p q e) d.heap ch answer
+              changes l.stands);
         }
 
     left_served : AreLeftBlack old c.edges → AreLeftBlack new c.edges
-    left_served left = left_changes old g c.edges (shows_coloured c.heap old.colours g shows) apart left new cmd accepted (changes_joined c.heap flying covers sized d.heap cmd changes) black
+    left_served left = left_changes old g c.edges (shows_coloured c.heap old.colours g shows) apart left new c.heap.made
+        ch answer able black (changes_joined c.heap flying covers sized d.heap ch answer changes)
 
     pub looked_served : (r : RunState) → AreLookedAt old c r w k → AreLookedAt new d r v kk
     looked_served r a = subst (λ (x : CollectorState). AreLookedAt new x r v kk) (sym rest) now

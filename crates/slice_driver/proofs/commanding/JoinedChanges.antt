@@ -1,22 +1,54 @@
--- What a command changes in a heap it changes in the heap with the bits in flight in place; and wrapper lists only grow, by cells that are new.
-use Rattle.std.proofs.Common.{◌≡◌, ◌⊎◌, ◌<◌, ◌≤◌, ◌+◌, ◌++◌, ◌∷◌, ◌==◌, ℕ, zero, suc, Bool, true, false, List, [], length, Option, Some, None, IsSomeAnd, is_some, slice_get, inl, inr, refl, sym, ap, ◌∙◌, arith, if◌then◌else◌}
+-- What is changed in a heap is changed in the heap with the bits in flight in place; and wrapper lists only grow, by
+-- cells that are new.
+use Rattle.std.proofs.Common.{
+  ◌≡◌,
+  ◌⊎◌,
+  ◌<◌,
+  ◌≤◌,
+  ◌+◌,
+  ◌++◌,
+  ◌∷◌,
+  ◌==◌,
+  ℕ,
+  zero,
+  suc,
+  Bool,
+  true,
+  false,
+  List,
+  [],
+  length,
+  Option,
+  Some,
+  None,
+  is_some,
+  slice_get,
+  inl,
+  inr,
+  refl,
+  sym,
+  ap,
+  ◌∙◌,
+  arith,
+  if◌then◌else◌,
+}
 use Rattle.std.specs.Option.{option_map}
 use Rattle.std.proofs.lemmas.Bool.{cases_eq}
 use Rattle.std.proofs.lemmas.Option.{slice_get_within}
 use Rattle.gz_names.specs.declared.commands.Kind.{Kind}
-use Rattle.gz_names.specs.declared.commands.Kind.TheVariants as kind
-use Rattle.gz_names.specs.declared.commands.GraphCmd.{GraphCmd}
-use Rattle.gz_names.specs.declared.commands.GraphCmd.TheVariants as cmd
 use Rattle.gz_names.specs.declared.numbers.CompNo.{CompNo}
 use Rattle.gz_names.specs.declared.numbers.Place.{Place}
+use Rattle.gz_names.specs.declared.replies.Reply.{Reply}
 use Rattle.cell_bits.specs.declared.bits.Bits.{Bits}
 use Rattle.arena_table.specs.Cells.{CellState}
 use Rattle.wrappers.specs.WrapperMaps.{WrappersState, list_of}
+use Rattle.heap_core.specs.declared.plans.Change.{Change}
+use Rattle.heap_core.specs.declared.plans.Change.TheVariants as change
 use Rattle.heap_core.specs.Shape.{ArenaShape, IsPresent, Shape, cell_of, out_in, out_of}
-use Rattle.heap_core.specs.Heap.{HeapState, colour_in, colour_of, flown_or, joined, reg_of}
-use Rattle.heap_core.specs.Changes.{Makes, MakesWrapper, Writes, with_entry}
-use Rattle.heap_core.specs.Effects.{Changes, Dels, HoldsWrapper, IsWithout, MakesHeld, Puts, Sets, Wraps, itself, found, made}
-use Rattle.heap_core.specs.Lookups.{value_to_set}
+use Rattle.heap_core.specs.Heap.{HeapState, colour_in, colour_of, flown_or, joined}
+use Rattle.heap_core.specs.Changes.{Makes, MakesWrapper, Writes}
+use Rattle.heap_core.specs.Effects.{HoldsWrapper, MakesHeld}
+use Rattle.heap_core.specs.Plans.{ChangesBy}
 use Rattle.barriers.specs.Spreading.{Covers}
 use Rattle.barriers.proofs.Flying.{flown_get, flown_length, flown_there, none_flown}
 use Rattle.zone_edges.specs.Looks.{wrapper_at}
@@ -114,52 +146,19 @@ module _ (old : HeapState) (flown : ℕ → Option Bits) (covers : Covers old.sh
     rest = ap (λ (h : HeapState). joined h flown) m.rest;
   }
 
-  wraps_joined : (r s : ℕ) (c : CompNo) (new : HeapState) → Wraps old r s c new → Wraps (joined old flown) r s c (joined new flown)
-  wraps_joined r s c new (itself p held same is) = itself p held same (ap (λ (h : HeapState). joined h flown) is)
-  wraps_joined r s c new (found p wrapper held other at is) = found p wrapper held other at (ap (λ (h : HeapState). joined h flown) is)
-  wraps_joined r s c new (made p held other none m) = made p held other none (holds_joined r c _ new m)
-
-  sets_joined : (s f : ℕ) (t : Option ℕ) (new : HeapState) → Sets old s f t new → Sets (joined old flown) s f t (joined new flown)
-  sets_joined s f t new sets = go (reg_of old s) sets
-    where
-      go : (o : Option Place) → IsSomeAnd o (λ p. Writes old p f (value_to_set old t) new) → IsSomeAnd o (λ p. Writes (joined old flown) p f (value_to_set old t) (joined new flown))
-      go None w = absurd w
-      go (Some p) w = writes_joined p f (value_to_set old t) new w
-
-  puts_joined : (m k v : ℕ) (new : HeapState) → Puts old m k v new → Puts (joined old flown) m k v (joined new flown)
-  puts_joined m k v new puts = go (reg_of old m) (reg_of old k) (reg_of old v) puts
-    where
-      go : (a b d : Option Place) → IsSomeAnd a (λ map. IsSomeAnd b (λ key. IsSomeAnd d (λ value. new ≡ with_entry old map key value))) → IsSomeAnd a (λ map. IsSomeAnd b (λ key. IsSomeAnd d (λ value. joined new flown ≡ with_entry (joined old flown) map key value)))
-      go None b d p = absurd p
-      go (Some map) None d p = absurd p
-      go (Some map) (Some key) None p = absurd p
-      go (Some map) (Some key) (Some value) p = ap (λ (h : HeapState). joined h flown) p
-
-  dels_joined : (m k : ℕ) (new : HeapState) → Dels old m k new → Dels (joined old flown) m k (joined new flown)
-  dels_joined m k new dels = go (reg_of old m) (reg_of old k) dels
-    where
-      go : (a b : Option Place) → IsSomeAnd a (λ map. IsSomeAnd b (λ key. IsWithout old map key new)) → IsSomeAnd a (λ map. IsSomeAnd b (λ key. IsWithout (joined old flown) map key (joined new flown)))
-      go None b p = absurd p
-      go (Some map) None p = absurd p
-      go (Some map) (Some key) p = record { rest = ap (λ (h : HeapState). joined h flown) p.rest; values = p.values }
-
-  pub changes_joined : (new : HeapState) (c : GraphCmd) → Changes old c new → Changes (joined old flown) c (joined new flown)
-  changes_joined new cmd.Zone e = ap (λ (h : HeapState). joined h flown) e
-  changes_joined new (cmd.Comp z) e = ap (λ (h : HeapState). joined h flown) e
-  changes_joined new (cmd.New r c n) m = held_joined r (kind.Object n) c new m
-  changes_joined new (cmd.Map r c) m = held_joined r kind.Map c new m
-  changes_joined new (cmd.Get r s f) e = ap (λ (h : HeapState). joined h flown) e
-  changes_joined new (cmd.Set s f t) w = sets_joined s f t new w
-  changes_joined new (cmd.Wrap r s c) w = wraps_joined r s c new w
-  changes_joined new (cmd.Unwrap r s) e = ap (λ (h : HeapState). joined h flown) e
-  changes_joined new (cmd.Copy r s) e = ap (λ (h : HeapState). joined h flown) e
-  changes_joined new (cmd.Drop r) e = ap (λ (h : HeapState). joined h flown) e
-  changes_joined new (cmd.Hold g r) e = ap (λ (h : HeapState). joined h flown) e
-  changes_joined new (cmd.Release g) e = ap (λ (h : HeapState). joined h flown) e
-  changes_joined new (cmd.Expose r g) e = ap (λ (h : HeapState). joined h flown) e
-  changes_joined new (cmd.Put m k v) p = puts_joined m k v new p
-  changes_joined new (cmd.Del m k) p = dels_joined m k new p
-  changes_joined new (cmd.Find r m k) e = ap (λ (h : HeapState). joined h flown) e
+  pub changes_joined : (new : HeapState) (ch : Change) (answer : Reply) → ChangesBy old ch answer new
+      → ChangesBy (joined old flown) ch answer (joined new flown)
+  changes_joined new change.Zone answer by = (ap (λ (h : HeapState). joined h flown) by.0, by.1)
+  changes_joined new (change.Comp z) answer by = (ap (λ (h : HeapState). joined h flown) by.0, by.1)
+  changes_joined new (change.Cell r z c k) answer by = (held_joined r k c new by.0, by.1)
+  changes_joined new (change.Wrapper r z c t) answer by = (holds_joined r c t new by.0, by.1)
+  changes_joined new (change.Register r v named) answer by = (ap (λ (h : HeapState). joined h flown) by.0, by.1)
+  changes_joined new (change.Slot g v) answer by = (ap (λ (h : HeapState). joined h flown) by.0, by.1)
+  changes_joined new (change.Field p f v) answer by = (writes_joined p f v new by.0, by.1)
+  changes_joined new (change.Put m k v) answer by =
+      (record { rest = ap (λ (h : HeapState). joined h flown) by.0.rest; values = by.0.values }, by.1)
+  changes_joined new (change.Del m k) answer by =
+      (record { rest = ap (λ (h : HeapState). joined h flown) by.0.rest; values = by.0.values }, by.1)
 
 -- the last element of a longer list, and those before it
 last_or_before : {X : Type 0} (xs : List X) (y : X) (i : ℕ) → (slice_get (xs ++ y ∷ []) i ≡ slice_get xs i) ⊎ (slice_get (xs ++ y ∷ []) i ≡ Some y)
@@ -168,7 +167,7 @@ last_or_before [] y (suc i) = inl refl
 last_or_before (x ∷ xs) y zero = inl refl
 last_or_before (x ∷ xs) y (suc i) = last_or_before xs y i
 
--- a wrapper that was there before a command stood where it stands after it
+-- a wrapper that was there before a change stood where it stands after it
 module _ (old : HeapState) (zone index : ℕ) (p : Place) (there : IsPresent old.shape p) where
   stood_same : (new : HeapState) {k : HeapState} → new ≡ k → k.shape.wrappers ≡ old.shape.wrappers → wrapper_at new.shape zone index ≡ Some p → wrapper_at old.shape zone index ≡ Some p
   stood_same new {k} e wrappers at = ap (λ (w : WrappersState). option_map (λ entry. entry.1) (slice_get (list_of w zone) index)) (sym wrappers) ∙ (ap (λ (h : HeapState). wrapper_at h.shape zone index) (sym e) ∙ at)
@@ -187,49 +186,16 @@ module _ (old : HeapState) (zone index : ℕ) (p : Place) (there : IsPresent old
   stood_held : (new : HeapState) (r : ℕ) (k : Kind) (c : CompNo) → MakesHeld old r k c new → wrapper_at new.shape zone index ≡ Some p → wrapper_at old.shape zone index ≡ Some p
   stood_held new r k c m at = stood_same m.made m.makes.rest refl (ap (λ (h : HeapState). wrapper_at h.shape zone index) (sym m.rest) ∙ at)
 
-  stood_wraps : (new : HeapState) (r s : ℕ) (c : CompNo) → Wraps old r s c new → wrapper_at new.shape zone index ≡ Some p → wrapper_at old.shape zone index ≡ Some p
-  stood_wraps new r s c (itself q held same is) at = stood_same new is refl at
-  stood_wraps new r s c (found q wrapper held other stands is) at = stood_same new is refl at
-  stood_wraps new r s c (made q held other none m) at = stood_wrapped m.between m.zone c _ _ m.wrapper m.makes (ap (λ (h : HeapState). wrapper_at h.shape zone index) (sym m.rest) ∙ at)
-
-  stood_set : (new : HeapState) (s f : ℕ) (t : Option ℕ) → Sets old s f t new → wrapper_at new.shape zone index ≡ Some p → wrapper_at old.shape zone index ≡ Some p
-  stood_set new s f t sets at = go (reg_of old s) sets
-    where
-      go : (o : Option Place) → IsSomeAnd o (λ q. Writes old q f (value_to_set old t) new) → wrapper_at old.shape zone index ≡ Some p
-      go None w = absurd w
-      go (Some q) w = stood_same new w.rest refl at
-
-  stood_put : (new : HeapState) (m k v : ℕ) → Puts old m k v new → wrapper_at new.shape zone index ≡ Some p → wrapper_at old.shape zone index ≡ Some p
-  stood_put new m k v puts at = go (reg_of old m) (reg_of old k) (reg_of old v) puts
-    where
-      go : (a b d : Option Place) → IsSomeAnd a (λ map. IsSomeAnd b (λ key. IsSomeAnd d (λ value. new ≡ with_entry old map key value))) → wrapper_at old.shape zone index ≡ Some p
-      go None b d e = absurd e
-      go (Some map) None d e = absurd e
-      go (Some map) (Some key) None e = absurd e
-      go (Some map) (Some key) (Some value) e = stood_same new e refl at
-
-  stood_del : (new : HeapState) (m k : ℕ) → Dels old m k new → wrapper_at new.shape zone index ≡ Some p → wrapper_at old.shape zone index ≡ Some p
-  stood_del new m k dels at = go (reg_of old m) (reg_of old k) dels
-    where
-      go : (a b : Option Place) → IsSomeAnd a (λ map. IsSomeAnd b (λ key. IsWithout old map key new)) → wrapper_at old.shape zone index ≡ Some p
-      go None b e = absurd e
-      go (Some map) None e = absurd e
-      go (Some map) (Some key) e = stood_same new e.rest refl at
-
-  pub stood_before : (new : HeapState) (c : GraphCmd) → Changes old c new → wrapper_at new.shape zone index ≡ Some p → wrapper_at old.shape zone index ≡ Some p
-  stood_before new cmd.Zone e = stood_same new e refl
-  stood_before new (cmd.Comp z) e = stood_same new e refl
-  stood_before new (cmd.New r c n) m = stood_held new r (kind.Object n) c m
-  stood_before new (cmd.Map r c) m = stood_held new r kind.Map c m
-  stood_before new (cmd.Get r s f) e = stood_same new e refl
-  stood_before new (cmd.Set s f t) w = stood_set new s f t w
-  stood_before new (cmd.Wrap r s c) w = stood_wraps new r s c w
-  stood_before new (cmd.Unwrap r s) e = stood_same new e refl
-  stood_before new (cmd.Copy r s) e = stood_same new e refl
-  stood_before new (cmd.Drop r) e = stood_same new e refl
-  stood_before new (cmd.Hold g r) e = stood_same new e refl
-  stood_before new (cmd.Release g) e = stood_same new e refl
-  stood_before new (cmd.Expose r g) e = stood_same new e refl
-  stood_before new (cmd.Put m k v) e = stood_put new m k v e
-  stood_before new (cmd.Del m k) e = stood_del new m k e
-  stood_before new (cmd.Find r m k) e = stood_same new e refl
+  pub stood_before : (new : HeapState) (ch : Change) (answer : Reply) → ChangesBy old ch answer new
+      → wrapper_at new.shape zone index ≡ Some p → wrapper_at old.shape zone index ≡ Some p
+  stood_before new change.Zone answer by at = stood_same new by.0 refl at
+  stood_before new (change.Comp z) answer by at = stood_same new by.0 refl at
+  stood_before new (change.Cell r z c k) answer by at = stood_held new r k c by.0 at
+  stood_before new (change.Wrapper r z c t) answer by at =
+      stood_wrapped by.0.between by.0.zone c _ _ by.0.wrapper by.0.makes
+      (ap (λ (h : HeapState). wrapper_at h.shape zone index) (sym by.0.rest) ∙ at)
+  stood_before new (change.Register r v named) answer by at = stood_same new by.0 refl at
+  stood_before new (change.Slot g v) answer by at = stood_same new by.0 refl at
+  stood_before new (change.Field q f v) answer by at = stood_same new by.0.rest refl at
+  stood_before new (change.Put m k v) answer by at = stood_same new by.0.rest refl at
+  stood_before new (change.Del m k) answer by at = stood_same new by.0.rest refl at

@@ -1,22 +1,45 @@
--- What each command wakes, by places, and how black spreads from it.
-use Rattle.std.proofs.Common.{◌≡◌, ◌≢◌, ◌<◌, ◌≤◌, ◌+◌, ◌==◌, ℕ, zero, suc, Bool, true, false, List, [], ◌∷◌, length, Option, Some, None, IsSome, is_some, slice_get, slice_index_or, if◌then◌else◌, refl, sym, ap, subst, ◌∙◌, inl, inr, arith, option_map}
-use Rattle.std.proofs.Math.ListN.{get_or-map}
-use Rattle.gz_names.specs.declared.names.Name.{Name}
-use Rattle.gz_names.specs.declared.names.Name.TheVariants.{Cell, Wrap}
-use Rattle.gz_names.specs.declared.numbers.CompNo.{CompNo}
+-- How black spreads from what a command wakes.
+use Rattle.std.proofs.Common.{
+  ◌≡◌,
+  ◌≢◌,
+  ◌<◌,
+  ◌≤◌,
+  ◌+◌,
+  ◌==◌,
+  ℕ,
+  zero,
+  suc,
+  Bool,
+  true,
+  false,
+  List,
+  [],
+  ◌∷◌,
+  length,
+  Option,
+  Some,
+  None,
+  IsSome,
+  is_some,
+  slice_get,
+  if◌then◌else◌,
+  refl,
+  sym,
+  ap,
+  subst,
+  ◌∙◌,
+  inl,
+  inr,
+  arith,
+  option_map,
+}
 use Rattle.gz_names.specs.declared.numbers.Place.{Place}
-use Rattle.gz_names.specs.declared.commands.GraphCmd.{GraphCmd}
-use Rattle.gz_names.specs.declared.commands.GraphCmd.TheVariants as cmd
 use Rattle.cell_bits.specs.declared.bits.Bits.{Bits}
 use Rattle.arena_table.specs.Cells.{CellState}
 use Rattle.mark_stack.specs.Stack.{Piles}
-use Rattle.colour_defs.specs.Graph.{GraphState, comp_of, comp_of_object, register_cell}
-use Rattle.colour_defs.specs.Step.{is_in_comp, is_same_comp, target_of}
-use Rattle.colour_defs.specs.World.{woken_by, woken_by_wrap}
-use Rattle.heap_core.specs.Shape.{ArenaShape, Shape, cell_of, comp_at, held_name, is_marking, name_at, out_in, out_of, field_in, cell_in_arena}
-use Rattle.heap_core.specs.Heap.{HeapState, colour_in, colour_of, flown_or, joined, reg_of, slot_of}
+use Rattle.heap_core.specs.Shape.{ArenaShape, Shape, is_marking, out_in, out_of, field_in, cell_in_arena}
+use Rattle.heap_core.specs.Heap.{HeapState, colour_in, colour_of, flown_or, joined}
 use Rattle.heap_core.specs.Changes.{Makes}
-use Rattle.heap_core.specs.Shows.{Shows, StandsFor}
 use Rattle.heap_core.proofs.MakingCells.{same-place}
 use Rattle.barriers.specs.Reached.{Reached, HasEntry}
 use Rattle.barriers.specs.Reached as reached
@@ -26,38 +49,8 @@ use Rattle.barriers.specs.Invariant.{MarkingInvariant}
 use Rattle.barriers.specs.Spreading.{Covers}
 use Rattle.barriers.proofs.BlackClosure.{reached_is_black, reached_more}
 use Rattle.barriers.proofs.Flying.{flown_get}
-use Rattle.slice_driver.specs.Commands.{SpreadsBlack, Wakes}
-use Rattle.slice_driver.proofs.abstraction.Named.{named_cell}
+use Rattle.slice_driver.specs.Commands.{SpreadsBlack}
 use Rattle.weak_maps.specs.WeakMaps.{value_of}
-
--- a new object, a new map, and what a gray slot holds
-pub wakes_object : (h : HeapState) (c : GraphCmd) → ((g : GraphState) → woken_by g c ≡ Some (Cell (length g.objects))) → Wakes h c (Some (Cell h.shape.objects))
-wakes_object h c is g s = is g ∙ ap (λ (n : ℕ). Some (Cell n)) s.objects_made
-
-pub wakes_slot : (h : HeapState) (r k : ℕ) → Wakes h (cmd.Expose r k) (held_name h.shape (slot_of h k))
-wakes_slot h r k g s = ap (λ (xs : List (Option Name)). slice_index_or xs k None) s.slots_are ∙ get_or-map (held_name h.shape) h.shape.slots k None
-
--- a wrapper of what a register's cell stands for, and nothing where that is a cell of the compartment
-comp_named : (s : Shape) (g : GraphState) (p : Place) (cell : CellState) (x : Name) → StandsFor s g p cell x → comp_of g x ≡ Some cell.comp
-comp_named s g p cell (Cell n) stands = ap comp_of_object stands.1
-comp_named s g p cell (Wrap c t) stands = ap (λ z. Some z) (sym stands.comp_is)
-
-comp_there : (s : Shape) (p : Place) (cell : CellState) (d : CompNo) → cell_of s p ≡ Some cell → comp_at s p ≡ Some d → cell.comp ≡ d
-comp_there s p cell d e at = go (sym (ap (λ o. option_map (λ (y : CellState). y.comp) o) e) ∙ at)
-  where
-    go : Some cell.comp ≡ Some d → cell.comp ≡ d
-    go e = cc e
-
-pub in_comp_at : (h : HeapState) (g : GraphState) (p : Place) (x : Name) (d c : CompNo) → Shows h g → name_at h.shape p ≡ Some x → comp_at h.shape p ≡ Some d → is_in_comp g c x ≡ (d.0 == c.0)
-in_comp_at h g p x d c s named at =
-    let cell = named_cell h.shape p x named in
-    let stands : StandsFor h.shape g p cell.0 x = subst (λ z. StandsFor h.shape g p cell.0 z) cell.2 (s.cells p cell.0 cell.1).stands in
-    ap (λ o. is_same_comp o c) (comp_named h.shape g p cell.0 x stands) ∙ ap (λ (e : CompNo). e.0 == c.0) (comp_there h.shape p cell.0 d cell.1 at)
-
-pub wakes_wrapper : (h : HeapState) (r k : ℕ) (c d : CompNo) (p target : Place) (x : Name) → reg_of h k ≡ Some p → name_at h.shape p ≡ Some x → name_at h.shape target ≡ Some (Cell (target_of x)) → comp_at h.shape target ≡ Some d → Wakes h (cmd.Wrap r k c) (if d.0 == c.0 then None else Some (Wrap c (target_of x)))
-wakes_wrapper h r k c d p target x held named at comp g s =
-    let reg : register_cell g k ≡ Some x = ap (λ (xs : List (Option Name)). slice_index_or xs k None) s.registers_are ∙ (get_or-map (held_name h.shape) h.shape.regs k None ∙ (ap (held_name h.shape) held ∙ named)) in
-    ap (λ o. woken_by_wrap g o c) reg ∙ ap (λ b. if b then None else Some (Wrap c (target_of x))) (in_comp_at h g target (Cell (target_of x)) d c s at comp)
 
 -- reached in a heap with the same arenas and entries
 pub reached_kept : (s t : Shape) (P : Place → Type 0) → t.arenas ≡ s.arenas → t.weak ≡ s.weak → {p : Place} → Reached s P p → Reached t P p

@@ -1,15 +1,44 @@
-use Rattle.std.proofs.Common.{◌≡◌, ◌∙◌, ◌+◌, IfOk, OnErr, Err, IsSome, ap, sym, subst, rules, Option, ℕ}
+use Rattle.std.proofs.Common.{◌≡◌, ◌∙◌, ◌+◌, IfOk, OnErr, Err, IsSome, ap, sym, subst, rules, Option, None, ℕ}
 use Rattle.gz_names.specs.declared.replies.CmdFault.TheVariants as fault
+use Rattle.colour_defs.specs.Step.{refusal_in}
 use Rattle.heap_core.specs.Answers.{IsSound as IsSoundHeap}
 use Rattle.heap_core.specs.Peeks.{cells_made}
 use Rattle.heap_core.specs.Heap.{HeapState}
 use Rattle.heap_core.specs.Lookups.{IsRefused}
-use Rattle.heap_core.specs.Plans.{ChangesBy, IsAble, IsPlanOf, MayWant, handed_by}
+use Rattle.heap_core.specs.Plans.{ChangesBy, IsAble, IsPlanOf, MayWant}
 use Rattle.heap_core.proofs.Planned.{making-wants, planned-here}
 use Rattle.slice_driver.specs.Collector.{CollectorState, IsKept, run_of}
 use Rattle.slice_driver.specs.Rooms.{IsRoomy, arenas_after}
 use Rattle.slice_driver.specs.Steps.{GoesThrough}
-use Rattle.slice_driver.proofs.commanding.Commanded.{IsCall, IsPlanned, as_fault, does_call, entries_after, exposed_after, kept_call, made_after, made_call, planned_call, refused_at, run_after, sound_roomy, sure_call, through_able, through_plan, through_sound, wants_room, wide_able, wide_marks, wide_plan, wide_sound, wide_words, words_call, answered_call, command_sound, room_wanted, wanted_call, where_err}
+use Rattle.slice_driver.specs.Units.{DoesCommand}
+use Rattle.slice_driver.proofs.commanding.Commanded.{
+  IsPlanned,
+  as_fault,
+  does_call,
+  entries_after,
+  exposed_after,
+  kept_call,
+  made_call,
+  refused_at,
+  run_after,
+  sound_roomy,
+  sure_call,
+  through_able,
+  through_plan,
+  through_sound,
+  wants_room,
+  wide_able,
+  wide_marks,
+  wide_plan,
+  wide_sound,
+  wide_words,
+  words_call,
+  answered_call,
+  command_sound,
+  room_wanted,
+  wanted_call,
+  where_err,
+}
 use Rattle.slice_driver.proofs.collector.Collector.command.Given.{Over}
 use Rattle.slice_driver.proofs.collector.Collector.command.Goals as goal
 use Rattle.slice_driver.proofs.collector.Collector.command.Goals.{Joined-commit, in-Ok-commit, in-Err-commit}
@@ -30,20 +59,24 @@ after g c = record {
 }
 
 planned : (g : Over) (c : Joined-commit g)
-    → IsPlanned _ c.args.self.now c.make_room.new.self c.expose.new.self c.expose-2.new.self c.expose-3.new.self (after g c)
+    → IsPlanned _ c.args.self.now c.make_room.new.self c.expose.new.self c.expose-2.new.self c.expose-3.new.self
+    (after g c)
     (g.F.Flight.bits c.args.flight.now) (g.F.Flight.bits c.expose.new.flight) (g.F.Flight.bits c.expose-2.new.flight)
     (g.F.Flight.bits c.expose-3.new.flight) c.args.cmd c.in-Ok.plan c.commit.result
 planned g c =
     let here = ap heap_of c.self-2.view_is in
+    let plan = subst (λ h. IsPlanOf h c.args.cmd c.in-Ok.plan) (ap heap_of c.self.view_is) c.in-Ok.ensures.plan in
     record {
       sound = c.requires.sound;
-      homes = c.homes_law.ensures;
       apart = c.wrappers_law.ensures;
       few = c.requires.fields;
-      planned = subst (λ h. IsPlanOf h c.args.cmd c.in-Ok.plan) (ap heap_of c.self.view_is) c.in-Ok.ensures.plan;
+      planned = plan;
+      able = (planned-here c.args.self.now.heap c.args.cmd c.in-Ok.plan plan).able c.requires.few c.requires.fields;
       wide = c.make_room.ensures.widens;
-      roomy = (let room : IsRoomy c.make_room.new.self (arenas_after c.args.self.now.heap c.makes_in.result) = search rules in
-          subst (λ (o : Option ℕ). IsRoomy c.make_room.new.self (arenas_after c.args.self.now.heap o)) c.makes_in.ensures room);
+      roomy = (let room : IsRoomy c.make_room.new.self (arenas_after c.args.self.now.heap c.makes_in.result) =
+          search rules in
+          subst (λ (o : Option ℕ). IsRoomy c.make_room.new.self (arenas_after c.args.self.now.heap o))
+          c.makes_in.ensures room);
       first = record {
         exposed = c.expose.ensures.exposed;
         rest = c.expose.ensures.rest;
@@ -56,16 +89,20 @@ planned g c =
         still = c.expose-2.ensures.still;
         covers = c.expose-2.ensures.covers;
       };
-      third = subst (λ o. GoesThrough o c.expose-2.new.self (g.F.Flight.bits c.expose-2.new.flight) c.expose-3.new.self (g.F.Flight.bits c.expose-3.new.flight)) c.handed.ensures (record {
-        exposed = c.expose-3.ensures.exposed;
-        rest = c.expose-3.ensures.rest;
-        still = c.expose-3.ensures.still;
-        covers = c.expose-3.ensures.covers;
-      });
+      third = subst (λ o. GoesThrough o c.expose-2.new.self (g.F.Flight.bits c.expose-2.new.flight) c.expose-3.new.self
+          (g.F.Flight.bits c.expose-3.new.flight)) c.handed.ensures (record {
+            exposed = c.expose-3.ensures.exposed;
+            rest = c.expose-3.ensures.rest;
+            still = c.expose-3.ensures.still;
+            covers = c.expose-3.ensures.covers;
+          });
       rest = ap (λ (z : CollectorState). record z { heap = c.commit.new.self }) c.self-2.view_is;
-      change = subst (λ (h : HeapState). IfOk c.commit.result (λ answer. ChangesBy h c.in-Ok.plan.change answer c.commit.new.self)) here c.commit.ensures.change;
+      change = subst (λ (h : HeapState).
+          IfOk c.commit.result (λ answer. ChangesBy h c.in-Ok.plan.change answer c.commit.new.self)) here
+          c.commit.ensures.change;
       err = subst (λ h. OnErr c.commit.result (c.commit.new.self ≡ h)) here c.commit.ensures.err;
-      wanted = subst (λ (h : HeapState). OnErr c.commit.result (MayWant h.shape c.in-Ok.plan.change)) here c.commit.ensures.wanted;
+      wanted = subst (λ (h : HeapState). OnErr c.commit.result (MayWant h.shape c.in-Ok.plan.change)) here
+          c.commit.ensures.wanted;
     }
 
 -- the result, by what the heap answers
@@ -75,34 +112,31 @@ result_is g c = elim c.match-commit.branch [
   | in-Err-commit w ↦ w.result-is ∙ sym (ap as_fault w.in-Err-commit.is)
 ]
 
-call : (g : Over) (c : Joined-commit g)
-    → IsCall c.args.self.now c.make_room.new.self c.expose.new.self c.expose-2.new.self c.expose-3.new.self (after g c)
-    (g.F.Flight.bits c.args.flight.now) (g.F.Flight.bits c.expose.new.flight) (g.F.Flight.bits c.expose-2.new.flight)
-    (g.F.Flight.bits c.expose-3.new.flight) c.args.cmd c.match-commit.result c.in-Ok.plan.overwritten c.in-Ok.plan.wrapped (handed_by c.in-Ok.plan.change)
-call g c = subst (λ r. IsCall c.args.self.now c.make_room.new.self c.expose.new.self c.expose-2.new.self c.expose-3.new.self (after g c)
-    (g.F.Flight.bits c.args.flight.now) (g.F.Flight.bits c.expose.new.flight) (g.F.Flight.bits c.expose-2.new.flight)
-    (g.F.Flight.bits c.expose-3.new.flight) c.args.cmd r c.in-Ok.plan.overwritten c.in-Ok.plan.wrapped (handed_by c.in-Ok.plan.change))
-    (sym (result_is g c)) (planned_call _ _ _ _ _ _ _ _ _ _ _ _ _ _ (planned g c))
-
 pub returns-in-Err-clause-done : goal.returns-in-Err-clause-done
 returns-in-Err-clause-done g c = refused_at c.args.self.now (g.F.Flight.bits c.args.flight.now) c.args.cmd c.in-Err.why
     (subst (λ h. IsRefused h c.args.cmd c.in-Err.why) (ap heap_of c.self.view_is) c.in-Err.ensures.refused)
 
 pub make_room-requires : goal.make_room-requires
-make_room-requires g c = record { roomy = sound_roomy c.args.self.now (g.F.Flight.bits c.args.flight.now) c.requires.sound }
+make_room-requires g c =
+    record { roomy = sound_roomy c.args.self.now (g.F.Flight.bits c.args.flight.now) c.requires.sound }
 
 pub returns-then-is_err-clause-done : goal.returns-then-is_err-clause-done
-returns-then-is_err-clause-done g c = wants_room c.args.self.now c.make_room.new.self (g.F.Flight.bits c.args.flight.now) c.args.cmd c.make_room.ensures.widens
+returns-then-is_err-clause-done g c =
+    wants_room c.args.self.now c.make_room.new.self (g.F.Flight.bits c.args.flight.now) c.args.cmd
+    c.make_room.ensures.widens
 
 pub returns-then-is_err-clause-wanted : goal.returns-then-is_err-clause-wanted
 returns-then-is_err-clause-wanted g c = λ wants. room_wanted c.args.self.now c.make_room.new.self
     (g.F.Flight.bits c.args.flight.now) c.args.cmd c.make_room.ensures.widens
-    (planned-here c.args.self.now.heap c.args.cmd c.in-Ok.plan (subst (λ h. IsPlanOf h c.args.cmd c.in-Ok.plan) (ap heap_of c.self.view_is) c.in-Ok.ensures.plan)).accepted
+    (planned-here c.args.self.now.heap c.args.cmd c.in-Ok.plan
+    (subst (λ h. IsPlanOf h c.args.cmd c.in-Ok.plan) (ap heap_of c.self.view_is) c.in-Ok.ensures.plan)).accepted
 
 pub returns-then-is_err-clause-sure : goal.returns-then-is_err-clause-sure
 returns-then-is_err-clause-sure g c = λ never wants. (
-    let makes = where_err c.make_room.result (sym c.is_err.ensures.value ∙ c.if-is_err.true) c.make_room.ensures.makes in
-    let may = making-wants c.self.inside.heap.shape c.in-Ok.plan.change (subst (λ (o : Option ℕ). IsSome o) c.makes_in.ensures makes) in
+    let makes = where_err c.make_room.result (sym c.is_err.ensures.value ∙ c.if-is_err.true) c.make_room.ensures.makes
+    in
+    let may = making-wants c.self.inside.heap.shape c.in-Ok.plan.change
+    (subst (λ (o : Option ℕ). IsSome o) c.makes_in.ensures makes) in
     let some = (planned-here c.self.inside.heap c.args.cmd c.in-Ok.plan c.in-Ok.ensures.plan).wants may in
     cc (never, some))
 
@@ -117,48 +151,64 @@ returns-then-is_err-clause-words g c = wide_words c.args.self.now c.make_room.ne
 pub expose-requires-clause-present : goal.expose-requires-clause-present
 expose-requires-clause-present g c =
     let plan = subst (λ h. IsPlanOf h c.args.cmd c.in-Ok.plan) (ap heap_of c.self.view_is) c.in-Ok.ensures.plan in
-    (planned-here c.make_room.new.self.heap c.args.cmd c.in-Ok.plan (wide_plan c.args.self.now c.make_room.new.self c.args.cmd c.in-Ok.plan c.make_room.ensures.widens plan)).overwritten_there
+    (planned-here c.make_room.new.self.heap c.args.cmd c.in-Ok.plan
+    (wide_plan c.args.self.now c.make_room.new.self c.args.cmd c.in-Ok.plan c.make_room.ensures.widens
+    plan)).overwritten_there
 
 pub expose-requires-2-clause-present : goal.expose-requires-2-clause-present
 expose-requires-2-clause-present g c =
     let plan = subst (λ h. IsPlanOf h c.args.cmd c.in-Ok.plan) (ap heap_of c.self.view_is) c.in-Ok.ensures.plan in
     let wide = wide_plan c.args.self.now c.make_room.new.self c.args.cmd c.in-Ok.plan c.make_room.ensures.widens plan in
     (planned-here c.expose.new.self.heap c.args.cmd c.in-Ok.plan
-    (through_plan c.in-Ok.plan.overwritten c.make_room.new.self c.expose.new.self (g.F.Flight.bits c.args.flight.now) (g.F.Flight.bits c.expose.new.flight)
+    (through_plan c.in-Ok.plan.overwritten c.make_room.new.self c.expose.new.self (g.F.Flight.bits c.args.flight.now)
+    (g.F.Flight.bits c.expose.new.flight)
     c.args.cmd c.in-Ok.plan c.expose.ensures.exposed wide)).wrapped_there
 
 pub expose-requires-3-clause-present : goal.expose-requires-3-clause-present
 expose-requires-3-clause-present g c =
     let plan = subst (λ h. IsPlanOf h c.args.cmd c.in-Ok.plan) (ap heap_of c.self.view_is) c.in-Ok.ensures.plan in
     let wide = wide_plan c.args.self.now c.make_room.new.self c.args.cmd c.in-Ok.plan c.make_room.ensures.widens plan in
-    let first = through_plan c.in-Ok.plan.overwritten c.make_room.new.self c.expose.new.self (g.F.Flight.bits c.args.flight.now) (g.F.Flight.bits c.expose.new.flight)
+    let first = through_plan c.in-Ok.plan.overwritten c.make_room.new.self c.expose.new.self
+    (g.F.Flight.bits c.args.flight.now) (g.F.Flight.bits c.expose.new.flight)
     c.args.cmd c.in-Ok.plan c.expose.ensures.exposed wide in
-    let second = through_plan c.in-Ok.plan.wrapped c.expose.new.self c.expose-2.new.self (g.F.Flight.bits c.expose.new.flight) (g.F.Flight.bits c.expose-2.new.flight)
+    let second = through_plan c.in-Ok.plan.wrapped c.expose.new.self c.expose-2.new.self
+    (g.F.Flight.bits c.expose.new.flight) (g.F.Flight.bits c.expose-2.new.flight)
     c.args.cmd c.in-Ok.plan c.expose-2.ensures.exposed first in
-    λ p is. (planned-here c.expose-2.new.self.heap c.args.cmd c.in-Ok.plan second).handed_there p (sym c.handed.ensures ∙ is)
+    λ p is. (planned-here c.expose-2.new.self.heap c.args.cmd c.in-Ok.plan second).handed_there p
+    (sym c.handed.ensures ∙ is)
 
 pub expose-requires-clause-invariant : goal.expose-requires-clause-invariant
-expose-requires-clause-invariant g c = wide_marks c.args.self.now c.make_room.new.self (g.F.Flight.bits c.args.flight.now) c.make_room.ensures.widens c.requires.sound
+expose-requires-clause-invariant g c =
+    wide_marks c.args.self.now c.make_room.new.self (g.F.Flight.bits c.args.flight.now) c.make_room.ensures.widens
+    c.requires.sound
 
 pub expose-requires-2-clause-invariant : goal.expose-requires-2-clause-invariant
 expose-requires-2-clause-invariant g c = exposed_after c.in-Ok.plan.overwritten c.make_room.new.self c.expose.new.self
     (g.F.Flight.bits c.args.flight.now) (g.F.Flight.bits c.expose.new.flight) c.expose.ensures.exposed
-    (wide_marks c.args.self.now c.make_room.new.self (g.F.Flight.bits c.args.flight.now) c.make_room.ensures.widens c.requires.sound)
+    (wide_marks c.args.self.now c.make_room.new.self (g.F.Flight.bits c.args.flight.now) c.make_room.ensures.widens
+    c.requires.sound)
 
 pub expose-requires-3-clause-invariant : goal.expose-requires-3-clause-invariant
 expose-requires-3-clause-invariant g c =
     let first = exposed_after c.in-Ok.plan.overwritten c.make_room.new.self c.expose.new.self
     (g.F.Flight.bits c.args.flight.now) (g.F.Flight.bits c.expose.new.flight) c.expose.ensures.exposed
-    (wide_marks c.args.self.now c.make_room.new.self (g.F.Flight.bits c.args.flight.now) c.make_room.ensures.widens c.requires.sound) in
+    (wide_marks c.args.self.now c.make_room.new.self (g.F.Flight.bits c.args.flight.now) c.make_room.ensures.widens
+    c.requires.sound) in
     exposed_after c.in-Ok.plan.wrapped c.expose.new.self c.expose-2.new.self
     (g.F.Flight.bits c.expose.new.flight) (g.F.Flight.bits c.expose-2.new.flight) c.expose-2.ensures.exposed first
 
 pub commit-requires-clause-sound : goal.commit-requires-clause-sound
 commit-requires-clause-sound g c =
-    let wide = wide_sound c.args.self.now c.make_room.new.self (g.F.Flight.bits c.args.flight.now) c.make_room.ensures.widens c.requires.sound in
-    let first = through_sound c.in-Ok.plan.overwritten c.make_room.new.self c.expose.new.self (g.F.Flight.bits c.args.flight.now) (g.F.Flight.bits c.expose.new.flight) c.expose.ensures.exposed wide in
-    let second = through_sound c.in-Ok.plan.wrapped c.expose.new.self c.expose-2.new.self (g.F.Flight.bits c.expose.new.flight) (g.F.Flight.bits c.expose-2.new.flight) c.expose-2.ensures.exposed first in
-    let third = through_sound c.handed.result c.expose-2.new.self c.expose-3.new.self (g.F.Flight.bits c.expose-2.new.flight) (g.F.Flight.bits c.expose-3.new.flight) c.expose-3.ensures.exposed second in
+    let wide = wide_sound c.args.self.now c.make_room.new.self (g.F.Flight.bits c.args.flight.now)
+    c.make_room.ensures.widens c.requires.sound in
+    let first = through_sound c.in-Ok.plan.overwritten c.make_room.new.self c.expose.new.self
+    (g.F.Flight.bits c.args.flight.now) (g.F.Flight.bits c.expose.new.flight) c.expose.ensures.exposed wide in
+    let second = through_sound c.in-Ok.plan.wrapped c.expose.new.self c.expose-2.new.self
+    (g.F.Flight.bits c.expose.new.flight) (g.F.Flight.bits c.expose-2.new.flight) c.expose-2.ensures.exposed first
+    in
+    let third = through_sound c.handed.result c.expose-2.new.self c.expose-3.new.self
+    (g.F.Flight.bits c.expose-2.new.flight) (g.F.Flight.bits c.expose-3.new.flight) c.expose-3.ensures.exposed
+    second in
     subst IsSoundHeap (sym (ap heap_of c.self-2.view_is)) third
 
 pub commit-requires-clause-able : goal.commit-requires-clause-able
@@ -167,44 +217,55 @@ commit-requires-clause-able g c =
     let plan = subst (λ h. IsPlanOf h c.args.cmd c.in-Ok.plan) (ap heap_of c.self.view_is) c.in-Ok.ensures.plan in
     let able = (planned-here c.args.self.now.heap c.args.cmd c.in-Ok.plan plan).able c.requires.few c.requires.fields in
     let wide = wide_able c.args.self.now c.make_room.new.self ch c.make_room.ensures.widens able in
-    let first = through_able c.in-Ok.plan.overwritten c.make_room.new.self c.expose.new.self (g.F.Flight.bits c.args.flight.now) (g.F.Flight.bits c.expose.new.flight) ch c.expose.ensures.exposed wide in
-    let second = through_able c.in-Ok.plan.wrapped c.expose.new.self c.expose-2.new.self (g.F.Flight.bits c.expose.new.flight) (g.F.Flight.bits c.expose-2.new.flight) ch c.expose-2.ensures.exposed first in
-    let third = through_able c.handed.result c.expose-2.new.self c.expose-3.new.self (g.F.Flight.bits c.expose-2.new.flight) (g.F.Flight.bits c.expose-3.new.flight) ch c.expose-3.ensures.exposed second in
+    let first = through_able c.in-Ok.plan.overwritten c.make_room.new.self c.expose.new.self
+    (g.F.Flight.bits c.args.flight.now) (g.F.Flight.bits c.expose.new.flight) ch c.expose.ensures.exposed wide in
+    let second = through_able c.in-Ok.plan.wrapped c.expose.new.self c.expose-2.new.self
+    (g.F.Flight.bits c.expose.new.flight) (g.F.Flight.bits c.expose-2.new.flight) ch c.expose-2.ensures.exposed
+    first in
+    let third = through_able c.handed.result c.expose-2.new.self c.expose-3.new.self
+    (g.F.Flight.bits c.expose-2.new.flight) (g.F.Flight.bits c.expose-3.new.flight) ch c.expose-3.ensures.exposed
+    second in
     subst (λ (h : HeapState). IsAble h.shape h.made ch) (sym (ap heap_of c.self-2.view_is)) third
 
 pub invariant_of-self : goal.invariant_of-self
 invariant_of-self g c =
     let here = ap (λ (z : CollectorState). z.heap.shape) c.self-2.view_is in
-    kept_call _ _ _ _ _ _ _ _ _ _ _ _ _ _ _
-    (call g c) c.self-2.inside.edges c.self-2.inside.order c.self-2.inside.run c.self-2.inside.ungrouped
+    kept_call _ _ _ _ _ _ _ _ _ _ _ _ _ _
+    (planned g c) c.self-2.inside.edges c.self-2.inside.order c.self-2.inside.run c.self-2.inside.ungrouped
     (subst (λ s. IsKept s c.self-2.inside.edges c.self-2.inside.order c.self-2.inside.run
     c.self-2.inside.ungrouped) here c.self-2.invariant)
 
 pub returns-clause-done : goal.returns-clause-done
-returns-clause-done g c = does_call _ _ _ _ _ _ _ _ _ _ _ _ _ _ _ (call g c)
+returns-clause-done g c = subst (λ r. DoesCommand c.args.self.now (g.F.Flight.bits c.args.flight.now) c.args.cmd r
+    (after g c) (g.F.Flight.bits c.expose-3.new.flight)) (sym (result_is g c))
+    (does_call _ _ _ _ _ _ _ _ _ _ _ _ _ _ (planned g c))
 
 pub returns-clause-run : goal.returns-clause-run
-returns-clause-run g c = run_after _ _ _ _ _ _ _ _ _ _ _ _ _ _ _ (call g c)
+returns-clause-run g c = run_after _ _ _ _ _ _ _ _ _ _ _ _ _ _ (planned g c)
 
 pub returns-clause-entries : goal.returns-clause-entries
-returns-clause-entries g c = entries_after _ _ _ _ _ _ _ _ _ _ _ _ _ _ _ (call g c)
+returns-clause-entries g c = entries_after _ _ _ _ _ _ _ _ _ _ _ _ _ _ (planned g c)
 
 pub returns-clause-made : goal.returns-clause-made
-returns-clause-made g c = made_after _ _ _ _ _ _ _ _ _ _ _ _ _ _ _ (call g c) c.match-commit.result
-    (subst (λ r. c.commit.new.self.made ≡ c.expose-3.new.self.heap.made + cells_made c.expose-3.new.self.heap c.args.cmd r) (sym (result_is g c))
-    (made_call _ _ _ _ _ _ _ _ _ _ _ _ _ _ (planned g c)))
+returns-clause-made g c =
+    subst (λ r. c.commit.new.self.made
+    ≡ c.args.self.now.heap.made + cells_made c.args.self.now.heap c.args.cmd r) (sym (result_is g c))
+    (made_call _ _ _ _ _ _ _ _ _ _ _ _ _ _ (planned g c))
 
 pub returns-clause-words : goal.returns-clause-words
-returns-clause-words g c = words_call _ _ _ _ _ _ _ _ _ _ _ _ _ _ _ (call g c)
+returns-clause-words g c = words_call _ _ _ _ _ _ _ _ _ _ _ _ _ _ (planned g c)
 
 pub returns-clause-answered : goal.returns-clause-answered
-returns-clause-answered g c = answered_call _ _ _ _ _ _ _ _ _ _ _ _ _ _ _ (call g c)
+returns-clause-answered g c = subst (λ r. IfOk r (λ answer. refusal_in answer ≡ None)) (sym (result_is g c))
+    (answered_call _ _ _ _ _ _ _ _ _ _ _ _ _ _ (planned g c))
 
 pub returns-clause-wanted : goal.returns-clause-wanted
-returns-clause-wanted g c = wanted_call _ _ _ _ _ _ _ _ _ _ _ _ _ _ _ (call g c)
+returns-clause-wanted g c = λ wants. wanted_call _ _ _ _ _ _ _ _ _ _ _ _ _ _ (planned g c)
+    (sym (result_is g c) ∙ wants)
 
 pub returns-clause-sure : goal.returns-clause-sure
-returns-clause-sure g c = λ never wants. sure_call _ _ _ _ _ _ _ _ _ _ _ _ _ _ (planned g c) never (sym (result_is g c) ∙ wants)
+returns-clause-sure g c = λ never wants. sure_call _ _ _ _ _ _ _ _ _ _ _ _ _ _ (planned g c) never
+    (sym (result_is g c) ∙ wants)
 
 pub returns-clause-sound : goal.returns-clause-sound
 returns-clause-sound g c = command_sound _ _ _ _ _ _ (returns-clause-done g c) c.requires.sound
