@@ -13,9 +13,11 @@ take-set_within (suc n) (x ∷ xs) zero y = refl
 take-set_within (suc n) (x ∷ xs) (suc i) y = ap (λ ys. x ∷ ys) (take-set_within n xs i y)
 
 -- so many equal fields, looked at
-pub map-take-replicate : {X Y : Type 0} (f : X → Y) (m n : ℕ) (x : X) → m ≤ n → map f (take m (replicate n x)) ≡ replicate m (f x)
+pub map-take-replicate : {X Y : Type 0} (f : X → Y) (m n : ℕ) (x : X) → m ≤ n
+    → map f (take m (replicate n x)) ≡ replicate m (f x)
 map-take-replicate f m n x h = ap (map f) (take-replicate m n x h) ∙ map-replicate f m x
 
 -- one field is written
-pub map-take-set : {X Y : Type 0} (f : X → Y) (n : ℕ) (xs : List X) (i : ℕ) (y : X) → map f (take n (set xs i y)) ≡ set (map f (take n xs)) i (f y)
+pub map-take-set : {X Y : Type 0} (f : X → Y) (n : ℕ) (xs : List X) (i : ℕ) (y : X)
+    → map f (take n (set xs i y)) ≡ set (map f (take n xs)) i (f y)
 map-take-set f n xs i y = ap (map f) (take-set_within n xs i y) ∙ map-set f (take n xs) i y

@@ -1,10 +1,12 @@
 -- A word without its lowest bit.
-use Rattle.std.proofs.Common.{◌≡◌, ◌<◌, ◌+◌, ◌*◌, ◌/◌, ◌%◌, ◌^◌, ◌-◌, ◌==◌, inl, inr, ℕ, zero, suc, min, if◌then◌else◌, sym, ◌∙◌, ap, arith, bit_and, w64, pow-suc}
+use Rattle.std.proofs.Common.{◌≡◌, ◌<◌, ◌+◌, ◌*◌, ◌/◌, ◌%◌, ◌^◌, ◌-◌, ◌==◌, inl, inr, ℕ, zero, suc, min, if◌then◌else◌}
+use Rattle.std.proofs.Common.{sym, ◌∙◌, ap, arith, bit_and, w64, pow-suc}
 use Rattle.std.proofs.Math.Nat.{mul-div_cancel}
 use Rattle.std.proofs.lemmas.Nat.{pow_pos}
 use Rattle.std.proofs.lemmas.Bool.{cases_eq, cases_lt}
 use Rattle.std.proofs.lemmas.Bool.Decides.{nat_tests}
-use Rattle.std.proofs.lemmas.Nat.Bits.{bit_at_lowest, bit_at-suc, bit_at-lt, bit_at_and, bit_at_cat_low, bit_at_cat_high, bit_at_ones_above, bit_at-trailing_zeros}
+use Rattle.std.proofs.lemmas.Nat.Bits.{bit_at_lowest, bit_at-suc, bit_at-lt, bit_at_and, bit_at_cat_low}
+use Rattle.std.proofs.lemmas.Nat.Bits.{bit_at_cat_high, bit_at_ones_above, bit_at-trailing_zeros}
 use Rattle.std.specs.Int.{bit_at, trailing_zeros}
 
 doubled : (n q p : ℕ) → n / 2 ≡ q * p → n % 2 ≡ 0 → n ≡ q * (p * 2)
@@ -32,13 +34,15 @@ split t n low one = by (multiple t n low)
         (q / 2, rw (pow-suc 2 t) (odd q (2 ^ t) (q / 2) e (omega arith)))
 
 -- `n & (n - 1)` is n without its lowest bit
-pub bit_at-rest : (n k : ℕ) → 0 < n → n < 2 ^ 64 → bit_at (bit_and n (n - 1)) k ≡ (if k == trailing_zeros w64 n then 0 else bit_at n k)
+pub bit_at-rest : (n k : ℕ) → 0 < n → n < 2 ^ 64
+    → bit_at (bit_and n (n - 1)) k ≡ (if k == trailing_zeros w64 n then 0 else bit_at n k)
 bit_at-rest n k some fits =
     let t = trailing_zeros w64 n in
     let lowest = bit_at-trailing_zeros w64 n some fits in
     by (split t n lowest.2 lowest.1)
   where
-    by : (m : ℕ) × (n ≡ m * 2 ^ suc (trailing_zeros w64 n) + 2 ^ trailing_zeros w64 n) → bit_at (bit_and n (n - 1)) k ≡ (if k == trailing_zeros w64 n then 0 else bit_at n k)
+    by : (m : ℕ) × (n ≡ m * 2 ^ suc (trailing_zeros w64 n) + 2 ^ trailing_zeros w64 n)
+        → bit_at (bit_and n (n - 1)) k ≡ (if k == trailing_zeros w64 n then 0 else bit_at n k)
     by (m, e) =
         let t = trailing_zeros w64 n in
         let p : ℕ = 2 ^ t in
@@ -51,10 +55,14 @@ bit_at-rest n k some fits =
         elim (cases_lt k t) [
           | inl lt ↦ (let zero_there : bit_at n k ≡ 0 = lowest.2 k lt in grind (arith, nat_tests))
           | inr le ↦ (elim (cases_eq k t) [
-            | inl f ↦ (let cleared : bit_at (n - 1) k ≡ 0 = ap (λ v. bit_at v k) less ∙ (ap (bit_at (m * 2 ^ suc t + (2 ^ t - 1))) f ∙ (bit_at_cat_low m (suc t) (2 ^ t - 1) t (omega arith) ∙ bit_at_ones_above t t (omega arith))) in grind (arith, nat_tests))
+            | inl f ↦ (let cleared : bit_at (n - 1) k ≡ 0 = ap (λ v. bit_at v k) less
+                ∙ (ap (bit_at (m * 2 ^ suc t + (2 ^ t - 1))) f
+                ∙ (bit_at_cat_low m (suc t) (2 ^ t - 1) t (omega arith) ∙ bit_at_ones_above t t (omega arith))) in
+                grind (arith, nat_tests))
             | inr f ↦ (let one = bit_at_cat_high m (suc t) (2 ^ t) k (omega arith) (omega arith) in
                 let other = bit_at_cat_high m (suc t) (2 ^ t - 1) k (omega arith) (omega arith) in
-                let same : bit_at (n - 1) k ≡ bit_at n k = ap (λ v. bit_at v k) less ∙ (other ∙ (sym one ∙ ap (λ v. bit_at v k) (sym e))) in
+                let same : bit_at (n - 1) k ≡ bit_at n k = ap (λ v. bit_at v k) less
+                ∙ (other ∙ (sym one ∙ ap (λ v. bit_at v k) (sym e))) in
                 grind (arith, nat_tests))
           ])
         ]

@@ -1,5 +1,6 @@
 -- Which arenas a zone has, and which of them take cells.
-use Rattle.std.specs.Prelude.{◌≡◌, ◌<◌, ℕ, suc, ◌*◌, ◌==◌, ◌&&◌, Bool, true, false, not, List, [], ◌∷◌, Option, Some, None, length, slice_get, slice_index, slice_index_or, All, if◌then◌else◌}
+use Rattle.std.specs.Prelude.{◌≡◌, ◌<◌, ℕ, suc, ◌*◌, ◌==◌, ◌&&◌, Bool, true, false, not, List, [], ◌∷◌, Option, Some}
+use Rattle.std.specs.Prelude.{None, length, slice_get, slice_index, slice_index_or, All, if◌then◌else◌}
 use Rattle.std.specs.Int.{bit_at}
 use Rattle.arena_table.specs.Sets.{arena_bit}
 use Rattle.arena_table.specs.Slots.{Arena, has_free, bit_of}
@@ -48,4 +49,5 @@ is_among word (Some arena) = in_zones word arena.zone
 -- the numbers of the arenas of a set of zones, ascending, where the first of the list has the number n
 abbrev pub numbers_from : ℕ → ℕ → List Arena → List ℕ
 numbers_from word n [] = []
-numbers_from word n (arena ∷ arenas) = if in_zones word arena.zone then n ∷ numbers_from word (suc n) arenas else numbers_from word (suc n) arenas
+numbers_from word n (arena ∷ arenas) = if in_zones word arena.zone then n ∷ numbers_from word (suc n) arenas
+    else numbers_from word (suc n) arenas

@@ -1,5 +1,6 @@
 -- Sets of arenas as lists of words, a bit an arena.
-use Rattle.std.specs.Prelude.{◌≡◌, ◌+◌, ◌/◌, ◌%◌, ◌*◌, ◌<◌, ◌≤◌, ◌^◌, ◌↔◌, ◌≢◌, ⊤, ℕ, List, Option, Some, None, length, slice_index}
+use Rattle.std.specs.Prelude.{◌≡◌, ◌+◌, ◌/◌, ◌%◌, ◌*◌, ◌<◌, ◌≤◌, ◌^◌, ◌↔◌, ◌≢◌, ⊤, ℕ, List, Option, Some, None, length}
+use Rattle.std.specs.Prelude.{slice_index}
 use Rattle.std.specs.Int.{bit_at}
 
 -- the bit of an arena

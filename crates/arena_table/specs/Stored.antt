@@ -1,5 +1,6 @@
 -- Arenas as they are kept: a head and a chunk of cells each.
-use Rattle.std.specs.Prelude.{◌≡◌, ◌<◌, ◌≤◌, ℕ, ◌/◌, ◌%◌, ◌==◌, List, [], ◌∷◌, Option, Some, None, length, All, if◌then◌else◌}
+use Rattle.std.specs.Prelude.{◌≡◌, ◌<◌, ◌≤◌, ℕ, ◌/◌, ◌%◌, ◌==◌, List, [], ◌∷◌, Option, Some, None, length, All}
+use Rattle.std.specs.Prelude.{if◌then◌else◌}
 use Rattle.arena_table.specs.Cells.{CellState, state_of}
 use Rattle.arena_table.specs.Slots.{Arena, alloc_word_of}
 use Rattle.arena_table.specs.declared.cells.Cell.{Cell}

@@ -1,5 +1,6 @@
 -- The arenas of all zones, as callers see them.
-use Rattle.std.specs.Prelude.{◌≡◌, ◌<◌, ◌≤◌, ◌*◌, ◌==◌, ◌&&◌, ℕ, suc, Bool, true, false, List, [], ◌∷◌, ◌++◌, Option, None, length, map, replicate, All, if◌then◌else◌}
+use Rattle.std.specs.Prelude.{◌≡◌, ◌<◌, ◌≤◌, ◌*◌, ◌==◌, ◌&&◌, ℕ, suc, Bool, true, false, List, [], ◌∷◌, ◌++◌, Option}
+use Rattle.std.specs.Prelude.{None, length, map, replicate, All, if◌then◌else◌}
 use Rattle.std.specs.Option.{ForSome}
 use Rattle.gz_names.specs.declared.commands.Kind.{Kind}
 use Rattle.gz_names.specs.declared.names.Name.{Name}
@@ -48,7 +49,9 @@ in_these f word arenas = map (λ (arena : Arena). if in_zones word arena.zone th
 -- what is handed to sweeping, where the first arena has the number n
 abbrev pub jobs_from : ℕ → ℕ → List Arena → List Job
 jobs_from word n [] = []
-jobs_from word n (arena ∷ arenas) = if in_zones word arena.zone then record { arena = n; alloc_word = alloc_word_of arena.slots; bits = arena.bits } ∷ jobs_from word (suc n) arenas else jobs_from word (suc n) arenas
+jobs_from word n (arena ∷ arenas) = if in_zones word arena.zone
+    then record { arena = n; alloc_word = alloc_word_of arena.slots; bits = arena.bits } ∷ jobs_from word (suc n) arenas
+    else jobs_from word (suc n) arenas
 
 -- bits that are all clear
 abbrev pub no_bits : Bits
@@ -75,7 +78,8 @@ pub record IsReserved (store : StoreState) (index : IndexState) (out : List ℕ)
   pub out_room : r.place.0 ≡ length store.arenas → length store.arenas < 64 * length out
 
 -- what always holds
-pub record AreArenas (store : StoreState) (index : IndexState) (out : List ℕ) (made held : ℕ) (reserved : Option Reserved) : Type 0 where
+pub record AreArenas (store : StoreState) (index : IndexState) (out : List ℕ) (made held : ℕ)
+    (reserved : Option Reserved) : Type 0 where
   pub indexed : IsIndexed store.arenas index
   pub out_of : AreOut store.arenas out
   pub few : made ≤ 4294967295

@@ -7,4 +7,5 @@ use Rattle.arena_table.specs.declared.walk.Walk.{Walk}
 
 -- the arenas that a walk has still to visit: those left of its word, and those after it
 abbrev pub walk_rest : List Arena → Walk → List ℕ
-walk_rest arenas walk = at_bits walk.left (range_with_len walk.base 64) ++ numbers_from walk.zones.bits (64 * walk.at) (drop (64 * walk.at) arenas)
+walk_rest arenas walk = at_bits walk.left (range_with_len walk.base 64) ++ numbers_from walk.zones.bits (64 * walk.at)
+    (drop (64 * walk.at) arenas)

@@ -1,5 +1,6 @@
 // Sets of arenas.
-ghost use Rattle.std.specs.Prelude.{◌≡◌, ◌≤◌, ◌<◌, ◌+◌, ◌*◌, ◌==◌, ◌↔◌, ◌≢◌, ◌^◌, ◌/◌, [], ℕ, length, slice_index, OnOk, IfSome, IfNone, if◌then◌else◌};
+ghost use Rattle.std.specs.Prelude.{◌≡◌, ◌≤◌, ◌<◌, ◌+◌, ◌*◌, ◌==◌, ◌↔◌, ◌≢◌, ◌^◌, ◌/◌, [], ℕ, length, slice_index};
+ghost use Rattle.std.specs.Prelude.{OnOk, IfSome, IfNone, if◌then◌else◌};
 ghost use Rattle.std.specs.Int.{bit_at};
 ghost use Rattle.arena_table.specs.Sets.{arena_bit, IsBefore, IsSummed};
 

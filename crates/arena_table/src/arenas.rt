@@ -1,14 +1,19 @@
 // The arenas of all zones.
-ghost use Rattle.std.specs.Prelude.{◌≡◌, ◌≢◌, ◌≤◌, ◌<◌, ◌+◌, ◌*◌, ◌==◌, ◌&&◌, [], ℕ, Bool, true, false, IsSome, IsSomeAnd, Some, None, length, replicate, slice_get, slice_set, IfOk, OnOk, OnErr, IfSome, IfNone, is_some, if◌then◌else◌};
+ghost use Rattle.std.specs.Prelude.{◌≡◌, ◌≢◌, ◌≤◌, ◌<◌, ◌+◌, ◌*◌, ◌==◌, ◌&&◌, [], ℕ, Bool, true, false, IsSome};
+ghost use Rattle.std.specs.Prelude.{IsSomeAnd, Some, None, length, replicate, slice_get, slice_set, IfOk, OnOk, OnErr};
+ghost use Rattle.std.specs.Prelude.{IfSome, IfNone, is_some, if◌then◌else◌};
 ghost use Rattle.std.specs.Int.{bit_at};
 ghost use Rattle.std.specs.Option.{ForSome, option_map};
 ghost use Rattle.gz_names.specs.declared.numbers.Place.{Place};
 ghost use Rattle.arena_table.specs.Cells.{field_count, field_of, state_of, with_value};
-ghost use Rattle.arena_table.specs.Slots.{Arena, IsWithin, alloc_word_of, at_bits, bit_of, cell_at, change_at, handed_out, held_by, is_out_at, names_of, taken_in, with_bits, with_cell, with_field};
+ghost use Rattle.arena_table.specs.Slots.{Arena, IsWithin, alloc_word_of, at_bits, bit_of, cell_at, change_at};
+ghost use Rattle.arena_table.specs.Slots.{handed_out, held_by, is_out_at, names_of, taken_in, with_bits, with_cell};
+ghost use Rattle.arena_table.specs.Slots.{with_field};
 ghost use Rattle.arena_table.specs.Sets.{arena_bit};
 ghost use Rattle.arena_table.specs.Indexed.{IsIndexed, IsOwnedBy, is_among, is_open, words_at};
 ghost use Rattle.arena_table.specs.Placement.{place_for};
-ghost use Rattle.arena_table.specs.Table.{AreIn, AreOut, HasRoom, grown_to, new_cell, in_these, jobs_from, no_bits, put_at, is_place};
+ghost use Rattle.arena_table.specs.Table.{AreIn, AreOut, HasRoom, grown_to, new_cell, in_these, jobs_from, no_bits};
+ghost use Rattle.arena_table.specs.Table.{put_at, is_place};
 
 use crate::arena_sets::ArenaSet;
 use crate::cells::{ARENA_LIMIT, Cell};

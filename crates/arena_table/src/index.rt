@@ -1,5 +1,6 @@
 // Which arenas a zone has, and which of them take cells.
-ghost use Rattle.std.specs.Prelude.{◌≡◌, ◌≤◌, ◌<◌, ◌+◌, ◌*◌, ◌==◌, ◌&&◌, ◌↔◌, ◌≢◌, ◌⊎◌, ◌^◌, [], ℕ, length, replicate, slice_index, OnOk, IfOk, IfSome, IfNone, if◌then◌else◌};
+ghost use Rattle.std.specs.Prelude.{◌≡◌, ◌≤◌, ◌<◌, ◌+◌, ◌*◌, ◌==◌, ◌&&◌, ◌↔◌, ◌≢◌, ◌⊎◌, ◌^◌, [], ℕ, length, replicate};
+ghost use Rattle.std.specs.Prelude.{slice_index, OnOk, IfOk, IfSome, IfNone, if◌then◌else◌};
 ghost use Rattle.std.specs.Int.{bit_at};
 ghost use Rattle.gz_names.specs.Zones.{HasZone};
 ghost use Rattle.arena_table.specs.Sets.{arena_bit, IsBefore};

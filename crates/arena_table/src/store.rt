@@ -1,5 +1,6 @@
 // Arenas as they are kept.
-ghost use Rattle.std.specs.Prelude.{◌≡◌, ◌≤◌, ◌<◌, ◌+◌, ◌++◌, ◌∷◌, ◌^◌, [], ℕ, Bool, true, false, IsSome, IsSomeAnd, IsTrue, Some, None, length, map, slice_get, slice_set, OnOk, OnErr};
+ghost use Rattle.std.specs.Prelude.{◌≡◌, ◌≤◌, ◌<◌, ◌+◌, ◌++◌, ◌∷◌, ◌^◌, [], ℕ, Bool, true, false, IsSome, IsSomeAnd};
+ghost use Rattle.std.specs.Prelude.{IsTrue, Some, None, length, map, slice_get, slice_set, OnOk, OnErr};
 ghost use Rattle.std.specs.Option.{ForSome, option_map};
 ghost use Rattle.arena_table.specs.Slots.{at_bits};
 
@@ -42,7 +43,8 @@ impl Model for Store {
 
 impl Store {
     ghost use Rattle.arena_table.specs.Cells.{state_of};
-    ghost use Rattle.arena_table.specs.Slots.{Arena, IsWithin, alloc_word_of, names_of, empty_arena, change_at, cell_at, with_cell, with_field, with_bits, handed_out, taken_in};
+    ghost use Rattle.arena_table.specs.Slots.{Arena, IsWithin, alloc_word_of, names_of, empty_arena, change_at};
+    ghost use Rattle.arena_table.specs.Slots.{cell_at, with_cell, with_field, with_bits, handed_out, taken_in};
     ghost use Rattle.arena_table.specs.Stored.{StoreState, IsHeadOf};
 
     /// No arenas. It takes no memory.

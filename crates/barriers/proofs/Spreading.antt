@@ -1,5 +1,6 @@
 -- Steps one after another.
-use Rattle.std.proofs.Common.{◌≡◌, inl, inr, refl, sym, ap, ◌∙◌, subst, arith, length-append, ◌∷◌, [], IsSomeAnd, slice_get}
+use Rattle.std.proofs.Common.{◌≡◌, inl, inr, refl, sym, ap, ◌∙◌, subst, arith, length-append, ◌∷◌, [], IsSomeAnd}
+use Rattle.std.proofs.Common.{slice_get}
 use Rattle.std.specs.Int.{bit_at}
 use Rattle.gz_names.specs.declared.numbers.Place.{Place}
 use Rattle.mark_stack.specs.Stack.{Piles, pushed}
@@ -13,7 +14,8 @@ use Rattle.barriers.specs.Spreading.{Blackens, Spreads, Grows}
 pub shape_is : (h k : HeapState) → k ≡ record h { colours = k.colours } → k.shape ≡ h.shape
 shape_is h k e = ap (λ (z : HeapState). z.shape) e
 
-rest_more : (h k l : HeapState) → k ≡ record h { colours = k.colours } → l ≡ record k { colours = l.colours } → l ≡ record h { colours = l.colours }
+rest_more : (h k l : HeapState) → k ≡ record h { colours = k.colours } → l ≡ record k { colours = l.colours }
+    → l ≡ record h { colours = l.colours }
 rest_more h k l e f = f ∙ ap (λ (z : HeapState). record z { colours = l.colours }) e
 
 -- where the words of gray bits are as they were, no slot lost its gray bit
@@ -31,7 +33,8 @@ blackens_none P h = record {
   whites_less = omega arith;
 }
 
-pub blackens_more : (P Q R : Place → Type 0) (h k l : HeapState) → Blackens P h k → Blackens Q k l → ((y : Place) → P y → R y) → ((y : Place) → Q y → R y) → Blackens R h l
+pub blackens_more : (P Q R : Place → Type 0) (h k l : HeapState) → Blackens P h k → Blackens Q k l
+    → ((y : Place) → P y → R y) → ((y : Place) → Q y → R y) → Blackens R h l
 blackens_more P Q R h k l a b f g = record {
   rest = rest_more h k l a.rest b.rest;
   sized = b.sized ∙ a.sized;
@@ -48,7 +51,8 @@ blackens_more P Q R h k l a b f g = record {
   whites_less = omega (arith, a.whites_less, b.whites_less);
 }
 
-pub blackens_within : (P R : Place → Type 0) (h k : HeapState) → Blackens P h k → ((y : Place) → P y → R y) → Blackens R h k
+pub blackens_within : (P R : Place → Type 0) (h k : HeapState) → Blackens P h k → ((y : Place) → P y → R y)
+    → Blackens R h k
 blackens_within P R h k a f = record {
   rest = a.rest;
   sized = a.sized;
@@ -71,7 +75,9 @@ spreads_none P h p = record {
   grays = omega arith;
 }
 
-pub spreads_more : (P Q R : Place → Type 0) (h : HeapState) (p : Piles) (k : HeapState) (q : Piles) (l : HeapState) (r : Piles) → Spreads P h p k q → Spreads Q k q l r → ((y : Place) → P y → R y) → ((y : Place) → Q y → R y) → Spreads R h p l r
+pub spreads_more : (P Q R : Place → Type 0) (h : HeapState) (p : Piles) (k : HeapState) (q : Piles) (l : HeapState)
+    (r : Piles) → Spreads P h p k q → Spreads Q k q l r → ((y : Place) → P y → R y) → ((y : Place) → Q y → R y)
+    → Spreads R h p l r
 spreads_more P Q R h p k q l r a b f g = record {
   blackens = blackens_more P Q R h k l a.blackens b.blackens f g;
   gray_is = b.gray_is ∙ a.gray_is;
@@ -86,7 +92,8 @@ spreads_more P Q R h p k q l r a b f g = record {
   grays = omega (arith, a.grays, b.grays);
 }
 
-pub spreads_within : (P R : Place → Type 0) (h : HeapState) (p : Piles) (k : HeapState) (q : Piles) → Spreads P h p k q → ((y : Place) → P y → R y) → Spreads R h p k q
+pub spreads_within : (P R : Place → Type 0) (h : HeapState) (p : Piles) (k : HeapState) (q : Piles) → Spreads P h p k q
+    → ((y : Place) → P y → R y) → Spreads R h p k q
 spreads_within P R h p k q a f = record {
   blackens = blackens_within P R h k a.blackens f;
   gray_is = a.gray_is;
@@ -105,7 +112,9 @@ grows_none P h p = record {
   woken = λ y b m. inl b;
 }
 
-pub grows_more : (P Q R : Place → Type 0) (h : HeapState) (p : Piles) (k : HeapState) (q : Piles) (l : HeapState) (r : Piles) → Grows P h p k q → Grows Q k q l r → ((y : Place) → P y → R y) → ((y : Place) → Q y → R y) → Grows R h p l r
+pub grows_more : (P Q R : Place → Type 0) (h : HeapState) (p : Piles) (k : HeapState) (q : Piles) (l : HeapState)
+    (r : Piles) → Grows P h p k q → Grows Q k q l r → ((y : Place) → P y → R y) → ((y : Place) → Q y → R y)
+    → Grows R h p l r
 grows_more P Q R h p k q l r a b f g = record {
   spreads = spreads_more P Q R h p k q l r a.spreads b.spreads f g;
   wake_kept = λ y c. b.wake_kept y (a.wake_kept y c);
@@ -128,5 +137,6 @@ popped P h q x = record {
 }
 
 -- a woken cell was taken from its pile
-pub spreads_pop : (P : Place → Type 0) (h : HeapState) (p q : Piles) (x : Place) → p ≡ pushed q pile.Wake x → Spreads P h p h q
+pub spreads_pop : (P : Place → Type 0) (h : HeapState) (p q : Piles) (x : Place) → p ≡ pushed q pile.Wake x
+    → Spreads P h p h q
 spreads_pop P h p q x e = subst (λ (z : Piles). Spreads P h z h q) (sym e) (popped P h q x)

@@ -1,5 +1,6 @@
 -- A cell turns black, and goes on its zone's pile.
-use Rattle.std.proofs.Common.{◌≡◌, ◌⊎◌, ◌+◌, ◌≤◌, true, false, inl, inr, refl, sym, ap, ◌∙◌, subst, arith, Contains, List, length, ◌∷◌, [], length-append, if◌then◌else◌}
+use Rattle.std.proofs.Common.{◌≡◌, ◌⊎◌, ◌+◌, ◌≤◌, true, false, inl, inr, refl, sym, ap, ◌∙◌, subst, arith, Contains}
+use Rattle.std.proofs.Common.{List, length, ◌∷◌, [], length-append, if◌then◌else◌}
 use Rattle.std.proofs.lemmas.List.Elements.{Contains-append_left, Contains-push, Contains-push_cases}
 use Rattle.gz_names.specs.declared.numbers.Place.{Place}
 use Rattle.cell_bits.specs.declared.bits.Bits.{Bits}
@@ -61,7 +62,8 @@ puts_wake s t p m = record {
   wake_exact = rw m (omega (arith, length-append p.wake (t ∷ [])));
 }
 
-module _ (h : HeapState) (ds : List Bits) (p q : Piles) (t : Place) (turned : Blackened h t (record h { colours = ds })) (puts : Puts h.shape t p q) where
+module _ (h : HeapState) (ds : List Bits) (p q : Piles) (t : Place) (turned : Blackened h t (record h { colours = ds }))
+    (puts : Puts h.shape t p q) where
   abbrev k : HeapState
   k = record h { colours = ds }
 
@@ -103,7 +105,8 @@ module _ (h : HeapState) (ds : List Bits) (p q : Piles) (t : Place) (turned : Bl
       pile_kept = puts.black_kept;
       fresh = λ y b m. elim (only y b) [
         | inl was ↦ inl was
-        | inr e ↦ inr (subst (λ z. Contains q.black z) (sym e) (puts.black_has (subst (λ z. is_marking h.shape z ≡ true) e m)))
+        | inr e ↦ inr (subst (λ z. Contains q.black z) (sym e)
+            (puts.black_has (subst (λ z. is_marking h.shape z ≡ true) e m)))
       ];
       left_less = omega (arith, turned.left_is);
       work = omega (arith, turned.left_is, puts.both_more);
@@ -112,7 +115,8 @@ module _ (h : HeapState) (ds : List Bits) (p q : Piles) (t : Place) (turned : Bl
     wake_kept = puts.wake_kept;
     woken = λ y b m. elim (only y b) [
       | inl was ↦ inl was
-      | inr e ↦ inr (subst (λ z. Contains q.wake z) (sym e) (puts.wake_has (subst (λ z. is_marking h.shape z ≡ false) e m)))
+      | inr e ↦ inr (subst (λ z. Contains q.wake z) (sym e)
+          (puts.wake_has (subst (λ z. is_marking h.shape z ≡ false) e m)))
     ];
   }
 
@@ -122,7 +126,11 @@ module _ (h : HeapState) (ds : List Bits) (p q : Piles) (t : Place) (turned : Bl
     sized = turned.sized ∙ inv.sized;
     seen_present = λ y s. elim s [
       | inl g ↦ elim (others y) [ inl b ↦ cc (b, g) | inr e ↦ inv.seen_present y (inl (sym e ∙ g)) ]
-      | inr b ↦ elim (only y b) [ inl was ↦ inv.seen_present y (inr was) | inr e ↦ subst (λ z. IsPresent h.shape z) (sym e) turned.present ]
+      | inr b ↦ elim (only y b) [
+        | inl was ↦ inv.seen_present y (inr was)
+        | inr e
+            ↦ subst (λ z. IsPresent h.shape z) (sym e) turned.present
+      ]
     ];
     no_white = λ y present m. seen y (inv.no_white y present m);
     no_gray = λ y state g. elim (others y) [ inl b ↦ cc (b, g) | inr e ↦ inv.no_gray y state (sym e ∙ g) ];
@@ -143,7 +151,13 @@ module _ (h : HeapState) (ds : List Bits) (p q : Piles) (t : Place) (turned : Bl
     room = record {
       black = omega (arith, inv.room.black, turned.left_is, turned.sized, puts.black_more);
       wake = omega (arith, inv.room.wake, turned.left_is, turned.sized, puts.wake_more);
-      gray = omega (arith, inv.room.gray, turned.whites_less, turned.sized, ap (λ (z : List Place). length z) puts.gray_is);
+      gray = omega (
+        arith,
+        inv.room.gray,
+        turned.whites_less,
+        turned.sized,
+        ap (λ (z : List Place). length z) puts.gray_is,
+      );
       room = omega (arith, inv.room.room, turned.sized, puts.room_is);
     };
   }
@@ -168,9 +182,14 @@ module _ (h : HeapState) (ds : List Bits) (p q : Piles) (t : Place) (turned : Bl
       ]
     ];
     weak_closed = λ m n v e bm bn off. elim (only m bm) [
-      | inr is ↦ inr (inl (subst (λ z. Contains q.wake z) (sym is) (puts.wake_has (subst (λ z. is_marking h.shape z ≡ false) is (ap (λ z. is_marking_state (state_in h.shape z)) (inv.colours.shape.one_zone m n v e).0 ∙ off)))))
+      | inr is ↦ inr (inl (subst (λ z. Contains q.wake z) (sym is)
+          (puts.wake_has (subst (λ z. is_marking h.shape z ≡ false) is
+          (ap (λ z. is_marking_state (state_in h.shape z)) (inv.colours.shape.one_zone m n v e).0 ∙ off)))))
       | inl wm ↦ elim (only n bn) [
-        | inr is ↦ inr (inr (inl (subst (λ z. Contains q.wake z) (sym is) (puts.wake_has (subst (λ z. is_marking h.shape z ≡ false) is (ap (λ z. is_marking_state (state_in h.shape z)) (inv.colours.shape.one_zone m n v e).1 ∙ off))))))
+        | inr is ↦ inr (inr (inl
+            (subst (λ z. Contains q.wake z) (sym is)
+            (puts.wake_has (subst (λ z. is_marking h.shape z ≡ false) is
+            (ap (λ z. is_marking_state (state_in h.shape z)) (inv.colours.shape.one_zone m n v e).1 ∙ off))))))
         | inl wn ↦ elim (inv.weak_closed m n v e wm wn off) [
           | inl b ↦ inl (kept v b)
           | inr (inl w) ↦ inr (inl (puts.wake_kept m w))
@@ -187,14 +206,24 @@ pub record Effect (h : HeapState) (p : Piles) (t : Place) (k : HeapState) (q : P
   pub is_black : IsBlack k t
   pub invariant : (followed : List Place) → InvariantWhile followed h p → InvariantWhile followed k q
 
-put_effect : (h : HeapState) (p : Piles) (t : Place) (k : HeapState) (q : Piles) → Blackened h t k → Puts h.shape t p q → Effect h p t k q
-put_effect h p t k q turned puts = subst (λ (z : HeapState). Blackened h t z → Effect h p t z q) (sym turned.rest) (λ tu. record {
-  grows = grown h k.colours p q t tu puts;
-  is_black = tu.black;
-  invariant = invariant_kept h k.colours p q t tu puts;
-}) turned
+put_effect : (h : HeapState) (p : Piles) (t : Place) (k : HeapState) (q : Piles) → Blackened h t k → Puts h.shape t p q
+    → Effect h p t k q
+put_effect h p t k q turned puts = subst (λ (z : HeapState). Blackened h t z → Effect h p t z q) (sym turned.rest)
+    (λ tu. record {
+      grows = grown h k.colours p q t tu puts;
+      is_black = tu.black;
+      invariant = invariant_kept h k.colours p q t tu puts;
+    }) turned
 
-pub turn_effect : (h : HeapState) (p : Piles) (t : Place) (k : HeapState) (q : Piles) → Turns h p t k q → Effect h p t k q
-turn_effect h p t k q (inl (b, ek, eq)) = subst (λ (z : HeapState). Effect h p t z q) (sym ek) (subst (λ (z : Piles). Effect h p t h z) (sym eq) (record { grows = grows_none (λ y. y ≡ t) h p; is_black = b; invariant = λ followed inv. inv }))
-turn_effect h p t k q (inr (inl (turned, m, eq))) = subst (λ (z : Piles). Effect h p t k z) (sym eq) (put_effect h p t k (pushed p pile.Black t) turned (puts_black h.shape t p m))
-turn_effect h p t k q (inr (inr (turned, m, eq))) = subst (λ (z : Piles). Effect h p t k z) (sym eq) (put_effect h p t k (pushed p pile.Wake t) turned (puts_wake h.shape t p m))
+pub turn_effect : (h : HeapState) (p : Piles) (t : Place) (k : HeapState) (q : Piles) → Turns h p t k q
+    → Effect h p t k q
+turn_effect h p t k q (inl (b, ek, eq)) =
+    subst (λ (z : HeapState). Effect h p t z q) (sym ek)
+    (subst (λ (z : Piles). Effect h p t h z) (sym eq)
+    (record { grows = grows_none (λ y. y ≡ t) h p; is_black = b; invariant = λ followed inv. inv }))
+turn_effect h p t k q (inr (inl (turned, m, eq))) =
+    subst (λ (z : Piles). Effect h p t k z) (sym eq)
+    (put_effect h p t k (pushed p pile.Black t) turned (puts_black h.shape t p m))
+turn_effect h p t k q (inr (inr (turned, m, eq))) =
+    subst (λ (z : Piles). Effect h p t k z) (sym eq)
+    (put_effect h p t k (pushed p pile.Wake t) turned (puts_wake h.shape t p m))

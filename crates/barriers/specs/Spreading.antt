@@ -32,7 +32,8 @@ Turns h p x k q =
     ⊎ ((Blackened h x k × (is_marking h.shape x ≡ true) × (q ≡ pushed p pile.Black x))
     ⊎ (Blackened h x k × (is_marking h.shape x ≡ false) × (q ≡ pushed p pile.Wake x)))
 
--- black spread to cells that meet P alone, and nothing else changed: no cell lost its black bit, and the gray bits are as they were
+-- black spread to cells that meet P alone, and nothing else changed: no cell lost its black bit, and the gray bits are
+-- as they were
 pub record Blackens (P : Place → Type 0) (h k : HeapState) : Type 0 where
   pub rest : k ≡ record h { colours = k.colours }
   pub sized : length k.colours ≡ length h.colours

@@ -21,7 +21,8 @@ pub record Marks (old : Bits) (slot : ℕ) (colour : Colour) (new : Bits) : Type
 
 -- the bits of an arena after a wake: those of the mask are black, where the arena is the one that was woken
 abbrev pub woken_bits : Bool → ℕ → Option Bits → Option Bits
-woken_bits hit mask bits = if hit then option_map {T = Bits} (λ (b : Bits). record b { black = bit_or b.black mask }) bits else bits
+woken_bits hit mask bits = if hit then option_map {T = Bits} (λ (b : Bits). record b { black = bit_or b.black mask })
+    bits else bits
 
 abbrev pub unit : Unit {0}
 unit = tt

@@ -88,7 +88,8 @@ impl Bits {
     /// The allocated slots whose cells are white: those that sweeping frees.
     pub fn white_mask(&self, alloc_word: u64) -> u64
         ensures word { result ≡ white_mask_of self.now alloc_word }
-        ensures slots { (s : ℕ) → s < 64 → (bit_at result s ≡ 1) ↔ ((bit_at alloc_word s ≡ 1) × (colour_of self.now s ≡ Colour.White)) }
+        ensures slots { (s : ℕ) → s < 64
+            → (bit_at result s ≡ 1) ↔ ((bit_at alloc_word s ≡ 1) × (colour_of self.now s ≡ Colour.White)) }
     {
         white_slots(alloc_word, self.black, self.gob)
     }
@@ -97,7 +98,8 @@ impl Bits {
 // The slots of one word that are in neither of the others.
 fn white_slots(alloc_word: u64, black: u64, gob: u64) -> u64
     ensures word { result ≡ bit_and alloc_word (bit_not w64 (bit_or black gob)) }
-    ensures slots { (s : ℕ) → s < 64 → (bit_at result s ≡ 1) ↔ ((bit_at alloc_word s ≡ 1) × (bit_at black s ≡ 0) × (bit_at gob s ≡ 0)) }
+    ensures slots { (s : ℕ) → s < 64
+        → (bit_at result s ≡ 1) ↔ ((bit_at alloc_word s ≡ 1) × (bit_at black s ≡ 0) × (bit_at gob s ≡ 0)) }
 {
     alloc_word & !(black | gob)
 }

@@ -1,5 +1,6 @@
 -- Linked and dropped: the answers are lawful.
-use Rattle.std.proofs.Common.{◌≡◌, ℕ, zero, suc, ◌+◌, ◌<◌, inl, inr, List, [], ◌∷◌, ◌++◌, Bool, true, false, cond, refl, sym, ap, subst, ◌∙◌, arith, Option, Some, None, Contains, is_some, slice_get, replicate}
+use Rattle.std.proofs.Common.{◌≡◌, ℕ, zero, suc, ◌+◌, ◌<◌, inl, inr, List, [], ◌∷◌, ◌++◌, Bool, true, false, cond, refl}
+use Rattle.std.proofs.Common.{sym, ap, subst, ◌∙◌, arith, Option, Some, None, Contains, is_some, slice_get, replicate}
 use Rattle.std.specs.FinSet as set
 use Rattle.std.specs.FinMap as map
 use Rattle.gz_names.specs.Order.{same_name}
@@ -12,7 +13,8 @@ use Rattle.gz_names.specs.declared.replies.Report.TheVariants.{Groups, Ended, Sw
 use Rattle.colour_defs.specs.Graph.{value_of, IsInZones}
 use Rattle.colour_defs.specs.Closure.{HasEdge, from, along}
 use Rattle.colour_defs.specs.Step.{step_of}
-use Rattle.colour_defs.specs.World.{World, Collection, first_preparation, Names, Has, IsPresent, BlackClosure, LiveClosure, first_world, first_tally}
+use Rattle.colour_defs.specs.World.{World, Collection, first_preparation, Names, Has, IsPresent, BlackClosure}
+use Rattle.colour_defs.specs.World.{LiveClosure, first_world, first_tally}
 use Rattle.colour_defs.specs.Ends.{IsLawfulEnd, IsWhiteOf}
 use Rattle.colour_defs.specs.Lawful.{Beginning, at_once, Answers, AnswersBy, Begins, IsLawfulOutputBy}
 use Rattle.colour_defs.specs.Rows.{comp_0, only_zone_0, linked_and_dropped, answers_linked_and_dropped, started}
@@ -22,7 +24,9 @@ use Rattle.colour_defs.proofs.Names.{same_name-is}
 use Rattle.colour_defs.proofs.Membership.{white_of}
 use Rattle.colour_defs.proofs.ValidCommands.{insert_has}
 use Rattle.colour_defs.proofs.ValidRuns.{answer_valid, first_valid}
-use Rattle.colour_defs.proofs.Finite.{Places, place_in, places_empty, places_insert, Members, members_empty, members_insert, reached_within, fresh_slot, place_named, single, each_has, insert_cases, no_name}
+use Rattle.colour_defs.proofs.Finite.{Places, place_in, places_empty, places_insert, Members, members_empty}
+use Rattle.colour_defs.proofs.Finite.{members_insert, reached_within, fresh_slot, place_named, single, each_has}
+use Rattle.colour_defs.proofs.Finite.{insert_cases, no_name}
 use Rattle.colour_defs.proofs.Making.{room_next, room_first, made_world, new_lawful}
 use Rattle.colour_defs.proofs.OneWhite.{after_remove, one_gone, others_stay, one_white, sweep_of_one}
 use Rattle.colour_defs.proofs.OneZone.{prepared, prepares_one, loses_nothing, grouped, forms_one_group, collect_lawful}
@@ -55,10 +59,12 @@ pub a2 : Answers w1 (Graph (cmd.Comp 0)) [] (reply.Comp comp_0) w2
 a2 = (refl, (refl, refl))
 
 pub v2 : IsValid w2
-v2 = answer_valid at_once w1 (Graph (cmd.Comp 0)) [] (reply.Comp comp_0) w2 (answer_valid at_once first_world (Graph cmd.Zone) [] (reply.Zone 0) w1 first_valid a1) a2
+v2 = answer_valid at_once w1 (Graph (cmd.Comp 0)) [] (reply.Comp comp_0) w2
+    (answer_valid at_once first_world (Graph cmd.Zone) [] (reply.Zone 0) w1 first_valid a1) a2
 
 pub a3 : Answers w2 (Graph (cmd.New 0 comp_0 1)) [] (reply.Made 0) w3
-a3 = new_lawful w2 0 comp_0 1 0 (0, 0) (Some 0 ∷ []) v2 (record { none_running = refl; none_preparing = refl }) refl refl (room_first w2 0 (λ b e. cc e))
+a3 = new_lawful w2 0 comp_0 1 0 (0, 0) (Some 0 ∷ []) v2 (record { none_running = refl; none_preparing = refl }) refl
+    refl (room_first w2 0 (λ b e. cc e))
 
 v3 : IsValid w3
 v3 = answer_valid at_once w2 (Graph (cmd.New 0 comp_0 1)) [] (reply.Made 0) w3 v2 a3
@@ -90,7 +96,9 @@ used3 zero h = (Cell 0, places3 (Cell 0))
 used3 (suc s) h = absurd (omega arith)
 
 pub a4 : Answers w3 (Graph (cmd.New 1 comp_0 0)) [] (reply.Made 1) w4
-a4 = new_lawful w3 1 comp_0 0 0 (0, 1) (Some 0 ∷ []) v3 (record { none_running = refl; none_preparing = refl }) refl refl (room_next w3 0 0 1 refl only_arena refl (omega arith) used3 (λ x e. fresh_slot p3 (0, 1) refl x (sym (places3 x) ∙ e)))
+a4 = new_lawful w3 1 comp_0 0 0 (0, 1) (Some 0 ∷ []) v3 (record { none_running = refl; none_preparing = refl }) refl
+    refl (room_next w3 0 0 1 refl only_arena refl (omega arith) used3
+    (λ x e. fresh_slot p3 (0, 1) refl x (sym (places3 x) ∙ e)))
 
 v4 : IsValid w4
 v4 = answer_valid at_once w3 (Graph (cmd.New 1 comp_0 0)) [] (reply.Made 1) w4 v3 a4
@@ -107,7 +115,9 @@ used5 (suc zero) h = (Cell 1, places4 (Cell 1))
 used5 (suc (suc s)) h = absurd (omega arith)
 
 pub a6 : Answers w5 (Graph (cmd.New 1 comp_0 0)) [] (reply.Made 2) w6
-a6 = new_lawful w5 1 comp_0 0 0 (0, 2) (Some 0 ∷ []) v5 (record { none_running = refl; none_preparing = refl }) refl refl (room_next w5 0 0 2 refl only_arena refl (omega arith) used5 (λ x e. fresh_slot p4 (0, 2) refl x (sym (places4 x) ∙ e)))
+a6 = new_lawful w5 1 comp_0 0 0 (0, 2) (Some 0 ∷ []) v5 (record { none_running = refl; none_preparing = refl }) refl
+    refl (room_next w5 0 0 2 refl only_arena refl (omega arith) used5
+    (λ x e. fresh_slot p4 (0, 2) refl x (sym (places4 x) ∙ e)))
 
 pub a7 : Answers w6 (Graph (cmd.Drop 1)) [] reply.Accepted w7
 a7 = (refl, (refl, refl))
@@ -117,16 +127,28 @@ abbrev roots : Names
 roots = set.insert set.empty (Cell 0)
 
 abbrev k0 : Collection
-k0 = record { zones = 0 ∷ []; marking = 0 ∷ []; snapshot = w7.graph; black_starts = roots; live_starts = roots; woken = set.empty; groups = None; tally = first_tally (prepared w7) (first_preparation w7 (0 ∷ [])) }
+k0 = record {
+  zones = 0 ∷ [];
+  marking = 0 ∷ [];
+  snapshot = w7.graph;
+  black_starts = roots;
+  live_starts = roots;
+  woken = set.empty;
+  groups = None;
+  tally = first_tally (prepared w7) (first_preparation w7 (0 ∷ []));
+}
 
 abbrev u0 : World
 u0 = record w7 { black = set.empty; collection = Some k0 }
 
 root : (x : Name) → Has roots x → Cell 0 ≡ x
-root x h = elim (insert_cases set.empty (Cell 0) x h) [ inl none ↦ absurd (nothing_in_none x ((members_empty x).0 none)) | inr e ↦ e ]
+root x h = elim (insert_cases set.empty (Cell 0) x h)
+    [ inl none ↦ absurd (nothing_in_none x ((members_empty x).0 none)) | inr e ↦ e ]
 
 black7 : Members w7.black (Cell 2 ∷ Cell 1 ∷ Cell 0 ∷ [])
-black7 = members_insert (set.insert (set.insert set.empty (Cell 0)) (Cell 1)) (Cell 1 ∷ Cell 0 ∷ []) (Cell 2) (members_insert (set.insert set.empty (Cell 0)) (Cell 0 ∷ []) (Cell 1) (members_insert set.empty [] (Cell 0) members_empty))
+black7 = members_insert (set.insert (set.insert set.empty (Cell 0)) (Cell 1)) (Cell 1 ∷ Cell 0 ∷ []) (Cell 2)
+    (members_insert (set.insert set.empty (Cell 0)) (Cell 0 ∷ []) (Cell 1)
+    (members_insert set.empty [] (Cell 0) members_empty))
 
 present7 : (x : Name) → IsPresent w7 x → Contains (Cell 2 ∷ Cell 1 ∷ Cell 0 ∷ []) x
 present7 x h = place_named p6 x (sym (ap is_some (places6 x)) ∙ h)
@@ -135,7 +157,8 @@ all_in_zone : (x : Name) → Contains (Cell 2 ∷ Cell 1 ∷ Cell 0 ∷ []) x �
 all_in_zone = each_has (λ x. IsInZones w7.graph (0 ∷ []) x) (Cell 2 ∷ Cell 1 ∷ Cell 0 ∷ []) (refl, (refl, (refl, tt)))
 
 pub reg_root : (x : Name) → Contains w7.graph.registers (Some x) → Cell 0 ≡ x
-reg_root x c = elim (contains_cases (Some (Cell 0)) (replicate 15 None) (Some x) c) [ inl e ↦ cc e | inr t ↦ absurd (no_name_in_nulls 15 x t) ]
+reg_root x c = elim (contains_cases (Some (Cell 0)) (replicate 15 None) (Some x) c)
+    [ inl e ↦ cc e | inr t ↦ absurd (no_name_in_nulls 15 x t) ]
 
 begins : Begins (prepared w7) (0 ∷ []) u0
 begins = record {
@@ -151,7 +174,8 @@ begins = record {
   groups_are = refl;
   tally_is = refl;
   black_starts = λ x. (
-    (λ h. inl (subst (λ z. Contains w7.graph.registers (Some z)) (root x h) (contains_head (Some (Cell 0)) (replicate 15 None)))),
+    (λ h. inl (subst (λ z. Contains w7.graph.registers (Some z)) (root x h)
+        (contains_head (Some (Cell 0)) (replicate 15 None)))),
     λ h. elim h [
       | inl c ↦ subst (λ z. Has roots z) (reg_root x c) (insert_has set.empty (Cell 0))
       | inr b ↦ absurd (no_name x b)
@@ -161,7 +185,11 @@ begins = record {
     (λ h. inl h),
     λ h. elim h [
       | inl b ↦ b
-      | inr o ↦ elim o [ inl s ↦ absurd (no_name_in_nulls 64 x s) | inr p ↦ absurd (p.1 (all_in_zone x (present7 x p.0))) ]
+      | inr o ↦ elim o [
+        | inl s ↦ absurd (no_name_in_nulls 64 x s)
+        | inr p
+            ↦ absurd (p.1 (all_in_zone x (present7 x p.0)))
+      ]
     ],
   );
 }
@@ -180,15 +208,20 @@ edges7 (Cell (suc (suc (suc n)))) y e = absurd e
 edges7 (Wrap c t) y e = absurd (cc e.1)
 
 -- what is reached from the root
-within : (k : Collection) → k.snapshot ≡ w7.graph → k.black_starts ≡ roots → k.live_starts ≡ roots → k.woken ≡ set.empty → (x : Name) → LiveClosure k x → Contains (Cell 1 ∷ Cell 0 ∷ []) x
+within : (k : Collection) → k.snapshot ≡ w7.graph → k.black_starts ≡ roots → k.live_starts ≡ roots → k.woken ≡ set.empty
+    → (x : Name) → LiveClosure k x → Contains (Cell 1 ∷ Cell 0 ∷ []) x
 within k es eb ea ew x h = reached_within k.snapshot _ (Cell 1 ∷ Cell 0 ∷ [])
     (λ y s. elim s [
-      | inl a ↦ subst (λ z. Contains (Cell 1 ∷ Cell 0 ∷ []) z) (root y (subst (λ r. Has r y) ea a)) (contains_tail (Cell 1) (Cell 0 ∷ []) (Cell 0) (contains_head (Cell 0) []))
+      | inl a ↦ subst (λ z. Contains (Cell 1 ∷ Cell 0 ∷ []) z) (root y (subst (λ r. Has r y) ea a))
+          (contains_tail (Cell 1) (Cell 0 ∷ []) (Cell 0) (contains_head (Cell 0) []))
       | inr t ↦ absurd (nothing_in_none y ((members_empty y).0 (subst (λ r. Has r y) ew t)))
     ])
-    (λ y z c d. subst (λ n. Contains (Cell 1 ∷ Cell 0 ∷ []) n) (edges7 y z (subst (λ g. HasEdge g y z) es d)).1 (contains_head (Cell 1) (Cell 0 ∷ [])))
-    (λ m q v at hm hq. let none : value_of w7.graph m q ≡ Some v = subst (λ g. value_of g m q ≡ Some v) es at in absurd (cc none))
-    (λ m v c t at hm ht. let none : value_of w7.graph m (Wrap c t) ≡ Some v = subst (λ g. value_of g m (Wrap c t) ≡ Some v) es at in absurd (cc none))
+    (λ y z c d. subst (λ n. Contains (Cell 1 ∷ Cell 0 ∷ []) n) (edges7 y z (subst (λ g. HasEdge g y z) es d)).1
+    (contains_head (Cell 1) (Cell 0 ∷ [])))
+    (λ m q v at hm hq. let none : value_of w7.graph m q ≡ Some v = subst (λ g. value_of g m q ≡ Some v) es at in
+    absurd (cc none))
+    (λ m v c t at hm ht. let none : value_of w7.graph m (Wrap c t) ≡ Some v =
+    subst (λ g. value_of g m (Wrap c t) ≡ Some v) es at in absurd (cc none))
     h
 
 black0 : BlackClosure k1 (Cell 0)
@@ -207,26 +240,36 @@ black_all : (x : Name) → BlackClosure k1 x → LiveClosure k1 x
 black_all x h = h
 
 two_is_garbage : LiveClosure k1 (Cell 2) → ⊥
-two_is_garbage h = elim (contains_cases (Cell 1) (Cell 0 ∷ []) (Cell 2) (within k1 refl refl refl refl (Cell 2) h)) [ inl e ↦ cc e | inr t ↦ let q = single (Cell 0) (Cell 2) t in cc q ]
+two_is_garbage h = elim (contains_cases (Cell 1) (Cell 0 ∷ []) (Cell 2) (within k1 refl refl refl refl (Cell 2) h))
+    [ inl e ↦ cc e | inr t ↦ let q = single (Cell 0) (Cell 2) t in cc q ]
 
 white2 : IsWhiteOf u1 k1 (0 ∷ []) (Cell 2)
-white2 = white_of u1 k1 (0 ∷ []) (Cell 2) (ap is_some (places6 (Cell 2))) refl two_is_garbage (λ b. two_is_garbage (black_all (Cell 2) b))
+white2 = white_of u1 k1 (0 ∷ []) (Cell 2) (ap is_some (places6 (Cell 2))) refl two_is_garbage
+    (λ b. two_is_garbage (black_all (Cell 2) b))
 
 -- only cell 2 is white
 white_only : (x : Name) → IsWhiteOf u1 k1 (0 ∷ []) x → Cell 2 ≡ x
-white_only x h = elim (contains_cases (Cell 2) (Cell 1 ∷ Cell 0 ∷ []) x (present7 x h.present)) [ inl e ↦ e | inr t ↦ absurd (h.white.not_black (both_black x t)) ]
+white_only x h = elim (contains_cases (Cell 2) (Cell 1 ∷ Cell 0 ∷ []) x (present7 x h.present))
+    [ inl e ↦ e | inr t ↦ absurd (h.white.not_black (both_black x t)) ]
 
 abbrev k2 : Collection
 k2 = record k1 { marking = []; groups = Some [] }
 
 abbrev u2 : World
-u2 = record w7 { places = map.remove w7.places (Cell 2); out = 0 ∷ []; white = (Cell 2, (0, 2)) ∷ []; black = set.insert (set.insert set.empty (Cell 0)) (Cell 1); collection = Some k2 }
+u2 = record w7 {
+  places = map.remove w7.places (Cell 2);
+  out = 0 ∷ [];
+  white = (Cell 2, (0, 2)) ∷ [];
+  black = set.insert (set.insert set.empty (Cell 0)) (Cell 1);
+  collection = Some k2;
+}
 
 abbrev pub p8 : List (Name × (ℕ × ℕ))
 p8 = p4
 
 places8 : Places u2.places p4
-places8 x = after_remove u1 k1 (0 ∷ []) (Cell 2) (0, 2) (places6 (Cell 2)) white2 white_only x ∙ ap (λ o. cond (same_name x (Cell 2)) None o) (places6 x) ∙ go (same_name x (Cell 2)) refl
+places8 x = after_remove u1 k1 (0 ∷ []) (Cell 2) (0, 2) (places6 (Cell 2)) white2 white_only x
+    ∙ ap (λ o. cond (same_name x (Cell 2)) None o) (places6 x) ∙ go (same_name x (Cell 2)) refl
   where
     past : same_name x (Cell 2) ≡ true → place_in p4 x ≡ None
     past e = ap (place_in p4) (same_name-is x (Cell 2) e)
@@ -236,12 +279,16 @@ places8 x = after_remove u1 k1 (0 ∷ []) (Cell 2) (0, 2) (places6 (Cell 2)) whi
     go false e = refl
 
 black8 : Members u2.black (Cell 1 ∷ Cell 0 ∷ [])
-black8 = members_insert (set.insert set.empty (Cell 0)) (Cell 0 ∷ []) (Cell 1) (members_insert set.empty [] (Cell 0) members_empty)
+black8 = members_insert (set.insert set.empty (Cell 0)) (Cell 0 ∷ []) (Cell 1)
+    (members_insert set.empty [] (Cell 0) members_empty)
 
 ends : IsLawfulEnd u1 k1 (0 ∷ []) [] [] u2
 ends = record {
   ready = refl;
-  grays_are = record { ascending = tt; has = λ x. ((λ c. absurd (nothing_in_none x c)), λ g. absurd (g.gray.not_black (all_black x g.gray.live))) };
+  grays_are = record {
+    ascending = tt;
+    has = λ x. ((λ c. absurd (nothing_in_none x c)), λ g. absurd (g.gray.not_black (all_black x g.gray.live)));
+  };
   graph_is = refl;
   owner_is = refl;
   gone = one_gone u1 k1 (0 ∷ []) (Cell 2) (0, 2) (places6 (Cell 2)) white2 white_only;
@@ -251,7 +298,13 @@ ends = record {
   preparing_is = refl;
   collection_is = refl;
   black_are = λ s x. (
-    (λ h. let c = (black8 x).0 h in (both_black x c, each_has (λ z. IsPresent u2 z) (Cell 1 ∷ Cell 0 ∷ []) (ap is_some (places8 (Cell 1)), (ap is_some (places8 (Cell 0)), tt)) x c)),
+    (λ h. let c = (black8 x).0 h in (
+      both_black x c,
+      each_has (λ z. IsPresent u2 z) (Cell 1 ∷ Cell 0 ∷ []) (
+        ap is_some (places8 (Cell 1)),
+        (ap is_some (places8 (Cell 0)), tt),
+      ) x c,
+    )),
     λ h. (black8 x).1 (within k1 refl refl refl refl x (black_all x h.0)),
   );
 }
@@ -265,8 +318,22 @@ u3 = record u2 { out = []; white = []; collection = Some k3 }
 abbrev pub w8 : World
 w8 = record u3 { collection = None }
 
-pub a8 : (how : Beginning) → AnswersBy how w7 (Collect only_zone_0) (started how ++ (Groups (only_zone_0 ∷ []) ∷ Ended only_zone_0 [] [] ∷ Swept 0 (Cell 2 ∷ []) ∷ Done ∷ [])) reply.Collected w8
-a8 how = collect_lawful how w7 u0 u1 u2 u3 w8 [] (Cell 2 ∷ []) (prepares_one w7 (record { none_running = refl; none_preparing = refl }) (omega arith) (λ x h. all_in_zone x ((black7 x).0 h))) begins (forms_one_group u0 k0 refl refl refl) (record { collection = k1; rest = []; running = refl; first = refl; ends = ends; loses = loses_nothing _ _ refl refl }) (sweep_of_one u2 (Cell 2) 2 refl refl) (record { over = record { collection = k3; running = refl; ended = refl; none_out = refl }; world_is = refl }) refl
+pub a8 : (how : Beginning)
+    → AnswersBy how w7 (Collect only_zone_0)
+    (started how ++ (Groups (only_zone_0 ∷ []) ∷ Ended only_zone_0 [] [] ∷ Swept 0 (Cell 2 ∷ []) ∷ Done ∷ []))
+    reply.Collected w8
+a8 how = collect_lawful how w7 u0 u1 u2 u3 w8 [] (Cell 2 ∷ [])
+    (prepares_one w7 (record { none_running = refl; none_preparing = refl }) (omega arith)
+    (λ x h. all_in_zone x ((black7 x).0 h))) begins (forms_one_group u0 k0 refl refl refl)
+    (record {
+      collection = k1;
+      rest = [];
+      running = refl;
+      first = refl;
+      ends = ends;
+      loses = loses_nothing _ _ refl refl;
+    }) (sweep_of_one u2 (Cell 2) 2 refl refl)
+    (record { over = record { collection = k3; running = refl; ended = refl; none_out = refl }; world_is = refl }) refl
 
 abbrev pub w9 : World
 w9 = record w8 { graph = (step_of w8.graph (cmd.Get 2 0 0)).0 }
@@ -274,5 +341,7 @@ w9 = record w8 { graph = (step_of w8.graph (cmd.Get 2 0 0)).0 }
 pub a9 : Answers w8 (Graph (cmd.Get 2 0 0)) [] (reply.Named (Cell 1)) w9
 a9 = (refl, (refl, refl))
 
-pub linked_and_dropped_lawful : (how : Beginning) → IsLawfulOutputBy how linked_and_dropped (answers_linked_and_dropped how)
-linked_and_dropped_lawful how = (w9, (w1, a1, (w2, a2, (w3, a3, (w4, a4, (w5, a5, (w6, a6, (w7, a7, (w8, a8 how, (w9, a9, refl))))))))))
+pub linked_and_dropped_lawful : (how : Beginning)
+    → IsLawfulOutputBy how linked_and_dropped (answers_linked_and_dropped how)
+linked_and_dropped_lawful how =
+    (w9, (w1, a1, (w2, a2, (w3, a3, (w4, a4, (w5, a5, (w6, a6, (w7, a7, (w8, a8 how, (w9, a9, refl))))))))))

@@ -1,5 +1,6 @@
 -- Made and dropped while marking: the answers are lawful.
-use Rattle.std.proofs.Common.{◌≡◌, ℕ, zero, suc, ◌+◌, inl, inr, [], ◌∷◌, ◌++◌, refl, sym, ap, subst, ◌∙◌, arith, Some, None, is_some}
+use Rattle.std.proofs.Common.{◌≡◌, ℕ, zero, suc, ◌+◌, inl, inr, [], ◌∷◌, ◌++◌, refl, sym, ap, subst, ◌∙◌, arith, Some}
+use Rattle.std.proofs.Common.{None, is_some}
 use Rattle.std.specs.FinSet as set
 use Rattle.std.specs.FinMap as map
 use Rattle.gz_names.specs.declared.names.Name.{Name}
@@ -11,23 +12,37 @@ use Rattle.gz_names.specs.declared.replies.Report.TheVariants.{Started, Groups, 
 use Rattle.colour_defs.specs.Graph.{IsInZones}
 use Rattle.colour_defs.specs.Closure.{HasEdge, from}
 use Rattle.colour_defs.specs.Step.{step_of}
-use Rattle.colour_defs.specs.World.{World, Collection, first_preparation, Has, IsPresent, BlackClosure, LiveClosure, first_tally, no_weak_names}
+use Rattle.colour_defs.specs.World.{World, Collection, first_preparation, Has, IsPresent, BlackClosure, LiveClosure}
+use Rattle.colour_defs.specs.World.{first_tally, no_weak_names}
 use Rattle.colour_defs.specs.Ends.{IsLawfulEnd, IsWhiteOf}
-use Rattle.colour_defs.specs.Lawful.{Beginning, by_units, at_once, Answers, AnswersBy, Begins, BeginsBy, IsLawfulOutputBy}
-use Rattle.colour_defs.specs.Rows.{comp_0, only_zone_0, made_while_marking, answers_made_while_marking, started, units_to_start}
+use Rattle.colour_defs.specs.Lawful.{Beginning, by_units, at_once, Answers, AnswersBy, Begins, BeginsBy}
+use Rattle.colour_defs.specs.Lawful.{IsLawfulOutputBy}
+use Rattle.colour_defs.specs.Rows.{comp_0, only_zone_0, made_while_marking, answers_made_while_marking, started}
+use Rattle.colour_defs.specs.Rows.{units_to_start}
 use Rattle.colour_defs.proofs.Lists.{nothing_in_none, no_name_in_nulls}
 use Rattle.colour_defs.proofs.ZoneSets.{zones_in-first}
 use Rattle.colour_defs.proofs.ValidCommands.{insert_has}
 use Rattle.colour_defs.proofs.ValidRuns.{no_one, no_black}
-use Rattle.colour_defs.proofs.Finite.{Places, places_empty, places_insert, Members, members_empty, members_insert, no_name, reached_within, place_named, single}
+use Rattle.colour_defs.proofs.Finite.{Places, places_empty, places_insert, Members, members_empty, members_insert}
+use Rattle.colour_defs.proofs.Finite.{no_name, reached_within, place_named, single}
 use Rattle.colour_defs.proofs.Making.{room_first}
 use Rattle.colour_defs.proofs.Beginnings.{begun_world, begins_unit, begins_either}
-use Rattle.colour_defs.proofs.OneZone.{prepared, prepares_one, loses_nothing, grouped, forms_one_group, one_zone_units, one_zone_lawful, units_collect, sweep_of_nothing}
+use Rattle.colour_defs.proofs.OneZone.{prepared, prepares_one, loses_nothing, grouped, forms_one_group, one_zone_units}
+use Rattle.colour_defs.proofs.OneZone.{one_zone_lawful, units_collect, sweep_of_nothing}
 use Rattle.colour_defs.proofs.OneGarbage.{garbage_begun, garbage_freed, garbage_begins, garbage_units}
 use Rattle.colour_defs.proofs.LinkedAndDropped.{w1, w2, a1, a2}
 
 abbrev k0 : Collection
-k0 = record { zones = 0 ∷ []; marking = 0 ∷ []; snapshot = w2.graph; black_starts = set.empty; live_starts = set.empty; woken = set.empty; groups = None; tally = first_tally (prepared w2) (first_preparation w2 (0 ∷ [])) }
+k0 = record {
+  zones = 0 ∷ [];
+  marking = 0 ∷ [];
+  snapshot = w2.graph;
+  black_starts = set.empty;
+  live_starts = set.empty;
+  woken = set.empty;
+  groups = None;
+  tally = first_tally (prepared w2) (first_preparation w2 (0 ∷ []));
+}
 
 abbrev u0 : World
 u0 = record w2 { black = set.empty; collection = Some k0 }
@@ -45,8 +60,18 @@ begins = record {
   woken_is = refl;
   groups_are = refl;
   tally_is = refl;
-  black_starts = λ x. ((λ h. absurd (no_name x h)), λ h. elim h [ inl c ↦ absurd (no_name_in_nulls 16 x c) | inr b ↦ absurd (no_name x b) ]);
-  live_starts = λ x. ((λ h. absurd (no_name x h)), λ h. elim h [ inl b ↦ b | inr o ↦ elim o [ inl s ↦ absurd (no_name_in_nulls 64 x s) | inr p ↦ absurd (no_one x p.0) ] ]);
+  black_starts = λ x. (
+    (λ h. absurd (no_name x h)),
+    λ h. elim h [ inl c ↦ absurd (no_name_in_nulls 16 x c) | inr b ↦ absurd (no_name x b) ],
+  );
+  live_starts = λ x. (
+    (λ h. absurd (no_name x h)),
+    λ h. elim h [
+      | inl b ↦ b
+      | inr o
+          ↦ elim o [ inl s ↦ absurd (no_name_in_nulls 64 x s) | inr p ↦ absurd (no_one x p.0) ]
+    ],
+  );
 }
 
 abbrev begun_again : World
@@ -67,7 +92,12 @@ module _ (n : ℕ) where
   k2 = record k1 { woken = set.insert set.empty (Cell 0) }
 
   abbrev u2 : World
-  u2 = record u1 { graph = (step_of w2.graph (cmd.New 0 comp_0 0)).0; places = map.insert map.empty (Cell 0) (0, 0); owner = Some 0 ∷ []; collection = Some k2 }
+  u2 = record u1 {
+    graph = (step_of w2.graph (cmd.New 0 comp_0 0)).0;
+    places = map.insert map.empty (Cell 0) (0, 0);
+    owner = Some 0 ∷ [];
+    collection = Some k2;
+  }
 
   abbrev u3 : World
   u3 = record u2 { graph = (step_of u2.graph (cmd.Drop 0)).0 }
@@ -131,7 +161,9 @@ module _ (n : ℕ) where
   no_edge2 (Wrap c t) y e = cc e.1
 
   within : (x : Name) → LiveClosure k4 x → Cell 0 ≡ x
-  within x h = single (Cell 0) x (reached_within w2.graph _ (Cell 0 ∷ []) (λ y s. elim s [ inl a ↦ absurd (no_name y a) | inr t ↦ (awake y).0 t ]) (λ y z c d. absurd (no_edge2 y z d)) (λ m q v at hm hq. absurd (cc at)) (λ m v c t at hm ht. absurd (cc at)) h)
+  within x h = single (Cell 0) x
+      (reached_within w2.graph _ (Cell 0 ∷ []) (λ y s. elim s [ inl a ↦ absurd (no_name y a) | inr t ↦ (awake y).0 t ])
+      (λ y z c d. absurd (no_edge2 y z d)) (λ m q v at hm hq. absurd (cc at)) (λ m v c t at hm ht. absurd (cc at)) h)
 
   black0 : BlackClosure k4 (Cell 0)
   black0 = from (inr (insert_has set.empty (Cell 0)))
@@ -142,7 +174,13 @@ module _ (n : ℕ) where
   ends : IsLawfulEnd u4 k4 (0 ∷ []) [] [] u5
   ends = record {
     ready = refl;
-    grays_are = record { ascending = tt; has = λ x. ((λ c. absurd (nothing_in_none x c)), λ g. absurd (g.gray.not_black (subst (λ z. BlackClosure k4 z) (present x g.present) black0))) };
+    grays_are = record {
+      ascending = tt;
+      has = λ x. (
+        (λ c. absurd (nothing_in_none x c)),
+        λ g. absurd (g.gray.not_black (subst (λ z. BlackClosure k4 z) (present x g.present) black0)),
+      );
+    };
     graph_is = refl;
     owner_is = refl;
     gone = λ x h. absurd (no_white x h);
@@ -157,7 +195,8 @@ module _ (n : ℕ) where
     );
   }
 
-  finished : Answers u3 Finish (Groups (only_zone_0 ∷ []) ∷ Ended only_zone_0 [] [] ∷ Swept 0 [] ∷ Done ∷ []) (reply.Sliced 3) u7
+  finished : Answers u3 Finish (Groups (only_zone_0 ∷ []) ∷ Ended only_zone_0 [] [] ∷ Swept 0 [] ∷ Done ∷ [])
+      (reply.Sliced 3) u7
   finished = inl (
     3,
     refl,
@@ -165,7 +204,19 @@ module _ (n : ℕ) where
       running = inl (k2, refl);
       units = one_zone_units [] [] [];
       after = u7;
-      done = one_zone_lawful u3 u4 u5 u6 u7 [] [] [] (forms_one_group u3 k2 refl refl refl) (record { collection = k4; rest = []; running = refl; first = refl; ends = ends; loses = loses_nothing _ _ refl refl }) (sweep_of_nothing u5 refl refl) (record { over = record { collection = k6; running = refl; ended = refl; none_out = refl }; world_is = refl });
+      done = one_zone_lawful u3 u4 u5 u6 u7 [] [] [] (forms_one_group u3 k2 refl refl refl)
+          (record {
+            collection = k4;
+            rest = [];
+            running = refl;
+            first = refl;
+            ends = ends;
+            loses = loses_nothing _ _ refl refl;
+          }) (sweep_of_nothing u5 refl refl)
+          (record {
+            over = record { collection = k6; running = refl; ended = refl; none_out = refl };
+            world_is = refl;
+          });
       number = refl;
       reports_are = refl;
       world_is = refl;
@@ -177,10 +228,19 @@ module _ (n : ℕ) where
   in_zone : (x : Name) → Cell 0 ≡ x → IsInZones u7.graph (0 ∷ []) x
   in_zone x e = subst (λ z. IsInZones u7.graph (0 ∷ []) z) e refl
 
-  collected : (how : Beginning) → AnswersBy how u7 (Collect only_zone_0) (started how ++ (Groups (only_zone_0 ∷ []) ∷ Ended only_zone_0 [] [] ∷ Swept 0 (Cell 0 ∷ []) ∷ Done ∷ [])) reply.Collected freed
-  collected how = units_collect how u7 begun_again freed [] [] (Cell 0 ∷ []) (prepares_one u7 (record { none_running = refl; none_preparing = refl }) (omega arith) (λ x h. in_zone x (single (Cell 0) x ((awake x).0 h)))) (garbage_begins 1 no_weak_names no_weak_names []) (garbage_units 1 no_weak_names no_weak_names [] (loses_nothing _ _ refl refl)) (record { none_running = refl; none_preparing = refl })
+  collected : (how : Beginning)
+      → AnswersBy how u7 (Collect only_zone_0)
+      (started how ++ (Groups (only_zone_0 ∷ []) ∷ Ended only_zone_0 [] [] ∷ Swept 0 (Cell 0 ∷ []) ∷ Done ∷ []))
+      reply.Collected freed
+  collected how = units_collect how u7 begun_again freed [] [] (Cell 0 ∷ [])
+      (prepares_one u7 (record { none_running = refl; none_preparing = refl }) (omega arith)
+      (λ x h. in_zone x (single (Cell 0) x ((awake x).0 h)))) (garbage_begins 1 no_weak_names no_weak_names [])
+      (garbage_units 1 no_weak_names no_weak_names [] (loses_nothing _ _ refl refl))
+      (record { none_running = refl; none_preparing = refl })
 
-first_slice : (how : Beginning) → AnswersBy how (begun_world how (prepared w2) u0) (Slice (units_to_start how)) (started how) (reply.Sliced (units_to_start how)) (u1 (units_to_start how))
+first_slice : (how : Beginning)
+    → AnswersBy how (begun_world how (prepared w2) u0) (Slice (units_to_start how)) (started how)
+    (reply.Sliced (units_to_start how)) (u1 (units_to_start how))
 first_slice by_units = inl (
   1,
   refl,
@@ -199,13 +259,48 @@ first_slice by_units = inl (
 first_slice at_once = inl (
   0,
   refl,
-  record { running = inl (k0, refl); units = []; after = u0; done = refl; number = refl; reports_are = refl; world_is = refl },
+  record {
+    running = inl (k0, refl);
+    units = [];
+    after = u0;
+    done = refl;
+    number = refl;
+    reports_are = refl;
+    world_is = refl;
+  },
   omega arith,
   λ h. absurd (omega arith),
 )
 
 begun : (how : Beginning) → AnswersBy how w2 (Gc only_zone_0) [] reply.GcBegun (begun_world how (prepared w2) u0)
-begun how = inl (refl, refl, subst (λ z. BeginsBy how w2 z (begun_world how (prepared w2) u0)) (sym zones_in-first) (begins_either how (0 ∷ []) w2 (prepared w2) u0 (prepares_one w2 (record { none_running = refl; none_preparing = refl }) (omega arith) (λ x h. absurd (no_black x h))) begins))
+begun how = inl (
+  refl,
+  refl,
+  subst (λ z. BeginsBy how w2 z (begun_world how (prepared w2) u0)) (sym zones_in-first)
+      (begins_either how (0 ∷ []) w2 (prepared w2) u0
+      (prepares_one w2 (record { none_running = refl; none_preparing = refl }) (omega arith)
+      (λ x h. absurd (no_black x h))) begins),
+)
 
-pub made_while_marking_lawful : (how : Beginning) → IsLawfulOutputBy how (made_while_marking how) (answers_made_while_marking how)
-made_while_marking_lawful how = let n = units_to_start how in (freed, (w1, a1, (w2, a2, (begun_world how (prepared w2) u0, begun how, (u1 n, first_slice how, (u2 n, made n, (u3 n, (refl, (refl, refl)), (u7 n, finished n, (freed, collected n how, refl)))))))))
+pub made_while_marking_lawful : (how : Beginning)
+    → IsLawfulOutputBy how (made_while_marking how) (answers_made_while_marking how)
+made_while_marking_lawful how = let n = units_to_start how in (
+  freed,
+  (
+    w1,
+    a1,
+    (
+      w2,
+      a2,
+      (
+        begun_world how (prepared w2) u0,
+        begun how,
+        (
+          u1 n,
+          first_slice how,
+          (u2 n, made n, (u3 n, (refl, (refl, refl)), (u7 n, finished n, (freed, collected n how, refl)))),
+        ),
+      ),
+    ),
+  ),
+)

@@ -1,6 +1,8 @@
--- A collection of zone 0 alone, which has all cells, by units: its marking begins, in a unit or at once; the groups, the
+-- A collection of zone 0 alone, which has all cells, by units: its marking begins, in a unit or at once; the groups,
+-- the
 -- end of the only group, and the sweep of its only arena with `done`.
-use Rattle.std.proofs.Common.{◌≡◌, ℕ, inl, inr, List, [], ◌∷◌, ◌++◌, ◌<◌, refl, sym, ap, subst, ◌∙◌, Some, None, Contains, map}
+use Rattle.std.proofs.Common.{◌≡◌, ℕ, inl, inr, List, [], ◌∷◌, ◌++◌, ◌<◌, refl, sym, ap, subst, ◌∙◌, Some, None}
+use Rattle.std.proofs.Common.{Contains, map}
 use Rattle.gz_names.specs.declared.names.Name.{Name}
 use Rattle.gz_names.specs.declared.commands.Cmd.TheVariants.{Collect}
 use Rattle.gz_names.specs.declared.replies.Reply.TheVariants as reply
@@ -11,7 +13,8 @@ use Rattle.colour_defs.specs.Graph.{IsInZones}
 use Rattle.colour_defs.specs.World.{World, WeakNames, Collection, Has, IsIdle, no_weak_names, first_preparation}
 use Rattle.colour_defs.specs.WeakRefs.{LosesWeak, if_present}
 use Rattle.colour_defs.specs.Groups.{AreLawfulGroups, IsFirstEdge, LeadsWithin, here, AreAscending}
-use Rattle.colour_defs.specs.Lawful.{FormsGroups, EndsGroup, IsLawfulSweep, Finishes, IsOver, IsLawfulUnit, says, last, AreLawfulUnits, Beginning, Prepares, Begins, BeginsBy, AnswersBy, with_sweep}
+use Rattle.colour_defs.specs.Lawful.{FormsGroups, EndsGroup, IsLawfulSweep, Finishes, IsOver, IsLawfulUnit, says, last}
+use Rattle.colour_defs.specs.Lawful.{AreLawfulUnits, Beginning, Prepares, Begins, BeginsBy, AnswersBy, with_sweep}
 use Rattle.colour_defs.specs.Rows.{only_zone_0, started}
 use Rattle.colour_defs.proofs.Beginnings.{begun_world, starting_units, begins_either, units_either, reports_either}
 use Rattle.colour_defs.proofs.Lists.{nothing_in_none, contains_head}
@@ -36,14 +39,17 @@ one_group w k zones = record {
 abbrev pub grouped : Collection → Collection
 grouped k = record k { groups = Some ((0 ∷ []) ∷ []) }
 
-pub forms_one_group : (w : World) (k : Collection) → w.collection ≡ Some k → k.groups ≡ None → k.zones ≡ 0 ∷ [] → FormsGroups w ((0 ∷ []) ∷ []) (record w { collection = Some (grouped k) })
-forms_one_group w k running none zones = record { collection = k; running = running; none_yet = none; lawful = one_group w k zones; world_is = refl }
+pub forms_one_group : (w : World) (k : Collection) → w.collection ≡ Some k → k.groups ≡ None → k.zones ≡ 0 ∷ []
+    → FormsGroups w ((0 ∷ []) ∷ []) (record w { collection = Some (grouped k) })
+forms_one_group w k running none zones =
+    record { collection = k; running = running; none_yet = none; lawful = one_group w k zones; world_is = refl }
 
 -- zone 0 is prepared: no cell is black from then on
 abbrev pub prepared : World → World
 prepared w = record w { black = set.empty; preparing = Some (first_preparation w (0 ∷ [])) }
 
-pub prepares_one : (w : World) → IsIdle w → 0 < w.graph.zones → ((x : Name) → Has w.black x → IsInZones w.graph (0 ∷ []) x) → Prepares w (0 ∷ []) (prepared w)
+pub prepares_one : (w : World) → IsIdle w → 0 < w.graph.zones
+    → ((x : Name) → Has w.black x → IsInZones w.graph (0 ∷ []) x) → Prepares w (0 ∷ []) (prepared w)
 prepares_one w idle made mine = record {
   idle = idle;
   made = λ z c. subst (λ n. n < w.graph.zones) (single 0 z c) made;
@@ -56,19 +62,37 @@ prepares_one w idle made mine = record {
 pub loses_nothing : (w v : World) → w.weak ≡ no_weak_names → v.weak ≡ no_weak_names → LosesWeak w [] v
 loses_nothing w v ew ev = record {
   slots_are = ap (λ (n : WeakNames). n.slots) ev ∙ sym (ap (λ (n : WeakNames). map (if_present v) n.slots) ew);
-  watched_are = λ x. ((λ h. absurd (no_name x (subst (λ (n : WeakNames). Has n.watched x) ev h))), λ h. absurd (no_name x (subst (λ (n : WeakNames). Has n.watched x) ew h.0)));
-  told_are = record { ascending = tt; has = λ x. ((λ c. absurd (nothing_in_none x c)), λ h. absurd (no_name x (subst (λ (n : WeakNames). Has n.watched x) ew h.0))) };
+  watched_are = λ x. (
+    (λ h. absurd (no_name x (subst (λ (n : WeakNames). Has n.watched x) ev h))),
+    λ h. absurd (no_name x (subst (λ (n : WeakNames). Has n.watched x) ew h.0)),
+  );
+  told_are = record {
+    ascending = tt;
+    has = λ x. (
+      (λ c. absurd (nothing_in_none x c)),
+      λ h. absurd (no_name x (subst (λ (n : WeakNames). Has n.watched x) ew h.0)),
+    );
+  };
 }
 
 -- the three units after the beginning
 abbrev pub one_zone_units : List Name → List Name → List Name → List (List Report)
-one_zone_units grays told freed = (Groups (only_zone_0 ∷ []) ∷ []) ∷ (Ended only_zone_0 grays told ∷ []) ∷ (Swept 0 freed ∷ Done ∷ []) ∷ []
+one_zone_units grays told freed = (Groups (only_zone_0 ∷ []) ∷ []) ∷ (Ended only_zone_0 grays told ∷ [])
+    ∷ (Swept 0 freed ∷ Done ∷ []) ∷ []
 
-pub one_zone_lawful : (u0 u1 u2 u3 v : World) (grays told freed : List Name) → FormsGroups u0 ((0 ∷ []) ∷ []) u1 → EndsGroup u1 (0 ∷ []) grays told u2 → IsLawfulSweep u2 0 freed u3 → Finishes u3 v → AreLawfulUnits u0 (one_zone_units grays told freed) v
+pub one_zone_lawful : (u0 u1 u2 u3 v : World) (grays told freed : List Name) → FormsGroups u0 ((0 ∷ []) ∷ []) u1
+    → EndsGroup u1 (0 ∷ []) grays told u2 → IsLawfulSweep u2 0 freed u3 → Finishes u3 v
+    → AreLawfulUnits u0 (one_zone_units grays told freed) v
 one_zone_lawful u0 u1 u2 u3 v grays told freed f e s d = (
   u1,
-  says (inl (f.collection, f.running)) (λ q. cc q) (subst (λ z. FormsGroups u0 (z ∷ []) u1) (sym zones_in-first) f) not_over,
-  (u2, says (inl (e.collection, e.running)) (λ q. cc q) (subst (λ z. EndsGroup u1 z grays told u2) (sym zones_in-first) e) (λ o. cc (s.first, o.none_out)), (v, last (inl (_, e.ends.collection_is)) (λ q. cc q) s d, refl)),
+  says (inl (f.collection, f.running)) (λ q. cc q) (subst (λ z. FormsGroups u0 (z ∷ []) u1) (sym zones_in-first) f)
+      not_over,
+  (
+    u2,
+    says (inl (e.collection, e.running)) (λ q. cc q)
+        (subst (λ z. EndsGroup u1 z grays told u2) (sym zones_in-first) e) (λ o. cc (s.first, o.none_out)),
+    (v, last (inl (_, e.ends.collection_is)) (λ q. cc q) s d, refl),
+  ),
 )
   where
     not_over : IsOver u1 → ⊥
@@ -77,12 +101,17 @@ one_zone_lawful u0 u1 u2 u3 v grays told freed f e s d = (
         cc (ap (λ (k : Collection). k.groups) same, o.ended)
 
 -- a whole collection, by the units after its beginning
-pub units_collect : (how : Beginning) (w u v : World) (grays told freed : List Name) → Prepares w (0 ∷ []) (prepared w) → Begins (prepared w) (0 ∷ []) u → AreLawfulUnits u (one_zone_units grays told freed) v → IsIdle v → AnswersBy how w (Collect only_zone_0) (started how ++ (Groups (only_zone_0 ∷ []) ∷ Ended only_zone_0 grays told ∷ Swept 0 freed ∷ Done ∷ [])) reply.Collected v
+pub units_collect : (how : Beginning) (w u v : World) (grays told freed : List Name) → Prepares w (0 ∷ []) (prepared w)
+    → Begins (prepared w) (0 ∷ []) u → AreLawfulUnits u (one_zone_units grays told freed) v → IsIdle v
+    → AnswersBy how w (Collect only_zone_0)
+    (started how ++ (Groups (only_zone_0 ∷ []) ∷ Ended only_zone_0 grays told ∷ Swept 0 freed ∷ Done ∷ []))
+    reply.Collected v
 units_collect how w u v grays told freed p b units idle = inl (
   refl,
   record {
     begun = begun_world how (prepared w) u;
-    begins = subst (λ z. BeginsBy how w z (begun_world how (prepared w) u)) (sym zones_in-first) (begins_either how (0 ∷ []) w (prepared w) u p b);
+    begins = subst (λ z. BeginsBy how w z (begun_world how (prepared w) u)) (sym zones_in-first)
+        (begins_either how (0 ∷ []) w (prepared w) u p b);
     units = starting_units how ++ one_zone_units grays told freed;
     done = units_either how (0 ∷ []) (prepared w) u b (one_zone_units grays told freed) v units;
     reports_are = reports_either how (one_zone_units grays told freed);
@@ -90,17 +119,27 @@ units_collect how w u v grays told freed p b units idle = inl (
   },
 )
 
-pub collect_lawful : (how : Beginning) (w u0 u1 u2 u3 v : World) (grays freed : List Name) → Prepares w (0 ∷ []) (prepared w) → Begins (prepared w) (0 ∷ []) u0 → FormsGroups u0 ((0 ∷ []) ∷ []) u1 → EndsGroup u1 (0 ∷ []) grays [] u2 → IsLawfulSweep u2 0 freed u3 → Finishes u3 v → v.preparing ≡ None → AnswersBy how w (Collect only_zone_0) (started how ++ (Groups (only_zone_0 ∷ []) ∷ Ended only_zone_0 grays [] ∷ Swept 0 freed ∷ Done ∷ [])) reply.Collected v
+pub collect_lawful : (how : Beginning) (w u0 u1 u2 u3 v : World) (grays freed : List Name)
+    → Prepares w (0 ∷ []) (prepared w) → Begins (prepared w) (0 ∷ []) u0 → FormsGroups u0 ((0 ∷ []) ∷ []) u1
+    → EndsGroup u1 (0 ∷ []) grays [] u2 → IsLawfulSweep u2 0 freed u3 → Finishes u3 v → v.preparing ≡ None
+    → AnswersBy how w (Collect only_zone_0)
+    (started how ++ (Groups (only_zone_0 ∷ []) ∷ Ended only_zone_0 grays [] ∷ Swept 0 freed ∷ Done ∷ []))
+    reply.Collected v
 collect_lawful how w u0 u1 u2 u3 v grays freed p b f e s d calm =
-    units_collect how w u0 v grays [] freed p b (one_zone_lawful u0 u1 u2 u3 v grays [] freed f e s d) (record { none_running = ap (λ (z : World). z.collection) d.world_is; none_preparing = calm })
+    units_collect how w u0 v grays [] freed p b (one_zone_lawful u0 u1 u2 u3 v grays [] freed f e s d)
+    (record { none_running = ap (λ (z : World). z.collection) d.world_is; none_preparing = calm })
 
 -- an arena without white cells
-pub sweep_of_nothing : (u : World) → u.out ≡ 0 ∷ [] → u.white ≡ [] → IsLawfulSweep u 0 [] (record u { out = []; white = []; collection = with_sweep u.collection })
+pub sweep_of_nothing : (u : World) → u.out ≡ 0 ∷ [] → u.white ≡ []
+    → IsLawfulSweep u 0 [] (record u { out = []; white = []; collection = with_sweep u.collection })
 sweep_of_nothing u out white = record {
   rest = [];
   first = out;
   world_is = refl;
-  freed_are = record { ascending = tt; has = λ x. ((λ c. absurd (nothing_in_none x c)), λ h. absurd (none x (0, h.0) h.1)) };
+  freed_are = record {
+    ascending = tt;
+    has = λ x. ((λ c. absurd (nothing_in_none x c)), λ h. absurd (none x (0, h.0) h.1));
+  };
   white_are = λ x p. ((λ c. absurd (nothing_in_none (x, p) c)), λ h. absurd (none x p h.0));
 }
   where

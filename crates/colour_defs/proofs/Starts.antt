@@ -1,34 +1,46 @@
 -- What a command may have written before its last line.
 use Rattle.std.proofs.Common.{◌≡◌, ◌≤◌, ℕ, inl, inr, List, [], ◌∷◌, ◌++◌, refl, subst, sym, arith}
 use Rattle.gz_names.specs.declared.commands.Cmd.{Cmd}
-use Rattle.gz_names.specs.declared.commands.Cmd.TheVariants.{Graph, Weak, Gc, Slice, Finish, Collect, Reset, Colours, Dump, Compact}
+use Rattle.gz_names.specs.declared.commands.Cmd.TheVariants.{Graph, Weak, Gc, Slice, Finish, Collect, Reset, Colours}
+use Rattle.gz_names.specs.declared.commands.Cmd.TheVariants.{Dump, Compact}
 use Rattle.gz_names.specs.declared.replies.Reply.{Reply}
 use Rattle.gz_names.specs.declared.replies.Report.{Report}
 use Rattle.gz_names.specs.Zones.{zones_in}
 use Rattle.colour_defs.specs.World.{World}
 use Rattle.colour_defs.specs.Lawful.{Beginning, AnswersBy, AreLawfulUnits, StartsToAnswerBy, DoesUnits, RefusesToBegin}
 
-pub first_units : (w : World) (units more : List (List Report)) (v : World) → AreLawfulUnits w (units ++ more) v → (u : World) × AreLawfulUnits w units u × AreLawfulUnits u more v
+pub first_units : (w : World) (units more : List (List Report)) (v : World) → AreLawfulUnits w (units ++ more) v
+    → (u : World) × AreLawfulUnits w units u × AreLawfulUnits u more v
 first_units w [] more v h = (w, refl, h)
-first_units w (unit ∷ units) more v (u, first, rest) = let m = first_units u units more v rest in (m.0, (u, first, m.1), m.2)
+first_units w (unit ∷ units) more v (u, first, rest) = let m = first_units u units more v rest in
+    (m.0, (u, first, m.1), m.2)
 
 no_units : (w : World) (reports : List Report) → reports ≡ [] → DoesUnits w [] reports
 no_units w reports e = record { after = w; done = refl; reports_are = e }
 
-refusal_silent : (w : World) (zones : List ℕ) (reports : List Report) (answer : Reply) (v : World) → RefusesToBegin w zones reports answer v → reports ≡ []
+refusal_silent : (w : World) (zones : List ℕ) (reports : List Report) (answer : Reply) (v : World)
+    → RefusesToBegin w zones reports answer v → reports ≡ []
 refusal_silent w zones reports answer v (inl h) = h.2.silent
 refusal_silent w zones reports answer v (inr h) = h.3.silent
 
-pub answer_starts : (how : Beginning) (w : World) (c : Cmd) (reports : List Report) (answer : Reply) (v : World) → AnswersBy how w c reports answer v → StartsToAnswerBy how w c reports
+pub answer_starts : (how : Beginning) (w : World) (c : Cmd) (reports : List Report) (answer : Reply) (v : World)
+    → AnswersBy how w c reports answer v → StartsToAnswerBy how w c reports
 answer_starts how w (Graph c) reports answer v h = h.0
 answer_starts how w (Gc zones) reports answer v (inl h) = h.1
 answer_starts how w (Gc zones) reports answer v (inr h) = refusal_silent w (zones_in zones) reports answer v h
-answer_starts how w (Slice n) reports answer v (inl h) = let s = h.2 in (s.units, subst (λ k. k ≤ n) (sym s.number) h.3, record { after = s.after; done = s.done; reports_are = s.reports_are })
+answer_starts how w (Slice n) reports answer v (inl h) = let s = h.2 in (
+  s.units,
+  subst (λ k. k ≤ n) (sym s.number) h.3,
+  record { after = s.after; done = s.done; reports_are = s.reports_are },
+)
 answer_starts how w (Slice n) reports answer v (inr h) = ([], omega arith, no_units w reports h.2.silent)
-answer_starts how w Finish reports answer v (inl h) = let s = h.2 in (s.units, record { after = s.after; done = s.done; reports_are = s.reports_are })
+answer_starts how w Finish reports answer v (inl h) = let s = h.2 in
+    (s.units, record { after = s.after; done = s.done; reports_are = s.reports_are })
 answer_starts how w Finish reports answer v (inr h) = ([], no_units w reports h.2.silent)
-answer_starts how w (Collect zones) reports answer v (inl h) = let s = h.1 in inr (s.begun, s.begins, s.units, record { after = v; done = s.done; reports_are = s.reports_are })
-answer_starts how w (Collect zones) reports answer v (inr h) = inl (refusal_silent w (zones_in zones) reports answer v h)
+answer_starts how w (Collect zones) reports answer v (inl h) = let s = h.1 in
+    inr (s.begun, s.begins, s.units, record { after = v; done = s.done; reports_are = s.reports_are })
+answer_starts how w (Collect zones) reports answer v (inr h) =
+    inl (refusal_silent w (zones_in zones) reports answer v h)
 answer_starts how w (Weak c) reports answer v h = h.0
 answer_starts how w Reset reports answer v (inl h) = inr (h.1.running, inr (v, h.1))
 answer_starts how w Reset reports answer v (inr h) = inl h.2.silent

@@ -1,5 +1,6 @@
 -- Lawful runs lead through valid worlds.
-use Rattle.std.proofs.Common.{◌≡◌, ℕ, inl, inr, List, [], ◌∷◌, refl, sym, ap, subst, Option, Some, None, is_some, slice_index_or, replicate}
+use Rattle.std.proofs.Common.{◌≡◌, ℕ, inl, inr, List, [], ◌∷◌, refl, sym, ap, subst, Option, Some, None, is_some}
+use Rattle.std.proofs.Common.{slice_index_or, replicate}
 use Rattle.gz_names.specs.Zones.{zones_in}
 use Rattle.std.specs.FinSet as set
 use Rattle.std.specs.FinMap as map
@@ -9,32 +10,43 @@ use Rattle.gz_names.specs.declared.names.Name.TheVariants.{Cell, Wrap}
 use Rattle.colour_defs.specs.Closure.{HasEdge}
 use Rattle.colour_defs.specs.World.{World, Has, IsPresent, first_world}
 use Rattle.gz_names.specs.declared.replies.Report.{Report}
-use Rattle.gz_names.specs.declared.commands.Cmd.TheVariants.{Graph, Weak, Gc, Slice, Finish, Collect, Reset, Colours, Dump, Compact}
+use Rattle.gz_names.specs.declared.commands.Cmd.TheVariants.{Graph, Weak, Gc, Slice, Finish, Collect, Reset, Colours}
+use Rattle.gz_names.specs.declared.commands.Cmd.TheVariants.{Dump, Compact}
 use Rattle.gz_names.specs.declared.commands.Cmd.{Cmd}
 use Rattle.gz_names.specs.declared.replies.Reply.{Reply}
-use Rattle.colour_defs.specs.Lawful.{Beginning, by_units, at_once, BeginsBy, AnswersBy, Slices, RunBy, RefusesToBegin, RefusesIdle}
+use Rattle.colour_defs.specs.Lawful.{Beginning, by_units, at_once, BeginsBy, AnswersBy, Slices, RunBy, RefusesToBegin}
+use Rattle.colour_defs.specs.Lawful.{RefusesIdle}
 use Rattle.colour_defs.specs.Laws.{IsValid}
 use Rattle.colour_defs.proofs.Lists.{get_contains, no_name_in_nulls}
 use Rattle.colour_defs.proofs.ValidCommands.{command_valid}
 use Rattle.colour_defs.proofs.ValidWeak.{weak_valid}
 use Rattle.colour_defs.proofs.ValidCompaction.{compact_valid}
-use Rattle.colour_defs.proofs.ValidReports.{units_valid, prepare_valid, begin_valid, reset_valid, retallied_valid, spent_retallied, preparing_respent}
+use Rattle.colour_defs.proofs.ValidReports.{units_valid, prepare_valid, begin_valid, reset_valid, retallied_valid}
+use Rattle.colour_defs.proofs.ValidReports.{spent_retallied, preparing_respent}
 
 slice_valid : (w : World) (reports : List Report) (n : ℕ) (v : World) → IsValid w → Slices w reports n v → IsValid v
-slice_valid w reports n v ok s = subst (λ z. IsValid z) (sym s.world_is) (retallied_valid s.after s.after.out s.after.white (units_valid w s.units s.after ok s.done) (spent_retallied n s.after.collection) refl (preparing_respent n s.after.preparing) refl)
+slice_valid w reports n v ok s =
+    subst (λ z. IsValid z) (sym s.world_is)
+    (retallied_valid s.after s.after.out s.after.white (units_valid w s.units s.after ok s.done)
+    (spent_retallied n s.after.collection) refl (preparing_respent n s.after.preparing) refl)
 
-refused_valid : (w : World) (zones : List ℕ) (reports : List Report) (answer : Reply) (v : World) → IsValid w → RefusesToBegin w zones reports answer v → IsValid v
+refused_valid : (w : World) (zones : List ℕ) (reports : List Report) (answer : Reply) (v : World) → IsValid w
+    → RefusesToBegin w zones reports answer v → IsValid v
 refused_valid w zones reports answer v ok (inl h) = subst (λ z. IsValid z) (sym h.2.same) ok
 refused_valid w zones reports answer v ok (inr h) = subst (λ z. IsValid z) (sym h.3.same) ok
 
-idle_valid : (w : World) (reports : List Report) (answer : Reply) (v : World) → IsValid w → RefusesIdle w reports answer v → IsValid v
+idle_valid : (w : World) (reports : List Report) (answer : Reply) (v : World) → IsValid w
+    → RefusesIdle w reports answer v → IsValid v
 idle_valid w reports answer v ok h = subst (λ z. IsValid z) (sym h.2.same) ok
 
-pub beginning_valid : (how : Beginning) (w : World) (zones : List ℕ) (v : World) → IsValid w → BeginsBy how w zones v → IsValid v
+pub beginning_valid : (how : Beginning) (w : World) (zones : List ℕ) (v : World) → IsValid w → BeginsBy how w zones v
+    → IsValid v
 beginning_valid by_units w zones v ok h = prepare_valid w zones v ok h
-beginning_valid at_once w zones v ok h = begin_valid h.between zones v (prepare_valid w zones h.between ok h.prepares) h.begins
+beginning_valid at_once w zones v ok h = begin_valid h.between zones v (prepare_valid w zones h.between ok h.prepares)
+    h.begins
 
-pub answer_valid : (how : Beginning) (w : World) (c : Cmd) (reports : List Report) (answer : Reply) (v : World) → IsValid w → AnswersBy how w c reports answer v → IsValid v
+pub answer_valid : (how : Beginning) (w : World) (c : Cmd) (reports : List Report) (answer : Reply) (v : World)
+    → IsValid w → AnswersBy how w c reports answer v → IsValid v
 answer_valid how w (Graph c) reports answer v ok h = command_valid w v c answer ok h.1
 answer_valid how w (Weak c) reports answer v ok h = weak_valid w v c answer ok h.1
 answer_valid how w (Gc zones) reports answer v ok (inl h) = beginning_valid how w (zones_in zones) v ok h.2
@@ -43,7 +55,8 @@ answer_valid how w (Slice n) reports answer v ok (inl h) = slice_valid w reports
 answer_valid how w (Slice n) reports answer v ok (inr h) = idle_valid w reports answer v ok h
 answer_valid how w Finish reports answer v ok (inl h) = slice_valid w reports h.0 v ok h.2
 answer_valid how w Finish reports answer v ok (inr h) = idle_valid w reports answer v ok h
-answer_valid how w (Collect zones) reports answer v ok (inl h) = units_valid h.1.begun h.1.units v (beginning_valid how w (zones_in zones) h.1.begun ok h.1.begins) h.1.done
+answer_valid how w (Collect zones) reports answer v ok (inl h) =
+    units_valid h.1.begun h.1.units v (beginning_valid how w (zones_in zones) h.1.begun ok h.1.begins) h.1.done
 answer_valid how w (Collect zones) reports answer v ok (inr h) = refused_valid w (zones_in zones) reports answer v ok h
 answer_valid how w Reset reports answer v ok (inl h) = reset_valid w reports v ok h.1
 answer_valid how w Reset reports answer v ok (inr h) = idle_valid w reports answer v ok h
@@ -54,9 +67,11 @@ answer_valid how w Dump reports answer v ok (inr h) = subst (λ z. IsValid z) (s
 answer_valid how w (Compact zone) reports answer v ok (inl h) = compact_valid w zone h.0 h.1 v ok h.4
 answer_valid how w (Compact zone) reports answer v ok (inr h) = refused_valid w (zone ∷ []) reports answer v ok h
 
-pub run_valid : (how : Beginning) (w : World) (cs : List Cmd) (answers : List (List Report × Reply)) (v : World) → IsValid w → RunBy how w cs answers v → IsValid v
+pub run_valid : (how : Beginning) (w : World) (cs : List Cmd) (answers : List (List Report × Reply)) (v : World)
+    → IsValid w → RunBy how w cs answers v → IsValid v
 run_valid how w [] [] v ok h = subst (λ z. IsValid z) (sym h) ok
-run_valid how w (c ∷ cs) (a ∷ answers) v ok (u, first, rest) = run_valid how u cs answers v (answer_valid how w c a.0 a.1 u ok first) rest
+run_valid how w (c ∷ cs) (a ∷ answers) v ok (u, first, rest) =
+    run_valid how u cs answers v (answer_valid how w c a.0 a.1 u ok first) rest
 run_valid how w [] (a ∷ answers) v ok h = absurd h
 run_valid how w (c ∷ cs) [] v ok h = absurd h
 
@@ -95,7 +110,12 @@ first_valid = record {
   made = λ x p. absurd (no_one x p);
   settled = λ s. record {
     present = λ x h. absurd (no_black x h);
-    closed = record { registers = λ r x e. absurd (nothing_held 16 r x e); edges = λ x y h e. absurd (no_edge x y e); entries = λ m k v e p q. absurd (cc e); delegates = λ m v c t e p q. absurd (cc e) };
+    closed = record {
+      registers = λ r x e. absurd (nothing_held 16 r x e);
+      edges = λ x y h e. absurd (no_edge x y e);
+      entries = λ m k v e p q. absurd (cc e);
+      delegates = λ m v c t e p q. absurd (cc e);
+    };
   };
   preparing = λ p e. absurd (cc e);
   running = λ k e. absurd (cc e);

@@ -1,6 +1,9 @@
--- Named by a weak slot and watched: the answers are lawful, and are not where the slot keeps the cell. Then a compaction:
+-- Named by a weak slot and watched: the answers are lawful, and are not where the slot keeps the cell. Then a
+-- compaction:
 -- its answers are lawful, and are not where the arena is kept.
-use Rattle.std.proofs.Common.{◌≡◌, ◌<◌, ℕ, inl, inr, List, [], ◌∷◌, ◌++◌, Bool, true, false, ◌||◌, cond, if◌then◌else◌, refl, sym, ap, subst, ◌∙◌, arith, length, Option, Some, None, Contains, is_some, replicate, slice_set, slice_get}
+use Rattle.std.proofs.Common.{◌≡◌, ◌<◌, ℕ, inl, inr, List, [], ◌∷◌, ◌++◌, Bool, true, false, ◌||◌, cond, if◌then◌else◌}
+use Rattle.std.proofs.Common.{refl, sym, ap, subst, ◌∙◌, arith, length, Option, Some, None, Contains, is_some}
+use Rattle.std.proofs.Common.{replicate, slice_set, slice_get}
 use Rattle.std.specs.Prelude.{count_by}
 use Rattle.std.specs.List.{list_any}
 use Rattle.std.specs.Ordering.{eq_by_cmp}
@@ -22,8 +25,10 @@ use Rattle.colour_defs.specs.Step.{step_of, named_or_null}
 use Rattle.colour_defs.specs.World.{World, WeakNames, Has, IsPresent, IsIdle, first_world, no_weak_names}
 use Rattle.colour_defs.specs.WeakRefs.{LosesWeak, weak_cell, with_weak_slot, with_watched, if_present}
 use Rattle.colour_defs.specs.Compaction.{Compacts}
-use Rattle.colour_defs.specs.Lawful.{Beginning, by_units, at_once, BeginsBy, Answers, AnswersBy, Collects, EndsGroup, FormsGroups, IsLawfulSweep, Finishes, RunBy, IsLawfulOutputBy}
-use Rattle.colour_defs.specs.Rows.{comp_0, only_zone_0, weakly_named, answers_weakly_named, compacted, answers_compacted, started}
+use Rattle.colour_defs.specs.Lawful.{Beginning, by_units, at_once, BeginsBy, Answers, AnswersBy, Collects, EndsGroup}
+use Rattle.colour_defs.specs.Lawful.{FormsGroups, IsLawfulSweep, Finishes, RunBy, IsLawfulOutputBy}
+use Rattle.colour_defs.specs.Rows.{comp_0, only_zone_0, weakly_named, answers_weakly_named, compacted}
+use Rattle.colour_defs.specs.Rows.{answers_compacted, started}
 use Rattle.colour_defs.specs.Laws.{IsValid}
 use Rattle.colour_defs.proofs.Lists.{nothing_in_none, contains_head}
 use Rattle.colour_defs.proofs.Names.{eq_name-refl}
@@ -33,7 +38,8 @@ use Rattle.colour_defs.proofs.ValidRuns.{answer_valid, first_valid}
 use Rattle.colour_defs.proofs.Finite.{place_named, no_name, single, insert_cases}
 use Rattle.colour_defs.proofs.Making.{room_first, made_world, new_lawful}
 use Rattle.colour_defs.proofs.OneZone.{prepared, prepares_one, units_collect}
-use Rattle.colour_defs.proofs.OneGarbage.{one_place, garbage_begun, garbage_grouped, garbage_ended, garbage_freed, garbage_begins, garbage_gone, garbage_units}
+use Rattle.colour_defs.proofs.OneGarbage.{one_place, garbage_begun, garbage_grouped, garbage_ended, garbage_freed}
+use Rattle.colour_defs.proofs.OneGarbage.{garbage_begins, garbage_gone, garbage_units}
 use Rattle.colour_defs.proofs.Inverted.{ReportsAll, units_reports}
 use Rattle.colour_defs.proofs.GivenUp.{w3, a3}
 use Rattle.colour_defs.proofs.LinkedAndDropped.{w1, w2, a1, a2, v2}
@@ -82,34 +88,70 @@ loses : LosesWeak (garbage_grouped 1 kept no_weak_names told) told ended
 loses = record {
   slots_are = ap (λ b. (if b then Some (Cell 0) else None) ∷ replicate 63 None) (sym not_present);
   watched_are = λ x. ((λ h. absurd (no_name x h)), λ h. absurd (none_left x h.1));
-  told_are = record { ascending = (tt, tt); has = λ x. ((λ c. (subst (λ z. Has kept.watched z) (single (Cell 0) x c) (insert_has set.empty (Cell 0)), λ p. none_left x p)), λ h. subst (λ z. Contains (Cell 0 ∷ []) z) (watched x h.0) (contains_head (Cell 0) [])) };
+  told_are = record {
+    ascending = (tt, tt);
+    has = λ x. (
+      (λ c. (
+        subst (λ z. Has kept.watched z) (single (Cell 0) x c) (insert_has set.empty (Cell 0)),
+        λ p. none_left x p,
+      )),
+      λ h. subst (λ z. Contains (Cell 0 ∷ []) z) (watched x h.0) (contains_head (Cell 0) []),
+    );
+  };
 }
 
 in_black : (x : Name) → Has w6.black x → Cell 0 ≡ x
 in_black x h = watched x h
 
-collected : (how : Beginning) → AnswersBy how w6 (Collect only_zone_0) (started how ++ (Groups (only_zone_0 ∷ []) ∷ Ended only_zone_0 [] told ∷ Swept 0 (Cell 0 ∷ []) ∷ Done ∷ [])) reply.Collected w7
+collected : (how : Beginning)
+    → AnswersBy how w6 (Collect only_zone_0)
+    (started how ++ (Groups (only_zone_0 ∷ []) ∷ Ended only_zone_0 [] told ∷ Swept 0 (Cell 0 ∷ []) ∷ Done ∷ []))
+    reply.Collected w7
 collected how = units_collect how w6 (garbage_begun 1 kept no_weak_names told) w7 [] told (Cell 0 ∷ [])
-    (prepares_one w6 (record { none_running = refl; none_preparing = refl }) (omega arith) (λ x h. subst (λ z. is_in_zones w6.graph (0 ∷ []) z ≡ true) (in_black x h) refl))
-    (garbage_begins 1 kept no_weak_names told) (garbage_units 1 kept no_weak_names told loses) (record { none_running = refl; none_preparing = refl })
+    (prepares_one w6 (record { none_running = refl; none_preparing = refl }) (omega arith)
+    (λ x h. subst (λ z. is_in_zones w6.graph (0 ∷ []) z ≡ true) (in_black x h) refl))
+    (garbage_begins 1 kept no_weak_names told) (garbage_units 1 kept no_weak_names told loses)
+    (record { none_running = refl; none_preparing = refl })
 
 read : Answers w7 (Weak (weak_cmd.Deref 1 0)) [] reply.Null w8
 read = (refl, (refl, refl))
 
 -- the run up to the compaction
 pub weakly_named_lawful : (how : Beginning) → IsLawfulOutputBy how weakly_named (answers_weakly_named how reply.Null)
-weakly_named_lawful how = (w8, (w1, a1, (w2, a2, (w3, a3, (w4, (refl, (refl, refl)), (w5, (refl, (refl, refl)), (w6, (refl, (refl, refl)), (w7, collected how, (w8, read, refl)))))))))
+weakly_named_lawful how = (
+  w8,
+  (
+    w1,
+    a1,
+    (
+      w2,
+      a2,
+      (
+        w3,
+        a3,
+        (
+          w4,
+          (refl, (refl, refl)),
+          (w5, (refl, (refl, refl)), (w6, (refl, (refl, refl)), (w7, collected how, (w8, read, refl)))),
+        ),
+      ),
+    ),
+  ),
+)
 
 abbrev w9 : World
 w9 = record w8 { owner = None ∷ [] }
 
 -- a map with nothing in it has no keys
-pub no_keys : {X : Type 0} (m : map.FinMap name_cmp X) → ((x : Name) → map.contains_key m x ≡ true → ⊥) → map.keys m ≡ []
+pub no_keys : {X : Type 0} (m : map.FinMap name_cmp X) → ((x : Name) → map.contains_key m x ≡ true → ⊥)
+    → map.keys m ≡ []
 no_keys m none = go (map.keys m) refl
   where
     go : (ks : List Name) → map.keys m ≡ ks → map.keys m ≡ []
     go [] e = e
-    go (k ∷ ks) e = absurd (none k (map.contains_key-keys m k ∙ ap (λ l. list_any (eq_by_cmp name_cmp k) l) e ∙ ap (λ b. b || list_any (eq_by_cmp name_cmp k) ks) (eq_name-refl k)))
+    go (k ∷ ks) e = absurd
+        (none k (map.contains_key-keys m k ∙ ap (λ l. list_any (eq_by_cmp name_cmp k) l) e
+        ∙ ap (λ b. b || list_any (eq_by_cmp name_cmp k) ks) (eq_name-refl k)))
 
 none_counted : count_by (λ x. is_in_zones w8.graph (0 ∷ []) x) (map.keys w8.places) ≡ 0
 none_counted = ap (λ ks. count_by (λ x. is_in_zones w8.graph (0 ∷ []) x) ks) (no_keys w8.places none_left)
@@ -132,7 +174,26 @@ compacts = record {
 }
 
 pub compacted_lawful : (how : Beginning) → IsLawfulOutputBy how compacted (answers_compacted how 1)
-compacted_lawful how = (w9, (w1, a1, (w2, a2, (w3, a3, (w4, (refl, (refl, refl)), (w5, (refl, (refl, refl)), (w6, (refl, (refl, refl)), (w7, collected how, (w8, read, (w9, done, refl))))))))))
+compacted_lawful how = (
+  w9,
+  (
+    w1,
+    a1,
+    (
+      w2,
+      a2,
+      (
+        w3,
+        a3,
+        (
+          w4,
+          (refl, (refl, refl)),
+          (w5, (refl, (refl, refl)), (w6, (refl, (refl, refl)), (w7, collected how, (w8, read, (w9, done, refl))))),
+        ),
+      ),
+    ),
+  ),
+)
   where
     done : Answers w8 (Compact 0) [] (reply.Compacted 0 1) w9
     done = inl (0, 1, refl, refl, compacts)

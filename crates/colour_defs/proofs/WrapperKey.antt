@@ -1,5 +1,6 @@
 -- A wrapper key: with its map and its target the key is reached, and the value; with the map alone neither is.
-use Rattle.std.proofs.Common.{◌≡◌, ℕ, [], ◌∷◌, Bool, true, false, cond, refl, sym, subst, ◌∙◌, Option, Some, None, Contains, arith}
+use Rattle.std.proofs.Common.{◌≡◌, ℕ, [], ◌∷◌, Bool, true, false, cond, refl, sym, subst, ◌∙◌, Option, Some, None}
+use Rattle.std.proofs.Common.{Contains, arith}
 use Rattle.gz_names.specs.Order.{same_name}
 use Rattle.gz_names.specs.declared.names.Name.{Name}
 use Rattle.gz_names.specs.declared.names.Name.TheVariants.{Cell, Wrap}
@@ -18,7 +19,8 @@ pub value_by_both : Closure wrapper_key (Contains (Cell 0 ∷ Cell 1 ∷ [])) (C
 value_by_both = weak {k = Wrap comp_0 1} refl (from (0, omega arith, refl)) key_by_both
 
 edges_of_map : (x y : Name) → Cell 0 ≡ x → HasEdge wrapper_key x y → ⊥
-edges_of_map x y e d = let h : HasEdge wrapper_key (Cell 0) y = subst (λ z. HasEdge wrapper_key z y) (sym e) d in nothing_in_none (Some y) h
+edges_of_map x y e d = let h : HasEdge wrapper_key (Cell 0) y = subst (λ z. HasEdge wrapper_key z y) (sym e) d in
+    nothing_in_none (Some y) h
 
 value_at : (m q v : Name) → Cell 0 ≡ m → value_of wrapper_key m q ≡ Some v → Wrap comp_0 1 ≡ q
 value_at m q v e at = go (same_name (Wrap comp_0 1) q) refl (subst (λ z. value_of wrapper_key z q ≡ Some v) (sym e) at)
@@ -30,6 +32,9 @@ value_at m q v e at = go (same_name (Wrap comp_0 1) q) refl (subst (λ z. value_
 pub map_reaches_itself : (x : Name) → Closure wrapper_key (Contains (Cell 0 ∷ [])) x → Cell 0 ≡ x
 map_reaches_itself x h = single (Cell 0) x (reached_within wrapper_key _ (Cell 0 ∷ []) (λ y c. c)
     (λ y z c d. absurd (edges_of_map y z (single (Cell 0) y c) d))
-    (λ m q v at hm hq. absurd (let e = single (Cell 0) q hq in let f = value_at m q v (single (Cell 0) m hm) at in cc (e, f)))
-    (λ m v c t at hm ht. absurd (let e = single (Cell 0) (Cell t) ht in let f = value_at m (Wrap c t) v (single (Cell 0) m hm) at in cc (e, f)))
+    (λ m q v at hm hq. absurd (let e = single (Cell 0) q hq in let f = value_at m q v (single (Cell 0) m hm) at in
+    cc (e, f)))
+    (λ m v c t at hm ht.
+    absurd (let e = single (Cell 0) (Cell t) ht in let f = value_at m (Wrap c t) v (single (Cell 0) m hm) at in
+    cc (e, f)))
     h)

@@ -1,5 +1,6 @@
 -- The dump of a world: its present cells with their colours, their edges and their weak entries.
-use Rattle.std.specs.Prelude.{◌≡◌, ◌↔◌, ℕ, List, [], ◌∷◌, ◌++◌, map, Option, Some, None, Contains, if◌then◌else◌, IsTrue}
+use Rattle.std.specs.Prelude.{◌≡◌, ◌↔◌, ℕ, List, [], ◌∷◌, ◌++◌, map, Option, Some, None, Contains, if◌then◌else◌}
+use Rattle.std.specs.Prelude.{IsTrue}
 use Rattle.std.specs.List.{flat_map, AllByRecursion}
 use Rattle.std.specs.FinSet as set
 use Rattle.std.specs.Ordering.{is_lt, ordering_then}
@@ -50,7 +51,8 @@ weak_line e = line.Weak e.map e.key e.value
 abbrev pub IsAscendingWeak : List WeakLine → Type 0
 IsAscendingWeak [] = Unit {0}
 IsAscendingWeak (e ∷ es) =
-    AllByRecursion (λ d. IsTrue (is_lt (ordering_then (name_cmp (Cell e.map) (Cell d.map)) (name_cmp e.key d.key)))) es × IsAscendingWeak es
+    AllByRecursion (λ d. IsTrue (is_lt (ordering_then (name_cmp (Cell e.map) (Cell d.map)) (name_cmp e.key d.key)))) es
+    × IsAscendingWeak es
 
 -- an entry whose map and key are present
 pub record IsWeakOf (w : World) (e : WeakLine) : Type 0 where

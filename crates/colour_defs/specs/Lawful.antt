@@ -1,5 +1,6 @@
 -- What a collection may report, how each command may be answered, and what a whole run may write.
-use Rattle.std.specs.Prelude.{◌≡◌, ◌≢◌, ◌⊎◌, ◌↔◌, ℕ, ◌+◌, ◌<◌, ◌≤◌, List, [], ◌∷◌, ◌++◌, length, map, Option, Some, None, Contains, is_some}
+use Rattle.std.specs.Prelude.{◌≡◌, ◌≢◌, ◌⊎◌, ◌↔◌, ℕ, ◌+◌, ◌<◌, ◌≤◌, List, [], ◌∷◌, ◌++◌, length, map, Option, Some}
+use Rattle.std.specs.Prelude.{None, Contains, is_some}
 use Rattle.std.specs.List.{flat_map}
 use Rattle.std.specs.FinSet as set
 use Rattle.gz_names.specs.declared.names.Name.{Name}
@@ -15,7 +16,8 @@ use Rattle.colour_defs.specs.Graph.{IsInZones}
 use Rattle.gz_names.specs.declared.dumps.DumpLine.{DumpLine}
 use Rattle.colour_defs.specs.Closure.{Closure}
 use Rattle.colour_defs.specs.Units.{Tally, MeetsUnitBound}
-use Rattle.colour_defs.specs.World.{Has, Preparation, Collection, World, IsPresent, IsSettled, IsIdle, BlackClosure, CommandInWorld, marking_of, first_preparation, first_tally, first_world}
+use Rattle.colour_defs.specs.World.{Has, Preparation, Collection, World, IsPresent, IsSettled, IsIdle, BlackClosure}
+use Rattle.colour_defs.specs.World.{CommandInWorld, marking_of, first_preparation, first_tally, first_world}
 use Rattle.colour_defs.specs.Groups.{AreLawfulGroups}
 use Rattle.colour_defs.specs.Ends.{Lists, IsLawfulEnd}
 use Rattle.colour_defs.specs.WeakRefs.{WeakInWorld, LosesWeak}

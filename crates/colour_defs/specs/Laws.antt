@@ -1,12 +1,15 @@
 -- What holds of every world that a lawful run can reach: the laws, and the one invariant that carries them.
-use Rattle.std.specs.Prelude.{◌≡◌, ◌≢◌, ◌⊎◌, ◌↔◌, ◌≤◌, ℕ, ◌+◌, ◌*◌, List, [], ◌∷◌, length, Some, None, IsTrue, Contains, count_by}
+use Rattle.std.specs.Prelude.{◌≡◌, ◌≢◌, ◌⊎◌, ◌↔◌, ◌≤◌, ℕ, ◌+◌, ◌*◌, List, [], ◌∷◌, length, Some, None, IsTrue, Contains}
+use Rattle.std.specs.Prelude.{count_by}
 use Rattle.std.specs.FinMap as map
 use Rattle.gz_names.specs.declared.names.Name.{Name}
 use Rattle.gz_names.specs.declared.names.Name.TheVariants.{Cell, Wrap}
 use Rattle.gz_names.specs.declared.numbers.CompNo.{CompNo}
-use Rattle.colour_defs.specs.Graph.{GraphState, register_cell, slot_cell, has_wrapper, value_of, comp_of, zone_of, IsInZones, is_in_zones}
+use Rattle.colour_defs.specs.Graph.{GraphState, register_cell, slot_cell, has_wrapper, value_of, comp_of, zone_of}
+use Rattle.colour_defs.specs.Graph.{IsInZones, is_in_zones}
 use Rattle.colour_defs.specs.Closure.{HasEdge, Closure, ClosureWithin}
-use Rattle.colour_defs.specs.World.{Has, Preparation, Collection, World, IsPresent, IsLeftOut, IsSettled, BlackClosure, LiveClosure}
+use Rattle.colour_defs.specs.World.{Has, Preparation, Collection, World, IsPresent, IsLeftOut, IsSettled, BlackClosure}
+use Rattle.colour_defs.specs.World.{LiveClosure}
 use Rattle.colour_defs.specs.Groups.{EachLater, IsKeyOfPresent}
 use Rattle.colour_defs.specs.Ends.{arenas_from}
 use Rattle.colour_defs.specs.WeakRefs.{weak_cell, if_present}

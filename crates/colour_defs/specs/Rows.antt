@@ -5,10 +5,12 @@ use Rattle.gz_names.specs.declared.names.Name.TheVariants as name
 use Rattle.gz_names.specs.declared.names.Name.TheVariants.{Cell}
 use Rattle.gz_names.specs.declared.numbers.CompNo.{CompNo}
 use Rattle.gz_names.specs.declared.zone_sets.ZoneSet.{ZoneSet}
-use Rattle.gz_names.specs.declared.commands.GraphCmd.TheVariants.{Zone, Comp, New, Map, Set, Get, Wrap, Drop, Hold, Expose, Put, Find}
+use Rattle.gz_names.specs.declared.commands.GraphCmd.TheVariants.{Zone, Comp, New, Map, Set, Get, Wrap, Drop, Hold}
+use Rattle.gz_names.specs.declared.commands.GraphCmd.TheVariants.{Expose, Put, Find}
 use Rattle.gz_names.specs.declared.commands.WeakCmd.TheVariants.{Weaken, Deref, Watch}
 use Rattle.gz_names.specs.declared.commands.Cmd.{Cmd}
-use Rattle.gz_names.specs.declared.commands.Cmd.TheVariants.{Graph, Weak, Gc, Slice, Finish, Collect, Reset, Colours, Compact}
+use Rattle.gz_names.specs.declared.commands.Cmd.TheVariants.{Graph, Weak, Gc, Slice, Finish, Collect, Reset, Colours}
+use Rattle.gz_names.specs.declared.commands.Cmd.TheVariants.{Compact}
 use Rattle.gz_names.specs.declared.replies.Reply.{Reply}
 use Rattle.gz_names.specs.declared.replies.Reply.TheVariants as reply
 use Rattle.gz_names.specs.declared.replies.Report.{Report}

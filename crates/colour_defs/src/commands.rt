@@ -3,7 +3,9 @@
 ghost use Rattle.std.specs.Prelude.{◌≡◌, ◌<◌, ◌↔◌, IfOk, IsTrue, OnErr, OnOk, length};
 ghost use Rattle.gz_names.specs.declared.commands.GraphCmd.TheVariants as cmd;
 ghost use Rattle.colour_defs.specs.Graph.{object_of, register_cell, slot_cell};
-ghost use Rattle.colour_defs.specs.Step.{HasFewFields, IsAccepted, entry_refusal, fits_comp, is_in_comp, make_object, map_comp, named_or_null, set_in, step_of, take_in_register, take_wrapper, target_of, value_to_set};
+ghost use Rattle.colour_defs.specs.Step.{HasFewFields, IsAccepted, entry_refusal, fits_comp, is_in_comp, make_object};
+ghost use Rattle.colour_defs.specs.Step.{map_comp, named_or_null, set_in, step_of, take_in_register, take_wrapper};
+ghost use Rattle.colour_defs.specs.Step.{target_of, value_to_set};
 
 use crate::fields::Fields;
 use crate::graph::{Graph, Object};

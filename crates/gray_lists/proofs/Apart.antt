@@ -1,5 +1,6 @@
 -- No wrapper stands on two lists, or on one twice: after one is noted, and after one is taken.
-use Rattle.std.proofs.Common.{◌≡◌, ◌<◌, ◌⊎◌, inl, inr, ℕ, zero, suc, List, [], ◌∷◌, length, set, get_or-set_same, get_or-set_other, replicate, refl, sym, ap, subst, ◌∙◌, arith}
+use Rattle.std.proofs.Common.{◌≡◌, ◌<◌, ◌⊎◌, inl, inr, ℕ, zero, suc, List, [], ◌∷◌, length, set, get_or-set_same}
+use Rattle.std.proofs.Common.{get_or-set_other, replicate, refl, sym, ap, subst, ◌∙◌, arith}
 use Rattle.std.proofs.lemmas.List.{get_or-replicate, get_or_past, length-replicate}
 use Rattle.std.proofs.lemmas.Bool.{cases_eq, cases_lt}
 use Rattle.std.specs.List.{Contains}
@@ -20,11 +21,13 @@ pub Contains-none : {X : Type 0} (x : X) → Contains [] x → ⊥
 Contains-none x (k, h, e) = absurd (omega arith)
 
 -- a list is longer by a wrapper that is on none
-pub AreApart-noted : (lists : List (List Place)) (c : ℕ) (w : Place) → c < length lists → ((b : ℕ) → Contains (list_at lists b) w → ⊥) → AreApart lists → AreApart (set lists c (w ∷ list_at lists c))
+pub AreApart-noted : (lists : List (List Place)) (c : ℕ) (w : Place) → c < length lists
+    → ((b : ℕ) → Contains (list_at lists b) w → ⊥) → AreApart lists → AreApart (set lists c (w ∷ list_at lists c))
 AreApart-noted lists c w h new apart =
     let more : List Place = w ∷ list_at lists c in
     let here : list_at (set lists c more) c ≡ more = get_or-set_same lists c more [] h in
-    let old : (b : ℕ) (v : Place) → Contains (list_at (set lists c more) b) v → (Contains (list_at lists b) v) ⊎ ((w ≡ v) × (b ≡ c)) = λ b v in_it. elim (cases_eq b c) [
+    let old : (b : ℕ) (v : Place) → Contains (list_at (set lists c more) b) v → (Contains (list_at lists b) v)
+    ⊎ ((w ≡ v) × (b ≡ c)) = λ b v in_it. elim (cases_eq b c) [
       | inl e ↦ elim (Contains-cases w v (list_at lists c) (rw (e, here) at in_it)) [
         | inl same ↦ inr (same, e)
         | inr later ↦ inl (rw e later)
@@ -49,11 +52,14 @@ AreApart-noted lists c w h new apart =
     }
 
 -- a list without its first wrapper
-pub AreApart-taken : (lists : List (List Place)) (c : ℕ) (w : Place) (rest : List Place) → c < length lists → list_at lists c ≡ w ∷ rest → AreApart lists → AreApart (set lists c rest) × ((b : ℕ) → Contains (list_at (set lists c rest) b) w → ⊥)
+pub AreApart-taken : (lists : List (List Place)) (c : ℕ) (w : Place) (rest : List Place) → c < length lists
+    → list_at lists c ≡ w ∷ rest → AreApart lists → AreApart (set lists c rest)
+    × ((b : ℕ) → Contains (list_at (set lists c rest) b) w → ⊥)
 AreApart-taken lists c w rest h was apart =
     let here : list_at (set lists c rest) c ≡ rest = get_or-set_same lists c rest [] h in
     let all : IsOnce (w ∷ rest) = rw was at (apart.once c) in
-    let old : (b : ℕ) (v : Place) → Contains (list_at (set lists c rest) b) v → Contains (list_at lists b) v = λ b v in_it. elim (cases_eq b c) [
+    let old : (b : ℕ) (v : Place) → Contains (list_at (set lists c rest) b) v → Contains (list_at lists b) v =
+    λ b v in_it. elim (cases_eq b c) [
       | inl e ↦ rw (e, was) (Contains-later w v rest (rw (e, here) at in_it))
       | inr n ↦ (rw (get_or-set_other lists c b rest [] n) at in_it)
     ] in

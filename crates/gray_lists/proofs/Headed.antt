@@ -1,5 +1,7 @@
 -- The set of compartments for which wrappers wait.
-use Rattle.std.proofs.Common.{◌≡◌, ◌≢◌, ◌<◌, ◌≤◌, ◌+◌, ◌*◌, ◌/◌, ◌%◌, ◌^◌, ◌-◌, ◌⊎◌, ◌↔◌, inl, inr, ℕ, zero, suc, List, [], ◌∷◌, Option, Some, None, length, set, get_or, get_or-set_same, get_or-set_other, replicate, refl, IfSome, IfNone, sym, ◌∙◌, ap, subst, arith, bit_and}
+use Rattle.std.proofs.Common.{◌≡◌, ◌≢◌, ◌<◌, ◌≤◌, ◌+◌, ◌*◌, ◌/◌, ◌%◌, ◌^◌, ◌-◌, ◌⊎◌, ◌↔◌, inl, inr, ℕ, zero, suc, List}
+use Rattle.std.proofs.Common.{[], ◌∷◌, Option, Some, None, length, set, get_or, get_or-set_same, get_or-set_other}
+use Rattle.std.proofs.Common.{replicate, refl, IfSome, IfNone, sym, ◌∙◌, ap, subst, arith, bit_and}
 use Rattle.std.proofs.lemmas.List.{get_or-replicate, get_or_past, length-map, length-replicate}
 use Rattle.std.proofs.lemmas.Bool.{cases_eq, cases_lt}
 use Rattle.std.specs.Int.{bit_at}

@@ -7,7 +7,8 @@ slice_get-set_same [] i y h = absurd (omega arith)
 slice_get-set_same (x ∷ xs) zero y h = refl
 slice_get-set_same (x ∷ xs) (suc i) y h = slice_get-set_same xs i y (omega arith)
 
-pub slice_get-set_other : {X : Type 0} (xs : List X) (i j : ℕ) (y : X) → j ≢ i → slice_get (set xs i y) j ≡ slice_get xs j
+pub slice_get-set_other : {X : Type 0} (xs : List X) (i j : ℕ) (y : X) → j ≢ i
+    → slice_get (set xs i y) j ≡ slice_get xs j
 slice_get-set_other [] i j y h = refl
 slice_get-set_other (x ∷ xs) zero zero y h = absurd (h refl)
 slice_get-set_other (x ∷ xs) zero (suc j) y h = refl
@@ -18,7 +19,8 @@ pub slice_get-push_at : {X : Type 0} (xs : List X) (y : X) → slice_get (xs ++ 
 slice_get-push_at [] y = refl
 slice_get-push_at (x ∷ xs) y = slice_get-push_at xs y
 
-pub slice_get-push_before : {X : Type 0} (xs : List X) (i : ℕ) (y : X) → i < length xs → slice_get (xs ++ y ∷ []) i ≡ slice_get xs i
+pub slice_get-push_before : {X : Type 0} (xs : List X) (i : ℕ) (y : X) → i < length xs
+    → slice_get (xs ++ y ∷ []) i ≡ slice_get xs i
 slice_get-push_before [] i y h = absurd (omega arith)
 slice_get-push_before (x ∷ xs) zero y h = refl
 slice_get-push_before (x ∷ xs) (suc i) y h = slice_get-push_before xs i y (omega arith)

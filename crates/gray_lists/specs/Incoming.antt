@@ -2,7 +2,8 @@
 use Rattle.std.specs.Prelude.{◌≡◌, ◌∷◌, [], ℕ, List, length, sum_by, Contains, slice_set, slice_index_or, ⊤}
 use Rattle.gz_names.specs.declared.numbers.Place.{Place}
 
--- for each of the 256 compartments the wrappers that wait for it, the one noted last first; and how many wrappers the lists can hold together
+-- for each of the 256 compartments the wrappers that wait for it, the one noted last first; and how many wrappers the
+-- lists can hold together
 pub record Incoming : Type 0 where
   pub lists : List (List Place)
   pub room : ℕ
@@ -16,7 +17,8 @@ list_of incoming comp = list_at incoming.lists comp
 
 -- one more wrapper waits for a compartment
 abbrev pub noted : Incoming → ℕ → Place → Incoming
-noted incoming comp wrapper = record incoming { lists = slice_set incoming.lists comp (wrapper ∷ list_of incoming comp) }
+noted incoming comp wrapper =
+    record incoming { lists = slice_set incoming.lists comp (wrapper ∷ list_of incoming comp) }
 
 -- how many wrappers wait, for all compartments together
 abbrev pub waiting_count : Incoming → ℕ
@@ -30,4 +32,5 @@ IsOnce (place ∷ places) = (Contains places place → ⊥) × IsOnce places
 -- each wrapper stands on at most one list, and once
 pub record AreApart (lists : List (List Place)) : Type 0 where
   pub once : (c : ℕ) → IsOnce (list_at lists c)
-  pub one_list : (b c : ℕ) (wrapper : Place) → Contains (list_at lists b) wrapper → Contains (list_at lists c) wrapper → b ≡ c
+  pub one_list : (b c : ℕ) (wrapper : Place) → Contains (list_at lists b) wrapper → Contains (list_at lists c) wrapper
+      → b ≡ c

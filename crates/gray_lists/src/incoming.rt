@@ -1,5 +1,6 @@
 // The incoming gray wrappers, by the compartment of their targets.
-ghost use Rattle.std.specs.Prelude.{◌≡◌, ◌≢◌, ◌≤◌, ◌<◌, ◌↔◌, ◌+◌, ◌∷◌, ℕ, [], length, replicate, Contains, IfSome, IfNone, OnOk, OnErr};
+ghost use Rattle.std.specs.Prelude.{◌≡◌, ◌≢◌, ◌≤◌, ◌<◌, ◌↔◌, ◌+◌, ◌∷◌, ℕ, [], length, replicate, Contains, IfSome};
+ghost use Rattle.std.specs.Prelude.{IfNone, OnOk, OnErr};
 ghost use Rattle.gray_lists.specs.CompSets.{HasComp};
 
 use crate::comp_sets::CompSet;

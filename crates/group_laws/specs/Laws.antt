@@ -27,4 +27,5 @@ GroupsAreComponents = (w : World) (k : Collection) (groups : List (List ℕ))
     → AreLawfulGroups w k groups
     → ((x : Name) → Has k.woken x → ⊥)
     → (a b : ℕ) → Contains k.zones a → Contains k.zones b
-    → ((g : List ℕ) × Contains groups g × Contains g a × Contains g b) ↔ (LeadsWithin (IsFirstEdge w k) k.zones a b × LeadsWithin (IsFirstEdge w k) k.zones b a)
+    → ((g : List ℕ) × Contains groups g × Contains g a × Contains g b)
+    ↔ (LeadsWithin (IsFirstEdge w k) k.zones a b × LeadsWithin (IsFirstEdge w k) k.zones b a)

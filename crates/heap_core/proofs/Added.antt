@@ -1,5 +1,6 @@
 -- What a heap shows after one more cell was made.
-use Rattle.std.proofs.Common.{◌≡◌, ◌<◌, ◌≤◌, ◌⊎◌, ℕ, Bool, false, cond, inl, inr, List, Option, Some, None, IsSome, length, slice_get, refl, sym, ap, subst, ◌∙◌, IsTrue, Contains}
+use Rattle.std.proofs.Common.{◌≡◌, ◌<◌, ◌≤◌, ◌⊎◌, ℕ, Bool, false, cond, inl, inr, List, Option, Some, None, IsSome}
+use Rattle.std.proofs.Common.{length, slice_get, refl, sym, ap, subst, ◌∙◌, IsTrue, Contains}
 use Rattle.std.specs.Option.{option_map}
 use Rattle.std.proofs.lemmas.Option.{slice_get-get_or, slice_get_within}
 use Rattle.gz_names.specs.declared.names.Name.{Name}
@@ -12,7 +13,8 @@ use Rattle.wrappers.specs.WrapperMaps.{list_of, place_of}
 use Rattle.wrappers.specs.declared.wrapper_maps.WrapperKey.{WrapperKey}
 use Rattle.colour_defs.specs.declared.graph.Object.{Object}
 use Rattle.colour_defs.specs.Graph.{GraphState, object_of, has_wrapper}
-use Rattle.heap_core.specs.Shape.{Shape, ArenaShape, IsPresent, cell_of, cell_in_arena, field_at, field_in, name_at, zone_of}
+use Rattle.heap_core.specs.Shape.{Shape, ArenaShape, IsPresent, cell_of, cell_in_arena, field_at, field_in, name_at}
+use Rattle.heap_core.specs.Shape.{zone_of}
 use Rattle.heap_core.specs.Heap.{HeapState}
 use Rattle.heap_core.specs.Shows.{Shows, IsShown, StandsFor, is_map, object_at}
 use Rattle.heap_core.proofs.Places.{place-same, place-cases, named_present, cell_named, cell_present}
@@ -38,13 +40,18 @@ pub record Adds (h k : HeapState) (g j : GraphState) (zone : ℕ) (p : Place) (c
   pub fresh : (q : Place) → name_at h.shape q ≡ Some cell.name → ⊥
   pub objects_kept : (n : ℕ) (o : Object) → object_of g n ≡ Some o → object_of j n ≡ Some o
   pub wrappers_kept : (d : CompNo) (t : ℕ) → IsTrue (has_wrapper g d t) → IsTrue (has_wrapper j d t)
-  pub places_kept : (d : CompNo) (t : ℕ) (q : Place) → place_of h.shape.wrappers d.0 t ≡ Some q → place_of k.shape.wrappers d.0 t ≡ Some q
+  pub places_kept : (d : CompNo) (t : ℕ) (q : Place) → place_of h.shape.wrappers d.0 t ≡ Some q
+      → place_of k.shape.wrappers d.0 t ≡ Some q
   pub objects_new : (n : ℕ) (o : Object) → object_of j n ≡ Some o → (object_of g n ≡ Some o) ⊎ (cell.name ≡ Cell n)
-  pub wrappers_new : (d : CompNo) (t : ℕ) → IsTrue (has_wrapper j d t) → IsTrue (has_wrapper g d t) ⊎ (cell.name ≡ Wrap d t)
-  pub places_new : (d : CompNo) (t : ℕ) (q : Place) → place_of k.shape.wrappers d.0 t ≡ Some q → (place_of h.shape.wrappers d.0 t ≡ Some q) ⊎ ((q ≡ p) × (cell.name ≡ Wrap d t))
-  pub maps_at_home : (z : ℕ) (e : WrapperKey × Place) → Contains (list_of k.shape.wrappers z) e → slice_get h.shape.comps e.0.comp ≡ Some z
+  pub wrappers_new : (d : CompNo) (t : ℕ) → IsTrue (has_wrapper j d t) → IsTrue (has_wrapper g d t)
+      ⊎ (cell.name ≡ Wrap d t)
+  pub places_new : (d : CompNo) (t : ℕ) (q : Place) → place_of k.shape.wrappers d.0 t ≡ Some q
+      → (place_of h.shape.wrappers d.0 t ≡ Some q) ⊎ ((q ≡ p) × (cell.name ≡ Wrap d t))
+  pub maps_at_home : (z : ℕ) (e : WrapperKey × Place) → Contains (list_of k.shape.wrappers z) e
+      → slice_get h.shape.comps e.0.comp ≡ Some z
   pub fields_there : (f : ℕ) (q : Place) → field_of cell f ≡ Some q → IsPresent h.shape q
-  pub stands : ((q : Place) (x : Name) → name_at h.shape q ≡ Some x → name_at k.shape q ≡ Some x) → StandsFor k.shape j p cell cell.name
+  pub stands : ((q : Place) (x : Name) → name_at h.shape q ≡ Some x → name_at k.shape q ≡ Some x)
+      → StandsFor k.shape j p cell cell.name
   pub sized : length cell.fields ≡ field_count cell.kind
   pub few_fields : length cell.fields ≤ 8
   pub objects_made : length j.objects ≡ k.shape.objects
@@ -62,7 +69,8 @@ arena_made s q e = go (slice_get s.arenas q.0) refl e
     go None is e = absurd (cc e)
     go (Some a) is e = slice_get_within s.arenas q.0 a is
 
-module _ (h k : HeapState) (g j : GraphState) (zone : ℕ) (p : Place) (cell : CellState) (s : Shows h g) (a : Adds h k g j zone p cell) where
+module _ (h k : HeapState) (g j : GraphState) (zone : ℕ) (p : Place) (cell : CellState) (s : Shows h g)
+    (a : Adds h k g j zone p cell) where
   here : cell_of k.shape p ≡ Some cell
   here = a.cells_are p ∙ ap (λ (b : Bool). cond b (Some cell) (cell_of h.shape p)) (place-same p)
 
@@ -71,15 +79,20 @@ module _ (h k : HeapState) (g j : GraphState) (zone : ℕ) (p : Place) (cell : C
 
   -- what was present is elsewhere
   elsewhere : (q : Place) → IsPresent h.shape q → is_place q p ≡ false
-  elsewhere q e = place-cases (is_place q p ≡ false) q p (λ is. (let gone : cell_of h.shape q ≡ None = ap (cell_of h.shape) is ∙ a.absent in cc (e, gone))) (λ apart. apart)
+  elsewhere q e = place-cases (is_place q p ≡ false) q p
+      (λ is. (let gone : cell_of h.shape q ≡ None = ap (cell_of h.shape) is ∙ a.absent in cc (e, gone)))
+      (λ apart. apart)
 
   named : (q : Place) (x : Name) → name_at h.shape q ≡ Some x → name_at k.shape q ≡ Some x
-  named q x e = ap (λ (o : Option CellState). option_map (λ (c : CellState). c.name) o) (others q (elsewhere q (named_present h.shape q x e))) ∙ e
+  named q x e = ap (λ (o : Option CellState). option_map (λ (c : CellState). c.name) o)
+      (others q (elsewhere q (named_present h.shape q x e))) ∙ e
 
-  named_cases : (q : Place) (x : Name) → name_at k.shape q ≡ Some x → ((q ≡ p) × (cell.name ≡ x)) ⊎ (name_at h.shape q ≡ Some x)
+  named_cases : (q : Place) (x : Name) → name_at k.shape q ≡ Some x → ((q ≡ p) × (cell.name ≡ x))
+      ⊎ (name_at h.shape q ≡ Some x)
   named_cases q x e = place-cases (((q ≡ p) × (cell.name ≡ x)) ⊎ (name_at h.shape q ≡ Some x)) q p
       (λ is. inl (is, cc (sym (cell_named k.shape p cell here) ∙ ap (name_at k.shape) (sym is) ∙ e)))
-      (λ apart. inr (sym (ap (λ (o : Option CellState). option_map (λ (c : CellState). c.name) o) (others q apart)) ∙ e))
+      (λ apart. inr (sym (ap (λ (o : Option CellState). option_map (λ (c : CellState). c.name) o) (others q apart))
+      ∙ e))
 
   carries : Carries h k g j
   carries = record {
@@ -98,16 +111,22 @@ module _ (h k : HeapState) (g j : GraphState) (zone : ℕ) (p : Place) (cell : C
 
   field_kept : (b q : Place) (f : ℕ) → field_at k.shape b f ≡ Some q → IsPresent k.shape q
   field_kept b q f e = place-cases (IsPresent k.shape q) b p
-      (λ is. kept h k g j s carries q (a.fields_there f q (sym (ap (λ (o : Option CellState). field_in o f) (ap (cell_of k.shape) is ∙ here)) ∙ e)))
-      (λ apart. kept h k g j s carries q (s.fields_held b q f (ap (λ (o : Option CellState). field_in o f) (sym (others b apart)) ∙ e)))
+      (λ is. kept h k g j s carries q
+      (a.fields_there f q (sym (ap (λ (o : Option CellState). field_in o f) (ap (cell_of k.shape) is ∙ here)) ∙ e)))
+      (λ apart. kept h k g j s carries q
+      (s.fields_held b q f (ap (λ (o : Option CellState). field_in o f) (sym (others b apart)) ∙ e)))
 
   -- a cell that was present
   object_same : (q : Place) (d : CellState) → cell_of h.shape q ≡ Some d → object_at k.shape d ≡ object_at h.shape d
   object_same q d e = ap (λ (fs : List (Option Name)). record { comp = d.comp; is_map = is_map d.kind; fields = fs })
-      (names_kept h k g j s carries d.fields (λ r m. (let f = in_field d.fields r m in s.fields_held q r f.0 (ap (λ (o : Option CellState). field_in o f.0) e ∙ f.1))))
+      (names_kept h k g j s carries d.fields
+      (λ r m. (let f = in_field d.fields r m in
+      s.fields_held q r f.0 (ap (λ (o : Option CellState). field_in o f.0) e ∙ f.1))))
 
-  stands_other : (q : Place) (d : CellState) (x : Name) → cell_of h.shape q ≡ Some d → StandsFor h.shape g q d x → StandsFor k.shape j q d x
-  stands_other q d (Cell m) e st = (st.0, a.objects_kept m (object_at h.shape d) st.1 ∙ ap (λ (o : Object). Some o) (sym (object_same q d e)))
+  stands_other : (q : Place) (d : CellState) (x : Name) → cell_of h.shape q ≡ Some d → StandsFor h.shape g q d x
+      → StandsFor k.shape j q d x
+  stands_other q d (Cell m) e st =
+      (st.0, a.objects_kept m (object_at h.shape d) st.1 ∙ ap (λ (o : Object). Some o) (sym (object_same q d e)))
   stands_other q d (Wrap c t) e st = record {
     target = st.target;
     kind_is = st.kind_is;
@@ -125,16 +144,19 @@ module _ (h k : HeapState) (g j : GraphState) (zone : ℕ) (p : Place) (cell : C
         stands = a.stands named;
         sized = a.sized;
         few = a.few_fields;
-        at_home = ap (λ (xs : List ℕ). slice_get xs cell.comp.0) a.comps_are ∙ a.at_home ∙ ap (λ (z : ℕ). Some z) (sym a.zone_is);
+        at_home = ap (λ (xs : List ℕ). slice_get xs cell.comp.0) a.comps_are ∙ a.at_home
+            ∙ ap (λ (z : ℕ). Some z) (sym a.zone_is);
       } in
-      subst (λ (x : Place). IsShown k.shape j x d) (sym is) (subst (λ (x : CellState). IsShown k.shape j p x) mine new)))
+      subst (λ (x : Place). IsShown k.shape j x d) (sym is)
+      (subst (λ (x : CellState). IsShown k.shape j p x) mine new)))
       (λ apart. (let was : cell_of h.shape q ≡ Some d = sym (others q apart) ∙ e in
       let old = s.cells q d was in
       record {
         stands = stands_other q d d.name was old.stands;
         sized = old.sized;
         few = old.few;
-        at_home = ap (λ (xs : List ℕ). slice_get xs d.comp.0) a.comps_are ∙ old.at_home ∙ ap (λ (z : ℕ). Some z) (sym (a.zones_are q (arena_made h.shape q (cell_present h.shape q d was))));
+        at_home = ap (λ (xs : List ℕ). slice_get xs d.comp.0) a.comps_are ∙ old.at_home
+            ∙ ap (λ (z : ℕ). Some z) (sym (a.zones_are q (arena_made h.shape q (cell_present h.shape q d was))));
       }))
 
   apart : (b q : Place) (x : Name) → name_at k.shape b ≡ Some x → name_at k.shape q ≡ Some x → b ≡ q

@@ -1,5 +1,6 @@
 -- A heap with nothing in it shows the empty graph.
-use Rattle.std.proofs.Common.{◌≡◌, ℕ, zero, suc, List, [], Option, Some, None, map, length, replicate, slice_get, slice_index_or, refl, sym, ap, subst, ◌∙◌, arith, Contains}
+use Rattle.std.proofs.Common.{◌≡◌, ℕ, zero, suc, List, [], Option, Some, None, map, length, replicate, slice_get}
+use Rattle.std.proofs.Common.{slice_index_or, refl, sym, ap, subst, ◌∙◌, arith, Contains}
 use Rattle.gz_names.specs.declared.numbers.Place.{Place}
 use Rattle.zones.specs.declared.states.State.{State}
 use Rattle.arena_table.specs.Cells.{CellState}
@@ -26,7 +27,8 @@ module _ (h : HeapState) (e : IsEmpty h) where
   no_cell p = ap (λ (xs : List ArenaShape). cell_in_arena (slice_get xs p.0) p.1) e.arenas
 
   no_name : (p : Place) → name_at h.shape p ≡ None
-  no_name p = ap (λ (o : Option CellState). Rattle.std.specs.Option.option_map (λ (cell : CellState). cell.name) o) (no_cell p)
+  no_name p = ap (λ (o : Option CellState). Rattle.std.specs.Option.option_map (λ (cell : CellState). cell.name) o)
+      (no_cell p)
 
   pub shows-empty : Shows h empty_graph
   shows-empty = record {
@@ -35,15 +37,24 @@ module _ (h : HeapState) (e : IsEmpty h) where
     objects_made = sym e.objects;
     registers_are = sym (ap (λ (xs : List (Option Place)). map (held_name h.shape) xs) e.regs);
     slots_are = sym (ap (λ (xs : List (Option Place)). map (held_name h.shape) xs) e.slots);
-    registers_held = λ p m. absurd (no_name_in_nulls 16 p (subst (λ (xs : List (Option Place)). Contains xs (Some p)) e.regs m));
-    slots_held = λ p m. absurd (no_name_in_nulls 64 p (subst (λ (xs : List (Option Place)). Contains xs (Some p)) e.slots m));
-    fields_held = λ p q f is. absurd (let none : field_in (cell_of h.shape p) f ≡ None = ap (λ (o : Option CellState). field_in o f) (no_cell p) in cc (none, is));
+    registers_held = λ p m.
+        absurd (no_name_in_nulls 16 p (subst (λ (xs : List (Option Place)). Contains xs (Some p)) e.regs m));
+    slots_held = λ p m. absurd
+        (no_name_in_nulls 64 p (subst (λ (xs : List (Option Place)). Contains xs (Some p)) e.slots m));
+    fields_held = λ p q f is.
+        absurd (let none : field_in (cell_of h.shape p) f ≡ None =
+        ap (λ (o : Option CellState). field_in o f) (no_cell p) in cc (none, is));
     cells = λ p cell is. absurd (cc (no_cell p, is));
     apart = λ p q x a b. absurd (cc (no_name p, a));
     objects_are = λ n o is. absurd (cc is);
     wrappers_are = λ c t is. absurd (cc is);
-    mapped = λ c t p is. absurd (let none : place_of h.shape.wrappers c.0 t ≡ None = ap (λ (w : WrappersState). place_of w c.0 t) e.wrappers ∙ no_place 64 c.0 t in cc (none, is));
-    maps_at_home = λ z entry m. absurd (nothing_in_none entry (subst (λ (xs : List (WrapperKey × Place)). Contains xs entry) (ap (λ (w : WrappersState). list_of w z) e.wrappers ∙ no_list 64 z) m));
+    mapped = λ c t p is.
+        absurd (let none : place_of h.shape.wrappers c.0 t ≡ None =
+        ap (λ (w : WrappersState). place_of w c.0 t) e.wrappers ∙ no_place 64 c.0 t in cc (none, is));
+    maps_at_home = λ z entry m.
+        absurd (nothing_in_none entry
+        (subst (λ (xs : List (WrapperKey × Place)). Contains xs entry)
+        (ap (λ (w : WrappersState). list_of w z) e.wrappers ∙ no_list 64 z) m));
     entries_held = λ m k v is. absurd (cc (e.entries m k, is));
     entries_are = λ m k v x y z is a b c. absurd (cc (e.entries m k, is));
     entries_known = λ x y z is. absurd (cc is);

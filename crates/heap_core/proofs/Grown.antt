@@ -1,5 +1,6 @@
 -- One more zone, and one more compartment.
-use Rattle.std.proofs.Common.{◌≡◌, ◌≢◌, ◌+◌, ◌<◌, ◌≤◌, ℕ, List, [], ◌∷◌, ◌++◌, length, Ok, refl, sym, ap, ◌∙◌, arith, add-one, nat_lt, true}
+use Rattle.std.proofs.Common.{◌≡◌, ◌≢◌, ◌+◌, ◌<◌, ◌≤◌, ℕ, List, [], ◌∷◌, ◌++◌, length, Ok, refl, sym, ap, ◌∙◌, arith}
+use Rattle.std.proofs.Common.{add-one, nat_lt, true}
 use Rattle.std.proofs.lemmas.Bool.Decides.{nat_tests}
 use Rattle.gz_names.specs.declared.numbers.Place.{Place}
 use Rattle.gz_names.specs.declared.numbers.CompNo.{CompNo}
@@ -22,12 +23,23 @@ use Rattle.heap_core.proofs.Stepping.{does-accepted}
 abbrev graph_with_zone : GraphState → GraphState
 graph_with_zone g = record g { zones = g.zones + 1 }
 
-wrapper_with_zone : (h : HeapState) (g : GraphState) (p : Place) (cell : CellState) (c : CompNo) (t : ℕ) → IsWrapperOf h.shape g p cell c t → IsWrapperOf (with_zone h).shape (graph_with_zone g) p cell c t
-wrapper_with_zone h g p cell c t w = record { target = w.target; kind_is = w.kind_is; comp_is = w.comp_is; fields_is = w.fields_is; target_is = w.target_is; known = w.known; mapped = w.mapped }
+wrapper_with_zone : (h : HeapState) (g : GraphState) (p : Place) (cell : CellState) (c : CompNo) (t : ℕ)
+    → IsWrapperOf h.shape g p cell c t → IsWrapperOf (with_zone h).shape (graph_with_zone g) p cell c t
+wrapper_with_zone h g p cell c t w =
+    record {
+      target = w.target;
+      kind_is = w.kind_is;
+      comp_is = w.comp_is;
+      fields_is = w.fields_is;
+      target_is = w.target_is;
+      known = w.known;
+      mapped = w.mapped;
+    }
 
 shows-with_zone : (h : HeapState) (g : GraphState) → Shows h g → Shows (with_zone h) (graph_with_zone g)
 shows-with_zone h g s = record {
-  zones_are = ap (λ (n : ℕ). n + 1) s.zones_are ∙ add-one (length h.shape.states) ∙ sym (length_push h.shape.states state.NoGC);
+  zones_are = ap (λ (n : ℕ). n + 1) s.zones_are ∙ add-one (length h.shape.states)
+      ∙ sym (length_push h.shape.states state.NoGC);
   comps_are = s.comps_are;
   objects_made = s.objects_made;
   registers_are = s.registers_are;
@@ -35,7 +47,14 @@ shows-with_zone h g s = record {
   registers_held = s.registers_held;
   slots_held = s.slots_held;
   fields_held = s.fields_held;
-  cells = λ p cell e. (let k = s.cells p cell e in record { stands = stands_as h.shape (with_zone h).shape g (graph_with_zone g) p cell cell.name (λ n o. o) (wrapper_with_zone h g p cell) k.stands; sized = k.sized; few = k.few; at_home = k.at_home });
+  cells = λ p cell e. (let k = s.cells p cell e in
+      record {
+        stands = stands_as h.shape (with_zone h).shape g (graph_with_zone g) p cell cell.name (λ n o. o)
+            (wrapper_with_zone h g p cell) k.stands;
+        sized = k.sized;
+        few = k.few;
+        at_home = k.at_home;
+      });
   apart = s.apart;
   objects_are = s.objects_are;
   wrappers_are = s.wrappers_are;
@@ -51,10 +70,12 @@ shows-with_zone h g s = record {
 below_limit : (n limit : ℕ) → n ≤ limit → n ≢ limit → n < limit
 below_limit n limit most not = omega arith
 
-zone_step : (g : GraphState) (n : ℕ) → g.zones ≡ n → n < ZONE_LIMIT → step_of g cmd.Zone ≡ (graph_with_zone g, reply.Zone n)
+zone_step : (g : GraphState) (n : ℕ) → g.zones ≡ n → n < ZONE_LIMIT
+    → step_of g cmd.Zone ≡ (graph_with_zone g, reply.Zone n)
 zone_step g n e lt = let t : nat_lt n ZONE_LIMIT ≡ true = grind (arith, nat_tests) in rw (e, t) refl
 
-pub does-zone : (h : HeapState) (n : ℕ) → n ≡ length h.shape.states → n ≤ ZONE_LIMIT → n ≢ ZONE_LIMIT → DoesStep h cmd.Zone (Ok (reply.Zone n)) (with_zone h)
+pub does-zone : (h : HeapState) (n : ℕ) → n ≡ length h.shape.states → n ≤ ZONE_LIMIT → n ≢ ZONE_LIMIT
+    → DoesStep h cmd.Zone (Ok (reply.Zone n)) (with_zone h)
 does-zone h n e most not = does-accepted h cmd.Zone (reply.Zone n) (with_zone h) (λ g s. record {
   after = graph_with_zone g;
   step = zone_step g n (s.zones_are ∙ sym e) (below_limit n ZONE_LIMIT most not);
@@ -66,8 +87,18 @@ does-zone h n e most not = does-accepted h cmd.Zone (reply.Zone n) (with_zone h)
 abbrev graph_with_comp : GraphState → ℕ → GraphState
 graph_with_comp g z = record g { comps = g.comps ++ z ∷ [] }
 
-wrapper_with_comp : (h : HeapState) (g : GraphState) (z : ℕ) (p : Place) (cell : CellState) (c : CompNo) (t : ℕ) → IsWrapperOf h.shape g p cell c t → IsWrapperOf (with_comp h z).shape (graph_with_comp g z) p cell c t
-wrapper_with_comp h g z p cell c t w = record { target = w.target; kind_is = w.kind_is; comp_is = w.comp_is; fields_is = w.fields_is; target_is = w.target_is; known = w.known; mapped = w.mapped }
+wrapper_with_comp : (h : HeapState) (g : GraphState) (z : ℕ) (p : Place) (cell : CellState) (c : CompNo) (t : ℕ)
+    → IsWrapperOf h.shape g p cell c t → IsWrapperOf (with_comp h z).shape (graph_with_comp g z) p cell c t
+wrapper_with_comp h g z p cell c t w =
+    record {
+      target = w.target;
+      kind_is = w.kind_is;
+      comp_is = w.comp_is;
+      fields_is = w.fields_is;
+      target_is = w.target_is;
+      known = w.known;
+      mapped = w.mapped;
+    }
 
 shows-with_comp : (h : HeapState) (g : GraphState) (z : ℕ) → Shows h g → Shows (with_comp h z) (graph_with_comp g z)
 shows-with_comp h g z s = record {
@@ -80,7 +111,8 @@ shows-with_comp h g z s = record {
   slots_held = s.slots_held;
   fields_held = s.fields_held;
   cells = λ p cell e. (let k = s.cells p cell e in record {
-    stands = stands_as h.shape (with_comp h z).shape g (graph_with_comp g z) p cell cell.name (λ n o. o) (wrapper_with_comp h g z p cell) k.stands;
+    stands = stands_as h.shape (with_comp h z).shape g (graph_with_comp g z) p cell cell.name (λ n o. o)
+        (wrapper_with_comp h g z p cell) k.stands;
     sized = k.sized;
     few = k.few;
     at_home = get_append h.shape.comps (z ∷ []) cell.comp.0 (zone_of h.shape p) k.at_home;
@@ -96,16 +128,19 @@ shows-with_comp h g z s = record {
   few_objects = s.few_objects;
 }
 
-comp_step : (g : GraphState) (z n : ℕ) → length g.comps ≡ n → z < g.zones → n < COMP_LIMIT → step_of g (cmd.Comp z) ≡ (graph_with_comp g z, reply.Comp (record { 0 = n }))
+comp_step : (g : GraphState) (z n : ℕ) → length g.comps ≡ n → z < g.zones → n < COMP_LIMIT
+    → step_of g (cmd.Comp z) ≡ (graph_with_comp g z, reply.Comp (record { 0 = n }))
 comp_step g z n e there lt =
     let t : nat_lt z g.zones ≡ true = grind (arith, nat_tests) in
     let u : nat_lt n COMP_LIMIT ≡ true = grind (arith, nat_tests) in
     rw (e, t, u) refl
 
-pub does-comp : (h : HeapState) (z : ℕ) (c : CompNo) → c.0 ≡ length h.shape.comps → z < length h.shape.states → c.0 ≤ COMP_LIMIT → c.0 ≢ COMP_LIMIT → DoesStep h (cmd.Comp z) (Ok (reply.Comp c)) (with_comp h z)
+pub does-comp : (h : HeapState) (z : ℕ) (c : CompNo) → c.0 ≡ length h.shape.comps → z < length h.shape.states
+    → c.0 ≤ COMP_LIMIT → c.0 ≢ COMP_LIMIT → DoesStep h (cmd.Comp z) (Ok (reply.Comp c)) (with_comp h z)
 does-comp h z c e there most not = does-accepted h (cmd.Comp z) (reply.Comp c) (with_comp h z) (λ g s. record {
   after = graph_with_comp g z;
-  step = comp_step g z c.0 (ap (λ (xs : List ℕ). length xs) s.comps_are ∙ sym e) (let n = s.zones_are in omega arith) (below_limit c.0 COMP_LIMIT most not);
+  step = comp_step g z c.0 (ap (λ (xs : List ℕ). length xs) s.comps_are ∙ sym e) (let n = s.zones_are in omega arith)
+      (below_limit c.0 COMP_LIMIT most not);
   sure = refl;
   shows = shows-with_comp h g z s;
 })

@@ -21,24 +21,59 @@ use Rattle.heap_core.proofs.Shown.{stands_as, reg_shown, reg_present}
 use Rattle.heap_core.proofs.Stepping.{does-accepted}
 
 -- a cell stands for its name also where only registers and slots are others
-wrapper_held : (h : HeapState) (g : GraphState) (r : ℕ) (v : Option Place) (x : Option Name) (p : Place) (cell : CellState) (c : CompNo) (t : ℕ) → IsWrapperOf h.shape g p cell c t → IsWrapperOf (with_reg h r v).shape (step.with_register g r x) p cell c t
-wrapper_held h g r v x p cell c t w = record { target = w.target; kind_is = w.kind_is; comp_is = w.comp_is; fields_is = w.fields_is; target_is = w.target_is; known = w.known; mapped = w.mapped }
+wrapper_held : (h : HeapState) (g : GraphState) (r : ℕ) (v : Option Place) (x : Option Name) (p : Place)
+    (cell : CellState) (c : CompNo) (t : ℕ) → IsWrapperOf h.shape g p cell c t
+    → IsWrapperOf (with_reg h r v).shape (step.with_register g r x) p cell c t
+wrapper_held h g r v x p cell c t w =
+    record {
+      target = w.target;
+      kind_is = w.kind_is;
+      comp_is = w.comp_is;
+      fields_is = w.fields_is;
+      target_is = w.target_is;
+      known = w.known;
+      mapped = w.mapped;
+    }
 
-wrapper_in_slot : (h : HeapState) (g : GraphState) (r : ℕ) (v : Option Place) (x : Option Name) (p : Place) (cell : CellState) (c : CompNo) (t : ℕ) → IsWrapperOf h.shape g p cell c t → IsWrapperOf (with_slot h r v).shape (step.with_slot g r x) p cell c t
-wrapper_in_slot h g r v x p cell c t w = record { target = w.target; kind_is = w.kind_is; comp_is = w.comp_is; fields_is = w.fields_is; target_is = w.target_is; known = w.known; mapped = w.mapped }
+wrapper_in_slot : (h : HeapState) (g : GraphState) (r : ℕ) (v : Option Place) (x : Option Name) (p : Place)
+    (cell : CellState) (c : CompNo) (t : ℕ) → IsWrapperOf h.shape g p cell c t
+    → IsWrapperOf (with_slot h r v).shape (step.with_slot g r x) p cell c t
+wrapper_in_slot h g r v x p cell c t w =
+    record {
+      target = w.target;
+      kind_is = w.kind_is;
+      comp_is = w.comp_is;
+      fields_is = w.fields_is;
+      target_is = w.target_is;
+      known = w.known;
+      mapped = w.mapped;
+    }
 
 -- a register takes a present cell, or becomes empty
-pub shows-with_reg : (h : HeapState) (g : GraphState) (r : ℕ) (v : Option Place) → Shows h g → ForSome v (IsPresent h.shape) → Shows (with_reg h r v) (step.with_register g r (held_name h.shape v))
+pub shows-with_reg : (h : HeapState) (g : GraphState) (r : ℕ) (v : Option Place) → Shows h g
+    → ForSome v (IsPresent h.shape) → Shows (with_reg h r v) (step.with_register g r (held_name h.shape v))
 shows-with_reg h g r v s there = record {
   zones_are = s.zones_are;
   comps_are = s.comps_are;
   objects_made = s.objects_made;
-  registers_are = ap (λ (xs : List (Option Name)). slice_set xs r (held_name h.shape v)) s.registers_are ∙ sym (map-set (held_name h.shape) h.shape.regs r v);
+  registers_are = ap (λ (xs : List (Option Name)). slice_set xs r (held_name h.shape v)) s.registers_are
+      ∙ sym (map-set (held_name h.shape) h.shape.regs r v);
   slots_are = s.slots_are;
-  registers_held = λ p c. elim (contains_set_cases h.shape.regs r v (Some p) c) [ inl k ↦ s.registers_held p k | inr e ↦ there p e ];
+  registers_held = λ p c. elim (contains_set_cases h.shape.regs r v (Some p) c) [
+    | inl k ↦ s.registers_held p k
+    | inr e
+        ↦ there p e
+  ];
   slots_held = s.slots_held;
   fields_held = s.fields_held;
-  cells = λ p cell e. (let k = s.cells p cell e in record { stands = stands_as h.shape (with_reg h r v).shape g (step.with_register g r (held_name h.shape v)) p cell cell.name (λ n e. e) (wrapper_held h g r v (held_name h.shape v) p cell) k.stands; sized = k.sized; few = k.few; at_home = k.at_home });
+  cells = λ p cell e. (let k = s.cells p cell e in
+      record {
+        stands = stands_as h.shape (with_reg h r v).shape g (step.with_register g r (held_name h.shape v)) p cell
+            cell.name (λ n e. e) (wrapper_held h g r v (held_name h.shape v) p cell) k.stands;
+        sized = k.sized;
+        few = k.few;
+        at_home = k.at_home;
+      });
   apart = s.apart;
   objects_are = s.objects_are;
   wrappers_are = s.wrappers_are;
@@ -51,17 +86,30 @@ shows-with_reg h g r v s there = record {
 }
 
 -- a gray slot does
-pub shows-with_slot : (h : HeapState) (g : GraphState) (r : ℕ) (v : Option Place) → Shows h g → ForSome v (IsPresent h.shape) → Shows (with_slot h r v) (step.with_slot g r (held_name h.shape v))
+pub shows-with_slot : (h : HeapState) (g : GraphState) (r : ℕ) (v : Option Place) → Shows h g
+    → ForSome v (IsPresent h.shape) → Shows (with_slot h r v) (step.with_slot g r (held_name h.shape v))
 shows-with_slot h g r v s there = record {
   zones_are = s.zones_are;
   comps_are = s.comps_are;
   objects_made = s.objects_made;
   registers_are = s.registers_are;
-  slots_are = ap (λ (xs : List (Option Name)). slice_set xs r (held_name h.shape v)) s.slots_are ∙ sym (map-set (held_name h.shape) h.shape.slots r v);
+  slots_are = ap (λ (xs : List (Option Name)). slice_set xs r (held_name h.shape v)) s.slots_are
+      ∙ sym (map-set (held_name h.shape) h.shape.slots r v);
   registers_held = s.registers_held;
-  slots_held = λ p c. elim (contains_set_cases h.shape.slots r v (Some p) c) [ inl k ↦ s.slots_held p k | inr e ↦ there p e ];
+  slots_held = λ p c. elim (contains_set_cases h.shape.slots r v (Some p) c) [
+    | inl k ↦ s.slots_held p k
+    | inr e
+        ↦ there p e
+  ];
   fields_held = s.fields_held;
-  cells = λ p cell e. (let k = s.cells p cell e in record { stands = stands_as h.shape (with_slot h r v).shape g (step.with_slot g r (held_name h.shape v)) p cell cell.name (λ n e. e) (wrapper_in_slot h g r v (held_name h.shape v) p cell) k.stands; sized = k.sized; few = k.few; at_home = k.at_home });
+  cells = λ p cell e. (let k = s.cells p cell e in
+      record {
+        stands = stands_as h.shape (with_slot h r v).shape g (step.with_slot g r (held_name h.shape v)) p cell
+            cell.name (λ n e. e) (wrapper_in_slot h g r v (held_name h.shape v) p cell) k.stands;
+        sized = k.sized;
+        few = k.few;
+        at_home = k.at_home;
+      });
   apart = s.apart;
   objects_are = s.objects_are;
   wrappers_are = s.wrappers_are;
@@ -79,7 +127,10 @@ named_sure None = refl
 named_sure (Some x) = refl
 
 -- a register takes what a command looked up, and the reply names it
-pub does-take : (h : HeapState) (c : GraphCmd) (r : ℕ) (v : Option Place) → ((g : GraphState) → Shows h g → ForSome v (IsPresent h.shape)) → ((g : GraphState) → Shows h g → step_of g c ≡ take_in_register g r (held_name h.shape v)) → DoesStep h c (Ok (named_or_null (held_name h.shape v))) (with_reg h r v)
+pub does-take : (h : HeapState) (c : GraphCmd) (r : ℕ) (v : Option Place)
+    → ((g : GraphState) → Shows h g → ForSome v (IsPresent h.shape))
+    → ((g : GraphState) → Shows h g → step_of g c ≡ take_in_register g r (held_name h.shape v))
+    → DoesStep h c (Ok (named_or_null (held_name h.shape v))) (with_reg h r v)
 does-take h c r v there e = does-accepted h c (named_or_null (held_name h.shape v)) (with_reg h r v) (λ g s. record {
   after = step.with_register g r (held_name h.shape v);
   step = e g s;

@@ -1,40 +1,7 @@
 -- What keeps the zones of all targets noted.
-use Rattle.std.proofs.Common.{
-  ◌≡◌,
-  ◌<◌,
-  ◌==◌,
-  ◌&&◌,
-  ◌++◌,
-  ◌∷◌,
-  ◌↔◌,
-  ℕ,
-  zero,
-  suc,
-  Bool,
-  true,
-  false,
-  List,
-  [],
-  length,
-  replicate,
-  Option,
-  Some,
-  None,
-  IsSomeAnd,
-  OnErr,
-  OnOk,
-  Result,
-  Ok,
-  Err,
-  slice_get,
-  option_map,
-  if◌then◌else◌,
-  refl,
-  sym,
-  ◌∙◌,
-  ap,
-  subst,
-}
+use Rattle.std.proofs.Common.{◌≡◌, ◌<◌, ◌==◌, ◌&&◌, ◌++◌, ◌∷◌, ◌↔◌, ℕ, zero, suc, Bool, true, false, List, [], length}
+use Rattle.std.proofs.Common.{replicate, Option, Some, None, IsSomeAnd, OnErr, OnOk, Result, Ok, Err, slice_get}
+use Rattle.std.proofs.Common.{option_map, if◌then◌else◌, refl, sym, ◌∙◌, ap, subst}
 use Rattle.std.specs.Int.{bit_at}
 use Rattle.gz_names.specs.declared.commands.Kind.{Kind}
 use Rattle.gz_names.specs.declared.commands.Kind.TheVariants as kind
@@ -45,18 +12,8 @@ use Rattle.gz_names.specs.declared.zone_sets.ZoneSet.{ZoneSet}
 use Rattle.cell_bits.specs.declared.bits.Bits.{Bits}
 use Rattle.arena_table.specs.Cells.{CellState, field_count, field_of, with_value}
 use Rattle.arena_table.specs.Indexed.{in_zones}
-use Rattle.arena_table.specs.Slots.{
-  Arena,
-  cell_at,
-  cell_in,
-  change_at,
-  empty_arena,
-  handed_out,
-  taken_in,
-  with_bits,
-  with_cell,
-  with_field,
-}
+use Rattle.arena_table.specs.Slots.{Arena, cell_at, cell_in, change_at, empty_arena, handed_out, taken_in, with_bits}
+use Rattle.arena_table.specs.Slots.{with_cell, with_field}
 use Rattle.arena_table.specs.Table.{ArenasState, grown_to, in_these, is_place, new_cell, no_bits, put_at}
 use Rattle.wrappers.specs.TargetZones.{IsNoted}
 use Rattle.heap_core.specs.Changes.{wrapper_cell}

@@ -1,5 +1,6 @@
 -- Places that are one, and cells that are present.
-use Rattle.std.proofs.Common.{◌≡◌, ◌<◌, Bool, true, false, eqb, eqb-true, eq-eqb, List, [], ◌∷◌, length, map, Option, Some, None, IsSome, is_some, refl, ap, subst, slice_get, Contains}
+use Rattle.std.proofs.Common.{◌≡◌, ◌<◌, Bool, true, false, eqb, eqb-true, eq-eqb, List, [], ◌∷◌, length, map, Option}
+use Rattle.std.proofs.Common.{Some, None, IsSome, is_some, refl, ap, subst, slice_get, Contains}
 use Rattle.std.proofs.lemmas.Option.{slice_get_within}
 use Rattle.std.specs.Option.{option_map}
 use Rattle.gz_names.specs.declared.names.Name.{Name}
@@ -39,7 +40,8 @@ pub present_within : (s : Shape) (p : Place) → IsPresent s p → p.0 < length 
 present_within s p e = go (slice_get s.arenas p.0) refl
   where
     go : (o : Option ArenaShape) → slice_get s.arenas p.0 ≡ o → p.0 < length s.arenas
-    go None is = absurd (let gone : IsSome (cell_in_arena None p.1) = subst (λ o. IsSome (cell_in_arena o p.1)) is e in cc gone)
+    go None is = absurd (let gone : IsSome (cell_in_arena None p.1) = subst (λ o. IsSome (cell_in_arena o p.1)) is e in
+        cc gone)
     go (Some arena) is = slice_get_within s.arenas p.0 arena is
 
 pub present_cell : (s : Shape) (p : Place) → IsPresent s p → (cell : CellState) × (cell_of s p ≡ Some cell)
@@ -56,7 +58,8 @@ pub cell_present : (s : Shape) (p : Place) (cell : CellState) → cell_of s p �
 cell_present s p cell e = ap (λ (o : Option CellState). is_some o) e
 
 -- a function is mapped over the members of a list alone
-pub map-members : {X Y : Type 0} (f g : X → Y) (xs : List X) → ((x : X) → Contains xs x → f x ≡ g x) → map f xs ≡ map g xs
+pub map-members : {X Y : Type 0} (f g : X → Y) (xs : List X) → ((x : X) → Contains xs x → f x ≡ g x)
+    → map f xs ≡ map g xs
 map-members f g [] h = refl
 map-members f g (x ∷ xs) h =
     let e = h x (contains_head x xs) in

@@ -1,33 +1,6 @@
 -- The plans of the commands.
-use Rattle.std.proofs.Common.{
-  ◌≡◌,
-  ◌≢◌,
-  ◌<◌,
-  ◌≤◌,
-  ◌⊎◌,
-  ◌&&◌,
-  inl,
-  inr,
-  ℕ,
-  Bool,
-  true,
-  false,
-  List,
-  Option,
-  Some,
-  None,
-  Ok,
-  length,
-  is_some,
-  slice_get,
-  if◌then◌else◌,
-  refl,
-  sym,
-  ap,
-  subst,
-  ◌∙◌,
-  arith,
-}
+use Rattle.std.proofs.Common.{◌≡◌, ◌≢◌, ◌<◌, ◌≤◌, ◌⊎◌, ◌&&◌, inl, inr, ℕ, Bool, true, false, List, Option, Some, None}
+use Rattle.std.proofs.Common.{Ok, length, is_some, slice_get, if◌then◌else◌, refl, sym, ap, subst, ◌∙◌, arith}
 use Rattle.std.specs.Prelude.{IsSomeAnd, option_and_then, unwrap_or}
 use Rattle.std.specs.Option.{ForSome, option_map}
 use Rattle.std.proofs.lemmas.Option.{slice_get_within}
@@ -58,41 +31,13 @@ use Rattle.heap_core.specs.Shows.{Shows, is_map, is_wrapper}
 use Rattle.heap_core.specs.Answers.{DoesStep, IsSound}
 use Rattle.heap_core.specs.Changes.{Writes, with_comp, with_zone, without_entry}
 use Rattle.heap_core.specs.Effects.{Changes, IsWithout}
-use Rattle.heap_core.specs.Lookups.{
-  Hands,
-  IsEntry,
-  IsWrappable,
-  IsWritable,
-  entry_refusal,
-  entry_refusal_in,
-  field_refusal,
-  fits_in,
-  held_field,
-  held_value,
-  key_refusal,
-  number_at,
-  seen_from,
-  target_at,
-  target_in,
-  value_to_set,
-}
+use Rattle.heap_core.specs.Lookups.{Hands, IsEntry, IsWrappable, IsWritable, entry_refusal, entry_refusal_in}
+use Rattle.heap_core.specs.Lookups.{field_refusal, fits_in, held_field, held_value, key_refusal, number_at, seen_from}
+use Rattle.heap_core.specs.Lookups.{target_at, target_in, value_to_set}
 use Rattle.heap_core.specs.Peeks.{handed, made_in, stored, wrapped_in, wrapped_target}
 use Rattle.heap_core.specs.Plans as plans
-use Rattle.heap_core.specs.Plans.{
-  ChangesBy,
-  HasField,
-  IsAble,
-  IsHeld,
-  IsNear,
-  IsNoWrap,
-  IsPlanIn,
-  IsPlanOf,
-  IsWith,
-  IsWoken,
-  LiesIn,
-  MayCome,
-  MayWant,
-}
+use Rattle.heap_core.specs.Plans.{ChangesBy, HasField, IsAble, IsHeld, IsNear, IsNoWrap, IsPlanIn, IsPlanOf, IsWith}
+use Rattle.heap_core.specs.Plans.{IsWoken, LiesIn, MayCome, MayWant}
 use Rattle.heap_core.proofs.Places.{present_cell}
 use Rattle.heap_core.proofs.Shown.{of_map, reg_present, slot_present, slot_shown, wrapper_there}
 use Rattle.heap_core.proofs.Fetched.{field_there}

@@ -1,25 +1,35 @@
 -- How a change of the arenas shows in the heap.
-use Rattle.std.proofs.Common.{◌≡◌, ◌+◌, ◌&&◌, ℕ, zero, suc, Bool, true, false, List, [], ◌∷◌, length, Option, Some, None, slice_get, slice_set, option_map, unwrap_or, IfNone, IsSome, is_some, if◌then◌else◌, All, refl, sym, ◌∙◌, ap, subst}
+use Rattle.std.proofs.Common.{◌≡◌, ◌+◌, ◌&&◌, ℕ, zero, suc, Bool, true, false, List, [], ◌∷◌, length, Option, Some}
+use Rattle.std.proofs.Common.{None, slice_get, slice_set, option_map, unwrap_or, IfNone, IsSome, is_some, if◌then◌else◌}
+use Rattle.std.proofs.Common.{All, refl, sym, ◌∙◌, ap, subst}
 use Rattle.std.proofs.lemmas.List.{length-map}
 use Rattle.std.proofs.lemmas.List.Elements.{All-nil, All-cons, All-head, All-tail}
 use Rattle.cell_bits.specs.declared.bits.Bits.{Bits}
 use Rattle.cell_bits.specs.declared.jobs.Job.{Job}
-use Rattle.arena_table.specs.Slots.{Arena, alloc_word_of, change_at, handed_out, held_by, held_in, is_out_at, taken_in, with_bits}
+use Rattle.arena_table.specs.Slots.{Arena, alloc_word_of, change_at, handed_out, held_by, held_in, is_out_at, taken_in}
+use Rattle.arena_table.specs.Slots.{with_bits}
 use Rattle.arena_table.specs.Indexed.{in_zones, is_among}
 use Rattle.arena_table.specs.Table.{ArenasState, AreIn, in_these, jobs_from, no_bits}
 use Rattle.heap_core.specs.Shape.{ArenaShape, arena_shape, arena_shapes, is_owned_in, is_white, out_in, out_of}
 use Rattle.heap_core.specs.Heap.{HeapState, bits_of}
-use Rattle.heap_core.specs.Sweeping.{AreKept, cleared, come_in, handed, held_in_all, is_lost_in, jobs_of, with_clear, with_handed, with_taken}
+use Rattle.heap_core.specs.Sweeping.{AreKept, cleared, come_in, handed, held_in_all, is_lost_in, jobs_of, with_clear}
+use Rattle.heap_core.specs.Sweeping.{with_handed, with_taken}
 
 -- the heap with these arenas
 abbrev pub with_arenas : HeapState → List Arena → ℕ → HeapState
-with_arenas h xs made = record h { shape = record h.shape { arenas = arena_shapes xs }; colours = bits_of xs; made = made }
+with_arenas h xs made = record h {
+  shape = record h.shape { arenas = arena_shapes xs };
+  colours = bits_of xs;
+  made = made;
+}
 
 abbrev pub with_parts : HeapState → List ArenaShape → List Bits → HeapState
 with_parts h xs bs = record h { shape = record h.shape { arenas = xs }; colours = bs }
 
-pub with_arenas-is : (h : HeapState) (xs : List Arena) (ss : List ArenaShape) (bs : List Bits) → arena_shapes xs ≡ ss → bits_of xs ≡ bs → with_arenas h xs h.made ≡ with_parts h ss bs
-with_arenas-is h xs ss bs e f = ap (λ (s : List ArenaShape). with_parts h s (bits_of xs)) e ∙ ap (λ (b : List Bits). with_parts h ss b) f
+pub with_arenas-is : (h : HeapState) (xs : List Arena) (ss : List ArenaShape) (bs : List Bits) → arena_shapes xs ≡ ss
+    → bits_of xs ≡ bs → with_arenas h xs h.made ≡ with_parts h ss bs
+with_arenas-is h xs ss bs e f = ap (λ (s : List ArenaShape). with_parts h s (bits_of xs)) e
+    ∙ ap (λ (b : List Bits). with_parts h ss b) f
 
 -- what follows from what is said where there is none
 pub none_then : {P Q : Type 0} (o : Option ℕ) → IfNone o P → (P → Q) → IfNone o Q
@@ -51,7 +61,8 @@ out-seen xs a e = by (out_in (slice_get (arena_shapes xs) a)) (sym (is_out-seen 
     by (Some bits) some = some
 
 -- whether an arena is one of a set of zones
-pub among-seen : (xs : List Arena) (word a : ℕ) → is_owned_in word (slice_get (arena_shapes xs) a) ≡ is_among word (slice_get xs a)
+pub among-seen : (xs : List Arena) (word a : ℕ) → is_owned_in word (slice_get (arena_shapes xs) a)
+    ≡ is_among word (slice_get xs a)
 among-seen [] word a = refl
 among-seen (x ∷ xs) word zero = refl
 among-seen (x ∷ xs) word (suc a) = among-seen xs word a
@@ -61,15 +72,20 @@ out-none true bits e = absurd (cc e)
 out-none false bits e = refl
 
 -- an arena takes bits
-pub shapes-with_bits : (xs : List Arena) (a : ℕ) (bits : Bits) → out_in (slice_get (arena_shapes xs) a) ≡ None → arena_shapes (change_at (with_bits bits) xs a) ≡ arena_shapes xs
+pub shapes-with_bits : (xs : List Arena) (a : ℕ) (bits : Bits) → out_in (slice_get (arena_shapes xs) a) ≡ None
+    → arena_shapes (change_at (with_bits bits) xs a) ≡ arena_shapes xs
 shapes-with_bits [] a bits e = refl
-shapes-with_bits (x ∷ xs) zero bits e = ap (λ (o : Option Bits). record { zone = x.zone; out = o; slots = x.slots } ∷ arena_shapes xs) (same x.is_out (out-none x.is_out x.bits e))
+shapes-with_bits (x ∷ xs) zero bits e =
+    ap (λ (o : Option Bits). record { zone = x.zone; out = o; slots = x.slots } ∷ arena_shapes xs)
+    (same x.is_out (out-none x.is_out x.bits e))
   where
     same : (b : Bool) → b ≡ false → (if b then Some bits else None) ≡ (if b then Some x.bits else None)
     same b f = rw f refl
-shapes-with_bits (x ∷ xs) (suc a) bits e = ap (λ (s : List ArenaShape). arena_shape x ∷ s) (shapes-with_bits xs a bits e)
+shapes-with_bits (x ∷ xs) (suc a) bits e =
+    ap (λ (s : List ArenaShape). arena_shape x ∷ s) (shapes-with_bits xs a bits e)
 
-pub bits-with_bits : (xs : List Arena) (a : ℕ) (bits : Bits) → bits_of (change_at (with_bits bits) xs a) ≡ slice_set (bits_of xs) a bits
+pub bits-with_bits : (xs : List Arena) (a : ℕ) (bits : Bits) → bits_of (change_at (with_bits bits) xs a)
+    ≡ slice_set (bits_of xs) a bits
 bits-with_bits [] a bits = refl
 bits-with_bits (x ∷ xs) zero bits = refl
 bits-with_bits (x ∷ xs) (suc a) bits = ap (λ (b : List Bits). x.bits ∷ b) (bits-with_bits xs a bits)
@@ -78,24 +94,36 @@ bits-with_bits (x ∷ xs) (suc a) bits = ap (λ (b : List Bits). x.bits ∷ b) (
 pub out-kept : (x : Arena) → (arena_shape x).out ≡ None → x.is_out ≡ false
 out-kept x e = out-none x.is_out x.bits e
 
-pub are-in : (word : ℕ) (xs : List Arena) → All (λ (s : ArenaShape). in_zones word s.zone ≡ true → s.out ≡ None) (arena_shapes xs) → AreIn word xs
+pub are-in : (word : ℕ) (xs : List Arena)
+    → All (λ (s : ArenaShape). in_zones word s.zone ≡ true → s.out ≡ None) (arena_shapes xs) → AreIn word xs
 are-in word [] all = All-nil (λ (x : Arena). in_zones word x.zone ≡ true → x.is_out ≡ false)
-are-in word (x ∷ xs) all = All-cons (λ (x : Arena). in_zones word x.zone ≡ true → x.is_out ≡ false) x xs (λ e. out-kept x (All-head (λ (s : ArenaShape). in_zones word s.zone ≡ true → s.out ≡ None) (arena_shape x) (arena_shapes xs) all e)) (are-in word xs (All-tail (λ (s : ArenaShape). in_zones word s.zone ≡ true → s.out ≡ None) (arena_shape x) (arena_shapes xs) all))
+are-in word (x ∷ xs) all = All-cons (λ (x : Arena). in_zones word x.zone ≡ true → x.is_out ≡ false) x xs
+    (λ e. out-kept x (All-head (λ (s : ArenaShape). in_zones word s.zone ≡ true → s.out ≡ None) (arena_shape x)
+    (arena_shapes xs) all e))
+    (are-in word xs (All-tail (λ (s : ArenaShape). in_zones word s.zone ≡ true → s.out ≡ None) (arena_shape x)
+    (arena_shapes xs) all))
 
-shape-cleared : (x : Arena) (b : Bool) → (b ≡ true → x.is_out ≡ false) → arena_shape (if b then with_bits no_bits x else x) ≡ arena_shape x
-shape-cleared x true k = ap (λ (o : Option Bits). record { zone = x.zone; out = o; slots = x.slots }) (same x.is_out (k refl))
+shape-cleared : (x : Arena) (b : Bool) → (b ≡ true → x.is_out ≡ false)
+    → arena_shape (if b then with_bits no_bits x else x) ≡ arena_shape x
+shape-cleared x true k = ap (λ (o : Option Bits). record { zone = x.zone; out = o; slots = x.slots })
+    (same x.is_out (k refl))
   where
     same : (b : Bool) → b ≡ false → (if b then Some no_bits else None) ≡ (if b then Some x.bits else None)
     same b f = rw f refl
 shape-cleared x false k = refl
 
-pub shapes-cleared : (word : ℕ) (xs : List Arena) → AreIn word xs → arena_shapes (in_these (with_bits no_bits) word xs) ≡ arena_shapes xs
+pub shapes-cleared : (word : ℕ) (xs : List Arena) → AreIn word xs → arena_shapes (in_these (with_bits no_bits) word xs)
+    ≡ arena_shapes xs
 shapes-cleared word [] all = refl
 shapes-cleared word (x ∷ xs) all =
-    ap (λ (s : ArenaShape). s ∷ arena_shapes (in_these (with_bits no_bits) word xs)) (shape-cleared x (in_zones word x.zone) (All-head (λ (x : Arena). in_zones word x.zone ≡ true → x.is_out ≡ false) x xs all))
-    ∙ ap (λ (ss : List ArenaShape). arena_shape x ∷ ss) (shapes-cleared word xs (All-tail (λ (x : Arena). in_zones word x.zone ≡ true → x.is_out ≡ false) x xs all))
+    ap (λ (s : ArenaShape). s ∷ arena_shapes (in_these (with_bits no_bits) word xs))
+    (shape-cleared x (in_zones word x.zone)
+    (All-head (λ (x : Arena). in_zones word x.zone ≡ true → x.is_out ≡ false) x xs all))
+    ∙ ap (λ (ss : List ArenaShape). arena_shape x ∷ ss)
+    (shapes-cleared word xs (All-tail (λ (x : Arena). in_zones word x.zone ≡ true → x.is_out ≡ false) x xs all))
 
-pub bits-cleared : (word : ℕ) (xs : List Arena) → bits_of (in_these (with_bits no_bits) word xs) ≡ cleared word (arena_shapes xs) (bits_of xs)
+pub bits-cleared : (word : ℕ) (xs : List Arena) → bits_of (in_these (with_bits no_bits) word xs)
+    ≡ cleared word (arena_shapes xs) (bits_of xs)
 bits-cleared word [] = refl
 bits-cleared word (x ∷ xs) =
     ap (λ (b : Bits). b ∷ bits_of (in_these (with_bits no_bits) word xs)) (one (in_zones word x.zone))
@@ -105,15 +133,19 @@ bits-cleared word (x ∷ xs) =
     one true = refl
     one false = refl
 
-shape-handed : (x : Arena) (b : Bool) → arena_shape (if b then handed_out x else x) ≡ (if b then record (arena_shape x) { out = Some x.bits } else arena_shape x)
+shape-handed : (x : Arena) (b : Bool) → arena_shape (if b then handed_out x else x)
+    ≡ (if b then record (arena_shape x) { out = Some x.bits } else arena_shape x)
 shape-handed x true = refl
 shape-handed x false = refl
 
-pub shapes-handed : (word : ℕ) (xs : List Arena) → arena_shapes (in_these handed_out word xs) ≡ handed word (arena_shapes xs) (bits_of xs)
+pub shapes-handed : (word : ℕ) (xs : List Arena) → arena_shapes (in_these handed_out word xs)
+    ≡ handed word (arena_shapes xs) (bits_of xs)
 shapes-handed word [] = refl
 shapes-handed word (x ∷ xs) =
     ap (λ (s : ArenaShape). s ∷ arena_shapes (in_these handed_out word xs)) (shape-handed x (in_zones word x.zone))
-    ∙ ap (λ (ss : List ArenaShape). (if in_zones word x.zone then record (arena_shape x) { out = Some x.bits } else arena_shape x) ∷ ss) (shapes-handed word xs)
+    ∙ ap (λ (ss : List ArenaShape).
+    (if in_zones word x.zone then record (arena_shape x) { out = Some x.bits } else arena_shape x) ∷ ss)
+    (shapes-handed word xs)
 
 pub bits-handed : (word : ℕ) (xs : List Arena) → bits_of (in_these handed_out word xs) ≡ bits_of xs
 bits-handed word [] = refl
@@ -127,15 +159,21 @@ bits-handed word (x ∷ xs) =
 
 pub jobs-seen : (word n : ℕ) (xs : List Arena) → jobs_from word n xs ≡ jobs_of word n (arena_shapes xs) (bits_of xs)
 jobs-seen word n [] = refl
-jobs-seen word n (x ∷ xs) = ap (λ (js : List Job). if in_zones word x.zone then record { arena = n; alloc_word = alloc_word_of x.slots; bits = x.bits } ∷ js else js) (jobs-seen word (suc n) xs)
+jobs-seen word n (x ∷ xs) =
+    ap (λ (js : List Job). if in_zones word x.zone
+    then record { arena = n; alloc_word = alloc_word_of x.slots; bits = x.bits } ∷ js else js)
+    (jobs-seen word (suc n) xs)
 
 -- an arena is taken in
-pub shapes-taken : (xs : List Arena) (a freed : ℕ) (bits : Bits) → arena_shapes (change_at (taken_in freed bits) xs a) ≡ change_at (come_in freed) (arena_shapes xs) a
+pub shapes-taken : (xs : List Arena) (a freed : ℕ) (bits : Bits) → arena_shapes (change_at (taken_in freed bits) xs a)
+    ≡ change_at (come_in freed) (arena_shapes xs) a
 shapes-taken [] a freed bits = refl
 shapes-taken (x ∷ xs) zero freed bits = refl
-shapes-taken (x ∷ xs) (suc a) freed bits = ap (λ (s : List ArenaShape). arena_shape x ∷ s) (shapes-taken xs a freed bits)
+shapes-taken (x ∷ xs) (suc a) freed bits =
+    ap (λ (s : List ArenaShape). arena_shape x ∷ s) (shapes-taken xs a freed bits)
 
-pub bits-taken : (xs : List Arena) (a freed : ℕ) (bits : Bits) → bits_of (change_at (taken_in freed bits) xs a) ≡ slice_set (bits_of xs) a bits
+pub bits-taken : (xs : List Arena) (a freed : ℕ) (bits : Bits) → bits_of (change_at (taken_in freed bits) xs a)
+    ≡ slice_set (bits_of xs) a bits
 bits-taken [] a freed bits = refl
 bits-taken (x ∷ xs) zero freed bits = refl
 bits-taken (x ∷ xs) (suc a) freed bits = ap (λ (b : List Bits). x.bits ∷ b) (bits-taken xs a freed bits)
@@ -146,34 +184,59 @@ with_state h s = with_arenas h s.arenas s.made
 
 -- there are mark bits for each arena
 pub sized : (h k : HeapState) (s : ArenasState) → with_state h s ≡ k → length k.colours ≡ length k.shape.arenas
-sized h k s v = subst (λ (k : HeapState). length k.colours ≡ length k.shape.arenas) v (length-map s.arenas (λ (arena : Arena). arena.bits) ∙ sym (length-map s.arenas arena_shape))
+sized h k s v = subst (λ (k : HeapState). length k.colours ≡ length k.shape.arenas) v
+    (length-map s.arenas (λ (arena : Arena). arena.bits) ∙ sym (length-map s.arenas arena_shape))
 
-state-is : (h : HeapState) (s t : ArenasState) (ss : List ArenaShape) (bs : List Bits) → t.made ≡ s.made → arena_shapes t.arenas ≡ ss → bits_of t.arenas ≡ bs → with_state h t ≡ with_parts (with_state h s) ss bs
-state-is h s t ss bs m e f = ap (λ (n : ℕ). with_arenas h t.arenas n) m ∙ (ap (λ (x : List ArenaShape). with_parts (with_arenas h t.arenas s.made) x (bits_of t.arenas)) e ∙ ap (λ (b : List Bits). with_parts (with_state h s) ss b) f)
+state-is : (h : HeapState) (s t : ArenasState) (ss : List ArenaShape) (bs : List Bits) → t.made ≡ s.made
+    → arena_shapes t.arenas ≡ ss → bits_of t.arenas ≡ bs → with_state h t ≡ with_parts (with_state h s) ss bs
+state-is h s t ss bs m e f = ap (λ (n : ℕ). with_arenas h t.arenas n) m
+    ∙ (ap (λ (x : List ArenaShape). with_parts (with_arenas h t.arenas s.made) x (bits_of t.arenas)) e
+    ∙ ap (λ (b : List Bits). with_parts (with_state h s) ss b) f)
 
-pub set_bits-seen : (h k : HeapState) (s t : ArenasState) (a : ℕ) (bits : Bits) → with_state h s ≡ k → out_of k.shape a ≡ None → t ≡ record s { arenas = change_at (with_bits bits) s.arenas a } → with_state h t ≡ record k { colours = slice_set k.colours a bits }
-set_bits-seen h k s t a bits v out e = subst (λ (k : HeapState). out_of k.shape a ≡ None → with_state h t ≡ record k { colours = slice_set k.colours a bits }) v
-    (λ o. ap (with_state h) e ∙ state-is h s (record s { arenas = change_at (with_bits bits) s.arenas a }) (arena_shapes s.arenas) (slice_set (bits_of s.arenas) a bits) refl (shapes-with_bits s.arenas a bits o) (bits-with_bits s.arenas a bits)) out
+pub set_bits-seen : (h k : HeapState) (s t : ArenasState) (a : ℕ) (bits : Bits) → with_state h s ≡ k
+    → out_of k.shape a ≡ None → t ≡ record s { arenas = change_at (with_bits bits) s.arenas a }
+    → with_state h t ≡ record k { colours = slice_set k.colours a bits }
+set_bits-seen h k s t a bits v out e =
+    subst (λ (k : HeapState). out_of k.shape a ≡ None
+    → with_state h t ≡ record k { colours = slice_set k.colours a bits }) v
+    (λ o. ap (with_state h) e ∙ state-is h s (record s { arenas = change_at (with_bits bits) s.arenas a })
+    (arena_shapes s.arenas) (slice_set (bits_of s.arenas) a bits) refl (shapes-with_bits s.arenas a bits o)
+    (bits-with_bits s.arenas a bits)) out
 
-pub clear_bits-seen : (h k : HeapState) (s t : ArenasState) (word : ℕ) → with_state h s ≡ k → AreIn word s.arenas → t ≡ record s { arenas = in_these (with_bits no_bits) word s.arenas } → with_state h t ≡ with_clear k word
+pub clear_bits-seen : (h k : HeapState) (s t : ArenasState) (word : ℕ) → with_state h s ≡ k → AreIn word s.arenas
+    → t ≡ record s { arenas = in_these (with_bits no_bits) word s.arenas } → with_state h t ≡ with_clear k word
 clear_bits-seen h k s t word v kept e = subst (λ (k : HeapState). with_state h t ≡ with_clear k word) v
-    (ap (with_state h) e ∙ state-is h s (record s { arenas = in_these (with_bits no_bits) word s.arenas }) (arena_shapes s.arenas) (cleared word (arena_shapes s.arenas) (bits_of s.arenas)) refl (shapes-cleared word s.arenas kept) (bits-cleared word s.arenas))
+    (ap (with_state h) e ∙ state-is h s (record s { arenas = in_these (with_bits no_bits) word s.arenas })
+    (arena_shapes s.arenas) (cleared word (arena_shapes s.arenas) (bits_of s.arenas)) refl
+    (shapes-cleared word s.arenas kept) (bits-cleared word s.arenas))
 
-pub hand_out-seen : (h k : HeapState) (s t : ArenasState) (word : ℕ) → with_state h s ≡ k → t ≡ record s { arenas = in_these handed_out word s.arenas; reserved = None } → with_state h t ≡ with_handed k word
+pub hand_out-seen : (h k : HeapState) (s t : ArenasState) (word : ℕ) → with_state h s ≡ k
+    → t ≡ record s { arenas = in_these handed_out word s.arenas; reserved = None } → with_state h t ≡ with_handed k word
 hand_out-seen h k s t word v e = subst (λ (k : HeapState). with_state h t ≡ with_handed k word) v
-    (ap (with_state h) e ∙ state-is h s (record s { arenas = in_these handed_out word s.arenas; reserved = None }) (handed word (arena_shapes s.arenas) (bits_of s.arenas)) (bits_of s.arenas) refl (shapes-handed word s.arenas) (bits-handed word s.arenas))
+    (ap (with_state h) e ∙ state-is h s (record s { arenas = in_these handed_out word s.arenas; reserved = None })
+    (handed word (arena_shapes s.arenas) (bits_of s.arenas)) (bits_of s.arenas) refl (shapes-handed word s.arenas)
+    (bits-handed word s.arenas))
 
-pub take_in-seen : (h k : HeapState) (s t : ArenasState) (a freed : ℕ) (bits : Bits) → with_state h s ≡ k → t ≡ record s { arenas = change_at (taken_in freed bits) s.arenas a; reserved = None } → with_state h t ≡ with_taken k a freed bits
+pub take_in-seen : (h k : HeapState) (s t : ArenasState) (a freed : ℕ) (bits : Bits) → with_state h s ≡ k
+    → t ≡ record s { arenas = change_at (taken_in freed bits) s.arenas a; reserved = None }
+    → with_state h t ≡ with_taken k a freed bits
 take_in-seen h k s t a freed bits v e = subst (λ (k : HeapState). with_state h t ≡ with_taken k a freed bits) v
-    (ap (with_state h) e ∙ state-is h s (record s { arenas = change_at (taken_in freed bits) s.arenas a; reserved = None }) (change_at (come_in freed) (arena_shapes s.arenas) a) (slice_set (bits_of s.arenas) a bits) refl (shapes-taken s.arenas a freed bits) (bits-taken s.arenas a freed bits))
+    (ap (with_state h) e
+    ∙ state-is h s (record s { arenas = change_at (taken_in freed bits) s.arenas a; reserved = None })
+    (change_at (come_in freed) (arena_shapes s.arenas) a) (slice_set (bits_of s.arenas) a bits) refl
+    (shapes-taken s.arenas a freed bits) (bits-taken s.arenas a freed bits))
 
-pub kept-in : (h k : HeapState) (s : ArenasState) (word : ℕ) → with_state h s ≡ k → AreKept word k.shape → AreIn word s.arenas
+pub kept-in : (h k : HeapState) (s : ArenasState) (word : ℕ) → with_state h s ≡ k → AreKept word k.shape
+    → AreIn word s.arenas
 kept-in h k s word v kept = are-in word s.arenas (subst (λ (k : HeapState). AreKept word k.shape) (sym v) kept)
 
 -- whether a slot was lost
-pub lost-seen : (xs : List Arena) (a k : ℕ) (b : Bits) (o w : Bool) → o ≡ is_out_at xs a → option_map (λ (x : Arena). x.bits) (slice_get xs a) ≡ Some b → w ≡ is_white b k → (o && w) ≡ is_lost_in (slice_get xs a) k
+pub lost-seen : (xs : List Arena) (a k : ℕ) (b : Bits) (o w : Bool) → o ≡ is_out_at xs a
+    → option_map (λ (x : Arena). x.bits) (slice_get xs a) ≡ Some b → w ≡ is_white b k
+    → (o && w) ≡ is_lost_in (slice_get xs a) k
 lost-seen [] a k b o w e f g = absurd (cc f)
-lost-seen (x ∷ xs) zero k b o w e f g = ap (λ t. t && w) e ∙ ap (λ t. x.is_out && t) (g ∙ ap (λ c. is_white c k) (sym (some_is f)))
+lost-seen (x ∷ xs) zero k b o w e f g = ap (λ t. t && w) e
+    ∙ ap (λ t. x.is_out && t) (g ∙ ap (λ c. is_white c k) (sym (some_is f)))
   where
     some_is : {c d : Bits} → Some c ≡ Some d → c ≡ d
     some_is {c} {d} h = ap (λ (q : Option Bits). unwrap_or q c) h

@@ -10,7 +10,8 @@ use Rattle.colour_defs.specs.Step.{step_of, refusal_in}
 use Rattle.heap_core.specs.Heap.{HeapState}
 use Rattle.heap_core.specs.Shows.{Shows}
 
--- the answer gives this reply: a refusal is answered as such, and memory is wanted only where the command is not refused
+-- the answer gives this reply: a refusal is answered as such, and memory is wanted only where the command is not
+-- refused
 abbrev pub IsAnswer : Reply → Result Reply CmdFault → Type 0
 IsAnswer r (Ok answer) = (answer ≡ r) × (refusal_in r ≡ None)
 IsAnswer r (Err (fault.Refused why)) = r ≡ reply.Refused why
@@ -23,7 +24,8 @@ IsAfter old g (Err fault) new = new ≡ old
 
 -- on each graph that the heap shows, the command answers and does what the step on that graph says
 abbrev pub DoesStep : HeapState → GraphCmd → Result Reply CmdFault → HeapState → Type 0
-DoesStep old c result new = (g : GraphState) → Shows old g → IsAnswer (step_of g c).1 result × IsAfter old (step_of g c).0 result new
+DoesStep old c result new = (g : GraphState) → Shows old g → IsAnswer (step_of g c).1 result
+    × IsAfter old (step_of g c).0 result new
 
 -- the heap shows some graph
 abbrev pub IsSound : HeapState → Type 0

@@ -1,5 +1,6 @@
 -- What commands change in a heap, by places.
-use Rattle.std.specs.Prelude.{◌≡◌, ◌≢◌, ◌<◌, ℕ, suc, ◌+◌, ◌==◌, ◌&&◌, Bool, List, [], ◌∷◌, ◌++◌, length, Option, Some, None, is_none, if◌then◌else◌}
+use Rattle.std.specs.Prelude.{◌≡◌, ◌≢◌, ◌<◌, ℕ, suc, ◌+◌, ◌==◌, ◌&&◌, Bool, List, [], ◌∷◌, ◌++◌, length, Option, Some}
+use Rattle.std.specs.Prelude.{None, is_none, if◌then◌else◌}
 use Rattle.std.specs.Option.{option_map}
 use Rattle.gz_names.specs.declared.commands.Kind.TheVariants as kind
 use Rattle.gz_names.specs.declared.names.Name.TheVariants.{Wrap}
@@ -22,7 +23,8 @@ takes_cells zone arena = (arena.zone == zone) && (is_none arena.out && has_free 
 -- the place of the next cell of a zone, where the first arena of the list has the number n
 abbrev pub next_place_from : ℕ → List ArenaShape → ℕ → Place
 next_place_from n [] zone = (n, 0)
-next_place_from n (arena ∷ arenas) zone = if takes_cells zone arena then (n, first_free arena.slots) else next_place_from (suc n) arenas zone
+next_place_from n (arena ∷ arenas) zone = if takes_cells zone arena then (n, first_free arena.slots)
+    else next_place_from (suc n) arenas zone
 
 -- the place of the next cell of a zone
 abbrev pub next_place : Shape → ℕ → Place
@@ -34,16 +36,25 @@ pub record Writes (old : HeapState) (p : Place) (f : ℕ) (v : Option Place) (ne
   pub sized : length new.shape.arenas ≡ length old.shape.arenas
   pub zones : (q : Place) → zone_of new.shape q ≡ zone_of old.shape q
   pub outs : (a : ℕ) → out_of new.shape a ≡ out_of old.shape a
-  pub cells : (q : Place) → cell_of new.shape q ≡ (if is_place q p then option_map (with_value f v) (cell_of old.shape q) else cell_of old.shape q)
-  pub stored : (q : Place) → stored_at new.shape q ≡ (if is_place q p then option_map (with_value f v) (stored_at old.shape q) else stored_at old.shape q)
+  pub cells : (q : Place)
+      → cell_of new.shape q
+      ≡ (if is_place q p then option_map (with_value f v) (cell_of old.shape q) else cell_of old.shape q)
+  pub stored : (q : Place)
+      → stored_at new.shape q
+      ≡ (if is_place q p then option_map (with_value f v) (stored_at old.shape q) else stored_at old.shape q)
   pub whole : AreWhole old.shape.arenas → AreWhole new.shape.arenas
 
 -- a black cell was made at the next place of a zone
 pub record Makes (old : HeapState) (zone : ℕ) (p : Place) (cell : CellState) (new : HeapState) : Type 0 where
-  pub rest : new ≡ record old { shape = record old.shape { arenas = new.shape.arenas }; colours = new.colours; made = old.made + 1 }
+  pub rest : new ≡ record old {
+    shape = record old.shape { arenas = new.shape.arenas };
+    colours = new.colours;
+    made = old.made + 1;
+  }
   pub place_is : p ≡ next_place old.shape zone
   pub free : cell_of old.shape p ≡ None
-  pub grown : length new.shape.arenas ≡ (if p.0 == length old.shape.arenas then length old.shape.arenas + 1 else length old.shape.arenas)
+  pub grown : length new.shape.arenas
+      ≡ (if p.0 == length old.shape.arenas then length old.shape.arenas + 1 else length old.shape.arenas)
   pub coloured : length new.colours ≡ length new.shape.arenas
   pub zone_is : zone_of new.shape p ≡ zone
   pub zones : (q : Place) → q.0 < length old.shape.arenas → zone_of new.shape q ≡ zone_of old.shape q
@@ -57,15 +68,20 @@ pub record Makes (old : HeapState) (zone : ℕ) (p : Place) (cell : CellState) (
 
 -- a wrapper: its one field holds its target
 abbrev pub wrapper_cell : CompNo → ℕ → Place → CellState
-wrapper_cell comp number target = record { kind = kind.Wrapper; comp = comp; name = Wrap comp number; fields = Some target ∷ [] }
+wrapper_cell comp number target =
+    record { kind = kind.Wrapper; comp = comp; name = Wrap comp number; fields = Some target ∷ [] }
 
 -- a wrapper was made and found its way into the wrapper map
-pub record MakesWrapper (old : HeapState) (zone : ℕ) (comp : CompNo) (number : ℕ) (target p : Place) (new : HeapState) : Type 0 where
+pub record MakesWrapper (old : HeapState) (zone : ℕ) (comp : CompNo) (number : ℕ) (target p : Place)
+    (new : HeapState) : Type 0 where
   pub made : HeapState
   pub makes : Makes old zone p (wrapper_cell comp number target) made
   pub rest : new ≡ record made { shape = record made.shape { wrappers = new.shape.wrappers } }
-  pub found : (c t : ℕ) → place_of new.shape.wrappers c t ≡ (if (c == comp.0) && (t == number) then Some p else place_of old.shape.wrappers c t)
-  pub listed : list_of new.shape.wrappers zone ≡ list_of old.shape.wrappers zone ++ (record { comp = comp.0; target = number }, p) ∷ []
+  pub found : (c t : ℕ)
+      → place_of new.shape.wrappers c t
+      ≡ (if (c == comp.0) && (t == number) then Some p else place_of old.shape.wrappers c t)
+  pub listed : list_of new.shape.wrappers zone ≡ list_of old.shape.wrappers zone
+      ++ (record { comp = comp.0; target = number }, p) ∷ []
   pub others : (z : ℕ) → z ≢ zone → list_of new.shape.wrappers z ≡ list_of old.shape.wrappers z
 
 -- the entry of a map's key has this value, or there is none any more

@@ -1,21 +1,6 @@
 -- What each command on the graph leaves, by places.
-use Rattle.std.specs.Prelude.{
-  ◌≡◌,
-  ◌≢◌,
-  ◌<◌,
-  ◌&&◌,
-  ℕ,
-  Bool,
-  true,
-  false,
-  Option,
-  Some,
-  None,
-  IsSomeAnd,
-  replicate,
-  slice_get,
-  if◌then◌else◌,
-}
+use Rattle.std.specs.Prelude.{◌≡◌, ◌≢◌, ◌<◌, ◌&&◌, ℕ, Bool, true, false, Option, Some, None, IsSomeAnd, replicate}
+use Rattle.std.specs.Prelude.{slice_get, if◌then◌else◌}
 use Rattle.gz_names.specs.declared.names.Name.TheVariants.{Cell}
 use Rattle.gz_names.specs.declared.commands.Kind.{Kind}
 use Rattle.gz_names.specs.declared.commands.Kind.TheVariants as kind
@@ -31,16 +16,8 @@ use Rattle.weak_maps.specs.WeakMaps.{value_of}
 use Rattle.colour_defs.specs.declared.graph.Object.{Object}
 use Rattle.heap_core.specs.Shape.{comp_at}
 use Rattle.heap_core.specs.Heap.{HeapState, reg_of, slot_of, with_reg, with_slot}
-use Rattle.heap_core.specs.Changes.{
-  Makes,
-  MakesWrapper,
-  Writes,
-  with_comp,
-  with_entry,
-  with_number,
-  with_zone,
-  without_entry,
-}
+use Rattle.heap_core.specs.Changes.{Makes, MakesWrapper, Writes, with_comp, with_entry, with_number, with_zone}
+use Rattle.heap_core.specs.Changes.{without_entry}
 use Rattle.heap_core.specs.Shows.{is_map}
 use Rattle.heap_core.specs.Lookups.{held_field, held_value, number_at, target_at, value_to_set}
 
@@ -72,18 +49,26 @@ pub record HoldsWrapper (old : HeapState) (r : ℕ) (c : CompNo) (t : Place) (ne
 
 -- a register took the target of another's cell, or its wrapper in a compartment, which was there or was made
 pub data Wraps (old : HeapState) (r s : ℕ) (c : CompNo) (new : HeapState) : Type 0 where
-  itself : (p : Place) → reg_of old s ≡ Some p → comp_at old.shape (target_at old.shape p) ≡ Some c → new ≡ with_reg old r (Some (target_at old.shape p)) → Wraps old r s c new
-  found : (p wrapper : Place) → reg_of old s ≡ Some p → comp_at old.shape (target_at old.shape p) ≢ Some c → place_of old.shape.wrappers c.0 (number_at old.shape (target_at old.shape p)) ≡ Some wrapper → new ≡ with_reg old r (Some wrapper) → Wraps old r s c new
-  made : (p : Place) → reg_of old s ≡ Some p → comp_at old.shape (target_at old.shape p) ≢ Some c → place_of old.shape.wrappers c.0 (number_at old.shape (target_at old.shape p)) ≡ None → HoldsWrapper old r c (target_at old.shape p) new → Wraps old r s c new
+  itself : (p : Place) → reg_of old s ≡ Some p → comp_at old.shape (target_at old.shape p) ≡ Some c
+      → new ≡ with_reg old r (Some (target_at old.shape p)) → Wraps old r s c new
+  found : (p wrapper : Place) → reg_of old s ≡ Some p → comp_at old.shape (target_at old.shape p) ≢ Some c
+      → place_of old.shape.wrappers c.0 (number_at old.shape (target_at old.shape p)) ≡ Some wrapper
+      → new ≡ with_reg old r (Some wrapper) → Wraps old r s c new
+  made : (p : Place) → reg_of old s ≡ Some p → comp_at old.shape (target_at old.shape p) ≢ Some c
+      → place_of old.shape.wrappers c.0 (number_at old.shape (target_at old.shape p)) ≡ None
+      → HoldsWrapper old r c (target_at old.shape p) new → Wraps old r s c new
 
 -- the entry of a register's map and another one's cell has a third one's value
 abbrev pub Puts : HeapState → ℕ → ℕ → ℕ → HeapState → Type 0
-Puts old m k v new = IsSomeAnd (reg_of old m) (λ map. IsSomeAnd (reg_of old k) (λ key. IsSomeAnd (reg_of old v) (λ value. new ≡ with_entry old map key value)))
+Puts old m k v new =
+    IsSomeAnd (reg_of old m)
+    (λ map. IsSomeAnd (reg_of old k) (λ key. IsSomeAnd (reg_of old v) (λ value. new ≡ with_entry old map key value)))
 
 -- an entry is there no more, and each other one is found as before
 pub record IsWithout (old : HeapState) (map key : Place) (new : HeapState) : Type 0 where
   pub rest : new ≡ without_entry old map key
-  pub values : (m k : Place) → value_of new.shape.weak m k ≡ (if is_same map m && is_same key k then None else value_of old.shape.weak m k)
+  pub values : (m k : Place)
+      → value_of new.shape.weak m k ≡ (if is_same map m && is_same key k then None else value_of old.shape.weak m k)
 
 -- the entry of a register's map and another one's cell is there no more
 abbrev pub Dels : HeapState → ℕ → ℕ → HeapState → Type 0

@@ -1,5 +1,6 @@
 -- The heap: what is in it, and the colours of its cells.
-use Rattle.std.specs.Prelude.{◌≡◌, ℕ, suc, List, [], ◌∷◌, Option, Some, None, map, slice_get, slice_set, slice_index_or, replicate}
+use Rattle.std.specs.Prelude.{◌≡◌, ℕ, suc, List, [], ◌∷◌, Option, Some, None, map, slice_get, slice_set, slice_index_or}
+use Rattle.std.specs.Prelude.{replicate}
 use Rattle.gz_names.specs.declared.numbers.Place.{Place}
 use Rattle.cell_bits.specs.declared.bits.Bits.{Bits}
 use Rattle.cell_bits.specs.declared.bits.Colour.{Colour}
@@ -9,7 +10,8 @@ use Rattle.arena_table.specs.Slots.{Arena}
 use Rattle.weak_maps.specs.WeakMaps.{value_of}
 use Rattle.heap_core.specs.Shape.{Shape}
 
--- the mark bits of each arena, for each zone the places that wait for its gray marking, and how many cells were ever made
+-- the mark bits of each arena, for each zone the places that wait for its gray marking, and how many cells were ever
+-- made
 pub record HeapState : Type 0 where
   pub shape : Shape
   pub colours : List Bits

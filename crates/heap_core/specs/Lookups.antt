@@ -1,5 +1,6 @@
 -- What commands on the graph look up, by places, and why they are refused.
-use Rattle.std.specs.Prelude.{◌≡◌, ℕ, ◌<◌, Bool, true, Result, Ok, Err, Option, Some, None, is_some, nat_lt, ◌&&◌, length, unwrap_or, if◌then◌else◌, option_and_then}
+use Rattle.std.specs.Prelude.{◌≡◌, ℕ, ◌<◌, Bool, true, Result, Ok, Err, Option, Some, None, is_some, nat_lt, ◌&&◌}
+use Rattle.std.specs.Prelude.{length, unwrap_or, if◌then◌else◌, option_and_then}
 use Rattle.std.specs.Option.{option_map}
 use Rattle.gz_names.specs.declared.names.Name.{Name}
 use Rattle.gz_names.specs.declared.commands.Kind.{Kind}
@@ -29,7 +30,8 @@ value_to_set h t = option_and_then (reg_of h) t
 
 -- the value of a register's map at another one's cell
 abbrev pub held_value : HeapState → ℕ → ℕ → Option Place
-held_value h m k = option_and_then (λ map. option_and_then (λ key. value_of h.shape.weak map key) (reg_of h k)) (reg_of h m)
+held_value h m k = option_and_then (λ map. option_and_then (λ key. value_of h.shape.weak map key) (reg_of h k))
+    (reg_of h m)
 
 -- what a cell stands for: a wrapper's target, or the cell itself
 abbrev pub target_in : Option CellState → Place → Place
@@ -77,7 +79,8 @@ abbrev pub entry_refusal_in : Shape → Option CellState → Place → Place →
 entry_refusal_in s None k v = Some refusal.Kind
 entry_refusal_in s (Some map) k v =
     if is_map map.kind
-    then (if is_same_comp (comp_at s k) map.comp && is_same_comp (comp_at s v) map.comp then key_refusal (cell_of s k) else Some refusal.Cross)
+    then (if is_same_comp (comp_at s k) map.comp && is_same_comp (comp_at s v) map.comp then key_refusal (cell_of s k)
+    else Some refusal.Cross)
     else Some refusal.Kind
 
 abbrev pub entry_refusal : Shape → Place → Place → Place → Option Refusal
@@ -121,4 +124,5 @@ pub record IsEntry (h : HeapState) (m k v : ℕ) (map key value : Place) : Type 
   pub allowed : entry_refusal h.shape map key value ≡ None
 
 abbrev pub IsNoEntry : HeapState → ℕ → ℕ → ℕ → Refusal → Type 0
-IsNoEntry h m k v why = (g : GraphState) → Shows h g → refusal_by g (register_cell g m) (register_cell g k) (register_cell g v) ≡ Some why
+IsNoEntry h m k v why = (g : GraphState) → Shows h g
+    → refusal_by g (register_cell g m) (register_cell g k) (register_cell g v) ≡ Some why

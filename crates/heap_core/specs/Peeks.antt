@@ -1,18 +1,6 @@
 -- What a command will overwrite or remove, what it is about, and what it will hand to its register.
-use Rattle.std.specs.Prelude.{
-  ◌≡◌,
-  ℕ,
-  Option,
-  Some,
-  None,
-  Result,
-  Ok,
-  Err,
-  is_some,
-  slice_get,
-  option_and_then,
-  if◌then◌else◌,
-}
+use Rattle.std.specs.Prelude.{◌≡◌, ℕ, Option, Some, None, Result, Ok, Err, is_some, slice_get, option_and_then}
+use Rattle.std.specs.Prelude.{if◌then◌else◌}
 use Rattle.std.specs.Option.{option_map}
 use Rattle.gz_names.specs.declared.commands.GraphCmd.{GraphCmd}
 use Rattle.gz_names.specs.declared.commands.GraphCmd.TheVariants as cmd
@@ -96,7 +84,8 @@ IsOld h c p = (g : GraphState) → Shows h g → p ≡ unless_refused (refusal_i
 -- the zone of a new wrapper of a register's cell in a compartment; none where the compartment sees the cell already
 abbrev pub wrapped_in : HeapState → Option Place → CompNo → Option ℕ
 wrapped_in h None c = None
-wrapped_in h (Some p) c = if is_some (seen_from h.shape c (target_at h.shape p)) then None else slice_get h.shape.comps c.0
+wrapped_in h (Some p) c = if is_some (seen_from h.shape c (target_at h.shape p)) then None
+    else slice_get h.shape.comps c.0
 
 -- the zone in which a command makes a cell, if it makes one
 abbrev pub made_in : HeapState → GraphCmd → Option ℕ

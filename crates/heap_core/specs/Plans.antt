@@ -1,26 +1,6 @@
 -- The change that a command makes, by kinds, and what a plan says of its command.
-use Rattle.std.specs.Prelude.{
-  ◌≡◌,
-  ◌≢◌,
-  ◌<◌,
-  ◌≤◌,
-  ◌&&◌,
-  ◌⊎◌,
-  ℕ,
-  true,
-  false,
-  List,
-  Option,
-  Some,
-  None,
-  Ok,
-  length,
-  is_some,
-  slice_get,
-  Contains,
-  IsSomeAnd,
-  if◌then◌else◌,
-}
+use Rattle.std.specs.Prelude.{◌≡◌, ◌≢◌, ◌<◌, ◌≤◌, ◌&&◌, ◌⊎◌, ℕ, true, false, List, Option, Some, None, Ok, length}
+use Rattle.std.specs.Prelude.{is_some, slice_get, Contains, IsSomeAnd, if◌then◌else◌}
 use Rattle.std.specs.Option.{ForSome}
 use Rattle.gz_names.specs.declared.limits.TheConstants.{ZONE_LIMIT, COMP_LIMIT}
 use Rattle.gz_names.specs.declared.names.Name.{Name}

@@ -1,5 +1,6 @@
 -- What is in the heap, by places: its cells and what they name, and what holds them.
-use Rattle.std.specs.Prelude.{◌≡◌, ◌<◌, ℕ, Bool, true, false, ◌==◌, ◌&&◌, not, List, length, map, Option, Some, None, IsSome, slice_get, if◌then◌else◌, option_and_then}
+use Rattle.std.specs.Prelude.{◌≡◌, ◌<◌, ℕ, Bool, true, false, ◌==◌, ◌&&◌, not, List, length, map, Option, Some, None}
+use Rattle.std.specs.Prelude.{IsSome, slice_get, if◌then◌else◌, option_and_then}
 use Rattle.std.specs.Option.{option_map}
 use Rattle.std.specs.Int.{bit_at}
 use Rattle.gz_names.specs.declared.names.Name.{Name}
@@ -134,7 +135,11 @@ comp_at s p = option_map (λ cell. cell.comp) (cell_of s p)
 
 -- an arena as it is kept, seen so; and all of them
 abbrev pub arena_shape : Arena → ArenaShape
-arena_shape arena = record { zone = arena.zone; out = if arena.is_out then Some arena.bits else None; slots = arena.slots }
+arena_shape arena = record {
+  zone = arena.zone;
+  out = if arena.is_out then Some arena.bits else None;
+  slots = arena.slots;
+}
 
 abbrev pub arena_shapes : List Arena → List ArenaShape
 arena_shapes arenas = map arena_shape arenas

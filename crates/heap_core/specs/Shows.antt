@@ -65,10 +65,17 @@ pub record Shows (h : HeapState) (g : GraphState) : Type 0 where
   pub cells : (p : Place) (cell : CellState) → cell_of h.shape p ≡ Some cell → IsShown h.shape g p cell
   pub apart : (p q : Place) (x : Name) → name_at h.shape p ≡ Some x → name_at h.shape q ≡ Some x → p ≡ q
   pub objects_are : (n : ℕ) (o : Object) → object_of g n ≡ Some o → (p : Place) × (name_at h.shape p ≡ Some (Cell n))
-  pub wrappers_are : (c : CompNo) (t : ℕ) → IsTrue (has_wrapper g c t) → (p : Place) × (name_at h.shape p ≡ Some (Wrap c t))
-  pub mapped : (c : CompNo) (t : ℕ) (p : Place) → place_of h.shape.wrappers c.0 t ≡ Some p → name_at h.shape p ≡ Some (Wrap c t)
-  pub maps_at_home : (z : ℕ) (e : WrapperKey × Place) → Contains (list_of h.shape.wrappers z) e → slice_get h.shape.comps e.0.comp ≡ Some z
-  pub entries_held : (m k v : Place) → value_of h.shape.weak m k ≡ Some v → IsPresent h.shape m × IsPresent h.shape k × IsPresent h.shape v
-  pub entries_are : (m k v : Place) (x y z : Name) → value_of h.shape.weak m k ≡ Some v → name_at h.shape m ≡ Some x → name_at h.shape k ≡ Some y → name_at h.shape v ≡ Some z → graph.value_of g x y ≡ Some z
-  pub entries_known : (x y z : Name) → graph.value_of g x y ≡ Some z → (m : Place) × (k : Place) × (v : Place) × (value_of h.shape.weak m k ≡ Some v) × (name_at h.shape m ≡ Some x) × (name_at h.shape k ≡ Some y) × (name_at h.shape v ≡ Some z)
+  pub wrappers_are : (c : CompNo) (t : ℕ) → IsTrue (has_wrapper g c t)
+      → (p : Place) × (name_at h.shape p ≡ Some (Wrap c t))
+  pub mapped : (c : CompNo) (t : ℕ) (p : Place) → place_of h.shape.wrappers c.0 t ≡ Some p
+      → name_at h.shape p ≡ Some (Wrap c t)
+  pub maps_at_home : (z : ℕ) (e : WrapperKey × Place) → Contains (list_of h.shape.wrappers z) e
+      → slice_get h.shape.comps e.0.comp ≡ Some z
+  pub entries_held : (m k v : Place) → value_of h.shape.weak m k ≡ Some v → IsPresent h.shape m × IsPresent h.shape k
+      × IsPresent h.shape v
+  pub entries_are : (m k v : Place) (x y z : Name) → value_of h.shape.weak m k ≡ Some v → name_at h.shape m ≡ Some x
+      → name_at h.shape k ≡ Some y → name_at h.shape v ≡ Some z → graph.value_of g x y ≡ Some z
+  pub entries_known : (x y z : Name) → graph.value_of g x y ≡ Some z → (m : Place) × (k : Place) × (v : Place)
+      × (value_of h.shape.weak m k ≡ Some v) × (name_at h.shape m ≡ Some x) × (name_at h.shape k ≡ Some y)
+      × (name_at h.shape v ≡ Some z)
   pub few_objects : h.shape.objects ≤ h.made

@@ -1,5 +1,6 @@
 -- What sweeping and a group's beginning and end change in a heap.
-use Rattle.std.specs.Prelude.{◌≡◌, ℕ, suc, true, List, [], ◌∷◌, Option, Some, None, Bool, false, ◌&&◌, is_none, slice_get, ◌+◌, slice_set, All, if◌then◌else◌}
+use Rattle.std.specs.Prelude.{◌≡◌, ℕ, suc, true, List, [], ◌∷◌, Option, Some, None, Bool, false, ◌&&◌, is_none}
+use Rattle.std.specs.Prelude.{slice_get, ◌+◌, slice_set, All, if◌then◌else◌}
 use Rattle.gz_names.specs.declared.numbers.Place.{Place}
 use Rattle.cell_bits.specs.declared.bits.Bits.{Bits}
 use Rattle.cell_bits.specs.declared.jobs.Job.{Job}
@@ -17,7 +18,8 @@ AreKept word s = All (λ (arena : ArenaShape). in_zones word arena.zone ≡ true
 abbrev pub cleared : ℕ → List ArenaShape → List Bits → List Bits
 cleared word [] colours = []
 cleared word (arena ∷ arenas) [] = []
-cleared word (arena ∷ arenas) (bits ∷ colours) = (if in_zones word arena.zone then no_bits else bits) ∷ cleared word arenas colours
+cleared word (arena ∷ arenas) (bits ∷ colours) = (if in_zones word arena.zone then no_bits else bits)
+    ∷ cleared word arenas colours
 
 abbrev pub with_clear : HeapState → ℕ → HeapState
 with_clear h word = record h { colours = cleared word h.shape.arenas h.colours }
@@ -26,7 +28,8 @@ with_clear h word = record h { colours = cleared word h.shape.arenas h.colours }
 abbrev pub handed : ℕ → List ArenaShape → List Bits → List ArenaShape
 handed word [] colours = []
 handed word (arena ∷ arenas) [] = []
-handed word (arena ∷ arenas) (bits ∷ colours) = (if in_zones word arena.zone then record arena { out = Some bits } else arena) ∷ handed word arenas colours
+handed word (arena ∷ arenas) (bits ∷ colours) =
+    (if in_zones word arena.zone then record arena { out = Some bits } else arena) ∷ handed word arenas colours
 
 abbrev pub with_handed : HeapState → ℕ → HeapState
 with_handed h word = record h { shape = record h.shape { arenas = handed word h.shape.arenas h.colours } }
@@ -45,7 +48,10 @@ abbrev pub come_in : ℕ → ArenaShape → ArenaShape
 come_in freed arena = record arena { out = None; slots = without_freed freed arena.slots }
 
 abbrev pub with_taken : HeapState → ℕ → ℕ → Bits → HeapState
-with_taken h a freed bits = record h { shape = record h.shape { arenas = change_at (come_in freed) h.shape.arenas a }; colours = slice_set h.colours a bits }
+with_taken h a freed bits = record h {
+  shape = record h.shape { arenas = change_at (come_in freed) h.shape.arenas a };
+  colours = slice_set h.colours a bits;
+}
 
 -- whether no present cell is at a place
 abbrev pub is_absent : Shape → Place → Bool

@@ -4,7 +4,8 @@ ghost use Rattle.std.specs.Option.{ForSome, option_map};
 ghost use Rattle.gz_names.specs.declared.commands.GraphCmd.TheVariants as cmd;
 ghost use Rattle.heap_core.specs.Shape.{IsPresent, cell_of};
 ghost use Rattle.heap_core.specs.Answers.{IsSound};
-ghost use Rattle.heap_core.specs.Lookups.{Hands, IsRefused, IsWritable, field_refusal, fits_in, held_field, is_filled, value_to_set};
+ghost use Rattle.heap_core.specs.Lookups.{Hands, IsRefused, IsWritable, field_refusal, fits_in, held_field, is_filled};
+ghost use Rattle.heap_core.specs.Lookups.{value_to_set};
 
 use crate::heap::Heap;
 use gz_names::{CompNo, Kind, Place, Refusal, Reg};

@@ -82,7 +82,8 @@ struct AnswersAndTakes<'a, 'b, R: Threads + Wait> {
     ghost below: { HasTakenBelow (main_view_of flight.now.main) next },
     ghost some: { 0 < board_len flight.now.board.now },
     ghost first: { (job_at (jobs_of flight.now.board.now) 0).arena ≡ 2 },
-    ghost gray: { bit_or 2 (job_at (jobs_of flight.now.board.now) 0).bits.gob ≡ (job_at (jobs_of flight.now.board.now) 0).bits.gob },
+    ghost gray: { bit_or 2 (job_at (jobs_of flight.now.board.now) 0).bits.gob
+        ≡ (job_at (jobs_of flight.now.board.now) 0).bits.gob },
 }
 
 impl<'a, 'b, R: Threads + Wait> MainWork for AnswersAndTakes<'a, 'b, R> {

@@ -1,9 +1,13 @@
 -- Each step keeps the rule.
-use Rattle.std.proofs.Common.{◌≡◌, ◌≢◌, ℕ, zero, suc, ◌+◌, ◌-◌, ◌*◌, ◌^◌, ◌<◌, ◌≤◌, ◌⊎◌, Bool, true, false, eqb, List, [], ◌∷◌, ◌++◌, length, get_or, set, sym, refl, ap, ◌∙◌, subst, inl, inr, ⊎_elim, arith, length-set, get_or-set_same, get_or-set_other, eq-eqb, ne_eqb, bit_or, bit_and, min, max, All, MatchBool}
+use Rattle.std.proofs.Common.{◌≡◌, ◌≢◌, ℕ, zero, suc, ◌+◌, ◌-◌, ◌*◌, ◌^◌, ◌<◌, ◌≤◌, ◌⊎◌, Bool, true, false, eqb, List}
+use Rattle.std.proofs.Common.{[], ◌∷◌, ◌++◌, length, get_or, set, sym, refl, ap, ◌∙◌, subst, inl, inr, ⊎_elim, arith}
+use Rattle.std.proofs.Common.{length-set, get_or-set_same, get_or-set_other, eq-eqb, ne_eqb, bit_or, bit_and, min, max}
+use Rattle.std.proofs.Common.{All, MatchBool}
 use Rattle.std.specs.Int.{bit_at}
 use Rattle.std.proofs.lemmas.List.Elements.{All-cons, All-nil, All-append, All-weaker, All-get_or, All-from_get_or}
 use Rattle.std.proofs.lemmas.List.{set-get_or}
-use Rattle.std.proofs.lemmas.Nat.Bits.{bit_at_and, bit_at_or, bit_at-zero, bit_at-lt, and_pow, same_from_bits, bit_at-pow_same, bit_at-pow_other}
+use Rattle.std.proofs.lemmas.Nat.Bits.{bit_at_and, bit_at_or, bit_at-zero, bit_at-lt, and_pow, same_from_bits}
+use Rattle.std.proofs.lemmas.Nat.Bits.{bit_at-pow_same, bit_at-pow_other}
 use mathlib.Core.Logic.{dite}
 use mathlib.Core.Option.{Option, none, some, some-injective, some-ne-none}
 use native.Mathlib.Decide.{ℕ_discrete}
@@ -15,7 +19,8 @@ use Rattle.mark_words.specs.Sums.{weight, weigh, only, times, total, whole}
 use Rattle.mark_words.specs.Rule.{bit_of, IsBlackIn, SeatRule, MarkRule}
 use Rattle.mark_words.specs.Views.{first_view, with_less, split_off, joined, spent, with_won, with_known}
 use Rattle.mark_words.specs.Steps.{Wins, KnowsAll, tries, settles}
-use Rattle.mark_words.proofs.Counts.{total-set, total-snoc, total-at, total-alone, weigh-append, weigh-snoc, only-same, only-arena, only-slot}
+use Rattle.mark_words.proofs.Counts.{total-set, total-snoc, total-at, total-alone, weigh-append, weigh-snoc, only-same}
+use Rattle.mark_words.proofs.Counts.{only-arena, only-slot}
 
 abbrev Sat : Type 0
 Sat = Me (Unit {0}) MarkView

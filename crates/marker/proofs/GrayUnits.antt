@@ -1,5 +1,6 @@
 -- What a unit of gray marking did, by the list that it took something out of.
-use Rattle.std.proofs.Common.{◌≡◌, ◌⊎◌, ◌+◌, ◌<◌, ◌*◌, ℕ, inl, inr, refl, sym, ap, ◌∙◌, subst, arith, Contains, List, length, ◌++◌, ◌∷◌, [], length-append, Option, sum_by}
+use Rattle.std.proofs.Common.{◌≡◌, ◌⊎◌, ◌+◌, ◌<◌, ◌*◌, ℕ, inl, inr, refl, sym, ap, ◌∙◌, subst, arith, Contains, List}
+use Rattle.std.proofs.Common.{length, ◌++◌, ◌∷◌, [], length-append, Option, sum_by}
 use Rattle.std.proofs.lemmas.List.Elements.{Contains-append_left, Contains-push}
 use Rattle.gz_names.specs.Zones.{HasZone}
 use Rattle.gz_names.specs.declared.numbers.Place.{Place}
@@ -24,7 +25,13 @@ abbrev WaitsOn : Shape → Incoming → Incoming → Type 0
 WaitsOn s a b = (n : ℕ) (x : Place) → Contains (list_of b n) x → Contains (list_of a n) x ⊎ IsBlackOnlyComp s n
 
 -- what a step of gray marking did
-pub does_gray : (P : Place → Type 0) (h m k : HeapState) (p p0 q : Piles) (a b : Incoming) → m ≡ record h { buffers = m.buffers } → Shaded P m p0 k q → p0.black ≡ p.black → p0.room ≡ p.room → 2 * length p0.gray + (sum_by length m.buffers + waiting_count b) < 2 * length p.gray + (sum_by length h.buffers + waiting_count a) → Marks h p a k q b → ((x : Place) → Contains p0.gray x → Contains p.gray x) → ((z : ℕ) (x : Place) → Contains (buffer_of m z) x → Contains (buffer_of h z) x) → WaitsOn h.shape a b → DoesGray h p a k q b
+pub does_gray : (P : Place → Type 0) (h m k : HeapState) (p p0 q : Piles) (a b : Incoming)
+    → m ≡ record h { buffers = m.buffers } → Shaded P m p0 k q → p0.black ≡ p.black → p0.room ≡ p.room
+    → 2 * length p0.gray + (sum_by length m.buffers + waiting_count b) < 2 * length p.gray
+    + (sum_by length h.buffers + waiting_count a) → Marks h p a k q b
+    → ((x : Place) → Contains p0.gray x → Contains p.gray x)
+    → ((z : ℕ) (x : Place) → Contains (buffer_of m z) x → Contains (buffer_of h z) x) → WaitsOn h.shape a b
+    → DoesGray h p a k q b
 does_gray P h m k p p0 q a b taken sh black room less marks pile buf waits =
     let buffers : k.buffers ≡ m.buffers = ap (λ (z : HeapState). z.buffers) sh.rest in
     let sums : sum_by length k.buffers ≡ sum_by length m.buffers = ap (sum_by length) buffers in
@@ -50,19 +57,27 @@ does_gray P h m k p p0 q a b taken sh black room less marks pile buf waits =
     }
 
 -- the cell that was taken from the gray pile is present, and on no list
-pub popped_present : (h k : HeapState) (p p0 q : Piles) (x : Place) (P : Place → Type 0) → MarkingInvariant h p → p ≡ pushed p0 pile.Gray x → Shaded P h p0 k q → IsPresent k.shape x
-popped_present h k p p0 q x P inv popped sh = subst (λ (s : Shape). IsPresent s x) (sym (ap (λ (z : HeapState). z.shape) sh.rest)) (inv.holds.colours.seen_present x (gray_seen h p p0 x inv.holds popped))
+pub popped_present : (h k : HeapState) (p p0 q : Piles) (x : Place) (P : Place → Type 0) → MarkingInvariant h p
+    → p ≡ pushed p0 pile.Gray x → Shaded P h p0 k q → IsPresent k.shape x
+popped_present h k p p0 q x P inv popped sh =
+    subst (λ (s : Shape). IsPresent s x) (sym (ap (λ (z : HeapState). z.shape) sh.rest))
+    (inv.holds.colours.seen_present x (gray_seen h p p0 x inv.holds popped))
 
-pub popped_apart : (h : HeapState) (p p0 : Piles) (a : Incoming) (x : Place) → GrayInvariant h p a → p ≡ pushed p0 pile.Gray x → (c : ℕ) → Contains (list_of a c) x → ⊥
-popped_apart h p p0 a x g popped c at = g.apart c x (subst (λ (z : Piles). Contains z.gray x) (sym popped) (Contains-push p0.gray x)) at
+pub popped_apart : (h : HeapState) (p p0 : Piles) (a : Incoming) (x : Place) → GrayInvariant h p a
+    → p ≡ pushed p0 pile.Gray x → (c : ℕ) → Contains (list_of a c) x → ⊥
+popped_apart h p p0 a x g popped c at =
+    g.apart c x (subst (λ (z : Piles). Contains z.gray x) (sym popped) (Contains-push p0.gray x)) at
 
 -- one cell of the gray pile was followed
-pub does_pile : (h k : HeapState) (p p0 q : Piles) (a b : Incoming) (x : Place) → MarkingInvariant h p → GrayInvariant h p a → p ≡ pushed p0 pile.Gray x → InvariantWhile [] k q → Shaded (HasEdge h.shape x) h p0 k q → LeadsToSeen h.shape x k → Noted k.shape x a b → DoesGray h p a k q b
+pub does_pile : (h k : HeapState) (p p0 q : Piles) (a b : Incoming) (x : Place) → MarkingInvariant h p
+    → GrayInvariant h p a → p ≡ pushed p0 pile.Gray x → InvariantWhile [] k q → Shaded (HasEdge h.shape x) h p0 k q
+    → LeadsToSeen h.shape x k → Noted k.shape x a b → DoesGray h p a k q b
 does_pile h k p p0 q a b x inv g popped holds sh all noted =
     let same : k.shape ≡ h.shape = ap (λ (z : HeapState). z.shape) sh.rest in
     let noted_here : Noted h.shape x a b = subst (λ (s : Shape). Noted s x a b) same noted in
     let gray_is : p.gray ≡ (p0.gray ++ x ∷ []) = ap (λ (z : Piles). z.gray) popped in
-    does_gray (HasEdge h.shape x) h h k p p0 q a b refl sh (sym (ap (λ (z : Piles). z.black) popped)) (sym (ap (λ (z : Piles). z.room) popped))
+    does_gray (HasEdge h.shape x) h h k p p0 q a b refl sh (sym (ap (λ (z : Piles). z.black) popped))
+    (sym (ap (λ (z : Piles). z.room) popped))
     (omega (arith, noted.count, ap (λ (zs : List Place). length zs) gray_is, length-append p0.gray (x ∷ [])))
     (pile_step h k p p0 q a b x inv g popped holds sh all noted_here)
     (λ y c. subst (λ zs. Contains zs y) (sym gray_is) (Contains-append_left p0.gray (x ∷ []) y c))
@@ -70,7 +85,8 @@ does_pile h k p p0 q a b x inv g popped holds sh all noted =
     noted_here.waits
 
 -- a place was taken out of a buffer: the colours are as they were
-buffered_here : (h : HeapState) (bs : List (List Place)) (p : Piles) → InvariantWhile [] h p → InvariantWhile [] (record h { buffers = bs }) p
+buffered_here : (h : HeapState) (bs : List (List Place)) (p : Piles) → InvariantWhile [] h p
+    → InvariantWhile [] (record h { buffers = bs }) p
 buffered_here h bs p inv = record {
   colours = record {
     shape = inv.colours.shape;
@@ -96,7 +112,8 @@ buffered_here h bs p inv = record {
 }
 
 -- the same with the bits in flight in place
-takes_joined : (h m : HeapState) (flown : ℕ → Option Bits) (zone : ℕ) (x : Place) → TakesBuffered h zone x m → TakesBuffered (joined h flown) zone x (joined m flown)
+takes_joined : (h m : HeapState) (flown : ℕ → Option Bits) (zone : ℕ) (x : Place) → TakesBuffered h zone x m
+    → TakesBuffered (joined h flown) zone x (joined m flown)
 takes_joined h m flown zone x takes = record {
   rest = ap (λ (z : HeapState). joined z flown) takes.rest;
   was = takes.was;
@@ -106,29 +123,47 @@ takes_joined h m flown zone x takes = record {
 }
 
 -- so what holds between two steps still holds, and the place is that of a present cell
-pub buffered_holds : (h m : HeapState) (flown : ℕ → Option Bits) (p : Piles) (zone : ℕ) (x : Place) → MarkingInvariant (joined h flown) p → TakesBuffered h zone x m → InvariantWhile [] (joined m flown) p
-buffered_holds h m flown p zone x inv takes = subst (λ (z : HeapState). InvariantWhile [] z p) (sym (takes_joined h m flown zone x takes).rest) (buffered_here (joined h flown) m.buffers p inv.holds)
+pub buffered_holds : (h m : HeapState) (flown : ℕ → Option Bits) (p : Piles) (zone : ℕ) (x : Place)
+    → MarkingInvariant (joined h flown) p → TakesBuffered h zone x m → InvariantWhile [] (joined m flown) p
+buffered_holds h m flown p zone x inv takes =
+    subst (λ (z : HeapState). InvariantWhile [] z p) (sym (takes_joined h m flown zone x takes).rest)
+    (buffered_here (joined h flown) m.buffers p inv.holds)
 
 pub same_after : (h m : HeapState) (zone : ℕ) (x : Place) → TakesBuffered h zone x m → m.shape ≡ h.shape
 same_after h m zone x takes = ap (λ (z : HeapState). z.shape) takes.rest
 
-pub buffered_is_present : (h m : HeapState) (flown : ℕ → Option Bits) (p : Piles) (a : Incoming) (zone : ℕ) (x : Place) → GrayInvariant (joined h flown) p a → TakesBuffered h zone x m → IsPresent m.shape x
-buffered_is_present h m flown p a zone x g takes = subst (λ (s : Shape). IsPresent s x) (sym (same_after h m zone x takes)) (g.buffered_present zone x takes.was)
+pub buffered_is_present : (h m : HeapState) (flown : ℕ → Option Bits) (p : Piles) (a : Incoming) (zone : ℕ) (x : Place)
+    → GrayInvariant (joined h flown) p a → TakesBuffered h zone x m → IsPresent m.shape x
+buffered_is_present h m flown p a zone x g takes =
+    subst (λ (s : Shape). IsPresent s x) (sym (same_after h m zone x takes)) (g.buffered_present zone x takes.was)
 
 -- a place was taken out of a buffer, and shaded for
-pub does_buffered : (h m : HeapState) (flown : ℕ → Option Bits) (k : HeapState) (p q : Piles) (a : Incoming) (group zone : ℕ) (x : Place) → MarkingInvariant (joined h flown) p → GrayInvariant (joined h flown) p a → AreGraying h.shape group → HasZone group zone → TakesBuffered h zone x m → InvariantWhile [] k q → Shaded (IsForItem m.shape zone x) (joined m flown) p k q → ItemShaded m.shape zone x k → DoesGray (joined h flown) p a k q a
+pub does_buffered : (h m : HeapState) (flown : ℕ → Option Bits) (k : HeapState) (p q : Piles) (a : Incoming)
+    (group zone : ℕ) (x : Place) → MarkingInvariant (joined h flown) p → GrayInvariant (joined h flown) p a
+    → AreGraying h.shape group → HasZone group zone → TakesBuffered h zone x m → InvariantWhile [] k q
+    → Shaded (IsForItem m.shape zone x) (joined m flown) p k q → ItemShaded m.shape zone x k
+    → DoesGray (joined h flown) p a k q a
 does_buffered h m flown k p q a group zone x inv g graying here takes holds sh done =
     let same : m.shape ≡ h.shape = same_after h m zone x takes in
     let at : TakesBuffered (joined h flown) zone x (joined m flown) = takes_joined h m flown zone x takes in
-    let shaded : Shaded (IsForItem h.shape zone x) (joined m flown) p k q = subst (λ (s : Shape). Shaded (IsForItem s zone x) (joined m flown) p k q) same sh in
+    let shaded : Shaded (IsForItem h.shape zone x) (joined m flown) p k q =
+    subst (λ (s : Shape). Shaded (IsForItem s zone x) (joined m flown) p k q) same sh in
     let item : ItemShaded h.shape zone x k = subst (λ (s : Shape). ItemShaded s zone x k) same done in
-    does_gray (IsForItem h.shape zone x) (joined h flown) (joined m flown) k p p q a a at.rest shaded refl refl (omega (arith, takes.count)) (buffered_step (joined h flown) (joined m flown) k p q a zone x inv g ((graying zone).0 here) at holds shaded item) (λ y c. c) takes.only (λ n y c. inl c)
+    does_gray (IsForItem h.shape zone x) (joined h flown) (joined m flown) k p p q a a at.rest shaded refl refl
+    (omega (arith, takes.count))
+    (buffered_step (joined h flown) (joined m flown) k p q a zone x inv g ((graying zone).0 here) at holds shaded
+    item) (λ y c. c) takes.only (λ n y c. inl c)
 
 -- a wrapper that waits is present
-pub incoming_present : (h : HeapState) (p : Piles) (a b : Incoming) (comp : ℕ) (x : Place) → MarkingInvariant h p → GrayInvariant h p a → TakesIncoming a comp x b → IsPresent h.shape x
+pub incoming_present : (h : HeapState) (p : Piles) (a b : Incoming) (comp : ℕ) (x : Place) → MarkingInvariant h p
+    → GrayInvariant h p a → TakesIncoming a comp x b → IsPresent h.shape x
 incoming_present h p a b comp x inv g takes = inv.holds.colours.seen_present x (g.incoming_seen comp x takes.was)
 
 -- a wrapper was taken off a list, and followed
-pub does_incoming : (h k : HeapState) (p q : Piles) (a b : Incoming) (group comp : ℕ) (x : Place) → MarkingInvariant h p → GrayInvariant h p a → AreGraying h.shape group → IsCompOf h.shape group comp → TakesIncoming a comp x b → InvariantWhile [] k q → Shaded (HasEdge h.shape x) h p k q → LeadsToSeen h.shape x k → DoesGray h p a k q b
+pub does_incoming : (h k : HeapState) (p q : Piles) (a b : Incoming) (group comp : ℕ) (x : Place) → MarkingInvariant h p
+    → GrayInvariant h p a → AreGraying h.shape group → IsCompOf h.shape group comp → TakesIncoming a comp x b
+    → InvariantWhile [] k q → Shaded (HasEdge h.shape x) h p k q → LeadsToSeen h.shape x k → DoesGray h p a k q b
 does_incoming h k p q a b group comp x inv g graying of takes holds sh all =
-    does_gray (HasEdge h.shape x) h h k p p q a b refl sh refl refl (omega (arith, takes.count)) (incoming_step h k p q a b group comp x inv g graying of takes holds sh all) (λ y c. c) (λ z y c. c) (λ n y c. inl (takes.only n y c))
+    does_gray (HasEdge h.shape x) h h k p p q a b refl sh refl refl (omega (arith, takes.count))
+    (incoming_step h k p q a b group comp x inv g graying of takes holds sh all) (λ y c. c) (λ z y c. c)
+    (λ n y c. inl (takes.only n y c))

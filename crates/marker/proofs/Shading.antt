@@ -1,5 +1,6 @@
 -- Cells turn gray, one after another.
-use Rattle.std.proofs.Common.{◌≡◌, ◌⊎◌, zero, suc, inl, inr, refl, sym, ap, ◌∙◌, subst, arith, Contains, List, ◌++◌, ◌∷◌, [], length-append}
+use Rattle.std.proofs.Common.{◌≡◌, ◌⊎◌, zero, suc, inl, inr, refl, sym, ap, ◌∙◌, subst, arith, Contains, List, ◌++◌}
+use Rattle.std.proofs.Common.{◌∷◌, [], length-append}
 use Rattle.std.proofs.lemmas.List.Elements.{Contains-append_left, Contains-push, Contains-push_cases}
 use Rattle.gz_names.specs.declared.numbers.Place.{Place}
 use Rattle.cell_bits.specs.declared.bits.Bits.{Bits}
@@ -15,7 +16,8 @@ use Rattle.barriers.proofs.Places.{nothing_in_none, same_or_other}
 use Rattle.barriers.proofs.LiveClosure.{white_or_seen}
 use Rattle.marker.specs.Shading.{Grayed, Shaded, Shades}
 
-rest_more : (h k l : HeapState) → k ≡ record h { colours = k.colours } → l ≡ record k { colours = l.colours } → l ≡ record h { colours = l.colours }
+rest_more : (h k l : HeapState) → k ≡ record h { colours = k.colours } → l ≡ record k { colours = l.colours }
+    → l ≡ record h { colours = l.colours }
 rest_more h k l e f = f ∙ ap (λ (z : HeapState). record z { colours = l.colours }) e
 
 pub shaded_none : (P : Place → Type 0) (h : HeapState) (p : Piles) → Shaded P h p h p
@@ -41,10 +43,13 @@ shaded_none P h p = record {
 }
 
 -- a cell on the pile is seen, if those that were on it were
-pub pile_seen : (P : Place → Type 0) (h : HeapState) (p : Piles) (k : HeapState) (q : Piles) → Shaded P h p k q → ((y : Place) → Contains p.gray y → IsSeen h y) → (y : Place) → Contains q.gray y → IsSeen k y
+pub pile_seen : (P : Place → Type 0) (h : HeapState) (p : Piles) (k : HeapState) (q : Piles) → Shaded P h p k q
+    → ((y : Place) → Contains p.gray y → IsSeen h y) → (y : Place) → Contains q.gray y → IsSeen k y
 pile_seen P h p k q a seen y c = elim (a.pile_only y c) [ inl was ↦ a.kept y (seen y was) | inr new ↦ new.1 ]
 
-pub shaded_more : (P Q R : Place → Type 0) (h : HeapState) (p : Piles) (k : HeapState) (q : Piles) (l : HeapState) (r : Piles) → Shaded P h p k q → Shaded Q k q l r → ((y : Place) → P y → R y) → ((y : Place) → Q y → R y) → Shaded R h p l r
+pub shaded_more : (P Q R : Place → Type 0) (h : HeapState) (p : Piles) (k : HeapState) (q : Piles) (l : HeapState)
+    (r : Piles) → Shaded P h p k q → Shaded Q k q l r → ((y : Place) → P y → R y) → ((y : Place) → Q y → R y)
+    → Shaded R h p l r
 shaded_more P Q R h p k q l r a b f g = record {
   rest = rest_more h k l a.rest b.rest;
   sized = b.sized ∙ a.sized;
@@ -78,7 +83,8 @@ shaded_more P Q R h p k q l r a b f g = record {
   whites_less = omega (arith, a.whites_less, b.whites_less);
 }
 
-pub shaded_within : (P R : Place → Type 0) (h : HeapState) (p : Piles) (k : HeapState) (q : Piles) → Shaded P h p k q → ((y : Place) → P y → R y) → Shaded R h p k q
+pub shaded_within : (P R : Place → Type 0) (h : HeapState) (p : Piles) (k : HeapState) (q : Piles) → Shaded P h p k q
+    → ((y : Place) → P y → R y) → Shaded R h p k q
 shaded_within P R h p k q a f = record {
   rest = a.rest;
   sized = a.sized;
@@ -104,105 +110,122 @@ shaded_within P R h p k q a f = record {
 once_pushed : (xs : List Place) (x : Place) → IsOnce xs → (Contains xs x → ⊥) → IsOnce (xs ++ x ∷ [])
 once_pushed [] x o not = ((λ c. nothing_in_none x c), tt)
 once_pushed (y ∷ ys) x o not = (
-  λ c. elim (Contains-push_cases ys x y c) [ inl was ↦ o.0 was | inr is ↦ not (subst (λ z. Contains (y ∷ ys) z) (sym is) (zero, omega arith, refl)) ],
+  λ c. elim (Contains-push_cases ys x y c)
+      [ inl was ↦ o.0 was | inr is ↦ not (subst (λ z. Contains (y ∷ ys) z) (sym is) (zero, omega arith, refl)) ],
   once_pushed ys x o.1 (λ c. not (suc c.0, omega (arith, c.1), c.2)),
 )
 
-module _ (h : HeapState) (ds : List Bits) (p : Piles) (t : Place) (grayed : Grayed h t (record h { colours = ds })) where
-  abbrev k : HeapState
-  k = record h { colours = ds }
+module _ (h : HeapState) (ds : List Bits) (p : Piles) (t : Place) (grayed : Grayed h t (record h { colours = ds }))
+  where
+    abbrev k : HeapState
+    k = record h { colours = ds }
 
-  abbrev q : Piles
-  q = pushed p pile.Gray t
+    abbrev q : Piles
+    q = pushed p pile.Gray t
 
-  black_kept : (y : Place) → IsBlack h y → IsBlack k y
-  black_kept y b = elim (same_or_other y t) [
-    | inl same ↦ (let w : IsWhite h y = subst (IsWhite h) (sym same) grayed.white in cc (w, b))
-    | inr other ↦ grayed.others y other ∙ b
-  ]
+    black_kept : (y : Place) → IsBlack h y → IsBlack k y
+    black_kept y b = elim (same_or_other y t) [
+      | inl same ↦ (let w : IsWhite h y = subst (IsWhite h) (sym same) grayed.white in cc (w, b))
+      | inr other ↦ grayed.others y other ∙ b
+    ]
 
-  black_only : (y : Place) → IsBlack k y → IsBlack h y
-  black_only y b = elim (same_or_other y t) [
-    | inl same ↦ (let g : IsGray k y = subst (IsGray k) (sym same) grayed.gray in cc (g, b))
-    | inr other ↦ sym (grayed.others y other) ∙ b
-  ]
+    black_only : (y : Place) → IsBlack k y → IsBlack h y
+    black_only y b = elim (same_or_other y t) [
+      | inl same ↦ (let g : IsGray k y = subst (IsGray k) (sym same) grayed.gray in cc (g, b))
+      | inr other ↦ sym (grayed.others y other) ∙ b
+    ]
 
-  seen_kept : (y : Place) → IsSeen h y → IsSeen k y
-  seen_kept y s = elim (same_or_other y t) [
-    | inl same ↦ inl (subst (IsGray k) (sym same) grayed.gray)
-    | inr other ↦ elim s [ inl g ↦ inl (grayed.others y other ∙ g) | inr b ↦ inr (grayed.others y other ∙ b) ]
-  ]
+    seen_kept : (y : Place) → IsSeen h y → IsSeen k y
+    seen_kept y s = elim (same_or_other y t) [
+      | inl same ↦ inl (subst (IsGray k) (sym same) grayed.gray)
+      | inr other ↦ elim s [ inl g ↦ inl (grayed.others y other ∙ g) | inr b ↦ inr (grayed.others y other ∙ b) ]
+    ]
 
-  seen_only : (y : Place) → IsSeen k y → IsSeen h y ⊎ (y ≡ t)
-  seen_only y s = elim (same_or_other y t) [
-    | inl same ↦ inr same
-    | inr other ↦ elim s [ inl g ↦ inl (inl (sym (grayed.others y other) ∙ g)) | inr b ↦ inl (inr (sym (grayed.others y other) ∙ b)) ]
-  ]
+    seen_only : (y : Place) → IsSeen k y → IsSeen h y ⊎ (y ≡ t)
+    seen_only y s = elim (same_or_other y t) [
+      | inl same ↦ inr same
+      | inr other ↦ elim s [
+        | inl g ↦ inl (inl (sym (grayed.others y other) ∙ g))
+        | inr b
+            ↦ inl (inr (sym (grayed.others y other) ∙ b))
+      ]
+    ]
 
-  gray_only : (y : Place) → IsGray k y → IsGray h y ⊎ (y ≡ t)
-  gray_only y g = elim (same_or_other y t) [ inl same ↦ inr same | inr other ↦ inl (sym (grayed.others y other) ∙ g) ]
+    gray_only : (y : Place) → IsGray k y → IsGray h y ⊎ (y ≡ t)
+    gray_only y g = elim (same_or_other y t) [ inl same ↦ inr same | inr other ↦ inl (sym (grayed.others y other) ∙ g) ]
 
-  not_seen : IsSeen h t → ⊥
-  not_seen s = (let w = grayed.white in elim s [ inl g ↦ cc (w, g) | inr b ↦ cc (w, b) ])
+    not_seen : IsSeen h t → ⊥
+    not_seen s = (let w = grayed.white in elim s [ inl g ↦ cc (w, g) | inr b ↦ cc (w, b) ])
 
-  one_shaded : Shaded (λ y. y ≡ t) h p k q
-  one_shaded = record {
-    rest = refl;
-    sized = grayed.sized;
-    black_is = λ y. (black_only y, black_kept y);
-    gob_kept = grayed.gob_kept;
-    kept = seen_kept;
-    only = seen_only;
-    pile_kept = λ y c. Contains-append_left p.gray (t ∷ []) y c;
-    pile_only = λ y c. elim (Contains-push_cases p.gray t y c) [
-      | inl was ↦ inl was
-      | inr is ↦ inr ((λ s. not_seen (subst (IsSeen h) (sym is) s)), inl (subst (IsGray k) is grayed.gray))
-    ];
-    pile_state = λ y c. elim (Contains-push_cases p.gray t y c) [
-      | inl was ↦ inl was
-      | inr is ↦ inr (subst (λ z. state_of h.shape z ≡ state.MarkBlackAndGray) is grayed.takes)
-    ];
-    fresh = λ y s. elim (seen_only y s) [ inl was ↦ inl was | inr e ↦ inr (subst (λ z. Contains q.gray z) (sym e) (Contains-push p.gray t)) ];
-    once = λ o seen. once_pushed p.gray t o (λ c. not_seen (seen t c));
-    black_pile_is = refl;
-    wake_is = refl;
-    room_is = refl;
-    left_is = grayed.left_is;
-    grays_is = grayed.grays_is;
-    work = omega (arith, length-append p.gray (t ∷ []), grayed.whites_is);
-    whites_less = omega (arith, grayed.whites_is);
-  }
-
-  shaded_invariant : (followed : List Place) → InvariantWhile followed h p → InvariantWhile followed k q
-  shaded_invariant followed inv = record {
-    colours = record {
-      shape = inv.colours.shape;
-      sized = grayed.sized ∙ inv.colours.sized;
-      seen_present = λ y s. elim (seen_only y s) [ inl was ↦ inv.colours.seen_present y was | inr e ↦ subst (IsPresent h.shape) (sym e) grayed.present ];
-      no_white = λ y there off. seen_kept y (inv.colours.no_white y there off);
-      no_gray = λ y st g. elim (gray_only y g) [
-        | inl was ↦ inv.colours.no_gray y st was
-        | inr e ↦ (let other : state_of h.shape y ≡ state.MarkBlackAndGray = subst (λ z. state_of h.shape z ≡ state.MarkBlackAndGray) (sym e) grayed.takes in cc (st, other))
+    one_shaded : Shaded (λ y. y ≡ t) h p k q
+    one_shaded = record {
+      rest = refl;
+      sized = grayed.sized;
+      black_is = λ y. (black_only y, black_kept y);
+      gob_kept = grayed.gob_kept;
+      kept = seen_kept;
+      only = seen_only;
+      pile_kept = λ y c. Contains-append_left p.gray (t ∷ []) y c;
+      pile_only = λ y c. elim (Contains-push_cases p.gray t y c) [
+        | inl was ↦ inl was
+        | inr is ↦ inr ((λ s. not_seen (subst (IsSeen h) (sym is) s)), inl (subst (IsGray k) is grayed.gray))
       ];
-      regs_black = λ y c. black_kept y (inv.colours.regs_black y c);
-    };
-    piles = record {
-      black = λ y c. (black_kept y (inv.piles.black y c).0, (inv.piles.black y c).1);
-      wake = λ y c. (black_kept y (inv.piles.wake y c).0, (inv.piles.wake y c).1);
-      gray = λ y c. elim (Contains-push_cases p.gray t y c) [
-        | inl was ↦ seen_kept y (inv.piles.gray y was)
-        | inr is ↦ inl (subst (IsGray k) is grayed.gray)
+      pile_state = λ y c. elim (Contains-push_cases p.gray t y c) [
+        | inl was ↦ inl was
+        | inr is ↦ inr (subst (λ z. state_of h.shape z ≡ state.MarkBlackAndGray) is grayed.takes)
       ];
-      room = record {
-        black = omega (arith, inv.piles.room.black, grayed.left_is, grayed.sized);
-        wake = omega (arith, inv.piles.room.wake, grayed.left_is, grayed.sized);
-        gray = omega (arith, inv.piles.room.gray, grayed.whites_is, grayed.sized, length-append p.gray (t ∷ []));
-        room = omega (arith, inv.piles.room.room, grayed.sized);
+      fresh = λ y s. elim (seen_only y s)
+          [ inl was ↦ inl was | inr e ↦ inr (subst (λ z. Contains q.gray z) (sym e) (Contains-push p.gray t)) ];
+      once = λ o seen. once_pushed p.gray t o (λ c. not_seen (seen t c));
+      black_pile_is = refl;
+      wake_is = refl;
+      room_is = refl;
+      left_is = grayed.left_is;
+      grays_is = grayed.grays_is;
+      work = omega (arith, length-append p.gray (t ∷ []), grayed.whites_is);
+      whites_less = omega (arith, grayed.whites_is);
+    }
+
+    shaded_invariant : (followed : List Place) → InvariantWhile followed h p → InvariantWhile followed k q
+    shaded_invariant followed inv = record {
+      colours = record {
+        shape = inv.colours.shape;
+        sized = grayed.sized ∙ inv.colours.sized;
+        seen_present = λ y s. elim (seen_only y s) [
+          | inl was ↦ inv.colours.seen_present y was
+          | inr e
+              ↦ subst (IsPresent h.shape) (sym e) grayed.present
+        ];
+        no_white = λ y there off. seen_kept y (inv.colours.no_white y there off);
+        no_gray = λ y st g. elim (gray_only y g) [
+          | inl was ↦ inv.colours.no_gray y st was
+          | inr e ↦ (let other : state_of h.shape y ≡ state.MarkBlackAndGray =
+              subst (λ z. state_of h.shape z ≡ state.MarkBlackAndGray) (sym e) grayed.takes in cc (st, other))
+        ];
+        regs_black = λ y c. black_kept y (inv.colours.regs_black y c);
       };
-    };
-    closed = λ x y b e. elim (inv.closed x y (black_only x b) e) [ inl by ↦ inl (black_kept y by) | inr pend ↦ inr pend ];
-    weak_closed = λ m n v e bm bn off. elim (inv.weak_closed m n v e (black_only m bm) (black_only n bn) off) [ inl b ↦ inl (black_kept v b) | inr pend ↦ inr pend ];
-  }
+      piles = record {
+        black = λ y c. (black_kept y (inv.piles.black y c).0, (inv.piles.black y c).1);
+        wake = λ y c. (black_kept y (inv.piles.wake y c).0, (inv.piles.wake y c).1);
+        gray = λ y c. elim (Contains-push_cases p.gray t y c) [
+          | inl was ↦ seen_kept y (inv.piles.gray y was)
+          | inr is ↦ inl (subst (IsGray k) is grayed.gray)
+        ];
+        room = record {
+          black = omega (arith, inv.piles.room.black, grayed.left_is, grayed.sized);
+          wake = omega (arith, inv.piles.room.wake, grayed.left_is, grayed.sized);
+          gray = omega (arith, inv.piles.room.gray, grayed.whites_is, grayed.sized, length-append p.gray (t ∷ []));
+          room = omega (arith, inv.piles.room.room, grayed.sized);
+        };
+      };
+      closed = λ x y b e. elim (inv.closed x y (black_only x b) e) [
+        | inl by ↦ inl (black_kept y by)
+        | inr pend
+            ↦ inr pend
+      ];
+      weak_closed = λ m n v e bm bn off. elim (inv.weak_closed m n v e (black_only m bm) (black_only n bn) off)
+          [ inl b ↦ inl (black_kept v b) | inr pend ↦ inr pend ];
+    }
 
 -- what shading a cell gives
 pub record ShadeEffect (h : HeapState) (p : Piles) (t : Place) (k : HeapState) (q : Piles) : Type 0 where
@@ -210,17 +233,23 @@ pub record ShadeEffect (h : HeapState) (p : Piles) (t : Place) (k : HeapState) (
   pub seen : state_of h.shape t ≡ state.MarkBlackAndGray → IsSeen k t
   pub invariant : (followed : List Place) → InvariantWhile followed h p → InvariantWhile followed k q
 
-gray_effect : (h : HeapState) (p : Piles) (t : Place) (k : HeapState) → Grayed h t k → ShadeEffect h p t k (pushed p pile.Gray t)
-gray_effect h p t k grayed = subst (λ (z : HeapState). Grayed h t z → ShadeEffect h p t z (pushed p pile.Gray t)) (sym grayed.rest) (λ g. record {
-  shaded = one_shaded h k.colours p t g;
-  seen = λ st. inl g.gray;
-  invariant = shaded_invariant h k.colours p t g;
-}) grayed
+gray_effect : (h : HeapState) (p : Piles) (t : Place) (k : HeapState) → Grayed h t k
+    → ShadeEffect h p t k (pushed p pile.Gray t)
+gray_effect h p t k grayed = subst (λ (z : HeapState). Grayed h t z → ShadeEffect h p t z (pushed p pile.Gray t))
+    (sym grayed.rest) (λ g. record {
+      shaded = one_shaded h k.colours p t g;
+      seen = λ st. inl g.gray;
+      invariant = shaded_invariant h k.colours p t g;
+    }) grayed
 
-pub shade_effect : (h : HeapState) (p : Piles) (t : Place) (k : HeapState) (q : Piles) → Shades h p t k q → ShadeEffect h p t k q
-shade_effect h p t k q (inl (none, ek, eq)) = subst (λ (z : HeapState). ShadeEffect h p t z q) (sym ek) (subst (λ (z : Piles). ShadeEffect h p t h z) (sym eq) (record {
-  shaded = shaded_none (λ y. y ≡ t) h p;
-  seen = λ st. elim (white_or_seen h t) [ inl white ↦ absurd (none white st) | inr seen ↦ seen ];
-  invariant = λ followed inv. inv;
-}))
-shade_effect h p t k q (inr (grayed, eq)) = subst (λ (z : Piles). ShadeEffect h p t k z) (sym eq) (gray_effect h p t k grayed)
+pub shade_effect : (h : HeapState) (p : Piles) (t : Place) (k : HeapState) (q : Piles) → Shades h p t k q
+    → ShadeEffect h p t k q
+shade_effect h p t k q (inl (none, ek, eq)) =
+    subst (λ (z : HeapState). ShadeEffect h p t z q) (sym ek)
+    (subst (λ (z : Piles). ShadeEffect h p t h z) (sym eq) (record {
+      shaded = shaded_none (λ y. y ≡ t) h p;
+      seen = λ st. elim (white_or_seen h t) [ inl white ↦ absurd (none white st) | inr seen ↦ seen ];
+      invariant = λ followed inv. inv;
+    }))
+shade_effect h p t k q (inr (grayed, eq)) =
+    subst (λ (z : Piles). ShadeEffect h p t k z) (sym eq) (gray_effect h p t k grayed)

@@ -1,5 +1,6 @@
 -- A cell that the weak rule colours.
-use Rattle.std.proofs.Common.{◌≡◌, ◌⊎◌, ◌↔◌, ◌+◌, ◌<◌, ℕ, true, inl, inr, refl, sym, ap, ◌∙◌, subst, arith, Contains, List, length, ◌∷◌, [], length-append, if◌then◌else◌, sum_by}
+use Rattle.std.proofs.Common.{◌≡◌, ◌⊎◌, ◌↔◌, ◌+◌, ◌<◌, ℕ, true, inl, inr, refl, sym, ap, ◌∙◌, subst, arith, Contains}
+use Rattle.std.proofs.Common.{List, length, ◌∷◌, [], length-append, if◌then◌else◌, sum_by}
 use Rattle.std.proofs.lemmas.List.Elements.{Contains-push_cases}
 use Rattle.gz_names.specs.declared.numbers.Place.{Place}
 use Rattle.cell_bits.specs.declared.bits.Colour.{Colour}
@@ -29,27 +30,35 @@ use Rattle.marker.proofs.Shading.{ShadeEffect, shade_effect}
 
 pub has_or_lacks : (h : HeapState) (c : Colour) (x : Place) → HasColour h c x ⊎ (HasColour h c x → ⊥)
 has_or_lacks h colour.White x = inl tt
-has_or_lacks h colour.Gray x = elim (white_or_seen h x) [ inl white ↦ inr (λ s. elim s [ inl g ↦ cc (white, g) | inr b ↦ cc (white, b) ]) | inr seen ↦ inl seen ]
+has_or_lacks h colour.Gray x =
+    elim (white_or_seen h x)
+    [ inl white ↦ inr (λ s. elim s [ inl g ↦ cc (white, g) | inr b ↦ cc (white, b) ]) | inr seen ↦ inl seen ]
 has_or_lacks h colour.Black x = black_or_not h x
 
 -- what the weak rule wants to colour is present
-pub wanted_present : (h : HeapState) (p : Piles) (c : Colour) (zones : ℕ) (v : Place) → MarkingInvariant h p → WantsColour h c zones v → IsPresent h.shape v
+pub wanted_present : (h : HeapState) (p : Piles) (c : Colour) (zones : ℕ) (v : Place) → MarkingInvariant h p
+    → WantsColour h c zones v → IsPresent h.shape v
 wanted_present h p c zones v inv w = (inv.holds.colours.shape.entries w.map w.key v w.entry).2
 
 -- it is reached from black cells, or from seen ones
-black_wanted : (h : HeapState) (zones : ℕ) (v : Place) → WantsColour h colour.Black zones v → Reached h.shape (IsBlack h) v
+black_wanted : (h : HeapState) (zones : ℕ) (v : Place) → WantsColour h colour.Black zones v
+    → Reached h.shape (IsBlack h) v
 black_wanted h zones v w = reached.weak w.entry (reached.from w.work.1) (reached.from w.work.2)
 
-gray_wanted : (h : HeapState) (zones : ℕ) (v : Place) → WantsColour h colour.Gray zones v → Reached h.shape (IsLiveStart h) v
+gray_wanted : (h : HeapState) (zones : ℕ) (v : Place) → WantsColour h colour.Gray zones v
+    → Reached h.shape (IsLiveStart h) v
 gray_wanted h zones v w = reached.weak w.entry (reached.from (inl w.work.1)) (reached.from (inl w.work.2))
 
 -- it turned black
-module _ (h : HeapState) (p : Piles) (zones : ℕ) (v : Place) (k : HeapState) (q : Piles) (inv : MarkingInvariant h p) (wanted : WantsColour h colour.Black zones v) (turned : Blackened h v k) (on : is_marking h.shape v ≡ true) (pushes : q ≡ pushed p pile.Black v) where
+module _ (h : HeapState) (p : Piles) (zones : ℕ) (v : Place) (k : HeapState) (q : Piles) (inv : MarkingInvariant h p)
+    (wanted : WantsColour h colour.Black zones v) (turned : Blackened h v k) (on : is_marking h.shape v ≡ true)
+    (pushes : q ≡ pushed p pile.Black v) where
   ef : Effect h p v k q
   ef = turn_effect h p v k q (inr (inl (turned, on, pushes)))
 
   blackens : Blackens (Reached h.shape (IsBlack h)) h k
-  blackens = blackens_within (λ y. y ≡ v) (Reached h.shape (IsBlack h)) h k ef.grows.spreads.blackens (λ y is. subst (λ z. Reached h.shape (IsBlack h) z) (sym is) (black_wanted h zones v wanted))
+  blackens = blackens_within (λ y. y ≡ v) (Reached h.shape (IsBlack h)) h k ef.grows.spreads.blackens
+      (λ y is. subst (λ z. Reached h.shape (IsBlack h) z) (sym is) (black_wanted h zones v wanted))
 
   new : MarkingInvariant k q
   new = record { holds = ef.invariant [] inv.holds; none_woken = ap (λ (z : Piles). z.wake) pushes ∙ inv.none_woken }
@@ -91,17 +100,27 @@ module _ (h : HeapState) (p : Piles) (zones : ℕ) (v : Place) (k : HeapState) (
     grays_is = omega (arith, grays);
   }
 
-black_here : (h : HeapState) (p : Piles) (zones : ℕ) (v : Place) (k : HeapState) (q : Piles) → MarkingInvariant h p → AreFor h.shape colour.Black zones → WantsColour h colour.Black zones v → Turns h p v k q → DoesWeak colour.Black zones h p k q
+black_here : (h : HeapState) (p : Piles) (zones : ℕ) (v : Place) (k : HeapState) (q : Piles) → MarkingInvariant h p
+    → AreFor h.shape colour.Black zones → WantsColour h colour.Black zones v → Turns h p v k q
+    → DoesWeak colour.Black zones h p k q
 black_here h p zones v k q inv are w (inl (b, ek, eq)) = absurd (w.work.3 b)
-black_here h p zones v k q inv are w (inr (inl (turned, on, pushes))) = turned_black h p zones v k q inv w turned on pushes
-black_here h p zones v k q inv are w (inr (inr (turned, off, pushes))) = (let on : is_marking h.shape v ≡ true = are (zone_of h.shape v) w.work.0 in cc (on, off))
+black_here h p zones v k q inv are w (inr (inl (turned, on, pushes))) =
+    turned_black h p zones v k q inv w turned on pushes
+black_here h p zones v k q inv are w (inr (inr (turned, off, pushes))) =
+    (let on : is_marking h.shape v ≡ true = are (zone_of h.shape v) w.work.0 in cc (on, off))
 
 -- as it is called: the colours were read first, and are as they were
-pub weak_black : (c : Colour) (h l : HeapState) (p : Piles) (zones : ℕ) (v : Place) (k : HeapState) (q : Piles) → c ≡ colour.Black → l ≡ h → MarkingInvariant h p → AreFor h.shape c zones → WantsColour h c zones v → Turns l p v k q → DoesWeak c zones h p k q
-weak_black c h l p zones v k q is read inv are w turns = subst (λ d. DoesWeak d zones h p k q) (sym is) (black_here h p zones v k q inv (subst (λ d. AreFor h.shape d zones) is are) (subst (λ d. WantsColour h d zones v) is w) (subst (λ z. Turns z p v k q) read turns))
+pub weak_black : (c : Colour) (h l : HeapState) (p : Piles) (zones : ℕ) (v : Place) (k : HeapState) (q : Piles)
+    → c ≡ colour.Black → l ≡ h → MarkingInvariant h p → AreFor h.shape c zones → WantsColour h c zones v
+    → Turns l p v k q → DoesWeak c zones h p k q
+weak_black c h l p zones v k q is read inv are w turns =
+    subst (λ d. DoesWeak d zones h p k q) (sym is)
+    (black_here h p zones v k q inv (subst (λ d. AreFor h.shape d zones) is are)
+    (subst (λ d. WantsColour h d zones v) is w) (subst (λ z. Turns z p v k q) read turns))
 
 -- it turned gray
-module _ (h : HeapState) (p : Piles) (zones : ℕ) (v : Place) (k : HeapState) (q : Piles) (inv : MarkingInvariant h p) (wanted : WantsColour h colour.Gray zones v) (grayed : Grayed h v k) (pushes : q ≡ pushed p pile.Gray v) where
+module _ (h : HeapState) (p : Piles) (zones : ℕ) (v : Place) (k : HeapState) (q : Piles) (inv : MarkingInvariant h p)
+    (wanted : WantsColour h colour.Gray zones v) (grayed : Grayed h v k) (pushes : q ≡ pushed p pile.Gray v) where
   abbrev P : Place → Type 0
   P = λ y. y ≡ v
 
@@ -119,8 +138,12 @@ module _ (h : HeapState) (p : Piles) (zones : ℕ) (v : Place) (k : HeapState) (
 
   black_same : (x : Place) → PendingBlack k q x ↔ PendingBlack h p x
   black_same x = (
-    λ l. reached_is_pending h p inv (reached_more h.shape (IsBlack k) (IsBlack h) (λ y b. (sh.black_is y).0 b) (subst (λ s. Reached s (IsBlack k) x) same (pending_is_reached k q now l))),
-    λ l. reached_is_pending k q now (subst (λ s. Reached s (IsBlack k) x) (sym same) (reached_more h.shape (IsBlack h) (IsBlack k) (λ y b. (sh.black_is y).1 b) (pending_is_reached h p inv l))),
+    λ l. reached_is_pending h p inv
+        (reached_more h.shape (IsBlack k) (IsBlack h) (λ y b. (sh.black_is y).0 b)
+        (subst (λ s. Reached s (IsBlack k) x) same (pending_is_reached k q now l))),
+    λ l. reached_is_pending k q now
+        (subst (λ s. Reached s (IsBlack k) x) (sym same)
+        (reached_more h.shape (IsBlack h) (IsBlack k) (λ y b. (sh.black_is y).1 b) (pending_is_reached h p inv l))),
   )
 
   gray_holds : (lists : Incoming) → GrayInvariant h p lists → GrayInvariant k q lists
@@ -179,8 +202,15 @@ module _ (h : HeapState) (p : Piles) (zones : ℕ) (v : Place) (k : HeapState) (
     grays_is = sh.grays_is;
   }
 
-gray_here : (h : HeapState) (p : Piles) (zones : ℕ) (v : Place) (k : HeapState) (q : Piles) → MarkingInvariant h p → AreFor h.shape colour.Gray zones → WantsColour h colour.Gray zones v → Shades h p v k q → DoesWeak colour.Gray zones h p k q
-gray_here h p zones v k q inv are w (inl (none, ek, eq)) = elim (white_or_seen h v) [ inl white ↦ absurd (none white ((are (zone_of h.shape v)).0 w.work.0)) | inr seen ↦ absurd (w.work.3 seen) ]
+gray_here : (h : HeapState) (p : Piles) (zones : ℕ) (v : Place) (k : HeapState) (q : Piles) → MarkingInvariant h p
+    → AreFor h.shape colour.Gray zones → WantsColour h colour.Gray zones v → Shades h p v k q
+    → DoesWeak colour.Gray zones h p k q
+gray_here h p zones v k q inv are w (inl (none, ek, eq)) =
+    elim (white_or_seen h v) [
+      | inl white ↦ absurd (none white ((are (zone_of h.shape v)).0 w.work.0))
+      | inr seen
+          ↦ absurd (w.work.3 seen)
+    ]
 gray_here h p zones v k q inv are w (inr (grayed, pushes)) = turned_gray h p zones v k q inv w grayed pushes
 
 gray_or_black : (c : Colour) (s : Shape) (zones : ℕ) → (c ≡ colour.Black → ⊥) → AreFor s c zones → c ≡ colour.Gray
@@ -188,13 +218,19 @@ gray_or_black colour.White s zones other are = absurd are
 gray_or_black colour.Gray s zones other are = refl
 gray_or_black colour.Black s zones other are = absurd (other refl)
 
-pub weak_gray : (c : Colour) (h l : HeapState) (p : Piles) (zones : ℕ) (v : Place) (k : HeapState) (q : Piles) → (c ≡ colour.Black → ⊥) → l ≡ h → MarkingInvariant h p → AreFor h.shape c zones → WantsColour h c zones v → Shades l p v k q → DoesWeak c zones h p k q
+pub weak_gray : (c : Colour) (h l : HeapState) (p : Piles) (zones : ℕ) (v : Place) (k : HeapState) (q : Piles)
+    → (c ≡ colour.Black → ⊥) → l ≡ h → MarkingInvariant h p → AreFor h.shape c zones → WantsColour h c zones v
+    → Shades l p v k q → DoesWeak c zones h p k q
 weak_gray c h l p zones v k q other read inv are w shades =
     let is : c ≡ colour.Gray = gray_or_black c h.shape zones other are in
-    subst (λ d. DoesWeak d zones h p k q) (sym is) (gray_here h p zones v k q inv (subst (λ d. AreFor h.shape d zones) is are) (subst (λ d. WantsColour h d zones v) is w) (subst (λ z. Shades z p v k q) read shades))
+    subst (λ d. DoesWeak d zones h p k q) (sym is)
+    (gray_here h p zones v k q inv (subst (λ d. AreFor h.shape d zones) is are)
+    (subst (λ d. WantsColour h d zones v) is w) (subst (λ z. Shades z p v k q) read shades))
 
-pub graying : (c : Colour) (s : Shape) (zones : ℕ) → (c ≡ colour.Black → ⊥) → AreFor s c zones → AreFor s colour.Gray zones
+pub graying : (c : Colour) (s : Shape) (zones : ℕ) → (c ≡ colour.Black → ⊥) → AreFor s c zones
+    → AreFor s colour.Gray zones
 graying c s zones other are = subst (λ d. AreFor s d zones) (gray_or_black c s zones other are) are
 
-pub shades_shape : (h : HeapState) (p : Piles) (v : Place) (k : HeapState) (q : Piles) → Shades h p v k q → k.shape ≡ h.shape
+pub shades_shape : (h : HeapState) (p : Piles) (v : Place) (k : HeapState) (q : Piles) → Shades h p v k q
+    → k.shape ≡ h.shape
 shades_shape h p v k q shades = ap (λ (z : HeapState). z.shape) (shade_effect h p v k q shades).shaded.rest

@@ -42,7 +42,8 @@ pub record IsGrayIdle (h : HeapState) (p : Piles) (lists : Incoming) (group : �
   pub buffers : (z : ℕ) → HasZone group z → buffer_of h z ≡ []
   pub incoming : (z n : ℕ) → HasZone group z → slice_get h.shape.comps n ≡ Some z → list_of lists n ≡ []
 
--- a piece of gray marking: it turns no cell black, and what waits now waited before, or is new on the gray pile in a zone that takes gray, or new on the list of a compartment whose zone takes none yet
+-- a piece of gray marking: it turns no cell black, and what waits now waited before, or is new on the gray pile in a
+-- zone that takes gray, or new on the list of a compartment whose zone takes none yet
 pub record DoesGray (h : HeapState) (p : Piles) (a : Incoming) (k : HeapState) (q : Piles) (b : Incoming) : Type 0 where
   pub marks : Marks h p a k q b
   pub less : work_left k q b < work_left h p a
@@ -62,7 +63,8 @@ HasColour h colour.Black x = IsBlack h x
 
 -- the weak rule has no work for a colour and these zones
 abbrev pub IsFixed : HeapState → Colour → ℕ → Type 0
-IsFixed h c zones = (m k v : Place) → HasEntry h.shape m k v → HasColour h c m → HasColour h c k → HasZone zones (zone_of h.shape v) → HasColour h c v
+IsFixed h c zones = (m k v : Place) → HasEntry h.shape m k v → HasColour h c m → HasColour h c k
+    → HasZone zones (zone_of h.shape v) → HasColour h c v
 
 -- the weak rule has work at an entry whose value lies in these zones
 abbrev pub HasWork : HeapState → Colour → ℕ → Place → Place → Place → Type 0
@@ -87,7 +89,8 @@ pile_for colour.White = pile.Gray
 pile_for colour.Gray = pile.Gray
 pile_for colour.Black = pile.Black
 
--- the weak rule gave one cell, the value of an entry, this colour and put it on its pile, and did nothing else; so both pending closures are as they were
+-- the weak rule gave one cell, the value of an entry, this colour and put it on its pile, and did nothing else; so both
+-- pending closures are as they were
 pub record DoesWeak (c : Colour) (zones : ℕ) (h : HeapState) (p : Piles) (k : HeapState) (q : Piles) : Type 0 where
   pub value : Place
   pub wanted : WantsColour h c zones value

@@ -1,5 +1,6 @@
 -- What turns do to a marker's account.
-use Rattle.std.proofs.Common.{◌≡◌, ℕ, zero, suc, ◌+◌, ◌<◌, ◌≤◌, Bool, true, false, List, [], ◌∷◌, ◌++◌, length, Option, Some, None, sym, refl, ap, ◌∙◌, subst, arith, All}
+use Rattle.std.proofs.Common.{◌≡◌, ℕ, zero, suc, ◌+◌, ◌<◌, ◌≤◌, Bool, true, false, List, [], ◌∷◌, ◌++◌, length, Option}
+use Rattle.std.proofs.Common.{Some, None, sym, refl, ap, ◌∙◌, subst, arith, All}
 use Rattle.std.proofs.lemmas.List.Elements.{All-cons, All-nil, All-append, All-head, All-tail}
 use Rattle.std.proofs.lemmas.List.{length-append}
 use mathlib.Core.Logic.{dite}
@@ -14,7 +15,8 @@ use Rattle.par_mark.specs.declared.donations.QueueView.{QueueView}
 use Rattle.par_mark.specs.Donations.{HasTaken}
 use Rattle.par_mark.specs.Edges.{held, first_targets, targets, out, degree}
 use Rattle.par_mark.specs.Accounts.{Accounts, HasRoom}
-use Rattle.par_mark.specs.Tries.{IsTaken, own, queued, IsDonated, kept, given, IsTried, beyond, black, fresh, Serves, HasTurned, TakenWasPut, done}
+use Rattle.par_mark.specs.Tries.{IsTaken, own, queued, IsDonated, kept, given, IsTried, beyond, black, fresh, Serves}
+use Rattle.par_mark.specs.Tries.{HasTurned, TakenWasPut, done}
 use Rattle.par_mark.proofs.Balancing.{last_listed}
 use Rattle.par_mark.proofs.Growing.{grown_more, taken_grows, tried_grows}
 use Rattle.par_mark.proofs.Scanning.{weigh-one}

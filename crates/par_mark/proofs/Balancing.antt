@@ -1,5 +1,6 @@
 -- Each move keeps the rule of the queue.
-use Rattle.std.proofs.Common.{◌≡◌, ℕ, zero, suc, ◌+◌, ◌<◌, List, [], ◌∷◌, ◌++◌, set, sym, refl, ap, ◌∙◌, subst, ⊎_elim, arith, All}
+use Rattle.std.proofs.Common.{◌≡◌, ℕ, zero, suc, ◌+◌, ◌<◌, List, [], ◌∷◌, ◌++◌, set, sym, refl, ap, ◌∙◌, subst, ⊎_elim}
+use Rattle.std.proofs.Common.{arith, All}
 use Rattle.std.proofs.lemmas.List.Elements.{All-cons, All-nil, All-append, All-head, All-tail}
 use mathlib.Core.Option.{some, some-injective, some-ne-none}
 use lib.ListN.{get_elem?}
@@ -8,7 +9,8 @@ use Rattle.crossbeam_queue.proofs.Lists.{at_set, at_snoc}
 use Rattle.mark_words.specs.Sums.{weigh, total, whole}
 use Rattle.mark_words.proofs.Counts.{total-set, total-snoc, total-alone, weigh-append, weigh-snoc}
 use Rattle.par_mark.specs.declared.donations.QueueView.{QueueView}
-use Rattle.par_mark.specs.Donations.{queue_view, IsIdle, Balanced, with_less, new_view, joined_view, spent_view, HasPut, HasTaken, Total}
+use Rattle.par_mark.specs.Donations.{queue_view, IsIdle, Balanced, with_less, new_view, joined_view, spent_view, HasPut}
+use Rattle.par_mark.specs.Donations.{HasTaken, Total}
 
 there : (views : List QueueView) (id : ℕ) (d w : QueueView) → get_elem? views id ≡ some d
     → get_elem? (set views id w) id ≡ some w

@@ -1,9 +1,11 @@
 -- Where the cells of a heap are.
-use Rattle.std.proofs.Common.{◌≡◌, ℕ, zero, suc, ◌<◌, Bool, true, false, List, [], ◌∷◌, length, Option, Some, None, IsSome, slice_get, option_and_then, refl, arith, if◌then◌else◌}
+use Rattle.std.proofs.Common.{◌≡◌, ℕ, zero, suc, ◌<◌, Bool, true, false, List, [], ◌∷◌, length, Option, Some, None}
+use Rattle.std.proofs.Common.{IsSome, slice_get, option_and_then, refl, arith, if◌then◌else◌}
 use Rattle.cell_bits.specs.declared.bits.Bits.{Bits}
 use Rattle.arena_table.specs.Cells.{CellState}
 use Rattle.arena_table.specs.Slots.{cell_in}
-use Rattle.heap_core.specs.Shape.{Shape, ArenaShape, AreWhole, IsPresent, HasEdge, cell_in_arena, field_at, is_white, present_in, zone_of}
+use Rattle.heap_core.specs.Shape.{Shape, ArenaShape, AreWhole, IsPresent, HasEdge, cell_in_arena, field_at, is_white}
+use Rattle.heap_core.specs.Shape.{present_in, zone_of}
 use Rattle.par_mark.specs.Edges.{Leads}
 use Rattle.par_mark.specs.Heaps.{HasCell}
 

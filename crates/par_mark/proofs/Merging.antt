@@ -1,5 +1,6 @@
 -- The books of both callers in one.
-use Rattle.std.proofs.Common.{◌≡◌, ℕ, ◌+◌, ◌≤◌, Bool, true, false, List, [], ◌++◌, length, Option, sym, refl, ap, ◌∙◌, subst, arith, All}
+use Rattle.std.proofs.Common.{◌≡◌, ℕ, ◌+◌, ◌≤◌, Bool, true, false, List, [], ◌++◌, length, Option, sym, refl, ap, ◌∙◌}
+use Rattle.std.proofs.Common.{subst, arith, All}
 use Rattle.std.proofs.lemmas.List.Elements.{All-nil, All-same, All-append}
 use Rattle.std.proofs.lemmas.List.{length-append}
 use mathlib.Core.Logic.{dite}

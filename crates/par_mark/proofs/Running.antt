@@ -1,5 +1,6 @@
 -- A marker's run.
-use Rattle.std.proofs.Common.{◌≡◌, ℕ, ◌+◌, ◌-◌, ◌<◌, ◌≤◌, Bool, true, false, List, [], length, Option, sym, refl, ap, ◌∙◌, subst, arith, All, vec_capacity}
+use Rattle.std.proofs.Common.{◌≡◌, ℕ, ◌+◌, ◌-◌, ◌<◌, ◌≤◌, Bool, true, false, List, [], length, Option, sym, refl, ap}
+use Rattle.std.proofs.Common.{◌∙◌, subst, arith, All, vec_capacity}
 use Rattle.std.proofs.lemmas.List.Elements.{All-nil, All-same}
 use Rattle.crossbeam_queue.specs.Passes.{view}
 use Rattle.mark_words.specs.declared.view.MarkView.{MarkView}

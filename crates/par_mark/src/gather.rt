@@ -1,5 +1,6 @@
 // Lists for the callers, and what main does with seats and lists when both have ended.
-ghost use Rattle.std.specs.Prelude.{◌≡◌, ◌+◌, ◌<◌, ◌≤◌, ℕ, List, [], ◌∷◌, ◌++◌, length, vec_len, vec_capacity, All, IfOk};
+ghost use Rattle.std.specs.Prelude.{◌≡◌, ◌+◌, ◌<◌, ◌≤◌, ℕ, List, [], ◌∷◌, ◌++◌, length, vec_len, vec_capacity, All};
+ghost use Rattle.std.specs.Prelude.{IfOk};
 ghost use Rattle.crossbeam_queue.specs.Passes.{view, IsPassOf};
 ghost use Rattle.mark_words.specs.Seats.{first_of, view_of, IsSeatOf};
 ghost use Rattle.mark_words.specs.Steps.{KnowsAll};

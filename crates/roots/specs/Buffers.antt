@@ -1,5 +1,6 @@
 -- A list of places for each zone.
-use Rattle.std.specs.Prelude.{◌≢◌, ◌<◌, ◌≤◌, ◌+◌, ◌↔◌, ◌==◌, ◌++◌, ◌∷◌, [], ℕ, List, length, map, filter, count_by, slice_index, slice_set, slice_index_or, vec_capacity, Vec}
+use Rattle.std.specs.Prelude.{◌≢◌, ◌<◌, ◌≤◌, ◌+◌, ◌↔◌, ◌==◌, ◌++◌, ◌∷◌, [], ℕ, List, length, map, filter, count_by}
+use Rattle.std.specs.Prelude.{slice_index, slice_set, slice_index_or, vec_capacity, Vec}
 use Rattle.std.specs.declared.alloc.Global.{Global}
 use Rattle.gz_names.specs.Zones.{HasZone}
 use Rattle.gz_names.specs.declared.numbers.Place.{Place}
@@ -39,4 +40,5 @@ capacities_of buffers = map (λ b. vec_capacity b) buffers
 
 -- each zone's buffer has room for so many places more
 abbrev pub HasRoom : List (List Place) → List ℕ → (ℕ → ℕ) → Type 0
-HasRoom lists capacities more = (z : ℕ) → z < length lists → length (buffer_at lists z) + more z ≤ slice_index capacities z
+HasRoom lists capacities more = (z : ℕ) → z < length lists
+    → length (buffer_at lists z) + more z ≤ slice_index capacities z

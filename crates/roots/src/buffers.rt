@@ -1,6 +1,8 @@
 // A list of places for each zone.
-ghost use Rattle.std.specs.Prelude.{◌≡◌, ◌≤◌, ◌<◌, ◌+◌, ◌^◌, ◌++◌, ℕ, length, replicate, [], slice_index, IfOk, IfSome, IfNone, OnOk, OnErr, sum_by};
-ghost use Rattle.roots.specs.Buffers.{buffer_at, places_in, count_in, put_at, put_all, lists_of, capacities_of, HasRoom, IsWaiting};
+ghost use Rattle.std.specs.Prelude.{◌≡◌, ◌≤◌, ◌<◌, ◌+◌, ◌^◌, ◌++◌, ℕ, length, replicate, [], slice_index, IfOk, IfSome};
+ghost use Rattle.std.specs.Prelude.{IfNone, OnOk, OnErr, sum_by};
+ghost use Rattle.roots.specs.Buffers.{buffer_at, places_in, count_in, put_at, put_all, lists_of, capacities_of};
+ghost use Rattle.roots.specs.Buffers.{HasRoom, IsWaiting};
 
 use gz_names::{Place, ZoneNo, ZoneSet};
 use std::alloc::{AllocError, Global};

@@ -1,5 +1,6 @@
 // What the roots hold.
-ghost use Rattle.std.specs.Prelude.{◌≡◌, ◌≢◌, ◌+◌, ◌++◌, ◌<◌, ◌^◌, ◌↔◌, ℕ, None, Some, [], length, replicate, slice_get, slice_set, IfOk, IfSome, IfNone, OnOk, OnErr};
+ghost use Rattle.std.specs.Prelude.{◌≡◌, ◌≢◌, ◌+◌, ◌++◌, ◌<◌, ◌^◌, ◌↔◌, ℕ, None, Some, [], length, replicate};
+ghost use Rattle.std.specs.Prelude.{slice_get, slice_set, IfOk, IfSome, IfNone, OnOk, OnErr};
 ghost use Rattle.gz_names.specs.Zones.{HasZone};
 ghost use Rattle.roots.specs.Buffers.{places_in};
 

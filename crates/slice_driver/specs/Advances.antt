@@ -1,5 +1,6 @@
 -- What a step of a collection does, whoever sweeps.
-use Rattle.std.specs.Prelude.{◌≡◌, ◌↔◌, ◌<◌, ◌≤◌, ◌+◌, ℕ, true, false, List, [], Option, None, IsSome, if◌then◌else◌, length, Contains}
+use Rattle.std.specs.Prelude.{◌≡◌, ◌↔◌, ◌<◌, ◌≤◌, ◌+◌, ℕ, true, false, List, [], Option, None, IsSome, if◌then◌else◌}
+use Rattle.std.specs.Prelude.{length, Contains}
 use Rattle.std.specs.List.{flat_map}
 use Rattle.gz_names.specs.declared.replies.Report.{Report}
 use Rattle.cell_bits.specs.declared.bits.Bits.{Bits}
@@ -31,7 +32,8 @@ pub record UnitsDone (w : World) (n : ℕ) (reports : List Report) (new : Collec
   pub represents : Represents new flying after
 
 -- the same in each valid world that the collector stood for
-abbrev pub DoesUnits : CollectorState → (ℕ → Option Bits) → ℕ → List Report → CollectorState → (ℕ → Option Bits) → Type 0
+abbrev pub DoesUnits : CollectorState → (ℕ → Option Bits) → ℕ → List Report → CollectorState → (ℕ → Option Bits)
+    → Type 0
 DoesUnits old flown n reports new flying = (w : World) → IsValid w → Represents old flown w
     → UnitsDone w n reports new flying
 

@@ -29,5 +29,7 @@ pub record EndsSweeping (h : HeapState) (groups : List ZoneSet) (over : Bool) (k
   pub rest : k ≡ record h { shape = record h.shape { states = k.shape.states } }
   pub sized : length k.shape.states ≡ length h.shape.states
   pub still : (b : ℕ) → IsSome (out_of h.shape b) → (over ≡ false) × ((z : ℕ) → state_in k.shape z ≡ state_in h.shape z)
-  pub swept : ((b : ℕ) → out_of h.shape b ≡ None) → over ≡ false → (groups ≢ []) × ((z : ℕ) → state_in k.shape z ≡ after_sweep (state_in h.shape z))
-  pub ended : over ≡ true → (groups ≡ []) × ((b : ℕ) → out_of h.shape b ≡ None) × ((z : ℕ) → state_in k.shape z ≡ after_end (state_in h.shape z))
+  pub swept : ((b : ℕ) → out_of h.shape b ≡ None) → over ≡ false
+      → (groups ≢ []) × ((z : ℕ) → state_in k.shape z ≡ after_sweep (state_in h.shape z))
+  pub ended : over ≡ true → (groups ≡ []) × ((b : ℕ) → out_of h.shape b ≡ None)
+      × ((z : ℕ) → state_in k.shape z ≡ after_end (state_in h.shape z))

@@ -18,12 +18,15 @@ use Rattle.barriers.specs.PendingLive.{PendingLive}
 abbrev pub AreBlack : HeapState → World → Type 0
 AreBlack h w = (x : Name) (p : Place) → name_at h.shape p ≡ Some x → Has w.black x ↔ IsBlack h p
 
--- while some zone is marking: what is still to become black is the black closure, what is still to become gray or black the live one; from the snapshot nothing was lost but what leads to black; and the snapshot, which is well formed, knows no name that was not given yet
+-- while some zone is marking: what is still to become black is the black closure, what is still to become gray or black
+-- the live one; from the snapshot nothing was lost but what leads to black; and the snapshot, which is well formed,
+-- knows no name that was not given yet
 pub record AreTied (h : HeapState) (stack : Piles) (lists : Incoming) (w : World) (k : Collection) : Type 0 where
   pub black : (x : Name) (p : Place) → name_at h.shape p ≡ Some x → PendingBlack h stack p ↔ BlackClosure k x
   pub live : (x : Name) (p : Place) → name_at h.shape p ≡ Some x → PendingLive h stack lists p ↔ LiveClosure k x
   pub present : (x : Name) → LiveClosure k x → IsPresent w x
   pub edges_then : (x y : Name) → IsPresent w x → HasEdge k.snapshot x y → HasEdge w.graph x y ⊎ BlackClosure k y
-  pub entries_then : (m q v : Name) → IsPresent w m → IsPresent w q → value_of k.snapshot m q ≡ Some v → (value_of w.graph m q ≡ Some v) ⊎ BlackClosure k v
+  pub entries_then : (m q v : Name) → IsPresent w m → IsPresent w q → value_of k.snapshot m q ≡ Some v
+      → (value_of w.graph m q ≡ Some v) ⊎ BlackClosure k v
   pub grown : length k.snapshot.objects ≤ length w.graph.objects
   pub formed : IsWellFormed k.snapshot

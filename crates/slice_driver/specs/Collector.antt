@@ -36,7 +36,8 @@ run_of (Some run) = Some (record { zones = run.zones; formed = run.formed })
 -- the zones without a grouping step are those of the collection that the search does not know as stepped
 abbrev pub AreUngrouped : Noted → Option Run → ZoneSet → Type 0
 AreUngrouped edges None ungrouped = Unit {0}
-AreUngrouped edges (Some run) ungrouped = run.formed ≡ false → (z : ℕ) → HasZone ungrouped.bits z ↔ (HasZone run.zones.bits z × (HasZone edges.stepped.bits z → ⊥))
+AreUngrouped edges (Some run) ungrouped = run.formed ≡ false → (z : ℕ) → HasZone ungrouped.bits z
+    ↔ (HasZone run.zones.bits z × (HasZone edges.stepped.bits z → ⊥))
 
 -- till the groups are formed, some zone had no grouping step
 abbrev pub SomeWaits : Option Run → ZoneSet → Type 0
@@ -49,7 +50,8 @@ HasMore s groups None = Unit {0}
 HasMore s groups (Some run) = groups ≡ [] → ((a : ℕ) → out_of s a ≡ None) → run.formed ≡ true → ⊥
 
 -- what is kept besides: which zones wait for their grouping step, and that a collection has something left to do
-pub record IsKept (s : Shape) (edges : Noted) (groups : List ZoneSet) (run : Option Run) (ungrouped : ZoneSet) : Type 0 where
-  pub waiting : AreUngrouped edges run ungrouped
-  pub some_waits : SomeWaits run ungrouped
-  pub more : HasMore s groups run
+pub record IsKept (s : Shape) (edges : Noted) (groups : List ZoneSet) (run : Option Run) (ungrouped : ZoneSet) : Type 0
+  where
+    pub waiting : AreUngrouped edges run ungrouped
+    pub some_waits : SomeWaits run ungrouped
+    pub more : HasMore s groups run

@@ -39,7 +39,8 @@ pub record ComesTo (s t : Shape) (zone : ℕ) (p : Place) (x : Name) : Type 0 wh
   pub free : IsPresent s p → ⊥
   pub names : (q : Place) → name_at t q ≡ (if is_place q p then Some x else name_at s q)
   pub zone_is : zone_of t p ≡ zone
-  pub owners : owners_of t.arenas ≡ (if p.0 == length s.arenas then owners_of s.arenas ++ Some zone ∷ [] else owners_of s.arenas)
+  pub owners : owners_of t.arenas
+      ≡ (if p.0 == length s.arenas then owners_of s.arenas ++ Some zone ∷ [] else owners_of s.arenas)
   pub outs : outs_from 0 t.arenas ≡ outs_from 0 s.arenas
   pub unswept : (q : Place) (y : Name) → IsUnswept t q y ↔ IsUnswept s q y
   pub whole : AreWhole t.arenas
@@ -70,16 +71,18 @@ Exposed None h p k q = (k ≡ h) × (q ≡ p)
 Exposed (Some x) h p k q = Exposes h p x k q
 
 -- a command leads to a world in which the heap lies, and whose black names are black by these bits
-pub record DoesInWorld (w : World) (c : GraphCmd) (answer : Reply) (new : HeapState) (colours : List Bits) : Type 0 where
-  pub after : World
-  pub command : CommandInWorld w c answer after
-  pub lies : LiesIn new after
-  pub black : IsSettled after → AreBlack (with_colours new colours) after
-  pub out_is : after.out ≡ w.out
-  pub graph_is : after.graph ≡ (step_of w.graph c).0
-  pub collection_is : after.collection ≡ waking (woken_by w.graph c) (with_counts w.graph c w.collection)
+pub record DoesInWorld (w : World) (c : GraphCmd) (answer : Reply) (new : HeapState) (colours : List Bits) : Type 0
+  where
+    pub after : World
+    pub command : CommandInWorld w c answer after
+    pub lies : LiesIn new after
+    pub black : IsSettled after → AreBlack (with_colours new colours) after
+    pub out_is : after.out ≡ w.out
+    pub graph_is : after.graph ≡ (step_of w.graph c).0
+    pub collection_is : after.collection ≡ waking (woken_by w.graph c) (with_counts w.graph c w.collection)
 
--- memory was wanted for a command: in no valid world for which the collector stood is it refused, and no cell changed but in its colour; where the command is no `wrap`, there may be more room and nothing else changed, in flight either
+-- memory was wanted for a command: in no valid world for which the collector stood is it refused, and no cell changed
+-- but in its colour; where the command is no `wrap`, there may be more room and nothing else changed, in flight either
 pub record WantsMemory (old : CollectorState) (flown : ℕ → Option Bits) (command : GraphCmd) (new : CollectorState)
     (flying : ℕ → Option Bits) : Type 0 where
   pub accepted : (w : World) → IsValid w → Represents old flown w → IsAccepted w.graph command

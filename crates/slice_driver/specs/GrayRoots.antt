@@ -21,7 +21,8 @@ IsFor s zones cell place z x = HasZone zones.bits z × (zone_of s cell ≡ z) ×
 
 -- a wrapper for the zone of its target, if it is gray and that is one of these zones
 abbrev pub IsGrayWrapper : HeapState → ZoneSet → Place → ℕ → Place → Type 0
-IsGrayWrapper h zones u z x = (colour_of h u ≡ colour.Gray) × (y : Place) × (field_at h.shape u 0 ≡ Some y) × IsFor h.shape zones y u z x
+IsGrayWrapper h zones u z x = (colour_of h u ≡ colour.Gray) × (y : Place) × (field_at h.shape u 0 ≡ Some y)
+    × IsFor h.shape zones y u z x
 
 -- one of the first gray slots holds a cell of this zone, one of these zones
 abbrev pub IsSlotBefore : Shape → ZoneSet → ℕ → ℕ → Place → Type 0
@@ -33,7 +34,8 @@ IsInSlot s zones z x = HasZone zones.bits z × (zone_of s x ≡ z) × Contains s
 
 -- a gray wrapper of a zone's list leads to a cell of this zone, one of these zones
 abbrev pub IsGrayAt : HeapState → ZoneSet → ℕ → ℕ → ℕ → Place → Type 0
-IsGrayAt h zones zone i z x = HasZone zones.bits z × (y : Place) × LeadsAt colour.Gray h zone i x y × (zone_of h.shape y ≡ z)
+IsGrayAt h zones zone i z x = HasZone zones.bits z × (y : Place) × LeadsAt colour.Gray h zone i x y
+    × (zone_of h.shape y ≡ z)
 
 abbrev pub IsGrayBefore : HeapState → ZoneSet → ℕ → ℕ → ℕ → Place → Type 0
 IsGrayBefore h zones zone n z x = (i : ℕ) × (i < n) × IsGrayAt h zones zone i z x
@@ -52,4 +54,6 @@ HasFewWrappers s = (z : ℕ) → length (list_of s.wrappers z) ≤ 274877906944
 -- exactly the gray roots of these zones were put into the buffers of their zones, and nothing else changed
 pub record Buffers (h : HeapState) (zones : ZoneSet) (k : HeapState) : Type 0 where
   pub rest : k ≡ record h { buffers = k.buffers }
-  pub roots : (z : ℕ) (x : Place) → Contains (buffer_at k.buffers z) x ↔ (Contains (buffer_at h.buffers z) x ⊎ (IsInSlot h.shape zones z x ⊎ IsGrayAmong h zones (length h.shape.states) z x))
+  pub roots : (z : ℕ) (x : Place) → Contains (buffer_at k.buffers z) x
+      ↔ (Contains (buffer_at h.buffers z) x
+      ⊎ (IsInSlot h.shape zones z x ⊎ IsGrayAmong h zones (length h.shape.states) z x))

@@ -22,15 +22,18 @@ use Rattle.barriers.specs.Colours.{IsBlack, IsGray, IsSeen, IsWhite}
 use Rattle.barriers.specs.PendingLive.{buffer_of}
 use Rattle.slice_driver.specs.Collector.{CollectorState, RunState}
 
--- nothing is left to mark for a group: its zones all take gray, no cell is on a pile, nothing waits for it, and the weak rule adds nothing, in black for any marking zone, in gray for the group
+-- nothing is left to mark for a group: its zones all take gray, no cell is on a pile, nothing waits for it, and the
+-- weak rule adds nothing, in black for any marking zone, in gray for the group
 pub record IsMarked (h : HeapState) (p : Piles) (lists : Incoming) (g : ZoneSet) : Type 0 where
   pub begun : (z : ℕ) → HasZone g.bits z → state_in h.shape z ≡ state.MarkBlackAndGray
   pub black_empty : p.black ≡ []
-  pub black_fixed : (m k v : Place) → HasEntry h.shape m k v → IsBlack h m → IsBlack h k → is_marking h.shape v ≡ true → IsBlack h v
+  pub black_fixed : (m k v : Place) → HasEntry h.shape m k v → IsBlack h m → IsBlack h k → is_marking h.shape v ≡ true
+      → IsBlack h v
   pub gray_empty : p.gray ≡ []
   pub none_buffered : (z : ℕ) → HasZone g.bits z → buffer_of h z ≡ []
   pub none_incoming : (z n : ℕ) → HasZone g.bits z → slice_get h.shape.comps n ≡ Some z → waiting_for lists n ≡ []
-  pub gray_fixed : (m k v : Place) → HasEntry h.shape m k v → IsSeen h m → IsSeen h k → HasZone g.bits (zone_of h.shape v) → IsSeen h v
+  pub gray_fixed : (m k v : Place) → HasEntry h.shape m k v → IsSeen h m → IsSeen h k
+      → HasZone g.bits (zone_of h.shape v) → IsSeen h v
 
 -- the current group of a collection is ready to end, and the arenas of the group before are all taken in
 pub record IsReady (c : CollectorState) (g : ZoneSet) (rest : List ZoneSet) : Type 0 where
@@ -48,17 +51,25 @@ pub record AreColoured (h : HeapState) (graph : GraphState) (k : Collection) (ma
   pub gray : (x : Name) (p : Place) → name_at h.shape p ≡ Some x → IsGray h p ↔ IsGrayAtEnd graph k marking x
   pub white : (x : Name) (p : Place) → name_at h.shape p ≡ Some x → IsWhite h p ↔ IsWhiteAtEnd graph k marking x
 
--- a heap after the end of a group: the arenas of its zones are handed to sweeping; its zones are swept, or are finished where they have no arena; and wrappers and entries that name a cell which is not present any more are dropped
+-- a heap after the end of a group: the arenas of its zones are handed to sweeping; its zones are swept, or are finished
+-- where they have no arena; and wrappers and entries that name a cell which is not present any more are dropped
 pub record IsEnded (old : HeapState) (g : ZoneSet) (new : HeapState) : Type 0 where
   pub rest : new ≡ record old {
-    shape = record old.shape { arenas = handed g.bits old.shape.arenas old.colours; states = new.shape.states; wrappers = new.shape.wrappers; weak = new.shape.weak };
+    shape = record old.shape {
+      arenas = handed g.bits old.shape.arenas old.colours;
+      states = new.shape.states;
+      wrappers = new.shape.wrappers;
+      weak = new.shape.weak;
+    };
   }
   pub sized : length new.shape.states ≡ length old.shape.states
   pub others : (z : ℕ) → (HasZone g.bits z → ⊥) → state_in new.shape z ≡ state_in old.shape z
   pub swept : (a : ℕ) → IsSome (out_of new.shape a) → (z : ℕ) → HasZone g.bits z → state_in new.shape z ≡ state.Sweep
-  pub finished : ((a : ℕ) → out_of new.shape a ≡ None) → (z : ℕ) → HasZone g.bits z → state_in new.shape z ≡ state.Finished
+  pub finished : ((a : ℕ) → out_of new.shape a ≡ None) → (z : ℕ) → HasZone g.bits z
+      → state_in new.shape z ≡ state.Finished
   pub apart : AreApart old.shape.wrappers.lists
-  pub wrappers : (z : ℕ) → list_of new.shape.wrappers z ≡ without_dead (bit_at g.bits z) (is_absent new.shape) (list_of old.shape.wrappers z)
+  pub wrappers : (z : ℕ) → list_of new.shape.wrappers z ≡ without_dead (bit_at g.bits z) (is_absent new.shape)
+      (list_of old.shape.wrappers z)
   pub entries : IsWithoutDead (is_absent new.shape) old.shape.weak new.shape.weak
 
 -- the name of a gray cell of a group
@@ -84,7 +95,8 @@ AreJustFlown s flown = (a : ℕ) → flown a ≡ out_of s a
 pub record DropsDead (old : HeapState) (g : ZoneSet) (new : HeapState) : Type 0 where
   pub rest : new ≡ record old { shape = record old.shape { wrappers = new.shape.wrappers; weak = new.shape.weak } }
   pub apart : AreApart old.shape.wrappers.lists
-  pub wrappers : (z : ℕ) → list_of new.shape.wrappers z ≡ without_dead (bit_at g.bits z) (is_absent old.shape) (list_of old.shape.wrappers z)
+  pub wrappers : (z : ℕ) → list_of new.shape.wrappers z ≡ without_dead (bit_at g.bits z) (is_absent old.shape)
+      (list_of old.shape.wrappers z)
   pub entries : IsWithoutDead (is_absent old.shape) old.shape.weak new.shape.weak
 
 -- the zones of a group are swept, or are finished where they have no arena
@@ -92,4 +104,5 @@ pub record EndsZones (old : HeapState) (g : ZoneSet) (new : HeapState) : Type 0 
   pub sized : length new.shape.states ≡ length old.shape.states
   pub others : (z : ℕ) → (HasZone g.bits z → ⊥) → state_in new.shape z ≡ state_in old.shape z
   pub swept : (a : ℕ) → IsSome (out_of new.shape a) → (z : ℕ) → HasZone g.bits z → state_in new.shape z ≡ state.Sweep
-  pub finished : ((a : ℕ) → out_of new.shape a ≡ None) → (z : ℕ) → HasZone g.bits z → state_in new.shape z ≡ state.Finished
+  pub finished : ((a : ℕ) → out_of new.shape a ≡ None) → (z : ℕ) → HasZone g.bits z
+      → state_in new.shape z ≡ state.Finished

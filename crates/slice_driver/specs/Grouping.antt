@@ -14,13 +14,15 @@ use Rattle.slice_driver.specs.Collector.{CollectorState, RunState}
 pub record LooksIn (c d : CollectorState) : Type 0 where
   pub kept : (a : ℕ) → out_of c.heap.shape a ≡ None
   pub black_empty : c.stack.black ≡ []
-  pub black_fixed : (m k v : Place) → HasEntry c.heap.shape m k v → IsBlack c.heap m → IsBlack c.heap k → is_marking c.heap.shape v ≡ true → IsBlack c.heap v
+  pub black_fixed : (m k v : Place) → HasEntry c.heap.shape m k v → IsBlack c.heap m → IsBlack c.heap k
+      → is_marking c.heap.shape v ≡ true → IsBlack c.heap v
   pub looks : LooksAtNext c.heap c.edges d.edges
   pub zones_are : d.edges.zones ≡ c.edges.zones
   pub stepped_is : d.edges.stepped ≡ c.edges.stepped
   pub rest : d ≡ record c { edges = d.edges }
 
--- the groups of a collection of some zones are formed, as each wrapper was looked at: they are the components of the noted edges
+-- the groups of a collection of some zones are formed, as each wrapper was looked at: they are the components of the
+-- noted edges
 pub record FormsIn (c : CollectorState) (groups : List ZoneSet) (d : CollectorState) : Type 0 where
   pub run : RunState
   pub running : c.run ≡ Some run

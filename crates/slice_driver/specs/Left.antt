@@ -1,5 +1,6 @@
 -- A number that each unit of a collection lowers.
-use Rattle.std.specs.Prelude.{◌<◌, ◌≤◌, ◌+◌, ◌-◌, ◌*◌, ◌||◌, ℕ, zero, suc, is_some, if◌then◌else◌, List, [], ◌∷◌, Option, Some, None}
+use Rattle.std.specs.Prelude.{◌<◌, ◌≤◌, ◌+◌, ◌-◌, ◌*◌, ◌||◌, ℕ, zero, suc, is_some, if◌then◌else◌, List, [], ◌∷◌}
+use Rattle.std.specs.Prelude.{Option, Some, None}
 use Rattle.std.specs.Int.{bit_at}
 use Rattle.cell_bits.specs.declared.bits.Bits.{Bits}
 use Rattle.zones.specs.declared.states.State.{State}
@@ -35,13 +36,15 @@ steps_left (s ∷ states) = steps_of s + steps_left states
 -- how many arenas are still to come in: those that are out, and those of marking zones
 abbrev pub arenas_left : Shape → List ArenaShape → ℕ
 arenas_left s [] = 0
-arenas_left s (arena ∷ arenas) = (if is_some arena.out || is_marking_state (state_in s arena.zone) then 1 else 0) + arenas_left s arenas
+arenas_left s (arena ∷ arenas) = (if is_some arena.out || is_marking_state (state_in s arena.zone) then 1 else 0)
+    + arenas_left s arenas
 
 -- what is left of a collection, with these bits in flight
 abbrev pub units_left : CollectorState → (ℕ → Option Bits) → ℕ
 units_left c flown =
     work_left (heap_with c flown) c.stack c.lists
-    + (grouping_left c.heap.shape c.edges c.run + (steps_left c.heap.shape.states + arenas_left c.heap.shape c.heap.shape.arenas))
+    + (grouping_left c.heap.shape c.edges c.run
+    + (steps_left c.heap.shape.states + arenas_left c.heap.shape c.heap.shape.arenas))
 
 -- a unit lowers a number, or an arena is due and it does not raise it
 abbrev pub Lowers : Option ℕ → ℕ → ℕ → Type 0

@@ -21,10 +21,14 @@ IsFormed c = (r : RunState) × (c.run ≡ Some r) × (r.formed ≡ true)
 
 -- a zone's state is as it was, or its gray marking begins: then it is one of the current group
 abbrev pub IsStateAfter : CollectorState → ℕ → State → Type 0
-IsStateAfter c z t = (t ≡ state_in c.heap.shape z) ⊎ (IsFormed c × IsCurrent c.groups z × (state_in c.heap.shape z ≡ state.MarkBlackOnly) × (t ≡ state.MarkBlackAndGray))
+IsStateAfter c z t = (t ≡ state_in c.heap.shape z)
+    ⊎ (IsFormed c × IsCurrent c.groups z × (state_in c.heap.shape z ≡ state.MarkBlackOnly)
+    × (t ≡ state.MarkBlackAndGray))
 
--- nothing is in the heap but what was, its invariants hold, and as much is left to mark. Black may have spread, also in bits that are in flight
-pub record IsQuiet (c : CollectorState) (flown : ℕ → Option Bits) (d : CollectorState) (flying : ℕ → Option Bits) : Type 0 where
+-- nothing is in the heap but what was, its invariants hold, and as much is left to mark. Black may have spread, also in
+-- bits that are in flight
+pub record IsQuiet (c : CollectorState) (flown : ℕ → Option Bits) (d : CollectorState) (flying : ℕ → Option Bits) : Type
+    0 where
   pub shape_is : d.heap.shape ≡ record c.heap.shape { states = d.heap.shape.states }
   pub made_is : d.heap.made ≡ c.heap.made
   pub run_is : d.run ≡ c.run
@@ -37,13 +41,18 @@ pub record IsQuiet (c : CollectorState) (flown : ℕ → Option Bits) (d : Colle
   pub waits : WaitsWhileMarking d
   pub darker : (p : Place) → IsBlack (heap_with c flown) p → IsBlack (heap_with d flying) p
   pub black : (p : Place) → PendingBlack (heap_with d flying) d.stack p ↔ PendingBlack (heap_with c flown) c.stack p
-  pub live : (p : Place) → PendingLive (heap_with d flying) d.stack d.lists p ↔ PendingLive (heap_with c flown) c.stack c.lists p
+  pub live : (p : Place) → PendingLive (heap_with d flying) d.stack d.lists p
+      ↔ PendingLive (heap_with c flown) c.stack c.lists p
 
--- in each world that the collector stands for, what was noted before the groups are formed is noted rightly, and each wrapper that was looked at is accounted for
+-- in each world that the collector stands for, what was noted before the groups are formed is noted rightly, and each
+-- wrapper that was looked at is accounted for
 abbrev pub KeepsLooks : CollectorState → (ℕ → Option Bits) → CollectorState → (ℕ → Option Bits) → Type 0
-KeepsLooks c flown d flying = (r : RunState) (w : World) (k : Collection) → Represents c flown w → c.run ≡ Some r → w.collection ≡ Some k → r.formed ≡ false → AreLookedAt (heap_with c flown) c r w k → AreLookedAt (heap_with d flying) d r w k
+KeepsLooks c flown d flying = (r : RunState) (w : World) (k : Collection) → Represents c flown w → c.run ≡ Some r
+    → w.collection ≡ Some k → r.formed ≡ false → AreLookedAt (heap_with c flown) c r w k
+    → AreLookedAt (heap_with d flying) d r w k
 
--- the same edges are noted and the same wrappers were looked at, and no zone had its grouping step but where each wrapper was looked at
+-- the same edges are noted and the same wrappers were looked at, and no zone had its grouping step but where each
+-- wrapper was looked at
 pub record HasSameLooks (c d : CollectorState) : Type 0 where
   pub zones_are : d.edges.zones ≡ c.edges.zones
   pub sources_are : d.edges.sources ≡ c.edges.sources

@@ -1,5 +1,6 @@
 -- The world that a collector stands for.
-use Rattle.std.specs.Prelude.{◌≡◌, ◌≢◌, ◌⊎◌, ◌↔◌, ◌<◌, ℕ, true, false, if◌then◌else◌, List, [], ◌∷◌, length, map, Option, Some, None, IsSome, Contains, slice_get}
+use Rattle.std.specs.Prelude.{◌≡◌, ◌≢◌, ◌⊎◌, ◌↔◌, ◌<◌, ℕ, true, false, if◌then◌else◌, List, [], ◌∷◌, length, map}
+use Rattle.std.specs.Prelude.{Option, Some, None, IsSome, Contains, slice_get}
 use Rattle.gz_names.specs.Zones.{HasZone, zones_in}
 use Rattle.gz_names.specs.declared.names.Name.{Name}
 use Rattle.gz_names.specs.declared.numbers.Place.{Place}
@@ -27,11 +28,13 @@ pub record IsIdle (c : CollectorState) : Type 0 where
   pub black : c.stack.black ≡ []
   pub gray : c.stack.gray ≡ []
 
--- only for marking zones does anything wait: cells for a zone's gray marking, wrappers for a compartment of a zone, and the gray pile for a group whose gray marking began
+-- only for marking zones does anything wait: cells for a zone's gray marking, wrappers for a compartment of a zone, and
+-- the gray pile for a group whose gray marking began
 pub record WaitsWhileMarking (c : CollectorState) : Type 0 where
   pub gray : ((z : ℕ) → state_in c.heap.shape z ≢ state.MarkBlackAndGray) → c.stack.gray ≡ []
   pub buffered : (z : ℕ) → is_marking_state (state_in c.heap.shape z) ≡ false → buffer_of c.heap z ≡ []
-  pub incoming : (n : ℕ) (p : Place) → Contains (waiting_for c.lists n) p → (z : ℕ) × (slice_get c.heap.shape.comps n ≡ Some z) × (is_marking_state (state_in c.heap.shape z) ≡ true)
+  pub incoming : (n : ℕ) (p : Place) → Contains (waiting_for c.lists n) p
+      → (z : ℕ) × (slice_get c.heap.shape.comps n ≡ Some z) × (is_marking_state (state_in c.heap.shape z) ≡ true)
 
 -- a zone is in one of the groups
 abbrev pub IsInGroups : List ZoneSet → ℕ → Type 0
@@ -47,9 +50,12 @@ pub record AreInStates (c : CollectorState) (r : RunState) : Type 0 where
   pub outside : (z : ℕ) → (HasZone r.zones.bits z → ⊥) → state_in c.heap.shape z ≡ state.NoGC
   pub made : (z : ℕ) → HasZone r.zones.bits z → z < length c.heap.shape.states
   pub early : r.formed ≡ false → (z : ℕ) → HasZone r.zones.bits z → state_in c.heap.shape z ≡ state.MarkBlackOnly
-  pub later : r.formed ≡ true → (z : ℕ) → IsInGroups c.groups z → (state_in c.heap.shape z ≡ state.MarkBlackOnly) ⊎ (IsCurrent c.groups z × (state_in c.heap.shape z ≡ state.MarkBlackAndGray))
-  pub ended : r.formed ≡ true → (z : ℕ) → HasZone r.zones.bits z → (IsInGroups c.groups z → ⊥) → (state_in c.heap.shape z ≡ state.Sweep) ⊎ (state_in c.heap.shape z ≡ state.Finished)
-  pub sweeping : (z a : ℕ) (p : Place) → p.0 ≡ a → zone_of c.heap.shape p ≡ z → IsSome (out_of c.heap.shape a) → state_in c.heap.shape z ≡ state.Sweep
+  pub later : r.formed ≡ true → (z : ℕ) → IsInGroups c.groups z → (state_in c.heap.shape z ≡ state.MarkBlackOnly)
+      ⊎ (IsCurrent c.groups z × (state_in c.heap.shape z ≡ state.MarkBlackAndGray))
+  pub ended : r.formed ≡ true → (z : ℕ) → HasZone r.zones.bits z → (IsInGroups c.groups z → ⊥)
+      → (state_in c.heap.shape z ≡ state.Sweep) ⊎ (state_in c.heap.shape z ≡ state.Finished)
+  pub sweeping : (z a : ℕ) (p : Place) → p.0 ≡ a → zone_of c.heap.shape p ≡ z → IsSome (out_of c.heap.shape a)
+      → state_in c.heap.shape z ≡ state.Sweep
   pub swept : ((a : ℕ) → out_of c.heap.shape a ≡ None) → (z : ℕ) → state_in c.heap.shape z ≢ state.Sweep
 
 -- a wrapper leads from one zone of a collection to another
@@ -59,16 +65,19 @@ pub record LeadsAcross (s : Shape) (r : RunState) (p q : Place) : Type 0 where
   pub to : HasZone r.zones.bits (zone_of s q)
   pub apart : zone_of s p ≢ zone_of s q
 
--- before the groups are formed: only first edges are noted, and each wrapper that was looked at leads to a black cell or has its edge noted; once a zone had its grouping step, so does each other wrapper lead to a black cell
+-- before the groups are formed: only first edges are noted, and each wrapper that was looked at leads to a black cell
+-- or has its edge noted; once a zone had its grouping step, so does each other wrapper lead to a black cell
 pub record AreLookedAt (h : HeapState) (c : CollectorState) (r : RunState) (w : World) (k : Collection) : Type 0 where
   pub zones_are : c.edges.zones ≡ r.zones
   pub first : (a b : ℕ) → Edge c.edges.sources a b → IsFirstEdge w k a b
-  pub looked : (p q : Place) → LeadsAcross h.shape r p q → IsLookedAt h.shape c.edges p → IsBlack h q ⊎ Edge c.edges.sources (zone_of h.shape p) (zone_of h.shape q)
+  pub looked : (p q : Place) → LeadsAcross h.shape r p q → IsLookedAt h.shape c.edges p
+      → IsBlack h q ⊎ Edge c.edges.sources (zone_of h.shape p) (zone_of h.shape q)
   pub left_black : (c.edges.stepped.bits ≡ 0) ⊎ AreLeftBlack h c.edges
 
 -- after it: a wrapper of a group that has not ended leads into an earlier one only to black cells
 abbrev pub AreBehind : HeapState → CollectorState → RunState → Type 0
-AreBehind h c r = (p q : Place) → LeadsAcross h.shape r p q → IsInGroups c.groups (zone_of h.shape p) → (IsInGroups c.groups (zone_of h.shape q) → ⊥) → IsBlack h q
+AreBehind h c r = (p q : Place) → LeadsAcross h.shape r p q → IsInGroups c.groups (zone_of h.shape p)
+    → (IsInGroups c.groups (zone_of h.shape q) → ⊥) → IsBlack h q
 
 -- the collection that runs
 pub record Runs (h : HeapState) (c : CollectorState) (w : World) (r : RunState) (k : Collection) : Type 0 where

@@ -16,6 +16,9 @@ pub record IsRoomy (c : CollectorState) (arenas : ℕ) : Type 0 where
 
 -- nothing changed but that there may be more room
 pub record Widens (c d : CollectorState) : Type 0 where
-  pub rest : d ≡ record c { stack = record c.stack { room = d.stack.room }; lists = record c.lists { room = d.lists.room } }
+  pub rest : d ≡ record c {
+    stack = record c.stack { room = d.stack.room };
+    lists = record c.lists { room = d.lists.room };
+  }
   pub stack : c.stack.room ≤ d.stack.room
   pub lists : c.lists.room ≤ d.lists.room

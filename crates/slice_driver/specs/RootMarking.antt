@@ -16,17 +16,18 @@ use Rattle.heap_core.specs.MarkBits.{TakesBlack}
 use Rattle.slice_driver.specs.Begins.{IsWithin}
 
 -- the cells of these zones that meet P turned black, and those that were not black before are on the black pile
-pub record Marks (P : Place → Type 0) (zones : ZoneSet) (h : HeapState) (p : Piles) (k : HeapState) (q : Piles) : Type 0 where
-  pub rest : k ≡ record h { colours = k.colours }
-  pub sized : length k.colours ≡ length h.colours
-  pub black : (x : Place) → IsBlack k x ↔ (IsBlack h x ⊎ (P x × IsWithin h.shape zones x))
-  pub gray : (x : Place) → IsGray k x → IsGray h x
-  pub outside : (x : Place) → (IsWithin h.shape zones x → ⊥) → colour_of k x ≡ colour_of h x
-  pub pile : (x : Place) → Contains q.black x ↔ (Contains p.black x ⊎ (IsBlack k x × (IsBlack h x → ⊥)))
-  pub gray_pile : q.gray ≡ p.gray
-  pub wake_pile : q.wake ≡ p.wake
-  pub room_is : q.room ≡ p.room
-  pub room : HasRoom k q
+pub record Marks (P : Place → Type 0) (zones : ZoneSet) (h : HeapState) (p : Piles) (k : HeapState) (q : Piles) : Type 0
+  where
+    pub rest : k ≡ record h { colours = k.colours }
+    pub sized : length k.colours ≡ length h.colours
+    pub black : (x : Place) → IsBlack k x ↔ (IsBlack h x ⊎ (P x × IsWithin h.shape zones x))
+    pub gray : (x : Place) → IsGray k x → IsGray h x
+    pub outside : (x : Place) → (IsWithin h.shape zones x → ⊥) → colour_of k x ≡ colour_of h x
+    pub pile : (x : Place) → Contains q.black x ↔ (Contains p.black x ⊎ (IsBlack k x × (IsBlack h x → ⊥)))
+    pub gray_pile : q.gray ≡ p.gray
+    pub wake_pile : q.wake ≡ p.wake
+    pub room_is : q.room ≡ p.room
+    pub room : HasRoom k q
 
 -- a cell was black already, or its black bit was set and it was put on the black pile
 abbrev pub Blackens : HeapState → Piles → Place → HeapState → Piles → Type 0

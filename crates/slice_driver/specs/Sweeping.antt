@@ -26,20 +26,28 @@ FitsWords bits = bit_or bits.black bits.gob < 2 ^ 64
 
 -- the names of the cells at the slots of a word, ascending
 pub record AreFreed (s : Shape) (a freed : ℕ) (names : List Name) : Type 0 where
-  pub moved : (arena : ArenaShape) → slice_get s.arenas a ≡ Some arena → IsPermutation (names_of (at_bits freed arena.slots)) names
+  pub moved : (arena : ArenaShape) → slice_get s.arenas a ≡ Some arena
+      → IsPermutation (names_of (at_bits freed arena.slots)) names
   pub sorted : IsSorted name_cmp names
 
--- the lowest arena came in without its white cells, with its bits in flight; where it was the last one out, the zones that were swept are finished
-pub record TakesIn (c : CollectorState) (flown : ℕ → Option Bits) (a freed : ℕ) (bits : Bits) (d : CollectorState) : Type 0 where
+-- the lowest arena came in without its white cells, with its bits in flight; where it was the last one out, the zones
+-- that were swept are finished
+pub record TakesIn (c : CollectorState) (flown : ℕ → Option Bits) (a freed : ℕ) (bits : Bits)
+    (d : CollectorState) : Type 0 where
   pub running : IsSome c.run
   pub lowest : IsLowestOut c.heap.shape a
   pub freed_is : IsFreedWord c.heap.shape a freed
   pub fits : (old : Bits) → out_of c.heap.shape a ≡ Some old → FitsWords old
   pub bits_are : flown a ≡ Some bits
-  pub heap_is : d.heap ≡ record (with_taken c.heap a freed bits) { shape = record (with_taken c.heap a freed bits).shape { states = d.heap.shape.states } }
+  pub heap_is : d.heap
+      ≡ record (with_taken c.heap a freed bits) {
+        shape =
+            record (with_taken c.heap a freed bits).shape { states = d.heap.shape.states };
+      }
   pub sized : length d.heap.shape.states ≡ length c.heap.shape.states
   pub still : (b : ℕ) → IsSome (out_of d.heap.shape b) → (z : ℕ) → state_in d.heap.shape z ≡ state_in c.heap.shape z
-  pub all_in : ((b : ℕ) → out_of d.heap.shape b ≡ None) → (z : ℕ) → state_in d.heap.shape z ≡ after_sweep (state_in c.heap.shape z)
+  pub all_in : ((b : ℕ) → out_of d.heap.shape b ≡ None) → (z : ℕ)
+      → state_in d.heap.shape z ≡ after_sweep (state_in c.heap.shape z)
   pub stack_is : d.stack ≡ c.stack
   pub lists_is : d.lists ≡ c.lists
   pub groups_is : d.groups ≡ c.groups

@@ -1,5 +1,6 @@
 -- What a collector's calls do in the worlds that it stands for.
-use Rattle.std.specs.Prelude.{◌≡◌, ◌≢◌, ◌<◌, ◌==◌, ℕ, Bool, true, false, List, [], ◌∷◌, Option, Some, None, Result, Ok, Err, IsSome, slice_get, if◌then◌else◌, Contains, ⊤}
+use Rattle.std.specs.Prelude.{◌≡◌, ◌≢◌, ◌<◌, ◌==◌, ℕ, Bool, true, false, List, [], ◌∷◌, Option, Some, None, Result, Ok}
+use Rattle.std.specs.Prelude.{Err, IsSome, slice_get, if◌then◌else◌, Contains, ⊤}
 use Rattle.gz_names.specs.Zones.{zones_in}
 use Rattle.gz_names.specs.declared.commands.GraphCmd.{GraphCmd}
 use Rattle.gz_names.specs.declared.replies.Reply.{Reply}
@@ -50,8 +51,10 @@ AnswersIn w cmd (Err (fault.Refused why)) c flown = CommandInWorld w cmd (reply.
 AnswersIn w cmd (Err fault.NoMemory) c flown = Represents c flown w
 
 -- in each world that the collector stood for
-abbrev pub DoesCommand : CollectorState → (ℕ → Option Bits) → GraphCmd → Result Reply CmdFault → CollectorState → (ℕ → Option Bits) → Type 0
-DoesCommand old flown cmd result new flying = (w : World) → IsValid w → Represents old flown w → AnswersIn w cmd result new flying
+abbrev pub DoesCommand : CollectorState → (ℕ → Option Bits) → GraphCmd → Result Reply CmdFault → CollectorState
+    → (ℕ → Option Bits) → Type 0
+DoesCommand old flown cmd result new flying = (w : World) → IsValid w → Represents old flown w
+    → AnswersIn w cmd result new flying
 
 -- a collection of these zones was prepared and began its marking at once, in each world that the collector stood for,
 -- which is valid after it
@@ -69,7 +72,8 @@ reports_of (Some r) finished = r ∷ with_done finished
 
 -- a unit was done: its reports are lawful, and the collector stands for the world after it
 abbrev pub DoesUnit : CollectorState → (ℕ → Option Bits) → List Report → CollectorState → (ℕ → Option Bits) → Type 0
-DoesUnit old flown reports new flying = (w : World) → IsValid w → Represents old flown w → (v : World) × IsLawfulUnit w reports v × Represents new flying v
+DoesUnit old flown reports new flying = (w : World) → IsValid w → Represents old flown w
+    → (v : World) × IsLawfulUnit w reports v × Represents new flying v
 
 -- what is in flight after a unit: the arenas that it handed to sweeping, or what was
 abbrev pub flying_after : Option (List Job) → (ℕ → Option Bits) → ℕ → Option Bits
@@ -81,16 +85,20 @@ pub record IsLowestOut (s : Shape) (a : ℕ) : Type 0 where
   pub lowest : (b : ℕ) → b < a → out_of s b ≡ None
 
 -- a unit was done, or an arena is due, and the collector stands for what it stood for
-abbrev pub DoneOrDue : Option ℕ → CollectorState → (ℕ → Option Bits) → Unit → CollectorState → (ℕ → Option Bits) → Type 0
-DoneOrDue (Some a) old flown unit new flying = IsLowestOut new.heap.shape a × ((w : World) → Represents old flown w → Represents new flying w)
-DoneOrDue None old flown unit new flying = DoesUnit old flown (reports_of unit.report unit.finished) new (flying_after unit.handed flying)
+abbrev pub DoneOrDue : Option ℕ → CollectorState → (ℕ → Option Bits) → Unit → CollectorState → (ℕ → Option Bits)
+    → Type 0
+DoneOrDue (Some a) old flown unit new flying = IsLowestOut new.heap.shape a
+    × ((w : World) → Represents old flown w → Represents new flying w)
+DoneOrDue None old flown unit new flying = DoesUnit old flown (reports_of unit.report unit.finished) new
+    (flying_after unit.handed flying)
 
 abbrev pub UnitDone : CollectorState → (ℕ → Option Bits) → Unit → CollectorState → (ℕ → Option Bits) → Type 0
 UnitDone old flown unit new flying = DoneOrDue unit.due old flown unit new flying
 
 -- the slots of an arena's white cells as it was handed to sweeping
 abbrev pub IsFreedWord : Shape → ℕ → ℕ → Type 0
-IsFreedWord s a freed = (arena : ArenaShape) (bits : Bits) → slice_get s.arenas a ≡ Some arena → arena.out ≡ Some bits → freed ≡ white_mask_of bits (alloc_word_of arena.slots)
+IsFreedWord s a freed = (arena : ArenaShape) (bits : Bits) → slice_get s.arenas a ≡ Some arena → arena.out ≡ Some bits
+    → freed ≡ white_mask_of bits (alloc_word_of arena.slots)
 
 -- the arenas that are handed to sweeping keep the slots of their white cells
 abbrev pub KeepsFreedWords : Shape → Shape → Type 0

@@ -20,8 +20,10 @@ use Rattle.slice_driver.specs.Represents.{Represents}
 use Rattle.slice_driver.specs.Units.{DoesUnit, IsSound, KeepsFreedWords, is_group_end, reports_of}
 use Rattle.slice_driver.specs.declared.collector.Unit.{Unit}
 
--- a unit with these reports was done, which hands out no arena and takes none in; the collection goes on, and less is left of it
-pub record GoesOn (c : CollectorState) (flown : ℕ → Option Bits) (reports : List Report) (d : CollectorState) (flying : ℕ → Option Bits) : Type 0 where
+-- a unit with these reports was done, which hands out no arena and takes none in; the collection goes on, and less is
+-- left of it
+pub record GoesOn (c : CollectorState) (flown : ℕ → Option Bits) (reports : List Report) (d : CollectorState)
+    (flying : ℕ → Option Bits) : Type 0 where
   pub done : DoesUnit c flown reports d flying
   pub words : KeepsFreedWords c.heap.shape d.heap.shape
   pub running : IsSome d.run
@@ -30,7 +32,8 @@ pub record GoesOn (c : CollectorState) (flown : ℕ → Option Bits) (reports : 
   pub less : units_left d flying < units_left c flown
 
 -- nothing was done: the collector is as it was, and so are all colours, also those in flight
-pub record IsStill (c : CollectorState) (flown : ℕ → Option Bits) (d : CollectorState) (flying : ℕ → Option Bits) : Type 0 where
+pub record IsStill (c : CollectorState) (flown : ℕ → Option Bits) (d : CollectorState) (flying : ℕ → Option Bits) : Type
+    0 where
   pub same : d ≡ c
   pub colours : heap_with c flying ≡ heap_with c flown
   pub worlds : (w : World) → Represents c flown w → Represents c flying w
@@ -42,7 +45,8 @@ DidOrStill false found c flown d flying = IsStill c flown d flying × found
 
 -- the weak rule adds no black cell in a marking zone
 abbrev pub IsBlackFixed : CollectorState → (ℕ → Option Bits) → Type 0
-IsBlackFixed c flown = (m k v : Place) → HasEntry c.heap.shape m k v → IsBlack (heap_with c flown) m → IsBlack (heap_with c flown) k → is_marking c.heap.shape v ≡ true → IsBlack (heap_with c flown) v
+IsBlackFixed c flown = (m k v : Place) → HasEntry c.heap.shape m k v → IsBlack (heap_with c flown) m
+    → IsBlack (heap_with c flown) k → is_marking c.heap.shape v ≡ true → IsBlack (heap_with c flown) v
 
 -- black marking has nothing left to do
 pub record IsBlackDone (c : CollectorState) (flown : ℕ → Option Bits) : Type 0 where
@@ -60,7 +64,8 @@ LooksOrAll false c d = AreAllLookedAt c.heap.shape c.edges × (d ≡ c)
 
 -- the weak rule adds no gray cell in a group
 abbrev pub IsGrayFixed : CollectorState → (ℕ → Option Bits) → ZoneSet → Type 0
-IsGrayFixed c flown g = (m k v : Place) → HasEntry c.heap.shape m k v → IsSeen (heap_with c flown) m → IsSeen (heap_with c flown) k → HasZone g.bits (zone_of c.heap.shape v) → IsSeen (heap_with c flown) v
+IsGrayFixed c flown g = (m k v : Place) → HasEntry c.heap.shape m k v → IsSeen (heap_with c flown) m
+    → IsSeen (heap_with c flown) k → HasZone g.bits (zone_of c.heap.shape v) → IsSeen (heap_with c flown) v
 
 -- the gray marking of a group has nothing left to do
 pub record IsGrayDone (c : CollectorState) (flown : ℕ → Option Bits) (g : ZoneSet) : Type 0 where
@@ -74,7 +79,8 @@ pub record IsGroupingUnit (c : CollectorState) (unit : Unit) (d : CollectorState
   pub handed : unit.handed ≡ None
   pub finished : unit.finished ≡ false
   pub due : unit.due ≡ None
-  pub goes : (flown : ℕ → Option Bits) → IsSound c flown → IsBlackDone c flown → GoesOn c flown (reports_of unit.report unit.finished) d flown
+  pub goes : (flown : ℕ → Option Bits) → IsSound c flown → IsBlackDone c flown
+      → GoesOn c flown (reports_of unit.report unit.finished) d flown
 
 -- the groups are not formed yet and such a unit was done, or they are
 abbrev pub GroupsOrFormed : Option Unit → CollectorState → CollectorState → Type 0
@@ -94,12 +100,14 @@ BeginsOrBegun false c d = HasBegun c × (d ≡ c)
 abbrev pub IsGroupDone : CollectorState → (ℕ → Option Bits) → Type 0
 IsGroupDone c flown = (g : ZoneSet) → slice_get c.groups 0 ≡ Some g → IsGrayDone c flown g
 
--- what holds of the groups of a collection that runs: they are words of zones, and once they are formed one is left, or an arena is out
+-- what holds of the groups of a collection that runs: they are words of zones, and once they are formed one is left, or
+-- an arena is out
 pub record HasGroups (c : CollectorState) : Type 0 where
   pub small : (g : ZoneSet) → slice_get c.groups 0 ≡ Some g → (z : ℕ) → bit_at g.bits z ≡ 1 → z < 64
   pub more : IsFormed c → ((a : ℕ) → out_of c.heap.shape a ≡ None) → c.groups ≡ [] → ⊥
 
--- the first four steps of a unit have no work: black marking is done, the groups are formed, the zones of the current group have begun their gray marking, and that is done
+-- the first four steps of a unit have no work: black marking is done, the groups are formed, the zones of the current
+-- group have begun their gray marking, and that is done
 pub record IsResting (c : CollectorState) (flown : ℕ → Option Bits) : Type 0 where
   pub black : IsBlackDone c flown
   pub formed : IsFormed c

@@ -1,5 +1,6 @@
 -- Where the cells of a heap lie in a world.
-use Rattle.std.specs.Prelude.{◌≡◌, ◌↔◌, ◌⊎◌, ℕ, suc, true, is_some, if◌then◌else◌, List, [], ◌∷◌, map, Option, Some, None, Contains}
+use Rattle.std.specs.Prelude.{◌≡◌, ◌↔◌, ◌⊎◌, ℕ, suc, true, is_some, if◌then◌else◌, List, [], ◌∷◌, map, Option, Some}
+use Rattle.std.specs.Prelude.{None, Contains}
 use Rattle.std.specs.FinMap as places
 use Rattle.gz_names.specs.declared.names.Name.{Name}
 use Rattle.gz_names.specs.declared.numbers.Place.{Place}
@@ -35,7 +36,8 @@ pub record IsUnswept (s : Shape) (p : Place) (x : Name) : Type 0 where
 -- the bits of an arena in flight: the colours are those at hand-out, but that gray slots may have turned black
 pub record IsWokenFrom (old new : Bits) : Type 0 where
   pub white : (i : ℕ) → colour_of old i ≡ colour.White → colour_of new i ≡ colour.White
-  pub gray : (i : ℕ) → colour_of old i ≡ colour.Gray → (colour_of new i ≡ colour.Gray) ⊎ (colour_of new i ≡ colour.Black)
+  pub gray : (i : ℕ) → colour_of old i ≡ colour.Gray → (colour_of new i ≡ colour.Gray)
+      ⊎ (colour_of new i ≡ colour.Black)
   pub black : (i : ℕ) → colour_of old i ≡ colour.Black → colour_of new i ≡ colour.Black
 
 -- exactly the arenas that are handed to sweeping are in flight

@@ -1,5 +1,6 @@
 // How a collection begins.
-ghost use Rattle.std.specs.Prelude.{◌≡◌, ◌↔◌, ◌<◌, ℕ, Err, None, Option, Some, IfNone, IfSome, IsSome, IsTrue, OnErr, OnOk, false, length};
+ghost use Rattle.std.specs.Prelude.{◌≡◌, ◌↔◌, ◌<◌, ℕ, Err, None, Option, Some, IfNone, IfSome, IsSome, IsTrue, OnErr};
+ghost use Rattle.std.specs.Prelude.{OnOk, false, length};
 ghost use Rattle.gz_names.specs.Zones.{HasZone};
 ghost use Rattle.cell_bits.specs.declared.bits.Bits.{Bits as ABits};
 ghost use Rattle.zones.specs.declared.states.State.TheVariants as state;

@@ -1,5 +1,6 @@
 // The end of a group, and taking arenas in.
-ghost use Rattle.std.specs.Prelude.{◌≡◌, ◌↔◌, ◌<◌, ◌≤◌, ℕ, List, Option, None, Some, true, IsSome, IfOk, IfSome, IfNone, OnErr, length};
+ghost use Rattle.std.specs.Prelude.{◌≡◌, ◌↔◌, ◌<◌, ◌≤◌, ℕ, List, Option, None, Some, true, IsSome, IfOk, IfSome};
+ghost use Rattle.std.specs.Prelude.{IfNone, OnErr, length};
 ghost use Rattle.gz_names.specs.Zones.{HasZone};
 ghost use Rattle.std.specs.List.Sorted.{IsPermutation, IsSorted};
 ghost use Rattle.gz_names.specs.Order.{name_cmp};
@@ -13,7 +14,9 @@ ghost use Rattle.slice_driver.specs.Grays.{grays_up_to};
 ghost use Rattle.slice_driver.specs.GroupEnd.{IsReady};
 ghost use Rattle.slice_driver.specs.HandingOut.{HandsOut};
 ghost use Rattle.slice_driver.specs.Left.{units_left};
-ghost use Rattle.slice_driver.specs.Units.{AreJobs, DoesUnit, EndsColoured, HandsJobs, IsFreedWord, IsLowestOut, IsSound, KeepsFreedWords, is_group_end, flying_after, jobs_at, reports_of, without_arena};
+ghost use Rattle.slice_driver.specs.Units.{AreJobs, DoesUnit, EndsColoured, HandsJobs, IsFreedWord, IsLowestOut};
+ghost use Rattle.slice_driver.specs.Units.{IsSound, KeepsFreedWords, is_group_end, flying_after, jobs_at, reports_of};
+ghost use Rattle.slice_driver.specs.Units.{without_arena};
 
 use crate::collector::{Collector, Unit};
 use crate::colours::push_own_gray;

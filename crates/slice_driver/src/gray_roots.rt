@@ -2,7 +2,8 @@
 ghost use Rattle.std.specs.Prelude.{◌≡◌, ◌<◌, ◌≤◌, ◌+◌, Some, Contains, OnErr, OnOk, length, slice_get, sum_by};
 ghost use Rattle.heap_core.specs.Shape.{IsPresent};
 ghost use Rattle.zone_edges.specs.Looks.{AreWrappers, IsWrapperIn};
-ghost use Rattle.slice_driver.specs.GrayRoots.{Buffers, Gathers, HasFewWrappers, IsFor, IsGrayAmong, IsGrayOf, IsGrayWrapper, IsInSlot};
+ghost use Rattle.slice_driver.specs.GrayRoots.{Buffers, Gathers, HasFewWrappers, IsFor, IsGrayAmong, IsGrayOf};
+ghost use Rattle.slice_driver.specs.GrayRoots.{IsGrayWrapper, IsInSlot};
 
 use crate::root_marking::source_at;
 use cell_bits::Colour;

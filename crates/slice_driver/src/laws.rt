@@ -1,5 +1,6 @@
 // Laws that tie the collector to worlds. Each is the contract of a function that does nothing.
-ghost use Rattle.std.specs.Prelude.{◌≡◌, ◌⊎◌, ◌↔◌, ◌<◌, ◌≢◌, ℕ, List, [], Option, Some, None, Result, Ok, Err, Contains, false, length};
+ghost use Rattle.std.specs.Prelude.{◌≡◌, ◌⊎◌, ◌↔◌, ◌<◌, ◌≢◌, ℕ, List, [], Option, Some, None, Result, Ok, Err};
+ghost use Rattle.std.specs.Prelude.{Contains, false, length};
 ghost use Rattle.gz_names.specs.declared.names.Name.{Name};
 ghost use Rattle.gz_names.specs.declared.names.Name.TheVariants.{Wrap};
 ghost use Rattle.gz_names.specs.declared.numbers.CompNo.{CompNo};
@@ -40,7 +41,8 @@ ghost use Rattle.slice_driver.specs.Worlds.{LiesIn};
 ghost use Rattle.slice_driver.specs.Closures.{AreBlack, AreTied};
 ghost use Rattle.slice_driver.specs.Steps.{CommandSteps};
 ghost use Rattle.slice_driver.specs.Begins.{AreMade, BeginsMarking, IsListed};
-ghost use Rattle.slice_driver.specs.Commands.{ComesTo, DoesInWorld, KeepsBlack, SpreadsBlack, StayInPlace, Wakes, with_colours};
+ghost use Rattle.slice_driver.specs.Commands.{ComesTo, DoesInWorld, KeepsBlack, SpreadsBlack, StayInPlace, Wakes};
+ghost use Rattle.slice_driver.specs.Commands.{with_colours};
 
 /// What is reached from black cells and from one more is reached from their names.
 pub fn reached_law()

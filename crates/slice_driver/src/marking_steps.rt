@@ -3,7 +3,8 @@ ghost use Rattle.std.specs.Prelude.{◌≡◌, [], IsSome};
 ghost use Rattle.marker.specs.GrayBits.{AreGraying};
 ghost use Rattle.marker.specs.Units.{IsGrayIdle};
 ghost use Rattle.slice_driver.specs.Units.{IsSound};
-ghost use Rattle.slice_driver.specs.Working.{DidOrStill, HasBegun, IsBlackDone, IsBlackFixed, IsGrayDone, IsGrayFixed, IsGroupDone};
+ghost use Rattle.slice_driver.specs.Working.{DidOrStill, HasBegun, IsBlackDone, IsBlackFixed, IsGrayDone, IsGrayFixed};
+ghost use Rattle.slice_driver.specs.Working.{IsGroupDone};
 
 use crate::collector::Collector;
 use cell_bits::{Colour, Flight};

@@ -4,7 +4,8 @@ ghost use Rattle.gz_names.specs.Zones.{HasZone};
 ghost use Rattle.heap_core.specs.Shape.{IsPresent, field_at};
 ghost use Rattle.zone_edges.specs.Looks.{AreWrappers, IsWrapperIn};
 ghost use Rattle.barriers.specs.Colours.{IsBlack};
-ghost use Rattle.slice_driver.specs.RootMarking.{Blackens, IsNoSource, IsReady, IsTargetAmong, IsTargetOf, LeadsElsewhere, Marks};
+ghost use Rattle.slice_driver.specs.RootMarking.{Blackens, IsNoSource, IsReady, IsTargetAmong, IsTargetOf};
+ghost use Rattle.slice_driver.specs.RootMarking.{LeadsElsewhere, Marks};
 
 use cell_bits::Colour;
 use gz_names::{Place, Reg, ZoneNo, ZoneSet};

@@ -1,5 +1,6 @@
 // A session: a collector with who sweeps its arenas, for those who embed it.
-ghost use Rattle.std.specs.Prelude.{◌≡◌, ◌↔◌, ◌≤◌, ◌<◌, Err, None, IfOk, IfSome, IsSome, IsTrue, OnErr, OnOk, Some, false};
+ghost use Rattle.std.specs.Prelude.{◌≡◌, ◌↔◌, ◌≤◌, ◌<◌, Err, None, IfOk, IfSome, IsSome, IsTrue, OnErr, OnOk, Some};
+ghost use Rattle.std.specs.Prelude.{false};
 ghost use Rattle.colour_defs.specs.Step.{HasFewFields};
 ghost use Rattle.colour_defs.specs.World.{first_world};
 ghost use Rattle.heap_core.specs.Effects.{HasRoom};

@@ -1,10 +1,12 @@
 // One unit of a collection.
-ghost use Rattle.std.specs.Prelude.{◌≡◌, ◌↔◌, ◌<◌, ◌≤◌, ℕ, Option, None, Some, true, length, IsSome, IsOkAnd, IfOk, OnErr};
+ghost use Rattle.std.specs.Prelude.{◌≡◌, ◌↔◌, ◌<◌, ◌≤◌, ℕ, Option, None, Some, true, length, IsSome, IsOkAnd, IfOk};
+ghost use Rattle.std.specs.Prelude.{OnErr};
 ghost use Rattle.std.specs.Int.{bit_at};
 ghost use Rattle.cell_bits.specs.declared.bits.Bits.{Bits as ABits};
 ghost use Rattle.slice_driver.specs.Left.{Lowers, units_left};
 ghost use Rattle.slice_driver.specs.Quiet.{IsFormed};
-ghost use Rattle.slice_driver.specs.Units.{AreJobs, EndsColoured, HandsJobs, IsLowestOut, IsSound, UnitDone, is_group_end, flying_after, jobs_at};
+ghost use Rattle.slice_driver.specs.Units.{AreJobs, EndsColoured, HandsJobs, IsLowestOut, IsSound, UnitDone};
+ghost use Rattle.slice_driver.specs.Units.{is_group_end, flying_after, jobs_at};
 ghost use Rattle.slice_driver.specs.Working.{BeginsOrBegun, HasGroups, IsAtGroupEnd, IsResting, IsStill};
 
 use crate::collector::{Collector, Unit};

@@ -1,5 +1,6 @@
 -- The board rule gives each of its sentences.
-use Rattle.std.proofs.Common.{◌≡◌, ℕ, suc, ◌<◌, ◌≤◌, true, eqb, List, [], ◌∷◌, sym, ap, ◌∙◌, subst, inl, inr, arith, bit_or, All, eq-eqb, eqb-true, ne_eqb}
+use Rattle.std.proofs.Common.{◌≡◌, ℕ, suc, ◌<◌, ◌≤◌, true, eqb, List, [], ◌∷◌, sym, ap, ◌∙◌, subst, inl, inr, arith}
+use Rattle.std.proofs.Common.{bit_or, All, eq-eqb, eqb-true, ne_eqb}
 use Rattle.std.specs.List.{list_any}
 use Rattle.std.specs.Int.Bits.{or_self}
 use Rattle.std.proofs.lemmas.Bool.{cases_lt}
@@ -21,7 +22,8 @@ use Rattle.sweep_board.proofs.Sweeps.{times-contains, contains-times}
 use Rattle.sweep_board.proofs.Turns.{is_claimed, weight_le}
 
 -- a sum that isn't 0 has a view that isn't
-total-some : (f : View → ℕ) (views : List View) → 0 < total f views → (id : ℕ) × (v : View) × (get_elem? views id ≡ some v) × (0 < f v)
+total-some : (f : View → ℕ) (views : List View) → 0 < total f views → (id : ℕ) × (v : View)
+    × (get_elem? views id ≡ some v) × (0 < f v)
 total-some f [] more = absurd (omega arith)
 total-some f (x ∷ xs) more = elim (cases_lt 0 (f x)) [
   | inl here ↦ (0, x, (λ i. some x), here)
@@ -43,7 +45,8 @@ at_found P xs i all found =
 
 black_of : (job : Job) (black : ℕ) → IsWoken job.bits black → IsBlackOf job black
 black_of job black woken = (
-  ap (bit_or job.bits.black) woken.1 ∙ sym (or_assoc job.bits.black job.bits.black woken.0) ∙ ap (λ (n : ℕ). bit_or n woken.0) (or_self job.bits.black) ∙ sym woken.1,
+  ap (bit_or job.bits.black) woken.1 ∙ sym (or_assoc job.bits.black job.bits.black woken.0)
+      ∙ ap (λ (n : ℕ). bit_or n woken.0) (or_self job.bits.black) ∙ sym woken.1,
   ap (λ (n : ℕ). bit_or n job.bits.gob) woken.1 ∙ or_within job.bits.black woken.0 job.bits.gob woken.2,
 )
 
@@ -90,10 +93,13 @@ in_words jobs s k = record {
   black-within = λ i lt. black_of (job_at jobs i) _ (k.arenas i lt).black-is;
   gob-is = λ i lt. (k.arenas i lt).gob-is;
   untouched = λ i lt is. (k.arenas i lt).untouched is;
-  stored-is = λ i id v at is. let rule : StageRule jobs s.words (StoredFreed i) = subst (StageRule jobs s.words) is (k.seats id v at).stage in rule.1;
+  stored-is = λ i id v at is. let rule : StageRule jobs s.words (StoredFreed i) =
+      subst (StageRule jobs s.words) is (k.seats id v at).stage in rule.1;
   freed-is = λ i lt is. (k.arenas i lt).freed-is is;
-  loaded-black = λ i black id v at is. let rule : StageRule jobs s.words (LoadedBlack i black) = subst (StageRule jobs s.words) is (k.seats id v at).stage in black_of (job_at jobs i) black rule.1;
-  loaded-both = λ i black gob id v at is. let rule : StageRule jobs s.words (LoadedBoth i black gob) = subst (StageRule jobs s.words) is (k.seats id v at).stage in (black_of (job_at jobs i) black rule.1, rule.2);
+  loaded-black = λ i black id v at is. let rule : StageRule jobs s.words (LoadedBlack i black) =
+      subst (StageRule jobs s.words) is (k.seats id v at).stage in black_of (job_at jobs i) black rule.1;
+  loaded-both = λ i black gob id v at is. let rule : StageRule jobs s.words (LoadedBoth i black gob) =
+      subst (StageRule jobs s.words) is (k.seats id v at).stage in (black_of (job_at jobs i) black rule.1, rule.2);
   passed-is = λ id v at. (k.seats id v at).passed;
   finished-is = λ id v at. (k.seats id v at).finished;
   counts = λ id v at main. (k.mains id v at main).counts;

@@ -7,7 +7,8 @@ use Rattle.sweep_board.specs.Rule.{total}
 
 module _ (f : View → ℕ) where
   -- the sum after one view changed
-  pub total-set : (views : List View) (id : ℕ) (v w : View) → get_elem? views id ≡ some v → total f (set views id w) + f v ≡ total f views + f w
+  pub total-set : (views : List View) (id : ℕ) (v w : View) → get_elem? views id ≡ some v
+      → total f (set views id w) + f v ≡ total f views + f w
   total-set [] id v w at = absurd (some-ne-none v (sym at))
   total-set (x ∷ xs) zero v w at = let is : f x ≡ f v = ap f (some-injective x v at) in omega arith
   total-set (x ∷ xs) (suc id) v w at = let rest = total-set xs id v w at in omega arith
@@ -19,12 +20,16 @@ module _ (f : View → ℕ) where
   total-at (x ∷ xs) (suc id) v at = let rest = total-at xs id v at in omega arith
 
   -- and so are the numbers of two views together
-  pub total-two : (views : List View) (a b : ℕ) (v u : View) → b ≢ a → get_elem? views a ≡ some v → get_elem? views b ≡ some u → f v + f u ≤ total f views
+  pub total-two : (views : List View) (a b : ℕ) (v u : View) → b ≢ a → get_elem? views a ≡ some v
+      → get_elem? views b ≡ some u → f v + f u ≤ total f views
   total-two [] a b v u apart at there = absurd (some-ne-none v (sym at))
   total-two (x ∷ xs) zero zero v u apart at there = absurd (apart (λ i. zero))
-  total-two (x ∷ xs) zero (suc b) v u apart at there = let is : f x ≡ f v = ap f (some-injective x v at) in let rest = total-at xs b u there in omega arith
-  total-two (x ∷ xs) (suc a) zero v u apart at there = let is : f x ≡ f u = ap f (some-injective x u there) in let rest = total-at xs a v at in omega arith
-  total-two (x ∷ xs) (suc a) (suc b) v u apart at there = let rest = total-two xs a b v u (λ i. apart (ap suc i)) at there in omega arith
+  total-two (x ∷ xs) zero (suc b) v u apart at there = let is : f x ≡ f v = ap f (some-injective x v at) in let rest =
+      total-at xs b u there in omega arith
+  total-two (x ∷ xs) (suc a) zero v u apart at there = let is : f x ≡ f u = ap f (some-injective x u there) in
+      let rest = total-at xs a v at in omega arith
+  total-two (x ∷ xs) (suc a) (suc b) v u apart at there = let rest =
+      total-two xs a b v u (λ i. apart (ap suc i)) at there in omega arith
 
   -- the sum with one view more
   pub total-snoc : (views : List View) (v : View) → total f (views ++ v ∷ []) ≡ total f views + f v
@@ -52,6 +57,8 @@ module _ (f : View → ℕ) where
       omega arith
 
 -- a sum of lower numbers is lower
-pub total-le : (f g : View → ℕ) (views : List View) → ((id : ℕ) (v : View) → get_elem? views id ≡ some v → f v ≤ g v) → total f views ≤ total g views
+pub total-le : (f g : View → ℕ) (views : List View) → ((id : ℕ) (v : View) → get_elem? views id ≡ some v → f v ≤ g v)
+    → total f views ≤ total g views
 total-le f g [] each = omega arith
-total-le f g (x ∷ xs) each = let here : f x ≤ g x = each 0 x (λ i. some x) in let rest = total-le f g xs (λ id v at. each (suc id) v at) in omega arith
+total-le f g (x ∷ xs) each = let here : f x ≤ g x = each 0 x (λ i. some x) in let rest =
+    total-le f g xs (λ id v at. each (suc id) v at) in omega arith

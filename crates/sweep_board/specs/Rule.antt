@@ -1,6 +1,7 @@
 -- The board rule: what holds of the words and of all views between any two steps.
 -- Arena i has the words 4 i to 4 i + 3: its state, its black word, its gob word and its freed word.
-use Rattle.std.specs.Prelude.{◌≡◌, ℕ, ◌+◌, ◌*◌, ◌<◌, ◌≤◌, ◌==◌, Bool, true, false, List, [], ◌∷◌, length, slice_index, slice_index_or, bit_or, count_by, All}
+use Rattle.std.specs.Prelude.{◌≡◌, ℕ, ◌+◌, ◌*◌, ◌<◌, ◌≤◌, ◌==◌, Bool, true, false, List, [], ◌∷◌, length, slice_index}
+use Rattle.std.specs.Prelude.{slice_index_or, bit_or, count_by, All}
 use mathlib.Core.Option.{some}
 use lib.ListN.{get_elem?}
 use Rattle.atomic_table.specs.Table.{State}
@@ -82,12 +83,14 @@ claim_of i (StoredFreed k) = weight (k == i)
 abbrev pub sweeps_of : ℕ → View → ℕ
 sweeps_of i v = count_by (λ k. k == i) v.swept
 
--- what was loaded of an arena is a black word that main may have woken, and the gob word; what was stored is its white cells
+-- what was loaded of an arena is a black word that main may have woken, and the gob word; what was stored is its white
+-- cells
 abbrev pub StageRule : List Job → List ℕ → Stage → Type 0
 StageRule jobs words Free = Unit {0}
 StageRule jobs words (Claimed k) = k < length jobs
 StageRule jobs words (LoadedBlack k black) = (k < length jobs) × IsWoken (job_at jobs k).bits black
-StageRule jobs words (LoadedBoth k black gob) = (k < length jobs) × IsWoken (job_at jobs k).bits black × (gob ≡ (job_at jobs k).bits.gob)
+StageRule jobs words (LoadedBoth k black gob) = (k < length jobs) × IsWoken (job_at jobs k).bits black
+    × (gob ≡ (job_at jobs k).bits.gob)
 StageRule jobs words (StoredFreed k) = (k < length jobs) × (freed_at words k ≡ white (job_at jobs k))
 
 -- all masks of arena i in a list of wakes
@@ -113,7 +116,8 @@ pub record SeatRule (jobs : List Job) (words : List ℕ) (v : View) : Type 0 whe
   pub taken : All (λ i. state_at words i ≡ done) v.taken
   pub spent : v.role ≡ Spent → v.swept ≡ []
 
--- what main's view knows besides: it is the first seat's, it counts the helper seats, and each black word is that of hand-out with its masks
+-- what main's view knows besides: it is the first seat's, it counts the helper seats, and each black word is that of
+-- hand-out with its masks
 pub record MainRule (jobs : List Job) (words : List ℕ) (views : List View) (id : ℕ) (v : View) : Type 0 where
   pub first : id ≡ 0
   pub counts : total (λ u. helper_weight u.role) views ≡ v.helpers
@@ -123,8 +127,10 @@ pub record MainRule (jobs : List Job) (words : List ℕ) (views : List View) (id
 -- once (one word more than the arenas' is there for the table's own moves)
 pub record BoardRule (jobs : List Job) (s : State (Unit {0}) View) : Type 0 where
   pub sized : length s.words ≡ 4 * length jobs + 1
-  pub arenas : (i : ℕ) → i < length jobs → ArenaRule (job_at jobs i) (state_at s.words i) (black_at s.words i) (gob_at s.words i) (freed_at s.words i)
-  pub claims : (i : ℕ) → i < length jobs → total (λ v. claim_of i v.stage) s.views ≡ weight (state_at s.words i == claimed)
+  pub arenas : (i : ℕ) → i < length jobs
+      → ArenaRule (job_at jobs i) (state_at s.words i) (black_at s.words i) (gob_at s.words i) (freed_at s.words i)
+  pub claims : (i : ℕ) → i < length jobs → total (λ v. claim_of i v.stage) s.views
+      ≡ weight (state_at s.words i == claimed)
   pub sweeps : (i : ℕ) → i < length jobs → total (sweeps_of i) s.views ≡ weight (state_at s.words i == done)
   pub seats : (id : ℕ) (v : View) → get_elem? s.views id ≡ some v → SeatRule jobs s.words v
   pub mains : (id : ℕ) (v : View) → get_elem? s.views id ≡ some v → v.role ≡ Main → MainRule jobs s.words s.views id v

@@ -1,11 +1,13 @@
--- What each kind of step tells the seat that makes it: of the step, the seat before, the number found (or stored) and the seat after.
+-- What each kind of step tells the seat that makes it: of the step, the seat before, the number found (or stored) and
+-- the seat after.
 use Rattle.std.specs.Prelude.{◌≡◌, ◌≢◌, ℕ, ◌/◌, ◌==◌, MatchBool}
 use Rattle.atomic_table.specs.Table.{Me, Step}
 use Rattle.sweep_board.specs.declared.view.View.{View}
 use Rattle.sweep_board.specs.declared.view.Stage.{Stage}
 use Rattle.sweep_board.specs.declared.view.Stage.TheVariants.{Free, Claimed, LoadedBlack, LoadedBoth, StoredFreed}
 use Rattle.sweep_board.specs.Rule.{ready, done, job_at, white}
-use Rattle.sweep_board.specs.Views.{at_stage, with_passed, with_gate, with_finished, with_done, with_look, with_wake, with_taken, IsDone, IsNoted, IsSwept, bits_now}
+use Rattle.sweep_board.specs.Views.{at_stage, with_passed, with_gate, with_finished, with_done, with_look, with_wake}
+use Rattle.sweep_board.specs.Views.{with_taken, IsDone, IsNoted, IsSwept, bits_now}
 
 -- a seat of the board: its view, and no slots, since the board's table has none
 abbrev pub BoardSeat : Type 0
@@ -30,7 +32,8 @@ black_of (StoredFreed k) = 0
 -- claim: ready becomes claimed by the seat, or the seat notes the arena; one that it has noted is not found ready
 abbrev pub claims : Step (Unit {0}) → BoardSeat → ℕ → BoardSeat → Type 0
 claims st m found m' =
-    MatchBool (found == ready) (m' ≡ (at_stage m.0 (Claimed (st.word / 4)), m.1)) (m' ≡ (with_passed m.0 (st.word / 4), m.1))
+    MatchBool (found == ready) (m' ≡ (at_stage m.0 (Claimed (st.word / 4)), m.1))
+    (m' ≡ (with_passed m.0 (st.word / 4), m.1))
     × (IsNoted m.0 (st.word / 4) → found ≢ ready)
 
 -- pass a gate of this name, with an arena that the seat claimed
@@ -47,7 +50,8 @@ loads_gob st m found m' = m' ≡ (at_stage m.0 (LoadedBoth (arena_of m.0.stage) 
 
 -- store freed: what is stored is the arena's white cells at hand-out
 abbrev pub stores_freed : Step (Unit {0}) → BoardSeat → ℕ → BoardSeat → Type 0
-stores_freed st m stored m' = (m' ≡ (at_stage m.0 (StoredFreed (arena_of m.0.stage)), m.1)) × (stored ≡ white (job_at m.0.jobs (arena_of m.0.stage)))
+stores_freed st m stored m' = (m' ≡ (at_stage m.0 (StoredFreed (arena_of m.0.stage)), m.1))
+    × (stored ≡ white (job_at m.0.jobs (arena_of m.0.stage)))
 
 -- store done, which spends the claim
 abbrev pub stores_done : Step (Unit {0}) → BoardSeat → ℕ → BoardSeat → Type 0

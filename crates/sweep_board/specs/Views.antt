@@ -1,5 +1,6 @@
 -- A seat's view at its start, and after each thing that it may learn.
-use Rattle.std.specs.Prelude.{◌≡◌, ℕ, ◌+◌, ◌-◌, ◌<◌, ◌≤◌, ◌==◌, Bool, true, false, List, [], ◌∷◌, ◌++◌, ◌⊎◌, Contains, bit_or}
+use Rattle.std.specs.Prelude.{◌≡◌, ℕ, ◌+◌, ◌-◌, ◌<◌, ◌≤◌, ◌==◌, Bool, true, false, List, [], ◌∷◌, ◌++◌, ◌⊎◌, Contains}
+use Rattle.std.specs.Prelude.{bit_or}
 use Rattle.std.specs.List.{list_any}
 use Rattle.cell_bits.specs.declared.bits.Bits.{Bits}
 use Rattle.cell_bits.specs.declared.jobs.Job.{Job}
@@ -107,4 +108,7 @@ pub record HasTakenBelow (v : View) (n : ℕ) : Type 0 where
 
 -- the bits of an arena now: the gob word of hand-out, and the black word of hand-out with every mask that main woke
 abbrev pub bits_now : View → ℕ → Bits
-bits_now v i = record { black = bit_or (job_at v.jobs i).bits.black (mask_at v.woken i); gob = (job_at v.jobs i).bits.gob }
+bits_now v i = record {
+  black = bit_or (job_at v.jobs i).bits.black (mask_at v.woken i);
+  gob = (job_at v.jobs i).bits.gob;
+}

@@ -1,5 +1,6 @@
 // The board, its seats and its claims.
-ghost use Rattle.std.specs.Prelude.{◌≡◌, ◌≢◌, ℕ, ◌+◌, ◌*◌, ◌^◌, ◌<◌, ◌==◌, true, false, [], ◌∷◌, length, bit_or, position, IfOk, IsNone, IsSome, IfNone, IfSome};
+ghost use Rattle.std.specs.Prelude.{◌≡◌, ◌≢◌, ℕ, ◌+◌, ◌*◌, ◌^◌, ◌<◌, ◌==◌, true, false, [], ◌∷◌, length, bit_or};
+ghost use Rattle.std.specs.Prelude.{position, IfOk, IsNone, IsSome, IfNone, IfSome};
 ghost use Rattle.sweep_board.specs.declared.view.Role.TheVariants.{Main, Helper};
 ghost use Rattle.sweep_board.specs.Rule.{ArenasAscend};
 
@@ -70,9 +71,12 @@ impl Board {
     ghost use Rattle.gz_io.specs.declared.gate.Point.TheVariants as point;
     ghost use Rattle.sweep_board.specs.declared.view.Stage.TheVariants.{Claimed};
     ghost use Rattle.sweep_board.specs.Rule.{BoardRule, job_at, white, done};
-    ghost use Rattle.sweep_board.specs.Views.{at_stage, with_passed, with_gate, with_finished, main_view, helper_view, with_helper, joined_view, with_done, with_look, with_wake, with_taken, bits_now, is_taken, IsDone, IsNoted, IsSwept};
+    ghost use Rattle.sweep_board.specs.Views.{at_stage, with_passed, with_gate, with_finished, main_view, helper_view};
+    ghost use Rattle.sweep_board.specs.Views.{with_helper, joined_view, with_done, with_look, with_wake, with_taken};
+    ghost use Rattle.sweep_board.specs.Views.{bits_now, is_taken, IsDone, IsNoted, IsSwept};
     ghost use Rattle.sweep_board.specs.InWords.{OpensReady};
-    ghost use Rattle.sweep_board.specs.Seats.{claim_index, key_of, jobs_of, board_len, helper_view_of, main_view_of, IsHelperOf, IsMainOf, HoldsNoClaim, HoldsClaim};
+    ghost use Rattle.sweep_board.specs.Seats.{claim_index, key_of, jobs_of, board_len, helper_view_of, main_view_of};
+    ghost use Rattle.sweep_board.specs.Seats.{IsHelperOf, IsMainOf, HoldsNoClaim, HoldsClaim};
 
     /// A board over these jobs, and main's seat. Each arena is ready to be claimed: while main's is
     /// the only seat, the rule of the board's table allows nothing else. No other call of a board
@@ -147,7 +151,8 @@ impl Board {
         requires main { IsMainOf self.now main.old }
         requires seat { IsHelperOf self.now seat }
         requires free { HoldsNoClaim seat }
-        ensures { IsMainOf self.now main.new × (main_view_of main.new ≡ joined_view (main_view_of main.old) (helper_view_of seat)) }
+        ensures { IsMainOf self.now main.new
+            × (main_view_of main.new ≡ joined_view (main_view_of main.old) (helper_view_of seat)) }
     {
         let HelperSeat { seat } = seat;
         self.table
@@ -162,7 +167,8 @@ impl Board {
         requires free { HoldsNoClaim seat.old }
         requires index { index < board_len self.now }
         ensures board { IsHelperOf self.now seat.new }
-        ensures won { IfSome result (λ claim. (claim_index claim ≡ index) × (helper_view_of seat.new ≡ at_stage (helper_view_of seat.old) (Claimed index))) }
+        ensures won { IfSome result (λ claim. (claim_index claim ≡ index)
+            × (helper_view_of seat.new ≡ at_stage (helper_view_of seat.old) (Claimed index))) }
         ensures lost { IfNone result (helper_view_of seat.new ≡ with_passed (helper_view_of seat.old) index) }
         ensures noted { IsNoted (helper_view_of seat.old) index → IsNone result }
     {
@@ -222,7 +228,8 @@ impl Board {
     pub fn wake(&self, main: &mut MainSeat, index: u32, mask: u64)
         requires board { IsMainOf self.now main.old }
         requires index { index < board_len self.now }
-        requires within { bit_or mask (job_at (jobs_of self.now) index).bits.gob ≡ (job_at (jobs_of self.now) index).bits.gob }
+        requires within { bit_or mask (job_at (jobs_of self.now) index).bits.gob
+            ≡ (job_at (jobs_of self.now) index).bits.gob }
         requires out { is_taken (main_view_of main.old) index ≡ false }
         ensures board { IsMainOf self.now main.new }
         ensures woken { main_view_of main.new ≡ with_wake (main_view_of main.old) index mask }
@@ -256,13 +263,15 @@ impl Board {
         requires index { index < board_len self.now }
         requires out { is_taken (main_view_of main.old) index ≡ false }
         ensures board { IsMainOf self.now main.new }
-        ensures none { IfNone result ((state : ℕ) × (state ≢ done) × (main_view_of main.new ≡ with_look (main_view_of main.old) index state)) }
+        ensures none { IfNone result ((state : ℕ) × (state ≢ done)
+            × (main_view_of main.new ≡ with_look (main_view_of main.old) index state)) }
         ensures known { IsDone (main_view_of main.old) index → IsSome result }
         ensures alone { IsNoted (main_view_of main.old) index → (main_view_of main.old).helpers ≡ 0 → IsSome result }
         ensures swept { IsSome result → (main_view_of main.old).helpers ≡ 0 → IsSwept (main_view_of main.old) index }
         ensures freed { IfSome result (λ taken. taken.freed ≡ white (job_at (jobs_of self.now) index)) }
         ensures bits { IfSome result (λ taken. taken.bits ≡ bits_now (main_view_of main.old) index) }
-        ensures taken { IfSome result (λ taken. main_view_of main.new ≡ with_taken (with_done (main_view_of main.old) index) index) }
+        ensures taken { IfSome result (λ taken. main_view_of main.new
+            ≡ with_taken (with_done (main_view_of main.old) index) index) }
     {
         let state = WORDS * (index as usize);
         let shared = &self.table.shared;

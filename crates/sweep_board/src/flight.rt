@@ -27,7 +27,11 @@ impl<'a> Flight for InFlight<'a> {
 
     type Origin = FlightOrigin;
 
-    ghost origin = { λ f. record { board = f.board.now; helpers = (main_view_of f.main).helpers; taken = (main_view_of f.main).taken } };
+    ghost origin = { λ f. record {
+      board = f.board.now;
+      helpers = (main_view_of f.main).helpers;
+      taken = (main_view_of f.main).taken;
+    } };
 
     ghost bits = { λ f. flight_bits (main_view_of f.main) };
 

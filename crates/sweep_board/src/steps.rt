@@ -1,7 +1,8 @@
 // The rule of the board's table, and the kinds of step on its words.
 ghost use Rattle.sweep_board.specs.Rule.{BoardRule};
 ghost use Rattle.sweep_board.specs.Views.{main_view, helper_view, spent_view, with_helper, joined_view};
-ghost use Rattle.sweep_board.specs.Steps.{claims, passes_gate, loads_black, loads_gob, stores_freed, stores_done, wakes, looks, reads_freed, reads_black, takes};
+ghost use Rattle.sweep_board.specs.Steps.{claims, passes_gate, loads_black, loads_gob, stores_freed, stores_done};
+ghost use Rattle.sweep_board.specs.Steps.{wakes, looks, reads_freed, reads_black, takes};
 
 use crate::view::View;
 use atomic_table::{Join, Play, Split, TableRule};

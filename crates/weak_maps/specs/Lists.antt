@@ -1,5 +1,6 @@
 -- Lists of places, each under a place.
-use Rattle.std.specs.Prelude.{◌≡◌, ◌≢◌, ◌==◌, ◌&&◌, ◌++◌, ◌∷◌, [], Bool, List, Option, Some, None, AllPairs, map, unwrap_or, if◌then◌else◌}
+use Rattle.std.specs.Prelude.{◌≡◌, ◌≢◌, ◌==◌, ◌&&◌, ◌++◌, ◌∷◌, [], Bool, List, Option, Some, None, AllPairs, map}
+use Rattle.std.specs.Prelude.{unwrap_or, if◌then◌else◌}
 use Rattle.std.specs.List.{list_any}
 use Rattle.std.specs.Map.{lookup, set_value}
 use Rattle.std.specs.declared.hash.FoldHasher.{FoldHasher}
@@ -54,4 +55,5 @@ if_not_empty (q ∷ qs) = Some (q ∷ qs)
 
 -- the list under a place has become another, and the others are as they were
 abbrev pub IsChanged : List (Place × List Place) → Place → List Place → List (Place × List Place) → Type 0
-IsChanged old p qs new = (q : Place) → lookup (is_same q) new ≡ (if is_same p q then if_not_empty qs else lookup (is_same q) old)
+IsChanged old p qs new = (q : Place)
+    → lookup (is_same q) new ≡ (if is_same p q then if_not_empty qs else lookup (is_same q) old)

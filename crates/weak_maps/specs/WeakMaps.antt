@@ -1,5 +1,7 @@
 -- The entries of weak maps.
-use Rattle.std.specs.Prelude.{◌≡◌, ◌≢◌, ◌↔◌, ◌⊎◌, ◌&&◌, ◌||◌, ◌∷◌, [], ℕ, Bool, true, false, List, Option, Some, None, AllPairs, Contains, MatchOption, slice_get, swap_remove, map, unwrap_or, is_some, if◌then◌else◌}
+use Rattle.std.specs.Prelude.{◌≡◌, ◌≢◌, ◌↔◌, ◌⊎◌, ◌&&◌, ◌||◌, ◌∷◌, [], ℕ, Bool, true, false, List, Option, Some, None}
+use Rattle.std.specs.Prelude.{AllPairs, Contains, MatchOption, slice_get, swap_remove, map, unwrap_or, is_some}
+use Rattle.std.specs.Prelude.{if◌then◌else◌}
 use Rattle.indexmap.specs.IndexMap.{swap_remove_by}
 use Rattle.gz_names.specs.declared.numbers.Place.{Place}
 use Rattle.weak_maps.specs.Lists.{is_same, listed_under, is_listed, add_to, take_from, AreSound as AreSoundLists}
@@ -31,7 +33,8 @@ value_of weak m k = value_at weak.entries m k
 -- a value is given to a key of a map: in place where it has one, else in an entry after the others
 abbrev pub put_at : List EntryState → Place → Place → Place → List EntryState
 put_at [] m k v = record { map = m; key = k; value = v } ∷ []
-put_at (entry ∷ entries) m k v = if is_entry m k entry then record { map = entry.map; key = entry.key; value = v } ∷ entries else entry ∷ put_at entries m k v
+put_at (entry ∷ entries) m k v = if is_entry m k entry then record { map = entry.map; key = entry.key; value = v }
+    ∷ entries else entry ∷ put_at entries m k v
 
 abbrev pub put : WeakMapsState → Place → Place → Place → WeakMapsState
 put weak m k v =
@@ -80,7 +83,8 @@ pub record AreThose (P : EntryState → Type 0) (entries listed : List EntryStat
 -- what always holds, as callers see it
 pub record IsSound (weak : WeakMapsState) : Type 0 where
   pub distinct : AreDistinct weak.entries
-  pub found : (m k v : Place) → Contains weak.entries (record { map = m; key = k; value = v }) ↔ (value_of weak m k ≡ Some v)
+  pub found : (m k v : Place) → Contains weak.entries (record { map = m; key = k; value = v })
+      ↔ (value_of weak m k ≡ Some v)
   pub of_map : (m : Place) → AreThose (λ entry. entry.map ≡ m) weak.entries (listed_of_map weak m)
   pub of_key : (k : Place) → AreThose (λ entry. entry.key ≡ k) weak.entries (listed_of_key weak k)
 
@@ -95,11 +99,13 @@ is_dead_entry is_dead entry = is_dead entry.map || is_dead entry.key || is_dead 
 -- a value that was found, unless its entry is dead
 abbrev pub alive_value : (Place → Bool) → Place → Place → Option Place → Option Place
 alive_value is_dead m k None = None
-alive_value is_dead m k (Some v) = if is_dead_entry is_dead (record { map = m; key = k; value = v }) then None else Some v
+alive_value is_dead m k (Some v) = if is_dead_entry is_dead (record { map = m; key = k; value = v }) then None
+    else Some v
 
 -- the entries without the dead ones, in some order
 pub record IsWithoutDead (is_dead : Place → Bool) (old new : WeakMapsState) : Type 0 where
-  pub exact : (entry : EntryState) → Contains new.entries entry ↔ (Contains old.entries entry × (is_dead_entry is_dead entry ≡ false))
+  pub exact : (entry : EntryState) → Contains new.entries entry
+      ↔ (Contains old.entries entry × (is_dead_entry is_dead entry ≡ false))
   pub found : (m k : Place) → value_of new m k ≡ alive_value is_dead m k (value_of old m k)
 
 -- one of the three places of an entry was answered to be dead
@@ -115,9 +121,12 @@ pub record KeepsAlive (ask : Place → Bool → Type 0) (old new : List EntrySta
   pub kept : (entry : EntryState) → Contains new entry → Contains old entry × AnsweredAlive ask entry
   pub dropped : (entry : EntryState) → Contains old entry → Contains new entry ⊎ AnsweredDead ask entry
 
--- one entry is looked at: where it was answered alive, or there is none, all stay; where it was answered dead, the last has its place
+-- one entry is looked at: where it was answered alive, or there is none, all stay; where it was answered dead, the last
+-- has its place
 abbrev pub LooksAt : (Place → Bool → Type 0) → ℕ → List EntryState → List EntryState → Type 0
-LooksAt ask index old new = MatchOption (slice_get old index) (new ≡ old) (λ entry. ((new ≡ old) × AnsweredAlive ask entry) ⊎ ((new ≡ swap_remove old index entry) × AnsweredDead ask entry))
+LooksAt ask index old new =
+    MatchOption (slice_get old index) (new ≡ old) (λ entry. ((new ≡ old) × AnsweredAlive ask entry)
+    ⊎ ((new ≡ swap_remove old index entry) × AnsweredDead ask entry))
 
 -- what always holds
 pub record AreTied (entries : List EntryState) (by_map by_key : List (Place × List Place)) : Type 0 where

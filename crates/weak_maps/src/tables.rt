@@ -1,5 +1,6 @@
 // The entries of weak maps.
-ghost use Rattle.std.specs.Prelude.{◌≡◌, ◌<◌, ◌≤◌, ◌+◌, ◌&&◌, Bool, true, Some, None, [], length, slice_get, swap_remove, is_some, IfSome, IfNone, IfOk, OnOk, OnErr, if◌then◌else◌};
+ghost use Rattle.std.specs.Prelude.{◌≡◌, ◌<◌, ◌≤◌, ◌+◌, ◌&&◌, Bool, true, Some, None, [], length, slice_get};
+ghost use Rattle.std.specs.Prelude.{swap_remove, is_some, IfSome, IfNone, IfOk, OnOk, OnErr, if◌then◌else◌};
 ghost use Rattle.std.specs.Option.{option_map};
 ghost use Rattle.indexmap.specs.IndexMap.{get, IsUnique};
 ghost use Rattle.gz_names.specs.declared.numbers.Place.{Place};
@@ -46,7 +47,8 @@ impl Model for WeakMaps {
 
 impl WeakMaps {
     ghost use Rattle.weak_maps.specs.Lists.{is_same};
-    ghost use Rattle.weak_maps.specs.WeakMaps.{WeakMapsState, IsSound, AnswersBy, IsWithoutDead, KeepsAlive, LooksAt, value_of, put, del, parts, listed_of_map, listed_of_key};
+    ghost use Rattle.weak_maps.specs.WeakMaps.{WeakMapsState, IsSound, AnswersBy, IsWithoutDead, KeepsAlive, LooksAt};
+    ghost use Rattle.weak_maps.specs.WeakMaps.{value_of, put, del, parts, listed_of_map, listed_of_key};
 
     /// No entries.
     pub fn new(alloc: Global) -> Self

@@ -1,5 +1,7 @@
 -- Where a wrapper is found.
-use Rattle.std.proofs.Common.{◌≡◌, ◌≢◌, ◌<◌, ◌⊎◌, inl, inr, ℕ, zero, suc, Bool, true, false, cond, List, [], ◌∷◌, length, get_or, Option, Some, None, IfSome, IfNone, Contains, slice_get, refl, sym, ◌∙◌, ap, subst, arith}
+use Rattle.std.proofs.Common.{◌≡◌, ◌≢◌, ◌<◌, ◌⊎◌, inl, inr, ℕ, zero, suc, Bool, true, false, cond, List, [], ◌∷◌}
+use Rattle.std.proofs.Common.{length, get_or, Option, Some, None, IfSome, IfNone, Contains, slice_get, refl, sym, ◌∙◌}
+use Rattle.std.proofs.Common.{ap, subst, arith}
 use Rattle.std.proofs.lemmas.List.Elements.{Contains-get_or, Contains-append_right}
 use Rattle.std.proofs.lemmas.Bool.{false≢true}
 use Rattle.std.proofs.lemmas.Bool.Decides.{nat_tests}
@@ -34,14 +36,16 @@ is_key-other : (c t : ℕ) (k : WrapperKey) → k.comp ≢ c → is_key c t k �
 is_key-other c t k n = grind (arith, nat_tests)
 
 -- in a list without the compartment nothing is found
-pub lookup-absent : (es : List (WrapperKey × Place)) (c t : ℕ) → ((e : WrapperKey × Place) → Contains es e → e.0.comp ≡ c → ⊥) → lookup (is_key c t) es ≡ None
+pub lookup-absent : (es : List (WrapperKey × Place)) (c t : ℕ)
+    → ((e : WrapperKey × Place) → Contains es e → e.0.comp ≡ c → ⊥) → lookup (is_key c t) es ≡ None
 lookup-absent [] c t h = refl
 lookup-absent (e ∷ es) c t h =
     let other = is_key-other c t e.0 (h e (Contains-head e es)) in
     let rest = lookup-absent es c t (λ d k. h d (Contains-tail e es d k)) in
     ap (λ b. cond b (Some e.1) (lookup (is_key c t) es)) other ∙ rest
 
-pub place_at-absent : (lists : List (List (WrapperKey × Place))) (c t : ℕ) → ((z : ℕ) (e : WrapperKey × Place) → Contains (list_at lists z) e → e.0.comp ≡ c → ⊥) → place_at lists c t ≡ None
+pub place_at-absent : (lists : List (List (WrapperKey × Place))) (c t : ℕ)
+    → ((z : ℕ) (e : WrapperKey × Place) → Contains (list_at lists z) e → e.0.comp ≡ c → ⊥) → place_at lists c t ≡ None
 place_at-absent [] c t h = refl
 place_at-absent (es ∷ lists) c t h =
     ap (λ o. first_of o (place_at lists c t)) (lookup-absent es c t (h 0)) ∙ place_at-absent lists c t (λ z. h (suc z))
@@ -51,32 +55,45 @@ first_of-none (Some p) = refl
 first_of-none None = refl
 
 -- where all wrappers of a compartment are in one zone's list, that list is the one to look in
-pub place_at-home : (lists : List (List (WrapperKey × Place))) (home c t : ℕ) → ((z : ℕ) (e : WrapperKey × Place) → Contains (list_at lists z) e → e.0.comp ≡ c → z ≡ home) → place_at lists c t ≡ lookup (is_key c t) (list_at lists home)
+pub place_at-home : (lists : List (List (WrapperKey × Place))) (home c t : ℕ)
+    → ((z : ℕ) (e : WrapperKey × Place) → Contains (list_at lists z) e → e.0.comp ≡ c → z ≡ home)
+    → place_at lists c t ≡ lookup (is_key c t) (list_at lists home)
 place_at-home [] home c t h = refl
 place_at-home (es ∷ lists) zero c t h =
-    ap (first_of (lookup (is_key c t) es)) (place_at-absent lists c t (λ z e k f. (let same : suc z ≡ 0 = h (suc z) e k f in omega arith))) ∙ first_of-none _
+    ap (first_of (lookup (is_key c t) es))
+    (place_at-absent lists c t (λ z e k f. (let same : suc z ≡ 0 = h (suc z) e k f in omega arith)))
+    ∙ first_of-none _
 place_at-home (es ∷ lists) (suc home) c t h =
-    ap (λ o. first_of o (place_at lists c t)) (lookup-absent es c t (λ e k f. (let same : 0 ≡ suc home = h 0 e k f in omega arith))) ∙ place_at-home lists home c t (λ z e k f. (let same : suc z ≡ suc home = h (suc z) e k f in omega arith))
+    ap (λ o. first_of o (place_at lists c t))
+    (lookup-absent es c t (λ e k f. (let same : 0 ≡ suc home = h 0 e k f in omega arith)))
+    ∙ place_at-home lists home c t (λ z e k f. (let same : suc z ≡ suc home = h (suc z) e k f in omega arith))
 
 -- what is found is an entry
-pub lookup-Contains : (es : List (WrapperKey × Place)) (c t : ℕ) → IfSome (lookup (is_key c t) es) (λ p. Contains es (record { comp = c; target = t }, p))
+pub lookup-Contains : (es : List (WrapperKey × Place)) (c t : ℕ)
+    → IfSome (lookup (is_key c t) es) (λ p. Contains es (record { comp = c; target = t }, p))
 lookup-Contains [] c t = tt
 lookup-Contains (e ∷ es) c t = by (is_key c t e.0) refl (lookup-Contains es c t)
   where
-    by : (b : Bool) → is_key c t e.0 ≡ b → IfSome (lookup (is_key c t) es) (λ p. Contains es (record { comp = c; target = t }, p)) → IfSome (cond b (Some e.1) (lookup (is_key c t) es)) (λ p. Contains (e ∷ es) (record { comp = c; target = t }, p))
+    by : (b : Bool) → is_key c t e.0 ≡ b
+        → IfSome (lookup (is_key c t) es) (λ p. Contains es (record { comp = c; target = t }, p))
+        → IfSome (cond b (Some e.1) (lookup (is_key c t) es))
+        (λ p. Contains (e ∷ es) (record { comp = c; target = t }, p))
     by true f rest = subst (λ k. Contains (e ∷ es) (k, e.1)) (is_key-true c t e.0 f) (Contains-head e es)
     by false f rest = later (lookup (is_key c t) es) rest
       where
-        later : (o : Option Place) → IfSome o (λ p. Contains es (record { comp = c; target = t }, p)) → IfSome o (λ p. Contains (e ∷ es) (record { comp = c; target = t }, p))
+        later : (o : Option Place) → IfSome o (λ p. Contains es (record { comp = c; target = t }, p))
+            → IfSome o (λ p. Contains (e ∷ es) (record { comp = c; target = t }, p))
         later None h = tt
         later (Some p) h = Contains-tail e es _ h
 
 -- where nothing is found there is no entry
-pub lookup-none : (es : List (WrapperKey × Place)) (c t : ℕ) (p : Place) → lookup (is_key c t) es ≡ None → Contains es (record { comp = c; target = t }, p) → ⊥
+pub lookup-none : (es : List (WrapperKey × Place)) (c t : ℕ) (p : Place) → lookup (is_key c t) es ≡ None
+    → Contains es (record { comp = c; target = t }, p) → ⊥
 lookup-none [] c t p e h = omega (arith, h.1)
 lookup-none (d ∷ es) c t p e h = by (is_key c t d.0) refl e (lookup-none es c t p)
   where
-    by : (b : Bool) → is_key c t d.0 ≡ b → cond b (Some d.1) (lookup (is_key c t) es) ≡ None → (lookup (is_key c t) es ≡ None → Contains es (record { comp = c; target = t }, p) → ⊥) → ⊥
+    by : (b : Bool) → is_key c t d.0 ≡ b → cond b (Some d.1) (lookup (is_key c t) es) ≡ None
+        → (lookup (is_key c t) es ≡ None → Contains es (record { comp = c; target = t }, p) → ⊥) → ⊥
     by true f none rest = cc
     by false f none rest = elim (Contains-cases d es _ h) [
       | inl same ↦ false≢true (sym f ∙ (ap (λ (x : WrapperKey × Place). is_key c t x.0) same ∙ is_key-self c t))
@@ -84,28 +101,44 @@ lookup-none (d ∷ es) c t p e h = by (is_key c t d.0) refl e (lookup-none es c 
     ]
 
 -- in the list of a compartment's zone is all that is to be found of it
-pub only_home : (lists : List (List (WrapperKey × Place))) (homes : List (Option ZoneNo)) (c home : ℕ) → AreAtHome lists homes → slice_get homes c ≡ Some (Some home) → (z : ℕ) (e : WrapperKey × Place) → Contains (list_at lists z) e → e.0.comp ≡ c → z ≡ home
+pub only_home : (lists : List (List (WrapperKey × Place))) (homes : List (Option ZoneNo)) (c home : ℕ)
+    → AreAtHome lists homes → slice_get homes c ≡ Some (Some home) → (z : ℕ) (e : WrapperKey × Place)
+    → Contains (list_at lists z) e → e.0.comp ≡ c → z ≡ home
 only_home lists homes c home h at z e there same =
     let here = sym (ap (slice_get homes) same) ∙ h z e there in cc
 
-pub nowhere : (lists : List (List (WrapperKey × Place))) (homes : List (Option ZoneNo)) (c : ℕ) → AreAtHome lists homes → slice_get homes c ≡ Some None → (z : ℕ) (e : WrapperKey × Place) → Contains (list_at lists z) e → e.0.comp ≡ c → ⊥
+pub nowhere : (lists : List (List (WrapperKey × Place))) (homes : List (Option ZoneNo)) (c : ℕ) → AreAtHome lists homes
+    → slice_get homes c ≡ Some None → (z : ℕ) (e : WrapperKey × Place) → Contains (list_at lists z) e → e.0.comp ≡ c → ⊥
 nowhere lists homes c h at z e there same =
     let here = sym (ap (slice_get homes) same) ∙ h z e there in cc
 
-pub found_at : (lists : List (List (WrapperKey × Place))) (home c t : ℕ) (r : Option Place) → r ≡ lookup (is_key c t) (list_at lists home) → IfSome r (λ p. (z : ℕ) × Contains (list_at lists z) (record { comp = c; target = t }, p))
+pub found_at : (lists : List (List (WrapperKey × Place))) (home c t : ℕ) (r : Option Place)
+    → r ≡ lookup (is_key c t) (list_at lists home)
+    → IfSome r (λ p. (z : ℕ) × Contains (list_at lists z) (record { comp = c; target = t }, p))
 found_at lists home c t None e = tt
-found_at lists home c t (Some p) e = (home, subst (λ (o : Option Place). IfSome o (λ q. Contains (list_at lists home) (record { comp = c; target = t }, q))) (sym e) (lookup-Contains (list_at lists home) c t))
+found_at lists home c t (Some p) e = (
+  home,
+  subst (λ (o : Option Place).
+      IfSome o (λ q. Contains (list_at lists home) (record { comp = c; target = t }, q))) (sym e)
+      (lookup-Contains (list_at lists home) c t),
+)
 
-pub none_at : (lists : List (List (WrapperKey × Place))) (home c t : ℕ) (r : Option Place) → r ≡ lookup (is_key c t) (list_at lists home) → ((z : ℕ) (e : WrapperKey × Place) → Contains (list_at lists z) e → e.0.comp ≡ c → z ≡ home) → IfNone r ((z : ℕ) (p : Place) → Contains (list_at lists z) (record { comp = c; target = t }, p) → ⊥)
+pub none_at : (lists : List (List (WrapperKey × Place))) (home c t : ℕ) (r : Option Place)
+    → r ≡ lookup (is_key c t) (list_at lists home)
+    → ((z : ℕ) (e : WrapperKey × Place) → Contains (list_at lists z) e → e.0.comp ≡ c → z ≡ home)
+    → IfNone r ((z : ℕ) (p : Place) → Contains (list_at lists z) (record { comp = c; target = t }, p) → ⊥)
 none_at lists home c t (Some p) e one = tt
 none_at lists home c t None e one =
-    λ z p there. lookup-none (list_at lists home) c t p (sym e) (subst (λ (y : ℕ). Contains (list_at lists y) (record { comp = c; target = t }, p)) (one z _ there refl) there)
+    λ z p there. lookup-none (list_at lists home) c t p (sym e)
+    (subst (λ (y : ℕ). Contains (list_at lists y) (record { comp = c; target = t }, p)) (one z _ there refl) there)
 
-pub slice_get-read : {X : Type 0} (xs : List X) (i : ℕ) (d x : X) → i < length xs → get_or xs i d ≡ x → slice_get xs i ≡ Some x
+pub slice_get-read : {X : Type 0} (xs : List X) (i : ℕ) (d x : X) → i < length xs → get_or xs i d ≡ x
+    → slice_get xs i ≡ Some x
 slice_get-read xs i d x h e = slice_get-get_or xs i d h ∙ ap (λ y. Some y) e
 
 -- what callers may rely on
-pub AreApart-from_sound : (lists : List (List (WrapperKey × Place))) (homes : List (Option ZoneNo)) → AreSound lists homes → AreApart lists
+pub AreApart-from_sound : (lists : List (List (WrapperKey × Place))) (homes : List (Option ZoneNo))
+    → AreSound lists homes → AreApart lists
 AreApart-from_sound lists homes h = record {
   distinct = h.distinct;
   one_zone = λ y z d e first second same.

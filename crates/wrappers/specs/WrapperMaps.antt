@@ -1,5 +1,7 @@
 -- The wrappers of each zone.
-use Rattle.std.specs.Prelude.{MatchBool, ◌≡◌, ◌≢◌, AllPairs, ◌==◌, ◌&&◌, ◌++◌, ◌∷◌, [], ℕ, Bool, not, List, Option, Some, None, length, map, filter, Contains, slice_get, slice_set, slice_index_or, if◌then◌else◌}
+use Rattle.std.specs.Prelude.{MatchBool, ◌≡◌, ◌≢◌, AllPairs, ◌==◌, ◌&&◌, ◌++◌, ◌∷◌, [], ℕ, Bool, not, List, Option}
+use Rattle.std.specs.Prelude.{Some, None, length, map, filter, Contains, slice_get, slice_set, slice_index_or}
+use Rattle.std.specs.Prelude.{if◌then◌else◌}
 use Rattle.std.specs.Map.{lookup}
 use Rattle.std.specs.declared.hash.FoldHasher.{FoldHasher}
 use Rattle.std.specs.declared.hash.BuildHasherDefault.{BuildHasherDefault}
@@ -43,7 +45,8 @@ add_at lists zone key place = slice_set lists zone (list_at lists zone ++ (key, 
 -- the wrappers without those whose places were answered to be dead, each asked once
 abbrev pub KeptBy : (Place → Bool → Type 0) → List (WrapperKey × Place) → List (WrapperKey × Place) → Type 0
 KeptBy ask [] kept = kept ≡ []
-KeptBy ask (e ∷ es) kept = (answer : Bool) × (rest : List (WrapperKey × Place)) × ask e.1 answer × KeptBy ask es rest × (kept ≡ (if answer then rest else (e ∷ rest)))
+KeptBy ask (e ∷ es) kept = (answer : Bool) × (rest : List (WrapperKey × Place)) × ask e.1 answer × KeptBy ask es rest
+    × (kept ≡ (if answer then rest else (e ∷ rest)))
 
 -- that, where a bit of a word says so
 abbrev pub DropsDead : ℕ → (Place → Bool → Type 0) → List (WrapperKey × Place) → List (WrapperKey × Place) → Type 0
@@ -58,12 +61,14 @@ abbrev pub without_dead : ℕ → (Place → Bool) → List (WrapperKey × Place
 without_dead bit is_dead entries = if bit == 1 then filter (λ e. not (is_dead e.1)) entries else entries
 
 -- the lists that maps hold
-abbrev pub lists_of : List (IndexMap WrapperKey Place (BuildHasherDefault FoldHasher)) → List (List (WrapperKey × Place))
+abbrev pub lists_of : List (IndexMap WrapperKey Place (BuildHasherDefault FoldHasher))
+    → List (List (WrapperKey × Place))
 lists_of maps = map (λ m. m.entries) maps
 
 -- the wrappers of a zone are all of compartments whose zone it is
 abbrev pub AreAtHome : List (List (WrapperKey × Place)) → List (Option ZoneNo) → Type 0
-AreAtHome lists homes = (z : ℕ) (entry : WrapperKey × Place) → Contains (list_at lists z) entry → slice_get homes entry.0.comp ≡ Some (Some z)
+AreAtHome lists homes = (z : ℕ) (entry : WrapperKey × Place) → Contains (list_at lists z) entry
+    → slice_get homes entry.0.comp ≡ Some (Some z)
 
 -- no two wrappers of a zone have the same compartment and target
 abbrev pub AreDistinct : List (List (WrapperKey × Place)) → Type 0
@@ -72,7 +77,8 @@ AreDistinct lists = (z : ℕ) → AllPairs (λ d e. d.0 ≢ e.0) (list_at lists 
 -- each compartment and target has at most one wrapper, and all wrappers of a compartment are in one zone
 pub record AreApart (lists : List (List (WrapperKey × Place))) : Type 0 where
   pub distinct : AreDistinct lists
-  pub one_zone : (y z : ℕ) (d e : WrapperKey × Place) → Contains (list_at lists y) d → Contains (list_at lists z) e → d.0.comp ≡ e.0.comp → y ≡ z
+  pub one_zone : (y z : ℕ) (d e : WrapperKey × Place) → Contains (list_at lists y) d → Contains (list_at lists z) e
+      → d.0.comp ≡ e.0.comp → y ≡ z
 
 -- what always holds
 pub record AreSound (lists : List (List (WrapperKey × Place))) (homes : List (Option ZoneNo)) : Type 0 where

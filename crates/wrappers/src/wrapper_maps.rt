@@ -1,5 +1,7 @@
 // The wrappers of each zone.
-ghost use Rattle.std.specs.Prelude.{◌<◌, ◌≡◌, ◌↔◌, IsTrue, ◌+◌, ◌++◌, ◌∷◌, ◌==◌, ◌&&◌, ℕ, Bool, List, None, Some, [], length, map, replicate, slice_get, slice_index_or, not, filter, Contains, IfOk, IfSome, IfNone, OnOk, OnErr, is_some, if◌then◌else◌};
+ghost use Rattle.std.specs.Prelude.{◌<◌, ◌≡◌, ◌↔◌, IsTrue, ◌+◌, ◌++◌, ◌∷◌, ◌==◌, ◌&&◌, ℕ, Bool, List, None, Some, []};
+ghost use Rattle.std.specs.Prelude.{length, map, replicate, slice_get, slice_index_or, not, filter, Contains, IfOk};
+ghost use Rattle.std.specs.Prelude.{IfSome, IfNone, OnOk, OnErr, is_some, if◌then◌else◌};
 ghost use Rattle.std.specs.Int.{bit_at};
 ghost use Rattle.std.specs.Map.{lookup};
 ghost use Rattle.std.specs.Option.{option_map};

@@ -11,7 +11,8 @@ use Rattle.zone_edges.specs.Groups.{Edge, Leads, stay, along, LeadsWithin, rest,
 use Rattle.zone_edges.specs.Walk.{AreFound, IsSearch}
 use Rattle.gz_names.proofs.Words.{HasZone-none, HasZone-below}
 
-module _ (sources : List ZoneSet) (zones done : ZoneSet) (groups : List ZoneSet) (count : ℕ) (f : AreFound sources zones done groups count) (all : (z : ℕ) → HasZone zones.bits z → HasZone done.bits z) where
+module _ (sources : List ZoneSet) (zones done : ZoneSet) (groups : List ZoneSet) (count : ℕ)
+    (f : AreFound sources zones done groups count) (all : (z : ℕ) → HasZone zones.bits z → HasZone done.bits z) where
   -- a zone is of one group alone
   one_group : (i j z : ℕ) → i < count → j < count → IsAt groups i z → IsAt groups j z → i ≡ j
   one_group i j z li lj hi hj = elim (cases_order i j) [
@@ -20,7 +21,8 @@ module _ (sources : List ZoneSet) (zones done : ZoneSet) (groups : List ZoneSet)
   ]
 
   -- edges lead from earlier groups to later ones
-  not_later : {a b : ℕ} (i j : ℕ) → i < count → j < count → Leads sources a b → IsAt groups i a → IsAt groups j b → i ≤ j
+  not_later : {a b : ℕ} (i j : ℕ) → i < count → j < count → Leads sources a b → IsAt groups i a → IsAt groups j b
+      → i ≤ j
   not_later {a} i j li lj stay ha hb = omega (arith, one_group i j a li lj ha hb)
   not_later {a} {b} i j li lj (along {b = m} p e) ha hb =
       let g = f.done_is m (all m (f.edges m b e)) in
@@ -31,7 +33,8 @@ module _ (sources : List ZoneSet) (zones done : ZoneSet) (groups : List ZoneSet)
       ]
 
   -- a way from a group to itself stays in it
-  stays : {a b : ℕ} (i : ℕ) → i < count → Leads sources a b → IsAt groups i a → IsAt groups i b → LeadsWithin sources (get_or groups i no_zones) a b
+  stays : {a b : ℕ} (i : ℕ) → i < count → Leads sources a b → IsAt groups i a → IsAt groups i b
+      → LeadsWithin sources (get_or groups i no_zones) a b
   stays i li stay ha hb = rest ha
   stays {a} {b} i li (along {b = m} p e) ha hb =
       let g = f.done_is m (all m (f.edges m b e)) in
@@ -41,27 +44,38 @@ module _ (sources : List ZoneSet) (zones done : ZoneSet) (groups : List ZoneSet)
       pass (stays i li p ha (subst (λ k. IsAt groups k m) same g.2)) e hb
 
 -- when each zone was seen and no level is left, the groups are the components
-pub components_found : (s : Search) → IsSearch s → s.depth ≡ 0 → ((z : ℕ) → HasZone s.zones.bits z → HasZone s.seen.bits z) → AreComponents s.sources s.zones (take s.count s.groups)
+pub components_found : (s : Search) → IsSearch s → s.depth ≡ 0
+    → ((z : ℕ) → HasZone s.zones.bits z → HasZone s.seen.bits z)
+    → AreComponents s.sources s.zones (take s.count s.groups)
 components_found s is idle all =
     let f = is.found in
-    let n : length (take s.count s.groups) ≡ s.count = length-take-le s.count s.groups (omega (arith, is.most, is.groups_len)) in
+    let n : length (take s.count s.groups) ≡ s.count =
+    length-take-le s.count s.groups (omega (arith, is.most, is.groups_len)) in
     let done : (z : ℕ) → HasZone s.zones.bits z → HasZone s.done.bits z = λ z h. elim (is.seen_is z (all z h)) [
       | inl d ↦ d
       | inr l ↦ let below : l.0 < s.depth = l.1 in absurd (omega arith)
     ] in
-    let at : (i z : ℕ) → i < length (take s.count s.groups) → IsAt (take s.count s.groups) i z → IsAt s.groups i z = λ i z lt h. (let lt' : i < s.count = omega arith in rw get_or-take at h) in
-    let back : (i z : ℕ) → i < s.count → IsAt s.groups i z → IsAt (take s.count s.groups) i z = λ i z lt h. rw get_or-take h in
+    let at : (i z : ℕ) → i < length (take s.count s.groups) → IsAt (take s.count s.groups) i z → IsAt s.groups i z =
+    λ i z lt h. (let lt' : i < s.count = omega arith in rw get_or-take at h) in
+    let back : (i z : ℕ) → i < s.count → IsAt s.groups i z → IsAt (take s.count s.groups) i z =
+    λ i z lt h. rw get_or-take h in
     record {
-      covered = λ z h. let g = f.done_is z (done z h) in let lt : g.0 < s.count = g.1 in (g.0, omega arith, back g.0 z lt g.2);
+      covered = λ z h. let g = f.done_is z (done z h) in let lt : g.0 < s.count = g.1 in
+          (g.0, omega arith, back g.0 z lt g.2);
       inside = λ i z lt h. is.within z (is.done_seen z (f.is_done i z (omega arith) (at i z lt h)));
       some = λ i lt. let lt' : i < s.count = omega arith in let h = f.some i lt' in (h.0, back i h.0 lt' h.1);
       apart = λ i j z ij lt hi hj. f.apart i j z ij (omega arith) (at i z (omega arith) hi) (at j z lt hj);
-      strong = λ i a b lt ha hb. (let lt' : i < s.count = omega arith in rw get_or-take (stays s.sources s.zones s.done s.groups s.count f done i lt' (f.led i a b lt' (at i a lt ha) (at i b lt hb)) (at i a lt ha) (at i b lt hb)));
+      strong = λ i a b lt ha hb.
+          (let lt' : i < s.count = omega arith in
+          rw get_or-take (stays s.sources s.zones s.done s.groups s.count f done i lt'
+          (f.led i a b lt' (at i a lt ha) (at i b lt hb)) (at i a lt ha) (at i b lt hb)));
       whole = λ a b ha hb there back_again.
           (let p = f.done_is a (done a ha) in
           let q = f.done_is b (done b hb) in
-          let le : p.0 ≤ q.0 = not_later s.sources s.zones s.done s.groups s.count f done p.0 q.0 p.1 q.1 there p.2 q.2 in
-          let ge : q.0 ≤ p.0 = not_later s.sources s.zones s.done s.groups s.count f done q.0 p.0 q.1 p.1 back_again q.2 p.2 in
+          let le : p.0 ≤ q.0 = not_later s.sources s.zones s.done s.groups s.count f done p.0 q.0 p.1 q.1 there p.2 q.2
+          in
+          let ge : q.0 ≤ p.0 = not_later s.sources s.zones s.done s.groups s.count f done q.0 p.0 q.1 p.1 back_again q.2
+          p.2 in
           let same : q.0 ≡ p.0 = omega arith in
           let lt : p.0 < s.count = p.1 in
           (p.0, omega arith, back p.0 a lt p.2, back p.0 b lt (subst (λ k. IsAt s.groups k b) same q.2)));
@@ -72,11 +86,24 @@ components_found s is idle all =
 pub no_edges : (x y : ℕ) → Edge (replicate 64 no_zones) x y → ⊥
 no_edges x y h = elim (cases_lt y 64) [
   | inl lt ↦ HasZone-none x (subst (λ (s : ZoneSet). HasZone s.bits x) (get_or-replicate 64 y no_zones no_zones lt) h)
-  | inr ge ↦ HasZone-none x (subst (λ (s : ZoneSet). HasZone s.bits x) (get_or_past (replicate 64 no_zones) y no_zones (omega (arith, length-replicate {A = ZoneSet} 64 no_zones))) h)
+  | inr ge ↦ HasZone-none x
+      (subst (λ (s : ZoneSet). HasZone s.bits x)
+      (get_or_past (replicate 64 no_zones) y no_zones (omega (arith, length-replicate {A = ZoneSet} 64 no_zones))) h)
 ]
 
 -- how a search begins
-pub started : (zones : ZoneSet) → IsSearch (record { zones = zones; sources = replicate 64 no_zones; done = no_zones; groups = replicate 64 no_zones; count = 0; seen = no_zones; levels = replicate 64 no_zones; entering = replicate 64 no_zones; depth = 0 })
+pub started : (zones : ZoneSet)
+    → IsSearch (record {
+      zones = zones;
+      sources = replicate 64 no_zones;
+      done = no_zones;
+      groups = replicate 64 no_zones;
+      count = 0;
+      seen = no_zones;
+      levels = replicate 64 no_zones;
+      entering = replicate 64 no_zones;
+      depth = 0;
+    })
 started zones = record {
   found = record {
     edges = λ a b e. absurd (no_edges a b e);

@@ -1,5 +1,6 @@
 -- The steps of the search keep what holds between them.
-use Rattle.std.proofs.Common.{◌≡◌, ◌≢◌, ℕ, ◌+◌, ◌<◌, ◌≤◌, ◌⊎◌, ◌↔◌, inl, inr, refl, sym, ◌∙◌, subst, arith, List, length, get_or, get_or-set_other, get_or-set_same}
+use Rattle.std.proofs.Common.{◌≡◌, ◌≢◌, ℕ, ◌+◌, ◌<◌, ◌≤◌, ◌⊎◌, ◌↔◌, inl, inr, refl, sym, ◌∙◌, subst, arith, List}
+use Rattle.std.proofs.Common.{length, get_or, get_or-set_other, get_or-set_same}
 use Rattle.std.specs.Prelude.{slice_set}
 use Rattle.std.proofs.Math.ListN.{length-set}
 use Rattle.std.proofs.lemmas.Bool.{cases_lt, cases_eq}
@@ -16,30 +17,46 @@ leads-trans p stay = p
 leads-trans p (along q e) = along (leads-trans p q) e
 
 -- the sets at places up to d, after a write at d
-pub at_written : (xs : List ZoneSet) (d : ℕ) (o : ZoneSet) (i z : ℕ) → d < length xs → i < d + 1 → IsAt (slice_set xs d o) i z → ((i < d) × IsAt xs i z) ⊎ ((i ≡ d) × HasZone o.bits z)
+pub at_written : (xs : List ZoneSet) (d : ℕ) (o : ZoneSet) (i z : ℕ) → d < length xs → i < d + 1
+    → IsAt (slice_set xs d o) i z → ((i < d) × IsAt xs i z) ⊎ ((i ≡ d) × HasZone o.bits z)
 at_written xs d o i z l below h = elim (cases_lt i d) [
   | inl lt ↦ inl (lt, let ne : i ≢ d = omega arith in rw get_or-set_other at h)
-  | inr ge ↦ let e : i ≡ d = omega arith in inr (e, let h' : IsAt (slice_set xs d o) d z = subst (λ j. IsAt (slice_set xs d o) j z) e h in rw get_or-set_same at h')
+  | inr ge ↦ let e : i ≡ d = omega arith in
+      inr (
+        e,
+        let h' : IsAt (slice_set xs d o) d z = subst (λ j. IsAt (slice_set xs d o) j z) e h in
+            rw get_or-set_same at h',
+      )
 ]
 
 pub at_before : (xs : List ZoneSet) (d : ℕ) (o : ZoneSet) (i z : ℕ) → i < d → IsAt xs i z → IsAt (slice_set xs d o) i z
 at_before xs d o i z lt h = let ne : i ≢ d = omega arith in rw get_or-set_other h
 
-pub at_place : (xs : List ZoneSet) (d : ℕ) (o : ZoneSet) (z : ℕ) → d < length xs → HasZone o.bits z → IsAt (slice_set xs d o) d z
+pub at_place : (xs : List ZoneSet) (d : ℕ) (o : ZoneSet) (z : ℕ) → d < length xs → HasZone o.bits z
+    → IsAt (slice_set xs d o) d z
 at_place xs d o z lt h = rw get_or-set_same h
 
 -- how the room shrinks with a zone that was not seen
-pub grown : (s : Search) (k : ℕ) (o n : ZoneSet) → IsSearch s → HasZone s.zones.bits k → (HasZone s.seen.bits k → ⊥) → ((z : ℕ) → HasZone o.bits z ↔ (z ≡ k)) → ((z : ℕ) → HasZone n.bits z ↔ (HasZone s.seen.bits z ⊎ HasZone o.bits z)) → size 64 s.seen.bits + 1 ≤ size 64 n.bits
-grown s k o n is inside fresh one more = size-more 64 s.seen.bits n.bits k (omega arith) (λ z h. (more z).1 (inl h)) (is.found.small k inside) fresh ((more k).1 (inr ((one k).1 refl)))
+pub grown : (s : Search) (k : ℕ) (o n : ZoneSet) → IsSearch s → HasZone s.zones.bits k → (HasZone s.seen.bits k → ⊥)
+    → ((z : ℕ) → HasZone o.bits z ↔ (z ≡ k)) → ((z : ℕ) → HasZone n.bits z ↔ (HasZone s.seen.bits z ⊎ HasZone o.bits z))
+    → size 64 s.seen.bits + 1 ≤ size 64 n.bits
+grown s k o n is inside fresh one more = size-more 64 s.seen.bits n.bits k (omega arith) (λ z h. (more z).1 (inl h))
+    (is.found.small k inside) fresh ((more k).1 (inr ((one k).1 refl)))
 
 -- there is a place for one more level
 pub has_room : (s : Search) (k : ℕ) → IsSearch s → HasZone s.zones.bits k → (HasZone s.seen.bits k → ⊥) → s.depth < 64
-has_room s k is inside fresh = omega (arith, is.room, size-room 64 s.seen.bits k (omega arith) (is.found.small k inside) fresh)
+has_room s k is inside fresh =
+    omega (arith, is.room, size-room 64 s.seen.bits k (omega arith) (is.found.small k inside) fresh)
 
 pub opened : (s : Search) (k : ℕ) (o n : ZoneSet) → IsSearch s → HasZone s.zones.bits k → (HasZone s.seen.bits k → ⊥)
     → ((i x : ℕ) → i < s.depth → IsAt s.levels i x → Leads s.sources k x)
     → ((z : ℕ) → HasZone o.bits z ↔ (z ≡ k)) → ((z : ℕ) → HasZone n.bits z ↔ (HasZone s.seen.bits z ⊎ HasZone o.bits z))
-    → IsSearch (record s { seen = n; levels = slice_set s.levels s.depth o; entering = slice_set s.entering s.depth (get_or s.sources k no_zones); depth = s.depth + 1 })
+    → IsSearch (record s {
+      seen = n;
+      levels = slice_set s.levels s.depth o;
+      entering = slice_set s.entering s.depth (get_or s.sources k no_zones);
+      depth = s.depth + 1;
+    })
 opened s k o n is inside fresh leads one more =
     let here : HasZone o.bits k = (one k).1 refl in
     let g : size 64 s.seen.bits + 1 ≤ size 64 n.bits = grown s k o n is inside fresh one more in
@@ -84,25 +101,36 @@ opened s k o n is inside fresh leads one more =
       ];
       some = λ i lt. elim (cases_lt i s.depth) [
         | inl below ↦ let h = is.some i below in (h.0, at_before s.levels s.depth o i h.0 below h.1)
-        | inr ge ↦ let e : s.depth ≡ i = omega arith in (k, subst (λ j. IsAt (slice_set s.levels s.depth o) j k) e (at_place s.levels s.depth o k lo' here))
+        | inr ge ↦ let e : s.depth ≡ i = omega arith in
+            (k, subst (λ j. IsAt (slice_set s.levels s.depth o) j k) e (at_place s.levels s.depth o k lo' here))
       ];
       down = λ i j x y le lt hx hy. elim (at_written s.levels s.depth o j y lo' lt hy) [
         | inl old ↦ elim (at_written s.levels s.depth o i x lo' (omega arith) hx) [
           | inl old' ↦ is.down i j x y le old.0 old'.1 old.1
           | inr new ↦ let a : i ≡ s.depth = new.0 in let b : j < s.depth = old.0 in absurd (omega arith)
         ]
-        | inr new ↦ let ey : k ≡ y = sym (is_k y new.1) in elim (at_written s.levels s.depth o i x lo' (omega arith) hx) [
-          | inl old ↦ subst (λ v. Leads s.sources v x) ey (leads i x old.0 old.1)
-          | inr new' ↦ let ex : k ≡ x = sym (is_k x new'.1) in subst (λ v. Leads s.sources v x) ey (subst (λ w. Leads s.sources k w) ex stay)
-        ]
+        | inr new ↦ let ey : k ≡ y = sym (is_k y new.1) in
+            elim (at_written s.levels s.depth o i x lo' (omega arith) hx) [
+              | inl old ↦ subst (λ v. Leads s.sources v x) ey (leads i x old.0 old.1)
+              | inr new' ↦ let ex : k ≡ x = sym (is_k x new'.1) in
+                  subst (λ v. Leads s.sources v x) ey (subst (λ w. Leads s.sources k w) ex stay)
+            ]
       ];
       source_in = λ i x y lt hx e. elim (at_written s.levels s.depth o i x lo' lt hx) [
-        | inl old ↦ at_before s.entering s.depth (get_or s.sources k no_zones) i y old.0 (is.source_in i x y old.0 old.1 e)
-        | inr new ↦ subst (λ j. IsAt reach' j y) (sym new.0) (at_place s.entering s.depth (get_or s.sources k no_zones) y lr' (subst (λ v. IsAt s.sources v y) (is_k x new.1) e))
+        | inl old ↦ at_before s.entering s.depth (get_or s.sources k no_zones) i y old.0
+            (is.source_in i x y old.0 old.1 e)
+        | inr new ↦ subst (λ j. IsAt reach' j y) (sym new.0)
+            (at_place s.entering s.depth (get_or s.sources k no_zones) y lr'
+            (subst (λ v. IsAt s.sources v y) (is_k x new.1) e))
       ];
       source_of = λ i y lt h. elim (at_written s.entering s.depth (get_or s.sources k no_zones) i y lr' lt h) [
         | inl old ↦ let w = is.source_of i y old.0 old.1 in (w.0, at_before s.levels s.depth o i w.0 old.0 w.1, w.2)
-        | inr new ↦ (k, subst (λ j. IsAt (slice_set s.levels s.depth o) j k) (sym new.0) (at_place s.levels s.depth o k lo' here), new.1)
+        | inr new ↦ (
+          k,
+          subst (λ j. IsAt (slice_set s.levels s.depth o) j k) (sym new.0)
+              (at_place s.levels s.depth o k lo' here),
+          new.1,
+        )
       ];
       within = λ z h. elim ((more z).0 h) [
         | inl old ↦ is.within z old
@@ -114,7 +142,12 @@ opened s k o n is inside fresh leads one more =
 pub closed : (s : Search) (t : ℕ) (n : ZoneSet) → IsSearch s → s.depth ≡ t + 1
     → ((z : ℕ) → IsAt s.entering t z → HasZone s.done.bits z ⊎ IsAt s.levels t z)
     → ((z : ℕ) → HasZone n.bits z ↔ (HasZone s.done.bits z ⊎ IsAt s.levels t z))
-    → IsSearch (record s { done = n; groups = slice_set s.groups s.count (get_or s.levels t no_zones); count = s.count + 1; depth = t })
+    → IsSearch (record s {
+      done = n;
+      groups = slice_set s.groups s.count (get_or s.levels t no_zones);
+      count = s.count + 1;
+      depth = t;
+    })
 closed s t n is top shut more =
     let own : ZoneSet = get_or s.levels t no_zones in
     let lt : t < s.depth = omega arith in
@@ -134,7 +167,11 @@ closed s t n is top shut more =
         ];
         some = λ i below. elim (cases_lt i s.count) [
           | inl lt' ↦ let h = f.some i lt' in (h.0, at_before s.groups s.count own i h.0 lt' h.1)
-          | inr ge ↦ let e : s.count ≡ i = omega arith in let h = is.some t lt in (h.0, subst (λ j. IsAt (slice_set s.groups s.count own) j h.0) e (at_place s.groups s.count own h.0 lg h.1))
+          | inr ge ↦ let e : s.count ≡ i = omega arith in let h = is.some t lt in (
+            h.0,
+            subst (λ j. IsAt (slice_set s.groups s.count own) j h.0) e
+                (at_place s.groups s.count own h.0 lg h.1),
+          )
         ];
         apart = λ i j z ij below hi hj. elim (at_written s.groups s.count own j z lg below hj) [
           | inl old ↦ elim (at_written s.groups s.count own i z lg (omega arith) hi) [
@@ -211,7 +248,8 @@ merged s t u o r is next top (v, reached, (m, under, at_m)) owns reaches =
     let lr : t < length s.entering = omega (arith, is.entering_len, is.room, size-bound 64 s.seen.bits) in
     let back : (x y : ℕ) → IsAt s.levels u x → IsAt s.levels t y → Leads s.sources y x = λ x y hx hy.
     (let w = is.source_of u v l1 reached in
-    leads-trans (is.down m t v y (omega arith) l0 at_m hy) (leads-trans (along stay w.2) (is.down u u x w.0 (omega arith) l1 hx w.1))) in
+    leads-trans (is.down m t v y (omega arith) l0 at_m hy)
+    (leads-trans (along stay w.2) (is.down u u x w.0 (omega arith) l1 hx w.1))) in
     record {
       found = is.found;
       most = omega (arith, is.most);
@@ -225,8 +263,17 @@ merged s t u o r is next top (v, reached, (m, under, at_m)) owns reaches =
         | inr l ↦ let below : l.0 < s.depth = l.1 in elim (cases_lt l.0 t) [
           | inl lt ↦ inr (l.0, omega arith, at_before s.levels t o l.0 z lt l.2)
           | inr ge ↦ elim (cases_eq l.0 t) [
-            | inl e ↦ inr (t, omega arith, at_place s.levels t o z lo ((owns z).1 (inl (subst (λ j. IsAt s.levels j z) e l.2))))
-            | inr ne ↦ let e : l.0 ≡ u = omega arith in inr (t, omega arith, at_place s.levels t o z lo ((owns z).1 (inr (subst (λ j. IsAt s.levels j z) e l.2))))
+            | inl e ↦ inr (
+              t,
+              omega arith,
+              at_place s.levels t o z lo ((owns z).1 (inl (subst (λ j. IsAt s.levels j z) e l.2))),
+            )
+            | inr ne ↦ let e : l.0 ≡ u = omega arith in
+                inr (
+                  t,
+                  omega arith,
+                  at_place s.levels t o z lo ((owns z).1 (inr (subst (λ j. IsAt s.levels j z) e l.2))),
+                )
           ]
         ]
       ];
@@ -245,13 +292,21 @@ merged s t u o r is next top (v, reached, (m, under, at_m)) owns reaches =
           | inr new ↦ let a : i ≡ t = new.0 in let b : j < t = old.0 in omega arith
         ]
         | inr new ↦ let b : j ≡ t = new.0 in elim (at_written s.levels t o i z lo (omega arith) hi) [
-          | inl old ↦ elim ((owns z).0 new.1) [ inl a ↦ is.apart i t z old.0 l0 old.1 a | inr b' ↦ is.apart i u z (omega arith) l1 old.1 b' ]
+          | inl old ↦ elim ((owns z).0 new.1) [
+            | inl a ↦ is.apart i t z old.0 l0 old.1 a
+            | inr b'
+                ↦ is.apart i u z (omega arith) l1 old.1 b'
+          ]
           | inr new' ↦ let a : i ≡ t = new'.0 in omega arith
         ]
       ];
       some = λ i below. elim (cases_lt i t) [
         | inl lt ↦ let h = is.some i (omega arith) in (h.0, at_before s.levels t o i h.0 lt h.1)
-        | inr ge ↦ let e : t ≡ i = omega arith in let h = is.some t l0 in (h.0, subst (λ j. IsAt (slice_set s.levels t o) j h.0) e (at_place s.levels t o h.0 lo ((owns h.0).1 (inl h.1))))
+        | inr ge ↦ let e : t ≡ i = omega arith in let h = is.some t l0 in (
+          h.0,
+          subst (λ j. IsAt (slice_set s.levels t o) j h.0) e
+              (at_place s.levels t o h.0 lo ((owns h.0).1 (inl h.1))),
+        )
       ];
       down = λ i j x y ij below hx hy. elim (at_written s.levels t o j y lo (omega arith) hy) [
         | inl old ↦ elim (at_written s.levels t o i x lo (omega arith) hx) [
@@ -277,38 +332,54 @@ merged s t u o r is next top (v, reached, (m, under, at_m)) owns reaches =
       ];
       source_in = λ i x y below hx e. elim (at_written s.levels t o i x lo (omega arith) hx) [
         | inl old ↦ at_before s.entering t r i y old.0 (is.source_in i x y (omega arith) old.1 e)
-        | inr new ↦ subst (λ j. IsAt (slice_set s.entering t r) j y) (sym new.0) (at_place s.entering t r y lr ((reaches y).1 (elim ((owns x).0 new.1) [
-          | inl a ↦ inl (is.source_in t x y l0 a e)
-          | inr b ↦ inr (is.source_in u x y l1 b e)
-        ])))
+        | inr new ↦ subst (λ j. IsAt (slice_set s.entering t r) j y) (sym new.0)
+            (at_place s.entering t r y lr ((reaches y).1 (elim ((owns x).0 new.1) [
+              | inl a ↦ inl (is.source_in t x y l0 a e)
+              | inr b ↦ inr (is.source_in u x y l1 b e)
+            ])))
       ];
       source_of = λ i y below h. elim (at_written s.entering t r i y lr (omega arith) h) [
         | inl old ↦ let w = is.source_of i y (omega arith) old.1 in (w.0, at_before s.levels t o i w.0 old.0 w.1, w.2)
         | inr new ↦ elim ((reaches y).0 new.1) [
-          | inl a ↦ let w = is.source_of t y l0 a in (w.0, subst (λ j. IsAt (slice_set s.levels t o) j w.0) (sym new.0) (at_place s.levels t o w.0 lo ((owns w.0).1 (inl w.1))), w.2)
-          | inr b ↦ let w = is.source_of u y l1 b in (w.0, subst (λ j. IsAt (slice_set s.levels t o) j w.0) (sym new.0) (at_place s.levels t o w.0 lo ((owns w.0).1 (inr w.1))), w.2)
+          | inl a ↦ let w = is.source_of t y l0 a in (
+            w.0,
+            subst (λ j. IsAt (slice_set s.levels t o) j w.0) (sym new.0)
+                (at_place s.levels t o w.0 lo ((owns w.0).1 (inl w.1))),
+            w.2,
+          )
+          | inr b ↦ let w = is.source_of u y l1 b in (
+            w.0,
+            subst (λ j. IsAt (slice_set s.levels t o) j w.0) (sym new.0)
+                (at_place s.levels t o w.0 lo ((owns w.0).1 (inr w.1))),
+            w.2,
+          )
         ]
       ];
       within = is.within;
     }
 
 -- a zone with an edge into the last level leads to the zones of all levels
-pub leads_to_all : (s : Search) (t k : ℕ) → IsSearch s → s.depth ≡ t + 1 → IsAt s.entering t k → (i x : ℕ) → i < s.depth → IsAt s.levels i x → Leads s.sources k x
+pub leads_to_all : (s : Search) (t k : ℕ) → IsSearch s → s.depth ≡ t + 1 → IsAt s.entering t k → (i x : ℕ) → i < s.depth
+    → IsAt s.levels i x → Leads s.sources k x
 leads_to_all s t k is top reached i x below h =
     let w = is.source_of t k (omega arith) reached in
     leads-trans (along stay w.2) (is.down i t x w.0 (omega arith) (omega arith) h w.1)
 
 -- what is in a set and not outside
-pub all_within : (r d o m n : ZoneSet) → ((z : ℕ) → HasZone m.bits z ↔ (HasZone r.bits z × ¬ HasZone d.bits z)) → ((z : ℕ) → HasZone n.bits z ↔ (HasZone m.bits z × ¬ HasZone o.bits z)) → ((z : ℕ) → HasZone n.bits z → ⊥) → (z : ℕ) → HasZone r.bits z → HasZone d.bits z ⊎ HasZone o.bits z
+pub all_within : (r d o m n : ZoneSet) → ((z : ℕ) → HasZone m.bits z ↔ (HasZone r.bits z × ¬ HasZone d.bits z))
+    → ((z : ℕ) → HasZone n.bits z ↔ (HasZone m.bits z × ¬ HasZone o.bits z)) → ((z : ℕ) → HasZone n.bits z → ⊥)
+    → (z : ℕ) → HasZone r.bits z → HasZone d.bits z ⊎ HasZone o.bits z
 all_within r d o m n first second none z h = elim (HasZone-cases d.bits z) [
   | inl a ↦ inl a
-  | inr a ↦ elim (HasZone-cases o.bits z) [ inl b ↦ inr b | inr b ↦ absurd (none z ((second z).1 ((first z).1 (h, a), b))) ]
+  | inr a ↦ elim (HasZone-cases o.bits z)
+      [ inl b ↦ inr b | inr b ↦ absurd (none z ((second z).1 ((first z).1 (h, a), b))) ]
 ]
 
 -- where no zone is fresh, a zone that is neither done nor of the last level is of a lower one
 pub back_edge : (s : Search) (t : ℕ) (f m n : ZoneSet) (k : ℕ) → IsSearch s → s.depth ≡ t + 1
     → ((z : ℕ) → HasZone f.bits z ↔ (IsAt s.entering t z × ¬ HasZone s.seen.bits z)) → ((z : ℕ) → HasZone f.bits z → ⊥)
-    → ((z : ℕ) → HasZone m.bits z ↔ (IsAt s.entering t z × ¬ HasZone s.done.bits z)) → ((z : ℕ) → HasZone n.bits z ↔ (HasZone m.bits z × ¬ IsAt s.levels t z))
+    → ((z : ℕ) → HasZone m.bits z ↔ (IsAt s.entering t z × ¬ HasZone s.done.bits z))
+    → ((z : ℕ) → HasZone n.bits z ↔ (HasZone m.bits z × ¬ IsAt s.levels t z))
     → HasZone n.bits k → (z : ℕ) × IsAt s.entering t z × ((i : ℕ) × (i + 1 < s.depth) × IsAt s.levels i z)
 back_edge s t f m n k is top fresh none first second there =
     let b = (second k).0 there in

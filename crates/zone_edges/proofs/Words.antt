@@ -24,18 +24,23 @@ pub size-monotone : (n s t : ℕ) → n ≤ 64 → ((z : ℕ) → HasZone s z �
 unfolding size HasZone
 size-monotone zero s t f h = omega arith
 size-monotone (suc n) s t f h = elim (cases_lt 0 (bit_at s n)) [
-  | inl l ↦ let e : bit_at t n ≡ 1 = (h n (omega arith, omega (arith, bit_at-lt s n))).1 in omega (arith, size-monotone n s t (omega arith) h, bit_at-lt s n)
+  | inl l ↦ let e : bit_at t n ≡ 1 = (h n (omega arith, omega (arith, bit_at-lt s n))).1 in
+      omega (arith, size-monotone n s t (omega arith) h, bit_at-lt s n)
   | inr r ↦ omega (arith, size-monotone n s t (omega arith) h)
 ]
 
 -- one zone more
-pub size-more : (n s t k : ℕ) → n ≤ 64 → ((z : ℕ) → HasZone s z → HasZone t z) → k < n → (HasZone s k → ⊥) → HasZone t k → size n s + 1 ≤ size n t
+pub size-more : (n s t k : ℕ) → n ≤ 64 → ((z : ℕ) → HasZone s z → HasZone t z) → k < n → (HasZone s k → ⊥) → HasZone t k
+    → size n s + 1 ≤ size n t
 unfolding size HasZone
 size-more zero s t k f h lt out there = omega arith
 size-more (suc n) s t k f h lt out there = elim (cases_eq k n) [
-  | inl e ↦ let p : bit_at t n ≡ 1 = subst (λ j. bit_at t j ≡ 1) e there.1 in let q : bit_at s n ≢ 1 = subst (λ j. bit_at s j ≢ 1) e (λ one. out (omega arith, one)) in omega (arith, size-monotone n s t (omega arith) h, bit_at-lt s n)
+  | inl e ↦ let p : bit_at t n ≡ 1 = subst (λ j. bit_at t j ≡ 1) e there.1 in let q : bit_at s n ≢ 1 =
+      subst (λ j. bit_at s j ≢ 1) e (λ one. out (omega arith, one)) in
+      omega (arith, size-monotone n s t (omega arith) h, bit_at-lt s n)
   | inr e ↦ elim (cases_lt 0 (bit_at s n)) [
-    | inl l ↦ let p : bit_at t n ≡ 1 = (h n (omega arith, omega (arith, bit_at-lt s n))).1 in omega (arith, size-more n s t k (omega arith) h (omega arith) out there, bit_at-lt s n)
+    | inl l ↦ let p : bit_at t n ≡ 1 = (h n (omega arith, omega (arith, bit_at-lt s n))).1 in
+        omega (arith, size-more n s t k (omega arith) h (omega arith) out there, bit_at-lt s n)
     | inr r ↦ omega (arith, size-more n s t k (omega arith) h (omega arith) out there)
   ]
 ]
@@ -45,6 +50,7 @@ pub size-room : (n s k : ℕ) → n ≤ 64 → k < n → (HasZone s k → ⊥) �
 unfolding size HasZone
 size-room zero s k f lt out = omega arith
 size-room (suc n) s k f lt out = elim (cases_eq k n) [
-  | inl e ↦ let q : bit_at s n ≢ 1 = subst (λ j. bit_at s j ≢ 1) e (λ one. out (omega arith, one)) in omega (arith, size-bound n s, bit_at-lt s n)
+  | inl e ↦ let q : bit_at s n ≢ 1 = subst (λ j. bit_at s j ≢ 1) e (λ one. out (omega arith, one)) in
+      omega (arith, size-bound n s, bit_at-lt s n)
   | inr e ↦ omega (arith, size-room n s k (omega arith) (omega arith) out, bit_at-lt s n)
 ]

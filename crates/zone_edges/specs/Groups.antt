@@ -17,7 +17,8 @@ pub data Leads (sources : List ZoneSet) : ℕ → ℕ → Type 0 where
 -- noted edges lead from a to b over zones of a group alone
 pub data LeadsWithin (sources : List ZoneSet) (group : ZoneSet) : ℕ → ℕ → Type 0 where
   rest : {a : ℕ} → HasZone group.bits a → LeadsWithin sources group a a
-  pass : {a b c : ℕ} → LeadsWithin sources group a b → Edge sources b c → HasZone group.bits c → LeadsWithin sources group a c
+  pass : {a b c : ℕ} → LeadsWithin sources group a b → Edge sources b c → HasZone group.bits c
+      → LeadsWithin sources group a c
 
 -- some group has both zones
 abbrev pub AreTogether : List ZoneSet → ℕ → ℕ → Type 0
@@ -33,6 +34,8 @@ pub record AreComponents (sources : List ZoneSet) (zones : ZoneSet) (groups : Li
   pub some : (i : ℕ) → i < length groups → (z : ℕ) × IsAt groups i z
   pub apart : (i j z : ℕ) → i < j → j < length groups → IsAt groups i z → IsAt groups j z → ⊥
   -- in a group each zone leads to each, and two zones that lead to each other are in one group
-  pub strong : (i a b : ℕ) → i < length groups → IsAt groups i a → IsAt groups i b → LeadsWithin sources (slice_index_or groups i no_zones) a b
-  pub whole : (a b : ℕ) → HasZone zones.bits a → HasZone zones.bits b → Leads sources a b → Leads sources b a → AreTogether groups a b
+  pub strong : (i a b : ℕ) → i < length groups → IsAt groups i a → IsAt groups i b
+      → LeadsWithin sources (slice_index_or groups i no_zones) a b
+  pub whole : (a b : ℕ) → HasZone zones.bits a → HasZone zones.bits b → Leads sources a b → Leads sources b a
+      → AreTogether groups a b
   pub order : (i j a b : ℕ) → i < j → j < length groups → IsAt groups j a → IsAt groups i b → Edge sources a b → ⊥

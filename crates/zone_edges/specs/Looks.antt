@@ -1,24 +1,6 @@
 -- The wrappers that are looked at, and the edges that they lead along.
-use Rattle.std.specs.Prelude.{
-  ◌≡◌,
-  ◌≢◌,
-  ℕ,
-  zero,
-  suc,
-  ◌+◌,
-  ◌-◌,
-  ◌*◌,
-  ◌<◌,
-  ◌≤◌,
-  ◌⊎◌,
-  ◌↔◌,
-  Option,
-  Some,
-  Contains,
-  length,
-  slice_get,
-  slice_index_or,
-}
+use Rattle.std.specs.Prelude.{◌≡◌, ◌≢◌, ℕ, zero, suc, ◌+◌, ◌-◌, ◌*◌, ◌<◌, ◌≤◌, ◌⊎◌, ◌↔◌, Option, Some, Contains, length}
+use Rattle.std.specs.Prelude.{slice_get, slice_index_or}
 use Rattle.std.specs.Int.{bit_at}
 use Rattle.std.specs.Option.{option_map}
 use Rattle.gz_names.specs.Zones.{HasZone}
@@ -75,7 +57,8 @@ pub record IsWrapperIn (s : Shape) (zone : ℕ) (p : Place) : Type 0 where
 
 -- the wrapper maps of each zone hold its wrappers, where no key stands twice in them
 abbrev pub AreWrappers : Shape → Type 0
-AreWrappers s = AreApart s.wrappers.lists → (z : ℕ) (entry : WrapperKey × Place) → Contains (list_of s.wrappers z) entry → IsWrapperIn s z entry.1
+AreWrappers s = AreApart s.wrappers.lists → (z : ℕ) (entry : WrapperKey × Place) → Contains (list_of s.wrappers z) entry
+    → IsWrapperIn s z entry.1
 
 -- a wrapper leads from one zone of a set to another, to a cell that is not black
 pub record LeadsFrom (h : HeapState) (zones : ZoneSet) (p : Place) (a b : ℕ) : Type 0 where
@@ -90,7 +73,8 @@ pub record LeadsFrom (h : HeapState) (zones : ZoneSet) (p : Place) (a b : ℕ) :
 
 -- each wrapper of the zones that was not looked at has a black target
 abbrev pub AreLeftBlack : HeapState → Noted → Type 0
-AreLeftBlack h n = (z index : ℕ) (p q : Place) → HasZone n.zones.bits z → cursor_of n z ≤ index → wrapper_at h.shape z index ≡ Some p → field_at h.shape p 0 ≡ Some q → colour_of h q ≡ colour.Black
+AreLeftBlack h n = (z index : ℕ) (p q : Place) → HasZone n.zones.bits z → cursor_of n z ≤ index
+    → wrapper_at h.shape z index ≡ Some p → field_at h.shape p 0 ≡ Some q → colour_of h q ≡ colour.Black
 
 -- the target of the wrapper that a change makes, if it makes one, is black
 abbrev pub WrapsBlack : HeapState → Change → Type 0

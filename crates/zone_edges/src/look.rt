@@ -1,5 +1,6 @@
 // The look at one wrapper: which one is next, and the edge that it leads along.
-ghost use Rattle.std.specs.Prelude.{◌≡◌, ◌↔◌, ℕ, ◌+◌, ◌<◌, length, None, Some, slice_index, slice_set, IfSome, IfNone, IsTrue};
+ghost use Rattle.std.specs.Prelude.{◌≡◌, ◌↔◌, ℕ, ◌+◌, ◌<◌, length, None, Some, slice_index, slice_set, IfSome, IfNone};
+ghost use Rattle.std.specs.Prelude.{IsTrue};
 ghost use Rattle.gz_names.specs.Zones.{HasZone};
 ghost use Rattle.heap_core.specs.Heap.{colour_of};
 ghost use Rattle.zone_edges.specs.Looks.{AreWrappers, IsWrapperIn, LeadsFrom, wrapper_at};

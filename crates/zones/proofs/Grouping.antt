@@ -18,5 +18,6 @@ word_of-no_zones Sweep = refl
 word_of-no_zones Finished = refl
 
 -- with no zone made, each set is empty
-pub AreGrouped-none : AreGrouped [] (record { bits = 0 } ∷ record { bits = 0 } ∷ record { bits = 0 } ∷ record { bits = 0 } ∷ record { bits = 0 } ∷ [])
+pub AreGrouped-none : AreGrouped []
+    (record { bits = 0 } ∷ record { bits = 0 } ∷ record { bits = 0 } ∷ record { bits = 0 } ∷ record { bits = 0 } ∷ [])
 AreGrouped-none z s = (λ h. absurd (HasZone-none z (rw word_of-no_zones at h)), λ e. absurd (cc))

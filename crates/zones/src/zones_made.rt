@@ -1,5 +1,6 @@
 // The zones and compartments that were made.
-ghost use Rattle.std.specs.Prelude.{◌≡◌, ◌≤◌, ◌<◌, ◌↔◌, ◌++◌, ◌∷◌, ◌⊎◌, ◌≢◌, [], ℕ, length, slice_get, slice_set, Some, IfOk, OnErr, IsSomeAnd, All};
+ghost use Rattle.std.specs.Prelude.{◌≡◌, ◌≤◌, ◌<◌, ◌↔◌, ◌++◌, ◌∷◌, ◌⊎◌, ◌≢◌, [], ℕ, length, slice_get, slice_set, Some};
+ghost use Rattle.std.specs.Prelude.{IfOk, OnErr, IsSomeAnd, All};
 ghost use Rattle.gz_names.specs.Zones.{HasZone};
 ghost use Rattle.zones.specs.States.{next_state, IsMarking};
 ghost use Rattle.zones.specs.ZonesMade.{word_of};

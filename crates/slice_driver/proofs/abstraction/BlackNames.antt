@@ -31,15 +31,19 @@ abbrev pub black_names : HeapState → places.FinMap name_cmp (ℕ × ℕ) → N
 black_names h at = set.retain (set.from_list (places.keys at)) (λ x. is_black_at h (places.get at x))
 
 module _ (h : HeapState) (at : places.FinMap name_cmp (ℕ × ℕ)) where
-  has_names : (x : Name) → set.contains (black_names h at) x ≡ (is_some (places.get at x) && is_black_at h (places.get at x))
+  has_names : (x : Name)
+      → set.contains (black_names h at) x ≡ (is_some (places.get at x) && is_black_at h (places.get at x))
   has_names x =
-      set.contains-retain (set.from_list (places.keys at)) (λ y. is_black_at h (places.get at y)) x (λ y e. ap (λ z. is_black_at h (places.get at z)) (sym (names_apart x y e)))
-      ∙ ap (λ b. b && is_black_at h (places.get at x)) (set.contains-from_list names_total (places.keys at) x ∙ sym (places.contains_key-keys at x))
+      set.contains-retain (set.from_list (places.keys at)) (λ y. is_black_at h (places.get at y)) x
+      (λ y e. ap (λ z. is_black_at h (places.get at z)) (sym (names_apart x y e)))
+      ∙ ap (λ b. b && is_black_at h (places.get at x)) (set.contains-from_list names_total (places.keys at) x
+      ∙ sym (places.contains_key-keys at x))
 
   pub black_named : (x : Name) → Has (black_names h at) x → (p : Place) × (places.get at x ≡ Some p) × IsBlack h p
   black_named x has = go (places.get at x) refl (sym (has_names x) ∙ has)
     where
-      go : (o : Option Place) → places.get at x ≡ o → (is_some o && is_black_at h o) ≡ true → (p : Place) × (places.get at x ≡ Some p) × IsBlack h p
+      go : (o : Option Place) → places.get at x ≡ o → (is_some o && is_black_at h o) ≡ true
+          → (p : Place) × (places.get at x ≡ Some p) × IsBlack h p
       go None e b = absurd (cc b)
       go (Some p) e b = (p, e, black_is (colour_of h p) b)
 

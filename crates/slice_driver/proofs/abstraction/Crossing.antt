@@ -1,5 +1,7 @@
 -- What leads out of a zone is a wrapper of its list.
-use Rattle.std.proofs.Common.{◌≡◌, ◌≢◌, ℕ, zero, suc, List, [], ◌∷◌, Option, Some, None, IfSome, slice_get, slice_index_or, refl, sym, ap, subst, ◌∙◌, inl, inr, arith, Contains, AllPairs, option_map, is_some}
+use Rattle.std.proofs.Common.{◌≡◌, ◌≢◌, ℕ, zero, suc, List, [], ◌∷◌, Option, Some, None, IfSome, slice_get}
+use Rattle.std.proofs.Common.{slice_index_or, refl, sym, ap, subst, ◌∙◌, inl, inr, arith, Contains, AllPairs}
+use Rattle.std.proofs.Common.{option_map, is_some}
 use Rattle.std.specs.Map.{lookup}
 use Rattle.std.proofs.lemmas.List.{get_or_default}
 use Rattle.std.proofs.lemmas.Bool.{cases_lt}
@@ -24,64 +26,110 @@ use Rattle.slice_driver.proofs.abstraction.Named.{name_of, named_cell, some_one,
 use Rattle.slice_driver.proofs.abstraction.Lying.{zone_named}
 
 -- a wrapper that is found stands on some list
-found_listed : (lists : List (List (WrapperKey × Place))) (c t : ℕ) (p : Place) → place_at lists c t ≡ Some p → (z : ℕ) × Contains (list_at lists z) (record { comp = c; target = t }, p)
+found_listed : (lists : List (List (WrapperKey × Place))) (c t : ℕ) (p : Place) → place_at lists c t ≡ Some p
+    → (z : ℕ) × Contains (list_at lists z) (record { comp = c; target = t }, p)
 found_listed [] c t p e = absurd (cc e)
 found_listed (es ∷ lists) c t p e = go (λ f. found_listed lists c t p f) (lookup (is_key c t) es) refl e
   where
-    go : (place_at lists c t ≡ Some p → (z : ℕ) × Contains (list_at lists z) (record { comp = c; target = t }, p)) → (o : Option Place) → lookup (is_key c t) es ≡ o → first_of o (place_at lists c t) ≡ Some p → (z : ℕ) × Contains (list_at (es ∷ lists) z) (record { comp = c; target = t }, p)
+    go : (place_at lists c t ≡ Some p → (z : ℕ) × Contains (list_at lists z) (record { comp = c; target = t }, p))
+        → (o : Option Place) → lookup (is_key c t) es ≡ o → first_of o (place_at lists c t) ≡ Some p
+        → (z : ℕ) × Contains (list_at (es ∷ lists) z) (record { comp = c; target = t }, p)
     go more None at f = let r = more f in (suc r.0, r.1)
-    go more (Some q) at f = (0, subst (λ r. Contains es (record { comp = c; target = t }, r)) (some_one _ _ f) (subst (λ o. IfSome o (λ r. Contains es (record { comp = c; target = t }, r))) at (lookup-Contains es c t)))
+    go more (Some q) at f = (
+      0,
+      subst (λ r. Contains es (record { comp = c; target = t }, r)) (some_one _ _ f)
+          (subst (λ o. IfSome o (λ r. Contains es (record { comp = c; target = t }, r))) at (lookup-Contains es c t)),
+    )
 
 -- and one that is listed is found
-one_place : (es : List (WrapperKey × Place)) (k : WrapperKey) (p q : Place) → AllPairs (λ d e. d.0 ≢ e.0) es → Contains es (k, p) → Contains es (k, q) → q ≡ p
+one_place : (es : List (WrapperKey × Place)) (k : WrapperKey) (p q : Place) → AllPairs (λ d e. d.0 ≢ e.0) es
+    → Contains es (k, p) → Contains es (k, q) → q ≡ p
 one_place es k p q apart (i, lt, at) (j, below, is) = elim (cases_lt i j) [
-  | inl less ↦ absurd (apart i j (k, p) less below (ap (λ (e : WrapperKey × Place). e.0) at ∙ sym (ap (λ (e : WrapperKey × Place). e.0) (get_or_default es j (k, p) (k, q) below ∙ is))))
+  | inl less ↦ absurd (apart i j (k, p) less below
+      (ap (λ (e : WrapperKey × Place). e.0) at
+      ∙ sym (ap (λ (e : WrapperKey × Place). e.0) (get_or_default es j (k, p) (k, q) below ∙ is))))
   | inr ge ↦ elim (cases_lt j i) [
-    | inl less ↦ absurd (apart j i (k, p) less lt (ap (λ (e : WrapperKey × Place). e.0) (get_or_default es j (k, p) (k, q) below ∙ is) ∙ sym (ap (λ (e : WrapperKey × Place). e.0) at)))
+    | inl less ↦ absurd (apart j i (k, p) less lt
+        (ap (λ (e : WrapperKey × Place). e.0) (get_or_default es j (k, p) (k, q) below ∙ is)
+        ∙ sym (ap (λ (e : WrapperKey × Place). e.0) at)))
     | inr le ↦
         let same : i ≡ j = omega (arith, ge, le) in
-        ap (λ (e : WrapperKey × Place). e.1) (sym is ∙ (sym (get_or_default es j (k, p) (k, q) below) ∙ (ap (λ n. slice_index_or es n (k, p)) (sym same) ∙ at)))
+        ap (λ (e : WrapperKey × Place). e.1)
+        (sym is ∙ (sym (get_or_default es j (k, p) (k, q) below)
+        ∙ (ap (λ n. slice_index_or es n (k, p)) (sym same) ∙ at)))
   ]
 ]
 
-looked_up : (es : List (WrapperKey × Place)) (k : WrapperKey) (p : Place) → AllPairs (λ d e. d.0 ≢ e.0) es → Contains es (k, p) → lookup (is_key k.comp k.target) es ≡ Some p
+looked_up : (es : List (WrapperKey × Place)) (k : WrapperKey) (p : Place) → AllPairs (λ d e. d.0 ≢ e.0) es
+    → Contains es (k, p) → lookup (is_key k.comp k.target) es ≡ Some p
 looked_up es k p apart c = go (lookup (is_key k.comp k.target) es) refl
   where
     go : (o : Option Place) → lookup (is_key k.comp k.target) es ≡ o → o ≡ Some p
     go None e = absurd (lookup-none es k.comp k.target p e c)
-    go (Some q) e = ap (λ z. Some z) (one_place es k p q apart c (subst (λ o. IfSome o (λ r. Contains es (k, r))) e (lookup-Contains es k.comp k.target)))
+    go (Some q) e = ap (λ z. Some z)
+        (one_place es k p q apart c
+        (subst (λ o. IfSome o (λ r. Contains es (k, r))) e (lookup-Contains es k.comp k.target)))
 
-pub listed_found : (lists : List (List (WrapperKey × Place))) (z : ℕ) (k : WrapperKey) (p : Place) → AreApart lists → Contains (list_at lists z) (k, p) → place_at lists k.comp k.target ≡ Some p
-listed_found lists z k p apart c = place_at-home lists z k.comp k.target (λ y e there same. apart.one_zone y z e (k, p) there c same) ∙ looked_up (list_at lists z) k p (apart.distinct z) c
+pub listed_found : (lists : List (List (WrapperKey × Place))) (z : ℕ) (k : WrapperKey) (p : Place) → AreApart lists
+    → Contains (list_at lists z) (k, p) → place_at lists k.comp k.target ≡ Some p
+listed_found lists z k p apart c =
+    place_at-home lists z k.comp k.target (λ y e there same. apart.one_zone y z e (k, p) there c same)
+    ∙ looked_up (list_at lists z) k p (apart.distinct z) c
 
 -- a listed wrapper is present, under its name, in the zone of its list
-pub listed_present : (h : HeapState) (g : GraphState) (z : ℕ) (k : WrapperKey) (p : Place) → Shows h g → AreApart h.shape.wrappers.lists → Contains (list_of h.shape.wrappers z) (k, p) → (name_at h.shape p ≡ Some (Wrap (record { 0 = k.comp }) k.target)) × (zone_of h.shape p ≡ z)
+pub listed_present : (h : HeapState) (g : GraphState) (z : ℕ) (k : WrapperKey) (p : Place) → Shows h g
+    → AreApart h.shape.wrappers.lists → Contains (list_of h.shape.wrappers z) (k, p)
+    → (name_at h.shape p ≡ Some (Wrap (record { 0 = k.comp }) k.target)) × (zone_of h.shape p ≡ z)
 listed_present h g z k p s apart c =
-    let named : name_at h.shape p ≡ Some (Wrap (record { 0 = k.comp }) k.target) = s.mapped (record { 0 = k.comp }) k.target p (listed_found h.shape.wrappers.lists z k p apart c) in
+    let named : name_at h.shape p ≡ Some (Wrap (record { 0 = k.comp }) k.target) =
+    s.mapped (record { 0 = k.comp }) k.target p (listed_found h.shape.wrappers.lists z k p apart c) in
     let cell = named_cell h.shape p (Wrap (record { 0 = k.comp }) k.target) named in
     let shown = s.cells p cell.0 cell.1 in
-    let stands : IsWrapperOf h.shape g p cell.0 (record { 0 = k.comp }) k.target = subst (λ x. StandsFor h.shape g p cell.0 x) cell.2 shown.stands in
-    let home : slice_get h.shape.comps k.comp ≡ Some (zone_of h.shape p) = ap (λ (d : CompNo). slice_get h.shape.comps d.0) (sym stands.comp_is) ∙ shown.at_home in
+    let stands : IsWrapperOf h.shape g p cell.0 (record { 0 = k.comp }) k.target =
+    subst (λ x. StandsFor h.shape g p cell.0 x) cell.2 shown.stands in
+    let home : slice_get h.shape.comps k.comp ≡ Some (zone_of h.shape p) =
+    ap (λ (d : CompNo). slice_get h.shape.comps d.0) (sym stands.comp_is) ∙ shown.at_home in
     (named, some_one _ _ (sym home ∙ s.maps_at_home z (k, p) c))
 
 pub same_part : (g : GraphState) → present.IsPartOf g g
-same_part g = record { zones = refl; comps = refl; registers = refl; slots = refl; made = refl; objects = λ n o e. e; wrappers = λ c t e. e; entries = λ m k hm hk. refl }
+same_part g = record {
+  zones = refl;
+  comps = refl;
+  registers = refl;
+  slots = refl;
+  made = refl;
+  objects = λ n o e. e;
+  wrappers = λ c t e. e;
+  entries = λ m k hm hk. refl;
+}
 
-crosses_as : (h : HeapState) (g : GraphState) (p q : Place) (cell : CellState) (x : Name) → Shows h g → IsWellFormed g → cell_of h.shape p ≡ Some cell → cell.name ≡ x → StandsFor h.shape g p cell x → slice_get h.shape.comps cell.comp.0 ≡ Some (zone_of h.shape p) → HasEdge h.shape p q → zone_of h.shape p ≢ zone_of h.shape q → IsListed h.shape p q
+crosses_as : (h : HeapState) (g : GraphState) (p q : Place) (cell : CellState) (x : Name) → Shows h g → IsWellFormed g
+    → cell_of h.shape p ≡ Some cell → cell.name ≡ x → StandsFor h.shape g p cell x
+    → slice_get h.shape.comps cell.comp.0 ≡ Some (zone_of h.shape p) → HasEdge h.shape p q
+    → zone_of h.shape p ≢ zone_of h.shape q → IsListed h.shape p q
 crosses_as h g p q cell (Cell n) s well there is stands home e apart =
-    let named : name_at h.shape p ≡ Some (Cell n) = ap (λ o. option_map (λ (c : CellState). c.name) o) there ∙ ap (λ z. Some z) is in
+    let named : name_at h.shape p ≡ Some (Cell n) = ap (λ o. option_map (λ (c : CellState). c.name) o) there
+    ∙ ap (λ z. Some z) is in
     let y = name_of h.shape q (s.fields_held p q e.0 e.2) in
-    let edge : names.HasEdge g (Cell n) y.0 = edge_as h.shape g p cell (Cell n) y.0 q e.0 stands (sym (ap (λ o. field_in o e.0) there) ∙ e.2) y.1 in
+    let edge : names.HasEdge g (Cell n) y.0 =
+    edge_as h.shape g p cell (Cell n) y.0 q e.0 stands (sym (ap (λ o. field_in o e.0) there) ∙ e.2) y.1 in
     let same = same_zone_of g (Cell n) y.0 (well.fields n y.0 edge) in
-    absurd (apart (some_one _ _ (sym (zone_named h g g p (Cell n) s (same_part g) named) ∙ (same ∙ zone_named h g g q y.0 s (same_part g) y.1))))
+    absurd (apart (some_one _ _ (sym (zone_named h g g p (Cell n) s (same_part g) named)
+    ∙ (same ∙ zone_named h g g q y.0 s (same_part g) y.1))))
 crosses_as h g p q cell (Wrap c t) s well there is stands home e apart =
     let found = found_listed h.shape.wrappers.lists c.0 t p stands.mapped in
-    let at_home : slice_get h.shape.comps c.0 ≡ Some found.0 = s.maps_at_home found.0 (record { comp = c.0; target = t }, p) found.1 in
-    let zone : found.0 ≡ zone_of h.shape p = some_one _ _ (sym at_home ∙ (ap (λ (d : CompNo). slice_get h.shape.comps d.0) (sym stands.comp_is) ∙ home)) in
+    let at_home : slice_get h.shape.comps c.0 ≡ Some found.0 =
+    s.maps_at_home found.0 (record { comp = c.0; target = t }, p) found.1 in
+    let zone : found.0 ≡ zone_of h.shape p =
+    some_one _ _ (sym at_home ∙ (ap (λ (d : CompNo). slice_get h.shape.comps d.0) (sym stands.comp_is) ∙ home)) in
     record {
       key = record { comp = c.0; target = t };
       listed = subst (λ z. Contains (list_of h.shape.wrappers z) (record { comp = c.0; target = t }, p)) zone found.1;
-      target = ap (λ o. field_in o 0) there ∙ (ap (λ fs. joined (slice_get fs 0)) stands.fields_is ∙ ap (λ z. Some z) (only e.0 (subst (λ fs. joined (slice_get fs e.0) ≡ Some q) stands.fields_is (sym (ap (λ o. field_in o e.0) there) ∙ e.2))));
+      target = ap (λ o. field_in o 0) there
+          ∙ (ap (λ fs. joined (slice_get fs 0)) stands.fields_is
+          ∙ ap (λ z. Some z) (only e.0
+          (subst (λ fs. joined (slice_get fs e.0) ≡ Some q) stands.fields_is
+          (sym (ap (λ o. field_in o e.0) there) ∙ e.2))));
     }
   where
     only : (i : ℕ) → joined (slice_get (Some stands.target ∷ []) i) ≡ Some q → stands.target ≡ q
@@ -89,7 +137,8 @@ crosses_as h g p q cell (Wrap c t) s well there is stands home e apart =
     only (suc i) f = absurd (cc f)
 
 -- a cell that leads out of its zone
-pub crosses : (h : HeapState) (g : GraphState) (p q : Place) → Shows h g → IsWellFormed g → HasEdge h.shape p q → zone_of h.shape p ≢ zone_of h.shape q → IsListed h.shape p q
+pub crosses : (h : HeapState) (g : GraphState) (p q : Place) → Shows h g → IsWellFormed g → HasEdge h.shape p q
+    → zone_of h.shape p ≢ zone_of h.shape q → IsListed h.shape p q
 crosses h g p q s well e apart =
     let x = name_of h.shape p (present_from (cell_of h.shape p) refl) in
     let cell = named_cell h.shape p x.0 x.1 in

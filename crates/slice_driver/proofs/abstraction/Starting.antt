@@ -1,5 +1,7 @@
 -- A collector of an empty heap stands for the first world.
-use Rattle.std.proofs.Common.{◌≡◌, ℕ, zero, suc, Bool, true, false, ◌&&◌, if◌then◌else◌, List, [], ◌∷◌, length, Option, Some, None, is_some, slice_get, slice_index_or, replicate, refl, sym, ap, subst, ◌∙◌, inl, inr, arith, Contains}
+use Rattle.std.proofs.Common.{◌≡◌, ℕ, zero, suc, Bool, true, false, ◌&&◌, if◌then◌else◌, List, [], ◌∷◌, length, Option}
+use Rattle.std.proofs.Common.{Some, None, is_some, slice_get, slice_index_or, replicate, refl, sym, ap, subst, ◌∙◌, inl}
+use Rattle.std.proofs.Common.{inr, arith, Contains}
 use Rattle.std.specs.FinMap as places
 use Rattle.gz_names.specs.Order.{name_cmp}
 use Rattle.gz_names.specs.declared.names.Name.{Name}
@@ -20,7 +22,8 @@ use Rattle.colour_defs.specs.Present as present
 use Rattle.colour_defs.proofs.Lists.{nothing_in_none, no_name_in_nulls}
 use Rattle.colour_defs.proofs.ValidRuns.{first_valid}
 use Rattle.arena_table.specs.Cells.{CellState}
-use Rattle.heap_core.specs.Shape.{ArenaShape, AreWhole, HasEdge, IsPresent, cell_in_arena, cell_of, field_in, is_white, name_at, out_in, out_of, state_in, state_or}
+use Rattle.heap_core.specs.Shape.{ArenaShape, AreWhole, HasEdge, IsPresent, cell_in_arena, cell_of, field_in, is_white}
+use Rattle.heap_core.specs.Shape.{name_at, out_in, out_of, state_in, state_or}
 use Rattle.heap_core.specs.Heap.{HeapState, IsEmpty, colour_in, colour_of, joined, with_flown}
 use Rattle.heap_core.proofs.Empty.{shows-empty}
 use Rattle.barriers.specs.Colours.{IsSeen, lacks_black}
@@ -43,7 +46,8 @@ no_cell : (h : HeapState) → IsEmpty h → (p : Place) → cell_of h.shape p �
 no_cell h e p = ap (λ (xs : List ArenaShape). cell_in_arena (slice_get xs p.0) p.1) e.arenas
 
 no_name : (h : HeapState) → IsEmpty h → (p : Place) → name_at h.shape p ≡ None
-no_name h e p = ap (λ (o : Option CellState). Rattle.std.specs.Option.option_map (λ (cell : CellState). cell.name) o) (no_cell h e p)
+no_name h e p = ap (λ (o : Option CellState). Rattle.std.specs.Option.option_map (λ (cell : CellState). cell.name) o)
+    (no_cell h e p)
 
 module _ (c : CollectorState) (e : IsEmpty c.heap) where
   abbrev h : HeapState
@@ -53,13 +57,16 @@ module _ (c : CollectorState) (e : IsEmpty c.heap) where
   colours_none = ap (with_flown flight.none_flown 0) e.colours
 
   not_seen : (p : Place) → IsSeen h p → ⊥
-  not_seen p s = (let white : colour_of h p ≡ colour_in None p.1 = ap (λ (bs : List Bits). colour_in (slice_get bs p.0) p.1) colours_none in elim s [ inl g ↦ cc (white, g) | inr b ↦ cc (white, b) ])
+  not_seen p s = (let white : colour_of h p ≡ colour_in None p.1 =
+      ap (λ (bs : List Bits). colour_in (slice_get bs p.0) p.1) colours_none in
+      elim s [ inl g ↦ cc (white, g) | inr b ↦ cc (white, b) ])
 
   not_present : (p : Place) → IsPresent c.heap.shape p → ⊥
   not_present p there = cc (no_cell c.heap e p, there)
 
   no_edge : (p q : Place) → HasEdge c.heap.shape p q → ⊥
-  no_edge p q edge = (let none : field_in (cell_of c.heap.shape p) edge.0 ≡ None = ap (λ o. field_in o edge.0) (no_cell c.heap e p) in cc (none, edge.2))
+  no_edge p q edge = (let none : field_in (cell_of c.heap.shape p) edge.0 ≡ None =
+      ap (λ o. field_in o edge.0) (no_cell c.heap e p) in cc (none, edge.2))
 
   none_out : (a : ℕ) → out_of c.heap.shape a ≡ None
   none_out a = ap (λ (xs : List ArenaShape). out_in (slice_get xs a)) e.arenas
@@ -74,7 +81,8 @@ module _ (c : CollectorState) (e : IsEmpty c.heap) where
   nothing_buffered z = ap (λ bs. buffer_at bs z) e.buffers ∙ no_buffer 64 z
 
   not_named : (x : Name) → IsPresentName first_world x → ⊥
-  not_named x there = let none : places.get first_world.places x ≡ None = places.get-empty name_cmp x in cc (none, there)
+  not_named x there = let none : places.get first_world.places x ≡ None = places.get-empty name_cmp x in
+      cc (none, there)
 
   nothing_here : (x : Name) → present.IsHere empty_graph x → ⊥
   nothing_here (Cell n) here = cc here.1
@@ -90,12 +98,19 @@ module _ (c : CollectorState) (e : IsEmpty c.heap) where
       part = same_part empty_graph;
       here = λ x. ((λ here. absurd (nothing_here x here)), λ there. absurd (not_named x there));
     };
-    places_are = λ x p. ((λ is. absurd (let none : places.get first_world.places x ≡ None = places.get-empty name_cmp x in cc (none, is))), λ is. absurd (cc (no_name c.heap e p, is)));
+    places_are = λ x p. (
+      (λ is.
+          absurd (let none : places.get first_world.places x ≡ None = places.get-empty name_cmp x in cc (none, is))),
+      λ is. absurd (cc (no_name c.heap e p, is)),
+    );
     owner_is = sym (ap owners_of e.arenas);
     weak_is = refl;
     calm = refl;
     out_is = sym (ap (outs_from 0) e.arenas);
-    white_are = λ x p. ((λ has. absurd (nothing_in_none {X = Name × (ℕ × ℕ)} (x, p) has)), λ un. absurd (let none = none_out p.0 in cc (none, un.out_is)));
+    white_are = λ x p. (
+      (λ has. absurd (nothing_in_none {X = Name × (ℕ × ℕ)} (x, p) has)),
+      λ un. absurd (let none = none_out p.0 in cc (none, un.out_is)),
+    );
   }
 
   shape : ShapeInvariant c.heap.shape
@@ -153,11 +168,17 @@ module _ (c : CollectorState) (e : IsEmpty c.heap) where
           once = λ n. subst IsOnce (sym (lists n)) tt;
           one_list = λ n m p i j. absurd (nothing_in_none p (subst (λ xs. Contains xs p) (lists n) i));
         };
-        few = omega (arith, none_waiting c.lists lists, ap (λ (xs : List Place). length xs) gray, slots_most is_white h.colours);
+        few = omega (
+          arith,
+          none_waiting c.lists lists,
+          ap (λ (xs : List Place). length xs) gray,
+          slots_most is_white h.colours,
+        );
         room = omega (arith, size);
       }
 
-  pub represents_first : c.stack.black ≡ [] → c.stack.gray ≡ [] → c.stack.wake ≡ [] → ((n : ℕ) → list_of c.lists n ≡ []) → c.run ≡ None → Represents c flight.none_flown first_world
+  pub represents_first : c.stack.black ≡ [] → c.stack.gray ≡ [] → c.stack.wake ≡ [] → ((n : ℕ) → list_of c.lists n ≡ [])
+      → c.run ≡ None → Represents c flight.none_flown first_world
   represents_first black gray wake lists run = record {
     lies = lies;
     unswept_apart = λ x p q up uq. absurd (let none = none_out p.0 in cc (none, up.out_is));
@@ -170,13 +191,15 @@ module _ (c : CollectorState) (e : IsEmpty c.heap) where
       incoming = λ n p has. absurd (nothing_in_none p (subst (λ xs. Contains xs p) (lists n) has));
     };
     black = λ s x p is. absurd (cc (no_name c.heap e p, is));
-    runs = subst (λ r. RunsAs (heap_with c flight.none_flown) c first_world r None) (sym run) (record { states = no_state; kept = none_out; black = black; gray = gray });
+    runs = subst (λ r. RunsAs (heap_with c flight.none_flown) c first_world r None) (sym run)
+        (record { states = no_state; kept = none_out; black = black; gray = gray });
   }
 
 -- weak maps without a value have no entry
 pub no_entries : (es : List EntryState) → ((m k : Place) → value_at es m k ≡ None) → length es ≡ 0
 no_entries [] none = refl
-no_entries (e ∷ es) none = absurd (by (is_same e.map e.map) (is_same e.key e.key) (is_same-self e.map) (is_same-self e.key) (none e.map e.key))
+no_entries (e ∷ es) none =
+    absurd (by (is_same e.map e.map) (is_same e.key e.key) (is_same-self e.map) (is_same-self e.key) (none e.map e.key))
   where
     by : (x y : Bool) → x ≡ true → y ≡ true → (if x && y then Some e.value else value_at es e.map e.key) ≡ None → ⊥
     by true true a b h = cc h

@@ -1,5 +1,6 @@
 -- As marking begins, its invariants hold, and it is tied to the collection.
-use Rattle.std.proofs.Common.{◌≡◌, ◌<◌, ◌≤◌, ◌⊎◌, ◌↔◌, ℕ, suc, true, false, List, [], ◌∷◌, length, map, Option, Some, None, is_some, refl, sym, ap, subst, ◌∙◌, inl, inr, arith, Contains, sum_by}
+use Rattle.std.proofs.Common.{◌≡◌, ◌<◌, ◌≤◌, ◌⊎◌, ◌↔◌, ℕ, suc, true, false, List, [], ◌∷◌, length, map, Option, Some}
+use Rattle.std.proofs.Common.{None, is_some, refl, sym, ap, subst, ◌∙◌, inl, inr, arith, Contains, sum_by}
 use Rattle.std.specs.Int.{bit_at}
 use Rattle.std.proofs.lemmas.List.Sums.{sum_by-cons}
 use Rattle.std.proofs.lemmas.Bool.{cases_lt, cases_eq}
@@ -16,13 +17,15 @@ use Rattle.mark_stack.specs.Stack.{Piles}
 use Rattle.gray_lists.specs.Incoming.{Incoming, IsOnce, list_at, list_of, waiting_count}
 use Rattle.colour_defs.specs.Graph.{GraphState, IsInZones, value_of}
 use Rattle.colour_defs.specs.Closure.{Closure, HasEdge as HasNamedEdge}
-use Rattle.colour_defs.specs.World.{World, Collection, Has, IsSettled, BlackClosure, LiveClosure, IsPresent as IsPresentName, marking_of}
+use Rattle.colour_defs.specs.World.{World, Collection, Has, IsSettled, BlackClosure, LiveClosure}
+use Rattle.colour_defs.specs.World.{IsPresent as IsPresentName, marking_of}
 use Rattle.colour_defs.specs.Laws.{IsValid, IsWellFormed}
 use Rattle.colour_defs.proofs.Lists.{contains_cases, contains_head, contains_tail, nothing_in_none}
 use Rattle.colour_defs.proofs.Finite.{no_name}
 use Rattle.colour_defs.proofs.Membership.{in_zone, zone_in}
 use Rattle.colour_defs.proofs.ZoneSets.{zones_in-has}
-use Rattle.heap_core.specs.Shape.{Shape, is_white, HasEdge, IsPresent, cell_of, held_name, is_marking, is_marking_state, name_at, out_of, state_in, zone_of, field_in, AreWhole}
+use Rattle.heap_core.specs.Shape.{Shape, is_white, HasEdge, IsPresent, cell_of, held_name, is_marking, is_marking_state}
+use Rattle.heap_core.specs.Shape.{name_at, out_of, state_in, zone_of, field_in, AreWhole}
 use Rattle.heap_core.specs.Heap.{HeapState, flown_or, joined, with_flown}
 use Rattle.heap_core.specs.Shows.{Shows, StandsFor}
 use Rattle.barriers.specs.Reached.{HasEntry, Reached}
@@ -33,7 +36,8 @@ use Rattle.barriers.specs.PendingLive.{GrayInvariant, IsLiveStart, PendingLive}
 use Rattle.barriers.specs.Invariant.{ColourInvariant, MarkingInvariant, ShapeInvariant}
 use Rattle.barriers.specs.Spreading.{Covers}
 use Rattle.barriers.proofs.Slots.{slots_most}
-use Rattle.barriers.proofs.BlackClosure.{none_on_wake, pending_is_reached, reached_from, reached_is_pending, reached_more}
+use Rattle.barriers.proofs.BlackClosure.{none_on_wake, pending_is_reached, reached_from, reached_is_pending}
+use Rattle.barriers.proofs.BlackClosure.{reached_more}
 use Rattle.barriers.proofs.LiveClosure.{live_is_reached, reached_is_live}
 use Rattle.slice_driver.proofs.beginning.HasBegun.{HasBegun}
 use Rattle.slice_driver.specs.Worlds.{LiesIn, owners_of, outs_from}
@@ -41,7 +45,8 @@ use Rattle.slice_driver.specs.Closures.{AreBlack, AreTied}
 use Rattle.slice_driver.specs.Collector.{CollectorState, RunState}
 use Rattle.slice_driver.specs.Represents.{AreInStates, AreLookedAt, Runs}
 use Rattle.slice_driver.specs.Begins.{BeginsMarking, IsWithin}
-use Rattle.slice_driver.proofs.abstraction.Named.{AreSameStarts, closure_present, named_present, present_named, same_reached, some_one}
+use Rattle.slice_driver.proofs.abstraction.Named.{AreSameStarts, closure_present, named_present, present_named}
+use Rattle.slice_driver.proofs.abstraction.Named.{same_reached, some_one}
 use Rattle.slice_driver.proofs.abstraction.Lying.{zone_named}
 use Rattle.slice_driver.proofs.commanding.Woken.{reached_kept}
 use Rattle.slice_driver.proofs.abstraction.Keeping.{stay_same}
@@ -66,12 +71,22 @@ no_edge_from_none s x y e = go (cell_of s x) refl e.2
 -- where all lists are empty, nothing waits
 all_empty : (lists : List (List Place)) → ((c : ℕ) → list_at lists c ≡ []) → sum_by length lists ≡ 0
 all_empty [] none = refl
-all_empty (xs ∷ lists) none = omega (arith, sum_by-cons (λ (ys : List Place). length ys) xs lists, all_empty lists (λ c. none (suc c)), ap (λ (ys : List Place). length ys) (none 0))
+all_empty (xs ∷ lists) none =
+    omega (
+      arith,
+      sum_by-cons (λ (ys : List Place). length ys) xs lists,
+      all_empty lists (λ c. none (suc c)),
+      ap (λ (ys : List Place). length ys) (none 0),
+    )
 
 pub none_waiting : (lists : Incoming) → ((c : ℕ) → list_of lists c ≡ []) → waiting_count lists ≡ 0
 none_waiting lists none = all_empty lists.lists none
 
-module _ (h : HeapState) (old : Piles) (zones : ZoneSet) (k : HeapState) (stack : Piles) (lists : Incoming) (inv : MarkingInvariant h old) (b : BeginsMarking h zones k stack lists) (settled : (x : Place) → is_marking h.shape x ≡ false) (none_out : (a : ℕ) → out_of h.shape a ≡ None) (regs_held : (x : Place) → Contains h.shape.regs (Some x) → IsPresent h.shape x) (slots_held : (x : Place) → Contains h.shape.slots (Some x) → IsPresent h.shape x) where
+module _ (h : HeapState) (old : Piles) (zones : ZoneSet) (k : HeapState) (stack : Piles) (lists : Incoming)
+    (inv : MarkingInvariant h old) (b : BeginsMarking h zones k stack lists) (settled : (x : Place)
+    → is_marking h.shape x ≡ false) (none_out : (a : ℕ) → out_of h.shape a ≡ None) (regs_held : (x : Place)
+    → Contains h.shape.regs (Some x) → IsPresent h.shape x) (slots_held : (x : Place) → Contains h.shape.slots (Some x)
+    → IsPresent h.shape x) where
   shape : ShapeInvariant h.shape
   shape = inv.holds.colours.shape
 
@@ -107,10 +122,12 @@ module _ (h : HeapState) (old : Piles) (zones : ZoneSet) (k : HeapState) (stack 
   zone_same x = ap (λ (s : Shape). zone_of s x) b.shape_is
 
   marking_within : (x : Place) → IsWithin h.shape zones x → is_marking k.shape x ≡ true
-  marking_within x w = ap (λ z. is_marking_state (state_in k.shape z)) (zone_same x) ∙ ap is_marking_state (b.states (zone_of h.shape x) w)
+  marking_within x w = ap (λ z. is_marking_state (state_in k.shape z)) (zone_same x)
+      ∙ ap is_marking_state (b.states (zone_of h.shape x) w)
 
   marking_outside : (x : Place) → (IsWithin h.shape zones x → ⊥) → is_marking k.shape x ≡ false
-  marking_outside x n = ap (λ z. is_marking_state (state_in k.shape z)) (zone_same x) ∙ (ap is_marking_state (b.other_states (zone_of h.shape x) n) ∙ settled x)
+  marking_outside x n = ap (λ z. is_marking_state (state_in k.shape z)) (zone_same x)
+      ∙ (ap is_marking_state (b.other_states (zone_of h.shape x) n) ∙ settled x)
 
   not_marking : (x : Place) → is_marking k.shape x ≡ false → IsWithin h.shape zones x → ⊥
   not_marking x e w = cc (e, marking_within x w)
@@ -131,12 +148,17 @@ module _ (h : HeapState) (old : Piles) (zones : ZoneSet) (k : HeapState) (stack 
   present_is x p = subst (λ (s : Shape). IsPresent s x) (sym b.shape_is) p
 
   seen_out : (x : Place) → IsPresent h.shape x → (IsWithin h.shape zones x → ⊥) → IsSeen k x
-  seen_out x here n = elim (inv.holds.colours.no_white x here (settled x)) [ inl g ↦ inl (b.outside x n ∙ g) | inr bl ↦ inr (b.outside x n ∙ bl) ]
+  seen_out x here n = elim (inv.holds.colours.no_white x here (settled x)) [
+    | inl g ↦ inl (b.outside x n ∙ g)
+    | inr bl
+        ↦ inr (b.outside x n ∙ bl)
+  ]
 
   gray_out : (x : Place) → IsGray k x → (IsWithin h.shape zones x → ⊥) × IsGray h x
   gray_out x g = elim (within_or_not x) [ inl w ↦ absurd (b.none_gray x w g) | inr n ↦ (n, sym (b.outside x n) ∙ g) ]
 
-  zone_within : (x y : Place) → zone_of h.shape x ≡ zone_of h.shape y → IsWithin h.shape zones x → IsWithin h.shape zones y
+  zone_within : (x y : Place) → zone_of h.shape x ≡ zone_of h.shape y → IsWithin h.shape zones x
+      → IsWithin h.shape zones y
   zone_within x y e w = subst (λ z. HasZone zones.bits z) e w
 
   shape_begun : ShapeInvariant k.shape
@@ -155,7 +177,8 @@ module _ (h : HeapState) (old : Piles) (zones : ZoneSet) (k : HeapState) (stack 
     shape = shape_begun;
     sized = b.sized ∙ (inv.holds.colours.sized ∙ ap (λ xs. length xs) (sym arenas_are));
     seen_present = λ x s. present_is x (elim (within_or_not x) [
-      | inr n ↦ inv.holds.colours.seen_present x (elim s [ inl g ↦ inl (sym (b.outside x n) ∙ g) | inr bl ↦ inr (sym (b.outside x n) ∙ bl) ])
+      | inr n ↦ inv.holds.colours.seen_present x
+          (elim s [ inl g ↦ inl (sym (b.outside x n) ∙ g) | inr bl ↦ inr (sym (b.outside x n) ∙ bl) ])
       | inl w ↦ elim s [
         | inl g ↦ absurd (b.none_gray x w g)
         | inr bl ↦ elim ((b.within x w).0 bl) [ inl r ↦ regs_held x r | inr u ↦ shape.targets u.0 x u.3 ]
@@ -163,10 +186,11 @@ module _ (h : HeapState) (old : Piles) (zones : ZoneSet) (k : HeapState) (stack 
     ]);
     no_white = λ x here m. seen_out x (present_was x here) (not_marking x m);
     no_gray = λ x st g. (let out = gray_out x g in cc (ap is_marking_state st, marking_outside x out.0));
-    regs_black = λ x c. (let r : Contains h.shape.regs (Some x) = subst (λ (s : Shape). Contains s.regs (Some x)) b.shape_is c in elim (within_or_not x) [
-      | inl w ↦ (b.within x w).1 (inl r)
-      | inr n ↦ b.outside x n ∙ inv.holds.colours.regs_black x r
-    ]);
+    regs_black = λ x c. (let r : Contains h.shape.regs (Some x) =
+        subst (λ (s : Shape). Contains s.regs (Some x)) b.shape_is c in elim (within_or_not x) [
+          | inl w ↦ (b.within x w).1 (inl r)
+          | inr n ↦ b.outside x n ∙ inv.holds.colours.regs_black x r
+        ]);
   }
 
   pub marking_begun : MarkingInvariant k stack
@@ -184,7 +208,11 @@ module _ (h : HeapState) (old : Piles) (zones : ZoneSet) (k : HeapState) (stack 
         | inr n ↦
             let bh : IsBlack h x = sym (b.outside x n) ∙ bx in
             let was = edge_was x y e in
-            inl (elim (within_or_not y) [ inl w ↦ (b.within y w).1 (inr (x, n, bh, was)) | inr m ↦ b.outside y m ∙ black_along x y bh was ])
+            inl (elim (within_or_not y) [
+              | inl w ↦ (b.within y w).1 (inr (x, n, bh, was))
+              | inr m
+                  ↦ b.outside y m ∙ black_along x y bh was
+            ])
       ];
       weak_closed = λ m q v e bm bq no.
           let was = entry_was m q v e in
@@ -199,15 +227,29 @@ module _ (h : HeapState) (old : Piles) (zones : ZoneSet) (k : HeapState) (stack 
 
   pub gray_begun : GrayInvariant k stack lists
   gray_begun = record {
-    buffered_seen = λ z x c. (let r = (b.buffered z x).0 c in elim r.1 [ inl slot ↦ inl (zone_same x ∙ slot.0) | inr lead ↦ inr (inl (b.outside x lead.0 ∙ lead.1)) ]);
-    buffered_present = λ z x c. (let r = (b.buffered z x).0 c in present_is x (elim r.1 [ inl slot ↦ slots_held x slot.1 | inr lead ↦ no_edge_from_none h.shape x lead.2 lead.3 ]));
+    buffered_seen = λ z x c.
+        (let r = (b.buffered z x).0 c in
+        elim r.1 [ inl slot ↦ inl (zone_same x ∙ slot.0) | inr lead ↦ inr (inl (b.outside x lead.0 ∙ lead.1)) ]);
+    buffered_present = λ z x c.
+        (let r = (b.buffered z x).0 c in
+        present_is x (elim r.1 [
+          | inl slot ↦ slots_held x slot.1
+          | inr lead
+              ↦ no_edge_from_none h.shape x lead.2 lead.3
+        ]));
     incoming_seen = λ c x i. absurd (nothing_in_none x (subst (λ zs. Contains zs x) (b.none_incoming c) i));
     closed = λ x y g e.
         let out = gray_out x g in
         let was = edge_was x y e in
         elim (within_or_not y) [
           | inr n ↦ inl (seen_out y (shape.targets x y was) n)
-          | inl w ↦ inr (inr (inl ((b.buffered (zone_of k.shape y) x).1 (subst (λ z. HasZone zones.bits z) (sym (zone_same y)) w, inr (out.0, out.1, y, was, sym (zone_same y))), λ same. out.0 (zone_within y x (sym (sym (zone_same x) ∙ (same ∙ zone_same y))) w))))
+          | inl w ↦ inr (inr (inl (
+            (b.buffered (zone_of k.shape y) x).1 (
+              subst (λ z. HasZone zones.bits z) (sym (zone_same y)) w,
+              inr (out.0, out.1, y, was, sym (zone_same y)),
+            ),
+            λ same. out.0 (zone_within y x (sym (sym (zone_same x) ∙ (same ∙ zone_same y))) w),
+          )))
         ];
     once = subst IsOnce (sym b.gray_pile) tt;
     apart = λ c x on i. nothing_in_none x (subst (λ zs. Contains zs x) b.gray_pile on);
@@ -215,76 +257,121 @@ module _ (h : HeapState) (old : Piles) (zones : ZoneSet) (k : HeapState) (stack 
       once = λ c. subst IsOnce (sym (b.none_incoming c)) tt;
       one_list = λ c d x i j. absurd (nothing_in_none x (subst (λ zs. Contains zs x) (b.none_incoming c) i));
     };
-    few = omega (arith, none_waiting lists b.none_incoming, ap (λ (zs : List Place). length zs) b.gray_pile, slots_most is_white k.colours);
+    few = omega (
+      arith,
+      none_waiting lists b.none_incoming,
+      ap (λ (zs : List Place). length zs) b.gray_pile,
+      slots_most is_white k.colours,
+    );
     room = b.lists_room;
   }
 
 -- what registers and slots hold, by name
-held_named : (s : Shape) (xs : List (Option Place)) (x : Name) → Contains (map (held_name s) xs) (Some x) → (p : Place) × Contains xs (Some p) × (name_at s p ≡ Some x)
+held_named : (s : Shape) (xs : List (Option Place)) (x : Name) → Contains (map (held_name s) xs) (Some x)
+    → (p : Place) × Contains xs (Some p) × (name_at s p ≡ Some x)
 held_named s [] x c = absurd (nothing_in_none (Some x) c)
 held_named s (o ∷ xs) x c = elim (contains_cases (held_name s o) (map (held_name s) xs) (Some x) c) [
   | inl e ↦ head o e
   | inr t ↦ (let r = held_named s xs x t in (r.0, contains_tail o xs (Some r.0) r.1, r.2))
 ]
   where
-    head : (o : Option Place) → held_name s o ≡ Some x → (p : Place) × Contains (o ∷ xs) (Some p) × (name_at s p ≡ Some x)
+    head : (o : Option Place) → held_name s o ≡ Some x → (p : Place) × Contains (o ∷ xs) (Some p)
+        × (name_at s p ≡ Some x)
     head None e = absurd (cc e)
     head (Some p) e = (p, contains_head (Some p) xs, e)
 
-named_held : (s : Shape) (xs : List (Option Place)) (p : Place) (x : Name) → Contains xs (Some p) → name_at s p ≡ Some x → Contains (map (held_name s) xs) (Some x)
+named_held : (s : Shape) (xs : List (Option Place)) (p : Place) (x : Name) → Contains xs (Some p) → name_at s p ≡ Some x
+    → Contains (map (held_name s) xs) (Some x)
 named_held s [] p x c e = absurd (nothing_in_none (Some p) c)
 named_held s (o ∷ xs) p x c e = elim (contains_cases o xs (Some p) c) [
-  | inl is ↦ subst (λ z. Contains (held_name s o ∷ map (held_name s) xs) z) (ap (held_name s) is ∙ e) (contains_head (held_name s o) (map (held_name s) xs))
+  | inl is ↦ subst (λ z. Contains (held_name s o ∷ map (held_name s) xs) z) (ap (held_name s) is ∙ e)
+      (contains_head (held_name s o) (map (held_name s) xs))
   | inr t ↦ contains_tail (held_name s o) (map (held_name s) xs) (Some x) (named_held s xs p x t e)
 ]
 
 module _ (h : HeapState) (w : World) (l : LiesIn h w) (zones : ZoneSet) where
   -- zones by places and by names
-  zones_named : (p : Place) (x : Name) → name_at h.shape p ≡ Some x → IsWithin h.shape zones p → IsInZones w.graph (zones_in zones) x
-  zones_named p x e within = in_zone w.graph (zones_in zones) x (zone_of h.shape p) (zone_named h l.graph w.graph p x l.shown l.part.part e) ((zones_in-has zones (zone_of h.shape p)).1 within)
+  zones_named : (p : Place) (x : Name) → name_at h.shape p ≡ Some x → IsWithin h.shape zones p
+      → IsInZones w.graph (zones_in zones) x
+  zones_named p x e within =
+      in_zone w.graph (zones_in zones) x (zone_of h.shape p) (zone_named h l.graph w.graph p x l.shown l.part.part e)
+      ((zones_in-has zones (zone_of h.shape p)).1 within)
 
-  pub zones_placed : (p : Place) (x : Name) → name_at h.shape p ≡ Some x → IsInZones w.graph (zones_in zones) x → IsWithin h.shape zones p
+  pub zones_placed : (p : Place) (x : Name) → name_at h.shape p ≡ Some x → IsInZones w.graph (zones_in zones) x
+      → IsWithin h.shape zones p
   zones_placed p x e within =
       let z = zone_in w.graph (zones_in zones) x within in
-      let same : z.0 ≡ zone_of h.shape p = some_one _ _ (sym z.1 ∙ zone_named h l.graph w.graph p x l.shown l.part.part e) in
+      let same : z.0 ≡ zone_of h.shape p =
+      some_one _ _ (sym z.1 ∙ zone_named h l.graph w.graph p x l.shown l.part.part e) in
       subst (λ n. HasZone zones.bits n) same ((zones_in-has zones z.0).0 z.2)
 
-  regs_named : (p : Place) (x : Name) → name_at h.shape p ≡ Some x → Contains h.shape.regs (Some p) ↔ Contains w.graph.registers (Some x)
+  regs_named : (p : Place) (x : Name) → name_at h.shape p ≡ Some x → Contains h.shape.regs (Some p)
+      ↔ Contains w.graph.registers (Some x)
   regs_named p x e = (
-    λ c. subst (λ xs. Contains xs (Some x)) (sym l.shown.registers_are ∙ l.part.part.registers) (named_held h.shape h.shape.regs p x c e),
-    λ c. (let r = held_named h.shape h.shape.regs x (subst (λ xs. Contains xs (Some x)) (sym (sym l.shown.registers_are ∙ l.part.part.registers)) c) in subst (λ q. Contains h.shape.regs (Some q)) (l.shown.apart r.0 p x r.2 e) r.1),
+    λ c. subst (λ xs. Contains xs (Some x)) (sym l.shown.registers_are ∙ l.part.part.registers)
+        (named_held h.shape h.shape.regs p x c e),
+    λ c. (let r = held_named h.shape h.shape.regs x
+        (subst (λ xs. Contains xs (Some x)) (sym (sym l.shown.registers_are ∙ l.part.part.registers)) c) in
+        subst (λ q. Contains h.shape.regs (Some q)) (l.shown.apart r.0 p x r.2 e) r.1),
   )
 
-  slots_named : (p : Place) (x : Name) → name_at h.shape p ≡ Some x → Contains h.shape.slots (Some p) ↔ Contains w.graph.slots (Some x)
+  slots_named : (p : Place) (x : Name) → name_at h.shape p ≡ Some x → Contains h.shape.slots (Some p)
+      ↔ Contains w.graph.slots (Some x)
   slots_named p x e = (
-    λ c. subst (λ xs. Contains xs (Some x)) (sym l.shown.slots_are ∙ l.part.part.slots) (named_held h.shape h.shape.slots p x c e),
-    λ c. (let r = held_named h.shape h.shape.slots x (subst (λ xs. Contains xs (Some x)) (sym (sym l.shown.slots_are ∙ l.part.part.slots)) c) in subst (λ q. Contains h.shape.slots (Some q)) (l.shown.apart r.0 p x r.2 e) r.1),
+    λ c. subst (λ xs. Contains xs (Some x)) (sym l.shown.slots_are ∙ l.part.part.slots)
+        (named_held h.shape h.shape.slots p x c e),
+    λ c. (let r = held_named h.shape h.shape.slots x
+        (subst (λ xs. Contains xs (Some x)) (sym (sym l.shown.slots_are ∙ l.part.part.slots)) c) in
+        subst (λ q. Contains h.shape.slots (Some q)) (l.shown.apart r.0 p x r.2 e) r.1),
   )
 
   reg_present : (x : Name) → Contains w.graph.registers (Some x) → IsPresentName w x
-  reg_present x c = let r = held_named h.shape h.shape.regs x (subst (λ xs. Contains xs (Some x)) (sym (sym l.shown.registers_are ∙ l.part.part.registers)) c) in present_named h w l r.0 x r.2
+  reg_present x c = let r =
+      held_named h.shape h.shape.regs x
+      (subst (λ xs. Contains xs (Some x)) (sym (sym l.shown.registers_are ∙ l.part.part.registers)) c) in
+      present_named h w l r.0 x r.2
 
   slot_present : (x : Name) → Contains w.graph.slots (Some x) → IsPresentName w x
-  slot_present x c = let r = held_named h.shape h.shape.slots x (subst (λ xs. Contains xs (Some x)) (sym (sym l.shown.slots_are ∙ l.part.part.slots)) c) in present_named h w l r.0 x r.2
+  slot_present x c = let r =
+      held_named h.shape h.shape.slots x
+      (subst (λ xs. Contains xs (Some x)) (sym (sym l.shown.slots_are ∙ l.part.part.slots)) c) in
+      present_named h w l r.0 x r.2
 
 -- zones change their states alone
-stands_still : (s : Shape) (states : List State) (g : GraphState) (p : Place) (cell : CellState) (x : Name) → StandsFor s g p cell x → StandsFor (record s { states = states }) g p cell x
+stands_still : (s : Shape) (states : List State) (g : GraphState) (p : Place) (cell : CellState) (x : Name)
+    → StandsFor s g p cell x → StandsFor (record s { states = states }) g p cell x
 stands_still s states g p cell (Cell n) stands = stands
-stands_still s states g p cell (Wrap c t) stands = record { target = stands.target; kind_is = stands.kind_is; comp_is = stands.comp_is; fields_is = stands.fields_is; target_is = stands.target_is; known = stands.known; mapped = stands.mapped }
+stands_still s states g p cell (Wrap c t) stands =
+    record {
+      target = stands.target;
+      kind_is = stands.kind_is;
+      comp_is = stands.comp_is;
+      fields_is = stands.fields_is;
+      target_is = stands.target_is;
+      known = stands.known;
+      mapped = stands.mapped;
+    }
 
 -- where the closures of a collection start, by places
 abbrev IsBlackStart : HeapState → ZoneSet → Place → Type 0
 IsBlackStart h zones x = Contains h.shape.regs (Some x) ⊎ ((IsWithin h.shape zones x → ⊥) × IsBlack h x)
 
 abbrev IsLiveRoot : HeapState → ZoneSet → Place → Type 0
-IsLiveRoot h zones x = IsBlackStart h zones x ⊎ (Contains h.shape.slots (Some x) ⊎ (IsPresent h.shape x × (IsWithin h.shape zones x → ⊥)))
+IsLiveRoot h zones x = IsBlackStart h zones x
+    ⊎ (Contains h.shape.slots (Some x) ⊎ (IsPresent h.shape x × (IsWithin h.shape zones x → ⊥)))
 
-module _ (h : HeapState) (old : Piles) (w v : World) (zones : ZoneSet) (k : HeapState) (stack : Piles) (lists : Incoming) (inv : MarkingInvariant h old) (b : BeginsMarking h zones k stack lists) (settled : (x : Place) → is_marking h.shape x ≡ false) (none_out : (a : ℕ) → out_of h.shape a ≡ None) (l : LiesIn h w) (ok : IsValid w) (black : AreBlack h w) (bg : HasBegun w (zones_in zones) v) where
+module _ (h : HeapState) (old : Piles) (w v : World) (zones : ZoneSet) (k : HeapState) (stack : Piles)
+    (lists : Incoming) (inv : MarkingInvariant h old) (b : BeginsMarking h zones k stack lists) (settled : (x : Place)
+    → is_marking h.shape x ≡ false) (none_out : (a : ℕ) → out_of h.shape a ≡ None) (l : LiesIn h w) (ok : IsValid w)
+    (black : AreBlack h w) (bg : HasBegun w (zones_in zones) v) where
   abbrev c : Collection
   c = bg.collection
 
   none_marking : IsSettled w
-  none_marking = record { none_marking = ap (λ o. marking_of o) bg.idle.none_running; none_preparing = bg.idle.none_preparing }
+  none_marking = record {
+    none_marking = ap (λ o. marking_of o) bg.idle.none_running;
+    none_preparing = bg.idle.none_preparing;
+  }
 
   begun : MarkingInvariant k stack
   begun = marking_begun h old zones k stack lists inv b settled none_out l.shown.registers_held l.shown.slots_held
@@ -301,16 +388,29 @@ module _ (h : HeapState) (old : Piles) (w v : World) (zones : ZoneSet) (k : Heap
   black_starts : AreSameStarts h w (IsBlackStart h zones) (λ x. Has c.black_starts x ⊎ Has c.woken x)
   black_starts = record {
     same = λ p x e. (
-      λ s. inl ((bg.black_starts x).1 (elim s [ inl r ↦ inl ((regs_named h w l zones p x e).0 r) | inr o ↦ inr ((black x p e).1 o.1, λ within. o.0 (zones_placed h w l zones p x e within)) ])),
+      λ s. inl ((bg.black_starts x).1
+          (elim s [
+            | inl r ↦ inl ((regs_named h w l zones p x e).0 r)
+            | inr o
+                ↦ inr ((black x p e).1 o.1, λ within. o.0 (zones_placed h w l zones p x e within))
+          ])),
       λ s. elim s [
         | inr t ↦ absurd (none_woken x t)
-        | inl st ↦ elim ((bg.black_starts x).0 st) [ inl r ↦ inl ((regs_named h w l zones p x e).1 r) | inr o ↦ inr ((λ within. o.1 (zones_named h w l zones p x e within)), (black x p e).0 o.0) ]
+        | inl st ↦ elim ((bg.black_starts x).0 st) [
+          | inl r ↦ inl ((regs_named h w l zones p x e).1 r)
+          | inr o
+              ↦ inr ((λ within. o.1 (zones_named h w l zones p x e within)), (black x p e).0 o.0)
+        ]
       ],
     );
     placed = λ p s. elim s [ inl r ↦ l.shown.registers_held p r | inr o ↦ seen_present p (inr o.1) ];
     named = λ x s. elim s [
       | inr t ↦ absurd (none_woken x t)
-      | inl st ↦ elim ((bg.black_starts x).0 st) [ inl r ↦ reg_present h w l zones x r | inr o ↦ (ok.settled none_marking).present x o.0 ]
+      | inl st ↦ elim ((bg.black_starts x).0 st) [
+        | inl r ↦ reg_present h w l zones x r
+        | inr o
+            ↦ (ok.settled none_marking).present x o.0
+      ]
     ];
   }
 
@@ -327,7 +427,8 @@ module _ (h : HeapState) (old : Piles) (w v : World) (zones : ZoneSet) (k : Heap
         | inl st ↦ elim ((bg.live_starts x).0 st) [
           | inl bs ↦ inl ((black_starts.same p x e).1 (inl bs))
           | inr (inl slot) ↦ inr (inl ((slots_named h w l zones p x e).1 slot))
-          | inr (inr out) ↦ inr (inr (named_present h.shape p x e, λ within. out.1 (zones_named h w l zones p x e within)))
+          | inr (inr out) ↦ inr
+              (inr (named_present h.shape p x e, λ within. out.1 (zones_named h w l zones p x e within)))
         ]
       ],
     );
@@ -356,7 +457,11 @@ module _ (h : HeapState) (old : Piles) (w v : World) (zones : ZoneSet) (k : Heap
   black_reached : (x : Place) → IsBlack k x → Reached h.shape (IsBlackStart h zones) x
   black_reached x bx = elim (in_or_out x) [
     | inr n ↦ out_start x n (sym (b.outside x n) ∙ bx)
-    | inl within ↦ elim ((b.within x within).0 bx) [ inl r ↦ reached.from (inl r) | inr u ↦ reached.along (out_start u.0 u.1 u.2) u.3 ]
+    | inl within ↦ elim ((b.within x within).0 bx) [
+      | inl r ↦ reached.from (inl r)
+      | inr u
+          ↦ reached.along (out_start u.0 u.1 u.2) u.3
+    ]
   ]
 
   start_black : (x : Place) → IsBlackStart h zones x → IsBlack k x
@@ -366,30 +471,43 @@ module _ (h : HeapState) (old : Piles) (w v : World) (zones : ZoneSet) (k : Heap
   ]
 
   to_h : (P : Place → Type 0) {x : Place} → Reached k.shape P x → Reached h.shape P x
-  to_h P r = reached_kept k.shape h.shape P (ap (λ (s : Shape). s.arenas) (sym b.shape_is)) (ap (λ (s : Shape). s.weak) (sym b.shape_is)) r
+  to_h P r = reached_kept k.shape h.shape P (ap (λ (s : Shape). s.arenas) (sym b.shape_is))
+      (ap (λ (s : Shape). s.weak) (sym b.shape_is)) r
 
   to_k : (P : Place → Type 0) {x : Place} → Reached h.shape P x → Reached k.shape P x
-  to_k P r = reached_kept h.shape k.shape P (ap (λ (s : Shape). s.arenas) b.shape_is) (ap (λ (s : Shape). s.weak) b.shape_is) r
+  to_k P r = reached_kept h.shape k.shape P (ap (λ (s : Shape). s.arenas) b.shape_is)
+      (ap (λ (s : Shape). s.weak) b.shape_is) r
 
   name_was : (p : Place) (x : Name) → name_at k.shape p ≡ Some x → name_at h.shape p ≡ Some x
   name_was p x e = subst (λ (s : Shape). name_at s p ≡ Some x) b.shape_is e
 
   black_tied : (p : Place) (x : Name) → name_at h.shape p ≡ Some x → PendingBlack k stack p ↔ BlackClosure c x
   black_tied p x e =
-      let both = same_reached h w l (IsBlackStart h zones) (λ y. Has c.black_starts y ⊎ Has c.woken y) black_starts p x e in (
-        λ pending. subst (λ g. Closure g (λ y. Has c.black_starts y ⊎ Has c.woken y) x) (sym bg.snapshot_is) (both.0 (reached_from h.shape (IsBlack k) (IsBlackStart h zones) black_reached (to_h (IsBlack k) (pending_is_reached k stack begun pending)))),
-        λ r. reached_is_pending k stack begun (to_k (IsBlack k) (reached_more h.shape (IsBlackStart h zones) (IsBlack k) start_black (both.1 (subst (λ g. Closure g (λ y. Has c.black_starts y ⊎ Has c.woken y) x) bg.snapshot_is r)))),
+      let both = same_reached h w l (IsBlackStart h zones) (λ y. Has c.black_starts y ⊎ Has c.woken y) black_starts p x
+      e in (
+        λ pending. subst (λ g. Closure g (λ y. Has c.black_starts y ⊎ Has c.woken y) x) (sym bg.snapshot_is)
+            (both.0 (reached_from h.shape (IsBlack k) (IsBlackStart h zones) black_reached
+            (to_h (IsBlack k) (pending_is_reached k stack begun pending)))),
+        λ r. reached_is_pending k stack begun
+            (to_k (IsBlack k) (reached_more h.shape (IsBlackStart h zones) (IsBlack k) start_black
+            (both.1 (subst (λ g. Closure g (λ y. Has c.black_starts y ⊎ Has c.woken y) x) bg.snapshot_is r)))),
       )
 
   zone_kept : (x : Place) → zone_of k.shape x ≡ zone_of h.shape x
   zone_kept x = ap (λ (s : Shape). zone_of s x) b.shape_is
 
   seen_outside : (x : Place) → IsPresent h.shape x → (IsWithin h.shape zones x → ⊥) → IsSeen k x
-  seen_outside x here n = elim (inv.holds.colours.no_white x here (settled x)) [ inl g ↦ inl (b.outside x n ∙ g) | inr bl ↦ inr (b.outside x n ∙ bl) ]
+  seen_outside x here n =
+      elim (inv.holds.colours.no_white x here (settled x)) [
+        | inl g ↦ inl (b.outside x n ∙ g)
+        | inr bl
+            ↦ inr (b.outside x n ∙ bl)
+      ]
 
   live_reached : (x : Place) → IsLiveStart k x → Reached h.shape (IsLiveRoot h zones) x
   live_reached x s = elim s [
-    | inl (inr bx) ↦ reached_more h.shape (IsBlackStart h zones) (IsLiveRoot h zones) (λ y st. inl st) (black_reached x bx)
+    | inl (inr bx) ↦ reached_more h.shape (IsBlackStart h zones) (IsLiveRoot h zones) (λ y st. inl st)
+        (black_reached x bx)
     | inl (inl g) ↦ elim (in_or_out x) [
       | inl within ↦ absurd (b.none_gray x within g)
       | inr n ↦ reached.from (inr (inr (seen_present x (inl (sym (b.outside x n) ∙ g)), n)))
@@ -404,7 +522,8 @@ module _ (h : HeapState) (old : Piles) (w v : World) (zones : ZoneSet) (k : Heap
   start_live x s = elim s [
     | inl bs ↦ inl (inr (start_black x bs))
     | inr (inl slot) ↦ elim (in_or_out x) [
-      | inl within ↦ inr ((b.buffered (zone_of k.shape x) x).1 (subst (λ z. HasZone zones.bits z) (sym (zone_kept x)) within, inl (sym (zone_kept x), slot)))
+      | inl within ↦ inr ((b.buffered (zone_of k.shape x) x).1
+          (subst (λ z. HasZone zones.bits z) (sym (zone_kept x)) within, inl (sym (zone_kept x), slot)))
       | inr n ↦ inl (seen_outside x (l.shown.slots_held x slot) n)
     ]
     | inr (inr out) ↦ inl (seen_outside x out.0 out.1)
@@ -413,18 +532,28 @@ module _ (h : HeapState) (old : Piles) (w v : World) (zones : ZoneSet) (k : Heap
   live_tied : (p : Place) (x : Name) → name_at h.shape p ≡ Some x → PendingLive k stack lists p ↔ LiveClosure c x
   live_tied p x e =
       let both = same_reached h w l (IsLiveRoot h zones) (λ y. Has c.live_starts y ⊎ Has c.woken y) live_starts p x e in (
-        λ pending. subst (λ g. Closure g (λ y. Has c.live_starts y ⊎ Has c.woken y) x) (sym bg.snapshot_is) (both.0 (reached_from h.shape (IsLiveStart k) (IsLiveRoot h zones) live_reached (to_h (IsLiveStart k) (live_is_reached k stack lists begun gray pending)))),
-        λ r. reached_is_live k stack lists begun gray (to_k (IsLiveStart k) (reached_more h.shape (IsLiveRoot h zones) (IsLiveStart k) start_live (both.1 (subst (λ g. Closure g (λ y. Has c.live_starts y ⊎ Has c.woken y) x) bg.snapshot_is r)))),
+        λ pending. subst (λ g. Closure g (λ y. Has c.live_starts y ⊎ Has c.woken y) x) (sym bg.snapshot_is)
+            (both.0 (reached_from h.shape (IsLiveStart k) (IsLiveRoot h zones) live_reached
+            (to_h (IsLiveStart k) (live_is_reached k stack lists begun gray pending)))),
+        λ r. reached_is_live k stack lists begun gray
+            (to_k (IsLiveStart k)
+            (reached_more h.shape (IsLiveRoot h zones) (IsLiveStart k) start_live
+            (both.1 (subst (λ g. Closure g (λ y. Has c.live_starts y ⊎ Has c.woken y) x) bg.snapshot_is r)))),
       )
 
   pub tied_begun : AreTied k stack lists v bg.collection
   tied_begun = record {
     black = λ x p e. black_tied p x (name_was p x e);
     live = λ x p e. live_tied p x (name_was p x e);
-    present = λ x r. subst (λ (u : World). IsPresentName u x) (sym bg.world_is) (closure_present h w l (IsLiveRoot h zones) (λ y. Has c.live_starts y ⊎ Has c.woken y) live_starts x (subst (λ g. Closure g (λ y. Has c.live_starts y ⊎ Has c.woken y) x) bg.snapshot_is r));
-    edges_then = λ x y here e. inl (subst (λ g. HasNamedEdge g x y) (bg.snapshot_is ∙ ap (λ (u : World). u.graph) (sym bg.world_is)) e);
-    entries_then = λ m q u pm pq e. inl (subst (λ g. value_of g m q ≡ Some u) (bg.snapshot_is ∙ ap (λ (u : World). u.graph) (sym bg.world_is)) e);
-    grown = subst (λ (g : GraphState). length c.snapshot.objects ≤ length g.objects) (bg.snapshot_is ∙ ap (λ (u : World). u.graph) (sym bg.world_is)) (omega arith);
+    present = λ x r. subst (λ (u : World). IsPresentName u x) (sym bg.world_is)
+        (closure_present h w l (IsLiveRoot h zones) (λ y. Has c.live_starts y ⊎ Has c.woken y) live_starts x
+        (subst (λ g. Closure g (λ y. Has c.live_starts y ⊎ Has c.woken y) x) bg.snapshot_is r));
+    edges_then = λ x y here e.
+        inl (subst (λ g. HasNamedEdge g x y) (bg.snapshot_is ∙ ap (λ (u : World). u.graph) (sym bg.world_is)) e);
+    entries_then = λ m q u pm pq e.
+        inl (subst (λ g. value_of g m q ≡ Some u) (bg.snapshot_is ∙ ap (λ (u : World). u.graph) (sym bg.world_is)) e);
+    grown = subst (λ (g : GraphState). length c.snapshot.objects ≤ length g.objects)
+        (bg.snapshot_is ∙ ap (λ (u : World). u.graph) (sym bg.world_is)) (omega arith);
     formed = subst IsWellFormed (sym bg.snapshot_is) ok.graph;
   }
 
@@ -439,7 +568,13 @@ module _ (h : HeapState) (old : Piles) (w v : World) (zones : ZoneSet) (k : Heap
     registers_held = l.shown.registers_held;
     slots_held = l.shown.slots_held;
     fields_held = l.shown.fields_held;
-    cells = λ p cell e. (let shown = l.shown.cells p cell e in record { stands = stands_still h.shape k.shape.states l.graph p cell cell.name shown.stands; sized = shown.sized; few = shown.few; at_home = shown.at_home });
+    cells = λ p cell e. (let shown = l.shown.cells p cell e in
+        record {
+          stands = stands_still h.shape k.shape.states l.graph p cell cell.name shown.stands;
+          sized = shown.sized;
+          few = shown.few;
+          at_home = shown.at_home;
+        });
     apart = l.shown.apart;
     objects_are = l.shown.objects_are;
     wrappers_are = l.shown.wrappers_are;
@@ -457,42 +592,56 @@ module _ (h : HeapState) (old : Piles) (w v : World) (zones : ZoneSet) (k : Heap
     graph = l.graph;
     shown = shows_begun;
     part = record { well_formed = l.part.well_formed; part = l.part.part; here = l.part.here };
-    places_are = subst (λ (s : Shape). (x : Name) (p : Place) → (places.get w.places x ≡ Some p) ↔ (name_at s p ≡ Some x)) (sym b.shape_is) l.places_are;
+    places_are = subst (λ (s : Shape). (x : Name) (p : Place) → (places.get w.places x ≡ Some p)
+        ↔ (name_at s p ≡ Some x)) (sym b.shape_is) l.places_are;
     owner_is = l.owner_is ∙ ap (λ (s : Shape). owners_of s.arenas) (sym b.shape_is);
     weak_is = l.weak_is;
     calm = l.calm;
     out_is = l.out_is ∙ ap (λ (s : Shape). outs_from 0 s.arenas) (sym b.shape_is);
-    white_are = λ x p. (let same = (stay_same h.shape k.shape (ap (λ (s : Shape). s.arenas) b.shape_is) l.whole).unswept p x in (
-      λ has. same.1 ((l.white_are x p).0 has),
-      λ un. (l.white_are x p).1 (same.0 un),
-    ));
+    white_are = λ x p. (let same = (stay_same h.shape k.shape (ap (λ (s : Shape). s.arenas) b.shape_is) l.whole).unswept
+        p x in (
+          λ has. same.1 ((l.white_are x p).0 has),
+          λ un. (l.white_are x p).1 (same.0 un),
+        ));
   }
 
   pub lies_begun : LiesIn k v
-  lies_begun = subst (λ (u : World). LiesIn k u) (ap (λ o. record w { black = v.black; collection = o }) (ap (λ (u : World). u.collection) bg.world_is) ∙ sym bg.world_is) lies_here
+  lies_begun = subst (λ (u : World). LiesIn k u)
+      (ap (λ o. record w { black = v.black; collection = o }) (ap (λ (u : World). u.collection) bg.world_is)
+      ∙ sym bg.world_is) lies_here
 
 -- where no arena is out, none is in flight
 own_bits : (flown : ℕ → Option Bits) (n : ℕ) (xs : List Bits) → ((a : ℕ) → flown a ≡ None) → with_flown flown n xs ≡ xs
 own_bits flown n [] none = refl
-own_bits flown n (x ∷ xs) none = ap (λ o. flown_or o x ∷ with_flown flown (suc n) xs) (none n) ∙ ap (λ ys. x ∷ ys) (own_bits flown (suc n) xs none)
+own_bits flown n (x ∷ xs) none = ap (λ o. flown_or o x ∷ with_flown flown (suc n) xs) (none n)
+    ∙ ap (λ ys. x ∷ ys) (own_bits flown (suc n) xs none)
 
-pub none_flown : (h : HeapState) (flown : ℕ → Option Bits) → Covers h.shape flown → ((a : ℕ) → out_of h.shape a ≡ None) → joined h flown ≡ h
-none_flown h flown covers none = ap (λ ds. record h { colours = ds }) (own_bits flown 0 h.colours (λ a. gone (flown a) (covers a ∙ ap is_some (none a))))
+pub none_flown : (h : HeapState) (flown : ℕ → Option Bits) → Covers h.shape flown → ((a : ℕ) → out_of h.shape a ≡ None)
+    → joined h flown ≡ h
+none_flown h flown covers none =
+    ap (λ ds. record h { colours = ds })
+    (own_bits flown 0 h.colours (λ a. gone (flown a) (covers a ∙ ap is_some (none a))))
   where
     gone : (o : Option Bits) → is_some o ≡ false → o ≡ None
     gone None e = refl
     gone (Some b) e = absurd (cc e)
 
 -- the states of the zones, and the collection that runs
-module _ (h : HeapState) (zones : ZoneSet) (c : CollectorState) (b : BeginsMarking h zones c.heap c.stack c.lists) (states : (z : ℕ) → state_in h.shape z ≡ state.NoGC) (none_out : (a : ℕ) → out_of h.shape a ≡ None) where
+module _ (h : HeapState) (zones : ZoneSet) (c : CollectorState) (b : BeginsMarking h zones c.heap c.stack c.lists)
+    (states : (z : ℕ) → state_in h.shape z ≡ state.NoGC) (none_out : (a : ℕ) → out_of h.shape a ≡ None) where
   abbrev run : RunState
   run = record { zones = zones; formed = false }
 
   none_out_now : (a : ℕ) → out_of c.heap.shape a ≡ None
   none_out_now a = ap (λ (s : Shape). out_of s a) b.shape_is ∙ none_out a
 
-  state_cases : (z : ℕ) → (HasZone zones.bits z × (state_in c.heap.shape z ≡ state.MarkBlackOnly)) ⊎ ((HasZone zones.bits z → ⊥) × (state_in c.heap.shape z ≡ state.NoGC))
-  state_cases z = elim (has_or_not zones.bits z) [ inl has ↦ inl (has, b.states z has) | inr n ↦ inr (n, b.other_states z n ∙ states z) ]
+  state_cases : (z : ℕ) → (HasZone zones.bits z × (state_in c.heap.shape z ≡ state.MarkBlackOnly))
+      ⊎ ((HasZone zones.bits z → ⊥) × (state_in c.heap.shape z ≡ state.NoGC))
+  state_cases z = elim (has_or_not zones.bits z) [
+    | inl has ↦ inl (has, b.states z has)
+    | inr n
+        ↦ inr (n, b.other_states z n ∙ states z)
+  ]
 
   pub states_begun : ((z : ℕ) → HasZone zones.bits z → z < length h.shape.states) → AreInStates c run
   states_begun made = record {
@@ -508,14 +657,21 @@ module _ (h : HeapState) (zones : ZoneSet) (c : CollectorState) (b : BeginsMarki
   pub marking_are_begun : (z : ℕ) → Contains (zones_in zones) z ↔ (is_marking_state (state_in c.heap.shape z) ≡ true)
   marking_are_begun z = (
     λ has. ap is_marking_state (b.states z ((zones_in-has zones z).0 has)),
-    λ e. elim (state_cases z) [ inl m ↦ (zones_in-has zones z).1 m.0 | inr n ↦ absurd (cc (e, ap is_marking_state n.1)) ],
+    λ e. elim (state_cases z) [
+      | inl m ↦ (zones_in-has zones z).1 m.0
+      | inr n
+          ↦ absurd (cc (e, ap is_marking_state n.1))
+    ],
   )
 
   -- but for what was looked at, the collection that has begun runs
-  pub runs_begun : (w v : World) (bg : HasBegun w (zones_in zones) v) → ((z : ℕ) → HasZone zones.bits z → z < length h.shape.states) → AreTied c.heap c.stack c.lists v bg.collection → AreLookedAt c.heap c run v bg.collection → Runs c.heap c v run bg.collection
+  pub runs_begun : (w v : World) (bg : HasBegun w (zones_in zones) v)
+      → ((z : ℕ) → HasZone zones.bits z → z < length h.shape.states) → AreTied c.heap c.stack c.lists v bg.collection
+      → AreLookedAt c.heap c run v bg.collection → Runs c.heap c v run bg.collection
   runs_begun w v bg made tied looked = record {
     zones_are = bg.zones_are;
-    marking_are = λ z. subst (λ zs. Contains zs z ↔ (is_marking_state (state_in c.heap.shape z) ≡ true)) (sym bg.marking_are) (marking_are_begun z);
+    marking_are = λ z. subst (λ zs. Contains zs z ↔ (is_marking_state (state_in c.heap.shape z) ≡ true))
+        (sym bg.marking_are) (marking_are_begun z);
     groups_are = bg.groups_are;
     states = states_begun made;
     tied = λ z marking. tied;
@@ -523,8 +679,19 @@ module _ (h : HeapState) (zones : ZoneSet) (c : CollectorState) (b : BeginsMarki
     late = λ e. absurd (cc e);
   }
 
-pub begins_marking : (h k : HeapState) (old stack : Piles) (lists : Incoming) (zones : ZoneSet) (w : World) → MarkingInvariant h old → BeginsMarking h zones k stack lists → ((x : Place) → is_marking h.shape x ≡ false) → ((a : ℕ) → out_of h.shape a ≡ None) → LiesIn h w → MarkingInvariant k stack × GrayInvariant k stack lists
-begins_marking h k old stack lists zones w inv b settled none_out l = (marking_begun h old zones k stack lists inv b settled none_out l.shown.registers_held l.shown.slots_held, gray_begun h old zones k stack lists inv b settled none_out l.shown.registers_held l.shown.slots_held)
+pub begins_marking : (h k : HeapState) (old stack : Piles) (lists : Incoming) (zones : ZoneSet) (w : World)
+    → MarkingInvariant h old → BeginsMarking h zones k stack lists → ((x : Place) → is_marking h.shape x ≡ false)
+    → ((a : ℕ) → out_of h.shape a ≡ None) → LiesIn h w → MarkingInvariant k stack × GrayInvariant k stack lists
+begins_marking h k old stack lists zones w inv b settled none_out l = (
+  marking_begun h old zones k stack lists inv b settled none_out l.shown.registers_held l.shown.slots_held,
+  gray_begun h old zones k stack lists inv b settled none_out l.shown.registers_held l.shown.slots_held,
+)
 
-pub begins_tied : (h k : HeapState) (old stack : Piles) (lists : Incoming) (zones : ZoneSet) (w v : World) → MarkingInvariant h old → BeginsMarking h zones k stack lists → ((x : Place) → is_marking h.shape x ≡ false) → ((a : ℕ) → out_of h.shape a ≡ None) → LiesIn h w → IsValid w → AreBlack h w → (bg : HasBegun w (zones_in zones) v) → LiesIn k v × AreTied k stack lists v bg.collection
-begins_tied h k old stack lists zones w v inv b settled none_out l ok black bg = (lies_begun h old w v zones k stack lists inv b settled none_out l ok black bg, tied_begun h old w v zones k stack lists inv b settled none_out l ok black bg)
+pub begins_tied : (h k : HeapState) (old stack : Piles) (lists : Incoming) (zones : ZoneSet) (w v : World)
+    → MarkingInvariant h old → BeginsMarking h zones k stack lists → ((x : Place) → is_marking h.shape x ≡ false)
+    → ((a : ℕ) → out_of h.shape a ≡ None) → LiesIn h w → IsValid w → AreBlack h w → (bg : HasBegun w (zones_in zones) v)
+    → LiesIn k v × AreTied k stack lists v bg.collection
+begins_tied h k old stack lists zones w v inv b settled none_out l ok black bg = (
+  lies_begun h old w v zones k stack lists inv b settled none_out l ok black bg,
+  tied_begun h old w v zones k stack lists inv b settled none_out l ok black bg,
+)

@@ -1,5 +1,6 @@
 -- A world in which a collection begins.
-use Rattle.std.proofs.Common.{◌≡◌, ◌≢◌, ◌<◌, ◌⊎◌, ◌↔◌, ◌&&◌, ◌||◌, not, ℕ, Bool, true, false, List, [], ◌∷◌, Option, Some, None, is_some, refl, sym, ap, subst, ◌∙◌, inl, inr, Contains}
+use Rattle.std.proofs.Common.{◌≡◌, ◌≢◌, ◌<◌, ◌⊎◌, ◌↔◌, ◌&&◌, ◌||◌, not, ℕ, Bool, true, false, List, [], ◌∷◌, Option}
+use Rattle.std.proofs.Common.{Some, None, is_some, refl, sym, ap, subst, ◌∙◌, inl, inr, Contains}
 use Rattle.std.specs.FinSet as set
 use Rattle.std.specs.FinMap as places
 use Rattle.std.specs.List.{list_any}
@@ -9,7 +10,8 @@ use Rattle.gz_names.specs.declared.names.Name.{Name}
 use Rattle.colour_defs.specs.Graph.{GraphState, IsInZones, is_in_zones}
 use Rattle.colour_defs.specs.World.{World, Collection, Has, IsIdle, Names, IsPresent, first_preparation, first_tally}
 use Rattle.colour_defs.specs.Lawful.{Begins, BeginsAtOnce, Prepares}
-use Rattle.colour_defs.proofs.Lists.{contains_cases, contains_head, contains_tail, first_of_both, nothing_in_none, second_of_both, both_of}
+use Rattle.colour_defs.proofs.Lists.{contains_cases, contains_head, contains_tail, first_of_both, nothing_in_none}
+use Rattle.colour_defs.proofs.Lists.{second_of_both, both_of}
 use Rattle.colour_defs.proofs.Names.{eq_name-is, eq_name-refl, names_apart}
 use Rattle.slice_driver.proofs.beginning.HasBegun.{HasBegun}
 
@@ -23,7 +25,8 @@ any_has : (xs : List Name) (x : Name) → list_any (eq_by_cmp name_cmp x) xs ≡
 any_has [] x e = absurd (cc e)
 any_has (y ∷ ys) x e = go (λ t. any_has ys x t) (eq_by_cmp name_cmp x y) refl e
   where
-    go : (list_any (eq_by_cmp name_cmp x) ys ≡ true → Contains ys x) → (b : Bool) → eq_by_cmp name_cmp x y ≡ b → (b || list_any (eq_by_cmp name_cmp x) ys) ≡ true → Contains (y ∷ ys) x
+    go : (list_any (eq_by_cmp name_cmp x) ys ≡ true → Contains ys x) → (b : Bool) → eq_by_cmp name_cmp x y ≡ b
+        → (b || list_any (eq_by_cmp name_cmp x) ys) ≡ true → Contains (y ∷ ys) x
     go rest true is e = subst (λ z. Contains (y ∷ ys) z) (sym (eq_name-is x y is)) (contains_head y ys)
     go rest false is e = contains_tail y ys x (rest e)
 
@@ -41,14 +44,18 @@ has_any (y ∷ ys) x c = elim (contains_cases y ys x c) [
 in_names : (xs : List (Option Name)) (x : Name) → Contains (some_names xs) x ↔ Contains xs (Some x)
 unfolding some_names
 in_names [] x = ((λ c. absurd (nothing_in_none x c)), λ c. absurd (nothing_in_none (Some x) c))
-in_names (None ∷ xs) x = ((λ c. contains_tail None xs (Some x) ((in_names xs x).0 c)), λ c. elim (contains_cases None xs (Some x) c) [ inl e ↦ absurd (cc e) | inr t ↦ (in_names xs x).1 t ])
+in_names (None ∷ xs) x = (
+  (λ c. contains_tail None xs (Some x) ((in_names xs x).0 c)),
+  λ c. elim (contains_cases None xs (Some x) c) [ inl e ↦ absurd (cc e) | inr t ↦ (in_names xs x).1 t ],
+)
 in_names (Some y ∷ xs) x = (
   λ c. elim (contains_cases y (some_names xs) x c) [
     | inl e ↦ subst (λ z. Contains (Some y ∷ xs) (Some z)) e (contains_head (Some y) xs)
     | inr t ↦ contains_tail (Some y) xs (Some x) ((in_names xs x).0 t)
   ],
   λ c. elim (contains_cases (Some y) xs (Some x) c) [
-    | inl e ↦ (let same : y ≡ x = cc e in subst (λ z. Contains (y ∷ some_names xs) z) same (contains_head y (some_names xs)))
+    | inl e ↦ (let same : y ≡ x = cc e in
+        subst (λ z. Contains (y ∷ some_names xs) z) same (contains_head y (some_names xs)))
     | inr t ↦ contains_tail y (some_names xs) x ((in_names xs x).1 t)
   ],
 )
@@ -71,11 +78,19 @@ not_true false = ((λ e f. cc f), λ n. refl)
 outside_set : GraphState → List ℕ → Names → Names
 outside_set g zones s = set.retain s (λ x. not (is_in_zones g zones x))
 
-has_outside : (g : GraphState) (zones : List ℕ) (s : Names) (x : Name) → Has (outside_set g zones s) x ↔ (Has s x × (IsInZones g zones x → ⊥))
+has_outside : (g : GraphState) (zones : List ℕ) (s : Names) (x : Name) → Has (outside_set g zones s) x
+    ↔ (Has s x × (IsInZones g zones x → ⊥))
 unfolding outside_set
 has_outside g zones s x =
-    let e : set.contains (set.retain s (λ y. not (is_in_zones g zones y))) x ≡ (set.contains s x && not (is_in_zones g zones x)) = set.contains-retain s (λ y. not (is_in_zones g zones y)) x (λ y t. ap (λ z. not (is_in_zones g zones z)) (sym (names_apart x y t))) in (
-      λ h. (first_of_both (set.contains s x) (not (is_in_zones g zones x)) (sym e ∙ h), (not_true (is_in_zones g zones x)).0 (second_of_both (set.contains s x) (not (is_in_zones g zones x)) (sym e ∙ h))),
+    let e : set.contains (set.retain s (λ y. not (is_in_zones g zones y))) x
+    ≡ (set.contains s x && not (is_in_zones g zones x)) =
+    set.contains-retain s (λ y. not (is_in_zones g zones y)) x
+    (λ y t. ap (λ z. not (is_in_zones g zones z)) (sym (names_apart x y t))) in (
+      λ h. (
+        first_of_both (set.contains s x) (not (is_in_zones g zones x)) (sym e ∙ h),
+        (not_true (is_in_zones g zones x)).0
+            (second_of_both (set.contains s x) (not (is_in_zones g zones x)) (sym e ∙ h)),
+      ),
       λ h. e ∙ both_of (set.contains s x) (not (is_in_zones g zones x)) h.0 ((not_true (is_in_zones g zones x)).1 h.1),
     )
 
@@ -85,7 +100,9 @@ present_set w = set.from_list (places.keys w.places)
 
 has_present : (w : World) (x : Name) → Has (present_set w) x ↔ IsPresent w x
 unfolding present_set
-has_present w x = let e : set.contains (set.from_list {R = name_cmp} (places.keys w.places)) x ≡ is_some (places.get w.places x) = set.contains-from_list names_total (places.keys w.places) x ∙ sym (places.contains_key-keys w.places x) in (λ h. sym e ∙ h, λ h. e ∙ h)
+has_present w x = let e : set.contains (set.from_list {R = name_cmp} (places.keys w.places)) x
+    ≡ is_some (places.get w.places x) = set.contains-from_list names_total (places.keys w.places) x
+    ∙ sym (places.contains_key-keys w.places x) in (λ h. sym e ∙ h, λ h. e ∙ h)
 
 either : (a b : Bool) → (a || b) ≡ true ↔ ((a ≡ true) ⊎ (b ≡ true))
 either true b = ((λ e. inl refl), λ h. refl)
@@ -102,7 +119,8 @@ black_start_set : World → List ℕ → Names
 black_start_set w zones = set.union (held_set w.graph.registers) (outside_set w.graph zones w.black)
 
 live_start_set : World → List ℕ → Names
-live_start_set w zones = set.union (black_start_set w zones) (set.union (held_set w.graph.slots) (outside_set w.graph zones (present_set w)))
+live_start_set w zones =
+    set.union (black_start_set w zones) (set.union (held_set w.graph.slots) (outside_set w.graph zones (present_set w)))
 
 abbrev first_collection : World → List ℕ → Collection
 first_collection w zones = record {
@@ -116,7 +134,8 @@ first_collection w zones = record {
   tally = first_tally w (first_preparation w zones);
 }
 
-has_black_start : (w : World) (zones : List ℕ) (x : Name) → Has (black_start_set w zones) x ↔ (Contains w.graph.registers (Some x) ⊎ (Has w.black x × (IsInZones w.graph zones x → ⊥)))
+has_black_start : (w : World) (zones : List ℕ) (x : Name) → Has (black_start_set w zones) x
+    ↔ (Contains w.graph.registers (Some x) ⊎ (Has w.black x × (IsInZones w.graph zones x → ⊥)))
 unfolding black_start_set
 has_black_start w zones x =
     let u = has_union (held_set w.graph.registers) (outside_set w.graph zones w.black) x in
@@ -126,10 +145,13 @@ has_black_start w zones x =
       λ h. u.1 (elim h [ inl a ↦ inl (r.1 a) | inr b ↦ inr (o.1 b) ]),
     )
 
-has_live_start : (w : World) (zones : List ℕ) (x : Name) → Has (live_start_set w zones) x ↔ (Has (black_start_set w zones) x ⊎ (Contains w.graph.slots (Some x) ⊎ (IsPresent w x × (IsInZones w.graph zones x → ⊥))))
+has_live_start : (w : World) (zones : List ℕ) (x : Name) → Has (live_start_set w zones) x
+    ↔ (Has (black_start_set w zones) x
+    ⊎ (Contains w.graph.slots (Some x) ⊎ (IsPresent w x × (IsInZones w.graph zones x → ⊥))))
 unfolding live_start_set
 has_live_start w zones x =
-    let u = has_union (black_start_set w zones) (set.union (held_set w.graph.slots) (outside_set w.graph zones (present_set w))) x in
+    let u = has_union (black_start_set w zones)
+    (set.union (held_set w.graph.slots) (outside_set w.graph zones (present_set w))) x in
     let t = has_union (held_set w.graph.slots) (outside_set w.graph zones (present_set w)) x in
     let r = has_held w.graph.slots x in
     let o = has_outside w.graph zones (present_set w) x in
@@ -149,9 +171,14 @@ has_live_start w zones x =
 abbrev prepared : World → List ℕ → World
 prepared w zones = record w { black = outside_set w.graph zones w.black; preparing = Some (first_preparation w zones) }
 
-pub begins_in : (w : World) (zones : List ℕ) → IsIdle w → zones ≢ [] → ((z : ℕ) → Contains zones z → z < w.graph.zones) → (v : World) × BeginsAtOnce w zones v
+pub begins_in : (w : World) (zones : List ℕ) → IsIdle w → zones ≢ [] → ((z : ℕ) → Contains zones z → z < w.graph.zones)
+    → (v : World) × BeginsAtOnce w zones v
 begins_in w zones idle some made = (
-  record w { black = outside_set w.graph zones w.black; preparing = None; collection = Some (first_collection w zones) },
+  record w {
+    black = outside_set w.graph zones w.black;
+    preparing = None;
+    collection = Some (first_collection w zones);
+  },
   record {
     between = prepared w zones;
     prepares = record {
@@ -188,27 +215,37 @@ has_begun w zones v b = record {
   idle = b.prepares.idle;
   made = b.prepares.made;
   collection = b.begins.collection;
-  world_is = after ∙ ap (λ p. record w { black = v.black; preparing = p; collection = Some b.begins.collection }) (sym b.prepares.idle.none_preparing);
-  black_are = λ x. (let p = b.prepares.black_are x in (λ h. p.0 (subst (λ s. Has s x) same_black h), λ h. subst (λ s. Has s x) (sym same_black) (p.1 h)));
+  world_is = after ∙ ap (λ p. record w { black = v.black; preparing = p; collection = Some b.begins.collection })
+      (sym b.prepares.idle.none_preparing);
+  black_are = λ x. (let p = b.prepares.black_are x in
+      (λ h. p.0 (subst (λ s. Has s x) same_black h), λ h. subst (λ s. Has s x) (sym same_black) (p.1 h)));
   zones_are = b.begins.zones_are;
   marking_are = b.begins.marking_are;
   snapshot_is = b.begins.snapshot_is ∙ graph_is;
   woken_is = b.begins.woken_is;
   groups_are = b.begins.groups_are;
   black_starts = λ x. (let p = b.prepares.black_are x in (
-    λ h. elim ((b.begins.black_starts x).0 h) [ inl r ↦ inl (subst (λ g. Contains g.registers (Some x)) graph_is r) | inr q ↦ inr (p.0 q) ],
-    λ h. (b.begins.black_starts x).1 (elim h [ inl r ↦ inl (subst (λ g. Contains g.registers (Some x)) (sym graph_is) r) | inr q ↦ inr (p.1 q) ]),
+    λ h. elim ((b.begins.black_starts x).0 h)
+        [ inl r ↦ inl (subst (λ g. Contains g.registers (Some x)) graph_is r) | inr q ↦ inr (p.0 q) ],
+    λ h. (b.begins.black_starts x).1
+        (elim h [ inl r ↦ inl (subst (λ g. Contains g.registers (Some x)) (sym graph_is) r) | inr q ↦ inr (p.1 q) ]),
   ));
   live_starts = λ x. (
     λ h. elim ((b.begins.live_starts x).0 h) [
       | inl s ↦ inl s
       | inr (inl s) ↦ inr (inl (subst (λ g. Contains g.slots (Some x)) graph_is s))
-      | inr (inr q) ↦ inr (inr (subst (λ m. places.contains_key m x ≡ true) places_are q.0, λ i. q.1 (subst (λ g. IsInZones g zones x) (sym graph_is) i)))
+      | inr (inr q) ↦ inr (inr (
+        subst (λ m. places.contains_key m x ≡ true) places_are q.0,
+        λ i. q.1 (subst (λ g. IsInZones g zones x) (sym graph_is) i),
+      ))
     ],
     λ h. (b.begins.live_starts x).1 (elim h [
       | inl s ↦ inl s
       | inr (inl s) ↦ inr (inl (subst (λ g. Contains g.slots (Some x)) (sym graph_is) s))
-      | inr (inr q) ↦ inr (inr (subst (λ m. places.contains_key m x ≡ true) (sym places_are) q.0, λ i. q.1 (subst (λ g. IsInZones g zones x) graph_is i)))
+      | inr (inr q) ↦ inr (inr (
+        subst (λ m. places.contains_key m x ≡ true) (sym places_are) q.0,
+        λ i. q.1 (subst (λ g. IsInZones g zones x) graph_is i),
+      ))
     ]),
   );
 }
@@ -227,6 +264,7 @@ has_begun w zones v b = record {
         ∙ (ap (λ (z : World). record z { preparing = None; collection = Some b.begins.collection }) b.prepares.world_is
         ∙ ap (λ s. record w { black = s; preparing = None; collection = Some b.begins.collection }) (sym same_black))
 
-pub same_collection : (w : World) (zones : List ℕ) (v : World) (b : BeginsAtOnce w zones v) → (has_begun w zones v b).collection ≡ b.begins.collection
+pub same_collection : (w : World) (zones : List ℕ) (v : World) (b : BeginsAtOnce w zones v)
+    → (has_begun w zones v b).collection ≡ b.begins.collection
 unfolding has_begun
 same_collection w zones v b = refl

@@ -1,5 +1,7 @@
 -- The steps by which a collection begins.
-use Rattle.std.proofs.Common.{◌≡◌, ◌≢◌, ◌⊎◌, ◌↔◌, ◌<◌, ℕ, Bool, true, false, List, [], length, Option, Some, None, Contains, IsSome, IsTrue, refl, sym, ap, subst, ◌∙◌, inl, inr, arith, option_map, slice_get}
+use Rattle.std.proofs.Common.{◌≡◌, ◌≢◌, ◌⊎◌, ◌↔◌, ◌<◌, ℕ, Bool, true, false, List, [], length, Option, Some, None}
+use Rattle.std.proofs.Common.{Contains, IsSome, IsTrue, refl, sym, ap, subst, ◌∙◌, inl, inr, arith, option_map}
+use Rattle.std.proofs.Common.{slice_get}
 use Rattle.std.proofs.lemmas.Option.{slice_get-get_or}
 use Rattle.gz_names.specs.Zones.{HasZone, zones_in}
 use Rattle.gz_names.specs.declared.numbers.Place.{Place}
@@ -18,7 +20,8 @@ use Rattle.wrappers.proofs.Finding.{slice_get-read}
 use Rattle.roots.specs.Buffers.{buffer_at}
 use Rattle.colour_defs.specs.World.{World}
 use Rattle.colour_defs.proofs.Lists.{nothing_in_none}
-use Rattle.heap_core.specs.Shape.{Shape, HasEdge, IsPresent, field_at, is_marking_state, is_white, out_in, out_of, state_in, state_or, zone_of}
+use Rattle.heap_core.specs.Shape.{Shape, HasEdge, IsPresent, field_at, is_marking_state, is_white, out_in, out_of}
+use Rattle.heap_core.specs.Shape.{state_in, state_or, zone_of}
 use Rattle.heap_core.specs.Heap.{HeapState, colour_of}
 use Rattle.heap_core.specs.Sweeping.{AreKept, with_clear}
 use Rattle.zone_edges.specs.Groups.{Edge}
@@ -63,7 +66,9 @@ at_rest c d same sound b e f =
 -- where no collection runs
 module _ (c : CollectorState) (w : World) (rep : Represents c flight.none_flown w) (idle_run : c.run ≡ None) where
   pub idle_of : IsIdle c
-  idle_of = subst (λ k. RunsAs (heap_with c flight.none_flown) c w None k) (none_runs c flight.none_flown w idle_run rep) (subst (λ r. RunsAs (heap_with c flight.none_flown) c w r w.collection) idle_run rep.runs)
+  idle_of = subst (λ k. RunsAs (heap_with c flight.none_flown) c w None k)
+      (none_runs c flight.none_flown w idle_run rep)
+      (subst (λ r. RunsAs (heap_with c flight.none_flown) c w r w.collection) idle_run rep.runs)
 
   own : heap_with c flight.none_flown ≡ c.heap
   own = none_flown c.heap flight.none_flown rep.flies.covers idle_of.kept
@@ -81,7 +86,8 @@ module _ (c : CollectorState) (w : World) (rep : Represents c flight.none_flown 
   nothing_buffered z = rep.waits.buffered z (ap is_marking_state (idle_of.states z))
 
   pub none_incoming : (n : ℕ) → waiting_for c.lists n ≡ []
-  none_incoming n = none_member (waiting_for c.lists n) (λ p has. (let at = rep.waits.incoming n p has in cc (ap is_marking_state (idle_of.states at.0), at.2)))
+  none_incoming n = none_member (waiting_for c.lists n)
+      (λ p has. (let at = rep.waits.incoming n p has in cc (ap is_marking_state (idle_of.states at.0), at.2)))
 
   -- no arena is out, so each may be cleared
   pub kept_of : (word : ℕ) → AreKept word c.heap.shape
@@ -91,7 +97,8 @@ module _ (c : CollectorState) (w : World) (rep : Represents c flight.none_flown 
 abbrev pub with_begun : HeapState → ZoneSet → List (List Place) → HeapState
 with_begun h zones buffers = with_clear (record h { buffers = buffers }) zones.bits
 
-module _ (c : CollectorState) (w : World) (rep : Represents c flight.none_flown w) (idle_run : c.run ≡ None) (zones : ZoneSet) (small : (z : ℕ) → bit_at zones.bits z ≡ 1 → z < 64) (buffers : List (List Place)) where
+module _ (c : CollectorState) (w : World) (rep : Represents c flight.none_flown w) (idle_run : c.run ≡ None)
+    (zones : ZoneSet) (small : (z : ℕ) → bit_at zones.bits z ≡ 1 → z < 64) (buffers : List (List Place)) where
   abbrev h : HeapState
   h = c.heap
 
@@ -127,10 +134,12 @@ module _ (c : CollectorState) (w : World) (rep : Represents c flight.none_flown 
 
   -- cells of these zones are white, others as they were
   white_within : (x : Place) → IsWithin h.shape zones x → colour_of clear x ≡ colour.White
-  white_within x within = cleared_white zones.bits h.shape.arenas h.colours x.0 x.1 (has_in_zones zones (zone_of h.shape x) within)
+  white_within x within =
+      cleared_white zones.bits h.shape.arenas h.colours x.0 x.1 (has_in_zones zones (zone_of h.shape x) within)
 
   same_outside : (x : Place) → (IsWithin h.shape zones x → ⊥) → colour_of clear x ≡ colour_of h x
-  same_outside x out = cleared_same zones.bits h.shape.arenas h.colours x.0 x.1 sized (go (in_zones zones.bits (zone_of h.shape x)) refl)
+  same_outside x out = cleared_same zones.bits h.shape.arenas h.colours x.0 x.1 sized
+      (go (in_zones zones.bits (zone_of h.shape x)) refl)
     where
       go : (t : Bool) → in_zones zones.bits (zone_of h.shape x) ≡ t → t ≡ false
       go true e = absurd (out (in_zones_has zones small (zone_of h.shape x) e))
@@ -140,28 +149,36 @@ module _ (c : CollectorState) (w : World) (rep : Represents c flight.none_flown 
   not_black_within x within black = (let white = white_within x within in cc (white, black))
 
   -- what leads into a zone of the set from outside
-  module _ (u x : Place) (out : IsWithin h.shape zones u → ⊥) (within : IsWithin h.shape zones x) (edge : HasEdge h.shape u x) where
+  module _ (u x : Place) (out : IsWithin h.shape zones u → ⊥) (within : IsWithin h.shape zones x)
+      (edge : HasEdge h.shape u x) where
     listed : IsListed h.shape u x
-    listed = crosses h rep.lies.graph u x rep.lies.shown rep.lies.part.well_formed edge (λ e. out (subst (λ z. HasZone zones.bits z) (sym e) within))
+    listed = crosses h rep.lies.graph u x rep.lies.shown rep.lies.part.well_formed edge
+        (λ e. out (subst (λ z. HasZone zones.bits z) (sym e) within))
 
     abbrev index : ℕ
     index = listed.listed.0
 
     at_index : wrapper_at h.shape (zone_of h.shape u) index ≡ Some u
-    at_index = ap (λ o. option_map (λ (e : WrapperKey × Place). e.1) o) (slice_get-read (list_of h.shape.wrappers (zone_of h.shape u)) index (listed.key, u) (listed.key, u) listed.listed.1 listed.listed.2)
+    at_index = ap (λ o. option_map (λ (e : WrapperKey × Place). e.1) o)
+        (slice_get-read (list_of h.shape.wrappers (zone_of h.shape u)) index (listed.key, u) (listed.key, u)
+        listed.listed.1 listed.listed.2)
 
     zone_made : IsSeen h u → zone_of h.shape u < length h.shape.states
     zone_made seen = marks.holds.colours.shape.made u (marks.holds.colours.seen_present u seen)
 
-  module _ (k : HeapState) (q : Piles) (regs : Marks (λ x. Contains h.shape.regs (Some x)) zones clear c.stack k q) (l : HeapState) (r : Piles) (targets : Marks (IsTargetAmong k zones (length k.shape.states)) zones k q l r) where
-    both : Marks (λ x. Contains h.shape.regs (Some x) ⊎ IsTargetAmong k zones (length k.shape.states) x) zones clear c.stack l r
-    both = marks_then (λ x. Contains h.shape.regs (Some x)) (IsTargetAmong k zones (length k.shape.states)) zones clear c.stack k q l r regs targets
+  module _ (k : HeapState) (q : Piles) (regs : Marks (λ x. Contains h.shape.regs (Some x)) zones clear c.stack k q)
+      (l : HeapState) (r : Piles) (targets : Marks (IsTargetAmong k zones (length k.shape.states)) zones k q l r) where
+    both : Marks (λ x. Contains h.shape.regs (Some x) ⊎ IsTargetAmong k zones (length k.shape.states) x) zones clear
+        c.stack l r
+    both = marks_then (λ x. Contains h.shape.regs (Some x)) (IsTargetAmong k zones (length k.shape.states)) zones clear
+        c.stack k q l r regs targets
 
     shape_first : k.shape ≡ h.shape
     shape_first = shape_still (λ x. Contains h.shape.regs (Some x)) zones clear c.stack k q regs
 
     shape_last : l.shape ≡ h.shape
-    shape_last = shape_still (λ x. Contains h.shape.regs (Some x) ⊎ IsTargetAmong k zones (length k.shape.states) x) zones clear c.stack l r both
+    shape_last = shape_still (λ x. Contains h.shape.regs (Some x) ⊎ IsTargetAmong k zones (length k.shape.states) x)
+        zones clear c.stack l r both
 
     colour_first : (u : Place) → (IsWithin h.shape zones u → ⊥) → colour_of k u ≡ colour_of h u
     colour_first u out = regs.outside u out ∙ same_outside u out
@@ -173,9 +190,15 @@ module _ (c : CollectorState) (w : World) (rep : Represents c flight.none_flown 
         let leads = t.3.2 in
         let zone_is : zone_of h.shape u ≡ t.0 = subst (λ (s : Shape). zone_of s u ≡ t.0) shape_first leads.zone_is in
         let out : IsWithin h.shape zones u → ⊥ = λ within. t.2 (subst (λ z. HasZone zones.bits z) zone_is within) in
-        inr (u, out, sym (colour_first u out) ∙ leads.colour_is, (0, omega arith, subst (λ (s : Shape). field_at s u 0 ≡ Some x) shape_first leads.target))
+        inr (
+          u,
+          out,
+          sym (colour_first u out) ∙ leads.colour_is,
+          (0, omega arith, subst (λ (s : Shape). field_at s u 0 ≡ Some x) shape_first leads.target),
+        )
 
-    root_target : (x : Place) → IsWithin h.shape zones x → IsBlackRoot h zones x → Contains h.shape.regs (Some x) ⊎ IsTargetAmong k zones (length k.shape.states) x
+    root_target : (x : Place) → IsWithin h.shape zones x → IsBlackRoot h zones x → Contains h.shape.regs (Some x)
+        ⊎ IsTargetAmong k zones (length k.shape.states) x
     root_target x within (inl held) = inl held
     root_target x within (inr (u, out, black, edge)) =
         let made : zone_of h.shape u < length h.shape.states = zone_made u x out within edge (inr black) in
@@ -187,10 +210,12 @@ module _ (c : CollectorState) (w : World) (rep : Represents c flight.none_flown 
             index u x out within edge,
             u,
             record {
-              stands = subst (λ (s : Shape). wrapper_at s (zone_of h.shape u) (index u x out within edge) ≡ Some u) (sym shape_first) (at_index u x out within edge);
+              stands = subst (λ (s : Shape). wrapper_at s (zone_of h.shape u) (index u x out within edge) ≡ Some u)
+                  (sym shape_first) (at_index u x out within edge);
               zone_is = ap (λ (s : Shape). zone_of s u) shape_first;
               colour_is = colour_first u out ∙ black;
-              target = subst (λ (s : Shape). field_at s u 0 ≡ Some x) (sym shape_first) (listed u x out within edge).target;
+              target = subst (λ (s : Shape). field_at s u 0 ≡ Some x) (sym shape_first)
+                  (listed u x out within edge).target;
             },
           ),
         )
@@ -214,106 +239,126 @@ module _ (c : CollectorState) (w : World) (rep : Represents c flight.none_flown 
     )
 
     -- gray roots
-    module _ (roots : (z : ℕ) (x : Place) → Contains (buffer_at buffers z) x ↔ (Contains (buffer_of h z) x ⊎ (IsInSlot h.shape zones z x ⊎ IsGrayAmong h zones (length h.shape.states) z x))) where
-      gray_root : (z : ℕ) (x : Place) → Contains (buffer_at buffers z) x ↔ IsGrayRoot h zones z x
-      gray_root z x = (
-        (λ on. elim ((roots z x).0 on) [
-          | inl was ↦ absurd (nothing_in_none x (subst (λ xs. Contains xs x) (nothing_buffered c w rep idle_run z) was))
-          | inr (inl slot) ↦ (slot.0, inl (slot.1, slot.2))
-          | inr (inr t) ↦
-              let leads = t.3.1.2 in (
-                t.3.1.0,
-                inr (
-                  (λ within. t.2 (subst (λ y. HasZone zones.bits y) leads.zone_is within)),
-                  leads.colour_is,
-                  t.3.1.1,
-                  (0, omega arith, leads.target),
-                  t.3.1.3,
-                ),
-              )
-        ]),
-        λ root. (roots z x).1 (inr (elim root.1 [
-          | inl slot ↦ inl (root.0, slot.0, slot.1)
-          | inr lead ↦
-              let y = lead.2 in
-              let within : IsWithin h.shape zones y = subst (λ i. HasZone zones.bits i) (sym lead.4) root.0 in
-              inr (
-                zone_of h.shape x,
-                zone_made x y lead.0 within lead.3 (inl lead.1),
-                lead.0,
-                (
-                  index x y lead.0 within lead.3,
-                  (
-                    root.0,
-                    y,
-                    record {
-                      stands = at_index x y lead.0 within lead.3;
-                      zone_is = refl;
-                      colour_is = lead.1;
-                      target = (listed x y lead.0 within lead.3).target;
-                    },
-                    lead.4,
+    module _ (roots : (z : ℕ) (x : Place) → Contains (buffer_at buffers z) x
+        ↔ (Contains (buffer_of h z) x ⊎ (IsInSlot h.shape zones z x ⊎ IsGrayAmong h zones (length h.shape.states) z x)))
+      where
+        gray_root : (z : ℕ) (x : Place) → Contains (buffer_at buffers z) x ↔ IsGrayRoot h zones z x
+        gray_root z x = (
+          (λ on. elim ((roots z x).0 on) [
+            | inl was ↦ absurd (nothing_in_none x (subst (λ xs. Contains xs x) (nothing_buffered c w rep idle_run z) was))
+            | inr (inl slot) ↦ (slot.0, inl (slot.1, slot.2))
+            | inr (inr t) ↦
+                let leads = t.3.1.2 in (
+                  t.3.1.0,
+                  inr (
+                    (λ within. t.2 (subst (λ y. HasZone zones.bits y) leads.zone_is within)),
+                    leads.colour_is,
+                    t.3.1.1,
+                    (0, omega arith, leads.target),
+                    t.3.1.3,
                   ),
-                ),
-              )
-        ])),
-      )
+                )
+          ]),
+          λ root. (roots z x).1 (inr (elim root.1 [
+            | inl slot ↦ inl (root.0, slot.0, slot.1)
+            | inr lead ↦
+                let y = lead.2 in
+                let within : IsWithin h.shape zones y = subst (λ i. HasZone zones.bits i) (sym lead.4) root.0 in
+                inr (
+                  zone_of h.shape x,
+                  zone_made x y lead.0 within lead.3 (inl lead.1),
+                  lead.0,
+                  (
+                    index x y lead.0 within lead.3,
+                    (
+                      root.0,
+                      y,
+                      record {
+                        stands = at_index x y lead.0 within lead.3;
+                        zone_is = refl;
+                        colour_is = lead.1;
+                        target = (listed x y lead.0 within lead.3).target;
+                      },
+                      lead.4,
+                    ),
+                  ),
+                )
+          ])),
+        )
 
-      -- the zones go on to marking
-      module _ (states : List State) (made : (z : ℕ) → HasZone zones.bits z → z < length h.shape.states) (count : length states ≡ length l.shape.states) (on : (z : ℕ) → HasZone zones.bits z → z < length l.shape.states → state_or (slice_get states z) ≡ next_state (state_in l.shape z)) (others : (z : ℕ) → (HasZone zones.bits z → ⊥) → state_or (slice_get states z) ≡ state_in l.shape z) where
-        abbrev begun : HeapState
-        begun = record l { shape = record l.shape { states = states } }
+        -- the zones go on to marking
+        module _ (states : List State) (made : (z : ℕ) → HasZone zones.bits z → z < length h.shape.states)
+            (count : length states ≡ length l.shape.states) (on : (z : ℕ) → HasZone zones.bits z
+            → z < length l.shape.states → state_or (slice_get states z) ≡ next_state (state_in l.shape z))
+            (others : (z : ℕ) → (HasZone zones.bits z → ⊥) → state_or (slice_get states z) ≡ state_in l.shape z) where
+          abbrev begun : HeapState
+          begun = record l { shape = record l.shape { states = states } }
 
-        state_was : (z : ℕ) → state_in l.shape z ≡ state.NoGC
-        state_was z = ap (λ (s : Shape). state_in s z) shape_last ∙ idle.states z
+          state_was : (z : ℕ) → state_in l.shape z ≡ state.NoGC
+          state_was z = ap (λ (s : Shape). state_in s z) shape_last ∙ idle.states z
 
-        pub begins : BeginsMarking h zones begun r c.lists
-        begins = record {
-          shape_is = ap (λ (s : Shape). record s { states = states }) shape_last;
-          made_is = ap (λ (x : HeapState). x.made) both.rest;
-          count = count ∙ ap (λ (s : Shape). length s.states) shape_last;
-          states = λ z has. on z has (subst (λ (s : Shape). z < length s.states) (sym shape_last) (made z has)) ∙ ap next_state (state_was z);
-          other_states = λ z out. others z out ∙ ap (λ (s : Shape). state_in s z) shape_last;
-          sized = both.sized ∙ clear_sized;
-          within = black_root;
-          none_gray = λ x within g. (let white = white_within x within in let was = both.gray x g in cc (white, was));
-          outside = λ x out. both.outside x out ∙ same_outside x out;
-          black_pile = on_pile;
-          gray_pile = both.gray_pile ∙ idle.gray;
-          wake_pile = both.wake_pile ∙ marks.none_woken;
-          room = record { black = both.room.black; wake = both.room.wake; gray = both.room.gray; room = both.room.room };
-          buffered = λ z x. subst (λ (xs : List (List Place)). Contains (buffer_at xs z) x ↔ IsGrayRoot h zones z x) (sym (ap (λ (y : HeapState). y.buffers) both.rest)) (gray_root z x);
-          none_incoming = none_incoming c w rep idle_run;
-          lists_room = (let room = gray.room in omega (arith, both.sized, clear_sized));
-        }
+          pub begins : BeginsMarking h zones begun r c.lists
+          begins = record {
+            shape_is = ap (λ (s : Shape). record s { states = states }) shape_last;
+            made_is = ap (λ (x : HeapState). x.made) both.rest;
+            count = count ∙ ap (λ (s : Shape). length s.states) shape_last;
+            states = λ z has. on z has (subst (λ (s : Shape). z < length s.states) (sym shape_last) (made z has))
+                ∙ ap next_state (state_was z);
+            other_states = λ z out. others z out ∙ ap (λ (s : Shape). state_in s z) shape_last;
+            sized = both.sized ∙ clear_sized;
+            within = black_root;
+            none_gray = λ x within g. (let white = white_within x within in let was = both.gray x g in cc (white, was));
+            outside = λ x out. both.outside x out ∙ same_outside x out;
+            black_pile = on_pile;
+            gray_pile = both.gray_pile ∙ idle.gray;
+            wake_pile = both.wake_pile ∙ marks.none_woken;
+            room = record {
+              black = both.room.black;
+              wake = both.room.wake;
+              gray = both.room.gray;
+              room = both.room.room;
+            };
+            buffered = λ z x. subst (λ (xs : List (List Place)). Contains (buffer_at xs z) x ↔ IsGrayRoot h zones z x)
+                (sym (ap (λ (y : HeapState). y.buffers) both.rest)) (gray_root z x);
+            none_incoming = none_incoming c w rep idle_run;
+            lists_room = (let room = gray.room in omega (arith, both.sized, clear_sized));
+          }
 
 -- what is left of the heap after the bits are cleared
-pub clear_is : (h k l : HeapState) (zones : ZoneSet) → Buffers h zones k → l ≡ with_clear k zones.bits → l ≡ with_begun h zones k.buffers
+pub clear_is : (h k l : HeapState) (zones : ZoneSet) → Buffers h zones k → l ≡ with_clear k zones.bits
+    → l ≡ with_begun h zones k.buffers
 clear_is h k l zones b is = is ∙ ap (λ (x : HeapState). with_clear x zones.bits) b.rest
 
-pub kept_begun : (c : CollectorState) (rest : IsAtRest c) (zones : ZoneSet) (b : HeapState) → Buffers c.heap zones b → AreKept zones.bits b.shape
-kept_begun c rest zones b put = subst (λ (x : HeapState). AreKept zones.bits x.shape) (sym put.rest) (kept_of c rest.world rest.represents rest.idle zones.bits)
+pub kept_begun : (c : CollectorState) (rest : IsAtRest c) (zones : ZoneSet) (b : HeapState) → Buffers c.heap zones b
+    → AreKept zones.bits b.shape
+kept_begun c rest zones b put = subst (λ (x : HeapState). AreKept zones.bits x.shape) (sym put.rest)
+    (kept_of c rest.world rest.represents rest.idle zones.bits)
 
 -- a collector that went through the steps has begun a collection in each world
-module _ (c : CollectorState) (rest : IsAtRest c) (zones : ZoneSet) (small : (z : ℕ) → bit_at zones.bits z ≡ 1 → z < 64) (b : HeapState) (put : Buffers c.heap zones b) (a : HeapState) (cleared : a ≡ with_clear b zones.bits) where
+module _ (c : CollectorState) (rest : IsAtRest c) (zones : ZoneSet) (small : (z : ℕ) → bit_at zones.bits z ≡ 1 → z < 64)
+    (b : HeapState) (put : Buffers c.heap zones b) (a : HeapState) (cleared : a ≡ with_clear b zones.bits) where
   same : a ≡ with_begun c.heap zones b.buffers
   same = clear_is c.heap b a zones put cleared
 
   -- registers hold present cells, as before
   pub held_begun : (x : Place) → Contains a.shape.regs (Some x) → IsPresent a.shape x
-  held_begun x = subst (λ (h : HeapState). Contains h.shape.regs (Some x) → IsPresent h.shape x) (sym same) (rest.represents.lies.shown.registers_held x)
+  held_begun x = subst (λ (h : HeapState). Contains h.shape.regs (Some x) → IsPresent h.shape x) (sym same)
+      (rest.represents.lies.shown.registers_held x)
 
   pub ready_begun : IsReady a c.stack
-  ready_begun = subst (λ (x : HeapState). IsReady x c.stack) (sym same) (ready_clear c rest.world rest.represents rest.idle zones small b.buffers)
+  ready_begun = subst (λ (x : HeapState). IsReady x c.stack) (sym same)
+      (ready_clear c rest.world rest.represents rest.idle zones small b.buffers)
 
   module _ (k : HeapState) (q : Piles) (regs : Marks (λ x. Contains a.shape.regs (Some x)) zones a c.stack k q) where
     pub ready_marked : IsReady k q
     ready_marked = ready_still (λ x. Contains a.shape.regs (Some x)) zones a c.stack k q ready_begun regs
 
     pub wrappers_marked : AreWrappers k.shape
-    wrappers_marked = wrappers_still (λ x. Contains a.shape.regs (Some x)) zones a c.stack k q regs (subst (λ (x : HeapState). AreWrappers x.shape) (sym same) (wrappers_of c rest.world rest.represents rest.idle))
+    wrappers_marked = wrappers_still (λ x. Contains a.shape.regs (Some x)) zones a c.stack k q regs
+        (subst (λ (x : HeapState). AreWrappers x.shape) (sym same) (wrappers_of c rest.world rest.represents rest.idle))
 
-    module _ (l : HeapState) (r : Piles) (targets : Marks (IsTargetAmong k zones (length k.shape.states)) zones k q l r) (made : AreMade c.heap.shape zones) where
+    module _ (l : HeapState) (r : Piles) (targets : Marks (IsTargetAmong k zones (length k.shape.states)) zones k q l r)
+        (made : AreMade c.heap.shape zones) where
       abbrev marked : CollectorState
       marked = record c { heap = l; stack = r }
 
@@ -322,26 +367,39 @@ module _ (c : CollectorState) (rest : IsAtRest c) (zones : ZoneSet) (small : (z 
       made_marked z has =
           let first = shape_still (λ x. Contains a.shape.regs (Some x)) zones a c.stack k q regs in
           let last = shape_still (IsTargetAmong k zones (length k.shape.states)) zones k q l r targets in
-          subst (λ (s : Shape). z < length s.states) (sym (last ∙ first ∙ ap (λ (x : HeapState). x.shape) same)) (made z has)
+          subst (λ (s : Shape). z < length s.states) (sym (last ∙ first ∙ ap (λ (x : HeapState). x.shape) same))
+          (made z has)
 
       -- no arena is out, as before
       pub none_out : (k2 : HeapState) → Advances l zones.bits k2 → (x : ℕ) → out_of k2.shape x ≡ None
       none_out k2 on x =
           let first = shape_still (λ y. Contains a.shape.regs (Some y)) zones a c.stack k q regs in
           let last = shape_still (IsTargetAmong k zones (length k.shape.states)) zones k q l r targets in
-          ap (λ (h : HeapState). out_of h.shape x) on.rest ∙ (ap (λ (s : Shape). out_of s x) (last ∙ first ∙ ap (λ (h : HeapState). h.shape) same) ∙ (idle_of c rest.world rest.represents rest.idle).kept x)
+          ap (λ (h : HeapState). out_of h.shape x) on.rest
+          ∙ (ap (λ (s : Shape). out_of s x) (last ∙ first ∙ ap (λ (h : HeapState). h.shape) same)
+          ∙ (idle_of c rest.world rest.represents rest.idle).kept x)
 
-      module _ (some : zones_in zones ≢ []) (edges : Noted) (are : edges.zones ≡ zones) (none : (x y : ℕ) → Edge edges.sources x y → ⊥) (start : (z : ℕ) → cursor_of edges z ≡ 0) (fresh : edges.stepped.bits ≡ 0) where
+      module _ (some : zones_in zones ≢ []) (edges : Noted) (are : edges.zones ≡ zones)
+          (none : (x y : ℕ) → Edge edges.sources x y → ⊥) (start : (z : ℕ) → cursor_of edges z ≡ 0)
+          (fresh : edges.stepped.bits ≡ 0) where
         abbrev started : CollectorState → CollectorState
         started d = record d { edges = edges; run = Some (record { zones = zones; formed = false }) }
 
-        begins_by : (states : List State) → length states ≡ length l.shape.states → ((z : ℕ) → HasZone zones.bits z → z < length l.shape.states → state_or (slice_get states z) ≡ next_state (state_in l.shape z)) → ((z : ℕ) → (HasZone zones.bits z → ⊥) → state_or (slice_get states z) ≡ state_in l.shape z) → BeginsIn c zones.bits (started (record marked { heap = record l { shape = record l.shape { states = states } } }))
+        begins_by : (states : List State) → length states ≡ length l.shape.states
+            → ((z : ℕ) → HasZone zones.bits z → z < length l.shape.states
+            → state_or (slice_get states z) ≡ next_state (state_in l.shape z))
+            → ((z : ℕ) → (HasZone zones.bits z → ⊥) → state_or (slice_get states z) ≡ state_in l.shape z)
+            → BeginsIn c zones.bits
+            (started (record marked { heap = record l { shape = record l.shape { states = states } } }))
         begins_by states count on others =
-            begins_worlds c (started (record marked { heap = record l { shape = record l.shape { states = states } } })) zones some rest.idle
+            begins_worlds c (started (record marked { heap = record l { shape = record l.shape { states = states } } }))
+            zones some rest.idle
             (begins c rest.world rest.represents rest.idle zones small b.buffers k q
             (subst (λ (x : HeapState). Marks (λ y. Contains x.shape.regs (Some y)) zones x c.stack k q) same regs)
             l r targets put.roots states made count on others)
             made refl are none start fresh
 
-        pub begun_worlds : (k2 : HeapState) → Advances l zones.bits k2 → BeginsIn c zones.bits (started (record marked { heap = k2 }))
-        begun_worlds k2 on = subst (λ (x : HeapState). BeginsIn c zones.bits (started (record marked { heap = x }))) (sym on.rest) (begins_by k2.shape.states on.sized (λ z has _. on.gone_on z has) on.others)
+        pub begun_worlds : (k2 : HeapState) → Advances l zones.bits k2
+            → BeginsIn c zones.bits (started (record marked { heap = k2 }))
+        begun_worlds k2 on = subst (λ (x : HeapState). BeginsIn c zones.bits (started (record marked { heap = x })))
+            (sym on.rest) (begins_by k2.shape.states on.sized (λ z has _. on.gone_on z has) on.others)

@@ -21,4 +21,5 @@ pub record HasBegun (w : World) (zones : List ℕ) (v : World) : Type 0 where
   pub black_starts : (x : Name) → Has collection.black_starts x
       ↔ (Contains w.graph.registers (Some x) ⊎ (Has w.black x × (IsInZones w.graph zones x → ⊥)))
   pub live_starts : (x : Name) → Has collection.live_starts x
-      ↔ (Has collection.black_starts x ⊎ (Contains w.graph.slots (Some x) ⊎ (IsPresent w x × (IsInZones w.graph zones x → ⊥))))
+      ↔ (Has collection.black_starts x
+      ⊎ (Contains w.graph.slots (Some x) ⊎ (IsPresent w x × (IsInZones w.graph zones x → ⊥))))

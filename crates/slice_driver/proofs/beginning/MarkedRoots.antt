@@ -1,5 +1,7 @@
 -- Roots marked one after another.
-use Rattle.std.proofs.Common.{◌≡◌, ◌≢◌, ◌⊎◌, ◌↔◌, ◌<◌, ◌≤◌, ◌+◌, ◌∷◌, [], ℕ, length, length-set, length-append, Option, Some, None, refl, sym, ap, subst, ◌∙◌, inl, inr, arith, Contains, option_map, slice_get, slice_set}
+use Rattle.std.proofs.Common.{◌≡◌, ◌≢◌, ◌⊎◌, ◌↔◌, ◌<◌, ◌≤◌, ◌+◌, ◌∷◌, [], ℕ, length, length-set, length-append, Option}
+use Rattle.std.proofs.Common.{Some, None, refl, sym, ap, subst, ◌∙◌, inl, inr, arith, Contains, option_map, slice_get}
+use Rattle.std.proofs.Common.{slice_set}
 use Rattle.std.proofs.lemmas.Bool.{cases_lt}
 use Rattle.std.proofs.lemmas.Bool.Decides.{eqb_tells}
 use Rattle.std.proofs.lemmas.Option.{slice_get-get_or, slice_get_within}
@@ -25,13 +27,16 @@ use Rattle.barriers.specs.Invariant.{HasRoom}
 use Rattle.heap_core.specs.MarkBits.{SetsBlack}
 use Rattle.barriers.proofs.BlackClosure.{black_or_not}
 use Rattle.barriers.proofs.Places.{same_or_other, same_place}
-use Rattle.barriers.proofs.Slots.{black_now, colour_elsewhere, left_less, not_black_bit, slots_fewer, slots_set, white_no_more}
+use Rattle.barriers.proofs.Slots.{black_now, colour_elsewhere, left_less, not_black_bit, slots_fewer, slots_set}
+use Rattle.barriers.proofs.Slots.{white_no_more}
 use Rattle.slice_driver.specs.Begins.{IsWithin}
-use Rattle.slice_driver.specs.RootMarking.{Blackens, IsHeldBefore, IsNoSource, IsReady, IsTargetAmong, IsTargetBefore, IsTargetOf, Marks}
+use Rattle.slice_driver.specs.RootMarking.{Blackens, IsHeldBefore, IsNoSource, IsReady, IsTargetAmong, IsTargetBefore}
+use Rattle.slice_driver.specs.RootMarking.{IsTargetOf, Marks}
 use Rattle.slice_driver.proofs.abstraction.Named.{some_one}
 
 -- nothing turned black
-pub marks_still : (P : Place → Type 0) (zones : ZoneSet) (h : HeapState) (p : Piles) → HasRoom h p → ((x : Place) → P x → IsWithin h.shape zones x → IsBlack h x) → Marks P zones h p h p
+pub marks_still : (P : Place → Type 0) (zones : ZoneSet) (h : HeapState) (p : Piles) → HasRoom h p
+    → ((x : Place) → P x → IsWithin h.shape zones x → IsBlack h x) → Marks P zones h p h p
 marks_still P zones h p room e = record {
   rest = refl;
   sized = refl;
@@ -46,7 +51,8 @@ marks_still P zones h p room e = record {
 }
 
 -- one condition for another
-pub marks_same : (P Q : Place → Type 0) (zones : ZoneSet) (h : HeapState) (p : Piles) (k : HeapState) (q : Piles) → ((x : Place) → IsWithin h.shape zones x → P x ↔ Q x) → Marks P zones h p k q → Marks Q zones h p k q
+pub marks_same : (P Q : Place → Type 0) (zones : ZoneSet) (h : HeapState) (p : Piles) (k : HeapState) (q : Piles)
+    → ((x : Place) → IsWithin h.shape zones x → P x ↔ Q x) → Marks P zones h p k q → Marks Q zones h p k q
 marks_same P Q zones h p k q e m = record {
   rest = m.rest;
   sized = m.sized;
@@ -64,13 +70,17 @@ marks_same P Q zones h p k q e m = record {
 }
 
 -- what the heap and the piles are by another name
-pub marks_into : (P : Place → Type 0) (zones : ZoneSet) (h : HeapState) (p : Piles) (k l : HeapState) (q r : Piles) → l ≡ k → r ≡ q → Marks P zones h p k q → Marks P zones h p l r
-marks_into P zones h p k l q r heap stack m = subst (λ (x : HeapState). Marks P zones h p x r) (sym heap) (subst (λ (x : Piles). Marks P zones h p k x) (sym stack) m)
+pub marks_into : (P : Place → Type 0) (zones : ZoneSet) (h : HeapState) (p : Piles) (k l : HeapState) (q r : Piles)
+    → l ≡ k → r ≡ q → Marks P zones h p k q → Marks P zones h p l r
+marks_into P zones h p k l q r heap stack m = subst (λ (x : HeapState). Marks P zones h p x r) (sym heap)
+    (subst (λ (x : Piles). Marks P zones h p k x) (sym stack) m)
 
-pub shape_still : (P : Place → Type 0) (zones : ZoneSet) (h : HeapState) (p : Piles) (k : HeapState) (q : Piles) → Marks P zones h p k q → k.shape ≡ h.shape
+pub shape_still : (P : Place → Type 0) (zones : ZoneSet) (h : HeapState) (p : Piles) (k : HeapState) (q : Piles)
+    → Marks P zones h p k q → k.shape ≡ h.shape
 shape_still P zones h p k q m = ap (λ (l : HeapState). l.shape) m.rest
 
-pub ready_still : (P : Place → Type 0) (zones : ZoneSet) (h : HeapState) (p : Piles) (k : HeapState) (q : Piles) → IsReady h p → Marks P zones h p k q → IsReady k q
+pub ready_still : (P : Place → Type 0) (zones : ZoneSet) (h : HeapState) (p : Piles) (k : HeapState) (q : Piles)
+    → IsReady h p → Marks P zones h p k q → IsReady k q
 ready_still P zones h p k q r m =
     let shape = shape_still P zones h p k q m in
     record {
@@ -80,11 +90,14 @@ ready_still P zones h p k q r m =
     }
 
 -- one marking after another
-pub marks_then : (P Q : Place → Type 0) (zones : ZoneSet) (h : HeapState) (p : Piles) (k : HeapState) (q : Piles) (l : HeapState) (r : Piles) → Marks P zones h p k q → Marks Q zones k q l r → Marks (λ x. P x ⊎ Q x) zones h p l r
+pub marks_then : (P Q : Place → Type 0) (zones : ZoneSet) (h : HeapState) (p : Piles) (k : HeapState) (q : Piles)
+    (l : HeapState) (r : Piles) → Marks P zones h p k q → Marks Q zones k q l r → Marks (λ x. P x ⊎ Q x) zones h p l r
 marks_then P Q zones h p k q l r m n =
     let shape = shape_still P zones h p k q m in
-    let into : (x : Place) → IsWithin h.shape zones x → IsWithin k.shape zones x = λ x w. subst (λ (s : Shape). IsWithin s zones x) (sym shape) w in
-    let back : (x : Place) → IsWithin k.shape zones x → IsWithin h.shape zones x = λ x w. subst (λ (s : Shape). IsWithin s zones x) shape w in
+    let into : (x : Place) → IsWithin h.shape zones x → IsWithin k.shape zones x =
+    λ x w. subst (λ (s : Shape). IsWithin s zones x) (sym shape) w in
+    let back : (x : Place) → IsWithin k.shape zones x → IsWithin h.shape zones x =
+    λ x w. subst (λ (s : Shape). IsWithin s zones x) shape w in
     let more : (x : Place) → IsBlack k x → IsBlack l x = λ x b. (n.black x).1 (inl b) in
     let first : (x : Place) → IsBlack h x → IsBlack k x = λ x b. (m.black x).1 (inl b) in
     record {
@@ -125,7 +138,8 @@ marks_then P Q zones h p k q l r m n =
     }
 
 -- one cell turned black
-module _ (h : HeapState) (p : Piles) (x : Place) (zones : ZoneSet) (b d : Bits) (room : HasRoom h p) (at : slice_get h.colours x.0 ≡ Some b) (sets : SetsBlack b x.1 d) (within : IsWithin h.shape zones x) where
+module _ (h : HeapState) (p : Piles) (x : Place) (zones : ZoneSet) (b d : Bits) (room : HasRoom h p)
+    (at : slice_get h.colours x.0 ≡ Some b) (sets : SetsBlack b x.1 d) (within : IsWithin h.shape zones x) where
   abbrev turned : HeapState
   turned = record h { colours = slice_set h.colours x.0 d }
 
@@ -212,11 +226,16 @@ module _ (h : HeapState) (p : Piles) (x : Place) (zones : ZoneSet) (b d : Bits) 
     };
   }
 
-pub marks_black : (h : HeapState) (p : Piles) (x : Place) (zones : ZoneSet) (k : HeapState) (q : Piles) → HasRoom h p → IsWithin h.shape zones x → Blackens h p x k q → Marks (λ y. y ≡ x) zones h p k q
+pub marks_black : (h : HeapState) (p : Piles) (x : Place) (zones : ZoneSet) (k : HeapState) (q : Piles) → HasRoom h p
+    → IsWithin h.shape zones x → Blackens h p x k q → Marks (λ y. y ≡ x) zones h p k q
 marks_black h p x zones k q room within (inl (b, same, still)) =
-    subst (λ k. Marks (λ y. y ≡ x) zones h p k q) (sym same) (subst (λ q. Marks (λ y. y ≡ x) zones h p h q) (sym still) (marks_still (λ y. y ≡ x) zones h p room (λ y e w. subst (λ z. IsBlack h z) (sym e) b)))
+    subst (λ k. Marks (λ y. y ≡ x) zones h p k q) (sym same)
+    (subst (λ q. Marks (λ y. y ≡ x) zones h p h q) (sym still)
+    (marks_still (λ y. y ≡ x) zones h p room (λ y e w. subst (λ z. IsBlack h z) (sym e) b)))
 marks_black h p x zones k q room within (inr (t, still)) =
-    subst (λ k. Marks (λ y. y ≡ x) zones h p k q) (sym t.new_is) (subst (λ q. Marks (λ y. y ≡ x) zones h p (record h { colours = slice_set h.colours x.0 t.after }) q) (sym still) (marks_turned h p x zones t.before t.after room t.found t.sets within))
+    subst (λ k. Marks (λ y. y ≡ x) zones h p k q) (sym t.new_is)
+    (subst (λ q. Marks (λ y. y ≡ x) zones h p (record h { colours = slice_set h.colours x.0 t.after }) q)
+    (sym still) (marks_turned h p x zones t.before t.after room t.found t.sets within))
 
 -- a number below the next
 pub before_or_last : (j i : ℕ) → j < i + 1 → (j < i) ⊎ (j ≡ i)
@@ -227,35 +246,43 @@ module _ (h : HeapState) (zones : ZoneSet) (p : Piles) where
   pub held_first : HasRoom h p → Marks (IsHeldBefore h.shape 0) zones h p h p
   held_first room = marks_still (IsHeldBefore h.shape 0) zones h p room (λ x held w. absurd (omega (arith, held.1)))
 
-  pub held_step : (i : ℕ) (x : Place) (k : HeapState) (q : Piles) (l : HeapState) (r : Piles) → slice_get h.shape.regs i ≡ Some (Some x) → Marks (IsHeldBefore h.shape i) zones h p k q → Marks (λ y. y ≡ x) zones k q l r → Marks (IsHeldBefore h.shape (i + 1)) zones h p l r
-  held_step i x k q l r at m n = marks_same (λ y. IsHeldBefore h.shape i y ⊎ (y ≡ x)) (IsHeldBefore h.shape (i + 1)) zones h p l r (λ y w. (
-    (λ o. elim o [
-      | inl held ↦ (held.0, omega (arith, held.1), held.2)
-      | inr e ↦ (i, omega arith, at ∙ ap (λ (z : Place). Some (Some z)) (sym e))
-    ]),
-    λ held. elim (before_or_last held.0 i held.1) [
-      | inl less ↦ inl (held.0, less, held.2)
-      | inr e ↦ inr (some_one y x (some_one _ _ (sym held.2 ∙ (ap (slice_get h.shape.regs) e ∙ at))))
-    ],
-  )) (marks_then (IsHeldBefore h.shape i) (λ y. y ≡ x) zones h p k q l r m n)
+  pub held_step : (i : ℕ) (x : Place) (k : HeapState) (q : Piles) (l : HeapState) (r : Piles)
+      → slice_get h.shape.regs i ≡ Some (Some x) → Marks (IsHeldBefore h.shape i) zones h p k q
+      → Marks (λ y. y ≡ x) zones k q l r → Marks (IsHeldBefore h.shape (i + 1)) zones h p l r
+  held_step i x k q l r at m n = marks_same (λ y. IsHeldBefore h.shape i y ⊎ (y ≡ x)) (IsHeldBefore h.shape (i + 1))
+      zones h p l r (λ y w. (
+        (λ o. elim o [
+          | inl held ↦ (held.0, omega (arith, held.1), held.2)
+          | inr e ↦ (i, omega arith, at ∙ ap (λ (z : Place). Some (Some z)) (sym e))
+        ]),
+        λ held. elim (before_or_last held.0 i held.1) [
+          | inl less ↦ inl (held.0, less, held.2)
+          | inr e ↦ inr (some_one y x (some_one _ _ (sym held.2 ∙ (ap (slice_get h.shape.regs) e ∙ at))))
+        ],
+      )) (marks_then (IsHeldBefore h.shape i) (λ y. y ≡ x) zones h p k q l r m n)
 
-  pub held_skip : (i : ℕ) (k : HeapState) (q : Piles) → slice_get h.shape.regs i ≡ Some None → Marks (IsHeldBefore h.shape i) zones h p k q → Marks (IsHeldBefore h.shape (i + 1)) zones h p k q
+  pub held_skip : (i : ℕ) (k : HeapState) (q : Piles) → slice_get h.shape.regs i ≡ Some None
+      → Marks (IsHeldBefore h.shape i) zones h p k q → Marks (IsHeldBefore h.shape (i + 1)) zones h p k q
   held_skip i k q at m = marks_same (IsHeldBefore h.shape i) (IsHeldBefore h.shape (i + 1)) zones h p k q (λ y w. (
     (λ held. (held.0, omega (arith, held.1), held.2)),
     λ held. elim (before_or_last held.0 i held.1) [
       | inl less ↦ (held.0, less, held.2)
-      | inr e ↦ absurd (let same : Some y ≡ None = some_one _ _ (sym held.2 ∙ (ap (slice_get h.shape.regs) e ∙ at)) in cc same)
+      | inr e ↦ absurd (let same : Some y ≡ None = some_one _ _ (sym held.2 ∙ (ap (slice_get h.shape.regs) e ∙ at)) in
+          cc same)
     ],
   )) m
 
-  pub held_all : (n : ℕ) (k : HeapState) (q : Piles) → length h.shape.regs ≡ n → Marks (IsHeldBefore h.shape n) zones h p k q → Marks (λ x. Contains h.shape.regs (Some x)) zones h p k q
-  held_all n k q count m = marks_same (IsHeldBefore h.shape n) (λ x. Contains h.shape.regs (Some x)) zones h p k q (λ y w. (
-    (λ held. contains_at h.shape.regs held.0 (Some y) held.2),
-    λ c. (c.0, omega (arith, c.1, count), slice_get-read h.shape.regs c.0 (Some y) (Some y) c.1 c.2),
-  )) m
+  pub held_all : (n : ℕ) (k : HeapState) (q : Piles) → length h.shape.regs ≡ n
+      → Marks (IsHeldBefore h.shape n) zones h p k q → Marks (λ x. Contains h.shape.regs (Some x)) zones h p k q
+  held_all n k q count m = marks_same (IsHeldBefore h.shape n) (λ x. Contains h.shape.regs (Some x)) zones h p k q
+      (λ y w. (
+        (λ held. contains_at h.shape.regs held.0 (Some y) held.2),
+        λ c. (c.0, omega (arith, c.1, count), slice_get-read h.shape.regs c.0 (Some y) (Some y) c.1 c.2),
+      )) m
 
 -- a list that has no element at a number is no longer
-pub below_none : (s : Shape) (zone n i : ℕ) (u : Place) → wrapper_at s zone n ≡ None → wrapper_at s zone i ≡ Some u → i < n
+pub below_none : (s : Shape) (zone n i : ℕ) (u : Place) → wrapper_at s zone n ≡ None → wrapper_at s zone i ≡ Some u
+    → i < n
 below_none s zone n i u none some = elim (cases_lt i n) [
   | inl less ↦ less
   | inr ge ↦
@@ -270,74 +297,118 @@ module _ (h : HeapState) (zones : ZoneSet) (p : Piles) (zone : ℕ) where
   pub target_first : HasRoom h p → Marks (IsTargetBefore h zone 0) zones h p h p
   target_first room = marks_still (IsTargetBefore h zone 0) zones h p room (λ x t w. absurd (omega (arith, t.1)))
 
-  pub target_step : (HasZone zones.bits zone → ⊥) → (i : ℕ) (u : Place) (k : HeapState) (q : Piles) (l : HeapState) (r : Piles) → wrapper_at h.shape zone i ≡ Some u → zone_of h.shape u ≡ zone → Marks (IsTargetBefore h zone i) zones h p k q → Marks (λ x. IsBlack k u × (field_at k.shape u 0 ≡ Some x)) zones k q l r → Marks (IsTargetBefore h zone (i + 1)) zones h p l r
+  pub target_step : (HasZone zones.bits zone → ⊥)
+      → (i : ℕ) (u : Place) (k : HeapState) (q : Piles) (l : HeapState) (r : Piles) → wrapper_at h.shape zone i ≡ Some u
+      → zone_of h.shape u ≡ zone → Marks (IsTargetBefore h zone i) zones h p k q
+      → Marks (λ x. IsBlack k u × (field_at k.shape u 0 ≡ Some x)) zones k q l r
+      → Marks (IsTargetBefore h zone (i + 1)) zones h p l r
   target_step other i u k q l r at in_zone m n =
-      let same : colour_of k u ≡ colour_of h u = m.outside u (λ w. other (subst (λ z. HasZone zones.bits z) in_zone w)) in
+      let same : colour_of k u ≡ colour_of h u = m.outside u (λ w. other (subst (λ z. HasZone zones.bits z) in_zone w))
+      in
       let shape = shape_still (IsTargetBefore h zone i) zones h p k q m in
       let field : field_at k.shape u 0 ≡ field_at h.shape u 0 = ap (λ (s : Shape). field_at s u 0) shape in
-      marks_same (λ x. IsTargetBefore h zone i x ⊎ (IsBlack k u × (field_at k.shape u 0 ≡ Some x))) (IsTargetBefore h zone (i + 1)) zones h p l r (λ x w. (
+      marks_same (λ x. IsTargetBefore h zone i x ⊎ (IsBlack k u × (field_at k.shape u 0 ≡ Some x)))
+      (IsTargetBefore h zone (i + 1)) zones h p l r (λ x w. (
         (λ o. elim o [
           | inl t ↦ (t.0, omega (arith, t.1), t.2, t.3)
-          | inr e ↦ (i, omega arith, u, record { stands = at; zone_is = in_zone; colour_is = sym same ∙ e.0; target = sym field ∙ e.1 })
+          | inr e ↦ (
+            i,
+            omega arith,
+            u,
+            record { stands = at; zone_is = in_zone; colour_is = sym same ∙ e.0; target = sym field ∙ e.1 },
+          )
         ]),
         λ t. elim (before_or_last t.0 i t.1) [
           | inl less ↦ inl (t.0, less, t.2, t.3)
           | inr e ↦
               let is : t.2 ≡ u = some_one t.2 u (sym t.3.stands ∙ (ap (wrapper_at h.shape zone) e ∙ at)) in
-              inr (same ∙ (ap (colour_of h) (sym is) ∙ t.3.colour_is), field ∙ (ap (λ (v : Place). field_at h.shape v 0) (sym is) ∙ t.3.target))
+              inr (
+                same ∙ (ap (colour_of h) (sym is) ∙ t.3.colour_is),
+                field ∙ (ap (λ (v : Place). field_at h.shape v 0) (sym is) ∙ t.3.target),
+              )
         ],
-      )) (marks_then (IsTargetBefore h zone i) (λ x. IsBlack k u × (field_at k.shape u 0 ≡ Some x)) zones h p k q l r m n)
+      )) (marks_then (IsTargetBefore h zone i) (λ x. IsBlack k u × (field_at k.shape u 0 ≡ Some x)) zones h p k q l r m
+      n)
 
-  pub target_all : (n : ℕ) (k : HeapState) (q : Piles) → wrapper_at h.shape zone n ≡ None → Marks (IsTargetBefore h zone n) zones h p k q → Marks (IsTargetOf h zone) zones h p k q
+  pub target_all : (n : ℕ) (k : HeapState) (q : Piles) → wrapper_at h.shape zone n ≡ None
+      → Marks (IsTargetBefore h zone n) zones h p k q → Marks (IsTargetOf h zone) zones h p k q
   target_all n k q none m = marks_same (IsTargetBefore h zone n) (IsTargetOf h zone) zones h p k q (λ x w. (
     (λ t. (t.0, t.2, t.3)),
     λ t. (t.0, below_none h.shape zone n t.0 t.1 none t.2.stands, t.1, t.2),
   )) m
 
 -- what marking left as it was: the wrapper maps hold wrappers, and an entry stands at its number
-module _ (P : Place → Type 0) (zones : ZoneSet) (h : HeapState) (p : Piles) (k : HeapState) (q : Piles) (m : Marks P zones h p k q) where
+module _ (P : Place → Type 0) (zones : ZoneSet) (h : HeapState) (p : Piles) (k : HeapState) (q : Piles)
+    (m : Marks P zones h p k q) where
   pub wrappers_still : AreWrappers h.shape → AreWrappers k.shape
   wrappers_still are = subst AreWrappers (sym (shape_still P zones h p k q m)) are
 
   pub stands_still : (zone i : ℕ) (o : Option Place) → wrapper_at k.shape zone i ≡ o → wrapper_at h.shape zone i ≡ o
   stands_still zone i o at = subst (λ (s : Shape). wrapper_at s zone i ≡ o) (shape_still P zones h p k q m) at
 
-  pub wrapper_still : (zone i : ℕ) (u : Place) → AreWrappers h.shape → AreApart k.shape.wrappers.lists → wrapper_at k.shape zone i ≡ Some u → IsWrapperIn k.shape zone u
+  pub wrapper_still : (zone i : ℕ) (u : Place) → AreWrappers h.shape → AreApart k.shape.wrappers.lists
+      → wrapper_at k.shape zone i ≡ Some u → IsWrapperIn k.shape zone u
   wrapper_still zone i u are apart at = stands_in k.shape zone i u (wrappers_still are) apart at
 
-  pub zone_still : (zone i : ℕ) (u : Place) → AreWrappers h.shape → AreApart k.shape.wrappers.lists → wrapper_at k.shape zone i ≡ Some u → zone_of h.shape u ≡ zone
-  zone_still zone i u are apart at = subst (λ (s : Shape). zone_of s u ≡ zone) (shape_still P zones h p k q m) (wrapper_still zone i u are apart at).zone_is
+  pub zone_still : (zone i : ℕ) (u : Place) → AreWrappers h.shape → AreApart k.shape.wrappers.lists
+      → wrapper_at k.shape zone i ≡ Some u → zone_of h.shape u ≡ zone
+  zone_still zone i u are apart at = subst (λ (s : Shape). zone_of s u ≡ zone) (shape_still P zones h p k q m)
+      (wrapper_still zone i u are apart at).zone_is
 
 -- the zones, one after another
 module _ (h : HeapState) (zones : ZoneSet) (p : Piles) where
   pub among_first : HasRoom h p → Marks (IsTargetAmong h zones 0) zones h p h p
   among_first room = marks_still (IsTargetAmong h zones 0) zones h p room (λ x t w. absurd (omega (arith, t.1)))
 
-  none_from : (i : ℕ) (x : Place) → IsNoSource h.shape zones i → (HasZone zones.bits i → ⊥) → IsWithin h.shape zones x → IsTargetOf h i x → ⊥
+  none_from : (i : ℕ) (x : Place) → IsNoSource h.shape zones i → (HasZone zones.bits i → ⊥) → IsWithin h.shape zones x
+      → IsTargetOf h i x → ⊥
   none_from i x (inl has) other w of = other has
   none_from i x (inr elsewhere) other w of = elsewhere of.0 of.1 x of.2.stands of.2.target w
 
-  pub among_skip : (i : ℕ) (k : HeapState) (q : Piles) → IsNoSource k.shape zones i → Marks (IsTargetAmong h zones i) zones h p k q → Marks (IsTargetAmong h zones (i + 1)) zones h p k q
+  pub among_skip : (i : ℕ) (k : HeapState) (q : Piles) → IsNoSource k.shape zones i
+      → Marks (IsTargetAmong h zones i) zones h p k q → Marks (IsTargetAmong h zones (i + 1)) zones h p k q
   among_skip i k q none m =
-      let none_then : IsNoSource h.shape zones i = subst (λ (s : Shape). IsNoSource s zones i) (shape_still (IsTargetAmong h zones i) zones h p k q m) none in
+      let none_then : IsNoSource h.shape zones i =
+      subst (λ (s : Shape). IsNoSource s zones i) (shape_still (IsTargetAmong h zones i) zones h p k q m) none in
       marks_same (IsTargetAmong h zones i) (IsTargetAmong h zones (i + 1)) zones h p k q (λ x w. (
         (λ t. (t.0, omega (arith, t.1), t.2, t.3)),
         λ t. elim (before_or_last t.0 i t.1) [
           | inl less ↦ (t.0, less, t.2, t.3)
-          | inr e ↦ absurd (none_from i x none_then (subst (λ z. HasZone zones.bits z → ⊥) e t.2) w (subst (λ z. IsTargetOf h z x) e t.3))
+          | inr e ↦ absurd (none_from i x none_then (subst (λ z. HasZone zones.bits z → ⊥) e t.2) w
+              (subst (λ z. IsTargetOf h z x) e t.3))
         ],
       )) m
 
-  pub among_step : (i : ℕ) (k : HeapState) (q : Piles) (l : HeapState) (r : Piles) → (HasZone zones.bits i → ⊥) → Marks (IsTargetAmong h zones i) zones h p k q → Marks (IsTargetOf k i) zones k q l r → Marks (IsTargetAmong h zones (i + 1)) zones h p l r
+  pub among_step : (i : ℕ) (k : HeapState) (q : Piles) (l : HeapState) (r : Piles) → (HasZone zones.bits i → ⊥)
+      → Marks (IsTargetAmong h zones i) zones h p k q → Marks (IsTargetOf k i) zones k q l r
+      → Marks (IsTargetAmong h zones (i + 1)) zones h p l r
   among_step i k q l r other m n =
       let shape = shape_still (IsTargetAmong h zones i) zones h p k q m in
-      let colour_same : (u : Place) → zone_of h.shape u ≡ i → colour_of k u ≡ colour_of h u = λ u e. m.outside u (λ w. other (subst (λ z. HasZone zones.bits z) e w)) in
+      let colour_same : (u : Place) → zone_of h.shape u ≡ i → colour_of k u ≡ colour_of h u =
+      λ u e. m.outside u (λ w. other (subst (λ z. HasZone zones.bits z) e w)) in
       let back : (x : Place) → IsTargetOf k i x → IsTargetOf h i x = λ x t. (
-      let zone_is : zone_of h.shape t.1 ≡ i = subst (λ (s : Shape). zone_of s t.1 ≡ i) shape t.2.zone_is in
-      (t.0, t.1, record { stands = subst (λ (s : Shape). wrapper_at s i t.0 ≡ Some t.1) shape t.2.stands; zone_is = zone_is; colour_is = sym (colour_same t.1 zone_is) ∙ t.2.colour_is; target = subst (λ (s : Shape). field_at s t.1 0 ≡ Some x) shape t.2.target })) in
-      let on : (x : Place) → IsTargetOf h i x → IsTargetOf k i x = λ x t.
-      (t.0, t.1, record { stands = subst (λ (s : Shape). wrapper_at s i t.0 ≡ Some t.1) (sym shape) t.2.stands; zone_is = subst (λ (s : Shape). zone_of s t.1 ≡ i) (sym shape) t.2.zone_is; colour_is = colour_same t.1 t.2.zone_is ∙ t.2.colour_is; target = subst (λ (s : Shape). field_at s t.1 0 ≡ Some x) (sym shape) t.2.target }) in
-      marks_same (λ x. IsTargetAmong h zones i x ⊎ IsTargetOf k i x) (IsTargetAmong h zones (i + 1)) zones h p l r (λ x w. (
+      let zone_is : zone_of h.shape t.1 ≡ i = subst (λ (s : Shape). zone_of s t.1 ≡ i) shape t.2.zone_is in (
+        t.0,
+        t.1,
+        record {
+          stands = subst (λ (s : Shape). wrapper_at s i t.0 ≡ Some t.1) shape t.2.stands;
+          zone_is = zone_is;
+          colour_is = sym (colour_same t.1 zone_is) ∙ t.2.colour_is;
+          target = subst (λ (s : Shape). field_at s t.1 0 ≡ Some x) shape t.2.target;
+        },
+      )) in
+      let on : (x : Place) → IsTargetOf h i x → IsTargetOf k i x = λ x t. (
+        t.0,
+        t.1,
+        record {
+          stands = subst (λ (s : Shape). wrapper_at s i t.0 ≡ Some t.1) (sym shape) t.2.stands;
+          zone_is = subst (λ (s : Shape). zone_of s t.1 ≡ i) (sym shape) t.2.zone_is;
+          colour_is = colour_same t.1 t.2.zone_is ∙ t.2.colour_is;
+          target = subst (λ (s : Shape). field_at s t.1 0 ≡ Some x) (sym shape) t.2.target;
+        },
+      ) in
+      marks_same (λ x. IsTargetAmong h zones i x ⊎ IsTargetOf k i x) (IsTargetAmong h zones (i + 1)) zones h p l r
+      (λ x w. (
         (λ o. elim o [
           | inl t ↦ (t.0, omega (arith, t.1), t.2, t.3)
           | inr t ↦ (i, omega arith, other, back x t)
@@ -349,7 +420,8 @@ module _ (h : HeapState) (zones : ZoneSet) (p : Piles) where
       )) (marks_then (IsTargetAmong h zones i) (IsTargetOf k i) zones h p k q l r m n)
 
 -- a slot that is not black yet has room on the black pile
-pub room_for : (h : HeapState) (p : Piles) (a k : ℕ) (b d : Bits) → HasRoom h p → slice_get h.colours a ≡ Some b → SetsBlack b k d → length p.black < p.room
+pub room_for : (h : HeapState) (p : Piles) (a k : ℕ) (b d : Bits) → HasRoom h p → slice_get h.colours a ≡ Some b
+    → SetsBlack b k d → length p.black < p.room
 room_for h p a k b d room at sets =
     let fewer = slots_set lacks_black h.colours a 1 b d at (left_less b d k sets) in
     omega (arith, room.black, room.room, fewer)

@@ -1,35 +1,7 @@
 -- The call of a command, also between two units of a collection.
-use Rattle.std.proofs.Common.{
-  ◌≡◌,
-  ◌↔◌,
-  ◌≤◌,
-  ◌*◌,
-  ℕ,
-  false,
-  List,
-  length,
-  Option,
-  Some,
-  None,
-  is_some,
-  Result,
-  Ok,
-  Err,
-  IfErr,
-  IfOk,
-  OnErr,
-  Contains,
-  slice_get,
-  if◌then◌else◌,
-  refl,
-  sym,
-  ap,
-  subst,
-  ◌∙◌,
-  inl,
-  inr,
-  IsSome,
-}
+use Rattle.std.proofs.Common.{◌≡◌, ◌↔◌, ◌≤◌, ◌*◌, ℕ, false, List, length, Option, Some, None, is_some, Result, Ok, Err}
+use Rattle.std.proofs.Common.{IfErr, IfOk, OnErr, Contains, slice_get, if◌then◌else◌, refl, sym, ap, subst, ◌∙◌, inl}
+use Rattle.std.proofs.Common.{inr, IsSome}
 use Rattle.std.specs.FinSet as set
 use Rattle.gz_names.specs.declared.names.Name.{Name}
 use Rattle.gz_names.specs.declared.names.Name.TheVariants.{Cell}
@@ -69,17 +41,8 @@ use Rattle.zone_edges.specs.Looks.{WrapsBlack}
 use Rattle.barriers.proofs.BlackClosure.{reached_more}
 use Rattle.slice_driver.specs.Closures.{AreTied}
 use Rattle.slice_driver.specs.Collector.{CollectorState, RunState, heap_with}
-use Rattle.slice_driver.specs.Commands.{
-  ComesTo,
-  DoesInWorld,
-  Exposed,
-  KeepsBlack,
-  SpreadsBlack,
-  StayInPlace,
-  Wakes,
-  waking,
-  with_colours,
-}
+use Rattle.slice_driver.specs.Commands.{ComesTo, DoesInWorld, Exposed, KeepsBlack, SpreadsBlack, StayInPlace, Wakes}
+use Rattle.slice_driver.specs.Commands.{waking, with_colours}
 use Rattle.slice_driver.specs.Represents.{AreInStates, AreLookedAt, IsIdle, Represents, Runs, RunsAs, WaitsWhileMarking}
 use Rattle.slice_driver.specs.Serves.{Serves}
 use Rattle.slice_driver.specs.Steps.{CommandSteps, GoesThrough}
@@ -100,36 +63,39 @@ use Rattle.slice_driver.proofs.abstraction.Moving.{IsHeld, Moves, finds, makes, 
 use Rattle.slice_driver.proofs.commanding.Quiet.{does_quiet}
 use Rattle.slice_driver.proofs.marking.Steps.{settled_states}
 use Rattle.slice_driver.proofs.commanding.Serving.{serves}
-use Rattle.slice_driver.proofs.commanding.Through.{
-  IsReached,
-  represents_exposed,
-  represents_through,
-  represents_widened,
-}
+use Rattle.slice_driver.proofs.commanding.Through.{IsReached, represents_exposed, represents_through}
+use Rattle.slice_driver.proofs.commanding.Through.{represents_widened}
 use Rattle.slice_driver.proofs.abstraction.Tying.{objects_grow, tied_exposed, tied_made, tied_served}
 use Rattle.slice_driver.proofs.commanding.Waking.{does_found, does_made}
 use Rattle.slice_driver.proofs.commanding.Woken.{made_black, one_spreads, others_keep, reached_kept}
 
 -- through a barrier
-pub exposed_is : (o : Option Place) (h : HeapState) (s : Piles) (k : HeapState) (t : Piles) → Exposed o h s k t → (p : Place) → o ≡ Some p → IsBlack k p
+pub exposed_is : (o : Option Place) (h : HeapState) (s : Piles) (k : HeapState) (t : Piles) → Exposed o h s k t
+    → (p : Place) → o ≡ Some p → IsBlack k p
 exposed_is None h s k t e p is = absurd (cc is)
 exposed_is (Some x) h s k t e p is = (let same : x ≡ p = cc is in subst (IsBlack k) same e.black)
 
-pub exposed_keeps : (o : Option Place) (h : HeapState) (s : Piles) (k : HeapState) (t : Piles) → Exposed o h s k t → (p : Place) → IsBlack h p → IsBlack k p
+pub exposed_keeps : (o : Option Place) (h : HeapState) (s : Piles) (k : HeapState) (t : Piles) → Exposed o h s k t
+    → (p : Place) → IsBlack h p → IsBlack k p
 exposed_keeps None h s k t e p b = subst (λ z. IsBlack z p) (sym e.0) b
 exposed_keeps (Some x) h s k t e p b = e.spreads.blackens.kept p b
 
-pub exposed_rest : (o : Option Place) (h k : HeapState) (f e : ℕ → Option Bits) (s t : Piles) → Exposed o (joined h f) s (joined k e) t → k ≡ with_colours h k.colours
+pub exposed_rest : (o : Option Place) (h k : HeapState) (f e : ℕ → Option Bits) (s t : Piles)
+    → Exposed o (joined h f) s (joined k e) t → k ≡ with_colours h k.colours
 exposed_rest None h k f e s t x = ap (λ (z : HeapState). with_colours z k.colours) x.0
 exposed_rest (Some p) h k f e s t x = ap (λ (z : HeapState). with_colours z k.colours) x.spreads.blackens.rest
 
-exposed_gray : (o : Option Place) (h k : HeapState) (s t : Piles) (lists : Incoming) → Exposed o h s k t → GrayInvariant h s lists → GrayInvariant k t lists
-exposed_gray None h k s t lists e g = subst (λ z. GrayInvariant z t lists) (sym e.0) (subst (λ z. GrayInvariant h z lists) (sym e.1) g)
+exposed_gray : (o : Option Place) (h k : HeapState) (s t : Piles) (lists : Incoming) → Exposed o h s k t
+    → GrayInvariant h s lists → GrayInvariant k t lists
+exposed_gray None h k s t lists e g =
+    subst (λ z. GrayInvariant z t lists) (sym e.0) (subst (λ z. GrayInvariant h z lists) (sym e.1) g)
 exposed_gray (Some x) h k s t lists e g = (e.pending_live lists g).0
 
 -- what registers hold and what they reach is reached from black
-held_reached : (c : CollectorState) (flown : ℕ → Option Bits) (w : World) → Represents c flown w → (p : Place) → Reached c.heap.shape (IsHeld c.heap) p → Reached c.heap.shape (IsBlack (heap_with c flown)) p
-held_reached c flown w rep p r = reached_more c.heap.shape (IsHeld c.heap) (IsBlack (heap_with c flown)) (λ y held. rep.marks.holds.colours.regs_black y held) r
+held_reached : (c : CollectorState) (flown : ℕ → Option Bits) (w : World) → Represents c flown w → (p : Place)
+    → Reached c.heap.shape (IsHeld c.heap) p → Reached c.heap.shape (IsBlack (heap_with c flown)) p
+held_reached c flown w rep p r = reached_more c.heap.shape (IsHeld c.heap) (IsBlack (heap_with c flown))
+    (λ y held. rep.marks.holds.colours.regs_black y held) r
 
 none_waking : (o : Option Name) → waking o None ≡ None
 none_waking None = refl
@@ -170,7 +136,8 @@ module _ (b : CollectorState) (flown : ℕ → Option Bits) (command : GraphCmd)
 
   -- nothing was handed out
   pub nothing_handed : given ≡ None → Represents t flying w
-  nothing_handed none = represents_exposed b flown w rep m stack flying covers given exposed (λ p e. absurd (cc (none, e)))
+  nothing_handed none = represents_exposed b flown w rep m stack flying covers given exposed
+      (λ p e. absurd (cc (none, e)))
 
   module _ (able : IsAble b.heap.shape b.heap.made ch) (apart : AreApart b.heap.shape.wrappers.lists)
       (gone_black : (p : Place) → overwritten_by b.heap.shape ch ≡ Some p → IsBlack (heap_with b flown) p)
@@ -196,7 +163,8 @@ module _ (b : CollectorState) (flown : ℕ → Option Bits) (command : GraphCmd)
         wraps_black change
 
     grown : (v : World) → v.graph ≡ (step_of w.graph command).0 → length w.graph.objects ≤ length v.graph.objects
-    grown v e = subst (λ (g : GraphState). length w.graph.objects ≤ length g.objects) (sym e) (objects_grow w.graph command)
+    grown v e = subst (λ (g : GraphState). length w.graph.objects ≤ length g.objects) (sym e)
+        (objects_grow w.graph command)
 
     lies_after : (v : World) → LiesIn new v → LiesIn (joined new flying) v
     lies_after v l = lies_coloured new es v l
@@ -217,7 +185,10 @@ module _ (b : CollectorState) (flown : ℕ → Option Bits) (command : GraphCmd)
     }
 
     -- after the change the collector stands for the world after the command
-    represents_after : (done : DoesInWorld w command answer new es) → ((p : Place) (x : Name) → IsUnswept new.shape p x ↔ IsUnswept m.shape p x) → IsInFlight m.shape flying → WaitsWhileMarking t → RunsAs (joined new flying) d done.after b.run done.after.collection → AnswersIn w command (Ok answer) d flying
+    represents_after : (done : DoesInWorld w command answer new es)
+        → ((p : Place) (x : Name) → IsUnswept new.shape p x ↔ IsUnswept m.shape p x) → IsInFlight m.shape flying
+        → WaitsWhileMarking t → RunsAs (joined new flying) d done.after b.run done.after.collection
+        → AnswersIn w command (Ok answer) d flying
     represents_after done unswept flies waits runs = (
       done.after,
       done.command,
@@ -234,64 +205,108 @@ module _ (b : CollectorState) (flown : ℕ → Option Bits) (command : GraphCmd)
     )
 
     -- the collection that runs, by what it is after the command
-    module _ (done : DoesInWorld w command answer new es) (names : (q : Place) (y : Name) → name_at m.shape q ≡ Some y → name_at new.shape q ≡ Some y) where
-      runs_on : (k kk : Collection) (r : RunState) → kk ≡ record k { tally = kk.tally; woken = kk.woken } → Runs (joined m flying) t w r k → ((z : ℕ) → Contains kk.marking z → AreTied (joined new flying) stack b.lists done.after kk) → Runs (joined new flying) d done.after r kk
+    module _ (done : DoesInWorld w command answer new es) (names : (q : Place) (y : Name) → name_at m.shape q ≡ Some y
+        → name_at new.shape q ≡ Some y) where
+      runs_on : (k kk : Collection) (r : RunState) → kk ≡ record k { tally = kk.tally; woken = kk.woken }
+          → Runs (joined m flying) t w r k
+          → ((z : ℕ) → Contains kk.marking z → AreTied (joined new flying) stack b.lists done.after kk)
+          → Runs (joined new flying) d done.after r kk
       runs_on k kk r same runs tied = runs_served t d flying refl served inv w done.after k kk lies done.lies ok same
           names ch answer
           rep.lies.graph change shows able apart wraps_black covers r runs tied
 
       none_after : w.collection ≡ None → done.after.collection ≡ None
-      none_after none = done.collection_is ∙ (ap (λ k. waking (woken_by w.graph command) (with_counts w.graph command k)) none ∙ none_waking (woken_by w.graph command))
+      none_after none = done.collection_is
+          ∙ (ap (λ k. waking (woken_by w.graph command) (with_counts w.graph command k)) none
+          ∙ none_waking (woken_by w.graph command))
 
       abbrev TiesAfter : Option Name → Collection → Type 0
-      TiesAfter o k = (kk : Collection) → waking o (with_counts w.graph command (Some k)) ≡ Some kk → (kk ≡ record k { tally = kk.tally; woken = kk.woken }) × ((z : ℕ) → Contains kk.marking z → AreTied (joined new flying) stack b.lists done.after kk)
+      TiesAfter o k = (kk : Collection) → waking o (with_counts w.graph command (Some k)) ≡ Some kk
+          → (kk ≡ record k { tally = kk.tally; woken = kk.woken })
+          × ((z : ℕ) → Contains kk.marking z → AreTied (joined new flying) stack b.lists done.after kk)
 
-      runs_all : (o : Option RunState) (u : Option Collection) → w.collection ≡ u → RunsAs (joined m flying) t w o u → ((k : Collection) → w.collection ≡ Some k → TiesAfter (woken_by w.graph command) k) → RunsAs (joined new flying) d done.after o done.after.collection
-      runs_all None None e i ties = subst (λ c. RunsAs (joined new flying) d done.after None c) (sym (none_after e)) (idle_served i)
+      runs_all : (o : Option RunState) (u : Option Collection) → w.collection ≡ u → RunsAs (joined m flying) t w o u
+          → ((k : Collection) → w.collection ≡ Some k → TiesAfter (woken_by w.graph command) k)
+          → RunsAs (joined new flying) d done.after o done.after.collection
+      runs_all None None e i ties = subst (λ c. RunsAs (joined new flying) d done.after None c) (sym (none_after e))
+          (idle_served i)
       runs_all None (Some k) e i ties = absurd i
       runs_all (Some r) None e i ties = absurd i
-      runs_all (Some r) (Some k) e i ties = go (waking (woken_by w.graph command) (with_counts w.graph command (Some k))) refl
+      runs_all (Some r) (Some k) e i ties =
+          go (waking (woken_by w.graph command) (with_counts w.graph command (Some k))) refl
         where
           some : (o : Option Name) → waking o (with_counts w.graph command (Some k)) ≡ None → ⊥
           some None f = cc f
           some (Some x) f = cc f
 
-          go : (c : Option Collection) → waking (woken_by w.graph command) (with_counts w.graph command (Some k)) ≡ c → RunsAs (joined new flying) d done.after (Some r) done.after.collection
+          go : (c : Option Collection) → waking (woken_by w.graph command) (with_counts w.graph command (Some k)) ≡ c
+              → RunsAs (joined new flying) d done.after (Some r) done.after.collection
           go None f = absurd (some (woken_by w.graph command) f)
           go (Some kk) f =
-              let after : done.after.collection ≡ Some kk = done.collection_is ∙ (ap (λ k. waking (woken_by w.graph command) (with_counts w.graph command k)) e ∙ f) in
+              let after : done.after.collection ≡ Some kk = done.collection_is
+              ∙ (ap (λ k. waking (woken_by w.graph command) (with_counts w.graph command k)) e ∙ f) in
               let tied = ties k e kk f in
-              subst (λ c. RunsAs (joined new flying) d done.after (Some r) c) (sym after) (runs_on k kk r tied.0 i tied.1)
+              subst (λ c. RunsAs (joined new flying) d done.after (Some r) c) (sym after)
+              (runs_on k kk r tied.0 i tied.1)
 
     -- nothing moves, and what was handed out was reached from registers
-    answers_quiet : StayInPlace m.shape new.shape → Wakes m command None → new.colours ≡ ds → ((p : Place) → given ≡ Some p → Reached b.heap.shape (IsHeld b.heap) p) → AnswersIn w command (Ok answer) d flying
+    answers_quiet : StayInPlace m.shape new.shape → Wakes m command None → new.colours ≡ ds
+        → ((p : Place) → given ≡ Some p → Reached b.heap.shape (IsHeld b.heap) p)
+        → AnswersIn w command (Ok answer) d flying
     answers_quiet stay wakes colours reach =
-        let there : Represents t flying w = represents_exposed b flown w rep m stack flying covers given exposed (λ p e. held_reached b flown w rep p (reach p e)) in
+        let there : Represents t flying w = represents_exposed b flown w rep m stack flying covers given exposed
+        (λ p e. held_reached b flown w rep p (reach p e)) in
         let same : KeepsBlack (joined m flying) (with_colours new es) = λ p here. (
-          λ black. ap (λ (bs : List Bits). colour_in (slice_get (with_flown flying 0 bs) p.0) p.1) (sym colours) ∙ black,
+          λ black. ap (λ (bs : List Bits). colour_in (slice_get (with_flown flying 0 bs) p.0) p.1) (sym colours)
+              ∙ black,
           λ black. ap (λ (bs : List Bits). colour_in (slice_get (with_flown flying 0 bs) p.0) p.1) colours ∙ black,
         ) in
-        let done : DoesInWorld w command answer new es = does_quiet w m new command answer (with_flown flying 0 ds) es ok lies there.black does stay wakes same in
+        let done : DoesInWorld w command answer new es = does_quiet w m new command answer (with_flown flying 0 ds) es
+        ok lies there.black does stay wakes same in
         let none : woken_by w.graph command ≡ None = woken_in w m command None ok lies wakes in
         represents_after done stay.unswept there.flies there.waits
-        (runs_all done (names_stay m.shape new.shape stay) b.run w.collection refl there.runs (λ k at kk e. ties done none stay k at there.runs kk e))
+        (runs_all done (names_stay m.shape new.shape stay) b.run w.collection refl there.runs
+        (λ k at kk e. ties done none stay k at there.runs kk e))
       where
-        ties : (done : DoesInWorld w command answer new es) → woken_by w.graph command ≡ None → StayInPlace m.shape new.shape → (k : Collection) → w.collection ≡ Some k → RunsAs (joined m flying) t w b.run w.collection → (kk : Collection) → waking (woken_by w.graph command) (with_counts w.graph command (Some k)) ≡ Some kk → (kk ≡ record k { tally = kk.tally; woken = kk.woken }) × ((z : ℕ) → Contains kk.marking z → AreTied (joined new flying) stack b.lists done.after kk)
+        ties : (done : DoesInWorld w command answer new es) → woken_by w.graph command ≡ None
+            → StayInPlace m.shape new.shape → (k : Collection) → w.collection ≡ Some k
+            → RunsAs (joined m flying) t w b.run w.collection → (kk : Collection)
+            → waking (woken_by w.graph command) (with_counts w.graph command (Some k)) ≡ Some kk
+            → (kk ≡ record k { tally = kk.tally; woken = kk.woken })
+            × ((z : ℕ) → Contains kk.marking z → AreTied (joined new flying) stack b.lists done.after kk)
         ties done none stay k at runs kk e =
-            let is : record k { tally = with_woken w.graph k.zones (woken_by w.graph command) (with_put w.graph k.zones command k.tally) } ≡ kk = by (woken_by w.graph command) none e in
-            subst (λ z. (z ≡ record k { tally = z.tally; woken = z.woken }) × ((y : ℕ) → Contains z.marking y → AreTied (joined new flying) stack b.lists done.after z)) is (refl, λ z has. tied_served (joined m flying) (joined new flying) stack b.lists w done.after k _ lies_joined (lies_after done.after done.lies) served stay.names (grown done.after done.graph_is) (was b.run (subst (λ u. RunsAs (joined m flying) t w b.run u) at runs) z has))
+            let is : record k {
+              tally =
+                  with_woken w.graph k.zones (woken_by w.graph command) (with_put w.graph k.zones command k.tally);
+            }
+            ≡ kk = by (woken_by w.graph command) none e in
+            subst (λ z. (z ≡ record k { tally = z.tally; woken = z.woken })
+            × ((y : ℕ) → Contains z.marking y → AreTied (joined new flying) stack b.lists done.after z)) is (
+              refl,
+              λ z has. tied_served (joined m flying) (joined new flying) stack b.lists w done.after k _
+                  lies_joined (lies_after done.after done.lies) served stay.names (grown done.after done.graph_is)
+                  (was b.run (subst (λ u. RunsAs (joined m flying) t w b.run u) at runs) z has),
+            )
           where
-            by : (o : Option Name) → o ≡ None → waking o (with_counts w.graph command (Some k)) ≡ Some kk → record k { tally = with_woken w.graph k.zones (woken_by w.graph command) (with_put w.graph k.zones command k.tally) } ≡ kk
+            by : (o : Option Name) → o ≡ None → waking o (with_counts w.graph command (Some k)) ≡ Some kk
+                → record k {
+                  tally =
+                      with_woken w.graph k.zones (woken_by w.graph command) (with_put w.graph k.zones command k.tally);
+                } ≡ kk
             by None n e = cc e
             by (Some x) n e = absurd (cc n)
 
-            was : (o : Option RunState) → RunsAs (joined m flying) t w o (Some k) → (z : ℕ) → Contains k.marking z → AreTied (joined m flying) stack b.lists w k
+            was : (o : Option RunState) → RunsAs (joined m flying) t w o (Some k) → (z : ℕ) → Contains k.marking z
+                → AreTied (joined m flying) stack b.lists w k
             was None i z has = absurd i
             was (Some r) i z has = i.tied z has
 
     -- a cell that is there is handed out, and wakes
-    answers_found : (p : Place) (x : Name) → name_at m.shape p ≡ Some x → Wakes m command (Some x) → new.colours ≡ ds → new.shape.arenas ≡ m.shape.arenas → new.shape.weak ≡ m.shape.weak → given ≡ Some p → AnswersIn w command (Ok answer) d flying
-    answers_found p x named wakes colours arenas weak is = represents_after done stay.unswept flies waits (runs_found b.run w.collection refl rep.runs)
+    answers_found : (p : Place) (x : Name) → name_at m.shape p ≡ Some x → Wakes m command (Some x) → new.colours ≡ ds
+        → new.shape.arenas ≡ m.shape.arenas → new.shape.weak ≡ m.shape.weak → given ≡ Some p
+        → AnswersIn w command (Ok answer) d flying
+    answers_found p x named wakes colours arenas weak is =
+        represents_after done stay.unswept flies waits (runs_found b.run w.collection refl rep.runs)
       where
         ex : Exposes (heap_with b flown) b.stack p (joined m flying) stack
         ex = subst (λ o. Exposed o (heap_with b flown) b.stack (joined m flying) stack) is exposed
@@ -303,22 +318,28 @@ module _ (b : CollectorState) (flown : ℕ → Option Bits) (command : GraphCmd)
         colour_same q = ap (λ (bs : List Bits). colour_in (slice_get (with_flown flying 0 bs) q.0) q.1) colours
 
         none : IsSettled w → (q : Place) → is_marking b.heap.shape q ≡ false
-        none settled q = settled_states (heap_with b flown) b w b.run w.collection rep.runs settled.none_marking (zone_of b.heap.shape q)
+        none settled q = settled_states (heap_with b flown) b w b.run w.collection rep.runs settled.none_marking
+            (zone_of b.heap.shape q)
 
         spreads : IsSettled w → SpreadsBlack (heap_with b flown) p (with_colours new es)
         spreads settled q = (
-          λ black. reached_kept m.shape new.shape (BlackOr (heap_with b flown) p) arenas weak ((ex.settled (none settled) q).0 (sym (colour_same q) ∙ black)),
-          λ r. colour_same q ∙ (ex.settled (none settled) q).1 (reached_kept new.shape m.shape (BlackOr (heap_with b flown) p) (sym arenas) (sym weak) r),
+          λ black. reached_kept m.shape new.shape (BlackOr (heap_with b flown) p) arenas weak
+              ((ex.settled (none settled) q).0 (sym (colour_same q) ∙ black)),
+          λ r. colour_same q ∙ (ex.settled (none settled) q).1
+              (reached_kept new.shape m.shape (BlackOr (heap_with b flown) p) (sym arenas) (sym weak) r),
         )
 
         done : DoesInWorld w command answer new es
-        done = does_found w m new command answer (with_flown flown 0 b.heap.colours) es p x ok lies rep.marks.holds.colours (λ s. rep.black s) does stay wakes named spreads
+        done = does_found w m new command answer (with_flown flown 0 b.heap.colours) es p x ok lies
+            rep.marks.holds.colours (λ s. rep.black s) does stay wakes named spreads
 
         woken : woken_by w.graph command ≡ Some x
         woken = woken_in w m command (Some x) ok lies wakes
 
         flies : IsInFlight m.shape flying
-        flies = still_flies b.heap m flown flying rep.flies refl rep.marks.holds.colours inv.holds.colours covers (own_sized b.heap flown b.stack rep.marks) (own_sized m flying stack inv) ex.spreads.blackens.kept (λ y. elim (ex.spreads.blackens.others y) [ inl black ↦ inl black | inr e ↦ inr (inl e) ])
+        flies = still_flies b.heap m flown flying rep.flies refl rep.marks.holds.colours inv.holds.colours covers
+            (own_sized b.heap flown b.stack rep.marks) (own_sized m flying stack inv) ex.spreads.blackens.kept
+            (λ y. elim (ex.spreads.blackens.others y) [ inl black ↦ inl black | inr e ↦ inr (inl e) ])
 
         waits : WaitsWhileMarking t
         waits = waits_on b m stack refl refl rep.waits (λ none. ex.spreads.gray_is ∙ rep.waits.gray none)
@@ -327,7 +348,9 @@ module _ (b : CollectorState) (flown : ℕ → Option Bits) (command : GraphCmd)
         idle_found i = record {
           states = i.states;
           kept = i.kept;
-          black = none_member stack.black (λ q has. (let marking = (inv.holds.piles.black q has).1 in cc (marking, ap is_marking_state (i.states (zone_of m.shape q)))));
+          black = none_member stack.black
+              (λ q has. (let marking = (inv.holds.piles.black q has).1 in
+              cc (marking, ap is_marking_state (i.states (zone_of m.shape q)))));
           gray = ex.spreads.gray_is ∙ i.gray;
         }
 
@@ -342,40 +365,78 @@ module _ (b : CollectorState) (flown : ℕ → Option Bits) (command : GraphCmd)
           swept = s.swept;
         }
 
-        looked_found : (r : RunState) (k : Collection) → AreLookedAt (heap_with b flown) b r w k → AreLookedAt (joined m flying) t r w (with_name x k)
+        looked_found : (r : RunState) (k : Collection) → AreLookedAt (heap_with b flown) b r w k
+            → AreLookedAt (joined m flying) t r w (with_name x k)
         looked_found r k l = record {
           zones_are = l.zones_are;
           first = l.first;
-          looked = λ y z across at. elim (l.looked y z (record { edge = across.edge; from = across.from; to = across.to; apart = across.apart }) (record { index = at.index; before = at.before; stands = at.stands })) [ inl black ↦ inl (keeps z black) | inr e ↦ inr e ];
-          left_black = elim l.left_black [ inl fresh ↦ inl fresh | inr black ↦ inr (λ z i y q here past at held. keeps q (black z i y q here past at held)) ];
+          looked = λ y z across at.
+              elim (l.looked y z (record {
+                edge = across.edge;
+                from = across.from;
+                to = across.to;
+                apart = across.apart;
+              }) (record { index = at.index; before = at.before; stands = at.stands }))
+              [ inl black ↦ inl (keeps z black) | inr e ↦ inr e ];
+          left_black = elim l.left_black [
+            | inl fresh ↦ inl fresh
+            | inr black
+                ↦ inr (λ z i y q here past at held. keeps q (black z i y q here past at held))
+          ];
         }
 
-        runs_woken : (r : RunState) (k : Collection) → w.collection ≡ Some k → Runs (heap_with b flown) b w r k → Runs (joined m flying) t w r (with_name x k)
+        runs_woken : (r : RunState) (k : Collection) → w.collection ≡ Some k → Runs (heap_with b flown) b w r k
+            → Runs (joined m flying) t w r (with_name x k)
         runs_woken r k at i = record {
           zones_are = i.zones_are;
           marking_are = i.marking_are;
           groups_are = i.groups_are;
           states = states_found r i.states;
-          tied = λ z has. tied_exposed (heap_with b flown) (joined m flying) b.stack stack b.lists w k p x ok (lies_coloured b.heap (with_flown flown 0 b.heap.colours) w rep.lies) at (λ none. nothing_in_none z (subst (λ zs. Contains zs z) none has)) rep.marks rep.gray ex named (i.tied z has);
+          tied = λ z has. tied_exposed (heap_with b flown) (joined m flying) b.stack stack b.lists w k p x ok
+              (lies_coloured b.heap (with_flown flown 0 b.heap.colours) w rep.lies) at
+              (λ none. nothing_in_none z (subst (λ zs. Contains zs z) none has)) rep.marks rep.gray ex named
+              (i.tied z has);
           early = λ unformed. looked_found r k (i.early unformed);
-          late = λ formed y z across here gone. keeps z (i.late formed y z (record { edge = across.edge; from = across.from; to = across.to; apart = across.apart }) here gone);
+          late = λ formed y z across here gone.
+              keeps z (i.late formed y z
+              (record { edge = across.edge; from = across.from; to = across.to; apart = across.apart }) here gone);
         }
 
-        collection_found : (k kk : Collection) → (o : Option Name) → o ≡ Some x → waking o (with_counts w.graph command (Some k)) ≡ Some kk → record k { tally = with_woken w.graph k.zones (woken_by w.graph command) (with_put w.graph k.zones command k.tally); woken = set.insert k.woken x } ≡ kk
+        collection_found : (k kk : Collection) → (o : Option Name) → o ≡ Some x
+            → waking o (with_counts w.graph command (Some k)) ≡ Some kk
+            → record k {
+              tally =
+                  with_woken w.graph k.zones (woken_by w.graph command) (with_put w.graph k.zones command k.tally);
+              woken = set.insert k.woken x;
+            } ≡ kk
         collection_found k kk None n e = absurd (cc n)
-        collection_found k kk (Some y) n e = some_one _ _ (ap (λ (z : Name). Some (record k { tally = with_woken w.graph k.zones (woken_by w.graph command) (with_put w.graph k.zones command k.tally); woken = set.insert k.woken z })) (sym (some_one _ _ n)) ∙ e)
+        collection_found k kk (Some y) n e =
+            some_one _ _ (ap (λ (z : Name).
+            Some (record k {
+              tally =
+                  with_woken w.graph k.zones (woken_by w.graph command) (with_put w.graph k.zones command k.tally);
+              woken = set.insert k.woken z;
+            })) (sym (some_one _ _ n)) ∙ e)
 
-        runs_found : (o : Option RunState) (u : Option Collection) → w.collection ≡ u → RunsAs (heap_with b flown) b w o u → RunsAs (joined new flying) d done.after o done.after.collection
-        runs_found None None e i = subst (λ c. RunsAs (joined new flying) d done.after None c) (sym (none_after done (names_stay m.shape new.shape stay) e)) (idle_served (idle_found i))
+        runs_found : (o : Option RunState) (u : Option Collection) → w.collection ≡ u
+            → RunsAs (heap_with b flown) b w o u → RunsAs (joined new flying) d done.after o done.after.collection
+        runs_found None None e i = subst (λ c. RunsAs (joined new flying) d done.after None c)
+            (sym (none_after done (names_stay m.shape new.shape stay) e)) (idle_served (idle_found i))
         runs_found None (Some k) e i = absurd i
         runs_found (Some r) None e i = absurd i
         runs_found (Some r) (Some k) e i =
-            let tally : Tally = with_woken w.graph k.zones (woken_by w.graph command) (with_put w.graph k.zones command k.tally) in
+            let tally : Tally = with_woken w.graph k.zones (woken_by w.graph command)
+            (with_put w.graph k.zones command k.tally) in
             let kk : Collection = record k { tally = tally; woken = set.insert k.woken x } in
-            let now : done.after.collection ≡ waking (Some x) (with_counts w.graph command (Some k)) = done.collection_is ∙ (ap (λ u. waking (woken_by w.graph command) (with_counts w.graph command u)) e ∙ ap (λ o. waking o (with_counts w.graph command (Some k))) woken) in
+            let now : done.after.collection ≡ waking (Some x) (with_counts w.graph command (Some k)) =
+            done.collection_is ∙ (ap (λ u. waking (woken_by w.graph command) (with_counts w.graph command u)) e
+            ∙ ap (λ o. waking o (with_counts w.graph command (Some k))) woken) in
             let running = runs_woken r k e i in
             subst (λ c. RunsAs (joined new flying) d done.after (Some r) c) (sym now)
-            (runs_on done (names_stay m.shape new.shape stay) (with_name x k) kk r refl running (λ z has. tied_served (joined m flying) (joined new flying) stack b.lists w done.after (with_name x k) tally lies_joined (lies_after done.after done.lies) served stay.names (grown done.after done.graph_is) (running.tied z has)))
+            (runs_on done (names_stay m.shape new.shape stay) (with_name x k) kk r refl running
+            (λ z has. tied_served (joined m flying) (joined new flying) stack b.lists w done.after (with_name x k)
+            tally lies_joined (lies_after done.after done.lies) served stay.names (grown done.after done.graph_is)
+            (running.tied z has)))
 
     -- a cell is made, and wakes
     answers_made : (zone : ℕ) (p : Place) (x : Name) (cell : CellState) (between : HeapState)
@@ -396,33 +457,59 @@ module _ (b : CollectorState) (flown : ℕ → Option Bits) (command : GraphCmd)
         colour_same q = ap (λ (bs : List Bits). colour_in (slice_get (with_flown flying 0 bs) q.0) q.1) colours
 
         none_marking : IsSettled w → (q : Place) → is_marking new.shape q ≡ false
-        none_marking settled q = ap is_marking_state (served.states (zone_of new.shape q)) ∙ settled_states (joined m flying) t w b.run w.collection there.runs settled.none_marking (zone_of new.shape q)
+        none_marking settled q = ap is_marking_state (served.states (zone_of new.shape q))
+            ∙ settled_states (joined m flying) t w b.run w.collection there.runs settled.none_marking
+            (zone_of new.shape q)
 
         spreads : IsSettled w → SpreadsBlack (joined m flying) p (joined new flying)
-        spreads settled = one_spreads (joined m flying) (joined new flying) stack p served.marks (none_marking settled) (colour_same p ∙ made_black m zone p cell between flying mk covers sized) (λ q n. colour_same q ∙ others_keep m zone p cell between flying mk covers sized q n)
+        spreads settled = one_spreads (joined m flying) (joined new flying) stack p served.marks (none_marking settled)
+            (colour_same p ∙ made_black m zone p cell between flying mk covers sized)
+            (λ q n. colour_same q ∙ others_keep m zone p cell between flying mk covers sized q n)
 
         done : DoesInWorld w command answer new es
-        done = does_made w m new command answer (with_flown flying 0 ds) es p x ok lies there.marks.holds.colours (λ s. there.black s) zone does comes wakes spreads
+        done = does_made w m new command answer (with_flown flying 0 ds) es p x ok lies there.marks.holds.colours
+            (λ s. there.black s) zone does comes wakes spreads
 
         woken : woken_by w.graph command ≡ Some x
         woken = woken_in w m command (Some x) ok lies wakes
 
-        collection_made : (k kk : Collection) → (o : Option Name) → o ≡ Some x → waking o (with_counts w.graph command (Some k)) ≡ Some kk → record k { tally = with_woken w.graph k.zones (woken_by w.graph command) (with_put w.graph k.zones command k.tally); woken = set.insert k.woken x } ≡ kk
+        collection_made : (k kk : Collection) → (o : Option Name) → o ≡ Some x
+            → waking o (with_counts w.graph command (Some k)) ≡ Some kk
+            → record k {
+              tally =
+                  with_woken w.graph k.zones (woken_by w.graph command) (with_put w.graph k.zones command k.tally);
+              woken = set.insert k.woken x;
+            } ≡ kk
         collection_made k kk None n e = absurd (cc n)
-        collection_made k kk (Some y) n e = some_one _ _ (ap (λ (z : Name). Some (record k { tally = with_woken w.graph k.zones (woken_by w.graph command) (with_put w.graph k.zones command k.tally); woken = set.insert k.woken z })) (sym (some_one _ _ n)) ∙ e)
+        collection_made k kk (Some y) n e =
+            some_one _ _ (ap (λ (z : Name).
+            Some (record k {
+              tally =
+                  with_woken w.graph k.zones (woken_by w.graph command) (with_put w.graph k.zones command k.tally);
+              woken = set.insert k.woken z;
+            })) (sym (some_one _ _ n)) ∙ e)
 
-        was : (k : Collection) (o : Option RunState) → RunsAs (joined m flying) t w o (Some k) → (z : ℕ) → Contains k.marking z → AreTied (joined m flying) stack b.lists w k
+        was : (k : Collection) (o : Option RunState) → RunsAs (joined m flying) t w o (Some k) → (z : ℕ)
+            → Contains k.marking z → AreTied (joined m flying) stack b.lists w k
         was k None i z has = absurd i
         was k (Some r) i z has = i.tied z has
 
-        ties : (k : Collection) → w.collection ≡ Some k → (kk : Collection) → waking (woken_by w.graph command) (with_counts w.graph command (Some k)) ≡ Some kk → (kk ≡ record k { tally = kk.tally; woken = kk.woken }) × ((z : ℕ) → Contains kk.marking z → AreTied (joined new flying) stack b.lists done.after kk)
-        ties k at kk e = subst (λ z. (z ≡ record k { tally = z.tally; woken = z.woken }) × ((y : ℕ) → Contains z.marking y → AreTied (joined new flying) stack b.lists done.after z)) (collection_made k kk (woken_by w.graph command) woken e) (
-          refl,
-          λ z has.
-              tied_made (joined m flying) (joined new flying) stack b.lists w done.after k zone p x ok (command_valid w done.after command answer ok done.command) at lies_joined (lies_after done.after done.lies) served comes
-              (λ n is. number n is ∙ (sym lies.shown.objects_made ∙ lies.part.part.made))
-              (was k b.run (subst (λ u. RunsAs (joined m flying) t w b.run u) at there.runs) z has) _ (grown done.after done.graph_is),
-        )
+        ties : (k : Collection) → w.collection ≡ Some k → (kk : Collection)
+            → waking (woken_by w.graph command) (with_counts w.graph command (Some k)) ≡ Some kk
+            → (kk ≡ record k { tally = kk.tally; woken = kk.woken })
+            × ((z : ℕ) → Contains kk.marking z → AreTied (joined new flying) stack b.lists done.after kk)
+        ties k at kk e = subst (λ z. (z ≡ record k { tally = z.tally; woken = z.woken })
+            × ((y : ℕ) → Contains z.marking y → AreTied (joined new flying) stack b.lists done.after z))
+            (collection_made k kk (woken_by w.graph command) woken e) (
+              refl,
+              λ z has.
+                  tied_made (joined m flying) (joined new flying) stack b.lists w done.after k zone p x ok
+                  (command_valid w done.after command answer ok done.command) at lies_joined
+                  (lies_after done.after done.lies) served comes
+                  (λ n is. number n is ∙ (sym lies.shown.objects_made ∙ lies.part.part.made))
+                  (was k b.run (subst (λ u. RunsAs (joined m flying) t w b.run u) at there.runs) z has) _
+                  (grown done.after done.graph_is),
+            )
 
     -- what is freed of the arenas that are out stays the same
     pub words_moves : Moves m command ch new → KeepsFreedWords m.shape new.shape
@@ -450,7 +537,8 @@ module _ (b : CollectorState) (flown : ℕ → Option Bits) (command : GraphCmd)
         answers_made zone p x cell between comes wakes mk colours none_handed number
 
 -- a barrier changes colours alone
-pub through_rest : (o : Option Place) (c : CollectorState) (flown : ℕ → Option Bits) (d : CollectorState) (flying : ℕ → Option Bits) → GoesThrough o c flown d flying → d.heap ≡ with_colours c.heap d.heap.colours
+pub through_rest : (o : Option Place) (c : CollectorState) (flown : ℕ → Option Bits) (d : CollectorState)
+    (flying : ℕ → Option Bits) → GoesThrough o c flown d flying → d.heap ≡ with_colours c.heap d.heap.colours
 through_rest o c flown d flying t = exposed_rest o c.heap d.heap flown flying c.stack d.stack t.exposed
 
 module _ (c : CollectorState) (flown : ℕ → Option Bits) (command : GraphCmd) (result : Result Reply CmdFault)
@@ -629,7 +717,8 @@ module _ (c : CollectorState) (flown : ℕ → Option Bits) (command : GraphCmd)
   answers_command = answered result refl
 
   shape_outs : (a : ℕ) → out_of second.heap.shape a ≡ out_of c.heap.shape a
-  shape_outs a = ap (λ (h : HeapState). out_of h.shape a) second_wide ∙ ap (λ (h : HeapState). out_of h.shape a) wide_heap
+  shape_outs a = ap (λ (h : HeapState). out_of h.shape a) second_wide
+      ∙ ap (λ (h : HeapState). out_of h.shape a) wide_heap
 
   pub outs_command : (a : ℕ) → out_of d.heap.shape a ≡ out_of c.heap.shape a
   outs_command a = go result refl ∙ shape_outs a
@@ -653,5 +742,8 @@ module _ (c : CollectorState) (flown : ℕ → Option Bits) (command : GraphCmd)
           (ap (λ (h : HeapState). h.shape) (subst (λ r. OnErr r (d.heap ≡ steps.third.heap)) is steps.err) ∙
           (ap (λ (h : HeapState). h.shape) third_rest ∙ first_same))
 
-pub serves_command : (c : CollectorState) (flown : ℕ → Option Bits) (command : GraphCmd) (result : Result Reply CmdFault) (d : CollectorState) (flying : ℕ → Option Bits) → CommandSteps c flown command result d flying → DoesCommand c flown command result d flying
-serves_command c flown command result d flying steps w ok rep = answers_command c flown command result d flying steps w ok rep
+pub serves_command : (c : CollectorState) (flown : ℕ → Option Bits) (command : GraphCmd)
+    (result : Result Reply CmdFault) (d : CollectorState) (flying : ℕ → Option Bits)
+    → CommandSteps c flown command result d flying → DoesCommand c flown command result d flying
+serves_command c flown command result d flying steps w ok rep =
+    answers_command c flown command result d flying steps w ok rep

@@ -1,28 +1,6 @@
 -- What a collection that runs keeps over a command's change of the heap, besides the tie to its closures.
-use Rattle.std.proofs.Common.{
-  ◌≡◌,
-  ◌⊎◌,
-  ◌<◌,
-  ◌≤◌,
-  ℕ,
-  if◌then◌else◌,
-  List,
-  length,
-  map,
-  Option,
-  Some,
-  None,
-  IsSome,
-  Contains,
-  inl,
-  inr,
-  refl,
-  sym,
-  ap,
-  subst,
-  ◌∙◌,
-  arith,
-}
+use Rattle.std.proofs.Common.{◌≡◌, ◌⊎◌, ◌<◌, ◌≤◌, ℕ, if◌then◌else◌, List, length, map, Option, Some, None, IsSome}
+use Rattle.std.proofs.Common.{Contains, inl, inr, refl, sym, ap, subst, ◌∙◌, arith}
 use Rattle.gz_names.specs.Zones.{HasZone, zones_in}
 use Rattle.gz_names.specs.declared.names.Name.{Name}
 use Rattle.gz_names.specs.declared.names.Name.TheVariants.{Cell, Wrap}
@@ -54,15 +32,8 @@ use Rattle.zone_edges.proofs.LeftBlack.{left_changes}
 use Rattle.slice_driver.specs.Closures.{AreTied}
 use Rattle.slice_driver.specs.Collector.{CollectorState, RunState}
 use Rattle.slice_driver.specs.Commands.{ComesTo, StayInPlace}
-use Rattle.slice_driver.specs.Represents.{
-  AreBehind,
-  AreInStates,
-  AreLookedAt,
-  IsInGroups,
-  LeadsAcross,
-  Runs,
-  WaitsWhileMarking,
-}
+use Rattle.slice_driver.specs.Represents.{AreBehind, AreInStates, AreLookedAt, IsInGroups, LeadsAcross, Runs}
+use Rattle.slice_driver.specs.Represents.{WaitsWhileMarking}
 use Rattle.slice_driver.specs.Serves.{Serves}
 use Rattle.slice_driver.specs.Worlds.{LiesIn}
 use Rattle.slice_driver.proofs.group_end.Places.{edge_from}
@@ -74,13 +45,15 @@ use Rattle.slice_driver.proofs.abstraction.Named.{named_present, place_of, prese
 pub names_stay : (s t : Shape) → StayInPlace s t → (q : Place) (y : Name) → name_at s q ≡ Some y → name_at t q ≡ Some y
 names_stay s t stay q y e = stay.names q ∙ e
 
-pub names_come : (s t : Shape) (zone : ℕ) (p : Place) (x : Name) → ComesTo s t zone p x → (q : Place) (y : Name) → name_at s q ≡ Some y → name_at t q ≡ Some y
+pub names_come : (s t : Shape) (zone : ℕ) (p : Place) (x : Name) → ComesTo s t zone p x → (q : Place) (y : Name)
+    → name_at s q ≡ Some y → name_at t q ≡ Some y
 names_come s t zone p x come q y e = elim (same-place q p) [
   | inl here ↦ absurd (come.free (subst (λ r. IsPresent s r) here.0 (named_present s q y e)))
   | inr away ↦ come.names q ∙ (ap (λ b. if b then Some x else name_at s q) away.1 ∙ e)
 ]
 
-module _ (c d : CollectorState) (flying : ℕ → Option Bits) (rest : d ≡ record c { heap = d.heap }) (served : Serves (joined c.heap flying) (joined d.heap flying) c.stack c.lists) where
+module _ (c d : CollectorState) (flying : ℕ → Option Bits) (rest : d ≡ record c { heap = d.heap })
+    (served : Serves (joined c.heap flying) (joined d.heap flying) c.stack c.lists) where
   abbrev old : HeapState
   old = joined c.heap flying
 
@@ -93,11 +66,19 @@ module _ (c d : CollectorState) (flying : ℕ → Option Bits) (rest : d ≡ rec
       now : AreInStates (record c { heap = d.heap }) r
       now = record {
         outside = λ z out. served.states z ∙ a.outside z out;
-        made = λ z here. (let was : z < length c.heap.shape.states = a.made z here in let more : length c.heap.shape.states ≤ length d.heap.shape.states = served.made in omega (arith, was, more));
+        made = λ z here. (let was : z < length c.heap.shape.states = a.made z here in
+            let more : length c.heap.shape.states ≤ length d.heap.shape.states = served.made in
+            omega (arith, was, more));
         early = λ unformed z here. served.states z ∙ a.early unformed z here;
-        later = λ formed z here. elim (a.later formed z here) [ inl only ↦ inl (served.states z ∙ only) | inr both ↦ inr (both.0, served.states z ∙ both.1) ];
-        ended = λ formed z here out. elim (a.ended formed z here out) [ inl sweeps ↦ inl (served.states z ∙ sweeps) | inr finished ↦ inr (served.states z ∙ finished) ];
-        sweeping = λ z n p at zone out. (let was : IsSome (out_of c.heap.shape n) = subst (λ (o : Option Bits). IsSome o) (served.outs n) out in
+        later = λ formed z here. elim (a.later formed z here) [
+          | inl only ↦ inl (served.states z ∙ only)
+          | inr both
+              ↦ inr (both.0, served.states z ∙ both.1)
+        ];
+        ended = λ formed z here out. elim (a.ended formed z here out)
+            [ inl sweeps ↦ inl (served.states z ∙ sweeps) | inr finished ↦ inr (served.states z ∙ finished) ];
+        sweeping = λ z n p at zone out.
+            (let was : IsSome (out_of c.heap.shape n) = subst (λ (o : Option Bits). IsSome o) (served.outs n) out in
             let there : IsSome (out_of c.heap.shape p.0) = subst (λ m. IsSome (out_of c.heap.shape m)) (sym at) was in
             served.states z ∙ a.sweeping z n p at (sym (served.zones_out p there) ∙ zone) was);
         swept = λ none z sweeps. a.swept (λ n. sym (served.outs n) ∙ none n) z (sym (served.states z) ∙ sweeps);
@@ -109,8 +90,11 @@ module _ (c d : CollectorState) (flying : ℕ → Option Bits) (rest : d ≡ rec
       now : WaitsWhileMarking (record c { heap = d.heap })
       now = record {
         gray = λ none. a.gray (λ z gray. none z (served.states z ∙ gray));
-        buffered = λ z idle. ap (λ (bs : List (List Place)). buffer_of (record d.heap { buffers = bs }) z) served.buffers ∙ a.buffered z (sym (ap is_marking_state (served.states z)) ∙ idle);
-        incoming = λ n p waits. (let was = a.incoming n p waits in (was.0, served.comps n was.0 was.1, ap is_marking_state (served.states was.0) ∙ was.2));
+        buffered = λ z idle. ap (λ (bs : List (List Place)). buffer_of (record d.heap { buffers = bs }) z)
+            served.buffers ∙ a.buffered z (sym (ap is_marking_state (served.states z)) ∙ idle);
+        incoming = λ n p waits.
+            (let was = a.incoming n p waits in
+            (was.0, served.comps n was.0 was.1, ap is_marking_state (served.states was.0) ∙ was.2));
       }
 
   module _ (marks : MarkingInvariant old c.stack) where
@@ -121,7 +105,8 @@ module _ (c d : CollectorState) (flying : ℕ → Option Bits) (rest : d ≡ rec
     zone_to p q e = served.zones q (marks.holds.colours.shape.targets p q e)
 
     -- an edge that leads across led across before, or leads to black
-    led_across : (r : RunState) (p q : Place) → LeadsAcross d.heap.shape r p q → LeadsAcross c.heap.shape r p q ⊎ IsBlack new q
+    led_across : (r : RunState) (p q : Place) → LeadsAcross d.heap.shape r p q → LeadsAcross c.heap.shape r p q
+        ⊎ IsBlack new q
     led_across r p q leads = elim (served.across p q leads.edge leads.apart) [
       | inr black ↦ inr black
       | inl was ↦ (let from = zone_from p q was in let to = zone_to p q was in inl (record {
@@ -138,12 +123,17 @@ module _ (c d : CollectorState) (flying : ℕ → Option Bits) (rest : d ≡ rec
         now : AreBehind new (record c { heap = d.heap }) r
         now p q leads here out = elim (led_across r p q leads) [
           | inr black ↦ black
-          | inl was ↦ served.darker q (a p q was (subst (λ z. IsInGroups c.groups z) (zone_from p q was.edge) here) (λ i. out (subst (λ z. IsInGroups c.groups z) (sym (zone_to p q was.edge)) i)))
+          | inl was ↦ served.darker q
+              (a p q was (subst (λ z. IsInGroups c.groups z) (zone_from p q was.edge) here)
+              (λ i. out (subst (λ z. IsInGroups c.groups z) (sym (zone_to p q was.edge)) i)))
         ]
 
-  module _ (w v : World) (k kk : Collection) (lies : LiesIn c.heap w) (lies_after : LiesIn d.heap v) (ok : IsValid w) (same : kk ≡ record k { tally = kk.tally; woken = kk.woken }) (names : (q : Place) (y : Name) → name_at c.heap.shape q ≡ Some y → name_at d.heap.shape q ≡ Some y) where
+  module _ (w v : World) (k kk : Collection) (lies : LiesIn c.heap w) (lies_after : LiesIn d.heap v) (ok : IsValid w)
+      (same : kk ≡ record k { tally = kk.tally; woken = kk.woken }) (names : (q : Place) (y : Name)
+      → name_at c.heap.shape q ≡ Some y → name_at d.heap.shape q ≡ Some y) where
     -- a present name is present in the same zone
-    name_still : (x : Name) → IsPresentName w x → IsPresentName v x × (graph.zone_of v.graph x ≡ graph.zone_of w.graph x)
+    name_still : (x : Name) → IsPresentName w x → IsPresentName v x
+        × (graph.zone_of v.graph x ≡ graph.zone_of w.graph x)
     name_still x there =
         let p = place_of c.heap w lies x there in
         let now : name_at d.heap.shape p.0 ≡ Some x = names p.0 x p.1 in (
@@ -153,10 +143,12 @@ module _ (c d : CollectorState) (flying : ℕ → Option Bits) (rest : d ≡ rec
               ∙ sym (zone_named c.heap lies.graph w.graph p.0 x lies.shown lies.part.part p.1)),
         )
 
-    leads_still : (set : Name → Type 0) (a b : ℕ) (n : CompNo) (t : ℕ) → LeadsOutside w set a b n t → LeadsOutside v set a b n t
+    leads_still : (set : Name → Type 0) (a b : ℕ) (n : CompNo) (t : ℕ) → LeadsOutside w set a b n t
+        → LeadsOutside v set a b n t
     leads_still set a b n t l =
         let from = name_still (Wrap n t) l.present in
-        let to = name_still (Cell t) (ok.presence.edges (Wrap n t) (Cell t) l.present (refl, (ok.made (Wrap n t) l.present).2)) in
+        let to = name_still (Cell t)
+        (ok.presence.edges (Wrap n t) (Cell t) l.present (refl, (ok.made (Wrap n t) l.present).2)) in
         record { present = from.0; of = from.1 ∙ l.of; into = to.1 ∙ l.into; outside = l.outside }
 
     pub first_served : (a b : ℕ) → IsFirstEdge w k a b → IsFirstEdge v kk a b
@@ -166,7 +158,12 @@ module _ (c d : CollectorState) (flying : ℕ → Option Bits) (rest : d ≡ rec
       e.2,
       elim e.3 [
         | inl l ↦ inl (l.0, l.1, leads_still (Closure k.snapshot (Has k.black_starts)) a b l.0 l.1 l.2)
-        | inr l ↦ inr (l.0, l.1, leads_still (Closure k.snapshot (Has k.black_starts)) b a l.0 l.1 l.2, (l.3.0, l.3.1, l.3.2, (name_still l.3.0 l.3.3).0))
+        | inr l ↦ inr (
+          l.0,
+          l.1,
+          leads_still (Closure k.snapshot (Has k.black_starts)) b a l.0 l.1 l.2,
+          (l.3.0, l.3.1, l.3.2, (name_still l.3.0 l.3.3).0),
+        )
       ],
     )
 
@@ -181,7 +178,8 @@ module _ (c d : CollectorState) (flying : ℕ → Option Bits) (rest : d ≡ rec
     sized : length c.heap.colours ≡ length c.heap.shape.arenas
     sized = sym (flown_length flying 0 c.heap.colours) ∙ marks.holds.colours.sized
 
-    looked_before : (p q : Place) → HasEdge c.heap.shape p q → IsLookedAt d.heap.shape c.edges p → IsLookedAt c.heap.shape c.edges p
+    looked_before : (p q : Place) → HasEdge c.heap.shape p q → IsLookedAt d.heap.shape c.edges p
+        → IsLookedAt c.heap.shape c.edges p
     looked_before p q e l =
         let zone = zone_from marks p q e in
         record {
@@ -207,20 +205,28 @@ module _ (c d : CollectorState) (flying : ℕ → Option Bits) (rest : d ≡ rec
             | inr to_black ↦ inl to_black
             | inl was ↦ elim (a.looked p q was (looked_before p q was.edge looked)) [
               | inl to_black ↦ inl (served.darker q to_black)
-              | inr noted ↦ inr (subst (λ z. Edge c.edges.sources z (zone_of d.heap.shape q)) (sym (zone_from marks p q was.edge)) (subst (λ z. Edge c.edges.sources (zone_of c.heap.shape p) z) (sym (zone_to marks p q was.edge)) noted))
+              | inr noted ↦ inr (subst (λ z. Edge c.edges.sources z (zone_of d.heap.shape q))
+                  (sym (zone_from marks p q was.edge))
+                  (subst (λ z. Edge c.edges.sources (zone_of c.heap.shape p) z) (sym (zone_to marks p q was.edge))
+                  noted))
             ]
           ];
           left_black = elim a.left_black [ inl none ↦ inl none | inr left ↦ inr (left_served left) ];
         }
 
-    pub runs_served : (r : RunState) → Runs old c w r k → ((z : ℕ) → Contains kk.marking z → AreTied new d.stack d.lists v kk) → Runs new d v r kk
+    pub runs_served : (r : RunState) → Runs old c w r k
+        → ((z : ℕ) → Contains kk.marking z → AreTied new d.stack d.lists v kk) → Runs new d v r kk
     runs_served r a tied = record {
       zones_are = ap (λ (x : Collection). x.zones) same ∙ a.zones_are;
       marking_are = λ z. (
-        λ on. ap is_marking_state (served.states z) ∙ (a.marking_are z).0 (subst (λ (zs : List ℕ). Contains zs z) marking_same on),
-        λ on. subst (λ (zs : List ℕ). Contains zs z) (sym marking_same) ((a.marking_are z).1 (sym (ap is_marking_state (served.states z)) ∙ on)),
+        λ on. ap is_marking_state (served.states z)
+            ∙ (a.marking_are z).0 (subst (λ (zs : List ℕ). Contains zs z) marking_same on),
+        λ on. subst (λ (zs : List ℕ). Contains zs z) (sym marking_same)
+            ((a.marking_are z).1 (sym (ap is_marking_state (served.states z)) ∙ on)),
       );
-      groups_are = ap (λ (x : Collection). x.groups) same ∙ (a.groups_are ∙ ap (λ (x : CollectorState). if r.formed then Some (map zones_in x.groups) else None) (sym rest));
+      groups_are = ap (λ (x : Collection). x.groups) same
+          ∙ (a.groups_are ∙ ap (λ (x : CollectorState). if r.formed then Some (map zones_in x.groups) else None)
+          (sym rest));
       states = states_served r a.states;
       tied = tied;
       early = λ unformed. looked_served r (a.early unformed);

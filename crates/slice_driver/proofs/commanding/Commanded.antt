@@ -1,33 +1,6 @@
 -- From what the parts of the call of a command do to its steps.
-use Rattle.std.proofs.Common.{
-  ◌≡◌,
-  ◌≤◌,
-  ◌+◌,
-  ◌==◌,
-  ℕ,
-  List,
-  length,
-  Option,
-  Some,
-  None,
-  IsSome,
-  is_some,
-  true,
-  false,
-  Result,
-  Ok,
-  Err,
-  IfErr,
-  IfOk,
-  OnErr,
-  if◌then◌else◌,
-  refl,
-  sym,
-  ap,
-  subst,
-  ◌∙◌,
-  arith,
-}
+use Rattle.std.proofs.Common.{◌≡◌, ◌≤◌, ◌+◌, ◌==◌, ℕ, List, length, Option, Some, None, IsSome, is_some, true, false}
+use Rattle.std.proofs.Common.{Result, Ok, Err, IfErr, IfOk, OnErr, if◌then◌else◌, refl, sym, ap, subst, ◌∙◌, arith}
 use Rattle.std.specs.Result.{is_err}
 use Rattle.gz_names.specs.declared.numbers.Place.{Place}
 use Rattle.gz_names.specs.declared.commands.GraphCmd.{GraphCmd}
@@ -70,13 +43,8 @@ use Rattle.slice_driver.specs.Rooms.{IsRoomy, Widens, arenas_after}
 use Rattle.slice_driver.specs.Steps.{CommandSteps, GoesThrough}
 use Rattle.slice_driver.specs.Units.{AnswersIn, DoesCommand, IsSound, KeepsFreedWords}
 use Rattle.slice_driver.proofs.commanding.FreedWords.{same_words}
-use Rattle.slice_driver.proofs.commanding.Answering.{
-  exposed_rest,
-  outs_command,
-  serves_command,
-  through_rest,
-  words_command,
-}
+use Rattle.slice_driver.proofs.commanding.Answering.{exposed_rest, outs_command, serves_command, through_rest}
+use Rattle.slice_driver.proofs.commanding.Answering.{words_command}
 use Rattle.slice_driver.proofs.commanding.Commanding.{exposed_marks}
 use Rattle.slice_driver.proofs.abstraction.Lying.{accepted_in, refused_in, shows_coloured}
 use Rattle.slice_driver.proofs.commanding.Rooms.{few_arenas, few_entries, marks_room}

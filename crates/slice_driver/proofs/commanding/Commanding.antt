@@ -7,6 +7,8 @@ use Rattle.barriers.specs.Invariant.{MarkingInvariant}
 use Rattle.slice_driver.specs.Commands.{Exposed}
 
 -- after a barrier the invariant holds
-pub exposed_marks : (o : Option Place) (h : HeapState) (s : Piles) (k : HeapState) (t : Piles) → Exposed o h s k t → MarkingInvariant h s → MarkingInvariant k t
-exposed_marks None h s k t e inv = subst (λ z. MarkingInvariant z t) (sym e.0) (subst (λ z. MarkingInvariant h z) (sym e.1) inv)
+pub exposed_marks : (o : Option Place) (h : HeapState) (s : Piles) (k : HeapState) (t : Piles) → Exposed o h s k t
+    → MarkingInvariant h s → MarkingInvariant k t
+exposed_marks None h s k t e inv =
+    subst (λ z. MarkingInvariant z t) (sym e.0) (subst (λ z. MarkingInvariant h z) (sym e.1) inv)
 exposed_marks (Some x) h s k t e inv = e.invariant

@@ -1,12 +1,14 @@
 -- What is freed of an arena that is handed to sweeping stays the same while its cells stay where they are.
-use Rattle.std.proofs.Common.{◌≡◌, ◌↔◌, ◌+◌, ◌*◌, ℕ, suc, Bool, true, false, List, [], ◌∷◌, length, if◌then◌else◌, Option, Some, None, IsSome, is_some, slice_get, option_map, refl, sym, ap, subst, ◌∙◌}
+use Rattle.std.proofs.Common.{◌≡◌, ◌↔◌, ◌+◌, ◌*◌, ℕ, suc, Bool, true, false, List, [], ◌∷◌, length, if◌then◌else◌}
+use Rattle.std.proofs.Common.{Option, Some, None, IsSome, is_some, slice_get, option_map, refl, sym, ap, subst, ◌∙◌}
 use Rattle.gz_names.specs.declared.names.Name.{Name}
 use Rattle.gz_names.specs.declared.numbers.Place.{Place}
 use Rattle.cell_bits.specs.declared.bits.Bits.{Bits}
 use Rattle.cell_bits.specs.Colours.{white_mask_of}
 use Rattle.arena_table.specs.Cells.{CellState}
 use Rattle.arena_table.specs.Slots.{alloc_word_of, cell_in}
-use Rattle.heap_core.specs.Shape.{ArenaShape, AreWhole, Shape, cell_in_arena, is_white, name_at, out_in, out_of, present_in, stored_at, stored_in}
+use Rattle.heap_core.specs.Shape.{ArenaShape, AreWhole, Shape, cell_in_arena, is_white, name_at, out_in, out_of}
+use Rattle.heap_core.specs.Shape.{present_in, stored_at, stored_in}
 use Rattle.slice_driver.specs.Units.{IsFreedWord, KeepsFreedWords}
 use Rattle.slice_driver.specs.Worlds.{IsUnswept}
 

@@ -1,37 +1,8 @@
 -- What is changed in a heap is changed in the heap with the bits in flight in place; and wrapper lists only grow, by
 -- cells that are new.
-use Rattle.std.proofs.Common.{
-  ◌≡◌,
-  ◌⊎◌,
-  ◌<◌,
-  ◌≤◌,
-  ◌+◌,
-  ◌++◌,
-  ◌∷◌,
-  ◌==◌,
-  ℕ,
-  zero,
-  suc,
-  Bool,
-  true,
-  false,
-  List,
-  [],
-  length,
-  Option,
-  Some,
-  None,
-  is_some,
-  slice_get,
-  inl,
-  inr,
-  refl,
-  sym,
-  ap,
-  ◌∙◌,
-  arith,
-  if◌then◌else◌,
-}
+use Rattle.std.proofs.Common.{◌≡◌, ◌⊎◌, ◌<◌, ◌≤◌, ◌+◌, ◌++◌, ◌∷◌, ◌==◌, ℕ, zero, suc, Bool, true, false, List, []}
+use Rattle.std.proofs.Common.{length, Option, Some, None, is_some, slice_get, inl, inr, refl, sym, ap, ◌∙◌, arith}
+use Rattle.std.proofs.Common.{if◌then◌else◌}
 use Rattle.std.specs.Option.{option_map}
 use Rattle.std.proofs.lemmas.Bool.{cases_eq}
 use Rattle.std.proofs.lemmas.Option.{slice_get_within}
@@ -54,8 +25,11 @@ use Rattle.barriers.proofs.Flying.{flown_get, flown_length, flown_there, none_fl
 use Rattle.zone_edges.specs.Looks.{wrapper_at}
 
 -- the colour of a place whose arena is not in flight
-own_seen : (h : HeapState) (flown : ℕ → Option Bits) (y : Place) → flown y.0 ≡ None → colour_of (joined h flown) y ≡ colour_of h y
-own_seen h flown y none = ap (λ (o : Option Bits). colour_in o y.1) (flown_get flown h.colours y.0 0 y.0 (omega arith) ∙ go (slice_get h.colours y.0))
+own_seen : (h : HeapState) (flown : ℕ → Option Bits) (y : Place) → flown y.0 ≡ None
+    → colour_of (joined h flown) y ≡ colour_of h y
+own_seen h flown y none =
+    ap (λ (o : Option Bits). colour_in o y.1) (flown_get flown h.colours y.0 0 y.0 (omega arith)
+    ∙ go (slice_get h.colours y.0))
   where
     go : (o : Option Bits) → option_map (flown_or (flown y.0)) o ≡ o
     go None = refl
@@ -69,18 +43,24 @@ out_within s a out = go (slice_get s.arenas a) refl out
     go None e out = cc out
     go (Some arena) e out = slice_get_within s.arenas a arena e
 
-module _ (old : HeapState) (flown : ℕ → Option Bits) (covers : Covers old.shape flown) (sized : length old.colours ≡ length old.shape.arenas) where
+module _ (old : HeapState) (flown : ℕ → Option Bits) (covers : Covers old.shape flown)
+    (sized : length old.colours ≡ length old.shape.arenas) where
   -- a place whose colour is as it was
-  seen_same : (new : HeapState) (y : Place) → length old.colours ≤ length new.colours → colour_of new y ≡ colour_of old y → colour_of (joined new flown) y ≡ colour_of (joined old flown) y
+  seen_same : (new : HeapState) (y : Place) → length old.colours ≤ length new.colours
+      → colour_of new y ≡ colour_of old y → colour_of (joined new flown) y ≡ colour_of (joined old flown) y
   seen_same new y longer same = go (flown y.0) refl
     where
       go : (o : Option Bits) → flown y.0 ≡ o → colour_of (joined new flown) y ≡ colour_of (joined old flown) y
       go None e = own_seen new flown y e ∙ (same ∙ sym (own_seen old flown y e))
       go (Some b) e =
-          let within : y.0 < length old.shape.arenas = out_within old.shape y.0 (sym (covers y.0) ∙ ap (λ (o : Option Bits). is_some o) e) in
-          ap (λ (o : Option Bits). colour_in o y.1) (flown_there new flown y.0 b (omega (arith, within, sized, longer)) e ∙ sym (flown_there old flown y.0 b (omega (arith, within, sized)) e))
+          let within : y.0 < length old.shape.arenas =
+          out_within old.shape y.0 (sym (covers y.0) ∙ ap (λ (o : Option Bits). is_some o) e) in
+          ap (λ (o : Option Bits). colour_in o y.1)
+          (flown_there new flown y.0 b (omega (arith, within, sized, longer)) e
+          ∙ sym (flown_there old flown y.0 b (omega (arith, within, sized)) e))
 
-  writes_joined : (p : Place) (f : ℕ) (v : Option Place) (new : HeapState) → Writes old p f v new → Writes (joined old flown) p f v (joined new flown)
+  writes_joined : (p : Place) (f : ℕ) (v : Option Place) (new : HeapState) → Writes old p f v new
+      → Writes (joined old flown) p f v (joined new flown)
   writes_joined p f v new w = record {
     rest = ap (λ (h : HeapState). joined h flown) w.rest;
     sized = w.sized;
@@ -91,7 +71,8 @@ module _ (old : HeapState) (flown : ℕ → Option Bits) (covers : Covers old.sh
     whole = w.whole;
   }
 
-  makes_joined : (zone : ℕ) (p : Place) (cell : CellState) (new : HeapState) → Makes old zone p cell new → Makes (joined old flown) zone p cell (joined new flown)
+  makes_joined : (zone : ℕ) (p : Place) (cell : CellState) (new : HeapState) → Makes old zone p cell new
+      → Makes (joined old flown) zone p cell (joined new flown)
   makes_joined zone p cell new m = record {
     rest = ap (λ (h : HeapState). joined h flown) m.rest;
     place_is = m.place_is;
@@ -105,18 +86,21 @@ module _ (old : HeapState) (flown : ℕ → Option Bits) (covers : Covers old.sh
     cells = m.cells;
     stored = m.stored;
     whole = m.whole;
-    black = own_seen new flown p (none_flown (flown p.0) (covers p.0 ∙ ap (λ (o : Option Bits). is_some o) m.in_place)) ∙ m.black;
+    black = own_seen new flown p (none_flown (flown p.0) (covers p.0 ∙ ap (λ (o : Option Bits). is_some o) m.in_place))
+        ∙ m.black;
     colours = λ q other. seen_same new q longer (m.colours q other);
   }
     where
-      by : (b : Bool) → length new.shape.arenas ≡ (if b then length old.shape.arenas + 1 else length old.shape.arenas) → length old.shape.arenas ≤ length new.shape.arenas
+      by : (b : Bool) → length new.shape.arenas ≡ (if b then length old.shape.arenas + 1 else length old.shape.arenas)
+          → length old.shape.arenas ≤ length new.shape.arenas
       by true e = omega arith
       by false e = omega arith
 
       longer : length old.colours ≤ length new.colours
       longer = let more = by (p.0 == length old.shape.arenas) m.grown in omega (arith, more, sized, m.coloured)
 
-  held_joined : (r : ℕ) (k : Kind) (c : CompNo) (new : HeapState) → MakesHeld old r k c new → MakesHeld (joined old flown) r k c (joined new flown)
+  held_joined : (r : ℕ) (k : Kind) (c : CompNo) (new : HeapState) → MakesHeld old r k c new
+      → MakesHeld (joined old flown) r k c (joined new flown)
   held_joined r k c new m = record {
     zone = m.zone;
     place = m.place;
@@ -126,7 +110,9 @@ module _ (old : HeapState) (flown : ℕ → Option Bits) (covers : Covers old.sh
     rest = ap (λ (h : HeapState). joined h flown) m.rest;
   }
 
-  wrapper_joined : (zone : ℕ) (comp : CompNo) (number : ℕ) (target p : Place) (new : HeapState) → MakesWrapper old zone comp number target p new → MakesWrapper (joined old flown) zone comp number target p (joined new flown)
+  wrapper_joined : (zone : ℕ) (comp : CompNo) (number : ℕ) (target p : Place) (new : HeapState)
+      → MakesWrapper old zone comp number target p new
+      → MakesWrapper (joined old flown) zone comp number target p (joined new flown)
   wrapper_joined zone comp number target p new m = record {
     made = joined m.made flown;
     makes = makes_joined zone p _ m.made m.makes;
@@ -136,7 +122,8 @@ module _ (old : HeapState) (flown : ℕ → Option Bits) (covers : Covers old.sh
     others = m.others;
   }
 
-  holds_joined : (r : ℕ) (c : CompNo) (t : Place) (new : HeapState) → HoldsWrapper old r c t new → HoldsWrapper (joined old flown) r c t (joined new flown)
+  holds_joined : (r : ℕ) (c : CompNo) (t : Place) (new : HeapState) → HoldsWrapper old r c t new
+      → HoldsWrapper (joined old flown) r c t (joined new flown)
   holds_joined r c t new m = record {
     zone = m.zone;
     wrapper = m.wrapper;
@@ -161,7 +148,8 @@ module _ (old : HeapState) (flown : ℕ → Option Bits) (covers : Covers old.sh
       (record { rest = ap (λ (h : HeapState). joined h flown) by.0.rest; values = by.0.values }, by.1)
 
 -- the last element of a longer list, and those before it
-last_or_before : {X : Type 0} (xs : List X) (y : X) (i : ℕ) → (slice_get (xs ++ y ∷ []) i ≡ slice_get xs i) ⊎ (slice_get (xs ++ y ∷ []) i ≡ Some y)
+last_or_before : {X : Type 0} (xs : List X) (y : X) (i : ℕ) → (slice_get (xs ++ y ∷ []) i ≡ slice_get xs i)
+    ⊎ (slice_get (xs ++ y ∷ []) i ≡ Some y)
 last_or_before [] y zero = inr refl
 last_or_before [] y (suc i) = inl refl
 last_or_before (x ∷ xs) y zero = inl refl
@@ -169,12 +157,22 @@ last_or_before (x ∷ xs) y (suc i) = last_or_before xs y i
 
 -- a wrapper that was there before a change stood where it stands after it
 module _ (old : HeapState) (zone index : ℕ) (p : Place) (there : IsPresent old.shape p) where
-  stood_same : (new : HeapState) {k : HeapState} → new ≡ k → k.shape.wrappers ≡ old.shape.wrappers → wrapper_at new.shape zone index ≡ Some p → wrapper_at old.shape zone index ≡ Some p
-  stood_same new {k} e wrappers at = ap (λ (w : WrappersState). option_map (λ entry. entry.1) (slice_get (list_of w zone) index)) (sym wrappers) ∙ (ap (λ (h : HeapState). wrapper_at h.shape zone index) (sym e) ∙ at)
+  stood_same : (new : HeapState) {k : HeapState} → new ≡ k → k.shape.wrappers ≡ old.shape.wrappers
+      → wrapper_at new.shape zone index ≡ Some p → wrapper_at old.shape zone index ≡ Some p
+  stood_same new {k} e wrappers at =
+      ap (λ (w : WrappersState). option_map (λ entry. entry.1) (slice_get (list_of w zone) index)) (sym wrappers)
+      ∙ (ap (λ (h : HeapState). wrapper_at h.shape zone index) (sym e) ∙ at)
 
-  stood_wrapped : (new : HeapState) (home : ℕ) (comp : CompNo) (number : ℕ) (target q : Place) → MakesWrapper old home comp number target q new → wrapper_at new.shape zone index ≡ Some p → wrapper_at old.shape zone index ≡ Some p
+  stood_wrapped : (new : HeapState) (home : ℕ) (comp : CompNo) (number : ℕ) (target q : Place)
+      → MakesWrapper old home comp number target q new → wrapper_at new.shape zone index ≡ Some p
+      → wrapper_at old.shape zone index ≡ Some p
   stood_wrapped new home comp number target q m at = elim (cases_eq zone home) [
-    | inl here ↦ (let longer : slice_get (list_of new.shape.wrappers zone) index ≡ slice_get (list_of old.shape.wrappers zone ++ (record { comp = comp.0; target = number }, q) ∷ []) index = ap (λ z. slice_get (list_of new.shape.wrappers z) index) here ∙ (ap (λ es. slice_get es index) m.listed ∙ ap (λ z. slice_get (list_of old.shape.wrappers z ++ (record { comp = comp.0; target = number }, q) ∷ []) index) (sym here)) in
+    | inl here ↦ (let longer : slice_get (list_of new.shape.wrappers zone) index
+        ≡ slice_get (list_of old.shape.wrappers zone ++ (record { comp = comp.0; target = number }, q) ∷ []) index =
+        ap (λ z. slice_get (list_of new.shape.wrappers z) index) here
+        ∙ (ap (λ es. slice_get es index) m.listed
+        ∙ ap (λ z. slice_get (list_of old.shape.wrappers z ++ (record { comp = comp.0; target = number }, q) ∷ [])
+        index) (sym here)) in
         elim (last_or_before (list_of old.shape.wrappers zone) (record { comp = comp.0; target = number }, q) index) [
           | inl before ↦ ap (λ o. option_map (λ entry. entry.1) o) (sym (longer ∙ before)) ∙ at
           | inr last ↦ (let is : q ≡ p = cc (sym (ap (λ o. option_map (λ entry. entry.1) o) (longer ∙ last)) ∙ at) in
@@ -183,8 +181,10 @@ module _ (old : HeapState) (zone index : ℕ) (p : Place) (there : IsPresent old
     | inr away ↦ ap (λ es. option_map (λ entry. entry.1) (slice_get es index)) (sym (m.others zone away)) ∙ at
   ]
 
-  stood_held : (new : HeapState) (r : ℕ) (k : Kind) (c : CompNo) → MakesHeld old r k c new → wrapper_at new.shape zone index ≡ Some p → wrapper_at old.shape zone index ≡ Some p
-  stood_held new r k c m at = stood_same m.made m.makes.rest refl (ap (λ (h : HeapState). wrapper_at h.shape zone index) (sym m.rest) ∙ at)
+  stood_held : (new : HeapState) (r : ℕ) (k : Kind) (c : CompNo) → MakesHeld old r k c new
+      → wrapper_at new.shape zone index ≡ Some p → wrapper_at old.shape zone index ≡ Some p
+  stood_held new r k c m at =
+      stood_same m.made m.makes.rest refl (ap (λ (h : HeapState). wrapper_at h.shape zone index) (sym m.rest) ∙ at)
 
   pub stood_before : (new : HeapState) (ch : Change) (answer : Reply) → ChangesBy old ch answer new
       → wrapper_at new.shape zone index ≡ Some p → wrapper_at old.shape zone index ≡ Some p

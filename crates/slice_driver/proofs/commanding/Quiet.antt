@@ -20,14 +20,19 @@ use Rattle.slice_driver.specs.Commands.{DoesInWorld, StayInPlace, Wakes, waking,
 use Rattle.slice_driver.proofs.abstraction.Named.{named_present}
 use Rattle.slice_driver.proofs.abstraction.Lying.{IsStepIn, command_accepted, lies_from, step_in, woken_in}
 
-pub counted_marking : (w : World) (c : GraphCmd) (o : Option Collection) → marking_of (with_counts w.graph c o) ≡ marking_of o
+pub counted_marking : (w : World) (c : GraphCmd) (o : Option Collection)
+    → marking_of (with_counts w.graph c o) ≡ marking_of o
 counted_marking w c None = refl
 counted_marking w c (Some k) = refl
 
 -- where all cells stay in place, the heap lies in each world with the graph after the step, and else as before
-pub lies_still : (w v : World) (old new : HeapState) (c : GraphCmd) (answer : Reply) (l : LiesIn old w) → IsStepIn w old new c answer l → StayInPlace old.shape new.shape → v.graph ≡ (step_of w.graph c).0 → v.places ≡ w.places → v.owner ≡ w.owner → v.weak ≡ w.weak → v.preparing ≡ w.preparing → v.out ≡ w.out → v.white ≡ w.white → LiesIn new v
+pub lies_still : (w v : World) (old new : HeapState) (c : GraphCmd) (answer : Reply) (l : LiesIn old w)
+    → IsStepIn w old new c answer l → StayInPlace old.shape new.shape → v.graph ≡ (step_of w.graph c).0
+    → v.places ≡ w.places → v.owner ≡ w.owner → v.weak ≡ w.weak → v.preparing ≡ w.preparing → v.out ≡ w.out
+    → v.white ≡ w.white → LiesIn new v
 lies_still w v old new c answer l step stay graph at owner weak calm out white =
-    lies_from new (step_of l.graph c).0 v step.shown step.well_formed (subst (λ g. IsPartOf g (step_of l.graph c).0) (sym graph) step.part) stay.whole
+    lies_from new (step_of l.graph c).0 v step.shown step.well_formed
+    (subst (λ g. IsPartOf g (step_of l.graph c).0) (sym graph) step.part) stay.whole
     (λ x p. (
       λ e. stay.names p ∙ (l.places_are x p).0 (ap (λ m. places.get m x) (sym at) ∙ e),
       λ e. ap (λ m. places.get m x) at ∙ (l.places_are x p).1 (sym (stay.names p) ∙ e),
@@ -37,11 +42,17 @@ lies_still w v old new c answer l step stay graph at owner weak calm out white =
     (calm ∙ l.calm)
     (out ∙ (l.out_is ∙ sym stay.outs))
     (λ x p. (
-      λ has. (stay.unswept p x).1 ((l.white_are x p).0 (subst (λ (ws : List (Name × (ℕ × ℕ))). Contains ws (x, p)) white has)),
-      λ un. subst (λ (ws : List (Name × (ℕ × ℕ))). Contains ws (x, p)) (sym white) ((l.white_are x p).1 ((stay.unswept p x).0 un)),
+      λ has. (stay.unswept p x).1
+          ((l.white_are x p).0 (subst (λ (ws : List (Name × (ℕ × ℕ))). Contains ws (x, p)) white has)),
+      λ un. subst (λ (ws : List (Name × (ℕ × ℕ))). Contains ws (x, p)) (sym white)
+          ((l.white_are x p).1 ((stay.unswept p x).0 un)),
     ))
 
-pub does_quiet : (w : World) (old new : HeapState) (c : GraphCmd) (answer : Reply) (ds es : List Bits) → IsValid w → LiesIn old w → (IsSettled w → AreBlack (with_colours old ds) w) → DoesStep old c (Ok answer) new → StayInPlace old.shape new.shape → Wakes old c None → ((p : Place) → IsPresent old.shape p → IsBlack (with_colours new es) p ↔ IsBlack (with_colours old ds) p) → DoesInWorld w c answer new es
+pub does_quiet : (w : World) (old new : HeapState) (c : GraphCmd) (answer : Reply) (ds es : List Bits) → IsValid w
+    → LiesIn old w → (IsSettled w → AreBlack (with_colours old ds) w) → DoesStep old c (Ok answer) new
+    → StayInPlace old.shape new.shape → Wakes old c None
+    → ((p : Place) → IsPresent old.shape p → IsBlack (with_colours new es) p ↔ IsBlack (with_colours old ds) p)
+    → DoesInWorld w c answer new es
 does_quiet w old new c answer ds es ok l black does stay quiet same =
     let step = step_in w old new c answer ok l does in
     let none : woken_by w.graph c ≡ None = woken_in w old c None ok l quiet in
@@ -52,7 +63,10 @@ does_quiet w old new c answer ds es ok l black does stay quiet same =
       lies = lies_still w v old new c answer l step stay refl refl refl refl refl refl refl;
       black = λ settled x p e. (
           let was : name_at old.shape p ≡ Some x = sym (stay.names p) ∙ e in
-          let both = black (record { none_marking = sym (counted_marking w c w.collection) ∙ settled.none_marking; none_preparing = l.calm }) x p was in
+          let both = black (record {
+            none_marking = sym (counted_marking w c w.collection) ∙ settled.none_marking;
+            none_preparing = l.calm;
+          }) x p was in
           let there = named_present old.shape p x was in (
             λ has. (same p there).1 (both.0 has),
             λ b. both.1 ((same p there).0 b),

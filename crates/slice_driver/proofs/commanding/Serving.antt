@@ -1,32 +1,6 @@
 -- What each kind of change of the heap leaves of marking.
-use Rattle.std.proofs.Common.{
-  ◌≡◌,
-  ◌≢◌,
-  ◌⊎◌,
-  ◌<◌,
-  ◌≤◌,
-  ◌*◌,
-  ℕ,
-  zero,
-  suc,
-  List,
-  [],
-  ◌∷◌,
-  length,
-  Option,
-  Some,
-  None,
-  IsSome,
-  slice_get,
-  inl,
-  inr,
-  refl,
-  sym,
-  ap,
-  subst,
-  ◌∙◌,
-  arith,
-}
+use Rattle.std.proofs.Common.{◌≡◌, ◌≢◌, ◌⊎◌, ◌<◌, ◌≤◌, ◌*◌, ℕ, zero, suc, List, [], ◌∷◌, length, Option, Some, None}
+use Rattle.std.proofs.Common.{IsSome, slice_get, inl, inr, refl, sym, ap, subst, ◌∙◌, arith}
 use Rattle.std.specs.Option.{option_map}
 use Rattle.gz_names.specs.declared.names.Name.TheVariants.{Cell}
 use Rattle.gz_names.specs.declared.numbers.CompNo.{CompNo}
@@ -42,19 +16,8 @@ use Rattle.mark_stack.specs.Stack.{Piles}
 use Rattle.gray_lists.specs.Incoming.{Incoming}
 use Rattle.heap_core.specs.declared.plans.Change.{Change}
 use Rattle.heap_core.specs.declared.plans.Change.TheVariants as change
-use Rattle.heap_core.specs.Shape.{
-  ArenaShape,
-  HasEdge,
-  IsPresent,
-  Shape,
-  cell_of,
-  field_at,
-  field_in,
-  out_in,
-  out_of,
-  state_or,
-  zone_of,
-}
+use Rattle.heap_core.specs.Shape.{ArenaShape, HasEdge, IsPresent, Shape, cell_of, field_at, field_in, out_in, out_of}
+use Rattle.heap_core.specs.Shape.{state_or, zone_of}
 use Rattle.heap_core.specs.Heap.{HeapState, colour_in, colour_of, joined, with_reg, with_slot}
 use Rattle.heap_core.specs.Changes.{with_comp, with_entry, with_number, with_zone, wrapper_cell}
 use Rattle.heap_core.specs.Effects.{HoldsWrapper, IsWithout, MakesHeld}
@@ -68,28 +31,13 @@ use Rattle.barriers.specs.Spreading.{Covers}
 use Rattle.barriers.specs.Birth.{Born}
 use Rattle.barriers.specs.Rewiring.{MayCome, Rewired, SetsEntry}
 use Rattle.barriers.proofs.Births.{born_black, born_gray, born_invariant, born_live}
-use Rattle.barriers.proofs.Changing.{
-  puts_entry,
-  rewired_comp,
-  rewired_entry,
-  rewired_number,
-  rewired_reg,
-  rewired_slot,
-  rewired_wrappers,
-  rewired_write,
-  rewired_zone,
-}
+use Rattle.barriers.proofs.Changing.{puts_entry, rewired_comp, rewired_entry, rewired_number, rewired_reg, rewired_slot}
+use Rattle.barriers.proofs.Changing.{rewired_wrappers, rewired_write, rewired_zone}
 use Rattle.barriers.proofs.Flying.{flown_length}
 use Rattle.barriers.proofs.NewCells.{born, leads_nowhere, leads_to_target}
 use Rattle.barriers.proofs.Places.{same_or_other}
-use Rattle.barriers.proofs.Rewiring.{
-  comp_of_present,
-  present_by_comp,
-  rewired_black,
-  rewired_gray,
-  rewired_invariant,
-  rewired_live,
-}
+use Rattle.barriers.proofs.Rewiring.{comp_of_present, present_by_comp, rewired_black, rewired_gray, rewired_invariant}
+use Rattle.barriers.proofs.Rewiring.{rewired_live}
 use Rattle.zone_edges.specs.Looks.{WrapsBlack}
 use Rattle.slice_driver.specs.Serves.{IsNew, Serves}
 use Rattle.slice_driver.proofs.abstraction.Named.{some_one}
@@ -106,10 +54,16 @@ within_arenas s a out = go s.arenas a out
 -- nothing is new where only what leads to black cells changes
 module _ (h k : HeapState) (r : Rewired h k) where
   rewired_there : (p : Place) → IsPresent h.shape p → IsPresent k.shape p
-  rewired_there p there = (let c = comp_of_present h.shape p there in present_by_comp k.shape p c.0.comp (r.cells p ∙ ap (λ (o : Option CellState). option_map (λ (cell : CellState). cell.comp) o) c.1))
+  rewired_there p there =
+      (let c = comp_of_present h.shape p there in
+      present_by_comp k.shape p c.0.comp
+      (r.cells p ∙ ap (λ (o : Option CellState). option_map (λ (cell : CellState). cell.comp) o) c.1))
 
   rewired_before : (p : Place) → IsPresent k.shape p → IsPresent h.shape p
-  rewired_before p there = (let c = comp_of_present k.shape p there in present_by_comp h.shape p c.0.comp (sym (r.cells p) ∙ ap (λ (o : Option CellState). option_map (λ (cell : CellState). cell.comp) o) c.1))
+  rewired_before p there =
+      (let c = comp_of_present k.shape p there in
+      present_by_comp h.shape p c.0.comp
+      (sym (r.cells p) ∙ ap (λ (o : Option CellState). option_map (λ (cell : CellState). cell.comp) o) c.1))
 
   rewired_colour : (p : Place) → colour_of k p ≡ colour_of h p
   rewired_colour p = ap (λ (cs : List Bits). colour_in (slice_get cs p.0) p.1) r.colours
@@ -117,7 +71,8 @@ module _ (h k : HeapState) (r : Rewired h k) where
   rewired_across : (p q : Place) → HasEdge k.shape p q → HasEdge h.shape p q ⊎ IsBlack k q
   rewired_across p q e = elim (r.edges_now p q e) [ inl old ↦ inl old | inr b ↦ inr (rewired_colour q ∙ b) ]
 
-serves_rewired : (h k : HeapState) (s : Piles) (lists : Incoming) → MarkingInvariant h s → GrayInvariant h s lists → Rewired h k → Serves h k s lists
+serves_rewired : (h k : HeapState) (s : Piles) (lists : Incoming) → MarkingInvariant h s → GrayInvariant h s lists
+    → Rewired h k → Serves h k s lists
 serves_rewired h k s lists inv gray r = record {
   marks = rewired_invariant h k r s inv;
   gray = rewired_gray h k r s lists gray;
@@ -144,7 +99,8 @@ serves_rewired h k s lists inv gray r = record {
   across = λ p q e ne. rewired_across h k r p q e;
 }
 
-serves_then : (h k j : HeapState) (s : Piles) (lists : Incoming) → ColourInvariant h → Serves h k s lists → Rewired k j → Serves h j s lists
+serves_then : (h k j : HeapState) (s : Piles) (lists : Incoming) → ColourInvariant h → Serves h k s lists → Rewired k j
+    → Serves h j s lists
 serves_then h k j s lists colours a r = record {
   marks = rewired_invariant k j r s a.marks;
   gray = rewired_gray k j r s lists a.gray;
@@ -168,15 +124,24 @@ serves_then h k j s lists colours a r = record {
   ));
   edges_then = λ p q e. elim (a.edges_then p q e) [
     | inr b ↦ inr b
-    | inl now ↦ elim (r.edges_then p q now) [ inl last ↦ inl last | inr b ↦ inr (a.same_black q (colours.shape.targets p q e) b) ]
+    | inl now ↦ elim (r.edges_then p q now) [
+      | inl last ↦ inl last
+      | inr b
+          ↦ inr (a.same_black q (colours.shape.targets p q e) b)
+    ]
   ];
   entries_then = λ m q v e. elim (a.entries_then m q v e) [
     | inr b ↦ inr b
-    | inl now ↦ elim (r.entries_then m q v now) [ inl last ↦ inl last | inr b ↦ inr (a.same_black v (colours.shape.entries m q v e).2 b) ]
+    | inl now ↦ elim (r.entries_then m q v now) [
+      | inl last ↦ inl last
+      | inr b
+          ↦ inr (a.same_black v (colours.shape.entries m q v e).2 b)
+    ]
   ];
   across = λ p q e ne. elim (rewired_across k j r p q e) [
     | inr b ↦ inr b
-    | inl now ↦ elim (a.across p q now (λ same. ne (r.zones p ∙ (same ∙ sym (r.zones q))))) [ inl old ↦ inl old | inr b ↦ inr (rewired_colour k j r q ∙ b) ]
+    | inl now ↦ elim (a.across p q now (λ same. ne (r.zones p ∙ (same ∙ sym (r.zones q)))))
+        [ inl old ↦ inl old | inr b ↦ inr (rewired_colour k j r q ∙ b) ]
   ];
 }
   where
@@ -195,16 +160,30 @@ module _ (h : HeapState) (x : Place) (k : HeapState) (b : Born h x k) where
   ]
 
   born_other : (p : Place) → IsPresent h.shape p → p ≢ x
-  born_other p there same = (let gone : IsSome {T = CellState} None = subst (λ (o : Option CellState). IsSome o) (ap (cell_of h.shape) same ∙ b.free) there in cc gone)
+  born_other p there same =
+      (let gone : IsSome {T = CellState} None =
+      subst (λ (o : Option CellState). IsSome o) (ap (cell_of h.shape) same ∙ b.free) there in cc gone)
 
   born_darker : (p : Place) → IsBlack h p → IsBlack k p
-  born_darker p black = elim (same_or_other p x) [ inl same ↦ subst (IsBlack k) (sym same) b.black | inr other ↦ b.colours p other ∙ black ]
+  born_darker p black =
+      elim (same_or_other p x) [
+        | inl same ↦ subst (IsBlack k) (sym same) b.black
+        | inr other ↦ b.colours p other
+            ∙ black
+      ]
 
   is_new : (p : Place) → p ≡ x → IsNew h k p
-  is_new p same = (subst (λ (o : Option CellState). IsSome o) (sym (ap (cell_of k.shape) same ∙ b.cell_is)) refl, λ there. born_other p there same)
+  is_new p same = (
+    subst (λ (o : Option CellState). IsSome o) (sym (ap (cell_of k.shape) same ∙ b.cell_is)) refl,
+    λ there. born_other p there same,
+  )
 
   new_is : (p : Place) → IsNew h k p → p ≡ x
-  new_is p new = elim (same_or_other p x) [ inl same ↦ same | inr other ↦ absurd (new.1 (subst (λ (o : Option CellState). IsSome o) (b.others p other) new.0)) ]
+  new_is p new = elim (same_or_other p x) [
+    | inl same ↦ same
+    | inr other
+        ↦ absurd (new.1 (subst (λ (o : Option CellState). IsSome o) (b.others p other) new.0))
+  ]
 
   from_present : (p q : Place) (f : ℕ) → field_at h.shape p f ≡ Some q → IsPresent h.shape p
   from_present p q f e = go (cell_of h.shape p) e
@@ -214,7 +193,11 @@ module _ (h : HeapState) (x : Place) (k : HeapState) (b : Born h x k) where
       go (Some cell) at = refl
 
   born_edge : (p q : Place) → HasEdge h.shape p q → HasEdge k.shape p q
-  born_edge p q e = (e.0, e.1, ap (λ (o : Option CellState). field_in o e.0) (b.others p (born_other p (from_present p q e.0 e.2))) ∙ e.2)
+  born_edge p q e = (
+    e.0,
+    e.1,
+    ap (λ (o : Option CellState). field_in o e.0) (b.others p (born_other p (from_present p q e.0 e.2))) ∙ e.2,
+  )
 
   born_across : (p q : Place) → HasEdge k.shape p q → HasEdge h.shape p q ⊎ IsBlack k q
   born_across p q e = elim (same_or_other p x) [
@@ -222,13 +205,18 @@ module _ (h : HeapState) (x : Place) (k : HeapState) (b : Born h x k) where
     | inr other ↦ inl (e.0, e.1, sym (ap (λ (o : Option CellState). field_in o e.0) (b.others p other)) ∙ e.2)
   ]
 
-serves_born : (h : HeapState) (x : Place) (k : HeapState) (s : Piles) (lists : Incoming) → MarkingInvariant h s → GrayInvariant h s lists → 64 * length k.colours ≤ s.room → 64 * length k.colours ≤ lists.room → ((a : ℕ) → out_of k.shape a ≡ out_of h.shape a) → ((p : Place) → IsSome (out_of h.shape p.0) → zone_of k.shape p ≡ zone_of h.shape p) → Born h x k → Serves h k s lists
+serves_born : (h : HeapState) (x : Place) (k : HeapState) (s : Piles) (lists : Incoming) → MarkingInvariant h s
+    → GrayInvariant h s lists → 64 * length k.colours ≤ s.room → 64 * length k.colours ≤ lists.room
+    → ((a : ℕ) → out_of k.shape a ≡ out_of h.shape a)
+    → ((p : Place) → IsSome (out_of h.shape p.0) → zone_of k.shape p ≡ zone_of h.shape p) → Born h x k
+    → Serves h k s lists
 serves_born h x k s lists inv gray more also outs zones_out b = record {
   marks = marks;
   gray = waits;
   states = λ z. ap (λ (xs : List State). state_or (slice_get xs z)) b.states;
   buffers = b.buffers;
-  made = (let same : length k.shape.states ≡ length h.shape.states = ap (λ (xs : List State). length xs) b.states in omega (arith, same));
+  made = (let same : length k.shape.states ≡ length h.shape.states = ap (λ (xs : List State). length xs) b.states in
+      omega (arith, same));
   comps = λ n z e. ap (λ (cs : List ℕ). slice_get cs n) b.comps ∙ e;
   outs = outs;
   zones = b.zones;
@@ -278,14 +266,22 @@ module _ (old new : HeapState) (flown : ℕ → Option Bits) (s : Piles) (lists 
   home_made d z zone lies home =
       subst (λ n. n < length old.shape.states) (some_one _ _ (sym lies.home ∙ home)) lies.made
 
-  made_more : (between : HeapState) → new.colours ≡ between.colours → 64 * length (joined between flown).colours ≤ s.room
-  made_more between e = let n = flown_length flown 0 between.colours in let m : length new.colours ≡ length between.colours = ap (λ (xs : List Bits). length xs) e in omega (arith, n, m, room)
+  made_more : (between : HeapState) → new.colours ≡ between.colours
+      → 64 * length (joined between flown).colours ≤ s.room
+  made_more between e = let n = flown_length flown 0 between.colours in
+      let m : length new.colours ≡ length between.colours = ap (λ (xs : List Bits). length xs) e in
+      omega (arith, n, m, room)
 
-  made_also : (between : HeapState) → new.colours ≡ between.colours → 64 * length (joined between flown).colours ≤ lists.room
-  made_also between e = let n = flown_length flown 0 between.colours in let m : length new.colours ≡ length between.colours = ap (λ (xs : List Bits). length xs) e in omega (arith, n, m, lists_room)
+  made_also : (between : HeapState) → new.colours ≡ between.colours
+      → 64 * length (joined between flown).colours ≤ lists.room
+  made_also between e = let n = flown_length flown 0 between.colours in
+      let m : length new.colours ≡ length between.colours = ap (λ (xs : List Bits). length xs) e in
+      omega (arith, n, m, lists_room)
 
   -- arenas that are out keep their zones as a cell is made
-  zones_made : (between : HeapState) → ((p : Place) → p.0 < length old.shape.arenas → zone_of between.shape p ≡ zone_of old.shape p) → (p : Place) → IsSome (out_of old.shape p.0) → zone_of between.shape p ≡ zone_of old.shape p
+  zones_made : (between : HeapState)
+      → ((p : Place) → p.0 < length old.shape.arenas → zone_of between.shape p ≡ zone_of old.shape p) → (p : Place)
+      → IsSome (out_of old.shape p.0) → zone_of between.shape p ≡ zone_of old.shape p
   zones_made between zones p out = zones p (within_arenas old.shape p.0 out)
 
   serves_made : (r z : ℕ) (k : Kind) (d : CompNo) → plans.LiesIn old.shape d z → MakesHeld old r k d new
@@ -295,24 +291,37 @@ module _ (old new : HeapState) (flown : ℕ → Option Bits) (s : Piles) (lists 
       let colours : new.colours ≡ m.made.colours = ap (λ (z : HeapState). z.colours) m.rest in
       let birth : Born h m.place (joined m.made flown) = born old m.made flown m.zone m.place cell m.makes
       covers ci (home_made d z m.zone home m.home) m.home (leads_nowhere h k d (Cell old.shape.objects)) in
-      let first : Serves h (joined m.made flown) s lists = serves_born h m.place (joined m.made flown) s lists inv gray (made_more m.made colours) (made_also m.made colours) m.makes.outs (zones_made m.made m.makes.zones) birth in
-      let second : Serves h (with_number (joined m.made flown)) s lists = serves_then h (joined m.made flown) (with_number (joined m.made flown)) s lists ci first (rewired_number (joined m.made flown) first.marks.holds.colours) in
+      let first : Serves h (joined m.made flown) s lists = serves_born h m.place (joined m.made flown) s lists inv gray
+      (made_more m.made colours) (made_also m.made colours) m.makes.outs (zones_made m.made m.makes.zones) birth in
+      let second : Serves h (with_number (joined m.made flown)) s lists =
+      serves_then h (joined m.made flown) (with_number (joined m.made flown)) s lists ci first
+      (rewired_number (joined m.made flown) first.marks.holds.colours) in
       subst (λ (z : HeapState). Serves h (joined z flown) s lists) (sym m.rest)
-      (serves_then h (with_number (joined m.made flown)) (with_reg (with_number (joined m.made flown)) r (Some m.place)) s lists ci second (rewired_reg (with_number (joined m.made flown)) r (Some m.place) second.marks.holds.colours (λ y e. subst (IsBlack (joined m.made flown)) (some_one _ _ e) birth.black)))
+      (serves_then h (with_number (joined m.made flown)) (with_reg (with_number (joined m.made flown)) r (Some m.place))
+      s lists ci second (rewired_reg (with_number (joined m.made flown)) r (Some m.place) second.marks.holds.colours
+      (λ y e. subst (IsBlack (joined m.made flown)) (some_one _ _ e) birth.black)))
 
   serves_wrapped : (r z : ℕ) (c : CompNo) (t : Place) → plans.LiesIn old.shape c z → IsBlack h t
       → HoldsWrapper old r c t new → Serves h (joined new flown) s lists
   serves_wrapped r z c t home black m =
       let cell : CellState = wrapper_cell c (number_at old.shape t) t in
-      let colours : new.colours ≡ m.makes.made.colours = ap (λ (z : HeapState). z.colours) m.rest ∙ ap (λ (z : HeapState). z.colours) m.makes.rest in
+      let colours : new.colours ≡ m.makes.made.colours = ap (λ (z : HeapState). z.colours) m.rest
+      ∙ ap (λ (z : HeapState). z.colours) m.makes.rest in
       let k : HeapState = joined m.makes.made flown in
       let birth : Born h m.wrapper k = born old m.makes.made flown m.zone m.wrapper cell m.makes.makes
       covers ci (home_made c z m.zone home m.home) m.home (leads_to_target h c (number_at old.shape t) t black) in
-      let first : Serves h k s lists = serves_born h m.wrapper k s lists inv gray (made_more m.makes.made colours) (made_also m.makes.made colours) m.makes.makes.outs (zones_made m.makes.made m.makes.makes.zones) birth in
-      let second : Serves h (joined m.between flown) s lists = subst (λ (z : HeapState). Serves h (joined z flown) s lists) (sym m.makes.rest) (serves_then h k (record k { shape = record k.shape { wrappers = m.between.shape.wrappers } }) s lists ci first (rewired_wrappers k m.between.shape.wrappers first.marks.holds.colours)) in
-      let here : IsBlack (joined m.between flown) m.wrapper = subst (λ (z : HeapState). IsBlack (joined z flown) m.wrapper) (sym m.makes.rest) birth.black in
+      let first : Serves h k s lists = serves_born h m.wrapper k s lists inv gray (made_more m.makes.made colours)
+      (made_also m.makes.made colours) m.makes.makes.outs (zones_made m.makes.made m.makes.makes.zones) birth in
+      let second : Serves h (joined m.between flown) s lists =
+      subst (λ (z : HeapState). Serves h (joined z flown) s lists) (sym m.makes.rest)
+      (serves_then h k (record k { shape = record k.shape { wrappers = m.between.shape.wrappers } }) s lists ci
+      first (rewired_wrappers k m.between.shape.wrappers first.marks.holds.colours)) in
+      let here : IsBlack (joined m.between flown) m.wrapper =
+      subst (λ (z : HeapState). IsBlack (joined z flown) m.wrapper) (sym m.makes.rest) birth.black in
       subst (λ (z : HeapState). Serves h (joined z flown) s lists) (sym m.rest)
-      (serves_then h (joined m.between flown) (with_reg (joined m.between flown) r (Some m.wrapper)) s lists ci second (rewired_reg (joined m.between flown) r (Some m.wrapper) second.marks.holds.colours (λ y e. subst (IsBlack (joined m.between flown)) (some_one _ _ e) here)))
+      (serves_then h (joined m.between flown) (with_reg (joined m.between flown) r (Some m.wrapper)) s lists ci second
+      (rewired_reg (joined m.between flown) r (Some m.wrapper) second.marks.holds.colours
+      (λ y e. subst (IsBlack (joined m.between flown)) (some_one _ _ e) here)))
 
   serves_put : (n : ℕ) (m k v : Place) → IsAble old.shape n (change.Put m k v)
       → ((p : Place) → value_of old.shape.weak m k ≡ Some p → IsBlack h p) → IsWith old m k v new

@@ -35,72 +35,100 @@ abbrev pub IsReached : Option Place → CollectorState → (ℕ → Option Bits)
 IsReached o c flown = (p : Place) → o ≡ Some p → Reached c.heap.shape (IsBlack (heap_with c flown)) p
 
 -- black spread to what is reached from it alone
-module _ (c : CollectorState) (flown : ℕ → Option Bits) (w : World) (rep : Represents c flown w) (h : HeapState) (p : Piles) (flying : ℕ → Option Bits) (covers : Covers h.shape flying) where
+module _ (c : CollectorState) (flown : ℕ → Option Bits) (w : World) (rep : Represents c flown w) (h : HeapState)
+    (p : Piles) (flying : ℕ → Option Bits) (covers : Covers h.shape flying) where
   abbrev after : CollectorState
   after = record c { heap = h; stack = p }
 
   abbrev IsSpread : Type 0
   IsSpread = Blackens (Reached c.heap.shape (IsBlack (heap_with c flown))) (heap_with c flown) (joined h flying)
 
-  marked_spread : IsSpread → MarkingInvariant (joined h flying) p → p.gray ≡ c.stack.gray → GrayInvariant (joined h flying) p c.lists → Marked c flown after flying
+  marked_spread : IsSpread → MarkingInvariant (joined h flying) p → p.gray ≡ c.stack.gray
+      → GrayInvariant (joined h flying) p c.lists → Marked c flown after flying
   marked_spread bl inv gray live = record {
     shape_is = ap (λ (z : HeapState). z.shape) bl.rest;
     made_is = ap (λ (z : HeapState). z.made) bl.rest;
     edges_is = refl;
     groups_is = refl;
     run_is = refl;
-    flies = still_flies c.heap h flown flying rep.flies (ap (λ (z : HeapState). z.shape) bl.rest) rep.marks.holds.colours inv.holds.colours covers (own_sized c.heap flown c.stack rep.marks) (own_sized h flying p inv) bl.kept (λ y. elim (bl.others y) [ inl b ↦ inl b | inr e ↦ inr (inl e) ]);
+    flies = still_flies c.heap h flown flying rep.flies (ap (λ (z : HeapState). z.shape) bl.rest)
+        rep.marks.holds.colours inv.holds.colours covers (own_sized c.heap flown c.stack rep.marks)
+        (own_sized h flying p inv) bl.kept (λ y. elim (bl.others y) [ inl b ↦ inl b | inr e ↦ inr (inl e) ]);
     marks = inv;
     gray = live;
-    waits = waits_on c h p (ap (λ (z : HeapState). z.shape) bl.rest) (ap (λ (z : HeapState). z.buffers) bl.rest) rep.waits (λ none. gray ∙ rep.waits.gray none);
+    waits = waits_on c h p (ap (λ (z : HeapState). z.shape) bl.rest) (ap (λ (z : HeapState). z.buffers) bl.rest)
+        rep.waits (λ none. gray ∙ rep.waits.gray none);
     darker = bl.kept;
     black = pending_same (heap_with c flown) c.stack (joined h flying) p rep.marks inv bl;
     live = live_same (heap_with c flown) c.stack (joined h flying) p c.lists rep.marks rep.gray inv gray bl;
   }
 
   -- the collector stands for the world for which it stood
-  represents_spread : IsSpread → MarkingInvariant (joined h flying) p → p.gray ≡ c.stack.gray → GrayInvariant (joined h flying) p c.lists → Represents after flying w
+  represents_spread : IsSpread → MarkingInvariant (joined h flying) p → p.gray ≡ c.stack.gray
+      → GrayInvariant (joined h flying) p c.lists → Represents after flying w
   represents_spread bl inv gray live =
       let q = marked_quiet c flown after flying (marked_spread bl inv gray live) in
-      stands_quiet c flown after flying q w (keeps_looks c flown after flying q (looks_same c flown after flying q refl)) rep
+      stands_quiet c flown after flying q w
+      (keeps_looks c flown after flying q (looks_same c flown after flying q refl)) rep
 
   exposed_none : joined h flying ≡ joined c.heap flown → p ≡ c.stack → Represents after flying w
   exposed_none e f = represents_spread
-      (subst (λ z. Blackens (Reached c.heap.shape (IsBlack (heap_with c flown))) (heap_with c flown) z) (sym e) (blackens_none (Reached c.heap.shape (IsBlack (heap_with c flown))) (heap_with c flown)))
-      (subst (λ z. MarkingInvariant z p) (sym e) (subst (λ q. MarkingInvariant (heap_with c flown) q) (sym f) rep.marks))
+      (subst (λ z. Blackens (Reached c.heap.shape (IsBlack (heap_with c flown))) (heap_with c flown) z) (sym e)
+      (blackens_none (Reached c.heap.shape (IsBlack (heap_with c flown))) (heap_with c flown)))
+      (subst (λ z. MarkingInvariant z p) (sym e)
+      (subst (λ q. MarkingInvariant (heap_with c flown) q) (sym f) rep.marks))
       (ap (λ (q : Piles). q.gray) f)
-      (subst (λ z. GrayInvariant z p c.lists) (sym e) (subst (λ q. GrayInvariant (heap_with c flown) q c.lists) (sym f) rep.gray))
+      (subst (λ z. GrayInvariant z p c.lists) (sym e)
+      (subst (λ q. GrayInvariant (heap_with c flown) q c.lists) (sym f) rep.gray))
 
-  exposed_some : (x : Place) → Exposes (heap_with c flown) c.stack x (joined h flying) p → Reached c.heap.shape (IsBlack (heap_with c flown)) x → Represents after flying w
+  exposed_some : (x : Place) → Exposes (heap_with c flown) c.stack x (joined h flying) p
+      → Reached c.heap.shape (IsBlack (heap_with c flown)) x → Represents after flying w
   exposed_some x e r = represents_spread
-      (blackens_within (Reached c.heap.shape (BlackOr (heap_with c flown) x)) (Reached c.heap.shape (IsBlack (heap_with c flown))) (heap_with c flown) (joined h flying) e.spreads.blackens (λ y. reached_from c.heap.shape (BlackOr (heap_with c flown) x) (IsBlack (heap_with c flown)) (λ z s. elim s [ inl b ↦ reached.from b | inr is ↦ subst (Reached c.heap.shape (IsBlack (heap_with c flown))) (sym is) r ])))
+      (blackens_within (Reached c.heap.shape (BlackOr (heap_with c flown) x))
+      (Reached c.heap.shape (IsBlack (heap_with c flown))) (heap_with c flown) (joined h flying) e.spreads.blackens
+      (λ y. reached_from c.heap.shape (BlackOr (heap_with c flown) x) (IsBlack (heap_with c flown))
+      (λ z s. elim s [
+        | inl b ↦ reached.from b
+        | inr is
+            ↦ subst (Reached c.heap.shape (IsBlack (heap_with c flown))) (sym is) r
+      ])))
       e.invariant e.spreads.gray_is (e.pending_live c.lists rep.gray).0
 
-  pub represents_exposed : (o : Option Place) → Exposed o (heap_with c flown) c.stack (joined h flying) p → IsReached o c flown → Represents after flying w
+  pub represents_exposed : (o : Option Place) → Exposed o (heap_with c flown) c.stack (joined h flying) p
+      → IsReached o c flown → Represents after flying w
   represents_exposed None e r = exposed_none e.0 e.1
   represents_exposed (Some x) e r = exposed_some x e (r x refl)
 
-pub represents_through : (o : Option Place) (c d : CollectorState) (flown flying : ℕ → Option Bits) (w : World) → GoesThrough o c flown d flying → IsReached o c flown → Represents c flown w → Represents d flying w
-represents_through o c d flown flying w t r rep = subst (λ e. Represents e flying w) (sym t.rest) (represents_exposed c flown w rep d.heap d.stack flying t.covers o t.exposed r)
+pub represents_through : (o : Option Place) (c d : CollectorState) (flown flying : ℕ → Option Bits) (w : World)
+    → GoesThrough o c flown d flying → IsReached o c flown → Represents c flown w → Represents d flying w
+represents_through o c d flown flying w t r rep =
+    subst (λ e. Represents e flying w) (sym t.rest)
+    (represents_exposed c flown w rep d.heap d.stack flying t.covers o t.exposed r)
 
 -- the collector with the room of another one
 abbrev widened : CollectorState → CollectorState → CollectorState
-widened c d = record c { stack = record c.stack { room = d.stack.room }; lists = record c.lists { room = d.lists.room } }
+widened c d = record c {
+  stack = record c.stack { room = d.stack.room };
+  lists = record c.lists { room = d.lists.room };
+}
 
 module _ (c d : CollectorState) (flown : ℕ → Option Bits) where
-  black_on : {p : Place} → PendingBlack (heap_with c flown) c.stack p → PendingBlack (heap_with c flown) (widened c d).stack p
+  black_on : {p : Place} → PendingBlack (heap_with c flown) c.stack p
+      → PendingBlack (heap_with c flown) (widened c d).stack p
   black_on (black_closure.black b) = black_closure.black b
   black_on (black_closure.pending has e) = black_closure.pending has e
   black_on (black_closure.along l n e) = black_closure.along (black_on l) n e
   black_on (black_closure.weak e a b) = black_closure.weak e (black_on a) (black_on b)
 
-  black_back : {p : Place} → PendingBlack (heap_with c flown) (widened c d).stack p → PendingBlack (heap_with c flown) c.stack p
+  black_back : {p : Place} → PendingBlack (heap_with c flown) (widened c d).stack p
+      → PendingBlack (heap_with c flown) c.stack p
   black_back (black_closure.black b) = black_closure.black b
   black_back (black_closure.pending has e) = black_closure.pending has e
   black_back (black_closure.along l n e) = black_closure.along (black_back l) n e
   black_back (black_closure.weak e a b) = black_closure.weak e (black_back a) (black_back b)
 
-  live_on : {p : Place} → PendingLive (heap_with c flown) c.stack c.lists p → PendingLive (heap_with c flown) (widened c d).stack (widened c d).lists p
+  live_on : {p : Place} → PendingLive (heap_with c flown) c.stack c.lists p
+      → PendingLive (heap_with c flown) (widened c d).stack (widened c d).lists p
   live_on (live_closure.black l) = live_closure.black (black_on l)
   live_on (live_closure.gray g) = live_closure.gray g
   live_on (live_closure.buffered has) = live_closure.buffered has
@@ -110,7 +138,8 @@ module _ (c d : CollectorState) (flown : ℕ → Option Bits) where
   live_on (live_closure.along l n e) = live_closure.along (live_on l) n e
   live_on (live_closure.weak e a b) = live_closure.weak e (live_on a) (live_on b)
 
-  live_back : {p : Place} → PendingLive (heap_with c flown) (widened c d).stack (widened c d).lists p → PendingLive (heap_with c flown) c.stack c.lists p
+  live_back : {p : Place} → PendingLive (heap_with c flown) (widened c d).stack (widened c d).lists p
+      → PendingLive (heap_with c flown) c.stack c.lists p
   live_back (live_closure.black l) = live_closure.black (black_back l)
   live_back (live_closure.gray g) = live_closure.gray g
   live_back (live_closure.buffered has) = live_closure.buffered has
@@ -121,8 +150,12 @@ module _ (c d : CollectorState) (flown : ℕ → Option Bits) where
   live_back (live_closure.weak e a b) = live_closure.weak e (live_back a) (live_back b)
 
 -- with more room a collector stands for the same worlds
-pub represents_widened : (c d : CollectorState) (flown : ℕ → Option Bits) (w : World) → Widens c d → Represents c flown w → Represents d flown w
-represents_widened c d flown w wide rep = subst (λ e. Represents e flown w) (sym wide.rest) (stands_quiet c flown (widened c d) flown q w (keeps_looks c flown (widened c d) flown q (looks_same c flown (widened c d) flown q refl)) rep)
+pub represents_widened : (c d : CollectorState) (flown : ℕ → Option Bits) (w : World) → Widens c d
+    → Represents c flown w → Represents d flown w
+represents_widened c d flown w wide rep =
+    subst (λ e. Represents e flown w) (sym wide.rest)
+    (stands_quiet c flown (widened c d) flown q w
+    (keeps_looks c flown (widened c d) flown q (looks_same c flown (widened c d) flown q refl)) rep)
   where
     m : Marked c flown (widened c d) flown
     m = record {
@@ -133,7 +166,8 @@ represents_widened c d flown w wide rep = subst (λ e. Represents e flown w) (sy
       run_is = refl;
       flies = rep.flies;
       marks = marks_room (heap_with c flown) c.stack (widened c d).stack refl wide.stack rep.marks;
-      gray = gray_room (heap_with c flown) c.stack (widened c d).stack c.lists (widened c d).lists refl refl wide.lists rep.gray;
+      gray = gray_room (heap_with c flown) c.stack (widened c d).stack c.lists (widened c d).lists refl refl wide.lists
+          rep.gray;
       waits = record { gray = rep.waits.gray; buffered = rep.waits.buffered; incoming = rep.waits.incoming };
       darker = λ p b. b;
       black = λ p. (black_back c d flown, black_on c d flown);

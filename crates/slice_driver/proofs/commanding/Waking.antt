@@ -1,5 +1,6 @@
 -- Commands that wake a cell: one that is found, or one that is made.
-use Rattle.std.proofs.Common.{◌≡◌, ◌⊎◌, ◌↔◌, ℕ, Bool, true, false, List, [], ◌∷◌, Option, Some, None, Ok, cond, if◌then◌else◌, refl, sym, ap, subst, ◌∙◌, inl, inr}
+use Rattle.std.proofs.Common.{◌≡◌, ◌⊎◌, ◌↔◌, ℕ, Bool, true, false, List, [], ◌∷◌, Option, Some, None, Ok, cond}
+use Rattle.std.proofs.Common.{if◌then◌else◌, refl, sym, ap, subst, ◌∙◌, inl, inr}
 use Rattle.std.specs.FinMap as places
 use Rattle.std.specs.Ordering.{eq_by_cmp}
 use Rattle.gz_names.specs.Order.{name_cmp, names_total}
@@ -10,7 +11,8 @@ use Rattle.gz_names.specs.declared.replies.Reply.{Reply}
 use Rattle.cell_bits.specs.declared.bits.Bits.{Bits}
 use Rattle.colour_defs.specs.Step.{step_of}
 use Rattle.colour_defs.specs.World as world
-use Rattle.colour_defs.specs.World.{World, Collection, Names, Has, HasPlace, IsSettled, marking_of, with_counts, with_waking, woken_by}
+use Rattle.colour_defs.specs.World.{World, Collection, Names, Has, HasPlace, IsSettled, marking_of, with_counts}
+use Rattle.colour_defs.specs.World.{with_waking, woken_by}
 use Rattle.colour_defs.specs.Laws.{IsValid}
 use Rattle.colour_defs.proofs.Names.{eq_name-is, eq_name-refl}
 use Rattle.heap_core.specs.Shape.{Shape, IsPresent, name_at}
@@ -24,7 +26,8 @@ use Rattle.barriers.specs.Invariant.{ColourInvariant}
 use Rattle.slice_driver.specs.Worlds.{LiesIn, owners_of}
 use Rattle.slice_driver.specs.Closures.{AreBlack}
 use Rattle.slice_driver.specs.Commands.{ComesTo, DoesInWorld, StayInPlace, Wakes, waking, with_colours}
-use Rattle.slice_driver.proofs.abstraction.Named.{AreSameStarts, name_of, named_present, place_of, present_named, same_reached, some_one}
+use Rattle.slice_driver.proofs.abstraction.Named.{AreSameStarts, name_of, named_present, place_of, present_named}
+use Rattle.slice_driver.proofs.abstraction.Named.{same_reached, some_one}
 use Rattle.slice_driver.proofs.abstraction.BlackNames.{black_named, black_names, named_black}
 use Rattle.slice_driver.proofs.abstraction.Lying.{IsStepIn, command_accepted, lies_from, step_in, woken_in, zone_named}
 use Rattle.slice_driver.proofs.commanding.Quiet.{counted_marking, lies_still}
@@ -42,10 +45,19 @@ record IsThere (s t : Shape) (p : Place) (x : Name) : Type 0 where
 
 -- the world afterwards, but for the black names
 abbrev world_after : World → GraphCmd → Name → places.FinMap name_cmp (ℕ × ℕ) → List (Option ℕ) → Names → World
-world_after w c x at owner black = record w { graph = (step_of w.graph c).0; places = at; owner = owner; black = black; collection = with_waking x (with_counts w.graph c w.collection) }
+world_after w c x at owner black = record w {
+  graph = (step_of w.graph c).0;
+  places = at;
+  owner = owner;
+  black = black;
+  collection = with_waking x (with_counts w.graph c w.collection);
+}
 
-module _ (w : World) (old new : HeapState) (c : GraphCmd) (answer : Reply) (ds es : List Bits) (p : Place) (x : Name) (ok : IsValid w) (l : LiesIn old w) (colours : ColourInvariant (with_colours old ds)) (black : IsSettled w → AreBlack (with_colours old ds) w) where
-  starts_same : (v : World) → LiesIn new v → IsThere old.shape new.shape p x → IsSettled w → AreSameStarts new v (BlackOr (with_colours old ds) p) (λ s. Has w.black s ⊎ (x ≡ s))
+module _ (w : World) (old new : HeapState) (c : GraphCmd) (answer : Reply) (ds es : List Bits) (p : Place) (x : Name)
+    (ok : IsValid w) (l : LiesIn old w) (colours : ColourInvariant (with_colours old ds)) (black : IsSettled w
+    → AreBlack (with_colours old ds) w) where
+  starts_same : (v : World) → LiesIn new v → IsThere old.shape new.shape p x → IsSettled w
+      → AreSameStarts new v (BlackOr (with_colours old ds) p) (λ s. Has w.black s ⊎ (x ≡ s))
   starts_same v lv is settled = record {
     same = λ q y e. (
       λ s. elim s [
@@ -54,26 +66,44 @@ module _ (w : World) (old new : HeapState) (c : GraphCmd) (answer : Reply) (ds e
       ],
       λ s. elim s [
         | inr same ↦ inr (lv.shown.apart q p x (e ∙ ap (λ z. Some z) (sym same)) is.named)
-        | inl has ↦ (let at = place_of old w l y ((ok.settled settled).present y has) in inl (subst (IsBlack (with_colours old ds)) (lv.shown.apart at.0 q y (is.kept at.0 y at.1) e) ((black settled y at.0 at.1).0 has)))
+        | inl has ↦ (let at = place_of old w l y ((ok.settled settled).present y has) in
+            inl (subst (IsBlack (with_colours old ds)) (lv.shown.apart at.0 q y (is.kept at.0 y at.1) e)
+            ((black settled y at.0 at.1).0 has)))
       ],
     );
     placed = λ q s. elim s [
-      | inl b ↦ (let n = name_of old.shape q (colours.seen_present q (inr b)) in named_present new.shape q n.0 (is.kept q n.0 n.1))
+      | inl b ↦ (let n = name_of old.shape q (colours.seen_present q (inr b)) in
+          named_present new.shape q n.0 (is.kept q n.0 n.1))
       | inr at ↦ subst (IsPresent new.shape) (sym at) (named_present new.shape p x is.named)
     ];
     named = λ y s. elim s [
-      | inl has ↦ (let at = place_of old w l y ((ok.settled settled).present y has) in present_named new v lv at.0 y (is.kept at.0 y at.1))
+      | inl has ↦ (let at = place_of old w l y ((ok.settled settled).present y has) in
+          present_named new v lv at.0 y (is.kept at.0 y at.1))
       | inr same ↦ subst (world.IsPresent v) same (present_named new v lv p x is.named)
     ];
   }
 
-  module _ (at : places.FinMap name_cmp (ℕ × ℕ)) (owner : List (Option ℕ)) (step : IsStepIn w old new c answer l) (is : IsThere old.shape new.shape p x) (wakes : woken_by w.graph c ≡ Some x) (lies : (b : Names) → LiesIn new (world_after w c x at owner b)) (has : (b : Names) → HasPlace w (step_of w.graph c).0 x (world_after w c x at owner b)) (spread : IsSettled w → (q : Place) → IsBlack (with_colours new es) q ↔ Reached new.shape (BlackOr (with_colours old ds) p) q) where
-    does_in : (b : Names) → world.Wakes w (with_counts w.graph c w.collection) (marking_of w.collection) (step_of w.graph c).0 x (world_after w c x at owner b) → (IsSettled w → AreBlack (with_colours new es) (world_after w c x at owner b)) → DoesInWorld w c answer new es
+  module _ (at : places.FinMap name_cmp (ℕ × ℕ)) (owner : List (Option ℕ)) (step : IsStepIn w old new c answer l)
+      (is : IsThere old.shape new.shape p x) (wakes : woken_by w.graph c ≡ Some x) (lies : (b : Names)
+      → LiesIn new (world_after w c x at owner b))
+      (has : (b : Names) → HasPlace w (step_of w.graph c).0 x (world_after w c x at owner b)) (spread : IsSettled w
+      → (q : Place) → IsBlack (with_colours new es) q ↔ Reached new.shape (BlackOr (with_colours old ds) p) q) where
+    does_in : (b : Names)
+        → world.Wakes w (with_counts w.graph c w.collection) (marking_of w.collection) (step_of w.graph c).0 x
+        (world_after w c x at owner b) → (IsSettled w → AreBlack (with_colours new es) (world_after w c x at owner b))
+        → DoesInWorld w c answer new es
     does_in b k blacks = record {
       after = world_after w c x at owner b;
-      command = command_accepted w (world_after w c x at owner b) c answer (Some x) l.calm step.answer_is step.accepted wakes (has b, k);
+      command = command_accepted w (world_after w c x at owner b) c answer (Some x) l.calm step.answer_is step.accepted
+          wakes (has b, k);
       lies = lies b;
-      black = λ settled. blacks (record { none_marking = sym (woken_marking x (with_counts w.graph c w.collection) ∙ counted_marking w c w.collection) ∙ settled.none_marking; none_preparing = l.calm });
+      black = λ settled. blacks
+          (record {
+            none_marking =
+                sym (woken_marking x (with_counts w.graph c w.collection) ∙ counted_marking w c w.collection)
+                ∙ settled.none_marking;
+            none_preparing = l.calm;
+          });
       out_is = refl;
       graph_is = refl;
       collection_is = ap (λ o. waking o (with_counts w.graph c w.collection)) (sym wakes);
@@ -88,18 +118,23 @@ module _ (w : World) (old new : HeapState) (c : GraphCmd) (answer : Reply) (ds e
         let Q : Name → Type 0 = λ s. Has w.black s ⊎ (x ≡ s) in
         let st : AreSameStarts new v P Q = starts_same v lv is settled in
         does_in (black_names k at)
-        (subst (λ zs. world.Wakes w (with_counts w.graph c w.collection) zs (step_of w.graph c).0 x v) (sym settled.none_marking) (
+        (subst (λ zs. world.Wakes w (with_counts w.graph c w.collection) zs (step_of w.graph c).0 x v)
+        (sym settled.none_marking) (
           refl,
           λ y. (
             λ h. (let b = black_named k at y h in
-                let e : name_at new.shape b.0 ≡ Some y = (lv.places_are y b.0).0 b.1 in
-                ((same_reached new v lv P Q st b.0 y e).0 ((spread settled b.0).0 b.2), present_named new v lv b.0 y e)),
+                let e : name_at new.shape b.0 ≡ Some y = (lv.places_are y b.0).0 b.1 in (
+                  (same_reached new v lv P Q st b.0 y e).0 ((spread settled b.0).0 b.2),
+                  present_named new v lv b.0 y e,
+                )),
             λ r. (let q = place_of new v lv y r.1 in
-                named_black k at y q.0 ((lv.places_are y q.0).1 q.1) ((spread settled q.0).1 ((same_reached new v lv P Q st q.0 y q.1).1 r.0))),
+                named_black k at y q.0 ((lv.places_are y q.0).1 q.1)
+                ((spread settled q.0).1 ((same_reached new v lv P Q st q.0 y q.1).1 r.0))),
           ),
         ))
         (λ s y q e. (
-          λ h. (let b = black_named k at y h in subst (IsBlack k) (lv.shown.apart b.0 q y ((lv.places_are y b.0).0 b.1) e) b.2),
+          λ h. (let b = black_named k at y h in
+              subst (IsBlack k) (lv.shown.apart b.0 q y ((lv.places_are y b.0).0 b.1) e) b.2),
           λ b. named_black k at y q ((lv.places_are y q).1 e) b,
         ))
 
@@ -108,16 +143,27 @@ module _ (w : World) (old new : HeapState) (c : GraphCmd) (answer : Reply) (ds e
       where
         go : (zs : List ℕ) → marking_of w.collection ≡ zs → DoesInWorld w c answer new es
         go [] e = does_settled (record { none_marking = e; none_preparing = l.calm })
-        go (z ∷ zs) e = does_in w.black (subst (λ ys. world.Wakes w (with_counts w.graph c w.collection) ys (step_of w.graph c).0 x (world_after w c x at owner w.black)) (sym e) (refl, refl)) (λ settled. absurd (cc (settled.none_marking, e)))
+        go (z ∷ zs) e = does_in w.black
+            (subst (λ ys. world.Wakes w (with_counts w.graph c w.collection) ys (step_of w.graph c).0 x
+            (world_after w c x at owner w.black)) (sym e) (refl, refl))
+            (λ settled. absurd (cc (settled.none_marking, e)))
 
   -- the cell was there
-  pub does_found : DoesStep old c (Ok answer) new → StayInPlace old.shape new.shape → Wakes old c (Some x) → name_at old.shape p ≡ Some x → (IsSettled w → (q : Place) → IsBlack (with_colours new es) q ↔ Reached new.shape (BlackOr (with_colours old ds) p) q) → DoesInWorld w c answer new es
+  pub does_found : DoesStep old c (Ok answer) new → StayInPlace old.shape new.shape → Wakes old c (Some x)
+      → name_at old.shape p ≡ Some x
+      → (IsSettled w → (q : Place) → IsBlack (with_colours new es) q
+      ↔ Reached new.shape (BlackOr (with_colours old ds) p) q) → DoesInWorld w c answer new es
   does_found does stay wakes e spread =
       let step = step_in w old new c answer ok l does in
       does_waking w.places w.owner step
-      (record { named = stay.names p ∙ e; kept = λ q y was. stay.names q ∙ was; fresh = λ q y now. inl (sym (stay.names q) ∙ now) })
+      (record {
+        named = stay.names p ∙ e;
+        kept = λ q y was. stay.names q ∙ was;
+        fresh = λ q y now. inl (sym (stay.names q) ∙ now);
+      })
       (woken_in w old c (Some x) ok l wakes)
-      (λ b. lies_still w (world_after w c x w.places w.owner b) old new c answer l step stay refl refl refl refl refl refl refl)
+      (λ b. lies_still w (world_after w c x w.places w.owner b) old new c answer l step stay refl refl refl refl refl
+      refl refl)
       (λ b. record {
         graph_is = refl;
         found = λ there. (refl, refl);
@@ -134,7 +180,11 @@ module _ (w : World) (old new : HeapState) (c : GraphCmd) (answer : Reply) (ds e
   there_made zone m = record { named = here; kept = stays; fresh = comes }
     where
       here : name_at new.shape p ≡ Some x
-      here = m.names p ∙ elim (same-place p p) [ inl e ↦ ap (λ b. if b then Some x else name_at old.shape p) e.1 | inr n ↦ absurd (n.0 refl) ]
+      here = m.names p ∙ elim (same-place p p) [
+        | inl e ↦ ap (λ b. if b then Some x else name_at old.shape p) e.1
+        | inr n
+            ↦ absurd (n.0 refl)
+      ]
 
       stays : (q : Place) (y : Name) → name_at old.shape q ≡ Some y → name_at new.shape q ≡ Some y
       stays q y was = m.names q ∙ elim (same-place q p) [
@@ -142,42 +192,58 @@ module _ (w : World) (old new : HeapState) (c : GraphCmd) (answer : Reply) (ds e
         | inr n ↦ ap (λ b. if b then Some x else name_at old.shape q) n.1 ∙ was
       ]
 
-      comes : (q : Place) (y : Name) → name_at new.shape q ≡ Some y → (name_at old.shape q ≡ Some y) ⊎ ((q ≡ p) × (x ≡ y))
+      comes : (q : Place) (y : Name) → name_at new.shape q ≡ Some y → (name_at old.shape q ≡ Some y)
+          ⊎ ((q ≡ p) × (x ≡ y))
       comes q y now = elim (same-place q p) [
-        | inl e ↦ inr (e.0, some_one _ _ (sym (m.names q ∙ ap (λ b. if b then Some x else name_at old.shape q) e.1) ∙ now))
+        | inl e ↦ inr (
+          e.0,
+          some_one _ _ (sym (m.names q ∙ ap (λ b. if b then Some x else name_at old.shape q) e.1)
+              ∙ now),
+        )
         | inr n ↦ inl (sym (m.names q ∙ ap (λ b. if b then Some x else name_at old.shape q) n.1) ∙ now)
       ]
 
   abbrev placed : places.FinMap name_cmp (ℕ × ℕ)
   placed = places.insert w.places x p
 
-  absent_before : IsStepIn w old new c answer l → (zone : ℕ) → ComesTo old.shape new.shape zone p x → world.IsPresent w x → ⊥
+  absent_before : IsStepIn w old new c answer l → (zone : ℕ) → ComesTo old.shape new.shape zone p x
+      → world.IsPresent w x → ⊥
   absent_before step zone m there =
       let is = there_made zone m in
       let q = place_of old w l x there in
       let same : q.0 ≡ p = step.shown.apart q.0 p x (is.kept q.0 x q.1) is.named in
       m.free (subst (IsPresent old.shape) same (named_present old.shape q.0 x q.1))
 
-  placed_are : IsStepIn w old new c answer l → (zone : ℕ) → ComesTo old.shape new.shape zone p x → (y : Name) (q : Place) → (places.get placed y ≡ Some q) ↔ (name_at new.shape q ≡ Some y)
-  placed_are step zone m y q = (λ e. there (eq_by_cmp name_cmp y x) refl (sym (places.get-insert names_total w.places x p y) ∙ e), λ e. places.get-insert names_total w.places x p y ∙ back e (eq_by_cmp name_cmp y x) refl)
+  placed_are : IsStepIn w old new c answer l → (zone : ℕ) → ComesTo old.shape new.shape zone p x
+      → (y : Name) (q : Place) → (places.get placed y ≡ Some q) ↔ (name_at new.shape q ≡ Some y)
+  placed_are step zone m y q = (
+    λ e. there (eq_by_cmp name_cmp y x) refl (sym (places.get-insert names_total w.places x p y) ∙ e),
+    λ e. places.get-insert names_total w.places x p y ∙ back e (eq_by_cmp name_cmp y x) refl,
+  )
     where
       is : IsThere old.shape new.shape p x
       is = there_made zone m
 
-      there : (b : Bool) → eq_by_cmp name_cmp y x ≡ b → cond b (Some p) (places.get w.places y) ≡ Some q → name_at new.shape q ≡ Some y
-      there true same e = ap (name_at new.shape) (sym (some_one _ _ e)) ∙ (is.named ∙ ap (λ z. Some z) (sym (eq_name-is y x same)))
+      there : (b : Bool) → eq_by_cmp name_cmp y x ≡ b → cond b (Some p) (places.get w.places y) ≡ Some q
+          → name_at new.shape q ≡ Some y
+      there true same e = ap (name_at new.shape) (sym (some_one _ _ e))
+          ∙ (is.named ∙ ap (λ z. Some z) (sym (eq_name-is y x same)))
       there false other e = is.kept q y ((l.places_are y q).0 e)
 
-      back : name_at new.shape q ≡ Some y → (b : Bool) → eq_by_cmp name_cmp y x ≡ b → cond b (Some p) (places.get w.places y) ≡ Some q
-      back e true same = ap (λ z. Some z) (step.shown.apart p q y (is.named ∙ ap (λ z. Some z) (sym (eq_name-is y x same))) e)
+      back : name_at new.shape q ≡ Some y → (b : Bool) → eq_by_cmp name_cmp y x ≡ b
+          → cond b (Some p) (places.get w.places y) ≡ Some q
+      back e true same = ap (λ z. Some z)
+          (step.shown.apart p q y (is.named ∙ ap (λ z. Some z) (sym (eq_name-is y x same))) e)
       back e false other = elim (is.fresh q y e) [
         | inl was ↦ (l.places_are y q).1 was
         | inr n ↦ absurd (cc (ap (λ z. eq_by_cmp name_cmp z x) (sym n.1), eq_name-refl x, other))
       ]
 
-  lies_made : (b : Names) → IsStepIn w old new c answer l → (zone : ℕ) → ComesTo old.shape new.shape zone p x → LiesIn new (world_after w c x placed (owners_of new.shape.arenas) b)
+  lies_made : (b : Names) → IsStepIn w old new c answer l → (zone : ℕ) → ComesTo old.shape new.shape zone p x
+      → LiesIn new (world_after w c x placed (owners_of new.shape.arenas) b)
   lies_made b step zone m =
-      lies_from new (step_of l.graph c).0 (world_after w c x placed (owners_of new.shape.arenas) b) step.shown step.well_formed step.part m.whole
+      lies_from new (step_of l.graph c).0 (world_after w c x placed (owners_of new.shape.arenas) b) step.shown
+      step.well_formed step.part m.whole
       (placed_are step zone m)
       refl
       l.weak_is
@@ -185,7 +251,10 @@ module _ (w : World) (old new : HeapState) (c : GraphCmd) (answer : Reply) (ds e
       (l.out_is ∙ sym m.outs)
       (λ y q. ((λ has. (m.unswept q y).1 ((l.white_are y q).0 has)), λ un. (l.white_are y q).1 ((m.unswept q y).0 un)))
 
-  pub does_made : (zone : ℕ) → DoesStep old c (Ok answer) new → ComesTo old.shape new.shape zone p x → Wakes old c (Some x) → (IsSettled w → (q : Place) → IsBlack (with_colours new es) q ↔ Reached new.shape (BlackOr (with_colours old ds) p) q) → DoesInWorld w c answer new es
+  pub does_made : (zone : ℕ) → DoesStep old c (Ok answer) new → ComesTo old.shape new.shape zone p x
+      → Wakes old c (Some x)
+      → (IsSettled w → (q : Place) → IsBlack (with_colours new es) q
+      ↔ Reached new.shape (BlackOr (with_colours old ds) p) q) → DoesInWorld w c answer new es
   does_made zone does m wakes spread =
       let step = step_in w old new c answer ok l does in
       let is = there_made zone m in
@@ -195,7 +264,14 @@ module _ (w : World) (old new : HeapState) (c : GraphCmd) (answer : Reply) (ds e
       (λ b. record {
         graph_is = refl;
         found = λ there. absurd (absent_before step zone m there);
-        made = λ absent. (zone, p, zone_named new (step_of l.graph c).0 (step_of w.graph c).0 p x step.shown step.part is.named ∙ ap (λ z. Some z) m.zone_is, place_is_for old w l zone p (owners_of new.shape.arenas) m.place_is m.owners, refl);
+        made = λ absent. (
+          zone,
+          p,
+          zone_named new (step_of l.graph c).0 (step_of w.graph c).0 p x step.shown step.part
+              is.named ∙ ap (λ z. Some z) m.zone_is,
+          place_is_for old w l zone p (owners_of new.shape.arenas) m.place_is m.owners,
+          refl,
+        );
         out_is = refl;
         white_is = refl;
         weak_is = refl;

@@ -1,38 +1,7 @@
 -- How black spreads from what a command wakes.
-use Rattle.std.proofs.Common.{
-  ◌≡◌,
-  ◌≢◌,
-  ◌<◌,
-  ◌≤◌,
-  ◌+◌,
-  ◌==◌,
-  ℕ,
-  zero,
-  suc,
-  Bool,
-  true,
-  false,
-  List,
-  [],
-  ◌∷◌,
-  length,
-  Option,
-  Some,
-  None,
-  IsSome,
-  is_some,
-  slice_get,
-  if◌then◌else◌,
-  refl,
-  sym,
-  ap,
-  subst,
-  ◌∙◌,
-  inl,
-  inr,
-  arith,
-  option_map,
-}
+use Rattle.std.proofs.Common.{◌≡◌, ◌≢◌, ◌<◌, ◌≤◌, ◌+◌, ◌==◌, ℕ, zero, suc, Bool, true, false, List, [], ◌∷◌, length}
+use Rattle.std.proofs.Common.{Option, Some, None, IsSome, is_some, slice_get, if◌then◌else◌, refl, sym, ap, subst, ◌∙◌}
+use Rattle.std.proofs.Common.{inl, inr, arith, option_map}
 use Rattle.gz_names.specs.declared.numbers.Place.{Place}
 use Rattle.cell_bits.specs.declared.bits.Bits.{Bits}
 use Rattle.arena_table.specs.Cells.{CellState}
@@ -53,13 +22,18 @@ use Rattle.slice_driver.specs.Commands.{SpreadsBlack}
 use Rattle.weak_maps.specs.WeakMaps.{value_of}
 
 -- reached in a heap with the same arenas and entries
-pub reached_kept : (s t : Shape) (P : Place → Type 0) → t.arenas ≡ s.arenas → t.weak ≡ s.weak → {p : Place} → Reached s P p → Reached t P p
+pub reached_kept : (s t : Shape) (P : Place → Type 0) → t.arenas ≡ s.arenas → t.weak ≡ s.weak → {p : Place}
+    → Reached s P p → Reached t P p
 reached_kept s t P e f (reached.from st) = reached.from st
-reached_kept s t P e f (reached.along {x} {y} r (i, lt, at)) = reached.along (reached_kept s t P e f r) (i, lt, ap (λ (xs : List ArenaShape). field_in (cell_in_arena (slice_get xs x.0) x.1) i) e ∙ at)
-reached_kept s t P e f (reached.weak {m} {k} {v} at a b) = reached.weak (ap (λ w. value_of w m k) f ∙ at) (reached_kept s t P e f a) (reached_kept s t P e f b)
+reached_kept s t P e f (reached.along {x} {y} r (i, lt, at)) =
+    reached.along (reached_kept s t P e f r)
+    (i, lt, ap (λ (xs : List ArenaShape). field_in (cell_in_arena (slice_get xs x.0) x.1) i) e ∙ at)
+reached_kept s t P e f (reached.weak {m} {k} {v} at a b) =
+    reached.weak (ap (λ w. value_of w m k) f ∙ at) (reached_kept s t P e f a) (reached_kept s t P e f b)
 
 -- an exposed cell, where no zone is marking; the arenas and the entries may be of a heap with other registers
-pub exposes_spreads : (h : HeapState) (p : Piles) (x : Place) (k : HeapState) (q : Piles) → Exposes h p x k q → ((y : Place) → is_marking h.shape y ≡ false) → SpreadsBlack h x k
+pub exposes_spreads : (h : HeapState) (p : Piles) (x : Place) (k : HeapState) (q : Piles) → Exposes h p x k q
+    → ((y : Place) → is_marking h.shape y ≡ false) → SpreadsBlack h x k
 exposes_spreads h p x k q ex none y =
     let both = ex.settled none y in
     let same : k.shape ≡ h.shape = ap (λ (z : HeapState). z.shape) ex.spreads.blackens.rest in (
@@ -68,7 +42,9 @@ exposes_spreads h p x k q ex none y =
     )
 
 -- one cell turned black
-pub one_spreads : (h k : HeapState) (stack : Piles) (p : Place) → MarkingInvariant k stack → ((y : Place) → is_marking k.shape y ≡ false) → IsBlack k p → ((q : Place) → q ≢ p → colour_of k q ≡ colour_of h q) → SpreadsBlack h p k
+pub one_spreads : (h k : HeapState) (stack : Piles) (p : Place) → MarkingInvariant k stack
+    → ((y : Place) → is_marking k.shape y ≡ false) → IsBlack k p → ((q : Place) → q ≢ p → colour_of k q ≡ colour_of h q)
+    → SpreadsBlack h p k
 one_spreads h k stack p inv none black same q = (
   λ b. elim (same-place q p) [ inl e ↦ reached.from (inr e.0) | inr n ↦ reached.from (inl (sym (same q n.0) ∙ b)) ],
   λ r. reached_is_black k stack inv none (reached_more k.shape (BlackOr h p) (IsBlack k) (λ y s. elim s [
@@ -78,15 +54,19 @@ one_spreads h k stack p inv none black same q = (
 )
 
 -- colours with bits in flight, as a cell is made
-module _ (old : HeapState) (zone : ℕ) (p : Place) (cell : CellState) (new : HeapState) (flown : ℕ → Option Bits) (m : Makes old zone p cell new) (covers : Covers old.shape flown) (sized : length old.colours ≡ length old.shape.arenas) where
-  joined_bits : (h : HeapState) (q : Place) → colour_of (joined h flown) q ≡ colour_in (option_map (flown_or (flown q.0)) (slice_get h.colours q.0)) q.1
+module _ (old : HeapState) (zone : ℕ) (p : Place) (cell : CellState) (new : HeapState) (flown : ℕ → Option Bits)
+    (m : Makes old zone p cell new) (covers : Covers old.shape flown)
+    (sized : length old.colours ≡ length old.shape.arenas) where
+  joined_bits : (h : HeapState) (q : Place)
+      → colour_of (joined h flown) q ≡ colour_in (option_map (flown_or (flown q.0)) (slice_get h.colours q.0)) q.1
   joined_bits h q = ap (λ o. colour_in o q.1) (flown_get flown h.colours q.0 0 q.0 (omega arith))
 
   own : (o : Option Bits) → option_map (flown_or None) o ≡ o
   own None = refl
   own (Some b) = refl
 
-  flown_bits : (xs : List Bits) (i : ℕ) (b : Bits) → i < length xs → option_map (flown_or (Some b)) (slice_get xs i) ≡ Some b
+  flown_bits : (xs : List Bits) (i : ℕ) (b : Bits) → i < length xs → option_map (flown_or (Some b)) (slice_get xs i)
+      ≡ Some b
   flown_bits [] i b lt = absurd (omega (arith, lt))
   flown_bits (x ∷ xs) zero b lt = refl
   flown_bits (x ∷ xs) (suc i) b lt = flown_bits xs i b (omega (arith, lt))
@@ -103,21 +83,33 @@ module _ (old : HeapState) (zone : ℕ) (p : Place) (cell : CellState) (new : He
   pub others_keep : (q : Place) → q ≢ p → colour_of (joined new flown) q ≡ colour_of (joined old flown) q
   others_keep q n = joined_bits new q ∙ (go (flown q.0) refl ∙ sym (joined_bits old q))
     where
-      go : (o : Option Bits) → flown q.0 ≡ o → colour_in (option_map (flown_or (flown q.0)) (slice_get new.colours q.0)) q.1 ≡ colour_in (option_map (flown_or (flown q.0)) (slice_get old.colours q.0)) q.1
+      go : (o : Option Bits) → flown q.0 ≡ o
+          → colour_in (option_map (flown_or (flown q.0)) (slice_get new.colours q.0)) q.1
+          ≡ colour_in (option_map (flown_or (flown q.0)) (slice_get old.colours q.0)) q.1
       go None e =
-          ap (λ f. colour_in (option_map (flown_or f) (slice_get new.colours q.0)) q.1) e ∙ (ap (λ o. colour_in o q.1) (own (slice_get new.colours q.0)) ∙ (m.colours q n
-          ∙ (ap (λ o. colour_in o q.1) (sym (own (slice_get old.colours q.0))) ∙ ap (λ f. colour_in (option_map (flown_or f) (slice_get old.colours q.0)) q.1) (sym e))))
+          ap (λ f. colour_in (option_map (flown_or f) (slice_get new.colours q.0)) q.1) e
+          ∙ (ap (λ o. colour_in o q.1) (own (slice_get new.colours q.0)) ∙ (m.colours q n
+          ∙ (ap (λ o. colour_in o q.1) (sym (own (slice_get old.colours q.0)))
+          ∙ ap (λ f. colour_in (option_map (flown_or f) (slice_get old.colours q.0)) q.1) (sym e))))
       go (Some b) e =
           let out : IsSome (out_of old.shape q.0) = sym (covers q.0) ∙ ap is_some e in
           let lt : q.0 < length old.shape.arenas = out_within old.shape.arenas q.0 out in
-          let more : length old.shape.arenas ≤ (if p.0 == length old.shape.arenas then length old.shape.arenas + 1 else length old.shape.arenas) = no_fewer (p.0 == length old.shape.arenas) (length old.shape.arenas) in
-          let size : length new.colours ≡ (if p.0 == length old.shape.arenas then length old.shape.arenas + 1 else length old.shape.arenas) = m.coloured ∙ m.grown in
+          let more : length old.shape.arenas
+          ≤ (if p.0 == length old.shape.arenas then length old.shape.arenas + 1 else length old.shape.arenas) =
+          no_fewer (p.0 == length old.shape.arenas) (length old.shape.arenas) in
+          let size : length new.colours
+          ≡ (if p.0 == length old.shape.arenas then length old.shape.arenas + 1 else length old.shape.arenas) =
+          m.coloured ∙ m.grown in
           ap (λ f. colour_in (option_map (flown_or f) (slice_get new.colours q.0)) q.1) e
-          ∙ (ap (λ o. colour_in o q.1) (flown_bits new.colours q.0 b (rw size (omega (arith, lt, more))) ∙ sym (flown_bits old.colours q.0 b (omega (arith, lt, sized))))
+          ∙ (ap (λ o. colour_in o q.1) (flown_bits new.colours q.0 b (rw size (omega (arith, lt, more)))
+          ∙ sym (flown_bits old.colours q.0 b (omega (arith, lt, sized))))
           ∙ ap (λ f. colour_in (option_map (flown_or f) (slice_get old.colours q.0)) q.1) (sym e))
 
   pub made_black : IsBlack (joined new flown) p
-  made_black = joined_bits new p ∙ (ap (λ f. colour_in (option_map (flown_or f) (slice_get new.colours p.0)) p.1) (none (flown p.0) (covers p.0 ∙ ap is_some m.in_place)) ∙ (ap (λ o. colour_in o p.1) (own (slice_get new.colours p.0)) ∙ m.black))
+  made_black = joined_bits new p
+      ∙ (ap (λ f. colour_in (option_map (flown_or f) (slice_get new.colours p.0)) p.1)
+      (none (flown p.0) (covers p.0 ∙ ap is_some m.in_place))
+      ∙ (ap (λ o. colour_in o p.1) (own (slice_get new.colours p.0)) ∙ m.black))
     where
       none : (o : Option Bits) → is_some o ≡ false → o ≡ None
       none None e = refl

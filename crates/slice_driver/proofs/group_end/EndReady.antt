@@ -1,5 +1,6 @@
 -- The current group, as a collector has it, and what holds of the heap where no arena is out.
-use Rattle.std.proofs.Common.{◌≡◌, ℕ, Option, None, Some, List, length, drop, slice_get, is_some, sym, ap, subst, ◌∙◌, inl}
+use Rattle.std.proofs.Common.{◌≡◌, ℕ, Option, None, Some, List, length, drop, slice_get, is_some, sym, ap, subst, ◌∙◌}
+use Rattle.std.proofs.Common.{inl}
 use Rattle.gz_names.specs.Zones.{zones_in}
 use Rattle.gz_names.specs.declared.numbers.Place.{Place}
 use Rattle.gz_names.specs.declared.zone_sets.ZoneSet.{ZoneSet}
@@ -24,11 +25,16 @@ pub record IsReadyHere (v : CollectorState) (g : ZoneSet) : Type 0 where
   pub ready : IsReady v g rest
   pub behind : drop 1 v.groups ≡ rest
 
-pub ready_here : (v now : CollectorState) → v ≡ now → (g : ZoneSet) (rest : List ZoneSet) → IsReady now g rest → (group : ZoneSet) → slice_get v.groups 0 ≡ Some group → IsReadyHere v group
+pub ready_here : (v now : CollectorState) → v ≡ now → (g : ZoneSet) (rest : List ZoneSet) → IsReady now g rest
+    → (group : ZoneSet) → slice_get v.groups 0 ≡ Some group → IsReadyHere v group
 ready_here v now is g rest ready group at =
     let here : IsReady v g rest = subst (λ x. IsReady x g rest) (sym is) ready in
     let same : g ≡ group = some_one _ _ (sym (ap (λ (gs : List ZoneSet). slice_get gs 0) here.groups_are) ∙ at) in
-    record { rest = rest; ready = subst (λ x. IsReady v x rest) same here; behind = ap (λ (gs : List ZoneSet). drop 1 gs) here.groups_are }
+    record {
+      rest = rest;
+      ready = subst (λ x. IsReady v x rest) same here;
+      behind = ap (λ (gs : List ZoneSet). drop 1 gs) here.groups_are;
+    }
 
 -- at the end of a group each present cell has the colour that the end asks
 pub ends_coloured : (v : CollectorState) (flown : ℕ → Option Bits) (g : ZoneSet) (rest : List ZoneSet)
@@ -40,7 +46,8 @@ ends_coloured v flown g rest ready w k ok rep is =
     subst (λ h. AreColoured h w.graph k (zones_without k.marking (zones_in g))) own
     (coloured v flown w k g rest ok rep ready is)
 
-module _ (v : CollectorState) (flown : ℕ → Option Bits) (kept : (a : ℕ) → out_of v.heap.shape a ≡ None) (s : IsSound v flown) where
+module _ (v : CollectorState) (flown : ℕ → Option Bits) (kept : (a : ℕ) → out_of v.heap.shape a ≡ None)
+    (s : IsSound v flown) where
   own : heap_with v flown ≡ v.heap
   own = joined_none v.heap flown (λ a. no_some (flown a) (s.represents.flies.covers a ∙ ap is_some (kept a)))
 

@@ -1,5 +1,7 @@
 -- A graph without the names that a test drops: the present part of a world, once these are not present any more.
-use Rattle.std.proofs.Common.{◌≡◌, ◌↔◌, ◌+◌, ◌&&◌, ◌||◌, ◌==◌, ℕ, zero, suc, Bool, true, false, cond, refl, sym, ap, ◌∙◌, subst, arith, eqb, eqb-true, Option, None, Some, IsTrue, List, [], ◌∷◌, length, slice_get}
+use Rattle.std.proofs.Common.{◌≡◌, ◌↔◌, ◌+◌, ◌&&◌, ◌||◌, ◌==◌, ℕ, zero, suc, Bool, true, false, cond, refl, sym, ap}
+use Rattle.std.proofs.Common.{◌∙◌, subst, arith, eqb, eqb-true, Option, None, Some, IsTrue, List, [], ◌∷◌, length}
+use Rattle.std.proofs.Common.{slice_get}
 use Rattle.std.specs.List.{filter, list_any}
 use Rattle.std.specs.Option.{option_flatten}
 use Rattle.gz_names.specs.declared.names.Name.{Name}
@@ -29,19 +31,23 @@ restrict g keep = record g {
   entries = filter (λ (e : Entry). keep e.map && keep e.key) g.entries;
 }
 
-kept_at : (keep : Name → Bool) (n : ℕ) (os : List (Option Object)) (i : ℕ) → option_flatten (slice_get (kept_objects keep n os) i) ≡ cond (keep (Cell (n + i))) (option_flatten (slice_get os i)) None
+kept_at : (keep : Name → Bool) (n : ℕ) (os : List (Option Object)) (i : ℕ)
+    → option_flatten (slice_get (kept_objects keep n os) i)
+    ≡ cond (keep (Cell (n + i))) (option_flatten (slice_get os i)) None
 unfolding kept_objects
 kept_at keep n [] i = none (keep (Cell (n + i)))
   where
     none : (t : Bool) → ◌≡◌ {A = Option Object} None (cond t None None)
     none true = refl
     none false = refl
-kept_at keep n (o ∷ os) zero = let e : n ≡ n + 0 = omega arith in by (keep (Cell n)) ∙ ap (λ m. cond (keep (Cell m)) o None) e
+kept_at keep n (o ∷ os) zero = let e : n ≡ n + 0 = omega arith in
+    by (keep (Cell n)) ∙ ap (λ m. cond (keep (Cell m)) o None) e
   where
     by : (t : Bool) → option_flatten (Some (cond t o None)) ≡ cond t o None
     by true = refl
     by false = refl
-kept_at keep n (o ∷ os) (suc i) = let e : suc n + i ≡ n + suc i = omega arith in kept_at keep (suc n) os i ∙ ap (λ m. cond (keep (Cell m)) (option_flatten (slice_get os i)) None) e
+kept_at keep n (o ∷ os) (suc i) = let e : suc n + i ≡ n + suc i = omega arith in kept_at keep (suc n) os i
+    ∙ ap (λ m. cond (keep (Cell m)) (option_flatten (slice_get os i)) None) e
 
 kept_length : (keep : Name → Bool) (n : ℕ) (os : List (Option Object)) → length (kept_objects keep n os) ≡ length os
 unfolding kept_objects
@@ -51,7 +57,9 @@ kept_length keep n (o ∷ os) = ap suc (kept_length keep (suc n) os)
 abbrev is_wrapper_of : CompNo → ℕ → CompNo × ℕ → Bool
 is_wrapper_of c t w = (w.0.0 == c.0) && (w.1 == t)
 
-kept_wrapper : (keep : Name → Bool) (ws : List (CompNo × ℕ)) (c : CompNo) (t : ℕ) → list_any (is_wrapper_of c t) (filter (λ (w : CompNo × ℕ). keep (Wrap w.0 w.1)) ws) ≡ (keep (Wrap c t) && list_any (is_wrapper_of c t) ws)
+kept_wrapper : (keep : Name → Bool) (ws : List (CompNo × ℕ)) (c : CompNo) (t : ℕ)
+    → list_any (is_wrapper_of c t) (filter (λ (w : CompNo × ℕ). keep (Wrap w.0 w.1)) ws)
+    ≡ (keep (Wrap c t) && list_any (is_wrapper_of c t) ws)
 kept_wrapper keep [] c t = none (keep (Wrap c t))
   where
     none : (b : Bool) → false ≡ (b && false)
@@ -69,16 +77,30 @@ kept_wrapper keep (w ∷ ws) c t = by (kept_wrapper keep ws c t) (keep (Wrap w.0
     all true = refl
     all false = refl
 
-    by : (list_any (is_wrapper_of c t) (filter (λ (w : CompNo × ℕ). keep (Wrap w.0 w.1)) ws) ≡ (keep (Wrap c t) && list_any (is_wrapper_of c t) ws)) → (k a : Bool) → keep (Wrap w.0 w.1) ≡ k → is_wrapper_of c t w ≡ a → list_any (is_wrapper_of c t) (cond k (w ∷ filter (λ (w : CompNo × ℕ). keep (Wrap w.0 w.1)) ws) (filter (λ (w : CompNo × ℕ). keep (Wrap w.0 w.1)) ws)) ≡ (keep (Wrap c t) && (is_wrapper_of c t w || list_any (is_wrapper_of c t) ws))
-    by rest true true e f = ap (λ b. b || list_any (is_wrapper_of c t) (filter (λ (w : CompNo × ℕ). keep (Wrap w.0 w.1)) ws)) f ∙ sym (all true) ∙ ap (λ b. b && true) (sym e ∙ same f) ∙ ap (λ b. keep (Wrap c t) && (b || list_any (is_wrapper_of c t) ws)) (sym f)
-    by rest true false e f = ap (λ b. b || list_any (is_wrapper_of c t) (filter (λ (w : CompNo × ℕ). keep (Wrap w.0 w.1)) ws)) f ∙ rest ∙ ap (λ b. keep (Wrap c t) && (b || list_any (is_wrapper_of c t) ws)) (sym f)
-    by rest false true e f = rest ∙ ap (λ b. b && list_any (is_wrapper_of c t) ws) (sym (same f) ∙ e) ∙ ap (λ b. b && (is_wrapper_of c t w || list_any (is_wrapper_of c t) ws)) (sym e ∙ same f)
+    by : (list_any (is_wrapper_of c t) (filter (λ (w : CompNo × ℕ). keep (Wrap w.0 w.1)) ws)
+        ≡ (keep (Wrap c t) && list_any (is_wrapper_of c t) ws)) → (k a : Bool) → keep (Wrap w.0 w.1) ≡ k
+        → is_wrapper_of c t w ≡ a
+        → list_any (is_wrapper_of c t)
+        (cond k (w ∷ filter (λ (w : CompNo × ℕ). keep (Wrap w.0 w.1)) ws)
+        (filter (λ (w : CompNo × ℕ). keep (Wrap w.0 w.1)) ws))
+        ≡ (keep (Wrap c t) && (is_wrapper_of c t w || list_any (is_wrapper_of c t) ws))
+    by rest true true e f =
+        ap (λ b. b || list_any (is_wrapper_of c t) (filter (λ (w : CompNo × ℕ). keep (Wrap w.0 w.1)) ws)) f
+        ∙ sym (all true) ∙ ap (λ b. b && true) (sym e ∙ same f)
+        ∙ ap (λ b. keep (Wrap c t) && (b || list_any (is_wrapper_of c t) ws)) (sym f)
+    by rest true false e f =
+        ap (λ b. b || list_any (is_wrapper_of c t) (filter (λ (w : CompNo × ℕ). keep (Wrap w.0 w.1)) ws)) f ∙ rest
+        ∙ ap (λ b. keep (Wrap c t) && (b || list_any (is_wrapper_of c t) ws)) (sym f)
+    by rest false true e f = rest ∙ ap (λ b. b && list_any (is_wrapper_of c t) ws) (sym (same f) ∙ e)
+        ∙ ap (λ b. b && (is_wrapper_of c t w || list_any (is_wrapper_of c t) ws)) (sym e ∙ same f)
     by rest false false e f = rest ∙ ap (λ b. keep (Wrap c t) && (b || list_any (is_wrapper_of c t) ws)) (sym f)
 
 abbrev is_entry_of : Name → Name → Entry → Bool
 is_entry_of m k e = same_name e.map m && same_name e.key k
 
-kept_value : (keep : Name → Bool) (es : List Entry) (m k : Name) → value_in (filter (λ (e : Entry). keep e.map && keep e.key) es) m k ≡ cond (keep m && keep k) (value_in es m k) None
+kept_value : (keep : Name → Bool) (es : List Entry) (m k : Name)
+    → value_in (filter (λ (e : Entry). keep e.map && keep e.key) es) m k ≡ cond (keep m && keep k) (value_in es m k)
+    None
 kept_value keep [] m k = none (keep m && keep k)
   where
     none : (t : Bool) → ◌≡◌ {A = Option Name} None (cond t None None)
@@ -92,15 +114,27 @@ kept_value keep (e ∷ es) m k = by (kept_value keep es m k) (keep e.map && keep
         let key : e.key ≡ k = same_name-is e.key k (second_of_both (same_name e.map m) (same_name e.key k) hit) in
         λ i. keep (map i) && keep (key i)
 
-    by : (value_in (filter (λ (e : Entry). keep e.map && keep e.key) es) m k ≡ cond (keep m && keep k) (value_in es m k) None) → (t a : Bool) → (keep e.map && keep e.key) ≡ t → is_entry_of m k e ≡ a → value_in (cond t (e ∷ filter (λ (e : Entry). keep e.map && keep e.key) es) (filter (λ (e : Entry). keep e.map && keep e.key) es)) m k ≡ cond (keep m && keep k) (cond (is_entry_of m k e) (Some e.value) (value_in es m k)) None
-    by rest true true p q = ap (λ b. cond b (Some e.value) (value_in (filter (λ (e : Entry). keep e.map && keep e.key) es) m k)) q ∙ ap (λ b. cond b (Some e.value) None) (sym p ∙ same q) ∙ ap (λ b. cond (keep m && keep k) (cond b (Some e.value) (value_in es m k)) None) (sym q)
-    by rest true false p q = ap (λ b. cond b (Some e.value) (value_in (filter (λ (e : Entry). keep e.map && keep e.key) es) m k)) q ∙ rest ∙ ap (λ b. cond (keep m && keep k) (cond b (Some e.value) (value_in es m k)) None) (sym q)
-    by rest false true p q = rest ∙ ap (λ b. cond b (value_in es m k) None) (sym (same q) ∙ p) ∙ ap (λ b. cond b (cond (is_entry_of m k e) (Some e.value) (value_in es m k)) None) (sym p ∙ same q)
-    by rest false false p q = rest ∙ ap (λ b. cond (keep m && keep k) (cond b (Some e.value) (value_in es m k)) None) (sym q)
+    by : (value_in (filter (λ (e : Entry). keep e.map && keep e.key) es) m k ≡ cond (keep m && keep k) (value_in es m k)
+        None) → (t a : Bool) → (keep e.map && keep e.key) ≡ t → is_entry_of m k e ≡ a
+        → value_in (cond t (e ∷ filter (λ (e : Entry). keep e.map && keep e.key) es)
+        (filter (λ (e : Entry). keep e.map && keep e.key) es)) m k
+        ≡ cond (keep m && keep k) (cond (is_entry_of m k e) (Some e.value) (value_in es m k)) None
+    by rest true true p q =
+        ap (λ b. cond b (Some e.value) (value_in (filter (λ (e : Entry). keep e.map && keep e.key) es) m k)) q
+        ∙ ap (λ b. cond b (Some e.value) None) (sym p ∙ same q)
+        ∙ ap (λ b. cond (keep m && keep k) (cond b (Some e.value) (value_in es m k)) None) (sym q)
+    by rest true false p q =
+        ap (λ b. cond b (Some e.value) (value_in (filter (λ (e : Entry). keep e.map && keep e.key) es) m k)) q ∙ rest
+        ∙ ap (λ b. cond (keep m && keep k) (cond b (Some e.value) (value_in es m k)) None) (sym q)
+    by rest false true p q = rest ∙ ap (λ b. cond b (value_in es m k) None) (sym (same q) ∙ p)
+        ∙ ap (λ b. cond b (cond (is_entry_of m k e) (Some e.value) (value_in es m k)) None) (sym p ∙ same q)
+    by rest false false p q = rest ∙ ap (λ b. cond (keep m && keep k) (cond b (Some e.value) (value_in es m k)) None)
+        (sym q)
 
 module _ (g : GraphState) (keep : Name → Bool) where
   pub object_kept : (n : ℕ) → object_of (restrict g keep) n ≡ cond (keep (Cell n)) (object_of g n) None
-  object_kept n = kept_at keep 0 g.objects n ∙ (let e : 0 + n ≡ n = omega arith in ap (λ m. cond (keep (Cell m)) (object_of g n) None) e)
+  object_kept n = kept_at keep 0 g.objects n
+      ∙ (let e : 0 + n ≡ n = omega arith in ap (λ m. cond (keep (Cell m)) (object_of g n) None) e)
 
   pub wrapper_kept : (c : CompNo) (t : ℕ) → has_wrapper (restrict g keep) c t ≡ (keep (Wrap c t) && has_wrapper g c t)
   wrapper_kept c t = kept_wrapper keep g.wrappers c t
@@ -112,20 +146,25 @@ module _ (g : GraphState) (keep : Name → Bool) where
   objects_kept = kept_length keep 0 g.objects
 
   -- what is found is found in the whole graph, and passes
-  pub object_back : (n : ℕ) (o : Object) → object_of (restrict g keep) n ≡ Some o → (keep (Cell n) ≡ true) × (object_of g n ≡ Some o)
+  pub object_back : (n : ℕ) (o : Object) → object_of (restrict g keep) n ≡ Some o → (keep (Cell n) ≡ true)
+      × (object_of g n ≡ Some o)
   object_back n o e = go (keep (Cell n)) refl (sym (object_kept n) ∙ e)
     where
-      go : (t : Bool) → keep (Cell n) ≡ t → cond t (object_of g n) None ≡ Some o → (keep (Cell n) ≡ true) × (object_of g n ≡ Some o)
+      go : (t : Bool) → keep (Cell n) ≡ t → cond t (object_of g n) None ≡ Some o → (keep (Cell n) ≡ true)
+          × (object_of g n ≡ Some o)
       go true t e = (t, e)
       go false t e = absurd (cc e)
 
-  pub object_on : (n : ℕ) (o : Object) → keep (Cell n) ≡ true → object_of g n ≡ Some o → object_of (restrict g keep) n ≡ Some o
+  pub object_on : (n : ℕ) (o : Object) → keep (Cell n) ≡ true → object_of g n ≡ Some o
+      → object_of (restrict g keep) n ≡ Some o
   object_on n o t e = object_kept n ∙ ap (λ b. cond b (object_of g n) None) t ∙ e
 
-  pub value_back : (m k v : Name) → value_of (restrict g keep) m k ≡ Some v → (keep m ≡ true) × (keep k ≡ true) × (value_of g m k ≡ Some v)
+  pub value_back : (m k v : Name) → value_of (restrict g keep) m k ≡ Some v → (keep m ≡ true) × (keep k ≡ true)
+      × (value_of g m k ≡ Some v)
   value_back m k v e = go (keep m) (keep k) refl refl (sym (value_kept m k) ∙ e)
     where
-      go : (s t : Bool) → keep m ≡ s → keep k ≡ t → cond (s && t) (value_of g m k) None ≡ Some v → (keep m ≡ true) × (keep k ≡ true) × (value_of g m k ≡ Some v)
+      go : (s t : Bool) → keep m ≡ s → keep k ≡ t → cond (s && t) (value_of g m k) None ≡ Some v
+          → (keep m ≡ true) × (keep k ≡ true) × (value_of g m k ≡ Some v)
       go true true s t e = (s, t, e)
       go true false s t e = absurd (cc e)
       go false t' s t e = absurd (cc e)
@@ -133,17 +172,23 @@ module _ (g : GraphState) (keep : Name → Bool) where
   pub value_on : (m k : Name) → keep m ≡ true → keep k ≡ true → value_of (restrict g keep) m k ≡ value_of g m k
   value_on m k s t = value_kept m k ∙ ap (λ b. cond b (value_of g m k) None) (both_of (keep m) (keep k) s t)
 
-  pub wrapper_back : (c : CompNo) (t : ℕ) → IsTrue (has_wrapper (restrict g keep) c t) → (keep (Wrap c t) ≡ true) × IsTrue (has_wrapper g c t)
-  wrapper_back c t e = (first_of_both (keep (Wrap c t)) (has_wrapper g c t) (sym (wrapper_kept c t) ∙ e), second_of_both (keep (Wrap c t)) (has_wrapper g c t) (sym (wrapper_kept c t) ∙ e))
+  pub wrapper_back : (c : CompNo) (t : ℕ) → IsTrue (has_wrapper (restrict g keep) c t) → (keep (Wrap c t) ≡ true)
+      × IsTrue (has_wrapper g c t)
+  wrapper_back c t e = (
+    first_of_both (keep (Wrap c t)) (has_wrapper g c t) (sym (wrapper_kept c t) ∙ e),
+    second_of_both (keep (Wrap c t)) (has_wrapper g c t) (sym (wrapper_kept c t) ∙ e),
+  )
 
-  pub wrapper_on : (c : CompNo) (t : ℕ) → keep (Wrap c t) ≡ true → IsTrue (has_wrapper g c t) → IsTrue (has_wrapper (restrict g keep) c t)
+  pub wrapper_on : (c : CompNo) (t : ℕ) → keep (Wrap c t) ≡ true → IsTrue (has_wrapper g c t)
+      → IsTrue (has_wrapper (restrict g keep) c t)
   wrapper_on c t s e = wrapper_kept c t ∙ both_of (keep (Wrap c t)) (has_wrapper g c t) s e
 
   pub here_back : (x : Name) → IsHere (restrict g keep) x → IsHere g x × (keep x ≡ true)
   here_back (Wrap c t) e = (let r = wrapper_back c t e in (r.1, r.0))
   here_back (Cell n) e = go (object_of (restrict g keep) n) refl e.1
     where
-      go : (o : Option Object) → object_of (restrict g keep) n ≡ o → comp_of_object o ≡ Some e.0 → IsHere g (Cell n) × (keep (Cell n) ≡ true)
+      go : (o : Option Object) → object_of (restrict g keep) n ≡ o → comp_of_object o ≡ Some e.0 → IsHere g (Cell n)
+          × (keep (Cell n) ≡ true)
       go None at f = absurd (cc f)
       go (Some o) at f = (let r = object_back n o at in ((e.0, ap comp_of_object r.1 ∙ f), r.0))
 
@@ -166,16 +211,22 @@ module _ (g : GraphState) (keep : Name → Bool) where
   key_as_here h (Cell n) plain here = here
   key_as_here h (Wrap c t) plain here = absurd plain
 
-  module _ (w v : World) (s : Shows w g) (same : v.graph ≡ w.graph) (stays : (x : Name) → IsPresent v x ↔ (IsPresent w x × (keep x ≡ true))) (presence : NamesOnlyPresent v) (whole : IsWellFormed w.graph) where
-    edge_here : (n : ℕ) (y : Name) → HasEdge (restrict g keep) (Cell n) y → (keep (Cell n) ≡ true) × HasEdge g (Cell n) y × IsPresent w (Cell n)
+  module _ (w v : World) (s : Shows w g) (same : v.graph ≡ w.graph) (stays : (x : Name) → IsPresent v x
+      ↔ (IsPresent w x × (keep x ≡ true))) (presence : NamesOnlyPresent v) (whole : IsWellFormed w.graph) where
+    edge_here : (n : ℕ) (y : Name) → HasEdge (restrict g keep) (Cell n) y → (keep (Cell n) ≡ true)
+        × HasEdge g (Cell n) y × IsPresent w (Cell n)
     edge_here n y e = go (object_of (restrict g keep) n) refl e
       where
-        go : (o : Option Object) → object_of (restrict g keep) n ≡ o → HoldsInField o y → (keep (Cell n) ≡ true) × HasEdge g (Cell n) y × IsPresent w (Cell n)
+        go : (o : Option Object) → object_of (restrict g keep) n ≡ o → HoldsInField o y → (keep (Cell n) ≡ true)
+            × HasEdge g (Cell n) y × IsPresent w (Cell n)
         go None at f = absurd f
-        go (Some o) at f = (let r = object_back n o at in (r.0, subst (λ z. HoldsInField z y) (sym r.1) f, (s.here (Cell n)).0 (o.comp, ap comp_of_object r.1)))
+        go (Some o) at f = (let r = object_back n o at in
+            (r.0, subst (λ z. HoldsInField z y) (sym r.1) f, (s.here (Cell n)).0 (o.comp, ap comp_of_object r.1)))
 
     stays_along : (x y : Name) → IsPresent w x → keep x ≡ true → HasEdge g x y → keep y ≡ true
-    stays_along x y p t e = ((stays y).0 (presence.edges x y ((stays x).1 (p, t)) (subst (λ h. HasEdge h x y) (sym same) (part_edge w.graph g s.part x y e)))).1
+    stays_along x y p t e =
+        ((stays y).0 (presence.edges x y ((stays x).1 (p, t))
+        (subst (λ h. HasEdge h x y) (sym same) (part_edge w.graph g s.part x y e)))).1
 
     value_stays : (m k u : Name) → keep m ≡ true → keep k ≡ true → value_of g m k ≡ Some u → keep u ≡ true
     value_stays m k u tm tk e =
@@ -184,13 +235,17 @@ module _ (g : GraphState) (keep : Name → Bool) where
         let hm = cell_here m sc.0 nw sc.1 in
         let plain = s.well_formed.plain_keys m k u e in
         let hk = cell_here k sc.0 plain sc.2 in
-        ((stays u).0 (presence.entries m k u (subst (λ h. value_of h m k ≡ Some u) (sym same) (sym (s.part.entries m k hm (key_as_here g k plain hk)) ∙ e)) ((stays m).1 ((s.here m).0 hm, tm)) ((stays k).1 ((s.here k).0 hk, tk)))).1
+        ((stays u).0 (presence.entries m k u
+        (subst (λ h. value_of h m k ≡ Some u) (sym same) (sym (s.part.entries m k hm (key_as_here g k plain hk))
+        ∙ e)) ((stays m).1 ((s.here m).0 hm, tm)) ((stays k).1 ((s.here k).0 hk, tk)))).1
 
     well_formed : IsWellFormed (restrict g keep)
     well_formed = record {
-      fields = λ n y e. (let r = edge_here n y e in comps_on (Cell n) y r.0 (stays_along (Cell n) y r.2 r.0 r.1) (s.well_formed.fields n y r.1));
+      fields = λ n y e. (let r = edge_here n y e in
+          comps_on (Cell n) y r.0 (stays_along (Cell n) y r.2 r.0 r.1) (s.well_formed.fields n y r.1));
       keys = λ m k u e. (let r = value_back m k u e in comps_on m k r.0 r.1 (s.well_formed.keys m k u r.2));
-      values = λ m k u e. (let r = value_back m k u e in comps_on m u r.0 (value_stays m k u r.0 r.1 r.2) (s.well_formed.values m k u r.2));
+      values = λ m k u e. (let r = value_back m k u e in
+          comps_on m u r.0 (value_stays m k u r.0 r.1 r.2) (s.well_formed.values m k u r.2));
       no_wrappers = λ m k u e. s.well_formed.no_wrappers m k u (value_back m k u e).2;
       plain_keys = λ m k u e. s.well_formed.plain_keys m k u (value_back m k u e).2;
       delegates = λ m u c t e. absurd (s.well_formed.plain_keys m (Wrap c t) u (value_back m (Wrap c t) u e).2);
@@ -215,8 +270,11 @@ module _ (g : GraphState) (keep : Name → Bool) where
             go None e = e
             go (Some u) e = absurd (well.plain_keys m (Wrap c t) u e)
 
-        entries : (m k : Name) → IsHere (restrict g keep) m → IsKeyHere (restrict g keep) k → value_of (restrict g keep) m k ≡ value_of w.graph m k
-        entries m (Cell n) hm hk = (let a = here_back m hm in let b = here_back (Cell n) hk in value_on m (Cell n) a.1 b.1 ∙ s.part.entries m (Cell n) a.0 b.0)
+        entries : (m k : Name) → IsHere (restrict g keep) m → IsKeyHere (restrict g keep) k
+            → value_of (restrict g keep) m k ≡ value_of w.graph m k
+        entries m (Cell n) hm hk =
+            (let a = here_back m hm in let b = here_back (Cell n) hk in value_on m (Cell n) a.1 b.1
+            ∙ s.part.entries m (Cell n) a.0 b.0)
         entries m (Wrap c t) hm hk = no_entry (restrict g keep) well_formed m c t ∙ sym (no_entry w.graph whole m c t)
 
     pub shows_restricted : Shows v (restrict g keep)

@@ -1,5 +1,6 @@
 -- The names of gray cells in the worlds that a collector stands for, where no zone is marking.
-use Rattle.std.proofs.Common.{◌≡◌, ◌↔◌, ◌<◌, ℕ, Bool, true, false, List, length, Option, Some, None, IsSome, is_some, slice_get, option_and_then, refl, sym, ap, subst, ◌∙◌, inl, inr, arith}
+use Rattle.std.proofs.Common.{◌≡◌, ◌↔◌, ◌<◌, ℕ, Bool, true, false, List, length, Option, Some, None, IsSome, is_some}
+use Rattle.std.proofs.Common.{slice_get, option_and_then, refl, sym, ap, subst, ◌∙◌, inl, inr, arith}
 use Rattle.std.specs.List.Sorted.{IsPermutation, IsSorted}
 use Rattle.std.specs.Prelude.{if◌then◌else◌}
 use Rattle.std.proofs.lemmas.Option.{slice_get_within}
@@ -11,7 +12,8 @@ use Rattle.arena_table.specs.Cells.{CellState}
 use Rattle.arena_table.specs.Slots.{cell_in}
 use Rattle.colour_defs.specs.Ends.{Lists}
 use Rattle.colour_defs.specs.World.{World, Has, IsPresent as IsPresentName, IsSettled}
-use Rattle.heap_core.specs.Shape.{ArenaShape, AreWhole, IsPresent, Shape, is_white, name_at, out_in, out_of, present_in, zone_of}
+use Rattle.heap_core.specs.Shape.{ArenaShape, AreWhole, IsPresent, Shape, is_white, name_at, out_in, out_of, present_in}
+use Rattle.heap_core.specs.Shape.{zone_of}
 use Rattle.heap_core.specs.Heap.{HeapState, joined}
 use Rattle.barriers.specs.Colours.{IsGray}
 use Rattle.barriers.specs.Invariant.{ColourInvariant, MarkingInvariant}
@@ -32,11 +34,13 @@ use Rattle.slice_driver.proofs.marking.Steps.{settled_states}
 there : (slots : List (Option CellState)) (i : ℕ) → IsSome (cell_in slots i) → i < length slots
 there slots i some = go (slice_get slots i) refl some
   where
-    go : (o : Option (Option CellState)) → slice_get slots i ≡ o → IsSome (option_and_then (λ cell. cell) o) → i < length slots
+    go : (o : Option (Option CellState)) → slice_get slots i ≡ o → IsSome (option_and_then (λ cell. cell) o)
+        → i < length slots
     go None e some = absurd (cc some)
     go (Some cell) e some = slice_get_within slots i cell e
 
-stands : (o : Option Bits) (slots : List (Option CellState)) (i : ℕ) → IsSome (present_in o slots i) → IsSome (cell_in slots i)
+stands : (o : Option Bits) (slots : List (Option CellState)) (i : ℕ) → IsSome (present_in o slots i)
+    → IsSome (cell_in slots i)
 stands None slots i some = some
 stands (Some bits) slots i some = go (is_white bits i) some
   where
@@ -47,7 +51,8 @@ stands (Some bits) slots i some = go (is_white bits i) some
 pub present_within : (s : Shape) (p : Place) → AreWhole s.arenas → IsPresent s p → (p.0 < length s.arenas) × (p.1 < 64)
 present_within s p whole some = go (slice_get s.arenas p.0) refl some
   where
-    go : (o : Option ArenaShape) → slice_get s.arenas p.0 ≡ o → IsSome (Rattle.heap_core.specs.Shape.cell_in_arena o p.1) → (p.0 < length s.arenas) × (p.1 < 64)
+    go : (o : Option ArenaShape) → slice_get s.arenas p.0 ≡ o
+        → IsSome (Rattle.heap_core.specs.Shape.cell_in_arena o p.1) → (p.0 < length s.arenas) × (p.1 < 64)
     go None e some = absurd (cc some)
     go (Some arena) e some =
         let n = there arena.slots p.1 (stands arena.out arena.slots p.1 some) in
@@ -62,8 +67,14 @@ lists_as P Q xs same l = record {
 }
 
 -- in a settled world the gray names are those that are present and not black
-pub settled_grays : (c : CollectorState) (flown : ℕ → Option Bits) (w : World) (names : List Name) → Represents c flown w → IsSettled w → IsPermutation (grays_up_to (joined c.heap flown) (λ a. true) (length c.heap.shape.arenas)) names → IsSorted name_cmp names → Lists (λ x. IsPresentName w x × (Has w.black x → ⊥)) names
-settled_grays c flown w names rep settled moved sorted = lists_as (IsGrayIn h all) (λ x. IsPresentName w x × (Has w.black x → ⊥)) names (λ x. (out x, back x)) (grays_listed h all (length c.heap.shape.arenas) names rep.lies.shown.apart (λ p g. present_within c.heap.shape p rep.lies.whole (colours.seen_present p (inl g))) moved sorted)
+pub settled_grays : (c : CollectorState) (flown : ℕ → Option Bits) (w : World) (names : List Name)
+    → Represents c flown w → IsSettled w
+    → IsPermutation (grays_up_to (joined c.heap flown) (λ a. true) (length c.heap.shape.arenas)) names
+    → IsSorted name_cmp names → Lists (λ x. IsPresentName w x × (Has w.black x → ⊥)) names
+settled_grays c flown w names rep settled moved sorted =
+    lists_as (IsGrayIn h all) (λ x. IsPresentName w x × (Has w.black x → ⊥)) names (λ x. (out x, back x))
+    (grays_listed h all (length c.heap.shape.arenas) names rep.lies.shown.apart
+    (λ p g. present_within c.heap.shape p rep.lies.whole (colours.seen_present p (inl g))) moved sorted)
   where
     h : HeapState
     h = joined c.heap flown
@@ -83,14 +94,16 @@ settled_grays c flown w names rep settled moved sorted = lists_as (IsGrayIn h al
     back : (x : Name) → IsPresentName w x × (Has w.black x → ⊥) → IsGrayIn (joined c.heap flown) (λ a. true) x
     back x at =
         let p = place_of c.heap w rep.lies x at.0 in
-        let none = settled_states (heap_with c flown) c w c.run w.collection rep.runs settled.none_marking (zone_of c.heap.shape p.0) in
+        let none = settled_states (heap_with c flown) c w c.run w.collection rep.runs settled.none_marking
+        (zone_of c.heap.shape p.0) in
         elim (colours.no_white p.0 (named_present c.heap.shape p.0 x p.1) none) [
           | inl gray ↦ record { place = p.0; named = p.1; here = refl; gray = gray }
           | inr black ↦ absurd (at.1 ((rep.black settled x p.0 p.1).1 black))
         ]
 
 -- the same bits in flight: the same worlds
-pub represents_flown : (c : CollectorState) (flown flying : ℕ → Option Bits) (w : World) → Covers c.heap.shape flying → joined c.heap flying ≡ joined c.heap flown → Represents c flown w → Represents c flying w
+pub represents_flown : (c : CollectorState) (flown flying : ℕ → Option Bits) (w : World) → Covers c.heap.shape flying
+    → joined c.heap flying ≡ joined c.heap flown → Represents c flown w → Represents c flying w
 represents_flown c flown flying w covers same rep = record {
   lies = rep.lies;
   unswept_apart = rep.unswept_apart;
@@ -109,7 +122,8 @@ represents_flown c flown flying w covers same rep = record {
         let lt = within (slice_get c.heap.shape.arenas a) refl out in
         omega (arith, n, m, lt)
       where
-        within : (o : Option ArenaShape) → slice_get c.heap.shape.arenas a ≡ o → out_in o ≡ Some old → a < length c.heap.shape.arenas
+        within : (o : Option ArenaShape) → slice_get c.heap.shape.arenas a ≡ o → out_in o ≡ Some old
+            → a < length c.heap.shape.arenas
         within None e at = absurd (cc at)
         within (Some arena) e at = slice_get_within c.heap.shape.arenas a arena e
 
@@ -127,11 +141,15 @@ represents_flown c flown flying w covers same rep = record {
             rep.flies.woken a old new out (e ∙ ap (λ z. Some z) one)
 
 -- a gray cell is present
-pub gray_present : (c : CollectorState) (flown flying : ℕ → Option Bits) → IsSound c flown → joined c.heap flying ≡ joined c.heap flown → (p : Place) → IsGray (joined c.heap flying) p → IsPresent c.heap.shape p
-gray_present c flown flying s same p g = s.represents.marks.holds.colours.seen_present p (inl (subst (λ h. IsGray h p) same g))
+pub gray_present : (c : CollectorState) (flown flying : ℕ → Option Bits) → IsSound c flown
+    → joined c.heap flying ≡ joined c.heap flown → (p : Place) → IsGray (joined c.heap flying) p
+    → IsPresent c.heap.shape p
+gray_present c flown flying s same p g =
+    s.represents.marks.holds.colours.seen_present p (inl (subst (λ h. IsGray h p) same g))
 
 -- each arena has its bits
-pub arena_coloured : (c : CollectorState) (flown : ℕ → Option Bits) (a : ℕ) → IsSound c flown → a < length c.heap.shape.arenas → a < length c.heap.colours
+pub arena_coloured : (c : CollectorState) (flown : ℕ → Option Bits) (a : ℕ) → IsSound c flown
+    → a < length c.heap.shape.arenas → a < length c.heap.colours
 arena_coloured c flown a s lt =
     let n = s.represents.marks.holds.colours.sized in
     let m = flown_length flown 0 c.heap.colours in

@@ -1,5 +1,6 @@
 -- The unit that ends a group.
-use Rattle.std.proofs.Common.{◌≡◌, ◌≢◌, ℕ, Bool, true, false, if◌then◌else◌, Option, None, Some, IsSome, is_some, List, [], ◌∷◌, length, refl, sym, ap, subst, ◌∙◌, inl, inr}
+use Rattle.std.proofs.Common.{◌≡◌, ◌≢◌, ℕ, Bool, true, false, if◌then◌else◌, Option, None, Some, IsSome, is_some, List}
+use Rattle.std.proofs.Common.{[], ◌∷◌, length, refl, sym, ap, subst, ◌∙◌, inl, inr}
 use Rattle.std.proofs.lemmas.List.{length-map}
 use Rattle.gz_names.specs.Zones.{HasZone}
 use Rattle.gz_names.specs.declared.names.Name.{Name}
@@ -40,7 +41,8 @@ nothing_out : (o : Option Bits) → IsSome o → o ≡ None → ⊥
 nothing_out None s e = cc s
 nothing_out (Some b) s e = cc e
 
-module _ (c : CollectorState) (g : ZoneSet) (rest : List ZoneSet) (ready : IsReady c g rest) (jobs : Option (List Job)) (m : HeapState) (out : HandsOut c.heap g jobs m) where
+module _ (c : CollectorState) (g : ZoneSet) (rest : List ZoneSet) (ready : IsReady c g rest) (jobs : Option (List Job))
+    (m : HeapState) (out : HandsOut c.heap g jobs m) where
   state_dropped : (z : ℕ) → state_in out.dropped.shape z ≡ state_in c.heap.shape z
   state_dropped z = ap (λ (x : HeapState). state_in x.shape z) out.drops.rest
 
@@ -66,14 +68,18 @@ module _ (c : CollectorState) (g : ZoneSet) (rest : List ZoneSet) (ready : IsRea
       sized = has.sized ∙ (out.goes.sized ∙ ap (λ (x : HeapState). length x.shape.states) out.drops.rest);
       others = λ z other. elim (some_out m.shape) [
         | inl some ↦ has.still some.0 some.1 z ∙ others_stay z other
-        | inr none ↦ has.swept none z ∙ (ap after_sweep (others_stay z other) ∙ not_swept (state_in c.heap.shape z) (no_sweep z))
+        | inr none ↦ has.swept none z
+            ∙ (ap after_sweep (others_stay z other) ∙ not_swept (state_in c.heap.shape z) (no_sweep z))
       ];
-      swept = λ a some z here. has.still a (subst (λ (o : Option Bits). IsSome o) (out_same a) some) z ∙ group_swept z here;
+      swept = λ a some z here. has.still a (subst (λ (o : Option Bits). IsSome o) (out_same a) some) z
+          ∙ group_swept z here;
       finished = λ none z here. has.swept (λ b. sym (out_same b) ∙ none b) z ∙ ap after_sweep (group_swept z here);
     }
 
     pub heap_ended : IsEnded c.heap g n
-    heap_ended = ended_by_steps c.heap (with_handed c.heap g.bits) out.dropped n g refl out.drops (has.rest_is ∙ ap (λ (x : HeapState). record x { shape = record x.shape { states = n.shape.states } }) out.goes.rest) zones_end
+    heap_ended = ended_by_steps c.heap (with_handed c.heap g.bits) out.dropped n g refl out.drops
+        (has.rest_is ∙ ap (λ (x : HeapState). record x { shape = record x.shape { states = n.shape.states } })
+        out.goes.rest) zones_end
 
     abbrev after : CollectorState
     after = record c { heap = n; groups = rest }
@@ -84,63 +90,93 @@ module _ (c : CollectorState) (g : ZoneSet) (rest : List ZoneSet) (ready : IsRea
     arenas_handed : n.shape.arenas ≡ handed g.bits c.heap.shape.arenas c.heap.colours
     arenas_handed = ap (λ (x : HeapState). x.shape.arenas) heap_ended.rest
 
-    just_flown : (flown : ℕ → Option Bits) → ((a : ℕ) → flown a ≡ None) → length c.heap.colours ≡ length c.heap.shape.arenas → AreJustFlown n.shape (flying_after jobs flown)
+    just_flown : (flown : ℕ → Option Bits) → ((a : ℕ) → flown a ≡ None)
+        → length c.heap.colours ≡ length c.heap.shape.arenas → AreJustFlown n.shape (flying_after jobs flown)
     just_flown flown none sized = go jobs out.jobs_are
       where
         by_jobs : AreJustFlown n.shape (flown_by (jobs_of g.bits 0 c.heap.shape.arenas c.heap.colours))
         by_jobs = jobs_flown c.heap n g.bits sized ready.kept arenas_handed
 
-        go : (o : Option (List Job)) → AreJobs o (jobs_of g.bits 0 c.heap.shape.arenas c.heap.colours) → AreJustFlown n.shape (flying_after o flown)
+        go : (o : Option (List Job)) → AreJobs o (jobs_of g.bits 0 c.heap.shape.arenas c.heap.colours)
+            → AreJustFlown n.shape (flying_after o flown)
         go None e a = none a ∙ (sym (ap (λ (js : List Job). flown_by js a) e) ∙ by_jobs a)
         go (Some js) e a = ap (λ (js : List Job). flown_by js a) e.0 ∙ by_jobs a
 
-  module _ (grays : List Name) (listed : Lists (IsGrayHere c.heap g) grays) (k : HeapState) (flown : ℕ → Option Bits) where
-    none_flown : (w : World) → Represents c flown w → (a : ℕ) → flown a ≡ None
-    none_flown w s a = no_some (flown a) (s.flies.covers a ∙ ap is_some (ready.kept a))
+  module _ (grays : List Name) (listed : Lists (IsGrayHere c.heap g) grays) (k : HeapState) (flown : ℕ → Option Bits)
+    where
+      none_flown : (w : World) → Represents c flown w → (a : ℕ) → flown a ≡ None
+      none_flown w s a = no_some (flown a) (s.flies.covers a ∙ ap is_some (ready.kept a))
 
-    sized_in : (w : World) → Represents c flown w → length c.heap.colours ≡ length c.heap.shape.arenas
-    sized_in w s = sym (Rattle.barriers.proofs.Flying.flown_length flown 0 c.heap.colours) ∙ s.marks.holds.colours.sized
+      sized_in : (w : World) → Represents c flown w → length c.heap.colours ≡ length c.heap.shape.arenas
+      sized_in w s = sym (Rattle.barriers.proofs.Flying.flown_length flown 0 c.heap.colours) ∙ s.marks.holds.colours.sized
 
-    states_in : (w : World) → Represents c flown w → AreInStates c ready.run
-    states_in w s = let kind = collection_of c (heap_with c flown) w ready.run ready.running s.runs in (runs_of c (heap_with c flown) w ready.run kind.0 ready.running kind.1 s.runs).states
+      states_in : (w : World) → Represents c flown w → AreInStates c ready.run
+      states_in w s = let kind = collection_of c (heap_with c flown) w ready.run ready.running s.runs in
+          (runs_of c (heap_with c flown) w ready.run kind.0 ready.running kind.1 s.runs).states
 
-    ends_on : EndsSweeping m rest false k → DoesUnit c flown (report.Ended g grays [] ∷ []) (record c { heap = k; groups = rest }) (flying_after jobs flown)
-    ends_on e w ok s =
-        let has : HasStates k = record { rest_is = e.rest; sized = e.sized; still = λ b some. (e.still b some).1; swept = λ none. (e.swept none refl).1 } in
-        let no_sweep = (states_in w s).swept ready.kept in
-        end_unit c (record c { heap = k; groups = rest }) flown (flying_after jobs flown) g rest grays ready (ends_in k has no_sweep) (just_flown k has no_sweep flown (none_flown w s) (sized_in w s)) listed
-        (λ done. (e.swept (λ b. sym (out_same k has no_sweep b) ∙ done.kept b) refl).0 done.none_left)
-        w ok s
+      ends_on : EndsSweeping m rest false k
+          → DoesUnit c flown (report.Ended g grays [] ∷ []) (record c { heap = k; groups = rest })
+          (flying_after jobs flown)
+      ends_on e w ok s =
+          let has : HasStates k = record {
+            rest_is = e.rest;
+            sized = e.sized;
+            still = λ b some. (e.still b some).1;
+            swept = λ none. (e.swept none refl).1;
+          } in
+          let no_sweep = (states_in w s).swept ready.kept in
+          end_unit c (record c { heap = k; groups = rest }) flown (flying_after jobs flown) g rest grays ready
+          (ends_in k has no_sweep) (just_flown k has no_sweep flown (none_flown w s) (sized_in w s)) listed
+          (λ done. (e.swept (λ b. sym (out_same k has no_sweep b) ∙ done.kept b) refl).0 done.none_left)
+          w ok s
 
-    ends_last : EndsSweeping m rest true k → DoesUnit c flown (report.Ended g grays [] ∷ report.Done ∷ []) (record c { heap = k; groups = rest; run = None }) (flying_after jobs flown)
-    ends_last e w ok s =
-        let over = e.ended refl in
-        let n : HeapState = all_swept m in
-        let has : HasStates n = record {
-          rest_is = refl;
-          sized = length-map m.shape.states after_sweep;
-          still = λ b some. absurd (nothing_out (out_of m.shape b) some (over.1 b));
-          swept = λ none z. states_mapped after_sweep refl m.shape.states z;
-        } in
-        let no_sweep = (states_in w s).swept ready.kept in
-        let d : CollectorState = record c { heap = n; groups = rest } in
-        let flies = just_flown n has no_sweep flown (none_flown w s) (sized_in w s) in
-        let v = group_ends c d flown (flying_after jobs flown) w g rest grays ok s ready (ends_in n has no_sweep) flies listed in
-        let kind = collection_of d (heap_with d (flying_after jobs flown)) v.0 ready.run ready.running v.3.runs in
-        let states : AreInStates d ready.run = (runs_of d (heap_with d (flying_after jobs flown)) v.0 ready.run kind.0 ready.running kind.1 v.3.runs).states in
-        let none_now : (b : ℕ) → out_of d.heap.shape b ≡ None = over.1 in
-        end_last_unit c d (record c { heap = k; groups = rest; run = None }) flown (flying_after jobs flown) g rest grays ready (ends_in n has no_sweep) flies listed
-        (record { run = ready.run; running = ready.running; formed = ready.formed; none_left = over.0; kept = none_now })
-        (record {
-          heap_is = e.rest;
-          sized = e.sized ∙ sym (length-map m.shape.states after_sweep);
-          states = λ z. over.2 z ∙ (sym (after_both (state_in m.shape z)) ∙ (ap Rattle.slice_driver.specs.Advancing.after_end (sym (states_mapped after_sweep refl m.shape.states z)) ∙ ends_all d ready.run states ready.formed over.0 z));
-          stack_is = refl;
-          lists_is = refl;
-          run_is = refl;
-        })
-        w ok s
+      ends_last : EndsSweeping m rest true k
+          → DoesUnit c flown (report.Ended g grays [] ∷ report.Done ∷ [])
+          (record c { heap = k; groups = rest; run = None }) (flying_after jobs flown)
+      ends_last e w ok s =
+          let over = e.ended refl in
+          let n : HeapState = all_swept m in
+          let has : HasStates n = record {
+            rest_is = refl;
+            sized = length-map m.shape.states after_sweep;
+            still = λ b some. absurd (nothing_out (out_of m.shape b) some (over.1 b));
+            swept = λ none z. states_mapped after_sweep refl m.shape.states z;
+          } in
+          let no_sweep = (states_in w s).swept ready.kept in
+          let d : CollectorState = record c { heap = n; groups = rest } in
+          let flies = just_flown n has no_sweep flown (none_flown w s) (sized_in w s) in
+          let v = group_ends c d flown (flying_after jobs flown) w g rest grays ok s ready (ends_in n has no_sweep) flies
+          listed in
+          let kind = collection_of d (heap_with d (flying_after jobs flown)) v.0 ready.run ready.running v.3.runs in
+          let states : AreInStates d ready.run =
+          (runs_of d (heap_with d (flying_after jobs flown)) v.0 ready.run kind.0 ready.running kind.1
+          v.3.runs).states in
+          let none_now : (b : ℕ) → out_of d.heap.shape b ≡ None = over.1 in
+          end_last_unit c d (record c { heap = k; groups = rest; run = None }) flown (flying_after jobs flown) g rest
+          grays ready (ends_in n has no_sweep) flies listed
+          (record {
+            run = ready.run;
+            running = ready.running;
+            formed = ready.formed;
+            none_left = over.0;
+            kept = none_now;
+          })
+          (record {
+            heap_is = e.rest;
+            sized = e.sized ∙ sym (length-map m.shape.states after_sweep);
+            states = λ z. over.2 z
+                ∙ (sym (after_both (state_in m.shape z))
+                ∙ (ap Rattle.slice_driver.specs.Advancing.after_end
+                (sym (states_mapped after_sweep refl m.shape.states z)) ∙ ends_all d ready.run states ready.formed over.0
+                z));
+            stack_is = refl;
+            lists_is = refl;
+            run_is = refl;
+          })
+          w ok s
 
-    pub ends_group : (over : Bool) → EndsSweeping m rest over k → DoesUnit c flown (reports_of (Some (report.Ended g grays [])) over) (record c { heap = k; groups = rest; run = if over then None else c.run }) (flying_after jobs flown)
-    ends_group true e = ends_last e
-    ends_group false e = ends_on e
+      pub ends_group : (over : Bool) → EndsSweeping m rest over k
+          → DoesUnit c flown (reports_of (Some (report.Ended g grays [])) over)
+          (record c { heap = k; groups = rest; run = if over then None else c.run }) (flying_after jobs flown)
+      ends_group true e = ends_last e
+      ends_group false e = ends_on e

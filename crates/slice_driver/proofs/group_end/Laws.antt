@@ -1,5 +1,6 @@
 -- The laws of the end of a group.
-use Rattle.std.proofs.Common.{◌≡◌, ◌+◌, ◌<◌, ℕ, zero, suc, Bool, true, false, cond, refl, sym, ap, ◌∙◌, arith, eqb, eqb-true, eq-eqb, Option, None, Some, List, [], ◌∷◌, length, slice_get}
+use Rattle.std.proofs.Common.{◌≡◌, ◌+◌, ◌<◌, ℕ, zero, suc, Bool, true, false, cond, refl, sym, ap, ◌∙◌, arith, eqb}
+use Rattle.std.proofs.Common.{eqb-true, eq-eqb, Option, None, Some, List, [], ◌∷◌, length, slice_get}
 use Rattle.gz_names.specs.Zones.{zones_in}
 use Rattle.gz_names.specs.declared.names.Name.{Name}
 use Rattle.gz_names.specs.declared.zone_sets.ZoneSet.{ZoneSet}
@@ -21,7 +22,10 @@ use Rattle.slice_driver.proofs.group_end.Ready.{collection_of}
 use Rattle.slice_driver.proofs.group_end.Runs.{represents_after}
 use Rattle.slice_driver.proofs.group_end.Worlds.{ended, ends_group}
 
-pub group_ends : (c d : CollectorState) (flown flying : ℕ → Option Bits) (w : World) (g : ZoneSet) (rest : List ZoneSet) (grays : List Name) → IsValid w → Represents c flown w → IsReady c g rest → EndsIn c g rest d → AreJustFlown d.heap.shape flying → Lists (IsGrayHere c.heap g) grays → (v : World) × EndsGroup w (zones_in g) grays [] v × IsValid v × Represents d flying v
+pub group_ends : (c d : CollectorState) (flown flying : ℕ → Option Bits) (w : World) (g : ZoneSet) (rest : List ZoneSet)
+    (grays : List Name) → IsValid w → Represents c flown w → IsReady c g rest → EndsIn c g rest d
+    → AreJustFlown d.heap.shape flying → Lists (IsGrayHere c.heap g) grays
+    → (v : World) × EndsGroup w (zones_in g) grays [] v × IsValid v × Represents d flying v
 group_ends c d flown flying w g rest grays ok s ready ends flies listed =
     let k = collection_of c (heap_with c flown) w ready.run ready.running s.runs in (
       ended c.heap w k.0 g rest,
@@ -31,31 +35,49 @@ group_ends c d flown flying w g rest grays ok s ready ends flies listed =
     )
 
 -- no job is that of an arena before the first
-no_job : (word n : ℕ) (arenas : List ArenaShape) (colours : List Bits) (a : ℕ) → a < n → flown_by (jobs_of word n arenas colours) a ≡ None
+no_job : (word n : ℕ) (arenas : List ArenaShape) (colours : List Bits) (a : ℕ) → a < n
+    → flown_by (jobs_of word n arenas colours) a ≡ None
 no_job word n [] colours a lt = refl
 no_job word n (arena ∷ arenas) [] a lt = refl
-no_job word n (arena ∷ arenas) (own ∷ colours) a lt = by (in_zones word arena.zone) (no_job word (suc n) arenas colours a (omega arith))
+no_job word n (arena ∷ arenas) (own ∷ colours) a lt =
+    by (in_zones word arena.zone) (no_job word (suc n) arenas colours a (omega arith))
   where
     other : (t : Bool) → eqb n a ≡ t → t ≡ false
     other true e = absurd (let same : n ≡ a = eqb-true n a e in omega arith)
     other false e = refl
 
-    by : (t : Bool) → flown_by (jobs_of word (suc n) arenas colours) a ≡ None → flown_by (cond t (record { arena = n; alloc_word = Rattle.arena_table.specs.Slots.alloc_word_of arena.slots; bits = own } ∷ jobs_of word (suc n) arenas colours) (jobs_of word (suc n) arenas colours)) a ≡ None
-    by true rest = ap (λ b. cond b (Some own) (flown_by (jobs_of word (suc n) arenas colours) a)) (other (eqb n a) refl) ∙ rest
+    by : (t : Bool) → flown_by (jobs_of word (suc n) arenas colours) a ≡ None
+        → flown_by (cond t (record {
+          arena = n;
+          alloc_word = Rattle.arena_table.specs.Slots.alloc_word_of arena.slots;
+          bits = own;
+        } ∷ jobs_of word (suc n) arenas colours) (jobs_of word (suc n) arenas colours)) a ≡ None
+    by true rest = ap (λ b. cond b (Some own) (flown_by (jobs_of word (suc n) arenas colours) a)) (other (eqb n a) refl)
+        ∙ rest
     by false rest = rest
 
-job_bits : (word n : ℕ) (arenas : List ArenaShape) (colours : List Bits) → length colours ≡ length arenas → ((a : ℕ) → out_in (slice_get arenas a) ≡ None) → (a : ℕ) → flown_by (jobs_of word n arenas colours) (n + a) ≡ out_in (slice_get (handed word arenas colours) a)
+job_bits : (word n : ℕ) (arenas : List ArenaShape) (colours : List Bits) → length colours ≡ length arenas
+    → ((a : ℕ) → out_in (slice_get arenas a) ≡ None) → (a : ℕ) → flown_by (jobs_of word n arenas colours) (n + a)
+    ≡ out_in (slice_get (handed word arenas colours) a)
 job_bits word n [] colours sized kept a = refl
 job_bits word n (arena ∷ arenas) [] sized kept a = absurd (omega arith)
-job_bits word n (arena ∷ arenas) (own ∷ colours) sized kept zero = by (in_zones word arena.zone) (no_job word (suc n) arenas colours (n + 0) (omega arith))
+job_bits word n (arena ∷ arenas) (own ∷ colours) sized kept zero =
+    by (in_zones word arena.zone) (no_job word (suc n) arenas colours (n + 0) (omega arith))
   where
     same : eqb n (n + 0) ≡ true
     same = let e : n ≡ n + 0 = omega arith in eq-eqb n (n + 0) e
 
-    by : (t : Bool) → flown_by (jobs_of word (suc n) arenas colours) (n + 0) ≡ None → flown_by (cond t (record { arena = n; alloc_word = Rattle.arena_table.specs.Slots.alloc_word_of arena.slots; bits = own } ∷ jobs_of word (suc n) arenas colours) (jobs_of word (suc n) arenas colours)) (n + 0) ≡ (cond t (record arena { out = Some own }) arena).out
+    by : (t : Bool) → flown_by (jobs_of word (suc n) arenas colours) (n + 0) ≡ None
+        → flown_by (cond t (record {
+          arena = n;
+          alloc_word = Rattle.arena_table.specs.Slots.alloc_word_of arena.slots;
+          bits = own;
+        } ∷ jobs_of word (suc n) arenas colours) (jobs_of word (suc n) arenas colours)) (n + 0)
+        ≡ (cond t (record arena { out = Some own }) arena).out
     by true none = ap (λ b. cond b (Some own) (flown_by (jobs_of word (suc n) arenas colours) (n + 0))) same
     by false none = none ∙ sym (kept 0)
-job_bits word n (arena ∷ arenas) (own ∷ colours) sized kept (suc a) = by (in_zones word arena.zone) (job_bits word (suc n) arenas colours (omega arith) (λ i. kept (suc i)) a)
+job_bits word n (arena ∷ arenas) (own ∷ colours) sized kept (suc a) =
+    by (in_zones word arena.zone) (job_bits word (suc n) arenas colours (omega arith) (λ i. kept (suc i)) a)
   where
     shift : n + suc a ≡ suc n + a
     shift = omega arith
@@ -64,11 +86,22 @@ job_bits word n (arena ∷ arenas) (own ∷ colours) sized kept (suc a) = by (in
     other true e = absurd (let same : n ≡ n + suc a = eqb-true n (n + suc a) e in omega arith)
     other false e = refl
 
-    by : (t : Bool) → flown_by (jobs_of word (suc n) arenas colours) (suc n + a) ≡ out_in (slice_get (handed word arenas colours) a) → flown_by (cond t (record { arena = n; alloc_word = Rattle.arena_table.specs.Slots.alloc_word_of arena.slots; bits = own } ∷ jobs_of word (suc n) arenas colours) (jobs_of word (suc n) arenas colours)) (n + suc a) ≡ out_in (slice_get (handed word arenas colours) a)
-    by true rest = ap (λ b. cond b (Some own) (flown_by (jobs_of word (suc n) arenas colours) (n + suc a))) (other (eqb n (n + suc a)) refl) ∙ ap (flown_by (jobs_of word (suc n) arenas colours)) shift ∙ rest
+    by : (t : Bool) → flown_by (jobs_of word (suc n) arenas colours) (suc n + a)
+        ≡ out_in (slice_get (handed word arenas colours) a)
+        → flown_by (cond t (record {
+          arena = n;
+          alloc_word = Rattle.arena_table.specs.Slots.alloc_word_of arena.slots;
+          bits = own;
+        } ∷ jobs_of word (suc n) arenas colours) (jobs_of word (suc n) arenas colours)) (n + suc a)
+        ≡ out_in (slice_get (handed word arenas colours) a)
+    by true rest = ap (λ b. cond b (Some own) (flown_by (jobs_of word (suc n) arenas colours) (n + suc a)))
+        (other (eqb n (n + suc a)) refl) ∙ ap (flown_by (jobs_of word (suc n) arenas colours)) shift ∙ rest
     by false rest = ap (flown_by (jobs_of word (suc n) arenas colours)) shift ∙ rest
 
-pub jobs_flown : (h k : HeapState) (word : ℕ) → length h.colours ≡ length h.shape.arenas → ((a : ℕ) → out_of h.shape a ≡ None) → k.shape.arenas ≡ handed word h.shape.arenas h.colours → AreJustFlown k.shape (flown_by (jobs_of word 0 h.shape.arenas h.colours))
+pub jobs_flown : (h k : HeapState) (word : ℕ) → length h.colours ≡ length h.shape.arenas
+    → ((a : ℕ) → out_of h.shape a ≡ None) → k.shape.arenas ≡ handed word h.shape.arenas h.colours
+    → AreJustFlown k.shape (flown_by (jobs_of word 0 h.shape.arenas h.colours))
 jobs_flown h k word sized kept e a =
     let same : a ≡ 0 + a = omega arith in
-    ap (flown_by (jobs_of word 0 h.shape.arenas h.colours)) same ∙ job_bits word 0 h.shape.arenas h.colours sized kept a ∙ ap (λ (xs : List ArenaShape). out_in (slice_get xs a)) (sym e)
+    ap (flown_by (jobs_of word 0 h.shape.arenas h.colours)) same ∙ job_bits word 0 h.shape.arenas h.colours sized kept a
+    ∙ ap (λ (xs : List ArenaShape). out_in (slice_get xs a)) (sym e)

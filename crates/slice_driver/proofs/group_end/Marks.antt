@@ -1,5 +1,6 @@
 -- After the end of a group what holds of marking goes on to hold, and as much is left to mark.
-use Rattle.std.proofs.Common.{◌≡◌, ◌≢◌, ◌⊎◌, ◌↔◌, ◌<◌, ◌≤◌, ◌+◌, ◌*◌, ℕ, Bool, true, false, cond, inl, inr, refl, sym, ap, ◌∙◌, subst, Option, None, Some, List, [], length, Contains, slice_get}
+use Rattle.std.proofs.Common.{◌≡◌, ◌≢◌, ◌⊎◌, ◌↔◌, ◌<◌, ◌≤◌, ◌+◌, ◌*◌, ℕ, Bool, true, false, cond, inl, inr, refl, sym}
+use Rattle.std.proofs.Common.{ap, ◌∙◌, subst, Option, None, Some, List, [], length, Contains, slice_get}
 use Rattle.std.specs.Option.{option_map}
 use Rattle.gz_names.specs.Zones.{HasZone}
 use Rattle.gz_names.specs.declared.names.Name.{Name}
@@ -15,7 +16,8 @@ use Rattle.colour_defs.specs.World.{World, Collection}
 use Rattle.colour_defs.specs.Ends.{Lists}
 use Rattle.colour_defs.specs.Laws.{IsValid}
 use Rattle.colour_defs.proofs.Lists.{both_of, first_of_both, second_of_both}
-use Rattle.heap_core.specs.Shape.{ArenaShape, HasEdge, IsPresent, cell_of, field_at, field_in, is_marking, is_marking_state, is_white, out_of, state_in, zone_of}
+use Rattle.heap_core.specs.Shape.{ArenaShape, HasEdge, IsPresent, cell_of, field_at, field_in, is_marking}
+use Rattle.heap_core.specs.Shape.{is_marking_state, is_white, out_of, state_in, zone_of}
 use Rattle.heap_core.specs.Heap.{HeapState, colour_in, colour_of}
 use Rattle.barriers.specs.Reached.{Reached, HasEntry}
 use Rattle.barriers.specs.Reached as reached
@@ -32,12 +34,16 @@ use Rattle.slice_driver.specs.Represents.{Represents}
 use Rattle.slice_driver.specs.GroupEnd.{IsEnded, IsGrayHere, IsReady}
 use Rattle.slice_driver.proofs.group_end.Ready.{gray, inv, ordered}
 use Rattle.slice_driver.proofs.group_end.Colours.{colours_are}
-use Rattle.slice_driver.proofs.group_end.Cells.{handed_length, has_in_zones, in_zones_has, is_dead, is_white_colour, out_at_end, some_out, zone_or_not}
-use Rattle.slice_driver.proofs.group_end.Heaps.{arenas_are, cell_back, cell_on, edge_alive, entry_on, entry_present, entry_was, present_back, present_on, shows_after, sized, zones}
+use Rattle.slice_driver.proofs.group_end.Cells.{handed_length, has_in_zones, in_zones_has, is_dead, is_white_colour}
+use Rattle.slice_driver.proofs.group_end.Cells.{out_at_end, some_out, zone_or_not}
+use Rattle.slice_driver.proofs.group_end.Heaps.{arenas_are, cell_back, cell_on, edge_alive, entry_on, entry_present}
+use Rattle.slice_driver.proofs.group_end.Heaps.{entry_was, present_back, present_on, shows_after, sized, zones}
 use Rattle.slice_driver.proofs.group_end.Places.{black_follows, black_values, edge_from, pending_black, pending_live}
 use Rattle.slice_driver.proofs.group_end.Worlds.{is_white_test}
 
-module _ (c : CollectorState) (flown : ℕ → Option Bits) (w : World) (k : Collection) (g : ZoneSet) (rest : List ZoneSet) (ok : IsValid w) (s : Represents c flown w) (ready : IsReady c g rest) (at : w.collection ≡ Some k) (grays : List Name) (listed : Lists (IsGrayHere c.heap g) grays) (n : HeapState) (e : IsEnded c.heap g n) where
+module _ (c : CollectorState) (flown : ℕ → Option Bits) (w : World) (k : Collection) (g : ZoneSet) (rest : List ZoneSet)
+    (ok : IsValid w) (s : Represents c flown w) (ready : IsReady c g rest) (at : w.collection ≡ Some k)
+    (grays : List Name) (listed : Lists (IsGrayHere c.heap g) grays) (n : HeapState) (e : IsEnded c.heap g n) where
   was : MarkingInvariant c.heap c.stack
   was = inv c flown w k g rest ok s ready at
 
@@ -72,7 +78,8 @@ module _ (c : CollectorState) (flown : ℕ → Option Bits) (w : World) (k : Col
   alive p sn = go (is_dead c.heap g p) refl
     where
       go : (t : Bool) → is_dead c.heap g p ≡ t → is_dead c.heap g p ≡ false
-      go true t = (let white = is_white_test c.heap p (second_of_both (in_zones g.bits (zone_of c.heap.shape p)) _ t) in absurd (elim sn [ inl gr ↦ cc (white, gr) | inr b ↦ cc (white, b) ]))
+      go true t = (let white = is_white_test c.heap p (second_of_both (in_zones g.bits (zone_of c.heap.shape p)) _ t) in
+          absurd (elim sn [ inl gr ↦ cc (white, gr) | inr b ↦ cc (white, b) ]))
       go false t = t
 
   alive_seen : (p : Place) → HasZone g.bits (zone_of c.heap.shape p) → is_dead c.heap g p ≡ false → IsSeen c.heap p
@@ -82,8 +89,14 @@ module _ (c : CollectorState) (flown : ℕ → Option Bits) (w : World) (k : Col
   ]
 
   -- how far zones are
-  pub state_group : (z : ℕ) → HasZone g.bits z → (state_in n.shape z ≡ state.Sweep) ⊎ (state_in n.shape z ≡ state.Finished)
-  state_group z here = elim (some_out n.shape) [ inl some ↦ inl (e.swept some.0 some.1 z here) | inr none ↦ inr (e.finished none z here) ]
+  pub state_group : (z : ℕ) → HasZone g.bits z → (state_in n.shape z ≡ state.Sweep)
+      ⊎ (state_in n.shape z ≡ state.Finished)
+  state_group z here =
+      elim (some_out n.shape) [
+        | inl some ↦ inl (e.swept some.0 some.1 z here)
+        | inr none
+            ↦ inr (e.finished none z here)
+      ]
 
   pub group_done : (z : ℕ) → HasZone g.bits z → is_marking_state (state_in n.shape z) ≡ false
   group_done z here = elim (state_group z here) [ inl sw ↦ ap is_marking_state sw | inr fin ↦ ap is_marking_state fin ]
@@ -92,7 +105,8 @@ module _ (c : CollectorState) (flown : ℕ → Option Bits) (w : World) (k : Col
   in_group z = zone_or_not g ready.small z
 
   -- a marking zone is none of the group
-  pub marking_before : (z : ℕ) → is_marking_state (state_in n.shape z) ≡ true → (HasZone g.bits z → ⊥) × (state_in n.shape z ≡ state_in c.heap.shape z)
+  pub marking_before : (z : ℕ) → is_marking_state (state_in n.shape z) ≡ true → (HasZone g.bits z → ⊥)
+      × (state_in n.shape z ≡ state_in c.heap.shape z)
   marking_before z m = elim (in_group z) [
     | inl here ↦ absurd (cc (m, group_done z here))
     | inr out ↦ (out, e.others z out)
@@ -106,52 +120,88 @@ module _ (c : CollectorState) (flown : ℕ → Option Bits) (w : World) (k : Col
 
   pub edge_was : (p q : Place) → HasEdge n.shape p q → HasEdge c.heap.shape p q × (is_dead c.heap g p ≡ false)
   edge_was p q ed =
-      let stays = (present_was p (edge_from n.shape p q ed)).1 in
-      ((ed.0, ed.1, sym (ap (λ o. field_in o ed.0) (cell_on c flown w k g rest ok s ready at grays listed n e p stays)) ∙ ed.2), stays)
+      let stays = (present_was p (edge_from n.shape p q ed)).1 in (
+        (
+          ed.0,
+          ed.1,
+          sym (ap (λ o. field_in o ed.0) (cell_on c flown w k g rest ok s ready at grays listed n e p stays))
+              ∙ ed.2,
+        ),
+        stays,
+      )
 
   pub edge_stays : (p q : Place) → HasEdge c.heap.shape p q → is_dead c.heap g p ≡ false → HasEdge n.shape p q
-  edge_stays p q ed stays = (ed.0, ed.1, ap (λ o. field_in o ed.0) (cell_on c flown w k g rest ok s ready at grays listed n e p stays) ∙ ed.2)
+  edge_stays p q ed stays =
+      (ed.0, ed.1, ap (λ o. field_in o ed.0) (cell_on c flown w k g rest ok s ready at grays listed n e p stays) ∙ ed.2)
 
   target_alive : (p q : Place) → HasEdge c.heap.shape p q → is_dead c.heap g p ≡ false → is_dead c.heap g q ≡ false
   target_alive p q ed stays = edge_alive c flown w k g rest ok s ready at grays listed n e p q ed stays
 
   shape_after : ShapeInvariant n.shape
   shape_after = record {
-    made = λ x there. subst (λ m. zone_of n.shape x < m) (sym e.sized) (subst (λ z. z < length c.heap.shape.states) (sym (zone_same x)) (was.holds.colours.shape.made x (present_was x there).0));
-    at_home = λ x cell there. ap (λ (z : HeapState). slice_get z.shape.comps cell.comp.0) e.rest ∙ was.holds.colours.shape.at_home x cell (cell_back c flown w k g rest ok s ready at grays listed n e x cell there).0 ∙ ap (λ z. Some z) (sym (zone_same x));
+    made = λ x there. subst (λ m. zone_of n.shape x < m) (sym e.sized)
+        (subst (λ z. z < length c.heap.shape.states) (sym (zone_same x))
+        (was.holds.colours.shape.made x (present_was x there).0));
+    at_home = λ x cell there. ap (λ (z : HeapState). slice_get z.shape.comps cell.comp.0) e.rest
+        ∙ was.holds.colours.shape.at_home x cell
+        (cell_back c flown w k g rest ok s ready at grays listed n e x cell there).0
+        ∙ ap (λ z. Some z) (sym (zone_same x));
     targets = λ x y ed. (shows_after c flown w k g rest ok s ready at grays listed n e).fields_held x y ed.0 ed.2;
     across = across;
     entries = λ m q v f. entry_present c flown w k g rest ok s ready at grays listed n e m q v f;
-    one_zone = λ m q v f. (let z = was.holds.colours.shape.one_zone m q v (entry_was c flown w k g rest ok s ready at grays listed n e m q v f) in (zone_same m ∙ z.0 ∙ sym (zone_same v), zone_same q ∙ z.1 ∙ sym (zone_same v)));
+    one_zone = λ m q v f.
+        (let z = was.holds.colours.shape.one_zone m q v
+        (entry_was c flown w k g rest ok s ready at grays listed n e m q v f) in
+        (zone_same m ∙ z.0 ∙ sym (zone_same v), zone_same q ∙ z.1 ∙ sym (zone_same v)));
     kept = λ x m. kept x (in_zones g.bits (zone_of c.heap.shape x)) refl m;
   }
     where
-      across : (x y : Place) (f : ℕ) → f < 8 → field_at n.shape x f ≡ Some y → zone_of n.shape x ≢ zone_of n.shape y → f ≡ 0
+      across : (x y : Place) (f : ℕ) → f < 8 → field_at n.shape x f ≡ Some y → zone_of n.shape x ≢ zone_of n.shape y
+          → f ≡ 0
       across x y f lt held apart = go (cell_of n.shape x) refl held
         where
           go : (o : Option CellState) → cell_of n.shape x ≡ o → field_in o f ≡ Some y → f ≡ 0
           go None there h = absurd (cc h)
-          go (Some cell) there h = was.holds.colours.shape.across x y f lt (ap (λ o. field_in o f) (cell_back c flown w k g rest ok s ready at grays listed n e x cell there).0 ∙ h) (λ z. apart (zone_same x ∙ z ∙ sym (zone_same y)))
+          go (Some cell) there h =
+              was.holds.colours.shape.across x y f lt
+              (ap (λ o. field_in o f) (cell_back c flown w k g rest ok s ready at grays listed n e x cell there).0 ∙ h)
+              (λ z. apart (zone_same x ∙ z ∙ sym (zone_same y)))
 
-      kept : (x : Place) (t : Bool) → in_zones g.bits (zone_of c.heap.shape x) ≡ t → is_marking n.shape x ≡ true → out_of n.shape x.0 ≡ None
-      kept x true t m = absurd (cc (group_done (zone_of n.shape x) (subst (λ z. HasZone g.bits z) (sym (zone_same x)) (in_zones_has g ready.small _ t)), m))
-      kept x false t m = out_at_end c.heap n g (arenas_are c flown w k g rest ok s ready at grays listed n e) (sized c flown w k g rest ok s ready at grays listed n e) ready.kept x.0 ∙ ap (λ b. cond b (slice_get c.heap.colours x.0) None) t
+      kept : (x : Place) (t : Bool) → in_zones g.bits (zone_of c.heap.shape x) ≡ t → is_marking n.shape x ≡ true
+          → out_of n.shape x.0 ≡ None
+      kept x true t m = absurd
+          (cc (
+            group_done (zone_of n.shape x)
+                (subst (λ z. HasZone g.bits z) (sym (zone_same x)) (in_zones_has g ready.small _ t)),
+            m,
+          ))
+      kept x false t m = out_at_end c.heap n g (arenas_are c flown w k g rest ok s ready at grays listed n e)
+          (sized c flown w k g rest ok s ready at grays listed n e) ready.kept x.0
+          ∙ ap (λ b. cond b (slice_get c.heap.colours x.0) None) t
 
   colours_after : ColourInvariant n
   colours_after = record {
     shape = shape_after;
     sized = ap (λ (cs : List Bits). length cs) colours_same ∙ sized c flown w k g rest ok s ready at grays listed n e
-        ∙ sym (ap (λ (xs : List ArenaShape). length xs) (arenas_are c flown w k g rest ok s ready at grays listed n e) ∙ handed_length g.bits c.heap.shape.arenas c.heap.colours (sized c flown w k g rest ok s ready at grays listed n e));
+        ∙ sym (ap (λ (xs : List ArenaShape). length xs) (arenas_are c flown w k g rest ok s ready at grays listed n e)
+        ∙ handed_length g.bits c.heap.shape.arenas c.heap.colours
+        (sized c flown w k g rest ok s ready at grays listed n e));
     seen_present = λ x sn. (let o = seen_back x sn in present_stays x (was.holds.colours.seen_present x o) (alive x o));
     no_white = λ x there m. (let o = present_was x there in elim (in_group (zone_of c.heap.shape x)) [
       | inl here ↦ seen_on x (alive_seen x here o.1)
-      | inr out ↦ seen_on x (was.holds.colours.no_white x o.0 (ap is_marking_state (sym (e.others _ out)) ∙ ap (λ z. is_marking_state (state_in n.shape z)) (sym (zone_same x)) ∙ m))
+      | inr out ↦ seen_on x
+          (was.holds.colours.no_white x o.0
+          (ap is_marking_state (sym (e.others _ out)) ∙ ap (λ z. is_marking_state (state_in n.shape z))
+          (sym (zone_same x)) ∙ m))
     ]);
     no_gray = λ x only gr. elim (in_group (zone_of n.shape x)) [
       | inl here ↦ elim (state_group _ here) [ inl sw ↦ cc (only, sw) | inr fin ↦ cc (only, fin) ]
-      | inr out ↦ was.holds.colours.no_gray x (ap (λ z. state_in c.heap.shape z) (sym (zone_same x)) ∙ sym (e.others _ out) ∙ only) (sym (colour_same x) ∙ gr)
+      | inr out ↦ was.holds.colours.no_gray x (ap (λ z. state_in c.heap.shape z) (sym (zone_same x))
+          ∙ sym (e.others _ out) ∙ only) (sym (colour_same x) ∙ gr)
     ];
-    regs_black = λ x held. black_on x (was.holds.colours.regs_black x (subst (λ (z : HeapState). Contains z.shape.regs (Some x)) e.rest held));
+    regs_black = λ x held.
+        black_on x (was.holds.colours.regs_black x
+        (subst (λ (z : HeapState). Contains z.shape.regs (Some x)) e.rest held));
   }
 
   empty : (xs : List Place) (x : Place) → xs ≡ [] → Contains xs x → ⊥
@@ -159,9 +209,12 @@ module _ (c : CollectorState) (flown : ℕ → Option Bits) (w : World) (k : Col
 
   room_after : HasRoom n c.stack
   room_after = record {
-    black = subst (λ (cs : List Bits). length c.stack.black + slots_in lacks_black cs ≤ 64 * length cs) (sym colours_same) was.holds.piles.room.black;
-    wake = subst (λ (cs : List Bits). length c.stack.wake + slots_in lacks_black cs ≤ 64 * length cs) (sym colours_same) was.holds.piles.room.wake;
-    gray = subst (λ (cs : List Bits). length c.stack.gray + slots_in is_white cs ≤ 64 * length cs) (sym colours_same) was.holds.piles.room.gray;
+    black = subst (λ (cs : List Bits). length c.stack.black + slots_in lacks_black cs ≤ 64 * length cs)
+        (sym colours_same) was.holds.piles.room.black;
+    wake = subst (λ (cs : List Bits). length c.stack.wake + slots_in lacks_black cs ≤ 64 * length cs) (sym colours_same)
+        was.holds.piles.room.wake;
+    gray = subst (λ (cs : List Bits). length c.stack.gray + slots_in is_white cs ≤ 64 * length cs) (sym colours_same)
+        was.holds.piles.room.gray;
     room = subst (λ (cs : List Bits). 64 * length cs ≤ c.stack.room) (sym colours_same) was.holds.piles.room.room;
   }
 
@@ -175,8 +228,12 @@ module _ (c : CollectorState) (flown : ℕ → Option Bits) (w : World) (k : Col
         gray = λ x held. absurd (empty c.stack.gray x ready.marked.gray_empty held);
         room = room_after;
       };
-      closed = λ x y b ed. inl (black_on y (black_follows c.heap c.stack c.lists was was_gray g ready.marked x y (black_back x b) (edge_was x y ed).0));
-      weak_closed = λ m q v f bm bq mv. inl (black_on v (black_values c.heap c.stack c.lists was was_gray g ready.marked m q v (entry_was c flown w k g rest ok s ready at grays listed n e m q v f) (black_back m bm) (black_back q bq)));
+      closed = λ x y b ed.
+          inl (black_on y (black_follows c.heap c.stack c.lists was was_gray g ready.marked x y (black_back x b)
+          (edge_was x y ed).0));
+      weak_closed = λ m q v f bm bq mv.
+          inl (black_on v (black_values c.heap c.stack c.lists was was_gray g ready.marked m q v
+          (entry_was c flown w k g rest ok s ready at grays listed n e m q v f) (black_back m bm) (black_back q bq)));
     };
     none_woken = was.none_woken;
   }
@@ -196,26 +253,44 @@ module _ (c : CollectorState) (flown : ℕ → Option Bits) (w : World) (k : Col
     where
       go : (t : Bool) → is_dead c.heap g x ≡ t → zone_of c.heap.shape x ≡ z → is_dead c.heap g x ≡ false
       go false t is = t
-      go true t is = (let here : HasZone g.bits z = subst (λ y. HasZone g.bits y) is (in_zones_has g ready.small _ (first_of_both _ _ t)) in absurd (empty _ x (ready.marked.none_buffered z here) held))
+      go true t is = (let here : HasZone g.bits z =
+          subst (λ y. HasZone g.bits y) is (in_zones_has g ready.small _ (first_of_both _ _ t)) in
+          absurd (empty _ x (ready.marked.none_buffered z here) held))
 
-  covered : (x y : Place) → is_dead c.heap g y ≡ false → IsCovered c.heap c.stack c.lists x y → IsCovered n c.stack c.lists x y
+  covered : (x y : Place) → is_dead c.heap g y ≡ false → IsCovered c.heap c.stack c.lists x y
+      → IsCovered n c.stack c.lists x y
   covered x y stays cov = elim cov [
     | inl sn ↦ inl (seen_on y sn)
     | inr (inl on) ↦ inr (inl on)
-    | inr (inr (inl waits)) ↦ inr (inr (inl (subst (λ z. Contains (buffer_of n z) x) (sym (zone_same y)) (waiting_on _ x waits.0), λ is. waits.1 (sym (zone_same x) ∙ is ∙ zone_same y))))
-    | inr (inr (inr noted)) ↦ inr (inr (inr (noted.0, ap (option_map (λ (z : CellState). z.comp)) (cell_on c flown w k g rest ok s ready at grays listed n e y stays) ∙ noted.1, noted.2)))
+    | inr (inr (inl waits))
+        ↦ inr (inr (inl (
+          subst (λ z. Contains (buffer_of n z) x) (sym (zone_same y)) (waiting_on _ x waits.0),
+          λ is. waits.1 (sym (zone_same x) ∙ is ∙ zone_same y),
+        )))
+    | inr (inr (inr noted))
+        ↦ inr (inr (inr (
+          noted.0,
+          ap (option_map (λ (z : CellState). z.comp)) (cell_on c flown w k g rest ok s ready at grays listed n e y stays)
+              ∙ noted.1,
+          noted.2,
+        )))
   ]
 
   pub gray_after : GrayInvariant n c.stack c.lists
   gray_after = record {
-    buffered_seen = λ z x held. elim (was_gray.buffered_seen z x (waiting_back z x held)) [ inl is ↦ inl (zone_same x ∙ is) | inr sn ↦ inr (seen_on x sn) ];
-    buffered_present = λ z x held. (let o = waiting_back z x held in present_stays x (was_gray.buffered_present z x o) (buffered_alive z x o));
+    buffered_seen = λ z x held. elim (was_gray.buffered_seen z x (waiting_back z x held))
+        [ inl is ↦ inl (zone_same x ∙ is) | inr sn ↦ inr (seen_on x sn) ];
+    buffered_present = λ z x held.
+        (let o = waiting_back z x held in present_stays x (was_gray.buffered_present z x o) (buffered_alive z x o));
     incoming_seen = λ m x held. seen_on x (was_gray.incoming_seen m x held);
-    closed = λ x y gr ed. (let o = edge_was x y ed in covered x y (target_alive x y o.0 o.1) (was_gray.closed x y (sym (colour_same x) ∙ gr) o.0));
+    closed = λ x y gr ed.
+        (let o = edge_was x y ed in
+        covered x y (target_alive x y o.0 o.1) (was_gray.closed x y (sym (colour_same x) ∙ gr) o.0));
     once = was_gray.once;
     apart = was_gray.apart;
     lists_apart = was_gray.lists_apart;
-    few = subst (λ (cs : List Bits). waiting_count c.lists + (length c.stack.gray + slots_in is_white cs) ≤ 64 * length cs) (sym colours_same) was_gray.few;
+    few = subst (λ (cs : List Bits). waiting_count c.lists + (length c.stack.gray + slots_in is_white cs)
+        ≤ 64 * length cs) (sym colours_same) was_gray.few;
     room = subst (λ (cs : List Bits). 64 * length cs ≤ c.lists.room) (sym colours_same) was_gray.room;
   }
 
@@ -229,7 +304,8 @@ module _ (c : CollectorState) (flown : ℕ → Option Bits) (w : World) (k : Col
       back : {x : Place} → Reached n.shape (IsBlack n) x → Reached c.heap.shape (IsBlack c.heap) x
       back (reached.from {x} b) = reached.from (black_back x b)
       back (reached.along {x} {y} r ed) = reached.along (back r) (edge_was x y ed).0
-      back (reached.weak {m} {k = q} {v} f a b) = reached.weak (entry_was c flown w k g rest ok s ready at grays listed n e m q v f) (back a) (back b)
+      back (reached.weak {m} {k = q} {v} f a b) =
+          reached.weak (entry_was c flown w k g rest ok s ready at grays listed n e m q v f) (back a) (back b)
 
   -- what is left to reach isn't dead
   pub live_alive : (p : Place) → PendingLive c.heap c.stack c.lists p → is_dead c.heap g p ≡ false
@@ -237,18 +313,28 @@ module _ (c : CollectorState) (flown : ℕ → Option Bits) (w : World) (k : Col
     where
       go : (t : Bool) → is_dead c.heap g p ≡ t → is_dead c.heap g p ≡ false
       go false t = t
-      go true t = alive p (pending_live c.heap c.stack c.lists was was_gray g ready.marked (ordered c flown w k g rest ok s ready at) p l (in_zones_has g ready.small _ (first_of_both _ _ t)))
+      go true t = alive p (pending_live c.heap c.stack c.lists was was_gray g ready.marked
+          (ordered c flown w k g rest ok s ready at) p l (in_zones_has g ready.small _ (first_of_both _ _ t)))
 
   start_on : (p : Place) → IsLiveStart c.heap p → IsLiveStart n p
-  start_on p st = elim st [ inl sn ↦ inl (seen_on p sn) | inr held ↦ inr (subst (λ z. Contains (buffer_of n z) p) (sym (zone_same p)) (waiting_on _ p held)) ]
+  start_on p st = elim st [
+    | inl sn ↦ inl (seen_on p sn)
+    | inr held
+        ↦ inr (subst (λ z. Contains (buffer_of n z) p) (sym (zone_same p)) (waiting_on _ p held))
+  ]
 
   start_back : (p : Place) → IsLiveStart n p → IsLiveStart c.heap p
-  start_back p st = elim st [ inl sn ↦ inl (seen_back p sn) | inr held ↦ inr (subst (λ z. Contains (buffer_of c.heap z) p) (zone_same p) (waiting_back _ p held)) ]
+  start_back p st = elim st [
+    | inl sn ↦ inl (seen_back p sn)
+    | inr held
+        ↦ inr (subst (λ z. Contains (buffer_of c.heap z) p) (zone_same p) (waiting_back _ p held))
+  ]
 
   live_back : {x : Place} → Reached n.shape (IsLiveStart n) x → Reached c.heap.shape (IsLiveStart c.heap) x
   live_back (reached.from {x} st) = reached.from (start_back x st)
   live_back (reached.along {x} {y} r ed) = reached.along (live_back r) (edge_was x y ed).0
-  live_back (reached.weak {m} {k = q} {v} f a b) = reached.weak (entry_was c flown w k g rest ok s ready at grays listed n e m q v f) (live_back a) (live_back b)
+  live_back (reached.weak {m} {k = q} {v} f a b) =
+      reached.weak (entry_was c flown w k g rest ok s ready at grays listed n e m q v f) (live_back a) (live_back b)
 
   reached_alive : (p : Place) → Reached c.heap.shape (IsLiveStart c.heap) p → is_dead c.heap g p ≡ false
   reached_alive p r = live_alive p (reached_is_live c.heap c.stack c.lists was was_gray r)
@@ -258,10 +344,14 @@ module _ (c : CollectorState) (flown : ℕ → Option Bits) (w : World) (k : Col
   live_on (reached.along {x} {y} r ed) = reached.along (live_on r) (edge_stays x y ed (reached_alive x r))
   live_on (reached.weak {m} {k = q} {v} f a b) =
       let there = was.holds.colours.shape.entries m q v f in
-      reached.weak (entry_on c flown w k g rest ok s ready at grays listed n e m q v f (present_stays m there.0 (reached_alive m a)) (present_stays q there.1 (reached_alive q b)) (present_stays v there.2 (reached_alive v (reached.weak f a b)))) (live_on a) (live_on b)
+      reached.weak (entry_on c flown w k g rest ok s ready at grays listed n e m q v f
+      (present_stays m there.0 (reached_alive m a)) (present_stays q there.1 (reached_alive q b))
+      (present_stays v there.2 (reached_alive v (reached.weak f a b)))) (live_on a) (live_on b)
 
   pub live_after : (p : Place) → PendingLive n c.stack c.lists p ↔ PendingLive c.heap c.stack c.lists p
   live_after p = (
-    λ l. reached_is_live c.heap c.stack c.lists was was_gray (live_back (live_is_reached n c.stack c.lists marks_after gray_after l)),
-    λ l. reached_is_live n c.stack c.lists marks_after gray_after (live_on (live_is_reached c.heap c.stack c.lists was was_gray l)),
+    λ l. reached_is_live c.heap c.stack c.lists was was_gray
+        (live_back (live_is_reached n c.stack c.lists marks_after gray_after l)),
+    λ l. reached_is_live n c.stack c.lists marks_after gray_after
+        (live_on (live_is_reached c.heap c.stack c.lists was was_gray l)),
   )

@@ -1,5 +1,6 @@
 -- Where nothing is left to mark for a group, exactly what is pending is coloured.
-use Rattle.std.proofs.Common.{◌≡◌, ◌⊎◌, ◌↔◌, ◌∷◌, ℕ, Bool, true, false, inl, inr, refl, sym, ap, ◌∙◌, subst, Option, None, Some, IsSome, is_some, Contains, List, []}
+use Rattle.std.proofs.Common.{◌≡◌, ◌⊎◌, ◌↔◌, ◌∷◌, ℕ, Bool, true, false, inl, inr, refl, sym, ap, ◌∙◌, subst, Option}
+use Rattle.std.proofs.Common.{None, Some, IsSome, is_some, Contains, List, []}
 use Rattle.gz_names.specs.Zones.{HasZone}
 use Rattle.gz_names.specs.declared.numbers.Place.{Place}
 use Rattle.gz_names.specs.declared.zone_sets.ZoneSet.{ZoneSet}
@@ -8,7 +9,8 @@ use Rattle.zones.specs.declared.states.State.TheVariants as state
 use Rattle.arena_table.specs.Cells.{CellState}
 use Rattle.mark_stack.specs.Stack.{Piles}
 use Rattle.gray_lists.specs.Incoming.{Incoming}
-use Rattle.heap_core.specs.Shape.{Shape, HasEdge, IsPresent, cell_of, field_in, is_marking, is_marking_state, state_in, state_of, zone_of}
+use Rattle.heap_core.specs.Shape.{Shape, HasEdge, IsPresent, cell_of, field_in, is_marking, is_marking_state, state_in}
+use Rattle.heap_core.specs.Shape.{state_of, zone_of}
 use Rattle.heap_core.specs.Heap.{HeapState}
 use Rattle.barriers.specs.Reached.{Reached, HasEntry}
 use Rattle.barriers.specs.Reached as reached
@@ -24,10 +26,12 @@ use Rattle.barriers.proofs.LiveClosure.{live_is_reached}
 use Rattle.slice_driver.specs.GroupEnd.{IsMarked}
 
 -- a zone is not marking, or marked black only, or takes gray
-pub states_are : (s : Shape) (x : Place) → (is_marking s x ≡ false) ⊎ ((state_of s x ≡ state.MarkBlackOnly) ⊎ (state_of s x ≡ state.MarkBlackAndGray))
+pub states_are : (s : Shape) (x : Place) → (is_marking s x ≡ false)
+    ⊎ ((state_of s x ≡ state.MarkBlackOnly) ⊎ (state_of s x ≡ state.MarkBlackAndGray))
 states_are s x = go (state_of s x) refl
   where
-    go : (t : State) → state_of s x ≡ t → (is_marking s x ≡ false) ⊎ ((state_of s x ≡ state.MarkBlackOnly) ⊎ (state_of s x ≡ state.MarkBlackAndGray))
+    go : (t : State) → state_of s x ≡ t → (is_marking s x ≡ false)
+        ⊎ ((state_of s x ≡ state.MarkBlackOnly) ⊎ (state_of s x ≡ state.MarkBlackAndGray))
     go state.NoGC e = inl (ap is_marking_state e)
     go state.MarkBlackOnly e = inr (inl e)
     go state.MarkBlackAndGray e = inr (inr e)
@@ -45,12 +49,15 @@ edge_from s x y e = go (cell_of s x) refl
 not_in_none : (xs : List Place) (x : Place) → xs ≡ [] → Contains xs x → ⊥
 not_in_none xs x e c = nothing_in_none x (subst (λ ys. Contains ys x) e c)
 
--- zones that take gray are of the group, and an edge into the group from a zone that is marked black only leads to a black cell
+-- zones that take gray are of the group, and an edge into the group from a zone that is marked black only leads to a
+-- black cell
 pub record IsOrdered (h : HeapState) (g : ZoneSet) : Type 0 where
   pub only : (z : ℕ) → state_in h.shape z ≡ state.MarkBlackAndGray → HasZone g.bits z
-  pub order : (x y : Place) → HasEdge h.shape x y → state_of h.shape x ≡ state.MarkBlackOnly → HasZone g.bits (zone_of h.shape y) → IsBlack h y
+  pub order : (x y : Place) → HasEdge h.shape x y → state_of h.shape x ≡ state.MarkBlackOnly
+      → HasZone g.bits (zone_of h.shape y) → IsBlack h y
 
-module _ (h : HeapState) (p : Piles) (lists : Incoming) (inv : MarkingInvariant h p) (gray : GrayInvariant h p lists) (g : ZoneSet) (marked : IsMarked h p lists g) where
+module _ (h : HeapState) (p : Piles) (lists : Incoming) (inv : MarkingInvariant h p) (gray : GrayInvariant h p lists)
+    (g : ZoneSet) (marked : IsMarked h p lists g) where
   pub black_follows : (x y : Place) → IsBlack h x → HasEdge h.shape x y → IsBlack h y
   black_follows x y b e = elim (inv.holds.closed x y b e) [
     | inl by ↦ by
@@ -87,9 +94,12 @@ module _ (h : HeapState) (p : Piles) (lists : Incoming) (inv : MarkingInvariant 
       go : (o : Option CellState) → cell_of h.shape y ≡ o → ⊥
       go None at = cc (n.1, ap (Rattle.std.specs.Option.option_map (λ (c : CellState). c.comp)) at)
       go (Some cell) at =
-          let same : Some cell.comp ≡ Some n.0 = sym (ap (Rattle.std.specs.Option.option_map (λ (c : CellState). c.comp)) at) ∙ n.1 in
+          let same : Some cell.comp ≡ Some n.0 =
+          sym (ap (Rattle.std.specs.Option.option_map (λ (c : CellState). c.comp)) at) ∙ n.1 in
           let number : cell.comp.0 ≡ n.0.0 = cc same in
-          not_in_none _ x (marked.none_incoming (zone_of h.shape y) n.0.0 here (subst (λ i. Rattle.std.proofs.Common.slice_get h.shape.comps i ≡ Some (zone_of h.shape y)) number (inv.holds.colours.shape.at_home y cell at))) n.2
+          not_in_none _ x (marked.none_incoming (zone_of h.shape y) n.0.0 here
+          (subst (λ i. Rattle.std.proofs.Common.slice_get h.shape.comps i ≡ Some (zone_of h.shape y)) number
+          (inv.holds.colours.shape.at_home y cell at))) n.2
 
   pub seen_follows : (x y : Place) → IsSeen h x → HasEdge h.shape x y → HasZone g.bits (zone_of h.shape y) → IsSeen h y
   seen_follows x y (inr black) e here = inr (black_follows x y black e)
@@ -103,7 +113,8 @@ module _ (h : HeapState) (p : Piles) (lists : Incoming) (inv : MarkingInvariant 
   module _ (ordered : IsOrdered h g) where
     all_seen : {x : Place} → Reached h.shape (IsLiveStart h) x → HasZone g.bits (zone_of h.shape x) → IsSeen h x
     all_seen (reached.from (inl seen)) here = seen
-    all_seen (reached.from {x} (inr c)) here = absurd (not_in_none _ x (marked.none_buffered (zone_of h.shape x) here) c)
+    all_seen (reached.from {x} (inr c)) here =
+        absurd (not_in_none _ x (marked.none_buffered (zone_of h.shape x) here) c)
     all_seen (reached.along {x} {y} r e) here = elim (states_are h.shape x) [
       | inl rest ↦ seen_follows x y (inv.holds.colours.no_white x (edge_from h.shape x y e) rest) e here
       | inr (inl only) ↦ inr (ordered.order x y e only here)
@@ -111,7 +122,8 @@ module _ (h : HeapState) (p : Piles) (lists : Incoming) (inv : MarkingInvariant 
     ]
     all_seen (reached.weak {m} {k} {v} e a b) here =
         let zones = inv.holds.colours.shape.one_zone m k v e in
-        marked.gray_fixed m k v e (all_seen a (subst (λ z. HasZone g.bits z) (sym zones.0) here)) (all_seen b (subst (λ z. HasZone g.bits z) (sym zones.1) here)) here
+        marked.gray_fixed m k v e (all_seen a (subst (λ z. HasZone g.bits z) (sym zones.0) here))
+        (all_seen b (subst (λ z. HasZone g.bits z) (sym zones.1) here)) here
 
     pub pending_live : (x : Place) → PendingLive h p lists x → HasZone g.bits (zone_of h.shape x) → IsSeen h x
     pending_live x l here = all_seen (live_is_reached h p lists inv gray l) here

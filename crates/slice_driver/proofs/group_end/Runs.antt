@@ -1,5 +1,7 @@
 -- After the end of a group the collector stands for the world after it.
-use Rattle.std.proofs.Common.{◌≡◌, ◌⊎◌, ◌↔◌, ◌+◌, ◌<◌, ℕ, suc, Bool, true, false, cond, inl, inr, refl, sym, ap, ◌∙◌, subst, arith, eqb, Option, None, Some, IsSome, is_some, List, [], ◌∷◌, map, Contains, slice_get}
+use Rattle.std.proofs.Common.{◌≡◌, ◌⊎◌, ◌↔◌, ◌+◌, ◌<◌, ℕ, suc, Bool, true, false, cond, inl, inr, refl, sym, ap, ◌∙◌}
+use Rattle.std.proofs.Common.{subst, arith, eqb, Option, None, Some, IsSome, is_some, List, [], ◌∷◌, map, Contains}
+use Rattle.std.proofs.Common.{slice_get}
 use Rattle.std.specs.FinMap as places
 use Rattle.std.specs.List.{list_any}
 use Rattle.gz_names.specs.Zones.{HasZone, zones_in}
@@ -26,44 +28,62 @@ use Rattle.barriers.specs.PendingLive.{GrayInvariant, buffer_of}
 use Rattle.slice_driver.specs.Collector.{CollectorState, RunState, heap_with}
 use Rattle.slice_driver.specs.Closures.{AreBlack, AreTied}
 use Rattle.slice_driver.specs.Worlds.{IsInFlight, IsWokenFrom}
-use Rattle.slice_driver.specs.Represents.{AreBehind, AreInStates, IsCurrent, IsInGroups, Represents, Runs, RunsAs, WaitsWhileMarking}
+use Rattle.slice_driver.specs.Represents.{AreBehind, AreInStates, IsCurrent, IsInGroups, Represents, Runs, RunsAs}
+use Rattle.slice_driver.specs.Represents.{WaitsWhileMarking}
 use Rattle.slice_driver.specs.GroupEnd.{AreJustFlown, EndsIn, IsEnded, IsGrayHere, IsReady}
 use Rattle.slice_driver.proofs.abstraction.Named.{some_one}
 use Rattle.slice_driver.proofs.group_end.Ready.{groups_ok, in_groups_to, ordered, runs, tied}
 use Rattle.slice_driver.proofs.group_end.Cells.{in_zones_has, out_at_end}
 use Rattle.slice_driver.proofs.group_end.Heaps.{after, arenas_are, name_back, sized, zones}
 use Rattle.slice_driver.proofs.group_end.Lies.{lies_after, unswept_apart_after}
-use Rattle.slice_driver.proofs.group_end.Marks.{black_back, black_on, colours_same, edge_was, gray_after, in_group, live_after, live_alive, marking_before, marks_after, pending_after, state_group}
-use Rattle.slice_driver.proofs.group_end.Worlds.{black_has, ended, ended_collection, ended_place, has_black, place_ended}
+use Rattle.slice_driver.proofs.group_end.Marks.{black_back, black_on, colours_same, edge_was, gray_after, in_group}
+use Rattle.slice_driver.proofs.group_end.Marks.{live_after, live_alive, marking_before, marks_after, pending_after}
+use Rattle.slice_driver.proofs.group_end.Marks.{state_group}
+use Rattle.slice_driver.proofs.group_end.Worlds.{black_has, ended, ended_collection, ended_place, has_black}
+use Rattle.slice_driver.proofs.group_end.Worlds.{place_ended}
 
 -- where what is in flight is what arenas have, the heap's own bits count
-own_flown : (flown : ℕ → Option Bits) (n : ℕ) (colours : List Bits) → ((a : ℕ) (b : Bits) → flown (n + a) ≡ Some b → slice_get colours a ≡ Some b) → with_flown flown n colours ≡ colours
+own_flown : (flown : ℕ → Option Bits) (n : ℕ) (colours : List Bits)
+    → ((a : ℕ) (b : Bits) → flown (n + a) ≡ Some b → slice_get colours a ≡ Some b)
+    → with_flown flown n colours ≡ colours
 own_flown flown n [] own = refl
-own_flown flown n (b ∷ colours) own = λ i. here (flown n) refl i ∷ own_flown flown (suc n) colours (λ a d e. own (suc a) d (let same : n + suc a ≡ suc n + a = omega arith in ap flown same ∙ e)) i
+own_flown flown n (b ∷ colours) own = λ i. here (flown n) refl i ∷ own_flown flown (suc n) colours
+    (λ a d e. own (suc a) d (let same : n + suc a ≡ suc n + a = omega arith in ap flown same ∙ e)) i
   where
     here : (o : Option Bits) → flown n ≡ o → flown_or (flown n) b ≡ b
     here None e = ap (λ o. flown_or o b) e
-    here (Some d) e = ap (λ o. flown_or o b) e ∙ (let zero_more : n + 0 ≡ n = omega arith in let is : Some b ≡ Some d = own 0 d (ap flown zero_more ∙ e) in sym (some_one b d is))
+    here (Some d) e = ap (λ o. flown_or o b) e
+        ∙ (let zero_more : n + 0 ≡ n = omega arith in let is : Some b ≡ Some d = own 0 d (ap flown zero_more ∙ e) in
+        sym (some_one b d is))
 
-module _ (c : CollectorState) (flown : ℕ → Option Bits) (w : World) (k : Collection) (g : ZoneSet) (rest : List ZoneSet) (ok : IsValid w) (s : Represents c flown w) (ready : IsReady c g rest) (at : w.collection ≡ Some k) (grays : List Name) (listed : Lists (IsGrayHere c.heap g) grays) (d : CollectorState) (ends : EndsIn c g rest d) (flying : ℕ → Option Bits) (flies : AreJustFlown d.heap.shape flying) where
+module _ (c : CollectorState) (flown : ℕ → Option Bits) (w : World) (k : Collection) (g : ZoneSet) (rest : List ZoneSet)
+    (ok : IsValid w) (s : Represents c flown w) (ready : IsReady c g rest) (at : w.collection ≡ Some k)
+    (grays : List Name) (listed : Lists (IsGrayHere c.heap g) grays) (d : CollectorState) (ends : EndsIn c g rest d)
+    (flying : ℕ → Option Bits) (flies : AreJustFlown d.heap.shape flying) where
   e : IsEnded c.heap g d.heap
   e = ends.heap
 
-  out_is : (a : ℕ) → out_of d.heap.shape a ≡ cond (in_zones g.bits (zone_in (slice_get c.heap.shape.arenas a))) (slice_get c.heap.colours a) None
-  out_is a = out_at_end c.heap d.heap g (arenas_are c flown w k g rest ok s ready at grays listed d.heap e) (sized c flown w k g rest ok s ready at grays listed d.heap e) ready.kept a
+  out_is : (a : ℕ) → out_of d.heap.shape a ≡ cond (in_zones g.bits (zone_in (slice_get c.heap.shape.arenas a)))
+      (slice_get c.heap.colours a) None
+  out_is a = out_at_end c.heap d.heap g (arenas_are c flown w k g rest ok s ready at grays listed d.heap e)
+      (sized c flown w k g rest ok s ready at grays listed d.heap e) ready.kept a
 
   -- an arena that is out is one of the group, and has its bits
-  out_of_group : (a : ℕ) (b : Bits) → out_of d.heap.shape a ≡ Some b → HasZone g.bits (zone_in (slice_get c.heap.shape.arenas a)) × (slice_get c.heap.colours a ≡ Some b)
+  out_of_group : (a : ℕ) (b : Bits) → out_of d.heap.shape a ≡ Some b
+      → HasZone g.bits (zone_in (slice_get c.heap.shape.arenas a)) × (slice_get c.heap.colours a ≡ Some b)
   out_of_group a b o = go (in_zones g.bits (zone_in (slice_get c.heap.shape.arenas a))) refl (sym (out_is a) ∙ o)
     where
-      go : (t : Bool) → in_zones g.bits (zone_in (slice_get c.heap.shape.arenas a)) ≡ t → cond t (slice_get c.heap.colours a) None ≡ Some b → HasZone g.bits (zone_in (slice_get c.heap.shape.arenas a)) × (slice_get c.heap.colours a ≡ Some b)
+      go : (t : Bool) → in_zones g.bits (zone_in (slice_get c.heap.shape.arenas a)) ≡ t
+          → cond t (slice_get c.heap.colours a) None ≡ Some b
+          → HasZone g.bits (zone_in (slice_get c.heap.shape.arenas a)) × (slice_get c.heap.colours a ≡ Some b)
       go true t f = (in_zones_has g ready.small _ t, f)
       go false t f = absurd (cc f)
 
   heap_is : heap_with d flying ≡ d.heap
   heap_is = ap (λ (cs : List Bits). record d.heap { colours = cs }) (own_flown flying 0 d.heap.colours (λ a b f.
       let same : 0 + a ≡ a = omega arith in
-      ap (λ (cs : List Bits). slice_get cs a) (colours_same c flown w k g rest ok s ready at grays listed d.heap e) ∙ (out_of_group a b (sym (flies a) ∙ ap flying (sym same) ∙ f)).1))
+      ap (λ (cs : List Bits). slice_get cs a) (colours_same c flown w k g rest ok s ready at grays listed d.heap e)
+      ∙ (out_of_group a b (sym (flies a) ∙ ap flying (sym same) ∙ f)).1))
 
   same_bits : (a : ℕ) (old new : Bits) → out_of d.heap.shape a ≡ Some old → flying a ≡ Some new → IsWokenFrom old new
   same_bits a old new o f =
@@ -75,7 +95,8 @@ module _ (c : CollectorState) (flown : ℕ → Option Bits) (w : World) (k : Col
 
   -- a zone of the groups that are left is none of this one
   left_apart : (z : ℕ) → IsInGroups rest z → HasZone g.bits z → ⊥
-  left_apart z i here = let l = in_groups_to rest z i in (groups_ok c flown w k g rest ok s ready at).apart.0 l.0 l.1 z ((zones_in-has g z).1 here) l.2
+  left_apart z i here = let l = in_groups_to rest z i in
+      (groups_ok c flown w k g rest ok s ready at).apart.0 l.0 l.1 z ((zones_in-has g z).1 here) l.2
 
   in_later : (z : ℕ) → IsInGroups rest z → IsInGroups c.groups z
   in_later z i = subst (λ gs. IsInGroups gs z) (sym ready.groups_are) (i.0, contains_tail g rest i.0 i.1, i.2)
@@ -83,7 +104,11 @@ module _ (c : CollectorState) (flown : ℕ → Option Bits) (w : World) (k : Col
   in_earlier : (z : ℕ) → (HasZone g.bits z → ⊥) → (IsInGroups rest z → ⊥) → IsInGroups c.groups z → ⊥
   in_earlier z out none i =
       let j = subst (λ gs. IsInGroups gs z) ready.groups_are i in
-      elim (contains_cases g rest j.0 j.1) [ inl same ↦ out (subst (λ (y : ZoneSet). HasZone y.bits z) (sym same) j.2) | inr tail ↦ none (j.0, tail, j.2) ]
+      elim (contains_cases g rest j.0 j.1) [
+        | inl same ↦ out (subst (λ (y : ZoneSet). HasZone y.bits z) (sym same) j.2)
+        | inr tail
+            ↦ none (j.0, tail, j.2)
+      ]
 
   left_back : (z : ℕ) → IsInGroups d.groups z → IsInGroups rest z
   left_back z i = subst (λ gs. IsInGroups gs z) ends.groups_is i
@@ -101,18 +126,21 @@ module _ (c : CollectorState) (flown : ℕ → Option Bits) (w : World) (k : Col
   group_of : (z : ℕ) → HasZone g.bits z ⊎ (HasZone g.bits z → ⊥)
   group_of z = in_group c flown w k g rest ok s ready at grays listed d.heap e z
 
-  state_end : (z : ℕ) → HasZone g.bits z → (state_in d.heap.shape z ≡ state.Sweep) ⊎ (state_in d.heap.shape z ≡ state.Finished)
+  state_end : (z : ℕ) → HasZone g.bits z → (state_in d.heap.shape z ≡ state.Sweep)
+      ⊎ (state_in d.heap.shape z ≡ state.Finished)
   state_end z here = state_group c flown w k g rest ok s ready at grays listed d.heap e z here
 
   states_after : AreInStates d ready.run
   states_after = record {
-    outside = λ z out. (let was : state_in c.heap.shape z ≡ state.NoGC = old.outside z out in e.others z (λ here. cc (was, ready.marked.begun z here)) ∙ was);
+    outside = λ z out. (let was : state_in c.heap.shape z ≡ state.NoGC = old.outside z out in
+        e.others z (λ here. cc (was, ready.marked.begun z here)) ∙ was);
     made = λ z here. subst (λ m. z < m) (sym e.sized) (old.made z here);
     early = λ unformed. absurd (cc (unformed, ready.formed));
     later = λ formed z here. (let i = left_back z here in inl (e.others z (left_apart z i) ∙ left_black_only z i));
     ended = λ formed z here none. elim (group_of z) [
       | inl mine ↦ state_end z mine
-      | inr out ↦ elim (old.ended formed z here (in_earlier z out (λ i. none (left_on z i)))) [ inl sw ↦ inl (e.others z out ∙ sw) | inr fin ↦ inr (e.others z out ∙ fin) ]
+      | inr out ↦ elim (old.ended formed z here (in_earlier z out (λ i. none (left_on z i))))
+          [ inl sw ↦ inl (e.others z out ∙ sw) | inr fin ↦ inr (e.others z out ∙ fin) ]
     ];
     sweeping = λ z a p is zone out. sweeping z a p is zone (out_of d.heap.shape a) refl out;
     swept = λ none z sw. elim (group_of z) [
@@ -124,19 +152,27 @@ module _ (c : CollectorState) (flown : ℕ → Option Bits) (w : World) (k : Col
       old : AreInStates c ready.run
       old = (runs c flown w k g rest ok s ready at).states
 
-      sweeping : (z a : ℕ) (p : Place) → p.0 ≡ a → zone_of d.heap.shape p ≡ z → (o : Option Bits) → out_of d.heap.shape a ≡ o → IsSome (out_of d.heap.shape a) → state_in d.heap.shape z ≡ state.Sweep
+      sweeping : (z a : ℕ) (p : Place) → p.0 ≡ a → zone_of d.heap.shape p ≡ z → (o : Option Bits)
+          → out_of d.heap.shape a ≡ o → IsSome (out_of d.heap.shape a) → state_in d.heap.shape z ≡ state.Sweep
       sweeping z a p is zone None f out = absurd (cc (f, out))
-      sweeping z a p is zone (Some b) f out = e.swept a out z (subst (λ y. HasZone g.bits y) (ap (λ i. zone_in (slice_get c.heap.shape.arenas i)) (sym is) ∙ sym (zones c flown w k g rest ok s ready at grays listed d.heap e p) ∙ zone) (out_of_group a b f).0)
+      sweeping z a p is zone (Some b) f out =
+          e.swept a out z (subst (λ y. HasZone g.bits y) (ap (λ i. zone_in (slice_get c.heap.shape.arenas i)) (sym is)
+          ∙ sym (zones c flown w k g rest ok s ready at grays listed d.heap e p) ∙ zone) (out_of_group a b f).0)
 
-  left_marking : (z : ℕ) → Contains (zones_without k.marking (zones_in g)) z ↔ (is_marking_state (state_in d.heap.shape z) ≡ true)
+  left_marking : (z : ℕ) → Contains (zones_without k.marking (zones_in g)) z
+      ↔ (is_marking_state (state_in d.heap.shape z) ≡ true)
   left_marking z = (
     λ m. (let r = without_was k.marking (zones_in g) z m in
-        ap is_marking_state (e.others z (λ here. cc (among_from z (zones_in g) ((zones_in-has g z).1 here), r.1))) ∙ ((runs c flown w k g rest ok s ready at).marking_are z).0 r.0),
+        ap is_marking_state (e.others z (λ here. cc (among_from z (zones_in g) ((zones_in-has g z).1 here), r.1)))
+        ∙ ((runs c flown w k g rest ok s ready at).marking_are z).0 r.0),
     λ m. (let b = marking_before c flown w k g rest ok s ready at grays listed d.heap e z m in
-        without_has k.marking (zones_in g) z (((runs c flown w k g rest ok s ready at).marking_are z).1 (ap is_marking_state (sym b.1) ∙ m)) (unlisted (list_any (eqb z) (zones_in g)) refl b.0)),
+        without_has k.marking (zones_in g) z
+        (((runs c flown w k g rest ok s ready at).marking_are z).1 (ap is_marking_state (sym b.1) ∙ m))
+        (unlisted (list_any (eqb z) (zones_in g)) refl b.0)),
   )
     where
-      unlisted : (t : Bool) → list_any (eqb z) (zones_in g) ≡ t → (HasZone g.bits z → ⊥) → list_any (eqb z) (zones_in g) ≡ false
+      unlisted : (t : Bool) → list_any (eqb z) (zones_in g) ≡ t → (HasZone g.bits z → ⊥)
+          → list_any (eqb z) (zones_in g) ≡ false
       unlisted true t out = absurd (out ((zones_in-has g z).0 (among_to z (zones_in g) t)))
       unlisted false t out = t
 
@@ -158,10 +194,22 @@ module _ (c : CollectorState) (flown : ℕ → Option Bits) (w : World) (k : Col
 
   tied_here : AreTied d.heap c.stack c.lists world_after (ended_collection k g rest)
   tied_here = record {
-    black = λ x p named. ((λ l. (was_tied.black x p (name_was p x named)).0 ((pending_after c flown w k g rest ok s ready at grays listed d.heap e p).0 l)), λ u. (pending_after c flown w k g rest ok s ready at grays listed d.heap e p).1 ((was_tied.black x p (name_was p x named)).1 u));
-    live = λ x p named. ((λ l. (was_tied.live x p (name_was p x named)).0 ((live_after c flown w k g rest ok s ready at grays listed d.heap e p).0 l)), λ u. (live_after c flown w k g rest ok s ready at grays listed d.heap e p).1 ((was_tied.live x p (name_was p x named)).1 u));
-    present = λ x u. (let p = Rattle.slice_driver.proofs.abstraction.Named.place_of c.heap w s.lies x (was_tied.present x u) in
-        ap is_some (place_ended c.heap g w x p.0 ((s.lies.places_are x p.0).1 p.1) (live_alive c flown w k g rest ok s ready at grays listed d.heap e p.0 ((was_tied.live x p.0 p.1).1 u))));
+    black = λ x p named. (
+      (λ l. (was_tied.black x p (name_was p x named)).0
+          ((pending_after c flown w k g rest ok s ready at grays listed d.heap e p).0 l)),
+      λ u. (pending_after c flown w k g rest ok s ready at grays listed d.heap e p).1
+          ((was_tied.black x p (name_was p x named)).1 u),
+    );
+    live = λ x p named. (
+      (λ l. (was_tied.live x p (name_was p x named)).0
+          ((live_after c flown w k g rest ok s ready at grays listed d.heap e p).0 l)),
+      λ u. (live_after c flown w k g rest ok s ready at grays listed d.heap e p).1
+          ((was_tied.live x p (name_was p x named)).1 u),
+    );
+    present = λ x u. (let p = Rattle.slice_driver.proofs.abstraction.Named.place_of c.heap w s.lies x
+        (was_tied.present x u) in
+        ap is_some (place_ended c.heap g w x p.0 ((s.lies.places_are x p.0).1 p.1)
+        (live_alive c flown w k g rest ok s ready at grays listed d.heap e p.0 ((was_tied.live x p.0 p.1).1 u))));
     edges_then = λ x y there ed. was_tied.edges_then x y (present_was x there) ed;
     entries_then = λ m q v pm pq f. was_tied.entries_then m q v (present_was m pm) (present_was q pq) f;
     grown = was_tied.grown;
@@ -169,7 +217,8 @@ module _ (c : CollectorState) (flown : ℕ → Option Bits) (w : World) (k : Col
   }
 
   tied_after : AreTied d.heap d.stack d.lists world_after (ended_collection k g rest)
-  tied_after = subst (λ p. AreTied d.heap p d.lists world_after (ended_collection k g rest)) (sym ends.stack_is) (subst (λ l. AreTied d.heap c.stack l world_after (ended_collection k g rest)) (sym ends.lists_is) tied_here)
+  tied_after = subst (λ p. AreTied d.heap p d.lists world_after (ended_collection k g rest)) (sym ends.stack_is)
+      (subst (λ l. AreTied d.heap c.stack l world_after (ended_collection k g rest)) (sym ends.lists_is) tied_here)
 
   zone_same : (p : Place) → zone_of d.heap.shape p ≡ zone_of c.heap.shape p
   zone_same p = zones c flown w k g rest ok s ready at grays listed d.heap e p
@@ -181,7 +230,12 @@ module _ (c : CollectorState) (flown : ℕ → Option Bits) (w : World) (k : Col
       black_on c flown w k g rest ok s ready at grays listed d.heap e q (elim (group_of (zone_of c.heap.shape q)) [
         | inl of ↦ (ordered c flown w k g rest ok s ready at).order p q ed (left_black_only _ mine) of
         | inr out ↦ (runs c flown w k g rest ok s ready at).late ready.formed p q
-            (record { edge = ed; from = subst (λ z. HasZone ready.run.zones.bits z) (zone_same p) l.from; to = subst (λ z. HasZone ready.run.zones.bits z) (zone_same q) l.to; apart = λ z. l.apart (zone_same p ∙ z ∙ sym (zone_same q)) })
+            (record {
+              edge = ed;
+              from = subst (λ z. HasZone ready.run.zones.bits z) (zone_same p) l.from;
+              to = subst (λ z. HasZone ready.run.zones.bits z) (zone_same q) l.to;
+              apart = λ z. l.apart (zone_same p ∙ z ∙ sym (zone_same q));
+            })
             (in_later _ mine)
             (in_earlier _ out (λ i. none (left_on _ (subst (λ z. IsInGroups rest z) (sym (zone_same q)) i))))
       ])
@@ -190,7 +244,8 @@ module _ (c : CollectorState) (flown : ℕ → Option Bits) (w : World) (k : Col
   runs_after = record {
     zones_are = (runs c flown w k g rest ok s ready at).zones_are;
     marking_are = left_marking;
-    groups_are = ap (λ gs. Some (map zones_in gs)) (sym ends.groups_is) ∙ ap (λ b. cond b (Some (map zones_in d.groups)) None) (sym ready.formed);
+    groups_are = ap (λ gs. Some (map zones_in gs)) (sym ends.groups_is)
+        ∙ ap (λ b. cond b (Some (map zones_in d.groups)) None) (sym ready.formed);
     states = states_after;
     tied = λ z m. tied_after;
     early = λ unformed. absurd (cc (unformed, ready.formed));
@@ -205,12 +260,14 @@ module _ (c : CollectorState) (flown : ℕ → Option Bits) (w : World) (k : Col
       | inr out ↦ s.waits.buffered z (ap is_marking_state (sym (e.others z out)) ∙ quiet)
     ];
     incoming = λ m p held. (
-        let old = subst (λ (l : Incoming). Contains (Rattle.gray_lists.specs.Incoming.list_of l m) p) ends.lists_is held in
+        let old = subst (λ (l : Incoming). Contains (Rattle.gray_lists.specs.Incoming.list_of l m) p) ends.lists_is held
+        in
         let z = s.waits.incoming m p old in (
           z.0,
           ap (λ (h : HeapState). slice_get h.shape.comps m) e.rest ∙ z.1,
           elim (group_of z.0) [
-            | inl mine ↦ absurd (nothing_in_none p (subst (λ xs. Contains xs p) (ready.marked.none_incoming z.0 m mine z.1) old))
+            | inl mine ↦ absurd (nothing_in_none p
+                (subst (λ xs. Contains xs p) (ready.marked.none_incoming z.0 m mine z.1) old))
             | inr out ↦ ap is_marking_state (e.others z.0 out) ∙ z.2
           ],
         ));
@@ -222,7 +279,8 @@ module _ (c : CollectorState) (flown : ℕ → Option Bits) (w : World) (k : Col
         λ b. (let r = black_has c flown w k g rest ok s ready at x b in
             let same : r.0 ≡ p = some_one r.0 p (sym r.1 ∙ (s.lies.places_are x p).1 o) in
             black_on c flown w k g rest ok s ready at grays listed d.heap e p (subst (λ y. IsBlack c.heap y) same r.2)),
-        λ b. has_black c flown w k g rest ok s ready at x p ((s.lies.places_are x p).1 o) (black_back c flown w k g rest ok s ready at grays listed d.heap e p b),
+        λ b. has_black c flown w k g rest ok s ready at x p ((s.lies.places_are x p).1 o)
+            (black_back c flown w k g rest ok s ready at grays listed d.heap e p b),
       )
 
   pub represents_after : Represents d flying (ended c.heap w k g rest)
@@ -230,9 +288,16 @@ module _ (c : CollectorState) (flown : ℕ → Option Bits) (w : World) (k : Col
     lies = lies_after c flown w k g rest ok s ready at grays listed d.heap e;
     unswept_apart = unswept_apart_after c flown w k g rest ok s ready at grays listed d.heap e;
     flies = in_flight;
-    marks = subst (λ h. MarkingInvariant h d.stack) (sym heap_is) (subst (λ p. MarkingInvariant d.heap p) (sym ends.stack_is) (marks_after c flown w k g rest ok s ready at grays listed d.heap e));
-    gray = subst (λ h. GrayInvariant h d.stack d.lists) (sym heap_is) (subst (λ p. GrayInvariant d.heap p d.lists) (sym ends.stack_is) (subst (λ l. GrayInvariant d.heap c.stack l) (sym ends.lists_is) (gray_after c flown w k g rest ok s ready at grays listed d.heap e)));
+    marks = subst (λ h. MarkingInvariant h d.stack) (sym heap_is)
+        (subst (λ p. MarkingInvariant d.heap p) (sym ends.stack_is)
+        (marks_after c flown w k g rest ok s ready at grays listed d.heap e));
+    gray = subst (λ h. GrayInvariant h d.stack d.lists) (sym heap_is)
+        (subst (λ p. GrayInvariant d.heap p d.lists) (sym ends.stack_is)
+        (subst (λ l. GrayInvariant d.heap c.stack l) (sym ends.lists_is)
+        (gray_after c flown w k g rest ok s ready at grays listed d.heap e)));
     waits = waits_after;
     black = λ settled. subst (λ h. AreBlack h world_after) (sym heap_is) black_names;
-    runs = subst (λ (o : Option RunState). RunsAs (heap_with d flying) d world_after o world_after.collection) (sym (ends.run_is ∙ ready.running)) (subst (λ h. Runs h d world_after ready.run (ended_collection k g rest)) (sym heap_is) runs_after);
+    runs = subst (λ (o : Option RunState). RunsAs (heap_with d flying) d world_after o world_after.collection)
+        (sym (ends.run_is ∙ ready.running))
+        (subst (λ h. Runs h d world_after ready.run (ended_collection k g rest)) (sym heap_is) runs_after);
   }

@@ -16,17 +16,40 @@ small_word word fits z set = elim (cases_lt z 64) [
   | inl lt ↦ lt
   | inr past ↦
       let same : 0 * 2 ^ 64 + word ≡ word = omega arith in
-      let none : bit_at word z ≡ 0 = ap (λ n. bit_at n z) (sym same) ∙ bit_at_cat_high 0 64 word z fits (omega arith) ∙ bit_at-zero (z - 64) in
+      let none : bit_at word z ≡ 0 = ap (λ n. bit_at n z) (sym same) ∙ bit_at_cat_high 0 64 word z fits (omega arith)
+      ∙ bit_at-zero (z - 64) in
       absurd (omega (arith, set, none))
 ]
 
 -- by the shapes alone: the arenas are those that were handed out
-ended_with : (h : HeapState) (g : ZoneSet) (ws : WrappersState) (es : WeakMapsState) (n : HeapState) → n ≡ record (with_handed h g.bits) { shape = record (with_handed h g.bits).shape { states = n.shape.states; wrappers = ws; weak = es } }
-    → EndsZones h g n → ((z : ℕ) → list_of ws z ≡ without_dead (bit_at g.bits z) (is_absent (with_handed h g.bits).shape) (list_of h.shape.wrappers z)) → IsWithoutDead (is_absent (with_handed h g.bits).shape) h.shape.weak es → Rattle.wrappers.specs.WrapperMaps.AreApart h.shape.wrappers.lists → IsEnded h g n
+ended_with : (h : HeapState) (g : ZoneSet) (ws : WrappersState) (es : WeakMapsState) (n : HeapState)
+    → n ≡ record (with_handed h g.bits) {
+      shape =
+          record (with_handed h g.bits).shape { states = n.shape.states; wrappers = ws; weak = es };
+    }
+    → EndsZones h g n → ((z : ℕ)
+    → list_of ws z ≡ without_dead (bit_at g.bits z) (is_absent (with_handed h g.bits).shape)
+    (list_of h.shape.wrappers z)) → IsWithoutDead (is_absent (with_handed h g.bits).shape) h.shape.weak es
+    → Rattle.wrappers.specs.WrapperMaps.AreApart h.shape.wrappers.lists → IsEnded h g n
 ended_with h g ws es n is zones wrappers entries apart =
     let same_wrappers : n.shape.wrappers ≡ ws = ap (λ (z : HeapState). z.shape.wrappers) is in
     let same_weak : n.shape.weak ≡ es = ap (λ (z : HeapState). z.shape.weak) is in
-    let whole : n ≡ record (with_handed h g.bits) { shape = record (with_handed h g.bits).shape { states = n.shape.states; wrappers = n.shape.wrappers; weak = n.shape.weak } } = is ∙ (λ i. record (with_handed h g.bits) { shape = record (with_handed h g.bits).shape { states = n.shape.states; wrappers = sym same_wrappers i; weak = sym same_weak i } }) in
+    let whole : n ≡ record (with_handed h g.bits) {
+      shape =
+          record (with_handed h g.bits).shape {
+            states = n.shape.states;
+            wrappers = n.shape.wrappers;
+            weak = n.shape.weak;
+          };
+    } =
+    is ∙ (λ i. record (with_handed h g.bits) {
+      shape =
+          record (with_handed h g.bits).shape {
+            states = n.shape.states;
+            wrappers = sym same_wrappers i;
+            weak = sym same_weak i;
+          };
+    }) in
     record {
       rest = whole;
       sized = zones.sized;
@@ -34,11 +57,17 @@ ended_with h g ws es n is zones wrappers entries apart =
       swept = zones.swept;
       finished = zones.finished;
       apart = apart;
-      wrappers = λ z. ap (λ (x : WrappersState). list_of x z) same_wrappers ∙ wrappers z ∙ ap (λ (x : HeapState). without_dead (bit_at g.bits z) (is_absent x.shape) (list_of h.shape.wrappers z)) (sym is);
-      entries = subst (λ (x : HeapState). IsWithoutDead (is_absent x.shape) h.shape.weak n.shape.weak) (sym is) (subst (λ e. IsWithoutDead (is_absent (with_handed h g.bits).shape) h.shape.weak e) (sym same_weak) entries);
+      wrappers = λ z. ap (λ (x : WrappersState). list_of x z) same_wrappers ∙ wrappers z
+          ∙ ap (λ (x : HeapState). without_dead (bit_at g.bits z) (is_absent x.shape) (list_of h.shape.wrappers z))
+          (sym is);
+      entries = subst (λ (x : HeapState). IsWithoutDead (is_absent x.shape) h.shape.weak n.shape.weak) (sym is)
+          (subst (λ e. IsWithoutDead (is_absent (with_handed h g.bits).shape) h.shape.weak e) (sym same_weak) entries);
     }
 
-pub ended_by_steps : (h m k n : HeapState) (g : ZoneSet) → m ≡ with_handed h g.bits → DropsDead m g k → n ≡ record k { shape = record k.shape { states = n.shape.states } } → EndsZones h g n → IsEnded h g n
+pub ended_by_steps : (h m k n : HeapState) (g : ZoneSet) → m ≡ with_handed h g.bits → DropsDead m g k
+    → n ≡ record k { shape = record k.shape { states = n.shape.states } } → EndsZones h g n → IsEnded h g n
 ended_by_steps h m k n g handed drops on zones =
     let d : DropsDead (with_handed h g.bits) g k = subst (λ x. DropsDead x g k) handed drops in
-    ended_with h g k.shape.wrappers k.shape.weak n (on ∙ ap (λ (x : HeapState). record x { shape = record x.shape { states = n.shape.states } }) d.rest) zones d.wrappers d.entries d.apart
+    ended_with h g k.shape.wrappers k.shape.weak n
+    (on ∙ ap (λ (x : HeapState). record x { shape = record x.shape { states = n.shape.states } }) d.rest) zones
+    d.wrappers d.entries d.apart

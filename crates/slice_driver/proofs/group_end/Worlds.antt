@@ -1,5 +1,6 @@
 -- The world after the end of a group.
-use Rattle.std.proofs.Common.{◌≡◌, ◌↔◌, ℕ, Bool, true, false, not, cond, refl, sym, ap, ◌∙◌, subst, Option, None, Some, is_some, List, [], map, Contains}
+use Rattle.std.proofs.Common.{◌≡◌, ◌↔◌, ℕ, Bool, true, false, not, cond, refl, sym, ap, ◌∙◌, subst, Option, None, Some}
+use Rattle.std.proofs.Common.{is_some, List, [], map, Contains}
 use Rattle.std.specs.FinMap as places
 use Rattle.gz_names.specs.Zones.{HasZone, zones_in}
 use Rattle.gz_names.specs.declared.names.Name.{Name}
@@ -31,7 +32,8 @@ use Rattle.slice_driver.proofs.abstraction.Lying.{zone_named}
 use Rattle.slice_driver.proofs.group_end.Ready.{groups_are}
 use Rattle.slice_driver.proofs.group_end.Colours.{coloured_here}
 use Rattle.slice_driver.proofs.group_end.Cells.{has_in_zones, in_zones_has, is_dead, is_white_colour, none_out_listed}
-use Rattle.slice_driver.proofs.group_end.Maps.{entries_are, has_named_by, has_placed_by, named_by, named_by_has, placed_by, placed_by_has, set_of, set_of_has}
+use Rattle.slice_driver.proofs.group_end.Maps.{entries_are, has_named_by, has_placed_by, named_by, named_by_has}
+use Rattle.slice_driver.proofs.group_end.Maps.{placed_by, placed_by_has, set_of, set_of_has}
 
 abbrev pub is_black_colour : Colour → Bool
 is_black_colour colour.White = false
@@ -66,7 +68,8 @@ abbrev pub is_kept : HeapState → ZoneSet → World → Name → Bool
 is_kept h g w x = kept_place h g (places.get w.places x)
 
 abbrev pub ended_collection : Collection → ZoneSet → List ZoneSet → Collection
-ended_collection k g rest = record k { marking = zones_without k.marking (zones_in g); groups = Some (map zones_in rest) }
+ended_collection k g rest =
+    record k { marking = zones_without k.marking (zones_in g); groups = Some (map zones_in rest) }
 
 abbrev pub ended : HeapState → World → Collection → ZoneSet → List ZoneSet → World
 ended h w k g rest = record w {
@@ -81,56 +84,78 @@ pub not_true : (b : Bool) → not b ≡ true → b ≡ false
 not_true true e = absurd (cc e)
 not_true false e = refl
 
-pub get_ended : (h : HeapState) (g : ZoneSet) (w : World) (x : Name) → places.get (places.retain_keys w.places (is_kept h g w)) x ≡ cond (is_kept h g w x) (places.get w.places x) None
-get_ended h g w x = places.get-retain_keys w.places (is_kept h g w) x (λ y e. ap (is_kept h g w) (sym (names_apart x y e)))
+pub get_ended : (h : HeapState) (g : ZoneSet) (w : World) (x : Name)
+    → places.get (places.retain_keys w.places (is_kept h g w)) x ≡ cond (is_kept h g w x) (places.get w.places x) None
+get_ended h g w x = places.get-retain_keys w.places (is_kept h g w) x
+    (λ y e. ap (is_kept h g w) (sym (names_apart x y e)))
 
 -- what is at a place after the end was there before, and is not dead
-pub ended_place : (h : HeapState) (g : ZoneSet) (w : World) (x : Name) (p : Place) → places.get (places.retain_keys w.places (is_kept h g w)) x ≡ Some p → (places.get w.places x ≡ Some p) × (is_dead h g p ≡ false)
+pub ended_place : (h : HeapState) (g : ZoneSet) (w : World) (x : Name) (p : Place)
+    → places.get (places.retain_keys w.places (is_kept h g w)) x ≡ Some p → (places.get w.places x ≡ Some p)
+    × (is_dead h g p ≡ false)
 ended_place h g w x p e = go (places.get w.places x) refl (sym (get_ended h g w x) ∙ e)
   where
-    by : (q : Place) (t : Bool) → is_dead h g q ≡ t → places.get w.places x ≡ Some q → cond (not t) (Some q) None ≡ Some p → (places.get w.places x ≡ Some p) × (is_dead h g p ≡ false)
+    by : (q : Place) (t : Bool) → is_dead h g q ≡ t → places.get w.places x ≡ Some q
+        → cond (not t) (Some q) None ≡ Some p → (places.get w.places x ≡ Some p) × (is_dead h g p ≡ false)
     by q true t at f = absurd (cc f)
     by q false t at f = let same : q ≡ p = some_one q p f in (at ∙ f, subst (λ z. is_dead h g z ≡ false) same t)
 
-    go : (o : Option Place) → places.get w.places x ≡ o → cond (kept_place h g (places.get w.places x)) (places.get w.places x) None ≡ Some p → (places.get w.places x ≡ Some p) × (is_dead h g p ≡ false)
+    go : (o : Option Place) → places.get w.places x ≡ o
+        → cond (kept_place h g (places.get w.places x)) (places.get w.places x) None ≡ Some p
+        → (places.get w.places x ≡ Some p) × (is_dead h g p ≡ false)
     go None at f = absurd (cc (subst (λ z. cond (kept_place h g z) z None ≡ Some p) at f))
-    go (Some q) at f = by q (is_dead h g q) refl at (subst (λ b. cond (not b) (Some q) None ≡ Some p) refl (subst (λ z. cond (kept_place h g z) z None ≡ Some p) at f))
+    go (Some q) at f = by q (is_dead h g q) refl at
+        (subst (λ b. cond (not b) (Some q) None ≡ Some p) refl
+        (subst (λ z. cond (kept_place h g z) z None ≡ Some p) at f))
 
-pub place_ended : (h : HeapState) (g : ZoneSet) (w : World) (x : Name) (p : Place) → places.get w.places x ≡ Some p → is_dead h g p ≡ false → places.get (places.retain_keys w.places (is_kept h g w)) x ≡ Some p
-place_ended h g w x p at alive = get_ended h g w x ∙ ap (λ z. cond (kept_place h g z) z None) at ∙ ap (λ b. cond (not b) (Some p) None) alive
+pub place_ended : (h : HeapState) (g : ZoneSet) (w : World) (x : Name) (p : Place) → places.get w.places x ≡ Some p
+    → is_dead h g p ≡ false → places.get (places.retain_keys w.places (is_kept h g w)) x ≡ Some p
+place_ended h g w x p at alive = get_ended h g w x ∙ ap (λ z. cond (kept_place h g z) z None) at
+    ∙ ap (λ b. cond (not b) (Some p) None) alive
 
-gone_ended : (h : HeapState) (g : ZoneSet) (w : World) (x : Name) (p : Place) → places.get w.places x ≡ Some p → is_dead h g p ≡ true → places.get (places.retain_keys w.places (is_kept h g w)) x ≡ None
-gone_ended h g w x p at dead = get_ended h g w x ∙ ap (λ z. cond (kept_place h g z) z None) at ∙ ap (λ b. cond (not b) (Some p) None) dead
+gone_ended : (h : HeapState) (g : ZoneSet) (w : World) (x : Name) (p : Place) → places.get w.places x ≡ Some p
+    → is_dead h g p ≡ true → places.get (places.retain_keys w.places (is_kept h g w)) x ≡ None
+gone_ended h g w x p at dead = get_ended h g w x ∙ ap (λ z. cond (kept_place h g z) z None) at
+    ∙ ap (λ b. cond (not b) (Some p) None) dead
 
-module _ (c : CollectorState) (flown : ℕ → Option Bits) (w : World) (k : Collection) (g : ZoneSet) (rest : List ZoneSet) (ok : IsValid w) (s : Represents c flown w) (ready : IsReady c g rest) (at : w.collection ≡ Some k) where
+module _ (c : CollectorState) (flown : ℕ → Option Bits) (w : World) (k : Collection) (g : ZoneSet) (rest : List ZoneSet)
+    (ok : IsValid w) (s : Represents c flown w) (ready : IsReady c g rest) (at : w.collection ≡ Some k) where
   col : AreColoured c.heap w.graph k (zones_without k.marking (zones_in g))
   col = coloured_here c flown w k g rest ok s ready at
 
-  zone_is : (x : Name) (p : Place) → name_at c.heap.shape p ≡ Some x → graph.zone_of w.graph x ≡ Some (zone_of c.heap.shape p)
+  zone_is : (x : Name) (p : Place) → name_at c.heap.shape p ≡ Some x
+      → graph.zone_of w.graph x ≡ Some (zone_of c.heap.shape p)
   zone_is x p named = zone_named c.heap s.lies.graph w.graph p x s.lies.shown s.lies.part.part named
 
-  in_group : (x : Name) (p : Place) → name_at c.heap.shape p ≡ Some x → HasZone g.bits (zone_of c.heap.shape p) → IsInZones w.graph (zones_in g) x
-  in_group x p named here = in_zone w.graph (zones_in g) x (zone_of c.heap.shape p) (zone_is x p named) ((zones_in-has g _).1 here)
+  in_group : (x : Name) (p : Place) → name_at c.heap.shape p ≡ Some x → HasZone g.bits (zone_of c.heap.shape p)
+      → IsInZones w.graph (zones_in g) x
+  in_group x p named here = in_zone w.graph (zones_in g) x (zone_of c.heap.shape p) (zone_is x p named)
+      ((zones_in-has g _).1 here)
 
-  group_has : (x : Name) (p : Place) → name_at c.heap.shape p ≡ Some x → IsInZones w.graph (zones_in g) x → HasZone g.bits (zone_of c.heap.shape p)
+  group_has : (x : Name) (p : Place) → name_at c.heap.shape p ≡ Some x → IsInZones w.graph (zones_in g) x
+      → HasZone g.bits (zone_of c.heap.shape p)
   group_has x p named here =
       let z = zone_in w.graph (zones_in g) x here in
       let same : z.0 ≡ zone_of c.heap.shape p = some_one _ _ (sym z.1 ∙ zone_is x p named) in
       subst (λ n. HasZone g.bits n) same ((zones_in-has g z.0).0 z.2)
 
   -- exactly the dead places have the white names of the group
-  pub dead_white : (x : Name) (p : Place) → places.get w.places x ≡ Some p → is_dead c.heap g p ≡ true → IsWhiteOf w k (zones_in g) x
+  pub dead_white : (x : Name) (p : Place) → places.get w.places x ≡ Some p → is_dead c.heap g p ≡ true
+      → IsWhiteOf w k (zones_in g) x
   dead_white x p there dead =
       let named = (s.lies.places_are x p).0 there in record {
         present = ap is_some there;
         here = in_group x p named (in_zones_has g ready.small _ (first_of_both _ _ dead));
-        white = (col.white x p named).0 (is_white_test c.heap p (second_of_both (in_zones g.bits (zone_of c.heap.shape p)) _ dead));
+        white = (col.white x p named).0
+            (is_white_test c.heap p (second_of_both (in_zones g.bits (zone_of c.heap.shape p)) _ dead));
       }
 
-  pub white_dead : (x : Name) (p : Place) → places.get w.places x ≡ Some p → IsWhiteOf w k (zones_in g) x → is_dead c.heap g p ≡ true
+  pub white_dead : (x : Name) (p : Place) → places.get w.places x ≡ Some p → IsWhiteOf w k (zones_in g) x
+      → is_dead c.heap g p ≡ true
   white_dead x p there white =
       let named = (s.lies.places_are x p).0 there in
-      both_of _ _ (has_in_zones g _ (group_has x p named white.here)) (ap is_white_colour ((col.white x p named).1 white.white))
+      both_of _ _ (has_in_zones g _ (group_has x p named white.here))
+      (ap is_white_colour ((col.white x p named).1 white.white))
 
   gone : (x : Name) → IsWhiteOf w k (zones_in g) x → places.get (ended c.heap w k g rest).places x ≡ None
   gone x white =
@@ -138,42 +163,53 @@ module _ (c : CollectorState) (flown : ℕ → Option Bits) (w : World) (k : Col
       let there = (s.lies.places_are x p.0).1 p.1 in
       gone_ended c.heap g w x p.0 there (white_dead x p.0 there white)
 
-  stay : (x : Name) → (IsWhiteOf w k (zones_in g) x → ⊥) → places.get (ended c.heap w k g rest).places x ≡ places.get w.places x
+  stay : (x : Name) → (IsWhiteOf w k (zones_in g) x → ⊥) → places.get (ended c.heap w k g rest).places x
+      ≡ places.get w.places x
   stay x not_white = go (places.get w.places x) refl
     where
-      by : (p : Place) (t : Bool) → is_dead c.heap g p ≡ t → places.get w.places x ≡ Some p → places.get (ended c.heap w k g rest).places x ≡ places.get w.places x
+      by : (p : Place) (t : Bool) → is_dead c.heap g p ≡ t → places.get w.places x ≡ Some p
+          → places.get (ended c.heap w k g rest).places x ≡ places.get w.places x
       by p true t there = absurd (not_white (dead_white x p there t))
       by p false t there = place_ended c.heap g w x p there t ∙ sym there
 
-      go : (o : Option Place) → places.get w.places x ≡ o → places.get (ended c.heap w k g rest).places x ≡ places.get w.places x
+      go : (o : Option Place) → places.get w.places x ≡ o → places.get (ended c.heap w k g rest).places x
+          ≡ places.get w.places x
       go None e = get_ended c.heap g w x ∙ ap (λ z. cond (kept_place c.heap g z) z None) e ∙ sym e
       go (Some p) e = by p (is_dead c.heap g p) refl e
 
-  white_are : (x : Name) (p : Place) → Contains {X = Name × (ℕ × ℕ)} (ended c.heap w k g rest).white (x, p) ↔ (IsWhiteOf w k (zones_in g) x × (places.get w.places x ≡ Some p))
+  white_are : (x : Name) (p : Place) → Contains {X = Name × (ℕ × ℕ)} (ended c.heap w k g rest).white (x, p)
+      ↔ (IsWhiteOf w k (zones_in g) x × (places.get w.places x ≡ Some p))
   white_are x p = (
     λ l. (let r = placed_by_has (is_dead c.heap g) (places.entries w.places) x p l in
         let there = (entries_are w.places x p).0 r.0 in
         (dead_white x p there r.1, there)),
-    λ r. has_placed_by (is_dead c.heap g) (places.entries w.places) x p ((entries_are w.places x p).1 r.1) (white_dead x p r.1 r.0),
+    λ r. has_placed_by (is_dead c.heap g) (places.entries w.places) x p ((entries_are w.places x p).1 r.1)
+        (white_dead x p r.1 r.0),
   )
 
   -- exactly the names of black places are black
-  pub black_has : (x : Name) → Has (ended c.heap w k g rest).black x → (p : Place) × (places.get w.places x ≡ Some p) × IsBlack c.heap p
+  pub black_has : (x : Name) → Has (ended c.heap w k g rest).black x → (p : Place) × (places.get w.places x ≡ Some p)
+      × IsBlack c.heap p
   black_has x b =
       let r = named_by_has (λ p. is_black_at c.heap p) (places.entries w.places) x ((set_of_has _ x).0 b) in
       (r.0, (entries_are w.places x r.0).0 r.1, is_black_test c.heap r.0 r.2)
 
-  pub has_black : (x : Name) (p : Place) → places.get w.places x ≡ Some p → IsBlack c.heap p → Has (ended c.heap w k g rest).black x
-  has_black x p there b = (set_of_has _ x).1 (has_named_by (λ q. is_black_at c.heap q) (places.entries w.places) x p ((entries_are w.places x p).1 there) (ap is_black_colour b))
+  pub has_black : (x : Name) (p : Place) → places.get w.places x ≡ Some p → IsBlack c.heap p
+      → Has (ended c.heap w k g rest).black x
+  has_black x p there b =
+      (set_of_has _ x).1 (has_named_by (λ q. is_black_at c.heap q) (places.entries w.places) x p
+      ((entries_are w.places x p).1 there) (ap is_black_colour b))
 
   pub alive : (p : Place) → (IsWhite c.heap p → ⊥) → is_dead c.heap g p ≡ false
   alive p not_white = go (is_dead c.heap g p) refl
     where
       go : (t : Bool) → is_dead c.heap g p ≡ t → is_dead c.heap g p ≡ false
-      go true t = absurd (not_white (is_white_test c.heap p (second_of_both (in_zones g.bits (zone_of c.heap.shape p)) _ t)))
+      go true t = absurd (not_white
+          (is_white_test c.heap p (second_of_both (in_zones g.bits (zone_of c.heap.shape p)) _ t)))
       go false t = t
 
-  black_are : (x : Name) → Has (ended c.heap w k g rest).black x ↔ (BlackClosure k x × IsPresent (ended c.heap w k g rest) x)
+  black_are : (x : Name) → Has (ended c.heap w k g rest).black x
+      ↔ (BlackClosure k x × IsPresent (ended c.heap w k g rest) x)
   black_are x = (
     λ b. (let r = black_has x b in (
       (col.black x r.0 ((s.lies.places_are x r.0).0 r.1)).0 r.2,
@@ -182,9 +218,12 @@ module _ (c : CollectorState) (flown : ℕ → Option Bits) (w : World) (k : Col
     λ r. go (places.get (ended c.heap w k g rest).places x) refl r.0 r.1,
   )
     where
-      go : (o : Option Place) → places.get (ended c.heap w k g rest).places x ≡ o → BlackClosure k x → is_some o ≡ true → Has (ended c.heap w k g rest).black x
+      go : (o : Option Place) → places.get (ended c.heap w k g rest).places x ≡ o → BlackClosure k x → is_some o ≡ true
+          → Has (ended c.heap w k g rest).black x
       go None e b there = absurd (cc there)
-      go (Some p) e b there = (let q = ended_place c.heap g w x p e in has_black x p q.0 ((col.black x p ((s.lies.places_are x p).0 q.0)).1 b))
+      go (Some p) e b there =
+          (let q = ended_place c.heap g w x p e in
+          has_black x p q.0 ((col.black x p ((s.lies.places_are x p).0 q.0)).1 b))
 
   gray_of_group : (x : Name) → IsGrayHere c.heap g x → IsGrayOf w k (zones_in g) x
   gray_of_group x is = record {
@@ -201,10 +240,14 @@ module _ (c : CollectorState) (flown : ℕ → Option Bits) (w : World) (k : Col
     gray = (col.gray x p.0 p.1).1 is.gray;
   })
 
-  pub lawful_end : (grays : List Name) → Lists (IsGrayHere c.heap g) grays → IsLawfulEnd w k (zones_in g) (map zones_in rest) grays (ended c.heap w k g rest)
+  pub lawful_end : (grays : List Name) → Lists (IsGrayHere c.heap g) grays
+      → IsLawfulEnd w k (zones_in g) (map zones_in rest) grays (ended c.heap w k g rest)
   lawful_end grays l = record {
     ready = s.lies.out_is ∙ none_out_listed c.heap.shape ready.kept;
-    grays_are = record { ascending = l.ascending; has = λ x. ((λ m. gray_of_group x ((l.has x).0 m)), λ is. (l.has x).1 (group_gray x is)) };
+    grays_are = record {
+      ascending = l.ascending;
+      has = λ x. ((λ m. gray_of_group x ((l.has x).0 m)), λ is. (l.has x).1 (group_gray x is));
+    };
     graph_is = refl;
     owner_is = refl;
     preparing_is = refl;
@@ -216,7 +259,8 @@ module _ (c : CollectorState) (flown : ℕ → Option Bits) (w : World) (k : Col
     black_are = λ settled x. black_are x;
   }
 
-  pub ends_group : (grays : List Name) → Lists (IsGrayHere c.heap g) grays → EndsGroup w (zones_in g) grays [] (ended c.heap w k g rest)
+  pub ends_group : (grays : List Name) → Lists (IsGrayHere c.heap g) grays
+      → EndsGroup w (zones_in g) grays [] (ended c.heap w k g rest)
   ends_group grays l = record {
     collection = k;
     rest = map zones_in rest;

@@ -1,5 +1,7 @@
 -- As the groups are formed the collector stands for the world in which they are.
-use Rattle.std.proofs.Common.{◌≡◌, ◌≢◌, ◌↔◌, ◌<◌, ℕ, true, cond, inl, inr, refl, sym, ap, ◌∙◌, subst, arith, Option, None, Some, IsTrue, List, [], length, map, get_or, Contains, slice_get, slice_index_or, option_map}
+use Rattle.std.proofs.Common.{◌≡◌, ◌≢◌, ◌↔◌, ◌<◌, ℕ, true, cond, inl, inr, refl, sym, ap, ◌∙◌, subst, arith, Option}
+use Rattle.std.proofs.Common.{None, Some, IsTrue, List, [], length, map, get_or, Contains, slice_get, slice_index_or}
+use Rattle.std.proofs.Common.{option_map}
 use Rattle.std.proofs.lemmas.List.{get_or_default}
 use Rattle.std.proofs.lemmas.List.Elements.{Contains-get_or}
 use Rattle.std.proofs.lemmas.Option.{slice_get-get_or}
@@ -33,7 +35,8 @@ use Rattle.group_laws.proofs.Listed.{components_are_lawful}
 use Rattle.slice_driver.specs.Collector.{CollectorState, RunState, heap_with}
 use Rattle.slice_driver.specs.Closures.{AreBlack, AreTied}
 use Rattle.slice_driver.specs.Grouping.{FormsIn}
-use Rattle.slice_driver.specs.Represents.{AreBehind, AreInStates, AreLookedAt, IsInGroups, LeadsAcross, Represents, Runs, RunsAs, WaitsWhileMarking}
+use Rattle.slice_driver.specs.Represents.{AreBehind, AreInStates, AreLookedAt, IsInGroups, LeadsAcross, Represents}
+use Rattle.slice_driver.specs.Represents.{Runs, RunsAs, WaitsWhileMarking}
 use Rattle.slice_driver.specs.Worlds.{IsInFlight, IsUnswept, LiesIn}
 use Rattle.slice_driver.proofs.abstraction.Named.{edge_placed, named_cell, place_of as place_named, some_one}
 use Rattle.slice_driver.proofs.abstraction.Lying.{zone_named}
@@ -41,17 +44,21 @@ use Rattle.slice_driver.proofs.group_end.Ready.{runs_of}
 use Rattle.slice_driver.proofs.group_end.Wrappers.{found_listed}
 
 -- a set of a list of groups, by its index and by itself
-in_groups_at : (groups : List ZoneSet) (i z : ℕ) → i < length groups → HasZone (slice_index_or groups i no_zones).bits z → IsInGroups groups z
+in_groups_at : (groups : List ZoneSet) (i z : ℕ) → i < length groups → HasZone (slice_index_or groups i no_zones).bits z
+    → IsInGroups groups z
 in_groups_at groups i z lt here = (get_or groups i no_zones, Contains-get_or groups i no_zones lt, here)
 
-at_in_groups : (groups : List ZoneSet) (z : ℕ) → IsInGroups groups z → (i : ℕ) × (i < length groups) × HasZone (slice_index_or groups i no_zones).bits z
-at_in_groups groups z (g, (i, lt, is), here) = (i, lt, subst (λ (y : ZoneSet). HasZone y.bits z) (sym (get_or_default groups i no_zones g lt ∙ is)) here)
+at_in_groups : (groups : List ZoneSet) (z : ℕ) → IsInGroups groups z → (i : ℕ) × (i < length groups)
+    × HasZone (slice_index_or groups i no_zones).bits z
+at_in_groups groups z (g, (i, lt, is), here) =
+    (i, lt, subst (λ (y : ZoneSet). HasZone y.bits z) (sym (get_or_default groups i no_zones g lt ∙ is)) here)
 
 abbrev pub formed_collection : Collection → List ZoneSet → Collection
 formed_collection k groups = record k { groups = Some (map zones_in groups) }
 
 -- what lies in a world does not tell which collection runs
-pub lies_running : (h : HeapState) (w : World) (o : Option Collection) → LiesIn h w → LiesIn h (record w { collection = o })
+pub lies_running : (h : HeapState) (w : World) (o : Option Collection) → LiesIn h w
+    → LiesIn h (record w { collection = o })
 lies_running h w o l = record {
   whole = l.whole;
   graph = l.graph;
@@ -65,14 +72,16 @@ lies_running h w o l = record {
   white_are = l.white_are;
 }
 
-module _ (c d : CollectorState) (flown : ℕ → Option Bits) (w : World) (k : Collection) (groups : List ZoneSet) (ok : IsValid w) (s : Represents c flown w) (f : FormsIn c groups d) (at : w.collection ≡ Some k) where
+module _ (c d : CollectorState) (flown : ℕ → Option Bits) (w : World) (k : Collection) (groups : List ZoneSet)
+    (ok : IsValid w) (s : Represents c flown w) (f : FormsIn c groups d) (at : w.collection ≡ Some k) where
   runs : Runs (heap_with c flown) c w f.run k
   runs = runs_of c (heap_with c flown) w f.run k f.running at s.runs
 
   noted : AreLookedAt (heap_with c flown) c f.run w k
   noted = runs.early f.unformed
 
-  zone_is : (x : Name) (p : Place) → name_at c.heap.shape p ≡ Some x → zone_of_name w.graph x ≡ Some (zone_of c.heap.shape p)
+  zone_is : (x : Name) (p : Place) → name_at c.heap.shape p ≡ Some x
+      → zone_of_name w.graph x ≡ Some (zone_of c.heap.shape p)
   zone_is x p named = zone_named c.heap s.lies.graph w.graph p x s.lies.shown s.lies.part.part named
 
   components : AreComponents c.edges.sources f.run.zones groups
@@ -82,28 +91,39 @@ module _ (c d : CollectorState) (flown : ℕ → Option Bits) (w : World) (k : C
   tied_by z here = runs.tied z ((runs.marking_are z).1 (ap is_marking_state (runs.states.early f.unformed z here)))
 
   -- a wrapper stands in the list of its zone, before the cursor
-  looked_at : (p : Place) (comp : CompNo) (t : ℕ) → name_at c.heap.shape p ≡ Some (Wrap comp t) → HasZone f.run.zones.bits (zone_of c.heap.shape p) → IsLookedAt c.heap.shape c.edges p
+  looked_at : (p : Place) (comp : CompNo) (t : ℕ) → name_at c.heap.shape p ≡ Some (Wrap comp t)
+      → HasZone f.run.zones.bits (zone_of c.heap.shape p) → IsLookedAt c.heap.shape c.edges p
   looked_at p comp t named here =
       let cell = named_cell c.heap.shape p (Wrap comp t) named in
       let is = s.lies.shown.cells p cell.0 cell.1 in
-      let stands : StandsFor c.heap.shape s.lies.graph p cell.0 (Wrap comp t) = subst (λ y. StandsFor c.heap.shape s.lies.graph p cell.0 y) cell.2 is.stands in
+      let stands : StandsFor c.heap.shape s.lies.graph p cell.0 (Wrap comp t) =
+      subst (λ y. StandsFor c.heap.shape s.lies.graph p cell.0 y) cell.2 is.stands in
       let l = found_listed c.heap.shape.comps c.heap.shape.wrappers s.lies.shown.maps_at_home comp t p stands.mapped in
-      let same : l.0 ≡ zone_of c.heap.shape p = some_one _ _ (sym l.1 ∙ ap (λ (m : CompNo). slice_get c.heap.shape.comps m.0) (sym stands.comp_is) ∙ is.at_home) in
-      let there : Contains (list_of c.heap.shape.wrappers (zone_of c.heap.shape p)) (record { comp = comp.0; target = t }, p) = subst (λ z. Contains (list_of c.heap.shape.wrappers z) (record { comp = comp.0; target = t }, p)) same l.2 in
-      let all = f.looked (zone_of c.heap.shape p) (subst (λ (y : ZoneSet). HasZone y.bits (zone_of c.heap.shape p)) (sym noted.zones_are) here) in
+      let same : l.0 ≡ zone_of c.heap.shape p =
+      some_one _ _ (sym l.1 ∙ ap (λ (m : CompNo). slice_get c.heap.shape.comps m.0) (sym stands.comp_is)
+      ∙ is.at_home) in
+      let there : Contains (list_of c.heap.shape.wrappers (zone_of c.heap.shape p))
+      (record { comp = comp.0; target = t }, p) =
+      subst (λ z. Contains (list_of c.heap.shape.wrappers z) (record { comp = comp.0; target = t }, p)) same l.2 in
+      let all = f.looked (zone_of c.heap.shape p)
+      (subst (λ (y : ZoneSet). HasZone y.bits (zone_of c.heap.shape p)) (sym noted.zones_are) here) in
       record {
         index = there.0;
         before = (let lt = there.1 in omega arith);
-        stands = ap (option_map (λ (e : WrapperKey × Place). e.1)) (slice_get-get_or (list_of c.heap.shape.wrappers (zone_of c.heap.shape p)) there.0 (record { comp = comp.0; target = t }, p) there.1 ∙ ap (λ (e : WrapperKey × Place). Some e) there.2);
+        stands = ap (option_map (λ (e : WrapperKey × Place). e.1))
+            (slice_get-get_or (list_of c.heap.shape.wrappers (zone_of c.heap.shape p)) there.0
+            (record { comp = comp.0; target = t }, p) there.1 ∙ ap (λ (e : WrapperKey × Place). Some e) there.2);
       }
 
   in_zones : (a : ℕ) → Contains k.zones a → HasZone f.run.zones.bits a
   in_zones a l = (zones_in-has f.run.zones a).0 (subst (λ zs. Contains zs a) runs.zones_are l)
 
-  has_made : (comp : CompNo) (t : ℕ) → Rattle.colour_defs.specs.World.IsPresent w (Wrap comp t) → IsTrue (Rattle.colour_defs.specs.Graph.has_wrapper w.graph comp t)
+  has_made : (comp : CompNo) (t : ℕ) → Rattle.colour_defs.specs.World.IsPresent w (Wrap comp t)
+      → IsTrue (Rattle.colour_defs.specs.Graph.has_wrapper w.graph comp t)
   has_made comp t there = s.lies.part.part.wrappers comp t ((s.lies.part.here (Wrap comp t)).1 there)
 
-  direct : (a b : ℕ) → a ≢ b → Contains k.zones a → Contains k.zones b → (comp : CompNo) (t : ℕ) → LeadsOutside w (BlackClosure k) a b comp t → Edge c.edges.sources a b
+  direct : (a b : ℕ) → a ≢ b → Contains k.zones a → Contains k.zones b → (comp : CompNo) (t : ℕ)
+      → LeadsOutside w (BlackClosure k) a b comp t → Edge c.edges.sources a b
   direct a b apart la lb comp t e =
       let p = place_named c.heap w s.lies (Wrap comp t) e.present in
       let q = edge_placed c.heap w s.lies p.0 (Wrap comp t) (Cell t) p.1 (refl, has_made comp t e.present) in
@@ -111,15 +131,23 @@ module _ (c d : CollectorState) (flown : ℕ → Option Bits) (w : World) (k : C
       let to : zone_of c.heap.shape q.0 ≡ b = some_one _ _ (sym (zone_is (Cell t) q.0 q.2) ∙ e.into) in
       let here = subst (λ z. HasZone f.run.zones.bits z) (sym from) (in_zones a la) in
       let there = subst (λ z. HasZone f.run.zones.bits z) (sym to) (in_zones b lb) in
-      let across : LeadsAcross c.heap.shape f.run p.0 q.0 = record { edge = q.1; from = here; to = there; apart = λ z. apart (sym from ∙ z ∙ to) } in
+      let across : LeadsAcross c.heap.shape f.run p.0 q.0 =
+      record { edge = q.1; from = here; to = there; apart = λ z. apart (sym from ∙ z ∙ to) } in
       elim (noted.looked p.0 q.0 across (looked_at p.0 comp t p.1 here)) [
-        | inl black ↦ absurd (e.outside (((tied_by a (in_zones a la)).black (Cell t) q.0 q.2).0 (black_closure.black black)))
-        | inr n ↦ subst (λ z. Edge c.edges.sources z b) from (subst (λ z. Edge c.edges.sources (zone_of c.heap.shape p.0) z) to n)
+        | inl black ↦ absurd
+            (e.outside (((tied_by a (in_zones a la)).black (Cell t) q.0 q.2).0 (black_closure.black black)))
+        | inr n ↦ subst (λ z. Edge c.edges.sources z b) from
+            (subst (λ z. Edge c.edges.sources (zone_of c.heap.shape p.0) z) to n)
       ]
 
   -- each last edge is noted
   last_noted : (a b : ℕ) → IsLastEdge w k a b → Edge c.edges.sources a b
-  last_noted a b (apart, la, lb, way) = elim way [ inl l ↦ direct a b apart la lb l.0 l.1 l.2 | inr q ↦ absurd (ok.graph.plain_keys q.3.0 (Wrap q.0 q.1) q.3.1 q.3.2) ]
+  last_noted a b (apart, la, lb, way) =
+      elim way [
+        | inl l ↦ direct a b apart la lb l.0 l.1 l.2
+        | inr q
+            ↦ absurd (ok.graph.plain_keys q.3.0 (Wrap q.0 q.1) q.3.1 q.3.2)
+      ]
 
   lawful : AreLawfulGroups w k (map zones_in groups)
   lawful = components_are_lawful w k c.edges.sources f.run.zones groups runs.zones_are components noted.first last_noted
@@ -144,40 +172,54 @@ module _ (c d : CollectorState) (flown : ℕ → Option Bits) (w : World) (k : C
 
   -- some group is formed
   pub some_group : groups ≡ [] → ⊥
-  some_group none = (let i = components.covered f.some_zone.0 f.some_zone.1 in let lt : i.0 < length groups = i.1 in let empty : length groups ≡ 0 = ap (λ (gs : List ZoneSet). length gs) none in omega arith)
+  some_group none = (let i = components.covered f.some_zone.0 f.some_zone.1 in let lt : i.0 < length groups = i.1 in
+      let empty : length groups ≡ 0 = ap (λ (gs : List ZoneSet). length gs) none in omega arith)
 
   abbrev formed_run : RunState
   formed_run = record f.run { formed = true }
 
   states_after : AreInStates d formed_run
-  states_after = subst (λ h. AreInStates (record d { heap = h }) formed_run) (sym f.heap_is) (subst (λ gs. AreInStates (record d { heap = c.heap; groups = gs }) formed_run) (sym f.groups_is) (record {
-    outside = runs.states.outside;
-    made = runs.states.made;
-    early = λ no. absurd (cc no);
-    later = λ formed z here. inl (runs.states.early f.unformed z (inside z here));
-    ended = λ formed z here none. absurd (none (covered z here));
-    sweeping = runs.states.sweeping;
-    swept = runs.states.swept;
-  }))
+  states_after = subst (λ h. AreInStates (record d { heap = h }) formed_run) (sym f.heap_is)
+      (subst (λ gs. AreInStates (record d { heap = c.heap; groups = gs }) formed_run) (sym f.groups_is) (record {
+        outside = runs.states.outside;
+        made = runs.states.made;
+        early = λ no. absurd (cc no);
+        later = λ formed z here. inl (runs.states.early f.unformed z (inside z here));
+        ended = λ formed z here none. absurd (none (covered z here));
+        sweeping = runs.states.sweeping;
+        swept = runs.states.swept;
+      }))
 
   heap_same : heap_with d flown ≡ heap_with c flown
   heap_same = ap (λ h. joined h flown) f.heap_is
 
-  tied_after : AreTied (heap_with c flown) c.stack c.lists w k → AreTied (heap_with d flown) d.stack d.lists after (formed_collection k groups)
+  tied_after : AreTied (heap_with c flown) c.stack c.lists w k
+      → AreTied (heap_with d flown) d.stack d.lists after (formed_collection k groups)
   tied_after t =
       subst (λ h. AreTied h d.stack d.lists after (formed_collection k groups)) (sym heap_same)
       (subst (λ p. AreTied (heap_with c flown) p d.lists after (formed_collection k groups)) (sym f.stack_is)
       (subst (λ l. AreTied (heap_with c flown) c.stack l after (formed_collection k groups)) (sym f.lists_is)
-      (record { black = t.black; live = t.live; present = t.present; edges_then = t.edges_then; entries_then = t.entries_then; grown = t.grown; formed = t.formed })))
+      (record {
+        black = t.black;
+        live = t.live;
+        present = t.present;
+        edges_then = t.edges_then;
+        entries_then = t.entries_then;
+        grown = t.grown;
+        formed = t.formed;
+      })))
 
   -- all zones are in groups that have not ended
   behind_after : (h : HeapState) → h.shape ≡ c.heap.shape → AreBehind h d formed_run
-  behind_after h same p q l here none = absurd (none (subst (λ gs. IsInGroups gs (zone_of h.shape q)) (sym f.groups_is) (covered (zone_of h.shape q) l.to)))
+  behind_after h same p q l here none =
+      absurd (none (subst (λ gs. IsInGroups gs (zone_of h.shape q)) (sym f.groups_is)
+      (covered (zone_of h.shape q) l.to)))
 
   runs_after : Runs (heap_with d flown) d after formed_run (formed_collection k groups)
   runs_after = record {
     zones_are = runs.zones_are;
-    marking_are = λ z. subst (λ (h : HeapState). Contains k.marking z ↔ (is_marking_state (state_in h.shape z) ≡ true)) (sym f.heap_is) (runs.marking_are z);
+    marking_are = λ z. subst (λ (h : HeapState). Contains k.marking z ↔ (is_marking_state (state_in h.shape z) ≡ true))
+        (sym f.heap_is) (runs.marking_are z);
     groups_are = ap (λ gs. Some (map zones_in gs)) (sym f.groups_is);
     states = states_after;
     tied = λ z m. tied_after (runs.tied z m);
@@ -187,20 +229,34 @@ module _ (c d : CollectorState) (flown : ℕ → Option Bits) (w : World) (k : C
 
   waits_after : WaitsWhileMarking d
   waits_after = record {
-    gray = λ none. ap (λ (p : Piles). p.gray) f.stack_is ∙ s.waits.gray (λ z both. none z (ap (λ (h : HeapState). state_in h.shape z) f.heap_is ∙ both));
-    buffered = λ z quiet. ap (λ h. buffer_of h z) f.heap_is ∙ s.waits.buffered z (ap (λ (h : HeapState). is_marking_state (state_in h.shape z)) (sym f.heap_is) ∙ quiet);
-    incoming = λ n p held. (let i = s.waits.incoming n p (subst (λ (l : Incoming). Contains (waiting_for l n) p) f.lists_is held) in
-        (i.0, ap (λ (h : HeapState). slice_get h.shape.comps n) f.heap_is ∙ i.1, ap (λ (h : HeapState). is_marking_state (state_in h.shape i.0)) f.heap_is ∙ i.2));
+    gray = λ none. ap (λ (p : Piles). p.gray) f.stack_is
+        ∙ s.waits.gray (λ z both. none z (ap (λ (h : HeapState). state_in h.shape z) f.heap_is ∙ both));
+    buffered = λ z quiet. ap (λ h. buffer_of h z) f.heap_is
+        ∙ s.waits.buffered z (ap (λ (h : HeapState). is_marking_state (state_in h.shape z)) (sym f.heap_is) ∙ quiet);
+    incoming = λ n p held.
+        (let i = s.waits.incoming n p (subst (λ (l : Incoming). Contains (waiting_for l n) p) f.lists_is held) in (
+          i.0,
+          ap (λ (h : HeapState). slice_get h.shape.comps n) f.heap_is ∙ i.1,
+          ap (λ (h : HeapState). is_marking_state (state_in h.shape i.0)) f.heap_is ∙ i.2,
+        ));
   }
 
   pub represents_formed : Represents d flown (record w { collection = Some (formed_collection k groups) })
   represents_formed = record {
-    lies = subst (λ h. LiesIn h after) (sym f.heap_is) (lies_running c.heap w (Some (formed_collection k groups)) s.lies);
-    unswept_apart = λ x p q a b. s.unswept_apart x p q (subst (λ (h : HeapState). IsUnswept h.shape p x) f.heap_is a) (subst (λ (h : HeapState). IsUnswept h.shape q x) f.heap_is b);
+    lies = subst (λ h. LiesIn h after) (sym f.heap_is)
+        (lies_running c.heap w (Some (formed_collection k groups)) s.lies);
+    unswept_apart = λ x p q a b. s.unswept_apart x p q (subst (λ (h : HeapState). IsUnswept h.shape p x) f.heap_is a)
+        (subst (λ (h : HeapState). IsUnswept h.shape q x) f.heap_is b);
     flies = subst (λ (h : HeapState). IsInFlight h.shape flown) (sym f.heap_is) s.flies;
-    marks = subst (λ h. MarkingInvariant h d.stack) (sym heap_same) (subst (λ p. MarkingInvariant (heap_with c flown) p) (sym f.stack_is) s.marks);
-    gray = subst (λ h. GrayInvariant h d.stack d.lists) (sym heap_same) (subst (λ p. GrayInvariant (heap_with c flown) p d.lists) (sym f.stack_is) (subst (λ l. GrayInvariant (heap_with c flown) c.stack l) (sym f.lists_is) s.gray));
+    marks = subst (λ h. MarkingInvariant h d.stack) (sym heap_same)
+        (subst (λ p. MarkingInvariant (heap_with c flown) p) (sym f.stack_is) s.marks);
+    gray = subst (λ h. GrayInvariant h d.stack d.lists) (sym heap_same)
+        (subst (λ p. GrayInvariant (heap_with c flown) p d.lists) (sym f.stack_is)
+        (subst (λ l. GrayInvariant (heap_with c flown) c.stack l) (sym f.lists_is) s.gray));
     waits = waits_after;
-    black = λ settled. subst (λ h. AreBlack h after) (sym heap_same) (λ x p named. s.black (record { none_marking = ap marking_of at ∙ settled.none_marking; none_preparing = s.lies.calm }) x p named);
-    runs = subst (λ (o : Option RunState). RunsAs (heap_with d flown) d after o (Some (formed_collection k groups))) (sym f.run_is) runs_after;
+    black = λ settled. subst (λ h. AreBlack h after) (sym heap_same)
+        (λ x p named. s.black
+        (record { none_marking = ap marking_of at ∙ settled.none_marking; none_preparing = s.lies.calm }) x p named);
+    runs = subst (λ (o : Option RunState). RunsAs (heap_with d flown) d after o (Some (formed_collection k groups)))
+        (sym f.run_is) runs_after;
   }

@@ -1,5 +1,6 @@
 -- Units that report nothing, and the unit that forms the groups.
-use Rattle.std.proofs.Common.{◌≡◌, ℕ, false, inl, inr, refl, sym, ap, ◌∙◌, Option, None, Some, IsSome, is_some, List, [], ◌∷◌, map}
+use Rattle.std.proofs.Common.{◌≡◌, ℕ, false, inl, inr, refl, sym, ap, ◌∙◌, Option, None, Some, IsSome, is_some, List}
+use Rattle.std.proofs.Common.{[], ◌∷◌, map}
 use Rattle.gz_names.specs.Zones.{zones_in}
 use Rattle.gz_names.specs.declared.replies.Report.TheVariants as report
 use Rattle.gz_names.specs.declared.zone_sets.ZoneSet.{ZoneSet}
@@ -24,32 +25,55 @@ use Rattle.slice_driver.proofs.taking_in.Runs.{has_zone_or_not}
 use Rattle.slice_driver.proofs.taking_in.Laws.{over_done, running_of, some_running}
 
 -- a quiet step is a unit without a report
-pub quiet_unit : (c d : CollectorState) (flown flying : ℕ → Option Bits) → IsSome c.run → IsQuiet c flown d flying → HasSameLooks c d → DoesUnit c flown [] d flying
-quiet_unit c d flown flying some q e w ok s = (w, quiet (some_running c flown w some s), stands_quiet c flown d flying q w (keeps_looks c flown d flying q e) s)
+pub quiet_unit : (c d : CollectorState) (flown flying : ℕ → Option Bits) → IsSome c.run → IsQuiet c flown d flying
+    → HasSameLooks c d → DoesUnit c flown [] d flying
+quiet_unit c d flown flying some q e w ok s =
+    (w, quiet (some_running c flown w some s), stands_quiet c flown d flying q w (keeps_looks c flown d flying q e) s)
 
 -- so is a look
-pub look_unit : (c d : CollectorState) (flown : ℕ → Option Bits) → IsSome c.run → LooksIn c d → DoesUnit c flown [] d flown
-look_unit c d flown some l w ok s = (w, quiet (some_running c flown w some s), stands_quiet c flown d flown (quiet_look c d l flown w s) w (keeps_look c d l flown) s)
+pub look_unit : (c d : CollectorState) (flown : ℕ → Option Bits) → IsSome c.run → LooksIn c d
+    → DoesUnit c flown [] d flown
+look_unit c d flown some l w ok s = (
+  w,
+  quiet (some_running c flown w some s),
+  stands_quiet c flown d flown (quiet_look c d l flown w s) w (keeps_look c d l flown) s,
+)
 
-pub groups_form : (c d : CollectorState) (flown : ℕ → Option Bits) (w : World) (groups : List ZoneSet) → IsValid w → Represents c flown w → FormsIn c groups d → (v : World) × FormsGroups w (map zones_in groups) v × Represents d flown v
+pub groups_form : (c d : CollectorState) (flown : ℕ → Option Bits) (w : World) (groups : List ZoneSet) → IsValid w
+    → Represents c flown w → FormsIn c groups d → (v : World) × FormsGroups w (map zones_in groups) v
+    × Represents d flown v
 groups_form c d flown w groups ok s f =
-    let k = collection_of c (heap_with c flown) w f.run f.running s.runs in
-    (after c d flown w k.0 groups ok s f k.1, forms c d flown w k.0 groups ok s f k.1, represents_formed c d flown w k.0 groups ok s f k.1)
+    let k = collection_of c (heap_with c flown) w f.run f.running s.runs in (
+      after c d flown w k.0 groups ok s f k.1,
+      forms c d flown w k.0 groups ok s f k.1,
+      represents_formed c d flown w k.0 groups ok s f k.1,
+    )
 
-pub form_unit : (c d : CollectorState) (flown : ℕ → Option Bits) (groups : List ZoneSet) → FormsIn c groups d → DoesUnit c flown (report.Groups groups ∷ []) d flown
+pub form_unit : (c d : CollectorState) (flown : ℕ → Option Bits) (groups : List ZoneSet) → FormsIn c groups d
+    → DoesUnit c flown (report.Groups groups ∷ []) d flown
 form_unit c d flown groups f w ok s =
     let k = collection_of c (heap_with c flown) w f.run f.running s.runs in
-    let v = groups_form c d flown w groups ok s f in
-    (v.0, says (running_of c flown w f.run f.running s) (λ q. cc q) v.1 (λ over. some_group c d flown w k.0 groups ok s f k.1 (sym f.groups_is ∙ (over_done d flown v.0 v.2 over).none_left)), v.2)
+    let v = groups_form c d flown w groups ok s f in (
+      v.0,
+      says (running_of c flown w f.run f.running s) (λ q. cc q) v.1
+          (λ over. some_group c d flown w k.0 groups ok s f k.1
+          (sym f.groups_is ∙ (over_done d flown v.0 v.2 over).none_left)),
+      v.2,
+    )
 
 -- the beginning step of a zone
-pub zone_unit : (c d : CollectorState) (flown : ℕ → Option Bits) (zone : ℕ) → BeginsZone c zone d → DoesUnit c flown [] d flown
+pub zone_unit : (c d : CollectorState) (flown : ℕ → Option Bits) (zone : ℕ) → BeginsZone c zone d
+    → DoesUnit c flown [] d flown
 zone_unit c d flown zone b w ok s =
-    let q = begins_quiet c d zone flown w s b in
-    (w, quiet (running_of c flown w b.formed.0 b.formed.1 s), stands_quiet c flown d flown q w (keeps_looks c flown d flown q (looks_same c flown d flown q b.edges_is)) s)
+    let q = begins_quiet c d zone flown w s b in (
+      w,
+      quiet (running_of c flown w b.formed.0 b.formed.1 s),
+      stands_quiet c flown d flown q w (keeps_looks c flown d flown q (looks_same c flown d flown q b.edges_is)) s,
+    )
 
 -- before the groups are formed no arena is out
-pub unformed_kept : (c : CollectorState) (flown : ℕ → Option Bits) (w : World) (r : RunState) → Represents c flown w → c.run ≡ Some r → r.formed ≡ false → (a : ℕ) → out_of c.heap.shape a ≡ None
+pub unformed_kept : (c : CollectorState) (flown : ℕ → Option Bits) (w : World) (r : RunState) → Represents c flown w
+    → c.run ≡ Some r → r.formed ≡ false → (a : ℕ) → out_of c.heap.shape a ≡ None
 unformed_kept c flown w r s running unformed a = go (out_of c.heap.shape a) refl
   where
     go : (o : Option Bits) → out_of c.heap.shape a ≡ o → out_of c.heap.shape a ≡ None
@@ -58,7 +82,8 @@ unformed_kept c flown w r s running unformed a = go (out_of c.heap.shape a) refl
         let k = collection_of c (heap_with c flown) w r running s.runs in
         let runs = runs_of c (heap_with c flown) w r k.0 running k.1 s.runs in
         let p : Place = (a, 0) in
-        let sweep : state_in c.heap.shape (zone_of c.heap.shape p) ≡ state.Sweep = runs.states.sweeping (zone_of c.heap.shape p) a p refl refl (ap is_some e) in
+        let sweep : state_in c.heap.shape (zone_of c.heap.shape p) ≡ state.Sweep =
+        runs.states.sweeping (zone_of c.heap.shape p) a p refl refl (ap is_some e) in
         elim (has_zone_or_not r.zones.bits (zone_of c.heap.shape p)) [
           | inl here ↦ absurd (cc (sweep, runs.states.early unformed _ here))
           | inr out ↦ absurd (cc (sweep, runs.states.outside _ out))

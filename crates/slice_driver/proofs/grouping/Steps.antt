@@ -1,5 +1,7 @@
 -- Looks and grouping steps of a unit.
-use Rattle.std.proofs.Common.{◌≡◌, ◌≢◌, ◌⊎◌, ◌↔◌, ◌<◌, ◌≤◌, ◌+◌, ◌-◌, ◌*◌, ℕ, zero, suc, true, false, List, [], ◌∷◌, length, Option, Some, None, IsSome, is_some, slice_index_or, cond, inl, inr, refl, sym, ap, subst, ◌∙◌, arith}
+use Rattle.std.proofs.Common.{◌≡◌, ◌≢◌, ◌⊎◌, ◌↔◌, ◌<◌, ◌≤◌, ◌+◌, ◌-◌, ◌*◌, ℕ, zero, suc, true, false, List, [], ◌∷◌}
+use Rattle.std.proofs.Common.{length, Option, Some, None, IsSome, is_some, slice_index_or, cond, inl, inr, refl, sym}
+use Rattle.std.proofs.Common.{ap, subst, ◌∙◌, arith}
 use Rattle.std.specs.Int.{bit_at}
 use Rattle.std.proofs.lemmas.Nat.Bits.{bit_at-lt}
 use Rattle.std.proofs.lemmas.Bool.{cases_eq}
@@ -9,7 +11,8 @@ use Rattle.gz_names.specs.declared.replies.Report.TheVariants as report
 use Rattle.gz_names.specs.declared.zone_sets.ZoneSet.{ZoneSet}
 use Rattle.cell_bits.specs.declared.bits.Bits.{Bits}
 use Rattle.zone_edges.specs.Groups.{AreComponents}
-use Rattle.zone_edges.specs.Looks.{AreAllLookedAt, AreLeftBlack, AreWrappers, LooksAtNext, cursor_of, left_below, left_to_look}
+use Rattle.zone_edges.specs.Looks.{AreAllLookedAt, AreLeftBlack, AreWrappers, LooksAtNext, cursor_of, left_below}
+use Rattle.zone_edges.specs.Looks.{left_to_look}
 use Rattle.wrappers.specs.WrapperMaps.{list_of}
 use Rattle.zone_edges.specs.Noted.{Noted}
 use Rattle.zone_edges.proofs.SoundWrappers.{sound_has_wrappers}
@@ -49,7 +52,8 @@ module _ (c : CollectorState) (flown : ℕ → Option Bits) (s : IsSound c flown
   wrappers = sound_has_wrappers c.heap (s.represents.lies.graph, s.represents.lies.shown)
 
   looked_at : (k : Collection) × AreLookedAt (heap_with c flown) c g.0 s.world k
-  looked_at = (let k = collection_of c (heap_with c flown) s.world g.0 g.1 s.represents.runs in (k.0, (runs_of c (heap_with c flown) s.world g.0 k.0 g.1 k.1 s.represents.runs).early g.2))
+  looked_at = (let k = collection_of c (heap_with c flown) s.world g.0 g.1 s.represents.runs in
+      (k.0, (runs_of c (heap_with c flown) s.world g.0 k.0 g.1 k.1 s.represents.runs).early g.2))
 
   pub early : (c.edges.stepped.bits ≡ 0) ⊎ AreLeftBlack c.heap c.edges
   early = subst (λ h. (c.edges.stepped.bits ≡ 0) ⊎ AreLeftBlack h c.edges) own looked_at.1.left_black
@@ -58,23 +62,30 @@ module _ (c : CollectorState) (flown : ℕ → Option Bits) (s : IsSound c flown
   zones_noted = looked_at.1.zones_are
 
 -- the zones without a step, by what is noted of zones and steps alone
-ungrouped_same : (n m : Noted) → m.zones ≡ n.zones → m.stepped ≡ n.stepped → (z : ℕ) → ungrouped_below m z ≡ ungrouped_below n z
+ungrouped_same : (n m : Noted) → m.zones ≡ n.zones → m.stepped ≡ n.stepped → (z : ℕ)
+    → ungrouped_below m z ≡ ungrouped_below n z
 unfolding ungrouped_below
 ungrouped_same n m e f zero = refl
 ungrouped_same n m e f (suc z) =
     let rest = ungrouped_same n m e f z in
-    let own : bit_at m.zones.bits z * (1 - bit_at m.stepped.bits z) ≡ bit_at n.zones.bits z * (1 - bit_at n.stepped.bits z) = ap (λ (y : ZoneSet). bit_at y.bits z * (1 - bit_at m.stepped.bits z)) e ∙ ap (λ (y : ZoneSet). bit_at n.zones.bits z * (1 - bit_at y.bits z)) f in
+    let own : bit_at m.zones.bits z * (1 - bit_at m.stepped.bits z)
+    ≡ bit_at n.zones.bits z * (1 - bit_at n.stepped.bits z) =
+    ap (λ (y : ZoneSet). bit_at y.bits z * (1 - bit_at m.stepped.bits z)) e
+    ∙ ap (λ (y : ZoneSet). bit_at n.zones.bits z * (1 - bit_at y.bits z)) f in
     omega (arith, rest, own)
 
 -- nothing but the number of what is to be grouped falls
 falls : (x a b y : ℕ) → a < b → x + (a + y) < x + (b + y)
 falls x a b y lt = omega (arith, lt)
 
-grouping_at : (s : Shape) (n : Noted) (o : Option RunState) (r : RunState) → o ≡ Some r → r.formed ≡ false → grouping_left s n o ≡ left_to_look s n + ungrouped_below n 64
+grouping_at : (s : Shape) (n : Noted) (o : Option RunState) (r : RunState) → o ≡ Some r → r.formed ≡ false
+    → grouping_left s n o ≡ left_to_look s n + ungrouped_below n 64
 grouping_at s n o r e f = ap (grouping_left s n) e ∙ ap (λ b. cond b 0 (left_to_look s n + ungrouped_below n 64)) f
 
 -- a look goes on
-pub look_goes : (c : CollectorState) (edges : Noted) → IsGrouping c → LooksAtNext c.heap c.edges edges → edges.zones ≡ c.edges.zones → edges.stepped ≡ c.edges.stepped → (flown : ℕ → Option Bits) → IsSound c flown → IsBlackDone c flown → GoesOn c flown [] (record c { edges = edges }) flown
+pub look_goes : (c : CollectorState) (edges : Noted) → IsGrouping c → LooksAtNext c.heap c.edges edges
+    → edges.zones ≡ c.edges.zones → edges.stepped ≡ c.edges.stepped → (flown : ℕ → Option Bits) → IsSound c flown
+    → IsBlackDone c flown → GoesOn c flown [] (record c { edges = edges }) flown
 look_goes c edges g looks zones stepped flown s black =
     let d : CollectorState = record c { edges = edges } in
     let none = none_out c flown s g in
@@ -83,7 +94,9 @@ look_goes c edges g looks zones stepped flown s black =
     let l : LooksIn c d = record {
       kept = none;
       black_empty = black.pile;
-      black_fixed = λ m k v has bm bk mv. subst (λ h. IsBlack h v) own (black.fixed m k v has (subst (λ h. IsBlack h m) (sym own) bm) (subst (λ h. IsBlack h k) (sym own) bk) mv);
+      black_fixed = λ m k v has bm bk mv.
+          subst (λ h. IsBlack h v) own
+          (black.fixed m k v has (subst (λ h. IsBlack h m) (sym own) bm) (subst (λ h. IsBlack h k) (sym own) bk) mv);
       looks = looks;
       zones_are = zones;
       stepped_is = stepped;
@@ -114,7 +127,8 @@ pub record StepsIn (old : Noted) (zone : ℕ) (new : Noted) : Type 0 where
 
 bit_of_zone : (word z : ℕ) → z < 64 → (HasZone word z → ⊥) → bit_at word z ≡ 0
 unfolding HasZone
-bit_of_zone word z lt none = let lt2 = bit_at-lt word z in let ne : bit_at word z ≡ 1 → ⊥ = λ e. none (lt, e) in omega (arith, lt2, ne)
+bit_of_zone word z lt none = let lt2 = bit_at-lt word z in let ne : bit_at word z ≡ 1 → ⊥ = λ e. none (lt, e) in
+    omega (arith, lt2, ne)
 
 zone_bit : (word z : ℕ) → HasZone word z → bit_at word z ≡ 1
 unfolding HasZone
@@ -143,7 +157,11 @@ module _ (old : Noted) (zone : ℕ) (new : Noted) (s : StepsIn old zone new) whe
   before (suc n) le =
       let small = HasZone-below _ _ s.inside in
       let rest = before n (omega (arith, le)) in
-      let own : bit_at new.zones.bits n * (1 - bit_at new.stepped.bits n) ≡ bit_at old.zones.bits n * (1 - bit_at old.stepped.bits n) = ap (λ b. b * (1 - bit_at new.stepped.bits n)) (zones_bit n) ∙ ap (λ b. bit_at old.zones.bits n * (1 - b)) (others_bit n (omega (arith, le, small)) (λ e. omega (arith, le, e))) in
+      let own : bit_at new.zones.bits n * (1 - bit_at new.stepped.bits n)
+      ≡ bit_at old.zones.bits n * (1 - bit_at old.stepped.bits n) =
+      ap (λ b. b * (1 - bit_at new.stepped.bits n)) (zones_bit n)
+      ∙ ap (λ b. bit_at old.zones.bits n * (1 - b))
+      (others_bit n (omega (arith, le, small)) (λ e. omega (arith, le, e))) in
       omega (arith, rest, own)
 
   after : (n : ℕ) → zone < n → n ≤ 64 → ungrouped_below new n + 1 ≡ ungrouped_below old n
@@ -153,16 +171,23 @@ module _ (old : Noted) (zone : ℕ) (new : Noted) (s : StepsIn old zone new) whe
     | inl is ↦ (
         let rest = before n (omega (arith, is)) in
         let in_old : bit_at old.zones.bits n ≡ 1 = ap (bit_at old.zones.bits) is ∙ zone_bit _ _ s.inside in
-        let not_then : bit_at old.stepped.bits n ≡ 0 = ap (bit_at old.stepped.bits) is ∙ bit_of_zone _ _ (HasZone-below _ _ s.inside) s.once in
-        let now : bit_at new.stepped.bits n ≡ 1 = ap (bit_at new.stepped.bits) is ∙ zone_bit _ _ ((s.stepped zone).1 (inr refl)) in
+        let not_then : bit_at old.stepped.bits n ≡ 0 = ap (bit_at old.stepped.bits) is
+        ∙ bit_of_zone _ _ (HasZone-below _ _ s.inside) s.once in
+        let now : bit_at new.stepped.bits n ≡ 1 = ap (bit_at new.stepped.bits) is
+        ∙ zone_bit _ _ ((s.stepped zone).1 (inr refl)) in
         let in_new : bit_at new.zones.bits n ≡ 1 = zones_bit n ∙ in_old in
-        let mine : bit_at new.zones.bits n * (1 - bit_at new.stepped.bits n) ≡ 0 = ap (λ b. b * (1 - bit_at new.stepped.bits n)) in_new ∙ ap (λ b. 1 * (1 - b)) now in
-        let his : bit_at old.zones.bits n * (1 - bit_at old.stepped.bits n) ≡ 1 = ap (λ b. b * (1 - bit_at old.stepped.bits n)) in_old ∙ ap (λ b. 1 * (1 - b)) not_then in
+        let mine : bit_at new.zones.bits n * (1 - bit_at new.stepped.bits n) ≡ 0 =
+        ap (λ b. b * (1 - bit_at new.stepped.bits n)) in_new ∙ ap (λ b. 1 * (1 - b)) now in
+        let his : bit_at old.zones.bits n * (1 - bit_at old.stepped.bits n) ≡ 1 =
+        ap (λ b. b * (1 - bit_at old.stepped.bits n)) in_old ∙ ap (λ b. 1 * (1 - b)) not_then in
         omega (arith, rest, mine, his)
         )
     | inr ne ↦ (
         let rest = after n (omega (arith, lt, ne)) (omega (arith, le)) in
-        let own : bit_at new.zones.bits n * (1 - bit_at new.stepped.bits n) ≡ bit_at old.zones.bits n * (1 - bit_at old.stepped.bits n) = ap (λ b. b * (1 - bit_at new.stepped.bits n)) (zones_bit n) ∙ ap (λ b. bit_at old.zones.bits n * (1 - b)) (others_bit n (omega (arith, le)) ne) in
+        let own : bit_at new.zones.bits n * (1 - bit_at new.stepped.bits n)
+        ≡ bit_at old.zones.bits n * (1 - bit_at old.stepped.bits n) =
+        ap (λ b. b * (1 - bit_at new.stepped.bits n)) (zones_bit n)
+        ∙ ap (λ b. bit_at old.zones.bits n * (1 - b)) (others_bit n (omega (arith, le)) ne) in
         omega (arith, rest, own)
         )
   ]
@@ -171,15 +196,21 @@ module _ (old : Noted) (zone : ℕ) (new : Noted) (s : StepsIn old zone new) whe
   one_fewer = after 64 (HasZone-below _ _ s.inside) (omega arith)
 
 -- what was looked at does not depend on the steps
-left_same : (sh : Shape) (n m : Noted) → m.zones ≡ n.zones → m.cursors ≡ n.cursors → (z : ℕ) → left_below sh m z ≡ left_below sh n z
+left_same : (sh : Shape) (n m : Noted) → m.zones ≡ n.zones → m.cursors ≡ n.cursors → (z : ℕ)
+    → left_below sh m z ≡ left_below sh n z
 unfolding left_below
 left_same sh n m e f zero = refl
 left_same sh n m e f (suc z) =
     let rest = left_same sh n m e f z in
-    let own : bit_at m.zones.bits z * (length (list_of sh.wrappers z) - cursor_of m z) ≡ bit_at n.zones.bits z * (length (list_of sh.wrappers z) - cursor_of n z) = ap (λ (y : ZoneSet). bit_at y.bits z * (length (list_of sh.wrappers z) - cursor_of m z)) e ∙ ap (λ (xs : List ℕ). bit_at n.zones.bits z * (length (list_of sh.wrappers z) - slice_index_or xs z 0)) f in
+    let own : bit_at m.zones.bits z * (length (list_of sh.wrappers z) - cursor_of m z)
+    ≡ bit_at n.zones.bits z * (length (list_of sh.wrappers z) - cursor_of n z) =
+    ap (λ (y : ZoneSet). bit_at y.bits z * (length (list_of sh.wrappers z) - cursor_of m z)) e
+    ∙ ap (λ (xs : List ℕ). bit_at n.zones.bits z * (length (list_of sh.wrappers z) - slice_index_or xs z 0)) f in
     omega (arith, rest, own)
 
-module _ (c : CollectorState) (zone : ℕ) (edges : Noted) (g : IsGrouping c) (looked : AreAllLookedAt c.heap.shape c.edges) (steps : StepsIn c.edges zone edges) (flown : ℕ → Option Bits) (s : IsSound c flown) where
+module _ (c : CollectorState) (zone : ℕ) (edges : Noted) (g : IsGrouping c)
+    (looked : AreAllLookedAt c.heap.shape c.edges) (steps : StepsIn c.edges zone edges) (flown : ℕ → Option Bits)
+    (s : IsSound c flown) where
   -- a grouping step that is not the last goes on
   pub step_goes : GoesOn c flown [] (record c { edges = edges }) flown
   step_goes =
@@ -201,7 +232,13 @@ module _ (c : CollectorState) (zone : ℕ) (edges : Noted) (g : IsGrouping c) (l
         live = λ p. ((λ x. x), λ x. x);
       } in
       let running : IsSome c.run = ap is_some g.1 in
-      let same : HasSameLooks c d = record { zones_are = steps.zones_are; sources_are = steps.edges_are; cursors_are = steps.cursors_are; stepped = inr looked } in
+      let same : HasSameLooks c d =
+      record {
+        zones_are = steps.zones_are;
+        sources_are = steps.edges_are;
+        cursors_are = steps.cursors_are;
+        stepped = inr looked;
+      } in
       record {
         done = quiet_unit c d flown flown running q same;
         words = λ a freed is. is;
@@ -217,7 +254,9 @@ module _ (c : CollectorState) (zone : ℕ) (edges : Noted) (g : IsGrouping c) (l
       }
 
   -- the last one forms the groups
-  pub forms_goes : (groups : List ZoneSet) → AreComponents edges.sources edges.zones groups → GoesOn c flown (report.Groups groups ∷ []) (record c { edges = edges; groups = groups; run = Some (record g.0 { formed = true }) }) flown
+  pub forms_goes : (groups : List ZoneSet) → AreComponents edges.sources edges.zones groups
+      → GoesOn c flown (report.Groups groups ∷ [])
+      (record c { edges = edges; groups = groups; run = Some (record g.0 { formed = true }) }) flown
   forms_goes groups components =
       let d : CollectorState = record c { edges = edges; groups = groups; run = Some (record g.0 { formed = true }) } in
       let f : FormsIn c groups d = record {
@@ -226,7 +265,8 @@ module _ (c : CollectorState) (zone : ℕ) (edges : Noted) (g : IsGrouping c) (l
         unformed = g.2;
         some_zone = (zone, subst (λ (y : ZoneSet). HasZone y.bits zone) (zones_noted c flown s g) steps.inside);
         looked = looked;
-        components = subst (λ (xs : List ZoneSet). AreComponents xs c.edges.zones groups) steps.edges_are (subst (λ (y : ZoneSet). AreComponents edges.sources y groups) steps.zones_are components);
+        components = subst (λ (xs : List ZoneSet). AreComponents xs c.edges.zones groups) steps.edges_are
+            (subst (λ (y : ZoneSet). AreComponents edges.sources y groups) steps.zones_are components);
         heap_is = refl;
         stack_is = refl;
         lists_is = refl;
@@ -246,28 +286,42 @@ module _ (c : CollectorState) (zone : ℕ) (edges : Noted) (g : IsGrouping c) (l
       }
 
 -- once none waits, each zone had its step
-pub all_stepped : (old : Noted) (zone : ℕ) (new : Noted) (zones ungrouped left : ZoneSet) → StepsIn old zone new → old.zones ≡ zones → ((z : ℕ) → HasZone ungrouped.bits z ↔ (HasZone zones.bits z × (HasZone old.stepped.bits z → ⊥))) → ((z : ℕ) → HasZone left.bits z ↔ (HasZone ungrouped.bits z × (z ≢ zone))) → ((z : ℕ) → HasZone left.bits z → ⊥) → (z : ℕ) → HasZone new.zones.bits z → HasZone new.stepped.bits z
-all_stepped old zone new zones ungrouped left s same waiting less empty z here = elim (has_zone_or_not new.stepped.bits z) [
-  | inl had ↦ had
-  | inr not ↦ absurd (empty z ((less z).1 (
-    (waiting z).1 (subst (λ (y : ZoneSet). HasZone y.bits z) (s.zones_are ∙ same) here, λ was. not ((s.stepped z).1 (inl was))),
-    λ is. not ((s.stepped z).1 (inr is)),
-  )))
-]
+pub all_stepped : (old : Noted) (zone : ℕ) (new : Noted) (zones ungrouped left : ZoneSet) → StepsIn old zone new
+    → old.zones ≡ zones → ((z : ℕ) → HasZone ungrouped.bits z
+    ↔ (HasZone zones.bits z × (HasZone old.stepped.bits z → ⊥)))
+    → ((z : ℕ) → HasZone left.bits z ↔ (HasZone ungrouped.bits z × (z ≢ zone))) → ((z : ℕ) → HasZone left.bits z → ⊥)
+    → (z : ℕ) → HasZone new.zones.bits z → HasZone new.stepped.bits z
+all_stepped old zone new zones ungrouped left s same waiting less empty z here =
+    elim (has_zone_or_not new.stepped.bits z) [
+      | inl had ↦ had
+      | inr not ↦ absurd (empty z ((less z).1 (
+        (waiting z).1 (
+          subst (λ (y : ZoneSet). HasZone y.bits z) (s.zones_are ∙ same) here,
+          λ was. not ((s.stepped z).1 (inl was)),
+        ),
+        λ is. not ((s.stepped z).1 (inr is)),
+      )))
+    ]
 
 -- the others wait on
-pub still_waiting : (old : Noted) (zone : ℕ) (new : Noted) (zones ungrouped left : ZoneSet) → StepsIn old zone new → ((z : ℕ) → HasZone ungrouped.bits z ↔ (HasZone zones.bits z × (HasZone old.stepped.bits z → ⊥))) → ((z : ℕ) → HasZone left.bits z ↔ (HasZone ungrouped.bits z × (z ≢ zone))) → (z : ℕ) → HasZone left.bits z ↔ (HasZone zones.bits z × (HasZone new.stepped.bits z → ⊥))
+pub still_waiting : (old : Noted) (zone : ℕ) (new : Noted) (zones ungrouped left : ZoneSet) → StepsIn old zone new
+    → ((z : ℕ) → HasZone ungrouped.bits z ↔ (HasZone zones.bits z × (HasZone old.stepped.bits z → ⊥)))
+    → ((z : ℕ) → HasZone left.bits z ↔ (HasZone ungrouped.bits z × (z ≢ zone))) → (z : ℕ) → HasZone left.bits z
+    ↔ (HasZone zones.bits z × (HasZone new.stepped.bits z → ⊥))
 still_waiting old zone new zones ungrouped left s waiting less z = (
-  λ h. (let a = (less z).0 h in let b = (waiting z).0 a.0 in (b.0, λ st. elim ((s.stepped z).0 st) [ inl was ↦ b.1 was | inr is ↦ a.1 is ])),
+  λ h. (let a = (less z).0 h in let b = (waiting z).0 a.0 in
+      (b.0, λ st. elim ((s.stepped z).0 st) [ inl was ↦ b.1 was | inr is ↦ a.1 is ])),
   λ h. (less z).1 ((waiting z).1 (h.0, λ was. h.1 ((s.stepped z).1 (inl was))), λ is. h.1 ((s.stepped z).1 (inr is))),
 )
 
 -- as a collection groups, its groups are not formed
 pub not_formed : (c : CollectorState) → IsGrouping c → IsFormed c → ⊥
-not_formed c g f = (let formed = ap (λ (r : RunState). r.formed) (some_one g.0 f.0 (sym g.1 ∙ f.1)) in let no = g.2 in let yes = f.2 in cc (formed, no, yes))
+not_formed c g f = (let formed = ap (λ (r : RunState). r.formed) (some_one g.0 f.0 (sym g.1 ∙ f.1)) in let no = g.2 in
+    let yes = f.2 in cc (formed, no, yes))
 
 -- which zones wait does not change with what is noted besides
-pub waiting_same : (n m : Noted) (o : Option Run) (u : ZoneSet) → m.stepped ≡ n.stepped → AreUngrouped n o u → AreUngrouped m o u
+pub waiting_same : (n m : Noted) (o : Option Run) (u : ZoneSet) → m.stepped ≡ n.stepped → AreUngrouped n o u
+    → AreUngrouped m o u
 waiting_same n m None u e a = tt
 waiting_same n m (Some run) u e a = λ unformed z. (let b = a unformed z in (
   λ h. (let x = b.0 h in (x.0, λ st. x.1 (subst (λ (y : ZoneSet). HasZone y.bits z) e st))),
@@ -275,25 +329,35 @@ waiting_same n m (Some run) u e a = λ unformed z. (let b = a unformed z in (
 ))
 
 -- which zones wait, as a collection groups
-pub waiting_in : (edges : Noted) (o : Option Run) (u : ZoneSet) (r : RunState) → run_of o ≡ Some r → r.formed ≡ false → AreUngrouped edges o u → (z : ℕ) → HasZone u.bits z ↔ (HasZone r.zones.bits z × (HasZone edges.stepped.bits z → ⊥))
+pub waiting_in : (edges : Noted) (o : Option Run) (u : ZoneSet) (r : RunState) → run_of o ≡ Some r → r.formed ≡ false
+    → AreUngrouped edges o u → (z : ℕ) → HasZone u.bits z
+    ↔ (HasZone r.zones.bits z × (HasZone edges.stepped.bits z → ⊥))
 waiting_in edges None u r e f a = absurd (cc e)
 waiting_in edges (Some run) u r e f a =
     let is : record { zones = run.zones; formed = run.formed } ≡ r = some_one _ _ e in
-    λ z. subst (λ (y : ZoneSet). HasZone u.bits z ↔ (HasZone y.bits z × (HasZone edges.stepped.bits z → ⊥))) (ap (λ (x : RunState). x.zones) is) (a (ap (λ (x : RunState). x.formed) is ∙ f) z)
+    λ z. subst (λ (y : ZoneSet). HasZone u.bits z ↔ (HasZone y.bits z × (HasZone edges.stepped.bits z → ⊥)))
+    (ap (λ (x : RunState). x.zones) is) (a (ap (λ (x : RunState). x.formed) is ∙ f) z)
 
 -- what is kept after a grouping step that is not the last
-pub kept_waiting : (edges : Noted) (o : Option Run) (u : ZoneSet) (r : RunState) → run_of o ≡ Some r → ((z : ℕ) → HasZone u.bits z ↔ (HasZone r.zones.bits z × (HasZone edges.stepped.bits z → ⊥))) → AreUngrouped edges o u
+pub kept_waiting : (edges : Noted) (o : Option Run) (u : ZoneSet) (r : RunState) → run_of o ≡ Some r
+    → ((z : ℕ) → HasZone u.bits z ↔ (HasZone r.zones.bits z × (HasZone edges.stepped.bits z → ⊥)))
+    → AreUngrouped edges o u
 kept_waiting edges None u r e a = tt
 kept_waiting edges (Some run) u r e a =
     let is : record { zones = run.zones; formed = run.formed } ≡ r = some_one _ _ e in
-    λ unformed z. subst (λ (y : ZoneSet). HasZone u.bits z ↔ (HasZone y.bits z × (HasZone edges.stepped.bits z → ⊥))) (sym (ap (λ (x : RunState). x.zones) is)) (a z)
+    λ unformed z. subst (λ (y : ZoneSet). HasZone u.bits z ↔ (HasZone y.bits z × (HasZone edges.stepped.bits z → ⊥)))
+    (sym (ap (λ (x : RunState). x.zones) is)) (a z)
 
 pub some_wait : (o : Option Run) (u : ZoneSet) (z : ℕ) → HasZone u.bits z → SomeWaits o u
 some_wait None u z h = tt
 some_wait (Some run) u z h = λ unformed. (z, h)
 
 -- the step of a zone that waits
-pub steps_in : (c : CollectorState) (flown : ℕ → Option Bits) → IsSound c flown → (g : IsGrouping c) (o : Option Run) (u : ZoneSet) (zone : ℕ) (new : Noted) → run_of o ≡ Some g.0 → AreUngrouped c.edges o u → HasZone u.bits zone → ((z : ℕ) → HasZone new.stepped.bits z ↔ (HasZone c.edges.stepped.bits z ⊎ (z ≡ zone))) → new.zones ≡ c.edges.zones → new.sources ≡ c.edges.sources → new.cursors ≡ c.edges.cursors → StepsIn c.edges zone new
+pub steps_in : (c : CollectorState) (flown : ℕ → Option Bits) → IsSound c flown
+    → (g : IsGrouping c) (o : Option Run) (u : ZoneSet) (zone : ℕ) (new : Noted) → run_of o ≡ Some g.0
+    → AreUngrouped c.edges o u → HasZone u.bits zone
+    → ((z : ℕ) → HasZone new.stepped.bits z ↔ (HasZone c.edges.stepped.bits z ⊎ (z ≡ zone))) → new.zones ≡ c.edges.zones
+    → new.sources ≡ c.edges.sources → new.cursors ≡ c.edges.cursors → StepsIn c.edges zone new
 steps_in c flown s g o u zone new e waits has stepped zones sources cursors =
     let w = (waiting_in c.edges o u g.0 e g.2 waits zone).0 has in
     record {

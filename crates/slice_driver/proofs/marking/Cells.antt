@@ -1,5 +1,6 @@
 -- Heaps with the same present cells show the same graph.
-use Rattle.std.proofs.Common.{◌≡◌, ◌≤◌, ℕ, List, length, map, Option, Some, None, IsSome, Contains, slice_get, refl, sym, ap, subst, ◌∙◌}
+use Rattle.std.proofs.Common.{◌≡◌, ◌≤◌, ℕ, List, length, map, Option, Some, None, IsSome, Contains, slice_get, refl}
+use Rattle.std.proofs.Common.{sym, ap, subst, ◌∙◌}
 use Rattle.std.specs.Option.{option_map}
 use Rattle.gz_names.specs.declared.names.Name.{Name}
 use Rattle.gz_names.specs.declared.names.Name.TheVariants.{Cell, Wrap}
@@ -61,8 +62,17 @@ module _ (h k : HeapState) (same : HasSameCells h k) where
   pub present_back : (p : Place) → IsPresent k.shape p → IsPresent h.shape p
   present_back p there = subst (λ (o : Option CellState). IsSome o) (same.cells p) there
 
-  stands : (g : GraphState) (p : Place) (cell : CellState) (x : Name) → StandsFor h.shape g p cell x → StandsFor k.shape g p cell x
-  stands g p cell (Cell n) st = (st.0, st.1 ∙ ap (λ (f : Option Place → Option Name). Some (record { comp = cell.comp; is_map = Rattle.heap_core.specs.Shows.is_map cell.kind; fields = map f cell.fields })) (sym all_held))
+  stands : (g : GraphState) (p : Place) (cell : CellState) (x : Name) → StandsFor h.shape g p cell x
+      → StandsFor k.shape g p cell x
+  stands g p cell (Cell n) st = (
+    st.0,
+    st.1 ∙ ap (λ (f : Option Place → Option Name).
+        Some (record {
+          comp = cell.comp;
+          is_map = Rattle.heap_core.specs.Shows.is_map cell.kind;
+          fields = map f cell.fields;
+        })) (sym all_held),
+  )
   stands g p cell (Wrap c t) st = record {
     target = st.target;
     kind_is = st.kind_is;
@@ -78,7 +88,8 @@ module _ (h k : HeapState) (same : HasSameCells h k) where
     stands = stands g p cell cell.name is.stands;
     sized = is.sized;
     few = is.few;
-    at_home = subst (λ (cs : List ℕ). slice_get cs cell.comp.0 ≡ Some (zone_of k.shape p)) (sym same.comps) (is.at_home ∙ ap (λ z. Some z) (sym (same.zones p)));
+    at_home = subst (λ (cs : List ℕ). slice_get cs cell.comp.0 ≡ Some (zone_of k.shape p)) (sym same.comps)
+        (is.at_home ∙ ap (λ z. Some z) (sym (same.zones p)));
   }
 
   pub shows_same : (g : GraphState) → Shows h g → Shows k g
@@ -86,19 +97,38 @@ module _ (h k : HeapState) (same : HasSameCells h k) where
     zones_are = s.zones_are ∙ sym same.states;
     comps_are = s.comps_are ∙ sym same.comps;
     objects_made = s.objects_made ∙ sym same.objects;
-    registers_are = s.registers_are ∙ ap (λ (f : Option Place → Option Name). map f h.shape.regs) (sym all_held) ∙ ap (λ (rs : List (Option Place)). map (held_name k.shape) rs) (sym same.regs);
-    slots_are = s.slots_are ∙ ap (λ (f : Option Place → Option Name). map f h.shape.slots) (sym all_held) ∙ ap (λ (rs : List (Option Place)). map (held_name k.shape) rs) (sym same.slots);
-    registers_held = λ p c. present_on p (s.registers_held p (subst (λ (rs : List (Option Place)). Contains rs (Some p)) same.regs c));
-    slots_held = λ p c. present_on p (s.slots_held p (subst (λ (rs : List (Option Place)). Contains rs (Some p)) same.slots c));
+    registers_are = s.registers_are ∙ ap (λ (f : Option Place → Option Name). map f h.shape.regs) (sym all_held)
+        ∙ ap (λ (rs : List (Option Place)). map (held_name k.shape) rs) (sym same.regs);
+    slots_are = s.slots_are ∙ ap (λ (f : Option Place → Option Name). map f h.shape.slots) (sym all_held)
+        ∙ ap (λ (rs : List (Option Place)). map (held_name k.shape) rs) (sym same.slots);
+    registers_held = λ p c.
+        present_on p (s.registers_held p (subst (λ (rs : List (Option Place)). Contains rs (Some p)) same.regs c));
+    slots_held = λ p c. present_on p
+        (s.slots_held p (subst (λ (rs : List (Option Place)). Contains rs (Some p)) same.slots c));
     fields_held = λ p q f e. present_on q (s.fields_held p q f (sym (field_same p f) ∙ e));
     cells = λ p cell e. shown_cell g p cell (s.cells p cell (sym (same.cells p) ∙ e));
     apart = λ p q x e f. s.apart p q x (sym (name_same p) ∙ e) (sym (name_same q) ∙ f);
     objects_are = λ n o e. (let at = s.objects_are n o e in (at.0, name_same at.0 ∙ at.1));
     wrappers_are = λ c t e. (let at = s.wrappers_are c t e in (at.0, name_same at.0 ∙ at.1));
-    mapped = λ c t p e. name_same p ∙ s.mapped c t p (subst (λ (w : WrappersState). place_of w c.0 t ≡ Some p) same.wrappers e);
-    maps_at_home = λ z e c. subst (λ (cs : List ℕ). slice_get cs e.0.comp ≡ Some z) (sym same.comps) (s.maps_at_home z e (subst (λ (w : WrappersState). Contains (list_of w z) e) same.wrappers c));
-    entries_held = λ m q v e. (let there = s.entries_held m q v (entry_back m q v e) in (present_on m there.0, present_on q there.1, present_on v there.2));
-    entries_are = λ m q v x y z e a b c. s.entries_are m q v x y z (entry_back m q v e) (sym (name_same m) ∙ a) (sym (name_same q) ∙ b) (sym (name_same v) ∙ c);
-    entries_known = λ x y z e. (let at = s.entries_known x y z e in (at.0, at.1, at.2, entry_on at.0 at.1 at.2 at.3, name_same at.0 ∙ at.4, name_same at.1 ∙ at.5, name_same at.2 ∙ at.6));
-    few_objects = subst (λ n. n ≤ k.made) (sym same.objects) (subst (λ n. h.shape.objects ≤ n) (sym same.made) s.few_objects);
+    mapped = λ c t p e. name_same p
+        ∙ s.mapped c t p (subst (λ (w : WrappersState). place_of w c.0 t ≡ Some p) same.wrappers e);
+    maps_at_home = λ z e c. subst (λ (cs : List ℕ). slice_get cs e.0.comp ≡ Some z) (sym same.comps)
+        (s.maps_at_home z e (subst (λ (w : WrappersState). Contains (list_of w z) e) same.wrappers c));
+    entries_held = λ m q v e.
+        (let there = s.entries_held m q v (entry_back m q v e) in
+        (present_on m there.0, present_on q there.1, present_on v there.2));
+    entries_are = λ m q v x y z e a b c. s.entries_are m q v x y z (entry_back m q v e) (sym (name_same m) ∙ a)
+        (sym (name_same q) ∙ b) (sym (name_same v) ∙ c);
+    entries_known = λ x y z e.
+        (let at = s.entries_known x y z e in (
+          at.0,
+          at.1,
+          at.2,
+          entry_on at.0 at.1 at.2 at.3,
+          name_same at.0 ∙ at.4,
+          name_same at.1 ∙ at.5,
+          name_same at.2 ∙ at.6,
+        ));
+    few_objects = subst (λ n. n ≤ k.made) (sym same.objects)
+        (subst (λ n. h.shape.objects ≤ n) (sym same.made) s.few_objects);
   }

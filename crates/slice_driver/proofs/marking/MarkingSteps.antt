@@ -23,7 +23,8 @@ use Rattle.slice_driver.proofs.grouping.Laws.{quiet_unit}
 use Rattle.slice_driver.proofs.marking.Steps.{looks_same}
 
 -- a step of marking: what it keeps, and that work was done
-pub record Marked (c : CollectorState) (flown : ℕ → Option Bits) (d : CollectorState) (flying : ℕ → Option Bits) : Type 0 where
+pub record Marked (c : CollectorState) (flown : ℕ → Option Bits) (d : CollectorState) (flying : ℕ → Option Bits) : Type
+    0 where
   pub shape_is : d.heap.shape ≡ c.heap.shape
   pub made_is : d.heap.made ≡ c.heap.made
   pub edges_is : d.edges ≡ c.edges
@@ -35,13 +36,16 @@ pub record Marked (c : CollectorState) (flown : ℕ → Option Bits) (d : Collec
   pub waits : WaitsWhileMarking d
   pub darker : (p : Place) → IsBlack (heap_with c flown) p → IsBlack (heap_with d flying) p
   pub black : (p : Place) → PendingBlack (heap_with d flying) d.stack p ↔ PendingBlack (heap_with c flown) c.stack p
-  pub live : (p : Place) → PendingLive (heap_with d flying) d.stack d.lists p ↔ PendingLive (heap_with c flown) c.stack c.lists p
+  pub live : (p : Place) → PendingLive (heap_with d flying) d.stack d.lists p
+      ↔ PendingLive (heap_with c flown) c.stack c.lists p
 
 -- the bits of the arenas, flown or not, are as many
-pub own_sized : (h : HeapState) (flown : ℕ → Option Bits) (p : Piles) → MarkingInvariant (Rattle.heap_core.specs.Heap.joined h flown) p → length h.colours ≡ length h.shape.arenas
+pub own_sized : (h : HeapState) (flown : ℕ → Option Bits) (p : Piles)
+    → MarkingInvariant (Rattle.heap_core.specs.Heap.joined h flown) p → length h.colours ≡ length h.shape.arenas
 own_sized h flown p m = sym (flown_length flown 0 h.colours) ∙ m.holds.colours.sized
 
-module _ (c : CollectorState) (flown : ℕ → Option Bits) (d : CollectorState) (flying : ℕ → Option Bits) (m : Marked c flown d flying) where
+module _ (c : CollectorState) (flown : ℕ → Option Bits) (d : CollectorState) (flying : ℕ → Option Bits)
+    (m : Marked c flown d flying) where
   pub marked_quiet : IsQuiet c flown d flying
   marked_quiet = record {
     shape_is = subst (λ (t : Shape). t ≡ record c.heap.shape { states = t.states }) (sym m.shape_is) refl;
@@ -61,18 +65,22 @@ module _ (c : CollectorState) (flown : ℕ → Option Bits) (d : CollectorState)
 
   -- all but the work of marking is as it was
   abbrev rest_left : CollectorState → ℕ
-  rest_left x = grouping_left x.heap.shape x.edges x.run + (steps_left x.heap.shape.states + arenas_left x.heap.shape x.heap.shape.arenas)
+  rest_left x = grouping_left x.heap.shape x.edges x.run
+      + (steps_left x.heap.shape.states + arenas_left x.heap.shape x.heap.shape.arenas)
 
   same_rest : rest_left d ≡ rest_left c
   same_rest =
       ap (λ (s : Shape). grouping_left s d.edges d.run + (steps_left s.states + arenas_left s s.arenas)) m.shape_is
-      ∙ ap (λ (e : Noted). grouping_left c.heap.shape e d.run + (steps_left c.heap.shape.states + arenas_left c.heap.shape c.heap.shape.arenas)) m.edges_is
-      ∙ ap (λ (o : Option RunState). grouping_left c.heap.shape c.edges o + (steps_left c.heap.shape.states + arenas_left c.heap.shape c.heap.shape.arenas)) m.run_is
+      ∙ ap (λ (e : Noted). grouping_left c.heap.shape e d.run
+      + (steps_left c.heap.shape.states + arenas_left c.heap.shape c.heap.shape.arenas)) m.edges_is
+      ∙ ap (λ (o : Option RunState). grouping_left c.heap.shape c.edges o
+      + (steps_left c.heap.shape.states + arenas_left c.heap.shape c.heap.shape.arenas)) m.run_is
 
   pub same_words : KeepsFreedWords c.heap.shape d.heap.shape
   same_words a freed is = subst (λ (s : Shape). IsFreedWord s a freed) (sym m.shape_is) is
 
-  pub marked_goes : IsSome c.run → work_left (heap_with d flying) d.stack d.lists < work_left (heap_with c flown) c.stack c.lists → GoesOn c flown [] d flying
+  pub marked_goes : IsSome c.run → work_left (heap_with d flying) d.stack d.lists < work_left (heap_with c flown)
+      c.stack c.lists → GoesOn c flown [] d flying
   marked_goes running less =
       let q = marked_quiet in
       record {

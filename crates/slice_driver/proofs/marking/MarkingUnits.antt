@@ -1,5 +1,6 @@
 -- What units of marking do for a collector.
-use Rattle.std.proofs.Common.{◌≡◌, ◌≢◌, ◌⊎◌, ◌↔◌, ◌<◌, ◌+◌, ℕ, Bool, true, false, List, [], ◌∷◌, Option, Some, None, IsSome, IsSomeAnd, Contains, slice_get, inl, inr, refl, sym, ap, subst, ◌∙◌}
+use Rattle.std.proofs.Common.{◌≡◌, ◌≢◌, ◌⊎◌, ◌↔◌, ◌<◌, ◌+◌, ℕ, Bool, true, false, List, [], ◌∷◌, Option, Some, None}
+use Rattle.std.proofs.Common.{IsSome, IsSomeAnd, Contains, slice_get, inl, inr, refl, sym, ap, subst, ◌∙◌}
 use Rattle.gz_names.specs.Zones.{HasZone}
 use Rattle.gz_names.specs.declared.numbers.Place.{Place}
 use Rattle.gz_names.specs.declared.replies.Report.{Report}
@@ -31,7 +32,8 @@ use Rattle.slice_driver.specs.Closures.{AreBlack}
 use Rattle.slice_driver.specs.Left.{units_left, grouping_left, steps_left, arenas_left}
 use Rattle.slice_driver.specs.Represents.{Represents, RunsAs, WaitsWhileMarking}
 use Rattle.slice_driver.specs.Units.{IsSound}
-use Rattle.slice_driver.specs.Working.{DidOrStill, GoesOn, IsBlackDone, IsBlackFixed, IsGrayDone, IsGrayFixed, IsGroupDone, IsStill}
+use Rattle.slice_driver.specs.Working.{DidOrStill, GoesOn, IsBlackDone, IsBlackFixed, IsGrayDone, IsGrayFixed}
+use Rattle.slice_driver.specs.Working.{IsGroupDone, IsStill}
 use Rattle.slice_driver.proofs.marking.Flights.{still_flies}
 use Rattle.slice_driver.proofs.marking.MarkingSteps.{Marked, marked_goes, own_sized}
 use Rattle.slice_driver.proofs.marking.Worlds.{flies_same}
@@ -41,19 +43,34 @@ none_in_it [] none = refl
 none_in_it (x ∷ xs) none = absurd (none x (contains_head x xs))
 
 -- nothing waits that did not
-module _ (c : CollectorState) (h : HeapState) (p : Piles) (shape_is : h.shape ≡ c.heap.shape) (buffers_is : h.buffers ≡ c.heap.buffers) (waits : WaitsWhileMarking c) where
+module _ (c : CollectorState) (h : HeapState) (p : Piles) (shape_is : h.shape ≡ c.heap.shape)
+    (buffers_is : h.buffers ≡ c.heap.buffers) (waits : WaitsWhileMarking c) where
   none_before : (P : State → Type 0) → ((z : ℕ) → P (state_in h.shape z)) → (z : ℕ) → P (state_in c.heap.shape z)
   none_before P all z = subst (λ (s : Shape). P (state_in s z)) shape_is (all z)
 
-  pub waits_on : (((z : ℕ) → state_in c.heap.shape z ≢ state.MarkBlackAndGray) → p.gray ≡ []) → WaitsWhileMarking (record c { heap = h; stack = p })
+  pub waits_on : (((z : ℕ) → state_in c.heap.shape z ≢ state.MarkBlackAndGray) → p.gray ≡ [])
+      → WaitsWhileMarking (record c { heap = h; stack = p })
   waits_on gray = record {
     gray = λ none. gray (none_before (λ t. t ≢ state.MarkBlackAndGray) none);
-    buffered = λ z quiet. ap (λ (bs : List (List Place)). buffer_at bs z) buffers_is ∙ waits.buffered z (ap (λ (s : Shape). is_marking_state (state_in s z)) (sym shape_is) ∙ quiet);
-    incoming = λ n x has. (let i = waits.incoming n x has in (i.0, ap (λ (s : Shape). slice_get s.comps n) shape_is ∙ i.1, ap (λ (s : Shape). is_marking_state (state_in s i.0)) shape_is ∙ i.2));
+    buffered = λ z quiet. ap (λ (bs : List (List Place)). buffer_at bs z) buffers_is
+        ∙ waits.buffered z (ap (λ (s : Shape). is_marking_state (state_in s z)) (sym shape_is) ∙ quiet);
+    incoming = λ n x has.
+        (let i = waits.incoming n x has in (
+          i.0,
+          ap (λ (s : Shape). slice_get s.comps n) shape_is ∙ i.1,
+          ap (λ (s : Shape). is_marking_state (state_in s i.0)) shape_is ∙ i.2,
+        ));
   }
 
 -- a cell of the black pile was followed
-pub black_followed : (c : CollectorState) (flown flying : ℕ → Option Bits) (h : HeapState) (p : Piles) → IsSound c flown → IsSome c.run → Covers h.shape flying → MarkingInvariant (joined h flying) p → Blackens (Reached c.heap.shape (IsBlack (heap_with c flown))) (heap_with c flown) (joined h flying) → p.gray ≡ c.stack.gray → ((y : Place) → PendingBlack (joined h flying) p y ↔ PendingBlack (heap_with c flown) c.stack y) → KeepsLive (heap_with c flown) c.stack (joined h flying) p → ((lists : Incoming) → work_left (joined h flying) p lists < work_left (heap_with c flown) c.stack lists) → GoesOn c flown [] (record c { heap = h; stack = p }) flying
+pub black_followed : (c : CollectorState) (flown flying : ℕ → Option Bits) (h : HeapState) (p : Piles) → IsSound c flown
+    → IsSome c.run → Covers h.shape flying → MarkingInvariant (joined h flying) p
+    → Blackens (Reached c.heap.shape (IsBlack (heap_with c flown))) (heap_with c flown) (joined h flying)
+    → p.gray ≡ c.stack.gray
+    → ((y : Place) → PendingBlack (joined h flying) p y ↔ PendingBlack (heap_with c flown) c.stack y)
+    → KeepsLive (heap_with c flown) c.stack (joined h flying) p
+    → ((lists : Incoming) → work_left (joined h flying) p lists < work_left (heap_with c flown) c.stack lists)
+    → GoesOn c flown [] (record c { heap = h; stack = p }) flying
 black_followed c flown flying h p s running covers inv bl gray pending live less =
     let rep = s.represents in
     let d : CollectorState = record c { heap = h; stack = p } in
@@ -65,10 +82,13 @@ black_followed c flown flying h p s running covers inv bl gray pending live less
       edges_is = refl;
       groups_is = refl;
       run_is = refl;
-      flies = still_flies c.heap h flown flying rep.flies shape_is rep.marks.holds.colours inv.holds.colours covers (own_sized c.heap flown c.stack rep.marks) (own_sized h flying p inv) bl.kept (λ y. elim (bl.others y) [ inl b ↦ inl b | inr e ↦ inr (inl e) ]);
+      flies = still_flies c.heap h flown flying rep.flies shape_is rep.marks.holds.colours inv.holds.colours covers
+          (own_sized c.heap flown c.stack rep.marks) (own_sized h flying p inv) bl.kept
+          (λ y. elim (bl.others y) [ inl b ↦ inl b | inr e ↦ inr (inl e) ]);
       marks = inv;
       gray = both.0;
-      waits = waits_on c h p shape_is (ap (λ (z : HeapState). z.buffers) bl.rest) rep.waits (λ none. gray ∙ rep.waits.gray none);
+      waits = waits_on c h p shape_is (ap (λ (z : HeapState). z.buffers) bl.rest) rep.waits
+          (λ none. gray ∙ rep.waits.gray none);
       darker = bl.kept;
       black = pending;
       live = both.1;
@@ -76,7 +96,11 @@ black_followed c flown flying h p s running covers inv bl gray pending live less
     marked_goes c flown d flying m running (less c.lists)
 
 -- what the weak rule coloured: black, or gray in a marking zone
-weak_others : (c : CollectorState) (flown flying : ℕ → Option Bits) (h : HeapState) (value : Place) → ((y : Place) → y ≢ value → colour_of (joined h flying) y ≡ colour_of (heap_with c flown) y) → (IsBlack (joined h flying) value ⊎ (is_marking c.heap.shape value ≡ true)) → (y : Place) → IsBlack (joined h flying) y ⊎ ((colour_of (joined h flying) y ≡ colour_of (heap_with c flown) y) ⊎ (is_marking c.heap.shape y ≡ true))
+weak_others : (c : CollectorState) (flown flying : ℕ → Option Bits) (h : HeapState) (value : Place)
+    → ((y : Place) → y ≢ value → colour_of (joined h flying) y ≡ colour_of (heap_with c flown) y)
+    → (IsBlack (joined h flying) value ⊎ (is_marking c.heap.shape value ≡ true)) → (y : Place)
+    → IsBlack (joined h flying) y
+    ⊎ ((colour_of (joined h flying) y ≡ colour_of (heap_with c flown) y) ⊎ (is_marking c.heap.shape y ≡ true))
 weak_others c flown flying h value others own y = elim (same-place y value) [
   | inr n ↦ inr (inl (others y n.0))
   | inl e ↦ elim own [
@@ -86,7 +110,12 @@ weak_others c flown flying h value others own y = elim (same-place y value) [
 ]
 
 -- the value of a weak entry got a colour
-weak_added : (c : CollectorState) (flown flying : ℕ → Option Bits) (h : HeapState) (p : Piles) (col : Rattle.cell_bits.specs.declared.bits.Colour.Colour) (zones : ℕ) (s : IsSound c flown) → IsSome c.run → Covers h.shape flying → (does : DoesWeak col zones (heap_with c flown) c.stack (joined h flying) p) → (IsBlack (joined h flying) does.value ⊎ (is_marking c.heap.shape does.value ≡ true)) → (((z : ℕ) → state_in c.heap.shape z ≢ state.MarkBlackAndGray) → p.gray ≡ []) → GoesOn c flown [] (record c { heap = h; stack = p }) flying
+weak_added : (c : CollectorState) (flown flying : ℕ → Option Bits) (h : HeapState) (p : Piles)
+    (col : Rattle.cell_bits.specs.declared.bits.Colour.Colour) (zones : ℕ) (s : IsSound c flown) → IsSome c.run
+    → Covers h.shape flying → (does : DoesWeak col zones (heap_with c flown) c.stack (joined h flying) p)
+    → (IsBlack (joined h flying) does.value ⊎ (is_marking c.heap.shape does.value ≡ true))
+    → (((z : ℕ) → state_in c.heap.shape z ≢ state.MarkBlackAndGray) → p.gray ≡ [])
+    → GoesOn c flown [] (record c { heap = h; stack = p }) flying
 weak_added c flown flying h p col zones s running covers does own gray =
     let rep = s.represents in
     let d : CollectorState = record c { heap = h; stack = p } in
@@ -98,7 +127,9 @@ weak_added c flown flying h p col zones s running covers does own gray =
       edges_is = refl;
       groups_is = refl;
       run_is = refl;
-      flies = still_flies c.heap h flown flying rep.flies shape_is rep.marks.holds.colours does.invariant.holds.colours covers (own_sized c.heap flown c.stack rep.marks) (own_sized h flying p does.invariant) does.black_kept (weak_others c flown flying h does.value does.others own);
+      flies = still_flies c.heap h flown flying rep.flies shape_is rep.marks.holds.colours does.invariant.holds.colours
+          covers (own_sized c.heap flown c.stack rep.marks) (own_sized h flying p does.invariant) does.black_kept
+          (weak_others c flown flying h does.value does.others own);
       marks = does.invariant;
       gray = both.0;
       waits = waits_on c h p shape_is (ap (λ (z : HeapState). z.buffers) does.rest) rep.waits gray;
@@ -108,23 +139,36 @@ weak_added c flown flying h p col zones s running covers does own gray =
     } in
     marked_goes c flown d flying m running (does.less c.lists)
 
-pub black_added : (c : CollectorState) (flown flying : ℕ → Option Bits) (h : HeapState) (p : Piles) (zones : ℕ) → IsSound c flown → IsSome c.run → Covers h.shape flying → DoesWeak colour.Black zones (heap_with c flown) c.stack (joined h flying) p → GoesOn c flown [] (record c { heap = h; stack = p }) flying
+pub black_added : (c : CollectorState) (flown flying : ℕ → Option Bits) (h : HeapState) (p : Piles) (zones : ℕ)
+    → IsSound c flown → IsSome c.run → Covers h.shape flying
+    → DoesWeak colour.Black zones (heap_with c flown) c.stack (joined h flying) p
+    → GoesOn c flown [] (record c { heap = h; stack = p }) flying
 black_added c flown flying h p zones s running covers does =
-    weak_added c flown flying h p colour.Black zones s running covers does (inl does.coloured) (λ none. ap (λ (q : Piles). q.gray) does.piles ∙ s.represents.waits.gray none)
+    weak_added c flown flying h p colour.Black zones s running covers does (inl does.coloured)
+    (λ none. ap (λ (q : Piles). q.gray) does.piles ∙ s.represents.waits.gray none)
 
 -- on the gray pile is nothing, where no zone takes gray
-none_on_gray : (c : CollectorState) (p : Piles) → WaitsWhileMarking c → ((x : Place) → Contains p.gray x → Contains c.stack.gray x ⊎ (state_of c.heap.shape x ≡ state.MarkBlackAndGray)) → ((z : ℕ) → state_in c.heap.shape z ≢ state.MarkBlackAndGray) → p.gray ≡ []
+none_on_gray : (c : CollectorState) (p : Piles) → WaitsWhileMarking c
+    → ((x : Place) → Contains p.gray x → Contains c.stack.gray x ⊎ (state_of c.heap.shape x ≡ state.MarkBlackAndGray))
+    → ((z : ℕ) → state_in c.heap.shape z ≢ state.MarkBlackAndGray) → p.gray ≡ []
 none_on_gray c p waits only none = none_in_it p.gray (λ x has. elim (only x has) [
   | inl was ↦ nothing_in_none x (subst (λ (xs : List Place). Contains xs x) (waits.gray none) was)
   | inr takes ↦ none (zone_of c.heap.shape x) takes
 ])
 
-pub gray_added : (c : CollectorState) (flown flying : ℕ → Option Bits) (h : HeapState) (p : Piles) (zones : ℕ) → IsSound c flown → IsSome c.run → AreGraying c.heap.shape zones → Covers h.shape flying → DoesWeak colour.Gray zones (heap_with c flown) c.stack (joined h flying) p → GoesOn c flown [] (record c { heap = h; stack = p }) flying
+pub gray_added : (c : CollectorState) (flown flying : ℕ → Option Bits) (h : HeapState) (p : Piles) (zones : ℕ)
+    → IsSound c flown → IsSome c.run → AreGraying c.heap.shape zones → Covers h.shape flying
+    → DoesWeak colour.Gray zones (heap_with c flown) c.stack (joined h flying) p
+    → GoesOn c flown [] (record c { heap = h; stack = p }) flying
 gray_added c flown flying h p zones s running group covers does =
-    weak_added c flown flying h p colour.Gray zones s running covers does (inr (ap is_marking_state ((group (zone_of c.heap.shape does.value)).0 does.wanted.work.0))) (none_on_gray c p s.represents.waits does.gray_pile)
+    weak_added c flown flying h p colour.Gray zones s running covers does
+    (inr (ap is_marking_state ((group (zone_of c.heap.shape does.value)).0 does.wanted.work.0)))
+    (none_on_gray c p s.represents.waits does.gray_pile)
 
 -- a piece of gray marking was done
-pub gray_followed : (c : CollectorState) (flown : ℕ → Option Bits) (h : HeapState) (p : Piles) (lists : Incoming) → IsSound c flown → IsSome c.run → DoesGray (heap_with c flown) c.stack c.lists (joined h flown) p lists → GoesOn c flown [] (record c { heap = h; stack = p; lists = lists }) flown
+pub gray_followed : (c : CollectorState) (flown : ℕ → Option Bits) (h : HeapState) (p : Piles) (lists : Incoming)
+    → IsSound c flown → IsSome c.run → DoesGray (heap_with c flown) c.stack c.lists (joined h flown) p lists
+    → GoesOn c flown [] (record c { heap = h; stack = p; lists = lists }) flown
 gray_followed c flown h p lists s running does =
     let rep = s.represents in
     let d : CollectorState = record c { heap = h; stack = p; lists = lists } in
@@ -139,11 +183,25 @@ gray_followed c flown h p lists s running does =
       marks = does.marks.invariant;
       gray = does.marks.gray;
       waits = record {
-        gray = λ none. none_on_gray c p rep.waits does.gray_pile (λ z. subst (λ (t : Shape). state_in t z ≢ state.MarkBlackAndGray) shape_is (none z));
-        buffered = λ z quiet. none_in_it (buffer_of h z) (λ x has. nothing_in_none x (subst (λ (xs : List Place). Contains xs x) (rep.waits.buffered z (ap (λ (t : Shape). is_marking_state (state_in t z)) (sym shape_is) ∙ quiet)) (does.buffered z x has)));
+        gray = λ none. none_on_gray c p rep.waits does.gray_pile
+            (λ z. subst (λ (t : Shape). state_in t z ≢ state.MarkBlackAndGray) shape_is (none z));
+        buffered = λ z quiet.
+            none_in_it (buffer_of h z)
+            (λ x has. nothing_in_none x
+            (subst (λ (xs : List Place). Contains xs x)
+            (rep.waits.buffered z (ap (λ (t : Shape). is_marking_state (state_in t z)) (sym shape_is) ∙ quiet))
+            (does.buffered z x has)));
         incoming = λ n x has. elim (does.incoming n x has) [
-          | inl was ↦ (let i = rep.waits.incoming n x was in (i.0, ap (λ (t : Shape). slice_get t.comps n) shape_is ∙ i.1, ap (λ (t : Shape). is_marking_state (state_in t i.0)) shape_is ∙ i.2))
-          | inr new ↦ (new.0, ap (λ (t : Shape). slice_get t.comps n) shape_is ∙ new.1, ap (λ (t : Shape). is_marking_state (state_in t new.0)) shape_is ∙ ap is_marking_state new.2)
+          | inl was ↦ (let i = rep.waits.incoming n x was in (
+            i.0,
+            ap (λ (t : Shape). slice_get t.comps n) shape_is ∙ i.1,
+            ap (λ (t : Shape). is_marking_state (state_in t i.0)) shape_is ∙ i.2,
+          ))
+          | inr new ↦ (
+            new.0,
+            ap (λ (t : Shape). slice_get t.comps n) shape_is ∙ new.1,
+            ap (λ (t : Shape). is_marking_state (state_in t new.0)) shape_is ∙ ap is_marking_state new.2,
+          )
         ];
       };
       darker = does.marks.black_kept;
@@ -153,13 +211,17 @@ gray_followed c flown h p lists s running does =
     marked_goes c flown d flown m running does.less
 
 -- with the same colours the collector stands for the same worlds
-pub same_worlds : (c : CollectorState) (flown flying : ℕ → Option Bits) (w : World) → Covers c.heap.shape flying → heap_with c flying ≡ heap_with c flown → Represents c flown w → Represents c flying w
+pub same_worlds : (c : CollectorState) (flown flying : ℕ → Option Bits) (w : World) → Covers c.heap.shape flying
+    → heap_with c flying ≡ heap_with c flown → Represents c flown w → Represents c flying w
 same_worlds c flown flying w covers e s =
-    let marks : MarkingInvariant (heap_with c flying) c.stack = subst (λ h. MarkingInvariant h c.stack) (sym e) s.marks in
+    let marks : MarkingInvariant (heap_with c flying) c.stack =
+    subst (λ h. MarkingInvariant h c.stack) (sym e) s.marks in
     record {
       lies = s.lies;
       unswept_apart = s.unswept_apart;
-      flies = still_flies c.heap c.heap flown flying s.flies refl s.marks.holds.colours marks.holds.colours covers (own_sized c.heap flown c.stack s.marks) (own_sized c.heap flown c.stack s.marks) (λ p b. ap (λ h. colour_of h p) e ∙ b) (λ p. inr (inl (ap (λ h. colour_of h p) e)));
+      flies = still_flies c.heap c.heap flown flying s.flies refl s.marks.holds.colours marks.holds.colours covers
+          (own_sized c.heap flown c.stack s.marks) (own_sized c.heap flown c.stack s.marks)
+          (λ p b. ap (λ h. colour_of h p) e ∙ b) (λ p. inr (inl (ap (λ h. colour_of h p) e)));
       marks = marks;
       gray = subst (λ h. GrayInvariant h c.stack c.lists) (sym e) s.gray;
       waits = s.waits;
@@ -168,16 +230,20 @@ same_worlds c flown flying w covers e s =
     }
 
 -- nothing was done
-pub still : (c : CollectorState) (flown flying : ℕ → Option Bits) (h : HeapState) (p : Piles) → Covers h.shape flying → h ≡ c.heap → p ≡ c.stack → heap_with c flying ≡ heap_with c flown → IsStill c flown (record c { heap = h; stack = p }) flying
+pub still : (c : CollectorState) (flown flying : ℕ → Option Bits) (h : HeapState) (p : Piles) → Covers h.shape flying
+    → h ≡ c.heap → p ≡ c.stack → heap_with c flying ≡ heap_with c flown
+    → IsStill c flown (record c { heap = h; stack = p }) flying
 still c flown flying h p covers eh ep e = record {
   same = ap (λ (z : HeapState). record c { heap = z; stack = p }) eh ∙ ap (λ (q : Piles). record c { stack = q }) ep;
   colours = e;
   worlds = λ w s. same_worlds c flown flying w (subst (λ (z : HeapState). Covers z.shape flying) eh covers) e s;
 }
 
-pub still_gray : (c : CollectorState) (flown : ℕ → Option Bits) (h : HeapState) (p : Piles) (l : Incoming) → h ≡ c.heap → p ≡ c.stack → l ≡ c.lists → IsStill c flown (record c { heap = h; stack = p; lists = l }) flown
+pub still_gray : (c : CollectorState) (flown : ℕ → Option Bits) (h : HeapState) (p : Piles) (l : Incoming) → h ≡ c.heap
+    → p ≡ c.stack → l ≡ c.lists → IsStill c flown (record c { heap = h; stack = p; lists = l }) flown
 still_gray c flown h p l eh ep el = record {
-  same = ap (λ (z : HeapState). record c { heap = z; stack = p; lists = l }) eh ∙ ap (λ (q : Piles). record c { stack = q; lists = l }) ep ∙ ap (λ (i : Incoming). record c { lists = i }) el;
+  same = ap (λ (z : HeapState). record c { heap = z; stack = p; lists = l }) eh
+      ∙ ap (λ (q : Piles). record c { stack = q; lists = l }) ep ∙ ap (λ (i : Incoming). record c { lists = i }) el;
   colours = refl;
   worlds = λ w s. s;
 }
@@ -196,42 +262,56 @@ state_marking None a = absurd a
 state_marking (Some s) a = elim a [ inl e ↦ ap is_marking_state e | inr e ↦ ap is_marking_state e ]
 
 -- the weak rule for black, where it adds nothing, and where it has a cell to colour
-module _ (c : CollectorState) (flown : ℕ → Option Bits) (zones : ZoneSet) (marking : (z : ℕ) → HasZone zones.bits z ↔ IsSomeAnd (slice_get c.heap.shape.states z) IsMarking) where
+module _ (c : CollectorState) (flown : ℕ → Option Bits) (zones : ZoneSet) (marking : (z : ℕ) → HasZone zones.bits z
+    ↔ IsSomeAnd (slice_get c.heap.shape.states z) IsMarking) where
   pub black_fixed : IsFixed (heap_with c flown) colour.Black zones.bits → IsBlackFixed c flown
-  black_fixed fixed m k v has bm bk mv = fixed m k v has bm bk ((marking (zone_of c.heap.shape v)).1 (marking_found (slice_get c.heap.shape.states (zone_of c.heap.shape v)) mv))
+  black_fixed fixed m k v has bm bk mv =
+      fixed m k v has bm bk
+      ((marking (zone_of c.heap.shape v)).1 (marking_found (slice_get c.heap.shape.states (zone_of c.heap.shape v)) mv))
 
   pub black_wanted : (x : Place) → WantsColour (heap_with c flown) colour.Black zones.bits x → IsBlackFixed c flown → ⊥
-  black_wanted x w fixed = w.work.3 (fixed w.map w.key x w.entry w.work.1 w.work.2 (state_marking (slice_get c.heap.shape.states (zone_of c.heap.shape x)) ((marking (zone_of c.heap.shape x)).0 w.work.0)))
+  black_wanted x w fixed =
+      w.work.3 (fixed w.map w.key x w.entry w.work.1 w.work.2
+      (state_marking (slice_get c.heap.shape.states (zone_of c.heap.shape x))
+      ((marking (zone_of c.heap.shape x)).0 w.work.0)))
 
 -- the same for gray
-pub gray_wanted : (c : CollectorState) (flown : ℕ → Option Bits) (g : ZoneSet) (x : Place) → WantsColour (heap_with c flown) colour.Gray g.bits x → IsGrayFixed c flown g → ⊥
+pub gray_wanted : (c : CollectorState) (flown : ℕ → Option Bits) (g : ZoneSet) (x : Place)
+    → WantsColour (heap_with c flown) colour.Gray g.bits x → IsGrayFixed c flown g → ⊥
 gray_wanted c flown g x w fixed = w.work.3 (fixed w.map w.key x w.entry w.work.1 w.work.2 w.work.0)
 
 -- one step after another that did nothing
-pub both_still : (c : CollectorState) (flown : ℕ → Option Bits) (d : CollectorState) (f1 : ℕ → Option Bits) (e : CollectorState) (f2 : ℕ → Option Bits) → IsStill c flown d f1 → IsStill d f1 e f2 → IsStill c flown e f2
+pub both_still : (c : CollectorState) (flown : ℕ → Option Bits) (d : CollectorState) (f1 : ℕ → Option Bits)
+    (e : CollectorState) (f2 : ℕ → Option Bits) → IsStill c flown d f1 → IsStill d f1 e f2 → IsStill c flown e f2
 both_still c flown d f1 e f2 a b = record {
   same = b.same ∙ a.same;
   colours = subst (λ (x : CollectorState). heap_with x f2 ≡ heap_with x f1) a.same b.colours ∙ a.colours;
-  worlds = λ w s. subst (λ (x : CollectorState). Represents x f1 w → Represents x f2 w) a.same (b.worlds w) (a.worlds w s);
+  worlds = λ w s. subst (λ (x : CollectorState). Represents x f1 w → Represents x f2 w) a.same (b.worlds w)
+      (a.worlds w s);
 }
 
 -- with the same colours the same work is left
-module _ (c : CollectorState) (flown : ℕ → Option Bits) (d : CollectorState) (flying : ℕ → Option Bits) (a : IsStill c flown d flying) where
+module _ (c : CollectorState) (flown : ℕ → Option Bits) (d : CollectorState) (flying : ℕ → Option Bits)
+    (a : IsStill c flown d flying) where
   abbrev IsBlackFixedBy : HeapState → Type 0
-  IsBlackFixedBy h = (m k v : Place) → HasEntry c.heap.shape m k v → IsBlack h m → IsBlack h k → is_marking c.heap.shape v ≡ true → IsBlack h v
+  IsBlackFixedBy h = (m k v : Place) → HasEntry c.heap.shape m k v → IsBlack h m → IsBlack h k
+      → is_marking c.heap.shape v ≡ true → IsBlack h v
 
   abbrev IsGrayFixedBy : ZoneSet → HeapState → Type 0
-  IsGrayFixedBy g h = (m k v : Place) → HasEntry c.heap.shape m k v → IsSeen h m → IsSeen h k → HasZone g.bits (zone_of c.heap.shape v) → IsSeen h v
+  IsGrayFixedBy g h = (m k v : Place) → HasEntry c.heap.shape m k v → IsSeen h m → IsSeen h k
+      → HasZone g.bits (zone_of c.heap.shape v) → IsSeen h v
 
   pub still_black_fixed : IsBlackFixed c flown ↔ IsBlackFixed d flying
   still_black_fixed = (
-    λ fixed. subst (λ (x : CollectorState). IsBlackFixed x flying) (sym a.same) (subst IsBlackFixedBy (sym a.colours) fixed),
+    λ fixed. subst (λ (x : CollectorState). IsBlackFixed x flying) (sym a.same)
+        (subst IsBlackFixedBy (sym a.colours) fixed),
     λ fixed. subst IsBlackFixedBy a.colours (subst (λ (x : CollectorState). IsBlackFixed x flying) a.same fixed),
   )
 
   pub still_gray_fixed : (g : ZoneSet) → IsGrayFixed c flown g ↔ IsGrayFixed d flying g
   still_gray_fixed g = (
-    λ fixed. subst (λ (x : CollectorState). IsGrayFixed x flying g) (sym a.same) (subst (IsGrayFixedBy g) (sym a.colours) fixed),
+    λ fixed. subst (λ (x : CollectorState). IsGrayFixed x flying g) (sym a.same)
+        (subst (IsGrayFixedBy g) (sym a.colours) fixed),
     λ fixed. subst (IsGrayFixedBy g) a.colours (subst (λ (x : CollectorState). IsGrayFixed x flying g) a.same fixed),
   )
 
@@ -243,7 +323,8 @@ module _ (c : CollectorState) (flown : ℕ → Option Bits) (d : CollectorState)
 
   pub still_group_done : IsGroupDone c flown → IsGroupDone d flying
   still_group_done done g at =
-      let was : IsGrayDone c flown g = done g (subst (λ (x : CollectorState). slice_get x.groups 0 ≡ Some g) a.same at) in
+      let was : IsGrayDone c flown g = done g (subst (λ (x : CollectorState). slice_get x.groups 0 ≡ Some g) a.same at)
+      in
       record {
         idle = subst (λ (x : CollectorState). IsGrayIdle x.heap x.stack x.lists g.bits) (sym a.same) was.idle;
         fixed = (still_gray_fixed g).0 was.fixed;
@@ -259,18 +340,31 @@ module _ (c : CollectorState) (flown : ℕ → Option Bits) (d : CollectorState)
         fixed = (still_gray_fixed g).1 is.fixed;
       }
 
-pub still_sound : (c : CollectorState) (flown : ℕ → Option Bits) (d : CollectorState) (flying : ℕ → Option Bits) → IsStill c flown d flying → IsSound c flown → IsSound d flying
-still_sound c flown d flying a s = record { world = s.world; valid = s.valid; represents = subst (λ (x : CollectorState). Represents x flying s.world) (sym a.same) (a.worlds s.world s.represents) }
+pub still_sound : (c : CollectorState) (flown : ℕ → Option Bits) (d : CollectorState) (flying : ℕ → Option Bits)
+    → IsStill c flown d flying → IsSound c flown → IsSound d flying
+still_sound c flown d flying a s =
+    record {
+      world = s.world;
+      valid = s.valid;
+      represents = subst (λ (x : CollectorState). Represents x flying s.world) (sym a.same)
+          (a.worlds s.world s.represents);
+    }
 
 -- what is left, with the bits of a heap
 left_by : CollectorState → HeapState → ℕ
-left_by c h = work_left h c.stack c.lists + (grouping_left c.heap.shape c.edges c.run + (steps_left c.heap.shape.states + arenas_left c.heap.shape c.heap.shape.arenas))
+left_by c h = work_left h c.stack c.lists
+    + (grouping_left c.heap.shape c.edges c.run
+    + (steps_left c.heap.shape.states + arenas_left c.heap.shape c.heap.shape.arenas))
 
-pub still_left : (c : CollectorState) (flown : ℕ → Option Bits) (d : CollectorState) (flying : ℕ → Option Bits) → IsStill c flown d flying → units_left d flying ≡ units_left c flown
+pub still_left : (c : CollectorState) (flown : ℕ → Option Bits) (d : CollectorState) (flying : ℕ → Option Bits)
+    → IsStill c flown d flying → units_left d flying ≡ units_left c flown
 unfolding left_by
-still_left c flown d flying a = ap (λ (x : CollectorState). units_left x flying) a.same ∙ ap (λ h. left_by c h) a.colours
+still_left c flown d flying a = ap (λ (x : CollectorState). units_left x flying) a.same
+    ∙ ap (λ h. left_by c h) a.colours
 
-pub still_goes : (c : CollectorState) (flown : ℕ → Option Bits) (d : CollectorState) (f1 : ℕ → Option Bits) (rs : List Report) (e : CollectorState) (f2 : ℕ → Option Bits) → IsStill c flown d f1 → GoesOn d f1 rs e f2 → GoesOn c flown rs e f2
+pub still_goes : (c : CollectorState) (flown : ℕ → Option Bits) (d : CollectorState) (f1 : ℕ → Option Bits)
+    (rs : List Report) (e : CollectorState) (f2 : ℕ → Option Bits) → IsStill c flown d f1 → GoesOn d f1 rs e f2
+    → GoesOn c flown rs e f2
 still_goes c flown d f1 rs e f2 a g = go
   where
     moved : GoesOn c f1 rs e f2
@@ -283,9 +377,12 @@ still_goes c flown d f1 rs e f2 a g = go
       running = moved.running;
       made_is = moved.made_is;
       weak_is = moved.weak_is;
-      less = subst (λ n. units_left e f2 < n) (ap (λ (x : CollectorState). units_left x f1) (sym a.same) ∙ still_left c flown d f1 a) moved.less;
+      less = subst (λ n. units_left e f2 < n) (ap (λ (x : CollectorState). units_left x f1) (sym a.same)
+          ∙ still_left c flown d f1 a) moved.less;
     }
 
-pub then_marks : (b : Bool) (P Q : Type 0) (c : CollectorState) (flown : ℕ → Option Bits) (d : CollectorState) (f1 : ℕ → Option Bits) (e : CollectorState) (f2 : ℕ → Option Bits) → IsStill c flown d f1 → P ↔ Q → DidOrStill b P d f1 e f2 → DidOrStill b Q c flown e f2
+pub then_marks : (b : Bool) (P Q : Type 0) (c : CollectorState) (flown : ℕ → Option Bits) (d : CollectorState)
+    (f1 : ℕ → Option Bits) (e : CollectorState) (f2 : ℕ → Option Bits) → IsStill c flown d f1 → P ↔ Q
+    → DidOrStill b P d f1 e f2 → DidOrStill b Q c flown e f2
 then_marks true P Q c flown d f1 e f2 a f g = (still_goes c flown d f1 [] e f2 a g.0, λ q. g.1 (f.1 q))
 then_marks false P Q c flown d f1 e f2 a f g = (both_still c flown d f1 e f2 a g.0, f.0 g.1)

@@ -1,5 +1,7 @@
--- Heaps with the same cells in the same colours: what holds of marking goes on to hold, and nothing more is left to mark.
-use Rattle.std.proofs.Common.{◌≡◌, ◌<◌, ◌≤◌, ◌+◌, ◌*◌, ℕ, true, List, length, Option, Some, None, Contains, slice_get, inl, inr, sym, ap, subst, ◌∙◌}
+-- Heaps with the same cells in the same colours: what holds of marking goes on to hold, and nothing more is left to
+-- mark.
+use Rattle.std.proofs.Common.{◌≡◌, ◌<◌, ◌≤◌, ◌+◌, ◌*◌, ℕ, true, List, length, Option, Some, None, Contains, slice_get}
+use Rattle.std.proofs.Common.{inl, inr, sym, ap, subst, ◌∙◌}
 use Rattle.gz_names.specs.declared.numbers.Place.{Place}
 use Rattle.cell_bits.specs.declared.bits.Bits.{Bits}
 use Rattle.zones.specs.declared.states.State.TheVariants as state
@@ -14,7 +16,8 @@ use Rattle.barriers.specs.PendingBlack as black_closure
 use Rattle.barriers.specs.PendingLive.{PendingLive, GrayInvariant, IsCovered, buffer_of}
 use Rattle.barriers.specs.PendingLive as live_closure
 use Rattle.barriers.specs.Invariant.{MarkingInvariant, ShapeInvariant, ColourInvariant, PileInvariant}
-use Rattle.slice_driver.proofs.marking.Cells.{HasSameCells, comp_same, edge_back, edge_on, entry_back, entry_on, field_same, present_back, present_on}
+use Rattle.slice_driver.proofs.marking.Cells.{HasSameCells, comp_same, edge_back, edge_on, entry_back, entry_on}
+use Rattle.slice_driver.proofs.marking.Cells.{field_same, present_back, present_on}
 
 pub record HasSameMarks (h k : HeapState) : Type 0 where
   pub cells : HasSameCells h k
@@ -42,16 +45,27 @@ module _ (h k : HeapState) (same : HasSameMarks h k) where
   seen_back p s = elim s [ inl g ↦ inl (sym (colour_same p) ∙ g) | inr b ↦ inr (sym (colour_same p) ∙ b) ]
 
   marking_same : (p : Place) → is_marking k.shape p ≡ is_marking h.shape p
-  marking_same p = same.marking (zone_of k.shape p) ∙ ap (λ z. is_marking_state (state_in h.shape z)) (same.cells.zones p)
+  marking_same p = same.marking (zone_of k.shape p) ∙ ap (λ z. is_marking_state (state_in h.shape z))
+      (same.cells.zones p)
 
   shape_kept : ShapeInvariant h.shape → ShapeInvariant k.shape
   shape_kept s = record {
-    made = λ x there. subst (λ n. zone_of k.shape x < n) (sym same.cells.states) (subst (λ z. z < length h.shape.states) (sym (same.cells.zones x)) (s.made x (present_back h k same.cells x there)));
-    at_home = λ x cell e. subst (λ (cs : List ℕ). slice_get cs cell.comp.0 ≡ Some (zone_of k.shape x)) (sym same.cells.comps) (s.at_home x cell (sym (same.cells.cells x) ∙ e) ∙ ap (λ z. Some z) (sym (same.cells.zones x)));
+    made = λ x there. subst (λ n. zone_of k.shape x < n) (sym same.cells.states)
+        (subst (λ z. z < length h.shape.states) (sym (same.cells.zones x))
+        (s.made x (present_back h k same.cells x there)));
+    at_home = λ x cell e. subst (λ (cs : List ℕ). slice_get cs cell.comp.0 ≡ Some (zone_of k.shape x))
+        (sym same.cells.comps)
+        (s.at_home x cell (sym (same.cells.cells x) ∙ e) ∙ ap (λ z. Some z) (sym (same.cells.zones x)));
     targets = λ x y e. present_on h k same.cells y (s.targets x y (edge_back h k same.cells x y e));
-    across = λ x y f lt e n. s.across x y f lt (sym (field_same h k same.cells x f) ∙ e) (λ z. n (same.cells.zones x ∙ z ∙ sym (same.cells.zones y)));
-    entries = λ m q v e. (let there = s.entries m q v (entry_back h k same.cells m q v e) in (present_on h k same.cells m there.0, present_on h k same.cells q there.1, present_on h k same.cells v there.2));
-    one_zone = λ m q v e. (let z = s.one_zone m q v (entry_back h k same.cells m q v e) in (same.cells.zones m ∙ z.0 ∙ sym (same.cells.zones v), same.cells.zones q ∙ z.1 ∙ sym (same.cells.zones v)));
+    across = λ x y f lt e n. s.across x y f lt (sym (field_same h k same.cells x f) ∙ e)
+        (λ z. n (same.cells.zones x ∙ z ∙ sym (same.cells.zones y)));
+    entries = λ m q v e. (let there = s.entries m q v (entry_back h k same.cells m q v e) in (
+      present_on h k same.cells m there.0,
+      present_on h k same.cells q there.1,
+      present_on h k same.cells v there.2,
+    ));
+    one_zone = λ m q v e. (let z = s.one_zone m q v (entry_back h k same.cells m q v e) in
+        (same.cells.zones m ∙ z.0 ∙ sym (same.cells.zones v), same.cells.zones q ∙ z.1 ∙ sym (same.cells.zones v)));
     kept = same.kept;
   }
 
@@ -61,8 +75,11 @@ module _ (h k : HeapState) (same : HasSameMarks h k) where
     sized = ap (λ (cs : List Bits). length cs) same.colours ∙ c.sized ∙ sym same.arenas;
     seen_present = λ x s. present_on h k same.cells x (c.seen_present x (seen_back x s));
     no_white = λ x there m. seen_on x (c.no_white x (present_back h k same.cells x there) (sym (marking_same x) ∙ m));
-    no_gray = λ x only g. c.no_gray x (ap (λ z. state_in h.shape z) (sym (same.cells.zones x)) ∙ same.black_only (zone_of k.shape x) only) (sym (colour_same x) ∙ g);
-    regs_black = λ x c'. colour_same x ∙ c.regs_black x (subst (λ (rs : List (Option Place)). Contains rs (Some x)) same.cells.regs c');
+    no_gray = λ x only g.
+        c.no_gray x (ap (λ z. state_in h.shape z) (sym (same.cells.zones x)) ∙ same.black_only (zone_of k.shape x) only)
+        (sym (colour_same x) ∙ g);
+    regs_black = λ x c'. colour_same x
+        ∙ c.regs_black x (subst (λ (rs : List (Option Place)). Contains rs (Some x)) same.cells.regs c');
   }
 
   piles_kept : (p : Piles) → PileInvariant h p → PileInvariant k p
@@ -71,9 +88,12 @@ module _ (h k : HeapState) (same : HasSameMarks h k) where
     wake = λ x c. (let b = i.wake x c in (colour_same x ∙ b.0, marking_same x ∙ b.1));
     gray = λ x c. seen_on x (i.gray x c);
     room = record {
-      black = subst (λ (cs : List Bits). length p.black + slots_in lacks_black cs ≤ 64 * length cs) (sym same.colours) i.room.black;
-      wake = subst (λ (cs : List Bits). length p.wake + slots_in lacks_black cs ≤ 64 * length cs) (sym same.colours) i.room.wake;
-      gray = subst (λ (cs : List Bits). length p.gray + slots_in is_white cs ≤ 64 * length cs) (sym same.colours) i.room.gray;
+      black = subst (λ (cs : List Bits). length p.black + slots_in lacks_black cs ≤ 64 * length cs) (sym same.colours)
+          i.room.black;
+      wake = subst (λ (cs : List Bits). length p.wake + slots_in lacks_black cs ≤ 64 * length cs) (sym same.colours)
+          i.room.wake;
+      gray = subst (λ (cs : List Bits). length p.gray + slots_in is_white cs ≤ 64 * length cs) (sym same.colours)
+          i.room.gray;
       room = subst (λ (cs : List Bits). 64 * length cs ≤ p.room) (sym same.colours) i.room.room;
     };
   }
@@ -83,8 +103,11 @@ module _ (h k : HeapState) (same : HasSameMarks h k) where
     holds = record {
       colours = colours_kept m.holds.colours;
       piles = piles_kept p m.holds.piles;
-      closed = λ x y b e. elim (m.holds.closed x y (black_back x b) (edge_back h k same.cells x y e)) [ inl c ↦ inl (black_on y c) | inr c ↦ inr c ];
-      weak_closed = λ a q v e ba bq mv. elim (m.holds.weak_closed a q v (entry_back h k same.cells a q v e) (black_back a ba) (black_back q bq) (sym (marking_same v) ∙ mv)) [ inl c ↦ inl (black_on v c) | inr c ↦ inr c ];
+      closed = λ x y b e. elim (m.holds.closed x y (black_back x b) (edge_back h k same.cells x y e))
+          [ inl c ↦ inl (black_on y c) | inr c ↦ inr c ];
+      weak_closed = λ a q v e ba bq mv.
+          elim (m.holds.weak_closed a q v (entry_back h k same.cells a q v e) (black_back a ba) (black_back q bq)
+          (sym (marking_same v) ∙ mv)) [ inl c ↦ inl (black_on v c) | inr c ↦ inr c ];
     };
     none_woken = m.none_woken;
   }
@@ -99,51 +122,73 @@ module _ (h k : HeapState) (same : HasSameMarks h k) where
   covered_on p lists x y c = elim c [
     | inl s ↦ inl (seen_on y s)
     | inr (inl on) ↦ inr (inl on)
-    | inr (inr (inl waits)) ↦ inr (inr (inl (subst (λ z. Contains (buffer_of k z) x) (sym (same.cells.zones y)) (waiting_on (zone_of h.shape y) x waits.0), λ e. waits.1 (sym (same.cells.zones x) ∙ e ∙ same.cells.zones y))))
+    | inr (inr (inl waits))
+        ↦ inr (inr (inl (
+          subst (λ z. Contains (buffer_of k z) x) (sym (same.cells.zones y))
+              (waiting_on (zone_of h.shape y) x waits.0),
+          λ e. waits.1 (sym (same.cells.zones x) ∙ e ∙ same.cells.zones y),
+        )))
     | inr (inr (inr noted)) ↦ inr (inr (inr (noted.0, comp_same h k same.cells y ∙ noted.1, noted.2)))
   ]
 
   pub gray_kept : (p : Piles) (lists : Incoming) → GrayInvariant h p lists → GrayInvariant k p lists
   gray_kept p lists g = record {
-    buffered_seen = λ z x c. elim (g.buffered_seen z x (waiting_back z x c)) [ inl is ↦ inl (same.cells.zones x ∙ is) | inr s ↦ inr (seen_on x s) ];
+    buffered_seen = λ z x c. elim (g.buffered_seen z x (waiting_back z x c))
+        [ inl is ↦ inl (same.cells.zones x ∙ is) | inr s ↦ inr (seen_on x s) ];
     buffered_present = λ z x c. present_on h k same.cells x (g.buffered_present z x (waiting_back z x c));
     incoming_seen = λ c x i. seen_on x (g.incoming_seen c x i);
-    closed = λ x y gray e. covered_on p lists x y (g.closed x y (sym (colour_same x) ∙ gray) (edge_back h k same.cells x y e));
+    closed = λ x y gray e.
+        covered_on p lists x y (g.closed x y (sym (colour_same x) ∙ gray) (edge_back h k same.cells x y e));
     once = g.once;
     apart = g.apart;
     lists_apart = g.lists_apart;
-    few = subst (λ (cs : List Bits). waiting_count lists + (length p.gray + slots_in is_white cs) ≤ 64 * length cs) (sym same.colours) g.few;
+    few = subst (λ (cs : List Bits). waiting_count lists + (length p.gray + slots_in is_white cs) ≤ 64 * length cs)
+        (sym same.colours) g.few;
     room = subst (λ (cs : List Bits). 64 * length cs ≤ lists.room) (sym same.colours) g.room;
   }
 
   pub pending_on : (p : Piles) {x : Place} → PendingBlack h p x → PendingBlack k p x
   pending_on p (black_closure.black {x} b) = black_closure.black (black_on x b)
   pending_on p (black_closure.pending {x} {y} c e) = black_closure.pending c (edge_on h k same.cells x y e)
-  pending_on p (black_closure.along {x} {y} l n e) = black_closure.along (pending_on p l) (λ b. n (black_back x b)) (edge_on h k same.cells x y e)
-  pending_on p (black_closure.weak {m} {k = q} {v} e a b) = black_closure.weak (entry_on h k same.cells m q v e) (pending_on p a) (pending_on p b)
+  pending_on p (black_closure.along {x} {y} l n e) = black_closure.along (pending_on p l) (λ b. n (black_back x b))
+      (edge_on h k same.cells x y e)
+  pending_on p (black_closure.weak {m} {k = q} {v} e a b) =
+      black_closure.weak (entry_on h k same.cells m q v e) (pending_on p a) (pending_on p b)
 
   pub pending_back : (p : Piles) {x : Place} → PendingBlack k p x → PendingBlack h p x
   pending_back p (black_closure.black {x} b) = black_closure.black (black_back x b)
   pending_back p (black_closure.pending {x} {y} c e) = black_closure.pending c (edge_back h k same.cells x y e)
-  pending_back p (black_closure.along {x} {y} l n e) = black_closure.along (pending_back p l) (λ b. n (black_on x b)) (edge_back h k same.cells x y e)
-  pending_back p (black_closure.weak {m} {k = q} {v} e a b) = black_closure.weak (entry_back h k same.cells m q v e) (pending_back p a) (pending_back p b)
+  pending_back p (black_closure.along {x} {y} l n e) = black_closure.along (pending_back p l) (λ b. n (black_on x b))
+      (edge_back h k same.cells x y e)
+  pending_back p (black_closure.weak {m} {k = q} {v} e a b) =
+      black_closure.weak (entry_back h k same.cells m q v e) (pending_back p a) (pending_back p b)
 
   pub live_on : (p : Piles) (lists : Incoming) {x : Place} → PendingLive h p lists x → PendingLive k p lists x
   live_on p lists (live_closure.black l) = live_closure.black (pending_on p l)
   live_on p lists (live_closure.gray {x} g) = live_closure.gray (colour_same x ∙ g)
-  live_on p lists (live_closure.buffered {x} c) = live_closure.buffered (subst (λ z. Contains (buffer_of k z) x) (sym (same.cells.zones x)) (waiting_on (zone_of h.shape x) x c))
-  live_on p lists (live_closure.behind z {x} {y} c n e) = live_closure.behind z (waiting_on z x c) (λ is. n (sym (same.cells.zones x) ∙ is)) (edge_on h k same.cells x y e)
+  live_on p lists (live_closure.buffered {x} c) =
+      live_closure.buffered
+      (subst (λ z. Contains (buffer_of k z) x) (sym (same.cells.zones x)) (waiting_on (zone_of h.shape x) x c))
+  live_on p lists (live_closure.behind z {x} {y} c n e) =
+      live_closure.behind z (waiting_on z x c) (λ is. n (sym (same.cells.zones x) ∙ is)) (edge_on h k same.cells x y e)
   live_on p lists (live_closure.incoming c {x} {y} i e) = live_closure.incoming c i (edge_on h k same.cells x y e)
   live_on p lists (live_closure.pending {x} {y} c e) = live_closure.pending c (edge_on h k same.cells x y e)
-  live_on p lists (live_closure.along {x} {y} l w e) = live_closure.along (live_on p lists l) (colour_same x ∙ w) (edge_on h k same.cells x y e)
-  live_on p lists (live_closure.weak {m} {k = q} {v} e a b) = live_closure.weak (entry_on h k same.cells m q v e) (live_on p lists a) (live_on p lists b)
+  live_on p lists (live_closure.along {x} {y} l w e) =
+      live_closure.along (live_on p lists l) (colour_same x ∙ w) (edge_on h k same.cells x y e)
+  live_on p lists (live_closure.weak {m} {k = q} {v} e a b) =
+      live_closure.weak (entry_on h k same.cells m q v e) (live_on p lists a) (live_on p lists b)
 
   pub live_back : (p : Piles) (lists : Incoming) {x : Place} → PendingLive k p lists x → PendingLive h p lists x
   live_back p lists (live_closure.black l) = live_closure.black (pending_back p l)
   live_back p lists (live_closure.gray {x} g) = live_closure.gray (sym (colour_same x) ∙ g)
-  live_back p lists (live_closure.buffered {x} c) = live_closure.buffered (subst (λ z. Contains (buffer_of h z) x) (same.cells.zones x) (waiting_back (zone_of k.shape x) x c))
-  live_back p lists (live_closure.behind z {x} {y} c n e) = live_closure.behind z (waiting_back z x c) (λ is. n (same.cells.zones x ∙ is)) (edge_back h k same.cells x y e)
+  live_back p lists (live_closure.buffered {x} c) =
+      live_closure.buffered
+      (subst (λ z. Contains (buffer_of h z) x) (same.cells.zones x) (waiting_back (zone_of k.shape x) x c))
+  live_back p lists (live_closure.behind z {x} {y} c n e) =
+      live_closure.behind z (waiting_back z x c) (λ is. n (same.cells.zones x ∙ is)) (edge_back h k same.cells x y e)
   live_back p lists (live_closure.incoming c {x} {y} i e) = live_closure.incoming c i (edge_back h k same.cells x y e)
   live_back p lists (live_closure.pending {x} {y} c e) = live_closure.pending c (edge_back h k same.cells x y e)
-  live_back p lists (live_closure.along {x} {y} l w e) = live_closure.along (live_back p lists l) (sym (colour_same x) ∙ w) (edge_back h k same.cells x y e)
-  live_back p lists (live_closure.weak {m} {k = q} {v} e a b) = live_closure.weak (entry_back h k same.cells m q v e) (live_back p lists a) (live_back p lists b)
+  live_back p lists (live_closure.along {x} {y} l w e) =
+      live_closure.along (live_back p lists l) (sym (colour_same x) ∙ w) (edge_back h k same.cells x y e)
+  live_back p lists (live_closure.weak {m} {k = q} {v} e a b) =
+      live_closure.weak (entry_back h k same.cells m q v e) (live_back p lists a) (live_back p lists b)

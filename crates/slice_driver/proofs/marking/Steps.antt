@@ -1,5 +1,7 @@
 -- After a step that leaves the world as it is the collector stands for the same world.
-use Rattle.std.proofs.Common.{◌≡◌, ◌≢◌, ◌↔◌, ◌<◌, ◌≤◌, ℕ, zero, suc, Bool, true, false, List, [], ◌∷◌, length, map, arith, slice_get, slice_index_or, Option, Some, None, IsSome, Contains, inl, inr, refl, sym, ap, subst, ◌∙◌}
+use Rattle.std.proofs.Common.{◌≡◌, ◌≢◌, ◌↔◌, ◌<◌, ◌≤◌, ℕ, zero, suc, Bool, true, false, List, [], ◌∷◌, length, map}
+use Rattle.std.proofs.Common.{arith, slice_get, slice_index_or, Option, Some, None, IsSome, Contains, inl, inr, refl}
+use Rattle.std.proofs.Common.{sym, ap, subst, ◌∙◌}
 use Rattle.std.specs.Prelude.{if◌then◌else◌}
 use Rattle.std.specs.Option.{option_map}
 use Rattle.gz_names.specs.Zones.{HasZone, zones_in}
@@ -25,46 +27,58 @@ use Rattle.barriers.proofs.BlackClosure.{pending_is_reached, reached_is_black}
 use Rattle.slice_driver.specs.Collector.{CollectorState, RunState, heap_with}
 use Rattle.slice_driver.specs.Closures.{AreBlack, AreTied}
 use Rattle.zone_edges.specs.Looks.{AreAllLookedAt, AreLeftBlack, IsLookedAt, wrapper_at}
-use Rattle.slice_driver.specs.Represents.{AreBehind, AreInStates, IsCurrent, IsIdle, IsInGroups, LeadsAcross, Represents, Runs, RunsAs}
+use Rattle.slice_driver.specs.Represents.{AreBehind, AreInStates, IsCurrent, IsIdle, IsInGroups, LeadsAcross}
+use Rattle.slice_driver.specs.Represents.{Represents, Runs, RunsAs}
 use Rattle.slice_driver.specs.Quiet.{HasSameLooks, IsQuiet, KeepsLooks}
 use Rattle.slice_driver.proofs.abstraction.Named.{some_one}
 use Rattle.slice_driver.proofs.marking.Cells.{HasSameCells}
 use Rattle.slice_driver.proofs.marking.Worlds.{lies_same, unswept_same}
 
 -- where no zone is marking, black is all that is left to turn black
-pub settled_pending : (h : HeapState) (p : Piles) → MarkingInvariant h p → ((x : Place) → is_marking h.shape x ≡ false) → (x : Place) → PendingBlack h p x ↔ IsBlack h x
-settled_pending h p inv settled x = ((λ l. reached_is_black h p inv settled (pending_is_reached h p inv l)), λ b. black_closure.black b)
+pub settled_pending : (h : HeapState) (p : Piles) → MarkingInvariant h p → ((x : Place) → is_marking h.shape x ≡ false)
+    → (x : Place) → PendingBlack h p x ↔ IsBlack h x
+settled_pending h p inv settled x =
+    ((λ l. reached_is_black h p inv settled (pending_is_reached h p inv l)), λ b. black_closure.black b)
 
 is_false : (b : Bool) → (b ≡ true → ⊥) → b ≡ false
 is_false true none = absurd (none refl)
 is_false false none = refl
 
 -- a settled collector marks no zone
-pub settled_states : (h : HeapState) (c : CollectorState) (w : World) (o : Option RunState) (k : Option Collection) → RunsAs h c w o k → marking_of k ≡ [] → (z : ℕ) → is_marking_state (state_in c.heap.shape z) ≡ false
+pub settled_states : (h : HeapState) (c : CollectorState) (w : World) (o : Option RunState) (k : Option Collection)
+    → RunsAs h c w o k → marking_of k ≡ [] → (z : ℕ) → is_marking_state (state_in c.heap.shape z) ≡ false
 settled_states h c w None None i settled z = ap is_marking_state (i.states z)
 settled_states h c w None (Some k) i settled z = absurd i
 settled_states h c w (Some r) None i settled z = absurd i
-settled_states h c w (Some r) (Some k) i settled z = is_false _ (λ m. nothing_in_none z (subst (λ zs. Contains zs z) settled ((i.marking_are z).1 m)))
+settled_states h c w (Some r) (Some k) i settled z =
+    is_false _ (λ m. nothing_in_none z (subst (λ zs. Contains zs z) settled ((i.marking_are z).1 m)))
 
 -- a zone of the current group is one of the groups
 pub current_in_groups : (groups : List ZoneSet) (z : ℕ) → IsCurrent groups z → IsInGroups groups z
 current_in_groups [] z here = absurd here
 current_in_groups (g ∷ gs) z here = (g, contains_head g gs, here)
 
-module _ (c : CollectorState) (flown : ℕ → Option Bits) (d : CollectorState) (flying : ℕ → Option Bits) (q : IsQuiet c flown d flying) where
+module _ (c : CollectorState) (flown : ℕ → Option Bits) (d : CollectorState) (flying : ℕ → Option Bits)
+    (q : IsQuiet c flown d flying) where
   same_cells : HasSameCells c.heap d.heap
-  same_cells = subst (λ (s : Shape). HasSameCells c.heap (record { shape = s; colours = d.heap.colours; buffers = d.heap.buffers; made = d.heap.made })) (sym q.shape_is) (record {
-    cells = λ p. refl;
-    zones = λ p. refl;
-    states = q.sized;
-    comps = refl;
-    wrappers = refl;
-    weak = refl;
-    regs = refl;
-    slots = refl;
-    objects = refl;
-    made = q.made_is;
-  })
+  same_cells = subst (λ (s : Shape).
+      HasSameCells c.heap (record {
+        shape = s;
+        colours = d.heap.colours;
+        buffers = d.heap.buffers;
+        made = d.heap.made;
+      })) (sym q.shape_is) (record {
+        cells = λ p. refl;
+        zones = λ p. refl;
+        states = q.sized;
+        comps = refl;
+        wrappers = refl;
+        weak = refl;
+        regs = refl;
+        slots = refl;
+        objects = refl;
+        made = q.made_is;
+      })
 
   same_arenas : d.heap.shape.arenas ≡ c.heap.shape.arenas
   same_arenas = ap (λ (s : Shape). s.arenas) q.shape_is
@@ -100,30 +114,43 @@ module _ (c : CollectorState) (flown : ℕ → Option Bits) (d : CollectorState)
     made = λ z here. subst (λ n. z < n) (sym q.sized) (s.made z here);
     early = λ unformed z here. elim (q.states z) [
       | inl same ↦ same ∙ s.early unformed z here
-      | inr next ↦ absurd (let same : r ≡ next.0.0 = some_one _ _ (sym running ∙ next.0.1) in let formed : r.formed ≡ true = ap (λ (x : RunState). x.formed) same ∙ next.0.2 in cc (unformed, formed))
+      | inr next ↦ absurd (let same : r ≡ next.0.0 = some_one _ _ (sym running ∙ next.0.1) in
+          let formed : r.formed ≡ true = ap (λ (x : RunState). x.formed) same ∙ next.0.2 in cc (unformed, formed))
     ];
     later = λ formed z here. elim (s.later formed z (in_groups_back z here)) [
       | inl only ↦ elim (q.states z) [
         | inl same ↦ inl (same ∙ only)
         | inr next ↦ inr (subst (λ gs. IsCurrent gs z) (sym q.groups_is) next.1, next.3)
       ]
-      | inr both ↦ inr (subst (λ gs. IsCurrent gs z) (sym q.groups_is) both.0, stays z state.MarkBlackAndGray both.1 (λ e. cc e))
+      | inr both ↦ inr (
+        subst (λ gs. IsCurrent gs z) (sym q.groups_is) both.0,
+        stays z state.MarkBlackAndGray both.1 (λ e. cc e),
+      )
     ];
     ended = λ formed z here none. elim (s.ended formed z here (λ i. none (in_groups_on z i))) [
       | inl sweep ↦ inl (stays z state.Sweep sweep (λ e. cc e))
       | inr finished ↦ inr (stays z state.Finished finished (λ e. cc e))
     ];
-    sweeping = λ z a p at zone out. stays z state.Sweep (s.sweeping z a p at (sym (zone_same p) ∙ zone) (subst (λ (o : Option Bits). IsSome o) (out_same a) out)) (λ e. cc e);
+    sweeping = λ z a p at zone out.
+        stays z state.Sweep (s.sweeping z a p at (sym (zone_same p) ∙ zone)
+        (subst (λ (o : Option Bits). IsSome o) (out_same a) out)) (λ e. cc e);
     swept = λ none z sweep. elim (q.states z) [
       | inl same ↦ s.swept (λ a. sym (out_same a) ∙ none a) z (sym same ∙ sweep)
       | inr next ↦ absurd (cc (sweep, next.3))
     ];
   }
 
-  tied_after : (w : World) (k : Collection) → AreTied (heap_with c flown) c.stack c.lists w k → AreTied (heap_with d flying) d.stack d.lists w k
+  tied_after : (w : World) (k : Collection) → AreTied (heap_with c flown) c.stack c.lists w k
+      → AreTied (heap_with d flying) d.stack d.lists w k
   tied_after w k t = record {
-    black = λ x p named. ((λ l. (t.black x p (sym (name_same p) ∙ named)).0 ((q.black p).0 l)), λ u. (q.black p).1 ((t.black x p (sym (name_same p) ∙ named)).1 u));
-    live = λ x p named. ((λ l. (t.live x p (sym (name_same p) ∙ named)).0 ((q.live p).0 l)), λ u. (q.live p).1 ((t.live x p (sym (name_same p) ∙ named)).1 u));
+    black = λ x p named. (
+      (λ l. (t.black x p (sym (name_same p) ∙ named)).0 ((q.black p).0 l)),
+      λ u. (q.black p).1 ((t.black x p (sym (name_same p) ∙ named)).1 u),
+    );
+    live = λ x p named. (
+      (λ l. (t.live x p (sym (name_same p) ∙ named)).0 ((q.live p).0 l)),
+      λ u. (q.live p).1 ((t.live x p (sym (name_same p) ∙ named)).1 u),
+    );
     present = t.present;
     edges_then = t.edges_then;
     entries_then = t.entries_then;
@@ -132,16 +159,25 @@ module _ (c : CollectorState) (flown : ℕ → Option Bits) (d : CollectorState)
   }
 
   across_back : (r : RunState) (p x : Place) → LeadsAcross d.heap.shape r p x → LeadsAcross c.heap.shape r p x
-  across_back r p x l = subst (λ (s : Shape). LeadsAcross s r p x → LeadsAcross c.heap.shape r p x) (sym q.shape_is) (λ m. record { edge = m.edge; from = m.from; to = m.to; apart = m.apart }) l
+  across_back r p x l = subst (λ (s : Shape). LeadsAcross s r p x → LeadsAcross c.heap.shape r p x) (sym q.shape_is)
+      (λ m. record { edge = m.edge; from = m.from; to = m.to; apart = m.apart }) l
 
   behind_after : (r : RunState) → AreBehind (heap_with c flown) c r → AreBehind (heap_with d flying) d r
-  behind_after r b p x l here none = q.darker x (b p x (across_back r p x l) (subst (λ z. IsInGroups c.groups z) (zone_same p) (in_groups_back _ here)) (λ i. none (in_groups_on _ (subst (λ z. IsInGroups c.groups z) (sym (zone_same x)) i))))
+  behind_after r b p x l here none =
+      q.darker x (b p x (across_back r p x l) (subst (λ z. IsInGroups c.groups z) (zone_same p) (in_groups_back _ here))
+      (λ i. none (in_groups_on _ (subst (λ z. IsInGroups c.groups z) (sym (zone_same x)) i))))
 
-  runs_after : (w : World) (r : RunState) (k : Collection) → Represents c flown w → c.run ≡ Some r → w.collection ≡ Some k → KeepsLooks c flown d flying → Runs (heap_with c flown) c w r k → Runs (heap_with d flying) d w r k
+  runs_after : (w : World) (r : RunState) (k : Collection) → Represents c flown w → c.run ≡ Some r
+      → w.collection ≡ Some k → KeepsLooks c flown d flying → Runs (heap_with c flown) c w r k
+      → Runs (heap_with d flying) d w r k
   runs_after w r k old running at looks s = record {
     zones_are = s.zones_are;
-    marking_are = λ z. ((λ m. marking_same z ∙ (s.marking_are z).0 m), λ m. (s.marking_are z).1 (sym (marking_same z) ∙ m));
-    groups_are = s.groups_are ∙ ap (λ (gs : List ZoneSet). if r.formed then Some (map zones_in gs) else None) (sym q.groups_is);
+    marking_are = λ z. (
+      (λ m. marking_same z ∙ (s.marking_are z).0 m),
+      λ m. (s.marking_are z).1 (sym (marking_same z) ∙ m),
+    );
+    groups_are = s.groups_are ∙ ap (λ (gs : List ZoneSet). if r.formed then Some (map zones_in gs) else None)
+        (sym q.groups_is);
     states = states_after r running s.states;
     tied = λ z m. tied_after w k (s.tied z m);
     early = λ unformed. looks r w k old running at unformed (s.early unformed);
@@ -149,22 +185,33 @@ module _ (c : CollectorState) (flown : ℕ → Option Bits) (d : CollectorState)
   }
 
   looked_back : HasSameLooks c d → (p : Place) → IsLookedAt d.heap.shape d.edges p → IsLookedAt c.heap.shape c.edges p
-  looked_back e p at = subst (λ (s : Shape). IsLookedAt s d.edges p → IsLookedAt c.heap.shape c.edges p) (sym q.shape_is) (λ m. record { index = m.index; before = subst (λ (cs : List ℕ). m.index < slice_index_or cs (zone_of c.heap.shape p) 0) e.cursors_are m.before; stands = m.stands }) at
+  looked_back e p at = subst (λ (s : Shape). IsLookedAt s d.edges p → IsLookedAt c.heap.shape c.edges p)
+      (sym q.shape_is) (λ m.
+      record {
+        index = m.index;
+        before = subst (λ (cs : List ℕ). m.index < slice_index_or cs (zone_of c.heap.shape p) 0)
+            e.cursors_are m.before;
+        stands = m.stands;
+      }) at
 
   -- a wrapper that was not looked at was not
   left_same : HasSameLooks c d → AreLeftBlack (heap_with c flown) c.edges → AreLeftBlack (heap_with d flying) d.edges
   left_same e l z i p x here past at held =
       let here_then = subst (λ (y : ZoneSet). HasZone y.bits z) e.zones_are here in
       let past_then = subst (λ (cs : List ℕ). slice_index_or cs z 0 ≤ i) e.cursors_are past in
-      let at_then = subst (λ (s : Shape). wrapper_at s z i ≡ Some p → wrapper_at c.heap.shape z i ≡ Some p) (sym q.shape_is) (λ m. m) at in
-      let held_then = subst (λ (s : Shape). field_at s p 0 ≡ Some x → field_at c.heap.shape p 0 ≡ Some x) (sym q.shape_is) (λ m. m) held in
+      let at_then = subst (λ (s : Shape). wrapper_at s z i ≡ Some p → wrapper_at c.heap.shape z i ≡ Some p)
+      (sym q.shape_is) (λ m. m) at in
+      let held_then = subst (λ (s : Shape). field_at s p 0 ≡ Some x → field_at c.heap.shape p 0 ≡ Some x)
+      (sym q.shape_is) (λ m. m) held in
       q.darker x (l z i p x here_then past_then at_then held_then)
 
   -- where each was looked at, none is left
   none_left : AreAllLookedAt c.heap.shape c.edges → AreLeftBlack (heap_with c flown) c.edges
-  none_left all z i p x here past at held = absurd (past_end (list_of c.heap.shape.wrappers z) i (let most = all z here in omega arith) at)
+  none_left all z i p x here past at held =
+      absurd (past_end (list_of c.heap.shape.wrappers z) i (let most = all z here in omega arith) at)
     where
-      past_end : (es : List (WrapperKey × Place)) (i : ℕ) → length es ≤ i → option_map (λ (e : WrapperKey × Place). e.1) (slice_get es i) ≡ Some p → ⊥
+      past_end : (es : List (WrapperKey × Place)) (i : ℕ) → length es ≤ i
+          → option_map (λ (e : WrapperKey × Place). e.1) (slice_get es i) ≡ Some p → ⊥
       past_end [] i le e = cc e
       past_end (y ∷ es) zero le e = omega arith
       past_end (y ∷ es) (suc i) le e = past_end es i (omega arith) e
@@ -176,16 +223,28 @@ module _ (c : CollectorState) (flown : ℕ → Option Bits) (d : CollectorState)
     first = λ a b n. l.first a b (subst (λ (z : List ZoneSet). Edge z a b) e.sources_are n);
     looked = λ p x across at. elim (l.looked p x (across_back r p x across) (looked_back e p at)) [
       | inl b ↦ inl (q.darker x b)
-      | inr n ↦ inr (subst (λ z. Edge d.edges.sources z (zone_of d.heap.shape x)) (sym (zone_same p)) (subst (λ z. Edge d.edges.sources (zone_of c.heap.shape p) z) (sym (zone_same x)) (subst (λ (z : List ZoneSet). Edge z (zone_of c.heap.shape p) (zone_of c.heap.shape x)) (sym e.sources_are) n)))
+      | inr n ↦ inr (subst (λ z. Edge d.edges.sources z (zone_of d.heap.shape x)) (sym (zone_same p))
+          (subst (λ z. Edge d.edges.sources (zone_of c.heap.shape p) z) (sym (zone_same x))
+          (subst (λ (z : List ZoneSet). Edge z (zone_of c.heap.shape p) (zone_of c.heap.shape x)) (sym e.sources_are)
+          n)))
     ];
     left_black = elim e.stepped [
       | inr all ↦ inr (left_same e (none_left all))
-      | inl same ↦ elim l.left_black [ inl fresh ↦ inl (ap (λ (z : ZoneSet). z.bits) same ∙ fresh) | inr black ↦ inr (left_same e black) ]
+      | inl same ↦ elim l.left_black [
+        | inl fresh ↦ inl (ap (λ (z : ZoneSet). z.bits) same ∙ fresh)
+        | inr black
+            ↦ inr (left_same e black)
+      ]
     ];
   }
 
   pub looks_same : d.edges ≡ c.edges → HasSameLooks c d
-  looks_same e = record { zones_are = ap (λ (z : Noted). z.zones) e; sources_are = ap (λ (z : Noted). z.sources) e; cursors_are = ap (λ (z : Noted). z.cursors) e; stepped = inl (ap (λ (z : Noted). z.stepped) e) }
+  looks_same e = record {
+    zones_are = ap (λ (z : Noted). z.zones) e;
+    sources_are = ap (λ (z : Noted). z.sources) e;
+    cursors_are = ap (λ (z : Noted). z.cursors) e;
+    stepped = inl (ap (λ (z : Noted). z.stepped) e);
+  }
 
   idle_after : IsIdle c → d.stack.black ≡ [] → d.stack.gray ≡ [] → IsIdle d
   idle_after i black gray = record {
@@ -196,11 +255,14 @@ module _ (c : CollectorState) (flown : ℕ → Option Bits) (d : CollectorState)
   }
 
   module _ (w : World) (looks : KeepsLooks c flown d flying) (old : Represents c flown w) where
-    runs_as : (o : Option RunState) (k : Option Collection) → c.run ≡ o → w.collection ≡ k → RunsAs (heap_with c flown) c w o k → RunsAs (heap_with d flying) d w o k
-    runs_as None None e f i = idle_after i (empty d.stack.black (λ x c'. unmarked x (q.marks.holds.piles.black x c').1)) (q.waits.gray (λ z both. cc (stays z state.NoGC (i.states z) (λ only. cc only), both)))
+    runs_as : (o : Option RunState) (k : Option Collection) → c.run ≡ o → w.collection ≡ k
+        → RunsAs (heap_with c flown) c w o k → RunsAs (heap_with d flying) d w o k
+    runs_as None None e f i = idle_after i (empty d.stack.black (λ x c'. unmarked x (q.marks.holds.piles.black x c').1))
+        (q.waits.gray (λ z both. cc (stays z state.NoGC (i.states z) (λ only. cc only), both)))
       where
         unmarked : (x : Place) → is_marking d.heap.shape x ≡ true → ⊥
-        unmarked x m = let no : state_in d.heap.shape (zone_of d.heap.shape x) ≡ state.NoGC = stays _ state.NoGC (i.states _) (λ only. cc only) in cc (ap is_marking_state no, m)
+        unmarked x m = let no : state_in d.heap.shape (zone_of d.heap.shape x) ≡ state.NoGC =
+            stays _ state.NoGC (i.states _) (λ only. cc only) in cc (ap is_marking_state no, m)
 
         empty : (xs : List Place) → ((x : Place) → Contains xs x → ⊥) → xs ≡ []
         empty [] none = refl
@@ -211,20 +273,25 @@ module _ (c : CollectorState) (flown : ℕ → Option Bits) (d : CollectorState)
 
     black_after : IsSettled w → AreBlack (heap_with d flying) w
     black_after settled x p named =
-        let none : (z : ℕ) → is_marking_state (state_in c.heap.shape z) ≡ false = settled_states (heap_with c flown) c w c.run w.collection old.runs settled.none_marking in
+        let none : (z : ℕ) → is_marking_state (state_in c.heap.shape z) ≡ false =
+        settled_states (heap_with c flown) c w c.run w.collection old.runs settled.none_marking in
         let before = settled_pending (heap_with c flown) c.stack old.marks (λ y. none (zone_of c.heap.shape y)) p in
-        let after = settled_pending (heap_with d flying) d.stack q.marks (λ y. marking_same (zone_of d.heap.shape y) ∙ none (zone_of d.heap.shape y)) p in
+        let after = settled_pending (heap_with d flying) d.stack q.marks
+        (λ y. marking_same (zone_of d.heap.shape y) ∙ none (zone_of d.heap.shape y)) p in
         let was = old.black settled x p (sym (name_same p) ∙ named) in
         ((λ b. after.0 ((q.black p).1 (before.1 (was.0 b)))), λ b. was.1 (before.0 ((q.black p).0 (after.1 b))))
 
     pub quiet : Represents d flying w
     quiet = record {
       lies = lies_same c.heap d.heap w same_cells same_arenas old.lies;
-      unswept_apart = λ x p o a b. old.unswept_apart x p o (unswept_same d.heap.shape c.heap.shape p x (sym same_arenas) a) (unswept_same d.heap.shape c.heap.shape o x (sym same_arenas) b);
+      unswept_apart = λ x p o a b.
+          old.unswept_apart x p o (unswept_same d.heap.shape c.heap.shape p x (sym same_arenas) a)
+          (unswept_same d.heap.shape c.heap.shape o x (sym same_arenas) b);
       flies = q.flies;
       marks = q.marks;
       gray = q.gray;
       waits = q.waits;
       black = black_after;
-      runs = subst (λ (o : Option RunState). RunsAs (heap_with d flying) d w o w.collection) (sym q.run_is) (runs_as c.run w.collection refl refl old.runs);
+      runs = subst (λ (o : Option RunState). RunsAs (heap_with d flying) d w o w.collection) (sym q.run_is)
+          (runs_as c.run w.collection refl refl old.runs);
     }

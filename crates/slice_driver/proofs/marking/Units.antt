@@ -1,5 +1,6 @@
 -- Units that report nothing, one after another.
-use Rattle.std.proofs.Common.{◌≡◌, ◌+◌, ℕ, zero, suc, Bool, true, false, [], Option, IsSome, refl, sym, ap, subst, ◌∙◌, arith}
+use Rattle.std.proofs.Common.{◌≡◌, ◌+◌, ℕ, zero, suc, Bool, true, false, [], Option, IsSome, refl, sym, ap, subst, ◌∙◌}
+use Rattle.std.proofs.Common.{arith}
 use Rattle.cell_bits.specs.declared.bits.Bits.{Bits}
 use Rattle.colour_defs.specs.Lawful.{IsLawfulUnit, quiet}
 use Rattle.colour_defs.specs.World.{World}
@@ -9,8 +10,10 @@ use Rattle.slice_driver.specs.Collector.{CollectorState, RunState}
 use Rattle.slice_driver.specs.Quiet.{IsFormed}
 use Rattle.slice_driver.specs.Represents.{Represents}
 use Rattle.slice_driver.specs.Units.{IsSound, KeepsFreedWords}
-use Rattle.slice_driver.specs.Working.{DidOrStill, DoesQuietUnits, GoesOn, LooksOrAll, QuietOrNone, HasBegun, IsBlackDone, IsGroupDone, IsGrouping, IsQuietDone, IsStill}
-use Rattle.slice_driver.proofs.marking.MarkingUnits.{both_still, group_done_before, still_black_done, still_goes, still_group_done, still_left, still_sound}
+use Rattle.slice_driver.specs.Working.{DidOrStill, DoesQuietUnits, GoesOn, LooksOrAll, QuietOrNone, HasBegun}
+use Rattle.slice_driver.specs.Working.{IsBlackDone, IsGroupDone, IsGrouping, IsQuietDone, IsStill}
+use Rattle.slice_driver.proofs.marking.MarkingUnits.{both_still, group_done_before, still_black_done, still_goes}
+use Rattle.slice_driver.proofs.marking.MarkingUnits.{still_group_done, still_left, still_sound}
 use Rattle.slice_driver.proofs.abstraction.Named.{some_one}
 use Rattle.slice_driver.proofs.abstraction.SoundAfter.{unit_sound}
 
@@ -80,7 +83,8 @@ pub still_quiet_done : (c : CollectorState) (f : ℕ → Option Bits) (d : Colle
     → IsStill c f d g → IsQuietDone c f → IsQuietDone d g
 still_quiet_done c f d g still done = record {
   black = still_black_done c f d g still done.black;
-  looked = subst (λ (x : CollectorState). IsGrouping x → AreAllLookedAt x.heap.shape x.edges) (sym still.same) done.looked;
+  looked = subst (λ (x : CollectorState). IsGrouping x → AreAllLookedAt x.heap.shape x.edges) (sym still.same)
+      done.looked;
   begun = subst (λ (x : CollectorState). IsFormed x → HasBegun x) (sym still.same) done.begun;
   group = λ formed. still_group_done c f d g still (done.group (subst IsFormed still.same formed));
 }

@@ -21,22 +21,31 @@ unswept_same s t p x e u = record {
   name_is = u.name_is;
 }
 
-pub lies_same : (h k : HeapState) (w : World) → HasSameCells h k → k.shape.arenas ≡ h.shape.arenas → LiesIn h w → LiesIn k w
+pub lies_same : (h k : HeapState) (w : World) → HasSameCells h k → k.shape.arenas ≡ h.shape.arenas → LiesIn h w
+    → LiesIn k w
 lies_same h k w same e l = record {
   whole = subst (λ (xs : List ArenaShape). AreWhole xs) (sym e) l.whole;
   graph = l.graph;
   shown = shows_same h k same l.graph l.shown;
   part = l.part;
-  places_are = λ x p. ((λ at. name_same h k same p ∙ (l.places_are x p).0 at), λ named. (l.places_are x p).1 (sym (name_same h k same p) ∙ named));
+  places_are = λ x p. (
+    (λ at. name_same h k same p ∙ (l.places_are x p).0 at),
+    λ named. (l.places_are x p).1 (sym (name_same h k same p) ∙ named),
+  );
   owner_is = l.owner_is ∙ ap owners_of (sym e);
   weak_is = l.weak_is;
   calm = l.calm;
   out_is = l.out_is ∙ ap (outs_from 0) (sym e);
-  white_are = λ x p. ((λ c. unswept_same h.shape k.shape p x e ((l.white_are x p).0 c)), λ u. (l.white_are x p).1 (unswept_same k.shape h.shape p x (sym e) u));
+  white_are = λ x p. (
+    (λ c. unswept_same h.shape k.shape p x e ((l.white_are x p).0 c)),
+    λ u. (l.white_are x p).1 (unswept_same k.shape h.shape p x (sym e) u),
+  );
 }
 
 pub flies_same : (s t : Shape) (flown : ℕ → Option Bits) → t.arenas ≡ s.arenas → IsInFlight s flown → IsInFlight t flown
 flies_same s t flown e f = record {
-  covers = λ a. f.covers a ∙ ap (λ (xs : List ArenaShape). Rattle.std.proofs.Common.is_some (out_in (slice_get xs a))) (sym e);
-  woken = λ a old new out. f.woken a old new (subst (λ (xs : List ArenaShape). out_in (slice_get xs a) ≡ Some old) e out);
+  covers = λ a. f.covers a ∙ ap (λ (xs : List ArenaShape). Rattle.std.proofs.Common.is_some (out_in (slice_get xs a)))
+      (sym e);
+  woken = λ a old new out.
+      f.woken a old new (subst (λ (xs : List ArenaShape). out_in (slice_get xs a) ≡ Some old) e out);
 }

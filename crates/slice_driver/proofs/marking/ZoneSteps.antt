@@ -1,5 +1,7 @@
 -- The beginning of a zone of the current group, and what all of them have begun.
-use Rattle.std.proofs.Common.{◌≡◌, ◌≢◌, ◌↔◌, ◌<◌, ◌≤◌, ◌+◌, ℕ, zero, suc, List, [], ◌∷◌, length, Option, Some, None, IsSomeAnd, is_some, slice_get, slice_set, length-set, inl, inr, refl, sym, ap, subst, ◌∙◌, arith}
+use Rattle.std.proofs.Common.{◌≡◌, ◌≢◌, ◌↔◌, ◌<◌, ◌≤◌, ◌+◌, ℕ, zero, suc, List, [], ◌∷◌, length, Option, Some, None}
+use Rattle.std.proofs.Common.{IsSomeAnd, is_some, slice_get, slice_set, length-set, inl, inr, refl, sym, ap, subst, ◌∙◌}
+use Rattle.std.proofs.Common.{arith}
 use Rattle.std.proofs.lemmas.Bool.{cases_eq}
 use Rattle.gz_names.specs.Zones.{HasZone}
 use Rattle.gz_names.specs.declared.zone_sets.ZoneSet.{ZoneSet}
@@ -31,15 +33,18 @@ within_list (x ∷ xs) zero s e = omega arith
 within_list (x ∷ xs) (suc i) s e = let r = within_list xs i s e in omega (arith, r)
 
 -- the first group is the current one
-pub current_is : (groups : List ZoneSet) (g : ZoneSet) (z : ℕ) → slice_get groups 0 ≡ Some g → HasZone g.bits z → IsCurrent groups z
+pub current_is : (groups : List ZoneSet) (g : ZoneSet) (z : ℕ) → slice_get groups 0 ≡ Some g → HasZone g.bits z
+    → IsCurrent groups z
 current_is [] g z e h = absurd (cc e)
 current_is (x ∷ xs) g z e h = subst (λ (y : ZoneSet). HasZone y.bits z) (sym (some_one x g e)) h
 
-pub current_of : (groups : List ZoneSet) (g : ZoneSet) (z : ℕ) → slice_get groups 0 ≡ Some g → IsCurrent groups z → HasZone g.bits z
+pub current_of : (groups : List ZoneSet) (g : ZoneSet) (z : ℕ) → slice_get groups 0 ≡ Some g → IsCurrent groups z
+    → HasZone g.bits z
 current_of [] g z e h = absurd h
 current_of (x ∷ xs) g z e h = subst (λ (y : ZoneSet). HasZone y.bits z) (some_one x g e) h
 
-module _ (c : CollectorState) (zone : ℕ) (formed : IsFormed c) (current : IsCurrent c.groups zone) (found : slice_get c.heap.shape.states zone ≡ Some state.MarkBlackOnly) where
+module _ (c : CollectorState) (zone : ℕ) (formed : IsFormed c) (current : IsCurrent c.groups zone)
+    (found : slice_get c.heap.shape.states zone ≡ Some state.MarkBlackOnly) where
   abbrev states : List State
   states = slice_set c.heap.shape.states zone state.MarkBlackAndGray
 
@@ -56,14 +61,16 @@ module _ (c : CollectorState) (zone : ℕ) (formed : IsFormed c) (current : IsCu
   was = ap state_or found
 
   now : state_in next.shape zone ≡ state.MarkBlackAndGray
-  now = ap state_or (slice_get-set_same c.heap.shape.states zone state.MarkBlackAndGray (within_list c.heap.shape.states zone state.MarkBlackOnly found))
+  now = ap state_or (slice_get-set_same c.heap.shape.states zone state.MarkBlackAndGray
+      (within_list c.heap.shape.states zone state.MarkBlackOnly found))
 
   elsewhere : (z : ℕ) → z ≢ zone → state_in next.shape z ≡ state_in c.heap.shape z
   elsewhere z ne = ap state_or (slice_get-set_other c.heap.shape.states zone z state.MarkBlackAndGray ne)
 
   marking_same : (z : ℕ) → is_marking_state (state_in next.shape z) ≡ is_marking_state (state_in c.heap.shape z)
   marking_same z = elim (cases_eq z zone) [
-    | inl is ↦ ap is_marking_state (ap (state_in next.shape) is ∙ now) ∙ sym (ap is_marking_state (ap (state_in c.heap.shape) is ∙ was))
+    | inl is ↦ ap is_marking_state (ap (state_in next.shape) is ∙ now)
+        ∙ sym (ap is_marking_state (ap (state_in c.heap.shape) is ∙ was))
     | inr ne ↦ ap is_marking_state (elsewhere z ne)
   ]
 
@@ -112,15 +119,25 @@ module _ (c : CollectorState) (zone : ℕ) (formed : IsFormed c) (current : IsCu
     running = ap is_some formed.1;
     made_is = refl;
     weak_is = refl;
-    less = less _ _ _ _ _ _ _ fewer (arenas_same c.heap.shape next.shape c.heap.shape.arenas marking_same) (none_grouping next.shape) (none_grouping c.heap.shape);
+    less = less _ _ _ _ _ _ _ fewer (arenas_same c.heap.shape next.shape c.heap.shape.arenas marking_same)
+        (none_grouping next.shape) (none_grouping c.heap.shape);
   }
 
-  pub zone_goes : (h : HeapState) → h ≡ next → (flown : ℕ → Option Bits) → IsSound c flown → GoesOn c flown [] (record c { heap = h }) flown
-  zone_goes h e flown s = subst (λ (k : HeapState). GoesOn c flown [] (record c { heap = k }) flown) (sym e) (goes flown)
+  pub zone_goes : (h : HeapState) → h ≡ next → (flown : ℕ → Option Bits) → IsSound c flown
+      → GoesOn c flown [] (record c { heap = h }) flown
+  zone_goes h e flown s = subst (λ (k : HeapState). GoesOn c flown [] (record c { heap = k }) flown) (sym e)
+      (goes flown)
 
 -- what a zone's advance leaves, by its state before
-pub advanced_to : (h : HeapState) (zone : ℕ) (k : HeapState) → slice_get h.shape.states zone ≡ Some state.MarkBlackOnly → IsSomeAnd (slice_get h.shape.states zone) (λ s. k ≡ record h { shape = record h.shape { states = slice_set h.shape.states zone (next_state s) } }) → k ≡ record h { shape = record h.shape { states = slice_set h.shape.states zone state.MarkBlackAndGray } }
-advanced_to h zone k e ok = subst (λ (o : Option State). IsSomeAnd o (λ s. k ≡ record h { shape = record h.shape { states = slice_set h.shape.states zone (next_state s) } })) e ok
+pub advanced_to : (h : HeapState) (zone : ℕ) (k : HeapState) → slice_get h.shape.states zone ≡ Some state.MarkBlackOnly
+    → IsSomeAnd (slice_get h.shape.states zone)
+    (λ s. k ≡ record h { shape = record h.shape { states = slice_set h.shape.states zone (next_state s) } })
+    → k ≡ record h { shape = record h.shape { states = slice_set h.shape.states zone state.MarkBlackAndGray } }
+advanced_to h zone k e ok =
+    subst (λ (o : Option State).
+    IsSomeAnd o (λ s. k ≡ record h {
+      shape = record h.shape { states = slice_set h.shape.states zone (next_state s) };
+    })) e ok
 
 -- a state, by what is found
 found_state : (o : Option State) → state_or o ≡ state.MarkBlackOnly → o ≡ Some state.MarkBlackOnly
@@ -128,11 +145,15 @@ found_state None e = absurd (cc e)
 found_state (Some s) e = ap (λ (t : State). Some t) e
 
 -- where no zone of the group waits to begin, all have
-pub all_begun : (c : CollectorState) (flown : ℕ → Option Bits) → IsSound c flown → IsFormed c → (g : ZoneSet) → slice_get c.groups 0 ≡ Some g → ((z : ℕ) → HasZone g.bits z → slice_get c.heap.shape.states z ≡ Some state.MarkBlackOnly → ⊥) → AreGraying c.heap.shape g.bits
+pub all_begun : (c : CollectorState) (flown : ℕ → Option Bits) → IsSound c flown → IsFormed c → (g : ZoneSet)
+    → slice_get c.groups 0 ≡ Some g
+    → ((z : ℕ) → HasZone g.bits z → slice_get c.heap.shape.states z ≡ Some state.MarkBlackOnly → ⊥)
+    → AreGraying c.heap.shape g.bits
 all_begun c flown s formed g at none z = (on, back)
   where
     runs : (k : Collection) × Runs (heap_with c flown) c s.world formed.0 k
-    runs = (let k = collection_of c (heap_with c flown) s.world formed.0 formed.1 s.represents.runs in (k.0, runs_of c (heap_with c flown) s.world formed.0 k.0 formed.1 k.1 s.represents.runs))
+    runs = (let k = collection_of c (heap_with c flown) s.world formed.0 formed.1 s.represents.runs in
+        (k.0, runs_of c (heap_with c flown) s.world formed.0 k.0 formed.1 k.1 s.represents.runs))
 
     on : HasZone g.bits z → state_in c.heap.shape z ≡ state.MarkBlackAndGray
     on h = elim (runs.1.states.later formed.2 z (current_in_groups c.groups z (current_is c.groups g z at h))) [
@@ -145,19 +166,31 @@ all_begun c flown s formed g at none z = (on, back)
     back e = elim (has_zone_or_not g.bits z) [
       | inl h ↦ h
       | inr out ↦ (
-          let not_in : IsInGroups c.groups z → ⊥ = λ i. elim (runs.1.states.later formed.2 z i) [ inl only ↦ cc (e, only) | inr both ↦ out (current_of c.groups g z at both.0) ] in
-          let not_run : HasZone formed.0.zones.bits z → ⊥ = λ h. elim (runs.1.states.ended formed.2 z h not_in) [ inl sw ↦ cc (e, sw) | inr fin ↦ cc (e, fin) ] in
+          let not_in : IsInGroups c.groups z
+          → ⊥ = λ i. elim (runs.1.states.later formed.2 z i) [
+            | inl only ↦ cc (e, only)
+            | inr both
+                ↦ out (current_of c.groups g z at both.0)
+          ] in
+          let not_run : HasZone formed.0.zones.bits z
+          → ⊥ = λ h. elim (runs.1.states.ended formed.2 z h not_in) [ inl sw ↦ cc (e, sw) | inr fin ↦ cc (e, fin) ]
+          in
           absurd (let no = runs.1.states.outside z not_run in cc (e, no))
           )
     ]
 
 -- a zone of the current group that waits to begin has not begun
-pub not_begun : (c : CollectorState) (g : ZoneSet) (z : ℕ) → slice_get c.groups 0 ≡ Some g → HasZone g.bits z → slice_get c.heap.shape.states z ≡ Some state.MarkBlackOnly → HasBegun c → ⊥
-not_begun c g z at h found begun = (let both = (begun g at z).0 h in let only : state_in c.heap.shape z ≡ state.MarkBlackOnly = ap state_or found in cc (both, only))
+pub not_begun : (c : CollectorState) (g : ZoneSet) (z : ℕ) → slice_get c.groups 0 ≡ Some g → HasZone g.bits z
+    → slice_get c.heap.shape.states z ≡ Some state.MarkBlackOnly → HasBegun c → ⊥
+not_begun c g z at h found begun =
+    (let both = (begun g at z).0 h in let only : state_in c.heap.shape z ≡ state.MarkBlackOnly = ap state_or found in
+    cc (both, only))
 
 -- the zones of two words, by taking away twice
-pub in_both : (g w a b : ℕ) → ((z : ℕ) → HasZone a z ↔ (HasZone g z × (HasZone w z → ⊥))) → ((z : ℕ) → HasZone b z ↔ (HasZone g z × (HasZone a z → ⊥))) → (z : ℕ) → HasZone b z ↔ (HasZone g z × HasZone w z)
+pub in_both : (g w a b : ℕ) → ((z : ℕ) → HasZone a z ↔ (HasZone g z × (HasZone w z → ⊥)))
+    → ((z : ℕ) → HasZone b z ↔ (HasZone g z × (HasZone a z → ⊥))) → (z : ℕ) → HasZone b z ↔ (HasZone g z × HasZone w z)
 in_both g w a b first second z = (
-  λ h. (let both = (second z).0 h in elim (has_zone_or_not w z) [ inl has ↦ (both.0, has) | inr none ↦ absurd (both.1 ((first z).1 (both.0, none))) ]),
+  λ h. (let both = (second z).0 h in
+      elim (has_zone_or_not w z) [ inl has ↦ (both.0, has) | inr none ↦ absurd (both.1 ((first z).1 (both.0, none))) ]),
   λ both. (second z).1 (both.0, λ h. ((first z).0 h).1 both.1),
 )

@@ -1,5 +1,6 @@
 -- The beginning step of a zone is quiet.
-use Rattle.std.proofs.Common.{◌≡◌, ◌≢◌, ◌⊎◌, ◌↔◌, ℕ, true, false, List, length, Option, None, Some, Contains, inl, inr, refl, sym, ap, subst, ◌∙◌}
+use Rattle.std.proofs.Common.{◌≡◌, ◌≢◌, ◌⊎◌, ◌↔◌, ℕ, true, false, List, length, Option, None, Some, Contains, inl, inr}
+use Rattle.std.proofs.Common.{refl, sym, ap, subst, ◌∙◌}
 use Rattle.std.proofs.lemmas.Bool.{cases_eq}
 use Rattle.gz_names.specs.declared.numbers.Place.{Place}
 use Rattle.cell_bits.specs.declared.bits.Bits.{Bits}
@@ -14,18 +15,29 @@ use Rattle.barriers.specs.PendingLive.{GrayInvariant, PendingLive, buffer_of}
 use Rattle.slice_driver.specs.Collector.{CollectorState, heap_with}
 use Rattle.slice_driver.specs.Quiet.{BeginsZone, IsQuiet, IsStateAfter}
 use Rattle.slice_driver.specs.Represents.{Represents, WaitsWhileMarking}
-use Rattle.slice_driver.proofs.marking.Marks.{HasSameMarks, black_on, gray_kept, live_back, live_on, marks_kept, pending_back, pending_on}
+use Rattle.slice_driver.proofs.marking.Marks.{HasSameMarks, black_on, gray_kept, live_back, live_on, marks_kept}
+use Rattle.slice_driver.proofs.marking.Marks.{pending_back, pending_on}
 use Rattle.slice_driver.proofs.marking.Worlds.{flies_same}
 
-module _ (c d : CollectorState) (zone : ℕ) (flown : ℕ → Option Bits) (w : World) (s : Represents c flown w) (b : BeginsZone c zone d) where
+module _ (c d : CollectorState) (zone : ℕ) (flown : ℕ → Option Bits) (w : World) (s : Represents c flown w)
+    (b : BeginsZone c zone d) where
   states : (z : ℕ) → IsStateAfter c z (state_in d.heap.shape z)
   states z = elim (cases_eq z zone) [
-    | inl is ↦ inr (b.formed, subst (λ n. Rattle.slice_driver.specs.Represents.IsCurrent c.groups n) (sym is) b.current, ap (state_in c.heap.shape) is ∙ b.was, ap (state_in d.heap.shape) is ∙ b.now)
+    | inl is ↦ inr (
+      b.formed,
+      subst (λ n. Rattle.slice_driver.specs.Represents.IsCurrent c.groups n) (sym is) b.current,
+      ap (state_in c.heap.shape) is ∙ b.was,
+      ap (state_in d.heap.shape) is ∙ b.now,
+    )
     | inr ne ↦ inl (b.others z ne)
   ]
 
   marking_same : (z : ℕ) → is_marking_state (state_in d.heap.shape z) ≡ is_marking_state (state_in c.heap.shape z)
-  marking_same z = elim (states z) [ inl e ↦ ap is_marking_state e | inr next ↦ ap is_marking_state next.3 ∙ sym (ap is_marking_state next.2) ]
+  marking_same z = elim (states z) [
+    | inl e ↦ ap is_marking_state e
+    | inr next ↦ ap is_marking_state next.3
+        ∙ sym (ap is_marking_state next.2)
+  ]
 
   same_marks : HasSameMarks (heap_with c flown) (heap_with d flown)
   same_marks = record {
@@ -46,24 +58,41 @@ module _ (c d : CollectorState) (zone : ℕ) (flown : ℕ → Option Bits) (w : 
     buffers = ap (λ (z : HeapState). z.buffers) b.heap_is;
     marking = marking_same;
     black_only = λ z only. elim (states z) [ inl e ↦ sym e ∙ only | inr next ↦ absurd (cc (only, next.3)) ];
-    kept = λ p m. ap (λ (z : HeapState). out_of z.shape p.0) b.heap_is ∙ s.marks.holds.colours.shape.kept p (ap (λ (z : HeapState). is_marking_state (state_in c.heap.shape (zone_of z.shape p))) (sym b.heap_is) ∙ sym (marking_same (zone_of d.heap.shape p)) ∙ m);
+    kept = λ p m. ap (λ (z : HeapState). out_of z.shape p.0) b.heap_is
+        ∙ s.marks.holds.colours.shape.kept p
+        (ap (λ (z : HeapState). is_marking_state (state_in c.heap.shape (zone_of z.shape p))) (sym b.heap_is)
+        ∙ sym (marking_same (zone_of d.heap.shape p)) ∙ m);
   }
 
   waits : WaitsWhileMarking d
   waits = record {
     gray = λ none. absurd (none zone b.now);
-    buffered = λ z quiet. ap (λ (h : HeapState). buffer_of h z) b.heap_is ∙ s.waits.buffered z (sym (marking_same z) ∙ quiet);
-    incoming = λ n p held. (let i = s.waits.incoming n p (subst (λ (l : Incoming). Contains (waiting_for l n) p) b.lists_is held) in
-        (i.0, ap (λ (h : HeapState). Rattle.std.proofs.Common.slice_get h.shape.comps n) b.heap_is ∙ i.1, marking_same i.0 ∙ i.2));
+    buffered = λ z quiet. ap (λ (h : HeapState). buffer_of h z) b.heap_is
+        ∙ s.waits.buffered z (sym (marking_same z) ∙ quiet);
+    incoming = λ n p held.
+        (let i = s.waits.incoming n p (subst (λ (l : Incoming). Contains (waiting_for l n) p) b.lists_is held) in (
+          i.0,
+          ap (λ (h : HeapState). Rattle.std.proofs.Common.slice_get h.shape.comps n) b.heap_is ∙ i.1,
+          marking_same i.0 ∙ i.2,
+        ));
   }
 
   black_same : (p : Place) → PendingBlack (heap_with d flown) d.stack p ↔ PendingBlack (heap_with c flown) c.stack p
-  black_same p = subst (λ (x : Piles). PendingBlack (heap_with d flown) x p ↔ PendingBlack (heap_with c flown) c.stack p) (sym b.stack_is) (λ l. pending_back (heap_with c flown) (heap_with d flown) same_marks c.stack l, λ l. pending_on (heap_with c flown) (heap_with d flown) same_marks c.stack l)
+  black_same p = subst (λ (x : Piles). PendingBlack (heap_with d flown) x p
+      ↔ PendingBlack (heap_with c flown) c.stack p) (sym b.stack_is) (
+        λ l. pending_back (heap_with c flown) (heap_with d flown) same_marks c.stack l,
+        λ l. pending_on (heap_with c flown) (heap_with d flown) same_marks c.stack l,
+      )
 
-  live_same : (p : Place) → PendingLive (heap_with d flown) d.stack d.lists p ↔ PendingLive (heap_with c flown) c.stack c.lists p
-  live_same p = subst (λ (x : Piles). PendingLive (heap_with d flown) x d.lists p ↔ PendingLive (heap_with c flown) c.stack c.lists p) (sym b.stack_is)
-      (subst (λ (x : Incoming). PendingLive (heap_with d flown) c.stack x p ↔ PendingLive (heap_with c flown) c.stack c.lists p) (sym b.lists_is)
-      (λ l. live_back (heap_with c flown) (heap_with d flown) same_marks c.stack c.lists l, λ l. live_on (heap_with c flown) (heap_with d flown) same_marks c.stack c.lists l))
+  live_same : (p : Place) → PendingLive (heap_with d flown) d.stack d.lists p
+      ↔ PendingLive (heap_with c flown) c.stack c.lists p
+  live_same p = subst (λ (x : Piles). PendingLive (heap_with d flown) x d.lists p
+      ↔ PendingLive (heap_with c flown) c.stack c.lists p) (sym b.stack_is)
+      (subst (λ (x : Incoming). PendingLive (heap_with d flown) c.stack x p
+      ↔ PendingLive (heap_with c flown) c.stack c.lists p) (sym b.lists_is) (
+        λ l. live_back (heap_with c flown) (heap_with d flown) same_marks c.stack c.lists l,
+        λ l. live_on (heap_with c flown) (heap_with d flown) same_marks c.stack c.lists l,
+      ))
 
   pub begins_quiet : IsQuiet c flown d flown
   begins_quiet = record {
@@ -74,8 +103,11 @@ module _ (c d : CollectorState) (zone : ℕ) (flown : ℕ → Option Bits) (w : 
     sized = b.sized;
     states = states;
     flies = flies_same c.heap.shape d.heap.shape flown (ap (λ (z : HeapState). z.shape.arenas) b.heap_is) s.flies;
-    marks = subst (λ p. MarkingInvariant (heap_with d flown) p) (sym b.stack_is) (marks_kept (heap_with c flown) (heap_with d flown) same_marks c.stack s.marks);
-    gray = subst (λ p. GrayInvariant (heap_with d flown) p d.lists) (sym b.stack_is) (subst (λ l. GrayInvariant (heap_with d flown) c.stack l) (sym b.lists_is) (gray_kept (heap_with c flown) (heap_with d flown) same_marks c.stack c.lists s.gray));
+    marks = subst (λ p. MarkingInvariant (heap_with d flown) p) (sym b.stack_is)
+        (marks_kept (heap_with c flown) (heap_with d flown) same_marks c.stack s.marks);
+    gray = subst (λ p. GrayInvariant (heap_with d flown) p d.lists) (sym b.stack_is)
+        (subst (λ l. GrayInvariant (heap_with d flown) c.stack l) (sym b.lists_is)
+        (gray_kept (heap_with c flown) (heap_with d flown) same_marks c.stack c.lists s.gray));
     waits = waits;
     darker = λ p. black_on (heap_with c flown) (heap_with d flown) same_marks p;
     black = black_same;

@@ -1,5 +1,7 @@
 -- What is left of a collection becomes less: zones go on, and arenas come in.
-use Rattle.std.proofs.Common.{◌≡◌, ◌<◌, ◌≤◌, ◌+◌, ◌||◌, ℕ, zero, suc, Bool, true, false, if◌then◌else◌, cond, Option, None, Some, IsSome, is_some, List, [], ◌∷◌, length, slice_get, refl, sym, ap, ◌∙◌, inl, inr, arith}
+use Rattle.std.proofs.Common.{◌≡◌, ◌<◌, ◌≤◌, ◌+◌, ◌||◌, ℕ, zero, suc, Bool, true, false, if◌then◌else◌, cond, Option}
+use Rattle.std.proofs.Common.{None, Some, IsSome, is_some, List, [], ◌∷◌, length, slice_get, refl, sym, ap, ◌∙◌, inl}
+use Rattle.std.proofs.Common.{inr, arith}
 use Rattle.gz_names.specs.declared.zone_sets.ZoneSet.{ZoneSet}
 use Rattle.cell_bits.specs.declared.bits.Bits.{Bits}
 use Rattle.zones.specs.declared.states.State.{State}
@@ -20,16 +22,23 @@ use Rattle.slice_driver.specs.Sweeping.{after_sweep}
 use Rattle.slice_driver.proofs.group_end.Cells.{some_out}
 
 -- what is left to mark, by the colours and the buffers alone
-pub work_same : (h k : HeapState) (p : Piles) (lists : Incoming) → k.colours ≡ h.colours → k.buffers ≡ h.buffers → work_left k p lists ≡ work_left h p lists
+pub work_same : (h k : HeapState) (p : Piles) (lists : Incoming) → k.colours ≡ h.colours → k.buffers ≡ h.buffers
+    → work_left k p lists ≡ work_left h p lists
 work_same h k p lists colours buffers =
-    ap (λ (cs : List Bits). work_left (record k { colours = cs }) p lists) colours ∙ ap (λ (bs : List (List Rattle.gz_names.specs.declared.numbers.Place.Place)). work_left (record k { colours = h.colours; buffers = bs }) p lists) buffers
+    ap (λ (cs : List Bits). work_left (record k { colours = cs }) p lists) colours
+    ∙ ap (λ (bs : List (List Rattle.gz_names.specs.declared.numbers.Place.Place)).
+    work_left (record k { colours = h.colours; buffers = bs }) p lists) buffers
 
 -- nothing is left of the grouping
 pub grouped : (s : Shape) (n : Noted) (r : RunState) → r.formed ≡ true → grouping_left s n (Some r) ≡ 0
-grouped s n r formed = ap (λ (b : Bool). if b then 0 else Rattle.zone_edges.specs.Looks.left_to_look s n + Rattle.slice_driver.specs.Left.ungrouped_below n 64) formed
+grouped s n r formed =
+    ap (λ (b : Bool). if b then 0 else Rattle.zone_edges.specs.Looks.left_to_look s n
+    + Rattle.slice_driver.specs.Left.ungrouped_below n 64) formed
 
 -- no zone has more steps to go
-pub no_more_steps : (xs ys : List State) → length ys ≡ length xs → ((z : ℕ) → steps_of (state_or (slice_get ys z)) ≤ steps_of (state_or (slice_get xs z))) → steps_left ys ≤ steps_left xs
+pub no_more_steps : (xs ys : List State) → length ys ≡ length xs
+    → ((z : ℕ) → steps_of (state_or (slice_get ys z)) ≤ steps_of (state_or (slice_get xs z)))
+    → steps_left ys ≤ steps_left xs
 no_more_steps [] [] sized less = omega arith
 no_more_steps [] (y ∷ ys) sized less = absurd (omega arith)
 no_more_steps (x ∷ xs) [] sized less = absurd (omega arith)
@@ -39,7 +48,9 @@ no_more_steps (x ∷ xs) (y ∷ ys) sized less =
     omega (arith, rest, first)
 
 -- and one has fewer
-pub fewer_steps : (xs ys : List State) (i : ℕ) → length ys ≡ length xs → ((z : ℕ) → steps_of (state_or (slice_get ys z)) ≤ steps_of (state_or (slice_get xs z))) → steps_of (state_or (slice_get ys i)) < steps_of (state_or (slice_get xs i)) → steps_left ys < steps_left xs
+pub fewer_steps : (xs ys : List State) (i : ℕ) → length ys ≡ length xs
+    → ((z : ℕ) → steps_of (state_or (slice_get ys z)) ≤ steps_of (state_or (slice_get xs z)))
+    → steps_of (state_or (slice_get ys i)) < steps_of (state_or (slice_get xs i)) → steps_left ys < steps_left xs
 fewer_steps [] [] i sized less fewer = absurd (omega (arith, fewer))
 fewer_steps [] (y ∷ ys) i sized less fewer = absurd (omega arith)
 fewer_steps (x ∷ xs) [] i sized less fewer = absurd (omega arith)
@@ -59,30 +70,40 @@ abbrev pub one_if : Bool → ℕ
 one_if b = if b then 1 else 0
 
 -- by what is marking alone
-pub arenas_same : (s t : Shape) (arenas : List ArenaShape) → ((z : ℕ) → is_marking_state (state_in t z) ≡ is_marking_state (state_in s z)) → arenas_left t arenas ≡ arenas_left s arenas
+pub arenas_same : (s t : Shape) (arenas : List ArenaShape)
+    → ((z : ℕ) → is_marking_state (state_in t z) ≡ is_marking_state (state_in s z))
+    → arenas_left t arenas ≡ arenas_left s arenas
 arenas_same s t [] same = refl
 arenas_same s t (arena ∷ arenas) same =
-    ap (λ (b : Bool). one_if (is_some arena.out || b) + arenas_left t arenas) (same arena.zone) ∙ ap (λ (n : ℕ). one_if (is_left s arena) + n) (arenas_same s t arenas same)
+    ap (λ (b : Bool). one_if (is_some arena.out || b) + arenas_left t arenas) (same arena.zone)
+    ∙ ap (λ (n : ℕ). one_if (is_left s arena) + n) (arenas_same s t arenas same)
 
 -- an arena of a zone that is not marking came in
-pub arenas_taken : (s : Shape) (freed a : ℕ) (arenas : List ArenaShape) (arena : ArenaShape) → slice_get arenas a ≡ Some arena → IsSome arena.out → is_marking_state (state_in s arena.zone) ≡ false → arenas_left s (change_at (come_in freed) arenas a) + 1 ≡ arenas_left s arenas
+pub arenas_taken : (s : Shape) (freed a : ℕ) (arenas : List ArenaShape) (arena : ArenaShape)
+    → slice_get arenas a ≡ Some arena → IsSome arena.out → is_marking_state (state_in s arena.zone) ≡ false
+    → arenas_left s (change_at (come_in freed) arenas a) + 1 ≡ arenas_left s arenas
 arenas_taken s freed a [] arena at out idle = absurd (cc at)
 arenas_taken s freed zero (x ∷ arenas) arena at out idle =
     let is : x ≡ arena = Rattle.slice_driver.proofs.abstraction.Named.some_one _ _ at in
-    let now : one_if (is_left s (come_in freed x)) ≡ 0 = ap (λ (y : ArenaShape). one_if (is_marking_state (state_in s y.zone))) is ∙ ap one_if idle in
-    let was : one_if (is_left s x) ≡ 1 = ap (λ (y : ArenaShape). one_if (is_left s y)) is ∙ ap (λ (b : Bool). one_if (b || is_marking_state (state_in s arena.zone))) out in
+    let now : one_if (is_left s (come_in freed x)) ≡ 0 =
+    ap (λ (y : ArenaShape). one_if (is_marking_state (state_in s y.zone))) is ∙ ap one_if idle in
+    let was : one_if (is_left s x) ≡ 1 = ap (λ (y : ArenaShape). one_if (is_left s y)) is
+    ∙ ap (λ (b : Bool). one_if (b || is_marking_state (state_in s arena.zone))) out in
     omega (arith, now, was)
 arenas_taken s freed (suc a) (x ∷ arenas) arena at out idle =
     let rest = arenas_taken s freed a arenas arena at out idle in
     omega (arith, rest)
 
 -- the arenas of marking zones went out, and the zones are not marking any more
-pub arenas_handed : (s t : Shape) (word : ℕ) (arenas : List ArenaShape) (colours : List Bits) → length colours ≡ length arenas
-    → ((z : ℕ) → in_zones word z ≡ true → is_marking_state (state_in s z) ≡ true) → ((z : ℕ) → in_zones word z ≡ false → is_marking_state (state_in t z) ≡ is_marking_state (state_in s z))
+pub arenas_handed : (s t : Shape) (word : ℕ) (arenas : List ArenaShape) (colours : List Bits)
+    → length colours ≡ length arenas
+    → ((z : ℕ) → in_zones word z ≡ true → is_marking_state (state_in s z) ≡ true)
+    → ((z : ℕ) → in_zones word z ≡ false → is_marking_state (state_in t z) ≡ is_marking_state (state_in s z))
     → arenas_left t (handed word arenas colours) ≤ arenas_left s arenas
 arenas_handed s t word [] colours sized here others = omega arith
 arenas_handed s t word (arena ∷ arenas) [] sized here others = absurd (omega arith)
-arenas_handed s t word (arena ∷ arenas) (bits ∷ colours) sized here others = go (in_zones word arena.zone) refl (arenas_handed s t word arenas colours (omega arith) here others)
+arenas_handed s t word (arena ∷ arenas) (bits ∷ colours) sized here others =
+    go (in_zones word arena.zone) refl (arenas_handed s t word arenas colours (omega arith) here others)
   where
     most : (b : Bool) → one_if b ≤ 1
     most true = omega arith
@@ -92,12 +113,15 @@ arenas_handed s t word (arena ∷ arenas) (bits ∷ colours) sized here others =
     full true c e = refl
     full false c e = ap one_if e
 
-    go : (b : Bool) → in_zones word arena.zone ≡ b → arenas_left t (handed word arenas colours) ≤ arenas_left s arenas → arenas_left t (cond b (record arena { out = Some bits }) arena ∷ handed word arenas colours) ≤ arenas_left s (arena ∷ arenas)
+    go : (b : Bool) → in_zones word arena.zone ≡ b → arenas_left t (handed word arenas colours) ≤ arenas_left s arenas
+        → arenas_left t (cond b (record arena { out = Some bits }) arena ∷ handed word arenas colours)
+        ≤ arenas_left s (arena ∷ arenas)
     go true e rest =
         let was = full (is_some arena.out) (is_marking_state (state_in s arena.zone)) (here arena.zone e) in
         omega (arith, was, rest)
     go false e rest =
-        let same : one_if (is_left t arena) ≡ one_if (is_left s arena) = ap (λ (b : Bool). one_if (is_some arena.out || b)) (others arena.zone e) in
+        let same : one_if (is_left t arena) ≡ one_if (is_left s arena) =
+        ap (λ (b : Bool). one_if (is_some arena.out || b)) (others arena.zone e) in
         omega (arith, same, rest)
 
 swept_steps : (t : State) → steps_of (after_sweep t) ≡ steps_of t
@@ -136,7 +160,8 @@ module _ (h k : HeapState) (groups : List ZoneSet) (over : Bool) (e : EndsSweepi
     | inr none ↦ go over refl none
   ]
     where
-      go : (b : Bool) → over ≡ b → ((a : ℕ) → out_of h.shape a ≡ None) → steps_of (state_in k.shape z) ≡ steps_of (state_in h.shape z)
+      go : (b : Bool) → over ≡ b → ((a : ℕ) → out_of h.shape a ≡ None)
+          → steps_of (state_in k.shape z) ≡ steps_of (state_in h.shape z)
       go true is none = ap steps_of ((e.ended is).2 z) ∙ ended_steps (state_in h.shape z)
       go false is none = ap steps_of ((e.swept none is).1 z) ∙ swept_steps (state_in h.shape z)
 
@@ -146,17 +171,20 @@ module _ (h k : HeapState) (groups : List ZoneSet) (over : Bool) (e : EndsSweepi
     | inr none ↦ go over refl none
   ]
     where
-      go : (b : Bool) → over ≡ b → ((a : ℕ) → out_of h.shape a ≡ None) → is_marking_state (state_in k.shape z) ≡ is_marking_state (state_in h.shape z)
+      go : (b : Bool) → over ≡ b → ((a : ℕ) → out_of h.shape a ≡ None) → is_marking_state (state_in k.shape z)
+          ≡ is_marking_state (state_in h.shape z)
       go true is none = ap is_marking_state ((e.ended is).2 z) ∙ ended_marking (state_in h.shape z)
       go false is none = ap is_marking_state ((e.swept none is).1 z) ∙ swept_marking (state_in h.shape z)
 
 -- bits in flight that are the heap's own
-pub own_flown : (g : ℕ → Option Bits) (n : ℕ) (colours : List Bits) → ((i : ℕ) (b : Bits) → g (n + i) ≡ Some b → slice_get colours i ≡ Some b) → with_flown g n colours ≡ colours
+pub own_flown : (g : ℕ → Option Bits) (n : ℕ) (colours : List Bits)
+    → ((i : ℕ) (b : Bits) → g (n + i) ≡ Some b → slice_get colours i ≡ Some b) → with_flown g n colours ≡ colours
 own_flown g n [] same = refl
 own_flown g n (own ∷ rest) same =
     let zero_more : n + 0 ≡ n = omega arith in
     let first : flown_or (g n) own ≡ own = go (g n) refl (λ b e. same 0 b (ap g zero_more ∙ e)) in
-    let more = own_flown g (suc n) rest (λ i b e. (let next : n + suc i ≡ suc n + i = omega arith in same (suc i) b (ap g next ∙ e))) in
+    let more = own_flown g (suc n) rest
+    (λ i b e. (let next : n + suc i ≡ suc n + i = omega arith in same (suc i) b (ap g next ∙ e))) in
     ap (λ (b : Bits). b ∷ with_flown g (suc n) rest) first ∙ ap (λ (bs : List Bits). own ∷ bs) more
   where
     go : (o : Option Bits) → g n ≡ o → ((b : Bits) → g n ≡ Some b → Some own ≡ Some b) → flown_or o own ≡ own

@@ -1,5 +1,6 @@
 -- The end of a group lowers what is left.
-use Rattle.std.proofs.Common.{◌≡◌, ◌<◌, ◌≤◌, ◌+◌, ℕ, zero, suc, Bool, true, false, if◌then◌else◌, cond, Option, None, Some, is_some, List, [], ◌∷◌, length, slice_get, refl, sym, ap, ◌∙◌, inl, inr, arith}
+use Rattle.std.proofs.Common.{◌≡◌, ◌<◌, ◌≤◌, ◌+◌, ℕ, zero, suc, Bool, true, false, if◌then◌else◌, cond, Option, None}
+use Rattle.std.proofs.Common.{Some, is_some, List, [], ◌∷◌, length, slice_get, refl, sym, ap, ◌∙◌, inl, inr, arith}
 use Rattle.gz_names.specs.Zones.{HasZone}
 use Rattle.gz_names.specs.declared.zone_sets.ZoneSet.{ZoneSet}
 use Rattle.cell_bits.specs.declared.bits.Bits.{Bits}
@@ -16,14 +17,17 @@ use Rattle.slice_driver.specs.HandingOut.{HandsOut}
 use Rattle.slice_driver.specs.Left.{arenas_left, grouping_left, steps_left, steps_of, units_left}
 use Rattle.slice_driver.specs.Units.{AreJobs, IsSound, flown_by, flying_after}
 use Rattle.slice_driver.proofs.group_end.EndReady.{sized_here}
-use Rattle.slice_driver.proofs.measure.Fewer.{arenas_handed, fewer_steps, grouped, marking_kept, own_flown, steps_kept, work_same}
+use Rattle.slice_driver.proofs.measure.Fewer.{arenas_handed, fewer_steps, grouped, marking_kept, own_flown, steps_kept}
+use Rattle.slice_driver.proofs.measure.Fewer.{work_same}
 use Rattle.slice_driver.proofs.group_end.Cells.{has_in_zones, in_zones_has, zone_or_not}
 use Rattle.slice_driver.proofs.group_end.Laws.{jobs_flown}
 use Rattle.slice_driver.proofs.group_end.Ready.{collection_of, no_some, some_zone}
 use Rattle.slice_driver.proofs.group_end.GroupEnding.{group_swept, others_stay}
 
 -- what an arena has as it goes out is the heap's
-handed_bits : (word : ℕ) (arenas : List ArenaShape) (colours : List Bits) → ((a : ℕ) → out_in (slice_get arenas a) ≡ None) → (i : ℕ) (b : Bits) → out_in (slice_get (handed word arenas colours) i) ≡ Some b → slice_get colours i ≡ Some b
+handed_bits : (word : ℕ) (arenas : List ArenaShape) (colours : List Bits)
+    → ((a : ℕ) → out_in (slice_get arenas a) ≡ None) → (i : ℕ) (b : Bits)
+    → out_in (slice_get (handed word arenas colours) i) ≡ Some b → slice_get colours i ≡ Some b
 handed_bits word [] colours kept i b e = absurd (cc e)
 handed_bits word (arena ∷ arenas) [] kept i b e = absurd (cc e)
 handed_bits word (arena ∷ arenas) (bits ∷ colours) kept zero b e = go (in_zones word arena.zone) e
@@ -31,9 +35,12 @@ handed_bits word (arena ∷ arenas) (bits ∷ colours) kept zero b e = go (in_zo
     go : (t : Bool) → (cond t (record arena { out = Some bits }) arena).out ≡ Some b → Some bits ≡ Some b
     go true e = e
     go false e = absurd (let none = kept 0 in cc (none, e))
-handed_bits word (arena ∷ arenas) (bits ∷ colours) kept (suc i) b e = handed_bits word arenas colours (λ a. kept (suc a)) i b e
+handed_bits word (arena ∷ arenas) (bits ∷ colours) kept (suc i) b e =
+    handed_bits word arenas colours (λ a. kept (suc a)) i b e
 
-module _ (c : CollectorState) (g : ZoneSet) (rest : List ZoneSet) (ready : IsReady c g rest) (jobs : Option (List Job)) (m : HeapState) (out : HandsOut c.heap g jobs m) (flown : ℕ → Option Bits) (s : IsSound c flown) (k : HeapState) (over : Bool) (e : EndsSweeping m rest over k) where
+module _ (c : CollectorState) (g : ZoneSet) (rest : List ZoneSet) (ready : IsReady c g rest) (jobs : Option (List Job))
+    (m : HeapState) (out : HandsOut c.heap g jobs m) (flown : ℕ → Option Bits) (s : IsSound c flown) (k : HeapState)
+    (over : Bool) (e : EndsSweeping m rest over k) where
   none_flown : (a : ℕ) → flown a ≡ None
   none_flown a = no_some (flown a) (s.represents.flies.covers a ∙ ap is_some (ready.kept a))
 
@@ -41,36 +48,46 @@ module _ (c : CollectorState) (g : ZoneSet) (rest : List ZoneSet) (ready : IsRea
   sized = sized_here c flown ready.kept s
 
   arenas_are : k.shape.arenas ≡ handed g.bits c.heap.shape.arenas c.heap.colours
-  arenas_are = ap (λ (x : HeapState). x.shape.arenas) e.rest ∙ (ap (λ (x : HeapState). x.shape.arenas) out.goes.rest ∙ ap (λ (x : HeapState). x.shape.arenas) out.drops.rest)
+  arenas_are = ap (λ (x : HeapState). x.shape.arenas) e.rest
+      ∙ (ap (λ (x : HeapState). x.shape.arenas) out.goes.rest ∙ ap (λ (x : HeapState). x.shape.arenas) out.drops.rest)
 
   colours_are : k.colours ≡ c.heap.colours
-  colours_are = ap (λ (x : HeapState). x.colours) e.rest ∙ (ap (λ (x : HeapState). x.colours) out.goes.rest ∙ ap (λ (x : HeapState). x.colours) out.drops.rest)
+  colours_are = ap (λ (x : HeapState). x.colours) e.rest
+      ∙ (ap (λ (x : HeapState). x.colours) out.goes.rest ∙ ap (λ (x : HeapState). x.colours) out.drops.rest)
 
   buffers_are : k.buffers ≡ c.heap.buffers
-  buffers_are = ap (λ (x : HeapState). x.buffers) e.rest ∙ (ap (λ (x : HeapState). x.buffers) out.goes.rest ∙ ap (λ (x : HeapState). x.buffers) out.drops.rest)
+  buffers_are = ap (λ (x : HeapState). x.buffers) e.rest
+      ∙ (ap (λ (x : HeapState). x.buffers) out.goes.rest ∙ ap (λ (x : HeapState). x.buffers) out.drops.rest)
 
   flown_own : (a : ℕ) (b : Bits) → flying_after jobs flown a ≡ Some b → slice_get c.heap.colours a ≡ Some b
   flown_own a b = go jobs out.jobs_are
     where
-      listed : flown_by (jobs_of g.bits 0 c.heap.shape.arenas c.heap.colours) a ≡ Some b → slice_get c.heap.colours a ≡ Some b
-      listed at = handed_bits g.bits c.heap.shape.arenas c.heap.colours ready.kept a b (ap (λ (xs : List ArenaShape). out_in (slice_get xs a)) (sym arenas_are) ∙ (sym (jobs_flown c.heap k g.bits sized ready.kept arenas_are a) ∙ at))
+      listed : flown_by (jobs_of g.bits 0 c.heap.shape.arenas c.heap.colours) a ≡ Some b
+          → slice_get c.heap.colours a ≡ Some b
+      listed at = handed_bits g.bits c.heap.shape.arenas c.heap.colours ready.kept a b
+          (ap (λ (xs : List ArenaShape). out_in (slice_get xs a)) (sym arenas_are)
+          ∙ (sym (jobs_flown c.heap k g.bits sized ready.kept arenas_are a) ∙ at))
 
-      go : (o : Option (List Job)) → AreJobs o (jobs_of g.bits 0 c.heap.shape.arenas c.heap.colours) → flying_after o flown a ≡ Some b → slice_get c.heap.colours a ≡ Some b
+      go : (o : Option (List Job)) → AreJobs o (jobs_of g.bits 0 c.heap.shape.arenas c.heap.colours)
+          → flying_after o flown a ≡ Some b → slice_get c.heap.colours a ≡ Some b
       go None is at = absurd (let none = none_flown a in cc (none, at))
       go (Some js) is at = listed (ap (λ (x : List Job). flown_by x a) (sym is.0) ∙ at)
 
   colours_same : with_flown (flying_after jobs flown) 0 k.colours ≡ with_flown flown 0 c.heap.colours
   colours_same =
       ap (with_flown (flying_after jobs flown) 0) colours_are
-      ∙ (own_flown (flying_after jobs flown) 0 c.heap.colours (λ i b at. (let z : 0 + i ≡ i = omega arith in flown_own i b (ap (flying_after jobs flown) (sym z) ∙ at)))
+      ∙ (own_flown (flying_after jobs flown) 0 c.heap.colours
+      (λ i b at. (let z : 0 + i ≡ i = omega arith in flown_own i b (ap (flying_after jobs flown) (sym z) ∙ at)))
       ∙ sym (own_flown flown 0 c.heap.colours (λ i b at. absurd (let none = none_flown (0 + i) in cc (none, at)))))
 
   steps_at : (z : ℕ) → steps_of (state_in k.shape z) ≤ steps_of (state_in c.heap.shape z)
   steps_at z =
       let same = steps_kept m k rest over e z in
       elim (zone_or_not g ready.small z) [
-        | inl has ↦ (let none : steps_of (state_in m.shape z) ≡ 0 = ap steps_of (group_swept c g rest ready jobs m out z has) in omega (arith, same, none))
-        | inr other ↦ (let as_was : steps_of (state_in m.shape z) ≡ steps_of (state_in c.heap.shape z) = ap steps_of (others_stay c g rest ready jobs m out z other) in omega (arith, same, as_was))
+        | inl has ↦ (let none : steps_of (state_in m.shape z) ≡ 0 =
+            ap steps_of (group_swept c g rest ready jobs m out z has) in omega (arith, same, none))
+        | inr other ↦ (let as_was : steps_of (state_in m.shape z) ≡ steps_of (state_in c.heap.shape z) =
+            ap steps_of (others_stay c g rest ready jobs m out z other) in omega (arith, same, as_was))
       ]
 
   a_zone : (z : ℕ) × HasZone g.bits z
@@ -85,22 +102,32 @@ module _ (c : CollectorState) (g : ZoneSet) (rest : List ZoneSet) (ready : IsRea
       let same = steps_kept m k rest over e z in
       let none : steps_of (state_in m.shape z) ≡ 0 = ap steps_of (group_swept c g rest ready jobs m out z a_zone.1) in
       let one : steps_of (state_in c.heap.shape z) ≡ 1 = ap steps_of (ready.marked.begun z a_zone.1) in
-      fewer_steps c.heap.shape.states k.shape.states z (e.sized ∙ (out.goes.sized ∙ ap (λ (x : HeapState). length x.shape.states) out.drops.rest)) steps_at (omega (arith, same, none, one))
+      fewer_steps c.heap.shape.states k.shape.states z
+      (e.sized ∙ (out.goes.sized ∙ ap (λ (x : HeapState). length x.shape.states) out.drops.rest)) steps_at
+      (omega (arith, same, none, one))
 
   arenas_less : arenas_left k.shape k.shape.arenas ≤ arenas_left c.heap.shape c.heap.shape.arenas
   arenas_less =
       let less = arenas_handed c.heap.shape k.shape g.bits c.heap.shape.arenas c.heap.colours sized
       (λ z here. ap is_marking_state (ready.marked.begun z (in_zones_has g ready.small z here)))
-      (λ z other. marking_kept m k rest over e z ∙ ap is_marking_state (others_stay c g rest ready jobs m out z (λ has. (let here = has_in_zones g z has in cc (here, other))))) in
-      let same : arenas_left k.shape k.shape.arenas ≡ arenas_left k.shape (handed g.bits c.heap.shape.arenas c.heap.colours) = ap (arenas_left k.shape) arenas_are in
+      (λ z other. marking_kept m k rest over e z
+      ∙ ap is_marking_state
+      (others_stay c g rest ready jobs m out z (λ has. (let here = has_in_zones g z has in cc (here, other))))) in
+      let same : arenas_left k.shape k.shape.arenas
+      ≡ arenas_left k.shape (handed g.bits c.heap.shape.arenas c.heap.colours) =
+      ap (arenas_left k.shape) arenas_are in
       omega (arith, less, same)
 
   none_to_group : grouping_left c.heap.shape c.edges c.run ≡ 0
-  none_to_group = ap (grouping_left c.heap.shape c.edges) ready.running ∙ grouped c.heap.shape c.edges ready.run ready.formed
+  none_to_group = ap (grouping_left c.heap.shape c.edges) ready.running
+      ∙ grouped c.heap.shape c.edges ready.run ready.formed
 
-  pub ending_lowers : units_left (record c { heap = k; groups = rest; run = if over then None else c.run }) (flying_after jobs flown) < units_left c flown
+  pub ending_lowers : units_left (record c { heap = k; groups = rest; run = if over then None else c.run })
+      (flying_after jobs flown) < units_left c flown
   ending_lowers =
-      let work = work_same (heap_with c flown) (heap_with (record c { heap = k; groups = rest; run = if over then None else c.run }) (flying_after jobs flown)) c.stack c.lists colours_same buffers_are in
+      let work = work_same (heap_with c flown)
+      (heap_with (record c { heap = k; groups = rest; run = if over then None else c.run })
+      (flying_after jobs flown)) c.stack c.lists colours_same buffers_are in
       let none : grouping_left k.shape c.edges (if over then None else c.run) ≡ 0 = go over in
       omega (arith, work, none, none_to_group, steps_less, arenas_less)
     where

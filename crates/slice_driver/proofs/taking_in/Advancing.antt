@@ -1,5 +1,6 @@
 -- Zones that go on to their next states one after another.
-use Rattle.std.proofs.Common.{◌≡◌, ◌≢◌, ◌<◌, ◌≤◌, ◌+◌, ℕ, length, length-set, refl, sym, ap, subst, ◌∙◌, inl, inr, arith, Option, Some, None, slice_get, slice_set, IsSomeAnd}
+use Rattle.std.proofs.Common.{◌≡◌, ◌≢◌, ◌<◌, ◌≤◌, ◌+◌, ℕ, length, length-set, refl, sym, ap, subst, ◌∙◌, inl, inr}
+use Rattle.std.proofs.Common.{arith, Option, Some, None, slice_get, slice_set, IsSomeAnd}
 use Rattle.std.proofs.lemmas.Bool.{cases_lt, cases_eq}
 use Rattle.std.proofs.lemmas.Option.{slice_get_within}
 use Rattle.gray_lists.proofs.Reading.{slice_get-set_same, slice_get-set_other}
@@ -13,7 +14,8 @@ use Rattle.heap_core.specs.Heap.{HeapState}
 pub record HasAdvanced (word n : ℕ) (h k : HeapState) : Type 0 where
   pub rest : k ≡ record h { shape = record h.shape { states = k.shape.states } }
   pub count : length k.shape.states ≡ length h.shape.states
-  pub before : (z : ℕ) → HasZone word z → z < n → z < length h.shape.states → state_in k.shape z ≡ next_state (state_in h.shape z)
+  pub before : (z : ℕ) → HasZone word z → z < n → z < length h.shape.states
+      → state_in k.shape z ≡ next_state (state_in h.shape z)
   pub later : (z : ℕ) → n ≤ z → state_in k.shape z ≡ state_in h.shape z
   pub others : (z : ℕ) → (HasZone word z → ⊥) → state_in k.shape z ≡ state_in h.shape z
 
@@ -47,19 +49,27 @@ module _ (word i : ℕ) (h k : HeapState) (was : HasAdvanced word i h k) where
 
     pub advances : HasAdvanced word (i + 1) h next
     advances = record {
-      rest = ap (λ (l : HeapState). record l { shape = record l.shape { states = slice_set k.shape.states i (next_state s) } }) was.rest;
+      rest = ap (λ (l : HeapState).
+          record l { shape = record l.shape { states = slice_set k.shape.states i (next_state s) } }) was.rest;
       count = length-set k.shape.states i (next_state s) ∙ was.count;
       before = λ z has lt made. elim (cases_eq z i) [
-        | inl is ↦ ap (state_in next.shape) is ∙ (now ∙ (ap next_state (sym state_was) ∙ ap (λ y. next_state (state_in h.shape y)) (sym is)))
+        | inl is ↦ ap (state_in next.shape) is
+            ∙ (now ∙ (ap next_state (sym state_was) ∙ ap (λ y. next_state (state_in h.shape y)) (sym is)))
         | inr ne ↦ elsewhere z ne ∙ was.before z has (omega arith) made
       ];
       later = λ z ge. elsewhere z (omega arith) ∙ was.later z (omega arith);
       others = λ z n. elsewhere z (λ e. n (subst (λ y. HasZone word y) (sym e) has_zone)) ∙ was.others z n;
     }
 
-  pub advanced_next : HasZone word i → (l : HeapState) → IsSomeAnd (slice_get k.shape.states i) (λ s. l ≡ record k { shape = record k.shape { states = slice_set k.shape.states i (next_state s) } }) → HasAdvanced word (i + 1) h l
+  pub advanced_next : HasZone word i → (l : HeapState)
+      → IsSomeAnd (slice_get k.shape.states i)
+      (λ s. l ≡ record k { shape = record k.shape { states = slice_set k.shape.states i (next_state s) } })
+      → HasAdvanced word (i + 1) h l
   advanced_next has l ok = go (slice_get k.shape.states i) refl ok
     where
-      go : (o : Option State) → slice_get k.shape.states i ≡ o → IsSomeAnd o (λ s. l ≡ record k { shape = record k.shape { states = slice_set k.shape.states i (next_state s) } }) → HasAdvanced word (i + 1) h l
+      go : (o : Option State) → slice_get k.shape.states i ≡ o
+          → IsSomeAnd o (λ s. l
+          ≡ record k { shape = record k.shape { states = slice_set k.shape.states i (next_state s) } })
+          → HasAdvanced word (i + 1) h l
       go None at none = absurd none
       go (Some s) at is = subst (λ x. HasAdvanced word (i + 1) h x) (sym is) (advances has s at)

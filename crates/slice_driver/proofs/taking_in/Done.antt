@@ -1,5 +1,6 @@
 -- A collection that is over: the collector stands for the world in which none runs.
-use Rattle.std.proofs.Common.{◌≡◌, ◌≢◌, ◌⊎◌, ◌↔◌, ℕ, Bool, true, false, cond, inl, inr, refl, sym, ap, ◌∙◌, subst, Option, None, Some, IsSome, List, [], ◌∷◌, map, Contains, slice_get}
+use Rattle.std.proofs.Common.{◌≡◌, ◌≢◌, ◌⊎◌, ◌↔◌, ℕ, Bool, true, false, cond, inl, inr, refl, sym, ap, ◌∙◌, subst}
+use Rattle.std.proofs.Common.{Option, None, Some, IsSome, List, [], ◌∷◌, map, Contains, slice_get}
 use Rattle.gz_names.specs.Zones.{zones_in}
 use Rattle.gz_names.specs.declared.numbers.Place.{Place}
 use Rattle.cell_bits.specs.declared.bits.Bits.{Bits}
@@ -39,7 +40,8 @@ lies_idle h w l = record {
   white_are = l.white_are;
 }
 
-module _ (c d : CollectorState) (flown : ℕ → Option Bits) (w : World) (k : Collection) (s : Represents c flown w) (o : IsAllDone c) (f : FinishesIn c d) (at : w.collection ≡ Some k) where
+module _ (c d : CollectorState) (flown : ℕ → Option Bits) (w : World) (k : Collection) (s : Represents c flown w)
+    (o : IsAllDone c) (f : FinishesIn c d) (at : w.collection ≡ Some k) where
   runs : Runs (heap_with c flown) c w o.run k
   runs = runs_of c (heap_with c flown) w o.run k o.running at s.runs
 
@@ -47,14 +49,20 @@ module _ (c d : CollectorState) (flown : ℕ → Option Bits) (w : World) (k : C
   in_none z i = (let j = subst (λ gs. IsInGroups gs z) o.none_left i in nothing_in_none j.0 j.1)
 
   -- no zone is marking
-  state_was : (z : ℕ) → (state_in c.heap.shape z ≡ state.NoGC) ⊎ ((state_in c.heap.shape z ≡ state.Sweep) ⊎ (state_in c.heap.shape z ≡ state.Finished))
+  state_was : (z : ℕ) → (state_in c.heap.shape z ≡ state.NoGC)
+      ⊎ ((state_in c.heap.shape z ≡ state.Sweep) ⊎ (state_in c.heap.shape z ≡ state.Finished))
   state_was z = elim (has_zone_or_not o.run.zones.bits z) [
     | inl here ↦ inr (runs.states.ended o.formed z here (in_none z))
     | inr out ↦ inl (runs.states.outside z out)
   ]
 
   not_marking : (z : ℕ) → is_marking_state (state_in c.heap.shape z) ≡ false
-  not_marking z = elim (state_was z) [ inl e ↦ ap is_marking_state e | inr (inl e) ↦ ap is_marking_state e | inr (inr e) ↦ ap is_marking_state e ]
+  not_marking z = elim (state_was z) [
+    | inl e ↦ ap is_marking_state e
+    | inr (inl e) ↦ ap is_marking_state e
+    | inr (inr e)
+        ↦ ap is_marking_state e
+  ]
 
   not_taking_gray : (z : ℕ) → state_in c.heap.shape z ≢ state.MarkBlackAndGray
   not_taking_gray z both = cc (ap is_marking_state both, not_marking z)
@@ -81,7 +89,18 @@ module _ (c d : CollectorState) (flown : ℕ → Option Bits) (w : World) (k : C
 
   same_marks : HasSameMarks (heap_with c flown) (heap_with d flown)
   same_marks = record {
-    cells = record { cells = same_cells.cells; zones = same_cells.zones; states = f.sized; comps = same_cells.comps; wrappers = same_cells.wrappers; weak = same_cells.weak; regs = same_cells.regs; slots = same_cells.slots; objects = same_cells.objects; made = same_cells.made };
+    cells = record {
+      cells = same_cells.cells;
+      zones = same_cells.zones;
+      states = f.sized;
+      comps = same_cells.comps;
+      wrappers = same_cells.wrappers;
+      weak = same_cells.weak;
+      regs = same_cells.regs;
+      slots = same_cells.slots;
+      objects = same_cells.objects;
+      made = same_cells.made;
+    };
     arenas = ap (λ (xs : List ArenaShape). Rattle.std.proofs.Common.length xs) arenas_same;
     colours = ap (λ (z : HeapState). with_flown flown 0 z.colours) f.heap_is;
     buffers = ap (λ (z : HeapState). z.buffers) f.heap_is;
@@ -91,7 +110,8 @@ module _ (c d : CollectorState) (flown : ℕ → Option Bits) (w : World) (k : C
   }
 
   marks_after : MarkingInvariant (heap_with d flown) d.stack
-  marks_after = subst (λ p. MarkingInvariant (heap_with d flown) p) (sym f.stack_is) (marks_kept (heap_with c flown) (heap_with d flown) same_marks c.stack s.marks)
+  marks_after = subst (λ p. MarkingInvariant (heap_with d flown) p) (sym f.stack_is)
+      (marks_kept (heap_with c flown) (heap_with d flown) same_marks c.stack s.marks)
 
   empty : (xs : List Place) → ((x : Place) → Contains xs x → ⊥) → xs ≡ []
   empty [] none = refl
@@ -101,7 +121,11 @@ module _ (c d : CollectorState) (flown : ℕ → Option Bits) (w : World) (k : C
   idle = record {
     states = f.states;
     kept = λ a. out_same a ∙ o.kept a;
-    black = empty d.stack.black (λ x held. cc ((marks_after.holds.piles.black x held).1, ap is_marking_state (f.states (zone_of d.heap.shape x))));
+    black = empty d.stack.black
+        (λ x held. cc (
+          (marks_after.holds.piles.black x held).1,
+          ap is_marking_state (f.states (zone_of d.heap.shape x)),
+        ));
     gray = ap (λ (p : Piles). p.gray) f.stack_is ∙ s.waits.gray not_taking_gray;
   }
 
@@ -109,11 +133,17 @@ module _ (c d : CollectorState) (flown : ℕ → Option Bits) (w : World) (k : C
   waits_after = record {
     gray = λ none. idle.gray;
     buffered = λ z quiet. ap (λ (h : HeapState). buffer_of h z) f.heap_is ∙ s.waits.buffered z (not_marking z);
-    incoming = λ n p held. absurd (let i = s.waits.incoming n p (subst (λ (l : Incoming). Contains (waiting_for l n) p) f.lists_is held) in cc (i.2, not_marking i.0));
+    incoming = λ n p held.
+        absurd (let i = s.waits.incoming n p (subst (λ (l : Incoming). Contains (waiting_for l n) p) f.lists_is held) in
+        cc (i.2, not_marking i.0));
   }
 
   settled : IsSettled w
-  settled = record { none_marking = ap Rattle.colour_defs.specs.World.marking_of at ∙ none k.marking (λ z m. cc ((runs.marking_are z).0 m, not_marking z)); none_preparing = s.lies.calm }
+  settled = record {
+    none_marking = ap Rattle.colour_defs.specs.World.marking_of at
+        ∙ none k.marking (λ z m. cc ((runs.marking_are z).0 m, not_marking z));
+    none_preparing = s.lies.calm;
+  }
     where
       none : (zs : List ℕ) → ((z : ℕ) → Contains zs z → ⊥) → zs ≡ []
       none [] h = refl
@@ -124,7 +154,8 @@ module _ (c d : CollectorState) (flown : ℕ → Option Bits) (w : World) (k : C
     over = record {
       collection = k;
       running = at;
-      ended = runs.groups_are ∙ ap (λ b. cond b (Some (map zones_in c.groups)) None) o.formed ∙ ap (λ gs. Some (map zones_in gs)) o.none_left;
+      ended = runs.groups_are ∙ ap (λ b. cond b (Some (map zones_in c.groups)) None) o.formed
+          ∙ ap (λ gs. Some (map zones_in gs)) o.none_left;
       none_out = s.lies.out_is ∙ none_out_listed c.heap.shape o.kept;
     };
     world_is = refl;
@@ -133,14 +164,18 @@ module _ (c d : CollectorState) (flown : ℕ → Option Bits) (w : World) (k : C
   pub represents_done : Represents d flown (record w { collection = None })
   represents_done = record {
     lies = lies_idle d.heap w (lies_same c.heap d.heap w same_cells arenas_same s.lies);
-    unswept_apart = λ x p q a b. s.unswept_apart x p q (unswept_same d.heap.shape c.heap.shape p x (sym arenas_same) a) (unswept_same d.heap.shape c.heap.shape q x (sym arenas_same) b);
+    unswept_apart = λ x p q a b. s.unswept_apart x p q (unswept_same d.heap.shape c.heap.shape p x (sym arenas_same) a)
+        (unswept_same d.heap.shape c.heap.shape q x (sym arenas_same) b);
     flies = flies_same c.heap.shape d.heap.shape flown arenas_same s.flies;
     marks = marks_after;
-    gray = subst (λ p. GrayInvariant (heap_with d flown) p d.lists) (sym f.stack_is) (subst (λ l. GrayInvariant (heap_with d flown) c.stack l) (sym f.lists_is) (gray_kept (heap_with c flown) (heap_with d flown) same_marks c.stack c.lists s.gray));
+    gray = subst (λ p. GrayInvariant (heap_with d flown) p d.lists) (sym f.stack_is)
+        (subst (λ l. GrayInvariant (heap_with d flown) c.stack l) (sym f.lists_is)
+        (gray_kept (heap_with c flown) (heap_with d flown) same_marks c.stack c.lists s.gray));
     waits = waits_after;
     black = λ now x p named. (let b = s.black settled x p (sym (name_same c.heap d.heap same_cells p) ∙ named) in (
       λ h. black_on (heap_with c flown) (heap_with d flown) same_marks p (b.0 h),
       λ h. b.1 (black_back (heap_with c flown) (heap_with d flown) same_marks p h),
     ));
-    runs = subst (λ (r : Option RunState). RunsAs (heap_with d flown) d (record w { collection = None }) r None) (sym f.run_is) idle;
+    runs = subst (λ (r : Option RunState). RunsAs (heap_with d flown) d (record w { collection = None }) r None)
+        (sym f.run_is) idle;
   }

@@ -1,5 +1,6 @@
 -- The lowest arena that is handed to sweeping.
-use Rattle.std.proofs.Common.{◌≡◌, ◌<◌, ◌≤◌, ℕ, zero, suc, false, Option, None, Some, IfSome, IsSome, is_some, List, [], ◌∷◌, length, slice_get, refl, arith}
+use Rattle.std.proofs.Common.{◌≡◌, ◌<◌, ◌≤◌, ℕ, zero, suc, false, Option, None, Some, IfSome, IsSome, is_some, List, []}
+use Rattle.std.proofs.Common.{◌∷◌, length, slice_get, refl, arith}
 use Rattle.heap_core.specs.Shape.{ArenaShape, Shape, out_in, out_of}
 use Rattle.slice_driver.specs.Units.{IsLowestOut}
 

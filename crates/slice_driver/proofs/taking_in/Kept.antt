@@ -1,5 +1,6 @@
 -- What is kept as an arena comes in: the words of the others, and what a collector keeps besides.
-use Rattle.std.proofs.Common.{◌≡◌, ◌≢◌, ℕ, false, Option, None, Some, List, [], slice_get, refl, sym, ap, subst, ◌∙◌, inl, inr, option_map}
+use Rattle.std.proofs.Common.{◌≡◌, ◌≢◌, ℕ, false, Option, None, Some, List, [], slice_get, refl, sym, ap, subst, ◌∙◌}
+use Rattle.std.proofs.Common.{inl, inr, option_map}
 use Rattle.std.proofs.lemmas.Bool.{cases_eq}
 use Rattle.gz_names.specs.declared.zone_sets.ZoneSet.{ZoneSet}
 use Rattle.cell_bits.specs.declared.bits.Bits.{Bits}
@@ -11,10 +12,12 @@ use Rattle.slice_driver.specs.Advancing.{EndsSweeping}
 use Rattle.slice_driver.specs.Units.{IsFreedWord, KeepsFreedWords}
 
 -- where a heap has other states alone, its arenas are as they were
-pub out_rest : (h k : HeapState) → k ≡ record h { shape = record h.shape { states = k.shape.states } } → (a : ℕ) → out_of k.shape a ≡ out_of h.shape a
+pub out_rest : (h k : HeapState) → k ≡ record h { shape = record h.shape { states = k.shape.states } } → (a : ℕ)
+    → out_of k.shape a ≡ out_of h.shape a
 out_rest h k e a = ap (λ (z : HeapState). out_of z.shape a) e
 
-pub words_rest : (h k : HeapState) → k ≡ record h { shape = record h.shape { states = k.shape.states } } → KeepsFreedWords h.shape k.shape
+pub words_rest : (h k : HeapState) → k ≡ record h { shape = record h.shape { states = k.shape.states } }
+    → KeepsFreedWords h.shape k.shape
 words_rest h k e a freed word = subst (λ (z : HeapState). IsFreedWord z.shape a freed) (sym e) word
 
 module _ (h : HeapState) (a freed : ℕ) (bits : Bits) where
@@ -44,5 +47,6 @@ pub words_both : (s t u : Shape) → KeepsFreedWords s t → KeepsFreedWords t u
 words_both s t u f g a freed word = g a freed (f a freed word)
 
 -- more is left, where not all was over
-pub more_left : (h : HeapState) (groups : List ZoneSet) (k : HeapState) → EndsSweeping h groups false k → groups ≡ [] → ((a : ℕ) → out_of k.shape a ≡ None) → ⊥
+pub more_left : (h : HeapState) (groups : List ZoneSet) (k : HeapState) → EndsSweeping h groups false k → groups ≡ []
+    → ((a : ℕ) → out_of k.shape a ≡ None) → ⊥
 more_left h groups k e empty none = (e.swept (λ a. sym (out_rest h k e.rest a) ∙ none a) refl).0 empty

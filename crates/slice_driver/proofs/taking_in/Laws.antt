@@ -1,5 +1,6 @@
 -- Units that end a group, take an arena in, or finish a collection.
-use Rattle.std.proofs.Common.{◌≡◌, ℕ, zero, suc, Bool, true, false, cond, inl, refl, sym, ◌∙◌, subst, Option, None, Some, IsSome, is_some, List, [], ◌∷◌, map, slice_get}
+use Rattle.std.proofs.Common.{◌≡◌, ℕ, zero, suc, Bool, true, false, cond, inl, refl, sym, ◌∙◌, subst, Option, None}
+use Rattle.std.proofs.Common.{Some, IsSome, is_some, List, [], ◌∷◌, map, slice_get}
 use Rattle.gz_names.specs.Zones.{zones_in}
 use Rattle.gz_names.specs.declared.names.Name.{Name}
 use Rattle.gz_names.specs.declared.replies.Report.TheVariants as report
@@ -22,10 +23,13 @@ use Rattle.slice_driver.proofs.taking_in.Done.{finishes, represents_done}
 use Rattle.slice_driver.proofs.taking_in.Runs.{represents_after, swept_world, sweeps}
 
 -- an arena came in
-pub takes_in : (c d : CollectorState) (flown : ℕ → Option Bits) (w : World) (a freed : ℕ) (bits : Bits) (names : List Name) → Represents c flown w → TakesIn c flown a freed bits d → AreFreed c.heap.shape a freed names → (v : World) × IsLawfulSweep w a names v × Represents d (without_arena flown a) v
+pub takes_in : (c d : CollectorState) (flown : ℕ → Option Bits) (w : World) (a freed : ℕ) (bits : Bits)
+    (names : List Name) → Represents c flown w → TakesIn c flown a freed bits d → AreFreed c.heap.shape a freed names
+    → (v : World) × IsLawfulSweep w a names v × Represents d (without_arena flown a) v
 takes_in c d flown w a freed bits names s t f = go c.run refl t.running
   where
-    go : (o : Option RunState) → c.run ≡ o → is_some o ≡ true → (v : World) × IsLawfulSweep w a names v × Represents d (without_arena flown a) v
+    go : (o : Option RunState) → c.run ≡ o → is_some o ≡ true → (v : World) × IsLawfulSweep w a names v
+        × Represents d (without_arena flown a) v
     go None e some = absurd (cc some)
     go (Some r) e some =
         let k = collection_of c (heap_with c flown) w r e s.runs in (
@@ -35,7 +39,8 @@ takes_in c d flown w a freed bits names s t f = go c.run refl t.running
         )
 
 -- the collection is over
-pub finishes_here : (c d : CollectorState) (flown : ℕ → Option Bits) (w : World) → Represents c flown w → IsAllDone c → FinishesIn c d → (v : World) × Finishes w v × Represents d flown v
+pub finishes_here : (c d : CollectorState) (flown : ℕ → Option Bits) (w : World) → Represents c flown w → IsAllDone c
+    → FinishesIn c d → (v : World) × Finishes w v × Represents d flown v
 finishes_here c d flown w s o f =
     let k = collection_of c (heap_with c flown) w o.run o.running s.runs in
     (record w { collection = None }, finishes c d flown w k.0 s o f k.1, represents_done c d flown w k.0 s o f k.1)
@@ -50,13 +55,16 @@ none_out (x ∷ arenas) n e zero = go x.out e
     go (Some b) f = absurd (cc f)
 none_out (x ∷ arenas) n e (suc a) = none_out arenas (suc n) (go x.out e) a
   where
-    go : (o : Option Bits) → cond (is_some o) (n ∷ outs_from (suc n) arenas) (outs_from (suc n) arenas) ≡ [] → outs_from (suc n) arenas ≡ []
+    go : (o : Option Bits) → cond (is_some o) (n ∷ outs_from (suc n) arenas) (outs_from (suc n) arenas) ≡ []
+        → outs_from (suc n) arenas ≡ []
     go None f = f
     go (Some b) f = absurd (cc f)
 
 -- where the collection is over in the world, nothing is left to do for it
-pub over_done : (c : CollectorState) (flown : ℕ → Option Bits) (w : World) → Represents c flown w → IsOver w → IsAllDone c
-over_done c flown w s o = go c.run refl (subst (λ (z : Option Collection). RunsAs (heap_with c flown) c w c.run z) o.running s.runs)
+pub over_done : (c : CollectorState) (flown : ℕ → Option Bits) (w : World) → Represents c flown w → IsOver w
+    → IsAllDone c
+over_done c flown w s o =
+    go c.run refl (subst (λ (z : Option Collection). RunsAs (heap_with c flown) c w c.run z) o.running s.runs)
   where
     empty : (groups : List ZoneSet) → map zones_in groups ≡ [] → groups ≡ []
     empty [] e = refl
@@ -69,14 +77,23 @@ over_done c flown w s o = go c.run refl (subst (λ (z : Option Collection). Runs
     go : (r : Option RunState) → c.run ≡ r → RunsAs (heap_with c flown) c w c.run (Some o.collection) → IsAllDone c
     go None e i = absurd (subst (λ (z : Option RunState). RunsAs (heap_with c flown) c w z (Some o.collection)) e i)
     go (Some r) e i =
-        let runs : Runs (heap_with c flown) c w r o.collection = subst (λ (z : Option RunState). RunsAs (heap_with c flown) c w z (Some o.collection)) e i in
+        let runs : Runs (heap_with c flown) c w r o.collection =
+        subst (λ (z : Option RunState). RunsAs (heap_with c flown) c w z (Some o.collection)) e i in
         let f = formed r.formed (sym runs.groups_are ∙ o.ended) in
-        record { run = r; running = e; formed = f.0; none_left = f.1; kept = none_out c.heap.shape.arenas 0 (sym s.lies.out_is ∙ o.none_out) }
+        record {
+          run = r;
+          running = e;
+          formed = f.0;
+          none_left = f.1;
+          kept = none_out c.heap.shape.arenas 0 (sym s.lies.out_is ∙ o.none_out);
+        }
 
-pub running_of : (c : CollectorState) (flown : ℕ → Option Bits) (w : World) (r : RunState) → c.run ≡ Some r → Represents c flown w → IsRunning w
+pub running_of : (c : CollectorState) (flown : ℕ → Option Bits) (w : World) (r : RunState) → c.run ≡ Some r
+    → Represents c flown w → IsRunning w
 running_of c flown w r e s = let k = collection_of c (heap_with c flown) w r e s.runs in inl (k.0, k.1)
 
-pub some_running : (c : CollectorState) (flown : ℕ → Option Bits) (w : World) → IsSome c.run → Represents c flown w → IsRunning w
+pub some_running : (c : CollectorState) (flown : ℕ → Option Bits) (w : World) → IsSome c.run → Represents c flown w
+    → IsRunning w
 some_running c flown w some s = go c.run refl some
   where
     go : (o : Option RunState) → c.run ≡ o → is_some o ≡ true → IsRunning w
@@ -84,24 +101,41 @@ some_running c flown w some s = go c.run refl some
     go (Some r) e f = running_of c flown w r e s
 
 -- the unit that ends a group
-pub end_unit : (c d : CollectorState) (flown flying : ℕ → Option Bits) (g : ZoneSet) (rest : List ZoneSet) (grays : List Name) → IsReady c g rest → EndsIn c g rest d → AreJustFlown d.heap.shape flying → Lists (IsGrayHere c.heap g) grays → (IsAllDone d → ⊥) → DoesUnit c flown (report.Ended g grays [] ∷ []) d flying
+pub end_unit : (c d : CollectorState) (flown flying : ℕ → Option Bits) (g : ZoneSet) (rest : List ZoneSet)
+    (grays : List Name) → IsReady c g rest → EndsIn c g rest d → AreJustFlown d.heap.shape flying
+    → Lists (IsGrayHere c.heap g) grays → (IsAllDone d → ⊥) → DoesUnit c flown (report.Ended g grays [] ∷ []) d flying
 end_unit c d flown flying g rest grays ready ends flies listed more w ok s =
-    let e = group_ends c d flown flying w g rest grays ok s ready ends flies listed in
-    (e.0, says (running_of c flown w ready.run ready.running s) (λ q. cc q) e.1 (λ over. more (over_done d flying e.0 e.3 over)), e.3)
+    let e = group_ends c d flown flying w g rest grays ok s ready ends flies listed in (
+      e.0,
+      says (running_of c flown w ready.run ready.running s) (λ q. cc q) e.1
+          (λ over. more (over_done d flying e.0 e.3 over)),
+      e.3,
+    )
 
-pub end_last_unit : (c d f : CollectorState) (flown flying : ℕ → Option Bits) (g : ZoneSet) (rest : List ZoneSet) (grays : List Name) → IsReady c g rest → EndsIn c g rest d → AreJustFlown d.heap.shape flying → Lists (IsGrayHere c.heap g) grays → IsAllDone d → FinishesIn d f → DoesUnit c flown (report.Ended g grays [] ∷ report.Done ∷ []) f flying
+pub end_last_unit : (c d f : CollectorState) (flown flying : ℕ → Option Bits) (g : ZoneSet) (rest : List ZoneSet)
+    (grays : List Name) → IsReady c g rest → EndsIn c g rest d → AreJustFlown d.heap.shape flying
+    → Lists (IsGrayHere c.heap g) grays → IsAllDone d → FinishesIn d f
+    → DoesUnit c flown (report.Ended g grays [] ∷ report.Done ∷ []) f flying
 end_last_unit c d f flown flying g rest grays ready ends flies listed done finish w ok s =
     let e = group_ends c d flown flying w g rest grays ok s ready ends flies listed in
     let o = finishes_here d f flying e.0 e.3 done finish in
     (o.0, last (running_of c flown w ready.run ready.running s) (λ q. cc q) e.1 o.1, o.2)
 
 -- the unit that takes an arena in
-pub sweep_unit : (c d : CollectorState) (flown : ℕ → Option Bits) (a freed : ℕ) (bits : Bits) (names : List Name) → TakesIn c flown a freed bits d → AreFreed c.heap.shape a freed names → (IsAllDone d → ⊥) → DoesUnit c flown (report.Swept a names ∷ []) d (without_arena flown a)
+pub sweep_unit : (c d : CollectorState) (flown : ℕ → Option Bits) (a freed : ℕ) (bits : Bits) (names : List Name)
+    → TakesIn c flown a freed bits d → AreFreed c.heap.shape a freed names → (IsAllDone d → ⊥)
+    → DoesUnit c flown (report.Swept a names ∷ []) d (without_arena flown a)
 sweep_unit c d flown a freed bits names t f more w ok s =
-    let e = takes_in c d flown w a freed bits names s t f in
-    (e.0, says (some_running c flown w t.running s) (λ q. cc q) e.1 (λ over. more (over_done d (without_arena flown a) e.0 e.2 over)), e.2)
+    let e = takes_in c d flown w a freed bits names s t f in (
+      e.0,
+      says (some_running c flown w t.running s) (λ q. cc q) e.1
+          (λ over. more (over_done d (without_arena flown a) e.0 e.2 over)),
+      e.2,
+    )
 
-pub sweep_last_unit : (c d f : CollectorState) (flown : ℕ → Option Bits) (a freed : ℕ) (bits : Bits) (names : List Name) → TakesIn c flown a freed bits d → AreFreed c.heap.shape a freed names → IsAllDone d → FinishesIn d f → DoesUnit c flown (report.Swept a names ∷ report.Done ∷ []) f (without_arena flown a)
+pub sweep_last_unit : (c d f : CollectorState) (flown : ℕ → Option Bits) (a freed : ℕ) (bits : Bits) (names : List Name)
+    → TakesIn c flown a freed bits d → AreFreed c.heap.shape a freed names → IsAllDone d → FinishesIn d f
+    → DoesUnit c flown (report.Swept a names ∷ report.Done ∷ []) f (without_arena flown a)
 sweep_last_unit c d f flown a freed bits names t g done finish w ok s =
     let e = takes_in c d flown w a freed bits names s t g in
     let o = finishes_here d f (without_arena flown a) e.0 e.2 done finish in

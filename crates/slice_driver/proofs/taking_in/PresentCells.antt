@@ -1,5 +1,7 @@
 -- Present cells counted.
-use Rattle.std.proofs.Common.{◌≡◌, ◌↔◌, ◌<◌, ◌+◌, ◌==◌, ◌++◌, ◌&&◌, ℕ, zero, suc, Bool, true, false, not, if◌then◌else◌, Option, Some, None, IsSome, is_some, slice_get, List, [], ◌∷◌, length, sum_by, take, refl, sym, ap, subst, ◌∙◌, inl, inr, arith}
+use Rattle.std.proofs.Common.{◌≡◌, ◌↔◌, ◌<◌, ◌+◌, ◌==◌, ◌++◌, ◌&&◌, ℕ, zero, suc, Bool, true, false, not, if◌then◌else◌}
+use Rattle.std.proofs.Common.{Option, Some, None, IsSome, is_some, slice_get, List, [], ◌∷◌, length, sum_by, take, refl}
+use Rattle.std.proofs.Common.{sym, ap, subst, ◌∙◌, inl, inr, arith}
 use Rattle.std.specs.Int.{bit_at}
 use Rattle.std.proofs.Math.Seq.{take-length}
 use Rattle.std.proofs.lemmas.Bool.{cases_lt}

@@ -1,5 +1,6 @@
 -- What a session promises, from what its collector does.
-use Rattle.std.proofs.Common.{◌≡◌, ◌<◌, ℕ, [], List, Option, Some, None, Result, Ok, Err, IfOk, IfSome, OnErr, OnOk, IsSome, false, refl, sym, subst, arith}
+use Rattle.std.proofs.Common.{◌≡◌, ◌<◌, ℕ, [], List, Option, Some, None, Result, Ok, Err, IfOk, IfSome, OnErr, OnOk}
+use Rattle.std.proofs.Common.{IsSome, false, refl, sym, subst, arith}
 use Rattle.gz_names.specs.declared.replies.CmdFault.{CmdFault}
 use Rattle.gz_names.specs.declared.replies.Reply.{Reply}
 use Rattle.gz_names.specs.declared.replies.Report.{Report}
@@ -47,7 +48,8 @@ no_step_done step limit c f report is idle = subst (λ (x : Step). SessionSteps 
     (none_done limit c f report idle)
 
 -- words are kept where a call did its work, and where it did nothing
-pub begin_words : {E : Type 0} {X : Type 0} (r : Result X E) (s t : Shape) → OnOk r (KeepsFreedWords s t) → OnErr r (t ≡ s)
+pub begin_words : {E : Type 0} {X : Type 0} (r : Result X E) (s t : Shape) → OnOk r (KeepsFreedWords s t)
+    → OnErr r (t ≡ s)
     → KeepsFreedWords s t
 begin_words (Ok done) s t words same = words
 begin_words (Err why) s t words same = λ a freed is. subst (λ (x : Shape). IsFreedWord x a freed) (sym same) is
@@ -72,7 +74,8 @@ module _ (limit : ℕ) (c : CollectorState) (f : ℕ → Option Bits) (before : 
       → IfOk r (λ (step : Step). Advances limit c f before step d g (left q) now) → OnErr r (IsStill c f d g)
       → OnErr r (q ≡ p) → AreOut d.heap.shape (left q)
   after_out {O = O} (Ok step) left p q out a still same = a.out
-  after_out {O = O} (Err why) left p q out a still same = subst (λ (x : CollectorState). AreOut x.heap.shape (left q)) (sym still.same)
+  after_out {O = O} (Err why) left p q out a still same = subst (λ (x : CollectorState). AreOut x.heap.shape (left q))
+      (sym still.same)
       (subst (λ (o : O). AreOut c.heap.shape (left o)) (sym same) out)
 
 -- the collector stands for what it stood for, with other bits in flight

@@ -1,5 +1,6 @@
 -- The bits of a word, counted.
-use Rattle.std.proofs.Common.{◌≡◌, ◌<◌, ◌≤◌, ◌+◌, ◌^◌, ◌==◌, ◌/◌, ℕ, zero, suc, Bool, false, if◌then◌else◌, refl, sym, ap, ◌∙◌, arith}
+use Rattle.std.proofs.Common.{◌≡◌, ◌<◌, ◌≤◌, ◌+◌, ◌^◌, ◌==◌, ◌/◌, ℕ, zero, suc, Bool, false, if◌then◌else◌, refl, sym}
+use Rattle.std.proofs.Common.{ap, ◌∙◌, arith}
 use Rattle.std.specs.Int.{bit_at}
 use Rattle.std.specs.Int.Count.{ones_in}
 use Rattle.std.specs.Int.RustNames.{count_ones}

@@ -1,5 +1,6 @@
 -- The arena that is due is the lowest that is out, whoever sweeps: taking it in is a unit.
-use Rattle.std.proofs.Common.{◌≡◌, ◌≢◌, ◌↔◌, ℕ, ◌<◌, ◌≤◌, Bool, true, false, List, [], ◌∷◌, Option, Some, None, IsTrue, is_some, ap, sym, ◌∙◌, subst, arith, eqb, if◌then◌else◌, inl, inr}
+use Rattle.std.proofs.Common.{◌≡◌, ◌≢◌, ◌↔◌, ℕ, ◌<◌, ◌≤◌, Bool, true, false, List, [], ◌∷◌, Option, Some, None, IsTrue}
+use Rattle.std.proofs.Common.{is_some, ap, sym, ◌∙◌, subst, arith, eqb, if◌then◌else◌, inl, inr}
 use Rattle.std.specs.List.{Contains}
 use Rattle.std.proofs.lemmas.Bool.{cases_lt}
 use Rattle.gz_names.specs.declared.replies.Report.{Report}
@@ -12,13 +13,15 @@ use Rattle.heap_core.specs.Shape.{Shape, out_of}
 use Rattle.slice_driver.specs.Advances.{AreOut}
 use Rattle.slice_driver.specs.Collector.{CollectorState}
 use Rattle.slice_driver.specs.Left.{units_left}
-use Rattle.slice_driver.specs.Units.{AreAscendingJobs, AreJobsOf, DoesUnit, HandsJobs, IsFreedWord, IsLowestOut, IsSound, KeepsFreedWords, without_arena}
+use Rattle.slice_driver.specs.Units.{AreAscendingJobs, AreJobsOf, DoesUnit, HandsJobs, IsFreedWord, IsLowestOut}
+use Rattle.slice_driver.specs.Units.{IsSound, KeepsFreedWords, without_arena}
 
 no_out : {X : Type 0} (o : Option X) → is_some o ≡ true → o ≡ None → ⊥
 no_out o some none = cc (some, none)
 
 -- while an arena is due, some arena is out
-pub due_flies : (d : CollectorState) (f : ℕ → Option Bits) (a : ℕ) → IsSound d f → IsLowestOut d.heap.shape a → ((b : ℕ) → f b ≡ None) → ⊥
+pub due_flies : (d : CollectorState) (f : ℕ → Option Bits) (a : ℕ) → IsSound d f → IsLowestOut d.heap.shape a
+    → ((b : ℕ) → f b ≡ None) → ⊥
 due_flies d f a s low none = no_out (f a) (s.represents.flies.covers a ∙ low.out) (none a)
 
 pub some_left : (b : Bool) (outs : List (ℕ × ℕ)) → IsTrue b ↔ (outs ≡ []) → b ≡ false → outs ≢ []

@@ -1,5 +1,6 @@
 -- The unit that takes an arena in.
-use Rattle.std.proofs.Common.{◌≡◌, ℕ, zero, suc, Bool, true, false, if◌then◌else◌, Option, None, Some, IsSome, List, [], ◌∷◌, length, map, slice_get, refl, sym, ap, subst, ◌∙◌, inl, inr}
+use Rattle.std.proofs.Common.{◌≡◌, ℕ, zero, suc, Bool, true, false, if◌then◌else◌, Option, None, Some, IsSome, List, []}
+use Rattle.std.proofs.Common.{◌∷◌, length, map, slice_get, refl, sym, ap, subst, ◌∙◌, inl, inr}
 use Rattle.std.proofs.lemmas.List.{length-map}
 use Rattle.gz_names.specs.declared.names.Name.{Name}
 use Rattle.gz_names.specs.declared.replies.Report.TheVariants as report
@@ -22,7 +23,8 @@ use Rattle.slice_driver.proofs.taking_in.Laws.{sweep_last_unit, sweep_unit}
 use Rattle.slice_driver.proofs.taking_in.Runs.{has_zone_or_not}
 
 -- the states of all zones, changed
-pub states_mapped : (f : State → State) → f state.NoGC ≡ state.NoGC → (states : List State) (z : ℕ) → state_or (slice_get (map f states) z) ≡ f (state_or (slice_get states z))
+pub states_mapped : (f : State → State) → f state.NoGC ≡ state.NoGC → (states : List State) (z : ℕ)
+    → state_or (slice_get (map f states) z) ≡ f (state_or (slice_get states z))
 states_mapped f e [] z = sym e
 states_mapped f e (s ∷ states) zero = refl
 states_mapped f e (s ∷ states) (suc z) = states_mapped f e states z
@@ -40,10 +42,15 @@ nothing_out None s e = cc s
 nothing_out (Some b) s e = cc e
 
 -- where no group is left, the zones of a collection are swept or finished, and all others are in none
-pub ends_all : (c : CollectorState) (r : RunState) → AreInStates c r → r.formed ≡ true → c.groups ≡ [] → (z : ℕ) → after_end (state_in c.heap.shape z) ≡ state.NoGC
+pub ends_all : (c : CollectorState) (r : RunState) → AreInStates c r → r.formed ≡ true → c.groups ≡ [] → (z : ℕ)
+    → after_end (state_in c.heap.shape z) ≡ state.NoGC
 ends_all c r s formed none z = elim (has_zone_or_not r.zones.bits z) [
   | inr out ↦ ap after_end (s.outside z out)
-  | inl has ↦ elim (s.ended formed z has (λ i. empty c.groups none i)) [ inl e ↦ ap after_end e | inr e ↦ ap after_end e ]
+  | inl has ↦ elim (s.ended formed z has (λ i. empty c.groups none i)) [
+    | inl e ↦ ap after_end e
+    | inr e
+        ↦ ap after_end e
+  ]
 ]
   where
     empty : (groups : List ZoneSet) → groups ≡ [] → IsInGroups groups z → ⊥
@@ -61,14 +68,20 @@ after_both state.MarkBlackAndGray = refl
 after_both state.Sweep = refl
 after_both state.Finished = refl
 
-module _ (c : CollectorState) (flown : ℕ → Option Bits) (a freed : ℕ) (bits : Bits) (names : List Name) (at : flown a ≡ Some bits) (lowest : IsLowestOut c.heap.shape a) (word : IsFreedWord c.heap.shape a freed) (running : IsSome c.run) (fits : (old : Bits) → out_of c.heap.shape a ≡ Some old → FitsWords old) (listed : AreFreed c.heap.shape a freed names) (k : HeapState) where
+module _ (c : CollectorState) (flown : ℕ → Option Bits) (a freed : ℕ) (bits : Bits) (names : List Name)
+    (at : flown a ≡ Some bits) (lowest : IsLowestOut c.heap.shape a) (word : IsFreedWord c.heap.shape a freed)
+    (running : IsSome c.run) (fits : (old : Bits) → out_of c.heap.shape a ≡ Some old → FitsWords old)
+    (listed : AreFreed c.heap.shape a freed names) (k : HeapState) where
   abbrev taken : HeapState
   taken = with_taken c.heap a freed bits
 
   abbrev middle : HeapState → CollectorState
   middle h = record c { heap = h }
 
-  module _ (h : HeapState) (rest : h ≡ record taken { shape = record taken.shape { states = h.shape.states } }) (sized : length h.shape.states ≡ length c.heap.shape.states) (still : (b : ℕ) → IsSome (out_of taken.shape b) → (z : ℕ) → state_in h.shape z ≡ state_in c.heap.shape z) (swept : ((b : ℕ) → out_of taken.shape b ≡ None) → (z : ℕ) → state_in h.shape z ≡ after_sweep (state_in c.heap.shape z)) where
+  module _ (h : HeapState) (rest : h ≡ record taken { shape = record taken.shape { states = h.shape.states } })
+      (sized : length h.shape.states ≡ length c.heap.shape.states) (still : (b : ℕ) → IsSome (out_of taken.shape b)
+      → (z : ℕ) → state_in h.shape z ≡ state_in c.heap.shape z) (swept : ((b : ℕ) → out_of taken.shape b ≡ None)
+      → (z : ℕ) → state_in h.shape z ≡ after_sweep (state_in c.heap.shape z)) where
     out_same : (b : ℕ) → out_of h.shape b ≡ out_of taken.shape b
     out_same b = ap (λ (x : HeapState). out_of x.shape b) rest
 
@@ -90,21 +103,31 @@ module _ (c : CollectorState) (flown : ℕ → Option Bits) (a freed : ℕ) (bit
     }
 
   -- more is left to do
-  pub sweeps_on : EndsSweeping taken c.groups false k → DoesUnit c flown (report.Swept a names ∷ []) (middle k) (without_arena flown a)
-  sweeps_on e = sweep_unit c (middle k) flown a freed bits names (takes k e.rest e.sized (λ b out. (e.still b out).1) (λ none. (e.swept none refl).1)) listed
-      (λ done. (e.swept (λ b. sym (out_same k e.rest e.sized (λ b out. (e.still b out).1) (λ none. (e.swept none refl).1) b) ∙ done.kept b) refl).0 done.none_left)
+  pub sweeps_on : EndsSweeping taken c.groups false k
+      → DoesUnit c flown (report.Swept a names ∷ []) (middle k) (without_arena flown a)
+  sweeps_on e = sweep_unit c (middle k) flown a freed bits names
+      (takes k e.rest e.sized (λ b out. (e.still b out).1) (λ none. (e.swept none refl).1)) listed
+      (λ done. (e.swept (λ b.
+      sym (out_same k e.rest e.sized (λ b out. (e.still b out).1) (λ none. (e.swept none refl).1) b) ∙ done.kept b)
+      refl).0 done.none_left)
 
   -- nothing is
-  pub sweeps_last : EndsSweeping taken c.groups true k → DoesUnit c flown (report.Swept a names ∷ report.Done ∷ []) (record c { heap = k; run = None }) (without_arena flown a)
+  pub sweeps_last : EndsSweeping taken c.groups true k
+      → DoesUnit c flown (report.Swept a names ∷ report.Done ∷ []) (record c { heap = k; run = None })
+      (without_arena flown a)
   sweeps_last e w ok s =
       let over = e.ended refl in
       let run = run_there c.run running in
-      let is_formed : run.0.formed ≡ true = formed_of run.0.formed (λ no. nothing_out (out_of c.heap.shape a) lowest.out (unformed_kept c flown w run.0 s run.1 no a)) in
+      let is_formed : run.0.formed ≡ true =
+      formed_of run.0.formed
+      (λ no. nothing_out (out_of c.heap.shape a) lowest.out (unformed_kept c flown w run.0 s run.1 no a)) in
       let kind = collection_of c (heap_with c flown) w run.0 run.1 s.runs in
       let states = (runs_of c (heap_with c flown) w run.0 kind.0 run.1 kind.1 s.runs).states in
       let none_now : (b : ℕ) → out_of (all_swept taken).shape b ≡ None = over.1 in
       sweep_last_unit c (middle (all_swept taken)) (record c { heap = k; run = None }) flown a freed bits names
-      (takes (all_swept taken) refl (length-map c.heap.shape.states after_sweep) (λ b out. absurd (nothing_out (out_of taken.shape b) out (over.1 b))) (λ none z. states_mapped after_sweep refl c.heap.shape.states z))
+      (takes (all_swept taken) refl (length-map c.heap.shape.states after_sweep)
+      (λ b out. absurd (nothing_out (out_of taken.shape b) out (over.1 b)))
+      (λ none z. states_mapped after_sweep refl c.heap.shape.states z))
       listed
       (record { run = run.0; running = run.1; formed = is_formed; none_left = over.0; kept = none_now })
       (record {
@@ -117,6 +140,8 @@ module _ (c : CollectorState) (flown : ℕ → Option Bits) (a freed : ℕ) (bit
       })
       w ok s
 
-  pub takes_unit : (over : Bool) → EndsSweeping taken c.groups over k → DoesUnit c flown (reports_of (Some (report.Swept a names)) over) (record c { heap = k; run = if over then None else c.run }) (without_arena flown a)
+  pub takes_unit : (over : Bool) → EndsSweeping taken c.groups over k
+      → DoesUnit c flown (reports_of (Some (report.Swept a names)) over)
+      (record c { heap = k; run = if over then None else c.run }) (without_arena flown a)
   takes_unit true e = sweeps_last e
   takes_unit false e = sweeps_on e

@@ -1,5 +1,7 @@
 -- Steps of a collection: units that report nothing, and one that is told.
-use Rattle.std.proofs.Common.{◌≡◌, ◌↔◌, ◌<◌, ◌≤◌, ◌+◌, ℕ, zero, suc, Bool, true, false, List, [], ◌∷◌, length, Option, Some, None, Result, Ok, Err, IfOk, IsSome, is_some, refl, ap, sym, ◌∙◌, subst, arith, if◌then◌else◌, append-nil}
+use Rattle.std.proofs.Common.{◌≡◌, ◌↔◌, ◌<◌, ◌≤◌, ◌+◌, ℕ, zero, suc, Bool, true, false, List, [], ◌∷◌, length, Option}
+use Rattle.std.proofs.Common.{Some, None, Result, Ok, Err, IfOk, IsSome, is_some, refl, ap, sym, ◌∙◌, subst, arith}
+use Rattle.std.proofs.Common.{if◌then◌else◌, append-nil}
 use Rattle.std.specs.List.{flat_map}
 use Rattle.gz_names.specs.declared.replies.Report.{Report}
 use Rattle.cell_bits.specs.declared.bits.Bits.{Bits}
@@ -149,7 +151,8 @@ module _ (c d : CollectorState) (f g : ℕ → Option Bits) (outs : List (ℕ ×
 
 -- the same after nothing was done
 pub still_advances : (limit : ℕ) (c d e : CollectorState) (f g h : ℕ → Option Bits) (outs : List (ℕ × ℕ))
-    (before place : Option Report) (step : Step) → 0 < limit → IsStill c f d g → Advances 1 d g before step e h outs place
+    (before place : Option Report) (step : Step) → 0 < limit → IsStill c f d g
+    → Advances 1 d g before step e h outs place
     → Advances limit c f before step e h outs place
 still_advances limit c d e f g h outs before place step some still a = record {
   done = λ w ok r. (let u = a.done w ok (subst (λ (x : CollectorState). Represents x g w) (sym still.same)
@@ -172,7 +175,8 @@ still_advances limit c d e f g h outs before place step some still a = record {
   out = a.out;
   ascending = a.ascending;
   made = a.made ∙ ap (λ (x : CollectorState). x.heap.made) still.same;
-  entries = let e = ap (λ (x : CollectorState). length x.heap.shape.weak.entries) still.same in omega (arith, e, a.entries);
+  entries = let e = ap (λ (x : CollectorState). length x.heap.shape.weak.entries) still.same in
+      omega (arith, e, a.entries);
 }
 
 -- the arenas that are out are out still
@@ -198,7 +202,8 @@ pub due_advances : (c d : CollectorState) (f g : ℕ → Option Bits) (outs : Li
     → Advances 1 c f before step d (flying_after step.handed g) (outs_after step.handed outs) place
 due_advances c d f g outs unit before place step step_is place_is none does less finished sound out made weak =
     one_advances c d f g outs unit before place step step_is place_is
-    (subst (λ (h : Option (List Job)). DoesUnit c f (reports_of unit.report unit.finished) d (flying_after h g)) (sym none)
+    (subst (λ (h : Option (List Job)). DoesUnit c f (reports_of unit.report unit.finished) d (flying_after h g))
+    (sym none)
     does)
     (subst (λ (h : Option (List Job)). units_left d (flying_after h g) < units_left c f) (sym none) less) finished
     (subst (λ (h : Option (List Job)). IsSound d (flying_after h g)) (sym none) sound)
@@ -214,7 +219,8 @@ pub due_into : (c d : CollectorState) (f g : ℕ → Option Bits) (outs : List (
     → d.heap.shape.weak ≡ c.heap.shape.weak
     → Advances 1 c f before step d (flying_after step.handed g) (outs_after step.handed outs) place
 due_into c d f g outs before place finished step step_is told does less over sound out made weak =
-    due_advances c d f g outs (record { report = place; handed = None; finished = finished; due = None }) before place step
+    due_advances c d f g outs (record { report = place; handed = None; finished = finished; due = None }) before place
+    step
     (step_is ∙ ap (λ (b : Bool). record { units = 1; reported = b; finished = finished; handed = None }) (sym told))
     (sym (ap (λ (b : Bool). if b then place else before) told)) refl does less over sound out made weak
 

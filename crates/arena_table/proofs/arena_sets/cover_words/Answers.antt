@@ -11,4 +11,6 @@ loop-words-preserved c =
     let room : length words < 64 * length groups = rw c.deref.ensures.value at c.in_ok-cover_groups.ensures.room in
     let long : length words * 64 < c.args.count = omega (arith, c.loop-words.words.ok.0) in
     let few : length words < 2 ^ 26 = omega arith in
-    rw c.in_ok-push.ensures.items (IsCovering-word c.args.words.now.items words c.loop-words.groups.items groups c.loop-words.invariant summed room few)
+    rw c.in_ok-push.ensures.items
+    (IsCovering-word c.args.words.now.items words c.loop-words.groups.items groups c.loop-words.invariant summed
+    room few)

@@ -12,9 +12,15 @@ loop-left-preserved c =
     let lowest = bit_at-trailing_zeros w64 c.loop-left.left some c.loop-left.auto.left-fits.fits in
     let t = trailing_zeros w64 c.loop-left.left in
     let inside : t < 64 = lowest.0 in
-    let set : words_at c.args.sets.now t ≡ c.index-sets-left.result = get_or_default c.args.sets.now t [] c.index-sets-left.result (omega (arith, c.requires)) ∙ sym c.index-sets-left.is in
-    let word : c.word-word.result ≡ slice_index (words_at c.args.sets.now t) c.args.at = c.word-word.ensures ∙ ap (λ ws. slice_index ws c.args.at) (sym set) in
-    IsUniting-more c.args.sets.now c.args.zones c.args.at c.loop-left.left c.loop-left.word c.word-word.result c.loop-left.invariant some c.loop-left.auto.left-fits.fits (λ k lt one. ap (λ w. bit_at w k) (sym word) ∙ one) (λ k lt bit. ap (λ w. bit_at w k) word ∙ bit)
+    let set : words_at c.args.sets.now t ≡ c.index-sets-left.result =
+    get_or_default c.args.sets.now t [] c.index-sets-left.result (omega (arith, c.requires))
+    ∙ sym c.index-sets-left.is in
+    let word : c.word-word.result ≡ slice_index (words_at c.args.sets.now t) c.args.at = c.word-word.ensures
+    ∙ ap (λ ws. slice_index ws c.args.at) (sym set) in
+    IsUniting-more c.args.sets.now c.args.zones c.args.at c.loop-left.left c.loop-left.word c.word-word.result
+    c.loop-left.invariant some c.loop-left.auto.left-fits.fits (λ k lt one. ap (λ w. bit_at w k) (sym word) ∙ one)
+    (λ k lt bit. ap (λ w. bit_at w k) word ∙ bit)
 
 pub returns : goal.returns
-returns c = united-all c.args.sets.now c.args.zones c.args.at c.loop-left.left c.loop-left.word c.loop-left.invariant c.loop-left-test.false
+returns c = united-all c.args.sets.now c.args.zones c.args.at c.loop-left.left c.loop-left.word c.loop-left.invariant
+    c.loop-left-test.false

@@ -2,10 +2,14 @@ use Rattle.arena_table.proofs.Naming.{no_cell, names-room, names-next, names-all
 use Rattle.arena_table.proofs.store.names_of_cells.Goals as goal
 
 pub push-requires : goal.push-requires
-push-requires c = names-room c.loop-left.names c.loop-left.left c.args.word c.args.cells.now no_cell c.loop-left.invariant c.loop-left-test.true c.loop-left.auto.left-fits.fits c.requires
+push-requires c = names-room c.loop-left.names c.loop-left.left c.args.word c.args.cells.now no_cell
+    c.loop-left.invariant c.loop-left-test.true c.loop-left.auto.left-fits.fits c.requires
 
 pub loop-left-preserved : goal.loop-left-preserved
-loop-left-preserved c = rw c.push.ensures (names-next c.loop-left.names c.loop-left.left c.args.word c.args.cells.now _ c.loop-left.invariant c.loop-left-test.true c.loop-left.auto.left-fits.fits c.requires)
+loop-left-preserved c =
+    rw c.push.ensures (names-next c.loop-left.names c.loop-left.left c.args.word c.args.cells.now _
+    c.loop-left.invariant c.loop-left-test.true c.loop-left.auto.left-fits.fits c.requires)
 
 pub returns : goal.returns
-returns c = names-all c.loop-left.names c.loop-left.left c.args.word c.args.cells.now c.loop-left.invariant c.loop-left-test.false
+returns c = names-all c.loop-left.names c.loop-left.left c.args.word c.args.cells.now c.loop-left.invariant
+    c.loop-left-test.false

@@ -4,4 +4,7 @@ use Rattle.roots.proofs.buffers.reserve_all.Given as goal
 
 abbrev pub invariant-loop-zone : goal.invariant-loop-zone
 invariant-loop-zone l =
-    (lists_of l.buffers ≡ lists_of l.initial.buffers) × ((z : ℕ) → z < l.zone → length (buffer_at (lists_of l.buffers) z) + (count_in z l.slots + count_in z l.wrappers) ≤ slice_index (capacities_of l.buffers) z)
+    (lists_of l.buffers ≡ lists_of l.initial.buffers)
+    × ((z : ℕ) → z < l.zone
+    → length (buffer_at (lists_of l.buffers) z) + (count_in z l.slots + count_in z l.wrappers)
+    ≤ slice_index (capacities_of l.buffers) z)

@@ -6,7 +6,8 @@ use Rattle.slice_driver.proofs.colours.push_flown_gray.Given as goal
 
 abbrev pub invariant-loop-slot : goal.invariant-loop-slot
 invariant-loop-slot g l = record {
-  names : l.names.items ≡ l.fn.names.items ++ grays_below (joined l.fn.heap (g.F.Flight.bits l.fn.flight)) l.arena l.slot;
+  names : l.names.items ≡ l.fn.names.items ++ grays_below (joined l.fn.heap (g.F.Flight.bits l.fn.flight)) l.arena
+      l.slot;
   same : joined l.heap (g.F.Flight.bits l.flight) ≡ joined l.heap (g.F.Flight.bits l.fn.flight);
   covers : Covers l.heap.shape (g.F.Flight.bits l.flight);
   origin : g.F.Flight.origin l.flight ≡ g.F.Flight.origin l.fn.flight;

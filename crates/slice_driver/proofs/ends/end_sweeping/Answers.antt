@@ -5,7 +5,8 @@ use Rattle.slice_driver.proofs.taking_in.EndSweeping.{still_out, group_left, non
 use Rattle.slice_driver.proofs.ends.end_sweeping.Goals as goal
 
 -- an arena is out, or none is
-found_out : (h : Shape) (r : Option ℕ) → IfSome r (λ a. IsSome (out_of h a)) → is_some r ≡ true → (a : ℕ) × IsSome (out_of h a)
+found_out : (h : Shape) (r : Option ℕ) → IfSome r (λ a. IsSome (out_of h a)) → is_some r ≡ true
+    → (a : ℕ) × IsSome (out_of h a)
 found_out h None s e = absurd (cc e)
 found_out h (Some a) s e = (a, s)
 
@@ -15,17 +16,25 @@ found_none (Some a) P n e = absurd (cc e)
 
 pub returns-then-is_some : goal.returns-then-is_some
 returns-then-is_some c =
-    let found = found_out c.args.heap.now.shape c.first_out.result c.first_out.ensures.out (sym c.is_some.ensures ∙ c.if-is_some.true) in
+    let found = found_out c.args.heap.now.shape c.first_out.result c.first_out.ensures.out
+    (sym c.is_some.ensures ∙ c.if-is_some.true) in
     still_out c.args.heap.now c.args.order.now found.0 found.1
 
 pub returns-then-is_some-2 : goal.returns-then-is_some-2
 returns-then-is_some-2 c =
-    let none = found_none c.first_out.result ((a : ℕ) → out_of c.args.heap.now.shape a ≡ None) c.first_out.ensures.none (sym c.is_some.ensures ∙ c.if-is_some.false) in
-    group_left c.args.heap.now c.advance_all.new.heap c.args.order.now c.in_state.result.bits none c.in_state.ensures c.advance_all.ensures (not_first c.args.order.now (ap is_some (sym c.current.ensures) ∙ sym c.is_some-2.ensures ∙ c.if-is_some-2.true))
+    let none = found_none c.first_out.result ((a : ℕ) → out_of c.args.heap.now.shape a ≡ None) c.first_out.ensures.none
+    (sym c.is_some.ensures ∙ c.if-is_some.false) in
+    group_left c.args.heap.now c.advance_all.new.heap c.args.order.now c.in_state.result.bits none c.in_state.ensures
+    c.advance_all.ensures
+    (not_first c.args.order.now (ap is_some (sym c.current.ensures) ∙ sym c.is_some-2.ensures
+    ∙ c.if-is_some-2.true))
 
 pub returns : goal.returns
 returns c =
-    let none = found_none c.first_out.result ((a : ℕ) → out_of c.args.heap.now.shape a ≡ None) c.first_out.ensures.none (sym c.is_some.ensures ∙ c.if-is_some.false) in
-    none_left c.args.heap.now c.advance_all.new.heap c.args.order.now c.in_state.result.bits none c.in_state.ensures c.advance_all.ensures c.advance_all-2.new.heap c.in_state-2.result.bits
-    (first_none c.args.order.now (is_none _ (ap is_some (sym c.current.ensures) ∙ sym c.is_some-2.ensures ∙ c.if-is_some-2.false)))
+    let none = found_none c.first_out.result ((a : ℕ) → out_of c.args.heap.now.shape a ≡ None) c.first_out.ensures.none
+    (sym c.is_some.ensures ∙ c.if-is_some.false) in
+    none_left c.args.heap.now c.advance_all.new.heap c.args.order.now c.in_state.result.bits none c.in_state.ensures
+    c.advance_all.ensures c.advance_all-2.new.heap c.in_state-2.result.bits
+    (first_none c.args.order.now
+    (is_none _ (ap is_some (sym c.current.ensures) ∙ sym c.is_some-2.ensures ∙ c.if-is_some-2.false)))
     c.in_state-2.ensures c.advance_all-2.ensures

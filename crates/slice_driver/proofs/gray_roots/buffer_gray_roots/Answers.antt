@@ -12,10 +12,13 @@ returns-clause-ok g c =
     let of_slots : Gathers (IsInSlot h.shape zones) [] slots =
     subst (λ new. Gathers (IsInSlot h.shape zones) [] new) (sym c.deref.ensures.value)
     (subst (λ old. Gathers
-    (IsInSlot h.shape zones) old c.gather_slots.new.found.items) c.new-slots.ensures.items c.in_ok-gather_slots.ensures.gathered) in
+    (IsInSlot h.shape zones) old c.gather_slots.new.found.items) c.new-slots.ensures.items
+    c.in_ok-gather_slots.ensures.gathered) in
     let of_wrappers : Gathers (IsGrayAmong h zones (length h.shape.states)) [] wrappers =
     subst (λ new. Gathers (IsGrayAmong h zones (length h.shape.states)) [] new) (sym c.deref-2.ensures.value)
     (subst (λ old. Gathers (IsGrayAmong h zones
     (length h.shape.states)) old c.gather_wrappers.new.found.items) c.new-wrappers.ensures.items
     c.in_ok-gather_wrappers.ensures.gathered) in
-    on_ok_both c.buffer_gray.result (λ is at. buffers_all h c.buffer_gray.new.self zones slots wrappers is at c.buffer_gray.ensures.sized of_slots of_wrappers) c.buffer_gray.ensures.ok c.buffer_gray.ensures.zones
+    on_ok_both c.buffer_gray.result
+    (λ is at. buffers_all h c.buffer_gray.new.self zones slots wrappers is at c.buffer_gray.ensures.sized of_slots
+    of_wrappers) c.buffer_gray.ensures.ok c.buffer_gray.ensures.zones

@@ -15,5 +15,6 @@ returns-in_ok-push-clause-gathered c =
 pub returns-else-contains-clause-gathered : goal.returns-else-contains-clause-gathered
 returns-else-contains-clause-gathered c = gathers_out c.args.heap.now.shape c.args.zones c.args.cell c.args.place
     c.args.found.now.items
-    (λ has. absurd (let yes = c.contains.ensures.1 (subst (λ z. HasZone c.args.zones.bits z) (sym c.zone_at-zone.ensures) has) in
+    (λ has. absurd (let yes =
+    c.contains.ensures.1 (subst (λ z. HasZone c.args.zones.bits z) (sym c.zone_at-zone.ensures) has) in
     let no = c.if-contains.false in cc (yes, no)))

@@ -5,10 +5,19 @@ use Rattle.slice_driver.proofs.beginning.GatheredRoots.{gray_all, gray_at, gray_
 use Rattle.slice_driver.proofs.gray_roots.gather_of.Goals as goal
 
 pub gather_wrapper-requires-clause-wrapper : goal.gather_wrapper-requires-clause-wrapper
-gather_wrapper-requires-clause-wrapper g c = (c.args.zone, stands_in c.args.heap.now.shape c.args.zone c.loop-wrapper.cursor c.in-Some.wrapper c.requires.wrappers c.in-Some.ensures.apart (sym c.in-Some.ensures.place))
+gather_wrapper-requires-clause-wrapper g c = (
+  c.args.zone,
+  stands_in c.args.heap.now.shape c.args.zone c.loop-wrapper.cursor c.in-Some.wrapper
+      c.requires.wrappers c.in-Some.ensures.apart (sym c.in-Some.ensures.place),
+)
 
 pub loop-wrapper-smaller : goal.loop-wrapper-smaller
-loop-wrapper-smaller g c = omega (arith, c.in-Some.ensures.cursor, within_list c.args.heap.now.shape c.args.zone c.loop-wrapper.cursor c.in-Some.wrapper (sym c.in-Some.ensures.place))
+loop-wrapper-smaller g c =
+    omega (
+      arith,
+      c.in-Some.ensures.cursor,
+      within_list c.args.heap.now.shape c.args.zone c.loop-wrapper.cursor c.in-Some.wrapper (sym c.in-Some.ensures.place),
+    )
 
 pub loop-wrapper-preserved : goal.loop-wrapper-preserved
 loop-wrapper-preserved g c =

@@ -33,4 +33,5 @@ pub returns-clause-gathered : goal.returns-clause-gathered
 returns-clause-gathered g c =
     let h = c.args.heap.now in
     let ended : c.loop-index.index ≡ length h.shape.states = omega arith in
-    subst (λ n. Gathers (IsGrayAmong h c.args.zones n) c.args.found.now.items c.loop-index.found.items) ended c.loop-index.invariant.gathered
+    subst (λ n. Gathers (IsGrayAmong h c.args.zones n) c.args.found.now.items c.loop-index.found.items) ended
+    c.loop-index.invariant.gathered

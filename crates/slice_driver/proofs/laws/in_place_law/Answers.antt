@@ -11,4 +11,5 @@ pub returns-clause-made : goal.returns-clause-made
 returns-clause-made c = λ old new zone p cell whole m. comes_makes old zone p cell new m whole
 
 pub returns-clause-wrapped : goal.returns-clause-wrapped
-returns-clause-wrapped c = λ old new zone comp number target p whole m. comes_wrapper old zone comp number target p new m whole
+returns-clause-wrapped c = λ old new zone comp number target p whole m. comes_wrapper old zone comp number target p new
+    m whole

@@ -2,7 +2,8 @@ use Rattle.std.proofs.Common.{arith, ◌≡◌, ◌<◌, length, slice_get, Some
 use Rattle.colour_defs.proofs.Lists.{contains_at}
 use Rattle.heap_core.specs.Shape.{Shape}
 use Rattle.heap_core.proofs.Added.{arena_made}
-use Rattle.slice_driver.proofs.beginning.MarkedRoots.{held_all, held_first, held_skip, held_step, marks_into, ready_still, shape_still}
+use Rattle.slice_driver.proofs.beginning.MarkedRoots.{held_all, held_first, held_skip, held_step, marks_into}
+use Rattle.slice_driver.proofs.beginning.MarkedRoots.{ready_still, shape_still}
 use Rattle.slice_driver.proofs.root_marking.mark_registers.Goals as goal
 use Rattle.slice_driver.proofs.root_marking.mark_registers.Goals.{in-Some, in_default}
 
@@ -20,8 +21,10 @@ mark_root-requires-clause-made c =
     let h = c.args.heap.now.shape in
     let place = c.in-Some.place in
     let same = shape_still _ _ _ _ _ _ c.loop-index.invariant.marks in
-    let at : slice_get h.regs c.loop-index.index ≡ Some (Some place) = subst (λ (s : Shape). slice_get s.regs c.loop-index.index ≡ Some (Some place)) same c.in-Some.ensures.held in
-    subst (λ (s : Shape). place.0 < length s.arenas) (sym same) (arena_made h place (c.requires.held place (contains_at h.regs c.loop-index.index (Some place) at)))
+    let at : slice_get h.regs c.loop-index.index ≡ Some (Some place) =
+    subst (λ (s : Shape). slice_get s.regs c.loop-index.index ≡ Some (Some place)) same c.in-Some.ensures.held in
+    subst (λ (s : Shape). place.0 < length s.arenas) (sym same)
+    (arena_made h place (c.requires.held place (contains_at h.regs c.loop-index.index (Some place) at)))
 
 pub loop-index-preserved : goal.loop-index-preserved
 loop-index-preserved c =
@@ -31,14 +34,20 @@ loop-index-preserved c =
     let same = shape_still _ _ _ _ _ _ m in
     elim c.match-held_in.branch [
       | in-Some w ↦ record {
-        marks = marks_into _ _ _ _ _ _ _ _ w.heap-is w.stack-is (held_step _ _ _ i w.in-Some.place _ _ _ _ (subst (λ (s : Shape). slice_get s.regs i ≡ Some (Some w.in-Some.place)) same w.in-Some.ensures.held) m w.mark_root.ensures);
+        marks = marks_into _ _ _ _ _ _ _ _ w.heap-is w.stack-is
+            (held_step _ _ _ i w.in-Some.place _ _ _ _
+            (subst (λ (s : Shape). slice_get s.regs i ≡ Some (Some w.in-Some.place)) same w.in-Some.ensures.held) m
+            w.mark_root.ensures);
         counted = λ lt. subst (λ (s : Shape). length s.regs ≡ 16) same w.in-Some.ensures.count;
       }
       | in_default w ↦ record {
-        marks = marks_into _ _ _ _ _ _ _ _ w.heap-is w.stack-is (held_skip _ _ _ i _ _ (subst (λ (s : Shape). slice_get s.regs i ≡ Some None) same w.in_default.ensures.held) m);
+        marks = marks_into _ _ _ _ _ _ _ _ w.heap-is w.stack-is
+            (held_skip _ _ _ i _ _
+            (subst (λ (s : Shape). slice_get s.regs i ≡ Some None) same w.in_default.ensures.held) m);
         counted = λ lt. subst (λ (s : Shape). length s.regs ≡ 16) same w.in_default.ensures.count;
       }
     ]
 
 pub returns : goal.returns
-returns c = held_all _ _ _ c.loop-index.index _ _ (omega (arith, c.loop-index.invariant.counted (omega arith))) c.loop-index.invariant.marks
+returns c = held_all _ _ _ c.loop-index.index _ _ (omega (arith, c.loop-index.invariant.counted (omega arith)))
+    c.loop-index.invariant.marks

@@ -8,7 +8,8 @@ pub source_at-requires-clause-wrappers : goal.source_at-requires-clause-wrappers
 source_at-requires-clause-wrappers g c = wrappers_still _ _ _ _ _ _ c.loop-index.invariant.marks c.requires.wrappers
 
 pub mark_targets_of-requires-clause-wrappers : goal.mark_targets_of-requires-clause-wrappers
-mark_targets_of-requires-clause-wrappers g c = wrappers_still _ _ _ _ _ _ c.loop-index.invariant.marks c.requires.wrappers
+mark_targets_of-requires-clause-wrappers g c =
+    wrappers_still _ _ _ _ _ _ c.loop-index.invariant.marks c.requires.wrappers
 
 pub loop-index-preserved : goal.loop-index-preserved
 loop-index-preserved g c =
@@ -16,6 +17,15 @@ loop-index-preserved g c =
     elim c.match-source_at.branch [
       | in-Some w ↦
           let member = w.in-Some.ensures.some in
-          record { marks = marks_into _ _ _ _ _ _ _ _ w.heap-is w.stack-is (among_step _ _ _ c.loop-index.index _ _ _ _ member.1 m (subst (λ z. Marks (IsTargetOf c.loop-index.heap z) c.args.zones c.loop-index.heap c.loop-index.stack w.mark_targets_of.new.heap w.mark_targets_of.new.stack) member.0 w.mark_targets_of.ensures)) }
-      | in_default w ↦ record { marks = marks_into _ _ _ _ _ _ _ _ w.heap-is w.stack-is (among_skip _ _ _ c.loop-index.index _ _ w.in_default.ensures.none m) }
+          record {
+            marks = marks_into _ _ _ _ _ _ _ _ w.heap-is w.stack-is
+                (among_step _ _ _ c.loop-index.index _ _ _ _ member.1 m
+                (subst (λ z. Marks (IsTargetOf c.loop-index.heap z) c.args.zones c.loop-index.heap c.loop-index.stack
+                w.mark_targets_of.new.heap w.mark_targets_of.new.stack) member.0 w.mark_targets_of.ensures));
+          }
+      | in_default w ↦ record {
+        marks =
+            marks_into _ _ _ _ _ _ _ _ w.heap-is w.stack-is
+            (among_skip _ _ _ c.loop-index.index _ _ w.in_default.ensures.none m);
+      }
     ]

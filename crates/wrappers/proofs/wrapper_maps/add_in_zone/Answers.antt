@@ -11,8 +11,10 @@ pub returns-in_err-insert-clause-err : goal.returns-in_err-insert-clause-err
 returns-in_err-insert-clause-err c =
     let p = err_from_is_err_and c.from_residual.result c.from_residual.ensures.1 in
     let inside : c.index.result < length c.args.maps.now = omega arith in
-    let kept : c.insert.new.self.entries ≡ c.index-maps-index.result.entries = c.in_err-insert.ensures.err ∙ ap (λ (m : Entries). m.entries) (sym c.index-maps-index.is) in
-    rw p.1 (lists_of-same c.args.maps.now c.index.result c.index-maps-index.result c.insert.new.self inside c.index-maps-index.is kept)
+    let kept : c.insert.new.self.entries ≡ c.index-maps-index.result.entries = c.in_err-insert.ensures.err
+    ∙ ap (λ (m : Entries). m.entries) (sym c.index-maps-index.is) in
+    rw p.1 (lists_of-same c.args.maps.now c.index.result c.index-maps-index.result c.insert.new.self inside
+    c.index-maps-index.is kept)
 
 pub returns-clause-ok : goal.returns-clause-ok
 returns-clause-ok c =
@@ -21,10 +23,14 @@ returns-clause-ok c =
     let same : map ≡ old = c.index-maps-index.is in
     let zone : c.index.result ≡ c.args.zone = c.index.ensures.value in
     let inside : c.index.result < length c.args.maps.now = omega arith in
-    let listed : list_at (lists_of c.args.maps.now) c.args.zone ≡ old.entries = ap (list_at (lists_of c.args.maps.now)) (sym zone) ∙ (lists_of-read c.args.maps.now c.index.result map inside same ∙ ap (λ (m : Entries). m.entries) same) in
-    let none : lookup (is_key c.args.comp.0 c.args.target) old.entries ≡ None = ap (lookup (is_key c.args.comp.0 c.args.target)) (sym listed) ∙ c.requires.absent in
+    let listed : list_at (lists_of c.args.maps.now) c.args.zone ≡ old.entries =
+    ap (list_at (lists_of c.args.maps.now)) (sym zone)
+    ∙ (lists_of-read c.args.maps.now c.index.result map inside same ∙ ap (λ (m : Entries). m.entries) same) in
+    let none : lookup (is_key c.args.comp.0 c.args.target) old.entries ≡ None =
+    ap (lookup (is_key c.args.comp.0 c.args.target)) (sym listed) ∙ c.requires.absent in
     let key : WrapperKey = record { comp = c.args.comp.0; target = c.args.target } in
     let entries = rw c.key_of-key.ensures at c.in_ok-insert.ensures.entries in
     let added = entries ∙ insert_entry-new _ old key c.args.place none in
-    let more : c.insert.new.self.entries ≡ map.entries ++ (key, c.args.place) ∷ [] = added ∙ ap (λ (m : Entries). m.entries ++ (key, c.args.place) ∷ []) (sym same) in
+    let more : c.insert.new.self.entries ≡ map.entries ++ (key, c.args.place) ∷ [] =
+    added ∙ ap (λ (m : Entries). m.entries ++ (key, c.args.place) ∷ []) (sym same) in
     rw (← zone) (lists_of-push c.args.maps.now c.index.result map c.insert.new.self key c.args.place inside same more)

@@ -8,7 +8,8 @@ abbrev pub invariant-zones : goal.invariant-zones
 invariant-zones l = record {
   same : l.cursors ≡ l.fn.cursors;
   within : (z : ℕ) → HasZone l.rest.bits z → HasZone l.fn.zones.bits z;
-  ended : (z : ℕ) → HasZone l.fn.zones.bits z → HasZone l.rest.bits z ⊎ (wrapper_at l.fn.heap.shape z (slice_index l.fn.cursors z) ≡ None);
+  ended : (z : ℕ) → HasZone l.fn.zones.bits z → HasZone l.rest.bits z
+      ⊎ (wrapper_at l.fn.heap.shape z (slice_index l.fn.cursors z) ≡ None);
 }
 
 abbrev pub decreases-zones : goal.decreases-zones

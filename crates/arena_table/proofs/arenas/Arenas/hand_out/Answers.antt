@@ -7,14 +7,20 @@ use Rattle.arena_table.proofs.arenas.Arenas.hand_out.Goals as goal
 
 pub invariant_of-self : goal.invariant_of-self
 invariant_of-self c = record {
-  indexed = IsIndexed-handed c.self.inside.store.arenas c.send_out.new.store.arenas c.self.inside.index c.close_all.new.self c.args.zones.bits c.self.invariant.indexed c.send_out.ensures.arenas c.close_all.ensures.owned c.close_all.ensures.bits c.close_all.ensures.room c.close_all.ensures.others;
+  indexed = IsIndexed-handed c.self.inside.store.arenas c.send_out.new.store.arenas c.self.inside.index
+      c.close_all.new.self c.args.zones.bits c.self.invariant.indexed c.send_out.ensures.arenas
+      c.close_all.ensures.owned c.close_all.ensures.bits c.close_all.ensures.room c.close_all.ensures.others;
   out_of = c.send_out.ensures.out;
   few = c.self.invariant.few;
-  counted = c.self.invariant.counted ∙ sym (held_by-out c.args.zones.bits c.self.inside.store.arenas c.send_out.new.store.arenas c.send_out.ensures.arenas);
+  counted = c.self.invariant.counted
+      ∙ sym (held_by-out c.args.zones.bits c.self.inside.store.arenas c.send_out.new.store.arenas
+      c.send_out.ensures.arenas);
   fewer = c.self.invariant.fewer;
   kept = λ r e. absurd (cc);
 }
 
 pub returns-clause-cells : goal.returns-clause-cells
 returns-clause-cells c = λ p.
-    ap (λ as'. cell_at as' p) c.send_out.ensures.arenas ∙ (cell_at-handed c.self.inside.store.arenas c.args.zones.bits p ∙ ap (λ (s : ArenasState). cell_at s.arenas p) c.self.view_is)
+    ap (λ as'. cell_at as' p) c.send_out.ensures.arenas
+    ∙ (cell_at-handed c.self.inside.store.arenas c.args.zones.bits p
+    ∙ ap (λ (s : ArenasState). cell_at s.arenas p) c.self.view_is)

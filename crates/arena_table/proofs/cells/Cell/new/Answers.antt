@@ -8,4 +8,10 @@ use Rattle.arena_table.proofs.cells.Cell.new.Goals as goal
 pub returns : goal.returns
 returns c =
     let null : Link = record { position = 0 } in
-    ap (λ (fields : List (Option Place)). record { kind = c.args.kind; comp = c.args.comp; name = c.args.name; fields = fields }) (map-take-replicate (λ (link : Link). place_at link.position) (field_count c.args.kind) 8 null c.requires)
+    ap (λ (fields : List (Option Place)). record {
+      kind = c.args.kind;
+      comp = c.args.comp;
+      name = c.args.name;
+      fields = fields;
+    }) (map-take-replicate (λ (link : Link). place_at link.position) (field_count c.args.kind) 8
+    null c.requires)

@@ -9,5 +9,6 @@ pub returns : goal.returns
 returns c =
     let old = c.args.self.now in
     let seen = λ (link : Link). place_at link.position in
-    let fields = map-take-set seen (field_count old.kind) old.fields c.args.f c.to.result ∙ ap (set (map seen (take (field_count old.kind) old.fields)) c.args.f) c.to.ensures in
+    let fields = map-take-set seen (field_count old.kind) old.fields c.args.f c.to.result
+    ∙ ap (set (map seen (take (field_count old.kind) old.fields)) c.args.f) c.to.ensures in
     ap (λ (fs : List (Option Place)). record { kind = old.kind; comp = old.comp; name = old.name; fields = fs }) fields

@@ -8,8 +8,10 @@ invariant_of-self c =
     let same = ap (λ (s : StoreState). length s.arenas) c.self.view_is in
     let long = length-arenas_of c.self.inside.heads.items c.self.inside.chunks.items c.self.invariant.paired in
     let few : length c.self.inside.heads.items < 67108863 = omega (arith, c.requires.few) in
-    rw (c.push_reserved.ensures.items, c.push_reserved-2.ensures.items) (AreStored-push _ _ _ _ c.self.invariant (omega arith) refl few)
+    rw (c.push_reserved.ensures.items, c.push_reserved-2.ensures.items)
+    (AreStored-push _ _ _ _ c.self.invariant (omega arith) refl few)
 
 pub returns : goal.returns
 returns c =
-    rw (c.push_reserved.ensures.items, c.push_reserved-2.ensures.items) (arenas_of-empty _ _ _ c.args.zone _ c.self.invariant (ap (λ (s : StoreState). s.arenas) c.self.view_is))
+    rw (c.push_reserved.ensures.items, c.push_reserved-2.ensures.items)
+    (arenas_of-empty _ _ _ c.args.zone _ c.self.invariant (ap (λ (s : StoreState). s.arenas) c.self.view_is))

@@ -5,4 +5,5 @@ use Rattle.heap_core.proofs.Views.{held-seen}
 use Rattle.heap_core.proofs.heap.Heap.count.Goals as goal
 
 pub returns : goal.returns
-returns c = c.count.ensures.value ∙ (held-seen c.self.inside.arenas.arenas ∙ ap (λ (h : HeapState). held_in_all h.shape.arenas) c.self.view_is)
+returns c = c.count.ensures.value
+    ∙ (held-seen c.self.inside.arenas.arenas ∙ ap (λ (h : HeapState). held_in_all h.shape.arenas) c.self.view_is)

@@ -5,4 +5,5 @@ use Rattle.heap_core.proofs.Views.{is_out-seen}
 use Rattle.heap_core.proofs.heap.Heap.is_out.Goals as goal
 
 pub returns : goal.returns
-returns c = c.is_out.ensures ∙ is_out-seen c.self.inside.arenas.arenas c.args.arena ∙ ap (λ (h : HeapState). is_some (out_of h.shape c.args.arena)) c.self.view_is
+returns c = c.is_out.ensures ∙ is_out-seen c.self.inside.arenas.arenas c.args.arena
+    ∙ ap (λ (h : HeapState). is_some (out_of h.shape c.args.arena)) c.self.view_is

@@ -6,18 +6,29 @@ use Rattle.heap_core.proofs.NotedTargets.{noted-set_bits}
 use Rattle.heap_core.proofs.heap.Heap.mark_black.Goals as goal
 
 pub set_bits-requires : goal.set_bits-requires
-set_bits-requires c = kept-at (the_view c.self.inside) _ c.self.inside.arenas c.args.place _ c.self.view_is c.arena-then-is_new.ensures c.requires.made c.requires.kept
+set_bits-requires c = kept-at (the_view c.self.inside) _ c.self.inside.arenas c.args.place _ c.self.view_is
+    c.arena-then-is_new.ensures c.requires.made c.requires.kept
 
 pub returns-then-is_new : goal.returns-then-is_new
-returns-then-is_new c = rw c.if-is_new.true (takes_black (the_view c.self.inside) _ c.self.inside.arenas c.args.place _ c.self.view_is c.arena.ensures
-    c.set_bits.new.self c.bits-bits.result c.mark_black-is_new.new.self _ c.slot.ensures.value c.slot.ensures.below c.requires.kept c.bits-bits.ensures
-    (c.set_bits.ensures ∙ ap (λ n. record c.self.inside.arenas { arenas = change_at (with_bits c.mark_black-is_new.new.self) c.self.inside.arenas.arenas n }) c.arena-then-is_new.ensures)
-    (c.mark_black-is_new.ensures.set.0 c.if-is_new.true) c.mark_black-is_new.ensures.black c.mark_black-is_new.ensures.gob)
+returns-then-is_new c =
+    rw c.if-is_new.true (takes_black (the_view c.self.inside) _ c.self.inside.arenas c.args.place _ c.self.view_is
+    c.arena.ensures
+    c.set_bits.new.self c.bits-bits.result c.mark_black-is_new.new.self _ c.slot.ensures.value c.slot.ensures.below
+    c.requires.kept c.bits-bits.ensures
+    (c.set_bits.ensures ∙ ap
+    (λ n. record c.self.inside.arenas {
+      arenas =
+          change_at (with_bits c.mark_black-is_new.new.self) c.self.inside.arenas.arenas n;
+    }) c.arena-then-is_new.ensures)
+    (c.mark_black-is_new.ensures.set.0 c.if-is_new.true) c.mark_black-is_new.ensures.black
+    c.mark_black-is_new.ensures.gob)
 
 pub returns-else-is_new : goal.returns-else-is_new
 returns-else-is_new c = rw c.if-is_new.false (
-  colour-at (the_view c.self.inside) _ c.self.inside.arenas c.args.place _ c.self.view_is c.arena.ensures c.bits-bits.result _ c.slot.ensures.value c.bits-bits.ensures
-      ∙ was_black c.bits-bits.result c.slot.result c.mark_black-is_new.result c.mark_black-is_new.ensures.set c.if-is_new.false,
+  colour-at (the_view c.self.inside) _ c.self.inside.arenas c.args.place _ c.self.view_is c.arena.ensures
+      c.bits-bits.result _ c.slot.ensures.value c.bits-bits.ensures
+      ∙ was_black c.bits-bits.result c.slot.result c.mark_black-is_new.result c.mark_black-is_new.ensures.set
+      c.if-is_new.false,
   refl,
 )
 

@@ -6,17 +6,28 @@ use Rattle.heap_core.proofs.NotedTargets.{noted-set_bits}
 use Rattle.heap_core.proofs.heap.Heap.mark_gray.Goals as goal
 
 pub set_bits-requires : goal.set_bits-requires
-set_bits-requires c = kept-at (the_view c.self.inside) _ c.self.inside.arenas c.args.place _ c.self.view_is c.arena-then-is_new.ensures c.requires.made c.requires.kept
+set_bits-requires c = kept-at (the_view c.self.inside) _ c.self.inside.arenas c.args.place _ c.self.view_is
+    c.arena-then-is_new.ensures c.requires.made c.requires.kept
 
 pub returns-then-is_new : goal.returns-then-is_new
-returns-then-is_new c = rw c.if-is_new.true (takes_gray (the_view c.self.inside) _ c.self.inside.arenas c.args.place _ c.self.view_is c.arena.ensures
-    c.set_bits.new.self c.bits-bits.result c.mark_gray-is_new.new.self _ c.slot.ensures.value c.slot.ensures.below c.requires.kept c.bits-bits.ensures
-    (c.set_bits.ensures ∙ ap (λ n. record c.self.inside.arenas { arenas = change_at (with_bits c.mark_gray-is_new.new.self) c.self.inside.arenas.arenas n }) c.arena-then-is_new.ensures)
-    (c.mark_gray-is_new.ensures.set.0 c.if-is_new.true) c.mark_gray-is_new.ensures.black (c.mark_gray-is_new.ensures.gob c.if-is_new.true) (c.mark_gray-is_new.ensures.marks c.if-is_new.true))
+returns-then-is_new c =
+    rw c.if-is_new.true (takes_gray (the_view c.self.inside) _ c.self.inside.arenas c.args.place _ c.self.view_is
+    c.arena.ensures
+    c.set_bits.new.self c.bits-bits.result c.mark_gray-is_new.new.self _ c.slot.ensures.value c.slot.ensures.below
+    c.requires.kept c.bits-bits.ensures
+    (c.set_bits.ensures ∙ ap
+    (λ n. record c.self.inside.arenas {
+      arenas =
+          change_at (with_bits c.mark_gray-is_new.new.self) c.self.inside.arenas.arenas n;
+    }) c.arena-then-is_new.ensures)
+    (c.mark_gray-is_new.ensures.set.0 c.if-is_new.true) c.mark_gray-is_new.ensures.black
+    (c.mark_gray-is_new.ensures.gob c.if-is_new.true) (c.mark_gray-is_new.ensures.marks c.if-is_new.true))
 
 pub returns-else-is_new : goal.returns-else-is_new
 returns-else-is_new c = rw c.if-is_new.false (
-  λ white. (let yes = c.mark_gray-is_new.ensures.set.1 (sym (colour-at (the_view c.self.inside) _ c.self.inside.arenas c.args.place _ c.self.view_is c.arena.ensures c.bits-bits.result _ c.slot.ensures.value c.bits-bits.ensures) ∙ white) in
+  λ white. (let yes = c.mark_gray-is_new.ensures.set.1
+      (sym (colour-at (the_view c.self.inside) _ c.self.inside.arenas c.args.place _ c.self.view_is c.arena.ensures
+      c.bits-bits.result _ c.slot.ensures.value c.bits-bits.ensures) ∙ white) in
       let off = c.if-is_new.false in cc (yes, off)),
   refl,
 )

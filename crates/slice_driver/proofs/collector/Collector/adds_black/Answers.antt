@@ -9,7 +9,15 @@ use Rattle.slice_driver.proofs.collector.Collector.adds_black.Goals.{in-Did, in-
 
 pub returns-clause-done : goal.returns-clause-done
 returns-clause-done g c =
-    let v : CollectorState = record { heap = c.self.inside.heap; stack = c.self.inside.stack; lists = c.self.inside.lists; edges = c.self.inside.edges; groups = c.self.inside.order; run = run_of c.self.inside.run } in
+    let v : CollectorState =
+    record {
+      heap = c.self.inside.heap;
+      stack = c.self.inside.stack;
+      lists = c.self.inside.lists;
+      edges = c.self.inside.edges;
+      groups = c.self.inside.order;
+      run = run_of c.self.inside.run;
+    } in
     let is : v ≡ c.args.self.now = c.self.view_is in
     let flown : ℕ → Option Bits = g.F.Flight.bits c.args.flight.now in
     let flying : ℕ → Option Bits = g.F.Flight.bits c.weak_unit.new.flight in
@@ -17,11 +25,20 @@ returns-clause-done g c =
     let d : CollectorState = record v { heap = c.weak_unit.new.heap; stack = c.weak_unit.new.stack } in
     let sound : IsSound v flown = subst (λ (x : CollectorState). IsSound x flown) (sym is) c.requires.sound in
     let running : IsSome v.run = subst (λ (x : CollectorState). IsSome x.run) (sym is) c.requires.running in
-    let here : DidOrStill c.match-weak_unit.result (IsBlackFixed v flown) v flown d flying = elim c.match-weak_unit.branch [
-      | in-Did w ↦ subst (λ b. DidOrStill b (IsBlackFixed v flown) v flown d flying) (sym w.result-is) (black_added v flown flying d.heap d.stack c.marking-zones.result.bits sound running e.covers (w.in-Did.ensures.does refl), (let does = w.in-Did.ensures.does refl in black_wanted v flown c.marking-zones.result c.marking-zones.ensures does.value does.wanted))
+    let here : DidOrStill c.match-weak_unit.result (IsBlackFixed v flown) v flown d flying =
+    elim c.match-weak_unit.branch [
+      | in-Did w ↦ subst (λ b. DidOrStill b (IsBlackFixed v flown) v flown d flying) (sym w.result-is) (
+        black_added v flown flying d.heap d.stack c.marking-zones.result.bits sound running e.covers
+            (w.in-Did.ensures.does refl),
+        (let does = w.in-Did.ensures.does refl in
+            black_wanted v flown c.marking-zones.result c.marking-zones.ensures does.value does.wanted),
+      )
       | in-Empty w ↦ (
           let same = w.in-Empty.ensures.same refl in
-          subst (λ b. DidOrStill b (IsBlackFixed v flown) v flown d flying) (sym w.result-is) (still v flown flying d.heap d.stack e.covers same.0 same.1 same.2, black_fixed v flown c.marking-zones.result c.marking-zones.ensures (w.in-Empty.ensures.fixed.0 refl))
+          subst (λ b. DidOrStill b (IsBlackFixed v flown) v flown d flying) (sym w.result-is) (
+            still v flown flying d.heap d.stack e.covers same.0 same.1 same.2,
+            black_fixed v flown c.marking-zones.result c.marking-zones.ensures (w.in-Empty.ensures.fixed.0 refl),
+          )
           )
     ] in
     subst (λ (x : CollectorState). DidOrStill c.match-weak_unit.result (IsBlackFixed x flown) x flown d flying) is here

@@ -10,7 +10,8 @@ returns-in-Some-clause-done g c =
     let still = c.in_ok-unit.ensures.due_still (ap is_some c.in-Some.is) in
     let took = c.take_due_into.ensures in
     still_advances 1 c.args.self.now c.unit.new.self c.take_due_into.new.self (g.F.Flight.bits c.args.flight.now)
-    (g.F.Flight.bits c.unit.new.flight) (flying_after c.swept.result.handed (g.F.Flight.bits c.take_due_into.new.flight))
+    (g.F.Flight.bits c.unit.new.flight)
+    (flying_after c.swept.result.handed (g.F.Flight.bits c.take_due_into.new.flight))
     (outs_after c.swept.result.handed (g.F.Sweeping.left (g.F.Flight.origin c.take_due_into.new.flight)))
     c.args.report.now c.take_due_into.new.report c.swept.result
     (omega arith) still
@@ -29,7 +30,8 @@ returns-in-None-clause-done g c =
     (unit_does c.args.self.now c.unit.new.self (g.F.Flight.bits c.args.flight.now) (g.F.Flight.bits c.unit.new.flight)
     unit did.done c.in-None.is)
     (unit_lowers unit (units_left c.args.self.now (g.F.Flight.bits c.args.flight.now))
-    (units_left c.unit.new.self (flying_after unit.handed (g.F.Flight.bits c.unit.new.flight))) did.left c.in-None.is) did.finished did.sound
+    (units_left c.unit.new.self (flying_after unit.handed (g.F.Flight.bits c.unit.new.flight))) did.left c.in-None.is)
+    did.finished did.sound
     (out_handed c.args.self.now.heap.shape c.unit.new.self.heap.shape unit.handed
     (g.F.Sweeping.left (g.F.Flight.origin c.args.flight.now)) (g.F.Sweeping.left (g.F.Flight.origin c.unit.new.flight))
     (ap g.F.Sweeping.left did.origin) did.jobs c.requires.out)

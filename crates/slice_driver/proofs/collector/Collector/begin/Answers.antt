@@ -10,25 +10,30 @@ use Rattle.slice_driver.proofs.group_end.Steps.{small_word}
 use Rattle.slice_driver.proofs.measure.FewUnits.{none_buffered}
 use Rattle.slice_driver.proofs.abstraction.IdleFlight.{idle_sound}
 use Rattle.slice_driver.proofs.abstraction.SoundAfter.{begin_sound, none_words}
-use Rattle.slice_driver.proofs.beginning.BegunSteps.{at_rest, begun_worlds, held_begun, kept_begun, made_marked, marks_of, none_out, nothing_buffered, ready_begun, ready_marked, wrappers_marked, wrappers_of}
+use Rattle.slice_driver.proofs.beginning.BegunSteps.{at_rest, begun_worlds, held_begun, kept_begun, made_marked}
+use Rattle.slice_driver.proofs.beginning.BegunSteps.{marks_of, none_out, nothing_buffered, ready_begun, ready_marked}
+use Rattle.slice_driver.proofs.beginning.BegunSteps.{wrappers_marked, wrappers_of}
 use Rattle.slice_driver.proofs.collector.Collector.begin.Goals as goal
 
 pub buffer_gray_roots-requires-clause-held : goal.buffer_gray_roots-requires-clause-held
 buffer_gray_roots-requires-clause-held g c =
     let rest = at_rest (the_view c.self.inside) c.args.self.now c.self.view_is
-    (idle_sound c.args.self.now c.requires.sound.0 c.requires.sound.1) c.running.result c.running.ensures.run c.if-running.false in
+    (idle_sound c.args.self.now c.requires.sound.0 c.requires.sound.1) c.running.result c.running.ensures.run
+    c.if-running.false in
     rest.represents.lies.shown.slots_held
 
 pub buffer_gray_roots-requires-clause-wrappers : goal.buffer_gray_roots-requires-clause-wrappers
 buffer_gray_roots-requires-clause-wrappers g c =
     let rest = at_rest (the_view c.self.inside) c.args.self.now c.self.view_is
-    (idle_sound c.args.self.now c.requires.sound.0 c.requires.sound.1) c.running.result c.running.ensures.run c.if-running.false in
+    (idle_sound c.args.self.now c.requires.sound.0 c.requires.sound.1) c.running.result c.running.ensures.run
+    c.if-running.false in
     wrappers_of (the_view c.self.inside) rest.world rest.represents rest.idle
 
 pub buffer_gray_roots-requires-clause-sized : goal.buffer_gray_roots-requires-clause-sized
 buffer_gray_roots-requires-clause-sized g c =
     let rest = at_rest (the_view c.self.inside) c.args.self.now c.self.view_is
-    (idle_sound c.args.self.now c.requires.sound.0 c.requires.sound.1) c.running.result c.running.ensures.run c.if-running.false in
+    (idle_sound c.args.self.now c.requires.sound.0 c.requires.sound.1) c.running.result c.running.ensures.run
+    c.if-running.false in
     (marks_of (the_view c.self.inside) rest.world rest.represents rest.idle).holds.colours.sized
 
 pub few_wrappers_law-requires : goal.few_wrappers_law-requires
@@ -37,72 +42,94 @@ few_wrappers_law-requires g c = c.requires.sound
 pub buffer_gray_roots-requires-clause-empty : goal.buffer_gray_roots-requires-clause-empty
 buffer_gray_roots-requires-clause-empty g c =
     let rest = at_rest (the_view c.self.inside) c.args.self.now c.self.view_is
-    (idle_sound c.args.self.now c.requires.sound.0 c.requires.sound.1) c.running.result c.running.ensures.run c.if-running.false in
+    (idle_sound c.args.self.now c.requires.sound.0 c.requires.sound.1) c.running.result c.running.ensures.run
+    c.if-running.false in
     none_buffered c.self.inside.heap.buffers
     (nothing_buffered (the_view c.self.inside) rest.world rest.represents rest.idle)
 
 pub clear_bits-requires : goal.clear_bits-requires
 clear_bits-requires g c =
     let rest = at_rest (the_view c.self.inside) c.args.self.now c.self.view_is
-    (idle_sound c.args.self.now c.requires.sound.0 c.requires.sound.1) c.running.result c.running.ensures.run c.if-running.false in
-    kept_begun (the_view c.self.inside) rest c.args.zones c.buffer_gray_roots.new.heap c.in_ok-buffer_gray_roots.ensures.ok
+    (idle_sound c.args.self.now c.requires.sound.0 c.requires.sound.1) c.running.result c.running.ensures.run
+    c.if-running.false in
+    kept_begun (the_view c.self.inside) rest c.args.zones c.buffer_gray_roots.new.heap
+    c.in_ok-buffer_gray_roots.ensures.ok
 
 pub mark_registers-requires-clause-ready : goal.mark_registers-requires-clause-ready
 mark_registers-requires-clause-ready g c =
     let rest = at_rest (the_view c.self.inside) c.args.self.now c.self.view_is
-    (idle_sound c.args.self.now c.requires.sound.0 c.requires.sound.1) c.running.result c.running.ensures.run c.if-running.false in
+    (idle_sound c.args.self.now c.requires.sound.0 c.requires.sound.1) c.running.result c.running.ensures.run
+    c.if-running.false in
     let fits : c.args.zones.bits < 18446744073709551616 = search rules in
     let small = small_word c.args.zones.bits fits in
-    ready_begun (the_view c.self.inside) rest c.args.zones small c.buffer_gray_roots.new.heap c.in_ok-buffer_gray_roots.ensures.ok c.clear_bits.new.self c.clear_bits.ensures
+    ready_begun (the_view c.self.inside) rest c.args.zones small c.buffer_gray_roots.new.heap
+    c.in_ok-buffer_gray_roots.ensures.ok c.clear_bits.new.self c.clear_bits.ensures
 
 pub mark_targets-requires-clause-ready : goal.mark_targets-requires-clause-ready
 mark_targets-requires-clause-ready g c =
     let rest = at_rest (the_view c.self.inside) c.args.self.now c.self.view_is
-    (idle_sound c.args.self.now c.requires.sound.0 c.requires.sound.1) c.running.result c.running.ensures.run c.if-running.false in
+    (idle_sound c.args.self.now c.requires.sound.0 c.requires.sound.1) c.running.result c.running.ensures.run
+    c.if-running.false in
     let fits : c.args.zones.bits < 18446744073709551616 = search rules in
     let small = small_word c.args.zones.bits fits in
-    ready_marked (the_view c.self.inside) rest c.args.zones small c.buffer_gray_roots.new.heap c.in_ok-buffer_gray_roots.ensures.ok c.clear_bits.new.self c.clear_bits.ensures c.mark_registers.new.heap c.mark_registers.new.stack c.mark_registers.ensures
+    ready_marked (the_view c.self.inside) rest c.args.zones small c.buffer_gray_roots.new.heap
+    c.in_ok-buffer_gray_roots.ensures.ok c.clear_bits.new.self c.clear_bits.ensures c.mark_registers.new.heap
+    c.mark_registers.new.stack c.mark_registers.ensures
 
 pub mark_targets-requires-clause-wrappers : goal.mark_targets-requires-clause-wrappers
 mark_targets-requires-clause-wrappers g c =
     let rest = at_rest (the_view c.self.inside) c.args.self.now c.self.view_is
-    (idle_sound c.args.self.now c.requires.sound.0 c.requires.sound.1) c.running.result c.running.ensures.run c.if-running.false in
+    (idle_sound c.args.self.now c.requires.sound.0 c.requires.sound.1) c.running.result c.running.ensures.run
+    c.if-running.false in
     let fits : c.args.zones.bits < 18446744073709551616 = search rules in
     let small = small_word c.args.zones.bits fits in
-    wrappers_marked (the_view c.self.inside) rest c.args.zones small c.buffer_gray_roots.new.heap c.in_ok-buffer_gray_roots.ensures.ok c.clear_bits.new.self c.clear_bits.ensures c.mark_registers.new.heap c.mark_registers.new.stack c.mark_registers.ensures
+    wrappers_marked (the_view c.self.inside) rest c.args.zones small c.buffer_gray_roots.new.heap
+    c.in_ok-buffer_gray_roots.ensures.ok c.clear_bits.new.self c.clear_bits.ensures c.mark_registers.new.heap
+    c.mark_registers.new.stack c.mark_registers.ensures
 
 pub mark_registers-requires-clause-held : goal.mark_registers-requires-clause-held
 mark_registers-requires-clause-held g c =
     let rest = at_rest (the_view c.self.inside) c.args.self.now c.self.view_is
-    (idle_sound c.args.self.now c.requires.sound.0 c.requires.sound.1) c.running.result c.running.ensures.run c.if-running.false in
+    (idle_sound c.args.self.now c.requires.sound.0 c.requires.sound.1) c.running.result c.running.ensures.run
+    c.if-running.false in
     let fits : c.args.zones.bits < 18446744073709551616 = search rules in
     let small = small_word c.args.zones.bits fits in
-    held_begun (the_view c.self.inside) rest c.args.zones small c.buffer_gray_roots.new.heap c.in_ok-buffer_gray_roots.ensures.ok c.clear_bits.new.self c.clear_bits.ensures
+    held_begun (the_view c.self.inside) rest c.args.zones small c.buffer_gray_roots.new.heap
+    c.in_ok-buffer_gray_roots.ensures.ok c.clear_bits.new.self c.clear_bits.ensures
 
 pub advance_all-requires : goal.advance_all-requires
 advance_all-requires g c =
     let rest = at_rest (the_view c.self.inside) c.args.self.now c.self.view_is
-    (idle_sound c.args.self.now c.requires.sound.0 c.requires.sound.1) c.running.result c.running.ensures.run c.if-running.false in
+    (idle_sound c.args.self.now c.requires.sound.0 c.requires.sound.1) c.running.result c.running.ensures.run
+    c.if-running.false in
     let fits : c.args.zones.bits < 18446744073709551616 = search rules in
     let small = small_word c.args.zones.bits fits in
     let made = c.are_made.ensures.0 c.if-not-are_made.false in
     record {
-      made = made_marked (the_view c.self.inside) rest c.args.zones small c.buffer_gray_roots.new.heap c.in_ok-buffer_gray_roots.ensures.ok c.clear_bits.new.self c.clear_bits.ensures
-          c.mark_registers.new.heap c.mark_registers.new.stack c.mark_registers.ensures c.mark_targets.new.heap c.mark_targets.new.stack c.mark_targets.ensures made;
+      made = made_marked (the_view c.self.inside) rest c.args.zones small c.buffer_gray_roots.new.heap
+          c.in_ok-buffer_gray_roots.ensures.ok c.clear_bits.new.self c.clear_bits.ensures
+          c.mark_registers.new.heap c.mark_registers.new.stack c.mark_registers.ensures c.mark_targets.new.heap
+          c.mark_targets.new.stack c.mark_targets.ensures made;
     }
 
 pub invariant_of-self-2 : goal.invariant_of-self-2
 invariant_of-self-2 g c =
     let rest = at_rest (the_view c.self.inside) c.args.self.now c.self.view_is
-    (idle_sound c.args.self.now c.requires.sound.0 c.requires.sound.1) c.running.result c.running.ensures.run c.if-running.false in
+    (idle_sound c.args.self.now c.requires.sound.0 c.requires.sound.1) c.running.result c.running.ensures.run
+    c.if-running.false in
     let fits : c.args.zones.bits < 18446744073709551616 = search rules in
     let small = small_word c.args.zones.bits fits in
     let made = c.are_made.ensures.0 c.if-not-are_made.false in
-    let out = none_out (the_view c.self.inside) rest c.args.zones small c.buffer_gray_roots.new.heap c.in_ok-buffer_gray_roots.ensures.ok c.clear_bits.new.self c.clear_bits.ensures
-    c.mark_registers.new.heap c.mark_registers.new.stack c.mark_registers.ensures c.mark_targets.new.heap c.mark_targets.new.stack c.mark_targets.ensures made
+    let out = none_out (the_view c.self.inside) rest c.args.zones small c.buffer_gray_roots.new.heap
+    c.in_ok-buffer_gray_roots.ensures.ok c.clear_bits.new.self c.clear_bits.ensures
+    c.mark_registers.new.heap c.mark_registers.new.stack c.mark_registers.ensures c.mark_targets.new.heap
+    c.mark_targets.new.stack c.mark_targets.ensures made
     c.advance_all.new.heap c.advance_all.ensures in
     record {
-      waiting = λ unformed z. ((λ has. (has, λ st. HasZone-none z (subst (λ word. HasZone word z) c.start.ensures.stepped st))), λ both. both.0);
+      waiting = λ unformed z. (
+        (λ has. (has, λ st. HasZone-none z (subst (λ word. HasZone word z) c.start.ensures.stepped st))),
+        λ both. both.0,
+      );
       some_waits = λ unformed. c.requires.some;
       more = λ none kept formed. absurd (cc formed);
     }
@@ -110,16 +137,28 @@ invariant_of-self-2 g c =
 pub returns-clause-begun : goal.returns-clause-begun
 returns-clause-begun g c =
     let rest = at_rest (the_view c.self.inside) c.args.self.now c.self.view_is
-    (idle_sound c.args.self.now c.requires.sound.0 c.requires.sound.1) c.running.result c.running.ensures.run c.if-running.false in
+    (idle_sound c.args.self.now c.requires.sound.0 c.requires.sound.1) c.running.result c.running.ensures.run
+    c.if-running.false in
     let fits : c.args.zones.bits < 18446744073709551616 = search rules in
     let small = small_word c.args.zones.bits fits in
     let made = c.are_made.ensures.0 c.if-not-are_made.false in
-    let begun = begun_worlds (the_view c.self.inside) rest c.args.zones small c.buffer_gray_roots.new.heap c.in_ok-buffer_gray_roots.ensures.ok c.clear_bits.new.self c.clear_bits.ensures
-    c.mark_registers.new.heap c.mark_registers.new.stack c.mark_registers.ensures c.mark_targets.new.heap c.mark_targets.new.stack c.mark_targets.ensures made
-    (λ none. nothing_in_none c.requires.some.0 (subst (λ zs. Contains zs c.requires.some.0) none ((zones_in-has c.args.zones c.requires.some.0).1 c.requires.some.1)))
+    let begun = begun_worlds (the_view c.self.inside) rest c.args.zones small c.buffer_gray_roots.new.heap
+    c.in_ok-buffer_gray_roots.ensures.ok c.clear_bits.new.self c.clear_bits.ensures
+    c.mark_registers.new.heap c.mark_registers.new.stack c.mark_registers.ensures c.mark_targets.new.heap
+    c.mark_targets.new.stack c.mark_targets.ensures made
+    (λ none. nothing_in_none c.requires.some.0
+    (subst (λ zs. Contains zs c.requires.some.0) none
+    ((zones_in-has c.args.zones c.requires.some.0).1 c.requires.some.1)))
     c.start.new.self c.start.ensures.zones c.start.ensures.edges c.start.ensures.cursors c.start.ensures.stepped
     c.advance_all.new.heap c.advance_all.ensures in
-    subst (λ (s : CollectorState). BeginsIn s c.args.zones.bits (record (the_view c.self.inside) { heap = c.advance_all.new.heap; stack = c.mark_targets.new.stack; edges = c.start.new.self; run = Some (record { zones = c.args.zones; formed = false }) })) c.self.view_is begun
+    subst (λ (s : CollectorState).
+    BeginsIn s c.args.zones.bits
+    (record (the_view c.self.inside) {
+      heap = c.advance_all.new.heap;
+      stack = c.mark_targets.new.stack;
+      edges = c.start.new.self;
+      run = Some (record { zones = c.args.zones; formed = false });
+    })) c.self.view_is begun
 
 pub returns-clause-sound : goal.returns-clause-sound
 returns-clause-sound g c = λ flown s. begin_sound c.args.self.now _ c.args.zones.bits flown (returns-clause-begun g c) s
@@ -127,7 +166,8 @@ returns-clause-sound g c = λ flown s. begin_sound c.args.self.now _ c.args.zone
 pub returns-clause-words : goal.returns-clause-words
 returns-clause-words g c =
     let rest = at_rest (the_view c.self.inside) c.args.self.now c.self.view_is
-    (idle_sound c.args.self.now c.requires.sound.0 c.requires.sound.1) c.running.result c.running.ensures.run c.if-running.false in
+    (idle_sound c.args.self.now c.requires.sound.0 c.requires.sound.1) c.running.result c.running.ensures.run
+    c.if-running.false in
     let fits : c.args.zones.bits < 18446744073709551616 = search rules in
     let small = small_word c.args.zones.bits fits in
     let made = c.are_made.ensures.0 c.if-not-are_made.false in

@@ -11,27 +11,53 @@ use Rattle.slice_driver.proofs.collector.Collector.begins_zone.Goals as goal
 
 pub returns-in_default-first : goal.returns-in_default-first
 returns-in_default-first c =
-    let v : CollectorState = record { heap = c.self.inside.heap; stack = c.self.inside.stack; lists = c.self.inside.lists; edges = c.self.inside.edges; groups = c.self.inside.order; run = run_of c.self.inside.run } in
+    let v : CollectorState =
+    record {
+      heap = c.self.inside.heap;
+      stack = c.self.inside.stack;
+      lists = c.self.inside.lists;
+      edges = c.self.inside.edges;
+      groups = c.self.inside.order;
+      run = run_of c.self.inside.run;
+    } in
     let is : v ≡ c.args.self.now = c.self.view_is in
     let flown = c.requires.sound.0 in
     let sound : IsSound v flown = subst (λ (x : CollectorState). IsSound x flown) (sym is) c.requires.sound.1 in
     let formed : IsFormed v = subst (λ (x : CollectorState). IsFormed x) (sym is) c.requires.formed in
     let at : slice_get v.groups 0 ≡ Some c.in-Some.group = sym c.current.ensures ∙ c.in-Some.is in
-    let both = in_both c.in-Some.group.bits c.in_state-waiting.result.bits c.without.result.bits c.without-2.result.bits c.without.ensures c.without-2.ensures in
-    let begun : HasBegun v = λ g e. all_begun v flown sound formed g e (λ z h found. c.in_default-first.ensures.none z ((both z).1 (subst (λ (y : ZoneSet). HasZone y.bits z) (some_one _ _ (sym e ∙ at)) h, (c.in_state-waiting.ensures z).1 found))) in
+    let both = in_both c.in-Some.group.bits c.in_state-waiting.result.bits c.without.result.bits c.without-2.result.bits
+    c.without.ensures c.without-2.ensures in
+    let begun : HasBegun v =
+    λ g e. all_begun v flown sound formed g e
+    (λ z h found. c.in_default-first.ensures.none z
+    ((both z).1 (
+      subst (λ (y : ZoneSet). HasZone y.bits z) (some_one _ _ (sym e ∙ at)) h,
+      (c.in_state-waiting.ensures z).1 found,
+    ))) in
     (subst (λ (x : CollectorState). HasBegun x) is begun, refl)
 
 pub returns : goal.returns
 returns c =
-    let v : CollectorState = record { heap = c.self.inside.heap; stack = c.self.inside.stack; lists = c.self.inside.lists; edges = c.self.inside.edges; groups = c.self.inside.order; run = run_of c.self.inside.run } in
+    let v : CollectorState =
+    record {
+      heap = c.self.inside.heap;
+      stack = c.self.inside.stack;
+      lists = c.self.inside.lists;
+      edges = c.self.inside.edges;
+      groups = c.self.inside.order;
+      run = run_of c.self.inside.run;
+    } in
     let is : v ≡ c.args.self.now = c.self.view_is in
     let formed : IsFormed v = subst (λ (x : CollectorState). IsFormed x) (sym is) c.requires.formed in
     let at : slice_get v.groups 0 ≡ Some c.in-Some.group = sym c.current.ensures ∙ c.in-Some.is in
     let zone = c.in-Some-first.zone in
-    let both = (in_both c.in-Some.group.bits c.in_state-waiting.result.bits c.without.result.bits c.without-2.result.bits c.without.ensures c.without-2.ensures zone).0 c.in-Some-first.ensures.some in
+    let both = (in_both c.in-Some.group.bits c.in_state-waiting.result.bits c.without.result.bits
+    c.without-2.result.bits c.without.ensures c.without-2.ensures zone).0 c.in-Some-first.ensures.some in
     let found = (c.in_state-waiting.ensures zone).0 both.1 in
     let d : CollectorState = record v { heap = c.advance.new.self } in
     let waits : HasBegun v → ⊥ = λ begun. not_begun v c.in-Some.group zone at both.0 found begun in (
-      λ f s. subst (λ (x : CollectorState). IsSound x f → GoesOn x f [] d f) is (zone_goes v zone formed (current_is v.groups c.in-Some.group zone at both.0) found c.advance.new.self (advanced_to v.heap zone c.advance.new.self found c.advance.ensures) f) s,
+      λ f s. subst (λ (x : CollectorState). IsSound x f → GoesOn x f [] d f) is
+          (zone_goes v zone formed (current_is v.groups c.in-Some.group zone at both.0) found c.advance.new.self
+          (advanced_to v.heap zone c.advance.new.self found c.advance.ensures) f) s,
       subst (λ (x : CollectorState). HasBegun x → ⊥) is waits,
     )

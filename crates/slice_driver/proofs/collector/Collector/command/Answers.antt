@@ -11,34 +11,12 @@ use Rattle.slice_driver.specs.Collector.{CollectorState, IsKept, run_of}
 use Rattle.slice_driver.specs.Rooms.{IsRoomy, arenas_after}
 use Rattle.slice_driver.specs.Steps.{GoesThrough}
 use Rattle.slice_driver.specs.Units.{DoesCommand}
-use Rattle.slice_driver.proofs.commanding.Commanded.{
-  IsPlanned,
-  as_fault,
-  does_call,
-  entries_after,
-  exposed_after,
-  kept_call,
-  made_call,
-  refused_at,
-  run_after,
-  sound_roomy,
-  sure_call,
-  through_able,
-  through_plan,
-  through_sound,
-  wants_room,
-  wide_able,
-  wide_marks,
-  wide_plan,
-  wide_sound,
-  wide_words,
-  words_call,
-  answered_call,
-  command_sound,
-  room_wanted,
-  wanted_call,
-  where_err,
-}
+use Rattle.slice_driver.proofs.commanding.Commanded.{IsPlanned, as_fault, does_call, entries_after, exposed_after}
+use Rattle.slice_driver.proofs.commanding.Commanded.{kept_call, made_call, refused_at, run_after, sound_roomy}
+use Rattle.slice_driver.proofs.commanding.Commanded.{sure_call, through_able, through_plan, through_sound, wants_room}
+use Rattle.slice_driver.proofs.commanding.Commanded.{wide_able, wide_marks, wide_plan, wide_sound, wide_words}
+use Rattle.slice_driver.proofs.commanding.Commanded.{words_call, answered_call, command_sound, room_wanted, wanted_call}
+use Rattle.slice_driver.proofs.commanding.Commanded.{where_err}
 use Rattle.slice_driver.proofs.collector.Collector.command.Given.{Over}
 use Rattle.slice_driver.proofs.collector.Collector.command.Goals as goal
 use Rattle.slice_driver.proofs.collector.Collector.command.Goals.{Joined-commit, in-Ok-commit, in-Err-commit}

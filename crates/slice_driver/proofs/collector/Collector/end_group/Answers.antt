@@ -1,4 +1,5 @@
-use Rattle.std.proofs.Common.{◌≡◌, ◌<◌, ℕ, Bool, Option, None, Some, false, List, [], length, if◌then◌else◌, sym, ap, subst, ◌∙◌}
+use Rattle.std.proofs.Common.{◌≡◌, ◌<◌, ℕ, Bool, Option, None, Some, false, List, [], length, if◌then◌else◌, sym, ap}
+use Rattle.std.proofs.Common.{subst, ◌∙◌}
 use Rattle.gz_names.specs.declared.names.Name.{Name}
 use Rattle.gz_names.specs.declared.numbers.Place.{Place}
 use Rattle.gz_names.specs.declared.replies.Report.{Report}
@@ -15,7 +16,8 @@ use Rattle.slice_driver.specs.Advancing.{EndsSweeping}
 use Rattle.slice_driver.specs.Collector.{CollectorState, HasMore, run_of}
 use Rattle.slice_driver.specs.GroupEnd.{IsGrayHere}
 use Rattle.slice_driver.specs.HandingOut.{HandsOut}
-use Rattle.slice_driver.specs.Units.{AreJobs, DoesUnit, EndsColoured, HandsJobs, IsSound, flying_after, jobs_at, reports_of}
+use Rattle.slice_driver.specs.Units.{AreJobs, DoesUnit, EndsColoured, HandsJobs, IsSound, flying_after, jobs_at}
+use Rattle.slice_driver.specs.Units.{reports_of}
 use Rattle.slice_driver.specs.declared.collector.Run.{Run}
 use Rattle.slice_driver.specs.Left.{units_left}
 use Rattle.slice_driver.proofs.measure.FewerEnded.{ending_lowers}
@@ -31,12 +33,14 @@ use Rattle.slice_driver.proofs.collector.Collector.end_group.Goals.{then-finishe
 pub gray_names_in-requires-clause-sized : goal.gray_names_in-requires-clause-sized
 gray_names_in-requires-clause-sized c =
     let kept = c.requires.ready.2.kept in
-    subst (λ (x : CollectorState). length x.heap.colours ≡ length x.heap.shape.arenas) (sym c.self.view_is) (sized_here c.args.self.now c.requires.sound.0 kept c.requires.sound.1)
+    subst (λ (x : CollectorState). length x.heap.colours ≡ length x.heap.shape.arenas) (sym c.self.view_is)
+    (sized_here c.args.self.now c.requires.sound.0 kept c.requires.sound.1)
 
 pub gray_names_in-requires-clause-present : goal.gray_names_in-requires-clause-present
 gray_names_in-requires-clause-present c =
     let kept = c.requires.ready.2.kept in
-    subst (λ (x : CollectorState). (p : Place) → IsGray x.heap p → IsPresent x.heap.shape p) (sym c.self.view_is) (gray_present c.args.self.now c.requires.sound.0 kept c.requires.sound.1)
+    subst (λ (x : CollectorState). (p : Place) → IsGray x.heap p → IsPresent x.heap.shape p) (sym c.self.view_is)
+    (gray_present c.args.self.now c.requires.sound.0 kept c.requires.sound.1)
 
 pub invariant_of-self-else-finished : goal.invariant_of-self-else-finished
 invariant_of-self-else-finished c = record {
@@ -45,36 +49,65 @@ invariant_of-self-else-finished c = record {
   more = go c.self.inside.run c.if-finished.ensures;
 }
   where
-    go : (run : Option Run) → EndsSweeping c.hand_out_group.new.heap c.advance.new.self false c.end_sweeping-finished.new.heap → HasMore c.end_sweeping-finished.new.heap.shape c.advance.new.self run
+    go : (run : Option Run)
+        → EndsSweeping c.hand_out_group.new.heap c.advance.new.self false c.end_sweeping-finished.new.heap
+        → HasMore c.end_sweeping-finished.new.heap.shape c.advance.new.self run
     go None ends = tt
-    go (Some run) ends = λ empty none formed. more_left c.hand_out_group.new.heap c.advance.new.self c.end_sweeping-finished.new.heap ends empty none
+    go (Some run) ends = λ empty none formed. more_left c.hand_out_group.new.heap c.advance.new.self
+        c.end_sweeping-finished.new.heap ends empty none
 
 pub returns-clause-done : goal.returns-clause-done
 returns-clause-done c = λ flown.
-    let v : CollectorState = record { heap = c.self.inside.heap; stack = c.self.inside.stack; lists = c.self.inside.lists; edges = c.self.inside.edges; groups = c.self.inside.order; run = run_of c.self.inside.run } in
+    let v : CollectorState =
+    record {
+      heap = c.self.inside.heap;
+      stack = c.self.inside.stack;
+      lists = c.self.inside.lists;
+      edges = c.self.inside.edges;
+      groups = c.self.inside.order;
+      run = run_of c.self.inside.run;
+    } in
     let is : v ≡ c.args.self.now = c.self.view_is in
     let group : ZoneSet = c.in-Some.group in
-    let here : IsReadyHere v group = ready_here v c.args.self.now is c.requires.ready.0 c.requires.ready.1 c.requires.ready.2 group (sym c.current.ensures ∙ c.in-Some.is) in
-    let sound : IsSound v c.requires.sound.0 = subst (λ (x : CollectorState). IsSound x c.requires.sound.0) (sym is) c.requires.sound.1 in
+    let here : IsReadyHere v group = ready_here v c.args.self.now is c.requires.ready.0 c.requires.ready.1
+    c.requires.ready.2 group (sym c.current.ensures ∙ c.in-Some.is) in
+    let sound : IsSound v c.requires.sound.0 = subst (λ (x : CollectorState). IsSound x c.requires.sound.0) (sym is)
+    c.requires.sound.1 in
     let jobs : Option (List Job) = c.in_ok-handed.handed in
     let m : HeapState = c.hand_out_group.new.heap in
     let k : HeapState = c.end_sweeping-finished.new.heap in
     let over : Bool = c.end_sweeping-finished.result in
     let grays : List Name = c.in_ok-grays.grays in
     let behind : c.advance.new.self ≡ here.rest = c.advance.ensures ∙ here.behind in
-    let ends : EndsSweeping m here.rest over k = subst (λ (gs : List ZoneSet). EndsSweeping m gs over k) behind c.end_sweeping-finished.ensures in
-    let listed : Lists (IsGrayHere v.heap group) grays = grays_here v.heap group here.ready.small grays sound.represents.lies.whole sound.represents.lies.shown.apart (gray_present v c.requires.sound.0 here.ready.kept sound) c.in_ok-grays.ensures.moved c.in_ok-grays.ensures.sorted in
-    let unit = ends_group v group here.rest here.ready jobs m c.in_ok-handed.ensures.ok grays listed k flown over ends in
+    let ends : EndsSweeping m here.rest over k = subst (λ (gs : List ZoneSet). EndsSweeping m gs over k) behind
+    c.end_sweeping-finished.ensures in
+    let listed : Lists (IsGrayHere v.heap group) grays =
+    grays_here v.heap group here.ready.small grays sound.represents.lies.whole sound.represents.lies.shown.apart
+    (gray_present v c.requires.sound.0 here.ready.kept sound) c.in_ok-grays.ensures.moved
+    c.in_ok-grays.ensures.sorted in
+    let unit = ends_group v group here.rest here.ready jobs m c.in_ok-handed.ensures.ok grays listed k flown over ends
+    in
     let told : List Name = c.new.result in
     let none : [] ≡ told = sym c.new.ensures in
-    let moved : record v { heap = k; groups = here.rest; run = if over then None else v.run } ≡ record v { heap = k; groups = c.advance.new.self; run = if over then None else v.run } = ap (λ (gs : List ZoneSet). record v { heap = k; groups = gs; run = if over then None else v.run }) (sym behind) in
-    let self_is : record v { heap = k; groups = c.advance.new.self; run = if over then None else v.run } ≡ c.if-finished.self = elim c.if-finished.branch [
-      | then-finished w ↦ ap (λ (b : Bool). record v { heap = k; groups = c.advance.new.self; run = if b then None else v.run }) w.if-finished.true ∙ sym w.self-is
-      | else-finished w ↦ ap (λ (b : Bool). record v { heap = k; groups = c.advance.new.self; run = if b then None else v.run }) w.if-finished.false ∙ sym w.self-is
+    let moved : record v { heap = k; groups = here.rest; run = if over then None else v.run }
+    ≡ record v { heap = k; groups = c.advance.new.self; run = if over then None else v.run } =
+    ap (λ (gs : List ZoneSet). record v { heap = k; groups = gs; run = if over then None else v.run }) (sym behind)
+    in
+    let self_is : record v { heap = k; groups = c.advance.new.self; run = if over then None else v.run }
+    ≡ c.if-finished.self = elim c.if-finished.branch [
+      | then-finished w ↦ ap
+          (λ (b : Bool). record v { heap = k; groups = c.advance.new.self; run = if b then None else v.run })
+          w.if-finished.true ∙ sym w.self-is
+      | else-finished w ↦ ap
+          (λ (b : Bool). record v { heap = k; groups = c.advance.new.self; run = if b then None else v.run })
+          w.if-finished.false ∙ sym w.self-is
     ] in
-    subst (λ (x : CollectorState). DoesUnit x flown (reports_of (Some (report.Ended group grays told)) over) c.if-finished.self (flying_after jobs flown)) is
-    (subst (λ (xs : List Name). DoesUnit v flown (reports_of (Some (report.Ended group grays xs)) over) c.if-finished.self (flying_after jobs flown)) none
-    (subst (λ (x : CollectorState). DoesUnit v flown (reports_of (Some (report.Ended group grays [])) over) x (flying_after jobs flown)) (moved ∙ self_is) unit))
+    subst (λ (x : CollectorState). DoesUnit x flown (reports_of (Some (report.Ended group grays told)) over)
+    c.if-finished.self (flying_after jobs flown)) is
+    (subst (λ (xs : List Name). DoesUnit v flown (reports_of (Some (report.Ended group grays xs)) over)
+    c.if-finished.self (flying_after jobs flown)) none
+    (subst (λ (x : CollectorState). DoesUnit v flown (reports_of (Some (report.Ended group grays [])) over) x
+    (flying_after jobs flown)) (moved ∙ self_is) unit))
 
 pub returns-clause-jobs : goal.returns-clause-jobs
 returns-clause-jobs c =
@@ -82,42 +115,70 @@ returns-clause-jobs c =
     let k : HeapState = c.end_sweeping-finished.new.heap in
     let word : ℕ = c.in-Some.group.bits in
     let out : HandsOut h c.in-Some.group c.in_ok-handed.handed c.hand_out_group.new.heap = c.in_ok-handed.ensures.ok in
-    let arenas : k.shape.arenas ≡ handed word h.shape.arenas h.colours = ap (λ (x : HeapState). x.shape.arenas) c.end_sweeping-finished.ensures.rest ∙ (ap (λ (x : HeapState). x.shape.arenas) out.goes.rest ∙ ap (λ (x : HeapState). x.shape.arenas) out.drops.rest) in
+    let arenas : k.shape.arenas ≡ handed word h.shape.arenas h.colours =
+    ap (λ (x : HeapState). x.shape.arenas) c.end_sweeping-finished.ensures.rest
+    ∙ (ap (λ (x : HeapState). x.shape.arenas) out.goes.rest ∙ ap (λ (x : HeapState). x.shape.arenas) out.drops.rest)
+    in
     let kept = c.requires.ready.2.kept in
-    let kept_here : (a : ℕ) → out_of h.shape a ≡ None = subst (λ (x : CollectorState). (a : ℕ) → out_of x.heap.shape a ≡ None) (sym c.self.view_is) kept in
-    let sized : length h.colours ≡ length h.shape.arenas = subst (λ (x : CollectorState). length x.heap.colours ≡ length x.heap.shape.arenas) (sym c.self.view_is) (sized_here c.args.self.now c.requires.sound.0 kept c.requires.sound.1) in
-    let jobs : HandsJobs c.in_ok-handed.handed h.shape k.shape = hands_jobs h.shape k.shape word h.shape.arenas h.colours c.in_ok-handed.handed arenas out.jobs_are (jobs_flown h k word sized kept_here arenas) in
+    let kept_here : (a : ℕ) → out_of h.shape a ≡ None =
+    subst (λ (x : CollectorState). (a : ℕ) → out_of x.heap.shape a ≡ None) (sym c.self.view_is) kept in
+    let sized : length h.colours ≡ length h.shape.arenas =
+    subst (λ (x : CollectorState). length x.heap.colours ≡ length x.heap.shape.arenas) (sym c.self.view_is)
+    (sized_here c.args.self.now c.requires.sound.0 kept c.requires.sound.1) in
+    let jobs : HandsJobs c.in_ok-handed.handed h.shape k.shape =
+    hands_jobs h.shape k.shape word h.shape.arenas h.colours c.in_ok-handed.handed arenas out.jobs_are
+    (jobs_flown h k word sized kept_here arenas) in
     let same : c.if-finished.self.heap ≡ k = elim c.if-finished.branch [
       | then-finished w ↦ ap (λ (x : CollectorState). x.heap) w.self-is
       | else-finished w ↦ ap (λ (x : CollectorState). x.heap) w.self-is
     ] in
-    subst (λ (x : HeapState). HandsJobs c.in_ok-handed.handed c.args.self.now.heap.shape x.shape) (sym same) (subst (λ (x : CollectorState). HandsJobs c.in_ok-handed.handed x.heap.shape k.shape) c.self.view_is jobs)
+    subst (λ (x : HeapState). HandsJobs c.in_ok-handed.handed c.args.self.now.heap.shape x.shape) (sym same)
+    (subst (λ (x : CollectorState). HandsJobs c.in_ok-handed.handed x.heap.shape k.shape) c.self.view_is jobs)
 
 pub returns-clause-left : goal.returns-clause-left
 returns-clause-left c = λ flown sound_then.
-    let v : CollectorState = record { heap = c.self.inside.heap; stack = c.self.inside.stack; lists = c.self.inside.lists; edges = c.self.inside.edges; groups = c.self.inside.order; run = run_of c.self.inside.run } in
+    let v : CollectorState =
+    record {
+      heap = c.self.inside.heap;
+      stack = c.self.inside.stack;
+      lists = c.self.inside.lists;
+      edges = c.self.inside.edges;
+      groups = c.self.inside.order;
+      run = run_of c.self.inside.run;
+    } in
     let is : v ≡ c.args.self.now = c.self.view_is in
     let group : ZoneSet = c.in-Some.group in
-    let here : IsReadyHere v group = ready_here v c.args.self.now is c.requires.ready.0 c.requires.ready.1 c.requires.ready.2 group (sym c.current.ensures ∙ c.in-Some.is) in
+    let here : IsReadyHere v group = ready_here v c.args.self.now is c.requires.ready.0 c.requires.ready.1
+    c.requires.ready.2 group (sym c.current.ensures ∙ c.in-Some.is) in
     let sound : IsSound v flown = subst (λ (x : CollectorState). IsSound x flown) (sym is) sound_then in
     let jobs : Option (List Job) = c.in_ok-handed.handed in
     let m : HeapState = c.hand_out_group.new.heap in
     let k : HeapState = c.end_sweeping-finished.new.heap in
     let over : Bool = c.end_sweeping-finished.result in
     let behind : c.advance.new.self ≡ here.rest = c.advance.ensures ∙ here.behind in
-    let ends : EndsSweeping m here.rest over k = subst (λ (gs : List ZoneSet). EndsSweeping m gs over k) behind c.end_sweeping-finished.ensures in
+    let ends : EndsSweeping m here.rest over k = subst (λ (gs : List ZoneSet). EndsSweeping m gs over k) behind
+    c.end_sweeping-finished.ensures in
     let less = ending_lowers v group here.rest here.ready jobs m c.in_ok-handed.ensures.ok flown sound k over ends in
-    let moved : record v { heap = k; groups = here.rest; run = if over then None else v.run } ≡ record v { heap = k; groups = c.advance.new.self; run = if over then None else v.run } = ap (λ (gs : List ZoneSet). record v { heap = k; groups = gs; run = if over then None else v.run }) (sym behind) in
-    let self_is : record v { heap = k; groups = c.advance.new.self; run = if over then None else v.run } ≡ c.if-finished.self = elim c.if-finished.branch [
-      | then-finished w ↦ ap (λ (b : Bool). record v { heap = k; groups = c.advance.new.self; run = if b then None else v.run }) w.if-finished.true ∙ sym w.self-is
-      | else-finished w ↦ ap (λ (b : Bool). record v { heap = k; groups = c.advance.new.self; run = if b then None else v.run }) w.if-finished.false ∙ sym w.self-is
+    let moved : record v { heap = k; groups = here.rest; run = if over then None else v.run }
+    ≡ record v { heap = k; groups = c.advance.new.self; run = if over then None else v.run } =
+    ap (λ (gs : List ZoneSet). record v { heap = k; groups = gs; run = if over then None else v.run }) (sym behind)
+    in
+    let self_is : record v { heap = k; groups = c.advance.new.self; run = if over then None else v.run }
+    ≡ c.if-finished.self = elim c.if-finished.branch [
+      | then-finished w ↦ ap
+          (λ (b : Bool). record v { heap = k; groups = c.advance.new.self; run = if b then None else v.run })
+          w.if-finished.true ∙ sym w.self-is
+      | else-finished w ↦ ap
+          (λ (b : Bool). record v { heap = k; groups = c.advance.new.self; run = if b then None else v.run })
+          w.if-finished.false ∙ sym w.self-is
     ] in
     subst (λ (x : CollectorState). units_left c.if-finished.self (flying_after jobs flown) < units_left x flown) is
     (subst (λ (x : CollectorState). units_left x (flying_after jobs flown) < units_left v flown) (moved ∙ self_is) less)
 
 pub returns-clause-handed : goal.returns-clause-handed
 returns-clause-handed c =
-    let out : HandsOut c.self.inside.heap c.in-Some.group c.in_ok-handed.handed c.hand_out_group.new.heap = c.in_ok-handed.ensures.ok in
+    let out : HandsOut c.self.inside.heap c.in-Some.group c.in_ok-handed.handed c.hand_out_group.new.heap =
+    c.in_ok-handed.ensures.ok in
     let here : HeapState → Option Report → Type 0 = λ h r. AreJobs c.in_ok-handed.handed (jobs_at r h) in
     subst (λ (x : CollectorState). here x.heap
     (Some (report.Ended c.in-Some.group c.in_ok-grays.grays c.new.result))) c.self.view_is out.jobs_are
@@ -145,8 +206,10 @@ returns-clause-coloured c = λ flown.
       | else-finished w ↦ ap (λ (x : CollectorState). x.heap) w.self-is
     ] in
     let ended : EndsColoured (Some
-    (report.Ended group c.in_ok-grays.grays c.new.result)) v flown h.colours = ends_coloured v flown group here.rest here.ready in
-    subst (λ (bs : List Bits). EndsColoured (Some (report.Ended group c.in_ok-grays.grays c.new.result)) c.args.self.now flown bs)
+    (report.Ended group c.in_ok-grays.grays c.new.result)) v flown h.colours =
+    ends_coloured v flown group here.rest here.ready in
+    subst (λ (bs : List Bits). EndsColoured (Some (report.Ended group c.in_ok-grays.grays c.new.result)) c.args.self.now
+    flown bs)
     (sym (ap (λ (x : HeapState). x.colours) same ∙ colours))
     (subst (λ (x : CollectorState). EndsColoured
     (Some (report.Ended group c.in_ok-grays.grays c.new.result)) x flown h.colours) c.self.view_is ended)

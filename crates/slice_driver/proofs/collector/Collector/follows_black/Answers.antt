@@ -9,7 +9,15 @@ use Rattle.slice_driver.proofs.collector.Collector.follows_black.Goals.{in-Did, 
 
 pub returns-clause-done : goal.returns-clause-done
 returns-clause-done g c =
-    let v : CollectorState = record { heap = c.self.inside.heap; stack = c.self.inside.stack; lists = c.self.inside.lists; edges = c.self.inside.edges; groups = c.self.inside.order; run = run_of c.self.inside.run } in
+    let v : CollectorState =
+    record {
+      heap = c.self.inside.heap;
+      stack = c.self.inside.stack;
+      lists = c.self.inside.lists;
+      edges = c.self.inside.edges;
+      groups = c.self.inside.order;
+      run = run_of c.self.inside.run;
+    } in
     let is : v ≡ c.args.self.now = c.self.view_is in
     let flown : ℕ → Option Bits = g.F.Flight.bits c.args.flight.now in
     let flying : ℕ → Option Bits = g.F.Flight.bits c.black_unit.new.flight in
@@ -17,11 +25,18 @@ returns-clause-done g c =
     let d : CollectorState = record v { heap = c.black_unit.new.heap; stack = c.black_unit.new.stack } in
     let sound : IsSound v flown = subst (λ (x : CollectorState). IsSound x flown) (sym is) c.requires.sound in
     let running : IsSome v.run = subst (λ (x : CollectorState). IsSome x.run) (sym is) c.requires.running in
-    let here : DidOrStill c.match-black_unit.result (v.stack.black ≡ []) v flown d flying = elim c.match-black_unit.branch [
-      | in-Did w ↦ subst (λ b. DidOrStill b (v.stack.black ≡ []) v flown d flying) (sym w.result-is) (black_followed v flown flying d.heap d.stack sound running e.covers e.invariant e.blackens e.gray e.pending_black e.pending_live (w.in-Did.ensures.work refl), λ none. let empty = w.in-Did.ensures.empty.1 none in cc empty)
+    let here : DidOrStill c.match-black_unit.result (v.stack.black ≡ []) v flown d flying =
+    elim c.match-black_unit.branch [
+      | in-Did w ↦ subst (λ b. DidOrStill b (v.stack.black ≡ []) v flown d flying) (sym w.result-is) (
+        black_followed v flown flying d.heap d.stack sound running e.covers e.invariant e.blackens e.gray
+            e.pending_black e.pending_live (w.in-Did.ensures.work refl),
+        λ none. let empty =
+            w.in-Did.ensures.empty.1 none in cc empty,
+      )
       | in-Empty w ↦ (
           let same = w.in-Empty.ensures.same refl in
-          subst (λ b. DidOrStill b (v.stack.black ≡ []) v flown d flying) (sym w.result-is) (still v flown flying d.heap d.stack e.covers same.0 same.1 same.2, w.in-Empty.ensures.empty.0 refl)
+          subst (λ b. DidOrStill b (v.stack.black ≡ []) v flown d flying) (sym w.result-is)
+          (still v flown flying d.heap d.stack e.covers same.0 same.1 same.2, w.in-Empty.ensures.empty.0 refl)
           )
     ] in
     subst (λ (x : CollectorState). DidOrStill c.match-black_unit.result (x.stack.black ≡ []) x flown d flying) is here

@@ -10,18 +10,39 @@ use Rattle.slice_driver.proofs.collector.Collector.follows_gray.Goals.{in-Did, i
 
 pub returns : goal.returns
 returns g c =
-    let v : CollectorState = record { heap = c.self.inside.heap; stack = c.self.inside.stack; lists = c.self.inside.lists; edges = c.self.inside.edges; groups = c.self.inside.order; run = run_of c.self.inside.run } in
+    let v : CollectorState =
+    record {
+      heap = c.self.inside.heap;
+      stack = c.self.inside.stack;
+      lists = c.self.inside.lists;
+      edges = c.self.inside.edges;
+      groups = c.self.inside.order;
+      run = run_of c.self.inside.run;
+    } in
     let is : v ≡ c.args.self.now = c.self.view_is in
     let flown : ℕ → Option Bits = g.F.Flight.bits c.args.flight.now in
     let new = c.gray_unit.new in
     let d : CollectorState = record v { heap = new.heap; stack = new.stack; lists = new.lists } in
     let sound : IsSound v flown = subst (λ (x : CollectorState). IsSound x flown) (sym is) c.requires.sound in
     let running : IsSome v.run = subst (λ (x : CollectorState). IsSome x.run) (sym is) c.requires.running in
-    let here : DidOrStill c.match-gray_unit.result (IsGrayIdle v.heap v.stack v.lists c.args.group.bits) v flown d flown = elim c.match-gray_unit.branch [
-      | in-Did w ↦ subst (λ b. DidOrStill b (IsGrayIdle v.heap v.stack v.lists c.args.group.bits) v flown d flown) (sym w.result-is) (gray_followed v flown d.heap d.stack d.lists sound running (w.in-Did.ensures.does refl), λ idle. let empty = w.in-Did.ensures.empty.1 idle in cc empty)
+    let here : DidOrStill c.match-gray_unit.result (IsGrayIdle v.heap v.stack v.lists c.args.group.bits) v flown d
+    flown = elim c.match-gray_unit.branch [
+      | in-Did w ↦ subst (λ b. DidOrStill b (IsGrayIdle v.heap v.stack v.lists c.args.group.bits) v flown d flown)
+          (sym w.result-is) (
+            gray_followed v flown d.heap d.stack d.lists sound running (w.in-Did.ensures.does refl),
+            λ idle. let empty = w.in-Did.ensures.empty.1 idle in cc empty,
+          )
       | in-Empty w ↦ (
           let same = w.in-Empty.ensures.same refl in
-          subst (λ b. DidOrStill b (IsGrayIdle v.heap v.stack v.lists c.args.group.bits) v flown d flown) (sym w.result-is) (still_gray v flown d.heap d.stack d.lists same.0 same.1 same.2, w.in-Empty.ensures.empty.0 refl)
+          subst (λ b. DidOrStill b (IsGrayIdle v.heap v.stack v.lists c.args.group.bits) v flown d flown)
+          (sym w.result-is) (
+            still_gray v flown d.heap d.stack d.lists same.0 same.1 same.2,
+            w.in-Empty.ensures.empty.0 refl,
+          )
           )
     ] in
-    record { done = subst (λ (x : CollectorState). DidOrStill c.match-gray_unit.result (IsGrayIdle x.heap x.stack x.lists c.args.group.bits) x flown d flown) is here }
+    record {
+      done = subst
+          (λ (x : CollectorState). DidOrStill c.match-gray_unit.result
+          (IsGrayIdle x.heap x.stack x.lists c.args.group.bits) x flown d flown) is here;
+    }

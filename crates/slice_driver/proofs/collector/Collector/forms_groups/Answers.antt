@@ -9,14 +9,25 @@ use Rattle.slice_driver.proofs.collector.Collector.forms_groups.Goals as goal
 
 pub returns-then-looks : goal.returns-then-looks
 returns-then-looks g c =
-    let v : CollectorState = record { heap = c.self.inside.heap; stack = c.self.inside.stack; lists = c.self.inside.lists; edges = c.self.inside.edges; groups = c.self.inside.order; run = run_of c.self.inside.run } in
+    let v : CollectorState =
+    record {
+      heap = c.self.inside.heap;
+      stack = c.self.inside.stack;
+      lists = c.self.inside.lists;
+      edges = c.self.inside.edges;
+      groups = c.self.inside.order;
+      run = run_of c.self.inside.run;
+    } in
     let run = c.in_ok-run.run' in
-    let grouping : IsGrouping v = (record { zones = run.zones; formed = run.formed }, ap run_of c.in_ok-run.was, c.if-run.false) in
+    let grouping : IsGrouping v =
+    (record { zones = run.zones; formed = run.formed }, ap run_of c.in_ok-run.was, c.if-run.false) in
     record {
       unformed = subst (λ (x : CollectorState). IsFormed x → ⊥) c.self.view_is (not_formed v grouping);
       goes_on = ap (λ (u : Unit). is_group_end u.report) c.quiet.ensures;
       handed = ap (λ (u : Unit). u.handed) c.quiet.ensures;
       finished = ap (λ (u : Unit). u.finished) c.quiet.ensures;
       due = ap (λ (u : Unit). u.due) c.quiet.ensures;
-      goes = λ flown s black. subst (λ (u : Unit). GoesOn c.args.self.now flown (reports_of u.report u.finished) c.looks.new.self flown) (sym c.quiet.ensures) (c.if-looks.ensures flown s black);
+      goes = λ flown s black.
+          subst (λ (u : Unit). GoesOn c.args.self.now flown (reports_of u.report u.finished) c.looks.new.self flown)
+          (sym c.quiet.ensures) (c.if-looks.ensures flown s black);
     }

@@ -14,37 +14,59 @@ use Rattle.slice_driver.proofs.collector.Collector.gray_names.Goals as goal
 pub push_gray-requires-clause-made : goal.push_gray-requires-clause-made
 push_gray-requires-clause-made g c =
     let here = ap (λ (z : CollectorState). z.heap) c.self.view_is in
-    let below : c.loop-arena.arena < length c.self.inside.heap.shape.arenas = omega (arith, c.loop-arena-test.true, c.arenas-arena-end.ensures) in
-    subst (λ (h : HeapState). c.loop-arena.arena < length h.colours) (sym here) (arena_coloured c.args.self.now (g.F.Flight.bits c.args.flight.now) c.loop-arena.arena c.requires.sound (subst (λ (h : HeapState). c.loop-arena.arena < length h.shape.arenas) here below))
+    let below : c.loop-arena.arena < length c.self.inside.heap.shape.arenas =
+    omega (arith, c.loop-arena-test.true, c.arenas-arena-end.ensures) in
+    subst (λ (h : HeapState). c.loop-arena.arena < length h.colours) (sym here)
+    (arena_coloured c.args.self.now (g.F.Flight.bits c.args.flight.now) c.loop-arena.arena c.requires.sound
+    (subst (λ (h : HeapState). c.loop-arena.arena < length h.shape.arenas) here below))
 
 pub returns-in_err-push_gray-clause-same : goal.returns-in_err-push_gray-clause-same
 returns-in_err-push_gray-clause-same g c w rep =
     let here = ap (λ (z : CollectorState). z.heap) c.self.view_is in
-    let same = subst (λ (h : HeapState). joined h (g.F.Flight.bits c.push_gray.new.flight) ≡ joined h (g.F.Flight.bits c.loop-arena.flight)) here c.push_gray.ensures.same in
-    let covers = subst (λ (h : HeapState). Covers h.shape (g.F.Flight.bits c.push_gray.new.flight)) here c.push_gray.ensures.covers in
-    represents_flown c.args.self.now (g.F.Flight.bits c.args.flight.now) (g.F.Flight.bits c.push_gray.new.flight) w covers (same ∙ c.loop-arena.invariant.same) rep
+    let same = subst (λ (h : HeapState). joined h (g.F.Flight.bits c.push_gray.new.flight)
+    ≡ joined h (g.F.Flight.bits c.loop-arena.flight)) here c.push_gray.ensures.same in
+    let covers = subst (λ (h : HeapState). Covers h.shape (g.F.Flight.bits c.push_gray.new.flight)) here
+    c.push_gray.ensures.covers in
+    represents_flown c.args.self.now (g.F.Flight.bits c.args.flight.now) (g.F.Flight.bits c.push_gray.new.flight) w
+    covers (same ∙ c.loop-arena.invariant.same) rep
 
 pub loop-arena-preserved : goal.loop-arena-preserved
 loop-arena-preserved g c =
     let here = ap (λ (z : CollectorState). z.heap) c.self.view_is in
     let now = joined c.args.self.now.heap (g.F.Flight.bits c.args.flight.now) in
-    let same = subst (λ (h : HeapState). joined h (g.F.Flight.bits c.push_gray.new.flight) ≡ joined h (g.F.Flight.bits c.loop-arena.flight)) here c.push_gray.ensures.same in
-    let more = subst (λ (h : HeapState). c.push_gray.new.names.items ≡ c.loop-arena.names.items ++ grays_below (joined h (g.F.Flight.bits c.loop-arena.flight)) c.loop-arena.arena 64) here c.in_ok-push_gray.ensures.names in
+    let same = subst (λ (h : HeapState). joined h (g.F.Flight.bits c.push_gray.new.flight)
+    ≡ joined h (g.F.Flight.bits c.loop-arena.flight)) here c.push_gray.ensures.same in
+    let more = subst (λ (h : HeapState). c.push_gray.new.names.items ≡ c.loop-arena.names.items
+    ++ grays_below (joined h (g.F.Flight.bits c.loop-arena.flight)) c.loop-arena.arena 64) here
+    c.in_ok-push_gray.ensures.names in
     record {
-      names = grays_more now (λ a. true) c.loop-arena.arena c.loop-arena.names.items c.push_gray.new.names.items c.loop-arena.invariant.names refl (more ∙ ap (λ (h : HeapState). c.loop-arena.names.items ++ grays_below h c.loop-arena.arena 64) c.loop-arena.invariant.same);
+      names = grays_more now (λ a. true) c.loop-arena.arena c.loop-arena.names.items c.push_gray.new.names.items
+          c.loop-arena.invariant.names refl
+          (more ∙ ap (λ (h : HeapState). c.loop-arena.names.items ++ grays_below h c.loop-arena.arena 64)
+          c.loop-arena.invariant.same);
       same = same ∙ c.loop-arena.invariant.same;
-      covers = subst (λ (h : HeapState). Covers h.shape (g.F.Flight.bits c.push_gray.new.flight)) here c.push_gray.ensures.covers;
+      covers = subst (λ (h : HeapState). Covers h.shape (g.F.Flight.bits c.push_gray.new.flight)) here
+          c.push_gray.ensures.covers;
       origin = c.push_gray.ensures.origin ∙ c.loop-arena.invariant.origin;
     }
 
 pub returns-clause-names : goal.returns-clause-names
 returns-clause-names g c w rep settled =
     let here = ap (λ (z : CollectorState). z.heap) c.self.view_is in
-    let all = subst (λ (h : HeapState). c.arenas-arena-end.result ≡ length h.shape.arenas) here c.arenas-arena-end.ensures in
-    let end : c.loop-arena.arena ≡ length c.args.self.now.heap.shape.arenas = omega (arith, c.loop-arena-test.false, all, c.loop-arena.auto.arena-end) in
-    let moved = subst (λ n. IsPermutation (grays_up_to (joined c.args.self.now.heap (g.F.Flight.bits c.args.flight.now)) (λ a. true) n) c.sort_unstable.new.self.items) end (subst (λ xs. IsPermutation xs c.sort_unstable.new.self.items) c.loop-arena.invariant.names c.sort_unstable.ensures.permutation) in
+    let all = subst (λ (h : HeapState). c.arenas-arena-end.result ≡ length h.shape.arenas) here
+    c.arenas-arena-end.ensures in
+    let end : c.loop-arena.arena ≡ length c.args.self.now.heap.shape.arenas =
+    omega (arith, c.loop-arena-test.false, all, c.loop-arena.auto.arena-end) in
+    let moved = subst (λ n.
+    IsPermutation (grays_up_to (joined c.args.self.now.heap (g.F.Flight.bits c.args.flight.now)) (λ a. true) n)
+    c.sort_unstable.new.self.items) end
+    (subst (λ xs. IsPermutation xs c.sort_unstable.new.self.items) c.loop-arena.invariant.names
+    c.sort_unstable.ensures.permutation) in
     let sorted : IsSorted name_cmp c.sort_unstable.new.self.items = search rules in
-    subst (λ xs. Lists (λ x. IsPresentName w x × (Has w.black x → ⊥)) xs) (sym c.from_vec.ensures) (settled_grays c.args.self.now (g.F.Flight.bits c.args.flight.now) w c.sort_unstable.new.self.items rep settled moved sorted)
+    subst (λ xs. Lists (λ x. IsPresentName w x × (Has w.black x → ⊥)) xs) (sym c.from_vec.ensures)
+    (settled_grays c.args.self.now (g.F.Flight.bits c.args.flight.now) w c.sort_unstable.new.self.items rep settled
+    moved sorted)
 
 pub returns-clause-same : goal.returns-clause-same
-returns-clause-same g c w rep = represents_flown c.args.self.now (g.F.Flight.bits c.args.flight.now) (g.F.Flight.bits c.loop-arena.flight) w c.loop-arena.invariant.covers c.loop-arena.invariant.same rep
+returns-clause-same g c w rep = represents_flown c.args.self.now (g.F.Flight.bits c.args.flight.now)
+    (g.F.Flight.bits c.loop-arena.flight) w c.loop-arena.invariant.covers c.loop-arena.invariant.same rep

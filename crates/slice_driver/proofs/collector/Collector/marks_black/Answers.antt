@@ -13,8 +13,10 @@ returns-clause-done g c =
     let f1 = g.F.Flight.bits c.follows_black.new.flight in
     let first = c.if-follows_black.ensures.done in
     let same = still_black_fixed old flown d f1 first.0 in
-    then_marks c.adds_black.result (IsBlackFixed d f1) (IsBlackDone old flown) old flown d f1 c.adds_black.new.self (g.F.Flight.bits c.adds_black.new.flight) first.0
+    then_marks c.adds_black.result (IsBlackFixed d f1) (IsBlackDone old flown) old flown d f1 c.adds_black.new.self
+    (g.F.Flight.bits c.adds_black.new.flight) first.0
     (λ fixed. record { pile = first.1; fixed = same.1 fixed }, λ done. same.0 done.fixed) c.adds_black.ensures.done
 
 pub returns-then-follows_black-clause-done : goal.returns-then-follows_black-clause-done
-returns-then-follows_black-clause-done g c = (c.if-follows_black.ensures.done.0, λ done. c.if-follows_black.ensures.done.1 done.pile)
+returns-then-follows_black-clause-done g c =
+    (c.if-follows_black.ensures.done.0, λ done. c.if-follows_black.ensures.done.1 done.pile)

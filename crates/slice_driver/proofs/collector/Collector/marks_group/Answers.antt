@@ -10,8 +10,10 @@ returns-clause-done g c =
     let group = c.args.group in
     let first = c.if-follows_gray.ensures.done in
     let same = still_gray_fixed old flown d flown first.0 group in
-    then_marks c.adds_gray.result (IsGrayFixed d flown group) (IsGrayDone old flown group) old flown d flown c.adds_gray.new.self (g.F.Flight.bits c.adds_gray.new.flight) first.0
+    then_marks c.adds_gray.result (IsGrayFixed d flown group) (IsGrayDone old flown group) old flown d flown
+    c.adds_gray.new.self (g.F.Flight.bits c.adds_gray.new.flight) first.0
     (λ fixed. record { idle = first.1; fixed = same.1 fixed }, λ done. same.0 done.fixed) c.adds_gray.ensures.done
 
 pub returns-then-follows_gray-clause-done : goal.returns-then-follows_gray-clause-done
-returns-then-follows_gray-clause-done g c = (c.if-follows_gray.ensures.done.0, λ done. c.if-follows_gray.ensures.done.1 done.idle)
+returns-then-follows_gray-clause-done g c =
+    (c.if-follows_gray.ensures.done.0, λ done. c.if-follows_gray.ensures.done.1 done.idle)

@@ -7,7 +7,8 @@ use Rattle.slice_driver.proofs.collector.Collector.new.Goals as goal
 pub returns-clause-first : goal.returns-clause-first
 returns-clause-first c =
     let stack = c.in_ok-new-2.ensures in
-    represents_first _ c.in_ok-new.ensures.empty (ap (λ (p : Piles). p.black) stack) (ap (λ (p : Piles). p.gray) stack) (ap (λ (p : Piles). p.wake) stack)
+    represents_first _ c.in_ok-new.ensures.empty (ap (λ (p : Piles). p.black) stack) (ap (λ (p : Piles). p.gray) stack)
+    (ap (λ (p : Piles). p.wake) stack)
     (λ n. ap (λ (l : Incoming). list_of l n) c.new-3.ensures ∙ no_buffer 256 n) refl
 
 pub returns-clause-entries : goal.returns-clause-entries

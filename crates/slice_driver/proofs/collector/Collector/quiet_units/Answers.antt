@@ -3,7 +3,8 @@ use Rattle.slice_driver.proofs.marking.Units.{last_quiet, more_quiet, quiet_soun
 use Rattle.slice_driver.proofs.collector.Collector.quiet_units.Goals as goal
 
 pub quiet_unit-requires-clause-sound : goal.quiet_unit-requires-clause-sound
-quiet_unit-requires-clause-sound g c = quiet_sound c.loop-count.count _ _ _ _ c.loop-count.invariant.did c.requires.sound
+quiet_unit-requires-clause-sound g c = quiet_sound c.loop-count.count _ _ _ _ c.loop-count.invariant.did
+    c.requires.sound
 
 pub returns-then-not-quiet_unit-clause-done : goal.returns-then-not-quiet_unit-clause-done
 returns-then-not-quiet_unit-clause-done g c =

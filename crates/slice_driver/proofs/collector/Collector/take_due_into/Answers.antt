@@ -1,4 +1,5 @@
-use Rattle.slice_driver.proofs.taking_in.TakingDue.{due_does, due_flies, due_freed, due_keeps, due_lowers, due_out, some_left}
+use Rattle.slice_driver.proofs.taking_in.TakingDue.{due_does, due_flies, due_freed, due_keeps, due_lowers, due_out}
+use Rattle.slice_driver.proofs.taking_in.TakingDue.{some_left}
 use Rattle.slice_driver.proofs.collector.Collector.take_due_into.Goals as goal
 
 pub unreachable-requires : goal.unreachable-requires

@@ -5,94 +5,204 @@ use Rattle.slice_driver.specs.Working.{HasBegun, IsAtGroupEnd, IsResting, IsStil
 use Rattle.slice_driver.specs.Units.{IsSound, flying_after, is_group_end}
 use Rattle.slice_driver.specs.declared.collector.Unit.{Unit}
 use Rattle.slice_driver.proofs.marking.MarkingUnits.{still_goes, still_group_done, still_sound}
-use Rattle.slice_driver.proofs.marking.OneUnit.{all_still, ended_coloured, ended_done, ended_err, ended_handed, ended_left, ended_sound, ended_where, four_rested, group_ready, none_due, none_out, none_out_before, not_at_end, not_due, on_err, one_out, same_due, says_grouping, says_quiet, says_sound, still_on}
+use Rattle.slice_driver.proofs.marking.OneUnit.{all_still, ended_coloured, ended_done, ended_err, ended_handed}
+use Rattle.slice_driver.proofs.marking.OneUnit.{ended_left, ended_sound, ended_where, four_rested, group_ready}
+use Rattle.slice_driver.proofs.marking.OneUnit.{none_due, none_out, none_out_before, not_at_end, not_due, on_err}
+use Rattle.slice_driver.proofs.marking.OneUnit.{one_out, same_due, says_grouping, says_quiet, says_sound, still_on}
 use Rattle.slice_driver.proofs.collector.Collector.unit.Goals as goal
 
 pub returns-then-marks_black-clause-done : goal.returns-then-marks_black-clause-done
-returns-then-marks_black-clause-done g c = (says_quiet c.args.self.now (g.F.Flight.bits c.args.flight.now) c.quiet.result c.marks_black.new.self (g.F.Flight.bits c.marks_black.new.flight) c.quiet.ensures c.if-marks_black.ensures.done.0).done
+returns-then-marks_black-clause-done g c =
+    (says_quiet c.args.self.now (g.F.Flight.bits c.args.flight.now) c.quiet.result c.marks_black.new.self
+    (g.F.Flight.bits c.marks_black.new.flight) c.quiet.ensures c.if-marks_black.ensures.done.0).done
 
 pub returns-in-Some-clause-done : goal.returns-in-Some-clause-done
 returns-in-Some-clause-done g c =
     let still = c.if-marks_black.ensures.done.0 in
-    (says_grouping c.args.self.now (g.F.Flight.bits c.args.flight.now) c.marks_black.new.self (g.F.Flight.bits c.marks_black.new.flight) c.in-Some.unit c.forms_groups.new.self still (still_sound c.args.self.now (g.F.Flight.bits c.args.flight.now) c.marks_black.new.self (g.F.Flight.bits c.marks_black.new.flight) still c.requires.sound) c.if-marks_black.ensures.done.1 c.in-Some.ensures).done
+    (says_grouping c.args.self.now (g.F.Flight.bits c.args.flight.now) c.marks_black.new.self
+    (g.F.Flight.bits c.marks_black.new.flight) c.in-Some.unit c.forms_groups.new.self still
+    (still_sound c.args.self.now (g.F.Flight.bits c.args.flight.now) c.marks_black.new.self
+    (g.F.Flight.bits c.marks_black.new.flight) still c.requires.sound) c.if-marks_black.ensures.done.1
+    c.in-Some.ensures).done
 
 pub returns-in-Some-clause-jobs : goal.returns-in-Some-clause-jobs
 returns-in-Some-clause-jobs g c =
     let still = c.if-marks_black.ensures.done.0 in
-    (says_grouping c.args.self.now (g.F.Flight.bits c.args.flight.now) c.marks_black.new.self (g.F.Flight.bits c.marks_black.new.flight) c.in-Some.unit c.forms_groups.new.self still (still_sound c.args.self.now (g.F.Flight.bits c.args.flight.now) c.marks_black.new.self (g.F.Flight.bits c.marks_black.new.flight) still c.requires.sound) c.if-marks_black.ensures.done.1 c.in-Some.ensures).jobs
+    (says_grouping c.args.self.now (g.F.Flight.bits c.args.flight.now) c.marks_black.new.self
+    (g.F.Flight.bits c.marks_black.new.flight) c.in-Some.unit c.forms_groups.new.self still
+    (still_sound c.args.self.now (g.F.Flight.bits c.args.flight.now) c.marks_black.new.self
+    (g.F.Flight.bits c.marks_black.new.flight) still c.requires.sound) c.if-marks_black.ensures.done.1
+    c.in-Some.ensures).jobs
 
 pub returns-in-Some-clause-left : goal.returns-in-Some-clause-left
 returns-in-Some-clause-left g c =
     let still = c.if-marks_black.ensures.done.0 in
-    (says_grouping c.args.self.now (g.F.Flight.bits c.args.flight.now) c.marks_black.new.self (g.F.Flight.bits c.marks_black.new.flight) c.in-Some.unit c.forms_groups.new.self still (still_sound c.args.self.now (g.F.Flight.bits c.args.flight.now) c.marks_black.new.self (g.F.Flight.bits c.marks_black.new.flight) still c.requires.sound) c.if-marks_black.ensures.done.1 c.in-Some.ensures).left
+    (says_grouping c.args.self.now (g.F.Flight.bits c.args.flight.now) c.marks_black.new.self
+    (g.F.Flight.bits c.marks_black.new.flight) c.in-Some.unit c.forms_groups.new.self still
+    (still_sound c.args.self.now (g.F.Flight.bits c.args.flight.now) c.marks_black.new.self
+    (g.F.Flight.bits c.marks_black.new.flight) still c.requires.sound) c.if-marks_black.ensures.done.1
+    c.in-Some.ensures).left
 
 pub returns-in-Some-clause-made : goal.returns-in-Some-clause-made
 returns-in-Some-clause-made g c =
     let still = c.if-marks_black.ensures.done.0 in
-    (says_grouping c.args.self.now (g.F.Flight.bits c.args.flight.now) c.marks_black.new.self (g.F.Flight.bits c.marks_black.new.flight) c.in-Some.unit c.forms_groups.new.self still (still_sound c.args.self.now (g.F.Flight.bits c.args.flight.now) c.marks_black.new.self (g.F.Flight.bits c.marks_black.new.flight) still c.requires.sound) c.if-marks_black.ensures.done.1 c.in-Some.ensures).made
+    (says_grouping c.args.self.now (g.F.Flight.bits c.args.flight.now) c.marks_black.new.self
+    (g.F.Flight.bits c.marks_black.new.flight) c.in-Some.unit c.forms_groups.new.self still
+    (still_sound c.args.self.now (g.F.Flight.bits c.args.flight.now) c.marks_black.new.self
+    (g.F.Flight.bits c.marks_black.new.flight) still c.requires.sound) c.if-marks_black.ensures.done.1
+    c.in-Some.ensures).made
 
 pub returns-then-begins_zone-clause-done : goal.returns-then-begins_zone-clause-done
 returns-then-begins_zone-clause-done g c =
-    let still = still_on c.args.self.now (g.F.Flight.bits c.args.flight.now) c.marks_black.new.self (g.F.Flight.bits c.marks_black.new.flight) c.forms_groups.new.self c.if-marks_black.ensures.done.0 c.in_default.ensures.1 in
-    (says_quiet c.args.self.now (g.F.Flight.bits c.args.flight.now) c.quiet-then-begins_zone.result c.begins_zone.new.self (g.F.Flight.bits c.marks_black.new.flight) c.quiet-then-begins_zone.ensures (still_goes c.args.self.now (g.F.Flight.bits c.args.flight.now) c.forms_groups.new.self (g.F.Flight.bits c.marks_black.new.flight) [] c.begins_zone.new.self (g.F.Flight.bits c.marks_black.new.flight) still (c.if-begins_zone.ensures.0 (g.F.Flight.bits c.marks_black.new.flight) (still_sound c.args.self.now (g.F.Flight.bits c.args.flight.now) c.forms_groups.new.self (g.F.Flight.bits c.marks_black.new.flight) still c.requires.sound)))).done
+    let still = still_on c.args.self.now (g.F.Flight.bits c.args.flight.now) c.marks_black.new.self
+    (g.F.Flight.bits c.marks_black.new.flight) c.forms_groups.new.self c.if-marks_black.ensures.done.0
+    c.in_default.ensures.1 in
+    (says_quiet c.args.self.now (g.F.Flight.bits c.args.flight.now) c.quiet-then-begins_zone.result
+    c.begins_zone.new.self (g.F.Flight.bits c.marks_black.new.flight) c.quiet-then-begins_zone.ensures
+    (still_goes c.args.self.now (g.F.Flight.bits c.args.flight.now) c.forms_groups.new.self
+    (g.F.Flight.bits c.marks_black.new.flight) [] c.begins_zone.new.self (g.F.Flight.bits c.marks_black.new.flight)
+    still (c.if-begins_zone.ensures.0 (g.F.Flight.bits c.marks_black.new.flight)
+    (still_sound c.args.self.now (g.F.Flight.bits c.args.flight.now) c.forms_groups.new.self
+    (g.F.Flight.bits c.marks_black.new.flight) still c.requires.sound)))).done
 
 pub returns-then-begins_zone-clause-jobs : goal.returns-then-begins_zone-clause-jobs
 returns-then-begins_zone-clause-jobs g c =
-    let still = still_on c.args.self.now (g.F.Flight.bits c.args.flight.now) c.marks_black.new.self (g.F.Flight.bits c.marks_black.new.flight) c.forms_groups.new.self c.if-marks_black.ensures.done.0 c.in_default.ensures.1 in
-    (says_quiet c.args.self.now (g.F.Flight.bits c.args.flight.now) c.quiet-then-begins_zone.result c.begins_zone.new.self (g.F.Flight.bits c.marks_black.new.flight) c.quiet-then-begins_zone.ensures (still_goes c.args.self.now (g.F.Flight.bits c.args.flight.now) c.forms_groups.new.self (g.F.Flight.bits c.marks_black.new.flight) [] c.begins_zone.new.self (g.F.Flight.bits c.marks_black.new.flight) still (c.if-begins_zone.ensures.0 (g.F.Flight.bits c.marks_black.new.flight) (still_sound c.args.self.now (g.F.Flight.bits c.args.flight.now) c.forms_groups.new.self (g.F.Flight.bits c.marks_black.new.flight) still c.requires.sound)))).jobs
+    let still = still_on c.args.self.now (g.F.Flight.bits c.args.flight.now) c.marks_black.new.self
+    (g.F.Flight.bits c.marks_black.new.flight) c.forms_groups.new.self c.if-marks_black.ensures.done.0
+    c.in_default.ensures.1 in
+    (says_quiet c.args.self.now (g.F.Flight.bits c.args.flight.now) c.quiet-then-begins_zone.result
+    c.begins_zone.new.self (g.F.Flight.bits c.marks_black.new.flight) c.quiet-then-begins_zone.ensures
+    (still_goes c.args.self.now (g.F.Flight.bits c.args.flight.now) c.forms_groups.new.self
+    (g.F.Flight.bits c.marks_black.new.flight) [] c.begins_zone.new.self (g.F.Flight.bits c.marks_black.new.flight)
+    still (c.if-begins_zone.ensures.0 (g.F.Flight.bits c.marks_black.new.flight)
+    (still_sound c.args.self.now (g.F.Flight.bits c.args.flight.now) c.forms_groups.new.self
+    (g.F.Flight.bits c.marks_black.new.flight) still c.requires.sound)))).jobs
 
 pub returns-then-begins_zone-clause-left : goal.returns-then-begins_zone-clause-left
 returns-then-begins_zone-clause-left g c =
-    let still = still_on c.args.self.now (g.F.Flight.bits c.args.flight.now) c.marks_black.new.self (g.F.Flight.bits c.marks_black.new.flight) c.forms_groups.new.self c.if-marks_black.ensures.done.0 c.in_default.ensures.1 in
-    (says_quiet c.args.self.now (g.F.Flight.bits c.args.flight.now) c.quiet-then-begins_zone.result c.begins_zone.new.self (g.F.Flight.bits c.marks_black.new.flight) c.quiet-then-begins_zone.ensures (still_goes c.args.self.now (g.F.Flight.bits c.args.flight.now) c.forms_groups.new.self (g.F.Flight.bits c.marks_black.new.flight) [] c.begins_zone.new.self (g.F.Flight.bits c.marks_black.new.flight) still (c.if-begins_zone.ensures.0 (g.F.Flight.bits c.marks_black.new.flight) (still_sound c.args.self.now (g.F.Flight.bits c.args.flight.now) c.forms_groups.new.self (g.F.Flight.bits c.marks_black.new.flight) still c.requires.sound)))).left
+    let still = still_on c.args.self.now (g.F.Flight.bits c.args.flight.now) c.marks_black.new.self
+    (g.F.Flight.bits c.marks_black.new.flight) c.forms_groups.new.self c.if-marks_black.ensures.done.0
+    c.in_default.ensures.1 in
+    (says_quiet c.args.self.now (g.F.Flight.bits c.args.flight.now) c.quiet-then-begins_zone.result
+    c.begins_zone.new.self (g.F.Flight.bits c.marks_black.new.flight) c.quiet-then-begins_zone.ensures
+    (still_goes c.args.self.now (g.F.Flight.bits c.args.flight.now) c.forms_groups.new.self
+    (g.F.Flight.bits c.marks_black.new.flight) [] c.begins_zone.new.self (g.F.Flight.bits c.marks_black.new.flight)
+    still (c.if-begins_zone.ensures.0 (g.F.Flight.bits c.marks_black.new.flight)
+    (still_sound c.args.self.now (g.F.Flight.bits c.args.flight.now) c.forms_groups.new.self
+    (g.F.Flight.bits c.marks_black.new.flight) still c.requires.sound)))).left
 
 pub marks_gray-requires-clause-sound : goal.marks_gray-requires-clause-sound
-marks_gray-requires-clause-sound g c = still_sound c.args.self.now (g.F.Flight.bits c.args.flight.now) c.begins_zone.new.self (g.F.Flight.bits c.marks_black.new.flight) (still_on c.args.self.now (g.F.Flight.bits c.args.flight.now) c.forms_groups.new.self (g.F.Flight.bits c.marks_black.new.flight) c.begins_zone.new.self (still_on c.args.self.now (g.F.Flight.bits c.args.flight.now) c.marks_black.new.self (g.F.Flight.bits c.marks_black.new.flight) c.forms_groups.new.self c.if-marks_black.ensures.done.0 c.in_default.ensures.1) c.if-begins_zone.ensures.1) c.requires.sound
+marks_gray-requires-clause-sound g c = still_sound c.args.self.now (g.F.Flight.bits c.args.flight.now)
+    c.begins_zone.new.self (g.F.Flight.bits c.marks_black.new.flight)
+    (still_on c.args.self.now (g.F.Flight.bits c.args.flight.now) c.forms_groups.new.self
+    (g.F.Flight.bits c.marks_black.new.flight) c.begins_zone.new.self
+    (still_on c.args.self.now (g.F.Flight.bits c.args.flight.now) c.marks_black.new.self
+    (g.F.Flight.bits c.marks_black.new.flight) c.forms_groups.new.self c.if-marks_black.ensures.done.0
+    c.in_default.ensures.1) c.if-begins_zone.ensures.1) c.requires.sound
 
 pub returns-then-marks_gray-clause-done : goal.returns-then-marks_gray-clause-done
 returns-then-marks_gray-clause-done g c =
-    let still = still_on c.args.self.now (g.F.Flight.bits c.args.flight.now) c.forms_groups.new.self (g.F.Flight.bits c.marks_black.new.flight) c.begins_zone.new.self (still_on c.args.self.now (g.F.Flight.bits c.args.flight.now) c.marks_black.new.self (g.F.Flight.bits c.marks_black.new.flight) c.forms_groups.new.self c.if-marks_black.ensures.done.0 c.in_default.ensures.1) c.if-begins_zone.ensures.1 in
-    (says_quiet c.args.self.now (g.F.Flight.bits c.args.flight.now) c.quiet-then-marks_gray.result c.marks_gray.new.self (g.F.Flight.bits c.marks_gray.new.flight) c.quiet-then-marks_gray.ensures (still_goes c.args.self.now (g.F.Flight.bits c.args.flight.now) c.begins_zone.new.self (g.F.Flight.bits c.marks_black.new.flight) [] c.marks_gray.new.self (g.F.Flight.bits c.marks_gray.new.flight) still c.if-marks_gray.ensures.done.0)).done
+    let still = still_on c.args.self.now (g.F.Flight.bits c.args.flight.now) c.forms_groups.new.self
+    (g.F.Flight.bits c.marks_black.new.flight) c.begins_zone.new.self
+    (still_on c.args.self.now (g.F.Flight.bits c.args.flight.now) c.marks_black.new.self
+    (g.F.Flight.bits c.marks_black.new.flight) c.forms_groups.new.self c.if-marks_black.ensures.done.0
+    c.in_default.ensures.1) c.if-begins_zone.ensures.1 in
+    (says_quiet c.args.self.now (g.F.Flight.bits c.args.flight.now) c.quiet-then-marks_gray.result c.marks_gray.new.self
+    (g.F.Flight.bits c.marks_gray.new.flight) c.quiet-then-marks_gray.ensures
+    (still_goes c.args.self.now (g.F.Flight.bits c.args.flight.now) c.begins_zone.new.self
+    (g.F.Flight.bits c.marks_black.new.flight) [] c.marks_gray.new.self (g.F.Flight.bits c.marks_gray.new.flight)
+    still c.if-marks_gray.ensures.done.0)).done
 
 pub returns-then-marks_gray-clause-jobs : goal.returns-then-marks_gray-clause-jobs
 returns-then-marks_gray-clause-jobs g c =
-    let still = still_on c.args.self.now (g.F.Flight.bits c.args.flight.now) c.forms_groups.new.self (g.F.Flight.bits c.marks_black.new.flight) c.begins_zone.new.self (still_on c.args.self.now (g.F.Flight.bits c.args.flight.now) c.marks_black.new.self (g.F.Flight.bits c.marks_black.new.flight) c.forms_groups.new.self c.if-marks_black.ensures.done.0 c.in_default.ensures.1) c.if-begins_zone.ensures.1 in
-    (says_quiet c.args.self.now (g.F.Flight.bits c.args.flight.now) c.quiet-then-marks_gray.result c.marks_gray.new.self (g.F.Flight.bits c.marks_gray.new.flight) c.quiet-then-marks_gray.ensures (still_goes c.args.self.now (g.F.Flight.bits c.args.flight.now) c.begins_zone.new.self (g.F.Flight.bits c.marks_black.new.flight) [] c.marks_gray.new.self (g.F.Flight.bits c.marks_gray.new.flight) still c.if-marks_gray.ensures.done.0)).jobs
+    let still = still_on c.args.self.now (g.F.Flight.bits c.args.flight.now) c.forms_groups.new.self
+    (g.F.Flight.bits c.marks_black.new.flight) c.begins_zone.new.self
+    (still_on c.args.self.now (g.F.Flight.bits c.args.flight.now) c.marks_black.new.self
+    (g.F.Flight.bits c.marks_black.new.flight) c.forms_groups.new.self c.if-marks_black.ensures.done.0
+    c.in_default.ensures.1) c.if-begins_zone.ensures.1 in
+    (says_quiet c.args.self.now (g.F.Flight.bits c.args.flight.now) c.quiet-then-marks_gray.result c.marks_gray.new.self
+    (g.F.Flight.bits c.marks_gray.new.flight) c.quiet-then-marks_gray.ensures
+    (still_goes c.args.self.now (g.F.Flight.bits c.args.flight.now) c.begins_zone.new.self
+    (g.F.Flight.bits c.marks_black.new.flight) [] c.marks_gray.new.self (g.F.Flight.bits c.marks_gray.new.flight)
+    still c.if-marks_gray.ensures.done.0)).jobs
 
 pub end_group-requires-clause-ready : goal.end_group-requires-clause-ready
-end_group-requires-clause-ready g c = group_ready c.args.self.now (g.F.Flight.bits c.args.flight.now) c.marks_black.new.self (g.F.Flight.bits c.marks_black.new.flight) c.forms_groups.new.self c.begins_zone.new.self c.marks_gray.new.self (g.F.Flight.bits c.marks_gray.new.flight) c.if-marks_black.ensures.done.0 c.in_default.ensures.1 c.if-begins_zone.ensures.1 c.if-marks_gray.ensures.done.0 c.requires.sound c.if-marks_black.ensures.done.1 c.in_default.ensures.0 c.if-begins_zone.ensures.0 c.if-marks_gray.ensures.done.1 c.in_default-next_out.ensures.none c.groups_law.ensures
+end_group-requires-clause-ready g c = group_ready c.args.self.now (g.F.Flight.bits c.args.flight.now)
+    c.marks_black.new.self (g.F.Flight.bits c.marks_black.new.flight) c.forms_groups.new.self c.begins_zone.new.self
+    c.marks_gray.new.self (g.F.Flight.bits c.marks_gray.new.flight) c.if-marks_black.ensures.done.0
+    c.in_default.ensures.1 c.if-begins_zone.ensures.1 c.if-marks_gray.ensures.done.0 c.requires.sound
+    c.if-marks_black.ensures.done.1 c.in_default.ensures.0 c.if-begins_zone.ensures.0 c.if-marks_gray.ensures.done.1
+    c.in_default-next_out.ensures.none c.groups_law.ensures
 
 pub returns-clause-done : goal.returns-clause-done
 returns-clause-done g c =
-    let still = all_still c.args.self.now (g.F.Flight.bits c.args.flight.now) c.marks_black.new.self (g.F.Flight.bits c.marks_black.new.flight) c.forms_groups.new.self c.begins_zone.new.self c.marks_gray.new.self (g.F.Flight.bits c.marks_gray.new.flight) c.if-marks_black.ensures.done.0 c.in_default.ensures.1 c.if-begins_zone.ensures.1 c.if-marks_gray.ensures.done.0 in
-    ended_done c.args.self.now (g.F.Flight.bits c.args.flight.now) c.marks_gray.new.self (g.F.Flight.bits c.marks_gray.new.flight) still (still_sound c.args.self.now (g.F.Flight.bits c.args.flight.now) c.marks_gray.new.self (g.F.Flight.bits c.marks_gray.new.flight) still c.requires.sound) c.end_group.new.self c.end_group.result c.end_group.ensures.done c.end_group.ensures.due
+    let still = all_still c.args.self.now (g.F.Flight.bits c.args.flight.now) c.marks_black.new.self
+    (g.F.Flight.bits c.marks_black.new.flight) c.forms_groups.new.self c.begins_zone.new.self c.marks_gray.new.self
+    (g.F.Flight.bits c.marks_gray.new.flight) c.if-marks_black.ensures.done.0 c.in_default.ensures.1
+    c.if-begins_zone.ensures.1 c.if-marks_gray.ensures.done.0 in
+    ended_done c.args.self.now (g.F.Flight.bits c.args.flight.now) c.marks_gray.new.self
+    (g.F.Flight.bits c.marks_gray.new.flight) still
+    (still_sound c.args.self.now (g.F.Flight.bits c.args.flight.now) c.marks_gray.new.self
+    (g.F.Flight.bits c.marks_gray.new.flight) still c.requires.sound) c.end_group.new.self c.end_group.result
+    c.end_group.ensures.done c.end_group.ensures.due
 
 pub returns-clause-left : goal.returns-clause-left
 returns-clause-left g c =
-    let still = all_still c.args.self.now (g.F.Flight.bits c.args.flight.now) c.marks_black.new.self (g.F.Flight.bits c.marks_black.new.flight) c.forms_groups.new.self c.begins_zone.new.self c.marks_gray.new.self (g.F.Flight.bits c.marks_gray.new.flight) c.if-marks_black.ensures.done.0 c.in_default.ensures.1 c.if-begins_zone.ensures.1 c.if-marks_gray.ensures.done.0 in
-    ended_left c.args.self.now (g.F.Flight.bits c.args.flight.now) c.marks_gray.new.self (g.F.Flight.bits c.marks_gray.new.flight) still (still_sound c.args.self.now (g.F.Flight.bits c.args.flight.now) c.marks_gray.new.self (g.F.Flight.bits c.marks_gray.new.flight) still c.requires.sound) c.end_group.new.self c.end_group.result c.end_group.ensures.left c.end_group.ensures.due
+    let still = all_still c.args.self.now (g.F.Flight.bits c.args.flight.now) c.marks_black.new.self
+    (g.F.Flight.bits c.marks_black.new.flight) c.forms_groups.new.self c.begins_zone.new.self c.marks_gray.new.self
+    (g.F.Flight.bits c.marks_gray.new.flight) c.if-marks_black.ensures.done.0 c.in_default.ensures.1
+    c.if-begins_zone.ensures.1 c.if-marks_gray.ensures.done.0 in
+    ended_left c.args.self.now (g.F.Flight.bits c.args.flight.now) c.marks_gray.new.self
+    (g.F.Flight.bits c.marks_gray.new.flight) still
+    (still_sound c.args.self.now (g.F.Flight.bits c.args.flight.now) c.marks_gray.new.self
+    (g.F.Flight.bits c.marks_gray.new.flight) still c.requires.sound) c.end_group.new.self c.end_group.result
+    c.end_group.ensures.left c.end_group.ensures.due
 
 pub returns-then-marks_black-clause-due_where : goal.returns-then-marks_black-clause-due_where
 returns-then-marks_black-clause-due_where g c = λ rests a lowest. absurd (c.if-marks_black.ensures.done.1 rests.black)
 
 pub returns-in-Some-clause-due_where : goal.returns-in-Some-clause-due_where
-returns-in-Some-clause-due_where g c = λ rests a lowest. absurd (c.in-Some.ensures.unformed (subst (λ (x : CollectorState). IsFormed x) (sym c.if-marks_black.ensures.done.0.same) rests.formed))
+returns-in-Some-clause-due_where g c =
+    λ rests a lowest. absurd
+    (c.in-Some.ensures.unformed
+    (subst (λ (x : CollectorState). IsFormed x) (sym c.if-marks_black.ensures.done.0.same) rests.formed))
 
 pub returns-then-begins_zone-clause-due_where : goal.returns-then-begins_zone-clause-due_where
 returns-then-begins_zone-clause-due_where g c =
-    let still = still_on c.args.self.now (g.F.Flight.bits c.args.flight.now) c.marks_black.new.self (g.F.Flight.bits c.marks_black.new.flight) c.forms_groups.new.self c.if-marks_black.ensures.done.0 c.in_default.ensures.1 in
-    λ rests a lowest. absurd (c.if-begins_zone.ensures.1 (subst (λ (x : CollectorState). HasBegun x) (sym still.same) rests.begun))
+    let still = still_on c.args.self.now (g.F.Flight.bits c.args.flight.now) c.marks_black.new.self
+    (g.F.Flight.bits c.marks_black.new.flight) c.forms_groups.new.self c.if-marks_black.ensures.done.0
+    c.in_default.ensures.1 in
+    λ rests a lowest. absurd
+    (c.if-begins_zone.ensures.1 (subst (λ (x : CollectorState). HasBegun x) (sym still.same) rests.begun))
 
 pub returns-then-marks_gray-clause-due_where : goal.returns-then-marks_gray-clause-due_where
 returns-then-marks_gray-clause-due_where g c =
-    let still = still_on c.args.self.now (g.F.Flight.bits c.args.flight.now) c.forms_groups.new.self (g.F.Flight.bits c.marks_black.new.flight) c.begins_zone.new.self (still_on c.args.self.now (g.F.Flight.bits c.args.flight.now) c.marks_black.new.self (g.F.Flight.bits c.marks_black.new.flight) c.forms_groups.new.self c.if-marks_black.ensures.done.0 c.in_default.ensures.1) c.if-begins_zone.ensures.1 in
-    λ rests a lowest. absurd (c.if-marks_gray.ensures.done.1 (still_group_done c.args.self.now (g.F.Flight.bits c.args.flight.now) c.begins_zone.new.self (g.F.Flight.bits c.marks_black.new.flight) still rests.group))
+    let still = still_on c.args.self.now (g.F.Flight.bits c.args.flight.now) c.forms_groups.new.self
+    (g.F.Flight.bits c.marks_black.new.flight) c.begins_zone.new.self
+    (still_on c.args.self.now (g.F.Flight.bits c.args.flight.now) c.marks_black.new.self
+    (g.F.Flight.bits c.marks_black.new.flight) c.forms_groups.new.self c.if-marks_black.ensures.done.0
+    c.in_default.ensures.1) c.if-begins_zone.ensures.1 in
+    λ rests a lowest. absurd
+    (c.if-marks_gray.ensures.done.1
+    (still_group_done c.args.self.now (g.F.Flight.bits c.args.flight.now) c.begins_zone.new.self
+    (g.F.Flight.bits c.marks_black.new.flight) still rests.group))
 
 pub returns-in-Some-next_out-clause-due_where : goal.returns-in-Some-next_out-clause-due_where
-returns-in-Some-next_out-clause-due_where g c = λ rests a lowest. ap (λ (u : Unit). u.due) c.due.ensures ∙ ap (λ (b : ℕ). Some b) (same_due c.args.self.now (g.F.Flight.bits c.args.flight.now) c.marks_black.new.self (g.F.Flight.bits c.marks_black.new.flight) c.forms_groups.new.self c.begins_zone.new.self c.marks_gray.new.self (g.F.Flight.bits c.marks_gray.new.flight) c.if-marks_black.ensures.done.0 c.in_default.ensures.1 c.if-begins_zone.ensures.1 c.if-marks_gray.ensures.done.0 a c.in-Some-next_out.arena lowest c.in-Some-next_out.ensures.some)
+returns-in-Some-next_out-clause-due_where g c = λ rests a lowest. ap (λ (u : Unit). u.due) c.due.ensures
+    ∙ ap (λ (b : ℕ). Some b)
+    (same_due c.args.self.now (g.F.Flight.bits c.args.flight.now) c.marks_black.new.self
+    (g.F.Flight.bits c.marks_black.new.flight) c.forms_groups.new.self c.begins_zone.new.self c.marks_gray.new.self
+    (g.F.Flight.bits c.marks_gray.new.flight) c.if-marks_black.ensures.done.0 c.in_default.ensures.1
+    c.if-begins_zone.ensures.1 c.if-marks_gray.ensures.done.0 a c.in-Some-next_out.arena lowest
+    c.in-Some-next_out.ensures.some)
 
 pub returns-clause-due_where : goal.returns-clause-due_where
-returns-clause-due_where g c = λ rests a lowest. absurd (none_out c.args.self.now (g.F.Flight.bits c.args.flight.now) c.marks_black.new.self (g.F.Flight.bits c.marks_black.new.flight) c.forms_groups.new.self c.begins_zone.new.self c.marks_gray.new.self (g.F.Flight.bits c.marks_gray.new.flight) c.if-marks_black.ensures.done.0 c.in_default.ensures.1 c.if-begins_zone.ensures.1 c.if-marks_gray.ensures.done.0 a lowest c.in_default-next_out.ensures.none)
+returns-clause-due_where g c =
+    λ rests a lowest. absurd
+    (none_out c.args.self.now (g.F.Flight.bits c.args.flight.now) c.marks_black.new.self
+    (g.F.Flight.bits c.marks_black.new.flight) c.forms_groups.new.self c.begins_zone.new.self c.marks_gray.new.self
+    (g.F.Flight.bits c.marks_gray.new.flight) c.if-marks_black.ensures.done.0 c.in_default.ensures.1
+    c.if-begins_zone.ensures.1 c.if-marks_gray.ensures.done.0 a lowest c.in_default-next_out.ensures.none)
 
 pub returns-then-marks_black-clause-ended_where : goal.returns-then-marks_black-clause-ended_where
 returns-then-marks_black-clause-ended_where g c = not_at_end c.quiet.result
@@ -108,7 +218,8 @@ returns-in-Some-clause-ended_where g c = not_at_end c.in-Some.unit
 pub returns-then-begins_zone-clause-ended_where : goal.returns-then-begins_zone-clause-ended_where
 returns-then-begins_zone-clause-ended_where g c =
     let still = still_on c.args.self.now (g.F.Flight.bits c.args.flight.now) c.marks_black.new.self
-    (g.F.Flight.bits c.marks_black.new.flight) c.forms_groups.new.self c.if-marks_black.ensures.done.0 c.in_default.ensures.1 in
+    (g.F.Flight.bits c.marks_black.new.flight) c.forms_groups.new.self c.if-marks_black.ensures.done.0
+    c.in_default.ensures.1 in
     not_at_end c.quiet-then-begins_zone.result (IsAtGroupEnd c.args.self.now (g.F.Flight.bits c.args.flight.now))
     (ap (λ (u : Unit). is_group_end u.report) c.quiet-then-begins_zone.ensures)
     (λ at. c.if-begins_zone.ensures.1 (subst (λ (x : CollectorState). HasBegun x) (sym still.same) at.0.begun))
@@ -169,7 +280,8 @@ returns-clause-handed g c =
     let sound = still_sound c.args.self.now (g.F.Flight.bits c.args.flight.now) c.marks_gray.new.self
     (g.F.Flight.bits c.marks_gray.new.flight) still c.requires.sound in
     ended_handed c.args.self.now (g.F.Flight.bits c.args.flight.now) c.marks_gray.new.self
-    (g.F.Flight.bits c.marks_gray.new.flight) still sound c.end_group.new.self c.end_group.result c.end_group.ensures.handed
+    (g.F.Flight.bits c.marks_gray.new.flight) still sound c.end_group.new.self c.end_group.result
+    c.end_group.ensures.handed
 
 pub returns-clause-coloured : goal.returns-clause-coloured
 returns-clause-coloured g c =
@@ -180,7 +292,8 @@ returns-clause-coloured g c =
     let sound = still_sound c.args.self.now (g.F.Flight.bits c.args.flight.now) c.marks_gray.new.self
     (g.F.Flight.bits c.marks_gray.new.flight) still c.requires.sound in
     ended_coloured c.args.self.now (g.F.Flight.bits c.args.flight.now) c.marks_gray.new.self
-    (g.F.Flight.bits c.marks_gray.new.flight) still sound c.end_group.new.self c.end_group.result c.end_group.ensures.coloured
+    (g.F.Flight.bits c.marks_gray.new.flight) still sound c.end_group.new.self c.end_group.result
+    c.end_group.ensures.coloured
 
 pub returns-clause-err : goal.returns-clause-err
 returns-clause-err g c =
@@ -191,13 +304,15 @@ returns-clause-err g c =
     let sound = still_sound c.args.self.now (g.F.Flight.bits c.args.flight.now) c.marks_gray.new.self
     (g.F.Flight.bits c.marks_gray.new.flight) still c.requires.sound in
     ended_err c.args.self.now (g.F.Flight.bits c.args.flight.now) c.marks_gray.new.self
-    (g.F.Flight.bits c.marks_gray.new.flight) still sound c.end_group.new.self c.end_group.result c.end_group.ensures.err
+    (g.F.Flight.bits c.marks_gray.new.flight) still sound c.end_group.new.self c.end_group.result
+    c.end_group.ensures.err
 
 pub returns-clause-err_where : goal.returns-clause-err_where
 returns-clause-err_where g c = on_err (IsAtGroupEnd c.args.self.now
     (g.F.Flight.bits c.args.flight.now)) c.end_group.result (
       four_rested c.args.self.now (g.F.Flight.bits c.args.flight.now) c.marks_black.new.self
-          (g.F.Flight.bits c.marks_black.new.flight) c.forms_groups.new.self c.begins_zone.new.self c.marks_gray.new.self
+          (g.F.Flight.bits c.marks_black.new.flight) c.forms_groups.new.self c.begins_zone.new.self
+          c.marks_gray.new.self
           (g.F.Flight.bits c.marks_gray.new.flight) c.if-marks_black.ensures.done.0 c.in_default.ensures.1
           c.if-begins_zone.ensures.1 c.if-marks_gray.ensures.done.0 c.if-marks_black.ensures.done.1
           c.in_default.ensures.0 c.if-begins_zone.ensures.0 c.if-marks_gray.ensures.done.1,
@@ -254,7 +369,8 @@ returns-in-Some-clause-handed g c =
     (says_grouping c.args.self.now (g.F.Flight.bits c.args.flight.now) c.marks_black.new.self
     (g.F.Flight.bits c.marks_black.new.flight) c.in-Some.unit c.forms_groups.new.self still
     (still_sound c.args.self.now (g.F.Flight.bits c.args.flight.now) c.marks_black.new.self
-    (g.F.Flight.bits c.marks_black.new.flight) still c.requires.sound) c.if-marks_black.ensures.done.1 c.in-Some.ensures).handed
+    (g.F.Flight.bits c.marks_black.new.flight) still c.requires.sound) c.if-marks_black.ensures.done.1
+    c.in-Some.ensures).handed
 
 pub returns-in-Some-clause-coloured : goal.returns-in-Some-clause-coloured
 returns-in-Some-clause-coloured g c =
@@ -262,12 +378,14 @@ returns-in-Some-clause-coloured g c =
     (says_grouping c.args.self.now (g.F.Flight.bits c.args.flight.now) c.marks_black.new.self
     (g.F.Flight.bits c.marks_black.new.flight) c.in-Some.unit c.forms_groups.new.self still
     (still_sound c.args.self.now (g.F.Flight.bits c.args.flight.now) c.marks_black.new.self
-    (g.F.Flight.bits c.marks_black.new.flight) still c.requires.sound) c.if-marks_black.ensures.done.1 c.in-Some.ensures).coloured
+    (g.F.Flight.bits c.marks_black.new.flight) still c.requires.sound) c.if-marks_black.ensures.done.1
+    c.in-Some.ensures).coloured
 
 pub returns-then-begins_zone-clause-handed : goal.returns-then-begins_zone-clause-handed
 returns-then-begins_zone-clause-handed g c =
     let still = still_on c.args.self.now (g.F.Flight.bits c.args.flight.now) c.marks_black.new.self
-    (g.F.Flight.bits c.marks_black.new.flight) c.forms_groups.new.self c.if-marks_black.ensures.done.0 c.in_default.ensures.1 in
+    (g.F.Flight.bits c.marks_black.new.flight) c.forms_groups.new.self c.if-marks_black.ensures.done.0
+    c.in_default.ensures.1 in
     (says_quiet c.args.self.now
     (g.F.Flight.bits c.args.flight.now) c.quiet-then-begins_zone.result c.begins_zone.new.self
     (g.F.Flight.bits c.marks_black.new.flight) c.quiet-then-begins_zone.ensures
@@ -281,7 +399,8 @@ returns-then-begins_zone-clause-handed g c =
 pub returns-then-begins_zone-clause-coloured : goal.returns-then-begins_zone-clause-coloured
 returns-then-begins_zone-clause-coloured g c =
     let still = still_on c.args.self.now (g.F.Flight.bits c.args.flight.now) c.marks_black.new.self
-    (g.F.Flight.bits c.marks_black.new.flight) c.forms_groups.new.self c.if-marks_black.ensures.done.0 c.in_default.ensures.1 in
+    (g.F.Flight.bits c.marks_black.new.flight) c.forms_groups.new.self c.if-marks_black.ensures.done.0
+    c.in_default.ensures.1 in
     (says_quiet c.args.self.now
     (g.F.Flight.bits c.args.flight.now) c.quiet-then-begins_zone.result c.begins_zone.new.self
     (g.F.Flight.bits c.marks_black.new.flight) c.quiet-then-begins_zone.ensures
@@ -335,12 +454,14 @@ returns-in-Some-clause-sound g c =
     (says_grouping c.args.self.now (g.F.Flight.bits c.args.flight.now) c.marks_black.new.self
     (g.F.Flight.bits c.marks_black.new.flight) c.in-Some.unit c.forms_groups.new.self still
     (still_sound c.args.self.now (g.F.Flight.bits c.args.flight.now) c.marks_black.new.self
-    (g.F.Flight.bits c.marks_black.new.flight) still c.requires.sound) c.if-marks_black.ensures.done.1 c.in-Some.ensures) c.requires.sound
+    (g.F.Flight.bits c.marks_black.new.flight) still c.requires.sound) c.if-marks_black.ensures.done.1
+    c.in-Some.ensures) c.requires.sound
 
 pub returns-then-begins_zone-clause-sound : goal.returns-then-begins_zone-clause-sound
 returns-then-begins_zone-clause-sound g c =
     let still = still_on c.args.self.now (g.F.Flight.bits c.args.flight.now) c.marks_black.new.self
-    (g.F.Flight.bits c.marks_black.new.flight) c.forms_groups.new.self c.if-marks_black.ensures.done.0 c.in_default.ensures.1 in
+    (g.F.Flight.bits c.marks_black.new.flight) c.forms_groups.new.self c.if-marks_black.ensures.done.0
+    c.in_default.ensures.1 in
     says_sound c.args.self.now
     (g.F.Flight.bits c.args.flight.now) c.quiet-then-begins_zone.result c.begins_zone.new.self
     (g.F.Flight.bits c.marks_black.new.flight)
@@ -379,11 +500,15 @@ returns-clause-sound g c =
     let sound = still_sound c.args.self.now (g.F.Flight.bits c.args.flight.now) c.marks_gray.new.self
     (g.F.Flight.bits c.marks_gray.new.flight) still c.requires.sound in
     ended_sound c.args.self.now (g.F.Flight.bits c.args.flight.now) c.marks_gray.new.self
-    (g.F.Flight.bits c.marks_gray.new.flight) still sound c.end_group.new.self c.end_group.result c.end_group.ensures.done
+    (g.F.Flight.bits c.marks_gray.new.flight) still sound c.end_group.new.self c.end_group.result
+    c.end_group.ensures.done
 
 pub returns-in-Some-next_out-clause-sound : goal.returns-in-Some-next_out-clause-sound
 returns-in-Some-next_out-clause-sound g c =
-    let still = all_still c.args.self.now (g.F.Flight.bits c.args.flight.now) c.marks_black.new.self (g.F.Flight.bits c.marks_black.new.flight) c.forms_groups.new.self c.begins_zone.new.self c.marks_gray.new.self (g.F.Flight.bits c.marks_gray.new.flight) c.if-marks_black.ensures.done.0 c.in_default.ensures.1 c.if-begins_zone.ensures.1 c.if-marks_gray.ensures.done.0 in
+    let still = all_still c.args.self.now (g.F.Flight.bits c.args.flight.now) c.marks_black.new.self
+    (g.F.Flight.bits c.marks_black.new.flight) c.forms_groups.new.self c.begins_zone.new.self c.marks_gray.new.self
+    (g.F.Flight.bits c.marks_gray.new.flight) c.if-marks_black.ensures.done.0 c.in_default.ensures.1
+    c.if-begins_zone.ensures.1 c.if-marks_gray.ensures.done.0 in
     let sound = still_sound c.args.self.now (g.F.Flight.bits c.args.flight.now) c.marks_gray.new.self
     (g.F.Flight.bits c.marks_gray.new.flight) still c.requires.sound in
     subst (λ (u : Unit). IsSound c.marks_gray.new.self

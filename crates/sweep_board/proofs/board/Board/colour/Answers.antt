@@ -6,6 +6,7 @@ pub load-black-requires : goal.load-black-requires
 load-black-requires c = (
   search rules,
   search rules,
-  reading_black _ _ _ _ c.args.index (subst (λ js. c.args.index < length js.items) (sym c.args.self.now.keyed) c.requires.index)
+  reading_black _ _ _ _ c.args.index
+      (subst (λ js. c.args.index < length js.items) (sym c.args.self.now.keyed) c.requires.index)
       (c.requires.board.1 ∙ sym (ap (λ v. v.items) c.args.self.now.keyed)) c.args.main.now.mains,
 )

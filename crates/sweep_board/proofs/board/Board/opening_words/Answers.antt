@@ -9,7 +9,8 @@ take-all : (js : List Job) (n : ℕ) → length js ≤ n → take n js ≡ js
 take-all js n le = grind (arith, common_steps)
 
 pub loop-job-preserved : goal.loop-job-preserved
-loop-job-preserved c = c.in_ok-extend_from_slice.ensures.items ∙ one_more c.args.jobs.now c.loop-job.job-index c.loop-job.words.items (omega arith) c.loop-job.invariant
+loop-job-preserved c = c.in_ok-extend_from_slice.ensures.items
+    ∙ one_more c.args.jobs.now c.loop-job.job-index c.loop-job.words.items (omega arith) c.loop-job.invariant
 
 pub returns : goal.returns
 returns c = opens c.args.jobs.now _

@@ -7,6 +7,9 @@ pub fetch_or-requires : goal.fetch_or-requires
 fetch_or-requires c = (
   search rules,
   search rules,
-  waking _ _ _ _ c.args.index (subst (λ js. c.args.index < length js.items) (sym c.args.self.now.keyed) c.requires.index) c.args.mask c.args.main.now.mains
-      (subst (λ js. bit_or c.args.mask (job_at js.items c.args.index).bits.gob ≡ (job_at js.items c.args.index).bits.gob) (sym c.args.self.now.keyed) c.requires.within),
+  waking _ _ _ _ c.args.index
+      (subst (λ js. c.args.index < length js.items) (sym c.args.self.now.keyed) c.requires.index) c.args.mask
+      c.args.main.now.mains
+      (subst (λ js. bit_or c.args.mask (job_at js.items c.args.index).bits.gob
+      ≡ (job_at js.items c.args.index).bits.gob) (sym c.args.self.now.keyed) c.requires.within),
 )

@@ -7,5 +7,7 @@ use Rattle.sweep_board.proofs.FlightBits.{flight_bits-wake}
 use Rattle.sweep_board.proofs.flight.InFlightFlight.wake.Goals as goal
 
 pub returns-clause-woken : goal.returns-clause-woken
-returns-clause-woken c = λ a. ap (λ (v : View). flight_bits v a) c.wake.ensures.woken ∙ flight_bits-wake (main_view_of c.args.self.now.main) c.in-Some.index c.args.mask a c.args.arena
-    (ap (λ (js : List Job). position (λ job. job.arena == c.args.arena) js) c.args.self.now.mains.1 ∙ sym c.in-Some.ensures.place)
+returns-clause-woken c = λ a. ap (λ (v : View). flight_bits v a) c.wake.ensures.woken
+    ∙ flight_bits-wake (main_view_of c.args.self.now.main) c.in-Some.index c.args.mask a c.args.arena
+    (ap (λ (js : List Job). position (λ job. job.arena == c.args.arena) js) c.args.self.now.mains.1
+    ∙ sym c.in-Some.ensures.place)

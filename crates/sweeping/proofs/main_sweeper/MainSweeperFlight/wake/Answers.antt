@@ -5,20 +5,27 @@ use Rattle.sweeping.proofs.Jobs.{is_of, found, some_of_and, wake_flown, wake_out
 use Rattle.sweeping.proofs.main_sweeper.MainSweeperFlight.wake.Goals as goal
 
 pub unreachable-requires : goal.unreachable-requires
-unreachable-requires c = found c.args.self.now c.args.arena (some_of_and _ _ c.requires) (ap (position (is_of c.args.arena)) (sym c.left.ensures) ∙ sym c.find.ensures ∙ c.in-None.is)
+unreachable-requires c = found c.args.self.now c.args.arena (some_of_and _ _ c.requires)
+    (ap (position (is_of c.args.arena)) (sym c.left.ensures) ∙ sym c.find.ensures ∙ c.in-None.is)
 
 pub returns-clause-origin : goal.returns-clause-origin
 returns-clause-origin c =
     let found_at = ap (position (is_of c.args.arena)) (sym c.left.ensures) ∙ sym c.find.ensures ∙ c.in-Some.is in
-    wake_outs c.args.self.now c.self.inside.jobs.items c.self.inside.next c.args.arena c.in-Some.i c.args.mask c.index_mut.result.now (sym c.self.view_is) found_at c.index_mut.ensures.value c.requires
+    wake_outs c.args.self.now c.self.inside.jobs.items c.self.inside.next c.args.arena c.in-Some.i c.args.mask
+    c.index_mut.result.now (sym c.self.view_is) found_at c.index_mut.ensures.value c.requires
 
 pub returns-clause-woken : goal.returns-clause-woken
 returns-clause-woken c =
     let found_at = ap (position (is_of c.args.arena)) (sym c.left.ensures) ∙ sym c.find.ensures ∙ c.in-Some.is in
-    wake_flown c.args.self.now c.self.inside.jobs.items c.self.inside.next c.args.arena c.in-Some.i c.args.mask c.index_mut.result.now (sym c.self.view_is) found_at c.index_mut.ensures.value
+    wake_flown c.args.self.now c.self.inside.jobs.items c.self.inside.next c.args.arena c.in-Some.i c.args.mask
+    c.index_mut.result.now (sym c.self.view_is) found_at c.index_mut.ensures.value
 
 pub invariant_of-self : goal.invariant_of-self
 invariant_of-self c =
     let found_at = ap (position (is_of c.args.arena)) (sym c.left.ensures) ∙ sym c.find.ensures ∙ c.in-Some.is in
-    let outs = wake_outs c.args.self.now c.self.inside.jobs.items c.self.inside.next c.args.arena c.in-Some.i c.args.mask c.index_mut.result.now (sym c.self.view_is) found_at c.index_mut.ensures.value c.requires in
-    (subst (λ (n : ℕ). c.self.inside.next ≤ n) (sym (length-set c.self.inside.jobs.items (c.self.inside.next + c.in-Some.i) _)) c.self.invariant.0, subst Ascend (ap outs_of c.self.view_is ∙ sym outs) c.self.invariant.1)
+    let outs = wake_outs c.args.self.now c.self.inside.jobs.items c.self.inside.next c.args.arena c.in-Some.i
+    c.args.mask c.index_mut.result.now (sym c.self.view_is) found_at c.index_mut.ensures.value c.requires in (
+      subst (λ (n : ℕ). c.self.inside.next ≤ n)
+          (sym (length-set c.self.inside.jobs.items (c.self.inside.next + c.in-Some.i) _)) c.self.invariant.0,
+      subst Ascend (ap outs_of c.self.view_is ∙ sym outs) c.self.invariant.1,
+    )

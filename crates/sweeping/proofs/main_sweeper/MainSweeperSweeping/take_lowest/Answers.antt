@@ -7,5 +7,7 @@ use Rattle.sweeping.proofs.main_sweeper.MainSweeperSweeping.take_lowest.Goals as
 pub returns-clause-taken : goal.returns-clause-taken
 returns-clause-taken c =
     takes_first c.self.inside.jobs.items c.args.self.now c.self.inside.next c.index.result.now c.white_mask.result
-    (some_outs c.self.inside.jobs.items c.args.self.now c.self.inside.next c.self.invariant.0 (sym c.self.view_is) c.requires)
-    (sym c.self.view_is) c.index.ensures (subst (λ (js : List Job). Ascend (outs_of js)) c.self.view_is c.self.invariant.1) c.white_mask.ensures.word
+    (some_outs c.self.inside.jobs.items c.args.self.now c.self.inside.next c.self.invariant.0 (sym c.self.view_is)
+    c.requires)
+    (sym c.self.view_is) c.index.ensures
+    (subst (λ (js : List Job). Ascend (outs_of js)) c.self.view_is c.self.invariant.1) c.white_mask.ensures.word

@@ -7,15 +7,28 @@ use Rattle.weak_maps.proofs.Sound.{IsSound-from_tied}
 use Rattle.weak_maps.proofs.tables.WeakMaps.entries_of_map.Goals as goal
 
 pub returns-in_err-key-clause-sound : goal.returns-in_err-key-clause-sound
-returns-in_err-key-clause-sound c = rw (← c.self.view_is) (IsSound-from_tied (record { entries = entries_of c.self.inside.table; by_map = c.self.inside.by_map; by_key = c.self.inside.by_key }) c.self.invariant)
+returns-in_err-key-clause-sound c =
+    rw (← c.self.view_is)
+    (IsSound-from_tied (record {
+      entries = entries_of c.self.inside.table;
+      by_map = c.self.inside.by_map;
+      by_key = c.self.inside.by_key;
+    }) c.self.invariant)
 
 pub returns-in_err-value-clause-entry : goal.returns-in_err-value-clause-entry
 returns-in_err-value-clause-entry c =
     let none = rw (← c.self.view_is) at c.in_err-value.ensures.value in
-    let here = is_listed-at c.self.inside.by_map c.args.map c.in_ok-key.key c.args.index (sym c.in_ok-key.ensures.place) in
+    let here = is_listed-at c.self.inside.by_map c.args.map c.in_ok-key.key c.args.index (sym c.in_ok-key.ensures.place)
+    in
     absurd (false≢true (ap is_some none ∙ (sym (c.self.invariant.in_map c.args.map c.in_ok-key.key) ∙ here)))
 
 pub returns-clause-entry : goal.returns-clause-entry
 returns-clause-entry c =
     let value = rw (← c.self.view_is) at c.in_ok-value.ensures.value in
-    rw (← c.self.view_is) (parts-of_map (record { entries = entries_of c.self.inside.table; by_map = c.self.inside.by_map; by_key = c.self.inside.by_key }) c.args.map c.in_ok-key.key c.in_ok-value.value (listed_under c.self.inside.by_map c.args.map) c.args.index (sym c.in_ok-key.ensures.place) (sym value))
+    rw (← c.self.view_is)
+    (parts-of_map (record {
+      entries = entries_of c.self.inside.table;
+      by_map = c.self.inside.by_map;
+      by_key = c.self.inside.by_key;
+    }) c.args.map c.in_ok-key.key c.in_ok-value.value
+    (listed_under c.self.inside.by_map c.args.map) c.args.index (sym c.in_ok-key.ensures.place) (sym value))

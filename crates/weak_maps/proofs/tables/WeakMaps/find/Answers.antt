@@ -5,7 +5,15 @@ use Rattle.weak_maps.proofs.Sound.{IsSound-from_tied}
 use Rattle.weak_maps.proofs.tables.WeakMaps.find.Goals as goal
 
 pub returns-clause-sound : goal.returns-clause-sound
-returns-clause-sound c = rw (← c.self.view_is) (IsSound-from_tied (record { entries = entries_of c.self.inside.table; by_map = c.self.inside.by_map; by_key = c.self.inside.by_key }) c.self.invariant)
+returns-clause-sound c =
+    rw (← c.self.view_is)
+    (IsSound-from_tied (record {
+      entries = entries_of c.self.inside.table;
+      by_map = c.self.inside.by_map;
+      by_key = c.self.inside.by_key;
+    }) c.self.invariant)
 
 pub returns-clause-value : goal.returns-clause-value
-returns-clause-value c = rw (← c.self.view_is) (c.copied.ensures ∙ (c.get.ensures.value ∙ sym (value_at-entries c.self.inside.table c.args.map c.args.key)))
+returns-clause-value c =
+    rw (← c.self.view_is)
+    (c.copied.ensures ∙ (c.get.ensures.value ∙ sym (value_at-entries c.self.inside.table c.args.map c.args.key)))

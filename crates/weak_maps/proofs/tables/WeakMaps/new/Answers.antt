@@ -7,4 +7,6 @@ use Rattle.weak_maps.proofs.tables.WeakMaps.new.Goals as goal
 
 pub returns-clause-sound : goal.returns-clause-sound
 returns-clause-sound c =
-    IsSound-from_tied (record { entries = entries_of c.new.result; by_map = c.new-2.result; by_key = c.new-3.result }) (AreTied-none (entries_of c.new.result) c.new-2.result c.new-3.result (ap (map seen_entry) c.new.ensures.empty) c.new-2.ensures c.new-3.ensures)
+    IsSound-from_tied (record { entries = entries_of c.new.result; by_map = c.new-2.result; by_key = c.new-3.result })
+    (AreTied-none (entries_of c.new.result) c.new-2.result c.new-3.result (ap (map seen_entry) c.new.ensures.empty)
+    c.new-2.ensures c.new-3.ensures)

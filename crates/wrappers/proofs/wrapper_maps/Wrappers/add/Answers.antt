@@ -19,7 +19,9 @@ invariant_of-self-2 c =
     let none : place_at lists c.args.comp.0 c.args.target ≡ None = rw (← c.self.view_is) at c.requires.absent in
     let kept = with_items_is c.self.inside.maps c.add_in_zone.new.maps (omega arith) in
     let below : c.args.comp.0 < 256 = omega arith in
-    rw (kept, c.in_ok-add_in_zone.ensures.ok, c.deref_mut.ensures.value) (AreSound-add lists c.self.inside.homes c.args.zone c.args.comp.0 c.args.target c.args.place c.self.invariant c.add_in_zone.ensures.below below none one)
+    rw (kept, c.in_ok-add_in_zone.ensures.ok, c.deref_mut.ensures.value)
+    (AreSound-add lists c.self.inside.homes c.args.zone c.args.comp.0 c.args.target c.args.place c.self.invariant
+    c.add_in_zone.ensures.below below none one)
 
 pub returns-clause-found : goal.returns-clause-found
 returns-clause-found c =
@@ -27,4 +29,5 @@ returns-clause-found c =
     let none : place_at lists c.args.comp.0 c.args.target ≡ None = rw (← c.self.view_is) at c.requires.absent in
     let kept = with_items_is c.self.inside.maps c.add_in_zone.new.maps (omega arith) in
     let inside : c.args.zone < length lists = rw c.self.invariant.zones c.add_in_zone.ensures.below in
-    rw (← c.self.view_is, kept, c.in_ok-add_in_zone.ensures.ok, c.deref_mut.ensures.value) (place_at-add lists c.args.zone c.args.comp.0 c.args.target c.args.place inside none)
+    rw (← c.self.view_is, kept, c.in_ok-add_in_zone.ensures.ok, c.deref_mut.ensures.value)
+    (place_at-add lists c.args.zone c.args.comp.0 c.args.target c.args.place inside none)

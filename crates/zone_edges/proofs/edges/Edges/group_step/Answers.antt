@@ -11,6 +11,8 @@ invariant_of-self c = record {
     | inl old ↦ c.visit.ensures.follows.seen z (c.self.invariant.stepped_seen z old)
     | inr new ↦ subst (λ y. HasZone c.visit.new.self.seen.bits y) (sym ((c.only.ensures z).0 new)) c.visit.ensures.seen
   ];
-  fresh = λ e. absurd (HasZone-none c.args.zone (subst (λ s. HasZone s c.args.zone) e ((c.union-self-inside.ensures c.args.zone).1 (inr ((c.only.ensures c.args.zone).1 refl)))));
+  fresh = λ e. absurd (HasZone-none c.args.zone
+      (subst (λ s. HasZone s c.args.zone) e
+      ((c.union-self-inside.ensures c.args.zone).1 (inr ((c.only.ensures c.args.zone).1 refl)))));
   sized = c.self.invariant.sized;
 }

@@ -11,8 +11,15 @@ bounds-self-self-2 c = has_room c.args.self.now c.args.zone c.requires.search c.
 
 pub returns-clause-search : goal.returns-clause-search
 returns-clause-search c =
-    rw (c.from.ensures, c.index.ensures.value) (opened c.args.self.now c.args.zone c.only-level.result c.union-self.result c.requires.search c.requires.inside c.requires.fresh c.requires.leads c.only-level.ensures c.union-self.ensures)
+    rw (c.from.ensures, c.index.ensures.value)
+    (opened c.args.self.now c.args.zone c.only-level.result c.union-self.result c.requires.search c.requires.inside
+    c.requires.fresh c.requires.leads c.only-level.ensures c.union-self.ensures)
 
 pub returns-clause-fewer : goal.returns-clause-fewer
 returns-clause-fewer c =
-    omega (arith, grown c.args.self.now c.args.zone c.only-level.result c.union-self.result c.requires.search c.requires.inside c.requires.fresh c.only-level.ensures c.union-self.ensures, size-bound 64 c.union-self.result.bits)
+    omega (
+      arith,
+      grown c.args.self.now c.args.zone c.only-level.result c.union-self.result c.requires.search
+          c.requires.inside c.requires.fresh c.only-level.ensures c.union-self.ensures,
+      size-bound 64 c.union-self.result.bits,
+    )
