@@ -82,8 +82,10 @@ below_all : (x : Name) (ys : List Name)
     → ((k : ℕ) (d : Name) → k < length ys → is_lt (name_cmp (get_or ys k d) x) ≡ false)
     → AllByRecursion (λ y. same_name x y ≡ false) ys → AllByRecursion (λ y. IsTrue (is_lt (name_cmp x y))) ys
 below_all x [] up other = tt
-below_all x (y ∷ ys) up other =
-    (by_order x y (name_cmp x y) refl (up 0 y (omega arith)) other.0, below_all x ys (λ k d lt. up (suc k) d (omega arith)) other.1)
+below_all x (y ∷ ys) up other = (
+  by_order x y (name_cmp x y) refl (up 0 y (omega arith)) other.0,
+  below_all x ys (λ k d lt. up (suc k) d (omega arith)) other.1,
+)
 
 tail_sorted : (x : Name) (xs : List Name) → IsSorted name_cmp (x ∷ xs) → IsSorted name_cmp xs
 tail_sorted x xs up = λ k d from below.
@@ -94,7 +96,9 @@ ascends : (xs : List Name) → IsSorted name_cmp xs → IsDistinct same_name xs 
 unfolding IsDistinct
 ascends [] up other = tt
 ascends (x ∷ xs) up other = (
-  below_all x xs (λ k d lt. sorted_far (λ a b. is_lt (name_cmp a b)) (ranks_by names_total (λ (y : Name). y)) (x ∷ xs) up 0 (suc k) d (omega arith) (omega arith)) other.0,
+  below_all x xs (λ k d lt.
+      sorted_far (λ a b. is_lt (name_cmp a b)) (ranks_by names_total (λ (y : Name). y)) (x ∷ xs) up 0 (suc k) d
+      (omega arith) (omega arith)) other.0,
   ascends xs (tail_sorted x xs up) other.1,
 )
 

@@ -22,6 +22,8 @@
 mod answer;
 mod reached;
 mod reading;
+#[cfg(test)]
+mod tests;
 
 use crate::reading::replay;
 use gz_io::{StdSink, StdSource};

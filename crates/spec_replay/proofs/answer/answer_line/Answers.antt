@@ -11,7 +11,8 @@ pub returns-in-Ok-Graph-clause-ok : goal.returns-in-Ok-Graph-clause-ok
 returns-in-Ok-Graph-clause-ok g c =
     on_ok_weaker c.answer_command.result (λ p. (
       _,
-      graph_answers c.args.graph.now c.answer_command.new.graph c.args.line.now c.in-Ok-Graph.field-0 _ c.in-Ok-Graph.ensures.ok c.in-Ok-Graph.field-0-is p.0,
+      graph_answers c.args.graph.now c.answer_command.new.graph c.args.line.now c.in-Ok-Graph.field-0 _
+          c.in-Ok-Graph.ensures.ok c.in-Ok-Graph.field-0-is p.0,
       p.1,
     )) c.answer_command.ensures.ok
 
@@ -19,7 +20,8 @@ pub returns-in-Ok-Colours-clause-ok : goal.returns-in-Ok-Colours-clause-ok
 returns-in-Ok-Colours-clause-ok g c =
     on_ok_weaker c.answer_colours.result (λ p. (
       p.0,
-      colours_answer c.args.graph.now c.args.graph.now c.args.line.now p.0 c.in-Ok-Colours.field-0 c.in-Ok-Colours.ensures.ok c.in-Ok-Colours.field-0-is p.1 refl,
+      colours_answer c.args.graph.now c.args.graph.now c.args.line.now p.0 c.in-Ok-Colours.field-0
+          c.in-Ok-Colours.ensures.ok c.in-Ok-Colours.field-0-is p.1 refl,
       p.2,
     )) c.answer_colours.ensures.ok
 

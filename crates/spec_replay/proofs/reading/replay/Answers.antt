@@ -29,8 +29,13 @@ pub returns-in-Err-Bad-clause-answers : goal.returns-in-Err-Bad-clause-answers
 returns-in-Err-Bad-clause-answers g c = λ input e.
     let i = c.loop-answered.invariant.so input e in
     let given = gives_of _ _ _ _ i.0 c.in-Line.ensures.bytes i.1 in
-    let bad = c.in-Err-Bad.ensures.bad (cc c.in-Err-Bad.field-0-is) in
-    (_, i.0, (i.2, _, i.3, none_more i.2 _ _ _ i.4 bad.1), inl (_, given.0, given.2.3, λ d s. bad.0 d (subst (λ t. Spells t d) (sym c.line.ensures) s)), refl)
+    let bad = c.in-Err-Bad.ensures.bad (cc c.in-Err-Bad.field-0-is) in (
+      _,
+      i.0,
+      (i.2, _, i.3, none_more i.2 _ _ _ i.4 bad.1),
+      inl (_, given.0, given.2.3, λ d s. bad.0 d (subst (λ t. Spells t d) (sym c.line.ensures) s)),
+      refl,
+    )
 
 pub loop-answered-preserved : goal.loop-answered-preserved
 loop-answered-preserved g c = record {
@@ -40,6 +45,7 @@ loop-answered-preserved g c = record {
       let i = c.loop-answered.invariant.so input e in
       let given = gives_of _ _ _ _ i.0 c.in-Line.ensures.bytes i.1 in
       let ok = c.in-Ok.ensures.ok in
-      let all = more_answered input i.0 given.0 _ _ i.2 ok.0 _ empty_graph _ _ _ _ _ i.3 i.4 given.2.3 c.line.ensures ok.1 ok.2 in
+      let all = more_answered input i.0 given.0 _ _ i.2 ok.0 _ empty_graph _ _ _ _ _ i.3 i.4 given.2.3
+      c.line.ensures ok.1 ok.2 in
       (given.0, given.1, all.0, all.1, all.2);
 }
