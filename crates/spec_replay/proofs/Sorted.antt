@@ -1,30 +1,6 @@
 -- Sorted names of which no two are the same ascend.
-use Rattle.std.proofs.Common.{
-  ◌≡◌,
-  ◌≢◌,
-  ◌↔◌,
-  Contains,
-  AllPairs,
-  suc,
-  ◌+◌,
-  ◌<◌,
-  ℕ,
-  Bool,
-  true,
-  false,
-  List,
-  [],
-  ◌∷◌,
-  length,
-  get_or,
-  refl,
-  ap,
-  sym,
-  ◌∙◌,
-  subst,
-  arith,
-  IsTrue,
-}
+use Rattle.std.proofs.Common.{◌≡◌, ◌≢◌, ◌↔◌, Contains, AllPairs, suc, ◌+◌, ◌<◌, ℕ, Bool, true, false, List, [], ◌∷◌}
+use Rattle.std.proofs.Common.{length, get_or, refl, ap, sym, ◌∙◌, subst, arith, IsTrue}
 use Rattle.std.specs.List.{IsDistinct, AllByRecursion}
 use Rattle.std.specs.List.Sorted.{IsPermutation, IsSorted}
 use Rattle.std.specs.declared.cmp.Ordering.{Ordering}
@@ -49,9 +25,11 @@ flips x y = by (same_name x y) (same_name y x) refl refl
     by true true e f = e ∙ sym f
     by false false e f = e ∙ sym f
     by true false e f =
-        absurd (differ (same_name y x) f (ap (λ (z : Name). same_name z x) (sym (same_name-is x y e)) ∙ same_name-refl x))
+        absurd (differ (same_name y x) f (ap (λ (z : Name). same_name z x) (sym (same_name-is x y e))
+        ∙ same_name-refl x))
     by false true e f =
-        absurd (differ (same_name x y) e (ap (λ (z : Name). same_name z y) (sym (same_name-is y x f)) ∙ same_name-refl y))
+        absurd (differ (same_name x y) e (ap (λ (z : Name). same_name z y) (sym (same_name-is y x f))
+        ∙ same_name-refl y))
 
 unlike : (x y : Name) → x ≢ y → same_name x y ≡ false
 unlike x y h = by (same_name x y) refl
@@ -73,7 +51,8 @@ by_order : (x y : Name) (o : Ordering) → name_cmp x y ≡ o → is_lt (name_cm
     → is_lt o ≡ true
 by_order x y Less e later other = refl
 by_order x y Equal e later other =
-    absurd (differ (same_name x y) other (ap (λ (z : Name). same_name x z) (sym (names_apart x y e)) ∙ same_name-refl x))
+    absurd (differ (same_name x y) other (ap (λ (z : Name). same_name x z) (sym (names_apart x y e))
+    ∙ same_name-refl x))
 by_order x y Greater e later other =
     absurd (differ (is_lt (name_cmp y x)) later (ap is_lt (names_total.antisymm y x)
     ∙ ap (λ (o : Ordering). is_lt (ordering_reverse o)) e))

@@ -10,7 +10,8 @@ use Rattle.spec_replay.proofs.reached.black_names.Goals as goal
 pub returns : goal.returns
 returns c =
     let starts = c.push_registers.new.starts.items in
-    let held = subst (λ (old : List Name). (x : Name) → Contains starts x ↔ (Contains old x ⊎ IsInRegister c.args.graph.now x))
+    let held = subst (λ (old : List Name). (x : Name) → Contains starts x
+    ↔ (Contains old x ⊎ IsInRegister c.args.graph.now x))
     c.new-starts.ensures.items c.in_ok-push_registers.ensures in
     let only = cells_alone (IsInRegister c.args.graph.now) starts held in
     IfOk-weaker c.names_from.result

@@ -11,7 +11,8 @@ pub returns : goal.returns
 returns c =
     let some = c.push_registers.new.starts.items in
     let starts = c.push_slots.new.starts.items in
-    let held = subst (λ (old : List Name). (x : Name) → Contains some x ↔ (Contains old x ⊎ IsInRegister c.args.graph.now x))
+    let held = subst (λ (old : List Name). (x : Name) → Contains some x
+    ↔ (Contains old x ⊎ IsInRegister c.args.graph.now x))
     c.new-starts.ensures.items c.in_ok-push_registers.ensures in
     let both = cells_both (IsInRegister c.args.graph.now) (IsInSlotsBelow 64 c.args.graph.now) some starts
     (cells_alone (IsInRegister c.args.graph.now) some held) c.in_ok-push_slots.ensures in

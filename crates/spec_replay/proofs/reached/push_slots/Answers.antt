@@ -7,7 +7,8 @@ use Rattle.spec_replay.proofs.reached.push_slots.Goals as goal
 
 pub loop-index-preserved : goal.loop-index-preserved
 loop-index-preserved c =
-    cells_more (slot_cell c.args.graph.now) c.args.starts.now.items c.loop-index.starts.items c.push_some.new.names.items
+    cells_more (slot_cell c.args.graph.now) c.args.starts.now.items c.loop-index.starts.items
+    c.push_some.new.names.items
     c.loop-index.index c.loop-index.invariant (subst (λ o. (x : Name) → Contains c.push_some.new.names.items x
     ↔ (Contains c.loop-index.starts.items x ⊎ (o ≡ Some x))) c.in_slot.ensures c.in_ok-push_some.ensures)
 
