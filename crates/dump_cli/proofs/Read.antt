@@ -1,6 +1,7 @@
 -- Lines that were read, one more behind the others.
 use Rattle.std.proofs.Common.{
   ◌≡◌,
+  ◌≢◌,
   ℕ,
   ◌+◌,
   ◌⊎◌,
@@ -30,6 +31,7 @@ use Rattle.std.proofs.Common.{
   if◌then◌else◌,
   eqb,
 }
+use Rattle.std.proofs.lemmas.Bool.{eqb-true}
 use Rattle.gz_io.specs.Lines.{EndsLine, Gives, GivesKnown, IsNotAscii, IsTooLong}
 use Rattle.gz_io.specs.declared.reader.Next.{Next}
 use Rattle.gz_io.specs.declared.reader.Next.TheVariants as next
@@ -40,7 +42,7 @@ use Rattle.dump_check.specs.declared.checker.Verdict.TheVariants.{Sound, Fault, 
 use Rattle.dump_check.specs.Checking.{Progress, read_of, Says, SaysAtEnd}
 use Rattle.dump_cli.specs.declared.reading.NoVerdict.{NoVerdict}
 use Rattle.dump_cli.specs.declared.reading.NoVerdict.TheVariants as none
-use Rattle.dump_cli.specs.Verdicts.{AreReadSo, HasRead, IsVerdictOn, refusal_after}
+use Rattle.dump_cli.specs.Verdicts.{AreReadSo, HasRead, HasTooMany, IsVerdictOn, refusal_after}
 
 read_push : (input : List ℕ) (ls : List DumpLine) (rest text more : List ℕ) (l : DumpLine) → HasRead input ls rest
     → EndsLine rest more text → SpellsLine text l → HasRead input (ls ++ l ∷ []) more
@@ -85,6 +87,36 @@ pub refusal_verdict : (input : List ℕ) (ls : List DumpLine) (rest : List ℕ) 
     → IfOk r (IsVerdictOn input)
 refusal_verdict input ls rest k r so e h is =
     subst (λ t. IfOk t (IsVerdictOn input)) (sym is) (refusal_by input ls rest k (eqb k 4294967295) so e h)
+
+-- bytes of a line, or of one that is refused, are some
+pub line_there : (rest more line : List ℕ) → EndsLine rest more line → rest ≢ []
+line_there rest more [] (inl e) = λ n. absurd (cc (sym e ∙ n))
+line_there rest more (b ∷ line) (inl e) = λ n. absurd (cc (sym e ∙ n))
+line_there rest more [] (inr e) = λ n. absurd (omega (arith, e.1))
+line_there rest more (b ∷ line) (inr e) = λ n. absurd (cc (sym e.0 ∙ n))
+
+bytes_there : (line rest xs : List ℕ) (byte : ℕ) → xs ≡ line ++ byte ∷ rest → xs ≢ []
+bytes_there [] rest xs byte e = λ n. absurd (cc (sym e ∙ n))
+bytes_there (b ∷ line) rest xs byte e = λ n. absurd (cc (sym e ∙ n))
+
+refused_there : (xs : List ℕ) → IsTooLong xs ⊎ IsNotAscii xs → xs ≢ []
+refused_there xs (inl h) = bytes_there h.line h.rest xs h.byte h.bytes
+refused_there xs (inr h) = bytes_there h.line h.rest xs h.byte h.bytes
+
+many_by : (b : Bool) (k : ℕ) → b ≡ eqb k 4294967295 → refusal_if b k ≡ Err none.TooManyLines → k ≡ 4294967295
+many_by true k e is = eqb-true k 4294967295 (sym e)
+many_by false k e is = absurd (cc is)
+
+pub many_refused : (input : List ℕ) (ls : List DumpLine) (rest : List ℕ) (k : ℕ) (r : Result Verdict NoVerdict)
+    → AreReadSo input ls rest → length ls ≡ k → IsTooLong rest ⊎ IsNotAscii rest → r ≡ refusal_after k
+    → r ≡ Err none.TooManyLines → HasTooMany input
+many_refused input ls rest k r so e h is too = record {
+  lines = ls;
+  rest = rest;
+  so = so;
+  count = e ∙ many_by (eqb k 4294967295) k refl (sym is ∙ too);
+  more = refused_there rest h;
+}
 
 says_by : (E : Type 0) (input : List ℕ) (ls : List DumpLine) (rest more text : List ℕ) (v : Verdict) (new : Progress)
     → AreReadSo input ls rest → EndsLine rest more text → Says {E = E} ls text (Ok (Some v)) new → IsVerdictOn input v

@@ -1,5 +1,6 @@
 -- The verdict on the bytes of a dump, and its text.
-use Rattle.std.specs.Prelude.{◌≡◌, ℕ, ◌+◌, ◌==◌, List, [], ◌∷◌, ◌++◌, Option, Result, Ok, Err, codes, length, ◌⊎◌, if◌then◌else◌}
+use Rattle.std.specs.Prelude.{◌≡◌, ◌≢◌, ℕ, ◌+◌, ◌==◌, List, [], ◌∷◌, ◌++◌, Option, Result, Ok, Err, codes, length, ◌⊎◌}
+use Rattle.std.specs.Prelude.{if◌then◌else◌}
 use Rattle.std.specs.Fmt.{decimal}
 use Rattle.std.specs.Io.KnownBytes.{Appends}
 use Rattle.gz_io.specs.Causes.{AppendsFront}
@@ -46,6 +47,14 @@ IsVerdictOn input (Fault n why) = (ls : List DumpLine) × (rest : List ℕ) × A
 IsVerdictOn input (Bad n) = (ls : List DumpLine) × (rest : List ℕ) × AreReadSo input ls rest × (n ≡ length ls + 1)
     × IsBadNext ls rest
 
+-- so many sound lines come first that no more are counted, and bytes come after them
+pub record HasTooMany (input : List ℕ) : Type 0 where
+  pub lines : List DumpLine
+  pub rest : List ℕ
+  pub so : AreReadSo input lines rest
+  pub count : length lines ≡ 4294967295
+  pub more : rest ≢ []
+
 abbrev pub refusal_after : ℕ → Result Verdict NoVerdict
 refusal_after read = if read == 4294967295 then Err none.TooManyLines else Ok (Bad (read + 1))
 
@@ -74,4 +83,4 @@ EndsBy input old new (end.BadLine n) = WritesVerdict input old new (Bad n)
 EndsBy input old new end.ReadFault = Appends old new []
 EndsBy input old new end.WriteFault = (v : Verdict) × IsVerdictOn input v × AppendsFront old new (verdict_text v)
 EndsBy input old new end.NoMemory = Appends old new []
-EndsBy input old new end.TooManyLines = Appends old new []
+EndsBy input old new end.TooManyLines = HasTooMany input × Appends old new []

@@ -1,7 +1,7 @@
 // The reading loop.
 ghost use Rattle.std.specs.Prelude.{◌≡◌, ◌<◌, ◌↔◌, ◌⊎◌, List, ℕ, Some, Err, IfOk, IsTrue, OnOk};
 ghost use Rattle.gz_io.specs.Causes.{Rose};
-ghost use Rattle.dump_cli.specs.Verdicts.{EndsBy, IsVerdictOn, refusal_after};
+ghost use Rattle.dump_cli.specs.Verdicts.{EndsBy, HasTooMany, IsVerdictOn, refusal_after};
 
 use crate::verdicts::verdict_text;
 use dump_check::{Checker, Verdict};
@@ -83,6 +83,8 @@ fn refusal(read: u64) -> Result<Verdict, NoVerdict>
 // The verdict on the dump that a source gives.
 fn judge<S: Source>(alloc: Global, source: &mut S) -> Result<Verdict, NoVerdict>
     ensures verdict { (input : List ℕ) → S.left source.old ≡ Some input → IfOk result (IsVerdictOn input) }
+    ensures many { result ≡ Err NoVerdict.TooManyLines → (input : List ℕ) → S.left source.old ≡ Some input
+        → HasTooMany input }
     ensures read { result ≡ Err NoVerdict.Read → Rose (S.faults source.old) (S.faults source.new) }
     ensures quiet { OnOk result (S.faults source.new ≡ S.faults source.old) }
 {
@@ -96,7 +98,7 @@ fn judge<S: Source>(alloc: Global, source: &mut S) -> Result<Verdict, NoVerdict>
             Next::Line(_) => {}
         }
         if read == 4294967295 {
-            break;
+            return Err(NoVerdict::TooManyLines);
         }
         match checker.line(reader.line()) {
             Ok(None) => {}
@@ -111,6 +113,8 @@ fn judge<S: Source>(alloc: Global, source: &mut S) -> Result<Verdict, NoVerdict>
 pub fn check<S: Source, K: Sink>(alloc: Global, source: &mut S, sink: &mut K) -> CheckEnd
     ensures verdict { (input : List ℕ) → S.left source.old ≡ Some input
         → EndsBy input (K.written sink.old) (K.written sink.new) result }
+    ensures quiet { (result ≡ CheckEnd.Sound) ⊎ (result ≡ CheckEnd.Unsound)
+        → (S.faults source.new ≡ S.faults source.old) × (K.faults sink.new ≡ K.faults sink.old) }
     ensures read { result ≡ CheckEnd.ReadFault → Rose (S.faults source.old) (S.faults source.new) }
     ensures write { result ≡ CheckEnd.WriteFault → Rose (K.faults sink.old) (K.faults sink.new) }
 {

@@ -1,6 +1,7 @@
 use Rattle.std.proofs.Common.{◌∙◌, arith}
 use Rattle.std.specs.declared.alloc.AllocError.{AllocError}
-use Rattle.dump_cli.proofs.Read.{bad_of, end_verdict, gives_of, goes_on, refusal_verdict, says_verdict}
+use Rattle.dump_cli.proofs.Read.{bad_of, end_verdict, gives_of, goes_on, line_there, many_refused, refusal_verdict}
+use Rattle.dump_cli.proofs.Read.{says_verdict}
 use Rattle.dump_cli.proofs.reading.judge.Goals as goal
 
 pub returns-in-End-clause-verdict : goal.returns-in-End-clause-verdict
@@ -24,8 +25,28 @@ returns-in-Ok-Some-clause-verdict g c = λ input e.
     c.in-Ok-Some.verdict c.line-in-loop-read.new.self i.3 given.2.3 c.line.ensures c.in-Ok-Some.field-0-is
     (c.in-Ok-Some.ensures.says i.0 i.3.sound i.4)
 
+pub returns-in-TooLong-clause-many : goal.returns-in-TooLong-clause-many
+returns-in-TooLong-clause-many g c = λ too input e.
+    let i = c.loop-read.invariant.so input e in
+    let given = gives_of _ _ _ _ i.1 c.next.ensures.bytes i.2 in
+    many_refused input i.0 i.1 c.loop-read.read c.refusal.result i.3 i.5
+    (bad_of i.1 given.0 _ _ given.2 c.in-TooLong.is) c.refusal.ensures too
+
+pub returns-then-read-eq4294967295-clause-many : goal.returns-then-read-eq4294967295-clause-many
+returns-then-read-eq4294967295-clause-many g c = λ too input e.
+    let i = c.loop-read.invariant.so input e in
+    let given = gives_of _ _ _ _ i.1 c.in-Line.ensures.bytes i.2 in
+    record {
+      lines = i.0;
+      rest = i.1;
+      so = i.3;
+      count = i.5 ∙ c.if-read-eq4294967295.true;
+      more = line_there i.1 given.0 _ given.2.3;
+    }
+
 pub loop-read-preserved : goal.loop-read-preserved
 loop-read-preserved g c = record {
+  below = omega (arith, c.loop-read.invariant.below, c.if-read-eq4294967295.false);
   count = omega (arith, c.in-Ok-None.ensures.count, c.loop-read.invariant.count);
   quiet = c.in-Line.ensures.same (λ p. cc p) ∙ c.loop-read.invariant.quiet;
   so = λ input e.

@@ -7,6 +7,7 @@ use Rattle.dump_cli.proofs.reading.judge.Given as goal
 
 abbrev pub invariant-loop-read : goal.invariant-loop-read
 invariant-loop-read g l = record {
+  below : l.read ≤ 4294967295;
   count : l.checker.lines ≤ l.read;
   quiet : g.S.Source.faults l.source ≡ g.S.Source.faults l.fn.source;
   so : (input : List ℕ) → g.S.Source.left l.fn.source ≡ Some input → (ls : List DumpLine) × (rest : List ℕ)
