@@ -124,7 +124,7 @@ pub data Beginning : Type 0 where
   by_units : Beginning
   at_once : Beginning
 
--- how a collection begins for now; `by_units` is to stand here once preparing by units is served
+-- how a collection begins in the program, which does not prepare by units
 abbrev pub beginning : Beginning
 beginning = at_once
 
@@ -163,7 +163,7 @@ abbrev pub with_spent_preparing : ℕ → Option Preparation → Option Preparat
 with_spent_preparing n None = None
 with_spent_preparing n (Some p) = Some (record p { spent = p.spent + n })
 
--- so many units of a collection that runs
+-- this number of units of a collection that runs
 pub record Slices (w : World) (reports : List Report) (n : ℕ) (v : World) : Type 0 where
   pub running : IsRunning w
   pub units : List (List Report)

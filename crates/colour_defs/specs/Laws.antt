@@ -36,7 +36,7 @@ pub record IsClosed (g : GraphState) (P : Name → Type 0) : Type 0 where
   pub entries : (m k v : Name) → value_of g m k ≡ Some v → P m → P k → P v
   pub delegates : (m v : Name) (c : CompNo) (t : ℕ) → value_of g m (Wrap c t) ≡ Some v → P m → P (Cell t) → P (Wrap c t)
 
--- the same by the names of a set alone
+-- a set of names that has what the registers hold inside another set, and is closed inside it
 pub record IsClosedWithin (g : GraphState) (IsIn : Name → Type 0) (P : Name → Type 0) : Type 0 where
   pub registers : (r : ℕ) (x : Name) → register_cell g r ≡ Some x → IsIn x → P x
   pub edges : (x y : Name) → P x → HasEdge g x y → IsIn y → P y

@@ -166,7 +166,7 @@ abbrev pub map_comp : GraphState → Name → Option CompNo
 map_comp g (Wrap c t) = None
 map_comp g (Cell n) = map_comp_in (object_of g n)
 
--- a wrapper is no key, for now
+-- why a key is refused in any map: a wrapper is no key
 abbrev pub key_refusal : Name → Option Refusal
 key_refusal (Cell n) = None
 key_refusal (Wrap c t) = Some refusal.WrapperKey

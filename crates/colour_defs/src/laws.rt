@@ -73,8 +73,8 @@ pub fn end_law()
         → IsValid w → (end : EndsGroup w zones grays told v) → ClosuresAreClosedAtEnd end.collection v }
 {}
 
-/// What was garbage as marking began, and was not woken since or reached from a woken name, goes with the
-/// group of its zone, and has gone when the collection is done.
+/// What the snapshot reaches neither from the live starts nor from a woken name goes with the group of its
+/// zone, and has gone when the collection is done.
 pub fn garbage_law()
     ensures at_end { (w v : World) (zones : List ℕ) (grays told : List Name)
         → IsValid w → (end : EndsGroup w zones grays told v)
