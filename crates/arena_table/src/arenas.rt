@@ -295,14 +295,14 @@ impl Arenas {
     }
 
     /// Takes an arena back from sweeping: its bits are the heap's again, the freed cells are gone,
-    /// and it takes cells if a slot is free. The answer is the names of the freed cells, in slot
-    /// order. It takes no memory.
-    pub fn take_in(&mut self, arena: u32, freed: u64, bits: Bits) -> Names64
+    /// and it takes cells if a slot is free. The names of the freed cells, in slot order, are put in
+    /// the place of those of a list. It takes no memory.
+    pub fn take_in(&mut self, arena: u32, freed: u64, bits: Bits, names: &mut Names64)
         requires out { IsSomeAnd (slice_get self.old.arenas arena) (λ a. a.is_out ≡ true) }
         requires within { IsSomeAnd (slice_get self.old.arenas arena)
             (λ a. IsWithin freed (alloc_word_of a.slots)) }
         ensures names { IsSomeAnd (slice_get self.old.arenas arena)
-            (λ a. result ≡ names_of (at_bits freed a.slots)) }
+            (λ a. names.new ≡ names_of (at_bits freed a.slots)) }
         ensures state { self.new ≡ record self.old {
           arenas = change_at (taken_in freed bits) self.old.arenas arena;
           reserved = None;
@@ -312,12 +312,11 @@ impl Arenas {
             else cell_at self.old.arenas p) }
     {
         let arena = arena as usize;
-        let names = self.store.names_at(arena, freed);
+        self.store.names_at(arena, freed, names);
         come_in(&mut self.store, &mut self.index, arena, freed, bits);
         self.out.remove(arena);
         self.held -= names.len() as u64;
         self.reserved = None;
-        names
     }
 
     /// How many cells were ever put.

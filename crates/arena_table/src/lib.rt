@@ -42,8 +42,9 @@
 //
 // `hand_out` makes the arenas of a sweep group's zones *out*. Their bits are in flight from then on
 // (cell_bits, `Flight`), and they take no cells, so an arena's allocation word is the same as it comes
-// back. `take_in` ends that, with the freed slots and the bits with every wake. It answers names and
-// takes no memory: the sets have a bit for the arena since it was made.
+// back. `take_in` ends that, with the freed slots and the bits with every wake. It puts names
+// into a list that the caller lends, since a list of 64 names is dear to move, and takes no memory: the
+// sets have a bit for the arena since it was made.
 #![tactic(auto)]
 
 mod arena_sets;

@@ -163,28 +163,27 @@ impl Store {
         head.is_out = false;
     }
 
-    /// The names of the cells at the slots of a word, in slot order.
-    pub fn names_at(&self, arena: usize, word: u64) -> Names64
+    /// Puts the names of the cells at the slots of a word, in slot order, in the place of those of a list.
+    pub fn names_at(&self, arena: usize, word: u64, names: &mut Names64)
         requires made { arena < length self.now.arenas }
         requires cells { IsSomeAnd (slice_get self.now.arenas arena)
             (λ a. IsWithin word (alloc_word_of a.slots)) }
         ensures { IsSomeAnd (slice_get self.now.arenas arena)
-            (λ a. result ≡ names_of (at_bits word a.slots)) }
+            (λ a. names.new ≡ names_of (at_bits word a.slots)) }
     {
-        names_of_cells(&self.chunks[arena], word)
+        names_of_cells(&self.chunks[arena], word, names)
     }
 }
 
-// The names of the cells at the slots of a word.
-fn names_of_cells(cells: &[Cell], word: u64) -> Names64
+// Puts the names of the cells at the slots of a word in the place of those of a list.
+fn names_of_cells(cells: &[Cell], word: u64, names: &mut Names64)
     requires { length cells.now ≡ 64 }
-    ensures { result ≡ map (λ c. c.name) (at_bits word cells.now) }
+    ensures { names.new ≡ map (λ c. c.name) (at_bits word cells.now) }
 {
-    let mut names = Names64::new();
+    names.clear();
     let mut left = word;
     while left != 0 {
         names.push(cells[left.trailing_zeros() as usize].name);
         left &= left - 1;
     }
-    names
 }

@@ -1,6 +1,6 @@
 use crate::Arenas;
 use cell_bits::{Bits, Job};
-use gz_names::{CompNo, Kind, Name, Place, ZoneNo, ZoneSet};
+use gz_names::{CompNo, Kind, Name, Names64, Place, ZoneNo, ZoneSet};
 use std::test::Fail;
 
 #[test]
@@ -45,7 +45,9 @@ fn an_arena_goes_out_and_comes_in(rt: HostRuntime) -> Result<(), Fail> {
         arenas.reserve_place(zone)?,
         Place::new(1, 0).ok_or("place")?
     );
-    let names = arenas.take_in(0, 1, bits);
+    let mut names = Names64::new();
+    names.push(Name::Cell(7));
+    arenas.take_in(0, 1, bits, &mut names);
     assert_eq!(rt; names.as_slice(), [Name::Cell(0)].as_slice());
     assert!(rt; !arenas.is_out(0));
     assert_eq!(rt; (arenas.made(), arenas.count()), (1, 0));

@@ -13,5 +13,5 @@ index-requires c =
 
 pub returns : goal.returns
 returns c = names_of-stored c.self.inside.heads.items c.self.inside.chunks.items _ c.args.arena c.args.word
-    c.names_of_cells.result c.index.result.now c.self.invariant (ap (λ (s : StoreState). s.arenas) c.self.view_is)
+    c.names_of_cells.new.names c.index.result.now c.self.invariant (ap (λ (s : StoreState). s.arenas) c.self.view_is)
     c.requires.made c.index.ensures c.requires.cells c.names_of_cells.ensures
