@@ -494,20 +494,20 @@ impl Heap {
         self.arenas.hand_out(alloc, zones)
     }
 
-    /// Takes an arena back from sweeping, without its freed cells, whose names are answered in slot
-    /// order. It takes no memory.
-    pub fn take_in(&mut self, arena: u32, freed: u64, bits: Bits) -> Names64
+    /// Takes an arena back from sweeping, without its freed cells, whose names, in slot order, are put
+    /// in the place of those of a list. It takes no memory.
+    pub fn take_in(&mut self, arena: u32, freed: u64, bits: Bits, names: &mut Names64)
         requires out { is_some (out_of self.old.shape arena) ≡ true }
         requires within { IsSomeAnd (slice_get self.old.shape.arenas arena)
             (λ a. IsWithin freed (alloc_word_of a.slots)) }
         ensures names { IsSomeAnd (slice_get self.old.shape.arenas arena)
-            (λ a. result ≡ names_of (at_bits freed a.slots)) }
+            (λ a. names.new ≡ names_of (at_bits freed a.slots)) }
         ensures state { self.new ≡ with_taken self.old arena freed bits }
         ensures stored { (p : APlace) → stored_at self.new.shape p
             ≡ (if (p.0 == arena) && (bit_at freed p.1 == 1) then None
             else stored_at self.old.shape p) }
     {
-        self.arenas.take_in(arena, freed, bits)
+        self.arenas.take_in(arena, freed, bits, names)
     }
 
     /// How many weak entries there are.
