@@ -23,7 +23,7 @@ use crate::colours::push_own_gray;
 use crate::zone_states::advance_all;
 use arena_table::Jobs;
 use cell_bits::Taken;
-use gz_names::{NameList, NoMemory, Report, ZoneSet};
+use gz_names::{NameList, Names64, NoMemory, Report, ZoneSet};
 use heap_core::Heap;
 use std::alloc::Global;
 use sweep_groups::GroupOrder;
@@ -87,7 +87,9 @@ impl Collector {
     {
         let kept = self.heap.bits_at_hand_out(arena);
         prove!(taken.freed == kept.white_mask(self.heap.alloc_word(arena)));
-        let mut names = self.heap.take_in(arena, taken.freed, taken.bits);
+        let mut names = Names64::new();
+        self.heap
+            .take_in(arena, taken.freed, taken.bits, &mut names);
         names.sort();
         let finished = end_sweeping(&mut self.heap, &self.order);
         if finished {

@@ -11,14 +11,14 @@ use Rattle.arena_table.proofs.arenas.Arenas.take_in.Goals as goal
 pub overflow_sub-self : goal.overflow_sub-self
 overflow_sub-self c =
     let taken = held_by-taken c.self.inside.store.arenas c.args.arena c.args.freed c.args.bits c.names_at.new.names
-        c.names_at.ensures in
+    c.names_at.ensures in
     let counted = c.self.invariant.counted in
     omega (arith, c.len.ensures.value)
 
 pub invariant_of-self : goal.invariant_of-self
 invariant_of-self c =
     let taken = held_by-taken c.self.inside.store.arenas c.args.arena c.args.freed c.args.bits c.names_at.new.names
-        c.names_at.ensures in
+    c.names_at.ensures in
     let counted = c.self.invariant.counted in
     let fewer = c.self.invariant.fewer in
     let now : held_by c.come_in.new.store.arenas ≡ held_by _ = ap held_by c.come_in.ensures.arenas in

@@ -25,7 +25,7 @@ use Rattle.slice_driver.proofs.collector.Collector.take_one_into.Goals.{then-fin
 
 pub invariant_of-self-else-finished : goal.invariant_of-self-else-finished
 invariant_of-self-else-finished c =
-    let ends : EndsSweeping c.take_in-names.new.self c.self.inside.order false c.end_sweeping-finished.new.heap =
+    let ends : EndsSweeping c.take_in.new.self c.self.inside.order false c.end_sweeping-finished.new.heap =
     c.if-finished.ensures in
     record {
       waiting = c.self.invariant.waiting;
@@ -34,10 +34,10 @@ invariant_of-self-else-finished c =
     }
   where
     go : (run : Option Run)
-        → EndsSweeping c.take_in-names.new.self c.self.inside.order false c.end_sweeping-finished.new.heap
+        → EndsSweeping c.take_in.new.self c.self.inside.order false c.end_sweeping-finished.new.heap
         → HasMore c.end_sweeping-finished.new.heap.shape c.self.inside.order run
     go None ends = tt
-    go (Some run) ends = λ empty none formed. more_left c.take_in-names.new.self c.self.inside.order
+    go (Some run) ends = λ empty none formed. more_left c.take_in.new.self c.self.inside.order
         c.end_sweeping-finished.new.heap ends empty none
 
 pub returns-clause-done : goal.returns-clause-done
@@ -59,7 +59,7 @@ returns-clause-done c = λ flown at.
     let over : Bool = c.end_sweeping-finished.result in
     let is : v ≡ c.args.self.now = c.self.view_is in
     let ends : EndsSweeping (with_taken v.heap a freed bits) v.groups over k =
-    subst (λ (h : HeapState). EndsSweeping h c.self.inside.order over k) c.take_in-names.ensures.state
+    subst (λ (h : HeapState). EndsSweeping h c.self.inside.order over k) c.take_in.ensures.state
     c.end_sweeping-finished.ensures in
     let fits : (old : ABits) → out_of v.heap.shape a ≡ Some old → FitsWords old =
     λ old e. subst (λ (b : ABits). FitsWords b) (some_one _ _ (sym c.bits_at_hand_out-kept.ensures ∙ e))
@@ -67,7 +67,7 @@ returns-clause-done c = λ flown at.
     in
     let listed : AreFreed v.heap.shape a freed names = record {
       moved = λ arena e. subst (λ (xs : List Name). IsPermutation xs names)
-          (at_arena (slice_get v.heap.shape.arenas a) arena e c.take_in-names.ensures.names) c.sort.ensures.permutation;
+          (at_arena (slice_get v.heap.shape.arenas a) arena e c.take_in.ensures.names) c.sort.ensures.permutation;
       sorted = c.sort.ensures.sorted;
     } in
     let unit = takes_unit v flown a freed bits names at
@@ -88,8 +88,8 @@ returns-clause-done c = λ flown at.
     (without_arena flown a)) self_is unit)
   where
     at_arena : (o : Option ArenaShape) (arena : ArenaShape) → o ≡ Some arena
-        → IsSomeAnd o (λ z. c.take_in-names.result ≡ names_of (at_bits c.args.taken.freed z.slots))
-        → c.take_in-names.result ≡ names_of (at_bits c.args.taken.freed arena.slots)
+        → IsSomeAnd o (λ z. c.take_in.new.names ≡ names_of (at_bits c.args.taken.freed z.slots))
+        → c.take_in.new.names ≡ names_of (at_bits c.args.taken.freed arena.slots)
     at_arena None arena e n = absurd n
     at_arena (Some x) arena e n = n ∙ ap (λ (z : ArenaShape). names_of (at_bits c.args.taken.freed z.slots))
         (some_one _ _ e)
@@ -100,7 +100,7 @@ returns-clause-words c =
     let h : HeapState = with_taken c.self.inside.heap c.args.arena c.args.taken.freed c.args.taken.bits in
     let rest : k ≡ record h { shape = record h.shape { states = k.shape.states } } =
     subst (λ (x : HeapState). k ≡ record x { shape = record x.shape { states = k.shape.states } })
-    c.take_in-names.ensures.state c.end_sweeping-finished.ensures.rest in
+    c.take_in.ensures.state c.end_sweeping-finished.ensures.rest in
     let same : c.if-finished.self.heap ≡ k = elim c.if-finished.branch [
       | then-finished w ↦ ap (λ (x : CollectorState). x.heap) w.self-is
       | else-finished w ↦ ap (λ (x : CollectorState). x.heap) w.self-is
@@ -129,7 +129,7 @@ returns-clause-left c = λ flown sound at.
     let over : Bool = c.end_sweeping-finished.result in
     let is : v ≡ c.args.self.now = c.self.view_is in
     let ends : EndsSweeping (with_taken v.heap a freed bits) v.groups over k =
-    subst (λ (h : HeapState). EndsSweeping h c.self.inside.order over k) c.take_in-names.ensures.state
+    subst (λ (h : HeapState). EndsSweeping h c.self.inside.order over k) c.take_in.ensures.state
     c.end_sweeping-finished.ensures in
     let less = taking_lowers v flown a freed bits at
     (subst (λ (x : CollectorState). IsLowestOut x.heap.shape a) (sym is) c.requires.lowest)
