@@ -1,19 +1,22 @@
 -- What callers may rely on.
-use Rattle.std.proofs.Common.{◌≡◌, ◌≢◌, ◌<◌, ◌&&◌, ◌⊎◌, inl, inr, zero, suc, Bool, true, false, cond, List, [], ◌∷◌}
-use Rattle.std.proofs.Common.{length, map, get_or, AllPairs, Contains, Option, Some, None, is_some, unwrap_or, refl}
-use Rattle.std.proofs.Common.{sym, ◌∙◌, ap, subst, arith}
-use Rattle.std.specs.List.{list_any}
-use Rattle.std.proofs.lemmas.Bool.{false≢true}
-use Rattle.std.proofs.lemmas.List.{length-map, get_or-map}
+use Rattle.std.proofs.Common.{◌≡◌, ◌&&◌, ◌⊎◌, inl, inr, ℕ, zero, suc, Bool, true, false, cond, List, [], ◌∷◌, length}
+use Rattle.std.proofs.Common.{map, get_or, slice_get, Contains, Option, Some, None, unwrap_or, refl, sym, ◌∙◌, ap}
+use Rattle.std.proofs.Common.{subst, arith}
+use Rattle.std.specs.Option.{option_map}
+use Rattle.std.proofs.lemmas.Bool.{cases_eq, cases_lt}
+use Rattle.std.proofs.lemmas.List.{length-map}
 use Rattle.std.proofs.lemmas.List.Elements.{Contains-get_or, Contains-append_right}
-use Rattle.std.proofs.lemmas.List.Folds.{list_any_at}
-use Rattle.std.proofs.lemmas.Map.Views.{Contains-from_any}
+use Rattle.std.proofs.lemmas.Option.{slice_get_within, slice_get-map, slice_get-get_or, slice_get_read}
+use Rattle.std.proofs.lemmas.Option.{get_or_from_slice_get, same_Some}
 use Rattle.gz_names.specs.declared.numbers.Place.{Place}
-use Rattle.weak_maps.specs.Lists.{is_same, listed_under, is_listed}
-use Rattle.weak_maps.specs.WeakMaps.{EntryState, WeakMapsState, AreDistinct, AreThose, AreTied, IsSound, is_entry}
-use Rattle.weak_maps.specs.WeakMaps.{value_at, entry_at}
+use Rattle.weak_maps.specs.Places.{is_same}
+use Rattle.weak_maps.specs.Sides.{SideState, entries_at, listed, number_of, shown}
+use Rattle.weak_maps.specs.WeakMaps.{EntryState, AreDistinct, AreThose, AreTied, IsFor, IsSound, is_entry, is_of}
+use Rattle.weak_maps.specs.WeakMaps.{list_of, value_at, numbered, table_of}
 use Rattle.weak_maps.proofs.Places.{is_same-true, is_same-self}
 use Rattle.weak_maps.proofs.Table.{and-true}
+use Rattle.weak_maps.proofs.Siding.{Contains-at}
+use Rattle.weak_maps.proofs.Reading.{map_at}
 
 Contains-tail : {X : Type 0} (y : X) (xs : List X) (x : X) → Contains xs x → Contains (y ∷ xs) x
 Contains-tail y xs x h = Contains-append_right (y ∷ []) xs x h
@@ -71,77 +74,206 @@ Contains-found (e ∷ es) m k v found = by (is_entry m k e) refl found (Contains
         subst (λ (x : EntryState). Contains (e ∷ es) x) same (Contains-get_or (e ∷ es) 0 e (omega arith))
     by false is later rest = Contains-tail e es _ (rest later)
 
--- the entries that a list of places leads to
-pub AreThose-listed : (entries : List EntryState) (P : EntryState → Type 0) (other : EntryState → Place)
-    (entry : Place → EntryState) (places : List Place)
-    → AllPairs (λ q r. q ≢ r) places
-    → ((q : Place) → other (entry q) ≡ q)
-    → ((d e : EntryState) → d.map ≡ e.map → d.key ≡ e.key → other d ≡ other e)
-    → ((q : Place) → list_any (is_same q) places ≡ true → Contains entries (entry q) × P (entry q))
-    → ((e : EntryState) → Contains entries e → P e → (list_any (is_same (other e)) places ≡ true)
-    × (entry (other e) ≡ e))
-    → AreThose P entries (map entry places)
-AreThose-listed entries P other entry places distinct back alike there listed = record {
-  distinct = λ i j d less within maps keys.
-      let inside : j < length places = rw length-map at within in
-      let first = get_or-map entry places i (other d) d (omega arith) in
-      let second = get_or-map entry places j (other d) d inside in
-      let same : other (get_or (map entry places) i d) ≡ other (get_or (map entry places) j d) =
-      alike (get_or (map entry places) i d) (get_or (map entry places) j d) maps keys in
-      distinct i j (other d) less inside
-      (sym (back (get_or places i (other d)))
-      ∙ (sym (ap other first) ∙ (same ∙ (ap other second ∙ back (get_or places j (other d))))));
-  exact = λ e. (λ has. of_list e has, λ has. to_list e has);
-}
-  where
-    of_list : (e : EntryState) → Contains (map entry places) e → Contains entries e × P e
-    of_list e (k, less, is) =
-        let inside : k < length places = rw length-map at less in
-        let q = get_or places k (other e) in
-        let same : entry q ≡ e = sym (get_or-map entry places k (other e) e inside) ∙ is in
-        subst (λ (x : EntryState). Contains entries x × P x) same
-        (there q (list_any_at (is_same q) places k (other e) inside (is_same-self q)))
+-- where an element stands
+pub stands_at : {X : Type 0} (xs : List X) (x : X) → Contains xs x → (k : ℕ) × (slice_get xs k ≡ Some x)
+stands_at xs x (k, less, is) = (k, slice_get_read xs (length xs) k x refl less (sym is))
 
-    to_list : (e : EntryState) → Contains entries e × P e → Contains (map entry places) e
-    to_list e (has, meets) =
-        let is = listed e has meets in
-        let at = Contains-from_any is_same-true (other e) places is.0 in
-        (at.0, rw length-map at.1, get_or-map entry places at.0 (other e) e at.1 ∙ (ap entry at.2 ∙ is.1))
+-- two entries with one map and key are one
+same_number : (entries : List EntryState) → AreDistinct entries → (x y : ℕ) (d e : EntryState)
+    → slice_get entries x ≡ Some d → slice_get entries y ≡ Some e → d.map ≡ e.map → d.key ≡ e.key → x ≡ y
+same_number entries distinct x y d e at too maps keys = elim (cases_eq x y) [
+  | inl same ↦ same
+  | inr other ↦ absurd (elim (cases_lt x y) [
+    | inl less ↦ distinct x y d less (slice_get_within entries y e too)
+        ((λ j. (get_or_from_slice_get entries x d d at j).map)
+        ∙ (maps ∙ (λ j. (sym (get_or_from_slice_get entries y e d too) j).map)))
+        ((λ j. (get_or_from_slice_get entries x d d at j).key)
+        ∙ (keys ∙ (λ j. (sym (get_or_from_slice_get entries y e d too) j).key)))
+    | inr more ↦ distinct y x d (omega (arith, more, other)) (slice_get_within entries x d at)
+        ((λ j. (get_or_from_slice_get entries y e d too j).map)
+        ∙ (sym maps ∙ (λ j. (sym (get_or_from_slice_get entries x d d at) j).map)))
+        ((λ j. (get_or_from_slice_get entries y e d too j).key)
+        ∙ (sym keys ∙ (λ j. (sym (get_or_from_slice_get entries x d d at) j).key)))
+  ])
+]
 
--- an entry that is listed under its map or its key is there, and the other way about
-there_from_listed : (entries : List EntryState) (b : Bool) (m k : Place) → b ≡ is_some (value_at entries m k) → b ≡ true
-    → Contains entries (record { map = m; key = k; value = unwrap_or (value_at entries m k) m })
-there_from_listed entries b m k is there = by (value_at entries m k) refl (sym is ∙ there)
-  where
-    by : (o : Option Place) → value_at entries m k ≡ o → is_some o ≡ true
-        → Contains entries (record { map = m; key = k; value = unwrap_or o m })
-    by None e h = absurd (false≢true h)
-    by (Some v) e h = Contains-found entries m k v e
+module _ (place_of : EntryState → Place) (entries : List EntryState) (side : SideState)
+    (is : IsFor place_of entries side) (p : Place) where
+  listed_number : (i x : ℕ) → slice_get (listed side p) i ≡ Some x → (j : ℕ) × (number_of side p ≡ Some j)
+      × (slice_get (entries_at side.lists j) i ≡ Some x)
+  listed_number i x h = by (number_of side p) refl h
+    where
+      by : (o : Option ℕ) → number_of side p ≡ o → slice_get (unwrap_or (option_map (entries_at side.lists) o) []) i
+          ≡ Some x → (j : ℕ) × (number_of side p ≡ Some j) × (slice_get (entries_at side.lists j) i ≡ Some x)
+      by None e g = cc g
+      by (Some j) e g = (j, e, g)
 
-pub IsSound-from_tied : (weak : WeakMapsState) → AreTied weak.entries weak.by_map weak.by_key → IsSound weak
-IsSound-from_tied weak tied = record {
+  -- a number that is listed is that of an entry of the place
+  pub listed_entry : (i x : ℕ) → slice_get (listed side p) i ≡ Some x
+      → (e : EntryState) × (slice_get entries x ≡ Some e) × (place_of e ≡ p)
+  listed_entry i x h =
+      let found = listed_number i x h in
+      let owner = is.sound.owned found.0 i x found.2 in
+      let number : slice_get (map (λ e. number_of side (place_of e)) entries) x ≡ Some (Some found.0) =
+      ap (λ ns. slice_get ns x) is.numbers
+      ∙ (slice_get-map (λ j. Some j) side.owners x ∙ ap (option_map (λ j. Some j)) owner) in
+      let entry = map_at (λ e. number_of side (place_of e)) entries x (Some found.0) number in
+      (entry.0, entry.1, is.sound.apart (place_of entry.0) p found.0 entry.2 found.1)
+
+  -- and each is
+  pub entry_listed : (x : ℕ) (e : EntryState) → slice_get entries x ≡ Some e → place_of e ≡ p
+      → (i : ℕ) × (slice_get (listed side p) i ≡ Some x)
+  entry_listed x e at of =
+      let number : slice_get (map (λ j. Some j) side.owners) x ≡ Some (number_of side p) =
+      ap (λ ns. slice_get ns x) (sym is.numbers)
+      ∙ (slice_get-map (λ e. number_of side (place_of e)) entries x
+      ∙ (ap (option_map (λ e. number_of side (place_of e))) at ∙ ap (λ q. Some (number_of side q)) of)) in
+      let owner = map_at (λ j. Some j) side.owners x (number_of side p) number in
+      let stood = stands_at (entries_at side.lists owner.0) x (is.sound.stands owner.0 x owner.1) in (
+        stood.0,
+        ap (λ o. slice_get (unwrap_or (option_map (entries_at side.lists) o) []) stood.0) (sym owner.2)
+            ∙ stood.1,
+      )
+
+  listed_once : (i k x : ℕ) → slice_get (listed side p) i ≡ Some x → slice_get (listed side p) k ≡ Some x → i ≡ k
+  listed_once i k x h g =
+      let first = listed_number i x h in
+      let second = listed_number k x g in
+      let same : second.0 ≡ first.0 = same_Some _ _ (sym second.1 ∙ first.1) in
+      is.sound.once first.0 i k x first.2 (ap (λ j. slice_get (entries_at side.lists j) k) (sym same) ∙ second.2)
+
+  numbered_is : (x : ℕ) (e : EntryState) → slice_get entries x ≡ Some e → numbered entries p x ≡ e
+  numbered_is x e at = get_or_from_slice_get entries x e (record { map = p; key = p; value = p }) at
+
+  pub AreThose-listed : AreDistinct entries
+      → AreThose (λ e. place_of e ≡ p) entries (map (numbered entries p) (listed side p))
+  AreThose-listed distinct = record {
+    distinct = λ i k d less within maps keys. (
+        let len = length-map (listed side p) (numbered entries p) in
+        let first = map_at (numbered entries p) (listed side p) i _
+        (slice_get-get_or (map (numbered entries p) (listed side p)) i d (omega (arith, less, within))) in
+        let second = map_at (numbered entries p) (listed side p) k _
+        (slice_get-get_or (map (numbered entries p) (listed side p)) k d within) in
+        let e = listed_entry i first.0 first.1 in
+        let f = listed_entry k second.0 second.1 in
+        let e_is : e.0 ≡ get_or (map (numbered entries p) (listed side p)) i d = sym (numbered_is first.0 e.0 e.1)
+        ∙ first.2 in
+        let f_is : f.0 ≡ get_or (map (numbered entries p) (listed side p)) k d = sym (numbered_is second.0 f.0 f.1)
+        ∙ second.2 in
+        let same = same_number entries distinct first.0 second.0 e.0 f.0 e.1 f.1
+        ((λ j. (e_is j).map) ∙ (maps ∙ (λ j. (sym f_is j).map)))
+        ((λ j. (e_is j).key) ∙ (keys ∙ (λ j. (sym f_is j).key))) in
+        let once = listed_once i k first.0 first.1 (second.1 ∙ ap (λ z. Some z) (sym same)) in
+        absurd (omega (arith, less, once)));
+    exact = λ e. (λ has. of_list e has, λ has. to_list e has);
+  }
+    where
+      of_list : (e : EntryState) → Contains (map (numbered entries p) (listed side p)) e → Contains entries e
+          × (place_of e ≡ p)
+      of_list e has =
+          let at = stands_at (map (numbered entries p) (listed side p)) e has in
+          let number = map_at (numbered entries p) (listed side p) at.0 e at.1 in
+          let entry = listed_entry at.0 number.0 number.1 in
+          let same : entry.0 ≡ e = sym (numbered_is number.0 entry.0 entry.1) ∙ number.2 in
+          subst (λ (x : EntryState). Contains entries x × (place_of x ≡ p)) same
+          (Contains-at entries number.0 entry.0 entry.1, entry.2)
+
+      to_list : (e : EntryState) → Contains entries e × (place_of e ≡ p)
+          → Contains (map (numbered entries p) (listed side p)) e
+      to_list e (has, of) =
+          let at = stands_at entries e has in
+          let here = entry_listed at.0 e at.1 of in
+          Contains-at (map (numbered entries p) (listed side p)) here.0 e
+          (slice_get-map (numbered entries p) (listed side p) here.0
+          ∙ (ap (option_map (numbered entries p)) here.1 ∙ ap (λ z. Some z) (numbered_is at.0 e at.1)))
+
+module _ (place_of : EntryState → Place) (entries : List EntryState) (p : Place) where
+  -- where no list is that of the place
+  none_of : (lists : List (List ℕ))
+      → ((k n : ℕ) (ns : List ℕ) → slice_get lists k ≡ Some (n ∷ ns) → is_of place_of entries p n ≡ true → ⊥)
+      → list_of place_of entries p lists ≡ []
+  none_of [] never = refl
+  none_of ([] ∷ lists) never = none_of lists (λ k. never (suc k))
+  none_of ((n ∷ ns) ∷ lists) never = by (is_of place_of entries p n) refl (none_of lists (λ k. never (suc k)))
+    where
+      by : (b : Bool) → is_of place_of entries p n ≡ b → list_of place_of entries p lists ≡ []
+          → cond b (n ∷ ns) (list_of place_of entries p lists) ≡ []
+      by true is rest = absurd (never 0 n ns refl is)
+      by false is rest = rest
+
+  -- where only one can be, and is if it has entries
+  one_of : (lists : List (List ℕ)) (j : ℕ)
+      → ((k n : ℕ) (ns : List ℕ) → slice_get lists k ≡ Some (n ∷ ns) → is_of place_of entries p n ≡ true → k ≡ j)
+      → ((n : ℕ) (ns : List ℕ) → slice_get lists j ≡ Some (n ∷ ns) → is_of place_of entries p n ≡ true)
+      → list_of place_of entries p lists ≡ entries_at lists j
+  one_of [] j only its = refl
+  one_of ([] ∷ lists) zero only its =
+      none_of lists (λ k n ns at is. (let same = only (suc k) n ns at is in omega (arith, same)))
+  one_of ([] ∷ lists) (suc j) only its =
+      one_of lists j (λ k n ns at is. (let same = only (suc k) n ns at is in omega (arith, same))) its
+  one_of ((n ∷ ns) ∷ lists) zero only its = λ i. cond (its n ns refl i) (n ∷ ns) (list_of place_of entries p lists)
+  one_of ((n ∷ ns) ∷ lists) (suc j) only its =
+      by (is_of place_of entries p n) refl
+      (one_of lists j (λ k n ns at is. (let same = only (suc k) n ns at is in omega (arith, same))) its)
+    where
+      by : (b : Bool) → is_of place_of entries p n ≡ b → list_of place_of entries p lists ≡ entries_at lists j
+          → cond b (n ∷ ns) (list_of place_of entries p lists) ≡ entries_at lists j
+      by true is rest = absurd (let same = only 0 n ns refl is in omega (arith, same))
+      by false is rest = rest
+
+  -- a list without entries is nobody's
+  list_of-shown : (lists : List (List ℕ)) → list_of place_of entries p (shown lists) ≡ list_of place_of entries p lists
+  list_of-shown [] = refl
+  list_of-shown ([] ∷ lists) = list_of-shown lists
+  list_of-shown ((n ∷ ns) ∷ lists) = ap (λ rest. cond (is_of place_of entries p n) (n ∷ ns) rest) (list_of-shown lists)
+
+module _ (place_of : EntryState → Place) (entries : List EntryState) (side : SideState)
+    (is : IsFor place_of entries side) (p : Place) where
+  -- the first entry of a list, and whose it is
+  first_entry : (k n : ℕ) (ns : List ℕ) → slice_get side.lists k ≡ Some (n ∷ ns)
+      → (e : EntryState) × (slice_get entries n ≡ Some e) × (number_of side (place_of e) ≡ Some k)
+  first_entry k n ns at =
+      let owner = is.sound.owned k 0 n (ap (λ o. slice_get (unwrap_or o []) 0) at) in
+      map_at (λ e. number_of side (place_of e)) entries n (Some k)
+      (ap (λ ns. slice_get ns n) is.numbers
+      ∙ (slice_get-map (λ j. Some j) side.owners n ∙ ap (option_map (λ j. Some j)) owner))
+
+  is_of-read : (n : ℕ) (e : EntryState) → slice_get entries n ≡ Some e
+      → is_of place_of entries p n ≡ is_same p (place_of e)
+  is_of-read n e at = ap (λ o. unwrap_or (option_map (λ (d : EntryState). is_same p (place_of d)) o) false) at
+
+  first_tells : (k n : ℕ) (ns : List ℕ) → slice_get side.lists k ≡ Some (n ∷ ns) → is_of place_of entries p n ≡ true
+      → number_of side p ≡ Some k
+  first_tells k n ns at its =
+      let first = first_entry k n ns at in
+      ap (number_of side) (is_same-true p (place_of first.0) (sym (is_of-read n first.0 first.1) ∙ its)) ∙ first.2
+
+  first_is : (j n : ℕ) (ns : List ℕ) → number_of side p ≡ Some j → slice_get side.lists j ≡ Some (n ∷ ns)
+      → is_of place_of entries p n ≡ true
+  first_is j n ns number at =
+      let first = first_entry j n ns at in
+      is_of-read n first.0 first.1
+      ∙ (ap (is_same p) (is.sound.apart (place_of first.0) p j first.2 number) ∙ is_same-self p)
+
+  -- so the list of the place is found
+  pub list_of-side : list_of place_of entries p (shown side.lists) ≡ listed side p
+  list_of-side = list_of-shown place_of entries p side.lists ∙ by (number_of side p) refl
+    where
+      by : (o : Option ℕ) → number_of side p ≡ o → list_of place_of entries p side.lists
+          ≡ unwrap_or (option_map (entries_at side.lists) o) []
+      by None none = none_of place_of entries p side.lists (λ k n ns at its. cc (sym none ∙ first_tells k n ns at its))
+      by (Some j) some = one_of place_of entries p side.lists j
+          (λ k n ns at its. same_Some _ _ (sym (first_tells k n ns at its) ∙ some)) (λ n ns at. first_is j n ns some at)
+
+pub IsSound-from_tied : (entries : List EntryState) (by_map by_key : SideState) → AreTied entries by_map by_key
+    → IsSound (table_of entries by_map by_key)
+IsSound-from_tied entries by_map by_key tied = record {
   distinct = tied.distinct;
-  found = λ m k v. (
-    λ has. found-Contains weak.entries m k v tied.distinct has,
-    λ has. Contains-found weak.entries m k v has,
-  );
-  of_map = λ m. AreThose-listed weak.entries (λ entry. entry.map ≡ m) (λ e. e.key) (λ k. entry_at weak m k)
-      (listed_under weak.by_map m) (tied.maps.distinct m) (λ q. refl) (λ d e maps keys. keys)
-      (λ q here. (there_from_listed weak.entries (is_listed weak.by_map m q) m q (tied.in_map m q) here, refl))
-      (λ e has is. (let found = value e has m e.key is refl in (
-        tied.in_map m e.key ∙ ap is_some found,
-        λ j. record { map = sym is j; key = e.key; value = unwrap_or (found j) m },
-      )));
-  of_key = λ k. AreThose-listed weak.entries (λ entry. entry.key ≡ k) (λ e. e.map) (λ m. entry_at weak m k)
-      (listed_under weak.by_key k) (tied.keys.distinct k) (λ q. refl) (λ d e maps keys. maps)
-      (λ q here. (there_from_listed weak.entries (is_listed weak.by_key k q) q k (tied.in_key q k) here, refl))
-      (λ e has is. (let found = value e has e.map k refl is in (
-        tied.in_key e.map k ∙ ap is_some found,
-        λ j. record { map = e.map; key = sym is j; value = unwrap_or (found j) e.map },
-      )));
+  found = λ m k v. (λ has. found-Contains entries m k v tied.distinct has, λ has. Contains-found entries m k v has);
+  of_map = λ m. subst (λ ns. AreThose (λ e. e.map ≡ m) entries (map (numbered entries m) ns))
+      (sym (list_of-side (λ e. e.map) entries by_map tied.maps m))
+      (AreThose-listed (λ e. e.map) entries by_map tied.maps m tied.distinct);
+  of_key = λ k. subst (λ ns. AreThose (λ e. e.key ≡ k) entries (map (numbered entries k) ns))
+      (sym (list_of-side (λ e. e.key) entries by_key tied.keys k))
+      (AreThose-listed (λ e. e.key) entries by_key tied.keys k tied.distinct);
 }
-  where
-    value : (e : EntryState) → Contains weak.entries e → (m k : Place) → e.map ≡ m → e.key ≡ k
-        → value_at weak.entries m k ≡ Some e.value
-    value e has m k maps keys = (λ j. value_at weak.entries (sym maps j) (sym keys j))
-        ∙ found-Contains weak.entries e.map e.key e.value tied.distinct has

@@ -4,7 +4,6 @@ use Rattle.std.proofs.Common.{[], ◌∷◌, ◌++◌, length, map, get_or, Opti
 use Rattle.std.proofs.Common.{◌∙◌, ap, arith}
 use Rattle.std.specs.Bool.{Decides}
 use Rattle.std.specs.List.{IsDistinct, swap_remove}
-use Rattle.std.specs.Option.{option_map}
 use Rattle.std.specs.Map.{keys_of, lookup, set_value}
 use Rattle.std.specs.declared.hash.FoldHasher.{FoldHasher}
 use Rattle.std.specs.declared.hash.BuildHasherDefault.{BuildHasherDefault}
@@ -12,15 +11,13 @@ use Rattle.std.proofs.Math.ListN.{get_or-map}
 use Rattle.std.proofs.lemmas.Bool.{false≢true}
 use Rattle.std.proofs.lemmas.List.{length-map, map-append}
 use Rattle.std.proofs.lemmas.Option.{slice_get-map}
-use Rattle.std.proofs.lemmas.Map.Keys.{any_passes_from_place}
 use Rattle.std.proofs.lemmas.Map.Made.{AllPairs-from_IsDistinct}
 use Rattle.indexmap.specs.IndexMap.{IndexMap, swap_remove_by, swap_remove_entry, insert_entry}
 use Rattle.indexmap.proofs.CallerLemmas.{insert_entry-new}
 use Rattle.gz_names.specs.declared.numbers.Place.{Place}
-use Rattle.weak_maps.specs.Lists.{is_same, listed_under, is_listed}
+use Rattle.weak_maps.specs.Places.{is_same}
 use Rattle.weak_maps.specs.Tables.{entries_of, is_key}
-use Rattle.weak_maps.specs.WeakMaps.{EntryState, WeakMapsState, parts, entry_at, value_of, AreDistinct, is_entry}
-use Rattle.weak_maps.specs.WeakMaps.{value_at, put_at}
+use Rattle.weak_maps.specs.WeakMaps.{EntryState, AreDistinct, is_entry, value_at, put_at}
 use Rattle.weak_maps.specs.declared.tables.EntryKey.{EntryKey}
 use Rattle.weak_maps.proofs.Places.{is_same-true, is_same-self, is_same-flip}
 use Rattle.weak_maps.proofs.SwapRemove.{swap_remove-map, swap_remove_by-map, swap_remove_entry-by}
@@ -219,23 +216,3 @@ pub taken-at : (old new : Table) (i : ℕ) (p : EntryKey × Place) → slice_get
 taken-at old new i p there taken =
     rw (slice_get-map seen_entry old.entries i, there)
     (ap (map seen_entry) taken ∙ sym (swap_remove-map seen_entry old.entries i p))
-
--- what is handed out of a list of places
-pub parts-of_map : (weak : WeakMapsState) (m k v : Place) (keys : List Place) (i : ℕ) → slice_get keys i ≡ Some k
-    → value_of weak m k ≡ Some v → Some (m, k, v) ≡ option_map parts (slice_get (map (λ k. entry_at weak m k) keys) i)
-parts-of_map weak m k v keys i there found =
-    sym (ap (option_map parts)
-    (slice_get-map (λ k. entry_at weak m k) keys i ∙ ap (option_map (λ k. entry_at weak m k)) there)
-    ∙ ap (λ o. Some (m, k, unwrap_or o m)) found)
-
-pub parts-of_key : (weak : WeakMapsState) (m k v : Place) (maps : List Place) (i : ℕ) → slice_get maps i ≡ Some m
-    → value_of weak m k ≡ Some v → Some (m, k, v) ≡ option_map parts (slice_get (map (λ m. entry_at weak m k) maps) i)
-parts-of_key weak m k v maps i there found =
-    sym (ap (option_map parts)
-    (slice_get-map (λ m. entry_at weak m k) maps i ∙ ap (option_map (λ m. entry_at weak m k)) there)
-    ∙ ap (λ o. Some (m, k, unwrap_or o m)) found)
-
--- a place in a list is listed
-pub is_listed-at : (lists : List (Place × List Place)) (p q : Place) (i : ℕ)
-    → slice_get (listed_under lists p) i ≡ Some q → is_listed lists p q ≡ true
-is_listed-at lists p q i there = any_passes_from_place (is_same q) (listed_under lists p) i q there (is_same-self q)

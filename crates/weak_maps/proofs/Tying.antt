@@ -1,242 +1,353 @@
--- The lists stay those of the entries.
-use Rattle.std.proofs.Common.{◌≡◌, ◌<◌, ◌+◌, ◌-◌, ◌&&◌, ◌||◌, ℕ, Bool, true, false, not, cond, nat_lt, List, [], ◌∷◌}
-use Rattle.std.proofs.Common.{◌++◌, length, position, set, take, get_or, Option, Some, None, is_some, unwrap_or, refl}
-use Rattle.std.proofs.Common.{sym, ◌∙◌, ap, arith, length-append}
-use Rattle.std.specs.List.{IsDistinct, list_any, prefix_len, swap_remove}
-use Rattle.std.specs.Map.{keys_of, lookup, set_value}
-use Rattle.std.specs.Option.{option_map_or}
-use Rattle.std.proofs.lemmas.Bool.{false≢true}
-use Rattle.std.proofs.lemmas.Bool.Decides.{nat_tests}
-use Rattle.std.proofs.lemmas.List.{set-get_or, take_at}
-use Rattle.indexmap.specs.IndexMap.{swap_remove_by}
+-- Each entry stands in the list of its own place, whatever is done.
+use Rattle.std.proofs.Common.{◌≡◌, ◌≢◌, ◌<◌, ◌-◌, ◌++◌, ◌∷◌, [], inl, inr, ℕ, Bool, true, false, cond, List, Option}
+use Rattle.std.proofs.Common.{Some, None, is_some, if◌then◌else◌, length, map, take, set, get_or, slice_get, refl, sym}
+use Rattle.std.proofs.Common.{◌∙◌, ap, subst, arith, length-append}
+use Rattle.std.specs.List.{swap_remove}
+use Rattle.std.proofs.lemmas.List.{length-map, map-append, get_or_default}
+use Rattle.std.specs.Option.{option_map}
+use Rattle.std.proofs.lemmas.Option.{slice_get_within, slice_get-get_or, slice_get-map}
+use Rattle.weak_maps.specs.declared.colours.MarkColour.{MarkColour}
+use Rattle.weak_maps.specs.declared.colours.MarkColour.TheVariants as colour
 use Rattle.gz_names.specs.declared.numbers.Place.{Place}
-use Rattle.weak_maps.specs.Lists.{is_same, listed_under, is_listed, add_to, take_from, change_to, AreSound}
-use Rattle.weak_maps.specs.WeakMaps.{EntryState, WeakMapsState, AreDistinct, is_entry, value_at, value_of, put_at, put}
-use Rattle.weak_maps.specs.WeakMaps.{del, AreTied}
-use Rattle.weak_maps.specs.Tables.{entries_of, is_key}
-use Rattle.weak_maps.specs.declared.tables.EntryKey.{EntryKey}
-use Rattle.weak_maps.proofs.Table.{Table, and-true, AreDistinct-entries, value_at-updated, value_at-put_at}
+use Rattle.weak_maps.specs.Places.{is_same}
+use Rattle.weak_maps.specs.Sides.{SideState, IsSide, IsAdded, IsUndone, Starts as StartsLists, number_of, shown}
+use Rattle.weak_maps.specs.WeakMaps.{EntryState, WeakMapsState, state_of, AreDistinct, AreParallel, AreTied, Carries}
+use Rattle.weak_maps.specs.WeakMaps.{IsFor, IsLeftOf, Starts, is_entry, put_at, table_of, value_at}
 use Rattle.weak_maps.proofs.Places.{is_same-true, is_same-self}
-use Rattle.weak_maps.proofs.Listing.{add_to-there, add_to-new, lookup-append, set_value-same, lookup-set_value}
-use Rattle.weak_maps.proofs.Listing.{change_to-some}
+use Rattle.weak_maps.proofs.SwapRemove.{swap_remove-map}
+use Rattle.weak_maps.proofs.Reading.{map_at, length-swap_remove, swap_remove_cases, swap_remove_here, swap_remove_other}
+use Rattle.weak_maps.proofs.Table.{length-put_at}
 
--- the entries have changed their values alone
-pub AreTied-values : (old new : List EntryState) (by_map by_key : List (Place × List Place)) → AreTied old by_map by_key
-    → AreDistinct new → ((m k : Place) → is_some (value_at new m k) ≡ is_some (value_at old m k))
-    → AreTied new by_map by_key
-AreTied-values old new by_map by_key tied distinct same = record {
-  distinct = distinct;
-  maps = tied.maps;
+pub IsFor-length : (f : EntryState → Place) (entries : List EntryState) (side : SideState) → IsFor f entries side
+    → length side.owners ≡ length entries
+IsFor-length f entries side is = sym (length-map side.owners (λ j. Some j))
+    ∙ (ap length (sym is.numbers) ∙ length-map entries (λ e. number_of side (f e)))
+
+pub swap_remove-default : {X : Type 0} (xs : List X) (n : ℕ) (d e : X) → 0 < length xs
+    → swap_remove xs n d ≡ swap_remove xs n e
+swap_remove-default xs n d e h =
+    ap (λ y. take (length xs - 1) (set xs n y)) (get_or_default xs (length xs - 1) d e (omega arith))
+
+numbers-of : (f : EntryState → Place) (side new : SideState)
+    → ((q : Place) (k : ℕ) → number_of side q ≡ Some k → number_of new q ≡ Some k)
+    → (entries : List EntryState) (owners : List ℕ) → map (λ e. number_of side (f e)) entries ≡ map (λ j. Some j) owners
+    → map (λ e. number_of new (f e)) entries ≡ map (λ j. Some j) owners
+numbers-of f side new keep [] owners h = h
+numbers-of f side new keep (e ∷ entries) [] h = cc (ap length h)
+numbers-of f side new keep (e ∷ entries) (j ∷ owners) h =
+    let first : number_of side (f e) ≡ Some j = ap (λ ns. get_or ns 0 None) h in
+    let rest = numbers-of f side new keep entries owners (ap (λ ns. tail ns) h) in λ i. keep (f e) j first i ∷ rest i
+  where
+    tail : List (Option ℕ) → List (Option ℕ)
+    tail [] = []
+    tail (n ∷ ns) = ns
+
+-- the places keep their numbers as one comes
+kept-number : (side new : SideState) (p : Place) → IsAdded side p new → (q : Place) (k : ℕ) → number_of side q ≡ Some k
+    → number_of new q ≡ Some k
+kept-number side new p added q k h = added.numbers q ∙ by (is_same p q) refl
+  where
+    by : (b : Bool) → is_same p q ≡ b → cond b (Some added.number) (number_of side q) ≡ Some k
+    by true e = ap (λ n. Some n) (sym (added.was k (ap (number_of side) (is_same-true p q e) ∙ h)))
+    by false e = h
+
+pub IsFor-added : (f : EntryState → Place) (entries : List EntryState) (side new : SideState) (entry : EntryState)
+    → IsFor f entries side → IsAdded side (f entry) new → IsSide new → IsFor f (entries ++ entry ∷ []) new
+IsFor-added f entries side new entry is added sound = record {
+  sound = sound;
+  numbers = map-append (λ e. number_of new (f e)) entries (entry ∷ [])
+      ∙ ((λ i. numbers-of f side new (kept-number side new (f entry) added) entries side.owners is.numbers i ++ own i
+      ∷ []) ∙ (sym (map-append (λ j. Some j) side.owners (added.number ∷ []))
+      ∙ ap (map (λ j. Some j)) (sym added.owners)));
+}
+  where
+    own : number_of new (f entry) ≡ Some added.number
+    own = added.numbers (f entry) ∙ ap (λ b. cond b (Some added.number) (number_of side (f entry)))
+        (is_same-self (f entry))
+
+-- where it is taken back
+pub IsFor-undone : (f : EntryState → Place) (entries : List EntryState) (side mid new : SideState) (p : Place)
+    → IsFor f entries side → IsAdded side p mid → IsUndone side mid new → IsSide new → IsFor f entries new
+IsFor-undone f entries side mid new p is added undone sound = record {
+  sound = sound;
+  numbers = numbers-of f side new (λ q k h. same q ∙ kept-number side mid p added q k h) entries side.owners is.numbers
+      ∙ ap (map (λ j. Some j)) (sym undone.owners);
+}
+  where
+    same : (q : Place) → number_of new q ≡ number_of mid q
+    same q = ap (λ hs. number_of (record { heads = hs; lists = []; owners = []; left = [] }) q) undone.heads
+
+-- an entry goes
+pub IsFor-taken : (f : EntryState → Place) (entries : List EntryState) (side new : SideState) (n : ℕ) (d : EntryState)
+    → n < length entries → IsFor f entries side → new.heads ≡ side.heads → new.owners ≡ swap_remove side.owners n 0
+    → IsSide new → IsFor f (swap_remove entries n d) new
+IsFor-taken f entries side new n d less is heads owners sound = record {
+  sound = sound;
+  numbers = sym (swap_remove-map (λ e. number_of new (f e)) entries n d)
+      ∙ (ap (λ ns. swap_remove ns n (number_of new (f d)))
+      (numbers-of f side new (λ q k h. same q ∙ h) entries side.owners is.numbers)
+      ∙ (swap_remove-default (map (λ j. Some j) side.owners) n (number_of new (f d)) (Some 0) (omega (arith, len, less))
+      ∙ (swap_remove-map (λ j. Some j) side.owners n 0 ∙ ap (map (λ j. Some j)) (sym owners))));
+}
+  where
+    same : (q : Place) → number_of new q ≡ number_of side q
+    same q = ap (λ hs. number_of (record { heads = hs; lists = []; owners = []; left = [] }) q) heads
+
+    len : length (map (λ j. Some j) side.owners) ≡ length entries
+    len = length-map side.owners (λ j. Some j) ∙ IsFor-length f entries side is
+
+-- a value is written
+pub IsFor-put : (f : EntryState → Place) (entries : List EntryState) (side : SideState) (m k v w : Place)
+    → ((e : EntryState) (v : Place) → f (record { map = e.map; key = e.key; value = v }) ≡ f e)
+    → value_at entries m k ≡ Some w → IsFor f entries side → IsFor f (put_at entries m k v) side
+IsFor-put f entries side m k v w alike there is = record { sound = is.sound; numbers = same entries there ∙ is.numbers }
+  where
+    same : (es : List EntryState) → value_at es m k ≡ Some w → map (λ e. number_of side (f e)) (put_at es m k v)
+        ≡ map (λ e. number_of side (f e)) es
+    same [] h = cc h
+    same (e ∷ es) h = by (is_entry m k e) h (same es)
+      where
+        by : (b : Bool) → cond b (Some e.value) (value_at es m k) ≡ Some w
+            → (value_at es m k ≡ Some w → map (λ e. number_of side (f e)) (put_at es m k v)
+            ≡ map (λ e. number_of side (f e)) es)
+            → map (λ e. number_of side (f e))
+            (cond b (record { map = e.map; key = e.key; value = v } ∷ es) (e ∷ put_at es m k v))
+            ≡ map (λ e. number_of side (f e)) (e ∷ es)
+        by true h rest = ap (λ p. number_of side p ∷ map (λ e. number_of side (f e)) es) (alike e v)
+        by false h rest = ap (λ ns. number_of side (f e) ∷ ns) (rest h)
+
+-- only which entries are to be looked at changed
+pub IsFor-left : (f : EntryState → Place) (entries : List EntryState) (side new : SideState) → IsFor f entries side
+    → new ≡ record { heads = side.heads; lists = side.lists; owners = side.owners; left = new.left } → IsSide new
+    → IsFor f entries new
+IsFor-left f entries side new is rest sound = record {
+  sound = sound;
+  numbers = numbers-of f side new (λ q k h. ap (λ (s : SideState). number_of s q) rest ∙ h) entries side.owners
+      is.numbers ∙ ap (map (λ j. Some j)) (sym (ap (λ (s : SideState). s.owners) rest));
+}
+
+-- one entry is taken out of the table and of both lists
+module _ (entries new : List EntryState) (by_map by_key map_now key_now : SideState) (n : ℕ) (d : EntryState)
+    (tied : AreTied entries by_map by_key) (less : n < length entries) (taken : new ≡ swap_remove entries n d)
+    (distinct : AreDistinct new) (map_heads : map_now.heads ≡ by_map.heads)
+    (map_owners : map_now.owners ≡ swap_remove by_map.owners n 0)
+    (map_left : map_now.left ≡ swap_remove by_map.left n None) (map_side : IsSide map_now)
+    (key_heads : key_now.heads ≡ by_key.heads) (key_owners : key_now.owners ≡ swap_remove by_key.owners n 0)
+    (key_left : key_now.left ≡ swap_remove by_key.left n None) (key_side : IsSide key_now) where
+  pub AreTied-taken : AreTied new map_now key_now
+  AreTied-taken = record {
+    distinct = distinct;
+    few = (let len = ap length taken in let short = length-swap_remove entries n d in let few = tied.few in
+        omega (arith, len, short, few));
+    maps = subst (λ es. IsFor (λ (e : EntryState). e.map) es map_now) (sym taken)
+        (IsFor-taken (λ (e : EntryState). e.map) entries by_map map_now n d less tied.maps map_heads map_owners
+        map_side);
+    keys = subst (λ es. IsFor (λ (e : EntryState). e.key) es key_now) (sym taken)
+        (IsFor-taken (λ (e : EntryState). e.key) entries by_key key_now n d less tied.keys key_heads key_owners
+        key_side);
+  }
+
+  same_length : (f : EntryState → Place) (side : SideState) → IsFor f entries side → length side.left ≡ length entries
+  same_length f side is = is.sound.same ∙ IsFor-length f entries side is
+
+  left_here : (f : EntryState → Place) (side now : SideState) → IsFor f entries side
+      → now.left ≡ swap_remove side.left n None → (i : ℕ) → i < length entries - 1 → i ≡ n
+      → slice_get now.left i ≡ slice_get side.left (length entries - 1)
+  left_here f side now is left i low same =
+      let len = same_length f side is in
+      ap (λ ls. slice_get ls i) left
+      ∙ (ap (slice_get (swap_remove side.left n None)) same
+      ∙ (swap_remove_here side.left n None (omega (arith, low, same, len))
+      ∙ ap (slice_get side.left) (omega (arith, len))))
+
+  left_other : (f : EntryState → Place) (side now : SideState) → IsFor f entries side
+      → now.left ≡ swap_remove side.left n None → (i : ℕ) → i < length entries - 1 → i ≢ n
+      → slice_get now.left i ≡ slice_get side.left i
+  left_other f side now is left i low other =
+      let len = same_length f side is in
+      ap (λ ls. slice_get ls i) left ∙ swap_remove_other side.left n i None other (omega (arith, low, len))
+
+  pub Carries-taken : Carries (state_of entries by_map by_key) (state_of new map_now key_now)
+  Carries-taken = record {
+    from = λ i e at. (
+        let cases = swap_remove_cases entries n i d e (ap (λ es. slice_get es i) (sym taken) ∙ at) in
+        elim cases.1 [
+          | inl (same, last) ↦ (
+            length entries - 1,
+            last,
+            left_here (λ (e : EntryState). e.map) by_map map_now tied.maps map_left i
+                cases.0 same,
+            left_here (λ (e : EntryState). e.key) by_key key_now tied.keys key_left i cases.0 same,
+          )
+          | inr (other, there)
+              ↦ (
+                i,
+                there,
+                left_other (λ (e : EntryState). e.map) by_map map_now tied.maps map_left i cases.0 other,
+                left_other (λ (e : EntryState). e.key) by_key key_now tied.keys key_left i cases.0 other,
+              )
+        ]);
+  }
+
+pub Carries-same : (weak : WeakMapsState) → Carries weak weak
+Carries-same weak = record { from = λ i e at. (i, at, refl, refl) }
+
+pub Carries-trans : (a b c : WeakMapsState) → Carries a b → Carries b c → Carries a c
+Carries-trans a b c first second = record {
+  from = λ i e at. (let mid = second.from i e at in let old = first.from mid.0 e mid.1 in
+      (old.0, old.1, mid.2 ∙ old.2, mid.3 ∙ old.3));
+}
+
+-- a new entry
+module _ (entries new : List EntryState) (by_map by_key map_now key_now : SideState) (entry : EntryState)
+    (tied : AreTied entries by_map by_key) (pushed : new ≡ entries ++ entry ∷ []) (distinct : AreDistinct new)
+    (few : length entries < 4294967295) (map_added : IsAdded by_map entry.map map_now) (map_side : IsSide map_now)
+    (key_added : IsAdded by_key entry.key key_now) (key_side : IsSide key_now) where
+  pub AreTied-added : AreTied new map_now key_now
+  AreTied-added = record {
+    distinct = distinct;
+    few = (let len = ap length pushed in let more = length-append entries (entry ∷ []) in
+        omega (arith, len, more, few));
+    maps = subst (λ es. IsFor (λ (e : EntryState). e.map) es map_now) (sym pushed)
+        (IsFor-added (λ (e : EntryState). e.map) entries by_map map_now entry tied.maps map_added map_side);
+    keys = subst (λ es. IsFor (λ (e : EntryState). e.key) es key_now) (sym pushed)
+        (IsFor-added (λ (e : EntryState). e.key) entries by_key key_now entry tied.keys key_added key_side);
+  }
+
+-- the first list is put back
+pub AreTied-undone : (entries : List EntryState) (by_map by_key mid map_now : SideState) (m : Place)
+    → AreTied entries by_map by_key → IsAdded by_map m mid → IsUndone by_map mid map_now → IsSide map_now
+    → AreTied entries map_now by_key
+AreTied-undone entries by_map by_key mid map_now m tied added undone side = record {
+  distinct = tied.distinct;
+  few = tied.few;
+  maps = IsFor-undone (λ (e : EntryState). e.map) entries by_map mid map_now m tied.maps added undone side;
   keys = tied.keys;
-  in_map = λ m k. tied.in_map m k ∙ sym (same m k);
-  in_key = λ m k. tied.in_key m k ∙ sym (same m k);
 }
 
--- the entry of one key has come or gone, in the lists too
-pub AreTied-changed : (old new : List EntryState) (by_map by_map' by_key by_key' : List (Place × List Place))
-    (m k : Place) (w : Option Place)
-    → AreTied old by_map by_key
-    → AreDistinct new
-    → ((n l : Place) → value_at new n l ≡ cond (is_same m n && is_same k l) w (value_at old n l))
-    → ((p q : Place) → is_listed by_map' p q ≡ cond (is_same m p && is_same k q) (is_some w) (is_listed by_map p q))
-    → ((p q : Place) → is_listed by_key' p q ≡ cond (is_same k p && is_same m q) (is_some w) (is_listed by_key p q))
-    → AreSound by_map'
-    → AreSound by_key'
-    → AreTied new by_map' by_key'
-AreTied-changed old new by_map by_map' by_key by_key' m k w tied distinct values in_map in_key maps keys = record {
+pub state-undone : (entries now : List EntryState) (by_map by_key mid map_now key_now : SideState) → now ≡ entries
+    → IsUndone by_map mid map_now → key_now ≡ by_key → state_of now map_now key_now ≡ state_of entries by_map by_key
+state-undone entries now by_map by_key mid map_now key_now same undone key_same = λ i. record {
+  table = record { entries = same i; by_map = undone.lists i; by_key = shown (key_same i).lists };
+  looks = record { by_map = undone.left i; by_key = (key_same i).left };
+}
+
+abbrev count_of : Option Place → ℕ
+count_of o = if is_some o then 0 else 1
+
+pub AreTied-put : (entries new : List EntryState) (by_map by_key : SideState) (m k v w : Place)
+    → AreTied entries by_map by_key → value_at entries m k ≡ Some w → new ≡ put_at entries m k v → AreDistinct new
+    → AreTied new by_map by_key
+AreTied-put entries new by_map by_key m k v w tied there put distinct = record {
   distinct = distinct;
-  maps = maps;
-  keys = keys;
-  in_map = λ n l. in_map n l
-      ∙ (ap (cond (is_same m n && is_same k l) (is_some w)) (tied.in_map n l)
-      ∙ (sym (inward (is_same m n && is_same k l) w (value_at old n l)) ∙ sym (ap is_some (values n l))));
-  in_key = λ n l. in_key l n
-      ∙ (ap (λ b. cond b (is_some w) (is_listed by_key l n)) (flip (is_same k l) (is_same m n))
-      ∙ (ap (cond (is_same m n && is_same k l) (is_some w)) (tied.in_key n l)
-      ∙ (sym (inward (is_same m n && is_same k l) w (value_at old n l)) ∙ sym (ap is_some (values n l)))));
+  few = (let len = ap length put in let same = length-put_at entries m k v in let few = tied.few in let one =
+      ap count_of there in omega (arith, len, same, few, one));
+  maps = subst (λ es. IsFor (λ (e : EntryState). e.map) es by_map) (sym put)
+      (IsFor-put (λ (e : EntryState). e.map) entries by_map m k v w (λ e v. refl) there tied.maps);
+  keys = subst (λ es. IsFor (λ (e : EntryState). e.key) es by_key) (sym put)
+      (IsFor-put (λ (e : EntryState). e.key) entries by_key m k v w (λ e v. refl) there tied.keys);
+}
+
+pub AreTied-left : (entries : List EntryState) (by_map by_key map_now key_now : SideState)
+    → AreTied entries by_map by_key
+    → map_now ≡ record { heads = by_map.heads; lists = by_map.lists; owners = by_map.owners; left = map_now.left }
+    → IsSide map_now → key_now ≡ record {
+      heads = by_key.heads;
+      lists = by_key.lists;
+      owners = by_key.owners;
+      left = key_now.left;
+    } → IsSide key_now → AreTied entries map_now key_now
+AreTied-left entries by_map by_key map_now key_now tied map_rest map_side key_rest key_side = record {
+  distinct = tied.distinct;
+  few = tied.few;
+  maps = IsFor-left (λ (e : EntryState). e.map) entries by_map map_now tied.maps map_rest map_side;
+  keys = IsFor-left (λ (e : EntryState). e.key) entries by_key key_now tied.keys key_rest key_side;
+}
+
+pub AreTied-none : (entries : List EntryState) (by_map by_key : SideState) → entries ≡ []
+    → by_map ≡ record { heads = []; lists = []; owners = []; left = [] }
+    → by_key ≡ record { heads = []; lists = []; owners = []; left = [] } → IsSide by_map → IsSide by_key
+    → AreTied entries by_map by_key
+AreTied-none entries by_map by_key none map_none key_none map_side key_side = record {
+  distinct = λ i j d less within. absurd (let len = ap length none in omega (arith, len, within));
+  few = (let len = ap length none in omega (arith, len));
+  maps = record {
+    sound = map_side;
+    numbers = ap (map (λ e. number_of by_map e.map)) none
+        ∙ ap (λ (s : SideState). map (λ j. Some j) s.owners) (sym map_none);
+  };
+  keys = record {
+    sound = key_side;
+    numbers = ap (map (λ e. number_of by_key e.key)) none
+        ∙ ap (λ (s : SideState). map (λ j. Some j) s.owners) (sym key_none);
+  };
+}
+
+-- what is to be looked at is an entry
+pub entry_left : (f : EntryState → Place) (entries : List EntryState) (side : SideState) (n : ℕ) (o : Option MarkColour)
+    → IsFor f entries side → slice_get side.left n ≡ Some o → (e : EntryState) × (slice_get entries n ≡ Some e)
+entry_left f entries side n o is h =
+    by entries (let low = slice_get_within side.left n o h in let same = is.sound.same in let len =
+    IsFor-length f entries side is in omega (arith, low, same, len))
+  where
+    by : (es : List EntryState) → n < length es → (e : EntryState) × (slice_get es n ≡ Some e)
+    by [] low = absurd (omega (arith, low))
+    by (e ∷ es) low = (get_or (e ∷ es) n e, slice_get-get_or (e ∷ es) n e low)
+
+pub AreParallel-tied : (entries : List EntryState) (by_map by_key : SideState) → AreTied entries by_map by_key
+    → AreParallel (state_of entries by_map by_key)
+AreParallel-tied entries by_map by_key tied = (
+  tied.maps.sound.same ∙ IsFor-length (λ (e : EntryState). e.map) entries by_map tied.maps,
+  tied.keys.sound.same ∙ IsFor-length (λ (e : EntryState). e.key) entries by_key tied.keys,
+)
+
+-- only which entries are to be looked at changed
+pub table-left : (entries : List EntryState) (by_map by_key map_now key_now : SideState)
+    → map_now ≡ record { heads = by_map.heads; lists = by_map.lists; owners = by_map.owners; left = map_now.left }
+    → key_now ≡ record { heads = by_key.heads; lists = by_key.lists; owners = by_key.owners; left = key_now.left }
+    → table_of entries map_now key_now ≡ table_of entries by_map by_key
+table-left entries by_map by_key map_now key_now map_rest key_rest =
+    λ i. record { entries = entries; by_map = shown (map_rest i).lists; by_key = shown (key_rest i).lists }
+
+-- the list of an entry
+owner_of : (f : EntryState → Place) (entries : List EntryState) (side : SideState) → IsFor f entries side
+    → (n : ℕ) (e : EntryState) → slice_get entries n ≡ Some e → (j : ℕ) × (slice_get side.owners n ≡ Some j)
+    × (number_of side (f e) ≡ Some j)
+owner_of f entries side is n e at =
+    let owner = map_at (λ j. Some j) side.owners n (number_of side (f e))
+    (ap (λ ns. slice_get ns n) (sym is.numbers)
+    ∙ (slice_get-map (λ e. number_of side (f e)) entries n ∙ ap (option_map (λ e. number_of side (f e))) at)) in
+    (owner.0, owner.1, sym owner.2)
+
+-- a list was started, as callers see it
+pub Starts-side : (f : EntryState → Place) (c : MarkColour) (p : Place) (entries : List EntryState)
+    (side new : SideState) → IsFor f entries side → StartsLists c (number_of side p) side.owners side.left new.left
+    → Starts f c p entries side.left new.left
+Starts-side f c p entries side new is starts = record {
+  sized = starts.sized;
+  colour_now = starts.colour_now;
+  those = λ n e at of.
+      (let owner = owner_of f entries side is n e at in
+      starts.those n owner.0 owner.1 (ap (number_of side) (sym of) ∙ owner.2));
+  is = elim starts.is [
+    | inl same ↦ inl same
+    | inr (black, (x, owned, left)) ↦ inr (black, left_of_place x owned left)
+  ];
+  black = starts.black;
+  others = λ n e at other.
+      (let owner = owner_of f entries side is n e at in
+      starts.others n (inr (λ same. other (is.sound.apart (f e) p owner.0 owner.2 (sym same ∙ owner.1)))));
 }
   where
-    inward : (b : Bool) (x y : Option Place) → is_some (cond b x y) ≡ cond b (is_some x) (is_some y)
-    inward true x y = refl
-    inward false x y = refl
-
-    flip : (a b : Bool) → (a && b) ≡ (b && a)
-    flip true true = refl
-    flip true false = refl
-    flip false true = refl
-    flip false false = refl
-
--- the last is taken back
-prefix_len-last : {X : Type 0} (t : X → Bool) (xs : List X) (x : X) → list_any t xs ≡ false → t x ≡ true
-    → prefix_len (λ y. not (t y)) (xs ++ x ∷ []) ≡ length xs
-prefix_len-last t [] x none last = ap (λ b. cond (not b) (1 + 0) 0) last
-prefix_len-last t (y ∷ xs) x none last = by (t y) none (prefix_len-last t xs x)
-  where
-    by : (b : Bool) → (b || list_any t xs) ≡ false
-        → (list_any t xs ≡ false → t x ≡ true → prefix_len (λ y. not (t y)) (xs ++ x ∷ []) ≡ length xs)
-        → cond (not b) (1 + prefix_len (λ y. not (t y)) (xs ++ x ∷ [])) 0 ≡ length (y ∷ xs)
-    by true h rest = absurd (false≢true (sym h))
-    by false h rest = omega (arith, rest h last)
-
-swap_remove_by-last : {X : Type 0} (t : X → Bool) (xs : List X) (x : X) → list_any t xs ≡ false → t x ≡ true
-    → swap_remove_by t (xs ++ x ∷ []) ≡ xs
-swap_remove_by-last t [] x none last =
-    ap (λ b. option_map_or (λ i. swap_remove (x ∷ []) i x)
-    (cond (nat_lt (cond (not b) (1 + 0) 0) 1) (Some (cond (not b) (1 + 0) 0)) None) (x ∷ [])) last
-swap_remove_by-last {X} t (y ∷ ys) x none last =
-    let all : List X = y ∷ (ys ++ x ∷ []) in
-    let n : ℕ = length (y ∷ ys) in
-    let found : prefix_len (λ z. not (t z)) all ≡ n = prefix_len-last t (y ∷ ys) x none last in
-    let len : length all ≡ n + 1 = length-append (y ∷ ys) (x ∷ []) in
-    let within : nat_lt (prefix_len (λ z. not (t z)) all) (length all) ≡ true = grind (arith, nat_tests) in
-    let place : position t all ≡ Some n = ap (λ b. cond b (Some (prefix_len (λ z. not (t z)) all)) None) within
-    ∙ ap (λ i. Some i) found in
-    let short : length all - 1 ≡ n = omega arith in
-    ap (λ o. option_map_or (λ i. swap_remove all i y) o all) place
-    ∙ (ap (λ l. take l (set all n (get_or all l y))) short
-    ∙ (ap (take n) (set-get_or all n y) ∙ take_at (y ∷ ys) (x ∷ []) n refl))
-
-no_list : (lists : List (Place × List Place)) (p : Place) → lookup (is_same p) lists ≡ None
-    → list_any (λ list. is_same p list.0) lists ≡ false
-no_list [] p h = refl
-no_list (l ∷ lists) p h = by (is_same p l.0) h (no_list lists p)
-  where
-    by : (b : Bool) → cond b (Some l.1) (lookup (is_same p) lists) ≡ None
-        → (lookup (is_same p) lists ≡ None → list_any (λ list. is_same p list.0) lists ≡ false)
-        → (b || list_any (λ list. is_same p list.0) lists) ≡ false
-    by true none rest = cc
-    by false none rest = rest none
-
-set_value-again : {K V : Type 0} (t : K → Bool) (es : List (K × V)) (v w : V)
-    → set_value t (set_value t es v) w ≡ set_value t es w
-set_value-again t [] v w = refl
-set_value-again t (e ∷ es) v w = by (t e.0) refl (set_value-again t es v w)
-  where
-    by : (b : Bool) → t e.0 ≡ b → set_value t (set_value t es v) w ≡ set_value t es w
-        → set_value t (cond b ((e.0, v) ∷ es) (e ∷ set_value t es v)) w ≡ cond b ((e.0, w) ∷ es) (e ∷ set_value t es w)
-    by true f rest = ap (λ b. cond b ((e.0, w) ∷ es) ((e.0, v) ∷ set_value t es w)) f
-    by false f rest = ap (λ b. cond b ((e.0, w) ∷ set_value t es v) (e ∷ set_value t (set_value t es v) w)) f
-        ∙ ap (λ rest. e ∷ rest) rest
-
-pub take_from-add_to : (lists : List (Place × List Place)) (p q : Place) → AreSound lists → is_listed lists p q ≡ false
-    → take_from (add_to lists p q) p q ≡ lists
-take_from-add_to lists p q sound absent = by (lookup (is_same p) lists) refl
-  where
-    filled : (qs : List Place) → lookup (is_same p) lists ≡ Some qs → 0 < length qs
-    filled [] there = absurd (sound.not_empty p there)
-    filled (r ∷ rs) there = omega arith
-
-    by : (o : Option (List Place)) → lookup (is_same p) lists ≡ o → take_from (add_to lists p q) p q ≡ lists
-    by None none =
-        let all = lists ++ (p, q ∷ []) ∷ [] in
-        let under : listed_under all p ≡ q ∷ [] =
-        ap (λ o. unwrap_or o []) (lookup-append (is_same p) lists (p, q ∷ []) none
-        ∙ ap (λ b. cond b (Some (q ∷ [])) None) (is_same-self p)) in
-        ap (λ ls. take_from ls p q) (add_to-new lists p q none)
-        ∙ (ap (λ qs. change_to all p (swap_remove_by (is_same q) qs)) under
-        ∙ (ap (change_to all p) (swap_remove_by-last (is_same q) [] q refl (is_same-self q))
-        ∙ swap_remove_by-last (λ (list : Place × List Place). is_same p list.0) lists (p, q ∷ [])
-        (no_list lists p none) (is_same-self p)))
-    by (Some qs) there =
-        let more = qs ++ q ∷ [] in
-        let all = set_value (is_same p) lists more in
-        let under : listed_under all p ≡ more =
-        ap (λ o. unwrap_or o []) (lookup-set_value (is_same p) lists more qs there) in
-        let lacks : list_any (is_same q) qs ≡ false = ap (λ o. list_any (is_same q) (unwrap_or o [])) (sym there)
-        ∙ absent in
-        ap (λ ls. take_from ls p q) (add_to-there lists p q qs there)
-        ∙ (ap (λ rs. change_to all p (swap_remove_by (is_same q) rs)) under
-        ∙ (ap (change_to all p) (swap_remove_by-last (is_same q) qs q lacks (is_same-self q))
-        ∙ (change_to-some all p qs (filled qs there)
-        ∙ (set_value-again (is_same p) lists more qs ∙ set_value-same (is_same p) lists qs there))))
-
--- an entry is added
-pub put-new : (weak : WeakMapsState) (entries : List EntryState) (by_map by_key : List (Place × List Place))
-    (m k v : Place) → value_of weak m k ≡ None → entries ≡ put_at weak.entries m k v → by_map ≡ add_to weak.by_map m k
-    → by_key ≡ add_to weak.by_key k m → record { entries = entries; by_map = by_map; by_key = by_key } ≡ put weak m k v
-put-new weak entries by_map by_key m k v none put_in in_map in_key =
-    (λ j. record { entries = put_in j; by_map = in_map j; by_key = in_key j }) ∙ sym (λ j. record {
-      entries = put_at weak.entries m k v;
-      by_map = cond (is_some (none j)) weak.by_map (add_to weak.by_map m k);
-      by_key = cond (is_some (none j)) weak.by_key (add_to weak.by_key k m);
-    })
-
--- a value is given to an entry that is there
-pub put-there : (weak : WeakMapsState) (entries : List EntryState) (m k v w : Place) → value_of weak m k ≡ Some w
-    → entries ≡ put_at weak.entries m k v → record { entries = entries; by_map = weak.by_map; by_key = weak.by_key }
-    ≡ put weak m k v
-put-there weak entries m k v w there put_in =
-    (λ j. record { entries = put_in j; by_map = weak.by_map; by_key = weak.by_key }) ∙ sym (λ j. record {
-      entries = put_at weak.entries m k v;
-      by_map = cond (is_some (there j)) weak.by_map (add_to weak.by_map m k);
-      by_key = cond (is_some (there j)) weak.by_key (add_to weak.by_key k m);
-    })
-
--- an entry is taken out, or there is none
-pub del-there : (weak : WeakMapsState) (entries : List EntryState) (by_map by_key : List (Place × List Place))
-    (m k w : Place) → value_of weak m k ≡ Some w → entries ≡ swap_remove_by (is_entry m k) weak.entries
-    → by_map ≡ take_from weak.by_map m k → by_key ≡ take_from weak.by_key k m
-    → record { entries = entries; by_map = by_map; by_key = by_key } ≡ del weak m k
-del-there weak entries by_map by_key m k w there gone in_map in_key =
-    (λ j. record { entries = gone j; by_map = in_map j; by_key = in_key j }) ∙ sym (λ j. record {
-      entries = swap_remove_by (is_entry m k) weak.entries;
-      by_map = cond (is_some (there j)) (take_from weak.by_map m k) weak.by_map;
-      by_key = cond (is_some (there j)) (take_from weak.by_key k m) weak.by_key;
-    })
-
-pub del-none : (weak : WeakMapsState) (entries : List EntryState) (m k : Place) → value_of weak m k ≡ None
-    → entries ≡ swap_remove_by (is_entry m k) weak.entries
-    → record { entries = entries; by_map = weak.by_map; by_key = weak.by_key } ≡ del weak m k
-del-none weak entries m k none gone =
-    (λ j. record { entries = gone j; by_map = weak.by_map; by_key = weak.by_key }) ∙ sym (λ j. record {
-      entries = swap_remove_by (is_entry m k) weak.entries;
-      by_map = cond (is_some (none j)) (take_from weak.by_map m k) weak.by_map;
-      by_key = cond (is_some (none j)) (take_from weak.by_key k m) weak.by_key;
-    })
-
--- the same of a table where one key has another value, or none, and of the lists after it
-pub AreTied-updated : (old new : Table) (by_map by_map' by_key by_key' : List (Place × List Place)) (m k : Place)
-    (w : Option Place)
-    → AreTied (entries_of old) by_map by_key
-    → IsDistinct is_key (keys_of new.entries)
-    → ((key : EntryKey) → lookup (is_key key) new.entries ≡ cond (is_key (record { map = m; key = k }) key) w
-    (lookup (is_key key) old.entries))
-    → ((p q : Place) → is_listed by_map' p q ≡ cond (is_same m p && is_same k q) (is_some w) (is_listed by_map p q))
-    → ((p q : Place) → is_listed by_key' p q ≡ cond (is_same k p && is_same m q) (is_some w) (is_listed by_key p q))
-    → AreSound by_map'
-    → AreSound by_key'
-    → AreTied (entries_of new) by_map' by_key'
-AreTied-updated old new by_map by_map' by_key by_key' m k w tied unique updates in_map in_key maps keys =
-    AreTied-changed (entries_of old) (entries_of new) by_map by_map' by_key by_key' m k w tied
-    (AreDistinct-entries new unique) (value_at-updated old new m k w updates) in_map in_key maps keys
-
--- and where a value was written that was there
-pub AreTied-written : (old new : Table) (by_map by_key : List (Place × List Place)) (m k v w : Place)
-    → AreTied (entries_of old) by_map by_key → IsDistinct is_key (keys_of new.entries)
-    → value_at (entries_of old) m k ≡ Some w → entries_of new ≡ put_at (entries_of old) m k v
-    → AreTied (entries_of new) by_map by_key
-AreTied-written old new by_map by_key m k v w tied unique there written =
-    AreTied-values (entries_of old) (entries_of new) by_map by_key tied (AreDistinct-entries new unique)
-    (λ n l. ap (λ es. is_some (value_at es n l)) written
-    ∙ (ap is_some (value_at-put_at (entries_of old) m k v n l) ∙ by n l (is_same m n && is_same k l) refl))
-  where
-    by : (n l : Place) (b : Bool) → (is_same m n && is_same k l) ≡ b
-        → is_some (cond b (Some v) (value_at (entries_of old) n l)) ≡ is_some (value_at (entries_of old) n l)
-    by n l true is =
-        let both = and-true (is_same m n) (is_same k l) is in
-        sym (ap is_some ((λ j. value_at (entries_of old) (sym (is_same-true m n both.0) j)
-        (sym (is_same-true k l both.1) j)) ∙ there))
-    by n l false is = refl
-
-pub AreTied-none : (entries : List EntryState) (by_map by_key : List (Place × List Place)) → entries ≡ [] → by_map ≡ []
-    → by_key ≡ [] → AreTied entries by_map by_key
-AreTied-none entries by_map by_key none no_map no_key = rw (none, no_map, no_key) record {
-  distinct = λ i j d less within. absurd (omega arith);
-  maps = empty;
-  keys = empty;
-  in_map = λ m k. refl;
-  in_key = λ m k. refl;
-}
-  where
-    empty : AreSound []
-    empty = record { distinct = λ p i j d less within. absurd (omega arith); not_empty = λ p same. cc }
+    left_of_place : (x : ℕ) → slice_get side.owners x ≡ number_of side p
+        → slice_get side.left x ≡ Some (Some colour.Black) → IsLeftOf f colour.Black p entries side.left
+    left_of_place x owned left =
+        let e = entry_left f entries side x (Some colour.Black) is left in
+        let owner = owner_of f entries side is x e.0 e.1 in
+        record {
+          number = x;
+          entry = e.0;
+          there = e.1;
+          of = is.sound.apart (f e.0) p owner.0 owner.2 (sym owned ∙ owner.1);
+          is_left = left;
+        }

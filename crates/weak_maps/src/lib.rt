@@ -15,28 +15,60 @@
 //     map first, then key     as the key is marked:   the entries of that key, by all maps
 //     key first, then map     as the map is marked:   the entries of that map, by all keys
 //
-// Hence two lists beside the table, one of each map's keys and one of each key's maps. Without the
+// Hence two lists beside the table, one of each map's entries and one of each key's. Without the
 // second, each newly marked cell would cost a walk over all entries (SpiderMonkey's weak keys table
-// is there for the same reason). An entry is reached by its place in a list, or by its place in the
-// table, in constant time, so a search that stops may go on later at a number:
+// is there for the same reason). The lists hold numbers of entries, and an entry's number is its
+// place in the table. An entry that goes leaves its number to the last one. Each entry knows where it
+// stands in both lists, so putting, finding and deleting one takes a constant number of steps:
 //
-//     table       (m1,k1) -> v1    (m2,k1) -> v2    (m1,k3) -> v3
-//     by map      m1: k1 k3        m2: k1
-//     by key      k1: m1 m2        k3: m1
+//     table       0: (m1,k1) -> v1    1: (m2,k1) -> v2    2: (m1,k3) -> v3
+//     by map      m1: 0 2             m2: 1
+//     by key      k1: 0 1             k3: 2
 //
-// An entry that goes leaves its place, here and in both lists, to the last one, so such a number is
-// of no use once an entry went. The lists always agree with the table, and an empty one is taken out.
+// Marking looks at one entry at a time. As it has followed a cell it starts that cell's two lists in
+// its colour, black or gray, and from then on each entry in them is still to be looked at. These
+// entries are the front part of the list, and a look takes the last of that part:
+//
+//     entries of one place      0  1  2  3 | 4  5  6
+//                               still to be  looked at, or
+//                               looked at    put since
+//
+// So a new entry comes last and is not looked at, an entry of the front part that goes is replaced by
+// the last one of that part, and there is nothing else that a deletion could leave wrong. An entry is
+// looked at once for its map and once for its key each time these are started. Marking starts each
+// list at most once in either colour, so an entry is looked at at most four times in a collection. A
+// list of which some entries are left in black stays in black as it is started in gray, since a look
+// does the same in either colour.
+//
+// The lists with a front part wait in a queue, one for black and one for gray. A list whose front part
+// became empty by deletions stays in its queue until the next look passes it over. Each list is in a
+// queue at most once, so there is always room, and neither starting nor looking takes memory.
 //
 // Places are given again, so an entry must not outlive a cell that it names: its new tenant would
 // be found under the old one's name. Where a group of zones ends, `drop_dead` takes out each entry
-// with a dead cell. It walks from the last entry on: what takes the place of one that goes was
-// looked at already.
+// with a dead cell. It walks from the last entry on: what takes the number of one that goes was
+// asked about already.
 //
 // Only `put` takes memory. The table changes last, once all of it is there; where the second list
-// is refused some, the key is taken out of the first again.
+// is refused some, the entry goes from the first list again. What may stay is an empty list, which no
+// caller sees, and which is used again as soon as its place has an entry.
+//
+//     colours    black and gray
+//     numbers    short lists of numbers; one number takes no memory of its own
+//     listings   the entries of one place, and how many of them are still to be looked at
+//     queues     the lists that wait
+//     seats      where each entry stands in the lists of one side
+//     sides      the entries by their maps, or by their keys
+//     tables     the entries
 #![tactic(auto)]
 
-mod lists;
+mod colours;
+mod listings;
+mod numbers;
+mod queues;
+mod seats;
+mod sides;
 mod tables;
 
+pub use colours::MarkColour;
 pub use tables::WeakMaps;

@@ -1,16 +1,13 @@
-// The entries of weak maps.
+// The table of entries, with the lists of each map and of each key.
 ghost use Rattle.std.specs.Prelude.{◌≡◌, ◌<◌, ◌≤◌, ◌+◌, ◌&&◌, Bool, true, Some, None, [], length, slice_get};
 ghost use Rattle.std.specs.Prelude.{swap_remove, is_some, IfSome, IfNone, IfOk, OnOk, OnErr, if◌then◌else◌};
 ghost use Rattle.std.specs.Option.{option_map};
-ghost use Rattle.indexmap.specs.IndexMap.{get, IsUnique};
-ghost use Rattle.gz_names.specs.declared.numbers.Place.{Place};
-ghost use Rattle.weak_maps.specs.Tables.{entries_of, is_key};
-ghost use Rattle.weak_maps.specs.declared.tables.EntryKey.{EntryKey};
 
-use crate::lists::Lists;
+use crate::colours::MarkColour;
+use crate::sides::Side;
 use gz_names::{NoMemory, Place};
 use indexmap::IndexMap;
-use std::alloc::Global;
+use std::alloc::{AllocError, Global};
 use std::marker::Model;
 use std::mem;
 
@@ -23,66 +20,70 @@ pub struct EntryKey {
     pub key: Place,
 }
 
-/// The entries of all weak maps.
+/// The entries of all weak maps, and which of them marking has still to look at. There are at most
+/// 4,294,967,295 entries (our choice; js/src/gc/WeakMap.h has a hash table in each map).
 #[derive(Drop)]
 pub struct WeakMaps {
+    // An entry's number is its index here.
     table: IndexMap<EntryKey, Place>,
-    // The keys of each map that has entries.
-    by_map: Lists,
-    // The maps of each key that has entries.
-    by_key: Lists,
+    by_map: Side,
+    by_key: Side,
 }
 
 impl Model for WeakMaps {
-    ghost use Rattle.weak_maps.specs.WeakMaps.{WeakMapsState, AreTied};
+    ghost use Rattle.weak_maps.specs.WeakMaps.{WeakMapsState, AreTied, state_of};
+    ghost use Rattle.weak_maps.specs.Tables.{entries_of};
 
     ghost Value = { WeakMapsState };
 
-    ghost use Rattle.weak_maps.specs.Tables.{entries_of};
-
-    ghost view = { λ w. record { entries = entries_of w.table; by_map = w.by_map; by_key = w.by_key } };
+    ghost view = { λ w. state_of (entries_of w.table) w.by_map w.by_key };
 
     ghost invariant = { λ w. AreTied (entries_of w.table) w.by_map w.by_key };
 }
 
 impl WeakMaps {
-    ghost use Rattle.weak_maps.specs.Lists.{is_same};
-    ghost use Rattle.weak_maps.specs.WeakMaps.{WeakMapsState, IsSound, AnswersBy, IsWithoutDead, KeepsAlive, LooksAt};
-    ghost use Rattle.weak_maps.specs.WeakMaps.{value_of, put, del, parts, listed_of_map, listed_of_key};
+    ghost use Rattle.weak_maps.specs.Places.{is_same};
+    ghost use Rattle.weak_maps.specs.WeakMaps.{WeakMapsState, AreParallel, IsSound, Carries, PutsLeft, HasLooked};
+    ghost use Rattle.weak_maps.specs.WeakMaps.{NoneLeft, AnswersBy, IsWithoutDead, KeepsAlive, LooksAt, Starts};
+    ghost use Rattle.weak_maps.specs.WeakMaps.{value_of, put_at, parts, listed_of_map, listed_of_key};
 
     /// No entries.
     pub fn new(alloc: Global) -> Self
-        ensures empty { result ≡ record { entries = []; by_map = []; by_key = [] } }
-        ensures sound { IsSound result }
+        ensures empty { result.table ≡ record { entries = []; by_map = []; by_key = [] } }
+        ensures none { result.looks ≡ record { by_map = []; by_key = [] } }
+        ensures sound { IsSound result.table }
     {
         WeakMaps {
             table: IndexMap::new(alloc),
-            by_map: Lists::new(alloc),
-            by_key: Lists::new(alloc),
+            by_map: Side::new(alloc),
+            by_key: Side::new(alloc),
         }
     }
 
     /// How many entries there are.
     pub fn count(&self) -> u64
-        ensures count { result ≡ length self.now.entries }
-        ensures sound { IsSound self.now }
+        ensures count { result ≡ length self.now.table.entries }
+        ensures parallel { AreParallel self.now }
+        ensures few { result ≤ 4294967295 }
+        ensures sound { IsSound self.now.table }
     {
         self.table.len() as u64
     }
 
     /// The value of a key in a map.
     pub fn find(&self, map: Place, key: Place) -> Option<Place>
-        ensures value { result ≡ value_of self.now map key }
-        ensures sound { IsSound self.now }
+        ensures value { result ≡ value_of self.now.table map key }
+        ensures sound { IsSound self.now.table }
     {
         self.table.get(&EntryKey { map, key }).copied()
     }
 
-    /// The map, the key and the value of an entry; none past the last.
+    /// The map, the key and the value of an entry, by its number; none past the last.
     pub fn entry(&self, index: u64) -> Option<(Place, Place, Place)>
-        ensures entry { result ≡ option_map parts (slice_get self.now.entries index) }
+        ensures entry { result ≡ option_map parts (slice_get self.now.table.entries index) }
         ensures more { IfSome result (λ _. index < 18446744073709551615) }
-        ensures sound { IsSound self.now }
+        ensures parallel { AreParallel self.now }
+        ensures sound { IsSound self.now.table }
     {
         if index >= self.count() {
             return None;
@@ -91,40 +92,44 @@ impl WeakMaps {
         Some((key.map, key.key, *value))
     }
 
-    /// The same of the entries of a map.
+    /// The map, the key and the value of an entry of a map, by its index in the map's list; none past
+    /// the last.
     pub fn entries_of_map(&self, map: Place, index: u64) -> Option<(Place, Place, Place)>
-        ensures entry { result ≡ option_map parts (slice_get (listed_of_map self.now map) index) }
+        ensures entry { result ≡ option_map parts (slice_get (listed_of_map self.now.table map) index) }
         ensures more { IfSome result (λ _. index < 18446744073709551615) }
-        ensures sound { IsSound self.now }
+        ensures sound { IsSound self.now.table }
     {
-        let key = self.by_map.get(map, index)?;
-        let value = self.find(map, key)?;
-        Some((map, key, value))
+        let entry = self.by_map.get(map, index)?;
+        self.entry(u64::from(entry))
     }
 
-    /// The same of the entries of a key.
+    /// The map, the key and the value of an entry of a key, by its index in the key's list; none past
+    /// the last.
     pub fn entries_of_key(&self, key: Place, index: u64) -> Option<(Place, Place, Place)>
-        ensures entry { result ≡ option_map parts (slice_get (listed_of_key self.now key) index) }
+        ensures entry { result ≡ option_map parts (slice_get (listed_of_key self.now.table key) index) }
         ensures more { IfSome result (λ _. index < 18446744073709551615) }
-        ensures sound { IsSound self.now }
+        ensures sound { IsSound self.now.table }
     {
-        let map = self.by_key.get(key, index)?;
-        let value = self.find(map, key)?;
-        Some((map, key, value))
+        let entry = self.by_key.get(key, index)?;
+        self.entry(u64::from(entry))
     }
 
-    /// Gives a value to a key of a map, and answers the one it had. Only a new entry takes memory.
+    /// Gives a value to a key of a map, and answers the one it had. Only a new entry takes memory, and
+    /// where none is left, or there are 4,294,967,295 entries, nothing has changed. A new entry is not
+    /// to be looked at.
     pub fn put(&mut self, map: Place, key: Place, value: Place) -> Result<Option<Place>, NoMemory>
-        ensures old { IfOk result (λ old. old ≡ value_of self.old map key) }
-        ensures put { OnOk result (self.new ≡ put self.old map key value) }
-        ensures found { OnOk result ((m k : Place) → value_of self.new m k
-            ≡ (if is_same map m && is_same key k then Some value else value_of self.old m k)) }
-        ensures count { OnOk result (length self.new.entries
-            ≡ length self.old.entries
-            + (if is_some (value_of self.old map key) then 0 else 1)) }
-        ensures sound { OnOk result (IsSound self.new) }
+        ensures old { IfOk result (λ old. old ≡ value_of self.old.table map key) }
+        ensures entries { OnOk result (self.new.table.entries ≡ put_at self.old.table.entries map key value) }
+        ensures found { OnOk result ((m k : Place) → value_of self.new.table m k
+            ≡ (if is_same map m && is_same key k then Some value else value_of self.old.table m k)) }
+        ensures count { OnOk result (length self.new.table.entries
+            ≡ length self.old.table.entries
+            + (if is_some (value_of self.old.table map key) then 0 else 1)) }
+        ensures left { OnOk result (PutsLeft (value_of self.old.table map key) self.old.looks self.new.looks) }
+        ensures parallel { AreParallel self.new }
+        ensures sound { IsSound self.new.table }
         ensures err { OnErr result (self.new ≡ self.old) }
-        ensures wanted { OnErr result (value_of self.old map key ≡ None) }
+        ensures wanted { OnErr result (value_of self.old.table map key ≡ None) }
     {
         if let Some(old) = self.table.get_mut(&EntryKey { map, key }) {
             return Ok(Some(mem::replace(old, value)));
@@ -135,53 +140,64 @@ impl WeakMaps {
 
     // Adds an entry, which is not there.
     fn add(&mut self, map: Place, key: Place, value: Place) -> Result<(), NoMemory>
-        requires absent { value_of self.old map key ≡ None }
-        ensures put { OnOk result (self.new ≡ put self.old map key value) }
-        ensures sound { OnOk result (IsSound self.new) }
+        requires absent { value_of self.old.table map key ≡ None }
+        ensures entries { OnOk result (self.new.table.entries ≡ put_at self.old.table.entries map key value) }
+        ensures left { OnOk result (PutsLeft None self.old.looks self.new.looks) }
+        ensures parallel { AreParallel self.new }
+        ensures sound { IsSound self.new.table }
         ensures err { OnErr result (self.new ≡ self.old) }
     {
+        let entry = self.table.len();
+        if entry >= u32::MAX as usize {
+            return Err(AllocError);
+        }
         self.table.reserve(1)?;
-        self.by_map.add(map, key)?;
-        match self.by_key.add(key, map) {
+        self.by_map.add(map)?;
+        match self.by_key.add(key) {
             Ok(()) => {
                 self.table.insert(EntryKey { map, key }, value)?;
                 Ok(())
             }
             Err(refused) => {
-                self.by_map.take(map, key);
+                self.by_map.undo_add();
                 Err(refused)
             }
         }
     }
 
-    /// Takes an entry out, and answers the value that was there.
+    /// Takes an entry out, and answers the value that was there. The last entry has its number then.
+    /// The others are still to be looked at as they were.
     pub fn del(&mut self, map: Place, key: Place) -> Option<Place>
-        ensures old { result ≡ value_of self.old map key }
-        ensures del { self.new ≡ del self.old map key }
-        ensures found { (m k : Place) → value_of self.new m k
-            ≡ (if is_same map m && is_same key k then None else value_of self.old m k) }
-        ensures count { length self.new.entries + (if is_some result then 1 else 0)
-            ≡ length self.old.entries }
-        ensures sound { IsSound self.new }
+        ensures old { result ≡ value_of self.old.table map key }
+        ensures found { (m k : Place) → value_of self.new.table m k
+            ≡ (if is_same map m && is_same key k then None else value_of self.old.table m k) }
+        ensures count { length self.new.table.entries + (if is_some result then 1 else 0)
+            ≡ length self.old.table.entries }
+        ensures carries { Carries self.old self.new }
+        ensures parallel { AreParallel self.new }
+        ensures sound { IsSound self.new.table }
     {
-        let value = self.table.swap_remove(&EntryKey { map, key })?;
-        self.by_map.take(map, key);
-        self.by_key.take(key, map);
-        Some(value)
+        let entry = self.table.get_index_of(&EntryKey { map, key })?;
+        let value = self.find(map, key);
+        self.take_at(entry as u64);
+        value
     }
 
-    /// Takes out the entries whose map, key or value is dead. The others may change their order.
+    /// Takes out the entries whose map, key or value is dead. The others may change their numbers, and
+    /// are still to be looked at as they were.
     pub fn drop_dead<D: Fn(Place) -> bool + Drop>(&mut self, dead: D)
         requires { D.IsAlwaysCallable dead }
         ensures dropped { (is_dead : Place → Bool) → AnswersBy (D.post dead) is_dead
-            → IsWithoutDead is_dead self.old self.new }
+            → IsWithoutDead is_dead self.old.table self.new.table }
 
-        // The same of a test that may answer this or that.
-        ensures kept { KeepsAlive (D.post dead) self.old.entries self.new.entries }
-        ensures fewer { length self.new.entries ≤ length self.old.entries }
-        ensures sound { IsSound self.new }
+        // What holds of a test that may answer this or that.
+        ensures kept { KeepsAlive (D.post dead) self.old.table.entries self.new.table.entries }
+        ensures fewer { length self.new.table.entries ≤ length self.old.table.entries }
+        ensures carries { Carries self.old self.new }
+        ensures parallel { AreParallel self.new }
+        ensures sound { IsSound self.new.table }
     {
-        // From the last on: where one is taken out, the last, which was looked at, takes its place.
+        // From the last on: where one is taken out, the last, which was asked about, takes its number.
         for index in (0..self.count()).rev() {
             self.drop_if_dead(index, &dead);
         }
@@ -190,8 +206,10 @@ impl WeakMaps {
     // Takes out an entry if its map, its key or its value is dead.
     fn drop_if_dead<D: Fn(Place) -> bool>(&mut self, index: u64, dead: &D)
         requires { D.IsAlwaysCallable dead.now }
-        ensures looked { LooksAt (D.post dead.now) index self.old.entries self.new.entries }
-        ensures sound { IsSound self.new }
+        ensures looked { LooksAt (D.post dead.now) index self.old.table.entries self.new.table.entries }
+        ensures carries { Carries self.old self.new }
+        ensures parallel { AreParallel self.new }
+        ensures sound { IsSound self.new.table }
     {
         if let Some((map, key, value)) = self.entry(index) {
             if dead(map) || dead(key) || dead(value) {
@@ -200,32 +218,59 @@ impl WeakMaps {
         }
     }
 
-    // Takes an entry out; the last stands in its place.
+    // Takes an entry out; the last has its number then.
     fn take_at(&mut self, index: u64)
-        ensures taken { IfSome (slice_get self.old.entries index) (λ entry.
-            self.new.entries ≡ swap_remove self.old.entries index entry) }
-        ensures sound { IsSound self.new }
+        ensures taken { IfSome (slice_get self.old.table.entries index) (λ entry.
+            self.new.table.entries ≡ swap_remove self.old.table.entries index entry) }
+        ensures found { IfSome (slice_get self.old.table.entries index) (λ entry. (m k : Place)
+            → value_of self.new.table m k ≡ (if is_same entry.map m && is_same entry.key k then None
+            else value_of self.old.table m k)) }
+        ensures carries { Carries self.old self.new }
+        ensures parallel { AreParallel self.new }
+        ensures sound { IsSound self.new.table }
     {
-        if let Some(key) = take_entry(&mut self.table, index) {
-            self.by_map.take(key.map, key.key);
-            self.by_key.take(key.key, key.map);
+        if index < self.count() {
+            self.table.swap_remove_index(index as usize);
+            self.by_map.take(index as u32);
+            self.by_key.take(index as u32);
         }
     }
-}
 
-// Takes an entry out of a table, and answers what it was found by.
-fn take_entry(table: &mut IndexMap<EntryKey, Place>, index: u64) -> Option<EntryKey>
-    ensures key { result ≡ option_map (λ entry. entry.0) (slice_get table.old.entries index) }
-    ensures taken { IfSome (slice_get (entries_of table.old) index) (λ entry.
-        entries_of table.new ≡ swap_remove (entries_of table.old) index entry) }
-    ensures found { IfSome result (λ key. is_some (get is_key table.old key) ≡ true) }
-    ensures updates { IfSome result (λ key. (other : EntryKey) → get is_key table.new other
-        ≡ (if is_key key other then None else get is_key table.old other)) }
-    ensures none { IfNone result (table.new.entries ≡ table.old.entries) }
-    ensures unique { IsUnique is_key table.new }
-{
-    let (key, _) = table.swap_remove_index(index as usize)?;
-    Some(key)
+    /// Marking has followed a cell in a colour: the entries of which it is the map or the key are still
+    /// to be looked at for it, in that colour, or in black where some of them are so already. It takes
+    /// no memory.
+    pub fn start(&mut self, colour: MarkColour, place: Place)
+        ensures table { self.new.table ≡ self.old.table }
+        ensures map { Starts (λ entry. entry.map) colour place self.old.table.entries self.old.looks.by_map
+            self.new.looks.by_map }
+        ensures key { Starts (λ entry. entry.key) colour place self.old.table.entries self.old.looks.by_key
+            self.new.looks.by_key }
+        ensures parallel { AreParallel self.new }
+        ensures sound { IsSound self.new.table }
+    {
+        self.by_map.start(colour, place);
+        self.by_key.start(colour, place);
+    }
+
+    /// Takes the next entry that is still to be looked at in a colour, first of those that are so for
+    /// their maps, then for their keys; none where nothing is left in that colour. It takes no memory.
+    /// Lists that deletions have emptied are passed over, each once.
+    pub fn next_left(&mut self, colour: MarkColour) -> Option<(Place, Place, Place)>
+        ensures table { self.new.table ≡ self.old.table }
+        ensures some { IfSome result (λ entry.
+            HasLooked colour entry self.old.table.entries self.old.looks self.new.looks) }
+        ensures none { IfNone result ((self.new.looks ≡ self.old.looks) × NoneLeft colour self.old.looks) }
+        ensures parallel { AreParallel self.new }
+        ensures sound { IsSound self.new.table }
+    {
+        match self.by_map.next(colour) {
+            Some(entry) => self.entry(u64::from(entry)),
+            None => {
+                let entry = self.by_key.next(colour)?;
+                self.entry(u64::from(entry))
+            }
+        }
+    }
 }
 
 #[cfg(test)]
@@ -279,6 +324,59 @@ mod tests {
         weak.drop_dead(|place: Place| place.arena() == 2);
         assert_eq!(rt; weak.count(), 1);
         assert_eq!(rt; weak.entry(0), Some((map, map, map)));
+        Ok(())
+    }
+
+    #[test]
+    fn looks_once_for_map_and_once_for_key(rt: HostRuntime) -> Result<(), Fail> {
+        let map = Place::new(1, 0).ok_or("map")?;
+        let key = Place::new(2, 63).ok_or("key")?;
+        let mut weak = WeakMaps::new(rt.alloc());
+        weak.put(map, key, map)?;
+        assert_eq!(rt; weak.next_left(MarkColour::Black), None);
+        weak.start(MarkColour::Black, map);
+        weak.start(MarkColour::Black, key);
+        assert_eq!(rt; weak.next_left(MarkColour::Gray), None);
+        assert_eq!(rt; weak.next_left(MarkColour::Black), Some((map, key, map)));
+        assert_eq!(rt; weak.next_left(MarkColour::Black), Some((map, key, map)));
+        assert_eq!(rt; weak.next_left(MarkColour::Black), None);
+        Ok(())
+    }
+
+    #[test]
+    fn keeps_what_is_left_as_entries_go(rt: HostRuntime) -> Result<(), Fail> {
+        let map = Place::new(1, 0).ok_or("map")?;
+        let first = Place::new(2, 1).ok_or("first")?;
+        let second = Place::new(2, 2).ok_or("second")?;
+        let third = Place::new(2, 3).ok_or("third")?;
+        let mut weak = WeakMaps::new(rt.alloc());
+        weak.put(map, first, map)?;
+        weak.put(map, second, map)?;
+        weak.start(MarkColour::Gray, map);
+        weak.put(map, third, map)?;
+        assert_eq!(rt; weak.next_left(MarkColour::Gray), Some((map, second, map)));
+        assert_eq!(rt; weak.del(map, second), Some(map));
+        assert_eq!(rt; weak.next_left(MarkColour::Gray), Some((map, first, map)));
+        assert_eq!(rt; weak.next_left(MarkColour::Gray), None);
+        weak.start(MarkColour::Gray, map);
+        assert_eq!(rt; weak.del(map, first), Some(map));
+        assert_eq!(rt; weak.next_left(MarkColour::Gray), Some((map, third, map)));
+        assert_eq!(rt; weak.next_left(MarkColour::Gray), None);
+        Ok(())
+    }
+
+    #[test]
+    fn black_comes_before_gray(rt: HostRuntime) -> Result<(), Fail> {
+        let map = Place::new(1, 0).ok_or("map")?;
+        let key = Place::new(2, 63).ok_or("key")?;
+        let mut weak = WeakMaps::new(rt.alloc());
+        weak.put(map, key, map)?;
+        weak.start(MarkColour::Gray, map);
+        weak.start(MarkColour::Black, map);
+        weak.start(MarkColour::Gray, map);
+        assert_eq!(rt; weak.next_left(MarkColour::Gray), None);
+        assert_eq!(rt; weak.next_left(MarkColour::Black), Some((map, key, map)));
+        assert_eq!(rt; weak.next_left(MarkColour::Gray), None);
         Ok(())
     }
 }

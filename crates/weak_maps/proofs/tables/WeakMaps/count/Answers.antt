@@ -5,8 +5,4 @@ use Rattle.weak_maps.proofs.tables.WeakMaps.count.Goals as goal
 pub returns-clause-sound : goal.returns-clause-sound
 returns-clause-sound c =
     rw (← c.self.view_is)
-    (IsSound-from_tied (record {
-      entries = entries_of c.self.inside.table;
-      by_map = c.self.inside.by_map;
-      by_key = c.self.inside.by_key;
-    }) c.self.invariant)
+    (IsSound-from_tied (entries_of c.self.inside.table) c.self.inside.by_map c.self.inside.by_key c.self.invariant)

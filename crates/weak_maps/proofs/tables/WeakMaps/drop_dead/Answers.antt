@@ -1,23 +1,33 @@
 use Rattle.std.proofs.Common.{◌-◌, arith}
 use Rattle.weak_maps.proofs.Walking.{Walked-none, Walked-more, KeepsAlive-walked, IsWithoutDead-kept}
+use Rattle.weak_maps.proofs.Tying.{Carries-same, Carries-trans}
 use Rattle.weak_maps.proofs.tables.WeakMaps.drop_dead.Goals as goal
 
 pub loop-index-init : goal.loop-index-init
-loop-index-init g c = Walked-none _ c.args.self.now c.count-index.result c.count-index.ensures.count
-    c.count-index.ensures.sound
+loop-index-init g c = record {
+  walked = Walked-none _ c.args.self.now.table c.count-index.result c.count-index.ensures.count
+      c.count-index.ensures.sound;
+  parallel = c.count-index.ensures.parallel;
+  carries = Carries-same c.args.self.now;
+}
 
 pub loop-index-preserved : goal.loop-index-preserved
-loop-index-preserved g c = Walked-more _ c.args.self.now c.loop-index.self c.drop_if_dead.new.self c.loop-index.index
-    (c.loop-index.index - 1) (omega arith) c.loop-index.invariant c.drop_if_dead.ensures.looked
-    c.drop_if_dead.ensures.sound
+loop-index-preserved g c = record {
+  walked = Walked-more _ c.args.self.now.table c.loop-index.self.table c.drop_if_dead.new.self.table c.loop-index.index
+      (c.loop-index.index - 1) (omega arith) c.loop-index.invariant.walked c.drop_if_dead.ensures.looked
+      c.drop_if_dead.ensures.sound;
+  parallel = c.drop_if_dead.ensures.parallel;
+  carries = Carries-trans c.args.self.now c.loop-index.self c.drop_if_dead.new.self c.loop-index.invariant.carries
+      c.drop_if_dead.ensures.carries;
+}
 
 pub returns-clause-kept : goal.returns-clause-kept
-returns-clause-kept g c = KeepsAlive-walked _ c.args.self.now c.loop-index.self c.loop-index.index
-    c.loop-index-test.false c.loop-index.invariant
+returns-clause-kept g c = KeepsAlive-walked _ c.args.self.now.table c.loop-index.self.table c.loop-index.index
+    c.loop-index-test.false c.loop-index.invariant.walked
 
 pub returns-clause-dropped : goal.returns-clause-dropped
 returns-clause-dropped g c = λ is_dead says.
-    IsWithoutDead-kept _ is_dead c.args.self.now c.loop-index.self says c.count-index.ensures.sound
-    c.loop-index.invariant.sound
-    (KeepsAlive-walked _ c.args.self.now c.loop-index.self c.loop-index.index c.loop-index-test.false
-    c.loop-index.invariant)
+    IsWithoutDead-kept _ is_dead c.args.self.now.table c.loop-index.self.table says c.count-index.ensures.sound
+    c.loop-index.invariant.walked.sound
+    (KeepsAlive-walked _ c.args.self.now.table c.loop-index.self.table c.loop-index.index c.loop-index-test.false
+    c.loop-index.invariant.walked)

@@ -1,34 +1,39 @@
-use Rattle.std.proofs.Common.{◌∙◌, is_some, sym, ap}
-use Rattle.std.proofs.lemmas.Bool.{false≢true}
-use Rattle.weak_maps.specs.Lists.{listed_under}
+use Rattle.std.proofs.Common.{◌∙◌, sym, arith}
 use Rattle.weak_maps.specs.Tables.{entries_of}
-use Rattle.weak_maps.proofs.Table.{is_listed-at, parts-of_key}
-use Rattle.weak_maps.proofs.Sound.{IsSound-from_tied}
+use Rattle.weak_maps.proofs.Sound.{IsSound-from_tied, list_of-side, listed_entry}
+use Rattle.weak_maps.proofs.Listed.{listed_none, parts-numbered, IfSome_each}
 use Rattle.weak_maps.proofs.tables.WeakMaps.entries_of_key.Goals as goal
 
-pub returns-in_err-map-clause-sound : goal.returns-in_err-map-clause-sound
-returns-in_err-map-clause-sound c =
+pub returns-in_err-entry-clause-sound : goal.returns-in_err-entry-clause-sound
+returns-in_err-entry-clause-sound c =
     rw (← c.self.view_is)
-    (IsSound-from_tied (record {
-      entries = entries_of c.self.inside.table;
-      by_map = c.self.inside.by_map;
-      by_key = c.self.inside.by_key;
-    }) c.self.invariant)
-
-pub returns-in_err-value-clause-entry : goal.returns-in_err-value-clause-entry
-returns-in_err-value-clause-entry c =
-    let none = rw (← c.self.view_is) at c.in_err-value.ensures.value in
-    let here = is_listed-at c.self.inside.by_key c.args.key c.in_ok-map.map c.args.index (sym c.in_ok-map.ensures.place)
-    in
-    absurd (false≢true (ap is_some none ∙ (sym (c.self.invariant.in_key c.in_ok-map.map c.args.key) ∙ here)))
+    (IsSound-from_tied (entries_of c.self.inside.table) c.self.inside.by_map c.self.inside.by_key c.self.invariant)
 
 pub returns-clause-entry : goal.returns-clause-entry
 returns-clause-entry c =
-    let value = rw (← c.self.view_is) at c.in_ok-value.ensures.value in
-    rw (← c.self.view_is)
-    (parts-of_key (record {
-      entries = entries_of c.self.inside.table;
-      by_map = c.self.inside.by_map;
-      by_key = c.self.inside.by_key;
-    }) c.in_ok-map.map c.args.key c.in_ok-value.value
-    (listed_under c.self.inside.by_key c.args.key) c.args.index (sym c.in_ok-map.ensures.place) (sym value))
+    let number = sym c.in_ok-entry.ensures.entry in
+    let found = listed_entry (λ e. e.key) (entries_of c.self.inside.table) c.self.inside.by_key c.self.invariant.keys
+    c.args.key c.args.index c.in_ok-entry.entry number in
+    c.entry.ensures.entry
+    ∙ rw (
+      c.from.ensures,
+      ← c.self.view_is,
+      list_of-side (λ e. e.key) (entries_of c.self.inside.table) c.self.inside.by_key c.self.invariant.keys
+          c.args.key,
+    ) (parts-numbered (entries_of c.self.inside.table) c.args.key _ c.args.index c.in_ok-entry.entry
+    found.0 number found.1)
+
+pub returns-in_err-entry-clause-entry : goal.returns-in_err-entry-clause-entry
+returns-in_err-entry-clause-entry c =
+    c.from_residual.ensures
+    ∙ rw (
+      ← c.self.view_is,
+      list_of-side (λ e. e.key) (entries_of c.self.inside.table) c.self.inside.by_key
+          c.self.invariant.keys c.args.key,
+    )
+    (listed_none (entries_of c.self.inside.table) c.args.key _ c.args.index (sym c.in_err-entry.ensures.entry))
+
+pub returns-clause-more : goal.returns-clause-more
+returns-clause-more c =
+    let few = c.in_ok-entry.ensures.few in
+    IfSome_each c.entry.result (omega (arith, few))
