@@ -13,7 +13,7 @@ use Rattle.gz_names.specs.declared.replies.Refusal.TheVariants as refusal
 use Rattle.gz_names.specs.Order.{same_name}
 use Rattle.arena_table.specs.Cells.{CellState}
 use Rattle.weak_maps.specs.Lists.{is_same}
-use Rattle.weak_maps.specs.WeakMaps.{WeakMapsState, put, del, value_of}
+use Rattle.weak_maps.specs.WeakMaps.{WeakMapsState, value_of}
 use Rattle.colour_defs.specs.declared.graph.Entry.{Entry}
 use Rattle.colour_defs.specs.Graph as graph
 use Rattle.colour_defs.specs.Graph.{GraphState, object_of, register_cell, value_in}
@@ -25,7 +25,7 @@ use Rattle.colour_defs.proofs.Names.{same_name-is, same_name-refl}
 use Rattle.colour_defs.proofs.Entries.{put_found, put_other, del_gone, del_cases, del_keeps}
 use Rattle.heap_core.specs.Shape.{IsPresent, cell_of, held_name, name_at}
 use Rattle.heap_core.specs.Heap.{HeapState, reg_of}
-use Rattle.heap_core.specs.Changes.{with_entry, without_entry}
+use Rattle.heap_core.specs.Changes.{IsWith, IsWithout}
 use Rattle.heap_core.specs.Shows.{Shows, IsWrapperOf, is_map, is_wrapper}
 use Rattle.heap_core.specs.Answers.{DoesStep}
 use Rattle.heap_core.specs.Lookups.{Hands, IsEntry, IsNoEntry, entry_refusal, entry_refusal_in, key_refusal, refusal_by}
@@ -234,148 +234,153 @@ module _ (h : HeapState) (g : GraphState) (m k v : Place) (x y z : Name) (s : Sh
     s.apart k b y ky (bq ∙ ap (λ (n : Name). Some n) (sym yq)),
   )
 
-  module _ (found : (a b : Place) → value_of (put h.shape.weak m k v) a b ≡ cond (is_same m a && is_same k b) (Some v)
-      (value_of h.shape.weak a b)) where
-    here : value_of (put h.shape.weak m k v) m k ≡ Some v
-    here = found m k ∙ ap (λ (b : Bool). cond b (Some v) (value_of h.shape.weak m k)) (pair_same m k)
+  module _ (weak : WeakMapsState)
+      (found : (a b : Place)
+      → value_of weak a b ≡ cond (is_same m a && is_same k b) (Some v) (value_of h.shape.weak a b))
+    where
+      here : value_of weak m k ≡ Some v
+      here = found m k ∙ ap (λ (b : Bool). cond b (Some v) (value_of h.shape.weak m k)) (pair_same m k)
 
-    others : (a b : Place) → (is_same m a && is_same k b) ≡ false → value_of (put h.shape.weak m k v) a b
-        ≡ value_of h.shape.weak a b
-    others a b e = found a b ∙ ap (λ (t : Bool). cond t (Some v) (value_of h.shape.weak a b)) e
+      others : (a b : Place) → (is_same m a && is_same k b) ≡ false → value_of weak a b
+          ≡ value_of h.shape.weak a b
+      others a b e = found a b ∙ ap (λ (t : Bool). cond t (Some v) (value_of h.shape.weak a b)) e
 
-    put_held : (a b w : Place) → value_of (put h.shape.weak m k v) a b ≡ Some w → IsPresent h.shape a
-        × IsPresent h.shape b × IsPresent h.shape w
-    put_held a b w e = elim (pairs m k a b) [
-      | inl is ↦ (let mine : v ≡ w =
-          cc (sym here ∙ ap (λ (r : Place). value_of (put h.shape.weak m k v) r k) is.0
-          ∙ ap (value_of (put h.shape.weak m k v) a) is.1 ∙ e) in (
-            subst (IsPresent h.shape) is.0 there.0,
-            subst (IsPresent h.shape) is.1 there.1,
-            subst (IsPresent h.shape) mine there.2,
-          ))
-      | inr apart ↦ s.entries_held a b w (sym (others a b apart) ∙ e)
-    ]
-
-    put_are : (a b w : Place) (p q u : Name) → value_of (put h.shape.weak m k v) a b ≡ Some w
-        → name_at h.shape a ≡ Some p → name_at h.shape b ≡ Some q → name_at h.shape w ≡ Some u
-        → value_in (step.put_entry g.entries x y z) p q ≡ Some u
-    put_are a b w p q u e ap_ bq wu = elim (pairs m k a b) [
-      | inl is ↦ (let mine : v ≡ w =
-          cc (sym here ∙ ap (λ (r : Place). value_of (put h.shape.weak m k v) r k) is.0
-          ∙ ap (value_of (put h.shape.weak m k v) a) is.1 ∙ e) in
-          let n = names_same a b p q ap_ bq is.0 is.1 in
-          let zu : z ≡ u = cc (sym vz ∙ ap (name_at h.shape) mine ∙ wu) in
-          ap (λ (r : Name). value_in (step.put_entry g.entries x y z) r q) (sym n.0)
-          ∙ ap (value_in (step.put_entry g.entries x y z) x) (sym n.1) ∙ put_found g.entries x y z
-          ∙ ap (λ (r : Name). Some r) zu)
-      | inr apart ↦ elim (put_other g.entries x y z p q) [
-        | inl same ↦ same ∙ s.entries_are a b w p q u (sym (others a b apart) ∙ e) ap_ bq wu
-        | inr is ↦ (let one = places_same a b p q ap_ bq is.0 is.1 in
-            let yes_same : (is_same m a && is_same k b) ≡ true =
-            ap (λ (r : Place). is_same m r && is_same k b) (sym one.0)
-            ∙ ap (λ (r : Place). is_same m m && is_same k r) (sym one.1) ∙ pair_same m k in
-            absurd (cc (apart, yes_same)))
+      put_held : (a b w : Place) → value_of weak a b ≡ Some w → IsPresent h.shape a
+          × IsPresent h.shape b × IsPresent h.shape w
+      put_held a b w e = elim (pairs m k a b) [
+        | inl is ↦ (let mine : v ≡ w =
+            cc (sym here ∙ ap (λ (r : Place). value_of weak r k) is.0
+            ∙ ap (value_of weak a) is.1 ∙ e) in (
+              subst (IsPresent h.shape) is.0 there.0,
+              subst (IsPresent h.shape) is.1 there.1,
+              subst (IsPresent h.shape) mine there.2,
+            ))
+        | inr apart ↦ s.entries_held a b w (sym (others a b apart) ∙ e)
       ]
-    ]
 
-    put_known : (p q u : Name) → value_in (step.put_entry g.entries x y z) p q ≡ Some u → (a : Place) × (b : Place)
-        × (w : Place) × (value_of (put h.shape.weak m k v) a b ≡ Some w) × (name_at h.shape a ≡ Some p)
-        × (name_at h.shape b ≡ Some q) × (name_at h.shape w ≡ Some u)
-    put_known p q u e = elim (name_pairs x y p q) [
-      | inl is ↦ (let zu : z ≡ u =
-          cc (sym (put_found g.entries x y z) ∙ ap (λ (r : Name). value_in (step.put_entry g.entries x y z) r y) is.0
-          ∙ ap (value_in (step.put_entry g.entries x y z) p) is.1 ∙ e) in (
-            m,
-            k,
-            v,
-            here,
-            mx ∙ ap (λ (r : Name). Some r) is.0,
-            ky ∙ ap (λ (r : Name). Some r) is.1,
-            vz ∙ ap (λ (r : Name). Some r) zu,
-          ))
-      | inr apart ↦ elim (put_other g.entries x y z p q) [
-        | inr is ↦ absurd (apart is)
-        | inl same ↦ (let old = s.entries_known p q u (sym same ∙ e) in
-            elim (pairs m k old.0 old.1) [
-              | inl is ↦ absurd (apart (names_same old.0 old.1 p q old.4 old.5 is.0 is.1))
-              | inr ne ↦ (old.0, old.1, old.2, others old.0 old.1 ne ∙ old.3, old.4, old.5, old.6)
-            ])
-      ]
-    ]
-
-    pub shows-put : Shows (with_entry h m k v) (record g { entries = step.put_entry g.entries x y z })
-    shows-put = shows-entries h g (put h.shape.weak m k v) (step.put_entry g.entries x y z) s put_held put_are put_known
-
-  module _ (found : (a b : Place)
-      → value_of (del h.shape.weak m k) a b ≡ cond (is_same m a && is_same k b) None (value_of h.shape.weak a b)) where
-    gone : value_of (del h.shape.weak m k) m k ≡ None
-    gone = found m k ∙ ap (λ (b : Bool). cond b None (value_of h.shape.weak m k)) (pair_same m k)
-
-    kept : (a b w : Place) → value_of (del h.shape.weak m k) a b ≡ Some w → ((is_same m a && is_same k b) ≡ false)
-        × (value_of h.shape.weak a b ≡ Some w)
-    kept a b w e = elim (pairs m k a b) [
-      | inl is ↦ (let none : value_of (del h.shape.weak m k) a b ≡ None =
-          ap (λ (r : Place). value_of (del h.shape.weak m k) r b) (sym is.0)
-          ∙ ap (value_of (del h.shape.weak m k) m) (sym is.1) ∙ gone in absurd (cc (none, e)))
-      | inr apart ↦ (
-        apart,
-        sym (ap (λ (t : Bool). cond t None (value_of h.shape.weak a b)) apart) ∙ sym (found a b)
-            ∙ e,
-      )
-    ]
-
-    del_are : (a b w : Place) (p q u : Name) → value_of (del h.shape.weak m k) a b ≡ Some w → name_at h.shape a ≡ Some p
-        → name_at h.shape b ≡ Some q → name_at h.shape w ≡ Some u → value_in (step.del_entry g.entries x y) p q ≡ Some u
-    del_are a b w p q u e ap_ bq wu =
-        let old = kept a b w e in
-        elim (del_cases g.entries x y p q) [
-          | inl same ↦ same ∙ s.entries_are a b w p q u old.1 ap_ bq wu
+      put_are : (a b w : Place) (p q u : Name) → value_of weak a b ≡ Some w
+          → name_at h.shape a ≡ Some p → name_at h.shape b ≡ Some q → name_at h.shape w ≡ Some u
+          → value_in (step.put_entry g.entries x y z) p q ≡ Some u
+      put_are a b w p q u e ap_ bq wu = elim (pairs m k a b) [
+        | inl is ↦ (let mine : v ≡ w =
+            cc (sym here ∙ ap (λ (r : Place). value_of weak r k) is.0
+            ∙ ap (value_of weak a) is.1 ∙ e) in
+            let n = names_same a b p q ap_ bq is.0 is.1 in
+            let zu : z ≡ u = cc (sym vz ∙ ap (name_at h.shape) mine ∙ wu) in
+            ap (λ (r : Name). value_in (step.put_entry g.entries x y z) r q) (sym n.0)
+            ∙ ap (value_in (step.put_entry g.entries x y z) x) (sym n.1) ∙ put_found g.entries x y z
+            ∙ ap (λ (r : Name). Some r) zu)
+        | inr apart ↦ elim (put_other g.entries x y z p q) [
+          | inl same ↦ same ∙ s.entries_are a b w p q u (sym (others a b apart) ∙ e) ap_ bq wu
           | inr is ↦ (let one = places_same a b p q ap_ bq is.0 is.1 in
               let yes_same : (is_same m a && is_same k b) ≡ true =
               ap (λ (r : Place). is_same m r && is_same k b) (sym one.0)
               ∙ ap (λ (r : Place). is_same m m && is_same k r) (sym one.1) ∙ pair_same m k in
-              let no_same = old.0 in
-              absurd (cc (no_same, yes_same)))
+              absurd (cc (apart, yes_same)))
         ]
+      ]
 
-    del_known : (p q u : Name) → value_in (step.del_entry g.entries x y) p q ≡ Some u → (a : Place) × (b : Place)
-        × (w : Place) × (value_of (del h.shape.weak m k) a b ≡ Some w) × (name_at h.shape a ≡ Some p)
-        × (name_at h.shape b ≡ Some q) × (name_at h.shape w ≡ Some u)
-    del_known p q u e =
-        let old = s.entries_known p q u (del_keeps g.entries x y p q u e) in
-        elim (pairs m k old.0 old.1) [
-          | inl is ↦ (let n = names_same old.0 old.1 p q old.4 old.5 is.0 is.1 in
-              let none : value_in (step.del_entry g.entries x y) p q ≡ None =
-              ap (λ (r : Name). value_in (step.del_entry g.entries x y) r q) (sym n.0)
-              ∙ ap (value_in (step.del_entry g.entries x y) x) (sym n.1) ∙ del_gone g.entries x y in
-              absurd (cc (none, e)))
-          | inr ne ↦ (
-            old.0,
-            old.1,
-            old.2,
-            found old.0 old.1 ∙ ap (λ (t : Bool). cond t None (value_of h.shape.weak old.0 old.1)) ne ∙ old.3,
-            old.4,
-            old.5,
-            old.6,
-          )
+      put_known : (p q u : Name) → value_in (step.put_entry g.entries x y z) p q ≡ Some u → (a : Place) × (b : Place)
+          × (w : Place) × (value_of weak a b ≡ Some w) × (name_at h.shape a ≡ Some p)
+          × (name_at h.shape b ≡ Some q) × (name_at h.shape w ≡ Some u)
+      put_known p q u e = elim (name_pairs x y p q) [
+        | inl is ↦ (let zu : z ≡ u =
+            cc (sym (put_found g.entries x y z) ∙ ap (λ (r : Name). value_in (step.put_entry g.entries x y z) r y) is.0
+            ∙ ap (value_in (step.put_entry g.entries x y z) p) is.1 ∙ e) in (
+              m,
+              k,
+              v,
+              here,
+              mx ∙ ap (λ (r : Name). Some r) is.0,
+              ky ∙ ap (λ (r : Name). Some r) is.1,
+              vz ∙ ap (λ (r : Name). Some r) zu,
+            ))
+        | inr apart ↦ elim (put_other g.entries x y z p q) [
+          | inr is ↦ absurd (apart is)
+          | inl same ↦ (let old = s.entries_known p q u (sym same ∙ e) in
+              elim (pairs m k old.0 old.1) [
+                | inl is ↦ absurd (apart (names_same old.0 old.1 p q old.4 old.5 is.0 is.1))
+                | inr ne ↦ (old.0, old.1, old.2, others old.0 old.1 ne ∙ old.3, old.4, old.5, old.6)
+              ])
         ]
+      ]
 
-    pub shows-del : Shows (without_entry h m k) (record g { entries = step.del_entry g.entries x y })
-    shows-del = shows-entries h g (del h.shape.weak m k) (step.del_entry g.entries x y) s
-        (λ a b w e. s.entries_held a b w (kept a b w e).1) del_are del_known
+      pub shows-put : Shows (record h { shape = record h.shape { weak = weak } })
+          (record g { entries = step.put_entry g.entries x y z })
+      shows-put = shows-entries h g weak (step.put_entry g.entries x y z) s put_held put_are put_known
+
+  module _ (weak : WeakMapsState)
+      (found : (a b : Place) → value_of weak a b ≡ cond (is_same m a && is_same k b) None (value_of h.shape.weak a b))
+    where
+      gone : value_of weak m k ≡ None
+      gone = found m k ∙ ap (λ (b : Bool). cond b None (value_of h.shape.weak m k)) (pair_same m k)
+
+      kept : (a b w : Place) → value_of weak a b ≡ Some w → ((is_same m a && is_same k b) ≡ false)
+          × (value_of h.shape.weak a b ≡ Some w)
+      kept a b w e = elim (pairs m k a b) [
+        | inl is ↦ (let none : value_of weak a b ≡ None =
+            ap (λ (r : Place). value_of weak r b) (sym is.0)
+            ∙ ap (value_of weak m) (sym is.1) ∙ gone in absurd (cc (none, e)))
+        | inr apart ↦ (
+          apart,
+          sym (ap (λ (t : Bool). cond t None (value_of h.shape.weak a b)) apart) ∙ sym (found a b)
+              ∙ e,
+        )
+      ]
+
+      del_are : (a b w : Place) (p q u : Name) → value_of weak a b ≡ Some w → name_at h.shape a ≡ Some p
+          → name_at h.shape b ≡ Some q → name_at h.shape w ≡ Some u → value_in (step.del_entry g.entries x y) p q ≡ Some u
+      del_are a b w p q u e ap_ bq wu =
+          let old = kept a b w e in
+          elim (del_cases g.entries x y p q) [
+            | inl same ↦ same ∙ s.entries_are a b w p q u old.1 ap_ bq wu
+            | inr is ↦ (let one = places_same a b p q ap_ bq is.0 is.1 in
+                let yes_same : (is_same m a && is_same k b) ≡ true =
+                ap (λ (r : Place). is_same m r && is_same k b) (sym one.0)
+                ∙ ap (λ (r : Place). is_same m m && is_same k r) (sym one.1) ∙ pair_same m k in
+                let no_same = old.0 in
+                absurd (cc (no_same, yes_same)))
+          ]
+
+      del_known : (p q u : Name) → value_in (step.del_entry g.entries x y) p q ≡ Some u → (a : Place) × (b : Place)
+          × (w : Place) × (value_of weak a b ≡ Some w) × (name_at h.shape a ≡ Some p)
+          × (name_at h.shape b ≡ Some q) × (name_at h.shape w ≡ Some u)
+      del_known p q u e =
+          let old = s.entries_known p q u (del_keeps g.entries x y p q u e) in
+          elim (pairs m k old.0 old.1) [
+            | inl is ↦ (let n = names_same old.0 old.1 p q old.4 old.5 is.0 is.1 in
+                let none : value_in (step.del_entry g.entries x y) p q ≡ None =
+                ap (λ (r : Name). value_in (step.del_entry g.entries x y) r q) (sym n.0)
+                ∙ ap (value_in (step.del_entry g.entries x y) x) (sym n.1) ∙ del_gone g.entries x y in
+                absurd (cc (none, e)))
+            | inr ne ↦ (
+              old.0,
+              old.1,
+              old.2,
+              found old.0 old.1 ∙ ap (λ (t : Bool). cond t None (value_of h.shape.weak old.0 old.1)) ne ∙ old.3,
+              old.4,
+              old.5,
+              old.6,
+            )
+          ]
+
+      pub shows-del : Shows (record h { shape = record h.shape { weak = weak } })
+          (record g { entries = step.del_entry g.entries x y })
+      shows-del = shows-entries h g weak (step.del_entry g.entries x y) s
+          (λ a b w e. s.entries_held a b w (kept a b w e).1) del_are del_known
 
 -- where there is no such entry, nothing is another
-pub shows-absent : (h : HeapState) (g : GraphState) (m k : Place) → Shows h g → value_of h.shape.weak m k ≡ None
-    → ((a b : Place) → value_of (del h.shape.weak m k) a b ≡ cond (is_same m a && is_same k b) None
-    (value_of h.shape.weak a b))
-    → Shows (without_entry h m k) g
-shows-absent h g m k s none found = shows-entries h g (del h.shape.weak m k) g.entries s
+pub shows-absent : (h : HeapState) (g : GraphState) (m k : Place) (weak : WeakMapsState) → Shows h g
+    → value_of h.shape.weak m k ≡ None
+    → ((a b : Place) → value_of weak a b ≡ cond (is_same m a && is_same k b) None (value_of h.shape.weak a b))
+    → Shows (record h { shape = record h.shape { weak = weak } }) g
+shows-absent h g m k weak s none found = shows-entries h g weak g.entries s
     (λ a b w e. s.entries_held a b w (sym (same a b) ∙ e))
     (λ a b w p q u e. s.entries_are a b w p q u (sym (same a b) ∙ e))
     (λ p q u e. (let old = s.entries_known p q u e in
     (old.0, old.1, old.2, same old.0 old.1 ∙ old.3, old.4, old.5, old.6)))
   where
-    same : (a b : Place) → value_of (del h.shape.weak m k) a b ≡ value_of h.shape.weak a b
+    same : (a b : Place) → value_of weak a b ≡ value_of h.shape.weak a b
     same a b = elim (pairs m k a b) [
       | inl is ↦ found a b
           ∙ (let at : value_of h.shape.weak a b ≡ None = ap (λ (r : Place). value_of h.shape.weak r b) (sym is.0)
@@ -430,19 +435,19 @@ put_step h g m k v map key value i =
     ∙ ap (λ (o : Option Name). put_from g (Some i.x.cell.name) (Some i.y.cell.name) o) i.value_is
     ∙ ap (step.put_unless g i.x.cell.name i.y.cell.name i.z.cell.name) i.allowed
 
-pub does-put : (h : HeapState) (m k v : ℕ) (map key value : Place) → IsEntry h m k v map key value
-    → ((a b : Place) → value_of (put h.shape.weak map key value) a b ≡ cond (is_same map a && is_same key b)
-    (Some value) (value_of h.shape.weak a b))
-    → DoesStep h (cmd.Put m k v) (Ok reply.Accepted) (with_entry h map key value)
-does-put h m k v map key value i found = does-accepted h (cmd.Put m k v) reply.Accepted (with_entry h map key value)
+pub does-put : (h new : HeapState) (m k v : ℕ) (map key value : Place) → IsEntry h m k v map key value
+    → IsWith h map key value new → DoesStep h (cmd.Put m k v) (Ok reply.Accepted) new
+does-put h new m k v map key value i w = does-accepted h (cmd.Put m k v) reply.Accepted new
     (λ g s. (
     let n = entry_shown h g m k v map key value s i in
     record {
       after = record g { entries = step.put_entry g.entries n.x.cell.name n.y.cell.name n.z.cell.name };
       step = put_step h g m k v map key value n;
       sure = refl;
-      shows = shows-put h g map key value n.x.cell.name n.y.cell.name n.z.cell.name s n.x.name_is n.y.name_is
-          n.z.name_is n.there found;
+      shows = subst (λ (z : HeapState). Shows z
+          (record g { entries = step.put_entry g.entries n.x.cell.name n.y.cell.name n.z.cell.name })) (sym w.rest)
+          (shows-put h g map key value n.x.cell.name n.y.cell.name n.z.cell.name s n.x.name_is n.y.name_is
+          n.z.name_is n.there new.shape.weak w.values);
     }))
 
 pub does-put_wanting : (h : HeapState) (m k v : ℕ) (map key value : Place) → IsEntry h m k v map key value
@@ -477,12 +482,10 @@ del_accepted h g m k map key value s i =
     ap (λ (p : GraphState × Reply). refusal_in p.1) (del_step h g m k map key value s n)
     ∙ del_sure g n.x.cell.name n.y.cell.name (held_name h.shape (value_of h.shape.weak map key))
 
-pub does-del : (h : HeapState) (m k : ℕ) (map key value : Place) (v : Place) → IsEntry h m k k map key value
-    → value_of h.shape.weak map key ≡ Some v
-    → ((a b : Place) → value_of (del h.shape.weak map key) a b ≡ cond (is_same map a && is_same key b) None
-    (value_of h.shape.weak a b))
-    → DoesStep h (cmd.Del m k) (Ok reply.Accepted) (without_entry h map key)
-does-del h m k map key value v i was found = does-accepted h (cmd.Del m k) reply.Accepted (without_entry h map key)
+pub does-del : (h new : HeapState) (m k : ℕ) (map key value : Place) (v : Place) → IsEntry h m k k map key value
+    → value_of h.shape.weak map key ≡ Some v → IsWithout h map key new
+    → DoesStep h (cmd.Del m k) (Ok reply.Accepted) new
+does-del h new m k map key value v i was w = does-accepted h (cmd.Del m k) reply.Accepted new
     (λ g s. (
     let n = entry_shown h g m k k map key value s i in
     let old = named_there h v (s.entries_held map key v was).2 in
@@ -492,16 +495,16 @@ does-del h m k map key value v i was found = does-accepted h (cmd.Del m k) reply
           ∙ ap (λ (o : Option Place). step.del_value g n.x.cell.name n.y.cell.name (held_name h.shape o)) was
           ∙ ap (step.del_value g n.x.cell.name n.y.cell.name) old.name_is;
       sure = refl;
-      shows = shows-del h g map key value n.x.cell.name n.y.cell.name n.z.cell.name s n.x.name_is n.y.name_is
-          n.z.name_is n.there found;
+      shows = subst (λ (z : HeapState). Shows z
+          (record g { entries = step.del_entry g.entries n.x.cell.name n.y.cell.name })) (sym w.rest)
+          (shows-del h g map key value n.x.cell.name n.y.cell.name n.z.cell.name s n.x.name_is n.y.name_is
+          n.z.name_is n.there new.shape.weak w.values);
     }))
 
-pub does-del_absent : (h : HeapState) (m k : ℕ) (map key value : Place) → IsEntry h m k k map key value
-    → value_of h.shape.weak map key ≡ None
-    → ((a b : Place) → value_of (del h.shape.weak map key) a b ≡ cond (is_same map a && is_same key b) None
-    (value_of h.shape.weak a b))
-    → DoesStep h (cmd.Del m k) (Ok reply.Absent) (without_entry h map key)
-does-del_absent h m k map key value i was found = does-accepted h (cmd.Del m k) reply.Absent (without_entry h map key)
+pub does-del_absent : (h new : HeapState) (m k : ℕ) (map key value : Place) → IsEntry h m k k map key value
+    → value_of h.shape.weak map key ≡ None → IsWithout h map key new
+    → DoesStep h (cmd.Del m k) (Ok reply.Absent) new
+does-del_absent h new m k map key value i was w = does-accepted h (cmd.Del m k) reply.Absent new
     (λ g s. (
     let n = entry_shown h g m k k map key value s i in
     record {
@@ -509,7 +512,8 @@ does-del_absent h m k map key value i was found = does-accepted h (cmd.Del m k) 
       step = del_step h g m k map key value s n
           ∙ ap (λ (o : Option Place). step.del_value g n.x.cell.name n.y.cell.name (held_name h.shape o)) was;
       sure = refl;
-      shows = shows-absent h g map key s was found;
+      shows = subst (λ (z : HeapState). Shows z g) (sym w.rest)
+          (shows-absent h g map key new.shape.weak s was w.values);
     }))
 
 -- `find`

@@ -29,14 +29,14 @@ use Rattle.heap_core.specs.Shape.{IsPresent, cell_of, comp_at, field_at, field_i
 use Rattle.heap_core.specs.Heap.{HeapState, reg_of, slot_of, with_colours, with_reg, with_slot}
 use Rattle.heap_core.specs.Shows.{Shows, is_map, is_wrapper}
 use Rattle.heap_core.specs.Answers.{DoesStep, IsSound}
-use Rattle.heap_core.specs.Changes.{Writes, with_comp, with_zone, without_entry}
-use Rattle.heap_core.specs.Effects.{Changes, IsWithout}
+use Rattle.heap_core.specs.Changes.{IsWithout, Writes, with_comp, with_zone}
+use Rattle.heap_core.specs.Effects.{Changes}
 use Rattle.heap_core.specs.Lookups.{Hands, IsEntry, IsWrappable, IsWritable, entry_refusal, entry_refusal_in}
 use Rattle.heap_core.specs.Lookups.{field_refusal, fits_in, held_field, held_value, key_refusal, number_at, seen_from}
 use Rattle.heap_core.specs.Lookups.{target_at, target_in, value_to_set}
 use Rattle.heap_core.specs.Peeks.{handed, made_in, stored, wrapped_in, wrapped_target}
 use Rattle.heap_core.specs.Plans as plans
-use Rattle.heap_core.specs.Plans.{ChangesBy, HasField, IsAble, IsHeld, IsNear, IsNoWrap, IsPlanIn, IsPlanOf, IsWith}
+use Rattle.heap_core.specs.Plans.{ChangesBy, HasField, IsAble, IsHeld, IsNear, IsNoWrap, IsPlanIn, IsPlanOf}
 use Rattle.heap_core.specs.Plans.{IsWoken, LiesIn, MayCome, MayWant}
 use Rattle.heap_core.proofs.Places.{present_cell}
 use Rattle.heap_core.proofs.Shown.{of_map, reg_present, slot_present, slot_shown, wrapper_there}
@@ -560,10 +560,8 @@ plans-put h g m k v map key value old shows i old_is = record {
   wants = λ may. refl;
   does = λ few answer new by. (
     subst (λ (a : Reply). DoesStep h (cmd.Put m k v) (Ok a) new) (sym by.1)
-        (subst (λ (n : HeapState). DoesStep h (cmd.Put m k v) (Ok reply.Accepted) n) (sym by.0.rest)
-        (does-put h m k v map key value i
-        (λ a b. ap (λ (n : HeapState). value_of n.shape.weak a b) (sym by.0.rest) ∙ by.0.values a b))),
-    rw (i.map_held, i.key_held, i.value_held) by.0.rest,
+        (does-put h new m k v map key value i by.0),
+    rw (i.map_held, i.key_held, i.value_held) by.0,
   );
 }
 
@@ -599,19 +597,15 @@ plans-del h g m k map key value old shows i old_is = record {
   wants = λ none. absurd none;
   does = λ few answer new by. (
     subst (λ (a : Reply). DoesStep h (cmd.Del m k) (Ok a) new) (sym by.1)
-        (subst (λ (n : HeapState). DoesStep h (cmd.Del m k) (Ok (said (value_of h.shape.weak map key))) n)
-        (sym by.0.rest)
-        (does new by.0 (value_of h.shape.weak map key) refl)),
+        (does new by.0 (value_of h.shape.weak map key) refl),
     rw (i.map_held, i.key_held) by.0,
   );
 }
   where
     does : (new : HeapState) → IsWithout h map key new → (o : Option Place) → value_of h.shape.weak map key ≡ o
-        → DoesStep h (cmd.Del m k) (Ok (said o)) (without_entry h map key)
-    does new by None is = does-del_absent h m k map key value i is
-        (λ a b. ap (λ (n : HeapState). value_of n.shape.weak a b) (sym by.rest) ∙ by.values a b)
-    does new by (Some v) is = does-del h m k map key value v i is
-        (λ a b. ap (λ (n : HeapState). value_of n.shape.weak a b) (sym by.rest) ∙ by.values a b)
+        → DoesStep h (cmd.Del m k) (Ok (said o)) new
+    does new by None is = does-del_absent h new m k map key value i is by
+    does new by (Some v) is = does-del h new m k map key value v i is by
 
 -- what a compartment sees of a register's cell, by the target
 module _ (h : HeapState) (s : ℕ) (c : CompNo) (t : Place) (may : IsWrappable h s c t) where

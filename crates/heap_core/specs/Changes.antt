@@ -1,6 +1,6 @@
 -- What commands change in a heap, by places.
 use Rattle.std.specs.Prelude.{◌≡◌, ◌≢◌, ◌<◌, ℕ, suc, ◌+◌, ◌==◌, ◌&&◌, Bool, List, [], ◌∷◌, ◌++◌, length, Option, Some}
-use Rattle.std.specs.Prelude.{None, is_none, if◌then◌else◌}
+use Rattle.std.specs.Prelude.{None, is_none, is_some, if◌then◌else◌}
 use Rattle.std.specs.Option.{option_map}
 use Rattle.gz_names.specs.declared.commands.Kind.TheVariants as kind
 use Rattle.gz_names.specs.declared.names.Name.TheVariants.{Wrap}
@@ -12,7 +12,8 @@ use Rattle.arena_table.specs.Cells.{CellState, with_value}
 use Rattle.arena_table.specs.Slots.{has_free, first_free}
 use Rattle.arena_table.specs.Table.{is_place}
 use Rattle.wrappers.specs.WrapperMaps.{place_of, list_of}
-use Rattle.weak_maps.specs.WeakMaps.{put, del}
+use Rattle.weak_maps.specs.Lists.{is_same}
+use Rattle.weak_maps.specs.WeakMaps.{value_of}
 use Rattle.heap_core.specs.Shape.{Shape, ArenaShape, AreWhole, cell_of, zone_of, out_of, stored_at}
 use Rattle.heap_core.specs.Heap.{HeapState, colour_of}
 
@@ -84,12 +85,22 @@ pub record MakesWrapper (old : HeapState) (zone : ℕ) (comp : CompNo) (number :
       ++ (record { comp = comp.0; target = number }, p) ∷ []
   pub others : (z : ℕ) → z ≢ zone → list_of new.shape.wrappers z ≡ list_of old.shape.wrappers z
 
--- the entry of a map's key has this value, or there is none any more
-abbrev pub with_entry : HeapState → Place → Place → Place → HeapState
-with_entry h m k v = record h { shape = record h.shape { weak = put h.shape.weak m k v } }
+-- the entry of a map's key has this value, and each other one is found as before
+pub record IsWith (old : HeapState) (map key value : Place) (new : HeapState) : Type 0 where
+  pub rest : new ≡ record old { shape = record old.shape { weak = new.shape.weak } }
+  pub values : (m k : Place)
+      → value_of new.shape.weak m k
+      ≡ (if is_same map m && is_same key k then Some value else value_of old.shape.weak m k)
+  pub count : length new.shape.weak.entries ≡ length old.shape.weak.entries
+      + (if is_some (value_of old.shape.weak map key) then 0 else 1)
 
-abbrev pub without_entry : HeapState → Place → Place → HeapState
-without_entry h m k = record h { shape = record h.shape { weak = del h.shape.weak m k } }
+-- an entry is there no more, and each other one is found as before
+pub record IsWithout (old : HeapState) (map key : Place) (new : HeapState) : Type 0 where
+  pub rest : new ≡ record old { shape = record old.shape { weak = new.shape.weak } }
+  pub values : (m k : Place)
+      → value_of new.shape.weak m k ≡ (if is_same map m && is_same key k then None else value_of old.shape.weak m k)
+  pub count : length new.shape.weak.entries + (if is_some (value_of old.shape.weak map key) then 1 else 0)
+      ≡ length old.shape.weak.entries
 
 -- one more zone, in no collection; one more compartment of a zone; one more number for an object or a map
 abbrev pub with_zone : HeapState → HeapState

@@ -1,6 +1,6 @@
 -- What each command on the graph leaves, by places.
-use Rattle.std.specs.Prelude.{◌≡◌, ◌≢◌, ◌<◌, ◌&&◌, ℕ, Bool, true, false, Option, Some, None, IsSomeAnd, replicate}
-use Rattle.std.specs.Prelude.{slice_get, if◌then◌else◌}
+use Rattle.std.specs.Prelude.{◌≡◌, ◌≢◌, ◌<◌, ℕ, Bool, true, false, Option, Some, None, IsSomeAnd, replicate}
+use Rattle.std.specs.Prelude.{slice_get}
 use Rattle.gz_names.specs.declared.names.Name.TheVariants.{Cell}
 use Rattle.gz_names.specs.declared.commands.Kind.{Kind}
 use Rattle.gz_names.specs.declared.commands.Kind.TheVariants as kind
@@ -11,13 +11,10 @@ use Rattle.gz_names.specs.declared.numbers.Place.{Place}
 use Rattle.arena_table.specs.Cells.{field_count}
 use Rattle.arena_table.specs.Table.{new_cell}
 use Rattle.wrappers.specs.WrapperMaps.{place_of}
-use Rattle.weak_maps.specs.Lists.{is_same}
-use Rattle.weak_maps.specs.WeakMaps.{value_of}
 use Rattle.colour_defs.specs.declared.graph.Object.{Object}
 use Rattle.heap_core.specs.Shape.{comp_at}
 use Rattle.heap_core.specs.Heap.{HeapState, reg_of, slot_of, with_reg, with_slot}
-use Rattle.heap_core.specs.Changes.{Makes, MakesWrapper, Writes, with_comp, with_entry, with_number, with_zone}
-use Rattle.heap_core.specs.Changes.{without_entry}
+use Rattle.heap_core.specs.Changes.{IsWith, IsWithout, Makes, MakesWrapper, Writes, with_comp, with_number, with_zone}
 use Rattle.heap_core.specs.Shows.{is_map}
 use Rattle.heap_core.specs.Lookups.{held_field, held_value, number_at, target_at, value_to_set}
 
@@ -62,13 +59,7 @@ pub data Wraps (old : HeapState) (r s : ℕ) (c : CompNo) (new : HeapState) : Ty
 abbrev pub Puts : HeapState → ℕ → ℕ → ℕ → HeapState → Type 0
 Puts old m k v new =
     IsSomeAnd (reg_of old m)
-    (λ map. IsSomeAnd (reg_of old k) (λ key. IsSomeAnd (reg_of old v) (λ value. new ≡ with_entry old map key value)))
-
--- an entry is there no more, and each other one is found as before
-pub record IsWithout (old : HeapState) (map key : Place) (new : HeapState) : Type 0 where
-  pub rest : new ≡ without_entry old map key
-  pub values : (m k : Place)
-      → value_of new.shape.weak m k ≡ (if is_same map m && is_same key k then None else value_of old.shape.weak m k)
+    (λ map. IsSomeAnd (reg_of old k) (λ key. IsSomeAnd (reg_of old v) (λ value. IsWith old map key value new)))
 
 -- the entry of a register's map and another one's cell is there no more
 abbrev pub Dels : HeapState → ℕ → ℕ → HeapState → Type 0

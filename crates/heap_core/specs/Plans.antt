@@ -1,5 +1,5 @@
 -- The change that a command makes, by kinds, and what a plan says of its command.
-use Rattle.std.specs.Prelude.{◌≡◌, ◌≢◌, ◌<◌, ◌≤◌, ◌&&◌, ◌⊎◌, ℕ, true, false, List, Option, Some, None, Ok, length}
+use Rattle.std.specs.Prelude.{◌≡◌, ◌≢◌, ◌<◌, ◌≤◌, ◌⊎◌, ℕ, true, false, List, Option, Some, None, Ok, length}
 use Rattle.std.specs.Prelude.{is_some, slice_get, Contains, IsSomeAnd, if◌then◌else◌}
 use Rattle.std.specs.Option.{ForSome}
 use Rattle.gz_names.specs.declared.limits.TheConstants.{ZONE_LIMIT, COMP_LIMIT}
@@ -14,7 +14,6 @@ use Rattle.gz_names.specs.declared.replies.Reply.TheVariants as reply
 use Rattle.cell_bits.specs.declared.bits.Bits.{Bits}
 use Rattle.arena_table.specs.Cells.{CellState, field_count}
 use Rattle.wrappers.specs.WrapperMaps.{place_of}
-use Rattle.weak_maps.specs.Lists.{is_same}
 use Rattle.weak_maps.specs.WeakMaps.{value_of}
 use Rattle.colour_defs.specs.Graph.{GraphState}
 use Rattle.colour_defs.specs.Step.{HasFewFields, IsAccepted, named_or_null}
@@ -26,8 +25,8 @@ use Rattle.heap_core.specs.Shape.{Shape, IsPresent, cell_of, field_at, held_name
 use Rattle.heap_core.specs.Heap.{HeapState, with_colours, with_reg, with_slot}
 use Rattle.heap_core.specs.Shows.{Shows, is_wrapper}
 use Rattle.heap_core.specs.Answers.{DoesStep}
-use Rattle.heap_core.specs.Changes.{Writes, with_comp, with_entry, with_zone}
-use Rattle.heap_core.specs.Effects.{Changes, HasRoom, HoldsWrapper, IsWithout, MakesHeld, takes_memory}
+use Rattle.heap_core.specs.Changes.{IsWith, IsWithout, Writes, with_comp, with_zone}
+use Rattle.heap_core.specs.Effects.{Changes, HasRoom, HoldsWrapper, MakesHeld, takes_memory}
 use Rattle.heap_core.specs.Lookups.{number_at}
 use Rattle.heap_core.specs.Peeks.{handed, made_in, stored, wrapped_target}
 
@@ -117,13 +116,6 @@ MayWant s (change.Slot g v) = ⊥
 MayWant s (change.Field p f v) = ⊥
 MayWant s (change.Put m k v) = value_of s.weak m k ≡ None
 MayWant s (change.Del m k) = ⊥
-
--- the entry of a map's key has this value, and each other one is found as before
-pub record IsWith (old : HeapState) (map key value : Place) (new : HeapState) : Type 0 where
-  pub rest : new ≡ with_entry old map key value
-  pub values : (m k : Place)
-      → value_of new.shape.weak m k
-      ≡ (if is_same map m && is_same key k then Some value else value_of old.shape.weak m k)
 
 -- a change was made, and this is the reply
 abbrev pub ChangesBy : HeapState → Change → Reply → HeapState → Type 0

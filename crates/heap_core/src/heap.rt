@@ -16,8 +16,8 @@ ghost use Rattle.heap_core.specs.Shape.{Shape, IsPresent, is_owned, is_white, ce
 ghost use Rattle.heap_core.specs.Shape.{zone_of};
 ghost use Rattle.heap_core.specs.Edges.{edge_count};
 ghost use Rattle.heap_core.specs.Heap.{HeapState, colour_of, reg_of, slot_of, with_reg, with_slot};
-ghost use Rattle.heap_core.specs.Changes.{Makes, MakesWrapper, Writes, next_place, with_comp, with_entry, with_number};
-ghost use Rattle.heap_core.specs.Changes.{with_zone, without_entry, wrapper_cell};
+ghost use Rattle.heap_core.specs.Changes.{IsWith, IsWithout, Makes, MakesWrapper, Writes, next_place, with_comp};
+ghost use Rattle.heap_core.specs.Changes.{with_number, with_zone, wrapper_cell};
 ghost use Rattle.heap_core.specs.Blackening.{Blackens};
 ghost use Rattle.heap_core.specs.MarkBits.{TakesBlack, TakesGray};
 ghost use Rattle.heap_core.specs.TargetZones.{IsListedWrapper, owner_in};
@@ -26,7 +26,6 @@ ghost use Rattle.heap_core.specs.Sweeping.{AreKept, held_in_all, is_absent, is_a
 ghost use Rattle.heap_core.specs.Sweeping.{with_clear, with_handed, with_taken};
 ghost use Rattle.arena_table.specs.Slots.{IsWithin, alloc_word_of, at_bits, cell_at, names_of};
 ghost use Rattle.wrappers.specs.WrapperMaps.{AreApart, list_of, place_of, without_dead};
-ghost use Rattle.weak_maps.specs.Lists.{is_same};
 ghost use Rattle.weak_maps.specs.WeakMaps.{IsSound as AreEntries, IsWithoutDead, listed_of_key, listed_of_map, parts};
 ghost use Rattle.weak_maps.specs.WeakMaps.{value_of};
 ghost use Rattle.roots.specs.Buffers.{buffer_at, places_in, put_all, put_at};
@@ -715,11 +714,7 @@ impl Heap {
 
     // Gives a value to a key of a map.
     pub(crate) fn put_entry(&mut self, map: Place, key: Place, value: Place) -> Result<(), NoMemory>
-        ensures put { OnOk result (self.new ≡ with_entry self.old map key value) }
-        ensures found { OnOk result ((m k : APlace) → value_of self.new.shape.weak m k
-            ≡ (if is_same map m && is_same key k
-            then Some value
-            else value_of self.old.shape.weak m k)) }
+        ensures put { OnOk result (IsWith self.old map key value self.new) }
         ensures err { OnErr result (self.new ≡ self.old) }
         ensures wanted { OnErr result (value_of self.old.shape.weak map key ≡ None) }
     {
@@ -730,11 +725,7 @@ impl Heap {
     // Takes the entry of a key out of a map, and answers the value that was there.
     pub(crate) fn del_entry(&mut self, map: Place, key: Place) -> Option<Place>
         ensures old { result ≡ value_of self.old.shape.weak map key }
-        ensures del { self.new ≡ without_entry self.old map key }
-        ensures found { (m k : APlace) → value_of self.new.shape.weak m k
-            ≡ (if is_same map m && is_same key k
-            then None
-            else value_of self.old.shape.weak m k) }
+        ensures del { IsWithout self.old map key self.new }
     {
         self.weak.del(map, key)
     }
