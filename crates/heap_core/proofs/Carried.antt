@@ -10,7 +10,7 @@ use Rattle.zones.specs.declared.states.State.{State}
 use Rattle.arena_table.specs.Cells.{CellState}
 use Rattle.wrappers.specs.WrapperMaps.{list_of, place_of}
 use Rattle.wrappers.specs.declared.wrapper_maps.WrapperKey.{WrapperKey}
-use Rattle.weak_maps.specs.WeakMaps.{WeakMapsState, value_of}
+use Rattle.weak_maps.specs.WeakMaps.{WeakTableState, value_of}
 use Rattle.colour_defs.specs.declared.graph.Object.{Object}
 use Rattle.colour_defs.specs.declared.graph.Entry.{Entry}
 use Rattle.colour_defs.specs.Graph as graph
@@ -97,7 +97,7 @@ module _ (h k : HeapState) (g j : GraphState) (s : Shows h g) (c : Carries h k g
           known.0,
           known.1,
           known.2,
-          ap (λ (w : WeakMapsState). value_of w known.0 known.1) c.weak_is ∙ known.3,
+          ap (λ (w : WeakTableState). value_of w known.0 known.1) c.weak_is ∙ known.3,
           c.named known.0 x known.4,
           c.named known.1 y known.5,
           c.named known.2 z known.6,
@@ -106,4 +106,4 @@ module _ (h k : HeapState) (g j : GraphState) (s : Shows h g) (c : Carries h k g
   }
     where
       value_was : (m key : Place) (v : Option Place) → value_of k.shape.weak m key ≡ v → value_of h.shape.weak m key ≡ v
-      value_was m key v e = ap (λ (w : WeakMapsState). value_of w m key) (sym c.weak_is) ∙ e
+      value_was m key v e = ap (λ (w : WeakTableState). value_of w m key) (sym c.weak_is) ∙ e

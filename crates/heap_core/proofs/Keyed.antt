@@ -12,8 +12,8 @@ use Rattle.gz_names.specs.declared.replies.Refusal.{Refusal}
 use Rattle.gz_names.specs.declared.replies.Refusal.TheVariants as refusal
 use Rattle.gz_names.specs.Order.{same_name}
 use Rattle.arena_table.specs.Cells.{CellState}
-use Rattle.weak_maps.specs.Lists.{is_same}
-use Rattle.weak_maps.specs.WeakMaps.{WeakMapsState, value_of}
+use Rattle.weak_maps.specs.Places.{is_same}
+use Rattle.weak_maps.specs.WeakMaps.{LooksState, WeakTableState, value_of}
 use Rattle.colour_defs.specs.declared.graph.Entry.{Entry}
 use Rattle.colour_defs.specs.Graph as graph
 use Rattle.colour_defs.specs.Graph.{GraphState, object_of, register_cell, value_in}
@@ -135,61 +135,62 @@ value_shown h g m k x y s a b = go (value_of h.shape.weak m k) refl
         s.entries_are m k v x y z.cell.name e a b z.name_is ∙ sym z.name_is
 
 -- other entries
-module _ (h : HeapState) (g : GraphState) (weak : WeakMapsState) (es : List Entry) (s : Shows h g) where
-  abbrev heap : HeapState
-  heap = record h { shape = record h.shape { weak = weak } }
+module _ (h : HeapState) (g : GraphState) (weak : WeakTableState) (looks : LooksState) (es : List Entry) (s : Shows h g)
+  where
+    abbrev heap : HeapState
+    heap = record h { shape = record h.shape { weak = weak }; looks = looks }
 
-  abbrev graph_with : GraphState
-  graph_with = record g { entries = es }
+    abbrev graph_with : GraphState
+    graph_with = record g { entries = es }
 
-  wrapper_kept : (p : Place) (cell : CellState) (c : CompNo) (t : ℕ) → IsWrapperOf h.shape g p cell c t
-      → IsWrapperOf heap.shape graph_with p cell c t
-  wrapper_kept p cell c t w =
-      record {
-        target = w.target;
-        kind_is = w.kind_is;
-        comp_is = w.comp_is;
-        fields_is = w.fields_is;
-        target_is = w.target_is;
-        known = w.known;
-        mapped = w.mapped;
-      }
-
-  pub shows-entries : ((m k v : Place) → value_of weak m k ≡ Some v → IsPresent h.shape m × IsPresent h.shape k
-      × IsPresent h.shape v)
-      → ((m k v : Place) (x y z : Name) → value_of weak m k ≡ Some v → name_at h.shape m ≡ Some x
-      → name_at h.shape k ≡ Some y → name_at h.shape v ≡ Some z → value_in es x y ≡ Some z)
-      → ((x y z : Name) → value_in es x y ≡ Some z → (m : Place) × (k : Place) × (v : Place)
-      × (value_of weak m k ≡ Some v) × (name_at h.shape m ≡ Some x) × (name_at h.shape k ≡ Some y)
-      × (name_at h.shape v ≡ Some z))
-      → Shows heap graph_with
-  shows-entries held are known = record {
-    zones_are = s.zones_are;
-    comps_are = s.comps_are;
-    objects_made = s.objects_made;
-    registers_are = s.registers_are;
-    slots_are = s.slots_are;
-    registers_held = s.registers_held;
-    slots_held = s.slots_held;
-    fields_held = s.fields_held;
-    cells = λ p cell e. (let k = s.cells p cell e in
+    wrapper_kept : (p : Place) (cell : CellState) (c : CompNo) (t : ℕ) → IsWrapperOf h.shape g p cell c t
+        → IsWrapperOf heap.shape graph_with p cell c t
+    wrapper_kept p cell c t w =
         record {
-          stands = stands_as h.shape heap.shape g graph_with p cell cell.name (λ n o. o) (wrapper_kept p cell)
-              k.stands;
-          sized = k.sized;
-          few = k.few;
-          at_home = k.at_home;
-        });
-    apart = s.apart;
-    objects_are = s.objects_are;
-    wrappers_are = s.wrappers_are;
-    mapped = s.mapped;
-    maps_at_home = s.maps_at_home;
-    entries_held = held;
-    entries_are = are;
-    entries_known = known;
-    few_objects = s.few_objects;
-  }
+          target = w.target;
+          kind_is = w.kind_is;
+          comp_is = w.comp_is;
+          fields_is = w.fields_is;
+          target_is = w.target_is;
+          known = w.known;
+          mapped = w.mapped;
+        }
+
+    pub shows-entries : ((m k v : Place) → value_of weak m k ≡ Some v → IsPresent h.shape m × IsPresent h.shape k
+        × IsPresent h.shape v)
+        → ((m k v : Place) (x y z : Name) → value_of weak m k ≡ Some v → name_at h.shape m ≡ Some x
+        → name_at h.shape k ≡ Some y → name_at h.shape v ≡ Some z → value_in es x y ≡ Some z)
+        → ((x y z : Name) → value_in es x y ≡ Some z → (m : Place) × (k : Place) × (v : Place)
+        × (value_of weak m k ≡ Some v) × (name_at h.shape m ≡ Some x) × (name_at h.shape k ≡ Some y)
+        × (name_at h.shape v ≡ Some z))
+        → Shows heap graph_with
+    shows-entries held are known = record {
+      zones_are = s.zones_are;
+      comps_are = s.comps_are;
+      objects_made = s.objects_made;
+      registers_are = s.registers_are;
+      slots_are = s.slots_are;
+      registers_held = s.registers_held;
+      slots_held = s.slots_held;
+      fields_held = s.fields_held;
+      cells = λ p cell e. (let k = s.cells p cell e in
+          record {
+            stands = stands_as h.shape heap.shape g graph_with p cell cell.name (λ n o. o) (wrapper_kept p cell)
+                k.stands;
+            sized = k.sized;
+            few = k.few;
+            at_home = k.at_home;
+          });
+      apart = s.apart;
+      objects_are = s.objects_are;
+      wrappers_are = s.wrappers_are;
+      mapped = s.mapped;
+      maps_at_home = s.maps_at_home;
+      entries_held = held;
+      entries_are = are;
+      entries_known = known;
+      few_objects = s.few_objects;
+    }
 
 -- two pairs of places, decided by the test
 pairs : (m k a b : Place) → ((m ≡ a) × (k ≡ b)) ⊎ ((is_same m a && is_same k b) ≡ false)
@@ -234,7 +235,7 @@ module _ (h : HeapState) (g : GraphState) (m k v : Place) (x y z : Name) (s : Sh
     s.apart k b y ky (bq ∙ ap (λ (n : Name). Some n) (sym yq)),
   )
 
-  module _ (weak : WeakMapsState)
+  module _ (weak : WeakTableState) (looks : LooksState)
       (found : (a b : Place)
       → value_of weak a b ≡ cond (is_same m a && is_same k b) (Some v) (value_of h.shape.weak a b))
     where
@@ -305,11 +306,11 @@ module _ (h : HeapState) (g : GraphState) (m k v : Place) (x y z : Name) (s : Sh
         ]
       ]
 
-      pub shows-put : Shows (record h { shape = record h.shape { weak = weak } })
+      pub shows-put : Shows (record h { shape = record h.shape { weak = weak }; looks = looks })
           (record g { entries = step.put_entry g.entries x y z })
-      shows-put = shows-entries h g weak (step.put_entry g.entries x y z) s put_held put_are put_known
+      shows-put = shows-entries h g weak looks (step.put_entry g.entries x y z) s put_held put_are put_known
 
-  module _ (weak : WeakMapsState)
+  module _ (weak : WeakTableState) (looks : LooksState)
       (found : (a b : Place) → value_of weak a b ≡ cond (is_same m a && is_same k b) None (value_of h.shape.weak a b))
     where
       gone : value_of weak m k ≡ None
@@ -329,7 +330,8 @@ module _ (h : HeapState) (g : GraphState) (m k v : Place) (x y z : Name) (s : Sh
       ]
 
       del_are : (a b w : Place) (p q u : Name) → value_of weak a b ≡ Some w → name_at h.shape a ≡ Some p
-          → name_at h.shape b ≡ Some q → name_at h.shape w ≡ Some u → value_in (step.del_entry g.entries x y) p q ≡ Some u
+          → name_at h.shape b ≡ Some q → name_at h.shape w ≡ Some u → value_in (step.del_entry g.entries x y) p q
+          ≡ Some u
       del_are a b w p q u e ap_ bq wu =
           let old = kept a b w e in
           elim (del_cases g.entries x y p q) [
@@ -364,17 +366,18 @@ module _ (h : HeapState) (g : GraphState) (m k v : Place) (x y z : Name) (s : Sh
             )
           ]
 
-      pub shows-del : Shows (record h { shape = record h.shape { weak = weak } })
+      pub shows-del : Shows (record h { shape = record h.shape { weak = weak }; looks = looks })
           (record g { entries = step.del_entry g.entries x y })
-      shows-del = shows-entries h g weak (step.del_entry g.entries x y) s
+      shows-del = shows-entries h g weak looks (step.del_entry g.entries x y) s
           (λ a b w e. s.entries_held a b w (kept a b w e).1) del_are del_known
 
 -- where there is no such entry, nothing is another
-pub shows-absent : (h : HeapState) (g : GraphState) (m k : Place) (weak : WeakMapsState) → Shows h g
+pub shows-absent : (h : HeapState) (g : GraphState) (m k : Place) (weak : WeakTableState) (looks : LooksState)
+    → Shows h g
     → value_of h.shape.weak m k ≡ None
     → ((a b : Place) → value_of weak a b ≡ cond (is_same m a && is_same k b) None (value_of h.shape.weak a b))
-    → Shows (record h { shape = record h.shape { weak = weak } }) g
-shows-absent h g m k weak s none found = shows-entries h g weak g.entries s
+    → Shows (record h { shape = record h.shape { weak = weak }; looks = looks }) g
+shows-absent h g m k weak looks s none found = shows-entries h g weak looks g.entries s
     (λ a b w e. s.entries_held a b w (sym (same a b) ∙ e))
     (λ a b w p q u e. s.entries_are a b w p q u (sym (same a b) ∙ e))
     (λ p q u e. (let old = s.entries_known p q u e in
@@ -447,7 +450,7 @@ does-put h new m k v map key value i w = does-accepted h (cmd.Put m k v) reply.A
       shows = subst (λ (z : HeapState). Shows z
           (record g { entries = step.put_entry g.entries n.x.cell.name n.y.cell.name n.z.cell.name })) (sym w.rest)
           (shows-put h g map key value n.x.cell.name n.y.cell.name n.z.cell.name s n.x.name_is n.y.name_is
-          n.z.name_is n.there new.shape.weak w.values);
+          n.z.name_is n.there new.shape.weak new.looks w.values);
     }))
 
 pub does-put_wanting : (h : HeapState) (m k v : ℕ) (map key value : Place) → IsEntry h m k v map key value
@@ -498,7 +501,7 @@ does-del h new m k map key value v i was w = does-accepted h (cmd.Del m k) reply
       shows = subst (λ (z : HeapState). Shows z
           (record g { entries = step.del_entry g.entries n.x.cell.name n.y.cell.name })) (sym w.rest)
           (shows-del h g map key value n.x.cell.name n.y.cell.name n.z.cell.name s n.x.name_is n.y.name_is
-          n.z.name_is n.there new.shape.weak w.values);
+          n.z.name_is n.there new.shape.weak new.looks w.values);
     }))
 
 pub does-del_absent : (h new : HeapState) (m k : ℕ) (map key value : Place) → IsEntry h m k k map key value
@@ -513,7 +516,7 @@ does-del_absent h new m k map key value i was w = does-accepted h (cmd.Del m k) 
           ∙ ap (λ (o : Option Place). step.del_value g n.x.cell.name n.y.cell.name (held_name h.shape o)) was;
       sure = refl;
       shows = subst (λ (z : HeapState). Shows z g) (sym w.rest)
-          (shows-absent h g map key new.shape.weak s was w.values);
+          (shows-absent h g map key new.shape.weak new.looks s was w.values);
     }))
 
 -- `find`

@@ -12,10 +12,10 @@ use Rattle.arena_table.specs.Cells.{CellState, with_value}
 use Rattle.arena_table.specs.Slots.{has_free, first_free}
 use Rattle.arena_table.specs.Table.{is_place}
 use Rattle.wrappers.specs.WrapperMaps.{place_of, list_of}
-use Rattle.weak_maps.specs.Lists.{is_same}
-use Rattle.weak_maps.specs.WeakMaps.{value_of}
+use Rattle.weak_maps.specs.Places.{is_same}
+use Rattle.weak_maps.specs.WeakMaps.{Carries, PutsLeft, put_at, value_of}
 use Rattle.heap_core.specs.Shape.{Shape, ArenaShape, AreWhole, cell_of, zone_of, out_of, stored_at}
-use Rattle.heap_core.specs.Heap.{HeapState, colour_of}
+use Rattle.heap_core.specs.Heap.{HeapState, colour_of, weak_of}
 
 -- whether an arena takes new cells of a zone: it is one of the zone's, not handed to sweeping, and has a free slot
 abbrev pub takes_cells : ℕ → ArenaShape → Bool
@@ -85,22 +85,26 @@ pub record MakesWrapper (old : HeapState) (zone : ℕ) (comp : CompNo) (number :
       ++ (record { comp = comp.0; target = number }, p) ∷ []
   pub others : (z : ℕ) → z ≢ zone → list_of new.shape.wrappers z ≡ list_of old.shape.wrappers z
 
--- the entry of a map's key has this value, and each other one is found as before
+-- the entry of a map's key has this value, and each other one is found as before; a new one stands after the others,
+-- and is not to be looked at
 pub record IsWith (old : HeapState) (map key value : Place) (new : HeapState) : Type 0 where
-  pub rest : new ≡ record old { shape = record old.shape { weak = new.shape.weak } }
+  pub rest : new ≡ record old { shape = record old.shape { weak = new.shape.weak }; looks = new.looks }
   pub values : (m k : Place)
       → value_of new.shape.weak m k
       ≡ (if is_same map m && is_same key k then Some value else value_of old.shape.weak m k)
   pub count : length new.shape.weak.entries ≡ length old.shape.weak.entries
       + (if is_some (value_of old.shape.weak map key) then 0 else 1)
+  pub entries : new.shape.weak.entries ≡ put_at old.shape.weak.entries map key value
+  pub left : PutsLeft (value_of old.shape.weak map key) old.looks new.looks
 
--- an entry is there no more, and each other one is found as before
+-- an entry is there no more, and each other one is found as before, and is to be looked at as it was
 pub record IsWithout (old : HeapState) (map key : Place) (new : HeapState) : Type 0 where
-  pub rest : new ≡ record old { shape = record old.shape { weak = new.shape.weak } }
+  pub rest : new ≡ record old { shape = record old.shape { weak = new.shape.weak }; looks = new.looks }
   pub values : (m k : Place)
       → value_of new.shape.weak m k ≡ (if is_same map m && is_same key k then None else value_of old.shape.weak m k)
   pub count : length new.shape.weak.entries + (if is_some (value_of old.shape.weak map key) then 1 else 0)
       ≡ length old.shape.weak.entries
+  pub carries : Carries (weak_of old) (weak_of new)
 
 -- one more zone, in no collection; one more compartment of a zone; one more number for an object or a map
 abbrev pub with_zone : HeapState → HeapState

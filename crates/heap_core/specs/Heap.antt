@@ -7,16 +7,21 @@ use Rattle.cell_bits.specs.declared.bits.Colour.{Colour}
 use Rattle.cell_bits.specs.declared.bits.Colour.TheVariants as colour
 use Rattle.cell_bits.specs.Colours as bits
 use Rattle.arena_table.specs.Slots.{Arena}
-use Rattle.weak_maps.specs.WeakMaps.{value_of}
+use Rattle.weak_maps.specs.WeakMaps.{LooksState, WeakMapsState, value_of}
 use Rattle.heap_core.specs.Shape.{Shape}
 
--- the mark bits of each arena, for each zone the places that wait for its gray marking, and how many cells were ever
--- made
+-- the mark bits of each arena, for each zone the places that wait for its gray marking, how many cells were ever made,
+-- and in which colour each weak entry is still to be looked at
 pub record HeapState : Type 0 where
   pub shape : Shape
   pub colours : List Bits
   pub buffers : List (List Place)
   pub made : ℕ
+  pub looks : LooksState
+
+-- the weak entries, and which of them are still to be looked at
+abbrev pub weak_of : HeapState → WeakMapsState
+weak_of h = record { table = h.shape.weak; looks = h.looks }
 
 abbrev pub bits_of : List Arena → List Bits
 bits_of arenas = map (λ (arena : Arena). arena.bits) arenas
@@ -75,3 +80,4 @@ pub record IsEmpty (h : HeapState) : Type 0 where
   pub colours : h.colours ≡ []
   pub buffers : h.buffers ≡ replicate 64 []
   pub made : h.made ≡ 0
+  pub looks : h.looks ≡ record { by_map = []; by_key = [] }

@@ -13,7 +13,7 @@ use Rattle.arena_table.specs.Cells.{CellState, field_of}
 use Rattle.arena_table.specs.Slots.{Arena, cell_in}
 use Rattle.arena_table.specs.Indexed.{in_zones}
 use Rattle.wrappers.specs.WrapperMaps.{WrappersState}
-use Rattle.weak_maps.specs.WeakMaps.{WeakMapsState}
+use Rattle.weak_maps.specs.WeakMaps.{WeakTableState}
 
 -- an arena: its zone, its bits at hand-out where it is handed to sweeping, and its slots
 pub record ArenaShape : Type 0 where
@@ -28,7 +28,7 @@ pub record Shape : Type 0 where
   pub states : List State
   pub comps : List ℕ
   pub wrappers : WrappersState
-  pub weak : WeakMapsState
+  pub weak : WeakTableState
   pub regs : List (Option Place)
   pub slots : List (Option Place)
   pub objects : ℕ

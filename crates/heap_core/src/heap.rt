@@ -15,7 +15,7 @@ ghost use Rattle.arena_table.specs.Table.{new_cell};
 ghost use Rattle.heap_core.specs.Shape.{Shape, IsPresent, is_owned, is_white, cell_of, field_at, out_of, stored_at};
 ghost use Rattle.heap_core.specs.Shape.{zone_of};
 ghost use Rattle.heap_core.specs.Edges.{edge_count};
-ghost use Rattle.heap_core.specs.Heap.{HeapState, colour_of, reg_of, slot_of, with_reg, with_slot};
+ghost use Rattle.heap_core.specs.Heap.{HeapState, colour_of, reg_of, slot_of, weak_of, with_reg, with_slot};
 ghost use Rattle.heap_core.specs.Changes.{IsWith, IsWithout, Makes, MakesWrapper, Writes, next_place, with_comp};
 ghost use Rattle.heap_core.specs.Changes.{with_number, with_zone, wrapper_cell};
 ghost use Rattle.heap_core.specs.Blackening.{Blackens};
@@ -26,8 +26,8 @@ ghost use Rattle.heap_core.specs.Sweeping.{AreKept, held_in_all, is_absent, is_a
 ghost use Rattle.heap_core.specs.Sweeping.{with_clear, with_handed, with_taken};
 ghost use Rattle.arena_table.specs.Slots.{IsWithin, alloc_word_of, at_bits, cell_at, names_of};
 ghost use Rattle.wrappers.specs.WrapperMaps.{AreApart, list_of, place_of, without_dead};
-ghost use Rattle.weak_maps.specs.WeakMaps.{IsSound as AreEntries, IsWithoutDead, listed_of_key, listed_of_map, parts};
-ghost use Rattle.weak_maps.specs.WeakMaps.{value_of};
+ghost use Rattle.weak_maps.specs.WeakMaps.{AreParallel, Carries, HasLooked, IsSound as AreEntries, IsWithoutDead};
+ghost use Rattle.weak_maps.specs.WeakMaps.{NoneLeft, Starts, listed_of_key, listed_of_map, parts, value_of};
 ghost use Rattle.roots.specs.Buffers.{buffer_at, places_in, put_all, put_at};
 ghost use Rattle.gz_names.specs.declared.names.Name.TheVariants.{Cell as ACell, Wrap as AWrap};
 ghost use Rattle.gz_names.specs.declared.commands.Kind.TheVariants as kind;
@@ -43,7 +43,7 @@ use roots::Roots;
 use std::alloc::{AllocError, Global};
 use std::marker::Model;
 use std::sync::ledger::Ledger;
-use weak_maps::WeakMaps;
+use weak_maps::{MarkColour, WeakMaps};
 use wrappers::{TargetZones, Wrappers};
 use zones::{CompFault, State, ZoneFault, Zones};
 
@@ -73,7 +73,7 @@ impl Model for Heap {
         states = h.zones.states;
         comps = h.zones.comps;
         wrappers = h.wrappers;
-        weak = h.weak;
+        weak = h.weak.table;
         regs = h.roots.regs;
         slots = h.roots.slots;
         objects = h.objects;
@@ -81,6 +81,7 @@ impl Model for Heap {
       colours = bits_of h.arenas.arenas;
       buffers = h.roots.buffers;
       made = h.arenas.made;
+      looks = h.weak.looks;
     } };
 
     ghost use Rattle.heap_core.specs.TargetZones.{AreTargetsNoted};
@@ -517,14 +518,15 @@ impl Heap {
     }
 
     /// Drops the wrappers of these zones, and the weak entries, that name a cell which is not
-    /// present any more. It walks the wrapper maps of these zones and the entries, and takes no
-    /// memory.
+    /// present any more. The other entries are to be looked at as they were. It walks the wrapper maps
+    /// of these zones and the entries, and takes no memory.
     pub fn drop_dead(&mut self, zones: ZoneSet)
         ensures rest { self.new ≡ record self.old {
           shape = record self.old.shape {
             wrappers = self.new.shape.wrappers;
             weak = self.new.shape.weak;
           };
+          looks = self.new.looks;
         } }
         ensures wrappers { (z : ℕ) → list_of self.new.shape.wrappers z
             ≡ without_dead (bit_at zones.bits z) (is_absent self.old.shape)
@@ -533,6 +535,7 @@ impl Heap {
             self.new.shape.weak }
         ensures fewer { length self.new.shape.weak.entries
             ≤ length self.old.shape.weak.entries }
+        ensures carries { Carries (weak_of self.old) (weak_of self.new) }
         ensures apart { AreApart self.old.shape.wrappers.lists }
     {
         let arenas = &self.arenas;
@@ -675,17 +678,19 @@ impl Heap {
         Ok(place)
     }
 
-    /// The map, the key and the value of an entry of a weak map; `None` past the last.
+    /// The map, the key and the value of a weak entry, by its number; `None` past the last.
     pub fn entry(&self, index: u64) -> Option<(Place, Place, Place)>
         ensures entry { result
             ≡ option_map parts (slice_get self.now.shape.weak.entries index) }
         ensures more { IfSome result (λ _. index < 18446744073709551615) }
+        ensures parallel { AreParallel (weak_of self.now) }
         ensures sound { AreEntries self.now.shape.weak }
     {
         self.weak.entry(index)
     }
 
-    /// The same of the entries of one map.
+    /// The map, the key and the value of an entry of one map, by its index in the map's list; `None`
+    /// past the last.
     pub fn entries_of_map(&self, map: Place, index: u64) -> Option<(Place, Place, Place)>
         ensures entry { result
             ≡ option_map parts (slice_get (listed_of_map self.now.shape.weak map) index) }
@@ -695,7 +700,8 @@ impl Heap {
         self.weak.entries_of_map(map, index)
     }
 
-    /// The same of the entries of one key.
+    /// The map, the key and the value of an entry of one key, by its index in the key's list; `None`
+    /// past the last.
     pub fn entries_of_key(&self, key: Place, index: u64) -> Option<(Place, Place, Place)>
         ensures entry { result
             ≡ option_map parts (slice_get (listed_of_key self.now.shape.weak key) index) }
@@ -710,6 +716,34 @@ impl Heap {
         ensures { result ≡ value_of self.now.shape.weak map key }
     {
         self.weak.find(map, key)
+    }
+
+    /// Marking has followed a cell in a colour: the weak entries of which it is the map or the key are
+    /// still to be looked at for it, in that colour, or in black where some of them are so already. It
+    /// takes no memory.
+    pub fn start(&mut self, colour: MarkColour, place: Place)
+        ensures rest { self.new ≡ record self.old { looks = self.new.looks } }
+        ensures map { Starts (λ entry. entry.map) colour place self.old.shape.weak.entries
+            self.old.looks.by_map self.new.looks.by_map }
+        ensures key { Starts (λ entry. entry.key) colour place self.old.shape.weak.entries
+            self.old.looks.by_key self.new.looks.by_key }
+        ensures parallel { AreParallel (weak_of self.new) }
+    {
+        self.weak.start(colour, place);
+    }
+
+    /// Takes the next weak entry that is still to be looked at in a colour, for its map or for its key,
+    /// and answers its map, its key and its value; `None` exactly where nothing is left in that colour.
+    /// It takes no memory.
+    pub fn next_left(&mut self, colour: MarkColour) -> Option<(Place, Place, Place)>
+        ensures rest { self.new ≡ record self.old { looks = self.new.looks } }
+        ensures some { IfSome result (λ entry. HasLooked colour entry
+            self.old.shape.weak.entries self.old.looks self.new.looks) }
+        ensures none { IfNone result ((self.new ≡ self.old) × NoneLeft colour self.old.looks) }
+        ensures parallel { AreParallel (weak_of self.new) }
+        ensures sound { AreEntries self.new.shape.weak }
+    {
+        self.weak.next_left(colour)
     }
 
     // Gives a value to a key of a map.

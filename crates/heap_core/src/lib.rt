@@ -11,6 +11,7 @@
 //                wrapper maps, the entries, what registers and gray slots hold
 //     colours    the two words of mark bits of each arena
 //     buffers    what waits for the gray marking of each zone
+//     looks      in which colour marking has still to look at each weak entry
 //
 // Marking changes `colours` alone, so what is said of `shape` stays said through all of it.
 //

@@ -1,7 +1,7 @@
 use Rattle.std.proofs.Common.{ap, refl, subst, sym}
 use Rattle.arena_table.specs.Table.{ArenasState}
 use Rattle.roots.specs.RootsHeld.{RootsState}
-use Rattle.weak_maps.specs.WeakMaps.{WeakMapsState, value_of}
+use Rattle.weak_maps.specs.WeakMaps.{WeakTableState, value_of}
 use Rattle.zones.specs.ZonesMade.{ZonesState}
 use Rattle.heap_core.specs.Shape.{arena_shapes}
 use Rattle.heap_core.specs.Heap.{bits_of}
@@ -16,13 +16,14 @@ returns-clause-empty c = record {
   states = ap (λ (s : ZonesState). s.states) c.new-2.ensures;
   comps = ap (λ (s : ZonesState). s.comps) c.new-2.ensures;
   wrappers = c.in_ok-new-2.ensures;
-  entries = λ m k. ap (λ (s : WeakMapsState). value_of s m k) c.new-6.ensures.empty;
+  entries = λ m k. ap (λ (s : WeakTableState). value_of s m k) c.new-6.ensures.empty;
   regs = ap (λ (s : RootsState). s.regs) c.in_ok-new-3.ensures;
   slots = ap (λ (s : RootsState). s.slots) c.in_ok-new-3.ensures;
   objects = refl;
   colours = ap (λ (s : ArenasState). bits_of s.arenas) c.in_ok-new.ensures;
   buffers = ap (λ (s : RootsState). s.buffers) c.in_ok-new-3.ensures;
   made = ap (λ (s : ArenasState). s.made) c.in_ok-new.ensures;
+  looks = c.new-6.ensures.none;
 }
 
 pub returns-clause-sound : goal.returns-clause-sound
