@@ -8,14 +8,14 @@ use Rattle.gz_names.specs.declared.zone_sets.ZoneSet.{ZoneSet}
 use Rattle.cell_bits.specs.declared.bits.Bits.{Bits}
 use Rattle.zones.specs.declared.states.State.TheVariants as state
 use Rattle.wrappers.specs.WrapperMaps.{AreApart, list_of, without_dead}
-use Rattle.weak_maps.specs.WeakMaps.{IsWithoutDead}
+use Rattle.weak_maps.specs.WeakMaps.{Carries, IsWithoutDead}
 use Rattle.mark_stack.specs.Stack.{Piles}
 use Rattle.gray_lists.specs.Incoming.{Incoming, list_of as waiting_for}
 use Rattle.colour_defs.specs.Graph.{GraphState}
 use Rattle.colour_defs.specs.World.{Collection}
 use Rattle.colour_defs.specs.Ends.{IsBlackAtEnd, IsGrayAtEnd, IsWhiteAtEnd}
 use Rattle.heap_core.specs.Shape.{Shape, is_marking, name_at, out_of, state_in, zone_of}
-use Rattle.heap_core.specs.Heap.{HeapState}
+use Rattle.heap_core.specs.Heap.{HeapState, weak_of}
 use Rattle.heap_core.specs.Sweeping.{handed, is_absent}
 use Rattle.barriers.specs.Reached.{HasEntry}
 use Rattle.barriers.specs.Colours.{IsBlack, IsGray, IsSeen, IsWhite}
@@ -52,7 +52,8 @@ pub record AreColoured (h : HeapState) (graph : GraphState) (k : Collection) (ma
   pub white : (x : Name) (p : Place) → name_at h.shape p ≡ Some x → IsWhite h p ↔ IsWhiteAtEnd graph k marking x
 
 -- a heap after the end of a group: the arenas of its zones are handed to sweeping; its zones are swept, or are finished
--- where they have no arena; and wrappers and entries that name a cell which is not present any more are dropped
+-- where they have no arena; wrappers and entries that name a cell which is not present any more are dropped, and the
+-- other entries are to be looked at as they were
 pub record IsEnded (old : HeapState) (g : ZoneSet) (new : HeapState) : Type 0 where
   pub rest : new ≡ record old {
     shape = record old.shape {
@@ -61,6 +62,7 @@ pub record IsEnded (old : HeapState) (g : ZoneSet) (new : HeapState) : Type 0 wh
       wrappers = new.shape.wrappers;
       weak = new.shape.weak;
     };
+    looks = new.looks;
   }
   pub sized : length new.shape.states ≡ length old.shape.states
   pub others : (z : ℕ) → (HasZone g.bits z → ⊥) → state_in new.shape z ≡ state_in old.shape z
@@ -71,6 +73,7 @@ pub record IsEnded (old : HeapState) (g : ZoneSet) (new : HeapState) : Type 0 wh
   pub wrappers : (z : ℕ) → list_of new.shape.wrappers z ≡ without_dead (bit_at g.bits z) (is_absent new.shape)
       (list_of old.shape.wrappers z)
   pub entries : IsWithoutDead (is_absent new.shape) old.shape.weak new.shape.weak
+  pub carries : Carries (weak_of old) (weak_of new)
 
 -- the name of a gray cell of a group
 pub record IsGrayHere (h : HeapState) (g : ZoneSet) (x : Name) : Type 0 where
@@ -91,13 +94,18 @@ pub record EndsIn (c : CollectorState) (g : ZoneSet) (rest : List ZoneSet) (d : 
 abbrev pub AreJustFlown : Shape → (ℕ → Option Bits) → Type 0
 AreJustFlown s flown = (a : ℕ) → flown a ≡ out_of s a
 
--- wrappers of a group and entries that name a cell which is not present are dropped
+-- wrappers of a group and entries that name a cell which is not present are dropped, and the other entries are to be
+-- looked at as they were
 pub record DropsDead (old : HeapState) (g : ZoneSet) (new : HeapState) : Type 0 where
-  pub rest : new ≡ record old { shape = record old.shape { wrappers = new.shape.wrappers; weak = new.shape.weak } }
+  pub rest : new ≡ record old {
+    shape = record old.shape { wrappers = new.shape.wrappers; weak = new.shape.weak };
+    looks = new.looks;
+  }
   pub apart : AreApart old.shape.wrappers.lists
   pub wrappers : (z : ℕ) → list_of new.shape.wrappers z ≡ without_dead (bit_at g.bits z) (is_absent old.shape)
       (list_of old.shape.wrappers z)
   pub entries : IsWithoutDead (is_absent old.shape) old.shape.weak new.shape.weak
+  pub carries : Carries (weak_of old) (weak_of new)
 
 -- the zones of a group are swept, or are finished where they have no arena
 pub record EndsZones (old : HeapState) (g : ZoneSet) (new : HeapState) : Type 0 where

@@ -16,7 +16,7 @@ use Rattle.heap_core.specs.declared.plans.Change.{Change}
 use Rattle.heap_core.specs.declared.plans.Change.TheVariants as change
 use Rattle.heap_core.specs.Shape.{AreWhole, IsPresent, cell_of, field_at, field_in, held_name, name_at}
 use Rattle.heap_core.specs.Heap.{HeapState, with_reg, with_slot}
-use Rattle.heap_core.specs.Changes.{Makes, with_comp, with_entry, with_zone, without_entry, wrapper_cell}
+use Rattle.heap_core.specs.Changes.{Makes, with_comp, with_zone, wrapper_cell}
 use Rattle.heap_core.specs.Effects.{HoldsWrapper, MakesHeld}
 use Rattle.heap_core.specs.Lookups.{number_at}
 use Rattle.heap_core.specs.Plans as plans
@@ -112,6 +112,10 @@ module _ (old : HeapState) (g : GraphState) (shows : Shows old g) where
   none_handed : (p : Place) → None ≡ Some p → IsNear old.shape p
   none_handed p e = absurd (cc e)
 
+  -- with the entries of another
+  abbrev with_weak : HeapState → HeapState
+  with_weak new = record old { shape = record old.shape { weak = new.shape.weak }; looks = new.looks }
+
   module _ (whole : AreWhole old.shape.arenas) (c : GraphCmd) (new : HeapState) where
     pub moves_of : (n : ℕ) (ch : Change) (answer : Reply) → IsAble old.shape n ch → WakesBy old c ch
         → ChangesBy old ch answer new → Moves old c ch new
@@ -131,6 +135,6 @@ module _ (old : HeapState) (g : GraphState) (shows : Shows old g) where
         quiet (stay_writes old p f v new by.0 whole) wakes (ap (λ (h : HeapState). h.colours) by.0.rest)
         (λ q e. absurd (cc e))
     moves_of n (change.Put m k v) answer able wakes by =
-        quietly whole c (change.Put m k v) new (with_entry old m k v) by.0.rest refl refl wakes none_handed
+        quietly whole c (change.Put m k v) new (with_weak new) by.0.rest refl refl wakes none_handed
     moves_of n (change.Del m k) answer able wakes by =
-        quietly whole c (change.Del m k) new (without_entry old m k) by.0.rest refl refl wakes none_handed
+        quietly whole c (change.Del m k) new (with_weak new) by.0.rest refl refl wakes none_handed

@@ -12,7 +12,7 @@ use Rattle.zones.specs.declared.states.State.{State}
 use Rattle.zones.specs.declared.states.State.TheVariants as state
 use Rattle.mark_stack.specs.Stack.{Piles}
 use Rattle.gray_lists.specs.Incoming.{IsOnce, list_of}
-use Rattle.weak_maps.specs.Lists.{is_same}
+use Rattle.weak_maps.specs.Places.{is_same}
 use Rattle.weak_maps.specs.WeakMaps.{EntryState, value_at}
 use Rattle.weak_maps.proofs.Places.{is_same-self}
 use Rattle.roots.specs.Buffers.{buffer_at}

@@ -142,10 +142,25 @@ module _ (old : HeapState) (flown : ℕ → Option Bits) (covers : Covers old.sh
   changes_joined new (change.Register r v named) answer by = (ap (λ (h : HeapState). joined h flown) by.0, by.1)
   changes_joined new (change.Slot g v) answer by = (ap (λ (h : HeapState). joined h flown) by.0, by.1)
   changes_joined new (change.Field p f v) answer by = (writes_joined p f v new by.0, by.1)
-  changes_joined new (change.Put m k v) answer by =
-      (record { rest = ap (λ (h : HeapState). joined h flown) by.0.rest; values = by.0.values }, by.1)
-  changes_joined new (change.Del m k) answer by =
-      (record { rest = ap (λ (h : HeapState). joined h flown) by.0.rest; values = by.0.values }, by.1)
+  changes_joined new (change.Put m k v) answer by = (
+    record {
+      rest = ap (λ (h : HeapState). joined h flown) by.0.rest;
+      values = by.0.values;
+      count = by.0.count;
+      entries = by.0.entries;
+      left = by.0.left;
+    },
+    by.1,
+  )
+  changes_joined new (change.Del m k) answer by = (
+    record {
+      rest = ap (λ (h : HeapState). joined h flown) by.0.rest;
+      values = by.0.values;
+      count = by.0.count;
+      carries = by.0.carries;
+    },
+    by.1,
+  )
 
 -- the last element of a longer list, and those before it
 last_or_before : {X : Type 0} (xs : List X) (y : X) (i : ℕ) → (slice_get (xs ++ y ∷ []) i ≡ slice_get xs i)

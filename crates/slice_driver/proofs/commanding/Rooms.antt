@@ -1,17 +1,13 @@
 -- How many arenas and entries a command leaves, and invariants with more room.
-use Rattle.std.proofs.Common.{◌≡◌, ◌≤◌, ◌+◌, ◌-◌, ◌==◌, ℕ, Bool, true, false, List, [], ◌∷◌, length, set, get_or}
-use Rattle.std.proofs.Common.{position, Option, Some, None, is_some, if◌then◌else◌, refl, sym, ap, subst, ◌∙◌, arith}
-use Rattle.std.specs.List.{swap_remove}
-use Rattle.std.specs.Option.{option_map_or}
-use Rattle.std.proofs.lemmas.List.{length-take}
+use Rattle.std.proofs.Common.{◌≡◌, ◌≤◌, ◌+◌, ◌==◌, ℕ, Bool, true, false, List, length, Option, Some, None, is_some}
+use Rattle.std.proofs.Common.{if◌then◌else◌, refl, sym, ap, subst, ◌∙◌, arith}
 use Rattle.gz_names.specs.declared.numbers.Place.{Place}
 use Rattle.gz_names.specs.declared.replies.Reply.{Reply}
 use Rattle.cell_bits.specs.declared.bits.Bits.{Bits}
 use Rattle.arena_table.specs.Cells.{CellState}
-use Rattle.weak_maps.specs.WeakMaps.{EntryState, WeakMapsState, del, is_entry, put_at, value_at}
-use Rattle.weak_maps.proofs.Table.{length-put_at}
+use Rattle.weak_maps.specs.WeakMaps.{value_of}
 use Rattle.heap_core.specs.Heap.{HeapState}
-use Rattle.heap_core.specs.Changes.{Makes, next_place, with_entry, without_entry}
+use Rattle.heap_core.specs.Changes.{IsWith, Makes, next_place}
 use Rattle.heap_core.specs.declared.plans.Change.{Change}
 use Rattle.heap_core.specs.declared.plans.Change.TheVariants as change
 use Rattle.heap_core.specs.Plans.{ChangesBy, IsAble, made_by}
@@ -21,49 +17,19 @@ use Rattle.barriers.specs.Invariant.{MarkingInvariant}
 use Rattle.barriers.specs.PendingLive.{GrayInvariant}
 use Rattle.slice_driver.specs.Rooms.{arenas_after}
 
--- an entry that is taken out leaves no more of them
-shorter : (weak : WeakMapsState) (m k : Place) → length (del weak m k).entries ≤ length weak.entries
-shorter weak m k = go weak.entries
-  where
-    go : (es : List EntryState) → length (del (record weak { entries = es }) m k).entries ≤ length es
-    go [] = omega arith
-    go (x ∷ xs) = by (position (is_entry m k) (x ∷ xs))
-      where
-        by : (r : Option ℕ) → length (option_map_or (λ i. swap_remove (x ∷ xs) i x) r (x ∷ xs)) ≤ length (x ∷ xs)
-        by None = omega arith
-        by (Some i) = let n =
-            length-take (length (x ∷ xs) - 1) (set (x ∷ xs) i (get_or (x ∷ xs) (length (x ∷ xs) - 1) x)) in
-            omega (arith, n)
-
 module _ (old new : HeapState) where
   few : (k : HeapState) → new ≡ k → k.shape.weak ≡ old.shape.weak
       → length new.shape.weak.entries ≤ length old.shape.weak.entries + 1
   few k e same = let n : length new.shape.weak.entries ≡ length old.shape.weak.entries =
       ap (λ (h : HeapState). length h.shape.weak.entries) e ∙ ap (λ w. length w.entries) same in omega (arith, n)
 
-  one_more : (es : List EntryState) (m k v : Place) → length (put_at es m k v) ≤ length es + 1
-  one_more es m k v = go (is_some (value_at es m k)) (length-put_at es m k v)
+  few_put : (m k v : Place) → IsWith old m k v new → length new.shape.weak.entries ≤ length old.shape.weak.entries + 1
+  few_put m k v w = go (is_some (value_of old.shape.weak m k)) w.count
     where
-      go : (b : Bool) → length (put_at es m k v) ≡ length es + (if b then 0 else 1)
-          → length (put_at es m k v) ≤ length es + 1
+      go : (b : Bool) → length new.shape.weak.entries ≡ length old.shape.weak.entries + (if b then 0 else 1)
+          → length new.shape.weak.entries ≤ length old.shape.weak.entries + 1
       go true e = omega (arith, e)
       go false e = omega (arith, e)
-
-  few_put : (m k v : Place) → new ≡ with_entry old m k v → length new.shape.weak.entries ≤ length old.shape.weak.entries
-      + 1
-  few_put m k v e =
-      let n : length new.shape.weak.entries ≡ length (put_at old.shape.weak.entries m k v) =
-      ap (λ (h : HeapState). length h.shape.weak.entries) e in
-      let one = one_more old.shape.weak.entries m k v in
-      omega (arith, n, one)
-
-  few_del : (m k : Place) → new ≡ without_entry old m k → length new.shape.weak.entries ≤ length old.shape.weak.entries
-      + 1
-  few_del m k e =
-      let n : length new.shape.weak.entries ≡ length (del old.shape.weak m k).entries =
-      ap (λ (h : HeapState). length h.shape.weak.entries) e in
-      let less = shorter old.shape.weak m k in
-      omega (arith, n, less)
 
   pub few_entries : (ch : Change) (answer : Reply) → ChangesBy old ch answer new
       → length new.shape.weak.entries ≤ length old.shape.weak.entries + 1
@@ -78,8 +44,8 @@ module _ (old new : HeapState) where
   few_entries (change.Register r v named) answer by = few new refl (ap (λ (h : HeapState). h.shape.weak) by.0)
   few_entries (change.Slot g v) answer by = few new refl (ap (λ (h : HeapState). h.shape.weak) by.0)
   few_entries (change.Field p f v) answer by = few new refl (ap (λ (h : HeapState). h.shape.weak) by.0.rest)
-  few_entries (change.Put m k v) answer by = few_put m k v by.0.rest
-  few_entries (change.Del m k) answer by = few_del m k by.0.rest
+  few_entries (change.Put m k v) answer by = few_put m k v by.0
+  few_entries (change.Del m k) answer by = (let n = by.0.count in omega (arith, n))
 
   as_many : new.colours ≡ old.colours → (o : Option ℕ) → length new.colours ≤ arenas_after old o
   as_many same None = let n = ap (λ (ds : List Bits). length ds) same in omega (arith, n)

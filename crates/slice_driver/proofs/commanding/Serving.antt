@@ -1,6 +1,6 @@
 -- What each kind of change of the heap leaves of marking.
-use Rattle.std.proofs.Common.{◌≡◌, ◌≢◌, ◌⊎◌, ◌<◌, ◌≤◌, ◌*◌, ℕ, zero, suc, List, [], ◌∷◌, length, Option, Some, None}
-use Rattle.std.proofs.Common.{IsSome, slice_get, inl, inr, refl, sym, ap, subst, ◌∙◌, arith}
+use Rattle.std.proofs.Common.{◌≡◌, ◌≢◌, ◌⊎◌, ◌<◌, ◌≤◌, ◌*◌, ◌&&◌, ℕ, zero, suc, List, [], ◌∷◌, length, Option, Some}
+use Rattle.std.proofs.Common.{None, IsSome, if◌then◌else◌, slice_get, inl, inr, refl, sym, ap, subst, ◌∙◌, arith}
 use Rattle.std.specs.Option.{option_map}
 use Rattle.gz_names.specs.declared.names.Name.TheVariants.{Cell}
 use Rattle.gz_names.specs.declared.numbers.CompNo.{CompNo}
@@ -11,7 +11,8 @@ use Rattle.cell_bits.specs.declared.bits.Bits.{Bits}
 use Rattle.arena_table.specs.Cells.{CellState}
 use Rattle.arena_table.specs.Table.{new_cell}
 use Rattle.zones.specs.declared.states.State.{State}
-use Rattle.weak_maps.specs.WeakMaps.{WeakMapsState, value_of}
+use Rattle.weak_maps.specs.Places.{is_same}
+use Rattle.weak_maps.specs.WeakMaps.{WeakTableState, value_of}
 use Rattle.mark_stack.specs.Stack.{Piles}
 use Rattle.gray_lists.specs.Incoming.{Incoming}
 use Rattle.heap_core.specs.declared.plans.Change.{Change}
@@ -19,11 +20,11 @@ use Rattle.heap_core.specs.declared.plans.Change.TheVariants as change
 use Rattle.heap_core.specs.Shape.{ArenaShape, HasEdge, IsPresent, Shape, cell_of, field_at, field_in, out_in, out_of}
 use Rattle.heap_core.specs.Shape.{state_or, zone_of}
 use Rattle.heap_core.specs.Heap.{HeapState, colour_in, colour_of, joined, with_reg, with_slot}
-use Rattle.heap_core.specs.Changes.{with_comp, with_entry, with_number, with_zone, wrapper_cell}
-use Rattle.heap_core.specs.Effects.{HoldsWrapper, IsWithout, MakesHeld}
+use Rattle.heap_core.specs.Changes.{IsWith, IsWithout, with_comp, with_number, with_zone, wrapper_cell}
+use Rattle.heap_core.specs.Effects.{HoldsWrapper, MakesHeld}
 use Rattle.heap_core.specs.Lookups.{number_at}
 use Rattle.heap_core.specs.Plans as plans
-use Rattle.heap_core.specs.Plans.{ChangesBy, IsAble, IsWith, handed_by, overwritten_by}
+use Rattle.heap_core.specs.Plans.{ChangesBy, IsAble, handed_by, overwritten_by}
 use Rattle.barriers.specs.Colours.{IsBlack}
 use Rattle.barriers.specs.PendingLive.{GrayInvariant}
 use Rattle.barriers.specs.Invariant.{ColourInvariant, MarkingInvariant}
@@ -31,7 +32,7 @@ use Rattle.barriers.specs.Spreading.{Covers}
 use Rattle.barriers.specs.Birth.{Born}
 use Rattle.barriers.specs.Rewiring.{MayCome, Rewired, SetsEntry}
 use Rattle.barriers.proofs.Births.{born_black, born_gray, born_invariant, born_live}
-use Rattle.barriers.proofs.Changing.{puts_entry, rewired_comp, rewired_entry, rewired_number, rewired_reg, rewired_slot}
+use Rattle.barriers.proofs.Changing.{rewired_comp, rewired_entry, rewired_number, rewired_reg, rewired_slot}
 use Rattle.barriers.proofs.Changing.{rewired_wrappers, rewired_write, rewired_zone}
 use Rattle.barriers.proofs.Flying.{flown_length}
 use Rattle.barriers.proofs.NewCells.{born, leads_nowhere, leads_to_target}
@@ -233,7 +234,7 @@ serves_born h x k s lists inv gray more also outs zones_out b = record {
     λ l. both.1 (elim l [ inl was ↦ inl was | inr new ↦ inr (new_is h x k b p new) ]),
   ));
   edges_then = λ p q e. inl (born_edge h x k b p q e);
-  entries_then = λ m q v e. inl (ap (λ (w : WeakMapsState). value_of w m q) b.weak ∙ e);
+  entries_then = λ m q v e. inl (ap (λ (w : WeakTableState). value_of w m q) b.weak ∙ e);
   across = λ p q e ne. born_across h x k b p q e;
 }
   where
@@ -323,11 +324,20 @@ module _ (old new : HeapState) (flown : ℕ → Option Bits) (s : Piles) (lists 
       (rewired_reg (joined m.between flown) r (Some m.wrapper) second.marks.holds.colours
       (λ y e. subst (IsBlack (joined m.between flown)) (some_one _ _ e) here)))
 
+  -- an entry was set or taken out
+  sets_entry : (m k : Place) (v : Option Place)
+      → new ≡ record old { shape = record old.shape { weak = new.shape.weak }; looks = new.looks }
+      → ((a b : Place) → value_of new.shape.weak a b
+      ≡ (if is_same m a && is_same k b then v else value_of old.shape.weak a b))
+      → SetsEntry h m k v (joined new flown)
+  sets_entry m k v rest values =
+      record { rest = ap (λ (z : HeapState). joined z flown) rest; values = values }
+
   serves_put : (n : ℕ) (m k v : Place) → IsAble old.shape n (change.Put m k v)
       → ((p : Place) → value_of old.shape.weak m k ≡ Some p → IsBlack h p) → IsWith old m k v new
       → Serves h (joined new flown) s lists
-  serves_put n m k v able black w = rewired (with_entry old m k v) w.rest
-      (rewired_entry h m k (Some v) (with_entry h m k v) (puts_entry h m k v) ci black
+  serves_put n m k v able black w = serves_rewired h (joined new flown) s lists inv gray
+      (rewired_entry h m k (Some v) (joined new flown) (sets_entry m k (Some v) w.rest w.values) ci black
       (λ q e. subst (MayCome h m k) (some_one _ _ e) (record {
         black = ci.regs_black v able.2.held;
         map = held_there m able.0;
@@ -338,15 +348,9 @@ module _ (old new : HeapState) (flown : ℕ → Option Bits) (s : Piles) (lists 
 
   serves_del : (m k : Place) → ((p : Place) → value_of old.shape.weak m k ≡ Some p → IsBlack h p)
       → IsWithout old m k new → Serves h (joined new flown) s lists
-  serves_del m k black w =
-      let sets : SetsEntry h m k None (joined new flown) = record {
-        rest = ap (λ (z : HeapState). joined z flown) w.rest
-            ∙ ap (λ x. record h { shape = record h.shape { weak = x } })
-            (ap (λ (z : HeapState). z.shape.weak) (sym w.rest));
-        values = w.values;
-      } in
-      serves_rewired h (joined new flown) s lists inv gray
-      (rewired_entry h m k None (joined new flown) sets ci black (λ q e. absurd (cc e)))
+  serves_del m k black w = serves_rewired h (joined new flown) s lists inv gray
+      (rewired_entry h m k None (joined new flown) (sets_entry m k None w.rest w.values) ci black
+      (λ q e. absurd (cc e)))
 
   pub serves : (n : ℕ) (ch : Change) (answer : Reply) → IsAble old.shape n ch
       → ((p : Place) → overwritten_by old.shape ch ≡ Some p → IsBlack h p)

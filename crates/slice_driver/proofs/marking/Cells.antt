@@ -7,7 +7,7 @@ use Rattle.gz_names.specs.declared.names.Name.TheVariants.{Cell, Wrap}
 use Rattle.gz_names.specs.declared.numbers.Place.{Place}
 use Rattle.arena_table.specs.Cells.{CellState}
 use Rattle.wrappers.specs.WrapperMaps.{WrappersState, list_of, place_of}
-use Rattle.weak_maps.specs.WeakMaps.{WeakMapsState, value_of}
+use Rattle.weak_maps.specs.WeakMaps.{WeakTableState, value_of}
 use Rattle.colour_defs.specs.Graph.{GraphState}
 use Rattle.heap_core.specs.Shape.{HasEdge, IsPresent, cell_of, comp_at, field_at, field_in, held_name, name_at, zone_of}
 use Rattle.heap_core.specs.Heap.{HeapState}
@@ -51,10 +51,10 @@ module _ (h k : HeapState) (same : HasSameCells h k) where
   edge_back p q e = (e.0, e.1, sym (field_same p e.0) ∙ e.2)
 
   pub entry_on : (m q v : Place) → HasEntry h.shape m q v → HasEntry k.shape m q v
-  entry_on m q v e = subst (λ (w : WeakMapsState). value_of w m q ≡ Some v) (sym same.weak) e
+  entry_on m q v e = subst (λ (w : WeakTableState). value_of w m q ≡ Some v) (sym same.weak) e
 
   pub entry_back : (m q v : Place) → HasEntry k.shape m q v → HasEntry h.shape m q v
-  entry_back m q v e = subst (λ (w : WeakMapsState). value_of w m q ≡ Some v) same.weak e
+  entry_back m q v e = subst (λ (w : WeakTableState). value_of w m q ≡ Some v) same.weak e
 
   pub present_on : (p : Place) → IsPresent h.shape p → IsPresent k.shape p
   present_on p there = subst (λ (o : Option CellState). IsSome o) (sym (same.cells p)) there

@@ -105,7 +105,7 @@ says_goes c flown unit d flying goes_on handed finished due g = record {
       (sym due) (subst (λ (h : Option (List Job)). units_left d (flying_after h flying) < units_left c flown)
       (sym handed) g.less);
   made = g.made_is;
-  entries = (let same = ap (λ (w : Rattle.weak_maps.specs.WeakMaps.WeakMapsState). length w.entries) g.weak_is in
+  entries = (let same = ap (λ (w : Rattle.weak_maps.specs.WeakMaps.WeakTableState). length w.entries) g.weak_is in
       omega (arith, same));
 }
 

@@ -67,6 +67,7 @@ module _ (c : CollectorState) (flown : ℕ → Option Bits) (d : CollectorState)
         colours = d.heap.colours;
         buffers = d.heap.buffers;
         made = d.heap.made;
+        looks = d.heap.looks;
       })) (sym q.shape_is) (record {
         cells = λ p. refl;
         zones = λ p. refl;
