@@ -9,6 +9,7 @@ use Rattle.heap_core.specs.Shape.{Shape, is_marking}
 use Rattle.heap_core.specs.Heap.{HeapState}
 use Rattle.barriers.specs.Colours.{HasGob, gobs}
 use Rattle.barriers.specs.Spreading.{Blackens, Spreads, Grows}
+use Rattle.barriers.proofs.Scans.{no_more_twice, none_more, pops_wake}
 
 -- the shape is as it was
 pub shape_is : (h k : HeapState) → k ≡ record h { colours = k.colours } → k.shape ≡ h.shape
@@ -73,6 +74,7 @@ spreads_none P h p = record {
   left_less = omega arith;
   work = omega arith;
   grays = omega arith;
+  scans = none_more h p;
 }
 
 pub spreads_more : (P Q R : Place → Type 0) (h : HeapState) (p : Piles) (k : HeapState) (q : Piles) (l : HeapState)
@@ -90,6 +92,7 @@ spreads_more P Q R h p k q l r a b f g = record {
   left_less = omega (arith, a.left_less, b.left_less);
   work = omega (arith, a.work, b.work);
   grays = omega (arith, a.grays, b.grays);
+  scans = no_more_twice h p k q l r a.scans b.scans;
 }
 
 pub spreads_within : (P R : Place → Type 0) (h : HeapState) (p : Piles) (k : HeapState) (q : Piles) → Spreads P h p k q
@@ -103,6 +106,7 @@ spreads_within P R h p k q a f = record {
   left_less = a.left_less;
   work = a.work;
   grays = a.grays;
+  scans = a.scans;
 }
 
 pub grows_none : (P : Place → Type 0) (h : HeapState) (p : Piles) → Grows P h p h p
@@ -134,6 +138,7 @@ popped P h q x = record {
   left_less = omega arith;
   work = omega (arith, length-append q.wake (x ∷ []));
   grays = omega (arith, length-append q.wake (x ∷ []));
+  scans = pops_wake h q x;
 }
 
 -- a woken cell was taken from its pile

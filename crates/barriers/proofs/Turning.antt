@@ -10,9 +10,11 @@ use Rattle.heap_core.specs.Shape.{Shape, is_marking, is_marking_state, state_in,
 use Rattle.heap_core.specs.Heap.{HeapState, colour_of}
 use Rattle.barriers.specs.Colours.{IsBlack, IsSeen}
 use Rattle.barriers.specs.Invariant.{ColourInvariant, PileInvariant, InvariantWhile}
+use Rattle.barriers.specs.Scans.{ScansNoMore}
 use Rattle.barriers.specs.Spreading.{Blackened, Grows, Turns}
 use Rattle.barriers.proofs.Places.{same_or_other}
 use Rattle.barriers.proofs.Blackening.{marking_or_not}
+use Rattle.barriers.proofs.Scans.{turns_no_more}
 use Rattle.barriers.proofs.Spreading.{grows_none}
 
 -- the piles, with one place put on that of its zone
@@ -88,8 +90,8 @@ module _ (h : HeapState) (ds : List Bits) (p q : Piles) (t : Place) (turned : Bl
     | inr e ↦ elim s [ inl g ↦ inl (e ∙ g) | inr b ↦ inr (e ∙ b) ]
   ]
 
-  grown : Grows (λ y. y ≡ t) h p k q
-  grown = record {
+  grown : ScansNoMore h p k q → Grows (λ y. y ≡ t) h p k q
+  grown scans = record {
     spreads = record {
       blackens = record {
         rest = refl;
@@ -111,6 +113,7 @@ module _ (h : HeapState) (ds : List Bits) (p q : Piles) (t : Place) (turned : Bl
       left_less = omega (arith, turned.left_is);
       work = omega (arith, turned.left_is, puts.both_more);
       grays = omega (arith, turned.grays_is, puts.wake_exact);
+      scans = scans;
     };
     wake_kept = puts.wake_kept;
     woken = λ y b m. elim (only y b) [
@@ -207,13 +210,14 @@ pub record Effect (h : HeapState) (p : Piles) (t : Place) (k : HeapState) (q : P
   pub invariant : (followed : List Place) → InvariantWhile followed h p → InvariantWhile followed k q
 
 put_effect : (h : HeapState) (p : Piles) (t : Place) (k : HeapState) (q : Piles) → Blackened h t k → Puts h.shape t p q
-    → Effect h p t k q
-put_effect h p t k q turned puts = subst (λ (z : HeapState). Blackened h t z → Effect h p t z q) (sym turned.rest)
-    (λ tu. record {
-      grows = grown h k.colours p q t tu puts;
+    → ScansNoMore h p k q → Effect h p t k q
+put_effect h p t k q turned puts scans =
+    subst (λ (z : HeapState). Blackened h t z → ScansNoMore h p z q → Effect h p t z q) (sym turned.rest)
+    (λ tu less. record {
+      grows = grown h k.colours p q t tu puts less;
       is_black = tu.black;
       invariant = invariant_kept h k.colours p q t tu puts;
-    }) turned
+    }) turned scans
 
 pub turn_effect : (h : HeapState) (p : Piles) (t : Place) (k : HeapState) (q : Piles) → Turns h p t k q
     → Effect h p t k q
@@ -222,8 +226,8 @@ turn_effect h p t k q (inl (b, ek, eq)) =
     (subst (λ (z : Piles). Effect h p t h z) (sym eq)
     (record { grows = grows_none (λ y. y ≡ t) h p; is_black = b; invariant = λ followed inv. inv }))
 turn_effect h p t k q (inr (inl (turned, m, eq))) =
-    subst (λ (z : Piles). Effect h p t k z) (sym eq)
-    (put_effect h p t k (pushed p pile.Black t) turned (puts_black h.shape t p m))
+    put_effect h p t k q turned (subst (λ (z : Piles). Puts h.shape t p z) (sym eq) (puts_black h.shape t p m))
+    (turns_no_more h p t k q (inr (inl (turned, m, eq))))
 turn_effect h p t k q (inr (inr (turned, m, eq))) =
-    subst (λ (z : Piles). Effect h p t k z) (sym eq)
-    (put_effect h p t k (pushed p pile.Wake t) turned (puts_wake h.shape t p m))
+    put_effect h p t k q turned (subst (λ (z : Piles). Puts h.shape t p z) (sym eq) (puts_wake h.shape t p m))
+    (turns_no_more h p t k q (inr (inr (turned, m, eq))))

@@ -7,6 +7,7 @@ use Rattle.mark_stack.specs.declared.stack.Pile.TheVariants as pile
 use Rattle.heap_core.specs.Shape.{Shape, IsPresent, is_marking, out_of}
 use Rattle.heap_core.specs.Heap.{HeapState, colour_of}
 use Rattle.barriers.specs.Colours.{IsBlack, gobs, left, whites, grays_outside}
+use Rattle.barriers.specs.Scans.{ScansNoMore}
 
 -- exactly the arenas that are handed to sweeping are in flight
 abbrev pub Covers : Shape → (ℕ → Option Bits) → Type 0
@@ -43,7 +44,8 @@ pub record Blackens (P : Place → Type 0) (h k : HeapState) : Type 0 where
   pub others : (y : Place) → IsBlack k y ⊎ (colour_of k y ≡ colour_of h y)
   pub whites_less : whites k ≤ whites h
 
--- the same with the piles: in marking zones what turned black is on the black pile, and no work came up
+-- the same with the piles: in marking zones what turned black is on the black pile, and no work came up; nor may any
+-- cell be scanned more often
 pub record Spreads (P : Place → Type 0) (h : HeapState) (p : Piles) (k : HeapState) (q : Piles) : Type 0 where
   pub blackens : Blackens P h k
   pub gray_is : q.gray ≡ p.gray
@@ -53,6 +55,7 @@ pub record Spreads (P : Place → Type 0) (h : HeapState) (p : Piles) (k : HeapS
   pub left_less : left k ≤ left h
   pub work : left k + (length q.black + length q.wake) ≤ left h + (length p.black + length p.wake)
   pub grays : grays_outside k + length q.wake ≤ grays_outside h + length p.wake
+  pub scans : ScansNoMore h p k q
 
 -- the same, where no woken cell was taken from its pile
 pub record Grows (P : Place → Type 0) (h : HeapState) (p : Piles) (k : HeapState) (q : Piles) : Type 0 where

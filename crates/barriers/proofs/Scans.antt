@@ -1,0 +1,121 @@
+-- What a step does to the scans to come.
+use Rattle.std.proofs.Common.{◌≡◌, ◌≢◌, ◌+◌, ◌<◌, ◌≤◌, true, false, inl, inr, refl, sym, ap, ◌∙◌, subst, arith}
+use Rattle.std.proofs.Common.{cond, List, ◌++◌, ◌∷◌, [], count_by}
+use Rattle.std.proofs.lemmas.List.Sums.{sum_by_push}
+use Rattle.gz_names.specs.declared.numbers.Place.{Place}
+use Rattle.cell_bits.specs.declared.bits.Colour.{Colour}
+use Rattle.cell_bits.specs.declared.bits.Colour.TheVariants as colour
+use Rattle.arena_table.specs.Table.{is_place}
+use Rattle.mark_stack.specs.Stack.{Piles, pushed}
+use Rattle.mark_stack.specs.declared.stack.Pile.TheVariants as pile
+use Rattle.heap_core.specs.Heap.{HeapState, colour_of}
+use Rattle.heap_core.proofs.MakingCells.{same-place}
+use Rattle.barriers.specs.Scans.{ScansNoMore, black_scans, black_turns, gray_scans, gray_turns}
+use Rattle.barriers.specs.Spreading.{Blackened, Turns}
+use Rattle.barriers.proofs.Places.{same_or_other}
+
+-- a place that is put on a pile is on it once more, and each other as often as before
+pub on_once_more : (ps : List Place) (x : Place) → count_by (is_place x) (ps ++ x ∷ []) ≡ count_by (is_place x) ps + 1
+on_once_more ps x =
+    sum_by_push (λ z. cond (is_place x z) 1 0) ps x ∙ ap (λ b. count_by (is_place x) ps + cond b 1 0) here
+  where
+    here : is_place x x ≡ true
+    here = elim (same-place x x) [ inl same ↦ same.1 | inr other ↦ absurd (other.0 refl) ]
+
+pub on_as_before : (ps : List Place) (x y : Place) → y ≢ x
+    → count_by (is_place y) (ps ++ x ∷ []) ≡ count_by (is_place y) ps
+on_as_before ps x y n =
+    sum_by_push (λ z. cond (is_place y z) 1 0) ps x
+    ∙ ap (λ b. count_by (is_place y) ps + cond b 1 0) there
+    ∙ omega arith
+  where
+    there : is_place y x ≡ false
+    there = elim (same-place y x) [ inl same ↦ absurd (n same.0) | inr other ↦ other.1 ]
+
+-- so it is on it no less often
+pub on_no_less : (ps : List Place) (x y : Place) → count_by (is_place y) ps ≤ count_by (is_place y) (ps ++ x ∷ [])
+on_no_less ps x y = elim (same_or_other y x) [
+  | inl same ↦ subst (λ z. count_by (is_place z) ps ≤ count_by (is_place z) (ps ++ x ∷ [])) (sym same)
+      (omega (arith, on_once_more ps x))
+  | inr other ↦ omega (arith, on_as_before ps x y other)
+]
+
+pub none_more : (h : HeapState) (p : Piles) → ScansNoMore h p h p
+none_more h p = record { black = λ x. omega arith; gray = λ x. omega arith }
+
+pub no_more_same : (h : HeapState) (p : Piles) (k : HeapState) (q : Piles) → k ≡ h → q ≡ p → ScansNoMore h p k q
+no_more_same h p k q e f =
+    subst (λ (z : HeapState). ScansNoMore h p z q) (sym e)
+    (subst (λ (z : Piles). ScansNoMore h p h z) (sym f) (none_more h p))
+
+pub no_more_twice : (h : HeapState) (p : Piles) (k : HeapState) (q : Piles) (l : HeapState) (r : Piles)
+    → ScansNoMore h p k q → ScansNoMore k q l r → ScansNoMore h p l r
+no_more_twice h p k q l r a b = record {
+  black = λ x. omega (arith, a.black x, b.black x);
+  gray = λ x. omega (arith, a.gray x, b.gray x);
+}
+
+turns_unless_black : (c : Colour) → (c ≡ colour.Black → ⊥) → black_turns c ≡ 1
+turns_unless_black colour.White n = refl
+turns_unless_black colour.Gray n = refl
+turns_unless_black colour.Black n = absurd (n refl)
+
+-- a cell turned black: it turns in neither colour any more, and each other cell as often as before
+module _ (h : HeapState) (x : Place) (k : HeapState) (b : Blackened h x k) where
+  gray_less : (y : Place) → gray_turns (colour_of k y) ≤ gray_turns (colour_of h y)
+  gray_less y = elim (same_or_other y x) [
+    | inl same ↦ subst (λ z. gray_turns (colour_of k z) ≤ gray_turns (colour_of h z)) (sym same)
+        (let none : gray_turns (colour_of k x) ≡ 0 = ap gray_turns b.black in omega (arith, none))
+    | inr other ↦ (let alike = ap gray_turns (b.others y other) in omega (arith, alike))
+  ]
+
+  black_less : (y : Place) → black_turns (colour_of k y) ≤ black_turns (colour_of h y)
+  black_less y = elim (same_or_other y x) [
+    | inl same ↦ subst (λ z. black_turns (colour_of k z) ≤ black_turns (colour_of h z)) (sym same)
+        (let none : black_turns (colour_of k x) ≡ 0 = ap black_turns b.black in omega (arith, none))
+    | inr other ↦ (let alike = ap black_turns (b.others y other) in omega (arith, alike))
+  ]
+
+  pushed_black : (p : Piles) → ScansNoMore h p k (pushed p pile.Black x)
+  pushed_black p = record { black = less; gray = λ y. omega (arith, gray_less y) }
+    where
+      less : (y : Place) → black_scans k (pushed p pile.Black x) y ≤ black_scans h p y
+      less y = elim (same_or_other y x) [
+        | inl same ↦ subst (λ z. black_scans k (pushed p pile.Black x) z ≤ black_scans h p z) (sym same)
+            (let none : black_turns (colour_of k x) ≡ 0 = ap black_turns b.black in
+            let one = turns_unless_black (colour_of h x) b.was in
+            omega (arith, none, one, on_once_more p.black x))
+        | inr other ↦ (let alike = ap black_turns (b.others y other) in
+            omega (arith, alike, on_as_before p.black x y other))
+      ]
+
+  pushed_wake : (p : Piles) → ScansNoMore h p k (pushed p pile.Wake x)
+  pushed_wake p = record { black = λ y. omega (arith, black_less y); gray = λ y. omega (arith, gray_less y) }
+
+-- `turn` lets no cell be scanned more often
+pub turns_no_more : (h : HeapState) (p : Piles) (x : Place) (k : HeapState) (q : Piles) → Turns h p x k q
+    → ScansNoMore h p k q
+turns_no_more h p x k q (inl was) = no_more_same h p k q was.1 was.2
+turns_no_more h p x k q (inr (inl t)) =
+    subst (λ (z : Piles). ScansNoMore h p k z) (sym t.2) (pushed_black h x k t.0 p)
+turns_no_more h p x k q (inr (inr t)) =
+    subst (λ (z : Piles). ScansNoMore h p k z) (sym t.2) (pushed_wake h x k t.0 p)
+
+-- a cell that is taken from the wake pile may be scanned as often as before
+pub pops_wake : (h : HeapState) (p : Piles) (x : Place) → ScansNoMore h (pushed p pile.Wake x) h p
+pops_wake h p x = record { black = λ y. omega arith; gray = λ y. omega arith }
+
+-- a cell that is taken from a pile of marking may be scanned once less, and each other no more often
+pub pops_black : (h : HeapState) (p : Piles) (x : Place) → ScansNoMore h (pushed p pile.Black x) h p
+pops_black h p x = record { black = λ y. omega (arith, on_no_less p.black x y); gray = λ y. omega arith }
+
+pub pops_black_once : (h : HeapState) (p : Piles) (x : Place)
+    → black_scans h p x < black_scans h (pushed p pile.Black x) x
+pops_black_once h p x = omega (arith, on_once_more p.black x)
+
+pub pops_gray : (h : HeapState) (p : Piles) (x : Place) → ScansNoMore h (pushed p pile.Gray x) h p
+pops_gray h p x = record { black = λ y. omega arith; gray = λ y. omega (arith, on_no_less p.gray x y) }
+
+pub pops_gray_once : (h : HeapState) (p : Piles) (x : Place)
+    → gray_scans h p x < gray_scans h (pushed p pile.Gray x) x
+pops_gray_once h p x = omega (arith, on_once_more p.gray x)
