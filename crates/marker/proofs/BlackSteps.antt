@@ -1,5 +1,5 @@
 -- One cell of the black pile was followed.
-use Rattle.std.proofs.Common.{◌≡◌, ◌↔◌, true, inl, inr, sym, ap, ◌∙◌, subst, ◌∷◌, []}
+use Rattle.std.proofs.Common.{◌≡◌, ◌↔◌, ◌<◌, true, inl, inr, sym, ap, ◌∙◌, subst, arith, ◌∷◌, []}
 use Rattle.gz_names.specs.declared.numbers.Place.{Place}
 use Rattle.mark_stack.specs.Stack.{Piles, pushed}
 use Rattle.mark_stack.specs.declared.stack.Pile.TheVariants as pile
@@ -12,10 +12,13 @@ use Rattle.barriers.specs.PendingBlack.{PendingBlack}
 use Rattle.barriers.specs.Invariant.{InvariantWhile, MarkingInvariant}
 use Rattle.barriers.specs.Spreading.{Blackens, Grows, Spreads}
 use Rattle.barriers.specs.Exposing.{KeepsLive}
+use Rattle.barriers.specs.Scans.{ScansNoMore, black_scans}
 use Rattle.barriers.proofs.Spreading.{shape_is, spreads_more, spreads_within}
 use Rattle.barriers.proofs.Following.{followed, taken_black}
 use Rattle.barriers.proofs.BlackClosure.{pending_same, reached_from}
 use Rattle.barriers.proofs.LiveClosure.{gray_kept, live_same}
+use Rattle.barriers.proofs.Scans.{no_more_twice, pops_black, pops_black_once}
+use Rattle.marker.specs.Units.{ScansBlack}
 
 -- before what was woken is followed: the cell's zone is marking, so its entries are not looked at
 pub scanned : (h : HeapState) (p q : Piles) (x : Place) (k : HeapState) (r : Piles) → InvariantWhile [] h p
@@ -59,3 +62,20 @@ follows h p q x k r l t inv e scan sp new =
     (subst (λ s. Reached s (IsBlack k) y) same z)))
     (λ y z. z) (λ y z. z) in
     keeps_pending h p l t inv new (spreads.gray_is ∙ sym (ap (λ (z : Piles). z.gray) e)) spreads.blackens
+
+-- the cell that was taken from the black pile was scanned
+pub scans_black : (h : HeapState) (p q : Piles) (x : Place) (k : HeapState) (r : Piles) (l : HeapState) (t : Piles)
+    → MarkingInvariant h p → p ≡ pushed q pile.Black x → Grows (HasEdge h.shape x) h q k r
+    → Spreads (Reached k.shape (IsBlack k)) k r l t → ScansBlack h p l t
+scans_black h p q x k r l t inv e scan sp =
+    let was = taken_black h p q x inv.holds e in
+    let after : ScansNoMore h q l t = no_more_twice h q k r l t scan.spreads.scans sp.scans in
+    record {
+      cell = x;
+      black = was.black;
+      zone = was.zone;
+      fewer = subst (λ (z : Piles). black_scans l t x < black_scans h z x) (sym e)
+          (omega (arith, pops_black_once h q x, after.black x));
+      no_more = subst (λ (z : Piles). ScansNoMore h z l t) (sym e)
+          (no_more_twice h (pushed q pile.Black x) h q l t (pops_black h q x) after);
+    }

@@ -14,10 +14,12 @@ use Rattle.heap_core.specs.Heap.{HeapState, joined}
 use Rattle.barriers.specs.Colours.{IsBlack, grays_outside, left, whites}
 use Rattle.barriers.specs.PendingLive.{GrayInvariant, buffer_of}
 use Rattle.barriers.specs.Invariant.{InvariantWhile, MarkingInvariant}
+use Rattle.barriers.specs.Scans.{ScansNoMore, gray_scans}
+use Rattle.barriers.proofs.Scans.{no_more_twice, none_more, pops_gray, pops_gray_once}
 use Rattle.marker.specs.GrayBits.{AreGraying}
 use Rattle.marker.specs.Shading.{IsForItem, ItemShaded, Shaded}
 use Rattle.marker.specs.Waiting.{IsBlackOnlyComp, IsCompOf, Noted, TakesBuffered, TakesIncoming}
-use Rattle.marker.specs.Units.{DoesGray, Marks}
+use Rattle.marker.specs.Units.{DoesGray, Marks, TakesOne}
 use Rattle.marker.proofs.GraySteps.{LeadsToSeen, buffered_step, gray_seen, incoming_step, pile_step}
 
 -- what waits for a compartment waited before, or the compartment's zone takes no gray yet
@@ -31,8 +33,8 @@ pub does_gray : (P : Place → Type 0) (h m k : HeapState) (p p0 q : Piles) (a b
     + (sum_by length h.buffers + waiting_count a) → Marks h p a k q b
     → ((x : Place) → Contains p0.gray x → Contains p.gray x)
     → ((z : ℕ) (x : Place) → Contains (buffer_of m z) x → Contains (buffer_of h z) x) → WaitsOn h.shape a b
-    → DoesGray h p a k q b
-does_gray P h m k p p0 q a b taken sh black room less marks pile buf waits =
+    → ScansNoMore h p m p0 → TakesOne h p a k q b → DoesGray h p a k q b
+does_gray P h m k p p0 q a b taken sh black room less marks pile buf waits none takes =
     let buffers : k.buffers ≡ m.buffers = ap (λ (z : HeapState). z.buffers) sh.rest in
     let sums : sum_by length k.buffers ≡ sum_by length m.buffers = ap (sum_by length) buffers in
     let w : whites m ≡ whites h = ap whites taken in
@@ -41,6 +43,8 @@ does_gray P h m k p p0 q a b taken sh black room less marks pile buf waits =
     record {
       marks = marks;
       less = omega (arith, less, sums, w, l, n, sh.left_is, sh.work, sh.whites_less);
+      takes = takes;
+      scans = no_more_twice h p m p0 k q none sh.scans;
       black_is = λ y. (
         λ d. subst (λ (z : HeapState). IsBlack z y) taken ((sh.black_is y).0 d),
         λ d. (sh.black_is y).1 (subst (λ (z : HeapState). IsBlack z y) (sym taken) d),
@@ -83,6 +87,15 @@ does_pile h k p p0 q a b x inv g popped holds sh all noted =
     (λ y c. subst (λ zs. Contains zs y) (sym gray_is) (Contains-append_left p0.gray (x ∷ []) y c))
     (λ z y c. c)
     noted_here.waits
+    (subst (λ (z : Piles). ScansNoMore h z h p0) (sym popped) (pops_gray h p0 x))
+    (inr (inr (record {
+      cell = x;
+      piled = subst (λ zs. Contains zs x) (sym gray_is) (Contains-push p0.gray x);
+      fewer = subst (λ (z : Piles). gray_scans k q x < gray_scans h z x) (sym popped)
+          (omega (arith, pops_gray_once h p0 x, sh.scans.gray x));
+      noted = noted_here;
+      buffers_are = ap (λ (z : HeapState). z.buffers) sh.rest;
+    })))
 
 -- a place was taken out of a buffer: the colours are as they were
 buffered_here : (h : HeapState) (bs : List (List Place)) (p : Piles) → InvariantWhile [] h p
@@ -153,6 +166,9 @@ does_buffered h m flown k p q a group zone x inv g graying here takes holds sh d
     (omega (arith, takes.count))
     (buffered_step (joined h flown) (joined m flown) k p q a zone x inv g ((graying zone).0 here) at holds shaded
     item) (λ y c. c) takes.only (λ n y c. inl c)
+    (subst (λ (z : HeapState). ScansNoMore (joined h flown) p z p) (sym at.rest)
+    (record { black = λ y. omega arith; gray = λ y. omega arith }))
+    (inl (omega (arith, at.count, ap (λ (z : HeapState). sum_by length z.buffers) shaded.rest), refl))
 
 -- a wrapper that waits is present
 pub incoming_present : (h : HeapState) (p : Piles) (a b : Incoming) (comp : ℕ) (x : Place) → MarkingInvariant h p
@@ -166,4 +182,5 @@ pub does_incoming : (h k : HeapState) (p q : Piles) (a b : Incoming) (group comp
 does_incoming h k p q a b group comp x inv g graying of takes holds sh all =
     does_gray (HasEdge h.shape x) h h k p p q a b refl sh refl refl (omega (arith, takes.count))
     (incoming_step h k p q a b group comp x inv g graying of takes holds sh all) (λ y c. c) (λ z y c. c)
-    (λ n y c. inl (takes.only n y c))
+    (λ n y c. inl (takes.only n y c)) (none_more h p)
+    (inr (inl (omega (arith, takes.count), ap (λ (z : HeapState). z.buffers) sh.rest)))

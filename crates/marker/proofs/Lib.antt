@@ -1,5 +1,6 @@
 pub mod BlackSteps
 pub mod Graying
+mod Scans
 pub mod Shading
 pub mod GrayLoops
 pub mod WaitingLists
@@ -7,3 +8,5 @@ pub mod GraySteps
 mod WeakSteps
 mod WeakLoops
 pub mod GrayUnits
+pub mod WeakPoint
+pub mod UnitsToCome

@@ -14,7 +14,9 @@ use Rattle.barriers.specs.Colours.{IsBlack, IsGray, IsSeen, IsWhite}
 use Rattle.barriers.specs.Invariant.{InvariantWhile}
 use Rattle.barriers.proofs.Places.{nothing_in_none, same_or_other}
 use Rattle.barriers.proofs.LiveClosure.{white_or_seen}
+use Rattle.barriers.proofs.Scans.{no_more_twice, none_more}
 use Rattle.marker.specs.Shading.{Grayed, Shaded, Shades}
+use Rattle.marker.proofs.Scans.{grayed_no_more}
 
 rest_more : (h k l : HeapState) → k ≡ record h { colours = k.colours } → l ≡ record k { colours = l.colours }
     → l ≡ record h { colours = l.colours }
@@ -40,6 +42,7 @@ shaded_none P h p = record {
   grays_is = refl;
   work = refl;
   whites_less = omega arith;
+  scans = none_more h p;
 }
 
 -- a cell on the pile is seen, if those that were on it were
@@ -81,6 +84,7 @@ shaded_more P Q R h p k q l r a b f g = record {
   grays_is = b.grays_is ∙ a.grays_is;
   work = omega (arith, a.work, b.work);
   whites_less = omega (arith, a.whites_less, b.whites_less);
+  scans = no_more_twice h p k q l r a.scans b.scans;
 }
 
 pub shaded_within : (P R : Place → Type 0) (h : HeapState) (p : Piles) (k : HeapState) (q : Piles) → Shaded P h p k q
@@ -104,6 +108,7 @@ shaded_within P R h p k q a f = record {
   grays_is = a.grays_is;
   work = a.work;
   whites_less = a.whites_less;
+  scans = a.scans;
 }
 
 -- one place more stands once in a list, if it was not there
@@ -184,6 +189,7 @@ module _ (h : HeapState) (ds : List Bits) (p : Piles) (t : Place) (grayed : Gray
       grays_is = grayed.grays_is;
       work = omega (arith, length-append p.gray (t ∷ []), grayed.whites_is);
       whites_less = omega (arith, grayed.whites_is);
+      scans = grayed_no_more h p t k grayed;
     }
 
     shaded_invariant : (followed : List Place) → InvariantWhile followed h p → InvariantWhile followed k q

@@ -95,6 +95,7 @@ module _ (h : HeapState) (p : Piles) (zones : ℕ) (v : Place) (k : HeapState) (
     gray_pile = λ y c. inl (subst (λ (z : Piles). Contains z.gray y) pushes c);
     pending_black = keeps.pending_black;
     pending_live = keeps.pending_live;
+    scans = ef.grows.spreads.scans;
     less = less;
     room = ap (λ (z : Piles). z.room) pushes;
     grays_is = omega (arith, grays);
@@ -197,6 +198,7 @@ module _ (h : HeapState) (p : Piles) (zones : ℕ) (v : Place) (k : HeapState) (
     gray_pile = gray_pile;
     pending_black = black_same;
     pending_live = λ lists g. (gray_holds lists g, (marks_here lists g).pending_live);
+    scans = sh.scans;
     less = less_gray;
     room = sh.room_is;
     grays_is = sh.grays_is;

@@ -8,6 +8,7 @@ use Rattle.gray_lists.specs.Incoming.{IsOnce}
 use Rattle.heap_core.specs.Shape.{HasEdge, IsPresent, Shape, state_of, zone_of}
 use Rattle.heap_core.specs.Heap.{HeapState, colour_of}
 use Rattle.barriers.specs.Colours.{HasGob, IsBlack, IsGray, IsSeen, IsWhite, left, whites, grays_outside}
+use Rattle.barriers.specs.Scans.{ScansNoMore}
 
 -- a white cell of a zone that takes gray turned gray, and nothing else changed
 pub record Grayed (h : HeapState) (x : Place) (k : HeapState) : Type 0 where
@@ -29,7 +30,7 @@ Shades h p x k q =
     ((IsWhite h x → state_of h.shape x ≡ state.MarkBlackAndGray → ⊥) × (k ≡ h) × (q ≡ p))
     ⊎ (Grayed h x k × (q ≡ pushed p pile.Gray x))
 
--- white cells that meet P turned gray, and are on the gray pile
+-- white cells that meet P turned gray, and are on the gray pile; no cell may be scanned more often than before
 pub record Shaded (P : Place → Type 0) (h : HeapState) (p : Piles) (k : HeapState) (q : Piles) : Type 0 where
   pub rest : k ≡ record h { colours = k.colours }
   pub sized : length k.colours ≡ length h.colours
@@ -49,6 +50,7 @@ pub record Shaded (P : Place → Type 0) (h : HeapState) (p : Piles) (k : HeapSt
   pub grays_is : grays_outside k ≡ grays_outside h
   pub work : length q.gray + whites k ≡ length p.gray + whites h
   pub whites_less : whites k ≤ whites h
+  pub scans : ScansNoMore h p k q
 
 -- what a call that turns a cell gray answers: whether it was white and its zone takes gray
 abbrev pub AnswersGray : HeapState → Place → Bool → HeapState → Type 0

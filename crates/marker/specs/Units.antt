@@ -9,7 +9,7 @@ use Rattle.mark_stack.specs.Stack.{Piles, pushed}
 use Rattle.mark_stack.specs.declared.stack.Pile.{Pile}
 use Rattle.mark_stack.specs.declared.stack.Pile.TheVariants as pile
 use Rattle.gray_lists.specs.Incoming.{Incoming, list_of, waiting_count}
-use Rattle.heap_core.specs.Shape.{Shape, is_marking_state, state_in, state_of, zone_of}
+use Rattle.heap_core.specs.Shape.{Shape, is_marking, is_marking_state, state_in, state_of, zone_of}
 use Rattle.heap_core.specs.Heap.{HeapState, colour_of}
 use Rattle.barriers.specs.Reached.{HasEntry}
 use Rattle.barriers.specs.Colours.{HasGob, IsBlack, IsSeen, grays_outside, left, whites}
@@ -17,8 +17,9 @@ use Rattle.barriers.specs.PendingBlack.{PendingBlack}
 use Rattle.barriers.specs.PendingLive.{PendingLive, GrayInvariant, buffer_of}
 use Rattle.barriers.specs.Invariant.{MarkingInvariant}
 use Rattle.barriers.specs.Exposing.{KeepsLive}
+use Rattle.barriers.specs.Scans.{ScansNoMore, black_scans, gray_scans}
 use Rattle.marker.specs.GrayBits.{AreGraying}
-use Rattle.marker.specs.Waiting.{IsBlackOnlyComp}
+use Rattle.marker.specs.Waiting.{IsBlackOnlyComp, Noted}
 
 -- what is left to do: each unit that did something lowers it
 abbrev pub work_left : HeapState → Piles → Incoming → ℕ
@@ -36,17 +37,44 @@ pub record Marks (h : HeapState) (p : Piles) (a : Incoming) (k : HeapState) (q :
   pub pending_black : (y : Place) → PendingBlack k q y ↔ PendingBlack h p y
   pub pending_live : (y : Place) → PendingLive k q b y ↔ PendingLive h p a y
 
+-- a black cell of a marking zone was scanned: it may be scanned less often than before in black, and no cell more often
+pub record ScansBlack (h : HeapState) (p : Piles) (k : HeapState) (q : Piles) : Type 0 where
+  pub cell : Place
+  pub black : IsBlack h cell
+  pub zone : is_marking h.shape cell ≡ true
+  pub fewer : black_scans k q cell < black_scans h p cell
+  pub no_more : ScansNoMore h p k q
+
+-- a cell of the gray pile was scanned: it may be scanned less often than before in gray, and is noted where it waits for
+-- a zone that takes no gray yet
+pub record ScansGray (h : HeapState) (p : Piles) (a : Incoming) (k : HeapState) (q : Piles) (b : Incoming) : Type 0
+  where
+    pub cell : Place
+    pub piled : Contains p.gray cell
+    pub fewer : gray_scans k q cell < gray_scans h p cell
+    pub noted : Noted h.shape cell a b
+    pub buffers_are : k.buffers ≡ h.buffers
+
+-- what a piece of gray marking takes: a place out of a buffer, a wrapper off a list, or a cell of the gray pile
+abbrev pub TakesOne : HeapState → Piles → Incoming → HeapState → Piles → Incoming → Type 0
+TakesOne h p a k q b =
+    ((sum_by length k.buffers < sum_by length h.buffers) × (b ≡ a))
+    ⊎ (((waiting_count b < waiting_count a) × (k.buffers ≡ h.buffers))
+    ⊎ ScansGray h p a k q b)
+
 -- no gray work of a group is left: its pile is empty, and nothing waits for its zones
 pub record IsGrayIdle (h : HeapState) (p : Piles) (lists : Incoming) (group : ℕ) : Type 0 where
   pub pile : p.gray ≡ []
   pub buffers : (z : ℕ) → HasZone group z → buffer_of h z ≡ []
   pub incoming : (z n : ℕ) → HasZone group z → slice_get h.shape.comps n ≡ Some z → list_of lists n ≡ []
 
--- a piece of gray marking: it turns no cell black, and what waits now waited before, or is new on the gray pile in a
--- zone that takes gray, or new on the list of a compartment whose zone takes none yet
+-- a piece of gray marking: it takes one thing that waits and turns no cell black, and what waits now waited before, or
+-- is new on the gray pile in a zone that takes gray, or new on the list of a compartment whose zone takes none yet
 pub record DoesGray (h : HeapState) (p : Piles) (a : Incoming) (k : HeapState) (q : Piles) (b : Incoming) : Type 0 where
   pub marks : Marks h p a k q b
   pub less : work_left k q b < work_left h p a
+  pub takes : TakesOne h p a k q b
+  pub scans : ScansNoMore h p k q
   pub black_is : (y : Place) → IsBlack k y ↔ IsBlack h y
   pub black_pile : q.black ≡ p.black
   pub room : q.room ≡ p.room
@@ -90,7 +118,7 @@ pile_for colour.Gray = pile.Gray
 pile_for colour.Black = pile.Black
 
 -- the weak rule gave one cell, the value of an entry, this colour and put it on its pile, and did nothing else; so both
--- pending closures are as they were
+-- pending closures are as they were, and no cell may be scanned more often
 pub record DoesWeak (c : Colour) (zones : ℕ) (h : HeapState) (p : Piles) (k : HeapState) (q : Piles) : Type 0 where
   pub value : Place
   pub wanted : WantsColour h c zones value
@@ -105,6 +133,7 @@ pub record DoesWeak (c : Colour) (zones : ℕ) (h : HeapState) (p : Piles) (k : 
   pub gray_pile : (y : Place) → Contains q.gray y → Contains p.gray y ⊎ (state_of h.shape y ≡ state.MarkBlackAndGray)
   pub pending_black : (y : Place) → PendingBlack k q y ↔ PendingBlack h p y
   pub pending_live : KeepsLive h p k q
+  pub scans : ScansNoMore h p k q
   pub less : (lists : Incoming) → work_left k q lists < work_left h p lists
   pub room : q.room ≡ p.room
   pub grays_is : grays_outside k ≡ grays_outside h

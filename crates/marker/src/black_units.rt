@@ -10,7 +10,7 @@ ghost use Rattle.barriers.specs.PendingLive.{GrayInvariant};
 ghost use Rattle.barriers.specs.Invariant.{MarkingInvariant};
 ghost use Rattle.barriers.specs.Spreading.{Blackens, Covers};
 ghost use Rattle.barriers.specs.Exposing.{KeepsLive};
-ghost use Rattle.marker.specs.Units.{work_left};
+ghost use Rattle.marker.specs.Units.{ScansBlack, work_left};
 
 use barriers::{drain, scan};
 use cell_bits::Flight;
@@ -50,6 +50,8 @@ pub fn black_unit<F: Flight, L: Ledger>(
     ensures work { result ≡ Work.Did → (lists : Incoming)
         → work_left (joined heap.new (F.bits flight.new)) stack.new lists
         < work_left (joined heap.old (F.bits flight.old)) stack.old lists }
+    ensures scans { result ≡ Work.Did → ScansBlack (joined heap.old (F.bits flight.old)) stack.old
+        (joined heap.new (F.bits flight.new)) stack.new }
     ensures empty { (result ≡ Work.Empty) ↔ (stack.old.black ≡ []) }
     ensures same { result ≡ Work.Empty → (heap.new ≡ heap.old) × (stack.new ≡ stack.old)
         × (joined heap.old (F.bits flight.new) ≡ joined heap.old (F.bits flight.old)) }

@@ -1,5 +1,5 @@
 use Rattle.barriers.proofs.Following.{taken_black}
-use Rattle.marker.proofs.BlackSteps.{follows, scanned}
+use Rattle.marker.proofs.BlackSteps.{follows, scanned, scans_black}
 use Rattle.marker.proofs.black_units.black_unit.Goals as goal
 
 pub scan-requires-clause-holds : goal.scan-requires-clause-holds
@@ -23,3 +23,7 @@ pub returns-clause-pending_live : goal.returns-clause-pending_live
 returns-clause-pending_live g c =
     (follows _ _ _ _ _ _ _ _ c.requires.invariant c.in-Some.ensures.some c.scan.ensures.grows c.drain.ensures.spreads
     c.drain.ensures.invariant).pending_live
+
+pub returns-clause-scans : goal.returns-clause-scans
+returns-clause-scans g c = λ did. scans_black _ _ _ _ _ _ _ _ c.requires.invariant c.in-Some.ensures.some
+    c.scan.ensures.grows c.drain.ensures.spreads
