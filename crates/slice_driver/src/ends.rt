@@ -1,19 +1,24 @@
 // The end of a group, and taking arenas in.
-ghost use Rattle.std.specs.Prelude.{◌≡◌, ◌↔◌, ◌<◌, ◌≤◌, ℕ, List, Option, None, Some, true, IsSome, IfOk, IfSome};
-ghost use Rattle.std.specs.Prelude.{IfNone, OnErr, length};
+ghost use Rattle.std.specs.Prelude.{◌≡◌, ◌↔◌, ◌<◌, ◌≤◌, ℕ, List, Option, None, Some, true, IsSome, IsSomeAnd, IfOk};
+ghost use Rattle.std.specs.Prelude.{IfSome, IfNone, OnErr, is_some, length, slice_get};
 ghost use Rattle.gz_names.specs.Zones.{HasZone};
 ghost use Rattle.std.specs.List.Sorted.{IsPermutation, IsSorted};
 ghost use Rattle.gz_names.specs.Order.{name_cmp};
+ghost use Rattle.gz_names.specs.declared.names.Name.{Name as AName};
 ghost use Rattle.gz_names.specs.declared.numbers.Place.{Place as APlace};
+ghost use Rattle.gz_names.specs.declared.replies.Report.TheVariants as AReport;
 ghost use Rattle.gz_names.specs.declared.zone_sets.ZoneSet.{ZoneSet as AZoneSet};
 ghost use Rattle.cell_bits.specs.declared.bits.Bits.{Bits as ABits};
+ghost use Rattle.arena_table.specs.Slots.{IsWithin, alloc_word_of};
 ghost use Rattle.heap_core.specs.Shape.{IsPresent, is_owned, out_of};
+ghost use Rattle.heap_core.specs.Sweeping.{with_taken};
 ghost use Rattle.barriers.specs.Colours.{IsGray};
 ghost use Rattle.slice_driver.specs.Advancing.{EndsSweeping};
 ghost use Rattle.slice_driver.specs.Grays.{grays_up_to};
 ghost use Rattle.slice_driver.specs.GroupEnd.{IsReady};
 ghost use Rattle.slice_driver.specs.HandingOut.{HandsOut};
 ghost use Rattle.slice_driver.specs.Left.{units_left};
+ghost use Rattle.slice_driver.specs.Sweeping.{AreFreed};
 ghost use Rattle.slice_driver.specs.Units.{AreJobs, DoesUnit, EndsColoured, HandsJobs, IsFreedWord, IsLowestOut};
 ghost use Rattle.slice_driver.specs.Units.{IsSound, KeepsFreedWords, is_group_end, flying_after, jobs_at, reports_of};
 ghost use Rattle.slice_driver.specs.Units.{without_arena};
@@ -61,7 +66,8 @@ impl Collector {
         }
     }
 
-    // The same, with what it reports put into a place: returns whether the collection is over.
+    // Takes in the lowest arena that is handed to sweeping, and puts what it reports into a place: returns
+    // whether the collection is over.
     pub(crate) fn take_one_into(
         &mut self,
         taken: Taken,
@@ -87,15 +93,11 @@ impl Collector {
     {
         let kept = self.heap.bits_at_hand_out(arena);
         prove!(taken.freed == kept.white_mask(self.heap.alloc_word(arena)));
-        let mut names = Names64::new();
-        self.heap
-            .take_in(arena, taken.freed, taken.bits, &mut names);
-        names.sort();
+        report_arena(&mut self.heap, arena, taken, report);
         let finished = end_sweeping(&mut self.heap, &self.order);
         if finished {
             self.run = None;
         }
-        *report = Some(Report::Swept(arena, names));
         finished
     }
 
@@ -149,6 +151,40 @@ impl Collector {
             due: None,
         })
     }
+}
+
+// Takes an arena in, and puts what it reports into a place. Where an arena is reported there, its list
+// takes the new names, so that no list, which takes a kilobyte, is filled or moved.
+fn report_arena(heap: &mut Heap, arena: u32, taken: Taken, report: &mut Option<Report>)
+    requires out { is_some (out_of heap.old.shape arena) ≡ true }
+    requires within { IsSomeAnd (slice_get heap.old.shape.arenas arena)
+        (λ a. IsWithin taken.freed (alloc_word_of a.slots)) }
+    ensures state { heap.new ≡ with_taken heap.old arena taken.freed taken.bits }
+    ensures told { (names : List AName) × (report.new ≡ Some (AReport.Swept arena names))
+        × AreFreed heap.old.shape arena taken.freed names }
+{
+    if let Some(said) = report
+        && let Report::Swept(number, names) = said
+    {
+        *number = arena;
+        list_freed(heap, arena, taken, names);
+        return;
+    }
+    let mut names = Names64::new();
+    list_freed(heap, arena, taken, &mut names);
+    *report = Some(Report::Swept(arena, names));
+}
+
+// Takes an arena in, and puts the names of its freed cells, ascending, in the place of those of a list.
+fn list_freed(heap: &mut Heap, arena: u32, taken: Taken, names: &mut Names64)
+    requires out { is_some (out_of heap.old.shape arena) ≡ true }
+    requires within { IsSomeAnd (slice_get heap.old.shape.arenas arena)
+        (λ a. IsWithin taken.freed (alloc_word_of a.slots)) }
+    ensures state { heap.new ≡ with_taken heap.old arena taken.freed taken.bits }
+    ensures names { AreFreed heap.old.shape arena taken.freed names.new }
+{
+    heap.take_in(arena, taken.freed, taken.bits, names);
+    names.sort();
 }
 
 // Hands the arenas of a group to sweeping, drops what names a cell that is not present any more, and

@@ -1,7 +1,8 @@
-use Rattle.std.proofs.Common.{◌≡◌, ◌<◌, Bool, Option, None, Some, false, List, IsSome, IsSomeAnd, IsPermutation}
+use Rattle.std.proofs.Common.{◌≡◌, ◌<◌, ℕ, Bool, Option, None, Some, false, List, IsSome, IsSomeAnd, IsPermutation}
 use Rattle.std.proofs.Common.{if◌then◌else◌, sym, ap, subst, ◌∙◌, arith, slice_get}
 use Rattle.std.proofs.lemmas.Nat.{or_lt}
 use Rattle.gz_names.specs.declared.names.Name.{Name}
+use Rattle.gz_names.specs.declared.replies.Report.{Report}
 use Rattle.gz_names.specs.declared.replies.Report.TheVariants as report
 use Rattle.cell_bits.specs.declared.bits.Bits.{Bits as ABits}
 use Rattle.arena_table.specs.Slots.{at_bits, names_of}
@@ -21,11 +22,10 @@ use Rattle.slice_driver.specs.Left.{units_left}
 use Rattle.slice_driver.proofs.measure.FewerTaken.{taking_lowers}
 use Rattle.slice_driver.proofs.taking_in.Kept.{more_left, words_both, words_rest, words_taken}
 use Rattle.slice_driver.proofs.collector.Collector.take_one_into.Goals as goal
-use Rattle.slice_driver.proofs.collector.Collector.take_one_into.Goals.{then-finished, else-finished}
 
 pub invariant_of-self-else-finished : goal.invariant_of-self-else-finished
 invariant_of-self-else-finished c =
-    let ends : EndsSweeping c.take_in.new.self c.self.inside.order false c.end_sweeping-finished.new.heap =
+    let ends : EndsSweeping c.report_arena.new.heap c.self.inside.order false c.end_sweeping-finished.new.heap =
     c.if-finished.ensures in
     record {
       waiting = c.self.invariant.waiting;
@@ -34,14 +34,52 @@ invariant_of-self-else-finished c =
     }
   where
     go : (run : Option Run)
-        → EndsSweeping c.take_in.new.self c.self.inside.order false c.end_sweeping-finished.new.heap
+        → EndsSweeping c.report_arena.new.heap c.self.inside.order false c.end_sweeping-finished.new.heap
         → HasMore c.end_sweeping-finished.new.heap.shape c.self.inside.order run
     go None ends = tt
-    go (Some run) ends = λ empty none formed. more_left c.take_in.new.self c.self.inside.order
+    go (Some run) ends = λ empty none formed. more_left c.report_arena.new.heap c.self.inside.order
         c.end_sweeping-finished.new.heap ends empty none
 
-pub returns-clause-done : goal.returns-clause-done
-returns-clause-done c = λ flown at.
+module _ (v old : CollectorState) (is : v ≡ old) (a freed : ℕ) (bits : ABits) (k : HeapState) (over : Bool)
+    (ends : EndsSweeping (with_taken v.heap a freed bits) v.groups over k) (new : CollectorState)
+    (new_is : record v { heap = k; run = if over then None else v.run } ≡ new) (flown : ℕ → Option ABits)
+    (at : flown a ≡ Some bits) (lowest : IsLowestOut old.heap.shape a) (running : IsSome old.run) where
+  one_done : (names : List Name) (r : Option Report) → r ≡ Some (report.Swept a names) → (kept : ABits)
+      → out_of v.heap.shape a ≡ Some kept → FitsWords kept → IsFreedWord old.heap.shape a freed
+      → AreFreed v.heap.shape a freed names → DoesUnit old flown (reports_of r over) new (without_arena flown a)
+  one_done names r told kept kept_is fit freed_is listed =
+      let fits : (b : ABits) → out_of v.heap.shape a ≡ Some b → FitsWords b =
+      λ b e. subst (λ (x : ABits). FitsWords x) (some_one _ _ (sym kept_is ∙ e)) fit in
+      let unit = takes_unit v flown a freed bits names at
+      (subst (λ (x : CollectorState). IsLowestOut x.heap.shape a) (sym is) lowest)
+      (subst (λ (x : CollectorState). IsFreedWord x.heap.shape a freed) (sym is) freed_is)
+      (subst (λ (x : CollectorState). IsSome x.run) (sym is) running)
+      fits listed k over ends in
+      subst (λ (x : Option Report). DoesUnit old flown (reports_of x over) new (without_arena flown a)) (sym told)
+      (subst (λ (x : CollectorState). DoesUnit x flown (reports_of (Some (report.Swept a names)) over) new
+      (without_arena flown a)) is
+      (subst (λ (x : CollectorState). DoesUnit v flown (reports_of (Some (report.Swept a names)) over) x
+      (without_arena flown a)) new_is unit))
+
+  one_left : IsSound old flown → units_left new (without_arena flown a) < units_left old flown
+  one_left sound =
+      let less = taking_lowers v flown a freed bits at
+      (subst (λ (x : CollectorState). IsLowestOut x.heap.shape a) (sym is) lowest)
+      (subst (λ (x : CollectorState). IsSome x.run) (sym is) running)
+      (subst (λ (x : CollectorState). IsSound x flown) (sym is) sound)
+      k over ends in
+      subst (λ (x : CollectorState). units_left new (without_arena flown a) < units_left x flown) is
+      (subst (λ (x : CollectorState). units_left x (without_arena flown a) < units_left v flown) new_is less)
+
+one_words : (v old : CollectorState) (is : v ≡ old) (a freed : ℕ) (bits : ABits) (k : HeapState) (over : Bool)
+    → EndsSweeping (with_taken v.heap a freed bits) v.groups over k → KeepsFreedWords old.heap.shape k.shape
+one_words v old is a freed bits k over ends =
+    let h : HeapState = with_taken v.heap a freed bits in
+    subst (λ (x : CollectorState). KeepsFreedWords x.heap.shape k.shape) is
+    (words_both v.heap.shape h.shape k.shape (words_taken v.heap a freed bits) (words_rest h k ends.rest))
+
+pub returns-then-finished-clause-done : goal.returns-then-finished-clause-done
+returns-then-finished-clause-done c = λ flown at.
     let v : CollectorState =
     record {
       heap = c.self.inside.heap;
@@ -51,68 +89,19 @@ returns-clause-done c = λ flown at.
       groups = c.self.inside.order;
       run = run_of c.self.inside.run;
     } in
-    let a = c.args.arena in
-    let freed = c.args.taken.freed in
-    let bits = c.args.taken.bits in
-    let names : List Name = c.sort.new.self in
     let k : HeapState = c.end_sweeping-finished.new.heap in
     let over : Bool = c.end_sweeping-finished.result in
-    let is : v ≡ c.args.self.now = c.self.view_is in
-    let ends : EndsSweeping (with_taken v.heap a freed bits) v.groups over k =
-    subst (λ (h : HeapState). EndsSweeping h c.self.inside.order over k) c.take_in.ensures.state
-    c.end_sweeping-finished.ensures in
-    let fits : (old : ABits) → out_of v.heap.shape a ≡ Some old → FitsWords old =
-    λ old e. subst (λ (b : ABits). FitsWords b) (some_one _ _ (sym c.bits_at_hand_out-kept.ensures ∙ e))
+    one_done v c.args.self.now c.self.view_is c.args.arena c.args.taken.freed c.args.taken.bits k over
+    (subst (λ (h : HeapState). EndsSweeping h c.self.inside.order over k) c.report_arena.ensures.state
+    c.end_sweeping-finished.ensures) (record v { heap = k; run = None })
+    (ap (λ (b : Bool). record v { heap = k; run = if b then None else v.run }) c.if-finished.true) flown at
+    c.requires.lowest c.requires.running c.report_arena.ensures.told.0 c.report_arena.new.report
+    c.report_arena.ensures.told.1 c.bits_at_hand_out-kept.result c.bits_at_hand_out-kept.ensures
     (or_lt 64 c.bits_at_hand_out-kept.result.black c.bits_at_hand_out-kept.result.gob (omega arith) (omega arith))
-    in
-    let listed : AreFreed v.heap.shape a freed names = record {
-      moved = λ arena e. subst (λ (xs : List Name). IsPermutation xs names)
-          (at_arena (slice_get v.heap.shape.arenas a) arena e c.take_in.ensures.names) c.sort.ensures.permutation;
-      sorted = c.sort.ensures.sorted;
-    } in
-    let unit = takes_unit v flown a freed bits names at
-    (subst (λ (x : CollectorState). IsLowestOut x.heap.shape a) (sym is) c.requires.lowest)
-    (subst (λ (x : CollectorState). IsFreedWord x.heap.shape a freed) (sym is) c.requires.freed)
-    (subst (λ (x : CollectorState). IsSome x.run) (sym is) c.requires.running)
-    fits listed k over ends in
-    let self_is : record v { heap = k; run = if over then None else v.run } ≡ c.if-finished.self =
-    elim c.if-finished.branch [
-      | then-finished w ↦ ap (λ (b : Bool). record v { heap = k; run = if b then None else v.run }) w.if-finished.true
-          ∙ sym w.self-is
-      | else-finished w ↦ ap (λ (b : Bool). record v { heap = k; run = if b then None else v.run }) w.if-finished.false
-          ∙ sym w.self-is
-    ] in
-    subst (λ (x : CollectorState). DoesUnit x flown (reports_of (Some (report.Swept a names)) over) c.if-finished.self
-    (without_arena flown a)) is
-    (subst (λ (x : CollectorState). DoesUnit v flown (reports_of (Some (report.Swept a names)) over) x
-    (without_arena flown a)) self_is unit)
-  where
-    at_arena : (o : Option ArenaShape) (arena : ArenaShape) → o ≡ Some arena
-        → IsSomeAnd o (λ z. c.take_in.new.names ≡ names_of (at_bits c.args.taken.freed z.slots))
-        → c.take_in.new.names ≡ names_of (at_bits c.args.taken.freed arena.slots)
-    at_arena None arena e n = absurd n
-    at_arena (Some x) arena e n = n ∙ ap (λ (z : ArenaShape). names_of (at_bits c.args.taken.freed z.slots))
-        (some_one _ _ e)
+    c.requires.freed c.report_arena.ensures.told.2
 
-pub returns-clause-words : goal.returns-clause-words
-returns-clause-words c =
-    let k : HeapState = c.end_sweeping-finished.new.heap in
-    let h : HeapState = with_taken c.self.inside.heap c.args.arena c.args.taken.freed c.args.taken.bits in
-    let rest : k ≡ record h { shape = record h.shape { states = k.shape.states } } =
-    subst (λ (x : HeapState). k ≡ record x { shape = record x.shape { states = k.shape.states } })
-    c.take_in.ensures.state c.end_sweeping-finished.ensures.rest in
-    let same : c.if-finished.self.heap ≡ k = elim c.if-finished.branch [
-      | then-finished w ↦ ap (λ (x : CollectorState). x.heap) w.self-is
-      | else-finished w ↦ ap (λ (x : CollectorState). x.heap) w.self-is
-    ] in
-    let words : KeepsFreedWords c.self.inside.heap.shape k.shape =
-    words_both c.self.inside.heap.shape h.shape k.shape
-    (words_taken c.self.inside.heap c.args.arena c.args.taken.freed c.args.taken.bits) (words_rest h k rest) in
-    subst (λ (x : HeapState). KeepsFreedWords c.args.self.now.heap.shape x.shape) (sym same)
-    (subst (λ (x : CollectorState). KeepsFreedWords x.heap.shape k.shape) c.self.view_is words)
-
-pub returns-clause-left : goal.returns-clause-left
-returns-clause-left c = λ flown sound at.
+pub returns-then-finished-clause-left : goal.returns-then-finished-clause-left
+returns-then-finished-clause-left c = λ flown sound at.
     let v : CollectorState =
     record {
       heap = c.self.inside.heap;
@@ -122,30 +111,93 @@ returns-clause-left c = λ flown sound at.
       groups = c.self.inside.order;
       run = run_of c.self.inside.run;
     } in
-    let a = c.args.arena in
-    let freed = c.args.taken.freed in
-    let bits = c.args.taken.bits in
     let k : HeapState = c.end_sweeping-finished.new.heap in
     let over : Bool = c.end_sweeping-finished.result in
-    let is : v ≡ c.args.self.now = c.self.view_is in
-    let ends : EndsSweeping (with_taken v.heap a freed bits) v.groups over k =
-    subst (λ (h : HeapState). EndsSweeping h c.self.inside.order over k) c.take_in.ensures.state
-    c.end_sweeping-finished.ensures in
-    let less = taking_lowers v flown a freed bits at
-    (subst (λ (x : CollectorState). IsLowestOut x.heap.shape a) (sym is) c.requires.lowest)
-    (subst (λ (x : CollectorState). IsSome x.run) (sym is) c.requires.running)
-    (subst (λ (x : CollectorState). IsSound x flown) (sym is) sound)
-    k over ends in
-    let self_is : record v { heap = k; run = if over then None else v.run } ≡ c.if-finished.self =
-    elim c.if-finished.branch [
-      | then-finished w ↦ ap (λ (b : Bool). record v { heap = k; run = if b then None else v.run }) w.if-finished.true
-          ∙ sym w.self-is
-      | else-finished w ↦ ap (λ (b : Bool). record v { heap = k; run = if b then None else v.run }) w.if-finished.false
-          ∙ sym w.self-is
-    ] in
-    subst (λ (x : CollectorState). units_left c.if-finished.self (without_arena flown a) < units_left x flown) is
-    (subst (λ (x : CollectorState). units_left x (without_arena flown a) < units_left v flown) self_is less)
+    one_left v c.args.self.now c.self.view_is c.args.arena c.args.taken.freed c.args.taken.bits k over
+    (subst (λ (h : HeapState). EndsSweeping h c.self.inside.order over k) c.report_arena.ensures.state
+    c.end_sweeping-finished.ensures) (record v { heap = k; run = None })
+    (ap (λ (b : Bool). record v { heap = k; run = if b then None else v.run }) c.if-finished.true) flown at
+    c.requires.lowest c.requires.running sound
 
-pub returns-clause-sound : goal.returns-clause-sound
-returns-clause-sound c = λ flown s at. unit_sound c.args.self.now _ flown (without_arena flown c.args.arena) _
-    (returns-clause-done c flown at) s
+pub returns-then-finished-clause-words : goal.returns-then-finished-clause-words
+returns-then-finished-clause-words c =
+    let v : CollectorState =
+    record {
+      heap = c.self.inside.heap;
+      stack = c.self.inside.stack;
+      lists = c.self.inside.lists;
+      edges = c.self.inside.edges;
+      groups = c.self.inside.order;
+      run = run_of c.self.inside.run;
+    } in
+    let k : HeapState = c.end_sweeping-finished.new.heap in
+    let over : Bool = c.end_sweeping-finished.result in
+    one_words v c.args.self.now c.self.view_is c.args.arena c.args.taken.freed c.args.taken.bits k over
+    (subst (λ (h : HeapState). EndsSweeping h c.self.inside.order over k) c.report_arena.ensures.state
+    c.end_sweeping-finished.ensures)
+
+pub returns-then-finished-clause-sound : goal.returns-then-finished-clause-sound
+returns-then-finished-clause-sound c = λ flown s at. unit_sound c.args.self.now _ flown
+    (without_arena flown c.args.arena) _ (returns-then-finished-clause-done c flown at) s
+
+pub returns-else-finished-clause-done : goal.returns-else-finished-clause-done
+returns-else-finished-clause-done c = λ flown at.
+    let v : CollectorState =
+    record {
+      heap = c.self.inside.heap;
+      stack = c.self.inside.stack;
+      lists = c.self.inside.lists;
+      edges = c.self.inside.edges;
+      groups = c.self.inside.order;
+      run = run_of c.self.inside.run;
+    } in
+    let k : HeapState = c.end_sweeping-finished.new.heap in
+    let over : Bool = c.end_sweeping-finished.result in
+    one_done v c.args.self.now c.self.view_is c.args.arena c.args.taken.freed c.args.taken.bits k over
+    (subst (λ (h : HeapState). EndsSweeping h c.self.inside.order over k) c.report_arena.ensures.state
+    c.end_sweeping-finished.ensures) (record v { heap = k; run = v.run })
+    (ap (λ (b : Bool). record v { heap = k; run = if b then None else v.run }) c.if-finished.false) flown at
+    c.requires.lowest c.requires.running c.report_arena.ensures.told.0 c.report_arena.new.report
+    c.report_arena.ensures.told.1 c.bits_at_hand_out-kept.result c.bits_at_hand_out-kept.ensures
+    (or_lt 64 c.bits_at_hand_out-kept.result.black c.bits_at_hand_out-kept.result.gob (omega arith) (omega arith))
+    c.requires.freed c.report_arena.ensures.told.2
+
+pub returns-else-finished-clause-left : goal.returns-else-finished-clause-left
+returns-else-finished-clause-left c = λ flown sound at.
+    let v : CollectorState =
+    record {
+      heap = c.self.inside.heap;
+      stack = c.self.inside.stack;
+      lists = c.self.inside.lists;
+      edges = c.self.inside.edges;
+      groups = c.self.inside.order;
+      run = run_of c.self.inside.run;
+    } in
+    let k : HeapState = c.end_sweeping-finished.new.heap in
+    let over : Bool = c.end_sweeping-finished.result in
+    one_left v c.args.self.now c.self.view_is c.args.arena c.args.taken.freed c.args.taken.bits k over
+    (subst (λ (h : HeapState). EndsSweeping h c.self.inside.order over k) c.report_arena.ensures.state
+    c.end_sweeping-finished.ensures) (record v { heap = k; run = v.run })
+    (ap (λ (b : Bool). record v { heap = k; run = if b then None else v.run }) c.if-finished.false) flown at
+    c.requires.lowest c.requires.running sound
+
+pub returns-else-finished-clause-words : goal.returns-else-finished-clause-words
+returns-else-finished-clause-words c =
+    let v : CollectorState =
+    record {
+      heap = c.self.inside.heap;
+      stack = c.self.inside.stack;
+      lists = c.self.inside.lists;
+      edges = c.self.inside.edges;
+      groups = c.self.inside.order;
+      run = run_of c.self.inside.run;
+    } in
+    let k : HeapState = c.end_sweeping-finished.new.heap in
+    let over : Bool = c.end_sweeping-finished.result in
+    one_words v c.args.self.now c.self.view_is c.args.arena c.args.taken.freed c.args.taken.bits k over
+    (subst (λ (h : HeapState). EndsSweeping h c.self.inside.order over k) c.report_arena.ensures.state
+    c.end_sweeping-finished.ensures)
+
+pub returns-else-finished-clause-sound : goal.returns-else-finished-clause-sound
+returns-else-finished-clause-sound c = λ flown s at. unit_sound c.args.self.now _ flown
+    (without_arena flown c.args.arena) _ (returns-else-finished-clause-done c flown at) s
