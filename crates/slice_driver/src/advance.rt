@@ -197,7 +197,8 @@ impl Collector {
         }
     }
 
-    // The same, with what it reports put into a place: returns whether the collection is over.
+    // Takes the lowest arena in that is out, and puts what it reports into a place: returns whether the
+    // collection is over.
     fn take_due_into<F: Sweeping>(
         &mut self,
         flight: &mut F,

@@ -64,7 +64,7 @@ pub(crate) fn push_gray<F: Flight>(
     }
 }
 
-// The same where the arena is out: the flight answers each slot's colour.
+// Adds the names of the gray cells of an arena that is out: the flight answers each slot's colour.
 fn push_flown_gray<F: Flight>(
     heap: &Heap,
     flight: &mut F,
@@ -91,7 +91,7 @@ fn push_flown_gray<F: Flight>(
     Ok(())
 }
 
-// The same by the bits of the arena itself: only its gray slots are looked at.
+// Adds the names of the gray cells of an arena that is not out: only its gray slots are looked at.
 pub(crate) fn push_own_gray(heap: &Heap, arena: u32, names: &mut Vec<Name>) -> Result<(), NoMemory>
     requires made { arena < length heap.now.colours }
     requires present { (slot : ℕ) → IsGray heap.now (arena, slot)

@@ -27,7 +27,7 @@ pub fn quiet_unit_law()
         → IsQuiet c flown d flying → HasSameLooks c d → Represents c flown w → Represents d flying w }
 {}
 
-/// The same where a wrapper was looked at: what is noted is noted rightly.
+/// After a look at a wrapper, of which only what is so is noted, the collector stands for the same world.
 pub fn look_unit_law()
     ensures { (c d : CollectorState) (flown flying : ℕ → Option ABits) (w : World)
         → IsQuiet c flown d flying → KeepsLooks c flown d flying → Represents c flown w

@@ -77,7 +77,7 @@ fn gather_wrappers<L: Ledger>(
     Ok(())
 }
 
-// The same for the wrappers of one zone.
+// Gathers the gray wrappers of one zone whose targets lie in these zones, each with its target's zone.
 fn gather_of<L: Ledger>(
     heap: &Heap,
     zone: ZoneNo,

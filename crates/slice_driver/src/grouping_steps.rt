@@ -65,7 +65,7 @@ impl Collector {
     }
 }
 
-// The same groups once more.
+// Copies a list of groups.
 fn copy_of(groups: &Groups) -> Groups
     ensures { result ≡ groups.now }
 {
