@@ -1,10 +1,10 @@
 // The steps of a unit that mark.
-ghost use Rattle.std.specs.Prelude.{◌≡◌, [], IsSome};
+ghost use Rattle.std.specs.Prelude.{◌≡◌, ◌≤◌, ◌<◌, [], IsSome};
 ghost use Rattle.marker.specs.GrayBits.{AreGraying};
 ghost use Rattle.marker.specs.Units.{IsGrayIdle};
 ghost use Rattle.slice_driver.specs.Units.{IsSound};
-ghost use Rattle.slice_driver.specs.Working.{DidOrStill, HasBegun, IsBlackDone, IsBlackFixed, IsGrayDone, IsGrayFixed};
-ghost use Rattle.slice_driver.specs.Working.{IsGroupDone};
+ghost use Rattle.slice_driver.specs.Working.{DidOrStill, DoesQuietUnits, HasBegun, IsBlackDone, IsBlackFixed};
+ghost use Rattle.slice_driver.specs.Working.{IsGrayDone, IsGrayFixed, IsGroupDone};
 
 use crate::collector::Collector;
 use cell_bits::{Colour, Flight};
@@ -82,6 +82,8 @@ impl Collector {
         requires begun { AreGraying self.old.heap.shape group.bits }
         ensures done { DidOrStill result (IsGrayIdle self.old.heap self.old.stack self.old.lists
             group.bits) self.old (F.bits flight.now) self.new (F.bits flight.now) }
+        ensures shape { self.new.heap.shape ≡ self.old.heap.shape }
+        ensures groups { self.new.groups ≡ self.old.groups }
     {
         match gray_unit(
             group,
@@ -108,6 +110,8 @@ impl Collector {
         requires begun { AreGraying self.old.heap.shape group.bits }
         ensures done { DidOrStill result (IsGrayFixed self.old (F.bits flight.old) group) self.old
             (F.bits flight.old) self.new (F.bits flight.new) }
+        ensures shape { self.new.heap.shape ≡ self.old.heap.shape }
+        ensures groups { self.new.groups ≡ self.old.groups }
         ensures origin { F.origin flight.new ≡ F.origin flight.old }
     {
         match weak_unit(
@@ -135,6 +139,8 @@ impl Collector {
         requires begun { AreGraying self.old.heap.shape group.bits }
         ensures done { DidOrStill result (IsGrayDone self.old (F.bits flight.old) group) self.old
             (F.bits flight.old) self.new (F.bits flight.new) }
+        ensures shape { self.new.heap.shape ≡ self.old.heap.shape }
+        ensures groups { self.new.groups ≡ self.old.groups }
         ensures origin { F.origin flight.new ≡ F.origin flight.old }
     {
         if self.follows_gray(group, flight, steps) {
@@ -161,5 +167,33 @@ impl Collector {
             return false;
         };
         self.marks_group(group, flight, steps)
+    }
+
+    // Does pieces of the gray marking of the current group, whose zones have begun, at most `limit`, and
+    // returns how many. Fewer are done only where it has nothing left to do, or no group is left.
+    pub(crate) fn marks_gray_up_to<F: Flight, L: Ledger>(
+        &mut self,
+        limit: u64,
+        flight: &mut F,
+        steps: &mut Steps<L>,
+    ) -> u64
+        requires sound { IsSound self.old (F.bits flight.old) }
+        requires running { IsSome self.old.run }
+        requires begun { HasBegun self.old }
+        ensures most { result ≤ limit }
+        ensures done { DoesQuietUnits result self.old (F.bits flight.old) self.new
+            (F.bits flight.new) }
+        ensures rests { result < limit → IsGroupDone self.new (F.bits flight.new) }
+        ensures origin { F.origin flight.new ≡ F.origin flight.old }
+    {
+        let Some(group) = self.order.current() else {
+            return 0;
+        };
+        for count in 0..limit {
+            if !self.marks_group(group, flight, steps) {
+                return count;
+            }
+        }
+        limit
     }
 }

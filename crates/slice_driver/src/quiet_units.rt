@@ -2,7 +2,7 @@
 ghost use Rattle.std.specs.Prelude.{◌≡◌, ◌≤◌, ◌<◌, IsSome, MatchBool};
 ghost use Rattle.slice_driver.specs.Quiet.{IsFormed};
 ghost use Rattle.slice_driver.specs.Units.{IsSound, KeepsFreedWords};
-ghost use Rattle.slice_driver.specs.Working.{DoesQuietUnits, IsGrouping, IsQuietDone, QuietOrNone};
+ghost use Rattle.slice_driver.specs.Working.{DoesQuietUnits, IsGrouping, IsQuietDone};
 
 use crate::collector::Collector;
 use cell_bits::Flight;
@@ -36,33 +36,48 @@ impl Collector {
         ensures made { self.new.heap.made ≡ self.old.heap.made }
         ensures weak { self.new.heap.shape.weak ≡ self.old.heap.shape.weak }
     {
-        for count in 0..limit {
-            if !self.quiet_unit(flight, steps) {
+        let mut count = 0;
+        while count < limit {
+            let more = self.some_quiet_units(limit - count, flight, steps);
+            if more == 0 {
                 return count;
             }
+            count += more;
         }
         limit
     }
 
-    // Does a unit that reports nothing. Returns false when there is none to do.
+    // Does units that report nothing, at most `limit`, which is not 0. Returns how many: 0 where there is
+    // none to do. Gray marking goes on by itself, since it makes no work for what goes before it.
     #[inline(always)]
-    fn quiet_unit<F: Flight, L: Ledger>(&mut self, flight: &mut F, steps: &mut Steps<L>) -> bool
+    fn some_quiet_units<F: Flight, L: Ledger>(
+        &mut self,
+        limit: u64,
+        flight: &mut F,
+        steps: &mut Steps<L>,
+    ) -> u64
         requires sound { IsSound self.old (F.bits flight.old) }
         requires running { IsSome self.old.run }
-        ensures done { QuietOrNone result self.old (F.bits flight.old) self.new
+        requires some { 0 < limit }
+        ensures most { result ≤ limit }
+        ensures done { DoesQuietUnits result self.old (F.bits flight.old) self.new
             (F.bits flight.new) }
+        ensures rests { result ≡ 0 → IsQuietDone self.new (F.bits flight.new) }
         ensures origin { F.origin flight.new ≡ F.origin flight.old }
     {
         if self.marks_black(flight, steps) {
-            return true;
+            return 1;
         }
         if self.is_grouping() {
-            return self.looks(steps);
+            if self.looks(steps) {
+                return 1;
+            }
+            return 0;
         }
         if self.begins_zone() {
-            return true;
+            return 1;
         }
-        self.marks_gray(flight, steps)
+        self.marks_gray_up_to(limit, flight, steps)
     }
 
     // Returns whether the groups of the collection that runs are still to be formed.

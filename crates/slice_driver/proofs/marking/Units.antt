@@ -1,5 +1,5 @@
 -- Units that report nothing, one after another.
-use Rattle.std.proofs.Common.{◌≡◌, ◌+◌, ℕ, zero, suc, Bool, true, false, [], Option, IsSome, refl, sym, ap, subst, ◌∙◌}
+use Rattle.std.proofs.Common.{◌≡◌, ◌<◌, ◌+◌, ℕ, zero, suc, Bool, true, false, [], Option, IsSome, refl, sym, ap, subst, ◌∙◌}
 use Rattle.std.proofs.Common.{arith}
 use Rattle.cell_bits.specs.declared.bits.Bits.{Bits}
 use Rattle.colour_defs.specs.Lawful.{IsLawfulUnit, quiet}
@@ -78,6 +78,31 @@ last_quiet n c f d g e h did still = record {
   less = (let was = did.less in let same = still_left d g e h still in omega (arith, was, same));
 }
 
+-- some such units after others
+pub then_quiet : (n m : ℕ) (c : CollectorState) (f : ℕ → Option Bits) (d : CollectorState) (g : ℕ → Option Bits)
+    (e : CollectorState) (h : ℕ → Option Bits) → DoesQuietUnits n c f d g → DoesQuietUnits m d g e h
+    → DoesQuietUnits (n + m) c f e h
+then_quiet n m c f d g e h a b = record {
+  none = λ is. both_still c f d g e h (a.none (omega (arith, is))) (b.none (omega (arith, is)));
+  some = some_of n m a b;
+  less = (let one = a.less in let two = b.less in omega (arith, one, two));
+}
+  where
+    some_of : (i j : ℕ) → DoesQuietUnits i c f d g → DoesQuietUnits j d g e h → 0 < i + j → GoesOn c f [] e h
+    some_of zero zero x y lt = absurd (omega (arith, lt))
+    some_of zero (suc k) x y lt = still_goes c f d g [] e h (x.none refl) (y.some (omega arith))
+    some_of (suc k) zero x y lt = goes_still c f d g e h (x.some (omega arith)) (y.none refl)
+    some_of (suc k) (suc j) x y lt = goes_then c f d g e h (x.some (omega arith)) (y.some (omega arith))
+
+-- one such unit, or none
+pub one_quiet : (c : CollectorState) (f : ℕ → Option Bits) (d : CollectorState) (g : ℕ → Option Bits)
+    → GoesOn c f [] d g → DoesQuietUnits 1 c f d g
+one_quiet c f d g goes = more_quiet 0 c f c f d g (no_quiet c f) goes
+
+pub still_quiet : (c : CollectorState) (f : ℕ → Option Bits) (d : CollectorState) (g : ℕ → Option Bits)
+    → IsStill c f d g → DoesQuietUnits 0 c f d g
+still_quiet c f d g still = last_quiet 0 c f c f d g (no_quiet c f) still
+
 -- where no such unit was left, none is
 pub still_quiet_done : (c : CollectorState) (f : ℕ → Option Bits) (d : CollectorState) (g : ℕ → Option Bits)
     → IsStill c f d g → IsQuietDone c f → IsQuietDone d g
@@ -153,3 +178,16 @@ module _ (c : CollectorState) (f : ℕ → Option Bits) (s : IsSound c f) (e : C
       group = λ was. group_done_before c f e g still did.1;
     },
   )
+
+  -- as much gray marking as is asked for, once the zones of the group have begun
+  pub many_quietly : (n : ℕ) (d : CollectorState) (h : ℕ → Option Bits) → DoesQuietUnits n e g d h
+      → DoesQuietUnits n c f d h
+  many_quietly n d h did = subst (λ (m : ℕ). DoesQuietUnits m c f d h) (omega arith)
+      (then_quiet 0 n c f e g d h (still_quiet c f e g still) did)
+
+  pub none_rests : (n : ℕ) (d : CollectorState) (h : ℕ → Option Bits) → IsFormed e → HasBegun e
+      → DoesQuietUnits n e g d h → IsGroupDone d h → n ≡ 0 → IsQuietDone d h
+  none_rests n d h formed begun did group is =
+      let here : IsStill e g d h = did.none is in
+      let quiet = grays_quietly false d h formed begun (here, group_done_before e g d h here group) in
+      still_quiet_done c f d h quiet.0 quiet.1

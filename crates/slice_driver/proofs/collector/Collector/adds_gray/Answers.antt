@@ -1,5 +1,6 @@
-use Rattle.std.proofs.Common.{◌≡◌, ℕ, Option, IsSome, refl, sym, subst}
+use Rattle.std.proofs.Common.{◌≡◌, ℕ, Option, IsSome, refl, sym, ap, subst}
 use Rattle.cell_bits.specs.declared.bits.Bits.{Bits}
+use Rattle.heap_core.specs.Heap.{HeapState}
 use Rattle.slice_driver.specs.Collector.{CollectorState, run_of}
 use Rattle.slice_driver.specs.Units.{IsSound}
 use Rattle.marker.specs.GrayBits.{AreGraying}
@@ -43,3 +44,15 @@ returns-clause-done g c =
     ] in
     subst (λ (x : CollectorState). DidOrStill c.match-weak_unit.result (IsGrayFixed x flown c.args.group) x flown d
     flying) is here
+
+pub returns-clause-shape : goal.returns-clause-shape
+returns-clause-shape g c =
+    let h : HeapState = c.weak_unit.new.heap in
+    let here : h.shape ≡ c.self.inside.heap.shape = elim c.match-weak_unit.branch [
+      | in-Did w ↦ (let does = w.in-Did.ensures.does refl in ap (λ (k : HeapState). k.shape) does.rest)
+      | in-Empty w ↦ (let same = w.in-Empty.ensures.same refl in ap (λ (k : HeapState). k.shape) same.0)
+    ] in
+    subst (λ (x : CollectorState). h.shape ≡ x.heap.shape) c.self.view_is here
+
+pub returns-clause-groups : goal.returns-clause-groups
+returns-clause-groups g c = ap (λ (x : CollectorState). x.groups) c.self.view_is

@@ -1,5 +1,6 @@
-use Rattle.std.proofs.Common.{◌≡◌, ℕ, Option, IsSome, refl, sym, subst}
+use Rattle.std.proofs.Common.{◌≡◌, ℕ, Option, IsSome, refl, sym, ap, subst}
 use Rattle.cell_bits.specs.declared.bits.Bits.{Bits}
+use Rattle.heap_core.specs.Heap.{HeapState}
 use Rattle.slice_driver.specs.Collector.{CollectorState, run_of}
 use Rattle.slice_driver.specs.Units.{IsSound}
 use Rattle.marker.specs.Units.{IsGrayIdle}
@@ -41,8 +42,14 @@ returns g c =
           )
           )
     ] in
+    let shape_here : d.heap.shape ≡ v.heap.shape = elim c.match-gray_unit.branch [
+      | in-Did w ↦ (let does = w.in-Did.ensures.does refl in ap (λ (h : HeapState). h.shape) does.marks.rest)
+      | in-Empty w ↦ (let same = w.in-Empty.ensures.same refl in ap (λ (h : HeapState). h.shape) same.0)
+    ] in
     record {
       done = subst
           (λ (x : CollectorState). DidOrStill c.match-gray_unit.result
           (IsGrayIdle x.heap x.stack x.lists c.args.group.bits) x flown d flown) is here;
+      shape = subst (λ (x : CollectorState). d.heap.shape ≡ x.heap.shape) is shape_here;
+      groups = ap (λ (x : CollectorState). x.groups) is;
     }

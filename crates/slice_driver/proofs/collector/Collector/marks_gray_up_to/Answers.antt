@@ -1,0 +1,24 @@
+use Rattle.std.proofs.Common.{◌≡◌, ◌∙◌, List, sym, ap, subst, slice_get}
+use Rattle.gz_names.specs.declared.zone_sets.ZoneSet.{ZoneSet}
+use Rattle.heap_core.specs.Shape.{Shape}
+use Rattle.marker.specs.GrayBits.{AreGraying}
+use Rattle.slice_driver.proofs.marking.Units.{last_quiet, more_quiet, quiet_sound}
+use Rattle.slice_driver.proofs.collector.Collector.marks_gray_up_to.Goals as goal
+
+pub marks_group-requires-clause-sound : goal.marks_group-requires-clause-sound
+marks_group-requires-clause-sound g c = quiet_sound c.loop-count.count _ _ _ _ c.loop-count.invariant.did
+    c.requires.sound
+
+pub returns-then-not-marks_group-clause-done : goal.returns-then-not-marks_group-clause-done
+returns-then-not-marks_group-clause-done g c =
+    last_quiet _ _ _ _ _ _ _ c.loop-count.invariant.did c.if-not-marks_group.ensures.done.0
+
+pub loop-count-preserved : goal.loop-count-preserved
+loop-count-preserved g c = record {
+  did = more_quiet _ _ _ _ _ _ _ c.loop-count.invariant.did c.if-not-marks_group.ensures.done.0;
+  begun = subst (λ (s : Shape). AreGraying s c.in-Some.group.bits) (sym c.if-not-marks_group.ensures.shape)
+      c.loop-count.invariant.begun;
+  current = ap (λ (groups : List ZoneSet). slice_get groups 0) c.if-not-marks_group.ensures.groups
+      ∙ c.loop-count.invariant.current;
+  origin = c.if-not-marks_group.ensures.origin ∙ c.loop-count.invariant.origin;
+}

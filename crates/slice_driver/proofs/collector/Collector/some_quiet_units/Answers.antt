@@ -1,0 +1,74 @@
+use Rattle.std.proofs.Common.{◌≡◌, [], true, false, sym, subst, arith}
+use Rattle.slice_driver.specs.Quiet.{IsFormed}
+use Rattle.slice_driver.specs.Working.{HasBegun}
+use Rattle.slice_driver.proofs.marking.MarkingUnits.{still_goes, still_sound}
+use Rattle.slice_driver.proofs.marking.OneUnit.{still_on}
+use Rattle.slice_driver.proofs.marking.Units.{looks_quietly, many_quietly, none_rests, one_quiet, still_quiet}
+use Rattle.slice_driver.proofs.marking.Units.{still_quiet_done}
+use Rattle.slice_driver.proofs.collector.Collector.some_quiet_units.Goals as goal
+
+pub returns-then-marks_black-clause-done : goal.returns-then-marks_black-clause-done
+returns-then-marks_black-clause-done g c = one_quiet _ _ _ _ c.if-marks_black.ensures.done.0
+
+pub returns-then-looks-clause-done : goal.returns-then-looks-clause-done
+returns-then-looks-clause-done g c = one_quiet _ _ _ _
+    (looks_quietly c.args.self.now (g.F.Flight.bits c.args.flight.now) c.requires.sound c.marks_black.new.self
+    (g.F.Flight.bits c.marks_black.new.flight) c.if-marks_black.ensures.done.0 c.if-marks_black.ensures.done.1
+    true c.looks.new.self c.if-is_grouping.ensures c.if-looks.ensures)
+
+pub returns-then-is_grouping-clause-done : goal.returns-then-is_grouping-clause-done
+returns-then-is_grouping-clause-done g c =
+    let quiet = looks_quietly c.args.self.now (g.F.Flight.bits c.args.flight.now) c.requires.sound
+    c.marks_black.new.self (g.F.Flight.bits c.marks_black.new.flight) c.if-marks_black.ensures.done.0
+    c.if-marks_black.ensures.done.1 false c.looks.new.self c.if-is_grouping.ensures c.if-looks.ensures in
+    still_quiet _ _ _ _ quiet.0
+
+pub returns-then-is_grouping-clause-rests : goal.returns-then-is_grouping-clause-rests
+returns-then-is_grouping-clause-rests g c = λ is.
+    let quiet = looks_quietly c.args.self.now (g.F.Flight.bits c.args.flight.now) c.requires.sound
+    c.marks_black.new.self (g.F.Flight.bits c.marks_black.new.flight) c.if-marks_black.ensures.done.0
+    c.if-marks_black.ensures.done.1 false c.looks.new.self c.if-is_grouping.ensures c.if-looks.ensures in
+    still_quiet_done _ _ _ _ quiet.0 quiet.1
+
+pub returns-then-begins_zone-clause-done : goal.returns-then-begins_zone-clause-done
+returns-then-begins_zone-clause-done g c =
+    let old = c.args.self.now in
+    let flown = g.F.Flight.bits c.args.flight.now in
+    let still = c.if-marks_black.ensures.done.0 in
+    let f1 = g.F.Flight.bits c.marks_black.new.flight in
+    one_quiet _ _ _ _ (still_goes old flown c.marks_black.new.self f1 [] c.begins_zone.new.self f1 still
+    (c.if-begins_zone.ensures.0 f1 (still_sound old flown c.marks_black.new.self f1 still c.requires.sound)))
+
+pub marks_gray_up_to-requires-clause-sound : goal.marks_gray_up_to-requires-clause-sound
+marks_gray_up_to-requires-clause-sound g c =
+    let old = c.args.self.now in
+    let flown = g.F.Flight.bits c.args.flight.now in
+    let f1 = g.F.Flight.bits c.marks_black.new.flight in
+    let still = still_on old flown c.marks_black.new.self f1 c.begins_zone.new.self c.if-marks_black.ensures.done.0
+    c.if-begins_zone.ensures.1 in
+    still_sound old flown c.begins_zone.new.self f1 still c.requires.sound
+
+pub returns-clause-done : goal.returns-clause-done
+returns-clause-done g c =
+    let old = c.args.self.now in
+    let flown = g.F.Flight.bits c.args.flight.now in
+    let f1 = g.F.Flight.bits c.marks_black.new.flight in
+    let still = still_on old flown c.marks_black.new.self f1 c.begins_zone.new.self c.if-marks_black.ensures.done.0
+    c.if-begins_zone.ensures.1 in
+    many_quietly old flown c.requires.sound c.begins_zone.new.self f1 still c.if-marks_black.ensures.done.1
+    c.marks_gray_up_to.result c.marks_gray_up_to.new.self (g.F.Flight.bits c.marks_gray_up_to.new.flight)
+    c.marks_gray_up_to.ensures.done
+
+pub returns-clause-rests : goal.returns-clause-rests
+returns-clause-rests g c = λ is.
+    let old = c.args.self.now in
+    let flown = g.F.Flight.bits c.args.flight.now in
+    let f1 = g.F.Flight.bits c.marks_black.new.flight in
+    let still = still_on old flown c.marks_black.new.self f1 c.begins_zone.new.self c.if-marks_black.ensures.done.0
+    c.if-begins_zone.ensures.1 in
+    none_rests old flown c.requires.sound c.begins_zone.new.self f1 still c.if-marks_black.ensures.done.1
+    c.marks_gray_up_to.result c.marks_gray_up_to.new.self (g.F.Flight.bits c.marks_gray_up_to.new.flight)
+    (subst IsFormed (sym c.if-begins_zone.ensures.1) c.if-is_grouping.ensures)
+    (subst HasBegun (sym c.if-begins_zone.ensures.1) c.if-begins_zone.ensures.0)
+    c.marks_gray_up_to.ensures.done
+    (let some = c.requires.some in c.marks_gray_up_to.ensures.rests (omega (arith, is, some))) is
