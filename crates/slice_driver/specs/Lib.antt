@@ -22,3 +22,4 @@ pub mod Advances
 pub mod Serves
 pub mod Present
 pub mod Sessions
+pub mod NameKinds

@@ -18,6 +18,7 @@ ghost use Rattle.slice_driver.specs.Grays.{grays_up_to};
 ghost use Rattle.slice_driver.specs.GroupEnd.{IsReady};
 ghost use Rattle.slice_driver.specs.HandingOut.{HandsOut};
 ghost use Rattle.slice_driver.specs.Left.{units_left};
+ghost use Rattle.slice_driver.specs.NameKinds.{is_cell};
 ghost use Rattle.slice_driver.specs.Sweeping.{AreFreed};
 ghost use Rattle.slice_driver.specs.Units.{AreJobs, DoesUnit, EndsColoured, HandsJobs, IsFreedWord, IsLowestOut};
 ghost use Rattle.slice_driver.specs.Units.{IsSound, KeepsFreedWords, is_group_end, flying_after, jobs_at, reports_of};
@@ -28,7 +29,7 @@ use crate::colours::push_own_gray;
 use crate::zone_states::advance_all;
 use arena_table::Jobs;
 use cell_bits::Taken;
-use gz_names::{NameList, Names64, NoMemory, Report, ZoneSet};
+use gz_names::{Name, NameList, Names64, NoMemory, Report, ZoneSet};
 use heap_core::Heap;
 use std::alloc::Global;
 use sweep_groups::GroupOrder;
@@ -236,6 +237,36 @@ fn gray_names_in(alloc: Global, heap: &Heap, zones: ZoneSet) -> Result<NameList,
         push_own_gray(heap, arena, &mut names)?;
         from = arena + 1;
     }
-    names.sort_unstable();
-    Ok(NameList::from_vec(names))
+    let mut parted = with_cells_first(alloc, &names)?;
+    parted.sort_unstable();
+    Ok(NameList::from_vec(parted))
+}
+
+// Lists the cells before the wrappers, and each kind in the order that it has. Both often ascend already,
+// and a list that ascends is sorted quickly.
+fn with_cells_first(alloc: Global, names: &[Name]) -> Result<Vec<Name>, NoMemory>
+    ensures { IfOk result (λ parted. IsPermutation names.now parted.items) }
+{
+    let mut parted = Vec::with_capacity(alloc, names.len())?;
+    for name in names {
+        if is_cell_name(*name) {
+            parted.push(*name)?;
+        }
+    }
+    'wrappers: for name in names {
+        if !is_cell_name(*name) {
+            parted.push(*name)?;
+        }
+    }
+    Ok(parted)
+}
+
+// Whether a name is that of a cell that is no wrapper.
+fn is_cell_name(name: Name) -> bool
+    ensures { result ≡ is_cell name }
+{
+    match name {
+        Name::Cell(_) => true,
+        Name::Wrap(_, _) => false,
+    }
 }

@@ -1,5 +1,6 @@
 use Rattle.std.proofs.Common.{◌-◌, ◌∙◌, length, arith, sym, subst, List}
 use Rattle.std.specs.List.Sorted.{IsPermutation}
+use Rattle.std.proofs.lemmas.List.Sorted.{IsPermutation-trans}
 use Rattle.gz_names.specs.declared.names.Name.{Name}
 use Rattle.heap_core.specs.Heap.{HeapState}
 use Rattle.heap_core.specs.Shape.{is_owned}
@@ -33,5 +34,7 @@ returns-clause-moved c =
     (length h.shape.arenas) (omega (arith, c.loop-arena.invariant.within))
     (λ k ge lt. c.in_default.ensures.none k ge) in
     subst (λ (xs : List Name). IsPermutation xs c.from_vec.result) (c.loop-arena.invariant.names ∙ skipped)
-    (subst (λ (xs : List Name). IsPermutation c.loop-arena.names.items xs)
-    (sym c.from_vec.ensures) c.sort_unstable.ensures.permutation)
+    (subst (λ (xs : List Name). IsPermutation c.loop-arena.names.items xs) (sym c.from_vec.ensures)
+    (IsPermutation-trans _ _ _
+    (subst (λ (xs : List Name). IsPermutation xs c.in_ok-parted.parted.items) c.deref.ensures.value c.in_ok-parted.ensures)
+    c.sort_unstable.ensures.permutation))
