@@ -5,6 +5,9 @@
 // objects and both wrappers. docs/EMBEDDING.md goes through the lines.
 #![tactic(auto)]
 
+#[cfg(test)]
+mod tests;
+
 use gz_names::{CompNo, GraphCmd, GrayNo, Reg, Report, ZoneNo, ZoneSet};
 use slice_driver::Session;
 use std::process::ExitCode;

@@ -66,8 +66,6 @@ mod present;
 mod quiet_units;
 mod root_marking;
 mod session;
-#[cfg(test)]
-mod tests;
 mod units;
 mod zone_states;
 

@@ -1,0 +1,174 @@
+ghost use Rattle.std.specs.Prelude.{All};
+ghost use Rattle.colour_defs.specs.Step.{HasFewFields};
+
+use gz_names::{CompNo, GraphCmd, GrayNo, Name, Reg, Reply, ZoneNo, ZoneSet};
+use slice_driver::Session;
+use std::alloc::Global;
+use std::test::Fail;
+use sweeping::MainSweeper;
+
+fn reg(index: u8) -> Reg {
+    Reg::new(index % 16).unwrap()
+}
+
+fn zone(index: u8) -> ZoneNo {
+    ZoneNo::new(index % 64).unwrap()
+}
+
+fn slot(index: u8) -> GrayNo {
+    GrayNo::new(index % 64).unwrap()
+}
+
+// A session over a heap with a zone and its compartment.
+fn one_zone(alloc: Global) -> Option<Session<MainSweeper>> {
+    let mut session = Session::new(alloc).ok()?;
+    session.command(GraphCmd::Zone).ok()?;
+    session.command(GraphCmd::Comp(zone(0))).ok()?;
+    Some(session)
+}
+
+// The name that a command answers: what a register holds then.
+fn name(session: &mut Session<MainSweeper>, cmd: GraphCmd) -> Option<Name>
+    requires { HasFewFields cmd }
+{
+    match session.command(cmd).ok()? {
+        Reply::Made(number) => Some(Name::Cell(number)),
+        Reply::Named(name) => Some(name),
+        _ => None,
+    }
+}
+
+// Register 0 holds an object that names another one, which gray slot 3 holds.
+fn hold_pair(session: &mut Session<MainSweeper>) -> Option<()> {
+    session.command(GraphCmd::New(reg(0), CompNo(0), 1)).ok()?;
+    session.command(GraphCmd::New(reg(1), CompNo(0), 0)).ok()?;
+    session
+        .command(GraphCmd::Set(reg(0), 0, Some(reg(1))))
+        .ok()?;
+    session.command(GraphCmd::Hold(slot(3), reg(1))).ok()?;
+    session.command(GraphCmd::Drop(reg(1))).ok()?;
+    Some(())
+}
+
+// Register 5 holds a wrapper of an object of a second zone, and the map of register 6 has an entry of
+// the object that register 0 holds.
+fn add_wrapper_and_entry(session: &mut Session<MainSweeper>) -> Option<()> {
+    session.command(GraphCmd::Zone).ok()?;
+    session.command(GraphCmd::Comp(zone(1))).ok()?;
+    session.command(GraphCmd::New(reg(4), CompNo(1), 0)).ok()?;
+    session
+        .command(GraphCmd::Wrap(reg(5), reg(4), CompNo(0)))
+        .ok()?;
+    session.command(GraphCmd::Drop(reg(4))).ok()?;
+    session.command(GraphCmd::Map(reg(6), CompNo(0))).ok()?;
+    session.command(GraphCmd::New(reg(7), CompNo(0), 0)).ok()?;
+    session.command(GraphCmd::Put(reg(6), reg(0), reg(7))).ok()?;
+    session.command(GraphCmd::Drop(reg(7))).ok()?;
+    Some(())
+}
+
+// How many names are gray.
+fn count_grays(session: &mut Session<MainSweeper>) -> Option<usize> {
+    Some(session.gray_names().ok()??.as_slice().len())
+}
+
+// An object names another one, which a gray slot holds: the names that `get` and `expose` answer.
+fn ask_both_ways(alloc: Global) -> Option<(Option<Name>, Option<Name>)> {
+    let mut session = one_zone(alloc)?;
+    hold_pair(&mut session)?;
+    let held = name(&mut session, GraphCmd::Get(reg(2), reg(0), 0));
+    let exposed = name(&mut session, GraphCmd::Expose(reg(2), slot(3)));
+    Some((held, exposed))
+}
+
+// Makes 65 objects, one more than an arena holds: the name of the last, and how many names are gray then.
+fn fill_an_arena(alloc: Global) -> Option<(Option<Name>, usize)> {
+    let mut session = one_zone(alloc)?;
+    for _ in 0..64u8 {
+        session.command(GraphCmd::New(reg(0), CompNo(0), 0)).ok()?;
+    }
+    let last = name(&mut session, GraphCmd::New(reg(0), CompNo(0), 0));
+    Some((last, count_grays(&mut session)?))
+}
+
+// A unit, then a command, and so on: the names that the commands answered.
+fn take_turns(
+    alloc: Global,
+    session: &mut Session<MainSweeper>,
+    cmds: &[GraphCmd],
+) -> Option<Vec<Option<Name>>>
+    requires { All HasFewFields cmds.now }
+{
+    let mut names = Vec::new(alloc);
+    for cmd in cmds {
+        session.advance(1).ok()?;
+        names.push(name(session, *cmd)).ok()?;
+    }
+    Some(names)
+}
+
+// Commands between the units of a collection of both zones: what they answer, and whether the collection
+// runs on then.
+fn take_turns_in_two_zones(alloc: Global) -> Option<(Vec<Option<Name>>, bool)> {
+    let mut session = one_zone(alloc)?;
+    hold_pair(&mut session)?;
+    add_wrapper_and_entry(&mut session)?;
+    let both = ZoneSet::only(zone(0)).union(ZoneSet::only(zone(1)));
+    session.begin(both).ok()?;
+    let cmds = [
+        GraphCmd::Get(reg(1), reg(0), 0),
+        GraphCmd::Set(reg(0), 0, None),
+        GraphCmd::Get(reg(2), reg(0), 0),
+        GraphCmd::Unwrap(reg(4), reg(5)),
+        GraphCmd::Wrap(reg(8), reg(0), CompNo(1)),
+        GraphCmd::Find(reg(7), reg(6), reg(0)),
+        GraphCmd::New(reg(9), CompNo(0), 1),
+        GraphCmd::Put(reg(6), reg(9), reg(1)),
+        GraphCmd::Find(reg(10), reg(6), reg(9)),
+        GraphCmd::Expose(reg(11), slot(3)),
+    ];
+    let names = take_turns(alloc, &mut session, &cmds)?;
+    Some((names, session.running()))
+}
+
+#[test]
+fn a_new_session_is_at_rest(rt: HostRuntime) -> Result<(), Fail> {
+    let mut session = Session::new(rt.alloc())?;
+    assert!(rt; !session.running());
+    assert_eq!(rt; count_grays(&mut session), Some(0));
+    Ok(())
+}
+
+#[test]
+fn commands_hand_out_what_is_held(rt: HostRuntime) -> Result<(), Fail> {
+    let held = Some(Name::Cell(1));
+    assert_eq!(rt; ask_both_ways(rt.alloc()), Some((held, held)));
+    Ok(())
+}
+
+#[test]
+fn cells_are_born_black_in_any_arena(rt: HostRuntime) -> Result<(), Fail> {
+    assert_eq!(rt; fill_an_arena(rt.alloc()), Some((Some(Name::Cell(64)), 0)));
+    Ok(())
+}
+
+#[test]
+fn commands_between_units_answer_as_ever(rt: HostRuntime) -> Result<(), Fail> {
+    let turns = take_turns_in_two_zones(rt.alloc());
+    let (names, running) = turns.ok_or("a step")?;
+    let wanted = [
+        Some(Name::Cell(1)),
+        None,
+        None,
+        Some(Name::Cell(2)),
+        Some(Name::Wrap(CompNo(1), 0)),
+        Some(Name::Cell(4)),
+        Some(Name::Cell(5)),
+        None,
+        Some(Name::Cell(1)),
+        Some(Name::Cell(1)),
+    ];
+    assert_eq!(rt; names.as_slice(), wanted.as_slice());
+    assert!(rt; running);
+    Ok(())
+}
