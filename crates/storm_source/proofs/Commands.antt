@@ -1,0 +1,316 @@
+-- Each line of a storm stands for a command.
+use Rattle.std.proofs.Common.{◌≡◌, ◌+◌, ◌<◌, ◌++◌, ℕ, zero, suc, List, [], ◌∷◌, Some, Bool, true, false}
+use Rattle.std.proofs.Common.{refl, ap, ap₂, ◌∙◌, ◌/◌, sym, arith, append-nil, append_assoc, cond, eqb, codes}
+use Rattle.std.specs.Prelude.{nat_lt, All}
+use Rattle.std.proofs.Math.Nat.{mod-lt}
+use Rattle.std.proofs.lemmas.Bool.{ltb-true}
+use Rattle.std.proofs.lemmas.Fmt.{decimal_digit}
+use Rattle.std.proofs.lemmas.List.Elements.{All-append, All-cons, All-from_recursion, All-nil}
+use Rattle.gz_names.specs.Zones.{zones_from, zones_in}
+use Rattle.gz_names.specs.declared.zone_sets.ZoneSet.{ZoneSet}
+use Rattle.gz_names.specs.declared.commands.Cmd.{Cmd}
+use Rattle.gz_names.specs.declared.commands.Cmd.TheVariants.{Graph, Gc, Slice, Finish, Collect, Colours}
+use Rattle.gz_names.specs.declared.commands.GraphCmd.TheVariants as cmd
+use Rattle.trace_lang.specs.Grammar.{Spells, SpellsRest}
+use Rattle.trace_lang.specs.Words.{gray_word, number_word, number_words, reg_word, word_text}
+use Rattle.trace_lang.specs.declared.words.Word.{Word}
+use Rattle.trace_lang.specs.declared.words.Word.TheVariants as word
+use Rattle.storm_source.specs.declared.rows.Choice.TheVariants as choice
+use Rattle.storm_source.specs.Draws.{choice_of, next_state}
+use Rattle.storm_source.specs.Trace.{collection_line, drawn_line, drawn_lines, head_lines, line_state, row_choices}
+use Rattle.storm_source.specs.Trace.{row_word, storm_lines, tail_lines, words_text, zone_bits}
+
+abbrev pub IsCommand : List ℕ → Type 0
+IsCommand line = (c : Cmd) × Spells line c
+
+spells : (line rest : List ℕ) (w : Word) (c : Cmd) → line ≡ word_text w ++ rest → SpellsRest w rest c → IsCommand line
+spells line rest w c e so = (c, (w, rest, e, so))
+
+-- what a draw chooses
+choice_below : (x m : ℕ) → 0 < m → choice_of x m < m
+choice_below x m some = mod-lt (x / 65536) some
+
+-- words, the last of which nothing follows
+one_word : (a : List ℕ) → a ++ [] ≡ a
+one_word a = append-nil a
+
+two_words : (a b : List ℕ) → a ++ (b ++ []) ≡ a ++ b
+two_words a b = ap (λ (t : List ℕ). a ++ t) (append-nil b)
+
+three_words : (a b c : List ℕ) → a ++ (b ++ (c ++ [])) ≡ a ++ b ++ c
+three_words a b c = ap (λ (t : List ℕ). a ++ (b ++ t)) (append-nil c) ∙ sym (append_assoc a b c)
+
+new_line : (a b c : ℕ) → IsCommand (codes "new" ++ (reg_word (choice_of a 16) ++ (number_word (choice_of b 8)
+    ++ (number_word (choice_of c 5) ++ []))))
+new_line a b c =
+    let r = choice_of a 16 in let d = choice_of b 8 in let n = choice_of c 5 in
+    let eight = choice_below b 8 (omega arith) in let five = choice_below c 5 (omega arith) in
+    spells _ (reg_word r ++ number_word d ++ number_word n) word.New (Graph (cmd.New r (record { 0 = d }) n))
+    (ap (λ (t : List ℕ). codes "new" ++ t) (three_words (reg_word r) (number_word d) (number_word n)))
+    (r, record { 0 = d }, n, refl, choice_below a 16 (omega arith), omega (arith, eight), omega (arith, five), refl)
+
+map_line : (a b : ℕ) → IsCommand (codes "map" ++ (reg_word (choice_of a 16) ++ (number_word (choice_of b 8) ++ [])))
+map_line a b =
+    let r = choice_of a 16 in let d = choice_of b 8 in let eight = choice_below b 8 (omega arith) in
+    spells _ (reg_word r ++ number_word d) word.Map (Graph (cmd.Map r (record { 0 = d })))
+    (ap (λ (t : List ℕ). codes "map" ++ t) (two_words (reg_word r) (number_word d)))
+    (r, record { 0 = d }, refl, choice_below a 16 (omega arith), omega (arith, eight), refl)
+
+get_line : (a b c : ℕ) → IsCommand (codes "get" ++ (reg_word (choice_of a 16) ++ (reg_word (choice_of b 16)
+    ++ (number_word (choice_of c 4) ++ []))))
+get_line a b c =
+    let r = choice_of a 16 in let s = choice_of b 16 in let f = choice_of c 4 in
+    let four = choice_below c 4 (omega arith) in
+    spells _ (reg_word r ++ reg_word s ++ number_word f) word.Get (Graph (cmd.Get r s f))
+    (ap (λ (t : List ℕ). codes "get" ++ t) (three_words (reg_word r) (reg_word s) (number_word f)))
+    (r, s, f, refl, choice_below a 16 (omega arith), choice_below b 16 (omega arith), omega (arith, four), refl)
+
+set_line : (a b c : ℕ) → IsCommand (codes "set" ++ (reg_word (choice_of a 16) ++ (number_word (choice_of b 4)
+    ++ (reg_word (choice_of c 16) ++ []))))
+set_line a b c =
+    let s = choice_of a 16 in let f = choice_of b 4 in let t = choice_of c 16 in
+    let four = choice_below b 4 (omega arith) in
+    spells _ (reg_word s ++ number_word f ++ reg_word t) word.Set (Graph (cmd.Set s f (Some t)))
+    (ap (λ (text : List ℕ). codes "set" ++ text) (three_words (reg_word s) (number_word f) (reg_word t)))
+    (s, f, Some t, refl, choice_below a 16 (omega arith), omega (arith, four), choice_below c 16 (omega arith), refl)
+
+wrap_line : (a b c : ℕ) → IsCommand (codes "wrap" ++ (reg_word (choice_of a 16) ++ (reg_word (choice_of b 16)
+    ++ (number_word (choice_of c 8) ++ []))))
+wrap_line a b c =
+    let r = choice_of a 16 in let s = choice_of b 16 in let d = choice_of c 8 in
+    let eight = choice_below c 8 (omega arith) in
+    spells _ (reg_word r ++ reg_word s ++ number_word d) word.Wrap (Graph (cmd.Wrap r s (record { 0 = d })))
+    (ap (λ (t : List ℕ). codes "wrap" ++ t) (three_words (reg_word r) (reg_word s) (number_word d))) (
+      r,
+      s,
+      record { 0 = d },
+      refl,
+      choice_below a 16 (omega arith),
+      choice_below b 16 (omega arith),
+      omega (arith, eight),
+      refl,
+    )
+
+unwrap_line : (a b : ℕ) → IsCommand (codes "unwrap" ++ (reg_word (choice_of a 16) ++ (reg_word (choice_of b 16) ++ [])))
+unwrap_line a b =
+    let r = choice_of a 16 in let s = choice_of b 16 in
+    spells _ (reg_word r ++ reg_word s) word.Unwrap (Graph (cmd.Unwrap r s))
+    (ap (λ (t : List ℕ). codes "unwrap" ++ t) (two_words (reg_word r) (reg_word s)))
+    (r, s, refl, choice_below a 16 (omega arith), choice_below b 16 (omega arith), refl)
+
+put_line : (a b c : ℕ) → IsCommand (codes "put" ++ (reg_word (choice_of a 16) ++ (reg_word (choice_of b 16)
+    ++ (reg_word (choice_of c 16) ++ []))))
+put_line a b c =
+    let m = choice_of a 16 in let k = choice_of b 16 in let v = choice_of c 16 in
+    spells _ (reg_word m ++ reg_word k ++ reg_word v) word.Put (Graph (cmd.Put m k v))
+    (ap (λ (t : List ℕ). codes "put" ++ t) (three_words (reg_word m) (reg_word k) (reg_word v))) (
+      m,
+      k,
+      v,
+      refl,
+      choice_below a 16 (omega arith),
+      choice_below b 16 (omega arith),
+      choice_below c 16 (omega arith),
+      refl,
+    )
+
+find_line : (a b c : ℕ) → IsCommand (codes "find" ++ (reg_word (choice_of a 16) ++ (reg_word (choice_of b 16)
+    ++ (reg_word (choice_of c 16) ++ []))))
+find_line a b c =
+    let r = choice_of a 16 in let m = choice_of b 16 in let k = choice_of c 16 in
+    spells _ (reg_word r ++ reg_word m ++ reg_word k) word.Find (Graph (cmd.Find r m k))
+    (ap (λ (t : List ℕ). codes "find" ++ t) (three_words (reg_word r) (reg_word m) (reg_word k))) (
+      r,
+      m,
+      k,
+      refl,
+      choice_below a 16 (omega arith),
+      choice_below b 16 (omega arith),
+      choice_below c 16 (omega arith),
+      refl,
+    )
+
+hold_line : (a b : ℕ) → IsCommand (codes "hold" ++ (gray_word (choice_of a 64) ++ (reg_word (choice_of b 16) ++ [])))
+hold_line a b =
+    let g = choice_of a 64 in let r = choice_of b 16 in
+    spells _ (gray_word g ++ reg_word r) word.Hold (Graph (cmd.Hold g r))
+    (ap (λ (t : List ℕ). codes "hold" ++ t) (two_words (gray_word g) (reg_word r)))
+    (g, r, refl, choice_below a 64 (omega arith), choice_below b 16 (omega arith), refl)
+
+expose_line : (a b : ℕ)
+    → IsCommand (codes "expose" ++ (reg_word (choice_of a 16) ++ (gray_word (choice_of b 64) ++ [])))
+expose_line a b =
+    let r = choice_of a 16 in let g = choice_of b 64 in
+    spells _ (reg_word r ++ gray_word g) word.Expose (Graph (cmd.Expose r g))
+    (ap (λ (t : List ℕ). codes "expose" ++ t) (two_words (reg_word r) (gray_word g)))
+    (r, g, refl, choice_below a 16 (omega arith), choice_below b 64 (omega arith), refl)
+
+drop_line : (a : ℕ) → IsCommand (codes "drop" ++ (reg_word (choice_of a 16) ++ []))
+drop_line a =
+    let r = choice_of a 16 in
+    spells _ (reg_word r) word.Drop (Graph (cmd.Drop r))
+    (ap (λ (t : List ℕ). codes "drop" ++ t) (one_word (reg_word r)))
+    (r, refl, choice_below a 16 (omega arith), refl)
+
+-- the rows of the table
+row_line : (row y : ℕ) → row < 15 → IsCommand (row_word row ++ words_text (row_choices row) y)
+row_line zero y lt =
+    new_line (next_state y) (next_state (next_state y)) (next_state (next_state (next_state y)))
+row_line (suc zero) y lt =
+    new_line (next_state y) (next_state (next_state y)) (next_state (next_state (next_state y)))
+row_line (suc (suc zero)) y lt =
+    new_line (next_state y) (next_state (next_state y)) (next_state (next_state (next_state y)))
+row_line (suc (suc (suc zero))) y lt =
+    map_line (next_state y) (next_state (next_state y))
+row_line (suc (suc (suc (suc zero)))) y lt =
+    get_line (next_state y) (next_state (next_state y)) (next_state (next_state (next_state y)))
+row_line (suc (suc (suc (suc (suc zero))))) y lt =
+    get_line (next_state y) (next_state (next_state y)) (next_state (next_state (next_state y)))
+row_line (suc (suc (suc (suc (suc (suc zero)))))) y lt =
+    set_line (next_state y) (next_state (next_state y)) (next_state (next_state (next_state y)))
+row_line (suc (suc (suc (suc (suc (suc (suc zero))))))) y lt =
+    set_line (next_state y) (next_state (next_state y)) (next_state (next_state (next_state y)))
+row_line (suc (suc (suc (suc (suc (suc (suc (suc zero)))))))) y lt =
+    wrap_line (next_state y) (next_state (next_state y)) (next_state (next_state (next_state y)))
+row_line (suc (suc (suc (suc (suc (suc (suc (suc (suc zero))))))))) y lt =
+    unwrap_line (next_state y) (next_state (next_state y))
+row_line (suc (suc (suc (suc (suc (suc (suc (suc (suc (suc zero)))))))))) y lt =
+    put_line (next_state y) (next_state (next_state y)) (next_state (next_state (next_state y)))
+row_line (suc (suc (suc (suc (suc (suc (suc (suc (suc (suc (suc zero))))))))))) y lt =
+    find_line (next_state y) (next_state (next_state y)) (next_state (next_state (next_state y)))
+row_line (suc (suc (suc (suc (suc (suc (suc (suc (suc (suc (suc (suc zero)))))))))))) y lt =
+    hold_line (next_state y) (next_state (next_state y))
+row_line (suc (suc (suc (suc (suc (suc (suc (suc (suc (suc (suc (suc (suc zero))))))))))))) y lt =
+    expose_line (next_state y) (next_state (next_state y))
+row_line (suc (suc (suc (suc (suc (suc (suc (suc (suc (suc (suc (suc (suc (suc zero)))))))))))))) y lt =
+    drop_line (next_state y)
+row_line (suc (suc (suc (suc (suc (suc (suc (suc (suc (suc (suc (suc (suc (suc (suc row))))))))))))))) y lt =
+    absurd (omega arith)
+
+gc_line : (z : ℕ) → IsCommand (codes "gc" ++ number_words (zones_in (record { bits = zone_bits z })))
+gc_line z =
+    let few = choice_below z 15 (omega arith) in
+    let zones : ZoneSet = record { bits = zone_bits z } in
+    spells _ (number_words (zones_in zones)) word.Gc (Gc zones) refl
+    (zones, refl, (omega arith, omega (arith, few), refl))
+
+slice_line : (z : ℕ) → IsCommand (codes "slice" ++ (number_word (choice_of z 64) ++ []))
+slice_line z =
+    let n = choice_of z 64 in let few = choice_below z 64 (omega arith) in
+    spells _ (number_word n) word.Slice (Slice n) (ap (λ (t : List ℕ). codes "slice" ++ t) (one_word (number_word n)))
+    (n, refl, omega (arith, few), refl)
+
+by_draw : (y : ℕ) (b : Bool) → IsCommand (cond b
+    (codes "gc" ++ number_words (zones_in (record { bits = zone_bits (next_state (next_state y)) })))
+    (codes "slice" ++ words_text (choice.Below 64 ∷ []) (next_state y)))
+by_draw y true = gc_line (next_state (next_state y))
+by_draw y false = slice_line (next_state (next_state y))
+
+by_row : (row y : ℕ) (b : Bool) → nat_lt row 15 ≡ b
+    → IsCommand (cond b (row_word row ++ words_text (row_choices row) y) (collection_line y))
+by_row row y true lt = row_line row y (ltb-true row 15 lt)
+by_row row y false lt = by_draw y (eqb (choice_of (next_state y) 4) 0)
+
+drawn_spells : (x : ℕ) → IsCommand (drawn_line x)
+drawn_spells x =
+    let row = choice_of (next_state x) 16 in by_row row (next_state x) (nat_lt row 15) refl
+
+all_drawn : (n x : ℕ) → All IsCommand (drawn_lines n x)
+all_drawn zero x = All-nil IsCommand
+all_drawn (suc n) x =
+    All-cons IsCommand (drawn_line x) (drawn_lines n (line_state x)) (drawn_spells x) (all_drawn n (line_state x))
+
+-- the lines of the head and of the tail
+zone_made : IsCommand (codes "zone")
+zone_made = spells _ [] word.Zone (Graph cmd.Zone) refl (refl, refl)
+
+digit_word : (n : ℕ) → n < 10 → 32 ∷ (48 + n) ∷ [] ≡ number_word n
+digit_word n lt = ap (λ (t : List ℕ). 32 ∷ t) (sym (decimal_digit n lt))
+
+comp_made : (z : ℕ) → z < 4 → IsCommand (codes "comp" ++ (32 ∷ (48 + z) ∷ []))
+comp_made z few =
+    spells _ (32 ∷ (48 + z) ∷ []) word.Comp (Graph (cmd.Comp z)) (refl)
+    (z, refl, omega (arith, few), digit_word z (omega (arith, few)))
+
+new_made : (r : ℕ) → r < 4 → IsCommand (codes "new" ++ (32 ∷ 114 ∷ (48 + r) ∷ 32 ∷ (48 + r) ∷ 32 ∷ 52 ∷ []))
+new_made r few =
+    let digit = decimal_digit r (omega (arith, few)) in let four = decimal_digit 4 (omega arith) in
+    spells _ (32 ∷ 114 ∷ (48 + r) ∷ 32 ∷ (48 + r) ∷ 32 ∷ 52 ∷ []) word.New (Graph (cmd.New r (record { 0 = r }) 4))
+    (refl) (
+      r,
+      record { 0 = r },
+      4,
+      refl,
+      omega (arith, few),
+      omega (arith, few),
+      omega arith,
+      sym (ap₂ (λ (t u : List ℕ). (32 ∷ 114 ∷ t) ++ (32 ∷ t) ++ (32 ∷ u)) digit four),
+    )
+
+all_four : codes " 0 1 2 3" ≡ number_words (0 ∷ 1 ∷ 2 ∷ 3 ∷ [])
+all_four =
+    sym (ap₂ (λ (t u : List ℕ). 32 ∷ (t ++ (32 ∷ (u ++ number_words (2 ∷ 3 ∷ []))))) (decimal_digit 0 (omega arith))
+    (decimal_digit 1 (omega arith))
+    ∙ ap₂ (λ (t u : List ℕ). 32 ∷ 48 ∷ 32 ∷ 49 ∷ 32 ∷ (t ++ (32 ∷ (u ++ [])))) (decimal_digit 2 (omega arith))
+    (decimal_digit 3 (omega arith)))
+
+collect_made : IsCommand (codes "collect 0 1 2 3")
+unfolding zones_in zones_from
+collect_made =
+    let zones : ZoneSet = record { bits = 15 } in
+    spells _ (codes " 0 1 2 3") word.Collect (Collect zones) refl (zones, refl, (omega arith, omega arith, all_four))
+
+head_spells : All IsCommand head_lines
+head_spells =
+    All-from_recursion IsCommand head_lines (
+      zone_made,
+      (
+        zone_made,
+        (
+          zone_made,
+          (
+            zone_made,
+            (
+              comp_made 0 (omega arith),
+              (
+                comp_made 1 (omega arith),
+                (
+                  comp_made 2 (omega arith),
+                  (
+                    comp_made 3 (omega arith),
+                    (
+                      comp_made 0 (omega arith),
+                      (
+                        comp_made 1 (omega arith),
+                        (
+                          comp_made 2 (omega arith),
+                          (
+                            comp_made 3 (omega arith),
+                            (
+                              new_made 0 (omega arith),
+                              (new_made 1 (omega arith), (new_made 2 (omega arith), (new_made 3 (omega arith), tt))),
+                            ),
+                          ),
+                        ),
+                      ),
+                    ),
+                  ),
+                ),
+              ),
+            ),
+          ),
+        ),
+      ),
+    )
+
+tail_spells : All IsCommand tail_lines
+tail_spells =
+    All-from_recursion IsCommand tail_lines (
+      spells _ [] word.Finish Finish refl (refl, refl),
+      (collect_made, (spells _ [] word.Colours Colours refl (refl, refl), tt)),
+    )
+
+pub storm_spells : (seed lines : ℕ) → All IsCommand (storm_lines seed lines)
+storm_spells seed lines =
+    All-append IsCommand head_lines (drawn_lines lines seed ++ tail_lines) head_spells
+    (All-append IsCommand (drawn_lines lines seed) tail_lines (all_drawn lines seed) tail_spells)

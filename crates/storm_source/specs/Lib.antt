@@ -1,0 +1,4 @@
+pub mod Bounds
+pub mod Draws
+pub mod Left
+pub mod Trace
