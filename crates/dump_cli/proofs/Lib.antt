@@ -1,1 +1,4 @@
+pub mod Fine
+pub mod Judging
+pub mod Only
 pub mod Read

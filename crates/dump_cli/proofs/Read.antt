@@ -1,36 +1,6 @@
 -- Lines that were read, one more behind the others.
-use Rattle.std.proofs.Common.{
-  ◌≡◌,
-  ◌≢◌,
-  ℕ,
-  ◌+◌,
-  ◌⊎◌,
-  inl,
-  inr,
-  Bool,
-  true,
-  false,
-  List,
-  [],
-  ◌∷◌,
-  ◌++◌,
-  length,
-  Option,
-  Some,
-  None,
-  Result,
-  Ok,
-  Err,
-  IfOk,
-  sym,
-  refl,
-  ap,
-  subst,
-  ◌∙◌,
-  arith,
-  if◌then◌else◌,
-  eqb,
-}
+use Rattle.std.proofs.Common.{◌≡◌, ◌≢◌, ℕ, ◌+◌, ◌⊎◌, inl, inr, Bool, true, false, List, [], ◌∷◌, ◌++◌, length, Option}
+use Rattle.std.proofs.Common.{Some, None, Result, Ok, Err, IfOk, sym, refl, subst, ◌∙◌, arith, if◌then◌else◌, eqb}
 use Rattle.std.proofs.lemmas.Bool.{eqb-true}
 use Rattle.gz_io.specs.Lines.{EndsLine, Gives, GivesKnown, IsNotAscii, IsTooLong}
 use Rattle.gz_io.specs.declared.reader.Next.{Next}
@@ -39,17 +9,17 @@ use Rattle.gz_names.specs.declared.dumps.DumpLine.{DumpLine}
 use Rattle.gz_names.specs.DumpTexts.{SpellsLine}
 use Rattle.dump_check.specs.declared.checker.Verdict.{Verdict}
 use Rattle.dump_check.specs.declared.checker.Verdict.TheVariants.{Sound, Fault, Bad}
-use Rattle.dump_check.specs.Checking.{Progress, read_of, Says, SaysAtEnd}
+use Rattle.dump_check.specs.Checking.{Progress, Says, SaysAtEnd}
 use Rattle.dump_cli.specs.declared.reading.NoVerdict.{NoVerdict}
 use Rattle.dump_cli.specs.declared.reading.NoVerdict.TheVariants as none
 use Rattle.dump_cli.specs.Verdicts.{AreReadSo, HasRead, HasTooMany, IsVerdictOn, refusal_after}
 
-read_push : (input : List ℕ) (ls : List DumpLine) (rest text more : List ℕ) (l : DumpLine) → HasRead input ls rest
+pub read_push : (input : List ℕ) (ls : List DumpLine) (rest text more : List ℕ) (l : DumpLine) → HasRead input ls rest
     → EndsLine rest more text → SpellsLine text l → HasRead input (ls ++ l ∷ []) more
 read_push input [] rest text more l h e s = (text, more, subst (λ t. EndsLine t more text) (sym h) e, s, refl)
 read_push input (m ∷ ls) rest text more l h e s = (h.0, h.1, h.2, h.3, read_push h.1 ls rest text more l h.4 e s)
 
-length_push : (ls : List DumpLine) (l : DumpLine) → length (ls ++ l ∷ []) ≡ length ls + 1
+pub length_push : (ls : List DumpLine) (l : DumpLine) → length (ls ++ l ∷ []) ≡ length ls + 1
 length_push [] l = omega arith
 length_push (a ∷ ls) l = omega (arith, length_push ls l)
 
@@ -74,7 +44,7 @@ bad_of rest more line r g (inl p) = let h : Gives rest more next.TooLong line =
 bad_of rest more line r g (inr p) = let h : Gives rest more next.NotAscii line =
     subst (λ t. Gives rest more t line) p g in inr h.1
 
-abbrev refusal_if : Bool → ℕ → Result Verdict NoVerdict
+abbrev pub refusal_if : Bool → ℕ → Result Verdict NoVerdict
 refusal_if b k = if b then Err none.TooManyLines else Ok (Bad (k + 1))
 
 refusal_by : (input : List ℕ) (ls : List DumpLine) (rest : List ℕ) (k : ℕ) (b : Bool) → AreReadSo input ls rest
@@ -99,7 +69,7 @@ bytes_there : (line rest xs : List ℕ) (byte : ℕ) → xs ≡ line ++ byte ∷
 bytes_there [] rest xs byte e = λ n. absurd (cc (sym e ∙ n))
 bytes_there (b ∷ line) rest xs byte e = λ n. absurd (cc (sym e ∙ n))
 
-refused_there : (xs : List ℕ) → IsTooLong xs ⊎ IsNotAscii xs → xs ≢ []
+pub refused_there : (xs : List ℕ) → IsTooLong xs ⊎ IsNotAscii xs → xs ≢ []
 refused_there xs (inl h) = bytes_there h.line h.rest xs h.byte h.bytes
 refused_there xs (inr h) = bytes_there h.line h.rest xs h.byte h.bytes
 
@@ -124,22 +94,14 @@ says_by E input ls rest more text (Sound cells edges entries) new so e s = absur
 says_by E input ls rest more text (Fault n why) new so e s = (ls, rest, so, s.0, inl (text, more, e, s.1))
 says_by E input ls rest more text (Bad n) new so e s = (ls, rest, so, s.0, inl (text, more, e, s.1))
 
+-- what was said of a line, as it was given
+pub said_of : (E : Type 0) (ls : List DumpLine) (text given : List ℕ) (o p : Option Verdict) (new : Progress)
+    → given ≡ text → o ≡ p → Says {E = E} ls given (Ok o) new → Says {E = E} ls text (Ok p) new
+said_of E ls text given o p new same is s =
+    subst (λ t. Says {E = E} ls t (Ok p) new) same (subst (λ t. Says {E = E} ls given (Ok t) new) is s)
+
 pub says_verdict : (E : Type 0) (input : List ℕ) (ls : List DumpLine) (rest more text given : List ℕ)
     (o : Option Verdict) (v : Verdict) (new : Progress) → AreReadSo input ls rest → EndsLine rest more text
     → given ≡ text → o ≡ Some v → Says {E = E} ls given (Ok o) new → IsVerdictOn input v
 says_verdict E input ls rest more text given o v new so e same is s =
-    says_by E input ls rest more text v new so e
-    (subst (λ t. Says {E = E} ls t (Ok (Some v)) new) same (subst (λ t. Says {E = E} ls given (Ok t) new) is s))
-
--- a sound line more
-pub goes_on : (E : Type 0) (input : List ℕ) (ls : List DumpLine) (rest more text given : List ℕ) (o : Option Verdict)
-    (new : Progress) (k : ℕ) → AreReadSo input ls rest → EndsLine rest more text → given ≡ text → o ≡ None
-    → Says {E = E} ls given (Ok o) new → length ls ≡ k → (all : List DumpLine) × AreReadSo input all more
-    × (new ≡ read_of all) × (length all ≡ k + 1)
-goes_on E input ls rest more text given o new k so e same is s n =
-    let g = subst (λ t. Says {E = E} ls t (Ok None) new) same (subst (λ t. Says {E = E} ls given (Ok t) new) is s) in (
-      ls ++ g.line ∷ [],
-      record { read = read_push input ls rest text more g.line so.read e g.spelled; sound = g.sound },
-      g.kept,
-      length_push ls g.line ∙ ap (λ t. t + 1) n,
-    )
+    says_by E input ls rest more text v new so e (said_of E ls text given o (Some v) new same is s)

@@ -1,6 +1,6 @@
 -- The verdict on the bytes of a dump, and its text.
 use Rattle.std.specs.Prelude.{◌≡◌, ◌≢◌, ℕ, ◌+◌, ◌==◌, List, [], ◌∷◌, ◌++◌, Option, Result, Ok, Err, codes, length, ◌⊎◌}
-use Rattle.std.specs.Prelude.{if◌then◌else◌}
+use Rattle.std.specs.Prelude.{if◌then◌else◌, IsTrue, ⊤, ◌≤◌}
 use Rattle.std.specs.Fmt.{decimal}
 use Rattle.std.specs.Io.KnownBytes.{Appends}
 use Rattle.gz_io.specs.Causes.{AppendsFront}
@@ -9,7 +9,7 @@ use Rattle.gz_names.specs.declared.dumps.DumpFault.{DumpFault}
 use Rattle.gz_names.specs.declared.dumps.DumpFault.TheVariants as fault
 use Rattle.gz_names.specs.declared.dumps.DumpLine.{DumpLine}
 use Rattle.gz_names.specs.DumpTexts.{SpellsLine}
-use Rattle.gz_names.specs.Dumps.{AreSoundLines}
+use Rattle.gz_names.specs.Dumps.{AreSoundLines, is_in_form}
 use Rattle.dump_check.specs.declared.checker.Verdict.{Verdict}
 use Rattle.dump_check.specs.declared.checker.Verdict.TheVariants.{Sound, Fault, Bad}
 use Rattle.dump_check.specs.Checking.{IsBadAfter, IsFaultAfter, SaysAtEnd}
@@ -54,6 +54,32 @@ pub record HasTooMany (input : List ℕ) : Type 0 where
   pub so : AreReadSo input lines rest
   pub count : length lines ≡ 4294967295
   pub more : rest ≢ []
+
+-- each line may follow those before it
+abbrev pub AreInForm : List DumpLine → List DumpLine → Type 0
+AreInForm before [] = ⊤
+AreInForm before (l ∷ ls) = IsTrue (is_in_form before l) × AreInForm (before ++ l ∷ []) ls
+
+-- the bytes are lines of a dump, whatever their faults, and no more than are counted
+pub record IsWellFormed (input : List ℕ) : Type 0 where
+  pub lines : List DumpLine
+  pub read : HasRead input lines []
+  pub in_form : AreInForm [] lines
+  pub few : length lines ≤ 4294967295
+
+-- no line is refused, nor are there too many
+abbrev pub IsJudged : Result Verdict NoVerdict → Type 0
+IsJudged (Ok (Sound cells edges entries)) = ⊤
+IsJudged (Ok (Fault n why)) = ⊤
+IsJudged (Ok (Bad n)) = ⊥
+IsJudged (Err none.Read) = ⊤
+IsJudged (Err none.Memory) = ⊤
+IsJudged (Err none.TooManyLines) = ⊥
+
+-- there is no verdict
+abbrev pub IsUnjudged : Result Verdict NoVerdict → Type 0
+IsUnjudged (Ok v) = ⊥
+IsUnjudged (Err e) = ⊤
 
 abbrev pub refusal_after : ℕ → Result Verdict NoVerdict
 refusal_after read = if read == 4294967295 then Err none.TooManyLines else Ok (Bad (read + 1))

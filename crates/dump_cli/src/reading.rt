@@ -1,7 +1,8 @@
 // The reading loop.
 ghost use Rattle.std.specs.Prelude.{◌≡◌, ◌<◌, ◌↔◌, ◌⊎◌, List, ℕ, Some, Err, IfOk, IsTrue, OnOk};
 ghost use Rattle.gz_io.specs.Causes.{Rose};
-ghost use Rattle.dump_cli.specs.Verdicts.{EndsBy, HasTooMany, IsVerdictOn, refusal_after};
+ghost use Rattle.dump_cli.specs.Verdicts.{EndsBy, HasTooMany, IsJudged, IsUnjudged, IsVerdictOn, IsWellFormed};
+ghost use Rattle.dump_cli.specs.Verdicts.{refusal_after};
 
 use crate::verdicts::verdict_text;
 use dump_check::{Checker, Verdict};
@@ -85,6 +86,8 @@ fn judge<S: Source>(alloc: Global, source: &mut S) -> Result<Verdict, NoVerdict>
     ensures verdict { (input : List ℕ) → S.left source.old ≡ Some input → IfOk result (IsVerdictOn input) }
     ensures many { result ≡ Err NoVerdict.TooManyLines → (input : List ℕ) → S.left source.old ≡ Some input
         → HasTooMany input }
+    ensures judged { (input : List ℕ) → S.left source.old ≡ Some input → IsWellFormed input → IsJudged result }
+    ensures unjudged { (input : List ℕ) → S.left source.old ≡ Some input → HasTooMany input → IsUnjudged result }
     ensures read { result ≡ Err NoVerdict.Read → Rose (S.faults source.old) (S.faults source.new) }
     ensures quiet { OnOk result (S.faults source.new ≡ S.faults source.old) }
 {
@@ -113,6 +116,12 @@ fn judge<S: Source>(alloc: Global, source: &mut S) -> Result<Verdict, NoVerdict>
 pub fn check<S: Source, K: Sink>(alloc: Global, source: &mut S, sink: &mut K) -> CheckEnd
     ensures verdict { (input : List ℕ) → S.left source.old ≡ Some input
         → EndsBy input (K.written sink.old) (K.written sink.new) result }
+    ensures well_formed { (input : List ℕ) → S.left source.old ≡ Some input → IsWellFormed input
+        → (Rose (S.faults source.old) (S.faults source.new) → ⊥)
+        → (Rose (K.faults sink.old) (K.faults sink.new) → ⊥)
+        → (result ≡ CheckEnd.Sound) ⊎ ((result ≡ CheckEnd.Unsound) ⊎ (result ≡ CheckEnd.NoMemory)) }
+    ensures too_many { (input : List ℕ) → S.left source.old ≡ Some input → HasTooMany input
+        → (result ≡ CheckEnd.TooManyLines) ⊎ ((result ≡ CheckEnd.ReadFault) ⊎ (result ≡ CheckEnd.NoMemory)) }
     ensures quiet { (result ≡ CheckEnd.Sound) ⊎ (result ≡ CheckEnd.Unsound)
         → (S.faults source.new ≡ S.faults source.old) × (K.faults sink.new ≡ K.faults sink.old) }
     ensures read { result ≡ CheckEnd.ReadFault → Rose (S.faults source.old) (S.faults source.new) }
