@@ -18,7 +18,8 @@ NEEDS = {
     "./gczone run": [PROGRAM],
     "tools/explain": [PROGRAM],
     "tools/draw": [PROGRAM, "dot"],
-    "tools/check-heap-log": [str(TOP / "crates/check_dump/out/check_dump")],
+    "./gczone check": [PROGRAM],
+    "tools/check-heap-log": [PROGRAM],
 }
 # These draw without Graphviz.
 NO_DOT = ("--dot", "--check", "timeline")

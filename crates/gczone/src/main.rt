@@ -1,4 +1,4 @@
-// The program: a trace on standard input, its answers on standard output.
+// The program: a trace on standard input, its answers on standard output; or a dump of colours, and its verdict.
 //
 // It hands the words of the command line and the standard streams to `replay`, whose contract says
 // what is written and how a replay ends. The text of an exit goes to standard error, and its status
@@ -42,7 +42,7 @@ fn main(rt: HostRuntime) -> ExitCode {
         }
         Err(exit) => exit,
     };
-    if exit != Exit::Done {
+    if !matches!(exit, Exit::Done | Exit::Unsound) {
         let _ = eprintln!(rt; "{exit}");
     }
     ExitCode::from(exit.status())

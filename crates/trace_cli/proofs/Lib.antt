@@ -7,6 +7,7 @@ pub mod Answered
 pub mod Lined
 pub mod Stands
 pub mod Complete
+pub mod Concluding
 pub mod Words
 pub mod Slicing
 pub mod Runs

@@ -7,6 +7,7 @@
 //     answer     what one line is answered: parsed, done, its reply written
 //     collect    a step of a collection, with what it reports written; a collection in one command
 //     slices     a collection in slices: `gc` begins it, `slice` does some of its units, `finish` the rest
+//     dumps      under `check`, a dump of colours is read instead, and its verdict written (`dump_cli`)
 //
 // The collector of `slice_driver` stands for a world of the definitions, with the bits that are in
 // flight (`Represents` in its specs/). Each command takes a collector that stands for a world to one
@@ -34,6 +35,7 @@
 
 mod answer;
 mod collect;
+mod dumps;
 mod exit;
 mod reading;
 mod slices;

@@ -5,13 +5,14 @@ ghost use Rattle.std.specs.Io.KnownBytes.{Appends};
 ghost use Rattle.gz_io.specs.Causes.{Rose};
 ghost use Rattle.gz_names.specs.declared.commands.Cmd.{Cmd as TheCmd};
 ghost use Rattle.slice_driver.specs.Units.{flown_by};
-ghost use Rattle.trace_cli.specs.CommandLine.{ArePlain};
-ghost use Rattle.trace_cli.specs.Headline.{Replays, Completes, WritesFront, WritesStart};
+ghost use Rattle.trace_cli.specs.CommandLine.{ArePlain, IsCheck, IsSubcommand};
+ghost use Rattle.trace_cli.specs.Headline.{Replays, Completes, Checks, Concluded, WritesFront, WritesStart};
 ghost use Rattle.trace_cli.specs.Served.{IsBad, StandsFor};
 ghost use Rattle.trace_cli.specs.Standing.{EachWorld, AnswersLine, IsFirst, IsLeft, IsReady};
 
 use crate::answer::{AnswerFault, answer_line};
 use crate::collect::take_rest;
+use crate::dumps::check_dump;
 use crate::exit::Exit;
 use colour_defs::{answer_law, valid_law};
 use gz_io::{Gate, LineReader, Next, Sink, Source};
@@ -27,7 +28,7 @@ use sweeping::MainSweeper;
 use trace_lang::spelling_law;
 
 // Hands on what is held back, and ends so.
-fn end_so<K: Sink>(sink: &mut K, exit: Exit) -> Exit
+pub fn end_so<K: Sink>(sink: &mut K, exit: Exit) -> Exit
     ensures exit { (result ≡ exit) ⊎ (result ≡ Exit.WriteFault) }
     ensures kept { Appends (K.written sink.old) (K.written sink.new) [] }
     ensures cause { ((result ≡ exit) × (K.faults sink.new ≡ K.faults sink.old) × (K.behind sink.new ≡ 0))
@@ -121,6 +122,7 @@ fn answer_all<L: Ledger, S: Source, K: Sink>(
     ensures read { result ≡ Exit.ReadFault → Rose (S.faults source.old) (S.faults source.new) }
     ensures write { result ≡ Exit.WriteFault → Rose (K.faults sink.old) (K.faults sink.new) }
     ensures runs { result ≢ Exit.Usage }
+    ensures no_verdict { result ≢ Exit.Unsound }
     ensures left { IsLeft collector.new handed.new }
 {
     answer_law();
@@ -176,6 +178,7 @@ fn answer_lines<L: Ledger, S: Source, K: Sink>(
     ensures read { result ≡ Exit.ReadFault → Rose (S.faults source.old) (S.faults source.new) }
     ensures write { result ≡ Exit.WriteFault → Rose (K.faults sink.old) (K.faults sink.new) }
     ensures runs { result ≢ Exit.Usage }
+    ensures no_verdict { result ≢ Exit.Unsound }
 {
     let Ok(mut collector) = first_collector(alloc) else {
         return end_so(sink, Exit::NoMemory);
@@ -187,7 +190,7 @@ fn answer_lines<L: Ledger, S: Source, K: Sink>(
     exit
 }
 
-/// Replays a trace. The words are the command line's, the program's name first.
+/// Replays a trace, or checks a dump of colours. The words are the command line's, the program's name first.
 pub fn replay<R: Threads + Wait + Sync, S: Source + Send, K: Sink + Send, G: Gate + Sync>(
     _rt: &R,
     alloc: Global,
@@ -196,27 +199,35 @@ pub fn replay<R: Threads + Wait + Sync, S: Source + Send, K: Sink + Send, G: Gat
     sink: &mut K,
     _gate: &G,
 ) -> Exit
-    ensures lawful { Replays (S.left source.old) (S.left source.new) (K.written sink.old) (K.written sink.new) result }
-    ensures quiet { result ≡ Exit.Done → (S.faults source.new ≡ S.faults source.old)
+    ensures lawful { (IsCheck (map (λ w. w.now) words.now) → ⊥)
+        → Replays (S.left source.old) (S.left source.new) (K.written sink.old) (K.written sink.new) result }
+    ensures verdict { IsCheck (map (λ w. w.now) words.now)
+        → Checks (S.left source.old) (K.written sink.old) (K.written sink.new) result }
+    ensures quiet { (result ≡ Exit.Done) ⊎ (result ≡ Exit.Unsound) → (S.faults source.new ≡ S.faults source.old)
         × (K.faults sink.new ≡ K.faults sink.old) }
-    ensures handed_on { result ≡ Exit.Done → K.behind sink.new ≡ 0 }
+    ensures handed_on { (result ≡ Exit.Done) ⊎ (result ≡ Exit.Unsound) → K.behind sink.new ≡ 0 }
     ensures read { result ≡ Exit.ReadFault → Rose (S.faults source.old) (S.faults source.new) }
     ensures write { result ≡ Exit.WriteFault → Rose (K.faults sink.old) (K.faults sink.new) }
     ensures usage { result ≡ Exit.Usage ↔ (ArePlain (map (λ w. w.now) words.now) → ⊥) }
     ensures untouched { result ≡ Exit.Usage → (source.new ≡ source.old) × (sink.new ≡ sink.old) }
     ensures complete { Completes (map (λ w. w.now) words.now) (S.left source.old) (S.faults source.old)
         (S.faults source.new) (K.faults sink.old) (K.faults sink.new) result }
+    ensures concludes { IsCheck (map (λ w. w.now) words.now) → Concluded (S.left source.old) (S.faults source.old)
+        (S.faults source.new) (K.faults sink.old) (K.faults sink.new) result }
+    ensures no_fault { result ≡ Exit.Unsound → IsCheck (map (λ w. w.now) words.now) }
 {
-    if is_plain(words) {
+    if has_word(words, "run") {
         answer_lines::<Brand, S, K>(alloc, source, sink, Blank::new(1))
+    } else if has_word(words, "check") {
+        check_dump(alloc, source, sink)
     } else {
         Exit::Usage
     }
 }
 
-// Whether the words are the program's name and `run`.
-fn is_plain(words: &[&str]) -> bool
-    ensures { IsTrue result ↔ ArePlain (map (λ w. w.now) words.now) }
+// Whether the words are the program's name and this one.
+fn has_word(words: &[&str], word: &str) -> bool
+    ensures { IsTrue result ↔ IsSubcommand word.now (map (λ w. w.now) words.now) }
 {
-    words.len() == 2 && *words[1] == *"run"
+    words.len() == 2 && *words[1] == *word
 }
