@@ -9,6 +9,7 @@ use Rattle.slice_driver.specs.Collector.{CollectorState}
 use Rattle.slice_driver.specs.Represents.{Represents}
 use Rattle.slice_driver.specs.Units.{IsSound, KeepsFreedWords, flown_by}
 use Rattle.slice_driver.specs.Working.{IsStill}
+use Rattle.trace_cli.specs.Standing.{StandsWith}
 use Rattle.trace_cli.proofs.Runs.{none_in_none}
 
 -- arenas that stay out
@@ -35,4 +36,17 @@ still_sound c d old jobs still s = record {
   valid = s.valid;
   represents = subst (λ (x : CollectorState). Represents x (flown_by jobs) s.world) (sym still.same)
       (still.worlds s.world s.represents);
+}
+
+-- a collector that is as it was
+pub stands_as : (c d : CollectorState) (jobs : List Job) → d ≡ c → StandsWith c jobs → StandsWith d jobs
+stands_as c d jobs same stands = subst (λ (x : CollectorState). StandsWith x jobs) (sym same) stands
+
+pub still_stands : (c d : CollectorState) (old jobs : List Job) → IsStill c (flown_by old) d (flown_by jobs)
+    → outs_of jobs ≡ outs_of old → StandsWith c old → StandsWith d jobs
+still_stands c d old jobs still origin stands = record {
+  sound = still_sound c d old jobs still stands.sound;
+  out = out_kept c.heap.shape d.heap.shape old jobs
+      (subst (λ (x : CollectorState). KeepsFreedWords c.heap.shape x.heap.shape) (sym still.same) (λ a freed is. is))
+      origin stands.out;
 }

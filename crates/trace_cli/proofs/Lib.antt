@@ -11,3 +11,4 @@ pub mod Concluding
 pub mod Words
 pub mod Slicing
 pub mod Runs
+pub mod Replied

@@ -23,8 +23,8 @@ use Rattle.slice_driver.specs.Advances.{AreOut}
 use Rattle.slice_driver.specs.Collector.{CollectorState}
 use Rattle.slice_driver.specs.Represents.{Represents}
 use Rattle.slice_driver.specs.Units.{IsSound, flown_by, none_flown}
-use Rattle.trace_cli.specs.Standing.{EachWorld, AnswersLine, IsFirst, IsLeft, IsReady, IsWithin, answers, first, ready}
-use Rattle.trace_cli.specs.Standing as facts
+use Rattle.trace_cli.specs.Standing.{EachWorld, AnswersLine, IsFirst, IsReady, IsWithin, StandsWith, answers, first}
+use Rattle.trace_cli.specs.Standing.{ready}
 use Rattle.trace_cli.specs.Lines.{lines_of, line_feeds}
 use Rattle.trace_cli.specs.Served.{StandsFor, IsBad}
 use Rattle.trace_cli.specs.Headline.{report_lines, answer_lines, StandForAll, LeadsTo, WritesAnswer, WritesFront}
@@ -79,13 +79,6 @@ pub record Ready (c : CollectorState) (jobs : List Job) (n : ℕ) : Type 0 where
 pub opened_ready : {c : CollectorState} {jobs : List Job} {n : ℕ} → IsReady c jobs n → Ready c jobs n
 opened_ready (ready sound fit within below) = record { sound = sound; fit = fit; within = within; below = below }
 
-pub record Left (c : CollectorState) (jobs : List Job) : Type 0 where
-  pub sound : IsSound c (flown_by jobs)
-  pub fit : AreOut c.heap.shape (outs_of jobs)
-
-pub opened_left : {c : CollectorState} {jobs : List Job} → IsLeft c jobs → Left c jobs
-opened_left (facts.left sound fit) = record { sound = sound; fit = fit }
-
 pub record Answered (line : List ℕ) (old : CollectorState) (jobs : List Job) (n : ℕ) (new : CollectorState)
     (left : List Job) (p q : Option (List ℕ)) : Type 0 where
   pub command : Cmd
@@ -113,8 +106,11 @@ pub opened : {left rest old new : Option (List ℕ)} {n : ℕ} {c : CollectorSta
 opened (standing s) = s
 
 pub left_standing : {left rest old new : Option (List ℕ)} {n : ℕ} {c : CollectorState} {jobs : List Job}
-    → Standing left rest old new n c jobs → IsLeft c jobs
-left_standing (standing s) = facts.left (record { world = s.world; valid = s.valid; represents = s.represents }) s.fit
+    → Standing left rest old new n c jobs → StandsWith c jobs
+left_standing (standing s) = record {
+  sound = record { world = s.world; valid = s.valid; represents = s.represents };
+  out = s.fit;
+}
 
 pub stands_first : (left written : Option (List ℕ)) (held : List ℕ) → held ≡ []
     → Stands left (prepend_known held left) written written 0 first_world

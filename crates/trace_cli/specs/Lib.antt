@@ -4,3 +4,4 @@ pub mod CommandLine
 pub mod Headline
 pub mod Writing
 pub mod Standing
+pub mod Answering

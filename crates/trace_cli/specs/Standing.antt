@@ -1,5 +1,5 @@
 -- What the reading loop knows of its collector, as single facts.
-use Rattle.std.specs.Prelude.{◌<◌, ◌≤◌, ◌+◌, ℕ, List, Option, length}
+use Rattle.std.specs.Prelude.{◌≡◌, ◌<◌, ◌≤◌, ◌+◌, ℕ, List, Option, length}
 use Rattle.gz_names.specs.declared.commands.Cmd.{Cmd}
 use Rattle.cell_bits.specs.declared.bits.Bits.{Bits}
 use Rattle.cell_bits.specs.declared.jobs.Job.{Job}
@@ -32,8 +32,24 @@ pub data IsReady (c : CollectorState) (jobs : List Job) (n : ℕ) : Type 0 where
       → IsReady c jobs n
 
 -- a collector that stands for some world, with the arenas of these jobs in flight
-pub data IsLeft (c : CollectorState) (jobs : List Job) : Type 0 where
-  left : IsSound c (flown_by jobs) → AreOut c.heap.shape (outs_of jobs) → IsLeft c jobs
+pub record StandsWith (c : CollectorState) (jobs : List Job) : Type 0 where
+  pub sound : IsSound c (flown_by jobs)
+  pub out : AreOut c.heap.shape (outs_of jobs)
+
+-- one cell and one weak entry can still be made
+pub record HasRoomForOne (c : CollectorState) : Type 0 where
+  pub made : c.heap.made < 4294967295
+  pub entries : length c.heap.shape.weak.entries < 4294967295
+
+-- at most one cell was made, and one weak entry
+pub record MakesAtMostOne (old new : CollectorState) : Type 0 where
+  pub made : new.heap.made ≤ old.heap.made + 1
+  pub entries : length new.heap.shape.weak.entries ≤ length old.heap.shape.weak.entries + 1
+
+-- no cell was made, and no weak entry
+pub record MakesNone (old new : CollectorState) : Type 0 where
+  pub made : new.heap.made ≡ old.heap.made
+  pub entries : length new.heap.shape.weak.entries ≤ length old.heap.shape.weak.entries
 
 -- a line stands for a command, which was answered whole in each world that the collector stood for
 pub data AnswersLine (line : List ℕ) (old : CollectorState) (jobs : List Job) (n : ℕ) (new : CollectorState)

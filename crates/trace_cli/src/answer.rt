@@ -1,18 +1,17 @@
 // What a line is answered.
-ghost use Rattle.std.specs.Prelude.{◌≡◌, ◌≢◌, ◌≤◌, ◌<◌, ◌+◌, [], None, length, OnOk, OnErr, false};
+ghost use Rattle.std.specs.Prelude.{◌≡◌, ◌≢◌, [], OnOk, OnErr, false};
 ghost use Rattle.std.specs.Io.KnownBytes.{Appends};
-ghost use Rattle.gz_io.specs.Causes.{AppendsFront, Rose};
+ghost use Rattle.gz_io.specs.Causes.{AppendsFront};
 ghost use Rattle.gz_names.specs.declared.commands.Cmd.{Cmd as TheCmd};
 ghost use Rattle.gz_names.specs.declared.commands.Cmd.TheVariants as ACmd;
 ghost use Rattle.trace_lang.specs.Texts.{reply_text, line_of};
 ghost use Rattle.colour_defs.specs.Step.{HasFewFields};
 ghost use Rattle.heap_core.specs.Effects.{takes_memory};
-ghost use Rattle.sweeping.specs.ArenasOut.{outs_of};
-ghost use Rattle.slice_driver.specs.Advances.{AreOut};
-ghost use Rattle.slice_driver.specs.Units.{IsSound, flown_by};
+ghost use Rattle.slice_driver.specs.Units.{flown_by};
 ghost use Rattle.trace_cli.specs.Served.{FitsLanguage, IsBad, StandsFor};
 ghost use Rattle.trace_cli.specs.Headline.{WritesAnswer, WritesFront, WritesStart};
-ghost use Rattle.trace_cli.specs.Standing.{EachWorld};
+ghost use Rattle.trace_cli.specs.Answering.{AnswersCommand, CountsFaults};
+ghost use Rattle.trace_cli.specs.Standing.{EachWorld, HasRoomForOne, MakesAtMostOne, StandsWith};
 
 use crate::collect::collect;
 use crate::slices::{finish, gc, slice};
@@ -43,9 +42,7 @@ pub fn write_last<K: Sink>(sink: &mut K, reply: &Reply) -> Result<(), AnswerFaul
     ensures err { OnErr result (AppendsFront (K.written sink.old) (K.written sink.new)
         (line_of (reply_text reply.now))) }
     ensures fault { OnErr result (result ≡ Err AnswerFault.Write) }
-    ensures later { K.faults sink.old ≤ K.faults sink.new }
-    ensures same { OnOk result (K.faults sink.new ≡ K.faults sink.old) }
-    ensures cause { OnErr result (Rose (K.faults sink.old) (K.faults sink.new)) }
+    ensures faults { CountsFaults (K.faults sink.old) (K.faults sink.new) result }
 {
     match write_reply(sink, reply) {
         Ok(()) => Ok(()),
@@ -61,28 +58,15 @@ fn answer_command<K: Sink, L: Ledger>(
     sink: &mut K,
     steps: &mut Steps<L>,
 ) -> Result<(), AnswerFault>
-    requires sound { IsSound collector.old (flown_by handed.old) }
-    requires jobs { AreOut collector.old.heap.shape (outs_of handed.old) }
-    requires made { collector.old.heap.made < 4294967295 }
-    requires entries { length collector.old.heap.shape.weak.entries < 4294967295 }
+    requires flight { StandsWith collector.old handed.old }
+    requires room { HasRoomForOne collector.old }
     requires fields { HasFewFields command.now }
-    ensures ok { OnOk result (EachWorld collector.old (flown_by handed.old)
-        (λ w. WritesAnswer w (ACmd.Graph command.now) collector.new handed.new (K.written sink.old)
-        (K.written sink.new))) }
-    ensures sound { IsSound collector.new (flown_by handed.new) }
-    ensures jobs { AreOut collector.new.heap.shape (outs_of handed.new) }
-    ensures made { collector.new.heap.made ≤ collector.old.heap.made + 1 }
-    ensures entries { length collector.new.heap.shape.weak.entries
-        ≤ length collector.old.heap.shape.weak.entries + 1 }
+    ensures answer { AnswersCommand (ACmd.Graph command.now) collector.old handed.old collector.new handed.new
+        (K.written sink.old) (K.written sink.new) result }
+    ensures flight { StandsWith collector.new handed.new }
+    ensures size { MakesAtMostOne collector.old collector.new }
     ensures sure { takes_memory command.now ≡ false → result ≢ Err AnswerFault.Memory }
-    ensures memory { result ≡ Err AnswerFault.Memory → EachWorld collector.old (flown_by handed.old)
-        (λ w. WritesStart w (ACmd.Graph command.now) (K.written sink.old) (K.written sink.new)) }
-    ensures write { result ≡ Err AnswerFault.Write → EachWorld collector.old (flown_by handed.old)
-        (λ w. WritesFront w (ACmd.Graph command.now) (K.written sink.old) (K.written sink.new)) }
-    ensures good { result ≢ Err AnswerFault.Bad }
-    ensures later { K.faults sink.old ≤ K.faults sink.new }
-    ensures same { OnOk result (K.faults sink.new ≡ K.faults sink.old) }
-    ensures cause { result ≡ Err AnswerFault.Write → Rose (K.faults sink.old) (K.faults sink.new) }
+    ensures faults { CountsFaults (K.faults sink.old) (K.faults sink.new) result }
 {
     match collector.command(handed, *command, steps) {
         Ok(reply) => write_last(sink, &reply),
@@ -99,20 +83,11 @@ fn answer_colours<K: Sink>(
     handed: &mut MainSweeper,
     sink: &mut K,
 ) -> Result<(), AnswerFault>
-    requires sound { IsSound collector.now (flown_by handed.old) }
-    requires jobs { AreOut collector.now.heap.shape (outs_of handed.old) }
-    ensures ok { OnOk result (EachWorld collector.now (flown_by handed.old)
-        (λ w. WritesAnswer w ACmd.Colours collector.now handed.new (K.written sink.old) (K.written sink.new))) }
-    ensures sound { IsSound collector.now (flown_by handed.new) }
-    ensures jobs { AreOut collector.now.heap.shape (outs_of handed.new) }
-    ensures memory { result ≡ Err AnswerFault.Memory → EachWorld collector.now (flown_by handed.old)
-        (λ w. WritesStart w ACmd.Colours (K.written sink.old) (K.written sink.new)) }
-    ensures write { result ≡ Err AnswerFault.Write → EachWorld collector.now (flown_by handed.old)
-        (λ w. WritesFront w ACmd.Colours (K.written sink.old) (K.written sink.new)) }
-    ensures good { result ≢ Err AnswerFault.Bad }
-    ensures later { K.faults sink.old ≤ K.faults sink.new }
-    ensures same { OnOk result (K.faults sink.new ≡ K.faults sink.old) }
-    ensures cause { result ≡ Err AnswerFault.Write → Rose (K.faults sink.old) (K.faults sink.new) }
+    requires { StandsWith collector.now handed.old }
+    ensures answer { AnswersCommand ACmd.Colours collector.now handed.old collector.now handed.new
+        (K.written sink.old) (K.written sink.new) result }
+    ensures flight { StandsWith collector.now handed.new }
+    ensures faults { CountsFaults (K.faults sink.old) (K.faults sink.new) result }
 {
     if !collector.settled() {
         return write_last(sink, &Reply::Refused(Refusal::Marking));
@@ -132,26 +107,14 @@ fn answer_parsed<K: Sink, L: Ledger>(
     sink: &mut K,
     steps: &mut Steps<L>,
 ) -> Result<(), AnswerFault>
-    requires sound { IsSound collector.old (flown_by handed.old) }
-    requires jobs { AreOut collector.old.heap.shape (outs_of handed.old) }
-    requires made { collector.old.heap.made < 4294967295 }
-    requires entries { length collector.old.heap.shape.weak.entries < 4294967295 }
+    requires flight { StandsWith collector.old handed.old }
+    requires room { HasRoomForOne collector.old }
     requires fits { FitsLanguage cmd.now }
-    ensures ok { OnOk result (EachWorld collector.old (flown_by handed.old)
-        (λ w. WritesAnswer w cmd.now collector.new handed.new (K.written sink.old) (K.written sink.new))) }
-    ensures sound { IsSound collector.new (flown_by handed.new) }
-    ensures jobs { AreOut collector.new.heap.shape (outs_of handed.new) }
-    ensures made { collector.new.heap.made ≤ collector.old.heap.made + 1 }
-    ensures entries { length collector.new.heap.shape.weak.entries
-        ≤ length collector.old.heap.shape.weak.entries + 1 }
-    ensures memory { result ≡ Err AnswerFault.Memory → EachWorld collector.old (flown_by handed.old)
-        (λ w. WritesStart w cmd.now (K.written sink.old) (K.written sink.new)) }
-    ensures write { result ≡ Err AnswerFault.Write → EachWorld collector.old (flown_by handed.old)
-        (λ w. WritesFront w cmd.now (K.written sink.old) (K.written sink.new)) }
-    ensures good { result ≢ Err AnswerFault.Bad }
-    ensures later { K.faults sink.old ≤ K.faults sink.new }
-    ensures same { OnOk result (K.faults sink.new ≡ K.faults sink.old) }
-    ensures cause { result ≡ Err AnswerFault.Write → Rose (K.faults sink.old) (K.faults sink.new) }
+    ensures answer { AnswersCommand cmd.now collector.old handed.old collector.new handed.new
+        (K.written sink.old) (K.written sink.new) result }
+    ensures flight { StandsWith collector.new handed.new }
+    ensures size { MakesAtMostOne collector.old collector.new }
+    ensures faults { CountsFaults (K.faults sink.old) (K.faults sink.new) result }
 {
     match cmd {
         Cmd::Graph(command) => answer_command(collector, handed, command, sink, steps),
@@ -175,17 +138,12 @@ pub fn answer_line<K: Sink, L: Ledger>(
     sink: &mut K,
     steps: &mut Steps<L>,
 ) -> Result<(), AnswerFault>
-    requires sound { IsSound collector.old (flown_by handed.old) }
-    requires jobs { AreOut collector.old.heap.shape (outs_of handed.old) }
-    requires made { collector.old.heap.made < 4294967295 }
-    requires entries { length collector.old.heap.shape.weak.entries < 4294967295 }
+    requires flight { StandsWith collector.old handed.old }
+    requires room { HasRoomForOne collector.old }
     ensures ok { OnOk result ((c : TheCmd) × StandsFor line.now c × EachWorld collector.old (flown_by handed.old)
         (λ w. WritesAnswer w c collector.new handed.new (K.written sink.old) (K.written sink.new))) }
-    ensures sound { IsSound collector.new (flown_by handed.new) }
-    ensures jobs { AreOut collector.new.heap.shape (outs_of handed.new) }
-    ensures made { collector.new.heap.made ≤ collector.old.heap.made + 1 }
-    ensures entries { length collector.new.heap.shape.weak.entries
-        ≤ length collector.old.heap.shape.weak.entries + 1 }
+    ensures flight { StandsWith collector.new handed.new }
+    ensures size { MakesAtMostOne collector.old collector.new }
     ensures bad { result ≡ Err AnswerFault.Bad → IsBad line.now × Appends (K.written sink.old) (K.written sink.new) [] }
     ensures memory { result ≡ Err AnswerFault.Memory → (c : TheCmd) × StandsFor line.now c
         × EachWorld collector.old (flown_by handed.old)
@@ -193,9 +151,7 @@ pub fn answer_line<K: Sink, L: Ledger>(
     ensures write { result ≡ Err AnswerFault.Write → (c : TheCmd) × StandsFor line.now c
         × EachWorld collector.old (flown_by handed.old)
         (λ w. WritesFront w c (K.written sink.old) (K.written sink.new)) }
-    ensures later { K.faults sink.old ≤ K.faults sink.new }
-    ensures same { OnOk result (K.faults sink.new ≡ K.faults sink.old) }
-    ensures cause { result ≡ Err AnswerFault.Write → Rose (K.faults sink.old) (K.faults sink.new) }
+    ensures faults { CountsFaults (K.faults sink.old) (K.faults sink.new) result }
 {
     zones_law();
     let Ok(cmd) = parse(line) else {

@@ -1,16 +1,15 @@
 // A collection by steps, each report written as it comes.
-ghost use Rattle.std.specs.Prelude.{◌≡◌, ◌≢◌, ◌⊎◌, ◌≤◌, ◌<◌, ◌+◌, [], ℕ, None, length, OnOk, OnErr, IfOk, IsSome};
+ghost use Rattle.std.specs.Prelude.{◌≡◌, ◌≢◌, ◌⊎◌, ◌≤◌, ◌<◌, ◌+◌, [], ℕ, None, OnOk, OnErr, IfOk, IsSome};
 ghost use Rattle.std.specs.Io.KnownBytes.{Appends};
-ghost use Rattle.gz_io.specs.Causes.{HasCause, AppendsFront, Rose};
+ghost use Rattle.gz_io.specs.Causes.{HasCause, AppendsFront};
 ghost use Rattle.gz_names.specs.Zones.{HasZone};
 ghost use Rattle.gz_names.specs.declared.commands.Cmd.TheVariants as ACmd;
 ghost use Rattle.heap_core.specs.Shape.{out_of};
-ghost use Rattle.sweeping.specs.ArenasOut.{outs_of};
-ghost use Rattle.slice_driver.specs.Advances.{AreOut};
-ghost use Rattle.slice_driver.specs.Units.{IsSound, flown_by, reports_of};
+ghost use Rattle.slice_driver.specs.Units.{flown_by, reports_of};
 ghost use Rattle.slice_driver.specs.Left.{units_left};
-ghost use Rattle.trace_cli.specs.Headline.{report_lines, WritesAnswer, WritesFront, WritesStart};
-ghost use Rattle.trace_cli.specs.Standing.{EachWorld, IsLeft};
+ghost use Rattle.trace_cli.specs.Answering.{AnswersCommand, CountsFaults};
+ghost use Rattle.trace_cli.specs.Headline.{report_lines};
+ghost use Rattle.trace_cli.specs.Standing.{EachWorld, MakesNone, StandsWith};
 ghost use Rattle.trace_cli.specs.Writing.{BreaksInReply, BreaksInUnits, StopsInUnits, WritesCollection, WritesUnits};
 
 use crate::answer::{AnswerFault, write_last};
@@ -25,7 +24,7 @@ use trace_lang::write_report;
 
 /// Takes in the arenas that are still handed to sweeping, and writes nothing.
 pub fn take_rest(collector: &mut Collector, handed: &mut MainSweeper)
-    requires { IsLeft collector.old handed.old }
+    requires { StandsWith collector.old handed.old }
     ensures { (a : ℕ) → out_of collector.new.heap.shape a ≡ None }
 {
     while let Some(arena) = collector.next_out() {
@@ -66,9 +65,8 @@ pub fn answer_step<K: Sink, L: Ledger>(
     sink: &mut K,
     steps: &mut Steps<L>,
 ) -> Result<u64, AnswerFault>
-    requires sound { IsSound collector.old (flown_by handed.old) }
+    requires flight { StandsWith collector.old handed.old }
     requires running { IsSome collector.old.run }
-    requires jobs { AreOut collector.old.heap.shape (outs_of handed.old) }
     requires some { 0 < limit }
     ensures ok { IfOk result (λ done. EachWorld collector.old (flown_by handed.old)
         (λ w. WritesUnits w collector.new (flown_by handed.new) done (K.written sink.old) (K.written sink.new))) }
@@ -76,18 +74,13 @@ pub fn answer_step<K: Sink, L: Ledger>(
     ensures most { IfOk result (λ done. done ≤ limit) }
     ensures left { IfOk result (λ done. units_left collector.new (flown_by handed.new) + done
         ≤ units_left collector.old (flown_by handed.old)) }
-    ensures sound { IsSound collector.new (flown_by handed.new) }
-    ensures jobs { AreOut collector.new.heap.shape (outs_of handed.new) }
-    ensures made { collector.new.heap.made ≡ collector.old.heap.made }
-    ensures entries { length collector.new.heap.shape.weak.entries
-        ≤ length collector.old.heap.shape.weak.entries }
+    ensures flight { StandsWith collector.new handed.new }
+    ensures size { MakesNone collector.old collector.new }
     ensures memory { result ≡ Err AnswerFault.Memory → Appends (K.written sink.old) (K.written sink.new) [] }
     ensures write { result ≡ Err AnswerFault.Write → EachWorld collector.old (flown_by handed.old)
         (λ w. BreaksInUnits w limit (K.written sink.old) (K.written sink.new)) }
     ensures good { result ≢ Err AnswerFault.Bad }
-    ensures later { K.faults sink.old ≤ K.faults sink.new }
-    ensures same { OnOk result (K.faults sink.new ≡ K.faults sink.old) }
-    ensures cause { result ≡ Err AnswerFault.Write → Rose (K.faults sink.old) (K.faults sink.new) }
+    ensures faults { CountsFaults (K.faults sink.old) (K.faults sink.new) result }
 {
     let Ok(step) = collector.advance_over(alloc, limit, handed, report, steps) else {
         return Err(AnswerFault::Memory);
@@ -110,24 +103,18 @@ fn answer_collection<K: Sink, L: Ledger>(
     sink: &mut K,
     steps: &mut Steps<L>,
 ) -> Result<(), AnswerFault>
-    requires sound { IsSound collector.old (flown_by handed.old) }
-    requires jobs { AreOut collector.old.heap.shape (outs_of handed.old) }
+    requires { StandsWith collector.old handed.old }
     ensures ok { OnOk result (EachWorld collector.old (flown_by handed.old)
         (λ w. WritesCollection w collector.new (flown_by handed.new) (K.written sink.old) (K.written sink.new))) }
-    ensures sound { IsSound collector.new (flown_by handed.new) }
-    ensures jobs { AreOut collector.new.heap.shape (outs_of handed.new) }
-    ensures made { collector.new.heap.made ≡ collector.old.heap.made }
-    ensures entries { length collector.new.heap.shape.weak.entries
-        ≤ length collector.old.heap.shape.weak.entries }
+    ensures flight { StandsWith collector.new handed.new }
+    ensures size { MakesNone collector.old collector.new }
     ensures memory { result ≡ Err AnswerFault.Memory → EachWorld collector.old (flown_by handed.old)
         (λ w. (n : ℕ) × StopsInUnits w n (K.written sink.old) (K.written sink.new)) }
     ensures write { result ≡ Err AnswerFault.Write → EachWorld collector.old (flown_by handed.old)
         (λ w. ((n : ℕ) × BreaksInUnits w n (K.written sink.old) (K.written sink.new))
         ⊎ BreaksInReply w (K.written sink.old) (K.written sink.new)) }
     ensures good { result ≢ Err AnswerFault.Bad }
-    ensures later { K.faults sink.old ≤ K.faults sink.new }
-    ensures same { OnOk result (K.faults sink.new ≡ K.faults sink.old) }
-    ensures cause { result ≡ Err AnswerFault.Write → Rose (K.faults sink.old) (K.faults sink.new) }
+    ensures faults { CountsFaults (K.faults sink.old) (K.faults sink.new) result }
 {
     let mut report = None;
     while collector.running() {
@@ -149,24 +136,13 @@ pub fn collect<K: Sink, L: Ledger>(
     sink: &mut K,
     steps: &mut Steps<L>,
 ) -> Result<(), AnswerFault>
-    requires sound { IsSound collector.old (flown_by handed.old) }
-    requires jobs { AreOut collector.old.heap.shape (outs_of handed.old) }
+    requires flight { StandsWith collector.old handed.old }
     requires some { (z : ℕ) × HasZone zones.bits z }
-    ensures ok { OnOk result (EachWorld collector.old (flown_by handed.old)
-        (λ w. WritesAnswer w (ACmd.Collect zones) collector.new handed.new (K.written sink.old) (K.written sink.new))) }
-    ensures sound { IsSound collector.new (flown_by handed.new) }
-    ensures jobs { AreOut collector.new.heap.shape (outs_of handed.new) }
-    ensures made { collector.new.heap.made ≡ collector.old.heap.made }
-    ensures entries { length collector.new.heap.shape.weak.entries
-        ≤ length collector.old.heap.shape.weak.entries }
-    ensures memory { result ≡ Err AnswerFault.Memory → EachWorld collector.old (flown_by handed.old)
-        (λ w. WritesStart w (ACmd.Collect zones) (K.written sink.old) (K.written sink.new)) }
-    ensures write { result ≡ Err AnswerFault.Write → EachWorld collector.old (flown_by handed.old)
-        (λ w. WritesFront w (ACmd.Collect zones) (K.written sink.old) (K.written sink.new)) }
-    ensures good { result ≢ Err AnswerFault.Bad }
-    ensures later { K.faults sink.old ≤ K.faults sink.new }
-    ensures same { OnOk result (K.faults sink.new ≡ K.faults sink.old) }
-    ensures cause { result ≡ Err AnswerFault.Write → Rose (K.faults sink.old) (K.faults sink.new) }
+    ensures answer { AnswersCommand (ACmd.Collect zones) collector.old handed.old collector.new handed.new
+        (K.written sink.old) (K.written sink.new) result }
+    ensures flight { StandsWith collector.new handed.new }
+    ensures size { MakesNone collector.old collector.new }
+    ensures faults { CountsFaults (K.faults sink.old) (K.faults sink.new) result }
 {
     zones_made_law();
     match collector.begin(alloc, zones, steps) {

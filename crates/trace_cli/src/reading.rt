@@ -1,14 +1,15 @@
 // The reading loop: read a line, answer it whole, go on.
-ghost use Rattle.std.specs.Prelude.{◌≡◌, ◌≢◌, ◌↔◌, ◌+◌, ◌<◌, ◌≤◌, [], Err, Contains, IfOk, OnOk, OnErr, IsTrue, ◌⊎◌};
+ghost use Rattle.std.specs.Prelude.{◌≡◌, ◌≢◌, ◌↔◌, ◌+◌, ◌<◌, [], Err, Contains, IfOk, OnOk, OnErr, IsTrue, ◌⊎◌};
 ghost use Rattle.std.specs.Prelude.{map};
 ghost use Rattle.std.specs.Io.KnownBytes.{Appends};
 ghost use Rattle.gz_io.specs.Causes.{Rose};
 ghost use Rattle.gz_names.specs.declared.commands.Cmd.{Cmd as TheCmd};
 ghost use Rattle.slice_driver.specs.Units.{flown_by};
+ghost use Rattle.trace_cli.specs.Answering.{CountsFaults};
 ghost use Rattle.trace_cli.specs.CommandLine.{ArePlain, IsCheck, IsSubcommand};
 ghost use Rattle.trace_cli.specs.Headline.{Replays, Completes, Checks, Concluded, WritesFront, WritesStart};
 ghost use Rattle.trace_cli.specs.Served.{IsBad, StandsFor};
-ghost use Rattle.trace_cli.specs.Standing.{EachWorld, AnswersLine, IsFirst, IsLeft, IsReady};
+ghost use Rattle.trace_cli.specs.Standing.{EachWorld, AnswersLine, IsFirst, IsReady, StandsWith};
 
 use crate::answer::{AnswerFault, answer_line};
 use crate::collect::take_rest;
@@ -44,9 +45,7 @@ pub fn end_so<K: Sink>(sink: &mut K, exit: Exit) -> Exit
 fn flush_before<K: Sink>(reader: &LineReader, sink: &mut K) -> Result<(), AnswerFault>
     ensures kept { Appends (K.written sink.old) (K.written sink.new) [] }
     ensures handed_on { OnOk result ((Contains reader.now.held 10 → ⊥) → K.behind sink.new ≡ 0) }
-    ensures later { K.faults sink.old ≤ K.faults sink.new }
-    ensures same { OnOk result (K.faults sink.new ≡ K.faults sink.old) }
-    ensures cause { OnErr result (Rose (K.faults sink.old) (K.faults sink.new)) }
+    ensures faults { CountsFaults (K.faults sink.old) (K.faults sink.new) result }
     ensures fault { OnErr result (result ≡ Err AnswerFault.Write) }
 {
     if !reader.has_line() && sink.flush().is_err() {
@@ -89,7 +88,7 @@ fn answer_next<K: Sink, L: Ledger>(
     requires { IsReady collector.old handed.old _answered }
     ensures ok { OnOk result (AnswersLine line.now collector.old handed.old _answered
         collector.new handed.new (K.written sink.old) (K.written sink.new)) }
-    ensures left { IsLeft collector.new handed.new }
+    ensures flight { StandsWith collector.new handed.new }
     ensures bad { result ≡ Err AnswerFault.Bad → IsBad line.now × Appends (K.written sink.old) (K.written sink.new) [] }
     ensures memory { result ≡ Err AnswerFault.Memory → (c : TheCmd) × StandsFor line.now c
         × EachWorld collector.old (flown_by handed.old)
@@ -97,9 +96,7 @@ fn answer_next<K: Sink, L: Ledger>(
     ensures write { result ≡ Err AnswerFault.Write → (c : TheCmd) × StandsFor line.now c
         × EachWorld collector.old (flown_by handed.old)
         (λ w. WritesFront w c (K.written sink.old) (K.written sink.new)) }
-    ensures later { K.faults sink.old ≤ K.faults sink.new }
-    ensures same { OnOk result (K.faults sink.new ≡ K.faults sink.old) }
-    ensures cause { result ≡ Err AnswerFault.Write → Rose (K.faults sink.old) (K.faults sink.new) }
+    ensures faults { CountsFaults (K.faults sink.old) (K.faults sink.new) result }
 {
     answer_line(alloc, collector, handed, line, sink, steps)
 }
@@ -123,7 +120,7 @@ fn answer_all<L: Ledger, S: Source, K: Sink>(
     ensures write { result ≡ Exit.WriteFault → Rose (K.faults sink.old) (K.faults sink.new) }
     ensures runs { result ≢ Exit.Usage }
     ensures no_verdict { result ≢ Exit.Unsound }
-    ensures left { IsLeft collector.new handed.new }
+    ensures flight { StandsWith collector.new handed.new }
 {
     answer_law();
     spelling_law();

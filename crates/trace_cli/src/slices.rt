@@ -1,14 +1,10 @@
 // Collections by slices: `gc` begins one, `slice` does some of its units, and `finish` the rest.
-ghost use Rattle.std.specs.Prelude.{◌≡◌, ◌≢◌, ◌≤◌, ◌<◌, [], ℕ, None, length, IfOk, OnOk};
-ghost use Rattle.std.specs.Io.KnownBytes.{Appends};
-ghost use Rattle.gz_io.specs.Causes.{Rose};
+ghost use Rattle.std.specs.Prelude.{◌≡◌, ◌≢◌, ◌≤◌, ◌<◌, ℕ, None, IfOk, OnOk};
 ghost use Rattle.gz_names.specs.Zones.{HasZone};
 ghost use Rattle.gz_names.specs.declared.commands.Cmd.TheVariants as ACmd;
-ghost use Rattle.sweeping.specs.ArenasOut.{outs_of};
-ghost use Rattle.slice_driver.specs.Advances.{AreOut};
-ghost use Rattle.slice_driver.specs.Units.{IsSound, flown_by};
-ghost use Rattle.trace_cli.specs.Headline.{WritesAnswer, WritesFront, WritesStart};
-ghost use Rattle.trace_cli.specs.Standing.{EachWorld};
+ghost use Rattle.slice_driver.specs.Units.{flown_by};
+ghost use Rattle.trace_cli.specs.Answering.{AnswersCommand, CountsFaults};
+ghost use Rattle.trace_cli.specs.Standing.{EachWorld, MakesNone, StandsWith};
 ghost use Rattle.trace_cli.specs.Writing.{BreaksInUnits, StopsInUnits, WritesUnits};
 
 use crate::answer::{AnswerFault, write_last};
@@ -31,24 +27,13 @@ pub fn gc<K: Sink, L: Ledger>(
     sink: &mut K,
     steps: &mut Steps<L>,
 ) -> Result<(), AnswerFault>
-    requires sound { IsSound collector.old (flown_by _handed.now) }
-    requires jobs { AreOut collector.old.heap.shape (outs_of _handed.now) }
+    requires flight { StandsWith collector.old _handed.now }
     requires some { (z : ℕ) × HasZone zones.bits z }
-    ensures ok { OnOk result (EachWorld collector.old (flown_by _handed.now)
-        (λ w. WritesAnswer w (ACmd.Gc zones) collector.new _handed.now (K.written sink.old) (K.written sink.new))) }
-    ensures sound { IsSound collector.new (flown_by _handed.now) }
-    ensures jobs { AreOut collector.new.heap.shape (outs_of _handed.now) }
-    ensures made { collector.new.heap.made ≡ collector.old.heap.made }
-    ensures entries { length collector.new.heap.shape.weak.entries
-        ≤ length collector.old.heap.shape.weak.entries }
-    ensures memory { result ≡ Err AnswerFault.Memory → EachWorld collector.old (flown_by _handed.now)
-        (λ w. WritesStart w (ACmd.Gc zones) (K.written sink.old) (K.written sink.new)) }
-    ensures write { result ≡ Err AnswerFault.Write → EachWorld collector.old (flown_by _handed.now)
-        (λ w. WritesFront w (ACmd.Gc zones) (K.written sink.old) (K.written sink.new)) }
-    ensures good { result ≢ Err AnswerFault.Bad }
-    ensures later { K.faults sink.old ≤ K.faults sink.new }
-    ensures same { OnOk result (K.faults sink.new ≡ K.faults sink.old) }
-    ensures cause { result ≡ Err AnswerFault.Write → Rose (K.faults sink.old) (K.faults sink.new) }
+    ensures answer { AnswersCommand (ACmd.Gc zones) collector.old _handed.now collector.new _handed.now
+        (K.written sink.old) (K.written sink.new) result }
+    ensures flight { StandsWith collector.new _handed.now }
+    ensures size { MakesNone collector.old collector.new }
+    ensures faults { CountsFaults (K.faults sink.old) (K.faults sink.new) result }
 {
     zones_made_law();
     match collector.begin(alloc, zones, steps) {
@@ -69,25 +54,19 @@ fn answer_units<K: Sink, L: Ledger>(
     sink: &mut K,
     steps: &mut Steps<L>,
 ) -> Result<u64, AnswerFault>
-    requires sound { IsSound collector.old (flown_by handed.old) }
-    requires jobs { AreOut collector.old.heap.shape (outs_of handed.old) }
+    requires { StandsWith collector.old handed.old }
     ensures ok { IfOk result (λ done. EachWorld collector.old (flown_by handed.old)
         (λ w. WritesUnits w collector.new (flown_by handed.new) done (K.written sink.old) (K.written sink.new))) }
     ensures most { IfOk result (λ done. done ≤ budget) }
     ensures over { IfOk result (λ done. done < budget → collector.new.run ≡ None) }
-    ensures sound { IsSound collector.new (flown_by handed.new) }
-    ensures jobs { AreOut collector.new.heap.shape (outs_of handed.new) }
-    ensures made { collector.new.heap.made ≡ collector.old.heap.made }
-    ensures entries { length collector.new.heap.shape.weak.entries
-        ≤ length collector.old.heap.shape.weak.entries }
+    ensures flight { StandsWith collector.new handed.new }
+    ensures size { MakesNone collector.old collector.new }
     ensures memory { result ≡ Err AnswerFault.Memory → EachWorld collector.old (flown_by handed.old)
         (λ w. StopsInUnits w budget (K.written sink.old) (K.written sink.new)) }
     ensures write { result ≡ Err AnswerFault.Write → EachWorld collector.old (flown_by handed.old)
         (λ w. BreaksInUnits w budget (K.written sink.old) (K.written sink.new)) }
     ensures good { result ≢ Err AnswerFault.Bad }
-    ensures later { K.faults sink.old ≤ K.faults sink.new }
-    ensures same { OnOk result (K.faults sink.new ≡ K.faults sink.old) }
-    ensures cause { result ≡ Err AnswerFault.Write → Rose (K.faults sink.old) (K.faults sink.new) }
+    ensures faults { CountsFaults (K.faults sink.old) (K.faults sink.new) result }
 {
     let mut report = None;
     let mut done = 0u64;
@@ -118,23 +97,12 @@ pub fn slice<K: Sink, L: Ledger>(
     sink: &mut K,
     steps: &mut Steps<L>,
 ) -> Result<(), AnswerFault>
-    requires sound { IsSound collector.old (flown_by handed.old) }
-    requires jobs { AreOut collector.old.heap.shape (outs_of handed.old) }
-    ensures ok { OnOk result (EachWorld collector.old (flown_by handed.old)
-        (λ w. WritesAnswer w (ACmd.Slice budget) collector.new handed.new (K.written sink.old) (K.written sink.new))) }
-    ensures sound { IsSound collector.new (flown_by handed.new) }
-    ensures jobs { AreOut collector.new.heap.shape (outs_of handed.new) }
-    ensures made { collector.new.heap.made ≡ collector.old.heap.made }
-    ensures entries { length collector.new.heap.shape.weak.entries
-        ≤ length collector.old.heap.shape.weak.entries }
-    ensures memory { result ≡ Err AnswerFault.Memory → EachWorld collector.old (flown_by handed.old)
-        (λ w. WritesStart w (ACmd.Slice budget) (K.written sink.old) (K.written sink.new)) }
-    ensures write { result ≡ Err AnswerFault.Write → EachWorld collector.old (flown_by handed.old)
-        (λ w. WritesFront w (ACmd.Slice budget) (K.written sink.old) (K.written sink.new)) }
-    ensures good { result ≢ Err AnswerFault.Bad }
-    ensures later { K.faults sink.old ≤ K.faults sink.new }
-    ensures same { OnOk result (K.faults sink.new ≡ K.faults sink.old) }
-    ensures cause { result ≡ Err AnswerFault.Write → Rose (K.faults sink.old) (K.faults sink.new) }
+    requires { StandsWith collector.old handed.old }
+    ensures answer { AnswersCommand (ACmd.Slice budget) collector.old handed.old collector.new handed.new
+        (K.written sink.old) (K.written sink.new) result }
+    ensures flight { StandsWith collector.new handed.new }
+    ensures size { MakesNone collector.old collector.new }
+    ensures faults { CountsFaults (K.faults sink.old) (K.faults sink.new) result }
 {
     if !collector.running() {
         return write_last(sink, &Reply::Refused(Refusal::Idle));
@@ -154,24 +122,18 @@ fn answer_rest<K: Sink, L: Ledger>(
     sink: &mut K,
     steps: &mut Steps<L>,
 ) -> Result<u64, AnswerFault>
-    requires sound { IsSound collector.old (flown_by handed.old) }
-    requires jobs { AreOut collector.old.heap.shape (outs_of handed.old) }
+    requires { StandsWith collector.old handed.old }
     ensures ok { IfOk result (λ done. EachWorld collector.old (flown_by handed.old)
         (λ w. WritesUnits w collector.new (flown_by handed.new) done (K.written sink.old) (K.written sink.new))) }
     ensures over { OnOk result (collector.new.run ≡ None) }
-    ensures sound { IsSound collector.new (flown_by handed.new) }
-    ensures jobs { AreOut collector.new.heap.shape (outs_of handed.new) }
-    ensures made { collector.new.heap.made ≡ collector.old.heap.made }
-    ensures entries { length collector.new.heap.shape.weak.entries
-        ≤ length collector.old.heap.shape.weak.entries }
+    ensures flight { StandsWith collector.new handed.new }
+    ensures size { MakesNone collector.old collector.new }
     ensures memory { result ≡ Err AnswerFault.Memory → EachWorld collector.old (flown_by handed.old)
         (λ w. (n : ℕ) × StopsInUnits w n (K.written sink.old) (K.written sink.new)) }
     ensures write { result ≡ Err AnswerFault.Write → EachWorld collector.old (flown_by handed.old)
         (λ w. (n : ℕ) × BreaksInUnits w n (K.written sink.old) (K.written sink.new)) }
     ensures good { result ≢ Err AnswerFault.Bad }
-    ensures later { K.faults sink.old ≤ K.faults sink.new }
-    ensures same { OnOk result (K.faults sink.new ≡ K.faults sink.old) }
-    ensures cause { result ≡ Err AnswerFault.Write → Rose (K.faults sink.old) (K.faults sink.new) }
+    ensures faults { CountsFaults (K.faults sink.old) (K.faults sink.new) result }
 {
     collector.units_law();
     let mut report = None;
@@ -195,23 +157,12 @@ pub fn finish<K: Sink, L: Ledger>(
     sink: &mut K,
     steps: &mut Steps<L>,
 ) -> Result<(), AnswerFault>
-    requires sound { IsSound collector.old (flown_by handed.old) }
-    requires jobs { AreOut collector.old.heap.shape (outs_of handed.old) }
-    ensures ok { OnOk result (EachWorld collector.old (flown_by handed.old)
-        (λ w. WritesAnswer w ACmd.Finish collector.new handed.new (K.written sink.old) (K.written sink.new))) }
-    ensures sound { IsSound collector.new (flown_by handed.new) }
-    ensures jobs { AreOut collector.new.heap.shape (outs_of handed.new) }
-    ensures made { collector.new.heap.made ≡ collector.old.heap.made }
-    ensures entries { length collector.new.heap.shape.weak.entries
-        ≤ length collector.old.heap.shape.weak.entries }
-    ensures memory { result ≡ Err AnswerFault.Memory → EachWorld collector.old (flown_by handed.old)
-        (λ w. WritesStart w ACmd.Finish (K.written sink.old) (K.written sink.new)) }
-    ensures write { result ≡ Err AnswerFault.Write → EachWorld collector.old (flown_by handed.old)
-        (λ w. WritesFront w ACmd.Finish (K.written sink.old) (K.written sink.new)) }
-    ensures good { result ≢ Err AnswerFault.Bad }
-    ensures later { K.faults sink.old ≤ K.faults sink.new }
-    ensures same { OnOk result (K.faults sink.new ≡ K.faults sink.old) }
-    ensures cause { result ≡ Err AnswerFault.Write → Rose (K.faults sink.old) (K.faults sink.new) }
+    requires { StandsWith collector.old handed.old }
+    ensures answer { AnswersCommand ACmd.Finish collector.old handed.old collector.new handed.new
+        (K.written sink.old) (K.written sink.new) result }
+    ensures flight { StandsWith collector.new handed.new }
+    ensures size { MakesNone collector.old collector.new }
+    ensures faults { CountsFaults (K.faults sink.old) (K.faults sink.new) result }
 {
     if !collector.running() {
         return write_last(sink, &Reply::Refused(Refusal::Idle));

@@ -12,4 +12,13 @@ answer_parsed-requires-clause-fits g c = fits_language c.zones_law.ensures c.arg
 pub returns-clause-ok : goal.returns-clause-ok
 returns-clause-ok g c = ok_maps _
     (λ writes. line_answers c.args.line.now c.in-Ok.cmd c.args.collector.now c.answer_parsed.new.collector
-    c.args.handed.now c.answer_parsed.new.handed _ _ c.in-Ok.ensures.ok writes) c.answer_parsed.ensures.ok
+    c.args.handed.now c.answer_parsed.new.handed _ _ c.in-Ok.ensures.ok writes) c.answer_parsed.ensures.answer.ok
+
+pub returns-clause-bad : goal.returns-clause-bad
+returns-clause-bad g c = λ e. absurd (c.answer_parsed.ensures.answer.good e)
+
+pub returns-clause-memory : goal.returns-clause-memory
+returns-clause-memory g c = λ e. (c.in-Ok.cmd, c.in-Ok.ensures.ok, c.answer_parsed.ensures.answer.memory e)
+
+pub returns-clause-write : goal.returns-clause-write
+returns-clause-write g c = λ e. (c.in-Ok.cmd, c.in-Ok.ensures.ok, c.answer_parsed.ensures.answer.write e)

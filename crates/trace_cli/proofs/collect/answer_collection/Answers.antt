@@ -8,7 +8,7 @@ use Rattle.trace_cli.proofs.collect.answer_collection.Goals as goal
 pub loop-alloc-init : goal.loop-alloc-init
 loop-alloc-init g c = (
   c.requires.sound,
-  c.requires.jobs,
+  c.requires.out,
   λ w ok r. (0, no_units w c.args.collector.now (flown_by c.args.handed.now) (g.K.Sink.written c.args.sink.now) ok r),
   refl,
   omega arith,
@@ -19,16 +19,16 @@ pub loop-alloc-preserved : goal.loop-alloc-preserved
 loop-alloc-preserved g c =
     let so = c.loop-alloc.invariant in
     let did = c.in-Ok.ensures in (
-      did.sound,
-      did.jobs,
+      did.flight.sound,
+      did.flight.out,
       λ w ok r. (let h = so.2 w ok r in (
         h.0 + c.in-Ok.field-0,
         more_units w _ _ _ _ _ _ _ _ _ h.1
             (did.ok h.1.after h.1.valid h.1.represents),
       )),
-      did.made ∙ so.3,
-      omega (arith, did.entries, so.4),
-      did.same ∙ so.5,
+      did.size.made ∙ so.3,
+      omega (arith, did.size.entries, so.4),
+      did.faults.same ∙ so.5,
     )
 
 pub returns-in-Err-clause-memory : goal.returns-in-Err-clause-memory
@@ -55,5 +55,5 @@ returns-clause-write g c =
     λ e w ok r. (let h = c.loop-alloc.invariant.2 w ok r in inr
     (collection_fronts w _ _ _ _ _ _ idle h.1 (err_is _ _ c.write_last.ensures.err e)))
 
-pub returns-clause-jobs : goal.returns-clause-jobs
-returns-clause-jobs g c = c.loop-alloc.invariant.1
+pub returns-clause-flight : goal.returns-clause-flight
+returns-clause-flight g c = record { sound = c.loop-alloc.invariant.0; out = c.loop-alloc.invariant.1 }

@@ -5,13 +5,13 @@ use Rattle.gz_names.specs.declared.replies.Report.{Report}
 use Rattle.sweeping.specs.ArenasOut.{outs_of}
 use Rattle.slice_driver.specs.Units.{flown_by}
 use Rattle.trace_cli.specs.Headline.{report_lines}
-use Rattle.trace_cli.proofs.ArenasOut.{still_sound}
+use Rattle.trace_cli.proofs.ArenasOut.{still_stands}
 use Rattle.trace_cli.proofs.Units.{silent_written, step_breaks, step_writes, told_some}
 use Rattle.trace_cli.proofs.collect.answer_step.Goals as goal
 
-pub returns-in_default-clause-sound : goal.returns-in_default-clause-sound
-returns-in_default-clause-sound g c = still_sound c.args.collector.now c.advance_over.new.self c.args.handed.now
-    c.advance_over.new.sweeper c.in_default.ensures.err c.requires.sound
+pub returns-in_default-clause-flight : goal.returns-in_default-clause-flight
+returns-in_default-clause-flight g c = still_stands c.args.collector.now c.advance_over.new.self c.args.handed.now
+    c.advance_over.new.sweeper c.in_default.ensures.err c.in_default.ensures.err_out c.requires.flight
 
 pub returns-then-not-step-clause-ok : goal.returns-then-not-step-clause-ok
 returns-then-not-step-clause-ok g c = λ w ok r. step_writes c.args.limit c.args.collector.now c.advance_over.new.self

@@ -1,84 +1,76 @@
-use Rattle.std.proofs.Common.{inr, refl, ap, subst, sym, Err}
-use Rattle.sweeping.specs.ArenasOut.{outs_of}
-use Rattle.slice_driver.specs.Advances.{AreOut}
+use Rattle.std.proofs.Common.{inl, inr, refl, ap, Err, ◌∙◌}
 use Rattle.slice_driver.specs.Units.{flown_by}
 use Rattle.slice_driver.specs.declared.begin.BeginFault.{BeginFault}
-use Rattle.slice_driver.specs.Collector.{CollectorState}
-use Rattle.trace_cli.proofs.Answered.{ok_maps, err_is, begun_breaks, begun_stops, begun_writes, no_zone, one_runs}
-use Rattle.trace_cli.proofs.Answered.{refusal_breaks, refusal_writes}
-use Rattle.trace_cli.proofs.ArenasOut.{out_kept}
-use Rattle.std.proofs.Common.{◌∙◌, inl}
+use Rattle.trace_cli.proofs.Answered.{begin_stops, begun_breaks, begun_stops, begun_writes, collect_accepted, no_zone}
+use Rattle.trace_cli.proofs.Answered.{ok_maps, one_runs, refusal_breaks, refusal_writes}
+use Rattle.trace_cli.proofs.ArenasOut.{out_kept, stands_as}
+use Rattle.trace_cli.proofs.Replied.{replied, wanted}
 use Rattle.std.proofs.KnownBytes.{Appends-nil}
 use Rattle.gz_names.specs.declared.commands.Cmd.TheVariants as command
-use Rattle.trace_cli.proofs.Answered.{begin_stops, collect_accepted}
 use Rattle.trace_cli.proofs.collect.collect.Goals as goal
 
 pub answer_collection-requires : goal.answer_collection-requires
-answer_collection-requires g c =
+answer_collection-requires g c = record {
+  sound = c.in-Ok.ensures.sound (flown_by c.args.handed.now) c.requires.flight.sound;
+  out = out_kept c.args.collector.now.heap.shape c.begin.new.self.heap.shape c.args.handed.now c.args.handed.now
+      c.in-Ok.ensures.words refl c.requires.flight.out;
+}
+
+pub returns-in-Ok-clause-answer : goal.returns-in-Ok-clause-answer
+returns-in-Ok-clause-answer g c =
+    let did = c.answer_collection.ensures in
     record {
-      sound = c.in-Ok.ensures.sound (flown_by c.args.handed.now) c.requires.sound;
-      jobs = out_kept c.args.collector.now.heap.shape c.begin.new.self.heap.shape c.args.handed.now c.args.handed.now
-          c.in-Ok.ensures.words refl c.requires.jobs;
+      ok = ok_maps _ (λ writes. begun_writes c.args.collector.now c.begin.new.self c.args.handed.now c.args.zones
+          c.in-Ok.ensures.begun c.answer_collection.new.collector c.answer_collection.new.handed _ _ writes) did.ok;
+      memory = λ e. begun_stops c.args.collector.now c.begin.new.self c.args.handed.now c.args.zones
+          c.in-Ok.ensures.begun _ _ (did.memory e);
+      write = λ e. begun_breaks c.args.collector.now c.begin.new.self c.args.handed.now c.args.zones
+          c.in-Ok.ensures.begun _ _ (did.write e);
+      good = did.good;
     }
 
-pub returns-in-Ok-clause-ok : goal.returns-in-Ok-clause-ok
-returns-in-Ok-clause-ok g c =
-    ok_maps _ (λ writes. begun_writes c.args.collector.now c.begin.new.self c.args.handed.now c.args.zones
-    c.in-Ok.ensures.begun c.answer_collection.new.collector c.answer_collection.new.handed _ _ writes)
-    c.answer_collection.ensures.ok
-
-pub returns-in-Ok-clause-memory : goal.returns-in-Ok-clause-memory
-returns-in-Ok-clause-memory g c =
-    λ e. begun_stops c.args.collector.now c.begin.new.self c.args.handed.now c.args.zones c.in-Ok.ensures.begun _ _
-    (c.answer_collection.ensures.memory e)
-
-pub returns-in-Ok-clause-write : goal.returns-in-Ok-clause-write
-returns-in-Ok-clause-write g c =
-    λ e. begun_breaks c.args.collector.now c.begin.new.self c.args.handed.now c.args.zones c.in-Ok.ensures.begun _ _
-    (c.answer_collection.ensures.write e)
-
-pub returns-in-Err-Running-clause-ok : goal.returns-in-Err-Running-clause-ok
-returns-in-Err-Running-clause-ok g c =
+pub returns-in-Err-Running-clause-answer : goal.returns-in-Err-Running-clause-answer
+returns-in-Err-Running-clause-answer g c =
     let runs = c.in-Err-Running.ensures.running.0 (ap (λ (f : BeginFault). Err f) c.in-Err-Running.field-0-is) in
-    ok_maps _ (λ written. refusal_writes c.args.collector.now c.begin.new.self c.args.handed.now c.args.zones _ _ _ _
-    (λ w answer refuses. inr refuses) (λ w r. one_runs c.args.collector.now
-    (flown_by c.args.handed.now) w c.args.zones r runs) c.in-Err-Running.ensures.refused written)
-    c.write_last.ensures.ok
-
-pub returns-in-Err-Running-clause-write : goal.returns-in-Err-Running-clause-write
-returns-in-Err-Running-clause-write g c =
-    let runs = c.in-Err-Running.ensures.running.0 (ap (λ (f : BeginFault). Err f) c.in-Err-Running.field-0-is) in
-    λ e. refusal_breaks c.args.collector.now c.args.handed.now c.args.zones _ _ _ _ (λ w answer refuses. inr refuses)
+    let last = c.write_last.ensures in
+    replied c.write_last.result last.fault last.ok last.err
+    (λ written. refusal_writes c.args.collector.now c.begin.new.self c.args.handed.now c.args.zones _ _ _ _
+    (λ w answer refuses. inr refuses)
     (λ w r. one_runs c.args.collector.now (flown_by c.args.handed.now) w c.args.zones r runs)
-    (err_is _ _ c.write_last.ensures.err e)
+    c.in-Err-Running.ensures.refused written)
+    (λ written. refusal_breaks c.args.collector.now c.args.handed.now c.args.zones _ _ _ _
+    (λ w answer refuses. inr refuses)
+    (λ w r. one_runs c.args.collector.now (flown_by c.args.handed.now) w c.args.zones r runs) written)
 
-pub returns-in-Err-Running-clause-jobs : goal.returns-in-Err-Running-clause-jobs
-returns-in-Err-Running-clause-jobs g c = subst (λ (d : CollectorState). AreOut d.heap.shape (outs_of c.args.handed.now))
-    (sym c.in-Err-Running.ensures.refused) c.requires.jobs
+pub returns-in-Err-Running-clause-flight : goal.returns-in-Err-Running-clause-flight
+returns-in-Err-Running-clause-flight g c = stands_as c.args.collector.now c.begin.new.self c.args.handed.now
+    c.in-Err-Running.ensures.refused c.requires.flight
 
-pub returns-in-Err-NoZone-clause-ok : goal.returns-in-Err-NoZone-clause-ok
-returns-in-Err-NoZone-clause-ok g c =
+pub returns-in-Err-NoZone-clause-answer : goal.returns-in-Err-NoZone-clause-answer
+returns-in-Err-NoZone-clause-answer g c =
     let none = c.in-Err-NoZone.ensures.no_zone.0 (ap (λ (f : BeginFault). Err f) c.in-Err-NoZone.field-0-is) in
-    ok_maps _ (λ written. refusal_writes c.args.collector.now c.begin.new.self c.args.handed.now c.args.zones _ _ _ _
-    (λ w answer refuses. inr refuses) (λ w r. no_zone c.args.collector.now
-    (flown_by c.args.handed.now) w c.args.zones c.zones_made_law.ensures r none.0 none.1)
-    c.in-Err-NoZone.ensures.refused written) c.write_last-in-Err-NoZone.ensures.ok
+    let last = c.write_last-in-Err-NoZone.ensures in
+    replied c.write_last-in-Err-NoZone.result last.fault last.ok last.err
+    (λ written. refusal_writes c.args.collector.now c.begin.new.self c.args.handed.now c.args.zones _ _ _ _
+    (λ w answer refuses. inr refuses)
+    (λ w r. no_zone c.args.collector.now (flown_by c.args.handed.now) w c.args.zones
+    c.zones_made_law.ensures r none.0 none.1) c.in-Err-NoZone.ensures.refused written)
+    (λ written. refusal_breaks c.args.collector.now c.args.handed.now c.args.zones _ _ _ _
+    (λ w answer refuses. inr refuses)
+    (λ w r. no_zone c.args.collector.now (flown_by c.args.handed.now) w c.args.zones
+    c.zones_made_law.ensures r none.0 none.1) written)
 
-pub returns-in-Err-NoZone-clause-write : goal.returns-in-Err-NoZone-clause-write
-returns-in-Err-NoZone-clause-write g c =
-    let none = c.in-Err-NoZone.ensures.no_zone.0 (ap (λ (f : BeginFault). Err f) c.in-Err-NoZone.field-0-is) in
-    λ e. refusal_breaks c.args.collector.now c.args.handed.now c.args.zones _ _ _ _ (λ w answer refuses. inr refuses)
-    (λ w r. no_zone c.args.collector.now
-    (flown_by c.args.handed.now) w c.args.zones c.zones_made_law.ensures r none.0 none.1)
-    (err_is _ _ c.write_last-in-Err-NoZone.ensures.err e)
+pub returns-in-Err-NoZone-clause-flight : goal.returns-in-Err-NoZone-clause-flight
+returns-in-Err-NoZone-clause-flight g c = stands_as c.args.collector.now c.begin.new.self c.args.handed.now
+    c.in-Err-NoZone.ensures.refused c.requires.flight
 
-pub returns-in-Err-NoZone-clause-jobs : goal.returns-in-Err-NoZone-clause-jobs
-returns-in-Err-NoZone-clause-jobs g c = subst (λ (d : CollectorState). AreOut d.heap.shape (outs_of c.args.handed.now))
-    (sym c.in-Err-NoZone.ensures.refused) c.requires.jobs
-
-pub returns-in-Err-NoMemory-clause-memory : goal.returns-in-Err-NoMemory-clause-memory
-returns-in-Err-NoMemory-clause-memory g c = λ e. begin_stops c.args.collector.now c.args.handed.now c.args.zones
+pub returns-in-Err-NoMemory-clause-answer : goal.returns-in-Err-NoMemory-clause-answer
+returns-in-Err-NoMemory-clause-answer g c = wanted (begin_stops c.args.collector.now c.args.handed.now c.args.zones
     (command.Collect c.args.zones) c.begin.result _ _ c.zones_made_law.ensures
-    (λ w idle made. collect_accepted w c.args.zones idle made)
-    (λ w. inl refl) c.begin.ensures.running c.begin.ensures.no_zone
-    (c.in-Err-NoMemory.is ∙ ap (λ (f : BeginFault). Err f) c.in-Err-NoMemory.field-0-is) (Appends-nil _)
+    (λ w idle made. collect_accepted w c.args.zones idle made) (λ w. inl refl) c.begin.ensures.running
+    c.begin.ensures.no_zone
+    (c.in-Err-NoMemory.is ∙ ap (λ (f : BeginFault). Err f) c.in-Err-NoMemory.field-0-is) (Appends-nil _))
+
+pub returns-in-Err-NoMemory-clause-flight : goal.returns-in-Err-NoMemory-clause-flight
+returns-in-Err-NoMemory-clause-flight g c = stands_as c.args.collector.now c.begin.new.self c.args.handed.now
+    c.in-Err-NoMemory.ensures.refused c.requires.flight

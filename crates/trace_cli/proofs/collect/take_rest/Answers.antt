@@ -1,10 +1,9 @@
 use Rattle.slice_driver.specs.Units.{flown_by}
 use Rattle.trace_cli.proofs.Flights.{out_runs}
-use Rattle.trace_cli.proofs.Stands.{opened_left}
 use Rattle.trace_cli.proofs.collect.take_rest.Goals as goal
 
 pub loop-arena-init : goal.loop-arena-init
-loop-arena-init c = let left = opened_left c.requires in (left.sound, left.fit)
+loop-arena-init c = (c.requires.sound, c.requires.out)
 
 pub take_due-requires-clause-running : goal.take_due-requires-clause-running
 take_due-requires-clause-running c = out_runs c.loop-arena.collector

@@ -140,8 +140,8 @@ loop-answered-preserved g c =
       }),
       omega (arith, c.loop-answered.invariant.1, c.if-answered-eq4294967295.false),
       c.in-Line.ensures.same (λ e. cc e) ∙ c.loop-answered.invariant.2,
-      c.in-Ok.ensures.same ∙ from_ok c.flush_before.result (sym c.is_err.ensures.value ∙ c.if-is_err.false)
-          c.flush_before.ensures.same ∙ c.loop-answered.invariant.3,
+      c.in-Ok.ensures.faults.same ∙ from_ok c.flush_before.result (sym c.is_err.ensures.value ∙ c.if-is_err.false)
+          c.flush_before.ensures.faults.same ∙ c.loop-answered.invariant.3,
     )
 
 pub returns-then-answered-eq4294967295-clause-lawful : goal.returns-then-answered-eq4294967295-clause-lawful
@@ -206,7 +206,8 @@ pub returns-in-End-clause-quiet : goal.returns-in-End-clause-quiet
 returns-in-End-clause-quiet g c = λ e. (
   c.in-End.ensures.same (λ q. cc q) ∙ c.loop-answered.invariant.2,
   end_quiet _ _ _ c.end_so-in-End.ensures.cause e
-      ∙ from_ok c.flush_before.result (sym c.is_err.ensures.value ∙ c.if-is_err.false) c.flush_before.ensures.same
+      ∙ from_ok c.flush_before.result (sym c.is_err.ensures.value ∙ c.if-is_err.false)
+      c.flush_before.ensures.faults.same
       ∙ c.loop-answered.invariant.3,
 )
 
@@ -216,29 +217,29 @@ answer_next-requires g c =
     ready (record { world = so.world; valid = so.valid; represents = so.represents }) so.fit so.within
     (omega (arith, c.loop-answered.invariant.1, c.if-answered-eq4294967295.false))
 
-pub returns-then-is_err-clause-left : goal.returns-then-is_err-clause-left
-returns-then-is_err-clause-left g c = left_standing c.loop-answered.invariant.0
+pub returns-then-is_err-clause-flight : goal.returns-then-is_err-clause-flight
+returns-then-is_err-clause-flight g c = left_standing c.loop-answered.invariant.0
 
-pub returns-in-ReadFault-clause-left : goal.returns-in-ReadFault-clause-left
-returns-in-ReadFault-clause-left g c = left_standing c.loop-answered.invariant.0
+pub returns-in-ReadFault-clause-flight : goal.returns-in-ReadFault-clause-flight
+returns-in-ReadFault-clause-flight g c = left_standing c.loop-answered.invariant.0
 
-pub returns-in-End-clause-left : goal.returns-in-End-clause-left
-returns-in-End-clause-left g c = left_standing c.loop-answered.invariant.0
+pub returns-in-End-clause-flight : goal.returns-in-End-clause-flight
+returns-in-End-clause-flight g c = left_standing c.loop-answered.invariant.0
 
-pub returns-in-TooLong-clause-left : goal.returns-in-TooLong-clause-left
-returns-in-TooLong-clause-left g c = left_standing c.loop-answered.invariant.0
+pub returns-in-TooLong-clause-flight : goal.returns-in-TooLong-clause-flight
+returns-in-TooLong-clause-flight g c = left_standing c.loop-answered.invariant.0
 
-pub returns-in-NotAscii-clause-left : goal.returns-in-NotAscii-clause-left
-returns-in-NotAscii-clause-left g c = left_standing c.loop-answered.invariant.0
+pub returns-in-NotAscii-clause-flight : goal.returns-in-NotAscii-clause-flight
+returns-in-NotAscii-clause-flight g c = left_standing c.loop-answered.invariant.0
 
-pub returns-then-answered-eq4294967295-clause-left : goal.returns-then-answered-eq4294967295-clause-left
-returns-then-answered-eq4294967295-clause-left g c = left_standing c.loop-answered.invariant.0
+pub returns-then-answered-eq4294967295-clause-flight : goal.returns-then-answered-eq4294967295-clause-flight
+returns-then-answered-eq4294967295-clause-flight g c = left_standing c.loop-answered.invariant.0
 
-pub returns-in-Err-Bad-clause-left : goal.returns-in-Err-Bad-clause-left
-returns-in-Err-Bad-clause-left g c = c.in-Err-Bad.ensures.left
+pub returns-in-Err-Bad-clause-flight : goal.returns-in-Err-Bad-clause-flight
+returns-in-Err-Bad-clause-flight g c = c.in-Err-Bad.ensures.flight
 
-pub returns-in-Err-Memory-clause-left : goal.returns-in-Err-Memory-clause-left
-returns-in-Err-Memory-clause-left g c = c.in-Err-Memory.ensures.left
+pub returns-in-Err-Memory-clause-flight : goal.returns-in-Err-Memory-clause-flight
+returns-in-Err-Memory-clause-flight g c = c.in-Err-Memory.ensures.flight
 
-pub returns-in-Err-Write-clause-left : goal.returns-in-Err-Write-clause-left
-returns-in-Err-Write-clause-left g c = c.in-Err-Write.ensures.left
+pub returns-in-Err-Write-clause-flight : goal.returns-in-Err-Write-clause-flight
+returns-in-Err-Write-clause-flight g c = c.in-Err-Write.ensures.flight

@@ -7,7 +7,7 @@ use Rattle.trace_cli.proofs.slices.answer_rest.Goals as goal
 pub loop-alloc-init : goal.loop-alloc-init
 loop-alloc-init g c = (
   c.requires.sound,
-  c.requires.jobs,
+  c.requires.out,
   λ w ok r. no_units w _ _ _ ok r,
   refl,
   omega arith,
@@ -20,12 +20,12 @@ pub loop-alloc-preserved : goal.loop-alloc-preserved
 loop-alloc-preserved g c =
     let so = c.loop-alloc.invariant in
     let did = c.in-Ok.ensures in (
-      did.sound,
-      did.jobs,
+      did.flight.sound,
+      did.flight.out,
       λ w ok r. (let h = so.2 w ok r in more_units w _ _ _ _ _ _ _ _ _ h (did.ok h.after h.valid h.represents)),
-      did.made ∙ so.3,
-      omega (arith, did.entries, so.4),
-      did.same ∙ so.5,
+      did.size.made ∙ so.3,
+      omega (arith, did.size.entries, so.4),
+      did.faults.same ∙ so.5,
       omega (arith, did.left, so.6),
       so.7,
     )

@@ -6,18 +6,18 @@ use Rattle.trace_cli.proofs.slices.answer_units.Goals as goal
 
 pub loop-done-init : goal.loop-done-init
 loop-done-init g c =
-    (c.requires.sound, c.requires.jobs, λ w ok r. no_units w _ _ _ ok r, refl, omega arith, refl, omega arith)
+    (c.requires.sound, c.requires.out, λ w ok r. no_units w _ _ _ ok r, refl, omega arith, refl, omega arith)
 
 pub loop-done-preserved : goal.loop-done-preserved
 loop-done-preserved g c =
     let so = c.loop-done.invariant in
     let did = c.in-Ok.ensures in (
-      did.sound,
-      did.jobs,
+      did.flight.sound,
+      did.flight.out,
       λ w ok r. (let h = so.2 w ok r in more_units w _ _ _ _ _ _ _ _ _ h (did.ok h.after h.valid h.represents)),
-      did.made ∙ so.3,
-      omega (arith, did.entries, so.4),
-      did.same ∙ so.5,
+      did.size.made ∙ so.3,
+      omega (arith, did.size.entries, so.4),
+      did.faults.same ∙ so.5,
       omega (arith, did.most, so.6),
     )
 
