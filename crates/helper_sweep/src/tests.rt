@@ -1,4 +1,4 @@
-ghost use Rattle.std.specs.Prelude.{◌≡◌, ◌<◌, All, bit_or};
+ghost use Rattle.std.specs.Prelude.{◌≡◌, ◌<◌, All, bit_or, ⊤};
 ghost use Rattle.sweep_board.specs.Rule.{job_at};
 ghost use Rattle.sweep_board.specs.Seats.{board_len, jobs_of, main_view_of, IsMainOf};
 ghost use Rattle.sweep_board.specs.Views.{HasTakenBelow};
@@ -87,6 +87,8 @@ struct AnswersAndTakes<'a, 'b, R: Threads + Wait> {
 }
 
 impl<'a, 'b, R: Threads + Wait> MainWork for AnswersAndTakes<'a, 'b, R> {
+    ghost ready = { λ _. ⊤ };
+
     ghost ran = { λ old new. new.seen.ghost_name ≡ old.seen.ghost_name };
 
     fn run(&mut self) {

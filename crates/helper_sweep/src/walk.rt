@@ -14,10 +14,13 @@ use sweep_board::{Board, HelperSeat};
 
 /// What main does while helpers sweep. Its result stands in its fields.
 pub trait MainWork {
+    /// What has to hold before the work is done.
+    ghost ready: { Self → Type 0 };
     /// How the work stands before and after it is done.
     ghost ran: { Self → Self → Type 0 };
 
     fn run(&mut self)
+        requires { ready self.old }
         ensures { ran self.old self.new };
 }
 
@@ -75,7 +78,8 @@ pub fn with_helpers<R: Threads + Wait + Sync, G: Gate + Sync, M: MainWork + Send
     gate: &G,
     main_work: &mut M,
 )
-    requires { All (IsIdle board.now) seats.old }
+    requires seats { All (IsIdle board.now) seats.old }
+    requires work { M.ready main_work.old }
     ensures seats { All (HasWalked board.now) seats.new }
     ensures order { (k : ℕ) (d : ASeat) → k < length seats.old → WalksInOrder board.now G.name
         (G.passed gate.now point.Claimed) (slice_index_or seats.old k d) (slice_index_or seats.new k d) }
@@ -91,6 +95,8 @@ pub fn with_helpers<R: Threads + Wait + Sync, G: Gate + Sync, M: MainWork + Send
             requires some { 0 < length seats.now }
             requires idle { All (IsIdle board.now) seats.now }
         { all_help(rt, board, seats, gate) },
-        &mut || main_work.run(),
+        &mut ||
+            requires { M.ready main_work.now }
+        { main_work.run() },
     );
 }
