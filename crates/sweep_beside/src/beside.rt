@@ -1,0 +1,145 @@
+// Main's work beside helpers, on a board that is made for it.
+ghost use Rattle.std.specs.Prelude.{◌≡◌, ℕ, ◌<◌, [], true, All, List, Option};
+ghost use Rattle.cell_bits.specs.declared.bits.Bits.{Bits as ABits};
+ghost use Rattle.sweep_board.specs.Seats.{board_len, jobs_of, main_view_of, IsMainOf};
+ghost use Rattle.sweep_board.specs.Views.{is_taken};
+ghost use Rattle.sweeping.specs.ArenasOut.{Ascend, flown_by, outs_of};
+ghost use Rattle.helper_sweep.specs.Walks.{IsIdle};
+ghost use Rattle.sweep_beside.specs.Boards.{bits_on, outs_on, HasEmptied, IsFresh};
+
+use crate::on_board::OnBoard;
+use arena_table::Jobs;
+use gz_io::Gate;
+use helper_sweep::{MainWork, join_seats, split_seats, with_helpers};
+use std::alloc::Global;
+use std::sync::Wait;
+use std::thread::Threads;
+use sweep_board::{Board, HelperSeat, InFlight, MainSeat};
+use sweeping::{MainSweeper, Sweeper, Sweeping};
+
+/// What main does while arenas are out, until none is. Its result stands in its fields.
+pub trait Works {
+    /// What the work asks of the arenas that are out, each with the slots to free, and of their bits.
+    ghost ready: { Self → List (ℕ × ℕ) → (ℕ → Option ABits) → Type 0 };
+    /// How it stands before, with these arenas and bits, and after.
+    ghost ran: { Self → List (ℕ × ℕ) → (ℕ → Option ABits) → Self → Type 0 };
+
+    /// Does the work, and takes all arenas in.
+    fn run<F: Sweeping>(&mut self, flight: &mut F)
+        requires { ready self.old (F.left (F.origin flight.old)) (F.bits flight.old) }
+        ensures ran { ran self.old (F.left (F.origin flight.old)) (F.bits flight.old) self.new }
+        ensures home { F.home (F.origin flight.new) ≡ F.home (F.origin flight.old) }
+        ensures taken { F.left (F.origin flight.new) ≡ [] };
+}
+
+// Main's work, and the arenas on a board that it is over.
+struct OverBoard<'a, 'b, R: Threads + Wait, W: Works> {
+    work: &'a mut W,
+    board: &'a mut OnBoard<'b, R>,
+}
+
+impl<'a, 'b, R: Threads + Wait, W: Works> MainWork for OverBoard<'a, 'b, R, W> {
+    ghost ready = { λ s. W.ready s.work.now (outs_on s.board.now) (bits_on s.board.now) };
+
+    ghost ran = { λ s t. (t.work.ghost_name ≡ s.work.ghost_name) × (t.board.ghost_name ≡ s.board.ghost_name)
+        × W.ran s.work.now (outs_on s.board.now) (bits_on s.board.now) t.work.now
+        × HasEmptied s.board.now t.board.now };
+
+    fn run(&mut self) {
+        self.work.run(self.board);
+    }
+}
+
+// Has the work done over a board beside its helpers. Main's seat comes back, and its own helper's seat.
+fn work_on<'b, R: Threads + Wait + Sync, G: Gate + Sync, W: Works + Send>(
+    rt: &'b R,
+    board: &'b Board,
+    main: MainSeat,
+    own_seat: HelperSeat,
+    seats: &mut [HelperSeat],
+    gate: &G,
+    work: &mut W,
+) -> (MainSeat, HelperSeat)
+    requires main { IsMainOf board.now main }
+    requires fresh { IsFresh (main_view_of main) }
+    requires own { IsIdle board.now own_seat }
+    requires seats { All (IsIdle board.now) seats.old }
+    requires ready { W.ready work.old (outs_of (jobs_of board.now)) (flown_by (jobs_of board.now)) }
+    ensures ran { W.ran work.old (outs_of (jobs_of board.now)) (flown_by (jobs_of board.now)) work.new }
+    ensures main { IsMainOf board.now result.0 }
+    ensures helpers { (main_view_of result.0).helpers ≡ (main_view_of main).helpers }
+    ensures taken { (i : ℕ) → i < board_len board.now → is_taken (main_view_of result.0) i ≡ true }
+    ensures own { IsIdle board.now result.1 }
+    ensures seats { All (IsIdle board.now) seats.new }
+{
+    let mut on_board = OnBoard {
+        rt,
+        flight: InFlight { board, main },
+        own_seat,
+        next: 0,
+    };
+    let mut over_board = OverBoard {
+        work,
+        board: &mut on_board,
+    };
+    with_helpers(rt, board, seats, gate, &mut over_board);
+    let OverBoard { work: _, board: _ } = over_board;
+    let OnBoard {
+        rt: _,
+        flight,
+        own_seat,
+        next: _,
+    } = on_board;
+    let InFlight { board: _, main } = flight;
+    (main, own_seat)
+}
+
+// Has the work done over the arenas of these jobs, which main sweeps by itself.
+fn work_alone<W: Works>(alloc: Global, jobs: Jobs, work: &mut W)
+    requires ascending { Ascend (outs_of jobs) }
+    requires ready { W.ready work.old (outs_of jobs) (flown_by jobs) }
+    ensures { W.ran work.old (outs_of jobs) (flown_by jobs) work.new }
+{
+    let mut sweeper = MainSweeper::new(alloc);
+    sweeper.take_over(Some(jobs));
+    work.run(&mut sweeper);
+}
+
+/// Has the work done over the arenas of these jobs, beside this many helpers that sweep them. Where memory for the
+/// board or its seats is wanted, main sweeps them by itself. All helpers' seats are joined and the board is closed
+/// as it returns.
+pub fn sweep_beside<R: Threads + Wait + Sync, G: Gate + Sync, W: Works + Send>(
+    rt: &R,
+    alloc: Global,
+    jobs: Jobs,
+    helpers: usize,
+    gate: &G,
+    work: &mut W,
+)
+    requires ascending { Ascend (outs_of jobs) }
+    requires ready { W.ready work.old (outs_of jobs) (flown_by jobs) }
+    ensures { W.ran work.old (outs_of jobs) (flown_by jobs) work.new }
+{
+    if jobs.as_slice().len() > u32::MAX as usize {
+        return work_alone(alloc, jobs, work);
+    }
+    let Ok((board, mut main)) = Board::new(alloc, jobs.as_slice()) else {
+        return work_alone(alloc, jobs, work);
+    };
+    let own_seat = board.split(&mut main);
+    let Ok(mut seats) = split_seats(alloc, &board, &mut main, helpers) else {
+        return work_alone(alloc, jobs, work);
+    };
+    let (mut main, own_seat) = work_on(
+        rt,
+        &board,
+        main,
+        own_seat,
+        seats.as_mut_slice(),
+        gate,
+        work,
+    );
+    board.join(&mut main, own_seat);
+    join_seats(&board, &mut main, seats);
+    board.close(main);
+}
