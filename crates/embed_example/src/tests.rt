@@ -1,4 +1,3 @@
-ghost use Rattle.std.specs.Prelude.{All};
 ghost use Rattle.colour_defs.specs.Step.{HasFewFields};
 
 use gz_names::{CompNo, GraphCmd, GrayNo, Name, Reg, Reply, ZoneNo, ZoneSet};
@@ -91,44 +90,46 @@ fn fill_an_arena(alloc: Global) -> Option<(Option<Name>, usize)> {
     Some((last, count_grays(&mut session)?))
 }
 
-// A unit, then a command, and so on: the names that the commands answered.
-fn take_turns(
-    alloc: Global,
-    session: &mut Session<MainSweeper>,
-    cmds: &[GraphCmd],
-) -> Option<Vec<Option<Name>>>
-    requires { All HasFewFields cmds.now }
+// A unit of the collection that runs, then a command: the name that the command answers.
+fn take_turn(session: &mut Session<MainSweeper>, cmd: GraphCmd) -> Option<Option<Name>>
+    requires { HasFewFields cmd }
 {
-    let mut names = Vec::new(alloc);
-    for cmd in cmds {
-        session.advance(1).ok()?;
-        names.push(name(session, *cmd)).ok()?;
-    }
-    Some(names)
+    session.advance(1).ok()?;
+    Some(name(session, cmd))
 }
 
-// Commands between the units of a collection of both zones: what they answer, and whether the collection
-// runs on then.
-fn take_turns_in_two_zones(alloc: Global) -> Option<(Vec<Option<Name>>, bool)> {
+// Begins a collection of two zones, in which the wrapper and the entry lie.
+fn begin_in_two_zones(alloc: Global) -> Option<Session<MainSweeper>> {
     let mut session = one_zone(alloc)?;
     hold_pair(&mut session)?;
     add_wrapper_and_entry(&mut session)?;
     let both = ZoneSet::only(zone(0)).union(ZoneSet::only(zone(1)));
     session.begin(both).ok()?;
-    let cmds = [
-        GraphCmd::Get(reg(1), reg(0), 0),
-        GraphCmd::Set(reg(0), 0, None),
-        GraphCmd::Get(reg(2), reg(0), 0),
-        GraphCmd::Unwrap(reg(4), reg(5)),
-        GraphCmd::Wrap(reg(8), reg(0), CompNo(1)),
-        GraphCmd::Find(reg(7), reg(6), reg(0)),
-        GraphCmd::New(reg(9), CompNo(0), 1),
-        GraphCmd::Put(reg(6), reg(9), reg(1)),
-        GraphCmd::Find(reg(10), reg(6), reg(9)),
-        GraphCmd::Expose(reg(11), slot(3)),
-    ];
-    let names = take_turns(alloc, &mut session, &cmds)?;
-    Some((names, session.running()))
+    Some(session)
+}
+
+// What a field names is taken out of it between two units: the names that are read before and after.
+fn take_out(session: &mut Session<MainSweeper>) -> Option<(Option<Name>, Option<Name>)> {
+    let before = take_turn(session, GraphCmd::Get(reg(1), reg(0), 0))?;
+    take_turn(session, GraphCmd::Set(reg(0), 0, None))?;
+    let after = take_turn(session, GraphCmd::Get(reg(2), reg(0), 0))?;
+    Some((before, after))
+}
+
+// A wrapper's target, and a new wrapper back to the first zone's object.
+fn wrap_back(session: &mut Session<MainSweeper>) -> Option<(Option<Name>, Option<Name>)> {
+    let target = take_turn(session, GraphCmd::Unwrap(reg(4), reg(5)))?;
+    let back = take_turn(session, GraphCmd::Wrap(reg(8), reg(0), CompNo(1)))?;
+    Some((target, back))
+}
+
+// The value of an entry that was there, and of one that is put for a new key.
+fn put_and_find(session: &mut Session<MainSweeper>) -> Option<(Option<Name>, Option<Name>)> {
+    let there = take_turn(session, GraphCmd::Find(reg(7), reg(6), reg(0)))?;
+    take_turn(session, GraphCmd::New(reg(9), CompNo(0), 1))?;
+    take_turn(session, GraphCmd::Put(reg(6), reg(9), reg(1)))?;
+    let put = take_turn(session, GraphCmd::Find(reg(10), reg(6), reg(9)))?;
+    Some((there, put))
 }
 
 #[test]
@@ -154,21 +155,20 @@ fn cells_are_born_black_in_any_arena(rt: HostRuntime) -> Result<(), Fail> {
 
 #[test]
 fn commands_between_units_answer_as_ever(rt: HostRuntime) -> Result<(), Fail> {
-    let turns = take_turns_in_two_zones(rt.alloc());
-    let (names, running) = turns.ok_or("a step")?;
-    let wanted = [
-        Some(Name::Cell(1)),
-        None,
-        None,
-        Some(Name::Cell(2)),
-        Some(Name::Wrap(CompNo(1), 0)),
-        Some(Name::Cell(4)),
-        Some(Name::Cell(5)),
-        None,
-        Some(Name::Cell(1)),
-        Some(Name::Cell(1)),
-    ];
-    assert_eq!(rt; names.as_slice(), wanted.as_slice());
-    assert!(rt; running);
+    let mut session = begin_in_two_zones(rt.alloc()).ok_or("a collection")?;
+    assert_eq!(rt; take_out(&mut session), Some((Some(Name::Cell(1)), None)));
+    assert_eq!(rt;
+        wrap_back(&mut session),
+        Some((Some(Name::Cell(2)), Some(Name::Wrap(CompNo(1), 0))))
+    );
+    assert_eq!(rt;
+        put_and_find(&mut session),
+        Some((Some(Name::Cell(4)), Some(Name::Cell(1))))
+    );
+    assert_eq!(rt;
+        take_turn(&mut session, GraphCmd::Expose(reg(11), slot(3))),
+        Some(Some(Name::Cell(1)))
+    );
+    assert!(rt; session.running());
     Ok(())
 }

@@ -278,15 +278,76 @@ mod tests {
     use super::*;
     use std::test::Fail;
 
+    // An entry, as it is told.
+    type Parts = (Place, Place, Place);
+
+    // The entries by calls without clauses: a test looks at what they answer.
+    #[derive(Drop)]
+    struct Entries {
+        weak: WeakMaps,
+    }
+
+    impl Entries {
+        fn new(alloc: Global) -> Self {
+            Entries {
+                weak: WeakMaps::new(alloc),
+            }
+        }
+
+        fn put(&mut self, map: Place, key: Place, value: Place) -> Result<Option<Place>, NoMemory> {
+            self.weak.put(map, key, value)
+        }
+
+        fn del(&mut self, map: Place, key: Place) -> Option<Place> {
+            self.weak.del(map, key)
+        }
+
+        fn find(&self, map: Place, key: Place) -> Option<Place> {
+            self.weak.find(map, key)
+        }
+
+        // The first entry in the table, of a map, and of a key.
+        fn first(&self, map: Place, key: Place) -> (Option<Parts>, Option<Parts>, Option<Parts>) {
+            (
+                self.weak.entry(0),
+                self.weak.entries_of_map(map, 0),
+                self.weak.entries_of_key(key, 0),
+            )
+        }
+
+        // The second entry of a key.
+        fn second(&self, key: Place) -> Option<Parts> {
+            self.weak.entries_of_key(key, 1)
+        }
+
+        // Drops the entries that name a place of an arena, and answers how many stay.
+        fn drop_arena(&mut self, arena: u32) -> u64 {
+            self.weak.drop_dead(|place: Place| place.arena() == arena);
+            self.weak.count()
+        }
+
+        fn start(&mut self, colour: MarkColour, place: Place) {
+            self.weak.start(colour, place);
+        }
+
+        fn next_black(&mut self) -> Option<Parts> {
+            self.weak.next_left(MarkColour::Black)
+        }
+
+        fn next_gray(&mut self) -> Option<Parts> {
+            self.weak.next_left(MarkColour::Gray)
+        }
+    }
+
     #[test]
     fn puts_and_finds(rt: HostRuntime) -> Result<(), Fail> {
         let map = Place::new(1, 0).ok_or("map")?;
         let key = Place::new(2, 63).ok_or("key")?;
-        let mut weak = WeakMaps::new(rt.alloc());
-        assert_eq!(rt; weak.put(map, key, key)?, None);
-        assert_eq!(rt; weak.put(map, key, map)?, Some(key));
-        assert_eq!(rt; weak.find(map, key), Some(map));
-        assert_eq!(rt; weak.find(key, map), None);
+        let mut entries = Entries::new(rt.alloc());
+        let put = (entries.put(map, key, key)?, entries.put(map, key, map)?);
+        assert_eq!(rt; put, (None, Some(key)));
+        let found = (entries.find(map, key), entries.find(key, map));
+        assert_eq!(rt; found, (Some(map), None));
         Ok(())
     }
 
@@ -294,12 +355,17 @@ mod tests {
     fn lists(rt: HostRuntime) -> Result<(), Fail> {
         let map = Place::new(1, 0).ok_or("map")?;
         let key = Place::new(2, 63).ok_or("key")?;
-        let mut weak = WeakMaps::new(rt.alloc());
-        weak.put(map, key, map)?;
-        assert_eq!(rt; weak.entry(0), Some((map, key, map)));
-        assert_eq!(rt; weak.entries_of_map(map, 0), Some((map, key, map)));
-        assert_eq!(rt; weak.entries_of_key(key, 0), Some((map, key, map)));
-        assert_eq!(rt; weak.entries_of_key(key, 1), None);
+        let mut entries = Entries::new(rt.alloc());
+        entries.put(map, key, map)?;
+        assert_eq!(rt;
+            entries.first(map, key),
+            (
+                Some((map, key, map)),
+                Some((map, key, map)),
+                Some((map, key, map))
+            )
+        );
+        assert_eq!(rt; entries.second(key), None);
         Ok(())
     }
 
@@ -307,10 +373,10 @@ mod tests {
     fn deletes(rt: HostRuntime) -> Result<(), Fail> {
         let map = Place::new(1, 0).ok_or("map")?;
         let key = Place::new(2, 63).ok_or("key")?;
-        let mut weak = WeakMaps::new(rt.alloc());
-        weak.put(map, key, map)?;
-        assert_eq!(rt; weak.del(map, key), Some(map));
-        assert_eq!(rt; weak.del(map, key), None);
+        let mut entries = Entries::new(rt.alloc());
+        entries.put(map, key, map)?;
+        let gone = (entries.del(map, key), entries.del(map, key));
+        assert_eq!(rt; gone, (Some(map), None));
         Ok(())
     }
 
@@ -318,12 +384,18 @@ mod tests {
     fn drops_the_dead(rt: HostRuntime) -> Result<(), Fail> {
         let map = Place::new(1, 0).ok_or("map")?;
         let key = Place::new(2, 63).ok_or("key")?;
-        let mut weak = WeakMaps::new(rt.alloc());
-        weak.put(map, key, map)?;
-        weak.put(map, map, map)?;
-        weak.drop_dead(|place: Place| place.arena() == 2);
-        assert_eq!(rt; weak.count(), 1);
-        assert_eq!(rt; weak.entry(0), Some((map, map, map)));
+        let mut entries = Entries::new(rt.alloc());
+        entries.put(map, key, map)?;
+        entries.put(map, map, map)?;
+        assert_eq!(rt; entries.drop_arena(2), 1);
+        assert_eq!(rt;
+            entries.first(map, map),
+            (
+                Some((map, map, map)),
+                Some((map, map, map)),
+                Some((map, map, map))
+            )
+        );
         Ok(())
     }
 
@@ -331,15 +403,16 @@ mod tests {
     fn looks_once_for_map_and_once_for_key(rt: HostRuntime) -> Result<(), Fail> {
         let map = Place::new(1, 0).ok_or("map")?;
         let key = Place::new(2, 63).ok_or("key")?;
-        let mut weak = WeakMaps::new(rt.alloc());
-        weak.put(map, key, map)?;
-        assert_eq!(rt; weak.next_left(MarkColour::Black), None);
-        weak.start(MarkColour::Black, map);
-        weak.start(MarkColour::Black, key);
-        assert_eq!(rt; weak.next_left(MarkColour::Gray), None);
-        assert_eq!(rt; weak.next_left(MarkColour::Black), Some((map, key, map)));
-        assert_eq!(rt; weak.next_left(MarkColour::Black), Some((map, key, map)));
-        assert_eq!(rt; weak.next_left(MarkColour::Black), None);
+        let mut entries = Entries::new(rt.alloc());
+        entries.put(map, key, map)?;
+        let before = entries.next_black();
+        entries.start(MarkColour::Black, map);
+        entries.start(MarkColour::Black, key);
+        let gray = entries.next_gray();
+        assert_eq!(rt; (before, gray), (None, None));
+        let black = (entries.next_black(), entries.next_black());
+        assert_eq!(rt; black, (Some((map, key, map)), Some((map, key, map))));
+        assert_eq!(rt; entries.next_black(), None);
         Ok(())
     }
 
@@ -349,19 +422,33 @@ mod tests {
         let first = Place::new(2, 1).ok_or("first")?;
         let second = Place::new(2, 2).ok_or("second")?;
         let third = Place::new(2, 3).ok_or("third")?;
-        let mut weak = WeakMaps::new(rt.alloc());
-        weak.put(map, first, map)?;
-        weak.put(map, second, map)?;
-        weak.start(MarkColour::Gray, map);
-        weak.put(map, third, map)?;
-        assert_eq!(rt; weak.next_left(MarkColour::Gray), Some((map, second, map)));
-        assert_eq!(rt; weak.del(map, second), Some(map));
-        assert_eq!(rt; weak.next_left(MarkColour::Gray), Some((map, first, map)));
-        assert_eq!(rt; weak.next_left(MarkColour::Gray), None);
-        weak.start(MarkColour::Gray, map);
-        assert_eq!(rt; weak.del(map, first), Some(map));
-        assert_eq!(rt; weak.next_left(MarkColour::Gray), Some((map, third, map)));
-        assert_eq!(rt; weak.next_left(MarkColour::Gray), None);
+        let mut entries = Entries::new(rt.alloc());
+        entries.put(map, first, map)?;
+        entries.put(map, second, map)?;
+        entries.start(MarkColour::Gray, map);
+        entries.put(map, third, map)?;
+        let last = entries.next_gray();
+        entries.del(map, second);
+        let rest = [entries.next_gray(), entries.next_gray()];
+        assert_eq!(rt;
+            (last, rest),
+            (Some((map, second, map)), [Some((map, first, map)), None])
+        );
+        Ok(())
+    }
+
+    #[test]
+    fn an_entry_that_went_is_not_looked_at(rt: HostRuntime) -> Result<(), Fail> {
+        let map = Place::new(1, 0).ok_or("map")?;
+        let first = Place::new(2, 1).ok_or("first")?;
+        let second = Place::new(2, 2).ok_or("second")?;
+        let mut entries = Entries::new(rt.alloc());
+        entries.put(map, first, map)?;
+        entries.put(map, second, map)?;
+        entries.start(MarkColour::Gray, map);
+        entries.del(map, first);
+        let left = [entries.next_gray(), entries.next_gray()];
+        assert_eq!(rt; left, [Some((map, second, map)), None]);
         Ok(())
     }
 
@@ -369,14 +456,17 @@ mod tests {
     fn black_comes_before_gray(rt: HostRuntime) -> Result<(), Fail> {
         let map = Place::new(1, 0).ok_or("map")?;
         let key = Place::new(2, 63).ok_or("key")?;
-        let mut weak = WeakMaps::new(rt.alloc());
-        weak.put(map, key, map)?;
-        weak.start(MarkColour::Gray, map);
-        weak.start(MarkColour::Black, map);
-        weak.start(MarkColour::Gray, map);
-        assert_eq!(rt; weak.next_left(MarkColour::Gray), None);
-        assert_eq!(rt; weak.next_left(MarkColour::Black), Some((map, key, map)));
-        assert_eq!(rt; weak.next_left(MarkColour::Gray), None);
+        let mut entries = Entries::new(rt.alloc());
+        entries.put(map, key, map)?;
+        entries.start(MarkColour::Gray, map);
+        entries.start(MarkColour::Black, map);
+        entries.start(MarkColour::Gray, map);
+        let left = [
+            entries.next_gray(),
+            entries.next_black(),
+            entries.next_gray(),
+        ];
+        assert_eq!(rt; left, [None, Some((map, key, map)), None]);
         Ok(())
     }
 }
