@@ -193,6 +193,7 @@ impl LineReader {
     }
 
     // Answers what was found; where nothing was, the bytes held are all that come.
+    #[inline(always)]
     fn give_found(&mut self, found: Found) -> Next
         requires { Finds self.old.held found }
         ensures { GivesFound found self.old self.new result }
