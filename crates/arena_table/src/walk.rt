@@ -46,6 +46,7 @@ impl Walk {
     }
 
     /// The next arena.
+    #[inline(always)]
     pub fn next(&mut self, index: &Index) -> Option<usize>
         requires below { (self.old.base ≤ 2 ^ 32) × (self.old.at ≤ 2 ^ 26) }
         ensures some { IfSome result (λ arena. (arenas : _) → IsOwnedBy arenas index.now.owned

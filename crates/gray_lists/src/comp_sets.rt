@@ -1,5 +1,5 @@
 // Sets of compartments, a bit a compartment.
-ghost use Rattle.std.specs.Prelude.{◌≡◌, ◌≢◌, ◌≤◌, ◌<◌, ◌↔◌, ◌⊎◌, ℕ, IsTrue, IfSome, IfNone};
+ghost use Rattle.std.specs.Prelude.{◌≡◌, ◌≢◌, ◌≤◌, ◌*◌, ◌<◌, ◌↔◌, ◌⊎◌, ℕ, IsTrue, IfSome, IfNone};
 ghost use Rattle.gz_names.specs.Zones.{HasZone};
 ghost use Rattle.gray_lists.specs.CompSets.{HasComp};
 
@@ -37,13 +37,6 @@ impl CompSet {
         self.words[at] = without_bit(self.words[at], comp.0 % 64);
     }
 
-    // Whether there is no compartment in the set.
-    pub(crate) fn is_empty(&self) -> bool
-        ensures { IsTrue result → (c : ℕ) → HasComp self.now.words c → ⊥ }
-    {
-        self.words == [0; 4]
-    }
-
     // The lowest compartment from a number on. It looks at four words at most.
     pub(crate) fn first_from(&self, from: u16) -> Option<CompNo>
         ensures some { IfSome result (λ c. (from ≤ c.0) × HasComp self.now.words c.0) }
@@ -51,16 +44,28 @@ impl CompSet {
             (λ c. (n : ℕ) → from ≤ n → n < c.0 → HasComp self.now.words n → ⊥) }
         ensures none { IfNone result ((n : ℕ) → from ≤ n → HasComp self.now.words n → ⊥) }
     {
-        if self.is_empty() {
+        if from >= 256 {
             return None;
         }
-        let mut at = from;
-        while at < 256 {
-            let word = at / 64;
-            if let Some(bit) = lowest_from(self.words[word as usize], (at % 64) as u8) {
+        let word = from / 64;
+        if let Some(bit) = lowest_from(self.words[word as usize], (from % 64) as u8) {
+            return Some(CompNo((64 * word) as u8 + bit));
+        }
+        self.first_of_words(word + 1)
+    }
+
+    // The lowest compartment of the words from one on.
+    fn first_of_words(&self, from: u16) -> Option<CompNo>
+        requires { from ≤ 4 }
+        ensures some { IfSome result (λ c. (64 * from ≤ c.0) × HasComp self.now.words c.0) }
+        ensures between { IfSome result
+            (λ c. (n : ℕ) → 64 * from ≤ n → n < c.0 → HasComp self.now.words n → ⊥) }
+        ensures none { IfNone result ((n : ℕ) → 64 * from ≤ n → HasComp self.now.words n → ⊥) }
+    {
+        for word in from..4 {
+            if let Some(bit) = lowest_from(self.words[word as usize], 0) {
                 return Some(CompNo((64 * word) as u8 + bit));
             }
-            at = 64 * word + 64;
         }
         None
     }

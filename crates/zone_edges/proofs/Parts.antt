@@ -91,20 +91,21 @@ no_edges x y h = elim (cases_lt y 64) [
       (get_or_past (replicate 64 no_zones) y no_zones (omega (arith, length-replicate {A = ZoneSet} 64 no_zones))) h)
 ]
 
--- how a search begins
-pub started : (zones : ZoneSet)
+-- how a search begins, whatever its lists held before
+pub started : (zones : ZoneSet) (groups levels entering : List ZoneSet) → length groups ≡ 64 → length levels ≡ 64
+    → length entering ≡ 64
     → IsSearch (record {
       zones = zones;
       sources = replicate 64 no_zones;
       done = no_zones;
-      groups = replicate 64 no_zones;
+      groups = groups;
       count = 0;
       seen = no_zones;
-      levels = replicate 64 no_zones;
-      entering = replicate 64 no_zones;
+      levels = levels;
+      entering = entering;
       depth = 0;
     })
-started zones = record {
+started zones groups levels entering g l e = record {
   found = record {
     edges = λ a b e. absurd (no_edges a b e);
     small = λ z h. HasZone-below zones.bits z h;
@@ -117,9 +118,9 @@ started zones = record {
     order = λ i j a b ij lt ha hb e. omega arith;
   };
   sources_len = length-replicate {A = ZoneSet} 64 no_zones;
-  levels_len = length-replicate {A = ZoneSet} 64 no_zones;
-  entering_len = length-replicate {A = ZoneSet} 64 no_zones;
-  groups_len = length-replicate {A = ZoneSet} 64 no_zones;
+  levels_len = l;
+  entering_len = e;
+  groups_len = g;
   most = omega arith;
   room = omega arith;
   seen_is = λ z h. absurd (HasZone-none z h);

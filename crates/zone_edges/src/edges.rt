@@ -61,7 +61,7 @@ impl Edges {
         ensures stepped { self.new.stepped.bits ≡ 0 }
         ensures cursors { (z : ℕ) → cursor_of self.new z ≡ 0 }
     {
-        self.search = Search::new(zones);
+        self.search.restart(zones);
         self.stepped = ZoneSet { bits: 0 };
         self.cursors = [0; 64];
         self.current = None;

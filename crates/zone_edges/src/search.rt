@@ -49,6 +49,23 @@ impl Search {
         }
     }
 
+    /// Begins again with these zones. All edges and groups are forgotten.
+    pub fn restart(&mut self, zones: ZoneSet)
+        requires search { IsSearch self.old }
+        ensures search { IsSearch self.new }
+        ensures idle { self.new.depth ≡ 0 }
+        ensures zones { self.new.zones ≡ zones }
+        ensures edges { (x y : ℕ) → Edge self.new.sources x y → ⊥ }
+        ensures unseen { (z : ℕ) → HasZone self.new.seen.bits z → ⊥ }
+    {
+        self.zones = zones;
+        self.sources = [ZoneSet { bits: 0 }; 64];
+        self.done = ZoneSet { bits: 0 };
+        self.count = 0;
+        self.seen = ZoneSet { bits: 0 };
+        self.depth = 0;
+    }
+
     /// Notes an edge.
     pub fn note(&mut self, a: ZoneNo, b: ZoneNo)
         requires search { IsSearch self.old }

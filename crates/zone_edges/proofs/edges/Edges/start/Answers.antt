@@ -6,10 +6,10 @@ use Rattle.zone_edges.proofs.edges.Edges.start.Goals as goal
 
 pub invariant_of-self : goal.invariant_of-self
 invariant_of-self c = record {
-  search = c.new-self-inside.ensures.search;
-  idle = c.new-self-inside.ensures.idle;
+  search = c.restart.ensures.search;
+  idle = c.restart.ensures.idle;
   stepped_seen = λ z h. absurd (HasZone-none z h);
-  fresh = λ e. c.new-self-inside.ensures.unseen;
+  fresh = λ e. c.restart.ensures.unseen;
   sized = length-replicate {A = ℕ} 64 0;
 }
 
