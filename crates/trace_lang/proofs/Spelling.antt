@@ -1,12 +1,14 @@
 -- Words of a text.
-use Rattle.std.proofs.Common.{rules, ◌-◌, ◌≤◌, sym, ◌≡◌, ◌≢◌, ℕ, ◌+◌, ◌<◌, zero, suc, take, drop, List, [], ◌∷◌, ◌++◌}
+use Rattle.std.proofs.Common.{rules, ◌-◌, sym, ◌≡◌, ◌≢◌, ℕ, ◌+◌, ◌<◌, zero, suc, take, drop, List, [], ◌∷◌, ◌++◌}
 use Rattle.std.proofs.Common.{length, get_or, refl, ap, ◌∙◌, arith, add-one, true, false, Bool, if◌then◌else◌}
 use Rattle.std.specs.Prelude.{◌==◌, codes}
+use Rattle.std.specs.Io.{StartsWith}
 use Rattle.std.proofs.lemmas.Bool.{eqb-false}
-use Rattle.std.proofs.lemmas.List.{take_all}
+use Rattle.std.proofs.lemmas.List.{take_rest}
 use Rattle.trace_lang.specs.declared.words.Word.{Word}
 use Rattle.trace_lang.specs.declared.words.Word.TheVariants as word
 use Rattle.trace_lang.specs.Words.{IsBreak, IsWord, word_text}
+use Rattle.trace_lang.proofs.Breaks.{break_of}
 
 pub word_more : (xs : List ℕ) (i : ℕ) → i < length xs → IsWord (take i xs) → get_or xs i 0 ≢ 32
     → IsWord (take (i + 1) xs)
@@ -62,43 +64,25 @@ no_space_text word.Slice = refl
 no_space_text word.Finish = refl
 no_space_text word.Collect = refl
 no_space_text word.Colours = refl
+no_space_text word.Dump = refl
 
 pub word_text_word : (w : Word) → IsWord (word_text w)
 word_text_word w = no_space_word (word_text w) (no_space_text w)
 
--- the words that most lines begin with begin no other word
-pub only_get : (w : Word) (rest r : List ℕ) → codes "get" ++ rest ≡ word_text w ++ r → (word.Get ≡ w) × (rest ≡ r)
-only_get w rest r e = search (rules, e)
+-- no two first words have the same text
+pub word_text_one : (v w : Word) → word_text v ≡ word_text w → v ≡ w
+word_text_one v w e = search (rules, e)
 
-pub only_set : (w : Word) (rest r : List ℕ) → codes "set" ++ rest ≡ word_text w ++ r → (word.Set ≡ w) × (rest ≡ r)
-only_set w rest r e = search (rules, e)
+-- a line that begins with a word and a space is the word and a rest that goes on with a space
+word_and_rest : (word line rest : List ℕ) → StartsWith line (word ++ codes " ") → rest ≡ drop (length word) line
+    → (line ≡ word ++ rest) × IsBreak rest
+word_and_rest [] [] rest s e = absurd (cc s)
+word_and_rest [] (x ∷ xs) rest s e = (sym e, break_of rest xs (e ∙ ap (λ t. get_or t 0 0 ∷ xs) s))
+word_and_rest (b ∷ word) [] rest s e = absurd (cc s)
+word_and_rest (b ∷ word) (x ∷ xs) rest s e =
+    let p = word_and_rest word xs rest (ap (λ t. drop 1 t) s) e in
+    (ap (λ t. get_or t 0 0 ∷ xs) s ∙ ap (λ t. b ∷ t) p.0, p.1)
 
-pub only_new : (w : Word) (rest r : List ℕ) → codes "new" ++ rest ≡ word_text w ++ r → (word.New ≡ w) × (rest ≡ r)
-only_new w rest r e = search (rules, e)
-
-pub only_copy : (w : Word) (rest r : List ℕ) → codes "copy" ++ rest ≡ word_text w ++ r → (word.Copy ≡ w) × (rest ≡ r)
-only_copy w rest r e = search (rules, e)
-
-pub only_drop : (w : Word) (rest r : List ℕ) → codes "drop" ++ rest ≡ word_text w ++ r → (word.Drop ≡ w) × (rest ≡ r)
-only_drop w rest r e = search (rules, e)
-
--- a text by its first bytes
-pub front_three : (xs : List ℕ) (a b c : ℕ) → 3 ≤ length xs → get_or xs 0 0 ≡ a → get_or xs 1 0 ≡ b → get_or xs 2 0 ≡ c
-    → xs ≡ a ∷ b ∷ c ∷ take (length xs - 3) (drop 3 xs)
-front_three [] a b c h p q r = absurd (omega arith)
-front_three (x ∷ []) a b c h p q r = absurd (omega arith)
-front_three (x ∷ y ∷ []) a b c h p q r = absurd (omega arith)
-front_three (x ∷ y ∷ z ∷ ts) a b c h p q r =
-    ap (λ t. t ∷ y ∷ z ∷ ts) p ∙ ap (λ t. a ∷ t ∷ z ∷ ts) q ∙ ap (λ t. a ∷ b ∷ t ∷ ts) r
-    ∙ ap (λ t. a ∷ b ∷ c ∷ t) (sym (take_all (length (x ∷ y ∷ z ∷ ts) - 3) ts (omega arith)))
-
-pub front_four : (xs : List ℕ) (a b c d : ℕ) → 4 ≤ length xs → get_or xs 0 0 ≡ a → get_or xs 1 0 ≡ b → get_or xs 2 0 ≡ c
-    → get_or xs 3 0 ≡ d → xs ≡ a ∷ b ∷ c ∷ d ∷ take (length xs - 4) (drop 4 xs)
-front_four [] a b c d h p q r s = absurd (omega arith)
-front_four (x ∷ []) a b c d h p q r s = absurd (omega arith)
-front_four (x ∷ y ∷ []) a b c d h p q r s = absurd (omega arith)
-front_four (x ∷ y ∷ z ∷ []) a b c d h p q r s = absurd (omega arith)
-front_four (x ∷ y ∷ z ∷ w ∷ ts) a b c d h p q r s =
-    ap (λ t. t ∷ y ∷ z ∷ w ∷ ts) p ∙ ap (λ t. a ∷ t ∷ z ∷ w ∷ ts) q ∙ ap (λ t. a ∷ b ∷ t ∷ w ∷ ts) r ∙ ap
-    (λ t. a ∷ b ∷ c ∷ t ∷ ts) s
-    ∙ ap (λ t. a ∷ b ∷ c ∷ d ∷ t) (sym (take_all (length (x ∷ y ∷ z ∷ w ∷ ts) - 4) ts (omega arith)))
+pub word_front : (word line : List ℕ) (len : ℕ) → StartsWith line (word ++ codes " ") → len ≡ length word
+    → (line ≡ word ++ take (length line - len) (drop len line)) × IsBreak (take (length line - len) (drop len line))
+word_front word line len s e = word_and_rest word line _ s (take_rest line len ∙ ap (λ n. drop n line) e)

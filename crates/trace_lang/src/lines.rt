@@ -1,10 +1,11 @@
 // From a line to its command.
-ghost use Rattle.std.specs.Prelude.{◌≡◌, ◌<◌, ◌≤◌, ◌++◌, ℕ, List, [], Some, Ok, IfSome, IfOk, MatchOption, length};
+ghost use Rattle.std.specs.Prelude.{◌≡◌, ◌<◌, ◌≤◌, ◌++◌, ℕ, List, [], Some, Ok, codes, length};
+ghost use Rattle.std.specs.Prelude.{IfSome, IfOk, MatchOption};
+ghost use Rattle.std.specs.Io.{StartsWith};
 ghost use Rattle.gz_io.specs.Lines.{IsPlain};
 ghost use Rattle.gz_names.specs.declared.commands.Cmd.{Cmd};
 ghost use Rattle.gz_names.specs.declared.zone_sets.ZoneSet.{ZoneSet};
 ghost use Rattle.trace_lang.specs.declared.words.Word.{Word};
-ghost use Rattle.trace_lang.specs.declared.words.Word.TheVariants as AWord;
 ghost use Rattle.trace_lang.specs.Words.{word_text, number_word, IsBreak, IsWord};
 ghost use Rattle.trace_lang.specs.Grammar.{Spells, SpellsRest, SpellsZones};
 
@@ -83,51 +84,6 @@ fn zone_list(text: &[u8]) -> Option<ZoneSet>
     }
 }
 
-// The command of a line that begins with `new`, by the rest of the line.
-#[inline(always)]
-fn new_command(rest: &[u8]) -> Option<Cmd>
-    ensures some { IfSome result (SpellsRest AWord.New rest.now) }
-    ensures exact { (c : Cmd) → SpellsRest AWord.New rest.now c → result ≡ Some c }
-{
-    three(rest).map(|(r, c, n): (_, _, FieldCount)| Cmd::Graph(GraphCmd::New(r, c, n.0)))
-}
-
-// The same of `get`.
-#[inline(always)]
-fn get_command(rest: &[u8]) -> Option<Cmd>
-    ensures some { IfSome result (SpellsRest AWord.Get rest.now) }
-    ensures exact { (c : Cmd) → SpellsRest AWord.Get rest.now c → result ≡ Some c }
-{
-    three(rest).map(|(r, s, f): (_, _, Field)| Cmd::Graph(GraphCmd::Get(r, s, f.0)))
-}
-
-// The same of `set`.
-#[inline(always)]
-fn set_command(rest: &[u8]) -> Option<Cmd>
-    ensures some { IfSome result (SpellsRest AWord.Set rest.now) }
-    ensures exact { (c : Cmd) → SpellsRest AWord.Set rest.now c → result ≡ Some c }
-{
-    three(rest).map(|(s, f, t): (_, Field, Target)| Cmd::Graph(GraphCmd::Set(s, f.0, t.0)))
-}
-
-// The same of `copy`.
-#[inline(always)]
-fn copy_command(rest: &[u8]) -> Option<Cmd>
-    ensures some { IfSome result (SpellsRest AWord.Copy rest.now) }
-    ensures exact { (c : Cmd) → SpellsRest AWord.Copy rest.now c → result ≡ Some c }
-{
-    two(rest).map(|(r, s)| Cmd::Graph(GraphCmd::Copy(r, s)))
-}
-
-// The same of `drop`.
-#[inline(always)]
-fn drop_command(rest: &[u8]) -> Option<Cmd>
-    ensures some { IfSome result (SpellsRest AWord.Drop rest.now) }
-    ensures exact { (c : Cmd) → SpellsRest AWord.Drop rest.now c → result ≡ Some c }
-{
-    one(rest).map(|r| Cmd::Graph(GraphCmd::Drop(r)))
-}
-
 // A command of one word, if the line is over.
 fn no_more(rest: &[u8], cmd: Cmd) -> Option<Cmd>
     ensures some { IfSome result (λ c. (c ≡ cmd) × (rest.now ≡ [])) }
@@ -137,6 +93,7 @@ fn no_more(rest: &[u8], cmd: Cmd) -> Option<Cmd>
 }
 
 // The command for a word and the rest of its line.
+#[inline(always)]
 fn command(word: Word, rest: &[u8]) -> Option<Cmd>
     ensures some { IfSome result (SpellsRest word rest.now) }
     ensures exact { (c : Cmd) → SpellsRest word rest.now c → result ≡ Some c }
@@ -144,14 +101,14 @@ fn command(word: Word, rest: &[u8]) -> Option<Cmd>
     match word {
         Word::Zone => no_more(rest, Cmd::Graph(GraphCmd::Zone)),
         Word::Comp => one(rest).map(|z| Cmd::Graph(GraphCmd::Comp(z))),
-        Word::New => new_command(rest),
+        Word::New => three(rest).map(|(r, c, FieldCount(n))| Cmd::Graph(GraphCmd::New(r, c, n))),
         Word::Map => two(rest).map(|(r, c)| Cmd::Graph(GraphCmd::Map(r, c))),
-        Word::Get => get_command(rest),
-        Word::Set => set_command(rest),
+        Word::Get => three(rest).map(|(r, s, Field(f))| Cmd::Graph(GraphCmd::Get(r, s, f))),
+        Word::Set => three(rest).map(|(s, Field(f), Target(t))| Cmd::Graph(GraphCmd::Set(s, f, t))),
         Word::Wrap => three(rest).map(|(r, s, c)| Cmd::Graph(GraphCmd::Wrap(r, s, c))),
         Word::Unwrap => two(rest).map(|(r, s)| Cmd::Graph(GraphCmd::Unwrap(r, s))),
-        Word::Copy => copy_command(rest),
-        Word::Drop => drop_command(rest),
+        Word::Copy => two(rest).map(|(r, s)| Cmd::Graph(GraphCmd::Copy(r, s))),
+        Word::Drop => one(rest).map(|r| Cmd::Graph(GraphCmd::Drop(r))),
         Word::Hold => two(rest).map(|(g, r)| Cmd::Graph(GraphCmd::Hold(g, r))),
         Word::Release => one(rest).map(|g| Cmd::Graph(GraphCmd::Release(g))),
         Word::Expose => two(rest).map(|(r, g)| Cmd::Graph(GraphCmd::Expose(r, g))),
@@ -163,7 +120,19 @@ fn command(word: Word, rest: &[u8]) -> Option<Cmd>
         Word::Finish => no_more(rest, Cmd::Finish),
         Word::Collect => zone_list(rest).map(Cmd::Collect),
         Word::Colours => no_more(rest, Cmd::Colours),
+        Word::Dump => no_more(rest, Cmd::Dump),
     }
+}
+
+// The command of a line that begins with a word of so many bytes and a space.
+#[inline(always)]
+fn command_after(word: Word, line: &[u8], len: usize) -> Option<Cmd>
+    requires front { StartsWith line.now (word_text word ++ codes " ") }
+    requires len { len ≡ length (word_text word) }
+    ensures some { IfSome result (Spells line.now) }
+    ensures exact { (c : Cmd) → Spells line.now c → result ≡ Some c }
+{
+    command(word, &line[len..])
 }
 
 // The command that a line stands for, whatever its first word is.
@@ -172,8 +141,20 @@ fn any_command(line: &[u8]) -> Option<Cmd>
     ensures some { IfSome result (Spells line.now) }
     ensures exact { (c : Cmd) → Spells line.now c → result ≡ Some c }
 {
-    let (word, rest) = first_word(line)?;
-    command(word, rest)
+    match line {
+        [b'p', b'u', b't', b' ', ..] => command_after(Word::Put, line, 3),
+        [b'm', b'a', b'p', b' ', ..] => command_after(Word::Map, line, 3),
+        [b'f', b'i', b'n', b'd', b' ', ..] => command_after(Word::Find, line, 4),
+        [b'h', b'o', b'l', b'd', b' ', ..] => command_after(Word::Hold, line, 4),
+        [b'w', b'r', b'a', b'p', b' ', ..] => command_after(Word::Wrap, line, 4),
+        [b's', b'l', b'i', b'c', b'e', b' ', ..] => command_after(Word::Slice, line, 5),
+        [b'e', b'x', b'p', b'o', b's', b'e', b' ', ..] => command_after(Word::Expose, line, 6),
+        [b'u', b'n', b'w', b'r', b'a', b'p', b' ', ..] => command_after(Word::Unwrap, line, 6),
+        _ => {
+            let (word, rest) = first_word(line)?;
+            command(word, rest)
+        }
+    }
 }
 
 // The same, in a few steps for the words that most lines begin with.
@@ -183,11 +164,11 @@ fn command_of(line: &[u8]) -> Option<Cmd>
     ensures exact { (c : Cmd) → Spells line.now c → result ≡ Some c }
 {
     match line {
-        [b'g', b'e', b't', b' ', ..] => get_command(&line[3..]),
-        [b's', b'e', b't', b' ', ..] => set_command(&line[3..]),
-        [b'n', b'e', b'w', b' ', ..] => new_command(&line[3..]),
-        [b'c', b'o', b'p', b'y', rest @ ..] => copy_command(rest),
-        [b'd', b'r', b'o', b'p', rest @ ..] => drop_command(rest),
+        [b'g', b'e', b't', b' ', ..] => command_after(Word::Get, line, 3),
+        [b's', b'e', b't', b' ', ..] => command_after(Word::Set, line, 3),
+        [b'n', b'e', b'w', b' ', ..] => command_after(Word::New, line, 3),
+        [b'c', b'o', b'p', b'y', b' ', ..] => command_after(Word::Copy, line, 4),
+        [b'd', b'r', b'o', b'p', b' ', ..] => command_after(Word::Drop, line, 4),
         _ => any_command(line),
     }
 }

@@ -63,6 +63,7 @@ fn collection_lines(rt: HostRuntime) -> Result<(), Fail> {
     assert_eq!(rt; parse(b"slice 4294967295"), Ok(Cmd::Slice(u32::MAX)));
     assert_eq!(rt; parse(b"finish"), Ok(Cmd::Finish));
     assert_eq!(rt; parse(b"colours"), Ok(Cmd::Colours));
+    assert_eq!(rt; parse(b"dump"), Ok(Cmd::Dump));
     Ok(())
 }
 

@@ -27,6 +27,7 @@ pub enum Word {
     Finish,
     Collect,
     Colours,
+    Dump,
 }
 
 /// The word that a text is.
@@ -56,6 +57,7 @@ pub fn word_of(text: &[u8]) -> Option<Word>
         b"finish" => Some(Word::Finish),
         b"collect" => Some(Word::Collect),
         b"colours" => Some(Word::Colours),
+        b"dump" => Some(Word::Dump),
         _ => None,
     }
 }

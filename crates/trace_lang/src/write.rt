@@ -296,6 +296,65 @@ pub fn write_reply<K: Sink>(sink: &mut K, reply: &Reply) -> Result<(), WriteFaul
     }
 }
 
+// Writes the groups that a collection begins with.
+fn write_groups<K: Sink>(sink: &mut K, groups: &[ZoneSet]) -> Result<(), WriteFault>
+    ensures ok { OnOk result (Appends (K.written sink.old) (K.written sink.new)
+        (line_of (codes "groups" ++ groups_text 0 groups.now))) }
+    ensures err { OnErr result (AppendsFront (K.written sink.old) (K.written sink.new)
+        (line_of (codes "groups" ++ groups_text 0 groups.now))) }
+    ensures cause { HasCause (K.faults sink.old) (K.faults sink.new) result }
+{
+    let mut piece = Piece::new();
+    piece.push(b"groups");
+    end_with_groups(&mut piece, sink, groups)
+}
+
+// Writes that an arena was taken in, and the names of the cells that it lost.
+fn write_swept<K: Sink>(sink: &mut K, arena: u32, names: &[Name]) -> Result<(), WriteFault>
+    ensures ok { OnOk result (Appends (K.written sink.old) (K.written sink.new)
+        (line_of (codes "swept" ++ number_word arena ++ names_text names.now))) }
+    ensures err { OnErr result (AppendsFront (K.written sink.old) (K.written sink.new)
+        (line_of (codes "swept" ++ number_word arena ++ names_text names.now))) }
+    ensures cause { HasCause (K.faults sink.old) (K.faults sink.new) result }
+{
+    if names.is_empty() {
+        return write_kept(sink, arena);
+    }
+    let mut piece = Piece::new();
+    piece.push(b"swept");
+    piece.push_number(u64::from(arena));
+    end_with_some(&mut piece, sink, names)
+}
+
+// Writes that an arena was taken in that lost no cell.
+fn write_kept<K: Sink>(sink: &mut K, arena: u32) -> Result<(), WriteFault>
+    ensures ok { OnOk result (Appends (K.written sink.old) (K.written sink.new)
+        (line_of (codes "swept" ++ number_word arena ++ codes " -"))) }
+    ensures err { OnErr result (AppendsFront (K.written sink.old) (K.written sink.new)
+        (line_of (codes "swept" ++ number_word arena ++ codes " -"))) }
+    ensures cause { HasCause (K.faults sink.old) (K.faults sink.new) result }
+{
+    let mut tail = Tail::new();
+    tail.bytes(b" -\n");
+    tail.number(u64::from(arena));
+    tail.bytes(b"swept ");
+    write_all(sink, tail.text())
+}
+
+// Writes that a collection was given up, and in which zones.
+fn write_stopped<K: Sink>(sink: &mut K, zones: ZoneSet) -> Result<(), WriteFault>
+    ensures ok { OnOk result (Appends (K.written sink.old) (K.written sink.new)
+        (line_of (codes "stopped" ++ number_words (zones_in zones)))) }
+    ensures err { OnErr result (AppendsFront (K.written sink.old) (K.written sink.new)
+        (line_of (codes "stopped" ++ number_words (zones_in zones)))) }
+    ensures cause { HasCause (K.faults sink.old) (K.faults sink.new) result }
+{
+    let mut piece = Piece::new();
+    piece.push(b"stopped");
+    piece.push_zones(zones);
+    end_line(&mut piece, sink)
+}
+
 /// Writes a report with its line feed, or fails after a front of it.
 pub fn write_report<K: Sink>(sink: &mut K, report: &Report) -> Result<(), WriteFault>
     ensures ok { OnOk result
@@ -304,32 +363,14 @@ pub fn write_report<K: Sink>(sink: &mut K, report: &Report) -> Result<(), WriteF
         (line_of (report_text report.now))) }
     ensures cause { HasCause (K.faults sink.old) (K.faults sink.new) result }
 {
-    let mut piece = Piece::new();
     match report {
-        Report::Started => {
-            piece.push(b"started");
-            end_line(&mut piece, sink)
-        }
-        Report::Groups(groups) => {
-            piece.push(b"groups");
-            end_with_groups(&mut piece, sink, groups.as_slice())
-        }
+        Report::Started => write_all(sink, b"started\n"),
+        Report::Groups(groups) => write_groups(sink, groups.as_slice()),
         Report::Ended(zones, grays, told) => {
             write_ended(sink, *zones, grays.as_slice(), told.as_slice())
         }
-        Report::Swept(arena, names) => {
-            piece.push(b"swept");
-            piece.push_number(u64::from(*arena));
-            end_with_names(&mut piece, sink, names.as_slice())
-        }
-        Report::Done => {
-            piece.push(b"done");
-            end_line(&mut piece, sink)
-        }
-        Report::Stopped(zones) => {
-            piece.push(b"stopped");
-            piece.push_zones(*zones);
-            end_line(&mut piece, sink)
-        }
+        Report::Swept(arena, names) => write_swept(sink, *arena, names.as_slice()),
+        Report::Done => write_all(sink, b"done\n"),
+        Report::Stopped(zones) => write_stopped(sink, *zones),
     }
 }

@@ -1,5 +1,5 @@
 use Rattle.std.proofs.Common.{◌≡◌, ◌+◌, ◌-◌, ◌*◌, arith, ap, ◌∙◌, sym, [], length, drop, take, get_or}
-use Rattle.std.proofs.lemmas.List.{take_all, length-drop, drop_all}
+use Rattle.std.proofs.lemmas.List.{take_rest, drop_all}
 use Rattle.trace_lang.specs.Numbers.{front_digits, after_digits, read_on}
 use Rattle.trace_lang.proofs.Decimals.{read_on-ge, next_digit, last_digit, last_after}
 use Rattle.trace_lang.proofs.numbers.digits.Goals as goal
@@ -29,8 +29,7 @@ returns-clause-some c =
     let text = c.args.text.now in
     let k = c.loop-digit.count in
     let n = c.loop-digit.n in
-    let same : take (length text - k) (drop k text) ≡ drop k text =
-    take_all (length text - k) (drop k text) (omega (arith, length-drop k text)) in
+    let same : take (length text - k) (drop k text) ≡ drop k text = take_rest text k in
     let ends : (read_on n (front_digits (drop k text)) ≡ n) × (after_digits (drop k text) ≡ drop k text) = elim
     c.loop-digit-test.branch [
       | else-loop-digit-test w ↦ (let none : drop k text ≡ [] = drop_all k text (omega arith) in (
