@@ -536,6 +536,8 @@ impl Heap {
         ensures fewer { length self.new.shape.weak.entries
             ≤ length self.old.shape.weak.entries }
         ensures carries { Carries (weak_of self.old) (weak_of self.new) }
+        ensures parallel { AreParallel (weak_of self.new) }
+        ensures sound { AreEntries self.new.shape.weak }
         ensures apart { AreApart self.old.shape.wrappers.lists }
     {
         let arenas = &self.arenas;
