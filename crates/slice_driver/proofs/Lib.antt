@@ -6,3 +6,4 @@ pub mod grouping
 pub mod group_end
 pub mod taking_in
 pub mod measure
+pub mod dumping

@@ -23,3 +23,5 @@ pub mod Serves
 pub mod Present
 pub mod Sessions
 pub mod NameKinds
+pub mod Listings
+pub mod Dumps

@@ -1,11 +1,13 @@
 -- A collector with who sweeps, as an embedder sees it.
 use Rattle.std.specs.Prelude.{◌<◌, ◌≤◌, ◌+◌, ℕ, List, Option, Some, None, Result, Ok, Err, IsSome}
+use Rattle.gz_names.specs.declared.dumps.DumpLine.{DumpLine}
 use Rattle.gz_names.specs.declared.names.Name.{Name}
 use Rattle.gz_names.specs.declared.replies.CmdFault.{CmdFault}
 use Rattle.gz_names.specs.declared.replies.CmdFault.TheVariants as fault
 use Rattle.gz_names.specs.declared.replies.Reply.{Reply}
 use Rattle.gz_names.specs.declared.replies.Report.{Report}
 use Rattle.cell_bits.specs.declared.bits.Bits.{Bits}
+use Rattle.colour_defs.specs.Dumps.{IsDump}
 use Rattle.colour_defs.specs.Ends.{Lists}
 use Rattle.colour_defs.specs.World.{World, Has, IsPresent, IsSettled}
 use Rattle.colour_defs.specs.Laws.{IsValid}
@@ -43,3 +45,11 @@ pub record SessionSteps (limit : ℕ) (old : CollectorState) (flown : ℕ → Op
 abbrev pub AreGrayNames : CollectorState → (ℕ → Option Bits) → List Name → Type 0
 AreGrayNames c flown names = (w : World) → IsValid w → Represents c flown w → IsSettled w
     × Lists (λ x. IsPresent w x × (Has w.black x → ⊥)) names
+
+-- the lines are the dump of each valid world that a collector stands for; in none of these is a zone marking
+abbrev pub AreDumpLines : CollectorState → (ℕ → Option Bits) → List DumpLine → Type 0
+AreDumpLines c flown lines = (w : World) → IsValid w → Represents c flown w → IsSettled w × IsDump w lines
+
+-- in each world that a collector stands for, a zone is marking
+abbrev pub IsNowhereSettled : CollectorState → (ℕ → Option Bits) → Type 0
+IsNowhereSettled c flown = (w : World) → Represents c flown w → IsSettled w → ⊥

@@ -98,8 +98,9 @@ pub(crate) fn push_own_gray(heap: &Heap, arena: u32, names: &mut Vec<Name>) -> R
         → IsPresent heap.now.shape (arena, slot) }
     ensures { OnOk result (names.new.items ≡ names.old.items ++ grays_below heap.now arena 64) }
 {
-    let bits = heap.bits(arena);
-    push_at(heap, arena, gray_slots(&bits), names)
+    let slots = gray_slots(&heap.bits(arena));
+    names.reserve(slots.count_ones() as usize)?;
+    push_at(heap, arena, slots, names)
 }
 
 // The slots of the gray cells.

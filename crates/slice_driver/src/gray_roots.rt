@@ -7,7 +7,7 @@ ghost use Rattle.slice_driver.specs.GrayRoots.{IsGrayWrapper, IsInSlot};
 
 use crate::root_marking::source_at;
 use cell_bits::Colour;
-use gz_names::{GrayNo, NoMemory, Place, ZoneNo, ZoneSet};
+use gz_names::{GRAY_SLOT_COUNT, GrayNo, NoMemory, Place, ZoneNo, ZoneSet};
 use heap_core::{Heap, Steps};
 use std::alloc::Global;
 use std::sync::ledger::Ledger;
@@ -29,7 +29,7 @@ pub(crate) fn buffer_gray_roots<L: Ledger>(
     ensures ok { OnOk result (Buffers heap.old zones heap.new) }
     ensures err { OnErr result (heap.new ≡ heap.old) }
 {
-    let mut slots = Vec::new(alloc);
+    let mut slots = Vec::with_capacity(alloc, usize::from(GRAY_SLOT_COUNT))?;
     gather_slots(heap, zones, &mut slots)?;
     let mut wrappers = Vec::new(alloc);
     gather_wrappers(heap, zones, steps, &mut wrappers)?;
@@ -47,7 +47,7 @@ fn gather_slots(
         found.new.items) }
     ensures few { OnOk result (length found.new.items ≤ length found.old.items + 64) }
 {
-    for index in 0..64u8 {
+    for index in 0..GRAY_SLOT_COUNT {
         gather_slot(heap, zones, index, found)?;
     }
     Ok(())

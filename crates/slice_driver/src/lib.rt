@@ -27,7 +27,8 @@
 // the world as it is; a woken cell joins the starts of both closures. A wrapper that is made is born
 // black. Were its target not exposed first, a black cell that no pile names would lead to a white one.
 //
-// `gray_names` lists what is gray where no zone is marking. `begin` begins a collection: its zones are
+// `gray_names` lists what is gray where no zone is marking, and `dump` the present cells with their
+// colours, their edges and the weak entries. `begin` begins a collection: its zones are
 // prepared and its marking begins at once, with no unit between. Mark bits are cleared, gray roots
 // buffered, black roots marked.
 //
@@ -56,11 +57,13 @@ mod collector;
 mod colours;
 mod commands;
 mod counted;
+mod dump;
 mod end_laws;
 mod ends;
 mod gray_roots;
 mod grouping_steps;
 mod laws;
+mod listings;
 mod marking_steps;
 mod present;
 mod quiet_units;

@@ -30,6 +30,7 @@ impl Collector {
     }
 
     // Gives the value of a weak entry its black. False where there is none.
+    #[inline(always)]
     fn adds_black<F: Flight, L: Ledger>(&mut self, flight: &mut F, steps: &mut Steps<L>) -> bool
         requires sound { IsSound self.old (F.bits flight.old) }
         requires running { IsSome self.old.run }
@@ -128,6 +129,7 @@ impl Collector {
     }
 
     // Gray marking of a group. False where it has nothing left to do.
+    #[inline(always)]
     fn marks_group<F: Flight, L: Ledger>(
         &mut self,
         group: ZoneSet,
@@ -151,6 +153,7 @@ impl Collector {
 
     // Gray marking of the current group, whose zones have begun. False where it has nothing left to
     // do, or no group is left.
+    #[inline(always)]
     pub(crate) fn marks_gray<F: Flight, L: Ledger>(
         &mut self,
         flight: &mut F,

@@ -6,7 +6,8 @@ ghost use Rattle.colour_defs.specs.World.{first_world};
 ghost use Rattle.heap_core.specs.Effects.{HasRoom};
 ghost use Rattle.heap_core.specs.Heap.{HeapState};
 ghost use Rattle.slice_driver.specs.Represents.{Represents};
-ghost use Rattle.slice_driver.specs.Sessions.{AreGrayNames, SessionSteps, outcome_of};
+ghost use Rattle.slice_driver.specs.Sessions.{AreDumpLines, AreGrayNames, IsNowhereSettled};
+ghost use Rattle.slice_driver.specs.Sessions.{SessionSteps, outcome_of};
 ghost use Rattle.slice_driver.specs.Units.{BeginsIn, DoesCommand};
 ghost use Rattle.slice_driver.specs.Working.{IsStill};
 ghost use Rattle.sweeping.specs.ArenasOut.{flown_by};
@@ -15,7 +16,7 @@ use crate::advance::Step;
 use crate::begin::BeginFault;
 use crate::collector::Collector;
 use crate::counted::{advance, begin, command};
-use gz_names::{CmdFault, GraphCmd, NameList, NoMemory, Refusal, Reply, Report, ZoneSet};
+use gz_names::{CmdFault, DumpLine, GraphCmd, NameList, NoMemory, Refusal, Reply, Report, ZoneSet};
 use std::alloc::Global;
 use std::marker::{Brand, Model};
 use std::sync::ledger::Blank;
@@ -157,6 +158,21 @@ impl<S: Sweeper> Session<S> {
             return Ok(None);
         }
         Ok(Some(self.collector.gray_names(self.alloc, &mut self.sweeper)?))
+    }
+
+    /// The dump of the heap: its present cells with their colours, by name; its edges, by object and
+    /// field; its weak entries, by map and key; and the end. `None` exactly when a zone is marking.
+    pub fn dump(&mut self) -> Result<Option<Vec<DumpLine>>, NoMemory>
+        ensures lines { IfOk result (λ lines. IfSome lines
+            (λ lines. AreDumpLines self.old.collector (S.bits self.old.sweeper) lines.items)) }
+        ensures marking { IfOk result (λ lines. lines ≡ None
+            → IsNowhereSettled self.old.collector (S.bits self.old.sweeper)) }
+        ensures collector { self.new.collector ≡ self.old.collector }
+    {
+        if !self.collector.settled() {
+            return Ok(None);
+        }
+        Ok(Some(self.collector.dump(self.alloc, &mut self.sweeper)?))
     }
 
     /// Whether a collection runs.

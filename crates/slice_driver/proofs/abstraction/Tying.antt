@@ -17,7 +17,7 @@ use Rattle.colour_defs.specs.Closure.{Closure, HoldsInField, from, along, weak, 
 use Rattle.colour_defs.specs.Closure as names
 use Rattle.colour_defs.specs.Step.{step_of, with_field_in}
 use Rattle.colour_defs.specs.Units.{Tally}
-use Rattle.colour_defs.specs.World.{World, Collection, Names, Has, IsPresent, BlackClosure, LiveClosure, woken_by}
+use Rattle.colour_defs.specs.World.{World, Collection, Names, Has, IsPresent, BlackClosure, LiveClosure}
 use Rattle.colour_defs.specs.Present as present
 use Rattle.colour_defs.specs.Laws.{IsMarking, IsValid}
 use Rattle.colour_defs.proofs.Effects.{Waking, waking_of, Effect, effect_of, keeps, zones, comps, makes, takes, wraps}

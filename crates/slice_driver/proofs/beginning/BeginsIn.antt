@@ -9,7 +9,7 @@ use Rattle.gz_names.specs.Order.{name_cmp, names_total}
 use Rattle.gz_names.specs.declared.names.Name.{Name}
 use Rattle.colour_defs.specs.Graph.{GraphState, IsInZones, is_in_zones}
 use Rattle.colour_defs.specs.World.{World, Collection, Has, IsIdle, Names, IsPresent, first_preparation, first_tally}
-use Rattle.colour_defs.specs.Lawful.{Begins, BeginsAtOnce, Prepares}
+use Rattle.colour_defs.specs.Lawful.{BeginsAtOnce}
 use Rattle.colour_defs.proofs.Lists.{contains_cases, contains_head, contains_tail, first_of_both, nothing_in_none}
 use Rattle.colour_defs.proofs.Lists.{second_of_both, both_of}
 use Rattle.colour_defs.proofs.Names.{eq_name-is, eq_name-refl, names_apart}

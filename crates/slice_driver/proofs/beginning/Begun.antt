@@ -5,7 +5,7 @@ use Rattle.gz_names.specs.Zones.{HasZone, zones_in}
 use Rattle.gz_names.specs.declared.numbers.Place.{Place}
 use Rattle.gz_names.specs.declared.zone_sets.ZoneSet.{ZoneSet}
 use Rattle.cell_bits.specs.declared.bits.Bits.{Bits}
-use Rattle.colour_defs.specs.World.{World, Collection, Has, IsSettled, marking_of}
+use Rattle.colour_defs.specs.World.{World, Collection, IsSettled, marking_of}
 use Rattle.colour_defs.specs.Laws.{IsValid}
 use Rattle.colour_defs.proofs.Lists.{contains_head, nothing_in_none}
 use Rattle.colour_defs.proofs.ZoneSets.{zones_in-has}

@@ -90,7 +90,8 @@ module _ (h : HeapState) (test : ℕ → Bool) where
   up_to_listed (suc n) x c =
       elim (Contains-append_cases (grays_up_to h test n) (if test n then grays_below h n 64 else []) x c) [
         | inl early ↦ (let r = up_to_listed n x early in (r.0, omega (arith, r.1), r.2, r.3, r.4))
-        | inr last ↦ (let t = taken n x last in let r = below_listed h n 64 x t.1 in ((n, r.0), omega arith, t.0, r.2, r.3))
+        | inr last ↦ (let t = taken n x last in let r = below_listed h n 64 x t.1 in
+            ((n, r.0), omega arith, t.0, r.2, r.3))
       ]
 
   pub listed_up_to : (n : ℕ) (p : Place) (x : Name) → p.0 < n → p.1 < 64 → test p.0 ≡ true → IsGray h p
@@ -119,7 +120,7 @@ all_append : (x : Name) (xs ys : List Name) → AllByRecursion (λ y. same_name 
 all_append x [] ys a b = b
 all_append x (z ∷ xs) ys a b = (a.0, all_append x xs ys a.1 b)
 
-distinct_append : (xs ys : List Name) → IsDistinct same_name xs → IsDistinct same_name ys
+pub distinct_append : (xs ys : List Name) → IsDistinct same_name xs → IsDistinct same_name ys
     → ((x : Name) → Contains xs x → Contains ys x → ⊥) → IsDistinct same_name (xs ++ ys)
 unfolding IsDistinct
 distinct_append [] ys a b apart = b
@@ -130,11 +131,11 @@ distinct_append (x ∷ xs) ys a b apart = (
   distinct_append xs ys a.1 b (λ y c. apart y (contains_tail x xs y c)),
 )
 
-distinct_none : IsDistinct same_name []
+pub distinct_none : IsDistinct same_name []
 unfolding IsDistinct
 distinct_none = tt
 
-distinct_one : (x : Name) → IsDistinct same_name (x ∷ [])
+pub distinct_one : (x : Name) → IsDistinct same_name (x ∷ [])
 unfolding IsDistinct
 distinct_one x = (tt, tt)
 

@@ -12,7 +12,7 @@ returns-clause-ok g c =
     let of_slots : Gathers (IsInSlot h.shape zones) [] slots =
     subst (λ new. Gathers (IsInSlot h.shape zones) [] new) (sym c.deref.ensures.value)
     (subst (λ old. Gathers
-    (IsInSlot h.shape zones) old c.gather_slots.new.found.items) c.new-slots.ensures.items
+    (IsInSlot h.shape zones) old c.gather_slots.new.found.items) c.in_ok-slots.ensures.items
     c.in_ok-gather_slots.ensures.gathered) in
     let of_wrappers : Gathers (IsGrayAmong h zones (length h.shape.states)) [] wrappers =
     subst (λ new. Gathers (IsGrayAmong h zones (length h.shape.states)) [] new) (sym c.deref-2.ensures.value)

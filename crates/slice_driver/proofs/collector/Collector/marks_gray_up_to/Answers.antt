@@ -1,4 +1,4 @@
-use Rattle.std.proofs.Common.{◌≡◌, ◌∙◌, List, sym, ap, subst, slice_get}
+use Rattle.std.proofs.Common.{◌∙◌, List, sym, ap, subst, slice_get}
 use Rattle.gz_names.specs.declared.zone_sets.ZoneSet.{ZoneSet}
 use Rattle.heap_core.specs.Shape.{Shape}
 use Rattle.marker.specs.GrayBits.{AreGraying}

@@ -1,4 +1,4 @@
-use Rattle.std.proofs.Common.{◌≡◌, ◌≤◌, ◌-◌, ℕ}
+use Rattle.std.proofs.Common.{◌≡◌, ◌≤◌, ◌-◌}
 use Rattle.slice_driver.specs.Working.{DoesQuietUnits}
 use Rattle.slice_driver.proofs.collector.Collector.quiet_units.Given as goal
 

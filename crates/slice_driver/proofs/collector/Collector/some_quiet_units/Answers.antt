@@ -1,4 +1,4 @@
-use Rattle.std.proofs.Common.{◌≡◌, [], true, false, sym, subst, arith}
+use Rattle.std.proofs.Common.{[], true, false, sym, subst, arith}
 use Rattle.slice_driver.specs.Quiet.{IsFormed}
 use Rattle.slice_driver.specs.Working.{HasBegun}
 use Rattle.slice_driver.proofs.marking.MarkingUnits.{still_goes, still_sound}

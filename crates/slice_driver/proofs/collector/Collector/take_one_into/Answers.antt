@@ -1,12 +1,11 @@
-use Rattle.std.proofs.Common.{◌≡◌, ◌<◌, ℕ, Bool, Option, None, Some, false, List, IsSome, IsSomeAnd, IsPermutation}
-use Rattle.std.proofs.Common.{if◌then◌else◌, sym, ap, subst, ◌∙◌, arith, slice_get}
+use Rattle.std.proofs.Common.{◌≡◌, ◌<◌, ℕ, Bool, Option, None, Some, false, List, IsSome}
+use Rattle.std.proofs.Common.{if◌then◌else◌, sym, ap, subst, ◌∙◌, arith}
 use Rattle.std.proofs.lemmas.Nat.{or_lt}
 use Rattle.gz_names.specs.declared.names.Name.{Name}
 use Rattle.gz_names.specs.declared.replies.Report.{Report}
 use Rattle.gz_names.specs.declared.replies.Report.TheVariants as report
 use Rattle.cell_bits.specs.declared.bits.Bits.{Bits as ABits}
-use Rattle.arena_table.specs.Slots.{at_bits, names_of}
-use Rattle.heap_core.specs.Shape.{ArenaShape, out_of}
+use Rattle.heap_core.specs.Shape.{out_of}
 use Rattle.heap_core.specs.Heap.{HeapState}
 use Rattle.heap_core.specs.Sweeping.{with_taken}
 use Rattle.slice_driver.specs.Advancing.{EndsSweeping}
