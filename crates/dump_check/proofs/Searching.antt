@@ -36,7 +36,7 @@ use Rattle.std.proofs.Common.{
 use Rattle.std.specs.Prelude.{map, ◌&&◌, slice_get}
 use Rattle.std.specs.List.{AllByRecursion}
 use Rattle.std.specs.List.Sorted.{IsBinarySearchResult, IsNonDecreasingBy}
-use Rattle.std.specs.Ordering.{is_lt, nat_cmp, ordering_then, ordering_reverse, ordering_index}
+use Rattle.std.specs.Ordering.{is_eq, is_lt, nat_cmp, ordering_then, ordering_reverse, ordering_index}
 use Rattle.std.specs.declared.cmp.Ordering.{Ordering}
 use Rattle.std.specs.declared.cmp.Ordering.TheVariants.{Less, Equal, Greater}
 use Rattle.std.proofs.lemmas.Bool.{cases_lt}
@@ -89,6 +89,11 @@ same_equal x y e = ap (λ z. name_cmp x z) (sym (same_is x y e)) ∙ tied_itself
 unequal_other : (x y : Name) (b : Bool) → same_name x y ≡ b → (name_cmp x y ≡ Equal → ⊥) → same_name x y ≡ false
 unequal_other x y true e h = absurd (h (same_equal x y e))
 unequal_other x y false e h = e
+
+pub equal_of : (o : Ordering) → is_eq o ≡ true → o ≡ Equal
+equal_of Less e = absurd (cc e)
+equal_of Equal e = refl
+equal_of Greater e = absurd (cc e)
 
 less_unequal : (o : Ordering) → o ≡ Less → o ≡ Equal → ⊥
 less_unequal o l e = cc (l, e)

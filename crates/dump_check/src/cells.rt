@@ -1,5 +1,5 @@
 // The cells of a dump, ascending.
-ghost use Rattle.std.specs.Prelude.{◌≡◌, ◌++◌, ◌∷◌, [], IsTrue, length, OnErr, OnOk};
+ghost use Rattle.std.specs.Prelude.{◌≡◌, ◌++◌, ◌∷◌, [], IfSome, IsTrue, Some, length, OnErr, OnOk};
 ghost use Rattle.gz_names.specs.DumpTexts.{FitsName};
 ghost use Rattle.gz_names.specs.Dumps.{colour_among, is_after};
 ghost use Rattle.dump_check.specs.Seen.{entry_of};
@@ -106,10 +106,30 @@ impl Cells {
         Ok(())
     }
 
+    // The colour of the cell that stands at the number of an object or a map, if that is its own, as it
+    // is where no number is left out.
+    #[inline(always)]
+    fn colour_at_number(&self, name: Name) -> Option<DumpColour>
+        ensures { IfSome result (λ colour. colour_among self.now name ≡ Some colour) }
+    {
+        let Name::Cell(number) = name else {
+            return None;
+        };
+        let cell = self.seen.get(number as usize)?;
+        if name_order(cell.name(), name).is_eq() {
+            Some(cell.colour)
+        } else {
+            None
+        }
+    }
+
     /// The colour of a name, if it is that of a cell.
     pub fn colour(&self, name: Name) -> Option<DumpColour>
         ensures { result ≡ colour_among self.now name }
     {
+        if let Some(colour) = self.colour_at_number(name) {
+            return Some(colour);
+        }
         let found = self.seen.binary_search_by(
             |cell|
                 ensures { result ≡ name_cmp (name_of cell.now) name }

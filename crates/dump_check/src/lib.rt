@@ -22,7 +22,8 @@
 // entries come after all cells, so each is judged as it comes.
 //
 //     lines      a line's text is parsed; the grammar is one table, `dump_text` of gz_names
-//     cells      the cells so far with their colours, in ascending order, found by halving
+//     cells      the cells so far with their colours, in ascending order, found by their number where none is left
+//                out, or else by halving
 //     checker    the parts in their order, the counts, the verdict
 #![tactic(auto)]
 
