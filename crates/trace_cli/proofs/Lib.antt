@@ -4,6 +4,8 @@ pub mod Written
 pub mod Units
 pub mod Spelled
 pub mod Answered
+pub mod Dumped
+pub mod DumpRead
 pub mod Lined
 pub mod Stands
 pub mod Complete

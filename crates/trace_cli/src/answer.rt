@@ -14,6 +14,7 @@ ghost use Rattle.trace_cli.specs.Answering.{AnswersCommand, CountsFaults};
 ghost use Rattle.trace_cli.specs.Standing.{EachWorld, HasRoomForOne, MakesAtMostOne, StandsWith};
 
 use crate::collect::collect;
+use crate::dump::answer_dump;
 use crate::slices::{finish, gc, slice};
 use gz_io::Sink;
 use gz_names::{Cmd, CmdFault, GraphCmd, Refusal, Reply};
@@ -120,11 +121,12 @@ fn answer_parsed<K: Sink, L: Ledger>(
         Cmd::Graph(command) => answer_command(collector, handed, command, sink, steps),
         Cmd::Collect(zones) => collect(alloc, collector, handed, *zones, sink, steps),
         Cmd::Colours => answer_colours(alloc, collector, handed, sink),
+        Cmd::Dump => answer_dump(alloc, collector, handed, sink),
         Cmd::Gc(zones) => gc(alloc, collector, handed, *zones, sink, steps),
         Cmd::Slice(budget) => slice(alloc, collector, handed, *budget, sink, steps),
         Cmd::Finish => finish(alloc, collector, handed, sink, steps),
         // No line of the language stands for these.
-        Cmd::Weak(_) | Cmd::Reset | Cmd::Dump | Cmd::Compact(_) => Err(AnswerFault::Bad),
+        Cmd::Weak(_) | Cmd::Reset | Cmd::Compact(_) => Err(AnswerFault::Bad),
     }
 }
 

@@ -6,6 +6,7 @@
 //     reading    reads the lines, and ends with the exit that the lines and the counts of faults say
 //     answer     what one line is answered: parsed, done, its reply written
 //     collect    a step of a collection, with what it reports written; a collection in one command
+//     dump       the dump of the heap, when no zone is marking
 //     slices     a collection in slices: `gc` begins it, `slice` does some of its units, `finish` the rest
 //     dumps      under `check`, a dump of colours is read instead, and its verdict written (`dump_cli`)
 //
@@ -35,6 +36,7 @@
 
 mod answer;
 mod collect;
+mod dump;
 mod dumps;
 mod exit;
 mod reading;

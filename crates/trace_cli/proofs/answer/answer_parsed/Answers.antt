@@ -21,6 +21,12 @@ returns-in-Colours-clause-answer g c = subst (λ (d : Cmd). AnswersCommand d c.a
     (g.K.Sink.written c.answer_colours.new.sink) c.answer_colours.result)
     (sym c.in-Colours.is) c.answer_colours.ensures.answer
 
+pub returns-in-Dump-clause-answer : goal.returns-in-Dump-clause-answer
+returns-in-Dump-clause-answer g c = subst (λ (d : Cmd). AnswersCommand d c.args.collector.now c.args.handed.now
+    c.args.collector.now c.answer_dump.new.handed (g.K.Sink.written c.args.sink.now)
+    (g.K.Sink.written c.answer_dump.new.sink) c.answer_dump.result)
+    (sym c.in-Dump.is) c.answer_dump.ensures.answer
+
 pub returns-in-Gc-clause-answer : goal.returns-in-Gc-clause-answer
 returns-in-Gc-clause-answer g c = subst (λ (d : Cmd). AnswersCommand d c.args.collector.now c.args.handed.now
     c.gc.new.collector c.args.handed.now (g.K.Sink.written c.args.sink.now) (g.K.Sink.written c.gc.new.sink)

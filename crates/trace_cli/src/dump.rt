@@ -1,0 +1,57 @@
+// The dump of the heap is written. A check of it finds no fault.
+ghost use Rattle.std.specs.Prelude.{List, length};
+ghost use Rattle.std.specs.List.{AllByRecursion};
+ghost use Rattle.gz_names.specs.declared.commands.Cmd.TheVariants as ACmd;
+ghost use Rattle.gz_names.specs.declared.dumps.DumpLine.{DumpLine as ALine};
+ghost use Rattle.gz_names.specs.declared.replies.Reply.TheVariants as AReply;
+ghost use Rattle.gz_names.specs.DumpTexts.{FitsLine};
+ghost use Rattle.gz_names.specs.Dumps.{cells_of, edge_count, weak_count};
+ghost use Rattle.colour_defs.specs.Dumps.{IsDump};
+ghost use Rattle.colour_defs.specs.Laws.{IsValid};
+ghost use Rattle.colour_defs.specs.World.{World, IsSettled};
+ghost use Rattle.dump_check.specs.declared.checker.Verdict.TheVariants as AVerdict;
+ghost use Rattle.dump_cli.specs.Verdicts.{IsVerdictOn};
+ghost use Rattle.trace_lang.specs.Texts.{line_of, reply_text};
+ghost use Rattle.trace_cli.specs.Answering.{AnswersCommand, CountsFaults};
+ghost use Rattle.trace_cli.specs.Standing.{StandsWith};
+
+use crate::answer::{AnswerFault, write_last};
+use colour_defs::dump_law;
+use gz_io::Sink;
+use gz_names::{DumpLines, Refusal, Reply};
+use slice_driver::Collector;
+use std::alloc::Global;
+use sweeping::MainSweeper;
+
+/// Writes the dump of the heap, where no zone is marking.
+#[inline(never)]
+pub fn answer_dump<K: Sink>(
+    alloc: Global,
+    collector: &Collector,
+    handed: &mut MainSweeper,
+    sink: &mut K,
+) -> Result<(), AnswerFault>
+    requires { StandsWith collector.now handed.old }
+    ensures answer { AnswersCommand ACmd.Dump collector.now handed.old collector.now handed.new
+        (K.written sink.old) (K.written sink.new) result }
+    ensures flight { StandsWith collector.now handed.new }
+    ensures faults { CountsFaults (K.faults sink.old) (K.faults sink.new) result }
+{
+    if !collector.settled() {
+        return write_last(sink, &Reply::Refused(Refusal::Marking));
+    }
+    let Ok(lines) = collector.dump(alloc, handed) else {
+        return Err(AnswerFault::Memory);
+    };
+    write_last(sink, &Reply::Dump(DumpLines::from_vec(lines)))
+}
+
+/// The text of the dump of a valid world in which no zone is marking is judged sound, with its numbers of cells, edges
+/// and weak entries, where its names are in the range of the lines of a dump.
+pub fn dump_text_law()
+    ensures { (w : World) (lines : List ALine) → IsValid w → IsSettled w → IsDump w lines
+        → AllByRecursion FitsLine lines → IsVerdictOn (line_of (reply_text (AReply.Dump lines)))
+        (AVerdict.Sound (length (cells_of lines)) (edge_count lines) (weak_count lines)) }
+{
+    dump_law();
+}
