@@ -1,6 +1,6 @@
 ghost use Rattle.colour_defs.specs.Step.{HasFewFields};
 
-use gz_names::{CompNo, GraphCmd, GrayNo, Name, Reg, Reply, ZoneNo, ZoneSet};
+use gz_names::{CompNo, DumpColour, DumpLine, GraphCmd, GrayNo, Name, Reg, Reply, ZoneNo, ZoneSet};
 use slice_driver::Session;
 use std::alloc::Global;
 use std::test::Fail;
@@ -69,6 +69,14 @@ fn add_wrapper_and_entry(session: &mut Session<MainSweeper>) -> Option<()> {
 // How many names are gray.
 fn count_grays(session: &mut Session<MainSweeper>) -> Option<usize> {
     Some(session.gray_names().ok()??.as_slice().len())
+}
+
+// The dump of a pair, a wrapper and an entry.
+fn dump_pair_and_entry(alloc: Global) -> Option<Vec<DumpLine>> {
+    let mut session = one_zone(alloc)?;
+    hold_pair(&mut session)?;
+    add_wrapper_and_entry(&mut session)?;
+    session.dump().ok()?
 }
 
 // An object names another one, which a gray slot holds: the names that `get` and `expose` answer.
@@ -170,5 +178,24 @@ fn commands_between_units_answer_as_ever(rt: HostRuntime) -> Result<(), Fail> {
         Some(Some(Name::Cell(1)))
     );
     assert!(rt; session.running());
+    Ok(())
+}
+
+#[test]
+fn a_dump_tells_cells_edges_and_entries_in_order(rt: HostRuntime) -> Result<(), Fail> {
+    let lines = dump_pair_and_entry(rt.alloc()).ok_or("a dump")?;
+    let black = |name| DumpLine::Cell(name, DumpColour::Black);
+    let wanted = [
+        black(Name::Cell(0)),
+        black(Name::Cell(1)),
+        black(Name::Cell(2)),
+        black(Name::Cell(3)),
+        black(Name::Cell(4)),
+        black(Name::Wrap(CompNo(0), 2)),
+        DumpLine::Edge(0, Name::Cell(1)),
+        DumpLine::Weak(3, Name::Cell(0), Name::Cell(4)),
+        DumpLine::End,
+    ];
+    assert_eq!(rt; lines.as_slice(), wanted.as_slice());
     Ok(())
 }
