@@ -13,3 +13,4 @@ pub mod Pigeons
 pub mod TestCells
 pub mod HeapCells
 pub mod Closing
+pub mod TestHeaps

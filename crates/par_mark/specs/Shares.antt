@@ -4,8 +4,7 @@ use Rattle.mark_words.specs.Sums.{weigh}
 use Rattle.par_mark.specs.Edges.{out}
 
 -- one caller's share of marking: the tries that it began with and those that it left, what it gave to the queue and
--- took
--- from it, and the places that it tried, the cells that it won, and what it found outside the marking zones
+-- took from it, and the places that it tried, the cells that it won, and what it found outside the marking zones
 pub record Share : Type 0 where
   pub firsts : List (ℕ × ℕ)
   pub left : List (ℕ × ℕ)

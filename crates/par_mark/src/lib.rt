@@ -70,6 +70,8 @@ mod first_tries;
 mod gather;
 mod graph;
 mod heap;
+#[cfg(test)]
+mod heap_tests;
 mod lists;
 mod marker;
 mod over_heap;

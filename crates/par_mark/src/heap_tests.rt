@@ -1,0 +1,212 @@
+// Marking a heap of two zones.
+ghost use Rattle.std.specs.Prelude.{◌≡◌, ◌<◌, false};
+ghost use Rattle.colour_defs.specs.Step.{HasFewFields};
+
+use crate::{Marked, mark_heap};
+use gz_io::FreeGate;
+use gz_names::{CompNo, GraphCmd, NoMemory, Place, Reg, ZoneNo};
+use heap_core::Heap;
+use std::alloc::Global;
+use std::marker::Model;
+use std::sync::Wait;
+use std::test::Fail;
+use std::thread::Threads;
+
+// How many objects hang below the root. The last of each eight is the parent of the next eight.
+const OBJECTS: u32 = 800;
+
+// A heap that commands alone have changed.
+#[derive(Drop)]
+struct TestHeap {
+    heap: Heap,
+}
+
+impl Model for TestHeap {
+    ghost use Rattle.heap_core.specs.Heap.{HeapState};
+    ghost use Rattle.par_mark.specs.TestHeaps.{IsMarkable};
+
+    ghost Value = { HeapState };
+
+    ghost view = { λ h. h.heap };
+
+    ghost invariant = { λ h. IsMarkable h.heap };
+}
+
+// What the registers of the test hold.
+#[derive(Drop)]
+struct Registers {
+    root: Reg,
+    parent: Reg,
+    child: Reg,
+    far: Reg,
+    wrapper: Reg,
+}
+
+impl Registers {
+    fn first() -> Option<Self> {
+        Some(Registers {
+            root: Reg::new(0)?,
+            parent: Reg::new(1)?,
+            child: Reg::new(2)?,
+            far: Reg::new(3)?,
+            wrapper: Reg::new(4)?,
+        })
+    }
+}
+
+// What marking leaves: how many cells are black, how many it turned black, how many targets lie outside,
+// and the first of these.
+#[derive(Clone, Copy, Debug, PartialEq, Eq)]
+struct Found {
+    black: u32,
+    won: usize,
+    outside: usize,
+    first: Option<Place>,
+}
+
+fn count_found(words: &[u64], marked: &Marked) -> Found {
+    let mut black = 0u32;
+    for word in words {
+        black = black.wrapping_add(word.count_ones());
+    }
+    Found {
+        black,
+        won: marked.won.len(),
+        outside: marked.outside.len(),
+        first: marked.outside.first().copied(),
+    }
+}
+
+// Whether no more cells can be made.
+fn is_full(heap: &Heap) -> bool
+    ensures { result ≡ false → heap.now.made < 4294967295 }
+{
+    heap.made() >= 4_294_967_295
+}
+
+impl TestHeap {
+    fn new(alloc: Global) -> Result<Self, NoMemory> {
+        let heap = Heap::new(alloc)?;
+        Ok(TestHeap { heap })
+    }
+
+    // Does a command, which is not to be refused.
+    fn step(&mut self, cmd: &GraphCmd) -> Result<(), Fail>
+        requires { HasFewFields cmd.now }
+    {
+        if is_full(&self.heap) {
+            return Err(Fail::new("the heap is full"));
+        }
+        match self.heap.do_command(cmd) {
+            Ok(_) => Ok(()),
+            Err(fault) => Err(Fail::from(fault)),
+        }
+    }
+
+    // Makes a zone and a compartment of it.
+    fn add_zone(&mut self, zone: u8) -> Result<(), Fail> {
+        let zone = ZoneNo::new(zone).ok_or("zone")?;
+        self.step(&GraphCmd::Zone)?;
+        self.step(&GraphCmd::Comp(zone))
+    }
+
+    // Makes an object that the parent's next field names. Every second object names the root too.
+    fn add_child(&mut self, regs: &Registers, count: u32) -> Result<(), Fail> {
+        let field = (count % 8) as u8;
+        self.step(&GraphCmd::New(regs.child, CompNo(0), 8))?;
+        self.step(&GraphCmd::Set(regs.parent, field, Some(regs.child)))?;
+        match field {
+            7 => self.step(&GraphCmd::Copy(regs.parent, regs.child)),
+            0 | 2 | 4 | 6 => self.step(&GraphCmd::Set(regs.child, 7, Some(regs.root))),
+            _ => Ok(()),
+        }
+    }
+
+    // Makes the root and what hangs below it.
+    fn add_tree(&mut self, regs: &Registers) -> Result<(), Fail> {
+        self.step(&GraphCmd::New(regs.root, CompNo(0), 8))?;
+        self.step(&GraphCmd::Copy(regs.parent, regs.root))?;
+        for count in 0..OBJECTS {
+            self.add_child(regs, count)?;
+        }
+        Ok(())
+    }
+
+    // The last object names the wrapper of an object of the other zone. One more object is named by none.
+    fn add_far(&mut self, regs: &Registers) -> Result<(), Fail> {
+        self.step(&GraphCmd::New(regs.far, CompNo(1), 0))?;
+        self.step(&GraphCmd::Wrap(regs.wrapper, regs.far, CompNo(0)))?;
+        self.step(&GraphCmd::Set(regs.child, 0, Some(regs.wrapper)))?;
+        self.step(&GraphCmd::New(regs.child, CompNo(0), 0))
+    }
+
+    // Two zones, with the tree in the first.
+    fn build(alloc: Global, regs: &Registers) -> Result<Self, Fail> {
+        let mut heap = TestHeap::new(alloc)?;
+        heap.add_zone(0)?;
+        heap.add_zone(1)?;
+        heap.add_tree(regs)?;
+        heap.add_far(regs)?;
+        Ok(heap)
+    }
+
+    fn reg(&self, reg: Reg) -> Option<Place> {
+        self.heap.reg(reg)
+    }
+
+    // Takes the first zone on to its marking, and marks from what a register holds, which is black.
+    fn mark<R: Threads + Wait + Sync>(
+        self,
+        rt: &R,
+        alloc: Global,
+        reg: Reg,
+    ) -> Result<(Vec<u64>, Marked), Fail> {
+        let zone = ZoneNo::new(0).ok_or("zone")?;
+        let Some(root) = self.heap.reg(reg) else {
+            return Err(Fail::new("the register is empty"));
+        };
+        if self.heap.zones() == 0 {
+            return Err(Fail::new("there is no zone"));
+        }
+        let mut heap = self.heap;
+        heap.advance(zone);
+        if heap.comps() == 0 {
+            return Err(Fail::new("there is no compartment"));
+        }
+        let mut words = Vec::from_elem(alloc, 0u64, heap.arenas() as usize)?;
+        if let Some(word) = words.get_mut(root.arena() as usize) {
+            *word |= 1 << root.slot();
+        }
+        Ok(mark_heap(rt, alloc, &heap, &[root], words, &FreeGate)?)
+    }
+
+    fn find<R: Threads + Wait + Sync>(
+        self,
+        rt: &R,
+        alloc: Global,
+        reg: Reg,
+    ) -> Result<Found, Fail> {
+        let (words, marked) = self.mark(rt, alloc, reg)?;
+        Ok(count_found(&words, &marked))
+    }
+}
+
+#[test]
+fn a_heap_is_marked_as_far_as_its_zone_goes(rt: HostRuntime) -> Result<(), Fail> {
+    let regs = Registers::first().ok_or("registers")?;
+    let heap = TestHeap::build(rt.alloc(), &regs)?;
+    let far = heap.reg(regs.far);
+    let found = heap.find(&rt, rt.alloc(), regs.root)?;
+    let wanted = Found {
+        black: OBJECTS + 2,
+        won: OBJECTS as usize + 1,
+        outside: 1,
+        first: far,
+    };
+    assert_eq!(rt;
+        found,
+        wanted,
+        "the root, what hangs below it, and the wrapper"
+    );
+    Ok(())
+}
