@@ -512,7 +512,9 @@ impl Heap {
 
     /// How many weak entries there are.
     pub fn entries(&self) -> u64
-        ensures { result ≡ length self.now.shape.weak.entries }
+        ensures count { result ≡ length self.now.shape.weak.entries }
+        ensures few { result ≤ 4294967295 }
+        ensures parallel { AreParallel (weak_of self.now) }
     {
         self.weak.count()
     }
