@@ -10,8 +10,9 @@ use Rattle.mark_stack.specs.Stack.{Piles, pushed}
 use Rattle.mark_stack.specs.declared.stack.Pile.TheVariants as pile
 use Rattle.heap_core.specs.Heap.{HeapState, colour_of}
 use Rattle.heap_core.proofs.MakingCells.{same-place}
-use Rattle.barriers.specs.Scans.{ScansNoMore, black_scans, black_turns, gray_scans, gray_turns}
-use Rattle.barriers.specs.Spreading.{Blackened, Turns}
+use Rattle.barriers.specs.Colours.{IsBlack}
+use Rattle.barriers.specs.Scans.{AreScannedOnce, ScansNoMore, black_scans, black_turns, gray_scans, gray_turns}
+use Rattle.barriers.specs.Spreading.{Turns}
 use Rattle.barriers.proofs.Places.{same_or_other}
 
 -- a place that is put on a pile is on it once more, and each other as often as before
@@ -55,37 +56,72 @@ no_more_twice h p k q l r a b = record {
   gray = λ x. omega (arith, a.gray x, b.gray x);
 }
 
+-- so each cell may still be scanned once at most
+pub once_kept : (h : HeapState) (p : Piles) (k : HeapState) (q : Piles) → ScansNoMore h p k q → AreScannedOnce h p
+    → AreScannedOnce k q
+once_kept h p k q none once = record {
+  black = λ x. omega (arith, none.black x, once.black x);
+  gray = λ x. omega (arith, none.gray x, once.gray x);
+}
+
+pub once_alike : (h k : HeapState) (p : Piles) → ((x : Place) → colour_of k x ≡ colour_of h x) → AreScannedOnce h p
+    → AreScannedOnce k p
+once_alike h k p same once = record {
+  black = λ x. (let alike = ap black_turns (same x) in omega (arith, alike, once.black x));
+  gray = λ x. (let alike = ap gray_turns (same x) in omega (arith, alike, once.gray x));
+}
+
+black_few : (c : Colour) → black_turns c ≤ 1
+black_few colour.White = omega arith
+black_few colour.Gray = omega arith
+black_few colour.Black = omega arith
+
+gray_few : (c : Colour) → gray_turns c ≤ 1
+gray_few colour.White = omega arith
+gray_few colour.Gray = omega arith
+gray_few colour.Black = omega arith
+
+-- so it is where no cell is on a pile of marking
+pub once_empty : (h : HeapState) (p : Piles) → p.black ≡ [] → p.gray ≡ [] → AreScannedOnce h p
+once_empty h p black gray = record {
+  black = λ x. (let none : count_by (is_place x) p.black ≡ 0 =
+      ap (λ (ps : List Place). count_by (is_place x) ps) black in omega (arith, none, black_few (colour_of h x)));
+  gray = λ x. (let none : count_by (is_place x) p.gray ≡ 0 =
+      ap (λ (ps : List Place). count_by (is_place x) ps) gray in omega (arith, none, gray_few (colour_of h x)));
+}
+
 turns_unless_black : (c : Colour) → (c ≡ colour.Black → ⊥) → black_turns c ≡ 1
 turns_unless_black colour.White n = refl
 turns_unless_black colour.Gray n = refl
 turns_unless_black colour.Black n = absurd (n refl)
 
 -- a cell turned black: it turns in neither colour any more, and each other cell as often as before
-module _ (h : HeapState) (x : Place) (k : HeapState) (b : Blackened h x k) where
+module _ (h : HeapState) (x : Place) (k : HeapState) (was : IsBlack h x → ⊥) (black : IsBlack k x)
+    (others : (y : Place) → y ≢ x → colour_of k y ≡ colour_of h y) where
   gray_less : (y : Place) → gray_turns (colour_of k y) ≤ gray_turns (colour_of h y)
   gray_less y = elim (same_or_other y x) [
     | inl same ↦ subst (λ z. gray_turns (colour_of k z) ≤ gray_turns (colour_of h z)) (sym same)
-        (let none : gray_turns (colour_of k x) ≡ 0 = ap gray_turns b.black in omega (arith, none))
-    | inr other ↦ (let alike = ap gray_turns (b.others y other) in omega (arith, alike))
+        (let none : gray_turns (colour_of k x) ≡ 0 = ap gray_turns black in omega (arith, none))
+    | inr other ↦ (let alike = ap gray_turns (others y other) in omega (arith, alike))
   ]
 
   black_less : (y : Place) → black_turns (colour_of k y) ≤ black_turns (colour_of h y)
   black_less y = elim (same_or_other y x) [
     | inl same ↦ subst (λ z. black_turns (colour_of k z) ≤ black_turns (colour_of h z)) (sym same)
-        (let none : black_turns (colour_of k x) ≡ 0 = ap black_turns b.black in omega (arith, none))
-    | inr other ↦ (let alike = ap black_turns (b.others y other) in omega (arith, alike))
+        (let none : black_turns (colour_of k x) ≡ 0 = ap black_turns black in omega (arith, none))
+    | inr other ↦ (let alike = ap black_turns (others y other) in omega (arith, alike))
   ]
 
-  pushed_black : (p : Piles) → ScansNoMore h p k (pushed p pile.Black x)
+  pub pushed_black : (p : Piles) → ScansNoMore h p k (pushed p pile.Black x)
   pushed_black p = record { black = less; gray = λ y. omega (arith, gray_less y) }
     where
       less : (y : Place) → black_scans k (pushed p pile.Black x) y ≤ black_scans h p y
       less y = elim (same_or_other y x) [
         | inl same ↦ subst (λ z. black_scans k (pushed p pile.Black x) z ≤ black_scans h p z) (sym same)
-            (let none : black_turns (colour_of k x) ≡ 0 = ap black_turns b.black in
-            let one = turns_unless_black (colour_of h x) b.was in
+            (let none : black_turns (colour_of k x) ≡ 0 = ap black_turns black in
+            let one = turns_unless_black (colour_of h x) was in
             omega (arith, none, one, on_once_more p.black x))
-        | inr other ↦ (let alike = ap black_turns (b.others y other) in
+        | inr other ↦ (let alike = ap black_turns (others y other) in
             omega (arith, alike, on_as_before p.black x y other))
       ]
 
@@ -97,9 +133,9 @@ pub turns_no_more : (h : HeapState) (p : Piles) (x : Place) (k : HeapState) (q :
     → ScansNoMore h p k q
 turns_no_more h p x k q (inl was) = no_more_same h p k q was.1 was.2
 turns_no_more h p x k q (inr (inl t)) =
-    subst (λ (z : Piles). ScansNoMore h p k z) (sym t.2) (pushed_black h x k t.0 p)
+    subst (λ (z : Piles). ScansNoMore h p k z) (sym t.2) (pushed_black h x k t.0.was t.0.black t.0.others p)
 turns_no_more h p x k q (inr (inr t)) =
-    subst (λ (z : Piles). ScansNoMore h p k z) (sym t.2) (pushed_wake h x k t.0 p)
+    subst (λ (z : Piles). ScansNoMore h p k z) (sym t.2) (pushed_wake h x k t.0.was t.0.black t.0.others p)
 
 -- a cell that is taken from the wake pile may be scanned as often as before
 pub pops_wake : (h : HeapState) (p : Piles) (x : Place) → ScansNoMore h (pushed p pile.Wake x) h p

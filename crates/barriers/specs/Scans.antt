@@ -27,6 +27,11 @@ black_scans h p x = black_turns (colour_of h x) + count_by (is_place x) p.black
 abbrev pub gray_scans : HeapState → Piles → Place → ℕ
 gray_scans h p x = gray_turns (colour_of h x) + count_by (is_place x) p.gray
 
+-- each cell may be scanned once at most in either colour
+pub record AreScannedOnce (h : HeapState) (p : Piles) : Type 0 where
+  pub black : (x : Place) → black_scans h p x ≤ 1
+  pub gray : (x : Place) → gray_scans h p x ≤ 1
+
 -- no cell may be scanned more often than before, in either colour
 pub record ScansNoMore (h : HeapState) (p : Piles) (k : HeapState) (q : Piles) : Type 0 where
   pub black : (x : Place) → black_scans k q x ≤ black_scans h p x
