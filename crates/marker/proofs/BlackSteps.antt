@@ -1,24 +1,36 @@
 -- One cell of the black pile was followed.
-use Rattle.std.proofs.Common.{◌≡◌, ◌↔◌, ◌<◌, true, inl, inr, sym, ap, ◌∙◌, subst, arith, ◌∷◌, []}
+use Rattle.std.proofs.Common.{◌≡◌, ◌↔◌, ◌<◌, ◌≤◌, true, inl, inr, refl, sym, ap, ◌∙◌, subst, arith, List, ◌∷◌, []}
+use Rattle.std.proofs.Common.{ℕ, Option, length, length-append, sum_by}
 use Rattle.gz_names.specs.declared.numbers.Place.{Place}
 use Rattle.mark_stack.specs.Stack.{Piles, pushed}
 use Rattle.mark_stack.specs.declared.stack.Pile.TheVariants as pile
+use Rattle.gray_lists.specs.Incoming.{Incoming}
+use Rattle.weak_maps.specs.WeakMaps.{AreParallel, LooksState, Starts, WeakMapsState}
+use Rattle.weak_maps.specs.declared.colours.MarkColour.TheVariants as mark
 use Rattle.heap_core.specs.Shape.{Shape, HasEdge, is_marking}
-use Rattle.heap_core.specs.Heap.{HeapState}
+use Rattle.cell_bits.specs.declared.bits.Bits.{Bits}
+use Rattle.heap_core.specs.Heap.{HeapState, joined, weak_of}
 use Rattle.barriers.specs.Reached.{Reached}
 use Rattle.barriers.specs.Reached as reached
-use Rattle.barriers.specs.Colours.{IsBlack}
+use Rattle.barriers.specs.Colours.{IsBlack, left, whites}
 use Rattle.barriers.specs.PendingBlack.{PendingBlack}
 use Rattle.barriers.specs.Invariant.{InvariantWhile, MarkingInvariant}
 use Rattle.barriers.specs.Spreading.{Blackens, Grows, Spreads}
 use Rattle.barriers.specs.Exposing.{KeepsLive}
-use Rattle.barriers.specs.Scans.{ScansNoMore, black_scans}
+use Rattle.barriers.specs.Scans.{AreScannedOnce, ScansNoMore, black_scans}
 use Rattle.barriers.proofs.Spreading.{shape_is, spreads_more, spreads_within}
-use Rattle.barriers.proofs.Following.{followed, taken_black}
+use Rattle.barriers.specs.WeakPoint.{WeakPoint, left_of}
+use Rattle.barriers.proofs.Following.{Taken, followed, taken_black}
+use Rattle.barriers.proofs.StayingLeft.{left_weaker, starts_entries}
+use Rattle.barriers.proofs.WeakPoint.{StartsEntries, black_starts, spread_point}
 use Rattle.barriers.proofs.BlackClosure.{pending_same, reached_from}
 use Rattle.barriers.proofs.LiveClosure.{gray_kept, live_same}
-use Rattle.barriers.proofs.Scans.{no_more_twice, pops_black, pops_black_once}
-use Rattle.marker.specs.Units.{ScansBlack}
+use Rattle.barriers.proofs.Scans.{no_more_twice, once_kept, pops_black, pops_black_once}
+use Rattle.marker.specs.Looks.{StartsBoth, looks_left, with_looks}
+use Rattle.marker.specs.Units.{ScansBlack, work_left}
+use Rattle.marker.proofs.Looking.{gray_on, live_on, marking_on, more_left, one_fewer, pending_on, point_on}
+use Rattle.marker.proofs.Looking.{scan_no_more}
+use Rattle.marker.proofs.Looking.{starts_on}
 
 -- before what was woken is followed: the cell's zone is marking, so its entries are not looked at
 pub scanned : (h : HeapState) (p q : Piles) (x : Place) (k : HeapState) (r : Piles) → InvariantWhile [] h p
@@ -63,19 +75,177 @@ follows h p q x k r l t inv e scan sp new =
     (λ y z. z) (λ y z. z) in
     keeps_pending h p l t inv new (spreads.gray_is ∙ sym (ap (λ (z : Piles). z.gray) e)) spreads.blackens
 
--- the cell that was taken from the black pile was scanned
-pub scans_black : (h : HeapState) (p q : Piles) (x : Place) (k : HeapState) (r : Piles) (l : HeapState) (t : Piles)
-    → MarkingInvariant h p → p ≡ pushed q pile.Black x → Grows (HasEdge h.shape x) h q k r
-    → Spreads (Reached k.shape (IsBlack k)) k r l t → ScansBlack h p l t
-scans_black h p q x k r l t inv e scan sp =
-    let was = taken_black h p q x inv.holds e in
-    let after : ScansNoMore h q l t = no_more_twice h q k r l t scan.spreads.scans sp.scans in
-    record {
-      cell = x;
-      black = was.black;
-      zone = was.zone;
-      fewer = subst (λ (z : Piles). black_scans l t x < black_scans h z x) (sym e)
-          (omega (arith, pops_black_once h q x, after.black x));
-      no_more = subst (λ (z : Piles). ScansNoMore h z l t) (sym e)
-          (no_more_twice h (pushed q pile.Black x) h q l t (pops_black h q x) after);
-    }
+-- the cell that was taken from the black pile was started, and then scanned
+module _ (h : HeapState) (p q : Piles) (x : Place) (looks : LooksState) (inv : MarkingInvariant h p)
+    (popped : p ≡ pushed q pile.Black x) (starts : StartsBoth mark.Black x h (with_looks h looks)) where
+  abbrev m : HeapState
+  m = with_looks h looks
+
+  entries : StartsEntries h.shape mark.Black x (left_of h) (left_of m)
+  entries = starts_entries h mark.Black x m refl starts.map starts.key
+
+  marks : MarkingInvariant m p
+  marks = marking_on h looks p inv (more_left h p (left_of h) (left_of m) entries.kept inv.weak)
+
+  point : WeakPoint m q (left_of m)
+  point = point_on h looks q (left_of m) (black_starts h q x (left_of h) (left_of m)
+      (subst (λ (z : Piles). WeakPoint h z (left_of h)) popped inv.weak) entries (left_weaker (weak_of m)))
+
+  point_scanned : (k : HeapState) (r : Piles) → Grows (HasEdge m.shape x) m q k r → WeakPoint k r (left_of k)
+  point_scanned k r scan =
+      spread_point (HasEdge m.shape x) m q k r scan.spreads inv.holds.colours.shape point
+
+  once_scanned : (k : HeapState) (r : Piles) → Grows (HasEdge m.shape x) m q k r → AreScannedOnce k r
+  once_scanned k r scan =
+      once_kept m q k r scan.spreads.scans
+      (once_kept m (pushed q pile.Black x) m q (pops_black m q x)
+      (subst (λ (z : Piles). AreScannedOnce m z) popped marks.once))
+
+  taken_started : Taken m q x true
+  taken_started = taken_black m p q x marks.holds popped
+
+  module _ (k : HeapState) (r : Piles) (l : HeapState) (t : Piles) (scan : Grows (HasEdge m.shape x) m q k r)
+      (sp : Spreads (Reached k.shape (IsBlack k)) k r l t) (new : MarkingInvariant l t) where
+    did : Follows m p l t
+    did = follows m p q x k r l t marks popped scan sp new
+
+    black_same : (y : Place) → PendingBlack l t y ↔ PendingBlack h p y
+    black_same y =
+        let on = pending_on h looks p inv marks y in
+        (λ b. on.0 ((did.pending_black y).0 b), λ b. (did.pending_black y).1 (on.1 b))
+
+    keeps_live : KeepsLive h p l t
+    keeps_live lists g =
+        let both = did.pending_live lists (gray_on h looks p lists g) in (
+          both.0,
+          λ y. (
+            λ b. (live_on h looks p lists inv marks g y).0 ((both.1 y).0 b),
+            λ b. (both.1 y).1 ((live_on h looks p lists inv marks g y).1 b),
+          ),
+        )
+
+    weak_is : weak_of l ≡ weak_of m
+    weak_is = ap weak_of sp.blackens.rest ∙ ap weak_of scan.spreads.blackens.rest
+
+    started_here : StartsBoth mark.Black x h l
+    started_here = starts_on mark.Black x h m l starts (ap (λ (w : WeakMapsState). w.looks) weak_is)
+
+    after : ScansNoMore h q l t
+    after =
+        let both = no_more_twice m q k r l t scan.spreads.scans sp.scans in
+        record { black = both.black; gray = both.gray }
+
+    none : ScansNoMore h p l t
+    none = subst (λ (z : Piles). ScansNoMore h z l t) (sym popped)
+        (no_more_twice h (pushed q pile.Black x) h q l t (pops_black h q x) after)
+
+    fewer : black_scans l t x < black_scans h p x
+    fewer = subst (λ (z : Piles). black_scans l t x < black_scans h z x) (sym popped)
+        (omega (arith, pops_black_once h q x, after.black x))
+
+    scans_black : ScansBlack h p l t
+    scans_black =
+        let was = taken_black h p q x inv.holds popped in
+        record { cell = x; black = was.black; zone = was.zone; fewer = fewer; no_more = none; starts = started_here }
+
+    looks_less : AreParallel (weak_of m) → looks_left l t ≤ looks_left h p
+    looks_less parallel = scan_no_more mark.Black x h p l t started_here
+        (subst (λ (w : WeakMapsState). AreParallel w) (sym weak_is) parallel)
+        (ap (λ (w : WeakMapsState). w.table) weak_is)
+        (one_fewer h p l t x none (omega (arith, fewer, none.gray x)))
+
+    less : AreParallel (weak_of m) → (lists : Incoming) → work_left l t lists < work_left h p lists
+    less parallel lists =
+        let looks_no = looks_less parallel in
+        let left_is : left m ≡ left h = refl in
+        let whites_is : whites m ≡ whites h = refl in
+        let buffers_is : sum_by length m.buffers ≡ sum_by length h.buffers = refl in
+        let black_is = ap (λ (z : Piles). length z.black) popped in
+        let gray_is = ap (λ (z : Piles). length z.gray) popped in
+        let wake_is = ap (λ (z : Piles). length z.wake) popped in
+        let buffers = ap (λ (z : HeapState). sum_by length z.buffers) sp.blackens.rest in
+        let buffers_then = ap (λ (z : HeapState). sum_by length z.buffers) scan.spreads.blackens.rest in
+        let gray_now = ap (λ (z : List Place). length z) sp.gray_is in
+        let gray_then = ap (λ (z : List Place). length z) scan.spreads.gray_is in
+        let none_then = ap (λ (z : List Place). length z) inv.none_woken in
+        let none_now = ap (λ (z : List Place). length z) new.none_woken in
+        omega (
+          arith,
+          looks_no,
+          left_is,
+          whites_is,
+          buffers_is,
+          black_is,
+          gray_is,
+          wake_is,
+          length-append q.black (x ∷ []),
+          buffers,
+          buffers_then,
+          gray_now,
+          gray_then,
+          none_then,
+          none_now,
+          scan.spreads.work,
+          sp.work,
+          scan.spreads.left_less,
+          sp.left_less,
+          scan.spreads.blackens.whites_less,
+          sp.blackens.whites_less,
+        )
+
+-- as it is called
+pub record Started (h : HeapState) (p q : Piles) (x : Place) (m : HeapState) : Type 0 where
+  pub inv : MarkingInvariant h p
+  pub popped : p ≡ pushed q pile.Black x
+  pub rest : m ≡ with_looks h m.looks
+  pub map : Starts (λ entry. entry.map) mark.Black x h.shape.weak.entries h.looks.by_map m.looks.by_map
+  pub key : Starts (λ entry. entry.key) mark.Black x h.shape.weak.entries h.looks.by_key m.looks.by_key
+
+pub record BlackDone (h : HeapState) (p : Piles) (m l : HeapState) (t : Piles) : Type 0 where
+  pub blackens : Blackens (Reached h.shape (IsBlack h)) (with_looks h l.looks) l
+  pub pending_black : (y : Place) → PendingBlack l t y ↔ PendingBlack h p y
+  pub pending_live : KeepsLive h p l t
+  pub scans : ScansBlack h p l t
+  pub less : AreParallel (weak_of m) → (lists : Incoming) → work_left l t lists < work_left h p lists
+
+pub started_by : (h m : HeapState) (flown : ℕ → Option Bits) (p q : Piles) (x : Place)
+    → MarkingInvariant (joined h flown) p → p ≡ pushed q pile.Black x → m ≡ record h { looks = m.looks }
+    → Starts (λ entry. entry.map) mark.Black x h.shape.weak.entries h.looks.by_map m.looks.by_map
+    → Starts (λ entry. entry.key) mark.Black x h.shape.weak.entries h.looks.by_key m.looks.by_key
+    → Started (joined h flown) p q x (joined m flown)
+started_by h m flown p q x inv popped rest map key =
+    record { inv = inv; popped = popped; rest = ap (λ (z : HeapState). joined z flown) rest; map = map; key = key }
+
+module _ (h : HeapState) (p q : Piles) (x : Place) (m : HeapState) (s : Started h p q x m) where
+  pub started_taken : Taken m q x true
+  started_taken = subst (λ (z : HeapState). Taken z q x true) (sym s.rest)
+      (taken_started h p q x m.looks s.inv s.popped (record { map = s.map; key = s.key }))
+
+  pub started_marks : MarkingInvariant m p
+  started_marks = subst (λ (z : HeapState). MarkingInvariant z p) (sym s.rest)
+      (marks h p q x m.looks s.inv s.popped (record { map = s.map; key = s.key }))
+
+  pub started_point : (k : HeapState) (r : Piles) → Grows (HasEdge m.shape x) m q k r → WeakPoint k r (left_of k)
+  started_point k r = subst (λ (z : HeapState). Grows (HasEdge z.shape x) z q k r → WeakPoint k r (left_of k))
+      (sym s.rest) (point_scanned h p q x m.looks s.inv s.popped (record { map = s.map; key = s.key }) k r)
+
+  pub started_once : (k : HeapState) (r : Piles) → Grows (HasEdge m.shape x) m q k r → AreScannedOnce k r
+  started_once k r = subst (λ (z : HeapState). Grows (HasEdge z.shape x) z q k r → AreScannedOnce k r) (sym s.rest)
+      (once_scanned h p q x m.looks s.inv s.popped (record { map = s.map; key = s.key }) k r)
+
+  pub black_done : (k : HeapState) (r : Piles) (l : HeapState) (t : Piles) → Grows (HasEdge m.shape x) m q k r
+      → Spreads (Reached k.shape (IsBlack k)) k r l t → MarkingInvariant l t → BlackDone h p m l t
+  black_done k r l t = subst (λ (z : HeapState). Grows (HasEdge z.shape x) z q k r
+      → Spreads (Reached k.shape (IsBlack k)) k r l t → MarkingInvariant l t → BlackDone h p z l t) (sym s.rest)
+      (λ scan sp new.
+      let both : StartsBoth mark.Black x h (with_looks h m.looks) = record { map = s.map; key = s.key } in
+      let bl = (did h p q x m.looks s.inv s.popped both k r l t scan sp new).blackens in
+      let weak = weak_is h p q x m.looks s.inv s.popped both k r l t scan sp new in
+      record {
+        blackens = subst (λ (z : LooksState). Blackens (Reached h.shape (IsBlack h)) (with_looks h z) l)
+            (sym (ap (λ (w : WeakMapsState). w.looks) weak)) bl;
+        pending_black = black_same h p q x m.looks s.inv s.popped both k r l t scan sp new;
+        pending_live = keeps_live h p q x m.looks s.inv s.popped both k r l t scan sp new;
+        scans = scans_black h p q x m.looks s.inv s.popped both k r l t scan sp new;
+        less = less h p q x m.looks s.inv s.popped both k r l t scan sp new;
+      })

@@ -1,5 +1,6 @@
 -- What a unit of gray marking did, by the list that it took something out of.
-use Rattle.std.proofs.Common.{◌≡◌, ◌⊎◌, ◌+◌, ◌<◌, ◌*◌, ℕ, inl, inr, refl, sym, ap, ◌∙◌, subst, arith, Contains, List}
+use Rattle.std.proofs.Common.{◌≡◌, ◌⊎◌, ◌+◌, ◌<◌, ◌≤◌, ◌*◌, ℕ, inl, inr, refl, sym, ap, ◌∙◌, subst, arith, Contains}
+use Rattle.std.proofs.Common.{List}
 use Rattle.std.proofs.Common.{length, ◌++◌, ◌∷◌, [], length-append, Option, sum_by}
 use Rattle.std.proofs.lemmas.List.Elements.{Contains-append_left, Contains-push}
 use Rattle.gz_names.specs.Zones.{HasZone}
@@ -10,16 +11,25 @@ use Rattle.mark_stack.specs.declared.stack.Pile.TheVariants as pile
 use Rattle.gray_lists.specs.Incoming.{Incoming, list_of, waiting_count}
 use Rattle.heap_core.specs.Shape.{Shape, HasEdge, IsPresent, state_of}
 use Rattle.cell_bits.specs.declared.bits.Bits.{Bits}
-use Rattle.heap_core.specs.Heap.{HeapState, joined}
+use Rattle.heap_core.specs.Heap.{HeapState, joined, weak_of}
+use Rattle.weak_maps.specs.WeakMaps.{AreParallel, LooksState, Starts, WeakMapsState}
+use Rattle.weak_maps.specs.declared.colours.MarkColour.TheVariants as mark
 use Rattle.barriers.specs.Colours.{IsBlack, grays_outside, left, whites}
 use Rattle.barriers.specs.PendingLive.{GrayInvariant, buffer_of}
 use Rattle.barriers.specs.Invariant.{InvariantWhile, MarkingInvariant}
 use Rattle.barriers.specs.Scans.{ScansNoMore, gray_scans}
+use Rattle.barriers.specs.WeakPoint.{WeakPoint, left_of}
+use Rattle.barriers.proofs.StayingLeft.{starts_entries}
+use Rattle.barriers.proofs.WeakPoint.{StartsEntries, gray_starts}
 use Rattle.barriers.proofs.Scans.{no_more_twice, none_more, pops_gray, pops_gray_once}
 use Rattle.marker.specs.GrayBits.{AreGraying}
 use Rattle.marker.specs.Shading.{IsForItem, ItemShaded, Shaded}
 use Rattle.marker.specs.Waiting.{IsBlackOnlyComp, IsCompOf, Noted, TakesBuffered, TakesIncoming}
 use Rattle.marker.specs.Units.{DoesGray, Marks, TakesOne}
+use Rattle.marker.specs.Looks.{StartsBoth, looks_left, with_looks}
+use Rattle.marker.proofs.Looking.{gray_on, live_on, looks_no_more, marking_on, more_left, one_fewer, pending_on}
+use Rattle.marker.proofs.Looking.{point_on}
+use Rattle.marker.proofs.Looking.{scan_no_more, starts_on}
 use Rattle.marker.proofs.GraySteps.{LeadsToSeen, buffered_step, gray_seen, incoming_step, pile_step}
 
 -- what waits for a compartment waited before, or the compartment's zone takes no gray yet
@@ -28,13 +38,13 @@ WaitsOn s a b = (n : ℕ) (x : Place) → Contains (list_of b n) x → Contains 
 
 -- what a step of gray marking did
 pub does_gray : (P : Place → Type 0) (h m k : HeapState) (p p0 q : Piles) (a b : Incoming)
-    → m ≡ record h { buffers = m.buffers } → Shaded P m p0 k q → p0.black ≡ p.black → p0.room ≡ p.room
+    → m ≡ record h { buffers = m.buffers; looks = m.looks } → Shaded P m p0 k q → p0.black ≡ p.black → p0.room ≡ p.room
     → 2 * length p0.gray + (sum_by length m.buffers + waiting_count b) < 2 * length p.gray
-    + (sum_by length h.buffers + waiting_count a) → Marks h p a k q b
+    + (sum_by length h.buffers + waiting_count a) → looks_left k q ≤ looks_left h p → Marks h p a k q b
     → ((x : Place) → Contains p0.gray x → Contains p.gray x)
     → ((z : ℕ) (x : Place) → Contains (buffer_of m z) x → Contains (buffer_of h z) x) → WaitsOn h.shape a b
     → ScansNoMore h p m p0 → TakesOne h p a k q b → DoesGray h p a k q b
-does_gray P h m k p p0 q a b taken sh black room less marks pile buf waits none takes =
+does_gray P h m k p p0 q a b taken sh black room less looks marks pile buf waits none takes =
     let buffers : k.buffers ≡ m.buffers = ap (λ (z : HeapState). z.buffers) sh.rest in
     let sums : sum_by length k.buffers ≡ sum_by length m.buffers = ap (sum_by length) buffers in
     let w : whites m ≡ whites h = ap whites taken in
@@ -42,7 +52,7 @@ does_gray P h m k p p0 q a b taken sh black room less marks pile buf waits none 
     let n : length q.black ≡ length p.black = ap (λ (zs : List Place). length zs) (sh.black_pile_is ∙ black) in
     record {
       marks = marks;
-      less = omega (arith, less, sums, w, l, n, sh.left_is, sh.work, sh.whites_less);
+      less = omega (arith, less, looks, sums, w, l, n, sh.left_is, sh.work, sh.whites_less);
       takes = takes;
       scans = no_more_twice h p m p0 k q none sh.scans;
       black_is = λ y. (
@@ -72,30 +82,128 @@ pub popped_apart : (h : HeapState) (p p0 : Piles) (a : Incoming) (x : Place) →
 popped_apart h p p0 a x g popped c at =
     g.apart c x (subst (λ (z : Piles). Contains z.gray x) (sym popped) (Contains-push p0.gray x)) at
 
--- one cell of the gray pile was followed
-pub does_pile : (h k : HeapState) (p p0 q : Piles) (a b : Incoming) (x : Place) → MarkingInvariant h p
-    → GrayInvariant h p a → p ≡ pushed p0 pile.Gray x → InvariantWhile [] k q → Shaded (HasEdge h.shape x) h p0 k q
-    → LeadsToSeen h.shape x k → Noted k.shape x a b → DoesGray h p a k q b
-does_pile h k p p0 q a b x inv g popped holds sh all noted =
-    let same : k.shape ≡ h.shape = ap (λ (z : HeapState). z.shape) sh.rest in
-    let noted_here : Noted h.shape x a b = subst (λ (s : Shape). Noted s x a b) same noted in
-    let gray_is : p.gray ≡ (p0.gray ++ x ∷ []) = ap (λ (z : Piles). z.gray) popped in
-    does_gray (HasEdge h.shape x) h h k p p0 q a b refl sh (sym (ap (λ (z : Piles). z.black) popped))
-    (sym (ap (λ (z : Piles). z.room) popped))
-    (omega (arith, noted.count, ap (λ (zs : List Place). length zs) gray_is, length-append p0.gray (x ∷ [])))
-    (pile_step h k p p0 q a b x inv g popped holds sh all noted_here)
-    (λ y c. subst (λ zs. Contains zs y) (sym gray_is) (Contains-append_left p0.gray (x ∷ []) y c))
-    (λ z y c. c)
-    noted_here.waits
-    (subst (λ (z : Piles). ScansNoMore h z h p0) (sym popped) (pops_gray h p0 x))
-    (inr (inr (record {
-      cell = x;
-      piled = subst (λ zs. Contains zs x) (sym gray_is) (Contains-push p0.gray x);
-      fewer = subst (λ (z : Piles). gray_scans k q x < gray_scans h z x) (sym popped)
-          (omega (arith, pops_gray_once h p0 x, sh.scans.gray x));
-      noted = noted_here;
-      buffers_are = ap (λ (z : HeapState). z.buffers) sh.rest;
-    })))
+-- one cell of the gray pile was started, and then followed
+module _ (h : HeapState) (p p0 : Piles) (x : Place) (looks : LooksState) (inv : MarkingInvariant h p)
+    (popped : p ≡ pushed p0 pile.Gray x) (starts : StartsBoth mark.Gray x h (with_looks h looks)) where
+  abbrev m : HeapState
+  m = with_looks h looks
+
+  entries : StartsEntries h.shape mark.Gray x (left_of h) (left_of m)
+  entries = starts_entries h mark.Gray x m refl starts.map starts.key
+
+  marks_on : MarkingInvariant m p
+  marks_on = marking_on h looks p inv (more_left h p (left_of h) (left_of m) entries.kept inv.weak)
+
+  point : WeakPoint m p0 (left_of m)
+  point = point_on h looks p0 (left_of m) (gray_starts h p0 x (left_of h) (left_of m)
+      (subst (λ (z : Piles). WeakPoint h z (left_of h)) popped inv.weak) entries)
+
+  module _ (k : HeapState) (q : Piles) (a b : Incoming) (g : GrayInvariant h p a) (holds : InvariantWhile [] k q)
+      (sh : Shaded (HasEdge m.shape x) m p0 k q) (all : LeadsToSeen m.shape x k) (noted : Noted k.shape x a b)
+      (parallel : AreParallel (weak_of m)) where
+    shape_same : k.shape ≡ h.shape
+    shape_same = ap (λ (z : HeapState). z.shape) sh.rest
+
+    noted_here : Noted h.shape x a b
+    noted_here = subst (λ (s : Shape). Noted s x a b) shape_same noted
+
+    marks_started : Marks m p a k q b
+    marks_started =
+        pile_step m k p p0 q a b x marks_on (gray_on h looks p a g) popped holds sh all noted_here point
+
+    marks_then : Marks h p a k q b
+    marks_then = record {
+      rest = marks_started.rest;
+      invariant = marks_started.invariant;
+      gray = marks_started.gray;
+      black_kept = marks_started.black_kept;
+      seen_kept = marks_started.seen_kept;
+      gob_kept = marks_started.gob_kept;
+      pending_black = λ y. (
+        λ l. (pending_on h looks p inv marks_on y).0 ((marks_started.pending_black y).0 l),
+        λ l. (marks_started.pending_black y).1 ((pending_on h looks p inv marks_on y).1 l),
+      );
+      pending_live = λ y. (
+        λ l. (live_on h looks p a inv marks_on g y).0 ((marks_started.pending_live y).0 l),
+        λ l. (marks_started.pending_live y).1 ((live_on h looks p a inv marks_on g y).1 l),
+      );
+    }
+
+    after : ScansNoMore h p0 k q
+    after = record { black = sh.scans.black; gray = sh.scans.gray }
+
+    popped_less : ScansNoMore h p h p0
+    popped_less = subst (λ (z : Piles). ScansNoMore h z h p0) (sym popped) (pops_gray h p0 x)
+
+    none : ScansNoMore h p k q
+    none = no_more_twice h p h p0 k q popped_less after
+
+    fewer : gray_scans k q x < gray_scans h p x
+    fewer = subst (λ (z : Piles). gray_scans k q x < gray_scans h z x) (sym popped)
+        (omega (arith, pops_gray_once h p0 x, after.gray x))
+
+    weak_is : weak_of k ≡ weak_of m
+    weak_is = ap weak_of sh.rest
+
+    started_here : StartsBoth mark.Gray x h k
+    started_here = starts_on mark.Gray x h m k starts (ap (λ (w : WeakMapsState). w.looks) weak_is)
+
+    looks_less : looks_left k q ≤ looks_left h p
+    looks_less = scan_no_more mark.Gray x h p k q started_here
+        (subst (λ (w : WeakMapsState). AreParallel w) (sym weak_is) parallel)
+        (ap (λ (w : WeakMapsState). w.table) weak_is)
+        (one_fewer h p k q x none (omega (arith, fewer, none.black x)))
+
+    did_pile : DoesGray h p a k q b
+    did_pile =
+        let gray_is : p.gray ≡ (p0.gray ++ x ∷ []) = ap (λ (z : Piles). z.gray) popped in
+        let buffers_is : sum_by length m.buffers ≡ sum_by length h.buffers = refl in
+        let gray_size = ap (λ (zs : List Place). length zs) gray_is in
+        does_gray (HasEdge h.shape x) h m k p p0 q a b refl sh (sym (ap (λ (z : Piles). z.black) popped))
+        (sym (ap (λ (z : Piles). z.room) popped))
+        (omega (arith, noted.count, buffers_is, gray_size, length-append p0.gray (x ∷ [])))
+        looks_less marks_then
+        (λ y c. subst (λ zs. Contains zs y) (sym gray_is) (Contains-append_left p0.gray (x ∷ []) y c))
+        (λ z y c. c)
+        noted_here.waits
+        (record { black = popped_less.black; gray = popped_less.gray })
+        (inr (inr (record {
+          cell = x;
+          piled = subst (λ zs. Contains zs x) (sym gray_is) (Contains-push p0.gray x);
+          fewer = fewer;
+          noted = noted_here;
+          buffers_are = ap (λ (z : HeapState). z.buffers) sh.rest;
+          starts = started_here;
+        })))
+
+-- as it is called
+pub record StartedGray (h : HeapState) (p p0 : Piles) (x : Place) (m : HeapState) : Type 0 where
+  pub inv : MarkingInvariant h p
+  pub popped : p ≡ pushed p0 pile.Gray x
+  pub rest : m ≡ with_looks h m.looks
+  pub map : Starts (λ entry. entry.map) mark.Gray x h.shape.weak.entries h.looks.by_map m.looks.by_map
+  pub key : Starts (λ entry. entry.key) mark.Gray x h.shape.weak.entries h.looks.by_key m.looks.by_key
+
+pub started_gray : (h m : HeapState) (flown : ℕ → Option Bits) (p q : Piles) (x : Place)
+    → MarkingInvariant (joined h flown) p → p ≡ pushed q pile.Gray x → m ≡ record h { looks = m.looks }
+    → Starts (λ entry. entry.map) mark.Gray x h.shape.weak.entries h.looks.by_map m.looks.by_map
+    → Starts (λ entry. entry.key) mark.Gray x h.shape.weak.entries h.looks.by_key m.looks.by_key
+    → StartedGray (joined h flown) p q x (joined m flown)
+started_gray h m flown p q x inv popped rest map key =
+    record { inv = inv; popped = popped; rest = ap (λ (z : HeapState). joined z flown) rest; map = map; key = key }
+
+module _ (h : HeapState) (p p0 : Piles) (x : Place) (m : HeapState) (s : StartedGray h p p0 x m) where
+  pub started_marks : MarkingInvariant m p
+  started_marks = subst (λ (z : HeapState). MarkingInvariant z p) (sym s.rest)
+      (marks_on h p p0 x m.looks s.inv s.popped (record { map = s.map; key = s.key }))
+
+  pub does_pile : (k : HeapState) (q : Piles) (a b : Incoming) → GrayInvariant h p a → InvariantWhile [] k q
+      → Shaded (HasEdge m.shape x) m p0 k q → LeadsToSeen m.shape x k → Noted k.shape x a b → AreParallel (weak_of m)
+      → DoesGray h p a k q b
+  does_pile k q a b = subst (λ (z : HeapState). GrayInvariant h p a → InvariantWhile [] k q
+      → Shaded (HasEdge z.shape x) z p0 k q → LeadsToSeen z.shape x k → Noted k.shape x a b → AreParallel (weak_of z)
+      → DoesGray h p a k q b) (sym s.rest)
+      (did_pile h p p0 x m.looks s.inv s.popped (record { map = s.map; key = s.key }) k q a b)
 
 -- a place was taken out of a buffer: the colours are as they were
 buffered_here : (h : HeapState) (bs : List (List Place)) (p : Piles) → InvariantWhile [] h p
@@ -162,13 +270,21 @@ does_buffered h m flown k p q a group zone x inv g graying here takes holds sh d
     let shaded : Shaded (IsForItem h.shape zone x) (joined m flown) p k q =
     subst (λ (s : Shape). Shaded (IsForItem s zone x) (joined m flown) p k q) same sh in
     let item : ItemShaded h.shape zone x k = subst (λ (s : Shape). ItemShaded s zone x k) same done in
-    does_gray (IsForItem h.shape zone x) (joined h flown) (joined m flown) k p p q a a at.rest shaded refl refl
+    let looks_is : k.looks ≡ h.looks = ap (λ (z : HeapState). z.looks) shaded.rest
+    ∙ ap (λ (z : HeapState). z.looks) takes.rest in
+    let popped : ScansNoMore (joined h flown) p (joined m flown) p =
+    subst (λ (z : HeapState). ScansNoMore (joined h flown) p z p) (sym at.rest)
+    (record { black = λ y. omega arith; gray = λ y. omega arith }) in
+    does_gray (IsForItem h.shape zone x) (joined h flown) (joined m flown) k p p q a a
+    (at.rest ∙ ap (λ ls. record (joined h flown) { buffers = m.buffers; looks = ls })
+    (sym (ap (λ (z : HeapState). z.looks) at.rest))) shaded refl refl
     (omega (arith, takes.count))
+    (looks_no_more (joined h flown) p k q (no_more_twice (joined h flown) p (joined m flown) p k q popped shaded.scans)
+    (ap (λ (z : HeapState). z.shape.weak) shaded.rest ∙ ap (λ (z : HeapState). z.shape.weak) at.rest) looks_is)
     (buffered_step (joined h flown) (joined m flown) k p q a zone x inv g ((graying zone).0 here) at holds shaded
     item) (λ y c. c) takes.only (λ n y c. inl c)
-    (subst (λ (z : HeapState). ScansNoMore (joined h flown) p z p) (sym at.rest)
-    (record { black = λ y. omega arith; gray = λ y. omega arith }))
-    (inl (omega (arith, at.count, ap (λ (z : HeapState). sum_by length z.buffers) shaded.rest), refl))
+    popped
+    (inl (omega (arith, at.count, ap (λ (z : HeapState). sum_by length z.buffers) shaded.rest), refl, looks_is))
 
 -- a wrapper that waits is present
 pub incoming_present : (h : HeapState) (p : Piles) (a b : Incoming) (comp : ℕ) (x : Place) → MarkingInvariant h p
@@ -180,7 +296,9 @@ pub does_incoming : (h k : HeapState) (p q : Piles) (a b : Incoming) (group comp
     → GrayInvariant h p a → AreGraying h.shape group → IsCompOf h.shape group comp → TakesIncoming a comp x b
     → InvariantWhile [] k q → Shaded (HasEdge h.shape x) h p k q → LeadsToSeen h.shape x k → DoesGray h p a k q b
 does_incoming h k p q a b group comp x inv g graying of takes holds sh all =
+    let looks_is : k.looks ≡ h.looks = ap (λ (z : HeapState). z.looks) sh.rest in
     does_gray (HasEdge h.shape x) h h k p p q a b refl sh refl refl (omega (arith, takes.count))
+    (looks_no_more h p k q sh.scans (ap (λ (z : HeapState). z.shape.weak) sh.rest) looks_is)
     (incoming_step h k p q a b group comp x inv g graying of takes holds sh all) (λ y c. c) (λ z y c. c)
     (λ n y c. inl (takes.only n y c)) (none_more h p)
-    (inr (inl (omega (arith, takes.count), ap (λ (z : HeapState). z.buffers) sh.rest)))
+    (inr (inl (omega (arith, takes.count), ap (λ (z : HeapState). z.buffers) sh.rest, looks_is)))

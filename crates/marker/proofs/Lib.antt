@@ -2,11 +2,11 @@ pub mod BlackSteps
 pub mod Graying
 mod Scans
 pub mod Shading
+pub mod WeakPoint
+pub mod Looking
 pub mod GrayLoops
 pub mod WaitingLists
 pub mod GraySteps
-mod WeakSteps
-mod WeakLoops
 pub mod GrayUnits
-pub mod WeakPoint
+mod LookSteps
 pub mod UnitsToCome

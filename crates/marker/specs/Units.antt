@@ -1,16 +1,17 @@
 -- Units of marking: what they keep, where there is no work, and a number that they lower.
-use Rattle.std.specs.Prelude.{◌≡◌, ◌≢◌, ◌⊎◌, ◌↔◌, ◌<◌, ◌+◌, ◌*◌, ℕ, true, [], length, Contains, Some, slice_get, sum_by}
+use Rattle.std.specs.Prelude.{◌≡◌, ◌⊎◌, ◌↔◌, ◌<◌, ◌+◌, ◌*◌, ℕ, true, [], length, Contains, Some, slice_get, sum_by}
 use Rattle.gz_names.specs.Zones.{HasZone}
 use Rattle.gz_names.specs.declared.numbers.Place.{Place}
 use Rattle.cell_bits.specs.declared.bits.Colour.{Colour}
 use Rattle.cell_bits.specs.declared.bits.Colour.TheVariants as colour
 use Rattle.zones.specs.declared.states.State.TheVariants as state
-use Rattle.mark_stack.specs.Stack.{Piles, pushed}
-use Rattle.mark_stack.specs.declared.stack.Pile.{Pile}
-use Rattle.mark_stack.specs.declared.stack.Pile.TheVariants as pile
+use Rattle.mark_stack.specs.Stack.{Piles}
+use Rattle.weak_maps.specs.WeakMaps.{HasLooked}
+use Rattle.weak_maps.specs.declared.colours.MarkColour.{MarkColour}
+use Rattle.weak_maps.specs.declared.colours.MarkColour.TheVariants as mark
 use Rattle.gray_lists.specs.Incoming.{Incoming, list_of, waiting_count}
 use Rattle.heap_core.specs.Shape.{Shape, is_marking, is_marking_state, state_in, state_of, zone_of}
-use Rattle.heap_core.specs.Heap.{HeapState, colour_of}
+use Rattle.heap_core.specs.Heap.{HeapState}
 use Rattle.barriers.specs.Reached.{HasEntry}
 use Rattle.barriers.specs.Colours.{HasGob, IsBlack, IsSeen, grays_outside, left, whites}
 use Rattle.barriers.specs.PendingBlack.{PendingBlack}
@@ -20,15 +21,19 @@ use Rattle.barriers.specs.Exposing.{KeepsLive}
 use Rattle.barriers.specs.Scans.{ScansNoMore, black_scans, gray_scans}
 use Rattle.marker.specs.GrayBits.{AreGraying}
 use Rattle.marker.specs.Waiting.{IsBlackOnlyComp, Noted}
+use Rattle.marker.specs.Looks.{Raises, StartsBoth, looks_left, with_looks}
 
--- what is left to do: each unit that did something lowers it
-abbrev pub work_left : HeapState → Piles → Incoming → ℕ
-work_left h p lists =
+-- what is left to do at cells, and with the looks at entries: each unit that did something lowers it
+abbrev pub marks_left : HeapState → Piles → Incoming → ℕ
+marks_left h p lists =
     2 * left h + length p.black + (3 * whites h + (2 * length p.gray + (sum_by length h.buffers + waiting_count lists)))
+
+abbrev pub work_left : HeapState → Piles → Incoming → ℕ
+work_left h p lists = looks_left h p + marks_left h p lists
 
 -- a unit of marking: no cell loses its colour, and no slot a bit, and both pending closures are as they were
 pub record Marks (h : HeapState) (p : Piles) (a : Incoming) (k : HeapState) (q : Piles) (b : Incoming) : Type 0 where
-  pub rest : k ≡ record h { colours = k.colours; buffers = k.buffers }
+  pub rest : k ≡ record h { colours = k.colours; buffers = k.buffers; looks = k.looks }
   pub invariant : MarkingInvariant k q
   pub gray : GrayInvariant k q b
   pub black_kept : (y : Place) → IsBlack h y → IsBlack k y
@@ -37,16 +42,18 @@ pub record Marks (h : HeapState) (p : Piles) (a : Incoming) (k : HeapState) (q :
   pub pending_black : (y : Place) → PendingBlack k q y ↔ PendingBlack h p y
   pub pending_live : (y : Place) → PendingLive k q b y ↔ PendingLive h p a y
 
--- a black cell of a marking zone was scanned: it may be scanned less often than before in black, and no cell more often
+-- a black cell of a marking zone was scanned: it may be scanned less often than before in black, and no cell more
+-- often; and its entries are to be looked at
 pub record ScansBlack (h : HeapState) (p : Piles) (k : HeapState) (q : Piles) : Type 0 where
   pub cell : Place
   pub black : IsBlack h cell
   pub zone : is_marking h.shape cell ≡ true
   pub fewer : black_scans k q cell < black_scans h p cell
   pub no_more : ScansNoMore h p k q
+  pub starts : StartsBoth mark.Black cell h k
 
--- a cell of the gray pile was scanned: it may be scanned less often than before in gray, and is noted where it waits for
--- a zone that takes no gray yet
+-- a cell of the gray pile was scanned: it may be scanned less often than before in gray, and is noted where it waits
+-- for a zone that takes no gray yet; and its entries are to be looked at
 pub record ScansGray (h : HeapState) (p : Piles) (a : Incoming) (k : HeapState) (q : Piles) (b : Incoming) : Type 0
   where
     pub cell : Place
@@ -54,12 +61,13 @@ pub record ScansGray (h : HeapState) (p : Piles) (a : Incoming) (k : HeapState) 
     pub fewer : gray_scans k q cell < gray_scans h p cell
     pub noted : Noted h.shape cell a b
     pub buffers_are : k.buffers ≡ h.buffers
+    pub starts : StartsBoth mark.Gray cell h k
 
 -- what a piece of gray marking takes: a place out of a buffer, a wrapper off a list, or a cell of the gray pile
 abbrev pub TakesOne : HeapState → Piles → Incoming → HeapState → Piles → Incoming → Type 0
 TakesOne h p a k q b =
-    ((sum_by length k.buffers < sum_by length h.buffers) × (b ≡ a))
-    ⊎ (((waiting_count b < waiting_count a) × (k.buffers ≡ h.buffers))
+    ((sum_by length k.buffers < sum_by length h.buffers) × (b ≡ a) × (k.looks ≡ h.looks))
+    ⊎ (((waiting_count b < waiting_count a) × (k.buffers ≡ h.buffers) × (k.looks ≡ h.looks))
     ⊎ ScansGray h p a k q b)
 
 -- no gray work of a group is left: its pile is empty, and nothing waits for its zones
@@ -94,38 +102,23 @@ abbrev pub IsFixed : HeapState → Colour → ℕ → Type 0
 IsFixed h c zones = (m k v : Place) → HasEntry h.shape m k v → HasColour h c m → HasColour h c k
     → HasZone zones (zone_of h.shape v) → HasColour h c v
 
--- the weak rule has work at an entry whose value lies in these zones
-abbrev pub HasWork : HeapState → Colour → ℕ → Place → Place → Place → Type 0
-HasWork h c zones m k v = HasZone zones (zone_of h.shape v) × HasColour h c m × HasColour h c k × (HasColour h c v → ⊥)
-
--- a cell that the weak rule has to colour
-pub record WantsColour (h : HeapState) (c : Colour) (zones : ℕ) (v : Place) : Type 0 where
-  pub map : Place
-  pub key : Place
-  pub entry : HasEntry h.shape map key v
-  pub work : HasWork h c zones map key v
-
 -- for black these zones are marking, for gray they are exactly those that take gray
 abbrev pub AreFor : Shape → Colour → ℕ → Type 0
 AreFor s colour.White zones = ⊥
 AreFor s colour.Gray zones = AreGraying s zones
 AreFor s colour.Black zones = (z : ℕ) → HasZone zones z → is_marking_state (state_in s z) ≡ true
 
--- the pile of a cell that gets this colour
-abbrev pub pile_for : Colour → Pile
-pile_for colour.White = pile.Gray
-pile_for colour.Gray = pile.Gray
-pile_for colour.Black = pile.Black
-
--- the weak rule gave one cell, the value of an entry, this colour and put it on its pile, and did nothing else; so both
--- pending closures are as they were, and no cell may be scanned more often
-pub record DoesWeak (c : Colour) (zones : ℕ) (h : HeapState) (p : Piles) (k : HeapState) (q : Piles) : Type 0 where
+-- a look at one entry, which was to be looked at in a colour: its value was given the weaker of the colours of its map
+-- and its key, if its zone takes that, and nothing else was done; so both pending closures are as they were, and no
+-- cell may be scanned more often
+pub record DoesLook (c : MarkColour) (h : HeapState) (p : Piles) (k : HeapState) (q : Piles) : Type 0 where
+  pub map : Place
+  pub key : Place
   pub value : Place
-  pub wanted : WantsColour h c zones value
-  pub coloured : colour_of k value ≡ c
-  pub others : (y : Place) → y ≢ value → colour_of k y ≡ colour_of h y
-  pub piles : q ≡ pushed p (pile_for c) value
-  pub rest : k ≡ record h { colours = k.colours }
+  pub entry : HasEntry h.shape map key value
+  pub looked : HasLooked c (map, key, value) h.shape.weak.entries h.looks k.looks
+  pub raises : Raises (with_looks h k.looks) p map key value k q
+  pub rest : k ≡ record h { colours = k.colours; looks = k.looks }
   pub invariant : MarkingInvariant k q
   pub black_kept : (y : Place) → IsBlack h y → IsBlack k y
   pub seen_kept : (y : Place) → IsSeen h y → IsSeen k y

@@ -10,6 +10,7 @@ ghost use Rattle.barriers.specs.PendingLive.{GrayInvariant};
 ghost use Rattle.barriers.specs.Invariant.{MarkingInvariant};
 ghost use Rattle.barriers.specs.Spreading.{Blackens, Covers};
 ghost use Rattle.barriers.specs.Exposing.{KeepsLive};
+ghost use Rattle.marker.specs.Looks.{with_looks};
 ghost use Rattle.marker.specs.Units.{ScansBlack, work_left};
 
 use barriers::{drain, scan};
@@ -17,6 +18,7 @@ use cell_bits::Flight;
 use heap_core::{Heap, Steps};
 use mark_stack::{Pile, Stack};
 use std::sync::ledger::Ledger;
+use weak_maps::MarkColour;
 
 /// What a unit of marking found.
 #[derive(Clone, Copy, Debug, PartialEq, Eq)]
@@ -27,7 +29,7 @@ pub enum Work {
     Empty,
 }
 
-/// Follows one cell of the black pile.
+/// Follows one cell of the black pile, whose weak entries are to be looked at from then on.
 #[inline(always)]
 pub fn black_unit<F: Flight, L: Ledger>(
     heap: &mut Heap,
@@ -39,7 +41,8 @@ pub fn black_unit<F: Flight, L: Ledger>(
     requires invariant { MarkingInvariant (joined heap.old (F.bits flight.old)) stack.old }
     ensures invariant { MarkingInvariant (joined heap.new (F.bits flight.new)) stack.new }
     ensures blackens { Blackens (Reached heap.old.shape (IsBlack (joined heap.old (F.bits flight.old))))
-        (joined heap.old (F.bits flight.old)) (joined heap.new (F.bits flight.new)) }
+        (with_looks (joined heap.old (F.bits flight.old)) heap.new.looks)
+        (joined heap.new (F.bits flight.new)) }
     ensures gray { stack.new.gray ≡ stack.old.gray }
     ensures room { stack.new.room ≡ stack.old.room }
     ensures pending_black { (y : APlace)
@@ -63,6 +66,7 @@ pub fn black_unit<F: Flight, L: Ledger>(
     let Some(place) = stack.pop(Pile::Black) else {
         return Work::Empty;
     };
+    heap.start(MarkColour::Black, place);
     scan(heap, stack, flight, place, steps);
     drain(heap, stack, flight, steps);
     Work::Did

@@ -1,29 +1,56 @@
-use Rattle.barriers.proofs.Following.{taken_black}
-use Rattle.marker.proofs.BlackSteps.{follows, scanned, scans_black}
+use Rattle.marker.proofs.BlackSteps.{black_done, scanned, started_by, started_marks, started_once, started_point}
+use Rattle.marker.proofs.BlackSteps.{started_taken}
 use Rattle.marker.proofs.black_units.black_unit.Goals as goal
 
 pub scan-requires-clause-holds : goal.scan-requires-clause-holds
-scan-requires-clause-holds g c = (taken_black _ _ _ _ c.requires.invariant.holds c.in-Some.ensures.some).invariant
+scan-requires-clause-holds g c =
+    (started_taken _ _ _ _ _ (started_by _ _ (g.F.Flight.bits c.args.flight.now) _ _ _ c.requires.invariant
+    c.in-Some.ensures.some c.start.ensures.rest c.start.ensures.map c.start.ensures.key)).invariant
 
 pub drain-requires-clause-holds : goal.drain-requires-clause-holds
-drain-requires-clause-holds g c = scanned _ _ _ _ _ _ c.requires.invariant.holds c.in-Some.ensures.some
-    c.scan.ensures.holds c.scan.ensures.grows c.scan.ensures.edges
+drain-requires-clause-holds g c =
+    scanned _ _ _ _ _ _ (started_marks _ _ _ _ _
+    (started_by _ _ (g.F.Flight.bits c.args.flight.now) _ _ _ c.requires.invariant
+    c.in-Some.ensures.some c.start.ensures.rest c.start.ensures.map c.start.ensures.key)).holds
+    c.in-Some.ensures.some c.scan.ensures.holds c.scan.ensures.grows c.scan.ensures.edges
+
+pub drain-requires-clause-weak : goal.drain-requires-clause-weak
+drain-requires-clause-weak g c =
+    started_point _ _ _ _ _ (started_by _ _ (g.F.Flight.bits c.args.flight.now) _ _ _ c.requires.invariant
+    c.in-Some.ensures.some c.start.ensures.rest c.start.ensures.map c.start.ensures.key) _ _ c.scan.ensures.grows
+
+pub drain-requires-clause-once : goal.drain-requires-clause-once
+drain-requires-clause-once g c =
+    started_once _ _ _ _ _ (started_by _ _ (g.F.Flight.bits c.args.flight.now) _ _ _ c.requires.invariant
+    c.in-Some.ensures.some c.start.ensures.rest c.start.ensures.map c.start.ensures.key) _ _ c.scan.ensures.grows
 
 pub returns-clause-blackens : goal.returns-clause-blackens
 returns-clause-blackens g c =
-    (follows _ _ _ _ _ _ _ _ c.requires.invariant c.in-Some.ensures.some c.scan.ensures.grows c.drain.ensures.spreads
-    c.drain.ensures.invariant).blackens
+    (black_done _ _ _ _ _ (started_by _ _ (g.F.Flight.bits c.args.flight.now) _ _ _ c.requires.invariant
+    c.in-Some.ensures.some c.start.ensures.rest c.start.ensures.map c.start.ensures.key) _ _ _ _
+    c.scan.ensures.grows c.drain.ensures.spreads c.drain.ensures.invariant).blackens
 
 pub returns-clause-pending_black : goal.returns-clause-pending_black
 returns-clause-pending_black g c =
-    (follows _ _ _ _ _ _ _ _ c.requires.invariant c.in-Some.ensures.some c.scan.ensures.grows c.drain.ensures.spreads
-    c.drain.ensures.invariant).pending_black
+    (black_done _ _ _ _ _ (started_by _ _ (g.F.Flight.bits c.args.flight.now) _ _ _ c.requires.invariant
+    c.in-Some.ensures.some c.start.ensures.rest c.start.ensures.map c.start.ensures.key) _ _ _ _
+    c.scan.ensures.grows c.drain.ensures.spreads c.drain.ensures.invariant).pending_black
 
 pub returns-clause-pending_live : goal.returns-clause-pending_live
 returns-clause-pending_live g c =
-    (follows _ _ _ _ _ _ _ _ c.requires.invariant c.in-Some.ensures.some c.scan.ensures.grows c.drain.ensures.spreads
-    c.drain.ensures.invariant).pending_live
+    (black_done _ _ _ _ _ (started_by _ _ (g.F.Flight.bits c.args.flight.now) _ _ _ c.requires.invariant
+    c.in-Some.ensures.some c.start.ensures.rest c.start.ensures.map c.start.ensures.key) _ _ _ _
+    c.scan.ensures.grows c.drain.ensures.spreads c.drain.ensures.invariant).pending_live
+
+pub returns-clause-work : goal.returns-clause-work
+returns-clause-work g c =
+    λ did. (black_done _ _ _ _ _ (started_by _ _ (g.F.Flight.bits c.args.flight.now) _ _ _ c.requires.invariant
+    c.in-Some.ensures.some c.start.ensures.rest c.start.ensures.map c.start.ensures.key) _ _ _ _
+    c.scan.ensures.grows c.drain.ensures.spreads c.drain.ensures.invariant).less
+    c.start.ensures.parallel
 
 pub returns-clause-scans : goal.returns-clause-scans
-returns-clause-scans g c = λ did. scans_black _ _ _ _ _ _ _ _ c.requires.invariant c.in-Some.ensures.some
-    c.scan.ensures.grows c.drain.ensures.spreads
+returns-clause-scans g c =
+    λ did. (black_done _ _ _ _ _ (started_by _ _ (g.F.Flight.bits c.args.flight.now) _ _ _ c.requires.invariant
+    c.in-Some.ensures.some c.start.ensures.rest c.start.ensures.map c.start.ensures.key) _ _ _ _
+    c.scan.ensures.grows c.drain.ensures.spreads c.drain.ensures.invariant).scans

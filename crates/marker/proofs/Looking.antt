@@ -1,0 +1,227 @@
+-- Other looks are to come, and all else is as it was.
+use Rattle.std.proofs.Common.{◌≡◌, ◌≢◌, ◌↔◌, ◌+◌, ◌<◌, ◌≤◌, ℕ, zero, suc, Bool, List, [], ◌∷◌, Option, Some}
+use Rattle.std.proofs.Common.{None, inl, inr, refl, sym, ap, subst, arith, count_by, cond, is_some, length}
+use Rattle.std.proofs.Common.{slice_get, slice_set}
+use Rattle.std.proofs.Common.{sum_by}
+use Rattle.std.proofs.lemmas.List.Sums.{sum_by-cons, sum_by-le-sum_by}
+use Rattle.gz_names.specs.declared.numbers.Place.{Place}
+use Rattle.arena_table.specs.Table.{is_place}
+use Rattle.mark_stack.specs.Stack.{Piles}
+use Rattle.gray_lists.specs.Incoming.{Incoming}
+use Rattle.weak_maps.specs.WeakMaps.{AreParallel, EntryState, HasLooked, LooksState, Starts, WeakTableState}
+use Rattle.weak_maps.specs.declared.colours.MarkColour.{MarkColour}
+use Rattle.weak_maps.specs.declared.colours.MarkColour.TheVariants as mark
+use Rattle.heap_core.specs.Heap.{HeapState, weak_of}
+use Rattle.heap_core.proofs.MakingCells.{same-place}
+use Rattle.barriers.specs.PendingBlack.{PendingBlack}
+use Rattle.barriers.specs.PendingLive.{GrayInvariant, PendingLive}
+use Rattle.barriers.specs.Invariant.{InvariantWhile, MarkingInvariant}
+use Rattle.barriers.specs.Scans.{ScansNoMore}
+use Rattle.barriers.specs.WeakPoint.{Left, WeakPoint, left_of}
+use Rattle.barriers.proofs.BlackClosure.{pending_is_reached, reached_is_pending}
+use Rattle.barriers.proofs.LiveClosure.{live_is_reached, reached_is_live}
+use Rattle.marker.specs.Looks.{StartsBoth, looks_left, looks_now, scans_at, scans_of, with_looks}
+
+-- what does not speak of looks holds with others
+pub holds_on : (h : HeapState) (l : LooksState) (p : Piles) (followed : List Place) → InvariantWhile followed h p
+    → InvariantWhile followed (with_looks h l) p
+holds_on h l p followed inv = record {
+  colours = record {
+    shape = inv.colours.shape;
+    sized = inv.colours.sized;
+    seen_present = inv.colours.seen_present;
+    no_white = inv.colours.no_white;
+    no_gray = inv.colours.no_gray;
+    regs_black = inv.colours.regs_black;
+  };
+  piles = record {
+    black = inv.piles.black;
+    wake = inv.piles.wake;
+    gray = inv.piles.gray;
+    room = record {
+      black = inv.piles.room.black;
+      wake = inv.piles.room.wake;
+      gray = inv.piles.room.gray;
+      room = inv.piles.room.room;
+    };
+  };
+  closed = inv.closed;
+  weak_closed = inv.weak_closed;
+}
+
+pub point_on : (h : HeapState) (l : LooksState) (p : Piles) (left : Left) → WeakPoint h p left
+    → WeakPoint (with_looks h l) p left
+point_on h l p left w = record { black = w.black; gray = w.gray }
+
+-- more entries are left
+pub more_left : (h : HeapState) (p : Piles) (old new : Left) → ((d : MarkColour) (m n : Place) → old d m n → new d m n)
+    → WeakPoint h p old → WeakPoint h p new
+more_left h p old new more w = record {
+  black = λ m n v e bm bn on. elim (w.black m n v e bm bn on) [
+    | inl b ↦ inl b
+    | inr (inl c) ↦ inr (inl c)
+    | inr (inr (inl c)) ↦ inr (inr (inl c))
+    | inr (inr (inr l)) ↦ inr (inr (inr (more mark.Black m n l)))
+  ];
+  gray = λ m n v e sm sn takes. elim (w.gray m n v e sm sn takes) [
+    | inl b ↦ inl b
+    | inr (inl c) ↦ inr (inl c)
+    | inr (inr (inl c)) ↦ inr (inr (inl c))
+    | inr (inr (inr l)) ↦ inr (inr (inr (more mark.Gray m n l)))
+  ];
+}
+
+-- the looks are what was started
+pub starts_on : (c : MarkColour) (x : Place) (h m k : HeapState) → StartsBoth c x h m → k.looks ≡ m.looks
+    → StartsBoth c x h k
+starts_on c x h m k s e = record {
+  map = subst (λ (z : LooksState). Starts (λ entry. entry.map) c x h.shape.weak.entries h.looks.by_map z.by_map) (sym e)
+      s.map;
+  key = subst (λ (z : LooksState). Starts (λ entry. entry.key) c x h.shape.weak.entries h.looks.by_key z.by_key) (sym e)
+      s.key;
+}
+
+pub gray_on : (h : HeapState) (l : LooksState) (p : Piles) (lists : Incoming) → GrayInvariant h p lists
+    → GrayInvariant (with_looks h l) p lists
+gray_on h l p lists g = record {
+  buffered_seen = g.buffered_seen;
+  buffered_present = g.buffered_present;
+  incoming_seen = g.incoming_seen;
+  closed = g.closed;
+  once = g.once;
+  apart = g.apart;
+  lists_apart = g.lists_apart;
+  few = g.few;
+  room = g.room;
+}
+
+pub marking_on : (h : HeapState) (l : LooksState) (p : Piles) → MarkingInvariant h p
+    → WeakPoint h p (left_of (with_looks h l)) → MarkingInvariant (with_looks h l) p
+marking_on h l p inv w = record {
+  holds = holds_on h l p [] inv.holds;
+  none_woken = inv.none_woken;
+  weak = point_on h l p (left_of (with_looks h l)) w;
+  once = record { black = inv.once.black; gray = inv.once.gray };
+}
+
+-- both closures are as they were
+pub pending_on : (h : HeapState) (l : LooksState) (p : Piles) → MarkingInvariant h p
+    → MarkingInvariant (with_looks h l) p → (y : Place) → PendingBlack (with_looks h l) p y ↔ PendingBlack h p y
+pending_on h l p inv new y = (
+  λ b. reached_is_pending h p inv (pending_is_reached (with_looks h l) p new b),
+  λ b. reached_is_pending (with_looks h l) p new (pending_is_reached h p inv b),
+)
+
+pub live_on : (h : HeapState) (l : LooksState) (p : Piles) (lists : Incoming) → MarkingInvariant h p
+    → MarkingInvariant (with_looks h l) p → GrayInvariant h p lists → (y : Place)
+    → PendingLive (with_looks h l) p lists y ↔ PendingLive h p lists y
+live_on h l p lists inv new g y = (
+  λ b. reached_is_live h p lists inv g
+      (live_is_reached (with_looks h l) p lists new (gray_on h l p lists g) b),
+  λ b. reached_is_live (with_looks h l) p lists new (gray_on h l p lists g) (live_is_reached h p lists inv g b),
+)
+
+-- no more looks are to come, where no cell may be scanned more often
+pub looks_no_more : (h : HeapState) (p : Piles) (k : HeapState) (q : Piles) → ScansNoMore h p k q
+    → k.shape.weak ≡ h.shape.weak → k.looks ≡ h.looks → looks_left k q ≤ looks_left h p
+unfolding looks_left
+looks_no_more h p k q none weak looks =
+    let sums = sum_by-le-sum_by (scans_of k q) (scans_of h p) h.shape.weak.entries
+    (λ e. omega (arith, none.black e.map, none.gray e.map, none.black e.key, none.gray e.key)) in
+    let same = ap (λ es. sum_by (scans_of k q) es.entries) weak in
+    let now = ap looks_now looks in
+    omega (arith, sums, same, now)
+
+some_one : (x y : Option MarkColour) → Some x ≡ Some y → x ≡ y
+some_one x y e = cc e
+
+-- an entry was looked at
+one_less : (xs : List (Option MarkColour)) (n : ℕ) (c : MarkColour) → slice_get xs n ≡ Some (Some c)
+    → count_by is_some (slice_set xs n None) + 1 ≡ count_by is_some xs
+one_less [] n c e = cc e
+one_less (x ∷ xs) zero c e =
+    let is : x ≡ Some c = cc e in
+    let old = sum_by-cons (λ (y : Option MarkColour). cond (is_some y) 1 0) x xs in
+    let new = sum_by-cons (λ (y : Option MarkColour). cond (is_some y) 1 0) None xs in
+    let one = ap {B = ℕ} (λ (y : Option MarkColour). cond (is_some y) 1 0) is in
+    omega (arith, old, new, one)
+one_less (x ∷ xs) (suc n) c e =
+    let old = sum_by-cons (λ (y : Option MarkColour). cond (is_some y) 1 0) x xs in
+    let new = sum_by-cons (λ (y : Option MarkColour). cond (is_some y) 1 0) x (slice_set xs n None) in
+    omega (arith, old, new, one_less xs n c e)
+
+pub looked_less : (c : MarkColour) (handed : Place × Place × Place) (es : List EntryState) (old new : LooksState)
+    → HasLooked c handed es old new → looks_now new + 1 ≡ looks_now old
+looked_less c handed es old new looked = elim looked.looked [
+  | inl (was, now) ↦ (let one = one_less old.by_map looked.number c was in
+      let same = ap looks_now now in omega (arith, one, same))
+  | inr (was, now) ↦ (let one = one_less old.by_key looked.number c was in
+      let same = ap looks_now now in omega (arith, one, same))
+]
+
+-- the entries of a cell were started: one look more is to come for each of them
+some_few : (o : Option MarkColour) → cond (is_some o) 1 0 ≤ 1
+some_few None = omega arith
+some_few (Some c) = omega arith
+
+started_more : (f : EntryState → Place) (x : Place) (es : List EntryState) (old new : List (Option MarkColour))
+    → length old ≡ length es → length new ≡ length es
+    → ((n : ℕ) (e : EntryState) → slice_get es n ≡ Some e → f e ≢ x → slice_get new n ≡ slice_get old n)
+    → count_by is_some new ≤ count_by is_some old + count_by (λ e. is_place (f e) x) es
+started_more f x [] [] [] a b others = omega arith
+started_more f x [] (o ∷ old) new a b others = absurd (omega (arith, a))
+started_more f x [] [] (n ∷ new) a b others = absurd (omega (arith, b))
+started_more f x (e ∷ es) [] new a b others = absurd (omega (arith, a))
+started_more f x (e ∷ es) (o ∷ old) [] a b others = absurd (omega (arith, b))
+started_more f x (e ∷ es) (o ∷ old) (n ∷ new) a b others =
+    let rest = started_more f x es old new (omega (arith, a)) (omega (arith, b))
+    (λ m d at other. others (suc m) d at other)
+    in
+    let was = sum_by-cons (λ (y : Option MarkColour). cond (is_some y) 1 0) o old in
+    let now = sum_by-cons (λ (y : Option MarkColour). cond (is_some y) 1 0) n new in
+    let all = sum_by-cons (λ (d : EntryState). cond (is_place (f d) x) 1 0) e es in
+    elim (same-place (f e) x) [
+      | inl (is, tells) ↦ (let one = ap {B = ℕ} (λ (t : Bool). cond t 1 0) tells in
+          omega (arith, rest, was, now, all, one, some_few n))
+      | inr (other, tells) ↦ (let same : n ≡ o = some_one n o (others 0 e refl other) in
+          let alike = ap {B = ℕ} (λ (y : Option MarkColour). cond (is_some y) 1 0) same in
+          omega (arith, rest, was, now, all, alike))
+    ]
+
+-- a scan of a cell pays for one look at each entry of which it is the map, and for one where it is the key
+scans_paid : (h : HeapState) (p : Piles) (k : HeapState) (q : Piles) (x : Place)
+    → ((y : Place) → scans_at k q y + cond (is_place y x) 1 0 ≤ scans_at h p y) → (es : List EntryState)
+    → sum_by (scans_of k q) es + (count_by (λ e. is_place e.map x) es + count_by (λ e. is_place e.key x) es)
+    ≤ sum_by (scans_of h p) es
+scans_paid h p k q x fewer [] = omega arith
+scans_paid h p k q x fewer (e ∷ es) =
+    let rest = scans_paid h p k q x fewer es in
+    let was = sum_by-cons (scans_of h p) e es in
+    let now = sum_by-cons (scans_of k q) e es in
+    let maps = sum_by-cons (λ (d : EntryState). cond (is_place d.map x) 1 0) e es in
+    let keys = sum_by-cons (λ (d : EntryState). cond (is_place d.key x) 1 0) e es in
+    omega (arith, rest, was, now, maps, keys, fewer e.map, fewer e.key)
+
+pub scan_no_more : (c : MarkColour) (x : Place) (h : HeapState) (p : Piles) (k : HeapState) (q : Piles)
+    → StartsBoth c x h k → AreParallel (weak_of k) → k.shape.weak ≡ h.shape.weak
+    → ((y : Place) → scans_at k q y + cond (is_place y x) 1 0 ≤ scans_at h p y) → looks_left k q ≤ looks_left h p
+unfolding looks_left
+scan_no_more c x h p k q starts parallel weak fewer =
+    let sizes = ap (λ (w : WeakTableState). length w.entries) weak in
+    let by_map = started_more (λ e. e.map) x h.shape.weak.entries h.looks.by_map k.looks.by_map
+    (omega (arith, starts.map.sized, parallel.0, sizes)) (omega (arith, parallel.0, sizes)) starts.map.others in
+    let by_key = started_more (λ e. e.key) x h.shape.weak.entries h.looks.by_key k.looks.by_key
+    (omega (arith, starts.key.sized, parallel.1, sizes)) (omega (arith, parallel.1, sizes)) starts.key.others in
+    let paid = scans_paid h p k q x fewer h.shape.weak.entries in
+    let same = ap (λ (w : WeakTableState). sum_by (scans_of k q) w.entries) weak in
+    omega (arith, by_map, by_key, paid, same)
+
+-- a cell was taken from a pile, and no cell may be scanned more often since
+pub one_fewer : (h : HeapState) (p : Piles) (k : HeapState) (q : Piles) (x : Place) → ScansNoMore h p k q
+    → scans_at k q x < scans_at h p x → (y : Place) → scans_at k q y + cond (is_place y x) 1 0 ≤ scans_at h p y
+one_fewer h p k q x none fewer y = elim (same-place y x) [
+  | inl (is, tells) ↦ (let one = ap {B = ℕ} (λ (t : Bool). cond t 1 0) tells in
+      let here = subst (λ z. scans_at k q z < scans_at h p z) (sym is) fewer in omega (arith, one, here))
+  | inr (other, tells) ↦ (let nothing = ap {B = ℕ} (λ (t : Bool). cond t 1 0) tells in
+      omega (arith, nothing, none.black y, none.gray y))
+]
