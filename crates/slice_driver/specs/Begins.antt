@@ -14,6 +14,7 @@ use Rattle.heap_core.specs.Heap.{HeapState, colour_of}
 use Rattle.barriers.specs.Colours.{IsBlack, IsGray}
 use Rattle.barriers.specs.Invariant.{HasRoom}
 use Rattle.barriers.specs.PendingLive.{buffer_of}
+use Rattle.barriers.specs.Scans.{AreScannedOnce}
 
 -- a cell of one of these zones
 abbrev pub IsWithin : Shape → ZoneSet → Place → Type 0
@@ -45,8 +46,8 @@ pub record IsListed (s : Shape) (p q : Place) : Type 0 where
   pub listed : Contains (list_of s.wrappers (zone_of s p)) (key, p)
   pub target : field_at s p 0 ≡ Some q
 
--- marking of these zones has begun: in them exactly the black roots are black, and none is gray; other zones are as
--- before
+-- marking of these zones has begun: in them exactly the black roots are black and on the black pile, each once, and
+-- none is gray; other zones are as before
 pub record BeginsMarking (h : HeapState) (zones : ZoneSet) (k : HeapState) (stack : Piles) (lists : Incoming) : Type 0
   where
     pub shape_is : k.shape ≡ record h.shape { states = k.shape.states }
@@ -62,6 +63,7 @@ pub record BeginsMarking (h : HeapState) (zones : ZoneSet) (k : HeapState) (stac
     pub gray_pile : stack.gray ≡ []
     pub wake_pile : stack.wake ≡ []
     pub room : HasRoom k stack
+    pub once : AreScannedOnce k stack
     pub buffered : (z : ℕ) (x : Place) → Contains (buffer_of k z) x ↔ IsGrayRoot h zones z x
     pub none_incoming : (c : ℕ) → incoming.list_of lists c ≡ []
     pub lists_room : 64 * length k.colours ≤ lists.room

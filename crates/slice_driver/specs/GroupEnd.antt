@@ -8,7 +8,8 @@ use Rattle.gz_names.specs.declared.zone_sets.ZoneSet.{ZoneSet}
 use Rattle.cell_bits.specs.declared.bits.Bits.{Bits}
 use Rattle.zones.specs.declared.states.State.TheVariants as state
 use Rattle.wrappers.specs.WrapperMaps.{AreApart, list_of, without_dead}
-use Rattle.weak_maps.specs.WeakMaps.{Carries, IsWithoutDead}
+use Rattle.weak_maps.specs.WeakMaps.{AreDistinct, AreParallel, Carries, IsWithoutDead, NoneLeft}
+use Rattle.weak_maps.specs.declared.colours.MarkColour.TheVariants as mark
 use Rattle.mark_stack.specs.Stack.{Piles}
 use Rattle.gray_lists.specs.Incoming.{Incoming, list_of as waiting_for}
 use Rattle.colour_defs.specs.Graph.{GraphState}
@@ -22,8 +23,8 @@ use Rattle.barriers.specs.Colours.{IsBlack, IsGray, IsSeen, IsWhite}
 use Rattle.barriers.specs.PendingLive.{buffer_of}
 use Rattle.slice_driver.specs.Collector.{CollectorState, RunState}
 
--- nothing is left to mark for a group: its zones all take gray, no cell is on a pile, nothing waits for it, and the
--- weak rule adds nothing, in black for any marking zone, in gray for the group
+-- nothing is left to mark for a group: its zones all take gray, no cell is on a pile, nothing waits for it, no weak
+-- entry is to be looked at, and the weak rule adds nothing, in black for any marking zone, in gray for the group
 pub record IsMarked (h : HeapState) (p : Piles) (lists : Incoming) (g : ZoneSet) : Type 0 where
   pub begun : (z : ℕ) → HasZone g.bits z → state_in h.shape z ≡ state.MarkBlackAndGray
   pub black_empty : p.black ≡ []
@@ -34,6 +35,8 @@ pub record IsMarked (h : HeapState) (p : Piles) (lists : Incoming) (g : ZoneSet)
   pub none_incoming : (z n : ℕ) → HasZone g.bits z → slice_get h.shape.comps n ≡ Some z → waiting_for lists n ≡ []
   pub gray_fixed : (m k v : Place) → HasEntry h.shape m k v → IsSeen h m → IsSeen h k
       → HasZone g.bits (zone_of h.shape v) → IsSeen h v
+  pub none_black : NoneLeft mark.Black h.looks
+  pub none_gray : NoneLeft mark.Gray h.looks
 
 -- the current group of a collection is ready to end, and the arenas of the group before are all taken in
 pub record IsReady (c : CollectorState) (g : ZoneSet) (rest : List ZoneSet) : Type 0 where
@@ -105,7 +108,9 @@ pub record DropsDead (old : HeapState) (g : ZoneSet) (new : HeapState) : Type 0 
   pub wrappers : (z : ℕ) → list_of new.shape.wrappers z ≡ without_dead (bit_at g.bits z) (is_absent old.shape)
       (list_of old.shape.wrappers z)
   pub entries : IsWithoutDead (is_absent old.shape) old.shape.weak new.shape.weak
+  pub distinct : AreDistinct new.shape.weak.entries
   pub carries : Carries (weak_of old) (weak_of new)
+  pub parallel : AreParallel (weak_of new)
 
 -- the zones of a group are swept, or are finished where they have no arena
 pub record EndsZones (old : HeapState) (g : ZoneSet) (new : HeapState) : Type 0 where

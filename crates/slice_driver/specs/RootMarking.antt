@@ -12,10 +12,12 @@ use Rattle.heap_core.specs.Heap.{HeapState, colour_of}
 use Rattle.zone_edges.specs.Looks.{wrapper_at}
 use Rattle.barriers.specs.Colours.{IsBlack, IsGray}
 use Rattle.barriers.specs.Invariant.{HasRoom}
+use Rattle.barriers.specs.Scans.{ScansNoMore}
 use Rattle.heap_core.specs.MarkBits.{TakesBlack}
 use Rattle.slice_driver.specs.Begins.{IsWithin}
 
--- the cells of these zones that meet P turned black, and those that were not black before are on the black pile
+-- the cells of these zones that meet P turned black, and those that were not black before are on the black pile; no
+-- cell may be scanned more often
 pub record Marks (P : Place → Type 0) (zones : ZoneSet) (h : HeapState) (p : Piles) (k : HeapState) (q : Piles) : Type 0
   where
     pub rest : k ≡ record h { colours = k.colours }
@@ -28,6 +30,7 @@ pub record Marks (P : Place → Type 0) (zones : ZoneSet) (h : HeapState) (p : P
     pub wake_pile : q.wake ≡ p.wake
     pub room_is : q.room ≡ p.room
     pub room : HasRoom k q
+    pub scans : ScansNoMore h p k q
 
 -- a cell was black already, or its black bit was set and it was put on the black pile
 abbrev pub Blackens : HeapState → Piles → Place → HeapState → Piles → Type 0

@@ -7,6 +7,8 @@ use Rattle.gz_names.specs.declared.replies.Report.{Report}
 use Rattle.gz_names.specs.declared.zone_sets.ZoneSet.{ZoneSet}
 use Rattle.cell_bits.specs.declared.bits.Bits.{Bits}
 use Rattle.colour_defs.specs.World.{World}
+use Rattle.weak_maps.specs.WeakMaps.{NoneLeft}
+use Rattle.weak_maps.specs.declared.colours.MarkColour.TheVariants as mark
 use Rattle.heap_core.specs.Shape.{is_marking, out_of, zone_of}
 use Rattle.barriers.specs.Reached.{HasEntry}
 use Rattle.barriers.specs.Colours.{IsBlack, IsSeen}
@@ -48,10 +50,10 @@ abbrev pub IsBlackFixed : CollectorState → (ℕ → Option Bits) → Type 0
 IsBlackFixed c flown = (m k v : Place) → HasEntry c.heap.shape m k v → IsBlack (heap_with c flown) m
     → IsBlack (heap_with c flown) k → is_marking c.heap.shape v ≡ true → IsBlack (heap_with c flown) v
 
--- black marking has nothing left to do
+-- black marking has nothing left to do: no cell is to be scanned in black, and no entry to be looked at
 pub record IsBlackDone (c : CollectorState) (flown : ℕ → Option Bits) : Type 0 where
   pub pile : c.stack.black ≡ []
-  pub fixed : IsBlackFixed c flown
+  pub looked : NoneLeft mark.Black c.heap.looks
 
 -- a collection runs, and its groups are not formed
 abbrev pub IsGrouping : CollectorState → Type 0
@@ -70,7 +72,7 @@ IsGrayFixed c flown g = (m k v : Place) → HasEntry c.heap.shape m k v → IsSe
 -- the gray marking of a group has nothing left to do
 pub record IsGrayDone (c : CollectorState) (flown : ℕ → Option Bits) (g : ZoneSet) : Type 0 where
   pub idle : IsGrayIdle c.heap c.stack c.lists g.bits
-  pub fixed : IsGrayFixed c flown g
+  pub looked : NoneLeft mark.Gray c.heap.looks
 
 -- a unit of the grouping goes on with the collection, whose groups are not formed
 pub record IsGroupingUnit (c : CollectorState) (unit : Unit) (d : CollectorState) : Type 0 where

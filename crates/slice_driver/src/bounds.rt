@@ -1,6 +1,8 @@
 // What bounds the work of a collection.
 ghost use Rattle.std.specs.Prelude.{◌<◌, ◌≤◌, ◌^◌, ℕ, Option, length, sum_by};
 ghost use Rattle.cell_bits.specs.declared.bits.Bits.{Bits};
+ghost use Rattle.weak_maps.specs.WeakMaps.{AreParallel};
+ghost use Rattle.heap_core.specs.Heap.{weak_of};
 ghost use Rattle.slice_driver.specs.GrayRoots.{HasFewWrappers};
 ghost use Rattle.slice_driver.specs.Left.{units_left};
 ghost use Rattle.slice_driver.specs.Units.{IsSound};
@@ -26,14 +28,17 @@ impl Collector {
         self.wrappers_law();
     }
 
-    // How many arenas, buffered places and zones there are at most. It does nothing.
+    // How many arenas, buffered places, zones and weak entries there are at most. It does nothing.
     pub(crate) fn sizes_law(&self)
         ensures arenas { length self.now.heap.shape.arenas < 2 ^ 32 }
         ensures buffered { sum_by length self.now.heap.buffers < 2 ^ 63 }
         ensures zones { length self.now.heap.shape.states ≤ 64 }
+        ensures entries { length self.now.heap.shape.weak.entries < 2 ^ 32 }
+        ensures parallel { AreParallel (weak_of self.now.heap) }
     {
         self.heap.arenas();
         self.heap.waiting();
         self.heap.zones();
+        self.heap.entries();
     }
 }

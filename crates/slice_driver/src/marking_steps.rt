@@ -3,15 +3,18 @@ ghost use Rattle.std.specs.Prelude.{◌≡◌, ◌≤◌, ◌<◌, [], IsSome};
 ghost use Rattle.marker.specs.GrayBits.{AreGraying};
 ghost use Rattle.marker.specs.Units.{IsGrayIdle};
 ghost use Rattle.slice_driver.specs.Units.{IsSound};
-ghost use Rattle.slice_driver.specs.Working.{DidOrStill, DoesQuietUnits, HasBegun, IsBlackDone, IsBlackFixed};
-ghost use Rattle.slice_driver.specs.Working.{IsGrayDone, IsGrayFixed, IsGroupDone};
+ghost use Rattle.weak_maps.specs.WeakMaps.{NoneLeft};
+ghost use Rattle.weak_maps.specs.declared.colours.MarkColour.TheVariants as mark;
+ghost use Rattle.slice_driver.specs.Working.{DidOrStill, DoesQuietUnits, HasBegun, IsBlackDone};
+ghost use Rattle.slice_driver.specs.Working.{IsGrayDone, IsGroupDone};
 
 use crate::collector::Collector;
-use cell_bits::{Colour, Flight};
+use cell_bits::Flight;
 use gz_names::ZoneSet;
 use heap_core::Steps;
 use marker::{Work, black_unit, gray_unit, weak_unit};
 use std::sync::ledger::Ledger;
+use weak_maps::MarkColour;
 
 impl Collector {
     // Follows a cell of the black pile. False where there is none.
@@ -29,24 +32,16 @@ impl Collector {
         }
     }
 
-    // Gives the value of a weak entry its black. False where there is none.
+    // Looks at a weak entry that is to be looked at in black. False where there is none.
     #[inline(always)]
-    fn adds_black<F: Flight, L: Ledger>(&mut self, flight: &mut F, steps: &mut Steps<L>) -> bool
+    fn adds_black<F: Flight>(&mut self, flight: &mut F) -> bool
         requires sound { IsSound self.old (F.bits flight.old) }
         requires running { IsSome self.old.run }
-        ensures done { DidOrStill result (IsBlackFixed self.old (F.bits flight.old)) self.old
+        ensures done { DidOrStill result (NoneLeft mark.Black self.old.heap.looks) self.old
             (F.bits flight.old) self.new (F.bits flight.new) }
         ensures origin { F.origin flight.new ≡ F.origin flight.old }
     {
-        let zones = self.heap.marking();
-        match weak_unit(
-            Colour::Black,
-            zones,
-            &mut self.heap,
-            &mut self.stack,
-            flight,
-            steps,
-        ) {
+        match weak_unit(MarkColour::Black, &mut self.heap, &mut self.stack, flight) {
             Work::Did => true,
             Work::Empty => false,
         }
@@ -68,7 +63,7 @@ impl Collector {
         if self.follows_black(flight, steps) {
             return true;
         }
-        self.adds_black(flight, steps)
+        self.adds_black(flight)
     }
 
     // Does a piece of gray marking for a group. False where there is none.
@@ -99,30 +94,17 @@ impl Collector {
         }
     }
 
-    // Gives the value of a weak entry in a group its gray. False where there is none.
-    fn adds_gray<F: Flight, L: Ledger>(
-        &mut self,
-        group: ZoneSet,
-        flight: &mut F,
-        steps: &mut Steps<L>,
-    ) -> bool
+    // Looks at a weak entry that is to be looked at in gray. False where there is none.
+    fn adds_gray<F: Flight>(&mut self, flight: &mut F) -> bool
         requires sound { IsSound self.old (F.bits flight.old) }
         requires running { IsSome self.old.run }
-        requires begun { AreGraying self.old.heap.shape group.bits }
-        ensures done { DidOrStill result (IsGrayFixed self.old (F.bits flight.old) group) self.old
+        ensures done { DidOrStill result (NoneLeft mark.Gray self.old.heap.looks) self.old
             (F.bits flight.old) self.new (F.bits flight.new) }
         ensures shape { self.new.heap.shape ≡ self.old.heap.shape }
         ensures groups { self.new.groups ≡ self.old.groups }
         ensures origin { F.origin flight.new ≡ F.origin flight.old }
     {
-        match weak_unit(
-            Colour::Gray,
-            group,
-            &mut self.heap,
-            &mut self.stack,
-            flight,
-            steps,
-        ) {
+        match weak_unit(MarkColour::Gray, &mut self.heap, &mut self.stack, flight) {
             Work::Did => true,
             Work::Empty => false,
         }
@@ -148,7 +130,7 @@ impl Collector {
         if self.follows_gray(group, flight, steps) {
             return true;
         }
-        self.adds_gray(group, flight, steps)
+        self.adds_gray(flight)
     }
 
     // Gray marking of the current group, whose zones have begun. False where it has nothing left to

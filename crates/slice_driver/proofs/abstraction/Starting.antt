@@ -29,6 +29,7 @@ use Rattle.heap_core.proofs.Empty.{shows-empty}
 use Rattle.barriers.specs.Colours.{IsSeen, lacks_black}
 use Rattle.barriers.specs.PendingLive.{GrayInvariant, buffer_of}
 use Rattle.barriers.specs.Invariant.{MarkingInvariant, ShapeInvariant}
+use Rattle.barriers.proofs.Scans.{once_empty}
 use Rattle.barriers.proofs.Slots.{slots_most}
 use Rattle.slice_driver.specs.Collector.{CollectorState, heap_with}
 use Rattle.slice_driver.specs.Worlds.{LiesIn, outs_from, owners_of}
@@ -152,6 +153,11 @@ module _ (c : CollectorState) (e : IsEmpty c.heap) where
           weak_closed = λ m k v is bm bk off. absurd (cc (e.entries m k, is));
         };
         none_woken = wake;
+        weak = record {
+          black = λ m k v is bm bk on. absurd (cc (e.entries m k, is));
+          gray = λ m k v is sm sk takes. absurd (cc (e.entries m k, is));
+        };
+        once = once_empty h stack black gray;
       }
 
   gray_begins : (stack : Piles) → stack.gray ≡ [] → ((n : ℕ) → list_of c.lists n ≡ []) → GrayInvariant h stack c.lists

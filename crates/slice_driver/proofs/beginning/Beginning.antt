@@ -33,6 +33,7 @@ use Rattle.barriers.specs.Reached as reached
 use Rattle.barriers.specs.Colours.{IsBlack, IsGray, IsSeen}
 use Rattle.barriers.specs.PendingBlack.{PendingBlack}
 use Rattle.barriers.specs.PendingLive.{GrayInvariant, IsLiveStart, PendingLive}
+use Rattle.barriers.specs.WeakPoint.{WeakPoint, left_of}
 use Rattle.barriers.specs.Invariant.{ColourInvariant, MarkingInvariant, ShapeInvariant}
 use Rattle.barriers.specs.Spreading.{Covers}
 use Rattle.barriers.proofs.Slots.{slots_most}
@@ -193,6 +194,19 @@ module _ (h : HeapState) (old : Piles) (zones : ZoneSet) (k : HeapState) (stack 
         ]);
   }
 
+  -- each black cell of a marking zone is on the black pile, and no zone takes gray
+  weak_begun : WeakPoint k stack (left_of k)
+  weak_begun = record {
+    black = λ m q v e bm bq on.
+        let within : IsWithin h.shape zones m = zone_within v m (sym (shape.one_zone m q v (entry_was m q v e)).0)
+        (is_in v on) in
+        inr (inl ((b.black_pile m).1 (bm, within)));
+    gray = λ m q v e sm sq takes.
+        let only = b.states (zone_of h.shape v) (is_in v (ap is_marking_state takes)) in
+        let now = ap (state_in k.shape) (sym (zone_same v)) ∙ takes in
+        cc (only, now);
+  }
+
   pub marking_begun : MarkingInvariant k stack
   marking_begun = record {
     holds = record {
@@ -223,6 +237,8 @@ module _ (h : HeapState) (old : Piles) (zones : ZoneSet) (k : HeapState) (stack 
           inl (b.outside v out ∙ black_value m q v was (sym (b.outside m om) ∙ bm) (sym (b.outside q oq) ∙ bq));
     };
     none_woken = b.wake_pile;
+    weak = weak_begun;
+    once = b.once;
   }
 
   pub gray_begun : GrayInvariant k stack lists
@@ -531,7 +547,8 @@ module _ (h : HeapState) (old : Piles) (w v : World) (zones : ZoneSet) (k : Heap
 
   live_tied : (p : Place) (x : Name) → name_at h.shape p ≡ Some x → PendingLive k stack lists p ↔ LiveClosure c x
   live_tied p x e =
-      let both = same_reached h w l (IsLiveRoot h zones) (λ y. Has c.live_starts y ⊎ Has c.woken y) live_starts p x e in (
+      let both =
+      same_reached h w l (IsLiveRoot h zones) (λ y. Has c.live_starts y ⊎ Has c.woken y) live_starts p x e in (
         λ pending. subst (λ g. Closure g (λ y. Has c.live_starts y ⊎ Has c.woken y) x) (sym bg.snapshot_is)
             (both.0 (reached_from h.shape (IsLiveStart k) (IsLiveRoot h zones) live_reached
             (to_h (IsLiveStart k) (live_is_reached k stack lists begun gray pending)))),

@@ -31,6 +31,8 @@ use Rattle.zone_edges.proofs.SoundWrappers.{sound_has_wrappers}
 use Rattle.barriers.specs.Colours.{IsBlack, IsSeen, lacks_black}
 use Rattle.barriers.specs.Invariant.{MarkingInvariant}
 use Rattle.barriers.specs.PendingLive.{GrayInvariant, buffer_of}
+use Rattle.barriers.specs.Scans.{AreScannedOnce}
+use Rattle.barriers.proofs.Scans.{once_empty, once_kept}
 use Rattle.barriers.proofs.Slots.{slots_most}
 use Rattle.slice_driver.specs.Collector.{CollectorState, heap_with}
 use Rattle.slice_driver.specs.Represents.{IsIdle, Represents, RunsAs}
@@ -172,6 +174,9 @@ module _ (c : CollectorState) (w : World) (rep : Represents c flight.none_flown 
         c.stack l r
     both = marks_then (λ x. Contains h.shape.regs (Some x)) (IsTargetAmong k zones (length k.shape.states)) zones clear
         c.stack k q l r regs targets
+
+    once_marked : AreScannedOnce l r
+    once_marked = once_kept clear c.stack l r both.scans (once_empty clear c.stack idle.black idle.gray)
 
     shape_first : k.shape ≡ h.shape
     shape_first = shape_still (λ x. Contains h.shape.regs (Some x)) zones clear c.stack k q regs
@@ -318,6 +323,7 @@ module _ (c : CollectorState) (w : World) (rep : Represents c flight.none_flown 
               gray = both.room.gray;
               room = both.room.room;
             };
+            once = record { black = once_marked.black; gray = once_marked.gray };
             buffered = λ z x. subst (λ (xs : List (List Place)). Contains (buffer_at xs z) x ↔ IsGrayRoot h zones z x)
                 (sym (ap (λ (y : HeapState). y.buffers) both.rest)) (gray_root z x);
             none_incoming = none_incoming c w rep idle_run;

@@ -27,6 +27,7 @@ use Rattle.barriers.specs.Invariant.{HasRoom}
 use Rattle.heap_core.specs.MarkBits.{SetsBlack}
 use Rattle.barriers.proofs.BlackClosure.{black_or_not}
 use Rattle.barriers.proofs.Places.{same_or_other, same_place}
+use Rattle.barriers.proofs.Scans.{no_more_twice, none_more, pushed_black}
 use Rattle.barriers.proofs.Slots.{black_now, colour_elsewhere, left_less, not_black_bit, slots_fewer, slots_set}
 use Rattle.barriers.proofs.Slots.{white_no_more}
 use Rattle.slice_driver.specs.Begins.{IsWithin}
@@ -48,6 +49,7 @@ marks_still P zones h p room e = record {
   wake_pile = refl;
   room_is = refl;
   room = room;
+  scans = none_more h p;
 }
 
 -- one condition for another
@@ -67,6 +69,7 @@ marks_same P Q zones h p k q e m = record {
   wake_pile = m.wake_pile;
   room_is = m.room_is;
   room = m.room;
+  scans = m.scans;
 }
 
 -- what the heap and the piles are by another name
@@ -135,6 +138,7 @@ marks_then P Q zones h p k q l r m n =
       wake_pile = n.wake_pile ∙ m.wake_pile;
       room_is = n.room_is ∙ m.room_is;
       room = n.room;
+      scans = no_more_twice h p k q l r m.scans n.scans;
     }
 
 -- one cell turned black
@@ -224,6 +228,7 @@ module _ (h : HeapState) (p : Piles) (x : Place) (zones : ZoneSet) (b d : Bits) 
       gray = omega (arith, room.gray, sized, whites_less);
       room = omega (arith, room.room, sized);
     };
+    scans = pushed_black h x turned not_before now_black other_colour p;
   }
 
 pub marks_black : (h : HeapState) (p : Piles) (x : Place) (zones : ZoneSet) (k : HeapState) (q : Piles) → HasRoom h p

@@ -149,6 +149,7 @@ module _ (old : HeapState) (flown : ℕ → Option Bits) (covers : Covers old.sh
       count = by.0.count;
       entries = by.0.entries;
       left = by.0.left;
+      parallel = by.0.parallel;
     },
     by.1,
   )
@@ -158,6 +159,7 @@ module _ (old : HeapState) (flown : ℕ → Option Bits) (covers : Covers old.sh
       values = by.0.values;
       count = by.0.count;
       carries = by.0.carries;
+      parallel = by.0.parallel;
     },
     by.1,
   )

@@ -106,6 +106,8 @@ marks_room h p q e more inv = subst (λ (z : Piles). MarkingInvariant h z) (sym 
     weak_closed = inv.holds.weak_closed;
   };
   none_woken = inv.none_woken;
+  weak = record { black = inv.weak.black; gray = inv.weak.gray };
+  once = record { black = inv.once.black; gray = inv.once.gray };
 })
 
 pub gray_room : (h : HeapState) (p q : Piles) (lists more : Incoming) → q ≡ record p { room = q.room }

@@ -30,6 +30,8 @@ use Rattle.barriers.specs.PendingLive.{GrayInvariant}
 use Rattle.barriers.specs.Invariant.{ColourInvariant, MarkingInvariant}
 use Rattle.barriers.specs.Spreading.{Covers}
 use Rattle.barriers.specs.Birth.{Born}
+use Rattle.barriers.specs.WeakPoint.{StayLeft}
+use Rattle.barriers.proofs.StayingLeft.{carries_stay, puts_stay}
 use Rattle.barriers.specs.Rewiring.{MayCome, Rewired, SetsEntry}
 use Rattle.barriers.proofs.Births.{born_black, born_gray, born_invariant, born_live}
 use Rattle.barriers.proofs.Changing.{rewired_comp, rewired_entry, rewired_number, rewired_reg, rewired_slot}
@@ -329,15 +331,16 @@ module _ (old new : HeapState) (flown : ℕ → Option Bits) (s : Piles) (lists 
       → new ≡ record old { shape = record old.shape { weak = new.shape.weak }; looks = new.looks }
       → ((a b : Place) → value_of new.shape.weak a b
       ≡ (if is_same m a && is_same k b then v else value_of old.shape.weak a b))
-      → SetsEntry h m k v (joined new flown)
-  sets_entry m k v rest values =
-      record { rest = ap (λ (z : HeapState). joined z flown) rest; values = values }
+      → StayLeft old new → SetsEntry h m k v (joined new flown)
+  sets_entry m k v rest values left =
+      record { rest = ap (λ (z : HeapState). joined z flown) rest; values = values; left = left }
 
   serves_put : (n : ℕ) (m k v : Place) → IsAble old.shape n (change.Put m k v)
       → ((p : Place) → value_of old.shape.weak m k ≡ Some p → IsBlack h p) → IsWith old m k v new
       → Serves h (joined new flown) s lists
   serves_put n m k v able black w = serves_rewired h (joined new flown) s lists inv gray
-      (rewired_entry h m k (Some v) (joined new flown) (sets_entry m k (Some v) w.rest w.values) ci black
+      (rewired_entry h m k (Some v) (joined new flown) (sets_entry m k (Some v) w.rest w.values
+      (puts_stay old new m k v w.entries w.left)) ci black
       (λ q e. subst (MayCome h m k) (some_one _ _ e) (record {
         black = ci.regs_black v able.2.held;
         map = held_there m able.0;
@@ -349,7 +352,8 @@ module _ (old new : HeapState) (flown : ℕ → Option Bits) (s : Piles) (lists 
   serves_del : (m k : Place) → ((p : Place) → value_of old.shape.weak m k ≡ Some p → IsBlack h p)
       → IsWithout old m k new → Serves h (joined new flown) s lists
   serves_del m k black w = serves_rewired h (joined new flown) s lists inv gray
-      (rewired_entry h m k None (joined new flown) (sets_entry m k None w.rest w.values) ci black
+      (rewired_entry h m k None (joined new flown) (sets_entry m k None w.rest w.values
+      (carries_stay old new w.carries)) ci black
       (λ q e. absurd (cc e)))
 
   pub serves : (n : ℕ) (ch : Change) (answer : Reply) → IsAble old.shape n ch

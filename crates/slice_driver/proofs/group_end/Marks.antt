@@ -22,6 +22,10 @@ use Rattle.heap_core.specs.Heap.{HeapState, colour_in, colour_of}
 use Rattle.barriers.specs.Reached.{Reached, HasEntry}
 use Rattle.barriers.specs.Reached as reached
 use Rattle.barriers.specs.Colours.{IsBlack, IsSeen, lacks_black, slots_in}
+use Rattle.weak_maps.specs.declared.colours.MarkColour.TheVariants as mark
+use Rattle.barriers.specs.WeakPoint.{WeakPoint, left_of}
+use Rattle.barriers.proofs.Scans.{once_alike}
+use Rattle.barriers.proofs.StayingLeft.{carried_stay}
 use Rattle.barriers.specs.Invariant.{ColourInvariant, HasRoom, MarkingInvariant, ShapeInvariant}
 use Rattle.barriers.specs.PendingBlack.{PendingBlack}
 use Rattle.barriers.specs.PendingBlack as black_closure
@@ -218,6 +222,26 @@ module _ (c : CollectorState) (flown : ℕ → Option Bits) (w : World) (k : Col
     room = subst (λ (cs : List Bits). 64 * length cs ≤ c.stack.room) (sym colours_same) was.holds.piles.room.room;
   }
 
+  entry_then : (m q v : Place) → HasEntry n.shape m q v → HasEntry c.heap.shape m q v
+  entry_then m q v f = entry_was c flown w k g rest ok s ready at grays listed n e m q v f
+
+  -- where a zone still takes gray it did, and entries are left as they were
+  weak_after : WeakPoint n c.stack (left_of n)
+  weak_after = record {
+    black = λ m q v f bm bq on.
+        inl (black_on v (black_values c.heap c.stack c.lists was was_gray g ready.marked m q v (entry_then m q v f)
+        (black_back m bm) (black_back q bq)));
+    gray = λ m q v f sm sq takes.
+        let then_state = ap (state_in c.heap.shape) (sym (zone_same v))
+        ∙ sym (marking_before (zone_of n.shape v) (ap is_marking_state takes)).1 ∙ takes in
+        elim (was.weak.gray m q v (entry_then m q v f) (seen_back m sm) (seen_back q sq) then_state) [
+          | inl sv ↦ inl (seen_on v sv)
+          | inr (inl p) ↦ inr (inl p)
+          | inr (inr (inl p)) ↦ inr (inr (inl p))
+          | inr (inr (inr l)) ↦ inr (inr (inr (carried_stay c.heap n e.carries mark.Gray m q l)))
+        ];
+  }
+
   pub marks_after : MarkingInvariant n c.stack
   marks_after = record {
     holds = record {
@@ -236,6 +260,8 @@ module _ (c : CollectorState) (flown : ℕ → Option Bits) (w : World) (k : Col
           (entry_was c flown w k g rest ok s ready at grays listed n e m q v f) (black_back m bm) (black_back q bq)));
     };
     none_woken = was.none_woken;
+    weak = weak_after;
+    once = once_alike c.heap n c.stack colour_same was.once;
   }
 
   waiting_back : (z : ℕ) (x : Place) → Contains (buffer_of n z) x → Contains (buffer_of c.heap z) x
@@ -270,7 +296,8 @@ module _ (c : CollectorState) (flown : ℕ → Option Bits) (w : World) (k : Col
     | inr (inr (inr noted))
         ↦ inr (inr (inr (
           noted.0,
-          ap (option_map (λ (z : CellState). z.comp)) (cell_on c flown w k g rest ok s ready at grays listed n e y stays)
+          ap (option_map (λ (z : CellState). z.comp))
+              (cell_on c flown w k g rest ok s ready at grays listed n e y stays)
               ∙ noted.1,
           noted.2,
         )))

@@ -19,6 +19,7 @@ use Rattle.zone_edges.proofs.SoundWrappers.{sound_has_wrappers}
 use Rattle.colour_defs.specs.World.{Collection, World}
 use Rattle.barriers.specs.Colours.{IsBlack}
 use Rattle.heap_core.specs.Shape.{Shape, out_of}
+use Rattle.slice_driver.proofs.marking.MarkingUnits.{black_fixed}
 use Rattle.slice_driver.specs.Collector.{AreUngrouped, CollectorState, RunState, SomeWaits, heap_with, run_of}
 use Rattle.slice_driver.specs.declared.collector.Run.{Run}
 use Rattle.slice_driver.proofs.abstraction.Named.{some_one}
@@ -96,7 +97,8 @@ look_goes c edges g looks zones stepped flown s black =
       black_empty = black.pile;
       black_fixed = λ m k v has bm bk mv.
           subst (λ h. IsBlack h v) own
-          (black.fixed m k v has (subst (λ h. IsBlack h m) (sym own) bm) (subst (λ h. IsBlack h k) (sym own) bk) mv);
+          (black_fixed c flown s black m k v has (subst (λ h. IsBlack h m) (sym own) bm)
+          (subst (λ h. IsBlack h k) (sym own) bk) mv);
       looks = looks;
       zones_are = zones;
       stepped_is = stepped;

@@ -1,13 +1,12 @@
 -- What units of marking do for a collector.
-use Rattle.std.proofs.Common.{◌≡◌, ◌≢◌, ◌⊎◌, ◌↔◌, ◌<◌, ◌+◌, ℕ, Bool, true, false, List, [], ◌∷◌, Option, Some, None}
-use Rattle.std.proofs.Common.{IsSome, IsSomeAnd, Contains, slice_get, inl, inr, refl, sym, ap, subst, ◌∙◌}
-use Rattle.gz_names.specs.Zones.{HasZone}
+use Rattle.std.proofs.Common.{◌≡◌, ◌≢◌, ◌⊎◌, ◌↔◌, ◌<◌, ◌+◌, ℕ, Bool, true, false, List, [], ◌∷◌, Option, Some}
+use Rattle.std.proofs.Common.{IsSome, Contains, slice_get, inl, inr, refl, sym, ap, subst, ◌∙◌}
 use Rattle.gz_names.specs.declared.numbers.Place.{Place}
 use Rattle.gz_names.specs.declared.replies.Report.{Report}
 use Rattle.gz_names.specs.declared.zone_sets.ZoneSet.{ZoneSet}
 use Rattle.cell_bits.specs.declared.bits.Bits.{Bits}
+use Rattle.cell_bits.specs.declared.bits.Colour.{Colour}
 use Rattle.cell_bits.specs.declared.bits.Colour.TheVariants as colour
-use Rattle.zones.specs.States.{IsMarking}
 use Rattle.zones.specs.declared.states.State.{State}
 use Rattle.zones.specs.declared.states.State.TheVariants as state
 use Rattle.mark_stack.specs.Stack.{Piles}
@@ -15,18 +14,24 @@ use Rattle.roots.specs.Buffers.{buffer_at}
 use Rattle.gray_lists.specs.Incoming.{Incoming}
 use Rattle.colour_defs.specs.World.{World}
 use Rattle.colour_defs.proofs.Lists.{contains_head, nothing_in_none}
-use Rattle.heap_core.specs.Shape.{Shape, is_marking, is_marking_state, state_in, state_of, state_or, zone_of}
+use Rattle.heap_core.specs.Shape.{Shape, is_marking, is_marking_state, state_in, state_of, zone_of}
 use Rattle.heap_core.specs.Heap.{HeapState, colour_of, joined}
 use Rattle.heap_core.proofs.MakingCells.{same-place}
-use Rattle.barriers.specs.Reached.{HasEntry, Reached}
-use Rattle.barriers.specs.Colours.{IsBlack, IsSeen}
+use Rattle.barriers.specs.Reached.{Reached}
+use Rattle.barriers.specs.Colours.{IsBlack}
 use Rattle.barriers.specs.Exposing.{KeepsLive}
 use Rattle.barriers.specs.Invariant.{MarkingInvariant}
 use Rattle.barriers.specs.PendingBlack.{PendingBlack}
 use Rattle.barriers.specs.PendingLive.{GrayInvariant, buffer_of}
 use Rattle.barriers.specs.Spreading.{Blackens, Covers}
 use Rattle.marker.specs.GrayBits.{AreGraying}
-use Rattle.marker.specs.Units.{DoesGray, DoesWeak, IsFixed, IsGrayIdle, WantsColour, work_left}
+use Rattle.barriers.specs.WeakPoint.{IsPiled}
+use Rattle.barriers.proofs.StayingLeft.{none_left}
+use Rattle.weak_maps.specs.WeakMaps.{NoneLeft}
+use Rattle.weak_maps.specs.declared.colours.MarkColour.{MarkColour}
+use Rattle.weak_maps.specs.declared.colours.MarkColour.TheVariants as mark
+use Rattle.marker.specs.Looks.{RaisesTo, weaker, with_looks}
+use Rattle.marker.specs.Units.{DoesGray, DoesLook, IsGrayIdle, work_left}
 use Rattle.slice_driver.specs.Collector.{CollectorState, heap_with}
 use Rattle.slice_driver.specs.Closures.{AreBlack}
 use Rattle.slice_driver.specs.Left.{units_left, grouping_left, steps_left, arenas_left}
@@ -65,8 +70,8 @@ module _ (c : CollectorState) (h : HeapState) (p : Piles) (shape_is : h.shape �
 -- a cell of the black pile was followed
 pub black_followed : (c : CollectorState) (flown flying : ℕ → Option Bits) (h : HeapState) (p : Piles) → IsSound c flown
     → IsSome c.run → Covers h.shape flying → MarkingInvariant (joined h flying) p
-    → Blackens (Reached c.heap.shape (IsBlack (heap_with c flown))) (heap_with c flown) (joined h flying)
-    → p.gray ≡ c.stack.gray
+    → Blackens (Reached c.heap.shape (IsBlack (heap_with c flown))) (with_looks (heap_with c flown) h.looks)
+    (joined h flying) → p.gray ≡ c.stack.gray
     → ((y : Place) → PendingBlack (joined h flying) p y ↔ PendingBlack (heap_with c flown) c.stack y)
     → KeepsLive (heap_with c flown) c.stack (joined h flying) p
     → ((lists : Incoming) → work_left (joined h flying) p lists < work_left (heap_with c flown) c.stack lists)
@@ -95,58 +100,6 @@ black_followed c flown flying h p s running covers inv bl gray pending live less
     } in
     marked_goes c flown d flying m running (less c.lists)
 
--- what the weak rule coloured: black, or gray in a marking zone
-weak_others : (c : CollectorState) (flown flying : ℕ → Option Bits) (h : HeapState) (value : Place)
-    → ((y : Place) → y ≢ value → colour_of (joined h flying) y ≡ colour_of (heap_with c flown) y)
-    → (IsBlack (joined h flying) value ⊎ (is_marking c.heap.shape value ≡ true)) → (y : Place)
-    → IsBlack (joined h flying) y
-    ⊎ ((colour_of (joined h flying) y ≡ colour_of (heap_with c flown) y) ⊎ (is_marking c.heap.shape y ≡ true))
-weak_others c flown flying h value others own y = elim (same-place y value) [
-  | inr n ↦ inr (inl (others y n.0))
-  | inl e ↦ elim own [
-    | inl b ↦ inl (subst (λ z. IsBlack (joined h flying) z) (sym e.0) b)
-    | inr m ↦ inr (inr (subst (λ z. is_marking c.heap.shape z ≡ true) (sym e.0) m))
-  ]
-]
-
--- the value of a weak entry got a colour
-weak_added : (c : CollectorState) (flown flying : ℕ → Option Bits) (h : HeapState) (p : Piles)
-    (col : Rattle.cell_bits.specs.declared.bits.Colour.Colour) (zones : ℕ) (s : IsSound c flown) → IsSome c.run
-    → Covers h.shape flying → (does : DoesWeak col zones (heap_with c flown) c.stack (joined h flying) p)
-    → (IsBlack (joined h flying) does.value ⊎ (is_marking c.heap.shape does.value ≡ true))
-    → (((z : ℕ) → state_in c.heap.shape z ≢ state.MarkBlackAndGray) → p.gray ≡ [])
-    → GoesOn c flown [] (record c { heap = h; stack = p }) flying
-weak_added c flown flying h p col zones s running covers does own gray =
-    let rep = s.represents in
-    let d : CollectorState = record c { heap = h; stack = p } in
-    let shape_is : h.shape ≡ c.heap.shape = ap (λ (z : HeapState). z.shape) does.rest in
-    let both = does.pending_live c.lists rep.gray in
-    let m : Marked c flown d flying = record {
-      shape_is = shape_is;
-      made_is = ap (λ (z : HeapState). z.made) does.rest;
-      edges_is = refl;
-      groups_is = refl;
-      run_is = refl;
-      flies = still_flies c.heap h flown flying rep.flies shape_is rep.marks.holds.colours does.invariant.holds.colours
-          covers (own_sized c.heap flown c.stack rep.marks) (own_sized h flying p does.invariant) does.black_kept
-          (weak_others c flown flying h does.value does.others own);
-      marks = does.invariant;
-      gray = both.0;
-      waits = waits_on c h p shape_is (ap (λ (z : HeapState). z.buffers) does.rest) rep.waits gray;
-      darker = does.black_kept;
-      black = does.pending_black;
-      live = both.1;
-    } in
-    marked_goes c flown d flying m running (does.less c.lists)
-
-pub black_added : (c : CollectorState) (flown flying : ℕ → Option Bits) (h : HeapState) (p : Piles) (zones : ℕ)
-    → IsSound c flown → IsSome c.run → Covers h.shape flying
-    → DoesWeak colour.Black zones (heap_with c flown) c.stack (joined h flying) p
-    → GoesOn c flown [] (record c { heap = h; stack = p }) flying
-black_added c flown flying h p zones s running covers does =
-    weak_added c flown flying h p colour.Black zones s running covers does (inl does.coloured)
-    (λ none. ap (λ (q : Piles). q.gray) does.piles ∙ s.represents.waits.gray none)
-
 -- on the gray pile is nothing, where no zone takes gray
 none_on_gray : (c : CollectorState) (p : Piles) → WaitsWhileMarking c
     → ((x : Place) → Contains p.gray x → Contains c.stack.gray x ⊎ (state_of c.heap.shape x ≡ state.MarkBlackAndGray))
@@ -156,14 +109,55 @@ none_on_gray c p waits only none = none_in_it p.gray (λ x has. elim (only x has
   | inr takes ↦ none (zone_of c.heap.shape x) takes
 ])
 
-pub gray_added : (c : CollectorState) (flown flying : ℕ → Option Bits) (h : HeapState) (p : Piles) (zones : ℕ)
-    → IsSound c flown → IsSome c.run → AreGraying c.heap.shape zones → Covers h.shape flying
-    → DoesWeak colour.Gray zones (heap_with c flown) c.stack (joined h flying) p
+-- what a look coloured: black, or gray in a marking zone
+raised_others : (d : Colour) (h : HeapState) (p : Piles) (v : Place) (k : HeapState) (q : Piles) → RaisesTo d h p v k q
+    → (y : Place) → IsBlack k y ⊎ ((colour_of k y ≡ colour_of h y) ⊎ (is_marking h.shape y ≡ true))
+raised_others colour.White h p v k q (ek, eq) y = inr (inl (ap (λ (z : HeapState). colour_of z y) ek))
+raised_others colour.Gray h p v k q (inl (none, ek, eq)) y = inr (inl (ap (λ (z : HeapState). colour_of z y) ek))
+raised_others colour.Gray h p v k q (inr (grayed, pushes)) y = elim (same-place y v) [
+  | inr n ↦ inr (inl (grayed.others y n.0))
+  | inl e ↦ inr (inr (subst (λ z. is_marking h.shape z ≡ true) (sym e.0) (ap is_marking_state grayed.takes)))
+]
+raised_others colour.Black h p v k q (inl (was, ek, eq)) y = inr (inl (ap (λ (z : HeapState). colour_of z y) ek))
+raised_others colour.Black h p v k q (inr (inl (turned, on, pushes))) y = elim (same-place y v) [
+  | inr n ↦ inr (inl (turned.others y n.0))
+  | inl e ↦ inl (subst (λ z. IsBlack k z) (sym e.0) turned.black)
+]
+raised_others colour.Black h p v k q (inr (inr (turned, off, pushes))) y = elim (same-place y v) [
+  | inr n ↦ inr (inl (turned.others y n.0))
+  | inl e ↦ inl (subst (λ z. IsBlack k z) (sym e.0) turned.black)
+]
+
+-- a weak entry was looked at
+pub entry_looked : (c : CollectorState) (flown flying : ℕ → Option Bits) (h : HeapState) (p : Piles)
+    (colour_is : MarkColour) → IsSound c flown → IsSome c.run → Covers h.shape flying
+    → DoesLook colour_is (heap_with c flown) c.stack (joined h flying) p
     → GoesOn c flown [] (record c { heap = h; stack = p }) flying
-gray_added c flown flying h p zones s running group covers does =
-    weak_added c flown flying h p colour.Gray zones s running covers does
-    (inr (ap is_marking_state ((group (zone_of c.heap.shape does.value)).0 does.wanted.work.0)))
-    (none_on_gray c p s.represents.waits does.gray_pile)
+entry_looked c flown flying h p colour_is s running covers does =
+    let rep = s.represents in
+    let d : CollectorState = record c { heap = h; stack = p } in
+    let shape_is : h.shape ≡ c.heap.shape = ap (λ (z : HeapState). z.shape) does.rest in
+    let both = does.pending_live c.lists rep.gray in
+    let before : HeapState = with_looks (heap_with c flown) h.looks in
+    let m : Marked c flown d flying = record {
+      shape_is = shape_is;
+      made_is = ap (λ (z : HeapState). z.made) does.rest;
+      edges_is = refl;
+      groups_is = refl;
+      run_is = refl;
+      flies = still_flies c.heap h flown flying rep.flies shape_is rep.marks.holds.colours does.invariant.holds.colours
+          covers (own_sized c.heap flown c.stack rep.marks) (own_sized h flying p does.invariant) does.black_kept
+          (raised_others (weaker (colour_of before does.map) (colour_of before does.key)) before c.stack does.value
+          (joined h flying) p does.raises);
+      marks = does.invariant;
+      gray = both.0;
+      waits = waits_on c h p shape_is (ap (λ (z : HeapState). z.buffers) does.rest) rep.waits
+          (none_on_gray c p rep.waits does.gray_pile);
+      darker = does.black_kept;
+      black = does.pending_black;
+      live = both.1;
+    } in
+    marked_goes c flown d flying m running (does.less c.lists)
 
 -- a piece of gray marking was done
 pub gray_followed : (c : CollectorState) (flown : ℕ → Option Bits) (h : HeapState) (p : Piles) (lists : Incoming)
@@ -248,37 +242,29 @@ still_gray c flown h p l eh ep el = record {
   worlds = λ w s. s;
 }
 
--- a marking zone, by its state
-marking_found : (o : Option State) → is_marking_state (state_or o) ≡ true → IsSomeAnd o IsMarking
-marking_found None e = absurd (cc e)
-marking_found (Some state.NoGC) e = absurd (cc e)
-marking_found (Some state.MarkBlackOnly) e = inl refl
-marking_found (Some state.MarkBlackAndGray) e = inr refl
-marking_found (Some state.Sweep) e = absurd (cc e)
-marking_found (Some state.Finished) e = absurd (cc e)
+-- where no cell is to be scanned and no entry to be looked at, the weak rule adds nothing
+pub black_fixed : (c : CollectorState) (flown : ℕ → Option Bits) → IsSound c flown → IsBlackDone c flown
+    → IsBlackFixed c flown
+black_fixed c flown s done m k v has bm bk on = elim (s.represents.marks.weak.black m k v has bm bk on) [
+  | inl b ↦ b
+  | inr (inl p) ↦ absurd (nothing_in_none m (subst (λ (xs : List Place). Contains xs m) done.pile p))
+  | inr (inr (inl p)) ↦ absurd (nothing_in_none k (subst (λ (xs : List Place). Contains xs k) done.pile p))
+  | inr (inr (inr l)) ↦ absurd (none_left (heap_with c flown) mark.Black done.looked done.looked m k v has l)
+]
 
-state_marking : (o : Option State) → IsSomeAnd o IsMarking → is_marking_state (state_or o) ≡ true
-state_marking None a = absurd a
-state_marking (Some s) a = elim a [ inl e ↦ ap is_marking_state e | inr e ↦ ap is_marking_state e ]
-
--- the weak rule for black, where it adds nothing, and where it has a cell to colour
-module _ (c : CollectorState) (flown : ℕ → Option Bits) (zones : ZoneSet) (marking : (z : ℕ) → HasZone zones.bits z
-    ↔ IsSomeAnd (slice_get c.heap.shape.states z) IsMarking) where
-  pub black_fixed : IsFixed (heap_with c flown) colour.Black zones.bits → IsBlackFixed c flown
-  black_fixed fixed m k v has bm bk mv =
-      fixed m k v has bm bk
-      ((marking (zone_of c.heap.shape v)).1 (marking_found (slice_get c.heap.shape.states (zone_of c.heap.shape v)) mv))
-
-  pub black_wanted : (x : Place) → WantsColour (heap_with c flown) colour.Black zones.bits x → IsBlackFixed c flown → ⊥
-  black_wanted x w fixed =
-      w.work.3 (fixed w.map w.key x w.entry w.work.1 w.work.2
-      (state_marking (slice_get c.heap.shape.states (zone_of c.heap.shape x))
-      ((marking (zone_of c.heap.shape x)).0 w.work.0)))
-
--- the same for gray
-pub gray_wanted : (c : CollectorState) (flown : ℕ → Option Bits) (g : ZoneSet) (x : Place)
-    → WantsColour (heap_with c flown) colour.Gray g.bits x → IsGrayFixed c flown g → ⊥
-gray_wanted c flown g x w fixed = w.work.3 (fixed w.map w.key x w.entry w.work.1 w.work.2 w.work.0)
+pub gray_fixed : (c : CollectorState) (flown : ℕ → Option Bits) (g : ZoneSet) → IsSound c flown → IsBlackDone c flown
+    → AreGraying c.heap.shape g.bits → IsGrayDone c flown g → IsGrayFixed c flown g
+gray_fixed c flown g s black begun done m k v has sm sk here =
+    elim (s.represents.marks.weak.gray m k v has sm sk ((begun (zone_of c.heap.shape v)).0 here)) [
+      | inl sv ↦ sv
+      | inr (inl p) ↦ absurd (off m p)
+      | inr (inr (inl p)) ↦ absurd (off k p)
+      | inr (inr (inr l)) ↦ absurd (none_left (heap_with c flown) mark.Gray done.looked black.looked m k v has l)
+    ]
+  where
+    off : (x : Place) → IsPiled c.stack x → ⊥
+    off x (inl p) = nothing_in_none x (subst (λ (xs : List Place). Contains xs x) black.pile p)
+    off x (inr p) = nothing_in_none x (subst (λ (xs : List Place). Contains xs x) done.idle.pile p)
 
 -- one step after another that did nothing
 pub both_still : (c : CollectorState) (flown : ℕ → Option Bits) (d : CollectorState) (f1 : ℕ → Option Bits)
@@ -293,32 +279,16 @@ both_still c flown d f1 e f2 a b = record {
 -- with the same colours the same work is left
 module _ (c : CollectorState) (flown : ℕ → Option Bits) (d : CollectorState) (flying : ℕ → Option Bits)
     (a : IsStill c flown d flying) where
-  abbrev IsBlackFixedBy : HeapState → Type 0
-  IsBlackFixedBy h = (m k v : Place) → HasEntry c.heap.shape m k v → IsBlack h m → IsBlack h k
-      → is_marking c.heap.shape v ≡ true → IsBlack h v
-
-  abbrev IsGrayFixedBy : ZoneSet → HeapState → Type 0
-  IsGrayFixedBy g h = (m k v : Place) → HasEntry c.heap.shape m k v → IsSeen h m → IsSeen h k
-      → HasZone g.bits (zone_of c.heap.shape v) → IsSeen h v
-
-  pub still_black_fixed : IsBlackFixed c flown ↔ IsBlackFixed d flying
-  still_black_fixed = (
-    λ fixed. subst (λ (x : CollectorState). IsBlackFixed x flying) (sym a.same)
-        (subst IsBlackFixedBy (sym a.colours) fixed),
-    λ fixed. subst IsBlackFixedBy a.colours (subst (λ (x : CollectorState). IsBlackFixed x flying) a.same fixed),
-  )
-
-  pub still_gray_fixed : (g : ZoneSet) → IsGrayFixed c flown g ↔ IsGrayFixed d flying g
-  still_gray_fixed g = (
-    λ fixed. subst (λ (x : CollectorState). IsGrayFixed x flying g) (sym a.same)
-        (subst (IsGrayFixedBy g) (sym a.colours) fixed),
-    λ fixed. subst (IsGrayFixedBy g) a.colours (subst (λ (x : CollectorState). IsGrayFixed x flying g) a.same fixed),
+  pub still_looked : (colour_is : MarkColour) → NoneLeft colour_is c.heap.looks ↔ NoneLeft colour_is d.heap.looks
+  still_looked colour_is = (
+    λ none. subst (λ (x : CollectorState). NoneLeft colour_is x.heap.looks) (sym a.same) none,
+    λ none. subst (λ (x : CollectorState). NoneLeft colour_is x.heap.looks) a.same none,
   )
 
   pub still_black_done : IsBlackDone c flown → IsBlackDone d flying
   still_black_done done = record {
     pile = subst (λ (x : CollectorState). x.stack.black ≡ []) (sym a.same) done.pile;
-    fixed = still_black_fixed.0 done.fixed;
+    looked = (still_looked mark.Black).0 done.looked;
   }
 
   pub still_group_done : IsGroupDone c flown → IsGroupDone d flying
@@ -327,7 +297,7 @@ module _ (c : CollectorState) (flown : ℕ → Option Bits) (d : CollectorState)
       in
       record {
         idle = subst (λ (x : CollectorState). IsGrayIdle x.heap x.stack x.lists g.bits) (sym a.same) was.idle;
-        fixed = (still_gray_fixed g).0 was.fixed;
+        looked = (still_looked mark.Gray).0 was.looked;
       }
 
   -- and the same was done before
@@ -337,7 +307,7 @@ module _ (c : CollectorState) (flown : ℕ → Option Bits) (d : CollectorState)
       (subst (λ (x : CollectorState). slice_get x.groups 0 ≡ Some g) (sym a.same) at) in
       record {
         idle = subst (λ (x : CollectorState). IsGrayIdle x.heap x.stack x.lists g.bits) a.same is.idle;
-        fixed = (still_gray_fixed g).1 is.fixed;
+        looked = (still_looked mark.Gray).1 is.looked;
       }
 
 pub still_sound : (c : CollectorState) (flown : ℕ → Option Bits) (d : CollectorState) (flying : ℕ → Option Bits)

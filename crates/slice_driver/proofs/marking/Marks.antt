@@ -1,6 +1,7 @@
 -- Heaps with the same cells in the same colours: what holds of marking goes on to hold, and nothing more is left to
 -- mark.
-use Rattle.std.proofs.Common.{◌≡◌, ◌<◌, ◌≤◌, ◌+◌, ◌*◌, ℕ, true, List, length, Option, Some, None, Contains, slice_get}
+use Rattle.std.proofs.Common.{◌≡◌, ◌⊎◌, ◌<◌, ◌≤◌, ◌+◌, ◌*◌, ℕ, true, List, length, Option, Some, None, Contains}
+use Rattle.std.proofs.Common.{slice_get}
 use Rattle.std.proofs.Common.{inl, inr, sym, ap, subst, ◌∙◌}
 use Rattle.gz_names.specs.declared.numbers.Place.{Place}
 use Rattle.cell_bits.specs.declared.bits.Bits.{Bits}
@@ -8,14 +9,20 @@ use Rattle.zones.specs.declared.states.State.TheVariants as state
 use Rattle.roots.specs.Buffers.{buffer_at}
 use Rattle.mark_stack.specs.Stack.{Piles}
 use Rattle.gray_lists.specs.Incoming.{Incoming, waiting_count}
-use Rattle.heap_core.specs.Shape.{is_marking, is_marking_state, is_white, out_of, state_in, zone_of}
-use Rattle.heap_core.specs.Heap.{HeapState, colour_in, colour_of}
+use Rattle.heap_core.specs.Shape.{is_marking, is_marking_state, is_white, out_of, state_in, state_of, zone_of}
+use Rattle.weak_maps.specs.WeakMaps.{LooksState, WeakTableState}
+use Rattle.heap_core.specs.Heap.{HeapState, colour_in, colour_of, weak_of}
 use Rattle.barriers.specs.Colours.{IsBlack, IsSeen, slots_in, lacks_black}
 use Rattle.barriers.specs.PendingBlack.{PendingBlack}
 use Rattle.barriers.specs.PendingBlack as black_closure
 use Rattle.barriers.specs.PendingLive.{PendingLive, GrayInvariant, IsCovered, buffer_of}
 use Rattle.barriers.specs.PendingLive as live_closure
 use Rattle.barriers.specs.Invariant.{MarkingInvariant, ShapeInvariant, ColourInvariant, PileInvariant}
+use Rattle.barriers.specs.WeakPoint.{IsLeft, WeakPoint, left_of}
+use Rattle.barriers.proofs.Scans.{once_alike}
+use Rattle.barriers.proofs.StayingLeft.{left_weaker}
+use Rattle.barriers.proofs.WeakPoint.{gray_begins}
+use Rattle.marker.proofs.GraySteps.{state_cases}
 use Rattle.slice_driver.proofs.marking.Cells.{HasSameCells, comp_same, edge_back, edge_on, entry_back, entry_on}
 use Rattle.slice_driver.proofs.marking.Cells.{field_same, present_back, present_on}
 
@@ -24,6 +31,7 @@ pub record HasSameMarks (h k : HeapState) : Type 0 where
   pub arenas : length k.shape.arenas ≡ length h.shape.arenas
   pub colours : k.colours ≡ h.colours
   pub buffers : k.buffers ≡ h.buffers
+  pub looks : k.looks ≡ h.looks
   pub marking : (z : ℕ) → is_marking_state (state_in k.shape z) ≡ is_marking_state (state_in h.shape z)
   pub black_only : (z : ℕ) → state_in k.shape z ≡ state.MarkBlackOnly → state_in h.shape z ≡ state.MarkBlackOnly
   pub kept : (p : Place) → is_marking k.shape p ≡ true → out_of k.shape p.0 ≡ None
@@ -98,6 +106,23 @@ module _ (h k : HeapState) (same : HasSameMarks h k) where
     };
   }
 
+  -- a zone takes gray that did, or that was marked black only
+  takes_before : (v : Place) → state_of k.shape v ≡ state.MarkBlackAndGray
+      → (state_of h.shape v ≡ state.MarkBlackAndGray) ⊎ (state_of h.shape v ≡ state.MarkBlackOnly)
+  takes_before v takes = elim (state_cases h.shape v) [
+    | inl off ↦ (let on = marking_same v in let now = ap is_marking_state takes in cc (off, on, now))
+    | inr (inl only) ↦ inr only
+    | inr (inr did) ↦ inl did
+  ]
+
+  weak_kept : (p : Piles) → MarkingInvariant h p → WeakPoint k p (left_of k)
+  weak_kept p m =
+      subst (λ (z : WeakTableState). WeakPoint k p (IsLeft (record { table = z; looks = k.looks })))
+      (sym same.cells.weak)
+      (subst (λ (z : LooksState). WeakPoint k p (IsLeft (record { table = h.shape.weak; looks = z }))) (sym same.looks)
+      (gray_begins h p k (left_of h) (left_weaker (weak_of h)) m.holds.colours.shape m.holds.colours.no_gray
+      same.cells.weak colour_same marking_same takes_before m.weak))
+
   pub marks_kept : (p : Piles) → MarkingInvariant h p → MarkingInvariant k p
   marks_kept p m = record {
     holds = record {
@@ -110,6 +135,8 @@ module _ (h k : HeapState) (same : HasSameMarks h k) where
           (sym (marking_same v) ∙ mv)) [ inl c ↦ inl (black_on v c) | inr c ↦ inr c ];
     };
     none_woken = m.none_woken;
+    weak = weak_kept p m;
+    once = once_alike h k p colour_same m.once;
   }
 
   waiting_on : (z : ℕ) (x : Place) → Contains (buffer_of h z) x → Contains (buffer_of k z) x

@@ -28,7 +28,8 @@ use Rattle.slice_driver.specs.Working.{IsGroupingUnit, IsResting, IsStill}
 use Rattle.slice_driver.specs.declared.collector.Unit.{Unit}
 use Rattle.slice_driver.proofs.grouping.Looks.{own_heap}
 use Rattle.slice_driver.proofs.abstraction.SoundAfter.{done_sound, unit_sound}
-use Rattle.slice_driver.proofs.marking.MarkingUnits.{both_still, group_done_before, still_black_done, still_goes}
+use Rattle.slice_driver.proofs.marking.MarkingUnits.{black_fixed, both_still, gray_fixed, group_done_before}
+use Rattle.slice_driver.proofs.marking.MarkingUnits.{still_black_done, still_goes}
 use Rattle.slice_driver.proofs.marking.MarkingUnits.{still_group_done, still_left, still_sound}
 
 -- where no arena is due, nothing is asked
@@ -155,15 +156,18 @@ ready c flown s rests kept groups = go c.groups refl
               black_empty = rests.black.pile;
               black_fixed = λ m k v has bm bk mv.
                   subst (λ h. IsBlack h v) own
-                  (rests.black.fixed m k v has (subst (λ h. IsBlack h m) (sym own) bm)
+                  (black_fixed c flown s rests.black m k v has (subst (λ h. IsBlack h m) (sym own) bm)
                   (subst (λ h. IsBlack h k) (sym own) bk) mv);
               gray_empty = done.idle.pile;
               none_buffered = done.idle.buffers;
               none_incoming = done.idle.incoming;
               gray_fixed = λ m k v has sm sk here.
                   subst (λ h. IsSeen h v) own
-                  (done.fixed m k v has (subst (λ h. IsSeen h m) (sym own) sm) (subst (λ h. IsSeen h k) (sym own) sk)
+                  (gray_fixed c flown g s rests.black (rests.begun g at) done m k v has
+                  (subst (λ h. IsSeen h m) (sym own) sm) (subst (λ h. IsSeen h k) (sym own) sk)
                   here);
+              none_black = rests.black.looked;
+              none_gray = done.looked;
             };
           },
         )

@@ -14,6 +14,7 @@ use Rattle.zones.specs.declared.states.State.TheVariants as state
 use Rattle.colour_defs.specs.World.{Collection}
 use Rattle.heap_core.specs.Shape.{Shape, is_marking_state, state_in, state_or}
 use Rattle.heap_core.specs.Heap.{HeapState}
+use Rattle.marker.specs.Looks.{looks_left}
 use Rattle.slice_driver.specs.Collector.{CollectorState, heap_with}
 use Rattle.slice_driver.specs.Left.{grouping_left, steps_left, steps_of}
 use Rattle.slice_driver.specs.Quiet.{BeginsZone, IsFormed}
@@ -113,6 +114,7 @@ module _ (c : CollectorState) (zone : ℕ) (formed : IsFormed c) (current : IsCu
   less w a b x y p q lt e f g = omega (arith, lt, e, f, g)
 
   goes : (flown : ℕ → Option Bits) → GoesOn c flown [] d flown
+  unfolding looks_left
   goes flown = record {
     done = zone_unit c d flown zone begins;
     words = λ a freed is. is;

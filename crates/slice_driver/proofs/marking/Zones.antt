@@ -56,6 +56,7 @@ module _ (c d : CollectorState) (zone : ℕ) (flown : ℕ → Option Bits) (w : 
     arenas = ap (λ (z : HeapState). length z.shape.arenas) b.heap_is;
     colours = ap (λ (z : HeapState). with_flown flown 0 z.colours) b.heap_is;
     buffers = ap (λ (z : HeapState). z.buffers) b.heap_is;
+    looks = ap (λ (z : HeapState). z.looks) b.heap_is;
     marking = marking_same;
     black_only = λ z only. elim (states z) [ inl e ↦ sym e ∙ only | inr next ↦ absurd (cc (only, next.3)) ];
     kept = λ p m. ap (λ (z : HeapState). out_of z.shape p.0) b.heap_is

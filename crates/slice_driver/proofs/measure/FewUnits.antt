@@ -2,7 +2,7 @@
 use Rattle.std.proofs.Common.{◌≡◌, ◌<◌, ◌≤◌, ◌+◌, ◌-◌, ◌*◌, ◌^◌, ◌||◌, ℕ, zero, suc, Bool, true, false, is_some}
 use Rattle.std.proofs.Common.{if◌then◌else◌, List, [], ◌∷◌, Option, Some, None, length, sum_by, refl, ap, arith}
 use Rattle.std.specs.Int.{bit_at}
-use Rattle.std.proofs.lemmas.List.Sums.{sum_by-cons}
+use Rattle.std.proofs.lemmas.List.Sums.{count_by-le-length, sum_by-cons}
 use Rattle.std.proofs.lemmas.Nat.Bits.{bit_at-lt}
 use Rattle.gz_names.specs.declared.numbers.Place.{Place}
 use Rattle.cell_bits.specs.declared.bits.Bits.{Bits}
@@ -10,10 +10,15 @@ use Rattle.zones.specs.declared.states.State.{State}
 use Rattle.zones.specs.declared.states.State.TheVariants as state
 use Rattle.roots.specs.Buffers.{buffer_at}
 use Rattle.wrappers.specs.WrapperMaps.{AreApart, list_of}
+use Rattle.weak_maps.specs.WeakMaps.{AreParallel, EntryState}
+use Rattle.mark_stack.specs.Stack.{Piles}
 use Rattle.heap_core.specs.Shape.{ArenaShape, Shape, is_marking_state, state_in}
+use Rattle.heap_core.specs.Heap.{HeapState, weak_of}
+use Rattle.barriers.specs.Scans.{AreScannedOnce}
+use Rattle.marker.specs.Looks.{looks_left, scans_of}
 use Rattle.zone_edges.specs.Looks.{cursor_of, left_below}
 use Rattle.zone_edges.specs.Noted.{Noted}
-use Rattle.slice_driver.specs.Collector.{CollectorState, RunState}
+use Rattle.slice_driver.specs.Collector.{CollectorState, RunState, heap_with}
 use Rattle.slice_driver.specs.GrayRoots.{HasFewWrappers}
 use Rattle.slice_driver.specs.Left.{arenas_left, grouping_left, steps_left, steps_of, ungrouped_below, units_left}
 use Rattle.slice_driver.specs.Units.{IsSound}
@@ -90,11 +95,30 @@ none_buffered (b ∷ bs) none =
     let both = sum_by-cons length b bs in
     omega (arith, first, rest, both)
 
+-- each weak entry is left at most once for its map and once for its key, and each of the two may be scanned twice at
+-- most
+few_scans : (h : HeapState) (p : Piles) → AreScannedOnce h p → (es : List EntryState)
+    → sum_by (scans_of h p) es ≤ 4 * length es
+few_scans h p once [] = omega arith
+few_scans h p once (e ∷ es) =
+    let rest = few_scans h p once es in
+    let both = sum_by-cons (scans_of h p) e es in
+    omega (arith, rest, both, once.black e.map, once.gray e.map, once.black e.key, once.gray e.key)
+
+few_looks_left : (h : HeapState) (p : Piles) → AreScannedOnce h p → AreParallel (weak_of h)
+    → looks_left h p ≤ 6 * length h.shape.weak.entries
+unfolding looks_left
+few_looks_left h p once parallel =
+    let maps = count_by-le-length is_some h.looks.by_map in
+    let keys = count_by-le-length is_some h.looks.by_key in
+    let scans = few_scans h p once h.shape.weak.entries in
+    omega (arith, maps, keys, scans, parallel.0, parallel.1)
+
 -- the number of units that are left is one of 64 bits
 pub few_units : (c : CollectorState) → length c.heap.shape.arenas < 2 ^ 32 → sum_by length c.heap.buffers < 2 ^ 63
-    → length c.heap.shape.states ≤ 64 → AreApart c.heap.shape.wrappers.lists
-    → (flown : ℕ → Option Bits) → IsSound c flown → units_left c flown < 2 ^ 64
-few_units c arenas buffered zones apart flown sound =
+    → length c.heap.shape.states ≤ 64 → length c.heap.shape.weak.entries < 2 ^ 32 → AreParallel (weak_of c.heap)
+    → AreApart c.heap.shape.wrappers.lists → (flown : ℕ → Option Bits) → IsSound c flown → units_left c flown < 2 ^ 64
+few_units c arenas buffered zones entries parallel apart flown sound =
     let r = sound.represents in
     let sized = r.marks.holds.colours.sized in
     let black = r.marks.holds.piles.room.black in
@@ -103,4 +127,5 @@ few_units c arenas buffered zones apart flown sound =
     let grouping = few_groupings c.heap.shape c.edges c.run 274877906944 most in
     let steps = few_steps c.heap.shape.states in
     let handed = few_arenas c.heap.shape c.heap.shape.arenas in
-    omega (arith, sized, black, gray, grouping, steps, handed, arenas, buffered, zones)
+    let looks = few_looks_left (heap_with c flown) c.stack r.marks.once parallel in
+    omega (arith, sized, black, gray, grouping, steps, handed, looks, arenas, buffered, zones, entries)

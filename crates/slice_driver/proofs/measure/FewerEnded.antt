@@ -1,6 +1,7 @@
 -- The end of a group lowers what is left.
 use Rattle.std.proofs.Common.{◌≡◌, ◌<◌, ◌≤◌, ◌+◌, ℕ, zero, suc, Bool, true, false, if◌then◌else◌, cond, Option, None}
-use Rattle.std.proofs.Common.{Some, is_some, List, [], ◌∷◌, length, slice_get, refl, sym, ap, ◌∙◌, inl, inr, arith}
+use Rattle.std.proofs.Common.{Some, is_some, List, [], ◌∷◌, length, slice_get, sum_by, refl, sym, ap, ◌∙◌, inl, inr}
+use Rattle.std.proofs.Common.{arith}
 use Rattle.gz_names.specs.Zones.{HasZone}
 use Rattle.gz_names.specs.declared.zone_sets.ZoneSet.{ZoneSet}
 use Rattle.cell_bits.specs.declared.bits.Bits.{Bits}
@@ -8,8 +9,11 @@ use Rattle.cell_bits.specs.declared.jobs.Job.{Job}
 use Rattle.arena_table.specs.Indexed.{in_zones}
 use Rattle.colour_defs.proofs.ZoneSets.{zones_in-has}
 use Rattle.heap_core.specs.Shape.{ArenaShape, is_marking_state, out_in, state_in}
-use Rattle.heap_core.specs.Heap.{HeapState, with_flown}
-use Rattle.heap_core.specs.Sweeping.{handed, jobs_of}
+use Rattle.heap_core.specs.Heap.{HeapState, weak_of, with_flown}
+use Rattle.heap_core.specs.Sweeping.{handed, jobs_of, with_handed}
+use Rattle.weak_maps.specs.WeakMaps.{EntryState, WeakMapsState}
+use Rattle.weak_maps.specs.declared.colours.MarkColour.TheVariants as mark
+use Rattle.marker.specs.Looks.{looks_now, scans_of}
 use Rattle.slice_driver.specs.Advancing.{EndsSweeping}
 use Rattle.slice_driver.specs.Collector.{CollectorState, heap_with}
 use Rattle.slice_driver.specs.GroupEnd.{IsReady}
@@ -18,7 +22,7 @@ use Rattle.slice_driver.specs.Left.{arenas_left, grouping_left, steps_left, step
 use Rattle.slice_driver.specs.Units.{AreJobs, IsSound, flown_by, flying_after}
 use Rattle.slice_driver.proofs.group_end.EndReady.{sized_here}
 use Rattle.slice_driver.proofs.measure.Fewer.{arenas_handed, fewer_steps, grouped, marking_kept, own_flown, steps_kept}
-use Rattle.slice_driver.proofs.measure.Fewer.{work_same}
+use Rattle.slice_driver.proofs.measure.FewerEntries.{none_carried, none_now, sum_no_more, work_no_more}
 use Rattle.slice_driver.proofs.group_end.Cells.{has_in_zones, in_zones_has, zone_or_not}
 use Rattle.slice_driver.proofs.group_end.Laws.{jobs_flown}
 use Rattle.slice_driver.proofs.group_end.Ready.{collection_of, no_some, some_zone}
@@ -122,12 +126,36 @@ module _ (c : CollectorState) (g : ZoneSet) (rest : List ZoneSet) (ready : IsRea
   none_to_group = ap (grouping_left c.heap.shape c.edges) ready.running
       ∙ grouped c.heap.shape c.edges ready.run ready.formed
 
+  weak_are : weak_of k ≡ weak_of out.dropped
+  weak_are = ap weak_of e.rest ∙ ap weak_of out.goes.rest
+
+  -- nothing was to be looked at, and so it is
+  looks_less : looks_now k.looks ≤ looks_now c.heap.looks
+  looks_less =
+      let old : WeakMapsState = weak_of (with_handed c.heap g.bits) in
+      let new : WeakMapsState = weak_of out.dropped in
+      let none = none_now out.dropped.looks
+      (none_carried mark.Gray old new out.drops.carries out.drops.parallel ready.marked.none_gray)
+      (none_carried mark.Black old new out.drops.carries out.drops.parallel ready.marked.none_black) in
+      let same = ap (λ (w : WeakMapsState). looks_now w.looks) weak_are in
+      omega (arith, none, same)
+
+  abbrev scans_then : EntryState → ℕ
+  scans_then = scans_of (heap_with c flown) c.stack
+
+  scans_less : sum_by scans_then k.shape.weak.entries ≤ sum_by scans_then c.heap.shape.weak.entries
+  scans_less =
+      let less = sum_no_more scans_then out.dropped.shape.weak.entries c.heap.shape.weak.entries out.drops.distinct
+      (λ entry has. ((out.drops.entries.exact entry).0 has).0) in
+      let same = ap (λ (w : WeakMapsState). sum_by scans_then w.table.entries) weak_are in
+      omega (arith, less, same)
+
   pub ending_lowers : units_left (record c { heap = k; groups = rest; run = if over then None else c.run })
       (flying_after jobs flown) < units_left c flown
   ending_lowers =
-      let work = work_same (heap_with c flown)
+      let work = work_no_more (heap_with c flown)
       (heap_with (record c { heap = k; groups = rest; run = if over then None else c.run })
-      (flying_after jobs flown)) c.stack c.lists colours_same buffers_are in
+      (flying_after jobs flown)) c.stack c.lists colours_same buffers_are looks_less scans_less in
       let none : grouping_left k.shape c.edges (if over then None else c.run) ≡ 0 = go over in
       omega (arith, work, none, none_to_group, steps_less, arenas_less)
     where

@@ -96,7 +96,8 @@ module _ (c : CollectorState) (flown : ℕ → Option Bits) (a freed : ℕ) (bit
   taking_lowers =
       let work = work_same (heap_with c flown)
       (heap_with (record c { heap = k; run = if over then None else c.run }) (without_arena flown a)) c.stack
-      c.lists colours_same buffers_same in
+      c.lists colours_same buffers_same (ap (λ (h : HeapState). h.shape.weak) e.rest)
+      (ap (λ (h : HeapState). h.looks) e.rest) in
       let none : grouping_left k.shape c.edges (if over then None else c.run) ≡ 0 = go over in
       omega (arith, work, none, none_to_group, steps_less, arenas_less)
     where

@@ -104,6 +104,7 @@ module _ (c d : CollectorState) (flown : ℕ → Option Bits) (w : World) (k : C
     arenas = ap (λ (xs : List ArenaShape). Rattle.std.proofs.Common.length xs) arenas_same;
     colours = ap (λ (z : HeapState). with_flown flown 0 z.colours) f.heap_is;
     buffers = ap (λ (z : HeapState). z.buffers) f.heap_is;
+    looks = ap (λ (z : HeapState). z.looks) f.heap_is;
     marking = λ z. ap is_marking_state (f.states z) ∙ sym (not_marking z);
     black_only = λ z only. absurd (cc (only, f.states z));
     kept = λ p m. absurd (cc (m, ap is_marking_state (f.states (zone_of d.heap.shape p))));

@@ -292,6 +292,7 @@ module _ (c : CollectorState) (flown : ℕ → Option Bits) (w : World) (a freed
         a;
     colours = colours_same;
     buffers = ap (λ (z : HeapState). z.buffers) t.heap_is;
+    looks = ap (λ (z : HeapState). z.looks) t.heap_is;
     marking = marking_same;
     black_only = λ z only. state_back z state.MarkBlackOnly only (λ e. cc e);
     kept = λ p m. kept_on p.0

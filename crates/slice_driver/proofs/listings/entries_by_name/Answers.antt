@@ -13,7 +13,7 @@ pub returns : goal.returns
 returns c =
     let s = c.args.heap.now.shape in
     let end : c.loop-index.index ≡ length s.weak.entries =
-    omega (arith, c.loop-index-test.false, c.entries-index-end.ensures, c.loop-index.auto.index-end) in
+    omega (arith, c.loop-index-test.false, c.entries-index-end.ensures.count, c.loop-index.auto.index-end) in
     let moved = subst (λ n. IsPermutation (entries_below s n) c.sort_unstable.new.self.items) end
     (subst (λ entries. IsPermutation entries c.sort_unstable.new.self.items) c.loop-index.invariant.entries
     c.sort_unstable.ensures.permutation) in

@@ -1,9 +1,11 @@
 use Rattle.std.proofs.Common.{◌≡◌, ℕ, Option, IsSome, refl, sym, subst}
 use Rattle.cell_bits.specs.declared.bits.Bits.{Bits}
+use Rattle.weak_maps.specs.WeakMaps.{NoneLeft}
+use Rattle.weak_maps.specs.declared.colours.MarkColour.TheVariants as mark
 use Rattle.slice_driver.specs.Collector.{CollectorState, run_of}
 use Rattle.slice_driver.specs.Units.{IsSound}
-use Rattle.slice_driver.specs.Working.{DidOrStill, IsBlackFixed}
-use Rattle.slice_driver.proofs.marking.MarkingUnits.{black_added, black_fixed, black_wanted, still}
+use Rattle.slice_driver.specs.Working.{DidOrStill}
+use Rattle.slice_driver.proofs.marking.MarkingUnits.{entry_looked, still}
 use Rattle.slice_driver.proofs.collector.Collector.adds_black.Goals as goal
 use Rattle.slice_driver.proofs.collector.Collector.adds_black.Goals.{in-Did, in-Empty}
 
@@ -25,20 +27,17 @@ returns-clause-done g c =
     let d : CollectorState = record v { heap = c.weak_unit.new.heap; stack = c.weak_unit.new.stack } in
     let sound : IsSound v flown = subst (λ (x : CollectorState). IsSound x flown) (sym is) c.requires.sound in
     let running : IsSome v.run = subst (λ (x : CollectorState). IsSome x.run) (sym is) c.requires.running in
-    let here : DidOrStill c.match-weak_unit.result (IsBlackFixed v flown) v flown d flying =
+    let here : DidOrStill c.match-weak_unit.result (NoneLeft mark.Black v.heap.looks) v flown d flying =
     elim c.match-weak_unit.branch [
-      | in-Did w ↦ subst (λ b. DidOrStill b (IsBlackFixed v flown) v flown d flying) (sym w.result-is) (
-        black_added v flown flying d.heap d.stack c.marking-zones.result.bits sound running e.covers
-            (w.in-Did.ensures.does refl),
-        (let does = w.in-Did.ensures.does refl in
-            black_wanted v flown c.marking-zones.result c.marking-zones.ensures does.value does.wanted),
+      | in-Did w ↦ subst (λ b. DidOrStill b (NoneLeft mark.Black v.heap.looks) v flown d flying) (sym w.result-is) (
+        entry_looked v flown flying d.heap d.stack mark.Black sound running e.covers (w.in-Did.ensures.does refl),
+        λ none. let empty = w.in-Did.ensures.empty.1 none in cc empty,
       )
       | in-Empty w ↦ (
           let same = w.in-Empty.ensures.same refl in
-          subst (λ b. DidOrStill b (IsBlackFixed v flown) v flown d flying) (sym w.result-is) (
-            still v flown flying d.heap d.stack e.covers same.0 same.1 same.2,
-            black_fixed v flown c.marking-zones.result c.marking-zones.ensures (w.in-Empty.ensures.fixed.0 refl),
-          )
+          subst (λ b. DidOrStill b (NoneLeft mark.Black v.heap.looks) v flown d flying) (sym w.result-is)
+          (still v flown flying d.heap d.stack e.covers same.0 same.1 same.2, w.in-Empty.ensures.empty.0 refl)
           )
     ] in
-    subst (λ (x : CollectorState). DidOrStill c.match-weak_unit.result (IsBlackFixed x flown) x flown d flying) is here
+    subst (λ (x : CollectorState). DidOrStill c.match-weak_unit.result (NoneLeft mark.Black x.heap.looks) x flown d
+    flying) is here

@@ -1,11 +1,12 @@
 use Rattle.std.proofs.Common.{◌≡◌, ℕ, Option, IsSome, refl, sym, ap, subst}
 use Rattle.cell_bits.specs.declared.bits.Bits.{Bits}
 use Rattle.heap_core.specs.Heap.{HeapState}
+use Rattle.weak_maps.specs.WeakMaps.{NoneLeft}
+use Rattle.weak_maps.specs.declared.colours.MarkColour.TheVariants as mark
 use Rattle.slice_driver.specs.Collector.{CollectorState, run_of}
 use Rattle.slice_driver.specs.Units.{IsSound}
-use Rattle.marker.specs.GrayBits.{AreGraying}
-use Rattle.slice_driver.specs.Working.{DidOrStill, IsGrayFixed}
-use Rattle.slice_driver.proofs.marking.MarkingUnits.{gray_added, gray_wanted, still}
+use Rattle.slice_driver.specs.Working.{DidOrStill}
+use Rattle.slice_driver.proofs.marking.MarkingUnits.{entry_looked, still}
 use Rattle.slice_driver.proofs.collector.Collector.adds_gray.Goals as goal
 use Rattle.slice_driver.proofs.collector.Collector.adds_gray.Goals.{in-Did, in-Empty}
 
@@ -27,22 +28,19 @@ returns-clause-done g c =
     let d : CollectorState = record v { heap = c.weak_unit.new.heap; stack = c.weak_unit.new.stack } in
     let sound : IsSound v flown = subst (λ (x : CollectorState). IsSound x flown) (sym is) c.requires.sound in
     let running : IsSome v.run = subst (λ (x : CollectorState). IsSome x.run) (sym is) c.requires.running in
-    let begun : AreGraying v.heap.shape c.args.group.bits =
-    subst (λ (x : CollectorState). AreGraying x.heap.shape c.args.group.bits) (sym is) c.requires.begun in
-    let here : DidOrStill c.match-weak_unit.result (IsGrayFixed v flown c.args.group) v flown d flying =
+    let here : DidOrStill c.match-weak_unit.result (NoneLeft mark.Gray v.heap.looks) v flown d flying =
     elim c.match-weak_unit.branch [
-      | in-Did w ↦ subst (λ b. DidOrStill b (IsGrayFixed v flown c.args.group) v flown d flying) (sym w.result-is) (
-        gray_added v flown flying d.heap d.stack c.args.group.bits sound running begun e.covers
-            (w.in-Did.ensures.does refl),
-        (let does = w.in-Did.ensures.does refl in gray_wanted v flown c.args.group does.value does.wanted),
+      | in-Did w ↦ subst (λ b. DidOrStill b (NoneLeft mark.Gray v.heap.looks) v flown d flying) (sym w.result-is) (
+        entry_looked v flown flying d.heap d.stack mark.Gray sound running e.covers (w.in-Did.ensures.does refl),
+        λ none. let empty = w.in-Did.ensures.empty.1 none in cc empty,
       )
       | in-Empty w ↦ (
           let same = w.in-Empty.ensures.same refl in
-          subst (λ b. DidOrStill b (IsGrayFixed v flown c.args.group) v flown d flying) (sym w.result-is)
-          (still v flown flying d.heap d.stack e.covers same.0 same.1 same.2, w.in-Empty.ensures.fixed.0 refl)
+          subst (λ b. DidOrStill b (NoneLeft mark.Gray v.heap.looks) v flown d flying) (sym w.result-is)
+          (still v flown flying d.heap d.stack e.covers same.0 same.1 same.2, w.in-Empty.ensures.empty.0 refl)
           )
     ] in
-    subst (λ (x : CollectorState). DidOrStill c.match-weak_unit.result (IsGrayFixed x flown c.args.group) x flown d
+    subst (λ (x : CollectorState). DidOrStill c.match-weak_unit.result (NoneLeft mark.Gray x.heap.looks) x flown d
     flying) is here
 
 pub returns-clause-shape : goal.returns-clause-shape

@@ -1,5 +1,7 @@
-use Rattle.slice_driver.specs.Working.{IsBlackDone, IsBlackFixed}
-use Rattle.slice_driver.proofs.marking.MarkingUnits.{still_black_fixed, still_sound, then_marks}
+use Rattle.weak_maps.specs.WeakMaps.{NoneLeft}
+use Rattle.weak_maps.specs.declared.colours.MarkColour.TheVariants as mark
+use Rattle.slice_driver.specs.Working.{IsBlackDone}
+use Rattle.slice_driver.proofs.marking.MarkingUnits.{still_looked, still_sound, then_marks}
 use Rattle.slice_driver.proofs.collector.Collector.marks_black.Goals as goal
 
 pub adds_black-requires-clause-sound : goal.adds_black-requires-clause-sound
@@ -12,10 +14,11 @@ returns-clause-done g c =
     let d = c.follows_black.new.self in
     let f1 = g.F.Flight.bits c.follows_black.new.flight in
     let first = c.if-follows_black.ensures.done in
-    let same = still_black_fixed old flown d f1 first.0 in
-    then_marks c.adds_black.result (IsBlackFixed d f1) (IsBlackDone old flown) old flown d f1 c.adds_black.new.self
+    let same = still_looked old flown d f1 first.0 mark.Black in
+    then_marks c.adds_black.result (NoneLeft mark.Black d.heap.looks) (IsBlackDone old flown) old flown d f1
+    c.adds_black.new.self
     (g.F.Flight.bits c.adds_black.new.flight) first.0
-    (λ fixed. record { pile = first.1; fixed = same.1 fixed }, λ done. same.0 done.fixed) c.adds_black.ensures.done
+    (λ none. record { pile = first.1; looked = same.1 none }, λ done. same.0 done.looked) c.adds_black.ensures.done
 
 pub returns-then-follows_black-clause-done : goal.returns-then-follows_black-clause-done
 returns-then-follows_black-clause-done g c =

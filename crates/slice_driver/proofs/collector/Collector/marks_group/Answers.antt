@@ -1,5 +1,7 @@
-use Rattle.slice_driver.specs.Working.{IsGrayDone, IsGrayFixed}
-use Rattle.slice_driver.proofs.marking.MarkingUnits.{still_gray_fixed, then_marks}
+use Rattle.weak_maps.specs.WeakMaps.{NoneLeft}
+use Rattle.weak_maps.specs.declared.colours.MarkColour.TheVariants as mark
+use Rattle.slice_driver.specs.Working.{IsGrayDone}
+use Rattle.slice_driver.proofs.marking.MarkingUnits.{still_looked, then_marks}
 use Rattle.slice_driver.proofs.collector.Collector.marks_group.Goals as goal
 
 pub returns-clause-done : goal.returns-clause-done
@@ -9,10 +11,10 @@ returns-clause-done g c =
     let d = c.follows_gray.new.self in
     let group = c.args.group in
     let first = c.if-follows_gray.ensures.done in
-    let same = still_gray_fixed old flown d flown first.0 group in
-    then_marks c.adds_gray.result (IsGrayFixed d flown group) (IsGrayDone old flown group) old flown d flown
+    let same = still_looked old flown d flown first.0 mark.Gray in
+    then_marks c.adds_gray.result (NoneLeft mark.Gray d.heap.looks) (IsGrayDone old flown group) old flown d flown
     c.adds_gray.new.self (g.F.Flight.bits c.adds_gray.new.flight) first.0
-    (λ fixed. record { idle = first.1; fixed = same.1 fixed }, λ done. same.0 done.fixed) c.adds_gray.ensures.done
+    (λ none. record { idle = first.1; looked = same.1 none }, λ done. same.0 done.looked) c.adds_gray.ensures.done
 
 pub returns-then-follows_gray-clause-done : goal.returns-then-follows_gray-clause-done
 returns-then-follows_gray-clause-done g c =

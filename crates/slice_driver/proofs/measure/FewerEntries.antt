@@ -1,0 +1,117 @@
+-- As weak entries are dropped, no more looks are to come, now or after what is still to be scanned.
+use Rattle.std.proofs.Common.{◌≡◌, ◌≢◌, ◌<◌, ◌≤◌, ◌+◌, ℕ, zero, suc, List, [], ◌∷◌, Option, None, Some, is_some, cond}
+use Rattle.std.proofs.Common.{Contains, count_by, length, slice_get, slice_index_or, sum_by, inl, inr, refl, sym, ap}
+use Rattle.std.proofs.Common.{◌∙◌, arith}
+use Rattle.std.proofs.lemmas.List.Sums.{sum_by-cons}
+use Rattle.std.proofs.lemmas.Option.{slice_get_cases, slice_get_within}
+use Rattle.gz_names.specs.declared.numbers.Place.{Place}
+use Rattle.cell_bits.specs.declared.bits.Bits.{Bits}
+use Rattle.mark_stack.specs.Stack.{Piles}
+use Rattle.gray_lists.specs.Incoming.{Incoming}
+use Rattle.weak_maps.specs.WeakMaps.{AreDistinct, AreParallel, Carries, EntryState, LooksState, NoneLeft}
+use Rattle.weak_maps.specs.WeakMaps.{WeakMapsState}
+use Rattle.weak_maps.specs.declared.colours.MarkColour.{MarkColour}
+use Rattle.weak_maps.specs.declared.colours.MarkColour.TheVariants as mark
+use Rattle.heap_core.specs.Heap.{HeapState}
+use Rattle.marker.specs.Looks.{looks_left, looks_now, scans_of}
+use Rattle.marker.specs.Units.{marks_left, work_left}
+
+-- the list without the element of an index
+abbrev without : {X : Type 0} → List X → ℕ → List X
+without [] i = []
+without (x ∷ xs) zero = xs
+without (x ∷ xs) (suc i) = x ∷ without xs i
+
+without_sum : {X : Type 0} (f : X → ℕ) (xs : List X) (i : ℕ) (x : X) → i < length xs → slice_index_or xs i x ≡ x
+    → sum_by f (without xs i) + f x ≡ sum_by f xs
+without_sum f [] i x lt at = absurd (omega (arith, lt))
+without_sum f (y ∷ xs) zero x lt at =
+    let all = sum_by-cons f y xs in
+    let same : f y ≡ f x = ap f at in
+    omega (arith, all, same)
+without_sum f (y ∷ xs) (suc i) x lt at =
+    let rest = without_sum f xs i x (omega (arith, lt)) at in
+    let all = sum_by-cons f y xs in
+    let now = sum_by-cons f y (without xs i) in
+    omega (arith, rest, all, now)
+
+without_other : {X : Type 0} (xs : List X) (i : ℕ) (x y : X) → i < length xs → slice_index_or xs i x ≡ x → y ≢ x
+    → Contains xs y → Contains (without xs i) y
+without_other [] i x y lt at other (k, low, here) = absurd (omega (arith, lt))
+without_other (z ∷ xs) zero x y lt at other (zero, low, here) = absurd (other (sym here ∙ at))
+without_other (z ∷ xs) zero x y lt at other (suc k, low, here) = (k, omega (arith, low), here)
+without_other (z ∷ xs) (suc i) x y lt at other (zero, low, here) = (0, omega arith, here)
+without_other (z ∷ xs) (suc i) x y lt at other (suc k, low, here) =
+    let rest = without_other xs i x y (omega (arith, lt)) at other (k, omega (arith, low), here) in
+    (suc rest.0, omega (arith, rest.1), rest.2)
+
+-- entries of which each was there, each once: whatever is summed over them is no more than it was
+pub sum_no_more : (f : EntryState → ℕ) (new old : List EntryState) → AreDistinct new
+    → ((entry : EntryState) → Contains new entry → Contains old entry) → sum_by f new ≤ sum_by f old
+sum_no_more f [] old distinct was = omega arith
+sum_no_more f (e ∷ new) old distinct was =
+    let at : Contains old e = was e (0, omega arith, refl) in
+    let rest : sum_by f new ≤ sum_by f (without old at.0) =
+    sum_no_more f new (without old at.0)
+    (λ i j d lt below. distinct (suc i) (suc j) d (omega (arith, lt)) (omega (arith, below)))
+    (λ d c. without_other old at.0 e d at.1 at.2
+    (λ same. (let is : e ≡ slice_index_or new c.0 d = sym same ∙ sym c.2 in
+    distinct 0 (suc c.0) d (omega arith) (omega (arith, c.1)) (ap (λ (z : EntryState). z.map) is)
+    (ap (λ (z : EntryState). z.key) is)))
+    (was d (suc c.0, omega (arith, c.1), c.2))) in
+    let gone = without_sum f old at.0 e at.1 at.2 in
+    let all = sum_by-cons f e new in
+    omega (arith, rest, gone, all)
+
+-- where nothing is to be looked at, no look is to come now
+none_in : (xs : List (Option MarkColour)) → ((n : ℕ) → slice_get xs n ≢ Some (Some mark.Gray))
+    → ((n : ℕ) → slice_get xs n ≢ Some (Some mark.Black)) → count_by is_some xs ≡ 0
+none_in [] gray black = refl
+none_in (None ∷ xs) gray black =
+    let rest = none_in xs (λ n. gray (suc n)) (λ n. black (suc n)) in
+    let all = sum_by-cons (λ (o : Option MarkColour). cond (is_some o) 1 0) None xs in
+    omega (arith, rest, all)
+none_in (Some mark.Gray ∷ xs) gray black = absurd (gray 0 refl)
+none_in (Some mark.Black ∷ xs) gray black = absurd (black 0 refl)
+
+pub none_now : (looks : LooksState) → NoneLeft mark.Gray looks → NoneLeft mark.Black looks → looks_now looks ≡ 0
+none_now looks gray black =
+    let maps = none_in looks.by_map (λ n. (gray n).0) (λ n. (black n).0) in
+    let keys = none_in looks.by_key (λ n. (gray n).1) (λ n. (black n).1) in
+    omega (arith, maps, keys)
+
+-- entries went, and the others are to be looked at as they were
+there : (es : List EntryState) (n : ℕ) → n < length es → (entry : EntryState) × (slice_get es n ≡ Some entry)
+there es n lt = elim (slice_get_cases es n).1 [
+  | inl some ↦ (some.0, some.2)
+  | inr none ↦ absurd (omega (arith, lt, none.0))
+]
+
+pub none_carried : (c : MarkColour) (old new : WeakMapsState) → Carries old new → AreParallel new
+    → NoneLeft c old.looks → NoneLeft c new.looks
+none_carried c old new carries parallel none n = (
+  λ at. (
+      let lt = slice_get_within new.looks.by_map n (Some c) at in
+      let stands = there new.table.entries n (omega (arith, lt, parallel.0)) in
+      let from = carries.from n stands.0 stands.1 in
+      (none from.0).0 (sym from.2 ∙ at)),
+  λ at. (
+      let lt = slice_get_within new.looks.by_key n (Some c) at in
+      let stands = there new.table.entries n (omega (arith, lt, parallel.1)) in
+      let from = carries.from n stands.0 stands.1 in
+      (none from.0).1 (sym from.3 ∙ at)),
+)
+
+-- with the same colours and buffers, no more looks now, and no more where cells are still to be scanned
+pub work_no_more : (h k : HeapState) (p : Piles) (lists : Incoming) → k.colours ≡ h.colours → k.buffers ≡ h.buffers
+    → looks_now k.looks ≤ looks_now h.looks
+    → sum_by (scans_of h p) k.shape.weak.entries ≤ sum_by (scans_of h p) h.shape.weak.entries
+    → work_left k p lists ≤ work_left h p lists
+unfolding looks_left
+work_no_more h k p lists colours buffers looks scans =
+    let one = ap (λ (cs : List Bits). work_left (record k { colours = cs }) p lists) colours in
+    let both =
+    ap (λ (bs : List (List Place)). work_left (record k { colours = h.colours; buffers = bs }) p lists) buffers in
+    let split : work_left (record k { colours = h.colours; buffers = h.buffers }) p lists
+    ≡ looks_now k.looks + sum_by (scans_of h p) k.shape.weak.entries + marks_left h p lists = refl in
+    omega (arith, looks, scans, one, both, split)
