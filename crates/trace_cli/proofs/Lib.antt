@@ -14,3 +14,5 @@ pub mod Words
 pub mod Slicing
 pub mod Runs
 pub mod Replied
+pub mod GraphSizes
+pub mod DumpedNames

@@ -1,5 +1,5 @@
 // The dump of the heap is written. A check of it finds no fault.
-ghost use Rattle.std.specs.Prelude.{List, length};
+ghost use Rattle.std.specs.Prelude.{ℕ, ◌≤◌, List, length};
 ghost use Rattle.std.specs.List.{AllByRecursion};
 ghost use Rattle.gz_names.specs.declared.commands.Cmd.TheVariants as ACmd;
 ghost use Rattle.gz_names.specs.declared.dumps.DumpLine.{DumpLine as ALine};
@@ -13,10 +13,11 @@ ghost use Rattle.dump_check.specs.declared.checker.Verdict.TheVariants as AVerdi
 ghost use Rattle.dump_cli.specs.Verdicts.{IsVerdictOn};
 ghost use Rattle.trace_lang.specs.Texts.{line_of, reply_text};
 ghost use Rattle.trace_cli.specs.Answering.{AnswersCommand, CountsFaults};
+ghost use Rattle.trace_cli.specs.Headline.{LeadsTo};
 ghost use Rattle.trace_cli.specs.Standing.{StandsWith};
 
 use crate::answer::{AnswerFault, write_last};
-use colour_defs::dump_law;
+use colour_defs::{dump_law, valid_law};
 use gz_io::Sink;
 use gz_names::{DumpLines, Refusal, Reply};
 use slice_driver::Collector;
@@ -54,4 +55,16 @@ pub fn dump_text_law()
         (AVerdict.Sound (length (cells_of lines)) (edge_count lines) (weak_count lines)) }
 {
     dump_law();
+}
+
+/// The text of the dump of a world to which a trace leads, and in which no zone is marking, is judged sound, with its
+/// numbers of cells, edges and weak entries.
+pub fn dump_of_trace_law()
+    ensures { (lines : List (List ℕ)) (output : List ℕ) (w : World) (dump : List ALine) → LeadsTo lines output w
+        → length lines ≤ 4294967295 → IsSettled w → IsDump w dump
+        → IsVerdictOn (line_of (reply_text (AReply.Dump dump)))
+        (AVerdict.Sound (length (cells_of dump)) (edge_count dump) (weak_count dump)) }
+{
+    valid_law();
+    dump_text_law();
 }
