@@ -55,9 +55,9 @@ def write_trace(path, lines):
     return count
 
 
-def count_instructions(program, trace, limit):
+def count_instructions(program, trace, limit, word="run"):
     """The instructions of a run, or None when it takes too long."""
-    command = ["valgrind", "--tool=callgrind", "--callgrind-out-file=/dev/null", program, "run"]
+    command = ["valgrind", "--tool=callgrind", "--callgrind-out-file=/dev/null", program, word]
     try:
         with open(trace, "rb") as source:
             run = subprocess.run(
@@ -71,9 +71,9 @@ def count_instructions(program, trace, limit):
     return int(counted[1])
 
 
-def run_once(program, trace, output=os.devnull):
+def run_once(program, trace, output=os.devnull, word="run"):
     """Wall seconds, processor seconds and the greatest resident bytes of a run."""
-    words = [str(program), "run"]
+    words = [str(program), word]
     files = [
         (os.POSIX_SPAWN_OPEN, 0, str(trace), os.O_RDONLY, 0),
         (os.POSIX_SPAWN_OPEN, 1, str(output), os.O_WRONLY | os.O_CREAT | os.O_TRUNC, 0o600),

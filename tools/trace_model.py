@@ -1,4 +1,5 @@
-"""A trace, its output, and a small model of the graph: shared by tools/draw and tools/explain.
+"""A trace, its output, and a small model of the graph: shared by tools/draw, tools/explain and
+tools/check-step.
 
 The model is plain Python and proved in nothing. It replays the commands of a trace beside the program's own output: the
 output tells which cells were freed, and the model tells which cells there are and what holds what.
@@ -17,7 +18,7 @@ REPORTS = ("groups", "ended", "swept", "done")
 FORMS = {
     "zone": "", "comp": "z", "new": "rcn", "map": "rc", "get": "rrf", "set": "rft", "wrap": "rrc", "unwrap": "rr",
     "copy": "rr", "drop": "r", "hold": "gr", "release": "g", "expose": "rg", "put": "rrr", "del": "rr", "find": "rrr",
-    "gc": "Z", "slice": "u", "finish": "", "collect": "Z", "colours": "",
+    "gc": "Z", "slice": "u", "finish": "", "collect": "Z", "colours": "", "dump": "",
 }
 PARTS = {
     "r": ("a register, r0 to r15", "r", 15), "t": ("a register, r0 to r15, or -", "r", 15),
@@ -50,15 +51,24 @@ def split_lines(data):
     return lines[:-1] if lines[-1] == b"" else lines
 
 
+def is_report(line):
+    return line.split(" ")[0] in REPORTS
+
+
+def is_last(command, line):
+    """Whether an output line is the last one of a command's. A dump has many."""
+    return line in ("end", "marking") if command == "dump" else not is_report(line)
+
+
 def answers(commands, output):
     """The output lines of each command: reports, and last the reply. Commands without a reply are left out."""
     rest = iter(output)
     result = []
-    for _ in commands:
+    for command in commands:
         own = []
         for line in rest:
             own.append(line)
-            if line.split(" ")[0] not in REPORTS:
+            if is_last(command, line):
                 break
         else:
             break
@@ -296,16 +306,26 @@ def replay(lines, output, later=()):
     """
     model = Model()
     told = answers(lines, output)
-    reports = [line for own in told for line in own[:-1]]
-    reports += [line for line in later if line.split(" ")[0] in REPORTS]
+    reports = [line for own in told for line in own if is_report(line)]
+    reports += [line for line in later if is_report(line)]
     at = 0
     for text, own in zip(lines, told):
         words = text.split(" ")
         if words[0] in ("gc", "collect") and own[-1] in ("gc ok", "collected"):
             model.command(words, own[-1])
-        for line in own[:-1]:
+        for line in filter(is_report, own):
             model.report(line, dead_after(reports, at) if line.startswith("ended ") else ())
             at += 1
         if own[-1] not in REFUSALS and words[0] not in ("gc", "collect"):
             model.command(words, own[-1])
         yield words, own, model
+
+
+def dump_lines(model, names, black):
+    """The dump of a graph in which these names are present, and some of them black."""
+    lines = [f"cell {name} {'b' if name in black else 'g'}" for name in names]
+    cells = [model.cells[name] for name in names if name in model.cells]
+    lines += [f"edge {cell.name} {value.name}" for cell in cells for value in cell.fields if value]
+    entries = sorted(model.entries.items(), key=lambda entry: [name_order(name) for name in entry[0]])
+    lines += [f"weak {owner} {key} {value.name}" for (owner, key), (_, _, value) in entries]
+    return [*lines, "end"]

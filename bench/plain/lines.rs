@@ -50,7 +50,7 @@ impl<'a> Cursor<'a> {
 
     /// Passes these bytes when they come next.
     #[inline(always)]
-    fn take(&mut self, bytes: &[u8]) -> Option<()> {
+    pub fn take(&mut self, bytes: &[u8]) -> Option<()> {
         let rest = self.text.get(self.at..)?;
         rest.starts_with(bytes).then(|| self.at += bytes.len())
     }
@@ -63,7 +63,7 @@ impl<'a> Cursor<'a> {
 
     /// A number without leading zeros, up to a limit.
     #[inline(always)]
-    fn number(&mut self, limit: u64) -> Option<u64> {
+    pub fn number(&mut self, limit: u64) -> Option<u64> {
         let mut number = self.digit()?;
         self.at += 1;
         if number != 0 {

@@ -12,9 +12,11 @@
 //!     groups      the components of the edges between zones
 //!     output      holds answers back, and writes numbers and names
 //!     sets        sets of numbers as bits
+//!     dumps       under the word `check`, the verdict on a dump of colours
 
 mod collector;
 mod commands;
+mod dumps;
 mod groups;
 mod heap;
 mod lines;
@@ -38,6 +40,7 @@ enum Exit {
     ReadFault,
     WriteFault,
     TooManyLines,
+    Unsound,
 }
 
 impl Exit {
@@ -60,6 +63,7 @@ impl Exit {
                 eprintln!("gczone: too many lines");
                 7
             }
+            Exit::Unsound => 8,
         }
     }
 }
@@ -110,10 +114,15 @@ fn replay(source: impl Read, output: &mut Output) -> Exit {
 }
 
 fn main() -> ExitCode {
-    if std::env::args().skip(1).ne(["run".to_string()]) {
-        eprintln!("gczone: usage: gczone run [--helpers N] | gczone storm SEED LINES [--helpers N]");
-        return ExitCode::from(2);
-    }
-    let exit = replay(io::stdin().lock(), &mut Output::new());
+    let words: Vec<String> = std::env::args().skip(1).collect();
+    let source = io::stdin().lock();
+    let exit = match words.iter().map(String::as_str).collect::<Vec<_>>()[..] {
+        ["run"] => replay(source, &mut Output::new()),
+        ["check"] => dumps::check(source),
+        _ => {
+            eprintln!("gczone: usage: gczone run [--helpers N] | gczone storm SEED LINES [--helpers N] | gczone check");
+            return ExitCode::from(2);
+        }
+    };
     ExitCode::from(exit.report())
 }
