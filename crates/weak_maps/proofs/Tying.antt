@@ -351,3 +351,15 @@ Starts-side f c p entries side new is starts = record {
           of = is.sound.apart (f e.0) p owner.0 owner.2 (sym owned ∙ owner.1);
           is_left = left;
         }
+
+-- there is no entry
+pub Starts-none : (f : EntryState → Place) (c : MarkColour) (p : Place) (entries : List EntryState)
+    (left : List (Option MarkColour)) → length entries ≡ 0 → Starts f c p entries left left
+Starts-none f c p entries left none = record {
+  sized = refl;
+  colour_now = c;
+  those = λ n entry at of. absurd (let less = slice_get_within entries n entry at in omega (arith, less, none));
+  is = inl refl;
+  black = λ n h. h;
+  others = λ n entry at other. refl;
+}

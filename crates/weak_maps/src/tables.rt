@@ -239,6 +239,7 @@ impl WeakMaps {
     /// Marking has followed a cell in a colour: the entries of which it is the map or the key are still
     /// to be looked at for it, in that colour, or in black where some of them are so already. It takes
     /// no memory.
+    #[inline(always)]
     pub fn start(&mut self, colour: MarkColour, place: Place)
         ensures table { self.new.table ≡ self.old.table }
         ensures map { Starts (λ entry. entry.map) colour place self.old.table.entries self.old.looks.by_map
@@ -248,6 +249,9 @@ impl WeakMaps {
         ensures parallel { AreParallel self.new }
         ensures sound { IsSound self.new.table }
     {
+        if self.count() == 0 {
+            return;
+        }
         self.by_map.start(colour, place);
         self.by_key.start(colour, place);
     }

@@ -1,6 +1,7 @@
+use Rattle.std.proofs.Common.{sym, ◌∙◌}
 use Rattle.weak_maps.specs.Tables.{entries_of}
 use Rattle.weak_maps.proofs.Sound.{IsSound-from_tied}
-use Rattle.weak_maps.proofs.Tying.{AreTied-left, Starts-side, table-left}
+use Rattle.weak_maps.proofs.Tying.{AreTied-left, Starts-none, Starts-side, table-left}
 use Rattle.weak_maps.proofs.tables.WeakMaps.start.Goals as goal
 
 pub invariant_of-self : goal.invariant_of-self
@@ -31,3 +32,13 @@ returns-clause-key c =
     rw (← c.self.view_is)
     (Starts-side (λ e. e.key) c.args.colour c.args.place (entries_of c.self.inside.table) c.self.inside.by_key
     c.start-2.new.self c.self.invariant.keys c.start-2.ensures.left)
+
+pub returns-then-count-eq0-clause-map : goal.returns-then-count-eq0-clause-map
+returns-then-count-eq0-clause-map c =
+    Starts-none (λ e. e.map) c.args.colour c.args.place c.args.self.now.table.entries c.args.self.now.looks.by_map
+    (sym c.count.ensures.count ∙ c.if-count-eq0.true)
+
+pub returns-then-count-eq0-clause-key : goal.returns-then-count-eq0-clause-key
+returns-then-count-eq0-clause-key c =
+    Starts-none (λ e. e.key) c.args.colour c.args.place c.args.self.now.table.entries c.args.self.now.looks.by_key
+    (sym c.count.ensures.count ∙ c.if-count-eq0.true)
