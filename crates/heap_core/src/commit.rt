@@ -14,6 +14,7 @@ impl Heap {
     /// Makes the change of a plan that `resolve` gave, also after barriers: it cannot be refused.
     /// Only a change that makes something, or adds an entry, may return `NoMemory`; then nothing
     /// changed.
+    #[inline(always)]
     pub fn commit(&mut self, plan: &Plan) -> Result<Reply, NoMemory>
         requires sound { IsSound self.old }
         requires able { IsAble self.old.shape self.old.made plan.now.change }

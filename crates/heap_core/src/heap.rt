@@ -626,14 +626,15 @@ impl Heap {
         number
     }
 
-    // How many objects and maps were made.
-    pub(crate) fn objects(&self) -> u64
+    /// How many objects and maps were made.
+    pub fn objects(&self) -> u64
         ensures { result ≡ self.now.shape.objects }
     {
         self.objects
     }
 
     // Makes a black cell of a zone, its fields null, at the next place.
+    #[inline(always)]
     pub(crate) fn make_cell(
         &mut self,
         zone: ZoneNo,
@@ -654,6 +655,7 @@ impl Heap {
     }
 
     // Makes the wrapper of a target in a compartment of a zone, and adds it to the wrapper map.
+    #[inline(always)]
     pub(crate) fn make_wrapper(
         &mut self,
         zone: ZoneNo,
@@ -725,6 +727,7 @@ impl Heap {
     /// Marking has followed a cell in a colour: the weak entries of which it is the map or the key are
     /// still to be looked at for it, in that colour, or in black where some of them are so already. It
     /// takes no memory.
+    #[inline(always)]
     pub fn start(&mut self, colour: MarkColour, place: Place)
         ensures rest { self.new ≡ record self.old { looks = self.new.looks } }
         ensures map { Starts (λ entry. entry.map) colour place self.old.shape.weak.entries
@@ -751,6 +754,7 @@ impl Heap {
     }
 
     // Gives a value to a key of a map.
+    #[inline(always)]
     pub(crate) fn put_entry(&mut self, map: Place, key: Place, value: Place) -> Result<(), NoMemory>
         ensures put { OnOk result (IsWith self.old map key value self.new) }
         ensures err { OnErr result (self.new ≡ self.old) }

@@ -43,6 +43,7 @@ impl Heap {
     }
 
     // Makes an object or a map in a compartment of a zone, with the next number; a register holds it.
+    #[inline(always)]
     pub(crate) fn hold_cell(
         &mut self,
         r: Reg,

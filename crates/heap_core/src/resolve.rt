@@ -15,6 +15,7 @@ use gz_names::{COMP_LIMIT, CompNo, GraphCmd, Kind, Place, Refusal, Reg, ZONE_LIM
 impl Heap {
     /// What a command on the graph will do, or why it is refused: each exactly where it is so, and
     /// with the first reason in the order of our choice. It changes nothing, and takes no memory.
+    #[inline(always)]
     pub fn resolve(&self, cmd: &GraphCmd) -> Result<Plan, Refusal>
         requires sound { IsSound self.now }
         ensures plan { IfOk result (IsPlanOf self.now cmd.now) }
@@ -54,6 +55,7 @@ impl Heap {
         }
     }
 
+    #[inline(always)]
     fn resolve_zone(&self) -> Result<Plan, Refusal>
         requires sound { IsSound self.now }
         ensures plan { IfOk result (IsPlanOf self.now cmd.Zone) }
@@ -65,6 +67,7 @@ impl Heap {
         Ok(Plan::of(Change::Zone))
     }
 
+    #[inline(always)]
     fn resolve_comp(&self, z: ZoneNo) -> Result<Plan, Refusal>
         requires sound { IsSound self.now }
         ensures plan { IfOk result (IsPlanOf self.now (cmd.Comp z)) }
@@ -79,6 +82,7 @@ impl Heap {
         Ok(Plan::of(Change::Comp(z)))
     }
 
+    #[inline(always)]
     fn resolve_new(&self, r: Reg, c: CompNo, n: u8) -> Result<Plan, Refusal>
         requires sound { IsSound self.now }
         ensures plan { IfOk result (IsPlanOf self.now (cmd.New r c n)) }
@@ -90,6 +94,7 @@ impl Heap {
         Ok(Plan::of(Change::Cell(r, self.zone_of(c), c, Kind::Object(n))))
     }
 
+    #[inline(always)]
     fn resolve_map(&self, r: Reg, c: CompNo) -> Result<Plan, Refusal>
         requires sound { IsSound self.now }
         ensures plan { IfOk result (IsPlanOf self.now (cmd.Map r c)) }
@@ -101,6 +106,7 @@ impl Heap {
         Ok(Plan::of(Change::Cell(r, self.zone_of(c), c, Kind::Map)))
     }
 
+    #[inline(always)]
     fn resolve_get(&self, r: Reg, s: Reg, f: u8) -> Result<Plan, Refusal>
         requires sound { IsSound self.now }
         ensures plan { IfOk result (IsPlanOf self.now (cmd.Get r s f)) }
@@ -112,6 +118,7 @@ impl Heap {
         }
     }
 
+    #[inline(always)]
     fn resolve_unwrap(&self, r: Reg, s: Reg) -> Result<Plan, Refusal>
         requires sound { IsSound self.now }
         ensures plan { IfOk result (IsPlanOf self.now (cmd.Unwrap r s)) }
@@ -123,6 +130,7 @@ impl Heap {
         }
     }
 
+    #[inline(always)]
     fn resolve_find(&self, r: Reg, m: Reg, k: Reg) -> Result<Plan, Refusal>
         requires sound { IsSound self.now }
         ensures plan { IfOk result (IsPlanOf self.now (cmd.Find r m k)) }
@@ -134,6 +142,7 @@ impl Heap {
         }
     }
 
+    #[inline(always)]
     fn resolve_set(&self, s: Reg, f: u8, t: &Option<Reg>) -> Result<Plan, Refusal>
         requires sound { IsSound self.now }
         ensures plan { IfOk result (IsPlanOf self.now (cmd.Set s f t.now)) }
@@ -149,6 +158,7 @@ impl Heap {
         }
     }
 
+    #[inline(always)]
     fn resolve_wrap(&self, r: Reg, s: Reg, c: CompNo) -> Result<Plan, Refusal>
         requires sound { IsSound self.now }
         ensures plan { IfOk result (IsPlanOf self.now (cmd.Wrap r s c)) }
@@ -167,6 +177,7 @@ impl Heap {
         }
     }
 
+    #[inline(always)]
     fn resolve_put(&self, m: Reg, k: Reg, v: Reg) -> Result<Plan, Refusal>
         requires sound { IsSound self.now }
         ensures plan { IfOk result (IsPlanOf self.now (cmd.Put m k v)) }
@@ -182,6 +193,7 @@ impl Heap {
         }
     }
 
+    #[inline(always)]
     fn resolve_del(&self, m: Reg, k: Reg) -> Result<Plan, Refusal>
         requires sound { IsSound self.now }
         ensures plan { IfOk result (IsPlanOf self.now (cmd.Del m k)) }

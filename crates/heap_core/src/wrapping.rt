@@ -30,6 +30,7 @@ impl Heap {
     }
 
     // What a compartment sees of a target: the target itself, or its wrapper, if it is there.
+    #[inline(always)]
     pub(crate) fn seen_from(&self, c: CompNo, target: Place) -> Option<Place>
         requires { IsPresent self.now.shape target }
         ensures { result ≡ seen_from self.now.shape c target }
@@ -65,6 +66,7 @@ impl Heap {
     }
 
     // Makes the wrapper of a target in a compartment of a zone; a register holds it.
+    #[inline(always)]
     pub(crate) fn hold_wrapper(
         &mut self,
         r: Reg,

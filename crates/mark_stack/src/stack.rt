@@ -59,6 +59,7 @@ impl Stack {
     }
 
     /// Gives each pile room for so many places more, as an arena with so many cells is made.
+    #[inline(always)]
     pub fn reserve(&mut self, cells: u64) -> Result<(), NoMemory>
         ensures ok { OnOk result
             (self.new ≡ record self.old { room = self.old.room + cells }) }

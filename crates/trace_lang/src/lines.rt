@@ -174,6 +174,7 @@ fn command_of(line: &[u8]) -> Option<Cmd>
 }
 
 /// The command that a line stands for.
+#[inline(always)]
 pub fn parse(line: &[u8]) -> Result<Cmd, BadLine>
     ensures ok { IfOk result (Spells line.now) }
     ensures exact { (c : Cmd) → Spells line.now c → result ≡ Ok c }
