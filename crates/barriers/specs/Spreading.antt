@@ -5,13 +5,28 @@ use Rattle.cell_bits.specs.declared.bits.Bits.{Bits}
 use Rattle.mark_stack.specs.Stack.{Piles, pushed}
 use Rattle.mark_stack.specs.declared.stack.Pile.TheVariants as pile
 use Rattle.heap_core.specs.Shape.{Shape, IsPresent, is_marking, out_of}
-use Rattle.heap_core.specs.Heap.{HeapState, colour_of}
+use Rattle.heap_core.specs.Heap.{HeapState, colour_of, joined}
 use Rattle.barriers.specs.Colours.{IsBlack, gobs, left, whites, grays_outside}
+use Rattle.barriers.specs.Invariant.{ColourInvariant, HasRoom}
 use Rattle.barriers.specs.Scans.{ScansNoMore}
 
 -- exactly the arenas that are handed to sweeping are in flight
 abbrev pub Covers : Shape → (ℕ → Option Bits) → Type 0
 Covers s flown = (a : ℕ) → is_some (flown a) ≡ is_some (out_of s a)
+
+-- colours were looked at: with the bits in flight the heap is as it was, the same arenas are in flight, and they come
+-- from where they came from
+pub record FlightKept {S O : Type 0} (bits_of : S → ℕ → Option Bits) (origin_of : S → O) (h : HeapState) (f g : S)
+    : Type 0 where
+  pub same : joined h (bits_of g) ≡ joined h (bits_of f)
+  pub covers : Covers h.shape (bits_of g)
+  pub origin : origin_of g ≡ origin_of f
+
+-- what marking a cell asks of the heap, the flight and the piles, whichever cell it is
+pub record MayMark (h : HeapState) (flown : ℕ → Option Bits) (p : Piles) : Type 0 where
+  pub covers : Covers h.shape flown
+  pub colours : ColourInvariant (joined h flown)
+  pub room : HasRoom (joined h flown) p
 
 -- a cell turned black, and nothing else changed: no gray bit either
 pub record Blackened (h : HeapState) (x : Place) (k : HeapState) : Type 0 where

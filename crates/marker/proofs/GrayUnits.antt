@@ -82,6 +82,12 @@ pub popped_apart : (h : HeapState) (p p0 : Piles) (a : Incoming) (x : Place) →
 popped_apart h p p0 a x g popped c at =
     g.apart c x (subst (λ (z : Piles). Contains z.gray x) (sym popped) (Contains-push p0.gray x)) at
 
+pub popped_some : (p p0 : Piles) (x : Place) → p ≡ pushed p0 pile.Gray x → p.gray ≡ [] → ⊥
+popped_some p p0 x popped none =
+    let size : length p.gray ≡ length (p0.gray ++ x ∷ []) = ap (λ (z : Piles). length z.gray) popped in
+    let zero : length p.gray ≡ 0 = ap length none in
+    omega (arith, size, zero, length-append p0.gray (x ∷ []))
+
 -- one cell of the gray pile was started, and then followed
 module _ (h : HeapState) (p p0 : Piles) (x : Place) (looks : LooksState) (inv : MarkingInvariant h p)
     (popped : p ≡ pushed p0 pile.Gray x) (starts : StartsBoth mark.Gray x h (with_looks h looks)) where

@@ -1,7 +1,9 @@
 -- Units of marking: what they keep, where there is no work, and a number that they lower.
-use Rattle.std.specs.Prelude.{◌≡◌, ◌⊎◌, ◌↔◌, ◌<◌, ◌+◌, ◌*◌, ℕ, true, [], length, Contains, Some, slice_get, sum_by}
+use Rattle.std.specs.Prelude.{◌≡◌, ◌⊎◌, ◌↔◌, ◌<◌, ◌≤◌, ◌+◌, ◌*◌, ℕ, Bool, true, [], length, Contains, Option, Some}
+use Rattle.std.specs.Prelude.{IsTrue, MatchBool, slice_get, sum_by}
 use Rattle.gz_names.specs.Zones.{HasZone}
 use Rattle.gz_names.specs.declared.numbers.Place.{Place}
+use Rattle.cell_bits.specs.declared.bits.Bits.{Bits}
 use Rattle.cell_bits.specs.declared.bits.Colour.{Colour}
 use Rattle.cell_bits.specs.declared.bits.Colour.TheVariants as colour
 use Rattle.zones.specs.declared.states.State.TheVariants as state
@@ -11,7 +13,7 @@ use Rattle.weak_maps.specs.declared.colours.MarkColour.{MarkColour}
 use Rattle.weak_maps.specs.declared.colours.MarkColour.TheVariants as mark
 use Rattle.gray_lists.specs.Incoming.{Incoming, list_of, waiting_count}
 use Rattle.heap_core.specs.Shape.{Shape, is_marking, is_marking_state, state_in, state_of, zone_of}
-use Rattle.heap_core.specs.Heap.{HeapState}
+use Rattle.heap_core.specs.Heap.{HeapState, joined}
 use Rattle.barriers.specs.Reached.{HasEntry}
 use Rattle.barriers.specs.Colours.{HasGob, IsBlack, IsSeen, grays_outside, left, whites}
 use Rattle.barriers.specs.PendingBlack.{PendingBlack}
@@ -19,6 +21,7 @@ use Rattle.barriers.specs.PendingLive.{PendingLive, GrayInvariant, buffer_of}
 use Rattle.barriers.specs.Invariant.{MarkingInvariant}
 use Rattle.barriers.specs.Exposing.{KeepsLive}
 use Rattle.barriers.specs.Scans.{ScansNoMore, black_scans, gray_scans}
+use Rattle.barriers.specs.Spreading.{Covers}
 use Rattle.marker.specs.GrayBits.{AreGraying}
 use Rattle.marker.specs.Waiting.{IsBlackOnlyComp, Noted}
 use Rattle.marker.specs.Looks.{Raises, StartsBoth, looks_left, with_looks}
@@ -90,6 +93,24 @@ pub record DoesGray (h : HeapState) (p : Piles) (a : Incoming) (k : HeapState) (
   pub gray_pile : (x : Place) → Contains q.gray x → Contains p.gray x ⊎ (state_of h.shape x ≡ state.MarkBlackAndGray)
   pub buffered : (z : ℕ) (x : Place) → Contains (buffer_of k z) x → Contains (buffer_of h z) x
   pub incoming : (n : ℕ) (x : Place) → Contains (list_of b n) x → Contains (list_of a n) x ⊎ IsBlackOnlyComp h.shape n
+
+-- what gray marking asks: these zones are exactly those that take gray, exactly the arenas that are handed to sweeping
+-- are in flight, and the invariants of both colours hold
+pub record MayMarkGray (zones : ℕ) (h : HeapState) (flown : ℕ → Option Bits) (p : Piles) (lists : Incoming) : Type 0
+  where
+    pub group : AreGraying h.shape zones
+    pub covers : Covers h.shape flown
+    pub invariant : MarkingInvariant (joined h flown) p
+    pub gray : GrayInvariant (joined h flown) p lists
+
+-- one kind of gray marking was tried for these zones, which reads at most so many edges: a piece of it was done; or
+-- there is none, and nothing was done
+pub record TriesGray (did : Bool) (none : Type 0) (most zones : ℕ) (flown : ℕ → Option Bits) (h : HeapState) (p : Piles)
+    (a : Incoming) (read : ℕ) (k : HeapState) (q : Piles) (b : Incoming) (now : ℕ) : Type 0 where
+  pub does : MatchBool did (DoesGray (joined h flown) p a (joined k flown) q b)
+      (none × (k ≡ h) × (q ≡ p) × (b ≡ a) × (now ≡ read))
+  pub found : IsTrue did → IsGrayIdle h p a zones → ⊥
+  pub steps : now ≤ read + most
 
 -- a cell has at least a colour
 abbrev pub HasColour : HeapState → Colour → Place → Type 0

@@ -1,6 +1,6 @@
 -- What a step of a collection does, whoever sweeps.
-use Rattle.std.specs.Prelude.{◌≡◌, ◌↔◌, ◌<◌, ◌≤◌, ◌+◌, ℕ, true, false, List, [], Option, None, IsSome, if◌then◌else◌}
-use Rattle.std.specs.Prelude.{length, Contains}
+use Rattle.std.specs.Prelude.{◌≡◌, ◌↔◌, ◌<◌, ◌≤◌, ◌+◌, ℕ, Bool, true, false, List, [], Option, None, Some, Result}
+use Rattle.std.specs.Prelude.{IsSome, OnErr, if◌then◌else◌, length, Contains}
 use Rattle.std.specs.List.{flat_map}
 use Rattle.gz_names.specs.declared.replies.Report.{Report}
 use Rattle.cell_bits.specs.declared.bits.Bits.{Bits}
@@ -13,7 +13,9 @@ use Rattle.slice_driver.specs.declared.advance.Step.{Step}
 use Rattle.slice_driver.specs.Collector.{CollectorState}
 use Rattle.slice_driver.specs.Left.{units_left}
 use Rattle.slice_driver.specs.Represents.{Represents}
-use Rattle.slice_driver.specs.Units.{IsFreedWord, IsSound, reports_of}
+use Rattle.slice_driver.specs.Units.{DoesUnit, IsFreedWord, IsLowestOut, IsSound, KeepsFreedWords, reports_of}
+use Rattle.slice_driver.specs.Units.{without_arena}
+use Rattle.slice_driver.specs.Working.{IsStill}
 
 -- these arenas are out, each with the slots of its white cells as it was handed to sweeping
 pub record AreOut (s : Shape) (outs : List (ℕ × ℕ)) : Type 0 where
@@ -60,3 +62,54 @@ pub record Advances (limit : ℕ) (old : CollectorState) (flown : ℕ → Option
   pub ascending : AscendHanded step.handed
   pub made : new.heap.made ≡ old.heap.made
   pub entries : length new.heap.shape.weak.entries ≤ length old.heap.shape.weak.entries
+
+-- what a step asks: the collector stands for a valid world, a collection runs, and these arenas are out
+pub record MayAdvance (c : CollectorState) (flown : ℕ → Option Bits) (outs : List (ℕ × ℕ)) : Type 0 where
+  pub sound : IsSound c flown
+  pub running : IsSome c.run
+  pub out : AreOut c.heap.shape outs
+
+-- where memory was wanted nothing was done, and nothing is told of it; what is out, and with which sweeper, is as it
+-- was
+pub record StillOnErr {S O H T E : Type 0} (bits_of : S → ℕ → Option Bits) (origin_of : S → O) (home_of : O → H)
+    (result : Result T E) (c : CollectorState) (f : S) (before : Option Report) (d : CollectorState) (g : S)
+    (now : Option Report) : Type 0 where
+  pub err : OnErr result (IsStill c (bits_of f) d (bits_of g))
+  pub err_report : OnErr result (now ≡ before)
+  pub err_out : OnErr result (origin_of g ≡ origin_of f)
+  pub home : home_of (origin_of g) ≡ home_of (origin_of f)
+
+-- the lowest arena that is out was taken over from who sweeps, and in: a unit with this report was done, with which the
+-- collection is over or not; the other arenas are out as they were
+pub record TakesDue {S O H : Type 0} (bits_of : S → ℕ → Option Bits) (origin_of : S → O) (left_of : O → List (ℕ × ℕ))
+    (home_of : O → H) (report : Option Report) (over : Bool) (c : CollectorState) (f : S) (d : CollectorState) (g : S)
+    : Type 0 where
+  pub done : DoesUnit c (bits_of f) (reports_of report over) d (bits_of g)
+  pub left : units_left d (bits_of g) < units_left c (bits_of f)
+  pub finished : (over ≡ true) ↔ (d.run ≡ None)
+  pub sound : IsSound d (bits_of g)
+  pub out : AreOut d.heap.shape (left_of (origin_of g))
+  pub home : home_of (origin_of g) ≡ home_of (origin_of f)
+  pub made : d.heap.made ≡ c.heap.made
+  pub weak : d.heap.shape.weak ≡ c.heap.shape.weak
+
+-- what taking an arena in asks: it is the lowest that is handed to sweeping, these were the slots of its white cells
+-- then, and a collection runs
+pub record MayTakeIn (c : CollectorState) (a word : ℕ) : Type 0 where
+  pub lowest : IsLowestOut c.heap.shape a
+  pub freed : IsFreedWord c.heap.shape a word
+  pub running : IsSome c.run
+
+-- an arena was taken in, whatever else is in flight: a unit with this report was done, with which the collection is
+-- over
+-- or not
+pub record TakesIn (a : ℕ) (bits : Bits) (report : Option Report) (over : Bool) (c d : CollectorState) : Type 0 where
+  pub done : (flown : ℕ → Option Bits) → flown a ≡ Some bits
+      → DoesUnit c flown (reports_of report over) d (without_arena flown a)
+  pub sound : (flown : ℕ → Option Bits) → IsSound c flown → flown a ≡ Some bits → IsSound d (without_arena flown a)
+  pub words : KeepsFreedWords c.heap.shape d.heap.shape
+  pub left : (flown : ℕ → Option Bits) → IsSound c flown → flown a ≡ Some bits
+      → units_left d (without_arena flown a) < units_left c flown
+  pub finished : (over ≡ true) ↔ (d.run ≡ None)
+  pub made : d.heap.made ≡ c.heap.made
+  pub weak : d.heap.shape.weak ≡ c.heap.shape.weak

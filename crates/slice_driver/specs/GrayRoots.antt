@@ -9,6 +9,7 @@ use Rattle.roots.specs.Buffers.{buffer_at, places_in}
 use Rattle.wrappers.specs.WrapperMaps.{list_of}
 use Rattle.heap_core.specs.Shape.{Shape, field_at, zone_of}
 use Rattle.heap_core.specs.Heap.{HeapState, colour_of}
+use Rattle.zone_edges.specs.Looks.{AreWrappers}
 use Rattle.slice_driver.specs.RootMarking.{LeadsAt}
 
 -- exactly the places that meet P for a zone were put with that zone
@@ -50,6 +51,12 @@ IsGrayAmong h zones n z x = (w : ℕ) × (w < n) × (HasZone zones.bits w → �
 -- no zone has more wrappers than there can be slots of cells
 abbrev pub HasFewWrappers : Shape → Type 0
 HasFewWrappers s = (z : ℕ) → length (list_of s.wrappers z) ≤ 274877906944
+
+-- what gathering gray wrappers asks of a heap
+pub record MayGather (h : HeapState) : Type 0 where
+  pub wrappers : AreWrappers h.shape
+  pub sized : length h.colours ≡ length h.shape.arenas
+  pub few : HasFewWrappers h.shape
 
 -- exactly the gray roots of these zones were put into the buffers of their zones, and nothing else changed
 pub record Buffers (h : HeapState) (zones : ZoneSet) (k : HeapState) : Type 0 where

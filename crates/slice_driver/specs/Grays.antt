@@ -1,13 +1,15 @@
 -- The names of the gray cells, in the order of their places.
 use Rattle.std.specs.Prelude.{◌≡◌, ◌++◌, ℕ, zero, suc, Bool, true, false, List, [], ◌∷◌, Option, Some, None}
-use Rattle.std.specs.Prelude.{if◌then◌else◌}
+use Rattle.std.specs.Prelude.{◌<◌, length, if◌then◌else◌}
 use Rattle.gz_names.specs.declared.names.Name.{Name}
 use Rattle.gz_names.specs.declared.numbers.Place.{Place}
+use Rattle.cell_bits.specs.declared.bits.Bits.{Bits}
 use Rattle.cell_bits.specs.declared.bits.Colour.{Colour}
 use Rattle.cell_bits.specs.declared.bits.Colour.TheVariants as colour
-use Rattle.heap_core.specs.Shape.{name_at}
-use Rattle.heap_core.specs.Heap.{HeapState, colour_of}
+use Rattle.heap_core.specs.Shape.{IsPresent, name_at}
+use Rattle.heap_core.specs.Heap.{HeapState, colour_of, joined}
 use Rattle.barriers.specs.Colours.{IsGray}
+use Rattle.barriers.specs.Spreading.{Covers}
 
 abbrev pub is_gray_colour : Colour → Bool
 is_gray_colour colour.White = false
@@ -39,3 +41,11 @@ pub record IsGrayIn (h : HeapState) (test : ℕ → Bool) (x : Name) : Type 0 wh
   pub named : name_at h.shape place ≡ Some x
   pub here : test place.0 ≡ true
   pub gray : IsGray h place
+
+-- what naming the gray cells of an arena asks: exactly the arenas that are handed to sweeping are in flight, the arena
+-- is
+-- made, and gray cells are present
+pub record MayNameGrays (h : HeapState) (flown : ℕ → Option Bits) (arena : ℕ) : Type 0 where
+  pub covers : Covers h.shape flown
+  pub made : arena < length h.colours
+  pub present : (p : Place) → IsGray (joined h flown) p → IsPresent h.shape p

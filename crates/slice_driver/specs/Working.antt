@@ -45,6 +45,14 @@ abbrev pub DidOrStill : Bool → Type 0 → CollectorState → (ℕ → Option B
 DidOrStill true found c flown d flying = GoesOn c flown [] d flying × (found → ⊥)
 DidOrStill false found c flown d flying = IsStill c flown d flying × found
 
+-- a step of the gray marking of a group had work and did a unit, or it found nothing to do; the shape of the heap and
+-- the groups are as they were
+pub record TriesGroup (did : Bool) (found : Type 0) (c : CollectorState) (flown : ℕ → Option Bits) (d : CollectorState)
+    (flying : ℕ → Option Bits) : Type 0 where
+  pub done : DidOrStill did found c flown d flying
+  pub shape : d.heap.shape ≡ c.heap.shape
+  pub groups : d.groups ≡ c.groups
+
 -- the weak rule adds no black cell in a marking zone
 abbrev pub IsBlackFixed : CollectorState → (ℕ → Option Bits) → Type 0
 IsBlackFixed c flown = (m k v : Place) → HasEntry c.heap.shape m k v → IsBlack (heap_with c flown) m

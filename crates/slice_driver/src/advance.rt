@@ -1,9 +1,8 @@
 // Steps of a collection, whoever sweeps: the one place where units, due arenas and their sweeping meet.
-ghost use Rattle.std.specs.Prelude.{◌≡◌, ◌↔◌, ◌<◌, None, false, true, IfOk, IsSome, OnErr, if◌then◌else◌, is_some};
+ghost use Rattle.std.specs.Prelude.{◌≡◌, ◌<◌, None, false, true, IfOk, IsSome, OnErr, if◌then◌else◌, is_some};
 ghost use Rattle.sweeping.specs.ArenasOut.{flying_after, outs_after};
-ghost use Rattle.slice_driver.specs.Advances.{Advances, AreOut};
-ghost use Rattle.slice_driver.specs.Left.{units_left};
-ghost use Rattle.slice_driver.specs.Units.{DoesUnit, IsLowestOut, IsSound, reports_of};
+ghost use Rattle.slice_driver.specs.Advances.{Advances, AreOut, MayAdvance, StillOnErr, TakesDue};
+ghost use Rattle.slice_driver.specs.Units.{IsLowestOut, IsSound};
 ghost use Rattle.slice_driver.specs.Working.{IsStill};
 
 use crate::collector::{Collector, Unit};
@@ -68,6 +67,7 @@ impl Collector {
     /// over, and a board may be entered with them.
     ///
     /// Returns `NoMemory` only where a group is to end; then nothing was done.
+    #[inline(always)]
     pub fn advance<F: Sweeping, L: Ledger>(
         &mut self,
         alloc: Global,
@@ -76,18 +76,13 @@ impl Collector {
         report: &mut Option<Report>,
         steps: &mut Steps<L>,
     ) -> Result<Step, NoMemory>
-        requires sound { IsSound self.old (F.bits flight.old) }
-        requires running { IsSome self.old.run }
-        requires out { AreOut self.old.heap.shape (F.left (F.origin flight.old)) }
+        requires ready { MayAdvance self.old (F.bits flight.old) (F.left (F.origin flight.old)) }
         requires some { 0 < limit }
         ensures done { IfOk result (λ step. Advances limit self.old (F.bits flight.old) report.old
             step self.new (flying_after step.handed (F.bits flight.new))
             (outs_after step.handed (F.left (F.origin flight.new))) report.new) }
-        ensures err { OnErr result (IsStill self.old (F.bits flight.old) self.new
-            (F.bits flight.new)) }
-        ensures err_report { OnErr result (report.new ≡ report.old) }
-        ensures err_out { OnErr result (F.origin flight.new ≡ F.origin flight.old) }
-        ensures home { F.home (F.origin flight.new) ≡ F.home (F.origin flight.old) }
+        ensures still { StillOnErr F.bits F.origin F.home result self.old flight.old report.old
+            self.new flight.new report.new }
     {
         let quiet = self.quiet_units(limit, flight, steps);
         if quiet > 0 {
@@ -113,9 +108,7 @@ impl Collector {
         report: &mut Option<Report>,
         steps: &mut Steps<L>,
     ) -> Result<Step, NoMemory>
-        requires sound { IsSound self.old (F.bits sweeper.old) }
-        requires running { IsSome self.old.run }
-        requires out { AreOut self.old.heap.shape (F.left (F.origin sweeper.old)) }
+        requires ready { MayAdvance self.old (F.bits sweeper.old) (F.left (F.origin sweeper.old)) }
         requires some { 0 < limit }
         ensures done { IfOk result (λ step. Advances limit self.old (F.bits sweeper.old) report.old
             step self.new (F.bits sweeper.new) (F.left (F.origin sweeper.new)) report.new) }
@@ -150,17 +143,12 @@ impl Collector {
         report: &mut Option<Report>,
         steps: &mut Steps<L>,
     ) -> Result<Step, NoMemory>
-        requires sound { IsSound self.old (F.bits flight.old) }
-        requires running { IsSome self.old.run }
-        requires out { AreOut self.old.heap.shape (F.left (F.origin flight.old)) }
+        requires { MayAdvance self.old (F.bits flight.old) (F.left (F.origin flight.old)) }
         ensures done { IfOk result (λ step. Advances 1 self.old (F.bits flight.old) report.old step
             self.new (flying_after step.handed (F.bits flight.new))
             (outs_after step.handed (F.left (F.origin flight.new))) report.new) }
-        ensures err { OnErr result (IsStill self.old (F.bits flight.old) self.new
-            (F.bits flight.new)) }
-        ensures err_report { OnErr result (report.new ≡ report.old) }
-        ensures err_out { OnErr result (F.origin flight.new ≡ F.origin flight.old) }
-        ensures home { F.home (F.origin flight.new) ≡ F.home (F.origin flight.old) }
+        ensures still { StillOnErr F.bits F.origin F.home result self.old flight.old report.old
+            self.new flight.new report.new }
     {
         let unit = self.unit(alloc, flight, steps)?;
         match unit.due {
@@ -175,17 +163,9 @@ impl Collector {
         requires running { IsSome self.old.run }
         requires out { AreOut self.old.heap.shape (F.left (F.origin flight.old)) }
         requires lowest { IsLowestOut self.old.heap.shape arena }
-        ensures done { DoesUnit self.old (F.bits flight.old)
-            (reports_of result.report result.finished) self.new (F.bits flight.new) }
-        ensures left { units_left self.new (F.bits flight.new)
-            < units_left self.old (F.bits flight.old) }
-        ensures finished { (result.finished ≡ true) ↔ (self.new.run ≡ None) }
+        ensures takes { TakesDue F.bits F.origin F.left F.home result.report result.finished
+            self.old flight.old self.new flight.new }
         ensures none_handed { result.handed ≡ None }
-        ensures sound { IsSound self.new (F.bits flight.new) }
-        ensures out { AreOut self.new.heap.shape (F.left (F.origin flight.new)) }
-        ensures home { F.home (F.origin flight.new) ≡ F.home (F.origin flight.old) }
-        ensures made { self.new.heap.made ≡ self.old.heap.made }
-        ensures weak { self.new.heap.shape.weak ≡ self.old.heap.shape.weak }
     {
         let mut report = None;
         let finished = self.take_due_into(flight, arena, &mut report);
@@ -205,21 +185,11 @@ impl Collector {
         arena: u32,
         report: &mut Option<Report>,
     ) -> bool
-        requires sound { IsSound self.old (F.bits flight.old) }
-        requires running { IsSome self.old.run }
-        requires out { AreOut self.old.heap.shape (F.left (F.origin flight.old)) }
+        requires ready { MayAdvance self.old (F.bits flight.old) (F.left (F.origin flight.old)) }
         requires lowest { IsLowestOut self.old.heap.shape arena }
-        ensures done { DoesUnit self.old (F.bits flight.old) (reports_of report.new result)
-            self.new (F.bits flight.new) }
+        ensures takes { TakesDue F.bits F.origin F.left F.home report.new result self.old flight.old
+            self.new flight.new }
         ensures told { IsSome report.new }
-        ensures left { units_left self.new (F.bits flight.new)
-            < units_left self.old (F.bits flight.old) }
-        ensures finished { (result ≡ true) ↔ (self.new.run ≡ None) }
-        ensures sound { IsSound self.new (F.bits flight.new) }
-        ensures out { AreOut self.new.heap.shape (F.left (F.origin flight.new)) }
-        ensures home { F.home (F.origin flight.new) ≡ F.home (F.origin flight.old) }
-        ensures made { self.new.heap.made ≡ self.old.heap.made }
-        ensures weak { self.new.heap.shape.weak ≡ self.old.heap.shape.weak }
     {
         if flight.is_empty() {
             unreachable!();

@@ -1,15 +1,14 @@
 // What is gray.
-ghost use Rattle.std.specs.Prelude.{◌≡◌, ◌<◌, ◌↔◌, ◌++◌, ℕ, IfOk, OnOk, length, true};
+ghost use Rattle.std.specs.Prelude.{◌≡◌, ◌<◌, ◌↔◌, ◌++◌, ℕ, IfOk, OnOk, length};
 ghost use Rattle.std.specs.Int.{bit_at};
 ghost use Rattle.cell_bits.specs.Colours.{colour_of};
-ghost use Rattle.gz_names.specs.declared.numbers.Place.{Place as APlace};
 ghost use Rattle.colour_defs.specs.Ends.{Lists};
 ghost use Rattle.colour_defs.specs.World.{World, Has, IsPresent as IsPresentName, IsSettled};
 ghost use Rattle.heap_core.specs.Shape.{IsPresent};
 ghost use Rattle.heap_core.specs.Heap.{joined};
 ghost use Rattle.barriers.specs.Colours.{IsGray};
-ghost use Rattle.barriers.specs.Spreading.{Covers};
-ghost use Rattle.slice_driver.specs.Grays.{grays_below};
+ghost use Rattle.barriers.specs.Spreading.{FlightKept};
+ghost use Rattle.slice_driver.specs.Grays.{MayNameGrays, grays_below};
 ghost use Rattle.slice_driver.specs.Represents.{Represents};
 ghost use Rattle.slice_driver.specs.Units.{IsSound};
 
@@ -47,15 +46,10 @@ pub(crate) fn push_gray<F: Flight>(
     arena: u32,
     names: &mut Vec<Name>,
 ) -> Result<(), NoMemory>
-    requires covers { Covers heap.now.shape (F.bits flight.old) }
-    requires made { arena < length heap.now.colours }
-    requires present { (p : APlace) → IsGray (joined heap.now (F.bits flight.old)) p
-        → IsPresent heap.now.shape p }
+    requires { MayNameGrays heap.now (F.bits flight.old) arena }
     ensures names { OnOk result (names.new.items ≡ names.old.items
         ++ grays_below (joined heap.now (F.bits flight.old)) arena 64) }
-    ensures same { joined heap.now (F.bits flight.new) ≡ joined heap.now (F.bits flight.old) }
-    ensures covers { Covers heap.now.shape (F.bits flight.new) }
-    ensures origin { F.origin flight.new ≡ F.origin flight.old }
+    ensures kept { FlightKept F.bits F.origin heap.now flight.old flight.new }
 {
     if heap.is_out(arena) {
         push_flown_gray(heap, flight, arena, names)
@@ -71,15 +65,10 @@ fn push_flown_gray<F: Flight>(
     arena: u32,
     names: &mut Vec<Name>,
 ) -> Result<(), NoMemory>
-    requires covers { Covers heap.now.shape (F.bits flight.old) }
-    requires made { arena < length heap.now.colours }
-    requires present { (p : APlace) → IsGray (joined heap.now (F.bits flight.old)) p
-        → IsPresent heap.now.shape p }
+    requires { MayNameGrays heap.now (F.bits flight.old) arena }
     ensures names { OnOk result (names.new.items ≡ names.old.items
         ++ grays_below (joined heap.now (F.bits flight.old)) arena 64) }
-    ensures same { joined heap.now (F.bits flight.new) ≡ joined heap.now (F.bits flight.old) }
-    ensures covers { Covers heap.now.shape (F.bits flight.new) }
-    ensures origin { F.origin flight.new ≡ F.origin flight.old }
+    ensures kept { FlightKept F.bits F.origin heap.now flight.old flight.new }
 {
     for slot in 0..64 {
         if let Some(place) = Place::new(arena, slot)

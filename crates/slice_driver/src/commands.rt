@@ -1,20 +1,19 @@
 // Commands on the graph, with their barriers.
-ghost use Rattle.std.specs.Prelude.{◌≡◌, ◌≤◌, ◌<◌, ◌+◌, Err, IfOk, IsSome, None, OnErr, OnOk, false, length, true};
+ghost use Rattle.std.specs.Prelude.{◌≡◌, ◌≤◌, ◌<◌, ◌+◌, Err, IfOk, IsSome, None, OnErr, OnOk, false, length};
 ghost use Rattle.std.specs.Option.{ForSome};
 ghost use Rattle.gz_names.specs.declared.replies.CmdFault.TheVariants as fault;
-ghost use Rattle.colour_defs.specs.Graph.{GraphState};
-ghost use Rattle.colour_defs.specs.Step.{HasFewFields, IsAccepted, refusal_in};
+ghost use Rattle.colour_defs.specs.Step.{HasFewFields, refusal_in};
 ghost use Rattle.wrappers.specs.WrapperMaps.{AreApart};
 ghost use Rattle.heap_core.specs.Shape.{IsPresent};
 ghost use Rattle.heap_core.specs.Heap.{joined};
 ghost use Rattle.heap_core.specs.Answers as heap;
 ghost use Rattle.heap_core.specs.Effects.{HasRoom, takes_memory};
 ghost use Rattle.heap_core.specs.Peeks.{cells_made, made_in};
-ghost use Rattle.heap_core.specs.Shows.{Shows};
 ghost use Rattle.barriers.specs.Invariant.{MarkingInvariant};
 ghost use Rattle.barriers.specs.Spreading.{Covers};
-ghost use Rattle.slice_driver.specs.Commands.{Exposed, WantsMemory};
+ghost use Rattle.slice_driver.specs.Commands.{WantsMemory};
 ghost use Rattle.slice_driver.specs.Rooms.{IsRoomy, Widens, arenas_after};
+ghost use Rattle.slice_driver.specs.Steps.{GoesThrough};
 ghost use Rattle.slice_driver.specs.Units.{DoesCommand, IsSound, KeepsFreedWords};
 
 use crate::collector::Collector;
@@ -33,6 +32,7 @@ impl Collector {
     /// the collector nor a colour in flight. Only a command that is not refused returns `NoMemory`,
     /// and only one that makes something: then the graph is as it was. There may be more room on
     /// the stack and the lists, and a `wrap` may have exposed its target; nothing else changed.
+    #[inline(always)]
     pub fn command<F: Flight, L: Ledger>(
         &mut self,
         flight: &mut F,
@@ -78,6 +78,7 @@ impl Collector {
 
     // Makes room on the stack and the lists for the cells of a new arena, where a cell is made in a
     // zone and comes into one.
+    #[inline(always)]
     fn make_room(&mut self, made_in: Option<ZoneNo>) -> Result<(), NoMemory>
         requires roomy { IsRoomy self.old (length self.old.heap.colours) }
         ensures roomy { OnOk result (IsRoomy self.new (arenas_after self.old.heap made_in)) }
@@ -105,15 +106,8 @@ impl Collector {
         requires present { ForSome place (IsPresent self.old.heap.shape) }
         requires invariant { MarkingInvariant (joined self.old.heap (F.bits flight.old))
             self.old.stack }
-        ensures exposed { Exposed place (joined self.old.heap (F.bits flight.old)) self.old.stack
-            (joined self.new.heap (F.bits flight.new)) self.new.stack }
-        ensures rest { self.new ≡ record self.old {
-          heap = self.new.heap;
-          stack = self.new.stack;
-        } }
-        ensures still { place ≡ None
-            → (self.new ≡ self.old) × (F.bits flight.new ≡ F.bits flight.old) }
-        ensures covers { Covers self.new.heap.shape (F.bits flight.new) }
+        ensures through { GoesThrough place self.old (F.bits flight.old) self.new
+            (F.bits flight.new) }
         ensures origin { F.origin flight.new ≡ F.origin flight.old }
     {
         if let Some(place) = place {

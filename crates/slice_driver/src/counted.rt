@@ -7,7 +7,7 @@ ghost use Rattle.cell_bits.specs.declared.bits.Bits.{Bits as ABits};
 ghost use Rattle.colour_defs.specs.Step.{HasFewFields};
 ghost use Rattle.gz_names.specs.Zones.{HasZone};
 ghost use Rattle.heap_core.specs.Effects.{HasRoom};
-ghost use Rattle.slice_driver.specs.Advances.{Advances, AreOut};
+ghost use Rattle.slice_driver.specs.Advances.{Advances, AreOut, MayAdvance};
 ghost use Rattle.slice_driver.specs.Units.{BeginsIn, DoesCommand, IsSound, KeepsFreedWords};
 ghost use Rattle.slice_driver.specs.Working.{IsStill};
 
@@ -79,9 +79,8 @@ pub(crate) fn advance<S: Sweeper, L: Ledger>(
     requires name { blank.name ≡ L.name }
     requires parts { blank.parts ≡ L.parts }
     requires count { 0 < blank.parts }
-    requires sound { IsSound collector.old (S.bits sweeper.old) }
-    requires out { AreOut collector.old.heap.shape (S.left (S.origin sweeper.old)) }
-    requires running { IsSome collector.old.run }
+    requires ready { MayAdvance collector.old (S.bits sweeper.old)
+        (S.left (S.origin sweeper.old)) }
     requires some { 0 < limit }
     ensures done { IfOk result (λ step. Advances limit collector.old (S.bits sweeper.old)
         report.old step collector.new (S.bits sweeper.new) (S.left (S.origin sweeper.new))

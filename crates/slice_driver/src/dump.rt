@@ -1,5 +1,5 @@
 // The dump of a collector: its present cells with their colours, their edges, its weak entries.
-ghost use Rattle.std.specs.Prelude.{◌≡◌, ◌++◌, ◌<◌, ℕ, IfOk, OnOk, All, length, map};
+ghost use Rattle.std.specs.Prelude.{◌≡◌, ◌++◌, ◌<◌, IfOk, OnOk, All, length, map};
 ghost use Rattle.std.specs.List.{flat_map};
 ghost use Rattle.colour_defs.specs.Dumps.{IsDump};
 ghost use Rattle.colour_defs.specs.World.{World, IsSettled};
@@ -7,7 +7,7 @@ ghost use Rattle.heap_core.specs.Heap.{joined};
 ghost use Rattle.slice_driver.specs.Listings.{AreFieldsHeld, edge_lines_at};
 ghost use Rattle.heap_core.specs.Shape.{IsPresent};
 ghost use Rattle.slice_driver.specs.declared.listings.NamedCell.{NamedCell as ANamedCell};
-ghost use Rattle.barriers.specs.Spreading.{Covers};
+ghost use Rattle.barriers.specs.Spreading.{Covers, FlightKept};
 ghost use Rattle.slice_driver.specs.Dumps.{coloured_line, entry_line};
 ghost use Rattle.slice_driver.specs.Represents.{Represents};
 ghost use Rattle.slice_driver.specs.Units.{IsSound};
@@ -53,9 +53,7 @@ fn push_cell_lines<F: Flight>(
     requires made { All (λ (cell : ANamedCell). cell.place.0 < length heap.now.colours) cells.now }
     ensures lines { OnOk result (lines.new.items
         ≡ lines.old.items ++ map (coloured_line (joined heap.now (F.bits flight.old))) cells.now) }
-    ensures same { joined heap.now (F.bits flight.new) ≡ joined heap.now (F.bits flight.old) }
-    ensures covers { Covers heap.now.shape (F.bits flight.new) }
-    ensures origin { F.origin flight.new ≡ F.origin flight.old }
+    ensures kept { FlightKept F.bits F.origin heap.now flight.old flight.new }
 {
     for cell in cells {
         let shade = match colour(heap, flight, cell.place) {

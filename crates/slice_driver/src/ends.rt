@@ -13,6 +13,7 @@ ghost use Rattle.arena_table.specs.Slots.{IsWithin, alloc_word_of};
 ghost use Rattle.heap_core.specs.Shape.{IsPresent, is_owned, out_of};
 ghost use Rattle.heap_core.specs.Sweeping.{with_taken};
 ghost use Rattle.barriers.specs.Colours.{IsGray};
+ghost use Rattle.slice_driver.specs.Advances.{MayTakeIn, TakesIn};
 ghost use Rattle.slice_driver.specs.Advancing.{EndsSweeping};
 ghost use Rattle.slice_driver.specs.Grays.{grays_up_to};
 ghost use Rattle.slice_driver.specs.GroupEnd.{IsReady};
@@ -20,9 +21,8 @@ ghost use Rattle.slice_driver.specs.HandingOut.{HandsOut};
 ghost use Rattle.slice_driver.specs.Left.{units_left};
 ghost use Rattle.slice_driver.specs.NameKinds.{is_cell};
 ghost use Rattle.slice_driver.specs.Sweeping.{AreFreed};
-ghost use Rattle.slice_driver.specs.Units.{AreJobs, DoesUnit, EndsColoured, HandsJobs, IsFreedWord, IsLowestOut};
-ghost use Rattle.slice_driver.specs.Units.{IsSound, KeepsFreedWords, is_group_end, flying_after, jobs_at, reports_of};
-ghost use Rattle.slice_driver.specs.Units.{without_arena};
+ghost use Rattle.slice_driver.specs.Units.{AreJobs, DoesUnit, EndsColoured, HandsJobs, IsLowestOut, IsSound};
+ghost use Rattle.slice_driver.specs.Units.{is_group_end, flying_after, jobs_at, reports_of};
 
 use crate::collector::{Collector, Unit};
 use crate::colours::push_own_gray;
@@ -39,23 +39,10 @@ impl Collector {
     /// Takes in the lowest arena that is handed to sweeping, with the slots of its white cells at
     /// hand-out and the bits that were in flight for it. It takes no memory.
     pub fn take_one(&mut self, taken: Taken, arena: u32) -> Unit
-        requires lowest { IsLowestOut self.old.heap.shape arena }
-        requires freed { IsFreedWord self.old.heap.shape arena taken.freed }
-        requires running { IsSome self.old.run }
-        ensures done { (flown : ℕ → Option ABits) → flown arena ≡ Some taken.bits
-            → DoesUnit self.old flown (reports_of result.report result.finished) self.new
-            (without_arena flown arena) }
-        ensures sound { (flown : ℕ → Option ABits) → IsSound self.old flown
-            → flown arena ≡ Some taken.bits → IsSound self.new (without_arena flown arena) }
-        ensures words { KeepsFreedWords self.old.heap.shape self.new.heap.shape }
-        ensures left { (flown : ℕ → Option ABits) → IsSound self.old flown
-            → flown arena ≡ Some taken.bits
-            → units_left self.new (without_arena flown arena) < units_left self.old flown }
-        ensures finished { (result.finished ≡ true) ↔ (self.new.run ≡ None) }
+        requires { MayTakeIn self.old arena taken.freed }
+        ensures takes { TakesIn arena taken.bits result.report result.finished self.old self.new }
         ensures none_handed { result.handed ≡ None }
         ensures none_due { result.due ≡ None }
-        ensures made { self.new.heap.made ≡ self.old.heap.made }
-        ensures weak { self.new.heap.shape.weak ≡ self.old.heap.shape.weak }
     {
         let mut report = None;
         let finished = self.take_one_into(taken, arena, &mut report);
@@ -69,28 +56,16 @@ impl Collector {
 
     // Takes in the lowest arena that is handed to sweeping, and puts what it reports into a place: returns
     // whether the collection is over.
+    #[inline(always)]
     pub(crate) fn take_one_into(
         &mut self,
         taken: Taken,
         arena: u32,
         report: &mut Option<Report>,
     ) -> bool
-        requires lowest { IsLowestOut self.old.heap.shape arena }
-        requires freed { IsFreedWord self.old.heap.shape arena taken.freed }
-        requires running { IsSome self.old.run }
-        ensures done { (flown : ℕ → Option ABits) → flown arena ≡ Some taken.bits
-            → DoesUnit self.old flown (reports_of report.new result) self.new
-            (without_arena flown arena) }
+        requires { MayTakeIn self.old arena taken.freed }
+        ensures takes { TakesIn arena taken.bits report.new result self.old self.new }
         ensures told { IsSome report.new }
-        ensures sound { (flown : ℕ → Option ABits) → IsSound self.old flown
-            → flown arena ≡ Some taken.bits → IsSound self.new (without_arena flown arena) }
-        ensures words { KeepsFreedWords self.old.heap.shape self.new.heap.shape }
-        ensures left { (flown : ℕ → Option ABits) → IsSound self.old flown
-            → flown arena ≡ Some taken.bits
-            → units_left self.new (without_arena flown arena) < units_left self.old flown }
-        ensures finished { (result ≡ true) ↔ (self.new.run ≡ None) }
-        ensures made { self.new.heap.made ≡ self.old.heap.made }
-        ensures weak { self.new.heap.shape.weak ≡ self.old.heap.shape.weak }
     {
         let kept = self.heap.bits_at_hand_out(arena);
         prove!(taken.freed == kept.white_mask(self.heap.alloc_word(arena)));

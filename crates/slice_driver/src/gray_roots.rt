@@ -1,9 +1,9 @@
 // Buffering the gray roots of a collection.
 ghost use Rattle.std.specs.Prelude.{◌≡◌, ◌<◌, ◌≤◌, ◌+◌, Some, Contains, OnErr, OnOk, length, slice_get, sum_by};
 ghost use Rattle.heap_core.specs.Shape.{IsPresent};
-ghost use Rattle.zone_edges.specs.Looks.{AreWrappers, IsWrapperIn};
-ghost use Rattle.slice_driver.specs.GrayRoots.{Buffers, Gathers, HasFewWrappers, IsFor, IsGrayAmong, IsGrayOf};
-ghost use Rattle.slice_driver.specs.GrayRoots.{IsGrayWrapper, IsInSlot};
+ghost use Rattle.zone_edges.specs.Looks.{IsWrapperIn};
+ghost use Rattle.slice_driver.specs.GrayRoots.{Buffers, Gathers, IsFor, IsGrayAmong, IsGrayOf, IsGrayWrapper};
+ghost use Rattle.slice_driver.specs.GrayRoots.{IsInSlot, MayGather};
 
 use crate::root_marking::source_at;
 use cell_bits::Colour;
@@ -22,9 +22,7 @@ pub(crate) fn buffer_gray_roots<L: Ledger>(
 ) -> Result<(), NoMemory>
     requires held { (x : _) → Contains heap.old.shape.slots (Some x)
         → IsPresent heap.old.shape x }
-    requires wrappers { AreWrappers heap.old.shape }
-    requires sized { length heap.old.colours ≡ length heap.old.shape.arenas }
-    requires few { HasFewWrappers heap.old.shape }
+    requires gather { MayGather heap.old }
     requires empty { sum_by length heap.old.buffers ≡ 0 }
     ensures ok { OnOk result (Buffers heap.old zones heap.new) }
     ensures err { OnErr result (heap.new ≡ heap.old) }
@@ -61,9 +59,7 @@ fn gather_wrappers<L: Ledger>(
     steps: &mut Steps<L>,
     found: &mut Vec<(ZoneNo, Place)>,
 ) -> Result<(), NoMemory>
-    requires wrappers { AreWrappers heap.now.shape }
-    requires sized { length heap.now.colours ≡ length heap.now.shape.arenas }
-    requires few { HasFewWrappers heap.now.shape }
+    requires { MayGather heap.now }
     ensures gathered { OnOk result (Gathers
         (IsGrayAmong heap.now zones (length heap.now.shape.states)) found.old.items
         found.new.items) }
@@ -85,9 +81,7 @@ fn gather_of<L: Ledger>(
     steps: &mut Steps<L>,
     found: &mut Vec<(ZoneNo, Place)>,
 ) -> Result<(), NoMemory>
-    requires wrappers { AreWrappers heap.now.shape }
-    requires sized { length heap.now.colours ≡ length heap.now.shape.arenas }
-    requires few { HasFewWrappers heap.now.shape }
+    requires { MayGather heap.now }
     ensures gathered { OnOk result (Gathers (IsGrayOf heap.now zones zone) found.old.items
         found.new.items) }
     ensures few { OnOk result (length found.new.items ≤ length found.old.items + 274877906944) }

@@ -6,7 +6,7 @@ ghost use Rattle.slice_driver.specs.Units.{IsSound};
 ghost use Rattle.weak_maps.specs.WeakMaps.{NoneLeft};
 ghost use Rattle.weak_maps.specs.declared.colours.MarkColour.TheVariants as mark;
 ghost use Rattle.slice_driver.specs.Working.{DidOrStill, DoesQuietUnits, HasBegun, IsBlackDone};
-ghost use Rattle.slice_driver.specs.Working.{IsGrayDone, IsGroupDone};
+ghost use Rattle.slice_driver.specs.Working.{IsGrayDone, IsGroupDone, TriesGroup};
 
 use crate::collector::Collector;
 use cell_bits::Flight;
@@ -67,6 +67,7 @@ impl Collector {
     }
 
     // Does a piece of gray marking for a group. False where there is none.
+    #[inline(always)]
     fn follows_gray<F: Flight, L: Ledger>(
         &mut self,
         group: ZoneSet,
@@ -76,10 +77,8 @@ impl Collector {
         requires sound { IsSound self.old (F.bits flight.now) }
         requires running { IsSome self.old.run }
         requires begun { AreGraying self.old.heap.shape group.bits }
-        ensures done { DidOrStill result (IsGrayIdle self.old.heap self.old.stack self.old.lists
+        ensures { TriesGroup result (IsGrayIdle self.old.heap self.old.stack self.old.lists
             group.bits) self.old (F.bits flight.now) self.new (F.bits flight.now) }
-        ensures shape { self.new.heap.shape ≡ self.old.heap.shape }
-        ensures groups { self.new.groups ≡ self.old.groups }
     {
         match gray_unit(
             group,
@@ -98,10 +97,8 @@ impl Collector {
     fn adds_gray<F: Flight>(&mut self, flight: &mut F) -> bool
         requires sound { IsSound self.old (F.bits flight.old) }
         requires running { IsSome self.old.run }
-        ensures done { DidOrStill result (NoneLeft mark.Gray self.old.heap.looks) self.old
+        ensures tries { TriesGroup result (NoneLeft mark.Gray self.old.heap.looks) self.old
             (F.bits flight.old) self.new (F.bits flight.new) }
-        ensures shape { self.new.heap.shape ≡ self.old.heap.shape }
-        ensures groups { self.new.groups ≡ self.old.groups }
         ensures origin { F.origin flight.new ≡ F.origin flight.old }
     {
         match weak_unit(MarkColour::Gray, &mut self.heap, &mut self.stack, flight) {
@@ -121,10 +118,8 @@ impl Collector {
         requires sound { IsSound self.old (F.bits flight.old) }
         requires running { IsSome self.old.run }
         requires begun { AreGraying self.old.heap.shape group.bits }
-        ensures done { DidOrStill result (IsGrayDone self.old (F.bits flight.old) group) self.old
+        ensures tries { TriesGroup result (IsGrayDone self.old (F.bits flight.old) group) self.old
             (F.bits flight.old) self.new (F.bits flight.new) }
-        ensures shape { self.new.heap.shape ≡ self.old.heap.shape }
-        ensures groups { self.new.groups ≡ self.old.groups }
         ensures origin { F.origin flight.new ≡ F.origin flight.old }
     {
         if self.follows_gray(group, flight, steps) {

@@ -11,6 +11,13 @@ use crate::collector::Collector;
 use heap_core::Heap;
 
 impl Collector {
+    /// How many objects and maps were made since the collector began.
+    pub fn objects(&self) -> u64
+        ensures { result ≡ self.now.heap.shape.objects }
+    {
+        self.heap.objects()
+    }
+
     /// How many cells are present: of an arena that is handed to sweeping those that were not white
     /// then. It walks over arenas only where one is out.
     pub fn present(&self) -> u64

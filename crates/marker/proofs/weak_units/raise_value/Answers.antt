@@ -6,28 +6,30 @@ use Rattle.marker.proofs.LookSteps.{graying_by, raises_black, raises_gray, raise
 use Rattle.marker.proofs.weak_units.raise_value.Goals as goal
 
 pub weaker_colour-requires-clause-one_made : goal.weaker_colour-requires-clause-one_made
-weaker_colour-requires-clause-one_made g c = bits_within _ (g.F.Flight.bits c.args.flight.now) _ c.requires.colours
-    (c.requires.colours.shape.entries _ _ _ c.requires.entry).0
+weaker_colour-requires-clause-one_made g c =
+    bits_within _ (g.F.Flight.bits c.args.flight.now) _ c.requires.marks.colours
+    (c.requires.marks.colours.shape.entries _ _ _ c.requires.entry).0
 
 pub weaker_colour-requires-clause-other_made : goal.weaker_colour-requires-clause-other_made
-weaker_colour-requires-clause-other_made g c = bits_within _ (g.F.Flight.bits c.args.flight.now) _ c.requires.colours
-    (c.requires.colours.shape.entries _ _ _ c.requires.entry).1
+weaker_colour-requires-clause-other_made g c =
+    bits_within _ (g.F.Flight.bits c.args.flight.now) _ c.requires.marks.colours
+    (c.requires.marks.colours.shape.entries _ _ _ c.requires.entry).1
 
 pub shade-requires-clause-group : goal.shade-requires-clause-group
 shade-requires-clause-group g c = graying_by c.args.heap.now.shape _ c.in_state-group.ensures
 
 pub returns-in-White-clause-raises : goal.returns-in-White-clause-raises
 returns-in-White-clause-raises g c = raises_white _ _ _ _ _ _ (sym c.weaker_colour.ensures.weaker ∙ c.in-White.is)
-    c.weaker_colour.ensures.same
+    c.weaker_colour.ensures.kept.same
 
 pub returns-in-Gray-clause-raises : goal.returns-in-Gray-clause-raises
 returns-in-Gray-clause-raises g c = raises_gray _ _ _ _ _ _ _ _ (sym c.weaker_colour.ensures.weaker ∙ c.in-Gray.is)
-    c.weaker_colour.ensures.same c.shade.ensures
+    c.weaker_colour.ensures.kept.same c.shade.ensures
 
 pub returns-in-Gray-clause-covers : goal.returns-in-Gray-clause-covers
 returns-in-Gray-clause-covers g c = subst (λ (s : Shape). Covers s (g.F.Flight.bits c.weaker_colour.new.flight))
-    (sym (shades_shape _ _ _ _ _ c.shade.ensures)) c.weaker_colour.ensures.covers
+    (sym (shades_shape _ _ _ _ _ c.shade.ensures)) c.weaker_colour.ensures.kept.covers
 
 pub returns-in-Black-clause-raises : goal.returns-in-Black-clause-raises
 returns-in-Black-clause-raises g c = raises_black _ _ _ _ _ _ _ _ (sym c.weaker_colour.ensures.weaker ∙ c.in-Black.is)
-    c.weaker_colour.ensures.same c.turn.ensures.turns
+    c.weaker_colour.ensures.kept.same c.turn.ensures.turns

@@ -10,8 +10,8 @@ use Rattle.slice_driver.proofs.marking.MarkingUnits.{entry_looked, still}
 use Rattle.slice_driver.proofs.collector.Collector.adds_gray.Goals as goal
 use Rattle.slice_driver.proofs.collector.Collector.adds_gray.Goals.{in-Did, in-Empty}
 
-pub returns-clause-done : goal.returns-clause-done
-returns-clause-done g c =
+pub returns-clause-tries : goal.returns-clause-tries
+returns-clause-tries g c =
     let v : CollectorState =
     record {
       heap = c.self.inside.heap;
@@ -40,17 +40,13 @@ returns-clause-done g c =
           (still v flown flying d.heap d.stack e.covers same.0 same.1 same.2, w.in-Empty.ensures.empty.0 refl)
           )
     ] in
-    subst (λ (x : CollectorState). DidOrStill c.match-weak_unit.result (NoneLeft mark.Gray x.heap.looks) x flown d
-    flying) is here
-
-pub returns-clause-shape : goal.returns-clause-shape
-returns-clause-shape g c =
-    let h : HeapState = c.weak_unit.new.heap in
-    let here : h.shape ≡ c.self.inside.heap.shape = elim c.match-weak_unit.branch [
-      | in-Did w ↦ (let does = w.in-Did.ensures.does refl in ap (λ (k : HeapState). k.shape) does.rest)
-      | in-Empty w ↦ (let same = w.in-Empty.ensures.same refl in ap (λ (k : HeapState). k.shape) same.0)
+    let shape : c.weak_unit.new.heap.shape ≡ c.self.inside.heap.shape = elim c.match-weak_unit.branch [
+      | in-Did w ↦ (let does = w.in-Did.ensures.does refl in ap (λ (h : HeapState). h.shape) does.rest)
+      | in-Empty w ↦ (let same = w.in-Empty.ensures.same refl in ap (λ (h : HeapState). h.shape) same.0)
     ] in
-    subst (λ (x : CollectorState). h.shape ≡ x.heap.shape) c.self.view_is here
-
-pub returns-clause-groups : goal.returns-clause-groups
-returns-clause-groups g c = ap (λ (x : CollectorState). x.groups) c.self.view_is
+    record {
+      done = subst (λ (x : CollectorState). DidOrStill c.match-weak_unit.result (NoneLeft mark.Gray x.heap.looks)
+          x flown d flying) is here;
+      shape = subst (λ (x : CollectorState). c.weak_unit.new.heap.shape ≡ x.heap.shape) c.self.view_is shape;
+      groups = ap (λ (x : CollectorState). x.groups) c.self.view_is;
+    }

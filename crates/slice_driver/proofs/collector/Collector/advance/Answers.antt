@@ -12,7 +12,7 @@ returns-then-quiet-gt0-clause-done g c =
     (g.F.Sweeping.left (g.F.Flight.origin c.args.flight.now))
     (g.F.Sweeping.left (g.F.Flight.origin c.quiet_units-quiet.new.flight)) c.args.report.now
     c.quiet_units-quiet.ensures.done some c.quiet_units-quiet.ensures.most c.quiet_units-quiet.ensures.sound
-    (ap g.F.Sweeping.left c.quiet_units-quiet.ensures.origin) c.requires.out
+    (ap g.F.Sweeping.left c.quiet_units-quiet.ensures.origin) c.requires.ready.out
 
 pub returns-in-Some-clause-done : goal.returns-in-Some-clause-done
 returns-in-Some-clause-done g c =
@@ -28,7 +28,7 @@ returns-in-Some-clause-done g c =
     (due_into c.quiet_units-quiet.new.self c.take_due_into.new.self (g.F.Flight.bits c.quiet_units-quiet.new.flight)
     (g.F.Flight.bits c.take_due_into.new.flight) (g.F.Sweeping.left (g.F.Flight.origin c.take_due_into.new.flight))
     c.args.report.now c.take_due_into.new.report c.take_due_into.result c.swept.result c.swept.ensures took.told
-    took.done took.left took.finished took.sound took.out took.made took.weak)
+    took.takes.done took.takes.left took.takes.finished took.takes.sound took.takes.out took.takes.made took.takes.weak)
 
 pub returns-clause-done : goal.returns-clause-done
 returns-clause-done g c =

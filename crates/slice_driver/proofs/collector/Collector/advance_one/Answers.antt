@@ -18,7 +18,7 @@ returns-in-Some-clause-done g c =
     (due_into c.unit.new.self c.take_due_into.new.self (g.F.Flight.bits c.unit.new.flight)
     (g.F.Flight.bits c.take_due_into.new.flight) (g.F.Sweeping.left (g.F.Flight.origin c.take_due_into.new.flight))
     c.args.report.now c.take_due_into.new.report c.take_due_into.result c.swept.result c.swept.ensures took.told
-    took.done took.left took.finished took.sound took.out took.made took.weak)
+    took.takes.done took.takes.left took.takes.finished took.takes.sound took.takes.out took.takes.made took.takes.weak)
 
 pub returns-in-None-clause-done : goal.returns-in-None-clause-done
 returns-in-None-clause-done g c =

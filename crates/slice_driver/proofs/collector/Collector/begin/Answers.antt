@@ -22,19 +22,17 @@ buffer_gray_roots-requires-clause-held g c =
     c.if-running.false in
     rest.represents.lies.shown.slots_held
 
-pub buffer_gray_roots-requires-clause-wrappers : goal.buffer_gray_roots-requires-clause-wrappers
-buffer_gray_roots-requires-clause-wrappers g c =
-    let rest = at_rest (the_view c.self.inside) c.args.self.now c.self.view_is
+pub buffer_gray_roots-requires-clause-gather : goal.buffer_gray_roots-requires-clause-gather
+buffer_gray_roots-requires-clause-gather g c =
+    let view = the_view c.self.inside in
+    let rest = at_rest view c.args.self.now c.self.view_is
     (idle_sound c.args.self.now c.requires.sound.0 c.requires.sound.1) c.running.result c.running.ensures.run
     c.if-running.false in
-    wrappers_of (the_view c.self.inside) rest.world rest.represents rest.idle
-
-pub buffer_gray_roots-requires-clause-sized : goal.buffer_gray_roots-requires-clause-sized
-buffer_gray_roots-requires-clause-sized g c =
-    let rest = at_rest (the_view c.self.inside) c.args.self.now c.self.view_is
-    (idle_sound c.args.self.now c.requires.sound.0 c.requires.sound.1) c.running.result c.running.ensures.run
-    c.if-running.false in
-    (marks_of (the_view c.self.inside) rest.world rest.represents rest.idle).holds.colours.sized
+    record {
+      wrappers = wrappers_of view rest.world rest.represents rest.idle;
+      sized = (marks_of view rest.world rest.represents rest.idle).holds.colours.sized;
+      few = search rules;
+    }
 
 pub few_wrappers_law-requires : goal.few_wrappers_law-requires
 few_wrappers_law-requires g c = c.requires.sound

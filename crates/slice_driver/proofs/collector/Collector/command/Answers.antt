@@ -55,25 +55,10 @@ planned g c =
           search rules in
           subst (λ (o : Option ℕ). IsRoomy c.make_room.new.self (arenas_after c.args.self.now.heap o))
           c.makes_in.ensures room);
-      first = record {
-        exposed = c.expose.ensures.exposed;
-        rest = c.expose.ensures.rest;
-        still = c.expose.ensures.still;
-        covers = c.expose.ensures.covers;
-      };
-      second = record {
-        exposed = c.expose-2.ensures.exposed;
-        rest = c.expose-2.ensures.rest;
-        still = c.expose-2.ensures.still;
-        covers = c.expose-2.ensures.covers;
-      };
+      first = c.expose.ensures.through;
+      second = c.expose-2.ensures.through;
       third = subst (λ o. GoesThrough o c.expose-2.new.self (g.F.Flight.bits c.expose-2.new.flight) c.expose-3.new.self
-          (g.F.Flight.bits c.expose-3.new.flight)) c.handed.ensures (record {
-            exposed = c.expose-3.ensures.exposed;
-            rest = c.expose-3.ensures.rest;
-            still = c.expose-3.ensures.still;
-            covers = c.expose-3.ensures.covers;
-          });
+          (g.F.Flight.bits c.expose-3.new.flight)) c.handed.ensures c.expose-3.ensures.through;
       rest = ap (λ (z : CollectorState). record z { heap = c.commit.new.self }) c.self-2.view_is;
       change = subst (λ (h : HeapState).
           IfOk c.commit.result (λ answer. ChangesBy h c.in-Ok.plan.change answer c.commit.new.self)) here
@@ -140,7 +125,7 @@ expose-requires-2-clause-present g c =
     (planned-here c.expose.new.self.heap c.args.cmd c.in-Ok.plan
     (through_plan c.in-Ok.plan.overwritten c.make_room.new.self c.expose.new.self (g.F.Flight.bits c.args.flight.now)
     (g.F.Flight.bits c.expose.new.flight)
-    c.args.cmd c.in-Ok.plan c.expose.ensures.exposed wide)).wrapped_there
+    c.args.cmd c.in-Ok.plan c.expose.ensures.through.exposed wide)).wrapped_there
 
 pub expose-requires-3-clause-present : goal.expose-requires-3-clause-present
 expose-requires-3-clause-present g c =
@@ -148,10 +133,10 @@ expose-requires-3-clause-present g c =
     let wide = wide_plan c.args.self.now c.make_room.new.self c.args.cmd c.in-Ok.plan c.make_room.ensures.widens plan in
     let first = through_plan c.in-Ok.plan.overwritten c.make_room.new.self c.expose.new.self
     (g.F.Flight.bits c.args.flight.now) (g.F.Flight.bits c.expose.new.flight)
-    c.args.cmd c.in-Ok.plan c.expose.ensures.exposed wide in
+    c.args.cmd c.in-Ok.plan c.expose.ensures.through.exposed wide in
     let second = through_plan c.in-Ok.plan.wrapped c.expose.new.self c.expose-2.new.self
     (g.F.Flight.bits c.expose.new.flight) (g.F.Flight.bits c.expose-2.new.flight)
-    c.args.cmd c.in-Ok.plan c.expose-2.ensures.exposed first in
+    c.args.cmd c.in-Ok.plan c.expose-2.ensures.through.exposed first in
     λ p is. (planned-here c.expose-2.new.self.heap c.args.cmd c.in-Ok.plan second).handed_there p
     (sym c.handed.ensures ∙ is)
 
@@ -162,30 +147,32 @@ expose-requires-clause-invariant g c =
 
 pub expose-requires-2-clause-invariant : goal.expose-requires-2-clause-invariant
 expose-requires-2-clause-invariant g c = exposed_after c.in-Ok.plan.overwritten c.make_room.new.self c.expose.new.self
-    (g.F.Flight.bits c.args.flight.now) (g.F.Flight.bits c.expose.new.flight) c.expose.ensures.exposed
+    (g.F.Flight.bits c.args.flight.now) (g.F.Flight.bits c.expose.new.flight) c.expose.ensures.through.exposed
     (wide_marks c.args.self.now c.make_room.new.self (g.F.Flight.bits c.args.flight.now) c.make_room.ensures.widens
     c.requires.sound)
 
 pub expose-requires-3-clause-invariant : goal.expose-requires-3-clause-invariant
 expose-requires-3-clause-invariant g c =
     let first = exposed_after c.in-Ok.plan.overwritten c.make_room.new.self c.expose.new.self
-    (g.F.Flight.bits c.args.flight.now) (g.F.Flight.bits c.expose.new.flight) c.expose.ensures.exposed
+    (g.F.Flight.bits c.args.flight.now) (g.F.Flight.bits c.expose.new.flight) c.expose.ensures.through.exposed
     (wide_marks c.args.self.now c.make_room.new.self (g.F.Flight.bits c.args.flight.now) c.make_room.ensures.widens
     c.requires.sound) in
     exposed_after c.in-Ok.plan.wrapped c.expose.new.self c.expose-2.new.self
-    (g.F.Flight.bits c.expose.new.flight) (g.F.Flight.bits c.expose-2.new.flight) c.expose-2.ensures.exposed first
+    (g.F.Flight.bits c.expose.new.flight) (g.F.Flight.bits c.expose-2.new.flight) c.expose-2.ensures.through.exposed
+    first
 
 pub commit-requires-clause-sound : goal.commit-requires-clause-sound
 commit-requires-clause-sound g c =
     let wide = wide_sound c.args.self.now c.make_room.new.self (g.F.Flight.bits c.args.flight.now)
     c.make_room.ensures.widens c.requires.sound in
     let first = through_sound c.in-Ok.plan.overwritten c.make_room.new.self c.expose.new.self
-    (g.F.Flight.bits c.args.flight.now) (g.F.Flight.bits c.expose.new.flight) c.expose.ensures.exposed wide in
+    (g.F.Flight.bits c.args.flight.now) (g.F.Flight.bits c.expose.new.flight) c.expose.ensures.through.exposed wide in
     let second = through_sound c.in-Ok.plan.wrapped c.expose.new.self c.expose-2.new.self
-    (g.F.Flight.bits c.expose.new.flight) (g.F.Flight.bits c.expose-2.new.flight) c.expose-2.ensures.exposed first
+    (g.F.Flight.bits c.expose.new.flight) (g.F.Flight.bits c.expose-2.new.flight) c.expose-2.ensures.through.exposed
+    first
     in
     let third = through_sound c.handed.result c.expose-2.new.self c.expose-3.new.self
-    (g.F.Flight.bits c.expose-2.new.flight) (g.F.Flight.bits c.expose-3.new.flight) c.expose-3.ensures.exposed
+    (g.F.Flight.bits c.expose-2.new.flight) (g.F.Flight.bits c.expose-3.new.flight) c.expose-3.ensures.through.exposed
     second in
     subst IsSoundHeap (sym (ap heap_of c.self-2.view_is)) third
 
@@ -196,12 +183,14 @@ commit-requires-clause-able g c =
     let able = (planned-here c.args.self.now.heap c.args.cmd c.in-Ok.plan plan).able c.requires.few c.requires.fields in
     let wide = wide_able c.args.self.now c.make_room.new.self ch c.make_room.ensures.widens able in
     let first = through_able c.in-Ok.plan.overwritten c.make_room.new.self c.expose.new.self
-    (g.F.Flight.bits c.args.flight.now) (g.F.Flight.bits c.expose.new.flight) ch c.expose.ensures.exposed wide in
+    (g.F.Flight.bits c.args.flight.now) (g.F.Flight.bits c.expose.new.flight) ch c.expose.ensures.through.exposed wide
+    in
     let second = through_able c.in-Ok.plan.wrapped c.expose.new.self c.expose-2.new.self
-    (g.F.Flight.bits c.expose.new.flight) (g.F.Flight.bits c.expose-2.new.flight) ch c.expose-2.ensures.exposed
+    (g.F.Flight.bits c.expose.new.flight) (g.F.Flight.bits c.expose-2.new.flight) ch c.expose-2.ensures.through.exposed
     first in
     let third = through_able c.handed.result c.expose-2.new.self c.expose-3.new.self
-    (g.F.Flight.bits c.expose-2.new.flight) (g.F.Flight.bits c.expose-3.new.flight) ch c.expose-3.ensures.exposed
+    (g.F.Flight.bits c.expose-2.new.flight) (g.F.Flight.bits c.expose-3.new.flight) ch
+    c.expose-3.ensures.through.exposed
     second in
     subst (λ (h : HeapState). IsAble h.shape h.made ch) (sym (ap heap_of c.self-2.view_is)) third
 

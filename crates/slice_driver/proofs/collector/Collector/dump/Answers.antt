@@ -34,38 +34,38 @@ entries_by_name-requires-clause-held g c =
 pub returns-in_err-push_cell_lines-clause-same : goal.returns-in_err-push_cell_lines-clause-same
 returns-in_err-push_cell_lines-clause-same g c w rep =
     represents_seen c.args.self.now (g.F.Flight.bits c.args.flight.now) (g.F.Flight.bits c.push_cell_lines.new.flight)
-    c.self.inside.heap (ap (λ (z : CollectorState). z.heap) c.self.view_is) c.push_cell_lines.ensures.covers
-    c.push_cell_lines.ensures.same w rep
+    c.self.inside.heap (ap (λ (z : CollectorState). z.heap) c.self.view_is) c.push_cell_lines.ensures.kept.covers
+    c.push_cell_lines.ensures.kept.same w rep
 
 pub returns-in_err-push_edge_lines-clause-same : goal.returns-in_err-push_edge_lines-clause-same
 returns-in_err-push_edge_lines-clause-same g c w rep =
     represents_seen c.args.self.now (g.F.Flight.bits c.args.flight.now) (g.F.Flight.bits c.push_cell_lines.new.flight)
-    c.self.inside.heap (ap (λ (z : CollectorState). z.heap) c.self.view_is) c.push_cell_lines.ensures.covers
-    c.push_cell_lines.ensures.same w rep
+    c.self.inside.heap (ap (λ (z : CollectorState). z.heap) c.self.view_is) c.push_cell_lines.ensures.kept.covers
+    c.push_cell_lines.ensures.kept.same w rep
 
 pub returns-in_err-entries_by_name-clause-same : goal.returns-in_err-entries_by_name-clause-same
 returns-in_err-entries_by_name-clause-same g c w rep =
     represents_seen c.args.self.now (g.F.Flight.bits c.args.flight.now) (g.F.Flight.bits c.push_cell_lines.new.flight)
-    c.self.inside.heap (ap (λ (z : CollectorState). z.heap) c.self.view_is) c.push_cell_lines.ensures.covers
-    c.push_cell_lines.ensures.same w rep
+    c.self.inside.heap (ap (λ (z : CollectorState). z.heap) c.self.view_is) c.push_cell_lines.ensures.kept.covers
+    c.push_cell_lines.ensures.kept.same w rep
 
 pub returns-in_err-push_entry_lines-clause-same : goal.returns-in_err-push_entry_lines-clause-same
 returns-in_err-push_entry_lines-clause-same g c w rep =
     represents_seen c.args.self.now (g.F.Flight.bits c.args.flight.now) (g.F.Flight.bits c.push_cell_lines.new.flight)
-    c.self.inside.heap (ap (λ (z : CollectorState). z.heap) c.self.view_is) c.push_cell_lines.ensures.covers
-    c.push_cell_lines.ensures.same w rep
+    c.self.inside.heap (ap (λ (z : CollectorState). z.heap) c.self.view_is) c.push_cell_lines.ensures.kept.covers
+    c.push_cell_lines.ensures.kept.same w rep
 
 pub returns-in_err-push-clause-same : goal.returns-in_err-push-clause-same
 returns-in_err-push-clause-same g c w rep =
     represents_seen c.args.self.now (g.F.Flight.bits c.args.flight.now) (g.F.Flight.bits c.push_cell_lines.new.flight)
-    c.self.inside.heap (ap (λ (z : CollectorState). z.heap) c.self.view_is) c.push_cell_lines.ensures.covers
-    c.push_cell_lines.ensures.same w rep
+    c.self.inside.heap (ap (λ (z : CollectorState). z.heap) c.self.view_is) c.push_cell_lines.ensures.kept.covers
+    c.push_cell_lines.ensures.kept.same w rep
 
 pub returns-clause-same : goal.returns-clause-same
 returns-clause-same g c w rep =
     represents_seen c.args.self.now (g.F.Flight.bits c.args.flight.now) (g.F.Flight.bits c.push_cell_lines.new.flight)
-    c.self.inside.heap (ap (λ (z : CollectorState). z.heap) c.self.view_is) c.push_cell_lines.ensures.covers
-    c.push_cell_lines.ensures.same w rep
+    c.self.inside.heap (ap (λ (z : CollectorState). z.heap) c.self.view_is) c.push_cell_lines.ensures.kept.covers
+    c.push_cell_lines.ensures.kept.same w rep
 
 pub returns-clause-lines : goal.returns-clause-lines
 returns-clause-lines g c =

@@ -1,32 +1,39 @@
-use Rattle.std.proofs.Common.{◌≡◌, ◌<◌, ◌++◌, length, true, refl, sym, ap, subst, ◌∙◌, arith, rules}
+use Rattle.std.proofs.Common.{◌≡◌, ◌<◌, ◌++◌, length, true, refl, sym, ap, subst, ◌∙◌, arith, rules, inl}
 use Rattle.std.specs.List.Sorted.{IsPermutation, IsSorted}
 use Rattle.gz_names.specs.Order.{name_cmp}
 use Rattle.colour_defs.specs.Ends.{Lists}
 use Rattle.colour_defs.specs.World.{Has, IsPresent as IsPresentName}
 use Rattle.heap_core.specs.Heap.{HeapState, joined}
+use Rattle.barriers.specs.Colours.{IsGray}
 use Rattle.barriers.specs.Spreading.{Covers}
 use Rattle.slice_driver.specs.Collector.{CollectorState}
-use Rattle.slice_driver.specs.Grays.{grays_below, grays_up_to}
+use Rattle.slice_driver.specs.Grays.{MayNameGrays, grays_below, grays_up_to}
 use Rattle.slice_driver.proofs.group_end.Grays.{grays_more}
 use Rattle.slice_driver.proofs.group_end.GrayNames.{arena_coloured, represents_flown, settled_grays}
 use Rattle.slice_driver.proofs.collector.Collector.gray_names.Goals as goal
 
-pub push_gray-requires-clause-made : goal.push_gray-requires-clause-made
-push_gray-requires-clause-made g c =
+pub push_gray-requires : goal.push_gray-requires
+push_gray-requires g c =
     let here = ap (λ (z : CollectorState). z.heap) c.self.view_is in
     let below : c.loop-arena.arena < length c.self.inside.heap.shape.arenas =
     omega (arith, c.loop-arena-test.true, c.arenas-arena-end.ensures) in
-    subst (λ (h : HeapState). c.loop-arena.arena < length h.colours) (sym here)
-    (arena_coloured c.args.self.now (g.F.Flight.bits c.args.flight.now) c.loop-arena.arena c.requires.sound
-    (subst (λ (h : HeapState). c.loop-arena.arena < length h.shape.arenas) here below))
+    let there : MayNameGrays c.args.self.now.heap (g.F.Flight.bits c.loop-arena.flight) c.loop-arena.arena =
+    record {
+      covers = c.loop-arena.invariant.covers;
+      made = arena_coloured c.args.self.now (g.F.Flight.bits c.args.flight.now) c.loop-arena.arena c.requires.sound
+          (subst (λ (h : HeapState). c.loop-arena.arena < length h.shape.arenas) here below);
+      present = λ p gray. c.requires.sound.represents.marks.holds.colours.seen_present p
+          (inl (subst (λ (h : HeapState). IsGray h p) c.loop-arena.invariant.same gray));
+    } in
+    subst (λ (h : HeapState). MayNameGrays h (g.F.Flight.bits c.loop-arena.flight) c.loop-arena.arena) (sym here) there
 
 pub returns-in_err-push_gray-clause-same : goal.returns-in_err-push_gray-clause-same
 returns-in_err-push_gray-clause-same g c w rep =
     let here = ap (λ (z : CollectorState). z.heap) c.self.view_is in
     let same = subst (λ (h : HeapState). joined h (g.F.Flight.bits c.push_gray.new.flight)
-    ≡ joined h (g.F.Flight.bits c.loop-arena.flight)) here c.push_gray.ensures.same in
+    ≡ joined h (g.F.Flight.bits c.loop-arena.flight)) here c.push_gray.ensures.kept.same in
     let covers = subst (λ (h : HeapState). Covers h.shape (g.F.Flight.bits c.push_gray.new.flight)) here
-    c.push_gray.ensures.covers in
+    c.push_gray.ensures.kept.covers in
     represents_flown c.args.self.now (g.F.Flight.bits c.args.flight.now) (g.F.Flight.bits c.push_gray.new.flight) w
     covers (same ∙ c.loop-arena.invariant.same) rep
 
@@ -35,7 +42,7 @@ loop-arena-preserved g c =
     let here = ap (λ (z : CollectorState). z.heap) c.self.view_is in
     let now = joined c.args.self.now.heap (g.F.Flight.bits c.args.flight.now) in
     let same = subst (λ (h : HeapState). joined h (g.F.Flight.bits c.push_gray.new.flight)
-    ≡ joined h (g.F.Flight.bits c.loop-arena.flight)) here c.push_gray.ensures.same in
+    ≡ joined h (g.F.Flight.bits c.loop-arena.flight)) here c.push_gray.ensures.kept.same in
     let more = subst (λ (h : HeapState). c.push_gray.new.names.items ≡ c.loop-arena.names.items
     ++ grays_below (joined h (g.F.Flight.bits c.loop-arena.flight)) c.loop-arena.arena 64) here
     c.in_ok-push_gray.ensures.names in
@@ -46,8 +53,8 @@ loop-arena-preserved g c =
           c.loop-arena.invariant.same);
       same = same ∙ c.loop-arena.invariant.same;
       covers = subst (λ (h : HeapState). Covers h.shape (g.F.Flight.bits c.push_gray.new.flight)) here
-          c.push_gray.ensures.covers;
-      origin = c.push_gray.ensures.origin ∙ c.loop-arena.invariant.origin;
+          c.push_gray.ensures.kept.covers;
+      origin = c.push_gray.ensures.kept.origin ∙ c.loop-arena.invariant.origin;
     }
 
 pub returns-clause-names : goal.returns-clause-names

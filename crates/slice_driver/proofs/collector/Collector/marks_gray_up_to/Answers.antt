@@ -11,14 +11,14 @@ marks_group-requires-clause-sound g c = quiet_sound c.loop-count.count _ _ _ _ c
 
 pub returns-then-not-marks_group-clause-done : goal.returns-then-not-marks_group-clause-done
 returns-then-not-marks_group-clause-done g c =
-    last_quiet _ _ _ _ _ _ _ c.loop-count.invariant.did c.if-not-marks_group.ensures.done.0
+    last_quiet _ _ _ _ _ _ _ c.loop-count.invariant.did c.if-not-marks_group.ensures.tries.done.0
 
 pub loop-count-preserved : goal.loop-count-preserved
 loop-count-preserved g c = record {
-  did = more_quiet _ _ _ _ _ _ _ c.loop-count.invariant.did c.if-not-marks_group.ensures.done.0;
-  begun = subst (λ (s : Shape). AreGraying s c.in-Some.group.bits) (sym c.if-not-marks_group.ensures.shape)
+  did = more_quiet _ _ _ _ _ _ _ c.loop-count.invariant.did c.if-not-marks_group.ensures.tries.done.0;
+  begun = subst (λ (s : Shape). AreGraying s c.in-Some.group.bits) (sym c.if-not-marks_group.ensures.tries.shape)
       c.loop-count.invariant.begun;
-  current = ap (λ (groups : List ZoneSet). slice_get groups 0) c.if-not-marks_group.ensures.groups
+  current = ap (λ (groups : List ZoneSet). slice_get groups 0) c.if-not-marks_group.ensures.tries.groups
       ∙ c.loop-count.invariant.current;
   origin = c.if-not-marks_group.ensures.origin ∙ c.loop-count.invariant.origin;
 }

@@ -1,5 +1,5 @@
 use Rattle.std.proofs.Common.{◌≡◌, ◌<◌, ℕ, Bool, Option, None, Some, false, List, IsSome}
-use Rattle.std.proofs.Common.{if◌then◌else◌, sym, ap, subst, ◌∙◌, arith}
+use Rattle.std.proofs.Common.{if◌then◌else◌, sym, ap, subst, ◌∙◌, arith, rules}
 use Rattle.std.proofs.lemmas.Nat.{or_lt}
 use Rattle.gz_names.specs.declared.names.Name.{Name}
 use Rattle.gz_names.specs.declared.replies.Report.{Report}
@@ -77,8 +77,8 @@ one_words v old is a freed bits k over ends =
     subst (λ (x : CollectorState). KeepsFreedWords x.heap.shape k.shape) is
     (words_both v.heap.shape h.shape k.shape (words_taken v.heap a freed bits) (words_rest h k ends.rest))
 
-pub returns-then-finished-clause-done : goal.returns-then-finished-clause-done
-returns-then-finished-clause-done c = λ flown at.
+pub returns-then-finished-clause-takes : goal.returns-then-finished-clause-takes
+returns-then-finished-clause-takes c =
     let v : CollectorState =
     record {
       heap = c.self.inside.heap;
@@ -88,19 +88,33 @@ returns-then-finished-clause-done c = λ flown at.
       groups = c.self.inside.order;
       run = run_of c.self.inside.run;
     } in
+    let old : CollectorState = c.args.self.now in
     let k : HeapState = c.end_sweeping-finished.new.heap in
     let over : Bool = c.end_sweeping-finished.result in
-    one_done v c.args.self.now c.self.view_is c.args.arena c.args.taken.freed c.args.taken.bits k over
-    (subst (λ (h : HeapState). EndsSweeping h c.self.inside.order over k) c.report_arena.ensures.state
-    c.end_sweeping-finished.ensures) (record v { heap = k; run = None })
-    (ap (λ (b : Bool). record v { heap = k; run = if b then None else v.run }) c.if-finished.true) flown at
-    c.requires.lowest c.requires.running c.report_arena.ensures.told.0 c.report_arena.new.report
-    c.report_arena.ensures.told.1 c.bits_at_hand_out-kept.result c.bits_at_hand_out-kept.ensures
-    (or_lt 64 c.bits_at_hand_out-kept.result.black c.bits_at_hand_out-kept.result.gob (omega arith) (omega arith))
-    c.requires.freed c.report_arena.ensures.told.2
+    let new : CollectorState = record v { heap = k; run = None } in
+    let kept : ABits = c.bits_at_hand_out-kept.result in
+    let ends = subst (λ (h : HeapState). EndsSweeping h c.self.inside.order over k) c.report_arena.ensures.state
+    c.end_sweeping-finished.ensures in
+    let new_is = ap (λ (b : Bool). record v { heap = k; run = if b then None else v.run }) c.if-finished.true in
+    let done : (flown : ℕ → Option ABits) → flown c.args.arena ≡ Some c.args.taken.bits
+    → DoesUnit old flown (reports_of c.report_arena.new.report over) new (without_arena flown c.args.arena) =
+    λ flown at. one_done v old c.self.view_is c.args.arena c.args.taken.freed c.args.taken.bits k over ends new new_is
+    flown at c.requires.lowest c.requires.running c.report_arena.ensures.told.0 c.report_arena.new.report
+    c.report_arena.ensures.told.1 kept c.bits_at_hand_out-kept.ensures
+    (or_lt 64 kept.black kept.gob (omega arith) (omega arith)) c.requires.freed c.report_arena.ensures.told.2 in
+    record {
+      done = done;
+      sound = λ flown s at. unit_sound old new flown (without_arena flown c.args.arena) _ (done flown at) s;
+      words = one_words v old c.self.view_is c.args.arena c.args.taken.freed c.args.taken.bits k over ends;
+      left = λ flown sound at. one_left v old c.self.view_is c.args.arena c.args.taken.freed c.args.taken.bits k over
+          ends new new_is flown at c.requires.lowest c.requires.running sound;
+      finished = search rules;
+      made = search rules;
+      weak = search rules;
+    }
 
-pub returns-then-finished-clause-left : goal.returns-then-finished-clause-left
-returns-then-finished-clause-left c = λ flown sound at.
+pub returns-else-finished-clause-takes : goal.returns-else-finished-clause-takes
+returns-else-finished-clause-takes c =
     let v : CollectorState =
     record {
       heap = c.self.inside.heap;
@@ -110,93 +124,27 @@ returns-then-finished-clause-left c = λ flown sound at.
       groups = c.self.inside.order;
       run = run_of c.self.inside.run;
     } in
+    let old : CollectorState = c.args.self.now in
     let k : HeapState = c.end_sweeping-finished.new.heap in
     let over : Bool = c.end_sweeping-finished.result in
-    one_left v c.args.self.now c.self.view_is c.args.arena c.args.taken.freed c.args.taken.bits k over
-    (subst (λ (h : HeapState). EndsSweeping h c.self.inside.order over k) c.report_arena.ensures.state
-    c.end_sweeping-finished.ensures) (record v { heap = k; run = None })
-    (ap (λ (b : Bool). record v { heap = k; run = if b then None else v.run }) c.if-finished.true) flown at
-    c.requires.lowest c.requires.running sound
-
-pub returns-then-finished-clause-words : goal.returns-then-finished-clause-words
-returns-then-finished-clause-words c =
-    let v : CollectorState =
+    let new : CollectorState = record v { heap = k; run = v.run } in
+    let kept : ABits = c.bits_at_hand_out-kept.result in
+    let ends = subst (λ (h : HeapState). EndsSweeping h c.self.inside.order over k) c.report_arena.ensures.state
+    c.end_sweeping-finished.ensures in
+    let new_is = ap (λ (b : Bool). record v { heap = k; run = if b then None else v.run }) c.if-finished.false in
+    let done : (flown : ℕ → Option ABits) → flown c.args.arena ≡ Some c.args.taken.bits
+    → DoesUnit old flown (reports_of c.report_arena.new.report over) new (without_arena flown c.args.arena) =
+    λ flown at. one_done v old c.self.view_is c.args.arena c.args.taken.freed c.args.taken.bits k over ends new new_is
+    flown at c.requires.lowest c.requires.running c.report_arena.ensures.told.0 c.report_arena.new.report
+    c.report_arena.ensures.told.1 kept c.bits_at_hand_out-kept.ensures
+    (or_lt 64 kept.black kept.gob (omega arith) (omega arith)) c.requires.freed c.report_arena.ensures.told.2 in
     record {
-      heap = c.self.inside.heap;
-      stack = c.self.inside.stack;
-      lists = c.self.inside.lists;
-      edges = c.self.inside.edges;
-      groups = c.self.inside.order;
-      run = run_of c.self.inside.run;
-    } in
-    let k : HeapState = c.end_sweeping-finished.new.heap in
-    let over : Bool = c.end_sweeping-finished.result in
-    one_words v c.args.self.now c.self.view_is c.args.arena c.args.taken.freed c.args.taken.bits k over
-    (subst (λ (h : HeapState). EndsSweeping h c.self.inside.order over k) c.report_arena.ensures.state
-    c.end_sweeping-finished.ensures)
-
-pub returns-then-finished-clause-sound : goal.returns-then-finished-clause-sound
-returns-then-finished-clause-sound c = λ flown s at. unit_sound c.args.self.now _ flown
-    (without_arena flown c.args.arena) _ (returns-then-finished-clause-done c flown at) s
-
-pub returns-else-finished-clause-done : goal.returns-else-finished-clause-done
-returns-else-finished-clause-done c = λ flown at.
-    let v : CollectorState =
-    record {
-      heap = c.self.inside.heap;
-      stack = c.self.inside.stack;
-      lists = c.self.inside.lists;
-      edges = c.self.inside.edges;
-      groups = c.self.inside.order;
-      run = run_of c.self.inside.run;
-    } in
-    let k : HeapState = c.end_sweeping-finished.new.heap in
-    let over : Bool = c.end_sweeping-finished.result in
-    one_done v c.args.self.now c.self.view_is c.args.arena c.args.taken.freed c.args.taken.bits k over
-    (subst (λ (h : HeapState). EndsSweeping h c.self.inside.order over k) c.report_arena.ensures.state
-    c.end_sweeping-finished.ensures) (record v { heap = k; run = v.run })
-    (ap (λ (b : Bool). record v { heap = k; run = if b then None else v.run }) c.if-finished.false) flown at
-    c.requires.lowest c.requires.running c.report_arena.ensures.told.0 c.report_arena.new.report
-    c.report_arena.ensures.told.1 c.bits_at_hand_out-kept.result c.bits_at_hand_out-kept.ensures
-    (or_lt 64 c.bits_at_hand_out-kept.result.black c.bits_at_hand_out-kept.result.gob (omega arith) (omega arith))
-    c.requires.freed c.report_arena.ensures.told.2
-
-pub returns-else-finished-clause-left : goal.returns-else-finished-clause-left
-returns-else-finished-clause-left c = λ flown sound at.
-    let v : CollectorState =
-    record {
-      heap = c.self.inside.heap;
-      stack = c.self.inside.stack;
-      lists = c.self.inside.lists;
-      edges = c.self.inside.edges;
-      groups = c.self.inside.order;
-      run = run_of c.self.inside.run;
-    } in
-    let k : HeapState = c.end_sweeping-finished.new.heap in
-    let over : Bool = c.end_sweeping-finished.result in
-    one_left v c.args.self.now c.self.view_is c.args.arena c.args.taken.freed c.args.taken.bits k over
-    (subst (λ (h : HeapState). EndsSweeping h c.self.inside.order over k) c.report_arena.ensures.state
-    c.end_sweeping-finished.ensures) (record v { heap = k; run = v.run })
-    (ap (λ (b : Bool). record v { heap = k; run = if b then None else v.run }) c.if-finished.false) flown at
-    c.requires.lowest c.requires.running sound
-
-pub returns-else-finished-clause-words : goal.returns-else-finished-clause-words
-returns-else-finished-clause-words c =
-    let v : CollectorState =
-    record {
-      heap = c.self.inside.heap;
-      stack = c.self.inside.stack;
-      lists = c.self.inside.lists;
-      edges = c.self.inside.edges;
-      groups = c.self.inside.order;
-      run = run_of c.self.inside.run;
-    } in
-    let k : HeapState = c.end_sweeping-finished.new.heap in
-    let over : Bool = c.end_sweeping-finished.result in
-    one_words v c.args.self.now c.self.view_is c.args.arena c.args.taken.freed c.args.taken.bits k over
-    (subst (λ (h : HeapState). EndsSweeping h c.self.inside.order over k) c.report_arena.ensures.state
-    c.end_sweeping-finished.ensures)
-
-pub returns-else-finished-clause-sound : goal.returns-else-finished-clause-sound
-returns-else-finished-clause-sound c = λ flown s at. unit_sound c.args.self.now _ flown
-    (without_arena flown c.args.arena) _ (returns-else-finished-clause-done c flown at) s
+      done = done;
+      sound = λ flown s at. unit_sound old new flown (without_arena flown c.args.arena) _ (done flown at) s;
+      words = one_words v old c.self.view_is c.args.arena c.args.taken.freed c.args.taken.bits k over ends;
+      left = λ flown sound at. one_left v old c.self.view_is c.args.arena c.args.taken.freed c.args.taken.bits k over
+          ends new new_is flown at c.requires.lowest c.requires.running sound;
+      finished = search rules;
+      made = search rules;
+      weak = search rules;
+    }
