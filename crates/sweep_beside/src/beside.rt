@@ -105,9 +105,9 @@ fn work_alone<W: Works>(alloc: Global, jobs: Jobs, work: &mut W)
     work.run(&mut sweeper);
 }
 
-/// Has the work done over the arenas of these jobs, beside this many helpers that sweep them. Where memory for the
-/// board or its seats is wanted, main sweeps them by itself. All helpers' seats are joined and the board is closed
-/// as it returns.
+/// Has the work done over the arenas of these jobs, beside this many helpers that sweep them, and no more than there
+/// are arenas. Where memory for the board or its seats is wanted, main sweeps them by itself. All helpers' seats are
+/// joined and the board is closed as it returns.
 pub fn sweep_beside<R: Threads + Wait + Sync, G: Gate + Sync, W: Works + Send>(
     rt: &R,
     alloc: Global,
@@ -120,14 +120,15 @@ pub fn sweep_beside<R: Threads + Wait + Sync, G: Gate + Sync, W: Works + Send>(
     requires ready { W.ready work.old (outs_of jobs) (flown_by jobs) }
     ensures { W.ran work.old (outs_of jobs) (flown_by jobs) work.new }
 {
-    if jobs.as_slice().len() > u32::MAX as usize {
+    let arenas = jobs.as_slice().len();
+    if arenas > u32::MAX as usize {
         return work_alone(alloc, jobs, work);
     }
     let Ok((board, mut main)) = Board::new(alloc, jobs.as_slice()) else {
         return work_alone(alloc, jobs, work);
     };
     let own_seat = board.split(&mut main);
-    let Ok(mut seats) = split_seats(alloc, &board, &mut main, helpers) else {
+    let Ok(mut seats) = split_seats(alloc, &board, &mut main, helpers.min(arenas)) else {
         return work_alone(alloc, jobs, work);
     };
     let (mut main, own_seat) = work_on(

@@ -9,8 +9,8 @@ use Rattle.sweep_beside.proofs.beside.sweep_beside.Goals as goal
 
 pub new-requires-clause-ascending : goal.new-requires-clause-ascending
 new-requires-clause-ascending g c =
-    ascend_jobs c.as_slice-2.result.now
-    (subst (λ (jobs : List Job). Ascend (outs_of jobs)) (sym c.as_slice-2.ensures) c.requires.ascending)
+    ascend_jobs c.as_slice.result.now
+    (subst (λ (jobs : List Job). Ascend (outs_of jobs)) (sym c.as_slice.ensures) c.requires.ascending)
 
 pub join_seats-requires-clause-seats : goal.join_seats-requires-clause-seats
 join_seats-requires-clause-seats g c =
