@@ -1,5 +1,5 @@
 -- What the words of a command line say.
-use Rattle.std.specs.Prelude.{◌≡◌, ℕ, List, Option, Some, None, codes}
+use Rattle.std.specs.Prelude.{◌≡◌, ◌<◌, ◌≤◌, ⊤, ℕ, List, Option, Some, None, codes}
 use Rattle.std.specs.Str.Parse.{digits_value, without_leading_plus}
 use Rattle.clap.specs.Words.{Row, Text, one_of}
 use Rattle.command_words.specs.declared.line.CommandLine.{CommandLine}
@@ -22,3 +22,9 @@ Says name rows line.Check = name ≡ codes "check"
 abbrev pub FoundSays : Option (Text × List Row) → CommandLine → Type 0
 FoundSays None line = ⊥
 FoundSays (Some found) line = Says found.0 found.1 line
+
+-- the ranges of the numbers
+abbrev pub IsInRange : CommandLine → Type 0
+IsInRange (line.Run helpers) = helpers ≤ 4
+IsInRange (line.Storm seed lines helpers) = (seed < 2147483648) × (0 < lines) × (lines ≤ 1000000) × (helpers ≤ 4)
+IsInRange line.Check = ⊤

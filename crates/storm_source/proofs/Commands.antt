@@ -1,11 +1,11 @@
 -- Each line of a storm stands for a command.
 use Rattle.std.proofs.Common.{◌≡◌, ◌+◌, ◌<◌, ◌++◌, ℕ, zero, suc, List, [], ◌∷◌, Some, Bool, true, false}
-use Rattle.std.proofs.Common.{refl, ap, ap₂, ◌∙◌, ◌/◌, sym, arith, append-nil, append_assoc, cond, eqb, codes}
+use Rattle.std.proofs.Common.{refl, ap, ap₂, ◌∙◌, ◌/◌, sym, arith, append-nil, append_assoc, cond, drop, eqb, codes}
 use Rattle.std.specs.Prelude.{nat_lt, All}
 use Rattle.std.proofs.Math.Nat.{mod-lt}
 use Rattle.std.proofs.lemmas.Bool.{ltb-true}
 use Rattle.std.proofs.lemmas.Fmt.{decimal_digit}
-use Rattle.std.proofs.lemmas.List.Elements.{All-append, All-cons, All-from_recursion, All-nil}
+use Rattle.std.proofs.lemmas.List.Elements.{All-cons, All-from_recursion, All-nil}
 use Rattle.gz_names.specs.Zones.{zones_from, zones_in}
 use Rattle.gz_names.specs.declared.zone_sets.ZoneSet.{ZoneSet}
 use Rattle.gz_names.specs.declared.commands.Cmd.{Cmd}
@@ -16,15 +16,18 @@ use Rattle.trace_lang.specs.Words.{gray_word, number_word, number_words, reg_wor
 use Rattle.trace_lang.specs.declared.words.Word.{Word}
 use Rattle.trace_lang.specs.declared.words.Word.TheVariants as word
 use Rattle.storm_source.specs.declared.rows.Choice.TheVariants as choice
+use Rattle.storm_source.specs.Commands.{MakesNoZone, SpellAll}
 use Rattle.storm_source.specs.Draws.{choice_of, next_state}
 use Rattle.storm_source.specs.Trace.{collection_line, drawn_line, drawn_lines, head_lines, line_state, row_choices}
 use Rattle.storm_source.specs.Trace.{row_word, storm_lines, tail_lines, words_text, zone_bits}
 
-abbrev pub IsCommand : List ℕ → Type 0
-IsCommand line = (c : Cmd) × Spells line c
+-- a line that stands for a command which makes no zone
+abbrev IsDrawn : List ℕ → Type 0
+IsDrawn line = (c : Cmd) × Spells line c × MakesNoZone c
 
-spells : (line rest : List ℕ) (w : Word) (c : Cmd) → line ≡ word_text w ++ rest → SpellsRest w rest c → IsCommand line
-spells line rest w c e so = (c, (w, rest, e, so))
+spells : (line rest : List ℕ) (w : Word) (c : Cmd) → MakesNoZone c → line ≡ word_text w ++ rest → SpellsRest w rest c
+    → IsDrawn line
+spells line rest w c other e so = (c, (w, rest, e, so), other)
 
 -- what a draw chooses
 choice_below : (x m : ℕ) → 0 < m → choice_of x m < m
@@ -40,46 +43,47 @@ two_words a b = ap (λ (t : List ℕ). a ++ t) (append-nil b)
 three_words : (a b c : List ℕ) → a ++ (b ++ (c ++ [])) ≡ a ++ b ++ c
 three_words a b c = ap (λ (t : List ℕ). a ++ (b ++ t)) (append-nil c) ∙ sym (append_assoc a b c)
 
-new_line : (a b c : ℕ) → IsCommand (codes "new" ++ (reg_word (choice_of a 16) ++ (number_word (choice_of b 8)
+new_line : (a b c : ℕ) → IsDrawn (codes "new" ++ (reg_word (choice_of a 16) ++ (number_word (choice_of b 8)
     ++ (number_word (choice_of c 5) ++ []))))
 new_line a b c =
     let r = choice_of a 16 in let d = choice_of b 8 in let n = choice_of c 5 in
     let eight = choice_below b 8 (omega arith) in let five = choice_below c 5 (omega arith) in
     spells _ (reg_word r ++ number_word d ++ number_word n) word.New (Graph (cmd.New r (record { 0 = d }) n))
+    (λ q. cc q)
     (ap (λ (t : List ℕ). codes "new" ++ t) (three_words (reg_word r) (number_word d) (number_word n)))
     (r, record { 0 = d }, n, refl, choice_below a 16 (omega arith), omega (arith, eight), omega (arith, five), refl)
 
-map_line : (a b : ℕ) → IsCommand (codes "map" ++ (reg_word (choice_of a 16) ++ (number_word (choice_of b 8) ++ [])))
+map_line : (a b : ℕ) → IsDrawn (codes "map" ++ (reg_word (choice_of a 16) ++ (number_word (choice_of b 8) ++ [])))
 map_line a b =
     let r = choice_of a 16 in let d = choice_of b 8 in let eight = choice_below b 8 (omega arith) in
-    spells _ (reg_word r ++ number_word d) word.Map (Graph (cmd.Map r (record { 0 = d })))
+    spells _ (reg_word r ++ number_word d) word.Map (Graph (cmd.Map r (record { 0 = d }))) (λ q. cc q)
     (ap (λ (t : List ℕ). codes "map" ++ t) (two_words (reg_word r) (number_word d)))
     (r, record { 0 = d }, refl, choice_below a 16 (omega arith), omega (arith, eight), refl)
 
-get_line : (a b c : ℕ) → IsCommand (codes "get" ++ (reg_word (choice_of a 16) ++ (reg_word (choice_of b 16)
+get_line : (a b c : ℕ) → IsDrawn (codes "get" ++ (reg_word (choice_of a 16) ++ (reg_word (choice_of b 16)
     ++ (number_word (choice_of c 4) ++ []))))
 get_line a b c =
     let r = choice_of a 16 in let s = choice_of b 16 in let f = choice_of c 4 in
     let four = choice_below c 4 (omega arith) in
-    spells _ (reg_word r ++ reg_word s ++ number_word f) word.Get (Graph (cmd.Get r s f))
+    spells _ (reg_word r ++ reg_word s ++ number_word f) word.Get (Graph (cmd.Get r s f)) (λ q. cc q)
     (ap (λ (t : List ℕ). codes "get" ++ t) (three_words (reg_word r) (reg_word s) (number_word f)))
     (r, s, f, refl, choice_below a 16 (omega arith), choice_below b 16 (omega arith), omega (arith, four), refl)
 
-set_line : (a b c : ℕ) → IsCommand (codes "set" ++ (reg_word (choice_of a 16) ++ (number_word (choice_of b 4)
+set_line : (a b c : ℕ) → IsDrawn (codes "set" ++ (reg_word (choice_of a 16) ++ (number_word (choice_of b 4)
     ++ (reg_word (choice_of c 16) ++ []))))
 set_line a b c =
     let s = choice_of a 16 in let f = choice_of b 4 in let t = choice_of c 16 in
     let four = choice_below b 4 (omega arith) in
-    spells _ (reg_word s ++ number_word f ++ reg_word t) word.Set (Graph (cmd.Set s f (Some t)))
+    spells _ (reg_word s ++ number_word f ++ reg_word t) word.Set (Graph (cmd.Set s f (Some t))) (λ q. cc q)
     (ap (λ (text : List ℕ). codes "set" ++ text) (three_words (reg_word s) (number_word f) (reg_word t)))
     (s, f, Some t, refl, choice_below a 16 (omega arith), omega (arith, four), choice_below c 16 (omega arith), refl)
 
-wrap_line : (a b c : ℕ) → IsCommand (codes "wrap" ++ (reg_word (choice_of a 16) ++ (reg_word (choice_of b 16)
+wrap_line : (a b c : ℕ) → IsDrawn (codes "wrap" ++ (reg_word (choice_of a 16) ++ (reg_word (choice_of b 16)
     ++ (number_word (choice_of c 8) ++ []))))
 wrap_line a b c =
     let r = choice_of a 16 in let s = choice_of b 16 in let d = choice_of c 8 in
     let eight = choice_below c 8 (omega arith) in
-    spells _ (reg_word r ++ reg_word s ++ number_word d) word.Wrap (Graph (cmd.Wrap r s (record { 0 = d })))
+    spells _ (reg_word r ++ reg_word s ++ number_word d) word.Wrap (Graph (cmd.Wrap r s (record { 0 = d }))) (λ q. cc q)
     (ap (λ (t : List ℕ). codes "wrap" ++ t) (three_words (reg_word r) (reg_word s) (number_word d))) (
       r,
       s,
@@ -91,18 +95,18 @@ wrap_line a b c =
       refl,
     )
 
-unwrap_line : (a b : ℕ) → IsCommand (codes "unwrap" ++ (reg_word (choice_of a 16) ++ (reg_word (choice_of b 16) ++ [])))
+unwrap_line : (a b : ℕ) → IsDrawn (codes "unwrap" ++ (reg_word (choice_of a 16) ++ (reg_word (choice_of b 16) ++ [])))
 unwrap_line a b =
     let r = choice_of a 16 in let s = choice_of b 16 in
-    spells _ (reg_word r ++ reg_word s) word.Unwrap (Graph (cmd.Unwrap r s))
+    spells _ (reg_word r ++ reg_word s) word.Unwrap (Graph (cmd.Unwrap r s)) (λ q. cc q)
     (ap (λ (t : List ℕ). codes "unwrap" ++ t) (two_words (reg_word r) (reg_word s)))
     (r, s, refl, choice_below a 16 (omega arith), choice_below b 16 (omega arith), refl)
 
-put_line : (a b c : ℕ) → IsCommand (codes "put" ++ (reg_word (choice_of a 16) ++ (reg_word (choice_of b 16)
+put_line : (a b c : ℕ) → IsDrawn (codes "put" ++ (reg_word (choice_of a 16) ++ (reg_word (choice_of b 16)
     ++ (reg_word (choice_of c 16) ++ []))))
 put_line a b c =
     let m = choice_of a 16 in let k = choice_of b 16 in let v = choice_of c 16 in
-    spells _ (reg_word m ++ reg_word k ++ reg_word v) word.Put (Graph (cmd.Put m k v))
+    spells _ (reg_word m ++ reg_word k ++ reg_word v) word.Put (Graph (cmd.Put m k v)) (λ q. cc q)
     (ap (λ (t : List ℕ). codes "put" ++ t) (three_words (reg_word m) (reg_word k) (reg_word v))) (
       m,
       k,
@@ -114,11 +118,11 @@ put_line a b c =
       refl,
     )
 
-find_line : (a b c : ℕ) → IsCommand (codes "find" ++ (reg_word (choice_of a 16) ++ (reg_word (choice_of b 16)
+find_line : (a b c : ℕ) → IsDrawn (codes "find" ++ (reg_word (choice_of a 16) ++ (reg_word (choice_of b 16)
     ++ (reg_word (choice_of c 16) ++ []))))
 find_line a b c =
     let r = choice_of a 16 in let m = choice_of b 16 in let k = choice_of c 16 in
-    spells _ (reg_word r ++ reg_word m ++ reg_word k) word.Find (Graph (cmd.Find r m k))
+    spells _ (reg_word r ++ reg_word m ++ reg_word k) word.Find (Graph (cmd.Find r m k)) (λ q. cc q)
     (ap (λ (t : List ℕ). codes "find" ++ t) (three_words (reg_word r) (reg_word m) (reg_word k))) (
       r,
       m,
@@ -130,30 +134,30 @@ find_line a b c =
       refl,
     )
 
-hold_line : (a b : ℕ) → IsCommand (codes "hold" ++ (gray_word (choice_of a 64) ++ (reg_word (choice_of b 16) ++ [])))
+hold_line : (a b : ℕ) → IsDrawn (codes "hold" ++ (gray_word (choice_of a 64) ++ (reg_word (choice_of b 16) ++ [])))
 hold_line a b =
     let g = choice_of a 64 in let r = choice_of b 16 in
-    spells _ (gray_word g ++ reg_word r) word.Hold (Graph (cmd.Hold g r))
+    spells _ (gray_word g ++ reg_word r) word.Hold (Graph (cmd.Hold g r)) (λ q. cc q)
     (ap (λ (t : List ℕ). codes "hold" ++ t) (two_words (gray_word g) (reg_word r)))
     (g, r, refl, choice_below a 64 (omega arith), choice_below b 16 (omega arith), refl)
 
 expose_line : (a b : ℕ)
-    → IsCommand (codes "expose" ++ (reg_word (choice_of a 16) ++ (gray_word (choice_of b 64) ++ [])))
+    → IsDrawn (codes "expose" ++ (reg_word (choice_of a 16) ++ (gray_word (choice_of b 64) ++ [])))
 expose_line a b =
     let r = choice_of a 16 in let g = choice_of b 64 in
-    spells _ (reg_word r ++ gray_word g) word.Expose (Graph (cmd.Expose r g))
+    spells _ (reg_word r ++ gray_word g) word.Expose (Graph (cmd.Expose r g)) (λ q. cc q)
     (ap (λ (t : List ℕ). codes "expose" ++ t) (two_words (reg_word r) (gray_word g)))
     (r, g, refl, choice_below a 16 (omega arith), choice_below b 64 (omega arith), refl)
 
-drop_line : (a : ℕ) → IsCommand (codes "drop" ++ (reg_word (choice_of a 16) ++ []))
+drop_line : (a : ℕ) → IsDrawn (codes "drop" ++ (reg_word (choice_of a 16) ++ []))
 drop_line a =
     let r = choice_of a 16 in
-    spells _ (reg_word r) word.Drop (Graph (cmd.Drop r))
+    spells _ (reg_word r) word.Drop (Graph (cmd.Drop r)) (λ q. cc q)
     (ap (λ (t : List ℕ). codes "drop" ++ t) (one_word (reg_word r)))
     (r, refl, choice_below a 16 (omega arith), refl)
 
 -- the rows of the table
-row_line : (row y : ℕ) → row < 15 → IsCommand (row_word row ++ words_text (row_choices row) y)
+row_line : (row y : ℕ) → row < 15 → IsDrawn (row_word row ++ words_text (row_choices row) y)
 row_line zero y lt =
     new_line (next_state y) (next_state (next_state y)) (next_state (next_state (next_state y)))
 row_line (suc zero) y lt =
@@ -187,56 +191,67 @@ row_line (suc (suc (suc (suc (suc (suc (suc (suc (suc (suc (suc (suc (suc (suc z
 row_line (suc (suc (suc (suc (suc (suc (suc (suc (suc (suc (suc (suc (suc (suc (suc row))))))))))))))) y lt =
     absurd (omega arith)
 
-gc_line : (z : ℕ) → IsCommand (codes "gc" ++ number_words (zones_in (record { bits = zone_bits z })))
+gc_line : (z : ℕ) → IsDrawn (codes "gc" ++ number_words (zones_in (record { bits = zone_bits z })))
 gc_line z =
     let few = choice_below z 15 (omega arith) in
     let zones : ZoneSet = record { bits = zone_bits z } in
-    spells _ (number_words (zones_in zones)) word.Gc (Gc zones) refl
+    spells _ (number_words (zones_in zones)) word.Gc (Gc zones) (λ q. cc q) refl
     (zones, refl, (omega arith, omega (arith, few), refl))
 
-slice_line : (z : ℕ) → IsCommand (codes "slice" ++ (number_word (choice_of z 64) ++ []))
+slice_line : (z : ℕ) → IsDrawn (codes "slice" ++ (number_word (choice_of z 64) ++ []))
 slice_line z =
     let n = choice_of z 64 in let few = choice_below z 64 (omega arith) in
-    spells _ (number_word n) word.Slice (Slice n) (ap (λ (t : List ℕ). codes "slice" ++ t) (one_word (number_word n)))
+    spells _ (number_word n) word.Slice (Slice n) (λ q. cc q)
+    (ap (λ (t : List ℕ). codes "slice" ++ t) (one_word (number_word n)))
     (n, refl, omega (arith, few), refl)
 
-by_draw : (y : ℕ) (b : Bool) → IsCommand (cond b
+by_draw : (y : ℕ) (b : Bool) → IsDrawn (cond b
     (codes "gc" ++ number_words (zones_in (record { bits = zone_bits (next_state (next_state y)) })))
     (codes "slice" ++ words_text (choice.Below 64 ∷ []) (next_state y)))
 by_draw y true = gc_line (next_state (next_state y))
 by_draw y false = slice_line (next_state (next_state y))
 
 by_row : (row y : ℕ) (b : Bool) → nat_lt row 15 ≡ b
-    → IsCommand (cond b (row_word row ++ words_text (row_choices row) y) (collection_line y))
+    → IsDrawn (cond b (row_word row ++ words_text (row_choices row) y) (collection_line y))
 by_row row y true lt = row_line row y (ltb-true row 15 lt)
 by_row row y false lt = by_draw y (eqb (choice_of (next_state y) 4) 0)
 
-drawn_spells : (x : ℕ) → IsCommand (drawn_line x)
+drawn_spells : (x : ℕ) → IsDrawn (drawn_line x)
 drawn_spells x =
     let row = choice_of (next_state x) 16 in by_row row (next_state x) (nat_lt row 15) refl
 
-all_drawn : (n x : ℕ) → All IsCommand (drawn_lines n x)
-all_drawn zero x = All-nil IsCommand
+-- the commands of drawn lines
+abbrev pub AreDrawn : List (List ℕ) → List Cmd → Type 0
+AreDrawn lines cs = SpellAll lines cs × All MakesNoZone cs
+
+pub all_drawn : (n x : ℕ) → (cs : List Cmd) × AreDrawn (drawn_lines n x) cs
+all_drawn zero x = ([], (tt, All-nil MakesNoZone))
 all_drawn (suc n) x =
-    All-cons IsCommand (drawn_line x) (drawn_lines n (line_state x)) (drawn_spells x) (all_drawn n (line_state x))
+    let first = drawn_spells x in
+    let rest = all_drawn n (line_state x) in
+    (first.0 ∷ rest.0, ((first.1, rest.1.0), All-cons MakesNoZone first.0 rest.0 first.2 rest.1.1))
 
 -- the lines of the head and of the tail
-zone_made : IsCommand (codes "zone")
-zone_made = spells _ [] word.Zone (Graph cmd.Zone) refl (refl, refl)
+spelt : (line rest : List ℕ) (w : Word) (c : Cmd) → line ≡ word_text w ++ rest → SpellsRest w rest c → Spells line c
+spelt line rest w c e so = (w, rest, e, so)
+
+pub zone_made : Spells (codes "zone") (Graph cmd.Zone)
+zone_made = spelt _ [] word.Zone (Graph cmd.Zone) refl (refl, refl)
 
 digit_word : (n : ℕ) → n < 10 → 32 ∷ (48 + n) ∷ [] ≡ number_word n
 digit_word n lt = ap (λ (t : List ℕ). 32 ∷ t) (sym (decimal_digit n lt))
 
-comp_made : (z : ℕ) → z < 4 → IsCommand (codes "comp" ++ (32 ∷ (48 + z) ∷ []))
+comp_made : (z : ℕ) → z < 4 → Spells (codes "comp" ++ (32 ∷ (48 + z) ∷ [])) (Graph (cmd.Comp z))
 comp_made z few =
-    spells _ (32 ∷ (48 + z) ∷ []) word.Comp (Graph (cmd.Comp z)) (refl)
+    spelt _ (32 ∷ (48 + z) ∷ []) word.Comp (Graph (cmd.Comp z)) refl
     (z, refl, omega (arith, few), digit_word z (omega (arith, few)))
 
-new_made : (r : ℕ) → r < 4 → IsCommand (codes "new" ++ (32 ∷ 114 ∷ (48 + r) ∷ 32 ∷ (48 + r) ∷ 32 ∷ 52 ∷ []))
+new_made : (r : ℕ) → r < 4 → Spells (codes "new" ++ (32 ∷ 114 ∷ (48 + r) ∷ 32 ∷ (48 + r) ∷ 32 ∷ 52 ∷ []))
+    (Graph (cmd.New r (record { 0 = r }) 4))
 new_made r few =
     let digit = decimal_digit r (omega (arith, few)) in let four = decimal_digit 4 (omega arith) in
-    spells _ (32 ∷ 114 ∷ (48 + r) ∷ 32 ∷ (48 + r) ∷ 32 ∷ 52 ∷ []) word.New (Graph (cmd.New r (record { 0 = r }) 4))
-    (refl) (
+    spelt _ (32 ∷ 114 ∷ (48 + r) ∷ 32 ∷ (48 + r) ∷ 32 ∷ 52 ∷ []) word.New (Graph (cmd.New r (record { 0 = r }) 4))
+    refl (
       r,
       record { 0 = r },
       4,
@@ -247,53 +262,76 @@ new_made r few =
       sym (ap₂ (λ (t u : List ℕ). (32 ∷ 114 ∷ t) ++ (32 ∷ t) ++ (32 ∷ u)) digit four),
     )
 
-all_four : codes " 0 1 2 3" ≡ number_words (0 ∷ 1 ∷ 2 ∷ 3 ∷ [])
+pub all_four : codes " 0 1 2 3" ≡ number_words (0 ∷ 1 ∷ 2 ∷ 3 ∷ [])
 all_four =
     sym (ap₂ (λ (t u : List ℕ). 32 ∷ (t ++ (32 ∷ (u ++ number_words (2 ∷ 3 ∷ []))))) (decimal_digit 0 (omega arith))
     (decimal_digit 1 (omega arith))
     ∙ ap₂ (λ (t u : List ℕ). 32 ∷ 48 ∷ 32 ∷ 49 ∷ 32 ∷ (t ++ (32 ∷ (u ++ [])))) (decimal_digit 2 (omega arith))
     (decimal_digit 3 (omega arith)))
 
-collect_made : IsCommand (codes "collect 0 1 2 3")
+collect_made : Spells (codes "collect 0 1 2 3") (Collect (record { bits = 15 }))
 unfolding zones_in zones_from
 collect_made =
     let zones : ZoneSet = record { bits = 15 } in
-    spells _ (codes " 0 1 2 3") word.Collect (Collect zones) refl (zones, refl, (omega arith, omega arith, all_four))
+    spelt _ (codes " 0 1 2 3") word.Collect (Collect zones) refl (zones, refl, (omega arith, omega arith, all_four))
 
-head_spells : All IsCommand head_lines
-head_spells =
-    All-from_recursion IsCommand head_lines (
-      zone_made,
+-- the commands before those that are drawn, but for the four zones
+abbrev pub first_commands : List Cmd
+first_commands =
+    Graph (cmd.Comp 0) ∷ Graph (cmd.Comp 1) ∷ Graph (cmd.Comp 2) ∷ Graph (cmd.Comp 3)
+    ∷ Graph (cmd.Comp 0) ∷ Graph (cmd.Comp 1) ∷ Graph (cmd.Comp 2) ∷ Graph (cmd.Comp 3)
+    ∷ Graph (cmd.New 0 (record { 0 = 0 }) 4) ∷ Graph (cmd.New 1 (record { 0 = 1 }) 4)
+    ∷ Graph (cmd.New 2 (record { 0 = 2 }) 4) ∷ Graph (cmd.New 3 (record { 0 = 3 }) 4) ∷ []
+
+pub firsts_made : SpellAll (drop 4 head_lines) first_commands
+firsts_made = (
+  comp_made 0 (omega arith),
+  (
+    comp_made 1 (omega arith),
+    (
+      comp_made 2 (omega arith),
       (
-        zone_made,
+        comp_made 3 (omega arith),
         (
-          zone_made,
+          comp_made 0 (omega arith),
           (
-            zone_made,
+            comp_made 1 (omega arith),
             (
-              comp_made 0 (omega arith),
+              comp_made 2 (omega arith),
               (
-                comp_made 1 (omega arith),
+                comp_made 3 (omega arith),
                 (
-                  comp_made 2 (omega arith),
+                  new_made 0 (omega arith),
+                  (new_made 1 (omega arith), (new_made 2 (omega arith), (new_made 3 (omega arith), tt))),
+                ),
+              ),
+            ),
+          ),
+        ),
+      ),
+    ),
+  ),
+)
+
+pub firsts_make_none : All MakesNoZone first_commands
+firsts_make_none =
+    All-from_recursion MakesNoZone first_commands (
+      (λ q. cc q),
+      (
+        (λ q. cc q),
+        (
+          (λ q. cc q),
+          (
+            (λ q. cc q),
+            (
+              (λ q. cc q),
+              (
+                (λ q. cc q),
+                (
+                  (λ q. cc q),
                   (
-                    comp_made 3 (omega arith),
-                    (
-                      comp_made 0 (omega arith),
-                      (
-                        comp_made 1 (omega arith),
-                        (
-                          comp_made 2 (omega arith),
-                          (
-                            comp_made 3 (omega arith),
-                            (
-                              new_made 0 (omega arith),
-                              (new_made 1 (omega arith), (new_made 2 (omega arith), (new_made 3 (omega arith), tt))),
-                            ),
-                          ),
-                        ),
-                      ),
-                    ),
+                    (λ q. cc q),
+                    ((λ q. cc q), ((λ q. cc q), ((λ q. cc q), ((λ q. cc q), tt)))),
                   ),
                 ),
               ),
@@ -303,14 +341,43 @@ head_spells =
       ),
     )
 
-tail_spells : All IsCommand tail_lines
-tail_spells =
-    All-from_recursion IsCommand tail_lines (
-      spells _ [] word.Finish Finish refl (refl, refl),
-      (collect_made, (spells _ [] word.Colours Colours refl (refl, refl), tt)),
-    )
+-- and those behind them
+abbrev pub last_commands : List Cmd
+last_commands = Finish ∷ Collect (record { bits = 15 }) ∷ Colours ∷ []
 
-pub storm_spells : (seed lines : ℕ) → All IsCommand (storm_lines seed lines)
+pub tail_made : SpellAll tail_lines last_commands
+tail_made = (
+  spelt _ [] word.Finish Finish refl (refl, refl),
+  (collect_made, (spelt _ [] word.Colours Colours refl (refl, refl), tt)),
+)
+
+-- two lists after one another
+spell_both : (ls ms : List (List ℕ)) (cs ds : List Cmd) → SpellAll ls cs → SpellAll ms ds
+    → SpellAll (ls ++ ms) (cs ++ ds)
+spell_both [] ms [] ds a b = b
+spell_both (l ∷ ls) ms (c ∷ cs) ds a b = (a.0, spell_both ls ms cs ds a.1 b)
+spell_both [] ms (c ∷ cs) ds a b = absurd a
+spell_both (l ∷ ls) ms [] ds a b = absurd a
+
+pub storm_spells : (seed lines : ℕ) → (commands : List Cmd) × SpellAll (storm_lines seed lines) commands
 storm_spells seed lines =
-    All-append IsCommand head_lines (drawn_lines lines seed ++ tail_lines) head_spells
-    (All-append IsCommand (drawn_lines lines seed) tail_lines (all_drawn lines seed) tail_spells)
+    let drawn = all_drawn lines seed in (
+      Graph cmd.Zone ∷ Graph cmd.Zone ∷ Graph cmd.Zone ∷ Graph cmd.Zone
+          ∷ (first_commands ++ (drawn.0 ++ last_commands)),
+      (
+        zone_made,
+        (
+          zone_made,
+          (
+            zone_made,
+            (
+              zone_made,
+              spell_both (drop 4 head_lines) (drawn_lines lines seed ++ tail_lines) first_commands
+                  (drawn.0 ++ last_commands)
+                  firsts_made (spell_both (drawn_lines lines seed) tail_lines drawn.0 last_commands drawn.1.0
+                  tail_made),
+            ),
+          ),
+        ),
+      ),
+    )

@@ -1,4 +1,5 @@
 pub mod Bounds
+pub mod Commands
 pub mod Draws
 pub mod Left
 pub mod Trace

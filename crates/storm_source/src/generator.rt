@@ -6,7 +6,6 @@ ghost use Rattle.storm_source.specs.Draws.{choice_of, next_state};
 #[derive(Clone, Copy, Debug, PartialEq, Eq)]
 pub struct Generator {
     pub state: u32,
-    ghost small: { state < 2147483648 },
 }
 
 impl Generator {

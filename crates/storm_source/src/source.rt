@@ -94,9 +94,9 @@ impl Model for StormSource {
 }
 
 impl StormSource {
-    /// The source of the storm with this seed, which is below 2^31, and so many drawn lines.
+    /// The source of the storm with this seed and so many drawn lines. A seed of 2^31 or more draws what its remainder
+    /// by 2^31 does.
     pub fn new(seed: u32, lines: u32) -> Self
-        requires { seed < 2147483648 }
         ensures { result ≡ storm_text seed lines }
     {
         StormSource {
