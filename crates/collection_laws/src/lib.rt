@@ -1,0 +1,64 @@
+// What a collection of all zones leaves.
+//
+// [gczone] Collection laws
+//
+// The definitions say what a collection may do unit by unit. These laws say what comes of it as a whole, in the words
+// of the graph alone:
+//
+//     kept    what registers and gray slots reach       present, and nothing else is
+//     used    what registers reach                      black, and nothing else is
+//     gray    what is kept and not used
+//
+// They hold where a collection names every zone that was made, and no command comes between its beginning and its end.
+// If it left a zone out, all that is present there would be a root; if a command woke a name, that name, which may be
+// garbage by then, would be kept.
+//
+// The graph itself is what the commands on it lead to, one after another. So what such a collection leaves depends on
+// the commands alone, and not on how they were cut into slices, where cells lay, or what earlier collections freed.
+#![tactic(auto)]
+
+ghost use Rattle.std.specs.Prelude.{◌≡◌, ◌++◌, ◌∷◌, [], ℕ, List, All};
+ghost use Rattle.gz_names.specs.declared.commands.Cmd.{Cmd};
+ghost use Rattle.gz_names.specs.declared.commands.Cmd.TheVariants as command;
+ghost use Rattle.gz_names.specs.declared.replies.Reply.{Reply};
+ghost use Rattle.gz_names.specs.declared.replies.Report.{Report};
+ghost use Rattle.gz_names.specs.declared.zone_sets.ZoneSet.{ZoneSet};
+ghost use Rattle.gz_names.specs.Zones.{zones_in};
+ghost use Rattle.colour_defs.specs.Graph.{GraphState, empty_graph};
+ghost use Rattle.colour_defs.specs.World.{World, first_world};
+ghost use Rattle.colour_defs.specs.Lawful.{Beginning, Collects, RunBy};
+ghost use Rattle.colour_defs.specs.Laws.{IsNoWeakCmd};
+ghost use Rattle.collection_laws.specs.Collected.{AreAllZones, IsCollected};
+ghost use Rattle.collection_laws.specs.Graphs.{MakesNoZone, graph_after};
+
+/// A run without weak commands leads to the graph that its commands on the graph lead to.
+pub fn graph_law()
+    ensures { (how : Beginning) (commands : List Cmd) (answers : List (List Report × Reply)) (w v : World)
+        → All IsNoWeakCmd commands → RunBy how w commands answers v
+        → v.graph ≡ graph_after w.graph commands }
+{}
+
+/// Only the command `zone` makes a zone.
+pub fn zones_law()
+    ensures { (g : GraphState) (commands : List Cmd) → All MakesNoZone commands
+        → (graph_after g commands).zones ≡ g.zones }
+{}
+
+/// A collection of all zones keeps exactly what registers and gray slots reach, and of this exactly what
+/// registers reach is black.
+pub fn collection_law()
+    ensures { (how : Beginning) (commands : List Cmd) (answers : List (List Report × Reply)) (w v : World)
+        (zones : List ℕ) (reports : List Report)
+        → RunBy how first_world commands answers w → AreAllZones w.graph zones → Collects how w zones reports v
+        → IsCollected v × (v.graph ≡ w.graph) }
+{}
+
+/// So does a run that ends with `finish`, `collect` of all zones, and `colours`: none of the three is refused for
+/// another cause than that no collection runs, and `colours` changes nothing.
+pub fn last_collection_law()
+    ensures { (how : Beginning) (commands : List Cmd) (answers : List (List Report × Reply)) (v : World)
+        (zones : ZoneSet)
+        → All IsNoWeakCmd commands → AreAllZones (graph_after empty_graph commands) (zones_in zones)
+        → RunBy how first_world (commands ++ command.Finish ∷ command.Collect zones ∷ command.Colours ∷ []) answers v
+        → IsCollected v × (v.graph ≡ graph_after empty_graph commands) }
+{}
