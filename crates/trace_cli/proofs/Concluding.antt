@@ -2,7 +2,7 @@
 use Rattle.std.proofs.Common.{◌≡◌, ℕ, List, [], Option, Some, None, refl, ap, sym, subst, ◌⊎◌, inl, inr}
 use Rattle.std.specs.Prelude.{⊤}
 use Rattle.std.specs.Io.KnownBytes.{Appends}
-use Rattle.std.proofs.KnownBytes.{Appends-trans}
+use Rattle.std.proofs.KnownBytes.{Appends-trans, Appends-nil}
 use Rattle.std.proofs.lemmas.List.{append-nil}
 use Rattle.gz_io.specs.Causes.{Rose}
 use Rattle.dump_check.specs.declared.checker.Verdict.{Verdict}
@@ -121,4 +121,16 @@ verdict_concludes input a b c m d e r B v many same cause = record {
     | inr failed ↦ absurd (y (subst (λ t. Rose t d) same failed.1))
   ];
   too_many = λ t. absurd (none_many input e v many t);
+}
+
+-- memory was wanted before anything was read
+pub memory_checks : (left p : Option (List ℕ)) → Checks left p p exit.NoMemory
+memory_checks None p = tt
+memory_checks (Some input) p = Appends-nil p
+
+pub memory_concludes : (left : Option (List ℕ)) (a b c d : ℕ) → Concluded left a b c d exit.NoMemory
+memory_concludes None a b c d = tt
+memory_concludes (Some input) a b c d = record {
+  well_formed = λ w x y. inr (inr refl);
+  too_many = λ t. inr (inr refl);
 }

@@ -66,7 +66,8 @@ reads_from n (l ∷ ls) fit = (
 )
 
 -- the whole text: the first line has no line feed before it
-reads_all : (ls : List DumpLine) → (ls ≡ [] → ⊥) → AllByRecursion FitsLine ls → HasRead (line_of (dump_lines_text 0 ls)) ls []
+reads_all : (ls : List DumpLine) → (ls ≡ [] → ⊥) → AllByRecursion FitsLine ls
+    → HasRead (line_of (dump_lines_text 0 ls)) ls []
 reads_all [] some fit = absurd (some refl)
 reads_all (l ∷ ls) some fit = subst (λ t. HasRead t (l ∷ ls) []) (sym (append_assoc (dump_text l) (dump_lines_text 1 ls)
     (10 ∷ []))) (reads_from 0 (l ∷ ls) fit)

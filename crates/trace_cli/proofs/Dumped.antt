@@ -8,13 +8,11 @@ use Rattle.gz_names.specs.declared.replies.Reply.TheVariants as reply
 use Rattle.gz_names.specs.declared.replies.Refusal.TheVariants as refusal
 use Rattle.trace_lang.specs.Texts.{reply_text, line_of}
 use Rattle.cell_bits.specs.declared.bits.Bits.{Bits}
-use Rattle.cell_bits.specs.declared.jobs.Job.{Job}
 use Rattle.colour_defs.specs.Dumps.{IsDump}
 use Rattle.colour_defs.specs.Laws.{IsValid}
 use Rattle.colour_defs.specs.World.{World, IsSettled}
 use Rattle.slice_driver.specs.Collector.{CollectorState}
 use Rattle.slice_driver.specs.Represents.{Represents}
-use Rattle.slice_driver.specs.Units.{flown_by}
 use Rattle.trace_cli.specs.Headline.{answer_lines, IsAccepted, WritesAnswer, WritesFront, WritesStart}
 use Rattle.trace_cli.proofs.Answered.{Marks, Settled}
 
@@ -30,12 +28,12 @@ dump_accepted : (w : World) → IsSettled w → IsAccepted w command.Dump
 dump_accepted w settled reports why v (inl h) = cc h.1
 dump_accepted w settled reports why v (inr h) = h.1 settled
 
-pub dump_write : (c : CollectorState) (f : ℕ → Option Bits) (jobs : List Job) (lines : List DumpLine)
+pub dump_write : (c : CollectorState) (f : ℕ → Option Bits) (flown : ℕ → Option Bits) (lines : List DumpLine)
     (p q : Option (List ℕ)) → Settled c f → Dumps c f lines →
-    ((w : World) → Represents c f w → Represents c (flown_by jobs) w) → Appends p q
+    ((w : World) → Represents c f w → Represents c flown w) → Appends p q
     (line_of (reply_text (reply.Dump lines))) → (w : World) → IsValid w → Represents c f w
-    → WritesAnswer w command.Dump c jobs p q
-dump_write c f jobs lines p q rests dumps same written w ok stands =
+    → WritesAnswer w command.Dump c flown p q
+dump_write c f flown lines p q rests dumps same written w ok stands =
     let settled = rests w stands in record {
       reports = [];
       answer = reply.Dump lines;
@@ -71,10 +69,10 @@ dump_stop c f p q rests written w ok stands = record {
 }
 
 -- the refusal, where some zone is marking
-pub marking_write : (c : CollectorState) (jobs : List Job) (p q : Option (List ℕ)) → Marks c (flown_by jobs)
+pub marking_write : (c : CollectorState) (flown : ℕ → Option Bits) (p q : Option (List ℕ)) → Marks c flown
     → Appends p q (line_of (reply_text (reply.Refused refusal.Marking))) → (w : World) → IsValid w → Represents c
-    (flown_by jobs) w → WritesAnswer w command.Dump c jobs p q
-marking_write c jobs p q marks written w ok stands = record {
+    flown w → WritesAnswer w command.Dump c flown p q
+marking_write c flown p q marks written w ok stands = record {
   reports = [];
   answer = reply.Refused refusal.Marking;
   after = w;
@@ -83,10 +81,10 @@ marking_write c jobs p q marks written w ok stands = record {
   written = written;
 }
 
-pub marking_break : (c : CollectorState) (jobs : List Job) (p q : Option (List ℕ)) → Marks c (flown_by jobs)
+pub marking_break : (c : CollectorState) (flown : ℕ → Option Bits) (p q : Option (List ℕ)) → Marks c flown
     → AppendsFront p q (line_of (reply_text (reply.Refused refusal.Marking))) → (w : World) → IsValid w → Represents c
-    (flown_by jobs) w → WritesFront w command.Dump p q
-marking_break c jobs p q marks written w ok stands = record {
+    flown w → WritesFront w command.Dump p q
+marking_break c flown p q marks written w ok stands = record {
   text = answer_lines ([], reply.Refused refusal.Marking);
   answers = inl (
     [],

@@ -16,3 +16,9 @@ pub mod Runs
 pub mod Replied
 pub mod GraphSizes
 pub mod DumpedNames
+pub mod Started
+pub mod Ending
+pub mod Going
+pub mod Handing
+pub mod Counted
+pub mod Storming

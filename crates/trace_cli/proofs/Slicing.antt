@@ -8,7 +8,6 @@ use Rattle.gz_names.specs.declared.commands.Cmd.TheVariants as command
 use Rattle.gz_names.specs.declared.replies.Reply.TheVariants as reply
 use Rattle.gz_names.specs.declared.replies.Refusal.TheVariants as refusal
 use Rattle.cell_bits.specs.declared.bits.Bits.{Bits}
-use Rattle.cell_bits.specs.declared.jobs.Job.{Job}
 use Rattle.trace_lang.specs.Texts.{reply_text, line_of}
 use Rattle.colour_defs.specs.World.{Collection, World, IsIdle, marking_of}
 use Rattle.colour_defs.specs.Laws.{IsValid}
@@ -16,12 +15,11 @@ use Rattle.colour_defs.specs.Lawful.{Answers, IsRunning, RefusesIdle, Slices, wi
 use Rattle.heap_core.specs.Heap.{HeapState}
 use Rattle.slice_driver.specs.Collector.{CollectorState, RunState, heap_with}
 use Rattle.slice_driver.specs.Represents.{Represents, RunsAs}
-use Rattle.slice_driver.specs.Units.{flown_by}
 use Rattle.slice_driver.specs.Worlds.{LiesIn}
 use Rattle.trace_cli.specs.Headline.{report_lines, answer_lines, IsAccepted, WritesAnswer, WritesFront, WritesStart}
 use Rattle.trace_cli.specs.Writing.{reports_in, BreaksInUnits, StopsInUnits, WritesUnits}
 use Rattle.trace_cli.proofs.Answered.{not_both}
-use Rattle.trace_cli.proofs.Flights.{idle_world, running_world}
+use Rattle.trace_cli.proofs.Flights.{idle_world}
 use Rattle.trace_cli.proofs.Written.{both_written, then_front_written}
 
 -- the world in which so many units more were counted
@@ -115,15 +113,14 @@ represents_spent c f w n r = record {
 }
 
 -- units of a collection that ran, in a slice
-module _ (c d : CollectorState) (jobs left : List Job) (budget n : ℕ) (runs : IsSome c.run) (most : n ≤ budget)
-    (over : n < budget → d.run ≡ None) (w : World) (stands : Represents c (flown_by jobs) w) (p q r : Option (List ℕ))
-    (h : WritesUnits w d (flown_by left) n p q) where
+module _ (d : CollectorState) (flying : ℕ → Option Bits) (n : ℕ) (w : World) (running : IsRunning w)
+    (p q r : Option (List ℕ)) (h : WritesUnits w d flying n p q) where
   abbrev after : World
   after = spent n h.after
 
   slices : Slices w (reports_in h.units) n after
   slices = record {
-    running = running_world c (flown_by jobs) w stands runs;
+    running = running;
     units = h.units;
     after = h.after;
     done = h.done;
@@ -132,86 +129,57 @@ module _ (c d : CollectorState) (jobs left : List Job) (budget n : ℕ) (runs : 
     world_is = refl;
   }
 
-  none_left : n < budget → IsIdle after
-  none_left less = idle_spent n h.after (idle_world d (flown_by left) h.after h.represents (over less))
+  none_left : d.run ≡ None → IsIdle after
+  none_left over = idle_spent n h.after (idle_world d flying h.after h.represents over)
 
-  slice_written : Appends q r (line_of (reply_text (reply.Sliced n))) → WritesAnswer w (command.Slice budget) d left p r
-  slice_written written = record {
+  pub slice_written : (budget : ℕ) → n ≤ budget → (n < budget → d.run ≡ None)
+      → Appends q r (line_of (reply_text (reply.Sliced n))) → WritesAnswer w (command.Slice budget) d flying p r
+  slice_written budget most over written = record {
     reports = reports_in h.units;
     answer = reply.Sliced n;
     after = after;
-    represents = represents_spent d (flown_by left) h.after n h.represents;
-    answers = inl (n, refl, slices, most, none_left);
+    represents = represents_spent d flying h.after n h.represents;
+    answers = inl (n, refl, slices, most, λ less. none_left (over less));
     written = both_written p q r (report_lines (reports_in h.units))
         (line_of (reply_text (reply.Sliced n))) _ refl h.written written;
   }
 
-  slice_broken : AppendsFront q r (line_of (reply_text (reply.Sliced n))) → WritesFront w (command.Slice budget) p r
-  slice_broken written = record {
-    text = answer_lines (reports_in h.units, reply.Sliced n);
-    answers = inl (reports_in h.units, reply.Sliced n, after, inl (n, refl, slices, most, none_left), refl);
-    written = then_front_written p q r (report_lines (reports_in h.units))
-        (line_of (reply_text (reply.Sliced n))) _ refl h.written written;
-  }
-
-  -- the same where all that was left was done
-  finish_written : d.run ≡ None → Appends q r (line_of (reply_text (reply.Sliced n)))
-      → WritesAnswer w command.Finish d left p r
-  finish_written idle written = record {
-    reports = reports_in h.units;
-    answer = reply.Sliced n;
-    after = after;
-    represents = represents_spent d (flown_by left) h.after n h.represents;
-    answers = inl (n, refl, slices, idle_spent n h.after (idle_world d (flown_by left) h.after h.represents idle));
-    written = both_written p q r (report_lines (reports_in h.units))
-        (line_of (reply_text (reply.Sliced n))) _ refl h.written written;
-  }
-
-  finish_broken : d.run ≡ None → AppendsFront q r (line_of (reply_text (reply.Sliced n)))
-      → WritesFront w command.Finish p r
-  finish_broken idle written = record {
+  pub slice_broken : (budget : ℕ) → n ≤ budget → (n < budget → d.run ≡ None)
+      → AppendsFront q r (line_of (reply_text (reply.Sliced n))) → WritesFront w (command.Slice budget) p r
+  slice_broken budget most over written = record {
     text = answer_lines (reports_in h.units, reply.Sliced n);
     answers = inl (
       reports_in h.units,
       reply.Sliced n,
       after,
-      inl
-          (n, refl, slices, idle_spent n h.after (idle_world d (flown_by left) h.after h.represents idle)),
+      inl (n, refl, slices, most, λ less. none_left (over less)),
       refl,
     );
     written = then_front_written p q r (report_lines (reports_in h.units))
         (line_of (reply_text (reply.Sliced n))) _ refl h.written written;
   }
 
-pub finish_writes : (c d : CollectorState) (jobs left : List Job) (n : ℕ) (p q r : Option (List ℕ)) → IsSome c.run
-    → d.run ≡ None → ((w : World) → IsValid w → Represents c (flown_by jobs) w → WritesUnits w d (flown_by left) n p q)
-    → Appends q r (line_of (reply_text (reply.Sliced n))) → (w : World) → IsValid w → Represents c (flown_by jobs) w
-    → WritesAnswer w command.Finish d left p r
-finish_writes c d jobs left n p q r runs over does written w ok stands = finish_written c d jobs left n n runs
-    (omega arith) (λ less. over) w stands p q r (does w ok stands) over written
+  -- the same where all that was left was done
+  pub finish_written : d.run ≡ None → Appends q r (line_of (reply_text (reply.Sliced n)))
+      → WritesAnswer w command.Finish d flying p r
+  finish_written idle written = record {
+    reports = reports_in h.units;
+    answer = reply.Sliced n;
+    after = after;
+    represents = represents_spent d flying h.after n h.represents;
+    answers = inl (n, refl, slices, none_left idle);
+    written = both_written p q r (report_lines (reports_in h.units))
+        (line_of (reply_text (reply.Sliced n))) _ refl h.written written;
+  }
 
-pub finish_breaks : (c d : CollectorState) (jobs left : List Job) (n : ℕ) (p q r : Option (List ℕ)) → IsSome c.run
-    → d.run ≡ None → ((w : World) → IsValid w → Represents c (flown_by jobs) w → WritesUnits w d (flown_by left) n p q)
-    → AppendsFront q r (line_of (reply_text (reply.Sliced n))) → (w : World) → IsValid w → Represents c
-    (flown_by jobs) w → WritesFront w command.Finish p r
-finish_breaks c d jobs left n p q r runs over does written w ok stands = finish_broken c d jobs left n n runs
-    (omega arith) (λ less. over) w stands p q r (does w ok stands) over written
-
-pub slice_writes : (c d : CollectorState) (jobs left : List Job) (budget n : ℕ) (p q r : Option (List ℕ))
-    → IsSome c.run → n ≤ budget → (n < budget → d.run ≡ None) →
-    ((w : World) → IsValid w → Represents c (flown_by jobs) w → WritesUnits w d (flown_by left) n p q) → Appends q r
-    (line_of (reply_text (reply.Sliced n))) → (w : World) → IsValid w → Represents c (flown_by jobs) w → WritesAnswer w
-    (command.Slice budget) d left p r
-slice_writes c d jobs left budget n p q r runs most over does written w ok stands = slice_written c d jobs left budget
-    n runs most over w stands p q r (does w ok stands) written
-
-pub slice_breaks : (c d : CollectorState) (jobs left : List Job) (budget n : ℕ) (p q r : Option (List ℕ))
-    → IsSome c.run → n ≤ budget → (n < budget → d.run ≡ None) →
-    ((w : World) → IsValid w → Represents c (flown_by jobs) w → WritesUnits w d (flown_by left) n p q)
-    → AppendsFront q r (line_of (reply_text (reply.Sliced n))) → (w : World) → IsValid w → Represents c
-    (flown_by jobs) w → WritesFront w (command.Slice budget) p r
-slice_breaks c d jobs left budget n p q r runs most over does written w ok stands = slice_broken c d jobs left budget n
-    runs most over w stands p q r (does w ok stands) written
+  pub finish_broken : d.run ≡ None → AppendsFront q r (line_of (reply_text (reply.Sliced n)))
+      → WritesFront w command.Finish p r
+  finish_broken idle written = record {
+    text = answer_lines (reports_in h.units, reply.Sliced n);
+    answers = inl (reports_in h.units, reply.Sliced n, after, inl (n, refl, slices, none_left idle), refl);
+    written = then_front_written p q r (report_lines (reports_in h.units))
+        (line_of (reply_text (reply.Sliced n))) _ refl h.written written;
+  }
 
 -- one that stopped or broke off among its units
 slice_accepted : (w : World) (n : ℕ) → IsRunning w → IsAccepted w (command.Slice n)
@@ -269,49 +237,25 @@ abbrev pub Goings : Cmd → Type 0
 Goings cmd = (w : World) → RefusesIdle w [] (reply.Refused refusal.Idle) w → Answers w cmd []
     (reply.Refused refusal.Idle) w
 
-pub idle_writes : (c : CollectorState) (jobs : List Job) (cmd : Cmd) (p q : Option (List ℕ)) → Goings cmd
+pub idle_writes : (c : CollectorState) (flown : ℕ → Option Bits) (cmd : Cmd) (p q : Option (List ℕ)) → Goings cmd
     → c.run ≡ None → Appends p q (line_of (reply_text (reply.Refused refusal.Idle))) → (w : World) → IsValid w
-    → Represents c (flown_by jobs) w → WritesAnswer w cmd c jobs p q
-idle_writes c jobs cmd p q goes idle written w ok stands = record {
+    → Represents c flown w → WritesAnswer w cmd c flown p q
+idle_writes c flown cmd p q goes idle written w ok stands = record {
   reports = [];
   answer = reply.Refused refusal.Idle;
   after = w;
   represents = stands;
-  answers = goes w (refuses_idle c (flown_by jobs) w stands idle);
+  answers = goes w (refuses_idle c flown w stands idle);
   written = written;
 }
 
-pub idle_breaks : (c : CollectorState) (jobs : List Job) (cmd : Cmd) (p q : Option (List ℕ)) → Goings cmd
+pub idle_breaks : (c : CollectorState) (flown : ℕ → Option Bits) (cmd : Cmd) (p q : Option (List ℕ)) → Goings cmd
     → c.run ≡ None → AppendsFront p q (line_of (reply_text (reply.Refused refusal.Idle))) → (w : World) → IsValid w
-    → Represents c (flown_by jobs) w → WritesFront w cmd p q
-idle_breaks c jobs cmd p q goes idle written w ok stands = record {
+    → Represents c flown w → WritesFront w cmd p q
+idle_breaks c flown cmd p q goes idle written w ok stands = record {
   text = answer_lines
       ([], reply.Refused refusal.Idle);
   answers = inl
-      ([], reply.Refused refusal.Idle, w, goes w (refuses_idle c (flown_by jobs) w stands idle), refl);
+      ([], reply.Refused refusal.Idle, w, goes w (refuses_idle c flown w stands idle), refl);
   written = written;
 }
-
--- fewer units are at most as many
-pub stops_within : (w : World) (n m : ℕ) (p q : Option (List ℕ)) → n ≤ m → StopsInUnits w n p q → StopsInUnits w m p q
-stops_within w n m p q le h = record {
-  units = h.units;
-  most = omega (arith, h.most, le);
-  after = h.after;
-  done = h.done;
-  written = h.written;
-}
-
-pub breaks_within : (w : World) (n m : ℕ) (p q : Option (List ℕ)) → n ≤ m → BreaksInUnits w n p q
-    → BreaksInUnits w m p q
-breaks_within w n m p q le h = record {
-  units = h.units;
-  most = omega (arith, h.most, le);
-  after = h.after;
-  done = h.done;
-  written = h.written;
-}
-
-pub as_many : (w : World) (c : CollectorState) (f : ℕ → Option Bits) (n m : ℕ) (p q : Option (List ℕ)) → n ≡ m
-    → WritesUnits w c f n p q → WritesUnits w c f m p q
-as_many w c f n m p q e h = subst (λ (k : ℕ). WritesUnits w c f k p q) e h

@@ -13,18 +13,16 @@ use Rattle.gz_io.specs.declared.reader.Next.TheVariants as next
 use Rattle.gz_names.specs.declared.commands.Cmd.{Cmd}
 use Rattle.gz_names.specs.declared.replies.Reply.{Reply}
 use Rattle.gz_names.specs.declared.replies.Report.{Report}
-use Rattle.cell_bits.specs.declared.jobs.Job.{Job}
+use Rattle.cell_bits.specs.declared.bits.Bits.{Bits}
 use Rattle.colour_defs.specs.World.{World, first_world}
 use Rattle.colour_defs.specs.Lawful.{Answers}
 use Rattle.trace_cli.proofs.Runs.{run_more}
 use Rattle.colour_defs.specs.Laws.{IsValid}
-use Rattle.sweeping.specs.ArenasOut.{outs_of}
-use Rattle.slice_driver.specs.Advances.{AreOut}
 use Rattle.slice_driver.specs.Collector.{CollectorState}
 use Rattle.slice_driver.specs.Represents.{Represents}
-use Rattle.slice_driver.specs.Units.{IsSound, flown_by, none_flown}
-use Rattle.trace_cli.specs.Standing.{EachWorld, AnswersLine, IsFirst, IsReady, IsWithin, StandsWith, answers, first}
-use Rattle.trace_cli.specs.Standing.{ready}
+use Rattle.slice_driver.specs.Units.{none_flown}
+use Rattle.trace_cli.specs.Reaching.{Reached, Stands}
+use Rattle.trace_cli.specs.Standing.{IsFirst, IsWithin, first}
 use Rattle.trace_cli.specs.Lines.{lines_of, line_feeds}
 use Rattle.trace_cli.specs.Served.{StandsFor, IsBad}
 use Rattle.trace_cli.specs.Headline.{report_lines, answer_lines, StandForAll, LeadsTo, WritesAnswer, WritesFront}
@@ -34,34 +32,7 @@ use Rattle.trace_cli.specs.declared.exit.Exit.TheVariants as exit
 use Rattle.trace_cli.proofs.Lined.{AreFine, line_given, line_feeds-append, line_feeds-plain, too_long_bad}
 use Rattle.trace_cli.proofs.Lined.{not_ascii_bad}
 
--- the lines that were answered, of which bytes they are, and what was written
-pub record Reached (input rest : List ℕ) (old new : Option (List ℕ)) (n : ℕ) (w : World) : Type 0 where
-  pub done : List (List ℕ)
-  pub output : List ℕ
-  pub text : List ℕ
-  pub lines : lines_of input ≡ done ++ lines_of rest
-  pub count : length done ≡ n
-  pub wrote : Appends old new output
-  pub leads : LeadsTo done output w
-  pub bytes : input ≡ text ++ rest
-  pub whole : line_feeds text ≤ n
-
--- n lines were answered, and this world comes after them
-abbrev pub Stands : Option (List ℕ) → Option (List ℕ) → Option (List ℕ) → Option (List ℕ) → ℕ → World → Type 0
-Stands None rest old new n w = ⊤
-Stands (Some input) None old new n w = ⊥
-Stands (Some input) (Some rest) old new n w = Reached input rest old new n w
-
--- the collector stands for a valid world that the lines answered so far lead to
-pub record StandsIn (left rest old new : Option (List ℕ)) (n : ℕ) (c : CollectorState) (jobs : List Job) : Type 0 where
-  pub world : World
-  pub represents : Represents c (flown_by jobs) world
-  pub fit : AreOut c.heap.shape (outs_of jobs)
-  pub valid : IsValid world
-  pub stands : Stands left rest old new n world
-  pub within : IsWithin c n
-
--- what is known of a first collector, of one that is ready, and of a line that was answered
+-- what is known of a first collector
 pub record First (c : CollectorState) : Type 0 where
   pub valid : IsValid first_world
   pub represents : Represents c none_flown first_world
@@ -69,48 +40,6 @@ pub record First (c : CollectorState) : Type 0 where
 
 pub opened_first : {c : CollectorState} → IsFirst c → First c
 opened_first (first valid represents within) = record { valid = valid; represents = represents; within = within }
-
-pub record Ready (c : CollectorState) (jobs : List Job) (n : ℕ) : Type 0 where
-  pub sound : IsSound c (flown_by jobs)
-  pub fit : AreOut c.heap.shape (outs_of jobs)
-  pub within : IsWithin c n
-  pub below : n < 4294967295
-
-pub opened_ready : {c : CollectorState} {jobs : List Job} {n : ℕ} → IsReady c jobs n → Ready c jobs n
-opened_ready (ready sound fit within below) = record { sound = sound; fit = fit; within = within; below = below }
-
-pub record Answered (line : List ℕ) (old : CollectorState) (jobs : List Job) (n : ℕ) (new : CollectorState)
-    (left : List Job) (p q : Option (List ℕ)) : Type 0 where
-  pub command : Cmd
-  pub stands : StandsFor line command
-  pub writes : EachWorld old (flown_by jobs) (λ w. WritesAnswer w command new left p q)
-  pub fit : AreOut new.heap.shape (outs_of left)
-  pub within : IsWithin new (n + 1)
-
-pub opened_answer : {line : List ℕ} {old new : CollectorState} {jobs left : List Job} {n : ℕ} {p q : Option (List ℕ)}
-    → AnswersLine line old jobs n new left p q → Answered line old jobs n new left p q
-opened_answer (answers command stands writes fit within) = record {
-  command = command;
-  stands = stands;
-  writes = writes;
-  fit = fit;
-  within = within;
-}
-
--- the same, as one fact
-pub data Standing (left rest old new : Option (List ℕ)) (n : ℕ) (c : CollectorState) (jobs : List Job) : Type 0 where
-  standing : StandsIn left rest old new n c jobs → Standing left rest old new n c jobs
-
-pub opened : {left rest old new : Option (List ℕ)} {n : ℕ} {c : CollectorState} {jobs : List Job}
-    → Standing left rest old new n c jobs → StandsIn left rest old new n c jobs
-opened (standing s) = s
-
-pub left_standing : {left rest old new : Option (List ℕ)} {n : ℕ} {c : CollectorState} {jobs : List Job}
-    → Standing left rest old new n c jobs → StandsWith c jobs
-left_standing (standing s) = record {
-  sound = record { world = s.world; valid = s.valid; represents = s.represents };
-  out = s.fit;
-}
 
 pub stands_first : (left written : Option (List ℕ)) (held : List ℕ) → held ≡ []
     → Stands left (prepend_known held left) written written 0 first_world
@@ -188,9 +117,9 @@ line_bytes xs ys line p (inr e) = (
 )
 
 reached_more : (i xs ys : List ℕ) (p q r : Option (List ℕ)) (n : ℕ) (line : List ℕ) (w : World) (c : Cmd)
-    (k : CollectorState) (jobs : List Job) → Reached i xs p q n w → IsPlain line → EndsLine xs ys line
-    → StandsFor line c → (a : WritesAnswer w c k jobs q r) → Reached i ys p r (n + 1) a.after
-reached_more i xs ys p q r n line w c k jobs h plain ends s a =
+    (k : CollectorState) (f : ℕ → Option Bits) → Reached i xs p q n w → IsPlain line → EndsLine xs ys line
+    → StandsFor line c → (a : WritesAnswer w c k f q r) → Reached i ys p r (n + 1) a.after
+reached_more i xs ys p q r n line w c k f h plain ends s a =
     let b = line_bytes xs ys line plain ends in
     record {
       done = h.done ++ line ∷ [];
@@ -207,13 +136,13 @@ reached_more i xs ys p q r n line w c k jobs h plain ends s a =
     }
 
 pub stands_more : (a b c p q r : Option (List ℕ)) (n m : ℕ) (line : List ℕ) (w : World) (d : Cmd) (k : CollectorState)
-    (jobs : List Job) → Stands a b p q n w → GivesKnown b c (next.Line m) line → StandsFor line d →
-    (e : WritesAnswer w d k jobs q r) → Stands a c p r (n + 1) e.after
-stands_more None b c p q r n m line w d k jobs h t s e = tt
-stands_more (Some i) None c p q r n m line w d k jobs h t s e = absurd h
-stands_more (Some i) (Some xs) None p q r n m line w d k jobs h t s e = absurd t
+    (f : ℕ → Option Bits) → Stands a b p q n w → GivesKnown b c (next.Line m) line → StandsFor line d →
+    (e : WritesAnswer w d k f q r) → Stands a c p r (n + 1) e.after
+stands_more None b c p q r n m line w d k f h t s e = tt
+stands_more (Some i) None c p q r n m line w d k f h t s e = absurd h
+stands_more (Some i) (Some xs) None p q r n m line w d k f h t s e = absurd t
 stands_more (Some i) (Some xs)
-    (Some ys) p q r n m line w d k jobs h t s e = reached_more i xs ys p q r n line w d k jobs h t.2 t.3 s e
+    (Some ys) p q r n m line w d k f h t s e = reached_more i xs ys p q r n line w d k f h t.2 t.3 s e
 
 seam : (done : List (List ℕ)) (line : List ℕ) (rest : List (List ℕ))
     → slice_get (done ++ (line ∷ rest)) (length done) ≡ Some line
@@ -511,6 +440,11 @@ start_front w c p q h = record {
 pub usage_ends : (left written : Option (List ℕ)) → Replays left left written written exit.Usage
 usage_ends None written = tt
 usage_ends (Some input) written = ([], Appends-nil written, record { none = refl; kept = refl })
+
+-- memory was wanted before anything was read
+pub memory_ends : (left written : Option (List ℕ)) → Replays left left written written exit.NoMemory
+memory_ends left written = ends_memory left left written written written [] 0 first_world
+    (stands_first left written [] refl) (Appends-nil written)
 
 -- an exit, or that of a fault of the sink
 pub either : (P : Exit → Type 0) (r e : Exit) → (r ≡ e) ⊎ (r ≡ exit.WriteFault) → P e → P exit.WriteFault → P r

@@ -1,5 +1,6 @@
 -- Units one after another, with what is written of them.
-use Rattle.std.proofs.Common.{◌≡◌, ◌↔◌, ◌+◌, arith, ℕ, Bool, true, false, not, if◌then◌else◌, List, [], ◌∷◌}
+use Rattle.std.proofs.Common.{◌≡◌, ◌↔◌, ◌+◌, ◌-◌, ◌≤◌, ◌<◌, ◌^◌, arith, ℕ, Bool, true, false, if◌then◌else◌, List, []}
+use Rattle.std.proofs.Common.{◌∷◌}
 use Rattle.std.proofs.Common.{◌++◌, Option, Some, None, IsSome, refl, ap, sym, ◌∙◌, subst}
 use Rattle.std.specs.Prelude.{IsTrue}
 use Rattle.std.specs.Io.KnownBytes.{Appends}
@@ -8,21 +9,23 @@ use Rattle.std.proofs.lemmas.Grind.{flat_map-append}
 use Rattle.std.proofs.lemmas.List.{append-nil, length-append}
 use Rattle.gz_io.specs.Causes.{AppendsFront}
 use Rattle.gz_names.specs.declared.replies.Report.{Report}
-use Rattle.gz_names.specs.declared.replies.Reply.TheVariants as reply
-use Rattle.trace_lang.specs.Texts.{reply_text, line_of}
 use Rattle.cell_bits.specs.declared.bits.Bits.{Bits}
 use Rattle.colour_defs.specs.World.{World}
 use Rattle.colour_defs.specs.Laws.{IsValid}
 use Rattle.colour_defs.specs.Lawful.{AreLawfulUnits}
 use Rattle.slice_driver.specs.Collector.{CollectorState, RunState}
 use Rattle.slice_driver.specs.Advances.{Advances, told}
+use Rattle.slice_driver.specs.Left.{units_left}
 use Rattle.slice_driver.specs.Represents.{Represents}
 use Rattle.slice_driver.specs.Units.{reports_of}
 use Rattle.slice_driver.specs.declared.advance.Step.{Step}
 use Rattle.trace_cli.specs.Headline.{report_lines}
-use Rattle.trace_cli.specs.Writing.{reports_in, BreaksInReply, BreaksInUnits, StopsInUnits, WritesCollection}
-use Rattle.trace_cli.specs.Writing.{WritesUnits}
-use Rattle.trace_cli.proofs.Flights.{idle_world}
+use Rattle.trace_cli.specs.Pending.{Allows, after, done_of, limit_of}
+use Rattle.trace_cli.specs.Standing.{MakesNone}
+use Rattle.trace_cli.specs.Worlds.{EachWorld}
+use Rattle.trace_cli.specs.Writing.{reports_in, BreaksInUnits, Goes, StopsInUnits, WritesUnits}
+use Rattle.trace_cli.specs.declared.pending.Pending.{Pending}
+use Rattle.trace_cli.specs.declared.pending.Pending.TheVariants as pending
 use Rattle.trace_cli.proofs.Written.{report_lines-append, both_written, then_front_written}
 
 units_append : (w u v : World) (xs ys : List (List Report)) → AreLawfulUnits w xs u → AreLawfulUnits u ys v
@@ -63,20 +66,20 @@ module _ (limit : ℕ) (c d : CollectorState) (f g : ℕ → Option Bits) (outs 
       }
 
 -- what a step tells, by the test whether it tells nothing
-told_by : (b : Bool) (reports : List Report) → not b ≡ true → (if b then reports else []) ≡ []
+told_by : (b : Bool) (reports : List Report) → b ≡ false → (if b then reports else []) ≡ []
 told_by true reports e = absurd (cc e)
 told_by false reports e = refl
 
-all_by : (b : Bool) (reports : List Report) → not b ≡ false → (if b then reports else []) ≡ reports
+all_by : (b : Bool) (reports : List Report) → b ≡ true → (if b then reports else []) ≡ reports
 all_by true reports e = refl
 all_by false reports e = absurd (cc e)
 
-pub told_some : (step : Step) (place : Option Report) → not step.reported ≡ false
+pub told_some : (step : Step) (place : Option Report) → step.reported ≡ true
     → told step place ≡ reports_of place step.finished
 told_some step place e = all_by step.reported (reports_of place step.finished) e
 
 -- a step that tells nothing writes nothing
-pub silent_written : (step : Step) (place : Option Report) (p : Option (List ℕ)) → not step.reported ≡ true
+pub silent_written : (step : Step) (place : Option Report) (p : Option (List ℕ)) → step.reported ≡ false
     → Appends p p (report_lines (told step place))
 silent_written step place p e = subst (λ (rs : List Report). Appends p p (report_lines rs))
     (sym (told_by step.reported (reports_of place step.finished) e)) (Appends-nil p)
@@ -121,6 +124,18 @@ more_breaks w c f n m p q r h k = record {
       (lines_append h.units k.units) h.written k.written;
 }
 
+pub more_stops : (w : World) (c : CollectorState) (f : ℕ → Option Bits) (n m : ℕ) (p q r : Option (List ℕ)) →
+    (h : WritesUnits w c f n p q) → StopsInUnits h.after m q r → StopsInUnits w (n + m) p r
+more_stops w c f n m p q r h k = record {
+  units = h.units ++ k.units;
+  most = omega (arith, length-append h.units k.units, h.number, k.most);
+  after = k.after;
+  done = units_append w h.after k.after h.units k.units h.done k.done;
+  written =
+      both_written p q r (report_lines (reports_in h.units)) (report_lines (reports_in k.units)) _
+      (lines_append h.units k.units) h.written k.written;
+}
+
 pub stops_after : (w : World) (c : CollectorState) (f : ℕ → Option Bits) (n : ℕ) (p q r : Option (List ℕ)) →
     (h : WritesUnits w c f n p q) → Appends q r [] → StopsInUnits w n p r
 stops_after w c f n p q r h k = record {
@@ -136,37 +151,123 @@ pub not_running : (b : Bool) (r : Option RunState) → IsTrue b ↔ IsSome r →
 not_running b None h e = refl
 not_running b (Some x) h e = absurd (let t : b ≡ true = h.1 refl in cc (t, e))
 
--- all units of a collection, and its reply
-pub collection_ends : (w : World) (c : CollectorState) (f : ℕ → Option Bits) (n : ℕ) (p q r : Option (List ℕ))
-    → c.run ≡ None → WritesUnits w c f n p q → Appends q r (line_of (reply_text reply.Collected))
-    → WritesCollection w c f p r
-collection_ends w c f n p q r idle h k = record {
-  units = h.units;
-  after = h.after;
-  done = h.done;
-  over = idle_world c f h.after h.represents idle;
-  represents = h.represents;
-  written =
-      both_written p q r (report_lines (reports_in h.units)) (line_of (reply_text reply.Collected)) _ refl h.written k;
+-- counts of units, one after another
+after_none : (left : Pending) → after 0 left ≡ left
+after_none pending.Collect = refl
+after_none (pending.Slice more done) =
+    let fewer : more - 0 ≡ more = omega arith in
+    let longer : done + 0 ≡ done = omega arith in
+    ap (λ (k : ℕ). pending.Slice k (done + 0)) fewer ∙ ap (λ (k : ℕ). pending.Slice more k) longer
+after_none (pending.Finish done) =
+    let longer : done + 0 ≡ done = omega arith in ap (λ (k : ℕ). pending.Finish k) longer
+
+after_both : (left : Pending) (n m : ℕ) → after m (after n left) ≡ after (n + m) left
+after_both pending.Collect n m = refl
+after_both (pending.Slice more done) n m =
+    let fewer : more - n - m ≡ more - (n + m) = omega arith in
+    let longer : done + n + m ≡ done + (n + m) = omega arith in
+    ap (λ (k : ℕ). pending.Slice k (done + n + m)) fewer
+    ∙ ap (λ (k : ℕ). pending.Slice (more - (n + m)) k) longer
+after_both (pending.Finish done) n m =
+    let longer : done + n + m ≡ done + (n + m) = omega arith in ap (λ (k : ℕ). pending.Finish k) longer
+
+allows_none : (left : Pending) → Allows left 0
+allows_none pending.Collect = tt
+allows_none (pending.Slice more done) = omega arith
+allows_none (pending.Finish done) = tt
+
+allows_limit : (left : Pending) (n : ℕ) → n ≤ limit_of left → Allows left n
+allows_limit pending.Collect n le = tt
+allows_limit (pending.Slice more done) n le = le
+allows_limit (pending.Finish done) n le = tt
+
+allows_both : (left : Pending) (n m : ℕ) → Allows left n → Allows (after n left) m → Allows left (n + m)
+allows_both pending.Collect n m a b = tt
+allows_both (pending.Slice more done) n m a b = omega (arith, a, b)
+allows_both (pending.Finish done) n m a b = tt
+
+-- the units of a step, counted
+pub step_goes : (limit : ℕ) (left : Pending) (c d : CollectorState) (f g : ℕ → Option Bits) (outs : List (ℕ × ℕ))
+    (before place : Option Report) (step : Step) (p q : Option (List ℕ)) → limit ≡ limit_of left
+    → Advances limit c f before step d g outs place → Appends p q (report_lines (told step place))
+    → Goes c f left d g (after step.units left) p q
+step_goes limit left c d f g outs before place step p q e a written = record {
+  count = step.units;
+  left_is = refl;
+  most = allows_limit left step.units (omega (arith, e, a.most));
+  writes = λ w ok stands. step_writes limit c d f g outs before place step a w ok stands p q written;
+  less = a.less;
 }
 
--- the same where a front of the reply was written
-pub collection_fronts : (w : World) (c : CollectorState) (f : ℕ → Option Bits) (n : ℕ) (p q r : Option (List ℕ))
-    → c.run ≡ None → WritesUnits w c f n p q → AppendsFront q r (line_of (reply_text reply.Collected))
-    → BreaksInReply w p r
-collection_fronts w c f n p q r idle h k = record {
-  units = h.units;
-  after = h.after;
-  done = h.done;
-  over = idle_world c f h.after h.represents idle;
-  written =
-      then_front_written p q r (report_lines (reports_in h.units)) (line_of (reply_text reply.Collected)) _ refl
-      h.written k;
+pub step_fronts : (limit : ℕ) (left : Pending) (c d : CollectorState) (f g : ℕ → Option Bits) (outs : List (ℕ × ℕ))
+    (before place : Option Report) (step : Step) (p q : Option (List ℕ)) → limit ≡ limit_of left
+    → Advances limit c f before step d g outs place → AppendsFront p q (report_lines (told step place))
+    → EachWorld c f (λ w. (n : ℕ) × Allows left n × BreaksInUnits w n p q)
+step_fronts limit left c d f g outs before place step p q e a written w ok stands = (
+  limit,
+  allows_limit left limit (omega (arith, e)),
+  step_breaks limit c d f g outs before place step a w ok stands p q written,
+)
+
+-- the same bits and the same that is left
+pub goes_as : (left now l : Pending) (c d : CollectorState) (f g h : ℕ → Option Bits) (p q : Option (List ℕ)) → h ≡ g
+    → l ≡ now → Goes c f left d g now p q → Goes c f left d h l p q
+goes_as left now l c d f g h p q e k a =
+    subst (λ (x : ℕ → Option Bits). Goes c f left d x l p q) (sym e)
+    (subst (λ (x : Pending). Goes c f left d g x p q) (sym k) a)
+
+-- no unit yet
+pub none_gone : (left : Pending) (c : CollectorState) (f : ℕ → Option Bits) (p : Option (List ℕ))
+    → Goes c f left c f left p p
+none_gone left c f p = record {
+  count = 0;
+  left_is = sym (after_none left);
+  most = allows_none left;
+  writes = λ w ok stands. no_units w c f p ok stands;
+  less = omega arith;
 }
 
--- the same in each world that the collector stood for
-pub units_end : (c d : CollectorState) (e f : ℕ → Option Bits) (p q r : Option (List ℕ)) → d.run ≡ None →
-    ((w : World) → IsValid w → Represents c e w → (n : ℕ) × WritesUnits w d f n p q) → Appends q r
-    (line_of (reply_text reply.Collected)) → (w : World) → IsValid w → Represents c e w → WritesCollection w d f p r
-units_end c d e f p q r idle writes k w ok stands =
-    (let h = writes w ok stands in collection_ends w d f h.0 p q r idle h.1 k)
+-- more of them
+pub goes_on : (left mid now : Pending) (c d e : CollectorState) (f g h : ℕ → Option Bits) (p q r : Option (List ℕ))
+    → Goes c f left d g mid p q → Goes d g mid e h now q r → Goes c f left e h now p r
+goes_on left mid now c d e f g h p q r a b = record {
+  count = a.count + b.count;
+  left_is = b.left_is ∙ ap (after b.count) a.left_is ∙ after_both left a.count b.count;
+  most = allows_both left a.count b.count a.most (subst (λ (m : Pending). Allows m b.count) a.left_is b.most);
+  writes = λ w ok stands. (let u = a.writes w ok stands in more_units w d e g h a.count b.count p q r u
+      (b.writes u.after u.valid u.represents));
+  less = omega (arith, a.less, b.less);
+}
+
+-- where a front of the next units' reports was written, or memory was wanted for them
+pub goes_breaks : (left mid : Pending) (c d : CollectorState) (f g : ℕ → Option Bits) (p q r : Option (List ℕ))
+    → Goes c f left d g mid p q → EachWorld d g (λ w. (n : ℕ) × Allows mid n × BreaksInUnits w n q r)
+    → EachWorld c f (λ w. (n : ℕ) × Allows left n × BreaksInUnits w n p r)
+goes_breaks left mid c d f g p q r a breaks w ok stands =
+    let u = a.writes w ok stands in
+    let b = breaks u.after u.valid u.represents in (
+      a.count + b.0,
+      allows_both left a.count b.0 a.most (subst (λ (m : Pending). Allows m b.0) a.left_is b.1),
+      more_breaks w d g a.count b.0 p q r u b.2,
+    )
+
+pub goes_stops : (left mid : Pending) (c d : CollectorState) (f g : ℕ → Option Bits) (p q r : Option (List ℕ))
+    → Goes c f left d g mid p q → Appends q r []
+    → EachWorld c f (λ w. (n : ℕ) × Allows left n × StopsInUnits w n p r)
+goes_stops left mid c d f g p q r a kept w ok stands =
+    (a.count, a.most, stops_after w d g a.count p q r (a.writes w ok stands) kept)
+
+-- what is counted and what is left stay together below 2^64
+goes_done : (left : Pending) (n : ℕ) → done_of (after n left) ≤ done_of left + n
+goes_done pending.Collect n = omega arith
+goes_done (pending.Slice more done) n = omega arith
+goes_done (pending.Finish done) n = omega arith
+
+pub goes_few : (left now : Pending) (c d : CollectorState) (f g : ℕ → Option Bits) (p q : Option (List ℕ))
+    → Goes c f left d g now p q → done_of left + units_left c f < 2 ^ 64 → done_of now + units_left d g < 2 ^ 64
+goes_few left now c d f g p q a small =
+    let most = goes_done left a.count in
+    subst (λ (x : Pending). done_of x + units_left d g < 2 ^ 64) (sym a.left_is) (omega (arith, most, a.less, small))
+
+pub makes_none : (c d e : CollectorState) → MakesNone c d → MakesNone d e → MakesNone c e
+makes_none c d e a b = record { made = b.made ∙ a.made; entries = omega (arith, a.entries, b.entries) }

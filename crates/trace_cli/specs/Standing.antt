@@ -1,21 +1,33 @@
--- What the reading loop knows of its collector, as single facts.
-use Rattle.std.specs.Prelude.{◌≡◌, ◌<◌, ◌≤◌, ◌+◌, ℕ, List, Option, length}
+-- What the reading loop knows, as single facts.
+use Rattle.std.specs.Prelude.{◌≡◌, ◌≢◌, ◌<◌, ◌≤◌, ◌+◌, ◌^◌, ℕ, List, [], Option, Some, None, length}
+use Rattle.std.specs.Io.KnownBytes.{Appends, prepend_known}
+use Rattle.gz_io.specs.Causes.{AppendsFront, Rose}
+use Rattle.gz_io.specs.Lines.{GivesKnown}
+use Rattle.gz_io.specs.declared.reader.Next.TheVariants as next
 use Rattle.gz_names.specs.declared.commands.Cmd.{Cmd}
 use Rattle.cell_bits.specs.declared.bits.Bits.{Bits}
 use Rattle.cell_bits.specs.declared.jobs.Job.{Job}
 use Rattle.colour_defs.specs.Laws.{IsValid}
 use Rattle.colour_defs.specs.World.{World, first_world}
-use Rattle.sweeping.specs.ArenasOut.{outs_of}
+use Rattle.sweeping.specs.ArenasOut.{Ascend, flown_by, outs_of}
 use Rattle.slice_driver.specs.Advances.{AreOut}
 use Rattle.slice_driver.specs.Collector.{CollectorState}
+use Rattle.slice_driver.specs.Left.{units_left}
 use Rattle.slice_driver.specs.Represents.{Represents}
-use Rattle.slice_driver.specs.Units.{IsSound, flown_by, none_flown}
-use Rattle.trace_cli.specs.Headline.{WritesAnswer}
+use Rattle.slice_driver.specs.Units.{IsSound, none_flown}
+use Rattle.trace_lang.specs.Texts.{reply_text, line_of}
+use Rattle.trace_cli.specs.Headline.{Replays}
+use Rattle.trace_cli.specs.Pending.{reply_of}
+use Rattle.trace_cli.specs.Reaching.{Stands}
 use Rattle.trace_cli.specs.Served.{StandsFor}
-
--- this holds of each valid world that the collector stands for, with these bits in flight
-abbrev pub EachWorld : CollectorState → (ℕ → Option Bits) → (World → Type 0) → Type 0
-EachWorld c flown P = (w : World) → IsValid w → Represents c flown w → P w
+use Rattle.trace_cli.specs.Starting.{IsAnswering, StartedAs}
+use Rattle.trace_cli.specs.Writing.{WritesUnits}
+use Rattle.trace_cli.specs.declared.exit.Exit.{Exit}
+use Rattle.trace_cli.specs.declared.exit.Exit.TheVariants as exit
+use Rattle.trace_cli.specs.declared.machine.Machine.{Machine}
+use Rattle.trace_cli.specs.declared.machine.Stop.{Stop}
+use Rattle.trace_cli.specs.declared.machine.Stop.TheVariants as stop
+use Rattle.trace_cli.specs.declared.pending.Pending.{Pending}
 
 -- so many cells and weak entries were made at most
 pub record IsWithin (c : CollectorState) (n : ℕ) : Type 0 where
@@ -26,15 +38,14 @@ pub record IsWithin (c : CollectorState) (n : ℕ) : Type 0 where
 pub data IsFirst (c : CollectorState) : Type 0 where
   first : IsValid first_world → Represents c none_flown first_world → IsWithin c 0 → IsFirst c
 
--- a collector that stands for some world, with the arenas of these jobs in flight, after so many lines
-pub data IsReady (c : CollectorState) (jobs : List Job) (n : ℕ) : Type 0 where
-  ready : IsSound c (flown_by jobs) → AreOut c.heap.shape (outs_of jobs) → IsWithin c n → n < 4294967295
-      → IsReady c jobs n
+-- a collector that stands for some world, with these arenas and bits in flight, after so many lines
+pub data IsReady (c : CollectorState) (outs : List (ℕ × ℕ)) (flown : ℕ → Option Bits) (n : ℕ) : Type 0 where
+  ready : IsSound c flown → AreOut c.heap.shape outs → IsWithin c n → n < 4294967295 → IsReady c outs flown n
 
--- a collector that stands for some world, with the arenas of these jobs in flight
-pub record StandsWith (c : CollectorState) (jobs : List Job) : Type 0 where
-  pub sound : IsSound c (flown_by jobs)
-  pub out : AreOut c.heap.shape (outs_of jobs)
+-- a collector that stands for some world, with these arenas and bits in flight
+pub record StandsWith (c : CollectorState) (outs : List (ℕ × ℕ)) (flown : ℕ → Option Bits) : Type 0 where
+  pub sound : IsSound c flown
+  pub out : AreOut c.heap.shape outs
 
 -- one cell and one weak entry can still be made
 pub record HasRoomForOne (c : CollectorState) : Type 0 where
@@ -51,9 +62,109 @@ pub record MakesNone (old new : CollectorState) : Type 0 where
   pub made : new.heap.made ≡ old.heap.made
   pub entries : length new.heap.shape.weak.entries ≤ length old.heap.shape.weak.entries
 
--- a line stands for a command, which was answered whole in each world that the collector stood for
-pub data AnswersLine (line : List ℕ) (old : CollectorState) (jobs : List Job) (n : ℕ) (new : CollectorState)
-    (left : List Job) (p q : Option (List ℕ)) : Type 0 where
-  answers : (c : Cmd) → StandsFor line c →
-      EachWorld old (flown_by jobs) (λ w. WritesAnswer w c new left p q)
-      → AreOut new.heap.shape (outs_of left) → IsWithin new (n + 1) → AnswersLine line old jobs n new left p q
+-- a line stands for a command, which was answered whole in each world that the collector stood for, or whose units are
+-- left to be done
+pub data AnswersLine (line : List ℕ) (left : Option Pending) (old : CollectorState) (flown : ℕ → Option Bits) (n : ℕ)
+    (new : CollectorState) (outs : List (ℕ × ℕ)) (flying : ℕ → Option Bits) (p q : Option (List ℕ)) : Type 0 where
+  answers : (c : Cmd) → StandsFor line c → StartedAs left c old flown new flying p q → AreOut new.heap.shape outs
+      → IsSound new flying → IsWithin new (n + 1) → AnswersLine line left old flown n new outs flying p q
+
+-- the last line of an answer was written, or a front of it
+abbrev pub last_line : Pending → List ℕ
+last_line left = line_of (reply_text (reply_of left))
+
+abbrev pub EndsLine : Machine → Pending → Machine → Option (List ℕ) → Option (List ℕ) → Type 0
+EndsLine m left n p q =
+    (n ≡ record m { pending = None; answered = m.answered + 1 }) × Appends p q (last_line left)
+
+abbrev pub BreaksLine : Pending → Option (List ℕ) → Option (List ℕ) → Type 0
+BreaksLine left p q = AppendsFront p q (last_line left)
+
+-- the bytes and the counts of faults as a replay began
+pub record Entry : Type 0 where
+  pub left : Option (List ℕ)
+  pub written : Option (List ℕ)
+  pub reads : ℕ
+  pub writes : ℕ
+
+-- between two lines: the collector stands for a valid world that the lines answered so far lead to
+pub record Between (e : Entry) (rest written : Option (List ℕ)) (n : ℕ) (c : CollectorState) (outs : List (ℕ × ℕ))
+    (flown : ℕ → Option Bits) : Type 0 where
+  pub world : World
+  pub represents : Represents c flown world
+  pub valid : IsValid world
+  pub stands : Stands e.left rest e.written written n world
+  pub within : IsWithin c n
+  pub out : AreOut c.heap.shape outs
+
+-- amid the answer to a line: it was asked for in such a world, and so many of its units were done since
+pub record Amid (e : Entry) (rest written : Option (List ℕ)) (n : ℕ) (c : CollectorState) (left : Pending)
+    (outs : List (ℕ × ℕ)) (flown : ℕ → Option Bits) : Type 0 where
+  pub world : World
+  pub valid : IsValid world
+  pub asked : Option (List ℕ)
+  pub before : Option (List ℕ)
+  pub stands : Stands e.left asked e.written before n world
+  pub line : List ℕ
+  pub size : ℕ
+  pub given : GivesKnown asked rest (next.Line size) line
+  pub command : Cmd
+  pub spelt : StandsFor line command
+  pub begun : World
+  pub count : ℕ
+  pub answering : IsAnswering world command left count begun
+  pub units : WritesUnits begun c flown count before written
+  pub few : count + units_left c flown < 2 ^ 64
+  pub within : IsWithin c (n + 1)
+  pub out : AreOut c.heap.shape outs
+
+-- where a replay stands, with these arenas and bits in flight
+pub data Standing (e : Entry) (m : Machine) (left : Option (List ℕ)) (reads : ℕ) (written : Option (List ℕ))
+    (writes : ℕ) (outs : List (ℕ × ℕ)) (flown : ℕ → Option Bits) : Type 0 where
+  between : m.pending ≡ None → m.answered ≤ 4294967295
+      → Between e (prepend_known m.reader.held left) written m.answered m.collector outs flown
+      → reads ≡ e.reads → writes ≡ e.writes → Standing e m left reads written writes outs flown
+  amid : (more : Pending) → m.pending ≡ Some more → m.answered < 4294967295
+      → Amid e (prepend_known m.reader.held left) written m.answered m.collector more outs flown
+      → reads ≡ e.reads → writes ≡ e.writes → Standing e m left reads written writes outs flown
+
+-- it stands somewhere
+pub data IsStanding (m : Machine) (left : Option (List ℕ)) (reads : ℕ) (written : Option (List ℕ)) (writes : ℕ)
+    (outs : List (ℕ × ℕ)) (flown : ℕ → Option Bits) : Type 0 where
+  somewhere : (e : Entry) → Standing e m left reads written writes outs flown
+      → IsStanding m left reads written writes outs flown
+
+-- every line was answered: the collector stands for a valid world that all lines lead to
+pub record EndsIn (e : Entry) (m : Machine) (written : Option (List ℕ)) : Type 0 where
+  pub rest : Option (List ℕ)
+  pub outs : List (ℕ × ℕ)
+  pub flown : ℕ → Option Bits
+  pub here : Between e rest written m.answered m.collector outs flown
+  pub read : (xs : List ℕ) → rest ≡ Some xs → xs ≡ []
+
+-- a replay ended so
+pub record HasEnded (e : Entry) (x : Exit) (m : Machine) (left : Option (List ℕ)) (reads : ℕ)
+    (written : Option (List ℕ)) (writes behind : ℕ) : Type 0 where
+  pub lawful : Replays e.left left e.written written x
+  pub quiet : x ≡ exit.Done → (reads ≡ e.reads) × (writes ≡ e.writes)
+  pub handed_on : x ≡ exit.Done → behind ≡ 0
+  pub read : x ≡ exit.ReadFault → Rose e.reads reads
+  pub write : x ≡ exit.WriteFault → Rose e.writes writes
+  pub runs : x ≢ exit.Usage
+  pub no_verdict : x ≢ exit.Unsound
+  pub ends_in : x ≡ exit.Done → EndsIn e m written
+
+-- why the loop stopped, and where it stands then
+abbrev pub StopsSo : Stop → Entry → Machine → Option (List ℕ) → ℕ → Option (List ℕ) → ℕ → ℕ → Type 0
+StopsSo stop.LastIn e m left reads written writes behind = Standing e m left reads written writes [] none_flown
+StopsSo (stop.HandsOut jobs) e m left reads written writes behind =
+    Standing e m left reads written writes (outs_of jobs) (flown_by jobs) × Ascend (outs_of jobs)
+StopsSo (stop.Over x) e m left reads written writes behind = HasEnded e x m left reads written writes behind
+
+-- the same of what the loop leaves behind: why it is over, or the jobs to be swept, or none
+abbrev pub RanSo : Option Exit → Option (List Job) → Entry → Machine → Option (List ℕ) → ℕ → Option (List ℕ) → ℕ → ℕ
+    → Type 0
+RanSo (Some x) handed e m left reads written writes behind = HasEnded e x m left reads written writes behind
+RanSo None (Some jobs) e m left reads written writes behind =
+    Standing e m left reads written writes (outs_of jobs) (flown_by jobs) × Ascend (outs_of jobs)
+RanSo None None e m left reads written writes behind = Standing e m left reads written writes [] none_flown

@@ -1,5 +1,5 @@
 // What a line is answered.
-ghost use Rattle.std.specs.Prelude.{◌≡◌, ◌≢◌, [], OnOk, OnErr, false};
+ghost use Rattle.std.specs.Prelude.{◌≡◌, ◌≢◌, [], None, OnOk, OnErr, false};
 ghost use Rattle.std.specs.Io.KnownBytes.{Appends};
 ghost use Rattle.gz_io.specs.Causes.{AppendsFront};
 ghost use Rattle.gz_names.specs.declared.commands.Cmd.{Cmd as TheCmd};
@@ -7,22 +7,23 @@ ghost use Rattle.gz_names.specs.declared.commands.Cmd.TheVariants as ACmd;
 ghost use Rattle.trace_lang.specs.Texts.{reply_text, line_of};
 ghost use Rattle.colour_defs.specs.Step.{HasFewFields};
 ghost use Rattle.heap_core.specs.Effects.{takes_memory};
-ghost use Rattle.slice_driver.specs.Units.{flown_by};
 ghost use Rattle.trace_cli.specs.Served.{FitsLanguage, IsBad, StandsFor};
-ghost use Rattle.trace_cli.specs.Headline.{WritesAnswer, WritesFront, WritesStart};
-ghost use Rattle.trace_cli.specs.Answering.{AnswersCommand, CountsFaults};
-ghost use Rattle.trace_cli.specs.Standing.{EachWorld, HasRoomForOne, MakesAtMostOne, StandsWith};
+ghost use Rattle.trace_cli.specs.Headline.{WritesFront, WritesStart};
+ghost use Rattle.trace_cli.specs.Answering.{AnswersCommand, CountsFaults, StartsCommand};
+ghost use Rattle.trace_cli.specs.Standing.{HasRoomForOne, MakesAtMostOne, StandsWith};
+ghost use Rattle.trace_cli.specs.Starting.{StartedAs};
+ghost use Rattle.trace_cli.specs.Worlds.{EachWorld};
 
-use crate::collect::collect;
+use crate::begin::{begin_collect, begin_finish, begin_slice, gc};
 use crate::dump::answer_dump;
-use crate::slices::{finish, gc, slice};
+use crate::pending::Pending;
 use gz_io::Sink;
 use gz_names::{Cmd, CmdFault, GraphCmd, Refusal, Reply};
 use heap_core::Steps;
 use slice_driver::Collector;
 use std::alloc::Global;
 use std::sync::ledger::Ledger;
-use sweeping::MainSweeper;
+use sweeping::Sweeping;
 use trace_lang::{parse, write_reply, zones_law};
 
 /// Why a line was not answered whole.
@@ -52,24 +53,25 @@ pub fn write_last<K: Sink>(sink: &mut K, reply: &Reply) -> Result<(), AnswerFaul
 }
 
 // Does a command on the graph, and writes the reply.
-fn answer_command<K: Sink, L: Ledger>(
+fn answer_command<F: Sweeping, K: Sink, L: Ledger>(
     collector: &mut Collector,
-    handed: &mut MainSweeper,
+    flight: &mut F,
     command: &GraphCmd,
     sink: &mut K,
     steps: &mut Steps<L>,
 ) -> Result<(), AnswerFault>
-    requires flight { StandsWith collector.old handed.old }
+    requires flight { StandsWith collector.old (F.left (F.origin flight.old)) (F.bits flight.old) }
     requires room { HasRoomForOne collector.old }
     requires fields { HasFewFields command.now }
-    ensures answer { AnswersCommand (ACmd.Graph command.now) collector.old handed.old collector.new handed.new
-        (K.written sink.old) (K.written sink.new) result }
-    ensures flight { StandsWith collector.new handed.new }
+    ensures answer { AnswersCommand (ACmd.Graph command.now) collector.old (F.bits flight.old) collector.new
+        (F.bits flight.new) (K.written sink.old) (K.written sink.new) result }
+    ensures flight { StandsWith collector.new (F.left (F.origin flight.new)) (F.bits flight.new) }
+    ensures origin { F.origin flight.new ≡ F.origin flight.old }
     ensures size { MakesAtMostOne collector.old collector.new }
     ensures sure { takes_memory command.now ≡ false → result ≢ Err AnswerFault.Memory }
     ensures faults { CountsFaults (K.faults sink.old) (K.faults sink.new) result }
 {
-    match collector.command(handed, *command, steps) {
+    match collector.command(flight, *command, steps) {
         Ok(reply) => write_last(sink, &reply),
         Err(CmdFault::Refused(why)) => write_last(sink, &Reply::Refused(why)),
         Err(CmdFault::NoMemory) => Err(AnswerFault::Memory),
@@ -78,80 +80,90 @@ fn answer_command<K: Sink, L: Ledger>(
 
 // Writes the gray names, where no zone is marking.
 #[inline(never)]
-fn answer_colours<K: Sink>(
+fn answer_colours<F: Sweeping, K: Sink>(
     alloc: Global,
     collector: &Collector,
-    handed: &mut MainSweeper,
+    flight: &mut F,
     sink: &mut K,
 ) -> Result<(), AnswerFault>
-    requires { StandsWith collector.now handed.old }
-    ensures answer { AnswersCommand ACmd.Colours collector.now handed.old collector.now handed.new
-        (K.written sink.old) (K.written sink.new) result }
-    ensures flight { StandsWith collector.now handed.new }
+    requires { StandsWith collector.now (F.left (F.origin flight.old)) (F.bits flight.old) }
+    ensures answer { AnswersCommand ACmd.Colours collector.now (F.bits flight.old) collector.now
+        (F.bits flight.new) (K.written sink.old) (K.written sink.new) result }
+    ensures flight { StandsWith collector.now (F.left (F.origin flight.new)) (F.bits flight.new) }
+    ensures origin { F.origin flight.new ≡ F.origin flight.old }
     ensures faults { CountsFaults (K.faults sink.old) (K.faults sink.new) result }
 {
     if !collector.settled() {
         return write_last(sink, &Reply::Refused(Refusal::Marking));
     }
-    let Ok(names) = collector.gray_names(alloc, handed) else {
+    let Ok(names) = collector.gray_names(alloc, flight) else {
         return Err(AnswerFault::Memory);
     };
     write_last(sink, &Reply::Gray(names))
 }
 
-// Does a command, and writes the answer.
-fn answer_parsed<K: Sink, L: Ledger>(
+// Does a command, and writes the answer, or leaves the units that it asks for.
+fn start_command<F: Sweeping, K: Sink, L: Ledger>(
     alloc: Global,
     collector: &mut Collector,
-    handed: &mut MainSweeper,
+    flight: &mut F,
     cmd: &Cmd,
+    pending: &mut Option<Pending>,
     sink: &mut K,
     steps: &mut Steps<L>,
 ) -> Result<(), AnswerFault>
-    requires flight { StandsWith collector.old handed.old }
+    requires flight { StandsWith collector.old (F.left (F.origin flight.old)) (F.bits flight.old) }
     requires room { HasRoomForOne collector.old }
     requires fits { FitsLanguage cmd.now }
-    ensures answer { AnswersCommand cmd.now collector.old handed.old collector.new handed.new
-        (K.written sink.old) (K.written sink.new) result }
-    ensures flight { StandsWith collector.new handed.new }
+    requires none { pending.old ≡ None }
+    ensures answer { StartsCommand cmd.now pending.new collector.old (F.bits flight.old) collector.new
+        (F.bits flight.new) (K.written sink.old) (K.written sink.new) result }
+    ensures flight { StandsWith collector.new (F.left (F.origin flight.new)) (F.bits flight.new) }
+    ensures origin { F.origin flight.new ≡ F.origin flight.old }
     ensures size { MakesAtMostOne collector.old collector.new }
     ensures faults { CountsFaults (K.faults sink.old) (K.faults sink.new) result }
 {
     match cmd {
-        Cmd::Graph(command) => answer_command(collector, handed, command, sink, steps),
-        Cmd::Collect(zones) => collect(alloc, collector, handed, *zones, sink, steps),
-        Cmd::Colours => answer_colours(alloc, collector, handed, sink),
-        Cmd::Dump => answer_dump(alloc, collector, handed, sink),
-        Cmd::Gc(zones) => gc(alloc, collector, handed, *zones, sink, steps),
-        Cmd::Slice(budget) => slice(alloc, collector, handed, *budget, sink, steps),
-        Cmd::Finish => finish(alloc, collector, handed, sink, steps),
+        Cmd::Graph(command) => answer_command(collector, flight, command, sink, steps),
+        Cmd::Collect(zones) => begin_collect(
+            alloc, collector, flight, *zones, pending, sink, steps,
+        ),
+        Cmd::Colours => answer_colours(alloc, collector, flight, sink),
+        Cmd::Dump => answer_dump(alloc, collector, flight, sink),
+        Cmd::Gc(zones) => gc(alloc, collector, flight, *zones, sink, steps),
+        Cmd::Slice(budget) => begin_slice(collector, flight, *budget, pending, sink),
+        Cmd::Finish => begin_finish(collector, flight, pending, sink),
         // No line of the language stands for these.
         Cmd::Weak(_) | Cmd::Reset | Cmd::Compact(_) => Err(AnswerFault::Bad),
     }
 }
 
-/// Does what a line says, and writes the answer.
+/// Does what a line says, and writes the answer, or leaves the units that it asks for.
 #[inline(always)]
-pub fn answer_line<K: Sink, L: Ledger>(
+pub fn start_answer<F: Sweeping, K: Sink, L: Ledger>(
     alloc: Global,
     collector: &mut Collector,
-    handed: &mut MainSweeper,
+    flight: &mut F,
     line: &[u8],
+    pending: &mut Option<Pending>,
     sink: &mut K,
     steps: &mut Steps<L>,
 ) -> Result<(), AnswerFault>
-    requires flight { StandsWith collector.old handed.old }
+    requires flight { StandsWith collector.old (F.left (F.origin flight.old)) (F.bits flight.old) }
     requires room { HasRoomForOne collector.old }
-    ensures ok { OnOk result ((c : TheCmd) × StandsFor line.now c × EachWorld collector.old (flown_by handed.old)
-        (λ w. WritesAnswer w c collector.new handed.new (K.written sink.old) (K.written sink.new))) }
-    ensures flight { StandsWith collector.new handed.new }
+    requires none { pending.old ≡ None }
+    ensures ok { OnOk result ((c : TheCmd) × StandsFor line.now c × StartedAs pending.new c collector.old
+        (F.bits flight.old) collector.new (F.bits flight.new) (K.written sink.old) (K.written sink.new)) }
+    ensures none { OnErr result (pending.new ≡ None) }
+    ensures flight { StandsWith collector.new (F.left (F.origin flight.new)) (F.bits flight.new) }
+    ensures origin { F.origin flight.new ≡ F.origin flight.old }
     ensures size { MakesAtMostOne collector.old collector.new }
     ensures bad { result ≡ Err AnswerFault.Bad → IsBad line.now × Appends (K.written sink.old) (K.written sink.new) [] }
     ensures memory { result ≡ Err AnswerFault.Memory → (c : TheCmd) × StandsFor line.now c
-        × EachWorld collector.old (flown_by handed.old)
+        × EachWorld collector.old (F.bits flight.old)
         (λ w. WritesStart w c (K.written sink.old) (K.written sink.new)) }
     ensures write { result ≡ Err AnswerFault.Write → (c : TheCmd) × StandsFor line.now c
-        × EachWorld collector.old (flown_by handed.old)
+        × EachWorld collector.old (F.bits flight.old)
         (λ w. WritesFront w c (K.written sink.old) (K.written sink.new)) }
     ensures faults { CountsFaults (K.faults sink.old) (K.faults sink.new) result }
 {
@@ -159,5 +171,5 @@ pub fn answer_line<K: Sink, L: Ledger>(
     let Ok(cmd) = parse(line) else {
         return Err(AnswerFault::Bad);
     };
-    answer_parsed(alloc, collector, handed, &cmd, sink, steps)
+    start_command(alloc, collector, flight, &cmd, pending, sink, steps)
 }

@@ -1,5 +1,5 @@
 // The dump of the heap is written. A check of it finds no fault.
-ghost use Rattle.std.specs.Prelude.{ℕ, ◌≤◌, List, length};
+ghost use Rattle.std.specs.Prelude.{◌≡◌, ℕ, ◌≤◌, List, length};
 ghost use Rattle.std.specs.List.{AllByRecursion};
 ghost use Rattle.gz_names.specs.declared.commands.Cmd.TheVariants as ACmd;
 ghost use Rattle.gz_names.specs.declared.dumps.DumpLine.{DumpLine as ALine};
@@ -22,26 +22,27 @@ use gz_io::Sink;
 use gz_names::{DumpLines, Refusal, Reply};
 use slice_driver::Collector;
 use std::alloc::Global;
-use sweeping::MainSweeper;
+use sweeping::Sweeping;
 
 /// Writes the dump of the heap, where no zone is marking.
 #[inline(never)]
-pub fn answer_dump<K: Sink>(
+pub fn answer_dump<F: Sweeping, K: Sink>(
     alloc: Global,
     collector: &Collector,
-    handed: &mut MainSweeper,
+    flight: &mut F,
     sink: &mut K,
 ) -> Result<(), AnswerFault>
-    requires { StandsWith collector.now handed.old }
-    ensures answer { AnswersCommand ACmd.Dump collector.now handed.old collector.now handed.new
+    requires { StandsWith collector.now (F.left (F.origin flight.old)) (F.bits flight.old) }
+    ensures answer { AnswersCommand ACmd.Dump collector.now (F.bits flight.old) collector.now (F.bits flight.new)
         (K.written sink.old) (K.written sink.new) result }
-    ensures flight { StandsWith collector.now handed.new }
+    ensures flight { StandsWith collector.now (F.left (F.origin flight.new)) (F.bits flight.new) }
+    ensures origin { F.origin flight.new ≡ F.origin flight.old }
     ensures faults { CountsFaults (K.faults sink.old) (K.faults sink.new) result }
 {
     if !collector.settled() {
         return write_last(sink, &Reply::Refused(Refusal::Marking));
     }
-    let Ok(lines) = collector.dump(alloc, handed) else {
+    let Ok(lines) = collector.dump(alloc, flight) else {
         return Err(AnswerFault::Memory);
     };
     write_last(sink, &Reply::Dump(DumpLines::from_vec(lines)))

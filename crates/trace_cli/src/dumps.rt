@@ -4,7 +4,7 @@ ghost use Rattle.gz_io.specs.Causes.{Rose};
 ghost use Rattle.trace_cli.specs.Headline.{Checks, Concluded};
 
 use crate::exit::Exit;
-use crate::reading::end_so;
+use crate::lines::end_so;
 use dump_cli::{CheckEnd, check};
 use gz_io::{Sink, Source};
 use std::alloc::Global;

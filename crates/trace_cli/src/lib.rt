@@ -1,48 +1,63 @@
 // [gczone] from bytes to bytes
 //
-// `replay` replays a trace from any source into any sink: it reads a line, answers it whole, and goes
-// on. The program `gczone` calls it with the standard streams.
+// `replay` does what the words of the command line ask for, to its end, from any source into any sink. The program
+// `gczone` calls it with the standard streams. A trace is read line by line, and each line is answered before the next
+// one is asked for; `storm` does the same with a generated trace and writes a summary; `check` reads a dump of colours.
 //
-//     reading    reads the lines, and ends with the exit that the lines and the counts of faults say
-//     answer     what one line is answered: parsed, done, its reply written
-//     collect    a step of a collection, with what it reports written; a collection in one command
+//     reading    what the words ask for; a replay from its first line to its exit
+//     session    a replay as main's work beside helpers
+//     lines      the reading loop: lines are started and gone on with, until something stands in the way
+//     answer     what one line is answered at once
+//     begin      the lines that begin a collection or go on with one
+//     turns      the units that a line asks for, each report written as it comes
+//     pending    what is left to be answered of a line
 //     dump       the dump of the heap, when no zone is marking
-//     slices     a collection in slices: `gc` begins it, `slice` does some of its units, `finish` the rest
 //     dumps      under `check`, a dump of colours is read instead, and its verdict written (`dump_cli`)
+//     storm      a generated trace, and its summary
 //
-// The collector of `slice_driver` stands for a world of the definitions, with the bits that are in
-// flight (`Represents` in its specs/). Each command takes a collector that stands for a world to one
-// that stands for the world after it, with the reply that the definitions give; so what a replay has
-// written is, at any moment, lawful output for the lines that it has read, and at most a part of the
-// next answer. Between two lines a collection may run, and arenas may be out: the reading loop keeps
-// their jobs beside the collector.
+// The collector of `slice_driver` stands for a world of the definitions, with the bits that are in flight (`Represents`
+// in its specs/). Each command takes a collector that stands for a world to one that stands for the world after it,
+// with the reply that the definitions give; so what a replay has written is, at any moment, lawful output for the lines
+// that it has read, and at most a part of the next answer.
 //
 //     gc 0 1         begin                            gc ok
 //     slice 2        unit  unit                       groups 0 | 1   slice 2
 //     set r0 0 -     command, with its barriers       ok
 //     finish         unit  unit  unit  ..  unit       ended ..   swept ..   done   slice K
 //
-// All units are done by `Collector::advance_over`, a step at a time: many units that report nothing, or
-// one that does. `MainSweeper` keeps the jobs of the arenas that are out; where one is due, it sweeps the
-// lowest (its white slots are those of its job, a word operation), and the collector takes it in. It is
-// also the flight in which barriers and marking read and wake their bits. A slice is as many units as it
-// is allowed, however steps cut them.
+// As a group ends its arenas are handed out, and helpers sweep them on a board while main goes on with units and lines.
+// The board is entered and left between two calls of the reading loop `go`, which stops where arenas were handed out,
+// where the last one came in, and where the replay is over. That may be in the middle of a line, so what is left of a
+// line is data (`Pending`), and all that `go` does is written over any arenas that are out (`Sweeping`):
 //
-// Why each report is lawful by itself: a failed write, or want of memory, ends the replay between two
-// reports, or within one. What was written then is the start of a lawful answer, since each unit is
-// lawful in the world that the units before it lead to. Memory is wanted only by a command that is not
-// refused. Whatever the exit, main takes in the arenas that are still out, and writes nothing of them.
+//     line       finish                                                   set r0 0 -   ..
+//     units      unit unit unit | unit unit swept | unit unit | ..
+//     over       no arena       | the board       | no arena  | a board
+//     go         HandsOut         LastIn            HandsOut
+//
+// All units are done by `Collector::advance`, a step at a time: many units that report nothing, or one that does. A
+// slice is as many units as it is allowed, however steps cut them.
+//
+// Why each report is lawful by itself: a failed write, or want of memory, ends the replay between two reports, or
+// within one. What was written then is the start of a lawful answer, since each unit is lawful in the world that the
+// units before it lead to. Memory is wanted only by a command that is not refused. Whatever the exit, the arenas that
+// lie on a board are taken from it, helpers' seats are joined and the board is closed, and nothing is written of it.
 #![tactic(auto)]
 
 mod answer;
-mod collect;
+mod begin;
 mod dump;
 mod dumps;
 mod exit;
+mod lines;
+mod machine;
+mod pending;
 mod reading;
-mod slices;
+mod session;
+mod storm;
 #[cfg(test)]
 mod tests;
+mod turns;
 
 pub use exit::Exit;
 pub use reading::replay;

@@ -1,22 +1,23 @@
-// The reading loop: read a line, answer it whole, go on.
-ghost use Rattle.std.specs.Prelude.{◌≡◌, ◌≢◌, ◌↔◌, ◌+◌, ◌<◌, [], Err, Contains, IfOk, OnOk, OnErr, IsTrue, ◌⊎◌};
-ghost use Rattle.std.specs.Prelude.{map};
-ghost use Rattle.std.specs.Io.KnownBytes.{Appends};
+// The whole replay: what the words ask for is done to its end.
+ghost use Rattle.std.specs.Prelude.{◌≡◌, ◌≢◌, ◌<◌, ℕ, [], IfOk, None, map, ◌⊎◌};
+ghost use Rattle.clap.specs.Words.{fault_of};
 ghost use Rattle.gz_io.specs.Causes.{Rose};
-ghost use Rattle.gz_names.specs.declared.commands.Cmd.{Cmd as TheCmd};
-ghost use Rattle.slice_driver.specs.Units.{flown_by};
-ghost use Rattle.trace_cli.specs.Answering.{CountsFaults};
-ghost use Rattle.trace_cli.specs.CommandLine.{ArePlain, IsCheck, IsSubcommand};
-ghost use Rattle.trace_cli.specs.Headline.{Replays, Completes, Checks, Concluded, WritesFront, WritesStart};
-ghost use Rattle.trace_cli.specs.Served.{IsBad, StandsFor};
-ghost use Rattle.trace_cli.specs.Standing.{EachWorld, AnswersLine, IsFirst, IsReady, StandsWith};
+ghost use Rattle.command_words.specs.Program.{gczone};
+ghost use Rattle.slice_driver.specs.Units.{none_flown};
+ghost use Rattle.trace_cli.specs.CommandLine.{ArePlain, IsCheck, IsStorm, IsStormOf};
+ghost use Rattle.trace_cli.specs.Headline.{Replays, Completes, Checks, Concluded};
+ghost use Rattle.trace_cli.specs.Storms.{Storms};
+ghost use Rattle.trace_cli.specs.Standing.{Entry, HasEnded, IsFirst, IsStanding, Standing};
 
-use crate::answer::{AnswerFault, answer_line};
-use crate::collect::take_rest;
 use crate::dumps::check_dump;
 use crate::exit::Exit;
-use colour_defs::{answer_law, valid_law};
-use gz_io::{Gate, LineReader, Next, Sink, Source};
+use crate::lines::end_so;
+use crate::machine::Machine;
+use crate::session::{Run, Session};
+use crate::storm::answer_storm;
+use colour_defs::valid_law;
+use command_words::{CommandLine, WordsFault, read_words};
+use gz_io::{Gate, LineReader, Sink, Source};
 use gz_names::NoMemory;
 use heap_core::Steps;
 use slice_driver::Collector;
@@ -25,142 +26,95 @@ use std::marker::Brand;
 use std::sync::Wait;
 use std::sync::ledger::{Blank, Ledger};
 use std::thread::Threads;
+use sweep_beside::{Works, sweep_beside};
 use sweeping::MainSweeper;
-use trace_lang::spelling_law;
-
-// Hands on what is held back, and ends so.
-pub fn end_so<K: Sink>(sink: &mut K, exit: Exit) -> Exit
-    ensures exit { (result ≡ exit) ⊎ (result ≡ Exit.WriteFault) }
-    ensures kept { Appends (K.written sink.old) (K.written sink.new) [] }
-    ensures cause { ((result ≡ exit) × (K.faults sink.new ≡ K.faults sink.old) × (K.behind sink.new ≡ 0))
-        ⊎ ((result ≡ Exit.WriteFault) × Rose (K.faults sink.old) (K.faults sink.new)) }
-{
-    match sink.flush() {
-        Ok(()) => exit,
-        Err(_) => Exit::WriteFault,
-    }
-}
-
-// Hands on what is held back where the next line has to be asked for.
-fn flush_before<K: Sink>(reader: &LineReader, sink: &mut K) -> Result<(), AnswerFault>
-    ensures kept { Appends (K.written sink.old) (K.written sink.new) [] }
-    ensures handed_on { OnOk result ((Contains reader.now.held 10 → ⊥) → K.behind sink.new ≡ 0) }
-    ensures faults { CountsFaults (K.faults sink.old) (K.faults sink.new) result }
-    ensures fault { OnErr result (result ≡ Err AnswerFault.Write) }
-{
-    if !reader.has_line() && sink.flush().is_err() {
-        return Err(AnswerFault::Write);
-    }
-    Ok(())
-}
-
-// The exit at a line that is too long or not of ASCII, after so many lines.
-fn refusal(answered: u64) -> Exit
-    requires { answered < 4294967296 }
-    ensures { ((answered ≡ 4294967295) × (result ≡ Exit.TooManyLines))
-        ⊎ ((answered < 4294967295) × (result ≡ Exit.BadLine (answered + 1))) }
-{
-    if answered == 4294967295 {
-        return Exit::TooManyLines;
-    }
-    Exit::BadLine(answered + 1)
-}
 
 // A new collector.
-fn first_collector(alloc: Global) -> Result<Collector, NoMemory>
+pub fn first_collector(alloc: Global) -> Result<Collector, NoMemory>
     ensures { IfOk result IsFirst }
 {
     valid_law();
     Collector::new(alloc)
 }
 
-// Does what a line says, after so many lines, and writes the answer.
-#[inline(always)]
-fn answer_next<K: Sink, L: Ledger>(
-    alloc: Global,
-    collector: &mut Collector,
-    handed: &mut MainSweeper,
-    _answered: u64,
-    line: &[u8],
-    sink: &mut K,
-    steps: &mut Steps<L>,
-) -> Result<(), AnswerFault>
-    requires { IsReady collector.old handed.old _answered }
-    ensures ok { OnOk result (AnswersLine line.now collector.old handed.old _answered
-        collector.new handed.new (K.written sink.old) (K.written sink.new)) }
-    ensures flight { StandsWith collector.new handed.new }
-    ensures bad { result ≡ Err AnswerFault.Bad → IsBad line.now × Appends (K.written sink.old) (K.written sink.new) [] }
-    ensures memory { result ≡ Err AnswerFault.Memory → (c : TheCmd) × StandsFor line.now c
-        × EachWorld collector.old (flown_by handed.old)
-        (λ w. WritesStart w c (K.written sink.old) (K.written sink.new)) }
-    ensures write { result ≡ Err AnswerFault.Write → (c : TheCmd) × StandsFor line.now c
-        × EachWorld collector.old (flown_by handed.old)
-        (λ w. WritesFront w c (K.written sink.old) (K.written sink.new)) }
-    ensures faults { CountsFaults (K.faults sink.old) (K.faults sink.new) result }
+/// A replay of a new collector, before its first line.
+pub fn first_run(collector: Collector) -> Run
+    requires { IsFirst collector }
+    ensures over { result.over ≡ None }
+    ensures handed { result.handed ≡ None }
+    ensures first { IsFirst result.machine.collector }
+    ensures reader { result.machine.reader.held ≡ [] }
+    ensures answered { result.machine.answered ≡ 0 }
+    ensures pending { result.machine.pending ≡ None }
 {
-    answer_line(alloc, collector, handed, line, sink, steps)
+    Run {
+        machine: Machine {
+            collector,
+            reader: LineReader::new(),
+            answered: 0,
+            pending: None,
+        },
+        handed: None,
+        over: None,
+    }
 }
 
-// Answers each line of a source, in order, on a new collector.
-fn answer_all<L: Ledger, S: Source, K: Sink>(
+/// Goes on until the replay is over: over no arenas, or beside the helpers that sweep those that were
+/// handed out.
+pub fn run_on<
+    R: Threads + Wait + Sync,
+    S: Source + Send,
+    K: Sink + Send,
+    G: Gate + Sync,
+    L: Ledger + Send,
+>(
+    rt: &R,
     alloc: Global,
-    collector: &mut Collector,
-    handed: &mut MainSweeper,
-    source: &mut S,
-    sink: &mut K,
-    steps: &mut Steps<L>,
+    helpers: usize,
+    gate: &G,
+    session: &mut Session<'_, '_, '_, '_, S, K, L>,
 ) -> Exit
-    requires first { IsFirst collector.old }
-    requires none { handed.old ≡ [] }
-    ensures lawful { Replays (S.left source.old) (S.left source.new) (K.written sink.old) (K.written sink.new) result }
-    ensures quiet { result ≡ Exit.Done → (S.faults source.new ≡ S.faults source.old)
-        × (K.faults sink.new ≡ K.faults sink.old) }
-    ensures handed_on { result ≡ Exit.Done → K.behind sink.new ≡ 0 }
-    ensures read { result ≡ Exit.ReadFault → Rose (S.faults source.old) (S.faults source.new) }
-    ensures write { result ≡ Exit.WriteFault → Rose (K.faults sink.old) (K.faults sink.new) }
-    ensures runs { result ≢ Exit.Usage }
-    ensures no_verdict { result ≢ Exit.Unsound }
-    ensures flight { StandsWith collector.new handed.new }
+    requires over { session.old.run.now.over ≡ None }
+    requires handed { session.old.run.now.handed ≡ None }
+    requires standing { IsStanding session.old.run.now.machine (S.left session.old.source.now)
+        (S.faults session.old.source.now) (K.written session.old.sink.now) (K.faults session.old.sink.now)
+        [] none_flown }
+    ensures run { session.new.run.ghost_name ≡ session.old.run.ghost_name }
+    ensures source { session.new.source.ghost_name ≡ session.old.source.ghost_name }
+    ensures sink { session.new.sink.ghost_name ≡ session.old.sink.ghost_name }
+    ensures steps { session.new.steps.ghost_name ≡ session.old.steps.ghost_name }
+    ensures ended { (e : Entry)
+        → Standing e session.old.run.now.machine (S.left session.old.source.now) (S.faults session.old.source.now)
+        (K.written session.old.sink.now) (K.faults session.old.sink.now) [] none_flown
+        → HasEnded e result session.new.run.now.machine (S.left session.new.source.now)
+        (S.faults session.new.source.now) (K.written session.new.sink.now) (K.faults session.new.sink.now)
+        (K.behind session.new.sink.now) }
 {
-    answer_law();
-    spelling_law();
-    let mut reader = LineReader::new();
-    for answered in 0..4294967296u64 {
-        if flush_before(&reader, sink).is_err() {
-            return Exit::WriteFault;
+    for _ in rt.forever() {
+        if let Some(exit) = session.run.over {
+            return exit;
         }
-        match reader.next(source) {
-            Next::ReadFault => return end_so(sink, Exit::ReadFault),
-            Next::End => return end_so(sink, Exit::Done),
-            Next::TooLong => return end_so(sink, refusal(answered)),
-            Next::NotAscii => return end_so(sink, refusal(answered)),
-            Next::Line(_) => {}
-        }
-        if answered == 4294967295 {
-            return end_so(sink, Exit::TooManyLines);
-        }
-        match answer_next(
-            alloc,
-            collector,
-            handed,
-            answered,
-            reader.line(),
-            sink,
-            steps,
-        ) {
-            Ok(()) => {}
-            Err(AnswerFault::Bad) => return end_so(sink, Exit::BadLine(answered + 1)),
-            Err(AnswerFault::Memory) => return end_so(sink, Exit::NoMemory),
-            Err(AnswerFault::Write) => return Exit::WriteFault,
+        match session.run.handed.take() {
+            Some(jobs) => sweep_beside(rt, alloc, jobs, helpers, gate, session),
+            None => session.run(&mut MainSweeper::new(alloc)),
         }
     }
-    Exit::TooManyLines
+    unreachable!()
 }
 
-// Answers each line of a source, in order. The steps of the answers are counted in a new ledger.
-// Whatever the exit, the arenas that are still handed to sweeping are taken in.
-fn answer_lines<L: Ledger, S: Source, K: Sink>(
+// Answers each line of a source, in order, beside so many helpers. The steps of the answers are counted
+// in a new ledger.
+fn answer_lines<
+    L: Ledger + Send,
+    R: Threads + Wait + Sync,
+    S: Source + Send,
+    K: Sink + Send,
+    G: Gate + Sync,
+>(
+    rt: &R,
     alloc: Global,
+    helpers: usize,
+    gate: &G,
     source: &mut S,
     sink: &mut K,
     blank: Blank,
@@ -177,27 +131,34 @@ fn answer_lines<L: Ledger, S: Source, K: Sink>(
     ensures runs { result ≢ Exit.Usage }
     ensures no_verdict { result ≢ Exit.Unsound }
 {
-    let Ok(mut collector) = first_collector(alloc) else {
+    let Ok(collector) = first_collector(alloc) else {
         return end_so(sink, Exit::NoMemory);
     };
     let mut steps = Steps::<L>::new(blank);
-    let mut handed = MainSweeper::new(alloc);
-    let exit = answer_all(alloc, &mut collector, &mut handed, source, sink, &mut steps);
-    take_rest(&mut collector, &mut handed);
-    exit
+    let mut run = first_run(collector);
+    let mut session = Session {
+        alloc,
+        run: &mut run,
+        source,
+        sink,
+        steps: &mut steps,
+    };
+    run_on(rt, alloc, helpers, gate, &mut session)
 }
 
 /// Replays a trace, or checks a dump of colours. The words are the command line's, the program's name first.
 pub fn replay<R: Threads + Wait + Sync, S: Source + Send, K: Sink + Send, G: Gate + Sync>(
-    _rt: &R,
+    rt: &R,
     alloc: Global,
     words: &[&str],
     source: &mut S,
     sink: &mut K,
-    _gate: &G,
+    gate: &G,
 ) -> Exit
-    ensures lawful { (IsCheck (map (λ w. w.now) words.now) → ⊥)
+    ensures lawful { (IsCheck (map (λ w. w.now) words.now) → ⊥) → (IsStorm (map (λ w. w.now) words.now) → ⊥)
         → Replays (S.left source.old) (S.left source.new) (K.written sink.old) (K.written sink.new) result }
+    ensures storm { (seed lines : ℕ) → IsStormOf (map (λ w. w.now) words.now) seed lines
+        → Storms seed lines (K.written sink.old) (K.written sink.new) result }
     ensures verdict { IsCheck (map (λ w. w.now) words.now)
         → Checks (S.left source.old) (K.written sink.old) (K.written sink.new) result }
     ensures quiet { (result ≡ Exit.Done) ⊎ (result ≡ Exit.Unsound) → (S.faults source.new ≡ S.faults source.old)
@@ -205,7 +166,10 @@ pub fn replay<R: Threads + Wait + Sync, S: Source + Send, K: Sink + Send, G: Gat
     ensures handed_on { (result ≡ Exit.Done) ⊎ (result ≡ Exit.Unsound) → K.behind sink.new ≡ 0 }
     ensures read { result ≡ Exit.ReadFault → Rose (S.faults source.old) (S.faults source.new) }
     ensures write { result ≡ Exit.WriteFault → Rose (K.faults sink.old) (K.faults sink.new) }
-    ensures usage { result ≡ Exit.Usage ↔ (ArePlain (map (λ w. w.now) words.now) → ⊥) }
+    ensures usage { result ≡ Exit.Usage → fault_of gczone (map (λ w. w.now) words.now) ≢ [] }
+    ensures refused { fault_of gczone (map (λ w. w.now) words.now) ≢ []
+        → (result ≡ Exit.Usage) ⊎ (result ≡ Exit.NoMemory) }
+    ensures plain { ArePlain (map (λ w. w.now) words.now) → result ≢ Exit.Usage }
     ensures untouched { result ≡ Exit.Usage → (source.new ≡ source.old) × (sink.new ≡ sink.old) }
     ensures complete { Completes (map (λ w. w.now) words.now) (S.left source.old) (S.faults source.old)
         (S.faults source.new) (K.faults sink.old) (K.faults sink.new) result }
@@ -213,18 +177,34 @@ pub fn replay<R: Threads + Wait + Sync, S: Source + Send, K: Sink + Send, G: Gat
         (S.faults source.new) (K.faults sink.old) (K.faults sink.new) result }
     ensures no_fault { result ≡ Exit.Unsound → IsCheck (map (λ w. w.now) words.now) }
 {
-    if has_word(words, "run") {
-        answer_lines::<Brand, S, K>(alloc, source, sink, Blank::new(1))
-    } else if has_word(words, "check") {
-        check_dump(alloc, source, sink)
-    } else {
-        Exit::Usage
+    match read_words(alloc, words) {
+        Ok(CommandLine::Run { helpers }) => answer_lines::<Brand, R, S, K, G>(
+            rt,
+            alloc,
+            usize::from(helpers),
+            gate,
+            source,
+            sink,
+            Blank::new(1),
+        ),
+        Ok(
+            CommandLine::Storm {
+                seed,
+                lines,
+                helpers,
+            },
+        ) => answer_storm::<Brand, R, K, G>(
+            rt,
+            alloc,
+            seed,
+            lines,
+            usize::from(helpers),
+            gate,
+            sink,
+            Blank::new(1),
+        ),
+        Ok(CommandLine::Check) => check_dump(alloc, source, sink),
+        Err(WordsFault::Usage) => Exit::Usage,
+        Err(WordsFault::NoMemory) => Exit::NoMemory,
     }
-}
-
-// Whether the words are the program's name and this one.
-fn has_word(words: &[&str], word: &str) -> bool
-    ensures { IsTrue result ↔ IsSubcommand word.now (map (λ w. w.now) words.now) }
-{
-    words.len() == 2 && *words[1] == *word
 }

@@ -1,0 +1,61 @@
+use Rattle.std.proofs.Common.{refl, sym, ◌∙◌}
+use Rattle.trace_cli.proofs.Handing.{none_stands, ran_handed, ran_none_out, ran_over, some_ascend, some_handed}
+use Rattle.trace_cli.proofs.Handing.{some_none}
+use Rattle.trace_cli.proofs.reading.run_on.Goals as goal
+
+pub loop-init : goal.loop-init
+loop-init g c = (
+  refl,
+  refl,
+  refl,
+  refl,
+  λ e s. ran_none_out _ _ e _ _ _ _ _ _ c.requires.over c.requires.handed s,
+)
+
+pub returns-in-Some-over-clause-ended : goal.returns-in-Some-over-clause-ended
+returns-in-Some-over-clause-ended g c =
+    λ e s. ran_over _ _ e _ _ _ _ _ _ (c.loop.invariant.4 e s) c.in-Some-over.exit c.in-Some-over.is
+
+pub sweep_beside-requires-clause-ascending : goal.sweep_beside-requires-clause-ascending
+sweep_beside-requires-clause-ascending g c = λ κs within. some_ascend _ _ _ _ _ _ _ _ _ _ _ _ _ c.loop.invariant.4
+    c.in-Some-take.jobs c.in_default.is (sym c.take.ensures.value ∙ c.in-Some-take.is) c.requires.standing
+
+pub sweep_beside-requires-clause-ready : goal.sweep_beside-requires-clause-ready
+sweep_beside-requires-clause-ready g c = λ κs within. (
+  c.in_default.is,
+  c.take.ensures.after,
+  some_handed _ _ _ _ _ _ _ _ _ _ _ _ _ c.loop.invariant.4 c.in-Some-take.jobs c.in_default.is
+      (sym c.take.ensures.value ∙ c.in-Some-take.is) c.requires.standing,
+)
+
+pub loop-preserved-in-Some-take : goal.loop-preserved-in-Some-take
+loop-preserved-in-Some-take g c =
+    let so = c.loop.invariant in
+    let ran = c.sweep_beside.ensures in (
+      ran.0 ∙ so.0,
+      ran.1 ∙ so.1,
+      ran.2 ∙ so.2,
+      ran.3 ∙ so.3,
+      λ e s. ran.4 e (ran_handed _ _ e _ _ _ _ _ _ (so.4 e s) c.in-Some-take.jobs c.in_default.is
+          (sym c.take.ensures.value ∙ c.in-Some-take.is)),
+    )
+
+pub run-requires : goal.run-requires
+run-requires g c = (
+  c.in_default.is,
+  c.take.ensures.after,
+  some_none _ _ _ _ _ _ _ _ _ _ _ _ _ c.loop.invariant.4 c.new.result c.in_default.is
+      (sym c.take.ensures.value ∙ c.in-None-take.is) c.new.ensures c.requires.standing,
+)
+
+pub loop-preserved : goal.loop-preserved
+loop-preserved g c =
+    let so = c.loop.invariant in
+    let ran = c.run.ensures.ran in (
+      ran.0 ∙ so.0,
+      ran.1 ∙ so.1,
+      ran.2 ∙ so.2,
+      ran.3 ∙ so.3,
+      λ e s. ran.4 e (none_stands _ _ e _ _ _ _ _ _ (so.4 e s) c.new.result c.in_default.is
+          (sym c.take.ensures.value ∙ c.in-None-take.is) c.new.ensures),
+    )

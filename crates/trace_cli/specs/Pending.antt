@@ -1,0 +1,36 @@
+-- What is left of a line that asks for units.
+use Rattle.std.specs.Prelude.{ℕ, ◌+◌, ◌-◌, ◌≤◌, ⊤}
+use Rattle.gz_names.specs.declared.replies.Reply.{Reply}
+use Rattle.gz_names.specs.declared.replies.Reply.TheVariants as reply
+use Rattle.trace_cli.specs.declared.pending.Pending.{Pending}
+use Rattle.trace_cli.specs.declared.pending.Pending.TheVariants as pending
+
+-- how many units it still asks for at most
+abbrev pub limit_of : Pending → ℕ
+limit_of pending.Collect = 18446744073709551615
+limit_of (pending.Slice left done) = left
+limit_of (pending.Finish done) = 18446744073709551615
+
+-- so many units more can be done for it
+abbrev pub Allows : Pending → ℕ → Type 0
+Allows pending.Collect n = ⊤
+Allows (pending.Slice left done) n = n ≤ left
+Allows (pending.Finish done) n = ⊤
+
+-- how many were counted
+abbrev pub done_of : Pending → ℕ
+done_of pending.Collect = 0
+done_of (pending.Slice left done) = done
+done_of (pending.Finish done) = done
+
+-- what is left after so many units more
+abbrev pub after : ℕ → Pending → Pending
+after n pending.Collect = pending.Collect
+after n (pending.Slice left done) = pending.Slice (left - n) (done + n)
+after n (pending.Finish done) = pending.Finish (done + n)
+
+-- the reply of the last line
+abbrev pub reply_of : Pending → Reply
+reply_of pending.Collect = reply.Collected
+reply_of (pending.Slice left done) = reply.Sliced done
+reply_of (pending.Finish done) = reply.Sliced done

@@ -1,0 +1,54 @@
+// What is left to be answered of a line.
+ghost use Rattle.std.specs.Prelude.{◌≡◌, ◌<◌, ◌≤◌, ◌+◌, ◌^◌};
+ghost use Rattle.trace_cli.specs.Pending.{after, done_of, limit_of, reply_of};
+
+use gz_names::Reply;
+
+/// What is left to be answered of a line that asks for units of a collection: these units, and its last line.
+#[derive(Clone, Copy, Debug, PartialEq, Eq)]
+pub enum Pending {
+    /// `collect`: units until the collection is over.
+    Collect,
+    /// `slice`: at most so many units more, after so many.
+    Slice { left: u64, done: u64 },
+    /// `finish`: units until the collection is over, after so many.
+    Finish { done: u64 },
+}
+
+impl Pending {
+    /// How many units it still asks for at most.
+    pub fn limit(&self) -> u64
+        ensures { result ≡ limit_of self.now }
+    {
+        match self {
+            Pending::Slice { left, done: _ } => *left,
+            Pending::Collect | Pending::Finish { done: _ } => u64::MAX,
+        }
+    }
+
+    /// Counts units that were done.
+    pub fn count(&mut self, units: u64)
+        requires most { units ≤ limit_of self.old }
+        requires small { done_of self.old + units < 2 ^ 64 }
+        ensures { self.new ≡ after units self.old }
+    {
+        match self {
+            Pending::Collect => {}
+            Pending::Slice { left, done } => {
+                *left -= units;
+                *done += units;
+            }
+            Pending::Finish { done } => *done += units,
+        }
+    }
+
+    /// The last line's reply.
+    pub fn reply(&self) -> Reply
+        ensures { result ≡ reply_of self.now }
+    {
+        match self {
+            Pending::Collect => Reply::Collected,
+            Pending::Slice { left: _, done } | Pending::Finish { done } => Reply::Sliced(*done),
+        }
+    }
+}

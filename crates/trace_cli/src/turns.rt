@@ -1,0 +1,169 @@
+// Units of a collection, each report written as it comes.
+ghost use Rattle.std.specs.Prelude.{◌≡◌, ◌≢◌, ◌<◌, ◌+◌, ◌^◌, ℕ, [], Err, IfOk, IsSome, None, Ok, OnErr, OnOk, true};
+ghost use Rattle.std.specs.Io.KnownBytes.{Appends};
+ghost use Rattle.gz_io.specs.Causes.{HasCause, AppendsFront};
+ghost use Rattle.sweeping.specs.ArenasOut.{AscendHanded, flying_after, outs_after};
+ghost use Rattle.slice_driver.specs.Advances.{told};
+ghost use Rattle.slice_driver.specs.Left.{units_left};
+ghost use Rattle.slice_driver.specs.Units.{reports_of};
+ghost use Rattle.trace_cli.specs.Answering.{CountsFaults};
+ghost use Rattle.trace_cli.specs.Headline.{report_lines};
+ghost use Rattle.trace_cli.specs.Pending.{Allows, done_of, limit_of};
+ghost use Rattle.trace_cli.specs.Standing.{MakesNone, StandsWith};
+ghost use Rattle.trace_cli.specs.Worlds.{EachWorld};
+ghost use Rattle.trace_cli.specs.Turns.{IsLeftBy, bits_in, out_in};
+ghost use Rattle.trace_cli.specs.Writing.{BreaksInUnits, Goes, StopsInUnits};
+
+use crate::answer::AnswerFault;
+use crate::pending::Pending;
+use arena_table::Jobs;
+use gz_io::{Sink, WriteFault};
+use gz_names::Report;
+use heap_core::Steps;
+use slice_driver::{Collector, Step};
+use std::alloc::Global;
+use std::sync::ledger::Ledger;
+use sweeping::Sweeping;
+use trace_lang::write_report;
+
+/// What units ask of the loop.
+#[derive(Drop)]
+pub enum Turn {
+    /// To go on.
+    More,
+    /// To go on without a board: the last arena was taken in.
+    LastIn,
+    /// To have these arenas swept.
+    HandsOut(Jobs),
+}
+
+// What a step asks of the loop, by whether an arena was out before it.
+fn turn_after<F: Sweeping>(some_out: bool, flight: &F, handed: Option<Jobs>) -> Turn
+    ensures bits { bits_in result (F.bits flight.now) ≡ flying_after handed (F.bits flight.now) }
+    ensures out { out_in result (F.left (F.origin flight.now)) ≡ outs_after handed (F.left (F.origin flight.now)) }
+    ensures by { AscendHanded handed → IsLeftBy result (F.left (F.origin flight.now)) (F.bits flight.now) }
+{
+    if let Some(jobs) = handed {
+        return Turn::HandsOut(jobs);
+    }
+    if some_out && flight.is_empty() {
+        return Turn::LastIn;
+    }
+    Turn::More
+}
+
+// Writes what a unit reports; the last one is followed by `done`.
+fn write_reports<K: Sink>(
+    sink: &mut K,
+    report: &Option<Report>,
+    finished: bool,
+) -> Result<(), WriteFault>
+    ensures ok { OnOk result (Appends (K.written sink.old) (K.written sink.new)
+        (report_lines (reports_of report.now finished))) }
+    ensures err { OnErr result (AppendsFront (K.written sink.old) (K.written sink.new)
+        (report_lines (reports_of report.now finished))) }
+    ensures cause { HasCause (K.faults sink.old) (K.faults sink.new) result }
+{
+    let Some(report) = report else {
+        return Ok(());
+    };
+    write_report(sink, report)?;
+    if finished {
+        write_report(sink, &Report::Done)?;
+    }
+    Ok(())
+}
+
+// Writes what a step tells.
+fn write_step<K: Sink>(sink: &mut K, report: &Option<Report>, step: &Step) -> Result<(), WriteFault>
+    ensures ok { OnOk result (Appends (K.written sink.old) (K.written sink.new)
+        (report_lines (told step.now report.now))) }
+    ensures err { OnErr result (AppendsFront (K.written sink.old) (K.written sink.new)
+        (report_lines (told step.now report.now))) }
+    ensures cause { HasCause (K.faults sink.old) (K.faults sink.new) result }
+{
+    if !step.reported {
+        return Ok(());
+    }
+    write_reports(sink, report, step.finished)
+}
+
+// Does a step of the collection that runs, as many units as are left at most, and writes what they
+// report. `report` is a place for a report, lent for as long as steps go on.
+fn answer_step<F: Sweeping, K: Sink, L: Ledger>(
+    alloc: Global,
+    collector: &mut Collector,
+    pending: &mut Pending,
+    flight: &mut F,
+    report: &mut Option<Report>,
+    sink: &mut K,
+    steps: &mut Steps<L>,
+) -> Result<Turn, AnswerFault>
+    requires flight { StandsWith collector.old (F.left (F.origin flight.old)) (F.bits flight.old) }
+    requires running { IsSome collector.old.run }
+    requires some { 0 < limit_of pending.old }
+    requires few { done_of pending.old + units_left collector.old (F.bits flight.old) < 2 ^ 64 }
+    ensures ok { IfOk result (λ turn. Goes collector.old (F.bits flight.old) pending.old collector.new
+        (bits_in turn (F.bits flight.new)) pending.new (K.written sink.old) (K.written sink.new)) }
+    ensures some { IfOk result (λ turn. units_left collector.new (bits_in turn (F.bits flight.new))
+        < units_left collector.old (F.bits flight.old)) }
+    ensures flight { IfOk result (λ turn. StandsWith collector.new
+        (out_in turn (F.left (F.origin flight.new))) (bits_in turn (F.bits flight.new))) }
+    ensures by { IfOk result (λ turn. IsLeftBy turn (F.left (F.origin flight.new)) (F.bits flight.new)) }
+    ensures home { F.home (F.origin flight.new) ≡ F.home (F.origin flight.old) }
+    ensures size { IfOk result (λ turn. MakesNone collector.old collector.new) }
+    ensures memory { result ≡ Err AnswerFault.Memory → Appends (K.written sink.old) (K.written sink.new) [] }
+    ensures write { result ≡ Err AnswerFault.Write → EachWorld collector.old (F.bits flight.old)
+        (λ w. (n : ℕ) × Allows pending.old n × BreaksInUnits w n (K.written sink.old) (K.written sink.new)) }
+    ensures good { result ≢ Err AnswerFault.Bad }
+    ensures faults { CountsFaults (K.faults sink.old) (K.faults sink.new) result }
+{
+    let some_out = !flight.is_empty();
+    let Ok(step) = collector.advance(alloc, pending.limit(), flight, report, steps) else {
+        return Err(AnswerFault::Memory);
+    };
+    pending.count(step.units);
+    match write_step(sink, report, &step) {
+        Ok(()) => Ok(turn_after(some_out, flight, step.handed)),
+        Err(_) => Err(AnswerFault::Write),
+    }
+}
+
+/// Does units of the line that is being answered, and writes their reports, until it has all that it
+/// asks for (`More`), the last arena is taken in, or arenas are to be swept.
+pub fn answer_units<F: Sweeping, K: Sink, L: Ledger>(
+    alloc: Global,
+    collector: &mut Collector,
+    pending: &mut Pending,
+    flight: &mut F,
+    sink: &mut K,
+    steps: &mut Steps<L>,
+) -> Result<Turn, AnswerFault>
+    requires flight { StandsWith collector.old (F.left (F.origin flight.old)) (F.bits flight.old) }
+    requires few { done_of pending.old + units_left collector.old (F.bits flight.old) < 2 ^ 64 }
+    ensures ok { IfOk result (λ turn. Goes collector.old (F.bits flight.old) pending.old collector.new
+        (bits_in turn (F.bits flight.new)) pending.new (K.written sink.old) (K.written sink.new)) }
+    ensures over { result ≡ Ok Turn.More → 0 < limit_of pending.new → collector.new.run ≡ None }
+    ensures flight { IfOk result (λ turn. StandsWith collector.new
+        (out_in turn (F.left (F.origin flight.new))) (bits_in turn (F.bits flight.new))) }
+    ensures by { IfOk result (λ turn. IsLeftBy turn (F.left (F.origin flight.new)) (F.bits flight.new)) }
+    ensures home { F.home (F.origin flight.new) ≡ F.home (F.origin flight.old) }
+    ensures size { IfOk result (λ turn. MakesNone collector.old collector.new) }
+    ensures memory { result ≡ Err AnswerFault.Memory → EachWorld collector.old (F.bits flight.old)
+        (λ w. (n : ℕ) × Allows pending.old n × StopsInUnits w n (K.written sink.old) (K.written sink.new)) }
+    ensures write { result ≡ Err AnswerFault.Write → EachWorld collector.old (F.bits flight.old)
+        (λ w. (n : ℕ) × Allows pending.old n × BreaksInUnits w n (K.written sink.old) (K.written sink.new)) }
+    ensures good { result ≢ Err AnswerFault.Bad }
+    ensures faults { CountsFaults (K.faults sink.old) (K.faults sink.new) result }
+{
+    let mut report = None;
+    while pending.limit() > 0 && collector.running() {
+        match answer_step(alloc, collector, pending, flight, &mut report, sink, steps) {
+            Ok(Turn::More) => {}
+            Ok(Turn::LastIn) => return Ok(Turn::LastIn),
+            Ok(Turn::HandsOut(jobs)) => return Ok(Turn::HandsOut(jobs)),
+            Err(fault) => return Err(fault),
+        }
+    }
+    Ok(Turn::More)
+}
