@@ -13,8 +13,8 @@ With --time: wall time, processor time and greatest memory of both programs at s
 take turns, and of three runs the quickest counts. Memory below that of this script, up to 25 MB, cannot be told. Say
 nothing of times but what one run on one machine shows.
 
-Both programs must write the same bytes, but for the number of a `slice`; where commands come between slices, the same
-replies. The exit status is 1 when they do not. valgrind and rustc must be there.
+gczone runs with `--helpers 0`. Both programs must write the same bytes, but for the number of a `slice`; where commands
+come between slices, the same replies. The exit status is 1 when they do not. valgrind and rustc must be there.
 """
 
 import argparse
@@ -34,6 +34,8 @@ TOP = Path(__file__).resolve().parent.parent
 BUILT = [TOP / "crates/gczone/out/gczone", TOP / "crates/trace_cli/out/trace_cli"]
 OPTIONS = ["--edition", "2024", "-C", "opt-level=3", "-C", "target-cpu=x86-64-v2"]
 TRIES = 3
+# gczone sweeps by itself here, as the plain Rust does, which has no helpers.
+WITHOUT_HELPERS = [("--helpers", "0"), ()]
 MEGABYTE = 1 << 20
 COLLECTION_LINE = re.compile(rb"(groups|ended|swept|done|slice|collected|gray|idle|running|marking|gc ok)\b")
 
@@ -55,9 +57,9 @@ def write_trace(path, lines):
     return count
 
 
-def count_instructions(program, trace, limit, word="run"):
+def count_instructions(program, trace, limit, word="run", more=()):
     """The instructions of a run, or None when it takes too long."""
-    command = ["valgrind", "--tool=callgrind", "--callgrind-out-file=/dev/null", program, word]
+    command = ["valgrind", "--tool=callgrind", "--callgrind-out-file=/dev/null", program, word, *more]
     try:
         with open(trace, "rb") as source:
             run = subprocess.run(
@@ -71,9 +73,9 @@ def count_instructions(program, trace, limit, word="run"):
     return int(counted[1])
 
 
-def run_once(program, trace, output=os.devnull, word="run"):
+def run_once(program, trace, output=os.devnull, word="run", more=()):
     """Wall seconds, processor seconds and the greatest resident bytes of a run."""
-    words = [str(program), word]
+    words = [str(program), word, *more]
     files = [
         (os.POSIX_SPAWN_OPEN, 0, str(trace), os.O_RDONLY, 0),
         (os.POSIX_SPAWN_OPEN, 1, str(output), os.O_WRONLY | os.O_CREAT | os.O_TRUNC, 0o600),
@@ -133,7 +135,10 @@ class Bench:
             self.differing.append(f"{name} at {scale:g}")
 
     def count(self):
-        return [count_instructions(program, self.trace, self.limit) for program in self.programs]
+        return [
+            count_instructions(program, self.trace, self.limit, more=more)
+            for program, more in zip(self.programs, WITHOUT_HELPERS)
+        ]
 
     def print_instructions(self, names, scales):
         print_head("family", "scale", "lines", "gczone", "plain Rust", "ratio")
@@ -151,7 +156,8 @@ class Bench:
 
     def quickest(self):
         """For each program the least of each figure; the programs take turns."""
-        runs = [[run_once(program, self.trace) for program in self.programs] for _ in range(TRIES)]
+        pairs = list(zip(self.programs, WITHOUT_HELPERS))
+        runs = [[run_once(program, self.trace, more=more) for program, more in pairs] for _ in range(TRIES)]
         return [tuple(map(min, zip(*of_one))) for of_one in zip(*runs)]
 
     def print_times(self, names, scale):
