@@ -1,5 +1,6 @@
 pub mod Reading
 pub mod Places
+pub mod Quads
 pub mod Queueing
 pub mod Seating
 pub mod Looks

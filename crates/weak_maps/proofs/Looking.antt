@@ -7,6 +7,7 @@ use Rattle.std.proofs.lemmas.Bool.{cases_eq, cases_lt}
 use Rattle.std.proofs.lemmas.List.{length-map}
 use Rattle.std.proofs.lemmas.Option.{slice_get_within, slice_get-map, get_or_from_slice_get, same_Some, IfSome_then}
 use Rattle.gz_names.specs.declared.numbers.Place.{Place}
+use Rattle.weak_maps.specs.Heads.{HeadsState}
 use Rattle.weak_maps.specs.Listings.{ListingState}
 use Rattle.weak_maps.specs.Seats.{entry_in, left_of, left_at, left_in, owners_of, AreSeated, NoMoreLeft, NoneIsLeft}
 use Rattle.weak_maps.specs.Seats.{LooksAt, IsQueueFor}
@@ -115,7 +116,7 @@ module _ (lists : List ListingState) (seats : List Seat) (seated : AreSeated lis
   looked-less = subst (λ ls. NoMoreLeft lists ls) (sym looks.new_is)
       (NoMoreLeft-set lists j l n looks.found (omega arith) refl)
 
-  pub looked-state : (heads : List (Place × ℕ))
+  pub looked-state : (heads : HeadsState)
       → state_of heads new seats ≡ record {
         heads = heads;
         lists = map (λ (k : ListingState). k.entries) lists;
@@ -147,7 +148,7 @@ if_none_then None p f = f p
 if_none_then (Some x) p f = tt
 
 -- after the next entry was looked for
-module _ (heads : List (Place × ℕ)) (lists : List ListingState) (seats : List Seat) (black gray : QueueState)
+module _ (heads : HeadsState) (lists : List ListingState) (seats : List Seat) (black gray : QueueState)
     (sound : IsSound heads lists seats black gray) (c : MarkColour) (r : Option ℕ) (new : List ListingState)
     (some : IfSome r (λ x. LooksAt c x lists new)) (none : IfNone r ((new ≡ lists) × NoneIsLeft c lists)) where
   next-lists : AreSeated new seats × NoMoreLeft lists new

@@ -3,13 +3,13 @@ use Rattle.std.proofs.Common.{◌≡◌, ◌≤◌, ◌+◌, ◌++◌, ◌∷◌
 use Rattle.std.proofs.Common.{Option, Some, None, length, map, take, drop, slice_get, Contains, unwrap_or, Result, Ok}
 use Rattle.std.proofs.Common.{Err, OnOk, OnErr, refl, sym, ◌∙◌, ap, subst, arith}
 use Rattle.std.specs.Option.{option_map, option_and_then}
-use Rattle.std.specs.Map.{lookup}
 use Rattle.std.proofs.Math.Seq.{take-append_seam}
 use Rattle.std.proofs.lemmas.List.{length-map}
 use Rattle.std.proofs.lemmas.Option.{slice_get-map, same_Some}
 use Rattle.std.proofs.lemmas.Result.{on_ok_weaker}
 use Rattle.gz_names.specs.declared.numbers.Place.{Place}
 use Rattle.weak_maps.specs.Places.{is_same}
+use Rattle.weak_maps.specs.Heads.{HeadsState, head_of}
 use Rattle.weak_maps.specs.Queues.{QueueState}
 use Rattle.weak_maps.specs.Listings.{ListingState}
 use Rattle.weak_maps.specs.Seats.{entry_in, left_at, left_in, owners_of, items_of, pushed, AreSeated, NoMoreLeft}
@@ -57,7 +57,7 @@ pub is_owner : (seats : List Seat) (x : ℕ) (s : Seat) → slice_get seats x �
     → slice_get (owners_of seats) x ≡ Some s.list
 is_owner seats x s h = slice_get-map (λ (t : Seat). t.list) seats x ∙ ap (option_map (λ (t : Seat). t.list)) h
 
-pub IsSide-from : (heads : List (Place × ℕ)) (lists : List ListingState) (seats : List Seat) (count : ℕ)
+pub IsSide-from : (heads : HeadsState) (lists : List ListingState) (seats : List Seat) (count : ℕ)
     → AreSeated lists seats → AreHeads heads count → IsSide (state_of heads lists seats)
 IsSide-from heads lists seats count seated are = record {
   owned = λ j i x h. is_owner seats x _ (seated.seated j i x (sym (entries_at-is lists j i) ∙ h));
@@ -74,18 +74,18 @@ IsSide-from heads lists seats count seated are = record {
   same = length-map seats (left_at lists) ∙ sym (length-map seats (λ (s : Seat). s.list));
 }
 
-pub IsSide-sound : (heads : List (Place × ℕ)) (lists : List ListingState) (seats : List Seat) (black gray : QueueState)
+pub IsSide-sound : (heads : HeadsState) (lists : List ListingState) (seats : List Seat) (black gray : QueueState)
     → IsSound heads lists seats black gray → IsSide (state_of heads lists seats)
 IsSide-sound heads lists seats black gray sound =
     IsSide-from heads lists seats (length lists) sound.seated sound.heads_are
 
-pub AreHeads-more : (heads : List (Place × ℕ)) (count more : ℕ) → count ≤ more → AreHeads heads count
+pub AreHeads-more : (heads : HeadsState) (count more : ℕ) → count ≤ more → AreHeads heads count
     → AreHeads heads more
 AreHeads-more heads count more le are =
     record { within = λ p j h. (let less = are.within p j h in omega (arith, less, le)); apart = are.apart }
 
 -- the lists and seats changed, and no more is left
-pub IsSound-less : (heads : List (Place × ℕ)) (lists new : List ListingState) (seats seats' : List Seat)
+pub IsSound-less : (heads : HeadsState) (lists new : List ListingState) (seats seats' : List Seat)
     (black gray : QueueState) → IsSound heads lists seats black gray → AreSeated new seats' → NoMoreLeft lists new
     → IsSound heads new seats' black gray
 IsSound-less heads lists new seats seats' black gray sound seated less = record {
@@ -97,7 +97,7 @@ IsSound-less heads lists new seats seats' black gray sound seated less = record 
 }
 
 -- the queues have more room
-pub IsSound-roomier : (heads : List (Place × ℕ)) (lists : List ListingState) (seats : List Seat)
+pub IsSound-roomier : (heads : HeadsState) (lists : List ListingState) (seats : List Seat)
     (black gray b g : QueueState) → b.waiting ≡ black.waiting → g.waiting ≡ gray.waiting → black.room ≤ b.room
     → gray.room ≤ g.room → IsSound heads lists seats black gray → IsSound heads lists seats b g
 IsSound-roomier heads lists seats black gray b g same same_too more more_too sound = record {
@@ -116,8 +116,8 @@ IsSound-roomier heads lists seats black gray b g same same_too more more_too sou
 }
 
 -- an entry came to a list that was there
-pub IsAdded-there : (heads : List (Place × ℕ)) (lists new : List ListingState) (seats seats' : List Seat) (p : Place)
-    (j : ℕ) → lookup (is_same p) heads ≡ Some j → Added lists new seats seats' j
+pub IsAdded-there : (heads : HeadsState) (lists new : List ListingState) (seats seats' : List Seat) (p : Place)
+    (j : ℕ) → head_of heads p ≡ Some j → Added lists new seats seats' j
     → IsAdded (state_of heads lists seats) p (state_of heads new seats')
 IsAdded-there heads lists new seats seats' p j found added = record {
   number = j;
@@ -129,27 +129,27 @@ IsAdded-there heads lists new seats seats' p j found added = record {
 }
   where
     by : (q : Place) (b : Bool) → is_same p q ≡ b
-        → lookup (is_same q) heads ≡ cond b (Some j) (lookup (is_same q) heads)
-    by q true e = ap (λ (r : Place). lookup (is_same r) heads) (sym (is_same-true p q e)) ∙ found
+        → head_of heads q ≡ cond b (Some j) (head_of heads q)
+    by q true e = ap (λ (r : Place). head_of heads r) (sym (is_same-true p q e)) ∙ found
     by q false e = refl
 
 -- the entries of a place that has a list
-pub listed-found : (heads : List (Place × ℕ)) (lists : List ListingState) (seats : List Seat) (p : Place) (j i : ℕ)
-    → lookup (is_same p) heads ≡ Some j → slice_get (listed (state_of heads lists seats) p) i ≡ entry_in lists j i
+pub listed-found : (heads : HeadsState) (lists : List ListingState) (seats : List Seat) (p : Place) (j i : ℕ)
+    → head_of heads p ≡ Some j → slice_get (listed (state_of heads lists seats) p) i ≡ entry_in lists j i
 listed-found heads lists seats p j i h =
     ap (λ o. slice_get (unwrap_or (option_map (entries_at (map (λ (l : ListingState). l.entries) lists)) o) []) i) h
     ∙ entries_at-is lists j i
 
-pub listed-none : (heads : List (Place × ℕ)) (lists : List ListingState) (seats : List Seat) (p : Place)
-    → lookup (is_same p) heads ≡ None → listed (state_of heads lists seats) p ≡ []
+pub listed-none : (heads : HeadsState) (lists : List ListingState) (seats : List Seat) (p : Place)
+    → head_of heads p ≡ None → listed (state_of heads lists seats) p ≡ []
 listed-none heads lists seats p h =
     ap (λ o. unwrap_or (option_map (entries_at (map (λ (l : ListingState). l.entries) lists)) o) []) h
 
 -- a list came, and an entry in it
-pub IsSound-new : (heads heads' : List (Place × ℕ)) (lists new : List ListingState) (seats seats' : List Seat)
+pub IsSound-new : (heads heads' : HeadsState) (lists new : List ListingState) (seats seats' : List Seat)
     (black gray b g : QueueState) (p : Place) (j : ℕ) → IsSound heads lists seats black gray → AreSeated new seats'
-    → NoneLeftInNew lists new → lookup (is_same p) heads ≡ None → j ≡ length lists
-    → ((q : Place) → lookup (is_same q) heads' ≡ cond (is_same p q) (Some j) (lookup (is_same q) heads))
+    → NoneLeftInNew lists new → head_of heads p ≡ None → j ≡ length lists
+    → ((q : Place) → head_of heads' q ≡ cond (is_same p q) (Some j) (head_of heads q))
     → b ≡ record { waiting = black.waiting; room = black.room + 1 }
     → g ≡ record { waiting = gray.waiting; room = gray.room + 1 } → IsSound heads' new seats' b g
 IsSound-new heads heads' lists new seats seats' black gray b g p j sound seated less none j_is updates b_is g_is =
@@ -180,18 +180,18 @@ IsSound-new heads heads' lists new seats seats' black gray b g p j sound seated 
           ap (λ (q : QueueState). q.room) g_is in omega (arith, held, room)) wide.gray_waits;
     }
   where
-    split : (q : Place) (k : ℕ) → lookup (is_same q) heads' ≡ Some k → ((p ≡ q) × (k ≡ j))
-        ⊎ ((is_same p q ≡ false) × (lookup (is_same q) heads ≡ Some k))
+    split : (q : Place) (k : ℕ) → head_of heads' q ≡ Some k → ((p ≡ q) × (k ≡ j))
+        ⊎ ((is_same p q ≡ false) × (head_of heads q ≡ Some k))
     split q k h = by (is_same p q) refl (sym (updates q) ∙ h)
       where
-        by : (b : Bool) → is_same p q ≡ b → cond b (Some j) (lookup (is_same q) heads) ≡ Some k → ((p ≡ q) × (k ≡ j))
-            ⊎ ((is_same p q ≡ false) × (lookup (is_same q) heads ≡ Some k))
+        by : (b : Bool) → is_same p q ≡ b → cond b (Some j) (head_of heads q) ≡ Some k → ((p ≡ q) × (k ≡ j))
+            ⊎ ((is_same p q ≡ false) × (head_of heads q ≡ Some k))
         by true e h = inl (is_same-true p q e, same_Some _ _ (sym h))
         by false e h = inr (e, h)
 
-pub IsAdded-new : (heads heads' : List (Place × ℕ)) (lists new : List ListingState) (seats seats' : List Seat)
-    (p : Place) (j : ℕ) → lookup (is_same p) heads ≡ None → j ≡ length lists
-    → ((q : Place) → lookup (is_same q) heads' ≡ cond (is_same p q) (Some j) (lookup (is_same q) heads))
+pub IsAdded-new : (heads heads' : HeadsState) (lists new : List ListingState) (seats seats' : List Seat)
+    (p : Place) (j : ℕ) → head_of heads p ≡ None → j ≡ length lists
+    → ((q : Place) → head_of heads' q ≡ cond (is_same p q) (Some j) (head_of heads q))
     → owners_of seats' ≡ owners_of seats ++ length lists ∷ [] → left_in new seats' ≡ left_in lists seats ++ None ∷ []
     → items_of new ≡ pushed (items_of lists) (length lists) (length seats)
     → IsAdded (state_of heads lists seats) p (state_of heads' new seats')
@@ -205,7 +205,7 @@ IsAdded-new heads heads' lists new seats seats' p j none j_is updates owners lef
 }
 
 -- what an entry that came to a list, or wanted memory, leaves
-module _ {T E : Type 0} (r : Result T E) (heads : List (Place × ℕ)) (lists new : List ListingState)
+module _ {T E : Type 0} (r : Result T E) (heads : HeadsState) (lists new : List ListingState)
     (seats seats' : List Seat) (black gray : QueueState) (sound : IsSound heads lists seats black gray)
     (seated : OnOk r (AreSeated new seats')) (looks : OnOk r (NoMoreLeft lists new))
     (err : OnErr r ((new ≡ lists) × (seats' ≡ seats))) where
@@ -222,7 +222,7 @@ module _ {T E : Type 0} (r : Result T E) (heads : List (Place × ℕ)) (lists ne
   adds-side = on_ok_weaker r
       (λ (s : AreSeated new seats'). IsSide-from heads new seats' (length new) s adds-sound.heads_are) seated
 
-  pub adds-added : (p : Place) (j : ℕ) → lookup (is_same p) heads ≡ Some j
+  pub adds-added : (p : Place) (j : ℕ) → head_of heads p ≡ Some j
       → OnOk r (left_in new seats' ≡ left_in lists seats ++ None ∷ [])
       → OnOk r (owners_of seats' ≡ owners_of seats ++ j ∷ [])
       → OnOk r (items_of new ≡ pushed (items_of lists) j (length seats))

@@ -8,6 +8,7 @@ use Rattle.std.proofs.lemmas.Option.{slice_get_within, slice_get-map, slice_get-
 use Rattle.std.proofs.lemmas.Option.{same_Some}
 use Rattle.std.proofs.lemmas.List.{length-map}
 use Rattle.gz_names.specs.declared.numbers.Place.{Place}
+use Rattle.weak_maps.specs.Heads.{HeadsState}
 use Rattle.weak_maps.specs.Queues.{QueueState}
 use Rattle.weak_maps.specs.Listings.{ListingState, started, stronger}
 use Rattle.weak_maps.specs.Seats.{entry_in, left_of, left_at, left_in, owners_of, AreSeated, IsQueueFor}
@@ -179,7 +180,7 @@ module _ (lists : List ListingState) (seats : List Seat) (seated : AreSeated lis
     room = (let held = serves.room in let sized = length-set lists j n in omega (arith, held, sized));
   }
 
-  module _ (heads : List (Place × ℕ)) (black gray : QueueState) (sound : IsSound heads lists seats black gray) where
+  module _ (heads : HeadsState) (black gray : QueueState) (sound : IsSound heads lists seats black gray) where
     heads_now : AreHeads heads (length (set lists j n))
     heads_now = AreHeads-more heads (length lists) (length (set lists j n)) (omega (arith, length-set lists j n))
         sound.heads_are

@@ -7,6 +7,7 @@ use Rattle.std.proofs.lemmas.Bool.{cases_lt}
 use Rattle.std.proofs.lemmas.List.{length-map}
 use Rattle.std.proofs.lemmas.Option.{slice_get-map, slice_get_past, same_Some}
 use Rattle.gz_names.specs.declared.numbers.Place.{Place}
+use Rattle.weak_maps.specs.Heads.{HeadsState}
 use Rattle.weak_maps.specs.Listings.{ListingState}
 use Rattle.weak_maps.specs.Seats.{items_of, pushed, left_at, left_of, left_in, owners_of, AreOthersSeated, AreSeated}
 use Rattle.weak_maps.specs.Seats.{IsAtEnd, KeepsOthers, NoMoreLeft}
@@ -121,7 +122,7 @@ items_of-set [] j n = refl
 items_of-set (l ∷ ls) zero n = refl
 items_of-set (l ∷ ls) (suc j) n = ap (λ rest. l.entries ∷ rest) (items_of-set ls j n)
 
-module _ (before : SideState) (p : Place) (heads : List (Place × ℕ)) (lists : List ListingState) (seats : List Seat)
+module _ (before : SideState) (p : Place) (heads : HeadsState) (lists : List ListingState) (seats : List Seat)
     (seated : AreSeated lists seats) (added : IsAdded before p (state_of heads lists seats)) where
   abbrev x : ℕ
   x = length before.owners

@@ -2,7 +2,7 @@
 use Rattle.std.specs.Prelude.{◌≡◌, ◌≢◌, ◌<◌, ◌⊎◌, ◌++◌, ◌∷◌, [], ℕ, List, length, slice_get, Option, Some, None}
 use Rattle.std.specs.Prelude.{Contains, unwrap_or, if◌then◌else◌}
 use Rattle.std.specs.Option.{option_map}
-use Rattle.std.specs.Map.{lookup}
+use Rattle.weak_maps.specs.Heads.{HeadsState, head_of}
 use Rattle.gz_names.specs.declared.numbers.Place.{Place}
 use Rattle.weak_maps.specs.Places.{is_same}
 use Rattle.weak_maps.specs.Queues.{QueueState}
@@ -15,18 +15,18 @@ use Rattle.weak_maps.specs.declared.seats.Seat.{Seat}
 -- the number of each place's list, and its entries; the number of each entry's list, and in which colour it is still to
 -- be looked at there
 pub record SideState : Type 0 where
-  pub heads : List (Place × ℕ)
+  pub heads : HeadsState
   pub lists : List (List ℕ)
   pub owners : List ℕ
   pub left : List (Option MarkColour)
 
 -- as the lists and seats tell it
-abbrev pub state_of : List (Place × ℕ) → List ListingState → List Seat → SideState
+abbrev pub state_of : HeadsState → List ListingState → List Seat → SideState
 state_of heads lists seats =
     record { heads = heads; lists = items_of lists; owners = owners_of seats; left = left_in lists seats }
 
 abbrev pub number_of : SideState → Place → Option ℕ
-number_of s p = lookup (is_same p) s.heads
+number_of s p = head_of s.heads p
 
 -- the entries of a list
 abbrev pub entries_at : List (List ℕ) → ℕ → List ℕ
@@ -52,12 +52,12 @@ pub record IsSide (s : SideState) : Type 0 where
   pub same : length s.left ≡ length s.owners
 
 -- the places have different lists
-pub record AreHeads (heads : List (Place × ℕ)) (count : ℕ) : Type 0 where
-  pub within : (p : Place) (j : ℕ) → lookup (is_same p) heads ≡ Some j → j < count
-  pub apart : (p q : Place) (j : ℕ) → lookup (is_same p) heads ≡ Some j → lookup (is_same q) heads ≡ Some j → p ≡ q
+pub record AreHeads (heads : HeadsState) (count : ℕ) : Type 0 where
+  pub within : (p : Place) (j : ℕ) → head_of heads p ≡ Some j → j < count
+  pub apart : (p q : Place) (j : ℕ) → head_of heads p ≡ Some j → head_of heads q ≡ Some j → p ≡ q
 
 -- what always holds
-pub record IsSound (heads : List (Place × ℕ)) (lists : List ListingState) (seats : List Seat)
+pub record IsSound (heads : HeadsState) (lists : List ListingState) (seats : List Seat)
     (black gray : QueueState) : Type 0 where
   pub seated : AreSeated lists seats
   pub heads_are : AreHeads heads (length lists)

@@ -58,11 +58,13 @@
 //     listings   the entries of one place, and how many of them are still to be looked at
 //     queues     the lists that wait
 //     seats      where each entry stands in the lists of one side
+//     heads      the number of the list of each place
 //     sides      the entries by their maps, or by their keys
 //     tables     the entries
 #![tactic(auto)]
 
 mod colours;
+mod heads;
 mod listings;
 mod numbers;
 mod queues;

@@ -4,19 +4,19 @@ ghost use Rattle.std.specs.Prelude.{slice_get, slice_set, swap_remove};
 ghost use Rattle.weak_maps.specs.Sides.{IsAdded, IsSide, IsUndone, Starts, WasAdded, listed, number_of};
 
 use crate::colours::MarkColour;
+use crate::heads::Heads;
 use crate::listings::Listing;
 use crate::queues::Queue;
 use crate::seats::{Seat, add_entry, add_first, next_left, take_entry, undo_add};
 use gz_names::{NoMemory, Place};
 use std::alloc::{AllocError, Global};
-use std::collections::HashMap;
 use std::marker::Model;
 
 /// The entries of each place, and which of them are still to be looked at.
 #[derive(Drop)]
 pub(crate) struct Side {
     // The number of each place's list.
-    heads: HashMap<Place, u32>,
+    heads: Heads,
     lists: Vec<Listing>,
     // Where each entry stands.
     seats: Vec<Seat>,
@@ -30,9 +30,9 @@ impl Model for Side {
 
     ghost Value = { SideState };
 
-    ghost view = { λ s. state_of s.heads.entries s.lists.items s.seats.items };
+    ghost view = { λ s. state_of s.heads s.lists.items s.seats.items };
 
-    ghost invariant = { λ s. IsSound s.heads.entries s.lists.items s.seats.items s.black s.gray };
+    ghost invariant = { λ s. IsSound s.heads s.lists.items s.seats.items s.black s.gray };
 }
 
 impl Side {
@@ -44,7 +44,7 @@ impl Side {
         ensures side { IsSide result }
     {
         Side {
-            heads: HashMap::new(alloc),
+            heads: Heads::new(alloc),
             lists: Vec::new(alloc),
             seats: Vec::new(alloc),
             black: Queue::new(alloc),
@@ -58,8 +58,8 @@ impl Side {
         ensures few { IfSome result (λ _. index < 4294967295) }
         ensures side { IsSide self.now }
     {
-        let list = self.heads.get(&place)?;
-        self.lists[*list as usize].get(index)
+        let list = self.heads.get(place)?;
+        self.lists[list as usize].get(index)
     }
 
     /// An entry of a place comes, with the next number. It is not to be looked at.
@@ -68,7 +68,7 @@ impl Side {
         ensures side { OnOk result (IsSide self.new) }
         ensures err { OnErr result (self.new ≡ self.old) }
     {
-        match self.heads.get(&place).copied() {
+        match self.heads.get(place) {
             Some(list) => add_entry(&mut self.lists, &mut self.seats, list),
             None => self.add_list(place),
         }
@@ -125,7 +125,7 @@ impl Side {
             self.new.left }
         ensures side { IsSide self.new }
     {
-        let Some(list) = self.heads.get(&place).copied() else {
+        let Some(list) = self.heads.get(place) else {
             return;
         };
         let listing = &mut self.lists[list as usize];

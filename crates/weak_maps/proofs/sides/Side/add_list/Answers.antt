@@ -12,7 +12,7 @@ roomier q r h = (let room = ap (λ (s : QueueState). s.room) h in omega (arith, 
 pub invariant_of-self-in_err-grow-2 : goal.invariant_of-self-in_err-grow-2
 invariant_of-self-in_err-grow-2 c =
     rw (c.reserve.ensures.items, c.reserve-2.ensures.items)
-    (IsSound-roomier c.self.inside.heads.entries c.self.inside.lists.items c.self.inside.seats.items
+    (IsSound-roomier c.self.inside.heads c.self.inside.lists.items c.self.inside.seats.items
     c.self.inside.black c.self.inside.gray c.grow.new.self c.grow-2.new.self
     (waits c.grow.new.self c.self.inside.black c.in_ok-grow.ensures.ok)
     (ap (λ (s : QueueState). s.waiting) c.in_err-grow-2.ensures.err)
@@ -23,7 +23,7 @@ invariant_of-self-in_err-grow-2 c =
 pub invariant_of-self-in_err-push : goal.invariant_of-self-in_err-push
 invariant_of-self-in_err-push c =
     rw (c.reserve.ensures.items, c.reserve-2.ensures.items)
-    (IsSound-roomier c.self.inside.heads.entries c.self.inside.lists.items c.self.inside.seats.items
+    (IsSound-roomier c.self.inside.heads c.self.inside.lists.items c.self.inside.seats.items
     c.self.inside.black c.self.inside.gray c.grow.new.self c.grow-2.new.self
     (waits c.grow.new.self c.self.inside.black c.in_ok-grow.ensures.ok)
     (waits c.grow-2.new.self c.self.inside.gray c.in_ok-grow-2.ensures.ok)
@@ -33,7 +33,7 @@ invariant_of-self-in_err-push c =
 pub invariant_of-self-in_err-insert : goal.invariant_of-self-in_err-insert
 invariant_of-self-in_err-insert c =
     rw (c.in_err-insert.ensures.err, c.reserve.ensures.items, c.reserve-2.ensures.items)
-    (IsSound-roomier c.self.inside.heads.entries c.self.inside.lists.items c.self.inside.seats.items
+    (IsSound-roomier c.self.inside.heads c.self.inside.lists.items c.self.inside.seats.items
     c.self.inside.black c.self.inside.gray c.grow.new.self c.grow-2.new.self
     (waits c.grow.new.self c.self.inside.black c.in_ok-grow.ensures.ok)
     (waits c.grow-2.new.self c.self.inside.gray c.in_ok-grow-2.ensures.ok)
@@ -44,11 +44,11 @@ pub invariant_of-self-2 : goal.invariant_of-self-2
 invariant_of-self-2 c =
     let j_is : c.len-3.result ≡ length c.self.inside.lists.items =
     (let same = ap length c.reserve.ensures.items in omega (arith, same)) in
-    IsSound-new c.self.inside.heads.entries c.insert.new.self.entries c.self.inside.lists.items
+    IsSound-new c.self.inside.heads c.insert.new.self c.self.inside.lists.items
     c.add_first.new.lists.items c.self.inside.seats.items c.add_first.new.seats.items c.self.inside.black
     c.self.inside.gray c.grow.new.self c.grow-2.new.self c.args.place c.len-3.result c.self.invariant
     c.add_first.ensures.seated (rw c.reserve.ensures.items at c.add_first.ensures.looks)
-    (rw (← c.self.view_is) at c.requires.new) j_is c.in_ok-insert.ensures.updates.0 c.in_ok-grow.ensures.ok
+    (rw (← c.self.view_is) at c.requires.new) j_is c.in_ok-insert.ensures.ok c.in_ok-grow.ensures.ok
     c.in_ok-grow-2.ensures.ok
 
 pub returns-clause-added : goal.returns-clause-added
@@ -56,9 +56,9 @@ returns-clause-added c =
     let j_is : c.len-3.result ≡ length c.self.inside.lists.items =
     (let same = ap length c.reserve.ensures.items in omega (arith, same)) in
     rw (← c.self.view_is)
-    (IsAdded-new c.self.inside.heads.entries c.insert.new.self.entries c.self.inside.lists.items
+    (IsAdded-new c.self.inside.heads c.insert.new.self c.self.inside.lists.items
     c.add_first.new.lists.items c.self.inside.seats.items c.add_first.new.seats.items c.args.place c.len-3.result
-    (rw (← c.self.view_is) at c.requires.new) j_is c.in_ok-insert.ensures.updates.0
+    (rw (← c.self.view_is) at c.requires.new) j_is c.in_ok-insert.ensures.ok
     (rw (c.reserve.ensures.items, c.reserve-2.ensures.items) at c.add_first.ensures.owners)
     (rw (c.reserve.ensures.items, c.reserve-2.ensures.items) at c.add_first.ensures.left)
     (rw (c.reserve.ensures.items, c.reserve-2.ensures.items) at c.add_first.ensures.lists))
@@ -67,10 +67,10 @@ pub returns-clause-side : goal.returns-clause-side
 returns-clause-side c =
     let j_is : c.len-3.result ≡ length c.self.inside.lists.items =
     (let same = ap length c.reserve.ensures.items in omega (arith, same)) in
-    IsSide-sound c.insert.new.self.entries c.add_first.new.lists.items c.add_first.new.seats.items c.grow.new.self
-    c.grow-2.new.self (IsSound-new c.self.inside.heads.entries c.insert.new.self.entries c.self.inside.lists.items
+    IsSide-sound c.insert.new.self c.add_first.new.lists.items c.add_first.new.seats.items c.grow.new.self
+    c.grow-2.new.self (IsSound-new c.self.inside.heads c.insert.new.self c.self.inside.lists.items
     c.add_first.new.lists.items c.self.inside.seats.items c.add_first.new.seats.items c.self.inside.black
     c.self.inside.gray c.grow.new.self c.grow-2.new.self c.args.place c.len-3.result c.self.invariant
     c.add_first.ensures.seated (rw c.reserve.ensures.items at c.add_first.ensures.looks)
-    (rw (← c.self.view_is) at c.requires.new) j_is c.in_ok-insert.ensures.updates.0 c.in_ok-grow.ensures.ok
+    (rw (← c.self.view_is) at c.requires.new) j_is c.in_ok-insert.ensures.ok c.in_ok-grow.ensures.ok
     c.in_ok-grow-2.ensures.ok)

@@ -7,7 +7,7 @@ pub invariant_of-self : goal.invariant_of-self
 invariant_of-self c =
     let whole = take_whole (vec_len c.self.inside.lists) c.take_entry.new.lists c.self.inside.lists.items
     (c.take_entry.auto.lists ∙ ap length c.deref_mut.ensures.value) (omega arith) in
-    rw whole (IsSound-less c.self.inside.heads.entries c.self.inside.lists.items c.take_entry.new.lists
+    rw whole (IsSound-less c.self.inside.heads c.self.inside.lists.items c.take_entry.new.lists
     c.self.inside.seats.items c.take_entry.new.seats.items c.self.inside.black c.self.inside.gray c.self.invariant
     c.take_entry.ensures.seated (rw c.deref_mut.ensures.value at c.take_entry.ensures.looks))
 
@@ -21,8 +21,8 @@ pub returns-clause-side : goal.returns-clause-side
 returns-clause-side c =
     let whole = take_whole (vec_len c.self.inside.lists) c.take_entry.new.lists c.self.inside.lists.items
     (c.take_entry.auto.lists ∙ ap length c.deref_mut.ensures.value) (omega arith) in
-    rw whole (IsSide-sound c.self.inside.heads.entries c.take_entry.new.lists c.take_entry.new.seats.items
+    rw whole (IsSide-sound c.self.inside.heads c.take_entry.new.lists c.take_entry.new.seats.items
     c.self.inside.black c.self.inside.gray
-    (IsSound-less c.self.inside.heads.entries c.self.inside.lists.items c.take_entry.new.lists
+    (IsSound-less c.self.inside.heads c.self.inside.lists.items c.take_entry.new.lists
     c.self.inside.seats.items c.take_entry.new.seats.items c.self.inside.black c.self.inside.gray c.self.invariant
     c.take_entry.ensures.seated (rw c.deref_mut.ensures.value at c.take_entry.ensures.looks)))
