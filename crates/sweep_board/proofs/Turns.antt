@@ -104,7 +104,8 @@ module _ (old new : List ℕ) (i : ℕ) (away : (a : ℕ) → a ≢ i → Same o
     passed_on xs h = All-weaker (λ a. 0 < state_at old a) (λ a. 0 < state_at new a) (λ a was. let r = raised a in
         omega arith) xs h
 
-    pub done_on : state_at new i ≤ 2 → (xs : List ℕ) → All (λ a. state_at old a ≡ 2) xs → All (λ a. state_at new a ≡ 2) xs
+    pub done_on : state_at new i ≤ 2 → (xs : List ℕ) → All (λ a. state_at old a ≡ 2) xs
+        → All (λ a. state_at new a ≡ 2) xs
     done_on low xs h = All-weaker (λ a. state_at old a ≡ 2) (λ a. state_at new a ≡ 2) (stays_done low) xs h
 
 module _ (jobs : List Job) (s : State (Unit {0}) View) (new : List ℕ) (i id : ℕ) (v w : View) (k : BoardRule jobs s)

@@ -20,7 +20,8 @@ loop-arena-smaller c = rest-shorter_now (with_bits no_bits) c.loop-arena.store.a
 pub loop-arena-preserved : goal.loop-arena-preserved
 loop-arena-preserved c = (
   IsChanging-next (with_bits no_bits) c.args.store.now.arenas c.loop-arena.store.arenas c.set_bits.new.self.arenas
-      c.args.index.now.owned c.args.zones.bits c.loop-arena.walk c.next.new.self c.in-Some.arena c.loop-arena.invariant.0
+      c.args.index.now.owned c.args.zones.bits c.loop-arena.walk c.next.new.self c.in-Some.arena
+      c.loop-arena.invariant.0
       (λ x. refl) (c.in-Some.ensures.some _ c.loop-arena.invariant.0.owned) c.in-Some.ensures.below
       c.set_bits.ensures.arenas,
   c.set_bits.ensures.room ∙ c.loop-arena.invariant.1,
