@@ -222,7 +222,11 @@ given_up_lawful how = (
         (
           w4,
           (refl, (refl, refl)),
-          (w5, (refl, (refl, refl)), (begun_world how (prepared w5) u0, begun how, (w6, stopped how, (w6, told, refl)))),
+          (
+            w5,
+            (refl, (refl, refl)),
+            (begun_world how (prepared w5) u0, begun how, (w6, stopped how, (w6, told, refl))),
+          ),
         ),
       ),
     ),

@@ -9,6 +9,7 @@ pub mod Carried
 pub mod ValidCommands
 pub mod ValidEnds
 pub mod ValidReports
+pub mod Tallies
 pub mod ValidWeak
 pub mod ValidCompaction
 pub mod ValidRuns

@@ -1,6 +1,6 @@
 -- Made and dropped while marking: the answers are lawful.
-use Rattle.std.proofs.Common.{◌≡◌, ℕ, zero, suc, ◌+◌, inl, inr, [], ◌∷◌, ◌++◌, refl, sym, ap, subst, ◌∙◌, arith, Some}
-use Rattle.std.proofs.Common.{None, is_some}
+use Rattle.std.proofs.Common.{◌≡◌, ℕ, zero, suc, ◌+◌, ◌≤◌, inl, inr, [], ◌∷◌, ◌++◌, refl, sym, ap, subst, ◌∙◌, arith}
+use Rattle.std.proofs.Common.{Some, None, is_some}
 use Rattle.std.specs.FinSet as set
 use Rattle.std.specs.FinMap as map
 use Rattle.gz_names.specs.declared.names.Name.{Name}
@@ -12,6 +12,7 @@ use Rattle.gz_names.specs.declared.replies.Report.TheVariants.{Started, Groups, 
 use Rattle.colour_defs.specs.Graph.{IsInZones}
 use Rattle.colour_defs.specs.Closure.{HasEdge, from}
 use Rattle.colour_defs.specs.Step.{step_of}
+use Rattle.colour_defs.specs.Units.{unit_limit}
 use Rattle.colour_defs.specs.World.{World, Collection, first_preparation, Has, IsPresent, BlackClosure, LiveClosure}
 use Rattle.colour_defs.specs.World.{first_tally, no_weak_names}
 use Rattle.colour_defs.specs.Ends.{IsLawfulEnd, IsWhiteOf}
@@ -195,9 +196,12 @@ module _ (n : ℕ) where
     );
   }
 
-  finished : Answers u3 Finish (Groups (only_zone_0 ∷ []) ∷ Ended only_zone_0 [] [] ∷ Swept 0 [] ∷ Done ∷ [])
+  few_units : n ≤ 1 → k2.tally.spent + 3 ≤ unit_limit k2.tally + 1
+  few_units few = omega (arith, few)
+
+  finished : n ≤ 1 → Answers u3 Finish (Groups (only_zone_0 ∷ []) ∷ Ended only_zone_0 [] [] ∷ Swept 0 [] ∷ Done ∷ [])
       (reply.Sliced 3) u7
-  finished = inl (
+  finished few = inl (
     3,
     refl,
     record {
@@ -220,6 +224,9 @@ module _ (n : ℕ) where
       number = refl;
       reports_are = refl;
       world_is = refl;
+      tally = k2.tally;
+      tally_is = inl (k2, refl, refl);
+      within = few_units few;
     },
     record { none_running = refl; none_preparing = refl },
   )
@@ -238,6 +245,16 @@ module _ (n : ℕ) where
       (garbage_units 1 no_weak_names no_weak_names [] (loses_nothing _ _ refl refl))
       (record { none_running = refl; none_preparing = refl })
 
+one_unit : k0.tally.spent + 1 ≤ unit_limit k0.tally + 0
+one_unit = omega arith
+
+no_unit : k0.tally.spent + 0 ≤ unit_limit k0.tally + 0
+no_unit = omega arith
+
+few_to_start : (how : Beginning) → units_to_start how ≤ 1
+few_to_start by_units = omega arith
+few_to_start at_once = omega arith
+
 first_slice : (how : Beginning)
     → AnswersBy how (begun_world how (prepared w2) u0) (Slice (units_to_start how)) (started how)
     (reply.Sliced (units_to_start how)) (u1 (units_to_start how))
@@ -252,6 +269,9 @@ first_slice by_units = inl (
     number = refl;
     reports_are = refl;
     world_is = refl;
+    tally = k0.tally;
+    tally_is = inr (first_preparation w2 (0 ∷ []), refl, refl);
+    within = one_unit;
   },
   omega arith,
   λ h. absurd (omega arith),
@@ -267,6 +287,9 @@ first_slice at_once = inl (
     number = refl;
     reports_are = refl;
     world_is = refl;
+    tally = k0.tally;
+    tally_is = inl (k0, refl, refl);
+    within = no_unit;
   },
   omega arith,
   λ h. absurd (omega arith),
@@ -298,7 +321,15 @@ made_while_marking_lawful how = let n = units_to_start how in (
         (
           u1 n,
           first_slice how,
-          (u2 n, made n, (u3 n, (refl, (refl, refl)), (u7 n, finished n, (freed, collected n how, refl)))),
+          (
+            u2 n,
+            made n,
+            (
+              u3 n,
+              (refl, (refl, refl)),
+              (u7 n, finished n (few_to_start how), (freed, collected n how, refl)),
+            ),
+          ),
         ),
       ),
     ),

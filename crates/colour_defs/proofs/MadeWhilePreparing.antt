@@ -1,6 +1,6 @@
 -- Made and dropped while its zone is prepared: the answers are lawful, and are not without the freed cell.
-use Rattle.std.proofs.Common.{◌≡◌, ℕ, zero, suc, inl, inr, List, [], ◌∷◌, true, refl, sym, ap, subst, ◌∙◌, arith}
-use Rattle.std.proofs.Common.{Option, Some, None, Contains, is_some, cond, slice_get}
+use Rattle.std.proofs.Common.{◌≡◌, ℕ, zero, suc, ◌+◌, ◌≤◌, inl, inr, List, [], ◌∷◌, true, refl, sym, ap, subst, ◌∙◌}
+use Rattle.std.proofs.Common.{Option, Some, None, Contains, is_some, cond, slice_get, arith}
 use Rattle.std.specs.FinSet as set
 use Rattle.std.specs.FinMap as map
 use Rattle.gz_names.specs.Order.{names_total}
@@ -16,7 +16,9 @@ use Rattle.gz_names.specs.declared.replies.Report.TheVariants.{Started, Groups, 
 use Rattle.colour_defs.specs.Graph.{GraphState, IsInZones}
 use Rattle.colour_defs.specs.Closure.{HasEdge}
 use Rattle.colour_defs.specs.World.{World, Preparation, Collection, Has, IsPresent, IsLeftOut, BlackClosure}
-use Rattle.colour_defs.specs.World.{LiveClosure, CommandInWorld, first_world, first_preparation, no_weak_names}
+use Rattle.colour_defs.specs.Units.{Tally, unit_limit}
+use Rattle.colour_defs.specs.World.{LiveClosure, CommandInWorld, first_world, first_preparation, first_tally}
+use Rattle.colour_defs.specs.World.{no_weak_names}
 use Rattle.colour_defs.specs.Lawful.{Beginning, by_units, AnswersBy, Prepares, Begins, Slices, IsLawfulOutputBy}
 use Rattle.colour_defs.specs.Rows.{comp_0, only_zone_0, made_while_preparing, answers_while_preparing}
 use Rattle.colour_defs.specs.Laws.{IsValid, IsMade}
@@ -85,6 +87,12 @@ made = (
 told : AnswersBy by_units q2 Colours [] (reply.Refused refusal.Marking) q2
 told = inr (refl, (λ s. cc s.none_preparing), record { silent = refl; same = refl })
 
+abbrev first : Tally
+first = first_tally q2 (record { zones = 0 ∷ []; arenas = 0; spent = 0 })
+
+four_units : first.spent + 4 ≤ unit_limit first + 1
+four_units = omega arith
+
 finished : AnswersBy by_units q2 Finish
     (Started ∷ Groups (only_zone_0 ∷ []) ∷ Ended only_zone_0 [] [] ∷ Swept 0 (Cell 0 ∷ []) ∷ Done ∷ []) (reply.Sliced 4)
     freed
@@ -104,6 +112,9 @@ finished = inl (
     number = refl;
     reports_are = refl;
     world_is = refl;
+    tally = first;
+    tally_is = inr (_, refl, refl);
+    within = four_units;
   },
   record { none_running = refl; none_preparing = refl },
 )

@@ -163,7 +163,14 @@ abbrev pub with_spent_preparing : ℕ → Option Preparation → Option Preparat
 with_spent_preparing n None = None
 with_spent_preparing n (Some p) = Some (record p { spent = p.spent + n })
 
--- this number of units of a collection that runs
+-- the tally of the collection that runs. While it is prepared, it is the one with which marking would begin now;
+-- what that counts is the same at each moment of a slice until marking begins
+abbrev pub HasTally : World → Tally → Type 0
+HasTally w t =
+    ((k : Collection) × (w.collection ≡ Some k) × (t ≡ k.tally))
+    ⊎ ((p : Preparation) × (w.preparing ≡ Some p) × (t ≡ first_tally w p))
+
+-- this number of units of a collection that runs, with which it keeps the bound on units
 pub record Slices (w : World) (reports : List Report) (n : ℕ) (v : World) : Type 0 where
   pub running : IsRunning w
   pub units : List (List Report)
@@ -175,21 +182,9 @@ pub record Slices (w : World) (reports : List Report) (n : ℕ) (v : World) : Ty
     preparing = with_spent_preparing n after.preparing;
     collection = with_spent n after.collection;
   }
-
--- the tally of the collection that runs. While it is prepared, it is the one with which marking would begin now;
--- what that counts is the same at each moment of a slice until marking begins
-abbrev pub HasTally : World → Tally → Type 0
-HasTally w t =
-    ((k : Collection) × (w.collection ≡ Some k) × (t ≡ k.tally))
-    ⊎ ((p : Preparation) × (w.preparing ≡ Some p) × (t ≡ first_tally w p))
-
--- a slice that keeps the bound on units. It stands beside lawful output, and joins `Slices` once it is proved of the
--- program
-pub record KeepsUnitBound (w : World) (reports : List Report) (n : ℕ) (v : World) : Type 0 where
-  pub slices : Slices w reports n v
   pub tally : Tally
   pub tally_is : HasTally w tally
-  pub within : MeetsUnitBound (is_some slices.after.preparing) tally reports n
+  pub within : MeetsUnitBound (is_some after.preparing) tally reports n
 
 -- a collection of these zones, from its beginning until it is over
 pub record Collects (how : Beginning) (w : World) (zones : List ℕ) (reports : List Report) (v : World) : Type 0 where
