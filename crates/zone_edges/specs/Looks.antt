@@ -1,6 +1,6 @@
 -- The wrappers that are looked at, and the edges that they lead along.
 use Rattle.std.specs.Prelude.{◌≡◌, ◌≢◌, ℕ, zero, suc, ◌+◌, ◌-◌, ◌*◌, ◌<◌, ◌≤◌, ◌⊎◌, ◌↔◌, Option, Some, Contains, length}
-use Rattle.std.specs.Prelude.{slice_get, slice_index_or}
+use Rattle.std.specs.Prelude.{List, slice_get, slice_index, slice_index_or, slice_set}
 use Rattle.std.specs.Int.{bit_at}
 use Rattle.std.specs.Option.{option_map}
 use Rattle.gz_names.specs.Zones.{HasZone}
@@ -59,6 +59,13 @@ pub record IsWrapperIn (s : Shape) (zone : ℕ) (p : Place) : Type 0 where
 abbrev pub AreWrappers : Shape → Type 0
 AreWrappers s = AreApart s.wrappers.lists → (z : ℕ) (entry : WrapperKey × Place) → Contains (list_of s.wrappers z) entry
     → IsWrapperIn s z entry.1
+
+-- the next wrapper of a zone of these was taken by the zone's cursor, which was raised
+pub record TakesNext (s : Shape) (zones : ℕ) (before : List ℕ) (z : ℕ) (p : Place) (after : List ℕ) : Type 0 where
+  pub zone : HasZone zones z
+  pub next : wrapper_at s z (slice_index before z) ≡ Some p
+  pub wrapper : IsWrapperIn s z p
+  pub raised : after ≡ slice_set before z (slice_index before z + 1)
 
 -- a wrapper leads from one zone of a set to another, to a cell that is not black
 pub record LeadsFrom (h : HeapState) (zones : ZoneSet) (p : Place) (a b : ℕ) : Type 0 where

@@ -1,9 +1,7 @@
 // The look at one wrapper: which one is next, and the edge that it leads along.
-ghost use Rattle.std.specs.Prelude.{◌≡◌, ◌↔◌, ℕ, ◌+◌, ◌<◌, length, None, Some, slice_index, slice_set, IfSome, IfNone};
-ghost use Rattle.std.specs.Prelude.{IsTrue};
+ghost use Rattle.std.specs.Prelude.{◌≡◌, ℕ, ◌+◌, ◌<◌, length, None, Some, slice_index, slice_set, IfSome, IfNone};
 ghost use Rattle.gz_names.specs.Zones.{HasZone};
-ghost use Rattle.heap_core.specs.Heap.{colour_of};
-ghost use Rattle.zone_edges.specs.Looks.{AreWrappers, IsWrapperIn, LeadsFrom, wrapper_at};
+ghost use Rattle.zone_edges.specs.Looks.{AreWrappers, IsWrapperIn, LeadsFrom, TakesNext, wrapper_at};
 
 use cell_bits::Colour;
 use gz_names::{Place, ZoneNo, ZoneSet};
@@ -29,12 +27,8 @@ pub fn next_wrapper(
     cursors: &mut [u64; 64],
 ) -> Option<(ZoneNo, Place)>
     requires { AreWrappers heap.now.shape }
-    ensures zone { IfSome result (λ found. HasZone zones.bits found.0) }
-    ensures next { IfSome result (λ found. wrapper_at heap.now.shape found.0
-        (slice_index cursors.old found.0) ≡ Some found.1) }
-    ensures wrapper { IfSome result (λ found. IsWrapperIn heap.now.shape found.0 found.1) }
-    ensures raised { IfSome result (λ found. cursors.new
-        ≡ slice_set cursors.old found.0 (slice_index cursors.old found.0 + 1)) }
+    ensures some { IfSome result (λ found. TakesNext heap.now.shape zones.bits cursors.old found.0
+        found.1 cursors.new) }
     ensures none { IfNone result ((z : ℕ) → HasZone zones.bits z
         → wrapper_at heap.now.shape z (slice_index cursors.old z) ≡ None) }
     ensures same { IfNone result (cursors.new ≡ cursors.old) }
@@ -53,12 +47,8 @@ fn next_in_current(
     cursors: &mut [u64; 64],
 ) -> Option<(ZoneNo, Place)>
     requires { AreWrappers heap.now.shape }
-    ensures zone { IfSome result (λ found. HasZone zones.bits found.0) }
-    ensures next { IfSome result (λ found. wrapper_at heap.now.shape found.0
-        (slice_index cursors.old found.0) ≡ Some found.1) }
-    ensures wrapper { IfSome result (λ found. IsWrapperIn heap.now.shape found.0 found.1) }
-    ensures raised { IfSome result (λ found. cursors.new
-        ≡ slice_set cursors.old found.0 (slice_index cursors.old found.0 + 1)) }
+    ensures some { IfSome result (λ found. TakesNext heap.now.shape zones.bits cursors.old found.0
+        found.1 cursors.new) }
     ensures same { IfNone result (cursors.new ≡ cursors.old) }
 {
     let zone = current?;
@@ -72,12 +62,8 @@ fn next_in_current(
 // The next wrapper of the lowest of these zones that has one left.
 fn next_in_any(heap: &Heap, zones: ZoneSet, cursors: &mut [u64; 64]) -> Option<(ZoneNo, Place)>
     requires { AreWrappers heap.now.shape }
-    ensures zone { IfSome result (λ found. HasZone zones.bits found.0) }
-    ensures next { IfSome result (λ found. wrapper_at heap.now.shape found.0
-        (slice_index cursors.old found.0) ≡ Some found.1) }
-    ensures wrapper { IfSome result (λ found. IsWrapperIn heap.now.shape found.0 found.1) }
-    ensures raised { IfSome result (λ found. cursors.new
-        ≡ slice_set cursors.old found.0 (slice_index cursors.old found.0 + 1)) }
+    ensures some { IfSome result (λ found. TakesNext heap.now.shape zones.bits cursors.old found.0
+        found.1 cursors.new) }
     ensures none { IfNone result ((z : ℕ) → HasZone zones.bits z
         → wrapper_at heap.now.shape z (slice_index cursors.old z) ≡ None) }
     ensures same { IfNone result (cursors.new ≡ cursors.old) }

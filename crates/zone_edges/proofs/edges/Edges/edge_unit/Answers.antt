@@ -19,7 +19,7 @@ returns-in-Some-edge_from-clause-looked g c =
       stepped = s.stepped;
       cursors = c.next_wrapper.new.cursors;
     } in
-    let e = c.in-Some.ensures in
+    let e = c.in-Some.ensures.some in
     subst (λ (v : Noted). LooksAtNext c.args.heap.now v new) c.self.view_is
     (looks_at c.args.heap.now old new _ _ c.self.invariant.sized e.zone e.next e.wrapper c.note.ensures.zones e.raised
     (notes_its_edge c.args.heap.now s.search.zones _ _ _ s.search.sources c.note.new.self.sources
@@ -40,7 +40,7 @@ returns-in_default-edge_from-clause-looked g c =
       stepped = s.stepped;
       cursors = c.next_wrapper.new.cursors;
     } in
-    let e = c.in-Some.ensures in
+    let e = c.in-Some.ensures.some in
     subst (λ (v : Noted). LooksAtNext c.args.heap.now v new) c.self.view_is
     (looks_at c.args.heap.now old new _ _ c.self.invariant.sized e.zone e.next e.wrapper refl e.raised
     (notes_nothing c.args.heap.now s.search.zones _ s.search.sources c.in_default-edge_from.ensures.none))
