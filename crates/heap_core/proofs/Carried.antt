@@ -93,7 +93,8 @@ module _ (h k : HeapState) (g j : GraphState) (s : Shows h g) (c : Carries h k g
         ∙ s.entries_are m key v x y z was (sym (name_kept m held.0) ∙ a) (sym (name_kept key held.1) ∙ b)
         (sym (name_kept v held.2) ∙ d));
     entries_known = λ x y z e.
-        (let known = s.entries_known x y z (ap (λ (es : List Entry). graph.value_in es x y) (sym c.entries_same) ∙ e) in (
+        (let was = ap (λ (es : List Entry). graph.value_in es x y) (sym c.entries_same) ∙ e in
+        let known = s.entries_known x y z was in (
           known.0,
           known.1,
           known.2,

@@ -13,7 +13,7 @@ use Rattle.arena_table.specs.Slots.{has_free, first_free}
 use Rattle.arena_table.specs.Table.{is_place}
 use Rattle.wrappers.specs.WrapperMaps.{place_of, list_of}
 use Rattle.weak_maps.specs.Places.{is_same}
-use Rattle.weak_maps.specs.WeakMaps.{AreParallel, Carries, PutsLeft, put_at, value_of}
+use Rattle.weak_maps.specs.WeakMaps.{AreDistinct, AreParallel, Carries, PutsLeft, put_at, value_of}
 use Rattle.heap_core.specs.Shape.{Shape, ArenaShape, AreWhole, cell_of, zone_of, out_of, stored_at}
 use Rattle.heap_core.specs.Heap.{HeapState, colour_of, weak_of}
 
@@ -98,7 +98,8 @@ pub record IsWith (old : HeapState) (map key value : Place) (new : HeapState) : 
   pub left : PutsLeft (value_of old.shape.weak map key) old.looks new.looks
   pub parallel : AreParallel (weak_of new)
 
--- an entry is there no more, and each other one is found as before, and is to be looked at as it was
+-- an entry is there no more, and each other one is found as before, and is to be looked at as it was; no key of a map
+-- has two
 pub record IsWithout (old : HeapState) (map key : Place) (new : HeapState) : Type 0 where
   pub rest : new ≡ record old { shape = record old.shape { weak = new.shape.weak }; looks = new.looks }
   pub values : (m k : Place)
@@ -106,6 +107,7 @@ pub record IsWithout (old : HeapState) (map key : Place) (new : HeapState) : Typ
   pub count : length new.shape.weak.entries + (if is_some (value_of old.shape.weak map key) then 1 else 0)
       ≡ length old.shape.weak.entries
   pub carries : Carries (weak_of old) (weak_of new)
+  pub distinct : AreDistinct new.shape.weak.entries
   pub parallel : AreParallel (weak_of new)
 
 -- one more zone, in no collection; one more compartment of a zone; one more number for an object or a map

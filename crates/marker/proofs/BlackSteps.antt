@@ -1,10 +1,9 @@
 -- One cell of the black pile was followed.
-use Rattle.std.proofs.Common.{◌≡◌, ◌↔◌, ◌<◌, ◌≤◌, true, inl, inr, refl, sym, ap, ◌∙◌, subst, arith, List, ◌∷◌, []}
-use Rattle.std.proofs.Common.{ℕ, Option, length, length-append, sum_by}
+use Rattle.std.proofs.Common.{◌≡◌, ◌↔◌, ◌<◌, ◌≤◌, true, inl, inr, refl, sym, ap, ◌∙◌, subst, arith, ◌∷◌, []}
+use Rattle.std.proofs.Common.{ℕ, Option}
 use Rattle.gz_names.specs.declared.numbers.Place.{Place}
 use Rattle.mark_stack.specs.Stack.{Piles, pushed}
 use Rattle.mark_stack.specs.declared.stack.Pile.TheVariants as pile
-use Rattle.gray_lists.specs.Incoming.{Incoming}
 use Rattle.weak_maps.specs.WeakMaps.{AreParallel, LooksState, Starts, WeakMapsState}
 use Rattle.weak_maps.specs.declared.colours.MarkColour.TheVariants as mark
 use Rattle.heap_core.specs.Shape.{Shape, HasEdge, is_marking}
@@ -12,7 +11,7 @@ use Rattle.cell_bits.specs.declared.bits.Bits.{Bits}
 use Rattle.heap_core.specs.Heap.{HeapState, joined, weak_of}
 use Rattle.barriers.specs.Reached.{Reached}
 use Rattle.barriers.specs.Reached as reached
-use Rattle.barriers.specs.Colours.{IsBlack, left, whites}
+use Rattle.barriers.specs.Colours.{IsBlack}
 use Rattle.barriers.specs.PendingBlack.{PendingBlack}
 use Rattle.barriers.specs.Invariant.{InvariantWhile, MarkingInvariant}
 use Rattle.barriers.specs.Spreading.{Blackens, Grows, Spreads}
@@ -26,10 +25,9 @@ use Rattle.barriers.proofs.WeakPoint.{StartsEntries, black_starts, spread_point}
 use Rattle.barriers.proofs.BlackClosure.{pending_same, reached_from}
 use Rattle.barriers.proofs.LiveClosure.{gray_kept, live_same}
 use Rattle.barriers.proofs.Scans.{no_more_twice, once_kept, pops_black, pops_black_once}
-use Rattle.marker.specs.Looks.{StartsBoth, looks_left, with_looks}
-use Rattle.marker.specs.Units.{ScansBlack, work_left}
-use Rattle.marker.proofs.Looking.{gray_on, live_on, marking_on, more_left, one_fewer, pending_on, point_on}
-use Rattle.marker.proofs.Looking.{scan_no_more}
+use Rattle.marker.specs.Looks.{StartsBoth, with_looks}
+use Rattle.marker.specs.Units.{ScansBlack}
+use Rattle.marker.proofs.Looking.{gray_on, live_on, marking_on, more_left, pending_on, point_on}
 use Rattle.marker.proofs.Looking.{starts_on}
 
 -- before what was woken is followed: the cell's zone is marking, so its entries are not looked at
@@ -128,7 +126,7 @@ module _ (h : HeapState) (p q : Piles) (x : Place) (looks : LooksState) (inv : M
     weak_is = ap weak_of sp.blackens.rest ∙ ap weak_of scan.spreads.blackens.rest
 
     started_here : StartsBoth mark.Black x h l
-    started_here = starts_on mark.Black x h m l starts (ap (λ (w : WeakMapsState). w.looks) weak_is)
+    started_here = starts_on mark.Black x h m l starts weak_is
 
     after : ScansNoMore h q l t
     after =
@@ -148,51 +146,6 @@ module _ (h : HeapState) (p q : Piles) (x : Place) (looks : LooksState) (inv : M
         let was = taken_black h p q x inv.holds popped in
         record { cell = x; black = was.black; zone = was.zone; fewer = fewer; no_more = none; starts = started_here }
 
-    looks_less : AreParallel (weak_of m) → looks_left l t ≤ looks_left h p
-    looks_less parallel = scan_no_more mark.Black x h p l t started_here
-        (subst (λ (w : WeakMapsState). AreParallel w) (sym weak_is) parallel)
-        (ap (λ (w : WeakMapsState). w.table) weak_is)
-        (one_fewer h p l t x none (omega (arith, fewer, none.gray x)))
-
-    less : AreParallel (weak_of m) → (lists : Incoming) → work_left l t lists < work_left h p lists
-    less parallel lists =
-        let looks_no = looks_less parallel in
-        let left_is : left m ≡ left h = refl in
-        let whites_is : whites m ≡ whites h = refl in
-        let buffers_is : sum_by length m.buffers ≡ sum_by length h.buffers = refl in
-        let black_is = ap (λ (z : Piles). length z.black) popped in
-        let gray_is = ap (λ (z : Piles). length z.gray) popped in
-        let wake_is = ap (λ (z : Piles). length z.wake) popped in
-        let buffers = ap (λ (z : HeapState). sum_by length z.buffers) sp.blackens.rest in
-        let buffers_then = ap (λ (z : HeapState). sum_by length z.buffers) scan.spreads.blackens.rest in
-        let gray_now = ap (λ (z : List Place). length z) sp.gray_is in
-        let gray_then = ap (λ (z : List Place). length z) scan.spreads.gray_is in
-        let none_then = ap (λ (z : List Place). length z) inv.none_woken in
-        let none_now = ap (λ (z : List Place). length z) new.none_woken in
-        omega (
-          arith,
-          looks_no,
-          left_is,
-          whites_is,
-          buffers_is,
-          black_is,
-          gray_is,
-          wake_is,
-          length-append q.black (x ∷ []),
-          buffers,
-          buffers_then,
-          gray_now,
-          gray_then,
-          none_then,
-          none_now,
-          scan.spreads.work,
-          sp.work,
-          scan.spreads.left_less,
-          sp.left_less,
-          scan.spreads.blackens.whites_less,
-          sp.blackens.whites_less,
-        )
-
 -- as it is called
 pub record Started (h : HeapState) (p q : Piles) (x : Place) (m : HeapState) : Type 0 where
   pub inv : MarkingInvariant h p
@@ -200,45 +153,58 @@ pub record Started (h : HeapState) (p q : Piles) (x : Place) (m : HeapState) : T
   pub rest : m ≡ with_looks h m.looks
   pub map : Starts (λ entry. entry.map) mark.Black x h.shape.weak.entries h.looks.by_map m.looks.by_map
   pub key : Starts (λ entry. entry.key) mark.Black x h.shape.weak.entries h.looks.by_key m.looks.by_key
+  pub parallel : AreParallel (weak_of m)
 
 pub record BlackDone (h : HeapState) (p : Piles) (m l : HeapState) (t : Piles) : Type 0 where
   pub blackens : Blackens (Reached h.shape (IsBlack h)) (with_looks h l.looks) l
   pub pending_black : (y : Place) → PendingBlack l t y ↔ PendingBlack h p y
   pub pending_live : KeepsLive h p l t
   pub scans : ScansBlack h p l t
-  pub less : AreParallel (weak_of m) → (lists : Incoming) → work_left l t lists < work_left h p lists
 
 pub started_by : (h m : HeapState) (flown : ℕ → Option Bits) (p q : Piles) (x : Place)
     → MarkingInvariant (joined h flown) p → p ≡ pushed q pile.Black x → m ≡ record h { looks = m.looks }
     → Starts (λ entry. entry.map) mark.Black x h.shape.weak.entries h.looks.by_map m.looks.by_map
     → Starts (λ entry. entry.key) mark.Black x h.shape.weak.entries h.looks.by_key m.looks.by_key
-    → Started (joined h flown) p q x (joined m flown)
-started_by h m flown p q x inv popped rest map key =
-    record { inv = inv; popped = popped; rest = ap (λ (z : HeapState). joined z flown) rest; map = map; key = key }
+    → AreParallel (weak_of m) → Started (joined h flown) p q x (joined m flown)
+started_by h m flown p q x inv popped rest map key parallel = record {
+  inv = inv;
+  popped = popped;
+  rest = ap (λ (z : HeapState). joined z flown) rest;
+  map = map;
+  key = key;
+  parallel = parallel;
+}
 
 module _ (h : HeapState) (p q : Piles) (x : Place) (m : HeapState) (s : Started h p q x m) where
+  starts_both : StartsBoth mark.Black x h (with_looks h m.looks)
+  starts_both = record {
+    map = s.map;
+    key = s.key;
+    parallel = subst (λ (z : HeapState). AreParallel (weak_of z)) s.rest s.parallel;
+  }
+
   pub started_taken : Taken m q x true
   started_taken = subst (λ (z : HeapState). Taken z q x true) (sym s.rest)
-      (taken_started h p q x m.looks s.inv s.popped (record { map = s.map; key = s.key }))
+      (taken_started h p q x m.looks s.inv s.popped starts_both)
 
   pub started_marks : MarkingInvariant m p
   started_marks = subst (λ (z : HeapState). MarkingInvariant z p) (sym s.rest)
-      (marks h p q x m.looks s.inv s.popped (record { map = s.map; key = s.key }))
+      (marks h p q x m.looks s.inv s.popped starts_both)
 
   pub started_point : (k : HeapState) (r : Piles) → Grows (HasEdge m.shape x) m q k r → WeakPoint k r (left_of k)
   started_point k r = subst (λ (z : HeapState). Grows (HasEdge z.shape x) z q k r → WeakPoint k r (left_of k))
-      (sym s.rest) (point_scanned h p q x m.looks s.inv s.popped (record { map = s.map; key = s.key }) k r)
+      (sym s.rest) (point_scanned h p q x m.looks s.inv s.popped starts_both k r)
 
   pub started_once : (k : HeapState) (r : Piles) → Grows (HasEdge m.shape x) m q k r → AreScannedOnce k r
   started_once k r = subst (λ (z : HeapState). Grows (HasEdge z.shape x) z q k r → AreScannedOnce k r) (sym s.rest)
-      (once_scanned h p q x m.looks s.inv s.popped (record { map = s.map; key = s.key }) k r)
+      (once_scanned h p q x m.looks s.inv s.popped starts_both k r)
 
   pub black_done : (k : HeapState) (r : Piles) (l : HeapState) (t : Piles) → Grows (HasEdge m.shape x) m q k r
       → Spreads (Reached k.shape (IsBlack k)) k r l t → MarkingInvariant l t → BlackDone h p m l t
   black_done k r l t = subst (λ (z : HeapState). Grows (HasEdge z.shape x) z q k r
       → Spreads (Reached k.shape (IsBlack k)) k r l t → MarkingInvariant l t → BlackDone h p z l t) (sym s.rest)
       (λ scan sp new.
-      let both : StartsBoth mark.Black x h (with_looks h m.looks) = record { map = s.map; key = s.key } in
+      let both : StartsBoth mark.Black x h (with_looks h m.looks) = starts_both in
       let bl = (did h p q x m.looks s.inv s.popped both k r l t scan sp new).blackens in
       let weak = weak_is h p q x m.looks s.inv s.popped both k r l t scan sp new in
       record {
@@ -247,5 +213,4 @@ module _ (h : HeapState) (p q : Piles) (x : Place) (m : HeapState) (s : Started 
         pending_black = black_same h p q x m.looks s.inv s.popped both k r l t scan sp new;
         pending_live = keeps_live h p q x m.looks s.inv s.popped both k r l t scan sp new;
         scans = scans_black h p q x m.looks s.inv s.popped both k r l t scan sp new;
-        less = less h p q x m.looks s.inv s.popped both k r l t scan sp new;
       })

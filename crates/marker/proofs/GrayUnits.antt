@@ -8,13 +8,13 @@ use Rattle.gz_names.specs.declared.numbers.Place.{Place}
 use Rattle.roots.specs.Buffers.{buffer_at}
 use Rattle.mark_stack.specs.Stack.{Piles, pushed}
 use Rattle.mark_stack.specs.declared.stack.Pile.TheVariants as pile
-use Rattle.gray_lists.specs.Incoming.{Incoming, list_of, waiting_count}
+use Rattle.gray_lists.specs.Incoming.{Incoming, list_of}
 use Rattle.heap_core.specs.Shape.{Shape, HasEdge, IsPresent, state_of}
 use Rattle.cell_bits.specs.declared.bits.Bits.{Bits}
 use Rattle.heap_core.specs.Heap.{HeapState, joined, weak_of}
-use Rattle.weak_maps.specs.WeakMaps.{AreParallel, LooksState, Starts, WeakMapsState}
+use Rattle.weak_maps.specs.WeakMaps.{AreParallel, LooksState, Starts}
 use Rattle.weak_maps.specs.declared.colours.MarkColour.TheVariants as mark
-use Rattle.barriers.specs.Colours.{IsBlack, grays_outside, left, whites}
+use Rattle.barriers.specs.Colours.{IsBlack, grays_outside}
 use Rattle.barriers.specs.PendingLive.{GrayInvariant, buffer_of}
 use Rattle.barriers.specs.Invariant.{InvariantWhile, MarkingInvariant}
 use Rattle.barriers.specs.Scans.{ScansNoMore, gray_scans}
@@ -26,10 +26,8 @@ use Rattle.marker.specs.GrayBits.{AreGraying}
 use Rattle.marker.specs.Shading.{IsForItem, ItemShaded, Shaded}
 use Rattle.marker.specs.Waiting.{IsBlackOnlyComp, IsCompOf, Noted, TakesBuffered, TakesIncoming}
 use Rattle.marker.specs.Units.{DoesGray, Marks, TakesOne}
-use Rattle.marker.specs.Looks.{StartsBoth, looks_left, with_looks}
-use Rattle.marker.proofs.Looking.{gray_on, live_on, looks_no_more, marking_on, more_left, one_fewer, pending_on}
-use Rattle.marker.proofs.Looking.{point_on}
-use Rattle.marker.proofs.Looking.{scan_no_more, starts_on}
+use Rattle.marker.specs.Looks.{StartsBoth, with_looks}
+use Rattle.marker.proofs.Looking.{gray_on, live_on, marking_on, more_left, pending_on, point_on, starts_on}
 use Rattle.marker.proofs.GraySteps.{LeadsToSeen, buffered_step, gray_seen, incoming_step, pile_step}
 
 -- what waits for a compartment waited before, or the compartment's zone takes no gray yet
@@ -39,20 +37,13 @@ WaitsOn s a b = (n : ℕ) (x : Place) → Contains (list_of b n) x → Contains 
 -- what a step of gray marking did
 pub does_gray : (P : Place → Type 0) (h m k : HeapState) (p p0 q : Piles) (a b : Incoming)
     → m ≡ record h { buffers = m.buffers; looks = m.looks } → Shaded P m p0 k q → p0.black ≡ p.black → p0.room ≡ p.room
-    → 2 * length p0.gray + (sum_by length m.buffers + waiting_count b) < 2 * length p.gray
-    + (sum_by length h.buffers + waiting_count a) → looks_left k q ≤ looks_left h p → Marks h p a k q b
-    → ((x : Place) → Contains p0.gray x → Contains p.gray x)
+    → Marks h p a k q b → ((x : Place) → Contains p0.gray x → Contains p.gray x)
     → ((z : ℕ) (x : Place) → Contains (buffer_of m z) x → Contains (buffer_of h z) x) → WaitsOn h.shape a b
     → ScansNoMore h p m p0 → TakesOne h p a k q b → DoesGray h p a k q b
-does_gray P h m k p p0 q a b taken sh black room less looks marks pile buf waits none takes =
+does_gray P h m k p p0 q a b taken sh black room marks pile buf waits none takes =
     let buffers : k.buffers ≡ m.buffers = ap (λ (z : HeapState). z.buffers) sh.rest in
-    let sums : sum_by length k.buffers ≡ sum_by length m.buffers = ap (sum_by length) buffers in
-    let w : whites m ≡ whites h = ap whites taken in
-    let l : left m ≡ left h = ap left taken in
-    let n : length q.black ≡ length p.black = ap (λ (zs : List Place). length zs) (sh.black_pile_is ∙ black) in
     record {
       marks = marks;
-      less = omega (arith, less, looks, sums, w, l, n, sh.left_is, sh.work, sh.whites_less);
       takes = takes;
       scans = no_more_twice h p m p0 k q none sh.scans;
       black_is = λ y. (
@@ -105,8 +96,7 @@ module _ (h : HeapState) (p p0 : Piles) (x : Place) (looks : LooksState) (inv : 
       (subst (λ (z : Piles). WeakPoint h z (left_of h)) popped inv.weak) entries)
 
   module _ (k : HeapState) (q : Piles) (a b : Incoming) (g : GrayInvariant h p a) (holds : InvariantWhile [] k q)
-      (sh : Shaded (HasEdge m.shape x) m p0 k q) (all : LeadsToSeen m.shape x k) (noted : Noted k.shape x a b)
-      (parallel : AreParallel (weak_of m)) where
+      (sh : Shaded (HasEdge m.shape x) m p0 k q) (all : LeadsToSeen m.shape x k) (noted : Noted k.shape x a b) where
     shape_same : k.shape ≡ h.shape
     shape_same = ap (λ (z : HeapState). z.shape) sh.rest
 
@@ -152,23 +142,13 @@ module _ (h : HeapState) (p p0 : Piles) (x : Place) (looks : LooksState) (inv : 
     weak_is = ap weak_of sh.rest
 
     started_here : StartsBoth mark.Gray x h k
-    started_here = starts_on mark.Gray x h m k starts (ap (λ (w : WeakMapsState). w.looks) weak_is)
-
-    looks_less : looks_left k q ≤ looks_left h p
-    looks_less = scan_no_more mark.Gray x h p k q started_here
-        (subst (λ (w : WeakMapsState). AreParallel w) (sym weak_is) parallel)
-        (ap (λ (w : WeakMapsState). w.table) weak_is)
-        (one_fewer h p k q x none (omega (arith, fewer, none.black x)))
+    started_here = starts_on mark.Gray x h m k starts weak_is
 
     did_pile : DoesGray h p a k q b
     did_pile =
         let gray_is : p.gray ≡ (p0.gray ++ x ∷ []) = ap (λ (z : Piles). z.gray) popped in
-        let buffers_is : sum_by length m.buffers ≡ sum_by length h.buffers = refl in
-        let gray_size = ap (λ (zs : List Place). length zs) gray_is in
         does_gray (HasEdge h.shape x) h m k p p0 q a b refl sh (sym (ap (λ (z : Piles). z.black) popped))
-        (sym (ap (λ (z : Piles). z.room) popped))
-        (omega (arith, noted.count, buffers_is, gray_size, length-append p0.gray (x ∷ [])))
-        looks_less marks_then
+        (sym (ap (λ (z : Piles). z.room) popped)) marks_then
         (λ y c. subst (λ zs. Contains zs y) (sym gray_is) (Contains-append_left p0.gray (x ∷ []) y c))
         (λ z y c. c)
         noted_here.waits
@@ -189,27 +169,41 @@ pub record StartedGray (h : HeapState) (p p0 : Piles) (x : Place) (m : HeapState
   pub rest : m ≡ with_looks h m.looks
   pub map : Starts (λ entry. entry.map) mark.Gray x h.shape.weak.entries h.looks.by_map m.looks.by_map
   pub key : Starts (λ entry. entry.key) mark.Gray x h.shape.weak.entries h.looks.by_key m.looks.by_key
+  pub parallel : AreParallel (weak_of m)
 
 pub started_gray : (h m : HeapState) (flown : ℕ → Option Bits) (p q : Piles) (x : Place)
     → MarkingInvariant (joined h flown) p → p ≡ pushed q pile.Gray x → m ≡ record h { looks = m.looks }
     → Starts (λ entry. entry.map) mark.Gray x h.shape.weak.entries h.looks.by_map m.looks.by_map
     → Starts (λ entry. entry.key) mark.Gray x h.shape.weak.entries h.looks.by_key m.looks.by_key
-    → StartedGray (joined h flown) p q x (joined m flown)
-started_gray h m flown p q x inv popped rest map key =
-    record { inv = inv; popped = popped; rest = ap (λ (z : HeapState). joined z flown) rest; map = map; key = key }
+    → AreParallel (weak_of m) → StartedGray (joined h flown) p q x (joined m flown)
+started_gray h m flown p q x inv popped rest map key parallel = record {
+  inv = inv;
+  popped = popped;
+  rest = ap (λ (z : HeapState). joined z flown) rest;
+  map = map;
+  key = key;
+  parallel = parallel;
+}
 
 module _ (h : HeapState) (p p0 : Piles) (x : Place) (m : HeapState) (s : StartedGray h p p0 x m) where
+  starts_both : StartsBoth mark.Gray x h (with_looks h m.looks)
+  starts_both = record {
+    map = s.map;
+    key = s.key;
+    parallel = subst (λ (z : HeapState). AreParallel (weak_of z)) s.rest s.parallel;
+  }
+
   pub started_marks : MarkingInvariant m p
   started_marks = subst (λ (z : HeapState). MarkingInvariant z p) (sym s.rest)
-      (marks_on h p p0 x m.looks s.inv s.popped (record { map = s.map; key = s.key }))
+      (marks_on h p p0 x m.looks s.inv s.popped starts_both)
 
   pub does_pile : (k : HeapState) (q : Piles) (a b : Incoming) → GrayInvariant h p a → InvariantWhile [] k q
-      → Shaded (HasEdge m.shape x) m p0 k q → LeadsToSeen m.shape x k → Noted k.shape x a b → AreParallel (weak_of m)
+      → Shaded (HasEdge m.shape x) m p0 k q → LeadsToSeen m.shape x k → Noted k.shape x a b
       → DoesGray h p a k q b
   does_pile k q a b = subst (λ (z : HeapState). GrayInvariant h p a → InvariantWhile [] k q
-      → Shaded (HasEdge z.shape x) z p0 k q → LeadsToSeen z.shape x k → Noted k.shape x a b → AreParallel (weak_of z)
+      → Shaded (HasEdge z.shape x) z p0 k q → LeadsToSeen z.shape x k → Noted k.shape x a b
       → DoesGray h p a k q b) (sym s.rest)
-      (did_pile h p p0 x m.looks s.inv s.popped (record { map = s.map; key = s.key }) k q a b)
+      (did_pile h p p0 x m.looks s.inv s.popped starts_both k q a b)
 
 -- a place was taken out of a buffer: the colours are as they were
 buffered_here : (h : HeapState) (bs : List (List Place)) (p : Piles) → InvariantWhile [] h p
@@ -284,9 +278,6 @@ does_buffered h m flown k p q a group zone x inv g graying here takes holds sh d
     does_gray (IsForItem h.shape zone x) (joined h flown) (joined m flown) k p p q a a
     (at.rest ∙ ap (λ ls. record (joined h flown) { buffers = m.buffers; looks = ls })
     (sym (ap (λ (z : HeapState). z.looks) at.rest))) shaded refl refl
-    (omega (arith, takes.count))
-    (looks_no_more (joined h flown) p k q (no_more_twice (joined h flown) p (joined m flown) p k q popped shaded.scans)
-    (ap (λ (z : HeapState). z.shape.weak) shaded.rest ∙ ap (λ (z : HeapState). z.shape.weak) at.rest) looks_is)
     (buffered_step (joined h flown) (joined m flown) k p q a zone x inv g ((graying zone).0 here) at holds shaded
     item) (λ y c. c) takes.only (λ n y c. inl c)
     popped
@@ -303,8 +294,7 @@ pub does_incoming : (h k : HeapState) (p q : Piles) (a b : Incoming) (group comp
     → InvariantWhile [] k q → Shaded (HasEdge h.shape x) h p k q → LeadsToSeen h.shape x k → DoesGray h p a k q b
 does_incoming h k p q a b group comp x inv g graying of takes holds sh all =
     let looks_is : k.looks ≡ h.looks = ap (λ (z : HeapState). z.looks) sh.rest in
-    does_gray (HasEdge h.shape x) h h k p p q a b refl sh refl refl (omega (arith, takes.count))
-    (looks_no_more h p k q sh.scans (ap (λ (z : HeapState). z.shape.weak) sh.rest) looks_is)
+    does_gray (HasEdge h.shape x) h h k p p q a b refl sh refl refl
     (incoming_step h k p q a b group comp x inv g graying of takes holds sh all) (λ y c. c) (λ z y c. c)
     (λ n y c. inl (takes.only n y c)) (none_more h p)
     (inr (inl (omega (arith, takes.count), ap (λ (z : HeapState). z.buffers) sh.rest, looks_is)))

@@ -1,6 +1,6 @@
 -- A look at one weak entry.
 use Rattle.std.proofs.Common.{◌≡◌, ◌⊎◌, ◌↔◌, ◌+◌, ◌<◌, ◌≤◌, ℕ, true, inl, inr, refl, sym, ap, ◌∙◌, subst, arith}
-use Rattle.std.proofs.Common.{Contains, List, length, ◌∷◌, [], length-append, if◌then◌else◌, sum_by, Option, None, Some}
+use Rattle.std.proofs.Common.{Contains, List, ◌∷◌, [], if◌then◌else◌, Option, None, Some}
 use Rattle.std.proofs.Common.{slice_get}
 use Rattle.std.proofs.lemmas.List.Elements.{Contains-push_cases}
 use Rattle.gz_names.specs.Zones.{HasZone}
@@ -37,12 +37,12 @@ use Rattle.barriers.proofs.StayingLeft.{looked_others}
 use Rattle.barriers.proofs.Turning.{Effect, turn_effect}
 use Rattle.barriers.proofs.WeakPoint.{LeavesOthers, left_same, look_black, look_none, spread_point}
 use Rattle.marker.specs.GrayBits.{AreGraying}
-use Rattle.marker.specs.Looks.{Raises, RaisesTo, looks_left, looks_now, scans_of, weaker, with_looks}
+use Rattle.marker.specs.Looks.{Raises, RaisesTo, weaker, with_looks}
 use Rattle.marker.specs.Shading.{Grayed, Shaded, Shades}
-use Rattle.marker.specs.Units.{DoesLook, Marks, marks_left}
+use Rattle.marker.specs.Units.{DoesLook, Marks}
 use Rattle.marker.proofs.BlackSteps.{Follows, keeps_pending}
 use Rattle.marker.proofs.GraySteps.{apart_after, gray_after, marks, once_after}
-use Rattle.marker.proofs.Looking.{gray_on, holds_on, live_on, looked_less, looks_no_more, pending_on, point_on}
+use Rattle.marker.proofs.Looking.{gray_on, holds_on, live_on, pending_on, point_on}
 use Rattle.marker.proofs.Shading.{ShadeEffect, shade_effect}
 use Rattle.marker.proofs.WeakPoint.{look_gray, shaded_point}
 
@@ -57,7 +57,6 @@ pub record Raised (h : HeapState) (p : Piles) (k : HeapState) (q : Piles) : Type
   pub pending_black : (y : Place) → PendingBlack k q y ↔ PendingBlack h p y
   pub pending_live : KeepsLive h p k q
   pub scans : ScansNoMore h p k q
-  pub less : (lists : Incoming) → marks_left k q lists ≤ marks_left h p lists
   pub room : q.room ≡ p.room
   pub grays_is : grays_outside k ≡ grays_outside h
 
@@ -73,7 +72,6 @@ raised_none h p inv = record {
   pending_black = λ y. (λ b. b, λ b. b);
   pending_live = λ lists g. (g, λ y. (λ b. b, λ b. b));
   scans = none_more h p;
-  less = λ lists. omega arith;
   room = refl;
   grays_is = refl;
 }
@@ -114,15 +112,6 @@ module _ (h : HeapState) (p : Piles) (v : Place) (k : HeapState) (q : Piles) (in
     pending_black = keeps.pending_black;
     pending_live = keeps.pending_live;
     scans = ef.grows.spreads.scans;
-    less = λ lists. omega (
-      arith,
-      turned.left_is,
-      turned.whites_less,
-      length-append p.black (v ∷ []),
-      ap (λ (z : Piles). length z.black) pushes,
-      ap (λ (z : Piles). length z.gray) pushes,
-      ap (λ (z : HeapState). sum_by length z.buffers) turned.rest,
-    );
     room = ap (λ (z : Piles). z.room) pushes;
     grays_is = omega (arith, grays);
   }
@@ -198,14 +187,6 @@ module _ (h : HeapState) (p : Piles) (v : Place) (k : HeapState) (q : Piles) (in
     pending_black = black_same;
     pending_live = λ lists g. (gray_holds lists g, (marks_here lists g).pending_live);
     scans = sh.scans;
-    less = λ lists. omega (
-      arith,
-      sh.left_is,
-      sh.work,
-      grayed.whites_is,
-      ap (λ (zs : List Place). length zs) sh.black_pile_is,
-      ap (λ (z : HeapState). sum_by length z.buffers) sh.rest,
-    );
     room = sh.room_is;
     grays_is = sh.grays_is;
   }
@@ -253,7 +234,6 @@ module _ (c : MarkColour) (h : HeapState) (p : Piles) (a b v : Place) (looks : L
   looked_then : (mid : HeapState) (q : Piles) → Raised h p mid q
       → WeakPoint (with_looks mid looks) q (left_of (with_looks mid looks))
       → Raises m p a b v (with_looks mid looks) q → DoesLook c h p (with_looks mid looks) q
-  unfolding looks_left
   looked_then mid q r weak raises =
       let new : MarkingInvariant (with_looks mid looks) q = record {
         holds = holds_on mid looks q [] r.invariant.holds;
@@ -261,15 +241,6 @@ module _ (c : MarkColour) (h : HeapState) (p : Piles) (a b v : Place) (looks : L
         weak = weak;
         once = record { black = r.invariant.once.black; gray = r.invariant.once.gray };
       } in
-      let table = ap (λ (z : HeapState). z.shape.weak) r.rest in
-      let sums : looks_left mid q ≤ looks_left h p = looks_no_more h p mid q r.scans table
-      (ap (λ (z : HeapState). z.looks) r.rest) in
-      let same : looks_now mid.looks ≡ looks_now h.looks = ap (λ (z : HeapState). looks_now z.looks) r.rest in
-      let one : looks_now looks + 1 ≡ looks_now h.looks =
-      looked_less c (a, b, v) h.shape.weak.entries h.looks looks looked in
-      let alike : sum_by (scans_of (with_looks mid looks) q) mid.shape.weak.entries
-      ≡ sum_by (scans_of mid q) mid.shape.weak.entries = refl in
-      let fewer : looks_left (with_looks mid looks) q < looks_left h p = omega (arith, sums, same, one, alike) in
       record {
         map = a;
         key = b;
@@ -295,9 +266,6 @@ module _ (c : MarkColour) (h : HeapState) (p : Piles) (a b v : Place) (looks : L
           ),
         ));
         scans = record { black = r.scans.black; gray = r.scans.gray };
-        less = λ lists.
-            (let kept : marks_left (with_looks mid looks) q lists ≡ marks_left mid q lists = refl in
-            omega (arith, fewer, r.less lists, kept));
         room = r.room;
         grays_is = r.grays_is;
       }

@@ -3,12 +3,13 @@ use Rattle.std.proofs.Common.{◌≡◌, ◌≢◌, ◌↔◌, ◌+◌, ◌<◌,
 use Rattle.std.proofs.Common.{None, inl, inr, refl, sym, ap, subst, arith, count_by, cond, is_some, length}
 use Rattle.std.proofs.Common.{slice_get, slice_set}
 use Rattle.std.proofs.Common.{sum_by}
-use Rattle.std.proofs.lemmas.List.Sums.{sum_by-cons, sum_by-le-sum_by}
+use Rattle.std.proofs.lemmas.List.Sums.{sum_by-cons}
 use Rattle.gz_names.specs.declared.numbers.Place.{Place}
 use Rattle.arena_table.specs.Table.{is_place}
 use Rattle.mark_stack.specs.Stack.{Piles}
 use Rattle.gray_lists.specs.Incoming.{Incoming}
-use Rattle.weak_maps.specs.WeakMaps.{AreParallel, EntryState, HasLooked, LooksState, Starts, WeakTableState}
+use Rattle.weak_maps.specs.WeakMaps.{AreParallel, EntryState, HasLooked, LooksState, Starts, WeakMapsState}
+use Rattle.weak_maps.specs.WeakMaps.{WeakTableState}
 use Rattle.weak_maps.specs.declared.colours.MarkColour.{MarkColour}
 use Rattle.weak_maps.specs.declared.colours.MarkColour.TheVariants as mark
 use Rattle.heap_core.specs.Heap.{HeapState, weak_of}
@@ -16,11 +17,10 @@ use Rattle.heap_core.proofs.MakingCells.{same-place}
 use Rattle.barriers.specs.PendingBlack.{PendingBlack}
 use Rattle.barriers.specs.PendingLive.{GrayInvariant, PendingLive}
 use Rattle.barriers.specs.Invariant.{InvariantWhile, MarkingInvariant}
-use Rattle.barriers.specs.Scans.{ScansNoMore}
 use Rattle.barriers.specs.WeakPoint.{Left, WeakPoint, left_of}
 use Rattle.barriers.proofs.BlackClosure.{pending_is_reached, reached_is_pending}
 use Rattle.barriers.proofs.LiveClosure.{live_is_reached, reached_is_live}
-use Rattle.marker.specs.Looks.{StartsBoth, looks_left, looks_now, scans_at, scans_of, with_looks}
+use Rattle.marker.specs.Looks.{StartsBoth, looks_now, with_looks}
 
 -- what does not speak of looks holds with others
 pub holds_on : (h : HeapState) (l : LooksState) (p : Piles) (followed : List Place) → InvariantWhile followed h p
@@ -72,13 +72,14 @@ more_left h p old new more w = record {
 }
 
 -- the looks are what was started
-pub starts_on : (c : MarkColour) (x : Place) (h m k : HeapState) → StartsBoth c x h m → k.looks ≡ m.looks
+pub starts_on : (c : MarkColour) (x : Place) (h m k : HeapState) → StartsBoth c x h m → weak_of k ≡ weak_of m
     → StartsBoth c x h k
 starts_on c x h m k s e = record {
-  map = subst (λ (z : LooksState). Starts (λ entry. entry.map) c x h.shape.weak.entries h.looks.by_map z.by_map) (sym e)
-      s.map;
-  key = subst (λ (z : LooksState). Starts (λ entry. entry.key) c x h.shape.weak.entries h.looks.by_key z.by_key) (sym e)
-      s.key;
+  map = subst (λ (w : WeakMapsState). Starts (λ entry. entry.map) c x h.shape.weak.entries h.looks.by_map
+      w.looks.by_map) (sym e) s.map;
+  key = subst (λ (w : WeakMapsState). Starts (λ entry. entry.key) c x h.shape.weak.entries h.looks.by_key
+      w.looks.by_key) (sym e) s.key;
+  parallel = subst (λ (w : WeakMapsState). AreParallel w) (sym e) s.parallel;
 }
 
 pub gray_on : (h : HeapState) (l : LooksState) (p : Piles) (lists : Incoming) → GrayInvariant h p lists
@@ -120,17 +121,6 @@ live_on h l p lists inv new g y = (
       (live_is_reached (with_looks h l) p lists new (gray_on h l p lists g) b),
   λ b. reached_is_live (with_looks h l) p lists new (gray_on h l p lists g) (live_is_reached h p lists inv g b),
 )
-
--- no more looks are to come, where no cell may be scanned more often
-pub looks_no_more : (h : HeapState) (p : Piles) (k : HeapState) (q : Piles) → ScansNoMore h p k q
-    → k.shape.weak ≡ h.shape.weak → k.looks ≡ h.looks → looks_left k q ≤ looks_left h p
-unfolding looks_left
-looks_no_more h p k q none weak looks =
-    let sums = sum_by-le-sum_by (scans_of k q) (scans_of h p) h.shape.weak.entries
-    (λ e. omega (arith, none.black e.map, none.gray e.map, none.black e.key, none.gray e.key)) in
-    let same = ap (λ es. sum_by (scans_of k q) es.entries) weak in
-    let now = ap looks_now looks in
-    omega (arith, sums, same, now)
 
 some_one : (x y : Option MarkColour) → Some x ≡ Some y → x ≡ y
 some_one x y e = cc e
@@ -188,40 +178,40 @@ started_more f x (e ∷ es) (o ∷ old) (n ∷ new) a b others =
           omega (arith, rest, was, now, all, alike))
     ]
 
--- a scan of a cell pays for one look at each entry of which it is the map, and for one where it is the key
-scans_paid : (h : HeapState) (p : Piles) (k : HeapState) (q : Piles) (x : Place)
-    → ((y : Place) → scans_at k q y + cond (is_place y x) 1 0 ≤ scans_at h p y) → (es : List EntryState)
-    → sum_by (scans_of k q) es + (count_by (λ e. is_place e.map x) es + count_by (λ e. is_place e.key x) es)
-    ≤ sum_by (scans_of h p) es
-scans_paid h p k q x fewer [] = omega arith
-scans_paid h p k q x fewer (e ∷ es) =
-    let rest = scans_paid h p k q x fewer es in
-    let was = sum_by-cons (scans_of h p) e es in
-    let now = sum_by-cons (scans_of k q) e es in
-    let maps = sum_by-cons (λ (d : EntryState). cond (is_place d.map x) 1 0) e es in
-    let keys = sum_by-cons (λ (d : EntryState). cond (is_place d.key x) 1 0) e es in
-    omega (arith, rest, was, now, maps, keys, fewer e.map, fewer e.key)
-
-pub scan_no_more : (c : MarkColour) (x : Place) (h : HeapState) (p : Piles) (k : HeapState) (q : Piles)
-    → StartsBoth c x h k → AreParallel (weak_of k) → k.shape.weak ≡ h.shape.weak
-    → ((y : Place) → scans_at k q y + cond (is_place y x) 1 0 ≤ scans_at h p y) → looks_left k q ≤ looks_left h p
-unfolding looks_left
-scan_no_more c x h p k q starts parallel weak fewer =
+-- the entries of a cell were started: one look more is to come for each of which it is the map, and for each of which
+-- it is the key
+pub starts_few : (c : MarkColour) (x : Place) (h k : HeapState) → StartsBoth c x h k
+    → k.shape.weak ≡ h.shape.weak → looks_now k.looks ≤ looks_now h.looks
+    + (count_by (λ e. is_place e.map x) h.shape.weak.entries + count_by (λ e. is_place e.key x) h.shape.weak.entries)
+starts_few c x h k starts weak =
+    let parallel = starts.parallel in
     let sizes = ap (λ (w : WeakTableState). length w.entries) weak in
     let by_map = started_more (λ e. e.map) x h.shape.weak.entries h.looks.by_map k.looks.by_map
     (omega (arith, starts.map.sized, parallel.0, sizes)) (omega (arith, parallel.0, sizes)) starts.map.others in
     let by_key = started_more (λ e. e.key) x h.shape.weak.entries h.looks.by_key k.looks.by_key
     (omega (arith, starts.key.sized, parallel.1, sizes)) (omega (arith, parallel.1, sizes)) starts.key.others in
-    let paid = scans_paid h p k q x fewer h.shape.weak.entries in
-    let same = ap (λ (w : WeakTableState). sum_by (scans_of k q) w.entries) weak in
-    omega (arith, by_map, by_key, paid, same)
+    omega (arith, by_map, by_key)
 
--- a cell was taken from a pile, and no cell may be scanned more often since
-pub one_fewer : (h : HeapState) (p : Piles) (k : HeapState) (q : Piles) (x : Place) → ScansNoMore h p k q
-    → scans_at k q x < scans_at h p x → (y : Place) → scans_at k q y + cond (is_place y x) 1 0 ≤ scans_at h p y
-one_fewer h p k q x none fewer y = elim (same-place y x) [
+-- a scan of a cell pays for one look at each entry of which it is the map, and for one where it is the key
+pub scans_paid : (f g : Place → ℕ) (x : Place) → ((y : Place) → f y + cond (is_place y x) 1 0 ≤ g y)
+    → (es : List EntryState) → sum_by (λ e. f e.map + f e.key) es
+    + (count_by (λ e. is_place e.map x) es + count_by (λ e. is_place e.key x) es)
+    ≤ sum_by (λ e. g e.map + g e.key) es
+scans_paid f g x fewer [] = omega arith
+scans_paid f g x fewer (e ∷ es) =
+    let rest = scans_paid f g x fewer es in
+    let was = sum_by-cons (λ (d : EntryState). g d.map + g d.key) e es in
+    let now = sum_by-cons (λ (d : EntryState). f d.map + f d.key) e es in
+    let maps = sum_by-cons (λ (d : EntryState). cond (is_place d.map x) 1 0) e es in
+    let keys = sum_by-cons (λ (d : EntryState). cond (is_place d.key x) 1 0) e es in
+    omega (arith, rest, was, now, maps, keys, fewer e.map, fewer e.key)
+
+-- what is no greater anywhere, and less at a cell
+pub less_at : (f g : Place → ℕ) (x : Place) → ((y : Place) → f y ≤ g y) → f x < g x → (y : Place)
+    → f y + cond (is_place y x) 1 0 ≤ g y
+less_at f g x none fewer y = elim (same-place y x) [
   | inl (is, tells) ↦ (let one = ap {B = ℕ} (λ (t : Bool). cond t 1 0) tells in
-      let here = subst (λ z. scans_at k q z < scans_at h p z) (sym is) fewer in omega (arith, one, here))
+      let here = subst (λ z. f z < g z) (sym is) fewer in omega (arith, one, here))
   | inr (other, tells) ↦ (let nothing = ap {B = ℕ} (λ (t : Bool). cond t 1 0) tells in
-      omega (arith, nothing, none.black y, none.gray y))
+      omega (arith, nothing, none y))
 ]

@@ -1,21 +1,22 @@
 -- Weak entries are started, and looked at.
-use Rattle.std.specs.Prelude.{◌≡◌, ◌+◌, ℕ, [], count_by, is_some, sum_by}
+use Rattle.std.specs.Prelude.{◌≡◌, ◌+◌, ℕ, [], count_by, is_some}
 use Rattle.gz_names.specs.declared.numbers.Place.{Place}
 use Rattle.cell_bits.specs.declared.bits.Colour.{Colour}
 use Rattle.cell_bits.specs.declared.bits.Colour.TheVariants as colour
 use Rattle.mark_stack.specs.Stack.{Piles}
-use Rattle.weak_maps.specs.WeakMaps.{EntryState, LooksState, NoneLeft, Starts}
+use Rattle.weak_maps.specs.WeakMaps.{AreParallel, LooksState, NoneLeft, Starts}
 use Rattle.weak_maps.specs.declared.colours.MarkColour.{MarkColour}
 use Rattle.weak_maps.specs.declared.colours.MarkColour.TheVariants as mark
-use Rattle.heap_core.specs.Heap.{HeapState, colour_of}
-use Rattle.barriers.specs.Scans.{black_scans, gray_scans}
+use Rattle.heap_core.specs.Heap.{HeapState, colour_of, weak_of}
 use Rattle.barriers.specs.Spreading.{Turns}
 use Rattle.marker.specs.Shading.{Shades}
 
--- the entries of a cell are to be looked at, those of which it is the map and those of which it is the key
+-- the entries of a cell are to be looked at, those of which it is the map and those of which it is the key; and each
+-- entry has its looks
 pub record StartsBoth (c : MarkColour) (x : Place) (h k : HeapState) : Type 0 where
   pub map : Starts (λ entry. entry.map) c x h.shape.weak.entries h.looks.by_map k.looks.by_map
   pub key : Starts (λ entry. entry.key) c x h.shape.weak.entries h.looks.by_key k.looks.by_key
+  pub parallel : AreParallel (weak_of k)
 
 -- the heap with other entries to be looked at
 abbrev pub with_looks : HeapState → LooksState → HeapState
@@ -49,16 +50,6 @@ abbrev pub cell_colour : MarkColour → Colour
 cell_colour mark.Gray = colour.Gray
 cell_colour mark.Black = colour.Black
 
--- how often a cell may still be scanned
-abbrev pub scans_at : HeapState → Piles → Place → ℕ
-scans_at h p x = black_scans h p x + gray_scans h p x
-
--- how many looks are to come now, and how many may be: one more for each scan of an entry's map and of its key
+-- how many looks are to come now
 abbrev pub looks_now : LooksState → ℕ
 looks_now looks = count_by is_some looks.by_map + count_by is_some looks.by_key
-
-abbrev pub scans_of : HeapState → Piles → EntryState → ℕ
-scans_of h p entry = scans_at h p entry.map + scans_at h p entry.key
-
-unfoldable pub looks_left : HeapState → Piles → ℕ
-looks_left h p = looks_now h.looks + sum_by (scans_of h p) h.shape.weak.entries

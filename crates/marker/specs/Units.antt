@@ -1,4 +1,4 @@
--- Units of marking: what they keep, where there is no work, and a number that they lower.
+-- Units of marking: what they keep and take, and where there is no work.
 use Rattle.std.specs.Prelude.{◌≡◌, ◌⊎◌, ◌↔◌, ◌<◌, ◌≤◌, ◌+◌, ◌*◌, ℕ, Bool, true, [], length, Contains, Option, Some}
 use Rattle.std.specs.Prelude.{IsTrue, MatchBool, slice_get, sum_by}
 use Rattle.gz_names.specs.Zones.{HasZone}
@@ -15,7 +15,7 @@ use Rattle.gray_lists.specs.Incoming.{Incoming, list_of, waiting_count}
 use Rattle.heap_core.specs.Shape.{Shape, is_marking, is_marking_state, state_in, state_of, zone_of}
 use Rattle.heap_core.specs.Heap.{HeapState, joined}
 use Rattle.barriers.specs.Reached.{HasEntry}
-use Rattle.barriers.specs.Colours.{HasGob, IsBlack, IsSeen, grays_outside, left, whites}
+use Rattle.barriers.specs.Colours.{HasGob, IsBlack, IsSeen, grays_outside}
 use Rattle.barriers.specs.PendingBlack.{PendingBlack}
 use Rattle.barriers.specs.PendingLive.{PendingLive, GrayInvariant, buffer_of}
 use Rattle.barriers.specs.Invariant.{MarkingInvariant}
@@ -24,15 +24,7 @@ use Rattle.barriers.specs.Scans.{ScansNoMore, black_scans, gray_scans}
 use Rattle.barriers.specs.Spreading.{Covers}
 use Rattle.marker.specs.GrayBits.{AreGraying}
 use Rattle.marker.specs.Waiting.{IsBlackOnlyComp, Noted}
-use Rattle.marker.specs.Looks.{Raises, StartsBoth, looks_left, with_looks}
-
--- what is left to do at cells, and with the looks at entries: each unit that did something lowers it
-abbrev pub marks_left : HeapState → Piles → Incoming → ℕ
-marks_left h p lists =
-    2 * left h + length p.black + (3 * whites h + (2 * length p.gray + (sum_by length h.buffers + waiting_count lists)))
-
-abbrev pub work_left : HeapState → Piles → Incoming → ℕ
-work_left h p lists = looks_left h p + marks_left h p lists
+use Rattle.marker.specs.Looks.{Raises, StartsBoth, with_looks}
 
 -- a unit of marking: no cell loses its colour, and no slot a bit, and both pending closures are as they were
 pub record Marks (h : HeapState) (p : Piles) (a : Incoming) (k : HeapState) (q : Piles) (b : Incoming) : Type 0 where
@@ -83,7 +75,6 @@ pub record IsGrayIdle (h : HeapState) (p : Piles) (lists : Incoming) (group : �
 -- is new on the gray pile in a zone that takes gray, or new on the list of a compartment whose zone takes none yet
 pub record DoesGray (h : HeapState) (p : Piles) (a : Incoming) (k : HeapState) (q : Piles) (b : Incoming) : Type 0 where
   pub marks : Marks h p a k q b
-  pub less : work_left k q b < work_left h p a
   pub takes : TakesOne h p a k q b
   pub scans : ScansNoMore h p k q
   pub black_is : (y : Place) → IsBlack k y ↔ IsBlack h y
@@ -148,6 +139,5 @@ pub record DoesLook (c : MarkColour) (h : HeapState) (p : Piles) (k : HeapState)
   pub pending_black : (y : Place) → PendingBlack k q y ↔ PendingBlack h p y
   pub pending_live : KeepsLive h p k q
   pub scans : ScansNoMore h p k q
-  pub less : (lists : Incoming) → work_left k q lists < work_left h p lists
   pub room : q.room ≡ p.room
   pub grays_is : grays_outside k ≡ grays_outside h

@@ -1,7 +1,6 @@
 // A unit of black marking.
 ghost use Rattle.std.specs.Prelude.{◌≡◌, ◌⊎◌, ◌↔◌, ◌<◌, ◌≤◌, ◌+◌, ◌*◌, [], ℕ};
 ghost use Rattle.gz_names.specs.declared.numbers.Place.{Place as APlace};
-ghost use Rattle.gray_lists.specs.Incoming.{Incoming};
 ghost use Rattle.heap_core.specs.Heap.{joined};
 ghost use Rattle.barriers.specs.Reached.{Reached};
 ghost use Rattle.barriers.specs.Colours.{IsBlack, grays_outside};
@@ -11,7 +10,7 @@ ghost use Rattle.barriers.specs.Invariant.{MarkingInvariant};
 ghost use Rattle.barriers.specs.Spreading.{Blackens, Covers};
 ghost use Rattle.barriers.specs.Exposing.{KeepsLive};
 ghost use Rattle.marker.specs.Looks.{with_looks};
-ghost use Rattle.marker.specs.Units.{ScansBlack, work_left};
+ghost use Rattle.marker.specs.Units.{ScansBlack};
 
 use barriers::{drain, scan};
 use cell_bits::Flight;
@@ -50,14 +49,12 @@ pub fn black_unit<F: Flight, L: Ledger>(
         ↔ PendingBlack (joined heap.old (F.bits flight.old)) stack.old y }
     ensures pending_live { KeepsLive (joined heap.old (F.bits flight.old)) stack.old
         (joined heap.new (F.bits flight.new)) stack.new }
-    ensures work { result ≡ Work.Did → (lists : Incoming)
-        → work_left (joined heap.new (F.bits flight.new)) stack.new lists
-        < work_left (joined heap.old (F.bits flight.old)) stack.old lists }
     ensures scans { result ≡ Work.Did → ScansBlack (joined heap.old (F.bits flight.old)) stack.old
         (joined heap.new (F.bits flight.new)) stack.new }
     ensures empty { (result ≡ Work.Empty) ↔ (stack.old.black ≡ []) }
     ensures same { result ≡ Work.Empty → (heap.new ≡ heap.old) × (stack.new ≡ stack.old)
-        × (joined heap.old (F.bits flight.new) ≡ joined heap.old (F.bits flight.old)) }
+        × (joined heap.old (F.bits flight.new) ≡ joined heap.old (F.bits flight.old))
+        × (steps.new ≡ steps.old) }
     ensures steps { steps.new + 8 * grays_outside (joined heap.new (F.bits flight.new))
         ≤ steps.old + 8 * grays_outside (joined heap.old (F.bits flight.old)) + 8 }
     ensures covers { Covers heap.new.shape (F.bits flight.new) }
