@@ -12,4 +12,5 @@ pub mod Placing
 pub mod SoundAfter
 pub mod Starting
 pub mod Tying
+pub mod Waits
 pub mod WorldRuns

@@ -3,6 +3,7 @@ pub mod Beginning
 pub mod BeginsIn
 pub mod Begun
 pub mod BegunSteps
+pub mod BegunToCome
 pub mod ClearedBits
 pub mod FewWrappers
 pub mod GatheredRoots

@@ -6,6 +6,7 @@ pub mod Commanding
 pub mod FreedWords
 pub mod JoinedChanges
 pub mod Quiet
+pub mod RaisesToCome
 pub mod Rooms
 pub mod Serving
 pub mod Through

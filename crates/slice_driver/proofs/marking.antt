@@ -1,5 +1,6 @@
 -- Units that report nothing: marking, the beginnings of zones, and why they leave each world as it is.
 pub mod Cells
+pub mod EdgesRead
 pub mod Flights
 pub mod MarkingSteps
 pub mod MarkingUnits

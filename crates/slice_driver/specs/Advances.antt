@@ -7,6 +7,7 @@ use Rattle.cell_bits.specs.declared.bits.Bits.{Bits}
 use Rattle.colour_defs.specs.World.{World}
 use Rattle.colour_defs.specs.Laws.{IsValid}
 use Rattle.colour_defs.specs.Lawful.{AreLawfulUnits}
+use Rattle.colour_defs.specs.Units.{sweeps_in}
 use Rattle.sweeping.specs.ArenasOut.{AscendHanded}
 use Rattle.heap_core.specs.Shape.{Shape}
 use Rattle.slice_driver.specs.declared.advance.Step.{Step}
@@ -15,6 +16,7 @@ use Rattle.slice_driver.specs.Left.{units_left}
 use Rattle.slice_driver.specs.Represents.{Represents}
 use Rattle.slice_driver.specs.Units.{DoesUnit, IsFreedWord, IsLowestOut, IsSound, KeepsFreedWords, reports_of}
 use Rattle.slice_driver.specs.Units.{without_arena}
+use Rattle.slice_driver.specs.UnitsToCome.{units_to_come}
 use Rattle.slice_driver.specs.Working.{IsStill}
 
 -- these arenas are out, each with the slots of its white cells as it was handed to sweeping
@@ -52,6 +54,7 @@ pub record Advances (limit : ℕ) (old : CollectorState) (flown : ℕ → Option
   pub some : 0 < step.units
   pub most : step.units ≤ limit
   pub less : units_left new flying + step.units ≤ units_left old flown
+  pub to_come : units_to_come new flying + step.units ≤ units_to_come old flown + sweeps_in (told step now)
   -- what is told of it
   pub told_some : step.reported ≡ true → IsSome now
   pub told_none : step.reported ≡ false → now ≡ before
@@ -69,8 +72,8 @@ pub record MayAdvance (c : CollectorState) (flown : ℕ → Option Bits) (outs :
   pub running : IsSome c.run
   pub out : AreOut c.heap.shape outs
 
--- where memory was wanted nothing was done, and nothing is told of it; what is out, and with which sweeper, is as it
--- was
+-- where memory was wanted nothing was done, and nothing is told of it; what is out, and with which sweeper, is as
+-- before
 pub record StillOnErr {S O H T E : Type 0} (bits_of : S → ℕ → Option Bits) (origin_of : S → O) (home_of : O → H)
     (result : Result T E) (c : CollectorState) (f : S) (before : Option Report) (d : CollectorState) (g : S)
     (now : Option Report) : Type 0 where
@@ -86,6 +89,7 @@ pub record TakesDue {S O H : Type 0} (bits_of : S → ℕ → Option Bits) (orig
     : Type 0 where
   pub done : DoesUnit c (bits_of f) (reports_of report over) d (bits_of g)
   pub left : units_left d (bits_of g) < units_left c (bits_of f)
+  pub to_come : units_to_come d (bits_of g) ≤ units_to_come c (bits_of f)
   pub finished : (over ≡ true) ↔ (d.run ≡ None)
   pub sound : IsSound d (bits_of g)
   pub out : AreOut d.heap.shape (left_of (origin_of g))
@@ -100,9 +104,7 @@ pub record MayTakeIn (c : CollectorState) (a word : ℕ) : Type 0 where
   pub freed : IsFreedWord c.heap.shape a word
   pub running : IsSome c.run
 
--- an arena was taken in, whatever else is in flight: a unit with this report was done, with which the collection is
--- over
--- or not
+-- an arena was taken in, whatever else is in flight: a unit with this report was done, which ends the collection or not
 pub record TakesIn (a : ℕ) (bits : Bits) (report : Option Report) (over : Bool) (c d : CollectorState) : Type 0 where
   pub done : (flown : ℕ → Option Bits) → flown a ≡ Some bits
       → DoesUnit c flown (reports_of report over) d (without_arena flown a)
@@ -110,6 +112,8 @@ pub record TakesIn (a : ℕ) (bits : Bits) (report : Option Report) (over : Bool
   pub words : KeepsFreedWords c.heap.shape d.heap.shape
   pub left : (flown : ℕ → Option Bits) → IsSound c flown → flown a ≡ Some bits
       → units_left d (without_arena flown a) < units_left c flown
+  pub to_come : (flown : ℕ → Option Bits) → IsSound c flown → flown a ≡ Some bits
+      → units_to_come d (without_arena flown a) ≤ units_to_come c flown
   pub finished : (over ≡ true) ↔ (d.run ≡ None)
   pub made : d.heap.made ≡ c.heap.made
   pub weak : d.heap.shape.weak ≡ c.heap.shape.weak

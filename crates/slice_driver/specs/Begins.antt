@@ -1,5 +1,5 @@
 -- How marking begins, by places.
-use Rattle.std.specs.Prelude.{◌≡◌, ◌⊎◌, ◌↔◌, ◌<◌, ◌≤◌, ◌*◌, ℕ, [], length, Some, Contains}
+use Rattle.std.specs.Prelude.{◌≡◌, ◌⊎◌, ◌↔◌, ◌<◌, ◌≤◌, ◌+◌, ◌*◌, ℕ, [], length, Some, Contains, sum_by}
 use Rattle.gz_names.specs.Zones.{HasZone}
 use Rattle.gz_names.specs.declared.numbers.Place.{Place}
 use Rattle.gz_names.specs.declared.zone_sets.ZoneSet.{ZoneSet}
@@ -15,6 +15,7 @@ use Rattle.barriers.specs.Colours.{IsBlack, IsGray}
 use Rattle.barriers.specs.Invariant.{HasRoom}
 use Rattle.barriers.specs.PendingLive.{buffer_of}
 use Rattle.barriers.specs.Scans.{AreScannedOnce}
+use Rattle.slice_driver.specs.ListedWrappers.{is_outside, listed_below}
 
 -- a cell of one of these zones
 abbrev pub IsWithin : Shape → ZoneSet → Place → Type 0
@@ -52,6 +53,7 @@ pub record BeginsMarking (h : HeapState) (zones : ZoneSet) (k : HeapState) (stac
   where
     pub shape_is : k.shape ≡ record h.shape { states = k.shape.states }
     pub made_is : k.made ≡ h.made
+    pub looks_is : k.looks ≡ h.looks
     pub count : length k.shape.states ≡ length h.shape.states
     pub states : (z : ℕ) → HasZone zones.bits z → state_in k.shape z ≡ state.MarkBlackOnly
     pub other_states : (z : ℕ) → (HasZone zones.bits z → ⊥) → state_in k.shape z ≡ state_in h.shape z
@@ -65,5 +67,7 @@ pub record BeginsMarking (h : HeapState) (zones : ZoneSet) (k : HeapState) (stac
     pub room : HasRoom k stack
     pub once : AreScannedOnce k stack
     pub buffered : (z : ℕ) (x : Place) → Contains (buffer_of k z) x ↔ IsGrayRoot h zones z x
+    pub few_buffered : sum_by length k.buffers
+        ≤ 64 + listed_below h.shape (is_outside zones) (length h.shape.states)
     pub none_incoming : (c : ℕ) → incoming.list_of lists c ≡ []
     pub lists_room : 64 * length k.colours ≤ lists.room

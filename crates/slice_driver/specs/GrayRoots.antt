@@ -1,5 +1,5 @@
 -- Gray roots are gathered as a collection begins.
-use Rattle.std.specs.Prelude.{◌≡◌, ◌⊎◌, ◌↔◌, ◌<◌, ◌≤◌, ℕ, List, Some, Contains, slice_get, length}
+use Rattle.std.specs.Prelude.{◌≡◌, ◌⊎◌, ◌↔◌, ◌<◌, ◌≤◌, ◌+◌, ℕ, List, Some, Contains, slice_get, length, sum_by}
 use Rattle.gz_names.specs.Zones.{HasZone}
 use Rattle.gz_names.specs.declared.numbers.Place.{Place}
 use Rattle.gz_names.specs.declared.numbers.ZoneNo.{ZoneNo}
@@ -9,6 +9,7 @@ use Rattle.roots.specs.Buffers.{buffer_at, places_in}
 use Rattle.wrappers.specs.WrapperMaps.{list_of}
 use Rattle.heap_core.specs.Shape.{Shape, field_at, zone_of}
 use Rattle.heap_core.specs.Heap.{HeapState, colour_of}
+use Rattle.slice_driver.specs.ListedWrappers.{is_outside, listed_below}
 use Rattle.zone_edges.specs.Looks.{AreWrappers}
 use Rattle.slice_driver.specs.RootMarking.{LeadsAt}
 
@@ -58,9 +59,12 @@ pub record MayGather (h : HeapState) : Type 0 where
   pub sized : length h.colours ≡ length h.shape.arenas
   pub few : HasFewWrappers h.shape
 
--- exactly the gray roots of these zones were put into the buffers of their zones, and nothing else changed
+-- exactly the gray roots of these zones were put into the buffers of their zones, at most one for each gray slot and
+-- one for each wrapper of another zone, and nothing else changed
 pub record Buffers (h : HeapState) (zones : ZoneSet) (k : HeapState) : Type 0 where
   pub rest : k ≡ record h { buffers = k.buffers }
   pub roots : (z : ℕ) (x : Place) → Contains (buffer_at k.buffers z) x
       ↔ (Contains (buffer_at h.buffers z) x
       ⊎ (IsInSlot h.shape zones z x ⊎ IsGrayAmong h zones (length h.shape.states) z x))
+  pub few : sum_by length k.buffers
+      ≤ sum_by length h.buffers + (64 + listed_below h.shape (is_outside zones) (length h.shape.states))

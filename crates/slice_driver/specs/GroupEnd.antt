@@ -77,6 +77,7 @@ pub record IsEnded (old : HeapState) (g : ZoneSet) (new : HeapState) : Type 0 wh
       (list_of old.shape.wrappers z)
   pub entries : IsWithoutDead (is_absent new.shape) old.shape.weak new.shape.weak
   pub carries : Carries (weak_of old) (weak_of new)
+  pub parallel : AreParallel (weak_of new)
 
 -- the name of a gray cell of a group
 pub record IsGrayHere (h : HeapState) (g : ZoneSet) (x : Name) : Type 0 where

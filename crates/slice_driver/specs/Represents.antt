@@ -7,12 +7,14 @@ use Rattle.gz_names.specs.declared.numbers.Place.{Place}
 use Rattle.gz_names.specs.declared.zone_sets.ZoneSet.{ZoneSet}
 use Rattle.cell_bits.specs.declared.bits.Bits.{Bits}
 use Rattle.zones.specs.declared.states.State.TheVariants as state
+use Rattle.weak_maps.specs.WeakMaps.{LooksState, NoneLeft}
+use Rattle.weak_maps.specs.declared.colours.MarkColour.TheVariants as mark
 use Rattle.gray_lists.specs.Incoming.{list_of as waiting_for}
 use Rattle.zone_edges.specs.Groups.{Edge}
 use Rattle.zone_edges.specs.Looks.{AreLeftBlack, IsLookedAt}
 use Rattle.colour_defs.specs.World.{World, Collection, IsSettled}
 use Rattle.colour_defs.specs.Groups.{IsFirstEdge}
-use Rattle.heap_core.specs.Shape.{HasEdge, Shape, is_marking_state, out_of, state_in, zone_of}
+use Rattle.heap_core.specs.Shape.{HasEdge, Shape, is_marking_state, out_of, state_in, state_of, zone_of}
 use Rattle.heap_core.specs.Heap.{HeapState}
 use Rattle.barriers.specs.Colours.{IsBlack}
 use Rattle.barriers.specs.Invariant.{MarkingInvariant}
@@ -28,13 +30,18 @@ pub record IsIdle (c : CollectorState) : Type 0 where
   pub black : c.stack.black ≡ []
   pub gray : c.stack.gray ≡ []
 
+-- no weak entry is to be looked at
+abbrev pub NothingLeft : LooksState → Type 0
+NothingLeft looks = NoneLeft mark.Gray looks × NoneLeft mark.Black looks
+
 -- only for marking zones does anything wait: cells for a zone's gray marking, wrappers for a compartment of a zone, and
--- the gray pile for a group whose gray marking began
+-- weak entries to be looked at; and on the gray pile are cells of zones that take gray
 pub record WaitsWhileMarking (c : CollectorState) : Type 0 where
-  pub gray : ((z : ℕ) → state_in c.heap.shape z ≢ state.MarkBlackAndGray) → c.stack.gray ≡ []
+  pub piled : (x : Place) → Contains c.stack.gray x → state_of c.heap.shape x ≡ state.MarkBlackAndGray
   pub buffered : (z : ℕ) → is_marking_state (state_in c.heap.shape z) ≡ false → buffer_of c.heap z ≡ []
   pub incoming : (n : ℕ) (p : Place) → Contains (waiting_for c.lists n) p
       → (z : ℕ) × (slice_get c.heap.shape.comps n ≡ Some z) × (is_marking_state (state_in c.heap.shape z) ≡ true)
+  pub looks : ((z : ℕ) → is_marking_state (state_in c.heap.shape z) ≡ false) → NothingLeft c.heap.looks
 
 -- a zone is in one of the groups
 abbrev pub IsInGroups : List ZoneSet → ℕ → Type 0

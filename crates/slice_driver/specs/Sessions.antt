@@ -11,6 +11,7 @@ use Rattle.colour_defs.specs.Dumps.{IsDump}
 use Rattle.colour_defs.specs.Ends.{Lists}
 use Rattle.colour_defs.specs.World.{World, Has, IsPresent, IsSettled}
 use Rattle.colour_defs.specs.Laws.{IsValid}
+use Rattle.colour_defs.specs.Units.{sweeps_in}
 use Rattle.slice_driver.specs.declared.session.SessionFault.{SessionFault}
 use Rattle.slice_driver.specs.declared.session.SessionFault.TheVariants as session
 use Rattle.slice_driver.specs.declared.advance.Step.{Step}
@@ -18,6 +19,7 @@ use Rattle.slice_driver.specs.Advances.{DoesUnits, told}
 use Rattle.slice_driver.specs.Collector.{CollectorState}
 use Rattle.slice_driver.specs.Left.{units_left}
 use Rattle.slice_driver.specs.Represents.{Represents}
+use Rattle.slice_driver.specs.UnitsToCome.{units_to_come}
 
 -- a collector, who sweeps, and the last report
 pub record SessionState (S : Type 0) : Type 0 where
@@ -34,12 +36,12 @@ outcome_of (Err session.Full) = None
 
 -- a step was done: at most so many units, some where a collection runs, and what they report is told
 pub record SessionSteps (limit : ℕ) (old : CollectorState) (flown : ℕ → Option Bits) (step : Step)
-    (new : CollectorState)
-    (flying : ℕ → Option Bits) (report : Option Report) : Type 0 where
+    (new : CollectorState) (flying : ℕ → Option Bits) (report : Option Report) : Type 0 where
   pub done : DoesUnits old flown step.units (told step report) new flying
   pub most : step.units ≤ limit
   pub some : 0 < limit → IsSome old.run → 0 < step.units
   pub less : units_left new flying + step.units ≤ units_left old flown
+  pub to_come : units_to_come new flying + step.units ≤ units_to_come old flown + sweeps_in (told step report)
 
 -- the names of the gray cells in each valid world that a collector stands for; in none of these is a zone marking
 abbrev pub AreGrayNames : CollectorState → (ℕ → Option Bits) → List Name → Type 0

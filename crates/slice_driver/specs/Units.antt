@@ -1,7 +1,9 @@
 -- What a collector's calls do in the worlds that it stands for.
-use Rattle.std.specs.Prelude.{◌≡◌, ◌≢◌, ◌<◌, ◌==◌, ℕ, Bool, true, false, List, [], ◌∷◌, Option, Some, None, Result, Ok}
+use Rattle.std.specs.Prelude.{◌≡◌, ◌≢◌, ◌+◌, ◌<◌, ◌≤◌, ◌==◌, ℕ, Bool, true, false, List, [], ◌∷◌, Option, Some, None}
+use Rattle.std.specs.Prelude.{Result, Ok}
 use Rattle.std.specs.Prelude.{Err, IsSome, slice_get, if◌then◌else◌, Contains, ⊤}
 use Rattle.gz_names.specs.Zones.{zones_in}
+use Rattle.gz_names.specs.declared.names.Name.{Name}
 use Rattle.gz_names.specs.declared.commands.GraphCmd.{GraphCmd}
 use Rattle.gz_names.specs.declared.replies.Reply.{Reply}
 use Rattle.gz_names.specs.declared.replies.Reply.TheVariants as reply
@@ -12,7 +14,9 @@ use Rattle.gz_names.specs.declared.replies.Report.TheVariants as report
 use Rattle.cell_bits.specs.declared.bits.Bits.{Bits}
 use Rattle.cell_bits.specs.declared.jobs.Job.{Job}
 use Rattle.colour_defs.specs.Ends.{zones_without}
-use Rattle.colour_defs.specs.World.{World, Collection, CommandInWorld}
+use Rattle.colour_defs.specs.Graph.{GraphState}
+use Rattle.colour_defs.specs.Units.{Tally, unit_limit, with_put, with_woken}
+use Rattle.colour_defs.specs.World.{World, Collection, CommandInWorld, woken_by}
 use Rattle.colour_defs.specs.Lawful.{BeginsAtOnce, IsLawfulUnit}
 use Rattle.colour_defs.specs.Laws.{IsValid}
 use Rattle.cell_bits.specs.Colours.{white_mask_of}
@@ -25,6 +29,7 @@ use Rattle.slice_driver.specs.declared.collector.Unit.{Unit}
 use Rattle.slice_driver.specs.Collector.{CollectorState}
 use Rattle.slice_driver.specs.GroupEnd.{AreColoured}
 use Rattle.slice_driver.specs.Represents.{Represents}
+use Rattle.slice_driver.specs.UnitsToCome.{IsWithin, units_to_come}
 
 -- no arena is in flight
 abbrev pub none_flown : ℕ → Option Bits
@@ -56,11 +61,32 @@ abbrev pub DoesCommand : CollectorState → (ℕ → Option Bits) → GraphCmd �
 DoesCommand old flown cmd result new flying = (w : World) → IsValid w → Represents old flown w
     → AnswersIn w cmd result new flying
 
+-- the tally of a collection after an accepted command
+abbrev pub tally_after : GraphState → GraphCmd → Collection → Tally
+tally_after g cmd k = with_woken g k.zones (woken_by g cmd) (with_put g k.zones cmd k.tally)
+
+-- a command raises a number by no more than the bound on units, and not at all where it was not done
+abbrev pub RaisesBy : World → Collection → GraphCmd → Result Reply CmdFault → ℕ → ℕ → Type 0
+RaisesBy w k cmd (Ok answer) old new = new + unit_limit k.tally ≤ old + unit_limit (tally_after w.graph cmd k)
+RaisesBy w k cmd (Err why) old new = new ≤ old
+
+-- it so raises what is to come of the collection that runs, in each world that the collector stood for
+abbrev pub RaisesWithin : CollectorState → (ℕ → Option Bits) → GraphCmd → Result Reply CmdFault → CollectorState
+    → (ℕ → Option Bits) → Type 0
+RaisesWithin old flown cmd result new flying = (w : World) (k : Collection) → IsValid w → Represents old flown w
+    → w.collection ≡ Some k → RaisesBy w k cmd result (units_to_come old flown) (units_to_come new flying)
+
 -- a collection of these zones was prepared and began its marking at once, in each world that the collector stood for,
 -- which is valid after it
 abbrev pub BeginsIn : CollectorState → ℕ → CollectorState → Type 0
 BeginsIn old zones new = (flown : ℕ → Option Bits) (w : World) → IsValid w → Represents old flown w → (v : World)
     × BeginsAtOnce w (zones_in (record { bits = zones })) v × IsValid v × Represents new flown v
+
+-- what is to come of a collection of these zones that began is within its bound on units, in each world in which it
+-- began and for whose beginning the collector stood
+abbrev pub BeginsWithin : CollectorState → ℕ → CollectorState → Type 0
+BeginsWithin old zones new = (flown : ℕ → Option Bits) (w v : World) → IsValid w → Represents old flown w
+    → BeginsAtOnce w (zones_in (record { bits = zones })) v → IsWithin new flown v
 
 -- the reports of a unit
 abbrev pub with_done : Bool → List Report
@@ -108,6 +134,10 @@ KeepsFreedWords s t = (a freed : ℕ) → IsFreedWord s a freed → IsFreedWord 
 abbrev pub AreAscendingJobs : List Job → Type 0
 AreAscendingJobs [] = ⊤
 AreAscendingJobs (job ∷ jobs) = ((other : Job) → Contains jobs other → job.arena < other.arena) × AreAscendingJobs jobs
+
+-- a report that this arena was swept
+abbrev pub TellsSweep : ℕ → Option Report → Type 0
+TellsSweep a told = (names : List Name) × (told ≡ Some (report.Swept a names))
 
 -- jobs of arenas that are handed to sweeping, ascending, with the slots of their white cells
 pub record AreJobsOf (s : Shape) (jobs : List Job) : Type 0 where

@@ -16,6 +16,7 @@ use Rattle.marker.specs.GrayBits.{AreGraying}
 use Rattle.marker.specs.Units.{IsGrayIdle}
 use Rattle.zone_edges.specs.Looks.{AreAllLookedAt}
 use Rattle.slice_driver.specs.Collector.{CollectorState, RunState, heap_with}
+use Rattle.slice_driver.specs.UnitsToCome.{units_to_come}
 use Rattle.slice_driver.specs.Left.{units_left}
 use Rattle.slice_driver.specs.Quiet.{IsFormed}
 use Rattle.slice_driver.specs.Represents.{Represents}
@@ -32,6 +33,7 @@ pub record GoesOn (c : CollectorState) (flown : ℕ → Option Bits) (reports : 
   pub made_is : d.heap.made ≡ c.heap.made
   pub weak_is : d.heap.shape.weak ≡ c.heap.shape.weak
   pub less : units_left d flying < units_left c flown
+  pub to_come : units_to_come d flying < units_to_come c flown
 
 -- nothing was done: the collector is as it was, and so are all colours, also those in flight
 pub record IsStill (c : CollectorState) (flown : ℕ → Option Bits) (d : CollectorState) (flying : ℕ → Option Bits) : Type
@@ -141,9 +143,11 @@ abbrev pub QuietOrNone : Bool → CollectorState → (ℕ → Option Bits) → C
 QuietOrNone true c flown d flying = GoesOn c flown [] d flying
 QuietOrNone false c flown d flying = IsStill c flown d flying × IsQuietDone c flown
 
--- so many units were done that report nothing: the worlds are as they were, and each unit lowered what is left
+-- so many units were done that report nothing: the worlds are as they were, and each unit lowered what is left and what
+-- is to come
 pub record DoesQuietUnits (n : ℕ) (c : CollectorState) (flown : ℕ → Option Bits) (d : CollectorState)
     (flying : ℕ → Option Bits) : Type 0 where
   pub none : n ≡ 0 → IsStill c flown d flying
   pub some : 0 < n → GoesOn c flown [] d flying
   pub less : units_left d flying + n ≤ units_left c flown
+  pub to_come : units_to_come d flying + n ≤ units_to_come c flown

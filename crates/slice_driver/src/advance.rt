@@ -1,8 +1,10 @@
 // Steps of a collection, whoever sweeps: the one place where units, due arenas and their sweeping meet.
 ghost use Rattle.std.specs.Prelude.{◌≡◌, ◌<◌, None, false, true, IfOk, IsSome, OnErr, if◌then◌else◌, is_some};
 ghost use Rattle.sweeping.specs.ArenasOut.{flying_after, outs_after};
+ghost use Rattle.slice_driver.specs.Collector.{heap_with};
+ghost use Rattle.slice_driver.specs.EdgesRead.{UnitsReadFew};
 ghost use Rattle.slice_driver.specs.Advances.{Advances, AreOut, MayAdvance, StillOnErr, TakesDue};
-ghost use Rattle.slice_driver.specs.Units.{IsLowestOut, IsSound};
+ghost use Rattle.slice_driver.specs.Units.{IsLowestOut, IsSound, TellsSweep};
 ghost use Rattle.slice_driver.specs.Working.{IsStill};
 
 use crate::collector::{Collector, Unit};
@@ -66,6 +68,9 @@ impl Collector {
     /// The arenas that a unit hands to sweeping are the caller's: who sweeps by itself takes them
     /// over, and a board may be entered with them.
     ///
+    /// It reads at most nine edges a unit, and eight for each gray cell outside marking zones that turns
+    /// black.
+    ///
     /// Returns `NoMemory` only where a group is to end; then nothing was done.
     #[inline(always)]
     pub fn advance<F: Sweeping, L: Ledger>(
@@ -81,6 +86,9 @@ impl Collector {
         ensures done { IfOk result (λ step. Advances limit self.old (F.bits flight.old) report.old
             step self.new (flying_after step.handed (F.bits flight.new))
             (outs_after step.handed (F.left (F.origin flight.new))) report.new) }
+        ensures steps { IfOk result (λ step. UnitsReadFew step.units steps.old
+            (heap_with self.old (F.bits flight.old)) steps.new
+            (heap_with self.new (flying_after step.handed (F.bits flight.new)))) }
         ensures still { StillOnErr F.bits F.origin F.home result self.old flight.old report.old
             self.new flight.new report.new }
     {
@@ -112,6 +120,9 @@ impl Collector {
         requires some { 0 < limit }
         ensures done { IfOk result (λ step. Advances limit self.old (F.bits sweeper.old) report.old
             step self.new (F.bits sweeper.new) (F.left (F.origin sweeper.new)) report.new) }
+        ensures steps { IfOk result (λ step. UnitsReadFew step.units steps.old
+            (heap_with self.old (F.bits sweeper.old)) steps.new
+            (heap_with self.new (F.bits sweeper.new))) }
         ensures handed { IfOk result (λ step. step.handed ≡ None) }
         ensures err { OnErr result (IsStill self.old (F.bits sweeper.old) self.new
             (F.bits sweeper.new)) }
@@ -147,6 +158,9 @@ impl Collector {
         ensures done { IfOk result (λ step. Advances 1 self.old (F.bits flight.old) report.old step
             self.new (flying_after step.handed (F.bits flight.new))
             (outs_after step.handed (F.left (F.origin flight.new))) report.new) }
+        ensures steps { IfOk result (λ step. UnitsReadFew step.units steps.old
+            (heap_with self.old (F.bits flight.old)) steps.new
+            (heap_with self.new (flying_after step.handed (F.bits flight.new)))) }
         ensures still { StillOnErr F.bits F.origin F.home result self.old flight.old report.old
             self.new flight.new report.new }
     {
@@ -165,6 +179,7 @@ impl Collector {
         requires lowest { IsLowestOut self.old.heap.shape arena }
         ensures takes { TakesDue F.bits F.origin F.left F.home result.report result.finished
             self.old flight.old self.new flight.new }
+        ensures told { TellsSweep arena result.report }
         ensures none_handed { result.handed ≡ None }
     {
         let mut report = None;
@@ -189,7 +204,7 @@ impl Collector {
         requires lowest { IsLowestOut self.old.heap.shape arena }
         ensures takes { TakesDue F.bits F.origin F.left F.home report.new result self.old flight.old
             self.new flight.new }
-        ensures told { IsSome report.new }
+        ensures told { TellsSweep arena report.new }
     {
         if flight.is_empty() {
             unreachable!();

@@ -6,7 +6,7 @@ ghost use Rattle.cell_bits.specs.declared.bits.Bits.{Bits as ABits};
 ghost use Rattle.zones.specs.declared.states.State.TheVariants as state;
 ghost use Rattle.heap_core.specs.Shape.{state_in};
 ghost use Rattle.slice_driver.specs.Begins.{AreMade};
-ghost use Rattle.slice_driver.specs.Units.{BeginsIn, IsSound, KeepsFreedWords};
+ghost use Rattle.slice_driver.specs.Units.{BeginsIn, BeginsWithin, IsSound, KeepsFreedWords};
 
 use crate::collector::{Collector, Run};
 use crate::gray_roots::buffer_gray_roots;
@@ -54,6 +54,7 @@ impl Collector {
         requires sound { (flown : ℕ → Option ABits) × IsSound self.old flown }
         requires some { (z : ℕ) × HasZone zones.bits z }
         ensures begun { OnOk result (BeginsIn self.old zones.bits self.new) }
+        ensures within { OnOk result (BeginsWithin self.old zones.bits self.new) }
         ensures started { OnOk result
             (self.new.run ≡ Some (record { zones = zones; formed = false })) }
         ensures running { (result ≡ Err BeginFault.Running) ↔ IsSome self.old.run }
@@ -74,6 +75,8 @@ impl Collector {
             return Err(BeginFault::NoZone);
         }
         self.few_wrappers_law();
+        self.wrappers_law();
+        self.entries_law();
         buffer_gray_roots(&mut self.heap, alloc, zones, steps)?;
         self.heap.clear_bits(zones);
         mark_registers(&mut self.heap, &mut self.stack, zones);

@@ -1,7 +1,7 @@
 // What bounds the work of a collection.
 ghost use Rattle.std.specs.Prelude.{◌<◌, ◌≤◌, ◌^◌, ℕ, Option, length, sum_by};
 ghost use Rattle.cell_bits.specs.declared.bits.Bits.{Bits};
-ghost use Rattle.weak_maps.specs.WeakMaps.{AreParallel};
+ghost use Rattle.weak_maps.specs.WeakMaps.{AreParallel, IsSound as AreEntries};
 ghost use Rattle.heap_core.specs.Heap.{weak_of};
 ghost use Rattle.slice_driver.specs.GrayRoots.{HasFewWrappers};
 ghost use Rattle.slice_driver.specs.Left.{units_left};
@@ -26,6 +26,14 @@ impl Collector {
     {
         self.sizes_law();
         self.wrappers_law();
+    }
+
+    // No key of a map has two weak entries, and each entry has its looks. It does nothing.
+    pub(crate) fn entries_law(&self)
+        ensures sound { AreEntries self.now.heap.shape.weak }
+        ensures parallel { AreParallel (weak_of self.now.heap) }
+    {
+        self.heap.entry(0);
     }
 
     // How many arenas, buffered places, zones and weak entries there are at most. It does nothing.

@@ -28,6 +28,8 @@ impl Collector {
             → Lists (λ x. IsPresentName w x × (Has w.black x → ⊥)) names) }
         ensures same { (w : World) → Represents self.now (F.bits flight.old) w
             → Represents self.now (F.bits flight.new) w }
+        ensures heap { joined self.now.heap (F.bits flight.new)
+            ≡ joined self.now.heap (F.bits flight.old) }
         ensures origin { F.origin flight.new ≡ F.origin flight.old }
     {
         let mut names = Vec::new(alloc);
@@ -81,6 +83,7 @@ fn push_flown_gray<F: Flight>(
 }
 
 // Adds the names of the gray cells of an arena that is not out: only its gray slots are looked at.
+#[inline(always)]
 pub(crate) fn push_own_gray(heap: &Heap, arena: u32, names: &mut Vec<Name>) -> Result<(), NoMemory>
     requires made { arena < length heap.now.colours }
     requires present { (slot : ℕ) → IsGray heap.now (arena, slot)
@@ -88,7 +91,9 @@ pub(crate) fn push_own_gray(heap: &Heap, arena: u32, names: &mut Vec<Name>) -> R
     ensures { OnOk result (names.new.items ≡ names.old.items ++ grays_below heap.now arena 64) }
 {
     let slots = gray_slots(&heap.bits(arena));
-    names.reserve(slots.count_ones() as usize)?;
+    if slots != 0 {
+        names.reserve(slots.count_ones() as usize)?;
+    }
     push_at(heap, arena, slots, names)
 }
 

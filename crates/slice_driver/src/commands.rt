@@ -14,7 +14,7 @@ ghost use Rattle.barriers.specs.Spreading.{Covers};
 ghost use Rattle.slice_driver.specs.Commands.{WantsMemory};
 ghost use Rattle.slice_driver.specs.Rooms.{IsRoomy, Widens, arenas_after};
 ghost use Rattle.slice_driver.specs.Steps.{GoesThrough};
-ghost use Rattle.slice_driver.specs.Units.{DoesCommand, IsSound, KeepsFreedWords};
+ghost use Rattle.slice_driver.specs.Units.{DoesCommand, IsSound, KeepsFreedWords, RaisesWithin};
 
 use crate::collector::Collector;
 use barriers::expose;
@@ -44,6 +44,8 @@ impl Collector {
         requires fields { HasFewFields cmd }
         ensures done { DoesCommand self.old (F.bits flight.old) cmd result self.new
             (F.bits flight.new) }
+        ensures to_come { RaisesWithin self.old (F.bits flight.old) cmd result self.new
+            (F.bits flight.new) }
         ensures answered { IfOk result (λ answer. refusal_in answer ≡ None) }
         ensures refused { (why : _) → result ≡ Err (fault.Refused why)
             → (self.new ≡ self.old) × (F.bits flight.new ≡ F.bits flight.old) }
@@ -60,6 +62,7 @@ impl Collector {
             ≤ length self.old.heap.shape.weak.entries + 1 }
     {
         self.wrappers_law();
+        self.entries_law();
         let plan = match self.heap.resolve(&cmd) {
             Ok(plan) => plan,
             Err(why) => return Err(CmdFault::Refused(why)),

@@ -8,7 +8,8 @@ ghost use Rattle.colour_defs.specs.Step.{HasFewFields};
 ghost use Rattle.gz_names.specs.Zones.{HasZone};
 ghost use Rattle.heap_core.specs.Effects.{HasRoom};
 ghost use Rattle.slice_driver.specs.Advances.{Advances, AreOut, MayAdvance};
-ghost use Rattle.slice_driver.specs.Units.{BeginsIn, DoesCommand, IsSound, KeepsFreedWords};
+ghost use Rattle.slice_driver.specs.Units.{BeginsIn, BeginsWithin, DoesCommand, IsSound, KeepsFreedWords};
+ghost use Rattle.slice_driver.specs.Units.{RaisesWithin};
 ghost use Rattle.slice_driver.specs.Working.{IsStill};
 
 use crate::advance::Step;
@@ -36,6 +37,8 @@ pub(crate) fn command<S: Sweeper, L: Ledger>(
     requires fields { HasFewFields cmd }
     ensures done { DoesCommand collector.old (S.bits sweeper.old) cmd result collector.new
         (S.bits sweeper.new) }
+    ensures to_come { RaisesWithin collector.old (S.bits sweeper.old) cmd result collector.new
+        (S.bits sweeper.new) }
     ensures run { collector.new.run ≡ collector.old.run }
     ensures sound { IsSound collector.new (S.bits sweeper.new) }
     ensures out { AreOut collector.new.heap.shape (S.left (S.origin sweeper.new)) }
@@ -57,6 +60,7 @@ pub(crate) fn begin<L: Ledger>(
     requires sound { (flown : ℕ → Option ABits) × IsSound collector.old flown }
     requires some { (z : ℕ) × HasZone zones.bits z }
     ensures begun { OnOk result (BeginsIn collector.old zones.bits collector.new) }
+    ensures within { OnOk result (BeginsWithin collector.old zones.bits collector.new) }
     ensures started { OnOk result (IsSome collector.new.run) }
     ensures refused { OnErr result (collector.new ≡ collector.old) }
     ensures sound { (flown : ℕ → Option ABits) → IsSound collector.old flown

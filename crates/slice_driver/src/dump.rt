@@ -30,6 +30,8 @@ impl Collector {
             → Represents self.now (F.bits flight.old) w → IsSettled w → IsDump w lines.items) }
         ensures same { (w : World) → Represents self.now (F.bits flight.old) w
             → Represents self.now (F.bits flight.new) w }
+        ensures heap { joined self.now.heap (F.bits flight.new)
+            ≡ joined self.now.heap (F.bits flight.old) }
         ensures origin { F.origin flight.new ≡ F.origin flight.old }
     {
         let cells = cells_by_name(&self.heap, alloc)?;

@@ -1,5 +1,5 @@
 // The end of a group, and taking arenas in.
-ghost use Rattle.std.specs.Prelude.{◌≡◌, ◌↔◌, ◌<◌, ◌≤◌, ℕ, List, Option, None, Some, true, IsSome, IsSomeAnd, IfOk};
+ghost use Rattle.std.specs.Prelude.{◌≡◌, ◌↔◌, ◌<◌, ◌≤◌, ℕ, List, Option, None, Some, true, IsSomeAnd, IfOk};
 ghost use Rattle.std.specs.Prelude.{IfSome, IfNone, OnErr, is_some, length, slice_get};
 ghost use Rattle.gz_names.specs.Zones.{HasZone};
 ghost use Rattle.std.specs.List.Sorted.{IsPermutation, IsSorted};
@@ -22,7 +22,8 @@ ghost use Rattle.slice_driver.specs.Left.{units_left};
 ghost use Rattle.slice_driver.specs.NameKinds.{is_cell};
 ghost use Rattle.slice_driver.specs.Sweeping.{AreFreed};
 ghost use Rattle.slice_driver.specs.Units.{AreJobs, DoesUnit, EndsColoured, HandsJobs, IsLowestOut, IsSound};
-ghost use Rattle.slice_driver.specs.Units.{is_group_end, flying_after, jobs_at, reports_of};
+ghost use Rattle.slice_driver.specs.Units.{TellsSweep, is_group_end, flying_after, jobs_at, reports_of};
+ghost use Rattle.slice_driver.specs.UnitsToCome.{units_to_come};
 
 use crate::collector::{Collector, Unit};
 use crate::colours::push_own_gray;
@@ -41,6 +42,7 @@ impl Collector {
     pub fn take_one(&mut self, taken: Taken, arena: u32) -> Unit
         requires { MayTakeIn self.old arena taken.freed }
         ensures takes { TakesIn arena taken.bits result.report result.finished self.old self.new }
+        ensures told { TellsSweep arena result.report }
         ensures none_handed { result.handed ≡ None }
         ensures none_due { result.due ≡ None }
     {
@@ -65,7 +67,7 @@ impl Collector {
     ) -> bool
         requires { MayTakeIn self.old arena taken.freed }
         ensures takes { TakesIn arena taken.bits report.new result self.old self.new }
-        ensures told { IsSome report.new }
+        ensures told { TellsSweep arena report.new }
     {
         let kept = self.heap.bits_at_hand_out(arena);
         prove!(taken.freed == kept.white_mask(self.heap.alloc_word(arena)));
@@ -104,6 +106,9 @@ impl Collector {
         ensures due { IfOk result (λ unit. unit.due ≡ None) }
         ensures left { IfOk result (λ unit. (flown : ℕ → Option ABits) → IsSound self.old flown
             → units_left self.new (flying_after unit.handed flown) < units_left self.old flown) }
+        ensures to_come { IfOk result (λ unit. (flown : ℕ → Option ABits) → IsSound self.old flown
+            → units_to_come self.new (flying_after unit.handed flown)
+            < units_to_come self.old flown) }
         ensures finished { IfOk result (λ unit. (unit.finished ≡ true) ↔ (self.new.run ≡ None)) }
         ensures err { OnErr result (self.new ≡ self.old) }
         ensures made { self.new.heap.made ≡ self.old.heap.made }
@@ -131,6 +136,7 @@ impl Collector {
 
 // Takes an arena in, and puts what it reports into a place. Where an arena is reported there, its list
 // takes the new names, so that no list, which takes a kilobyte, is filled or moved.
+#[inline(always)]
 fn report_arena(heap: &mut Heap, arena: u32, taken: Taken, report: &mut Option<Report>)
     requires out { is_some (out_of heap.old.shape arena) ≡ true }
     requires within { IsSomeAnd (slice_get heap.old.shape.arenas arena)
@@ -146,6 +152,19 @@ fn report_arena(heap: &mut Heap, arena: u32, taken: Taken, report: &mut Option<R
         list_freed(heap, arena, taken, names);
         return;
     }
+    report_first(heap, arena, taken, report);
+}
+
+// The same, where no arena is reported there.
+#[cold]
+fn report_first(heap: &mut Heap, arena: u32, taken: Taken, report: &mut Option<Report>)
+    requires out { is_some (out_of heap.old.shape arena) ≡ true }
+    requires within { IsSomeAnd (slice_get heap.old.shape.arenas arena)
+        (λ a. IsWithin taken.freed (alloc_word_of a.slots)) }
+    ensures state { heap.new ≡ with_taken heap.old arena taken.freed taken.bits }
+    ensures told { (names : List AName) × (report.new ≡ Some (AReport.Swept arena names))
+        × AreFreed heap.old.shape arena taken.freed names }
+{
     let mut names = Names64::new();
     list_freed(heap, arena, taken, &mut names);
     *report = Some(Report::Swept(arena, names));

@@ -1,9 +1,11 @@
 // Buffering the gray roots of a collection.
 ghost use Rattle.std.specs.Prelude.{◌≡◌, ◌<◌, ◌≤◌, ◌+◌, Some, Contains, OnErr, OnOk, length, slice_get, sum_by};
+ghost use Rattle.wrappers.specs.WrapperMaps.{list_of};
 ghost use Rattle.heap_core.specs.Shape.{IsPresent};
 ghost use Rattle.zone_edges.specs.Looks.{IsWrapperIn};
 ghost use Rattle.slice_driver.specs.GrayRoots.{Buffers, Gathers, IsFor, IsGrayAmong, IsGrayOf, IsGrayWrapper};
 ghost use Rattle.slice_driver.specs.GrayRoots.{IsInSlot, MayGather};
+ghost use Rattle.slice_driver.specs.ListedWrappers.{is_outside, listed_below};
 
 use crate::root_marking::source_at;
 use cell_bits::Colour;
@@ -63,7 +65,9 @@ fn gather_wrappers<L: Ledger>(
     ensures gathered { OnOk result (Gathers
         (IsGrayAmong heap.now zones (length heap.now.shape.states)) found.old.items
         found.new.items) }
-    ensures few { OnOk result (length found.new.items ≤ length found.old.items + 17592186044416) }
+    ensures few { OnOk result (length found.new.items ≤ length found.old.items
+        + listed_below heap.now.shape (is_outside zones) (length heap.now.shape.states)) }
+    ensures zones { length heap.now.shape.states ≤ 64 }
 {
     for index in 0..heap.zones() {
         if let Some(zone) = source_at(heap, zones, index) {
@@ -84,7 +88,8 @@ fn gather_of<L: Ledger>(
     requires { MayGather heap.now }
     ensures gathered { OnOk result (Gathers (IsGrayOf heap.now zones zone) found.old.items
         found.new.items) }
-    ensures few { OnOk result (length found.new.items ≤ length found.old.items + 274877906944) }
+    ensures few { OnOk result (length found.new.items
+        ≤ length found.old.items + length (list_of heap.now.shape.wrappers zone)) }
 {
     let mut cursor = 0;
     while let Some(wrapper) = heap.next_of(zone, &mut cursor) {

@@ -1,5 +1,5 @@
 // The steps of a unit that form the groups.
-ghost use Rattle.std.specs.Prelude.{◌≡◌, ℕ, Option, Some, false, IsSome};
+ghost use Rattle.std.specs.Prelude.{◌≡◌, ◌≤◌, ◌+◌, ℕ, Option, Some, false, IsSome, is_some, if◌then◌else◌};
 ghost use Rattle.cell_bits.specs.declared.bits.Bits.{Bits as ABits};
 ghost use Rattle.zone_edges.specs.Looks.{AreAllLookedAt};
 ghost use Rattle.slice_driver.specs.Units.{IsSound};
@@ -16,7 +16,9 @@ impl Collector {
     pub(crate) fn looks<L: Ledger>(&mut self, steps: &mut Steps<L>) -> bool
         requires sound { (flown : ℕ → Option ABits) × IsSound self.old flown }
         requires grouping { IsGrouping self.old }
-        ensures { LooksOrAll result self.old self.new }
+        ensures looks { LooksOrAll result self.old self.new }
+        ensures heap { self.new.heap ≡ self.old.heap }
+        ensures steps { steps.new ≤ steps.old + (if result then 1 else 0) }
     {
         match self.edges.edge_unit(&self.heap, steps) {
             Look::Did => true,
@@ -52,7 +54,8 @@ impl Collector {
     pub(crate) fn forms_groups<L: Ledger>(&mut self, steps: &mut Steps<L>) -> Option<Unit>
         requires sound { (flown : ℕ → Option ABits) × IsSound self.old flown }
         requires running { IsSome self.old.run }
-        ensures { GroupsOrFormed result self.old self.new }
+        ensures groups { GroupsOrFormed result self.old self.new }
+        ensures steps { steps.new ≤ steps.old + (if is_some result then 1 else 0) }
     {
         let run = self.run?;
         if run.formed {

@@ -1,7 +1,10 @@
 // The steps of a unit that mark.
 ghost use Rattle.std.specs.Prelude.{◌≡◌, ◌≤◌, ◌<◌, [], IsSome};
+ghost use Rattle.barriers.specs.Colours.{grays_outside};
 ghost use Rattle.marker.specs.GrayBits.{AreGraying};
 ghost use Rattle.marker.specs.Units.{IsGrayIdle};
+ghost use Rattle.slice_driver.specs.Collector.{heap_with};
+ghost use Rattle.slice_driver.specs.EdgesRead.{ReadsFew, TriesFew};
 ghost use Rattle.slice_driver.specs.Units.{IsSound};
 ghost use Rattle.weak_maps.specs.WeakMaps.{NoneLeft};
 ghost use Rattle.weak_maps.specs.declared.colours.MarkColour.TheVariants as mark;
@@ -24,6 +27,8 @@ impl Collector {
         requires running { IsSome self.old.run }
         ensures done { DidOrStill result (self.old.stack.black ≡ []) self.old
             (F.bits flight.old) self.new (F.bits flight.new) }
+        ensures steps { TriesFew result steps.old (heap_with self.old (F.bits flight.old)) steps.new
+            (heap_with self.new (F.bits flight.new)) }
         ensures origin { F.origin flight.new ≡ F.origin flight.old }
     {
         match black_unit(&mut self.heap, &mut self.stack, flight, steps) {
@@ -39,6 +44,8 @@ impl Collector {
         requires running { IsSome self.old.run }
         ensures done { DidOrStill result (NoneLeft mark.Black self.old.heap.looks) self.old
             (F.bits flight.old) self.new (F.bits flight.new) }
+        ensures grays { grays_outside (heap_with self.new (F.bits flight.new))
+            ≡ grays_outside (heap_with self.old (F.bits flight.old)) }
         ensures origin { F.origin flight.new ≡ F.origin flight.old }
     {
         match weak_unit(MarkColour::Black, &mut self.heap, &mut self.stack, flight) {
@@ -58,6 +65,8 @@ impl Collector {
         requires running { IsSome self.old.run }
         ensures done { DidOrStill result (IsBlackDone self.old (F.bits flight.old)) self.old
             (F.bits flight.old) self.new (F.bits flight.new) }
+        ensures steps { TriesFew result steps.old (heap_with self.old (F.bits flight.old)) steps.new
+            (heap_with self.new (F.bits flight.new)) }
         ensures origin { F.origin flight.new ≡ F.origin flight.old }
     {
         if self.follows_black(flight, steps) {
@@ -77,8 +86,10 @@ impl Collector {
         requires sound { IsSound self.old (F.bits flight.now) }
         requires running { IsSome self.old.run }
         requires begun { AreGraying self.old.heap.shape group.bits }
-        ensures { TriesGroup result (IsGrayIdle self.old.heap self.old.stack self.old.lists
+        ensures tries { TriesGroup result (IsGrayIdle self.old.heap self.old.stack self.old.lists
             group.bits) self.old (F.bits flight.now) self.new (F.bits flight.now) }
+        ensures steps { TriesFew result steps.old (heap_with self.old (F.bits flight.now)) steps.new
+            (heap_with self.new (F.bits flight.now)) }
     {
         match gray_unit(
             group,
@@ -99,6 +110,8 @@ impl Collector {
         requires running { IsSome self.old.run }
         ensures tries { TriesGroup result (NoneLeft mark.Gray self.old.heap.looks) self.old
             (F.bits flight.old) self.new (F.bits flight.new) }
+        ensures grays { grays_outside (heap_with self.new (F.bits flight.new))
+            ≡ grays_outside (heap_with self.old (F.bits flight.old)) }
         ensures origin { F.origin flight.new ≡ F.origin flight.old }
     {
         match weak_unit(MarkColour::Gray, &mut self.heap, &mut self.stack, flight) {
@@ -120,6 +133,8 @@ impl Collector {
         requires begun { AreGraying self.old.heap.shape group.bits }
         ensures tries { TriesGroup result (IsGrayDone self.old (F.bits flight.old) group) self.old
             (F.bits flight.old) self.new (F.bits flight.new) }
+        ensures steps { TriesFew result steps.old (heap_with self.old (F.bits flight.old)) steps.new
+            (heap_with self.new (F.bits flight.new)) }
         ensures origin { F.origin flight.new ≡ F.origin flight.old }
     {
         if self.follows_gray(group, flight, steps) {
@@ -141,6 +156,8 @@ impl Collector {
         requires begun { HasBegun self.old }
         ensures done { DidOrStill result (IsGroupDone self.old (F.bits flight.old)) self.old
             (F.bits flight.old) self.new (F.bits flight.new) }
+        ensures steps { TriesFew result steps.old (heap_with self.old (F.bits flight.old)) steps.new
+            (heap_with self.new (F.bits flight.new)) }
         ensures origin { F.origin flight.new ≡ F.origin flight.old }
     {
         let Some(group) = self.order.current() else {
@@ -163,6 +180,8 @@ impl Collector {
         ensures most { result ≤ limit }
         ensures done { DoesQuietUnits result self.old (F.bits flight.old) self.new
             (F.bits flight.new) }
+        ensures steps { ReadsFew result steps.old (heap_with self.old (F.bits flight.old)) steps.new
+            (heap_with self.new (F.bits flight.new)) }
         ensures rests { result < limit → IsGroupDone self.new (F.bits flight.new) }
         ensures origin { F.origin flight.new ≡ F.origin flight.old }
     {

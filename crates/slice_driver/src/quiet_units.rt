@@ -1,5 +1,7 @@
 // Units that report nothing, many in one call.
 ghost use Rattle.std.specs.Prelude.{◌≡◌, ◌≤◌, ◌<◌, IsSome, MatchBool};
+ghost use Rattle.slice_driver.specs.Collector.{heap_with};
+ghost use Rattle.slice_driver.specs.EdgesRead.{ReadsFew};
 ghost use Rattle.slice_driver.specs.Quiet.{IsFormed};
 ghost use Rattle.slice_driver.specs.Units.{IsSound, KeepsFreedWords};
 ghost use Rattle.slice_driver.specs.Working.{DoesQuietUnits, IsGrouping, IsQuietDone};
@@ -16,7 +18,8 @@ impl Collector {
     /// `limit` are done exactly when none of these has work left. What is left for `unit` then is a
     /// grouping step, the end of a group, or an arena that is due.
     ///
-    /// Such a unit leaves each world as it is. It takes no memory, and builds no report.
+    /// Such a unit leaves each world as it is. It takes no memory, and builds no report. It reads at most
+    /// nine edges, and eight for each gray cell outside marking zones that turns black.
     pub fn quiet_units<F: Flight, L: Ledger>(
         &mut self,
         limit: u64,
@@ -28,6 +31,8 @@ impl Collector {
         ensures most { result ≤ limit }
         ensures done { DoesQuietUnits result self.old (F.bits flight.old) self.new
             (F.bits flight.new) }
+        ensures steps { ReadsFew result steps.old (heap_with self.old (F.bits flight.old)) steps.new
+            (heap_with self.new (F.bits flight.new)) }
         ensures rests { result < limit → IsQuietDone self.new (F.bits flight.new) }
         ensures sound { IsSound self.new (F.bits flight.new) }
         ensures words { KeepsFreedWords self.old.heap.shape self.new.heap.shape }
@@ -62,6 +67,8 @@ impl Collector {
         ensures most { result ≤ limit }
         ensures done { DoesQuietUnits result self.old (F.bits flight.old) self.new
             (F.bits flight.new) }
+        ensures steps { ReadsFew result steps.old (heap_with self.old (F.bits flight.old)) steps.new
+            (heap_with self.new (F.bits flight.new)) }
         ensures rests { result ≡ 0 → IsQuietDone self.new (F.bits flight.new) }
         ensures origin { F.origin flight.new ≡ F.origin flight.old }
     {

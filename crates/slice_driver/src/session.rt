@@ -8,7 +8,7 @@ ghost use Rattle.heap_core.specs.Heap.{HeapState};
 ghost use Rattle.slice_driver.specs.Represents.{Represents};
 ghost use Rattle.slice_driver.specs.Sessions.{AreDumpLines, AreGrayNames, IsNowhereSettled};
 ghost use Rattle.slice_driver.specs.Sessions.{SessionSteps, outcome_of};
-ghost use Rattle.slice_driver.specs.Units.{BeginsIn, DoesCommand};
+ghost use Rattle.slice_driver.specs.Units.{BeginsIn, BeginsWithin, DoesCommand, RaisesWithin};
 ghost use Rattle.slice_driver.specs.Working.{IsStill};
 ghost use Rattle.sweeping.specs.ArenasOut.{flown_by};
 
@@ -82,6 +82,8 @@ impl<S: Sweeper> Session<S> {
         requires fields { HasFewFields cmd }
         ensures done { IfSome (outcome_of result) (λ outcome. DoesCommand self.old.collector
             (S.bits self.old.sweeper) cmd outcome self.new.collector (S.bits self.new.sweeper)) }
+        ensures to_come { IfSome (outcome_of result) (λ outcome. RaisesWithin self.old.collector
+            (S.bits self.old.sweeper) cmd outcome self.new.collector (S.bits self.new.sweeper)) }
         ensures full { result ≡ Err SessionFault.Full
             → (self.new ≡ self.old) × (4294967295 ≤ self.old.collector.heap.made) }
         ensures run { self.new.collector.run ≡ self.old.collector.run }
@@ -101,6 +103,8 @@ impl<S: Sweeper> Session<S> {
     /// Begins a collection of these zones. `NoZone` is returned also when there are none.
     pub fn begin(&mut self, zones: ZoneSet) -> Result<(), BeginFault>
         ensures begun { OnOk result (BeginsIn self.old.collector zones.bits self.new.collector) }
+        ensures within { OnOk result (BeginsWithin self.old.collector zones.bits
+            self.new.collector) }
         ensures started { OnOk result (IsSome self.new.collector.run) }
         ensures refused { OnErr result (self.new.collector ≡ self.old.collector) }
         ensures sweeper { self.new.sweeper ≡ self.old.sweeper }

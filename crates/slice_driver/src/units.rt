@@ -3,10 +3,14 @@ ghost use Rattle.std.specs.Prelude.{◌≡◌, ◌↔◌, ◌<◌, ◌≤◌, �
 ghost use Rattle.std.specs.Prelude.{OnErr};
 ghost use Rattle.std.specs.Int.{bit_at};
 ghost use Rattle.cell_bits.specs.declared.bits.Bits.{Bits as ABits};
+ghost use Rattle.barriers.specs.Colours.{grays_outside};
+ghost use Rattle.slice_driver.specs.Collector.{heap_with};
+ghost use Rattle.slice_driver.specs.EdgesRead.{UnitsReadFew};
 ghost use Rattle.slice_driver.specs.Left.{Lowers, units_left};
 ghost use Rattle.slice_driver.specs.Quiet.{IsFormed};
 ghost use Rattle.slice_driver.specs.Units.{AreJobs, EndsColoured, HandsJobs, IsLowestOut, IsSound, UnitDone};
 ghost use Rattle.slice_driver.specs.Units.{is_group_end, flying_after, jobs_at};
+ghost use Rattle.slice_driver.specs.UnitsToCome.{units_to_come};
 ghost use Rattle.slice_driver.specs.Working.{BeginsOrBegun, HasGroups, IsAtGroupEnd, IsResting, IsStill};
 
 use crate::collector::{Collector, Unit};
@@ -29,6 +33,7 @@ impl Collector {
     /// 6. `end_group`: the end of the current group. Its report comes exactly where steps 1 to 5 have
     ///    no work, and each present cell of any zone has the colour then that the end asks. The
     ///    arenas of the group are handed to sweeping with their bits.
+    /// It reads at most nine edges, and eight for each gray cell outside marking zones that turns black.
     ///
     /// Only the end of a group takes memory, all of it before anything changes: so memory is wanted
     /// only where steps 1 to 5 have no work, and then nothing is done.
@@ -64,9 +69,16 @@ impl Collector {
         ensures left { IfOk result (λ unit. Lowers unit.due
             (units_left self.old (F.bits flight.old))
             (units_left self.new (flying_after unit.handed (F.bits flight.new)))) }
+        ensures to_come { IfOk result (λ unit. Lowers unit.due
+            (units_to_come self.old (F.bits flight.old))
+            (units_to_come self.new (flying_after unit.handed (F.bits flight.new)))) }
+        ensures steps { IfOk result (λ unit. UnitsReadFew 1 steps.old
+            (heap_with self.old (F.bits flight.old)) steps.new
+            (heap_with self.new (flying_after unit.handed (F.bits flight.new)))) }
         ensures err { OnErr result (IsStill self.old (F.bits flight.old) self.new
             (F.bits flight.new)) }
         ensures err_where { OnErr result (IsAtGroupEnd self.old (F.bits flight.old)) }
+        ensures err_steps { OnErr result (steps.new ≤ steps.old) }
         ensures origin { F.origin flight.new ≡ F.origin flight.old }
         ensures made { self.new.heap.made ≡ self.old.heap.made }
         ensures entries { length self.new.heap.shape.weak.entries
@@ -95,7 +107,9 @@ impl Collector {
     pub(crate) fn begins_zone(&mut self) -> bool
         requires sound { (flown : ℕ → Option ABits) × IsSound self.old flown }
         requires formed { IsFormed self.old }
-        ensures { BeginsOrBegun result self.old self.new }
+        ensures begins { BeginsOrBegun result self.old self.new }
+        ensures grays { (flown : ℕ → Option ABits) → grays_outside (heap_with self.new flown)
+            ≡ grays_outside (heap_with self.old flown) }
     {
         let Some(group) = self.order.current() else {
             return false;

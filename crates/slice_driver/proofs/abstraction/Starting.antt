@@ -13,7 +13,7 @@ use Rattle.zones.specs.declared.states.State.TheVariants as state
 use Rattle.mark_stack.specs.Stack.{Piles}
 use Rattle.gray_lists.specs.Incoming.{IsOnce, list_of}
 use Rattle.weak_maps.specs.Places.{is_same}
-use Rattle.weak_maps.specs.WeakMaps.{EntryState, value_at}
+use Rattle.weak_maps.specs.WeakMaps.{EntryState, LooksState, value_at}
 use Rattle.weak_maps.proofs.Places.{is_same-self}
 use Rattle.roots.specs.Buffers.{buffer_at}
 use Rattle.colour_defs.specs.Graph.{empty_graph}
@@ -33,7 +33,7 @@ use Rattle.barriers.proofs.Scans.{once_empty}
 use Rattle.barriers.proofs.Slots.{slots_most}
 use Rattle.slice_driver.specs.Collector.{CollectorState, heap_with}
 use Rattle.slice_driver.specs.Worlds.{LiesIn, outs_from, owners_of}
-use Rattle.slice_driver.specs.Represents.{Represents, RunsAs}
+use Rattle.slice_driver.specs.Represents.{NothingLeft, Represents, RunsAs}
 use Rattle.slice_driver.specs.Units as flight
 use Rattle.slice_driver.proofs.beginning.Beginning.{none_waiting}
 use Rattle.slice_driver.proofs.abstraction.Crossing.{same_part}
@@ -192,9 +192,11 @@ module _ (c : CollectorState) (e : IsEmpty c.heap) where
     marks = marks c.stack black gray wake;
     gray = gray_begins c.stack gray lists;
     waits = record {
-      gray = λ no. gray;
+      piled = λ x has. absurd (nothing_in_none x (subst (λ xs. Contains xs x) gray has));
       buffered = λ z m. nothing_buffered z;
       incoming = λ n p has. absurd (nothing_in_none p (subst (λ xs. Contains xs p) (lists n) has));
+      looks = λ quiet. subst (λ (l : LooksState). NothingLeft l) (sym e.looks)
+          ((λ n. (λ at. cc at, λ at. cc at)), (λ n. (λ at. cc at, λ at. cc at)));
     };
     black = λ s x p is. absurd (cc (no_name c.heap e p, is));
     runs = subst (λ r. RunsAs (heap_with c flight.none_flown) c first_world r None) (sym run)

@@ -7,7 +7,7 @@ use Rattle.heap_core.specs.Heap.{HeapState}
 use Rattle.heap_core.specs.Shape.{is_marking_state, state_in}
 use Rattle.slice_driver.specs.Collector.{CollectorState, RunState, heap_with}
 use Rattle.slice_driver.specs.Represents.{Represents, RunsAs}
-use Rattle.slice_driver.proofs.marking.MarkingUnits.{none_in_it}
+use Rattle.slice_driver.proofs.abstraction.Waits.{none_in_it}
 
 runs_as : (h : HeapState) (c : CollectorState) (w : World) (r : Option RunState) (k : Option Collection) →
     RunsAs h c w r k → IsSome r ↔ ((j : Collection) × (k ≡ Some j))

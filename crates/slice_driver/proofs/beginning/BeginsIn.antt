@@ -13,6 +13,7 @@ use Rattle.colour_defs.specs.Lawful.{BeginsAtOnce}
 use Rattle.colour_defs.proofs.Lists.{contains_cases, contains_head, contains_tail, first_of_both, nothing_in_none}
 use Rattle.colour_defs.proofs.Lists.{second_of_both, both_of}
 use Rattle.colour_defs.proofs.Names.{eq_name-is, eq_name-refl, names_apart}
+use Rattle.slice_driver.proofs.abstraction.Named.{some_one}
 use Rattle.slice_driver.proofs.beginning.HasBegun.{HasBegun}
 
 -- the names among what is held, and a set of them
@@ -224,6 +225,8 @@ has_begun w zones v b = record {
   snapshot_is = b.begins.snapshot_is ∙ graph_is;
   woken_is = b.begins.woken_is;
   groups_are = b.begins.groups_are;
+  tally_is = b.begins.tally_is ∙ (ap (λ (z : World). first_tally z b.begins.preparation) b.prepares.world_is
+      ∙ ap (first_tally w) prepared_is);
   black_starts = λ x. (let p = b.prepares.black_are x in (
     λ h. elim ((b.begins.black_starts x).0 h)
         [ inl r ↦ inl (subst (λ g. Contains g.registers (Some x)) graph_is r) | inr q ↦ inr (p.0 q) ],
@@ -255,6 +258,9 @@ has_begun w zones v b = record {
 
     places_are : b.between.places ≡ w.places
     places_are = ap (λ (z : World). z.places) b.prepares.world_is
+
+    prepared_is : b.begins.preparation ≡ first_preparation w zones
+    prepared_is = some_one _ _ (sym b.begins.was ∙ ap (λ (z : World). z.preparing) b.prepares.world_is)
 
     same_black : v.black ≡ b.between.black
     same_black = ap (λ (z : World). z.black) b.begins.world_is

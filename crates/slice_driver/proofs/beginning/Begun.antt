@@ -19,7 +19,9 @@ use Rattle.slice_driver.proofs.beginning.HasBegun.{HasBegun}
 use Rattle.slice_driver.specs.Collector.{CollectorState, heap_with}
 use Rattle.slice_driver.specs.Worlds.{IsInFlight, LiesIn}
 use Rattle.slice_driver.specs.Closures.{AreBlack, AreTied}
-use Rattle.slice_driver.specs.Represents.{AreLookedAt, IsIdle, Represents, RunsAs, WaitsWhileMarking}
+use Rattle.weak_maps.specs.WeakMaps.{LooksState}
+use Rattle.slice_driver.specs.Represents.{AreLookedAt, IsIdle, NothingLeft, Represents, RunsAs}
+use Rattle.slice_driver.specs.Represents.{WaitsWhileMarking}
 use Rattle.slice_driver.specs.Units.{BeginsIn}
 use Rattle.slice_driver.specs.Begins.{BeginsMarking}
 use Rattle.colour_defs.proofs.ValidReports.{begin_valid, prepare_valid}
@@ -33,14 +35,14 @@ none_member (x ∷ xs) none = absurd (none x (contains_head x xs))
 module _ (c d : CollectorState) (flown : ℕ → Option Bits) (w v : World) (zones : ZoneSet) (rep : Represents c flown w)
     (ok : IsValid w) (idle_run : c.run ≡ None) (b : BeginsMarking c.heap zones d.heap d.stack d.lists)
     (bg : HasBegun w (zones_in zones) v) where
-  idle : IsIdle c
+  pub idle : IsIdle c
   idle = subst (λ k. RunsAs (heap_with c flown) c w None k) bg.idle.none_running
       (subst (λ r. RunsAs (heap_with c flown) c w r w.collection) idle_run rep.runs)
 
   own : joined c.heap flown ≡ c.heap
   own = none_flown c.heap flown rep.flies.covers idle.kept
 
-  marks : MarkingInvariant c.heap c.stack
+  pub marks : MarkingInvariant c.heap c.stack
   marks = subst (λ h. MarkingInvariant h c.stack) own rep.marks
 
   none_marking : (p : Place) → is_marking c.heap.shape p ≡ false
@@ -68,15 +70,17 @@ module _ (c d : CollectorState) (flown : ℕ → Option Bits) (w v : World) (zon
     woken = λ a old new out at. absurd (cc (kept_out a, out));
   }
 
-  own_begun : joined d.heap flown ≡ d.heap
+  pub own_begun : joined d.heap flown ≡ d.heap
   own_begun = none_flown d.heap flown flies.covers kept_out
 
   waits : WaitsWhileMarking d
   waits = record {
-    gray = λ none. b.gray_pile;
+    piled = λ x has. absurd (nothing_in_none x (subst (λ xs. Contains xs x) b.gray_pile has));
     buffered = λ z m. none_member (buffer_of d.heap z)
         (λ x has. (let root = (b.buffered z x).0 has in cc (ap is_marking_state (b.states z root.0), m)));
     incoming = λ n p has. absurd (nothing_in_none p (subst (λ xs. Contains xs p) (b.none_incoming n) has));
+    looks = λ quiet. subst (λ (l : LooksState). NothingLeft l) (sym b.looks_is)
+        (rep.waits.looks (λ z. ap is_marking_state (idle.states z)));
   }
 
   -- where no zone is to be marked, black is as it was

@@ -1,5 +1,6 @@
 -- The steps by which a collection begins.
-use Rattle.std.proofs.Common.{◌≡◌, ◌≢◌, ◌⊎◌, ◌↔◌, ◌<◌, ℕ, Bool, true, false, List, [], length, Option, Some, None}
+use Rattle.std.proofs.Common.{◌≡◌, ◌≢◌, ◌⊎◌, ◌↔◌, ◌<◌, ◌≤◌, ◌+◌, sum_by, ℕ, Bool, true, false, List, [], length, Option}
+use Rattle.std.proofs.Common.{Some, None}
 use Rattle.std.proofs.Common.{Contains, IsSome, IsTrue, refl, sym, ap, subst, ◌∙◌, inl, inr, arith, option_map}
 use Rattle.std.proofs.Common.{slice_get}
 use Rattle.std.proofs.lemmas.Option.{slice_get-get_or}
@@ -14,7 +15,8 @@ use Rattle.zones.specs.declared.states.State.TheVariants as state
 use Rattle.arena_table.specs.Indexed.{in_zones}
 use Rattle.mark_stack.specs.Stack.{Piles}
 use Rattle.gray_lists.specs.Incoming.{list_of as waiting_for}
-use Rattle.wrappers.specs.WrapperMaps.{list_of}
+use Rattle.weak_maps.specs.WeakMaps.{IsSound as AreEntries}
+use Rattle.wrappers.specs.WrapperMaps.{AreApart, list_of}
 use Rattle.wrappers.specs.declared.wrapper_maps.WrapperKey.{WrapperKey}
 use Rattle.wrappers.proofs.Finding.{slice_get-read}
 use Rattle.roots.specs.Buffers.{buffer_at}
@@ -37,12 +39,16 @@ use Rattle.barriers.proofs.Slots.{slots_most}
 use Rattle.slice_driver.specs.Collector.{CollectorState, heap_with}
 use Rattle.slice_driver.specs.Represents.{IsIdle, Represents, RunsAs}
 use Rattle.slice_driver.specs.Units as flight
-use Rattle.slice_driver.specs.Units.{BeginsIn, IsSound}
+use Rattle.slice_driver.specs.Units.{BeginsIn, BeginsWithin, IsSound}
 use Rattle.slice_driver.specs.Advancing.{Advances}
 use Rattle.slice_driver.specs.Begins.{AreMade, BeginsMarking, IsBlackRoot, IsGrayRoot, IsListed, IsWithin}
 use Rattle.slice_driver.specs.RootMarking.{IsReady, IsTargetAmong, Marks}
 use Rattle.slice_driver.specs.GrayRoots.{Buffers, IsGrayAmong, IsInSlot}
+use Rattle.slice_driver.specs.ListedWrappers.{is_outside, listed_below}
+use Rattle.slice_driver.proofs.measure.FewUnits.{none_buffered}
 use Rattle.slice_driver.proofs.beginning.Beginning.{none_flown}
+use Rattle.slice_driver.proofs.beginning.BeginsIn.{has_begun}
+use Rattle.slice_driver.proofs.beginning.BegunToCome.{within_begun}
 use Rattle.slice_driver.proofs.beginning.Begun.{begins_worlds, none_member, none_runs}
 use Rattle.slice_driver.proofs.beginning.ClearedBits.{cleared_length, cleared_same, cleared_white}
 use Rattle.slice_driver.proofs.abstraction.Crossing.{crosses}
@@ -246,89 +252,96 @@ module _ (c : CollectorState) (w : World) (rep : Represents c flight.none_flown 
     -- gray roots
     module _ (roots : (z : ℕ) (x : Place) → Contains (buffer_at buffers z) x
         ↔ (Contains (buffer_of h z) x ⊎ (IsInSlot h.shape zones z x ⊎ IsGrayAmong h zones (length h.shape.states) z x)))
-      where
-        gray_root : (z : ℕ) (x : Place) → Contains (buffer_at buffers z) x ↔ IsGrayRoot h zones z x
-        gray_root z x = (
-          (λ on. elim ((roots z x).0 on) [
-            | inl was ↦ absurd (nothing_in_none x (subst (λ xs. Contains xs x) (nothing_buffered c w rep idle_run z) was))
-            | inr (inl slot) ↦ (slot.0, inl (slot.1, slot.2))
-            | inr (inr t) ↦
-                let leads = t.3.1.2 in (
-                  t.3.1.0,
-                  inr (
-                    (λ within. t.2 (subst (λ y. HasZone zones.bits y) leads.zone_is within)),
-                    leads.colour_is,
-                    t.3.1.1,
-                    (0, omega arith, leads.target),
-                    t.3.1.3,
-                  ),
-                )
-          ]),
-          λ root. (roots z x).1 (inr (elim root.1 [
-            | inl slot ↦ inl (root.0, slot.0, slot.1)
-            | inr lead ↦
-                let y = lead.2 in
-                let within : IsWithin h.shape zones y = subst (λ i. HasZone zones.bits i) (sym lead.4) root.0 in
+        (few : sum_by length buffers
+        ≤ sum_by length h.buffers + (64 + listed_below h.shape (is_outside zones) (length h.shape.states))) where
+      gray_root : (z : ℕ) (x : Place) → Contains (buffer_at buffers z) x ↔ IsGrayRoot h zones z x
+      gray_root z x = (
+        (λ on. elim ((roots z x).0 on) [
+          | inl was ↦ absurd (nothing_in_none x (subst (λ xs. Contains xs x) (nothing_buffered c w rep idle_run z)
+              was))
+          | inr (inl slot) ↦ (slot.0, inl (slot.1, slot.2))
+          | inr (inr t) ↦
+              let leads = t.3.1.2 in (
+                t.3.1.0,
                 inr (
-                  zone_of h.shape x,
-                  zone_made x y lead.0 within lead.3 (inl lead.1),
-                  lead.0,
+                  (λ within. t.2 (subst (λ y. HasZone zones.bits y) leads.zone_is within)),
+                  leads.colour_is,
+                  t.3.1.1,
+                  (0, omega arith, leads.target),
+                  t.3.1.3,
+                ),
+              )
+        ]),
+        λ root. (roots z x).1 (inr (elim root.1 [
+          | inl slot ↦ inl (root.0, slot.0, slot.1)
+          | inr lead ↦
+              let y = lead.2 in
+              let within : IsWithin h.shape zones y = subst (λ i. HasZone zones.bits i) (sym lead.4) root.0 in
+              inr (
+                zone_of h.shape x,
+                zone_made x y lead.0 within lead.3 (inl lead.1),
+                lead.0,
+                (
+                  index x y lead.0 within lead.3,
                   (
-                    index x y lead.0 within lead.3,
-                    (
-                      root.0,
-                      y,
-                      record {
-                        stands = at_index x y lead.0 within lead.3;
-                        zone_is = refl;
-                        colour_is = lead.1;
-                        target = (listed x y lead.0 within lead.3).target;
-                      },
-                      lead.4,
-                    ),
+                    root.0,
+                    y,
+                    record {
+                      stands = at_index x y lead.0 within lead.3;
+                      zone_is = refl;
+                      colour_is = lead.1;
+                      target = (listed x y lead.0 within lead.3).target;
+                    },
+                    lead.4,
                   ),
-                )
-          ])),
-        )
+                ),
+              )
+        ])),
+      )
 
-        -- the zones go on to marking
-        module _ (states : List State) (made : (z : ℕ) → HasZone zones.bits z → z < length h.shape.states)
-            (count : length states ≡ length l.shape.states) (on : (z : ℕ) → HasZone zones.bits z
-            → z < length l.shape.states → state_or (slice_get states z) ≡ next_state (state_in l.shape z))
-            (others : (z : ℕ) → (HasZone zones.bits z → ⊥) → state_or (slice_get states z) ≡ state_in l.shape z) where
-          abbrev begun : HeapState
-          begun = record l { shape = record l.shape { states = states } }
+      -- the zones go on to marking
+      module _ (states : List State) (made : (z : ℕ) → HasZone zones.bits z → z < length h.shape.states)
+          (count : length states ≡ length l.shape.states) (on : (z : ℕ) → HasZone zones.bits z
+          → z < length l.shape.states → state_or (slice_get states z) ≡ next_state (state_in l.shape z))
+          (others : (z : ℕ) → (HasZone zones.bits z → ⊥) → state_or (slice_get states z) ≡ state_in l.shape z) where
+        abbrev begun : HeapState
+        begun = record l { shape = record l.shape { states = states } }
 
-          state_was : (z : ℕ) → state_in l.shape z ≡ state.NoGC
-          state_was z = ap (λ (s : Shape). state_in s z) shape_last ∙ idle.states z
+        state_was : (z : ℕ) → state_in l.shape z ≡ state.NoGC
+        state_was z = ap (λ (s : Shape). state_in s z) shape_last ∙ idle.states z
 
-          pub begins : BeginsMarking h zones begun r c.lists
-          begins = record {
-            shape_is = ap (λ (s : Shape). record s { states = states }) shape_last;
-            made_is = ap (λ (x : HeapState). x.made) both.rest;
-            count = count ∙ ap (λ (s : Shape). length s.states) shape_last;
-            states = λ z has. on z has (subst (λ (s : Shape). z < length s.states) (sym shape_last) (made z has))
-                ∙ ap next_state (state_was z);
-            other_states = λ z out. others z out ∙ ap (λ (s : Shape). state_in s z) shape_last;
-            sized = both.sized ∙ clear_sized;
-            within = black_root;
-            none_gray = λ x within g. (let white = white_within x within in let was = both.gray x g in cc (white, was));
-            outside = λ x out. both.outside x out ∙ same_outside x out;
-            black_pile = on_pile;
-            gray_pile = both.gray_pile ∙ idle.gray;
-            wake_pile = both.wake_pile ∙ marks.none_woken;
-            room = record {
-              black = both.room.black;
-              wake = both.room.wake;
-              gray = both.room.gray;
-              room = both.room.room;
-            };
-            once = record { black = once_marked.black; gray = once_marked.gray };
-            buffered = λ z x. subst (λ (xs : List (List Place)). Contains (buffer_at xs z) x ↔ IsGrayRoot h zones z x)
-                (sym (ap (λ (y : HeapState). y.buffers) both.rest)) (gray_root z x);
-            none_incoming = none_incoming c w rep idle_run;
-            lists_room = (let room = gray.room in omega (arith, both.sized, clear_sized));
-          }
+        pub begins : BeginsMarking h zones begun r c.lists
+        begins = record {
+          shape_is = ap (λ (s : Shape). record s { states = states }) shape_last;
+          made_is = ap (λ (x : HeapState). x.made) both.rest;
+          looks_is = ap (λ (x : HeapState). x.looks) both.rest;
+          count = count ∙ ap (λ (s : Shape). length s.states) shape_last;
+          states = λ z has. on z has (subst (λ (s : Shape). z < length s.states) (sym shape_last) (made z has))
+              ∙ ap next_state (state_was z);
+          other_states = λ z out. others z out ∙ ap (λ (s : Shape). state_in s z) shape_last;
+          sized = both.sized ∙ clear_sized;
+          within = black_root;
+          none_gray = λ x within g. (let white = white_within x within in let was = both.gray x g in cc (white, was));
+          outside = λ x out. both.outside x out ∙ same_outside x out;
+          black_pile = on_pile;
+          gray_pile = both.gray_pile ∙ idle.gray;
+          wake_pile = both.wake_pile ∙ marks.none_woken;
+          room = record {
+            black = both.room.black;
+            wake = both.room.wake;
+            gray = both.room.gray;
+            room = both.room.room;
+          };
+          once = record { black = once_marked.black; gray = once_marked.gray };
+          buffered = λ z x. subst (λ (xs : List (List Place)). Contains (buffer_at xs z) x ↔ IsGrayRoot h zones z x)
+              (sym (ap (λ (y : HeapState). y.buffers) both.rest)) (gray_root z x);
+          few_buffered =
+              (let now = ap (λ (y : HeapState). sum_by length y.buffers) both.rest in
+              let none = none_buffered h.buffers (nothing_buffered c w rep idle_run) in
+              omega (arith, now, none, few));
+          none_incoming = none_incoming c w rep idle_run;
+          lists_room = (let room = gray.room in omega (arith, both.sized, clear_sized));
+        }
 
 -- what is left of the heap after the bits are cleared
 pub clear_is : (h k l : HeapState) (zones : ZoneSet) → Buffers h zones k → l ≡ with_clear k zones.bits
@@ -391,21 +404,20 @@ module _ (c : CollectorState) (rest : IsAtRest c) (zones : ZoneSet) (small : (z 
         abbrev started : CollectorState → CollectorState
         started d = record d { edges = edges; run = Some (record { zones = zones; formed = false }) }
 
-        begins_by : (states : List State) → length states ≡ length l.shape.states
-            → ((z : ℕ) → HasZone zones.bits z → z < length l.shape.states
-            → state_or (slice_get states z) ≡ next_state (state_in l.shape z))
-            → ((z : ℕ) → (HasZone zones.bits z → ⊥) → state_or (slice_get states z) ≡ state_in l.shape z)
-            → BeginsIn c zones.bits
-            (started (record marked { heap = record l { shape = record l.shape { states = states } } }))
-        begins_by states count on others =
-            begins_worlds c (started (record marked { heap = record l { shape = record l.shape { states = states } } }))
-            zones some rest.idle
+        begun_marking : (k2 : HeapState) → Advances l zones.bits k2 → BeginsMarking c.heap zones k2 r c.lists
+        begun_marking k2 on = subst (λ (x : HeapState). BeginsMarking c.heap zones x r c.lists) (sym on.rest)
             (begins c rest.world rest.represents rest.idle zones small b.buffers k q
             (subst (λ (x : HeapState). Marks (λ y. Contains x.shape.regs (Some y)) zones x c.stack k q) same regs)
-            l r targets put.roots states made count on others)
-            made refl are none start fresh
+            l r targets put.roots put.few k2.shape.states made on.sized (λ z has _. on.gone_on z has) on.others)
 
         pub begun_worlds : (k2 : HeapState) → Advances l zones.bits k2
             → BeginsIn c zones.bits (started (record marked { heap = k2 }))
-        begun_worlds k2 on = subst (λ (x : HeapState). BeginsIn c zones.bits (started (record marked { heap = x })))
-            (sym on.rest) (begins_by k2.shape.states on.sized (λ z has _. on.gone_on z has) on.others)
+        begun_worlds k2 on = begins_worlds c (started (record marked { heap = k2 })) zones some rest.idle
+            (begun_marking k2 on) made refl are none start fresh
+
+        -- and what is to come is within the bound on units
+        pub begun_to_come : (k2 : HeapState) → Advances l zones.bits k2 → AreEntries c.heap.shape.weak
+            → AreApart c.heap.shape.wrappers.lists → BeginsWithin c zones.bits (started (record marked { heap = k2 }))
+        begun_to_come k2 on sound apart flown w v ok rep at_once =
+            within_begun c (started (record marked { heap = k2 })) flown w v zones rep ok rest.idle
+            (begun_marking k2 on) (has_begun w (zones_in zones) v at_once) small sound apart are start refl

@@ -30,10 +30,10 @@ number e = 64 * e.1.0 + e.1.1
 abbrev some_entry : WrapperKey × Place
 some_entry = (record { comp = 0; target = 0 }, record { 0 = 0; 1 = 0 })
 
-abbrev key_name : WrapperKey → Name
+abbrev pub key_name : WrapperKey → Name
 key_name k = Wrap (record { 0 = k.comp }) k.target
 
-same_key : (j k : WrapperKey) → key_name j ≡ key_name k → j ≡ k
+pub same_key : (j k : WrapperKey) → key_name j ≡ key_name k → j ≡ k
 same_key j k e =
     let named : ◌≡◌ {A = CompNo} (record { 0 = j.comp }) (record { 0 = k.comp }) = cc e in
     let comp : j.comp ≡ k.comp = ap (λ (c : CompNo). c.0) named in

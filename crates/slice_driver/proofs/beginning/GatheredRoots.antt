@@ -1,10 +1,12 @@
 -- Gray roots gathered one after another.
-use Rattle.std.proofs.Common.{append-nil, ◌<◌, ◌≤◌, if◌then◌else◌, ◌≡◌, ◌⊎◌, ◌↔◌, ◌+◌, ◌++◌, ◌∷◌, ◌==◌, [], ℕ, Bool}
+use Rattle.std.proofs.Common.{add-one, append-nil, eqb-true, not, sum_by, zero, suc, ◌*◌, ◌<◌, ◌≤◌, if◌then◌else◌, ◌≡◌}
+use Rattle.std.proofs.Common.{◌⊎◌, ◌↔◌, ◌+◌, ◌++◌, ◌∷◌, ◌==◌, [], ℕ, Bool}
 use Rattle.std.proofs.Common.{true, false, length, map, filter, List, Some, None, refl, sym, ap, subst, ◌∙◌, inl, inr}
 use Rattle.std.proofs.Common.{arith, Contains, slice_get, Result, Ok, Err, OnOk}
 use Rattle.std.proofs.lemmas.Bool.Decides.{eqb_tells}
 use Rattle.std.proofs.lemmas.Bool.{cases_lt}
-use Rattle.std.proofs.lemmas.List.{get_or_past, map-append}
+use Rattle.std.proofs.lemmas.List.{get_or_past, map-append, set_past}
+use Rattle.std.specs.Int.{bit_at}
 use Rattle.std.proofs.lemmas.List.Elements.{filter-append, Contains-push, Contains-push_cases, Contains-append_cases}
 use Rattle.std.proofs.lemmas.List.Elements.{Contains-append_left, Contains-append_right}
 use Rattle.gz_names.specs.Zones.{HasZone}
@@ -13,15 +15,18 @@ use Rattle.gz_names.specs.declared.numbers.ZoneNo.{ZoneNo}
 use Rattle.gz_names.specs.declared.zone_sets.ZoneSet.{ZoneSet}
 use Rattle.gz_names.proofs.Words.{HasZone-below}
 use Rattle.colour_defs.proofs.Lists.{contains_at, nothing_in_none}
-use Rattle.roots.proofs.Buffering.{length-put_all}
+use Rattle.arena_table.specs.Indexed.{in_zones}
+use Rattle.roots.proofs.Buffering.{length-put_all, sum_by-put}
 use Rattle.wrappers.proofs.Finding.{slice_get-read}
-use Rattle.roots.specs.Buffers.{buffer_at, places_in, put_all}
+use Rattle.roots.specs.Buffers.{buffer_at, places_in, put_all, put_at}
+use Rattle.wrappers.specs.WrapperMaps.{list_of}
 use Rattle.cell_bits.specs.declared.bits.Colour.TheVariants as colour
 use Rattle.heap_core.specs.Shape.{Shape, field_at, zone_of}
 use Rattle.heap_core.specs.Heap.{HeapState, colour_of}
 use Rattle.zone_edges.specs.Looks.{wrapper_at}
 use Rattle.slice_driver.specs.GrayRoots.{Buffers, Gathers, IsFor, IsGrayAmong, IsGrayAt, IsGrayBefore, IsGrayOf}
-use Rattle.slice_driver.specs.GrayRoots.{IsGrayWrapper, IsInSlot, IsSlotBefore}
+use Rattle.slice_driver.specs.GrayRoots.{HasFewWrappers, IsGrayWrapper, IsInSlot, IsSlotBefore}
+use Rattle.slice_driver.specs.ListedWrappers.{is_outside, listed_below}
 use Rattle.slice_driver.specs.RootMarking.{IsNoSource}
 use Rattle.slice_driver.proofs.beginning.MarkedRoots.{before_or_last, below_none}
 use Rattle.slice_driver.proofs.abstraction.Named.{some_one}
@@ -139,7 +144,8 @@ module _ (s : Shape) (zones : ZoneSet) where
           | inl less ↦ inl (b.0, less, b.2, b.3)
           | inr e ↦ inr (ap (slice_get s.slots) (sym e) ∙ b.2, b.3)
         ],
-      )) (gathers_then (IsSlotBefore s zones i) (λ z x. (slice_get s.slots i ≡ Some (Some x)) × IsFor s zones x x z x) old
+      )) (gathers_then (IsSlotBefore s zones i) (λ z x. (slice_get s.slots i ≡ Some (Some x)) × IsFor s zones x x z x)
+      old
       mid new g k)
 
   pub slot_all : (n : ℕ) (old new : List (ZoneNo × Place)) → length s.slots ≡ n
@@ -257,6 +263,53 @@ module _ (h : HeapState) (zones : ZoneSet) where
     ],
   )) g
 
+-- how many wrappers the lists have, one zone after another
+pub listed_more : (s : Shape) (test : ℕ → Bool) (i : ℕ) → listed_below s test i ≤ listed_below s test (i + 1)
+unfolding listed_below
+listed_more s test i = subst (λ n. listed_below s test i ≤ listed_below s test n) (sym (add-one i)) (omega arith)
+
+pub listed_one : (s : Shape) (zones : ZoneSet) (i : ℕ) → i < 64 → (HasZone zones.bits i → ⊥)
+    → listed_below s (is_outside zones) i + length (list_of s.wrappers i) ≡ listed_below s (is_outside zones) (i + 1)
+unfolding listed_below HasZone
+listed_one s zones i below none =
+    let one : (if is_outside zones i then length (list_of s.wrappers i) else 0) ≡ length (list_of s.wrappers i) =
+    ap (λ (b : Bool). if not b then length (list_of s.wrappers i) else 0) (off (in_zones zones.bits i) refl) in
+    let next = ap (listed_below s (is_outside zones)) (add-one i) in
+    omega (arith, one, next)
+  where
+    off : (b : Bool) → in_zones zones.bits i ≡ b → b ≡ false
+    off true e = absurd (none (below, eqb-true (bit_at zones.bits i) 1 e))
+    off false e = refl
+
+-- no zone has more than so many
+pub listed_most : (s : Shape) (test : ℕ → Bool) → HasFewWrappers s → (n : ℕ)
+    → listed_below s test n ≤ 274877906944 * n
+unfolding listed_below
+listed_most s test few zero = omega arith
+listed_most s test few (suc z) =
+    let rest = listed_most s test few z in
+    let here = go (test z) (few z) in
+    omega (arith, rest, here)
+  where
+    go : (b : Bool) → length (list_of s.wrappers z) ≤ 274877906944
+        → (if b then length (list_of s.wrappers z) else 0) ≤ 274877906944
+    go true most = most
+    go false most = omega arith
+
+-- as many places are buffered, at most, as were put
+put_most : (ls : List (List Place)) (items : List (ZoneNo × Place))
+    → sum_by length (put_all ls items) ≤ sum_by length ls + length items
+put_most ls [] = omega arith
+put_most ls (item ∷ items) =
+    let rest = put_most (put_at ls item.0 item.1) items in
+    let one = go (cases_lt item.0 (length ls)) in
+    omega (arith, rest, one)
+  where
+    go : (item.0 < length ls) ⊎ (length ls ≤ item.0) → sum_by length (put_at ls item.0 item.1) ≤ sum_by length ls + 1
+    go (inl lt) = (let more = sum_by-put ls item.0 item.1 lt in omega (arith, more))
+    go (inr ge) = (let same = ap (λ (xs : List (List Place)). sum_by length xs)
+        (set_past ls item.0 (buffer_at ls item.0 ++ item.1 ∷ []) ge) in omega (arith, same))
+
 -- what was gathered is buffered
 past_end : (xs : List (List Place)) (z : ℕ) → length xs ≡ 64 → 64 ≤ z → buffer_at xs z ≡ []
 past_end xs z count ge = get_or_past xs z [] (omega arith)
@@ -265,7 +318,8 @@ module _ (h k : HeapState) (zones : ZoneSet) (slots wrappers : List (ZoneNo × P
     (is : k ≡ record h { buffers = put_all (put_all h.buffers slots) wrappers }) (at : (z : ℕ) → z < 64
     → buffer_at k.buffers z ≡ buffer_at h.buffers z ++ (places_in z slots ++ places_in z wrappers))
     (count : length k.buffers ≡ 64) (of_slots : Gathers (IsInSlot h.shape zones) [] slots)
-    (of_wrappers : Gathers (IsGrayAmong h zones (length h.shape.states)) [] wrappers) where
+    (of_wrappers : Gathers (IsGrayAmong h zones (length h.shape.states)) [] wrappers) (few_slots : length slots ≤ 64)
+    (few_wrappers : length wrappers ≤ listed_below h.shape (is_outside zones) (length h.shape.states)) where
   buffers_is : k.buffers ≡ put_all (put_all h.buffers slots) wrappers
   buffers_is = ap (λ (x : HeapState). x.buffers) is
 
@@ -321,4 +375,7 @@ module _ (h k : HeapState) (zones : ZoneSet) (slots wrappers : List (ZoneNo × P
   buffers_all = record {
     rest = is ∙ ap (λ (xs : List (List Place)). record h { buffers = xs }) (sym buffers_is);
     roots = λ z x. elim (cases_lt z 64) [ inl lt ↦ within_limit z x lt | inr ge ↦ past_limit z x ge ];
+    few = (let first = put_most h.buffers slots in let then_ = put_most (put_all h.buffers slots) wrappers in
+        let same = ap (λ (xs : List (List Place)). sum_by length xs) buffers_is in
+        omega (arith, first, then_, same, few_slots, few_wrappers));
   }

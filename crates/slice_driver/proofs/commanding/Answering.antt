@@ -1,10 +1,14 @@
 -- The call of a command, also between two units of a collection.
 use Rattle.std.proofs.Common.{◌≡◌, ◌↔◌, ◌≤◌, ◌*◌, ℕ, false, List, length, Option, Some, None, is_some, Result, Ok, Err}
 use Rattle.std.proofs.Common.{IfErr, IfOk, OnErr, Contains, slice_get, if◌then◌else◌, refl, sym, ap, subst, ◌∙◌, inl}
-use Rattle.std.proofs.Common.{inr, IsSome}
+use Rattle.std.proofs.Common.{inr, IsSome, ◌+◌, ◌<◌, Bool, true, arith, eqb-true, slice_index_or, sum_by}
+use Rattle.std.specs.Int.{bit_at}
 use Rattle.std.specs.FinSet as set
 use Rattle.gz_names.specs.declared.names.Name.{Name}
-use Rattle.gz_names.specs.declared.names.Name.TheVariants.{Cell}
+use Rattle.gz_names.specs.declared.names.Name.TheVariants.{Cell, Wrap}
+use Rattle.gz_names.specs.Zones.{HasZone}
+use Rattle.gz_names.specs.declared.numbers.CompNo.{CompNo}
+use Rattle.gz_names.specs.declared.zone_sets.ZoneSet.{ZoneSet}
 use Rattle.gz_names.specs.declared.numbers.Place.{Place}
 use Rattle.gz_names.specs.declared.commands.GraphCmd.{GraphCmd}
 use Rattle.gz_names.specs.declared.replies.Reply.{Reply}
@@ -12,53 +16,72 @@ use Rattle.gz_names.specs.declared.replies.CmdFault.{CmdFault}
 use Rattle.gz_names.specs.declared.replies.CmdFault.TheVariants as fault
 use Rattle.cell_bits.specs.declared.bits.Bits.{Bits}
 use Rattle.arena_table.specs.Cells.{CellState}
+use Rattle.arena_table.specs.Indexed.{in_zones}
+use Rattle.weak_maps.specs.Places.{is_same}
+use Rattle.weak_maps.specs.WeakMaps.{AreParallel, IsSound as AreEntries, value_of}
+use Rattle.weak_maps.proofs.Places.{is_same-self}
 use Rattle.wrappers.specs.WrapperMaps.{AreApart}
 use Rattle.mark_stack.specs.Stack.{Piles}
 use Rattle.gray_lists.specs.Incoming.{Incoming}
-use Rattle.colour_defs.specs.Graph.{GraphState}
+use Rattle.colour_defs.specs.Graph.{GraphState, is_in_zones, register_cell}
 use Rattle.colour_defs.specs.Laws.{IsValid}
 use Rattle.colour_defs.specs.Step.{step_of}
-use Rattle.colour_defs.specs.Units.{Tally, with_put, with_woken}
+use Rattle.colour_defs.specs.Units.{Tally, is_held_in_zones, with_put, with_woken}
 use Rattle.colour_defs.specs.World.{World, Collection, IsSettled, with_counts, woken_by}
-use Rattle.colour_defs.proofs.Lists.{nothing_in_none}
+use Rattle.colour_defs.proofs.Lists.{both_of, nothing_in_none}
+use Rattle.colour_defs.proofs.Membership.{in_zone}
+use Rattle.colour_defs.proofs.ZoneSets.{zones_in-has}
 use Rattle.colour_defs.proofs.ValidCommands.{command_valid}
 use Rattle.heap_core.specs.declared.plans.Change.{Change}
+use Rattle.heap_core.specs.declared.plans.Change.TheVariants as change
 use Rattle.heap_core.specs.declared.plans.Plan.{Plan}
-use Rattle.heap_core.specs.Shape.{Shape, is_marking, is_marking_state, name_at, out_of, zone_of}
-use Rattle.heap_core.specs.Heap.{HeapState, colour_in, colour_of, joined, with_flown}
+use Rattle.heap_core.specs.Shape.{Shape, held_name, is_marking, is_marking_state, name_at, out_of, state_in, zone_of}
+use Rattle.heap_core.specs.Heap.{HeapState, colour_in, colour_of, joined, reg_of, weak_of, with_flown}
 use Rattle.heap_core.specs.Answers.{DoesStep}
-use Rattle.heap_core.specs.Changes.{Makes}
-use Rattle.heap_core.specs.Plans.{ChangesBy, IsAble, IsPlanIn, IsTarget, MayWant, handed_by, overwritten_by}
+use Rattle.heap_core.specs.Changes.{IsWith, Makes}
+use Rattle.heap_core.specs.Effects.{HoldsWrapper}
+use Rattle.heap_core.specs.Lookups.{number_at}
+use Rattle.heap_core.specs.Plans.{ChangesBy, IsAble, IsPlanIn, IsTarget, MayWant, WakesBy, handed_by, overwritten_by}
 use Rattle.heap_core.proofs.Planned.{handed-wants, planned-at, planned-here}
+use Rattle.heap_core.proofs.Shown.{reg_present, reg_shown}
 use Rattle.heap_core.specs.Shows.{Shows}
+use Rattle.marker.specs.Looks.{looks_now}
+use Rattle.marker.specs.UnitsToCome.{starts_of}
 use Rattle.barriers.specs.Colours.{IsBlack}
 use Rattle.barriers.specs.Exposing.{BlackOr, Exposes}
 use Rattle.barriers.specs.Invariant.{MarkingInvariant}
 use Rattle.barriers.specs.PendingLive.{GrayInvariant}
 use Rattle.barriers.specs.Reached.{Reached}
 use Rattle.barriers.specs.Spreading.{Covers}
-use Rattle.zone_edges.specs.Looks.{WrapsBlack}
+use Rattle.zone_edges.specs.Looks.{WrapsBlack, left_to_look}
 use Rattle.barriers.proofs.BlackClosure.{reached_more}
 use Rattle.slice_driver.specs.Closures.{AreTied}
 use Rattle.slice_driver.specs.Collector.{CollectorState, RunState, heap_with}
 use Rattle.slice_driver.specs.Commands.{ComesTo, DoesInWorld, Exposed, KeepsBlack, SpreadsBlack, StayInPlace, Wakes}
 use Rattle.slice_driver.specs.Commands.{waking, with_colours}
+use Rattle.slice_driver.specs.Remaining.{grouping_left, steps_left, steps_of, ungrouped_below}
 use Rattle.slice_driver.specs.Represents.{AreInStates, AreLookedAt, IsIdle, Represents, Runs, RunsAs, WaitsWhileMarking}
 use Rattle.slice_driver.specs.Serves.{Serves}
 use Rattle.slice_driver.specs.Steps.{CommandSteps, GoesThrough}
 use Rattle.slice_driver.specs.Units.{AnswersIn, DoesCommand, KeepsFreedWords}
+use Rattle.slice_driver.specs.UnitsToCome.{marking_to_come, units_to_come}
 use Rattle.slice_driver.specs.Worlds.{IsInFlight, IsUnswept, LiesIn}
 use Rattle.slice_driver.proofs.beginning.Begun.{none_member}
+use Rattle.slice_driver.proofs.abstraction.Waits.{nothing_changed}
 use Rattle.slice_driver.proofs.commanding.CommandRuns.{names_come, names_stay, runs_served, waits_served}
 use Rattle.slice_driver.proofs.commanding.Commanding.{exposed_marks}
 use Rattle.slice_driver.proofs.marking.Flights.{still_flies}
 use Rattle.slice_driver.proofs.commanding.FreedWords.{keeps_words, same_words}
 use Rattle.heap_core.proofs.MakingCells.{same-place}
 use Rattle.slice_driver.proofs.abstraction.Keeping.{stay_same}
-use Rattle.slice_driver.proofs.abstraction.Lying.{lies_coloured, shows_coloured, woken_in}
+use Rattle.slice_driver.proofs.abstraction.Lying.{lies_coloured, shows_coloured, woken_in, zone_named}
+use Rattle.slice_driver.proofs.measure.CommandsToCome.{CountsNoMore, change_wrappers, changed_marking, command_weak}
+use Rattle.slice_driver.proofs.measure.CommandsToCome.{counts, more_looks, more_wrappers, steps_by_state}
+use Rattle.slice_driver.proofs.measure.Fewer.{grouped}
+use Rattle.slice_driver.proofs.taking_in.Runs.{has_zone_or_not}
 use Rattle.slice_driver.proofs.marking.MarkingSteps.{own_sized}
-use Rattle.slice_driver.proofs.marking.MarkingUnits.{waits_on}
-use Rattle.slice_driver.proofs.abstraction.Named.{some_one}
+use Rattle.slice_driver.proofs.marking.MarkingUnits.{piled_still, waits_on}
+use Rattle.slice_driver.proofs.abstraction.Named.{name_of, some_one}
 use Rattle.slice_driver.proofs.abstraction.Moving.{IsHeld, Moves, finds, makes, moves_of, near_reached, quiet}
 use Rattle.slice_driver.proofs.commanding.Quiet.{does_quiet}
 use Rattle.slice_driver.proofs.marking.Steps.{settled_states}
@@ -68,6 +91,11 @@ use Rattle.slice_driver.proofs.commanding.Through.{represents_widened}
 use Rattle.slice_driver.proofs.abstraction.Tying.{objects_grow, tied_exposed, tied_made, tied_served}
 use Rattle.slice_driver.proofs.commanding.Waking.{does_found, does_made}
 use Rattle.slice_driver.proofs.commanding.Woken.{made_black, one_spreads, others_keep, reached_kept}
+
+-- a zone of a word, where its bit is set
+zone_at_bit : (word z : ℕ) → z < 64 → in_zones word z ≡ true → HasZone word z
+unfolding HasZone
+zone_at_bit word z below set = (below, eqb-true (bit_at word z) 1 set)
 
 -- through a barrier
 pub exposed_is : (o : Option Place) (h : HeapState) (s : Piles) (k : HeapState) (t : Piles) → Exposed o h s k t
@@ -198,7 +226,7 @@ module _ (b : CollectorState) (flown : ℕ → Option Bits) (command : GraphCmd)
         flies = flies_served flies;
         marks = served.marks;
         gray = served.gray;
-        waits = waits_served t d flying refl served waits;
+        waits = waits_served t d flying refl served inv (nothing_changed m new ch answer change) waits;
         black = done.black;
         runs = runs;
       },
@@ -342,7 +370,8 @@ module _ (b : CollectorState) (flown : ℕ → Option Bits) (command : GraphCmd)
             (λ y. elim (ex.spreads.blackens.others y) [ inl black ↦ inl black | inr e ↦ inr (inl e) ])
 
         waits : WaitsWhileMarking t
-        waits = waits_on b m stack refl refl rep.waits (λ none. ex.spreads.gray_is ∙ rep.waits.gray none)
+        waits = waits_on b m stack refl refl rep.waits
+            (piled_still b m stack refl refl rep.waits ex.spreads.gray_is) rep.waits.looks
 
         idle_found : IsIdle b → IsIdle t
         idle_found i = record {
@@ -691,6 +720,157 @@ module _ (c : CollectorState) (flown : ℕ → Option Bits) (command : GraphCmd)
     words_ok = words_moves second steps.second_flown command plan.change w ok second_stands ds steps.third.stack flying
         exposed_last covers_last able_second apart_second gone_black target_black answer d.heap step_ok change_ok
         room_last lists_last moves_ok
+
+    -- what is to come of the collection that runs rises by no more than the bound on units
+    module _ (k : Collection) (at : w.collection ≡ Some k) (sound : AreEntries c.heap.shape.weak)
+        (parallel : AreParallel (weak_of c.heap)) where
+      abbrev stack : Piles
+      stack = steps.third.stack
+
+      inv_last : MarkingInvariant (joined last_heap flying) stack
+      inv_last = exposed_marks (handed_by plan.change) (heap_with second steps.second_flown) second.stack
+          (joined last_heap flying) stack exposed_last second_stands.marks
+
+      served_last : Serves (joined last_heap flying) (joined d.heap flying) stack second.lists
+      served_last = served second steps.second_flown command plan.change w ok second_stands ds stack flying
+          exposed_last covers_last able_second apart_second gone_black target_black answer d.heap step_ok change_ok
+          room_last lists_last
+
+      shows_last : Shows last_heap second_stands.lies.graph
+      shows_last = shows_coloured second.heap ds second_stands.lies.graph second_stands.lies.shown
+
+      weak_last : second.heap ≡ with_colours c.heap second.heap.colours
+      weak_last = second_wide ∙ ap (λ (h : HeapState). with_colours h second.heap.colours) wide_heap
+
+      runs_there : (r : RunState) × (second.run ≡ Some r) × Runs (heap_with second steps.second_flown) second w r k
+      runs_there = go second.run refl
+          (subst (λ u. RunsAs (heap_with second steps.second_flown) second w second.run u) at
+          second_stands.runs)
+        where
+          go : (o : Option RunState) → second.run ≡ o → RunsAs (heap_with second steps.second_flown) second w o (Some k)
+              → (r : RunState) × (second.run ≡ Some r) × Runs (heap_with second steps.second_flown) second w r k
+          go None is i = absurd i
+          go (Some r) is i = (r, is, i)
+
+      abbrev runs_last : Runs (heap_with second steps.second_flown) second w runs_there.0 k
+      runs_last = runs_there.2
+
+      -- what is marking is of the collection
+      in_collection : (z : ℕ) → is_marking_state (state_in second.heap.shape z) ≡ true → Contains k.zones z
+      in_collection z on = elim (has_zone_or_not runs_there.0.zones.bits z) [
+        | inl has ↦ subst (λ (zs : List ℕ). Contains zs z) (sym runs_last.zones_are)
+            ((zones_in-has runs_there.0.zones z).1 has)
+        | inr none ↦ absurd (let off = ap is_marking_state (runs_last.states.outside z none) in cc (on, off))
+      ]
+
+      held_last : (r : ℕ) (p : Place) → reg_of last_heap r ≡ Some p → is_marking last_heap.shape p ≡ true
+          → is_held_in_zones w.graph k.zones (register_cell w.graph r) ≡ true
+      held_last r p holds on =
+          let lies = second_stands.lies in
+          let x = name_of last_heap.shape p (reg_present last_heap lies.graph r p shows_last holds) in
+          let named : register_cell w.graph r ≡ Some x.0 =
+          ap (λ (rs : List (Option Name)). slice_index_or rs r None) (sym lies.part.part.registers)
+          ∙ (reg_shown last_heap lies.graph r shows_last ∙ (ap (held_name last_heap.shape) holds ∙ x.1)) in
+          ap (is_held_in_zones w.graph k.zones) named
+          ∙ in_zone w.graph k.zones x.0 (zone_of last_heap.shape p)
+          (zone_named last_heap lies.graph w.graph p x.0 shows_last lies.part.part x.1)
+          (in_collection (zone_of last_heap.shape p) on)
+
+      -- map and key of an entry lie in one zone
+      one_zone_last : (rm rk : ℕ) (pm pk pv : Place) → reg_of last_heap rm ≡ Some pm → reg_of last_heap rk ≡ Some pk
+          → IsWith last_heap pm pk pv d.heap → zone_of last_heap.shape pk ≡ zone_of last_heap.shape pm
+      one_zone_last rm rk pm pk pv holds_map holds_key with_it =
+          let lies = second_stands.lies in
+          let there = with_it.values pm pk
+          ∙ ap (λ b. if b then Some pv else value_of last_heap.shape.weak pm pk)
+          (both_of (is_same pm pm) (is_same pk pk) (is_same-self pm) (is_same-self pk)) in
+          let same = served_last.marks.holds.colours.shape.one_zone pm pk pv there in
+          sym (served_last.zones pk (reg_present last_heap lies.graph rk pk shows_last holds_key))
+          ∙ (same.1 ∙ (sym same.0
+          ∙ served_last.zones pm (reg_present last_heap lies.graph rm pm shows_last holds_map)))
+
+      counted_last : CountsNoMore last_heap d.heap flying stack second.lists inv_last served_last
+          (own_sized last_heap flying stack inv_last) covers_last
+      counted_last = counts last_heap d.heap flying stack second.lists inv_last served_last
+          (own_sized last_heap flying stack inv_last) covers_last command plan.change second_stands.lies.whole moves_ok
+
+      looks_last : looks_now d.heap.looks + sum_by (starts_of (joined d.heap flying) stack) d.heap.shape.weak.entries
+          ≤ looks_now last_heap.looks + sum_by (starts_of (joined last_heap flying) stack) last_heap.shape.weak.entries
+          + more_looks w.graph k.zones command
+      looks_last = command_weak last_heap d.heap flying stack second.lists inv_last served_last
+          (own_sized last_heap flying stack inv_last) covers_last counted_last
+          (subst (λ (h : HeapState). AreEntries h.shape.weak) (sym weak_last) sound)
+          (subst (λ (h : HeapState). AreParallel (weak_of h)) (sym weak_last) parallel) w.graph k.zones held_last
+          command (plan_last.does steps.few answer d.heap change_ok).1 one_zone_last
+          (λ r q holds. reg_present last_heap second_stands.lies.graph r q shows_last holds)
+
+      marking_last : marking_to_come (joined d.heap flying) stack second.lists
+          ≤ marking_to_come (joined last_heap flying) stack second.lists + more_looks w.graph k.zones command
+      marking_last = changed_marking last_heap d.heap flying stack second.lists inv_last served_last
+          (own_sized last_heap flying stack inv_last) covers_last command (more_looks w.graph k.zones command)
+          counted_last looks_last
+
+      steps_last : steps_left d.heap.shape.states ≤ steps_left last_heap.shape.states
+      steps_last = steps_by_state d.heap.shape.states last_heap.shape.states
+          (λ z. (let same = ap steps_of (served_last.states z) in omega (arith, same)))
+
+      -- a wrapper that is made is to be looked at before the groups are formed
+      abbrev more : ℕ
+      more = more_wrappers w.graph k.zones (woken_by w.graph command)
+
+      one_wrapper : second.edges.zones ≡ runs_there.0.zones → (r z : ℕ) (comp : CompNo) (t : Place)
+          → plan.change ≡ change.Wrapper r z comp t → (made : HoldsWrapper last_heap r comp t d.heap)
+          → made.zone < 64 → (if in_zones second.edges.zones.bits made.zone then 1 else 0) ≤ more
+      one_wrapper are_zones r z comp t is_wrap made below = go (in_zones second.edges.zones.bits made.zone) refl
+        where
+          woken : woken_by w.graph command ≡ Some (Wrap comp (number_at last_heap.shape t))
+          woken = woken_in w last_heap command (Some (Wrap comp (number_at last_heap.shape t))) ok
+              (lies_coloured second.heap ds w second_stands.lies)
+              (subst (λ (y : Change). WakesBy last_heap command y) is_wrap plan_last.wakes)
+
+          go : (b : Bool) → in_zones second.edges.zones.bits made.zone ≡ b → (if b then 1 else 0) ≤ more
+          go false out = omega arith
+          go true has =
+              let lies = second_stands.lies in
+              let inside : HasZone runs_there.0.zones.bits made.zone =
+              subst (λ (y : ZoneSet). HasZone y.bits made.zone) are_zones
+              (zone_at_bit second.edges.zones.bits made.zone below has) in
+              let here : is_in_zones w.graph k.zones (Wrap comp (number_at last_heap.shape t)) ≡ true =
+              in_zone w.graph k.zones (Wrap comp (number_at last_heap.shape t)) made.zone
+              (ap (λ (cs : List ℕ). slice_get cs comp.0) (sym lies.part.part.comps ∙ shows_last.comps_are) ∙ made.home)
+              (subst (λ (zs : List ℕ). Contains zs made.zone) (sym runs_last.zones_are)
+              ((zones_in-has runs_there.0.zones made.zone).1 inside)) in
+              let one : more ≡ 1 = ap (more_wrappers w.graph k.zones) woken ∙ ap (λ b. if b then 1 else 0) here in
+              omega (arith, one)
+
+      grouping_last : grouping_left d.heap.shape second.edges second.run
+          ≤ grouping_left last_heap.shape second.edges second.run + more
+      grouping_last = subst (λ (o : Option RunState). grouping_left d.heap.shape second.edges o
+          ≤ grouping_left last_heap.shape second.edges o + more) (sym runs_there.1) (go runs_there.0.formed refl)
+        where
+          go : (b : Bool) → runs_there.0.formed ≡ b
+              → grouping_left d.heap.shape second.edges (Some runs_there.0)
+              ≤ grouping_left last_heap.shape second.edges (Some runs_there.0) + more
+          go true formed =
+              let none = grouped d.heap.shape second.edges runs_there.0 formed in
+              omega (arith, none)
+          go false unformed =
+              let now = ap (λ b. if b then 0 else left_to_look d.heap.shape second.edges
+              + ungrouped_below second.edges 64) unformed in
+              let was = ap (λ b. if b then 0 else left_to_look last_heap.shape second.edges
+              + ungrouped_below second.edges 64) unformed in
+              let looks = change_wrappers last_heap d.heap flying stack second.lists inv_last served_last
+              (own_sized last_heap flying stack inv_last) covers_last plan.change answer change_ok second.edges more
+              (one_wrapper (runs_last.early unformed).zones_are) in
+              omega (arith, now, was, looks)
+
+      pub rises_ok : units_to_come d flying
+          ≤ units_to_come steps.third flying + (more_looks w.graph k.zones command + more)
+      unfolding units_to_come
+      rises_ok =
+          let now = ap (λ (e : CollectorState). units_to_come e flying) d_is in
+          let was = ap (λ (e : CollectorState). units_to_come e flying) third_is in
+          omega (arith, now, was, marking_last, grouping_last, steps_last)
 
   -- a change that wants memory hands nothing out
   none_handed : MayWant steps.third.heap.shape plan.change → handed_by plan.change ≡ None

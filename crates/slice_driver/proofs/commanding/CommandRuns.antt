@@ -15,7 +15,7 @@ use Rattle.colour_defs.specs.Groups.{IsFirstEdge, LeadsOutside}
 use Rattle.colour_defs.specs.Closure.{Closure}
 use Rattle.colour_defs.specs.Laws.{IsValid}
 use Rattle.colour_defs.specs.World.{Collection, Has, IsPresent as IsPresentName, World}
-use Rattle.heap_core.specs.Shape.{HasEdge, IsPresent, Shape, is_marking_state, name_at, out_of, zone_of}
+use Rattle.heap_core.specs.Shape.{HasEdge, IsPresent, Shape, is_marking_state, name_at, out_of, zone_of, state_in}
 use Rattle.heap_core.specs.Heap.{HeapState, joined}
 use Rattle.heap_core.specs.declared.plans.Change.{Change}
 use Rattle.heap_core.specs.Plans.{ChangesBy, IsAble}
@@ -33,7 +33,7 @@ use Rattle.slice_driver.specs.Closures.{AreTied}
 use Rattle.slice_driver.specs.Collector.{CollectorState, RunState}
 use Rattle.slice_driver.specs.Commands.{ComesTo, StayInPlace}
 use Rattle.slice_driver.specs.Represents.{AreBehind, AreInStates, AreLookedAt, IsInGroups, LeadsAcross, Runs}
-use Rattle.slice_driver.specs.Represents.{WaitsWhileMarking}
+use Rattle.slice_driver.specs.Represents.{NothingLeft, WaitsWhileMarking}
 use Rattle.slice_driver.specs.Serves.{Serves}
 use Rattle.slice_driver.specs.Worlds.{LiesIn}
 use Rattle.slice_driver.proofs.group_end.Places.{edge_from}
@@ -84,17 +84,22 @@ module _ (c d : CollectorState) (flying : ℕ → Option Bits) (rest : d ≡ rec
         swept = λ none z sweeps. a.swept (λ n. sym (served.outs n) ∙ none n) z (sym (served.states z) ∙ sweeps);
       }
 
-  pub waits_served : WaitsWhileMarking c → WaitsWhileMarking d
-  waits_served a = subst (λ (x : CollectorState). WaitsWhileMarking x) (sym rest) now
+  pub waits_served : MarkingInvariant old c.stack → (NothingLeft c.heap.looks → NothingLeft d.heap.looks)
+      → WaitsWhileMarking c → WaitsWhileMarking d
+  waits_served marks nothing a = subst (λ (x : CollectorState). WaitsWhileMarking x) (sym rest) now
     where
       now : WaitsWhileMarking (record c { heap = d.heap })
       now = record {
-        gray = λ none. a.gray (λ z gray. none z (served.states z ∙ gray));
+        piled = λ x has.
+            (let present = marks.holds.colours.seen_present x (marks.holds.piles.gray x has) in
+            ap (state_in d.heap.shape) (served.zones x present) ∙ served.states (zone_of c.heap.shape x)
+            ∙ a.piled x has);
         buffered = λ z idle. ap (λ (bs : List (List Place)). buffer_of (record d.heap { buffers = bs }) z)
             served.buffers ∙ a.buffered z (sym (ap is_marking_state (served.states z)) ∙ idle);
         incoming = λ n p waits.
             (let was = a.incoming n p waits in
             (was.0, served.comps n was.0 was.1, ap is_marking_state (served.states was.0) ∙ was.2));
+        looks = λ idle. nothing (a.looks (λ z. sym (ap is_marking_state (served.states z)) ∙ idle z));
       }
 
   module _ (marks : MarkingInvariant old c.stack) where

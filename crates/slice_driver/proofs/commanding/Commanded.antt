@@ -18,7 +18,8 @@ use Rattle.colour_defs.specs.World.{first_world}
 use Rattle.colour_defs.proofs.ValidCommands.{command_valid}
 use Rattle.colour_defs.proofs.ValidRuns.{first_valid}
 use Rattle.heap_core.specs.Shape.{out_of}
-use Rattle.heap_core.specs.Heap.{HeapState, joined}
+use Rattle.weak_maps.specs.WeakMaps.{AreParallel, IsSound as AreEntries}
+use Rattle.heap_core.specs.Heap.{HeapState, joined, weak_of}
 use Rattle.heap_core.specs.Answers as answers
 use Rattle.heap_core.specs.Answers.{DoesStep}
 use Rattle.heap_core.specs.Effects.{takes_memory}
@@ -41,7 +42,8 @@ use Rattle.slice_driver.specs.Commands.{Exposed, WantsMemory, with_colours}
 use Rattle.slice_driver.specs.Represents.{Represents}
 use Rattle.slice_driver.specs.Rooms.{IsRoomy, Widens, arenas_after}
 use Rattle.slice_driver.specs.Steps.{CommandSteps, GoesThrough}
-use Rattle.slice_driver.specs.Units.{AnswersIn, DoesCommand, IsSound, KeepsFreedWords}
+use Rattle.slice_driver.specs.Units.{AnswersIn, DoesCommand, IsSound, KeepsFreedWords, RaisesWithin}
+use Rattle.slice_driver.proofs.commanding.RaisesToCome.{raises_command, widened_to_come}
 use Rattle.slice_driver.proofs.commanding.FreedWords.{same_words}
 use Rattle.slice_driver.proofs.commanding.Answering.{exposed_rest, outs_command, serves_command, through_rest}
 use Rattle.slice_driver.proofs.commanding.Answering.{words_command}
@@ -120,6 +122,12 @@ wide_words c d wide = same_words c.heap.shape d.heap.shape (ap (λ (h : HeapStat
 pub wants_room : (c d : CollectorState) (flown : ℕ → Option Bits) (command : GraphCmd) → Widens c d
     → DoesCommand c flown command (Err fault.NoMemory) d flown
 wants_room c d flown command wide w ok rep = represents_widened c d flown w wide rep
+
+-- and nothing more is to come
+pub room_raises : (c d : CollectorState) (flown : ℕ → Option Bits) (command : GraphCmd) → Widens c d
+    → RaisesWithin c flown command (Err fault.NoMemory) d flown
+room_raises c d flown command wide w k ok rep at =
+    let same = widened_to_come c d flown wide in omega (arith, same)
 
 pub where_err : {T E P : Type 0} (r : Result T E) → is_err r ≡ true → OnErr r P → P
 where_err (Ok x) e p = absurd (cc e)
@@ -399,6 +407,11 @@ module _ (E : Type 0) (c d1 d2 d3 d4 d : CollectorState) (flown f1 f2 f3 : ℕ �
   pub does_call : DoesCommand c flown command (as_fault committed) d f3
   does_call = serves_command c flown command (as_fault committed) d f3 steps
 
+  -- what is to come rises by no more than the bound
+  pub raises_call : AreEntries c.heap.shape.weak → AreParallel (weak_of c.heap)
+      → RaisesWithin c flown command (as_fault committed) d f3
+  raises_call sound parallel = raises_command c flown command (as_fault committed) d f3 steps sound parallel
+
   -- what is freed of the arenas that are out stays the same
   pub words_call : KeepsFreedWords c.heap.shape d.heap.shape
   words_call = words_command c flown command (as_fault committed) d f3 steps p.sound.world p.sound.valid
@@ -450,3 +463,8 @@ command_sound c d flown flying command result does s = go result (does s.world s
 -- a new collector does
 pub first_sound : (c : CollectorState) (flown : ℕ → Option Bits) → Represents c flown first_world → IsSound c flown
 first_sound c flown rep = record { world = first_world; valid = first_valid; represents = rep }
+
+-- nothing changed where a command was refused
+pub refused_raises : (c : CollectorState) (flown : ℕ → Option Bits) (command : GraphCmd) (why : Refusal)
+    → RaisesWithin c flown command (Err (fault.Refused why)) c flown
+refused_raises c flown command why w k ok rep at = omega arith

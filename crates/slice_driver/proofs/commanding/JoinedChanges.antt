@@ -159,6 +159,7 @@ module _ (old : HeapState) (flown : ℕ → Option Bits) (covers : Covers old.sh
       values = by.0.values;
       count = by.0.count;
       carries = by.0.carries;
+      distinct = by.0.distinct;
       parallel = by.0.parallel;
     },
     by.1,

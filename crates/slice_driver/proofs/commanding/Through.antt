@@ -1,5 +1,5 @@
 -- A barrier on a cell that is reached from black ones leaves the world as it is, and so does more room.
-use Rattle.std.proofs.Common.{◌≡◌, ℕ, Option, Some, None, inl, inr, refl, sym, ap, subst, ◌∙◌}
+use Rattle.std.proofs.Common.{◌≡◌, ℕ, Option, Some, None, inl, inr, refl, sym, ap, subst}
 use Rattle.gz_names.specs.declared.numbers.Place.{Place}
 use Rattle.cell_bits.specs.declared.bits.Bits.{Bits}
 use Rattle.mark_stack.specs.Stack.{Piles}
@@ -26,7 +26,7 @@ use Rattle.slice_driver.specs.Rooms.{Widens}
 use Rattle.slice_driver.specs.Steps.{GoesThrough}
 use Rattle.slice_driver.proofs.marking.Flights.{still_flies}
 use Rattle.slice_driver.proofs.marking.MarkingSteps.{Marked, marked_quiet, own_sized}
-use Rattle.slice_driver.proofs.marking.MarkingUnits.{waits_on}
+use Rattle.slice_driver.proofs.marking.MarkingUnits.{looks_on, piled_still, waits_on}
 use Rattle.slice_driver.proofs.marking.Steps.{keeps_looks, looks_same, quiet as stands_quiet}
 use Rattle.slice_driver.proofs.commanding.Rooms.{gray_room, marks_room}
 
@@ -57,7 +57,10 @@ module _ (c : CollectorState) (flown : ℕ → Option Bits) (w : World) (rep : R
     marks = inv;
     gray = live;
     waits = waits_on c h p (ap (λ (z : HeapState). z.shape) bl.rest) (ap (λ (z : HeapState). z.buffers) bl.rest)
-        rep.waits (λ none. gray ∙ rep.waits.gray none);
+        rep.waits (piled_still c h p (ap (λ (z : HeapState). z.shape) bl.rest)
+        (ap (λ (z : HeapState). z.buffers) bl.rest) rep.waits gray)
+        (looks_on c h p (ap (λ (z : HeapState). z.shape) bl.rest) (ap (λ (z : HeapState). z.buffers) bl.rest) rep.waits
+        (ap (λ (z : HeapState). z.looks) bl.rest));
     darker = bl.kept;
     black = pending_same (heap_with c flown) c.stack (joined h flying) p rep.marks inv bl;
     live = live_same (heap_with c flown) c.stack (joined h flying) p c.lists rep.marks rep.gray inv gray bl;
@@ -168,7 +171,12 @@ represents_widened c d flown w wide rep =
       marks = marks_room (heap_with c flown) c.stack (widened c d).stack refl wide.stack rep.marks;
       gray = gray_room (heap_with c flown) c.stack (widened c d).stack c.lists (widened c d).lists refl refl wide.lists
           rep.gray;
-      waits = record { gray = rep.waits.gray; buffered = rep.waits.buffered; incoming = rep.waits.incoming };
+      waits = record {
+        piled = rep.waits.piled;
+        buffered = rep.waits.buffered;
+        incoming = rep.waits.incoming;
+        looks = rep.waits.looks;
+      };
       darker = λ p b. b;
       black = λ p. (black_back c d flown, black_on c d flown);
       live = λ p. (live_back c d flown, live_on c d flown);

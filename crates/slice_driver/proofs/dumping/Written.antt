@@ -45,6 +45,10 @@ represents_seen c flown flying h here covers same w rep = represents_flown c flo
     (subst (λ (k : HeapState). Covers k.shape flying) here covers)
     (subst (λ (k : HeapState). joined k flying ≡ joined k flown) here same) rep
 
+pub heap_seen : (flown flying : ℕ → Option Bits) (h k : HeapState) → h ≡ k → joined h flying ≡ joined h flown
+    → joined k flying ≡ joined k flown
+heap_seen flown flying h k here same = subst (λ (x : HeapState). joined x flying ≡ joined x flown) here same
+
 -- four parts, one after another
 four_parts : {X : Type 0} (a b c d start one two three all : List X) → start ≡ [] → one ≡ start ++ a → two ≡ one ++ b
     → three ≡ two ++ c → all ≡ three ++ d → all ≡ a ++ (b ++ (c ++ d))

@@ -47,7 +47,7 @@ pub has_in_zones : (g : ZoneSet) (z : ℕ) → HasZone g.bits z → in_zones g.b
 unfolding HasZone
 has_in_zones g z here = eq-eqb _ _ here.1
 
-listed_zones : (g : ZoneSet) → ((z : ℕ) → bit_at g.bits z ≡ 1 → z < 64) → (z : ℕ)
+pub listed_zones : (g : ZoneSet) → ((z : ℕ) → bit_at g.bits z ≡ 1 → z < 64) → (z : ℕ)
     → list_any (eqb z) (zones_in g) ≡ in_zones g.bits z
 listed_zones g small z = same_test _ _ (λ e. has_in_zones g z ((zones_in-has g z).0 (among_to z (zones_in g) e)))
     (λ e. among_from z (zones_in g) ((zones_in-has g z).1 (in_zones_has g small z e)))

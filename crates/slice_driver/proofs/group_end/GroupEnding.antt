@@ -108,7 +108,8 @@ module _ (c : CollectorState) (g : ZoneSet) (rest : List ZoneSet) (ready : IsRea
       none_flown w s a = no_some (flown a) (s.flies.covers a ∙ ap is_some (ready.kept a))
 
       sized_in : (w : World) → Represents c flown w → length c.heap.colours ≡ length c.heap.shape.arenas
-      sized_in w s = sym (Rattle.barriers.proofs.Flying.flown_length flown 0 c.heap.colours) ∙ s.marks.holds.colours.sized
+      sized_in w s = sym (Rattle.barriers.proofs.Flying.flown_length flown 0 c.heap.colours)
+          ∙ s.marks.holds.colours.sized
 
       states_in : (w : World) → Represents c flown w → AreInStates c ready.run
       states_in w s = let kind = collection_of c (heap_with c flown) w ready.run ready.running s.runs in
@@ -145,7 +146,8 @@ module _ (c : CollectorState) (g : ZoneSet) (rest : List ZoneSet) (ready : IsRea
           let no_sweep = (states_in w s).swept ready.kept in
           let d : CollectorState = record c { heap = n; groups = rest } in
           let flies = just_flown n has no_sweep flown (none_flown w s) (sized_in w s) in
-          let v = group_ends c d flown (flying_after jobs flown) w g rest grays ok s ready (ends_in n has no_sweep) flies
+          let v = group_ends c d flown (flying_after jobs flown) w g rest grays ok s ready (ends_in n has no_sweep)
+          flies
           listed in
           let kind = collection_of d (heap_with d (flying_after jobs flown)) v.0 ready.run ready.running v.3.runs in
           let states : AreInStates d ready.run =
@@ -167,7 +169,8 @@ module _ (c : CollectorState) (g : ZoneSet) (rest : List ZoneSet) (ready : IsRea
             states = λ z. over.2 z
                 ∙ (sym (after_both (state_in m.shape z))
                 ∙ (ap Rattle.slice_driver.specs.Advancing.after_end
-                (sym (states_mapped after_sweep refl m.shape.states z)) ∙ ends_all d ready.run states ready.formed over.0
+                (sym (states_mapped after_sweep refl m.shape.states z))
+                ∙ ends_all d ready.run states ready.formed over.0
                 z));
             stack_is = refl;
             lists_is = refl;

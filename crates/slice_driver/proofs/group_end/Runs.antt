@@ -21,7 +21,8 @@ use Rattle.colour_defs.proofs.Lists.{contains_cases, contains_tail, nothing_in_n
 use Rattle.colour_defs.proofs.Membership.{among_from, among_to, without_has, without_was}
 use Rattle.colour_defs.proofs.ZoneSets.{zones_in-has}
 use Rattle.heap_core.specs.Shape.{is_marking_state, name_at, out_of, state_in, zone_in, zone_of}
-use Rattle.heap_core.specs.Heap.{HeapState, flown_or, with_flown}
+use Rattle.weak_maps.specs.declared.colours.MarkColour.TheVariants as mark
+use Rattle.heap_core.specs.Heap.{HeapState, flown_or, weak_of, with_flown}
 use Rattle.barriers.specs.Colours.{IsBlack}
 use Rattle.barriers.specs.Invariant.{MarkingInvariant}
 use Rattle.barriers.specs.PendingLive.{GrayInvariant, buffer_of}
@@ -31,6 +32,7 @@ use Rattle.slice_driver.specs.Worlds.{IsInFlight, IsWokenFrom}
 use Rattle.slice_driver.specs.Represents.{AreBehind, AreInStates, IsCurrent, IsInGroups, Represents, Runs, RunsAs}
 use Rattle.slice_driver.specs.Represents.{WaitsWhileMarking}
 use Rattle.slice_driver.specs.GroupEnd.{AreJustFlown, EndsIn, IsEnded, IsGrayHere, IsReady}
+use Rattle.slice_driver.proofs.abstraction.Waits.{none_carried}
 use Rattle.slice_driver.proofs.abstraction.Named.{some_one}
 use Rattle.slice_driver.proofs.group_end.Ready.{groups_ok, in_groups_to, ordered, runs, tied}
 use Rattle.slice_driver.proofs.group_end.Cells.{in_zones_has, out_at_end}
@@ -254,7 +256,12 @@ module _ (c : CollectorState) (flown : ℕ → Option Bits) (w : World) (k : Col
 
   waits_after : WaitsWhileMarking d
   waits_after = record {
-    gray = λ none. ap (λ (p : Piles). p.gray) ends.stack_is ∙ ready.marked.gray_empty;
+    piled = λ x has. absurd (nothing_in_none x (subst (λ xs. Contains xs x)
+        (ap (λ (p : Piles). p.gray) ends.stack_is ∙ ready.marked.gray_empty) has));
+    looks = λ quiet. (
+      none_carried mark.Gray (weak_of c.heap) (weak_of d.heap) e.carries e.parallel ready.marked.none_gray,
+      none_carried mark.Black (weak_of c.heap) (weak_of d.heap) e.carries e.parallel ready.marked.none_black,
+    );
     buffered = λ z quiet. ap (λ (h : HeapState). buffer_of h z) e.rest ∙ elim (group_of z) [
       | inl mine ↦ ready.marked.none_buffered z mine
       | inr out ↦ s.waits.buffered z (ap is_marking_state (sym (e.others z out)) ∙ quiet)

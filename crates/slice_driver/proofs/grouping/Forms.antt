@@ -22,7 +22,7 @@ use Rattle.colour_defs.specs.Laws.{IsValid}
 use Rattle.colour_defs.specs.Lawful.{FormsGroups}
 use Rattle.colour_defs.specs.World.{World, Collection, IsSettled, marking_of, BlackClosure}
 use Rattle.colour_defs.proofs.ZoneSets.{zones_in-has}
-use Rattle.heap_core.specs.Shape.{is_marking_state, name_at, state_in, zone_of}
+use Rattle.heap_core.specs.Shape.{is_marking_state, name_at, state_in, zone_of, state_of}
 use Rattle.heap_core.specs.Heap.{HeapState, joined}
 use Rattle.heap_core.specs.Shows.{StandsFor}
 use Rattle.barriers.specs.Invariant.{MarkingInvariant}
@@ -36,7 +36,8 @@ use Rattle.slice_driver.specs.Collector.{CollectorState, RunState, heap_with}
 use Rattle.slice_driver.specs.Closures.{AreBlack, AreTied}
 use Rattle.slice_driver.specs.Grouping.{FormsIn}
 use Rattle.slice_driver.specs.Represents.{AreBehind, AreInStates, AreLookedAt, IsInGroups, LeadsAcross, Represents}
-use Rattle.slice_driver.specs.Represents.{Runs, RunsAs, WaitsWhileMarking}
+use Rattle.weak_maps.specs.WeakMaps.{LooksState}
+use Rattle.slice_driver.specs.Represents.{NothingLeft, Runs, RunsAs, WaitsWhileMarking}
 use Rattle.slice_driver.specs.Worlds.{IsInFlight, IsUnswept, LiesIn}
 use Rattle.slice_driver.proofs.abstraction.Named.{edge_placed, named_cell, place_of as place_named, some_one}
 use Rattle.slice_driver.proofs.abstraction.Lying.{zone_named}
@@ -229,8 +230,8 @@ module _ (c d : CollectorState) (flown : ℕ → Option Bits) (w : World) (k : C
 
   waits_after : WaitsWhileMarking d
   waits_after = record {
-    gray = λ none. ap (λ (p : Piles). p.gray) f.stack_is
-        ∙ s.waits.gray (λ z both. none z (ap (λ (h : HeapState). state_in h.shape z) f.heap_is ∙ both));
+    piled = λ x has. ap (λ (h : HeapState). state_of h.shape x) f.heap_is
+        ∙ s.waits.piled x (subst (λ (p : Piles). Contains p.gray x) f.stack_is has);
     buffered = λ z quiet. ap (λ h. buffer_of h z) f.heap_is
         ∙ s.waits.buffered z (ap (λ (h : HeapState). is_marking_state (state_in h.shape z)) (sym f.heap_is) ∙ quiet);
     incoming = λ n p held.
@@ -239,6 +240,8 @@ module _ (c d : CollectorState) (flown : ℕ → Option Bits) (w : World) (k : C
           ap (λ (h : HeapState). slice_get h.shape.comps n) f.heap_is ∙ i.1,
           ap (λ (h : HeapState). is_marking_state (state_in h.shape i.0)) f.heap_is ∙ i.2,
         ));
+    looks = λ quiet. subst (λ (l : LooksState). NothingLeft l) (sym (ap (λ (h : HeapState). h.looks) f.heap_is))
+        (s.waits.looks (λ z. ap (λ (h : HeapState). is_marking_state (state_in h.shape z)) (sym f.heap_is) ∙ quiet z));
   }
 
   pub represents_formed : Represents d flown (record w { collection = Some (formed_collection k groups) })

@@ -80,7 +80,12 @@ module _ (c d : CollectorState) (l : LooksIn c d) where
     flies = s.flies;
     marks = s.marks;
     gray = s.gray;
-    waits = record { gray = s.waits.gray; buffered = s.waits.buffered; incoming = s.waits.incoming };
+    waits = record {
+      piled = s.waits.piled;
+      buffered = s.waits.buffered;
+      incoming = s.waits.incoming;
+      looks = s.waits.looks;
+    };
     darker = λ p b. b;
     black = λ p. ((λ x. x), λ x. x);
     live = λ p. ((λ x. x), λ x. x);

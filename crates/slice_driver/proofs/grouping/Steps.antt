@@ -24,10 +24,11 @@ use Rattle.slice_driver.specs.Collector.{AreUngrouped, CollectorState, RunState,
 use Rattle.slice_driver.specs.declared.collector.Run.{Run}
 use Rattle.slice_driver.proofs.abstraction.Named.{some_one}
 use Rattle.slice_driver.specs.Grouping.{FormsIn, LooksIn}
-use Rattle.slice_driver.specs.Left.{grouping_left, ungrouped_below}
+use Rattle.slice_driver.specs.Remaining.{grouping_left, ungrouped_below}
 use Rattle.slice_driver.specs.Quiet.{HasSameLooks, IsFormed, IsQuiet}
 use Rattle.slice_driver.specs.Represents.{AreLookedAt}
 use Rattle.slice_driver.specs.Units.{IsSound}
+use Rattle.slice_driver.specs.UnitsToCome.{units_to_come}
 use Rattle.slice_driver.specs.Working.{GoesOn, IsBlackDone, IsGrouping}
 use Rattle.slice_driver.proofs.group_end.Ready.{collection_of, runs_of}
 use Rattle.slice_driver.proofs.grouping.Laws.{form_unit, look_unit, quiet_unit, unformed_kept}
@@ -79,6 +80,9 @@ ungrouped_same n m e f (suc z) =
 falls : (x a b y : ℕ) → a < b → x + (a + y) < x + (b + y)
 falls x a b y lt = omega (arith, lt)
 
+falls_with : (x a b y z : ℕ) → a < b → x + (a + y) + z < x + (b + y) + z
+falls_with x a b y z lt = omega (arith, lt)
+
 grouping_at : (s : Shape) (n : Noted) (o : Option RunState) (r : RunState) → o ≡ Some r → r.formed ≡ false
     → grouping_left s n o ≡ left_to_look s n + ungrouped_below n 64
 grouping_at s n o r e f = ap (grouping_left s n) e ∙ ap (λ b. cond b 0 (left_to_look s n + ungrouped_below n 64)) f
@@ -87,6 +91,7 @@ grouping_at s n o r e f = ap (grouping_left s n) e ∙ ap (λ b. cond b 0 (left_
 pub look_goes : (c : CollectorState) (edges : Noted) → IsGrouping c → LooksAtNext c.heap c.edges edges
     → edges.zones ≡ c.edges.zones → edges.stepped ≡ c.edges.stepped → (flown : ℕ → Option Bits) → IsSound c flown
     → IsBlackDone c flown → GoesOn c flown [] (record c { edges = edges }) flown
+unfolding units_to_come
 look_goes c edges g looks zones stepped flown s black =
     let d : CollectorState = record c { edges = edges } in
     let none = none_out c flown s g in
@@ -104,18 +109,20 @@ look_goes c edges g looks zones stepped flown s black =
       stepped_is = stepped;
       rest = refl;
     } in
+    let fewer_left : grouping_left c.heap.shape edges c.run < grouping_left c.heap.shape c.edges c.run =
+    (let fewer = looks.left in
+    let same = ungrouped_same c.edges edges zones stepped 64 in
+    let old = grouping_at c.heap.shape c.edges c.run g.0 g.1 g.2 in
+    let new = grouping_at c.heap.shape edges c.run g.0 g.1 g.2 in
+    omega (arith, fewer, same, old, new)) in
     record {
       done = look_unit c d flown running l;
       words = λ a freed is. is;
       running = running;
       made_is = refl;
       weak_is = refl;
-      less = falls _ _ _ _ (
-          let fewer = looks.left in
-          let same = ungrouped_same c.edges edges zones stepped 64 in
-          let old = grouping_at c.heap.shape c.edges c.run g.0 g.1 g.2 in
-          let new = grouping_at c.heap.shape edges c.run g.0 g.1 g.2 in
-          omega (arith, fewer, same, old, new));
+      less = falls_with _ _ _ _ _ fewer_left;
+      to_come = falls _ _ _ _ fewer_left;
     }
 
 -- one zone more had its grouping step
@@ -215,6 +222,7 @@ module _ (c : CollectorState) (zone : ℕ) (edges : Noted) (g : IsGrouping c)
     (s : IsSound c flown) where
   -- a grouping step that is not the last goes on
   pub step_goes : GoesOn c flown [] (record c { edges = edges }) flown
+  unfolding units_to_come
   step_goes =
       let d : CollectorState = record c { edges = edges } in
       let rep = s.represents in
@@ -228,7 +236,12 @@ module _ (c : CollectorState) (zone : ℕ) (edges : Noted) (g : IsGrouping c)
         flies = rep.flies;
         marks = rep.marks;
         gray = rep.gray;
-        waits = record { gray = rep.waits.gray; buffered = rep.waits.buffered; incoming = rep.waits.incoming };
+        waits = record {
+          piled = rep.waits.piled;
+          buffered = rep.waits.buffered;
+          incoming = rep.waits.incoming;
+          looks = rep.waits.looks;
+        };
         darker = λ p b. b;
         black = λ p. ((λ x. x), λ x. x);
         live = λ p. ((λ x. x), λ x. x);
@@ -241,24 +254,27 @@ module _ (c : CollectorState) (zone : ℕ) (edges : Noted) (g : IsGrouping c)
         cursors_are = steps.cursors_are;
         stepped = inr looked;
       } in
+      let fewer_left : grouping_left c.heap.shape edges c.run < grouping_left c.heap.shape c.edges c.run =
+      (let fewer = one_fewer c.edges zone edges steps in
+      let left = left_same c.heap.shape c.edges edges steps.zones_are steps.cursors_are 64 in
+      let old = grouping_at c.heap.shape c.edges c.run g.0 g.1 g.2 in
+      let new = grouping_at c.heap.shape edges c.run g.0 g.1 g.2 in
+      omega (arith, fewer, left, old, new)) in
       record {
         done = quiet_unit c d flown flown running q same;
         words = λ a freed is. is;
         running = running;
         made_is = refl;
         weak_is = refl;
-        less = falls _ _ _ _ (
-            let fewer = one_fewer c.edges zone edges steps in
-            let left = left_same c.heap.shape c.edges edges steps.zones_are steps.cursors_are 64 in
-            let old = grouping_at c.heap.shape c.edges c.run g.0 g.1 g.2 in
-            let new = grouping_at c.heap.shape edges c.run g.0 g.1 g.2 in
-            omega (arith, fewer, left, old, new));
+        less = falls_with _ _ _ _ _ fewer_left;
+        to_come = falls _ _ _ _ fewer_left;
       }
 
   -- the last one forms the groups
   pub forms_goes : (groups : List ZoneSet) → AreComponents edges.sources edges.zones groups
       → GoesOn c flown (report.Groups groups ∷ [])
       (record c { edges = edges; groups = groups; run = Some (record g.0 { formed = true }) }) flown
+  unfolding units_to_come
   forms_goes groups components =
       let d : CollectorState = record c { edges = edges; groups = groups; run = Some (record g.0 { formed = true }) } in
       let f : FormsIn c groups d = record {
@@ -275,16 +291,18 @@ module _ (c : CollectorState) (zone : ℕ) (edges : Noted) (g : IsGrouping c)
         groups_is = refl;
         run_is = refl;
       } in
+      let fewer_left : 0 < grouping_left c.heap.shape c.edges c.run =
+      (let fewer = one_fewer c.edges zone edges steps in
+      let old = grouping_at c.heap.shape c.edges c.run g.0 g.1 g.2 in
+      omega (arith, fewer, old)) in
       record {
         done = form_unit c d flown groups f;
         words = λ a freed is. is;
         running = refl;
         made_is = refl;
         weak_is = refl;
-        less = falls _ _ _ _ (
-            let fewer = one_fewer c.edges zone edges steps in
-            let old = grouping_at c.heap.shape c.edges c.run g.0 g.1 g.2 in
-            omega (arith, fewer, old));
+        less = falls_with _ _ _ _ _ fewer_left;
+        to_come = falls _ _ _ _ fewer_left;
       }
 
 -- once none waits, each zone had its step

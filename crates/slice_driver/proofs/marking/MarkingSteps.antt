@@ -10,13 +10,13 @@ use Rattle.barriers.specs.Invariant.{MarkingInvariant}
 use Rattle.barriers.specs.PendingBlack.{PendingBlack}
 use Rattle.barriers.specs.PendingLive.{PendingLive, GrayInvariant}
 use Rattle.barriers.proofs.Flying.{flown_length}
-use Rattle.marker.specs.Units.{work_left}
 use Rattle.zone_edges.specs.Noted.{Noted}
 use Rattle.slice_driver.specs.Collector.{CollectorState, RunState, heap_with}
-use Rattle.slice_driver.specs.Left.{arenas_left, grouping_left, steps_left}
+use Rattle.slice_driver.specs.Remaining.{arenas_left, grouping_left, steps_left}
 use Rattle.slice_driver.specs.Quiet.{IsQuiet}
 use Rattle.slice_driver.specs.Represents.{WaitsWhileMarking}
 use Rattle.slice_driver.specs.Units.{IsFreedWord, KeepsFreedWords}
+use Rattle.slice_driver.specs.UnitsToCome.{marking_to_come, units_to_come}
 use Rattle.slice_driver.specs.Working.{GoesOn}
 use Rattle.slice_driver.specs.Worlds.{IsInFlight}
 use Rattle.slice_driver.proofs.grouping.Laws.{quiet_unit}
@@ -63,25 +63,25 @@ module _ (c : CollectorState) (flown : ℕ → Option Bits) (d : CollectorState)
     live = m.live;
   }
 
-  -- all but the work of marking is as it was
-  abbrev rest_left : CollectorState → ℕ
-  rest_left x = grouping_left x.heap.shape x.edges x.run
-      + (steps_left x.heap.shape.states + arenas_left x.heap.shape x.heap.shape.arenas)
-
-  same_rest : rest_left d ≡ rest_left c
-  same_rest =
-      ap (λ (s : Shape). grouping_left s d.edges d.run + (steps_left s.states + arenas_left s s.arenas)) m.shape_is
-      ∙ ap (λ (e : Noted). grouping_left c.heap.shape e d.run
-      + (steps_left c.heap.shape.states + arenas_left c.heap.shape c.heap.shape.arenas)) m.edges_is
-      ∙ ap (λ (o : Option RunState). grouping_left c.heap.shape c.edges o
-      + (steps_left c.heap.shape.states + arenas_left c.heap.shape c.heap.shape.arenas)) m.run_is
-
   pub same_words : KeepsFreedWords c.heap.shape d.heap.shape
   same_words a freed is = subst (λ (s : Shape). IsFreedWord s a freed) (sym m.shape_is) is
 
-  pub marked_goes : IsSome c.run → work_left (heap_with d flying) d.stack d.lists < work_left (heap_with c flown)
-      c.stack c.lists → GoesOn c flown [] d flying
-  marked_goes running less =
+  abbrev steps_to_come : CollectorState → ℕ
+  steps_to_come x = grouping_left x.heap.shape x.edges x.run + steps_left x.heap.shape.states
+
+  same_steps : steps_to_come d ≡ steps_to_come c
+  same_steps = ap (λ (s : Shape). grouping_left s d.edges d.run + steps_left s.states) m.shape_is
+      ∙ ap (λ (e : Noted). grouping_left c.heap.shape e d.run + steps_left c.heap.shape.states) m.edges_is
+      ∙ ap (λ (o : Option RunState). grouping_left c.heap.shape c.edges o + steps_left c.heap.shape.states) m.run_is
+
+  same_arenas : arenas_left d.heap.shape d.heap.shape.arenas ≡ arenas_left c.heap.shape c.heap.shape.arenas
+  same_arenas = ap (λ (s : Shape). arenas_left s s.arenas) m.shape_is
+
+  pub marked_goes : IsSome c.run
+      → marking_to_come (heap_with d flying) d.stack d.lists < marking_to_come (heap_with c flown) c.stack c.lists
+      → GoesOn c flown [] d flying
+  unfolding units_to_come
+  marked_goes running falls =
       let q = marked_quiet in
       record {
         done = quiet_unit c d flown flying running q (looks_same c flown d flying q m.edges_is);
@@ -89,7 +89,8 @@ module _ (c : CollectorState) (flown : ℕ → Option Bits) (d : CollectorState)
         running = subst (λ (o : Option RunState). IsSome o) (sym m.run_is) running;
         made_is = m.made_is;
         weak_is = ap (λ (t : Shape). t.weak) m.shape_is;
-        less = sum_less _ _ _ _ less same_rest;
+        less = sum_less _ _ _ _ (sum_less _ _ _ _ falls same_steps) same_arenas;
+        to_come = sum_less _ _ _ _ falls same_steps;
       }
     where
       sum_less : (a b x y : ℕ) → a < b → x ≡ y → a + x < b + y

@@ -1,6 +1,6 @@
 -- What units of marking do for a collector.
-use Rattle.std.proofs.Common.{◌≡◌, ◌≢◌, ◌⊎◌, ◌↔◌, ◌<◌, ◌+◌, ℕ, Bool, true, false, List, [], ◌∷◌, Option, Some}
-use Rattle.std.proofs.Common.{IsSome, Contains, slice_get, inl, inr, refl, sym, ap, subst, ◌∙◌}
+use Rattle.std.proofs.Common.{◌≡◌, ◌⊎◌, ◌↔◌, ◌<◌, ◌+◌, ℕ, Bool, true, false, List, [], Option, Some}
+use Rattle.std.proofs.Common.{IsSome, Contains, slice_get, inl, inr, refl, sym, ap, subst, ◌∙◌, arith}
 use Rattle.gz_names.specs.declared.numbers.Place.{Place}
 use Rattle.gz_names.specs.declared.replies.Report.{Report}
 use Rattle.gz_names.specs.declared.zone_sets.ZoneSet.{ZoneSet}
@@ -13,7 +13,7 @@ use Rattle.mark_stack.specs.Stack.{Piles}
 use Rattle.roots.specs.Buffers.{buffer_at}
 use Rattle.gray_lists.specs.Incoming.{Incoming}
 use Rattle.colour_defs.specs.World.{World}
-use Rattle.colour_defs.proofs.Lists.{contains_head, nothing_in_none}
+use Rattle.colour_defs.proofs.Lists.{nothing_in_none}
 use Rattle.heap_core.specs.Shape.{Shape, is_marking, is_marking_state, state_in, state_of, zone_of}
 use Rattle.heap_core.specs.Heap.{HeapState, colour_of, joined}
 use Rattle.heap_core.proofs.MakingCells.{same-place}
@@ -27,25 +27,26 @@ use Rattle.barriers.specs.Spreading.{Blackens, Covers}
 use Rattle.marker.specs.GrayBits.{AreGraying}
 use Rattle.barriers.specs.WeakPoint.{IsPiled}
 use Rattle.barriers.proofs.StayingLeft.{none_left}
-use Rattle.weak_maps.specs.WeakMaps.{NoneLeft}
+use Rattle.weak_maps.specs.WeakMaps.{LooksState, NoneLeft}
 use Rattle.weak_maps.specs.declared.colours.MarkColour.{MarkColour}
 use Rattle.weak_maps.specs.declared.colours.MarkColour.TheVariants as mark
 use Rattle.marker.specs.Looks.{RaisesTo, weaker, with_looks}
-use Rattle.marker.specs.Units.{DoesGray, DoesLook, IsGrayIdle, work_left}
+use Rattle.marker.specs.Units.{DoesGray, DoesLook, IsGrayIdle, ScansBlack, TakesOne}
 use Rattle.slice_driver.specs.Collector.{CollectorState, heap_with}
 use Rattle.slice_driver.specs.Closures.{AreBlack}
-use Rattle.slice_driver.specs.Left.{units_left, grouping_left, steps_left, arenas_left}
-use Rattle.slice_driver.specs.Represents.{Represents, RunsAs, WaitsWhileMarking}
+use Rattle.slice_driver.specs.Left.{units_left}
+use Rattle.slice_driver.specs.Remaining.{grouping_left, steps_left, arenas_left}
+use Rattle.slice_driver.specs.Represents.{NothingLeft, Represents, RunsAs, WaitsWhileMarking}
 use Rattle.slice_driver.specs.Units.{IsSound}
+use Rattle.slice_driver.specs.UnitsToCome.{marking_to_come, units_to_come}
 use Rattle.slice_driver.specs.Working.{DidOrStill, GoesOn, IsBlackDone, IsBlackFixed, IsGrayDone, IsGrayFixed}
 use Rattle.slice_driver.specs.Working.{IsGroupDone, IsStill}
+use Rattle.slice_driver.proofs.abstraction.Waits.{looked_one, none_piled, none_in_it}
+use Rattle.slice_driver.proofs.measure.GrayPiles.{gray_pile}
+use Rattle.slice_driver.proofs.measure.MarkingToCome.{black_falls, does_gray_falls, looks_fall}
 use Rattle.slice_driver.proofs.marking.Flights.{still_flies}
 use Rattle.slice_driver.proofs.marking.MarkingSteps.{Marked, marked_goes, own_sized}
 use Rattle.slice_driver.proofs.marking.Worlds.{flies_same}
-
-pub none_in_it : {X : Type 0} (xs : List X) → ((x : X) → Contains xs x → ⊥) → xs ≡ []
-none_in_it [] none = refl
-none_in_it (x ∷ xs) none = absurd (none x (contains_head x xs))
 
 -- nothing waits that did not
 module _ (c : CollectorState) (h : HeapState) (p : Piles) (shape_is : h.shape ≡ c.heap.shape)
@@ -53,10 +54,30 @@ module _ (c : CollectorState) (h : HeapState) (p : Piles) (shape_is : h.shape �
   none_before : (P : State → Type 0) → ((z : ℕ) → P (state_in h.shape z)) → (z : ℕ) → P (state_in c.heap.shape z)
   none_before P all z = subst (λ (s : Shape). P (state_in s z)) shape_is (all z)
 
-  pub waits_on : (((z : ℕ) → state_in c.heap.shape z ≢ state.MarkBlackAndGray) → p.gray ≡ [])
+  pub quiet_before : ((z : ℕ) → is_marking_state (state_in h.shape z) ≡ false) → (z : ℕ)
+      → is_marking_state (state_in c.heap.shape z) ≡ false
+  quiet_before quiet = none_before (λ t. is_marking_state t ≡ false) quiet
+
+  pub looks_on : h.looks ≡ c.heap.looks → ((z : ℕ) → is_marking_state (state_in h.shape z) ≡ false)
+      → NothingLeft h.looks
+  looks_on same quiet = subst (λ (l : LooksState). NothingLeft l) (sym same) (waits.looks (quiet_before quiet))
+
+  pub piled_on : ((x : Place) → Contains p.gray x → Contains c.stack.gray x
+      ⊎ (state_of c.heap.shape x ≡ state.MarkBlackAndGray)) → (x : Place) → Contains p.gray x
+      → state_of h.shape x ≡ state.MarkBlackAndGray
+  piled_on only x has = ap (λ (s : Shape). state_of s x) shape_is ∙ elim (only x has)
+      [ inl was ↦ waits.piled x was | inr takes ↦ takes ]
+
+  pub piled_still : p.gray ≡ c.stack.gray → (x : Place) → Contains p.gray x
+      → state_of h.shape x ≡ state.MarkBlackAndGray
+  piled_still same = piled_on (λ x has. inl (subst (λ (xs : List Place). Contains xs x) same has))
+
+  pub waits_on : ((x : Place) → Contains p.gray x → state_of h.shape x ≡ state.MarkBlackAndGray)
+      → (((z : ℕ) → is_marking_state (state_in h.shape z) ≡ false) → NothingLeft h.looks)
       → WaitsWhileMarking (record c { heap = h; stack = p })
-  waits_on gray = record {
-    gray = λ none. gray (none_before (λ t. t ≢ state.MarkBlackAndGray) none);
+  waits_on piled looks = record {
+    looks = looks;
+    piled = piled;
     buffered = λ z quiet. ap (λ (bs : List (List Place)). buffer_at bs z) buffers_is
         ∙ waits.buffered z (ap (λ (s : Shape). is_marking_state (state_in s z)) (sym shape_is) ∙ quiet);
     incoming = λ n x has.
@@ -74,9 +95,9 @@ pub black_followed : (c : CollectorState) (flown flying : ℕ → Option Bits) (
     (joined h flying) → p.gray ≡ c.stack.gray
     → ((y : Place) → PendingBlack (joined h flying) p y ↔ PendingBlack (heap_with c flown) c.stack y)
     → KeepsLive (heap_with c flown) c.stack (joined h flying) p
-    → ((lists : Incoming) → work_left (joined h flying) p lists < work_left (heap_with c flown) c.stack lists)
+    → ScansBlack (heap_with c flown) c.stack (joined h flying) p
     → GoesOn c flown [] (record c { heap = h; stack = p }) flying
-black_followed c flown flying h p s running covers inv bl gray pending live less =
+black_followed c flown flying h p s running covers inv bl gray pending live scanned =
     let rep = s.represents in
     let d : CollectorState = record c { heap = h; stack = p } in
     let shape_is : h.shape ≡ c.heap.shape = ap (λ (z : HeapState). z.shape) bl.rest in
@@ -93,21 +114,17 @@ black_followed c flown flying h p s running covers inv bl gray pending live less
       marks = inv;
       gray = both.0;
       waits = waits_on c h p shape_is (ap (λ (z : HeapState). z.buffers) bl.rest) rep.waits
-          (λ none. gray ∙ rep.waits.gray none);
+          (piled_still c h p shape_is (ap (λ (z : HeapState). z.buffers) bl.rest) rep.waits gray)
+          (λ quiet. absurd (let off = quiet_before c h p shape_is (ap (λ (z : HeapState). z.buffers) bl.rest) rep.waits
+          quiet (zone_of c.heap.shape scanned.cell) in
+          let on = scanned.zone in cc (on, off)));
       darker = bl.kept;
       black = pending;
       live = both.1;
     } in
-    marked_goes c flown d flying m running (less c.lists)
-
--- on the gray pile is nothing, where no zone takes gray
-none_on_gray : (c : CollectorState) (p : Piles) → WaitsWhileMarking c
-    → ((x : Place) → Contains p.gray x → Contains c.stack.gray x ⊎ (state_of c.heap.shape x ≡ state.MarkBlackAndGray))
-    → ((z : ℕ) → state_in c.heap.shape z ≢ state.MarkBlackAndGray) → p.gray ≡ []
-none_on_gray c p waits only none = none_in_it p.gray (λ x has. elim (only x has) [
-  | inl was ↦ nothing_in_none x (subst (λ (xs : List Place). Contains xs x) (waits.gray none) was)
-  | inr takes ↦ none (zone_of c.heap.shape x) takes
-])
+    marked_goes c flown d flying m running
+    (black_falls (heap_with c flown) c.stack c.lists (joined h flying) p shape_is
+    (ap (λ (z : HeapState). z.buffers) bl.rest) rep.lies.whole rep.marks.holds.colours.seen_present scanned)
 
 -- what a look coloured: black, or gray in a marking zone
 raised_others : (d : Colour) (h : HeapState) (p : Piles) (v : Place) (k : HeapState) (q : Piles) → RaisesTo d h p v k q
@@ -152,12 +169,16 @@ entry_looked c flown flying h p colour_is s running covers does =
       marks = does.invariant;
       gray = both.0;
       waits = waits_on c h p shape_is (ap (λ (z : HeapState). z.buffers) does.rest) rep.waits
-          (none_on_gray c p rep.waits does.gray_pile);
+          (piled_on c h p shape_is (ap (λ (z : HeapState). z.buffers) does.rest) rep.waits does.gray_pile)
+          (λ quiet. absurd (looked_one colour_is (does.map, does.key, does.value) c.heap.shape.weak.entries c.heap.looks
+          h.looks does.looked (rep.waits.looks (quiet_before c h p shape_is
+          (ap (λ (z : HeapState). z.buffers) does.rest) rep.waits quiet))));
       darker = does.black_kept;
       black = does.pending_black;
       live = both.1;
     } in
-    marked_goes c flown d flying m running (does.less c.lists)
+    marked_goes c flown d flying m running
+    (looks_fall colour_is (heap_with c flown) c.stack c.lists (joined h flying) p does)
 
 -- a piece of gray marking was done
 pub gray_followed : (c : CollectorState) (flown : ℕ → Option Bits) (h : HeapState) (p : Piles) (lists : Incoming)
@@ -177,8 +198,8 @@ gray_followed c flown h p lists s running does =
       marks = does.marks.invariant;
       gray = does.marks.gray;
       waits = record {
-        gray = λ none. none_on_gray c p rep.waits does.gray_pile
-            (λ z. subst (λ (t : Shape). state_in t z ≢ state.MarkBlackAndGray) shape_is (none z));
+        piled = λ x has. ap (λ (t : Shape). state_of t x) shape_is ∙ elim (does.gray_pile x has)
+            [ inl was ↦ rep.waits.piled x was | inr takes ↦ takes ];
         buffered = λ z quiet.
             none_in_it (buffer_of h z)
             (λ x has. nothing_in_none x
@@ -197,12 +218,29 @@ gray_followed c flown h p lists s running does =
             ap (λ (t : Shape). is_marking_state (state_in t new.0)) shape_is ∙ ap is_marking_state new.2,
           )
         ];
+        looks = λ quiet. nothing_taken does.takes
+            (λ z. ap (λ (t : Shape). is_marking_state (state_in t z)) (sym shape_is) ∙ quiet z);
       };
       darker = does.marks.black_kept;
       black = does.marks.pending_black;
       live = does.marks.pending_live;
     } in
-    marked_goes c flown d flown m running does.less
+    marked_goes c flown d flown m running
+    (does_gray_falls (heap_with c flown) c.stack c.lists (joined h flown) p lists rep.lies.whole
+    rep.marks.holds.colours.seen_present (gray_pile c flown s.world rep) does)
+  where
+    nothing_taken : TakesOne (heap_with c flown) c.stack c.lists (joined h flown) p lists
+        → ((z : ℕ) → is_marking_state (state_in c.heap.shape z) ≡ false) → NothingLeft h.looks
+    nothing_taken (inl buffered) quiet =
+        subst (λ (l : LooksState). NothingLeft l) (sym buffered.2) (s.represents.waits.looks quiet)
+    nothing_taken (inr (inl incoming)) quiet =
+        subst (λ (l : LooksState). NothingLeft l) (sym incoming.2) (s.represents.waits.looks quiet)
+    nothing_taken (inr (inr scanned)) quiet =
+        absurd (nothing_in_none scanned.cell
+        (subst (λ (xs : List Place). Contains xs scanned.cell)
+        (none_piled c s.represents.waits
+        (λ z takes. (let on = ap is_marking_state takes in let off = quiet z in cc (on, off))))
+        scanned.piled))
 
 -- with the same colours the collector stands for the same worlds
 pub same_worlds : (c : CollectorState) (flown flying : ℕ → Option Bits) (w : World) → Covers c.heap.shape flying
@@ -320,17 +358,24 @@ still_sound c flown d flying a s =
           (a.worlds s.world s.represents);
     }
 
--- what is left, with the bits of a heap
-left_by : CollectorState → HeapState → ℕ
-left_by c h = work_left h c.stack c.lists
-    + (grouping_left c.heap.shape c.edges c.run
-    + (steps_left c.heap.shape.states + arenas_left c.heap.shape c.heap.shape.arenas))
+-- what is to come, with the bits of a heap
+to_come_by : CollectorState → HeapState → ℕ
+to_come_by c h = marking_to_come h c.stack c.lists
+    + (grouping_left c.heap.shape c.edges c.run + steps_left c.heap.shape.states)
 
+pub still_to_come : (c : CollectorState) (flown : ℕ → Option Bits) (d : CollectorState) (flying : ℕ → Option Bits)
+    → IsStill c flown d flying → units_to_come d flying ≡ units_to_come c flown
+unfolding to_come_by units_to_come
+still_to_come c flown d flying a = ap (λ (x : CollectorState). units_to_come x flying) a.same
+    ∙ ap (λ h. to_come_by c h) a.colours
+
+-- and as much is left
 pub still_left : (c : CollectorState) (flown : ℕ → Option Bits) (d : CollectorState) (flying : ℕ → Option Bits)
     → IsStill c flown d flying → units_left d flying ≡ units_left c flown
-unfolding left_by
-still_left c flown d flying a = ap (λ (x : CollectorState). units_left x flying) a.same
-    ∙ ap (λ h. left_by c h) a.colours
+still_left c flown d flying a =
+    let to_come = still_to_come c flown d flying a in
+    let arenas = ap (λ (x : CollectorState). arenas_left x.heap.shape x.heap.shape.arenas) a.same in
+    omega (arith, to_come, arenas)
 
 pub still_goes : (c : CollectorState) (flown : ℕ → Option Bits) (d : CollectorState) (f1 : ℕ → Option Bits)
     (rs : List Report) (e : CollectorState) (f2 : ℕ → Option Bits) → IsStill c flown d f1 → GoesOn d f1 rs e f2
@@ -349,6 +394,8 @@ still_goes c flown d f1 rs e f2 a g = go
       weak_is = moved.weak_is;
       less = subst (λ n. units_left e f2 < n) (ap (λ (x : CollectorState). units_left x f1) (sym a.same)
           ∙ still_left c flown d f1 a) moved.less;
+      to_come = subst (λ n. units_to_come e f2 < n) (ap (λ (x : CollectorState). units_to_come x f1) (sym a.same)
+          ∙ still_to_come c flown d f1 a) moved.to_come;
     }
 
 pub then_marks : (b : Bool) (P Q : Type 0) (c : CollectorState) (flown : ℕ → Option Bits) (d : CollectorState)

@@ -25,12 +25,13 @@ use Rattle.slice_driver.specs.Units.{AreJobs, DoesUnit, EndsColoured, DoneOrDue,
 use Rattle.slice_driver.specs.Units.{UnitDone, is_group_end, flying_after, jobs_at, reports_of}
 use Rattle.slice_driver.specs.Working.{GoesOn, HasBegun, HasGroups, IsAtGroupEnd, IsBlackDone, IsGroupDone}
 use Rattle.slice_driver.specs.Working.{IsGroupingUnit, IsResting, IsStill}
+use Rattle.slice_driver.specs.UnitsToCome.{units_to_come}
 use Rattle.slice_driver.specs.declared.collector.Unit.{Unit}
 use Rattle.slice_driver.proofs.grouping.Looks.{own_heap}
 use Rattle.slice_driver.proofs.abstraction.SoundAfter.{done_sound, unit_sound}
 use Rattle.slice_driver.proofs.marking.MarkingUnits.{black_fixed, both_still, gray_fixed, group_done_before}
 use Rattle.slice_driver.proofs.marking.MarkingUnits.{still_black_done, still_goes}
-use Rattle.slice_driver.proofs.marking.MarkingUnits.{still_group_done, still_left, still_sound}
+use Rattle.slice_driver.proofs.marking.MarkingUnits.{still_group_done, still_left, still_sound, still_to_come}
 
 -- where no arena is due, nothing is asked
 pub not_due : {X : Type 0} (P : Type 0) (o : Option X) → o ≡ None → IsSome o → P
@@ -51,6 +52,7 @@ pub record UnitSays (c : CollectorState) (flown : ℕ → Option Bits) (unit : U
   pub due : IsSome unit.due → unit.handed ≡ None
   pub finished : (unit.finished ≡ true) ↔ (d.run ≡ None)
   pub left : Lowers unit.due (units_left c flown) (units_left d (flying_after unit.handed flying))
+  pub to_come : Lowers unit.due (units_to_come c flown) (units_to_come d (flying_after unit.handed flying))
   pub made : d.heap.made ≡ c.heap.made
   pub entries : length d.heap.shape.weak.entries ≤ length c.heap.shape.weak.entries
 
@@ -105,6 +107,10 @@ says_goes c flown unit d flying goes_on handed finished due g = record {
   left = subst (λ (o : Option ℕ). Lowers o (units_left c flown) (units_left d (flying_after unit.handed flying)))
       (sym due) (subst (λ (h : Option (List Job)). units_left d (flying_after h flying) < units_left c flown)
       (sym handed) g.less);
+  to_come = subst
+      (λ (o : Option ℕ). Lowers o (units_to_come c flown) (units_to_come d (flying_after unit.handed flying)))
+      (sym due) (subst (λ (h : Option (List Job)). units_to_come d (flying_after h flying) < units_to_come c flown)
+      (sym handed) g.to_come);
   made = g.made_is;
   entries = (let same = ap (λ (w : Rattle.weak_maps.specs.WeakMaps.WeakTableState). length w.entries) g.weak_is in
       omega (arith, same));
@@ -252,6 +258,15 @@ pub on_err : {E : Type 0} (P : Type 0) (r : Result Unit E) → P → OnErr r P
 on_err P (Ok unit) p = tt
 on_err P (Err why) p = p
 
+-- an arena is due, and nothing was done
+pub due_to_come : (c : CollectorState) (flown : ℕ → Option Bits) (d : CollectorState) (flying : ℕ → Option Bits)
+    → IsStill c flown d flying → (a : ℕ) (unit : Unit)
+    → unit ≡ record { report = None; handed = None; finished = false; due = Some a }
+    → Lowers unit.due (units_to_come c flown) (units_to_come d (flying_after unit.handed flying))
+due_to_come c flown d flying still a unit is =
+    subst (λ (u : Unit). Lowers u.due (units_to_come c flown) (units_to_come d (flying_after u.handed flying)))
+    (sym is) (let same = still_to_come c flown d flying still in omega (arith, same))
+
 -- the end of a group
 module _ (c : CollectorState) (flown : ℕ → Option Bits) (e : CollectorState) (f : ℕ → Option Bits)
     (still : IsStill c flown e f) (s : IsSound e f) (d : CollectorState) where
@@ -290,6 +305,16 @@ module _ (c : CollectorState) (flown : ℕ → Option Bits) (e : CollectorState)
       subst (λ (o : Option ℕ). Lowers o (units_left c flown) (units_left d (flying_after unit.handed f))) (sym due)
       (let lt = left f s in let same = still_left c flown e f still in omega (arith, lt, same))
   ended_left (Err why) left due = tt
+
+  pub ended_to_come : {E : Type 0} (r : Result Unit E)
+      → IfOk r (λ (unit : Unit). (g : ℕ → Option Bits) → IsSound e g
+      → units_to_come d (flying_after unit.handed g) < units_to_come e g) → IfOk r (λ (unit : Unit). unit.due ≡ None)
+      → IfOk r
+      (λ (unit : Unit). Lowers unit.due (units_to_come c flown) (units_to_come d (flying_after unit.handed f)))
+  ended_to_come (Ok unit) less due =
+      subst (λ (o : Option ℕ). Lowers o (units_to_come c flown) (units_to_come d (flying_after unit.handed f)))
+      (sym due) (let lt = less f s in let same = still_to_come c flown e f still in omega (arith, lt, same))
+  ended_to_come (Err why) less due = tt
 
   pub ended_handed : {E : Type 0} (r : Result Unit E) → IfOk r
       (λ (unit : Unit). AreJobs unit.handed (jobs_at unit.report e.heap)) → IfOk r

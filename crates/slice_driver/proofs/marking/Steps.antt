@@ -1,4 +1,5 @@
 -- After a step that leaves the world as it is the collector stands for the same world.
+use Rattle.slice_driver.proofs.abstraction.Waits.{none_piled}
 use Rattle.std.proofs.Common.{◌≡◌, ◌≢◌, ◌↔◌, ◌<◌, ◌≤◌, ℕ, zero, suc, Bool, true, false, List, [], ◌∷◌, length, map}
 use Rattle.std.proofs.Common.{arith, slice_get, slice_index_or, Option, Some, None, IsSome, Contains, inl, inr, refl}
 use Rattle.std.proofs.Common.{sym, ap, subst, ◌∙◌}
@@ -259,7 +260,7 @@ module _ (c : CollectorState) (flown : ℕ → Option Bits) (d : CollectorState)
     runs_as : (o : Option RunState) (k : Option Collection) → c.run ≡ o → w.collection ≡ k
         → RunsAs (heap_with c flown) c w o k → RunsAs (heap_with d flying) d w o k
     runs_as None None e f i = idle_after i (empty d.stack.black (λ x c'. unmarked x (q.marks.holds.piles.black x c').1))
-        (q.waits.gray (λ z both. cc (stays z state.NoGC (i.states z) (λ only. cc only), both)))
+        (none_piled d q.waits (λ z both. cc (stays z state.NoGC (i.states z) (λ only. cc only), both)))
       where
         unmarked : (x : Place) → is_marking d.heap.shape x ≡ true → ⊥
         unmarked x m = let no : state_in d.heap.shape (zone_of d.heap.shape x) ≡ state.NoGC =

@@ -1,5 +1,6 @@
 -- Units that report nothing, one after another.
-use Rattle.std.proofs.Common.{◌≡◌, ◌<◌, ◌+◌, ℕ, zero, suc, Bool, true, false, [], Option, IsSome, refl, sym, ap, subst, ◌∙◌}
+use Rattle.std.proofs.Common.{◌≡◌, ◌<◌, ◌+◌, ℕ, zero, suc, Bool, true, false, [], Option, IsSome, refl, sym, ap, subst}
+use Rattle.std.proofs.Common.{◌∙◌}
 use Rattle.std.proofs.Common.{arith}
 use Rattle.cell_bits.specs.declared.bits.Bits.{Bits}
 use Rattle.colour_defs.specs.Lawful.{IsLawfulUnit, quiet}
@@ -13,7 +14,7 @@ use Rattle.slice_driver.specs.Units.{IsSound, KeepsFreedWords}
 use Rattle.slice_driver.specs.Working.{DidOrStill, DoesQuietUnits, GoesOn, LooksOrAll, QuietOrNone, HasBegun}
 use Rattle.slice_driver.specs.Working.{IsBlackDone, IsGroupDone, IsGrouping, IsQuietDone, IsStill}
 use Rattle.slice_driver.proofs.marking.MarkingUnits.{both_still, group_done_before, still_black_done, still_goes}
-use Rattle.slice_driver.proofs.marking.MarkingUnits.{still_group_done, still_left, still_sound}
+use Rattle.slice_driver.proofs.marking.MarkingUnits.{still_group_done, still_left, still_sound, still_to_come}
 use Rattle.slice_driver.proofs.abstraction.Named.{some_one}
 use Rattle.slice_driver.proofs.abstraction.SoundAfter.{unit_sound}
 
@@ -33,6 +34,7 @@ goes_then c f d g e h a b = record {
   made_is = b.made_is ∙ a.made_is;
   weak_is = b.weak_is ∙ a.weak_is;
   less = omega (arith, a.less, b.less);
+  to_come = omega (arith, a.to_come, b.to_come);
 }
 
 -- nothing is done after a unit
@@ -47,13 +49,19 @@ goes_still c f d g e h a b = record {
   made_is = ap (λ (x : CollectorState). x.heap.made) b.same ∙ a.made_is;
   weak_is = ap (λ (x : CollectorState). x.heap.shape.weak) b.same ∙ a.weak_is;
   less = (let same = still_left d g e h b in let lt = a.less in omega (arith, same, lt));
+  to_come = (let same = still_to_come d g e h b in let lt = a.to_come in omega (arith, same, lt));
 }
 
 nothing_done : (c : CollectorState) (f : ℕ → Option Bits) → IsStill c f c f
 nothing_done c f = record { same = refl; colours = refl; worlds = λ w r. r }
 
 pub no_quiet : (c : CollectorState) (f : ℕ → Option Bits) → DoesQuietUnits 0 c f c f
-no_quiet c f = record { none = λ e. nothing_done c f; some = λ lt. absurd (omega (arith, lt)); less = omega arith }
+no_quiet c f = record {
+  none = λ e. nothing_done c f;
+  some = λ lt. absurd (omega (arith, lt));
+  less = omega arith;
+  to_come = omega arith;
+}
 
 pub more_quiet : (n : ℕ) (c : CollectorState) (f : ℕ → Option Bits) (d : CollectorState) (g : ℕ → Option Bits)
     (e : CollectorState) (h : ℕ → Option Bits) → DoesQuietUnits n c f d g → GoesOn d g [] e h
@@ -62,6 +70,7 @@ more_quiet n c f d g e h did goes = record {
   none = λ is. absurd (omega (arith, is));
   some = λ lt. one_more n did;
   less = (let was = did.less in let now = goes.less in omega (arith, was, now));
+  to_come = (let was = did.to_come in let now = goes.to_come in omega (arith, was, now));
 }
   where
     one_more : (m : ℕ) → DoesQuietUnits m c f d g → GoesOn c f [] e h
@@ -76,6 +85,7 @@ last_quiet n c f d g e h did still = record {
   none = λ is. both_still c f d g e h (did.none is) still;
   some = λ lt. goes_still c f d g e h (did.some lt) still;
   less = (let was = did.less in let same = still_left d g e h still in omega (arith, was, same));
+  to_come = (let was = did.to_come in let same = still_to_come d g e h still in omega (arith, was, same));
 }
 
 -- some such units after others
@@ -86,6 +96,7 @@ then_quiet n m c f d g e h a b = record {
   none = λ is. both_still c f d g e h (a.none (omega (arith, is))) (b.none (omega (arith, is)));
   some = some_of n m a b;
   less = (let one = a.less in let two = b.less in omega (arith, one, two));
+  to_come = (let one = a.to_come in let two = b.to_come in omega (arith, one, two));
 }
   where
     some_of : (i j : ℕ) → DoesQuietUnits i c f d g → DoesQuietUnits j d g e h → 0 < i + j → GoesOn c f [] e h

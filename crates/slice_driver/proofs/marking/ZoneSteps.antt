@@ -1,7 +1,7 @@
 -- The beginning of a zone of the current group, and what all of them have begun.
-use Rattle.std.proofs.Common.{◌≡◌, ◌≢◌, ◌↔◌, ◌<◌, ◌≤◌, ◌+◌, ℕ, zero, suc, List, [], ◌∷◌, length, Option, Some, None}
+use Rattle.std.proofs.Common.{◌≡◌, ◌≢◌, ◌↔◌, ◌<◌, ◌≤◌, ◌+◌, ℕ, zero, suc, Bool, List, [], ◌∷◌, length, Option, Some}
 use Rattle.std.proofs.Common.{IsSomeAnd, is_some, slice_get, slice_set, length-set, inl, inr, refl, sym, ap, subst, ◌∙◌}
-use Rattle.std.proofs.Common.{arith}
+use Rattle.std.proofs.Common.{None, arith, if◌then◌else◌}
 use Rattle.std.proofs.lemmas.Bool.{cases_eq}
 use Rattle.gz_names.specs.Zones.{HasZone}
 use Rattle.gz_names.specs.declared.zone_sets.ZoneSet.{ZoneSet}
@@ -12,16 +12,19 @@ use Rattle.zones.specs.States.{next_state}
 use Rattle.zones.specs.declared.states.State.{State}
 use Rattle.zones.specs.declared.states.State.TheVariants as state
 use Rattle.colour_defs.specs.World.{Collection}
-use Rattle.heap_core.specs.Shape.{Shape, is_marking_state, state_in, state_or}
-use Rattle.heap_core.specs.Heap.{HeapState}
-use Rattle.marker.specs.Looks.{looks_left}
+use Rattle.heap_core.specs.Shape.{ArenaShape, Shape, is_marking_state, state_in, state_or}
+use Rattle.heap_core.specs.Heap.{HeapState, joined, with_flown}
+use Rattle.barriers.specs.Colours.{grays_in, grays_outside, is_gray, slots_below}
 use Rattle.slice_driver.specs.Collector.{CollectorState, heap_with}
-use Rattle.slice_driver.specs.Left.{grouping_left, steps_left, steps_of}
+use Rattle.slice_driver.specs.Remaining.{grouping_left, steps_left, steps_of}
 use Rattle.slice_driver.specs.Quiet.{BeginsZone, IsFormed}
 use Rattle.slice_driver.specs.Represents.{IsCurrent, IsInGroups, Runs}
 use Rattle.slice_driver.specs.Units.{IsSound}
+use Rattle.slice_driver.specs.UnitsToCome.{units_to_come}
 use Rattle.slice_driver.specs.Working.{GoesOn, HasBegun}
 use Rattle.slice_driver.proofs.measure.Fewer.{arenas_same, fewer_steps, grouped}
+use Rattle.slice_driver.proofs.measure.StatesToCome.{same_marks_no_more}
+use Rattle.slice_driver.proofs.marking.Zones.{same_marks}
 use Rattle.slice_driver.proofs.group_end.Ready.{collection_of, runs_of}
 use Rattle.slice_driver.proofs.grouping.Laws.{zone_unit}
 use Rattle.slice_driver.proofs.abstraction.Named.{some_one}
@@ -43,6 +46,16 @@ pub current_of : (groups : List ZoneSet) (g : ZoneSet) (z : ℕ) → slice_get g
     → HasZone g.bits z
 current_of [] g z e h = absurd h
 current_of (x ∷ xs) g z e h = subst (λ (y : ZoneSet). HasZone y.bits z) (some_one x g e) h
+
+-- where the same zones are marking, as many cells outside them are gray
+grays_by_states : (s t : Shape) → ((z : ℕ) → is_marking_state (state_in t z) ≡ is_marking_state (state_in s z))
+    → (arenas : List ArenaShape) (colours : List Bits) → grays_in t arenas colours ≡ grays_in s arenas colours
+grays_by_states s t same [] colours = refl
+grays_by_states s t same (arena ∷ arenas) [] = refl
+grays_by_states s t same (arena ∷ arenas) (bits ∷ colours) =
+    let rest = grays_by_states s t same arenas colours in
+    let here = ap (λ (b : Bool). if b then 0 else slots_below (is_gray bits) 64) (same arena.zone) in
+    omega (arith, rest, here)
 
 module _ (c : CollectorState) (zone : ℕ) (formed : IsFormed c) (current : IsCurrent c.groups zone)
     (found : slice_get c.heap.shape.states zone ≡ Some state.MarkBlackOnly) where
@@ -110,25 +123,41 @@ module _ (c : CollectorState) (zone : ℕ) (formed : IsFormed c) (current : IsCu
   none_grouping : (s : Shape) → grouping_left s c.edges c.run ≡ 0
   none_grouping s = ap (grouping_left s c.edges) formed.1 ∙ grouped s c.edges formed.0 formed.2
 
-  less : (w a b x y p q : ℕ) → a < b → x ≡ y → p ≡ 0 → q ≡ 0 → w + (p + (a + x)) < w + (q + (b + y))
-  less w a b x y p q lt e f g = omega (arith, lt, e, f, g)
+  less_to_come : (w v a b p q : ℕ) → w ≤ v → a < b → p ≡ 0 → q ≡ 0 → w + (p + a) < v + (q + b)
+  less_to_come w v a b p q le lt f g = omega (arith, le, lt, f, g)
 
-  goes : (flown : ℕ → Option Bits) → GoesOn c flown [] d flown
-  unfolding looks_left
-  goes flown = record {
+  with_arenas : (a b x y : ℕ) → a < b → x ≡ y → a + x < b + y
+  with_arenas a b x y lt e = omega (arith, lt, e)
+
+  falls : (flown : ℕ → Option Bits) → IsSound c flown → units_to_come d flown < units_to_come c flown
+  unfolding units_to_come
+  falls flown s = less_to_come _ _ _ _ _ _
+      (same_marks_no_more (heap_with c flown) (heap_with d flown) c.stack c.lists
+      (same_marks c d zone flown s.world s.represents begins))
+      fewer (none_grouping next.shape) (none_grouping c.heap.shape)
+
+  goes : (flown : ℕ → Option Bits) → IsSound c flown → GoesOn c flown [] d flown
+  goes flown s = record {
     done = zone_unit c d flown zone begins;
     words = λ a freed is. is;
     running = ap is_some formed.1;
     made_is = refl;
     weak_is = refl;
-    less = less _ _ _ _ _ _ _ fewer (arenas_same c.heap.shape next.shape c.heap.shape.arenas marking_same)
-        (none_grouping next.shape) (none_grouping c.heap.shape);
+    less = with_arenas _ _ _ _ (falls flown s)
+        (arenas_same c.heap.shape next.shape c.heap.shape.arenas marking_same);
+    to_come = falls flown s;
   }
 
   pub zone_goes : (h : HeapState) → h ≡ next → (flown : ℕ → Option Bits) → IsSound c flown
       → GoesOn c flown [] (record c { heap = h }) flown
   zone_goes h e flown s = subst (λ (k : HeapState). GoesOn c flown [] (record c { heap = k }) flown) (sym e)
-      (goes flown)
+      (goes flown s)
+
+  -- and as many cells outside marking zones are gray
+  pub zone_grays : (h : HeapState) → h ≡ next → (flown : ℕ → Option Bits)
+      → grays_outside (joined h flown) ≡ grays_outside (heap_with c flown)
+  zone_grays h e flown = ap (λ (k : HeapState). grays_outside (joined k flown)) e
+      ∙ grays_by_states c.heap.shape next.shape marking_same c.heap.shape.arenas (with_flown flown 0 c.heap.colours)
 
 -- what a zone's advance leaves, by its state before
 pub advanced_to : (h : HeapState) (zone : ℕ) (k : HeapState) → slice_get h.shape.states zone ≡ Some state.MarkBlackOnly

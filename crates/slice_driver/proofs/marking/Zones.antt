@@ -4,6 +4,7 @@ use Rattle.std.proofs.Common.{refl, sym, ap, subst, ◌∙◌}
 use Rattle.std.proofs.lemmas.Bool.{cases_eq}
 use Rattle.gz_names.specs.declared.numbers.Place.{Place}
 use Rattle.cell_bits.specs.declared.bits.Bits.{Bits}
+use Rattle.zones.specs.declared.states.State.TheVariants as state
 use Rattle.mark_stack.specs.Stack.{Piles}
 use Rattle.gray_lists.specs.Incoming.{Incoming, list_of as waiting_for}
 use Rattle.colour_defs.specs.World.{World}
@@ -14,7 +15,8 @@ use Rattle.barriers.specs.PendingBlack.{PendingBlack}
 use Rattle.barriers.specs.PendingLive.{GrayInvariant, PendingLive, buffer_of}
 use Rattle.slice_driver.specs.Collector.{CollectorState, heap_with}
 use Rattle.slice_driver.specs.Quiet.{BeginsZone, IsQuiet, IsStateAfter}
-use Rattle.slice_driver.specs.Represents.{Represents, WaitsWhileMarking}
+use Rattle.weak_maps.specs.WeakMaps.{LooksState}
+use Rattle.slice_driver.specs.Represents.{NothingLeft, Represents, WaitsWhileMarking}
 use Rattle.slice_driver.proofs.marking.Marks.{HasSameMarks, black_on, gray_kept, live_back, live_on, marks_kept}
 use Rattle.slice_driver.proofs.marking.Marks.{pending_back, pending_on}
 use Rattle.slice_driver.proofs.marking.Worlds.{flies_same}
@@ -39,7 +41,7 @@ module _ (c d : CollectorState) (zone : ℕ) (flown : ℕ → Option Bits) (w : 
         ∙ sym (ap is_marking_state next.2)
   ]
 
-  same_marks : HasSameMarks (heap_with c flown) (heap_with d flown)
+  pub same_marks : HasSameMarks (heap_with c flown) (heap_with d flown)
   same_marks = record {
     cells = record {
       cells = λ p. ap (λ (z : HeapState). cell_of z.shape p) b.heap_is;
@@ -67,7 +69,11 @@ module _ (c d : CollectorState) (zone : ℕ) (flown : ℕ → Option Bits) (w : 
 
   waits : WaitsWhileMarking d
   waits = record {
-    gray = λ none. absurd (none zone b.now);
+    piled = λ x has.
+        (let was = s.waits.piled x (subst (λ (p : Piles). Contains p.gray x) b.stack_is has) in
+        let here : state_in d.heap.shape (zone_of c.heap.shape x) ≡ state.MarkBlackAndGray =
+        elim (states (zone_of c.heap.shape x)) [ inl e ↦ e ∙ was | inr next ↦ next.3 ] in
+        ap (λ (h : HeapState). state_in d.heap.shape (zone_of h.shape x)) b.heap_is ∙ here);
     buffered = λ z quiet. ap (λ (h : HeapState). buffer_of h z) b.heap_is
         ∙ s.waits.buffered z (sym (marking_same z) ∙ quiet);
     incoming = λ n p held.
@@ -76,6 +82,8 @@ module _ (c d : CollectorState) (zone : ℕ) (flown : ℕ → Option Bits) (w : 
           ap (λ (h : HeapState). Rattle.std.proofs.Common.slice_get h.shape.comps n) b.heap_is ∙ i.1,
           marking_same i.0 ∙ i.2,
         ));
+    looks = λ quiet. subst (λ (l : LooksState). NothingLeft l) (sym (ap (λ (h : HeapState). h.looks) b.heap_is))
+        (s.waits.looks (λ z. sym (marking_same z) ∙ quiet z));
   }
 
   black_same : (p : Place) → PendingBlack (heap_with d flown) d.stack p ↔ PendingBlack (heap_with c flown) c.stack p

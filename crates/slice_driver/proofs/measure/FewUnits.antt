@@ -1,7 +1,9 @@
 -- How many units are left of a collection at most.
 use Rattle.std.proofs.Common.{◌≡◌, ◌<◌, ◌≤◌, ◌+◌, ◌-◌, ◌*◌, ◌^◌, ◌||◌, ℕ, zero, suc, Bool, true, false, is_some}
-use Rattle.std.proofs.Common.{if◌then◌else◌, List, [], ◌∷◌, Option, Some, None, length, sum_by, refl, ap, arith}
+use Rattle.std.proofs.Common.{if◌then◌else◌, List, [], ◌∷◌, Option, Some, None, filter, length, sum_by, refl, ap}
+use Rattle.std.proofs.Common.{arith}
 use Rattle.std.specs.Int.{bit_at}
+use Rattle.std.proofs.lemmas.List.{length-append}
 use Rattle.std.proofs.lemmas.List.Sums.{count_by-le-length, sum_by-cons}
 use Rattle.std.proofs.lemmas.Nat.Bits.{bit_at-lt}
 use Rattle.gz_names.specs.declared.numbers.Place.{Place}
@@ -12,16 +14,21 @@ use Rattle.roots.specs.Buffers.{buffer_at}
 use Rattle.wrappers.specs.WrapperMaps.{AreApart, list_of}
 use Rattle.weak_maps.specs.WeakMaps.{AreParallel, EntryState}
 use Rattle.mark_stack.specs.Stack.{Piles}
-use Rattle.heap_core.specs.Shape.{ArenaShape, Shape, is_marking_state, state_in}
+use Rattle.gray_lists.specs.Incoming.{Incoming, waiting_count}
+use Rattle.heap_core.specs.Shape.{ArenaShape, Shape, cell_of, is_marking, is_marking_state, state_in}
 use Rattle.heap_core.specs.Heap.{HeapState, weak_of}
-use Rattle.barriers.specs.Scans.{AreScannedOnce}
-use Rattle.marker.specs.Looks.{looks_left, scans_of}
+use Rattle.barriers.specs.Scans.{AreScannedOnce, black_scans, gray_scans}
+use Rattle.marker.specs.Looks.{looks_now}
+use Rattle.marker.specs.UnitsToCome.{scans, starts_of, units_at}
 use Rattle.zone_edges.specs.Looks.{cursor_of, left_below}
 use Rattle.zone_edges.specs.Noted.{Noted}
 use Rattle.slice_driver.specs.Collector.{CollectorState, RunState, heap_with}
 use Rattle.slice_driver.specs.GrayRoots.{HasFewWrappers}
-use Rattle.slice_driver.specs.Left.{arenas_left, grouping_left, steps_left, steps_of, ungrouped_below, units_left}
+use Rattle.slice_driver.specs.Left.{units_left}
+use Rattle.slice_driver.specs.Remaining.{arenas_left, grouping_left, steps_left, steps_of, ungrouped_below}
 use Rattle.slice_driver.specs.Units.{IsSound}
+use Rattle.slice_driver.specs.UnitsToCome.{marking_to_come, may_be_noted, notes, places_below, present_places}
+use Rattle.slice_driver.specs.UnitsToCome.{slots_of, units_to_come}
 use Rattle.slice_driver.proofs.beginning.FewWrappers.{few_wrappers}
 
 -- a bit takes a number or nothing
@@ -95,37 +102,110 @@ none_buffered (b ∷ bs) none =
     let both = sum_by-cons length b bs in
     omega (arith, first, rest, both)
 
--- each weak entry is left at most once for its map and once for its key, and each of the two may be scanned twice at
--- most
-few_scans : (h : HeapState) (p : Piles) → AreScannedOnce h p → (es : List EntryState)
-    → sum_by (scans_of h p) es ≤ 4 * length es
-few_scans h p once [] = omega arith
-few_scans h p once (e ∷ es) =
-    let rest = few_scans h p once es in
-    let both = sum_by-cons (scans_of h p) e es in
-    omega (arith, rest, both, once.black e.map, once.gray e.map, once.black e.key, once.gray e.key)
+-- each cell may be scanned twice at most, and noted once
+two_scans : (h : HeapState) (p : Piles) → AreScannedOnce h p → (x : Place) → scans h p x ≤ 2
+two_scans h p once x = go (is_marking h.shape x)
+  where
+    go : (b : Bool) → (if b then black_scans h p x + gray_scans h p x else 0) ≤ 2
+    go true = omega (arith, once.black x, once.gray x)
+    go false = omega arith
 
-few_looks_left : (h : HeapState) (p : Piles) → AreScannedOnce h p → AreParallel (weak_of h)
-    → looks_left h p ≤ 6 * length h.shape.weak.entries
-unfolding looks_left
-few_looks_left h p once parallel =
+one_note : (h : HeapState) (p : Piles) → AreScannedOnce h p → (x : Place) → notes h p x ≤ 1
+one_note h p once x = go (may_be_noted h.shape x)
+  where
+    go : (b : Bool) → (if b then gray_scans h p x else 0) ≤ 1
+    go true = once.gray x
+    go false = omega arith
+
+few_ones : {X : Type 0} (f : X → ℕ) → ((x : X) → f x ≤ 1) → (xs : List X) → sum_by f xs ≤ length xs
+few_ones f few [] = omega arith
+few_ones f few (x ∷ xs) =
+    let rest = few_ones f few xs in
+    let both = sum_by-cons f x xs in
+    let here = few x in
+    omega (arith, rest, both, here)
+
+few_twos : {X : Type 0} (f : X → ℕ) → ((x : X) → f x ≤ 2) → (xs : List X) → sum_by f xs ≤ 2 * length xs
+few_twos f few [] = omega arith
+few_twos f few (x ∷ xs) =
+    let rest = few_twos f few xs in
+    let both = sum_by-cons f x xs in
+    let here = few x in
+    omega (arith, rest, both, here)
+
+few_fours : {X : Type 0} (f : X → ℕ) → ((x : X) → f x ≤ 4) → (xs : List X) → sum_by f xs ≤ 4 * length xs
+few_fours f few [] = omega arith
+few_fours f few (x ∷ xs) =
+    let rest = few_fours f few xs in
+    let both = sum_by-cons f x xs in
+    let here = few x in
+    omega (arith, rest, both, here)
+
+-- each entry may be started twice for each of its two places, and looked at once for each
+four_starts : (h : HeapState) (p : Piles) → AreScannedOnce h p → (e : EntryState) → starts_of h p e ≤ 4
+four_starts h p once e = omega (arith, two_scans h p once e.map, two_scans h p once e.key)
+
+few_looks_now : (h : HeapState) → AreParallel (weak_of h) → looks_now h.looks ≤ 2 * length h.shape.weak.entries
+few_looks_now h parallel =
     let maps = count_by-le-length is_some h.looks.by_map in
     let keys = count_by-le-length is_some h.looks.by_key in
-    let scans = few_scans h p once h.shape.weak.entries in
-    omega (arith, maps, keys, scans, parallel.0, parallel.1)
+    omega (arith, maps, keys, parallel.0, parallel.1)
+
+-- no more cells are present than there are slots
+slots_length : (arena n : ℕ) → length (slots_of arena n) ≡ n
+unfolding slots_of
+slots_length arena zero = refl
+slots_length arena (suc n) = let rest = slots_length arena n in omega (arith, rest)
+
+places_length : (n : ℕ) → length (places_below n) ≡ 64 * n
+unfolding places_below
+places_length zero = refl
+places_length (suc n) =
+    let both = length-append (slots_of n 64) (places_below n) in
+    let first = slots_length n 64 in
+    let rest = places_length n in
+    omega (arith, both, first, rest)
+
+filter_length : {X : Type 0} (test : X → Bool) (xs : List X) → length (filter test xs) ≤ length xs
+filter_length test [] = omega arith
+filter_length test (x ∷ xs) = go (test x) (filter_length test xs)
+  where
+    go : (b : Bool) → length (filter test xs) ≤ length xs
+        → length (if b then x ∷ filter test xs else filter test xs) ≤ suc (length xs)
+    go true rest = omega (arith, rest)
+    go false rest = omega (arith, rest)
+
+few_present : (s : Shape) → length (present_places s) ≤ 64 * length s.arenas
+few_present s =
+    let some = filter_length (λ p. is_some (cell_of s p)) (places_below (length s.arenas)) in
+    let all = places_length (length s.arenas) in
+    omega (arith, some, all)
+
+-- what is to come of marking
+few_marks : (h : HeapState) (p : Piles) (lists : Incoming) → AreScannedOnce h p → AreParallel (weak_of h)
+    → marking_to_come h p lists
+    ≤ 192 * length h.shape.arenas + (6 * length h.shape.weak.entries + (waiting_count lists + sum_by length h.buffers))
+unfolding units_at
+few_marks h p lists once parallel =
+    let cells = few_twos (scans h p) (two_scans h p once) (present_places h.shape) in
+    let noted = few_ones (notes h p) (one_note h p once) (present_places h.shape) in
+    let starts = few_fours (starts_of h p) (four_starts h p once) h.shape.weak.entries in
+    let looks = few_looks_now h parallel in
+    let present = few_present h.shape in
+    omega (arith, cells, noted, starts, looks, present)
 
 -- the number of units that are left is one of 64 bits
 pub few_units : (c : CollectorState) → length c.heap.shape.arenas < 2 ^ 32 → sum_by length c.heap.buffers < 2 ^ 63
     → length c.heap.shape.states ≤ 64 → length c.heap.shape.weak.entries < 2 ^ 32 → AreParallel (weak_of c.heap)
     → AreApart c.heap.shape.wrappers.lists → (flown : ℕ → Option Bits) → IsSound c flown → units_left c flown < 2 ^ 64
+unfolding units_to_come
 few_units c arenas buffered zones entries parallel apart flown sound =
     let r = sound.represents in
     let sized = r.marks.holds.colours.sized in
-    let black = r.marks.holds.piles.room.black in
     let gray = r.gray.few in
     let most = few_in_zone c flown sound arenas apart in
+    let marks = few_marks (heap_with c flown) c.stack c.lists r.marks.once parallel in
     let grouping = few_groupings c.heap.shape c.edges c.run 274877906944 most in
     let steps = few_steps c.heap.shape.states in
     let handed = few_arenas c.heap.shape c.heap.shape.arenas in
-    let looks = few_looks_left (heap_with c flown) c.stack r.marks.once parallel in
-    omega (arith, sized, black, gray, grouping, steps, handed, looks, arenas, buffered, zones, entries)
+    omega (arith, sized, gray, marks, grouping, steps, handed, arenas, buffered, zones, entries)

@@ -11,43 +11,18 @@ use Rattle.arena_table.specs.Slots.{change_at}
 use Rattle.heap_core.specs.Shape.{ArenaShape, Shape, is_marking_state, out_of, state_in, state_or}
 use Rattle.heap_core.specs.Heap.{HeapState, flown_or, with_flown}
 use Rattle.heap_core.specs.Sweeping.{come_in, handed}
-use Rattle.gz_names.specs.declared.numbers.Place.{Place}
-use Rattle.weak_maps.specs.WeakMaps.{LooksState, WeakTableState}
-use Rattle.mark_stack.specs.Stack.{Piles}
-use Rattle.gray_lists.specs.Incoming.{Incoming}
-use Rattle.marker.specs.Looks.{looks_left}
-use Rattle.marker.specs.Units.{work_left}
 use Rattle.zone_edges.specs.Noted.{Noted}
 use Rattle.slice_driver.specs.Advancing.{EndsSweeping, after_end}
 use Rattle.slice_driver.specs.Collector.{RunState}
-use Rattle.slice_driver.specs.Left.{arenas_left, grouping_left, steps_left, steps_of}
+use Rattle.slice_driver.specs.Remaining.{arenas_left, grouping_left, steps_left, steps_of}
 use Rattle.slice_driver.specs.Sweeping.{after_sweep}
 use Rattle.slice_driver.proofs.group_end.Cells.{some_out}
-
--- what is left to mark, by the colours, the buffers and the weak entries alone
-pub work_same : (h k : HeapState) (p : Piles) (lists : Incoming) → k.colours ≡ h.colours → k.buffers ≡ h.buffers
-    → k.shape.weak ≡ h.shape.weak → k.looks ≡ h.looks → work_left k p lists ≡ work_left h p lists
-unfolding looks_left
-work_same h k p lists colours buffers weak looks =
-    ap (λ (cs : List Bits). work_left (record k { colours = cs }) p lists) colours
-    ∙ ap (λ (bs : List (List Place)). work_left (record k { colours = h.colours; buffers = bs }) p lists) buffers
-    ∙ ap (λ (w : WeakTableState). work_left (record k {
-      shape = record k.shape { weak = w };
-      colours = h.colours;
-      buffers = h.buffers;
-    }) p lists) weak
-    ∙ ap (λ (l : LooksState). work_left (record k {
-      shape = record k.shape { weak = h.shape.weak };
-      colours = h.colours;
-      buffers = h.buffers;
-      looks = l;
-    }) p lists) looks
 
 -- nothing is left of the grouping
 pub grouped : (s : Shape) (n : Noted) (r : RunState) → r.formed ≡ true → grouping_left s n (Some r) ≡ 0
 grouped s n r formed =
     ap (λ (b : Bool). if b then 0 else Rattle.zone_edges.specs.Looks.left_to_look s n
-    + Rattle.slice_driver.specs.Left.ungrouped_below n 64) formed
+    + Rattle.slice_driver.specs.Remaining.ungrouped_below n 64) formed
 
 -- no zone has more steps to go
 pub no_more_steps : (xs ys : List State) → length ys ≡ length xs

@@ -1,29 +1,38 @@
 -- The end of a group lowers what is left.
-use Rattle.std.proofs.Common.{◌≡◌, ◌<◌, ◌≤◌, ◌+◌, ℕ, zero, suc, Bool, true, false, if◌then◌else◌, cond, Option, None}
+use Rattle.std.proofs.Common.{◌≡◌, ◌<◌, ◌≤◌, ◌+◌, ◌&&◌, ℕ, zero, suc, Bool, true, false, if◌then◌else◌, cond, Option}
+use Rattle.std.proofs.Common.{None}
 use Rattle.std.proofs.Common.{Some, is_some, List, [], ◌∷◌, length, slice_get, sum_by, refl, sym, ap, ◌∙◌, inl, inr}
 use Rattle.std.proofs.Common.{arith}
+use Rattle.std.specs.Option.{option_map}
 use Rattle.gz_names.specs.Zones.{HasZone}
+use Rattle.gz_names.specs.declared.numbers.Place.{Place}
 use Rattle.gz_names.specs.declared.zone_sets.ZoneSet.{ZoneSet}
 use Rattle.cell_bits.specs.declared.bits.Bits.{Bits}
 use Rattle.cell_bits.specs.declared.jobs.Job.{Job}
+use Rattle.arena_table.specs.Cells.{CellState}
 use Rattle.arena_table.specs.Indexed.{in_zones}
 use Rattle.colour_defs.proofs.ZoneSets.{zones_in-has}
-use Rattle.heap_core.specs.Shape.{ArenaShape, is_marking_state, out_in, state_in}
-use Rattle.heap_core.specs.Heap.{HeapState, weak_of, with_flown}
+use Rattle.heap_core.specs.Shape.{ArenaShape, cell_of, is_marking, is_marking_state, out_in, state_in, zone_of}
+use Rattle.heap_core.specs.Heap.{HeapState, colour_in, colour_of, weak_of, with_flown}
 use Rattle.heap_core.specs.Sweeping.{handed, jobs_of, with_handed}
 use Rattle.weak_maps.specs.WeakMaps.{EntryState, WeakMapsState}
 use Rattle.weak_maps.specs.declared.colours.MarkColour.TheVariants as mark
-use Rattle.marker.specs.Looks.{looks_now, scans_of}
+use Rattle.marker.specs.Looks.{looks_now}
 use Rattle.slice_driver.specs.Advancing.{EndsSweeping}
 use Rattle.slice_driver.specs.Collector.{CollectorState, heap_with}
 use Rattle.slice_driver.specs.GroupEnd.{IsReady}
 use Rattle.slice_driver.specs.HandingOut.{HandsOut}
-use Rattle.slice_driver.specs.Left.{arenas_left, grouping_left, steps_left, steps_of, units_left}
+use Rattle.slice_driver.specs.Left.{units_left}
+use Rattle.slice_driver.specs.Remaining.{arenas_left, grouping_left, steps_left, steps_of}
 use Rattle.slice_driver.specs.Units.{AreJobs, IsSound, flown_by, flying_after}
+use Rattle.slice_driver.specs.UnitsToCome.{units_to_come}
 use Rattle.slice_driver.proofs.group_end.EndReady.{sized_here}
 use Rattle.slice_driver.proofs.measure.Fewer.{arenas_handed, fewer_steps, grouped, marking_kept, own_flown, steps_kept}
-use Rattle.slice_driver.proofs.measure.FewerEntries.{none_carried, none_now, sum_no_more, work_no_more}
-use Rattle.slice_driver.proofs.group_end.Cells.{has_in_zones, in_zones_has, zone_or_not}
+use Rattle.slice_driver.proofs.abstraction.Waits.{none_carried}
+use Rattle.slice_driver.proofs.measure.FewerEntries.{none_now, sum_no_more}
+use Rattle.slice_driver.proofs.measure.StatesToCome.{IsStillMarking, states_no_more}
+use Rattle.slice_driver.proofs.group_end.Cells.{cell_at_end, handed_length, has_in_zones, in_zones_has, is_dead}
+use Rattle.slice_driver.proofs.group_end.Cells.{is_white_colour, zone_at_end, zone_or_not}
 use Rattle.slice_driver.proofs.group_end.Laws.{jobs_flown}
 use Rattle.slice_driver.proofs.group_end.Ready.{collection_of, no_some, some_zone}
 use Rattle.slice_driver.proofs.group_end.GroupEnding.{group_swept, others_stay}
@@ -126,6 +135,11 @@ module _ (c : CollectorState) (g : ZoneSet) (rest : List ZoneSet) (ready : IsRea
   none_to_group = ap (grouping_left c.heap.shape c.edges) ready.running
       ∙ grouped c.heap.shape c.edges ready.run ready.formed
 
+  none_grouping : (b : Bool) → grouping_left k.shape c.edges (if b then None else c.run) ≡ 0
+  none_grouping true = refl
+  none_grouping false = ap (grouping_left k.shape c.edges) ready.running
+      ∙ grouped k.shape c.edges ready.run ready.formed
+
   weak_are : weak_of k ≡ weak_of out.dropped
   weak_are = ap weak_of e.rest ∙ ap weak_of out.goes.rest
 
@@ -140,25 +154,61 @@ module _ (c : CollectorState) (g : ZoneSet) (rest : List ZoneSet) (ready : IsRea
       let same = ap (λ (w : WeakMapsState). looks_now w.looks) weak_are in
       omega (arith, none, same)
 
-  abbrev scans_then : EntryState → ℕ
-  scans_then = scans_of (heap_with c flown) c.stack
-
-  scans_less : sum_by scans_then k.shape.weak.entries ≤ sum_by scans_then c.heap.shape.weak.entries
-  scans_less =
-      let less = sum_no_more scans_then out.dropped.shape.weak.entries c.heap.shape.weak.entries out.drops.distinct
+  -- entries are dropped, and none comes
+  entries_less : (f : EntryState → ℕ) → sum_by f k.shape.weak.entries ≤ sum_by f c.heap.shape.weak.entries
+  entries_less f =
+      let less = sum_no_more f out.dropped.shape.weak.entries c.heap.shape.weak.entries out.drops.distinct
       (λ entry has. ((out.drops.entries.exact entry).0 has).0) in
-      let same = ap (λ (w : WeakMapsState). sum_by scans_then w.table.entries) weak_are in
+      let same = ap (λ (w : WeakMapsState). sum_by f w.table.entries) weak_are in
       omega (arith, less, same)
+
+  -- a cell of a zone that is still marking is of no zone of the group, so it is what it was
+  still_marking : (x : Place) → is_marking k.shape x ≡ true
+      → IsStillMarking (heap_with c flown)
+      (heap_with (record c { heap = k; groups = rest; run = if over then None else c.run }) (flying_after jobs flown)) x
+  still_marking x on = record {
+    name_is = ap (λ (o : Option CellState). option_map (λ (c : CellState). c.name) o)
+        (cell_at_end c.heap k g arenas_are sized ready.kept x
+        ∙ ap (λ (b : Bool). cond b None (cell_of c.heap.shape x)) alive);
+    was = sym (marking_then other) ∙ on;
+    colour_is = ap (λ (cs : List Bits). colour_in (slice_get cs x.0) x.1) colours_same;
+  }
+    where
+      zone_same : zone_of k.shape x ≡ zone_of c.heap.shape x
+      zone_same = zone_at_end c.heap k g arenas_are sized ready.kept x
+
+      marking_now : is_marking k.shape x ≡ is_marking_state (state_in m.shape (zone_of c.heap.shape x))
+      marking_now = ap (λ z. is_marking_state (state_in k.shape z)) zone_same
+          ∙ marking_kept m k rest over e (zone_of c.heap.shape x)
+
+      other : HasZone g.bits (zone_of c.heap.shape x) → ⊥
+      other has = (let off = ap is_marking_state (group_swept c g rest ready jobs m out (zone_of c.heap.shape x) has) in
+          let now = marking_now in cc (on, off, now))
+
+      marking_then : (HasZone g.bits (zone_of c.heap.shape x) → ⊥)
+          → is_marking k.shape x ≡ is_marking c.heap.shape x
+      marking_then none = marking_now
+          ∙ ap is_marking_state (others_stay c g rest ready jobs m out (zone_of c.heap.shape x) none)
+
+      alive : is_dead c.heap g x ≡ false
+      alive = go (in_zones g.bits (zone_of c.heap.shape x)) refl
+        where
+          go : (b : Bool) → in_zones g.bits (zone_of c.heap.shape x) ≡ b → is_dead c.heap g x ≡ false
+          go true has = absurd (other (in_zones_has g ready.small (zone_of c.heap.shape x) has))
+          go false none = ap (λ (b : Bool). b && is_white_colour (colour_of c.heap x)) none
+
+  pub ending_to_come : units_to_come (record c { heap = k; groups = rest; run = if over then None else c.run })
+      (flying_after jobs flown) < units_to_come c flown
+  unfolding units_to_come
+  ending_to_come =
+      let marks = states_no_more (heap_with c flown)
+      (heap_with (record c { heap = k; groups = rest; run = if over then None else c.run })
+      (flying_after jobs flown)) c.stack c.lists
+      (ap (λ (xs : List ArenaShape). length xs) arenas_are
+      ∙ handed_length g.bits c.heap.shape.arenas c.heap.colours sized)
+      buffers_are still_marking looks_less entries_less in
+      omega (arith, marks, none_grouping over, none_to_group, steps_less)
 
   pub ending_lowers : units_left (record c { heap = k; groups = rest; run = if over then None else c.run })
       (flying_after jobs flown) < units_left c flown
-  ending_lowers =
-      let work = work_no_more (heap_with c flown)
-      (heap_with (record c { heap = k; groups = rest; run = if over then None else c.run })
-      (flying_after jobs flown)) c.stack c.lists colours_same buffers_are looks_less scans_less in
-      let none : grouping_left k.shape c.edges (if over then None else c.run) ≡ 0 = go over in
-      omega (arith, work, none, none_to_group, steps_less, arenas_less)
-    where
-      go : (b : Bool) → grouping_left k.shape c.edges (if b then None else c.run) ≡ 0
-      go true = refl
-      go false = ap (grouping_left k.shape c.edges) ready.running ∙ grouped k.shape c.edges ready.run ready.formed
+  ending_lowers = let falls = ending_to_come in omega (arith, falls, arenas_less)

@@ -1,20 +1,12 @@
--- As weak entries are dropped, no more looks are to come, now or after what is still to be scanned.
+-- As weak entries are dropped, no more looks are to come.
 use Rattle.std.proofs.Common.{◌≡◌, ◌≢◌, ◌<◌, ◌≤◌, ◌+◌, ℕ, zero, suc, List, [], ◌∷◌, Option, None, Some, is_some, cond}
-use Rattle.std.proofs.Common.{Contains, count_by, length, slice_get, slice_index_or, sum_by, inl, inr, refl, sym, ap}
+use Rattle.std.proofs.Common.{Contains, count_by, length, slice_get, slice_index_or, sum_by, refl, sym, ap}
 use Rattle.std.proofs.Common.{◌∙◌, arith}
 use Rattle.std.proofs.lemmas.List.Sums.{sum_by-cons}
-use Rattle.std.proofs.lemmas.Option.{slice_get_cases, slice_get_within}
-use Rattle.gz_names.specs.declared.numbers.Place.{Place}
-use Rattle.cell_bits.specs.declared.bits.Bits.{Bits}
-use Rattle.mark_stack.specs.Stack.{Piles}
-use Rattle.gray_lists.specs.Incoming.{Incoming}
-use Rattle.weak_maps.specs.WeakMaps.{AreDistinct, AreParallel, Carries, EntryState, LooksState, NoneLeft}
-use Rattle.weak_maps.specs.WeakMaps.{WeakMapsState}
+use Rattle.weak_maps.specs.WeakMaps.{AreDistinct, EntryState, LooksState, NoneLeft}
 use Rattle.weak_maps.specs.declared.colours.MarkColour.{MarkColour}
 use Rattle.weak_maps.specs.declared.colours.MarkColour.TheVariants as mark
-use Rattle.heap_core.specs.Heap.{HeapState}
-use Rattle.marker.specs.Looks.{looks_left, looks_now, scans_of}
-use Rattle.marker.specs.Units.{marks_left, work_left}
+use Rattle.marker.specs.Looks.{looks_now}
 
 -- the list without the element of an index
 abbrev without : {X : Type 0} → List X → ℕ → List X
@@ -79,39 +71,3 @@ none_now looks gray black =
     let maps = none_in looks.by_map (λ n. (gray n).0) (λ n. (black n).0) in
     let keys = none_in looks.by_key (λ n. (gray n).1) (λ n. (black n).1) in
     omega (arith, maps, keys)
-
--- entries went, and the others are to be looked at as they were
-there : (es : List EntryState) (n : ℕ) → n < length es → (entry : EntryState) × (slice_get es n ≡ Some entry)
-there es n lt = elim (slice_get_cases es n).1 [
-  | inl some ↦ (some.0, some.2)
-  | inr none ↦ absurd (omega (arith, lt, none.0))
-]
-
-pub none_carried : (c : MarkColour) (old new : WeakMapsState) → Carries old new → AreParallel new
-    → NoneLeft c old.looks → NoneLeft c new.looks
-none_carried c old new carries parallel none n = (
-  λ at. (
-      let lt = slice_get_within new.looks.by_map n (Some c) at in
-      let stands = there new.table.entries n (omega (arith, lt, parallel.0)) in
-      let from = carries.from n stands.0 stands.1 in
-      (none from.0).0 (sym from.2 ∙ at)),
-  λ at. (
-      let lt = slice_get_within new.looks.by_key n (Some c) at in
-      let stands = there new.table.entries n (omega (arith, lt, parallel.1)) in
-      let from = carries.from n stands.0 stands.1 in
-      (none from.0).1 (sym from.3 ∙ at)),
-)
-
--- with the same colours and buffers, no more looks now, and no more where cells are still to be scanned
-pub work_no_more : (h k : HeapState) (p : Piles) (lists : Incoming) → k.colours ≡ h.colours → k.buffers ≡ h.buffers
-    → looks_now k.looks ≤ looks_now h.looks
-    → sum_by (scans_of h p) k.shape.weak.entries ≤ sum_by (scans_of h p) h.shape.weak.entries
-    → work_left k p lists ≤ work_left h p lists
-unfolding looks_left
-work_no_more h k p lists colours buffers looks scans =
-    let one = ap (λ (cs : List Bits). work_left (record k { colours = cs }) p lists) colours in
-    let both =
-    ap (λ (bs : List (List Place)). work_left (record k { colours = h.colours; buffers = bs }) p lists) buffers in
-    let split : work_left (record k { colours = h.colours; buffers = h.buffers }) p lists
-    ≡ looks_now k.looks + sum_by (scans_of h p) k.shape.weak.entries + marks_left h p lists = refl in
-    omega (arith, looks, scans, one, both, split)

@@ -1,18 +1,28 @@
--- An arena that came in lowers what is left.
+-- An arena that came in lowers what is left, and raises nothing of what is to come besides arenas.
 use Rattle.std.proofs.Common.{◌≡◌, ◌≢◌, ◌<◌, ◌≤◌, ◌+◌, ℕ, Bool, true, false, if◌then◌else◌, eqb, eqb-true, eq-eqb}
-use Rattle.std.proofs.Common.{Option, None, Some, IsSome, slice_get, refl, sym, ap, ◌∙◌, arith}
+use Rattle.std.proofs.Common.{Option, None, Some, IsSome, List, length, slice_get, sum_by, inl, inr, refl, sym, ap, ◌∙◌}
+use Rattle.std.proofs.Common.{arith, option_map}
+use Rattle.std.proofs.lemmas.Bool.{cases_eq}
 use Rattle.cell_bits.specs.declared.bits.Bits.{Bits}
 use Rattle.gz_names.specs.declared.numbers.Place.{Place}
-use Rattle.heap_core.specs.Shape.{ArenaShape, Shape, is_marking_state, out_in, out_of, state_in, zone_in}
-use Rattle.heap_core.specs.Heap.{HeapState, with_flown}
-use Rattle.heap_core.specs.Sweeping.{with_taken}
+use Rattle.arena_table.specs.Cells.{CellState}
+use Rattle.arena_table.specs.Slots.{change_at}
+use Rattle.arena_table.proofs.Changing.{length-change_at, slice_get-change_other, slice_get-change_same}
+use Rattle.heap_core.specs.Shape.{ArenaShape, Shape, cell_in_arena, is_marking, is_marking_state, out_in, out_of}
+use Rattle.heap_core.specs.Shape.{state_in, zone_in, zone_of}
+use Rattle.heap_core.specs.Heap.{HeapState, colour_in, with_flown}
+use Rattle.heap_core.specs.Sweeping.{come_in, with_taken}
+use Rattle.marker.specs.Looks.{looks_now}
 use Rattle.slice_driver.specs.Advancing.{EndsSweeping}
 use Rattle.slice_driver.specs.Collector.{CollectorState, RunState, heap_with}
-use Rattle.slice_driver.specs.Left.{arenas_left, grouping_left, steps_left, units_left}
+use Rattle.slice_driver.specs.Left.{units_left}
+use Rattle.slice_driver.specs.Remaining.{arenas_left, grouping_left, steps_left}
 use Rattle.slice_driver.specs.Represents.{AreInStates}
 use Rattle.slice_driver.specs.Units.{IsLowestOut, IsSound, without_arena}
+use Rattle.slice_driver.specs.UnitsToCome.{units_to_come}
 use Rattle.slice_driver.proofs.measure.Fewer.{arenas_same, arenas_taken, grouped, marking_kept, no_more_steps}
-use Rattle.slice_driver.proofs.measure.Fewer.{steps_kept, work_same}
+use Rattle.slice_driver.proofs.measure.Fewer.{steps_kept}
+use Rattle.slice_driver.proofs.measure.StatesToCome.{IsStillMarking, states_no_more}
 use Rattle.slice_driver.proofs.group_end.Ready.{collection_of, runs_of}
 use Rattle.slice_driver.proofs.grouping.Laws.{unformed_kept}
 use Rattle.slice_driver.proofs.taking_in.Heaps.{taken_colours}
@@ -91,16 +101,59 @@ module _ (c : CollectorState) (flown : ℕ → Option Bits) (a freed : ℕ) (bit
   none_to_group : grouping_left c.heap.shape c.edges c.run ≡ 0
   none_to_group = ap (grouping_left c.heap.shape c.edges) the_run.1 ∙ grouped c.heap.shape c.edges the_run.0 formed
 
+  none_grouping : (b : Bool) → grouping_left k.shape c.edges (if b then None else c.run) ≡ 0
+  none_grouping true = refl
+  none_grouping false = ap (grouping_left k.shape c.edges) the_run.1 ∙ grouped k.shape c.edges the_run.0 formed
+
+  arenas_are : k.shape.arenas ≡ change_at (come_in freed) c.heap.shape.arenas a
+  arenas_are = ap (λ (h : HeapState). h.shape.arenas) e.rest
+
+  marking_same : (z : ℕ) → is_marking_state (state_in k.shape z) ≡ is_marking_state (state_in c.heap.shape z)
+  marking_same z = marking_kept taken k c.groups over e z
+
+  -- a cell of a zone that is still marking lies in another arena, so it is what it was
+  still_marking : (x : Place) → is_marking k.shape x ≡ true
+      → IsStillMarking (heap_with c flown)
+      (heap_with (record c { heap = k; run = if over then None else c.run }) (without_arena flown a)) x
+  still_marking x on = elim (cases_eq x.0 a) [
+    | inl here ↦ absurd (not_here here)
+    | inr other ↦ (let same = arena_same other in record {
+      name_is = ap (λ (o : Option ArenaShape). option_map (λ (c : CellState). c.name) (cell_in_arena o x.1)) same;
+      was = sym (ap (λ z. is_marking_state (state_in c.heap.shape z)) (ap zone_in same))
+          ∙ (sym (marking_same (zone_of k.shape x)) ∙ on);
+      colour_is = ap (λ (cs : List Bits). colour_in (slice_get cs x.0) x.1) colours_same;
+    })
+  ]
+    where
+      arena_same : x.0 ≢ a → slice_get k.shape.arenas x.0 ≡ slice_get c.heap.shape.arenas x.0
+      arena_same other = ap (λ (xs : List ArenaShape). slice_get xs x.0) arenas_are
+          ∙ slice_get-change_other (come_in freed) c.heap.shape.arenas a x.0 other
+
+      not_here : x.0 ≡ a → ⊥
+      not_here here =
+          let there = out_arena c.heap.shape a lowest.out in
+          let zone_is : zone_of k.shape x ≡ there.0.zone =
+          ap (λ b. zone_in (slice_get k.shape.arenas b)) here
+          ∙ ap zone_in (ap (λ (xs : List ArenaShape). slice_get xs a) arenas_are
+          ∙ (slice_get-change_same (come_in freed) c.heap.shape.arenas a
+          ∙ ap (λ (o : Option ArenaShape). option_map (come_in freed) o) there.1)) in
+          let off = ap (λ z. is_marking_state (state_in k.shape z)) zone_is
+          ∙ (marking_same there.0.zone ∙ sweeping there.0 there.1) in
+          cc (on, off)
+
+  pub taking_to_come : units_to_come (record c { heap = k; run = if over then None else c.run })
+      (without_arena flown a) ≤ units_to_come c flown
+  unfolding units_to_come
+  taking_to_come =
+      let marks = states_no_more (heap_with c flown)
+      (heap_with (record c { heap = k; run = if over then None else c.run }) (without_arena flown a)) c.stack c.lists
+      (ap (λ (xs : List ArenaShape). length xs) arenas_are
+      ∙ length-change_at (come_in freed) c.heap.shape.arenas a)
+      buffers_same still_marking
+      (let looks = ap (λ (h : HeapState). looks_now h.looks) e.rest in omega (arith, looks))
+      (λ f. (let entries = ap (λ (h : HeapState). sum_by f h.shape.weak.entries) e.rest in omega (arith, entries))) in
+      omega (arith, marks, none_grouping over, none_to_group, steps_less)
+
   pub taking_lowers : units_left (record c { heap = k; run = if over then None else c.run }) (without_arena flown a)
       < units_left c flown
-  taking_lowers =
-      let work = work_same (heap_with c flown)
-      (heap_with (record c { heap = k; run = if over then None else c.run }) (without_arena flown a)) c.stack
-      c.lists colours_same buffers_same (ap (λ (h : HeapState). h.shape.weak) e.rest)
-      (ap (λ (h : HeapState). h.looks) e.rest) in
-      let none : grouping_left k.shape c.edges (if over then None else c.run) ≡ 0 = go over in
-      omega (arith, work, none, none_to_group, steps_less, arenas_less)
-    where
-      go : (b : Bool) → grouping_left k.shape c.edges (if b then None else c.run) ≡ 0
-      go true = refl
-      go false = ap (grouping_left k.shape c.edges) the_run.1 ∙ grouped k.shape c.edges the_run.0 formed
+  taking_lowers = let less = taking_to_come in omega (arith, less, arenas_less)

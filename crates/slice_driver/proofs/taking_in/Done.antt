@@ -1,4 +1,5 @@
 -- A collection that is over: the collector stands for the world in which none runs.
+use Rattle.slice_driver.proofs.abstraction.Waits.{none_piled}
 use Rattle.std.proofs.Common.{◌≡◌, ◌≢◌, ◌⊎◌, ◌↔◌, ℕ, Bool, true, false, cond, inl, inr, refl, sym, ap, ◌∙◌, subst}
 use Rattle.std.proofs.Common.{Option, None, Some, IsSome, List, [], ◌∷◌, map, Contains, slice_get}
 use Rattle.gz_names.specs.Zones.{zones_in}
@@ -16,7 +17,9 @@ use Rattle.barriers.specs.Invariant.{MarkingInvariant}
 use Rattle.barriers.specs.PendingLive.{GrayInvariant, buffer_of}
 use Rattle.slice_driver.specs.Collector.{CollectorState, RunState, heap_with}
 use Rattle.slice_driver.specs.Worlds.{LiesIn}
-use Rattle.slice_driver.specs.Represents.{IsIdle, IsInGroups, Represents, Runs, RunsAs, WaitsWhileMarking}
+use Rattle.weak_maps.specs.WeakMaps.{LooksState}
+use Rattle.slice_driver.specs.Represents.{IsIdle, IsInGroups, NothingLeft, Represents, Runs, RunsAs}
+use Rattle.slice_driver.specs.Represents.{WaitsWhileMarking}
 use Rattle.slice_driver.specs.Sweeping.{FinishesIn, IsAllDone}
 use Rattle.slice_driver.proofs.group_end.Cells.{none_out_listed}
 use Rattle.slice_driver.proofs.group_end.Ready.{runs_of}
@@ -127,16 +130,18 @@ module _ (c d : CollectorState) (flown : ℕ → Option Bits) (w : World) (k : C
           (marks_after.holds.piles.black x held).1,
           ap is_marking_state (f.states (zone_of d.heap.shape x)),
         ));
-    gray = ap (λ (p : Piles). p.gray) f.stack_is ∙ s.waits.gray not_taking_gray;
+    gray = ap (λ (p : Piles). p.gray) f.stack_is ∙ none_piled c s.waits not_taking_gray;
   }
 
   waits_after : WaitsWhileMarking d
   waits_after = record {
-    gray = λ none. idle.gray;
+    piled = λ x has. absurd (nothing_in_none x (subst (λ (xs : List Place). Contains xs x) idle.gray has));
     buffered = λ z quiet. ap (λ (h : HeapState). buffer_of h z) f.heap_is ∙ s.waits.buffered z (not_marking z);
     incoming = λ n p held.
         absurd (let i = s.waits.incoming n p (subst (λ (l : Incoming). Contains (waiting_for l n) p) f.lists_is held) in
         cc (i.2, not_marking i.0));
+    looks = λ quiet. subst (λ (l : LooksState). NothingLeft l) (sym (ap (λ (h : HeapState). h.looks) f.heap_is))
+        (s.waits.looks not_marking);
   }
 
   settled : IsSettled w

@@ -26,7 +26,8 @@ use Rattle.slice_driver.specs.Collector.{CollectorState, RunState, heap_with}
 use Rattle.slice_driver.specs.Closures.{AreTied}
 use Rattle.slice_driver.specs.Worlds.{IsUnswept, LiesIn, outs_from}
 use Rattle.slice_driver.specs.Represents.{AreBehind, AreInStates, IsCurrent, IsInGroups, Represents, Runs, RunsAs}
-use Rattle.slice_driver.specs.Represents.{WaitsWhileMarking}
+use Rattle.weak_maps.specs.WeakMaps.{LooksState}
+use Rattle.slice_driver.specs.Represents.{NothingLeft, WaitsWhileMarking}
 use Rattle.slice_driver.specs.Sweeping.{AreFreed, TakesIn, after_sweep}
 use Rattle.slice_driver.specs.Units.{without_arena}
 use Rattle.slice_driver.proofs.abstraction.Named.{some_one}
@@ -300,8 +301,9 @@ module _ (c : CollectorState) (flown : ℕ → Option Bits) (w : World) (k : Col
 
   waits_after : WaitsWhileMarking d
   waits_after = record {
-    gray = λ none. ap (λ (p : Piles). p.gray) t.stack_is
-        ∙ s.waits.gray (λ z both. none z (state_on c flown w a freed bits d s t z state.MarkBlackAndGray both refl));
+    piled = λ x has. ap (state_in d.heap.shape) (zones_same c flown w a freed bits d s t x)
+        ∙ state_on c flown w a freed bits d s t (zone_of c.heap.shape x) state.MarkBlackAndGray
+        (s.waits.piled x (subst (λ (p : Piles). Contains p.gray x) t.stack_is has)) refl;
     buffered = λ z quiet. ap (λ (h : HeapState). buffer_of h z) t.heap_is
         ∙ s.waits.buffered z (sym (marking_same c flown w a freed bits d s t z) ∙ quiet);
     incoming = λ n p held.
@@ -310,6 +312,8 @@ module _ (c : CollectorState) (flown : ℕ → Option Bits) (w : World) (k : Col
           ap (λ (h : HeapState). slice_get h.shape.comps n) t.heap_is ∙ i.1,
           marking_same c flown w a freed bits d s t i.0 ∙ i.2,
         ));
+    looks = λ quiet. subst (λ (l : LooksState). NothingLeft l) (sym (ap (λ (h : HeapState). h.looks) t.heap_is))
+        (s.waits.looks (λ z. sym (marking_same c flown w a freed bits d s t z) ∙ quiet z));
   }
 
   pub represents_after : Represents d (without_arena flown a) (swept_world w a (outs_from 0 d.heap.shape.arenas) k)

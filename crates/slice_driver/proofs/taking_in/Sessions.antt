@@ -40,6 +40,7 @@ none_done limit c f report idle = record {
   most = omega arith;
   some = λ lt running. absurd (idle lt running);
   less = omega arith;
+  to_come = omega arith;
 }
 
 pub no_step_done : (step : Step) (limit : ℕ) (c : CollectorState) (f : ℕ → Option Bits) (report : Option Report)
@@ -60,7 +61,13 @@ module _ (limit : ℕ) (c : CollectorState) (f : ℕ → Option Bits) (before : 
   pub ok_steps : {E : Type 0} (r : Result Step E) (outs : List (ℕ × ℕ))
       → IfOk r (λ (step : Step). Advances limit c f before step d g outs now)
       → IfOk r (λ (step : Step). SessionSteps limit c f step d g now)
-  ok_steps (Ok step) outs a = record { done = a.done; most = a.most; some = λ lt running. a.some; less = a.less }
+  ok_steps (Ok step) outs a = record {
+    done = a.done;
+    most = a.most;
+    some = λ lt running. a.some;
+    less = a.less;
+    to_come = a.to_come;
+  }
   ok_steps (Err why) outs a = tt
 
   -- the collector stands for a valid world after it
@@ -86,10 +93,11 @@ flies_sound c f g same s = record { world = s.world; valid = s.valid; represents
 -- a new session
 pub new_sound : (c : CollectorState) (jobs : List Job) → jobs ≡ [] → Represents c none_flown first_world
     → IsSound c (flown_by jobs) × AreOut c.heap.shape (outs_of jobs)
-new_sound c jobs is rep = subst (λ (xs : List Job). IsSound c (flown_by xs) × AreOut c.heap.shape (outs_of xs)) (sym is) (
-  record { world = first_world; valid = first_valid; represents = rep },
-  out_none c.heap.shape,
-)
+new_sound c jobs is rep = subst (λ (xs : List Job). IsSound c (flown_by xs) × AreOut c.heap.shape (outs_of xs))
+    (sym is) (
+      record { world = first_world; valid = first_valid; represents = rep },
+      out_none c.heap.shape,
+    )
 
 pub new_first : (c : CollectorState) (jobs : List Job) → jobs ≡ [] → Represents c none_flown first_world
     → Represents c (flown_by jobs) first_world

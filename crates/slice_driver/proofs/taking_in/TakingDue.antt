@@ -15,6 +15,7 @@ use Rattle.slice_driver.specs.Collector.{CollectorState}
 use Rattle.slice_driver.specs.Left.{units_left}
 use Rattle.slice_driver.specs.Units.{AreAscendingJobs, AreJobsOf, DoesUnit, HandsJobs, IsFreedWord, IsLowestOut}
 use Rattle.slice_driver.specs.Units.{IsSound, KeepsFreedWords, without_arena}
+use Rattle.slice_driver.specs.UnitsToCome.{units_to_come}
 
 no_out : {X : Type 0} (o : Option X) → is_some o ≡ true → o ≡ None → ⊥
 no_out o some none = cc (some, none)
@@ -68,6 +69,12 @@ module _ (d : CollectorState) (f g : ℕ → Option Bits) (outs rest : List (ℕ
       → ((flown : ℕ → Option Bits) → IsSound d flown → flown a ≡ Some taken.bits
       → units_left e (without_arena flown a) < units_left d flown) → units_left e g < units_left d f
   due_lowers e falls = subst (λ (h : ℕ → Option Bits). units_left e h < units_left d f) same (falls f s due_bits)
+
+  pub due_to_come : (e : CollectorState)
+      → ((flown : ℕ → Option Bits) → IsSound d flown → flown a ≡ Some taken.bits
+      → units_to_come e (without_arena flown a) ≤ units_to_come d flown) → units_to_come e g ≤ units_to_come d f
+  due_to_come e keeps = subst (λ (h : ℕ → Option Bits). units_to_come e h ≤ units_to_come d f) same
+      (keeps f s due_bits)
 
   pub due_out : (e : CollectorState) → KeepsFreedWords d.heap.shape e.heap.shape → AreOut e.heap.shape rest
   due_out e keeps = record {

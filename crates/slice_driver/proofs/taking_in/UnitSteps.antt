@@ -4,9 +4,11 @@ use Rattle.std.proofs.Common.{Some, None, Result, Ok, Err, IfOk, IsSome, is_some
 use Rattle.std.proofs.Common.{if◌then◌else◌, append-nil}
 use Rattle.std.specs.List.{flat_map}
 use Rattle.gz_names.specs.declared.replies.Report.{Report}
+use Rattle.gz_names.specs.declared.replies.Report.TheVariants as report
 use Rattle.cell_bits.specs.declared.bits.Bits.{Bits}
 use Rattle.cell_bits.specs.declared.jobs.Job.{Job}
 use Rattle.sweeping.specs.ArenasOut.{AscendHanded, flying_after, outs_after}
+use Rattle.colour_defs.specs.Units.{sweeps_in}
 use Rattle.colour_defs.specs.World.{World}
 use Rattle.colour_defs.specs.Lawful.{AreLawfulUnits, IsLawfulUnit, IsRunning, quiet, says, last}
 use Rattle.colour_defs.proofs.ValidReports.{unit_valid}
@@ -14,11 +16,12 @@ use Rattle.slice_driver.specs.Advances.{Advances, AreOut, DoesUnits, told}
 use Rattle.slice_driver.specs.Collector.{CollectorState, RunState}
 use Rattle.slice_driver.specs.Left.{Lowers, units_left}
 use Rattle.slice_driver.specs.Represents.{Represents}
-use Rattle.slice_driver.specs.Units.{DoesUnit, DoneOrDue, IsSound, UnitDone, reports_of}
+use Rattle.slice_driver.specs.Units.{DoesUnit, DoneOrDue, IsSound, TellsSweep, UnitDone, reports_of}
+use Rattle.slice_driver.specs.UnitsToCome.{units_to_come}
 use Rattle.slice_driver.specs.Working.{DoesQuietUnits, IsStill}
 use Rattle.slice_driver.specs.declared.advance.Step.{Step}
 use Rattle.slice_driver.specs.declared.collector.Unit.{Unit}
-use Rattle.slice_driver.proofs.marking.MarkingUnits.{still_left}
+use Rattle.slice_driver.proofs.marking.MarkingUnits.{still_left, still_to_come}
 use Rattle.slice_driver.proofs.taking_in.TakingDue.{out_kept}
 
 -- a unit that reports nothing leaves the world as it is
@@ -88,6 +91,7 @@ quiet_advances limit n c d f g outs rest place does some most s same are =
       some = some;
       most = most;
       less = does.less;
+      to_come = let falls = does.to_come in omega (arith, falls);
       told_some = λ e. absurd (cc e);
       told_none = λ e. refl;
       finished = runs_on false d.run refl goes.running;
@@ -123,12 +127,15 @@ module _ (c d : CollectorState) (f g : ℕ → Option Bits) (outs : List (ℕ ×
     (before place : Option Report) (step : Step) (step_is : step ≡ step_of unit)
     (place_is : place ≡ place_of unit.report before) where
   pub one_advances : DoesUnit c f (reports_of unit.report unit.finished) d (flying_after unit.handed g)
-      → units_left d (flying_after unit.handed g) < units_left c f → (unit.finished ≡ true) ↔ (d.run ≡ None)
+      → units_left d (flying_after unit.handed g) < units_left c f
+      → units_to_come d (flying_after unit.handed g) + 1
+      ≤ units_to_come c f + sweeps_in (reports_of unit.report unit.finished)
+      → (unit.finished ≡ true) ↔ (d.run ≡ None)
       → IsSound d (flying_after unit.handed g) → AreOut d.heap.shape (outs_after unit.handed outs)
       → AscendHanded unit.handed → d.heap.made ≡ c.heap.made
       → length d.heap.shape.weak.entries ≤ length c.heap.shape.weak.entries
       → Advances 1 c f before step d (flying_after step.handed g) (outs_after step.handed outs) place
-  one_advances does less finished sound out up made entries =
+  one_advances does less falls finished sound out up made entries =
       subst (λ (s : Step). Advances 1 c f before s d (flying_after s.handed g) (outs_after s.handed outs) place)
       (sym step_is)
       (subst (λ (p : Option Report). Advances 1 c f before (step_of unit) d (flying_after unit.handed g)
@@ -139,6 +146,8 @@ module _ (c d : CollectorState) (f g : ℕ → Option Bits) (outs : List (ℕ ×
         some = omega arith;
         most = omega arith;
         less = omega (arith, less);
+        to_come = subst (λ (rs : List Report). units_to_come d (flying_after unit.handed g) + 1
+            ≤ units_to_come c f + sweeps_in rs) (sym (told_said unit.report before unit.finished)) falls;
         told_some = said_some unit.report before;
         told_none = said_none unit.report before;
         finished = finished;
@@ -168,6 +177,7 @@ still_advances limit c d e f g h outs before place step some still a = record {
   some = a.some;
   most = omega (arith, a.most, some);
   less = let same = still_left c f d g still in omega (arith, a.less, same);
+  to_come = let same = still_to_come c f d g still in omega (arith, a.to_come, same);
   told_some = a.told_some;
   told_none = a.told_none;
   finished = a.finished;
@@ -197,32 +207,48 @@ unit_lowers unit old new lowers none = subst (λ (o : Option ℕ). Lowers o old 
 pub due_advances : (c d : CollectorState) (f g : ℕ → Option Bits) (outs : List (ℕ × ℕ)) (unit : Unit)
     (before place : Option Report) (step : Step) → step ≡ step_of unit → place ≡ place_of unit.report before
     → unit.handed ≡ None → DoesUnit c f (reports_of unit.report unit.finished) d g → units_left d g < units_left c f
+    → units_to_come d g + 1 ≤ units_to_come c f + sweeps_in (reports_of unit.report unit.finished)
     → (unit.finished ≡ true) ↔ (d.run ≡ None) → IsSound d g → AreOut d.heap.shape outs → d.heap.made ≡ c.heap.made
     → d.heap.shape.weak ≡ c.heap.shape.weak
     → Advances 1 c f before step d (flying_after step.handed g) (outs_after step.handed outs) place
-due_advances c d f g outs unit before place step step_is place_is none does less finished sound out made weak =
+due_advances c d f g outs unit before place step step_is place_is none does less falls finished sound out made weak =
     one_advances c d f g outs unit before place step step_is place_is
     (subst (λ (h : Option (List Job)). DoesUnit c f (reports_of unit.report unit.finished) d (flying_after h g))
     (sym none)
     does)
-    (subst (λ (h : Option (List Job)). units_left d (flying_after h g) < units_left c f) (sym none) less) finished
+    (subst (λ (h : Option (List Job)). units_left d (flying_after h g) < units_left c f) (sym none) less)
+    (subst (λ (h : Option (List Job)). units_to_come d (flying_after h g) + 1
+    ≤ units_to_come c f + sweeps_in (reports_of unit.report unit.finished)) (sym none) falls) finished
     (subst (λ (h : Option (List Job)). IsSound d (flying_after h g)) (sym none) sound)
     (subst (λ (h : Option (List Job)). AreOut d.heap.shape (outs_after h outs)) (sym none) out)
     (subst (λ (h : Option (List Job)). AscendHanded h) (sym none) tt) made
     (let e = ap (λ ws. length ws.entries) weak in omega (arith, e))
 
+-- one arena was swept
+swept_one : (a : ℕ) (place : Option Report) (finished : Bool) → TellsSweep a place
+    → sweeps_in (reports_of place finished) ≡ 1
+swept_one a place finished told = ap (λ (o : Option Report). sweeps_in (reports_of o finished)) told.1 ∙ go finished
+  where
+    go : (b : Bool) → sweeps_in (reports_of (Some (report.Swept a told.0)) b) ≡ 1
+    go true = refl
+    go false = refl
+
 -- the same, where its report was put into its place
 pub due_into : (c d : CollectorState) (f g : ℕ → Option Bits) (outs : List (ℕ × ℕ)) (before place : Option Report)
     (finished : Bool) (step : Step) → step ≡ record { units = 1; reported = true; finished = finished; handed = None }
-    → IsSome place → DoesUnit c f (reports_of place finished) d g → units_left d g < units_left c f
-    → (finished ≡ true) ↔ (d.run ≡ None) → IsSound d g → AreOut d.heap.shape outs → d.heap.made ≡ c.heap.made
+    → (a : ℕ) → TellsSweep a place → DoesUnit c f (reports_of place finished) d g → units_left d g < units_left c f
+    → units_to_come d g ≤ units_to_come c f → (finished ≡ true) ↔ (d.run ≡ None) → IsSound d g
+    → AreOut d.heap.shape outs → d.heap.made ≡ c.heap.made
     → d.heap.shape.weak ≡ c.heap.shape.weak
     → Advances 1 c f before step d (flying_after step.handed g) (outs_after step.handed outs) place
-due_into c d f g outs before place finished step step_is told does less over sound out made weak =
+due_into c d f g outs before place finished step step_is a told does less keeps over sound out made weak =
+    let some : is_some place ≡ true = ap (λ (o : Option Report). is_some o) told.1 in
+    let one = swept_one a place finished told in
     due_advances c d f g outs (record { report = place; handed = None; finished = finished; due = None }) before place
     step
-    (step_is ∙ ap (λ (b : Bool). record { units = 1; reported = b; finished = finished; handed = None }) (sym told))
-    (sym (ap (λ (b : Bool). if b then place else before) told)) refl does less over sound out made weak
+    (step_is ∙ ap (λ (b : Bool). record { units = 1; reported = b; finished = finished; handed = None }) (sym some))
+    (sym (ap (λ (b : Bool). if b then place else before) some)) refl does less (omega (arith, keeps, one)) over sound
+    out made weak
 
 pub ok_still : {E : Type 0} (r : Result Step E) (limit : ℕ) (c d e : CollectorState) (f g h : ℕ → Option Bits)
     (outs : List (ℕ × ℕ)) (before place : Option Report) → 0 < limit → IsStill c f d g
@@ -233,23 +259,3 @@ ok_still (Ok step) limit c d e f g h outs before place some still a =
     still_advances limit c d e f g (flying_after step.handed h) (outs_after step.handed outs) before place step some
     still a
 ok_still (Err why) limit c d e f g h outs before place some still a = tt
-
--- what the step handed out was taken over
-pub over_advances : (limit : ℕ) (c d : CollectorState) (f g h : ℕ → Option Bits) (outs rest : List (ℕ × ℕ))
-    (before place : Option Report) (step : Step) → h ≡ flying_after step.handed g → rest ≡ outs_after step.handed outs
-    → Advances limit c f before step d (flying_after step.handed g) (outs_after step.handed outs) place
-    → Advances limit c f before (record step { handed = None }) d h rest place
-over_advances limit c d f g h outs rest before place step bits_are outs_are a = record {
-  done = subst (λ (x : ℕ → Option Bits). DoesUnits c f step.units (told step place) d x) (sym bits_are) a.done;
-  some = a.some;
-  most = a.most;
-  less = subst (λ (x : ℕ → Option Bits). units_left d x + step.units ≤ units_left c f) (sym bits_are) a.less;
-  told_some = a.told_some;
-  told_none = a.told_none;
-  finished = a.finished;
-  sound = subst (λ (x : ℕ → Option Bits). IsSound d x) (sym bits_are) a.sound;
-  out = subst (λ (xs : List (ℕ × ℕ)). AreOut d.heap.shape xs) (sym outs_are) a.out;
-  ascending = tt;
-  made = a.made;
-  entries = a.entries;
-}

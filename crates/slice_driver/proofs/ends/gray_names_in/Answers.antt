@@ -36,5 +36,6 @@ returns-clause-moved c =
     subst (λ (xs : List Name). IsPermutation xs c.from_vec.result) (c.loop-arena.invariant.names ∙ skipped)
     (subst (λ (xs : List Name). IsPermutation c.loop-arena.names.items xs) (sym c.from_vec.ensures)
     (IsPermutation-trans _ _ _
-    (subst (λ (xs : List Name). IsPermutation xs c.in_ok-parted.parted.items) c.deref.ensures.value c.in_ok-parted.ensures)
+    (subst (λ (xs : List Name). IsPermutation xs c.in_ok-parted.parted.items) c.deref.ensures.value
+    c.in_ok-parted.ensures)
     c.sort_unstable.ensures.permutation))

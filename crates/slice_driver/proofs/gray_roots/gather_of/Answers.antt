@@ -16,7 +16,8 @@ loop-wrapper-smaller g c =
     omega (
       arith,
       c.in-Some.ensures.cursor,
-      within_list c.args.heap.now.shape c.args.zone c.loop-wrapper.cursor c.in-Some.wrapper (sym c.in-Some.ensures.place),
+      within_list c.args.heap.now.shape c.args.zone c.loop-wrapper.cursor c.in-Some.wrapper
+          (sym c.in-Some.ensures.place),
     )
 
 pub loop-wrapper-preserved : goal.loop-wrapper-preserved
@@ -46,7 +47,6 @@ returns-clause-gathered g c = gray_all c.args.heap.now c.args.zones c.args.zone 
 
 pub returns-clause-few : goal.returns-clause-few
 returns-clause-few g c =
-    let most = c.requires.few c.args.zone in
     let before = c.loop-wrapper.invariant.before in
     let few = c.loop-wrapper.invariant.few in
-    omega (arith, most, before, few)
+    omega (arith, before, few)

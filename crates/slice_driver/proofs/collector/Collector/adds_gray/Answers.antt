@@ -1,9 +1,10 @@
-use Rattle.std.proofs.Common.{◌≡◌, ℕ, Option, IsSome, refl, sym, ap, subst}
+use Rattle.std.proofs.Common.{◌≡◌, ◌∙◌, ℕ, Option, IsSome, refl, sym, ap, subst}
 use Rattle.cell_bits.specs.declared.bits.Bits.{Bits}
-use Rattle.heap_core.specs.Heap.{HeapState}
+use Rattle.heap_core.specs.Heap.{HeapState, joined}
+use Rattle.barriers.specs.Colours.{grays_outside}
 use Rattle.weak_maps.specs.WeakMaps.{NoneLeft}
 use Rattle.weak_maps.specs.declared.colours.MarkColour.TheVariants as mark
-use Rattle.slice_driver.specs.Collector.{CollectorState, run_of}
+use Rattle.slice_driver.specs.Collector.{CollectorState, heap_with, run_of}
 use Rattle.slice_driver.specs.Units.{IsSound}
 use Rattle.slice_driver.specs.Working.{DidOrStill}
 use Rattle.slice_driver.proofs.marking.MarkingUnits.{entry_looked, still}
@@ -50,3 +51,26 @@ returns-clause-tries g c =
       shape = subst (λ (x : CollectorState). c.weak_unit.new.heap.shape ≡ x.heap.shape) c.self.view_is shape;
       groups = ap (λ (x : CollectorState). x.groups) c.self.view_is;
     }
+
+pub returns-clause-grays : goal.returns-clause-grays
+returns-clause-grays g c =
+    let v : CollectorState =
+    record {
+      heap = c.self.inside.heap;
+      stack = c.self.inside.stack;
+      lists = c.self.inside.lists;
+      edges = c.self.inside.edges;
+      groups = c.self.inside.order;
+      run = run_of c.self.inside.run;
+    } in
+    let flown : ℕ → Option Bits = g.F.Flight.bits c.args.flight.now in
+    let flying : ℕ → Option Bits = g.F.Flight.bits c.weak_unit.new.flight in
+    let k : HeapState = joined c.weak_unit.new.heap flying in
+    let here : grays_outside k ≡ grays_outside (heap_with v flown) = elim c.match-weak_unit.branch [
+      | in-Did w ↦ (let does = w.in-Did.ensures.does refl in does.grays_is)
+      | in-Empty w ↦ (
+          let same = w.in-Empty.ensures.same refl in
+          ap (λ (x : HeapState). grays_outside (joined x flying)) same.0 ∙ ap grays_outside same.2
+          )
+    ] in
+    subst (λ (x : CollectorState). grays_outside k ≡ grays_outside (heap_with x flown)) c.self.view_is here

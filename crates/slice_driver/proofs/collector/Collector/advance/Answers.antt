@@ -1,5 +1,8 @@
-use Rattle.std.proofs.Common.{◌≡◌, ◌<◌, arith, ap}
+use Rattle.std.proofs.Common.{◌≡◌, ◌<◌, ◌≤◌, arith, ap}
 use Rattle.sweeping.specs.ArenasOut.{flying_after, outs_after}
+use Rattle.slice_driver.specs.Collector.{heap_with}
+use Rattle.slice_driver.specs.declared.advance.Step.{Step}
+use Rattle.slice_driver.proofs.marking.EdgesRead.{ok_reads, quiet_reads, still_grays}
 use Rattle.slice_driver.proofs.taking_in.UnitSteps.{due_into, ok_still, quiet_advances, still_advances}
 use Rattle.slice_driver.proofs.collector.Collector.advance.Goals as goal
 
@@ -27,8 +30,9 @@ returns-in-Some-clause-done g c =
     (c.quiet_units-quiet.ensures.done.none zero)
     (due_into c.quiet_units-quiet.new.self c.take_due_into.new.self (g.F.Flight.bits c.quiet_units-quiet.new.flight)
     (g.F.Flight.bits c.take_due_into.new.flight) (g.F.Sweeping.left (g.F.Flight.origin c.take_due_into.new.flight))
-    c.args.report.now c.take_due_into.new.report c.take_due_into.result c.swept.result c.swept.ensures took.told
-    took.takes.done took.takes.left took.takes.finished took.takes.sound took.takes.out took.takes.made took.takes.weak)
+    c.args.report.now c.take_due_into.new.report c.take_due_into.result c.swept.result c.swept.ensures
+    c.in-Some.arena took.told took.takes.done took.takes.left took.takes.to_come took.takes.finished took.takes.sound
+    took.takes.out took.takes.made took.takes.weak)
 
 pub returns-clause-done : goal.returns-clause-done
 returns-clause-done g c =
@@ -39,3 +43,32 @@ returns-clause-done g c =
     (g.F.Flight.bits c.advance_one.new.flight) (g.F.Sweeping.left (g.F.Flight.origin c.advance_one.new.flight))
     c.args.report.now c.advance_one.new.report c.requires.some (c.quiet_units-quiet.ensures.done.none zero)
     c.advance_one.ensures.done
+
+pub returns-then-quiet-gt0-clause-steps : goal.returns-then-quiet-gt0-clause-steps
+returns-then-quiet-gt0-clause-steps g c = quiet_reads c.quiet_units-quiet.result c.args.steps.now
+    c.quiet_units-quiet.new.steps (heap_with c.args.self.now (g.F.Flight.bits c.args.flight.now))
+    (heap_with c.quiet_units-quiet.new.self (g.F.Flight.bits c.quiet_units-quiet.new.flight))
+    c.quiet_units-quiet.ensures.steps
+
+pub returns-in-Some-clause-steps : goal.returns-in-Some-clause-steps
+returns-in-Some-clause-steps g c =
+    let none = c.if-quiet-gt0.false in
+    let zero : c.quiet_units-quiet.result ≡ 0 = omega (arith, none) in
+    let few = c.quiet_units-quiet.ensures.steps in
+    let still = still_grays c.args.self.now (g.F.Flight.bits c.args.flight.now) c.quiet_units-quiet.new.self
+    (g.F.Flight.bits c.quiet_units-quiet.new.flight) (c.quiet_units-quiet.ensures.done.none zero) in
+    let one = ap (λ (s : Step). s.units) c.swept.ensures in
+    omega (arith, few, zero, still, one)
+
+pub returns-clause-steps : goal.returns-clause-steps
+returns-clause-steps g c =
+    let none = c.if-quiet-gt0.false in
+    let zero : c.quiet_units-quiet.result ≡ 0 = omega (arith, none) in
+    let few = c.quiet_units-quiet.ensures.steps in
+    let still = still_grays c.args.self.now (g.F.Flight.bits c.args.flight.now) c.quiet_units-quiet.new.self
+    (g.F.Flight.bits c.quiet_units-quiet.new.flight) (c.quiet_units-quiet.ensures.done.none zero) in
+    let read : c.quiet_units-quiet.new.steps ≤ c.args.steps.now = omega (arith, few, zero, still) in
+    ok_reads c.advance_one.result c.args.steps.now c.quiet_units-quiet.new.steps c.advance_one.new.steps
+    (heap_with c.args.self.now (g.F.Flight.bits c.args.flight.now))
+    (heap_with c.quiet_units-quiet.new.self (g.F.Flight.bits c.quiet_units-quiet.new.flight)) c.advance_one.new.self
+    (g.F.Flight.bits c.advance_one.new.flight) still read c.advance_one.ensures.steps

@@ -1,17 +1,20 @@
-use Rattle.std.proofs.Common.{◌<◌, Some, Contains, false, subst, rules}
+use Rattle.std.proofs.Common.{◌<◌, Some, Contains, false, sym, subst, rules}
 use Rattle.gz_names.specs.Zones.{HasZone}
 use Rattle.gz_names.proofs.Words.{HasZone-none}
 use Rattle.colour_defs.proofs.Lists.{nothing_in_none}
 use Rattle.colour_defs.proofs.ZoneSets.{zones_in-has}
-use Rattle.slice_driver.specs.Units.{BeginsIn}
+use Rattle.weak_maps.specs.WeakMaps.{IsSound as AreEntries}
+use Rattle.wrappers.specs.WrapperMaps.{AreApart}
+use Rattle.slice_driver.specs.Units.{BeginsIn, BeginsWithin}
 use Rattle.slice_driver.specs.Collector.{CollectorState}
 use Rattle.slice_driver.specs.contracts.collector.Collector.{the_view}
 use Rattle.slice_driver.proofs.group_end.Steps.{small_word}
 use Rattle.slice_driver.proofs.measure.FewUnits.{none_buffered}
 use Rattle.slice_driver.proofs.abstraction.IdleFlight.{idle_sound}
 use Rattle.slice_driver.proofs.abstraction.SoundAfter.{begin_sound, none_words}
-use Rattle.slice_driver.proofs.beginning.BegunSteps.{at_rest, begun_worlds, held_begun, kept_begun, made_marked}
-use Rattle.slice_driver.proofs.beginning.BegunSteps.{marks_of, none_out, nothing_buffered, ready_begun, ready_marked}
+use Rattle.slice_driver.proofs.beginning.BegunSteps.{at_rest, begun_to_come, begun_worlds, held_begun, kept_begun}
+use Rattle.slice_driver.proofs.beginning.BegunSteps.{made_marked, marks_of, none_out, nothing_buffered, ready_begun}
+use Rattle.slice_driver.proofs.beginning.BegunSteps.{ready_marked}
 use Rattle.slice_driver.proofs.beginning.BegunSteps.{wrappers_marked, wrappers_of}
 use Rattle.slice_driver.proofs.collector.Collector.begin.Goals as goal
 
@@ -157,6 +160,35 @@ returns-clause-begun g c =
       edges = c.start.new.self;
       run = Some (record { zones = c.args.zones; formed = false });
     })) c.self.view_is begun
+
+pub returns-clause-within : goal.returns-clause-within
+returns-clause-within g c =
+    let rest = at_rest (the_view c.self.inside) c.args.self.now c.self.view_is
+    (idle_sound c.args.self.now c.requires.sound.0 c.requires.sound.1) c.running.result c.running.ensures.run
+    c.if-running.false in
+    let fits : c.args.zones.bits < 18446744073709551616 = search rules in
+    let small = small_word c.args.zones.bits fits in
+    let made = c.are_made.ensures.0 c.if-not-are_made.false in
+    let within = begun_to_come (the_view c.self.inside) rest c.args.zones small c.buffer_gray_roots.new.heap
+    c.in_ok-buffer_gray_roots.ensures.ok c.clear_bits.new.self c.clear_bits.ensures
+    c.mark_registers.new.heap c.mark_registers.new.stack c.mark_registers.ensures c.mark_targets.new.heap
+    c.mark_targets.new.stack c.mark_targets.ensures made
+    (λ none. nothing_in_none c.requires.some.0
+    (subst (λ zs. Contains zs c.requires.some.0) none
+    ((zones_in-has c.args.zones c.requires.some.0).1 c.requires.some.1)))
+    c.start.new.self c.start.ensures.zones c.start.ensures.edges c.start.ensures.cursors c.start.ensures.stepped
+    c.advance_all.new.heap c.advance_all.ensures
+    (subst (λ (s : CollectorState). AreEntries s.heap.shape.weak) (sym c.self.view_is) c.entries_law.ensures.sound)
+    (subst (λ (s : CollectorState). AreApart s.heap.shape.wrappers.lists) (sym c.self.view_is)
+    c.wrappers_law.ensures) in
+    subst (λ (s : CollectorState).
+    BeginsWithin s c.args.zones.bits
+    (record (the_view c.self.inside) {
+      heap = c.advance_all.new.heap;
+      stack = c.mark_targets.new.stack;
+      edges = c.start.new.self;
+      run = Some (record { zones = c.args.zones; formed = false });
+    })) c.self.view_is within
 
 pub returns-clause-sound : goal.returns-clause-sound
 returns-clause-sound g c = λ flown s. begin_sound c.args.self.now _ c.args.zones.bits flown (returns-clause-begun g c) s

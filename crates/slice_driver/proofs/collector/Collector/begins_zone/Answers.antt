@@ -1,16 +1,19 @@
 use Rattle.std.proofs.Common.{◌≡◌, Some, [], slice_get, refl, sym, subst, ◌∙◌}
 use Rattle.gz_names.specs.Zones.{HasZone}
 use Rattle.gz_names.specs.declared.zone_sets.ZoneSet.{ZoneSet}
-use Rattle.slice_driver.specs.Collector.{CollectorState, run_of}
+use Rattle.heap_core.specs.Heap.{joined}
+use Rattle.barriers.specs.Colours.{grays_outside}
+use Rattle.slice_driver.specs.Collector.{CollectorState, heap_with, run_of}
 use Rattle.slice_driver.specs.Quiet.{IsFormed}
 use Rattle.slice_driver.specs.Units.{IsSound}
 use Rattle.slice_driver.specs.Working.{GoesOn, HasBegun}
 use Rattle.slice_driver.proofs.abstraction.Named.{some_one}
 use Rattle.slice_driver.proofs.marking.ZoneSteps.{advanced_to, all_begun, current_is, in_both, not_begun, zone_goes}
+use Rattle.slice_driver.proofs.marking.ZoneSteps.{zone_grays}
 use Rattle.slice_driver.proofs.collector.Collector.begins_zone.Goals as goal
 
-pub returns-in_default-first : goal.returns-in_default-first
-returns-in_default-first c =
+pub returns-in_default-first-clause-begins : goal.returns-in_default-first-clause-begins
+returns-in_default-first-clause-begins c =
     let v : CollectorState =
     record {
       heap = c.self.inside.heap;
@@ -36,8 +39,8 @@ returns-in_default-first c =
     ))) in
     (subst (λ (x : CollectorState). HasBegun x) is begun, refl)
 
-pub returns : goal.returns
-returns c =
+pub returns-clause-begins : goal.returns-clause-begins
+returns-clause-begins c =
     let v : CollectorState =
     record {
       heap = c.self.inside.heap;
@@ -61,3 +64,25 @@ returns c =
           (advanced_to v.heap zone c.advance.new.self found c.advance.ensures) f) s,
       subst (λ (x : CollectorState). HasBegun x → ⊥) is waits,
     )
+
+pub returns-clause-grays : goal.returns-clause-grays
+returns-clause-grays c =
+    let v : CollectorState =
+    record {
+      heap = c.self.inside.heap;
+      stack = c.self.inside.stack;
+      lists = c.self.inside.lists;
+      edges = c.self.inside.edges;
+      groups = c.self.inside.order;
+      run = run_of c.self.inside.run;
+    } in
+    let formed : IsFormed v = subst (λ (x : CollectorState). IsFormed x) (sym c.self.view_is) c.requires.formed in
+    let at : slice_get v.groups 0 ≡ Some c.in-Some.group = sym c.current.ensures ∙ c.in-Some.is in
+    let zone = c.in-Some-first.zone in
+    let both = (in_both c.in-Some.group.bits c.in_state-waiting.result.bits c.without.result.bits
+    c.without-2.result.bits c.without.ensures c.without-2.ensures zone).0 c.in-Some-first.ensures.some in
+    let found = (c.in_state-waiting.ensures zone).0 both.1 in
+    λ flown. subst (λ (x : CollectorState). grays_outside (joined c.advance.new.self flown)
+    ≡ grays_outside (heap_with x flown)) c.self.view_is
+    (zone_grays v zone formed (current_is v.groups c.in-Some.group zone at both.0) found c.advance.new.self
+    (advanced_to v.heap zone c.advance.new.self found c.advance.ensures) flown)

@@ -10,9 +10,10 @@ use Rattle.heap_core.proofs.Planned.{making-wants, planned-here}
 use Rattle.slice_driver.specs.Collector.{CollectorState, IsKept, run_of}
 use Rattle.slice_driver.specs.Rooms.{IsRoomy, arenas_after}
 use Rattle.slice_driver.specs.Steps.{GoesThrough}
-use Rattle.slice_driver.specs.Units.{DoesCommand}
+use Rattle.slice_driver.specs.Units.{DoesCommand, RaisesWithin}
 use Rattle.slice_driver.proofs.commanding.Commanded.{IsPlanned, as_fault, does_call, entries_after, exposed_after}
-use Rattle.slice_driver.proofs.commanding.Commanded.{kept_call, made_call, refused_at, run_after, sound_roomy}
+use Rattle.slice_driver.proofs.commanding.Commanded.{kept_call, made_call, raises_call, refused_at, refused_raises}
+use Rattle.slice_driver.proofs.commanding.Commanded.{room_raises, run_after, sound_roomy}
 use Rattle.slice_driver.proofs.commanding.Commanded.{sure_call, through_able, through_plan, through_sound, wants_room}
 use Rattle.slice_driver.proofs.commanding.Commanded.{wide_able, wide_marks, wide_plan, wide_sound, wide_words}
 use Rattle.slice_driver.proofs.commanding.Commanded.{words_call, answered_call, command_sound, room_wanted, wanted_call}
@@ -236,3 +237,17 @@ returns-clause-sure g c = λ never wants. sure_call _ _ _ _ _ _ _ _ _ _ _ _ _ _ 
 
 pub returns-clause-sound : goal.returns-clause-sound
 returns-clause-sound g c = command_sound _ _ _ _ _ _ (returns-clause-done g c) c.requires.sound
+
+pub returns-in-Err-clause-to_come : goal.returns-in-Err-clause-to_come
+returns-in-Err-clause-to_come g c = refused_raises c.args.self.now (g.F.Flight.bits c.args.flight.now) c.args.cmd
+    c.in-Err.why
+
+pub returns-then-is_err-clause-to_come : goal.returns-then-is_err-clause-to_come
+returns-then-is_err-clause-to_come g c = room_raises c.args.self.now c.make_room.new.self
+    (g.F.Flight.bits c.args.flight.now) c.args.cmd c.make_room.ensures.widens
+
+pub returns-clause-to_come : goal.returns-clause-to_come
+returns-clause-to_come g c =
+    subst (λ r. RaisesWithin c.args.self.now (g.F.Flight.bits c.args.flight.now) c.args.cmd r (after g c)
+    (g.F.Flight.bits c.expose-3.new.flight)) (sym (result_is g c))
+    (raises_call _ _ _ _ _ _ _ _ _ _ _ _ _ _ (planned g c) c.entries_law.ensures.sound c.entries_law.ensures.parallel)

@@ -6,7 +6,7 @@ use Rattle.slice_driver.specs.Collector.{CollectorState}
 use Rattle.slice_driver.specs.Dumps.{coloured_line, entry_line}
 use Rattle.slice_driver.specs.Listings.{AreEntriesHeld, ListsCells, edge_lines_at}
 use Rattle.slice_driver.specs.declared.listings.NamedCell.{NamedCell}
-use Rattle.slice_driver.proofs.dumping.Written.{listed_coloured, listed_present, represents_seen, written}
+use Rattle.slice_driver.proofs.dumping.Written.{heap_seen, listed_coloured, listed_present, represents_seen, written}
 use Rattle.slice_driver.proofs.collector.Collector.dump.Goals as goal
 
 pub push_cell_lines-requires-clause-made : goal.push_cell_lines-requires-clause-made
@@ -83,3 +83,39 @@ returns-clause-lines g c =
     (subst (λ cells. c.push_edge_lines.new.lines.items ≡ c.push_cell_lines.new.lines.items
     ++ flat_map (λ (cell : NamedCell). edge_lines_at c.self.inside.heap.shape cell.place) cells)
     c.deref-2.ensures.value c.in_ok-push_edge_lines.ensures)
+
+pub returns-in_err-push_cell_lines-clause-heap : goal.returns-in_err-push_cell_lines-clause-heap
+returns-in_err-push_cell_lines-clause-heap g c =
+    heap_seen (g.F.Flight.bits c.args.flight.now) (g.F.Flight.bits c.push_cell_lines.new.flight)
+    c.self.inside.heap c.args.self.now.heap (ap (λ (z : CollectorState). z.heap) c.self.view_is)
+    c.push_cell_lines.ensures.kept.same
+
+pub returns-in_err-push_edge_lines-clause-heap : goal.returns-in_err-push_edge_lines-clause-heap
+returns-in_err-push_edge_lines-clause-heap g c =
+    heap_seen (g.F.Flight.bits c.args.flight.now) (g.F.Flight.bits c.push_cell_lines.new.flight)
+    c.self.inside.heap c.args.self.now.heap (ap (λ (z : CollectorState). z.heap) c.self.view_is)
+    c.push_cell_lines.ensures.kept.same
+
+pub returns-in_err-entries_by_name-clause-heap : goal.returns-in_err-entries_by_name-clause-heap
+returns-in_err-entries_by_name-clause-heap g c =
+    heap_seen (g.F.Flight.bits c.args.flight.now) (g.F.Flight.bits c.push_cell_lines.new.flight)
+    c.self.inside.heap c.args.self.now.heap (ap (λ (z : CollectorState). z.heap) c.self.view_is)
+    c.push_cell_lines.ensures.kept.same
+
+pub returns-in_err-push_entry_lines-clause-heap : goal.returns-in_err-push_entry_lines-clause-heap
+returns-in_err-push_entry_lines-clause-heap g c =
+    heap_seen (g.F.Flight.bits c.args.flight.now) (g.F.Flight.bits c.push_cell_lines.new.flight)
+    c.self.inside.heap c.args.self.now.heap (ap (λ (z : CollectorState). z.heap) c.self.view_is)
+    c.push_cell_lines.ensures.kept.same
+
+pub returns-in_err-push-clause-heap : goal.returns-in_err-push-clause-heap
+returns-in_err-push-clause-heap g c =
+    heap_seen (g.F.Flight.bits c.args.flight.now) (g.F.Flight.bits c.push_cell_lines.new.flight)
+    c.self.inside.heap c.args.self.now.heap (ap (λ (z : CollectorState). z.heap) c.self.view_is)
+    c.push_cell_lines.ensures.kept.same
+
+pub returns-clause-heap : goal.returns-clause-heap
+returns-clause-heap g c =
+    heap_seen (g.F.Flight.bits c.args.flight.now) (g.F.Flight.bits c.push_cell_lines.new.flight)
+    c.self.inside.heap c.args.self.now.heap (ap (λ (z : CollectorState). z.heap) c.self.view_is)
+    c.push_cell_lines.ensures.kept.same

@@ -20,7 +20,8 @@ use Rattle.slice_driver.specs.Units.{AreJobs, DoesUnit, EndsColoured, HandsJobs,
 use Rattle.slice_driver.specs.Units.{reports_of}
 use Rattle.slice_driver.specs.declared.collector.Run.{Run}
 use Rattle.slice_driver.specs.Left.{units_left}
-use Rattle.slice_driver.proofs.measure.FewerEnded.{ending_lowers}
+use Rattle.slice_driver.specs.UnitsToCome.{units_to_come}
+use Rattle.slice_driver.proofs.measure.FewerEnded.{ending_lowers, ending_to_come}
 use Rattle.slice_driver.proofs.group_end.EndReady.{IsReadyHere, ends_coloured, gray_present, ready_here, sized_here}
 use Rattle.slice_driver.proofs.group_end.GraysHere.{grays_here}
 use Rattle.slice_driver.proofs.group_end.GroupEnding.{ends_group}
@@ -174,6 +175,48 @@ returns-clause-left c = λ flown sound_then.
     ] in
     subst (λ (x : CollectorState). units_left c.if-finished.self (flying_after jobs flown) < units_left x flown) is
     (subst (λ (x : CollectorState). units_left x (flying_after jobs flown) < units_left v flown) (moved ∙ self_is) less)
+
+pub returns-clause-to_come : goal.returns-clause-to_come
+returns-clause-to_come c = λ flown sound_then.
+    let v : CollectorState =
+    record {
+      heap = c.self.inside.heap;
+      stack = c.self.inside.stack;
+      lists = c.self.inside.lists;
+      edges = c.self.inside.edges;
+      groups = c.self.inside.order;
+      run = run_of c.self.inside.run;
+    } in
+    let is : v ≡ c.args.self.now = c.self.view_is in
+    let group : ZoneSet = c.in-Some.group in
+    let here : IsReadyHere v group = ready_here v c.args.self.now is c.requires.ready.0 c.requires.ready.1
+    c.requires.ready.2 group (sym c.current.ensures ∙ c.in-Some.is) in
+    let sound : IsSound v flown = subst (λ (x : CollectorState). IsSound x flown) (sym is) sound_then in
+    let jobs : Option (List Job) = c.in_ok-handed.handed in
+    let m : HeapState = c.hand_out_group.new.heap in
+    let k : HeapState = c.end_sweeping-finished.new.heap in
+    let over : Bool = c.end_sweeping-finished.result in
+    let behind : c.advance.new.self ≡ here.rest = c.advance.ensures ∙ here.behind in
+    let ends : EndsSweeping m here.rest over k = subst (λ (gs : List ZoneSet). EndsSweeping m gs over k) behind
+    c.end_sweeping-finished.ensures in
+    let less = ending_to_come v group here.rest here.ready jobs m c.in_ok-handed.ensures.ok flown sound k over ends in
+    let moved : record v { heap = k; groups = here.rest; run = if over then None else v.run }
+    ≡ record v { heap = k; groups = c.advance.new.self; run = if over then None else v.run } =
+    ap (λ (gs : List ZoneSet). record v { heap = k; groups = gs; run = if over then None else v.run }) (sym behind)
+    in
+    let self_is : record v { heap = k; groups = c.advance.new.self; run = if over then None else v.run }
+    ≡ c.if-finished.self = elim c.if-finished.branch [
+      | then-finished w ↦ ap
+          (λ (b : Bool). record v { heap = k; groups = c.advance.new.self; run = if b then None else v.run })
+          w.if-finished.true ∙ sym w.self-is
+      | else-finished w ↦ ap
+          (λ (b : Bool). record v { heap = k; groups = c.advance.new.self; run = if b then None else v.run })
+          w.if-finished.false ∙ sym w.self-is
+    ] in
+    subst (λ (x : CollectorState). units_to_come c.if-finished.self (flying_after jobs flown)
+    < units_to_come x flown) is
+    (subst (λ (x : CollectorState). units_to_come x (flying_after jobs flown) < units_to_come v flown)
+    (moved ∙ self_is) less)
 
 pub returns-clause-handed : goal.returns-clause-handed
 returns-clause-handed c =

@@ -1,7 +1,9 @@
-use Rattle.std.proofs.Common.{◌≡◌, ℕ, Option, IsSome, refl, sym, ap, subst}
+use Rattle.std.proofs.Common.{◌≡◌, ℕ, Option, IsSome, refl, sym, ap, subst, arith}
 use Rattle.cell_bits.specs.declared.bits.Bits.{Bits}
-use Rattle.heap_core.specs.Heap.{HeapState}
-use Rattle.slice_driver.specs.Collector.{CollectorState, run_of}
+use Rattle.heap_core.specs.Heap.{HeapState, joined}
+use Rattle.barriers.specs.Colours.{grays_outside}
+use Rattle.slice_driver.specs.Collector.{CollectorState, heap_with, run_of}
+use Rattle.slice_driver.specs.EdgesRead.{TriesFew}
 use Rattle.slice_driver.specs.Units.{IsSound}
 use Rattle.marker.specs.Units.{IsGrayIdle}
 use Rattle.slice_driver.specs.Working.{DidOrStill}
@@ -9,8 +11,8 @@ use Rattle.slice_driver.proofs.marking.MarkingUnits.{gray_followed, still_gray}
 use Rattle.slice_driver.proofs.collector.Collector.follows_gray.Goals as goal
 use Rattle.slice_driver.proofs.collector.Collector.follows_gray.Goals.{in-Did, in-Empty}
 
-pub returns : goal.returns
-returns g c =
+pub returns-clause-tries : goal.returns-clause-tries
+returns-clause-tries g c =
     let v : CollectorState =
     record {
       heap = c.self.inside.heap;
@@ -53,3 +55,35 @@ returns g c =
       shape = subst (λ (x : CollectorState). d.heap.shape ≡ x.heap.shape) is shape_here;
       groups = ap (λ (x : CollectorState). x.groups) is;
     }
+
+pub returns-clause-steps : goal.returns-clause-steps
+returns-clause-steps g c =
+    let v : CollectorState =
+    record {
+      heap = c.self.inside.heap;
+      stack = c.self.inside.stack;
+      lists = c.self.inside.lists;
+      edges = c.self.inside.edges;
+      groups = c.self.inside.order;
+      run = run_of c.self.inside.run;
+    } in
+    let flown : ℕ → Option Bits = g.F.Flight.bits c.args.flight.now in
+    let h : HeapState = heap_with v flown in
+    let k : HeapState = joined c.gray_unit.new.heap flown in
+    let here : TriesFew c.match-gray_unit.result c.args.steps.now h c.gray_unit.new.steps k =
+    elim c.match-gray_unit.branch [
+      | in-Did w ↦ (
+          let few = c.gray_unit.ensures.steps in
+          let does = w.in-Did.ensures.does refl in
+          subst (λ b. TriesFew b c.args.steps.now h c.gray_unit.new.steps k) (sym w.result-is)
+          (omega (arith, few, does.grays_is))
+          )
+      | in-Empty w ↦ (
+          let same = w.in-Empty.ensures.same refl in
+          let grays = ap (λ (x : HeapState). grays_outside (joined x flown)) same.0 in
+          subst (λ b. TriesFew b c.args.steps.now h c.gray_unit.new.steps k) (sym w.result-is)
+          (omega (arith, grays, same.3))
+          )
+    ] in
+    subst (λ (x : CollectorState). TriesFew c.match-gray_unit.result c.args.steps.now (heap_with x flown)
+    c.gray_unit.new.steps k) c.self.view_is here

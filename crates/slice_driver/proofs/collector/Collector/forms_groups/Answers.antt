@@ -7,8 +7,8 @@ use Rattle.slice_driver.specs.declared.collector.Unit.{Unit}
 use Rattle.slice_driver.proofs.grouping.Steps.{not_formed}
 use Rattle.slice_driver.proofs.collector.Collector.forms_groups.Goals as goal
 
-pub returns-then-looks : goal.returns-then-looks
-returns-then-looks g c =
+pub returns-then-looks-clause-groups : goal.returns-then-looks-clause-groups
+returns-then-looks-clause-groups g c =
     let v : CollectorState =
     record {
       heap = c.self.inside.heap;
@@ -29,5 +29,5 @@ returns-then-looks g c =
       due = ap (λ (u : Unit). u.due) c.quiet.ensures;
       goes = λ flown s black.
           subst (λ (u : Unit). GoesOn c.args.self.now flown (reports_of u.report u.finished) c.looks.new.self flown)
-          (sym c.quiet.ensures) (c.if-looks.ensures flown s black);
+          (sym c.quiet.ensures) (c.if-looks.ensures.looks flown s black);
     }

@@ -77,3 +77,12 @@ returns-clause-names g c w rep settled =
 pub returns-clause-same : goal.returns-clause-same
 returns-clause-same g c w rep = represents_flown c.args.self.now (g.F.Flight.bits c.args.flight.now)
     (g.F.Flight.bits c.loop-arena.flight) w c.loop-arena.invariant.covers c.loop-arena.invariant.same rep
+
+pub returns-in_err-push_gray-clause-heap : goal.returns-in_err-push_gray-clause-heap
+returns-in_err-push_gray-clause-heap g c =
+    let here = ap (λ (z : CollectorState). z.heap) c.self.view_is in
+    subst (λ (h : HeapState). joined h (g.F.Flight.bits c.push_gray.new.flight)
+    ≡ joined h (g.F.Flight.bits c.loop-arena.flight)) here c.push_gray.ensures.kept.same ∙ c.loop-arena.invariant.same
+
+pub returns-clause-heap : goal.returns-clause-heap
+returns-clause-heap g c = c.loop-arena.invariant.same

@@ -1,4 +1,4 @@
-use Rattle.std.proofs.Common.{sym, ap, subst}
+use Rattle.std.proofs.Common.{◌≤◌, ◌+◌, sym, ap, subst, arith, if◌then◌else◌}
 use Rattle.slice_driver.specs.Collector.{CollectorState, run_of}
 use Rattle.slice_driver.specs.Units.{IsSound}
 use Rattle.slice_driver.specs.Working.{IsGrouping, LooksOrAll}
@@ -74,8 +74,8 @@ invariant_of-self g c = record {
   more = c.self.invariant.more;
 }
 
-pub returns : goal.returns
-returns g c =
+pub returns-clause-looks : goal.returns-clause-looks
+returns-clause-looks g c =
     let v : CollectorState =
     record {
       heap = c.self.inside.heap;
@@ -98,3 +98,14 @@ returns g c =
       )
     ] in
     subst (λ (x : CollectorState). LooksOrAll c.match-edge_unit.result x d) c.self.view_is here
+
+pub returns-clause-heap : goal.returns-clause-heap
+returns-clause-heap g c = ap (λ (x : CollectorState). x.heap) c.self.view_is
+
+pub returns-clause-steps : goal.returns-clause-steps
+returns-clause-steps g c = elim c.match-edge_unit.branch [
+  | in-Did w ↦ subst (λ b. c.edge_unit.new.steps ≤ c.args.steps.now + (if b then 1 else 0)) (sym w.result-is)
+      (let few = w.in-Did.ensures.steps in omega (arith, few))
+  | in-Empty w ↦ subst (λ b. c.edge_unit.new.steps ≤ c.args.steps.now + (if b then 1 else 0)) (sym w.result-is)
+      (let few = w.in-Empty.ensures.steps in omega (arith, few))
+]

@@ -1,3 +1,4 @@
+use Rattle.std.proofs.Common.{arith}
 use Rattle.weak_maps.specs.WeakMaps.{NoneLeft}
 use Rattle.weak_maps.specs.declared.colours.MarkColour.TheVariants as mark
 use Rattle.slice_driver.specs.Working.{IsBlackDone}
@@ -23,3 +24,12 @@ returns-clause-done g c =
 pub returns-then-follows_black-clause-done : goal.returns-then-follows_black-clause-done
 returns-then-follows_black-clause-done g c =
     (c.if-follows_black.ensures.done.0, λ done. c.if-follows_black.ensures.done.1 done.pile)
+
+pub returns-then-follows_black-clause-steps : goal.returns-then-follows_black-clause-steps
+returns-then-follows_black-clause-steps g c = c.if-follows_black.ensures.steps
+
+pub returns-clause-steps : goal.returns-clause-steps
+returns-clause-steps g c =
+    let none = c.if-follows_black.ensures.steps in
+    let grays = c.adds_black.ensures.grays in
+    omega (arith, none, grays)

@@ -1,4 +1,4 @@
-use Rattle.std.proofs.Common.{◌∙◌, List, sym, ap, subst, slice_get}
+use Rattle.std.proofs.Common.{◌∙◌, ◌≤◌, List, sym, ap, subst, slice_get, arith}
 use Rattle.gz_names.specs.declared.zone_sets.ZoneSet.{ZoneSet}
 use Rattle.heap_core.specs.Shape.{Shape}
 use Rattle.marker.specs.GrayBits.{AreGraying}
@@ -20,5 +20,19 @@ loop-count-preserved g c = record {
       c.loop-count.invariant.begun;
   current = ap (λ (groups : List ZoneSet). slice_get groups 0) c.if-not-marks_group.ensures.tries.groups
       ∙ c.loop-count.invariant.current;
+  steps = (let before = c.loop-count.invariant.steps in
+      let more = c.if-not-marks_group.ensures.steps in omega (arith, before, more));
   origin = c.if-not-marks_group.ensures.origin ∙ c.loop-count.invariant.origin;
 }
+
+pub returns-then-not-marks_group-clause-steps : goal.returns-then-not-marks_group-clause-steps
+returns-then-not-marks_group-clause-steps g c =
+    let before = c.loop-count.invariant.steps in
+    let none = c.if-not-marks_group.ensures.steps in
+    omega (arith, before, none)
+
+pub returns-clause-steps : goal.returns-clause-steps
+returns-clause-steps g c =
+    let before = c.loop-count.invariant.steps in
+    let ended : c.loop-count.count ≤ c.args.limit = omega arith in
+    omega (arith, before, ended)

@@ -1,4 +1,4 @@
-use Rattle.std.proofs.Common.{◌∙◌}
+use Rattle.std.proofs.Common.{◌∙◌, arith}
 use Rattle.weak_maps.specs.WeakMaps.{NoneLeft}
 use Rattle.weak_maps.specs.declared.colours.MarkColour.TheVariants as mark
 use Rattle.slice_driver.specs.Working.{IsGrayDone}
@@ -11,7 +11,7 @@ returns-clause-tries g c =
     let flown = g.F.Flight.bits c.args.flight.now in
     let d = c.follows_gray.new.self in
     let group = c.args.group in
-    let first = c.if-follows_gray.ensures in
+    let first = c.if-follows_gray.ensures.tries in
     let second = c.adds_gray.ensures.tries in
     let same = still_looked old flown d flown first.done.0 mark.Gray in
     record {
@@ -24,9 +24,18 @@ returns-clause-tries g c =
 
 pub returns-then-follows_gray-clause-tries : goal.returns-then-follows_gray-clause-tries
 returns-then-follows_gray-clause-tries g c =
-    let first = c.if-follows_gray.ensures in
+    let first = c.if-follows_gray.ensures.tries in
     record {
       done = (first.done.0, λ done. first.done.1 done.idle);
       shape = first.shape;
       groups = first.groups;
     }
+
+pub returns-then-follows_gray-clause-steps : goal.returns-then-follows_gray-clause-steps
+returns-then-follows_gray-clause-steps g c = c.if-follows_gray.ensures.steps
+
+pub returns-clause-steps : goal.returns-clause-steps
+returns-clause-steps g c =
+    let none = c.if-follows_gray.ensures.steps in
+    let grays = c.adds_gray.ensures.grays in
+    omega (arith, none, grays)

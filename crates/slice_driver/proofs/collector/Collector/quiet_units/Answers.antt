@@ -33,6 +33,20 @@ returns-clause-words g c = quiet_words c.loop-count.count _ _ _ _ c.loop-count.i
 pub loop-count-preserved : goal.loop-count-preserved
 loop-count-preserved g c = record {
   did = then_quiet _ _ _ _ _ _ _ _ c.loop-count.invariant.did c.some_quiet_units-more.ensures.done;
+  steps = (let before = c.loop-count.invariant.steps in let more = c.some_quiet_units-more.ensures.steps in omega
+      (arith, before, more));
   most = (let more = c.some_quiet_units-more.ensures.most in omega (arith, more));
   origin = c.some_quiet_units-more.ensures.origin ∙ c.loop-count.invariant.origin;
 }
+
+pub returns-then-more-eq0-clause-steps : goal.returns-then-more-eq0-clause-steps
+returns-then-more-eq0-clause-steps g c =
+    let before = c.loop-count.invariant.steps in
+    let none = c.some_quiet_units-more.ensures.steps in
+    omega (arith, before, none, c.if-more-eq0.true)
+
+pub returns-clause-steps : goal.returns-clause-steps
+returns-clause-steps g c =
+    let before = c.loop-count.invariant.steps in
+    let most = c.loop-count.invariant.most in
+    omega (arith, before, most)

@@ -1,4 +1,6 @@
-use Rattle.std.proofs.Common.{[], true, false, sym, subst, arith}
+use Rattle.std.proofs.Common.{[], true, false, sym, ap, subst, arith}
+use Rattle.heap_core.specs.Heap.{HeapState, joined}
+use Rattle.barriers.specs.Colours.{grays_outside}
 use Rattle.slice_driver.specs.Quiet.{IsFormed}
 use Rattle.slice_driver.specs.Working.{HasBegun}
 use Rattle.slice_driver.proofs.marking.MarkingUnits.{still_goes, still_sound}
@@ -14,20 +16,20 @@ pub returns-then-looks-clause-done : goal.returns-then-looks-clause-done
 returns-then-looks-clause-done g c = one_quiet _ _ _ _
     (looks_quietly c.args.self.now (g.F.Flight.bits c.args.flight.now) c.requires.sound c.marks_black.new.self
     (g.F.Flight.bits c.marks_black.new.flight) c.if-marks_black.ensures.done.0 c.if-marks_black.ensures.done.1
-    true c.looks.new.self c.if-is_grouping.ensures c.if-looks.ensures)
+    true c.looks.new.self c.if-is_grouping.ensures c.if-looks.ensures.looks)
 
 pub returns-then-is_grouping-clause-done : goal.returns-then-is_grouping-clause-done
 returns-then-is_grouping-clause-done g c =
     let quiet = looks_quietly c.args.self.now (g.F.Flight.bits c.args.flight.now) c.requires.sound
     c.marks_black.new.self (g.F.Flight.bits c.marks_black.new.flight) c.if-marks_black.ensures.done.0
-    c.if-marks_black.ensures.done.1 false c.looks.new.self c.if-is_grouping.ensures c.if-looks.ensures in
+    c.if-marks_black.ensures.done.1 false c.looks.new.self c.if-is_grouping.ensures c.if-looks.ensures.looks in
     still_quiet _ _ _ _ quiet.0
 
 pub returns-then-is_grouping-clause-rests : goal.returns-then-is_grouping-clause-rests
 returns-then-is_grouping-clause-rests g c = λ is.
     let quiet = looks_quietly c.args.self.now (g.F.Flight.bits c.args.flight.now) c.requires.sound
     c.marks_black.new.self (g.F.Flight.bits c.marks_black.new.flight) c.if-marks_black.ensures.done.0
-    c.if-marks_black.ensures.done.1 false c.looks.new.self c.if-is_grouping.ensures c.if-looks.ensures in
+    c.if-marks_black.ensures.done.1 false c.looks.new.self c.if-is_grouping.ensures c.if-looks.ensures.looks in
     still_quiet_done _ _ _ _ quiet.0 quiet.1
 
 pub returns-then-begins_zone-clause-done : goal.returns-then-begins_zone-clause-done
@@ -37,7 +39,7 @@ returns-then-begins_zone-clause-done g c =
     let still = c.if-marks_black.ensures.done.0 in
     let f1 = g.F.Flight.bits c.marks_black.new.flight in
     one_quiet _ _ _ _ (still_goes old flown c.marks_black.new.self f1 [] c.begins_zone.new.self f1 still
-    (c.if-begins_zone.ensures.0 f1 (still_sound old flown c.marks_black.new.self f1 still c.requires.sound)))
+    (c.if-begins_zone.ensures.begins.0 f1 (still_sound old flown c.marks_black.new.self f1 still c.requires.sound)))
 
 pub marks_gray_up_to-requires-clause-sound : goal.marks_gray_up_to-requires-clause-sound
 marks_gray_up_to-requires-clause-sound g c =
@@ -45,7 +47,7 @@ marks_gray_up_to-requires-clause-sound g c =
     let flown = g.F.Flight.bits c.args.flight.now in
     let f1 = g.F.Flight.bits c.marks_black.new.flight in
     let still = still_on old flown c.marks_black.new.self f1 c.begins_zone.new.self c.if-marks_black.ensures.done.0
-    c.if-begins_zone.ensures.1 in
+    c.if-begins_zone.ensures.begins.1 in
     still_sound old flown c.begins_zone.new.self f1 still c.requires.sound
 
 pub returns-clause-done : goal.returns-clause-done
@@ -54,7 +56,7 @@ returns-clause-done g c =
     let flown = g.F.Flight.bits c.args.flight.now in
     let f1 = g.F.Flight.bits c.marks_black.new.flight in
     let still = still_on old flown c.marks_black.new.self f1 c.begins_zone.new.self c.if-marks_black.ensures.done.0
-    c.if-begins_zone.ensures.1 in
+    c.if-begins_zone.ensures.begins.1 in
     many_quietly old flown c.requires.sound c.begins_zone.new.self f1 still c.if-marks_black.ensures.done.1
     c.marks_gray_up_to.result c.marks_gray_up_to.new.self (g.F.Flight.bits c.marks_gray_up_to.new.flight)
     c.marks_gray_up_to.ensures.done
@@ -65,10 +67,42 @@ returns-clause-rests g c = λ is.
     let flown = g.F.Flight.bits c.args.flight.now in
     let f1 = g.F.Flight.bits c.marks_black.new.flight in
     let still = still_on old flown c.marks_black.new.self f1 c.begins_zone.new.self c.if-marks_black.ensures.done.0
-    c.if-begins_zone.ensures.1 in
+    c.if-begins_zone.ensures.begins.1 in
     none_rests old flown c.requires.sound c.begins_zone.new.self f1 still c.if-marks_black.ensures.done.1
     c.marks_gray_up_to.result c.marks_gray_up_to.new.self (g.F.Flight.bits c.marks_gray_up_to.new.flight)
-    (subst IsFormed (sym c.if-begins_zone.ensures.1) c.if-is_grouping.ensures)
-    (subst HasBegun (sym c.if-begins_zone.ensures.1) c.if-begins_zone.ensures.0)
+    (subst IsFormed (sym c.if-begins_zone.ensures.begins.1) c.if-is_grouping.ensures)
+    (subst HasBegun (sym c.if-begins_zone.ensures.begins.1) c.if-begins_zone.ensures.begins.0)
     c.marks_gray_up_to.ensures.done
     (let some = c.requires.some in c.marks_gray_up_to.ensures.rests (omega (arith, is, some))) is
+
+pub returns-then-marks_black-clause-steps : goal.returns-then-marks_black-clause-steps
+returns-then-marks_black-clause-steps g c = c.if-marks_black.ensures.steps
+
+pub returns-then-looks-clause-steps : goal.returns-then-looks-clause-steps
+returns-then-looks-clause-steps g c =
+    let none = c.if-marks_black.ensures.steps in
+    let looked = c.if-looks.ensures.steps in
+    let grays = ap (λ (h : HeapState). grays_outside (joined h (g.F.Flight.bits c.marks_black.new.flight)))
+    c.if-looks.ensures.heap in
+    omega (arith, none, looked, grays)
+
+pub returns-then-is_grouping-clause-steps : goal.returns-then-is_grouping-clause-steps
+returns-then-is_grouping-clause-steps g c =
+    let none = c.if-marks_black.ensures.steps in
+    let looked = c.if-looks.ensures.steps in
+    let grays = ap (λ (h : HeapState). grays_outside (joined h (g.F.Flight.bits c.marks_black.new.flight)))
+    c.if-looks.ensures.heap in
+    omega (arith, none, looked, grays)
+
+pub returns-then-begins_zone-clause-steps : goal.returns-then-begins_zone-clause-steps
+returns-then-begins_zone-clause-steps g c =
+    let none = c.if-marks_black.ensures.steps in
+    let grays = c.if-begins_zone.ensures.grays (g.F.Flight.bits c.marks_black.new.flight) in
+    omega (arith, none, grays)
+
+pub returns-clause-steps : goal.returns-clause-steps
+returns-clause-steps g c =
+    let none = c.if-marks_black.ensures.steps in
+    let grays = c.if-begins_zone.ensures.grays (g.F.Flight.bits c.marks_black.new.flight) in
+    let more = c.marks_gray_up_to.ensures.steps in
+    omega (arith, none, grays, more)

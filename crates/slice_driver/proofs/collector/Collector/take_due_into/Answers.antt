@@ -1,6 +1,6 @@
 use Rattle.std.proofs.Common.{rules}
 use Rattle.slice_driver.proofs.taking_in.TakingDue.{due_does, due_flies, due_freed, due_keeps, due_lowers, due_out}
-use Rattle.slice_driver.proofs.taking_in.TakingDue.{some_left}
+use Rattle.slice_driver.proofs.taking_in.TakingDue.{due_to_come, some_left}
 use Rattle.slice_driver.proofs.collector.Collector.take_due_into.Goals as goal
 
 pub unreachable-requires : goal.unreachable-requires
@@ -27,6 +27,8 @@ returns-clause-takes g c =
     record {
       done = due_does _ _ _ _ _ _ _ ready.sound c.requires.lowest ready.out taken c.take_one_into.new.self _ took.done;
       left = due_lowers _ _ _ _ _ _ _ ready.sound c.requires.lowest ready.out taken c.take_one_into.new.self took.left;
+      to_come = due_to_come _ _ _ _ _ _ _ ready.sound c.requires.lowest ready.out taken c.take_one_into.new.self
+          took.to_come;
       finished = took.finished;
       sound = due_keeps _ _ _ _ _ _ _ ready.sound c.requires.lowest ready.out taken c.take_one_into.new.self took.sound;
       out = due_out _ _ _ _ _ _ _ ready.sound c.requires.lowest ready.out taken c.take_one_into.new.self took.words;

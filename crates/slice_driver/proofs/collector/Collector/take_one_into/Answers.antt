@@ -1,4 +1,4 @@
-use Rattle.std.proofs.Common.{◌≡◌, ◌<◌, ℕ, Bool, Option, None, Some, false, List, IsSome}
+use Rattle.std.proofs.Common.{◌≡◌, ◌<◌, ◌≤◌, ℕ, Bool, Option, None, Some, false, List, IsSome}
 use Rattle.std.proofs.Common.{if◌then◌else◌, sym, ap, subst, ◌∙◌, arith, rules}
 use Rattle.std.proofs.lemmas.Nat.{or_lt}
 use Rattle.gz_names.specs.declared.names.Name.{Name}
@@ -18,7 +18,8 @@ use Rattle.slice_driver.proofs.abstraction.Named.{some_one}
 use Rattle.slice_driver.proofs.abstraction.SoundAfter.{unit_sound}
 use Rattle.slice_driver.proofs.taking_in.TakingIn.{takes_unit}
 use Rattle.slice_driver.specs.Left.{units_left}
-use Rattle.slice_driver.proofs.measure.FewerTaken.{taking_lowers}
+use Rattle.slice_driver.specs.UnitsToCome.{units_to_come}
+use Rattle.slice_driver.proofs.measure.FewerTaken.{taking_lowers, taking_to_come}
 use Rattle.slice_driver.proofs.taking_in.Kept.{more_left, words_both, words_rest, words_taken}
 use Rattle.slice_driver.proofs.collector.Collector.take_one_into.Goals as goal
 
@@ -70,6 +71,16 @@ module _ (v old : CollectorState) (is : v ≡ old) (a freed : ℕ) (bits : ABits
       subst (λ (x : CollectorState). units_left new (without_arena flown a) < units_left x flown) is
       (subst (λ (x : CollectorState). units_left x (without_arena flown a) < units_left v flown) new_is less)
 
+  one_to_come : IsSound old flown → units_to_come new (without_arena flown a) ≤ units_to_come old flown
+  one_to_come sound =
+      let less = taking_to_come v flown a freed bits at
+      (subst (λ (x : CollectorState). IsLowestOut x.heap.shape a) (sym is) lowest)
+      (subst (λ (x : CollectorState). IsSome x.run) (sym is) running)
+      (subst (λ (x : CollectorState). IsSound x flown) (sym is) sound)
+      k over ends in
+      subst (λ (x : CollectorState). units_to_come new (without_arena flown a) ≤ units_to_come x flown) is
+      (subst (λ (x : CollectorState). units_to_come x (without_arena flown a) ≤ units_to_come v flown) new_is less)
+
 one_words : (v old : CollectorState) (is : v ≡ old) (a freed : ℕ) (bits : ABits) (k : HeapState) (over : Bool)
     → EndsSweeping (with_taken v.heap a freed bits) v.groups over k → KeepsFreedWords old.heap.shape k.shape
 one_words v old is a freed bits k over ends =
@@ -108,6 +119,8 @@ returns-then-finished-clause-takes c =
       words = one_words v old c.self.view_is c.args.arena c.args.taken.freed c.args.taken.bits k over ends;
       left = λ flown sound at. one_left v old c.self.view_is c.args.arena c.args.taken.freed c.args.taken.bits k over
           ends new new_is flown at c.requires.lowest c.requires.running sound;
+      to_come = λ flown sound at. one_to_come v old c.self.view_is c.args.arena c.args.taken.freed c.args.taken.bits k
+          over ends new new_is flown at c.requires.lowest c.requires.running sound;
       finished = search rules;
       made = search rules;
       weak = search rules;
@@ -144,7 +157,15 @@ returns-else-finished-clause-takes c =
       words = one_words v old c.self.view_is c.args.arena c.args.taken.freed c.args.taken.bits k over ends;
       left = λ flown sound at. one_left v old c.self.view_is c.args.arena c.args.taken.freed c.args.taken.bits k over
           ends new new_is flown at c.requires.lowest c.requires.running sound;
+      to_come = λ flown sound at. one_to_come v old c.self.view_is c.args.arena c.args.taken.freed c.args.taken.bits k
+          over ends new new_is flown at c.requires.lowest c.requires.running sound;
       finished = search rules;
       made = search rules;
       weak = search rules;
     }
+
+pub returns-then-finished-clause-told : goal.returns-then-finished-clause-told
+returns-then-finished-clause-told c = (c.report_arena.ensures.told.0, c.report_arena.ensures.told.1)
+
+pub returns-else-finished-clause-told : goal.returns-else-finished-clause-told
+returns-else-finished-clause-told c = (c.report_arena.ensures.told.0, c.report_arena.ensures.told.1)

@@ -1,0 +1,104 @@
+-- What waits for marking zones alone.
+use Rattle.std.proofs.Common.{◌≡◌, ◌≢◌, ◌<◌, ◌++◌, ◌∷◌, [], ℕ, zero, suc, List, Option, None, Some, length, slice_get}
+use Rattle.std.proofs.Common.{Contains, inl, inr, refl, sym, ap, ◌∙◌, subst, arith}
+use Rattle.std.proofs.lemmas.Option.{slice_get_cases, slice_get_within}
+use Rattle.gz_names.specs.declared.numbers.Place.{Place}
+use Rattle.gz_names.specs.declared.replies.Reply.{Reply}
+use Rattle.weak_maps.specs.WeakMaps.{AreParallel, Carries, EntryState, HasLooked, LooksState, NoneLeft, PutsLeft}
+use Rattle.weak_maps.specs.WeakMaps.{WeakMapsState, value_of}
+use Rattle.weak_maps.specs.declared.colours.MarkColour.{MarkColour}
+use Rattle.weak_maps.specs.declared.colours.MarkColour.TheVariants as mark
+use Rattle.heap_core.specs.declared.plans.Change.{Change}
+use Rattle.heap_core.specs.declared.plans.Change.TheVariants as change
+use Rattle.zones.specs.declared.states.State.TheVariants as state
+use Rattle.colour_defs.proofs.Lists.{contains_head}
+use Rattle.heap_core.specs.Shape.{state_in, zone_of}
+use Rattle.heap_core.specs.Heap.{HeapState, weak_of}
+use Rattle.heap_core.specs.Plans.{ChangesBy}
+use Rattle.slice_driver.specs.Collector.{CollectorState}
+use Rattle.slice_driver.specs.Represents.{NothingLeft, WaitsWhileMarking}
+
+pub none_in_it : {X : Type 0} (xs : List X) → ((x : X) → Contains xs x → ⊥) → xs ≡ []
+none_in_it [] none = refl
+none_in_it (x ∷ xs) none = absurd (none x (contains_head x xs))
+
+-- where no zone takes gray, the gray pile is empty
+pub none_piled : (c : CollectorState) → WaitsWhileMarking c
+    → ((z : ℕ) → state_in c.heap.shape z ≢ state.MarkBlackAndGray) → c.stack.gray ≡ []
+none_piled c waits none = none_in_it c.stack.gray (λ x has. none (zone_of c.heap.shape x) (waits.piled x has))
+
+-- entries went, and the others are to be looked at as they were
+there : (es : List EntryState) (n : ℕ) → n < length es → (entry : EntryState) × (slice_get es n ≡ Some entry)
+there es n lt = elim (slice_get_cases es n).1 [
+  | inl some ↦ (some.0, some.2)
+  | inr none ↦ absurd (omega (arith, lt, none.0))
+]
+
+pub none_carried : (c : MarkColour) (old new : WeakMapsState) → Carries old new → AreParallel new
+    → NoneLeft c old.looks → NoneLeft c new.looks
+none_carried c old new carries parallel none n = (
+  λ at. (
+      let lt = slice_get_within new.looks.by_map n (Some c) at in
+      let stands = there new.table.entries n (omega (arith, lt, parallel.0)) in
+      let from = carries.from n stands.0 stands.1 in
+      (none from.0).0 (sym from.2 ∙ at)),
+  λ at. (
+      let lt = slice_get_within new.looks.by_key n (Some c) at in
+      let stands = there new.table.entries n (omega (arith, lt, parallel.1)) in
+      let from = carries.from n stands.0 stands.1 in
+      (none from.0).1 (sym from.3 ∙ at)),
+)
+
+-- a new entry is not to be looked at
+none_more : (c : MarkColour) (xs : List (Option MarkColour)) (n : ℕ) → slice_get (xs ++ None ∷ []) n ≡ Some (Some c)
+    → slice_get xs n ≡ Some (Some c)
+none_more c [] zero at = cc at
+none_more c [] (suc n) at = cc at
+none_more c (x ∷ xs) zero at = at
+none_more c (x ∷ xs) (suc n) at = none_more c xs n at
+
+none_put : (c : MarkColour) (was : Option Place) (old new : LooksState) → PutsLeft was old new → NoneLeft c old
+    → NoneLeft c new
+none_put c (Some v) old new same none = subst (λ (l : LooksState). NoneLeft c l) (sym same) none
+none_put c None old new more none = subst (λ (l : LooksState). NoneLeft c l) (sym more)
+    (λ n. (λ at. (none n).0 (none_more c old.by_map n at), λ at. (none n).1 (none_more c old.by_key n at)))
+
+nothing_same : (old new : LooksState) → new ≡ old → NothingLeft old → NothingLeft new
+nothing_same old new same nothing = subst (λ (l : LooksState). NothingLeft l) (sym same) nothing
+
+-- so no command leaves anything
+pub nothing_changed : (h k : HeapState) (ch : Change) (answer : Reply) → ChangesBy h ch answer k → NothingLeft h.looks
+    → NothingLeft k.looks
+nothing_changed h k change.Zone answer by nothing =
+    nothing_same h.looks k.looks (ap (λ (z : HeapState). z.looks) by.0) nothing
+nothing_changed h k (change.Comp n) answer by nothing =
+    nothing_same h.looks k.looks (ap (λ (z : HeapState). z.looks) by.0) nothing
+nothing_changed h k (change.Cell r n d e) answer by nothing =
+    nothing_same h.looks k.looks
+    (ap (λ (z : HeapState). z.looks) by.0.rest ∙ ap (λ (z : HeapState). z.looks) by.0.makes.rest) nothing
+nothing_changed h k (change.Wrapper r n d t) answer by nothing =
+    nothing_same h.looks k.looks
+    (ap (λ (z : HeapState). z.looks) by.0.rest ∙ ap (λ (z : HeapState). z.looks) by.0.makes.rest
+    ∙ ap (λ (z : HeapState). z.looks) by.0.makes.makes.rest) nothing
+nothing_changed h k (change.Register r v named) answer by nothing =
+    nothing_same h.looks k.looks (ap (λ (z : HeapState). z.looks) by.0) nothing
+nothing_changed h k (change.Slot g v) answer by nothing =
+    nothing_same h.looks k.looks (ap (λ (z : HeapState). z.looks) by.0) nothing
+nothing_changed h k (change.Field p f v) answer by nothing =
+    nothing_same h.looks k.looks (ap (λ (z : HeapState). z.looks) by.0.rest) nothing
+nothing_changed h k (change.Put m n v) answer by nothing = (
+  none_put mark.Gray (value_of h.shape.weak m n) h.looks k.looks by.0.left nothing.0,
+  none_put mark.Black (value_of h.shape.weak m n) h.looks k.looks by.0.left nothing.1,
+)
+nothing_changed h k (change.Del m n) answer by nothing = (
+  none_carried mark.Gray (weak_of h) (weak_of k) by.0.carries by.0.parallel nothing.0,
+  none_carried mark.Black (weak_of h) (weak_of k) by.0.carries by.0.parallel nothing.1,
+)
+
+-- an entry that was looked at was to be looked at
+pub looked_one : (c : MarkColour) (handed : Place × Place × Place) (es : List EntryState) (old new : LooksState)
+    → HasLooked c handed es old new → NothingLeft old → ⊥
+looked_one mark.Gray handed es old new looked nothing = elim looked.looked
+    [ inl (was, _) ↦ (nothing.0 looked.number).0 was | inr (was, _) ↦ (nothing.0 looked.number).1 was ]
+looked_one mark.Black handed es old new looked nothing = elim looked.looked
+    [ inl (was, _) ↦ (nothing.1 looked.number).0 was | inr (was, _) ↦ (nothing.1 looked.number).1 was ]

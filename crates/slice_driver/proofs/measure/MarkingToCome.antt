@@ -1,0 +1,187 @@
+-- Units of marking lower what is to come of it.
+use Rattle.std.proofs.Common.{◌≡◌, ◌+◌, ◌<◌, ◌≤◌, ◌&&◌, ℕ, Bool, true, false, inl, inr, refl, sym, ap, ◌∙◌, subst}
+use Rattle.std.proofs.Common.{arith, List, length, sum_by, Contains, Option, None, Some, get_or}
+use Rattle.std.proofs.lemmas.List.Sums.{sum_by-le-sum_by}
+use Rattle.gz_names.specs.declared.numbers.Place.{Place}
+use Rattle.zones.specs.declared.states.State.TheVariants as state
+use Rattle.mark_stack.specs.Stack.{Piles}
+use Rattle.gray_lists.specs.Incoming.{Incoming, waiting_count}
+use Rattle.weak_maps.specs.declared.colours.MarkColour.{MarkColour}
+use Rattle.weak_maps.specs.declared.colours.MarkColour.TheVariants as mark
+use Rattle.heap_core.specs.Shape.{AreWhole, IsPresent, Shape, field_at, is_marking, name_at, state_of}
+use Rattle.heap_core.specs.Heap.{HeapState}
+use Rattle.barriers.specs.Colours.{IsSeen}
+use Rattle.barriers.specs.Scans.{ScansNoMore, gray_scans}
+use Rattle.marker.specs.Looks.{StartsBoth, looks_now}
+use Rattle.marker.specs.Units.{DoesGray, DoesLook, ScansBlack, ScansGray, TakesOne}
+use Rattle.marker.specs.UnitsToCome.{scans, units_at}
+use Rattle.marker.proofs.Looking.{looked_less}
+use Rattle.marker.proofs.UnitsToCome.{black_fewer, gray_fewer, look_lowers, others_keep, scan_lowers, scans_no_more}
+use Rattle.marker.proofs.UnitsToCome.{sum_fewer, where_both, where_on}
+use Rattle.slice_driver.specs.Commands.{Exposed}
+use Rattle.slice_driver.specs.UnitsToCome.{is_wrapper_named, marking_to_come, may_be_noted, notes, present_places}
+use Rattle.slice_driver.proofs.measure.PresentPlaces.{present_listed}
+
+-- what holds of the gray pile: its cells are seen and lie in marking zones, and one that is no wrapper leads to no zone
+-- that takes no gray yet
+pub record IsGrayPile (h : HeapState) (p : Piles) : Type 0 where
+  pub seen : (x : Place) → Contains p.gray x → IsSeen h x
+  pub marking : (x : Place) → Contains p.gray x → is_marking h.shape x ≡ true
+  pub inside : (x y : Place) → Contains p.gray x → is_wrapper_named (name_at h.shape x) ≡ false
+      → field_at h.shape x 0 ≡ Some y → state_of h.shape y ≡ state.MarkBlackOnly → ⊥
+
+-- a step that changes no shape and lets no cell be scanned more often
+module _ (h : HeapState) (p : Piles) (a : Incoming) (k : HeapState) (q : Piles) (b : Incoming)
+    (same : k.shape ≡ h.shape) (none : ScansNoMore h p k q) where
+  abbrev cells : List Place
+  cells = present_places h.shape
+
+  weak_same : k.shape.weak ≡ h.shape.weak
+  weak_same = ap (λ (s : Shape). s.weak) same
+
+  no_more : (x : Place) → scans k q x ≤ scans h p x
+  no_more = scans_no_more h p k q same none
+
+  may_as_before : (x : Place) → may_be_noted k.shape x ≡ may_be_noted h.shape x
+  may_as_before x = ap (λ (s : Shape). may_be_noted s x) same
+
+  notes_no_more : (x : Place) → notes k q x ≤ notes h p x
+  notes_no_more x = where_both (may_be_noted k.shape x) (may_be_noted h.shape x) (gray_scans k q x) (gray_scans h p x)
+      (may_as_before x) (none.gray x)
+
+  notes_sum : sum_by (notes k q) cells ≤ sum_by (notes h p) cells
+  notes_sum = sum_by-le-sum_by (notes k q) (notes h p) cells notes_no_more
+
+  -- the places of the present cells are as they were
+  units_here : units_at k q (present_places k.shape) ≡ units_at k q cells
+  units_here = ap (λ (s : Shape). units_at k q (present_places s)) same
+
+  notes_here : sum_by (notes k q) (present_places k.shape) ≡ sum_by (notes k q) cells
+  notes_here = ap (λ (s : Shape). sum_by (notes k q) (present_places s)) same
+
+  abbrev waits_before : ℕ
+  waits_before = waiting_count a + sum_by length h.buffers
+
+  abbrev waits_after : ℕ
+  waits_after = waiting_count b + sum_by length k.buffers
+
+  -- nothing was scanned or looked at, and no more waits than before
+  pub kept_no_more : k.looks ≡ h.looks → waits_after ≤ waits_before
+      → marking_to_come k q b ≤ marking_to_come h p a
+  kept_no_more looks waits =
+      let same_looks = ap looks_now looks in
+      let units = others_keep h p k q cells weak_same no_more (omega (arith, same_looks)) in
+      omega (arith, units, units_here, notes_here, notes_sum, waits)
+
+  -- something that waited was taken
+  pub taken_falls : k.looks ≡ h.looks → waits_after < waits_before
+      → marking_to_come k q b < marking_to_come h p a
+  taken_falls looks fewer =
+      let same_looks = ap looks_now looks in
+      let units = others_keep h p k q cells weak_same no_more (omega (arith, same_looks)) in
+      omega (arith, units, units_here, notes_here, notes_sum, fewer)
+
+  -- an entry was looked at
+  pub look_falls : looks_now k.looks < looks_now h.looks → waits_after ≤ waits_before
+      → marking_to_come k q b < marking_to_come h p a
+  look_falls fewer waits =
+      let units = look_lowers h p k q cells weak_same no_more fewer in
+      omega (arith, units, units_here, notes_here, notes_sum, waits)
+
+  -- a present cell was scanned and its entries started, and what is noted and waits is no more than before
+  scan_falls : AreWhole h.shape.arenas → (c : MarkColour) (x : Place) → IsPresent h.shape x
+      → scans k q x < scans h p x → StartsBoth c x h k
+      → sum_by (notes k q) cells + waits_after ≤ sum_by (notes h p) cells + waits_before
+      → marking_to_come k q b < marking_to_come h p a
+  scan_falls whole c x present fewer starts waits =
+      let listed = present_listed h.shape whole x present in
+      let units = scan_lowers h p k q cells weak_same no_more c x listed fewer starts in
+      omega (arith, units, units_here, notes_here, waits)
+
+  notes_fewer : AreWhole h.shape.arenas → (x : Place) → IsPresent h.shape x → may_be_noted h.shape x ≡ true
+      → gray_scans k q x < gray_scans h p x → sum_by (notes k q) cells < sum_by (notes h p) cells
+  notes_fewer whole x present may fewer =
+      let listed = present_listed h.shape whole x present in
+      let is : x ≡ get_or cells listed.0 x = sym listed.2 in
+      let here : notes k q x < notes h p x =
+      where_on (may_be_noted k.shape x) (may_be_noted h.shape x) (gray_scans k q x) (gray_scans h p x)
+      (may_as_before x) may fewer in
+      sum_fewer (notes k q) (notes h p) cells listed.0 x listed.1 notes_no_more
+      (subst (λ y. notes k q y < notes h p y) is here)
+
+  -- a cell of the gray pile was scanned
+  pub gray_falls : AreWhole h.shape.arenas → ((x : Place) → IsSeen h x → IsPresent h.shape x) → IsGrayPile h p
+      → ScansGray h p a k q b → marking_to_come k q b < marking_to_come h p a
+  gray_falls whole seen gray taken =
+      let x = taken.cell in
+      let present = seen x (gray.seen x taken.piled) in
+      let on = gray.marking x taken.piled in
+      scan_falls whole mark.Gray x present (gray_fewer h p k q same none x on taken.fewer) taken.starts
+      (waits (is_wrapper_named (name_at h.shape x)) refl present on)
+    where
+      buffers_sum : sum_by length k.buffers ≡ sum_by length h.buffers
+      buffers_sum = ap (sum_by length) taken.buffers_are
+
+      waits : (wrapper : Bool) → is_wrapper_named (name_at h.shape taken.cell) ≡ wrapper
+          → IsPresent h.shape taken.cell → is_marking h.shape taken.cell ≡ true
+          → sum_by (notes k q) cells + waits_after ≤ sum_by (notes h p) cells + waits_before
+      waits true is present on =
+          let may : may_be_noted h.shape taken.cell ≡ true =
+          ap (λ (b : Bool). b && is_wrapper_named (name_at h.shape taken.cell)) on ∙ is in
+          let fewer = notes_fewer whole taken.cell present may taken.fewer in
+          omega (arith, fewer, taken.noted.count, buffers_sum)
+      waits false is present on =
+          let still = taken.noted.still (λ y at. gray.inside taken.cell y taken.piled is at) in
+          let count : waiting_count b ≡ waiting_count a = ap waiting_count still in
+          omega (arith, count, notes_sum, buffers_sum)
+
+-- a piece of gray marking was done
+pub does_gray_falls : (h : HeapState) (p : Piles) (a : Incoming) (k : HeapState) (q : Piles) (b : Incoming)
+    → AreWhole h.shape.arenas → ((x : Place) → IsSeen h x → IsPresent h.shape x) → IsGrayPile h p
+    → DoesGray h p a k q b → marking_to_come k q b < marking_to_come h p a
+does_gray_falls h p a k q b whole seen gray does = go does.takes
+  where
+    same : k.shape ≡ h.shape
+    same = ap (λ (z : HeapState). z.shape) does.marks.rest
+
+    go : TakesOne h p a k q b → marking_to_come k q b < marking_to_come h p a
+    go (inl buffered) = taken_falls h p a k q b same does.scans buffered.2
+        (omega (arith, buffered.0, ap waiting_count buffered.1))
+    go (inr (inl incoming)) = taken_falls h p a k q b same does.scans incoming.2
+        (omega (arith, incoming.0, ap (λ (bs : List (List Place)). sum_by length bs) incoming.1))
+    go (inr (inr taken)) = gray_falls h p a k q b same does.scans whole seen gray taken
+
+-- a cell of the black pile was scanned
+pub black_falls : (h : HeapState) (p : Piles) (lists : Incoming) (k : HeapState) (q : Piles) → k.shape ≡ h.shape
+    → k.buffers ≡ h.buffers → AreWhole h.shape.arenas → ((x : Place) → IsSeen h x → IsPresent h.shape x)
+    → ScansBlack h p k q → marking_to_come k q lists < marking_to_come h p lists
+black_falls h p lists k q same buffers whole seen scanned =
+    let none = scanned.no_more in
+    let sums : sum_by length k.buffers ≡ sum_by length h.buffers =
+    ap (λ (bs : List (List Place)). sum_by length bs) buffers in
+    let notes_less = notes_sum h p lists k q lists same none in
+    scan_falls h p lists k q lists same none whole mark.Black scanned.cell (seen scanned.cell (inr scanned.black))
+    (black_fewer h p k q same none scanned.cell scanned.zone scanned.fewer) scanned.starts
+    (omega (arith, sums, notes_less))
+
+-- an entry was looked at
+pub looks_fall : (c : MarkColour) (h : HeapState) (p : Piles) (lists : Incoming) (k : HeapState) (q : Piles)
+    → DoesLook c h p k q → marking_to_come k q lists < marking_to_come h p lists
+looks_fall c h p lists k q does =
+    let one = looked_less c (does.map, does.key, does.value) h.shape.weak.entries h.looks k.looks does.looked in
+    let sums = ap (λ (z : HeapState). sum_by length z.buffers) does.rest in
+    look_falls h p lists k q lists (ap (λ (z : HeapState). z.shape) does.rest) does.scans (omega (arith, one))
+    (omega (arith, sums))
+
+-- a barrier exposed a cell, if there was one to expose
+pub exposed_no_more : (o : Option Place) (h : HeapState) (p : Piles) (lists : Incoming) (k : HeapState) (q : Piles)
+    → Exposed o h p k q → marking_to_come k q lists ≤ marking_to_come h p lists
+exposed_no_more None h p lists k q still =
+    subst (λ (z : HeapState). marking_to_come z q lists ≤ marking_to_come h p lists) (sym still.0)
+    (subst (λ (z : Piles). marking_to_come h z lists ≤ marking_to_come h p lists) (sym still.1) (omega arith))
+exposed_no_more (Some x) h p lists k q exposes =
+    let rest = exposes.spreads.blackens.rest in
+    let sums : sum_by length k.buffers ≡ sum_by length h.buffers =
+    ap (λ (z : HeapState). sum_by length z.buffers) rest in
+    kept_no_more h p lists k q lists (ap (λ (z : HeapState). z.shape) rest) exposes.spreads.scans
+    (ap (λ (z : HeapState). z.looks) rest) (omega (arith, sums))
