@@ -1,6 +1,7 @@
 pub mod Breaks
 pub mod Decimals
 pub mod Fine
+pub mod Lengths
 pub mod Options
 pub mod Owing
 pub mod Rests

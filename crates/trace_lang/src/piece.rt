@@ -1,13 +1,14 @@
 // A piece of a line that may be long.
 ghost use Rattle.std.specs.Prelude.{◌≡◌, ◌≤◌, ◌<◌, ◌+◌, ◌++◌, ◌∷◌, ℕ, [], length};
+ghost use Rattle.std.specs.Fmt.{decimal};
 ghost use Rattle.gz_names.specs.Zones.{zones_in, zones_from};
 ghost use Rattle.trace_lang.specs.Words.{number_word, number_words};
 ghost use Rattle.gz_names.specs.DumpTexts.{dump_text};
 ghost use Rattle.trace_lang.specs.Texts.{name_text, bar_text, break_text};
 
-use crate::tail::Tail;
 use crate::zone_bits::has_zone;
 use gz_names::{DumpColour, DumpLine, Name, ZoneSet};
+use itoa::write_digits;
 use std::marker::Model;
 
 /// A piece of an output line, of at most 512 bytes, composed before it is written.
@@ -18,13 +19,47 @@ pub struct Piece {
 }
 
 impl Model for Piece {
-    ghost use Rattle.std.specs.Prelude.{◌≤◌, ℕ, List, take};
+    ghost use Rattle.std.specs.Prelude.{◌≡◌, ◌≤◌, ℕ, List, length, take};
 
     ghost Value = { List ℕ };
 
     ghost view = { λ p. take p.len p.buf };
 
-    ghost invariant = { λ p. p.len ≤ 512 };
+    ghost invariant = { λ p. (p.len ≤ 512) × (length p.buf ≡ 512) };
+}
+
+// How many digits a number below 100,000 has.
+#[inline(always)]
+fn short_count(n: u64) -> usize
+    requires { n < 100000 }
+    ensures { result ≡ length (decimal n) }
+{
+    if n < 10 {
+        1
+    } else if n < 100 {
+        2
+    } else if n < 1000 {
+        3
+    } else if n < 10000 {
+        4
+    } else {
+        5
+    }
+}
+
+// How many digits a number has. Most numbers are small.
+#[inline(always)]
+fn digit_count(n: u64) -> usize
+    ensures count { result ≡ length (decimal n) }
+    ensures most { result ≤ 20 }
+{
+    let mut left = n;
+    let mut count = 0usize;
+    while left >= 100000 {
+        left /= 10;
+        count += 1;
+    }
+    count + short_count(left)
 }
 
 impl Piece {
@@ -64,16 +99,34 @@ impl Piece {
         self.len = end;
     }
 
+    // Adds a byte.
+    fn push_byte(&mut self, byte: u8)
+        requires { length self.old < 512 }
+        ensures { self.new ≡ self.old ++ byte ∷ [] }
+    {
+        self.buf[self.len] = byte;
+        self.len += 1;
+    }
+
+    // Adds a number: its digits are written where they stand.
+    fn push_digits(&mut self, n: u64)
+        requires { length self.old ≤ 492 }
+        ensures text { self.new ≡ self.old ++ decimal n }
+        ensures size { length self.new ≤ length self.old + 20 }
+    {
+        let end = self.len + digit_count(n);
+        write_digits(n, &mut self.buf, end);
+        self.len = end;
+    }
+
     /// Adds a number behind a space.
     pub fn push_number(&mut self, n: u64)
         requires { length self.old ≤ 490 }
         ensures text { self.new ≡ self.old ++ number_word n }
         ensures size { length self.new ≤ length self.old + 21 }
     {
-        let mut tail = Tail::new();
-        tail.number(n);
-        tail.byte(b' ');
-        self.push(tail.text());
+        self.push_byte(b' ');
+        self.push_digits(n);
     }
 
     /// Adds a name behind a space.
@@ -82,10 +135,14 @@ impl Piece {
         ensures text { self.new ≡ self.old ++ 32 ∷ name_text name }
         ensures size { length self.new ≤ length self.old + 42 }
     {
-        let mut tail = Tail::new();
-        tail.name(name);
-        tail.byte(b' ');
-        self.push(tail.text());
+        match name {
+            Name::Cell(n) => self.push_number(n),
+            Name::Wrap(comp, target) => {
+                self.push_number(u64::from(comp.0));
+                self.push_byte(b':');
+                self.push_digits(target);
+            }
+        }
     }
 
     /// Adds the zones of a set, each behind a space.
