@@ -1,5 +1,5 @@
 // Main's work beside helpers, on a board that is made for it.
-ghost use Rattle.std.specs.Prelude.{◌≡◌, ℕ, ◌<◌, [], true, All, List, Option};
+ghost use Rattle.std.specs.Prelude.{◌≡◌, ℕ, ◌<◌, [], true, All, IsErr, List, OnErr, OnOk, Option};
 ghost use Rattle.cell_bits.specs.declared.bits.Bits.{Bits as ABits};
 ghost use Rattle.sweep_board.specs.Seats.{board_len, jobs_of, main_view_of, IsMainOf};
 ghost use Rattle.sweep_board.specs.Views.{is_taken};
@@ -10,8 +10,9 @@ ghost use Rattle.sweep_beside.specs.Boards.{bits_on, outs_on, HasEmptied, IsFres
 use crate::on_board::OnBoard;
 use arena_table::Jobs;
 use gz_io::Gate;
+use gz_names::NoMemory;
 use helper_sweep::{MainWork, join_seats, split_seats, with_helpers};
-use std::alloc::Global;
+use std::alloc::{AllocError, Global};
 use std::sync::Wait;
 use std::thread::Threads;
 use sweep_board::{Board, HelperSeat, InFlight, MainSeat};
@@ -94,20 +95,23 @@ fn work_on<'b, R: Threads + Wait + Sync, G: Gate + Sync, W: Works + Send>(
     (main, own_seat)
 }
 
-// Has the work done over the arenas of these jobs, which main sweeps by itself.
-fn work_alone<W: Works>(alloc: Global, jobs: Jobs, work: &mut W)
-    requires ascending { Ascend (outs_of jobs) }
-    requires ready { W.ready work.old (outs_of jobs) (flown_by jobs) }
-    ensures { W.ran work.old (outs_of jobs) (flown_by jobs) work.new }
+// Sweeps the arenas of these jobs and takes them in: memory for their board is wanted.
+#[cold]
+fn sweep_alone(alloc: Global, jobs: Jobs) -> Result<(), NoMemory>
+    requires { Ascend (outs_of jobs) }
+    ensures { IsErr result }
 {
     let mut sweeper = MainSweeper::new(alloc);
     sweeper.take_over(Some(jobs));
-    work.run(&mut sweeper);
+    while !sweeper.is_empty() {
+        sweeper.take_lowest();
+    }
+    Err(AllocError)
 }
 
 /// Has the work done over the arenas of these jobs, beside this many helpers that sweep them, and no more than there
-/// are arenas. Where memory for the board or its seats is wanted, main sweeps them by itself. All helpers' seats are
-/// joined and the board is closed as it returns.
+/// are arenas. All helpers' seats are joined and the board is closed as it returns. Where memory for the board or its
+/// seats is wanted, nothing is done of the work: main sweeps the arenas, and takes them in.
 pub fn sweep_beside<R: Threads + Wait + Sync, G: Gate + Sync, W: Works + Send>(
     rt: &R,
     alloc: Global,
@@ -115,21 +119,22 @@ pub fn sweep_beside<R: Threads + Wait + Sync, G: Gate + Sync, W: Works + Send>(
     helpers: usize,
     gate: &G,
     work: &mut W,
-)
+) -> Result<(), NoMemory>
     requires ascending { Ascend (outs_of jobs) }
     requires ready { W.ready work.old (outs_of jobs) (flown_by jobs) }
-    ensures { W.ran work.old (outs_of jobs) (flown_by jobs) work.new }
+    ensures ran { OnOk result (W.ran work.old (outs_of jobs) (flown_by jobs) work.new) }
+    ensures kept { OnErr result (work.new ≡ work.old) }
 {
     let arenas = jobs.as_slice().len();
     if arenas > u32::MAX as usize {
-        return work_alone(alloc, jobs, work);
+        return sweep_alone(alloc, jobs);
     }
     let Ok((board, mut main)) = Board::new(alloc, jobs.as_slice()) else {
-        return work_alone(alloc, jobs, work);
+        return sweep_alone(alloc, jobs);
     };
     let own_seat = board.split(&mut main);
     let Ok(mut seats) = split_seats(alloc, &board, &mut main, helpers.min(arenas)) else {
-        return work_alone(alloc, jobs, work);
+        return sweep_alone(alloc, jobs);
     };
     let (mut main, own_seat) = work_on(
         rt,
@@ -143,4 +148,5 @@ pub fn sweep_beside<R: Threads + Wait + Sync, G: Gate + Sync, W: Works + Send>(
     board.join(&mut main, own_seat);
     join_seats(&board, &mut main, seats);
     board.close(main);
+    Ok(())
 }

@@ -50,7 +50,7 @@ fn all_is_taken_in_with_any_number_of_helpers(rt: HostRuntime) -> Result<(), Fai
             arenas: 0,
             freed: 0,
         };
-        sweep_beside(&rt, rt.alloc(), jobs, helpers, &FreeGate, &mut work);
+        sweep_beside(&rt, rt.alloc(), jobs, helpers, &FreeGate, &mut work)?;
         assert_eq!(rt; (work.arenas, work.freed), (1, 1));
     }
     Ok(())
