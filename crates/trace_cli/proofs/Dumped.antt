@@ -11,10 +11,13 @@ use Rattle.cell_bits.specs.declared.bits.Bits.{Bits}
 use Rattle.colour_defs.specs.Dumps.{IsDump}
 use Rattle.colour_defs.specs.Laws.{IsValid}
 use Rattle.colour_defs.specs.World.{World, IsSettled}
+use Rattle.heap_core.specs.Heap.{joined}
 use Rattle.slice_driver.specs.Collector.{CollectorState}
 use Rattle.slice_driver.specs.Represents.{Represents}
+use Rattle.slice_driver.specs.UnitsToCome.{IsWithin}
 use Rattle.trace_cli.specs.Headline.{answer_lines, IsAccepted, WritesAnswer, WritesFront, WritesStart}
 use Rattle.trace_cli.proofs.Answered.{Marks, Settled}
+use Rattle.trace_cli.proofs.UnitBound.{same_within}
 
 -- the lines are the dump of each settled world
 abbrev pub Dumps : CollectorState → (ℕ → Option Bits) → List DumpLine → Type 0
@@ -30,15 +33,16 @@ dump_accepted w settled reports why v (inr h) = h.1 settled
 
 pub dump_write : (c : CollectorState) (f : ℕ → Option Bits) (flown : ℕ → Option Bits) (lines : List DumpLine)
     (p q : Option (List ℕ)) → Settled c f → Dumps c f lines →
-    ((w : World) → Represents c f w → Represents c flown w) → Appends p q
-    (line_of (reply_text (reply.Dump lines))) → (w : World) → IsValid w → Represents c f w
+    ((w : World) → Represents c f w → Represents c flown w) → joined c.heap flown ≡ joined c.heap f → Appends p q
+    (line_of (reply_text (reply.Dump lines))) → (w : World) → IsValid w → Represents c f w → IsWithin c f w
     → WritesAnswer w command.Dump c flown p q
-dump_write c f flown lines p q rests dumps same written w ok stands =
+dump_write c f flown lines p q rests dumps same heap written w ok stands within =
     let settled = rests w stands in record {
       reports = [];
       answer = reply.Dump lines;
       after = w;
       represents = same w stands;
+      within = same_within c f flown w heap within;
       answers = inl (lines, refl, settled, dumps w stands settled, record { silent = refl; same = refl });
       written = written;
     }
@@ -70,13 +74,14 @@ dump_stop c f p q rests written w ok stands = record {
 
 -- the refusal, where some zone is marking
 pub marking_write : (c : CollectorState) (flown : ℕ → Option Bits) (p q : Option (List ℕ)) → Marks c flown
-    → Appends p q (line_of (reply_text (reply.Refused refusal.Marking))) → (w : World) → IsValid w → Represents c
-    flown w → WritesAnswer w command.Dump c flown p q
-marking_write c flown p q marks written w ok stands = record {
+    → Appends p q (line_of (reply_text (reply.Refused refusal.Marking))) → (w : World) → IsValid w
+    → Represents c flown w → IsWithin c flown w → WritesAnswer w command.Dump c flown p q
+marking_write c flown p q marks written w ok stands within = record {
   reports = [];
   answer = reply.Refused refusal.Marking;
   after = w;
   represents = stands;
+  within = within;
   answers = inr (refl, marks w stands, record { silent = refl; same = refl });
   written = written;
 }

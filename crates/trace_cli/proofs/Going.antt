@@ -1,7 +1,7 @@
 -- From one standing to the next, and to the exits.
 use Rattle.std.proofs.Common.{◌≡◌, ◌≢◌, ℕ, ◌+◌, ◌-◌, ◌^◌, ◌<◌, ◌≤◌, min, true, false, List, [], Option, Some, None}
-use Rattle.std.proofs.Common.{Result, Ok, Err, is_some, refl, ap, sym, subst, ◌∙◌, arith, inl, inr, ◌⊎◌}
-use Rattle.std.specs.Prelude.{OnOk, OnErr, IfOk, IfNone, IfSome}
+use Rattle.std.proofs.Common.{Result, Ok, Err, is_some, refl, sym, subst, ◌∙◌, arith, inl, inr, ◌⊎◌}
+use Rattle.std.specs.Prelude.{OnOk, OnErr, IfNone, IfSome}
 use Rattle.std.specs.Result.{is_err}
 use Rattle.std.specs.Io.KnownBytes.{Appends, prepend_known}
 use Rattle.gz_io.specs.Causes.{AppendsFront, Rose}
@@ -17,27 +17,28 @@ use Rattle.colour_defs.specs.World.{World, first_world}
 use Rattle.slice_driver.specs.Advances.{AreOut}
 use Rattle.slice_driver.specs.Collector.{CollectorState}
 use Rattle.slice_driver.specs.Left.{units_left}
-use Rattle.slice_driver.specs.Represents.{Represents}
 use Rattle.slice_driver.specs.Units.{IsSound, none_flown}
+use Rattle.slice_driver.specs.UnitsToCome.{units_to_come}
 use Rattle.trace_cli.specs.declared.answer.AnswerFault.{AnswerFault}
 use Rattle.trace_cli.specs.declared.exit.Exit.{Exit}
 use Rattle.trace_cli.specs.declared.exit.Exit.TheVariants as exit
 use Rattle.trace_cli.specs.declared.machine.Machine.{Machine}
 use Rattle.trace_cli.specs.declared.pending.Pending.{Pending}
-use Rattle.trace_cli.specs.Headline.{Replays, WritesAnswer, WritesFront, WritesStart}
+use Rattle.trace_cli.specs.Headline.{Replays, WritesFront, WritesStart}
 use Rattle.trace_cli.specs.Pending.{Allows, done_of}
 use Rattle.trace_cli.specs.Reaching.{Stands}
 use Rattle.trace_cli.specs.Served.{StandsFor}
 use Rattle.trace_cli.specs.Standing.{Amid, AnswersLine, Between, EndsIn, Entry, HasEnded, IsFirst, IsReady, IsStanding}
-use Rattle.trace_cli.specs.Standing.{IsWithin, MakesNone, Standing, StandsWith, amid, answers, between, last_line}
+use Rattle.trace_cli.specs.Standing.{HasMadeAtMost, MakesNone, Standing, StandsWith, amid, answers, between, last_line}
 use Rattle.trace_cli.specs.Standing.{ready, somewhere}
 use Rattle.trace_cli.specs.Starting.{IsAnswering, StartedAs}
 use Rattle.trace_cli.specs.Worlds.{EachWorld}
-use Rattle.trace_cli.specs.Writing.{BreaksInUnits, Goes, StopsInUnits, WritesUnits}
+use Rattle.trace_cli.specs.Writing.{BreaksInUnits, Goes, StopsInUnits}
 use Rattle.trace_cli.proofs.ArenasOut.{out_none}
 use Rattle.trace_cli.proofs.Ending.{IsOver, answers_more, done_counted, line_breaks, line_fronts, line_stops}
 use Rattle.trace_cli.proofs.Ending.{line_writes}
 use Rattle.trace_cli.proofs.Stands.{opened_first, stands_first, stands_kept, stands_more}
+use Rattle.trace_cli.proofs.UnitBound.{idle_within}
 use Rattle.trace_cli.proofs.Units.{more_breaks, more_stops, more_units, no_units}
 
 -- what a call ensures at `Ok`, where it was no `Err`, and the other way round
@@ -110,8 +111,9 @@ ends_here e m k b ys p q line outs flown so kept given same count = record {
         world = so.world;
         represents = so.represents;
         valid = so.valid;
-        stands = stands_kept _ _ _ _ _ _ so.world so.stands kept;
         within = so.within;
+        stands = stands_kept _ _ _ _ _ _ so.world so.stands kept;
+        made = so.made;
         out = so.out;
       }));
   read = λ xs is. none_given b ys line given xs is;
@@ -161,22 +163,22 @@ is_none (Some left) e = absurd (cc e)
 pub record Ready (c : CollectorState) (outs : List (ℕ × ℕ)) (flown : ℕ → Option Bits) (n : ℕ) : Type 0 where
   pub sound : IsSound c flown
   pub out : AreOut c.heap.shape outs
-  pub within : IsWithin c n
+  pub made : HasMadeAtMost c n
   pub below : n < 4294967295
 
 pub opened_ready : {c : CollectorState} {outs : List (ℕ × ℕ)} {flown : ℕ → Option Bits} {n : ℕ}
     → IsReady c outs flown n → Ready c outs flown n
-opened_ready (ready sound out within below) = record { sound = sound; out = out; within = within; below = below }
+opened_ready (ready sound out made below) = record { sound = sound; out = out; made = made; below = below }
 
 -- a line that was started
 pub line_answered : {T : Type 0} (line : List ℕ) (old new : CollectorState) (flown flying : ℕ → Option Bits) (n : ℕ)
     (outs : List (ℕ × ℕ)) (p q : Option (List ℕ)) (left : Option Pending) (r : Result T AnswerFault)
-    → StandsWith new outs flying → IsWithin new (n + 1)
+    → StandsWith new outs flying → HasMadeAtMost new (n + 1)
     → OnOk r ((c : Cmd) × StandsFor line c × StartedAs left c old flown new flying p q)
     → OnOk r (AnswersLine line left old flown n new outs flying p q)
-line_answered line old new flown flying n outs p q left (Ok x) stands within done =
-    answers done.0 done.1 done.2 stands.out stands.sound within
-line_answered line old new flown flying n outs p q left (Err f) stands within done = tt
+line_answered line old new flown flying n outs p q left (Ok x) stands made done =
+    answers done.0 done.1 done.2 stands.out stands.sound made
+line_answered line old new flown flying n outs p q left (Err f) stands made done = tt
 
 -- the same, opened
 pub record Started (line : List ℕ) (left : Option Pending) (old : CollectorState) (flown : ℕ → Option Bits) (n : ℕ)
@@ -186,18 +188,18 @@ pub record Started (line : List ℕ) (left : Option Pending) (old : CollectorSta
   pub does : StartedAs left command old flown new flying p q
   pub out : AreOut new.heap.shape outs
   pub sound : IsSound new flying
-  pub within : IsWithin new (n + 1)
+  pub made : HasMadeAtMost new (n + 1)
 
 pub opened_line : {line : List ℕ} {left : Option Pending} {old : CollectorState} {flown : ℕ → Option Bits} {n : ℕ}
     {new : CollectorState} {outs : List (ℕ × ℕ)} {flying : ℕ → Option Bits} {p q : Option (List ℕ)}
     → AnswersLine line left old flown n new outs flying p q → Started line left old flown n new outs flying p q
-opened_line (answers c spelt does out sound within) = record {
+opened_line (answers c spelt does out sound made) = record {
   command = c;
   spelt = spelt;
   does = does;
   out = out;
   sound = sound;
-  within = within;
+  made = made;
 }
 
 -- where a line is to be asked for, and where one is being answered
@@ -250,13 +252,14 @@ module _ (e : Entry) (xs ys p q r : Option (List ℕ)) (line : List ℕ) (size n
   -- it was answered whole
   pub between_next : KeepsValid → (b : Started line None c f n d others g q r) → Between e ys r (n + 1) d others g
   between_next valid b =
-      let writes = b.does so.world so.valid so.represents in record {
+      let writes = b.does so.world so.valid so.represents so.within in record {
         world = writes.after;
         represents = writes.represents;
         valid = valid so.world writes.after b.command writes.reports writes.answer so.valid writes.answers;
+        within = writes.within;
         stands = stands_more _ _ _ _ _ _ _ _ line so.world b.command d g
             (stands_kept _ _ _ _ _ _ so.world so.stands kept) given b.spelt writes;
-        within = b.within;
+        made = b.made;
         out = b.out;
       }
 
@@ -264,7 +267,7 @@ module _ (e : Entry) (xs ys p q r : Option (List ℕ)) (line : List ℕ) (size n
   pub amid_first : (left : Pending) → units_left d g < 2 ^ 64 → (b : Started line (Some left) c f n d others g q r)
       → Amid e ys r n d left others g
   amid_first left small b =
-      let begins = b.does.0 so.world so.valid so.represents in record {
+      let begins = b.does.0 so.world so.valid so.represents so.within in record {
         world = so.world;
         valid = so.valid;
         asked = xs;
@@ -276,11 +279,12 @@ module _ (e : Entry) (xs ys p q r : Option (List ℕ)) (line : List ℕ) (size n
         command = b.command;
         spelt = b.spelt;
         begun = begins.begun;
+        most = units_to_come d g;
         count = 0;
         answering = begins.answering;
         units = no_units begins.begun d g r begins.valid begins.represents;
         few = omega (arith, small);
-        within = b.within;
+        made = b.made;
         out = b.out;
       }
 
@@ -294,21 +298,21 @@ module _ (e : Entry) (xs p q : Option (List ℕ)) (n : ℕ) (c d : CollectorStat
   }
 
   pub amid_few : done_of left + units_left c f < 2 ^ 64
-  amid_few = omega (arith, a.few, done_counted a.world a.command left a.count a.begun a.answering)
+  amid_few = omega (arith, a.few, done_counted a.world a.command left a.count a.begun a.most a.answering)
 
   pub amid_breaks : EachWorld c f (λ w. (m : ℕ) × Allows left m × BreaksInUnits w m p q)
       → WritesFront a.world a.command a.before q
   amid_breaks breaks =
       let b = breaks a.units.after a.units.valid a.units.represents in
-      line_breaks a.world a.command left a.count b.0 a.begun a.before q a.answering b.1
-      (more_breaks a.begun c f a.count b.0 a.before p q a.units b.2)
+      line_breaks a.world a.command left a.count b.0 a.begun a.most a.before q a.answering b.1
+      (more_breaks a.begun c f a.most a.count b.0 a.before p q a.units b.2)
 
   pub amid_stops : EachWorld c f (λ w. (m : ℕ) × Allows left m × StopsInUnits w m p q)
       → WritesStart a.world a.command a.before q
   amid_stops stops =
       let b = stops a.units.after a.units.valid a.units.represents in
-      line_stops a.world a.command left a.count b.0 a.begun a.before q a.answering b.1
-      (more_stops a.begun c f a.count b.0 a.before p q a.units b.2)
+      line_stops a.world a.command left a.count b.0 a.begun a.most a.before q a.answering b.1
+      (more_stops a.begun c f a.most a.count b.0 a.before p q a.units b.2)
 
   -- its units go on
   pub amid_more : Goes c f left d g now p q → MakesNone c d → AreOut d.heap.shape others
@@ -325,16 +329,17 @@ module _ (e : Entry) (xs p q : Option (List ℕ)) (n : ℕ) (c d : CollectorStat
     command = a.command;
     spelt = a.spelt;
     begun = a.begun;
+    most = a.most;
     count = a.count + goes.count;
-    answering = subst (λ (x : Pending). IsAnswering a.world a.command x (a.count + goes.count) a.begun)
+    answering = subst (λ (x : Pending). IsAnswering a.world a.command x (a.count + goes.count) a.begun a.most)
         (sym goes.left_is)
-        (answers_more a.world a.command left a.count goes.count a.begun a.answering goes.most);
-    units = more_units a.begun c d f g a.count goes.count a.before p q a.units
+        (answers_more a.world a.command left a.count goes.count a.begun a.most a.answering goes.most);
+    units = more_units a.begun c d f g a.most a.count goes.count a.before p q a.units
         (goes.writes a.units.after a.units.valid a.units.represents);
     few = omega (arith, a.few, goes.less);
-    within = record {
-      made = omega (arith, a.within.made, size.made);
-      entries = omega (arith, a.within.entries, size.entries);
+    made = record {
+      made = omega (arith, a.made.made, size.made);
+      entries = omega (arith, a.made.entries, size.entries);
     };
     out = out;
   }
@@ -344,19 +349,20 @@ module _ (e : Entry) (xs q r : Option (List ℕ)) (n : ℕ) (d : CollectorState)
     (outs : List (ℕ × ℕ)) (g : ℕ → Option Bits) (a : Amid e xs q n d left outs g) (over : IsOver left d) where
   pub amid_ends : KeepsValid → Appends q r (last_line left) → Between e xs r (n + 1) d outs g
   amid_ends valid written =
-      let writes = line_writes a.world a.command left a.count a.begun d g a.before q r a.answering a.units over written
-      in record {
+      let writes = line_writes a.world a.command left a.count a.begun a.most d g a.before q r a.answering a.units over
+      written in record {
         world = writes.after;
         represents = writes.represents;
         valid = valid a.world writes.after a.command writes.reports writes.answer a.valid writes.answers;
+        within = writes.within;
         stands = stands_more _ _ _ _ _ _ _ _ a.line a.world a.command d g a.stands a.given a.spelt writes;
-        within = a.within;
+        made = a.made;
         out = a.out;
       }
 
   pub amid_fronts : AppendsFront q r (last_line left) → WritesFront a.world a.command a.before r
   amid_fronts written =
-      line_fronts a.world a.command left a.count a.begun d g a.before q r a.answering a.units over written
+      line_fronts a.world a.command left a.count a.begun a.most d g a.before q r a.answering a.units over written
 
 -- what the next line asks
 pub ready_at : {m : Machine} {left written : Option (List ℕ)} {reads writes : ℕ} {outs : List (ℕ × ℕ)}
@@ -365,7 +371,7 @@ pub ready_at : {m : Machine} {left written : Option (List ℕ)} {reads writes : 
 ready_at none below (somewhere e s) =
     let so = opened_start none s in
     ready (record { world = so.here.world; valid = so.here.valid; represents = so.here.represents }) so.here.out
-    so.here.within (below so.few)
+    so.here.made (below so.few)
 
 -- what the units of a line ask
 pub stands_at : {m : Machine} {more : Pending} {left written : Option (List ℕ)} {reads writes : ℕ}
@@ -427,9 +433,10 @@ first_standing m left written reads writes pends none held new =
       world = first_world;
       represents = f.represents;
       valid = f.valid;
+      within = idle_within m.collector none_flown first_world refl;
       stands = subst (λ (n : ℕ). Stands left (prepend_known m.reader.held left) written written n first_world)
           (sym none) (stands_first left written m.reader.held held);
-      within = subst (λ (n : ℕ). IsWithin m.collector n) (sym none) f.within;
+      made = subst (λ (n : ℕ). HasMadeAtMost m.collector n) (sym none) f.made;
       out = out_none m.collector.heap.shape;
     }) refl refl
 

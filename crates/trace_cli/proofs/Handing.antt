@@ -1,12 +1,19 @@
 -- What the loop leaves behind between two stretches of a replay.
-use Rattle.std.proofs.Common.{◌≡◌, ℕ, List, [], Option, Some, None, refl, sym, subst}
+use Rattle.std.proofs.Common.{◌≡◌, ◌⊎◌, ◌≤◌, ℕ, List, [], Option, Some, None, sym, subst, arith}
+use Rattle.std.specs.Io.KnownBytes.{Appends}
+use Rattle.gz_io.specs.Causes.{Rose}
 use Rattle.cell_bits.specs.declared.bits.Bits.{Bits}
 use Rattle.cell_bits.specs.declared.jobs.Job.{Job}
 use Rattle.slice_driver.specs.Units.{none_flown}
 use Rattle.sweeping.specs.ArenasOut.{Ascend, flown_by, outs_of}
+use Rattle.trace_cli.specs.Headline.{Replays}
 use Rattle.trace_cli.specs.declared.exit.Exit.{Exit}
+use Rattle.trace_cli.specs.declared.exit.Exit.TheVariants as exit
 use Rattle.trace_cli.specs.declared.machine.Machine.{Machine}
-use Rattle.trace_cli.specs.Standing.{Entry, HasEnded, IsStanding, RanSo, Standing, somewhere}
+use Rattle.trace_cli.specs.Standing.{Entry, HasEnded, IsStanding, RanSo, Standing, amid, between, somewhere}
+use Rattle.trace_cli.proofs.Going.{amid_stops, ended_by}
+use Rattle.trace_cli.proofs.Stands.{either, ends_memory, ends_write, part_after, start_front, stop_after}
+use Rattle.trace_cli.proofs.Units.{goes_stops, none_gone}
 
 -- what a stretch leaves where it is not over: no arenas, or those of the jobs
 pub ran_none_out : (over : Option Exit) (handed : Option (List Job)) (e : Entry) (m : Machine) (left : Option (List ℕ))
@@ -77,3 +84,34 @@ module _ (m k : Machine) (left rest written text : Option (List ℕ)) (reads wri
       → IsStanding m left reads written writes [] none_flown → Ascend (outs_of jobs)
   some_ascend jobs going some (somewhere e s) =
       ran_ascend over handed e k rest rose text fell behind (ran e s) jobs going some
+
+-- a replay ends out of memory, or by a fault of the sink
+ended_memory : (e : Entry) (m : Machine) (left : Option (List ℕ)) (reads : ℕ) (q : Option (List ℕ)) (f g behind : ℕ)
+    (r : Exit) → Replays e.left left e.written q exit.NoMemory → Replays e.left left e.written q exit.WriteFault
+    → (r ≡ exit.NoMemory) ⊎ (r ≡ exit.WriteFault)
+    → ((r ≡ exit.NoMemory) × (g ≡ f) × (behind ≡ 0)) ⊎ ((r ≡ exit.WriteFault) × Rose f g) → e.writes ≤ f
+    → HasEnded e r m left reads q g behind
+ended_memory e m left reads q f g behind r stopped broken or cause le =
+    ended_by e m exit.NoMemory r left reads q f g behind
+    (either (λ (x : Exit). Replays e.left left e.written q x) r exit.NoMemory or stopped broken) cause le
+    (λ k. absurd (cc k)) (λ k. absurd (cc k)) (λ k. cc k) (λ k. cc k) (λ k. cc k) (λ k. absurd (cc k))
+
+-- so it does where it stands, if memory is wanted there
+pub stands_over : (e : Entry) (m : Machine) (left : Option (List ℕ)) (reads : ℕ) (p q : Option (List ℕ))
+    (f g behind : ℕ) (outs : List (ℕ × ℕ)) (flown : ℕ → Option Bits) (r : Exit)
+    → Standing e m left reads p f outs flown → Appends p q [] → (r ≡ exit.NoMemory) ⊎ (r ≡ exit.WriteFault)
+    → ((r ≡ exit.NoMemory) × (g ≡ f) × (behind ≡ 0)) ⊎ ((r ≡ exit.WriteFault) × Rose f g)
+    → HasEnded e r m left reads q g behind
+stands_over e m left reads p q f g behind outs flown r (between none few b reads_are writes_are) kept or cause =
+    ended_memory e m left reads q f g behind r
+    (ends_memory _ _ _ _ _ m.reader.held _ b.world b.stands kept)
+    (ends_write _ _ _ _ _ m.reader.held _ b.world b.stands kept)
+    or cause (omega (arith, writes_are))
+stands_over e m left reads p q f g behind outs flown r (amid more some few a reads_are writes_are) kept or cause =
+    let start = amid_stops e _ p q _ m.collector m.collector more more outs outs flown flown a
+    (goes_stops more more m.collector m.collector flown flown p p q (none_gone more m.collector flown p) kept) in
+    ended_memory e m left reads q f g behind r
+    (stop_after _ _ _ _ _ _ m.reader.held a.line _ a.size a.world a.command a.stands a.given a.spelt start)
+    (part_after _ _ _ _ _ _ m.reader.held a.line _ a.size a.world a.command a.stands a.given a.spelt
+    (start_front a.world a.command _ _ start))
+    or cause (omega (arith, writes_are))

@@ -1,6 +1,7 @@
 pub mod ArenasOut
 pub mod Flights
 pub mod Written
+pub mod UnitBound
 pub mod Units
 pub mod Spelled
 pub mod Answered

@@ -6,7 +6,7 @@ use Rattle.cell_bits.specs.declared.bits.Bits.{Bits}
 use Rattle.slice_driver.specs.Collector.{CollectorState}
 use Rattle.trace_cli.specs.Answering.{AnswersCommand}
 use Rattle.trace_cli.specs.Headline.{WritesAnswer, WritesFront, WritesStart}
-use Rattle.trace_cli.specs.Worlds.{EachWorld}
+use Rattle.trace_cli.specs.Worlds.{EachWorld, EachWorldWithin}
 use Rattle.trace_cli.specs.declared.answer.AnswerFault.{AnswerFault}
 use Rattle.trace_cli.specs.declared.answer.AnswerFault.TheVariants as fault
 
@@ -14,7 +14,7 @@ use Rattle.trace_cli.specs.declared.answer.AnswerFault.TheVariants as fault
 pub replied : {T A B : Type 0} {cmd : Cmd} {old new : CollectorState} {flown flying : ℕ → Option Bits}
     {p q : Option (List ℕ)}
     (r : Result T AnswerFault) → OnErr r (r ≡ Err fault.Write) → OnOk r A → OnErr r B
-    → (A → EachWorld old flown (λ w. WritesAnswer w cmd new flying p q))
+    → (A → EachWorldWithin old flown (λ w. WritesAnswer w cmd new flying p q))
     → (B → EachWorld old flown (λ w. WritesFront w cmd p q)) → AnswersCommand cmd old flown new flying p q r
 replied (Ok x) is ok err whole front = record {
   ok = whole ok;

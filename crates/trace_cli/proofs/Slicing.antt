@@ -1,5 +1,5 @@
 -- Slices of a collection: what was written of them, and the world after them.
-use Rattle.std.proofs.Common.{◌≡◌, ◌≤◌, ◌<◌, ℕ, List, [], Option, Some, None, IsSome, arith, refl, ap, subst, sym, ◌∙◌}
+use Rattle.std.proofs.Common.{◌≡◌, ◌≤◌, ◌<◌, ℕ, List, [], Option, Some, None, refl, ap, sym, ◌∙◌}
 use Rattle.std.proofs.Common.{inl, inr}
 use Rattle.std.specs.Io.KnownBytes.{Appends}
 use Rattle.gz_io.specs.Causes.{AppendsFront}
@@ -15,16 +15,15 @@ use Rattle.colour_defs.specs.Lawful.{Answers, IsRunning, RefusesIdle, Slices, wi
 use Rattle.heap_core.specs.Heap.{HeapState}
 use Rattle.slice_driver.specs.Collector.{CollectorState, RunState, heap_with}
 use Rattle.slice_driver.specs.Represents.{Represents, RunsAs}
+use Rattle.slice_driver.specs.UnitsToCome.{IsWithin}
 use Rattle.slice_driver.specs.Worlds.{LiesIn}
 use Rattle.trace_cli.specs.Headline.{report_lines, answer_lines, IsAccepted, WritesAnswer, WritesFront, WritesStart}
+use Rattle.trace_cli.specs.Starting.{RunsWithin}
 use Rattle.trace_cli.specs.Writing.{reports_in, BreaksInUnits, StopsInUnits, WritesUnits}
 use Rattle.trace_cli.proofs.Answered.{not_both}
 use Rattle.trace_cli.proofs.Flights.{idle_world}
+use Rattle.trace_cli.proofs.UnitBound.{spent, spent_within, units_slice}
 use Rattle.trace_cli.proofs.Written.{both_written, then_front_written}
-
--- the world in which so many units more were counted
-abbrev spent : ℕ → World → World
-spent n w = record w { preparing = with_spent_preparing n w.preparing; collection = with_spent n w.collection }
 
 idle_spent : (n : ℕ) (w : World) → IsIdle w → IsIdle (spent n w)
 idle_spent n w idle = record {
@@ -113,21 +112,16 @@ represents_spent c f w n r = record {
 }
 
 -- units of a collection that ran, in a slice
-module _ (d : CollectorState) (flying : ℕ → Option Bits) (n : ℕ) (w : World) (running : IsRunning w)
-    (p q r : Option (List ℕ)) (h : WritesUnits w d flying n p q) where
+module _ (d : CollectorState) (flying : ℕ → Option Bits) (most n : ℕ) (w : World) (runs : RunsWithin w most)
+    (p q r : Option (List ℕ)) (h : WritesUnits w d flying most n p q) where
   abbrev after : World
   after = spent n h.after
 
   slices : Slices w (reports_in h.units) n after
-  slices = record {
-    running = running;
-    units = h.units;
-    after = h.after;
-    done = h.done;
-    number = h.number;
-    reports_are = refl;
-    world_is = refl;
-  }
+  slices = units_slice w d flying most n p q runs h
+
+  within : IsWithin d flying after
+  within = spent_within w d flying most n p q runs h
 
   none_left : d.run ≡ None → IsIdle after
   none_left over = idle_spent n h.after (idle_world d flying h.after h.represents over)
@@ -139,6 +133,7 @@ module _ (d : CollectorState) (flying : ℕ → Option Bits) (n : ℕ) (w : Worl
     answer = reply.Sliced n;
     after = after;
     represents = represents_spent d flying h.after n h.represents;
+    within = within;
     answers = inl (n, refl, slices, most, λ less. none_left (over less));
     written = both_written p q r (report_lines (reports_in h.units))
         (line_of (reply_text (reply.Sliced n))) _ refl h.written written;
@@ -167,6 +162,7 @@ module _ (d : CollectorState) (flying : ℕ → Option Bits) (n : ℕ) (w : Worl
     answer = reply.Sliced n;
     after = after;
     represents = represents_spent d flying h.after n h.represents;
+    within = within;
     answers = inl (n, refl, slices, none_left idle);
     written = both_written p q r (report_lines (reports_in h.units))
         (line_of (reply_text (reply.Sliced n))) _ refl h.written written;
@@ -239,12 +235,13 @@ Goings cmd = (w : World) → RefusesIdle w [] (reply.Refused refusal.Idle) w →
 
 pub idle_writes : (c : CollectorState) (flown : ℕ → Option Bits) (cmd : Cmd) (p q : Option (List ℕ)) → Goings cmd
     → c.run ≡ None → Appends p q (line_of (reply_text (reply.Refused refusal.Idle))) → (w : World) → IsValid w
-    → Represents c flown w → WritesAnswer w cmd c flown p q
-idle_writes c flown cmd p q goes idle written w ok stands = record {
+    → Represents c flown w → IsWithin c flown w → WritesAnswer w cmd c flown p q
+idle_writes c flown cmd p q goes idle written w ok stands within = record {
   reports = [];
   answer = reply.Refused refusal.Idle;
   after = w;
   represents = stands;
+  within = within;
   answers = goes w (refuses_idle c flown w stands idle);
   written = written;
 }

@@ -1,7 +1,6 @@
 -- How far a replay has come.
 use Rattle.std.proofs.Common.{◌≡◌, ◌≢◌, ℕ, ◌+◌, ◌<◌, ◌≤◌, List, [], ◌∷◌, ◌++◌, length, take, refl, ap, sym, subst, ◌∙◌}
 use Rattle.std.proofs.Common.{arith, Option, Some, None, slice_get, append_assoc, inl, inr, ◌⊎◌}
-use Rattle.std.specs.Prelude.{⊤}
 use Rattle.std.specs.List.{flat_map}
 use Rattle.std.specs.Io.KnownBytes.{Appends, prepend_known}
 use Rattle.std.proofs.KnownBytes.{Appends-trans, Appends-nil}
@@ -22,8 +21,8 @@ use Rattle.slice_driver.specs.Collector.{CollectorState}
 use Rattle.slice_driver.specs.Represents.{Represents}
 use Rattle.slice_driver.specs.Units.{none_flown}
 use Rattle.trace_cli.specs.Reaching.{Reached, Stands}
-use Rattle.trace_cli.specs.Standing.{IsFirst, IsWithin, first}
-use Rattle.trace_cli.specs.Lines.{lines_of, line_feeds}
+use Rattle.trace_cli.specs.Standing.{HasMadeAtMost, IsFirst, first}
+use Rattle.trace_cli.specs.Lines.{lines_of, line_feeds, AreGiven}
 use Rattle.trace_cli.specs.Served.{StandsFor, IsBad}
 use Rattle.trace_cli.specs.Headline.{report_lines, answer_lines, StandForAll, LeadsTo, WritesAnswer, WritesFront}
 use Rattle.trace_cli.specs.Headline.{WritesStart, Replays}
@@ -36,10 +35,10 @@ use Rattle.trace_cli.proofs.Lined.{not_ascii_bad}
 pub record First (c : CollectorState) : Type 0 where
   pub valid : IsValid first_world
   pub represents : Represents c none_flown first_world
-  pub within : IsWithin c 0
+  pub made : HasMadeAtMost c 0
 
 pub opened_first : {c : CollectorState} → IsFirst c → First c
-opened_first (first valid represents within) = record { valid = valid; represents = represents; within = within }
+opened_first (first valid represents made) = record { valid = valid; represents = represents; made = made }
 
 pub stands_first : (left written : Option (List ℕ)) (held : List ℕ) → held ≡ []
     → Stands left (prepend_known held left) written written 0 first_world
@@ -53,7 +52,7 @@ stands_first (Some input) written held e = record {
   wrote = Appends-nil written;
   leads = record { commands = []; answers = []; stand = tt; run = refl; written = refl };
   bytes = ap (λ (t : List ℕ). t ++ input) (sym e);
-  whole = omega arith;
+  whole = inl refl;
 }
 
 wrote_more : (i xs : List ℕ) (p q r : Option (List ℕ)) (n : ℕ) (w : World) (h : Reached i xs p q n w) → Appends q r []
@@ -99,22 +98,34 @@ leads_more lines output line w v c a h s k = record {
 
 -- the bytes of a line that was given
 line_bytes : (xs ys line : List ℕ) → IsPlain line → EndsLine xs ys line
-    → (text : List ℕ) × (xs ≡ text ++ ys) × (line_feeds text ≤ 1)
+    → (text : List ℕ) × (xs ≡ text ++ ys) × ((line_feeds text ≡ 1) ⊎ ((ys ≡ []) × (line_feeds text ≡ 0)))
 line_bytes xs ys line p (inl e) = (
   line ++ 10 ∷ [],
   e ∙ sym (append_assoc line (10 ∷ []) ys),
-  omega (
-    arith,
-    line_feeds-append line (10 ∷ []),
-    line_feeds-plain line p,
-  ),
+  inl (omega (arith, line_feeds-append line (10 ∷ []), line_feeds-plain line p)),
 )
 line_bytes xs ys line p (inr e) = (
   line,
   e.0 ∙ sym (append-nil line) ∙ ap
       (λ (t : List ℕ). line ++ t) (sym e.2),
-  omega (arith, line_feeds-plain line p),
+  inr (e.2, line_feeds-plain line p),
 )
+
+-- a line takes a byte
+line_takes : (xs ys line : List ℕ) → EndsLine xs ys line → xs ≢ []
+line_takes xs ys line (inl e) none =
+    let l : length xs ≡ length (line ++ 10 ∷ ys) = ap length e in
+    let z : length xs ≡ 0 = ap length none in omega (arith, l, z, length-append line (10 ∷ ys))
+line_takes xs ys line (inr e) none =
+    let l : length xs ≡ length line = ap length e.0 in
+    let z : length xs ≡ 0 = ap length none in omega (arith, l, z, e.1)
+
+-- a line more is given
+given_more : (a b n : ℕ) (xs ys : List ℕ) → xs ≢ [] → AreGiven a xs n → (b ≡ 1) ⊎ ((ys ≡ []) × (b ≡ 0))
+    → AreGiven (a + b) ys (n + 1)
+given_more a b n xs ys some (inl h) (inl k) = inl (omega (arith, h, k))
+given_more a b n xs ys some (inl h) (inr k) = inr (k.0, omega (arith, h, k.1))
+given_more a b n xs ys some (inr h) k = absurd (some h.0)
 
 reached_more : (i xs ys : List ℕ) (p q r : Option (List ℕ)) (n : ℕ) (line : List ℕ) (w : World) (c : Cmd)
     (k : CollectorState) (f : ℕ → Option Bits) → Reached i xs p q n w → IsPlain line → EndsLine xs ys line
@@ -132,7 +143,8 @@ reached_more i xs ys p q r n line w c k f h plain ends s a =
       wrote = Appends-trans p q r h.output (answer_lines (a.reports, a.answer)) h.wrote a.written;
       leads = leads_more h.done h.output line w a.after c (a.reports, a.answer) h.leads s a.answers;
       bytes = h.bytes ∙ ap (λ (t : List ℕ). h.text ++ t) b.1 ∙ sym (append_assoc h.text b.0 ys);
-      whole = omega (arith, line_feeds-append h.text b.0, h.whole, b.2);
+      whole = subst (λ (m : ℕ). AreGiven m ys (n + 1)) (sym (line_feeds-append h.text b.0))
+          (given_more _ _ n xs ys (line_takes xs ys line ends) h.whole b.2);
     }
 
 pub stands_more : (a b c p q r : Option (List ℕ)) (n m : ℕ) (line : List ℕ) (w : World) (d : Cmd) (k : CollectorState)
@@ -174,6 +186,11 @@ next_is i xs p q n w line more h e =
 no_more : (held ys : List ℕ) → held ++ ys ≡ [] → ys ≡ []
 no_more [] ys e = e
 no_more (b ∷ held) ys e = absurd (cc e)
+
+-- bytes were taken that are held
+given_held : (a n : ℕ) (held ys xs : List ℕ) → held ++ ys ≡ xs → AreGiven a xs n → AreGiven a ys n
+given_held a n held ys xs t (inl h) = inl h
+given_held a n held ys xs t (inr h) = inr (no_more held ys (t ∙ h.0), h.1)
 
 -- the exits: where nothing more was taken
 pub ends_write : (a l p q r : Option (List ℕ)) (held : List ℕ) (n : ℕ) (w : World)
@@ -244,7 +261,10 @@ read_after (Some i) (Some xs) (Some ys) p q r held line n w h t plain k = (
     answered = n;
     taken = h.text ++ held;
     bytes = h.bytes ∙ ap (λ (u : List ℕ). h.text ++ u) (sym t) ∙ sym (append_assoc h.text held ys);
-    whole = omega (arith, line_feeds-append h.text held, line_feeds-plain held plain, h.whole);
+    whole =
+        let same : line_feeds h.text ≡ line_feeds (h.text ++ held) =
+        omega (arith, line_feeds-append h.text held, line_feeds-plain held plain) in
+        subst (λ (m : ℕ). AreGiven m ys n) same (given_held _ n held ys xs t h.whole);
     lawful = (w, first_n i xs p q n w h);
   },
 )

@@ -1,5 +1,5 @@
 -- What came of a command as it was started.
-use Rattle.std.proofs.Common.{◌≡◌, ◌+◌, ℕ, List, [], Option, Some, None, Result, Ok, Err, IsSome, arith, refl, subst}
+use Rattle.std.proofs.Common.{◌≡◌, ℕ, List, [], Option, Some, None, Result, Ok, Err, IsSome, arith, refl, subst}
 use Rattle.std.proofs.Common.{sym}
 use Rattle.std.specs.Prelude.{OnOk}
 use Rattle.std.specs.Io.KnownBytes.{Appends}
@@ -13,12 +13,13 @@ use Rattle.trace_cli.specs.Answering.{AnswersCommand, StartsCommand}
 use Rattle.trace_cli.specs.Headline.{WritesStart}
 use Rattle.trace_cli.specs.Served.{StandsFor}
 use Rattle.trace_cli.specs.Starting.{BeginsAnswer, StartedAs, collects, finishes, slices}
-use Rattle.trace_cli.specs.Worlds.{EachWorld}
+use Rattle.trace_cli.specs.Worlds.{EachWorld, EachWorldWithin}
 use Rattle.trace_cli.specs.declared.answer.AnswerFault.{AnswerFault}
 use Rattle.trace_cli.specs.declared.answer.AnswerFault.TheVariants as fault
 use Rattle.trace_cli.specs.declared.pending.Pending.{Pending}
 use Rattle.trace_cli.specs.declared.pending.Pending.TheVariants as pending
 use Rattle.trace_cli.proofs.Flights.{running_world}
+use Rattle.trace_cli.proofs.UnitBound.{runs_within}
 
 -- a command that was answered at once
 pub started : {U : Type 0} {cmd : Cmd} {left : Option Pending} {old new : CollectorState}
@@ -35,8 +36,9 @@ started {U} {cmd} {left} {old} {new} {flown} {flying} {p} {q} (Err f) e a =
     record { ok = tt; none = e; memory = a.memory; write = a.write; good = a.good }
 
 -- one whose units are left to be done
-pub begun : {U : Type 0} {cmd : Cmd} {old new : CollectorState} {flown flying : ℕ → Option Bits} {p q : Option (List ℕ)}
-    {left : Pending} {x : U} → EachWorld old flown (λ w. BeginsAnswer w cmd left new flying) → Appends p q []
+pub begun : {U : Type 0} {cmd : Cmd} {old new : CollectorState} {flown flying : ℕ → Option Bits}
+    {p q : Option (List ℕ)} {left : Pending} {x : U}
+    → EachWorldWithin old flown (λ w. BeginsAnswer w cmd left new flying) → Appends p q []
     → StartsCommand cmd (Some left) old flown new flying p q (Ok x)
 begun does kept = record {
   ok = (does, kept);
@@ -64,8 +66,8 @@ ok_starts left old new flown flying p q (Err f) line cmd stands done = tt
 
 -- a collection was begun for `collect`
 pub collect_begins : (c d : CollectorState) (f : ℕ → Option Bits) (zones : ZoneSet) → BeginsIn c zones.bits d
-    → EachWorld c f (λ w. BeginsAnswer w (command.Collect zones) pending.Collect d f)
-collect_begins c d f zones begins w ok stands =
+    → EachWorldWithin c f (λ w. BeginsAnswer w (command.Collect zones) pending.Collect d f)
+collect_begins c d f zones begins w ok stands within =
     let b = begins f w ok stands in record {
       begun = b.0;
       valid = b.2;
@@ -75,19 +77,20 @@ collect_begins c d f zones begins w ok stands =
 
 -- one goes on for `slice` and `finish`
 pub slice_begins : (c : CollectorState) (f : ℕ → Option Bits) (budget left : ℕ) → left ≡ budget → IsSome c.run
-    → EachWorld c f (λ w. BeginsAnswer w (command.Slice budget) (pending.Slice left 0) c f)
-slice_begins c f budget left same runs w ok stands = record {
+    → EachWorldWithin c f (λ w. BeginsAnswer w (command.Slice budget) (pending.Slice left 0) c f)
+slice_begins c f budget left same runs w ok stands within = record {
   begun = w;
   valid = ok;
   represents = stands;
-  answering = slices budget left refl refl (omega (arith, same)) (running_world c f w stands runs) refl;
+  answering = slices budget left refl refl (omega (arith, same))
+      (runs_within c f w stands (running_world c f w stands runs) within) refl;
 }
 
 pub finish_begins : (c : CollectorState) (f : ℕ → Option Bits) → IsSome c.run
-    → EachWorld c f (λ w. BeginsAnswer w command.Finish (pending.Finish 0) c f)
-finish_begins c f runs w ok stands = record {
+    → EachWorldWithin c f (λ w. BeginsAnswer w command.Finish (pending.Finish 0) c f)
+finish_begins c f runs w ok stands within = record {
   begun = w;
   valid = ok;
   represents = stands;
-  answering = finishes refl refl (running_world c f w stands runs) refl;
+  answering = finishes refl refl (runs_within c f w stands (running_world c f w stands runs) within) refl;
 }

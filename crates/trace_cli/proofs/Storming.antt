@@ -27,7 +27,7 @@ use Rattle.colour_defs.specs.Laws.{IsNoWeakCmd, IsValid}
 use Rattle.colour_defs.specs.World.{Has, World, Collection, IsPresent, IsSettled, first_world, marking_of}
 use Rattle.colour_defs.proofs.Lists.{contains_cases, contains_head, contains_tail, nothing_in_none}
 use Rattle.colour_defs.proofs.Names.{eq_name-refl, same_name-is}
-use Rattle.collection_laws.specs.Collected.{AreAllZones, IsCollected, IsGray, IsKept}
+use Rattle.collection_laws.specs.Collected.{AreAllZones, IsGray, IsKept}
 use Rattle.collection_laws.specs.Graphs.{graph_after}
 use Rattle.collection_laws.proofs.Graphs.{run_graph}
 use Rattle.collection_laws.proofs.LastLines.{run_collected}
@@ -39,8 +39,7 @@ use Rattle.slice_driver.specs.Present.{present_in_all}
 use Rattle.slice_driver.specs.Units.{IsSound, none_flown}
 use Rattle.slice_driver.proofs.abstraction.IdleFlight.{idle_flown}
 use Rattle.trace_lang.specs.Grammar.{Spells}
-use Rattle.trace_lang.specs.Texts.{line_of}
-use Rattle.storm_source.specs.Commands.{AreOfStorm, MakesNoZone, SpellAll}
+use Rattle.storm_source.specs.Commands.{MakesNoZone, SpellAll}
 use Rattle.storm_source.specs.Trace.{drawn_lines, head_lines, line_state, storm_lines, storm_text, tail_lines}
 use Rattle.storm_source.specs.Trace.{text_of}
 use Rattle.storm_source.proofs.Commands.{storm_spells}

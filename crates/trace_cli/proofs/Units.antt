@@ -13,11 +13,13 @@ use Rattle.cell_bits.specs.declared.bits.Bits.{Bits}
 use Rattle.colour_defs.specs.World.{World}
 use Rattle.colour_defs.specs.Laws.{IsValid}
 use Rattle.colour_defs.specs.Lawful.{AreLawfulUnits}
+use Rattle.colour_defs.specs.Units.{sweeps_in}
 use Rattle.slice_driver.specs.Collector.{CollectorState, RunState}
 use Rattle.slice_driver.specs.Advances.{Advances, told}
 use Rattle.slice_driver.specs.Left.{units_left}
 use Rattle.slice_driver.specs.Represents.{Represents}
 use Rattle.slice_driver.specs.Units.{reports_of}
+use Rattle.slice_driver.specs.UnitsToCome.{units_to_come}
 use Rattle.slice_driver.specs.declared.advance.Step.{Step}
 use Rattle.trace_cli.specs.Headline.{report_lines}
 use Rattle.trace_cli.specs.Pending.{Allows, after, done_of, limit_of}
@@ -26,6 +28,7 @@ use Rattle.trace_cli.specs.Worlds.{EachWorld}
 use Rattle.trace_cli.specs.Writing.{reports_in, BreaksInUnits, Goes, StopsInUnits, WritesUnits}
 use Rattle.trace_cli.specs.declared.pending.Pending.{Pending}
 use Rattle.trace_cli.specs.declared.pending.Pending.TheVariants as pending
+use Rattle.trace_cli.proofs.UnitBound.{sweeps_append}
 use Rattle.trace_cli.proofs.Written.{report_lines-append, both_written, then_front_written}
 
 units_append : (w u v : World) (xs ys : List (List Report)) → AreLawfulUnits w xs u → AreLawfulUnits u ys v
@@ -43,7 +46,8 @@ lines_append xs ys =
 module _ (limit : ℕ) (c d : CollectorState) (f g : ℕ → Option Bits) (outs : List (ℕ × ℕ)) (before place : Option Report)
     (step : Step) (a : Advances limit c f before step d g outs place) (w : World) (ok : IsValid w)
     (stands : Represents c f w) (p q : Option (List ℕ)) where
-  pub step_writes : Appends p q (report_lines (told step place)) → WritesUnits w d g step.units p q
+  pub step_writes : Appends p q (report_lines (told step place))
+      → WritesUnits w d g (units_to_come c f) step.units p q
   step_writes written =
       let u = a.done w ok stands in record {
         units = u.units;
@@ -52,6 +56,8 @@ module _ (limit : ℕ) (c d : CollectorState) (f g : ℕ → Option Bits) (outs 
         done = u.done;
         valid = u.valid;
         represents = u.represents;
+        to_come = subst (λ (rs : List Report). units_to_come d g + step.units ≤ units_to_come c f + sweeps_in rs)
+            (sym u.reports_are) a.to_come;
         written = subst (λ (rs : List Report). Appends p q (report_lines rs)) (sym u.reports_are) written;
       }
 
@@ -86,7 +92,7 @@ silent_written step place p e = subst (λ (rs : List Report). Appends p p (repor
 
 -- none yet
 pub no_units : (w : World) (c : CollectorState) (flown : ℕ → Option Bits) (p : Option (List ℕ)) → IsValid w
-    → Represents c flown w → WritesUnits w c flown 0 p p
+    → Represents c flown w → WritesUnits w c flown (units_to_come c flown) 0 p p
 no_units w c flown p ok stands = record {
   units = [];
   number = refl;
@@ -94,27 +100,35 @@ no_units w c flown p ok stands = record {
   done = refl;
   valid = ok;
   represents = stands;
+  to_come = omega arith;
   written = Appends-nil p;
 }
 
 -- more units
-pub more_units : (w : World) (c d : CollectorState) (f g : ℕ → Option Bits) (n m : ℕ) (p q r : Option (List ℕ)) →
-    (h : WritesUnits w c f n p q) → WritesUnits h.after d g m q r → WritesUnits w d g (n + m) p r
-more_units w c d f g n m p q r h k = record {
+pub more_units : (w : World) (c d : CollectorState) (f g : ℕ → Option Bits) (most n m : ℕ) (p q r : Option (List ℕ)) →
+    (h : WritesUnits w c f most n p q) → WritesUnits h.after d g (units_to_come c f) m q r
+    → WritesUnits w d g most (n + m) p r
+more_units w c d f g most n m p q r h k = record {
   units = h.units ++ k.units;
   number = omega (arith, length-append h.units k.units, h.number, k.number);
   after = k.after;
   done = units_append w h.after k.after h.units k.units h.done k.done;
   valid = k.valid;
   represents = k.represents;
+  to_come = both (units_to_come c f) (units_to_come d g) (sweeps_in (reports_in h.units))
+      (sweeps_in (reports_in k.units)) _ (sweeps_append h.units k.units) h.to_come k.to_come;
   written =
       both_written p q r (report_lines (reports_in h.units)) (report_lines (reports_in k.units)) _
       (lines_append h.units k.units) h.written k.written;
 }
+  where
+    both : (mid rest one two all : ℕ) → all ≡ one + two → mid + n ≤ most + one → rest + m ≤ mid + two
+        → rest + (n + m) ≤ most + all
+    both mid rest one two all sum first second = omega (arith, sum, first, second)
 
-pub more_breaks : (w : World) (c : CollectorState) (f : ℕ → Option Bits) (n m : ℕ) (p q r : Option (List ℕ)) →
-    (h : WritesUnits w c f n p q) → BreaksInUnits h.after m q r → BreaksInUnits w (n + m) p r
-more_breaks w c f n m p q r h k = record {
+pub more_breaks : (w : World) (c : CollectorState) (f : ℕ → Option Bits) (most n m : ℕ) (p q r : Option (List ℕ)) →
+    (h : WritesUnits w c f most n p q) → BreaksInUnits h.after m q r → BreaksInUnits w (n + m) p r
+more_breaks w c f most n m p q r h k = record {
   units = h.units ++ k.units;
   most = omega (arith, length-append h.units k.units, h.number, k.most);
   after = k.after;
@@ -124,9 +138,9 @@ more_breaks w c f n m p q r h k = record {
       (lines_append h.units k.units) h.written k.written;
 }
 
-pub more_stops : (w : World) (c : CollectorState) (f : ℕ → Option Bits) (n m : ℕ) (p q r : Option (List ℕ)) →
-    (h : WritesUnits w c f n p q) → StopsInUnits h.after m q r → StopsInUnits w (n + m) p r
-more_stops w c f n m p q r h k = record {
+pub more_stops : (w : World) (c : CollectorState) (f : ℕ → Option Bits) (most n m : ℕ) (p q r : Option (List ℕ)) →
+    (h : WritesUnits w c f most n p q) → StopsInUnits h.after m q r → StopsInUnits w (n + m) p r
+more_stops w c f most n m p q r h k = record {
   units = h.units ++ k.units;
   most = omega (arith, length-append h.units k.units, h.number, k.most);
   after = k.after;
@@ -136,9 +150,9 @@ more_stops w c f n m p q r h k = record {
       (lines_append h.units k.units) h.written k.written;
 }
 
-pub stops_after : (w : World) (c : CollectorState) (f : ℕ → Option Bits) (n : ℕ) (p q r : Option (List ℕ)) →
-    (h : WritesUnits w c f n p q) → Appends q r [] → StopsInUnits w n p r
-stops_after w c f n p q r h k = record {
+pub stops_after : (w : World) (c : CollectorState) (f : ℕ → Option Bits) (most n : ℕ) (p q r : Option (List ℕ)) →
+    (h : WritesUnits w c f most n p q) → Appends q r [] → StopsInUnits w n p r
+stops_after w c f most n p q r h k = record {
   units = h.units;
   most = omega (arith, h.number);
   after = h.after;
@@ -234,8 +248,8 @@ goes_on left mid now c d e f g h p q r a b = record {
   count = a.count + b.count;
   left_is = b.left_is ∙ ap (after b.count) a.left_is ∙ after_both left a.count b.count;
   most = allows_both left a.count b.count a.most (subst (λ (m : Pending). Allows m b.count) a.left_is b.most);
-  writes = λ w ok stands. (let u = a.writes w ok stands in more_units w d e g h a.count b.count p q r u
-      (b.writes u.after u.valid u.represents));
+  writes = λ w ok stands. (let u = a.writes w ok stands in
+      more_units w d e g h (units_to_come c f) a.count b.count p q r u (b.writes u.after u.valid u.represents));
   less = omega (arith, a.less, b.less);
 }
 
@@ -248,14 +262,14 @@ goes_breaks left mid c d f g p q r a breaks w ok stands =
     let b = breaks u.after u.valid u.represents in (
       a.count + b.0,
       allows_both left a.count b.0 a.most (subst (λ (m : Pending). Allows m b.0) a.left_is b.1),
-      more_breaks w d g a.count b.0 p q r u b.2,
+      more_breaks w d g (units_to_come c f) a.count b.0 p q r u b.2,
     )
 
 pub goes_stops : (left mid : Pending) (c d : CollectorState) (f g : ℕ → Option Bits) (p q r : Option (List ℕ))
     → Goes c f left d g mid p q → Appends q r []
     → EachWorld c f (λ w. (n : ℕ) × Allows left n × StopsInUnits w n p r)
 goes_stops left mid c d f g p q r a kept w ok stands =
-    (a.count, a.most, stops_after w d g a.count p q r (a.writes w ok stands) kept)
+    (a.count, a.most, stops_after w d g (units_to_come c f) a.count p q r (a.writes w ok stands) kept)
 
 -- what is counted and what is left stay together below 2^64
 goes_done : (left : Pending) (n : ℕ) → done_of (after n left) ≤ done_of left + n

@@ -5,7 +5,7 @@ use Rattle.gz_names.specs.declared.commands.Cmd.{Cmd}
 use Rattle.cell_bits.specs.declared.bits.Bits.{Bits}
 use Rattle.slice_driver.specs.Collector.{CollectorState}
 use Rattle.trace_cli.specs.Headline.{WritesAnswer, WritesFront, WritesStart}
-use Rattle.trace_cli.specs.Worlds.{EachWorld}
+use Rattle.trace_cli.specs.Worlds.{EachWorld, EachWorldWithin}
 use Rattle.trace_cli.specs.Starting.{StartedAs}
 use Rattle.trace_cli.specs.declared.answer.AnswerFault.{AnswerFault}
 use Rattle.trace_cli.specs.declared.answer.AnswerFault.TheVariants as fault
@@ -22,7 +22,7 @@ pub record CountsFaults {T : Type 0} (old new : ℕ) (result : Result T AnswerFa
 pub record AnswersCommand {T : Type 0} (cmd : Cmd) (old : CollectorState) (flown : ℕ → Option Bits)
     (new : CollectorState) (flying : ℕ → Option Bits) (p q : Option (List ℕ)) (result : Result T AnswerFault)
     : Type 0 where
-  pub ok : OnOk result (EachWorld old flown (λ w. WritesAnswer w cmd new flying p q))
+  pub ok : OnOk result (EachWorldWithin old flown (λ w. WritesAnswer w cmd new flying p q))
   pub memory : result ≡ Err fault.Memory → EachWorld old flown (λ w. WritesStart w cmd p q)
   pub write : result ≡ Err fault.Write → EachWorld old flown (λ w. WritesFront w cmd p q)
   pub good : result ≢ Err fault.Bad

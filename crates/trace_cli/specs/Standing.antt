@@ -15,6 +15,7 @@ use Rattle.slice_driver.specs.Collector.{CollectorState}
 use Rattle.slice_driver.specs.Left.{units_left}
 use Rattle.slice_driver.specs.Represents.{Represents}
 use Rattle.slice_driver.specs.Units.{IsSound, none_flown}
+use Rattle.slice_driver.specs.UnitsToCome.{IsWithin}
 use Rattle.trace_lang.specs.Texts.{reply_text, line_of}
 use Rattle.trace_cli.specs.Headline.{Replays}
 use Rattle.trace_cli.specs.Pending.{reply_of}
@@ -30,17 +31,17 @@ use Rattle.trace_cli.specs.declared.machine.Stop.TheVariants as stop
 use Rattle.trace_cli.specs.declared.pending.Pending.{Pending}
 
 -- so many cells and weak entries were made at most
-pub record IsWithin (c : CollectorState) (n : ℕ) : Type 0 where
+pub record HasMadeAtMost (c : CollectorState) (n : ℕ) : Type 0 where
   pub made : c.heap.made ≤ n
   pub entries : length c.heap.shape.weak.entries ≤ n
 
 -- a collector that stands for the first world, which is valid
 pub data IsFirst (c : CollectorState) : Type 0 where
-  first : IsValid first_world → Represents c none_flown first_world → IsWithin c 0 → IsFirst c
+  first : IsValid first_world → Represents c none_flown first_world → HasMadeAtMost c 0 → IsFirst c
 
 -- a collector that stands for some world, with these arenas and bits in flight, after so many lines
 pub data IsReady (c : CollectorState) (outs : List (ℕ × ℕ)) (flown : ℕ → Option Bits) (n : ℕ) : Type 0 where
-  ready : IsSound c flown → AreOut c.heap.shape outs → IsWithin c n → n < 4294967295 → IsReady c outs flown n
+  ready : IsSound c flown → AreOut c.heap.shape outs → HasMadeAtMost c n → n < 4294967295 → IsReady c outs flown n
 
 -- a collector that stands for some world, with these arenas and bits in flight
 pub record StandsWith (c : CollectorState) (outs : List (ℕ × ℕ)) (flown : ℕ → Option Bits) : Type 0 where
@@ -67,7 +68,7 @@ pub record MakesNone (old new : CollectorState) : Type 0 where
 pub data AnswersLine (line : List ℕ) (left : Option Pending) (old : CollectorState) (flown : ℕ → Option Bits) (n : ℕ)
     (new : CollectorState) (outs : List (ℕ × ℕ)) (flying : ℕ → Option Bits) (p q : Option (List ℕ)) : Type 0 where
   answers : (c : Cmd) → StandsFor line c → StartedAs left c old flown new flying p q → AreOut new.heap.shape outs
-      → IsSound new flying → IsWithin new (n + 1) → AnswersLine line left old flown n new outs flying p q
+      → IsSound new flying → HasMadeAtMost new (n + 1) → AnswersLine line left old flown n new outs flying p q
 
 -- the last line of an answer was written, or a front of it
 abbrev pub last_line : Pending → List ℕ
@@ -87,17 +88,20 @@ pub record Entry : Type 0 where
   pub reads : ℕ
   pub writes : ℕ
 
--- between two lines: the collector stands for a valid world that the lines answered so far lead to
+-- between two lines: the collector stands for a valid world that the lines answered so far lead to, and the collection
+-- that runs there is within its bound on units
 pub record Between (e : Entry) (rest written : Option (List ℕ)) (n : ℕ) (c : CollectorState) (outs : List (ℕ × ℕ))
     (flown : ℕ → Option Bits) : Type 0 where
   pub world : World
   pub represents : Represents c flown world
   pub valid : IsValid world
+  pub within : IsWithin c flown world
   pub stands : Stands e.left rest e.written written n world
-  pub within : IsWithin c n
+  pub made : HasMadeAtMost c n
   pub out : AreOut c.heap.shape outs
 
--- amid the answer to a line: it was asked for in such a world, and so many of its units were done since
+-- amid the answer to a line: it was asked for in such a world, where so many units were to come at most, and so many of
+-- its units were done since
 pub record Amid (e : Entry) (rest written : Option (List ℕ)) (n : ℕ) (c : CollectorState) (left : Pending)
     (outs : List (ℕ × ℕ)) (flown : ℕ → Option Bits) : Type 0 where
   pub world : World
@@ -111,11 +115,12 @@ pub record Amid (e : Entry) (rest written : Option (List ℕ)) (n : ℕ) (c : Co
   pub command : Cmd
   pub spelt : StandsFor line command
   pub begun : World
+  pub most : ℕ
   pub count : ℕ
-  pub answering : IsAnswering world command left count begun
-  pub units : WritesUnits begun c flown count before written
+  pub answering : IsAnswering world command left count begun most
+  pub units : WritesUnits begun c flown most count before written
   pub few : count + units_left c flown < 2 ^ 64
-  pub within : IsWithin c (n + 1)
+  pub made : HasMadeAtMost c (n + 1)
   pub out : AreOut c.heap.shape outs
 
 -- where a replay stands, with these arenas and bits in flight

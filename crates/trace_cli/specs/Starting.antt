@@ -6,23 +6,33 @@ use Rattle.gz_names.specs.declared.commands.Cmd.{Cmd}
 use Rattle.gz_names.specs.declared.commands.Cmd.TheVariants as command
 use Rattle.gz_names.specs.declared.zone_sets.ZoneSet.{ZoneSet}
 use Rattle.cell_bits.specs.declared.bits.Bits.{Bits}
-use Rattle.colour_defs.specs.World.{World}
+use Rattle.colour_defs.specs.World.{Collection, World}
 use Rattle.colour_defs.specs.Laws.{IsValid}
-use Rattle.colour_defs.specs.Lawful.{BeginsAtOnce, IsRunning}
+use Rattle.colour_defs.specs.Lawful.{BeginsAtOnce}
 use Rattle.slice_driver.specs.Collector.{CollectorState}
 use Rattle.slice_driver.specs.Represents.{Represents}
+use Rattle.slice_driver.specs.UnitsToCome.{IsWithinBound, units_to_come}
 use Rattle.trace_cli.specs.Headline.{WritesAnswer}
-use Rattle.trace_cli.specs.Worlds.{EachWorld}
+use Rattle.trace_cli.specs.Worlds.{EachWorldWithin}
 use Rattle.trace_cli.specs.declared.pending.Pending.{Pending}
 use Rattle.trace_cli.specs.declared.pending.Pending.TheVariants as pending
 
--- a command that asks for units in a world: its units are done from a world on, and so many were
-pub data IsAnswering (w : World) (cmd : Cmd) (left : Pending) (n : ℕ) (begun : World) : Type 0 where
+-- a collection runs in a world, and with so many units to come it is within its bound on units
+pub record RunsWithin (w : World) (most : ℕ) : Type 0 where
+  pub collection : Collection
+  pub running : w.collection ≡ Some collection
+  pub none_prepared : w.preparing ≡ None
+  pub within : IsWithinBound collection.tally most
+
+-- a command that asks for units in a world: its units are done from a world on, where so many were to come at most, and
+-- so many were done
+pub data IsAnswering (w : World) (cmd : Cmd) (left : Pending) (n : ℕ) (begun : World) (most : ℕ) : Type 0 where
   collects : (zones : ZoneSet) → cmd ≡ command.Collect zones → left ≡ pending.Collect
-      → BeginsAtOnce w (zones_in zones) begun → IsAnswering w cmd left n begun
+      → BeginsAtOnce w (zones_in zones) begun → IsAnswering w cmd left n begun most
   slices : (budget more : ℕ) → cmd ≡ command.Slice budget → left ≡ pending.Slice more n → more + n ≡ budget
-      → IsRunning w → begun ≡ w → IsAnswering w cmd left n begun
-  finishes : cmd ≡ command.Finish → left ≡ pending.Finish n → IsRunning w → begun ≡ w → IsAnswering w cmd left n begun
+      → RunsWithin w most → begun ≡ w → IsAnswering w cmd left n begun most
+  finishes : cmd ≡ command.Finish → left ≡ pending.Finish n → RunsWithin w most → begun ≡ w
+      → IsAnswering w cmd left n begun most
 
 -- the units of a command are to be done; the collector stands for the world from which on they are
 pub record BeginsAnswer (w : World) (cmd : Cmd) (left : Pending) (c : CollectorState) (flown : ℕ → Option Bits)
@@ -30,11 +40,12 @@ pub record BeginsAnswer (w : World) (cmd : Cmd) (left : Pending) (c : CollectorS
   pub begun : World
   pub valid : IsValid begun
   pub represents : Represents c flown begun
-  pub answering : IsAnswering w cmd left 0 begun
+  pub answering : IsAnswering w cmd left 0 begun (units_to_come c flown)
 
--- in each world that the collector stood for, a command was answered whole, or its units are to be done
+-- in each world that the collector stood for, with a collection within its bound on units, a command was answered
+-- whole, or its units are to be done
 abbrev pub StartedAs : Option Pending → Cmd → CollectorState → (ℕ → Option Bits) → CollectorState
     → (ℕ → Option Bits) → Option (List ℕ) → Option (List ℕ) → Type 0
-StartedAs None cmd old flown new flying p q = EachWorld old flown (λ w. WritesAnswer w cmd new flying p q)
+StartedAs None cmd old flown new flying p q = EachWorldWithin old flown (λ w. WritesAnswer w cmd new flying p q)
 StartedAs (Some left) cmd old flown new flying p q =
-    EachWorld old flown (λ w. BeginsAnswer w cmd left new flying) × Appends p q []
+    EachWorldWithin old flown (λ w. BeginsAnswer w cmd left new flying) × Appends p q []

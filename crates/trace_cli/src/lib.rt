@@ -38,6 +38,11 @@
 // All units are done by `Collector::advance`, a step at a time: many units that report nothing, or one that does. A
 // slice is as many units as it is allowed, however steps cut them.
 //
+// Why slices keep the bound on units: between two lines, what was counted of a collection and what is still to come of
+// it (`units_to_come` of slice_driver) are within its bound in sum. A command raises what is to come by no more than
+// the bound. A unit takes one from it, or takes an arena in, by which the bound rises by one. Amid a line its units are
+// not counted in the world yet, so what was to come as the line began is kept with them (`Amid`).
+//
 // Why each report is lawful by itself: a failed write, or want of memory, ends the replay between two reports, or
 // within one. What was written then is the start of a lawful answer, since each unit is lawful in the world that the
 // units before it lead to. Memory is wanted only by a command that is not refused. Whatever the exit, the arenas that

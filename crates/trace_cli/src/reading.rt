@@ -95,7 +95,11 @@ pub fn run_on<
             return exit;
         }
         match session.run.handed.take() {
-            Some(jobs) => sweep_beside(rt, alloc, jobs, helpers, gate, session),
+            Some(jobs) => {
+                if sweep_beside(rt, alloc, jobs, helpers, gate, session).is_err() {
+                    return end_so(session.sink, Exit::NoMemory);
+                }
+            }
             None => session.run(&mut MainSweeper::new(alloc)),
         }
     }

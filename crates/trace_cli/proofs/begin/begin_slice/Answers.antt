@@ -1,4 +1,4 @@
-use Rattle.std.proofs.Common.{inr, sym}
+use Rattle.std.proofs.Common.{inr}
 use Rattle.std.proofs.KnownBytes.{Appends-nil}
 use Rattle.trace_cli.proofs.Replied.{replied}
 use Rattle.trace_cli.proofs.Slicing.{idle_breaks, idle_writes}

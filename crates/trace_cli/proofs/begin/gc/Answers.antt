@@ -12,7 +12,7 @@ pub returns-in-Ok-clause-answer : goal.returns-in-Ok-clause-answer
 returns-in-Ok-clause-answer g c =
     replied c.write_last.result c.write_last.ensures.fault c.write_last.ensures.ok c.write_last.ensures.err
     (λ written. gc_writes c.args.collector.now c.begin.new.self (g.F.Flight.bits c.args._flight.now) c.args.zones
-    c.in-Ok.ensures.begun
+    c.in-Ok.ensures.begun c.in-Ok.ensures.within
     _ _ written)
     (λ written. gc_breaks c.args.collector.now c.begin.new.self (g.F.Flight.bits c.args._flight.now) c.args.zones
     c.in-Ok.ensures.begun

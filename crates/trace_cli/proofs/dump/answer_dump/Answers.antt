@@ -23,7 +23,7 @@ returns-clause-answer g c =
     replied c.write_last-2.result c.write_last-2.ensures.fault c.write_last-2.ensures.ok c.write_last-2.ensures.err
     (λ written. dump_write c.args.collector.now (g.F.Flight.bits c.args.flight.now) (g.F.Flight.bits c.dump.new.flight)
     c.from_vec.result _ _
-    rests dumps c.in-Ok.ensures.same written)
+    rests dumps c.in-Ok.ensures.same c.in-Ok.ensures.heap written)
     (λ written. dump_break c.args.collector.now (g.F.Flight.bits c.args.flight.now) c.from_vec.result _ _ rests dumps
     written)
 

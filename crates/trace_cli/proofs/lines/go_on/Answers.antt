@@ -1,9 +1,7 @@
-use Rattle.std.proofs.Common.{◌≡◌, ◌+◌, arith, ap, subst, sym, ◌∙◌, refl, Ok, Err, List, ℕ, [], Option, None, Some}
-use Rattle.std.specs.Prelude.{IfNone, IfSome}
+use Rattle.std.proofs.Common.{arith, ap, subst, sym, ◌∙◌, refl, Ok, Err, List, ℕ, [], Option}
 use Rattle.std.specs.Io.KnownBytes.{prepend_known}
 use Rattle.cell_bits.specs.declared.bits.Bits.{Bits}
 use Rattle.colour_defs.specs.Lawful.{beginning}
-use Rattle.slice_driver.specs.Advances.{AreOut}
 use Rattle.slice_driver.specs.Collector.{CollectorState}
 use Rattle.slice_driver.specs.Units.{none_flown}
 use Rattle.trace_cli.specs.Headline.{Replays}
@@ -17,8 +15,7 @@ use Rattle.trace_cli.specs.declared.machine.Machine.{Machine}
 use Rattle.trace_cli.specs.declared.machine.Stop.{Stop}
 use Rattle.trace_cli.specs.declared.pending.Pending.{Pending}
 use Rattle.trace_cli.specs.declared.turns.Turn.{Turn}
-use Rattle.trace_cli.specs.declared.turns.Turn.TheVariants as turn
-use Rattle.trace_cli.proofs.Going.{KeepsValid, amid_breaks, amid_ends, amid_fronts, amid_more, amid_stops, below_at}
+use Rattle.trace_cli.proofs.Going.{amid_breaks, amid_ends, amid_fronts, amid_more, amid_stops, below_at}
 use Rattle.trace_cli.proofs.Going.{ended_by, ended_write, few_at, no_flight, none_maps, opened_amid, some_maps}
 use Rattle.trace_cli.proofs.Going.{stands_at}
 use Rattle.trace_cli.proofs.Stands.{either, part_after, start_front, start_kept, stop_after}

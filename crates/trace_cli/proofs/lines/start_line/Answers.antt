@@ -1,4 +1,4 @@
-use Rattle.std.proofs.Common.{◌≡◌, ◌+◌, arith, ap, subst, sym, ◌∙◌, refl, Ok, Err, List, ℕ, [], Option}
+use Rattle.std.proofs.Common.{◌+◌, arith, ap, subst, sym, ◌∙◌, refl, Err, List, ℕ, [], Option}
 use Rattle.std.proofs.KnownBytes.{Appends-trans}
 use Rattle.gz_io.specs.Causes.{Rose}
 use Rattle.colour_defs.specs.Lawful.{beginning}

@@ -10,8 +10,8 @@ pub start_answer-requires-clause-room : goal.start_answer-requires-clause-room
 start_answer-requires-clause-room g c =
     let r = opened_ready c.requires.ready in
     record {
-      made = omega (arith, r.within.made, r.below);
-      entries = omega (arith, r.within.entries, r.below);
+      made = omega (arith, r.made.made, r.below);
+      entries = omega (arith, r.made.entries, r.below);
     }
 
 pub returns-clause-ok : goal.returns-clause-ok
@@ -24,6 +24,6 @@ returns-clause-ok g c =
     (g.K.Sink.written c.start_answer.new.sink) c.start_answer.new.pending c.start_answer.result
     c.start_answer.ensures.flight
     (record {
-      made = omega (arith, r.within.made, size.made);
-      entries = omega (arith, r.within.entries, size.entries);
+      made = omega (arith, r.made.made, size.made);
+      entries = omega (arith, r.made.entries, size.entries);
     }) c.start_answer.ensures.ok

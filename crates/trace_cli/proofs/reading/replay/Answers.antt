@@ -1,6 +1,5 @@
-use Rattle.std.proofs.Common.{◌≡◌, ap, map, refl, inl, inr, subst, ℕ, Err, Ok}
+use Rattle.std.proofs.Common.{ap, map, subst, ℕ, Err}
 use Rattle.std.proofs.KnownBytes.{Appends-nil}
-use Rattle.command_words.specs.declared.line.CommandLine.TheVariants as line
 use Rattle.command_words.specs.declared.line.WordsFault.{WordsFault}
 use Rattle.trace_cli.proofs.Complete.{complete, complete_memory, complete_unless}
 use Rattle.trace_cli.proofs.Concluding.{memory_checks, memory_concludes}

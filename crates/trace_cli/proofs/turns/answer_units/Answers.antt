@@ -1,14 +1,13 @@
-use Rattle.std.proofs.Common.{◌<◌, ◌+◌, ◌^◌, refl, arith, ap, subst, ◌∙◌, ℕ, List, Option, Ok}
+use Rattle.std.proofs.Common.{◌<◌, refl, arith, subst, ◌∙◌, ℕ, List, Option}
 use Rattle.slice_driver.specs.Collector.{CollectorState}
 use Rattle.slice_driver.specs.Left.{units_left}
 use Rattle.cell_bits.specs.declared.bits.Bits.{Bits}
-use Rattle.trace_cli.specs.Pending.{done_of}
-use Rattle.trace_cli.specs.Standing.{MakesNone, StandsWith}
+use Rattle.trace_cli.specs.Standing.{StandsWith}
 use Rattle.trace_cli.specs.Turns.{bits_in, out_in}
 use Rattle.trace_cli.specs.Writing.{Goes}
 use Rattle.trace_cli.specs.declared.pending.Pending.{Pending}
 use Rattle.trace_cli.specs.declared.turns.Turn.{Turn}
-use Rattle.trace_cli.proofs.Units.{goes_breaks, goes_few, goes_on, goes_stops, makes_none, none_gone, not_running}
+use Rattle.trace_cli.proofs.Units.{goes_breaks, goes_few, goes_on, goes_stops, makes_none, none_gone}
 use Rattle.trace_cli.proofs.turns.answer_units.Goals as goal
 
 -- what a step left, by what it asks of the loop
