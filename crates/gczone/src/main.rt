@@ -7,15 +7,17 @@
 
 use gz_io::{Buffered, FreeGate, StdSink, StdSource};
 use std::env;
+use std::io::ErrorKind;
 use std::process::ExitCode;
 use trace_cli::{Exit, replay};
 
 // The arguments. Some that are no text are no words that the program takes.
 fn arguments(rt: &HostRuntime) -> Result<Vec<String>, Exit> {
-    let Ok(arguments) = env::args(rt) else {
-        return Err(Exit::Usage);
-    };
-    arguments.collect(rt.alloc()).map_err(|_| Exit::NoMemory)
+    match env::args(rt) {
+        Ok(arguments) => arguments.collect(rt.alloc()).map_err(|_| Exit::NoMemory),
+        Err(error) if error.kind() == ErrorKind::OutOfMemory => Err(Exit::NoMemory),
+        Err(_) => Err(Exit::Usage),
+    }
 }
 
 fn main(rt: HostRuntime) -> ExitCode {
