@@ -1,6 +1,8 @@
 ghost use Rattle.colour_defs.specs.Step.{HasFewFields};
 
-use gz_names::{CompNo, DumpColour, DumpLine, GraphCmd, GrayNo, Name, Reg, Reply, ZoneNo, ZoneSet};
+use gz_names::{
+    CompNo, DumpColour, DumpLine, GraphCmd, GrayNo, Name, Reg, Reply, Report, ZoneNo, ZoneSet,
+};
 use slice_driver::Session;
 use std::alloc::Global;
 use std::test::Fail;
@@ -140,6 +142,66 @@ fn put_and_find(session: &mut Session<MainSweeper>) -> Option<(Option<Name>, Opt
     Some((there, put))
 }
 
+// Begins a collection of two zones, with a gray object and one that nothing leads to, which is the key of an entry.
+fn begin_with_garbage(alloc: Global) -> Option<Session<MainSweeper>> {
+    let mut session = one_zone(alloc)?;
+    hold_pair(&mut session)?;
+    add_wrapper_and_entry(&mut session)?;
+    session.command(GraphCmd::Drop(reg(0))).ok()?;
+    let both = ZoneSet::only(zone(0)).union(ZoneSet::only(zone(1)));
+    session.begin(both).ok()?;
+    Some(session)
+}
+
+// Does a step of a collection, again if it runs out of memory: whether it reported something.
+fn step_or_again(session: &mut Session<MainSweeper>) -> Option<bool> {
+    if let Ok(step) = session.advance(1000) {
+        return Some(step.reported);
+    }
+    Some(session.advance(1000).ok()?.reported)
+}
+
+// Keeps names, again if it runs out of memory.
+fn keep_or_again(list: &mut Vec<Name>, names: &[Name]) -> Option<()> {
+    if list.extend_from_slice(names).is_ok() {
+        return Some(());
+    }
+    list.extend_from_slice(names).ok()
+}
+
+// The names that a collection reports as gray, and those that it frees.
+#[derive(Drop)]
+struct Reported {
+    grays: Vec<Name>,
+    freed: Vec<Name>,
+}
+
+// Keeps the names of the last report.
+fn keep_names(session: &Session<MainSweeper>, reported: &mut Reported) -> Option<()> {
+    match session.report() {
+        Some(Report::Ended(_, grays, _)) => keep_or_again(&mut reported.grays, grays.as_slice()),
+        Some(Report::Swept(_, names)) => keep_or_again(&mut reported.freed, names.as_slice()),
+        _ => Some(()),
+    }
+}
+
+// Collects step by step, and keeps what is reported.
+fn collect_names(alloc: Global, session: &mut Session<MainSweeper>) -> Option<Reported> {
+    let mut reported = Reported {
+        grays: Vec::new(alloc),
+        freed: Vec::new(alloc),
+    };
+    for _ in 0..100u8 {
+        if !session.running() {
+            return Some(reported);
+        }
+        if step_or_again(session)? {
+            keep_names(session, &mut reported)?;
+        }
+    }
+    None
+}
+
 #[test]
 fn a_new_session_is_at_rest(rt: HostRuntime) -> Result<(), Fail> {
     let mut session = Session::new(rt.alloc())?;
@@ -197,5 +259,21 @@ fn a_dump_tells_cells_edges_and_entries_in_order(rt: HostRuntime) -> Result<(), 
         DumpLine::End,
     ];
     assert_eq!(rt; lines.as_slice(), wanted.as_slice());
+    Ok(())
+}
+
+// Nothing runs out of memory here. Run with a growth that is refused, whichever it is, this passes as well: what begins
+// the collection is done anew, and a step that ran out of memory gives its report when it is taken again.
+#[test]
+fn a_step_that_ran_out_of_memory_is_taken_again(rt: HostRuntime) -> Result<(), Fail> {
+    let mut session = begin_with_garbage(rt.alloc());
+    if session.is_none() {
+        session = begin_with_garbage(rt.alloc());
+    }
+    let mut session = session.ok_or("a collection")?;
+    let reported = collect_names(rt.alloc(), &mut session).ok_or("an end")?;
+    let (grays, freed) = ([Name::Cell(1)], [Name::Cell(0), Name::Cell(4)]);
+    assert_eq!(rt; reported.grays.as_slice(), grays.as_slice());
+    assert_eq!(rt; reported.freed.as_slice(), freed.as_slice());
     Ok(())
 }
