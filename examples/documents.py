@@ -16,6 +16,7 @@ PROGRAM = str(TOP / "crates/gczone/out/gczone")
 # What a command needs beside Python. It is not run when one of these is missing.
 NEEDS = {
     "./gczone run": [PROGRAM],
+    "./gczone storm": [PROGRAM],
     "tools/explain": [PROGRAM],
     "tools/draw": [PROGRAM, "dot"],
     "./gczone check": [PROGRAM],
