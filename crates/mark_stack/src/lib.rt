@@ -19,17 +19,21 @@
 // through them to tell whether black marking is over.
 //
 // A barrier runs inside reads and writes of a program, which have no answer for want of memory. So
-// memory comes first: `reserve` is called as an arena is made, and gives each pile room for the
-// arena's cells; after that a push can't fail. The room is a number that contracts see:
+// all memory is taken as the stack is made: each pile has room for 4,096 places, however large the
+// heap is. A list is followed with one place on the pile, but a wide object may have more on it than
+// that. `push` then answers false, and the caller keeps the cell in a mask of its arena until the
+// pile is empty (arena_table, `delay`), as SpiderMonkey delays the marking of arenas:
 //
-//     [ places on the pile | spare ]        room = places + spare, the same room for each pile
-//       first         last ^ push and pop are here
+//     pile, full     [ 0:3 | 0:4 | .. | 9:7 ]
+//     arena 9        slots delayed for it: 8, 9, 10       9:8, 9:9 and 9:10 are pending as well
 //
-// No pile is longer than the room, and each pile's memory holds at least the room. What this rules
-// out: with one count of spare places for all piles together, a push of gray could take the room
-// that a black push relies on, and the barrier would need memory in mid-read.
+// What this rules out: a stack that grows with the heap. A graph of any shape is marked in the same
+// room, and the cell that the pile has no room for is not lost.
+//
+// No contract says in which order places come back: what is pushed comes back once. A body takes the
+// last one.
 #![tactic(auto)]
 
 mod stack;
 
-pub use stack::{Pile, Stack};
+pub use stack::{PILE_LIMIT, Pile, Stack};

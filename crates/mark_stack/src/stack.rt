@@ -1,9 +1,14 @@
 // Three piles of places.
-ghost use Rattle.std.specs.Prelude.{◌≡◌, ◌≤◌, ◌<◌, ◌+◌, [], length, IfOk, IfSome, IfNone, OnOk, OnErr};
+ghost use Rattle.std.specs.Prelude.{◌≡◌, ◌<◌, ◌∷◌, [], length, IfOk, IfSome, IfNone, MatchBool};
+ghost use Rattle.std.specs.List.Sorted.{IsPermutation};
+ghost use Rattle.mark_stack.specs.Stack.{HasRoom};
 
 use gz_names::{NoMemory, Place};
 use std::alloc::{AllocError, Global};
 use std::marker::Model;
+
+/// How many places a pile holds at most.
+pub const PILE_LIMIT: usize = 4096;
 
 /// The piles of a mark stack.
 #[derive(Clone, Copy, Debug, PartialEq, Eq)]
@@ -22,72 +27,50 @@ pub struct Stack {
     black: Vec<Place>,
     gray: Vec<Place>,
     wake: Vec<Place>,
-    // How many places each pile can hold.
-    room: usize,
 }
 
 impl Model for Stack {
-    ghost use Rattle.std.specs.Prelude.{◌≤◌};
     ghost use Rattle.mark_stack.specs.Stack.{Piles, HasRoom};
 
     ghost Value = { Piles };
 
-    ghost view = { λ s. record {
-      black = s.black.items;
-      gray = s.gray.items;
-      wake = s.wake.items;
-      room = s.room;
-    } };
+    ghost view = { λ s. record { black = s.black.items; gray = s.gray.items; wake = s.wake.items } };
 
-    ghost invariant = { λ s. HasRoom s.black s.room × HasRoom s.gray s.room × HasRoom s.wake s.room };
+    ghost invariant = { λ s. HasRoom s.black × HasRoom s.gray × HasRoom s.wake };
 }
 
 impl Stack {
-    ghost use Rattle.mark_stack.specs.Stack.{Piles, pile_of, pushed};
+    ghost use Rattle.mark_stack.specs.Stack.{Piles, IsPushed, no_places, pile_of};
 
-    /// Empty piles with no room. All memory comes with `reserve`.
+    /// Empty piles, with all the memory that they ever take.
     pub fn new(alloc: Global) -> Result<Self, NoMemory>
-        ensures { IfOk result
-            (λ stack. stack ≡ record { black = []; gray = []; wake = []; room = 0 }) }
+        ensures { IfOk result (λ stack. stack ≡ no_places) }
     {
         Ok(Stack {
-            black: Vec::new(alloc),
-            gray: Vec::new(alloc),
-            wake: Vec::new(alloc),
-            room: 0,
+            black: new_pile(alloc)?,
+            gray: new_pile(alloc)?,
+            wake: new_pile(alloc)?,
         })
     }
 
-    /// Gives each pile room for so many places more, as an arena with so many cells is made.
+    /// Puts a place on a pile. False exactly where the pile is full, which is then as it was.
     #[inline(always)]
-    pub fn reserve(&mut self, cells: u64) -> Result<(), NoMemory>
-        ensures ok { OnOk result
-            (self.new ≡ record self.old { room = self.old.room + cells }) }
-        ensures err { OnErr result (self.new ≡ self.old) }
-    {
-        let room = self.room.checked_add(cells as usize).ok_or(AllocError)?;
-        self.black.reserve(room - self.black.len())?;
-        self.gray.reserve(room - self.gray.len())?;
-        self.wake.reserve(room - self.wake.len())?;
-        self.room = room;
-        Ok(())
-    }
-
-    /// Puts a place on a pile, which has spare room. It takes no memory.
-    pub fn push(&mut self, pile: Pile, place: Place)
-        requires { length (pile_of self.old pile) < self.old.room }
-        ensures { self.new ≡ pushed self.old pile place }
+    pub fn push(&mut self, pile: Pile, place: Place) -> bool
+        ensures { MatchBool result
+            ((length (pile_of self.old pile) < PILE_LIMIT) × IsPushed self.old pile place self.new)
+            ((length (pile_of self.old pile) ≡ PILE_LIMIT) × (self.new ≡ self.old)) }
     {
         match pile {
-            Pile::Black => self.black.push_reserved(place),
-            Pile::Gray => self.gray.push_reserved(place),
-            Pile::Wake => self.wake.push_reserved(place),
+            Pile::Black => push_onto(&mut self.black, place),
+            Pile::Gray => push_onto(&mut self.gray, place),
+            Pile::Wake => push_onto(&mut self.wake, place),
         }
     }
 
-    /// Takes the last place off a pile; `None` where the pile is empty.
+    /// Takes one of the places off a pile; `None` exactly where the pile is empty.
+    #[inline(always)]
     pub fn pop(&mut self, pile: Pile) -> Option<Place>
-        ensures some { IfSome result (λ place. self.old ≡ pushed self.new pile place) }
+        ensures some { IfSome result (λ place. IsPushed self.new pile place self.old) }
         ensures none { IfNone result ((pile_of self.old pile ≡ []) × (self.new ≡ self.old)) }
     {
         match pile {
@@ -96,18 +79,32 @@ impl Stack {
             Pile::Wake => self.wake.pop(),
         }
     }
+}
 
-    /// How many places more a pile has room for.
-    pub fn spare(&self, pile: Pile) -> u64
-        ensures { length (pile_of self.now pile) + result ≡ self.now.room }
-    {
-        let held = match pile {
-            Pile::Black => self.black.len(),
-            Pile::Gray => self.gray.len(),
-            Pile::Wake => self.wake.len(),
-        };
-        (self.room - held) as u64
+// An empty pile with its memory.
+fn new_pile(alloc: Global) -> Result<Vec<Place>, AllocError>
+    ensures empty { IfOk result (λ pile. pile.items ≡ []) }
+    ensures room { IfOk result HasRoom }
+{
+    let mut pile = Vec::new(alloc);
+    pile.reserve(PILE_LIMIT)?;
+    Ok(pile)
+}
+
+// Puts a place on top of a pile. False where the pile is full.
+#[inline(always)]
+fn push_onto(pile: &mut Vec<Place>, place: Place) -> bool
+    requires { HasRoom pile.old }
+    ensures pushed { MatchBool result
+        ((length pile.old.items < PILE_LIMIT) × IsPermutation (place ∷ pile.old.items) pile.new.items)
+        ((length pile.old.items ≡ PILE_LIMIT) × (pile.new.items ≡ pile.old.items)) }
+    ensures room { HasRoom pile.new }
+{
+    if pile.len() == PILE_LIMIT {
+        return false;
     }
+    pile.push_reserved(place);
+    true
 }
 
 #[cfg(test)]
@@ -116,23 +113,38 @@ mod tests {
     use std::test::Fail;
 
     #[test]
-    fn each_pile_has_its_room(rt: HostRuntime) -> Result<(), Fail> {
+    fn each_pile_gives_what_was_put_on_it(rt: HostRuntime) -> Result<(), Fail> {
         let mut stack = Stack::new(rt.alloc())?;
         let first = Place::new(0, 63).ok_or("place")?;
         let second = Place::new(1, 0).ok_or("place")?;
-        stack.reserve(2)?;
-        stack.push(Pile::Black, first);
-        stack.push(Pile::Black, second);
-        stack.push(Pile::Wake, second);
-        stack.reserve(64)?;
-        assert_eq!(rt; stack.spare(Pile::Black), 64);
-        assert_eq!(rt; stack.spare(Pile::Gray), 66);
-        assert_eq!(rt; stack.spare(Pile::Wake), 65);
-        assert_eq!(rt; stack.pop(Pile::Black), Some(second));
+        assert!(rt; stack.push(Pile::Black, first));
+        assert!(rt; stack.push(Pile::Wake, first));
+        assert!(rt; stack.push(Pile::Wake, second));
+        assert_eq!(rt; stack.pop(Pile::Gray), None);
         assert_eq!(rt; stack.pop(Pile::Black), Some(first));
         assert_eq!(rt; stack.pop(Pile::Black), None);
-        assert_eq!(rt; stack.pop(Pile::Gray), None);
         assert_eq!(rt; stack.pop(Pile::Wake), Some(second));
+        assert_eq!(rt; stack.pop(Pile::Wake), Some(first));
+        Ok(())
+    }
+
+    #[test]
+    fn a_full_pile_takes_no_place(rt: HostRuntime) -> Result<(), Fail> {
+        let mut stack = Stack::new(rt.alloc())?;
+        for arena in 0..4096 {
+            let place = Place::new(arena, 0).ok_or("place")?;
+            assert!(rt; stack.push(Pile::Gray, place));
+        }
+        let last = Place::new(4096, 0).ok_or("place")?;
+        assert!(rt; !stack.push(Pile::Gray, last));
+        assert!(rt; stack.push(Pile::Black, last));
+        let mut sum = 0u32;
+        for _ in 0..4096 {
+            let place = stack.pop(Pile::Gray).ok_or("one place more")?;
+            sum = sum.saturating_add(place.arena());
+        }
+        assert_eq!(rt; stack.pop(Pile::Gray), None);
+        assert_eq!(rt; sum, 4095 * 2048);
         Ok(())
     }
 }
