@@ -1,7 +1,7 @@
 -- What a change of one arena, or of some, does to all.
 use Rattle.std.proofs.Common.{◌≡◌, ◌≢◌, ◌<◌, ◌==◌, ◌&&◌, ℕ, zero, suc, Bool, true, false, not, if◌then◌else◌, List, []}
 use Rattle.std.proofs.Common.{◌∷◌, length, Option, Some, None, slice_get, All, option_map, refl, sym, ◌∙◌, ap, subst}
-use Rattle.std.proofs.Common.{arith}
+use Rattle.std.proofs.Common.{◌+◌, arith}
 use Rattle.std.proofs.lemmas.List.Elements.{All-nil, All-cons, All-head, All-tail}
 use Rattle.gz_names.specs.declared.numbers.Place.{Place}
 use Rattle.cell_bits.specs.declared.bits.Bits.{Bits}
@@ -11,6 +11,7 @@ use Rattle.arena_table.specs.Slots.{held_by, bit_of, is_out_at}
 use Rattle.arena_table.specs.Stored.{StoreState}
 use Rattle.arena_table.specs.Indexed.{IndexState, IsIndexed, IsOwnedBy, is_open, is_owned, in_zones}
 use Rattle.arena_table.specs.Placement.{place_from}
+use Rattle.arena_table.specs.Delayed.{AreCovered, DelayedSets}
 use Rattle.arena_table.specs.Table.{AreArenas, in_these}
 use Rattle.arena_table.specs.declared.arenas.Reserved.{Reserved}
 
@@ -150,15 +151,17 @@ like-out (x ∷ xs) (y ∷ ys) zero h = sym h.0.is_out
 like-out (x ∷ xs) (y ∷ ys) (suc a) h = like-out xs ys a h.1
 
 -- all that always holds, where only such arenas are changed
-pub AreArenas-like : (store changed : StoreState) (index : IndexState) (out : List ℕ) (made held : ℕ)
-    (reserved : Option Reserved) → AreArenas store index out made held reserved → AreLike store.arenas changed.arenas
-    → changed.room ≡ store.room → AreArenas changed index out made held reserved
-AreArenas-like store changed index out made held reserved h like room = record {
+pub AreArenas-like : (store changed : StoreState) (index : IndexState) (out : List ℕ) (delayed : DelayedSets)
+    (made held : ℕ) (reserved : Option Reserved) → AreArenas store index out delayed made held reserved
+    → AreLike store.arenas changed.arenas → changed.room ≡ store.room
+    → AreArenas changed index out delayed made held reserved
+AreArenas-like store changed index out delayed made held reserved h like room = record {
   indexed = IsIndexed-like store.arenas changed.arenas index like h.indexed;
   out_of = record {
     bits = λ a. h.out_of.bits a ∙ ap bit_of (like-out store.arenas changed.arenas a like);
     room = (let was = h.out_of.room in let long = like-length store.arenas changed.arenas like in omega arith);
   };
+  covered = subst (AreCovered delayed) (sym (like-length store.arenas changed.arenas like)) h.covered;
   few = h.few;
   counted = h.counted ∙ sym (like-held store.arenas changed.arenas like);
   fewer = h.fewer;
@@ -175,6 +178,8 @@ AreArenas-like store changed index out made held reserved h like room = record {
         });
     out_room = λ end. (let old = k.out_room (end ∙ like-length store.arenas changed.arenas like) in
         let long = like-length store.arenas changed.arenas like in omega arith);
+    covered = λ end. subst (λ n. AreCovered delayed (n + 1)) (sym (like-length store.arenas changed.arenas like))
+        (k.covered (end ∙ like-length store.arenas changed.arenas like));
   });
 }
 

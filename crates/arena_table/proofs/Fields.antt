@@ -1,6 +1,7 @@
 -- Lists of fields, of which a cell's kind says how many there are.
 use Rattle.std.proofs.Common.{◌≡◌, ◌≤◌, ℕ, zero, suc, List, [], ◌∷◌, set, take, map, replicate, refl, ◌∙◌, ap}
 use Rattle.std.proofs.lemmas.List.{take-replicate, map-set}
+use Rattle.arena_table.specs.Kinds.{AreNullFrom}
 
 pub map-replicate : {X Y : Type 0} (f : X → Y) (n : ℕ) (x : X) → map f (replicate n x) ≡ replicate n (f x)
 map-replicate f zero x = refl
@@ -21,3 +22,8 @@ map-take-replicate f m n x h = ap (map f) (take-replicate m n x h) ∙ map-repli
 pub map-take-set : {X Y : Type 0} (f : X → Y) (n : ℕ) (xs : List X) (i : ℕ) (y : X)
     → map f (take n (set xs i y)) ≡ set (map f (take n xs)) i (f y)
 map-take-set f n xs i y = ap (map f) (take-set_within n xs i y) ∙ map-set f (take n xs) i y
+
+-- no links
+pub AreNullFrom-none : (n : ℕ) → AreNullFrom n []
+AreNullFrom-none n zero le link e = absurd (cc)
+AreNullFrom-none n (suc f) le link e = absurd (cc)

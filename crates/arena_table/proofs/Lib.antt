@@ -14,6 +14,10 @@ pub mod CellsAt
 pub mod HandingOut
 pub mod Indexing
 pub mod Putting
+pub mod Reserving
 pub mod Visiting
 pub mod Outs
 pub mod Laws
+mod DelayedCells
+mod CellSets
+mod Covered

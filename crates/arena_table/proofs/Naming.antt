@@ -14,12 +14,20 @@ use Rattle.arena_table.specs.Slots.{Arena, at_bits, names_of, IsWithin, alloc_wo
 use Rattle.arena_table.specs.Stored.{arena_of, arenas_of, slots_of, AreStored}
 use Rattle.arena_table.specs.declared.cells.Cell.{Cell}
 use Rattle.arena_table.specs.declared.store.Head.{Head}
+use Rattle.arena_table.proofs.Fields.{AreNullFrom-none}
 use Rattle.arena_table.proofs.SlotBits.{alloc_word_of-slots_of}
 use Rattle.arena_table.proofs.Storing.{in_heads, length-chunk, no_head, slice_get-arenas_of}
 use Rattle.arena_table.proofs.AtBits.{at_bits-lowest, at_bits-zero, length-at_bits}
 
 abbrev pub no_cell : Cell
-no_cell = record { name = name.Cell 0; fields = []; kind = kind.Object 0; comp = record { 0 = 0 } }
+no_cell = record {
+  name = name.Cell 0;
+  fields = [];
+  kind = kind.Object 0;
+  comp = record { 0 = 0 };
+  few = omega arith;
+  null_past = AreNullFrom-none 0;
+}
 
 abbrev pub names_in : List Cell → List Name
 names_in cells = map (λ (c : Cell). c.name) cells

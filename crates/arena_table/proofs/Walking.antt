@@ -2,7 +2,7 @@
 use Rattle.std.proofs.Common.{◌≡◌, ◌≢◌, ◌<◌, ◌≤◌, ◌+◌, ◌*◌, ◌/◌, ◌%◌, ◌-◌, ◌^◌, bit_and, w64, ◌==◌, ◌↔◌, inl, inr, ℕ}
 use Rattle.std.proofs.Common.{zero, suc, Bool, true, false, cond, if◌then◌else◌, List, [], ◌∷◌, ◌++◌, All, length, drop}
 use Rattle.std.proofs.Common.{slice_get, slice_index, Option, Some, None, refl, sym, ◌∙◌, ap, subst, arith, eqb-true}
-use Rattle.std.proofs.Common.{eq-eqb}
+use Rattle.std.proofs.Common.{eq-eqb, IsSomeAnd}
 use Rattle.std.proofs.lemmas.Bool.{cases_eq}
 use Rattle.std.proofs.lemmas.Bool.Decides.{nat_tests}
 use Rattle.std.proofs.lemmas.Nat.Bits.{bit_at_lowest, bit_at-suc, bit_at-lt, bit_at-zero, bit_at_above}
@@ -14,6 +14,10 @@ use Rattle.std.specs.List.{range_with_len}
 use Rattle.gz_names.specs.Zones.{HasZone}
 use Rattle.arena_table.specs.Slots.{Arena, at_bits, bit_of}
 use Rattle.arena_table.specs.Indexed.{HasBit, words_at, IsOwnedBy, is_among, is_owned, in_zones, numbers_from}
+use Rattle.arena_table.specs.Stored.{IsHeadOf}
+use Rattle.arena_table.specs.Walks.{walk_rest}
+use Rattle.arena_table.specs.declared.store.Head.{Head}
+use Rattle.arena_table.specs.declared.walk.Walk.{Walk}
 use Rattle.arena_table.proofs.AtBits.{at_bits-zero, at_bits-lowest}
 use Rattle.arena_table.proofs.WordBits.{bit_at-shifted}
 
@@ -240,6 +244,25 @@ module _ (word : ℕ) (owned : List (List ℕ)) (arenas : List Arena) (h : IsOwn
       ∙ (ap (λ xs. at_bits (w / 2 ^ (from % 64)) (range_with_len from (64 - from % 64))
       ++ numbers_from word (64 * (from / 64 + 1)) xs)
       (sym (drop-drop from (64 - from % 64) (64 * (from / 64 + 1)) arenas after)) ∙ block)
+
+-- a walk that has none left of its word
+pub walk-no_left : (arenas : List Arena) (walk : Walk) → walk.left ≡ 0
+    → walk_rest arenas walk ≡ numbers_from walk.zones.bits (64 * walk.at) (drop (64 * walk.at) arenas)
+walk-no_left arenas walk none =
+    let after = numbers_from walk.zones.bits (64 * walk.at) (drop (64 * walk.at) arenas) in
+    ap (λ w. at_bits w (range_with_len walk.base 64) ++ after) none
+    ∙ ap (λ ys. ys ++ after) (at_bits-zero (range_with_len walk.base 64))
+
+-- an arena is told by its head
+pub among-of_head : (word a : ℕ) (arenas : List Arena) (head : Head)
+    → IsSomeAnd (slice_get arenas a) (λ x. IsHeadOf x head) → HasZone word head.zone
+    → is_among word (slice_get arenas a) ≡ true
+unfolding HasZone
+among-of_head word a arenas head h has = by (slice_get arenas a) h
+  where
+    by : (o : Option Arena) → IsSomeAnd o (λ x. IsHeadOf x head) → is_among word o ≡ true
+    by None none = absurd none
+    by (Some x) is = eq-eqb _ _ (ap (bit_at word) is.zone ∙ has.1)
 
 -- the next arena of the walk
 pub walk-step : (word left base n : ℕ) (arenas : List Arena) → left ≢ 0 → left < 2 ^ 64

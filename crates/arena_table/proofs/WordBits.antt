@@ -63,7 +63,7 @@ arena_bit-clear ws i j h =
     (λ k lt n. bit_at_clear_other w64 w (i % 64) below k lt n)
 
 -- a word that is 0, put at the end, changes nothing
-get_or-push_zero : (ws : List ℕ) (k : ℕ) → get_or (ws ++ 0 ∷ []) k 0 ≡ get_or ws k 0
+pub get_or-push_zero : (ws : List ℕ) (k : ℕ) → get_or (ws ++ 0 ∷ []) k 0 ≡ get_or ws k 0
 get_or-push_zero [] zero = refl
 get_or-push_zero [] (suc k) = refl
 get_or-push_zero (w ∷ ws) zero = refl

@@ -1,12 +1,12 @@
 -- What a cell is, and how its fields are kept.
 use Rattle.std.specs.Prelude.{ℕ, zero, suc, ◌/◌, ◌%◌, List, Option, Some, None, map, take, slice_get, slice_set}
 use Rattle.gz_names.specs.declared.commands.Kind.{Kind}
-use Rattle.gz_names.specs.declared.commands.Kind.TheVariants.{Object, Map, Wrapper}
 use Rattle.gz_names.specs.declared.names.Name.{Name}
 use Rattle.gz_names.specs.declared.numbers.CompNo.{CompNo}
 use Rattle.gz_names.specs.declared.numbers.Place.{Place}
 use Rattle.arena_table.specs.declared.cells.Link.{Link}
 use Rattle.arena_table.specs.declared.cells.Cell.{Cell}
+pub use Rattle.arena_table.specs.Kinds.{field_count}
 
 -- a cell: its kind, its compartment, its name, and what its fields hold
 pub record CellState : Type 0 where
@@ -14,12 +14,6 @@ pub record CellState : Type 0 where
   pub comp : CompNo
   pub name : Name
   pub fields : List (Option Place)
-
--- how many fields a cell of a kind has: a weak map has none, a wrapper has its target
-abbrev pub field_count : Kind → ℕ
-field_count (Object n) = n
-field_count Map = 0
-field_count Wrapper = 1
 
 -- what a field holds; nothing where there is no such field
 abbrev pub joined : Option (Option Place) → Option Place

@@ -1,8 +1,10 @@
 pub mod Sets
+pub mod Kinds
 pub mod Cells
 pub mod Slots
 pub mod Stored
 pub mod Indexed
 pub mod Walks
 pub mod Placement
+pub mod Delayed
 pub mod Table

@@ -1,5 +1,5 @@
 -- The arenas of all zones, as callers see them.
-use Rattle.std.specs.Prelude.{◌≡◌, ◌<◌, ◌≤◌, ◌*◌, ◌==◌, ◌&&◌, ℕ, suc, Bool, true, false, List, [], ◌∷◌, ◌++◌, Option}
+use Rattle.std.specs.Prelude.{◌≡◌, ◌+◌, ◌<◌, ◌≤◌, ◌*◌, ◌==◌, ℕ, suc, true, false, List, [], ◌∷◌, ◌++◌, Option}
 use Rattle.std.specs.Prelude.{None, length, map, replicate, All, if◌then◌else◌}
 use Rattle.std.specs.Option.{ForSome}
 use Rattle.gz_names.specs.declared.commands.Kind.{Kind}
@@ -11,24 +11,25 @@ use Rattle.cell_bits.specs.declared.jobs.Job.{Job}
 use Rattle.arena_table.specs.Cells.{CellState, field_count}
 use Rattle.arena_table.specs.Slots.{Arena, change_at, empty_arena, with_cell, alloc_word_of, held_by, bit_of, is_out_at}
 use Rattle.arena_table.specs.Sets.{arena_bit}
+use Rattle.mark_stack.specs.Stack.{Piles}
+use Rattle.arena_table.specs.Delayed.{AreCovered, DelayedSets}
 use Rattle.arena_table.specs.Stored.{StoreState}
 use Rattle.arena_table.specs.Indexed.{IndexState, IsIndexed, words_at, in_zones}
 use Rattle.arena_table.specs.Placement.{place_for}
 use Rattle.arena_table.specs.declared.arenas.Reserved.{Reserved}
+pub use Rattle.arena_table.specs.Slots.{is_place}
 
--- all arenas by number, how many cells were ever put, and the place that is kept for a cell
+-- all arenas by number, how many cells were ever put, the place that is kept for a cell, and the places that are
+-- delayed for each pile
 pub record ArenasState : Type 0 where
   pub arenas : List Arena
   pub made : ℕ
   pub reserved : Option Reserved
+  pub delayed : Piles
 
 -- a cell whose fields are null
 abbrev pub new_cell : Kind → CompNo → Name → CellState
 new_cell kind comp name = record { kind = kind; comp = comp; name = name; fields = replicate (field_count kind) None }
-
--- whether two places are the same
-abbrev pub is_place : Place → Place → Bool
-is_place p q = (p.0 == q.0) && (p.1 == q.1)
 
 -- an arena of the zone is made, where the number is that of the next
 abbrev pub grown_to : List Arena → ℕ → ℕ → List Arena
@@ -70,19 +71,22 @@ pub record AreOut (arenas : List Arena) (words : List ℕ) : Type 0 where
   pub room : length arenas ≤ 64 * length words
 
 -- a place is kept for a cell of a zone: where it is the first of a new arena, there is room for that
-pub record IsReserved (store : StoreState) (index : IndexState) (out : List ℕ) (made : ℕ) (r : Reserved) : Type 0 where
+pub record IsReserved (store : StoreState) (index : IndexState) (out : List ℕ) (delayed : DelayedSets) (made : ℕ)
+    (r : Reserved) : Type 0 where
   pub zone : r.zone < 64
   pub place : r.place ≡ place_for store.arenas r.zone
   pub few : made < 4294967295
   pub room : r.place.0 ≡ length store.arenas → HasRoom store index r.zone
   pub out_room : r.place.0 ≡ length store.arenas → length store.arenas < 64 * length out
+  pub covered : r.place.0 ≡ length store.arenas → AreCovered delayed (length store.arenas + 1)
 
 -- what always holds
-pub record AreArenas (store : StoreState) (index : IndexState) (out : List ℕ) (made held : ℕ)
+pub record AreArenas (store : StoreState) (index : IndexState) (out : List ℕ) (delayed : DelayedSets) (made held : ℕ)
     (reserved : Option Reserved) : Type 0 where
   pub indexed : IsIndexed store.arenas index
   pub out_of : AreOut store.arenas out
+  pub covered : AreCovered delayed (length store.arenas)
   pub few : made ≤ 4294967295
   pub counted : held ≡ held_by store.arenas
   pub fewer : held ≤ made
-  pub kept : ForSome reserved (IsReserved store index out made)
+  pub kept : ForSome reserved (IsReserved store index out delayed made)

@@ -1,6 +1,7 @@
 // The arenas of all zones.
 ghost use Rattle.std.specs.Prelude.{◌≡◌, ◌≢◌, ◌≤◌, ◌<◌, ◌+◌, ◌*◌, ◌==◌, ◌&&◌, [], ℕ, Bool, true, false, IsSome};
-ghost use Rattle.std.specs.Prelude.{IsSomeAnd, Some, None, length, replicate, slice_get, slice_set, IfOk, OnOk, OnErr};
+ghost use Rattle.std.specs.Prelude.{IsSomeAnd, Some, None, Contains, length, replicate, slice_get, slice_set, IfOk};
+ghost use Rattle.std.specs.Prelude.{OnOk, OnErr};
 ghost use Rattle.std.specs.Prelude.{IfSome, IfNone, is_some, if◌then◌else◌};
 ghost use Rattle.std.specs.Int.{bit_at};
 ghost use Rattle.std.specs.Option.{ForSome, option_map};
@@ -12,18 +13,25 @@ ghost use Rattle.arena_table.specs.Slots.{with_field};
 ghost use Rattle.arena_table.specs.Sets.{arena_bit};
 ghost use Rattle.arena_table.specs.Indexed.{IsIndexed, IsOwnedBy, is_among, is_open, words_at};
 ghost use Rattle.arena_table.specs.Placement.{place_for};
+ghost use Rattle.arena_table.specs.Delayed.{AreCovered, IsAsRoomy, delayed_of};
+ghost use Rattle.mark_stack.specs.Stack.{IsPushed, no_places, pile_of};
 ghost use Rattle.arena_table.specs.Table.{AreIn, AreOut, HasRoom, grown_to, new_cell, in_these, jobs_from, no_bits};
 ghost use Rattle.arena_table.specs.Table.{put_at, is_place};
 
 use crate::arena_sets::ArenaSet;
 use crate::cells::{ARENA_LIMIT, Cell};
+use crate::delayed::Delayed;
 use crate::index::Index;
 use crate::store::Store;
 use crate::walk::Walk;
 use cell_bits::{Bits, Job};
 use gz_names::{CompNo, Kind, Name, Names64, NoMemory, Place, ZoneNo, ZoneSet};
+use mark_stack::Pile;
 use std::alloc::{AllocError, Global};
 use std::marker::Model;
+
+// For so many jobs at most memory is taken before they are listed.
+const JOBS_AHEAD: usize = 256;
 
 /// A place that is kept for a cell of a zone.
 #[derive(Clone, Copy, Debug, PartialEq, Eq)]
@@ -69,19 +77,26 @@ pub struct Arenas {
     index: Index,
     // Those that are handed to sweeping.
     out: ArenaSet,
+    delayed: Delayed,
     made: u64,
     held: u64,
     reserved: Option<Reserved>,
 }
 
 impl Model for Arenas {
+    ghost use Rattle.arena_table.specs.Delayed.{delayed_of};
     ghost use Rattle.arena_table.specs.Table.{ArenasState, AreArenas};
 
     ghost Value = { ArenasState };
 
-    ghost view = { λ a. record { arenas = a.store.arenas; made = a.made; reserved = a.reserved } };
+    ghost view = { λ a. record {
+      arenas = a.store.arenas;
+      made = a.made;
+      reserved = a.reserved;
+      delayed = delayed_of a.delayed;
+    } };
 
-    ghost invariant = { λ a. AreArenas a.store a.index a.out a.made a.held a.reserved };
+    ghost invariant = { λ a. AreArenas a.store a.index a.out a.delayed a.made a.held a.reserved };
 }
 
 impl Arenas {
@@ -90,13 +105,15 @@ impl Arenas {
     /// No arenas.
     pub fn new(alloc: Global) -> Result<Self, NoMemory>
         ensures { IfOk result
-            (λ arenas. arenas ≡ record { arenas = []; made = 0; reserved = None }) }
+            (λ arenas. arenas
+            ≡ record { arenas = []; made = 0; reserved = None; delayed = no_places }) }
     {
         let index = Index::new(alloc)?;
         Ok(Arenas {
             store: Store::new(alloc),
             index,
             out: ArenaSet::new(alloc),
+            delayed: Delayed::new(alloc),
             made: 0,
             held: 0,
             reserved: None,
@@ -117,7 +134,13 @@ impl Arenas {
     {
         let place = match find_place(&self.store, &self.index, zone) {
             Some(place) => place,
-            None => make_room(&mut self.store, &mut self.index, &mut self.out, zone)?,
+            None => make_room(
+                &mut self.store,
+                &mut self.index,
+                &mut self.out,
+                &mut self.delayed,
+                zone,
+            )?,
         };
         self.reserved = Some(Reserved { zone, place });
         Ok(place)
@@ -138,7 +161,7 @@ impl Arenas {
     pub fn put_cell(&mut self, place: Place, kind: Kind, comp: CompNo, name: Name)
         requires reserved { option_map (λ r. r.place) self.old.reserved ≡ Some place }
         requires fields { field_count kind ≤ 8 }
-        ensures put { IfSome self.old.reserved (λ r. self.new ≡ record {
+        ensures put { IfSome self.old.reserved (λ r. self.new ≡ record self.old {
           arenas = put_at self.old.arenas r.zone place (new_cell kind comp name);
           made = self.old.made + 1;
           reserved = None;
@@ -268,6 +291,14 @@ impl Arenas {
         }
     }
 
+    /// Whether the arena of a place, which was made, is handed to sweeping.
+    pub fn is_place_out(&self, place: Place) -> bool
+        requires { place.0 < length self.now.arenas }
+        ensures { result ≡ is_out_at self.now.arenas place.0 }
+    {
+        self.store.head(place.arena() as usize).is_out
+    }
+
     /// The lowest arena that is handed to sweeping. It walks over no arenas.
     pub fn first_out(&self) -> Option<u32>
         ensures out { IfSome result (λ arena. is_out_at self.now.arenas arena ≡ true) }
@@ -288,8 +319,12 @@ impl Arenas {
         ensures none { IfNone result ((other : ℕ) → from ≤ other
             → is_among zones.bits (slice_get self.now.arenas other) ≡ false) }
     {
-        let mut walk = Walk::starting_at(&self.index, zones, from as usize);
-        let arena = walk.next(&self.index)?;
+        // Mostly it is that arena itself, which its head tells without a look at the sets.
+        if is_in_zones(&self.store, zones, from as usize) {
+            return Some(from);
+        }
+        let walk = Walk::starting_at(&self.index, zones, from as usize);
+        let arena = walk.first(&self.index)?;
         prove!(arena < self.store.len());
         Some(arena as u32)
     }
@@ -317,6 +352,28 @@ impl Arenas {
         self.out.remove(arena);
         self.held -= names.len() as u64;
         self.reserved = None;
+    }
+
+    /// A cell for which a pile of the mark stack has no room is delayed for it.
+    pub fn delay(&mut self, pile: Pile, place: Place)
+        requires made { place.0 < length self.old.arenas }
+        requires fresh { Contains (pile_of self.old.delayed pile) place → ⊥ }
+        ensures more { IsPushed self.old.delayed pile place self.new.delayed }
+        ensures rest { self.new ≡ record self.old { delayed = self.new.delayed } }
+    {
+        self.delayed.insert(pile, place);
+    }
+
+    /// Takes a cell that is delayed for a pile; `None` exactly where none is. It costs what it finds.
+    #[inline(always)]
+    pub fn next_delayed(&mut self, pile: Pile) -> Option<Place>
+        ensures some { IfSome result
+            (λ place. IsPushed self.new.delayed pile place self.old.delayed) }
+        ensures none { IfNone result
+            ((pile_of self.old.delayed pile ≡ []) × (self.new ≡ self.old)) }
+        ensures rest { self.new ≡ record self.old { delayed = self.new.delayed } }
+    {
+        self.delayed.take(pile)
     }
 
     /// How many cells were ever put.
@@ -395,6 +452,7 @@ fn make_room(
     store: &mut Store,
     index: &mut Index,
     out: &mut ArenaSet,
+    delayed: &mut Delayed,
     zone: ZoneNo,
 ) -> Result<Place, NoMemory>
     requires { IsIndexed store.old.arenas index.old }
@@ -403,6 +461,9 @@ fn make_room(
     ensures arenas { store.new.arenas ≡ store.old.arenas }
     ensures indexed { IsIndexed store.new.arenas index.new }
     ensures kept { (z : ℕ) → HasRoom store.old index.old z → HasRoom store.new index.new z }
+    ensures covered { OnOk result (AreCovered delayed.new (length store.old.arenas + 1)) }
+    ensures covered_kept { IsAsRoomy delayed.old delayed.new }
+    ensures delayed_same { delayed_of delayed.new ≡ delayed_of delayed.old }
     ensures out_room { OnOk result (length store.old.arenas < 64 * length out.new) }
     ensures out_kept { length out.old ≤ length out.new }
     ensures out_same { (a : ℕ) → arena_bit out.new a ≡ arena_bit out.old a }
@@ -414,6 +475,7 @@ fn make_room(
     store.reserve()?;
     index.cover(zone, arena + 1)?;
     out.cover(arena + 1)?;
+    delayed.cover(arena + 1)?;
     Place::new(arena as u32, 0).ok_or(AllocError)
 }
 
@@ -458,6 +520,14 @@ fn put_in_arena(store: &mut Store, index: &mut Index, zone: ZoneNo, place: Place
     }
 }
 
+// Whether an arena that was made is one of these zones.
+#[inline(always)]
+fn is_in_zones(store: &Store, zones: ZoneSet, arena: usize) -> bool
+    ensures { result ≡ true → is_among zones.bits (slice_get store.now.arenas arena) ≡ true }
+{
+    arena < store.len() && zones.contains(store.head(arena).zone)
+}
+
 // What of these zones is handed to sweeping.
 fn jobs_in_zones(
     alloc: Global,
@@ -468,7 +538,7 @@ fn jobs_in_zones(
     requires { IsOwnedBy store.now.arenas index.now.owned }
     ensures { IfOk result (λ jobs. jobs.items ≡ jobs_from zones.bits 0 store.now.arenas) }
 {
-    let mut jobs = Vec::new(alloc);
+    let mut jobs = Vec::with_capacity(alloc, store.len().min(JOBS_AHEAD))?;
     let mut walk = Walk::over(zones);
     while let Some(arena) = walk.next(index) {
         let head = store.head(arena);

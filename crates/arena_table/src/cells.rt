@@ -1,7 +1,7 @@
 // Cells as they are kept.
 ghost use Rattle.std.specs.Prelude.{◌≡◌, ◌≤◌, ◌<◌, ◌+◌, ◌*◌, ◌-◌, ◌^◌, ℕ, None, replicate, slice_set, length};
 ghost use Rattle.std.specs.Option.{ForSome};
-ghost use Rattle.arena_table.specs.Cells.{CellState, field_count, field_of, place_at, state_of};
+ghost use Rattle.arena_table.specs.Kinds.{AreNullFrom, field_count};
 
 use gz_names::{CompNo, Kind, Name, Place};
 
@@ -16,13 +16,15 @@ pub(crate) struct Link {
     pub position: u32,
 }
 
-/// A cell as it is kept, in 56 bytes.
+/// A cell as it is kept, in 56 bytes. Links past the fields that its kind has are null.
 #[derive(Clone, Copy)]
 pub(crate) struct Cell {
     pub name: Name,
     pub fields: [Link; 8],
     pub kind: Kind,
     pub comp: CompNo,
+    ghost few: { field_count kind ≤ 8 },
+    ghost null_past: { AreNullFrom (field_count kind) fields },
 }
 
 /// What stands in a slot that holds no cell.
@@ -34,6 +36,8 @@ pub(crate) const NO_CELL: Cell = Cell {
 };
 
 impl Link {
+    ghost use Rattle.arena_table.specs.Cells.{place_at};
+
     /// The link to a cell, or null.
     pub fn to(value: Option<Place>) -> Self
         requires { ForSome value (λ place. place.0 < ARENA_LIMIT) }
@@ -71,6 +75,8 @@ pub(crate) fn fields_of(kind: Kind) -> u8
 }
 
 impl Cell {
+    ghost use Rattle.arena_table.specs.Cells.{CellState, field_of, state_of};
+
     /// A cell whose fields are null.
     pub fn new(kind: Kind, comp: CompNo, name: Name) -> Self
         requires { field_count kind ≤ 8 }
@@ -93,11 +99,7 @@ impl Cell {
     pub fn field(&self, f: u8) -> Option<Place>
         ensures { result ≡ field_of (state_of self.now) f }
     {
-        // A link that is null is told by one look, so the kind comes second.
-        match self.fields.get(f as usize) {
-            Some(link) if link.position != 0 && f < fields_of(self.kind) => link.place(),
-            _ => None,
-        }
+        self.fields.get(f as usize)?.place()
     }
 
     /// How many fields the cell has.
@@ -105,6 +107,7 @@ impl Cell {
         ensures count { result ≡ length (state_of self.now).fields }
         ensures most { result ≤ 8 }
     {
+        // With the bound in sight the compiler drops the test of each index.
         fields_of(self.kind).min(8)
     }
 

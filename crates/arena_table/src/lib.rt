@@ -10,7 +10,7 @@
 //     heads     [ 0 | 1 | 2 | .. ]    32 bytes an arena: the word of its allocated slots, its two
 //                                     words of mark bits, its zone, whether it is out
 //     chunks    [ 0 | 1 | 2 | .. ]    64 cells of 56 bytes: name, kind, compartment, 8 fields of
-//                                     four bytes
+//                                     four bytes, null past those that the cell has
 //
 // A slot has a cell where its bit of the allocation word is set; what a free slot's memory holds says
 // nothing. So freeing the white cells of an arena is one step on a word:
@@ -34,6 +34,20 @@
 // One such set more, over all zones, has the arenas that are out: sweeping takes in its lowest. So what
 // a walk costs depends on the arenas of its zones, and not on those of other zones.
 //
+// The piles of the mark stack have fixed room (mark_stack). A cell for which a pile has none is *delayed*:
+// the bit of its slot is set in a mask of its arena, of which each arena has one a pile. Again a set has
+// the arenas whose mask is not 0, so a delayed cell is found without a walk over the others, and how many
+// there are is counted, so that a look at an empty set is one look at a number:
+//
+//     masks of a pile    [0][0][0 1 1 0 ..][0]     slots 1 and 2 of arena 2
+//     arenas             [0 0 1 0 ..]              whose mask is not 0
+//     count              2
+//
+// The masks take their memory with the arena, and lie apart from the heads, since they are looked at only
+// where a pile was full or is empty. They are seen as three lists of places, as the piles are: what waits
+// is what is on the pile and what is delayed for it. A bit may stand while its arena goes out and comes in;
+// that marking leaves none there is its own rule, not the table's.
+//
 // A cell is made in two steps. `reserve_place` takes all memory that it needs, or leaves the table as
 // it was, and keeps the place; `put_cell` then can't fail. In between come other reservations of the
 // heap, as room on the mark stack, and where one of them fails nothing was made. A kept place lasts
@@ -50,6 +64,7 @@
 mod arena_sets;
 mod arenas;
 mod cells;
+mod delayed;
 mod index;
 mod store;
 #[cfg(test)]

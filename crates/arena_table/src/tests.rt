@@ -1,6 +1,7 @@
 use crate::Arenas;
 use cell_bits::{Bits, Job};
 use gz_names::{CompNo, Kind, Name, Names64, Place, ZoneNo, ZoneSet};
+use mark_stack::Pile;
 use std::test::Fail;
 
 #[test]
@@ -83,5 +84,20 @@ fn a_cell_and_its_arena_are_read_and_written(rt: HostRuntime) -> Result<(), Fail
     assert_eq!(rt; arenas.bits(0), bits);
     arenas.clear_bits(ZoneSet { bits: 32 });
     assert_eq!(rt; arenas.bits(0), Bits { black: 0, gob: 0 });
+    Ok(())
+}
+
+#[test]
+fn a_delayed_cell_is_given_back_once(rt: HostRuntime) -> Result<(), Fail> {
+    let mut arenas = Arenas::new(rt.alloc())?;
+    let zone = ZoneNo::new(0).ok_or("zone")?;
+    let place = arenas.reserve_place(zone)?;
+    arenas.put_cell(place, Kind::Map, CompNo(0), Name::Cell(0));
+    assert!(rt; place.arena() < arenas.arenas());
+    arenas.delay(Pile::Black, place);
+    assert_eq!(rt; arenas.next_delayed(Pile::Wake), None);
+    assert_eq!(rt; arenas.next_delayed(Pile::Black), Some(place));
+    assert_eq!(rt; arenas.next_delayed(Pile::Black), None);
+    assert_eq!(rt; arenas.next_delayed(Pile::Gray), None);
     Ok(())
 }

@@ -1,5 +1,5 @@
 // A walk over the arenas of a set of zones.
-ghost use Rattle.std.specs.Prelude.{◌≡◌, ◌≤◌, ◌<◌, ◌∷◌, ◌^◌, [], ℕ, drop, IfSome, IfNone};
+ghost use Rattle.std.specs.Prelude.{◌≡◌, ◌≤◌, ◌<◌, ◌*◌, ◌∷◌, ◌^◌, [], ℕ, List, drop, IfSome, IfNone};
 ghost use Rattle.arena_table.specs.Indexed.{IsOwnedBy, numbers_from};
 ghost use Rattle.arena_table.specs.Walks.{walk_rest};
 
@@ -65,4 +65,37 @@ impl Walk {
         self.left &= self.left - 1;
         Some(self.base + slot)
     }
+
+    /// The next arena, where the walk goes no further.
+    #[inline(always)]
+    pub fn first(self, index: &Index) -> Option<usize>
+        requires below { (self.base ≤ 2 ^ 32) × (self.at ≤ 2 ^ 26) }
+        ensures some { IfSome result (λ arena. (arenas : _) → IsOwnedBy arenas index.now.owned
+            → (rest : List ℕ) × (walk_rest arenas self ≡ arena ∷ rest)) }
+        ensures none { IfNone result ((arenas : _) → IsOwnedBy arenas index.now.owned
+            → walk_rest arenas self ≡ []) }
+    {
+        if self.left == 0 {
+            return first_of_words(index, self.zones, self.at);
+        }
+        Some(self.base + self.left.trailing_zeros() as usize)
+    }
+}
+
+// The lowest arena of these zones from a word on.
+#[inline(never)]
+fn first_of_words(index: &Index, zones: ZoneSet, at: usize) -> Option<usize>
+    requires { at ≤ 2 ^ 26 }
+    ensures some { IfSome result (λ arena. (arenas : _) → IsOwnedBy arenas index.now.owned
+        → (rest : List ℕ) × (numbers_from zones.bits (64 * at) (drop (64 * at) arenas) ≡ arena ∷ rest)) }
+    ensures none { IfNone result ((arenas : _) → IsOwnedBy arenas index.now.owned
+        → numbers_from zones.bits (64 * at) (drop (64 * at) arenas) ≡ []) }
+{
+    let mut walk = Walk {
+        zones,
+        left: 0,
+        base: 0,
+        at,
+    };
+    walk.next(index)
 }

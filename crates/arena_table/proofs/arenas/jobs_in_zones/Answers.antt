@@ -2,8 +2,8 @@ use Rattle.arena_table.proofs.Visiting.{IsListing-first, IsListing-next}
 use Rattle.arena_table.proofs.arenas.jobs_in_zones.Goals as goal
 
 pub loop-arena-init : goal.loop-arena-init
-loop-arena-init c = IsListing-first c.args.store.now.arenas c.args.zones.bits c.new-jobs.result.items c.over-walk.result
-    c.new-jobs.ensures.items (c.over-walk.ensures.rest c.args.store.now.arenas) c.over-walk.ensures.below
+loop-arena-init c = IsListing-first c.args.store.now.arenas c.args.zones.bits c.in_ok-jobs.jobs.items c.over-walk.result
+    c.in_ok-jobs.ensures.items (c.over-walk.ensures.rest c.args.store.now.arenas) c.over-walk.ensures.below
 
 pub loop-arena-preserved : goal.loop-arena-preserved
 loop-arena-preserved c =

@@ -1,4 +1,6 @@
-use Rattle.std.proofs.Common.{◌∙◌, ap, sym}
+use Rattle.std.proofs.Common.{◌∙◌, ap, length, sym}
+use Rattle.std.proofs.lemmas.List.{length-map}
+use Rattle.arena_table.proofs.Covered.{covered-same}
 use Rattle.arena_table.specs.Slots.{cell_at}
 use Rattle.arena_table.specs.Table.{ArenasState}
 use Rattle.arena_table.proofs.CellsAt.{cell_at-handed}
@@ -11,6 +13,9 @@ invariant_of-self c = record {
       c.close_all.new.self c.args.zones.bits c.self.invariant.indexed c.send_out.ensures.arenas
       c.close_all.ensures.owned c.close_all.ensures.bits c.close_all.ensures.room c.close_all.ensures.others;
   out_of = c.send_out.ensures.out;
+  covered = covered-same c.self.inside.delayed (length c.send_out.new.store.arenas)
+      (length c.self.inside.store.arenas)
+      (ap length c.send_out.ensures.arenas ∙ length-map c.self.inside.store.arenas _) c.self.invariant.covered;
   few = c.self.invariant.few;
   counted = c.self.invariant.counted
       ∙ sym (held_by-out c.args.zones.bits c.self.inside.store.arenas c.send_out.new.store.arenas

@@ -7,6 +7,7 @@ pub invariant_of-result : goal.invariant_of-result
 invariant_of-result c = record {
   indexed = IsIndexed-none c.new-2.result.arenas c.in_ok-index.index c.new-2.ensures c.in_ok-index.ensures;
   out_of = AreOut-none c.new-2.result.arenas c.new-3.result c.new-2.ensures c.new-3.ensures;
+  covered = rw c.new-2.ensures c.new-4.ensures.covered;
   few = omega arith;
   counted = rw c.new-2.ensures refl;
   fewer = omega arith;

@@ -13,20 +13,23 @@ returns-in_err-arena-clause-none c =
 pub returns-clause-among : goal.returns-clause-among
 returns-clause-among c =
     let owned = c.self.invariant.indexed.owned in
-    let found = next-found c.args.zones.bits c.args.from c.in_ok-arena.arena c.self.inside.store.arenas _
-    (sym (c.starting_at-walk.ensures.rest _ owned) ∙ c.in_ok-arena.ensures.some _ owned) in
+    let first = c.in_ok-arena.ensures.some c.self.inside.store.arenas owned in
+    let found = next-found c.args.zones.bits c.args.from c.in_ok-arena.arena c.self.inside.store.arenas first.0
+    (sym (c.starting_at-walk.ensures.rest _ owned) ∙ first.1) in
     rw (← ap (λ (s : ArenasState). s.arenas) c.self.view_is) (found.on, found.among)
 
 pub returns-clause-lowest : goal.returns-clause-lowest
 returns-clause-lowest c =
     let owned = c.self.invariant.indexed.owned in
-    let found = next-found c.args.zones.bits c.args.from c.in_ok-arena.arena c.self.inside.store.arenas _
-    (sym (c.starting_at-walk.ensures.rest _ owned) ∙ c.in_ok-arena.ensures.some _ owned) in
+    let first = c.in_ok-arena.ensures.some c.self.inside.store.arenas owned in
+    let found = next-found c.args.zones.bits c.args.from c.in_ok-arena.arena c.self.inside.store.arenas first.0
+    (sym (c.starting_at-walk.ensures.rest _ owned) ∙ first.1) in
     rw (← ap (λ (s : ArenasState). s.arenas) c.self.view_is) found.lowest
 
 pub prove-unreachable-requires : goal.prove-unreachable-requires
 prove-unreachable-requires c =
     let owned = c.self.invariant.indexed.owned in
-    let found = next-found c.args.zones.bits c.args.from c.in_ok-arena.arena c.self.inside.store.arenas _
-    (sym (c.starting_at-walk.ensures.rest _ owned) ∙ c.in_ok-arena.ensures.some _ owned) in
+    let first = c.in_ok-arena.ensures.some c.self.inside.store.arenas owned in
+    let found = next-found c.args.zones.bits c.args.from c.in_ok-arena.arena c.self.inside.store.arenas first.0
+    (sym (c.starting_at-walk.ensures.rest _ owned) ∙ first.1) in
     omega (arith, found.within, c.len.ensures.value, c.if-prove.true)

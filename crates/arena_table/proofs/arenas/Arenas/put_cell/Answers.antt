@@ -6,6 +6,7 @@ use Rattle.arena_table.specs.Table.{ArenasState, new_cell, is_place}
 use Rattle.arena_table.proofs.Putting.{grown-within, grown-slot, held_by-put, kept-place}
 use Rattle.arena_table.proofs.CellsAt.{cell_at-put}
 use Rattle.arena_table.proofs.Outs.{AreOut-put}
+use Rattle.arena_table.proofs.Covered.{covered-put}
 use Rattle.arena_table.proofs.arenas.Arenas.put_cell.Goals as goal
 
 pub invariant_of-self : goal.invariant_of-self
@@ -25,6 +26,9 @@ invariant_of-self c =
       out_of = AreOut-put c.self.inside.store.arenas c.put_in_zone.new.store.arenas c.self.inside.out
           c.in-Some.reserved.zone c.args.place (state_of c.new-cell.result) c.self.invariant.out_of
           c.put_in_zone.ensures.arenas (λ end. kept.out_room (sym (ap (λ (p : Place). p.0) placed) ∙ end));
+      covered = covered-put c.self.inside.delayed c.self.inside.store.arenas c.put_in_zone.new.store.arenas
+          c.in-Some.reserved.zone c.args.place (state_of c.new-cell.result) c.self.invariant.covered
+          (λ end. kept.covered (sym (ap (λ (p : Place). p.0) placed) ∙ end)) c.put_in_zone.ensures.arenas;
       few = omega arith;
       counted = omega arith;
       fewer = omega arith;

@@ -8,7 +8,7 @@ use Rattle.arena_table.proofs.arenas.Arenas.set_field.Goals as goal
 
 pub invariant_of-self : goal.invariant_of-self
 invariant_of-self c = AreArenas-like c.self.inside.store c.set_field.new.self c.self.inside.index c.self.inside.out
-    c.self.inside.made c.self.inside.held c.self.inside.reserved c.self.invariant
+    c.self.inside.delayed c.self.inside.made c.self.inside.held c.self.inside.reserved c.self.invariant
     (AreLike-changed (with_field c.args.place.1 c.args.f c.args.v) (IsLike-field c.args.place.1 c.args.f c.args.v)
     c.self.inside.store.arenas c.set_field.new.self.arenas c.args.place.0 c.set_field.ensures.arenas)
     c.set_field.ensures.room

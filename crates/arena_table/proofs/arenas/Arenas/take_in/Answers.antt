@@ -1,9 +1,11 @@
-use Rattle.std.proofs.Common.{◌≡◌, ◌∙◌, ap, arith, ◌==◌, ◌&&◌, if◌then◌else◌, None, false, refl}
+use Rattle.std.proofs.Common.{◌≡◌, ◌∙◌, ap, arith, length, ◌==◌, ◌&&◌, if◌then◌else◌, None, false, refl}
 use Rattle.std.specs.Int.{bit_at}
 use Rattle.arena_table.specs.Slots.{cell_at, held_by, taken_in}
 use Rattle.arena_table.specs.Table.{ArenasState}
 use Rattle.arena_table.proofs.Putting.{held_by-taken}
 use Rattle.arena_table.proofs.CellsAt.{cell_at-taken}
+use Rattle.arena_table.proofs.Changing.{length-change_at}
+use Rattle.arena_table.proofs.Covered.{covered-same}
 use Rattle.arena_table.proofs.Indexing.{out-within}
 use Rattle.arena_table.proofs.Outs.{AreOut-turned}
 use Rattle.arena_table.proofs.arenas.Arenas.take_in.Goals as goal
@@ -29,6 +31,11 @@ invariant_of-self c =
           (λ x. refl) (out-within c.self.inside.store.arenas c.args.arena
           (rw (ap (λ (s : ArenasState). s.arenas) c.self.view_is) c.requires.out)) c.come_in.ensures.arenas
           c.remove.ensures.room c.remove.ensures.bits;
+      covered = covered-same c.self.inside.delayed (length c.come_in.new.store.arenas)
+          (length c.self.inside.store.arenas)
+          (ap length c.come_in.ensures.arenas
+          ∙ length-change_at (taken_in c.args.freed c.args.bits) c.self.inside.store.arenas c.args.arena)
+          c.self.invariant.covered;
       few = c.self.invariant.few;
       counted = omega (arith, c.len.ensures.value);
       fewer = omega arith;

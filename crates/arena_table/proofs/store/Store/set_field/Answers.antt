@@ -1,10 +1,7 @@
-use Rattle.std.proofs.Common.{◌<◌, arith, ap, length, Option, IsSome, IsSomeAnd, [], subst}
-use Rattle.gz_names.specs.declared.commands.Kind.TheVariants as kind
-use Rattle.gz_names.specs.declared.names.Name.TheVariants as name
+use Rattle.std.proofs.Common.{◌<◌, arith, ap, length, Option, IsSome, IsSomeAnd, subst}
 use Rattle.arena_table.specs.Cells.{CellState}
 use Rattle.arena_table.specs.Slots.{cell_at}
 use Rattle.arena_table.specs.Stored.{StoreState}
-use Rattle.arena_table.specs.declared.cells.Cell.{Cell}
 use Rattle.arena_table.proofs.Storing.{in_heads, length-arenas_of, cell_at-within, cell-read, is_some-from}
 use Rattle.arena_table.proofs.Storing.{arenas_of-field}
 use Rattle.arena_table.proofs.store.Store.set_field.Goals as goal
@@ -34,11 +31,10 @@ returns-clause-arenas c =
     let some : IsSome (cell_at c.args.self.now.arenas c.args.place) =
     is_some-from _ (cell_at c.args.self.now.arenas c.args.place) c.requires.field in
     let slot : c.args.place.1 < 64 = omega (arith, c.slot.ensures.value, c.slot.ensures.below) in
-    let unread : Cell = record { name = name.Cell 0; fields = []; kind = kind.Object 0; comp = record { 0 = 0 } } in
     let chunk = rw c.arena.ensures at c.index_mut.ensures.value in
     rw (c.arena.ensures, c.slot.ensures.value)
     (arenas_of-field c.self.inside.heads.items c.self.inside.chunks.items _ c.args.place c.args.f c.args.value
-    c.index_mut.result.now c.set_field.new.self unread c.self.invariant
+    c.index_mut.result.now c.set_field.new.self c.index-index_mut-slot.result c.self.invariant
     (ap (λ (s : StoreState). s.arenas) c.self.view_is) (cell_at-within c.args.self.now.arenas c.args.place some)
     slot chunk (rw (← c.slot.ensures.value) c.set_field.ensures))
 
