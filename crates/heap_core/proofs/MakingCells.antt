@@ -24,7 +24,7 @@ use Rattle.heap_core.specs.Shape.{is_white, stored_at, zone_in}
 use Rattle.heap_core.specs.Heap.{HeapState, bits_of, colour_in}
 use Rattle.heap_core.specs.Blackening.{Blackens}
 use Rattle.heap_core.specs.Changes.{Makes, next_place_from, takes_cells}
-use Rattle.heap_core.proofs.Views.{shapes-with_bits, bits-with_bits, with_arenas, with_state}
+use Rattle.heap_core.proofs.Views.{shapes-with_bits, bits-with_bits, with_state}
 
 -- the place of the next cell
 takes-seen : (zone : ℕ) (x : Arena) → takes_cells zone (arena_shape x) ≡ is_open zone (Some x)
@@ -276,12 +276,14 @@ pub record IsMade (s t : ArenasState) (zone : ℕ) (p : Place) (cell : CellState
   pub cells : (q : Place) → cell_at put q ≡ (if is_place q p then Some cell else cell_at s.arenas q)
   pub arenas_is : t.arenas ≡ change_at (with_bits bits) put p.0
   pub made_is : t.made ≡ s.made + 1
+  pub delayed_is : t.delayed ≡ s.delayed
   pub marks : IfSome (slice_get put p.0) (λ x. Marks x.bits p.1 colour.Black bits)
 
 pub makes-seen : (h k : HeapState) (s t : ArenasState) (zone : ℕ) (p : Place) (cell : CellState) → with_state h s ≡ k
     → IsMade s t zone p cell → Makes k zone p cell (with_state h t)
 makes-seen h k s t zone p cell v m = subst (λ (k : HeapState). Makes k zone p cell (with_state h t)) v (record {
-  rest = ap (λ n. with_arenas h t.arenas n) m.made_is;
+  rest = ap (λ n. record (with_state h t) { made = n }) m.made_is
+      ∙ ap (λ d. record (with_state h t) { made = s.made + 1; delayed = d }) m.delayed_is;
   place_is = m.place_is ∙ place-seen 0 xs zone;
   free = cells-seen (with_state h s).shape xs p refl ∙ (ap (λ o. visible o p.1 (cell_at xs p)) kept ∙ m.free);
   grown = ap length shapes
@@ -364,16 +366,28 @@ put-with_field xs zone p cell f v =
 -- a place was kept, and a cell put there
 pub put-state : (s r u : ArenasState) (zone : ℕ) (p : Place) (cell : CellState)
     → r ≡ record s { reserved = Some (record { zone = zone; place = p }) }
-    → IfSome r.reserved (λ k. u ≡ record { arenas = put_at r.arenas k.zone p cell; made = r.made + 1; reserved = None })
-    → u ≡ record { arenas = put_at s.arenas zone p cell; made = s.made + 1; reserved = None }
+    → IfSome r.reserved (λ k. u ≡ record r {
+      arenas = put_at r.arenas k.zone p cell;
+      made = r.made + 1;
+      reserved = None;
+    })
+    → u ≡ record s { arenas = put_at s.arenas zone p cell; made = s.made + 1; reserved = None }
 put-state s r u zone p cell e put =
     subst (λ (r : ArenasState).
-    IfSome r.reserved (λ k. u ≡ record { arenas = put_at r.arenas k.zone p cell; made = r.made + 1; reserved = None }))
+    IfSome r.reserved (λ k. u ≡ record r {
+      arenas = put_at r.arenas k.zone p cell;
+      made = r.made + 1;
+      reserved = None;
+    }))
     e put
 
 pub put-kept-in : (s r u : ArenasState) (zone : ℕ) (p : Place) (cell : CellState) → p ≡ place_for s.arenas zone
     → r ≡ record s { reserved = Some (record { zone = zone; place = p }) }
-    → IfSome r.reserved (λ k. u ≡ record { arenas = put_at r.arenas k.zone p cell; made = r.made + 1; reserved = None })
+    → IfSome r.reserved (λ k. u ≡ record r {
+      arenas = put_at r.arenas k.zone p cell;
+      made = r.made + 1;
+      reserved = None;
+    })
     → IsSomeAnd (slice_get u.arenas p.0) (λ x. x.is_out ≡ false)
 put-kept-in s r u zone p cell e k put =
     subst (λ (u : ArenasState). IsSomeAnd (slice_get u.arenas p.0) (λ x. x.is_out ≡ false))
@@ -381,7 +395,11 @@ put-kept-in s r u zone p cell e k put =
 
 pub made-by : (s r u t : ArenasState) (zone : ℕ) (p : Place) (cell : CellState) → p ≡ place_for s.arenas zone
     → cell_at s.arenas p ≡ None → r ≡ record s { reserved = Some (record { zone = zone; place = p }) }
-    → IfSome r.reserved (λ k. u ≡ record { arenas = put_at r.arenas k.zone p cell; made = r.made + 1; reserved = None })
+    → IfSome r.reserved (λ k. u ≡ record r {
+      arenas = put_at r.arenas k.zone p cell;
+      made = r.made + 1;
+      reserved = None;
+    })
     → ((q : Place) → cell_at u.arenas q ≡ (if is_place q p then Some cell else cell_at r.arenas q)) → Blackens u p t
     → IsMade s t zone p cell
 made-by s r u t zone p cell e free k put cells b = record {
@@ -394,5 +412,7 @@ made-by s r u t zone p cell e free k put cells b = record {
   arenas_is = ap (λ (x : ArenasState). x.arenas) b.new_is;
   made_is = ap (λ (x : ArenasState). x.made) b.new_is
       ∙ ap (λ (x : ArenasState). x.made) (put-state s r u zone p cell k put);
+  delayed_is = ap (λ (x : ArenasState). x.delayed) b.new_is
+      ∙ ap (λ (x : ArenasState). x.delayed) (put-state s r u zone p cell k put);
   marks = b.marks;
 }

@@ -31,10 +31,10 @@ pub record IsPut (s r u : ArenasState) (zone : ℕ) (comp : CompNo) (number : �
   pub free : cell_at s.arenas p ≡ None
   pub kept : r ≡ record s { reserved = Some (record { zone = zone; place = p }) }
   pub put : IfSome r.reserved
-      (λ k. u ≡ record { arenas = put_at r.arenas k.zone p (bare comp number); made = r.made + 1; reserved = None })
+      (λ k. u ≡ record r { arenas = put_at r.arenas k.zone p (bare comp number); made = r.made + 1; reserved = None })
 
 put-is : (s r u : ArenasState) (zone : ℕ) (comp : CompNo) (number : ℕ) (p : Place) → IsPut s r u zone comp number p
-    → u ≡ record { arenas = put_at s.arenas zone p (bare comp number); made = s.made + 1; reserved = None }
+    → u ≡ record s { arenas = put_at s.arenas zone p (bare comp number); made = s.made + 1; reserved = None }
 put-is s r u zone comp number p h = put-state s r u zone p (bare comp number) h.kept h.put
 
 no-fewer : (b : Bool) (n : ℕ) → n ≤ (if b then n + 1 else n)
@@ -98,6 +98,9 @@ wrapper-made s r u x t zone comp number p target put cells e written b = record 
       put.kept));
   arenas_is = ap (λ (y : ArenasState). y.arenas) b.new_is;
   made_is = ap (λ (y : ArenasState). y.made) b.new_is ∙ (written-is s r u x zone comp number p target put e).1;
+  delayed_is = ap (λ (y : ArenasState). y.delayed) b.new_is
+      ∙ (ap (λ (y : ArenasState). y.delayed) e
+      ∙ ap (λ (y : ArenasState). y.delayed) (put-is s r u zone comp number p put));
   marks = b.marks;
 }
   where

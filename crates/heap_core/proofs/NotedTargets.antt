@@ -127,6 +127,12 @@ pub noted-same : (xs ys : List Arena) (noted : List ZoneSet) → ((a : ℕ) → 
 noted-same xs ys noted owners cells n = noted-kept xs ys noted noted (λ a z e. owners a ∙ e) (stood-same xs ys cells)
     (λ a b e. e) n
 
+-- a cell is delayed, or is not any more
+pub noted-delayed : (s t : ArenasState) (noted : List ZoneSet) → t ≡ record s { delayed = t.delayed }
+    → AreTargetsNoted s.arenas noted → AreTargetsNoted t.arenas noted
+noted-delayed s t noted is n = subst (λ (xs : List Arena). AreTargetsNoted xs noted)
+    (sym (ap (λ (x : ArenasState). x.arenas) is)) n
+
 -- bits are set or cleared, and arenas are handed to sweeping
 pub noted-set_bits : (s t : ArenasState) (a : ℕ) (bits : Bits) (noted : List ZoneSet)
     → t ≡ record s { arenas = change_at (with_bits bits) s.arenas a } → AreTargetsNoted s.arenas noted

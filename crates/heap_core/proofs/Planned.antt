@@ -9,7 +9,7 @@ use Rattle.heap_core.specs.declared.plans.Change.{Change}
 use Rattle.heap_core.specs.declared.plans.Change.TheVariants as change
 use Rattle.heap_core.specs.declared.plans.Plan.{Plan}
 use Rattle.heap_core.specs.Shape.{Shape}
-use Rattle.heap_core.specs.Heap.{HeapState, with_colours}
+use Rattle.heap_core.specs.Heap.{HeapState, with_marks}
 use Rattle.heap_core.specs.Answers.{DoesStep}
 use Rattle.heap_core.specs.Peeks.{IsOld, cells_made, handed, stored, unless_refused}
 use Rattle.heap_core.specs.Plans.{ChangesBy, IsPlanIn, IsPlanOf, MayWant, handed_by, made_by, overwritten_by}
@@ -91,10 +91,11 @@ module _ (h : HeapState) (c : GraphCmd) (plan : Plan) (is : IsPlanIn h c plan) w
   made-cells answer new by = made-by_change h new plan.change answer by
       ∙ ap (λ (o : Option ℕ). h.made + (if is_some o then 1 else 0)) is.made
 
--- at the heap itself, and at one that differs in colours alone
+-- at the heap itself, and at one that differs in colours and delayed cells alone
 pub planned-here : (h : HeapState) (c : GraphCmd) (plan : Plan) → IsPlanOf h c plan → IsPlanIn h c plan
-planned-here h c plan is = is h.colours
+planned-here h c plan is = is h.colours h.delayed
 
-pub planned-at : (h k : HeapState) (c : GraphCmd) (plan : Plan) → k ≡ with_colours h k.colours → IsPlanOf h c plan
+pub planned-at : (h k : HeapState) (c : GraphCmd) (plan : Plan) → k ≡ with_marks h k.colours k.delayed
+    → IsPlanOf h c plan
     → IsPlanIn k c plan
-planned-at h k c plan same is = subst (λ (z : HeapState). IsPlanIn z c plan) (sym same) (is k.colours)
+planned-at h k c plan same is = subst (λ (z : HeapState). IsPlanIn z c plan) (sym same) (is k.colours k.delayed)

@@ -22,11 +22,12 @@ use Rattle.colour_defs.specs.Graph.{GraphState}
 use Rattle.colour_defs.specs.Step.{IsAccepted, is_same_comp, named_or_null, refusal_in, step_of, take_in_register}
 use Rattle.colour_defs.specs.World.{woken_by}
 use Rattle.colour_defs.proofs.Lists.{get_contains}
+use Rattle.mark_stack.specs.Stack.{Piles}
 use Rattle.heap_core.specs.declared.plans.Change.{Change}
 use Rattle.heap_core.specs.declared.plans.Change.TheVariants as change
 use Rattle.heap_core.specs.declared.plans.Plan.{Plan}
 use Rattle.heap_core.specs.Shape.{IsPresent, cell_of, comp_at, field_at, field_in, held_name, zone_of}
-use Rattle.heap_core.specs.Heap.{HeapState, reg_of, slot_of, with_colours, with_reg, with_slot}
+use Rattle.heap_core.specs.Heap.{HeapState, reg_of, slot_of, with_marks, with_reg, with_slot}
 use Rattle.heap_core.specs.Shows.{Shows, is_map, is_wrapper}
 use Rattle.heap_core.specs.Answers.{DoesStep, IsSound}
 use Rattle.heap_core.specs.Changes.{IsWithout, Writes, with_comp, with_zone}
@@ -49,9 +50,10 @@ use Rattle.heap_core.proofs.Seen.{same_comp-is, wrap_seen, wrap_unseen, wrap_wok
 use Rattle.heap_core.proofs.Wrapped.{does-unseen_made, unseen_absent, wraps-seen, wraps-unseen}
 use Rattle.heap_core.proofs.Keyed.{del_accepted, does-del, does-del_absent, does-put, does-put_wanting}
 
--- colours do not count
-pub shows_coloured : (h : HeapState) (ds : List Bits) (g : GraphState) → Shows h g → Shows (with_colours h ds) g
-shows_coloured h ds g s = record {
+-- colours and delayed cells do not count
+pub shows_coloured : (h : HeapState) (ds : List Bits) (d : Piles) (g : GraphState) → Shows h g
+    → Shows (with_marks h ds d) g
+shows_coloured h ds d g s = record {
   zones_are = s.zones_are;
   comps_are = s.comps_are;
   objects_made = s.objects_made;
@@ -72,8 +74,8 @@ shows_coloured h ds g s = record {
   few_objects = s.few_objects;
 }
 
-shows_before : (h : HeapState) (ds : List Bits) (g : GraphState) → Shows (with_colours h ds) g → Shows h g
-shows_before h ds g s = shows_coloured (with_colours h ds) h.colours g s
+shows_before : (h : HeapState) (ds : List Bits) (d : Piles) (g : GraphState) → Shows (with_marks h ds d) g → Shows h g
+shows_before h ds d g s = shows_coloured (with_marks h ds d) h.colours h.delayed g s
 
 -- a plan whose change is that of a register
 abbrev register_plan : ℕ → Option Place → Bool → Option Place → Plan
@@ -733,24 +735,28 @@ plans-wrap_unseen h g r s c t z sound may there home unseen = record {
   );
 }
 
--- what was looked up does not depend on colours
-pub sound_coloured : (h : HeapState) (ds : List Bits) → IsSound h → IsSound (with_colours h ds)
-sound_coloured h ds s = (s.0, shows_coloured h ds s.0 s.1)
+-- what was looked up does not depend on colours and delayed cells
+pub sound_coloured : (h : HeapState) (ds : List Bits) (d : Piles) → IsSound h → IsSound (with_marks h ds d)
+sound_coloured h ds d s = (s.0, shows_coloured h ds d s.0 s.1)
 
-pub hands_coloured : (h : HeapState) (ds : List Bits) (c : ℕ → GraphCmd) (v : Option Place) → Hands h c (Ok v)
-    → Hands (with_colours h ds) c (Ok v)
-hands_coloured h ds c v hands r g s = hands r g (shows_before h ds g s)
+pub hands_coloured : (h : HeapState) (ds : List Bits) (d : Piles) (c : ℕ → GraphCmd) (v : Option Place)
+    → Hands h c (Ok v)
+    → Hands (with_marks h ds d) c (Ok v)
+hands_coloured h ds d c v hands r g s = hands r g (shows_before h ds d g s)
 
-pub writable_coloured : (h : HeapState) (ds : List Bits) (s f : ℕ) (t : Option ℕ) (p : Place) → IsWritable h s f t p
-    → IsWritable (with_colours h ds) s f t p
-writable_coloured h ds s f t p may = record { held = may.held; filled = may.filled; field = may.field; fits = may.fits }
+pub writable_coloured : (h : HeapState) (ds : List Bits) (d : Piles) (s f : ℕ) (t : Option ℕ) (p : Place)
+    → IsWritable h s f t p
+    → IsWritable (with_marks h ds d) s f t p
+writable_coloured h ds d s f t p may =
+    record { held = may.held; filled = may.filled; field = may.field; fits = may.fits }
 
-pub wrappable_coloured : (h : HeapState) (ds : List Bits) (s : ℕ) (c : CompNo) (t : Place) → IsWrappable h s c t
-    → IsWrappable (with_colours h ds) s c t
-wrappable_coloured h ds s c t may =
+pub wrappable_coloured : (h : HeapState) (ds : List Bits) (d : Piles) (s : ℕ) (c : CompNo) (t : Place)
+    → IsWrappable h s c t
+    → IsWrappable (with_marks h ds d) s c t
+wrappable_coloured h ds d s c t may =
     record { place = may.place; held = may.held; target_is = may.target_is; there = may.there }
 
-pub entry_coloured : (h : HeapState) (ds : List Bits) (m k v : ℕ) (map key value : Place)
-    → IsEntry h m k v map key value → IsEntry (with_colours h ds) m k v map key value
-entry_coloured h ds m k v map key value i =
+pub entry_coloured : (h : HeapState) (ds : List Bits) (d : Piles) (m k v : ℕ) (map key value : Place)
+    → IsEntry h m k v map key value → IsEntry (with_marks h ds d) m k v map key value
+entry_coloured h ds d m k v map key value i =
     record { map_held = i.map_held; key_held = i.key_held; value_held = i.value_held; allowed = i.allowed }

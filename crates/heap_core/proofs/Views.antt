@@ -1,11 +1,14 @@
 -- How a change of the arenas shows in the heap.
-use Rattle.std.proofs.Common.{◌≡◌, ◌+◌, ◌&&◌, ℕ, zero, suc, Bool, true, false, List, [], ◌∷◌, length, Option, Some}
+use Rattle.std.proofs.Common.{◌≡◌, ◌+◌, ◌<◌, ◌&&◌, ℕ, zero, suc, Bool, true, false, List, [], ◌∷◌, length, Option, Some}
 use Rattle.std.proofs.Common.{None, slice_get, slice_set, option_map, unwrap_or, IfNone, IsSome, is_some, if◌then◌else◌}
-use Rattle.std.proofs.Common.{All, refl, sym, ◌∙◌, ap, subst}
+use Rattle.std.proofs.Common.{All, Contains, IfSome, refl, sym, ◌∙◌, ap, subst, arith}
 use Rattle.std.proofs.lemmas.List.{length-map}
 use Rattle.std.proofs.lemmas.List.Elements.{All-nil, All-cons, All-head, All-tail}
 use Rattle.cell_bits.specs.declared.bits.Bits.{Bits}
 use Rattle.cell_bits.specs.declared.jobs.Job.{Job}
+use Rattle.gz_names.specs.declared.numbers.Place.{Place}
+use Rattle.mark_stack.specs.Stack.{IsPushed, Piles, pile_of}
+use Rattle.mark_stack.specs.declared.stack.Pile.{Pile}
 use Rattle.arena_table.specs.Slots.{Arena, alloc_word_of, change_at, handed_out, held_by, held_in, is_out_at, taken_in}
 use Rattle.arena_table.specs.Slots.{with_bits}
 use Rattle.arena_table.specs.Indexed.{in_zones, is_among}
@@ -180,7 +183,7 @@ bits-taken (x ∷ xs) (suc a) freed bits = ap (λ (b : List Bits). x.bits ∷ b)
 
 -- the heap with its arenas in this state, and how each call of the arenas shows
 abbrev pub with_state : HeapState → ArenasState → HeapState
-with_state h s = with_arenas h s.arenas s.made
+with_state h s = record (with_arenas h s.arenas s.made) { delayed = s.delayed }
 
 -- there are mark bits for each arena
 pub sized : (h k : HeapState) (s : ArenasState) → with_state h s ≡ k → length k.colours ≡ length k.shape.arenas
@@ -188,10 +191,48 @@ sized h k s v = subst (λ (k : HeapState). length k.colours ≡ length k.shape.a
     (length-map s.arenas (λ (arena : Arena). arena.bits) ∙ sym (length-map s.arenas arena_shape))
 
 state-is : (h : HeapState) (s t : ArenasState) (ss : List ArenaShape) (bs : List Bits) → t.made ≡ s.made
-    → arena_shapes t.arenas ≡ ss → bits_of t.arenas ≡ bs → with_state h t ≡ with_parts (with_state h s) ss bs
-state-is h s t ss bs m e f = ap (λ (n : ℕ). with_arenas h t.arenas n) m
-    ∙ (ap (λ (x : List ArenaShape). with_parts (with_arenas h t.arenas s.made) x (bits_of t.arenas)) e
-    ∙ ap (λ (b : List Bits). with_parts (with_state h s) ss b) f)
+    → t.delayed ≡ s.delayed → arena_shapes t.arenas ≡ ss → bits_of t.arenas ≡ bs
+    → with_state h t ≡ with_parts (with_state h s) ss bs
+state-is h s t ss bs m d e f = ap (λ (n : ℕ). record (with_state h t) { made = n }) m
+    ∙ (ap (λ (p : Piles). record (with_state h t) { made = s.made; delayed = p }) d
+    ∙ (ap (λ (x : List ArenaShape). with_parts (with_state h s) x (bits_of t.arenas)) e
+    ∙ ap (λ (b : List Bits). with_parts (with_state h s) ss b) f))
+
+-- a cell is delayed, or is not any more
+pub delayed-seen : (h k : HeapState) (s t : ArenasState) → with_state h s ≡ k → t ≡ record s { delayed = t.delayed }
+    → with_state h t ≡ record k { delayed = t.delayed }
+delayed-seen h k s t v e =
+    subst (λ (k : HeapState). with_state h t ≡ record k { delayed = t.delayed }) v (ap (with_state h) e)
+
+pub made-seen : (h k : HeapState) (s : ArenasState) (n : ℕ) → with_state h s ≡ k → n < length k.shape.arenas
+    → n < length s.arenas
+made-seen h k s n v = subst (λ (k : HeapState). n < length k.shape.arenas → n < length s.arenas) v
+    (λ lt. (let same = length-map s.arenas arena_shape in omega arith))
+
+pub fresh-seen : (h k : HeapState) (s : ArenasState) (pile : Pile) (p : Place) → with_state h s ≡ k
+    → (Contains (pile_of k.delayed pile) p → ⊥) → Contains (pile_of s.delayed pile) p → ⊥
+fresh-seen h k s pile p v =
+    subst (λ (k : HeapState). (Contains (pile_of k.delayed pile) p → ⊥) → Contains (pile_of s.delayed pile) p → ⊥) v
+    (λ fresh. fresh)
+
+pub more-seen : (h k : HeapState) (s t : ArenasState) (pile : Pile) (p : Place) → with_state h s ≡ k
+    → IsPushed s.delayed pile p t.delayed → IsPushed k.delayed pile p t.delayed
+more-seen h k s t pile p v more =
+    subst (λ (k : HeapState). IsPushed k.delayed pile p t.delayed) v more
+
+pub some-seen : (h k : HeapState) (s t : ArenasState) (pile : Pile) (o : Option Place) → with_state h s ≡ k
+    → IfSome o (λ p. IsPushed t.delayed pile p s.delayed) → IfSome o (λ p. IsPushed t.delayed pile p k.delayed)
+some-seen h k s t pile o v some =
+    subst (λ (k : HeapState). IfSome o (λ p. IsPushed t.delayed pile p k.delayed)) v some
+
+pub none-seen : (h k : HeapState) (s t : ArenasState) (pile : Pile) (o : Option Place) → with_state h s ≡ k
+    → IfNone o ((pile_of s.delayed pile ≡ []) × (t ≡ s))
+    → IfNone o ((pile_of k.delayed pile ≡ []) × (with_state h t ≡ k))
+none-seen h k s t pile None v none = (
+  subst (λ (k : HeapState). pile_of k.delayed pile ≡ []) v none.0,
+  ap (with_state h) none.1 ∙ v,
+)
+none-seen h k s t pile (Some p) v none = tt
 
 pub set_bits-seen : (h k : HeapState) (s t : ArenasState) (a : ℕ) (bits : Bits) → with_state h s ≡ k
     → out_of k.shape a ≡ None → t ≡ record s { arenas = change_at (with_bits bits) s.arenas a }
@@ -200,21 +241,21 @@ set_bits-seen h k s t a bits v out e =
     subst (λ (k : HeapState). out_of k.shape a ≡ None
     → with_state h t ≡ record k { colours = slice_set k.colours a bits }) v
     (λ o. ap (with_state h) e ∙ state-is h s (record s { arenas = change_at (with_bits bits) s.arenas a })
-    (arena_shapes s.arenas) (slice_set (bits_of s.arenas) a bits) refl (shapes-with_bits s.arenas a bits o)
+    (arena_shapes s.arenas) (slice_set (bits_of s.arenas) a bits) refl refl (shapes-with_bits s.arenas a bits o)
     (bits-with_bits s.arenas a bits)) out
 
 pub clear_bits-seen : (h k : HeapState) (s t : ArenasState) (word : ℕ) → with_state h s ≡ k → AreIn word s.arenas
     → t ≡ record s { arenas = in_these (with_bits no_bits) word s.arenas } → with_state h t ≡ with_clear k word
 clear_bits-seen h k s t word v kept e = subst (λ (k : HeapState). with_state h t ≡ with_clear k word) v
     (ap (with_state h) e ∙ state-is h s (record s { arenas = in_these (with_bits no_bits) word s.arenas })
-    (arena_shapes s.arenas) (cleared word (arena_shapes s.arenas) (bits_of s.arenas)) refl
+    (arena_shapes s.arenas) (cleared word (arena_shapes s.arenas) (bits_of s.arenas)) refl refl
     (shapes-cleared word s.arenas kept) (bits-cleared word s.arenas))
 
 pub hand_out-seen : (h k : HeapState) (s t : ArenasState) (word : ℕ) → with_state h s ≡ k
     → t ≡ record s { arenas = in_these handed_out word s.arenas; reserved = None } → with_state h t ≡ with_handed k word
 hand_out-seen h k s t word v e = subst (λ (k : HeapState). with_state h t ≡ with_handed k word) v
     (ap (with_state h) e ∙ state-is h s (record s { arenas = in_these handed_out word s.arenas; reserved = None })
-    (handed word (arena_shapes s.arenas) (bits_of s.arenas)) (bits_of s.arenas) refl (shapes-handed word s.arenas)
+    (handed word (arena_shapes s.arenas) (bits_of s.arenas)) (bits_of s.arenas) refl refl (shapes-handed word s.arenas)
     (bits-handed word s.arenas))
 
 pub take_in-seen : (h k : HeapState) (s t : ArenasState) (a freed : ℕ) (bits : Bits) → with_state h s ≡ k
@@ -223,7 +264,7 @@ pub take_in-seen : (h k : HeapState) (s t : ArenasState) (a freed : ℕ) (bits :
 take_in-seen h k s t a freed bits v e = subst (λ (k : HeapState). with_state h t ≡ with_taken k a freed bits) v
     (ap (with_state h) e
     ∙ state-is h s (record s { arenas = change_at (taken_in freed bits) s.arenas a; reserved = None })
-    (change_at (come_in freed) (arena_shapes s.arenas) a) (slice_set (bits_of s.arenas) a bits) refl
+    (change_at (come_in freed) (arena_shapes s.arenas) a) (slice_set (bits_of s.arenas) a bits) refl refl
     (shapes-taken s.arenas a freed bits) (bits-taken s.arenas a freed bits))
 
 pub kept-in : (h k : HeapState) (s : ArenasState) (word : ℕ) → with_state h s ≡ k → AreKept word k.shape

@@ -49,8 +49,10 @@ pub writes-seen : (h k : HeapState) (s t : ArenasState) (p : Place) (f : ℕ) (v
 writes-seen h k s t p f v e t_is cells = subst (λ (k : HeapState). Writes k p f v (with_state h t)) e (record {
   rest = ap (λ bs. record (with_state h t) { colours = bs })
       (ap bits_of arenas ∙ colours-change (with_field p.1 f v) (λ x. refl) s.arenas p.0)
-      ∙ ap (λ n. record (with_state h t) { colours = bits_of s.arenas; made = n })
-      (ap (λ (x : ArenasState). x.made) t_is);
+      ∙ (ap (λ n. record (with_state h t) { colours = bits_of s.arenas; made = n })
+      (ap (λ (x : ArenasState). x.made) t_is)
+      ∙ ap (λ d. record (with_state h t) { colours = bits_of s.arenas; made = s.made; delayed = d })
+      (ap (λ (x : ArenasState). x.delayed) t_is));
   sized = length-map t.arenas arena_shape
       ∙ (ap length arenas ∙ (length-change_at (with_field p.1 f v) s.arenas p.0
       ∙ sym (length-map s.arenas arena_shape)));

@@ -6,18 +6,21 @@ use Rattle.cell_bits.specs.declared.bits.Bits.{Bits}
 use Rattle.cell_bits.specs.declared.bits.Colour.{Colour}
 use Rattle.cell_bits.specs.declared.bits.Colour.TheVariants as colour
 use Rattle.cell_bits.specs.Colours as bits
+use Rattle.mark_stack.specs.Stack.{Piles, no_places}
 use Rattle.arena_table.specs.Slots.{Arena}
 use Rattle.weak_maps.specs.WeakMaps.{LooksState, WeakMapsState, value_of}
 use Rattle.heap_core.specs.Shape.{Shape}
 
 -- the mark bits of each arena, for each zone the places that wait for its gray marking, how many cells were ever made,
--- and in which colour each weak entry is still to be looked at
+-- in which colour each weak entry is still to be looked at, and the places for which piles of the mark stack had no
+-- room
 pub record HeapState : Type 0 where
   pub shape : Shape
   pub colours : List Bits
   pub buffers : List (List Place)
   pub made : ℕ
   pub looks : LooksState
+  pub delayed : Piles
 
 -- the weak entries, and which of them are still to be looked at
 abbrev pub weak_of : HeapState → WeakMapsState
@@ -44,13 +47,17 @@ abbrev pub with_flown : (ℕ → Option Bits) → ℕ → List Bits → List Bit
 with_flown flown n [] = []
 with_flown flown n (own ∷ rest) = flown_or (flown n) own ∷ with_flown flown (suc n) rest
 
--- the heap with the bits that are in flight in place of its own
-abbrev pub joined : HeapState → (ℕ → Option Bits) → HeapState
-joined h flown = record h { colours = with_flown flown 0 h.colours }
+-- the heap without delayed cells, where these are told among what is pending
+abbrev pub without_delayed : HeapState → HeapState
+without_delayed h = record h { delayed = no_places }
 
--- the heap with other bits
-abbrev pub with_colours : HeapState → List Bits → HeapState
-with_colours h colours = record h { colours = colours }
+-- the heap as marking sees it: the same, with the bits that are in flight in place of its own
+abbrev pub joined : HeapState → (ℕ → Option Bits) → HeapState
+joined h flown = record h { colours = with_flown flown 0 h.colours; delayed = no_places }
+
+-- the heap with other bits, and other cells delayed: what barriers and marking change
+abbrev pub with_marks : HeapState → List Bits → Piles → HeapState
+with_marks h colours delayed = record h { colours = colours; delayed = delayed }
 
 -- a register holds this
 abbrev pub with_reg : HeapState → ℕ → Option Place → HeapState
@@ -81,3 +88,4 @@ pub record IsEmpty (h : HeapState) : Type 0 where
   pub buffers : h.buffers ≡ replicate 64 []
   pub made : h.made ≡ 0
   pub looks : h.looks ≡ record { by_map = []; by_key = [] }
+  pub delayed : h.delayed ≡ no_places

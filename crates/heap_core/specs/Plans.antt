@@ -18,11 +18,12 @@ use Rattle.weak_maps.specs.WeakMaps.{value_of}
 use Rattle.colour_defs.specs.Graph.{GraphState}
 use Rattle.colour_defs.specs.Step.{HasFewFields, IsAccepted, named_or_null}
 use Rattle.colour_defs.specs.World.{woken_by}
+use Rattle.mark_stack.specs.Stack.{Piles}
 use Rattle.heap_core.specs.declared.plans.Change.{Change}
 use Rattle.heap_core.specs.declared.plans.Change.TheVariants as change
 use Rattle.heap_core.specs.declared.plans.Plan.{Plan}
 use Rattle.heap_core.specs.Shape.{Shape, IsPresent, cell_of, field_at, held_name, zone_of}
-use Rattle.heap_core.specs.Heap.{HeapState, with_colours, with_reg, with_slot}
+use Rattle.heap_core.specs.Heap.{HeapState, with_marks, with_reg, with_slot}
 use Rattle.heap_core.specs.Shows.{Shows, is_wrapper}
 use Rattle.heap_core.specs.Answers.{DoesStep}
 use Rattle.heap_core.specs.Changes.{IsWith, IsWithout, Writes, with_comp, with_zone}
@@ -189,6 +190,6 @@ pub record IsPlanIn (h : HeapState) (c : GraphCmd) (plan : Plan) : Type 0 where
   pub does : HasFewFields c → (answer : Reply) (new : HeapState) → ChangesBy h plan.change answer new
       → DoesStep h c (Ok answer) new × Changes h c new
 
--- it does so whatever the colours, so barriers may come between
+-- it does so whatever the colours and whatever is delayed, so barriers may come between
 abbrev pub IsPlanOf : HeapState → GraphCmd → Plan → Type 0
-IsPlanOf h c plan = (ds : List Bits) → IsPlanIn (with_colours h ds) c plan
+IsPlanOf h c plan = (ds : List Bits) (d : Piles) → IsPlanIn (with_marks h ds d) c plan

@@ -28,6 +28,7 @@ ghost use Rattle.arena_table.specs.Slots.{IsWithin, alloc_word_of, at_bits, cell
 ghost use Rattle.wrappers.specs.WrapperMaps.{AreApart, list_of, place_of, without_dead};
 ghost use Rattle.weak_maps.specs.WeakMaps.{AreParallel, Carries, HasLooked, IsSound as AreEntries, IsWithoutDead};
 ghost use Rattle.weak_maps.specs.WeakMaps.{NoneLeft, Starts, listed_of_key, listed_of_map, parts, value_of};
+ghost use Rattle.mark_stack.specs.Stack.{IsPushed, pile_of};
 ghost use Rattle.roots.specs.Buffers.{buffer_at, places_in, put_all, put_at};
 ghost use Rattle.gz_names.specs.declared.names.Name.TheVariants.{Cell as ACell, Wrap as AWrap};
 ghost use Rattle.gz_names.specs.declared.commands.Kind.TheVariants as kind;
@@ -39,6 +40,7 @@ use gz_names::{
     COMP_LIMIT, CompNo, GrayNo, Kind, Name, Names64, NoMemory, Place, Reg, ZONE_LIMIT, ZoneNo,
     ZoneSet,
 };
+use mark_stack::Pile;
 use roots::Roots;
 use std::alloc::{AllocError, Global};
 use std::marker::Model;
@@ -82,6 +84,7 @@ impl Model for Heap {
       buffers = h.roots.buffers;
       made = h.arenas.made;
       looks = h.weak.looks;
+      delayed = h.arenas.delayed;
     } };
 
     ghost use Rattle.heap_core.specs.TargetZones.{AreTargetsNoted};
@@ -225,6 +228,14 @@ impl Heap {
         self.arenas.is_out(arena)
     }
 
+    /// Whether the arena of a place, which was made, is handed to sweeping.
+    pub fn is_place_out(&self, place: Place) -> bool
+        requires { place.0 < length self.now.colours }
+        ensures { result ≡ is_some (out_of self.now.shape place.0) }
+    {
+        self.arenas.is_place_out(place)
+    }
+
     /// The lowest arena that is handed to sweeping. It walks over no arenas.
     pub fn first_out(&self) -> Option<u32>
         ensures out { IfSome result (λ arena. IsSome (out_of self.now.shape arena)) }
@@ -311,6 +322,31 @@ impl Heap {
             self.arenas.set_bits(place.arena(), bits);
         }
         is_new
+    }
+
+    /// A cell for which a pile of the mark stack has no room is delayed for it: `next_delayed` gives
+    /// it back.
+    #[cold]
+    #[inline(never)]
+    pub fn delay(&mut self, pile: Pile, place: Place)
+        requires made { place.0 < length self.old.shape.arenas }
+        requires fresh { Contains (pile_of self.old.delayed pile) place → ⊥ }
+        ensures more { IsPushed self.old.delayed pile place self.new.delayed }
+        ensures rest { self.new ≡ record self.old { delayed = self.new.delayed } }
+    {
+        self.arenas.delay(pile, place);
+    }
+
+    /// Takes a cell that is delayed for a pile; `None` exactly where none is. It costs what it finds.
+    #[inline(always)]
+    pub fn next_delayed(&mut self, pile: Pile) -> Option<Place>
+        ensures some { IfSome result
+            (λ place. IsPushed self.new.delayed pile place self.old.delayed) }
+        ensures none { IfNone result
+            ((pile_of self.old.delayed pile ≡ []) × (self.new ≡ self.old)) }
+        ensures rest { self.new ≡ record self.old { delayed = self.new.delayed } }
+    {
+        self.arenas.next_delayed(pile)
     }
 
     /// Whether the next cell of a zone comes into a new arena.

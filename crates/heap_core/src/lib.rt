@@ -12,8 +12,10 @@
 //     colours    the two words of mark bits of each arena
 //     buffers    what waits for the gray marking of each zone
 //     looks      in which colour marking has still to look at each weak entry
+//     delayed    the cells for which a pile of the mark stack had no room
 //
-// Marking changes `colours` alone, so what is said of `shape` stays said through all of it.
+// Barriers change `colours` and `delayed` alone, and no unit of marking changes `shape`, so what is said of
+// it stays said through all of them.
 //
 // The definitions know no places. Their graph (colour_defs) keeps everything that was ever made under
 // its name, and never frees, so no reply tells when a collection ran. Here cells go, and their places
@@ -53,9 +55,9 @@
 // graph of what is present answers as the whole one does is a law of colour_defs (`agrees_law`).
 // `resolve` looks a command up once: it is refused, or a plan tells what it overwrites, hands out or
 // makes and what a `wrap` is about, and names its change, which is one of nine kinds (`Change`). A
-// plan stays true while colours alone change, so barriers come between it and `commit`, which makes
-// the change and cannot be refused. Some changes may want memory. They take it before they change
-// anything, and a heap that was refused some is as it was.
+// plan stays true while no more changes than colours and which cells are delayed, so barriers come
+// between it and `commit`, which makes the change and cannot be refused. Some changes may want memory.
+// They take it before they change anything, and a heap that was refused some is as it was.
 #![tactic(auto)]
 
 mod commands;

@@ -27,8 +27,9 @@ pub enum Change {
     Del(Place, Place),
 }
 
-/// What a command that is not refused will do. It stays true while colours alone change, so
-/// barriers may run between `Heap::resolve`, which makes it, and `Heap::commit`.
+/// What a command that is not refused will do. It stays true while no more changes than colours and
+/// which cells are delayed, so barriers may run between `Heap::resolve`, which makes it, and
+/// `Heap::commit`.
 #[derive(Clone, Copy)]
 pub struct Plan {
     /// The value that the command overwrites or removes.

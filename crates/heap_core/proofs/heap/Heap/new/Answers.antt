@@ -24,6 +24,7 @@ returns-clause-empty c = record {
   buffers = ap (λ (s : RootsState). s.buffers) c.in_ok-new-3.ensures;
   made = ap (λ (s : ArenasState). s.made) c.in_ok-new.ensures;
   looks = c.new-6.ensures.none;
+  delayed = ap (λ (s : ArenasState). s.delayed) c.in_ok-new.ensures;
 }
 
 pub returns-clause-sound : goal.returns-clause-sound
