@@ -1,32 +1,35 @@
 -- What a step does to the scans to come.
 use Rattle.std.proofs.Common.{◌≡◌, ◌≢◌, ◌+◌, ◌<◌, ◌≤◌, true, false, inl, inr, refl, sym, ap, ◌∙◌, subst, arith}
-use Rattle.std.proofs.Common.{cond, List, ◌++◌, ◌∷◌, [], count_by}
-use Rattle.std.proofs.lemmas.List.Sums.{sum_by_push}
+use Rattle.std.proofs.Common.{ℕ, Bool, cond, List, ◌∷◌, [], Contains, count_by, get_or}
+use Rattle.std.specs.List.Sorted.{IsPermutation}
+use Rattle.std.proofs.lemmas.List.Sums.{get_or-le-sum_by}
 use Rattle.gz_names.specs.declared.numbers.Place.{Place}
 use Rattle.cell_bits.specs.declared.bits.Colour.{Colour}
 use Rattle.cell_bits.specs.declared.bits.Colour.TheVariants as colour
 use Rattle.arena_table.specs.Table.{is_place}
-use Rattle.mark_stack.specs.Stack.{Piles, pushed}
+use Rattle.mark_stack.specs.Stack.{Piles, IsPushed}
 use Rattle.mark_stack.specs.declared.stack.Pile.TheVariants as pile
 use Rattle.heap_core.specs.Heap.{HeapState, colour_of}
+use Rattle.mark_stack.proofs.Pushed.{black_gray, black_wake, gray_black, gray_wake, more_count}
 use Rattle.heap_core.proofs.MakingCells.{same-place}
 use Rattle.barriers.specs.Colours.{IsBlack}
 use Rattle.barriers.specs.Scans.{AreScannedOnce, ScansNoMore, black_scans, black_turns, gray_scans, gray_turns}
 use Rattle.barriers.specs.Spreading.{Turns}
 use Rattle.barriers.proofs.Places.{same_or_other}
 
--- a place that is put on a pile is on it once more, and each other as often as before
-pub on_once_more : (ps : List Place) (x : Place) → count_by (is_place x) (ps ++ x ∷ []) ≡ count_by (is_place x) ps + 1
-on_once_more ps x =
-    sum_by_push (λ z. cond (is_place x z) 1 0) ps x ∙ ap (λ b. count_by (is_place x) ps + cond b 1 0) here
+-- a place that comes onto a pile is on it once more, and each other as often as before
+pub on_once_more : (ps qs : List Place) (x : Place) → IsPermutation (x ∷ ps) qs
+    → count_by (is_place x) qs ≡ count_by (is_place x) ps + 1
+on_once_more ps qs x more =
+    more_count (is_place x) ps qs x more ∙ ap (λ b. count_by (is_place x) ps + cond b 1 0) here
   where
     here : is_place x x ≡ true
     here = elim (same-place x x) [ inl same ↦ same.1 | inr other ↦ absurd (other.0 refl) ]
 
-pub on_as_before : (ps : List Place) (x y : Place) → y ≢ x
-    → count_by (is_place y) (ps ++ x ∷ []) ≡ count_by (is_place y) ps
-on_as_before ps x y n =
-    sum_by_push (λ z. cond (is_place y z) 1 0) ps x
+pub on_as_before : (ps qs : List Place) (x y : Place) → IsPermutation (x ∷ ps) qs → y ≢ x
+    → count_by (is_place y) qs ≡ count_by (is_place y) ps
+on_as_before ps qs x y more n =
+    more_count (is_place y) ps qs x more
     ∙ ap (λ b. count_by (is_place y) ps + cond b 1 0) there
     ∙ omega arith
   where
@@ -34,12 +37,23 @@ on_as_before ps x y n =
     there = elim (same-place y x) [ inl same ↦ absurd (n same.0) | inr other ↦ other.1 ]
 
 -- so it is on it no less often
-pub on_no_less : (ps : List Place) (x y : Place) → count_by (is_place y) ps ≤ count_by (is_place y) (ps ++ x ∷ [])
-on_no_less ps x y = elim (same_or_other y x) [
-  | inl same ↦ subst (λ z. count_by (is_place z) ps ≤ count_by (is_place z) (ps ++ x ∷ [])) (sym same)
-      (omega (arith, on_once_more ps x))
-  | inr other ↦ omega (arith, on_as_before ps x y other)
-]
+pub on_no_less : (ps qs : List Place) (x y : Place) → IsPermutation (x ∷ ps) qs
+    → count_by (is_place y) ps ≤ count_by (is_place y) qs
+on_no_less ps qs x y more = (let count = more_count (is_place y) ps qs x more in omega arith)
+
+-- a place that is on a pile is counted there
+pub on_counted : (ps : List Place) (x : Place) → Contains ps x → 0 < count_by (is_place x) ps
+on_counted ps x c =
+    let here : is_place x x ≡ true = elim (same-place x x) [ inl same ↦ same.1 | inr other ↦ absurd (other.0 refl) ] in
+    let counts : Place → ℕ = λ z. cond (is_place x z) 1 0 in
+    let one : counts (get_or ps c.0 x) ≡ 1 = ap counts c.2 ∙ ap (λ (b : Bool). cond b 1 0) here in
+    let most : counts (get_or ps c.0 x) ≤ count_by (is_place x) ps = get_or-le-sum_by counts ps c.0 x c.1 in
+    omega (arith, one, most)
+
+-- so one that was taken from the gray pile is not on it any more, if it may be scanned once at most
+pub taken_once : (h : HeapState) (p q : Piles) (x : Place) → IsPushed p pile.Gray x q → gray_scans h q x ≤ 1
+    → Contains p.gray x → ⊥
+taken_once h p q x e once c = omega (arith, once, on_once_more p.gray q.gray x e.more, on_counted p.gray x c)
 
 pub none_more : (h : HeapState) (p : Piles) → ScansNoMore h p h p
 none_more h p = record { black = λ x. omega arith; gray = λ x. omega arith }
@@ -112,46 +126,67 @@ module _ (h : HeapState) (x : Place) (k : HeapState) (was : IsBlack h x → ⊥)
     | inr other ↦ (let alike = ap black_turns (others y other) in omega (arith, alike))
   ]
 
-  pub pushed_black : (p : Piles) → ScansNoMore h p k (pushed p pile.Black x)
-  pushed_black p = record { black = less; gray = λ y. omega (arith, gray_less y) }
+  pub pushed_black : (p q : Piles) → IsPushed p pile.Black x q → ScansNoMore h p k q
+  pushed_black p q e = record { black = less; gray = λ y. omega (arith, gray_less y, count_same y) }
     where
-      less : (y : Place) → black_scans k (pushed p pile.Black x) y ≤ black_scans h p y
+      count_same : (y : Place) → count_by (is_place y) q.gray ≡ count_by (is_place y) p.gray
+      count_same y = ap (λ ps. count_by (is_place y) ps) (e.others pile.Gray gray_black)
+
+      less : (y : Place) → black_scans k q y ≤ black_scans h p y
       less y = elim (same_or_other y x) [
-        | inl same ↦ subst (λ z. black_scans k (pushed p pile.Black x) z ≤ black_scans h p z) (sym same)
+        | inl same ↦ subst (λ z. black_scans k q z ≤ black_scans h p z) (sym same)
             (let none : black_turns (colour_of k x) ≡ 0 = ap black_turns black in
             let one = turns_unless_black (colour_of h x) was in
-            omega (arith, none, one, on_once_more p.black x))
+            omega (arith, none, one, on_once_more p.black q.black x e.more))
         | inr other ↦ (let alike = ap black_turns (others y other) in
-            omega (arith, alike, on_as_before p.black x y other))
+            omega (arith, alike, on_as_before p.black q.black x y e.more other))
       ]
 
-  pushed_wake : (p : Piles) → ScansNoMore h p k (pushed p pile.Wake x)
-  pushed_wake p = record { black = λ y. omega (arith, black_less y); gray = λ y. omega (arith, gray_less y) }
+  pushed_wake : (p q : Piles) → IsPushed p pile.Wake x q → ScansNoMore h p k q
+  pushed_wake p q e = record {
+    black = λ y. omega (arith, black_less y, black_same y);
+    gray = λ y. omega (arith, gray_less y, gray_same y);
+  }
+    where
+      black_same : (y : Place) → count_by (is_place y) q.black ≡ count_by (is_place y) p.black
+      black_same y = ap (λ ps. count_by (is_place y) ps) (e.others pile.Black black_wake)
+
+      gray_same : (y : Place) → count_by (is_place y) q.gray ≡ count_by (is_place y) p.gray
+      gray_same y = ap (λ ps. count_by (is_place y) ps) (e.others pile.Gray gray_wake)
 
 -- `turn` lets no cell be scanned more often
 pub turns_no_more : (h : HeapState) (p : Piles) (x : Place) (k : HeapState) (q : Piles) → Turns h p x k q
     → ScansNoMore h p k q
 turns_no_more h p x k q (inl was) = no_more_same h p k q was.1 was.2
 turns_no_more h p x k q (inr (inl t)) =
-    subst (λ (z : Piles). ScansNoMore h p k z) (sym t.2) (pushed_black h x k t.0.was t.0.black t.0.others p)
+    pushed_black h x k t.0.was t.0.black t.0.others p q t.2
 turns_no_more h p x k q (inr (inr t)) =
-    subst (λ (z : Piles). ScansNoMore h p k z) (sym t.2) (pushed_wake h x k t.0.was t.0.black t.0.others p)
+    pushed_wake h x k t.0.was t.0.black t.0.others p q t.2
 
 -- a cell that is taken from the wake pile may be scanned as often as before
-pub pops_wake : (h : HeapState) (p : Piles) (x : Place) → ScansNoMore h (pushed p pile.Wake x) h p
-pops_wake h p x = record { black = λ y. omega arith; gray = λ y. omega arith }
+pub pops_wake : (h : HeapState) (p q : Piles) (x : Place) → IsPushed p pile.Wake x q → ScansNoMore h q h p
+pops_wake h p q x e = record {
+  black = λ y. (let same = ap (λ ps. count_by (is_place y) ps) (e.others pile.Black black_wake) in omega (arith, same));
+  gray = λ y. (let same = ap (λ ps. count_by (is_place y) ps) (e.others pile.Gray gray_wake) in omega (arith, same));
+}
 
 -- a cell that is taken from a pile of marking may be scanned once less, and each other no more often
-pub pops_black : (h : HeapState) (p : Piles) (x : Place) → ScansNoMore h (pushed p pile.Black x) h p
-pops_black h p x = record { black = λ y. omega (arith, on_no_less p.black x y); gray = λ y. omega arith }
+pub pops_black : (h : HeapState) (p q : Piles) (x : Place) → IsPushed p pile.Black x q → ScansNoMore h q h p
+pops_black h p q x e = record {
+  black = λ y. omega (arith, on_no_less p.black q.black x y e.more);
+  gray = λ y. (let same = ap (λ ps. count_by (is_place y) ps) (e.others pile.Gray gray_black) in omega (arith, same));
+}
 
-pub pops_black_once : (h : HeapState) (p : Piles) (x : Place)
-    → black_scans h p x < black_scans h (pushed p pile.Black x) x
-pops_black_once h p x = omega (arith, on_once_more p.black x)
+pub pops_black_once : (h : HeapState) (p q : Piles) (x : Place) → IsPushed p pile.Black x q
+    → black_scans h p x < black_scans h q x
+pops_black_once h p q x e = omega (arith, on_once_more p.black q.black x e.more)
 
-pub pops_gray : (h : HeapState) (p : Piles) (x : Place) → ScansNoMore h (pushed p pile.Gray x) h p
-pops_gray h p x = record { black = λ y. omega arith; gray = λ y. omega (arith, on_no_less p.gray x y) }
+pub pops_gray : (h : HeapState) (p q : Piles) (x : Place) → IsPushed p pile.Gray x q → ScansNoMore h q h p
+pops_gray h p q x e = record {
+  black = λ y. (let same = ap (λ ps. count_by (is_place y) ps) (e.others pile.Black black_gray) in omega (arith, same));
+  gray = λ y. omega (arith, on_no_less p.gray q.gray x y e.more);
+}
 
-pub pops_gray_once : (h : HeapState) (p : Piles) (x : Place)
-    → gray_scans h p x < gray_scans h (pushed p pile.Gray x) x
-pops_gray_once h p x = omega (arith, on_once_more p.gray x)
+pub pops_gray_once : (h : HeapState) (p q : Piles) (x : Place) → IsPushed p pile.Gray x q
+    → gray_scans h p x < gray_scans h q x
+pops_gray_once h p q x e = omega (arith, on_once_more p.gray q.gray x e.more)

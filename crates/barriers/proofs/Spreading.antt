@@ -1,10 +1,11 @@
 -- Steps one after another.
-use Rattle.std.proofs.Common.{◌≡◌, inl, inr, refl, sym, ap, ◌∙◌, subst, arith, length-append, ◌∷◌, [], IsSomeAnd}
+use Rattle.std.proofs.Common.{◌≡◌, inl, inr, refl, sym, ap, ◌∙◌, subst, arith, length, List, Contains, IsSomeAnd}
 use Rattle.std.proofs.Common.{slice_get}
 use Rattle.std.specs.Int.{bit_at}
 use Rattle.gz_names.specs.declared.numbers.Place.{Place}
-use Rattle.mark_stack.specs.Stack.{Piles, pushed}
+use Rattle.mark_stack.specs.Stack.{Piles, IsPushed}
 use Rattle.mark_stack.specs.declared.stack.Pile.TheVariants as pile
+use Rattle.mark_stack.proofs.Pushed.{black_wake, gray_wake, more_length}
 use Rattle.heap_core.specs.Shape.{Shape, is_marking}
 use Rattle.heap_core.specs.Heap.{HeapState}
 use Rattle.barriers.specs.Colours.{HasGob, gobs}
@@ -68,7 +69,6 @@ pub spreads_none : (P : Place → Type 0) (h : HeapState) (p : Piles) → Spread
 spreads_none P h p = record {
   blackens = blackens_none P h;
   gray_is = refl;
-  room_is = refl;
   pile_kept = λ y c. c;
   fresh = λ y b m. inl b;
   left_less = omega arith;
@@ -83,7 +83,6 @@ pub spreads_more : (P Q R : Place → Type 0) (h : HeapState) (p : Piles) (k : H
 spreads_more P Q R h p k q l r a b f g = record {
   blackens = blackens_more P Q R h k l a.blackens b.blackens f g;
   gray_is = b.gray_is ∙ a.gray_is;
-  room_is = b.room_is ∙ a.room_is;
   pile_kept = λ y c. b.pile_kept y (a.pile_kept y c);
   fresh = λ y c m. elim (b.fresh y c (ap (λ (s : Shape). is_marking s y) (shape_is h k a.blackens.rest) ∙ m)) [
     | inl mid ↦ elim (a.fresh y mid m) [ inl old ↦ inl old | inr new ↦ inr (b.pile_kept y new) ]
@@ -100,7 +99,6 @@ pub spreads_within : (P R : Place → Type 0) (h : HeapState) (p : Piles) (k : H
 spreads_within P R h p k q a f = record {
   blackens = blackens_within P R h k a.blackens f;
   gray_is = a.gray_is;
-  room_is = a.room_is;
   pile_kept = a.pile_kept;
   fresh = a.fresh;
   left_less = a.left_less;
@@ -128,20 +126,20 @@ grows_more P Q R h p k q l r a b f g = record {
   ];
 }
 
-popped : (P : Place → Type 0) (h : HeapState) (q : Piles) (x : Place) → Spreads P h (pushed q pile.Wake x) h q
-popped P h q x = record {
-  blackens = blackens_none P h;
-  gray_is = refl;
-  room_is = refl;
-  pile_kept = λ y c. c;
-  fresh = λ y b m. inl b;
-  left_less = omega arith;
-  work = omega (arith, length-append q.wake (x ∷ []));
-  grays = omega (arith, length-append q.wake (x ∷ []));
-  scans = pops_wake h q x;
-}
-
--- a woken cell was taken from its pile
-pub spreads_pop : (P : Place → Type 0) (h : HeapState) (p q : Piles) (x : Place) → p ≡ pushed q pile.Wake x
+-- a woken cell is pending no more
+pub spreads_pop : (P : Place → Type 0) (h : HeapState) (p q : Piles) (x : Place) → IsPushed q pile.Wake x p
     → Spreads P h p h q
-spreads_pop P h p q x e = subst (λ (z : Piles). Spreads P h z h q) (sym e) (popped P h q x)
+spreads_pop P h p q x e =
+    let black_is : p.black ≡ q.black = e.others pile.Black black_wake in
+    let long = more_length q.wake p.wake x e.more in
+    let same = ap (λ (ps : List Place). length ps) black_is in
+    record {
+      blackens = blackens_none P h;
+      gray_is = sym (e.others pile.Gray gray_wake);
+      pile_kept = λ y c. subst (λ (ps : List Place). Contains ps y) black_is c;
+      fresh = λ y b m. inl b;
+      left_less = omega arith;
+      work = omega (arith, long, same);
+      grays = omega (arith, long);
+      scans = pops_wake h q p x e;
+    }

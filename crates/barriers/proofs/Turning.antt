@@ -1,11 +1,12 @@
 -- A cell turns black, and goes on its zone's pile.
 use Rattle.std.proofs.Common.{◌≡◌, ◌⊎◌, ◌+◌, ◌≤◌, true, false, inl, inr, refl, sym, ap, ◌∙◌, subst, arith, Contains}
-use Rattle.std.proofs.Common.{List, length, ◌∷◌, [], length-append, if◌then◌else◌}
-use Rattle.std.proofs.lemmas.List.Elements.{Contains-append_left, Contains-push, Contains-push_cases}
+use Rattle.std.proofs.Common.{Bool, List, length, if◌then◌else◌}
 use Rattle.gz_names.specs.declared.numbers.Place.{Place}
 use Rattle.cell_bits.specs.declared.bits.Bits.{Bits}
-use Rattle.mark_stack.specs.Stack.{Piles, pushed}
+use Rattle.mark_stack.specs.Stack.{Piles, IsPushed, pile_of}
 use Rattle.mark_stack.specs.declared.stack.Pile.TheVariants as pile
+use Rattle.mark_stack.proofs.Pushed.{black_wake, gray_black, gray_wake, more_cases, more_has, more_kept, more_length}
+use Rattle.mark_stack.proofs.Pushed.{wake_black}
 use Rattle.heap_core.specs.Shape.{Shape, is_marking, is_marking_state, state_in, IsPresent}
 use Rattle.heap_core.specs.Heap.{HeapState, colour_of}
 use Rattle.barriers.specs.Colours.{IsBlack, IsSeen}
@@ -26,43 +27,42 @@ pub record Puts (s : Shape) (t : Place) (p q : Piles) : Type 0 where
   pub black_has : is_marking s t ≡ true → Contains q.black t
   pub wake_has : is_marking s t ≡ false → Contains q.wake t
   pub gray_is : q.gray ≡ p.gray
-  pub room_is : q.room ≡ p.room
   pub both_more : length q.black + length q.wake ≤ (length p.black + length p.wake) + 1
-  pub black_more : length q.black ≤ length p.black + 1
-  pub wake_more : length q.wake ≤ length p.wake + 1
   pub wake_exact : length q.wake ≡ length p.wake + (if is_marking s t then 0 else 1)
 
-puts_black : (s : Shape) (t : Place) (p : Piles) → is_marking s t ≡ true → Puts s t p (pushed p pile.Black t)
-puts_black s t p m = record {
-  black_kept = λ y c. Contains-append_left p.black (t ∷ []) y c;
-  wake_kept = λ y c. c;
-  black_only = λ y c. elim (Contains-push_cases p.black t y c) [ inl old ↦ inl old | inr e ↦ inr (e, m) ];
-  wake_only = λ y c. inl c;
-  black_has = λ n. Contains-push p.black t;
-  wake_has = λ n. cc (m, n);
-  gray_is = refl;
-  room_is = refl;
-  both_more = omega (arith, length-append p.black (t ∷ []));
-  black_more = omega (arith, length-append p.black (t ∷ []));
-  wake_more = omega arith;
-  wake_exact = rw m (omega arith);
-}
+puts_black : (s : Shape) (t : Place) (p q : Piles) → is_marking s t ≡ true → IsPushed p pile.Black t q → Puts s t p q
+puts_black s t p q m e =
+    let wake_is : q.wake ≡ p.wake = e.others pile.Wake wake_black in
+    let same = ap (λ (ps : List Place). length ps) wake_is in
+    let long = more_length p.black q.black t e.more in
+    record {
+      black_kept = λ y c. more_kept p.black q.black t y e.more c;
+      wake_kept = λ y c. subst (λ (ps : List Place). Contains ps y) (sym wake_is) c;
+      black_only = λ y c. elim (more_cases p.black q.black t y e.more c) [ inl old ↦ inl old | inr is ↦ inr (is, m) ];
+      wake_only = λ y c. inl (subst (λ (ps : List Place). Contains ps y) wake_is c);
+      black_has = λ n. more_has p.black q.black t e.more;
+      wake_has = λ n. cc (m, n);
+      gray_is = e.others pile.Gray gray_black;
+      both_more = omega (arith, long, same);
+      wake_exact = rw m (omega (arith, same));
+    }
 
-puts_wake : (s : Shape) (t : Place) (p : Piles) → is_marking s t ≡ false → Puts s t p (pushed p pile.Wake t)
-puts_wake s t p m = record {
-  black_kept = λ y c. c;
-  wake_kept = λ y c. Contains-append_left p.wake (t ∷ []) y c;
-  black_only = λ y c. inl c;
-  wake_only = λ y c. elim (Contains-push_cases p.wake t y c) [ inl old ↦ inl old | inr e ↦ inr (e, m) ];
-  black_has = λ n. cc (m, n);
-  wake_has = λ n. Contains-push p.wake t;
-  gray_is = refl;
-  room_is = refl;
-  both_more = omega (arith, length-append p.wake (t ∷ []));
-  black_more = omega arith;
-  wake_more = omega (arith, length-append p.wake (t ∷ []));
-  wake_exact = rw m (omega (arith, length-append p.wake (t ∷ [])));
-}
+puts_wake : (s : Shape) (t : Place) (p q : Piles) → is_marking s t ≡ false → IsPushed p pile.Wake t q → Puts s t p q
+puts_wake s t p q m e =
+    let black_is : q.black ≡ p.black = e.others pile.Black black_wake in
+    let same = ap (λ (ps : List Place). length ps) black_is in
+    let long = more_length p.wake q.wake t e.more in
+    record {
+      black_kept = λ y c. subst (λ (ps : List Place). Contains ps y) (sym black_is) c;
+      wake_kept = λ y c. more_kept p.wake q.wake t y e.more c;
+      black_only = λ y c. inl (subst (λ (ps : List Place). Contains ps y) black_is c);
+      wake_only = λ y c. elim (more_cases p.wake q.wake t y e.more c) [ inl old ↦ inl old | inr is ↦ inr (is, m) ];
+      black_has = λ n. cc (m, n);
+      wake_has = λ n. more_has p.wake q.wake t e.more;
+      gray_is = e.others pile.Gray gray_wake;
+      both_more = omega (arith, long, same);
+      wake_exact = rw m (omega (arith, long));
+    }
 
 module _ (h : HeapState) (ds : List Bits) (p q : Piles) (t : Place) (turned : Blackened h t (record h { colours = ds }))
     (puts : Puts h.shape t p q) where
@@ -103,7 +103,6 @@ module _ (h : HeapState) (ds : List Bits) (p q : Piles) (t : Place) (turned : Bl
         whites_less = turned.whites_less;
       };
       gray_is = puts.gray_is;
-      room_is = puts.room_is;
       pile_kept = puts.black_kept;
       fresh = λ y b m. elim (only y b) [
         | inl was ↦ inl was
@@ -151,18 +150,6 @@ module _ (h : HeapState) (ds : List Bits) (p q : Piles) (t : Place) (turned : Bl
       | inr n ↦ (subst (λ z. IsBlack k z) n.0 turned.black, subst (λ z. is_marking h.shape z ≡ false) n.0 n.1)
     ];
     gray = λ y c. seen y (inv.gray y (subst (λ zs. Contains zs y) puts.gray_is c));
-    room = record {
-      black = omega (arith, inv.room.black, turned.left_is, turned.sized, puts.black_more);
-      wake = omega (arith, inv.room.wake, turned.left_is, turned.sized, puts.wake_more);
-      gray = omega (
-        arith,
-        inv.room.gray,
-        turned.whites_less,
-        turned.sized,
-        ap (λ (z : List Place). length z) puts.gray_is,
-      );
-      room = omega (arith, inv.room.room, turned.sized, puts.room_is);
-    };
   }
 
   pending : Contains q.black t ⊎ Contains q.wake t
@@ -203,6 +190,18 @@ module _ (h : HeapState) (ds : List Bits) (p q : Piles) (t : Place) (turned : Bl
     ];
   }
 
+-- a cell that is not black is not pending on the pile of its zone
+pub fresh_pile : (h : HeapState) (p : Piles) (x : Place) (marks : Bool) → PileInvariant h p → (IsBlack h x → ⊥)
+    → Contains (pile_of p (if marks then pile.Black else pile.Wake)) x → ⊥
+fresh_pile h p x true inv not c = not (inv.black x c).0
+fresh_pile h p x false inv not c = not (inv.wake x c).0
+
+-- it turned black, and came onto that pile
+pub turned_by : (h : HeapState) (p : Piles) (x : Place) (k : HeapState) (q : Piles) (marks : Bool) → Blackened h x k
+    → is_marking h.shape x ≡ marks → IsPushed p (if marks then pile.Black else pile.Wake) x q → Turns h p x k q
+turned_by h p x k q true turned m e = inr (inl (turned, m, e))
+turned_by h p x k q false turned m e = inr (inr (turned, m, e))
+
 -- what turning a cell black gives
 pub record Effect (h : HeapState) (p : Piles) (t : Place) (k : HeapState) (q : Piles) : Type 0 where
   pub grows : Grows (λ y. y ≡ t) h p k q
@@ -226,8 +225,8 @@ turn_effect h p t k q (inl (b, ek, eq)) =
     (subst (λ (z : Piles). Effect h p t h z) (sym eq)
     (record { grows = grows_none (λ y. y ≡ t) h p; is_black = b; invariant = λ followed inv. inv }))
 turn_effect h p t k q (inr (inl (turned, m, eq))) =
-    put_effect h p t k q turned (subst (λ (z : Piles). Puts h.shape t p z) (sym eq) (puts_black h.shape t p m))
+    put_effect h p t k q turned (puts_black h.shape t p q m eq)
     (turns_no_more h p t k q (inr (inl (turned, m, eq))))
 turn_effect h p t k q (inr (inr (turned, m, eq))) =
-    put_effect h p t k q turned (subst (λ (z : Piles). Puts h.shape t p z) (sym eq) (puts_wake h.shape t p m))
+    put_effect h p t k q turned (puts_wake h.shape t p q m eq)
     (turns_no_more h p t k q (inr (inr (turned, m, eq))))

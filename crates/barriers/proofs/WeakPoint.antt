@@ -1,11 +1,12 @@
 -- What keeps the point on weak entries.
-use Rattle.std.proofs.Common.{◌≡◌, ◌⊎◌, ℕ, true, false, inl, inr, sym, ap, ◌∙◌, subst, Contains, Option}
+use Rattle.std.proofs.Common.{◌≡◌, ◌⊎◌, ℕ, true, false, inl, inr, sym, ap, ◌∙◌, subst, Contains, List, ◌∷◌, Option}
 use Rattle.std.specs.Prelude.{unwrap_or}
-use Rattle.std.proofs.lemmas.List.Elements.{Contains-push_cases}
+use Rattle.std.specs.List.Sorted.{IsPermutation}
 use Rattle.gz_names.specs.declared.numbers.Place.{Place}
 use Rattle.zones.specs.declared.states.State.TheVariants as state
-use Rattle.mark_stack.specs.Stack.{Piles, pushed}
+use Rattle.mark_stack.specs.Stack.{Piles, IsPushed}
 use Rattle.mark_stack.specs.declared.stack.Pile.TheVariants as pile
+use Rattle.mark_stack.proofs.Pushed.{black_alone, gray_alone, more_cases}
 use Rattle.weak_maps.specs.WeakMaps.{WeakTableState}
 use Rattle.weak_maps.specs.declared.colours.MarkColour.{MarkColour}
 use Rattle.weak_maps.specs.declared.colours.MarkColour.TheVariants as mark
@@ -108,24 +109,25 @@ abbrev pub IsWeaker : Left → Type 0
 IsWeaker left = (m k : Place) → left mark.Black m k → left mark.Gray m k
 
 -- a cell was taken from the black pile, and its entries are left in black now
-pub black_starts : (h : HeapState) (p : Piles) (x : Place) (old new : Left) → WeakPoint h (pushed p pile.Black x) old
+black_taken : (h : HeapState) (p : Piles) (x : Place) (more : List Place) (old new : Left)
+    → IsPermutation (x ∷ p.black) more → WeakPoint h (record p { black = more }) old
     → StartsEntries h.shape mark.Black x old new → IsWeaker new → WeakPoint h p new
-black_starts h p x old new w s weaker = record {
+black_taken h p x more old new is_more w s weaker = record {
   black = λ m n v e bm bn on. elim (w.black m n v e bm bn on) [
     | inl b ↦ inl b
-    | inr (inl c) ↦ elim (Contains-push_cases p.black x m c)
+    | inr (inl c) ↦ elim (more_cases p.black more x m is_more c)
         [ inl still ↦ inr (inl still) | inr is ↦ inr (inr (inr (at_map m n is))) ]
-    | inr (inr (inl c)) ↦ elim (Contains-push_cases p.black x n c)
+    | inr (inr (inl c)) ↦ elim (more_cases p.black more x n is_more c)
         [ inl still ↦ inr (inr (inl still)) | inr is ↦ inr (inr (inr (at_key m n is))) ]
     | inr (inr (inr l)) ↦ inr (inr (inr (s.kept mark.Black m n l)))
   ];
   gray = λ m n v e sm sn takes. elim (w.gray m n v e sm sn takes) [
     | inl b ↦ inl b
     | inr (inl (inr c)) ↦ inr (inl (inr c))
-    | inr (inl (inl c)) ↦ elim (Contains-push_cases p.black x m c)
+    | inr (inl (inl c)) ↦ elim (more_cases p.black more x m is_more c)
         [ inl still ↦ inr (inl (inl still)) | inr is ↦ inr (inr (inr (weaker m n (at_map m n is)))) ]
     | inr (inr (inl (inr c))) ↦ inr (inr (inl (inr c)))
-    | inr (inr (inl (inl c))) ↦ elim (Contains-push_cases p.black x n c)
+    | inr (inr (inl (inl c))) ↦ elim (more_cases p.black more x n is_more c)
         [ inl still ↦ inr (inr (inl (inl still))) | inr is ↦ inr (inr (inr (weaker m n (at_key m n is)))) ]
     | inr (inr (inr l)) ↦ inr (inr (inr (s.kept mark.Gray m n l)))
   ];
@@ -137,10 +139,15 @@ black_starts h p x old new w s weaker = record {
     at_key : (m n : Place) → x ≡ n → new mark.Black m n
     at_key m n is = subst (λ z. new mark.Black m z) is (s.as_key m)
 
--- a cell was taken from the gray pile, and its entries are left in gray now
-pub gray_starts : (h : HeapState) (p : Piles) (x : Place) (old new : Left) → WeakPoint h (pushed p pile.Gray x) old
+pub black_starts : (h : HeapState) (p q : Piles) (x : Place) (old new : Left) → IsPushed p pile.Black x q
+    → WeakPoint h q old → StartsEntries h.shape mark.Black x old new → IsWeaker new → WeakPoint h p new
+black_starts h p q x old new e w s weaker = black_taken h p x q.black old new e.more
+    (subst (λ (z : Piles). WeakPoint h z old) (black_alone p q x e) w) s weaker
+
+gray_taken : (h : HeapState) (p : Piles) (x : Place) (more : List Place) (old new : Left)
+    → IsPermutation (x ∷ p.gray) more → WeakPoint h (record p { gray = more }) old
     → StartsEntries h.shape mark.Gray x old new → WeakPoint h p new
-gray_starts h p x old new w s = record {
+gray_taken h p x more old new is_more w s = record {
   black = λ m n v e bm bn on. elim (w.black m n v e bm bn on) [
     | inl b ↦ inl b
     | inr (inl c) ↦ inr (inl c)
@@ -150,10 +157,10 @@ gray_starts h p x old new w s = record {
   gray = λ m n v e sm sn takes. elim (w.gray m n v e sm sn takes) [
     | inl b ↦ inl b
     | inr (inl (inl c)) ↦ inr (inl (inl c))
-    | inr (inl (inr c)) ↦ elim (Contains-push_cases p.gray x m c)
+    | inr (inl (inr c)) ↦ elim (more_cases p.gray more x m is_more c)
         [ inl still ↦ inr (inl (inr still)) | inr is ↦ inr (inr (inr (at_map m n is))) ]
     | inr (inr (inl (inl c))) ↦ inr (inr (inl (inl c)))
-    | inr (inr (inl (inr c))) ↦ elim (Contains-push_cases p.gray x n c)
+    | inr (inr (inl (inr c))) ↦ elim (more_cases p.gray more x n is_more c)
         [ inl still ↦ inr (inr (inl (inr still))) | inr is ↦ inr (inr (inr (at_key m n is))) ]
     | inr (inr (inr l)) ↦ inr (inr (inr (s.kept mark.Gray m n l)))
   ];
@@ -164,6 +171,12 @@ gray_starts h p x old new w s = record {
 
     at_key : (m n : Place) → x ≡ n → new mark.Gray m n
     at_key m n is = subst (λ z. new mark.Gray m z) is (s.as_key m)
+
+-- a cell was taken from the gray pile, and its entries are left in gray now
+pub gray_starts : (h : HeapState) (p q : Piles) (x : Place) (old new : Left) → IsPushed p pile.Gray x q
+    → WeakPoint h q old → StartsEntries h.shape mark.Gray x old new → WeakPoint h p new
+gray_starts h p q x old new e w s = gray_taken h p x q.gray old new e.more
+    (subst (λ (z : Piles). WeakPoint h z old) (gray_alone p q x e) w) s
 
 -- each other entry that was left still is
 abbrev pub LeavesOthers : Place → Place → Left → Left → Type 0

@@ -2,12 +2,13 @@
 use Rattle.std.specs.Prelude.{◌≡◌, ◌≢◌, ◌⊎◌, ◌≤◌, ◌+◌, ℕ, true, false, length, Contains, is_some, Option, if◌then◌else◌}
 use Rattle.gz_names.specs.declared.numbers.Place.{Place}
 use Rattle.cell_bits.specs.declared.bits.Bits.{Bits}
-use Rattle.mark_stack.specs.Stack.{Piles, pushed}
+use Rattle.mark_stack.specs.Stack.{Piles, IsPushed}
 use Rattle.mark_stack.specs.declared.stack.Pile.TheVariants as pile
 use Rattle.heap_core.specs.Shape.{Shape, IsPresent, is_marking, out_of}
 use Rattle.heap_core.specs.Heap.{HeapState, colour_of, joined}
 use Rattle.barriers.specs.Colours.{IsBlack, gobs, left, whites, grays_outside}
-use Rattle.barriers.specs.Invariant.{ColourInvariant, HasRoom}
+use Rattle.barriers.specs.Pending.{pending}
+use Rattle.barriers.specs.Invariant.{ColourInvariant, PileInvariant}
 use Rattle.barriers.specs.Scans.{ScansNoMore}
 
 -- exactly the arenas that are handed to sweeping are in flight
@@ -22,11 +23,11 @@ pub record FlightKept {S O : Type 0} (bits_of : S → ℕ → Option Bits) (orig
   pub covers : Covers h.shape (bits_of g)
   pub origin : origin_of g ≡ origin_of f
 
--- what marking a cell asks of the heap, the flight and the piles, whichever cell it is
+-- what marking a cell asks of the heap, the flight and the mark stack, whichever cell it is
 pub record MayMark (h : HeapState) (flown : ℕ → Option Bits) (p : Piles) : Type 0 where
   pub covers : Covers h.shape flown
   pub colours : ColourInvariant (joined h flown)
-  pub room : HasRoom (joined h flown) p
+  pub piles : PileInvariant (joined h flown) (pending h p)
 
 -- a cell turned black, and nothing else changed: no gray bit either
 pub record Blackened (h : HeapState) (x : Place) (k : HeapState) : Type 0 where
@@ -41,12 +42,12 @@ pub record Blackened (h : HeapState) (x : Place) (k : HeapState) : Type 0 where
   pub whites_less : whites k ≤ whites h
   pub grays_is : grays_outside k + (if is_marking h.shape x then 0 else 1) ≡ grays_outside h
 
--- a cell is black now: if it was not, it is on the pile of its zone
+-- a cell is black now: if it was not, it is pending on the pile of its zone
 abbrev pub Turns : HeapState → Piles → Place → HeapState → Piles → Type 0
 Turns h p x k q =
     (IsBlack h x × (k ≡ h) × (q ≡ p))
-    ⊎ ((Blackened h x k × (is_marking h.shape x ≡ true) × (q ≡ pushed p pile.Black x))
-    ⊎ (Blackened h x k × (is_marking h.shape x ≡ false) × (q ≡ pushed p pile.Wake x)))
+    ⊎ ((Blackened h x k × (is_marking h.shape x ≡ true) × IsPushed p pile.Black x q)
+    ⊎ (Blackened h x k × (is_marking h.shape x ≡ false) × IsPushed p pile.Wake x q))
 
 -- black spread to cells that meet P alone, and nothing else changed: no cell lost its black bit, and the gray bits are
 -- as they were
@@ -64,7 +65,6 @@ pub record Blackens (P : Place → Type 0) (h k : HeapState) : Type 0 where
 pub record Spreads (P : Place → Type 0) (h : HeapState) (p : Piles) (k : HeapState) (q : Piles) : Type 0 where
   pub blackens : Blackens P h k
   pub gray_is : q.gray ≡ p.gray
-  pub room_is : q.room ≡ p.room
   pub pile_kept : (y : Place) → Contains p.black y → Contains q.black y
   pub fresh : (y : Place) → IsBlack k y → is_marking h.shape y ≡ true → IsBlack h y ⊎ Contains q.black y
   pub left_less : left k ≤ left h
