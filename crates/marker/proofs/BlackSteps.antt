@@ -1,9 +1,10 @@
 -- One cell of the black pile was followed.
 use Rattle.std.proofs.Common.{◌≡◌, ◌↔◌, ◌<◌, ◌≤◌, true, inl, inr, refl, sym, ap, ◌∙◌, subst, arith, ◌∷◌, []}
-use Rattle.std.proofs.Common.{ℕ, Option}
+use Rattle.std.proofs.Common.{ℕ, ◌+◌, Option, length}
 use Rattle.gz_names.specs.declared.numbers.Place.{Place}
-use Rattle.mark_stack.specs.Stack.{Piles, pushed}
+use Rattle.mark_stack.specs.Stack.{Piles, IsPushed}
 use Rattle.mark_stack.specs.declared.stack.Pile.TheVariants as pile
+use Rattle.mark_stack.proofs.Pushed.{gray_black, more_length, wake_black}
 use Rattle.weak_maps.specs.WeakMaps.{AreParallel, LooksState, Starts, WeakMapsState}
 use Rattle.weak_maps.specs.declared.colours.MarkColour.TheVariants as mark
 use Rattle.heap_core.specs.Shape.{Shape, HasEdge, is_marking}
@@ -11,8 +12,9 @@ use Rattle.cell_bits.specs.declared.bits.Bits.{Bits}
 use Rattle.heap_core.specs.Heap.{HeapState, joined, weak_of}
 use Rattle.barriers.specs.Reached.{Reached}
 use Rattle.barriers.specs.Reached as reached
-use Rattle.barriers.specs.Colours.{IsBlack}
+use Rattle.barriers.specs.Colours.{IsBlack, grays_outside}
 use Rattle.barriers.specs.PendingBlack.{PendingBlack}
+use Rattle.barriers.specs.Pending.{pending}
 use Rattle.barriers.specs.Invariant.{InvariantWhile, MarkingInvariant}
 use Rattle.barriers.specs.Spreading.{Blackens, Grows, Spreads}
 use Rattle.barriers.specs.Exposing.{KeepsLive}
@@ -32,7 +34,7 @@ use Rattle.marker.proofs.Looking.{starts_on}
 
 -- before what was woken is followed: the cell's zone is marking, so its entries are not looked at
 pub scanned : (h : HeapState) (p q : Piles) (x : Place) (k : HeapState) (r : Piles) → InvariantWhile [] h p
-    → p ≡ pushed q pile.Black x → InvariantWhile (x ∷ []) k r → Grows (HasEdge h.shape x) h q k r
+    → IsPushed q pile.Black x p → InvariantWhile (x ∷ []) k r → Grows (HasEdge h.shape x) h q k r
     → ((y : Place) → HasEdge h.shape x y → IsBlack k y) → InvariantWhile [] k r
 scanned h p q x k r inv e holds grows edges =
     let same : k.shape ≡ h.shape = shape_is h k grows.spreads.blackens.rest in
@@ -57,7 +59,7 @@ keeps_pending h p l t inv new same bl = record {
 }
 
 pub follows : (h : HeapState) (p q : Piles) (x : Place) (k : HeapState) (r : Piles) (l : HeapState) (t : Piles)
-    → MarkingInvariant h p → p ≡ pushed q pile.Black x → Grows (HasEdge h.shape x) h q k r
+    → MarkingInvariant h p → IsPushed q pile.Black x p → Grows (HasEdge h.shape x) h q k r
     → Spreads (Reached k.shape (IsBlack k)) k r l t → MarkingInvariant l t → Follows h p l t
 follows h p q x k r l t inv e scan sp new =
     let R : Place → Type 0 = Reached h.shape (IsBlack h) in
@@ -71,11 +73,17 @@ follows h p q x k r l t inv e scan sp new =
     (λ w b. elim (scan.spreads.blackens.only w b) [ inl was ↦ reached.from was | inr ed ↦ edge w ed ])
     (subst (λ s. Reached s (IsBlack k) y) same z)))
     (λ y z. z) (λ y z. z) in
-    keeps_pending h p l t inv new (spreads.gray_is ∙ sym (ap (λ (z : Piles). z.gray) e)) spreads.blackens
+    keeps_pending h p l t inv new (spreads.gray_is ∙ sym (e.others pile.Gray gray_black)) spreads.blackens
+
+-- a cell was taken from the black pile, so that was not empty
+pub black_some : (p q : Piles) (x : Place) → IsPushed q pile.Black x p → p.black ≡ [] → ⊥
+black_some p q x popped none =
+    let zero : length p.black ≡ 0 = ap length none in
+    omega (arith, zero, more_length q.black p.black x popped.more)
 
 -- the cell that was taken from the black pile was started, and then scanned
 module _ (h : HeapState) (p q : Piles) (x : Place) (looks : LooksState) (inv : MarkingInvariant h p)
-    (popped : p ≡ pushed q pile.Black x) (starts : StartsBoth mark.Black x h (with_looks h looks)) where
+    (popped : IsPushed q pile.Black x p) (starts : StartsBoth mark.Black x h (with_looks h looks)) where
   abbrev m : HeapState
   m = with_looks h looks
 
@@ -86,8 +94,8 @@ module _ (h : HeapState) (p q : Piles) (x : Place) (looks : LooksState) (inv : M
   marks = marking_on h looks p inv (more_left h p (left_of h) (left_of m) entries.kept inv.weak)
 
   point : WeakPoint m q (left_of m)
-  point = point_on h looks q (left_of m) (black_starts h q x (left_of h) (left_of m)
-      (subst (λ (z : Piles). WeakPoint h z (left_of h)) popped inv.weak) entries (left_weaker (weak_of m)))
+  point = point_on h looks q (left_of m)
+      (black_starts h q p x (left_of h) (left_of m) popped inv.weak entries (left_weaker (weak_of m)))
 
   point_scanned : (k : HeapState) (r : Piles) → Grows (HasEdge m.shape x) m q k r → WeakPoint k r (left_of k)
   point_scanned k r scan =
@@ -96,8 +104,7 @@ module _ (h : HeapState) (p q : Piles) (x : Place) (looks : LooksState) (inv : M
   once_scanned : (k : HeapState) (r : Piles) → Grows (HasEdge m.shape x) m q k r → AreScannedOnce k r
   once_scanned k r scan =
       once_kept m q k r scan.spreads.scans
-      (once_kept m (pushed q pile.Black x) m q (pops_black m q x)
-      (subst (λ (z : Piles). AreScannedOnce m z) popped marks.once))
+      (once_kept m p m q (pops_black m q p x popped) marks.once)
 
   taken_started : Taken m q x true
   taken_started = taken_black m p q x marks.holds popped
@@ -134,12 +141,10 @@ module _ (h : HeapState) (p q : Piles) (x : Place) (looks : LooksState) (inv : M
         record { black = both.black; gray = both.gray }
 
     none : ScansNoMore h p l t
-    none = subst (λ (z : Piles). ScansNoMore h z l t) (sym popped)
-        (no_more_twice h (pushed q pile.Black x) h q l t (pops_black h q x) after)
+    none = no_more_twice h p h q l t (pops_black h q p x popped) after
 
     fewer : black_scans l t x < black_scans h p x
-    fewer = subst (λ (z : Piles). black_scans l t x < black_scans h z x) (sym popped)
-        (omega (arith, pops_black_once h q x, after.black x))
+    fewer = omega (arith, pops_black_once h q p x popped, after.black x)
 
     scans_black : ScansBlack h p l t
     scans_black =
@@ -149,7 +154,7 @@ module _ (h : HeapState) (p q : Piles) (x : Place) (looks : LooksState) (inv : M
 -- as it is called
 pub record Started (h : HeapState) (p q : Piles) (x : Place) (m : HeapState) : Type 0 where
   pub inv : MarkingInvariant h p
-  pub popped : p ≡ pushed q pile.Black x
+  pub popped : IsPushed q pile.Black x p
   pub rest : m ≡ with_looks h m.looks
   pub map : Starts (λ entry. entry.map) mark.Black x h.shape.weak.entries h.looks.by_map m.looks.by_map
   pub key : Starts (λ entry. entry.key) mark.Black x h.shape.weak.entries h.looks.by_key m.looks.by_key
@@ -157,23 +162,28 @@ pub record Started (h : HeapState) (p q : Piles) (x : Place) (m : HeapState) : T
 
 pub record BlackDone (h : HeapState) (p : Piles) (m l : HeapState) (t : Piles) : Type 0 where
   pub blackens : Blackens (Reached h.shape (IsBlack h)) (with_looks h l.looks) l
+  pub gray : t.gray ≡ p.gray
   pub pending_black : (y : Place) → PendingBlack l t y ↔ PendingBlack h p y
   pub pending_live : KeepsLive h p l t
   pub scans : ScansBlack h p l t
 
-pub started_by : (h m : HeapState) (flown : ℕ → Option Bits) (p q : Piles) (x : Place)
-    → MarkingInvariant (joined h flown) p → p ≡ pushed q pile.Black x → m ≡ record h { looks = m.looks }
-    → Starts (λ entry. entry.map) mark.Black x h.shape.weak.entries h.looks.by_map m.looks.by_map
-    → Starts (λ entry. entry.key) mark.Black x h.shape.weak.entries h.looks.by_key m.looks.by_key
-    → AreParallel (weak_of m) → Started (joined h flown) p q x (joined m flown)
-started_by h m flown p q x inv popped rest map key parallel = record {
-  inv = inv;
-  popped = popped;
-  rest = ap (λ (z : HeapState). joined z flown) rest;
-  map = map;
-  key = key;
-  parallel = parallel;
-}
+pub started_by : (h n m : HeapState) (flown : ℕ → Option Bits) (p s : Piles) (x : Place)
+    → MarkingInvariant (joined h flown) p → n ≡ record h { delayed = n.delayed }
+    → IsPushed (pending n s) pile.Black x p → m ≡ record n { looks = m.looks }
+    → Starts (λ entry. entry.map) mark.Black x n.shape.weak.entries n.looks.by_map m.looks.by_map
+    → Starts (λ entry. entry.key) mark.Black x n.shape.weak.entries n.looks.by_key m.looks.by_key
+    → AreParallel (weak_of m) → Started (joined h flown) p (pending m s) x (joined m flown)
+started_by h n m flown p s x inv taken popped rest map key parallel =
+    let here = ap (λ (z : HeapState). joined z flown) taken in
+    let same = ap (λ (z : HeapState). pending z s) rest in
+    subst (λ (z : HeapState). Started z p (pending m s) x (joined m flown)) here (record {
+      inv = subst (λ (z : HeapState). MarkingInvariant z p) (sym here) inv;
+      popped = subst (λ (q : Piles). IsPushed q pile.Black x p) (sym same) popped;
+      rest = ap (λ (z : HeapState). joined z flown) rest;
+      map = map;
+      key = key;
+      parallel = parallel;
+    })
 
 module _ (h : HeapState) (p q : Piles) (x : Place) (m : HeapState) (s : Started h p q x m) where
   starts_both : StartsBoth mark.Black x h (with_looks h m.looks)
@@ -199,6 +209,15 @@ module _ (h : HeapState) (p q : Piles) (x : Place) (m : HeapState) (s : Started 
   started_once k r = subst (λ (z : HeapState). Grows (HasEdge z.shape x) z q k r → AreScannedOnce k r) (sym s.rest)
       (once_scanned h p q x m.looks s.inv s.popped starts_both k r)
 
+  -- it was scanned: what it woke were gray cells outside marking zones
+  pub started_grays : (k : HeapState) (r : Piles) → Grows (HasEdge m.shape x) m q k r
+      → grays_outside k + length r.wake ≤ grays_outside h
+  started_grays k r scan =
+      let same : grays_outside m ≡ grays_outside h = ap grays_outside s.rest in
+      let none : q.wake ≡ [] = sym (s.popped.others pile.Wake wake_black) ∙ s.inv.none_woken in
+      let zero : length q.wake ≡ 0 = ap length none in
+      omega (arith, scan.spreads.grays, same, zero)
+
   pub black_done : (k : HeapState) (r : Piles) (l : HeapState) (t : Piles) → Grows (HasEdge m.shape x) m q k r
       → Spreads (Reached k.shape (IsBlack k)) k r l t → MarkingInvariant l t → BlackDone h p m l t
   black_done k r l t = subst (λ (z : HeapState). Grows (HasEdge z.shape x) z q k r
@@ -210,6 +229,7 @@ module _ (h : HeapState) (p q : Piles) (x : Place) (m : HeapState) (s : Started 
       record {
         blackens = subst (λ (z : LooksState). Blackens (Reached h.shape (IsBlack h)) (with_looks h z) l)
             (sym (ap (λ (w : WeakMapsState). w.looks) weak)) bl;
+        gray = sp.gray_is ∙ (scan.spreads.gray_is ∙ sym (s.popped.others pile.Gray gray_black));
         pending_black = black_same h p q x m.looks s.inv s.popped both k r l t scan sp new;
         pending_live = keeps_live h p q x m.looks s.inv s.popped both k r l t scan sp new;
         scans = scans_black h p q x m.looks s.inv s.popped both k r l t scan sp new;

@@ -1,14 +1,13 @@
 -- What a unit of gray marking did, by the list that it took something out of.
-use Rattle.std.proofs.Common.{◌≡◌, ◌⊎◌, ◌+◌, ◌<◌, ◌≤◌, ◌*◌, ℕ, inl, inr, refl, sym, ap, ◌∙◌, subst, arith, Contains}
-use Rattle.std.proofs.Common.{List}
-use Rattle.std.proofs.Common.{length, ◌++◌, ◌∷◌, [], length-append, Option, sum_by}
-use Rattle.std.proofs.lemmas.List.Elements.{Contains-append_left, Contains-push}
+use Rattle.std.proofs.Common.{◌≡◌, ◌⊎◌, ◌<◌, ℕ, inl, inr, refl, sym, ap, ◌∙◌, subst, arith, Contains, List, length, []}
+use Rattle.std.proofs.Common.{Option, sum_by}
 use Rattle.gz_names.specs.Zones.{HasZone}
 use Rattle.gz_names.specs.declared.numbers.Place.{Place}
 use Rattle.roots.specs.Buffers.{buffer_at}
-use Rattle.mark_stack.specs.Stack.{Piles, pushed}
+use Rattle.mark_stack.specs.Stack.{Piles, IsPushed}
 use Rattle.mark_stack.specs.declared.stack.Pile.TheVariants as pile
-use Rattle.gray_lists.specs.Incoming.{Incoming, list_of}
+use Rattle.mark_stack.proofs.Pushed.{black_gray, more_has, more_kept, more_length}
+use Rattle.gray_lists.specs.Incoming.{Incoming, list_of, waiting_count}
 use Rattle.heap_core.specs.Shape.{Shape, HasEdge, IsPresent, state_of}
 use Rattle.cell_bits.specs.declared.bits.Bits.{Bits}
 use Rattle.heap_core.specs.Heap.{HeapState, joined, weak_of}
@@ -16,6 +15,7 @@ use Rattle.weak_maps.specs.WeakMaps.{AreParallel, LooksState, Starts}
 use Rattle.weak_maps.specs.declared.colours.MarkColour.TheVariants as mark
 use Rattle.barriers.specs.Colours.{IsBlack, grays_outside}
 use Rattle.barriers.specs.PendingLive.{GrayInvariant, buffer_of}
+use Rattle.barriers.specs.Pending.{pending}
 use Rattle.barriers.specs.Invariant.{InvariantWhile, MarkingInvariant}
 use Rattle.barriers.specs.Scans.{ScansNoMore, gray_scans}
 use Rattle.barriers.specs.WeakPoint.{WeakPoint, left_of}
@@ -36,11 +36,11 @@ WaitsOn s a b = (n : ℕ) (x : Place) → Contains (list_of b n) x → Contains 
 
 -- what a step of gray marking did
 pub does_gray : (P : Place → Type 0) (h m k : HeapState) (p p0 q : Piles) (a b : Incoming)
-    → m ≡ record h { buffers = m.buffers; looks = m.looks } → Shaded P m p0 k q → p0.black ≡ p.black → p0.room ≡ p.room
+    → m ≡ record h { buffers = m.buffers; looks = m.looks } → Shaded P m p0 k q → p0.black ≡ p.black
     → Marks h p a k q b → ((x : Place) → Contains p0.gray x → Contains p.gray x)
     → ((z : ℕ) (x : Place) → Contains (buffer_of m z) x → Contains (buffer_of h z) x) → WaitsOn h.shape a b
     → ScansNoMore h p m p0 → TakesOne h p a k q b → DoesGray h p a k q b
-does_gray P h m k p p0 q a b taken sh black room marks pile buf waits none takes =
+does_gray P h m k p p0 q a b taken sh black marks pile buf waits none takes =
     let buffers : k.buffers ≡ m.buffers = ap (λ (z : HeapState). z.buffers) sh.rest in
     record {
       marks = marks;
@@ -51,7 +51,6 @@ does_gray P h m k p p0 q a b taken sh black room marks pile buf waits none takes
         λ d. (sh.black_is y).1 (subst (λ (z : HeapState). IsBlack z y) (sym taken) d),
       );
       black_pile = sh.black_pile_is ∙ black;
-      room = sh.room_is ∙ room;
       grays_is = sh.grays_is ∙ ap grays_outside taken;
       gray_pile = λ x c. elim (sh.pile_state x c) [
         | inl was ↦ inl (pile x was)
@@ -63,25 +62,28 @@ does_gray P h m k p p0 q a b taken sh black room marks pile buf waits none takes
 
 -- the cell that was taken from the gray pile is present, and on no list
 pub popped_present : (h k : HeapState) (p p0 q : Piles) (x : Place) (P : Place → Type 0) → MarkingInvariant h p
-    → p ≡ pushed p0 pile.Gray x → Shaded P h p0 k q → IsPresent k.shape x
+    → IsPushed p0 pile.Gray x p → Shaded P h p0 k q → IsPresent k.shape x
 popped_present h k p p0 q x P inv popped sh =
     subst (λ (s : Shape). IsPresent s x) (sym (ap (λ (z : HeapState). z.shape) sh.rest))
     (inv.holds.colours.seen_present x (gray_seen h p p0 x inv.holds popped))
 
 pub popped_apart : (h : HeapState) (p p0 : Piles) (a : Incoming) (x : Place) → GrayInvariant h p a
-    → p ≡ pushed p0 pile.Gray x → (c : ℕ) → Contains (list_of a c) x → ⊥
-popped_apart h p p0 a x g popped c at =
-    g.apart c x (subst (λ (z : Piles). Contains z.gray x) (sym popped) (Contains-push p0.gray x)) at
+    → IsPushed p0 pile.Gray x p → (c : ℕ) → Contains (list_of a c) x → ⊥
+popped_apart h p p0 a x g popped c at = g.apart c x (more_has p0.gray p.gray x popped.more) at
 
-pub popped_some : (p p0 : Piles) (x : Place) → p ≡ pushed p0 pile.Gray x → p.gray ≡ [] → ⊥
+-- the lists have room for one more
+pub popped_room : (h : HeapState) (p p0 : Piles) (a : Incoming) (x : Place) → GrayInvariant h p a
+    → IsPushed p0 pile.Gray x p → waiting_count a < a.room
+popped_room h p p0 a x g popped = omega (arith, g.few, g.room, more_length p0.gray p.gray x popped.more)
+
+pub popped_some : (p p0 : Piles) (x : Place) → IsPushed p0 pile.Gray x p → p.gray ≡ [] → ⊥
 popped_some p p0 x popped none =
-    let size : length p.gray ≡ length (p0.gray ++ x ∷ []) = ap (λ (z : Piles). length z.gray) popped in
     let zero : length p.gray ≡ 0 = ap length none in
-    omega (arith, size, zero, length-append p0.gray (x ∷ []))
+    omega (arith, zero, more_length p0.gray p.gray x popped.more)
 
 -- one cell of the gray pile was started, and then followed
 module _ (h : HeapState) (p p0 : Piles) (x : Place) (looks : LooksState) (inv : MarkingInvariant h p)
-    (popped : p ≡ pushed p0 pile.Gray x) (starts : StartsBoth mark.Gray x h (with_looks h looks)) where
+    (popped : IsPushed p0 pile.Gray x p) (starts : StartsBoth mark.Gray x h (with_looks h looks)) where
   abbrev m : HeapState
   m = with_looks h looks
 
@@ -92,8 +94,8 @@ module _ (h : HeapState) (p p0 : Piles) (x : Place) (looks : LooksState) (inv : 
   marks_on = marking_on h looks p inv (more_left h p (left_of h) (left_of m) entries.kept inv.weak)
 
   point : WeakPoint m p0 (left_of m)
-  point = point_on h looks p0 (left_of m) (gray_starts h p0 x (left_of h) (left_of m)
-      (subst (λ (z : Piles). WeakPoint h z (left_of h)) popped inv.weak) entries)
+  point = point_on h looks p0 (left_of m)
+      (gray_starts h p0 p x (left_of h) (left_of m) popped inv.weak entries)
 
   module _ (k : HeapState) (q : Piles) (a b : Incoming) (g : GrayInvariant h p a) (holds : InvariantWhile [] k q)
       (sh : Shaded (HasEdge m.shape x) m p0 k q) (all : LeadsToSeen m.shape x k) (noted : Noted k.shape x a b) where
@@ -129,14 +131,13 @@ module _ (h : HeapState) (p p0 : Piles) (x : Place) (looks : LooksState) (inv : 
     after = record { black = sh.scans.black; gray = sh.scans.gray }
 
     popped_less : ScansNoMore h p h p0
-    popped_less = subst (λ (z : Piles). ScansNoMore h z h p0) (sym popped) (pops_gray h p0 x)
+    popped_less = pops_gray h p0 p x popped
 
     none : ScansNoMore h p k q
     none = no_more_twice h p h p0 k q popped_less after
 
     fewer : gray_scans k q x < gray_scans h p x
-    fewer = subst (λ (z : Piles). gray_scans k q x < gray_scans h z x) (sym popped)
-        (omega (arith, pops_gray_once h p0 x, after.gray x))
+    fewer = omega (arith, pops_gray_once h p0 p x popped, after.gray x)
 
     weak_is : weak_of k ≡ weak_of m
     weak_is = ap weak_of sh.rest
@@ -146,16 +147,14 @@ module _ (h : HeapState) (p p0 : Piles) (x : Place) (looks : LooksState) (inv : 
 
     did_pile : DoesGray h p a k q b
     did_pile =
-        let gray_is : p.gray ≡ (p0.gray ++ x ∷ []) = ap (λ (z : Piles). z.gray) popped in
-        does_gray (HasEdge h.shape x) h m k p p0 q a b refl sh (sym (ap (λ (z : Piles). z.black) popped))
-        (sym (ap (λ (z : Piles). z.room) popped)) marks_then
-        (λ y c. subst (λ zs. Contains zs y) (sym gray_is) (Contains-append_left p0.gray (x ∷ []) y c))
+        does_gray (HasEdge h.shape x) h m k p p0 q a b refl sh (sym (popped.others pile.Black black_gray)) marks_then
+        (λ y c. more_kept p0.gray p.gray x y popped.more c)
         (λ z y c. c)
         noted_here.waits
         (record { black = popped_less.black; gray = popped_less.gray })
         (inr (inr (record {
           cell = x;
-          piled = subst (λ zs. Contains zs x) (sym gray_is) (Contains-push p0.gray x);
+          piled = more_has p0.gray p.gray x popped.more;
           fewer = fewer;
           noted = noted_here;
           buffers_are = ap (λ (z : HeapState). z.buffers) sh.rest;
@@ -165,25 +164,29 @@ module _ (h : HeapState) (p p0 : Piles) (x : Place) (looks : LooksState) (inv : 
 -- as it is called
 pub record StartedGray (h : HeapState) (p p0 : Piles) (x : Place) (m : HeapState) : Type 0 where
   pub inv : MarkingInvariant h p
-  pub popped : p ≡ pushed p0 pile.Gray x
+  pub popped : IsPushed p0 pile.Gray x p
   pub rest : m ≡ with_looks h m.looks
   pub map : Starts (λ entry. entry.map) mark.Gray x h.shape.weak.entries h.looks.by_map m.looks.by_map
   pub key : Starts (λ entry. entry.key) mark.Gray x h.shape.weak.entries h.looks.by_key m.looks.by_key
   pub parallel : AreParallel (weak_of m)
 
-pub started_gray : (h m : HeapState) (flown : ℕ → Option Bits) (p q : Piles) (x : Place)
-    → MarkingInvariant (joined h flown) p → p ≡ pushed q pile.Gray x → m ≡ record h { looks = m.looks }
-    → Starts (λ entry. entry.map) mark.Gray x h.shape.weak.entries h.looks.by_map m.looks.by_map
-    → Starts (λ entry. entry.key) mark.Gray x h.shape.weak.entries h.looks.by_key m.looks.by_key
-    → AreParallel (weak_of m) → StartedGray (joined h flown) p q x (joined m flown)
-started_gray h m flown p q x inv popped rest map key parallel = record {
-  inv = inv;
-  popped = popped;
-  rest = ap (λ (z : HeapState). joined z flown) rest;
-  map = map;
-  key = key;
-  parallel = parallel;
-}
+pub started_gray : (h n m : HeapState) (flown : ℕ → Option Bits) (p s : Piles) (x : Place)
+    → MarkingInvariant (joined h flown) p → n ≡ record h { delayed = n.delayed }
+    → IsPushed (pending n s) pile.Gray x p → m ≡ record n { looks = m.looks }
+    → Starts (λ entry. entry.map) mark.Gray x n.shape.weak.entries n.looks.by_map m.looks.by_map
+    → Starts (λ entry. entry.key) mark.Gray x n.shape.weak.entries n.looks.by_key m.looks.by_key
+    → AreParallel (weak_of m) → StartedGray (joined h flown) p (pending m s) x (joined m flown)
+started_gray h n m flown p s x inv taken popped rest map key parallel =
+    let here = ap (λ (z : HeapState). joined z flown) taken in
+    let same = ap (λ (z : HeapState). pending z s) rest in
+    subst (λ (z : HeapState). StartedGray z p (pending m s) x (joined m flown)) here (record {
+      inv = subst (λ (z : HeapState). MarkingInvariant z p) (sym here) inv;
+      popped = subst (λ (q : Piles). IsPushed q pile.Gray x p) (sym same) popped;
+      rest = ap (λ (z : HeapState). joined z flown) rest;
+      map = map;
+      key = key;
+      parallel = parallel;
+    })
 
 module _ (h : HeapState) (p p0 : Piles) (x : Place) (m : HeapState) (s : StartedGray h p p0 x m) where
   starts_both : StartsBoth mark.Gray x h (with_looks h m.looks)
@@ -221,12 +224,6 @@ buffered_here h bs p inv = record {
     black = inv.piles.black;
     wake = inv.piles.wake;
     gray = inv.piles.gray;
-    room = record {
-      black = inv.piles.room.black;
-      wake = inv.piles.room.wake;
-      gray = inv.piles.room.gray;
-      room = inv.piles.room.room;
-    };
   };
   closed = inv.closed;
   weak_closed = inv.weak_closed;
@@ -243,12 +240,19 @@ takes_joined h m flown zone x takes = record {
   count = takes.count;
 }
 
+-- and what is pending is as it was
+pending_after : (h m : HeapState) (s : Piles) (zone : ℕ) (x : Place) → TakesBuffered h zone x m
+    → pending m s ≡ pending h s
+pending_after h m s zone x takes = ap (λ (z : HeapState). pending z s) takes.rest
+
 -- so what holds between two steps still holds, and the place is that of a present cell
-pub buffered_holds : (h m : HeapState) (flown : ℕ → Option Bits) (p : Piles) (zone : ℕ) (x : Place)
-    → MarkingInvariant (joined h flown) p → TakesBuffered h zone x m → InvariantWhile [] (joined m flown) p
-buffered_holds h m flown p zone x inv takes =
-    subst (λ (z : HeapState). InvariantWhile [] z p) (sym (takes_joined h m flown zone x takes).rest)
-    (buffered_here (joined h flown) m.buffers p inv.holds)
+pub buffered_holds : (h m : HeapState) (flown : ℕ → Option Bits) (s : Piles) (zone : ℕ) (x : Place)
+    → MarkingInvariant (joined h flown) (pending h s) → TakesBuffered h zone x m
+    → InvariantWhile [] (joined m flown) (pending m s)
+buffered_holds h m flown s zone x inv takes =
+    subst (λ (q : Piles). InvariantWhile [] (joined m flown) q) (sym (pending_after h m s zone x takes))
+    (subst (λ (z : HeapState). InvariantWhile [] z (pending h s)) (sym (takes_joined h m flown zone x takes).rest)
+    (buffered_here (joined h flown) m.buffers (pending h s) inv.holds))
 
 pub same_after : (h m : HeapState) (zone : ℕ) (x : Place) → TakesBuffered h zone x m → m.shape ≡ h.shape
 same_after h m zone x takes = ap (λ (z : HeapState). z.shape) takes.rest
@@ -259,17 +263,21 @@ buffered_is_present h m flown p a zone x g takes =
     subst (λ (s : Shape). IsPresent s x) (sym (same_after h m zone x takes)) (g.buffered_present zone x takes.was)
 
 -- a place was taken out of a buffer, and shaded for
-pub does_buffered : (h m : HeapState) (flown : ℕ → Option Bits) (k : HeapState) (p q : Piles) (a : Incoming)
-    (group zone : ℕ) (x : Place) → MarkingInvariant (joined h flown) p → GrayInvariant (joined h flown) p a
+pub does_buffered : (h m : HeapState) (flown : ℕ → Option Bits) (k : HeapState) (s q : Piles) (a : Incoming)
+    (group zone : ℕ) (x : Place) → MarkingInvariant (joined h flown) (pending h s)
+    → GrayInvariant (joined h flown) (pending h s) a
     → AreGraying h.shape group → HasZone group zone → TakesBuffered h zone x m → InvariantWhile [] k q
-    → Shaded (IsForItem m.shape zone x) (joined m flown) p k q → ItemShaded m.shape zone x k
-    → DoesGray (joined h flown) p a k q a
-does_buffered h m flown k p q a group zone x inv g graying here takes holds sh done =
+    → Shaded (IsForItem m.shape zone x) (joined m flown) (pending m s) k q → ItemShaded m.shape zone x k
+    → DoesGray (joined h flown) (pending h s) a k q a
+does_buffered h m flown k s q a group zone x inv g graying here takes holds sh done =
+    let p : Piles = pending h s in
     let same : m.shape ≡ h.shape = same_after h m zone x takes in
     let at : TakesBuffered (joined h flown) zone x (joined m flown) = takes_joined h m flown zone x takes in
     let shaded : Shaded (IsForItem h.shape zone x) (joined m flown) p k q =
-    subst (λ (s : Shape). Shaded (IsForItem s zone x) (joined m flown) p k q) same sh in
-    let item : ItemShaded h.shape zone x k = subst (λ (s : Shape). ItemShaded s zone x k) same done in
+    subst (λ (z : Shape). Shaded (IsForItem z zone x) (joined m flown) p k q) same
+    (subst (λ (z : Piles). Shaded (IsForItem m.shape zone x) (joined m flown) z k q) (pending_after h m s zone x takes)
+    sh) in
+    let item : ItemShaded h.shape zone x k = subst (λ (z : Shape). ItemShaded z zone x k) same done in
     let looks_is : k.looks ≡ h.looks = ap (λ (z : HeapState). z.looks) shaded.rest
     ∙ ap (λ (z : HeapState). z.looks) takes.rest in
     let popped : ScansNoMore (joined h flown) p (joined m flown) p =
@@ -277,7 +285,7 @@ does_buffered h m flown k p q a group zone x inv g graying here takes holds sh d
     (record { black = λ y. omega arith; gray = λ y. omega arith }) in
     does_gray (IsForItem h.shape zone x) (joined h flown) (joined m flown) k p p q a a
     (at.rest ∙ ap (λ ls. record (joined h flown) { buffers = m.buffers; looks = ls })
-    (sym (ap (λ (z : HeapState). z.looks) at.rest))) shaded refl refl
+    (sym (ap (λ (z : HeapState). z.looks) at.rest))) shaded refl
     (buffered_step (joined h flown) (joined m flown) k p q a zone x inv g ((graying zone).0 here) at holds shaded
     item) (λ y c. c) takes.only (λ n y c. inl c)
     popped
@@ -294,7 +302,7 @@ pub does_incoming : (h k : HeapState) (p q : Piles) (a b : Incoming) (group comp
     → InvariantWhile [] k q → Shaded (HasEdge h.shape x) h p k q → LeadsToSeen h.shape x k → DoesGray h p a k q b
 does_incoming h k p q a b group comp x inv g graying of takes holds sh all =
     let looks_is : k.looks ≡ h.looks = ap (λ (z : HeapState). z.looks) sh.rest in
-    does_gray (HasEdge h.shape x) h h k p p q a b refl sh refl refl
+    does_gray (HasEdge h.shape x) h h k p p q a b refl sh refl
     (incoming_step h k p q a b group comp x inv g graying of takes holds sh all) (λ y c. c) (λ z y c. c)
     (λ n y c. inl (takes.only n y c)) (none_more h p)
     (inr (inl (omega (arith, takes.count), ap (λ (z : HeapState). z.buffers) sh.rest, looks_is)))

@@ -3,6 +3,7 @@ pub mod Graying
 mod Scans
 pub mod Shading
 pub mod WeakPoint
+mod Queued
 pub mod Looking
 pub mod GrayLoops
 pub mod WaitingLists

@@ -1,8 +1,6 @@
 -- A look at one weak entry.
-use Rattle.std.proofs.Common.{◌≡◌, ◌⊎◌, ◌↔◌, ◌+◌, ◌<◌, ◌≤◌, ℕ, true, inl, inr, refl, sym, ap, ◌∙◌, subst, arith}
-use Rattle.std.proofs.Common.{Contains, List, ◌∷◌, [], if◌then◌else◌, Option, None, Some}
-use Rattle.std.proofs.Common.{slice_get}
-use Rattle.std.proofs.lemmas.List.Elements.{Contains-push_cases}
+use Rattle.std.proofs.Common.{◌≡◌, ◌⊎◌, ◌↔◌, ◌+◌, ℕ, true, inl, inr, refl, sym, ap, ◌∙◌, subst, arith}
+use Rattle.std.proofs.Common.{Contains, List, [], if◌then◌else◌, Option, None, Some, slice_get}
 use Rattle.gz_names.specs.Zones.{HasZone}
 use Rattle.gz_names.specs.declared.numbers.Place.{Place}
 use Rattle.cell_bits.specs.declared.bits.Bits.{Bits}
@@ -10,8 +8,9 @@ use Rattle.cell_bits.specs.declared.bits.Colour.{Colour}
 use Rattle.cell_bits.specs.declared.bits.Colour.TheVariants as colour
 use Rattle.zones.specs.declared.states.State.{State}
 use Rattle.zones.specs.declared.states.State.TheVariants as state
-use Rattle.mark_stack.specs.Stack.{Piles, pushed}
+use Rattle.mark_stack.specs.Stack.{Piles, IsPushed}
 use Rattle.mark_stack.specs.declared.stack.Pile.TheVariants as pile
+use Rattle.mark_stack.proofs.Pushed.{gray_black, more_cases, wake_black}
 use Rattle.gray_lists.specs.Incoming.{Incoming}
 use Rattle.weak_maps.specs.WeakMaps.{EntryState, HasLooked, IsSound, LooksState, NoneLeft}
 use Rattle.weak_maps.specs.declared.colours.MarkColour.{MarkColour}
@@ -20,6 +19,7 @@ use Rattle.heap_core.specs.Heap.{HeapState, colour_of, joined}
 use Rattle.barriers.specs.Reached.{HasEntry, Reached}
 use Rattle.barriers.specs.Reached as reached
 use Rattle.barriers.specs.Colours.{HasGob, IsBlack, IsSeen, grays_outside}
+use Rattle.barriers.specs.Pending.{pending}
 use Rattle.barriers.specs.PendingBlack.{PendingBlack}
 use Rattle.barriers.specs.PendingLive.{GrayInvariant, IsLiveStart}
 use Rattle.barriers.specs.Invariant.{InvariantWhile, MarkingInvariant}
@@ -41,7 +41,7 @@ use Rattle.marker.specs.Looks.{Raises, RaisesTo, weaker, with_looks}
 use Rattle.marker.specs.Shading.{Grayed, Shaded, Shades}
 use Rattle.marker.specs.Units.{DoesLook, Marks}
 use Rattle.marker.proofs.BlackSteps.{Follows, keeps_pending}
-use Rattle.marker.proofs.GraySteps.{apart_after, gray_after, marks, once_after}
+use Rattle.marker.proofs.GraySteps.{apart_after, gray_after, marks}
 use Rattle.marker.proofs.Looking.{gray_on, holds_on, live_on, pending_on, point_on}
 use Rattle.marker.proofs.Shading.{ShadeEffect, shade_effect}
 use Rattle.marker.proofs.WeakPoint.{look_gray, shaded_point}
@@ -57,7 +57,6 @@ pub record Raised (h : HeapState) (p : Piles) (k : HeapState) (q : Piles) : Type
   pub pending_black : (y : Place) → PendingBlack k q y ↔ PendingBlack h p y
   pub pending_live : KeepsLive h p k q
   pub scans : ScansNoMore h p k q
-  pub room : q.room ≡ p.room
   pub grays_is : grays_outside k ≡ grays_outside h
 
 -- nothing was to be done
@@ -72,14 +71,13 @@ raised_none h p inv = record {
   pending_black = λ y. (λ b. b, λ b. b);
   pending_live = λ lists g. (g, λ y. (λ b. b, λ b. b));
   scans = none_more h p;
-  room = refl;
   grays_is = refl;
 }
 
 -- it turned black
 module _ (h : HeapState) (p : Piles) (v : Place) (k : HeapState) (q : Piles) (inv : MarkingInvariant h p)
     (reach : Reached h.shape (IsBlack h) v) (turned : Blackened h v k) (on : is_marking h.shape v ≡ true)
-    (pushes : q ≡ pushed p pile.Black v) where
+    (pushes : IsPushed p pile.Black v q) where
   ef : Effect h p v k q
   ef = turn_effect h p v k q (inr (inl (turned, on, pushes)))
 
@@ -90,13 +88,13 @@ module _ (h : HeapState) (p : Piles) (v : Place) (k : HeapState) (q : Piles) (in
   new : MarkingInvariant k q
   new = record {
     holds = ef.invariant [] inv.holds;
-    none_woken = ap (λ (z : Piles). z.wake) pushes ∙ inv.none_woken;
+    none_woken = pushes.others pile.Wake wake_black ∙ inv.none_woken;
     weak = spread_point (λ y. y ≡ v) h p k q ef.grows.spreads inv.holds.colours.shape inv.weak;
     once = once_kept h p k q ef.grows.spreads.scans inv.once;
   }
 
   keeps : Follows h p k q
-  keeps = keeps_pending h p k q inv new (ap (λ (z : Piles). z.gray) pushes) blackens
+  keeps = keeps_pending h p k q inv new (pushes.others pile.Gray gray_black) blackens
 
   grays : grays_outside k + 0 ≡ grays_outside h
   grays = subst (λ b. grays_outside k + (if b then 0 else 1) ≡ grays_outside h) on turned.grays_is
@@ -108,17 +106,16 @@ module _ (h : HeapState) (p : Piles) (v : Place) (k : HeapState) (q : Piles) (in
     black_kept = blackens.kept;
     seen_kept = seen_kept (Reached h.shape (IsBlack h)) h k blackens;
     gob_kept = gob_kept h k turned.gobs_is;
-    gray_pile = λ y c. inl (subst (λ (z : Piles). Contains z.gray y) pushes c);
+    gray_pile = λ y c. inl (subst (λ (zs : List Place). Contains zs y) (pushes.others pile.Gray gray_black) c);
     pending_black = keeps.pending_black;
     pending_live = keeps.pending_live;
     scans = ef.grows.spreads.scans;
-    room = ap (λ (z : Piles). z.room) pushes;
     grays_is = omega (arith, grays);
   }
 
 -- it turned gray
 module _ (h : HeapState) (p : Piles) (v : Place) (k : HeapState) (q : Piles) (inv : MarkingInvariant h p)
-    (reach : Reached h.shape (IsLiveStart h) v) (grayed : Grayed h v k) (pushes : q ≡ pushed p pile.Gray v) where
+    (reach : Reached h.shape (IsLiveStart h) v) (grayed : Grayed h v k) (pushes : IsPushed p pile.Gray v q) where
   abbrev P : Place → Type 0
   P = λ y. y ≡ v
 
@@ -159,7 +156,6 @@ module _ (h : HeapState) (p : Piles) (v : Place) (k : HeapState) (q : Piles) (in
       ])
       (λ z y c. c)
       (λ c y i. sh.kept y (g.incoming_seen c y i))
-      (once_after P h h k p p q lists lists refl sh inv g g.once (λ y c. c))
       (apart_after P h h k p p q lists lists refl sh inv g (λ y c. c) (λ c y i. i))
       g.lists_apart (omega arith) refl
 
@@ -171,7 +167,7 @@ module _ (h : HeapState) (p : Piles) (v : Place) (k : HeapState) (q : Piles) (in
       (λ y c. inl c)
 
   gray_pile : (y : Place) → Contains q.gray y → Contains p.gray y ⊎ (state_of h.shape y ≡ state.MarkBlackAndGray)
-  gray_pile y c = elim (Contains-push_cases p.gray v y (subst (λ (z : Piles). Contains z.gray y) pushes c)) [
+  gray_pile y c = elim (more_cases p.gray q.gray v y pushes.more c) [
     | inl old ↦ inl old
     | inr is ↦ inr (subst (λ z. state_of h.shape z ≡ state.MarkBlackAndGray) is grayed.takes)
   ]
@@ -187,7 +183,6 @@ module _ (h : HeapState) (p : Piles) (v : Place) (k : HeapState) (q : Piles) (in
     pending_black = black_same;
     pending_live = λ lists g. (gray_holds lists g, (marks_here lists g).pending_live);
     scans = sh.scans;
-    room = sh.room_is;
     grays_is = sh.grays_is;
   }
 
@@ -266,7 +261,6 @@ module _ (c : MarkColour) (h : HeapState) (p : Piles) (a b v : Place) (looks : L
           ),
         ));
         scans = record { black = r.scans.black; gray = r.scans.gray };
-        room = r.room;
         grays_is = r.grays_is;
       }
 
@@ -358,8 +352,8 @@ module _ (c : MarkColour) (h : HeapState) (p : Piles) (a b v : Place) (looks : L
   does_look k q raises = by_colours k q (colour_of h a) (colour_of h b) refl refl raises raises
 
 -- as it is called
-module _ (c : MarkColour) (h : HeapState) (flown : ℕ → Option Bits) (p : Piles) (e : Place × Place × Place)
-    (m : HeapState) (inv : MarkingInvariant (joined h flown) p) (rest : m ≡ record h { looks = m.looks })
+module _ (c : MarkColour) (h : HeapState) (flown : ℕ → Option Bits) (s : Piles) (e : Place × Place × Place)
+    (m : HeapState) (inv : MarkingInvariant (joined h flown) (pending h s)) (rest : m ≡ record h { looks = m.looks })
     (sound : IsSound m.shape.weak) (looked : HasLooked c e h.shape.weak.entries h.looks m.looks) where
   pub looked_held : HasEntry m.shape e.0 e.1 e.2
   looked_held =
@@ -371,16 +365,23 @@ module _ (c : MarkColour) (h : HeapState) (flown : ℕ → Option Bits) (p : Pil
       (ap (λ (es : List EntryState). slice_get es looked.number) same ∙ looked.there
       ∙ ap (λ (z : EntryState). Some z) is))
 
-  pub looked_holds : InvariantWhile [] (joined m flown) p
-  looked_holds = subst (λ (z : HeapState). InvariantWhile [] z p) (sym (ap (λ (z : HeapState). joined z flown) rest))
-      (holds_on (joined h flown) m.looks p [] inv.holds)
+  -- what is pending is as it was
+  pending_looked : pending m s ≡ pending h s
+  pending_looked = ap (λ (z : HeapState). pending z s) rest
 
-  pub looked_does : (k : HeapState) (q : Piles) → Raises (joined m flown) p e.0 e.1 e.2 k q
-      → DoesLook c (joined h flown) p k q
+  pub looked_holds : InvariantWhile [] (joined m flown) (pending m s)
+  looked_holds =
+      subst (λ (q : Piles). InvariantWhile [] (joined m flown) q) (sym pending_looked)
+      (subst (λ (z : HeapState). InvariantWhile [] z (pending h s)) (sym (ap (λ (z : HeapState). joined z flown) rest))
+      (holds_on (joined h flown) m.looks (pending h s) [] inv.holds))
+
+  pub looked_does : (k : HeapState) (q : Piles) → Raises (joined m flown) (pending m s) e.0 e.1 e.2 k q
+      → DoesLook c (joined h flown) (pending h s) k q
   looked_does k q raises =
-      does_look c (joined h flown) p e.0 e.1 e.2 m.looks inv
-      (subst (λ (s : Shape). HasEntry s e.0 e.1 e.2) (ap (λ (z : HeapState). z.shape) rest) looked_held) looked k q
-      (subst (λ (z : HeapState). Raises z p e.0 e.1 e.2 k q) (ap (λ (z : HeapState). joined z flown) rest) raises)
+      does_look c (joined h flown) (pending h s) e.0 e.1 e.2 m.looks inv
+      (subst (λ (z : Shape). HasEntry z e.0 e.1 e.2) (ap (λ (z : HeapState). z.shape) rest) looked_held) looked k q
+      (subst (λ (z : HeapState). Raises z (pending h s) e.0 e.1 e.2 k q) (ap (λ (z : HeapState). joined z flown) rest)
+      (subst (λ (p : Piles). Raises (joined m flown) p e.0 e.1 e.2 k q) pending_looked raises))
 
 -- an entry was left
 pub looked_some : (c : MarkColour) (e : Place × Place × Place) (es : List EntryState) (old new : LooksState)

@@ -38,12 +38,6 @@ holds_on h l p followed inv = record {
     black = inv.piles.black;
     wake = inv.piles.wake;
     gray = inv.piles.gray;
-    room = record {
-      black = inv.piles.room.black;
-      wake = inv.piles.room.wake;
-      gray = inv.piles.room.gray;
-      room = inv.piles.room.room;
-    };
   };
   closed = inv.closed;
   weak_closed = inv.weak_closed;
@@ -89,7 +83,6 @@ gray_on h l p lists g = record {
   buffered_present = g.buffered_present;
   incoming_seen = g.incoming_seen;
   closed = g.closed;
-  once = g.once;
   apart = g.apart;
   lists_apart = g.lists_apart;
   few = g.few;

@@ -1,18 +1,16 @@
 -- Cells turn gray, one after another.
-use Rattle.std.proofs.Common.{◌≡◌, ◌⊎◌, zero, suc, inl, inr, refl, sym, ap, ◌∙◌, subst, arith, Contains, List, ◌++◌}
-use Rattle.std.proofs.Common.{◌∷◌, [], length-append}
-use Rattle.std.proofs.lemmas.List.Elements.{Contains-append_left, Contains-push, Contains-push_cases}
+use Rattle.std.proofs.Common.{◌≡◌, ◌⊎◌, inl, inr, refl, sym, ap, ◌∙◌, subst, arith, Contains, List, ◌∷◌}
+use Rattle.std.specs.List.Sorted.{IsPermutation}
 use Rattle.gz_names.specs.declared.numbers.Place.{Place}
 use Rattle.cell_bits.specs.declared.bits.Bits.{Bits}
 use Rattle.zones.specs.declared.states.State.TheVariants as state
-use Rattle.mark_stack.specs.Stack.{Piles, pushed}
-use Rattle.mark_stack.specs.declared.stack.Pile.TheVariants as pile
-use Rattle.gray_lists.specs.Incoming.{IsOnce}
+use Rattle.mark_stack.specs.Stack.{Piles}
+use Rattle.mark_stack.proofs.Pushed.{gray_alone, more_cases, more_has, more_kept, more_length}
 use Rattle.heap_core.specs.Shape.{IsPresent, state_of}
 use Rattle.heap_core.specs.Heap.{HeapState}
 use Rattle.barriers.specs.Colours.{IsBlack, IsGray, IsSeen, IsWhite}
 use Rattle.barriers.specs.Invariant.{InvariantWhile}
-use Rattle.barriers.proofs.Places.{nothing_in_none, same_or_other}
+use Rattle.barriers.proofs.Places.{same_or_other}
 use Rattle.barriers.proofs.LiveClosure.{white_or_seen}
 use Rattle.barriers.proofs.Scans.{no_more_twice, none_more}
 use Rattle.marker.specs.Shading.{Grayed, Shaded, Shades}
@@ -34,10 +32,8 @@ shaded_none P h p = record {
   pile_only = λ y c. inl c;
   pile_state = λ y c. inl c;
   fresh = λ y s. inl s;
-  once = λ o seen. o;
   black_pile_is = refl;
   wake_is = refl;
-  room_is = refl;
   left_is = refl;
   grays_is = refl;
   work = refl;
@@ -76,10 +72,8 @@ shaded_more P Q R h p k q l r a b f g = record {
     | inl mid ↦ elim (a.fresh y mid) [ inl old ↦ inl old | inr new ↦ inr (b.pile_kept y new) ]
     | inr new ↦ inr new
   ];
-  once = λ o seen. b.once (a.once o seen) (pile_seen P h p k q a seen);
   black_pile_is = b.black_pile_is ∙ a.black_pile_is;
   wake_is = b.wake_is ∙ a.wake_is;
-  room_is = b.room_is ∙ a.room_is;
   left_is = b.left_is ∙ a.left_is;
   grays_is = b.grays_is ∙ a.grays_is;
   work = omega (arith, a.work, b.work);
@@ -100,10 +94,8 @@ shaded_within P R h p k q a f = record {
   pile_only = a.pile_only;
   pile_state = a.pile_state;
   fresh = a.fresh;
-  once = a.once;
   black_pile_is = a.black_pile_is;
   wake_is = a.wake_is;
-  room_is = a.room_is;
   left_is = a.left_is;
   grays_is = a.grays_is;
   work = a.work;
@@ -111,127 +103,110 @@ shaded_within P R h p k q a f = record {
   scans = a.scans;
 }
 
--- one place more stands once in a list, if it was not there
-once_pushed : (xs : List Place) (x : Place) → IsOnce xs → (Contains xs x → ⊥) → IsOnce (xs ++ x ∷ [])
-once_pushed [] x o not = ((λ c. nothing_in_none x c), tt)
-once_pushed (y ∷ ys) x o not = (
-  λ c. elim (Contains-push_cases ys x y c)
-      [ inl was ↦ o.0 was | inr is ↦ not (subst (λ z. Contains (y ∷ ys) z) (sym is) (zero, omega arith, refl)) ],
-  once_pushed ys x o.1 (λ c. not (suc c.0, omega (arith, c.1), c.2)),
-)
+module _ (h : HeapState) (ds : List Bits) (p : Piles) (t : Place) (more : List Place)
+    (is_more : IsPermutation (t ∷ p.gray) more) (grayed : Grayed h t (record h { colours = ds })) where
+  abbrev k : HeapState
+  k = record h { colours = ds }
 
-module _ (h : HeapState) (ds : List Bits) (p : Piles) (t : Place) (grayed : Grayed h t (record h { colours = ds }))
-  where
-    abbrev k : HeapState
-    k = record h { colours = ds }
+  abbrev q : Piles
+  q = record p { gray = more }
 
-    abbrev q : Piles
-    q = pushed p pile.Gray t
+  black_kept : (y : Place) → IsBlack h y → IsBlack k y
+  black_kept y b = elim (same_or_other y t) [
+    | inl same ↦ (let w : IsWhite h y = subst (IsWhite h) (sym same) grayed.white in cc (w, b))
+    | inr other ↦ grayed.others y other ∙ b
+  ]
 
-    black_kept : (y : Place) → IsBlack h y → IsBlack k y
-    black_kept y b = elim (same_or_other y t) [
-      | inl same ↦ (let w : IsWhite h y = subst (IsWhite h) (sym same) grayed.white in cc (w, b))
-      | inr other ↦ grayed.others y other ∙ b
+  black_only : (y : Place) → IsBlack k y → IsBlack h y
+  black_only y b = elim (same_or_other y t) [
+    | inl same ↦ (let g : IsGray k y = subst (IsGray k) (sym same) grayed.gray in cc (g, b))
+    | inr other ↦ sym (grayed.others y other) ∙ b
+  ]
+
+  seen_kept : (y : Place) → IsSeen h y → IsSeen k y
+  seen_kept y s = elim (same_or_other y t) [
+    | inl same ↦ inl (subst (IsGray k) (sym same) grayed.gray)
+    | inr other ↦ elim s [ inl g ↦ inl (grayed.others y other ∙ g) | inr b ↦ inr (grayed.others y other ∙ b) ]
+  ]
+
+  seen_only : (y : Place) → IsSeen k y → IsSeen h y ⊎ (y ≡ t)
+  seen_only y s = elim (same_or_other y t) [
+    | inl same ↦ inr same
+    | inr other ↦ elim s [
+      | inl g ↦ inl (inl (sym (grayed.others y other) ∙ g))
+      | inr b
+          ↦ inl (inr (sym (grayed.others y other) ∙ b))
     ]
+  ]
 
-    black_only : (y : Place) → IsBlack k y → IsBlack h y
-    black_only y b = elim (same_or_other y t) [
-      | inl same ↦ (let g : IsGray k y = subst (IsGray k) (sym same) grayed.gray in cc (g, b))
-      | inr other ↦ sym (grayed.others y other) ∙ b
-    ]
+  gray_only : (y : Place) → IsGray k y → IsGray h y ⊎ (y ≡ t)
+  gray_only y g = elim (same_or_other y t) [ inl same ↦ inr same | inr other ↦ inl (sym (grayed.others y other) ∙ g) ]
 
-    seen_kept : (y : Place) → IsSeen h y → IsSeen k y
-    seen_kept y s = elim (same_or_other y t) [
-      | inl same ↦ inl (subst (IsGray k) (sym same) grayed.gray)
-      | inr other ↦ elim s [ inl g ↦ inl (grayed.others y other ∙ g) | inr b ↦ inr (grayed.others y other ∙ b) ]
-    ]
+  not_seen : IsSeen h t → ⊥
+  not_seen s = (let w = grayed.white in elim s [ inl g ↦ cc (w, g) | inr b ↦ cc (w, b) ])
 
-    seen_only : (y : Place) → IsSeen k y → IsSeen h y ⊎ (y ≡ t)
-    seen_only y s = elim (same_or_other y t) [
-      | inl same ↦ inr same
-      | inr other ↦ elim s [
-        | inl g ↦ inl (inl (sym (grayed.others y other) ∙ g))
-        | inr b
-            ↦ inl (inr (sym (grayed.others y other) ∙ b))
-      ]
-    ]
+  one_shaded : Shaded (λ y. y ≡ t) h p k q
+  one_shaded = record {
+    rest = refl;
+    sized = grayed.sized;
+    black_is = λ y. (black_only y, black_kept y);
+    gob_kept = grayed.gob_kept;
+    kept = seen_kept;
+    only = seen_only;
+    pile_kept = λ y c. more_kept p.gray more t y is_more c;
+    pile_only = λ y c. elim (more_cases p.gray more t y is_more c) [
+      | inl was ↦ inl was
+      | inr is ↦ inr ((λ s. not_seen (subst (IsSeen h) (sym is) s)), inl (subst (IsGray k) is grayed.gray))
+    ];
+    pile_state = λ y c. elim (more_cases p.gray more t y is_more c) [
+      | inl was ↦ inl was
+      | inr is ↦ inr (subst (λ z. state_of h.shape z ≡ state.MarkBlackAndGray) is grayed.takes)
+    ];
+    fresh = λ y s. elim (seen_only y s)
+        [ inl was ↦ inl was | inr e ↦ inr (subst (λ z. Contains q.gray z) (sym e) (more_has p.gray more t is_more)) ];
+    black_pile_is = refl;
+    wake_is = refl;
+    left_is = grayed.left_is;
+    grays_is = grayed.grays_is;
+    work = omega (arith, more_length p.gray more t is_more, grayed.whites_is);
+    whites_less = omega (arith, grayed.whites_is);
+    scans = grayed_no_more h p t more k is_more grayed;
+  }
 
-    gray_only : (y : Place) → IsGray k y → IsGray h y ⊎ (y ≡ t)
-    gray_only y g = elim (same_or_other y t) [ inl same ↦ inr same | inr other ↦ inl (sym (grayed.others y other) ∙ g) ]
-
-    not_seen : IsSeen h t → ⊥
-    not_seen s = (let w = grayed.white in elim s [ inl g ↦ cc (w, g) | inr b ↦ cc (w, b) ])
-
-    one_shaded : Shaded (λ y. y ≡ t) h p k q
-    one_shaded = record {
-      rest = refl;
-      sized = grayed.sized;
-      black_is = λ y. (black_only y, black_kept y);
-      gob_kept = grayed.gob_kept;
-      kept = seen_kept;
-      only = seen_only;
-      pile_kept = λ y c. Contains-append_left p.gray (t ∷ []) y c;
-      pile_only = λ y c. elim (Contains-push_cases p.gray t y c) [
-        | inl was ↦ inl was
-        | inr is ↦ inr ((λ s. not_seen (subst (IsSeen h) (sym is) s)), inl (subst (IsGray k) is grayed.gray))
+  shaded_invariant : (followed : List Place) → InvariantWhile followed h p → InvariantWhile followed k q
+  shaded_invariant followed inv = record {
+    colours = record {
+      shape = inv.colours.shape;
+      sized = grayed.sized ∙ inv.colours.sized;
+      seen_present = λ y s. elim (seen_only y s) [
+        | inl was ↦ inv.colours.seen_present y was
+        | inr e
+            ↦ subst (IsPresent h.shape) (sym e) grayed.present
       ];
-      pile_state = λ y c. elim (Contains-push_cases p.gray t y c) [
-        | inl was ↦ inl was
-        | inr is ↦ inr (subst (λ z. state_of h.shape z ≡ state.MarkBlackAndGray) is grayed.takes)
+      no_white = λ y there off. seen_kept y (inv.colours.no_white y there off);
+      no_gray = λ y st g. elim (gray_only y g) [
+        | inl was ↦ inv.colours.no_gray y st was
+        | inr e ↦ (let other : state_of h.shape y ≡ state.MarkBlackAndGray =
+            subst (λ z. state_of h.shape z ≡ state.MarkBlackAndGray) (sym e) grayed.takes in cc (st, other))
       ];
-      fresh = λ y s. elim (seen_only y s)
-          [ inl was ↦ inl was | inr e ↦ inr (subst (λ z. Contains q.gray z) (sym e) (Contains-push p.gray t)) ];
-      once = λ o seen. once_pushed p.gray t o (λ c. not_seen (seen t c));
-      black_pile_is = refl;
-      wake_is = refl;
-      room_is = refl;
-      left_is = grayed.left_is;
-      grays_is = grayed.grays_is;
-      work = omega (arith, length-append p.gray (t ∷ []), grayed.whites_is);
-      whites_less = omega (arith, grayed.whites_is);
-      scans = grayed_no_more h p t k grayed;
-    }
-
-    shaded_invariant : (followed : List Place) → InvariantWhile followed h p → InvariantWhile followed k q
-    shaded_invariant followed inv = record {
-      colours = record {
-        shape = inv.colours.shape;
-        sized = grayed.sized ∙ inv.colours.sized;
-        seen_present = λ y s. elim (seen_only y s) [
-          | inl was ↦ inv.colours.seen_present y was
-          | inr e
-              ↦ subst (IsPresent h.shape) (sym e) grayed.present
-        ];
-        no_white = λ y there off. seen_kept y (inv.colours.no_white y there off);
-        no_gray = λ y st g. elim (gray_only y g) [
-          | inl was ↦ inv.colours.no_gray y st was
-          | inr e ↦ (let other : state_of h.shape y ≡ state.MarkBlackAndGray =
-              subst (λ z. state_of h.shape z ≡ state.MarkBlackAndGray) (sym e) grayed.takes in cc (st, other))
-        ];
-        regs_black = λ y c. black_kept y (inv.colours.regs_black y c);
-      };
-      piles = record {
-        black = λ y c. (black_kept y (inv.piles.black y c).0, (inv.piles.black y c).1);
-        wake = λ y c. (black_kept y (inv.piles.wake y c).0, (inv.piles.wake y c).1);
-        gray = λ y c. elim (Contains-push_cases p.gray t y c) [
-          | inl was ↦ seen_kept y (inv.piles.gray y was)
-          | inr is ↦ inl (subst (IsGray k) is grayed.gray)
-        ];
-        room = record {
-          black = omega (arith, inv.piles.room.black, grayed.left_is, grayed.sized);
-          wake = omega (arith, inv.piles.room.wake, grayed.left_is, grayed.sized);
-          gray = omega (arith, inv.piles.room.gray, grayed.whites_is, grayed.sized, length-append p.gray (t ∷ []));
-          room = omega (arith, inv.piles.room.room, grayed.sized);
-        };
-      };
-      closed = λ x y b e. elim (inv.closed x y (black_only x b) e) [
-        | inl by ↦ inl (black_kept y by)
-        | inr pend
-            ↦ inr pend
+      regs_black = λ y c. black_kept y (inv.colours.regs_black y c);
+    };
+    piles = record {
+      black = λ y c. (black_kept y (inv.piles.black y c).0, (inv.piles.black y c).1);
+      wake = λ y c. (black_kept y (inv.piles.wake y c).0, (inv.piles.wake y c).1);
+      gray = λ y c. elim (more_cases p.gray more t y is_more c) [
+        | inl was ↦ seen_kept y (inv.piles.gray y was)
+        | inr is ↦ inl (subst (IsGray k) is grayed.gray)
       ];
-      weak_closed = λ m n v e bm bn off. elim (inv.weak_closed m n v e (black_only m bm) (black_only n bn) off)
-          [ inl b ↦ inl (black_kept v b) | inr pend ↦ inr pend ];
-    }
+    };
+    closed = λ x y b e. elim (inv.closed x y (black_only x b) e) [
+      | inl by ↦ inl (black_kept y by)
+      | inr pend
+          ↦ inr pend
+    ];
+    weak_closed = λ m n v e bm bn off. elim (inv.weak_closed m n v e (black_only m bm) (black_only n bn) off)
+        [ inl b ↦ inl (black_kept v b) | inr pend ↦ inr pend ];
+  }
 
 -- what shading a cell gives
 pub record ShadeEffect (h : HeapState) (p : Piles) (t : Place) (k : HeapState) (q : Piles) : Type 0 where
@@ -239,13 +214,14 @@ pub record ShadeEffect (h : HeapState) (p : Piles) (t : Place) (k : HeapState) (
   pub seen : state_of h.shape t ≡ state.MarkBlackAndGray → IsSeen k t
   pub invariant : (followed : List Place) → InvariantWhile followed h p → InvariantWhile followed k q
 
-gray_effect : (h : HeapState) (p : Piles) (t : Place) (k : HeapState) → Grayed h t k
-    → ShadeEffect h p t k (pushed p pile.Gray t)
-gray_effect h p t k grayed = subst (λ (z : HeapState). Grayed h t z → ShadeEffect h p t z (pushed p pile.Gray t))
-    (sym grayed.rest) (λ g. record {
-      shaded = one_shaded h k.colours p t g;
+gray_effect : (h : HeapState) (p : Piles) (t : Place) (more : List Place) (k : HeapState)
+    → IsPermutation (t ∷ p.gray) more → Grayed h t k → ShadeEffect h p t k (record p { gray = more })
+gray_effect h p t more k is_more grayed =
+    subst (λ (z : HeapState). Grayed h t z → ShadeEffect h p t z (record p { gray = more })) (sym grayed.rest)
+    (λ g. record {
+      shaded = one_shaded h k.colours p t more is_more g;
       seen = λ st. inl g.gray;
-      invariant = shaded_invariant h k.colours p t g;
+      invariant = shaded_invariant h k.colours p t more is_more g;
     }) grayed
 
 pub shade_effect : (h : HeapState) (p : Piles) (t : Place) (k : HeapState) (q : Piles) → Shades h p t k q
@@ -258,4 +234,4 @@ shade_effect h p t k q (inl (none, ek, eq)) =
       invariant = λ followed inv. inv;
     }))
 shade_effect h p t k q (inr (grayed, eq)) =
-    subst (λ (z : Piles). ShadeEffect h p t k z) (sym eq) (gray_effect h p t k grayed)
+    subst (λ (z : Piles). ShadeEffect h p t k z) (sym (gray_alone p q t eq)) (gray_effect h p t q.gray k eq.more grayed)

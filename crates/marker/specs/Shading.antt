@@ -2,9 +2,8 @@
 use Rattle.std.specs.Prelude.{◌≡◌, ◌≢◌, ◌⊎◌, ◌↔◌, ◌≤◌, ◌+◌, ℕ, Bool, true, false, length, Contains}
 use Rattle.gz_names.specs.declared.numbers.Place.{Place}
 use Rattle.zones.specs.declared.states.State.TheVariants as state
-use Rattle.mark_stack.specs.Stack.{Piles, pushed}
+use Rattle.mark_stack.specs.Stack.{Piles, IsPushed}
 use Rattle.mark_stack.specs.declared.stack.Pile.TheVariants as pile
-use Rattle.gray_lists.specs.Incoming.{IsOnce}
 use Rattle.heap_core.specs.Shape.{HasEdge, IsPresent, Shape, state_of, zone_of}
 use Rattle.heap_core.specs.Heap.{HeapState, colour_of}
 use Rattle.barriers.specs.Colours.{HasGob, IsBlack, IsGray, IsSeen, IsWhite, left, whites, grays_outside}
@@ -24,11 +23,11 @@ pub record Grayed (h : HeapState) (x : Place) (k : HeapState) : Type 0 where
   pub whites_is : whites k + 1 ≡ whites h
   pub grays_is : grays_outside k ≡ grays_outside h
 
--- a cell is not white now, if its zone takes gray: if it was, it is on the gray pile
+-- a cell is not white now, if its zone takes gray: if it was, it is pending on the gray pile
 abbrev pub Shades : HeapState → Piles → Place → HeapState → Piles → Type 0
 Shades h p x k q =
     ((IsWhite h x → state_of h.shape x ≡ state.MarkBlackAndGray → ⊥) × (k ≡ h) × (q ≡ p))
-    ⊎ (Grayed h x k × (q ≡ pushed p pile.Gray x))
+    ⊎ (Grayed h x k × IsPushed p pile.Gray x q)
 
 -- white cells that meet P turned gray, and are on the gray pile; no cell may be scanned more often than before
 pub record Shaded (P : Place → Type 0) (h : HeapState) (p : Piles) (k : HeapState) (q : Piles) : Type 0 where
@@ -42,10 +41,8 @@ pub record Shaded (P : Place → Type 0) (h : HeapState) (p : Piles) (k : HeapSt
   pub pile_only : (y : Place) → Contains q.gray y → Contains p.gray y ⊎ ((IsSeen h y → ⊥) × IsSeen k y)
   pub pile_state : (y : Place) → Contains q.gray y → Contains p.gray y ⊎ (state_of h.shape y ≡ state.MarkBlackAndGray)
   pub fresh : (y : Place) → IsSeen k y → IsSeen h y ⊎ Contains q.gray y
-  pub once : IsOnce p.gray → ((y : Place) → Contains p.gray y → IsSeen h y) → IsOnce q.gray
   pub black_pile_is : q.black ≡ p.black
   pub wake_is : q.wake ≡ p.wake
-  pub room_is : q.room ≡ p.room
   pub left_is : left k ≡ left h
   pub grays_is : grays_outside k ≡ grays_outside h
   pub work : length q.gray + whites k ≡ length p.gray + whites h

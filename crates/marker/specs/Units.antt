@@ -16,6 +16,7 @@ use Rattle.heap_core.specs.Shape.{Shape, is_marking, is_marking_state, state_in,
 use Rattle.heap_core.specs.Heap.{HeapState, joined}
 use Rattle.barriers.specs.Reached.{HasEntry}
 use Rattle.barriers.specs.Colours.{HasGob, IsBlack, IsSeen, grays_outside}
+use Rattle.barriers.specs.Pending.{pending}
 use Rattle.barriers.specs.PendingBlack.{PendingBlack}
 use Rattle.barriers.specs.PendingLive.{PendingLive, GrayInvariant, buffer_of}
 use Rattle.barriers.specs.Invariant.{MarkingInvariant}
@@ -79,7 +80,6 @@ pub record DoesGray (h : HeapState) (p : Piles) (a : Incoming) (k : HeapState) (
   pub scans : ScansNoMore h p k q
   pub black_is : (y : Place) → IsBlack k y ↔ IsBlack h y
   pub black_pile : q.black ≡ p.black
-  pub room : q.room ≡ p.room
   pub grays_is : grays_outside k ≡ grays_outside h
   pub gray_pile : (x : Place) → Contains q.gray x → Contains p.gray x ⊎ (state_of h.shape x ≡ state.MarkBlackAndGray)
   pub buffered : (z : ℕ) (x : Place) → Contains (buffer_of k z) x → Contains (buffer_of h z) x
@@ -91,16 +91,16 @@ pub record MayMarkGray (zones : ℕ) (h : HeapState) (flown : ℕ → Option Bit
   where
     pub group : AreGraying h.shape zones
     pub covers : Covers h.shape flown
-    pub invariant : MarkingInvariant (joined h flown) p
-    pub gray : GrayInvariant (joined h flown) p lists
+    pub invariant : MarkingInvariant (joined h flown) (pending h p)
+    pub gray : GrayInvariant (joined h flown) (pending h p) lists
 
 -- one kind of gray marking was tried for these zones, which reads at most so many edges: a piece of it was done; or
 -- there is none, and nothing was done
 pub record TriesGray (did : Bool) (none : Type 0) (most zones : ℕ) (flown : ℕ → Option Bits) (h : HeapState) (p : Piles)
     (a : Incoming) (read : ℕ) (k : HeapState) (q : Piles) (b : Incoming) (now : ℕ) : Type 0 where
-  pub does : MatchBool did (DoesGray (joined h flown) p a (joined k flown) q b)
+  pub does : MatchBool did (DoesGray (joined h flown) (pending h p) a (joined k flown) (pending k q) b)
       (none × (k ≡ h) × (q ≡ p) × (b ≡ a) × (now ≡ read))
-  pub found : IsTrue did → IsGrayIdle h p a zones → ⊥
+  pub found : IsTrue did → IsGrayIdle h (pending h p) a zones → ⊥
   pub steps : now ≤ read + most
 
 -- a cell has at least a colour
@@ -139,5 +139,4 @@ pub record DoesLook (c : MarkColour) (h : HeapState) (p : Piles) (k : HeapState)
   pub pending_black : (y : Place) → PendingBlack k q y ↔ PendingBlack h p y
   pub pending_live : KeepsLive h p k q
   pub scans : ScansNoMore h p k q
-  pub room : q.room ≡ p.room
   pub grays_is : grays_outside k ≡ grays_outside h

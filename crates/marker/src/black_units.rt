@@ -2,6 +2,7 @@
 ghost use Rattle.std.specs.Prelude.{◌≡◌, ◌⊎◌, ◌↔◌, ◌<◌, ◌≤◌, ◌+◌, ◌*◌, [], ℕ};
 ghost use Rattle.gz_names.specs.declared.numbers.Place.{Place as APlace};
 ghost use Rattle.heap_core.specs.Heap.{joined};
+ghost use Rattle.barriers.specs.Pending.{pending};
 ghost use Rattle.barriers.specs.Reached.{Reached};
 ghost use Rattle.barriers.specs.Colours.{IsBlack, grays_outside};
 ghost use Rattle.barriers.specs.PendingBlack.{PendingBlack};
@@ -12,7 +13,7 @@ ghost use Rattle.barriers.specs.Exposing.{KeepsLive};
 ghost use Rattle.marker.specs.Looks.{with_looks};
 ghost use Rattle.marker.specs.Units.{ScansBlack};
 
-use barriers::{drain, scan};
+use barriers::{drain, next_pending, scan};
 use cell_bits::Flight;
 use heap_core::{Heap, Steps};
 use mark_stack::{Pile, Stack};
@@ -37,21 +38,20 @@ pub fn black_unit<F: Flight, L: Ledger>(
     steps: &mut Steps<L>,
 ) -> Work
     requires covers { Covers heap.old.shape (F.bits flight.old) }
-    requires invariant { MarkingInvariant (joined heap.old (F.bits flight.old)) stack.old }
-    ensures invariant { MarkingInvariant (joined heap.new (F.bits flight.new)) stack.new }
+    requires invariant { MarkingInvariant (joined heap.old (F.bits flight.old)) (pending heap.old stack.old) }
+    ensures invariant { MarkingInvariant (joined heap.new (F.bits flight.new)) (pending heap.new stack.new) }
     ensures blackens { Blackens (Reached heap.old.shape (IsBlack (joined heap.old (F.bits flight.old))))
         (with_looks (joined heap.old (F.bits flight.old)) heap.new.looks)
         (joined heap.new (F.bits flight.new)) }
-    ensures gray { stack.new.gray ≡ stack.old.gray }
-    ensures room { stack.new.room ≡ stack.old.room }
+    ensures gray { (pending heap.new stack.new).gray ≡ (pending heap.old stack.old).gray }
     ensures pending_black { (y : APlace)
-        → PendingBlack (joined heap.new (F.bits flight.new)) stack.new y
-        ↔ PendingBlack (joined heap.old (F.bits flight.old)) stack.old y }
-    ensures pending_live { KeepsLive (joined heap.old (F.bits flight.old)) stack.old
-        (joined heap.new (F.bits flight.new)) stack.new }
-    ensures scans { result ≡ Work.Did → ScansBlack (joined heap.old (F.bits flight.old)) stack.old
-        (joined heap.new (F.bits flight.new)) stack.new }
-    ensures empty { (result ≡ Work.Empty) ↔ (stack.old.black ≡ []) }
+        → PendingBlack (joined heap.new (F.bits flight.new)) (pending heap.new stack.new) y
+        ↔ PendingBlack (joined heap.old (F.bits flight.old)) (pending heap.old stack.old) y }
+    ensures pending_live { KeepsLive (joined heap.old (F.bits flight.old)) (pending heap.old stack.old)
+        (joined heap.new (F.bits flight.new)) (pending heap.new stack.new) }
+    ensures scans { result ≡ Work.Did → ScansBlack (joined heap.old (F.bits flight.old)) (pending heap.old stack.old)
+        (joined heap.new (F.bits flight.new)) (pending heap.new stack.new) }
+    ensures empty { (result ≡ Work.Empty) ↔ ((pending heap.old stack.old).black ≡ []) }
     ensures same { result ≡ Work.Empty → (heap.new ≡ heap.old) × (stack.new ≡ stack.old)
         × (joined heap.old (F.bits flight.new) ≡ joined heap.old (F.bits flight.old))
         × (steps.new ≡ steps.old) }
@@ -60,7 +60,7 @@ pub fn black_unit<F: Flight, L: Ledger>(
     ensures covers { Covers heap.new.shape (F.bits flight.new) }
     ensures origin { F.origin flight.new ≡ F.origin flight.old }
 {
-    let Some(place) = stack.pop(Pile::Black) else {
+    let Some(place) = next_pending(heap, stack, Pile::Black) else {
         return Work::Empty;
     };
     heap.start(MarkColour::Black, place);

@@ -1,57 +1,76 @@
-use Rattle.marker.proofs.BlackSteps.{black_done, scanned, started_by, started_marks, started_once, started_point}
-use Rattle.marker.proofs.BlackSteps.{started_taken}
+use Rattle.std.proofs.Common.{arith, rules}
+use Rattle.heap_core.specs.Heap.{joined}
+use Rattle.barriers.specs.Pending.{pending}
+use Rattle.marker.proofs.BlackSteps.{Started, black_done, black_some, scanned, started_by, started_grays, started_marks}
+use Rattle.marker.proofs.BlackSteps.{started_once, started_point, started_taken}
+use Rattle.marker.proofs.black_units.black_unit.Given.{Over}
 use Rattle.marker.proofs.black_units.black_unit.Goals as goal
+use Rattle.marker.proofs.black_units.black_unit.Goals.{After-start}
+
+-- the cell was taken from the black pile, and started
+started : (g : Over) (c : After-start g) → Started (joined c.args.heap.now (g.F.Flight.bits c.args.flight.now))
+    (pending c.args.heap.now c.args.stack.now) (pending c.start.new.self c.next_pending.new.stack) c.in-Some.place
+    (joined c.start.new.self (g.F.Flight.bits c.args.flight.now))
+started g c = started_by c.args.heap.now c.next_pending.new.heap c.start.new.self (g.F.Flight.bits c.args.flight.now)
+    (pending c.args.heap.now c.args.stack.now) c.next_pending.new.stack c.in-Some.place c.requires.invariant
+    c.next_pending.ensures.rest c.in-Some.ensures.some c.start.ensures.rest c.start.ensures.map c.start.ensures.key
+    c.start.ensures.parallel
+
+pub scan-requires-clause-black : goal.scan-requires-clause-black
+scan-requires-clause-black g c =
+    (started_taken _ _ _ _ _ (started g (goal.at.scan-requires-clause-black g c).After-start)).black
 
 pub scan-requires-clause-holds : goal.scan-requires-clause-holds
 scan-requires-clause-holds g c =
-    (started_taken _ _ _ _ _ (started_by _ _ (g.F.Flight.bits c.args.flight.now) _ _ _ c.requires.invariant
-    c.in-Some.ensures.some c.start.ensures.rest c.start.ensures.map c.start.ensures.key
-    c.start.ensures.parallel)).invariant
+    (started_taken _ _ _ _ _ (started g (goal.at.scan-requires-clause-holds g c).After-start)).invariant
 
 pub drain-requires-clause-holds : goal.drain-requires-clause-holds
 drain-requires-clause-holds g c =
-    scanned _ _ _ _ _ _ (started_marks _ _ _ _ _
-    (started_by _ _ (g.F.Flight.bits c.args.flight.now) _ _ _ c.requires.invariant
-    c.in-Some.ensures.some c.start.ensures.rest c.start.ensures.map c.start.ensures.key
-    c.start.ensures.parallel)).holds
-    c.in-Some.ensures.some c.scan.ensures.follows.holds c.scan.ensures.follows.grows c.scan.ensures.edges
+    let s = started g (goal.at.drain-requires-clause-holds g c).After-start in
+    scanned _ _ _ _ (joined c.scan.new.heap (g.F.Flight.bits c.scan.new.flight))
+    (pending c.scan.new.heap c.scan.new.stack)
+    (started_marks _ _ _ _ _ s).holds s.popped c.scan.ensures.follows.holds c.scan.ensures.follows.grows
+    c.scan.ensures.edges
 
 pub drain-requires-clause-weak : goal.drain-requires-clause-weak
 drain-requires-clause-weak g c =
-    started_point _ _ _ _ _ (started_by _ _ (g.F.Flight.bits c.args.flight.now) _ _ _ c.requires.invariant
-    c.in-Some.ensures.some c.start.ensures.rest c.start.ensures.map c.start.ensures.key
-    c.start.ensures.parallel) _ _ c.scan.ensures.follows.grows
+    started_point _ _ _ _ _ (started g (goal.at.drain-requires-clause-weak g c).After-start)
+    (joined c.scan.new.heap (g.F.Flight.bits c.scan.new.flight)) (pending c.scan.new.heap c.scan.new.stack)
+    c.scan.ensures.follows.grows
 
 pub drain-requires-clause-once : goal.drain-requires-clause-once
 drain-requires-clause-once g c =
-    started_once _ _ _ _ _ (started_by _ _ (g.F.Flight.bits c.args.flight.now) _ _ _ c.requires.invariant
-    c.in-Some.ensures.some c.start.ensures.rest c.start.ensures.map c.start.ensures.key
-    c.start.ensures.parallel) _ _ c.scan.ensures.follows.grows
+    started_once _ _ _ _ _ (started g (goal.at.drain-requires-clause-once g c).After-start)
+    (joined c.scan.new.heap (g.F.Flight.bits c.scan.new.flight)) (pending c.scan.new.heap c.scan.new.stack)
+    c.scan.ensures.follows.grows
 
-pub returns-clause-blackens : goal.returns-clause-blackens
-returns-clause-blackens g c =
-    (black_done _ _ _ _ _ (started_by _ _ (g.F.Flight.bits c.args.flight.now) _ _ _ c.requires.invariant
-    c.in-Some.ensures.some c.start.ensures.rest c.start.ensures.map c.start.ensures.key
-    c.start.ensures.parallel) _ _ _ _
-    c.scan.ensures.follows.grows c.drain.ensures.spreads c.drain.ensures.invariant).blackens
-
-pub returns-clause-pending_black : goal.returns-clause-pending_black
-returns-clause-pending_black g c =
-    (black_done _ _ _ _ _ (started_by _ _ (g.F.Flight.bits c.args.flight.now) _ _ _ c.requires.invariant
-    c.in-Some.ensures.some c.start.ensures.rest c.start.ensures.map c.start.ensures.key
-    c.start.ensures.parallel) _ _ _ _
-    c.scan.ensures.follows.grows c.drain.ensures.spreads c.drain.ensures.invariant).pending_black
-
-pub returns-clause-pending_live : goal.returns-clause-pending_live
-returns-clause-pending_live g c =
-    (black_done _ _ _ _ _ (started_by _ _ (g.F.Flight.bits c.args.flight.now) _ _ _ c.requires.invariant
-    c.in-Some.ensures.some c.start.ensures.rest c.start.ensures.map c.start.ensures.key
-    c.start.ensures.parallel) _ _ _ _
-    c.scan.ensures.follows.grows c.drain.ensures.spreads c.drain.ensures.invariant).pending_live
-
-pub returns-clause-scans : goal.returns-clause-scans
-returns-clause-scans g c =
-    λ did. (black_done _ _ _ _ _ (started_by _ _ (g.F.Flight.bits c.args.flight.now) _ _ _ c.requires.invariant
-    c.in-Some.ensures.some c.start.ensures.rest c.start.ensures.map c.start.ensures.key
-    c.start.ensures.parallel) _ _ _ _
-    c.scan.ensures.follows.grows c.drain.ensures.spreads c.drain.ensures.invariant).scans
+pub returns : goal.returns
+returns g c =
+    let s = started g (goal.at.returns g c).After-start in
+    let k = joined c.scan.new.heap (g.F.Flight.bits c.scan.new.flight) in
+    let r = pending c.scan.new.heap c.scan.new.stack in
+    let done = black_done _ _ _ _ _ s k r (joined c.drain.new.heap (g.F.Flight.bits c.drain.new.flight))
+    (pending c.drain.new.heap c.drain.new.stack) c.scan.ensures.follows.grows c.drain.ensures.spreads
+    c.drain.ensures.invariant in
+    record {
+      invariant = c.drain.ensures.invariant;
+      blackens = done.blackens;
+      gray = done.gray;
+      pending_black = done.pending_black;
+      pending_live = done.pending_live;
+      scans = λ did. done.scans;
+      empty = (
+        λ e. cc e,
+        λ none. absurd
+            (black_some _ (pending c.next_pending.new.heap c.next_pending.new.stack) _ c.in-Some.ensures.some none),
+      );
+      same = λ e. cc e;
+      steps = omega (
+        arith,
+        c.scan.ensures.few,
+        c.drain.ensures.steps,
+        started_grays _ _ _ _ _ s k r c.scan.ensures.follows.grows,
+      );
+      covers = c.drain.ensures.covers;
+      origin = search rules;
+    }

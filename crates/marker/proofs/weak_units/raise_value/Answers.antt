@@ -7,12 +7,12 @@ use Rattle.marker.proofs.weak_units.raise_value.Goals as goal
 
 pub weaker_colour-requires-clause-one_made : goal.weaker_colour-requires-clause-one_made
 weaker_colour-requires-clause-one_made g c =
-    bits_within _ (g.F.Flight.bits c.args.flight.now) _ c.requires.marks.colours
+    bits_within c.args.heap.now (g.F.Flight.bits c.args.flight.now) _ c.requires.marks.colours
     (c.requires.marks.colours.shape.entries _ _ _ c.requires.entry).0
 
 pub weaker_colour-requires-clause-other_made : goal.weaker_colour-requires-clause-other_made
 weaker_colour-requires-clause-other_made g c =
-    bits_within _ (g.F.Flight.bits c.args.flight.now) _ c.requires.marks.colours
+    bits_within c.args.heap.now (g.F.Flight.bits c.args.flight.now) _ c.requires.marks.colours
     (c.requires.marks.colours.shape.entries _ _ _ c.requires.entry).1
 
 pub shade-requires-clause-group : goal.shade-requires-clause-group
