@@ -10,5 +10,6 @@ pub mod RaisesToCome
 pub mod Rooms
 pub mod Serving
 pub mod Through
+pub mod Viewed
 pub mod Waking
 pub mod Woken

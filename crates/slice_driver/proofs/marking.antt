@@ -6,8 +6,10 @@ pub mod MarkingSteps
 pub mod MarkingUnits
 pub mod Marks
 pub mod OneUnit
+pub mod Settled
 pub mod Steps
 pub mod Units
+pub mod Views
 pub mod Worlds
 pub mod ZoneSteps
 pub mod Zones

@@ -12,7 +12,6 @@ use Rattle.gray_lists.specs.Incoming.{Incoming}
 use Rattle.heap_core.specs.Shape.{HasEdge, Shape, field_at, state_in, zone_of}
 use Rattle.heap_core.specs.Heap.{HeapState, colour_of}
 use Rattle.barriers.specs.Colours.{IsBlack, IsGray}
-use Rattle.barriers.specs.Invariant.{HasRoom}
 use Rattle.barriers.specs.PendingLive.{buffer_of}
 use Rattle.barriers.specs.Scans.{AreScannedOnce}
 use Rattle.slice_driver.specs.ListedWrappers.{is_outside, listed_below}
@@ -47,12 +46,13 @@ pub record IsListed (s : Shape) (p q : Place) : Type 0 where
   pub listed : Contains (list_of s.wrappers (zone_of s p)) (key, p)
   pub target : field_at s p 0 ≡ Some q
 
--- marking of these zones has begun: in them exactly the black roots are black and on the black pile, each once, and
+-- marking of these zones has begun: in them exactly the black roots are black and pending in black, each once, and
 -- none is gray; other zones are as before
 pub record BeginsMarking (h : HeapState) (zones : ZoneSet) (k : HeapState) (stack : Piles) (lists : Incoming) : Type 0
   where
     pub shape_is : k.shape ≡ record h.shape { states = k.shape.states }
     pub made_is : k.made ≡ h.made
+    pub delayed_is : k.delayed ≡ h.delayed
     pub looks_is : k.looks ≡ h.looks
     pub count : length k.shape.states ≡ length h.shape.states
     pub states : (z : ℕ) → HasZone zones.bits z → state_in k.shape z ≡ state.MarkBlackOnly
@@ -64,7 +64,6 @@ pub record BeginsMarking (h : HeapState) (zones : ZoneSet) (k : HeapState) (stac
     pub black_pile : (x : Place) → Contains stack.black x ↔ (IsBlack k x × IsWithin h.shape zones x)
     pub gray_pile : stack.gray ≡ []
     pub wake_pile : stack.wake ≡ []
-    pub room : HasRoom k stack
     pub once : AreScannedOnce k stack
     pub buffered : (z : ℕ) (x : Place) → Contains (buffer_of k z) x ↔ IsGrayRoot h zones z x
     pub few_buffered : sum_by length k.buffers

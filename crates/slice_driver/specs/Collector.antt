@@ -15,7 +15,8 @@ pub record RunState : Type 0 where
   pub zones : ZoneSet
   pub formed : Bool
 
--- groups: those that have not ended, the current one first
+-- stack: what is pending, whether on a pile or delayed, so that the heap has no delayed cells of its own; groups: those
+-- that have not ended, the current one first
 pub record CollectorState : Type 0 where
   pub heap : HeapState
   pub stack : Piles

@@ -11,11 +11,11 @@ use Rattle.colour_defs.specs.Laws.{IsValid}
 use Rattle.colour_defs.specs.Step.{IsAccepted, step_of}
 use Rattle.colour_defs.specs.World.{World, Collection, CommandInWorld, IsSettled, with_counts, with_waking, woken_by}
 use Rattle.heap_core.specs.Shape.{AreWhole, Shape, IsPresent, name_at, zone_of}
-use Rattle.heap_core.specs.Heap.{HeapState}
+use Rattle.heap_core.specs.Heap.{HeapState, with_marks}
 use Rattle.heap_core.specs.Plans.{IsNoWrap}
 use Rattle.heap_core.specs.Shows.{Shows}
 use Rattle.heap_core.specs.Changes.{next_place}
-use Rattle.mark_stack.specs.Stack.{Piles}
+use Rattle.mark_stack.specs.Stack.{Piles, no_places}
 use Rattle.barriers.specs.Reached.{Reached}
 use Rattle.barriers.specs.Colours.{IsBlack}
 use Rattle.barriers.specs.Exposing.{BlackOr, Exposes}
@@ -53,9 +53,9 @@ abbrev pub waking : Option Name → Option Collection → Option Collection
 waking None collection = collection
 waking (Some x) collection = with_waking x collection
 
--- the heap with other bits: those in flight besides its own
+-- the heap as marking sees it, with other bits: those in flight besides its own
 abbrev pub with_colours : HeapState → List Bits → HeapState
-with_colours h colours = record h { colours = colours }
+with_colours h colours = with_marks h colours no_places
 
 -- the same present cells are black
 abbrev pub KeepsBlack : HeapState → HeapState → Type 0

@@ -23,7 +23,7 @@ use Rattle.barriers.specs.Colours.{IsBlack, IsGray, IsSeen, IsWhite}
 use Rattle.barriers.specs.PendingLive.{buffer_of}
 use Rattle.slice_driver.specs.Collector.{CollectorState, RunState}
 
--- nothing is left to mark for a group: its zones all take gray, no cell is on a pile, nothing waits for it, no weak
+-- nothing is left to mark for a group: its zones all take gray, no cell is pending, nothing waits for it, no weak
 -- entry is to be looked at, and the weak rule adds nothing, in black for any marking zone, in gray for the group
 pub record IsMarked (h : HeapState) (p : Piles) (lists : Incoming) (g : ZoneSet) : Type 0 where
   pub begun : (z : ℕ) → HasZone g.bits z → state_in h.shape z ≡ state.MarkBlackAndGray

@@ -31,6 +31,7 @@ pub record IsQuiet (c : CollectorState) (flown : ℕ → Option Bits) (d : Colle
     0 where
   pub shape_is : d.heap.shape ≡ record c.heap.shape { states = d.heap.shape.states }
   pub made_is : d.heap.made ≡ c.heap.made
+  pub delayed_is : d.heap.delayed ≡ c.heap.delayed
   pub run_is : d.run ≡ c.run
   pub groups_is : d.groups ≡ c.groups
   pub sized : length d.heap.shape.states ≡ length c.heap.shape.states

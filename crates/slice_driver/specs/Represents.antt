@@ -15,6 +15,7 @@ use Rattle.zone_edges.specs.Looks.{AreLeftBlack, IsLookedAt}
 use Rattle.colour_defs.specs.World.{World, Collection, IsSettled}
 use Rattle.colour_defs.specs.Groups.{IsFirstEdge}
 use Rattle.heap_core.specs.Shape.{HasEdge, Shape, is_marking_state, out_of, state_in, state_of, zone_of}
+use Rattle.mark_stack.specs.Stack.{no_places}
 use Rattle.heap_core.specs.Heap.{HeapState}
 use Rattle.barriers.specs.Colours.{IsBlack}
 use Rattle.barriers.specs.Invariant.{MarkingInvariant}
@@ -102,8 +103,9 @@ RunsAs h c w None (Some k) = ⊥
 RunsAs h c w (Some r) None = ⊥
 RunsAs h c w (Some r) (Some k) = Runs h c w r k
 
--- a collector stands for a world, with these bits in flight
+-- a collector stands for a world, with these bits in flight; what is delayed is told among what is pending
 pub record Represents (c : CollectorState) (flown : ℕ → Option Bits) (w : World) : Type 0 where
+  pub delayed : c.heap.delayed ≡ no_places
   pub lies : LiesIn c.heap w
   pub unswept_apart : (x : Name) (p q : Place) → IsUnswept c.heap.shape p x → IsUnswept c.heap.shape q x → p ≡ q
   pub flies : IsInFlight c.heap.shape flown

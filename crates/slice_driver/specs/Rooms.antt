@@ -1,4 +1,4 @@
--- The room that a command wants on the stack and the lists.
+-- The room that a command wants on the lists.
 use Rattle.std.specs.Prelude.{◌≡◌, ◌≤◌, ◌+◌, ◌*◌, ◌==◌, ℕ, length, Option, Some, None, if◌then◌else◌}
 use Rattle.heap_core.specs.Heap.{HeapState}
 use Rattle.heap_core.specs.Changes.{next_place}
@@ -11,14 +11,9 @@ arenas_after h (Some zone) = length h.colours + (if (next_place h.shape zone).0 
 
 -- room for the slots of so many arenas
 pub record IsRoomy (c : CollectorState) (arenas : ℕ) : Type 0 where
-  pub stack : 64 * arenas ≤ c.stack.room
   pub lists : 64 * arenas ≤ c.lists.room
 
 -- nothing changed but that there may be more room
 pub record Widens (c d : CollectorState) : Type 0 where
-  pub rest : d ≡ record c {
-    stack = record c.stack { room = d.stack.room };
-    lists = record c.lists { room = d.lists.room };
-  }
-  pub stack : c.stack.room ≤ d.stack.room
+  pub rest : d ≡ record c { lists = record c.lists { room = d.lists.room } }
   pub lists : c.lists.room ≤ d.lists.room

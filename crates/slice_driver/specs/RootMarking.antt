@@ -5,18 +5,17 @@ use Rattle.gz_names.specs.declared.numbers.Place.{Place}
 use Rattle.gz_names.specs.declared.zone_sets.ZoneSet.{ZoneSet}
 use Rattle.cell_bits.specs.declared.bits.Colour.{Colour}
 use Rattle.cell_bits.specs.declared.bits.Colour.TheVariants as colour
-use Rattle.mark_stack.specs.Stack.{Piles, pushed}
+use Rattle.mark_stack.specs.Stack.{Piles, IsPushed}
 use Rattle.mark_stack.specs.declared.stack.Pile.TheVariants as pile
 use Rattle.heap_core.specs.Shape.{Shape, field_at, out_of, zone_of}
 use Rattle.heap_core.specs.Heap.{HeapState, colour_of}
 use Rattle.zone_edges.specs.Looks.{wrapper_at}
 use Rattle.barriers.specs.Colours.{IsBlack, IsGray}
-use Rattle.barriers.specs.Invariant.{HasRoom}
 use Rattle.barriers.specs.Scans.{ScansNoMore}
 use Rattle.heap_core.specs.MarkBits.{TakesBlack}
 use Rattle.slice_driver.specs.Begins.{IsWithin}
 
--- the cells of these zones that meet P turned black, and those that were not black before are on the black pile; no
+-- the cells of these zones that meet P turned black, and those that were not black before are pending in black; no
 -- cell may be scanned more often
 pub record Marks (P : Place → Type 0) (zones : ZoneSet) (h : HeapState) (p : Piles) (k : HeapState) (q : Piles) : Type 0
   where
@@ -28,19 +27,17 @@ pub record Marks (P : Place → Type 0) (zones : ZoneSet) (h : HeapState) (p : P
     pub pile : (x : Place) → Contains q.black x ↔ (Contains p.black x ⊎ (IsBlack k x × (IsBlack h x → ⊥)))
     pub gray_pile : q.gray ≡ p.gray
     pub wake_pile : q.wake ≡ p.wake
-    pub room_is : q.room ≡ p.room
-    pub room : HasRoom k q
     pub scans : ScansNoMore h p k q
 
--- a cell was black already, or its black bit was set and it was put on the black pile
+-- a cell was black already, or its black bit was set and it became pending in black
 abbrev pub Blackens : HeapState → Piles → Place → HeapState → Piles → Type 0
-Blackens h p x k q = (IsBlack h x × (k ≡ h) × (q ≡ p)) ⊎ (TakesBlack h x k × (q ≡ pushed p pile.Black x))
+Blackens h p x k q = (IsBlack h x × (k ≡ h) × (q ≡ p)) ⊎ (TakesBlack h x k × IsPushed p pile.Black x q)
 
--- no arena is handed to sweeping, and the piles have room for each slot
+-- no arena is handed to sweeping, and what is pending in black is black
 pub record IsReady (h : HeapState) (p : Piles) : Type 0 where
   pub sized : length h.colours ≡ length h.shape.arenas
   pub kept : (a : ℕ) → out_of h.shape a ≡ None
-  pub room : HasRoom h p
+  pub piled : (x : Place) → Contains p.black x → IsBlack h x
 
 -- one of the first registers holds a cell
 abbrev pub IsHeldBefore : Shape → ℕ → Place → Type 0

@@ -22,10 +22,11 @@ pub record GoesThrough (o : Option Place) (c : CollectorState) (flown : ℕ → 
     (flying : ℕ → Option Bits) : Type 0 where
   pub exposed : Exposed o (joined c.heap flown) c.stack (joined d.heap flying) d.stack
   pub rest : d ≡ record c { heap = d.heap; stack = d.stack }
+  pub delayed : d.heap.delayed ≡ c.heap.delayed
   pub still : o ≡ None → (d ≡ c) × (flying ≡ flown)
   pub covers : Covers d.heap.shape flying
 
--- room was made on the stack and the lists for what a plan of the command changes; what it overwrites or removes was
+-- room was made on the lists for what a plan of the command changes; what it overwrites or removes was
 -- exposed, then what a `wrap` is about, then what it hands out; and its change was made. Only memory may be wanted in
 -- place of it, and only by a change that may want some
 pub record CommandSteps (c : CollectorState) (flown : ℕ → Option Bits) (command : GraphCmd)
@@ -49,5 +50,4 @@ pub record CommandSteps (c : CollectorState) (flown : ℕ → Option Bits) (comm
   pub change : IfOk result (λ answer. ChangesBy third.heap plan.change answer d.heap)
   pub err : OnErr result (d.heap ≡ third.heap)
   pub wanted : IfErr result (λ why. (why ≡ fault.NoMemory) × MayWant third.heap.shape plan.change)
-  pub room : 64 * length d.heap.colours ≤ d.stack.room
   pub more_room : 64 * length d.heap.colours ≤ d.lists.room

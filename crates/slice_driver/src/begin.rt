@@ -41,8 +41,8 @@ impl From<AllocError> for BeginFault {
 impl Collector {
     /// Begins a collection of these zones (js/src/gc/GC.cpp, `beginMarkPhase`). Their mark bits are
     /// cleared, and their gray roots are buffered: the cells that gray slots hold, and the gray
-    /// wrappers of other zones that lead into them. Their black roots are marked and put on the
-    /// stack: the cells that registers hold, and the targets of black wrappers of other zones. All
+    /// wrappers of other zones that lead into them. Their black roots are marked and become
+    /// pending: the cells that registers hold, and the targets of black wrappers of other zones. All
     /// memory is taken first. It is refused where one runs, whatever is in flight, and then where one
     /// of the zones is not made; after a fault the collector is as it was.
     pub fn begin<L: Ledger>(

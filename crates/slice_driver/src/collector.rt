@@ -53,13 +53,15 @@ pub struct Collector {
 }
 
 impl Model for Collector {
+    ghost use Rattle.heap_core.specs.Heap.{without_delayed};
+    ghost use Rattle.barriers.specs.Pending.{pending};
     ghost use Rattle.slice_driver.specs.Collector.{CollectorState, IsKept, run_of};
 
     ghost Value = { CollectorState };
 
     ghost view = { λ c. record {
-      heap = c.heap;
-      stack = c.stack;
+      heap = without_delayed c.heap;
+      stack = pending c.heap c.stack;
       lists = c.lists;
       edges = c.edges;
       groups = c.order;

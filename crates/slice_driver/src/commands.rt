@@ -31,7 +31,7 @@ impl Collector {
     /// A command that is refused returns `Refused`, with the reason, and changes nothing, neither
     /// the collector nor a colour in flight. Only a command that is not refused returns `NoMemory`,
     /// and only one that makes something: then the graph is as it was. There may be more room on
-    /// the stack and the lists, and a `wrap` may have exposed its target; nothing else changed.
+    /// the lists, and a `wrap` may have exposed its target; nothing else changed.
     #[inline(always)]
     pub fn command<F: Flight, L: Ledger>(
         &mut self,
@@ -79,8 +79,8 @@ impl Collector {
         }
     }
 
-    // Makes room on the stack and the lists for the cells of a new arena, where a cell is made in a
-    // zone and comes into one.
+    // Makes room on the lists for the cells of a new arena, where a cell is made in a zone and comes
+    // into one.
     #[inline(always)]
     fn make_room(&mut self, made_in: Option<ZoneNo>) -> Result<(), NoMemory>
         requires roomy { IsRoomy self.old (length self.old.heap.colours) }
@@ -94,7 +94,6 @@ impl Collector {
         if !self.heap.is_full(zone) {
             return Ok(());
         }
-        self.stack.reserve(64)?;
         self.lists.reserve(64)
     }
 

@@ -179,7 +179,18 @@ fn list_freed(heap: &mut Heap, arena: u32, taken: Taken, names: &mut Names64)
     ensures names { AreFreed heap.old.shape arena taken.freed names.new }
 {
     heap.take_in(arena, taken.freed, taken.bits, names);
-    names.sort();
+    sort_names(names);
+}
+
+// Puts names into the order of printed lists. Most arenas lose no more than one cell.
+#[inline(always)]
+fn sort_names(names: &mut Names64)
+    ensures permutation { IsPermutation names.old names.new }
+    ensures sorted { IsSorted name_cmp names.new }
+{
+    if names.len() > 1 {
+        names.sort();
+    }
 }
 
 // Hands the arenas of a group to sweeping, drops what names a cell that is not present any more, and

@@ -52,7 +52,7 @@ pub fn reached_law()
         → Reached h.shape (BlackOr h q) p ↔ Closure w.graph (λ s. Has w.black s ⊎ (y ≡ s)) x }
 {}
 
-/// Where the cells of a heap lie does not depend on their colours.
+/// Where the cells of a heap lie does not depend on their colours, nor on what is delayed.
 pub fn colours_law()
     ensures { (h : HeapState) (ds : List Bits) (w : World)
         → LiesIn (with_colours h ds) w ↔ LiesIn h w }

@@ -35,7 +35,7 @@
 // A collection goes on unit by unit. `unit` does the first of six steps that has work, each by the laws
 // of its step:
 //
-//     1 marks_black      a cell of the black pile, or a weak entry for black
+//     1 marks_black      a cell that is pending in black, or a weak entry for black
 //     2 forms_groups     before the groups are formed, a look at a wrapper, or a grouping step
 //     3 begins_zone      gray marking of a zone of the current group begins
 //     4 marks_gray       a piece of gray marking of the group, or a weak entry for gray

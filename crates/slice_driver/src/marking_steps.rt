@@ -20,7 +20,7 @@ use std::sync::ledger::Ledger;
 use weak_maps::MarkColour;
 
 impl Collector {
-    // Follows a cell of the black pile. False where there is none.
+    // Follows a cell that is pending in black. False where there is none.
     #[inline(always)]
     fn follows_black<F: Flight, L: Ledger>(&mut self, flight: &mut F, steps: &mut Steps<L>) -> bool
         requires sound { IsSound self.old (F.bits flight.old) }

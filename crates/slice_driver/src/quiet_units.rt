@@ -41,6 +41,10 @@ impl Collector {
         ensures made { self.new.heap.made ≡ self.old.heap.made }
         ensures weak { self.new.heap.shape.weak ≡ self.old.heap.shape.weak }
     {
+        // Where no zone is marking, as while the last arenas come in, there is none.
+        if self.settled() {
+            return 0;
+        }
         let mut count = 0;
         while count < limit {
             let more = self.some_quiet_units(limit - count, flight, steps);

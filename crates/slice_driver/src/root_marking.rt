@@ -2,11 +2,14 @@
 ghost use Rattle.std.specs.Prelude.{◌≡◌, ◌<◌, None, Some, Contains, IfNone, IfSome, IsTrue, length, slice_get};
 ghost use Rattle.gz_names.specs.Zones.{HasZone};
 ghost use Rattle.heap_core.specs.Shape.{IsPresent, field_at};
+ghost use Rattle.heap_core.specs.Heap.{without_delayed};
 ghost use Rattle.zone_edges.specs.Looks.{AreWrappers, IsWrapperIn};
+ghost use Rattle.barriers.specs.Pending.{pending};
 ghost use Rattle.barriers.specs.Colours.{IsBlack};
 ghost use Rattle.slice_driver.specs.RootMarking.{Blackens, IsNoSource, IsReady, IsTargetAmong, IsTargetOf};
 ghost use Rattle.slice_driver.specs.RootMarking.{LeadsElsewhere, Marks};
 
+use barriers::queue;
 use cell_bits::Colour;
 use gz_names::{Place, Reg, ZoneNo, ZoneSet};
 use heap_core::{Heap, Steps};
@@ -15,10 +18,11 @@ use std::sync::ledger::Ledger;
 
 /// Marks the cells of these zones that registers hold.
 pub(crate) fn mark_registers(heap: &mut Heap, stack: &mut Stack, zones: ZoneSet)
-    requires ready { IsReady heap.old stack.old }
+    requires ready { IsReady (without_delayed heap.old) (pending heap.old stack.old) }
     requires held { (x : _) → Contains heap.old.shape.regs (Some x) → IsPresent heap.old.shape x }
-    ensures { Marks (λ x. Contains heap.old.shape.regs (Some x)) zones heap.old stack.old
-        heap.new stack.new }
+    ensures { Marks (λ x. Contains heap.old.shape.regs (Some x)) zones
+        (without_delayed heap.old) (pending heap.old stack.old)
+        (without_delayed heap.new) (pending heap.new stack.new) }
 {
     for index in 0..16u8 {
         if let Some(place) = held_in(heap, index) {
@@ -35,10 +39,12 @@ pub(crate) fn mark_targets<L: Ledger>(
     zones: ZoneSet,
     steps: &mut Steps<L>,
 )
-    requires ready { IsReady heap.old stack.old }
+    requires ready { IsReady (without_delayed heap.old) (pending heap.old stack.old) }
     requires wrappers { AreWrappers heap.old.shape }
-    ensures { Marks (IsTargetAmong heap.old zones (length heap.old.shape.states)) zones heap.old
-        stack.old heap.new stack.new }
+    ensures { Marks
+        (IsTargetAmong (without_delayed heap.old) zones (length heap.old.shape.states)) zones
+        (without_delayed heap.old) (pending heap.old stack.old)
+        (without_delayed heap.new) (pending heap.new stack.new) }
 {
     for index in 0..heap.zones() {
         if let Some(zone) = source_at(heap, zones, index) {
@@ -103,10 +109,12 @@ fn mark_targets_of<L: Ledger>(
     zones: ZoneSet,
     steps: &mut Steps<L>,
 )
-    requires ready { IsReady heap.old stack.old }
+    requires ready { IsReady (without_delayed heap.old) (pending heap.old stack.old) }
     requires wrappers { AreWrappers heap.old.shape }
     requires other { HasZone zones.bits zone → ⊥ }
-    ensures { Marks (IsTargetOf heap.old zone) zones heap.old stack.old heap.new stack.new }
+    ensures { Marks (IsTargetOf (without_delayed heap.old) zone) zones
+        (without_delayed heap.old) (pending heap.old stack.old)
+        (without_delayed heap.new) (pending heap.new stack.new) }
 {
     let mut cursor = 0;
     while let Some(wrapper) = heap.next_of(zone, &mut cursor) {
@@ -122,11 +130,12 @@ fn mark_target<L: Ledger>(
     wrapper: Place,
     steps: &mut Steps<L>,
 )
-    requires ready { IsReady heap.old stack.old }
+    requires ready { IsReady (without_delayed heap.old) (pending heap.old stack.old) }
     requires wrapper { (z : _) × IsWrapperIn heap.old.shape z wrapper }
     ensures { Marks
         (λ x. IsBlack heap.old wrapper × (field_at heap.old.shape wrapper 0 ≡ Some x)) zones
-        heap.old stack.old heap.new stack.new }
+        (without_delayed heap.old) (pending heap.old stack.old)
+        (without_delayed heap.new) (pending heap.new stack.new) }
 {
     if heap.colour(wrapper) == Colour::Black
         && let Some(target) = heap.reached_by(wrapper, 0, steps)
@@ -137,9 +146,11 @@ fn mark_target<L: Ledger>(
 
 // Marks a cell black and pending, if it lies in one of these zones and is not black yet.
 fn mark_root(heap: &mut Heap, stack: &mut Stack, zones: ZoneSet, place: Place)
-    requires ready { IsReady heap.old stack.old }
+    requires ready { IsReady (without_delayed heap.old) (pending heap.old stack.old) }
     requires made { place.0 < length heap.old.shape.arenas }
-    ensures { Marks (λ x. x ≡ place) zones heap.old stack.old heap.new stack.new }
+    ensures { Marks (λ x. x ≡ place) zones
+        (without_delayed heap.old) (pending heap.old stack.old)
+        (without_delayed heap.new) (pending heap.new stack.new) }
 {
     if heap.lies_in(place, zones) {
         mark_black(heap, stack, place);
@@ -149,10 +160,11 @@ fn mark_root(heap: &mut Heap, stack: &mut Stack, zones: ZoneSet, place: Place)
 // Marks a cell black and pending, if it is not black yet.
 fn mark_black(heap: &mut Heap, stack: &mut Stack, place: Place)
     requires made { place.0 < length heap.old.shape.arenas }
-    requires ready { IsReady heap.old stack.old }
-    ensures { Blackens heap.old stack.old place heap.new stack.new }
+    requires ready { IsReady (without_delayed heap.old) (pending heap.old stack.old) }
+    ensures { Blackens (without_delayed heap.old) (pending heap.old stack.old) place
+        (without_delayed heap.new) (pending heap.new stack.new) }
 {
     if heap.mark_black(place) {
-        stack.push(Pile::Black, place);
+        queue(heap, stack, Pile::Black, place);
     }
 }

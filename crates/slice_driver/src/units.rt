@@ -24,7 +24,7 @@ use zones::State;
 impl Collector {
     /// Does one unit of the collection that runs: the first of these that has work.
     ///
-    /// 1. `marks_black`: a cell of the black pile, or a weak entry for black;
+    /// 1. `marks_black`: a cell that is pending in black, or a weak entry for black;
     /// 2. `forms_groups`: before the groups are formed, a look at a wrapper, or a grouping step;
     /// 3. `begins_zone`: the beginning of a zone of the current group;
     /// 4. `marks_gray`: a piece of gray marking of the current group, or a weak entry for gray;

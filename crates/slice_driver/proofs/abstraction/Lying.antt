@@ -23,9 +23,11 @@ use Rattle.colour_defs.specs.Present as present
 use Rattle.colour_defs.proofs.Shown.{shows_agrees, wakes_same}
 use Rattle.colour_defs.proofs.Parts.{agreement}
 use Rattle.heap_core.specs.Shape.{AreWhole, Shape, name_at, zone_of}
-use Rattle.heap_core.specs.Heap.{HeapState}
+use Rattle.heap_core.specs.Heap.{HeapState, with_marks}
 use Rattle.heap_core.specs.Shows.{Shows, StandsFor, object_at}
 use Rattle.heap_core.specs.Answers.{DoesStep}
+use Rattle.heap_core.proofs.Resolved.{shows_coloured}
+use Rattle.mark_stack.specs.Stack.{Piles, no_places}
 use Rattle.slice_driver.specs.Worlds.{IsUnswept, LiesIn, outs_from, owners_of}
 use Rattle.slice_driver.specs.Commands.{Wakes, with_colours}
 use Rattle.slice_driver.proofs.abstraction.Named.{named_cell}
@@ -141,34 +143,12 @@ zone_named h g whole p x s part e =
     comp_is (Cell n) cell stands = ap comp_of_object (part.objects n (object_at h.shape cell) stands.1)
     comp_is (Wrap c t) cell stands = ap (λ z. Some z) (sym stands.comp_is)
 
--- colours do not count
-pub shows_coloured : (h : HeapState) (ds : List Bits) (g : GraphState) → Shows h g → Shows (with_colours h ds) g
-shows_coloured h ds g s = record {
-  zones_are = s.zones_are;
-  comps_are = s.comps_are;
-  objects_made = s.objects_made;
-  registers_are = s.registers_are;
-  slots_are = s.slots_are;
-  registers_held = s.registers_held;
-  slots_held = s.slots_held;
-  fields_held = s.fields_held;
-  cells = s.cells;
-  apart = s.apart;
-  objects_are = s.objects_are;
-  wrappers_are = s.wrappers_are;
-  mapped = s.mapped;
-  maps_at_home = s.maps_at_home;
-  entries_held = s.entries_held;
-  entries_are = s.entries_are;
-  entries_known = s.entries_known;
-  few_objects = s.few_objects;
-}
-
-pub lies_coloured : (h : HeapState) (ds : List Bits) (w : World) → LiesIn h w → LiesIn (with_colours h ds) w
-lies_coloured h ds w l = record {
+-- colours and delayed cells do not count
+pub lies_marked : (h : HeapState) (ds : List Bits) (d : Piles) (w : World) → LiesIn h w → LiesIn (with_marks h ds d) w
+lies_marked h ds d w l = record {
   whole = l.whole;
   graph = l.graph;
-  shown = shows_coloured h ds l.graph l.shown;
+  shown = shows_coloured h ds d l.graph l.shown;
   part = l.part;
   places_are = l.places_are;
   owner_is = l.owner_is;
@@ -178,8 +158,11 @@ lies_coloured h ds w l = record {
   white_are = l.white_are;
 }
 
+pub lies_coloured : (h : HeapState) (ds : List Bits) (w : World) → LiesIn h w → LiesIn (with_colours h ds) w
+lies_coloured h ds w l = lies_marked h ds no_places w l
+
 pub lies_plain : (h : HeapState) (ds : List Bits) (w : World) → LiesIn (with_colours h ds) w → LiesIn h w
-lies_plain h ds w l = lies_coloured (with_colours h ds) h.colours w l
+lies_plain h ds w l = lies_marked (with_colours h ds) h.colours h.delayed w l
 
 -- a command that is refused
 pub refused_in : (w : World) (old new : HeapState) (c : GraphCmd) (why : Refusal) → IsValid w → LiesIn old w

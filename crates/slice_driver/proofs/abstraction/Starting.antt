@@ -10,7 +10,7 @@ use Rattle.gz_names.specs.declared.numbers.Place.{Place}
 use Rattle.cell_bits.specs.declared.bits.Bits.{Bits}
 use Rattle.zones.specs.declared.states.State.{State}
 use Rattle.zones.specs.declared.states.State.TheVariants as state
-use Rattle.mark_stack.specs.Stack.{Piles}
+use Rattle.mark_stack.specs.Stack.{Piles, no_places}
 use Rattle.gray_lists.specs.Incoming.{IsOnce, list_of}
 use Rattle.weak_maps.specs.Places.{is_same}
 use Rattle.weak_maps.specs.WeakMaps.{EntryState, LooksState, value_at}
@@ -25,8 +25,10 @@ use Rattle.arena_table.specs.Cells.{CellState}
 use Rattle.heap_core.specs.Shape.{ArenaShape, AreWhole, HasEdge, IsPresent, cell_in_arena, cell_of, field_in, is_white}
 use Rattle.heap_core.specs.Shape.{name_at, out_in, out_of, state_in, state_or}
 use Rattle.heap_core.specs.Heap.{HeapState, IsEmpty, colour_in, colour_of, joined, with_flown}
+use Rattle.heap_core.specs.Heap.{without_delayed}
 use Rattle.heap_core.proofs.Empty.{shows-empty}
-use Rattle.barriers.specs.Colours.{IsSeen, lacks_black}
+use Rattle.barriers.specs.Colours.{IsSeen}
+use Rattle.barriers.specs.Pending.{pending}
 use Rattle.barriers.specs.PendingLive.{GrayInvariant, buffer_of}
 use Rattle.barriers.specs.Invariant.{MarkingInvariant, ShapeInvariant}
 use Rattle.barriers.proofs.Scans.{once_empty}
@@ -142,12 +144,6 @@ module _ (c : CollectorState) (e : IsEmpty c.heap) where
             black = λ p has. absurd (nothing_in_none p (subst (λ xs. Contains xs p) black has));
             wake = λ p has. absurd (nothing_in_none p (subst (λ xs. Contains xs p) wake has));
             gray = λ p has. absurd (nothing_in_none p (subst (λ xs. Contains xs p) gray has));
-            room = record {
-              black = omega (arith, ap (λ (xs : List Place). length xs) black, slots_most lacks_black h.colours);
-              wake = omega (arith, ap (λ (xs : List Place). length xs) wake, slots_most lacks_black h.colours);
-              gray = omega (arith, ap (λ (xs : List Place). length xs) gray, slots_most is_white h.colours);
-              room = omega (arith, size);
-            };
           };
           closed = λ p q b edge. absurd (no_edge p q edge);
           weak_closed = λ m k v is bm bk off. absurd (cc (e.entries m k, is));
@@ -168,7 +164,6 @@ module _ (c : CollectorState) (e : IsEmpty c.heap) where
         buffered_present = λ z p has. absurd (nothing_in_none p (subst (λ xs. Contains xs p) (nothing_buffered z) has));
         incoming_seen = λ n p has. absurd (nothing_in_none p (subst (λ xs. Contains xs p) (lists n) has));
         closed = λ p q g edge. absurd (no_edge p q edge);
-        once = subst IsOnce (sym gray) tt;
         apart = λ n p has i. nothing_in_none p (subst (λ xs. Contains xs p) gray has);
         lists_apart = record {
           once = λ n. subst IsOnce (sym (lists n)) tt;
@@ -186,6 +181,7 @@ module _ (c : CollectorState) (e : IsEmpty c.heap) where
   pub represents_first : c.stack.black ≡ [] → c.stack.gray ≡ [] → c.stack.wake ≡ [] → ((n : ℕ) → list_of c.lists n ≡ [])
       → c.run ≡ None → Represents c flight.none_flown first_world
   represents_first black gray wake lists run = record {
+    delayed = e.delayed;
     lies = lies;
     unswept_apart = λ x p q up uq. absurd (let none = none_out p.0 in cc (none, up.out_is));
     flies = record { covers = λ a. ap is_some (sym (none_out a)); woken = λ a old new is at. absurd (cc at) };
@@ -202,6 +198,28 @@ module _ (c : CollectorState) (e : IsEmpty c.heap) where
     runs = subst (λ r. RunsAs (heap_with c flight.none_flown) c first_world r None) (sym run)
         (record { states = no_state; kept = none_out; black = black; gray = gray });
   }
+
+-- a heap without cells is one as the collector is seen, and nothing is pending in it
+pub empty_viewed : (h : HeapState) → IsEmpty h → IsEmpty (without_delayed h)
+empty_viewed h e = record {
+  arenas = e.arenas;
+  states = e.states;
+  comps = e.comps;
+  wrappers = e.wrappers;
+  entries = e.entries;
+  regs = e.regs;
+  slots = e.slots;
+  objects = e.objects;
+  colours = e.colours;
+  buffers = e.buffers;
+  made = e.made;
+  looks = e.looks;
+  delayed = refl;
+}
+
+pub none_pending : (h : HeapState) (p : Piles) → IsEmpty h → p ≡ no_places → pending h p ≡ no_places
+none_pending h p e none = ap (λ (q : Piles). pending h q) none
+    ∙ ap (λ (d : Piles). pending (record h { delayed = d }) no_places) e.delayed
 
 -- weak maps without a value have no entry
 pub no_entries : (es : List EntryState) → ((m k : Place) → value_at es m k ≡ None) → length es ≡ 0

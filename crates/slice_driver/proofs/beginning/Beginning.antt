@@ -13,7 +13,7 @@ use Rattle.gz_names.specs.declared.zone_sets.ZoneSet.{ZoneSet}
 use Rattle.zones.specs.declared.states.State.{State}
 use Rattle.zones.specs.declared.states.State.TheVariants as state
 use Rattle.cell_bits.specs.declared.bits.Bits.{Bits}
-use Rattle.mark_stack.specs.Stack.{Piles}
+use Rattle.mark_stack.specs.Stack.{Piles, no_places}
 use Rattle.gray_lists.specs.Incoming.{Incoming, IsOnce, list_at, list_of, waiting_count}
 use Rattle.colour_defs.specs.Graph.{GraphState, IsInZones, value_of}
 use Rattle.colour_defs.specs.Closure.{Closure, HasEdge as HasNamedEdge}
@@ -215,7 +215,6 @@ module _ (h : HeapState) (old : Piles) (zones : ZoneSet) (k : HeapState) (stack 
         black = λ x c. (let p = (b.black_pile x).0 c in (p.0, marking_within x p.1));
         wake = λ x c. absurd (nothing_in_none x (subst (λ zs. Contains zs x) b.wake_pile c));
         gray = λ x c. absurd (nothing_in_none x (subst (λ zs. Contains zs x) b.gray_pile c));
-        room = b.room;
       };
       closed = λ x y bx e. elim (within_or_not x) [
         | inl w ↦ inr (inl ((b.black_pile x).1 (bx, w)))
@@ -267,7 +266,6 @@ module _ (h : HeapState) (old : Piles) (zones : ZoneSet) (k : HeapState) (stack 
             λ same. out.0 (zone_within y x (sym (sym (zone_same x) ∙ (same ∙ zone_same y))) w),
           )))
         ];
-    once = subst IsOnce (sym b.gray_pile) tt;
     apart = λ c x on i. nothing_in_none x (subst (λ zs. Contains zs x) b.gray_pile on);
     lists_apart = record {
       once = λ c. subst IsOnce (sym (b.none_incoming c)) tt;
@@ -633,11 +631,12 @@ own_bits flown n [] none = refl
 own_bits flown n (x ∷ xs) none = ap (λ o. flown_or o x ∷ with_flown flown (suc n) xs) (none n)
     ∙ ap (λ ys. x ∷ ys) (own_bits flown (suc n) xs none)
 
-pub none_flown : (h : HeapState) (flown : ℕ → Option Bits) → Covers h.shape flown → ((a : ℕ) → out_of h.shape a ≡ None)
-    → joined h flown ≡ h
-none_flown h flown covers none =
-    ap (λ ds. record h { colours = ds })
+pub none_flown : (h : HeapState) (flown : ℕ → Option Bits) → h.delayed ≡ no_places → Covers h.shape flown
+    → ((a : ℕ) → out_of h.shape a ≡ None) → joined h flown ≡ h
+none_flown h flown delayed covers none =
+    ap (λ ds. record h { colours = ds; delayed = no_places })
     (own_bits flown 0 h.colours (λ a. gone (flown a) (covers a ∙ ap is_some (none a))))
+    ∙ ap (λ (ps : Piles). record h { delayed = ps }) (sym delayed)
   where
     gone : (o : Option Bits) → is_some o ≡ false → o ≡ None
     gone None e = refl

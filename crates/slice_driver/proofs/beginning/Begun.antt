@@ -40,7 +40,7 @@ module _ (c d : CollectorState) (flown : ℕ → Option Bits) (w v : World) (zon
       (subst (λ r. RunsAs (heap_with c flown) c w r w.collection) idle_run rep.runs)
 
   own : joined c.heap flown ≡ c.heap
-  own = none_flown c.heap flown rep.flies.covers idle.kept
+  own = none_flown c.heap flown rep.delayed rep.flies.covers idle.kept
 
   pub marks : MarkingInvariant c.heap c.stack
   marks = subst (λ h. MarkingInvariant h c.stack) own rep.marks
@@ -71,7 +71,7 @@ module _ (c d : CollectorState) (flown : ℕ → Option Bits) (w v : World) (zon
   }
 
   pub own_begun : joined d.heap flown ≡ d.heap
-  own_begun = none_flown d.heap flown flies.covers kept_out
+  own_begun = none_flown d.heap flown (b.delayed_is ∙ rep.delayed) flies.covers kept_out
 
   waits : WaitsWhileMarking d
   waits = record {
@@ -109,6 +109,7 @@ module _ (c d : CollectorState) (flown : ℕ → Option Bits) (w v : World) (zon
   pub represents_begun : d.run ≡ Some (record { zones = zones; formed = false })
       → AreLookedAt d.heap d (record { zones = zones; formed = false }) v bg.collection → Represents d flown v
   represents_begun run looked = record {
+    delayed = b.delayed_is ∙ rep.delayed;
     lies = tied.0;
     unswept_apart = λ x p q up uq. absurd (cc (kept_out p.0, up.out_is));
     flies = flies;

@@ -8,6 +8,7 @@ use Rattle.gz_names.specs.Zones.{HasZone, zones_in}
 use Rattle.gz_names.specs.declared.numbers.Place.{Place}
 use Rattle.gz_names.specs.declared.zone_sets.ZoneSet.{ZoneSet}
 use Rattle.std.specs.Int.{bit_at}
+use Rattle.cell_bits.specs.declared.bits.Colour.{Colour}
 use Rattle.cell_bits.specs.declared.bits.Colour.TheVariants as colour
 use Rattle.zones.specs.States.{next_state}
 use Rattle.zones.specs.declared.states.State.{State}
@@ -22,27 +23,27 @@ use Rattle.wrappers.proofs.Finding.{slice_get-read}
 use Rattle.roots.specs.Buffers.{buffer_at}
 use Rattle.colour_defs.specs.World.{World}
 use Rattle.colour_defs.proofs.Lists.{nothing_in_none}
-use Rattle.heap_core.specs.Shape.{Shape, HasEdge, IsPresent, field_at, is_marking_state, is_white, out_in, out_of}
+use Rattle.heap_core.specs.Shape.{Shape, HasEdge, IsPresent, field_at, is_marking_state, out_in, out_of}
 use Rattle.heap_core.specs.Shape.{state_in, state_or, zone_of}
-use Rattle.heap_core.specs.Heap.{HeapState, colour_of}
+use Rattle.heap_core.specs.Heap.{HeapState, colour_of, without_delayed}
 use Rattle.heap_core.specs.Sweeping.{AreKept, with_clear}
 use Rattle.zone_edges.specs.Groups.{Edge}
 use Rattle.zone_edges.specs.Noted.{Noted}
 use Rattle.zone_edges.specs.Looks.{AreWrappers, cursor_of, wrapper_at}
 use Rattle.zone_edges.proofs.SoundWrappers.{sound_has_wrappers}
-use Rattle.barriers.specs.Colours.{IsBlack, IsSeen, lacks_black}
+use Rattle.barriers.specs.Colours.{IsBlack, IsSeen}
+use Rattle.barriers.specs.Pending.{pending}
 use Rattle.barriers.specs.Invariant.{MarkingInvariant}
 use Rattle.barriers.specs.PendingLive.{GrayInvariant, buffer_of}
 use Rattle.barriers.specs.Scans.{AreScannedOnce}
 use Rattle.barriers.proofs.Scans.{once_empty, once_kept}
-use Rattle.barriers.proofs.Slots.{slots_most}
 use Rattle.slice_driver.specs.Collector.{CollectorState, heap_with}
 use Rattle.slice_driver.specs.Represents.{IsIdle, Represents, RunsAs}
 use Rattle.slice_driver.specs.Units as flight
 use Rattle.slice_driver.specs.Units.{BeginsIn, BeginsWithin, IsSound}
 use Rattle.slice_driver.specs.Advancing.{Advances}
 use Rattle.slice_driver.specs.Begins.{AreMade, BeginsMarking, IsBlackRoot, IsGrayRoot, IsListed, IsWithin}
-use Rattle.slice_driver.specs.RootMarking.{IsReady, IsTargetAmong, Marks}
+use Rattle.slice_driver.specs.RootMarking.{IsReady, IsTargetAmong, LeadsAt, Marks}
 use Rattle.slice_driver.specs.GrayRoots.{Buffers, IsGrayAmong, IsInSlot}
 use Rattle.slice_driver.specs.ListedWrappers.{is_outside, listed_below}
 use Rattle.slice_driver.proofs.measure.FewUnits.{none_buffered}
@@ -79,7 +80,7 @@ module _ (c : CollectorState) (w : World) (rep : Represents c flight.none_flown 
       (subst (λ r. RunsAs (heap_with c flight.none_flown) c w r w.collection) idle_run rep.runs)
 
   own : heap_with c flight.none_flown ≡ c.heap
-  own = none_flown c.heap flight.none_flown rep.flies.covers idle_of.kept
+  own = none_flown c.heap flight.none_flown rep.delayed rep.flies.covers idle_of.kept
 
   pub marks_of : MarkingInvariant c.heap c.stack
   marks_of = subst (λ h. MarkingInvariant h c.stack) own rep.marks
@@ -132,12 +133,7 @@ module _ (c : CollectorState) (w : World) (rep : Represents c flight.none_flown 
   ready_clear = record {
     sized = clear_sized ∙ sized;
     kept = idle.kept;
-    room = record {
-      black = omega (arith, ap (λ (xs : List Place). length xs) idle.black, slots_most lacks_black clear.colours);
-      wake = omega (arith, ap (λ (xs : List Place). length xs) marks.none_woken, slots_most lacks_black clear.colours);
-      gray = omega (arith, ap (λ (xs : List Place). length xs) idle.gray, slots_most is_white clear.colours);
-      room = (let was = marks.holds.piles.room.room in omega (arith, clear_sized));
-    };
+    piled = λ x on. absurd (nothing_in_none x (subst (λ xs. Contains xs x) idle.black on));
   }
 
   -- cells of these zones are white, others as they were
@@ -314,6 +310,7 @@ module _ (c : CollectorState) (w : World) (rep : Represents c flight.none_flown 
         begins = record {
           shape_is = ap (λ (s : Shape). record s { states = states }) shape_last;
           made_is = ap (λ (x : HeapState). x.made) both.rest;
+          delayed_is = ap (λ (x : HeapState). x.delayed) both.rest;
           looks_is = ap (λ (x : HeapState). x.looks) both.rest;
           count = count ∙ ap (λ (s : Shape). length s.states) shape_last;
           states = λ z has. on z has (subst (λ (s : Shape). z < length s.states) (sym shape_last) (made z has))
@@ -326,12 +323,6 @@ module _ (c : CollectorState) (w : World) (rep : Represents c flight.none_flown 
           black_pile = on_pile;
           gray_pile = both.gray_pile ∙ idle.gray;
           wake_pile = both.wake_pile ∙ marks.none_woken;
-          room = record {
-            black = both.room.black;
-            wake = both.room.wake;
-            gray = both.room.gray;
-            room = both.room.room;
-          };
           once = record { black = once_marked.black; gray = once_marked.gray };
           buffered = λ z x. subst (λ (xs : List (List Place)). Contains (buffer_at xs z) x ↔ IsGrayRoot h zones z x)
               (sym (ap (λ (y : HeapState). y.buffers) both.rest)) (gray_root z x);
@@ -352,6 +343,63 @@ pub kept_begun : (c : CollectorState) (rest : IsAtRest c) (zones : ZoneSet) (b :
     → AreKept zones.bits b.shape
 kept_begun c rest zones b put = subst (λ (x : HeapState). AreKept zones.bits x.shape) (sym put.rest)
     (kept_of c rest.world rest.represents rest.idle zones.bits)
+
+-- what the steps do is the same where what is delayed is told among what is pending
+leads_seen : (c : Colour) (h : HeapState) (zone i : ℕ) (u x : Place) → LeadsAt c h zone i u x
+    ↔ LeadsAt c (without_delayed h) zone i u x
+leads_seen c h zone i u x = (
+  (λ l. record { stands = l.stands; zone_is = l.zone_is; colour_is = l.colour_is; target = l.target }),
+  λ l. record { stands = l.stands; zone_is = l.zone_is; colour_is = l.colour_is; target = l.target },
+)
+
+among_seen : (h : HeapState) (zones : ZoneSet) (n z : ℕ) (x : Place) → IsGrayAmong h zones n z x
+    ↔ IsGrayAmong (without_delayed h) zones n z x
+among_seen h zones n z x = (
+  (λ t. (
+    t.0,
+    t.1,
+    t.2,
+    (t.3.0, (t.3.1.0, t.3.1.1, (leads_seen colour.Gray h t.0 t.3.0 x t.3.1.1).0 t.3.1.2, t.3.1.3)),
+  )),
+  λ t. (
+    t.0,
+    t.1,
+    t.2,
+    (t.3.0, (t.3.1.0, t.3.1.1, (leads_seen colour.Gray h t.0 t.3.0 x t.3.1.1).1 t.3.1.2, t.3.1.3)),
+  ),
+)
+
+pub buffers_seen : (h : HeapState) (zones : ZoneSet) (b : HeapState) → Buffers h zones b
+    → Buffers (without_delayed h) zones (without_delayed b)
+buffers_seen h zones b put = record {
+  rest = ap without_delayed put.rest;
+  roots = λ z x. (
+    (λ on. elim ((put.roots z x).0 on) [
+      | inl was ↦ inl was
+      | inr (inl slot) ↦ inr (inl slot)
+      | inr (inr t) ↦ inr (inr ((among_seen h zones (length h.shape.states) z x).0 t))
+    ]),
+    λ o. (put.roots z x).1 (elim o [
+      | inl was ↦ inl was
+      | inr (inl slot) ↦ inr (inl slot)
+      | inr (inr t) ↦ inr (inr ((among_seen h zones (length h.shape.states) z x).1 t))
+    ]),
+  );
+  few = put.few;
+}
+
+module _ (h : HeapState) (zones : ZoneSet) (b : HeapState) (put : Buffers h zones b) (a : HeapState)
+    (cleared : a ≡ with_clear b zones.bits) (s : Piles) where
+  -- and what is pending stays so
+  cleared_pending : pending a s ≡ pending h s
+  cleared_pending = ap (λ (x : HeapState). pending x s) (clear_is h b a zones put cleared)
+
+  pub ready_seen : IsReady (without_delayed a) (pending h s) → IsReady (without_delayed a) (pending a s)
+  ready_seen ready = subst (λ (p : Piles). IsReady (without_delayed a) p) (sym cleared_pending) ready
+
+  pub registers_seen : (P : Place → Type 0) (k : HeapState) (q : Piles)
+      → Marks P zones (without_delayed a) (pending a s) k q → Marks P zones (without_delayed a) (pending h s) k q
+  registers_seen P k q m = subst (λ (p : Piles). Marks P zones (without_delayed a) p k q) cleared_pending m
 
 -- a collector that went through the steps has begun a collection in each world
 module _ (c : CollectorState) (rest : IsAtRest c) (zones : ZoneSet) (small : (z : ℕ) → bit_at zones.bits z ≡ 1 → z < 64)

@@ -1,11 +1,10 @@
 -- Roots marked one after another.
-use Rattle.std.proofs.Common.{◌≡◌, ◌≢◌, ◌⊎◌, ◌↔◌, ◌<◌, ◌≤◌, ◌+◌, ◌∷◌, [], ℕ, length, length-set, length-append, Option}
+use Rattle.std.proofs.Common.{◌≡◌, ◌≢◌, ◌⊎◌, ◌↔◌, ◌<◌, ◌+◌, ℕ, length, length-set, Option}
 use Rattle.std.proofs.Common.{Some, None, refl, sym, ap, subst, ◌∙◌, inl, inr, arith, Contains, option_map, slice_get}
 use Rattle.std.proofs.Common.{slice_set}
 use Rattle.std.proofs.lemmas.Bool.{cases_lt}
 use Rattle.std.proofs.lemmas.Bool.Decides.{eqb_tells}
 use Rattle.std.proofs.lemmas.Option.{slice_get-get_or, slice_get_within}
-use Rattle.std.proofs.lemmas.List.Elements.{Contains-push, Contains-push_cases, Contains-append_left}
 use Rattle.gz_names.specs.Zones.{HasZone}
 use Rattle.gz_names.specs.declared.numbers.Place.{Place}
 use Rattle.gz_names.specs.declared.zone_sets.ZoneSet.{ZoneSet}
@@ -18,27 +17,27 @@ use Rattle.wrappers.specs.declared.wrapper_maps.WrapperKey.{WrapperKey}
 use Rattle.wrappers.specs.WrapperMaps.{AreApart}
 use Rattle.zone_edges.specs.Looks.{AreWrappers, IsWrapperIn, wrapper_at}
 use Rattle.zone_edges.proofs.Looking.{entry_at, stands_in, within_list}
-use Rattle.mark_stack.specs.Stack.{Piles, pushed}
+use Rattle.mark_stack.specs.Stack.{Piles, IsPushed, no_places}
 use Rattle.mark_stack.specs.declared.stack.Pile.TheVariants as pile
-use Rattle.heap_core.specs.Shape.{Shape, field_at, is_white, out_of, zone_of}
-use Rattle.heap_core.specs.Heap.{HeapState, colour_of, colour_in}
-use Rattle.barriers.specs.Colours.{IsBlack, lacks_black, left, whites}
-use Rattle.barriers.specs.Invariant.{HasRoom}
-use Rattle.heap_core.specs.MarkBits.{SetsBlack}
+use Rattle.mark_stack.proofs.Pushed.{gray_black, more_cases, more_has, more_kept, wake_black}
+use Rattle.heap_core.specs.Shape.{Shape, field_at, out_of, zone_of}
+use Rattle.heap_core.specs.Heap.{HeapState, colour_of, colour_in, without_delayed}
+use Rattle.barriers.specs.Colours.{IsBlack}
+use Rattle.heap_core.specs.MarkBits.{SetsBlack, TakesBlack}
+use Rattle.barriers.specs.Pending.{pending}
 use Rattle.barriers.proofs.BlackClosure.{black_or_not}
 use Rattle.barriers.proofs.Places.{same_or_other, same_place}
 use Rattle.barriers.proofs.Scans.{no_more_twice, none_more, pushed_black}
-use Rattle.barriers.proofs.Slots.{black_now, colour_elsewhere, left_less, not_black_bit, slots_fewer, slots_set}
-use Rattle.barriers.proofs.Slots.{white_no_more}
+use Rattle.barriers.proofs.Slots.{black_now, colour_elsewhere, not_black_bit}
 use Rattle.slice_driver.specs.Begins.{IsWithin}
 use Rattle.slice_driver.specs.RootMarking.{Blackens, IsHeldBefore, IsNoSource, IsReady, IsTargetAmong, IsTargetBefore}
 use Rattle.slice_driver.specs.RootMarking.{IsTargetOf, Marks}
 use Rattle.slice_driver.proofs.abstraction.Named.{some_one}
 
 -- nothing turned black
-pub marks_still : (P : Place → Type 0) (zones : ZoneSet) (h : HeapState) (p : Piles) → HasRoom h p
+pub marks_still : (P : Place → Type 0) (zones : ZoneSet) (h : HeapState) (p : Piles)
     → ((x : Place) → P x → IsWithin h.shape zones x → IsBlack h x) → Marks P zones h p h p
-marks_still P zones h p room e = record {
+marks_still P zones h p e = record {
   rest = refl;
   sized = refl;
   black = λ x. ((λ b. inl b), λ o. elim o [ inl b ↦ b | inr w ↦ e x w.0 w.1 ]);
@@ -47,8 +46,6 @@ marks_still P zones h p room e = record {
   pile = λ x. ((λ c. inl c), λ o. elim o [ inl c ↦ c | inr w ↦ absurd (w.1 w.0) ]);
   gray_pile = refl;
   wake_pile = refl;
-  room_is = refl;
-  room = room;
   scans = none_more h p;
 }
 
@@ -67,16 +64,16 @@ marks_same P Q zones h p k q e m = record {
   pile = m.pile;
   gray_pile = m.gray_pile;
   wake_pile = m.wake_pile;
-  room_is = m.room_is;
-  room = m.room;
   scans = m.scans;
 }
 
--- what the heap and the piles are by another name
-pub marks_into : (P : Place → Type 0) (zones : ZoneSet) (h : HeapState) (p : Piles) (k l : HeapState) (q r : Piles)
-    → l ≡ k → r ≡ q → Marks P zones h p k q → Marks P zones h p l r
-marks_into P zones h p k l q r heap stack m = subst (λ (x : HeapState). Marks P zones h p x r) (sym heap)
-    (subst (λ (x : Piles). Marks P zones h p k x) (sym stack) m)
+-- what the heap and the stack are by another name
+pub marks_seen : (P : Place → Type 0) (zones : ZoneSet) (h : HeapState) (p : Piles) (k l : HeapState) (q r : Piles)
+    → l ≡ k → r ≡ q → Marks P zones h p (without_delayed k) (pending k q)
+    → Marks P zones h p (without_delayed l) (pending l r)
+marks_seen P zones h p k l q r heap stack m =
+    subst (λ (x : HeapState). Marks P zones h p (without_delayed x) (pending x r)) (sym heap)
+    (subst (λ (x : Piles). Marks P zones h p (without_delayed k) (pending k x)) (sym stack) m)
 
 pub shape_still : (P : Place → Type 0) (zones : ZoneSet) (h : HeapState) (p : Piles) (k : HeapState) (q : Piles)
     → Marks P zones h p k q → k.shape ≡ h.shape
@@ -89,7 +86,7 @@ ready_still P zones h p k q r m =
     record {
       sized = m.sized ∙ (r.sized ∙ ap (λ (s : Shape). length s.arenas) (sym shape));
       kept = λ a. ap (λ (s : Shape). out_of s a) shape ∙ r.kept a;
-      room = m.room;
+      piled = λ x c. elim ((m.pile x).0 c) [ inl on ↦ (m.black x).1 (inl (r.piled x on)) | inr now ↦ now.0 ];
     }
 
 -- one marking after another
@@ -136,19 +133,15 @@ marks_then P Q zones h p k q l r m n =
       );
       gray_pile = n.gray_pile ∙ m.gray_pile;
       wake_pile = n.wake_pile ∙ m.wake_pile;
-      room_is = n.room_is ∙ m.room_is;
-      room = n.room;
       scans = no_more_twice h p k q l r m.scans n.scans;
     }
 
 -- one cell turned black
-module _ (h : HeapState) (p : Piles) (x : Place) (zones : ZoneSet) (b d : Bits) (room : HasRoom h p)
-    (at : slice_get h.colours x.0 ≡ Some b) (sets : SetsBlack b x.1 d) (within : IsWithin h.shape zones x) where
+module _ (h : HeapState) (p q : Piles) (x : Place) (zones : ZoneSet) (b d : Bits)
+    (at : slice_get h.colours x.0 ≡ Some b) (sets : SetsBlack b x.1 d) (within : IsWithin h.shape zones x)
+    (more : IsPushed p pile.Black x q) where
   abbrev turned : HeapState
   turned = record h { colours = slice_set h.colours x.0 d }
-
-  abbrev piled : Piles
-  piled = pushed p pile.Black x
 
   there : slice_get turned.colours x.0 ≡ Some d
   there = slice_get-set_same h.colours x.0 d (slice_get_within h.colours x.0 b at)
@@ -178,16 +171,7 @@ module _ (h : HeapState) (p : Piles) (x : Place) (zones : ZoneSet) (b d : Bits) 
   sized : length turned.colours ≡ length h.colours
   sized = length-set h.colours x.0 d
 
-  left_is : left turned + 1 ≡ left h
-  left_is = slots_set lacks_black h.colours x.0 1 b d at (left_less b d x.1 sets)
-
-  whites_less : whites turned ≤ whites h
-  whites_less = slots_fewer is_white h.colours x.0 b d at (white_no_more b d x.1 sets)
-
-  longer : length piled.black ≡ length p.black + 1
-  longer = length-append p.black (x ∷ [])
-
-  pub marks_turned : Marks (λ y. y ≡ x) zones h p turned piled
+  pub marks_turned : Marks (λ y. y ≡ x) zones h p turned q
   marks_turned = record {
     rest = refl;
     sized = sized;
@@ -207,40 +191,32 @@ module _ (h : HeapState) (p : Piles) (x : Place) (zones : ZoneSet) (b d : Bits) 
     ];
     outside = λ y out. other_colour y (λ e. out (subst (λ z. IsWithin h.shape zones z) (sym e) within));
     pile = λ y. (
-      (λ c. elim (Contains-push_cases p.black x y c) [
+      (λ c. elim (more_cases p.black q.black x y more.more c) [
         | inl on ↦ inl on
         | inr e ↦ inr (black_at y (sym e), fresh_at y (sym e))
       ]),
       λ o. elim o [
-        | inl on ↦ Contains-append_left p.black (x ∷ []) y on
+        | inl on ↦ more_kept p.black q.black x y more.more on
         | inr w ↦ elim (same_or_other y x) [
-          | inl e ↦ subst (λ z. Contains piled.black z) (sym e) (Contains-push p.black x)
+          | inl e ↦ subst (λ z. Contains q.black z) (sym e) (more_has p.black q.black x more.more)
           | inr ne ↦ absurd (w.1 (sym (other_colour y ne) ∙ w.0))
         ]
       ],
     );
-    gray_pile = refl;
-    wake_pile = refl;
-    room_is = refl;
-    room = record {
-      black = omega (arith, room.black, sized, left_is, longer);
-      wake = omega (arith, room.wake, sized, left_is);
-      gray = omega (arith, room.gray, sized, whites_less);
-      room = omega (arith, room.room, sized);
-    };
-    scans = pushed_black h x turned not_before now_black other_colour p;
+    gray_pile = more.others pile.Gray gray_black;
+    wake_pile = more.others pile.Wake wake_black;
+    scans = pushed_black h x turned not_before now_black other_colour p q more;
   }
 
-pub marks_black : (h : HeapState) (p : Piles) (x : Place) (zones : ZoneSet) (k : HeapState) (q : Piles) → HasRoom h p
+pub marks_black : (h : HeapState) (p : Piles) (x : Place) (zones : ZoneSet) (k : HeapState) (q : Piles)
     → IsWithin h.shape zones x → Blackens h p x k q → Marks (λ y. y ≡ x) zones h p k q
-marks_black h p x zones k q room within (inl (b, same, still)) =
+marks_black h p x zones k q within (inl (b, same, still)) =
     subst (λ k. Marks (λ y. y ≡ x) zones h p k q) (sym same)
     (subst (λ q. Marks (λ y. y ≡ x) zones h p h q) (sym still)
-    (marks_still (λ y. y ≡ x) zones h p room (λ y e w. subst (λ z. IsBlack h z) (sym e) b)))
-marks_black h p x zones k q room within (inr (t, still)) =
+    (marks_still (λ y. y ≡ x) zones h p (λ y e w. subst (λ z. IsBlack h z) (sym e) b)))
+marks_black h p x zones k q within (inr (t, more)) =
     subst (λ k. Marks (λ y. y ≡ x) zones h p k q) (sym t.new_is)
-    (subst (λ q. Marks (λ y. y ≡ x) zones h p (record h { colours = slice_set h.colours x.0 t.after }) q)
-    (sym still) (marks_turned h p x zones t.before t.after room t.found t.sets within))
+    (marks_turned h p q x zones t.before t.after t.found t.sets within more)
 
 -- a number below the next
 pub before_or_last : (j i : ℕ) → j < i + 1 → (j < i) ⊎ (j ≡ i)
@@ -248,8 +224,8 @@ before_or_last j i lt = elim (cases_lt j i) [ inl less ↦ inl less | inr ge ↦
 
 -- registers, one after another
 module _ (h : HeapState) (zones : ZoneSet) (p : Piles) where
-  pub held_first : HasRoom h p → Marks (IsHeldBefore h.shape 0) zones h p h p
-  held_first room = marks_still (IsHeldBefore h.shape 0) zones h p room (λ x held w. absurd (omega (arith, held.1)))
+  pub held_first : Marks (IsHeldBefore h.shape 0) zones h p h p
+  held_first = marks_still (IsHeldBefore h.shape 0) zones h p (λ x held w. absurd (omega (arith, held.1)))
 
   pub held_step : (i : ℕ) (x : Place) (k : HeapState) (q : Piles) (l : HeapState) (r : Piles)
       → slice_get h.shape.regs i ≡ Some (Some x) → Marks (IsHeldBefore h.shape i) zones h p k q
@@ -299,8 +275,8 @@ below_none s zone n i u none some = elim (cases_lt i n) [
 
 -- the wrappers of another zone, one after another
 module _ (h : HeapState) (zones : ZoneSet) (p : Piles) (zone : ℕ) where
-  pub target_first : HasRoom h p → Marks (IsTargetBefore h zone 0) zones h p h p
-  target_first room = marks_still (IsTargetBefore h zone 0) zones h p room (λ x t w. absurd (omega (arith, t.1)))
+  pub target_first : Marks (IsTargetBefore h zone 0) zones h p h p
+  target_first = marks_still (IsTargetBefore h zone 0) zones h p (λ x t w. absurd (omega (arith, t.1)))
 
   pub target_step : (HasZone zones.bits zone → ⊥)
       → (i : ℕ) (u : Place) (k : HeapState) (q : Piles) (l : HeapState) (r : Piles) → wrapper_at h.shape zone i ≡ Some u
@@ -362,8 +338,8 @@ module _ (P : Place → Type 0) (zones : ZoneSet) (h : HeapState) (p : Piles) (k
 
 -- the zones, one after another
 module _ (h : HeapState) (zones : ZoneSet) (p : Piles) where
-  pub among_first : HasRoom h p → Marks (IsTargetAmong h zones 0) zones h p h p
-  among_first room = marks_still (IsTargetAmong h zones 0) zones h p room (λ x t w. absurd (omega (arith, t.1)))
+  pub among_first : Marks (IsTargetAmong h zones 0) zones h p h p
+  among_first = marks_still (IsTargetAmong h zones 0) zones h p (λ x t w. absurd (omega (arith, t.1)))
 
   none_from : (i : ℕ) (x : Place) → IsNoSource h.shape zones i → (HasZone zones.bits i → ⊥) → IsWithin h.shape zones x
       → IsTargetOf h i x → ⊥
@@ -424,9 +400,33 @@ module _ (h : HeapState) (zones : ZoneSet) (p : Piles) where
         ],
       )) (marks_then (IsTargetAmong h zones i) (IsTargetOf k i) zones h p k q l r m n)
 
--- a slot that is not black yet has room on the black pile
-pub room_for : (h : HeapState) (p : Piles) (a k : ℕ) (b d : Bits) → HasRoom h p → slice_get h.colours a ≡ Some b
-    → SetsBlack b k d → length p.black < p.room
-room_for h p a k b d room at sets =
-    let fewer = slots_set lacks_black h.colours a 1 b d at (left_less b d k sets) in
-    omega (arith, room.black, room.room, fewer)
+-- a cell whose black bit was set is pending with it, where it was not pending before
+pub blackened_queued : (h k n : HeapState) (p q : Piles) (x : Place) → TakesBlack h x k
+    → IsPushed (pending k p) pile.Black x (pending n q) → n ≡ record k { delayed = n.delayed }
+    → Blackens (without_delayed h) (pending h p) x (without_delayed n) (pending n q)
+blackened_queued h k n p q x t more rest =
+    let first : without_delayed k ≡ record h { colours = slice_set h.colours x.0 t.after; delayed = no_places } =
+    ap without_delayed t.new_is in
+    inr (
+      record {
+        before = t.before;
+        after = t.after;
+        found = t.found;
+        sets = t.sets;
+        new_is = ap without_delayed rest ∙ first;
+      },
+      subst (λ (z : HeapState). IsPushed (pending z p) pile.Black x (pending n q)) t.new_is more,
+    )
+
+-- it was not pending, since it was not black
+pub blackened_fresh : (h k : HeapState) (p : Piles) (x : Place) → IsReady (without_delayed h) (pending h p)
+    → TakesBlack h x k → Contains (pending k p).black x → ⊥
+blackened_fresh h k p x ready t c =
+    let was : IsBlack h x =
+    ready.piled x (subst (λ (z : HeapState). Contains (pending z p).black x) t.new_is c) in
+    not_black_bit t.before x.1 t.sets.was (sym (ap (λ o. colour_in o x.1) t.found) ∙ was)
+
+-- its arena is made
+pub blackened_made : (h k : HeapState) (x : Place) → TakesBlack h x k → x.0 < length h.shape.arenas
+    → x.0 < length k.shape.arenas
+blackened_made h k x t made = subst (λ (z : HeapState). x.0 < length z.shape.arenas) (sym t.new_is) made

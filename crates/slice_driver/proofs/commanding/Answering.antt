@@ -36,7 +36,7 @@ use Rattle.heap_core.specs.declared.plans.Change.{Change}
 use Rattle.heap_core.specs.declared.plans.Change.TheVariants as change
 use Rattle.heap_core.specs.declared.plans.Plan.{Plan}
 use Rattle.heap_core.specs.Shape.{Shape, held_name, is_marking, is_marking_state, name_at, out_of, state_in, zone_of}
-use Rattle.heap_core.specs.Heap.{HeapState, colour_in, colour_of, joined, reg_of, weak_of, with_flown}
+use Rattle.heap_core.specs.Heap.{HeapState, colour_in, colour_of, joined, reg_of, weak_of, with_flown, with_marks}
 use Rattle.heap_core.specs.Answers.{DoesStep}
 use Rattle.heap_core.specs.Changes.{IsWith, Makes}
 use Rattle.heap_core.specs.Effects.{HoldsWrapper}
@@ -74,7 +74,8 @@ use Rattle.slice_driver.proofs.marking.Flights.{still_flies}
 use Rattle.slice_driver.proofs.commanding.FreedWords.{keeps_words, same_words}
 use Rattle.heap_core.proofs.MakingCells.{same-place}
 use Rattle.slice_driver.proofs.abstraction.Keeping.{stay_same}
-use Rattle.slice_driver.proofs.abstraction.Lying.{lies_coloured, shows_coloured, woken_in, zone_named}
+use Rattle.heap_core.proofs.Resolved.{shows_coloured}
+use Rattle.slice_driver.proofs.abstraction.Lying.{lies_coloured, lies_marked, woken_in, zone_named}
 use Rattle.slice_driver.proofs.measure.CommandsToCome.{CountsNoMore, change_wrappers, changed_marking, command_weak}
 use Rattle.slice_driver.proofs.measure.CommandsToCome.{counts, more_looks, more_wrappers, steps_by_state}
 use Rattle.slice_driver.proofs.measure.Fewer.{grouped}
@@ -89,6 +90,7 @@ use Rattle.slice_driver.proofs.commanding.Serving.{serves}
 use Rattle.slice_driver.proofs.commanding.Through.{IsReached, represents_exposed, represents_through}
 use Rattle.slice_driver.proofs.commanding.Through.{represents_widened}
 use Rattle.slice_driver.proofs.abstraction.Tying.{objects_grow, tied_exposed, tied_made, tied_served}
+use Rattle.slice_driver.proofs.commanding.Viewed.{delayed_kept}
 use Rattle.slice_driver.proofs.commanding.Waking.{does_found, does_made}
 use Rattle.slice_driver.proofs.commanding.Woken.{made_black, one_spreads, others_keep, reached_kept}
 
@@ -109,9 +111,10 @@ exposed_keeps None h s k t e p b = subst (λ z. IsBlack z p) (sym e.0) b
 exposed_keeps (Some x) h s k t e p b = e.spreads.blackens.kept p b
 
 pub exposed_rest : (o : Option Place) (h k : HeapState) (f e : ℕ → Option Bits) (s t : Piles)
-    → Exposed o (joined h f) s (joined k e) t → k ≡ with_colours h k.colours
-exposed_rest None h k f e s t x = ap (λ (z : HeapState). with_colours z k.colours) x.0
-exposed_rest (Some p) h k f e s t x = ap (λ (z : HeapState). with_colours z k.colours) x.spreads.blackens.rest
+    → Exposed o (joined h f) s (joined k e) t → k ≡ with_marks h k.colours k.delayed
+exposed_rest None h k f e s t x = ap (λ (z : HeapState). with_marks z k.colours k.delayed) x.0
+exposed_rest (Some p) h k f e s t x =
+    ap (λ (z : HeapState). with_marks z k.colours k.delayed) x.spreads.blackens.rest
 
 exposed_gray : (o : Option Place) (h k : HeapState) (s t : Piles) (lists : Incoming) → Exposed o h s k t
     → GrayInvariant h s lists → GrayInvariant k t lists
@@ -135,26 +138,26 @@ with_name x k = record k { woken = set.insert k.woken x }
 
 -- the last two steps: what is handed out goes through a barrier, and the heap does the command
 module _ (b : CollectorState) (flown : ℕ → Option Bits) (command : GraphCmd) (ch : Change) (w : World) (ok : IsValid w)
-    (rep : Represents b flown w) (ds : List Bits) (stack : Piles) (flying : ℕ → Option Bits)
-    (exposed : Exposed (handed_by ch) (heap_with b flown) b.stack (joined (with_colours b.heap ds) flying) stack)
-    (covers : Covers b.heap.shape flying) where
+    (rep : Represents b flown w) (ds : List Bits) (delayed stack : Piles) (flying : ℕ → Option Bits)
+    (exposed : Exposed (handed_by ch) (heap_with b flown) b.stack (joined (with_marks b.heap ds delayed) flying) stack)
+    (covers : Covers b.heap.shape flying) (still : delayed ≡ b.heap.delayed) where
   abbrev given : Option Place
   given = handed_by ch
 
   abbrev m : HeapState
-  m = with_colours b.heap ds
+  m = with_marks b.heap ds delayed
 
   abbrev t : CollectorState
   t = record b { heap = m; stack = stack }
 
   lies : LiesIn m w
-  lies = lies_coloured b.heap ds w rep.lies
+  lies = lies_marked b.heap ds delayed w rep.lies
 
   lies_joined : LiesIn (joined m flying) w
   lies_joined = lies_coloured b.heap (with_flown flying 0 ds) w rep.lies
 
   shows : Shows m rep.lies.graph
-  shows = shows_coloured b.heap ds rep.lies.graph rep.lies.shown
+  shows = shows_coloured b.heap ds delayed rep.lies.graph rep.lies.shown
 
   inv : MarkingInvariant (joined m flying) stack
   inv = exposed_marks given (heap_with b flown) b.stack (joined m flying) stack exposed rep.marks
@@ -164,14 +167,14 @@ module _ (b : CollectorState) (flown : ℕ → Option Bits) (command : GraphCmd)
 
   -- nothing was handed out
   pub nothing_handed : given ≡ None → Represents t flying w
-  nothing_handed none = represents_exposed b flown w rep m stack flying covers given exposed
+  nothing_handed none = represents_exposed b flown w rep m stack flying covers still given exposed
       (λ p e. absurd (cc (none, e)))
 
   module _ (able : IsAble b.heap.shape b.heap.made ch) (apart : AreApart b.heap.shape.wrappers.lists)
       (gone_black : (p : Place) → overwritten_by b.heap.shape ch ≡ Some p → IsBlack (heap_with b flown) p)
       (target_black : WrapsBlack (heap_with b flown) ch) (answer : Reply) (new : HeapState)
       (does : DoesStep m command (Ok answer) new) (change : ChangesBy m ch answer new)
-      (room : 64 * length new.colours ≤ stack.room) (more_room : 64 * length new.colours ≤ b.lists.room) where
+      (room : 64 * length new.colours ≤ b.lists.room) where
     abbrev es : List Bits
     es = with_flown flying 0 new.colours
 
@@ -185,7 +188,7 @@ module _ (b : CollectorState) (flown : ℕ → Option Bits) (command : GraphCmd)
     wraps_black r z c t is = keeps t (target_black r z c t is)
 
     pub served : Serves (joined m flying) (joined new flying) stack b.lists
-    served = serves m new flying stack b.lists inv gray covers room more_room b.heap.made ch answer able
+    served = serves m new flying stack b.lists inv gray covers room b.heap.made ch answer able
         (λ p e. keeps p (gone_black p e))
         (λ p e. exposed_is given (heap_with b flown) b.stack (joined m flying) stack exposed p e)
         wraps_black change
@@ -221,6 +224,7 @@ module _ (b : CollectorState) (flown : ℕ → Option Bits) (command : GraphCmd)
       done.after,
       done.command,
       record {
+        delayed = delayed_kept m new ch answer change ∙ (still ∙ rep.delayed);
         lies = done.lies;
         unswept_apart = λ x p q up uq. rep.unswept_apart x p q ((unswept p x).0 up) ((unswept q x).0 uq);
         flies = flies_served flies;
@@ -282,7 +286,7 @@ module _ (b : CollectorState) (flown : ℕ → Option Bits) (command : GraphCmd)
         → ((p : Place) → given ≡ Some p → Reached b.heap.shape (IsHeld b.heap) p)
         → AnswersIn w command (Ok answer) d flying
     answers_quiet stay wakes colours reach =
-        let there : Represents t flying w = represents_exposed b flown w rep m stack flying covers given exposed
+        let there : Represents t flying w = represents_exposed b flown w rep m stack flying covers still given exposed
         (λ p e. held_reached b flown w rep p (reach p e)) in
         let same : KeepsBlack (joined m flying) (with_colours new es) = λ p here. (
           λ black. ap (λ (bs : List Bits). colour_in (slice_get (with_flown flying 0 bs) p.0) p.1) (sym colours)
@@ -565,9 +569,10 @@ module _ (b : CollectorState) (flown : ℕ → Option Bits) (command : GraphCmd)
     answers_moves (makes zone p x cell between comes wakes mk colours none_handed number) =
         answers_made zone p x cell between comes wakes mk colours none_handed number
 
--- a barrier changes colours alone
+-- a barrier changes colours and delayed cells alone
 pub through_rest : (o : Option Place) (c : CollectorState) (flown : ℕ → Option Bits) (d : CollectorState)
-    (flying : ℕ → Option Bits) → GoesThrough o c flown d flying → d.heap ≡ with_colours c.heap d.heap.colours
+    (flying : ℕ → Option Bits) → GoesThrough o c flown d flying
+    → d.heap ≡ with_marks c.heap d.heap.colours d.heap.delayed
 through_rest o c flown d flying t = exposed_rest o c.heap d.heap flown flying c.stack d.stack t.exposed
 
 module _ (c : CollectorState) (flown : ℕ → Option Bits) (command : GraphCmd) (result : Result Reply CmdFault)
@@ -588,23 +593,27 @@ module _ (c : CollectorState) (flown : ℕ → Option Bits) (command : GraphCmd)
   wide_heap : wide.heap ≡ c.heap
   wide_heap = ap (λ (e : CollectorState). e.heap) steps.widens.rest
 
-  first_rest : first.heap ≡ with_colours wide.heap first.heap.colours
+  first_rest : first.heap ≡ with_marks wide.heap first.heap.colours first.heap.delayed
   first_rest = through_rest plan.overwritten wide flown first steps.first_flown steps.old_through
 
-  second_rest : second.heap ≡ with_colours first.heap second.heap.colours
+  second_rest : second.heap ≡ with_marks first.heap second.heap.colours second.heap.delayed
   second_rest = through_rest plan.wrapped first steps.first_flown second steps.second_flown steps.target_through
 
-  third_rest : steps.third.heap ≡ with_colours second.heap steps.third.heap.colours
+  third_rest : steps.third.heap ≡ with_marks second.heap steps.third.heap.colours steps.third.heap.delayed
   third_rest = through_rest (handed_by plan.change) second steps.second_flown steps.third flying steps.handed_through
 
-  second_wide : second.heap ≡ with_colours wide.heap second.heap.colours
-  second_wide = second_rest ∙ ap (λ (h : HeapState). with_colours h second.heap.colours) first_rest
+  second_wide : second.heap ≡ with_marks wide.heap second.heap.colours second.heap.delayed
+  second_wide = second_rest
+      ∙ ap (λ (h : HeapState). with_marks h second.heap.colours second.heap.delayed) first_rest
 
   abbrev ds : List Bits
   ds = steps.third.heap.colours
 
+  abbrev delayed : Piles
+  delayed = steps.third.heap.delayed
+
   abbrev last_heap : HeapState
-  last_heap = with_colours second.heap ds
+  last_heap = with_marks second.heap ds delayed
 
   -- the plan is one of each heap between the barriers
   plan_wide : IsPlanIn wide.heap command plan
@@ -617,8 +626,8 @@ module _ (c : CollectorState) (flown : ℕ → Option Bits) (command : GraphCmd)
   plan_second = planned-at wide.heap second.heap command plan second_wide steps.planned
 
   plan_last : IsPlanIn last_heap command plan
-  plan_last = planned-at wide.heap last_heap command plan (ap (λ (h : HeapState). with_colours h ds) second_wide)
-      steps.planned
+  plan_last = planned-at wide.heap last_heap command plan
+      (ap (λ (h : HeapState). with_marks h ds delayed) second_wide) steps.planned
 
   wide_stands : Represents wide flown w
   wide_stands = represents_widened c wide flown w steps.widens rep
@@ -654,6 +663,9 @@ module _ (c : CollectorState) (flown : ℕ → Option Bits) (command : GraphCmd)
   exposed_last = subst (λ h. Exposed (handed_by plan.change) (heap_with second steps.second_flown) second.stack
       (joined h flying) steps.third.stack) third_rest steps.handed_through.exposed
 
+  still_last : delayed ≡ second.heap.delayed
+  still_last = steps.handed_through.delayed
+
   covers_last : Covers second.heap.shape flying
   covers_last = subst (λ (h : HeapState). Covers h.shape flying) third_rest steps.handed_through.covers
 
@@ -661,7 +673,7 @@ module _ (c : CollectorState) (flown : ℕ → Option Bits) (command : GraphCmd)
   still_stands : d.heap ≡ steps.third.heap → handed_by plan.change ≡ None → Represents d flying w
   still_stands same none =
       let there : Represents last flying w = nothing_handed second steps.second_flown command plan.change w ok
-      second_stands ds steps.third.stack flying exposed_last covers_last none in
+      second_stands ds delayed steps.third.stack flying exposed_last covers_last still_last none in
       subst (λ e. Represents e flying w)
       (sym (d_is ∙ ap (λ (h : HeapState). record last { heap = h }) (same ∙ third_rest))) there
 
@@ -693,33 +705,31 @@ module _ (c : CollectorState) (flown : ℕ → Option Bits) (command : GraphCmd)
     step_ok : DoesStep last_heap command (Ok answer) d.heap
     step_ok = (plan_last.does steps.few answer d.heap change_ok).0
 
-    room_last : 64 * length d.heap.colours ≤ steps.third.stack.room
-    room_last = subst (λ (e : CollectorState). 64 * length d.heap.colours ≤ e.stack.room) steps.rest steps.room
-
     lists_last : 64 * length d.heap.colours ≤ second.lists.room
     lists_last = subst (λ (e : CollectorState). 64 * length d.heap.colours ≤ e.lists.room) d_is steps.more_room
 
     moves_ok : Moves last_heap command plan.change d.heap
     moves_ok = moves_of last_heap second_stands.lies.graph
-        (shows_coloured second.heap ds second_stands.lies.graph second_stands.lies.shown) second_stands.lies.whole
-        command d.heap second.heap.made plan.change answer able_second plan_last.wakes change_ok
+        (shows_coloured second.heap ds delayed second_stands.lies.graph second_stands.lies.shown)
+        second_stands.lies.whole command d.heap second.heap.made plan.change answer able_second plan_last.wakes
+        change_ok
 
     pub answered_ok : AnswersIn w command (Ok answer) d flying
     answered_ok = subst (λ e. AnswersIn w command (Ok answer) e flying) (sym d_is)
-        (answers_moves second steps.second_flown command plan.change w ok second_stands ds steps.third.stack flying
-        exposed_last covers_last able_second apart_second gone_black target_black answer d.heap step_ok change_ok
-        room_last lists_last moves_ok)
+        (answers_moves second steps.second_flown command plan.change w ok second_stands ds delayed
+        steps.third.stack flying exposed_last covers_last still_last able_second apart_second gone_black target_black
+        answer d.heap step_ok change_ok lists_last moves_ok)
 
     -- no arena is handed out or taken in
     pub outs_ok : (a : ℕ) → out_of d.heap.shape a ≡ out_of second.heap.shape a
-    outs_ok a = (served second steps.second_flown command plan.change w ok second_stands ds steps.third.stack flying
-        exposed_last covers_last able_second apart_second gone_black target_black answer d.heap step_ok change_ok
-        room_last lists_last).outs a
+    outs_ok a = (served second steps.second_flown command plan.change w ok second_stands ds delayed
+        steps.third.stack flying exposed_last covers_last still_last able_second apart_second gone_black target_black
+        answer d.heap step_ok change_ok lists_last).outs a
 
     pub words_ok : KeepsFreedWords second.heap.shape d.heap.shape
-    words_ok = words_moves second steps.second_flown command plan.change w ok second_stands ds steps.third.stack flying
-        exposed_last covers_last able_second apart_second gone_black target_black answer d.heap step_ok change_ok
-        room_last lists_last moves_ok
+    words_ok = words_moves second steps.second_flown command plan.change w ok second_stands ds delayed
+        steps.third.stack flying exposed_last covers_last still_last able_second apart_second gone_black target_black
+        answer d.heap step_ok change_ok lists_last moves_ok
 
     -- what is to come of the collection that runs rises by no more than the bound on units
     module _ (k : Collection) (at : w.collection ≡ Some k) (sound : AreEntries c.heap.shape.weak)
@@ -732,15 +742,16 @@ module _ (c : CollectorState) (flown : ℕ → Option Bits) (command : GraphCmd)
           (joined last_heap flying) stack exposed_last second_stands.marks
 
       served_last : Serves (joined last_heap flying) (joined d.heap flying) stack second.lists
-      served_last = served second steps.second_flown command plan.change w ok second_stands ds stack flying
-          exposed_last covers_last able_second apart_second gone_black target_black answer d.heap step_ok change_ok
-          room_last lists_last
+      served_last = served second steps.second_flown command plan.change w ok second_stands ds delayed stack flying
+          exposed_last covers_last still_last able_second apart_second gone_black target_black answer d.heap step_ok
+          change_ok lists_last
 
       shows_last : Shows last_heap second_stands.lies.graph
-      shows_last = shows_coloured second.heap ds second_stands.lies.graph second_stands.lies.shown
+      shows_last = shows_coloured second.heap ds delayed second_stands.lies.graph second_stands.lies.shown
 
-      weak_last : second.heap ≡ with_colours c.heap second.heap.colours
-      weak_last = second_wide ∙ ap (λ (h : HeapState). with_colours h second.heap.colours) wide_heap
+      weak_last : second.heap ≡ with_marks c.heap second.heap.colours second.heap.delayed
+      weak_last = second_wide
+          ∙ ap (λ (h : HeapState). with_marks h second.heap.colours second.heap.delayed) wide_heap
 
       runs_there : (r : RunState) × (second.run ≡ Some r) × Runs (heap_with second steps.second_flown) second w r k
       runs_there = go second.run refl
@@ -825,7 +836,7 @@ module _ (c : CollectorState) (flown : ℕ → Option Bits) (command : GraphCmd)
         where
           woken : woken_by w.graph command ≡ Some (Wrap comp (number_at last_heap.shape t))
           woken = woken_in w last_heap command (Some (Wrap comp (number_at last_heap.shape t))) ok
-              (lies_coloured second.heap ds w second_stands.lies)
+              (lies_marked second.heap ds delayed w second_stands.lies)
               (subst (λ (y : Change). WakesBy last_heap command y) is_wrap plan_last.wakes)
 
           go : (b : Bool) → in_zones second.edges.zones.bits made.zone ≡ b → (if b then 1 else 0) ≤ more

@@ -38,7 +38,8 @@ use Rattle.slice_driver.specs.Serves.{Serves}
 use Rattle.slice_driver.specs.Worlds.{LiesIn}
 use Rattle.slice_driver.proofs.group_end.Places.{edge_from}
 use Rattle.slice_driver.proofs.commanding.JoinedChanges.{changes_joined, stood_before}
-use Rattle.slice_driver.proofs.abstraction.Lying.{shows_coloured, zone_named}
+use Rattle.heap_core.proofs.Resolved.{shows_coloured}
+use Rattle.slice_driver.proofs.abstraction.Lying.{zone_named}
 use Rattle.slice_driver.proofs.abstraction.Named.{named_present, place_of, present_named}
 
 -- present cells keep their names
@@ -196,8 +197,8 @@ module _ (c d : CollectorState) (flying : ℕ → Option Bits) (rest : d ≡ rec
         }
 
     left_served : AreLeftBlack old c.edges → AreLeftBlack new c.edges
-    left_served left = left_changes old g c.edges (shows_coloured c.heap old.colours g shows) apart left new c.heap.made
-        ch answer able black (changes_joined c.heap flying covers sized d.heap ch answer changes)
+    left_served left = left_changes old g c.edges (shows_coloured c.heap old.colours old.delayed g shows) apart left new
+        c.heap.made ch answer able black (changes_joined c.heap flying covers sized d.heap ch answer changes)
 
     pub looked_served : (r : RunState) → AreLookedAt old c r w k → AreLookedAt new d r v kk
     looked_served r a = subst (λ (x : CollectorState). AreLookedAt new x r v kk) (sym rest) now

@@ -19,7 +19,7 @@ use Rattle.colour_defs.proofs.ValidCommands.{command_valid}
 use Rattle.colour_defs.proofs.ValidRuns.{first_valid}
 use Rattle.heap_core.specs.Shape.{out_of}
 use Rattle.weak_maps.specs.WeakMaps.{AreParallel, IsSound as AreEntries}
-use Rattle.heap_core.specs.Heap.{HeapState, joined, weak_of}
+use Rattle.heap_core.specs.Heap.{HeapState, joined, weak_of, with_marks}
 use Rattle.heap_core.specs.Answers as answers
 use Rattle.heap_core.specs.Answers.{DoesStep}
 use Rattle.heap_core.specs.Effects.{takes_memory}
@@ -38,7 +38,7 @@ use Rattle.gz_names.specs.declared.zone_sets.ZoneSet.{ZoneSet}
 use Rattle.zone_edges.specs.Noted.{Noted}
 use Rattle.slice_driver.specs.declared.collector.Run.{Run}
 use Rattle.slice_driver.specs.Collector.{CollectorState, HasMore, IsKept}
-use Rattle.slice_driver.specs.Commands.{Exposed, WantsMemory, with_colours}
+use Rattle.slice_driver.specs.Commands.{Exposed, WantsMemory}
 use Rattle.slice_driver.specs.Represents.{Represents}
 use Rattle.slice_driver.specs.Rooms.{IsRoomy, Widens, arenas_after}
 use Rattle.slice_driver.specs.Steps.{CommandSteps, GoesThrough}
@@ -48,14 +48,10 @@ use Rattle.slice_driver.proofs.commanding.FreedWords.{same_words}
 use Rattle.slice_driver.proofs.commanding.Answering.{exposed_rest, outs_command, serves_command, through_rest}
 use Rattle.slice_driver.proofs.commanding.Answering.{words_command}
 use Rattle.slice_driver.proofs.commanding.Commanding.{exposed_marks}
-use Rattle.slice_driver.proofs.abstraction.Lying.{accepted_in, refused_in, shows_coloured}
-use Rattle.slice_driver.proofs.commanding.Rooms.{few_arenas, few_entries, marks_room}
+use Rattle.heap_core.proofs.Resolved.{shows_coloured}
+use Rattle.slice_driver.proofs.abstraction.Lying.{accepted_in, refused_in}
+use Rattle.slice_driver.proofs.commanding.Rooms.{few_arenas, few_entries}
 use Rattle.slice_driver.proofs.commanding.Through.{represents_widened}
-
-exposed_room : (o : Option Place) (h : HeapState) (s : Piles) (k : HeapState) (t : Piles) → Exposed o h s k t
-    → t.room ≡ s.room
-exposed_room None h s k t e = ap (λ (z : Piles). z.room) e.1
-exposed_room (Some x) h s k t e = e.spreads.room_is
 
 exposed_sized : (o : Option Place) (h : HeapState) (s : Piles) (k : HeapState) (t : Piles) → Exposed o h s k t
     → length k.colours ≡ length h.colours
@@ -66,19 +62,19 @@ no_fewer : (h : HeapState) (o : Option ℕ) → length h.colours ≤ arenas_afte
 no_fewer h None = omega arith
 no_fewer h (Some zone) = omega arith
 
--- the heap but for its colours
+-- the heap but for its colours and delayed cells
 abbrev pub SameShape : HeapState → HeapState → Type 0
-SameShape h k = k ≡ with_colours h k.colours
+SameShape h k = k ≡ with_marks h k.colours k.delayed
 
 same_then : (h k l : HeapState) → SameShape h k → SameShape k l → SameShape h l
-same_then h k l a b = b ∙ ap (λ (z : HeapState). with_colours z l.colours) a
+same_then h k l a b = b ∙ ap (λ (z : HeapState). with_marks z l.colours l.delayed) a
 
 pub through_shape : (o : Option Place) (c d : CollectorState) (flown flying : ℕ → Option Bits)
     → Exposed o (joined c.heap flown) c.stack (joined d.heap flying) d.stack → SameShape c.heap d.heap
 through_shape o c d flown flying e = exposed_rest o c.heap d.heap flown flying c.stack d.stack e
 
 pub same_sound : (h k : HeapState) → SameShape h k → answers.IsSound h → answers.IsSound k
-same_sound h k same s = (s.0, subst (λ z. Shows z s.0) (sym same) (shows_coloured h k.colours s.0 s.1))
+same_sound h k same s = (s.0, subst (λ z. Shows z s.0) (sym same) (shows_coloured h k.colours k.delayed s.0 s.1))
 
 pub sound_heap : (c : CollectorState) (flown : ℕ → Option Bits) → IsSound c flown → answers.IsSound c.heap
 sound_heap c flown s = (s.represents.lies.graph, s.represents.lies.shown)
@@ -86,16 +82,15 @@ sound_heap c flown s = (s.represents.lies.graph, s.represents.lies.shown)
 pub sound_roomy : (c : CollectorState) (flown : ℕ → Option Bits) → IsSound c flown → IsRoomy c (length c.heap.colours)
 sound_roomy c flown s =
     let n = flown_length flown 0 c.heap.colours in
-    let own = s.represents.marks.holds.piles.room.room in
-    let more = s.represents.gray.room in
-    record { stack = omega (arith, n, own); lists = omega (arith, n, more) }
+    let room = s.represents.gray.room in
+    record { lists = omega (arith, n, room) }
 
 pub through_sound : (o : Option Place) (c d : CollectorState) (flown flying : ℕ → Option Bits)
     → Exposed o (joined c.heap flown) c.stack (joined d.heap flying) d.stack → answers.IsSound c.heap
     → answers.IsSound d.heap
 through_sound o c d flown flying e s = same_sound c.heap d.heap (through_shape o c d flown flying e) s
 
--- the same heap, stack and lists, but for rooms
+-- the same heap, stack and lists, but for the room of the lists
 pub wide_heap : (c d : CollectorState) → Widens c d → d.heap ≡ c.heap
 wide_heap c d wide = ap (λ (e : CollectorState). e.heap) wide.rest
 
@@ -105,9 +100,8 @@ wide_sound c d flown wide s = subst answers.IsSound (sym (wide_heap c d wide)) (
 
 pub wide_marks : (c d : CollectorState) (flown : ℕ → Option Bits) → Widens c d → IsSound c flown
     → MarkingInvariant (joined d.heap flown) d.stack
-wide_marks c d flown wide s = subst (λ h. MarkingInvariant (joined h flown) d.stack) (sym (wide_heap c d wide))
-    (marks_room (joined c.heap flown) c.stack d.stack (ap (λ (e : CollectorState). e.stack) wide.rest) wide.stack
-    s.represents.marks)
+wide_marks c d flown wide s = subst (λ (e : CollectorState). MarkingInvariant (joined e.heap flown) e.stack)
+    (sym wide.rest) s.represents.marks
 
 pub exposed_after : (o : Option Place) (c d : CollectorState) (flown flying : ℕ → Option Bits)
     → Exposed o (joined c.heap flown) c.stack (joined d.heap flying) d.stack
@@ -277,13 +271,6 @@ module _ (E : Type 0) (c d1 d2 d3 d4 d : CollectorState) (flown f1 f2 f3 : ℕ �
       ∙ (ap (λ (z : CollectorState). z.lists) p.third.rest
       ∙ (ap (λ (z : CollectorState). z.lists) p.second.rest ∙ ap (λ (z : CollectorState). z.lists) p.first.rest))
 
-  room_same : d.stack.room ≡ d1.stack.room
-  room_same =
-      ap (λ (z : CollectorState). z.stack.room) p.rest
-      ∙ (exposed_room (handed_by plan.change) (joined d3.heap f2) d3.stack (joined d4.heap f3) d4.stack p.third.exposed
-      ∙ (exposed_room plan.wrapped (joined d2.heap f1) d2.stack (joined d3.heap f2) d3.stack p.second.exposed
-      ∙ exposed_room plan.overwritten (joined d1.heap flown) d1.stack (joined d2.heap f1) d2.stack p.first.exposed))
-
   pub run_after : d.run ≡ c.run
   run_after = ap (λ (z : CollectorState). z.run) p.rest
       ∙ (ap (λ (z : CollectorState). z.run) p.third.rest
@@ -330,7 +317,7 @@ module _ (E : Type 0) (c d1 d2 d3 d4 d : CollectorState) (flown f1 f2 f3 : ℕ �
       go (Ok answer) by =
           let g = p.sound.represents.lies.graph in
           let shown : Shows d4.heap g = subst (λ z. Shows z g) (sym third_same)
-          (shows_coloured c.heap d4.heap.colours g p.sound.represents.lies.shown) in
+          (shows_coloured c.heap d4.heap.colours d4.heap.delayed g p.sound.represents.lies.shown) in
           let step : DoesStep d4.heap command (Ok answer) d.heap = (last_plan.does p.few answer d.heap by).0 in
           let said = (step g shown).0 in
           ap refusal_in said.0 ∙ said.1
@@ -397,8 +384,6 @@ module _ (E : Type 0) (c d1 d2 d3 d4 d : CollectorState) (flown f1 f2 f3 : ℕ �
     change = ok_fault (λ answer. ChangesBy d4.heap plan.change answer d.heap) committed p.change;
     err = err_fault (d.heap ≡ d4.heap) committed p.err;
     wanted = want_fault (MayWant d4.heap.shape plan.change) committed p.wanted;
-    room = (let most = few committed p.change p.err in let room = p.roomy.stack in let same = room_same in
-        omega (arith, most, room, same));
     more_room = (let most = few committed p.change p.err in let room = p.roomy.lists in
         let same : d.lists.room ≡ d1.lists.room = ap (λ (l : Incoming). l.room) lists_same in
         omega (arith, most, room, same));

@@ -21,7 +21,7 @@ use Rattle.slice_driver.proofs.commanding.Answering.{rises_ok, through_rest}
 use Rattle.slice_driver.proofs.measure.CommandsToCome.{limit_rises}
 use Rattle.slice_driver.proofs.measure.MarkingToCome.{exposed_no_more}
 
--- more room on the stack and the lists changes nothing of it
+-- more room on the lists changes nothing of it
 pub widened_to_come : (c d : CollectorState) (flown : ℕ → Option Bits) → Widens c d
     → units_to_come d flown ≡ units_to_come c flown
 unfolding units_to_come units_at

@@ -1,4 +1,4 @@
--- How many arenas and entries a command leaves, and invariants with more room.
+-- How many arenas and entries a command leaves, and the invariant of gray marking with more room.
 use Rattle.std.proofs.Common.{◌≡◌, ◌≤◌, ◌+◌, ◌==◌, ℕ, Bool, true, false, List, length, Option, Some, None, is_some}
 use Rattle.std.proofs.Common.{if◌then◌else◌, refl, sym, ap, subst, ◌∙◌, arith}
 use Rattle.gz_names.specs.declared.numbers.Place.{Place}
@@ -13,7 +13,6 @@ use Rattle.heap_core.specs.declared.plans.Change.TheVariants as change
 use Rattle.heap_core.specs.Plans.{ChangesBy, IsAble, made_by}
 use Rattle.mark_stack.specs.Stack.{Piles}
 use Rattle.gray_lists.specs.Incoming.{Incoming}
-use Rattle.barriers.specs.Invariant.{MarkingInvariant}
 use Rattle.barriers.specs.PendingLive.{GrayInvariant}
 use Rattle.slice_driver.specs.Rooms.{arenas_after}
 
@@ -85,44 +84,17 @@ module _ (old new : HeapState) where
     few_arenas n (change.Put m k v) answer able by = as_many (ap (λ (h : HeapState). h.colours) by.0.rest) None
     few_arenas n (change.Del m k) answer able by = as_many (ap (λ (h : HeapState). h.colours) by.0.rest) None
 
--- more room
-pub marks_room : (h : HeapState) (p q : Piles) → q ≡ record p { room = q.room } → p.room ≤ q.room → MarkingInvariant h p
-    → MarkingInvariant h q
-marks_room h p q e more inv = subst (λ (z : Piles). MarkingInvariant h z) (sym e) (record {
-  holds = record {
-    colours = inv.holds.colours;
-    piles = record {
-      black = inv.holds.piles.black;
-      wake = inv.holds.piles.wake;
-      gray = inv.holds.piles.gray;
-      room = record {
-        black = inv.holds.piles.room.black;
-        wake = inv.holds.piles.room.wake;
-        gray = inv.holds.piles.room.gray;
-        room = (let was = inv.holds.piles.room.room in omega (arith, was, more));
-      };
-    };
-    closed = inv.holds.closed;
-    weak_closed = inv.holds.weak_closed;
-  };
-  none_woken = inv.none_woken;
-  weak = record { black = inv.weak.black; gray = inv.weak.gray };
-  once = record { black = inv.once.black; gray = inv.once.gray };
-})
-
-pub gray_room : (h : HeapState) (p q : Piles) (lists more : Incoming) → q ≡ record p { room = q.room }
-    → more ≡ record lists { room = more.room } → lists.room ≤ more.room → GrayInvariant h p lists
-    → GrayInvariant h q more
-gray_room h p q lists more e f le g =
-    subst (λ (z : Piles). GrayInvariant h z more) (sym e)
-    (subst (λ (z : Incoming). GrayInvariant h (record p { room = q.room }) z) (sym f) (record {
+-- more room on the lists
+pub gray_room : (h : HeapState) (p : Piles) (lists more : Incoming) → more ≡ record lists { room = more.room }
+    → lists.room ≤ more.room → GrayInvariant h p lists → GrayInvariant h p more
+gray_room h p lists more e le g =
+    subst (λ (z : Incoming). GrayInvariant h p z) (sym e) (record {
       buffered_seen = g.buffered_seen;
       buffered_present = g.buffered_present;
       incoming_seen = g.incoming_seen;
       closed = g.closed;
-      once = g.once;
       apart = g.apart;
       lists_apart = g.lists_apart;
       few = g.few;
       room = (let was = g.room in omega (arith, was, le));
-    }))
+    })

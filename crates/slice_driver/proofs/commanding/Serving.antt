@@ -209,11 +209,11 @@ module _ (h : HeapState) (x : Place) (k : HeapState) (b : Born h x k) where
   ]
 
 serves_born : (h : HeapState) (x : Place) (k : HeapState) (s : Piles) (lists : Incoming) → MarkingInvariant h s
-    → GrayInvariant h s lists → 64 * length k.colours ≤ s.room → 64 * length k.colours ≤ lists.room
+    → GrayInvariant h s lists → 64 * length k.colours ≤ lists.room
     → ((a : ℕ) → out_of k.shape a ≡ out_of h.shape a)
     → ((p : Place) → IsSome (out_of h.shape p.0) → zone_of k.shape p ≡ zone_of h.shape p) → Born h x k
     → Serves h k s lists
-serves_born h x k s lists inv gray more also outs zones_out b = record {
+serves_born h x k s lists inv gray more outs zones_out b = record {
   marks = marks;
   gray = waits;
   states = λ z. ap (λ (xs : List State). state_or (slice_get xs z)) b.states;
@@ -241,15 +241,14 @@ serves_born h x k s lists inv gray more also outs zones_out b = record {
 }
   where
     marks : MarkingInvariant k s
-    marks = born_invariant h x k b s inv more
+    marks = born_invariant h x k b s inv
 
     waits : GrayInvariant k s lists
-    waits = born_gray h x k b s lists inv gray also
+    waits = born_gray h x k b s lists inv gray more
 
 module _ (old new : HeapState) (flown : ℕ → Option Bits) (s : Piles) (lists : Incoming)
     (inv : MarkingInvariant (joined old flown) s) (gray : GrayInvariant (joined old flown) s lists)
-    (covers : Covers old.shape flown) (room : 64 * length new.colours ≤ s.room)
-    (lists_room : 64 * length new.colours ≤ lists.room) where
+    (covers : Covers old.shape flown) (room : 64 * length new.colours ≤ lists.room) where
   abbrev h : HeapState
   h = joined old flown
 
@@ -270,16 +269,10 @@ module _ (old new : HeapState) (flown : ℕ → Option Bits) (s : Piles) (lists 
       subst (λ n. n < length old.shape.states) (some_one _ _ (sym lies.home ∙ home)) lies.made
 
   made_more : (between : HeapState) → new.colours ≡ between.colours
-      → 64 * length (joined between flown).colours ≤ s.room
+      → 64 * length (joined between flown).colours ≤ lists.room
   made_more between e = let n = flown_length flown 0 between.colours in
       let m : length new.colours ≡ length between.colours = ap (λ (xs : List Bits). length xs) e in
       omega (arith, n, m, room)
-
-  made_also : (between : HeapState) → new.colours ≡ between.colours
-      → 64 * length (joined between flown).colours ≤ lists.room
-  made_also between e = let n = flown_length flown 0 between.colours in
-      let m : length new.colours ≡ length between.colours = ap (λ (xs : List Bits). length xs) e in
-      omega (arith, n, m, lists_room)
 
   -- arenas that are out keep their zones as a cell is made
   zones_made : (between : HeapState)
@@ -295,7 +288,7 @@ module _ (old new : HeapState) (flown : ℕ → Option Bits) (s : Piles) (lists 
       let birth : Born h m.place (joined m.made flown) = born old m.made flown m.zone m.place cell m.makes
       covers ci (home_made d z m.zone home m.home) m.home (leads_nowhere h k d (Cell old.shape.objects)) in
       let first : Serves h (joined m.made flown) s lists = serves_born h m.place (joined m.made flown) s lists inv gray
-      (made_more m.made colours) (made_also m.made colours) m.makes.outs (zones_made m.made m.makes.zones) birth in
+      (made_more m.made colours) m.makes.outs (zones_made m.made m.makes.zones) birth in
       let second : Serves h (with_number (joined m.made flown)) s lists =
       serves_then h (joined m.made flown) (with_number (joined m.made flown)) s lists ci first
       (rewired_number (joined m.made flown) first.marks.holds.colours) in
@@ -314,7 +307,7 @@ module _ (old new : HeapState) (flown : ℕ → Option Bits) (s : Piles) (lists 
       let birth : Born h m.wrapper k = born old m.makes.made flown m.zone m.wrapper cell m.makes.makes
       covers ci (home_made c z m.zone home m.home) m.home (leads_to_target h c (number_at old.shape t) t black) in
       let first : Serves h k s lists = serves_born h m.wrapper k s lists inv gray (made_more m.makes.made colours)
-      (made_also m.makes.made colours) m.makes.makes.outs (zones_made m.makes.made m.makes.makes.zones) birth in
+      m.makes.makes.outs (zones_made m.makes.made m.makes.makes.zones) birth in
       let second : Serves h (joined m.between flown) s lists =
       subst (λ (z : HeapState). Serves h (joined z flown) s lists) (sym m.makes.rest)
       (serves_then h k (record k { shape = record k.shape { wrappers = m.between.shape.wrappers } }) s lists ci

@@ -10,8 +10,6 @@ use Rattle.barriers.specs.Reached as reached
 use Rattle.barriers.specs.Colours.{IsBlack}
 use Rattle.barriers.specs.Exposing.{BlackOr, Exposes}
 use Rattle.barriers.specs.Invariant.{MarkingInvariant}
-use Rattle.barriers.specs.PendingBlack.{PendingBlack}
-use Rattle.barriers.specs.PendingBlack as black_closure
 use Rattle.barriers.specs.PendingLive.{PendingLive, GrayInvariant}
 use Rattle.barriers.specs.PendingLive as live_closure
 use Rattle.barriers.specs.Spreading.{Blackens, Covers}
@@ -28,7 +26,7 @@ use Rattle.slice_driver.proofs.marking.Flights.{still_flies}
 use Rattle.slice_driver.proofs.marking.MarkingSteps.{Marked, marked_quiet, own_sized}
 use Rattle.slice_driver.proofs.marking.MarkingUnits.{looks_on, piled_still, waits_on}
 use Rattle.slice_driver.proofs.marking.Steps.{keeps_looks, looks_same, quiet as stands_quiet}
-use Rattle.slice_driver.proofs.commanding.Rooms.{gray_room, marks_room}
+use Rattle.slice_driver.proofs.commanding.Rooms.{gray_room}
 
 -- what is exposed is reached from black cells already
 abbrev pub IsReached : Option Place → CollectorState → (ℕ → Option Bits) → Type 0
@@ -36,7 +34,7 @@ IsReached o c flown = (p : Place) → o ≡ Some p → Reached c.heap.shape (IsB
 
 -- black spread to what is reached from it alone
 module _ (c : CollectorState) (flown : ℕ → Option Bits) (w : World) (rep : Represents c flown w) (h : HeapState)
-    (p : Piles) (flying : ℕ → Option Bits) (covers : Covers h.shape flying) where
+    (p : Piles) (flying : ℕ → Option Bits) (covers : Covers h.shape flying) (delayed : h.delayed ≡ c.heap.delayed) where
   abbrev after : CollectorState
   after = record c { heap = h; stack = p }
 
@@ -48,6 +46,7 @@ module _ (c : CollectorState) (flown : ℕ → Option Bits) (w : World) (rep : R
   marked_spread bl inv gray live = record {
     shape_is = ap (λ (z : HeapState). z.shape) bl.rest;
     made_is = ap (λ (z : HeapState). z.made) bl.rest;
+    delayed_is = delayed;
     edges_is = refl;
     groups_is = refl;
     run_is = refl;
@@ -106,33 +105,16 @@ pub represents_through : (o : Option Place) (c d : CollectorState) (flown flying
     → GoesThrough o c flown d flying → IsReached o c flown → Represents c flown w → Represents d flying w
 represents_through o c d flown flying w t r rep =
     subst (λ e. Represents e flying w) (sym t.rest)
-    (represents_exposed c flown w rep d.heap d.stack flying t.covers o t.exposed r)
+    (represents_exposed c flown w rep d.heap d.stack flying t.covers t.delayed o t.exposed r)
 
 -- the collector with the room of another one
 abbrev widened : CollectorState → CollectorState → CollectorState
-widened c d = record c {
-  stack = record c.stack { room = d.stack.room };
-  lists = record c.lists { room = d.lists.room };
-}
+widened c d = record c { lists = record c.lists { room = d.lists.room } }
 
 module _ (c d : CollectorState) (flown : ℕ → Option Bits) where
-  black_on : {p : Place} → PendingBlack (heap_with c flown) c.stack p
-      → PendingBlack (heap_with c flown) (widened c d).stack p
-  black_on (black_closure.black b) = black_closure.black b
-  black_on (black_closure.pending has e) = black_closure.pending has e
-  black_on (black_closure.along l n e) = black_closure.along (black_on l) n e
-  black_on (black_closure.weak e a b) = black_closure.weak e (black_on a) (black_on b)
-
-  black_back : {p : Place} → PendingBlack (heap_with c flown) (widened c d).stack p
-      → PendingBlack (heap_with c flown) c.stack p
-  black_back (black_closure.black b) = black_closure.black b
-  black_back (black_closure.pending has e) = black_closure.pending has e
-  black_back (black_closure.along l n e) = black_closure.along (black_back l) n e
-  black_back (black_closure.weak e a b) = black_closure.weak e (black_back a) (black_back b)
-
   live_on : {p : Place} → PendingLive (heap_with c flown) c.stack c.lists p
-      → PendingLive (heap_with c flown) (widened c d).stack (widened c d).lists p
-  live_on (live_closure.black l) = live_closure.black (black_on l)
+      → PendingLive (heap_with c flown) c.stack (widened c d).lists p
+  live_on (live_closure.black l) = live_closure.black l
   live_on (live_closure.gray g) = live_closure.gray g
   live_on (live_closure.buffered has) = live_closure.buffered has
   live_on (live_closure.behind z has n e) = live_closure.behind z has n e
@@ -141,9 +123,9 @@ module _ (c d : CollectorState) (flown : ℕ → Option Bits) where
   live_on (live_closure.along l n e) = live_closure.along (live_on l) n e
   live_on (live_closure.weak e a b) = live_closure.weak e (live_on a) (live_on b)
 
-  live_back : {p : Place} → PendingLive (heap_with c flown) (widened c d).stack (widened c d).lists p
+  live_back : {p : Place} → PendingLive (heap_with c flown) c.stack (widened c d).lists p
       → PendingLive (heap_with c flown) c.stack c.lists p
-  live_back (live_closure.black l) = live_closure.black (black_back l)
+  live_back (live_closure.black l) = live_closure.black l
   live_back (live_closure.gray g) = live_closure.gray g
   live_back (live_closure.buffered has) = live_closure.buffered has
   live_back (live_closure.behind z has n e) = live_closure.behind z has n e
@@ -164,13 +146,13 @@ represents_widened c d flown w wide rep =
     m = record {
       shape_is = refl;
       made_is = refl;
+      delayed_is = refl;
       edges_is = refl;
       groups_is = refl;
       run_is = refl;
       flies = rep.flies;
-      marks = marks_room (heap_with c flown) c.stack (widened c d).stack refl wide.stack rep.marks;
-      gray = gray_room (heap_with c flown) c.stack (widened c d).stack c.lists (widened c d).lists refl refl wide.lists
-          rep.gray;
+      marks = rep.marks;
+      gray = gray_room (heap_with c flown) c.stack c.lists (widened c d).lists refl wide.lists rep.gray;
       waits = record {
         piled = rep.waits.piled;
         buffered = rep.waits.buffered;
@@ -178,7 +160,7 @@ represents_widened c d flown w wide rep =
         looks = rep.waits.looks;
       };
       darker = λ p b. b;
-      black = λ p. (black_back c d flown, black_on c d flown);
+      black = λ p. (λ l. l, λ l. l);
       live = λ p. (live_back c d flown, live_on c d flown);
     }
 

@@ -41,7 +41,7 @@ pub ends_coloured : (v : CollectorState) (flown : ℕ → Option Bits) (g : Zone
     → IsReady v g rest → (w : World) (k : Collection) → IsValid w → Represents v flown w → w.collection ≡ Some k
     → AreColoured v.heap w.graph k (zones_without k.marking (zones_in g))
 ends_coloured v flown g rest ready w k ok rep is =
-    let own : heap_with v flown ≡ v.heap = joined_none v.heap flown
+    let own : heap_with v flown ≡ v.heap = joined_none v.heap flown rep.delayed
     (λ a. no_some (flown a) (rep.flies.covers a ∙ ap is_some (ready.kept a))) in
     subst (λ h. AreColoured h w.graph k (zones_without k.marking (zones_in g))) own
     (coloured v flown w k g rest ok rep ready is)
@@ -49,7 +49,8 @@ ends_coloured v flown g rest ready w k ok rep is =
 module _ (v : CollectorState) (flown : ℕ → Option Bits) (kept : (a : ℕ) → out_of v.heap.shape a ≡ None)
     (s : IsSound v flown) where
   own : heap_with v flown ≡ v.heap
-  own = joined_none v.heap flown (λ a. no_some (flown a) (s.represents.flies.covers a ∙ ap is_some (kept a)))
+  own = joined_none v.heap flown s.represents.delayed
+      (λ a. no_some (flown a) (s.represents.flies.covers a ∙ ap is_some (kept a)))
 
   marks : MarkingInvariant v.heap v.stack
   marks = subst (λ (h : HeapState). MarkingInvariant h v.stack) own s.represents.marks

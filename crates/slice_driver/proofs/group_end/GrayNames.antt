@@ -105,6 +105,7 @@ settled_grays c flown w names rep settled moved sorted =
 pub represents_flown : (c : CollectorState) (flown flying : ℕ → Option Bits) (w : World) → Covers c.heap.shape flying
     → joined c.heap flying ≡ joined c.heap flown → Represents c flown w → Represents c flying w
 represents_flown c flown flying w covers same rep = record {
+  delayed = rep.delayed;
   lies = rep.lies;
   unswept_apart = rep.unswept_apart;
   flies = record { covers = covers; woken = woken };

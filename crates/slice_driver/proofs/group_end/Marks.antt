@@ -21,12 +21,12 @@ use Rattle.heap_core.specs.Shape.{is_marking_state, is_white, out_of, state_in, 
 use Rattle.heap_core.specs.Heap.{HeapState, colour_in, colour_of}
 use Rattle.barriers.specs.Reached.{Reached, HasEntry}
 use Rattle.barriers.specs.Reached as reached
-use Rattle.barriers.specs.Colours.{IsBlack, IsSeen, lacks_black, slots_in}
+use Rattle.barriers.specs.Colours.{IsBlack, IsSeen, slots_in}
 use Rattle.weak_maps.specs.declared.colours.MarkColour.TheVariants as mark
 use Rattle.barriers.specs.WeakPoint.{WeakPoint, left_of}
 use Rattle.barriers.proofs.Scans.{once_alike}
 use Rattle.barriers.proofs.StayingLeft.{carried_stay}
-use Rattle.barriers.specs.Invariant.{ColourInvariant, HasRoom, MarkingInvariant, ShapeInvariant}
+use Rattle.barriers.specs.Invariant.{ColourInvariant, MarkingInvariant, ShapeInvariant}
 use Rattle.barriers.specs.PendingBlack.{PendingBlack}
 use Rattle.barriers.specs.PendingBlack as black_closure
 use Rattle.barriers.specs.PendingLive.{PendingLive, GrayInvariant, IsCovered, IsLiveStart, buffer_of}
@@ -211,17 +211,6 @@ module _ (c : CollectorState) (flown : ℕ → Option Bits) (w : World) (k : Col
   empty : (xs : List Place) (x : Place) → xs ≡ [] → Contains xs x → ⊥
   empty xs x none held = nothing_in_none x (subst (λ ys. Contains ys x) none held)
 
-  room_after : HasRoom n c.stack
-  room_after = record {
-    black = subst (λ (cs : List Bits). length c.stack.black + slots_in lacks_black cs ≤ 64 * length cs)
-        (sym colours_same) was.holds.piles.room.black;
-    wake = subst (λ (cs : List Bits). length c.stack.wake + slots_in lacks_black cs ≤ 64 * length cs) (sym colours_same)
-        was.holds.piles.room.wake;
-    gray = subst (λ (cs : List Bits). length c.stack.gray + slots_in is_white cs ≤ 64 * length cs) (sym colours_same)
-        was.holds.piles.room.gray;
-    room = subst (λ (cs : List Bits). 64 * length cs ≤ c.stack.room) (sym colours_same) was.holds.piles.room.room;
-  }
-
   entry_then : (m q v : Place) → HasEntry n.shape m q v → HasEntry c.heap.shape m q v
   entry_then m q v f = entry_was c flown w k g rest ok s ready at grays listed n e m q v f
 
@@ -250,7 +239,6 @@ module _ (c : CollectorState) (flown : ℕ → Option Bits) (w : World) (k : Col
         black = λ x held. absurd (empty c.stack.black x ready.marked.black_empty held);
         wake = λ x held. absurd (empty c.stack.wake x was.none_woken held);
         gray = λ x held. absurd (empty c.stack.gray x ready.marked.gray_empty held);
-        room = room_after;
       };
       closed = λ x y b ed.
           inl (black_on y (black_follows c.heap c.stack c.lists was was_gray g ready.marked x y (black_back x b)
@@ -313,7 +301,6 @@ module _ (c : CollectorState) (flown : ℕ → Option Bits) (w : World) (k : Col
     closed = λ x y gr ed.
         (let o = edge_was x y ed in
         covered x y (target_alive x y o.0 o.1) (was_gray.closed x y (sym (colour_same x) ∙ gr) o.0));
-    once = was_gray.once;
     apart = was_gray.apart;
     lists_apart = was_gray.lists_apart;
     few = subst (λ (cs : List Bits). waiting_count c.lists + (length c.stack.gray + slots_in is_white cs)

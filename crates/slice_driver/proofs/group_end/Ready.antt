@@ -16,6 +16,7 @@ use Rattle.colour_defs.proofs.Lists.{contains_cases, contains_head, contains_tai
 use Rattle.colour_defs.proofs.Membership.{same_zone_of, some_member}
 use Rattle.colour_defs.proofs.ZoneSets.{zones_in-has}
 use Rattle.heap_core.specs.Shape.{is_marking_state, name_at, state_in, state_of, zone_of}
+use Rattle.mark_stack.specs.Stack.{Piles, no_places}
 use Rattle.heap_core.specs.Heap.{HeapState, flown_or, joined, with_flown}
 use Rattle.barriers.specs.Colours.{IsBlack}
 use Rattle.barriers.specs.Invariant.{MarkingInvariant}
@@ -36,8 +37,11 @@ none_flown : (flown : ℕ → Option Bits) → ((a : ℕ) → flown a ≡ None) 
 none_flown flown none n [] = refl
 none_flown flown none n (own ∷ rest) = λ i. ap (λ o. flown_or o own) (none n) i ∷ none_flown flown none (suc n) rest i
 
-pub joined_none : (h : HeapState) (flown : ℕ → Option Bits) → ((a : ℕ) → flown a ≡ None) → joined h flown ≡ h
-joined_none h flown none = ap (λ (cs : List Bits). record h { colours = cs }) (none_flown flown none 0 h.colours)
+pub joined_none : (h : HeapState) (flown : ℕ → Option Bits) → h.delayed ≡ no_places → ((a : ℕ) → flown a ≡ None)
+    → joined h flown ≡ h
+joined_none h flown delayed none =
+    ap (λ (cs : List Bits). record h { colours = cs; delayed = no_places }) (none_flown flown none 0 h.colours)
+    ∙ ap (λ (ps : Piles). record h { delayed = ps }) (sym delayed)
 
 pub no_some : {X : Type 0} (o : Option X) → is_some o ≡ false → o ≡ None
 no_some None e = refl
@@ -87,7 +91,7 @@ module _ (c : CollectorState) (flown : ℕ → Option Bits) (w : World) (k : Col
   none_out a = no_some (flown a) (s.flies.covers a ∙ ap is_some (ready.kept a))
 
   pub heap_is : heap_with c flown ≡ c.heap
-  heap_is = joined_none c.heap flown none_out
+  heap_is = joined_none c.heap flown s.delayed none_out
 
   pub inv : MarkingInvariant c.heap c.stack
   inv = subst (λ h. MarkingInvariant h c.stack) heap_is s.marks

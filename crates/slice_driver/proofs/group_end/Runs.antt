@@ -11,7 +11,7 @@ use Rattle.gz_names.specs.declared.zone_sets.ZoneSet.{ZoneSet}
 use Rattle.cell_bits.specs.declared.bits.Bits.{Bits}
 use Rattle.zones.specs.declared.states.State.TheVariants as state
 use Rattle.arena_table.specs.Indexed.{in_zones}
-use Rattle.mark_stack.specs.Stack.{Piles}
+use Rattle.mark_stack.specs.Stack.{Piles, no_places}
 use Rattle.gray_lists.specs.Incoming.{Incoming}
 use Rattle.colour_defs.specs.World.{World, Collection, BlackClosure, Has, IsSettled, LiveClosure}
 use Rattle.colour_defs.specs.World as names
@@ -81,11 +81,16 @@ module _ (c : CollectorState) (flown : ℕ → Option Bits) (w : World) (k : Col
       go true t f = (in_zones_has g ready.small _ t, f)
       go false t f = absurd (cc f)
 
+  delayed_after : d.heap.delayed ≡ no_places
+  delayed_after = ap (λ (h : HeapState). h.delayed) e.rest ∙ s.delayed
+
   heap_is : heap_with d flying ≡ d.heap
-  heap_is = ap (λ (cs : List Bits). record d.heap { colours = cs }) (own_flown flying 0 d.heap.colours (λ a b f.
+  heap_is = ap (λ (cs : List Bits). record d.heap { colours = cs; delayed = no_places })
+      (own_flown flying 0 d.heap.colours (λ a b f.
       let same : 0 + a ≡ a = omega arith in
       ap (λ (cs : List Bits). slice_get cs a) (colours_same c flown w k g rest ok s ready at grays listed d.heap e)
       ∙ (out_of_group a b (sym (flies a) ∙ ap flying (sym same) ∙ f)).1))
+      ∙ ap (λ (ps : Piles). record d.heap { delayed = ps }) (sym delayed_after)
 
   same_bits : (a : ℕ) (old new : Bits) → out_of d.heap.shape a ≡ Some old → flying a ≡ Some new → IsWokenFrom old new
   same_bits a old new o f =
@@ -292,6 +297,7 @@ module _ (c : CollectorState) (flown : ℕ → Option Bits) (w : World) (k : Col
 
   pub represents_after : Represents d flying (ended c.heap w k g rest)
   represents_after = record {
+    delayed = delayed_after;
     lies = lies_after c flown w k g rest ok s ready at grays listed d.heap e;
     unswept_apart = unswept_apart_after c flown w k g rest ok s ready at grays listed d.heap e;
     flies = in_flight;

@@ -246,6 +246,7 @@ module _ (c d : CollectorState) (flown : ℕ → Option Bits) (w : World) (k : C
 
   pub represents_formed : Represents d flown (record w { collection = Some (formed_collection k groups) })
   represents_formed = record {
+    delayed = ap (λ (h : HeapState). h.delayed) f.heap_is ∙ s.delayed;
     lies = subst (λ h. LiesIn h after) (sym f.heap_is)
         (lies_running c.heap w (Some (formed_collection k groups)) s.lies);
     unswept_apart = λ x p q a b. s.unswept_apart x p q (subst (λ (h : HeapState). IsUnswept h.shape p x) f.heap_is a)

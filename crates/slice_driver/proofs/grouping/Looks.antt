@@ -37,7 +37,8 @@ use Rattle.slice_driver.proofs.group_end.Ready.{joined_none, no_some, runs_of}
 -- where no arena is out, the heap's own bits count
 pub own_heap : (c : CollectorState) (flown : ℕ → Option Bits) (w : World) → Represents c flown w
     → ((a : ℕ) → out_of c.heap.shape a ≡ None) → heap_with c flown ≡ c.heap
-own_heap c flown w s kept = joined_none c.heap flown (λ a. no_some (flown a) (s.flies.covers a ∙ ap is_some (kept a)))
+own_heap c flown w s kept =
+    joined_none c.heap flown s.delayed (λ a. no_some (flown a) (s.flies.covers a ∙ ap is_some (kept a)))
 
 -- where black marking has nothing left to do, all that is reached from black is black
 pub black_reached : (h : HeapState) (p : Piles) → MarkingInvariant h p → p.black ≡ []
@@ -73,6 +74,7 @@ module _ (c d : CollectorState) (l : LooksIn c d) where
   quiet_look flown w s = subst (λ (z : CollectorState). IsQuiet c flown z flown) (sym l.rest) (record {
     shape_is = refl;
     made_is = refl;
+    delayed_is = refl;
     run_is = refl;
     groups_is = refl;
     sized = refl;

@@ -27,6 +27,7 @@ pub record Marked (c : CollectorState) (flown : ℕ → Option Bits) (d : Collec
     0 where
   pub shape_is : d.heap.shape ≡ c.heap.shape
   pub made_is : d.heap.made ≡ c.heap.made
+  pub delayed_is : d.heap.delayed ≡ c.heap.delayed
   pub edges_is : d.edges ≡ c.edges
   pub groups_is : d.groups ≡ c.groups
   pub run_is : d.run ≡ c.run
@@ -50,6 +51,7 @@ module _ (c : CollectorState) (flown : ℕ → Option Bits) (d : CollectorState)
   marked_quiet = record {
     shape_is = subst (λ (t : Shape). t ≡ record c.heap.shape { states = t.states }) (sym m.shape_is) refl;
     made_is = m.made_is;
+    delayed_is = m.delayed_is;
     run_is = m.run_is;
     groups_is = m.groups_is;
     sized = ap (λ (t : Shape). length t.states) m.shape_is;

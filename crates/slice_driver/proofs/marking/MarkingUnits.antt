@@ -90,14 +90,14 @@ module _ (c : CollectorState) (h : HeapState) (p : Piles) (shape_is : h.shape �
 
 -- a cell of the black pile was followed
 pub black_followed : (c : CollectorState) (flown flying : ℕ → Option Bits) (h : HeapState) (p : Piles) → IsSound c flown
-    → IsSome c.run → Covers h.shape flying → MarkingInvariant (joined h flying) p
+    → IsSome c.run → h.delayed ≡ c.heap.delayed → Covers h.shape flying → MarkingInvariant (joined h flying) p
     → Blackens (Reached c.heap.shape (IsBlack (heap_with c flown))) (with_looks (heap_with c flown) h.looks)
     (joined h flying) → p.gray ≡ c.stack.gray
     → ((y : Place) → PendingBlack (joined h flying) p y ↔ PendingBlack (heap_with c flown) c.stack y)
     → KeepsLive (heap_with c flown) c.stack (joined h flying) p
     → ScansBlack (heap_with c flown) c.stack (joined h flying) p
     → GoesOn c flown [] (record c { heap = h; stack = p }) flying
-black_followed c flown flying h p s running covers inv bl gray pending live scanned =
+black_followed c flown flying h p s running delayed covers inv bl gray pending live scanned =
     let rep = s.represents in
     let d : CollectorState = record c { heap = h; stack = p } in
     let shape_is : h.shape ≡ c.heap.shape = ap (λ (z : HeapState). z.shape) bl.rest in
@@ -105,6 +105,7 @@ black_followed c flown flying h p s running covers inv bl gray pending live scan
     let m : Marked c flown d flying = record {
       shape_is = shape_is;
       made_is = ap (λ (z : HeapState). z.made) bl.rest;
+      delayed_is = delayed;
       edges_is = refl;
       groups_is = refl;
       run_is = refl;
@@ -147,10 +148,10 @@ raised_others colour.Black h p v k q (inr (inr (turned, off, pushes))) y = elim 
 
 -- a weak entry was looked at
 pub entry_looked : (c : CollectorState) (flown flying : ℕ → Option Bits) (h : HeapState) (p : Piles)
-    (colour_is : MarkColour) → IsSound c flown → IsSome c.run → Covers h.shape flying
+    (colour_is : MarkColour) → IsSound c flown → IsSome c.run → h.delayed ≡ c.heap.delayed → Covers h.shape flying
     → DoesLook colour_is (heap_with c flown) c.stack (joined h flying) p
     → GoesOn c flown [] (record c { heap = h; stack = p }) flying
-entry_looked c flown flying h p colour_is s running covers does =
+entry_looked c flown flying h p colour_is s running delayed covers does =
     let rep = s.represents in
     let d : CollectorState = record c { heap = h; stack = p } in
     let shape_is : h.shape ≡ c.heap.shape = ap (λ (z : HeapState). z.shape) does.rest in
@@ -159,6 +160,7 @@ entry_looked c flown flying h p colour_is s running covers does =
     let m : Marked c flown d flying = record {
       shape_is = shape_is;
       made_is = ap (λ (z : HeapState). z.made) does.rest;
+      delayed_is = delayed;
       edges_is = refl;
       groups_is = refl;
       run_is = refl;
@@ -182,15 +184,17 @@ entry_looked c flown flying h p colour_is s running covers does =
 
 -- a piece of gray marking was done
 pub gray_followed : (c : CollectorState) (flown : ℕ → Option Bits) (h : HeapState) (p : Piles) (lists : Incoming)
-    → IsSound c flown → IsSome c.run → DoesGray (heap_with c flown) c.stack c.lists (joined h flown) p lists
+    → IsSound c flown → IsSome c.run → h.delayed ≡ c.heap.delayed
+    → DoesGray (heap_with c flown) c.stack c.lists (joined h flown) p lists
     → GoesOn c flown [] (record c { heap = h; stack = p; lists = lists }) flown
-gray_followed c flown h p lists s running does =
+gray_followed c flown h p lists s running delayed does =
     let rep = s.represents in
     let d : CollectorState = record c { heap = h; stack = p; lists = lists } in
     let shape_is : h.shape ≡ c.heap.shape = ap (λ (z : HeapState). z.shape) does.marks.rest in
     let m : Marked c flown d flown = record {
       shape_is = shape_is;
       made_is = ap (λ (z : HeapState). z.made) does.marks.rest;
+      delayed_is = delayed;
       edges_is = refl;
       groups_is = refl;
       run_is = refl;
@@ -249,6 +253,7 @@ same_worlds c flown flying w covers e s =
     let marks : MarkingInvariant (heap_with c flying) c.stack =
     subst (λ h. MarkingInvariant h c.stack) (sym e) s.marks in
     record {
+      delayed = s.delayed;
       lies = s.lies;
       unswept_apart = s.unswept_apart;
       flies = still_flies c.heap c.heap flown flying s.flies refl s.marks.holds.colours marks.holds.colours covers

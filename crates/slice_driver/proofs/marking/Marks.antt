@@ -12,7 +12,7 @@ use Rattle.gray_lists.specs.Incoming.{Incoming, waiting_count}
 use Rattle.heap_core.specs.Shape.{is_marking, is_marking_state, is_white, out_of, state_in, state_of, zone_of}
 use Rattle.weak_maps.specs.WeakMaps.{LooksState, WeakTableState}
 use Rattle.heap_core.specs.Heap.{HeapState, colour_in, colour_of, weak_of}
-use Rattle.barriers.specs.Colours.{IsBlack, IsSeen, slots_in, lacks_black}
+use Rattle.barriers.specs.Colours.{IsBlack, IsSeen, slots_in}
 use Rattle.barriers.specs.PendingBlack.{PendingBlack}
 use Rattle.barriers.specs.PendingBlack as black_closure
 use Rattle.barriers.specs.PendingLive.{PendingLive, GrayInvariant, IsCovered, buffer_of}
@@ -95,15 +95,6 @@ module _ (h k : HeapState) (same : HasSameMarks h k) where
     black = λ x c. (let b = i.black x c in (colour_same x ∙ b.0, marking_same x ∙ b.1));
     wake = λ x c. (let b = i.wake x c in (colour_same x ∙ b.0, marking_same x ∙ b.1));
     gray = λ x c. seen_on x (i.gray x c);
-    room = record {
-      black = subst (λ (cs : List Bits). length p.black + slots_in lacks_black cs ≤ 64 * length cs) (sym same.colours)
-          i.room.black;
-      wake = subst (λ (cs : List Bits). length p.wake + slots_in lacks_black cs ≤ 64 * length cs) (sym same.colours)
-          i.room.wake;
-      gray = subst (λ (cs : List Bits). length p.gray + slots_in is_white cs ≤ 64 * length cs) (sym same.colours)
-          i.room.gray;
-      room = subst (λ (cs : List Bits). 64 * length cs ≤ p.room) (sym same.colours) i.room.room;
-    };
   }
 
   -- a zone takes gray that did, or that was marked black only
@@ -166,7 +157,6 @@ module _ (h k : HeapState) (same : HasSameMarks h k) where
     incoming_seen = λ c x i. seen_on x (g.incoming_seen c x i);
     closed = λ x y gray e.
         covered_on p lists x y (g.closed x y (sym (colour_same x) ∙ gray) (edge_back h k same.cells x y e));
-    once = g.once;
     apart = g.apart;
     lists_apart = g.lists_apart;
     few = subst (λ (cs : List Bits). waiting_count lists + (length p.gray + slots_in is_white cs) ≤ 64 * length cs)

@@ -69,6 +69,7 @@ module _ (c : CollectorState) (flown : ℕ → Option Bits) (d : CollectorState)
         buffers = d.heap.buffers;
         made = d.heap.made;
         looks = d.heap.looks;
+        delayed = d.heap.delayed;
       })) (sym q.shape_is) (record {
         cells = λ p. refl;
         zones = λ p. refl;
@@ -285,6 +286,7 @@ module _ (c : CollectorState) (flown : ℕ → Option Bits) (d : CollectorState)
 
     pub quiet : Represents d flying w
     quiet = record {
+      delayed = q.delayed_is ∙ old.delayed;
       lies = lies_same c.heap d.heap w same_cells same_arenas old.lies;
       unswept_apart = λ x p o a b.
           old.unswept_apart x p o (unswept_same d.heap.shape c.heap.shape p x (sym same_arenas) a)

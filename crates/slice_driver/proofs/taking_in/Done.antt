@@ -169,6 +169,7 @@ module _ (c d : CollectorState) (flown : ℕ → Option Bits) (w : World) (k : C
 
   pub represents_done : Represents d flown (record w { collection = None })
   represents_done = record {
+    delayed = ap (λ (h : HeapState). h.delayed) f.heap_is ∙ s.delayed;
     lies = lies_idle d.heap w (lies_same c.heap d.heap w same_cells arenas_same s.lies);
     unswept_apart = λ x p q a b. s.unswept_apart x p q (unswept_same d.heap.shape c.heap.shape p x (sym arenas_same) a)
         (unswept_same d.heap.shape c.heap.shape q x (sym arenas_same) b);

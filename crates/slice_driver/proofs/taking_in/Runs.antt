@@ -318,6 +318,7 @@ module _ (c : CollectorState) (flown : ℕ → Option Bits) (w : World) (k : Col
 
   pub represents_after : Represents d (without_arena flown a) (swept_world w a (outs_from 0 d.heap.shape.arenas) k)
   represents_after = record {
+    delayed = ap (λ (h : HeapState). h.delayed) t.heap_is ∙ s.delayed;
     lies = lies_after;
     unswept_apart = λ x p q u v. s.unswept_apart x p q (unswept_back c flown w a freed bits d s t p x u).0
         (unswept_back c flown w a freed bits d s t q x v).0;

@@ -7,10 +7,10 @@ use Rattle.slice_driver.proofs.ends.list_freed.Goals as goal
 
 pub returns-clause-names : goal.returns-clause-names
 returns-clause-names c = record {
-  moved = λ arena e. subst (λ (xs : List Name). IsPermutation xs c.sort.new.self)
+  moved = λ arena e. subst (λ (xs : List Name). IsPermutation xs c.sort_names.new.names)
       (at_arena (slice_get c.args.heap.now.shape.arenas c.args.arena) arena e c.take_in.ensures.names)
-      c.sort.ensures.permutation;
-  sorted = c.sort.ensures.sorted;
+      c.sort_names.ensures.permutation;
+  sorted = c.sort_names.ensures.sorted;
 }
   where
     at_arena : (o : Option ArenaShape) (arena : ArenaShape) → o ≡ Some arena

@@ -2,14 +2,14 @@ use Rattle.std.proofs.Common.{arith, ◌≡◌, ◌<◌, length, slice_get, Some
 use Rattle.colour_defs.proofs.Lists.{contains_at}
 use Rattle.heap_core.specs.Shape.{Shape}
 use Rattle.heap_core.proofs.Added.{arena_made}
-use Rattle.slice_driver.proofs.beginning.MarkedRoots.{held_all, held_first, held_skip, held_step, marks_into}
+use Rattle.slice_driver.proofs.beginning.MarkedRoots.{held_all, held_first, held_skip, held_step, marks_seen}
 use Rattle.slice_driver.proofs.beginning.MarkedRoots.{ready_still, shape_still}
 use Rattle.slice_driver.proofs.root_marking.mark_registers.Goals as goal
 use Rattle.slice_driver.proofs.root_marking.mark_registers.Goals.{in-Some, in_default}
 
 pub loop-index-init : goal.loop-index-init
 loop-index-init c = record {
-  marks = held_first _ _ _ c.requires.ready.room;
+  marks = held_first _ _ _;
   counted = λ lt. absurd (omega arith);
 }
 
@@ -34,14 +34,14 @@ loop-index-preserved c =
     let same = shape_still _ _ _ _ _ _ m in
     elim c.match-held_in.branch [
       | in-Some w ↦ record {
-        marks = marks_into _ _ _ _ _ _ _ _ w.heap-is w.stack-is
+        marks = marks_seen _ _ _ _ _ _ _ _ w.heap-is w.stack-is
             (held_step _ _ _ i w.in-Some.place _ _ _ _
             (subst (λ (s : Shape). slice_get s.regs i ≡ Some (Some w.in-Some.place)) same w.in-Some.ensures.held) m
             w.mark_root.ensures);
         counted = λ lt. subst (λ (s : Shape). length s.regs ≡ 16) same w.in-Some.ensures.count;
       }
       | in_default w ↦ record {
-        marks = marks_into _ _ _ _ _ _ _ _ w.heap-is w.stack-is
+        marks = marks_seen _ _ _ _ _ _ _ _ w.heap-is w.stack-is
             (held_skip _ _ _ i _ _
             (subst (λ (s : Shape). slice_get s.regs i ≡ Some None) same w.in_default.ensures.held) m);
         counted = λ lt. subst (λ (s : Shape). length s.regs ≡ 16) same w.in_default.ensures.count;

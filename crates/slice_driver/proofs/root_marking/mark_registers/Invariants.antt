@@ -1,9 +1,12 @@
 use Rattle.std.proofs.Common.{◌≡◌, ◌<◌, length}
+use Rattle.heap_core.specs.Heap.{without_delayed}
+use Rattle.barriers.specs.Pending.{pending}
 use Rattle.slice_driver.specs.RootMarking.{IsHeldBefore, Marks}
 use Rattle.slice_driver.proofs.root_marking.mark_registers.Given as goal
 
 abbrev pub invariant-loop-index : goal.invariant-loop-index
 invariant-loop-index l = record {
-  marks : Marks (IsHeldBefore l.fn.heap.shape l.index) l.zones l.fn.heap l.fn.stack l.heap l.stack;
+  marks : Marks (IsHeldBefore l.fn.heap.shape l.index) l.zones (without_delayed l.fn.heap)
+      (pending l.fn.heap l.fn.stack) (without_delayed l.heap) (pending l.heap l.stack);
   counted : 0 < l.index → length l.fn.heap.shape.regs ≡ 16;
 }

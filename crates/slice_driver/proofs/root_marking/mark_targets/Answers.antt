@@ -1,6 +1,8 @@
 use Rattle.std.proofs.Common.{subst}
+use Rattle.heap_core.specs.Heap.{without_delayed}
+use Rattle.barriers.specs.Pending.{pending}
 use Rattle.slice_driver.specs.RootMarking.{IsTargetOf, Marks}
-use Rattle.slice_driver.proofs.beginning.MarkedRoots.{among_skip, among_step, marks_into, wrappers_still}
+use Rattle.slice_driver.proofs.beginning.MarkedRoots.{among_skip, among_step, marks_seen, wrappers_still}
 use Rattle.slice_driver.proofs.root_marking.mark_targets.Goals as goal
 use Rattle.slice_driver.proofs.root_marking.mark_targets.Goals.{in-Some, in_default}
 
@@ -18,14 +20,17 @@ loop-index-preserved g c =
       | in-Some w ↦
           let member = w.in-Some.ensures.some in
           record {
-            marks = marks_into _ _ _ _ _ _ _ _ w.heap-is w.stack-is
+            marks = marks_seen _ _ _ _ _ _ _ _ w.heap-is w.stack-is
                 (among_step _ _ _ c.loop-index.index _ _ _ _ member.1 m
-                (subst (λ z. Marks (IsTargetOf c.loop-index.heap z) c.args.zones c.loop-index.heap c.loop-index.stack
-                w.mark_targets_of.new.heap w.mark_targets_of.new.stack) member.0 w.mark_targets_of.ensures));
+                (subst (λ z. Marks (IsTargetOf (without_delayed c.loop-index.heap) z) c.args.zones
+                (without_delayed c.loop-index.heap) (pending c.loop-index.heap c.loop-index.stack)
+                (without_delayed w.mark_targets_of.new.heap)
+                (pending w.mark_targets_of.new.heap w.mark_targets_of.new.stack))
+                member.0 w.mark_targets_of.ensures));
           }
       | in_default w ↦ record {
         marks =
-            marks_into _ _ _ _ _ _ _ _ w.heap-is w.stack-is
+            marks_seen _ _ _ _ _ _ _ _ w.heap-is w.stack-is
             (among_skip _ _ _ c.loop-index.index _ _ w.in_default.ensures.none m);
       }
     ]

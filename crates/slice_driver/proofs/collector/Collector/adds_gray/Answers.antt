@@ -1,6 +1,7 @@
 use Rattle.std.proofs.Common.{◌≡◌, ◌∙◌, ℕ, Option, IsSome, refl, sym, ap, subst}
 use Rattle.cell_bits.specs.declared.bits.Bits.{Bits}
-use Rattle.heap_core.specs.Heap.{HeapState, joined}
+use Rattle.heap_core.specs.Heap.{HeapState, joined, without_delayed}
+use Rattle.barriers.specs.Pending.{pending}
 use Rattle.barriers.specs.Colours.{grays_outside}
 use Rattle.weak_maps.specs.WeakMaps.{NoneLeft}
 use Rattle.weak_maps.specs.declared.colours.MarkColour.TheVariants as mark
@@ -8,6 +9,7 @@ use Rattle.slice_driver.specs.Collector.{CollectorState, heap_with, run_of}
 use Rattle.slice_driver.specs.Units.{IsSound}
 use Rattle.slice_driver.specs.Working.{DidOrStill}
 use Rattle.slice_driver.proofs.marking.MarkingUnits.{entry_looked, still}
+use Rattle.slice_driver.proofs.marking.Views.{same_pending}
 use Rattle.slice_driver.proofs.collector.Collector.adds_gray.Goals as goal
 use Rattle.slice_driver.proofs.collector.Collector.adds_gray.Goals.{in-Did, in-Empty}
 
@@ -15,8 +17,8 @@ pub returns-clause-tries : goal.returns-clause-tries
 returns-clause-tries g c =
     let v : CollectorState =
     record {
-      heap = c.self.inside.heap;
-      stack = c.self.inside.stack;
+      heap = without_delayed c.self.inside.heap;
+      stack = pending c.self.inside.heap c.self.inside.stack;
       lists = c.self.inside.lists;
       edges = c.self.inside.edges;
       groups = c.self.inside.order;
@@ -26,19 +28,26 @@ returns-clause-tries g c =
     let flown : ℕ → Option Bits = g.F.Flight.bits c.args.flight.now in
     let flying : ℕ → Option Bits = g.F.Flight.bits c.weak_unit.new.flight in
     let e = c.weak_unit.ensures in
-    let d : CollectorState = record v { heap = c.weak_unit.new.heap; stack = c.weak_unit.new.stack } in
+    let d : CollectorState = record v {
+      heap = without_delayed c.weak_unit.new.heap;
+      stack = pending c.weak_unit.new.heap c.weak_unit.new.stack;
+    } in
     let sound : IsSound v flown = subst (λ (x : CollectorState). IsSound x flown) (sym is) c.requires.sound in
     let running : IsSome v.run = subst (λ (x : CollectorState). IsSome x.run) (sym is) c.requires.running in
     let here : DidOrStill c.match-weak_unit.result (NoneLeft mark.Gray v.heap.looks) v flown d flying =
     elim c.match-weak_unit.branch [
       | in-Did w ↦ subst (λ b. DidOrStill b (NoneLeft mark.Gray v.heap.looks) v flown d flying) (sym w.result-is) (
-        entry_looked v flown flying d.heap d.stack mark.Gray sound running e.covers (w.in-Did.ensures.does refl),
+        entry_looked v flown flying d.heap d.stack mark.Gray sound running refl e.covers (w.in-Did.ensures.does refl),
         λ none. let empty = w.in-Did.ensures.empty.1 none in cc empty,
       )
       | in-Empty w ↦ (
           let same = w.in-Empty.ensures.same refl in
-          subst (λ b. DidOrStill b (NoneLeft mark.Gray v.heap.looks) v flown d flying) (sym w.result-is)
-          (still v flown flying d.heap d.stack e.covers same.0 same.1 same.2, w.in-Empty.ensures.empty.0 refl)
+          subst (λ b. DidOrStill b (NoneLeft mark.Gray v.heap.looks) v flown d flying) (sym w.result-is) (
+            still v flown flying d.heap d.stack e.covers (ap without_delayed same.0)
+                (same_pending c.self.inside.heap c.weak_unit.new.heap c.self.inside.stack c.weak_unit.new.stack same.0
+                same.1) same.2,
+            w.in-Empty.ensures.empty.0 refl,
+          )
           )
     ] in
     let shape : c.weak_unit.new.heap.shape ≡ c.self.inside.heap.shape = elim c.match-weak_unit.branch [
@@ -56,8 +65,8 @@ pub returns-clause-grays : goal.returns-clause-grays
 returns-clause-grays g c =
     let v : CollectorState =
     record {
-      heap = c.self.inside.heap;
-      stack = c.self.inside.stack;
+      heap = without_delayed c.self.inside.heap;
+      stack = pending c.self.inside.heap c.self.inside.stack;
       lists = c.self.inside.lists;
       edges = c.self.inside.edges;
       groups = c.self.inside.order;

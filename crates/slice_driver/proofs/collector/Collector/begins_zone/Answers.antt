@@ -1,23 +1,26 @@
 use Rattle.std.proofs.Common.{◌≡◌, Some, [], slice_get, refl, sym, subst, ◌∙◌}
 use Rattle.gz_names.specs.Zones.{HasZone}
 use Rattle.gz_names.specs.declared.zone_sets.ZoneSet.{ZoneSet}
-use Rattle.heap_core.specs.Heap.{joined}
+use Rattle.mark_stack.specs.Stack.{Piles}
+use Rattle.heap_core.specs.Heap.{HeapState, joined, without_delayed}
+use Rattle.barriers.specs.Pending.{pending}
 use Rattle.barriers.specs.Colours.{grays_outside}
 use Rattle.slice_driver.specs.Collector.{CollectorState, heap_with, run_of}
 use Rattle.slice_driver.specs.Quiet.{IsFormed}
 use Rattle.slice_driver.specs.Units.{IsSound}
 use Rattle.slice_driver.specs.Working.{GoesOn, HasBegun}
 use Rattle.slice_driver.proofs.abstraction.Named.{some_one}
-use Rattle.slice_driver.proofs.marking.ZoneSteps.{advanced_to, all_begun, current_is, in_both, not_begun, zone_goes}
+use Rattle.slice_driver.proofs.marking.ZoneSteps.{all_begun, current_is, in_both, not_begun, zone_goes}
 use Rattle.slice_driver.proofs.marking.ZoneSteps.{zone_grays}
+use Rattle.slice_driver.proofs.marking.Views.{begun_pending, begun_seen}
 use Rattle.slice_driver.proofs.collector.Collector.begins_zone.Goals as goal
 
 pub returns-in_default-first-clause-begins : goal.returns-in_default-first-clause-begins
 returns-in_default-first-clause-begins c =
     let v : CollectorState =
     record {
-      heap = c.self.inside.heap;
-      stack = c.self.inside.stack;
+      heap = without_delayed c.self.inside.heap;
+      stack = pending c.self.inside.heap c.self.inside.stack;
       lists = c.self.inside.lists;
       edges = c.self.inside.edges;
       groups = c.self.inside.order;
@@ -43,8 +46,8 @@ pub returns-clause-begins : goal.returns-clause-begins
 returns-clause-begins c =
     let v : CollectorState =
     record {
-      heap = c.self.inside.heap;
-      stack = c.self.inside.stack;
+      heap = without_delayed c.self.inside.heap;
+      stack = pending c.self.inside.heap c.self.inside.stack;
       lists = c.self.inside.lists;
       edges = c.self.inside.edges;
       groups = c.self.inside.order;
@@ -57,11 +60,15 @@ returns-clause-begins c =
     let both = (in_both c.in-Some.group.bits c.in_state-waiting.result.bits c.without.result.bits
     c.without-2.result.bits c.without.ensures c.without-2.ensures zone).0 c.in-Some-first.ensures.some in
     let found = (c.in_state-waiting.ensures zone).0 both.1 in
-    let d : CollectorState = record v { heap = c.advance.new.self } in
+    let h : HeapState = c.self.inside.heap in
+    let n : HeapState = c.advance.new.self in
+    let d : CollectorState = record v { heap = without_delayed n; stack = pending n c.self.inside.stack } in
     let waits : HasBegun v → ⊥ = λ begun. not_begun v c.in-Some.group zone at both.0 found begun in (
       λ f s. subst (λ (x : CollectorState). IsSound x f → GoesOn x f [] d f) is
-          (zone_goes v zone formed (current_is v.groups c.in-Some.group zone at both.0) found c.advance.new.self
-          (advanced_to v.heap zone c.advance.new.self found c.advance.ensures) f) s,
+          (subst (λ (p : Piles). IsSound v f → GoesOn v f [] (record v { heap = without_delayed n; stack = p }) f)
+          (begun_pending h zone n found c.advance.ensures c.self.inside.stack)
+          (zone_goes v zone formed (current_is v.groups c.in-Some.group zone at both.0) found (without_delayed n)
+          (begun_seen h zone n found c.advance.ensures) f)) s,
       subst (λ (x : CollectorState). HasBegun x → ⊥) is waits,
     )
 
@@ -69,8 +76,8 @@ pub returns-clause-grays : goal.returns-clause-grays
 returns-clause-grays c =
     let v : CollectorState =
     record {
-      heap = c.self.inside.heap;
-      stack = c.self.inside.stack;
+      heap = without_delayed c.self.inside.heap;
+      stack = pending c.self.inside.heap c.self.inside.stack;
       lists = c.self.inside.lists;
       edges = c.self.inside.edges;
       groups = c.self.inside.order;
@@ -84,5 +91,6 @@ returns-clause-grays c =
     let found = (c.in_state-waiting.ensures zone).0 both.1 in
     λ flown. subst (λ (x : CollectorState). grays_outside (joined c.advance.new.self flown)
     ≡ grays_outside (heap_with x flown)) c.self.view_is
-    (zone_grays v zone formed (current_is v.groups c.in-Some.group zone at both.0) found c.advance.new.self
-    (advanced_to v.heap zone c.advance.new.self found c.advance.ensures) flown)
+    (zone_grays v zone formed (current_is v.groups c.in-Some.group zone at both.0) found
+    (without_delayed c.advance.new.self)
+    (begun_seen c.self.inside.heap zone c.advance.new.self found c.advance.ensures) flown)

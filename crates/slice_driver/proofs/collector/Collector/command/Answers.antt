@@ -3,7 +3,9 @@ use Rattle.gz_names.specs.declared.replies.CmdFault.TheVariants as fault
 use Rattle.colour_defs.specs.Step.{refusal_in}
 use Rattle.heap_core.specs.Answers.{IsSound as IsSoundHeap}
 use Rattle.heap_core.specs.Peeks.{cells_made}
-use Rattle.heap_core.specs.Heap.{HeapState}
+use Rattle.mark_stack.specs.Stack.{Piles}
+use Rattle.heap_core.specs.Heap.{HeapState, without_delayed}
+use Rattle.barriers.specs.Pending.{pending}
 use Rattle.heap_core.specs.Lookups.{IsRefused}
 use Rattle.heap_core.specs.Plans.{ChangesBy, IsAble, IsPlanOf, MayWant}
 use Rattle.heap_core.proofs.Planned.{making-wants, planned-here}
@@ -13,11 +15,13 @@ use Rattle.slice_driver.specs.Steps.{GoesThrough}
 use Rattle.slice_driver.specs.Units.{DoesCommand, RaisesWithin}
 use Rattle.slice_driver.proofs.commanding.Commanded.{IsPlanned, as_fault, does_call, entries_after, exposed_after}
 use Rattle.slice_driver.proofs.commanding.Commanded.{kept_call, made_call, raises_call, refused_at, refused_raises}
-use Rattle.slice_driver.proofs.commanding.Commanded.{room_raises, run_after, sound_roomy}
+use Rattle.slice_driver.proofs.commanding.Commanded.{room_raises, run_after, sound_heap, sound_roomy}
 use Rattle.slice_driver.proofs.commanding.Commanded.{sure_call, through_able, through_plan, through_sound, wants_room}
 use Rattle.slice_driver.proofs.commanding.Commanded.{wide_able, wide_marks, wide_plan, wide_sound, wide_words}
 use Rattle.slice_driver.proofs.commanding.Commanded.{words_call, answered_call, command_sound, room_wanted, wanted_call}
 use Rattle.slice_driver.proofs.commanding.Commanded.{where_err}
+use Rattle.slice_driver.proofs.commanding.Viewed.{committed_delayed, committed_viewed, refused_viewed, sound_plain}
+use Rattle.slice_driver.proofs.commanding.Viewed.{uncommitted_viewed}
 use Rattle.slice_driver.proofs.collector.Collector.command.Given.{Over}
 use Rattle.slice_driver.proofs.collector.Collector.command.Goals as goal
 use Rattle.slice_driver.proofs.collector.Collector.command.Goals.{Joined-commit, in-Ok-commit, in-Err-commit}
@@ -26,11 +30,22 @@ use Rattle.slice_driver.proofs.collector.Collector.command.Goals.{Joined-commit,
 abbrev heap_of : CollectorState → HeapState
 heap_of c = c.heap
 
+-- the collector as the change was made, with these cells still delayed
+abbrev with_pending : (g : Over) → Joined-commit g → Piles → CollectorState
+with_pending g c delayed = record {
+  heap = without_delayed c.commit.new.self;
+  stack = pending (record c.commit.new.self { delayed = delayed }) c.self-2.inside.stack;
+  lists = c.self-2.inside.lists;
+  edges = c.self-2.inside.edges;
+  groups = c.self-2.inside.order;
+  run = run_of c.self-2.inside.run;
+}
+
 -- the collector after the call
 abbrev after : (g : Over) → Joined-commit g → CollectorState
 after g c = record {
-  heap = c.commit.new.self;
-  stack = c.self-2.inside.stack;
+  heap = without_delayed c.commit.new.self;
+  stack = pending c.commit.new.self c.self-2.inside.stack;
   lists = c.self-2.inside.lists;
   edges = c.self-2.inside.edges;
   groups = c.self-2.inside.order;
@@ -44,6 +59,9 @@ planned : (g : Over) (c : Joined-commit g)
     (g.F.Flight.bits c.expose-3.new.flight) c.args.cmd c.in-Ok.plan c.commit.result
 planned g c =
     let here = ap heap_of c.self-2.view_is in
+    let old = c.self-2.inside.heap in
+    let new = c.commit.new.self in
+    let ch = c.in-Ok.plan.change in
     let plan = subst (λ h. IsPlanOf h c.args.cmd c.in-Ok.plan) (ap heap_of c.self.view_is) c.in-Ok.ensures.plan in
     record {
       sound = c.requires.sound;
@@ -60,13 +78,14 @@ planned g c =
       second = c.expose-2.ensures.through;
       third = subst (λ o. GoesThrough o c.expose-2.new.self (g.F.Flight.bits c.expose-2.new.flight) c.expose-3.new.self
           (g.F.Flight.bits c.expose-3.new.flight)) c.handed.ensures c.expose-3.ensures.through;
-      rest = ap (λ (z : CollectorState). record z { heap = c.commit.new.self }) c.self-2.view_is;
-      change = subst (λ (h : HeapState).
-          IfOk c.commit.result (λ answer. ChangesBy h c.in-Ok.plan.change answer c.commit.new.self)) here
-          c.commit.ensures.change;
-      err = subst (λ h. OnErr c.commit.result (c.commit.new.self ≡ h)) here c.commit.ensures.err;
-      wanted = subst (λ (h : HeapState). OnErr c.commit.result (MayWant h.shape c.in-Ok.plan.change)) here
-          c.commit.ensures.wanted;
+      rest = ap (with_pending g c)
+          (committed_delayed old new ch c.commit.result c.commit.ensures.change c.commit.ensures.err)
+          ∙ ap (λ (z : CollectorState). record z { heap = without_delayed new }) c.self-2.view_is;
+      change = subst (λ (h : HeapState). IfOk c.commit.result (λ answer. ChangesBy h ch answer (without_delayed new)))
+          here (committed_viewed old new ch c.commit.result c.commit.ensures.change);
+      err = subst (λ h. OnErr c.commit.result (without_delayed new ≡ h)) here
+          (uncommitted_viewed old new c.commit.result c.commit.ensures.err);
+      wanted = subst (λ (h : HeapState). OnErr c.commit.result (MayWant h.shape ch)) here c.commit.ensures.wanted;
     }
 
 -- the result, by what the heap answers
@@ -76,9 +95,16 @@ result_is g c = elim c.match-commit.branch [
   | in-Err-commit w ↦ w.result-is ∙ sym (ap as_fault w.in-Err-commit.is)
 ]
 
+pub resolve-requires : goal.resolve-requires
+resolve-requires g c = record {
+  sound = sound_plain c.self.inside.heap (subst IsSoundHeap (sym (ap heap_of c.self.view_is))
+      (sound_heap c.args.self.now (g.F.Flight.bits c.args.flight.now) c.requires.sound));
+}
+
 pub returns-in-Err-clause-done : goal.returns-in-Err-clause-done
 returns-in-Err-clause-done g c = refused_at c.args.self.now (g.F.Flight.bits c.args.flight.now) c.args.cmd c.in-Err.why
-    (subst (λ h. IsRefused h c.args.cmd c.in-Err.why) (ap heap_of c.self.view_is) c.in-Err.ensures.refused)
+    (subst (λ h. IsRefused h c.args.cmd c.in-Err.why) (ap heap_of c.self.view_is)
+    (refused_viewed c.self.inside.heap c.args.cmd c.in-Err.why c.in-Err.ensures.refused))
 
 pub make_room-requires : goal.make_room-requires
 make_room-requires g c =
@@ -175,7 +201,7 @@ commit-requires-clause-sound g c =
     let third = through_sound c.handed.result c.expose-2.new.self c.expose-3.new.self
     (g.F.Flight.bits c.expose-2.new.flight) (g.F.Flight.bits c.expose-3.new.flight) c.expose-3.ensures.through.exposed
     second in
-    subst IsSoundHeap (sym (ap heap_of c.self-2.view_is)) third
+    sound_plain c.self-2.inside.heap (subst IsSoundHeap (sym (ap heap_of c.self-2.view_is)) third)
 
 pub commit-requires-clause-able : goal.commit-requires-clause-able
 commit-requires-clause-able g c =

@@ -1,6 +1,6 @@
 use Rattle.std.proofs.Common.{◌≡◌, ◌<◌, ◌++◌, All, map, length, ap, subst, sym}
 use Rattle.std.specs.List.{flat_map}
-use Rattle.heap_core.specs.Heap.{HeapState, joined}
+use Rattle.heap_core.specs.Heap.{HeapState, joined, without_delayed}
 use Rattle.heap_core.specs.Shape.{IsPresent}
 use Rattle.slice_driver.specs.Collector.{CollectorState}
 use Rattle.slice_driver.specs.Dumps.{coloured_line, entry_line}
@@ -34,45 +34,46 @@ entries_by_name-requires-clause-held g c =
 pub returns-in_err-push_cell_lines-clause-same : goal.returns-in_err-push_cell_lines-clause-same
 returns-in_err-push_cell_lines-clause-same g c w rep =
     represents_seen c.args.self.now (g.F.Flight.bits c.args.flight.now) (g.F.Flight.bits c.push_cell_lines.new.flight)
-    c.self.inside.heap (ap (λ (z : CollectorState). z.heap) c.self.view_is) c.push_cell_lines.ensures.kept.covers
-    c.push_cell_lines.ensures.kept.same w rep
+    (without_delayed c.self.inside.heap) (ap (λ (z : CollectorState). z.heap) c.self.view_is)
+    c.push_cell_lines.ensures.kept.covers c.push_cell_lines.ensures.kept.same w rep
 
 pub returns-in_err-push_edge_lines-clause-same : goal.returns-in_err-push_edge_lines-clause-same
 returns-in_err-push_edge_lines-clause-same g c w rep =
     represents_seen c.args.self.now (g.F.Flight.bits c.args.flight.now) (g.F.Flight.bits c.push_cell_lines.new.flight)
-    c.self.inside.heap (ap (λ (z : CollectorState). z.heap) c.self.view_is) c.push_cell_lines.ensures.kept.covers
-    c.push_cell_lines.ensures.kept.same w rep
+    (without_delayed c.self.inside.heap) (ap (λ (z : CollectorState). z.heap) c.self.view_is)
+    c.push_cell_lines.ensures.kept.covers c.push_cell_lines.ensures.kept.same w rep
 
 pub returns-in_err-entries_by_name-clause-same : goal.returns-in_err-entries_by_name-clause-same
 returns-in_err-entries_by_name-clause-same g c w rep =
     represents_seen c.args.self.now (g.F.Flight.bits c.args.flight.now) (g.F.Flight.bits c.push_cell_lines.new.flight)
-    c.self.inside.heap (ap (λ (z : CollectorState). z.heap) c.self.view_is) c.push_cell_lines.ensures.kept.covers
-    c.push_cell_lines.ensures.kept.same w rep
+    (without_delayed c.self.inside.heap) (ap (λ (z : CollectorState). z.heap) c.self.view_is)
+    c.push_cell_lines.ensures.kept.covers c.push_cell_lines.ensures.kept.same w rep
 
 pub returns-in_err-push_entry_lines-clause-same : goal.returns-in_err-push_entry_lines-clause-same
 returns-in_err-push_entry_lines-clause-same g c w rep =
     represents_seen c.args.self.now (g.F.Flight.bits c.args.flight.now) (g.F.Flight.bits c.push_cell_lines.new.flight)
-    c.self.inside.heap (ap (λ (z : CollectorState). z.heap) c.self.view_is) c.push_cell_lines.ensures.kept.covers
-    c.push_cell_lines.ensures.kept.same w rep
+    (without_delayed c.self.inside.heap) (ap (λ (z : CollectorState). z.heap) c.self.view_is)
+    c.push_cell_lines.ensures.kept.covers c.push_cell_lines.ensures.kept.same w rep
 
 pub returns-in_err-push-clause-same : goal.returns-in_err-push-clause-same
 returns-in_err-push-clause-same g c w rep =
     represents_seen c.args.self.now (g.F.Flight.bits c.args.flight.now) (g.F.Flight.bits c.push_cell_lines.new.flight)
-    c.self.inside.heap (ap (λ (z : CollectorState). z.heap) c.self.view_is) c.push_cell_lines.ensures.kept.covers
-    c.push_cell_lines.ensures.kept.same w rep
+    (without_delayed c.self.inside.heap) (ap (λ (z : CollectorState). z.heap) c.self.view_is)
+    c.push_cell_lines.ensures.kept.covers c.push_cell_lines.ensures.kept.same w rep
 
 pub returns-clause-same : goal.returns-clause-same
 returns-clause-same g c w rep =
     represents_seen c.args.self.now (g.F.Flight.bits c.args.flight.now) (g.F.Flight.bits c.push_cell_lines.new.flight)
-    c.self.inside.heap (ap (λ (z : CollectorState). z.heap) c.self.view_is) c.push_cell_lines.ensures.kept.covers
-    c.push_cell_lines.ensures.kept.same w rep
+    (without_delayed c.self.inside.heap) (ap (λ (z : CollectorState). z.heap) c.self.view_is)
+    c.push_cell_lines.ensures.kept.covers c.push_cell_lines.ensures.kept.same w rep
 
 pub returns-clause-lines : goal.returns-clause-lines
 returns-clause-lines g c =
     let here = ap (λ (z : CollectorState). z.heap) c.self.view_is in
     written c.args.self.now (g.F.Flight.bits c.args.flight.now) c.in_ok-cells.cells.items
     c.in_ok-entries_by_name.field-0.items c.new-lines.result.items c.push_cell_lines.new.lines.items
-    c.push_edge_lines.new.lines.items c.push_entry_lines.new.lines.items c.self.inside.heap here
+    c.push_edge_lines.new.lines.items c.push_entry_lines.new.lines.items
+    (without_delayed c.self.inside.heap) here
     c.new-lines.ensures.items
     (subst (λ es. c.push_entry_lines.new.lines.items ≡ c.push_edge_lines.new.lines.items ++ map entry_line es)
     c.deref-3.ensures.value c.in_ok-push_entry_lines.ensures)
@@ -87,35 +88,35 @@ returns-clause-lines g c =
 pub returns-in_err-push_cell_lines-clause-heap : goal.returns-in_err-push_cell_lines-clause-heap
 returns-in_err-push_cell_lines-clause-heap g c =
     heap_seen (g.F.Flight.bits c.args.flight.now) (g.F.Flight.bits c.push_cell_lines.new.flight)
-    c.self.inside.heap c.args.self.now.heap (ap (λ (z : CollectorState). z.heap) c.self.view_is)
-    c.push_cell_lines.ensures.kept.same
+    (without_delayed c.self.inside.heap) c.args.self.now.heap
+    (ap (λ (z : CollectorState). z.heap) c.self.view_is) c.push_cell_lines.ensures.kept.same
 
 pub returns-in_err-push_edge_lines-clause-heap : goal.returns-in_err-push_edge_lines-clause-heap
 returns-in_err-push_edge_lines-clause-heap g c =
     heap_seen (g.F.Flight.bits c.args.flight.now) (g.F.Flight.bits c.push_cell_lines.new.flight)
-    c.self.inside.heap c.args.self.now.heap (ap (λ (z : CollectorState). z.heap) c.self.view_is)
-    c.push_cell_lines.ensures.kept.same
+    (without_delayed c.self.inside.heap) c.args.self.now.heap
+    (ap (λ (z : CollectorState). z.heap) c.self.view_is) c.push_cell_lines.ensures.kept.same
 
 pub returns-in_err-entries_by_name-clause-heap : goal.returns-in_err-entries_by_name-clause-heap
 returns-in_err-entries_by_name-clause-heap g c =
     heap_seen (g.F.Flight.bits c.args.flight.now) (g.F.Flight.bits c.push_cell_lines.new.flight)
-    c.self.inside.heap c.args.self.now.heap (ap (λ (z : CollectorState). z.heap) c.self.view_is)
-    c.push_cell_lines.ensures.kept.same
+    (without_delayed c.self.inside.heap) c.args.self.now.heap
+    (ap (λ (z : CollectorState). z.heap) c.self.view_is) c.push_cell_lines.ensures.kept.same
 
 pub returns-in_err-push_entry_lines-clause-heap : goal.returns-in_err-push_entry_lines-clause-heap
 returns-in_err-push_entry_lines-clause-heap g c =
     heap_seen (g.F.Flight.bits c.args.flight.now) (g.F.Flight.bits c.push_cell_lines.new.flight)
-    c.self.inside.heap c.args.self.now.heap (ap (λ (z : CollectorState). z.heap) c.self.view_is)
-    c.push_cell_lines.ensures.kept.same
+    (without_delayed c.self.inside.heap) c.args.self.now.heap
+    (ap (λ (z : CollectorState). z.heap) c.self.view_is) c.push_cell_lines.ensures.kept.same
 
 pub returns-in_err-push-clause-heap : goal.returns-in_err-push-clause-heap
 returns-in_err-push-clause-heap g c =
     heap_seen (g.F.Flight.bits c.args.flight.now) (g.F.Flight.bits c.push_cell_lines.new.flight)
-    c.self.inside.heap c.args.self.now.heap (ap (λ (z : CollectorState). z.heap) c.self.view_is)
-    c.push_cell_lines.ensures.kept.same
+    (without_delayed c.self.inside.heap) c.args.self.now.heap
+    (ap (λ (z : CollectorState). z.heap) c.self.view_is) c.push_cell_lines.ensures.kept.same
 
 pub returns-clause-heap : goal.returns-clause-heap
 returns-clause-heap g c =
     heap_seen (g.F.Flight.bits c.args.flight.now) (g.F.Flight.bits c.push_cell_lines.new.flight)
-    c.self.inside.heap c.args.self.now.heap (ap (λ (z : CollectorState). z.heap) c.self.view_is)
-    c.push_cell_lines.ensures.kept.same
+    (without_delayed c.self.inside.heap) c.args.self.now.heap
+    (ap (λ (z : CollectorState). z.heap) c.self.view_is) c.push_cell_lines.ensures.kept.same

@@ -9,7 +9,9 @@ use Rattle.cell_bits.specs.declared.bits.Bits.{Bits}
 use Rattle.cell_bits.specs.declared.jobs.Job.{Job}
 use Rattle.colour_defs.specs.Ends.{Lists}
 use Rattle.heap_core.specs.Shape.{IsPresent, out_of}
-use Rattle.heap_core.specs.Heap.{HeapState}
+use Rattle.mark_stack.specs.Stack.{Piles}
+use Rattle.heap_core.specs.Heap.{HeapState, without_delayed}
+use Rattle.barriers.specs.Pending.{pending}
 use Rattle.heap_core.specs.Sweeping.{handed}
 use Rattle.barriers.specs.Colours.{IsGray}
 use Rattle.slice_driver.specs.Advancing.{EndsSweeping}
@@ -28,6 +30,7 @@ use Rattle.slice_driver.proofs.group_end.GroupEnding.{ends_group}
 use Rattle.slice_driver.proofs.group_end.Laws.{jobs_flown}
 use Rattle.slice_driver.proofs.group_end.JobsHanded.{hands_jobs}
 use Rattle.slice_driver.proofs.taking_in.Kept.{more_left}
+use Rattle.slice_driver.proofs.marking.Views.{ends_seen, ended_pending, grays_seen, handed_pending, hands_seen}
 use Rattle.slice_driver.proofs.collector.Collector.end_group.Goals as goal
 use Rattle.slice_driver.proofs.collector.Collector.end_group.Goals.{then-finished, else-finished}
 
@@ -61,8 +64,8 @@ pub returns-clause-done : goal.returns-clause-done
 returns-clause-done c = λ flown.
     let v : CollectorState =
     record {
-      heap = c.self.inside.heap;
-      stack = c.self.inside.stack;
+      heap = without_delayed c.self.inside.heap;
+      stack = pending c.self.inside.heap c.self.inside.stack;
       lists = c.self.inside.lists;
       edges = c.self.inside.edges;
       groups = c.self.inside.order;
@@ -82,26 +85,31 @@ returns-clause-done c = λ flown.
     let behind : c.advance.new.self ≡ here.rest = c.advance.ensures ∙ here.behind in
     let ends : EndsSweeping m here.rest over k = subst (λ (gs : List ZoneSet). EndsSweeping m gs over k) behind
     c.end_sweeping-finished.ensures in
+    let h : HeapState = c.self.inside.heap in
+    let out : HandsOut (without_delayed h) group jobs (without_delayed m) =
+    hands_seen h group jobs m c.in_ok-handed.ensures.ok in
+    let ends_here : EndsSweeping (without_delayed m) here.rest over (without_delayed k) =
+    ends_seen m here.rest over k ends in
+    let piles : Piles = pending k c.self.inside.stack in
+    let piles_are : v.stack ≡ piles = handed_pending h group jobs m c.in_ok-handed.ensures.ok c.self.inside.stack
+    ∙ ended_pending m here.rest over k ends c.self.inside.stack in
     let listed : Lists (IsGrayHere v.heap group) grays =
-    grays_here v.heap group here.ready.small grays sound.represents.lies.whole sound.represents.lies.shown.apart
+    grays_seen h group grays
+    (grays_here h group here.ready.small grays sound.represents.lies.whole sound.represents.lies.shown.apart
     (gray_present v c.requires.sound.0 here.ready.kept sound) c.in_ok-grays.ensures.moved
-    c.in_ok-grays.ensures.sorted in
-    let unit = ends_group v group here.rest here.ready jobs m c.in_ok-handed.ensures.ok grays listed k flown over ends
-    in
+    c.in_ok-grays.ensures.sorted) in
+    let unit = ends_group v group here.rest here.ready jobs (without_delayed m) out grays listed (without_delayed k)
+    flown over ends_here in
     let told : List Name = c.new.result in
     let none : [] ≡ told = sym c.new.ensures in
-    let moved : record v { heap = k; groups = here.rest; run = if over then None else v.run }
-    ≡ record v { heap = k; groups = c.advance.new.self; run = if over then None else v.run } =
-    ap (λ (gs : List ZoneSet). record v { heap = k; groups = gs; run = if over then None else v.run }) (sym behind)
-    in
-    let self_is : record v { heap = k; groups = c.advance.new.self; run = if over then None else v.run }
-    ≡ c.if-finished.self = elim c.if-finished.branch [
-      | then-finished w ↦ ap
-          (λ (b : Bool). record v { heap = k; groups = c.advance.new.self; run = if b then None else v.run })
-          w.if-finished.true ∙ sym w.self-is
-      | else-finished w ↦ ap
-          (λ (b : Bool). record v { heap = k; groups = c.advance.new.self; run = if b then None else v.run })
-          w.if-finished.false ∙ sym w.self-is
+    let after : Piles → List ZoneSet → Bool → CollectorState =
+    λ p gs b. record v { heap = without_delayed k; stack = p; groups = gs; run = if b then None else v.run } in
+    let moved : after v.stack here.rest over ≡ after piles c.advance.new.self over =
+    ap (λ (gs : List ZoneSet). after v.stack gs over) (sym behind)
+    ∙ ap (λ (p : Piles). after p c.advance.new.self over) piles_are in
+    let self_is : after piles c.advance.new.self over ≡ c.if-finished.self = elim c.if-finished.branch [
+      | then-finished w ↦ ap (after piles c.advance.new.self) w.if-finished.true ∙ sym w.self-is
+      | else-finished w ↦ ap (after piles c.advance.new.self) w.if-finished.false ∙ sym w.self-is
     ] in
     subst (λ (x : CollectorState). DoesUnit x flown (reports_of (Some (report.Ended group grays told)) over)
     c.if-finished.self (flying_after jobs flown)) is
@@ -129,7 +137,7 @@ returns-clause-jobs c =
     let jobs : HandsJobs c.in_ok-handed.handed h.shape k.shape =
     hands_jobs h.shape k.shape word h.shape.arenas h.colours c.in_ok-handed.handed arenas out.jobs_are
     (jobs_flown h k word sized kept_here arenas) in
-    let same : c.if-finished.self.heap ≡ k = elim c.if-finished.branch [
+    let same : c.if-finished.self.heap ≡ without_delayed k = elim c.if-finished.branch [
       | then-finished w ↦ ap (λ (x : CollectorState). x.heap) w.self-is
       | else-finished w ↦ ap (λ (x : CollectorState). x.heap) w.self-is
     ] in
@@ -140,8 +148,8 @@ pub returns-clause-left : goal.returns-clause-left
 returns-clause-left c = λ flown sound_then.
     let v : CollectorState =
     record {
-      heap = c.self.inside.heap;
-      stack = c.self.inside.stack;
+      heap = without_delayed c.self.inside.heap;
+      stack = pending c.self.inside.heap c.self.inside.stack;
       lists = c.self.inside.lists;
       edges = c.self.inside.edges;
       groups = c.self.inside.order;
@@ -159,19 +167,24 @@ returns-clause-left c = λ flown sound_then.
     let behind : c.advance.new.self ≡ here.rest = c.advance.ensures ∙ here.behind in
     let ends : EndsSweeping m here.rest over k = subst (λ (gs : List ZoneSet). EndsSweeping m gs over k) behind
     c.end_sweeping-finished.ensures in
-    let less = ending_lowers v group here.rest here.ready jobs m c.in_ok-handed.ensures.ok flown sound k over ends in
-    let moved : record v { heap = k; groups = here.rest; run = if over then None else v.run }
-    ≡ record v { heap = k; groups = c.advance.new.self; run = if over then None else v.run } =
-    ap (λ (gs : List ZoneSet). record v { heap = k; groups = gs; run = if over then None else v.run }) (sym behind)
-    in
-    let self_is : record v { heap = k; groups = c.advance.new.self; run = if over then None else v.run }
-    ≡ c.if-finished.self = elim c.if-finished.branch [
-      | then-finished w ↦ ap
-          (λ (b : Bool). record v { heap = k; groups = c.advance.new.self; run = if b then None else v.run })
-          w.if-finished.true ∙ sym w.self-is
-      | else-finished w ↦ ap
-          (λ (b : Bool). record v { heap = k; groups = c.advance.new.self; run = if b then None else v.run })
-          w.if-finished.false ∙ sym w.self-is
+    let h : HeapState = c.self.inside.heap in
+    let out : HandsOut (without_delayed h) group jobs (without_delayed m) =
+    hands_seen h group jobs m c.in_ok-handed.ensures.ok in
+    let ends_here : EndsSweeping (without_delayed m) here.rest over (without_delayed k) =
+    ends_seen m here.rest over k ends in
+    let piles : Piles = pending k c.self.inside.stack in
+    let piles_are : v.stack ≡ piles = handed_pending h group jobs m c.in_ok-handed.ensures.ok c.self.inside.stack
+    ∙ ended_pending m here.rest over k ends c.self.inside.stack in
+    let less = ending_lowers v group here.rest here.ready jobs (without_delayed m) out flown sound (without_delayed k)
+    over ends_here in
+    let after : Piles → List ZoneSet → Bool → CollectorState =
+    λ p gs b. record v { heap = without_delayed k; stack = p; groups = gs; run = if b then None else v.run } in
+    let moved : after v.stack here.rest over ≡ after piles c.advance.new.self over =
+    ap (λ (gs : List ZoneSet). after v.stack gs over) (sym behind)
+    ∙ ap (λ (p : Piles). after p c.advance.new.self over) piles_are in
+    let self_is : after piles c.advance.new.self over ≡ c.if-finished.self = elim c.if-finished.branch [
+      | then-finished w ↦ ap (after piles c.advance.new.self) w.if-finished.true ∙ sym w.self-is
+      | else-finished w ↦ ap (after piles c.advance.new.self) w.if-finished.false ∙ sym w.self-is
     ] in
     subst (λ (x : CollectorState). units_left c.if-finished.self (flying_after jobs flown) < units_left x flown) is
     (subst (λ (x : CollectorState). units_left x (flying_after jobs flown) < units_left v flown) (moved ∙ self_is) less)
@@ -180,8 +193,8 @@ pub returns-clause-to_come : goal.returns-clause-to_come
 returns-clause-to_come c = λ flown sound_then.
     let v : CollectorState =
     record {
-      heap = c.self.inside.heap;
-      stack = c.self.inside.stack;
+      heap = without_delayed c.self.inside.heap;
+      stack = pending c.self.inside.heap c.self.inside.stack;
       lists = c.self.inside.lists;
       edges = c.self.inside.edges;
       groups = c.self.inside.order;
@@ -199,19 +212,24 @@ returns-clause-to_come c = λ flown sound_then.
     let behind : c.advance.new.self ≡ here.rest = c.advance.ensures ∙ here.behind in
     let ends : EndsSweeping m here.rest over k = subst (λ (gs : List ZoneSet). EndsSweeping m gs over k) behind
     c.end_sweeping-finished.ensures in
-    let less = ending_to_come v group here.rest here.ready jobs m c.in_ok-handed.ensures.ok flown sound k over ends in
-    let moved : record v { heap = k; groups = here.rest; run = if over then None else v.run }
-    ≡ record v { heap = k; groups = c.advance.new.self; run = if over then None else v.run } =
-    ap (λ (gs : List ZoneSet). record v { heap = k; groups = gs; run = if over then None else v.run }) (sym behind)
-    in
-    let self_is : record v { heap = k; groups = c.advance.new.self; run = if over then None else v.run }
-    ≡ c.if-finished.self = elim c.if-finished.branch [
-      | then-finished w ↦ ap
-          (λ (b : Bool). record v { heap = k; groups = c.advance.new.self; run = if b then None else v.run })
-          w.if-finished.true ∙ sym w.self-is
-      | else-finished w ↦ ap
-          (λ (b : Bool). record v { heap = k; groups = c.advance.new.self; run = if b then None else v.run })
-          w.if-finished.false ∙ sym w.self-is
+    let h : HeapState = c.self.inside.heap in
+    let out : HandsOut (without_delayed h) group jobs (without_delayed m) =
+    hands_seen h group jobs m c.in_ok-handed.ensures.ok in
+    let ends_here : EndsSweeping (without_delayed m) here.rest over (without_delayed k) =
+    ends_seen m here.rest over k ends in
+    let piles : Piles = pending k c.self.inside.stack in
+    let piles_are : v.stack ≡ piles = handed_pending h group jobs m c.in_ok-handed.ensures.ok c.self.inside.stack
+    ∙ ended_pending m here.rest over k ends c.self.inside.stack in
+    let less = ending_to_come v group here.rest here.ready jobs (without_delayed m) out flown sound (without_delayed k)
+    over ends_here in
+    let after : Piles → List ZoneSet → Bool → CollectorState =
+    λ p gs b. record v { heap = without_delayed k; stack = p; groups = gs; run = if b then None else v.run } in
+    let moved : after v.stack here.rest over ≡ after piles c.advance.new.self over =
+    ap (λ (gs : List ZoneSet). after v.stack gs over) (sym behind)
+    ∙ ap (λ (p : Piles). after p c.advance.new.self over) piles_are in
+    let self_is : after piles c.advance.new.self over ≡ c.if-finished.self = elim c.if-finished.branch [
+      | then-finished w ↦ ap (after piles c.advance.new.self) w.if-finished.true ∙ sym w.self-is
+      | else-finished w ↦ ap (after piles c.advance.new.self) w.if-finished.false ∙ sym w.self-is
     ] in
     subst (λ (x : CollectorState). units_to_come c.if-finished.self (flying_after jobs flown)
     < units_to_come x flown) is
@@ -229,8 +247,8 @@ returns-clause-handed c =
 pub returns-clause-coloured : goal.returns-clause-coloured
 returns-clause-coloured c = λ flown.
     let v : CollectorState = record {
-      heap = c.self.inside.heap;
-      stack = c.self.inside.stack;
+      heap = without_delayed c.self.inside.heap;
+      stack = pending c.self.inside.heap c.self.inside.stack;
       lists = c.self.inside.lists;
       edges = c.self.inside.edges;
       groups = c.self.inside.order;
@@ -244,7 +262,7 @@ returns-clause-coloured c = λ flown.
     let out : HandsOut h group c.in_ok-handed.handed c.hand_out_group.new.heap = c.in_ok-handed.ensures.ok in
     let colours : k.colours ≡ h.colours = ap (λ (x : HeapState). x.colours) c.end_sweeping-finished.ensures.rest ∙
     (ap (λ (x : HeapState). x.colours) out.goes.rest ∙ ap (λ (x : HeapState). x.colours) out.drops.rest) in
-    let same : c.if-finished.self.heap ≡ k = elim c.if-finished.branch [
+    let same : c.if-finished.self.heap ≡ without_delayed k = elim c.if-finished.branch [
       | then-finished w ↦ ap (λ (x : CollectorState). x.heap) w.self-is
       | else-finished w ↦ ap (λ (x : CollectorState). x.heap) w.self-is
     ] in

@@ -1,4 +1,6 @@
 use Rattle.std.proofs.Common.{sym, ap, subst}
+use Rattle.heap_core.specs.Heap.{without_delayed}
+use Rattle.barriers.specs.Pending.{pending}
 use Rattle.slice_driver.specs.Collector.{CollectorState, run_of}
 use Rattle.slice_driver.specs.Quiet.{IsFormed}
 use Rattle.slice_driver.specs.Units.{is_group_end, reports_of}
@@ -11,8 +13,8 @@ pub returns-then-looks-clause-groups : goal.returns-then-looks-clause-groups
 returns-then-looks-clause-groups g c =
     let v : CollectorState =
     record {
-      heap = c.self.inside.heap;
-      stack = c.self.inside.stack;
+      heap = without_delayed c.self.inside.heap;
+      stack = pending c.self.inside.heap c.self.inside.stack;
       lists = c.self.inside.lists;
       edges = c.self.inside.edges;
       groups = c.self.inside.order;

@@ -3,7 +3,7 @@ use Rattle.std.specs.List.Sorted.{IsPermutation, IsSorted}
 use Rattle.gz_names.specs.Order.{name_cmp}
 use Rattle.colour_defs.specs.Ends.{Lists}
 use Rattle.colour_defs.specs.World.{Has, IsPresent as IsPresentName}
-use Rattle.heap_core.specs.Heap.{HeapState, joined}
+use Rattle.heap_core.specs.Heap.{HeapState, joined, without_delayed}
 use Rattle.barriers.specs.Colours.{IsGray}
 use Rattle.barriers.specs.Spreading.{Covers}
 use Rattle.slice_driver.specs.Collector.{CollectorState}
@@ -25,7 +25,11 @@ push_gray-requires g c =
       present = λ p gray. c.requires.sound.represents.marks.holds.colours.seen_present p
           (inl (subst (λ (h : HeapState). IsGray h p) c.loop-arena.invariant.same gray));
     } in
+    let seen : MayNameGrays (without_delayed c.self.inside.heap) (g.F.Flight.bits c.loop-arena.flight)
+    c.loop-arena.arena =
     subst (λ (h : HeapState). MayNameGrays h (g.F.Flight.bits c.loop-arena.flight) c.loop-arena.arena) (sym here) there
+    in
+    record { covers = seen.covers; made = seen.made; present = seen.present }
 
 pub returns-in_err-push_gray-clause-same : goal.returns-in_err-push_gray-clause-same
 returns-in_err-push_gray-clause-same g c w rep =

@@ -3,6 +3,8 @@ use Rattle.gz_names.specs.declared.replies.Report.TheVariants as report
 use Rattle.cell_bits.specs.declared.bits.Bits.{Bits}
 use Rattle.gz_names.specs.declared.zone_sets.ZoneSet.{ZoneSet}
 use Rattle.zone_edges.specs.Looks.{AreAllLookedAt}
+use Rattle.heap_core.specs.Heap.{without_delayed}
+use Rattle.barriers.specs.Pending.{pending}
 use Rattle.slice_driver.specs.Collector.{CollectorState, run_of}
 use Rattle.slice_driver.specs.Quiet.{IsFormed}
 use Rattle.slice_driver.specs.Units.{IsSound, is_group_end, reports_of}
@@ -16,8 +18,8 @@ pub invariant_of-self : goal.invariant_of-self
 invariant_of-self c =
     let v : CollectorState =
     record {
-      heap = c.self.inside.heap;
-      stack = c.self.inside.stack;
+      heap = without_delayed c.self.inside.heap;
+      stack = pending c.self.inside.heap c.self.inside.stack;
       lists = c.self.inside.lists;
       edges = c.self.inside.edges;
       groups = c.self.inside.order;
@@ -49,8 +51,8 @@ pub components-groups-requires : goal.components-groups-requires
 components-groups-requires c =
     let v : CollectorState =
     record {
-      heap = c.self.inside.heap;
-      stack = c.self.inside.stack;
+      heap = without_delayed c.self.inside.heap;
+      stack = pending c.self.inside.heap c.self.inside.stack;
       lists = c.self.inside.lists;
       edges = c.self.inside.edges;
       groups = c.self.inside.order;
@@ -77,8 +79,8 @@ pub returns-in-Some-first : goal.returns-in-Some-first
 returns-in-Some-first c =
     let v : CollectorState =
     record {
-      heap = c.self.inside.heap;
-      stack = c.self.inside.stack;
+      heap = without_delayed c.self.inside.heap;
+      stack = pending c.self.inside.heap c.self.inside.stack;
       lists = c.self.inside.lists;
       edges = c.self.inside.edges;
       groups = c.self.inside.order;
@@ -117,8 +119,8 @@ pub returns : goal.returns
 returns c =
     let v : CollectorState =
     record {
-      heap = c.self.inside.heap;
-      stack = c.self.inside.stack;
+      heap = without_delayed c.self.inside.heap;
+      stack = pending c.self.inside.heap c.self.inside.stack;
       lists = c.self.inside.lists;
       edges = c.self.inside.edges;
       groups = c.self.inside.order;

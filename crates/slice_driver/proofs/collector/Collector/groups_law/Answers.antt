@@ -1,6 +1,8 @@
 use Rattle.std.proofs.Common.{◌≡◌, ◌<◌, ℕ, sym, subst, ◌∙◌}
 use Rattle.std.specs.Int.{bit_at}
 use Rattle.gz_names.specs.declared.zone_sets.ZoneSet.{ZoneSet}
+use Rattle.heap_core.specs.Heap.{without_delayed}
+use Rattle.barriers.specs.Pending.{pending}
 use Rattle.slice_driver.specs.Collector.{CollectorState, run_of}
 use Rattle.slice_driver.specs.Quiet.{IsFormed}
 use Rattle.slice_driver.specs.Working.{HasGroups}
@@ -12,8 +14,8 @@ pub returns-in_default : goal.returns-in_default
 returns-in_default c =
     let v : CollectorState =
     record {
-      heap = c.self.inside.heap;
-      stack = c.self.inside.stack;
+      heap = without_delayed c.self.inside.heap;
+      stack = pending c.self.inside.heap c.self.inside.stack;
       lists = c.self.inside.lists;
       edges = c.self.inside.edges;
       groups = c.self.inside.order;
@@ -28,8 +30,8 @@ pub returns : goal.returns
 returns c =
     let v : CollectorState =
     record {
-      heap = c.self.inside.heap;
-      stack = c.self.inside.stack;
+      heap = without_delayed c.self.inside.heap;
+      stack = pending c.self.inside.heap c.self.inside.stack;
       lists = c.self.inside.lists;
       edges = c.self.inside.edges;
       groups = c.self.inside.order;

@@ -1,8 +1,11 @@
 use Rattle.std.proofs.Common.{◌≤◌, ◌+◌, sym, ap, subst, arith, if◌then◌else◌}
+use Rattle.heap_core.specs.Heap.{without_delayed}
+use Rattle.barriers.specs.Pending.{pending}
 use Rattle.slice_driver.specs.Collector.{CollectorState, run_of}
 use Rattle.slice_driver.specs.Units.{IsSound}
 use Rattle.slice_driver.specs.Working.{IsGrouping, LooksOrAll}
 use Rattle.slice_driver.proofs.grouping.Steps.{early, look_goes, none_out, sized, waiting_same, wrappers}
+use Rattle.slice_driver.proofs.marking.Views.{look_seen}
 use Rattle.slice_driver.proofs.collector.Collector.looks.Goals as goal
 use Rattle.slice_driver.proofs.collector.Collector.looks.Goals.{in-Did, in-Empty}
 
@@ -10,8 +13,8 @@ pub edge_unit-requires-clause-kept : goal.edge_unit-requires-clause-kept
 edge_unit-requires-clause-kept g c =
     let v : CollectorState =
     record {
-      heap = c.self.inside.heap;
-      stack = c.self.inside.stack;
+      heap = without_delayed c.self.inside.heap;
+      stack = pending c.self.inside.heap c.self.inside.stack;
       lists = c.self.inside.lists;
       edges = c.self.inside.edges;
       groups = c.self.inside.order;
@@ -25,8 +28,8 @@ pub edge_unit-requires-clause-sized : goal.edge_unit-requires-clause-sized
 edge_unit-requires-clause-sized g c =
     let v : CollectorState =
     record {
-      heap = c.self.inside.heap;
-      stack = c.self.inside.stack;
+      heap = without_delayed c.self.inside.heap;
+      stack = pending c.self.inside.heap c.self.inside.stack;
       lists = c.self.inside.lists;
       edges = c.self.inside.edges;
       groups = c.self.inside.order;
@@ -40,8 +43,8 @@ pub edge_unit-requires-clause-wrappers : goal.edge_unit-requires-clause-wrappers
 edge_unit-requires-clause-wrappers g c =
     let v : CollectorState =
     record {
-      heap = c.self.inside.heap;
-      stack = c.self.inside.stack;
+      heap = without_delayed c.self.inside.heap;
+      stack = pending c.self.inside.heap c.self.inside.stack;
       lists = c.self.inside.lists;
       edges = c.self.inside.edges;
       groups = c.self.inside.order;
@@ -55,8 +58,8 @@ pub edge_unit-requires-clause-early : goal.edge_unit-requires-clause-early
 edge_unit-requires-clause-early g c =
     let v : CollectorState =
     record {
-      heap = c.self.inside.heap;
-      stack = c.self.inside.stack;
+      heap = without_delayed c.self.inside.heap;
+      stack = pending c.self.inside.heap c.self.inside.stack;
       lists = c.self.inside.lists;
       edges = c.self.inside.edges;
       groups = c.self.inside.order;
@@ -78,8 +81,8 @@ pub returns-clause-looks : goal.returns-clause-looks
 returns-clause-looks g c =
     let v : CollectorState =
     record {
-      heap = c.self.inside.heap;
-      stack = c.self.inside.stack;
+      heap = without_delayed c.self.inside.heap;
+      stack = pending c.self.inside.heap c.self.inside.stack;
       lists = c.self.inside.lists;
       edges = c.self.inside.edges;
       groups = c.self.inside.order;
@@ -90,8 +93,9 @@ returns-clause-looks g c =
     in
     let here : LooksOrAll c.match-edge_unit.result v d = elim c.match-edge_unit.branch [
       | in-Did w ↦ subst (λ b. LooksOrAll b v d) (sym w.result-is)
-          (look_goes v c.edge_unit.new.self grouping w.in-Did.ensures.looked c.edge_unit.ensures.zones
-          c.edge_unit.ensures.stepped)
+          (look_goes v c.edge_unit.new.self grouping
+          (look_seen c.self.inside.heap c.self.inside.edges c.edge_unit.new.self w.in-Did.ensures.looked)
+          c.edge_unit.ensures.zones c.edge_unit.ensures.stepped)
       | in-Empty w ↦ subst (λ b. LooksOrAll b v d) (sym w.result-is) (
         w.in-Empty.ensures.looked.0,
         ap (λ e. record v { edges = e }) w.in-Empty.ensures.looked.1,

@@ -1,7 +1,15 @@
 use Rattle.std.proofs.Common.{◌≡◌, ◌+◌, ℕ, ◌∙◌, subst, arith}
 use Rattle.slice_driver.specs.Working.{DoesQuietUnits}
-use Rattle.slice_driver.proofs.marking.Units.{quiet_sound, quiet_words, then_quiet}
+use Rattle.slice_driver.proofs.marking.Settled.{settled_quiet}
+use Rattle.slice_driver.proofs.marking.Units.{no_quiet, quiet_sound, quiet_words, then_quiet}
 use Rattle.slice_driver.proofs.collector.Collector.quiet_units.Goals as goal
+
+pub returns-then-settled-clause-done : goal.returns-then-settled-clause-done
+returns-then-settled-clause-done g c = no_quiet c.args.self.now (g.F.Flight.bits c.args.flight.now)
+
+pub returns-then-settled-clause-rests : goal.returns-then-settled-clause-rests
+returns-then-settled-clause-rests g c = λ less. settled_quiet c.args.self.now (g.F.Flight.bits c.args.flight.now)
+    c.requires.sound (c.settled.ensures.states.0 c.if-settled.true)
 
 pub some_quiet_units-more-requires-clause-sound : goal.some_quiet_units-more-requires-clause-sound
 some_quiet_units-more-requires-clause-sound g c = quiet_sound c.loop-count.count _ _ _ _ c.loop-count.invariant.did

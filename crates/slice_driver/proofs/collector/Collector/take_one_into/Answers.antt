@@ -6,7 +6,9 @@ use Rattle.gz_names.specs.declared.replies.Report.{Report}
 use Rattle.gz_names.specs.declared.replies.Report.TheVariants as report
 use Rattle.cell_bits.specs.declared.bits.Bits.{Bits as ABits}
 use Rattle.heap_core.specs.Shape.{out_of}
-use Rattle.heap_core.specs.Heap.{HeapState}
+use Rattle.mark_stack.specs.Stack.{Piles}
+use Rattle.heap_core.specs.Heap.{HeapState, without_delayed}
+use Rattle.barriers.specs.Pending.{pending}
 use Rattle.heap_core.specs.Sweeping.{with_taken}
 use Rattle.slice_driver.specs.Advancing.{EndsSweeping}
 use Rattle.slice_driver.specs.Collector.{CollectorState, HasMore, run_of}
@@ -21,6 +23,7 @@ use Rattle.slice_driver.specs.Left.{units_left}
 use Rattle.slice_driver.specs.UnitsToCome.{units_to_come}
 use Rattle.slice_driver.proofs.measure.FewerTaken.{taking_lowers, taking_to_come}
 use Rattle.slice_driver.proofs.taking_in.Kept.{more_left, words_both, words_rest, words_taken}
+use Rattle.slice_driver.proofs.marking.Views.{ends_seen, taken_pending}
 use Rattle.slice_driver.proofs.collector.Collector.take_one_into.Goals as goal
 
 pub invariant_of-self-else-finished : goal.invariant_of-self-else-finished
@@ -92,8 +95,8 @@ pub returns-then-finished-clause-takes : goal.returns-then-finished-clause-takes
 returns-then-finished-clause-takes c =
     let v : CollectorState =
     record {
-      heap = c.self.inside.heap;
-      stack = c.self.inside.stack;
+      heap = without_delayed c.self.inside.heap;
+      stack = pending c.self.inside.heap c.self.inside.stack;
       lists = c.self.inside.lists;
       edges = c.self.inside.edges;
       groups = c.self.inside.order;
@@ -101,25 +104,34 @@ returns-then-finished-clause-takes c =
     } in
     let old : CollectorState = c.args.self.now in
     let k : HeapState = c.end_sweeping-finished.new.heap in
+    let now : HeapState = without_delayed k in
     let over : Bool = c.end_sweeping-finished.result in
-    let new : CollectorState = record v { heap = k; run = None } in
+    let piles : Piles = pending k c.self.inside.stack in
+    let new : CollectorState = record v { heap = now; stack = piles; run = None } in
     let kept : ABits = c.bits_at_hand_out-kept.result in
-    let ends = subst (λ (h : HeapState). EndsSweeping h c.self.inside.order over k) c.report_arena.ensures.state
-    c.end_sweeping-finished.ensures in
-    let new_is = ap (λ (b : Bool). record v { heap = k; run = if b then None else v.run }) c.if-finished.true in
+    let ends = ends_seen _ c.self.inside.order over k
+    (subst (λ (h : HeapState). EndsSweeping h c.self.inside.order over k) c.report_arena.ensures.state
+    c.end_sweeping-finished.ensures) in
+    let piles_are : v.stack ≡ piles = taken_pending c.self.inside.heap c.report_arena.new.heap k c.args.arena
+    c.args.taken.freed c.args.taken.bits c.self.inside.order over c.report_arena.ensures.state
+    c.end_sweeping-finished.ensures c.self.inside.stack in
+    let new_is : record v { heap = now; run = if over then None else v.run } ≡ new =
+    ap (λ (p : Piles). record v { heap = now; stack = p; run = if over then None else v.run }) piles_are
+    ∙ ap (λ (b : Bool). record v { heap = now; stack = piles; run = if b then None else v.run })
+    c.if-finished.true in
     let done : (flown : ℕ → Option ABits) → flown c.args.arena ≡ Some c.args.taken.bits
     → DoesUnit old flown (reports_of c.report_arena.new.report over) new (without_arena flown c.args.arena) =
-    λ flown at. one_done v old c.self.view_is c.args.arena c.args.taken.freed c.args.taken.bits k over ends new new_is
+    λ flown at. one_done v old c.self.view_is c.args.arena c.args.taken.freed c.args.taken.bits now over ends new new_is
     flown at c.requires.lowest c.requires.running c.report_arena.ensures.told.0 c.report_arena.new.report
     c.report_arena.ensures.told.1 kept c.bits_at_hand_out-kept.ensures
     (or_lt 64 kept.black kept.gob (omega arith) (omega arith)) c.requires.freed c.report_arena.ensures.told.2 in
     record {
       done = done;
       sound = λ flown s at. unit_sound old new flown (without_arena flown c.args.arena) _ (done flown at) s;
-      words = one_words v old c.self.view_is c.args.arena c.args.taken.freed c.args.taken.bits k over ends;
-      left = λ flown sound at. one_left v old c.self.view_is c.args.arena c.args.taken.freed c.args.taken.bits k over
+      words = one_words v old c.self.view_is c.args.arena c.args.taken.freed c.args.taken.bits now over ends;
+      left = λ flown sound at. one_left v old c.self.view_is c.args.arena c.args.taken.freed c.args.taken.bits now over
           ends new new_is flown at c.requires.lowest c.requires.running sound;
-      to_come = λ flown sound at. one_to_come v old c.self.view_is c.args.arena c.args.taken.freed c.args.taken.bits k
+      to_come = λ flown sound at. one_to_come v old c.self.view_is c.args.arena c.args.taken.freed c.args.taken.bits now
           over ends new new_is flown at c.requires.lowest c.requires.running sound;
       finished = search rules;
       made = search rules;
@@ -130,8 +142,8 @@ pub returns-else-finished-clause-takes : goal.returns-else-finished-clause-takes
 returns-else-finished-clause-takes c =
     let v : CollectorState =
     record {
-      heap = c.self.inside.heap;
-      stack = c.self.inside.stack;
+      heap = without_delayed c.self.inside.heap;
+      stack = pending c.self.inside.heap c.self.inside.stack;
       lists = c.self.inside.lists;
       edges = c.self.inside.edges;
       groups = c.self.inside.order;
@@ -139,25 +151,34 @@ returns-else-finished-clause-takes c =
     } in
     let old : CollectorState = c.args.self.now in
     let k : HeapState = c.end_sweeping-finished.new.heap in
+    let now : HeapState = without_delayed k in
     let over : Bool = c.end_sweeping-finished.result in
-    let new : CollectorState = record v { heap = k; run = v.run } in
+    let piles : Piles = pending k c.self.inside.stack in
+    let new : CollectorState = record v { heap = now; stack = piles; run = v.run } in
     let kept : ABits = c.bits_at_hand_out-kept.result in
-    let ends = subst (λ (h : HeapState). EndsSweeping h c.self.inside.order over k) c.report_arena.ensures.state
-    c.end_sweeping-finished.ensures in
-    let new_is = ap (λ (b : Bool). record v { heap = k; run = if b then None else v.run }) c.if-finished.false in
+    let ends = ends_seen _ c.self.inside.order over k
+    (subst (λ (h : HeapState). EndsSweeping h c.self.inside.order over k) c.report_arena.ensures.state
+    c.end_sweeping-finished.ensures) in
+    let piles_are : v.stack ≡ piles = taken_pending c.self.inside.heap c.report_arena.new.heap k c.args.arena
+    c.args.taken.freed c.args.taken.bits c.self.inside.order over c.report_arena.ensures.state
+    c.end_sweeping-finished.ensures c.self.inside.stack in
+    let new_is : record v { heap = now; run = if over then None else v.run } ≡ new =
+    ap (λ (p : Piles). record v { heap = now; stack = p; run = if over then None else v.run }) piles_are
+    ∙ ap (λ (b : Bool). record v { heap = now; stack = piles; run = if b then None else v.run })
+    c.if-finished.false in
     let done : (flown : ℕ → Option ABits) → flown c.args.arena ≡ Some c.args.taken.bits
     → DoesUnit old flown (reports_of c.report_arena.new.report over) new (without_arena flown c.args.arena) =
-    λ flown at. one_done v old c.self.view_is c.args.arena c.args.taken.freed c.args.taken.bits k over ends new new_is
+    λ flown at. one_done v old c.self.view_is c.args.arena c.args.taken.freed c.args.taken.bits now over ends new new_is
     flown at c.requires.lowest c.requires.running c.report_arena.ensures.told.0 c.report_arena.new.report
     c.report_arena.ensures.told.1 kept c.bits_at_hand_out-kept.ensures
     (or_lt 64 kept.black kept.gob (omega arith) (omega arith)) c.requires.freed c.report_arena.ensures.told.2 in
     record {
       done = done;
       sound = λ flown s at. unit_sound old new flown (without_arena flown c.args.arena) _ (done flown at) s;
-      words = one_words v old c.self.view_is c.args.arena c.args.taken.freed c.args.taken.bits k over ends;
-      left = λ flown sound at. one_left v old c.self.view_is c.args.arena c.args.taken.freed c.args.taken.bits k over
+      words = one_words v old c.self.view_is c.args.arena c.args.taken.freed c.args.taken.bits now over ends;
+      left = λ flown sound at. one_left v old c.self.view_is c.args.arena c.args.taken.freed c.args.taken.bits now over
           ends new new_is flown at c.requires.lowest c.requires.running sound;
-      to_come = λ flown sound at. one_to_come v old c.self.view_is c.args.arena c.args.taken.freed c.args.taken.bits k
+      to_come = λ flown sound at. one_to_come v old c.self.view_is c.args.arena c.args.taken.freed c.args.taken.bits now
           over ends new new_is flown at c.requires.lowest c.requires.running sound;
       finished = search rules;
       made = search rules;

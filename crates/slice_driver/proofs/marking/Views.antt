@@ -1,0 +1,168 @@
+-- Steps over a heap are the same steps where what is delayed is told among what is pending.
+use Rattle.std.proofs.Common.{◌≡◌, ◌↔◌, ◌∙◌, ℕ, Bool, List, Option, Some, IsSomeAnd, slice_get, slice_set, sym, ap}
+use Rattle.std.proofs.Common.{inl, inr}
+use Rattle.gz_names.specs.declared.names.Name.{Name}
+use Rattle.gz_names.specs.declared.numbers.Place.{Place}
+use Rattle.gz_names.specs.declared.zone_sets.ZoneSet.{ZoneSet}
+use Rattle.cell_bits.specs.declared.bits.Bits.{Bits}
+use Rattle.cell_bits.specs.declared.jobs.Job.{Job}
+use Rattle.zones.specs.States.{next_state}
+use Rattle.zones.specs.declared.states.State.TheVariants as state
+use Rattle.mark_stack.specs.Stack.{Piles}
+use Rattle.gray_lists.specs.Incoming.{Incoming}
+use Rattle.colour_defs.specs.Ends.{Lists}
+use Rattle.heap_core.specs.Heap.{HeapState, without_delayed}
+use Rattle.heap_core.specs.Sweeping.{with_handed, with_taken}
+use Rattle.zone_edges.specs.Looks.{LeadsFrom, LooksAtNext}
+use Rattle.zone_edges.specs.Noted.{Noted}
+use Rattle.barriers.specs.Pending.{pending}
+use Rattle.marker.specs.Units.{IsGrayIdle}
+use Rattle.slice_driver.specs.Advancing.{Advances, EndsSweeping}
+use Rattle.slice_driver.specs.GroupEnd.{DropsDead, IsGrayHere}
+use Rattle.slice_driver.specs.HandingOut.{HandsOut}
+use Rattle.slice_driver.proofs.marking.ZoneSteps.{advanced_to}
+
+-- nothing changed, so what is pending did not
+pub same_pending : (h k : HeapState) (p q : Piles) → k ≡ h → q ≡ p → pending k q ≡ pending h p
+same_pending h k p q eh ep = ap (λ (z : HeapState). pending z q) eh ∙ ap (λ (r : Piles). pending h r) ep
+
+pub idle_seen : (h : HeapState) (p : Piles) (lists : Incoming) (word : ℕ) → IsGrayIdle h p lists word
+    → IsGrayIdle (without_delayed h) p lists word
+idle_seen h p lists word i = record { pile = i.pile; buffers = i.buffers; incoming = i.incoming }
+
+pub idle_unseen : (h : HeapState) (p : Piles) (lists : Incoming) (word : ℕ)
+    → IsGrayIdle (without_delayed h) p lists word → IsGrayIdle h p lists word
+idle_unseen h p lists word i = record { pile = i.pile; buffers = i.buffers; incoming = i.incoming }
+
+-- a wrapper was looked at
+leads_from_seen : (h : HeapState) (zones : ZoneSet) (p : Place) (a b : ℕ) → LeadsFrom h zones p a b
+    ↔ LeadsFrom (without_delayed h) zones p a b
+leads_from_seen h zones p a b = (
+  (λ l. record {
+    target = l.target;
+    target_is = l.target_is;
+    from = l.from;
+    to = l.to;
+    has_from = l.has_from;
+    has_to = l.has_to;
+    apart = l.apart;
+    pale = l.pale;
+  }),
+  λ l. record {
+    target = l.target;
+    target_is = l.target_is;
+    from = l.from;
+    to = l.to;
+    has_from = l.has_from;
+    has_to = l.has_to;
+    apart = l.apart;
+    pale = l.pale;
+  },
+)
+
+pub look_seen : (h : HeapState) (old new : Noted) → LooksAtNext h old new → LooksAtNext (without_delayed h) old new
+look_seen h old new l = record {
+  zone = l.zone;
+  wrapper = l.wrapper;
+  has_zone = l.has_zone;
+  next = l.next;
+  is_wrapper = l.is_wrapper;
+  raised = l.raised;
+  others = l.others;
+  looked = l.looked;
+  edges = λ a b. (
+    (λ e. elim ((l.edges a b).0 e) [
+      | inl was ↦ inl was
+      | inr leads ↦ inr ((leads_from_seen h old.zones l.wrapper a b).0 leads)
+    ]),
+    λ o. (l.edges a b).1 (elim o [
+      | inl was ↦ inl was
+      | inr leads ↦ inr ((leads_from_seen h old.zones l.wrapper a b).1 leads)
+    ]),
+  );
+  left = l.left;
+}
+
+-- zones go on
+module _ (l : HeapState) (word : ℕ) (k : HeapState) (on : Advances l word k) where
+  pub advances_seen : Advances (without_delayed l) word (without_delayed k)
+  advances_seen = record {
+    rest = ap without_delayed on.rest;
+    sized = on.sized;
+    gone_on = on.gone_on;
+    others = on.others;
+  }
+
+  pub advanced_pending : (s : Piles) → pending l s ≡ pending k s
+  advanced_pending s = sym (ap (λ (x : HeapState). pending x s) on.rest)
+
+-- one zone goes on
+module _ (h : HeapState) (zone : ℕ) (k : HeapState) (found : slice_get h.shape.states zone ≡ Some state.MarkBlackOnly)
+    (on : IsSomeAnd (slice_get h.shape.states zone)
+    (λ s. k ≡ record h { shape = record h.shape { states = slice_set h.shape.states zone (next_state s) } })) where
+  pub begun_seen : without_delayed k ≡ record (without_delayed h) {
+    shape = record h.shape { states = slice_set h.shape.states zone state.MarkBlackAndGray };
+  }
+  begun_seen = ap without_delayed (advanced_to h zone k found on)
+
+  pub begun_pending : (s : Piles) → pending h s ≡ pending k s
+  begun_pending s = sym (ap (λ (x : HeapState). pending x s) (advanced_to h zone k found on))
+
+-- sweeping ends
+module _ (h : HeapState) (groups : List ZoneSet) (over : Bool) (k : HeapState) (e : EndsSweeping h groups over k) where
+  pub ends_seen : EndsSweeping (without_delayed h) groups over (without_delayed k)
+  ends_seen = record {
+    rest = ap without_delayed e.rest;
+    sized = e.sized;
+    still = e.still;
+    swept = e.swept;
+    ended = e.ended;
+  }
+
+  pub ended_pending : (s : Piles) → pending h s ≡ pending k s
+  ended_pending s = sym (ap (λ (x : HeapState). pending x s) e.rest)
+
+-- an arena was taken in before
+pub taken_pending : (h m k : HeapState) (arena freed : ℕ) (bits : Bits) (groups : List ZoneSet) (over : Bool)
+    → m ≡ with_taken h arena freed bits → EndsSweeping m groups over k → (s : Piles) → pending h s ≡ pending k s
+taken_pending h m k arena freed bits groups over is e s =
+    sym (ap (λ (x : HeapState). pending x s) is) ∙ ended_pending m groups over k e s
+
+-- a group is handed to sweeping
+drops_seen : (h : HeapState) (g : ZoneSet) (k : HeapState) → DropsDead (with_handed h g.bits) g k
+    → DropsDead (with_handed (without_delayed h) g.bits) g (without_delayed k)
+drops_seen h g k d = record {
+  rest = ap without_delayed d.rest;
+  apart = d.apart;
+  wrappers = d.wrappers;
+  entries = d.entries;
+  distinct = d.distinct;
+  carries = d.carries;
+  parallel = d.parallel;
+}
+
+module _ (h : HeapState) (g : ZoneSet) (jobs : Option (List Job)) (k : HeapState) (out : HandsOut h g jobs k) where
+  pub hands_seen : HandsOut (without_delayed h) g jobs (without_delayed k)
+  hands_seen = record {
+    dropped = without_delayed out.dropped;
+    drops = drops_seen h g out.dropped out.drops;
+    goes = advances_seen out.dropped g.bits k out.goes;
+    jobs_are = out.jobs_are;
+    fewer = out.fewer;
+  }
+
+  pub handed_pending : (s : Piles) → pending h s ≡ pending k s
+  handed_pending s = sym (ap (λ (x : HeapState). pending x s) out.drops.rest)
+      ∙ advanced_pending out.dropped g.bits k out.goes s
+
+-- its gray names
+pub grays_seen : (h : HeapState) (g : ZoneSet) (names : List Name) → Lists (IsGrayHere h g) names
+    → Lists (IsGrayHere (without_delayed h) g) names
+grays_seen h g names l = record {
+  ascending = l.ascending;
+  has = λ x. (
+    (λ c. (let i = (l.has x).0 c in
+        record { place = i.place; named = i.named; here = i.here; gray = i.gray })),
+    λ i. (l.has x).1 (record { place = i.place; named = i.named; here = i.here; gray = i.gray }),
+  );
+}
