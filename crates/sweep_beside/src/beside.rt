@@ -1,5 +1,5 @@
 // Main's work beside helpers, on a board that is made for it.
-ghost use Rattle.std.specs.Prelude.{◌≡◌, ℕ, ◌<◌, [], true, All, IsErr, List, OnErr, OnOk, Option};
+ghost use Rattle.std.specs.Prelude.{◌≡◌, ℕ, ◌<◌, [], true, All, List, OnErr, OnOk, Option};
 ghost use Rattle.cell_bits.specs.declared.bits.Bits.{Bits as ABits};
 ghost use Rattle.sweep_board.specs.Seats.{board_len, jobs_of, main_view_of, IsMainOf};
 ghost use Rattle.sweep_board.specs.Views.{is_taken};
@@ -95,18 +95,17 @@ fn work_on<'b, R: Threads + Wait + Sync, G: Gate + Sync, W: Works + Send>(
     (main, own_seat)
 }
 
-// Sweeps the arenas of these jobs and takes them in: memory for their board is wanted.
+// Sweeps the arenas of these jobs and takes them in: memory for their board is wanted, which is the answer.
 #[cold]
-fn sweep_alone(alloc: Global, jobs: Jobs) -> Result<(), NoMemory>
+fn sweep_alone(alloc: Global, jobs: Jobs) -> NoMemory
     requires { Ascend (outs_of jobs) }
-    ensures { IsErr result }
 {
     let mut sweeper = MainSweeper::new(alloc);
     sweeper.take_over(Some(jobs));
     while !sweeper.is_empty() {
         sweeper.take_lowest();
     }
-    Err(AllocError)
+    AllocError
 }
 
 /// Has the work done over the arenas of these jobs, beside this many helpers that sweep them, and no more than there
@@ -127,14 +126,14 @@ pub fn sweep_beside<R: Threads + Wait + Sync, G: Gate + Sync, W: Works + Send>(
 {
     let arenas = jobs.as_slice().len();
     if arenas > u32::MAX as usize {
-        return sweep_alone(alloc, jobs);
+        return Err(sweep_alone(alloc, jobs));
     }
     let Ok((board, mut main)) = Board::new(alloc, jobs.as_slice()) else {
-        return sweep_alone(alloc, jobs);
+        return Err(sweep_alone(alloc, jobs));
     };
     let own_seat = board.split(&mut main);
     let Ok(mut seats) = split_seats(alloc, &board, &mut main, helpers.min(arenas)) else {
-        return sweep_alone(alloc, jobs);
+        return Err(sweep_alone(alloc, jobs));
     };
     let (mut main, own_seat) = work_on(
         rt,
