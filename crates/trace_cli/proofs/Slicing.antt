@@ -98,6 +98,7 @@ runs_spent h c w n (Some r) (Some k) i = record {
 represents_spent : (c : CollectorState) (f : ℕ → Option Bits) (w : World) (n : ℕ) → Represents c f w → Represents c f
     (spent n w)
 represents_spent c f w n r = record {
+  delayed = r.delayed;
   lies = lies_spent c.heap w n r.lies;
   unswept_apart = r.unswept_apart;
   flies = r.flies;

@@ -1,4 +1,4 @@
-use Rattle.std.proofs.Common.{rules, refl, []}
+use Rattle.std.proofs.Common.{rules, refl, sym, []}
 use Rattle.colour_defs.specs.World.{first_world}
 use Rattle.trace_cli.specs.Headline.{Replays}
 use Rattle.trace_cli.specs.declared.exit.Exit.{Exit}
@@ -30,7 +30,9 @@ returns-clause-lawful g c =
     (g.K.Sink.written c.args.sink.now)
     (g.S.Source.faults c.args.source.now) (g.K.Sink.faults c.args.sink.now) c.first_run-run.ensures.pending
     c.first_run-run.ensures.answered c.first_run-run.ensures.reader c.first_run-run.ensures.first)).lawful in
-    search rules
+    let source = c.source-1.given.1 (sym c.run_on.ensures.source) in
+    let sink = c.sink-1.given.1 (sym c.run_on.ensures.sink) in
+    rw (source, sink) ended
 
 pub returns-clause-quiet : goal.returns-clause-quiet
 returns-clause-quiet g c = λ k.
@@ -41,7 +43,9 @@ returns-clause-quiet g c = λ k.
     c.first_run-run.ensures.answered c.first_run-run.ensures.reader c.first_run-run.ensures.first)).quiet in
     let reads = (ended k).0 in
     let writes = (ended k).1 in
-    (search rules, search rules)
+    let source = c.source-1.given.1 (sym c.run_on.ensures.source) in
+    let sink = c.sink-1.given.1 (sym c.run_on.ensures.sink) in
+    (rw source reads, rw sink writes)
 
 pub returns-clause-handed_on : goal.returns-clause-handed_on
 returns-clause-handed_on g c =
@@ -50,7 +54,8 @@ returns-clause-handed_on g c =
     (g.K.Sink.written c.args.sink.now)
     (g.S.Source.faults c.args.source.now) (g.K.Sink.faults c.args.sink.now) c.first_run-run.ensures.pending
     c.first_run-run.ensures.answered c.first_run-run.ensures.reader c.first_run-run.ensures.first)).handed_on in
-    search rules
+    let sink = c.sink-1.given.1 (sym c.run_on.ensures.sink) in
+    rw sink ended
 
 pub returns-clause-read : goal.returns-clause-read
 returns-clause-read g c =
@@ -59,7 +64,8 @@ returns-clause-read g c =
     (g.K.Sink.written c.args.sink.now)
     (g.S.Source.faults c.args.source.now) (g.K.Sink.faults c.args.sink.now) c.first_run-run.ensures.pending
     c.first_run-run.ensures.answered c.first_run-run.ensures.reader c.first_run-run.ensures.first)).read in
-    search rules
+    let source = c.source-1.given.1 (sym c.run_on.ensures.source) in
+    rw source ended
 
 pub returns-clause-write : goal.returns-clause-write
 returns-clause-write g c =
@@ -68,7 +74,8 @@ returns-clause-write g c =
     (g.K.Sink.written c.args.sink.now)
     (g.S.Source.faults c.args.source.now) (g.K.Sink.faults c.args.sink.now) c.first_run-run.ensures.pending
     c.first_run-run.ensures.answered c.first_run-run.ensures.reader c.first_run-run.ensures.first)).write in
-    search rules
+    let sink = c.sink-1.given.1 (sym c.run_on.ensures.sink) in
+    rw sink ended
 
 pub returns-clause-runs : goal.returns-clause-runs
 returns-clause-runs g c =

@@ -1,4 +1,4 @@
-use Rattle.std.proofs.Common.{◌≢◌, Some, None, rules}
+use Rattle.std.proofs.Common.{◌≢◌, Some, None, rules, sym}
 use Rattle.trace_cli.specs.Standing.{somewhere}
 use Rattle.trace_cli.specs.Storms.{IsLeftByStorm}
 use Rattle.trace_cli.specs.declared.exit.Exit.TheVariants as exit
@@ -35,4 +35,4 @@ returns-in-Done-clause-ok g c =
     let left : IsLeftByStorm c.args.seed c.args.lines c.run_on.new.session.run.now.machine.collector = storm_done
     (record { short = c.spelling_law.ensures.short; plain = c.spelling_law.ensures.plain }) c.zones_law.ensures
     c.args.seed c.args.lines c.new-source.result c.new-source.ensures c.run_on.result _ _ _ _ ended c.in-Done.is in
-    search (rules, left)
+    rw (c.run-2-1.given.1 (sym c.run_on.ensures.run)) left
