@@ -121,6 +121,28 @@ fn run_held_back<R: Threads + Wait + Sync>(
     outcome(exit, sink.inner().bytes(), answers)
 }
 
+// Fails these calls of the source and of the sink, through both kinds of sink.
+fn check_end<R: Abort + Threads + Wait + Sync>(
+    rt: &R,
+    alloc: Global,
+    helpers: &str,
+    texts: (&[u8], &[u8]),
+    calls: (&[u64], &[u64]),
+    wanted: Option<(Exit, usize)>,
+) {
+    let (reads, writes) = calls;
+    assert_eq!(rt;
+        run(rt, alloc, helpers, texts, calls),
+        wanted,
+        "reads {reads:?}, writes {writes:?}"
+    );
+    assert_eq!(rt;
+        run_held_back(rt, alloc, helpers, texts, calls),
+        wanted,
+        "held back, reads {reads:?}, writes {writes:?}"
+    );
+}
+
 // How many bytes answer the lines that end within so many bytes.
 fn answered(row: Row, taken: usize) -> usize {
     let mut left = taken;
@@ -176,16 +198,7 @@ fn check_reads<R: Abort + Threads + Wait + Sync>(
     for taken in 0..=trace.len() {
         let wanted = Some((Exit::ReadFault, answered(row, taken)));
         let calls: (&[u64], &[u64]) = (&[taken as u64], &[]);
-        assert_eq!(rt;
-            run(rt, alloc, helpers, texts, calls),
-            wanted,
-            "read {taken}"
-        );
-        assert_eq!(rt;
-            run_held_back(rt, alloc, helpers, texts, calls),
-            wanted,
-            "read {taken}"
-        );
+        check_end(rt, alloc, helpers, texts, calls, wanted);
     }
     let past = (trace.len() as u64).saturating_add(1);
     let wanted = Some((Exit::Done, answers.len()));
@@ -205,16 +218,7 @@ fn check_writes<R: Abort + Threads + Wait + Sync>(
     for written in 0..answers.len() {
         let wanted = Some((Exit::WriteFault, written));
         let calls: (&[u64], &[u64]) = (&[], &[written as u64]);
-        assert_eq!(rt;
-            run(rt, alloc, helpers, texts, calls),
-            wanted,
-            "write {written}"
-        );
-        assert_eq!(rt;
-            run_held_back(rt, alloc, helpers, texts, calls),
-            wanted,
-            "write {written}"
-        );
+        check_end(rt, alloc, helpers, texts, calls, wanted);
     }
     let past = answers.len() as u64;
     let wanted = Some((Exit::Done, answers.len()));
