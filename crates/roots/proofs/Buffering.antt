@@ -221,12 +221,15 @@ lists_of-same bs i b c h e same =
     map-set_same (λ (v : Vec Place Global). v.items) bs i c
     (same ∙ ap (λ (v : Vec Place Global). v.items) (get_or_read bs i b h e c))
 
--- a vector is given room, and the next is looked at
-pub HasRoom-more : (bs : List (Vec Place Global)) (i : ℕ) (b c : Vec Place Global) (more : ℕ → ℕ) → i < length bs
-    → b ≡ get_or bs i b → c.items ≡ b.items → length c.items + more i ≤ vec_capacity c
-    → ((z : ℕ) → z < i → length (buffer_at (lists_of bs) z) + more z ≤ slice_index (capacities_of bs) z) → (z : ℕ)
-    → z < i + 1 → length (buffer_at (lists_of (set bs i c)) z) + more z ≤ slice_index (capacities_of (set bs i c)) z
-HasRoom-more bs i b c more h e same room before z lt =
+-- a vector is given room
+pub HasRoom-more : (bs : List (Vec Place Global)) (left rest i : ℕ) (b c : Vec Place Global) (more : ℕ → ℕ)
+    → i < length bs → b ≡ get_or bs i b → c.items ≡ b.items → length c.items + more i ≤ vec_capacity c
+    → ((z : ℕ) → HasZone rest z ↔ (HasZone left z × (z ≢ i)))
+    → ((z : ℕ) → z < 64 → (HasZone left z → ⊥)
+    → length (buffer_at (lists_of bs) z) + more z ≤ slice_index (capacities_of bs) z) → (z : ℕ) → z < 64
+    → (HasZone rest z → ⊥)
+    → length (buffer_at (lists_of (set bs i c)) z) + more z ≤ slice_index (capacities_of (set bs i c)) z
+HasRoom-more bs left rest i b c more h e same room removed before z lt out =
     let lists : lists_of (set bs i c) ≡ lists_of bs = lists_of-same bs i b c h e same in
     let caps : capacities_of (set bs i c) ≡ set (capacities_of bs) i (vec_capacity c) =
     map-set (λ (v : Vec Place Global). vec_capacity v) bs i c in
@@ -234,9 +237,16 @@ HasRoom-more bs i b c more h e same room before z lt =
     let read : buffer_at (lists_of bs) i ≡ c.items = buffer_at-lists_of bs i b h e ∙ sym same in
     rw (lists, caps) (elim (cases_eq z i) [
       | inl f ↦ (let here = get_or-set_same (capacities_of bs) i (vec_capacity c) 0 inside in rw (f, here, read) room)
-      | inr n ↦ (let old = before z (omega arith) in
+      | inr n ↦ (let old = before z lt (λ k. out ((removed z).1 (k, n))) in
           rw (get_or-set_other (capacities_of bs) i z (vec_capacity c) 0 n) old)
     ])
+
+-- a vector has room for what it holds
+pub HasRoom-held : (bs : List (Vec Place Global)) (z : ℕ) → z < length bs
+    → length (buffer_at (lists_of bs) z) ≤ slice_index (capacities_of bs) z
+HasRoom-held [] z h = absurd (omega arith)
+HasRoom-held (b ∷ bs) zero h = omega (arith, b.ok.0, b.ok.1)
+HasRoom-held (b ∷ bs) (suc z) h = HasRoom-held bs z (omega arith)
 
 length-places_in : (z : ℕ) (items : List (ZoneNo × Place)) → length (places_in z items) ≡ count_in z items
 length-places_in z items =

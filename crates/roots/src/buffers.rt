@@ -1,6 +1,7 @@
 // A list of places for each zone.
 ghost use Rattle.std.specs.Prelude.{◌≡◌, ◌≤◌, ◌<◌, ◌+◌, ◌^◌, ◌++◌, ℕ, length, replicate, [], slice_index, IfOk, IfSome};
 ghost use Rattle.std.specs.Prelude.{IfNone, OnOk, OnErr, sum_by};
+ghost use Rattle.gz_names.specs.Zones.{HasZone};
 ghost use Rattle.roots.specs.Buffers.{buffer_at, places_in, count_in, put_at, put_all, lists_of, capacities_of};
 ghost use Rattle.roots.specs.Buffers.{HasRoom, IsWaiting};
 
@@ -44,16 +45,19 @@ pub(crate) fn put_both(
     Ok(())
 }
 
-// How many of the places are of each zone.
-fn count_items(items: &[(ZoneNo, Place)]) -> [usize; 64]
-    ensures zones { length result ≡ 64 }
-    ensures counts { (z : ℕ) → z < 64 → slice_index result z ≡ count_in z items.now }
+// Counts the places of each zone, and notes the zones of which there are any.
+fn count_items(counts: &mut [usize; 64], counted: &mut ZoneSet, items: &[(ZoneNo, Place)])
+    requires { (z : ℕ) → z < 64 → slice_index counts.old z < 2 ^ 63 }
+    ensures counts { (z : ℕ) → z < 64
+        → slice_index counts.new z ≡ slice_index counts.old z + count_in z items.now }
+    ensures few { (z : ℕ) → z < 64 → slice_index counts.new z < slice_index counts.old z + 2 ^ 63 }
+    ensures kept { (z : ℕ) → HasZone counted.old.bits z → HasZone counted.new.bits z }
+    ensures counted { (z : ℕ) → ¬ HasZone counted.new.bits z → count_in z items.now ≡ 0 }
 {
-    let mut counts = [0usize; 64];
     for (zone, _) in items {
         counts[zone.index() as usize] += 1;
+        counted.insert(*zone);
     }
-    counts
 }
 
 // Takes memory for so many places more in each zone's buffer.
@@ -67,10 +71,30 @@ fn reserve_all(
     ensures room { OnOk result (HasRoom (lists_of buffers.new) (capacities_of buffers.new)
         (λ z. count_in z slots.now + count_in z wrappers.now)) }
 {
-    let of_slots = count_items(slots);
-    let of_wrappers = count_items(wrappers);
-    for zone in 0..64 {
-        buffers[zone].reserve(of_slots[zone] + of_wrappers[zone])?;
+    let mut counts = [0usize; 64];
+    let mut counted = ZoneSet::new();
+    count_items(&mut counts, &mut counted, slots);
+    count_items(&mut counts, &mut counted, wrappers);
+    reserve_counted(buffers, counted, &counts)
+}
+
+// Takes memory for so many places more in the buffers of some zones.
+fn reserve_counted(
+    buffers: &mut [Vec<Place>],
+    zones: ZoneSet,
+    counts: &[usize; 64],
+) -> Result<(), AllocError>
+    requires zones { length buffers.old ≡ 64 }
+    requires others { (z : ℕ) → z < 64 → ¬ HasZone zones.bits z → slice_index counts.now z ≡ 0 }
+    ensures same { lists_of buffers.new ≡ lists_of buffers.old }
+    ensures room { OnOk result (HasRoom (lists_of buffers.new) (capacities_of buffers.new)
+        (λ z. slice_index counts.now z)) }
+{
+    let mut left = zones;
+    while let Some(zone) = left.first() {
+        let at = zone.index() as usize;
+        buffers[at].reserve(counts[at])?;
+        left.remove(zone);
     }
     Ok(())
 }
@@ -87,10 +111,12 @@ fn put_items(buffers: &mut [Vec<Place>], waiting: &mut ZoneSet, items: &[(ZoneNo
     ensures room { capacities_of buffers.new ≡ capacities_of buffers.old }
     ensures waiting { IsWaiting (lists_of buffers.new) waiting.new.bits }
 {
+    let mut noted = *waiting;
     for (zone, place) in items {
         buffers[zone.index() as usize].push_reserved(*place);
-        waiting.insert(*zone);
+        noted.insert(*zone);
     }
+    *waiting = noted;
 }
 
 // Takes the last place out of a zone's buffer.

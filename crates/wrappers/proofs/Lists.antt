@@ -1,13 +1,14 @@
 -- The lists that maps hold, where one map is changed.
-use Rattle.std.proofs.Common.{◌≡◌, ◌<◌, ◌≤◌, ◌==◌, ◌+◌, ℕ, zero, suc, Bool, true, false, inl, inr, List, [], ◌∷◌, ◌++◌}
-use Rattle.std.proofs.Common.{length, length-set, get_or-set_same, get_or-set_other, arith, get_or, set, map, refl, sym}
-use Rattle.std.proofs.Common.{◌∙◌, ap}
-use Rattle.std.proofs.lemmas.List.{get_or-map, get_or_read, map-set, length-map}
-use Rattle.std.proofs.lemmas.Bool.{cases_eq}
+use Rattle.std.proofs.Common.{MatchBool, ◌≡◌, ◌≢◌, ◌<◌, ◌==◌, ◌↔◌, ℕ, zero, suc, Bool, true, false, inl, inr, List}
+use Rattle.std.proofs.Common.{[], ◌∷◌, ◌++◌, length, length-set, get_or-set_same, get_or-set_other, get_or, set, map}
+use Rattle.std.proofs.Common.{refl, sym, ◌∙◌, ap, eq-eqb, ne_eqb}
+use Rattle.std.proofs.lemmas.List.{get_or-map, get_or_past, get_or_read, map-set, length-map}
+use Rattle.std.proofs.lemmas.Bool.{cases_eq, cases_lt}
 use Rattle.std.specs.Int.{bit_at}
 use Rattle.std.specs.declared.hash.FoldHasher.{FoldHasher}
 use Rattle.std.specs.declared.hash.BuildHasherDefault.{BuildHasherDefault}
 use Rattle.indexmap.specs.IndexMap.{IndexMap}
+use Rattle.gz_names.specs.Zones.{HasZone}
 use Rattle.gz_names.specs.declared.numbers.Place.{Place}
 use Rattle.wrappers.specs.WrapperMaps.{list_at, lists_of, add_at, KeptBy, DropsDead}
 use Rattle.wrappers.specs.declared.wrapper_maps.WrapperKey.{WrapperKey}
@@ -40,11 +41,13 @@ pub lists_of-push : (ms : List Entries) (i : ℕ) (m n : Entries) (k : WrapperKe
 lists_of-push ms i m n k p h e f =
     lists_of-set ms i n ∙ ap (set (lists_of ms) i) (f ∙ ap (λ es. es ++ (k, p) ∷ []) (sym (lists_of-read ms i m h e)))
 
--- one map after the other loses its dead; those before the i-th have lost theirs
-pub record AreDropped (before now : List Entries) (word : ℕ) (ask : Place → Bool → Type 0) (i : ℕ) : Type 0 where
+-- the maps of some zones of the word lost their dead, and those of these zones are left
+pub record AreDropped (before now : List Entries) (word : ℕ) (ask : Place → Bool → Type 0) (rest : ℕ) : Type 0 where
   pub zones : length now ≡ 64
-  pub done : (z : ℕ) → z < i → DropsDead (bit_at word z) ask (list_at (lists_of before) z) (list_at (lists_of now) z)
-  pub left : (z : ℕ) → i ≤ z → list_at (lists_of now) z ≡ list_at (lists_of before) z
+  pub within : (z : ℕ) → HasZone rest z → HasZone word z
+  pub done : (z : ℕ) → (HasZone rest z → ⊥)
+      → DropsDead (bit_at word z) ask (list_at (lists_of before) z) (list_at (lists_of now) z)
+  pub left : (z : ℕ) → HasZone rest z → list_at (lists_of now) z ≡ list_at (lists_of before) z
 
 DropsDead-yes : (bit : ℕ) (ask : Place → Bool → Type 0) (old new : List (WrapperKey × Place)) → (bit == 1) ≡ true
     → KeptBy ask old new → DropsDead bit ask old new
@@ -54,33 +57,57 @@ DropsDead-no : (bit : ℕ) (ask : Place → Bool → Type 0) (old new : List (Wr
     → new ≡ old → DropsDead bit ask old new
 DropsDead-no bit ask old new e h = rw e h
 
-pub AreDropped-more : (before now : List Entries) (word : ℕ) (ask : Place → Bool → Type 0) (i : ℕ) (m n : Entries)
-    → AreDropped before now word ask i → i < 64 → m ≡ get_or now i m → (bit_at word i == 1) ≡ true
-    → KeptBy ask m.entries n.entries → AreDropped before (set now i n) word ask (i + 1)
-AreDropped-more before now word ask i m n h lt e bit f =
+bit-yes : (word z : ℕ) → HasZone word z → (bit_at word z == 1) ≡ true
+unfolding HasZone
+bit-yes word z h = eq-eqb _ _ h.1
+
+bit-no : (word z : ℕ) → z < 64 → (HasZone word z → ⊥) → (bit_at word z == 1) ≡ false
+unfolding HasZone
+bit-no word z lt off = ne_eqb _ _ (λ one. off (lt, one))
+
+-- an empty list has no dead
+DropsDead-empty : (bit : ℕ) (ask : Place → Bool → Type 0) → DropsDead bit ask [] []
+DropsDead-empty bit ask = by (bit == 1)
+  where
+    by : (b : Bool) → MatchBool b (KeptBy ask [] []) (◌≡◌ {A = List (WrapperKey × Place)} [] [])
+    by true = refl
+    by false = refl
+
+pub AreDropped-none : (before : List Entries) (word : ℕ) (ask : Place → Bool → Type 0) → length before ≡ 64
+    → AreDropped before before word ask word
+AreDropped-none before word ask zones = record {
+  zones = zones;
+  within = λ z h. h;
+  done = λ z off. elim (cases_lt z 64) [
+    | inl lt ↦ DropsDead-no (bit_at word z) ask _ _ (bit-no word z lt off) refl
+    | inr past ↦ (let none : list_at (lists_of before) z ≡ [] =
+        get_or_past (lists_of before) z [] (rw (length-map, zones) past) in
+        rw none (DropsDead-empty (bit_at word z) ask))
+  ];
+  left = λ z h. refl;
+}
+
+-- the map of a zone loses its dead
+pub AreDropped-more : (before now : List Entries) (word : ℕ) (ask : Place → Bool → Type 0) (rest fewer i : ℕ)
+    (m n : Entries) → AreDropped before now word ask rest → i < 64 → HasZone rest i
+    → ((z : ℕ) → HasZone fewer z ↔ (HasZone rest z × (z ≢ i))) → m ≡ get_or now i m → KeptBy ask m.entries n.entries
+    → AreDropped before (set now i n) word ask fewer
+AreDropped-more before now word ask rest fewer i m n h lt here removed e f =
     let within : i < length now = rw h.zones lt in
     let inside : i < length (lists_of now) = rw length-map within in
     let lists = lists_of-set now i n in
-    let here : list_at (set (lists_of now) i n.entries) i ≡ n.entries =
+    let new : list_at (set (lists_of now) i n.entries) i ≡ n.entries =
     get_or-set_same (lists_of now) i n.entries [] inside in
-    let was : list_at (lists_of before) i ≡ m.entries = sym (h.left i (omega arith)) ∙ lists_of-read now i m within e in
+    let was : list_at (lists_of before) i ≡ m.entries = sym (h.left i here) ∙ lists_of-read now i m within e in
     record {
       zones = length-set now i n ∙ h.zones;
-      done = λ z less. rw lists (elim (cases_eq z i) [
-        | inl g ↦ rw (g, here, was) (DropsDead-yes (bit_at word i) ask m.entries n.entries bit f)
-        | inr g ↦ rw (get_or-set_other (lists_of now) i z n.entries [] g) (h.done z (omega arith))
+      within = λ z k. h.within z ((removed z).0 k).0;
+      done = λ z off. rw lists (elim (cases_eq z i) [
+        | inl g ↦ rw (g, new, was)
+            (DropsDead-yes (bit_at word i) ask m.entries n.entries (bit-yes word i (h.within i here)) f)
+        | inr g ↦ rw (get_or-set_other (lists_of now) i z n.entries [] g)
+            (h.done z (λ k. off ((removed z).1 (k, g))))
       ]);
-      left = λ z more. rw lists (get_or-set_other (lists_of now) i z n.entries [] (omega arith)
-          ∙ h.left z (omega arith));
+      left = λ z k. rw lists (get_or-set_other (lists_of now) i z n.entries [] ((removed z).0 k).1
+          ∙ h.left z ((removed z).0 k).0);
     }
-
-pub AreDropped-skip : (before now : List Entries) (word : ℕ) (ask : Place → Bool → Type 0) (i : ℕ)
-    → AreDropped before now word ask i → (bit_at word i == 1) ≡ false → AreDropped before now word ask (i + 1)
-AreDropped-skip before now word ask i h bit = record {
-  zones = h.zones;
-  done = λ z less. elim (cases_eq z i) [
-    | inl g ↦ rw g (DropsDead-no (bit_at word i) ask _ _ bit (h.left i (omega arith)))
-    | inr g ↦ h.done z (omega arith)
-  ];
-  left = λ z more. h.left z (omega arith);
-}

@@ -236,19 +236,11 @@ fn drop_in_zones<D: Fn(Place) -> bool>(
     ensures { (z : ℕ) → DropsDead (bit_at zones.bits z) (D.post dead.now)
         (list_at (lists_of maps.old) z) (list_at (lists_of maps.new) z) }
 {
-    for zone in 0..64u8 {
-        if zone_bit(zones, zone) {
-            drop_entries(&mut maps[zone as usize], dead);
-        }
+    let mut left = zones;
+    while let Some(zone) = left.first() {
+        drop_entries(&mut maps[zone.index() as usize], dead);
+        left.remove(zone);
     }
-}
-
-// Whether a zone is in a set.
-fn zone_bit(zones: ZoneSet, zone: u8) -> bool
-    requires { zone < 64 }
-    ensures { result ≡ (bit_at zones.bits zone == 1) }
-{
-    (zones.bits >> zone) & 1 == 1
 }
 
 // Drops the entries of dead cells; the others keep their order.

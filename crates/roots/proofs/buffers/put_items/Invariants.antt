@@ -4,4 +4,4 @@ use Rattle.roots.proofs.buffers.put_items.Given as goal
 
 abbrev pub invariant-loop-zone : goal.invariant-loop-zone
 invariant-loop-zone l =
-    IsPutting l.initial.buffers l.items l.buffers l.waiting.bits (drop l.zone-index l.items) l.zone-index
+    IsPutting l.initial.buffers l.items l.buffers l.noted.bits (drop l.zone-index l.items) l.zone-index

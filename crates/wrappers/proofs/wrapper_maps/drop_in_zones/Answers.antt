@@ -1,16 +1,20 @@
-use Rattle.std.proofs.Common.{arith, ◌∙◌, sym}
-use Rattle.wrappers.proofs.Lists.{AreDropped-more, AreDropped-skip}
+use Rattle.std.proofs.Common.{ℕ, sym, subst}
+use Rattle.gz_names.specs.Zones.{HasZone}
+use Rattle.wrappers.proofs.Lists.{AreDropped-more, AreDropped-none}
+use Rattle.gz_names.proofs.ZoneCounts.{fewer_zones}
 use Rattle.wrappers.proofs.wrapper_maps.drop_in_zones.Goals as goal
-use Rattle.wrappers.proofs.wrapper_maps.drop_in_zones.Goals.{then-zone_bit, else-zone_bit}
+
+pub loop-zone-init : goal.loop-zone-init
+loop-zone-init g c = AreDropped-none c.args.maps.now c.args.zones.bits _ c.requires.zones
+
+pub loop-zone-smaller : goal.loop-zone-smaller
+loop-zone-smaller g c = fewer_zones c.loop-zone.left.bits c.remove.new.self.bits c.in-Some.zone c.remove.ensures
+    c.in-Some.ensures.some
 
 pub loop-zone-preserved : goal.loop-zone-preserved
 loop-zone-preserved g c =
-    elim c.if-zone_bit.branch [
-      | then-zone_bit w ↦ rw w.maps-is
-          (AreDropped-more _ _ c.args.zones.bits _ c.loop-zone.zone w.index-maps-zone.result w.drop_entries.new.map
-          c.loop-zone.invariant (omega arith) w.index-maps-zone.is (sym c.zone_bit.ensures ∙ w.if-zone_bit.true)
-          (rw w.index-maps-zone.is w.drop_entries.ensures))
-      | else-zone_bit w ↦ rw w.maps-is
-          (AreDropped-skip _ _ c.args.zones.bits _ c.loop-zone.zone c.loop-zone.invariant
-          (sym c.zone_bit.ensures ∙ w.if-zone_bit.false))
-    ]
+    AreDropped-more c.args.maps.now c.loop-zone.maps c.args.zones.bits _ c.loop-zone.left.bits c.remove.new.self.bits
+    c.index.result c.index-maps-index.result c.drop_entries.new.map c.loop-zone.invariant c.index.ensures.below
+    (subst (λ (z : ℕ). HasZone c.loop-zone.left.bits z) (sym c.index.ensures.value) c.in-Some.ensures.some)
+    (rw c.index.ensures.value c.remove.ensures)
+    c.index-maps-index.is (rw c.index-maps-index.is c.drop_entries.ensures)
