@@ -30,8 +30,12 @@
 // What this rules out: a stack that grows with the heap. A graph of any shape is marked in the same
 // room, and the cell that the pile has no room for is not lost.
 //
-// No contract says in which order places come back: what is pushed comes back once. A body takes the
-// last one.
+// No contract says in which order places come back: what is pushed comes back once. Off the wake pile
+// a body takes the last place, and off the others those below the last, up to eight of them in turn.
+// So lists are followed side by side:
+//
+//     one list at a time     a1 a2 a3 ..     each cell is known only once the one before was read
+//     in turn                a1 b1 c1 a2 b2 c2 ..     meanwhile the memory of others comes
 #![tactic(auto)]
 
 mod stack;

@@ -1,5 +1,5 @@
 // Three piles of places.
-ghost use Rattle.std.specs.Prelude.{◌≡◌, ◌<◌, ◌∷◌, [], length, IfOk, IfSome, IfNone, MatchBool};
+ghost use Rattle.std.specs.Prelude.{◌≡◌, ◌≢◌, ◌≤◌, ◌<◌, ◌∷◌, [], length, IfOk, IfSome, IfNone, MatchBool};
 ghost use Rattle.std.specs.List.Sorted.{IsPermutation};
 ghost use Rattle.mark_stack.specs.Stack.{HasRoom};
 
@@ -27,6 +27,8 @@ pub struct Stack {
     black: Vec<Place>,
     gray: Vec<Place>,
     wake: Vec<Place>,
+    // The index at which a place was last taken off the black or the gray pile.
+    taken: usize,
 }
 
 impl Model for Stack {
@@ -50,6 +52,7 @@ impl Stack {
             black: new_pile(alloc)?,
             gray: new_pile(alloc)?,
             wake: new_pile(alloc)?,
+            taken: 0,
         })
     }
 
@@ -67,6 +70,18 @@ impl Stack {
         }
     }
 
+    /// Whether a pile is empty.
+    #[inline(always)]
+    pub fn is_empty(&self, pile: Pile) -> bool
+        ensures { MatchBool result (pile_of self.now pile ≡ []) (pile_of self.now pile ≢ []) }
+    {
+        match pile {
+            Pile::Black => self.black.is_empty(),
+            Pile::Gray => self.gray.is_empty(),
+            Pile::Wake => self.wake.is_empty(),
+        }
+    }
+
     /// Takes one of the places off a pile; `None` exactly where the pile is empty.
     #[inline(always)]
     pub fn pop(&mut self, pile: Pile) -> Option<Place>
@@ -74,8 +89,8 @@ impl Stack {
         ensures none { IfNone result ((pile_of self.old pile ≡ []) × (self.new ≡ self.old)) }
     {
         match pile {
-            Pile::Black => self.black.pop(),
-            Pile::Gray => self.gray.pop(),
+            Pile::Black => take_in_turn(&mut self.black, &mut self.taken),
+            Pile::Gray => take_in_turn(&mut self.gray, &mut self.taken),
             Pile::Wake => self.wake.pop(),
         }
     }
@@ -107,6 +122,32 @@ fn push_onto(pile: &mut Vec<Place>, place: Place) -> bool
     true
 }
 
+// Takes one of the places below the last off a pile, in turn; the last one where there is no other.
+#[inline(always)]
+fn take_in_turn(pile: &mut Vec<Place>, taken: &mut usize) -> Option<Place>
+    requires { HasRoom pile.old }
+    ensures some { IfSome result (λ place. IsPermutation (place ∷ pile.new.items) pile.old.items) }
+    ensures none { IfNone result ((pile.old.items ≡ []) × (pile.new.items ≡ pile.old.items)) }
+    ensures room { HasRoom pile.new }
+{
+    let last = pile.len().checked_sub(1)?;
+    *taken = next_in_turn(*taken, last);
+    Some(pile.swap_remove(*taken))
+}
+
+// The index to take from after another one: that below it, as long as this is one of the eight below
+// the last, and else the highest of these.
+#[inline(always)]
+fn next_in_turn(taken: usize, last: usize) -> usize
+    ensures { result ≤ last }
+{
+    if taken != 0 && taken <= last && last - taken < 8 {
+        taken - 1
+    } else {
+        last.saturating_sub(1)
+    }
+}
+
 #[cfg(test)]
 mod tests {
     use super::*;
@@ -120,6 +161,8 @@ mod tests {
         assert!(rt; stack.push(Pile::Black, first));
         assert!(rt; stack.push(Pile::Wake, first));
         assert!(rt; stack.push(Pile::Wake, second));
+        assert!(rt; stack.is_empty(Pile::Gray));
+        assert!(rt; !stack.is_empty(Pile::Wake));
         assert_eq!(rt; stack.pop(Pile::Gray), None);
         assert_eq!(rt; stack.pop(Pile::Black), Some(first));
         assert_eq!(rt; stack.pop(Pile::Black), None);
