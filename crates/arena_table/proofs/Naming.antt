@@ -21,10 +21,11 @@ use Rattle.arena_table.proofs.AtBits.{at_bits-lowest, at_bits-zero, length-at_bi
 
 abbrev pub no_cell : Cell
 no_cell = record {
-  name = name.Cell 0;
-  fields = [];
   kind = kind.Object 0;
   comp = record { 0 = 0 };
+  fetched = false;
+  fields = [];
+  name = name.Cell 0;
   few = omega arith;
   null_past = AreNullFrom-none 0;
 }

@@ -2,7 +2,7 @@
 use Rattle.std.proofs.Common.{◌≡◌, ◌<◌, ◌^◌, ◌==◌, Bool, true, false, if◌then◌else◌, IsSome, IsSomeAnd, ℕ, zero, suc}
 use Rattle.std.proofs.Common.{List, [], ◌∷◌, ◌++◌, length, get_or, set, Option, Some, None, slice_get, refl, sym, ◌∙◌}
 use Rattle.std.proofs.Common.{ap, subst, arith, length-set, length-append, replicate, ◌+◌, bit_or, bit_and, w64, ◌*◌}
-use Rattle.std.proofs.Common.{◌%◌, slice_set}
+use Rattle.std.proofs.Common.{◌%◌, ◌/◌, slice_set}
 use Rattle.std.proofs.lemmas.List.{set-get_or, get_or_default}
 use Rattle.std.proofs.lemmas.List.Elements.{All-set, All-push}
 use Rattle.std.proofs.lemmas.Nat.Bits.{bit_at_set_same, bit_at_set_other}
@@ -12,7 +12,7 @@ use Rattle.gz_names.specs.declared.numbers.Place.{Place}
 use Rattle.cell_bits.specs.declared.bits.Bits.{Bits}
 use Rattle.arena_table.specs.Cells.{CellState, state_of}
 use Rattle.arena_table.specs.Slots.{Arena, change_at, cell_at, cell_in, with_cell, with_field, taken_in, empty_arena}
-use Rattle.arena_table.specs.Stored.{arena_of, arenas_of, AreStored, IsHeadOf}
+use Rattle.arena_table.specs.Stored.{arena_of, arenas_of, slots_of, AreStored, IsHeadOf}
 use Rattle.arena_table.proofs.SlotBits.{length-slots_of, cell_in-slots_of, alloc_word_of-slots_of, slots_of-put}
 use Rattle.arena_table.proofs.SlotBits.{slots_of-change, slots_of-freed, slots_of-zero, bit_at-minus}
 use Rattle.arena_table.specs.declared.cells.Cell.{Cell}
@@ -170,6 +170,31 @@ arenas_of-field hs cs arenas p f value c cell d stored e lt slot chunk written =
       bits = h.bits;
       slots = slots;
     }) changed) ∙ ap (λ xs. change_at (with_field p.1 f value) xs p.0) e)
+
+-- a cell of a chunk is kept otherwise, but is the same
+slots_of-kept : (w : ℕ) (c : List Cell) (s : ℕ) (cell d : Cell) → s < length c
+    → state_of cell ≡ state_of (get_or c s d) → slots_of w (set c s cell) ≡ slots_of w c
+slots_of-kept w [] s cell d lt e = absurd (omega arith)
+slots_of-kept w (x ∷ c) zero cell d lt e =
+    ap (λ (y : CellState). (if w % 2 == 1 then Some y else None) ∷ slots_of (w / 2) c) e
+slots_of-kept w (x ∷ c) (suc s) cell d lt e =
+    ap (λ rest. (if w % 2 == 1 then Some (state_of x) else None) ∷ rest)
+    (slots_of-kept (w / 2) c s cell d (omega arith) e)
+
+pub arenas_of-kept : (hs : List Head) (cs : List (List Cell)) (a s : ℕ) (c : List Cell) (cell d : Cell)
+    → c ≡ get_or cs a c → s < length c → state_of cell ≡ state_of (get_or c s d)
+    → arenas_of hs (set cs a (set c s cell)) ≡ arenas_of hs cs
+arenas_of-kept [] cs a s c cell d chunk lt e = refl
+arenas_of-kept (h ∷ hs) [] a s c cell d chunk lt e = refl
+arenas_of-kept (h ∷ hs) (y ∷ cs) zero s c cell d chunk lt e =
+    ap (λ (slots : List (Option CellState)). record {
+      zone = h.zone;
+      is_out = h.is_out;
+      bits = h.bits;
+      slots = slots;
+    } ∷ arenas_of hs cs) (slots_of-kept h.alloc_word c s cell d lt e ∙ ap (slots_of h.alloc_word) chunk)
+arenas_of-kept (h ∷ hs) (y ∷ cs) (suc a) s c cell d chunk lt e =
+    ap (λ rest. arena_of h y ∷ rest) (arenas_of-kept hs cs a s c cell d chunk lt e)
 
 -- an arena is changed in its head alone
 pub arenas_of-headed : (hs : List Head) (cs : List (List Cell)) (arenas : List Arena) (i : ℕ) (h k : Head)

@@ -24,13 +24,13 @@ IsUniting-none sets zones at = record {
   complete = λ k z lt h bit. inl h;
 }
 
-HasZone-rest : (left z : ℕ) → 0 < left → left < 2 ^ 64 → HasZone left z → z ≢ trailing_zeros w64 left
+pub HasZone-rest : (left z : ℕ) → 0 < left → left < 2 ^ 64 → HasZone left z → z ≢ trailing_zeros w64 left
     → HasZone (bit_and left (left - 1)) z
 unfolding HasZone
 HasZone-rest left z some fits h n =
     (h.0, bit_at-rest left z some fits ∙ (if_other z (trailing_zeros w64 left) 0 (bit_at left z) n ∙ h.1))
 
-HasZone-of_rest : (left z : ℕ) → 0 < left → left < 2 ^ 64 → HasZone (bit_and left (left - 1)) z → HasZone left z
+pub HasZone-of_rest : (left z : ℕ) → 0 < left → left < 2 ^ 64 → HasZone (bit_and left (left - 1)) z → HasZone left z
 unfolding HasZone
 HasZone-of_rest left z some fits h = elim (cases_eq z (trailing_zeros w64 left)) [
   | inl e ↦ absurd (let none = bit_at-rest left z some fits ∙ if_same z (trailing_zeros w64 left) 0 (bit_at left z) e in
@@ -42,7 +42,7 @@ HasZone-of_rest left z some fits h = elim (cases_eq z (trailing_zeros w64 left))
   )
 ]
 
-HasZone-lowest : (left : ℕ) → 0 < left → left < 2 ^ 64 → HasZone left (trailing_zeros w64 left)
+pub HasZone-lowest : (left : ℕ) → 0 < left → left < 2 ^ 64 → HasZone left (trailing_zeros w64 left)
 unfolding HasZone
 HasZone-lowest left some fits = (let t = bit_at-trailing_zeros w64 left some fits in (t.0, t.1))
 

@@ -11,7 +11,7 @@ use Rattle.cell_bits.specs.declared.jobs.Job.{Job}
 use Rattle.arena_table.specs.Cells.{CellState, field_count}
 use Rattle.arena_table.specs.Slots.{Arena, change_at, empty_arena, with_cell, alloc_word_of, held_by, bit_of, is_out_at}
 use Rattle.arena_table.specs.Sets.{arena_bit}
-use Rattle.mark_stack.specs.Stack.{Piles}
+use Rattle.mark_stack.specs.Stack.{Piles, no_places}
 use Rattle.arena_table.specs.Delayed.{AreCovered, DelayedSets}
 use Rattle.arena_table.specs.Stored.{StoreState}
 use Rattle.arena_table.specs.Indexed.{IndexState, IsIndexed, words_at, in_zones}
@@ -26,6 +26,10 @@ pub record ArenasState : Type 0 where
   pub made : ℕ
   pub reserved : Option Reserved
   pub delayed : Piles
+
+-- no arenas
+abbrev pub no_arenas : ArenasState
+no_arenas = record { arenas = []; made = 0; reserved = None; delayed = no_places }
 
 -- a cell whose fields are null
 abbrev pub new_cell : Kind → CompNo → Name → CellState

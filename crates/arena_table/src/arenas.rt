@@ -2,7 +2,7 @@
 ghost use Rattle.std.specs.Prelude.{◌≡◌, ◌≢◌, ◌≤◌, ◌<◌, ◌+◌, ◌*◌, ◌==◌, ◌&&◌, [], ℕ, Bool, true, false, IsSome};
 ghost use Rattle.std.specs.Prelude.{IsSomeAnd, Some, None, Contains, length, replicate, slice_get, slice_set, IfOk};
 ghost use Rattle.std.specs.Prelude.{OnOk, OnErr};
-ghost use Rattle.std.specs.Prelude.{IfSome, IfNone, is_some, if◌then◌else◌};
+ghost use Rattle.std.specs.Prelude.{IfSome, IfNone, MatchBool, is_some, if◌then◌else◌};
 ghost use Rattle.std.specs.Int.{bit_at};
 ghost use Rattle.std.specs.Option.{ForSome, option_map};
 ghost use Rattle.gz_names.specs.declared.numbers.Place.{Place};
@@ -231,6 +231,16 @@ impl Arenas {
         self.store.set_field(place, f, v);
     }
 
+    /// Has the memory of a cell fetched that is soon read. It waits for nothing and changes nothing: the
+    /// processor keeps the write back until the memory is there, and goes on.
+    #[inline(always)]
+    pub fn fetch(&mut self, place: Place)
+        requires { place.0 < length self.old.arenas }
+        ensures { self.new ≡ self.old }
+    {
+        self.store.fetch(place);
+    }
+
     /// The mark bits of an arena.
     pub fn bits(&self, arena: u32) -> Bits
         requires { arena < length self.now.arenas }
@@ -362,6 +372,15 @@ impl Arenas {
         ensures rest { self.new ≡ record self.old { delayed = self.new.delayed } }
     {
         self.delayed.insert(pile, place);
+    }
+
+    /// Whether a cell is delayed for a pile.
+    #[inline(always)]
+    pub fn has_delayed(&self, pile: Pile) -> bool
+        ensures { MatchBool result (pile_of self.now.delayed pile ≢ [])
+            (pile_of self.now.delayed pile ≡ []) }
+    {
+        !self.delayed.is_empty(pile)
     }
 
     /// Takes a cell that is delayed for a pile; `None` exactly where none is. It costs what it finds.

@@ -16,23 +16,27 @@ pub(crate) struct Link {
     pub position: u32,
 }
 
-/// A cell as it is kept, in 56 bytes. Links past the fields that its kind has are null.
+/// A cell as it is kept, in 56 bytes. Links past the fields that its kind has are null. What marking
+/// reads stands first.
 #[derive(Clone, Copy)]
 pub(crate) struct Cell {
-    pub name: Name,
-    pub fields: [Link; 8],
     pub kind: Kind,
     pub comp: CompNo,
+    /// Written to fetch the cell, and never read.
+    pub fetched: bool,
+    pub fields: [Link; 8],
+    pub name: Name,
     ghost few: { field_count kind ≤ 8 },
     ghost null_past: { AreNullFrom (field_count kind) fields },
 }
 
 /// What stands in a slot that holds no cell.
 pub(crate) const NO_CELL: Cell = Cell {
-    name: Name::Cell(0),
-    fields: [Link { position: 0 }; 8],
     kind: Kind::Map,
     comp: CompNo(0),
+    fetched: false,
+    fields: [Link { position: 0 }; 8],
+    name: Name::Cell(0),
 };
 
 impl Link {
@@ -88,10 +92,11 @@ impl Cell {
         } }
     {
         Cell {
-            name,
-            fields: [Link { position: 0 }; 8],
             kind,
             comp,
+            fetched: false,
+            fields: [Link { position: 0 }; 8],
+            name,
         }
     }
 

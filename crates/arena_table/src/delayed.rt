@@ -1,6 +1,6 @@
 // Cells for which a full pile of the mark stack had no room.
 ghost use Rattle.std.specs.Prelude.{◌≡◌, ◌≢◌, ◌≤◌, ◌<◌, ◌+◌, ◌*◌, ◌==◌, ◌∷◌, ℕ, [], Contains, length, max, OnOk};
-ghost use Rattle.std.specs.Prelude.{IfSome, IfNone, if◌then◌else◌};
+ghost use Rattle.std.specs.Prelude.{IfSome, IfNone, MatchBool, if◌then◌else◌};
 ghost use Rattle.std.specs.List.Sorted.{IsPermutation};
 ghost use Rattle.mark_stack.specs.Stack.{IsPushed, no_places, pile_of};
 ghost use Rattle.arena_table.specs.Sets.{arena_bit};
@@ -86,6 +86,14 @@ impl CellSet {
         self.take_lowest()
     }
 
+    /// Whether the set has no cells.
+    #[inline(always)]
+    fn is_empty(&self) -> bool
+        ensures { MatchBool result (self.now.places ≡ []) (self.now.places ≢ []) }
+    {
+        self.count == 0
+    }
+
     // Takes the cell at the lowest place out; `None` exactly where there is none.
     #[cold]
     #[inline(never)]
@@ -159,6 +167,19 @@ impl Delayed {
             Pile::Black => self.black.insert(place),
             Pile::Gray => self.gray.insert(place),
             Pile::Wake => self.wake.insert(place),
+        }
+    }
+
+    /// Whether no cell is delayed for a pile.
+    #[inline(always)]
+    pub fn is_empty(&self, pile: Pile) -> bool
+        ensures { MatchBool result (pile_of (delayed_of self.now) pile ≡ [])
+            (pile_of (delayed_of self.now) pile ≢ []) }
+    {
+        match pile {
+            Pile::Black => self.black.is_empty(),
+            Pile::Gray => self.gray.is_empty(),
+            Pile::Wake => self.wake.is_empty(),
         }
     }
 

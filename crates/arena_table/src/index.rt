@@ -166,10 +166,10 @@ fn clear_sets(sets: &mut [ArenaSet], zones: u64)
     ensures room { (z : ℕ) → length (words_at sets.new z) ≡ length (words_at sets.old z) }
     ensures others { (z : ℕ) → ¬ HasZone zones z → words_at sets.new z ≡ words_at sets.old z }
 {
-    for zone in 0..64u8 {
-        if (zones >> zone) & 1 == 1 {
-            sets[zone as usize].clear();
-        }
+    let mut left = zones;
+    while left != 0 {
+        sets[left.trailing_zeros() as usize].clear();
+        left &= left - 1;
     }
 }
 

@@ -10,6 +10,10 @@ use gz_names::{Names64, Place, ZoneNo};
 use std::alloc::{AllocError, Global};
 use std::marker::Model;
 
+// For so many arenas memory is taken at first. Their cells take 224 kilobytes, which the C library maps: a page of
+// them takes no memory before it is written, and as there are more arenas, pages are moved and no cell is copied.
+const FIRST_ARENAS: usize = 64;
+
 /// An arena without its cells.
 #[derive(Drop)]
 pub(crate) struct Head {
@@ -71,8 +75,13 @@ impl Store {
         ensures kept { self.old.room ≤ self.new.room }
         ensures same { self.new.arenas ≡ self.old.arenas }
     {
-        self.heads.reserve(1)?;
-        self.chunks.reserve(1)?;
+        let more = if self.heads.is_empty() {
+            FIRST_ARENAS
+        } else {
+            1
+        };
+        self.heads.reserve(more)?;
+        self.chunks.reserve(more)?;
         Ok(())
     }
 
@@ -132,6 +141,15 @@ impl Store {
     {
         let cell = &mut self.chunks[place.arena() as usize][place.slot() as usize];
         cell.set_field(f, value);
+    }
+
+    /// Has the memory of a slot fetched, without waiting for it.
+    #[inline(always)]
+    pub fn fetch(&mut self, place: Place)
+        requires { place.0 < length self.old.arenas }
+        ensures { self.new ≡ self.old }
+    {
+        self.chunks[place.arena() as usize][place.slot() as usize].fetched = true;
     }
 
     /// An arena takes mark bits.
