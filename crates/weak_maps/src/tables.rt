@@ -280,197 +280,235 @@ impl WeakMaps {
 #[cfg(test)]
 mod tests {
     use super::*;
-    use std::test::Fail;
 
-    // An entry, as it is told.
-    type Parts = (Place, Place, Place);
-
-    // The entries by calls without clauses: a test looks at what they answer.
-    #[derive(Drop)]
-    struct Entries {
-        weak: WeakMaps,
+    // A call on the table. Places are given by numbers: 0 is a map, others are keys.
+    #[derive(Clone, Copy)]
+    enum Call {
+        Put(u8, u8, u8),
+        Del(u8, u8),
+        Find(u8, u8),
+        // Drops the entries that name a place of an arena.
+        DropArena(u32),
+        // The entry of an index in the table, of a map, and of a key.
+        Entry(u64),
+        OfMap(u8, u64),
+        OfKey(u8, u64),
+        Start(MarkColour, u8),
+        Next(MarkColour),
     }
 
-    impl Entries {
-        fn new(alloc: Global) -> Self {
-            Entries {
-                weak: WeakMaps::new(alloc),
+    // What a call answers: a value, an entry, how many entries stay.
+    #[derive(Clone, Copy, Debug, PartialEq, Eq)]
+    enum Answer {
+        Value(Option<u8>),
+        Entry(Option<(u8, u8, u8)>),
+        Count(u64),
+        Done,
+        NoMemory,
+    }
+
+    // A call, and what it is to answer.
+    type Line = (Call, Answer);
+
+    const MAP: u8 = 0;
+
+    const KEY: u8 = 63;
+
+    const NO_ENTRY: Answer = Answer::Entry(None);
+
+    const BLACK: Call = Call::Next(MarkColour::Black);
+
+    const GRAY: Call = Call::Next(MarkColour::Gray);
+
+    const PUTS: [Line; 4] = [
+        (Call::Put(MAP, KEY, KEY), Answer::Value(None)),
+        (Call::Put(MAP, KEY, MAP), Answer::Value(Some(KEY))),
+        (Call::Find(MAP, KEY), Answer::Value(Some(MAP))),
+        (Call::Find(KEY, MAP), Answer::Value(None)),
+    ];
+
+    const LISTS: [Line; 5] = [
+        (Call::Put(MAP, KEY, MAP), Answer::Value(None)),
+        (Call::Entry(0), Answer::Entry(Some((MAP, KEY, MAP)))),
+        (Call::OfMap(MAP, 0), Answer::Entry(Some((MAP, KEY, MAP)))),
+        (Call::OfKey(KEY, 0), Answer::Entry(Some((MAP, KEY, MAP)))),
+        (Call::OfKey(KEY, 1), NO_ENTRY),
+    ];
+
+    const DELETES: [Line; 3] = [
+        (Call::Put(MAP, KEY, MAP), Answer::Value(None)),
+        (Call::Del(MAP, KEY), Answer::Value(Some(MAP))),
+        (Call::Del(MAP, KEY), Answer::Value(None)),
+    ];
+
+    const DROPS: [Line; 6] = [
+        (Call::Put(MAP, KEY, MAP), Answer::Value(None)),
+        (Call::Put(MAP, MAP, MAP), Answer::Value(None)),
+        (Call::DropArena(2), Answer::Count(1)),
+        (Call::Entry(0), Answer::Entry(Some((MAP, MAP, MAP)))),
+        (Call::OfMap(MAP, 0), Answer::Entry(Some((MAP, MAP, MAP)))),
+        (Call::OfKey(MAP, 0), Answer::Entry(Some((MAP, MAP, MAP)))),
+    ];
+
+    const LOOKS: [Line; 8] = [
+        (Call::Put(MAP, KEY, MAP), Answer::Value(None)),
+        (BLACK, NO_ENTRY),
+        (Call::Start(MarkColour::Black, MAP), Answer::Done),
+        (Call::Start(MarkColour::Black, KEY), Answer::Done),
+        (GRAY, NO_ENTRY),
+        (BLACK, Answer::Entry(Some((MAP, KEY, MAP)))),
+        (BLACK, Answer::Entry(Some((MAP, KEY, MAP)))),
+        (BLACK, NO_ENTRY),
+    ];
+
+    const GOES_ON: [Line; 8] = [
+        (Call::Put(MAP, 1, MAP), Answer::Value(None)),
+        (Call::Put(MAP, 2, MAP), Answer::Value(None)),
+        (Call::Start(MarkColour::Gray, MAP), Answer::Done),
+        (Call::Put(MAP, 3, MAP), Answer::Value(None)),
+        (GRAY, Answer::Entry(Some((MAP, 2, MAP)))),
+        (Call::Del(MAP, 2), Answer::Value(Some(MAP))),
+        (GRAY, Answer::Entry(Some((MAP, 1, MAP)))),
+        (GRAY, NO_ENTRY),
+    ];
+
+    const WENT: [Line; 6] = [
+        (Call::Put(MAP, 1, MAP), Answer::Value(None)),
+        (Call::Put(MAP, 2, MAP), Answer::Value(None)),
+        (Call::Start(MarkColour::Gray, MAP), Answer::Done),
+        (Call::Del(MAP, 1), Answer::Value(Some(MAP))),
+        (GRAY, Answer::Entry(Some((MAP, 2, MAP)))),
+        (GRAY, NO_ENTRY),
+    ];
+
+    const COLOURS: [Line; 7] = [
+        (Call::Put(MAP, KEY, MAP), Answer::Value(None)),
+        (Call::Start(MarkColour::Gray, MAP), Answer::Done),
+        (Call::Start(MarkColour::Black, MAP), Answer::Done),
+        (Call::Start(MarkColour::Gray, MAP), Answer::Done),
+        (GRAY, NO_ENTRY),
+        (BLACK, Answer::Entry(Some((MAP, KEY, MAP)))),
+        (GRAY, NO_ENTRY),
+    ];
+
+    fn place(number: u8) -> Place {
+        if number == 0 {
+            Place::new(1, 0).unwrap()
+        } else {
+            Place::new(2, number % 64).unwrap()
+        }
+    }
+
+    // The number of a place; 64 where it has none.
+    fn number(found: Place) -> u8 {
+        if found == place(found.slot()) {
+            found.slot()
+        } else {
+            64
+        }
+    }
+
+    fn value_in(found: Option<Place>) -> Answer {
+        match found {
+            Some(value) => Answer::Value(Some(number(value))),
+            None => Answer::Value(None),
+        }
+    }
+
+    fn entry_in(found: Option<(Place, Place, Place)>) -> Answer {
+        match found {
+            Some((map, key, value)) => {
+                Answer::Entry(Some((number(map), number(key), number(value))))
+            }
+            None => NO_ENTRY,
+        }
+    }
+
+    fn put(weak: &mut WeakMaps, map: Place, key: Place, value: Place) -> Answer {
+        match weak.put(map, key, value) {
+            Ok(old) => value_in(old),
+            Err(_) => Answer::NoMemory,
+        }
+    }
+
+    fn drop_arena(weak: &mut WeakMaps, arena: u32) -> Answer {
+        weak.drop_dead(|place: Place| place.arena() == arena);
+        Answer::Count(weak.count())
+    }
+
+    fn start(weak: &mut WeakMaps, colour: MarkColour, place: Place) -> Answer {
+        weak.start(colour, place);
+        Answer::Done
+    }
+
+    fn answer_to(weak: &mut WeakMaps, call: Call) -> Answer {
+        match call {
+            Call::Put(map, key, value) => put(weak, place(map), place(key), place(value)),
+            Call::Del(map, key) => value_in(weak.del(place(map), place(key))),
+            Call::Find(map, key) => value_in(weak.find(place(map), place(key))),
+            Call::DropArena(arena) => drop_arena(weak, arena),
+            Call::Entry(index) => entry_in(weak.entry(index)),
+            Call::OfMap(map, index) => entry_in(weak.entries_of_map(place(map), index)),
+            Call::OfKey(key, index) => entry_in(weak.entries_of_key(place(key), index)),
+            Call::Start(colour, at) => start(weak, colour, place(at)),
+            Call::Next(colour) => entry_in(weak.next_left(colour)),
+        }
+    }
+
+    // The first call that is answered otherwise, by its place, and its answer.
+    fn first_wrong_in(weak: &mut WeakMaps, lines: &[Line]) -> Option<(usize, Answer)> {
+        for (at, line) in lines.iter().enumerate() {
+            let answer = answer_to(weak, line.0);
+            if answer != line.1 {
+                return Some((at, answer));
             }
         }
+        None
+    }
 
-        fn put(&mut self, map: Place, key: Place, value: Place) -> Result<Option<Place>, NoMemory> {
-            self.weak.put(map, key, value)
-        }
-
-        fn del(&mut self, map: Place, key: Place) -> Option<Place> {
-            self.weak.del(map, key)
-        }
-
-        fn find(&self, map: Place, key: Place) -> Option<Place> {
-            self.weak.find(map, key)
-        }
-
-        // The first entry in the table, of a map, and of a key.
-        fn first(&self, map: Place, key: Place) -> (Option<Parts>, Option<Parts>, Option<Parts>) {
-            (
-                self.weak.entry(0),
-                self.weak.entries_of_map(map, 0),
-                self.weak.entries_of_key(key, 0),
-            )
-        }
-
-        // The second entry of a key.
-        fn second(&self, key: Place) -> Option<Parts> {
-            self.weak.entries_of_key(key, 1)
-        }
-
-        // Drops the entries that name a place of an arena, and answers how many stay.
-        fn drop_arena(&mut self, arena: u32) -> u64 {
-            self.weak.drop_dead(|place: Place| place.arena() == arena);
-            self.weak.count()
-        }
-
-        fn start(&mut self, colour: MarkColour, place: Place) {
-            self.weak.start(colour, place);
-        }
-
-        fn next_black(&mut self) -> Option<Parts> {
-            self.weak.next_left(MarkColour::Black)
-        }
-
-        fn next_gray(&mut self) -> Option<Parts> {
-            self.weak.next_left(MarkColour::Gray)
-        }
+    // The same of a table without entries.
+    fn first_wrong(alloc: Global, lines: &[Line]) -> Option<(usize, Answer)> {
+        let mut weak = WeakMaps::new(alloc);
+        first_wrong_in(&mut weak, lines)
     }
 
     #[test]
-    fn puts_and_finds(rt: HostRuntime) -> Result<(), Fail> {
-        let map = Place::new(1, 0).ok_or("map")?;
-        let key = Place::new(2, 63).ok_or("key")?;
-        let mut entries = Entries::new(rt.alloc());
-        let put = (entries.put(map, key, key)?, entries.put(map, key, map)?);
-        assert_eq!(rt; put, (None, Some(key)));
-        let found = (entries.find(map, key), entries.find(key, map));
-        assert_eq!(rt; found, (Some(map), None));
-        Ok(())
+    fn puts_and_finds(rt: HostRuntime) {
+        assert_eq!(rt; first_wrong(rt.alloc(), PUTS.as_slice()), None);
     }
 
     #[test]
-    fn lists(rt: HostRuntime) -> Result<(), Fail> {
-        let map = Place::new(1, 0).ok_or("map")?;
-        let key = Place::new(2, 63).ok_or("key")?;
-        let mut entries = Entries::new(rt.alloc());
-        entries.put(map, key, map)?;
-        assert_eq!(rt;
-            entries.first(map, key),
-            (
-                Some((map, key, map)),
-                Some((map, key, map)),
-                Some((map, key, map))
-            )
-        );
-        assert_eq!(rt; entries.second(key), None);
-        Ok(())
+    fn lists(rt: HostRuntime) {
+        assert_eq!(rt; first_wrong(rt.alloc(), LISTS.as_slice()), None);
     }
 
     #[test]
-    fn deletes(rt: HostRuntime) -> Result<(), Fail> {
-        let map = Place::new(1, 0).ok_or("map")?;
-        let key = Place::new(2, 63).ok_or("key")?;
-        let mut entries = Entries::new(rt.alloc());
-        entries.put(map, key, map)?;
-        let gone = (entries.del(map, key), entries.del(map, key));
-        assert_eq!(rt; gone, (Some(map), None));
-        Ok(())
+    fn deletes(rt: HostRuntime) {
+        assert_eq!(rt; first_wrong(rt.alloc(), DELETES.as_slice()), None);
     }
 
     #[test]
-    fn drops_the_dead(rt: HostRuntime) -> Result<(), Fail> {
-        let map = Place::new(1, 0).ok_or("map")?;
-        let key = Place::new(2, 63).ok_or("key")?;
-        let mut entries = Entries::new(rt.alloc());
-        entries.put(map, key, map)?;
-        entries.put(map, map, map)?;
-        assert_eq!(rt; entries.drop_arena(2), 1);
-        assert_eq!(rt;
-            entries.first(map, map),
-            (
-                Some((map, map, map)),
-                Some((map, map, map)),
-                Some((map, map, map))
-            )
-        );
-        Ok(())
+    fn drops_the_dead(rt: HostRuntime) {
+        assert_eq!(rt; first_wrong(rt.alloc(), DROPS.as_slice()), None);
     }
 
     #[test]
-    fn looks_once_for_map_and_once_for_key(rt: HostRuntime) -> Result<(), Fail> {
-        let map = Place::new(1, 0).ok_or("map")?;
-        let key = Place::new(2, 63).ok_or("key")?;
-        let mut entries = Entries::new(rt.alloc());
-        entries.put(map, key, map)?;
-        let before = entries.next_black();
-        entries.start(MarkColour::Black, map);
-        entries.start(MarkColour::Black, key);
-        let gray = entries.next_gray();
-        assert_eq!(rt; (before, gray), (None, None));
-        let black = (entries.next_black(), entries.next_black());
-        assert_eq!(rt; black, (Some((map, key, map)), Some((map, key, map))));
-        assert_eq!(rt; entries.next_black(), None);
-        Ok(())
+    fn looks_once_for_map_and_once_for_key(rt: HostRuntime) {
+        assert_eq!(rt; first_wrong(rt.alloc(), LOOKS.as_slice()), None);
     }
 
     #[test]
-    fn keeps_what_is_left_as_entries_go(rt: HostRuntime) -> Result<(), Fail> {
-        let map = Place::new(1, 0).ok_or("map")?;
-        let first = Place::new(2, 1).ok_or("first")?;
-        let second = Place::new(2, 2).ok_or("second")?;
-        let third = Place::new(2, 3).ok_or("third")?;
-        let mut entries = Entries::new(rt.alloc());
-        entries.put(map, first, map)?;
-        entries.put(map, second, map)?;
-        entries.start(MarkColour::Gray, map);
-        entries.put(map, third, map)?;
-        let last = entries.next_gray();
-        entries.del(map, second);
-        let rest = [entries.next_gray(), entries.next_gray()];
-        assert_eq!(rt;
-            (last, rest),
-            (Some((map, second, map)), [Some((map, first, map)), None])
-        );
-        Ok(())
+    fn keeps_what_is_left_as_entries_go(rt: HostRuntime) {
+        assert_eq!(rt; first_wrong(rt.alloc(), GOES_ON.as_slice()), None);
     }
 
     #[test]
-    fn an_entry_that_went_is_not_looked_at(rt: HostRuntime) -> Result<(), Fail> {
-        let map = Place::new(1, 0).ok_or("map")?;
-        let first = Place::new(2, 1).ok_or("first")?;
-        let second = Place::new(2, 2).ok_or("second")?;
-        let mut entries = Entries::new(rt.alloc());
-        entries.put(map, first, map)?;
-        entries.put(map, second, map)?;
-        entries.start(MarkColour::Gray, map);
-        entries.del(map, first);
-        let left = [entries.next_gray(), entries.next_gray()];
-        assert_eq!(rt; left, [Some((map, second, map)), None]);
-        Ok(())
+    fn an_entry_that_went_is_not_looked_at(rt: HostRuntime) {
+        assert_eq!(rt; first_wrong(rt.alloc(), WENT.as_slice()), None);
     }
 
     #[test]
-    fn black_comes_before_gray(rt: HostRuntime) -> Result<(), Fail> {
-        let map = Place::new(1, 0).ok_or("map")?;
-        let key = Place::new(2, 63).ok_or("key")?;
-        let mut entries = Entries::new(rt.alloc());
-        entries.put(map, key, map)?;
-        entries.start(MarkColour::Gray, map);
-        entries.start(MarkColour::Black, map);
-        entries.start(MarkColour::Gray, map);
-        let left = [
-            entries.next_gray(),
-            entries.next_black(),
-            entries.next_gray(),
-        ];
-        assert_eq!(rt; left, [None, Some((map, key, map)), None]);
-        Ok(())
+    fn black_comes_before_gray(rt: HostRuntime) {
+        assert_eq!(rt; first_wrong(rt.alloc(), COLOURS.as_slice()), None);
     }
 }
