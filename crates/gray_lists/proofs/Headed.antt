@@ -1,9 +1,10 @@
 -- The set of compartments for which wrappers wait.
 use Rattle.std.proofs.Common.{◌≡◌, ◌≢◌, ◌<◌, ◌≤◌, ◌+◌, ◌*◌, ◌/◌, ◌%◌, ◌^◌, ◌-◌, ◌⊎◌, ◌↔◌, inl, inr, ℕ, zero, suc, List}
 use Rattle.std.proofs.Common.{[], ◌∷◌, Option, Some, None, length, set, get_or, get_or-set_same, get_or-set_other}
-use Rattle.std.proofs.Common.{replicate, refl, IfSome, IfNone, sym, ◌∙◌, ap, subst, arith, bit_and}
+use Rattle.std.proofs.Common.{replicate, refl, IfSome, IfNone, sym, ◌∙◌, ap, subst, arith, bit_and, bit_or}
 use Rattle.std.proofs.lemmas.List.{get_or-replicate, get_or_past, length-map, length-replicate}
 use Rattle.std.proofs.lemmas.Bool.{cases_eq, cases_lt}
+use Rattle.std.proofs.lemmas.Nat.{le_or_l, le_or_r}
 use Rattle.std.specs.Int.{bit_at}
 use Rattle.std.proofs.lemmas.Nat.Bits.{bit_at-lt, bit_at_and, bit_at_mask_below, bit_at_mask_inside, ones_shl}
 use Rattle.gz_names.specs.Zones.{HasZone}
@@ -73,6 +74,29 @@ HasComp-less words k word h is c = elim (cases_eq (c / 64) (k / 64)) [
 pub HasComp-past : (words : List ℕ) (c : ℕ) → length words ≡ 4 → 256 ≤ c → HasComp words c → ⊥
 HasComp-past words c h far x =
     HasZone-none (c % 64) (subst (λ v. HasZone v (c % 64)) (get_or_past words (c / 64) 0 (omega arith)) x)
+
+-- nor is it where no word has a bit
+pub HasComp-zeros : (words : List ℕ) (c : ℕ) → length words ≡ 4
+    → bit_or (bit_or (bit_or (get_or words 0 0) (get_or words 1 0)) (get_or words 2 0)) (get_or words 3 0) ≡ 0
+    → HasComp words c → ⊥
+HasComp-zeros words c long none x =
+    HasZone-none (c % 64) (subst (λ v. HasZone v (c % 64)) (zeros (c / 64)) x)
+  where
+    two : ℕ
+    two = bit_or (get_or words 0 0) (get_or words 1 0)
+
+    three : ℕ
+    three = bit_or two (get_or words 2 0)
+
+    zeros : (n : ℕ) → get_or words n 0 ≡ 0
+    zeros zero = (let a = le_or_l (get_or words 0 0) (get_or words 1 0) in let b = le_or_l two (get_or words 2 0) in
+        let d = le_or_l three (get_or words 3 0) in omega (arith, none))
+    zeros (suc zero) = (let a = le_or_r (get_or words 0 0) (get_or words 1 0) in
+        let b = le_or_l two (get_or words 2 0) in let d = le_or_l three (get_or words 3 0) in omega (arith, none))
+    zeros (suc (suc zero)) = (let b = le_or_r two (get_or words 2 0) in
+        let d = le_or_l three (get_or words 3 0) in omega (arith, none))
+    zeros (suc (suc (suc zero))) = (let d = le_or_r three (get_or words 3 0) in omega (arith, none))
+    zeros (suc (suc (suc (suc n)))) = get_or_past words (suc (suc (suc (suc n)))) 0 (omega (arith, long))
 
 -- no compartment is in a set whose words are 0
 pub HasComp-empty : (c : ℕ) → HasComp (0 ∷ 0 ∷ 0 ∷ 0 ∷ []) c → ⊥

@@ -37,6 +37,13 @@ impl CompSet {
         self.words[at] = without_bit(self.words[at], comp.0 % 64);
     }
 
+    // Whether no compartment is in the set.
+    fn is_empty(&self) -> bool
+        ensures { IsTrue result → (c : ℕ) → HasComp self.now.words c → ⊥ }
+    {
+        self.words[0] | self.words[1] | self.words[2] | self.words[3] == 0
+    }
+
     // The lowest compartment from a number on. It looks at four words at most.
     pub(crate) fn first_from(&self, from: u16) -> Option<CompNo>
         ensures some { IfSome result (λ c. (from ≤ c.0) × HasComp self.now.words c.0) }
@@ -44,6 +51,9 @@ impl CompSet {
             (λ c. (n : ℕ) → from ≤ n → n < c.0 → HasComp self.now.words n → ⊥) }
         ensures none { IfNone result ((n : ℕ) → from ≤ n → HasComp self.now.words n → ⊥) }
     {
+        if self.is_empty() {
+            return None;
+        }
         if from >= 256 {
             return None;
         }
