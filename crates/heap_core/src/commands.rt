@@ -236,7 +236,8 @@ impl Heap {
 #[cfg(test)]
 mod tests {
     use super::*;
-    use gz_names::{CompNo, GrayNo, Name, Place, Refusal, Reg, ZoneNo};
+    use gz_names::{CompNo, GrayNo, Name, NoMemory, Place, Refusal, Reg, ZoneNo};
+    use std::alloc::Global;
     use std::test::Fail;
 
     // The words of a trace; `Clear` is `set` with null.
@@ -469,7 +470,7 @@ mod tests {
     }
 
     // The first line that is answered otherwise, by its place, and its answer.
-    fn first_wrong(heap: &mut Heap, lines: &[Line]) -> Option<(usize, Answer)>
+    fn first_wrong_in(heap: &mut Heap, lines: &[Line]) -> Option<(usize, Answer)>
         requires { IsSound heap.old }
         ensures { IsSound heap.new }
     {
@@ -480,6 +481,12 @@ mod tests {
             }
         }
         None
+    }
+
+    // The same of a heap that has answered nothing yet.
+    fn first_wrong(alloc: Global, lines: &[Line]) -> Result<Option<(usize, Answer)>, NoMemory> {
+        let mut heap = Heap::new(alloc)?;
+        Ok(first_wrong_in(&mut heap, lines))
     }
 
     // How many zones are made, and answered with their numbers from 0, before another answer.
@@ -530,60 +537,86 @@ mod tests {
 
     #[test]
     fn refuses_in_order(rt: HostRuntime) -> Result<(), Fail> {
-        let mut heap = Heap::new(rt.alloc())?;
-        assert_eq!(rt; first_wrong(&mut heap, REFUSALS.as_slice()), None);
+        assert_eq!(rt; first_wrong(rt.alloc(), REFUSALS.as_slice())?, None);
         Ok(())
     }
 
     #[test]
     fn answers_the_first_reason(rt: HostRuntime) -> Result<(), Fail> {
-        let mut heap = Heap::new(rt.alloc())?;
-        assert_eq!(rt; first_wrong(&mut heap, REASONS.as_slice()), None);
+        assert_eq!(rt; first_wrong(rt.alloc(), REASONS.as_slice())?, None);
         Ok(())
     }
 
     #[test]
     fn refuses_a_set_between_compartments_of_one_zone(rt: HostRuntime) -> Result<(), Fail> {
-        let mut heap = Heap::new(rt.alloc())?;
-        assert_eq!(rt; first_wrong(&mut heap, ONE_ZONE.as_slice()), None);
+        assert_eq!(rt; first_wrong(rt.alloc(), ONE_ZONE.as_slice())?, None);
         Ok(())
     }
 
     #[test]
     fn sees_other_compartments_through_wrappers(rt: HostRuntime) -> Result<(), Fail> {
-        let mut heap = Heap::new(rt.alloc())?;
-        assert_eq!(rt; first_wrong(&mut heap, WRAPPERS.as_slice()), None);
+        assert_eq!(rt; first_wrong(rt.alloc(), WRAPPERS.as_slice())?, None);
         Ok(())
+    }
+
+    // How many zones and compartments are made, and what one more is answered.
+    fn fill_in(heap: &mut Heap) -> [(u16, Answer); 2]
+        requires { IsSound heap.old }
+    {
+        let zones = (zones_made(heap), answer_of(heap, &GraphCmd::Zone));
+        let comps = comps_made(heap, zone(63));
+        [zones, (comps, answer_of(heap, &GraphCmd::Comp(zone(0))))]
+    }
+
+    fn fill(alloc: Global) -> Result<[(u16, Answer); 2], NoMemory> {
+        let mut heap = Heap::new(alloc)?;
+        Ok(fill_in(&mut heap))
     }
 
     #[test]
     fn makes_64_zones_and_256_compartments(rt: HostRuntime) -> Result<(), Fail> {
-        let mut heap = Heap::new(rt.alloc())?;
-        assert_eq!(rt; zones_made(&mut heap), 64);
-        assert_eq!(rt; answer_of(&mut heap, &GraphCmd::Zone), FULL);
-        assert_eq!(rt; comps_made(&mut heap, zone(63)), 256);
-        assert_eq!(rt; answer_of(&mut heap, &GraphCmd::Comp(zone(0))), FULL);
+        assert_eq!(rt; fill(rt.alloc())?, [(64, FULL), (256, FULL)]);
         Ok(())
+    }
+
+    // What the first two registers hold, what commands will change and hand out, and what they will wrap.
+    fn tell(heap: &Heap) -> [Option<Place>; 9]
+        requires { IsSound heap.now }
+    {
+        let (object, map, other) = (reg(0), reg(1), reg(2));
+        [
+            heap.reg(object),
+            heap.reg(map),
+            heap.old_of(&GraphCmd::Set(object, 0, None)),
+            heap.old_of(&GraphCmd::Set(object, 1, None)),
+            heap.old_of(&GraphCmd::Put(map, object, object)),
+            handed(heap, &GraphCmd::Get(other, object, 0)),
+            handed(heap, &GraphCmd::Find(other, map, object)),
+            wrapped(heap, &GraphCmd::Wrap(other, object, CompNo(0))),
+            wrapped(heap, &GraphCmd::Wrap(other, object, CompNo(9))),
+        ]
+    }
+
+    // The same after an object was made that names itself, and a map in which its value is the map.
+    fn make_entry(heap: &mut Heap) -> Option<[Option<Place>; 9]>
+        requires { IsSound heap.old }
+    {
+        if first_wrong_in(heap, ENTRIES.as_slice()).is_some() {
+            return None;
+        }
+        Some(tell(heap))
+    }
+
+    fn tell_of_entry(alloc: Global) -> Result<Option<[Option<Place>; 9]>, NoMemory> {
+        let mut heap = Heap::new(alloc)?;
+        Ok(make_entry(&mut heap))
     }
 
     #[test]
     fn tells_what_a_command_changes_and_hands_out(rt: HostRuntime) -> Result<(), Fail> {
-        let mut heap = Heap::new(rt.alloc())?;
-        assert_eq!(rt; first_wrong(&mut heap, ENTRIES.as_slice()), None);
-        let (object, map) = (heap.reg(reg(0)), heap.reg(reg(1)));
-        assert_eq!(rt; heap.old_of(&GraphCmd::Set(reg(0), 0, None)), object);
-        assert_eq!(rt; heap.old_of(&GraphCmd::Set(reg(0), 1, None)), None);
-        assert_eq!(rt; heap.old_of(&GraphCmd::Put(reg(1), reg(0), reg(0))), map);
-        assert_eq!(rt; handed(&heap, &GraphCmd::Get(reg(2), reg(0), 0)), object);
-        assert_eq!(rt; handed(&heap, &GraphCmd::Find(reg(2), reg(1), reg(0))), map);
-        assert_eq!(rt;
-            wrapped(&heap, &GraphCmd::Wrap(reg(2), reg(0), CompNo(0))),
-            object
-        );
-        assert_eq!(rt;
-            wrapped(&heap, &GraphCmd::Wrap(reg(2), reg(0), CompNo(9))),
-            None
-        );
+        let (object, map) = (Place::new(0, 0), Place::new(0, 1));
+        let wanted = [object, map, object, None, map, object, map, object, None];
+        assert_eq!(rt; tell_of_entry(rt.alloc())?, Some(wanted));
         Ok(())
     }
 }

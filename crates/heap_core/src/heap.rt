@@ -337,6 +337,24 @@ impl Heap {
         self.arenas.delay(pile, place);
     }
 
+    /// Has the memory of a cell fetched that is soon read. It waits for nothing and changes nothing.
+    #[inline(always)]
+    pub fn fetch(&mut self, place: Place)
+        requires { place.0 < length self.old.shape.arenas }
+        ensures { self.new ≡ self.old }
+    {
+        self.arenas.fetch(place);
+    }
+
+    /// Whether a cell is delayed for a pile.
+    #[inline(always)]
+    pub fn has_delayed(&self, pile: Pile) -> bool
+        ensures { MatchBool result (pile_of self.now.delayed pile ≢ [])
+            (pile_of self.now.delayed pile ≡ []) }
+    {
+        self.arenas.has_delayed(pile)
+    }
+
     /// Takes a cell that is delayed for a pile; `None` exactly where none is. It costs what it finds.
     #[inline(always)]
     pub fn next_delayed(&mut self, pile: Pile) -> Option<Place>

@@ -167,7 +167,20 @@ impl Came {
         }
         Ok(())
     }
+
+    fn has_each_refusal(&self) -> bool {
+        for why in REFUSALS {
+            if !self.refusals.contains(&why) {
+                return false;
+            }
+        }
+        true
+    }
 }
+
+// Whether all was the same, the kinds of command that were done and that were refused, whether that was
+// for each reason, and whether some cells were reached through others.
+type Told = (bool, [bool; 16], [bool; 16], bool, bool);
 
 // A heap and a graph that are given the same commands.
 #[derive(Drop)]
@@ -255,6 +268,14 @@ impl Both {
         }
         Ok(same)
     }
+
+    fn run_and_tell(&mut self, alloc: Global) -> Result<Told, NoMemory> {
+        let same = self.run::<Brand>(alloc, Blank::new(1))?;
+        let came = &self.came;
+        // More than the registers hold themselves.
+        let far = came.most > 8;
+        Ok((same, came.done, came.refused, came.has_each_refusal(), far))
+    }
 }
 
 // Whether two replies to commands on the graph are the same.
@@ -272,16 +293,17 @@ fn is_same(a: &Reply, b: &Reply) -> bool {
     }
 }
 
+// Runs a heap and a graph of its own, and tells what came.
+fn tell(alloc: Global) -> Result<Told, NoMemory> {
+    let mut both = Both::new(alloc)?;
+    both.run_and_tell(alloc)
+}
+
 #[test]
 fn the_heap_agrees_with_the_plain_step_and_closure(rt: HostRuntime) -> Result<(), Fail> {
-    let mut both = Both::new(rt.alloc())?;
-    assert!(rt; both.run::<Brand>(rt.alloc(), Blank::new(1))?);
-    assert_eq!(rt; both.came.done, [true; 16]);
-    assert_eq!(rt; both.came.refused, REFUSABLE);
-    for why in REFUSALS {
-        assert!(rt; both.came.refusals.contains(&why));
-    }
-    // More than the registers hold themselves.
-    assert!(rt; both.came.most > 8);
+    assert_eq!(rt;
+        tell(rt.alloc())?,
+        (true, [true; 16], REFUSABLE, true, true)
+    );
     Ok(())
 }
