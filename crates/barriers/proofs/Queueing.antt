@@ -1,5 +1,5 @@
 -- A cell becomes pending, or is pending no more: on a pile of the stack, or as one that is delayed for it.
-use Rattle.std.proofs.Common.{◌≡◌, ◌++◌, ◌∷◌, ◌<◌, ℕ, [], List, Option, Some, None, IfSome, IfNone, Contains}
+use Rattle.std.proofs.Common.{◌≡◌, ◌≢◌, ◌++◌, ◌∷◌, ◌<◌, ℕ, [], List, Option, Some, None, IfSome, IfNone, Contains}
 use Rattle.std.proofs.Common.{if◌then◌else◌, length, refl, sym, ap, ◌∙◌, subst}
 use Rattle.std.specs.List.Sorted.{IsPermutation}
 use Rattle.std.proofs.lemmas.List.Elements.{Contains-append_right}
@@ -24,6 +24,16 @@ pub pending_on : (h : HeapState) (p : Piles) (on : Pile)
 pending_on h p pile.Black = refl
 pending_on h p pile.Gray = refl
 pending_on h p pile.Wake = refl
+
+append_some : (xs ys : List Place) → xs ≢ [] → xs ++ ys ≢ []
+append_some [] ys some e = some refl
+append_some (x ∷ xs) ys some e = cc e
+
+-- what lies on the pile of the stack is pending
+pub pending_some : (h : HeapState) (p : Piles) (on : Pile) → pile_of p on ≢ [] → pile_of (pending h p) on ≢ []
+pending_some h p pile.Black some = append_some p.black h.delayed.black some
+pending_some h p pile.Gray some = append_some p.gray h.delayed.gray some
+pending_some h p pile.Wake some = append_some p.wake h.delayed.wake some
 
 right_more : (zs xs ys : List Place) (x : Place) → IsPermutation (x ∷ xs) ys → IsPermutation (x ∷ (zs ++ xs)) (zs ++ ys)
 right_more zs xs ys x e = IsPermutation-trans (x ∷ (zs ++ xs)) (zs ++ x ∷ xs) (zs ++ ys)

@@ -1,5 +1,5 @@
 // Cells that are pending.
-ghost use Rattle.std.specs.Prelude.{◌≡◌, ◌<◌, [], Contains, IfNone, IfSome, length};
+ghost use Rattle.std.specs.Prelude.{◌≡◌, ◌≢◌, ◌<◌, [], Contains, IfNone, IfSome, MatchBool, length};
 ghost use Rattle.mark_stack.specs.Stack.{IsPushed, pile_of};
 ghost use Rattle.barriers.specs.Pending.{pending};
 
@@ -8,7 +8,7 @@ use heap_core::Heap;
 use mark_stack::{Pile, Stack};
 
 /// A cell that is not pending on a pile becomes so: it goes on the pile, or is delayed where that is
-/// full.
+/// full. The memory of a cell on the pile is fetched while others are followed.
 #[inline(always)]
 pub fn queue(heap: &mut Heap, stack: &mut Stack, pile: Pile, place: Place)
     requires made { place.0 < length heap.old.shape.arenas }
@@ -16,9 +16,20 @@ pub fn queue(heap: &mut Heap, stack: &mut Stack, pile: Pile, place: Place)
     ensures more { IsPushed (pending heap.old stack.old) pile place (pending heap.new stack.new) }
     ensures rest { heap.new ≡ record heap.old { delayed = heap.new.delayed } }
 {
-    if !stack.push(pile, place) {
+    if stack.push(pile, place) {
+        heap.fetch(place);
+    } else {
         heap.delay(pile, place);
     }
+}
+
+/// Whether a cell is pending on a pile.
+#[inline(always)]
+pub fn has_pending(heap: &Heap, stack: &Stack, pile: Pile) -> bool
+    ensures { MatchBool result (pile_of (pending heap.now stack.now) pile ≢ [])
+        (pile_of (pending heap.now stack.now) pile ≡ []) }
+{
+    !stack.is_empty(pile) || heap.has_delayed(pile)
 }
 
 /// Takes one of the cells that are pending on a pile: off the pile, or else one that is delayed for it.
