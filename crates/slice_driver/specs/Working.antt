@@ -1,11 +1,13 @@
 -- What the steps of a unit do, and what they find done.
-use Rattle.std.specs.Prelude.{◌≡◌, ◌<◌, ◌≤◌, ◌+◌, ℕ, Bool, true, false, List, [], Option, None, Some, IsSome, slice_get}
+use Rattle.std.specs.Prelude.{◌≡◌, ◌↔◌, ◌<◌, ◌≤◌, ◌+◌, ℕ, Bool, true, false, List, [], Option, None, Some, IsSome}
+use Rattle.std.specs.Prelude.{is_some, if◌then◌else◌, slice_get}
 use Rattle.std.specs.Int.{bit_at}
 use Rattle.gz_names.specs.Zones.{HasZone}
 use Rattle.gz_names.specs.declared.numbers.Place.{Place}
 use Rattle.gz_names.specs.declared.replies.Report.{Report}
 use Rattle.gz_names.specs.declared.zone_sets.ZoneSet.{ZoneSet}
 use Rattle.cell_bits.specs.declared.bits.Bits.{Bits}
+use Rattle.cell_bits.specs.declared.jobs.Job.{Job}
 use Rattle.colour_defs.specs.World.{World}
 use Rattle.weak_maps.specs.WeakMaps.{NoneLeft}
 use Rattle.weak_maps.specs.declared.colours.MarkColour.TheVariants as mark
@@ -20,7 +22,8 @@ use Rattle.slice_driver.specs.UnitsToCome.{units_to_come}
 use Rattle.slice_driver.specs.Left.{units_left}
 use Rattle.slice_driver.specs.Quiet.{IsFormed}
 use Rattle.slice_driver.specs.Represents.{Represents}
-use Rattle.slice_driver.specs.Units.{DoesUnit, IsSound, KeepsFreedWords, is_group_end, reports_of}
+use Rattle.slice_driver.specs.Units.{AreJobs, DoesUnit, EndsColoured, HandsJobs, IsSound, KeepsFreedWords, flying_after}
+use Rattle.slice_driver.specs.Units.{is_group_end, jobs_at, reports_of}
 use Rattle.slice_driver.specs.declared.collector.Unit.{Unit}
 
 -- a unit with these reports was done, which hands out no arena and takes none in; the collection goes on, and less is
@@ -151,3 +154,29 @@ pub record DoesQuietUnits (n : ℕ) (c : CollectorState) (flown : ℕ → Option
   pub some : 0 < n → GoesOn c flown [] d flying
   pub less : units_left d flying + n ≤ units_left c flown
   pub to_come : units_to_come d flying + n ≤ units_to_come c flown
+
+-- what a unit reports, in a place that held something else: where it reports nothing, that stays
+abbrev pub place_of : Option Report → Option Report → Option Report
+place_of said before = if is_some said then said else before
+
+-- a unit of the grouping was done, and what it reports was put into its place
+pub record TellsGrouping (c : CollectorState) (before : Option Report) (reported : Bool) (d : CollectorState)
+    (now : Option Report) : Type 0 where
+  pub said : Option Report
+  pub reported_is : reported ≡ is_some said
+  pub now_is : now ≡ place_of said before
+  pub done : IsGroupingUnit c (record { report = said; handed = None; finished = false; due = None }) d
+
+-- the current group ended, whatever is in flight: a unit with this report was done, which handed these arenas to
+-- sweeping, and with which the collection is over or not
+pub record EndsGroup (handed : Option (List Job)) (over : Bool) (report : Option Report) (c d : CollectorState)
+    : Type 0 where
+  pub done : (flown : ℕ → Option Bits) → DoesUnit c flown (reports_of report over) d (flying_after handed flown)
+  pub handed_are : AreJobs handed (jobs_at report c.heap)
+  pub jobs : HandsJobs handed c.heap.shape d.heap.shape
+  pub coloured : (flown : ℕ → Option Bits) → EndsColoured report c flown d.heap.colours
+  pub ended : is_group_end report ≡ true
+  pub left : (flown : ℕ → Option Bits) → IsSound c flown → units_left d (flying_after handed flown) < units_left c flown
+  pub to_come : (flown : ℕ → Option Bits) → IsSound c flown
+      → units_to_come d (flying_after handed flown) < units_to_come c flown
+  pub finished : (over ≡ true) ↔ (d.run ≡ None)

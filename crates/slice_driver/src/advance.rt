@@ -1,13 +1,16 @@
 // Steps of a collection, whoever sweeps: the one place where units, due arenas and their sweeping meet.
-ghost use Rattle.std.specs.Prelude.{◌≡◌, ◌<◌, None, false, true, IfOk, IsSome, OnErr, if◌then◌else◌, is_some};
+ghost use Rattle.std.specs.Prelude.{◌≡◌, ◌<◌, ℕ, List, None, Option, false, true, IfOk, IsSome, OnErr};
+ghost use Rattle.cell_bits.specs.declared.bits.Bits.{Bits as ABits};
 ghost use Rattle.sweeping.specs.ArenasOut.{flying_after, outs_after};
+ghost use Rattle.heap_core.specs.Shape.{out_of};
 ghost use Rattle.slice_driver.specs.Collector.{heap_with};
 ghost use Rattle.slice_driver.specs.EdgesRead.{UnitsReadFew};
 ghost use Rattle.slice_driver.specs.Advances.{Advances, AreOut, MayAdvance, StillOnErr, TakesDue};
 ghost use Rattle.slice_driver.specs.Units.{IsLowestOut, IsSound, TellsSweep};
-ghost use Rattle.slice_driver.specs.Working.{IsStill};
+ghost use Rattle.slice_driver.specs.Working.{IsQuietDone, IsStill};
 
 use crate::collector::{Collector, Unit};
+use crate::ends::Ended;
 use arena_table::Jobs;
 use gz_names::{NoMemory, Report};
 use heap_core::Steps;
@@ -104,7 +107,7 @@ impl Collector {
         if let Some(arena) = self.next_out() {
             return Ok(Step::swept(self.take_due_into(flight, arena, report)));
         }
-        self.advance_one(alloc, flight, report, steps)
+        self.advance_one(alloc, report)
     }
 
     /// Does a step like `advance`, where who sweeps takes over what the step hands to sweeping.
@@ -145,30 +148,41 @@ impl Collector {
         })
     }
 
-    // Does one unit, whichever it is. An arena that is due is taken in at once by `advance`, so that its
-    // report is built where it stays.
-    fn advance_one<F: Sweeping, L: Ledger>(
-        &mut self,
-        alloc: Global,
-        flight: &mut F,
-        report: &mut Option<Report>,
-        steps: &mut Steps<L>,
-    ) -> Result<Step, NoMemory>
-        requires { MayAdvance self.old (F.bits flight.old) (F.left (F.origin flight.old)) }
-        ensures done { IfOk result (λ step. Advances 1 self.old (F.bits flight.old) report.old step
-            self.new (flying_after step.handed (F.bits flight.new))
-            (outs_after step.handed (F.left (F.origin flight.new))) report.new) }
-        ensures steps { IfOk result (λ step. UnitsReadFew step.units steps.old
-            (heap_with self.old (F.bits flight.old)) steps.new
-            (heap_with self.new (flying_after step.handed (F.bits flight.new)))) }
-        ensures still { StillOnErr F.bits F.origin F.home result self.old flight.old report.old
-            self.new flight.new report.new }
+    // Does the unit that is left where none is quiet and no arena is out: the end of the current group, or
+    // a grouping step. What it reports goes right into its place: a `Unit` has room for a report, and is
+    // large.
+    fn advance_one(&mut self, alloc: Global, report: &mut Option<Report>) -> Result<Step, NoMemory>
+        requires rests { (flown : ℕ → Option ABits) × IsSound self.old flown
+            × IsQuietDone self.old flown }
+        requires running { IsSome self.old.run }
+        requires none_out { (a : ℕ) → out_of self.old.heap.shape a ≡ None }
+        ensures done { IfOk result (λ step. (flown : ℕ → Option ABits) (outs : List (ℕ × ℕ))
+            → IsSound self.old flown → IsQuietDone self.old flown
+            → AreOut self.old.heap.shape outs
+            → Advances 1 self.old flown report.old step self.new (flying_after step.handed flown)
+            (outs_after step.handed outs) report.new) }
+        ensures err { OnErr result (self.new ≡ self.old) }
+        ensures err_report { OnErr result (report.new ≡ report.old) }
     {
-        let unit = self.unit(alloc, flight, steps)?;
-        match unit.due {
-            Some(arena) => Ok(Step::swept(self.take_due_into(flight, arena, report))),
-            None => Ok(tell(unit, report)),
+        let Some(run) = self.run else {
+            unreachable!();
+        };
+        if run.formed {
+            self.groups_law();
+            let Ended { handed, finished } = self.end_group_into(alloc, report)?;
+            return Ok(Step {
+                units: 1,
+                reported: true,
+                finished,
+                handed,
+            });
         }
+        Ok(Step {
+            units: 1,
+            reported: self.group_step(run, report),
+            finished: false,
+            handed: None,
+        })
     }
 
     /// Takes the lowest arena in that is out: who sweeps hands over what was swept.
@@ -211,33 +225,5 @@ impl Collector {
         }
         let taken = flight.take_lowest();
         self.take_one_into(taken, arena, report)
-    }
-}
-
-// What one unit did, its report put into its place.
-fn tell(unit: Unit, report: &mut Option<Report>) -> Step
-    ensures step { result ≡ record {
-      units = 1;
-      reported = is_some unit.report;
-      finished = unit.finished;
-      handed = unit.handed;
-    } }
-    ensures told { report.new ≡ (if is_some unit.report then unit.report else report.old) }
-{
-    let Unit {
-        report: said,
-        handed,
-        finished,
-        due: _,
-    } = unit;
-    let reported = said.is_some();
-    if reported {
-        *report = said;
-    }
-    Step {
-        units: 1,
-        reported,
-        finished,
-        handed,
     }
 }

@@ -142,21 +142,6 @@ impl Unit {
         }
     }
 
-    // A unit that reports something.
-    pub(crate) fn of(report: Report) -> Self
-        ensures { result ≡ record {
-          report = Some report;
-          handed = None;
-          finished = false;
-          due = None;
-        } }
-    {
-        Unit {
-            report: Some(report),
-            ..Unit::quiet()
-        }
-    }
-
     // No unit: an arena is to be taken in.
     pub(crate) fn due(arena: u32) -> Self
         ensures { result ≡ record { report = None; handed = None; finished = false; due = Some arena } }

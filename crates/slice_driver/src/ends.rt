@@ -24,6 +24,7 @@ ghost use Rattle.slice_driver.specs.Sweeping.{AreFreed};
 ghost use Rattle.slice_driver.specs.Units.{AreJobs, DoesUnit, EndsColoured, HandsJobs, IsLowestOut, IsSound};
 ghost use Rattle.slice_driver.specs.Units.{TellsSweep, is_group_end, flying_after, jobs_at, reports_of};
 ghost use Rattle.slice_driver.specs.UnitsToCome.{units_to_come};
+ghost use Rattle.slice_driver.specs.Working.{EndsGroup};
 
 use crate::collector::{Collector, Unit};
 use crate::colours::push_own_gray;
@@ -35,6 +36,18 @@ use heap_core::Heap;
 use std::alloc::Global;
 use sweep_groups::GroupOrder;
 use zones::State;
+
+// For so many names of gray cells memory is taken before they are listed.
+const NAMES_AHEAD: usize = 64;
+
+// What the end of a group did.
+#[derive(Drop)]
+pub(crate) struct Ended {
+    // The arenas that it handed to sweeping, ascending.
+    pub(crate) handed: Option<Jobs>,
+    // Whether the collection is over with it.
+    pub(crate) finished: bool,
+}
 
 impl Collector {
     /// Takes in the lowest arena that is handed to sweeping, with the slots of its white cells at
@@ -89,7 +102,38 @@ impl Collector {
 
     // Ends the current group, which is ready: its gray names are reported, its arenas are handed to
     // sweeping, what names a cell that is not present any more is dropped, and its zones go on. All
-    // memory is taken before anything changes. No cell is watched, so the report tells of none.
+    // memory is taken before anything changes. No cell is watched, so the report, which is put into a
+    // place, tells of none.
+    pub(crate) fn end_group_into(
+        &mut self,
+        alloc: Global,
+        report: &mut Option<Report>,
+    ) -> Result<Ended, NoMemory>
+        requires ready { (g : AZoneSet) × (rest : List AZoneSet) × IsReady self.old g rest }
+        requires sound { (flown : ℕ → Option ABits) × IsSound self.old flown }
+        ensures done { IfOk result (λ ended. EndsGroup ended.handed ended.finished report.new
+            self.old self.new) }
+        ensures err { OnErr result (self.new ≡ self.old) }
+        ensures err_report { OnErr result (report.new ≡ report.old) }
+        ensures made { self.new.heap.made ≡ self.old.heap.made }
+        ensures entries { length self.new.heap.shape.weak.entries
+            ≤ length self.old.heap.shape.weak.entries }
+    {
+        let Some(group) = self.order.current() else {
+            unreachable!();
+        };
+        let grays = gray_names_in(alloc, &self.heap, group)?;
+        let handed = hand_out_group(alloc, &mut self.heap, group)?;
+        self.order.advance();
+        let finished = end_sweeping(&mut self.heap, &self.order);
+        if finished {
+            self.run = None;
+        }
+        *report = Some(Report::Ended(group, grays, NameList::new(alloc)));
+        Ok(Ended { handed, finished })
+    }
+
+    // Ends the current group, as a whole unit.
     pub(crate) fn end_group(&mut self, alloc: Global) -> Result<Unit, NoMemory>
         requires ready { (g : AZoneSet) × (rest : List AZoneSet) × IsReady self.old g rest }
         requires sound { (flown : ℕ → Option ABits) × IsSound self.old flown }
@@ -115,18 +159,10 @@ impl Collector {
         ensures entries { length self.new.heap.shape.weak.entries
             ≤ length self.old.heap.shape.weak.entries }
     {
-        let Some(group) = self.order.current() else {
-            unreachable!();
-        };
-        let grays = gray_names_in(alloc, &self.heap, group)?;
-        let handed = hand_out_group(alloc, &mut self.heap, group)?;
-        self.order.advance();
-        let finished = end_sweeping(&mut self.heap, &self.order);
-        if finished {
-            self.run = None;
-        }
+        let mut report = None;
+        let Ended { handed, finished } = self.end_group_into(alloc, &mut report)?;
         Ok(Unit {
-            report: Some(Report::Ended(group, grays, NameList::new(alloc))),
+            report,
             handed,
             finished,
             due: None,
@@ -235,7 +271,7 @@ fn gray_names_in(alloc: Global, heap: &Heap, zones: ZoneSet) -> Result<NameList,
         (is_owned heap.now.shape zones.bits) (length heap.now.shape.arenas)) names) }
     ensures sorted { IfOk result (IsSorted name_cmp) }
 {
-    let mut names = Vec::new(alloc);
+    let mut names = Vec::with_capacity(alloc, NAMES_AHEAD)?;
     let mut from = 0;
     while let Some(arena) = heap.next_in(zones, from) {
         prove!(arena < heap.arenas());

@@ -3,7 +3,7 @@ ghost use Rattle.std.specs.Prelude.{◌≡◌, ◌≤◌, ◌+◌, ℕ, Option, 
 ghost use Rattle.cell_bits.specs.declared.bits.Bits.{Bits as ABits};
 ghost use Rattle.zone_edges.specs.Looks.{AreAllLookedAt};
 ghost use Rattle.slice_driver.specs.Units.{IsSound};
-ghost use Rattle.slice_driver.specs.Working.{GroupsOrFormed, IsBlackDone, IsGrouping, IsGroupingUnit, LooksOrAll};
+ghost use Rattle.slice_driver.specs.Working.{GroupsOrFormed, IsBlackDone, IsGrouping, LooksOrAll, TellsGrouping};
 
 use crate::collector::{Collector, Run, Unit};
 use gz_names::{Groups, Report};
@@ -26,20 +26,20 @@ impl Collector {
         }
     }
 
-    // One grouping step; the last one forms the groups.
-    fn group_step(&mut self, run: Run) -> Unit
+    // One grouping step; the last one forms the groups, and puts them into a place. Returns whether it did.
+    pub(crate) fn group_step(&mut self, run: Run, report: &mut Option<Report>) -> bool
         requires sound { (flown : ℕ → Option ABits) × IsSound self.old flown }
         requires grouping { self.old.run ≡ Some (record { zones = run.zones; formed = false }) }
         requires looked { AreAllLookedAt self.old.heap.shape self.old.edges }
-        ensures { IsGroupingUnit self.old result self.new }
+        ensures { TellsGrouping self.old report.old result self.new report.new }
     {
         let Some(zone) = self.ungrouped.first() else {
-            return Unit::quiet();
+            return false;
         };
         self.edges.group_step(zone);
         self.ungrouped.remove(zone);
         if let Some(_) = self.ungrouped.first() {
-            return Unit::quiet();
+            return false;
         }
         self.run = Some(Run {
             formed: true,
@@ -47,7 +47,8 @@ impl Collector {
         });
         let groups = self.edges.components();
         self.order.set(copy_of(&groups));
-        Unit::of(Report::Groups(groups))
+        *report = Some(Report::Groups(groups));
+        true
     }
 
     // Before the groups are formed: looks at a wrapper, or else does a grouping step.
@@ -64,7 +65,14 @@ impl Collector {
         if self.looks(steps) {
             return Some(Unit::quiet());
         }
-        Some(self.group_step(run))
+        let mut report = None;
+        self.group_step(run, &mut report);
+        Some(Unit {
+            report,
+            handed: None,
+            finished: false,
+            due: None,
+        })
     }
 }
 

@@ -123,7 +123,7 @@ impl Collector {
     }
 
     // What holds of the groups. It does nothing.
-    fn groups_law(&self)
+    pub(crate) fn groups_law(&self)
         ensures { HasGroups self.now }
     {
         let Some(group) = self.order.current() else {

@@ -35,15 +35,9 @@ end_reads (Err why) read now h d f none = tt
 pub quiet_reads : (n read now : ℕ) (h k : HeapState) → ReadsFew n read h now k → UnitsReadFew n read h now k
 quiet_reads n read now h k few = omega (arith, few)
 
--- where nothing was done and no edge read, what follows reads as few
-pub still_reads : (n read begun now : ℕ) (h g k : HeapState) → grays_outside g ≡ grays_outside h → begun ≤ read
-    → UnitsReadFew n begun g now k → UnitsReadFew n read h now k
-still_reads n read begun now h g k same none few = omega (arith, same, none, few)
-
-pub ok_reads : {E : Type 0} (r : Result Step E) (read begun now : ℕ) (h g : HeapState) (d : CollectorState)
-    (f : ℕ → Option Bits) → grays_outside g ≡ grays_outside h → begun ≤ read
-    → IfOk r (λ (step : Step). UnitsReadFew step.units begun g now (heap_with d (flying_after step.handed f)))
+-- a step that reads none
+pub ok_reads : {E : Type 0} (r : Result Step E) (read now : ℕ) (h : HeapState) (d : CollectorState)
+    (f : ℕ → Option Bits) → now ≤ read
     → IfOk r (λ (step : Step). UnitsReadFew step.units read h now (heap_with d (flying_after step.handed f)))
-ok_reads (Ok step) read begun now h g d f same none few = still_reads step.units read begun now h g
-    (heap_with d (flying_after step.handed f)) same none few
-ok_reads (Err why) read begun now h g d f same none few = tt
+ok_reads (Ok step) read now h d f none = omega (arith, none)
+ok_reads (Err why) read now h d f none = tt

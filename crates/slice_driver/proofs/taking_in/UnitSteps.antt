@@ -14,15 +14,17 @@ use Rattle.colour_defs.specs.Lawful.{AreLawfulUnits, IsLawfulUnit, IsRunning, qu
 use Rattle.colour_defs.proofs.ValidReports.{unit_valid}
 use Rattle.slice_driver.specs.Advances.{Advances, AreOut, DoesUnits, told}
 use Rattle.slice_driver.specs.Collector.{CollectorState, RunState}
-use Rattle.slice_driver.specs.Left.{Lowers, units_left}
+use Rattle.slice_driver.specs.Left.{units_left}
 use Rattle.slice_driver.specs.Represents.{Represents}
-use Rattle.slice_driver.specs.Units.{DoesUnit, DoneOrDue, IsSound, TellsSweep, UnitDone, reports_of}
+use Rattle.slice_driver.specs.Units.{DoesUnit, IsSound, TellsSweep, is_group_end, reports_of}
 use Rattle.slice_driver.specs.UnitsToCome.{units_to_come}
-use Rattle.slice_driver.specs.Working.{DoesQuietUnits, IsStill}
+use Rattle.slice_driver.specs.Working.{DoesQuietUnits, EndsGroup, IsBlackDone, IsQuietDone, IsStill, TellsGrouping}
+use Rattle.slice_driver.specs.Working.{place_of}
 use Rattle.slice_driver.specs.declared.advance.Step.{Step}
 use Rattle.slice_driver.specs.declared.collector.Unit.{Unit}
 use Rattle.slice_driver.proofs.marking.MarkingUnits.{still_left, still_to_come}
-use Rattle.slice_driver.proofs.taking_in.TakingDue.{out_kept}
+use Rattle.slice_driver.proofs.abstraction.SoundAfter.{unit_sound}
+use Rattle.slice_driver.proofs.taking_in.TakingDue.{ascend_handed, out_handed, out_kept}
 
 -- a unit that reports nothing leaves the world as it is
 quiet_world : (w v : World) (reports : List Report) → reports ≡ [] → IsLawfulUnit w reports v → IsRunning w × (v ≡ w)
@@ -105,9 +107,6 @@ quiet_advances limit n c d f g outs rest place does some most s same are =
 -- what one unit told, in its place
 abbrev pub step_of : Unit → Step
 step_of unit = record { units = 1; reported = is_some unit.report; finished = unit.finished; handed = unit.handed }
-
-abbrev pub place_of : Option Report → Option Report → Option Report
-place_of said before = if is_some said then said else before
 
 told_said : (said before : Option Report) (finished : Bool)
     → (if is_some said then reports_of (place_of said before) finished else []) ≡ reports_of said finished
@@ -195,13 +194,43 @@ pub still_out : (c d : CollectorState) (f g : ℕ → Option Bits) (outs rest : 
 still_out c d f g outs rest still same are = subst (λ (x : CollectorState). AreOut x.heap.shape rest) (sym still.same)
     (subst (λ (xs : List (ℕ × ℕ)). AreOut c.heap.shape xs) (sym same) are)
 
--- a unit that found no arena due
-pub unit_does : (c d : CollectorState) (f g : ℕ → Option Bits) (unit : Unit) → UnitDone c f unit d g → unit.due ≡ None
-    → DoesUnit c f (reports_of unit.report unit.finished) d (flying_after unit.handed g)
-unit_does c d f g unit done none = subst (λ (o : Option ℕ). DoneOrDue o c f unit d g) none done
+-- the end of a group is told
+end_some : (r : Option Report) → is_group_end r ≡ true → is_some r ≡ true
+end_some None e = e
+end_some (Some r) e = refl
 
-pub unit_lowers : (unit : Unit) (old new : ℕ) → Lowers unit.due old new → unit.due ≡ None → new < old
-unit_lowers unit old new lowers none = subst (λ (o : Option ℕ). Lowers o old new) none lowers
+end_placed : (r before : Option Report) → is_group_end r ≡ true → r ≡ place_of r before
+end_placed None before e = absurd (cc e)
+end_placed (Some r) before e = refl
+
+module _ (c d : CollectorState) (f : ℕ → Option Bits) (s : IsSound c f) (outs : List (ℕ × ℕ))
+    (are : AreOut c.heap.shape outs) (before now : Option Report) where
+  pub grouping_advances : (reported : Bool) → TellsGrouping c before reported d now → IsBlackDone c f
+      → Advances 1 c f before (record { units = 1; reported = reported; finished = false; handed = None }) d f outs now
+  grouping_advances reported tells black =
+      let goes = tells.done.goes f s black in
+      one_advances c d f f outs (record { report = tells.said; handed = None; finished = false; due = None }) before now
+      (record { units = 1; reported = reported; finished = false; handed = None })
+      (ap (λ (b : Bool). record { units = 1; reported = b; finished = false; handed = None }) tells.reported_is)
+      tells.now_is goes.done goes.less (let falls = goes.to_come in omega (arith, falls))
+      (runs_on false d.run refl goes.running) (unit_sound c d f f (reports_of tells.said false) goes.done s)
+      (out_kept c.heap.shape d.heap.shape outs outs refl goes.words are) tt goes.made_is
+      (let e = ap (λ ws. length ws.entries) goes.weak_is in omega (arith, e))
+
+  pub ending_advances : (handed : Option (List Job)) (over : Bool) → EndsGroup handed over now c d
+      → d.heap.made ≡ c.heap.made → length d.heap.shape.weak.entries ≤ length c.heap.shape.weak.entries
+      → Advances 1 c f before (record { units = 1; reported = true; finished = over; handed = handed }) d
+      (flying_after handed f) (outs_after handed outs) now
+  ending_advances handed over ends made entries =
+      one_advances c d f f outs (record { report = now; handed = handed; finished = over; due = None }) before now
+      (record { units = 1; reported = true; finished = over; handed = handed })
+      (ap (λ (b : Bool). record { units = 1; reported = b; finished = over; handed = handed })
+      (sym (end_some now ends.ended)))
+      (end_placed now before ends.ended) (ends.done f) (ends.left f s)
+      (let falls = ends.to_come f s in omega (arith, falls)) ends.finished
+      (unit_sound c d f (flying_after handed f) (reports_of now over) (ends.done f) s)
+      (out_handed c.heap.shape d.heap.shape handed outs outs refl ends.jobs are)
+      (ascend_handed c.heap.shape d.heap.shape handed ends.jobs) made entries
 
 -- the arena that was due was taken in and told
 pub due_advances : (c d : CollectorState) (f g : ℕ → Option Bits) (outs : List (ℕ × ℕ)) (unit : Unit)
@@ -250,12 +279,15 @@ due_into c d f g outs before place finished step step_is a told does less keeps 
     (sym (ap (λ (b : Bool). if b then place else before) some)) refl does less (omega (arith, keeps, one)) over sound
     out made weak
 
-pub ok_still : {E : Type 0} (r : Result Step E) (limit : ℕ) (c d e : CollectorState) (f g h : ℕ → Option Bits)
-    (outs : List (ℕ × ℕ)) (before place : Option Report) → 0 < limit → IsStill c f d g
-    → IfOk r (λ step. Advances 1 d g before step e (flying_after step.handed h) (outs_after step.handed outs) place)
+pub ok_still : {E : Type 0} (r : Result Step E) (limit : ℕ) (c d e : CollectorState) (f g : ℕ → Option Bits)
+    (outs : List (ℕ × ℕ)) (before place : Option Report) → 0 < limit → IsStill c f d g → IsSound d g → IsQuietDone d g
+    → AreOut d.heap.shape outs
+    → IfOk r (λ step. (h : ℕ → Option Bits) (rest : List (ℕ × ℕ)) → IsSound d h → IsQuietDone d h
+    → AreOut d.heap.shape rest
+    → Advances 1 d h before step e (flying_after step.handed h) (outs_after step.handed rest) place)
     → IfOk r
-    (λ step. Advances limit c f before step e (flying_after step.handed h) (outs_after step.handed outs) place)
-ok_still (Ok step) limit c d e f g h outs before place some still a =
-    still_advances limit c d e f g (flying_after step.handed h) (outs_after step.handed outs) before place step some
-    still a
-ok_still (Err why) limit c d e f g h outs before place some still a = tt
+    (λ step. Advances limit c f before step e (flying_after step.handed g) (outs_after step.handed outs) place)
+ok_still (Ok step) limit c d e f g outs before place some still s rests are advances =
+    still_advances limit c d e f g (flying_after step.handed g) (outs_after step.handed outs) before place step some
+    still (advances g outs s rests are)
+ok_still (Err why) limit c d e f g outs before place some still s rests are advances = tt

@@ -1,9 +1,9 @@
-use Rattle.std.proofs.Common.{◌≡◌, ◌<◌, ◌≤◌, arith, ap}
+use Rattle.std.proofs.Common.{◌≡◌, ◌<◌, arith, ap}
 use Rattle.sweeping.specs.ArenasOut.{flying_after, outs_after}
 use Rattle.slice_driver.specs.Collector.{heap_with}
 use Rattle.slice_driver.specs.declared.advance.Step.{Step}
 use Rattle.slice_driver.proofs.marking.EdgesRead.{ok_reads, quiet_reads, still_grays}
-use Rattle.slice_driver.proofs.taking_in.UnitSteps.{due_into, ok_still, quiet_advances, still_advances}
+use Rattle.slice_driver.proofs.taking_in.UnitSteps.{due_into, ok_still, quiet_advances, still_advances, still_out}
 use Rattle.slice_driver.proofs.collector.Collector.advance.Goals as goal
 
 pub returns-then-quiet-gt0-clause-done : goal.returns-then-quiet-gt0-clause-done
@@ -34,14 +34,30 @@ returns-in-Some-clause-done g c =
     c.in-Some.arena took.told took.takes.done took.takes.left took.takes.to_come took.takes.finished took.takes.sound
     took.takes.out took.takes.made took.takes.weak)
 
+pub advance_one-requires-clause-rests : goal.advance_one-requires-clause-rests
+advance_one-requires-clause-rests g c =
+    let none = c.if-quiet-gt0.false in
+    let some = c.requires.some in (
+      g.F.Flight.bits c.quiet_units-quiet.new.flight,
+      c.quiet_units-quiet.ensures.sound,
+      c.quiet_units-quiet.ensures.rests (omega (arith, none, some)),
+    )
+
 pub returns-clause-done : goal.returns-clause-done
 returns-clause-done g c =
     let none = c.if-quiet-gt0.false in
+    let some = c.requires.some in
     let zero : c.quiet_units-quiet.result ≡ 0 = omega (arith, none) in
+    let still = c.quiet_units-quiet.ensures.done.none zero in
     ok_still c.advance_one.result c.args.limit c.args.self.now c.quiet_units-quiet.new.self c.advance_one.new.self
     (g.F.Flight.bits c.args.flight.now) (g.F.Flight.bits c.quiet_units-quiet.new.flight)
-    (g.F.Flight.bits c.advance_one.new.flight) (g.F.Sweeping.left (g.F.Flight.origin c.advance_one.new.flight))
-    c.args.report.now c.advance_one.new.report c.requires.some (c.quiet_units-quiet.ensures.done.none zero)
+    (g.F.Sweeping.left (g.F.Flight.origin c.quiet_units-quiet.new.flight))
+    c.args.report.now c.advance_one.new.report some still c.quiet_units-quiet.ensures.sound
+    (c.quiet_units-quiet.ensures.rests (omega (arith, none, some)))
+    (still_out c.args.self.now c.quiet_units-quiet.new.self (g.F.Flight.bits c.args.flight.now)
+    (g.F.Flight.bits c.quiet_units-quiet.new.flight) (g.F.Sweeping.left (g.F.Flight.origin c.args.flight.now))
+    (g.F.Sweeping.left (g.F.Flight.origin c.quiet_units-quiet.new.flight)) still
+    (ap g.F.Sweeping.left c.quiet_units-quiet.ensures.origin) c.requires.ready.out)
     c.advance_one.ensures.done
 
 pub returns-then-quiet-gt0-clause-steps : goal.returns-then-quiet-gt0-clause-steps
@@ -67,8 +83,6 @@ returns-clause-steps g c =
     let few = c.quiet_units-quiet.ensures.steps in
     let still = still_grays c.args.self.now (g.F.Flight.bits c.args.flight.now) c.quiet_units-quiet.new.self
     (g.F.Flight.bits c.quiet_units-quiet.new.flight) (c.quiet_units-quiet.ensures.done.none zero) in
-    let read : c.quiet_units-quiet.new.steps ≤ c.args.steps.now = omega (arith, few, zero, still) in
-    ok_reads c.advance_one.result c.args.steps.now c.quiet_units-quiet.new.steps c.advance_one.new.steps
-    (heap_with c.args.self.now (g.F.Flight.bits c.args.flight.now))
-    (heap_with c.quiet_units-quiet.new.self (g.F.Flight.bits c.quiet_units-quiet.new.flight)) c.advance_one.new.self
-    (g.F.Flight.bits c.advance_one.new.flight) still read c.advance_one.ensures.steps
+    ok_reads c.advance_one.result c.args.steps.now c.quiet_units-quiet.new.steps
+    (heap_with c.args.self.now (g.F.Flight.bits c.args.flight.now)) c.advance_one.new.self
+    (g.F.Flight.bits c.quiet_units-quiet.new.flight) (omega (arith, few, zero, still))

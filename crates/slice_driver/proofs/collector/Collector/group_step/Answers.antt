@@ -1,4 +1,4 @@
-use Rattle.std.proofs.Common.{◌≡◌, ℕ, Option, Some, true, false, List, ◌∷◌, [], refl, sym, ap, subst, ◌∙◌}
+use Rattle.std.proofs.Common.{◌≡◌, ℕ, None, Option, Some, true, false, List, ◌∷◌, [], refl, sym, ap, subst, ◌∙◌}
 use Rattle.gz_names.specs.declared.replies.Report.TheVariants as report
 use Rattle.cell_bits.specs.declared.bits.Bits.{Bits}
 use Rattle.gz_names.specs.declared.zone_sets.ZoneSet.{ZoneSet}
@@ -7,9 +7,8 @@ use Rattle.heap_core.specs.Heap.{without_delayed}
 use Rattle.barriers.specs.Pending.{pending}
 use Rattle.slice_driver.specs.Collector.{CollectorState, run_of}
 use Rattle.slice_driver.specs.Quiet.{IsFormed}
-use Rattle.slice_driver.specs.Units.{IsSound, is_group_end, reports_of}
+use Rattle.slice_driver.specs.Units.{IsSound}
 use Rattle.slice_driver.specs.Working.{GoesOn, IsGrouping}
-use Rattle.slice_driver.specs.declared.collector.Unit.{Unit}
 use Rattle.slice_driver.proofs.grouping.Steps.{all_stepped, forms_goes, kept_waiting, not_formed, some_wait, step_goes}
 use Rattle.slice_driver.proofs.grouping.Steps.{steps_in, still_waiting, waiting_in, zones_noted}
 use Rattle.slice_driver.proofs.collector.Collector.group_step.Goals as goal
@@ -100,19 +99,21 @@ returns-in-Some-first c =
     c.group_step.ensures.zones c.group_step.ensures.edges c.group_step.ensures.cursors in
     let looked : AreAllLookedAt v.heap.shape v.edges =
     subst (λ (x : CollectorState). AreAllLookedAt x.heap.shape x.edges) (sym c.self.view_is) c.requires.looked in
-    let quiet = c.quiet-in-Some-first in
     let d : CollectorState = record v { edges = c.group_step.new.self } in
     let goes : (f : ℕ → Option Bits) → IsSound v f → GoesOn v f [] d f =
     λ f s. step_goes v c.in-Some.zone c.group_step.new.self grouping looked steps f s in
     record {
-      unformed = subst (λ (x : CollectorState). IsFormed x → ⊥) c.self.view_is (not_formed v grouping);
-      goes_on = ap (λ (u : Unit). is_group_end u.report) quiet.ensures;
-      handed = ap (λ (u : Unit). u.handed) quiet.ensures;
-      finished = ap (λ (u : Unit). u.finished) quiet.ensures;
-      due = ap (λ (u : Unit). u.due) quiet.ensures;
-      goes = λ f s black. subst (λ (u : Unit). GoesOn c.args.self.now f (reports_of u.report u.finished) d f)
-          (sym quiet.ensures) (subst (λ (x : CollectorState). IsSound x f → GoesOn x f [] d f) c.self.view_is (goes f)
-          s);
+      said = None;
+      reported_is = refl;
+      now_is = refl;
+      done = record {
+        unformed = subst (λ (x : CollectorState). IsFormed x → ⊥) c.self.view_is (not_formed v grouping);
+        goes_on = refl;
+        handed = refl;
+        finished = refl;
+        due = refl;
+        goes = λ f s black. subst (λ (x : CollectorState). IsSound x f → GoesOn x f [] d f) c.self.view_is (goes f) s;
+      };
     }
 
 pub returns : goal.returns
@@ -152,15 +153,18 @@ returns c =
     c.components-groups.ensures in
     let set : c.set.new.self ≡ groups = c.set.ensures ∙ c.copy_of.ensures in
     record {
-      unformed = subst (λ (x : CollectorState). IsFormed x → ⊥) c.self.view_is (not_formed v grouping);
-      goes_on = ap (λ (u : Unit). is_group_end u.report) c.of.ensures;
-      handed = ap (λ (u : Unit). u.handed) c.of.ensures;
-      finished = ap (λ (u : Unit). u.finished) c.of.ensures;
-      due = ap (λ (u : Unit). u.due) c.of.ensures;
-      goes = λ f s black. subst
-          (λ (u : Unit). GoesOn c.args.self.now f (reports_of u.report u.finished) (d c.set.new.self) f)
-          (sym c.of.ensures)
-          (subst (λ (gs : List ZoneSet). GoesOn c.args.self.now f (report.Groups groups ∷ []) (d gs) f) (sym set)
-          (subst (λ (x : CollectorState). IsSound x f → GoesOn x f (report.Groups groups ∷ []) (d groups) f)
-          c.self.view_is (goes f) s));
+      said = Some (report.Groups groups);
+      reported_is = refl;
+      now_is = refl;
+      done = record {
+        unformed = subst (λ (x : CollectorState). IsFormed x → ⊥) c.self.view_is (not_formed v grouping);
+        goes_on = refl;
+        handed = refl;
+        finished = refl;
+        due = refl;
+        goes = λ f s black.
+            subst (λ (gs : List ZoneSet). GoesOn c.args.self.now f (report.Groups groups ∷ []) (d gs) f) (sym set)
+            (subst (λ (x : CollectorState). IsSound x f → GoesOn x f (report.Groups groups ∷ []) (d groups) f)
+            c.self.view_is (goes f) s);
+      };
     }
