@@ -1,5 +1,6 @@
 // Main's work beside helpers, on a board that is made for it.
 ghost use Rattle.std.specs.Prelude.{◌≡◌, ℕ, ◌<◌, [], true, All, List, OnErr, OnOk, Option};
+ghost use Rattle.std.specs.Int.{div_ceil};
 ghost use Rattle.cell_bits.specs.declared.bits.Bits.{Bits as ABits};
 ghost use Rattle.sweep_board.specs.Seats.{board_len, jobs_of, main_view_of, IsMainOf};
 ghost use Rattle.sweep_board.specs.Views.{is_taken};
@@ -17,6 +18,9 @@ use std::sync::Wait;
 use std::thread::Threads;
 use sweep_board::{Board, HelperSeat, InFlight, MainSeat};
 use sweeping::{MainSweeper, Sweeper, Sweeping};
+
+// For so many arenas one helper more starts.
+const ARENAS_A_HELPER: usize = 1024;
 
 /// What main does while arenas are out, until none is. Its result stands in its fields.
 pub trait Works {
@@ -95,6 +99,13 @@ fn work_on<'b, R: Threads + Wait + Sync, G: Gate + Sync, W: Works + Send>(
     (main, own_seat)
 }
 
+// How many helpers are of use for so many arenas: starting a thread takes longer than sweeping some hundred arenas.
+fn most_helpers(arenas: usize) -> usize
+    ensures { result ≡ div_ceil arenas 1024 }
+{
+    arenas.div_ceil(ARENAS_A_HELPER)
+}
+
 // Sweeps the arenas of these jobs and takes them in: memory for their board is wanted, which is the answer.
 #[cold]
 fn sweep_alone(alloc: Global, jobs: Jobs) -> NoMemory
@@ -108,9 +119,21 @@ fn sweep_alone(alloc: Global, jobs: Jobs) -> NoMemory
     AllocError
 }
 
-/// Has the work done over the arenas of these jobs, beside this many helpers that sweep them, and no more than there
-/// are arenas. All helpers' seats are joined and the board is closed as it returns. Where memory for the board or its
-/// seats is wanted, nothing is done of the work: main sweeps the arenas, and takes them in.
+// Has the work done over the arenas of these jobs, which main sweeps by itself.
+fn sweep_by_main<W: Works>(alloc: Global, jobs: Jobs, work: &mut W)
+    requires ascending { Ascend (outs_of jobs) }
+    requires ready { W.ready work.old (outs_of jobs) (flown_by jobs) }
+    ensures { W.ran work.old (outs_of jobs) (flown_by jobs) work.new }
+{
+    let mut sweeper = MainSweeper::new(alloc);
+    sweeper.take_over(Some(jobs));
+    work.run(&mut sweeper);
+}
+
+/// Has the work done over the arenas of these jobs, beside this many helpers that sweep them, and no more than one for
+/// each 1,024 arenas begun (our choice). All helpers' seats are joined and the board is closed as it returns. Where
+/// there are no helpers, main sweeps each arena as it takes it in, and no board is made. Where memory for the board or
+/// its seats is wanted, nothing is done of the work: main sweeps the arenas, and takes them in.
 pub fn sweep_beside<R: Threads + Wait + Sync, G: Gate + Sync, W: Works + Send>(
     rt: &R,
     alloc: Global,
@@ -124,6 +147,10 @@ pub fn sweep_beside<R: Threads + Wait + Sync, G: Gate + Sync, W: Works + Send>(
     ensures ran { OnOk result (W.ran work.old (outs_of jobs) (flown_by jobs) work.new) }
     ensures kept { OnErr result (work.new ≡ work.old) }
 {
+    if helpers == 0 {
+        sweep_by_main(alloc, jobs, work);
+        return Ok(());
+    }
     let arenas = jobs.as_slice().len();
     if arenas > u32::MAX as usize {
         return Err(sweep_alone(alloc, jobs));
@@ -132,7 +159,8 @@ pub fn sweep_beside<R: Threads + Wait + Sync, G: Gate + Sync, W: Works + Send>(
         return Err(sweep_alone(alloc, jobs));
     };
     let own_seat = board.split(&mut main);
-    let Ok(mut seats) = split_seats(alloc, &board, &mut main, helpers.min(arenas)) else {
+    let Ok(mut seats) = split_seats(alloc, &board, &mut main, most_helpers(arenas).min(helpers))
+    else {
         return Err(sweep_alone(alloc, jobs));
     };
     let (mut main, own_seat) = work_on(
