@@ -6,6 +6,7 @@
 //
 //     reading    what the words ask for; a replay from its first line to its exit
 //     session    a replay as main's work beside helpers
+//     helpers    how many helpers sweep beside main
 //     lines      the reading loop: lines are started and gone on with, until something stands in the way
 //     answer     what one line is answered at once
 //     begin      the lines that begin a collection or go on with one
@@ -54,6 +55,7 @@ mod begin;
 mod dump;
 mod dumps;
 mod exit;
+mod helpers;
 mod lines;
 mod machine;
 mod pending;

@@ -11,6 +11,7 @@ ghost use Rattle.trace_cli.specs.Standing.{Entry, HasEnded, IsFirst, IsStanding,
 
 use crate::dumps::check_dump;
 use crate::exit::Exit;
+use crate::helpers::Helpers;
 use crate::lines::end_so;
 use crate::machine::Machine;
 use crate::session::{Run, Session};
@@ -70,7 +71,7 @@ pub fn run_on<
 >(
     rt: &R,
     alloc: Global,
-    helpers: usize,
+    helpers: Helpers,
     gate: &G,
     session: &mut Session<'_, '_, '_, '_, S, K, L>,
 ) -> Exit
@@ -96,7 +97,8 @@ pub fn run_on<
         }
         match session.run.handed.take() {
             Some(jobs) => {
-                if sweep_beside(rt, alloc, jobs, helpers, gate, session).is_err() {
+                let count = helpers.beside(&jobs);
+                if sweep_beside(rt, alloc, jobs, count, gate, session).is_err() {
                     return end_so(session.sink, Exit::NoMemory);
                 }
             }
@@ -106,8 +108,48 @@ pub fn run_on<
     unreachable!()
 }
 
-// Answers each line of a source, in order, beside so many helpers. The steps of the answers are counted
-// in a new ledger.
+/// Goes on with a run until it is over, beside so many helpers. The steps of its answers are counted in a new ledger.
+pub fn finish_run<
+    L: Ledger + Send,
+    R: Threads + Wait + Sync,
+    S: Source + Send,
+    K: Sink + Send,
+    G: Gate + Sync,
+>(
+    rt: &R,
+    alloc: Global,
+    helpers: Helpers,
+    gate: &G,
+    run: &mut Run,
+    source: &mut S,
+    sink: &mut K,
+    blank: Blank,
+) -> Exit
+    requires name { blank.name ≡ L.name }
+    requires parts { blank.parts ≡ L.parts }
+    requires some { 0 < blank.parts }
+    requires over { run.old.over ≡ None }
+    requires handed { run.old.handed ≡ None }
+    requires standing { IsStanding run.old.machine (S.left source.old) (S.faults source.old) (K.written sink.old)
+        (K.faults sink.old) [] none_flown }
+    ensures { (e : Entry)
+        → Standing e run.old.machine (S.left source.old) (S.faults source.old) (K.written sink.old)
+        (K.faults sink.old) [] none_flown
+        → HasEnded e result run.new.machine (S.left source.new) (S.faults source.new) (K.written sink.new)
+        (K.faults sink.new) (K.behind sink.new) }
+{
+    let mut steps = Steps::<L>::new(blank);
+    let mut session = Session {
+        alloc,
+        run,
+        source,
+        sink,
+        steps: &mut steps,
+    };
+    run_on(rt, alloc, helpers, gate, &mut session)
+}
+
+// Answers each line of a source, in order, beside so many helpers.
 fn answer_lines<
     L: Ledger + Send,
     R: Threads + Wait + Sync,
@@ -117,7 +159,7 @@ fn answer_lines<
 >(
     rt: &R,
     alloc: Global,
-    helpers: usize,
+    helpers: Helpers,
     gate: &G,
     source: &mut S,
     sink: &mut K,
@@ -138,16 +180,8 @@ fn answer_lines<
     let Ok(collector) = first_collector(alloc) else {
         return end_so(sink, Exit::NoMemory);
     };
-    let mut steps = Steps::<L>::new(blank);
     let mut run = first_run(collector);
-    let mut session = Session {
-        alloc,
-        run: &mut run,
-        source,
-        sink,
-        steps: &mut steps,
-    };
-    run_on(rt, alloc, helpers, gate, &mut session)
+    finish_run::<L, R, S, K, G>(rt, alloc, helpers, gate, &mut run, source, sink, blank)
 }
 
 /// Replays a trace, or checks a dump of colours. The words are the command line's, the program's name first.
@@ -185,7 +219,7 @@ pub fn replay<R: Threads + Wait + Sync, S: Source + Send, K: Sink + Send, G: Gat
         Ok(CommandLine::Run { helpers }) => answer_lines::<Brand, R, S, K, G>(
             rt,
             alloc,
-            usize::from(helpers),
+            Helpers::of(words, helpers),
             gate,
             source,
             sink,
@@ -202,7 +236,7 @@ pub fn replay<R: Threads + Wait + Sync, S: Source + Send, K: Sink + Send, G: Gat
             alloc,
             seed,
             lines,
-            usize::from(helpers),
+            Helpers::of(words, helpers),
             gate,
             sink,
             Blank::new(1),

@@ -4,13 +4,13 @@ ghost use Rattle.gz_io.specs.Causes.{Rose};
 ghost use Rattle.trace_cli.specs.Storms.{IsLeftByStorm, IsSummary, StopsStorm, Storms, summary_text};
 
 use crate::exit::Exit;
+use crate::helpers::Helpers;
 use crate::lines::end_so;
-use crate::reading::{first_collector, first_run, run_on};
-use crate::session::{Run, Session};
+use crate::reading::{finish_run, first_collector, first_run};
+use crate::session::Run;
 use cell_bits::NoFlight;
 use gz_io::{Failed, Gate, Sink, write_all};
 use gz_names::NoMemory;
-use heap_core::Steps;
 use itoa::Buffer;
 use slice_driver::Collector;
 use std::alloc::Global;
@@ -82,7 +82,7 @@ fn run_storm<L: Ledger + Send, R: Threads + Wait + Sync, G: Gate + Sync>(
     alloc: Global,
     seed: u32,
     lines: u32,
-    helpers: usize,
+    helpers: Helpers,
     gate: &G,
     blank: Blank,
 ) -> Result<Run, Exit>
@@ -97,18 +97,19 @@ fn run_storm<L: Ledger + Send, R: Threads + Wait + Sync, G: Gate + Sync>(
     let Ok(collector) = first_collector(alloc) else {
         return Err(Exit::NoMemory);
     };
-    let mut steps = Steps::<L>::new(blank);
     let mut run = first_run(collector);
     let mut source = StormSource::new(seed, lines);
     let mut sink = NullSink;
-    let mut session = Session {
+    match finish_run::<L, R, StormSource, NullSink, G>(
+        rt,
         alloc,
-        run: &mut run,
-        source: &mut source,
-        sink: &mut sink,
-        steps: &mut steps,
-    };
-    match run_on(rt, alloc, helpers, gate, &mut session) {
+        helpers,
+        gate,
+        &mut run,
+        &mut source,
+        &mut sink,
+        blank,
+    ) {
         Exit::Done => Ok(run),
         exit => Err(exit),
     }
@@ -140,7 +141,7 @@ fn sum_up<L: Ledger + Send, R: Threads + Wait + Sync, G: Gate + Sync>(
     alloc: Global,
     seed: u32,
     lines: u32,
-    helpers: usize,
+    helpers: Helpers,
     gate: &G,
     blank: Blank,
 ) -> Result<Summary, Exit>
@@ -163,7 +164,7 @@ pub fn answer_storm<L: Ledger + Send, R: Threads + Wait + Sync, K: Sink, G: Gate
     alloc: Global,
     seed: u32,
     lines: u32,
-    helpers: usize,
+    helpers: Helpers,
     gate: &G,
     sink: &mut K,
     blank: Blank,

@@ -1,0 +1,40 @@
+// How many helpers sweep beside main.
+use arena_table::Jobs;
+
+// Where the words do not ask for helpers, none starts for fewer arenas: starting a thread takes longer than sweeping
+// some hundred of them (our choice).
+const FEWEST_ARENAS: usize = 1024;
+
+/// How many helpers sweep beside main at most, and from how many arenas on. No output depends on it.
+#[derive(Clone, Copy, Debug, PartialEq, Eq)]
+pub struct Helpers {
+    most: usize,
+    fewest_arenas: usize,
+}
+
+impl Helpers {
+    /// So many helpers: for any arenas where the words ask for helpers, and else for 1,024 arenas or more.
+    pub fn of(words: &[&str], most: u8) -> Self {
+        Helpers {
+            most: usize::from(most),
+            fewest_arenas: if ask_for_helpers(words) {
+                0
+            } else {
+                FEWEST_ARENAS
+            },
+        }
+    }
+
+    /// How many helpers there are for the arenas of these jobs.
+    pub fn beside(self, jobs: &Jobs) -> usize {
+        if jobs.as_slice().len() < self.fewest_arenas {
+            return 0;
+        }
+        self.most
+    }
+}
+
+// Whether the words of a command line say how many helpers there are.
+fn ask_for_helpers(words: &[&str]) -> bool {
+    words.iter().any(|word| word.starts_with("--helpers"))
+}
