@@ -1,6 +1,7 @@
 // Marking a heap of two zones.
 ghost use Rattle.std.specs.Prelude.{◌≡◌, ◌<◌, false};
 ghost use Rattle.colour_defs.specs.Step.{HasFewFields};
+ghost use Rattle.par_mark.specs.TestHeaps.{IsMarkable};
 
 use crate::{Marked, mark_heap};
 use gz_io::FreeGate;
@@ -140,44 +141,22 @@ impl TestHeap {
         self.step(&GraphCmd::New(regs.child, CompNo(0), 0))
     }
 
-    // Two zones, with the tree in the first.
+    // Makes two zones, with the tree in the first.
+    fn add_zones(&mut self, regs: &Registers) -> Result<(), Fail> {
+        self.add_zone(0)?;
+        self.add_zone(1)?;
+        self.add_tree(regs)?;
+        self.add_far(regs)
+    }
+
     fn build(alloc: Global, regs: &Registers) -> Result<Self, Fail> {
         let mut heap = TestHeap::new(alloc)?;
-        heap.add_zone(0)?;
-        heap.add_zone(1)?;
-        heap.add_tree(regs)?;
-        heap.add_far(regs)?;
+        heap.add_zones(regs)?;
         Ok(heap)
     }
 
     fn reg(&self, reg: Reg) -> Option<Place> {
         self.heap.reg(reg)
-    }
-
-    // Takes the first zone on to its marking, and marks from what a register holds, which is black.
-    fn mark<R: Threads + Wait + Sync>(
-        self,
-        rt: &R,
-        alloc: Global,
-        reg: Reg,
-    ) -> Result<(Vec<u64>, Marked), Fail> {
-        let zone = ZoneNo::new(0).ok_or("zone")?;
-        let Some(root) = self.heap.reg(reg) else {
-            return Err(Fail::new("the register is empty"));
-        };
-        if self.heap.zones() == 0 {
-            return Err(Fail::new("there is no zone"));
-        }
-        let mut heap = self.heap;
-        heap.advance(zone);
-        if heap.comps() == 0 {
-            return Err(Fail::new("there is no compartment"));
-        }
-        let mut words = Vec::from_elem(alloc, 0u64, heap.arenas() as usize)?;
-        if let Some(word) = words.get_mut(root.arena() as usize) {
-            *word |= 1 << root.slot();
-        }
-        Ok(mark_heap(rt, alloc, &heap, &[root], words, &FreeGate)?)
     }
 
     fn find<R: Threads + Wait + Sync>(
@@ -186,9 +165,48 @@ impl TestHeap {
         alloc: Global,
         reg: Reg,
     ) -> Result<Found, Fail> {
-        let (words, marked) = self.mark(rt, alloc, reg)?;
-        Ok(count_found(&words, &marked))
+        let mut heap = self.heap;
+        find_in(rt, alloc, &mut heap, reg)
     }
+}
+
+fn find_in<R: Threads + Wait + Sync>(
+    rt: &R,
+    alloc: Global,
+    heap: &mut Heap,
+    reg: Reg,
+) -> Result<Found, Fail>
+    requires { IsMarkable heap.old }
+{
+    let (words, marked) = mark_in(rt, alloc, heap, reg)?;
+    Ok(count_found(&words, &marked))
+}
+
+// Takes the first zone on to its marking, and marks from what a register holds, which is black.
+fn mark_in<R: Threads + Wait + Sync>(
+    rt: &R,
+    alloc: Global,
+    heap: &mut Heap,
+    reg: Reg,
+) -> Result<(Vec<u64>, Marked), Fail>
+    requires { IsMarkable heap.old }
+{
+    let zone = ZoneNo::new(0).ok_or("zone")?;
+    let Some(root) = heap.reg(reg) else {
+        return Err(Fail::new("the register is empty"));
+    };
+    if heap.zones() == 0 {
+        return Err(Fail::new("there is no zone"));
+    }
+    heap.advance(zone);
+    if heap.comps() == 0 {
+        return Err(Fail::new("there is no compartment"));
+    }
+    let mut words = Vec::from_elem(alloc, 0u64, heap.arenas() as usize)?;
+    if let Some(word) = words.get_mut(root.arena() as usize) {
+        *word |= 1 << root.slot();
+    }
+    Ok(mark_heap(rt, alloc, heap, &[root], words, &FreeGate)?)
 }
 
 #[test]
