@@ -1,4 +1,7 @@
 // What is handed to sweeping, and what comes back.
+ghost use Rattle.std.specs.Prelude.{◌≡◌, ◌==◌, position};
+ghost use Rattle.cell_bits.specs.Jobs.{ArenasAscend};
+
 use crate::bits::Bits;
 
 /// An arena handed to sweeping: its number, the slots at which cells stand, and its bits then.
@@ -15,4 +18,16 @@ pub struct Job {
 pub struct Taken {
     pub freed: u64,
     pub bits: Bits,
+}
+
+/// Where the job of an arena stands in jobs whose arenas ascend. It takes as many steps as the number of jobs has binary
+/// digits.
+pub fn find_job(jobs: &[Job], arena: u32) -> Option<usize>
+    requires { ArenasAscend jobs.now }
+    ensures { result ≡ position (λ job. job.arena == arena) jobs.now }
+{
+    match jobs.binary_search_by_key(&arena, |job| job.arena) {
+        Ok(index) => Some(index),
+        Err(_) => None,
+    }
 }

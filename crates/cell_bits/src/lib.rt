@@ -33,4 +33,4 @@ mod jobs;
 
 pub use bits::{Bits, Colour};
 pub use flight::{Flight, NoFlight};
-pub use jobs::{Job, Taken};
+pub use jobs::{Job, Taken, find_job};

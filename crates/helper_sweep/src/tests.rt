@@ -1,5 +1,5 @@
 ghost use Rattle.std.specs.Prelude.{◌≡◌, ◌<◌, All, bit_or, ⊤};
-ghost use Rattle.sweep_board.specs.Rule.{job_at};
+ghost use Rattle.cell_bits.specs.Jobs.{job_at};
 ghost use Rattle.sweep_board.specs.Seats.{board_len, jobs_of, main_view_of, IsMainOf};
 ghost use Rattle.sweep_board.specs.Views.{HasTakenBelow};
 ghost use Rattle.helper_sweep.specs.Walks.{IsIdle};

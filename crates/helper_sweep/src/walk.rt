@@ -1,7 +1,7 @@
 // The walk of a helper, and main's work beside the helpers.
 ghost use Rattle.std.specs.Prelude.{◌≡◌, ℕ, ◌<◌, All, length, slice_index_or};
 ghost use Rattle.gz_io.specs.declared.gate.Point.TheVariants as point;
-ghost use Rattle.sweep_board.specs.Rule.{job_at};
+ghost use Rattle.cell_bits.specs.Jobs.{job_at};
 ghost use Rattle.sweep_board.specs.Seats.{board_len, jobs_of, helper_view_of};
 ghost use Rattle.sweep_board.specs.declared.board.HelperSeat.{HelperSeat as ASeat};
 ghost use Rattle.sweep_board.specs.Views.{IsNoted};

@@ -7,7 +7,8 @@ use Rattle.std.specs.Int.Bits.{or_zero_r}
 use Rattle.cell_bits.specs.declared.bits.Bits.{Bits}
 use Rattle.cell_bits.specs.declared.jobs.Job.{Job}
 use Rattle.sweep_board.specs.declared.view.View.{View}
-use Rattle.sweep_board.specs.Rule.{job_at, mask_at, no_job}
+use Rattle.cell_bits.specs.Jobs.{job_at, no_job}
+use Rattle.sweep_board.specs.Rule.{mask_at}
 use Rattle.sweep_board.specs.Views.{bits_now}
 use Rattle.sweep_board.specs.Flights.{bits_at, flight_bits}
 use Rattle.sweeping.specs.ArenasOut.{flown_by}

@@ -10,7 +10,7 @@ use Rattle.std.proofs.lemmas.List.Quantifiers.{position-Some}
 use Rattle.cell_bits.specs.declared.bits.Bits.{Bits}
 use Rattle.cell_bits.specs.declared.jobs.Job.{Job}
 use Rattle.sweep_board.specs.Flights.{bits_at}
-use Rattle.sweep_board.specs.Rule.{job_at, no_job}
+use Rattle.cell_bits.specs.Jobs.{job_at, no_job}
 use Rattle.sweep_board.specs.Seats.{board_len, jobs_of, main_view_of}
 use Rattle.sweep_board.specs.Views.{bits_now, is_taken}
 use Rattle.sweeping.specs.ArenasOut.{outs_of, swept}

@@ -3,7 +3,7 @@ use Rattle.std.proofs.Common.{◌≡◌, ℕ, zero, suc, ◌<◌, List, [], ◌�
 use Rattle.std.proofs.Common.{MatchBool, ◌∙◌, arith}
 use Rattle.cell_bits.specs.declared.jobs.Job.{Job}
 use Rattle.sweep_board.specs.declared.view.Stage.TheVariants.{Claimed, LoadedBlack, LoadedBoth, StoredFreed}
-use Rattle.sweep_board.specs.Rule.{job_at}
+use Rattle.cell_bits.specs.Jobs.{job_at}
 use Rattle.sweep_board.specs.Views.{at_stage, with_done}
 use Rattle.sweep_board.specs.Steps.{BoardSeat, arena_of, black_of}
 

@@ -11,7 +11,8 @@ use Rattle.cell_bits.specs.declared.bits.Bits.{Bits}
 use Rattle.cell_bits.specs.declared.jobs.Job.{Job}
 use Rattle.cell_bits.specs.Colours.{woken_bits}
 use Rattle.sweep_board.specs.declared.view.View.{View}
-use Rattle.sweep_board.specs.Rule.{no_job, job_at, mask_at}
+use Rattle.cell_bits.specs.Jobs.{no_job, job_at}
+use Rattle.sweep_board.specs.Rule.{mask_at}
 use Rattle.sweep_board.specs.Views.{with_wake, bits_now, is_taken}
 use Rattle.sweep_board.specs.Flights.{bits_at, flight_bits}
 use Rattle.sweep_board.proofs.Words.{or_assoc}

@@ -15,7 +15,8 @@ use Rattle.cell_bits.specs.Colours.{white_mask_of}
 use Rattle.sweep_board.specs.declared.view.Role.TheVariants.{Helper}
 use Rattle.sweep_board.specs.declared.view.Stage.TheVariants.{Free, Claimed, LoadedBlack, LoadedBoth, StoredFreed}
 use Rattle.sweep_board.specs.declared.view.View.{View}
-use Rattle.sweep_board.specs.Rule.{job_at, state_at, black_at, gob_at, freed_at, white, weight, helper_weight, claim_of}
+use Rattle.cell_bits.specs.Jobs.{job_at}
+use Rattle.sweep_board.specs.Rule.{state_at, black_at, gob_at, freed_at, white, weight, helper_weight, claim_of}
 use Rattle.sweep_board.specs.Rule.{IsWoken, StageRule, SeatRule, BoardRule}
 use Rattle.sweep_board.specs.Views.{at_stage, with_passed, with_gate, with_finished, IsNoted}
 use Rattle.sweep_board.specs.Steps.{BoardSeat, arena_of, black_of, claims, passes_gate, loads_black, loads_gob}

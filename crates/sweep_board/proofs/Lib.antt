@@ -7,7 +7,6 @@ pub mod MainSteps
 pub mod SeatMoves
 pub mod AfterSteps
 pub mod Opening
-pub mod Ascending
 pub mod FlightBits
 pub mod Sentences
 pub mod TakenBelow

@@ -15,7 +15,8 @@ use Rattle.sweep_board.specs.declared.view.Role.TheVariants.{Main, Helper, Spent
 use Rattle.sweep_board.specs.declared.view.Stage.{Stage}
 use Rattle.sweep_board.specs.declared.view.Stage.TheVariants.{Free, Claimed, LoadedBlack, LoadedBoth, StoredFreed}
 use Rattle.sweep_board.specs.declared.view.View.{View}
-use Rattle.sweep_board.specs.Rule.{job_at, state_at, black_at, gob_at, freed_at, white, weight, helper_weight, claim_of}
+use Rattle.cell_bits.specs.Jobs.{job_at}
+use Rattle.sweep_board.specs.Rule.{state_at, black_at, gob_at, freed_at, white, weight, helper_weight, claim_of}
 use Rattle.sweep_board.specs.Rule.{mask_at, sweeps_of, IsWoken, StageRule, BoardRule}
 use Rattle.sweep_board.specs.Views.{with_done, with_look, with_wake, with_taken, bits_now, IsDone, IsNoted, IsSwept}
 use Rattle.sweep_board.specs.Steps.{BoardSeat, wakes, looks, reads_freed, reads_black, takes}

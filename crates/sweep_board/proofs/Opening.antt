@@ -9,7 +9,8 @@ use Rattle.atomic_table.specs.Table.{opening}
 use Rattle.cell_bits.specs.declared.jobs.Job.{Job}
 use Rattle.sweep_board.specs.declared.view.Role.TheVariants.{Main}
 use Rattle.sweep_board.specs.declared.view.View.{View}
-use Rattle.sweep_board.specs.Rule.{no_job, job_at, state_at, black_at, gob_at, freed_at, weight, opening_words}
+use Rattle.cell_bits.specs.Jobs.{no_job, job_at}
+use Rattle.sweep_board.specs.Rule.{state_at, black_at, gob_at, freed_at, weight, opening_words}
 use Rattle.sweep_board.specs.Rule.{SeatRule, MainRule, BoardRule}
 use Rattle.sweep_board.specs.Views.{main_view}
 use Rattle.sweep_board.proofs.SeatMoves.{fresh_fits}

@@ -14,7 +14,8 @@ use Rattle.cell_bits.specs.declared.jobs.Job.{Job}
 use Rattle.sweep_board.specs.declared.view.Stage.{Stage}
 use Rattle.sweep_board.specs.declared.view.Stage.TheVariants.{Free, Claimed, LoadedBlack, LoadedBoth, StoredFreed}
 use Rattle.sweep_board.specs.declared.view.View.{View}
-use Rattle.sweep_board.specs.Rule.{job_at, state_at, weight, total, claim_of, sweeps_of, IsWoken, StageRule, BoardRule}
+use Rattle.cell_bits.specs.Jobs.{job_at}
+use Rattle.sweep_board.specs.Rule.{state_at, weight, total, claim_of, sweeps_of, IsWoken, StageRule, BoardRule}
 use Rattle.sweep_board.specs.InWords.{IsBlackOf, BoardRuleInWords}
 use Rattle.sweep_board.proofs.Words.{or_assoc, or_within}
 use Rattle.sweep_board.proofs.Totals.{total-at, total-two}

@@ -15,7 +15,8 @@ use Rattle.sweep_board.specs.declared.view.Role.TheVariants.{Main}
 use Rattle.sweep_board.specs.declared.view.Stage.{Stage}
 use Rattle.sweep_board.specs.declared.view.Stage.TheVariants.{Free, Claimed, LoadedBlack, LoadedBoth, StoredFreed}
 use Rattle.sweep_board.specs.declared.view.View.{View}
-use Rattle.sweep_board.specs.Rule.{job_at, state_at, black_at, gob_at, freed_at, weight, total, helper_weight, claim_of}
+use Rattle.cell_bits.specs.Jobs.{job_at}
+use Rattle.sweep_board.specs.Rule.{state_at, black_at, gob_at, freed_at, weight, total, helper_weight, claim_of}
 use Rattle.sweep_board.specs.Rule.{mask_at, sweeps_of, IsWoken, StageRule, ArenaRule, SeatRule, MainRule, BoardRule}
 use Rattle.sweep_board.proofs.Totals.{total-set, total-at, total-two}
 use Rattle.sweep_board.proofs.Sweeps.{times}

@@ -7,7 +7,8 @@ use Rattle.cell_bits.specs.declared.jobs.Job.{Job}
 use Rattle.sweep_board.specs.declared.view.Role.TheVariants.{Main}
 use Rattle.sweep_board.specs.declared.view.Stage.TheVariants.{LoadedBlack, LoadedBoth, StoredFreed}
 use Rattle.sweep_board.specs.declared.view.View.{View}
-use Rattle.sweep_board.specs.Rule.{ready, claimed, done, job_at, white, state_at, black_at, gob_at, freed_at, total}
+use Rattle.cell_bits.specs.Jobs.{job_at}
+use Rattle.sweep_board.specs.Rule.{ready, claimed, done, white, state_at, black_at, gob_at, freed_at, total}
 use Rattle.sweep_board.specs.Rule.{helper_weight, claim_of, sweeps_of, mask_at}
 use Rattle.sweep_board.specs.Views.{main_view, is_taken, IsSwept}
 

@@ -1,13 +1,14 @@
 -- The board rule: what holds of the words and of all views between any two steps.
 -- Arena i has the words 4 i to 4 i + 3: its state, its black word, its gob word and its freed word.
 use Rattle.std.specs.Prelude.{◌≡◌, ℕ, ◌+◌, ◌*◌, ◌<◌, ◌≤◌, ◌==◌, Bool, true, false, List, [], ◌∷◌, length, slice_index}
-use Rattle.std.specs.Prelude.{slice_index_or, bit_or, count_by, All}
+use Rattle.std.specs.Prelude.{bit_or, count_by, All}
 use mathlib.Core.Option.{some}
 use lib.ListN.{get_elem?}
 use Rattle.atomic_table.specs.Table.{State}
 use Rattle.cell_bits.specs.declared.bits.Bits.{Bits}
 use Rattle.cell_bits.specs.declared.jobs.Job.{Job}
 use Rattle.cell_bits.specs.Colours.{white_mask_of}
+use Rattle.cell_bits.specs.Jobs.{job_at}
 use Rattle.sweep_board.specs.declared.view.Role.{Role}
 use Rattle.sweep_board.specs.declared.view.Role.TheVariants.{Main, Helper, Spent}
 use Rattle.sweep_board.specs.declared.view.Stage.{Stage}
@@ -23,17 +24,6 @@ claimed = 1
 
 abbrev pub done : ℕ
 done = 2
-
--- a job that no list has, for an index past the end
-abbrev pub no_job : Job
-no_job = record { arena = 0; alloc_word = 0; bits = record { black = 0; gob = 0 } }
-
-abbrev pub job_at : List Job → ℕ → Job
-job_at jobs i = slice_index_or jobs i no_job
-
--- the jobs' arenas ascend, and none stands twice
-pub record ArenasAscend (jobs : List Job) : Type 0 where
-  pub below : (i k : ℕ) → i < k → k < length jobs → (job_at jobs i).arena < (job_at jobs k).arena
 
 -- the white cells of an arena at hand-out, as a word of slots
 abbrev pub white : Job → ℕ

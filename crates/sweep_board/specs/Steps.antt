@@ -5,7 +5,8 @@ use Rattle.atomic_table.specs.Table.{Me, Step}
 use Rattle.sweep_board.specs.declared.view.View.{View}
 use Rattle.sweep_board.specs.declared.view.Stage.{Stage}
 use Rattle.sweep_board.specs.declared.view.Stage.TheVariants.{Free, Claimed, LoadedBlack, LoadedBoth, StoredFreed}
-use Rattle.sweep_board.specs.Rule.{ready, done, job_at, white}
+use Rattle.cell_bits.specs.Jobs.{job_at}
+use Rattle.sweep_board.specs.Rule.{ready, done, white}
 use Rattle.sweep_board.specs.Views.{at_stage, with_passed, with_gate, with_finished, with_done, with_look, with_wake}
 use Rattle.sweep_board.specs.Views.{with_taken, IsDone, IsNoted, IsSwept, bits_now}
 

@@ -10,7 +10,8 @@ use Rattle.sweep_board.specs.declared.view.Stage.{Stage}
 use Rattle.sweep_board.specs.declared.view.Stage.TheVariants.{Free}
 use Rattle.sweep_board.specs.declared.view.View.{View}
 use Rattle.sweep_board.specs.declared.view.Visit.TheVariants.{Passed, AtGate, Swept}
-use Rattle.sweep_board.specs.Rule.{job_at, mask_at}
+use Rattle.cell_bits.specs.Jobs.{job_at}
+use Rattle.sweep_board.specs.Rule.{mask_at}
 
 -- a view that has learned nothing
 abbrev pub fresh_view : List Job → Role → View

@@ -2,7 +2,7 @@
 ghost use Rattle.std.specs.Prelude.{◌≡◌, ◌≢◌, ℕ, ◌+◌, ◌*◌, ◌^◌, ◌<◌, ◌==◌, true, false, [], ◌∷◌, length, bit_or};
 ghost use Rattle.std.specs.Prelude.{position, IfOk, IsNone, IsSome, IfNone, IfSome};
 ghost use Rattle.sweep_board.specs.declared.view.Role.TheVariants.{Main, Helper};
-ghost use Rattle.sweep_board.specs.Rule.{ArenasAscend};
+ghost use Rattle.cell_bits.specs.Jobs.{ArenasAscend};
 
 use crate::steps::{
     Claims, JoinsHelper, LoadsBlack, LoadsGob, Looks, PassesGate, ReadsBlack, ReadsFreed, Ruled,
@@ -10,7 +10,7 @@ use crate::steps::{
 };
 use crate::view::View;
 use atomic_table::{Seat, Table, TableRule};
-use cell_bits::{Bits, Colour, Job, Taken};
+use cell_bits::{Bits, Colour, Job, Taken, find_job};
 use gz_io::{Gate, Point};
 use gz_names::NoMemory;
 use std::alloc::Global;
@@ -70,7 +70,8 @@ impl Board {
     ghost use Rattle.cell_bits.specs.Colours.{colour_of};
     ghost use Rattle.gz_io.specs.declared.gate.Point.TheVariants as point;
     ghost use Rattle.sweep_board.specs.declared.view.Stage.TheVariants.{Claimed};
-    ghost use Rattle.sweep_board.specs.Rule.{BoardRule, job_at, white, done};
+    ghost use Rattle.cell_bits.specs.Jobs.{job_at};
+    ghost use Rattle.sweep_board.specs.Rule.{BoardRule, white, done};
     ghost use Rattle.sweep_board.specs.Views.{at_stage, with_passed, with_gate, with_finished, main_view, helper_view};
     ghost use Rattle.sweep_board.specs.Views.{with_helper, joined_view, with_done, with_look, with_wake, with_taken};
     ghost use Rattle.sweep_board.specs.Views.{bits_now, is_taken, IsDone, IsNoted, IsSwept};
@@ -130,9 +131,9 @@ impl Board {
         ensures place { result ≡ position (λ job. job.arena == arena) (jobs_of self.now) }
         ensures bound { IfSome result (λ index. index < board_len self.now) }
     {
-        match self.jobs.binary_search_by_key(&arena, |job| job.arena) {
-            Ok(index) => Some(index as u32),
-            Err(_) => None,
+        match find_job(&self.jobs, arena) {
+            Some(index) => Some(index as u32),
+            None => None,
         }
     }
 

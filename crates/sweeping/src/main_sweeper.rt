@@ -1,13 +1,11 @@
 // The arenas that are out, while main sweeps them by itself.
-ghost use Rattle.std.specs.Prelude.{◌≡◌, ◌==◌, []};
-ghost use Rattle.std.specs.List.{position};
+ghost use Rattle.std.specs.Prelude.{◌≡◌, []};
 ghost use Rattle.cell_bits.specs.Colours.{unit};
-ghost use Rattle.cell_bits.specs.declared.jobs.Job.{Job as AJob};
 ghost use Rattle.sweeping.specs.ArenasOut.{flown_by, outs_of};
 
 use crate::arenas_out::{Sweeper, Sweeping};
 use arena_table::Jobs;
-use cell_bits::{Colour, Flight, Job, Taken};
+use cell_bits::{Colour, Flight, Job, Taken, find_job};
 use std::alloc::Global;
 use std::collections::LinkedList;
 use std::marker::Model;
@@ -52,13 +50,6 @@ impl MainSweeper {
     }
 }
 
-// Where the job of an arena lies.
-fn find(jobs: &[Job], arena: u32) -> Option<usize>
-    ensures { result ≡ position (λ (job : AJob). job.arena == arena) jobs.now }
-{
-    jobs.iter().position(|job| job.arena == arena)
-}
-
 impl Flight for MainSweeper {
     type Origin = LinkedList<(u32, u64)>;
 
@@ -67,14 +58,14 @@ impl Flight for MainSweeper {
     ghost bits = { flown_by };
 
     fn colour(&mut self, arena: u32, slot: u8) -> Colour {
-        match find(self.left(), arena) {
+        match find_job(self.left(), arena) {
             Some(i) => self.jobs[self.next + i].bits.colour(slot),
             None => unreachable!(),
         }
     }
 
     fn wake(&mut self, arena: u32, mask: u64) {
-        match find(self.left(), arena) {
+        match find_job(self.left(), arena) {
             Some(i) => self.jobs[self.next + i].bits.black |= mask,
             None => unreachable!(),
         }

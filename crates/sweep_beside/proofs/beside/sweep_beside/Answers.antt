@@ -3,7 +3,7 @@ use Rattle.cell_bits.specs.declared.jobs.Job.{Job}
 use Rattle.sweeping.specs.ArenasOut.{Ascend, outs_of}
 use Rattle.sweep_board.specs.declared.board.HelperSeat.{HelperSeat}
 use Rattle.helper_sweep.specs.Walks.{IsIdle}
-use Rattle.sweep_beside.proofs.Ascending.{ascend_jobs}
+use Rattle.sweeping.proofs.Ascending.{ascend_jobs}
 use Rattle.sweep_beside.proofs.Taking.{whole_slice}
 use Rattle.sweep_beside.proofs.beside.sweep_beside.Goals as goal
 

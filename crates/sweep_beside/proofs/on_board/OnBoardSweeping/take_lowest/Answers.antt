@@ -1,7 +1,7 @@
 use Rattle.std.proofs.Common.{ℕ, ◌+◌, ◌∷◌, ap, sym, ◌∙◌, drop, arith}
 use Rattle.std.proofs.lemmas.List.{length-map}
 use Rattle.sweep_board.specs.declared.board.Board.{Board}
-use Rattle.sweep_board.specs.Rule.{job_at}
+use Rattle.cell_bits.specs.Jobs.{job_at}
 use Rattle.sweep_board.specs.Seats.{jobs_of}
 use Rattle.sweeping.specs.ArenasOut.{outs_of, swept}
 use Rattle.sweeping.proofs.Taking.{some_left}

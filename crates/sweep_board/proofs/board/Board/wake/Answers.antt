@@ -1,5 +1,5 @@
 use Rattle.std.proofs.Common.{rules, ◌≡◌, bit_or, sym, subst, ◌<◌, length}
-use Rattle.sweep_board.specs.Rule.{job_at}
+use Rattle.cell_bits.specs.Jobs.{job_at}
 use Rattle.sweep_board.proofs.MainSteps.{waking}
 use Rattle.sweep_board.proofs.board.Board.wake.Goals as goal
 

@@ -17,7 +17,7 @@ use Rattle.std.proofs.lemmas.Map.Keys.{sorted_from_strictly_increasing, below_fr
 use native.Mathlib.Decide.{ℕ_discrete}
 use mathlib.Core.Logic.{dite}
 use Rattle.cell_bits.specs.declared.jobs.Job.{Job}
-use Rattle.sweep_board.specs.Rule.{no_job, job_at, ArenasAscend}
+use Rattle.cell_bits.specs.Jobs.{no_job, job_at, ArenasAscend}
 
 -- no job, and one more before jobs of higher arenas
 pub ascend-nil : ArenasAscend []

@@ -1,7 +1,7 @@
 -- Jobs whose arenas ascend may lie on a board.
 use Rattle.std.proofs.Common.{ℕ, zero, suc, ◌<◌, List, [], ◌∷◌, length, arith}
 use Rattle.cell_bits.specs.declared.jobs.Job.{Job}
-use Rattle.sweep_board.specs.Rule.{ArenasAscend, job_at}
+use Rattle.cell_bits.specs.Jobs.{ArenasAscend, job_at}
 use Rattle.sweeping.specs.ArenasOut.{AllAbove, Ascend, outs_of}
 
 above_at : (a : ℕ) (jobs : List Job) (k : ℕ) → AllAbove a (outs_of jobs) → k < length jobs → a < (job_at jobs k).arena
