@@ -1,13 +1,16 @@
 -- Numbers in decimal at the front of a text.
 use Rattle.std.proofs.Common.{◌≡◌, ◌≢◌, ℕ, ◌+◌, ◌-◌, ◌*◌, ◌^◌, ◌<◌, ◌≤◌, zero, suc, drop, List, [], ◌∷◌, ◌++◌, length}
 use Rattle.std.proofs.Common.{get_or, refl, ap, sym, subst, ◌∙◌, arith, add-one, true, false, Bool, rules}
-use Rattle.std.proofs.Common.{if◌then◌else◌}
+use Rattle.std.proofs.Common.{if◌then◌else◌, ltb, eqb, ne_eqb, eq-eqb}
 use Rattle.std.specs.Char.{is_ascii_digit}
 use Rattle.std.specs.Str.{all_ascii_digits}
 use Rattle.std.specs.Fmt.{decimal}
 use Rattle.std.proofs.Math.Seq.{drop-cons}
 use Rattle.std.proofs.lemmas.List.{length-append}
-use Rattle.std.proofs.lemmas.Bool.{agree_below_at}
+use Rattle.std.proofs.lemmas.Bool.{agree_below_at, ltb-true, ltb-false}
+use native.Mathlib.Decide.{ℕ_discrete}
+use mathlib.Core.Logic.{dite}
+use mathlib.Core.Bool.{◌&&◌}
 use Rattle.std.proofs.lemmas.Str.Parse.{IsNumeralModel, numerals_by_fold}
 use Rattle.std.proofs.lemmas.Fmt.{decimal_digit, digits_decimal, digits_value-decimal, decimal-digits_value}
 use Rattle.std.proofs.lemmas.Fmt.{decimal_nonempty, first_decimal}
@@ -154,6 +157,14 @@ digit_is d h = agree_below_at (λ k. is_ascii_digit (48 + k)) (λ _. true) 10 d 
 pub one_digit : (text rest : List ℕ) (d : ℕ) → d < 10 → text ≡ (48 + d) ∷ rest → text ≡ decimal d ++ rest
 one_digit text rest d h e = e ∙ ap (λ t. t ++ rest) (sym (decimal_digit d h))
 
+-- a digit in front is all of a number below 10
+pub is_digit : (rest others : List ℕ) (d n : ℕ) → n < 10 → (48 + d) ∷ rest ≡ decimal n ++ others
+    → (d ≡ n) × (rest ≡ others)
+is_digit rest others d n h e =
+    let whole : (48 + d) ∷ rest ≡ (48 + n) ∷ others = e ∙ ap (λ ds. ds ++ others) (decimal_digit n h) in
+    let first : 48 + d ≡ 48 + n = ap (λ t. get_or t 0 0) whole in
+    (omega (arith, first), ap (drop 1) whole)
+
 two_text : (d e : ℕ) → 0 < d → d < 10 → e < 10 → decimal (10 * d + e) ≡ (48 + d) ∷ (48 + e) ∷ []
 two_text d e some h k =
     let ds = (48 + d) ∷ (48 + e) ∷ [] in
@@ -210,6 +221,44 @@ only_two text rest others r d e n some h k small p q b is =
     let u = ends_by others (no_third others (10 * d + e) (omega arith) (omega (arith, value))) in
     let whole : n ≡ 10 * d + e = value ∙ ap (read_on (10 * d + e)) u.0 in
     (sym whole, sym (f.1 ∙ s.1 ∙ t.1 ∙ u.1))
+
+-- a digit begins no break
+no_break : (e : ℕ) (ds : List ℕ) → IsBreak ((48 + e) ∷ ds) → ⊥
+no_break e ds b = omega (arith, b)
+
+-- a number of one digit, or of two where a second one follows
+abbrev pub joined_digits : Bool → ℕ → ℕ → ℕ
+joined_digits two d e = if two then 10 * d + e else d
+
+abbrev pub behind_digits : Bool → List ℕ → List ℕ
+behind_digits two rest = drop (if two then 1 else 0) rest
+
+module _ (rest : List ℕ) (d e : ℕ) (h : d < 10) (next : e < 10 → rest ≡ (48 + e) ∷ drop 1 rest)
+    (none : 10 ≤ e → 0 < length rest → is_ascii_digit (get_or rest 0 0) ≡ false) where
+  pub short_text : (two : Bool) → ltb e 10 ≡ two → (two && eqb d 0) ≡ false
+      → (48 + d) ∷ rest ≡ decimal (joined_digits two d e) ++ behind_digits two rest
+  short_text true is more =
+      let k : e < 10 = ltb-true e 10 is in
+      let some : 0 < d = dite (ℕ_discrete d 0) (λ z. absurd (let t = eq-eqb d 0 z in cc (t, more))) (λ ne. omega arith) in
+      two_digits ((48 + d) ∷ rest) rest (drop 1 rest) d e some h k refl (next k)
+  short_text false is more = one_digit ((48 + d) ∷ rest) rest d h refl
+
+  pub short_only : (two : Bool) → ltb e 10 ≡ two → (n : ℕ) (r : List ℕ) → n < 100 → IsBreak r
+      → (48 + d) ∷ rest ≡ decimal n ++ r
+      → (joined_digits two d e ≡ n) × (behind_digits two rest ≡ r) × ((two && eqb d 0) ≡ false)
+  short_only true is n r small b f =
+      let k : e < 10 = ltb-true e 10 is in
+      dite (ℕ_discrete d 0)
+      (λ z. absurd (
+      let at = decimal_zero ((48 + d) ∷ rest) r rest n (omega (arith, small)) (ap (λ m. (48 + m) ∷ rest) z) f in
+      no_break e (drop 1 rest) (subst IsBreak (sym at.1 ∙ next k) b)))
+      (λ ne.
+      let is_two = only_two ((48 + d) ∷ rest) rest (drop 1 rest) r d e n (omega arith) h k small refl (next k) b f in
+      (is_two.0, is_two.1, ne_eqb d 0 ne))
+  short_only false is n r small b f =
+      let far : 10 ≤ e = ltb-false e 10 is in
+      let is_one = only_one ((48 + d) ∷ rest) rest r d n h (omega (arith, small)) refl (none far) b f in
+      (is_one.0, is_one.1, refl)
 
 pub digit_first : (text rest : List ℕ) (d : ℕ) → d < 10 → text ≡ (48 + d) ∷ rest
     → (0 < length text) × (is_ascii_digit (get_or text 0 0) ≡ true) × (get_or text 0 0 ≡ 48 + d)

@@ -1,6 +1,6 @@
 // Numbers at the front of a text.
-ghost use Rattle.std.specs.Prelude.{◌≡◌, ◌<◌, ◌≤◌, ◌+◌, ◌^◌, ◌++◌, ◌∷◌, ℕ, List, IfSome, IfNone, MatchOption, false};
-ghost use Rattle.std.specs.Prelude.{length, slice_index};
+ghost use Rattle.std.specs.Prelude.{◌≡◌, ◌<◌, ◌≤◌, ◌+◌, ◌*◌, ◌^◌, ◌++◌, ◌∷◌, ℕ, List, IfSome, IfNone, MatchOption, false};
+ghost use Rattle.std.specs.Prelude.{drop, length, nat_lt, slice_index, if◌then◌else◌};
 ghost use Rattle.std.specs.Char.{is_ascii_digit};
 ghost use Rattle.std.specs.Fmt.{decimal};
 ghost use Rattle.trace_lang.specs.Words.{IsBreak, number_word};
@@ -44,31 +44,74 @@ fn digit(byte: u8) -> Option<u64>
     }
 }
 
-// The digit that a text begins with, and what follows it.
+// The digit that a text begins with, or a number above 9 where it begins with none.
 #[inline(always)]
-fn first_digit(text: &[u8]) -> Option<(u64, &[u8])>
-    ensures some { IfSome result (λ p. (p.0 < 10) × (text.now ≡ (48 + p.0) ∷ p.1.now)) }
-    ensures none { IfNone result
-        (0 < length text.now → is_ascii_digit (slice_index text.now 0) ≡ false) }
+fn digit_or_more(text: &[u8]) -> u8
+    ensures digit { result < 10 → text.now ≡ (48 + result) ∷ drop 1 text.now }
+    ensures more { 10 ≤ result → 0 < length text.now → is_ascii_digit (slice_index text.now 0) ≡ false }
 {
     match text {
-        [first, rest @ ..] => Some((digit(*first)?, rest)),
-        _ => None,
+        [first, ..] => first.wrapping_sub(b'0'),
+        _ => u8::MAX,
     }
 }
 
-// A number and what follows it, if it is below the limit.
+// A digit, or two where the second is one.
 #[inline(always)]
-fn below(n: u64, limit: u64, rest: &[u8]) -> Option<(u64, &[u8])>
-    ensures some { IfSome result (λ p. (p.0 < limit) × (p.0 ≡ n) × (p.1.now ≡ rest.now)) }
-    ensures none { IfNone result (limit ≤ n) }
+fn join_digits(first: u64, second: u8) -> u64
+    requires { first < 10 }
+    ensures { result ≡ (if nat_lt second 10 then 10 * first + second else first) }
 {
-    if n < limit { Some((n, rest)) } else { None }
+    if second < 10 {
+        10 * first + u64::from(second)
+    } else {
+        first
+    }
+}
+
+// The number of one digit below a limit, which is that digit, and what follows it. A second digit begins
+// no word, so the rest of the line is refused.
+#[inline(always)]
+fn one_digit(first: u64, rest: &[u8], limit: u64) -> Option<(u64, &[u8])>
+    requires digit { first < 10 }
+    requires most { limit ≤ 10 }
+    ensures some { IfSome result
+        (λ p. (p.0 < limit) × ((48 + first) ∷ rest.now ≡ decimal p.0 ++ p.1.now)) }
+    ensures exact { (n : ℕ) (others : List ℕ) → n < limit
+        → (48 + first) ∷ rest.now ≡ decimal n ++ others
+        → MatchOption result ⊥ (λ p. (p.0 ≡ n) × (p.1.now ≡ others)) }
+{
+    if first < limit {
+        Some((first, rest))
+    } else {
+        None
+    }
+}
+
+// The number of at most two digits below a limit that begins with a digit, and what follows it. A third
+// digit begins no word, so the rest of the line is refused. How many digits there are decides no branch,
+// since no processor can foresee it.
+#[inline(always)]
+fn short_number(first: u64, rest: &[u8], limit: u64) -> Option<(u64, &[u8])>
+    requires digit { first < 10 }
+    requires most { limit ≤ 100 }
+    ensures some { IfSome result
+        (λ p. (p.0 < limit) × ((48 + first) ∷ rest.now ≡ decimal p.0 ++ p.1.now)) }
+    ensures exact { (n : ℕ) (others : List ℕ) → n < limit → IsBreak others
+        → (48 + first) ∷ rest.now ≡ decimal n ++ others
+        → MatchOption result ⊥ (λ p. (p.0 ≡ n) × (p.1.now ≡ others)) }
+{
+    let second = digit_or_more(rest);
+    let is_long = second < 10;
+    let n = join_digits(first, second);
+    if n >= limit || is_long && first == 0 {
+        return None;
+    }
+    Some((n, &rest[usize::from(is_long)..]))
 }
 
 // The number below a limit that begins with a digit, and what follows it. A number is `0`, or
-// digits of which the first is not `0`. Where the limit allows no third digit, none is looked for:
-// one that stands there begins no word, so the rest of the line is refused.
+// digits of which the first is not `0`.
 #[inline(always)]
 fn number(first: u64, rest: &[u8], limit: u64) -> Option<(u64, &[u8])>
     requires digit { first < 10 }
@@ -80,14 +123,17 @@ fn number(first: u64, rest: &[u8], limit: u64) -> Option<(u64, &[u8])>
         → (48 + first) ∷ rest.now ≡ decimal n ++ others
         → MatchOption result ⊥ (λ p. (p.0 ≡ n) × (p.1.now ≡ others)) }
 {
-    let Some((second, others)) = first_digit(rest) else {
-        return below(first, limit, rest);
-    };
+    if limit <= 10 {
+        return one_digit(first, rest, limit);
+    }
+    if limit <= 100 {
+        return short_number(first, rest, limit);
+    }
     if first == 0 {
         return Some((0, rest));
     }
-    if limit <= 100 {
-        return below(10 * first + second, limit, others);
+    if digit_or_more(rest) > 9 {
+        return Some((first, rest));
     }
     digits(first, rest, limit)
 }
