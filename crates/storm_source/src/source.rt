@@ -75,6 +75,23 @@ impl Rest {
         self.tail = &self.tail[count..];
         count
     }
+
+    // Gives bytes until the buffer is full or none are left, and answers how many.
+    fn give_all(&mut self, buf: &mut [u8]) -> usize
+        ensures bound { result ≤ length buf.new }
+        ensures bytes { left_of self.old ≡ take result buf.new ++ left_of self.new }
+        ensures end { result ≡ 0 → 0 < length buf.new → left_of self.old ≡ [] }
+    {
+        let mut count = 0usize;
+        while count < buf.len() {
+            let more = self.give_next(&mut buf[count..]);
+            if more == 0 {
+                break;
+            }
+            count += more;
+        }
+        count
+    }
 }
 
 /// A source of the bytes of a storm. It never fails, and takes no memory.
@@ -118,6 +135,6 @@ impl Source for StormSource {
     ghost faults = { λ _. 0 };
 
     fn take(&mut self, buf: &mut [u8]) -> Result<usize, Failed> {
-        Ok(self.rest.give_next(buf))
+        Ok(self.rest.give_all(buf))
     }
 }
