@@ -24,25 +24,19 @@ pub scan-requires-clause-holds : goal.scan-requires-clause-holds
 scan-requires-clause-holds g c =
     (started_taken _ _ _ _ _ (started g (goal.at.scan-requires-clause-holds g c).After-start)).invariant
 
-pub drain-requires-clause-holds : goal.drain-requires-clause-holds
-drain-requires-clause-holds g c =
-    let s = started g (goal.at.drain-requires-clause-holds g c).After-start in
-    scanned _ _ _ _ (joined c.scan.new.heap (g.F.Flight.bits c.scan.new.flight))
-    (pending c.scan.new.heap c.scan.new.stack)
-    (started_marks _ _ _ _ _ s).holds s.popped c.scan.ensures.follows.holds c.scan.ensures.follows.grows
-    c.scan.ensures.edges
-
-pub drain-requires-clause-weak : goal.drain-requires-clause-weak
-drain-requires-clause-weak g c =
-    started_point _ _ _ _ _ (started g (goal.at.drain-requires-clause-weak g c).After-start)
-    (joined c.scan.new.heap (g.F.Flight.bits c.scan.new.flight)) (pending c.scan.new.heap c.scan.new.stack)
-    c.scan.ensures.follows.grows
-
-pub drain-requires-clause-once : goal.drain-requires-clause-once
-drain-requires-clause-once g c =
-    started_once _ _ _ _ _ (started g (goal.at.drain-requires-clause-once g c).After-start)
-    (joined c.scan.new.heap (g.F.Flight.bits c.scan.new.flight)) (pending c.scan.new.heap c.scan.new.stack)
-    c.scan.ensures.follows.grows
+pub drain-requires : goal.drain-requires
+drain-requires g c =
+    let s = started g (goal.at.drain-requires g c).After-start in
+    let k = joined c.scan.new.heap (g.F.Flight.bits c.scan.new.flight) in
+    let r = pending c.scan.new.heap c.scan.new.stack in
+    let grows = c.scan.ensures.follows.grows in
+    record {
+      covers = c.scan.ensures.follows.covers;
+      holds = scanned _ _ _ _ k r (started_marks _ _ _ _ _ s).holds s.popped c.scan.ensures.follows.holds grows
+          c.scan.ensures.edges;
+      weak = started_point _ _ _ _ _ s k r grows;
+      once = started_once _ _ _ _ _ s k r grows;
+    }
 
 pub returns : goal.returns
 returns g c =
