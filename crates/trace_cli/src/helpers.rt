@@ -1,9 +1,9 @@
 // How many helpers sweep beside main.
 use arena_table::Jobs;
 
-// Where the words do not ask for helpers, none starts for fewer arenas: starting a thread takes longer than sweeping
-// some hundred of them (our choice).
-const FEWEST_ARENAS: usize = 1024;
+// Where the words do not ask for helpers, none starts for fewer arenas: making their board and starting a thread takes
+// longer than sweeping some thousand of them (our choice).
+const FEWEST_ARENAS: usize = 16_384;
 
 /// How many helpers sweep beside main at most, and from how many arenas on. No output depends on it.
 #[derive(Clone, Copy, Debug, PartialEq, Eq)]
@@ -13,7 +13,7 @@ pub struct Helpers {
 }
 
 impl Helpers {
-    /// So many helpers: for any arenas where the words ask for helpers, and else for 1,024 arenas or more.
+    /// So many helpers: for any arenas where the words ask for helpers, and else for 16,384 arenas or more.
     pub fn of(words: &[&str], most: u8) -> Self {
         Helpers {
             most: usize::from(most),
