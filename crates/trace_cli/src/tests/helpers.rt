@@ -1,8 +1,9 @@
 // Helpers beside main: what is written does not depend on them, and they sweep what is printed.
 ghost use Rattle.std.specs.Prelude.{None};
 
-use super::{ROWS, run};
+use super::ROWS;
 use crate::exit::Exit;
+use crate::reading::replay;
 use gz_io::{Buffered, Failed, FreeGate, Gate, MemSink, MemSource, Point, Sink};
 use std::sync::atomic::AtomicU64;
 use std::sync::atomic::Ordering::SeqCst;
@@ -38,13 +39,13 @@ fn answers_do_not_depend_on_the_number_of_helpers(rt: HostRuntime) -> Result<(),
         for (shows, trace, answers) in ROWS {
             let mut source = MemSource::new(trace, 64, &[]);
             let mut sink = MemSink::new(Vec::new(rt.alloc()), 64, &[]);
-            let ended = run(&rt, rt.alloc(), &words, &mut source, &mut sink, &FreeGate);
+            let ended = replay(&rt, rt.alloc(), &words, &mut source, &mut sink, &FreeGate);
             assert_eq!(rt; ended, Exit::Done, "{shows}");
             assert_eq!(rt; sink.bytes(), answers, "{shows}");
         }
         let mut source = MemSource::new(WAKE, 64, &[]);
         let mut sink = MemSink::new(Vec::new(rt.alloc()), 64, &[]);
-        let ended = run(&rt, rt.alloc(), &words, &mut source, &mut sink, &FreeGate);
+        let ended = replay(&rt, rt.alloc(), &words, &mut source, &mut sink, &FreeGate);
         assert_eq!(rt; ended, Exit::Done);
         assert_eq!(rt; sink.bytes(), WAKE_ANSWERS);
     }
@@ -56,7 +57,7 @@ fn input_may_end_while_an_arena_is_out(rt: HostRuntime) -> Result<(), Fail> {
     for words in BESIDE {
         let mut source = MemSource::new(&WAKE[..UP_TO_ENDED], 64, &[]);
         let mut sink = MemSink::new(Vec::new(rt.alloc()), 64, &[]);
-        let ended = run(&rt, rt.alloc(), &words, &mut source, &mut sink, &FreeGate);
+        let ended = replay(&rt, rt.alloc(), &words, &mut source, &mut sink, &FreeGate);
         assert_eq!(rt; ended, Exit::Done);
         assert_eq!(rt; WAKE_ANSWERS.starts_with(sink.bytes()), true);
         assert_eq!(rt; sink.bytes().ends_with(b"ended 0 gray 0\nslice 1\n"), true);
@@ -80,7 +81,7 @@ fn helpers_may_be_slow(rt: HostRuntime) -> Result<(), Fail> {
     for words in BESIDE {
         let mut source = MemSource::new(WAKE, 64, &[]);
         let mut sink = MemSink::new(Vec::new(rt.alloc()), 64, &[]);
-        let ended = run(&rt, rt.alloc(), &words, &mut source, &mut sink, &SlowGate);
+        let ended = replay(&rt, rt.alloc(), &words, &mut source, &mut sink, &SlowGate);
         assert_eq!(rt; ended, Exit::Done);
         assert_eq!(rt; sink.bytes(), WAKE_ANSWERS);
     }
@@ -194,7 +195,7 @@ fn the_helper_sweeps_what_is_printed(rt: HostRuntime) -> Result<(), Fail> {
         swept: None,
     };
     let words = ["gczone", "run", "--helpers", "2"];
-    let ended = run(&rt, rt.alloc(), &words, &mut source, &mut watch, &meeting);
+    let ended = replay(&rt, rt.alloc(), &words, &mut source, &mut watch, &meeting);
     assert_eq!(rt; ended, Exit::Done);
     assert_eq!(rt; watch.swept, Some(1));
     assert_eq!(rt; meeting.gave_up.load(SeqCst), 0);
@@ -224,7 +225,7 @@ fn storms_are_summed_up(rt: HostRuntime) -> Result<(), Fail> {
     for (words, summary) in storms {
         let mut source = MemSource::new(b"", 64, &[]);
         let mut sink = Buffered::new(MemSink::new(Vec::new(rt.alloc()), 7, &[]));
-        let ended = run(&rt, rt.alloc(), &words, &mut source, &mut sink, &FreeGate);
+        let ended = replay(&rt, rt.alloc(), &words, &mut source, &mut sink, &FreeGate);
         assert_eq!(rt; ended, Exit::Done);
         assert_eq!(rt; sink.inner().bytes(), summary);
     }

@@ -1,8 +1,8 @@
 // Collections in slices, with commands between their units.
 ghost use Rattle.std.specs.Prelude.{Some, None};
 
-use super::{RUN, run};
 use crate::exit::Exit;
+use crate::reading::replay;
 use gz_io::{Failed, FreeGate, MemSink, MemSource, Sink, Source};
 use std::alloc::Global;
 use std::process::Abort;
@@ -61,6 +61,16 @@ fn are_lines(alloc: Global, text: &str, wanted: &str) -> Result<bool, Fail> {
     Ok(at == wanted.len())
 }
 
+// Replays the trace of a source into a sink, to its exit.
+fn run<R: Threads + Wait + Sync, S: Source + Send, K: Sink + Send>(
+    rt: &R,
+    alloc: Global,
+    source: &mut S,
+    sink: &mut K,
+) -> Exit {
+    replay(rt, alloc, &["gczone", "run"], source, sink, &FreeGate)
+}
+
 // Whether what was written are the lines wanted.
 fn check_lines(rt: &impl Abort, alloc: Global, written: &[u8], wanted: &str) -> Result<(), Fail> {
     let text = str::from_utf8(written)?;
@@ -77,10 +87,7 @@ fn check<R: Abort + Threads + Wait + Sync>(
 ) -> Result<(), Fail> {
     let mut source = MemSource::new(trace, 5, &[]);
     let mut sink = MemSink::new(Vec::new(alloc), 4096, &[]);
-    assert_eq!(rt;
-        run(rt, alloc, &RUN, &mut source, &mut sink, &FreeGate),
-        Exit::Done
-    );
+    assert_eq!(rt; run(rt, alloc, &mut source, &mut sink), Exit::Done);
     check_lines(rt, alloc, sink.bytes(), wanted)
 }
 
@@ -226,10 +233,7 @@ fn check_asking<R: Abort + Threads + Wait + Sync>(
     let seen = AtomicU64::new(0);
     let mut source = Asking::new(piece, rest, &seen);
     let mut sink = Seeing::new(alloc, b"ended 0", &seen);
-    assert_eq!(rt;
-        run(rt, alloc, &RUN, &mut source, &mut sink, &FreeGate),
-        Exit::Done
-    );
+    assert_eq!(rt; run(rt, alloc, &mut source, &mut sink), Exit::Done);
     check_lines(rt, alloc, sink.taken.bytes(), wanted)
 }
 
@@ -321,7 +325,7 @@ fn sink_fails_while_arenas_are_out(rt: HostRuntime) -> Result<(), Fail> {
         faults: 0,
     };
     assert_eq!(rt;
-        run(&rt, rt.alloc(), &RUN, &mut source, &mut sink, &FreeGate),
+        run(&rt, rt.alloc(), &mut source, &mut sink),
         Exit::WriteFault
     );
     check_lines(
@@ -382,10 +386,7 @@ fn commands_between_any_two_units(rt: HostRuntime) -> Result<(), Fail> {
     }
     let mut source = MemSource::new(trace.as_bytes(), 4096, &[]);
     let mut sink = MemSink::new(Vec::new(alloc), 4096, &[]);
-    assert_eq!(rt;
-        run(&rt, alloc, &RUN, &mut source, &mut sink, &FreeGate),
-        Exit::Done
-    );
+    assert_eq!(rt; run(&rt, alloc, &mut source, &mut sink), Exit::Done);
     let mut replies = String::new(alloc);
     let mut collections: u64 = 0;
     for line in str::from_utf8(sink.bytes())?.lines() {
