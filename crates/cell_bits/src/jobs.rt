@@ -20,8 +20,8 @@ pub struct Taken {
     pub bits: Bits,
 }
 
-/// Where the job of an arena stands in jobs whose arenas ascend. It takes as many steps as the number of jobs has binary
-/// digits.
+/// Where the job of an arena stands in jobs whose arenas ascend. It takes as many steps as the number of jobs has
+/// binary digits.
 pub fn find_job(jobs: &[Job], arena: u32) -> Option<usize>
     requires { ArenasAscend jobs.now }
     ensures { result ≡ position (λ job. job.arena == arena) jobs.now }

@@ -239,7 +239,8 @@ module _ (rest : List ℕ) (d e : ℕ) (h : d < 10) (next : e < 10 → rest ≡ 
       → (48 + d) ∷ rest ≡ decimal (joined_digits two d e) ++ behind_digits two rest
   short_text true is more =
       let k : e < 10 = ltb-true e 10 is in
-      let some : 0 < d = dite (ℕ_discrete d 0) (λ z. absurd (let t = eq-eqb d 0 z in cc (t, more))) (λ ne. omega arith) in
+      let some : 0 < d = dite (ℕ_discrete d 0) (λ z. absurd (let t = eq-eqb d 0 z in cc (t, more)))
+      (λ ne. omega arith) in
       two_digits ((48 + d) ∷ rest) rest (drop 1 rest) d e some h k refl (next k)
   short_text false is more = one_digit ((48 + d) ∷ rest) rest d h refl
 

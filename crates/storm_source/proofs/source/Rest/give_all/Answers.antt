@@ -11,7 +11,8 @@ pub loop-count-preserved : goal.loop-count-preserved
 loop-count-preserved c =
     let more = c.give_next-more in
     let count = c.loop-count.count in
-    let front = filled c.loop-count.buf more.new.buf count _ more.result c.loop-count.invariant.0 more.ensures.bound in (
+    let front = filled c.loop-count.buf more.new.buf count _ more.result c.loop-count.invariant.0 more.ensures.bound
+    in (
       omega (arith, more.ensures.bound, more.auto.buf),
       c.loop-count.invariant.1
           ∙ ap (λ (bytes : List ℕ). take count c.loop-count.buf ++ bytes) more.ensures.bytes
