@@ -69,25 +69,6 @@ fn join_digits(first: u64, second: u8) -> u64
     }
 }
 
-// The number of one digit below a limit, which is that digit, and what follows it. A second digit begins
-// no word, so the rest of the line is refused.
-#[inline(always)]
-fn one_digit(first: u64, rest: &[u8], limit: u64) -> Option<(u64, &[u8])>
-    requires digit { first < 10 }
-    requires most { limit ≤ 10 }
-    ensures some { IfSome result
-        (λ p. (p.0 < limit) × ((48 + first) ∷ rest.now ≡ decimal p.0 ++ p.1.now)) }
-    ensures exact { (n : ℕ) (others : List ℕ) → n < limit
-        → (48 + first) ∷ rest.now ≡ decimal n ++ others
-        → MatchOption result ⊥ (λ p. (p.0 ≡ n) × (p.1.now ≡ others)) }
-{
-    if first < limit {
-        Some((first, rest))
-    } else {
-        None
-    }
-}
-
 // The number of at most two digits below a limit that begins with a digit, and what follows it. A third
 // digit begins no word, so the rest of the line is refused. How many digits there are decides no branch,
 // since no processor can foresee it.
@@ -123,8 +104,13 @@ fn number(first: u64, rest: &[u8], limit: u64) -> Option<(u64, &[u8])>
         → (48 + first) ∷ rest.now ≡ decimal n ++ others
         → MatchOption result ⊥ (λ p. (p.0 ≡ n) × (p.1.now ≡ others)) }
 {
+    // Of two digits the second begins no word, so the rest of the line is refused.
     if limit <= 10 {
-        return one_digit(first, rest, limit);
+        return if first < limit {
+            Some((first, rest))
+        } else {
+            None
+        };
     }
     if limit <= 100 {
         return short_number(first, rest, limit);
