@@ -22,8 +22,8 @@ use Rattle.trace_lang.proofs.Spelling.{same_word, word_text_one, word_text_word}
 use Rattle.trace_lang.proofs.ZoneLists.{number_words-break}
 use Rattle.storm_source.specs.Commands.{AreOfStorm, MakesNoZone, SpellAll}
 use Rattle.storm_source.specs.Trace.{drawn_lines, head_lines, storm_lines, tail_lines}
-use Rattle.storm_source.proofs.Commands.{all_drawn, all_four, first_commands, firsts_made, firsts_make_none}
-use Rattle.storm_source.proofs.Commands.{zone_made}
+use Rattle.storm_source.proofs.Spelled.{all_drawn, all_four, first_commands, firsts_made, firsts_make_none}
+use Rattle.storm_source.proofs.Spelled.{zone_made}
 
 -- a line has one first word, and one rest
 parted : (line : List ℕ) (w : Word) (rest : List ℕ) → line ≡ word_text w ++ rest → IsBreak rest → (d : Cmd)

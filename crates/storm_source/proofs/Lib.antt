@@ -1,5 +1,4 @@
-pub mod Commands
-pub mod Digits
 pub mod Exact
-pub mod Pieces
-pub mod ZoneBits
+pub mod Giving
+pub mod Rows
+pub mod Spelled

@@ -5,14 +5,18 @@ use Rattle.gz_names.specs.Zones.{zones_in}
 use Rattle.trace_lang.specs.Texts.{line_of}
 use Rattle.trace_lang.specs.Words.{gray_word, number_word, number_words, reg_word}
 use Rattle.storm_source.specs.Draws.{choice_of, next_state}
-use Rattle.storm_source.specs.declared.rows.Choice.{Choice}
-use Rattle.storm_source.specs.declared.rows.Choice.TheVariants as choice
+
+-- what a word of a line is drawn from; a number is drawn below a bound
+pub data Choice : Type 0 where
+  register : Choice
+  gray_slot : Choice
+  below : ℕ → Choice
 
 -- a word by the state after its draw
 abbrev pub choice_word : Choice → ℕ → List ℕ
-choice_word choice.Register x = reg_word (choice_of x 16)
-choice_word choice.GraySlot x = gray_word (choice_of x 64)
-choice_word (choice.Below m) x = number_word (choice_of x m)
+choice_word register x = reg_word (choice_of x 16)
+choice_word gray_slot x = gray_word (choice_of x 64)
+choice_word (below m) x = number_word (choice_of x m)
 
 -- words drawn from left to right, and the state after them
 abbrev pub words_text : List Choice → ℕ → List ℕ
@@ -40,16 +44,16 @@ row_word row =
 
 abbrev pub row_choices : ℕ → List Choice
 row_choices row =
-    if nat_lt row 3 then choice.Register ∷ choice.Below 8 ∷ choice.Below 5 ∷ []
-    else if nat_lt row 4 then choice.Register ∷ choice.Below 8 ∷ []
-    else if nat_lt row 6 then choice.Register ∷ choice.Register ∷ choice.Below 4 ∷ []
-    else if nat_lt row 8 then choice.Register ∷ choice.Below 4 ∷ choice.Register ∷ []
-    else if nat_lt row 9 then choice.Register ∷ choice.Register ∷ choice.Below 8 ∷ []
-    else if nat_lt row 10 then choice.Register ∷ choice.Register ∷ []
-    else if nat_lt row 12 then choice.Register ∷ choice.Register ∷ choice.Register ∷ []
-    else if nat_lt row 13 then choice.GraySlot ∷ choice.Register ∷ []
-    else if nat_lt row 14 then choice.Register ∷ choice.GraySlot ∷ []
-    else choice.Register ∷ []
+    if nat_lt row 3 then register ∷ below 8 ∷ below 5 ∷ []
+    else if nat_lt row 4 then register ∷ below 8 ∷ []
+    else if nat_lt row 6 then register ∷ register ∷ below 4 ∷ []
+    else if nat_lt row 8 then register ∷ below 4 ∷ register ∷ []
+    else if nat_lt row 9 then register ∷ register ∷ below 8 ∷ []
+    else if nat_lt row 10 then register ∷ register ∷ []
+    else if nat_lt row 12 then register ∷ register ∷ register ∷ []
+    else if nat_lt row 13 then gray_slot ∷ register ∷ []
+    else if nat_lt row 14 then register ∷ gray_slot ∷ []
+    else register ∷ []
 
 -- the zones of a `gc`, as a word of four bits that is not 0: zone i for bit i
 abbrev pub zone_bits : ℕ → ℕ
@@ -60,7 +64,7 @@ abbrev pub collection_line : ℕ → List ℕ
 collection_line x =
     if choice_of (next_state x) 4 == 0
     then codes "gc" ++ number_words (zones_in (record { bits = zone_bits (next_state (next_state x)) }))
-    else codes "slice" ++ words_text (choice.Below 64 ∷ []) (next_state x)
+    else codes "slice" ++ words_text (below 64 ∷ []) (next_state x)
 
 -- a line, whose first draw chooses one of 16 rows, and the state after it
 abbrev pub drawn_line : ℕ → List ℕ

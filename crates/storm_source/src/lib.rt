@@ -1,4 +1,4 @@
-// The generated trace, as a source of bytes.
+// The generated trace, as a source of commands.
 //
 // [gczone] The storm
 //
@@ -17,16 +17,14 @@
 //     12        hold    a gray slot, a register
 //     15        gc, or slice
 //
-// Nothing is kept but the line that was drawn last. At any moment the bytes still to come are what is left of the
-// head, what is left of this line, the lines that are not drawn yet, and what is left of the tail. No memory is taken,
-// and no call fails. Every line of a storm is in the language (`storm_law`), so a replay of it meets no bad line; many
-// are refused, as a line that reads an empty register.
+// A storm is defined as text, and no text is made of it: each line is in the language (`storm_law`), and what is drawn
+// is the command that it stands for (`StormSource`). No memory is taken, and no call fails. Many of the commands are
+// refused, as one that reads an empty register.
 #![tactic(auto)]
 
+mod commands;
 mod generator;
 mod laws;
-mod line;
-mod rows;
 mod source;
 #[cfg(test)]
 mod tests;

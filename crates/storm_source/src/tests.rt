@@ -1,7 +1,9 @@
 use crate::StormSource;
-use gz_io::{LineReader, Next, Source};
+use command_source::{CommandSource, NextCommand};
+use gz_names::{Cmd, GraphCmd};
 use std::process::Abort;
 use std::test::Fail;
+use trace_lang::parse;
 
 // The lines round those that are drawn.
 const HEAD: [&[u8]; 16] = [
@@ -68,83 +70,87 @@ const FROM_SEVEN: [&[u8]; 12] = [
     b"wrap r8 r4 7",
 ];
 
-// Reads lines, which are to be these.
-fn check_lines(
-    rt: &impl Abort,
-    reader: &mut LineReader,
-    source: &mut StormSource,
-    lines: &[&[u8]],
-) {
+// Takes commands, which are to be those of these lines.
+fn check_commands(rt: &impl Abort, source: &mut StormSource, lines: &[&[u8]]) {
     for line in lines {
-        assert!(rt; matches!(reader.next(source), Next::Line(_)));
-        assert_eq!(rt; reader.line(), *line);
+        let given = source.next();
+        assert!(rt; matches!(given, NextCommand::Command(_)));
+        if let NextCommand::Command(command) = given {
+            assert_eq!(rt; parse(line), Ok(command));
+        }
     }
 }
 
 #[test]
-fn first_lines_are_those_of_another_generator(rt: HostRuntime) -> Result<(), Fail> {
+fn first_commands_are_those_of_another_generator(rt: HostRuntime) -> Result<(), Fail> {
     let mut source = StormSource::new(1, 1000);
-    let mut reader = LineReader::new();
-    check_lines(&rt, &mut reader, &mut source, &HEAD);
-    check_lines(&rt, &mut reader, &mut source, &FROM_ONE);
+    check_commands(&rt, &mut source, &HEAD);
+    check_commands(&rt, &mut source, &FROM_ONE);
     let mut source = StormSource::new(7, 10000);
-    let mut reader = LineReader::new();
-    check_lines(&rt, &mut reader, &mut source, &HEAD);
-    check_lines(&rt, &mut reader, &mut source, &FROM_SEVEN);
+    check_commands(&rt, &mut source, &HEAD);
+    check_commands(&rt, &mut source, &FROM_SEVEN);
     Ok(())
 }
 
 #[test]
 fn a_storm_ends_with_a_collection_of_all_zones(rt: HostRuntime) -> Result<(), Fail> {
     let mut source = StormSource::new(1, 4);
-    let mut reader = LineReader::new();
-    check_lines(&rt, &mut reader, &mut source, &HEAD);
-    check_lines(&rt, &mut reader, &mut source, &FROM_ONE[..4]);
-    check_lines(&rt, &mut reader, &mut source, &TAIL);
-    assert_eq!(rt; reader.next(&mut source), Next::End);
+    check_commands(&rt, &mut source, &HEAD);
+    check_commands(&rt, &mut source, &FROM_ONE[..4]);
+    check_commands(&rt, &mut source, &TAIL);
+    assert_eq!(rt; source.next(), NextCommand::End);
+    assert_eq!(rt; source.next(), NextCommand::End);
     Ok(())
 }
 
-#[test]
-fn pieces_of_one_byte_give_every_byte(rt: HostRuntime) -> Result<(), Fail> {
-    let mut source = StormSource::new(1, 4);
-    let mut byte = [0u8];
-    let mut count = 0usize;
-    for _ in 0..1000 {
-        count = count.wrapping_add(source.take(&mut byte)?);
+// A command in a sum: its word and its arguments.
+fn places(command: &Cmd) -> [u8; 4] {
+    match command {
+        Cmd::Graph(GraphCmd::New(r, d, n)) => [1, r.index(), d.0, *n],
+        Cmd::Graph(GraphCmd::Map(r, d)) => [2, r.index(), d.0, 0],
+        Cmd::Graph(GraphCmd::Get(r, s, f)) => [3, r.index(), s.index(), *f],
+        Cmd::Graph(GraphCmd::Set(s, f, Some(t))) => [4, s.index(), *f, t.index()],
+        Cmd::Graph(GraphCmd::Wrap(r, s, d)) => [5, r.index(), s.index(), d.0],
+        Cmd::Graph(GraphCmd::Unwrap(r, s)) => [6, r.index(), s.index(), 0],
+        Cmd::Graph(GraphCmd::Put(m, k, v)) => [7, m.index(), k.index(), v.index()],
+        Cmd::Graph(GraphCmd::Find(r, m, k)) => [8, r.index(), m.index(), k.index()],
+        Cmd::Graph(GraphCmd::Hold(g, r)) => [9, g.index(), r.index(), 0],
+        Cmd::Graph(GraphCmd::Expose(r, g)) => [10, r.index(), g.index(), 0],
+        Cmd::Graph(GraphCmd::Drop(r)) => [11, r.index(), 0, 0],
+        Cmd::Gc(zones) => [12, (zones.bits % 256) as u8, 0, 0],
+        Cmd::Slice(n) => [13, (*n % 256) as u8, 0, 0],
+        _ => [0; 4],
     }
-    assert_eq!(rt; count, 206);
-    Ok(())
 }
 
-// The length of a storm and a sum of its bytes (FNV-1a, 64 bits).
-fn sum_of(mut source: StormSource) -> Result<(usize, u64), Fail> {
-    let mut bytes = [0u8; 64];
-    let mut count = 0usize;
+// The number of a storm's commands and a sum of them (FNV-1a, 64 bits).
+fn sum_of(mut source: StormSource) -> (u64, u64) {
+    let mut count = 0u64;
     let mut sum = 14695981039346656037u64;
     for _ in 0..20_000 {
-        let n = source.take(&mut bytes)?;
-        count = count.wrapping_add(n);
-        for byte in bytes.iter().take(n) {
-            sum = (sum ^ u64::from(*byte)).wrapping_mul(1099511628211);
+        if let NextCommand::Command(command) = source.next() {
+            count = count.wrapping_add(1);
+            for place in places(&command) {
+                sum = (sum ^ u64::from(place)).wrapping_mul(1099511628211);
+            }
         }
     }
-    Ok((count, sum))
+    (count, sum)
 }
 
 #[test]
 fn sums_of_whole_storms_are_those_of_another_generator(rt: HostRuntime) -> Result<(), Fail> {
     assert_eq!(rt;
-        sum_of(StormSource::new(1, 1000))?,
-        (12385, 5084524014362786346)
+        sum_of(StormSource::new(1, 1000)),
+        (1019, 15297864859968440957)
     );
     assert_eq!(rt;
-        sum_of(StormSource::new(7, 10000))?,
-        (121692, 10085221093998606312)
+        sum_of(StormSource::new(7, 10000)),
+        (10019, 13196704796180186679)
     );
     assert_eq!(rt;
-        sum_of(StormSource::new(2147483647, 500))?,
-        (6147, 4405787066502181425)
+        sum_of(StormSource::new(2147483647, 500)),
+        (519, 3280682064158074291)
     );
     Ok(())
 }

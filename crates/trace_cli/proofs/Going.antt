@@ -3,7 +3,7 @@ use Rattle.std.proofs.Common.{◌≡◌, ◌≢◌, ℕ, ◌+◌, ◌-◌, ◌^�
 use Rattle.std.proofs.Common.{Result, Ok, Err, is_some, refl, sym, subst, ◌∙◌, arith, inl, inr, ◌⊎◌}
 use Rattle.std.specs.Prelude.{OnOk, OnErr, IfNone, IfSome}
 use Rattle.std.specs.Result.{is_err}
-use Rattle.std.specs.Io.KnownBytes.{Appends, prepend_known}
+use Rattle.std.specs.Io.KnownBytes.{Appends}
 use Rattle.gz_io.specs.Causes.{AppendsFront, Rose}
 use Rattle.gz_io.specs.Lines.{GivesKnown}
 use Rattle.gz_io.specs.declared.reader.Next.TheVariants as next
@@ -14,6 +14,8 @@ use Rattle.cell_bits.specs.declared.bits.Bits.{Bits}
 use Rattle.colour_defs.specs.Laws.{IsValid}
 use Rattle.colour_defs.specs.Lawful.{Answers}
 use Rattle.colour_defs.specs.World.{World, first_world}
+use Rattle.command_source.specs.Giving.{GivesCommand}
+use Rattle.command_source.specs.Input.{Input, to_come}
 use Rattle.slice_driver.specs.Advances.{AreOut}
 use Rattle.slice_driver.specs.Collector.{CollectorState}
 use Rattle.slice_driver.specs.Left.{units_left}
@@ -27,10 +29,9 @@ use Rattle.trace_cli.specs.declared.pending.Pending.{Pending}
 use Rattle.trace_cli.specs.Headline.{Replays, WritesFront, WritesStart}
 use Rattle.trace_cli.specs.Pending.{Allows, done_of}
 use Rattle.trace_cli.specs.Reaching.{Stands}
-use Rattle.trace_cli.specs.Served.{StandsFor}
 use Rattle.trace_cli.specs.Standing.{Amid, AnswersLine, Between, EndsIn, Entry, HasEnded, IsFirst, IsReady, IsStanding}
 use Rattle.trace_cli.specs.Standing.{HasMadeAtMost, MakesNone, Standing, StandsWith, amid, answers, between, last_line}
-use Rattle.trace_cli.specs.Standing.{ready, somewhere}
+use Rattle.trace_cli.specs.Standing.{ready, somewhere, untaken}
 use Rattle.trace_cli.specs.Starting.{IsAnswering, StartedAs}
 use Rattle.trace_cli.specs.Worlds.{EachWorld}
 use Rattle.trace_cli.specs.Writing.{BreaksInUnits, Goes, StopsInUnits}
@@ -56,14 +57,14 @@ rose_more a b c le rose =
     let s : min (a + 1) (2 ^ 64 - 1) ≤ c = omega (arith, le, r) in s
 
 -- the end of a replay by an exit, or by a fault of the sink
-pub ended_by : (e : Entry) (m : Machine) (x r : Exit) (left : Option (List ℕ)) (reads : ℕ) (q : Option (List ℕ))
+pub ended_by : (e : Entry) (m : Machine) (x r : Exit) (i : Input) (q : Option (List ℕ))
     (f g behind : ℕ)
-    → Replays e.left left e.written q r
+    → Replays e.left i.left e.written q r
     → ((r ≡ x) × (g ≡ f) × (behind ≡ 0)) ⊎ ((r ≡ exit.WriteFault) × Rose f g) → e.writes ≤ f
-    → (x ≡ exit.Done → (reads ≡ e.reads) × (f ≡ e.writes)) → (x ≡ exit.ReadFault → Rose e.reads reads)
+    → (x ≡ exit.Done → (i.faults ≡ e.reads) × (f ≡ e.writes)) → (x ≡ exit.ReadFault → Rose e.reads i.faults)
     → x ≢ exit.WriteFault → x ≢ exit.Usage → x ≢ exit.Unsound → (x ≡ exit.Done → EndsIn e m q)
-    → HasEnded e r m left reads q g behind
-ended_by e m x r left reads q f g behind lawful (inl h) le done read other usage verdict ends = record {
+    → HasEnded e r m i q g behind
+ended_by e m x r i q f g behind lawful (inl h) le done read other usage verdict ends = record {
   lawful = lawful;
   quiet = λ k. (let d = done (sym h.0 ∙ k) in (d.0, h.1 ∙ d.1));
   handed_on = λ k. h.2;
@@ -73,7 +74,7 @@ ended_by e m x r left reads q f g behind lawful (inl h) le done read other usage
   no_verdict = λ k. verdict (sym h.0 ∙ k);
   ends_in = λ k. ends (sym h.0 ∙ k);
 }
-ended_by e m x r left reads q f g behind lawful (inr h) le done read other usage verdict ends = record {
+ended_by e m x r i q f g behind lawful (inr h) le done read other usage verdict ends = record {
   lawful = lawful;
   quiet = λ k. absurd (let t = h.0 in cc (t, k));
   handed_on = λ k. absurd (let t = h.0 in cc (t, k));
@@ -84,10 +85,10 @@ ended_by e m x r left reads q f g behind lawful (inr h) le done read other usage
   ends_in = λ k. absurd (let t = h.0 in cc (t, k));
 }
 
-pub ended_write : (e : Entry) (m : Machine) (left : Option (List ℕ)) (reads : ℕ) (q : Option (List ℕ)) (f g behind : ℕ)
-    → Replays e.left left e.written q exit.WriteFault → e.writes ≤ f → Rose f g
-    → HasEnded e exit.WriteFault m left reads q g behind
-ended_write e m left reads q f g behind lawful le rose = record {
+pub ended_write : (e : Entry) (m : Machine) (i : Input) (q : Option (List ℕ)) (f g behind : ℕ)
+    → Replays e.left i.left e.written q exit.WriteFault → e.writes ≤ f → Rose f g
+    → HasEnded e exit.WriteFault m i q g behind
+ended_write e m i q f g behind lawful le rose = record {
   lawful = lawful;
   quiet = λ k. absurd (cc k);
   handed_on = λ k. absurd (cc k);
@@ -96,6 +97,20 @@ ended_write e m left reads q f g behind lawful le rose = record {
   runs = λ k. cc k;
   no_verdict = λ k. cc k;
   ends_in = λ k. absurd (cc k);
+}
+
+-- an end says nothing of bytes that are held
+pub ended_untaken : {e : Entry} {x : Exit} {m : Machine} {i : Input} {written : Option (List ℕ)} {writes behind : ℕ}
+    → HasEnded e x m i written writes behind → HasEnded e x m (untaken i.left i.faults) written writes behind
+ended_untaken h = record {
+  lawful = h.lawful;
+  quiet = h.quiet;
+  handed_on = h.handed_on;
+  read = h.read;
+  write = h.write;
+  runs = h.runs;
+  no_verdict = h.no_verdict;
+  ends_in = h.ends_in;
 }
 
 -- every line was answered, where the source gave no byte more
@@ -170,32 +185,27 @@ pub opened_ready : {c : CollectorState} {outs : List (ℕ × ℕ)} {flown : ℕ 
     → IsReady c outs flown n → Ready c outs flown n
 opened_ready (ready sound out made below) = record { sound = sound; out = out; made = made; below = below }
 
--- a line that was started
-pub line_answered : {T : Type 0} (line : List ℕ) (old new : CollectorState) (flown flying : ℕ → Option Bits) (n : ℕ)
+-- a command that was started
+pub line_answered : {T : Type 0} (c : Cmd) (old new : CollectorState) (flown flying : ℕ → Option Bits) (n : ℕ)
     (outs : List (ℕ × ℕ)) (p q : Option (List ℕ)) (left : Option Pending) (r : Result T AnswerFault)
-    → StandsWith new outs flying → HasMadeAtMost new (n + 1)
-    → OnOk r ((c : Cmd) × StandsFor line c × StartedAs left c old flown new flying p q)
-    → OnOk r (AnswersLine line left old flown n new outs flying p q)
-line_answered line old new flown flying n outs p q left (Ok x) stands made done =
-    answers done.0 done.1 done.2 stands.out stands.sound made
-line_answered line old new flown flying n outs p q left (Err f) stands made done = tt
+    → StandsWith new outs flying → HasMadeAtMost new (n + 1) → OnOk r (StartedAs left c old flown new flying p q)
+    → OnOk r (AnswersLine c left old flown n new outs flying p q)
+line_answered c old new flown flying n outs p q left (Ok x) stands made done =
+    answers done stands.out stands.sound made
+line_answered c old new flown flying n outs p q left (Err f) stands made done = tt
 
 -- the same, opened
-pub record Started (line : List ℕ) (left : Option Pending) (old : CollectorState) (flown : ℕ → Option Bits) (n : ℕ)
+pub record Started (c : Cmd) (left : Option Pending) (old : CollectorState) (flown : ℕ → Option Bits) (n : ℕ)
     (new : CollectorState) (outs : List (ℕ × ℕ)) (flying : ℕ → Option Bits) (p q : Option (List ℕ)) : Type 0 where
-  pub command : Cmd
-  pub spelt : StandsFor line command
-  pub does : StartedAs left command old flown new flying p q
+  pub does : StartedAs left c old flown new flying p q
   pub out : AreOut new.heap.shape outs
   pub sound : IsSound new flying
   pub made : HasMadeAtMost new (n + 1)
 
-pub opened_line : {line : List ℕ} {left : Option Pending} {old : CollectorState} {flown : ℕ → Option Bits} {n : ℕ}
+pub opened_line : {c : Cmd} {left : Option Pending} {old : CollectorState} {flown : ℕ → Option Bits} {n : ℕ}
     {new : CollectorState} {outs : List (ℕ × ℕ)} {flying : ℕ → Option Bits} {p q : Option (List ℕ)}
-    → AnswersLine line left old flown n new outs flying p q → Started line left old flown n new outs flying p q
-opened_line (answers c spelt does out sound made) = record {
-  command = c;
-  spelt = spelt;
+    → AnswersLine c left old flown n new outs flying p q → Started c left old flown n new outs flying p q
+opened_line (answers does out sound made) = record {
   does = does;
   out = out;
   sound = sound;
@@ -203,38 +213,38 @@ opened_line (answers c spelt does out sound made) = record {
 }
 
 -- where a line is to be asked for, and where one is being answered
-pub record AtStart (e : Entry) (m : Machine) (left : Option (List ℕ)) (reads : ℕ) (written : Option (List ℕ))
+pub record AtStart (e : Entry) (m : Machine) (i : Input) (written : Option (List ℕ))
     (writes : ℕ) (outs : List (ℕ × ℕ)) (flown : ℕ → Option Bits) : Type 0 where
   pub few : m.answered ≤ 4294967295
-  pub here : Between e (prepend_known m.reader.held left) written m.answered m.collector outs flown
-  pub reads_are : reads ≡ e.reads
+  pub here : Between e (to_come i) written m.answered m.collector outs flown
+  pub reads_are : i.faults ≡ e.reads
   pub writes_are : writes ≡ e.writes
 
-pub opened_start : {e : Entry} {m : Machine} {left written : Option (List ℕ)} {reads writes : ℕ}
+pub opened_start : {e : Entry} {m : Machine} {i : Input} {written : Option (List ℕ)} {writes : ℕ}
     {outs : List (ℕ × ℕ)} {flown : ℕ → Option Bits} → m.pending ≡ None
-    → Standing e m left reads written writes outs flown → AtStart e m left reads written writes outs flown
+    → Standing e m i written writes outs flown → AtStart e m i written writes outs flown
 opened_start none (between n few b r w) = record { few = few; here = b; reads_are = r; writes_are = w }
 opened_start none (amid more some few a r w) = absurd (cc (none, some))
 
-pub record AtAmid (e : Entry) (m : Machine) (more : Pending) (left : Option (List ℕ)) (reads : ℕ)
+pub record AtAmid (e : Entry) (m : Machine) (more : Pending) (i : Input)
     (written : Option (List ℕ)) (writes : ℕ) (outs : List (ℕ × ℕ)) (flown : ℕ → Option Bits) : Type 0 where
   pub few : m.answered < 4294967295
-  pub here : Amid e (prepend_known m.reader.held left) written m.answered m.collector more outs flown
-  pub reads_are : reads ≡ e.reads
+  pub here : Amid e (to_come i) written m.answered m.collector more outs flown
+  pub reads_are : i.faults ≡ e.reads
   pub writes_are : writes ≡ e.writes
 
 same_some : (a b : Pending) (o : Option Pending) → o ≡ Some a → o ≡ Some b → a ≡ b
 same_some a b o x y = cc (x, y)
 
-pub opened_amid : {e : Entry} {m : Machine} {more : Pending} {left written : Option (List ℕ)} {reads writes : ℕ}
+pub opened_amid : {e : Entry} {m : Machine} {more : Pending} {i : Input} {written : Option (List ℕ)} {writes : ℕ}
     {outs : List (ℕ × ℕ)} {flown : ℕ → Option Bits} → m.pending ≡ Some more
-    → Standing e m left reads written writes outs flown → AtAmid e m more left reads written writes outs flown
-opened_amid {e} {m} {more} {left} {written} {reads} {writes} {outs} {flown} some (between none few b r w) =
+    → Standing e m i written writes outs flown → AtAmid e m more i written writes outs flown
+opened_amid {e} {m} {more} {i} {written} {writes} {outs} {flown} some (between none few b r w) =
     absurd (cc (none, some))
-opened_amid {e} {m} {more} {left} {written} {reads} {writes} {outs} {flown} some (amid other is few a r w) = record {
+opened_amid {e} {m} {more} {i} {written} {writes} {outs} {flown} some (amid other is few a r w) = record {
   few = few;
   here = subst
-      (λ (x : Pending). Amid e (prepend_known m.reader.held left) written m.answered m.collector x outs flown)
+      (λ (x : Pending). Amid e (to_come i) written m.answered m.collector x outs flown)
       (same_some other more m.pending is some) a;
   reads_are = r;
   writes_are = w;
@@ -246,25 +256,25 @@ KeepsValid = (w v : World) (c : Cmd) (reports : List Report) (answer : Reply) �
     → IsValid v
 
 -- a line was started in a world that the lines so far lead to
-module _ (e : Entry) (xs ys p q r : Option (List ℕ)) (line : List ℕ) (size n : ℕ) (c d : CollectorState)
+module _ (e : Entry) (xs ys p q r : Option (List ℕ)) (command : Cmd) (n : ℕ) (c d : CollectorState)
     (outs others : List (ℕ × ℕ)) (f g : ℕ → Option Bits) (so : Between e xs p n c outs f) (kept : Appends p q [])
-    (given : GivesKnown xs ys (next.Line size) line) where
+    (given : GivesCommand xs ys command) where
   -- it was answered whole
-  pub between_next : KeepsValid → (b : Started line None c f n d others g q r) → Between e ys r (n + 1) d others g
+  pub between_next : KeepsValid → (b : Started command None c f n d others g q r) → Between e ys r (n + 1) d others g
   between_next valid b =
       let writes = b.does so.world so.valid so.represents so.within in record {
         world = writes.after;
         represents = writes.represents;
-        valid = valid so.world writes.after b.command writes.reports writes.answer so.valid writes.answers;
+        valid = valid so.world writes.after command writes.reports writes.answer so.valid writes.answers;
         within = writes.within;
-        stands = stands_more _ _ _ _ _ _ _ _ line so.world b.command d g
-            (stands_kept _ _ _ _ _ _ so.world so.stands kept) given b.spelt writes;
+        stands = stands_more _ _ _ _ _ _ _ so.world command d g
+            (stands_kept _ _ _ _ _ _ so.world so.stands kept) given writes;
         made = b.made;
         out = b.out;
       }
 
   -- its units are to be done
-  pub amid_first : (left : Pending) → units_left d g < 2 ^ 64 → (b : Started line (Some left) c f n d others g q r)
+  pub amid_first : (left : Pending) → units_left d g < 2 ^ 64 → (b : Started command (Some left) c f n d others g q r)
       → Amid e ys r n d left others g
   amid_first left small b =
       let begins = b.does.0 so.world so.valid so.represents so.within in record {
@@ -273,11 +283,8 @@ module _ (e : Entry) (xs ys p q r : Option (List ℕ)) (line : List ℕ) (size n
         asked = xs;
         before = r;
         stands = stands_kept _ _ _ _ _ _ so.world (stands_kept _ _ _ _ _ _ so.world so.stands kept) b.does.1;
-        line = line;
-        size = size;
+        command = command;
         given = given;
-        command = b.command;
-        spelt = b.spelt;
         begun = begins.begun;
         most = units_to_come d g;
         count = 0;
@@ -323,11 +330,8 @@ module _ (e : Entry) (xs p q : Option (List ℕ)) (n : ℕ) (c d : CollectorStat
     asked = a.asked;
     before = a.before;
     stands = a.stands;
-    line = a.line;
-    size = a.size;
-    given = a.given;
     command = a.command;
-    spelt = a.spelt;
+    given = a.given;
     begun = a.begun;
     most = a.most;
     count = a.count + goes.count;
@@ -355,7 +359,7 @@ module _ (e : Entry) (xs q r : Option (List ℕ)) (n : ℕ) (d : CollectorState)
         represents = writes.represents;
         valid = valid a.world writes.after a.command writes.reports writes.answer a.valid writes.answers;
         within = writes.within;
-        stands = stands_more _ _ _ _ _ _ _ _ a.line a.world a.command d g a.stands a.given a.spelt writes;
+        stands = stands_more _ _ _ _ _ _ _ a.world a.command d g a.stands a.given writes;
         made = a.made;
         out = a.out;
       }
@@ -365,53 +369,53 @@ module _ (e : Entry) (xs q r : Option (List ℕ)) (n : ℕ) (d : CollectorState)
       line_fronts a.world a.command left a.count a.begun a.most d g a.before q r a.answering a.units over written
 
 -- what the next line asks
-pub ready_at : {m : Machine} {left written : Option (List ℕ)} {reads writes : ℕ} {outs : List (ℕ × ℕ)}
+pub ready_at : {m : Machine} {i : Input} {written : Option (List ℕ)} {writes : ℕ} {outs : List (ℕ × ℕ)}
     {flown : ℕ → Option Bits} → m.pending ≡ None → (m.answered ≤ 4294967295 → m.answered < 4294967295)
-    → IsStanding m left reads written writes outs flown → IsReady m.collector outs flown m.answered
+    → IsStanding m i written writes outs flown → IsReady m.collector outs flown m.answered
 ready_at none below (somewhere e s) =
     let so = opened_start none s in
     ready (record { world = so.here.world; valid = so.here.valid; represents = so.here.represents }) so.here.out
     so.here.made (below so.few)
 
 -- what the units of a line ask
-pub stands_at : {m : Machine} {more : Pending} {left written : Option (List ℕ)} {reads writes : ℕ}
+pub stands_at : {m : Machine} {more : Pending} {i : Input} {written : Option (List ℕ)} {writes : ℕ}
     {outs : List (ℕ × ℕ)} {flown : ℕ → Option Bits} → m.pending ≡ Some more
-    → IsStanding m left reads written writes outs flown → StandsWith m.collector outs flown
-stands_at {m} {more} {left} {written} {reads} {writes} {outs} {flown} some (somewhere e s) =
+    → IsStanding m i written writes outs flown → StandsWith m.collector outs flown
+stands_at {m} {more} {i} {written} {writes} {outs} {flown} some (somewhere e s) =
     let so = opened_amid some s in
-    amid_stands e (prepend_known m.reader.held left) written written m.answered m.collector m.collector more more outs
+    amid_stands e (to_come i) written written m.answered m.collector m.collector more more outs
     outs flown flown so.here
 
-pub few_at : {m : Machine} {more : Pending} {left written : Option (List ℕ)} {reads writes : ℕ}
+pub few_at : {m : Machine} {more : Pending} {i : Input} {written : Option (List ℕ)} {writes : ℕ}
     {outs : List (ℕ × ℕ)} {flown : ℕ → Option Bits} → m.pending ≡ Some more
-    → IsStanding m left reads written writes outs flown → done_of more + units_left m.collector flown < 2 ^ 64
-few_at {m} {more} {left} {written} {reads} {writes} {outs} {flown} some (somewhere e s) =
+    → IsStanding m i written writes outs flown → done_of more + units_left m.collector flown < 2 ^ 64
+few_at {m} {more} {i} {written} {writes} {outs} {flown} some (somewhere e s) =
     let so = opened_amid some s in
-    amid_few e (prepend_known m.reader.held left) written written m.answered m.collector m.collector more more outs
+    amid_few e (to_come i) written written m.answered m.collector m.collector more more outs
     outs flown flown so.here
 
-pub below_at : {m : Machine} {more : Pending} {left written : Option (List ℕ)} {reads writes : ℕ}
+pub below_at : {m : Machine} {more : Pending} {i : Input} {written : Option (List ℕ)} {writes : ℕ}
     {outs : List (ℕ × ℕ)} {flown : ℕ → Option Bits} → m.pending ≡ Some more
-    → IsStanding m left reads written writes outs flown → m.answered < 4294967295
+    → IsStanding m i written writes outs flown → m.answered < 4294967295
 below_at some (somewhere e s) = (opened_amid some s).few
 
 same_none : (flown : ℕ → Option Bits) → ((a : ℕ) → flown a ≡ None) → flown ≡ none_flown
 same_none flown still = λ i a. still a i
 
 -- where no arena is out
-pub no_flight : {e : Entry} {m : Machine} {left written : Option (List ℕ)} {reads writes : ℕ} {outs : List (ℕ × ℕ)}
+pub no_flight : {e : Entry} {m : Machine} {i : Input} {written : Option (List ℕ)} {writes : ℕ} {outs : List (ℕ × ℕ)}
     {flown : ℕ → Option Bits} → outs ≡ [] → ((a : ℕ) → flown a ≡ None)
-    → Standing e m left reads written writes outs flown → Standing e m left reads written writes [] none_flown
-no_flight {e} {m} {left} {written} {reads} {writes} {outs} {flown} none still s =
-    subst (λ (f : ℕ → Option Bits). Standing e m left reads written writes [] f) (same_none flown still)
-    (subst (λ (o : List (ℕ × ℕ)). Standing e m left reads written writes o flown) none s)
+    → Standing e m i written writes outs flown → Standing e m i written writes [] none_flown
+no_flight {e} {m} {i} {written} {writes} {outs} {flown} none still s =
+    subst (λ (f : ℕ → Option Bits). Standing e m i written writes [] f) (same_none flown still)
+    (subst (λ (o : List (ℕ × ℕ)). Standing e m i written writes o flown) none s)
 
 -- from one standing to another, somewhere
-pub stands_on : {m k : Machine} {left written rest text : Option (List ℕ)} {reads writes rose fell : ℕ}
+pub stands_on : {m k : Machine} {i j : Input} {written text : Option (List ℕ)} {writes fell : ℕ}
     {outs others : List (ℕ × ℕ)} {flown flying : ℕ → Option Bits}
-    → ((e : Entry) → Standing e m left reads written writes outs flown
-    → Standing e k rest rose text fell others flying)
-    → IsStanding m left reads written writes outs flown → IsStanding k rest rose text fell others flying
+    → ((e : Entry) → Standing e m i written writes outs flown
+    → Standing e k j text fell others flying)
+    → IsStanding m i written writes outs flown → IsStanding k j text fell others flying
 stands_on f (somewhere e s) = somewhere e (f e s)
 
 pub none_maps : {X A B : Type 0} (o : Option X) → (A → B) → IfNone o A → IfNone o B
@@ -423,19 +427,19 @@ some_maps None f a = tt
 some_maps (Some x) f a = f x a
 
 -- a replay that begins
-pub first_standing : (m : Machine) (left written : Option (List ℕ)) (reads writes : ℕ) → m.pending ≡ None
-    → m.answered ≡ 0 → m.reader.held ≡ [] → IsFirst m.collector
-    → Standing (record { left = left; written = written; reads = reads; writes = writes }) m left reads written writes
+pub first_standing : (m : Machine) (i : Input) (written : Option (List ℕ)) (writes : ℕ) → m.pending ≡ None
+    → m.answered ≡ 0 → i.held ≡ [] → IsFirst m.collector
+    → Standing (record { left = i.left; written = written; reads = i.faults; writes = writes }) m i written writes
     [] none_flown
-first_standing m left written reads writes pends none held new =
+first_standing m i written writes pends none held new =
     let f = opened_first new in
     between pends (omega (arith, none)) (record {
       world = first_world;
       represents = f.represents;
       valid = f.valid;
       within = idle_within m.collector none_flown first_world refl;
-      stands = subst (λ (n : ℕ). Stands left (prepend_known m.reader.held left) written written n first_world)
-          (sym none) (stands_first left written m.reader.held held);
+      stands = subst (λ (n : ℕ). Stands i.left (to_come i) written written n first_world)
+          (sym none) (stands_first i.left written i.held held);
       made = subst (λ (n : ℕ). HasMadeAtMost m.collector n) (sym none) f.made;
       out = out_none m.collector.heap.shape;
     }) refl refl

@@ -20,13 +20,11 @@ replied (Ok x) is ok err whole front = record {
   ok = whole ok;
   memory = λ e. absurd (cc e);
   write = λ e. absurd (cc e);
-  good = λ e. cc e;
 }
 replied (Err x) is ok err whole front = record {
   ok = tt;
   memory = λ e. absurd (cc (is, e));
   write = λ e. front err;
-  good = λ e. cc (is, e);
 }
 
 -- memory was wanted
@@ -34,4 +32,4 @@ pub wanted : {T : Type 0} {cmd : Cmd} {old new : CollectorState} {flown flying :
     {p q : Option (List ℕ)}
     → EachWorld old flown (λ w. WritesStart w cmd p q)
     → AnswersCommand {T = T} cmd old flown new flying p q (Err fault.Memory)
-wanted start = record { ok = tt; memory = λ e. start; write = λ e. absurd (cc e); good = λ e. cc e }
+wanted start = record { ok = tt; memory = λ e. start; write = λ e. absurd (cc e) }

@@ -23,7 +23,8 @@ use Rattle.slice_driver.specs.Units.{none_flown}
 use Rattle.trace_cli.specs.Reaching.{Reached, Stands}
 use Rattle.trace_cli.specs.Standing.{HasMadeAtMost, IsFirst, first}
 use Rattle.trace_cli.specs.Lines.{lines_of, line_feeds, AreGiven}
-use Rattle.trace_cli.specs.Served.{StandsFor, IsBad}
+use Rattle.command_source.specs.Giving.{GivesBad, GivesCommand, IsBad, not_ascii, too_long, unspelt}
+use Rattle.trace_cli.specs.Served.{StandsFor}
 use Rattle.trace_cli.specs.Headline.{report_lines, answer_lines, StandForAll, LeadsTo, WritesAnswer, WritesFront}
 use Rattle.trace_cli.specs.Headline.{WritesStart, Replays}
 use Rattle.trace_cli.specs.declared.exit.Exit.{Exit}
@@ -147,14 +148,14 @@ reached_more i xs ys p q r n line w c k f h plain ends s a =
           (given_more _ _ n xs ys (line_takes xs ys line ends) h.whole b.2);
     }
 
-pub stands_more : (a b c p q r : Option (List ℕ)) (n m : ℕ) (line : List ℕ) (w : World) (d : Cmd) (k : CollectorState)
-    (f : ℕ → Option Bits) → Stands a b p q n w → GivesKnown b c (next.Line m) line → StandsFor line d →
-    (e : WritesAnswer w d k f q r) → Stands a c p r (n + 1) e.after
-stands_more None b c p q r n m line w d k f h t s e = tt
-stands_more (Some i) None c p q r n m line w d k f h t s e = absurd h
-stands_more (Some i) (Some xs) None p q r n m line w d k f h t s e = absurd t
-stands_more (Some i) (Some xs)
-    (Some ys) p q r n m line w d k f h t s e = reached_more i xs ys p q r n line w d k f h t.2 t.3 s e
+pub stands_more : (a b c p q r : Option (List ℕ)) (n : ℕ) (w : World) (d : Cmd) (k : CollectorState)
+    (f : ℕ → Option Bits) → Stands a b p q n w → GivesCommand b c d → (e : WritesAnswer w d k f q r)
+    → Stands a c p r (n + 1) e.after
+stands_more None b c p q r n w d k f h t e = tt
+stands_more (Some i) None c p q r n w d k f h t e = absurd h
+stands_more (Some i) (Some xs) None p q r n w d k f h t e = absurd t.taken
+stands_more (Some i) (Some xs) (Some ys) p q r n w d k f h t e =
+    reached_more i xs ys p q r n t.line w d k f h t.taken.2 t.taken.3 t.spelt e
 
 seam : (done : List (List ℕ)) (line : List ℕ) (rest : List (List ℕ))
     → slice_get (done ++ (line ∷ rest)) (length done) ≡ Some line
@@ -319,7 +320,7 @@ many_after fine (Some i) (Some xs) (Some ys) p q r held line res n w h t x y e k
       },
     )
 
-pub too_long_after : AreFine → (a b l p q r : Option (List ℕ)) (held line : List ℕ) (n : ℕ) (w : World)
+too_long_after : AreFine → (a b l p q r : Option (List ℕ)) (held line : List ℕ) (n : ℕ) (w : World)
     → n < 4294967295 → Stands a b p q n w → GivesKnown b (prepend_known held l) next.TooLong line → Appends q r []
     → Replays a l p r (exit.BadLine (n + 1))
 too_long_after fine None b l p q r held line n w few h t k = tt
@@ -340,7 +341,7 @@ too_long_after fine (Some i) (Some xs) (Some ys) p q r held line n w few h t k =
       },
     )
 
-pub not_ascii_after : AreFine → (a b l p q r : Option (List ℕ)) (held line : List ℕ) (n : ℕ) (w : World)
+not_ascii_after : AreFine → (a b l p q r : Option (List ℕ)) (held line : List ℕ) (n : ℕ) (w : World)
     → n < 4294967295 → Stands a b p q n w → GivesKnown b (prepend_known held l) next.NotAscii line → Appends q r []
     → Replays a l p r (exit.BadLine (n + 1))
 not_ascii_after fine None b l p q r held line n w few h t k = tt
@@ -361,7 +362,7 @@ not_ascii_after fine (Some i) (Some xs) (Some ys) p q r held line n w few h t k 
       },
     )
 
-pub bad_after : (a b l p q r : Option (List ℕ)) (held line : List ℕ) (n m : ℕ) (w : World) → n < 4294967295
+bad_after : (a b l p q r : Option (List ℕ)) (held line : List ℕ) (n m : ℕ) (w : World) → n < 4294967295
     → Stands a b p q n w → GivesKnown b (prepend_known held l) (next.Line m) line → IsBad line → Appends q r []
     → Replays a l p r (exit.BadLine (n + 1))
 bad_after None b l p q r held line n m w few h t bad k = tt
@@ -381,13 +382,13 @@ bad_after (Some i) (Some xs) (Some ys) p q r held line n m w few h t bad k = (
   },
 )
 
-pub part_after : (a b l p q r : Option (List ℕ)) (held line : List ℕ) (n m : ℕ) (w : World) (c : Cmd)
-    → Stands a b p q n w → GivesKnown b (prepend_known held l) (next.Line m) line → StandsFor line c
+pub part_after : (a b l p q r : Option (List ℕ)) (held : List ℕ) (n : ℕ) (w : World) (c : Cmd)
+    → Stands a b p q n w → GivesCommand b (prepend_known held l) c
     → WritesFront w c q r → Replays a l p r exit.WriteFault
-part_after None b l p q r held line n m w c h t s k = tt
-part_after (Some i) None l p q r held line n m w c h t s k = absurd h
-part_after (Some i) (Some xs) None p q r held line n m w c h t s k = absurd t
-part_after (Some i) (Some xs) (Some ys) p q r held line n m w c h t s k = (
+part_after None b l p q r held n w c h t k = tt
+part_after (Some i) None l p q r held n w c h t k = absurd h
+part_after (Some i) (Some xs) None p q r held n w c h t k = absurd t.taken
+part_after (Some i) (Some xs) (Some ys) p q r held n w c h t k = (
   h.output ++ k.written.0,
   Appends-trans p q r h.output k.written.0 h.wrote k.written.3,
   record {
@@ -398,25 +399,26 @@ part_after (Some i) (Some xs) (Some ys) p q r held line n m w c h t s k = (
     parts = refl;
     leads = first_n i xs p q n w h;
     last = inr (record {
-      line = line;
+      line = t.line;
       command = c;
       text = k.text;
       rest = k.written.1;
-      next = next_is i xs p q n w line (lines_of (held ++ ys)) h (line_given xs (held ++ ys) line t.2 t.3);
-      stands = s;
+      next = next_is i xs p q n w t.line (lines_of (held ++ ys)) h
+          (line_given xs (held ++ ys) t.line t.taken.2 t.taken.3);
+      stands = t.spelt;
       answers = k.answers;
       front = k.written.2;
     });
   },
 )
 
-pub stop_after : (a b l p q r : Option (List ℕ)) (held line : List ℕ) (n m : ℕ) (w : World) (c : Cmd)
-    → Stands a b p q n w → GivesKnown b (prepend_known held l) (next.Line m) line → StandsFor line c
+pub stop_after : (a b l p q r : Option (List ℕ)) (held : List ℕ) (n : ℕ) (w : World) (c : Cmd)
+    → Stands a b p q n w → GivesCommand b (prepend_known held l) c
     → WritesStart w c q r → Replays a l p r exit.NoMemory
-stop_after None b l p q r held line n m w c h t s k = tt
-stop_after (Some i) None l p q r held line n m w c h t s k = absurd h
-stop_after (Some i) (Some xs) None p q r held line n m w c h t s k = absurd t
-stop_after (Some i) (Some xs) (Some ys) p q r held line n m w c h t s k = (
+stop_after None b l p q r held n w c h t k = tt
+stop_after (Some i) None l p q r held n w c h t k = absurd h
+stop_after (Some i) (Some xs) None p q r held n w c h t k = absurd t.taken
+stop_after (Some i) (Some xs) (Some ys) p q r held n w c h t k = (
   h.output ++ report_lines k.reports,
   Appends-trans p q r h.output (report_lines k.reports) h.wrote k.written,
   record {
@@ -427,17 +429,47 @@ stop_after (Some i) (Some xs) (Some ys) p q r held line n m w c h t s k = (
     parts = refl;
     leads = first_n i xs p q n w h;
     last = inr (record {
-      line = line;
+      line = t.line;
       command = c;
       accepted = k.accepted;
       reports = k.reports;
-      next = next_is i xs p q n w line (lines_of (held ++ ys)) h (line_given xs (held ++ ys) line t.2 t.3);
-      stands = s;
+      next = next_is i xs p q n w t.line (lines_of (held ++ ys)) h
+          (line_given xs (held ++ ys) t.line t.taken.2 t.taken.3);
+      stands = t.spelt;
       starts = k.starts;
       part_is = refl;
     });
   },
 )
+
+-- a line outside the language: whatever is wrong with it
+pub refused_after : AreFine → (a b l p q r : Option (List ℕ)) (held : List ℕ) (n : ℕ) (w : World) → n < 4294967295
+    → Stands a b p q n w → GivesBad b (prepend_known held l) → Appends q r [] → Replays a l p r (exit.BadLine (n + 1))
+refused_after fine a b l p q r held n w few h (too_long line t) k =
+    too_long_after fine a b l p q r held line n w few h t k
+refused_after fine a b l p q r held n w few h (not_ascii line t) k =
+    not_ascii_after fine a b l p q r held line n w few h t k
+refused_after fine a b l p q r held n w few h (unspelt line m t bad) k =
+    bad_after a b l p q r held line n m w few h t bad k
+
+-- where it is one line too many
+pub refused_at_limit : AreFine → (a b l p q r : Option (List ℕ)) (held : List ℕ) (n : ℕ) (w : World)
+    → Stands a b p q n w → GivesBad b (prepend_known held l) → n ≡ 4294967295 → Appends q r []
+    → Replays a l p r exit.TooManyLines
+refused_at_limit fine a b l p q r held n w h (too_long line t) most k =
+    many_after fine a b l p q r held line next.TooLong n w h t (λ e. cc e) (λ e. cc e) most k
+refused_at_limit fine a b l p q r held n w h (not_ascii line t) most k =
+    many_after fine a b l p q r held line next.NotAscii n w h t (λ e. cc e) (λ e. cc e) most k
+refused_at_limit fine a b l p q r held n w h (unspelt line m t bad) most k =
+    many_after fine a b l p q r held line (next.Line m) n w h t (λ e. cc e) (λ e. cc e) most k
+
+-- and where the sink fails then
+pub refused_write : (a b l p q r : Option (List ℕ)) (held : List ℕ) (n : ℕ) (w : World)
+    → Stands a b p q n w → GivesBad b (prepend_known held l) → Appends q r [] → Replays a l p r exit.WriteFault
+refused_write a b l p q r held n w h (too_long line t) k = write_after a b l p q r held line next.TooLong n w h t k
+refused_write a b l p q r held n w h (not_ascii line t) k = write_after a b l p q r held line next.NotAscii n w h t k
+refused_write a b l p q r held n w h (unspelt line m t bad) k =
+    write_after a b l p q r held line (next.Line m) n w h t k
 
 -- the start of an answer stays so where nothing more is written
 pub start_kept : (w : World) (c : Cmd) (p q r : Option (List ℕ)) → WritesStart w c p q → Appends q r []

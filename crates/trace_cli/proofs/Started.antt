@@ -1,7 +1,6 @@
 -- What came of a command as it was started.
 use Rattle.std.proofs.Common.{◌≡◌, ℕ, List, [], Option, Some, None, Result, Ok, Err, IsSome, arith, refl, subst}
 use Rattle.std.proofs.Common.{sym}
-use Rattle.std.specs.Prelude.{OnOk}
 use Rattle.std.specs.Io.KnownBytes.{Appends}
 use Rattle.gz_names.specs.declared.commands.Cmd.{Cmd}
 use Rattle.gz_names.specs.declared.commands.Cmd.TheVariants as command
@@ -11,7 +10,6 @@ use Rattle.slice_driver.specs.Collector.{CollectorState}
 use Rattle.slice_driver.specs.Units.{BeginsIn}
 use Rattle.trace_cli.specs.Answering.{AnswersCommand, StartsCommand}
 use Rattle.trace_cli.specs.Headline.{WritesStart}
-use Rattle.trace_cli.specs.Served.{StandsFor}
 use Rattle.trace_cli.specs.Starting.{BeginsAnswer, StartedAs, collects, finishes, slices}
 use Rattle.trace_cli.specs.Worlds.{EachWorld, EachWorldWithin}
 use Rattle.trace_cli.specs.declared.answer.AnswerFault.{AnswerFault}
@@ -30,10 +28,9 @@ started {U} {cmd} {left} {old} {new} {flown} {flying} {p} {q} (Ok x) e a = recor
   none = tt;
   memory = a.memory;
   write = a.write;
-  good = a.good;
 }
 started {U} {cmd} {left} {old} {new} {flown} {flying} {p} {q} (Err f) e a =
-    record { ok = tt; none = e; memory = a.memory; write = a.write; good = a.good }
+    record { ok = tt; none = e; memory = a.memory; write = a.write }
 
 -- one whose units are left to be done
 pub begun : {U : Type 0} {cmd : Cmd} {old new : CollectorState} {flown flying : ℕ → Option Bits}
@@ -45,7 +42,6 @@ begun does kept = record {
   none = tt;
   memory = λ e. absurd (cc e);
   write = λ e. absurd (cc e);
-  good = λ e. cc e;
 }
 
 -- memory was wanted
@@ -54,15 +50,7 @@ pub start_wanted : {U : Type 0} {cmd : Cmd} {left : Option Pending} {old new : C
     → EachWorld old flown (λ w. WritesStart w cmd p q)
     → StartsCommand {T = U} cmd left old flown new flying p q (Err fault.Memory)
 start_wanted e start =
-    record { ok = tt; none = e; memory = λ k. start; write = λ k. absurd (cc k); good = λ k. cc k }
-
--- the same of a line
-pub ok_starts : {U : Type 0} (left : Option Pending) (old new : CollectorState) (flown flying : ℕ → Option Bits)
-    (p q : Option (List ℕ)) (r : Result U AnswerFault) (line : List ℕ) (cmd : Cmd) → StandsFor line cmd
-    → OnOk r (StartedAs left cmd old flown new flying p q)
-    → OnOk r ((c : Cmd) × StandsFor line c × StartedAs left c old flown new flying p q)
-ok_starts left old new flown flying p q (Ok x) line cmd stands done = (cmd, stands, done)
-ok_starts left old new flown flying p q (Err f) line cmd stands done = tt
+    record { ok = tt; none = e; memory = λ k. start; write = λ k. absurd (cc k) }
 
 -- a collection was begun for `collect`
 pub collect_begins : (c d : CollectorState) (f : ℕ → Option Bits) (zones : ZoneSet) → BeginsIn c zones.bits d

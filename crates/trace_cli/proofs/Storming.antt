@@ -42,13 +42,13 @@ use Rattle.trace_lang.specs.Grammar.{Spells}
 use Rattle.storm_source.specs.Commands.{MakesNoZone, SpellAll}
 use Rattle.storm_source.specs.Trace.{drawn_lines, head_lines, line_state, storm_lines, storm_text, tail_lines}
 use Rattle.storm_source.specs.Trace.{text_of}
-use Rattle.storm_source.proofs.Commands.{storm_spells}
+use Rattle.storm_source.proofs.Spelled.{storm_spells}
 use Rattle.storm_source.proofs.Exact.{storm_exact}
 use Rattle.trace_cli.specs.Headline.{Ends, EndsSo, LeadsTo, StandForAll}
 use Rattle.trace_cli.specs.Lines.{lines_of}
 use Rattle.trace_cli.specs.Reaching.{Stands}
 use Rattle.trace_cli.specs.Served.{FitsLanguage}
-use Rattle.trace_cli.specs.Standing.{Entry, HasEnded}
+use Rattle.trace_cli.specs.Standing.{Entry, HasEnded, untaken}
 use Rattle.trace_cli.specs.Storms.{Counts, IsLeftByStorm, IsSummary, StopsStorm, Storms, summary_text}
 use Rattle.trace_cli.specs.declared.exit.Exit.{Exit}
 use Rattle.trace_cli.specs.declared.exit.Exit.TheVariants as exit
@@ -150,7 +150,7 @@ abbrev pub storm_entry : List ℕ → Entry
 storm_entry text = record { left = Some text; written = None; reads = 0; writes = 0 }
 
 pub storm_over : AreFine → (seed lines : ℕ) (text : List ℕ) → text ≡ storm_text seed lines → (e : Exit) (m : Machine)
-    (left written : Option (List ℕ)) (behind : ℕ) → HasEnded (storm_entry text) e m left 0 written 0 behind
+    (left written : Option (List ℕ)) (behind : ℕ) → HasEnded (storm_entry text) e m (untaken left 0) written 0 behind
     → StormEnds lines e
 storm_over fine seed lines text is e m None written behind h = absurd h.lawful
 storm_over fine seed lines text is e m (Some rest) written behind h =
@@ -259,7 +259,8 @@ all_led input (Some xs) written n w h read =
 
 pub storm_done : AreFine → HasZones → (seed lines : ℕ) (text : List ℕ) → text ≡ storm_text seed lines → (e : Exit)
     (m : Machine) (left written : Option (List ℕ)) (behind : ℕ)
-    → HasEnded (storm_entry text) e m left 0 written 0 behind → e ≡ exit.Done → IsLeftByStorm seed lines m.collector
+    → HasEnded (storm_entry text) e m (untaken left 0) written 0 behind → e ≡ exit.Done
+    → IsLeftByStorm seed lines m.collector
 storm_done fine some seed lines text is e m left written behind h done =
     let end = h.ends_in done in
     let led = all_led text end.rest written m.answered end.here.world end.here.stands end.read in

@@ -1,5 +1,5 @@
 -- What came of a command, and with which count of write faults.
-use Rattle.std.specs.Prelude.{◌≡◌, ◌≢◌, ◌≤◌, ℕ, List, Option, None, Result, Err, OnOk, OnErr}
+use Rattle.std.specs.Prelude.{◌≡◌, ◌≤◌, ℕ, List, Option, None, Result, Err, OnOk, OnErr}
 use Rattle.gz_io.specs.Causes.{Rose}
 use Rattle.gz_names.specs.declared.commands.Cmd.{Cmd}
 use Rattle.cell_bits.specs.declared.bits.Bits.{Bits}
@@ -25,7 +25,6 @@ pub record AnswersCommand {T : Type 0} (cmd : Cmd) (old : CollectorState) (flown
   pub ok : OnOk result (EachWorldWithin old flown (λ w. WritesAnswer w cmd new flying p q))
   pub memory : result ≡ Err fault.Memory → EachWorld old flown (λ w. WritesStart w cmd p q)
   pub write : result ≡ Err fault.Write → EachWorld old flown (λ w. WritesFront w cmd p q)
-  pub good : result ≢ Err fault.Bad
 
 -- the same of a command whose units may be left to be done
 pub record StartsCommand {T : Type 0} (cmd : Cmd) (left : Option Pending) (old : CollectorState)
@@ -35,4 +34,3 @@ pub record StartsCommand {T : Type 0} (cmd : Cmd) (left : Option Pending) (old :
   pub none : OnErr result (left ≡ None)
   pub memory : result ≡ Err fault.Memory → EachWorld old flown (λ w. WritesStart w cmd p q)
   pub write : result ≡ Err fault.Write → EachWorld old flown (λ w. WritesFront w cmd p q)
-  pub good : result ≢ Err fault.Bad

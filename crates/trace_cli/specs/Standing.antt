@@ -1,15 +1,15 @@
 -- What the reading loop knows, as single facts.
 use Rattle.std.specs.Prelude.{◌≡◌, ◌≢◌, ◌<◌, ◌≤◌, ◌+◌, ◌^◌, ℕ, List, [], Option, Some, None, length}
-use Rattle.std.specs.Io.KnownBytes.{Appends, prepend_known}
+use Rattle.std.specs.Io.KnownBytes.{Appends}
 use Rattle.gz_io.specs.Causes.{AppendsFront, Rose}
-use Rattle.gz_io.specs.Lines.{GivesKnown}
-use Rattle.gz_io.specs.declared.reader.Next.TheVariants as next
 use Rattle.gz_names.specs.declared.commands.Cmd.{Cmd}
 use Rattle.cell_bits.specs.declared.bits.Bits.{Bits}
 use Rattle.cell_bits.specs.declared.jobs.Job.{Job}
 use Rattle.colour_defs.specs.Laws.{IsValid}
 use Rattle.colour_defs.specs.World.{World, first_world}
 use Rattle.sweeping.specs.ArenasOut.{Ascend, flown_by, outs_of}
+use Rattle.command_source.specs.Giving.{GivesCommand}
+use Rattle.command_source.specs.Input.{Input, to_come}
 use Rattle.slice_driver.specs.Advances.{AreOut}
 use Rattle.slice_driver.specs.Collector.{CollectorState}
 use Rattle.slice_driver.specs.Left.{units_left}
@@ -20,7 +20,6 @@ use Rattle.trace_lang.specs.Texts.{reply_text, line_of}
 use Rattle.trace_cli.specs.Headline.{Replays}
 use Rattle.trace_cli.specs.Pending.{reply_of}
 use Rattle.trace_cli.specs.Reaching.{Stands}
-use Rattle.trace_cli.specs.Served.{StandsFor}
 use Rattle.trace_cli.specs.Starting.{IsAnswering, StartedAs}
 use Rattle.trace_cli.specs.Writing.{WritesUnits}
 use Rattle.trace_cli.specs.declared.exit.Exit.{Exit}
@@ -63,12 +62,11 @@ pub record MakesNone (old new : CollectorState) : Type 0 where
   pub made : new.heap.made ≡ old.heap.made
   pub entries : length new.heap.shape.weak.entries ≤ length old.heap.shape.weak.entries
 
--- a line stands for a command, which was answered whole in each world that the collector stood for, or whose units are
--- left to be done
-pub data AnswersLine (line : List ℕ) (left : Option Pending) (old : CollectorState) (flown : ℕ → Option Bits) (n : ℕ)
+-- a command was answered whole in each world that the collector stood for, or its units are left to be done
+pub data AnswersLine (c : Cmd) (left : Option Pending) (old : CollectorState) (flown : ℕ → Option Bits) (n : ℕ)
     (new : CollectorState) (outs : List (ℕ × ℕ)) (flying : ℕ → Option Bits) (p q : Option (List ℕ)) : Type 0 where
-  answers : (c : Cmd) → StandsFor line c → StartedAs left c old flown new flying p q → AreOut new.heap.shape outs
-      → IsSound new flying → HasMadeAtMost new (n + 1) → AnswersLine line left old flown n new outs flying p q
+  answers : StartedAs left c old flown new flying p q → AreOut new.heap.shape outs → IsSound new flying
+      → HasMadeAtMost new (n + 1) → AnswersLine c left old flown n new outs flying p q
 
 -- the last line of an answer was written, or a front of it
 abbrev pub last_line : Pending → List ℕ
@@ -80,6 +78,10 @@ EndsLine m left n p q =
 
 abbrev pub BreaksLine : Pending → Option (List ℕ) → Option (List ℕ) → Type 0
 BreaksLine left p q = AppendsFront p q (last_line left)
+
+-- what is still to come of a source from which nothing was taken
+abbrev pub untaken : Option (List ℕ) → ℕ → Input
+untaken left faults = record { held = []; left = left; faults = faults }
 
 -- the bytes and the counts of faults as a replay began
 pub record Entry : Type 0 where
@@ -109,11 +111,8 @@ pub record Amid (e : Entry) (rest written : Option (List ℕ)) (n : ℕ) (c : Co
   pub asked : Option (List ℕ)
   pub before : Option (List ℕ)
   pub stands : Stands e.left asked e.written before n world
-  pub line : List ℕ
-  pub size : ℕ
-  pub given : GivesKnown asked rest (next.Line size) line
   pub command : Cmd
-  pub spelt : StandsFor line command
+  pub given : GivesCommand asked rest command
   pub begun : World
   pub most : ℕ
   pub count : ℕ
@@ -124,20 +123,20 @@ pub record Amid (e : Entry) (rest written : Option (List ℕ)) (n : ℕ) (c : Co
   pub out : AreOut c.heap.shape outs
 
 -- where a replay stands, with these arenas and bits in flight
-pub data Standing (e : Entry) (m : Machine) (left : Option (List ℕ)) (reads : ℕ) (written : Option (List ℕ))
+pub data Standing (e : Entry) (m : Machine) (i : Input) (written : Option (List ℕ))
     (writes : ℕ) (outs : List (ℕ × ℕ)) (flown : ℕ → Option Bits) : Type 0 where
   between : m.pending ≡ None → m.answered ≤ 4294967295
-      → Between e (prepend_known m.reader.held left) written m.answered m.collector outs flown
-      → reads ≡ e.reads → writes ≡ e.writes → Standing e m left reads written writes outs flown
+      → Between e (to_come i) written m.answered m.collector outs flown
+      → i.faults ≡ e.reads → writes ≡ e.writes → Standing e m i written writes outs flown
   amid : (more : Pending) → m.pending ≡ Some more → m.answered < 4294967295
-      → Amid e (prepend_known m.reader.held left) written m.answered m.collector more outs flown
-      → reads ≡ e.reads → writes ≡ e.writes → Standing e m left reads written writes outs flown
+      → Amid e (to_come i) written m.answered m.collector more outs flown
+      → i.faults ≡ e.reads → writes ≡ e.writes → Standing e m i written writes outs flown
 
 -- it stands somewhere
-pub data IsStanding (m : Machine) (left : Option (List ℕ)) (reads : ℕ) (written : Option (List ℕ)) (writes : ℕ)
+pub data IsStanding (m : Machine) (i : Input) (written : Option (List ℕ)) (writes : ℕ)
     (outs : List (ℕ × ℕ)) (flown : ℕ → Option Bits) : Type 0 where
-  somewhere : (e : Entry) → Standing e m left reads written writes outs flown
-      → IsStanding m left reads written writes outs flown
+  somewhere : (e : Entry) → Standing e m i written writes outs flown
+      → IsStanding m i written writes outs flown
 
 -- every line was answered: the collector stands for a valid world that all lines lead to
 pub record EndsIn (e : Entry) (m : Machine) (written : Option (List ℕ)) : Type 0 where
@@ -148,28 +147,27 @@ pub record EndsIn (e : Entry) (m : Machine) (written : Option (List ℕ)) : Type
   pub read : (xs : List ℕ) → rest ≡ Some xs → xs ≡ []
 
 -- a replay ended so
-pub record HasEnded (e : Entry) (x : Exit) (m : Machine) (left : Option (List ℕ)) (reads : ℕ)
+pub record HasEnded (e : Entry) (x : Exit) (m : Machine) (i : Input)
     (written : Option (List ℕ)) (writes behind : ℕ) : Type 0 where
-  pub lawful : Replays e.left left e.written written x
-  pub quiet : x ≡ exit.Done → (reads ≡ e.reads) × (writes ≡ e.writes)
+  pub lawful : Replays e.left i.left e.written written x
+  pub quiet : x ≡ exit.Done → (i.faults ≡ e.reads) × (writes ≡ e.writes)
   pub handed_on : x ≡ exit.Done → behind ≡ 0
-  pub read : x ≡ exit.ReadFault → Rose e.reads reads
+  pub read : x ≡ exit.ReadFault → Rose e.reads i.faults
   pub write : x ≡ exit.WriteFault → Rose e.writes writes
   pub runs : x ≢ exit.Usage
   pub no_verdict : x ≢ exit.Unsound
   pub ends_in : x ≡ exit.Done → EndsIn e m written
 
 -- why the loop stopped, and where it stands then
-abbrev pub StopsSo : Stop → Entry → Machine → Option (List ℕ) → ℕ → Option (List ℕ) → ℕ → ℕ → Type 0
-StopsSo stop.LastIn e m left reads written writes behind = Standing e m left reads written writes [] none_flown
-StopsSo (stop.HandsOut jobs) e m left reads written writes behind =
-    Standing e m left reads written writes (outs_of jobs) (flown_by jobs) × Ascend (outs_of jobs)
-StopsSo (stop.Over x) e m left reads written writes behind = HasEnded e x m left reads written writes behind
+abbrev pub StopsSo : Stop → Entry → Machine → Input → Option (List ℕ) → ℕ → ℕ → Type 0
+StopsSo stop.LastIn e m i written writes behind = Standing e m i written writes [] none_flown
+StopsSo (stop.HandsOut jobs) e m i written writes behind =
+    Standing e m i written writes (outs_of jobs) (flown_by jobs) × Ascend (outs_of jobs)
+StopsSo (stop.Over x) e m i written writes behind = HasEnded e x m i written writes behind
 
 -- the same of what the loop leaves behind: why it is over, or the jobs to be swept, or none
-abbrev pub RanSo : Option Exit → Option (List Job) → Entry → Machine → Option (List ℕ) → ℕ → Option (List ℕ) → ℕ → ℕ
-    → Type 0
-RanSo (Some x) handed e m left reads written writes behind = HasEnded e x m left reads written writes behind
-RanSo None (Some jobs) e m left reads written writes behind =
-    Standing e m left reads written writes (outs_of jobs) (flown_by jobs) × Ascend (outs_of jobs)
-RanSo None None e m left reads written writes behind = Standing e m left reads written writes [] none_flown
+abbrev pub RanSo : Option Exit → Option (List Job) → Entry → Machine → Input → Option (List ℕ) → ℕ → ℕ → Type 0
+RanSo (Some x) handed e m i written writes behind = HasEnded e x m i written writes behind
+RanSo None (Some jobs) e m i written writes behind =
+    Standing e m i written writes (outs_of jobs) (flown_by jobs) × Ascend (outs_of jobs)
+RanSo None None e m i written writes behind = Standing e m i written writes [] none_flown

@@ -1,18 +1,14 @@
-// What a line is answered.
-ghost use Rattle.std.specs.Prelude.{◌≡◌, ◌≢◌, [], None, OnOk, OnErr, false};
+// What a command is answered.
+ghost use Rattle.std.specs.Prelude.{◌≡◌, ◌≢◌, None, OnOk, OnErr, false};
 ghost use Rattle.std.specs.Io.KnownBytes.{Appends};
 ghost use Rattle.gz_io.specs.Causes.{AppendsFront};
-ghost use Rattle.gz_names.specs.declared.commands.Cmd.{Cmd as TheCmd};
 ghost use Rattle.gz_names.specs.declared.commands.Cmd.TheVariants as ACmd;
 ghost use Rattle.trace_lang.specs.Texts.{reply_text, line_of};
 ghost use Rattle.colour_defs.specs.Step.{HasFewFields};
 ghost use Rattle.heap_core.specs.Effects.{takes_memory};
-ghost use Rattle.trace_cli.specs.Served.{FitsLanguage, IsBad, StandsFor};
-ghost use Rattle.trace_cli.specs.Headline.{WritesFront, WritesStart};
+ghost use Rattle.trace_cli.specs.Served.{FitsLanguage};
 ghost use Rattle.trace_cli.specs.Answering.{AnswersCommand, CountsFaults, StartsCommand};
 ghost use Rattle.trace_cli.specs.Standing.{HasRoomForOne, MakesAtMostOne, StandsWith};
-ghost use Rattle.trace_cli.specs.Starting.{StartedAs};
-ghost use Rattle.trace_cli.specs.Worlds.{EachWorld};
 
 use crate::begin::{begin_collect, begin_finish, begin_slice, gc};
 use crate::dump::answer_dump;
@@ -24,13 +20,11 @@ use slice_driver::Collector;
 use std::alloc::Global;
 use std::sync::ledger::Ledger;
 use sweeping::Sweeping;
-use trace_lang::{parse, write_reply, zones_law};
+use trace_lang::write_reply;
 
 /// Why a line was not answered whole.
 #[derive(Clone, Copy, Debug, PartialEq, Eq)]
 pub enum AnswerFault {
-    /// The line is none that the program takes.
-    Bad,
     /// Memory was wanted: the reports of whole units were written, and nothing else.
     Memory,
     /// A front of the answer was written.
@@ -102,8 +96,9 @@ fn answer_colours<F: Sweeping, K: Sink>(
     write_last(sink, &Reply::Gray(names))
 }
 
-// Does a command, and writes the answer, or leaves the units that it asks for.
-fn start_command<F: Sweeping, K: Sink, L: Ledger>(
+/// Does a command, and writes the answer, or leaves the units that it asks for.
+#[inline(always)]
+pub fn start_command<F: Sweeping, K: Sink, L: Ledger>(
     alloc: Global,
     collector: &mut Collector,
     flight: &mut F,
@@ -134,42 +129,6 @@ fn start_command<F: Sweeping, K: Sink, L: Ledger>(
         Cmd::Slice(budget) => begin_slice(collector, flight, *budget, pending, sink),
         Cmd::Finish => begin_finish(collector, flight, pending, sink),
         // No line of the language stands for these.
-        Cmd::Weak(_) | Cmd::Reset | Cmd::Compact(_) => Err(AnswerFault::Bad),
+        Cmd::Weak(_) | Cmd::Reset | Cmd::Compact(_) => unreachable!(),
     }
-}
-
-/// Does what a line says, and writes the answer, or leaves the units that it asks for.
-#[inline(always)]
-pub fn start_answer<F: Sweeping, K: Sink, L: Ledger>(
-    alloc: Global,
-    collector: &mut Collector,
-    flight: &mut F,
-    line: &[u8],
-    pending: &mut Option<Pending>,
-    sink: &mut K,
-    steps: &mut Steps<L>,
-) -> Result<(), AnswerFault>
-    requires flight { StandsWith collector.old (F.left (F.origin flight.old)) (F.bits flight.old) }
-    requires room { HasRoomForOne collector.old }
-    requires none { pending.old ≡ None }
-    ensures ok { OnOk result ((c : TheCmd) × StandsFor line.now c × StartedAs pending.new c collector.old
-        (F.bits flight.old) collector.new (F.bits flight.new) (K.written sink.old) (K.written sink.new)) }
-    ensures none { OnErr result (pending.new ≡ None) }
-    ensures flight { StandsWith collector.new (F.left (F.origin flight.new)) (F.bits flight.new) }
-    ensures origin { F.origin flight.new ≡ F.origin flight.old }
-    ensures size { MakesAtMostOne collector.old collector.new }
-    ensures bad { result ≡ Err AnswerFault.Bad → IsBad line.now × Appends (K.written sink.old) (K.written sink.new) [] }
-    ensures memory { result ≡ Err AnswerFault.Memory → (c : TheCmd) × StandsFor line.now c
-        × EachWorld collector.old (F.bits flight.old)
-        (λ w. WritesStart w c (K.written sink.old) (K.written sink.new)) }
-    ensures write { result ≡ Err AnswerFault.Write → (c : TheCmd) × StandsFor line.now c
-        × EachWorld collector.old (F.bits flight.old)
-        (λ w. WritesFront w c (K.written sink.old) (K.written sink.new)) }
-    ensures faults { CountsFaults (K.faults sink.old) (K.faults sink.new) result }
-{
-    zones_law();
-    let Ok(cmd) = parse(line) else {
-        return Err(AnswerFault::Bad);
-    };
-    start_command(alloc, collector, flight, &cmd, pending, sink, steps)
 }

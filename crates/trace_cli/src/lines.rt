@@ -1,29 +1,30 @@
 // The reading loop: lines are answered one after the other, until something stands in the way.
-ghost use Rattle.std.specs.Prelude.{◌≡◌, ◌≢◌, ◌<◌, ◌+◌, ◌⊎◌, [], Err, Contains, IfNone, IfSome, None, OnErr, OnOk};
+ghost use Rattle.std.specs.Prelude.{◌≡◌, ◌<◌, ◌+◌, ◌⊎◌, [], Err, Contains, IfNone, IfSome, None, OnErr, OnOk};
 ghost use Rattle.std.specs.Prelude.{Some};
 ghost use Rattle.std.specs.Io.KnownBytes.{Appends};
 ghost use Rattle.gz_io.specs.Causes.{Rose};
-ghost use Rattle.gz_names.specs.declared.commands.Cmd.{Cmd as TheCmd};
 ghost use Rattle.trace_cli.specs.Answering.{CountsFaults};
 ghost use Rattle.trace_cli.specs.Headline.{WritesFront, WritesStart};
-ghost use Rattle.trace_cli.specs.Served.{IsBad, StandsFor};
+ghost use Rattle.trace_cli.specs.Served.{FitsLanguage};
 ghost use Rattle.trace_cli.specs.Standing.{AnswersLine, BreaksLine, EndsLine, Entry, HasEnded, IsReady};
 ghost use Rattle.trace_cli.specs.Standing.{IsStanding, Standing, StopsSo};
 ghost use Rattle.trace_cli.specs.Worlds.{EachWorld};
 
-use crate::answer::{AnswerFault, start_answer, write_last};
+use crate::answer::{AnswerFault, start_command, write_last};
 use crate::exit::Exit;
 use crate::machine::{Machine, Stop};
 use crate::pending::Pending;
 use crate::turns::{Turn, answer_units};
 use colour_defs::answer_law;
-use gz_io::{LineReader, Next, Sink, Source};
+use command_source::{CommandSource, NextCommand};
+use gz_io::Sink;
+use gz_names::Cmd;
 use heap_core::Steps;
 use slice_driver::Collector;
 use std::alloc::Global;
 use std::sync::ledger::Ledger;
 use sweeping::Sweeping;
-use trace_lang::spelling_law;
+use trace_lang::{spelling_law, zones_law};
 
 /// Hands on what is held back, and ends so.
 pub fn end_so<K: Sink>(sink: &mut K, exit: Exit) -> Exit
@@ -39,19 +40,19 @@ pub fn end_so<K: Sink>(sink: &mut K, exit: Exit) -> Exit
 }
 
 // Hands on what is held back where the next line has to be asked for.
-fn flush_before<K: Sink>(reader: &LineReader, sink: &mut K) -> Result<(), AnswerFault>
+fn flush_before<S: CommandSource, K: Sink>(source: &S, sink: &mut K) -> Result<(), AnswerFault>
     ensures kept { Appends (K.written sink.old) (K.written sink.new) [] }
-    ensures handed_on { OnOk result ((Contains reader.now.held 10 → ⊥) → K.behind sink.new ≡ 0) }
+    ensures handed_on { OnOk result ((Contains (S.input source.now).held 10 → ⊥) → K.behind sink.new ≡ 0) }
     ensures faults { CountsFaults (K.faults sink.old) (K.faults sink.new) result }
     ensures fault { OnErr result (result ≡ Err AnswerFault.Write) }
 {
-    if !reader.has_line() && sink.flush().is_err() {
+    if !source.holds_line() && sink.flush().is_err() {
         return Err(AnswerFault::Write);
     }
     Ok(())
 }
 
-// The exit at a line that is too long or not of ASCII, after so many lines.
+// The exit at a line outside the language, after so many lines.
 fn refusal(answered: u64) -> Exit
     requires { answered < 4294967296 }
     ensures { ((answered ≡ 4294967295) × (result ≡ Exit.TooManyLines))
@@ -63,39 +64,37 @@ fn refusal(answered: u64) -> Exit
     Exit::BadLine(answered + 1)
 }
 
-// Does what a line says, after so many lines, and writes the answer, or leaves the units that it asks for.
+// Does a command, after so many lines, and writes the answer, or leaves the units that it asks for.
 #[inline(always)]
 fn start_next<F: Sweeping, K: Sink, L: Ledger>(
     alloc: Global,
     collector: &mut Collector,
     flight: &mut F,
     _answered: u64,
-    line: &[u8],
+    command: &Cmd,
     pending: &mut Option<Pending>,
     sink: &mut K,
     steps: &mut Steps<L>,
 ) -> Result<(), AnswerFault>
     requires ready { IsReady collector.old (F.left (F.origin flight.old)) (F.bits flight.old) _answered }
+    requires fits { FitsLanguage command.now }
     requires none { pending.old ≡ None }
-    ensures ok { OnOk result (AnswersLine line.now pending.new collector.old (F.bits flight.old) _answered
+    ensures ok { OnOk result (AnswersLine command.now pending.new collector.old (F.bits flight.old) _answered
         collector.new (F.left (F.origin flight.new)) (F.bits flight.new)
         (K.written sink.old) (K.written sink.new)) }
     ensures none { OnErr result (pending.new ≡ None) }
     ensures origin { F.origin flight.new ≡ F.origin flight.old }
-    ensures bad { result ≡ Err AnswerFault.Bad → IsBad line.now × Appends (K.written sink.old) (K.written sink.new) [] }
-    ensures memory { result ≡ Err AnswerFault.Memory → (c : TheCmd) × StandsFor line.now c
-        × EachWorld collector.old (F.bits flight.old)
-        (λ w. WritesStart w c (K.written sink.old) (K.written sink.new)) }
-    ensures write { result ≡ Err AnswerFault.Write → (c : TheCmd) × StandsFor line.now c
-        × EachWorld collector.old (F.bits flight.old)
-        (λ w. WritesFront w c (K.written sink.old) (K.written sink.new)) }
+    ensures memory { result ≡ Err AnswerFault.Memory → EachWorld collector.old (F.bits flight.old)
+        (λ w. WritesStart w command.now (K.written sink.old) (K.written sink.new)) }
+    ensures write { result ≡ Err AnswerFault.Write → EachWorld collector.old (F.bits flight.old)
+        (λ w. WritesFront w command.now (K.written sink.old) (K.written sink.new)) }
     ensures faults { CountsFaults (K.faults sink.old) (K.faults sink.new) result }
 {
-    start_answer(alloc, collector, flight, line, pending, sink, steps)
+    start_command(alloc, collector, flight, command, pending, sink, steps)
 }
 
 // Takes the next line, and answers it, or leaves the units that it asks for.
-fn start_line<F: Sweeping, S: Source, K: Sink, L: Ledger>(
+fn start_line<F: Sweeping, S: CommandSource, K: Sink, L: Ledger>(
     alloc: Global,
     machine: &mut Machine,
     flight: &mut F,
@@ -104,36 +103,37 @@ fn start_line<F: Sweeping, S: Source, K: Sink, L: Ledger>(
     steps: &mut Steps<L>,
 ) -> Option<Exit>
     requires between { machine.old.pending ≡ None }
-    requires standing { IsStanding machine.old (S.left source.old) (S.faults source.old) (K.written sink.old)
+    requires standing { IsStanding machine.old (S.input source.old) (K.written sink.old)
         (K.faults sink.old) (F.left (F.origin flight.old)) (F.bits flight.old) }
     ensures none { IfNone result ((e : Entry)
-        → Standing e machine.old (S.left source.old) (S.faults source.old) (K.written sink.old) (K.faults sink.old)
+        → Standing e machine.old (S.input source.old) (K.written sink.old) (K.faults sink.old)
         (F.left (F.origin flight.old)) (F.bits flight.old)
-        → Standing e machine.new (S.left source.new) (S.faults source.new) (K.written sink.new) (K.faults sink.new)
+        → Standing e machine.new (S.input source.new) (K.written sink.new) (K.faults sink.new)
         (F.left (F.origin flight.new)) (F.bits flight.new)) }
     ensures whole { IfNone result (machine.new.pending ≡ None
         → machine.new.answered ≡ machine.old.answered + 1) }
     ensures begun { IfNone result (IfSome machine.new.pending
         (λ left. machine.new.answered ≡ machine.old.answered)) }
     ensures some { IfSome result (λ x. (e : Entry)
-        → Standing e machine.old (S.left source.old) (S.faults source.old) (K.written sink.old) (K.faults sink.old)
+        → Standing e machine.old (S.input source.old) (K.written sink.old) (K.faults sink.old)
         (F.left (F.origin flight.old)) (F.bits flight.old)
-        → HasEnded e x machine.new (S.left source.new) (S.faults source.new) (K.written sink.new)
+        → HasEnded e x machine.new (S.input source.new) (K.written sink.new)
         (K.faults sink.new) (K.behind sink.new)) }
     ensures origin { F.origin flight.new ≡ F.origin flight.old }
+    ensures lender { S.lender source.new ≡ S.lender source.old }
 {
     answer_law();
     spelling_law();
-    if flush_before(&machine.reader, sink).is_err() {
+    zones_law();
+    if flush_before(source, sink).is_err() {
         return Some(Exit::WriteFault);
     }
-    match machine.reader.next(source) {
-        Next::ReadFault => return Some(end_so(sink, Exit::ReadFault)),
-        Next::End => return Some(end_so(sink, Exit::Done)),
-        Next::TooLong => return Some(end_so(sink, refusal(machine.answered))),
-        Next::NotAscii => return Some(end_so(sink, refusal(machine.answered))),
-        Next::Line(_) => {}
-    }
+    let command = match source.next() {
+        NextCommand::Command(command) => command,
+        NextCommand::BadLine => return Some(end_so(sink, refusal(machine.answered))),
+        NextCommand::End => return Some(end_so(sink, Exit::Done)),
+        NextCommand::ReadFault => return Some(end_so(sink, Exit::ReadFault)),
+    };
     if machine.answered == 4294967295 {
         return Some(end_so(sink, Exit::TooManyLines));
     }
@@ -142,13 +142,12 @@ fn start_line<F: Sweeping, S: Source, K: Sink, L: Ledger>(
         &mut machine.collector,
         flight,
         machine.answered,
-        machine.reader.line(),
+        &command,
         &mut machine.pending,
         sink,
         steps,
     ) {
         Ok(()) => {}
-        Err(AnswerFault::Bad) => return Some(end_so(sink, Exit::BadLine(machine.answered + 1))),
         Err(AnswerFault::Memory) => return Some(end_so(sink, Exit::NoMemory)),
         Err(AnswerFault::Write) => return Some(Exit::WriteFault),
     }
@@ -179,7 +178,7 @@ fn end_line<K: Sink>(machine: &mut Machine, left: Pending, sink: &mut K) -> Opti
 
 // Goes on with the line that is being answered.
 #[inline(never)]
-fn go_on<F: Sweeping, S: Source, K: Sink, L: Ledger>(
+fn go_on<F: Sweeping, S: CommandSource, K: Sink, L: Ledger>(
     alloc: Global,
     machine: &mut Machine,
     pending: Pending,
@@ -189,18 +188,18 @@ fn go_on<F: Sweeping, S: Source, K: Sink, L: Ledger>(
     steps: &mut Steps<L>,
 ) -> Option<Stop>
     requires amid { machine.old.pending ≡ Some pending }
-    requires standing { IsStanding machine.old (S.left _source.now) (S.faults _source.now) (K.written sink.old)
+    requires standing { IsStanding machine.old (S.input _source.now) (K.written sink.old)
         (K.faults sink.old) (F.left (F.origin flight.old)) (F.bits flight.old) }
     ensures none { IfNone result ((e : Entry)
-        → Standing e machine.old (S.left _source.now) (S.faults _source.now) (K.written sink.old) (K.faults sink.old)
+        → Standing e machine.old (S.input _source.now) (K.written sink.old) (K.faults sink.old)
         (F.left (F.origin flight.old)) (F.bits flight.old)
-        → Standing e machine.new (S.left _source.now) (S.faults _source.now) (K.written sink.new) (K.faults sink.new)
+        → Standing e machine.new (S.input _source.now) (K.written sink.new) (K.faults sink.new)
         (F.left (F.origin flight.new)) (F.bits flight.new)) }
     ensures whole { IfNone result (machine.new.answered ≡ machine.old.answered + 1) }
     ensures some { IfSome result (λ stop. (e : Entry)
-        → Standing e machine.old (S.left _source.now) (S.faults _source.now) (K.written sink.old) (K.faults sink.old)
+        → Standing e machine.old (S.input _source.now) (K.written sink.old) (K.faults sink.old)
         (F.left (F.origin flight.old)) (F.bits flight.old)
-        → StopsSo stop e machine.new (S.left _source.now) (S.faults _source.now) (K.written sink.new)
+        → StopsSo stop e machine.new (S.input _source.now) (K.written sink.new)
         (K.faults sink.new) (K.behind sink.new)) }
     ensures home { F.home (F.origin flight.new) ≡ F.home (F.origin flight.old) }
 {
@@ -225,12 +224,11 @@ fn go_on<F: Sweeping, S: Source, K: Sink, L: Ledger>(
         }
         Err(AnswerFault::Write) => Some(Stop::Over(Exit::WriteFault)),
         Err(AnswerFault::Memory) => Some(Stop::Over(end_so(sink, Exit::NoMemory))),
-        Err(AnswerFault::Bad) => unreachable!(),
     }
 }
 
 /// Answers lines until the last arena is taken in, arenas are to be swept, or the replay is over.
-pub fn go<F: Sweeping, S: Source, K: Sink, L: Ledger>(
+pub fn go<F: Sweeping, S: CommandSource, K: Sink, L: Ledger>(
     alloc: Global,
     machine: &mut Machine,
     flight: &mut F,
@@ -238,14 +236,15 @@ pub fn go<F: Sweeping, S: Source, K: Sink, L: Ledger>(
     sink: &mut K,
     steps: &mut Steps<L>,
 ) -> Stop
-    requires standing { IsStanding machine.old (S.left source.old) (S.faults source.old) (K.written sink.old)
+    requires standing { IsStanding machine.old (S.input source.old) (K.written sink.old)
         (K.faults sink.old) (F.left (F.origin flight.old)) (F.bits flight.old) }
     ensures stops { (e : Entry)
-        → Standing e machine.old (S.left source.old) (S.faults source.old) (K.written sink.old) (K.faults sink.old)
+        → Standing e machine.old (S.input source.old) (K.written sink.old) (K.faults sink.old)
         (F.left (F.origin flight.old)) (F.bits flight.old)
-        → StopsSo result e machine.new (S.left source.new) (S.faults source.new) (K.written sink.new)
+        → StopsSo result e machine.new (S.input source.new) (K.written sink.new)
         (K.faults sink.new) (K.behind sink.new) }
     ensures home { F.home (F.origin flight.new) ≡ F.home (F.origin flight.old) }
+    ensures lender { S.lender source.new ≡ S.lender source.old }
 {
     loop {
         if let Some(left) = machine.pending {

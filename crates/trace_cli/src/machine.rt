@@ -2,14 +2,12 @@
 use crate::exit::Exit;
 use crate::pending::Pending;
 use arena_table::Jobs;
-use gz_io::LineReader;
 use slice_driver::Collector;
 
 /// The reading loop between two steps of it.
 #[derive(Drop)]
 pub struct Machine {
     pub collector: Collector,
-    pub reader: LineReader,
     /// How many lines were answered whole.
     pub answered: u64,
     /// What is left of the line that was read last.

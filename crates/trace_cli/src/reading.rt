@@ -7,7 +7,7 @@ ghost use Rattle.slice_driver.specs.Units.{none_flown};
 ghost use Rattle.trace_cli.specs.CommandLine.{ArePlain, IsCheck, IsStorm, IsStormOf};
 ghost use Rattle.trace_cli.specs.Headline.{Replays, Completes, Checks, Concluded};
 ghost use Rattle.trace_cli.specs.Storms.{Storms};
-ghost use Rattle.trace_cli.specs.Standing.{Entry, HasEnded, IsFirst, IsStanding, Standing};
+ghost use Rattle.trace_cli.specs.Standing.{Entry, HasEnded, IsFirst, IsStanding, Standing, untaken};
 
 use crate::dumps::check_dump;
 use crate::exit::Exit;
@@ -17,6 +17,7 @@ use crate::machine::Machine;
 use crate::session::{Run, Session};
 use crate::storm::answer_storm;
 use colour_defs::valid_law;
+use command_source::{CommandSource, TraceSource};
 use command_words::{CommandLine, WordsFault, read_words};
 use gz_io::{Gate, LineReader, Sink, Source};
 use gz_names::NoMemory;
@@ -44,14 +45,12 @@ pub fn first_run(collector: Collector) -> Run
     ensures over { result.over ≡ None }
     ensures handed { result.handed ≡ None }
     ensures first { IsFirst result.machine.collector }
-    ensures reader { result.machine.reader.held ≡ [] }
     ensures answered { result.machine.answered ≡ 0 }
     ensures pending { result.machine.pending ≡ None }
 {
     Run {
         machine: Machine {
             collector,
-            reader: LineReader::new(),
             answered: 0,
             pending: None,
         },
@@ -64,7 +63,7 @@ pub fn first_run(collector: Collector) -> Run
 /// handed out.
 pub fn run_on<
     R: Threads + Wait + Sync,
-    S: Source + Send,
+    S: CommandSource + Send,
     K: Sink + Send,
     G: Gate + Sync,
     L: Ledger + Send,
@@ -77,19 +76,18 @@ pub fn run_on<
 ) -> Exit
     requires over { session.old.run.now.over ≡ None }
     requires handed { session.old.run.now.handed ≡ None }
-    requires standing { IsStanding session.old.run.now.machine (S.left session.old.source.now)
-        (S.faults session.old.source.now) (K.written session.old.sink.now) (K.faults session.old.sink.now)
-        [] none_flown }
+    requires standing { IsStanding session.old.run.now.machine (S.input session.old.source.now)
+        (K.written session.old.sink.now) (K.faults session.old.sink.now) [] none_flown }
     ensures run { session.new.run.ghost_name ≡ session.old.run.ghost_name }
     ensures source { session.new.source.ghost_name ≡ session.old.source.ghost_name }
     ensures sink { session.new.sink.ghost_name ≡ session.old.sink.ghost_name }
     ensures steps { session.new.steps.ghost_name ≡ session.old.steps.ghost_name }
+    ensures lender { S.lender session.new.source.now ≡ S.lender session.old.source.now }
     ensures ended { (e : Entry)
-        → Standing e session.old.run.now.machine (S.left session.old.source.now) (S.faults session.old.source.now)
+        → Standing e session.old.run.now.machine (S.input session.old.source.now)
         (K.written session.old.sink.now) (K.faults session.old.sink.now) [] none_flown
-        → HasEnded e result session.new.run.now.machine (S.left session.new.source.now)
-        (S.faults session.new.source.now) (K.written session.new.sink.now) (K.faults session.new.sink.now)
-        (K.behind session.new.sink.now) }
+        → HasEnded e result session.new.run.now.machine (S.input session.new.source.now)
+        (K.written session.new.sink.now) (K.faults session.new.sink.now) (K.behind session.new.sink.now) }
 {
     for _ in rt.forever() {
         if let Some(exit) = session.run.over {
@@ -112,6 +110,48 @@ pub fn run_on<
 pub fn finish_run<
     L: Ledger + Send,
     R: Threads + Wait + Sync,
+    S: CommandSource + Send,
+    K: Sink + Send,
+    G: Gate + Sync,
+>(
+    rt: &R,
+    alloc: Global,
+    helpers: Helpers,
+    gate: &G,
+    run: &mut Run,
+    source: &mut S,
+    sink: &mut K,
+    blank: Blank,
+) -> Exit
+    requires name { blank.name ≡ L.name }
+    requires parts { blank.parts ≡ L.parts }
+    requires some { 0 < blank.parts }
+    requires over { run.old.over ≡ None }
+    requires handed { run.old.handed ≡ None }
+    requires standing { IsStanding run.old.machine (S.input source.old) (K.written sink.old)
+        (K.faults sink.old) [] none_flown }
+    ensures lender { S.lender source.new ≡ S.lender source.old }
+    ensures ended { (e : Entry)
+        → Standing e run.old.machine (S.input source.old) (K.written sink.old)
+        (K.faults sink.old) [] none_flown
+        → HasEnded e result run.new.machine (S.input source.new) (K.written sink.new)
+        (K.faults sink.new) (K.behind sink.new) }
+{
+    let mut steps = Steps::<L>::new(blank);
+    let mut session = Session {
+        alloc,
+        run,
+        source,
+        sink,
+        steps: &mut steps,
+    };
+    run_on(rt, alloc, helpers, gate, &mut session)
+}
+
+// Answers each line of a source from which nothing was taken yet, as `finish_run` answers commands.
+fn finish_trace<
+    L: Ledger + Send,
+    R: Threads + Wait + Sync,
     S: Source + Send,
     K: Sink + Send,
     G: Gate + Sync,
@@ -130,23 +170,28 @@ pub fn finish_run<
     requires some { 0 < blank.parts }
     requires over { run.old.over ≡ None }
     requires handed { run.old.handed ≡ None }
-    requires standing { IsStanding run.old.machine (S.left source.old) (S.faults source.old) (K.written sink.old)
-        (K.faults sink.old) [] none_flown }
+    requires standing { IsStanding run.old.machine (untaken (S.left source.old) (S.faults source.old))
+        (K.written sink.old) (K.faults sink.old) [] none_flown }
     ensures { (e : Entry)
-        → Standing e run.old.machine (S.left source.old) (S.faults source.old) (K.written sink.old)
+        → Standing e run.old.machine (untaken (S.left source.old) (S.faults source.old)) (K.written sink.old)
         (K.faults sink.old) [] none_flown
-        → HasEnded e result run.new.machine (S.left source.new) (S.faults source.new) (K.written sink.new)
+        → HasEnded e result run.new.machine (untaken (S.left source.new) (S.faults source.new)) (K.written sink.new)
         (K.faults sink.new) (K.behind sink.new) }
 {
-    let mut steps = Steps::<L>::new(blank);
-    let mut session = Session {
-        alloc,
-        run,
+    let mut commands = TraceSource {
+        reader: LineReader::new(),
         source,
-        sink,
-        steps: &mut steps,
     };
-    run_on(rt, alloc, helpers, gate, &mut session)
+    finish_run::<L, R, TraceSource<'_, S>, K, G>(
+        rt,
+        alloc,
+        helpers,
+        gate,
+        run,
+        &mut commands,
+        sink,
+        blank,
+    )
 }
 
 // Answers each line of a source, in order, beside so many helpers.
@@ -181,7 +226,7 @@ fn answer_lines<
         return end_so(sink, Exit::NoMemory);
     };
     let mut run = first_run(collector);
-    finish_run::<L, R, S, K, G>(rt, alloc, helpers, gate, &mut run, source, sink, blank)
+    finish_trace::<L, R, S, K, G>(rt, alloc, helpers, gate, &mut run, source, sink, blank)
 }
 
 /// Replays a trace, or checks a dump of colours. The words are the command line's, the program's name first.

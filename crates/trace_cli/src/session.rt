@@ -6,7 +6,8 @@ use crate::exit::Exit;
 use crate::lines::go;
 use crate::machine::{Machine, Stop};
 use arena_table::Jobs;
-use gz_io::{Sink, Source};
+use command_source::CommandSource;
+use gz_io::Sink;
 use heap_core::Steps;
 use std::alloc::Global;
 use std::sync::ledger::Ledger;
@@ -24,7 +25,7 @@ pub struct Run {
 
 /// A replay with all that it is lent.
 #[derive(Drop)]
-pub struct Session<'r, 's, 'k, 't, S: Source, K: Sink, L: Ledger> {
+pub struct Session<'r, 's, 'k, 't, S: CommandSource, K: Sink, L: Ledger> {
     pub alloc: Global,
     pub run: &'r mut Run,
     pub source: &'s mut S,
@@ -42,17 +43,18 @@ fn drain<F: Sweeping>(flight: &mut F)
     }
 }
 
-impl<'r, 's, 'k, 't, S: Source, K: Sink, L: Ledger> Works for Session<'r, 's, 'k, 't, S, K, L> {
+impl<'r, 's, 'k, 't, S: CommandSource, K: Sink, L: Ledger> Works
+    for Session<'r, 's, 'k, 't, S, K, L> {
     ghost ready = { λ s outs flown. (s.run.now.over ≡ None) × (s.run.now.handed ≡ None)
-        × IsStanding s.run.now.machine (S.left s.source.now) (S.faults s.source.now) (K.written s.sink.now)
+        × IsStanding s.run.now.machine (S.input s.source.now) (K.written s.sink.now)
         (K.faults s.sink.now) outs flown };
 
     ghost ran = { λ s outs flown t. (t.run.ghost_name ≡ s.run.ghost_name)
         × (t.source.ghost_name ≡ s.source.ghost_name) × (t.sink.ghost_name ≡ s.sink.ghost_name)
-        × (t.steps.ghost_name ≡ s.steps.ghost_name)
-        × ((e : Entry) → Standing e s.run.now.machine (S.left s.source.now) (S.faults s.source.now)
+        × (t.steps.ghost_name ≡ s.steps.ghost_name) × (S.lender t.source.now ≡ S.lender s.source.now)
+        × ((e : Entry) → Standing e s.run.now.machine (S.input s.source.now)
         (K.written s.sink.now) (K.faults s.sink.now) outs flown
-        → RanSo t.run.now.over t.run.now.handed e t.run.now.machine (S.left t.source.now) (S.faults t.source.now)
+        → RanSo t.run.now.over t.run.now.handed e t.run.now.machine (S.input t.source.now)
         (K.written t.sink.now) (K.faults t.sink.now) (K.behind t.sink.now)) };
 
     fn run<F: Sweeping>(&mut self, flight: &mut F) {

@@ -1,5 +1,5 @@
 // Units of a collection, each report written as it comes.
-ghost use Rattle.std.specs.Prelude.{◌≡◌, ◌≢◌, ◌<◌, ◌+◌, ◌^◌, ℕ, [], Err, IfOk, IsSome, None, Ok, OnErr, OnOk, true};
+ghost use Rattle.std.specs.Prelude.{◌≡◌, ◌<◌, ◌+◌, ◌^◌, ℕ, [], Err, IfOk, IsSome, None, Ok, OnErr, OnOk};
 ghost use Rattle.std.specs.Io.KnownBytes.{Appends};
 ghost use Rattle.gz_io.specs.Causes.{HasCause, AppendsFront};
 ghost use Rattle.sweeping.specs.ArenasOut.{AscendHanded, flying_after, outs_after};
@@ -115,7 +115,6 @@ fn answer_step<F: Sweeping, K: Sink, L: Ledger>(
     ensures memory { result ≡ Err AnswerFault.Memory → Appends (K.written sink.old) (K.written sink.new) [] }
     ensures write { result ≡ Err AnswerFault.Write → EachWorld collector.old (F.bits flight.old)
         (λ w. (n : ℕ) × Allows pending.old n × BreaksInUnits w n (K.written sink.old) (K.written sink.new)) }
-    ensures good { result ≢ Err AnswerFault.Bad }
     ensures faults { CountsFaults (K.faults sink.old) (K.faults sink.new) result }
 {
     let some_out = !flight.is_empty();
@@ -153,7 +152,6 @@ pub fn answer_units<F: Sweeping, K: Sink, L: Ledger>(
         (λ w. (n : ℕ) × Allows pending.old n × StopsInUnits w n (K.written sink.old) (K.written sink.new)) }
     ensures write { result ≡ Err AnswerFault.Write → EachWorld collector.old (F.bits flight.old)
         (λ w. (n : ℕ) × Allows pending.old n × BreaksInUnits w n (K.written sink.old) (K.written sink.new)) }
-    ensures good { result ≢ Err AnswerFault.Bad }
     ensures faults { CountsFaults (K.faults sink.old) (K.faults sink.new) result }
 {
     let mut report = None;

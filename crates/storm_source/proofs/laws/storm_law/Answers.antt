@@ -1,4 +1,4 @@
-use Rattle.storm_source.proofs.Commands.{storm_spells}
+use Rattle.storm_source.proofs.Spelled.{storm_spells}
 use Rattle.storm_source.proofs.Exact.{storm_exact}
 use Rattle.storm_source.proofs.laws.storm_law.Goals as goal
 

@@ -4,15 +4,16 @@ use Rattle.trace_cli.proofs.Going.{unbegun}
 use Rattle.trace_cli.proofs.lines.go.Given as goal
 
 abbrev pub invariant-loop-machine : goal.invariant-loop-machine
-invariant-loop-machine g l = IsStanding l.machine (g.S.Source.left l.source) (g.S.Source.faults l.source)
+invariant-loop-machine g l = IsStanding l.machine (g.S.CommandSource.input l.source)
     (g.K.Sink.written l.sink) (g.K.Sink.faults l.sink) (g.F.Sweeping.left (g.F.Flight.origin l.flight))
     (g.F.Flight.bits l.flight)
-    × ((e : Entry) → Standing e l.fn.machine (g.S.Source.left l.fn.source) (g.S.Source.faults l.fn.source)
+    × ((e : Entry) → Standing e l.fn.machine (g.S.CommandSource.input l.fn.source)
     (g.K.Sink.written l.fn.sink) (g.K.Sink.faults l.fn.sink) (g.F.Sweeping.left (g.F.Flight.origin l.fn.flight))
     (g.F.Flight.bits l.fn.flight)
-    → Standing e l.machine (g.S.Source.left l.source) (g.S.Source.faults l.source) (g.K.Sink.written l.sink)
+    → Standing e l.machine (g.S.CommandSource.input l.source) (g.K.Sink.written l.sink)
     (g.K.Sink.faults l.sink) (g.F.Sweeping.left (g.F.Flight.origin l.flight)) (g.F.Flight.bits l.flight))
     × (g.F.Sweeping.home (g.F.Flight.origin l.flight) ≡ g.F.Sweeping.home (g.F.Flight.origin l.fn.flight))
+    × (g.S.CommandSource.lender l.source ≡ g.S.CommandSource.lender l.fn.source)
 
 abbrev pub decreases-loop-machine : goal.decreases-loop-machine
 decreases-loop-machine g l = 2 * (2 ^ 32 - l.machine.answered) + unbegun l.machine.pending

@@ -1,5 +1,4 @@
 use Rattle.std.proofs.Common.{arith, ap, subst, sym, ◌∙◌, refl, Ok, Err, List, ℕ, [], Option}
-use Rattle.std.specs.Io.KnownBytes.{prepend_known}
 use Rattle.cell_bits.specs.declared.bits.Bits.{Bits}
 use Rattle.colour_defs.specs.Lawful.{beginning}
 use Rattle.slice_driver.specs.Collector.{CollectorState}
@@ -15,6 +14,7 @@ use Rattle.trace_cli.specs.declared.machine.Machine.{Machine}
 use Rattle.trace_cli.specs.declared.machine.Stop.{Stop}
 use Rattle.trace_cli.specs.declared.pending.Pending.{Pending}
 use Rattle.trace_cli.specs.declared.turns.Turn.{Turn}
+use Rattle.command_source.specs.Input.{to_come}
 use Rattle.trace_cli.proofs.Going.{amid_breaks, amid_ends, amid_fronts, amid_more, amid_stops, below_at}
 use Rattle.trace_cli.proofs.Going.{ended_by, ended_write, few_at, no_flight, none_maps, opened_amid, some_maps}
 use Rattle.trace_cli.proofs.Going.{stands_at}
@@ -46,7 +46,7 @@ pub returns-in-Ok-More-clause-none : goal.returns-in-Ok-More-clause-none
 returns-in-Ok-More-clause-none g c =
     let did = c.in-Ok-More.ensures in
     let over = did.over (ap (λ (t : Turn). Ok t) c.in-Ok-More.field-0-is) in
-    let rest = prepend_known c.args.machine.now.reader.held (g.S.Source.left c.args._source.now) in
+    let rest = to_come (g.S.CommandSource.input c.args._source.now) in
     none_maps c.end_line.result (λ ended e s.
     let so = opened_amid c.requires.amid s in
     let here = subst (Then e rest (g.K.Sink.written c.answer_units.new.sink) c.args.machine.now.answered
@@ -62,7 +62,7 @@ returns-in-Ok-More-clause-none g c =
     c.args.machine.now.answered c.answer_units.new.collector c.answer_units.new.pending
     (g.F.Sweeping.left (g.F.Flight.origin c.answer_units.new.flight)) (g.F.Flight.bits c.answer_units.new.flight) here
     over (λ w v cmd reports answer. c.answer_law.ensures beginning w v cmd reports answer) ended.0.1 in
-    subst (λ (m : Machine). Standing e m (g.S.Source.left c.args._source.now) (g.S.Source.faults c.args._source.now)
+    subst (λ (m : Machine). Standing e m (g.S.CommandSource.input c.args._source.now)
     (g.K.Sink.written c.end_line.new.sink) (g.K.Sink.faults c.end_line.new.sink)
     (g.F.Sweeping.left (g.F.Flight.origin c.answer_units.new.flight)) (g.F.Flight.bits c.answer_units.new.flight))
     (sym ended.0.0)
@@ -73,7 +73,7 @@ pub returns-in-Ok-More-clause-some : goal.returns-in-Ok-More-clause-some
 returns-in-Ok-More-clause-some g c =
     let did = c.in-Ok-More.ensures in
     let over = did.over (ap (λ (t : Turn). Ok t) c.in-Ok-More.field-0-is) in
-    let rest = prepend_known c.args.machine.now.reader.held (g.S.Source.left c.args._source.now) in
+    let rest = to_come (g.S.CommandSource.input c.args._source.now) in
     some_maps c.end_line.result (λ stop broken e s.
     let so = opened_amid c.requires.amid s in
     let here = subst (Then e rest (g.K.Sink.written c.answer_units.new.sink) c.args.machine.now.answered
@@ -89,19 +89,19 @@ returns-in-Ok-More-clause-some g c =
     c.args.machine.now.answered c.answer_units.new.collector c.answer_units.new.pending
     (g.F.Sweeping.left (g.F.Flight.origin c.answer_units.new.flight)) (g.F.Flight.bits c.answer_units.new.flight) here
     over broken.1 in
-    subst (λ (st : Stop). StopsSo st e c.end_line.new.machine (g.S.Source.left c.args._source.now)
-    (g.S.Source.faults c.args._source.now) (g.K.Sink.written c.end_line.new.sink)
+    subst (λ (st : Stop). StopsSo st e c.end_line.new.machine (g.S.CommandSource.input c.args._source.now)
+    (g.K.Sink.written c.end_line.new.sink)
     (g.K.Sink.faults c.end_line.new.sink) (g.K.Sink.behind c.end_line.new.sink)) (sym broken.0)
-    (ended_write e _ _ _ _ (g.K.Sink.faults c.answer_units.new.sink) _ _
-    (part_after _ _ _ _ _ _ c.args.machine.now.reader.held here.line _ here.size here.world here.command here.stands
-    here.given here.spelt front) (omega (arith, so.writes_are, did.faults.same)) broken.2)) c.end_line.ensures.broken
+    (ended_write e _ _ _ (g.K.Sink.faults c.answer_units.new.sink) _ _
+    (part_after _ _ _ _ _ _ _ _ here.world here.command
+    here.stands here.given front) (omega (arith, so.writes_are, did.faults.same)) broken.2)) c.end_line.ensures.broken
 
 pub returns-in-Ok-LastIn-clause-some : goal.returns-in-Ok-LastIn-clause-some
 returns-in-Ok-LastIn-clause-some g c =
     let did = c.in-Ok-LastIn.ensures in
     let none = subst (λ (t : Turn). IsLeftBy t (g.F.Sweeping.left (g.F.Flight.origin c.answer_units.new.flight))
     (g.F.Flight.bits c.answer_units.new.flight)) c.in-Ok-LastIn.field-0-is did.by in
-    let rest = prepend_known c.args.machine.now.reader.held (g.S.Source.left c.args._source.now) in
+    let rest = to_come (g.S.CommandSource.input c.args._source.now) in
     λ e s. (let so = opened_amid c.requires.amid s in
     let here = subst (Then e rest (g.K.Sink.written c.answer_units.new.sink) c.args.machine.now.answered
     c.answer_units.new.collector c.answer_units.new.pending
@@ -120,7 +120,7 @@ returns-in-Ok-HandsOut-clause-some g c =
     let did = c.in-Ok-HandsOut.ensures in
     let up = subst (λ (t : Turn). IsLeftBy t (g.F.Sweeping.left (g.F.Flight.origin c.answer_units.new.flight))
     (g.F.Flight.bits c.answer_units.new.flight)) c.in-Ok-HandsOut.field-0-is did.by in
-    let rest = prepend_known c.args.machine.now.reader.held (g.S.Source.left c.args._source.now) in
+    let rest = to_come (g.S.CommandSource.input c.args._source.now) in
     λ e s. (let so = opened_amid c.requires.amid s in
     let here = subst (Then e rest (g.K.Sink.written c.answer_units.new.sink) c.args.machine.now.answered
     c.answer_units.new.collector c.answer_units.new.pending
@@ -140,8 +140,8 @@ returns-in-Err-Write-clause-some g c = λ e s.
     let front = amid_breaks e _ (g.K.Sink.written c.args.sink.now) (g.K.Sink.written c.answer_units.new.sink) _
     c.args.machine.now.collector c.args.machine.now.collector c.args.pending c.args.pending _ [] _ none_flown so.here
     (c.in-Err-Write.ensures.write failed) in
-    ended_write e _ _ _ _ (g.K.Sink.faults c.args.sink.now) _ _ (part_after _ _ _ _ _ _ c.args.machine.now.reader.held
-    so.here.line _ so.here.size so.here.world so.here.command so.here.stands so.here.given so.here.spelt front)
+    ended_write e _ _ _ (g.K.Sink.faults c.args.sink.now) _ _ (part_after _ _ _ _ _ _ _ _ so.here.world so.here.command
+    so.here.stands so.here.given front)
     (omega (arith, so.writes_are)) (c.in-Err-Write.ensures.faults.cause failed)
 
 pub returns-in-Err-Memory-clause-some : goal.returns-in-Err-Memory-clause-some
@@ -152,12 +152,12 @@ returns-in-Err-Memory-clause-some g c = λ e s.
     c.args.machine.now.collector c.args.machine.now.collector c.args.pending c.args.pending _ [] _ none_flown so.here
     (c.in-Err-Memory.ensures.memory failed) in
     let kept = start_kept so.here.world so.here.command _ _ _ stops c.end_so.ensures.kept in
-    ended_by e _ exit.NoMemory c.end_so.result _ _ _ (g.K.Sink.faults c.answer_units.new.sink) _ _
-    (either (λ (x : Exit). Replays e.left (g.S.Source.left c.args._source.now) e.written
+    ended_by e _ exit.NoMemory c.end_so.result _ _ (g.K.Sink.faults c.answer_units.new.sink) _ _
+    (either (λ (x : Exit). Replays e.left (g.S.CommandSource.input c.args._source.now).left e.written
     (g.K.Sink.written c.end_so.new.sink) x) _ _ c.end_so.ensures.exit
-    (stop_after _ _ _ _ _ _ c.args.machine.now.reader.held so.here.line _ so.here.size so.here.world so.here.command
-    so.here.stands so.here.given so.here.spelt kept)
-    (part_after _ _ _ _ _ _ c.args.machine.now.reader.held so.here.line _ so.here.size so.here.world so.here.command
-    so.here.stands so.here.given so.here.spelt (start_front so.here.world so.here.command _ _ kept)))
+    (stop_after _ _ _ _ _ _ _ _ so.here.world so.here.command
+    so.here.stands so.here.given kept)
+    (part_after _ _ _ _ _ _ _ _ so.here.world so.here.command
+    so.here.stands so.here.given (start_front so.here.world so.here.command _ _ kept)))
     c.end_so.ensures.cause (omega (arith, so.writes_are, c.in-Err-Memory.ensures.faults.later)) (λ k. absurd (cc k))
     (λ k. absurd (cc k)) (λ k. cc k) (λ k. cc k) (λ k. cc k) (λ k. absurd (cc k))

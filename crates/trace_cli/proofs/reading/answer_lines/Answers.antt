@@ -15,21 +15,19 @@ returns-in_default-clause-lawful g c =
     (ends_memory _ _ _ _ _ [] 0 first_world stands c.end_so.ensures.kept)
     (ends_write _ _ _ _ _ [] 0 first_world stands c.end_so.ensures.kept)
 
-pub finish_run-requires-clause-standing : goal.finish_run-requires-clause-standing
-finish_run-requires-clause-standing g c =
+pub finish_trace-requires-clause-standing : goal.finish_trace-requires-clause-standing
+finish_trace-requires-clause-standing g c =
     λ κs within. somewhere _
-    (first_standing c.first_run-run.result.machine (g.S.Source.left c.args.source.now)
-    (g.K.Sink.written c.args.sink.now)
-    (g.S.Source.faults c.args.source.now) (g.K.Sink.faults c.args.sink.now) c.first_run-run.ensures.pending
-    c.first_run-run.ensures.answered c.first_run-run.ensures.reader c.first_run-run.ensures.first)
+    (first_standing c.first_run-run.result.machine _ (g.K.Sink.written c.args.sink.now)
+    (g.K.Sink.faults c.args.sink.now) c.first_run-run.ensures.pending c.first_run-run.ensures.answered refl
+    c.first_run-run.ensures.first)
 
 pub returns : goal.returns
 returns g c =
-    let ended = c.finish_run.ensures _
-    (first_standing c.first_run-run.result.machine (g.S.Source.left c.args.source.now)
-    (g.K.Sink.written c.args.sink.now)
-    (g.S.Source.faults c.args.source.now) (g.K.Sink.faults c.args.sink.now) c.first_run-run.ensures.pending
-    c.first_run-run.ensures.answered c.first_run-run.ensures.reader c.first_run-run.ensures.first) in
+    let ended = c.finish_trace.ensures _
+    (first_standing c.first_run-run.result.machine _ (g.K.Sink.written c.args.sink.now)
+    (g.K.Sink.faults c.args.sink.now) c.first_run-run.ensures.pending c.first_run-run.ensures.answered refl
+    c.first_run-run.ensures.first) in
     record {
       lawful = ended.lawful;
       quiet = ended.quiet;

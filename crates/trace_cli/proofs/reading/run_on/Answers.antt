@@ -12,35 +12,36 @@ loop-init g c = (
   refl,
   refl,
   refl,
-  λ e s. ran_none_out _ _ e _ _ _ _ _ _ c.requires.over c.requires.handed s,
+  refl,
+  λ e s. ran_none_out _ _ e _ _ _ _ _ c.requires.over c.requires.handed s,
 )
 
 pub returns-in-Some-over-clause-ended : goal.returns-in-Some-over-clause-ended
 returns-in-Some-over-clause-ended g c =
-    λ e s. ran_over _ _ e _ _ _ _ _ _ (c.loop.invariant.4 e s) c.in-Some-over.exit c.in-Some-over.is
+    λ e s. ran_over _ _ e _ _ _ _ _ (c.loop.invariant.5 e s) c.in-Some-over.exit c.in-Some-over.is
 
 pub sweep_beside-requires-clause-ascending : goal.sweep_beside-requires-clause-ascending
-sweep_beside-requires-clause-ascending g c = λ κs within. some_ascend _ _ _ _ _ _ _ _ _ _ _ _ _ c.loop.invariant.4
+sweep_beside-requires-clause-ascending g c = λ κs within. some_ascend _ _ _ _ _ _ _ _ _ _ _ c.loop.invariant.5
     c.in-Some-take.jobs c.in_default.is (sym c.take.ensures.value ∙ c.in-Some-take.is) c.requires.standing
 
 pub sweep_beside-requires-clause-ready : goal.sweep_beside-requires-clause-ready
 sweep_beside-requires-clause-ready g c = λ κs within. (
   c.in_default.is,
   c.take.ensures.after,
-  some_handed _ _ _ _ _ _ _ _ _ _ _ _ _ c.loop.invariant.4 c.in-Some-take.jobs c.in_default.is
+  some_handed _ _ _ _ _ _ _ _ _ _ _ c.loop.invariant.5 c.in-Some-take.jobs c.in_default.is
       (sym c.take.ensures.value ∙ c.in-Some-take.is) c.requires.standing,
 )
 
 pub returns-then-is_err-clause-ended : goal.returns-then-is_err-clause-ended
 returns-then-is_err-clause-ended g c = λ e s.
-    let stands = ran_handed _ _ e _ _ _ _ _ _ (c.loop.invariant.4 e s) c.in-Some-take.jobs c.in_default.is
+    let stands = ran_handed _ _ e _ _ _ _ _ (c.loop.invariant.5 e s) c.in-Some-take.jobs c.in_default.is
     (sym c.take.ensures.value ∙ c.in-Some-take.is) in
     let kept = from_err c.sweep_beside.result (sym c.is_err.ensures.value ∙ c.if-is_err.true)
     c.sweep_beside.ensures.kept in
-    let here = subst (λ s. Standing e s.run.now.machine (g.S.Source.left s.source.now) (g.S.Source.faults s.source.now)
+    let here = subst (λ s. Standing e s.run.now.machine (g.S.CommandSource.input s.source.now)
     (g.K.Sink.written s.sink.now) (g.K.Sink.faults s.sink.now) (outs_of c.in-Some-take.jobs)
     (flown_by c.in-Some-take.jobs)) (sym kept) stands in
-    stands_over e _ _ _ _ _ _ _ _ _ _ _ here c.end_so.ensures.kept c.end_so.ensures.exit c.end_so.ensures.cause
+    stands_over e _ _ _ _ _ _ _ _ _ _ here c.end_so.ensures.kept c.end_so.ensures.exit c.end_so.ensures.cause
 
 pub loop-preserved-else-is_err : goal.loop-preserved-else-is_err
 loop-preserved-else-is_err g c =
@@ -51,7 +52,8 @@ loop-preserved-else-is_err g c =
       ran.1 ∙ so.1,
       ran.2 ∙ so.2,
       ran.3 ∙ so.3,
-      λ e s. ran.4 e (ran_handed _ _ e _ _ _ _ _ _ (so.4 e s) c.in-Some-take.jobs c.in_default.is
+      ran.4 ∙ so.4,
+      λ e s. ran.5 e (ran_handed _ _ e _ _ _ _ _ (so.5 e s) c.in-Some-take.jobs c.in_default.is
           (sym c.take.ensures.value ∙ c.in-Some-take.is)),
     )
 
@@ -59,7 +61,7 @@ pub run-requires : goal.run-requires
 run-requires g c = (
   c.in_default.is,
   c.take.ensures.after,
-  some_none _ _ _ _ _ _ _ _ _ _ _ _ _ c.loop.invariant.4 c.new.result c.in_default.is
+  some_none _ _ _ _ _ _ _ _ _ _ _ c.loop.invariant.5 c.new.result c.in_default.is
       (sym c.take.ensures.value ∙ c.in-None-take.is) c.new.ensures c.requires.standing,
 )
 
@@ -71,6 +73,7 @@ loop-preserved g c =
       ran.1 ∙ so.1,
       ran.2 ∙ so.2,
       ran.3 ∙ so.3,
-      λ e s. ran.4 e (none_stands _ _ e _ _ _ _ _ _ (so.4 e s) c.new.result c.in_default.is
+      ran.4 ∙ so.4,
+      λ e s. ran.5 e (none_stands _ _ e _ _ _ _ _ (so.5 e s) c.new.result c.in_default.is
           (sym c.take.ensures.value ∙ c.in-None-take.is) c.new.ensures),
     )

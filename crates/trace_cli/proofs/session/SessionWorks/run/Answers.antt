@@ -11,12 +11,27 @@ returns-clause-ran g c = elim c.match-go.branch [
     refl,
     refl,
     refl,
-    λ e s. ran_none_out _ _ e _ _ _ _ _ _ c.requires.0 c.requires.1
+    w.in-LastIn.ensures.lender,
+    λ e s. ran_none_out _ _ e _ _ _ _ _ c.requires.0 c.requires.1
         (w.in-LastIn.ensures.stops e s),
   )
-  | in-HandsOut+in-Some-1 w ↦ rw w.self-is
-      (refl, refl, refl, refl, λ e s. ran_jobs_out _ _ e _ _ _ _ _ _ c.requires.0 (w.in-HandsOut.ensures.stops e s))
-  | in-HandsOut+in-None-1 w ↦ rw w.self-is
-      (refl, refl, refl, refl, λ e s. ran_jobs_out _ _ e _ _ _ _ _ _ c.requires.0 (w.in-HandsOut.ensures.stops e s))
-  | in-Over w ↦ rw w.self-is (refl, refl, refl, refl, λ e s. w.in-Over.ensures.stops e s)
+  | in-HandsOut+in-Some-1 w ↦ rw w.self-is (
+    refl,
+    refl,
+    refl,
+    refl,
+    w.in-HandsOut.ensures.lender,
+    λ e s. ran_jobs_out _ _ e _ _ _ _ _ c.requires.0
+        (w.in-HandsOut.ensures.stops e s),
+  )
+  | in-HandsOut+in-None-1 w ↦ rw w.self-is (
+    refl,
+    refl,
+    refl,
+    refl,
+    w.in-HandsOut.ensures.lender,
+    λ e s. ran_jobs_out _ _ e _ _ _ _ _ c.requires.0
+        (w.in-HandsOut.ensures.stops e s),
+  )
+  | in-Over w ↦ rw w.self-is (refl, refl, refl, refl, w.in-Over.ensures.lender, λ e s. w.in-Over.ensures.stops e s)
 ]

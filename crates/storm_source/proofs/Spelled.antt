@@ -15,19 +15,19 @@ use Rattle.trace_lang.specs.Grammar.{Spells, SpellsRest}
 use Rattle.trace_lang.specs.Words.{gray_word, number_word, number_words, reg_word, word_text}
 use Rattle.trace_lang.specs.declared.words.Word.{Word}
 use Rattle.trace_lang.specs.declared.words.Word.TheVariants as word
-use Rattle.storm_source.specs.declared.rows.Choice.TheVariants as choice
-use Rattle.storm_source.specs.Commands.{MakesNoZone, SpellAll}
+use Rattle.storm_source.specs.Commands.{MakesNoZone, SpellAll, collection_command, drawn_command, head_command}
+use Rattle.storm_source.specs.Commands.{row_command, tail_command}
 use Rattle.storm_source.specs.Draws.{choice_of, next_state}
 use Rattle.storm_source.specs.Trace.{collection_line, drawn_line, drawn_lines, head_lines, line_state, row_choices}
-use Rattle.storm_source.specs.Trace.{row_word, storm_lines, tail_lines, words_text, zone_bits}
+use Rattle.storm_source.specs.Trace.{below, row_word, storm_lines, tail_lines, words_text, zone_bits}
 
--- a line that stands for a command which makes no zone
-abbrev IsDrawn : List ℕ → Type 0
-IsDrawn line = (c : Cmd) × Spells line c × MakesNoZone c
+-- a line stands for a command, which makes no zone
+abbrev IsDrawn : List ℕ → Cmd → Type 0
+IsDrawn line c = Spells line c × MakesNoZone c
 
 spells : (line rest : List ℕ) (w : Word) (c : Cmd) → MakesNoZone c → line ≡ word_text w ++ rest → SpellsRest w rest c
-    → IsDrawn line
-spells line rest w c other e so = (c, (w, rest, e, so), other)
+    → IsDrawn line c
+spells line rest w c other e so = ((w, rest, e, so), other)
 
 -- what a draw chooses
 choice_below : (x m : ℕ) → 0 < m → choice_of x m < m
@@ -45,6 +45,7 @@ three_words a b c = ap (λ (t : List ℕ). a ++ (b ++ t)) (append-nil c) ∙ sym
 
 new_line : (a b c : ℕ) → IsDrawn (codes "new" ++ (reg_word (choice_of a 16) ++ (number_word (choice_of b 8)
     ++ (number_word (choice_of c 5) ++ []))))
+    (Graph (cmd.New (choice_of a 16) (record { 0 = choice_of b 8 }) (choice_of c 5)))
 new_line a b c =
     let r = choice_of a 16 in let d = choice_of b 8 in let n = choice_of c 5 in
     let eight = choice_below b 8 (omega arith) in let five = choice_below c 5 (omega arith) in
@@ -54,6 +55,7 @@ new_line a b c =
     (r, record { 0 = d }, n, refl, choice_below a 16 (omega arith), omega (arith, eight), omega (arith, five), refl)
 
 map_line : (a b : ℕ) → IsDrawn (codes "map" ++ (reg_word (choice_of a 16) ++ (number_word (choice_of b 8) ++ [])))
+    (Graph (cmd.Map (choice_of a 16) (record { 0 = choice_of b 8 })))
 map_line a b =
     let r = choice_of a 16 in let d = choice_of b 8 in let eight = choice_below b 8 (omega arith) in
     spells _ (reg_word r ++ number_word d) word.Map (Graph (cmd.Map r (record { 0 = d }))) (λ q. cc q)
@@ -62,6 +64,7 @@ map_line a b =
 
 get_line : (a b c : ℕ) → IsDrawn (codes "get" ++ (reg_word (choice_of a 16) ++ (reg_word (choice_of b 16)
     ++ (number_word (choice_of c 4) ++ []))))
+    (Graph (cmd.Get (choice_of a 16) (choice_of b 16) (choice_of c 4)))
 get_line a b c =
     let r = choice_of a 16 in let s = choice_of b 16 in let f = choice_of c 4 in
     let four = choice_below c 4 (omega arith) in
@@ -71,6 +74,7 @@ get_line a b c =
 
 set_line : (a b c : ℕ) → IsDrawn (codes "set" ++ (reg_word (choice_of a 16) ++ (number_word (choice_of b 4)
     ++ (reg_word (choice_of c 16) ++ []))))
+    (Graph (cmd.Set (choice_of a 16) (choice_of b 4) (Some (choice_of c 16))))
 set_line a b c =
     let s = choice_of a 16 in let f = choice_of b 4 in let t = choice_of c 16 in
     let four = choice_below b 4 (omega arith) in
@@ -80,6 +84,7 @@ set_line a b c =
 
 wrap_line : (a b c : ℕ) → IsDrawn (codes "wrap" ++ (reg_word (choice_of a 16) ++ (reg_word (choice_of b 16)
     ++ (number_word (choice_of c 8) ++ []))))
+    (Graph (cmd.Wrap (choice_of a 16) (choice_of b 16) (record { 0 = choice_of c 8 })))
 wrap_line a b c =
     let r = choice_of a 16 in let s = choice_of b 16 in let d = choice_of c 8 in
     let eight = choice_below c 8 (omega arith) in
@@ -96,6 +101,7 @@ wrap_line a b c =
     )
 
 unwrap_line : (a b : ℕ) → IsDrawn (codes "unwrap" ++ (reg_word (choice_of a 16) ++ (reg_word (choice_of b 16) ++ [])))
+    (Graph (cmd.Unwrap (choice_of a 16) (choice_of b 16)))
 unwrap_line a b =
     let r = choice_of a 16 in let s = choice_of b 16 in
     spells _ (reg_word r ++ reg_word s) word.Unwrap (Graph (cmd.Unwrap r s)) (λ q. cc q)
@@ -104,6 +110,7 @@ unwrap_line a b =
 
 put_line : (a b c : ℕ) → IsDrawn (codes "put" ++ (reg_word (choice_of a 16) ++ (reg_word (choice_of b 16)
     ++ (reg_word (choice_of c 16) ++ []))))
+    (Graph (cmd.Put (choice_of a 16) (choice_of b 16) (choice_of c 16)))
 put_line a b c =
     let m = choice_of a 16 in let k = choice_of b 16 in let v = choice_of c 16 in
     spells _ (reg_word m ++ reg_word k ++ reg_word v) word.Put (Graph (cmd.Put m k v)) (λ q. cc q)
@@ -120,6 +127,7 @@ put_line a b c =
 
 find_line : (a b c : ℕ) → IsDrawn (codes "find" ++ (reg_word (choice_of a 16) ++ (reg_word (choice_of b 16)
     ++ (reg_word (choice_of c 16) ++ []))))
+    (Graph (cmd.Find (choice_of a 16) (choice_of b 16) (choice_of c 16)))
 find_line a b c =
     let r = choice_of a 16 in let m = choice_of b 16 in let k = choice_of c 16 in
     spells _ (reg_word r ++ reg_word m ++ reg_word k) word.Find (Graph (cmd.Find r m k)) (λ q. cc q)
@@ -135,6 +143,7 @@ find_line a b c =
     )
 
 hold_line : (a b : ℕ) → IsDrawn (codes "hold" ++ (gray_word (choice_of a 64) ++ (reg_word (choice_of b 16) ++ [])))
+    (Graph (cmd.Hold (choice_of a 64) (choice_of b 16)))
 hold_line a b =
     let g = choice_of a 64 in let r = choice_of b 16 in
     spells _ (gray_word g ++ reg_word r) word.Hold (Graph (cmd.Hold g r)) (λ q. cc q)
@@ -143,6 +152,7 @@ hold_line a b =
 
 expose_line : (a b : ℕ)
     → IsDrawn (codes "expose" ++ (reg_word (choice_of a 16) ++ (gray_word (choice_of b 64) ++ [])))
+    (Graph (cmd.Expose (choice_of a 16) (choice_of b 64)))
 expose_line a b =
     let r = choice_of a 16 in let g = choice_of b 64 in
     spells _ (reg_word r ++ gray_word g) word.Expose (Graph (cmd.Expose r g)) (λ q. cc q)
@@ -150,6 +160,7 @@ expose_line a b =
     (r, g, refl, choice_below a 16 (omega arith), choice_below b 64 (omega arith), refl)
 
 drop_line : (a : ℕ) → IsDrawn (codes "drop" ++ (reg_word (choice_of a 16) ++ []))
+    (Graph (cmd.Drop (choice_of a 16)))
 drop_line a =
     let r = choice_of a 16 in
     spells _ (reg_word r) word.Drop (Graph (cmd.Drop r)) (λ q. cc q)
@@ -157,7 +168,8 @@ drop_line a =
     (r, refl, choice_below a 16 (omega arith), refl)
 
 -- the rows of the table
-row_line : (row y : ℕ) → row < 15 → IsDrawn (row_word row ++ words_text (row_choices row) y)
+row_line : (row y : ℕ) → row < 15
+    → IsDrawn (row_word row ++ words_text (row_choices row) y) (Graph (row_command row y))
 row_line zero y lt =
     new_line (next_state y) (next_state (next_state y)) (next_state (next_state (next_state y)))
 row_line (suc zero) y lt =
@@ -192,13 +204,14 @@ row_line (suc (suc (suc (suc (suc (suc (suc (suc (suc (suc (suc (suc (suc (suc (
     absurd (omega arith)
 
 gc_line : (z : ℕ) → IsDrawn (codes "gc" ++ number_words (zones_in (record { bits = zone_bits z })))
+    (Gc (record { bits = zone_bits z }))
 gc_line z =
     let few = choice_below z 15 (omega arith) in
     let zones : ZoneSet = record { bits = zone_bits z } in
     spells _ (number_words (zones_in zones)) word.Gc (Gc zones) (λ q. cc q) refl
     (zones, refl, (omega arith, omega (arith, few), refl))
 
-slice_line : (z : ℕ) → IsDrawn (codes "slice" ++ (number_word (choice_of z 64) ++ []))
+slice_line : (z : ℕ) → IsDrawn (codes "slice" ++ (number_word (choice_of z 64) ++ [])) (Slice (choice_of z 64))
 slice_line z =
     let n = choice_of z 64 in let few = choice_below z 64 (omega arith) in
     spells _ (number_word n) word.Slice (Slice n) (λ q. cc q)
@@ -207,16 +220,19 @@ slice_line z =
 
 by_draw : (y : ℕ) (b : Bool) → IsDrawn (cond b
     (codes "gc" ++ number_words (zones_in (record { bits = zone_bits (next_state (next_state y)) })))
-    (codes "slice" ++ words_text (choice.Below 64 ∷ []) (next_state y)))
+    (codes "slice" ++ words_text (below 64 ∷ []) (next_state y)))
+    (cond b (Gc (record { bits = zone_bits (next_state (next_state y)) }))
+    (Slice (choice_of (next_state (next_state y)) 64)))
 by_draw y true = gc_line (next_state (next_state y))
 by_draw y false = slice_line (next_state (next_state y))
 
 by_row : (row y : ℕ) (b : Bool) → nat_lt row 15 ≡ b
     → IsDrawn (cond b (row_word row ++ words_text (row_choices row) y) (collection_line y))
+    (cond b (Graph (row_command row y)) (collection_command y))
 by_row row y true lt = row_line row y (ltb-true row 15 lt)
 by_row row y false lt = by_draw y (eqb (choice_of (next_state y) 4) 0)
 
-drawn_spells : (x : ℕ) → IsDrawn (drawn_line x)
+pub drawn_spells : (x : ℕ) → IsDrawn (drawn_line x) (drawn_command x)
 drawn_spells x =
     let row = choice_of (next_state x) 16 in by_row row (next_state x) (nat_lt row 15) refl
 
@@ -228,8 +244,10 @@ pub all_drawn : (n x : ℕ) → (cs : List Cmd) × AreDrawn (drawn_lines n x) cs
 all_drawn zero x = ([], (tt, All-nil MakesNoZone))
 all_drawn (suc n) x =
     let first = drawn_spells x in
-    let rest = all_drawn n (line_state x) in
-    (first.0 ∷ rest.0, ((first.1, rest.1.0), All-cons MakesNoZone first.0 rest.0 first.2 rest.1.1))
+    let rest = all_drawn n (line_state x) in (
+      drawn_command x ∷ rest.0,
+      ((first.0, rest.1.0), All-cons MakesNoZone (drawn_command x) rest.0 first.1 rest.1.1),
+    )
 
 -- the lines of the head and of the tail
 spelt : (line rest : List ℕ) (w : Word) (c : Cmd) → line ≡ word_text w ++ rest → SpellsRest w rest c → Spells line c
@@ -350,6 +368,43 @@ tail_made = (
   spelt _ [] word.Finish Finish refl (refl, refl),
   (collect_made, (spelt _ [] word.Colours Colours refl (refl, refl), tt)),
 )
+
+-- the line of the head at a place, and the lines behind it
+abbrev StandsAt : List (List ℕ) → ℕ → Cmd → Type 0
+StandsAt lines i c = (line : List ℕ) × (drop i lines ≡ line ∷ drop (i + 1) lines) × Spells line c
+
+pub head_spells : (i : ℕ) → i < 16 → StandsAt head_lines i (head_command i)
+head_spells zero few = (codes "zone", refl, zone_made)
+head_spells (suc zero) few = (codes "zone", refl, zone_made)
+head_spells (suc (suc zero)) few = (codes "zone", refl, zone_made)
+head_spells (suc (suc (suc zero))) few = (codes "zone", refl, zone_made)
+head_spells (suc (suc (suc (suc zero)))) few = (codes "comp 0", refl, comp_made 0 (omega arith))
+head_spells (suc (suc (suc (suc (suc zero))))) few = (codes "comp 1", refl, comp_made 1 (omega arith))
+head_spells (suc (suc (suc (suc (suc (suc zero)))))) few = (codes "comp 2", refl, comp_made 2 (omega arith))
+head_spells (suc (suc (suc (suc (suc (suc (suc zero))))))) few = (codes "comp 3", refl, comp_made 3 (omega arith))
+head_spells (suc (suc (suc (suc (suc (suc (suc (suc zero)))))))) few = (codes "comp 0", refl, comp_made 0 (omega arith))
+head_spells (suc (suc (suc (suc (suc (suc (suc (suc (suc zero))))))))) few =
+    (codes "comp 1", refl, comp_made 1 (omega arith))
+head_spells (suc (suc (suc (suc (suc (suc (suc (suc (suc (suc zero)))))))))) few =
+    (codes "comp 2", refl, comp_made 2 (omega arith))
+head_spells (suc (suc (suc (suc (suc (suc (suc (suc (suc (suc (suc zero))))))))))) few =
+    (codes "comp 3", refl, comp_made 3 (omega arith))
+head_spells (suc (suc (suc (suc (suc (suc (suc (suc (suc (suc (suc (suc zero)))))))))))) few =
+    (codes "new r0 0 4", refl, new_made 0 (omega arith))
+head_spells (suc (suc (suc (suc (suc (suc (suc (suc (suc (suc (suc (suc (suc zero))))))))))))) few =
+    (codes "new r1 1 4", refl, new_made 1 (omega arith))
+head_spells (suc (suc (suc (suc (suc (suc (suc (suc (suc (suc (suc (suc (suc (suc zero)))))))))))))) few =
+    (codes "new r2 2 4", refl, new_made 2 (omega arith))
+head_spells (suc (suc (suc (suc (suc (suc (suc (suc (suc (suc (suc (suc (suc (suc (suc zero))))))))))))))) few =
+    (codes "new r3 3 4", refl, new_made 3 (omega arith))
+head_spells (suc (suc (suc (suc (suc (suc (suc (suc (suc (suc (suc (suc (suc (suc (suc (suc i)))))))))))))))) few =
+    absurd (omega (arith, few))
+
+pub tail_spells : (i : ℕ) → i < 3 → StandsAt tail_lines i (tail_command i)
+tail_spells zero few = (codes "finish", refl, tail_made.0)
+tail_spells (suc zero) few = (codes "collect 0 1 2 3", refl, tail_made.1.0)
+tail_spells (suc (suc zero)) few = (codes "colours", refl, tail_made.1.1.0)
+tail_spells (suc (suc (suc i))) few = absurd (omega (arith, few))
 
 -- two lists after one another
 spell_both : (ls ms : List (List ℕ)) (cs ds : List Cmd) → SpellAll ls cs → SpellAll ms ds
