@@ -31,6 +31,7 @@ mod laws;
 mod lines;
 mod numbers;
 mod piece;
+mod rows;
 mod tail;
 #[cfg(test)]
 mod tests;

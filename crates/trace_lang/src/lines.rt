@@ -9,8 +9,9 @@ ghost use Rattle.trace_lang.specs.declared.words.Word.{Word};
 ghost use Rattle.trace_lang.specs.Words.{word_text, number_word, IsBreak, IsWord};
 ghost use Rattle.trace_lang.specs.Grammar.{Spells, SpellsRest, SpellsZones};
 
-use crate::arguments::{Field, FieldCount, Target, one, three, two};
+use crate::arguments::{one, three, two};
 use crate::numbers::spaced_number;
+use crate::rows::{CopyRow, DropRow, GetRow, NewRow, Row, SetRow};
 use crate::words::{Word, word_of};
 use crate::zone_bits::with_zone;
 use gz_names::{Cmd, GraphCmd, ZoneSet};
@@ -93,7 +94,6 @@ fn no_more(rest: &[u8], cmd: Cmd) -> Option<Cmd>
 }
 
 // The command for a word and the rest of its line.
-#[inline(always)]
 fn command(word: Word, rest: &[u8]) -> Option<Cmd>
     ensures some { IfSome result (SpellsRest word rest.now) }
     ensures exact { (c : Cmd) → SpellsRest word rest.now c → result ≡ Some c }
@@ -101,14 +101,14 @@ fn command(word: Word, rest: &[u8]) -> Option<Cmd>
     match word {
         Word::Zone => no_more(rest, Cmd::Graph(GraphCmd::Zone)),
         Word::Comp => one(rest).map(|z| Cmd::Graph(GraphCmd::Comp(z))),
-        Word::New => three(rest).map(|(r, c, FieldCount(n))| Cmd::Graph(GraphCmd::New(r, c, n))),
+        Word::New => NewRow::read(rest),
         Word::Map => two(rest).map(|(r, c)| Cmd::Graph(GraphCmd::Map(r, c))),
-        Word::Get => three(rest).map(|(r, s, Field(f))| Cmd::Graph(GraphCmd::Get(r, s, f))),
-        Word::Set => three(rest).map(|(s, Field(f), Target(t))| Cmd::Graph(GraphCmd::Set(s, f, t))),
+        Word::Get => GetRow::read(rest),
+        Word::Set => SetRow::read(rest),
         Word::Wrap => three(rest).map(|(r, s, c)| Cmd::Graph(GraphCmd::Wrap(r, s, c))),
         Word::Unwrap => two(rest).map(|(r, s)| Cmd::Graph(GraphCmd::Unwrap(r, s))),
-        Word::Copy => two(rest).map(|(r, s)| Cmd::Graph(GraphCmd::Copy(r, s))),
-        Word::Drop => one(rest).map(|r| Cmd::Graph(GraphCmd::Drop(r))),
+        Word::Copy => CopyRow::read(rest),
+        Word::Drop => DropRow::read(rest),
         Word::Hold => two(rest).map(|(g, r)| Cmd::Graph(GraphCmd::Hold(g, r))),
         Word::Release => one(rest).map(|g| Cmd::Graph(GraphCmd::Release(g))),
         Word::Expose => two(rest).map(|(r, g)| Cmd::Graph(GraphCmd::Expose(r, g))),
@@ -124,51 +124,39 @@ fn command(word: Word, rest: &[u8]) -> Option<Cmd>
     }
 }
 
-// The command of a line that begins with a word of so many bytes and a space.
-#[inline(always)]
-fn command_after(word: Word, line: &[u8], len: usize) -> Option<Cmd>
-    requires front { StartsWith line.now (word_text word ++ codes " ") }
-    requires len { len ≡ length (word_text word) }
-    ensures some { IfSome result (Spells line.now) }
-    ensures exact { (c : Cmd) → Spells line.now c → result ≡ Some c }
-{
-    command(word, &line[len..])
-}
-
 // The command that a line stands for, whatever its first word is.
 #[inline(never)]
 fn any_command(line: &[u8]) -> Option<Cmd>
     ensures some { IfSome result (Spells line.now) }
     ensures exact { (c : Cmd) → Spells line.now c → result ≡ Some c }
 {
-    match line {
-        [b'p', b'u', b't', b' ', ..] => command_after(Word::Put, line, 3),
-        [b'm', b'a', b'p', b' ', ..] => command_after(Word::Map, line, 3),
-        [b'f', b'i', b'n', b'd', b' ', ..] => command_after(Word::Find, line, 4),
-        [b'h', b'o', b'l', b'd', b' ', ..] => command_after(Word::Hold, line, 4),
-        [b'w', b'r', b'a', b'p', b' ', ..] => command_after(Word::Wrap, line, 4),
-        [b's', b'l', b'i', b'c', b'e', b' ', ..] => command_after(Word::Slice, line, 5),
-        [b'e', b'x', b'p', b'o', b's', b'e', b' ', ..] => command_after(Word::Expose, line, 6),
-        [b'u', b'n', b'w', b'r', b'a', b'p', b' ', ..] => command_after(Word::Unwrap, line, 6),
-        _ => {
-            let (word, rest) = first_word(line)?;
-            command(word, rest)
-        }
-    }
+    let (word, rest) = first_word(line)?;
+    command(word, rest)
 }
 
-// The same, in a few steps for the words that most lines begin with.
+// The command of a line that begins with a row's word, of so many bytes, and a space.
+#[inline(always)]
+fn command_after<R: Row>(line: &[u8], len: usize) -> Option<Cmd>
+    requires front { StartsWith line.now (word_text R.first ++ codes " ") }
+    requires len { len ≡ length (word_text R.first) }
+    ensures some { IfSome result (Spells line.now) }
+    ensures exact { (c : Cmd) → Spells line.now c → result ≡ Some c }
+{
+    R::read(&line[len..])
+}
+
+// The same as `any_command`, in a few steps for the words that most lines begin with.
 #[inline(always)]
 fn command_of(line: &[u8]) -> Option<Cmd>
     ensures some { IfSome result (Spells line.now) }
     ensures exact { (c : Cmd) → Spells line.now c → result ≡ Some c }
 {
     match line {
-        [b'g', b'e', b't', b' ', ..] => command_after(Word::Get, line, 3),
-        [b's', b'e', b't', b' ', ..] => command_after(Word::Set, line, 3),
-        [b'n', b'e', b'w', b' ', ..] => command_after(Word::New, line, 3),
-        [b'c', b'o', b'p', b'y', b' ', ..] => command_after(Word::Copy, line, 4),
-        [b'd', b'r', b'o', b'p', b' ', ..] => command_after(Word::Drop, line, 4),
+        [b'g', b'e', b't', b' ', ..] => command_after::<GetRow>(line, 3),
+        [b's', b'e', b't', b' ', ..] => command_after::<SetRow>(line, 3),
+        [b'n', b'e', b'w', b' ', ..] => command_after::<NewRow>(line, 3),
+        [b'c', b'o', b'p', b'y', b' ', ..] => command_after::<CopyRow>(line, 4),
+        [b'd', b'r', b'o', b'p', b' ', ..] => command_after::<DropRow>(line, 4),
         _ => any_command(line),
     }
 }

@@ -1,0 +1,81 @@
+// Rows of the table of commands: those of the words that most lines begin with. The function that has
+// every row is too large to be inlined where lines are read.
+ghost use Rattle.std.specs.Prelude.{◌≡◌, ℕ, List, Some, IfSome};
+ghost use Rattle.gz_names.specs.declared.commands.Cmd.{Cmd};
+ghost use Rattle.trace_lang.specs.declared.words.Word.{Word};
+ghost use Rattle.trace_lang.specs.declared.words.Word.TheVariants as word;
+ghost use Rattle.trace_lang.specs.Grammar.{SpellsRest};
+
+use crate::arguments::{Field, FieldCount, Target, one, three, two};
+use gz_names::{Cmd, GraphCmd};
+
+/// The row of a first word.
+pub trait Row {
+    // the word
+    ghost first: { Word };
+
+    /// The command for what follows the word in a line.
+    fn read(rest: &[u8]) -> Option<Cmd>
+        ensures some { IfSome result (SpellsRest first rest.now) }
+        ensures exact { (c : Cmd) → SpellsRest first rest.now c → result ≡ Some c };
+}
+
+/// The row of `new`.
+pub struct NewRow;
+
+impl Row for NewRow {
+    ghost first = { word.New };
+
+    #[inline(always)]
+    fn read(rest: &[u8]) -> Option<Cmd> {
+        three(rest).map(|(r, c, FieldCount(n))| Cmd::Graph(GraphCmd::New(r, c, n)))
+    }
+}
+
+/// The row of `get`.
+pub struct GetRow;
+
+impl Row for GetRow {
+    ghost first = { word.Get };
+
+    #[inline(always)]
+    fn read(rest: &[u8]) -> Option<Cmd> {
+        three(rest).map(|(r, s, Field(f))| Cmd::Graph(GraphCmd::Get(r, s, f)))
+    }
+}
+
+/// The row of `set`.
+pub struct SetRow;
+
+impl Row for SetRow {
+    ghost first = { word.Set };
+
+    #[inline(always)]
+    fn read(rest: &[u8]) -> Option<Cmd> {
+        three(rest).map(|(s, Field(f), Target(t))| Cmd::Graph(GraphCmd::Set(s, f, t)))
+    }
+}
+
+/// The row of `copy`.
+pub struct CopyRow;
+
+impl Row for CopyRow {
+    ghost first = { word.Copy };
+
+    #[inline(always)]
+    fn read(rest: &[u8]) -> Option<Cmd> {
+        two(rest).map(|(r, s)| Cmd::Graph(GraphCmd::Copy(r, s)))
+    }
+}
+
+/// The row of `drop`.
+pub struct DropRow;
+
+impl Row for DropRow {
+    ghost first = { word.Drop };
+
+    #[inline(always)]
+    fn read(rest: &[u8]) -> Option<Cmd> {
+        one(rest).map(|r| Cmd::Graph(GraphCmd::Drop(r)))
+    }
+}
