@@ -12,7 +12,7 @@ use gz_names::Cmd;
 pub enum NextCommand {
     /// The next line stands for this command.
     Command(Cmd),
-    /// The next line is outside the language.
+    /// The next line is outside the language. One that is too long or is no ASCII is not taken.
     BadLine,
     /// The trace is over.
     End,

@@ -29,9 +29,9 @@ use Rattle.trace_cli.specs.declared.pending.Pending.{Pending}
 use Rattle.trace_cli.specs.Headline.{Replays, WritesFront, WritesStart}
 use Rattle.trace_cli.specs.Pending.{Allows, done_of}
 use Rattle.trace_cli.specs.Reaching.{Stands}
-use Rattle.trace_cli.specs.Standing.{Amid, AnswersLine, Between, EndsIn, Entry, HasEnded, IsFirst, IsReady, IsStanding}
+use Rattle.trace_cli.specs.Standing.{Amid, AnswersCommand, Between, EndsIn, Entry, HasEnded, IsFirst, IsReady}
 use Rattle.trace_cli.specs.Standing.{HasMadeAtMost, MakesNone, Standing, StandsWith, amid, answers, between, last_line}
-use Rattle.trace_cli.specs.Standing.{ready, somewhere, untaken}
+use Rattle.trace_cli.specs.Standing.{IsStanding, ready, somewhere, untaken}
 use Rattle.trace_cli.specs.Starting.{IsAnswering, StartedAs}
 use Rattle.trace_cli.specs.Worlds.{EachWorld}
 use Rattle.trace_cli.specs.Writing.{BreaksInUnits, Goes, StopsInUnits}
@@ -189,7 +189,7 @@ opened_ready (ready sound out made below) = record { sound = sound; out = out; m
 pub line_answered : {T : Type 0} (c : Cmd) (old new : CollectorState) (flown flying : ℕ → Option Bits) (n : ℕ)
     (outs : List (ℕ × ℕ)) (p q : Option (List ℕ)) (left : Option Pending) (r : Result T AnswerFault)
     → StandsWith new outs flying → HasMadeAtMost new (n + 1) → OnOk r (StartedAs left c old flown new flying p q)
-    → OnOk r (AnswersLine c left old flown n new outs flying p q)
+    → OnOk r (AnswersCommand c left old flown n new outs flying p q)
 line_answered c old new flown flying n outs p q left (Ok x) stands made done =
     answers done stands.out stands.sound made
 line_answered c old new flown flying n outs p q left (Err f) stands made done = tt
@@ -204,7 +204,7 @@ pub record Started (c : Cmd) (left : Option Pending) (old : CollectorState) (flo
 
 pub opened_line : {c : Cmd} {left : Option Pending} {old : CollectorState} {flown : ℕ → Option Bits} {n : ℕ}
     {new : CollectorState} {outs : List (ℕ × ℕ)} {flying : ℕ → Option Bits} {p q : Option (List ℕ)}
-    → AnswersLine c left old flown n new outs flying p q → Started c left old flown n new outs flying p q
+    → AnswersCommand c left old flown n new outs flying p q → Started c left old flown n new outs flying p q
 opened_line (answers does out sound made) = record {
   does = does;
   out = out;

@@ -63,10 +63,10 @@ pub record MakesNone (old new : CollectorState) : Type 0 where
   pub entries : length new.heap.shape.weak.entries ≤ length old.heap.shape.weak.entries
 
 -- a command was answered whole in each world that the collector stood for, or its units are left to be done
-pub data AnswersLine (c : Cmd) (left : Option Pending) (old : CollectorState) (flown : ℕ → Option Bits) (n : ℕ)
+pub data AnswersCommand (c : Cmd) (left : Option Pending) (old : CollectorState) (flown : ℕ → Option Bits) (n : ℕ)
     (new : CollectorState) (outs : List (ℕ × ℕ)) (flying : ℕ → Option Bits) (p q : Option (List ℕ)) : Type 0 where
   answers : StartedAs left c old flown new flying p q → AreOut new.heap.shape outs → IsSound new flying
-      → HasMadeAtMost new (n + 1) → AnswersLine c left old flown n new outs flying p q
+      → HasMadeAtMost new (n + 1) → AnswersCommand c left old flown n new outs flying p q
 
 -- the last line of an answer was written, or a front of it
 abbrev pub last_line : Pending → List ℕ

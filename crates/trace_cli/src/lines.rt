@@ -6,7 +6,7 @@ ghost use Rattle.gz_io.specs.Causes.{Rose};
 ghost use Rattle.trace_cli.specs.Answering.{CountsFaults};
 ghost use Rattle.trace_cli.specs.Headline.{WritesFront, WritesStart};
 ghost use Rattle.trace_cli.specs.Served.{FitsLanguage};
-ghost use Rattle.trace_cli.specs.Standing.{AnswersLine, BreaksLine, EndsLine, Entry, HasEnded, IsReady};
+ghost use Rattle.trace_cli.specs.Standing.{AnswersCommand, BreaksLine, EndsLine, Entry, HasEnded, IsReady};
 ghost use Rattle.trace_cli.specs.Standing.{IsStanding, Standing, StopsSo};
 ghost use Rattle.trace_cli.specs.Worlds.{EachWorld};
 
@@ -79,7 +79,7 @@ fn start_next<F: Sweeping, K: Sink, L: Ledger>(
     requires ready { IsReady collector.old (F.left (F.origin flight.old)) (F.bits flight.old) _answered }
     requires fits { FitsLanguage command.now }
     requires none { pending.old ≡ None }
-    ensures ok { OnOk result (AnswersLine command.now pending.new collector.old (F.bits flight.old) _answered
+    ensures ok { OnOk result (AnswersCommand command.now pending.new collector.old (F.bits flight.old) _answered
         collector.new (F.left (F.origin flight.new)) (F.bits flight.new)
         (K.written sink.old) (K.written sink.new)) }
     ensures none { OnErr result (pending.new ≡ None) }

@@ -6,7 +6,7 @@ use Rattle.trace_cli.specs.Headline.{Replays}
 use Rattle.trace_cli.specs.declared.exit.Exit.{Exit}
 use Rattle.trace_cli.specs.declared.exit.Exit.TheVariants as exit
 use Rattle.trace_cli.specs.declared.pending.Pending.{Pending}
-use Rattle.trace_cli.specs.Standing.{AnswersLine, amid, between}
+use Rattle.trace_cli.specs.Standing.{AnswersCommand, amid, between}
 use Rattle.trace_cli.proofs.Going.{amid_first, between_next, ended_by, ended_write, ends_here, from_err}
 use Rattle.trace_cli.proofs.Going.{from_ok, is_left, is_none, opened_line, opened_start, ready_at, refusal_is_none}
 use Rattle.trace_cli.proofs.Lined.{AreFine}
@@ -155,7 +155,7 @@ returns-then-is_some-clause-none g c = λ e s.
     let so = opened_start c.requires.between s in
     let quiet = from_ok c.flush_before.result (sym c.is_err.ensures.value ∙ c.if-is_err.false)
     c.flush_before.ensures.faults.same in
-    let did = subst (λ (o : Option Pending). AnswersLine c.in-Command.command o c.args.machine.now.collector
+    let did = subst (λ (o : Option Pending). AnswersCommand c.in-Command.command o c.args.machine.now.collector
     (g.F.Flight.bits c.args.flight.now) c.args.machine.now.answered c.start_next.new.collector
     (g.F.Sweeping.left (g.F.Flight.origin c.start_next.new.flight)) (g.F.Flight.bits c.start_next.new.flight)
     (g.K.Sink.written c.flush_before.new.sink) (g.K.Sink.written c.start_next.new.sink)) some.1 c.in-Ok.ensures.ok in
@@ -172,7 +172,7 @@ returns-clause-none g c = λ e s.
     let so = opened_start c.requires.between s in
     let quiet = from_ok c.flush_before.result (sym c.is_err.ensures.value ∙ c.if-is_err.false)
     c.flush_before.ensures.faults.same in
-    let did = subst (λ (o : Option Pending). AnswersLine c.in-Command.command o c.args.machine.now.collector
+    let did = subst (λ (o : Option Pending). AnswersCommand c.in-Command.command o c.args.machine.now.collector
     (g.F.Flight.bits c.args.flight.now) c.args.machine.now.answered c.start_next.new.collector
     (g.F.Sweeping.left (g.F.Flight.origin c.start_next.new.flight)) (g.F.Flight.bits c.start_next.new.flight)
     (g.K.Sink.written c.flush_before.new.sink) (g.K.Sink.written c.start_next.new.sink)) none c.in-Ok.ensures.ok in
