@@ -1,6 +1,6 @@
 pub mod Reading
 pub mod Places
-pub mod Quads
+pub mod Octets
 pub mod Queueing
 pub mod Seating
 pub mod Looks

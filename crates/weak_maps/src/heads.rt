@@ -1,25 +1,26 @@
 // The numbers of the lists of places.
 ghost use Rattle.std.specs.Prelude.{◌≡◌, ◌<◌, ℕ, [], Some, OnOk, OnErr, if◌then◌else◌};
-ghost use Rattle.weak_maps.specs.Heads.{quad_of as quad_of_place, number_from as number_kept};
+ghost use Rattle.weak_maps.specs.Heads.{octet_of as octet_of_place, number_from as number_kept};
 
 use gz_names::{NoMemory, Place};
 use std::alloc::Global;
 use std::collections::HashMap;
 use std::marker::Model;
 
-/// Four slots of an arena, side by side.
+/// Eight slots of an arena, side by side.
 #[derive(Clone, Copy, PartialEq, Eq, Hash)]
-pub(crate) struct Quad {
+pub(crate) struct Octet {
     arena: u32,
-    quad: u8,
+    octet: u8,
 }
 
-/// The number of each place's list. Cells that are keys lie mostly side by side, so the numbers of four
-/// slots are kept together: ten bytes a key where all four are keys, and forty where only one is.
+/// The number of each place's list. Cells that are keys lie mostly side by side, so the numbers of eight
+/// slots are kept together: a look at one brings the others into the cache. They take about eight bytes
+/// a key where all eight are keys, and 67 where only one is.
 #[derive(Drop)]
 pub(crate) struct Heads {
     // One more than the number of each slot's list, and zero for a slot that has none.
-    quads: HashMap<Quad, [u32; 4]>,
+    octets: HashMap<Octet, [u32; 8]>,
 }
 
 impl Model for Heads {
@@ -28,7 +29,7 @@ impl Model for Heads {
 
     ghost Value = { HeadsState };
 
-    ghost view = { λ h. h.quads.entries };
+    ghost view = { λ h. h.octets.entries };
 }
 
 impl Heads {
@@ -40,7 +41,7 @@ impl Heads {
         ensures { result ≡ [] }
     {
         Heads {
-            quads: HashMap::new(alloc),
+            octets: HashMap::new(alloc),
         }
     }
 
@@ -48,8 +49,8 @@ impl Heads {
     pub fn get(&self, place: Place) -> Option<u32>
         ensures { result ≡ head_of self.now place }
     {
-        let numbers = self.quads.get(&quad_of(place))?;
-        number_from(numbers[(place.slot() % 4) as usize])
+        let numbers = self.octets.get(&octet_of(place))?;
+        number_from(numbers[(place.slot() % 8) as usize])
     }
 
     /// A place has a list with this number from now on.
@@ -59,21 +60,21 @@ impl Heads {
             ≡ (if is_same place q then Some list else head_of self.old q)) }
         ensures err { OnErr result (self.new ≡ self.old) }
     {
-        let quad = quad_of(place);
-        let mut numbers = self.quads.get(&quad).copied().unwrap_or([0; 4]);
-        numbers[(place.slot() % 4) as usize] = list + 1;
-        self.quads.insert(quad, numbers)?;
+        let octet = octet_of(place);
+        let mut numbers = self.octets.get(&octet).copied().unwrap_or([0; 8]);
+        numbers[(place.slot() % 8) as usize] = list + 1;
+        self.octets.insert(octet, numbers)?;
         Ok(())
     }
 }
 
 // The slots among which a place lies.
-fn quad_of(place: Place) -> Quad
-    ensures { result ≡ quad_of_place place }
+fn octet_of(place: Place) -> Octet
+    ensures { result ≡ octet_of_place place }
 {
-    Quad {
+    Octet {
         arena: place.arena(),
-        quad: place.slot() / 4,
+        octet: place.slot() / 8,
     }
 }
 
