@@ -70,8 +70,7 @@ fn join_digits(first: u64, second: u8) -> u64
 }
 
 // The number of at most two digits below a limit that begins with a digit, and what follows it. A third
-// digit begins no word, so the rest of the line is refused. How many digits there are decides no branch,
-// since no processor can foresee it.
+// digit begins no word, so the rest of the line is refused.
 #[inline(always)]
 fn short_number(first: u64, rest: &[u8], limit: u64) -> Option<(u64, &[u8])>
     requires digit { first < 10 }
