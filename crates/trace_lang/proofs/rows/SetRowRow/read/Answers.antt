@@ -2,4 +2,5 @@ use Rattle.std.proofs.Common.{rules}
 use Rattle.trace_lang.proofs.rows.SetRowRow.read.Goals as goal
 
 pub returns-clause-exact : goal.returns-clause-exact
-returns-clause-exact c = λ d s. search (rules, s.3, c.three.ensures.exact s.0 (record { 0 = s.1 }) (record { 0 = s.2 }) s.4 s.5 s.6 s.7)
+returns-clause-exact c = λ d s.
+    search (rules, s.3, c.three.ensures.exact s.0 (record { 0 = s.1 }) (record { 0 = s.2 }) s.4 s.5 s.6 s.7)
