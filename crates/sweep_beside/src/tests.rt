@@ -1,4 +1,4 @@
-ghost use Rattle.std.specs.Prelude.{IfOk, ⊤};
+ghost use Rattle.std.specs.Prelude.{◌≡◌, [], IfOk, ⊤};
 ghost use Rattle.sweeping.specs.ArenasOut.{Ascend, outs_of};
 
 use crate::{Works, sweep_beside};
@@ -30,16 +30,25 @@ impl Works for TakesAll {
     }
 }
 
-// An arena with a white cell, handed to sweeping.
-fn hand_out_one(alloc: Global) -> Result<Jobs, Fail>
+// A white cell is put into the first arena, which is handed to sweeping.
+fn hand_out_first(arenas: &mut Arenas, alloc: Global) -> Result<Jobs, Fail>
+    requires none { arenas.old.arenas ≡ [] }
+    requires made { arenas.old.made ≡ 0 }
     ensures { IfOk result (λ jobs. Ascend (outs_of jobs)) }
 {
-    let mut arenas = Arenas::new(alloc)?;
     let zone = ZoneNo::new(0).ok_or("zone 0")?;
     let place = arenas.reserve_place(zone)?;
     arenas.put_cell(place, Kind::Map, CompNo(0), Name::Cell(0));
     let jobs = arenas.hand_out(alloc, ZoneSet::only(zone))?;
     Ok(jobs)
+}
+
+// An arena with a white cell, handed to sweeping.
+fn hand_out_one(alloc: Global) -> Result<Jobs, Fail>
+    ensures { IfOk result (λ jobs. Ascend (outs_of jobs)) }
+{
+    let mut arenas = Arenas::new(alloc)?;
+    hand_out_first(&mut arenas, alloc)
 }
 
 #[test]
