@@ -135,17 +135,27 @@ fn take_in_turn(pile: &mut Vec<Place>, taken: &mut usize) -> Option<Place>
     Some(pile.swap_remove(*taken))
 }
 
-// The index to take from after another one: that below it, as long as this is one of the eight below
-// the last, and else the highest of these.
+// The index to take from after another one: that below it, as long as this is one of the eight from the
+// highest down, and else the highest.
 #[inline(always)]
 fn next_in_turn(taken: usize, last: usize) -> usize
     ensures { result ≤ last }
 {
-    if taken != 0 && taken <= last && last - taken < 8 {
+    let highest = highest_to_take(last);
+    if taken != 0 && taken <= highest && highest - taken < 7 {
         taken - 1
     } else {
-        last.saturating_sub(1)
+        highest
     }
+}
+
+// The highest index to take from. The memory of a cell is asked for as its place comes onto a pile; where
+// there are enough places, eight lie above the one that is taken, so that its memory has come by then.
+#[inline(always)]
+fn highest_to_take(last: usize) -> usize
+    ensures { result ≤ last }
+{
+    last.saturating_sub(if last < 16 { 1 } else { 8 })
 }
 
 #[cfg(test)]
