@@ -8,7 +8,6 @@ use Rattle.std.proofs.lemmas.Nat.Bits.{bit_at_lowest, bit_at-suc, bit_at-trailin
 use Rattle.std.specs.Int.{bit_at, trailing_zeros}
 use Rattle.gz_names.specs.declared.commands.Kind.TheVariants as kind
 use Rattle.gz_names.specs.declared.names.Name.{Name}
-use Rattle.gz_names.specs.declared.names.Name.TheVariants as name
 use Rattle.arena_table.specs.Cells.{CellState, state_of}
 use Rattle.arena_table.specs.Slots.{Arena, at_bits, names_of, IsWithin, alloc_word_of}
 use Rattle.arena_table.specs.Stored.{arena_of, arenas_of, slots_of, AreStored}
@@ -24,14 +23,15 @@ no_cell = record {
   kind = kind.Object 0;
   comp = record { 0 = 0 };
   fetched = false;
+  wrapped_in = None;
   fields = [];
-  name = name.Cell 0;
+  number = 0;
   few = omega arith;
   null_past = AreNullFrom-none 0;
 }
 
 abbrev pub names_in : List Cell → List Name
-names_in cells = map (λ (c : Cell). c.name) cells
+names_in cells = map (λ (c : Cell). (state_of c).name) cells
 
 -- as long as a slot is left, there is room for its name
 pub names-room : (names : List Name) (left word : ℕ) (cells : List Cell) (d : Cell)
@@ -43,21 +43,23 @@ names-room names left word cells d h some fits long =
     let first = ap length (at_bits-lowest left cells d (omega arith) fits within) in
     let all = ap length h in
     let parts = length-append names (names_in (at_bits left cells)) in
-    let more = length-map (at_bits left cells) (λ (c : Cell). c.name) in
-    let most = length-map (at_bits word cells) (λ (c : Cell). c.name) in
+    let more = length-map (at_bits left cells) (λ (c : Cell). (state_of c).name) in
+    let most = length-map (at_bits word cells) (λ (c : Cell). (state_of c).name) in
     let bound = length-at_bits word cells in
     omega arith
 
 -- the name of the lowest slot that is left
-pub names-next : (names : List Name) (left word : ℕ) (cells : List Cell) (d : Cell)
+pub names-next : (names : List Name) (left word : ℕ) (cells : List Cell) (cell : Cell)
+    → cell ≡ get_or cells (trailing_zeros w64 left) cell
     → names ++ names_in (at_bits left cells) ≡ names_in (at_bits word cells) → left ≢ 0 → left < 2 ^ 64
-    → length cells ≡ 64 → (names ++ (get_or cells (trailing_zeros w64 left) d).name ∷ [])
+    → length cells ≡ 64 → (names ++ (state_of cell).name ∷ [])
     ++ names_in (at_bits (bit_and left (left - 1)) cells) ≡ names_in (at_bits word cells)
-names-next names left word cells d h some fits long =
+names-next names left word cells cell here h some fits long =
     let lowest = bit_at-trailing_zeros w64 left (omega arith) fits in
     let within : trailing_zeros w64 left < length cells = omega (arith, lowest.0) in
     append_assoc names _ _
-    ∙ (ap (λ cs. names ++ names_in cs) (sym (at_bits-lowest left cells d (omega arith) fits within)) ∙ h)
+    ∙ (ap (λ cs. names ++ names_in cs) (ap (λ c. c ∷ at_bits (bit_and left (left - 1)) cells) here
+    ∙ sym (at_bits-lowest left cells cell (omega arith) fits within)) ∙ h)
 
 pub names-all : (names : List Name) (left word : ℕ) (cells : List Cell) → names ++ names_in (at_bits left cells)
     ≡ names_in (at_bits word cells) → left ≡ 0 → names ≡ names_in (at_bits word cells)
@@ -85,7 +87,7 @@ names_of-slots word w (c ∷ cs) h =
     by true e rest =
         let one : w % 2 ≡ 1 = sym (bit_at_lowest w) ∙ h 0 (omega arith) (bit_at_lowest word ∙ eqb-true _ _ e) in
         ap (λ n. names_of ((if n == 1 then Some (state_of c) else None) ∷ at_bits (word / 2) (slots_of (w / 2) cs))) one
-        ∙ ap (λ ns. c.name ∷ ns) rest
+        ∙ ap (λ ns. (state_of c).name ∷ ns) rest
 
 -- the names of the cells of an arena
 pub names_of-stored : (hs : List Head) (cs : List (List Cell)) (arenas : List Arena) (i word : ℕ) (names : List Name)

@@ -2,6 +2,7 @@
 use Rattle.std.specs.Prelude.{ℕ, zero, suc, ◌/◌, ◌%◌, List, Option, Some, None, map, take, slice_get, slice_set}
 use Rattle.gz_names.specs.declared.commands.Kind.{Kind}
 use Rattle.gz_names.specs.declared.names.Name.{Name}
+use Rattle.gz_names.specs.declared.names.Name.TheVariants as name
 use Rattle.gz_names.specs.declared.numbers.CompNo.{CompNo}
 use Rattle.gz_names.specs.declared.numbers.Place.{Place}
 use Rattle.arena_table.specs.declared.cells.Link.{Link}
@@ -32,11 +33,16 @@ abbrev pub place_at : ℕ → Option Place
 place_at zero = None
 place_at (suc n) = Some (n / 64, n % 64)
 
+-- the name that a cell keeps as a compartment, which a wrapper alone has, and a number
+abbrev pub kept_name : Option CompNo → ℕ → Name
+kept_name None number = name.Cell number
+kept_name (Some comp) number = name.Wrap comp number
+
 -- a cell as it is kept
 abbrev pub state_of : Cell → CellState
 state_of cell = record {
   kind = cell.kind;
   comp = cell.comp;
-  name = cell.name;
+  name = kept_name cell.wrapped_in cell.number;
   fields = map (λ (link : Link). place_at link.position) (take (field_count cell.kind) cell.fields);
 }

@@ -196,7 +196,7 @@ impl Arenas {
         requires { IsSome (cell_at self.now.arenas place) }
         ensures { option_map (λ c. c.name) (cell_at self.now.arenas place) ≡ Some result }
     {
-        self.store.cell(place).name
+        self.store.cell(place).name()
     }
 
     /// What a field of a cell holds; `None` also past its fields.

@@ -16,7 +16,7 @@ pub(crate) struct Link {
     pub position: u32,
 }
 
-/// A cell as it is kept, in 56 bytes. Links past the fields that its kind has are null. What marking
+/// A cell as it is kept, in 48 bytes. Links past the fields that its kind has are null. What marking
 /// reads stands first.
 #[derive(Clone, Copy)]
 pub(crate) struct Cell {
@@ -24,8 +24,11 @@ pub(crate) struct Cell {
     pub comp: CompNo,
     /// Written to fetch the cell, and never read.
     pub fetched: bool,
+    /// The compartment that the name tells; an object or a map has none.
+    pub wrapped_in: Option<CompNo>,
     pub fields: [Link; 8],
-    pub name: Name,
+    /// The number that the name tells.
+    pub number: u64,
     ghost few: { field_count kind ≤ 8 },
     ghost null_past: { AreNullFrom (field_count kind) fields },
 }
@@ -35,8 +38,9 @@ pub(crate) const NO_CELL: Cell = Cell {
     kind: Kind::Map,
     comp: CompNo(0),
     fetched: false,
+    wrapped_in: None,
     fields: [Link { position: 0 }; 8],
-    name: Name::Cell(0),
+    number: 0,
 };
 
 impl Link {
@@ -79,7 +83,7 @@ pub(crate) fn fields_of(kind: Kind) -> u8
 }
 
 impl Cell {
-    ghost use Rattle.arena_table.specs.Cells.{CellState, field_of, state_of};
+    ghost use Rattle.arena_table.specs.Cells.{CellState, field_of, kept_name, state_of};
 
     /// A cell whose fields are null.
     pub fn new(kind: Kind, comp: CompNo, name: Name) -> Self
@@ -91,12 +95,34 @@ impl Cell {
           fields = replicate (field_count kind) None;
         } }
     {
+        let (wrapped_in, number) = Self::split_name(name);
         Cell {
             kind,
             comp,
             fetched: false,
+            wrapped_in,
             fields: [Link { position: 0 }; 8],
-            name,
+            number,
+        }
+    }
+
+    // The compartment and the number that a name tells.
+    fn split_name(name: Name) -> (Option<CompNo>, u64)
+        ensures { kept_name result.0 result.1 ≡ name }
+    {
+        match name {
+            Name::Cell(number) => (None, number),
+            Name::Wrap(comp, number) => (Some(comp), number),
+        }
+    }
+
+    /// What the cell is called.
+    pub fn name(&self) -> Name
+        ensures { result ≡ (state_of self.now).name }
+    {
+        match self.wrapped_in {
+            Some(comp) => Name::Wrap(comp, self.number),
+            None => Name::Cell(self.number),
         }
     }
 

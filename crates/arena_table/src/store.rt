@@ -2,6 +2,7 @@
 ghost use Rattle.std.specs.Prelude.{◌≡◌, ◌≤◌, ◌<◌, ◌+◌, ◌++◌, ◌∷◌, ◌^◌, [], ℕ, Bool, true, false, IsSome, IsSomeAnd};
 ghost use Rattle.std.specs.Prelude.{IsTrue, Some, None, length, map, slice_get, slice_set, OnOk, OnErr};
 ghost use Rattle.std.specs.Option.{ForSome, option_map};
+ghost use Rattle.arena_table.specs.Cells.{state_of};
 ghost use Rattle.arena_table.specs.Slots.{at_bits};
 
 use crate::cells::{ARENA_LIMIT, Cell, NO_CELL};
@@ -10,7 +11,7 @@ use gz_names::{Names64, Place, ZoneNo};
 use std::alloc::{AllocError, Global};
 use std::marker::Model;
 
-// For so many arenas memory is taken at first. Their cells take 224 kilobytes, which the C library maps: a page of
+// For so many arenas memory is taken at first. Their cells take 192 kilobytes, which the C library maps: a page of
 // them takes no memory before it is written, and as there are more arenas, pages are moved and no cell is copied.
 const FIRST_ARENAS: usize = 64;
 
@@ -196,12 +197,12 @@ impl Store {
 // Puts the names of the cells at the slots of a word in the place of those of a list.
 fn names_of_cells(cells: &[Cell], word: u64, names: &mut Names64)
     requires { length cells.now ≡ 64 }
-    ensures { names.new ≡ map (λ c. c.name) (at_bits word cells.now) }
+    ensures { names.new ≡ map (λ c. (state_of c).name) (at_bits word cells.now) }
 {
     names.clear();
     let mut left = word;
     while left != 0 {
-        names.push(cells[left.trailing_zeros() as usize].name);
+        names.push(cells[left.trailing_zeros() as usize].name());
         left &= left - 1;
     }
 }

@@ -1,6 +1,7 @@
-use Rattle.std.proofs.Common.{List, Option, ap}
+use Rattle.std.proofs.Common.{List, Option, ap, ◌∙◌, map, replicate, take}
+use Rattle.gz_names.specs.declared.names.Name.{Name}
 use Rattle.gz_names.specs.declared.numbers.Place.{Place}
-use Rattle.arena_table.specs.Cells.{field_count, place_at}
+use Rattle.arena_table.specs.Cells.{CellState, field_count, place_at}
 use Rattle.arena_table.specs.declared.cells.Link.{Link}
 use Rattle.arena_table.proofs.Fields.{map-take-replicate}
 use Rattle.arena_table.proofs.cells.Cell.new.Goals as goal
@@ -8,10 +9,13 @@ use Rattle.arena_table.proofs.cells.Cell.new.Goals as goal
 pub returns : goal.returns
 returns c =
     let null : Link = record { position = 0 } in
-    ap (λ (fields : List (Option Place)). record {
+    let seen = λ (link : Link). place_at link.position in
+    let cell : Name → List (Option Place) → CellState = λ name fields. record {
       kind = c.args.kind;
       comp = c.args.comp;
-      name = c.args.name;
+      name = name;
       fields = fields;
-    }) (map-take-replicate (λ (link : Link). place_at link.position) (field_count c.args.kind) 8
-    null c.requires)
+    } in
+    let count = field_count c.args.kind in
+    ap (λ name. cell name (map seen (take count (replicate 8 null)))) c.split_name-wrapped_in.ensures
+    ∙ ap (cell c.args.name) (map-take-replicate seen count 8 null c.requires)
