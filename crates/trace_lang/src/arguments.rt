@@ -4,7 +4,7 @@ ghost use Rattle.std.specs.Fmt.{decimal};
 ghost use Rattle.trace_lang.specs.Words.{IsBreak, number_word, reg_word, gray_word, target_word, target_spaced};
 ghost use Rattle.trace_lang.specs.Words.{FitsTarget};
 
-use crate::numbers::{lettered_number, spaced_number};
+use crate::numbers::{lettered_number, spaced_digit, spaced_number};
 use gz_names::{CompNo, GrayNo, Reg, ZoneNo};
 
 /// What a word of a line stands for.
@@ -94,7 +94,7 @@ impl Argument for FieldCount {
 
     #[inline(always)]
     fn read(text: &[u8]) -> Option<(Self, &[u8])> {
-        let (n, rest) = spaced_number(text, 9)?;
+        let (n, rest) = spaced_digit(text, 9)?;
         Some((FieldCount(n as u8), rest))
     }
 }
@@ -112,7 +112,7 @@ impl Argument for Field {
 
     #[inline(always)]
     fn read(text: &[u8]) -> Option<(Self, &[u8])> {
-        let (n, rest) = spaced_number(text, 8)?;
+        let (n, rest) = spaced_digit(text, 8)?;
         Some((Field(n as u8), rest))
     }
 }

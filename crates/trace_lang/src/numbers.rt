@@ -90,12 +90,31 @@ fn short_number(first: u64, rest: &[u8], limit: u64) -> Option<(u64, &[u8])>
     Some((n, &rest[usize::from(is_long)..]))
 }
 
+// The number of one digit below a limit, and what follows it. Of two digits the second begins no word,
+// so the rest of the line is refused.
+#[inline(always)]
+fn single_digit(first: u64, rest: &[u8], limit: u64) -> Option<(u64, &[u8])>
+    requires digit { first < 10 }
+    requires most { limit ≤ 10 }
+    ensures some { IfSome result
+        (λ p. (p.0 < limit) × ((48 + first) ∷ rest.now ≡ decimal p.0 ++ p.1.now)) }
+    ensures exact { (n : ℕ) (others : List ℕ) → n < limit → IsBreak others
+        → (48 + first) ∷ rest.now ≡ decimal n ++ others
+        → MatchOption result ⊥ (λ p. (p.0 ≡ n) × (p.1.now ≡ others)) }
+{
+    if first < limit {
+        Some((first, rest))
+    } else {
+        None
+    }
+}
+
 // The number below a limit that begins with a digit, and what follows it. A number is `0`, or
 // digits of which the first is not `0`.
 #[inline(always)]
 fn number(first: u64, rest: &[u8], limit: u64) -> Option<(u64, &[u8])>
     requires digit { first < 10 }
-    requires some { 0 < limit }
+    requires least { 10 ≤ limit }
     requires most { limit ≤ 2 ^ 32 }
     ensures some { IfSome result
         (λ p. (p.0 < limit) × ((48 + first) ∷ rest.now ≡ decimal p.0 ++ p.1.now)) }
@@ -103,17 +122,6 @@ fn number(first: u64, rest: &[u8], limit: u64) -> Option<(u64, &[u8])>
         → (48 + first) ∷ rest.now ≡ decimal n ++ others
         → MatchOption result ⊥ (λ p. (p.0 ≡ n) × (p.1.now ≡ others)) }
 {
-    // Of two digits the second begins no word, so the rest of the line is refused.
-    if limit <= 10 {
-        return if first < limit {
-            Some((first, rest))
-        } else {
-            None
-        };
-    }
-    if limit <= 100 {
-        return short_number(first, rest, limit);
-    }
     if first == 0 {
         return Some((0, rest));
     }
@@ -123,10 +131,25 @@ fn number(first: u64, rest: &[u8], limit: u64) -> Option<(u64, &[u8])>
     digits(first, rest, limit)
 }
 
+/// A digit below a limit behind a space, and what follows it.
+#[inline(always)]
+pub fn spaced_digit(text: &[u8], limit: u64) -> Option<(u64, &[u8])>
+    requires most { limit ≤ 10 }
+    ensures some { IfSome result (λ p. (p.0 < limit) × (text.now ≡ number_word p.0 ++ p.1.now)) }
+    ensures exact { (n : ℕ) (rest : List ℕ) → n < limit → IsBreak rest
+        → text.now ≡ number_word n ++ rest
+        → MatchOption result ⊥ (λ p. (p.0 ≡ n) × (p.1.now ≡ rest)) }
+{
+    match text {
+        [b' ', first, rest @ ..] => single_digit(digit(*first)?, rest, limit),
+        _ => None,
+    }
+}
+
 /// A number below a limit behind a space, and what follows it.
 #[inline(always)]
 pub fn spaced_number(text: &[u8], limit: u64) -> Option<(u64, &[u8])>
-    requires some { 0 < limit }
+    requires least { 10 ≤ limit }
     requires most { limit ≤ 2 ^ 32 }
     ensures some { IfSome result (λ p. (p.0 < limit) × (text.now ≡ number_word p.0 ++ p.1.now)) }
     ensures exact { (n : ℕ) (rest : List ℕ) → n < limit → IsBreak rest
@@ -142,8 +165,7 @@ pub fn spaced_number(text: &[u8], limit: u64) -> Option<(u64, &[u8])>
 /// A letter behind a space and a number below a limit, and what follows them.
 #[inline(always)]
 pub fn lettered_number(text: &[u8], letter: u8, limit: u64) -> Option<(u64, &[u8])>
-    requires some { 0 < limit }
-    requires most { limit ≤ 2 ^ 32 }
+    requires most { limit ≤ 100 }
     ensures some { IfSome result
         (λ p. (p.0 < limit) × (text.now ≡ 32 ∷ letter ∷ decimal p.0 ++ p.1.now)) }
     ensures exact { (n : ℕ) (rest : List ℕ) → n < limit → IsBreak rest
@@ -152,7 +174,7 @@ pub fn lettered_number(text: &[u8], letter: u8, limit: u64) -> Option<(u64, &[u8
 {
     match text {
         [b' ', second, first, rest @ ..] if *second == letter => {
-            number(digit(*first)?, rest, limit)
+            short_number(digit(*first)?, rest, limit)
         }
         _ => None,
     }

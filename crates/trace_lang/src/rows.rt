@@ -1,5 +1,5 @@
-// Rows of the table of commands: those of the words that most lines begin with. The function that has
-// every row is too large to be inlined where lines are read.
+// Rows of the table of commands: those of the words that most lines begin with. Three of them are inlined where the
+// first bytes of a line are told apart; with all five that function would be too large to be inlined itself.
 ghost use Rattle.std.specs.Prelude.{◌≡◌, ℕ, List, Some, IfSome};
 ghost use Rattle.gz_names.specs.declared.commands.Cmd.{Cmd};
 ghost use Rattle.trace_lang.specs.declared.words.Word.{Word};
@@ -26,7 +26,6 @@ pub struct NewRow;
 impl Row for NewRow {
     ghost first = { word.New };
 
-    #[inline(always)]
     fn read(rest: &[u8]) -> Option<Cmd> {
         three(rest).map(|(r, c, FieldCount(n))| Cmd::Graph(GraphCmd::New(r, c, n)))
     }
@@ -74,7 +73,6 @@ pub struct DropRow;
 impl Row for DropRow {
     ghost first = { word.Drop };
 
-    #[inline(always)]
     fn read(rest: &[u8]) -> Option<Cmd> {
         one(rest).map(|r| Cmd::Graph(GraphCmd::Drop(r)))
     }

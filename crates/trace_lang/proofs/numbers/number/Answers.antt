@@ -1,31 +1,16 @@
 use Rattle.std.proofs.Common.{◌≡◌, ◌≢◌, ◌+◌, ◌++◌, ◌∷◌, arith, ap, get_or, refl, ◌∙◌, sym, subst}
 use Rattle.std.specs.Fmt.{decimal}
 use Rattle.std.proofs.lemmas.Option.{IfSome_then}
-use Rattle.trace_lang.proofs.Decimals.{decimal_zero, digit_first, is_digit, one_digit, only_one}
+use Rattle.trace_lang.proofs.Decimals.{decimal_zero, digit_first, one_digit, only_one}
 use Rattle.trace_lang.proofs.Decimals.{front_number, decimal_front, from_first}
 use Rattle.trace_lang.proofs.Options.{match_by}
 use Rattle.trace_lang.proofs.numbers.number.Goals as goal
-
-pub returns-then-first-limit-clause-some : goal.returns-then-first-limit-clause-some
-returns-then-first-limit-clause-some c = (
-  c.if-first-limit.true,
-  one_digit ((48 + c.args.first) ∷ c.args.rest.now) c.args.rest.now c.args.first c.requires.digit refl,
-)
-
-pub returns-then-first-limit-clause-exact : goal.returns-then-first-limit-clause-exact
-returns-then-first-limit-clause-exact c = λ n others h b e.
-    is_digit c.args.rest.now others c.args.first n (omega (arith, h, c.if-limit-le10.true)) e
-
-pub returns-else-first-limit-clause-exact : goal.returns-else-first-limit-clause-exact
-returns-else-first-limit-clause-exact c = λ n others h b e.
-    let is = is_digit c.args.rest.now others c.args.first n (omega (arith, h, c.if-limit-le10.true)) e in
-    omega (arith, is.0, h, c.if-first-limit.false)
 
 pub returns-then-first-eq0-clause-some : goal.returns-then-first-eq0-clause-some
 returns-then-first-eq0-clause-some c =
     let rest = c.args.rest.now in
     let text = (48 + c.args.first) ∷ rest in (
-      c.requires.some,
+      omega (arith, c.requires.least),
       subst (λ k. text ≡ decimal k ++ rest) c.if-first-eq0.true
           (one_digit text rest c.args.first c.requires.digit refl),
     )
@@ -38,7 +23,7 @@ returns-then-first-eq0-clause-exact c = λ n others h b e.
 
 pub returns-then-digit_or_more-gt9-clause-some : goal.returns-then-digit_or_more-gt9-clause-some
 returns-then-digit_or_more-gt9-clause-some c = (
-  omega (arith, c.requires.digit, c.if-limit-le100.false),
+  omega (arith, c.requires.digit, c.requires.least),
   one_digit ((48 + c.args.first) ∷ c.args.rest.now) c.args.rest.now c.args.first c.requires.digit refl,
 )
 
