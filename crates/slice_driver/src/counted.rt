@@ -2,12 +2,13 @@
 //
 // A count is tied to its ledger by a type, so a session that kept one would have to carry that type to
 // everybody who holds a session.
-ghost use Rattle.std.specs.Prelude.{◌≡◌, ◌<◌, ℕ, Option, IfOk, IsSome, OnErr, OnOk};
+ghost use Rattle.std.specs.Prelude.{◌≡◌, ◌↔◌, ◌<◌, ℕ, Err, None, Option, IfOk, IsSome, OnErr, OnOk};
 ghost use Rattle.cell_bits.specs.declared.bits.Bits.{Bits as ABits};
 ghost use Rattle.colour_defs.specs.Step.{HasFewFields};
 ghost use Rattle.gz_names.specs.Zones.{HasZone};
 ghost use Rattle.heap_core.specs.Effects.{HasRoom};
 ghost use Rattle.slice_driver.specs.Advances.{Advances, AreOut, MayAdvance};
+ghost use Rattle.slice_driver.specs.Begins.{AreMade};
 ghost use Rattle.slice_driver.specs.Units.{BeginsIn, BeginsWithin, DoesCommand, IsSound, KeepsFreedWords};
 ghost use Rattle.slice_driver.specs.Units.{RaisesWithin};
 ghost use Rattle.slice_driver.specs.Working.{IsStill};
@@ -62,6 +63,9 @@ pub(crate) fn begin<L: Ledger>(
     ensures begun { OnOk result (BeginsIn collector.old zones.bits collector.new) }
     ensures within { OnOk result (BeginsWithin collector.old zones.bits collector.new) }
     ensures started { OnOk result (IsSome collector.new.run) }
+    ensures running { (result ≡ Err BeginFault.Running) ↔ IsSome collector.old.run }
+    ensures no_zone { (result ≡ Err BeginFault.NoZone)
+        ↔ ((collector.old.run ≡ None) × (AreMade collector.old.heap.shape zones → ⊥)) }
     ensures refused { OnErr result (collector.new ≡ collector.old) }
     ensures sound { (flown : ℕ → Option ABits) → IsSound collector.old flown
         → IsSound collector.new flown }

@@ -1,10 +1,12 @@
 // A session: a collector with who sweeps its arenas, for those who embed it.
-ghost use Rattle.std.specs.Prelude.{◌≡◌, ◌↔◌, ◌≤◌, ◌<◌, Err, None, IfOk, IfSome, IsSome, IsTrue, OnErr, OnOk, Some};
-ghost use Rattle.std.specs.Prelude.{false};
+ghost use Rattle.std.specs.Prelude.{◌≡◌, ◌↔◌, ◌⊎◌, ◌≤◌, ◌<◌, Err, None, IfOk, IfSome, IsSome, IsTrue, OnErr, OnOk};
+ghost use Rattle.std.specs.Prelude.{Some, false, ℕ};
+ghost use Rattle.gz_names.specs.Zones.{HasZone};
 ghost use Rattle.colour_defs.specs.Step.{HasFewFields};
 ghost use Rattle.colour_defs.specs.World.{first_world};
 ghost use Rattle.heap_core.specs.Effects.{HasRoom};
 ghost use Rattle.heap_core.specs.Heap.{HeapState};
+ghost use Rattle.slice_driver.specs.Begins.{AreMade};
 ghost use Rattle.slice_driver.specs.Represents.{Represents};
 ghost use Rattle.slice_driver.specs.Sessions.{AreDumpLines, AreGrayNames, IsNowhereSettled};
 ghost use Rattle.slice_driver.specs.Sessions.{SessionSteps, outcome_of};
@@ -106,6 +108,10 @@ impl<S: Sweeper> Session<S> {
         ensures within { OnOk result (BeginsWithin self.old.collector zones.bits
             self.new.collector) }
         ensures started { OnOk result (IsSome self.new.collector.run) }
+        ensures running { (result ≡ Err BeginFault.Running) ↔ IsSome self.old.collector.run }
+        ensures no_zone { (result ≡ Err BeginFault.NoZone) ↔ ((self.old.collector.run ≡ None)
+            × (((z : ℕ) → HasZone zones.bits z → ⊥)
+            ⊎ (AreMade self.old.collector.heap.shape zones → ⊥))) }
         ensures refused { OnErr result (self.new.collector ≡ self.old.collector) }
         ensures sweeper { self.new.sweeper ≡ self.old.sweeper }
     {
@@ -152,10 +158,12 @@ impl<S: Sweeper> Session<S> {
         &self.report
     }
 
-    /// The names of the gray cells, ascending; `None` when a zone is marking.
+    /// The names of the gray cells, ascending; `None` exactly when a zone is marking.
     pub fn gray_names(&mut self) -> Result<Option<NameList>, NoMemory>
         ensures names { IfOk result (λ names. IfSome names
             (AreGrayNames self.old.collector (S.bits self.old.sweeper))) }
+        ensures marking { IfOk result (λ names. names ≡ None
+            → IsNowhereSettled self.old.collector (S.bits self.old.sweeper)) }
         ensures collector { self.new.collector ≡ self.old.collector }
     {
         if !self.collector.settled() {

@@ -11,8 +11,8 @@ of_step : {E : Type 0} (P : Step → Type 0) (result : Result Step E) (step : St
 of_step P (Ok x) step is p = subst P (cc is) p
 of_step P (Err why) step is p = absurd (cc is)
 
-pub loop-session-smaller : goal.loop-session-smaller
-loop-session-smaller c =
+pub loop-session-smaller-after-step : goal.loop-session-smaller-after-step
+loop-session-smaller-after-step c =
     let old = c.loop-session.session in
     let new = c.advance.new.self in
     let did = of_step (λ step. SessionSteps 1000 old.collector (flown_by old.sweeper) step new.collector

@@ -1,4 +1,6 @@
-use Rattle.std.proofs.Common.{OnOk, refl, subst}
+use Rattle.std.proofs.Common.{◌≡◌, ◌↔◌, ◌⊎◌, inl, inr, Err, None, OnOk, refl, rules, subst}
+use Rattle.slice_driver.specs.Begins.{AreMade}
+use Rattle.slice_driver.specs.declared.begin.BeginFault.TheVariants.{NoZone}
 use Rattle.slice_driver.specs.Sessions.{SessionState}
 use Rattle.slice_driver.specs.Units.{BeginsIn, BeginsWithin}
 use Rattle.slice_driver.proofs.taking_in.TakingDue.{out_kept}
@@ -19,3 +21,20 @@ pub returns-clause-within : goal.returns-clause-within
 returns-clause-within g c = subst
     (λ (x : SessionState _). OnOk c.begin.result (BeginsWithin x.collector c.args.zones.bits c.begin.new.collector))
     c.self.view_is c.begin.ensures.within
+
+pub returns-in_default-clause-no_zone : goal.returns-in_default-clause-no_zone
+returns-in_default-clause-no_zone g c =
+    let idle : c.args.self.now.collector.run ≡ None = search (rules, c.running.ensures.run, c.if-running.false) in
+    (λ e. (idle, inl c.in_default.ensures.none), λ h. refl)
+
+pub returns-clause-no_zone : goal.returns-clause-no_zone
+returns-clause-no_zone g c =
+    let same = subst (λ (x : SessionState _). (c.begin.result ≡ Err NoZone)
+    ↔ ((x.collector.run ≡ None) × (AreMade x.collector.heap.shape c.args.zones → ⊥)))
+    c.self.view_is c.begin.ensures.no_zone in (
+      λ e. (let p = same.0 e in (p.0, inr p.1)),
+      λ h. elim h.1 [
+        | inl none ↦ absurd (none _ c.in-Some.ensures.some)
+        | inr other ↦ same.1 (h.0, other)
+      ],
+    )
