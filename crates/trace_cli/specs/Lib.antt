@@ -11,3 +11,4 @@ pub mod Reaching
 pub mod Standing
 pub mod Answering
 pub mod Storms
+pub mod Statuses

@@ -1,4 +1,6 @@
 // How many helpers sweep beside main.
+ghost use Rattle.std.specs.Prelude.{◌≡◌, ◌⊎◌, ◌<◌, ◌≤◌, length};
+
 use arena_table::Jobs;
 
 // Where the words do not ask for helpers, none starts for fewer arenas: making their board and starting a thread takes
@@ -14,7 +16,10 @@ pub struct Helpers {
 
 impl Helpers {
     /// So many helpers: for any arenas where the words ask for helpers, and else for 16,384 arenas or more.
-    pub fn of(words: &[&str], most: u8) -> Self {
+    pub fn of(words: &[&str], most: u8) -> Self
+        ensures most { result.most ≡ most }
+        ensures fewest_arenas { (result.fewest_arenas ≡ 0) ⊎ (result.fewest_arenas ≡ 16384) }
+    {
         Helpers {
             most: usize::from(most),
             fewest_arenas: if ask_for_helpers(words) {
@@ -25,8 +30,11 @@ impl Helpers {
         }
     }
 
-    /// How many helpers there are for the arenas of these jobs.
-    pub fn beside(self, jobs: &Jobs) -> usize {
+    /// How many helpers there are for the arenas of these jobs: all of them, or none where the arenas are too few.
+    pub fn beside(self, jobs: &Jobs) -> usize
+        ensures none { length jobs.now < self.fewest_arenas → result ≡ 0 }
+        ensures most { self.fewest_arenas ≤ length jobs.now → result ≡ self.most }
+    {
         if jobs.as_slice().len() < self.fewest_arenas {
             return 0;
         }
