@@ -56,17 +56,22 @@ fn digit_or_more(text: &[u8]) -> u8
     }
 }
 
+// How many digits a number that may be one stands for: 1 below 10, and else 0. It is told by arithmetic, of which
+// the compiler makes no branch, since no processor foresees whether a number has one digit or two.
+#[inline(always)]
+fn count_digit(number: u8) -> usize
+    ensures { result ≡ (if nat_lt number 10 then 1 else 0) }
+{
+    (u32::from(number).wrapping_sub(10) >> 31) as usize
+}
+
 // A digit, or two where the second is one.
 #[inline(always)]
 fn join_digits(first: u64, second: u8) -> u64
     requires { first < 10 }
     ensures { result ≡ (if nat_lt second 10 then 10 * first + second else first) }
 {
-    if second < 10 {
-        10 * first + u64::from(second)
-    } else {
-        first
-    }
+    first + count_digit(second) as u64 * (9 * first + u64::from(second))
 }
 
 // The number of at most two digits below a limit that begins with a digit, and what follows it. A third
@@ -82,12 +87,13 @@ fn short_number(first: u64, rest: &[u8], limit: u64) -> Option<(u64, &[u8])>
         → MatchOption result ⊥ (λ p. (p.0 ≡ n) × (p.1.now ≡ others)) }
 {
     let second = digit_or_more(rest);
-    let is_long = second < 10;
+    let more = count_digit(second);
     let n = join_digits(first, second);
-    if n >= limit || is_long && first == 0 {
+    let is_padded = (more != 0) & (first == 0);
+    if n >= limit || is_padded {
         return None;
     }
-    Some((n, &rest[usize::from(is_long)..]))
+    Some((n, &rest[more..]))
 }
 
 // The number of one digit below a limit, and what follows it. Of two digits the second begins no word,
