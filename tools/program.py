@@ -1,55 +1,27 @@
-"""Finds the program that the tools run. It never starts a proof."""
+"""Finds the program that the tools run, and builds it without its proof if it must. It never starts a proof."""
 
 import subprocess
-import sys
 from pathlib import Path
 
-TOP = Path(__file__).resolve().parent.parent
-PROOF_FOLDERS = ("src", "specs", "proofs")
+TOOLS = Path(__file__).resolve().parent
 
 
 class Missing(Exception):
     """There is no program, and none could be built."""
 
 
-def read_crates():
-    """For each crate of crates.txt the libraries that its line names."""
-    lines = (line.partition("#")[0].partition(":") for line in (TOP / "crates.txt").read_text().splitlines())
-    return {head.split()[0]: rest.split() for head, _, rest in lines if head.split()}
-
-
-def crates_below(crate):
-    """The crates of the repository that this one is made of, each after those that it uses."""
-    uses, found = read_crates(), []
-
-    def visit(name):
-        if name in uses and name not in found:
-            for library in uses[name]:
-                visit(library)
-            found.append(name)
-
-    visit(crate)
-    return found
-
-
-def is_current(program, crate, folders):
-    """Whether the program is there and no file, or folder, of its sources is newer."""
-    if not program.exists():
-        return False
-    made = program.stat().st_mtime_ns
-    tops = [TOP / "crates" / name / folder for name in crates_below(crate) for folder in folders]
-    sources = (path for top in tops if top.exists() for path in [top, *top.rglob("*")])
-    return all(path.stat().st_mtime_ns <= made for path in sources)
+def current_program(crate="gczone"):
+    """The proved program if it is newer than its sources, else the one without its proof if that is, else None."""
+    found = subprocess.run([TOOLS / "find-program", crate], stdout=subprocess.PIPE, text=True, check=False)
+    return Path(found.stdout.removesuffix("\n")) if found.returncode == 0 else None
 
 
 def find_program(crate="gczone"):
-    """The proved program if it is newer than its sources, else the one without its proof, which is built if needed."""
-    out = TOP / "crates" / crate / "out"
-    proved, unproved = out / crate, out / f"{crate}-unproved"
-    if is_current(proved, crate, PROOF_FOLDERS):
-        return proved
-    if not is_current(unproved, crate, ("src",)):
-        print(f"building {crate} without its proof: about a minute, once", file=sys.stderr, flush=True)
-        if subprocess.run([TOP / "tools/build-unproved", crate], check=False).returncode:
-            raise Missing(f"there is no {crate}, and it could not be built")
-    return unproved
+    """The current program, which is built without its proof, in about a minute, if there is none."""
+    found = current_program(crate)
+    if found is None:
+        built = subprocess.run([TOOLS / "build-unproved", crate], stdin=subprocess.DEVNULL, check=False)
+        found = current_program(crate) if built.returncode == 0 else None
+    if found is None:
+        raise Missing(f"there is no {crate} that is newer than its sources, and it could not be built: see above")
+    return found
