@@ -1,28 +1,18 @@
-"""Tests what the documents show: commands, links, pictures, and the clauses that docs/PROOFS.md names.
+"""Checks what the documents show: commands, links, pictures, and the clauses that docs/PROOFS.md names.
 
-examples/check does this with all else; `python3 examples/documents.py` does it alone, and prints what is wrong. It
-builds nothing: a command that needs a program which is not built is not run, and it says so.
+tools/test runs this. The commands run the program that ./gczone finds.
 """
 
 import re
 import shutil
 import subprocess
-import sys
 from pathlib import Path
 
+from checks import Check, NotRun, Outcome
+
 TOP = Path(__file__).resolve().parent.parent
-SECONDS = 30
-PROGRAM = str(TOP / "crates/gczone/out/gczone")
-# What a command needs beside Python. It is not run when one of these is missing.
-NEEDS = {
-    "./gczone run": [PROGRAM],
-    "./gczone storm": [PROGRAM],
-    "tools/explain": [PROGRAM],
-    "tools/draw": [PROGRAM, "dot"],
-    "./gczone check": [PROGRAM],
-    "tools/check-heap-log": [PROGRAM],
-}
-# These draw without Graphviz.
+SECONDS = 120
+# tools/draw needs Graphviz, but not for these.
 NO_DOT = ("--dot", "--check", "timeline")
 PICTURES = "tools/draw pictures --check"
 
@@ -33,17 +23,17 @@ def documents():
 
 
 def commands(text):
-    """Each command of a fenced block, with the lines that are to be its output."""
+    """The number of the line of each command of a fenced block, the command, and the lines that are to be its output."""
     found = []
     fenced = False
-    for line in text.splitlines():
+    for number, line in enumerate(text.splitlines(), 1):
         if line.startswith("```"):
             fenced = not fenced
             found.append(None)
         elif fenced and line.startswith("$ "):
-            found.append((line[2:], []))
+            found.append((number, line[2:], []))
         elif fenced and found and found[-1]:
-            found[-1][1].append(line)
+            found[-1][2].append(line)
     return [entry for entry in found if entry]
 
 
@@ -56,41 +46,37 @@ def fits(wanted, found):
     return bool(found) and found[0] == wanted[0] and fits(wanted[1:], found[1:])
 
 
-def missing(command):
-    """What a command needs that is not there."""
-    needs = [need for tool, tool_needs in NEEDS.items() if tool in command for need in tool_needs]
-    if any(flag in command for flag in NO_DOT):
-        needs = [need for need in needs if need != "dot"]
-    return [need for need in needs if not shutil.which(need)]
+def without_blank_end(lines):
+    while lines and not lines[-1]:
+        lines = lines[:-1]
+    return lines
 
 
-def check_command(command, wanted):
-    if missing(command):
-        return []
+def stop_if_lacking(command, is_own):
+    """Raises NotRun if a command cannot be run here, or would run another program than the one to be checked."""
+    if not is_own and ("gczone" in command or "tools/" in command):
+        raise NotRun("./gczone and the tools would run another program than --program names")
+    if "tools/draw" in command and not any(flag in command for flag in NO_DOT) and not shutil.which("dot"):
+        raise NotRun("it needs Graphviz (dot)")
+
+
+def check_command(command, wanted, is_own):
+    """Runs a command at the top of the repository and compares what it prints."""
+    stop_if_lacking(command, is_own)
     run = subprocess.run(
         ["sh", "-c", command], cwd=TOP, stdin=subprocess.DEVNULL, stdout=subprocess.PIPE, stderr=subprocess.STDOUT,
         timeout=SECONDS, check=False,
     )
     found = run.stdout.decode(errors="replace").splitlines()
-    if fits(wanted, [line.rstrip() for line in found]):
-        return []
-    return [f"`{command}` prints:\n  " + "\n  ".join(found[:40])]
+    if fits(without_blank_end(wanted), [line.rstrip() for line in found]):
+        return Outcome()
+    return Outcome(["\n".join([f"`{command}` prints something else", *found[:40]])])
 
 
-def check_links(path, text):
-    links = re.findall(r"\]\(([^)#\s]+)[^)]*\)", text)
-    return [f"no {link}" for link in links if "://" not in link and not (path.parent / link).exists()]
-
-
-def check_document(path):
-    """What is wrong in a document: links that lead nowhere, and commands that print something else."""
-    text = path.read_text()
-    wrong = check_links(path, text)
-    for command, wanted in commands(text):
-        while wanted and not wanted[-1]:
-            wanted.pop()
-        wrong += check_command(command, wanted)
-    return wrong
+def check_links(path):
+    links = re.findall(r"\]\(([^)#\s]+)[^)]*\)", path.read_text())
+    missing = [link for link in links if "://" not in link and not (path.parent / link).exists()]
+    return Outcome([f"no {link}" for link in missing])
 
 
 def heads(path):
@@ -129,27 +115,16 @@ def check_clauses(path):
             clauses = re.findall(r"`(\w+)`", rest)
             if not any(has_clauses(head, clauses) for head in found.get(name.strip("`"), [])):
                 wrong.append(f"{cells[2]}: {part.strip()}")
-    return wrong
+    return Outcome(wrong)
 
 
-def not_run():
-    """The commands of the documents that need something which is missing."""
-    shown = [command for path in documents() for command, _ in commands(path.read_text())]
-    return [command for command in shown + [PICTURES] if missing(command)]
-
-
-def checks():
-    """Names and checks of all documents."""
-    found = [(str(path.relative_to(TOP)), lambda path=path: check_document(path)) for path in documents()]
-    found.append(("clauses in docs/PROOFS.md", lambda: check_clauses(TOP / "docs/PROOFS.md")))
-    found.append(("pictures", lambda: check_command(PICTURES, [])))
-    return found
-
-
-if __name__ == "__main__":
-    faults = [f"{name}: {fault}" for name, check in checks() for fault in check()]
-    for fault in faults:
-        print(fault)
-    for command in not_run():
-        print(f"not run: `{command}` needs {', '.join(missing(command))}")
-    sys.exit(1 if faults else 0)
+def checks(is_own):
+    """All checks of the documents; is_own says whether ./gczone runs the program that is to be checked."""
+    for path in documents():
+        name = str(path.relative_to(TOP))
+        yield Check(f"{name}, links", 0.1, lambda path=path: check_links(path))
+        for number, command, wanted in commands(path.read_text()):
+            call = lambda command=command, wanted=wanted: check_command(command, wanted, is_own)  # noqa: E731
+            yield Check(f"{name}, line {number}", 1, call)
+    yield Check("docs/PROOFS.md, clauses", 2, lambda: check_clauses(TOP / "docs/PROOFS.md"))
+    yield Check("docs, pictures", 2, lambda: check_command(PICTURES, [], is_own))
