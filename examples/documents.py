@@ -122,9 +122,9 @@ def checks(is_own):
     """All checks of the documents; is_own says whether ./gczone runs the program that is to be checked."""
     for path in documents():
         name = str(path.relative_to(TOP))
-        yield Check(f"{name}, links", 0.1, lambda path=path: check_links(path))
+        yield Check(f"documents, {name} links", 0.1, lambda path=path: check_links(path))
         for number, command, wanted in commands(path.read_text()):
             call = lambda command=command, wanted=wanted: check_command(command, wanted, is_own)  # noqa: E731
-            yield Check(f"{name}, line {number}", 1, call)
-    yield Check("docs/PROOFS.md, clauses", 2, lambda: check_clauses(TOP / "docs/PROOFS.md"))
-    yield Check("docs, pictures", 2, lambda: check_command(PICTURES, [], is_own))
+            yield Check(f"documents, {name} line {number}", 1, call)
+    yield Check("documents, clauses of docs/PROOFS.md", 2, lambda: check_clauses(TOP / "docs/PROOFS.md"))
+    yield Check("documents, pictures", 2, lambda: check_command(PICTURES, [], is_own))

@@ -115,8 +115,8 @@ def example_checks(program):
 def checks(program):
     """All checks that run the program alone."""
     yield from example_checks(program)
-    yield Check("examples/first.trace, line by line", 0.1, lambda: check_pipe(program, EXAMPLES / "first.trace"))
-    yield Check("a full device", 0.1, lambda: check_full_device(program))
-    yield Check("a broken pipe", 0.1, lambda: check_broken_pipe(program))
+    yield Check("program, first.trace line by line", 0.1, lambda: check_pipe(program, EXAMPLES / "first.trace"))
+    yield Check("program, a full device", 0.1, lambda: check_full_device(program))
+    yield Check("program, a broken pipe", 0.1, lambda: check_broken_pipe(program))
     for words in WORDS:
-        yield Check(f"words '{words}'", 0.1, lambda words=words: check_words(program, words.split()))
+        yield Check(f"program, words '{words}'", 0.1, lambda words=words: check_words(program, words.split()))
