@@ -150,9 +150,8 @@ def write_budgets(file, found):
     budgets = read_budgets(file) if file.exists() else {}
     budgets.update(found)
     listed = re.findall(r"^(\w+)", (TOP / "crates.txt").read_text(), re.MULTILINE)
-    lines = [
-        f"{crate:16}" + "".join(f"{budgets[crate][part]:6.1f}" for part in PARTS) for crate in listed if crate in budgets
-    ]
+    kept = [(crate, budgets[crate]) for crate in listed if crate in budgets]
+    lines = [f"{crate:16}" + "".join(f"{minutes[part]:6.1f}" for part in PARTS) for crate, minutes in kept]
     file.write_text(HEAD + "\n".join(lines) + "\n")
 
 

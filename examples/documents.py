@@ -6,6 +6,7 @@ tools/test runs this. The commands run the program that ./gczone finds.
 import re
 import shutil
 import subprocess
+from functools import partial
 from pathlib import Path
 
 from checks import Check, NotRun, Outcome
@@ -23,7 +24,7 @@ def documents():
 
 
 def commands(text):
-    """The number of the line of each command of a fenced block, the command, and the lines that are to be its output."""
+    """Each command of a fenced block: the number of its line, the command, and the lines that are to be its output."""
     found = []
     fenced = False
     for number, line in enumerate(text.splitlines(), 1):
@@ -122,9 +123,9 @@ def checks(is_own):
     """All checks of the documents; is_own says whether ./gczone runs the program that is to be checked."""
     for path in documents():
         name = str(path.relative_to(TOP))
-        yield Check(f"documents, {name} links", 0.1, lambda path=path: check_links(path))
+        yield Check(f"documents, {name} links", 0.1, partial(check_links, path))
         for number, command, wanted in commands(path.read_text()):
-            call = lambda command=command, wanted=wanted: check_command(command, wanted, is_own)  # noqa: E731
+            call = partial(check_command, command, wanted, is_own)
             yield Check(f"documents, {name} line {number}", 1, call)
-    yield Check("documents, clauses of docs/PROOFS.md", 2, lambda: check_clauses(TOP / "docs/PROOFS.md"))
-    yield Check("documents, pictures", 2, lambda: check_command(PICTURES, [], is_own))
+    yield Check("documents, clauses of docs/PROOFS.md", 2, partial(check_clauses, TOP / "docs/PROOFS.md"))
+    yield Check("documents, pictures", 2, partial(check_command, PICTURES, [], is_own))

@@ -8,6 +8,7 @@ printed on standard error.
 import os
 import select
 import subprocess
+from functools import partial
 from pathlib import Path
 
 from checks import Check, Outcome
@@ -109,14 +110,14 @@ def example_checks(program):
             ways = (["run"], ["run", "--helpers", "0"], ["run", "--helpers", "4"])
         for words in ways:
             name = " ".join([f"examples/{source.relative_to(EXAMPLES)}", *words[1:]])
-            yield Check(name, 0.1, lambda source=source, words=words: check_example(program, source, words))
+            yield Check(name, 0.1, partial(check_example, program, source, words))
 
 
 def checks(program):
     """All checks that run the program alone."""
     yield from example_checks(program)
-    yield Check("program, first.trace line by line", 0.1, lambda: check_pipe(program, EXAMPLES / "first.trace"))
-    yield Check("program, a full device", 0.1, lambda: check_full_device(program))
-    yield Check("program, a broken pipe", 0.1, lambda: check_broken_pipe(program))
+    yield Check("program, first.trace line by line", 0.1, partial(check_pipe, program, EXAMPLES / "first.trace"))
+    yield Check("program, a full device", 0.1, partial(check_full_device, program))
+    yield Check("program, a broken pipe", 0.1, partial(check_broken_pipe, program))
     for words in WORDS:
-        yield Check(f"program, words '{words}'", 0.1, lambda words=words: check_words(program, words.split()))
+        yield Check(f"program, words '{words}'", 0.1, partial(check_words, program, words.split()))

@@ -1,12 +1,14 @@
 """Tests of tools/test, of its module checks, and of the times and budgets of the gate."""
 
 import os
+import shutil
 import stat
 import subprocess
 import sys
 import tempfile
 import unittest
 from contextlib import redirect_stderr, redirect_stdout
+from functools import partial
 from io import StringIO
 from pathlib import Path
 
@@ -45,6 +47,23 @@ gate: minutes of one processor      proof   tests   edits
 gate:   zones                         1.0     0.1     4.0
 gate:   roots                         2.0     0.0     1.5
 gate: passed
+"""
+
+
+# In place of tools/test: notes its words, and fails where a file says so.
+FAKE_TEST = """\
+#!/bin/sh
+echo "words: $*" >> tested
+echo "2 passed, 0 failed"
+[ ! -e "fails$#" ]
+"""
+# In place of `rt`: leaves a program as `rt ci` does.
+FAKE_RT = """\
+#!/bin/sh
+echo "RT_JOBS=$RT_JOBS" > jobs
+[ -e no_program ] || touch -d "now + 1 minute" crates/gczone/out/gczone
+echo "36 passed, 0 failed"
+[ ! -e rt_fails ]
 """
 
 
@@ -102,7 +121,12 @@ class ChecksTest(unittest.TestCase):
 
     def test_the_longest_start_first(self):
         begun = []
-        checks = [Check(str(seconds), seconds, lambda at=seconds: begun.append(at) or Outcome()) for seconds in (1, 3, 2)]
+
+        def begin(seconds):
+            begun.append(seconds)
+            return Outcome()
+
+        checks = [Check(str(seconds), seconds, partial(begin, seconds)) for seconds in (1, 3, 2)]
         lines, _, _ = tell(checks, jobs=1)
         self.assertEqual(begun, [3, 2, 1])
         self.assertEqual(lines[:3], ["1: ok", "3: ok", "2: ok"])
@@ -208,6 +232,65 @@ class TimesTest(unittest.TestCase):
             self.assertEqual(self.run_times("--compare", Path(folder) / "none").returncode, 1)
             self.assertEqual(self.run_times("--measure", log).returncode, 2)
             self.assertEqual(self.run_times().returncode, 2)
+
+
+class RunTest(unittest.TestCase):
+    """The script of the gate in a tree of its own, in which `rt` and tools/test are not the true ones."""
+
+    def setUp(self):
+        self.folder = tempfile.TemporaryDirectory()
+        self.addCleanup(self.folder.cleanup)
+        self.top = Path(self.folder.name)
+        for name in (".ci", "tools", "bin", "crates/gczone/out", "crates/zones/must-fail"):
+            (self.top / name).mkdir(parents=True)
+        for name in ("run", "times.py"):
+            shutil.copy(TOP / ".ci" / name, self.top / ".ci" / name)
+        (self.top / ".ci/budgets").write_text("zones 1.0 0.1 4.0\n")
+        write_script(self.top / "tools/test", FAKE_TEST)
+        write_script(self.top / "bin/rt", FAKE_RT)
+        for name in ("dot", "rustc"):
+            write_script(self.top / "bin" / name, "#!/bin/sh\n")
+
+    def run_gate(self, **more):
+        environment = {**os.environ, "PATH": f"{self.top}/bin:{os.environ['PATH']}", **more}
+        environment.pop("RT_JOBS", None)
+        done = subprocess.run(
+            [self.top / ".ci/run"], env=environment, stdout=subprocess.PIPE, stderr=subprocess.STDOUT, text=True,
+            check=False,
+        )
+        return done.returncode, done.stdout.splitlines()
+
+    def test_all_that_passes(self):
+        status, lines = self.run_gate()
+        self.assertEqual((status, lines[-1]), (0, "gate: passed"))
+        self.assertEqual([line for line in lines if line.endswith(" failed")][1], "36 passed, 0 failed")
+        self.assertEqual(lines[0], "test: 2 passed, 0 failed")
+        self.assertIn("gate: 0 must-fail edits, at most 6 a crate", lines)
+        words = (self.top / "tested").read_text().splitlines()
+        self.assertEqual(words[0], "words: ")
+        self.assertTrue(words[1].startswith("words: --program crates/gczone/out/gczone examples/ "))
+        self.assertRegex((self.top / "jobs").read_text(), r"^RT_JOBS=[1-9]\d*$")
+
+    def test_nothing_is_proved_if_a_check_without_proof_fails(self):
+        (self.top / "fails0").touch()
+        status, lines = self.run_gate()
+        self.assertEqual((status, lines[-1]), (1, "gate: tools/test FAILED, so nothing was proved"))
+        self.assertFalse((self.top / "jobs").exists())
+
+    def test_each_part_can_fail_the_gate(self):
+        for name in ("rt_fails", "no_program", "fails5"):
+            (self.top / name).touch()
+            (self.top / "crates/gczone/out/gczone").unlink(missing_ok=True)
+            status, lines = self.run_gate()
+            self.assertEqual((status, lines[-1]), (1, "gate: FAILED"), name)
+            (self.top / name).unlink()
+
+    def test_too_many_edits_fail_the_gate(self):
+        for number in range(7):
+            (self.top / f"crates/zones/must-fail/{number}.edit").touch()
+        status, lines = self.run_gate()
+        self.assertEqual(status, 1)
+        self.assertIn("gate: too many must-fail edits: zones (7)", lines)
 
 
 if __name__ == "__main__":
