@@ -17,7 +17,7 @@ EXAMPLES = Path(__file__).resolve().parent
 REPORTS = (b"groups ", b"ended ", b"swept ", b"done")
 WRITE_FAILED = (5, b"gczone: write failed\n")
 WORDS = ("", "walk", "run walk", "check walk", "run --helpers 5", "storm 1", "storm 1 0", "--help")
-SECONDS = 60
+SECONDS = 120
 
 
 def read_or(path, default):
