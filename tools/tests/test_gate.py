@@ -17,6 +17,7 @@ sys.dont_write_bytecode = True
 sys.path[:0] = [str(TOP / "tools"), str(TOP / ".ci")]
 import times  # noqa: E402 (the folders of scripts are no packages)
 from checks import Check, NotRun, Outcome, run_checks  # noqa: E402
+from program import find_program  # noqa: E402
 
 # It answers `run` as examples/first.trace is to be answered, but wrongly with four helpers, and refuses all else.
 FIRST_ALONE = f"""\
@@ -158,6 +159,13 @@ class ToolTest(unittest.TestCase):
             self.assertEqual(done.stdout.splitlines()[-1], "0 passed, 0 failed")
             self.assertIn("not run: documents, docs/HEAPLOGS.md line 8: ", done.stdout)
 
+    def test_the_proved_program_must_be_the_one_that_is_run(self):
+        self.assertNotEqual(self.run_tool("--proved", "--program", "/bin/true", "examples/first.trace").returncode, 0)
+        if find_program().name == "gczone-unproved":
+            done = self.run_tool("--proved", "examples/first.trace")
+            self.assertEqual((done.returncode, done.stdout), (1, ""))
+            self.assertTrue(done.stderr.startswith("test: there is no proved program"))
+
     def test_words_choose_checks(self):
         done = self.run_tool("--list", "full piles", "storms")
         self.assertEqual((done.returncode, done.stdout), (0, "program, storms\nprogram, full piles\n"))
@@ -268,7 +276,7 @@ class RunTest(unittest.TestCase):
         self.assertIn("gate: 0 must-fail edits, at most 6 a crate", lines)
         words = (self.top / "tested").read_text().splitlines()
         self.assertEqual(words[0], "words: ")
-        self.assertTrue(words[1].startswith("words: --program crates/gczone/out/gczone examples/ "))
+        self.assertTrue(words[1].startswith("words: --proved examples/ "))
         self.assertRegex((self.top / "jobs").read_text(), r"^RT_JOBS=[1-9]\d*$")
 
     def test_nothing_is_proved_if_a_check_without_proof_fails(self):
@@ -278,7 +286,7 @@ class RunTest(unittest.TestCase):
         self.assertFalse((self.top / "jobs").exists())
 
     def test_each_part_can_fail_the_gate(self):
-        for name in ("rt_fails", "no_program", "fails5"):
+        for name in ("rt_fails", "no_program", "fails4"):
             (self.top / name).touch()
             (self.top / "crates/gczone/out/gczone").unlink(missing_ok=True)
             status, lines = self.run_gate()
