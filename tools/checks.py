@@ -21,7 +21,7 @@ class Outcome:
 
 @dataclass
 class Check:
-    """A check, and about how many seconds of one processor it takes; the longest start first."""
+    """A check, and about how many seconds of one processor it takes."""
 
     name: str
     seconds: float
@@ -56,16 +56,16 @@ def tell_details(name, faults):
 
 
 def run_checks(checks, jobs):
-    """Runs the checks, prints a line for each in their order, and returns how many passed and how many failed.
+    """Starts the checks in their order, prints a line for each in that order, and returns how many passed and failed.
 
     Behind the lines stands what was not run, and at the end how many passed and failed.
     """
     passed, failed, left_out = 0, 0, []
     pool = ThreadPoolExecutor(jobs)
     try:
-        begun = {check.name: pool.submit(outcome_of, check) for check in sorted(checks, key=lambda it: -it.seconds)}
-        for name in [check.name for check in checks]:
-            outcome, reason = begun[name].result()
+        begun = [(check.name, pool.submit(outcome_of, check)) for check in checks]
+        for name, ended in begun:
+            outcome, reason = ended.result()
             if outcome is None:
                 left_out.append(f"{name}: {reason}")
                 continue

@@ -120,17 +120,17 @@ class ChecksTest(unittest.TestCase):
         self.assertEqual(lines[1], "late: FAILED: no end within 7 s")
         self.assertEqual(counts, (0, 2))
 
-    def test_the_longest_start_first(self):
+    def test_checks_start_in_their_order(self):
         begun = []
 
         def begin(seconds):
             begun.append(seconds)
             return Outcome()
 
-        checks = [Check(str(seconds), seconds, partial(begin, seconds)) for seconds in (1, 3, 2)]
+        checks = [Check(str(seconds), seconds, partial(begin, seconds)) for seconds in (3, 1, 2)]
         lines, _, _ = tell(checks, jobs=1)
-        self.assertEqual(begun, [3, 2, 1])
-        self.assertEqual(lines[:3], ["1: ok", "3: ok", "2: ok"])
+        self.assertEqual(begun, [3, 1, 2])
+        self.assertEqual(lines[:3], ["3: ok", "1: ok", "2: ok"])
 
 
 class ToolTest(unittest.TestCase):
