@@ -13,9 +13,6 @@ use std::sync::Wait;
 use std::test::Fail;
 use std::thread::Threads;
 
-// How many objects hang below the root. The last of each eight is the parent of the next eight.
-const OBJECTS: u32 = 800;
-
 // A heap that commands alone have changed.
 #[derive(Drop)]
 struct TestHeap {
@@ -37,7 +34,6 @@ impl Model for TestHeap {
 #[derive(Drop)]
 struct Registers {
     root: Reg,
-    parent: Reg,
     child: Reg,
     far: Reg,
     wrapper: Reg,
@@ -47,10 +43,9 @@ impl Registers {
     fn first() -> Option<Self> {
         Some(Registers {
             root: Reg::new(0)?,
-            parent: Reg::new(1)?,
-            child: Reg::new(2)?,
-            far: Reg::new(3)?,
-            wrapper: Reg::new(4)?,
+            child: Reg::new(1)?,
+            far: Reg::new(2)?,
+            wrapper: Reg::new(3)?,
         })
     }
 }
@@ -111,41 +106,27 @@ impl TestHeap {
         self.step(&GraphCmd::Comp(zone))
     }
 
-    // Makes an object that the parent's next field names. Every second object names the root too.
-    fn add_child(&mut self, regs: &Registers, count: u32) -> Result<(), Fail> {
-        let field = (count % 8) as u8;
-        self.step(&GraphCmd::New(regs.child, CompNo(0), 8))?;
-        self.step(&GraphCmd::Set(regs.parent, field, Some(regs.child)))?;
-        match field {
-            7 => self.step(&GraphCmd::Copy(regs.parent, regs.child)),
-            0 | 2 | 4 | 6 => self.step(&GraphCmd::Set(regs.child, 7, Some(regs.root))),
-            _ => Ok(()),
-        }
+    // Makes a root and another object, which name each other.
+    fn add_ring(&mut self, regs: &Registers) -> Result<(), Fail> {
+        self.step(&GraphCmd::New(regs.root, CompNo(0), 2))?;
+        self.step(&GraphCmd::New(regs.child, CompNo(0), 1))?;
+        self.step(&GraphCmd::Set(regs.root, 0, Some(regs.child)))?;
+        self.step(&GraphCmd::Set(regs.child, 0, Some(regs.root)))
     }
 
-    // Makes the root and what hangs below it.
-    fn add_tree(&mut self, regs: &Registers) -> Result<(), Fail> {
-        self.step(&GraphCmd::New(regs.root, CompNo(0), 8))?;
-        self.step(&GraphCmd::Copy(regs.parent, regs.root))?;
-        for count in 0..OBJECTS {
-            self.add_child(regs, count)?;
-        }
-        Ok(())
-    }
-
-    // The last object names the wrapper of an object of the other zone. One more object is named by none.
+    // The root names the wrapper of an object of the other zone. One more object is named by none.
     fn add_far(&mut self, regs: &Registers) -> Result<(), Fail> {
         self.step(&GraphCmd::New(regs.far, CompNo(1), 0))?;
         self.step(&GraphCmd::Wrap(regs.wrapper, regs.far, CompNo(0)))?;
-        self.step(&GraphCmd::Set(regs.child, 0, Some(regs.wrapper)))?;
+        self.step(&GraphCmd::Set(regs.root, 1, Some(regs.wrapper)))?;
         self.step(&GraphCmd::New(regs.child, CompNo(0), 0))
     }
 
-    // Makes two zones, with the tree in the first.
+    // Makes two zones, with a ring in the first.
     fn add_zones(&mut self, regs: &Registers) -> Result<(), Fail> {
         self.add_zone(0)?;
         self.add_zone(1)?;
-        self.add_tree(regs)?;
+        self.add_ring(regs)?;
         self.add_far(regs)
     }
 
@@ -216,15 +197,11 @@ fn a_heap_is_marked_as_far_as_its_zone_goes(rt: HostRuntime) -> Result<(), Fail>
     let far = heap.reg(regs.far);
     let found = heap.find(&rt, rt.alloc(), regs.root)?;
     let wanted = Found {
-        black: OBJECTS + 2,
-        won: OBJECTS as usize + 1,
+        black: 3,
+        won: 2,
         outside: 1,
         first: far,
     };
-    assert_eq!(rt;
-        found,
-        wanted,
-        "the root, what hangs below it, and the wrapper"
-    );
+    assert_eq!(rt; found, wanted, "the ring and the wrapper");
     Ok(())
 }
