@@ -61,8 +61,6 @@ mod graph;
 mod laws;
 mod reach;
 mod rows;
-#[cfg(test)]
-mod tests;
 
 pub use commands::step;
 pub use fields::Fields;

@@ -22,8 +22,6 @@
 mod answer;
 mod reached;
 mod reading;
-#[cfg(test)]
-mod tests;
 
 use crate::reading::replay;
 use gz_io::{StdSink, StdSource};
