@@ -67,8 +67,6 @@ mod cells;
 mod delayed;
 mod index;
 mod store;
-#[cfg(test)]
-mod tests;
 mod walk;
 
 pub use arenas::{Arenas, Jobs, Reserved};

@@ -14,8 +14,6 @@
 #![tactic(auto)]
 
 mod source;
-#[cfg(test)]
-mod tests;
 mod trace;
 
 pub use source::{CommandSource, NextCommand};

@@ -17,8 +17,6 @@
 mod laws;
 mod line;
 mod program;
-#[cfg(test)]
-mod tests;
 
 pub use laws::plain_words_law;
 pub use line::{CommandLine, WordsFault, read_words};

@@ -31,7 +31,5 @@ mod cells;
 mod checker;
 mod lines;
 mod numbers;
-#[cfg(test)]
-mod tests;
 
 pub use checker::{Checker, Verdict};

@@ -126,26 +126,3 @@ fn leave_empty(waiting: &mut CompSet, comp: CompNo, first: Option<u32>)
         waiting.remove(comp);
     }
 }
-
-#[cfg(test)]
-mod tests {
-    use super::*;
-    use std::test::Fail;
-
-    #[test]
-    fn a_wrapper_waits_and_is_handed_out_once(rt: HostRuntime) -> Result<(), Fail> {
-        let mut lists = Lists::new(rt.alloc());
-        let wrapper = Place::new(3, 63).ok_or("place")?;
-        lists.reserve(1)?;
-        lists.note(CompNo(255), wrapper);
-        assert_eq!(rt; lists.next_incoming(CompNo(0)), None);
-        let taken = lists.next_incoming(CompNo(255)).ok_or("wrapper")?;
-        lists.note(CompNo(0), taken);
-        assert_eq!(rt; lists.next_incoming(CompNo(255)), None);
-        assert_eq!(rt; lists.next_waiting(0), Some(CompNo(0)));
-        assert_eq!(rt; lists.next_waiting(1), None);
-        assert_eq!(rt; lists.next_incoming(CompNo(0)), Some(wrapper));
-        assert_eq!(rt; lists.next_waiting(0), None);
-        Ok(())
-    }
-}

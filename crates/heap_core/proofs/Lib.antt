@@ -19,7 +19,6 @@ pub mod Wrapped
 pub mod Keyed
 pub mod Empty
 pub mod Taking
-pub mod Reaching
 pub mod Resolved
 pub mod Planned
 pub mod NotedTargets

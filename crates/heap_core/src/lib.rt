@@ -68,10 +68,6 @@ mod fields;
 mod heap;
 mod making;
 mod plans;
-#[cfg(test)]
-mod random_commands;
-#[cfg(test)]
-mod reached;
 mod resolve;
 mod steps;
 mod wrapping;

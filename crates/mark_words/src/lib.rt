@@ -37,8 +37,6 @@ mod in_words;
 mod marks;
 mod place_list;
 mod steps;
-#[cfg(test)]
-mod tests;
 mod threads;
 mod view;
 

@@ -128,24 +128,3 @@ impl Roots {
         self.waiting
     }
 }
-
-#[cfg(test)]
-mod tests {
-    use super::*;
-    use std::test::Fail;
-
-    #[test]
-    fn buffers_of_two_zones(rt: HostRuntime) -> Result<(), Fail> {
-        let mut roots = Roots::new(rt.alloc())?;
-        let first = ZoneNo::new(0).ok_or("zone")?;
-        let last = ZoneNo::new(63).ok_or("zone")?;
-        let cell = Place::new(7, 5).ok_or("place")?;
-        let wrapper = Place::new(8, 63).ok_or("place")?;
-        roots.buffer_gray(&[(first, cell)], &[(last, wrapper)])?;
-        assert_eq!(rt; roots.next_buffered(first), Some(cell));
-        assert_eq!(rt; roots.next_buffered(first), None);
-        assert_eq!(rt; roots.next_buffered(last), Some(wrapper));
-        assert!(rt; roots.waiting().is_empty());
-        Ok(())
-    }
-}

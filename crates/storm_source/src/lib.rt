@@ -26,8 +26,6 @@ mod commands;
 mod generator;
 mod laws;
 mod source;
-#[cfg(test)]
-mod tests;
 
 pub use laws::storm_law;
 pub use source::StormSource;

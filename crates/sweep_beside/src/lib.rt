@@ -28,8 +28,6 @@
 
 mod beside;
 mod on_board;
-#[cfg(test)]
-mod tests;
 
 pub use beside::{Works, sweep_beside};
 pub use on_board::{BoardOrigin, OnBoard};

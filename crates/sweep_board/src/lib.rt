@@ -55,8 +55,6 @@ mod board;
 mod flight;
 mod in_words;
 mod steps;
-#[cfg(test)]
-mod tests;
 mod threads;
 mod view;
 

@@ -76,27 +76,3 @@ impl GroupOrder {
         self.ended += 1;
     }
 }
-
-#[cfg(test)]
-mod tests {
-    use super::*;
-    use gz_names::ZoneNo;
-
-    #[test]
-    fn groups_finish_one_after_another(rt: HostRuntime) {
-        let (Some(zone0), Some(zone1)) = (ZoneNo::new(0), ZoneNo::new(1)) else {
-            return;
-        };
-        let mut groups = Groups::new();
-        groups.push(ZoneSet::only(zone1));
-        groups.push(ZoneSet::only(zone0));
-        let mut order = GroupOrder::new();
-        assert_eq!(rt; order.current(), None);
-        order.set(groups);
-        assert_eq!(rt; order.current(), Some(ZoneSet::only(zone1)));
-        order.advance();
-        assert_eq!(rt; order.current(), Some(ZoneSet::only(zone0)));
-        order.advance();
-        assert_eq!(rt; order.current(), None);
-    }
-}

@@ -250,25 +250,3 @@ fn drop_entries<D: Fn(Place) -> bool>(map: &mut IndexMap<WrapperKey, Place>, dea
 {
     map.retain(|_key, place| !dead(*place));
 }
-
-#[cfg(test)]
-mod tests {
-    use super::*;
-    use std::test::Fail;
-
-    #[test]
-    fn adds_finds_and_drops(rt: HostRuntime) -> Result<(), Fail> {
-        let mut wrappers = Wrappers::new(rt.alloc())?;
-        let zone = ZoneNo::new(1).ok_or("zone")?;
-        let place = Place::new(4, 63).ok_or("place")?;
-        wrappers.add(zone, CompNo(2), 5, place)?;
-        assert_eq!(rt; wrappers.find(CompNo(2), 5), Some(place));
-        assert_eq!(rt; wrappers.find(CompNo(2), 4), None);
-        let mut cursor = 0;
-        assert_eq!(rt; wrappers.next_of(zone, &mut cursor), Some(place));
-        assert_eq!(rt; wrappers.next_of(zone, &mut cursor), None);
-        wrappers.drop_dead(ZoneSet::only(zone), |dead: Place| dead.arena() == 4);
-        assert_eq!(rt; wrappers.find(CompNo(2), 5), None);
-        Ok(())
-    }
-}

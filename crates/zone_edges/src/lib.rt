@@ -66,7 +66,3 @@ pub use edges::Edges;
 pub use keeping::left_black_law;
 pub use look::Look;
 
-#[cfg(test)]
-mod look_tests;
-#[cfg(test)]
-mod tests;

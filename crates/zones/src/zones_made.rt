@@ -207,25 +207,3 @@ fn leave(members: &mut [ZoneSet], state: State, zone: ZoneNo)
     zones.remove(zone);
     members[state.number()] = zones;
 }
-
-#[cfg(test)]
-mod tests {
-    use super::*;
-    use std::test::Fail;
-
-    #[test]
-    fn serves_64_zones_and_256_compartments(rt: HostRuntime) -> Result<(), Fail> {
-        let mut zones = Zones::new(rt.alloc());
-        let first = zones.add_zone()?;
-        for _ in 1..64 {
-            zones.add_zone()?;
-        }
-        assert_eq!(rt; zones.add_zone(), Err(ZoneFault::Full));
-        for _ in 0..256 {
-            zones.add_comp(first)?;
-        }
-        assert_eq!(rt; zones.add_comp(first), Err(CompFault::Full));
-        assert_eq!(rt; (zones.zones(), zones.comps()), (64, 256));
-        Ok(())
-    }
-}
