@@ -5,9 +5,6 @@
 // objects and both wrappers. docs/EMBEDDING.md goes through the lines.
 #![tactic(auto)]
 
-#[cfg(test)]
-mod tests;
-
 use gz_names::{CompNo, GraphCmd, GrayNo, Reg, Report, ZoneNo, ZoneSet};
 use slice_driver::Session;
 use std::process::ExitCode;
@@ -37,6 +34,18 @@ fn collect(rt: &HostRuntime, session: &mut Session<MainSweeper>, zones: ZoneSet)
         }
     }
     println!(rt; "collected").ok()
+}
+
+// Prints how many cells are gray, and how many lines a dump of the heap has.
+fn print_colours(rt: &HostRuntime, session: &mut Session<MainSweeper>) -> Option<()> {
+    let grays = session.gray_names().ok()??;
+    let lines = session.dump().ok()??;
+    println!(rt;
+        "gray: {}, lines of a dump: {}",
+        grays.as_slice().len(),
+        lines.len()
+    )
+    .ok()
 }
 
 // An object in each of two zones, each with a wrapper of the other; a gray slot holds the first.
@@ -70,8 +79,10 @@ fn run(rt: &HostRuntime, session: &mut Session<MainSweeper>) -> Option<()> {
     link(session, left, right, root)?;
     let both = ZoneSet::only(left).union(ZoneSet::only(right));
     collect(rt, session, both)?;
+    print_colours(rt, session)?;
     session.command(GraphCmd::Release(root)).ok()?;
-    collect(rt, session, both)
+    collect(rt, session, both)?;
+    print_colours(rt, session)
 }
 
 fn main(rt: HostRuntime) -> ExitCode {

@@ -1,3 +1,8 @@
+mod again;
+mod devices;
+mod gates;
+mod texts;
+
 use gz_io::{Buffered, FreeGate, MemSink, MemSource};
 use std::alloc::Global;
 use std::process::Abort;
@@ -58,6 +63,31 @@ const GRAY_OBJECT: Row = &[
         "swept 0 -\nended 1 gray -\nswept 1 -\ndone\nslice 6\n",
     ),
     ("colours\n", "gray -\n"),
+];
+
+// A gray ring over two zones, the arenas of which are out at once.
+const GRAY_RING: Row = &[
+    ("zone\n", "zone 0\n"),
+    ("zone\n", "zone 1\n"),
+    ("comp 0\n", "comp 0\n"),
+    ("comp 1\n", "comp 1\n"),
+    ("new r0 0 1\n", "cell 0\n"),
+    ("new r1 1 1\n", "cell 1\n"),
+    ("wrap r2 r1 0\n", "0:1\n"),
+    ("set r0 0 r2\n", "ok\n"),
+    ("wrap r3 r0 1\n", "1:0\n"),
+    ("set r1 0 r3\n", "ok\n"),
+    ("hold g0 r0\n", "ok\n"),
+    ("drop r0\n", "ok\n"),
+    ("drop r1\n", "ok\n"),
+    ("drop r2\n", "ok\n"),
+    ("drop r3\n", "ok\n"),
+    ("gc 0 1\n", "gc ok\n"),
+    (
+        "finish\n",
+        "groups 0 1\nended 0 1 gray 0 1 0:1 1:0\nswept 0 -\nswept 1 -\ndone\nslice 14\n",
+    ),
+    ("zone\n", "zone 2\n"),
 ];
 
 const ROWS: [Row; 2] = [GRAY_KEY, GRAY_OBJECT];
@@ -247,6 +277,14 @@ fn every_write_fails_in_turn(rt: HostRuntime) -> Result<(), Fail> {
 }
 
 #[test]
+fn every_write_fails_while_two_arenas_are_out(rt: HostRuntime) -> Result<(), Fail> {
+    for helpers in HELPERS {
+        check_writes(&rt, rt.alloc(), helpers, GRAY_RING)?;
+    }
+    Ok(())
+}
+
+#[test]
 fn every_prefix_ends_as_its_last_line_says(rt: HostRuntime) -> Result<(), Fail> {
     let trace = trace_of(rt.alloc(), GRAY_KEY)?;
     let answers = answers_of(rt.alloc(), GRAY_KEY)?;
@@ -267,5 +305,46 @@ fn every_prefix_ends_as_its_last_line_says(rt: HostRuntime) -> Result<(), Fail> 
             "{taken} bytes, and a failure"
         );
     }
+    Ok(())
+}
+
+// A dump, and the verdict on it.
+const DUMP: &[u8] = b"cell 0 b\nend\n";
+
+const VERDICT: &[u8] = b"ok 1 0 0\n";
+
+// Checks the dump in pieces of one byte, where these calls of the source and of the sink fail.
+fn check_dump<R: Threads + Wait + Sync>(
+    rt: &R,
+    alloc: Global,
+    (reads, writes): (&[u64], &[u64]),
+) -> Option<(Exit, usize)> {
+    let mut source = MemSource::new(DUMP, 1, reads);
+    let mut sink = MemSink::new(Vec::new(alloc), 1, writes);
+    let exit = replay(
+        rt,
+        alloc,
+        &["gczone", "check"],
+        &mut source,
+        &mut sink,
+        &FreeGate,
+    );
+    outcome(exit, sink.bytes(), VERDICT)
+}
+
+#[test]
+fn a_check_fails_with_its_devices(rt: HostRuntime) -> Result<(), Fail> {
+    for taken in 0..=DUMP.len() as u64 {
+        let found = check_dump(&rt, rt.alloc(), (&[taken], &[]));
+        assert_eq!(rt; found, Some((Exit::ReadFault, 0)), "{taken} bytes");
+    }
+    for written in 0..VERDICT.len() {
+        let found = check_dump(&rt, rt.alloc(), (&[], &[written as u64]));
+        assert_eq!(rt; found, Some((Exit::WriteFault, written)));
+    }
+    assert_eq!(rt;
+        check_dump(&rt, rt.alloc(), (&[], &[])),
+        Some((Exit::Done, VERDICT.len()))
+    );
     Ok(())
 }

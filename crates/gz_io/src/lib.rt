@@ -40,5 +40,3 @@ pub use outside::{Failed, Sink, Source, WriteFault, write_all};
 pub use reader::{LineReader, Next};
 pub use standard::{StdSink, StdSource};
 
-#[cfg(test)]
-mod tests;

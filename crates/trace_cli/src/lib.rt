@@ -62,8 +62,6 @@ mod pending;
 mod reading;
 mod session;
 mod storm;
-#[cfg(test)]
-mod tests;
 mod turns;
 
 pub use exit::Exit;

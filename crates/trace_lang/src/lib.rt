@@ -33,8 +33,6 @@ mod numbers;
 mod piece;
 mod rows;
 mod tail;
-#[cfg(test)]
-mod tests;
 mod words;
 mod write;
 mod zone_bits;

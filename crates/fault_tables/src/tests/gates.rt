@@ -1,19 +1,21 @@
-// Helpers beside main: what is written does not depend on them, and they sweep what is printed.
+// Helpers that a gate holds up: they sweep what is printed, and what is written does not depend on them.
 ghost use Rattle.std.specs.Prelude.{None};
 
-use super::ROWS;
-use crate::exit::Exit;
-use crate::reading::replay;
-use gz_io::{Buffered, Failed, FreeGate, Gate, MemSink, MemSource, Point, Sink};
+use gz_io::{Failed, Gate, MemSink, MemSource, Point, Sink};
+use std::alloc::Global;
+use std::process::Abort;
+use std::sync::Wait;
 use std::sync::atomic::AtomicU64;
 use std::sync::atomic::Ordering::SeqCst;
 use std::test::Fail;
-use std::thread::yield_now;
+use std::thread::{Threads, yield_now};
+use trace_cli::{Exit, replay};
 
-// The words that ask for a replay beside so many helpers.
-const BESIDE: [[&str; 4]; 3] = [
+// The words that ask for a replay beside some helpers.
+const BESIDE: [[&str; 4]; 4] = [
     ["gczone", "run", "--helpers", "0"],
     ["gczone", "run", "--helpers", "1"],
+    ["gczone", "run", "--helpers", "2"],
     ["gczone", "run", "--helpers", "4"],
 ];
 
@@ -29,41 +31,6 @@ const WAKE_ANSWERS: &[u8] = b"zone 0\ncomp 0\ncell 0\nok\nok\ngc ok\n\
 
 // The line of `WAKE_ANSWERS`, counted from 1, that answers `expose`.
 const EXPOSED: u64 = 14;
-
-// How many bytes of `WAKE` come before `expose`.
-const UP_TO_ENDED: usize = 87;
-
-#[test]
-fn answers_do_not_depend_on_the_number_of_helpers(rt: HostRuntime) -> Result<(), Fail> {
-    for words in BESIDE {
-        for (shows, trace, answers) in ROWS {
-            let mut source = MemSource::new(trace, 64, &[]);
-            let mut sink = MemSink::new(Vec::new(rt.alloc()), 64, &[]);
-            let ended = replay(&rt, rt.alloc(), &words, &mut source, &mut sink, &FreeGate);
-            assert_eq!(rt; ended, Exit::Done, "{shows}");
-            assert_eq!(rt; sink.bytes(), answers, "{shows}");
-        }
-        let mut source = MemSource::new(WAKE, 64, &[]);
-        let mut sink = MemSink::new(Vec::new(rt.alloc()), 64, &[]);
-        let ended = replay(&rt, rt.alloc(), &words, &mut source, &mut sink, &FreeGate);
-        assert_eq!(rt; ended, Exit::Done);
-        assert_eq!(rt; sink.bytes(), WAKE_ANSWERS);
-    }
-    Ok(())
-}
-
-#[test]
-fn input_may_end_while_an_arena_is_out(rt: HostRuntime) -> Result<(), Fail> {
-    for words in BESIDE {
-        let mut source = MemSource::new(&WAKE[..UP_TO_ENDED], 64, &[]);
-        let mut sink = MemSink::new(Vec::new(rt.alloc()), 64, &[]);
-        let ended = replay(&rt, rt.alloc(), &words, &mut source, &mut sink, &FreeGate);
-        assert_eq!(rt; ended, Exit::Done);
-        assert_eq!(rt; WAKE_ANSWERS.starts_with(sink.bytes()), true);
-        assert_eq!(rt; sink.bytes().ends_with(b"ended 0 gray 0\nslice 1\n"), true);
-    }
-    Ok(())
-}
 
 // A gate that yields often.
 struct SlowGate;
@@ -183,8 +150,9 @@ impl<'m> Sink for Watch<'m> {
     }
 }
 
-#[test]
-fn the_helper_sweeps_what_is_printed(rt: HostRuntime) -> Result<(), Fail> {
+// Replays beside helpers, the first of which meets main between its claim and its loads: main answers `expose`
+// meanwhile, and prints what the helper has swept.
+fn check_meeting<R: Abort + Threads + Wait + Sync>(rt: &R, alloc: Global, words: &[&str]) {
     let meeting = Meeting::new();
     let mut source = MemSource::new(WAKE, 64, &[]);
     let mut watch = Watch {
@@ -194,40 +162,16 @@ fn the_helper_sweeps_what_is_printed(rt: HostRuntime) -> Result<(), Fail> {
         is_s: false,
         swept: None,
     };
-    let words = ["gczone", "run", "--helpers", "2"];
-    let ended = replay(&rt, rt.alloc(), &words, &mut source, &mut watch, &meeting);
+    let ended = replay(rt, alloc, words, &mut source, &mut watch, &meeting);
     assert_eq!(rt; ended, Exit::Done);
     assert_eq!(rt; watch.swept, Some(1));
     assert_eq!(rt; meeting.gave_up.load(SeqCst), 0);
-    Ok(())
 }
 
 #[test]
-fn storms_are_summed_up(rt: HostRuntime) -> Result<(), Fail> {
-    let storms: [([&str; 6], &[u8]); 4] = [
-        (
-            ["gczone", "storm", "1", "4", "--helpers", "0"],
-            b"storm 1 4\ncells 4\nkept 4\ngray 0\n",
-        ),
-        (
-            ["gczone", "storm", "1", "1000", "--helpers", "0"],
-            b"storm 1 1000\ncells 255\nkept 31\ngray 21\n",
-        ),
-        (
-            ["gczone", "storm", "1", "1000", "--helpers", "4"],
-            b"storm 1 1000\ncells 255\nkept 31\ngray 21\n",
-        ),
-        (
-            ["gczone", "storm", "7", "10000", "--helpers", "2"],
-            b"storm 7 10000\ncells 2538\nkept 57\ngray 41\n",
-        ),
-    ];
-    for (words, summary) in storms {
-        let mut source = MemSource::new(b"", 64, &[]);
-        let mut sink = Buffered::new(MemSink::new(Vec::new(rt.alloc()), 7, &[]));
-        let ended = replay(&rt, rt.alloc(), &words, &mut source, &mut sink, &FreeGate);
-        assert_eq!(rt; ended, Exit::Done);
-        assert_eq!(rt; sink.inner().bytes(), summary);
+fn a_helper_sweeps_what_is_printed(rt: HostRuntime) -> Result<(), Fail> {
+    for words in &BESIDE[1..] {
+        check_meeting(&rt, rt.alloc(), words);
     }
     Ok(())
 }
