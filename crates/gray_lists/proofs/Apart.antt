@@ -1,6 +1,6 @@
 -- No wrapper stands on two lists, or on one twice: after one is noted, and after one is taken.
 use Rattle.std.proofs.Common.{◌≡◌, ◌<◌, ◌⊎◌, inl, inr, ℕ, zero, suc, List, [], ◌∷◌, length, set, get_or-set_same}
-use Rattle.std.proofs.Common.{get_or-set_other, replicate, refl, sym, ap, subst, ◌∙◌, arith}
+use Rattle.std.proofs.Common.{get_or-set_other, replicate, refl, sym, ◌∙◌, arith}
 use Rattle.std.proofs.lemmas.List.{get_or-replicate, get_or_past, length-replicate}
 use Rattle.std.proofs.lemmas.Bool.{cases_eq, cases_lt}
 use Rattle.std.specs.List.{Contains}
@@ -82,12 +82,6 @@ list_at-none c = elim (cases_lt c 256) [
   | inl h ↦ get_or-replicate {A = List Place} 256 c [] [] h
   | inr h ↦ get_or_past (replicate 256 []) c [] (omega (arith, length-replicate {A = List Place} 256 []))
 ]
-
--- lists that were made empty, and then got room, hold no wrapper
-pub none_in_new : (lists : List (List Place)) → lists ≡ replicate 256 [] → (c : ℕ) (w : Place)
-    → Contains (list_at lists c) w → ⊥
-none_in_new lists e c w has = Contains-none w
-    (subst (λ (xs : List Place). Contains xs w) (ap (λ (ls : List (List Place)). list_at ls c) e ∙ list_at-none c) has)
 
 pub AreApart-none : AreApart (replicate 256 [])
 AreApart-none = record {

@@ -123,7 +123,7 @@ list_at-none lists none z = ap (λ ls. list_at ls z) none ∙ elim (cases_lt z 6
   | inr le ↦ get_or_past (replicate 64 []) z [] le
 ]
 
-pub Contains-none : (lists : List (List (WrapperKey × Place))) → lists ≡ replicate 64 []
+Contains-none : (lists : List (List (WrapperKey × Place))) → lists ≡ replicate 64 []
     → (z : ℕ) (e : WrapperKey × Place) → Contains (list_at lists z) e → ⊥
 Contains-none lists none z e h =
     let here = subst (λ (es : List (WrapperKey × Place)). Contains es e) (list_at-none lists none z) h in
