@@ -1,16 +1,18 @@
-"""A trace, its output, and a small model of the graph: shared by tools/draw, tools/explain and
-tools/check-step.
+"""A trace, its output, and a small model of the graph, which the tools share.
 
 The model is plain Python and proved in nothing. It replays the commands of a trace beside the program's own output: the
 output tells which cells were freed, and the model tells which cells there are and what holds what.
 """
 
 import difflib
+import heapq
+import signal
 import subprocess
-from pathlib import Path
 
-TOP = Path(__file__).resolve().parent.parent
-PROGRAM = TOP / "crates/gczone/out/gczone"
+from command_line import Fault, read_file
+from program import TOP, find_program
+
+SLOTS = 64
 REPORTS = ("groups", "ended", "swept", "done")
 
 # The forms of the commands: r a register, t a register or `-`, g a gray slot, z a zone, c a compartment, n the number
@@ -29,20 +31,46 @@ PARTS = {
 }
 
 
-class Unproved(Exception):
-    """The program is not built."""
+def run(text, program=None):
+    """The output lines, the exit status and the error text of a program, or of `gczone`, on a trace."""
+    done = subprocess.run([program or find_program(), "run"], input=text, capture_output=True, check=False)
+    error = done.stderr.decode(errors="replace").strip()
+    if done.returncode < 0:
+        error = f"the program was ended by {signal.Signals(-done.returncode).name}"
+    return done.stdout.decode(errors="replace").splitlines(), done.returncode, error
 
 
-def run(text, unproved=False):
-    """The output lines, the exit status and the error text of the program on a trace."""
-    if unproved:
-        command = [TOP / "gczone", "try"]
-    elif PROGRAM.exists():
-        command = [PROGRAM, "run"]
-    else:
-        raise Unproved("the program is not built: `./gczone run < /dev/null` does it, and --try runs it unproved")
-    done = subprocess.run(command, input=text, capture_output=True, check=False)
-    return done.stdout.decode().splitlines(), done.returncode, done.stderr.decode().strip()
+def ask(lines, program=None):
+    """The output lines of a program on a trace, each line of which it answers."""
+    output, status, error = run("".join(line + "\n" for line in lines).encode(), program)
+    check_answers(lines, output, status, error)
+    return output
+
+
+def check_answers(lines, output, status, error):
+    """Whether a program ended well, and answered each line."""
+    if status:
+        raise Fault(error or f"the program ends with status {status}", 1)
+    answered = len(answers(lines, output))
+    if answered != len(lines):
+        raise Fault(f"the program answers {answered} of {len(lines)} lines", 1)
+
+
+def read_trace(path):
+    """The lines of a trace that has some, each a command."""
+    raw = split_lines(read_file(path))
+    if not raw:
+        raise Fault(f"{path} is empty: a trace has a command on each line")
+    bad = next((number for number, line in enumerate(raw, 1) if fault_of(line)), None)
+    if bad:
+        raise Fault(f"{path}: line {bad} is a bad line: see tools/explain")
+    return [line.decode("ascii") for line in raw]
+
+
+def check_line(number, lines):
+    """Whether a trace has a line of this number."""
+    if not 1 <= number <= len(lines):
+        raise Fault(f"there is no line {number}: the trace has lines 1 to {len(lines)}")
 
 
 def split_lines(data):
@@ -172,6 +200,8 @@ class Model:
         self.registers, self.gray = {}, {}
         self.arenas = []
         self.slots = {}
+        self.used = []
+        self.room = {}
         self.out = set()
         self.collecting = None
         self.marking = set()
@@ -180,13 +210,29 @@ class Model:
 
     def place_for(self, zone):
         """The place of the next cell of a zone, which is taken by it."""
-        for arena, owner in enumerate(self.arenas):
-            if owner == zone and arena not in self.out:
-                slot = next((slot for slot in range(64) if (arena, slot) not in self.slots), None)
-                if slot is not None:
-                    return arena, slot
-        self.arenas.append(zone)
-        return len(self.arenas) - 1, 0
+        room = self.room.setdefault(zone, [])
+        while room and (room[0] in self.out or self.used[room[0]] == (1 << SLOTS) - 1):
+            heapq.heappop(room)
+        if not room:
+            room.append(len(self.arenas))
+            self.arenas.append(zone)
+            self.used.append(0)
+        arena = room[0]
+        free = ~self.used[arena] & (self.used[arena] + 1)
+        self.used[arena] |= free
+        return arena, free.bit_length() - 1
+
+    def take_in(self, arena, freed):
+        """Takes in an arena that was out, without its cells of these names."""
+        taken = [(arena, slot) for slot in range(SLOTS) if (arena, slot) in self.slots]
+        empty = [place for place in taken if self.slots[place].name in freed]
+        if len(empty) != len(freed):
+            raise LookupError
+        for place in empty:
+            del self.slots[place]
+            self.used[arena] &= ~(1 << place[1])
+        self.out.discard(arena)
+        heapq.heappush(self.room[self.arenas[arena]], arena)
 
     def make(self, name, kind, comp):
         cell = Cell(name, kind, comp, self.place_for(self.comps[comp]))
@@ -272,11 +318,7 @@ class Model:
                 key: entry for key, entry in self.entries.items() if not any(id(cell) in gone for cell in entry)
             }
         elif word == "swept":
-            arena = int(rest[0])
-            self.out.discard(arena)
-            for name in rest[1:]:
-                for place in [place for place, cell in self.slots.items() if place[0] == arena and cell.name == name]:
-                    del self.slots[place]
+            self.take_in(int(rest[0]), set(rest[1:]) - {"-"})
         elif word == "done":
             self.collecting = None
 
@@ -309,16 +351,26 @@ def replay(lines, output, later=()):
     reports = [line for own in told for line in own if is_report(line)]
     reports += [line for line in later if is_report(line)]
     at = 0
-    for text, own in zip(lines, told):
+    for number, (text, own) in enumerate(zip(lines, told), 1):
         words = text.split(" ")
-        if words[0] in ("gc", "collect") and own[-1] in ("gc ok", "collected"):
-            model.command(words, own[-1])
-        for line in filter(is_report, own):
-            model.report(line, dead_after(reports, at) if line.startswith("ended ") else ())
-            at += 1
-        if own[-1] not in REFUSALS and words[0] not in ("gc", "collect"):
-            model.command(words, own[-1])
+        try:
+            at = step(model, words, own, reports, at)
+        except (LookupError, ValueError, AttributeError, TypeError):
+            raise Fault(f"line {number}, '{text}', cannot be answered by '{' / '.join(own)}'", 1) from None
         yield words, own, model
+
+
+def step(model, words, own, reports, at):
+    """Does a command that was answered by these lines, and returns how many of all the reports are done then."""
+    begins = words[0] in ("gc", "collect")
+    if begins and own[-1] in ("gc ok", "collected"):
+        model.command(words, own[-1])
+    for line in filter(is_report, own):
+        model.report(line, dead_after(reports, at) if line.startswith("ended ") else ())
+        at += 1
+    if not begins and own[-1] not in REFUSALS:
+        model.command(words, own[-1])
+    return at
 
 
 def dump_lines(model, names, black):
