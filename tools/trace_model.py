@@ -223,16 +223,14 @@ class Model:
         return arena, free.bit_length() - 1
 
     def take_in(self, arena, freed):
-        """Takes in an arena that was out, without its cells of these names."""
-        taken = [(arena, slot) for slot in range(SLOTS) if (arena, slot) in self.slots]
-        empty = [place for place in taken if self.slots[place].name in freed]
-        if len(empty) != len(freed):
-            raise LookupError
-        for place in empty:
-            del self.slots[place]
-            self.used[arena] &= ~(1 << place[1])
-        self.out.discard(arena)
-        heapq.heappush(self.room[self.arenas[arena]], arena)
+        """Takes in an arena that is out, without its cells of these names."""
+        for place in ((arena, slot) for slot in range(SLOTS)):
+            if place in self.slots and self.slots[place].name in freed:
+                del self.slots[place]
+                self.used[arena] &= ~(1 << place[1])
+        if arena in self.out:
+            self.out.remove(arena)
+            heapq.heappush(self.room[self.arenas[arena]], arena)
 
     def make(self, name, kind, comp):
         cell = Cell(name, kind, comp, self.place_for(self.comps[comp]))
@@ -318,7 +316,7 @@ class Model:
                 key: entry for key, entry in self.entries.items() if not any(id(cell) in gone for cell in entry)
             }
         elif word == "swept":
-            self.take_in(int(rest[0]), set(rest[1:]) - {"-"})
+            self.take_in(int(rest[0]), set(rest[1:]))
         elif word == "done":
             self.collecting = None
 

@@ -1,0 +1,297 @@
+"""A heap log of SpiderMonkey, and the dump of colours of it: shared by tools/heap-log and tools/check-heap-log.
+
+A heap log is what js::DumpHeap writes, and what about:memory saves as gc-edges (docs/HEAPLOGS.md). Texts are kept as
+bytes, and cells, edges and names by numbers, since a log may have millions of them.
+"""
+
+import re
+import sys
+from array import array
+from collections import Counter, defaultdict
+from contextlib import nullcontext
+
+from command_line import Fault, Progress
+
+CELL = re.compile(rb"(0x[0-9a-fA-F]+) (\S)(?: (.*))?\n?", re.S)
+ADDRESS = re.compile(rb"0x[0-9a-fA-F]+")
+ENTRY = re.compile(rb"WeakMapEntry map=(\S+) key=(\S+) keyDelegate=(\S+) value=(\S+)\n?")
+EDGE, NOTE, LINE_END, SEPARATOR, WEAK = b">#\n=W"
+COLOURS = {ord("B"): "black", ord("G"): "gray"}
+NO_HEAP = "it ends before its heap; a heap log has a line of ========== behind its roots and weak maps"
+# How many lines are read between two looks at the clock.
+STRIDE = 1 << 16
+
+
+def text_of(words):
+    """Bytes of a log as text that can be printed."""
+    return repr(words.rstrip(b"\n"))[2:-1]
+
+
+def is_null(address):
+    return address in (b"(nil)", b"null", b"(null)") or set(address) <= set(b"0x")
+
+
+def numbering():
+    """A dictionary that gives each new key the next number."""
+    numbers = defaultdict()
+    numbers.default_factory = numbers.__len__
+    return numbers
+
+
+class Reader:
+    """Reads a heap log line by line. Cells have the numbers in which order the log names them first."""
+
+    def __init__(self, progress):
+        self.progress = progress
+        self.cells, self.names = numbering(), numbering()
+        self.named = bytearray()        # for each cell: the letter that names it first, and its line
+        self.named_lines = array("I")
+        self.own = {}                   # cell: its kind, letter and line, of the cells that have a line of their own
+        self.first_edge = array("Q")    # for each of these: its first edge
+        self.edges, self.roots = Mentions(), Mentions()
+        self.entries = []
+        self.in_heap = False
+
+    def read(self, lines):
+        edges, names, cells = self.edges, self.names, self.cells
+        for number, line in enumerate(lines, 1):
+            if line[0] == EDGE:
+                parts = line.split(b" ", 3)
+                if len(parts) != 4 or len(parts[2]) != 1 or parts[0] != b">":
+                    parts = [b">", *self.parse(line[2:] if parts[0] == b">" else b"", line, number)]
+                if not self.first_edge:
+                    raise Fault(f"line {number} has an edge of no cell")
+                cell = cells[parts[1]]
+                if cell == len(self.named):
+                    self.add(parts[1], parts[2], line, number)
+                edges.add(cell, names[parts[3]], parts[2], number)
+                if not number % STRIDE:
+                    self.progress.tell(number)
+            else:
+                self.read_other(line, number)
+        if not self.in_heap:
+            raise Fault(NO_HEAP)
+        return self
+
+    def read_other(self, line, number):
+        """A line that is no edge."""
+        if line[0] == SEPARATOR and line.startswith(b"=========="):
+            self.in_heap = True
+        elif line[0] == WEAK and line.startswith(b"WeakMapEntry"):
+            match = ENTRY.fullmatch(line)
+            if not match:
+                raise Fault(f"line {number} is no weak entry of a heap log: {text_of(line[:80])}")
+            self.entries.append(match.groups())
+        elif line[0] not in (NOTE, LINE_END):
+            address, letter, words = self.parse(line, line, number)
+            cell = self.cells[address]
+            if cell == len(self.named):
+                self.add(address, letter, line, number)
+            if not self.in_heap:
+                self.roots.add(cell, self.names[words], letter, number)
+                return
+            if cell in self.own:
+                raise Fault(f"line {number} has the cell {text_of(address)} again")
+            kind = words.split(b" ")[0].rstrip(b"\n") or b"cell"
+            self.own[cell] = sys.intern(text_of(kind)), letter[0], number
+            self.first_edge.append(len(self.edges.cells))
+
+    def parse(self, rest, line, number):
+        """The address, the letter and the words of a line of a cell, of a root, or of an edge behind its sign."""
+        match = CELL.fullmatch(rest)
+        if not match:
+            raise Fault(f"line {number} is no line of a heap log: {text_of(line[:80])}")
+        return match[1], match[2], match[3] or b""
+
+    def add(self, address, letter, line, number):
+        """Takes note of a cell that was not named before."""
+        if not ADDRESS.fullmatch(address):
+            raise Fault(f"line {number} is no line of a heap log: {text_of(line[:80])}")
+        self.named += letter
+        self.named_lines.append(number)
+
+
+class Mentions:
+    """The cells that edges, or roots, lead to: by cell, name, letter and line."""
+
+    def __init__(self):
+        self.cells, self.names, self.letters, self.lines = array("I"), array("I"), bytearray(), array("I")
+
+    def add(self, cell, name, letter, line):
+        self.cells.append(cell)
+        self.names.append(name)
+        self.letters += letter
+        self.lines.append(line)
+
+
+class Log:
+    """A heap log: its cells, edges, roots and weak entries.
+
+    A cell's number is its place among those that have a line of their own; then come those that a root or an edge names
+    alone. The edges of cell n are those from first_edge[n] on and below first_edge[n + 1].
+    """
+
+    def __init__(self, lines, progress):
+        reader = Reader(progress).read(lines)
+        rest = [cell for cell in range(len(reader.cells)) if cell not in reader.own]
+        order = [*reader.own, *rest]
+        addresses = list(reader.cells)
+        self.addresses = [addresses[cell] for cell in order]
+        self.own_count = len(reader.own)
+        own = list(reader.own.values())
+        self.kinds = [kind for kind, _, _ in own]
+        self.letters = bytearray(letter for _, letter, _ in own) + bytearray(reader.named[cell] for cell in rest)
+        self.lines = array("I", [line for _, _, line in own] + [reader.named_lines[cell] for cell in rest])
+        numbers = array("I", bytes(4 * len(order)))
+        for number, cell in enumerate(order):
+            numbers[cell] = number
+        self.first_edge = reader.first_edge
+        self.first_edge.extend([len(reader.edges.cells)] * (len(rest) + 1))
+        self.edges, self.roots = reader.edges, reader.roots
+        for mentions in (self.edges, self.roots):
+            mentions.cells = array("I", map(numbers.__getitem__, mentions.cells))
+        self.names = list(reader.names)
+        self.entries = reader.entries
+        self.numbers = {address: numbers[cell] for address, cell in reader.cells.items()}
+
+    def is_judged(self, cell):
+        return self.letters[cell] in COLOURS
+
+    def colour(self, cell):
+        return COLOURS.get(self.letters[cell], "uncoloured")
+
+    def kind(self, cell):
+        return self.kinds[cell] if cell < self.own_count else "cell"
+
+    def address(self, cell):
+        return text_of(self.addresses[cell])
+
+    def name(self, mentions, at):
+        """The name of an edge or of a root."""
+        return text_of(self.names[mentions.names[at]])
+
+    def words(self, cell):
+        """A cell in the log's words."""
+        return f"{self.colour(cell)} {self.kind(cell)} {self.address(cell)}"
+
+    def two_colours(self):
+        """Where the log first gives a cell another colour than before, in words; None where it never does."""
+        for mentions in (self.roots, self.edges):
+            letters = bytes(map(self.letters.__getitem__, mentions.cells))
+            if letters != mentions.letters:
+                at = next(at for at, pair in enumerate(zip(letters, mentions.letters)) if pair[0] != pair[1])
+                cell, letter = mentions.cells[at], chr(mentions.letters[at])
+                return (
+                    f"two colours: {self.address(cell)} is {chr(self.letters[cell])} at line {self.lines[cell]}, "
+                    f"and {letter} at line {mentions.lines[at]}"
+                )
+        return None
+
+
+class Dump:
+    """The dump of a log, line by line, and each line in the log's words."""
+
+    def __init__(self, log):
+        self.log = log
+        self.left_out = Counter()
+        self.wrappers = {}              # (key, delegate): (compartment, the delegate)
+        self.wrappers_of = Counter()    # delegate: how many keys it is the delegate of
+        self.entries = sorted(
+            (entry for entry in map(self.entry, log.entries) if entry), key=lambda entry: entry[0]
+        )
+        judged = sum(log.letters.count(letter) for letter in COLOURS)
+        named = log.letters[log.own_count:]
+        self.count(
+            "cells that are neither black nor gray, as those made since the last collection; their edges are not judged",
+            len(log.letters) - judged,
+        )
+        self.count(
+            "cells without a line of their own, as permanent atoms; they have the colour that an edge or a root gives them",
+            sum(named.count(letter) for letter in COLOURS),
+        )
+
+    def count(self, what, more=1):
+        self.left_out[what] += more
+
+    def entry(self, addresses):
+        """A weak entry by the numbers of its map, key, delegate and value; None where it has no place in the dump."""
+        log = self.log
+        map_, key, delegate, value = addresses
+        if is_null(key) or is_null(value):
+            return self.count("weak entries whose key or value is no cell")
+        if is_null(delegate):
+            delegate = key
+        cells = [log.numbers.get(address) for address in (map_, key, delegate, value)]
+        if None in cells:
+            return self.count("weak entries with a cell that the log does not have")
+        if not all(map(log.is_judged, cells)):
+            return self.count("weak entries with a cell that is neither black nor gray")
+        self.name_key(cells[1], cells[2])
+        return cells
+
+    def name_key(self, key, delegate):
+        """Gives a key whose delegate is another cell the name of a wrapper of that cell."""
+        if delegate == key or (key, delegate) in self.wrappers:
+            return
+        comp = self.wrappers_of[delegate]
+        if comp > 255:
+            raise Fault(f"{self.log.address(delegate)} is the delegate of more than 256 keys")
+        self.wrappers_of[delegate] += 1
+        self.wrappers[key, delegate] = comp, delegate
+
+    def rows(self):
+        """Each line of the dump, and what it is made of: `words` makes the log's words of that."""
+        log, letters = self.log, ["g" if letter == ord("G") else "b" for letter in self.log.letters]
+        for cell, letter in enumerate(letters):
+            yield f"cell {cell} {letter}\n", ("cell", cell)
+        for (comp, delegate), key in sorted((place, key) for (key, _), place in self.wrappers.items()):
+            yield f"cell {comp}:{delegate} {letters[key]}\n", ("wrapper", key, delegate)
+        judged, targets, first = bytes(map(log.is_judged, range(len(letters)))), log.edges.cells, log.first_edge
+        for cell in range(log.own_count):
+            if judged[cell]:
+                for edge in range(first[cell], first[cell + 1]):
+                    if judged[targets[edge]]:
+                        yield f"edge {cell} {targets[edge]}\n", ("edge", cell, edge)
+        for entry in self.entries:
+            map_, key, delegate, value = entry
+            place = self.wrappers.get((key, delegate))
+            name = f"{place[0]}:{place[1]}" if place else str(key)
+            yield f"weak {map_} {name} {value}\n", ("weak", *entry)
+        yield "end\n", ("end",)
+
+    def words(self, made_of):
+        """A line of the dump in the log's words."""
+        what, *cells = made_of
+        words = self.log.words
+        if what == "cell":
+            return words(cells[0])
+        if what == "wrapper":
+            return f"{words(cells[0])} -> {words(cells[1])}, what it wraps"
+        if what == "edge":
+            name = self.log.name(self.log.edges, cells[1])
+            return f"{words(cells[0])} -> {words(self.log.edges.cells[cells[1]])} by field {name}"
+        if what == "weak":
+            map_, key, delegate, value = cells
+            behind = f" with the delegate {words(delegate)}" if delegate != key else ""
+            return f"{words(map_)}, {words(key)} as key{behind} -> {words(value)} as value"
+        return "the end"
+
+    def notes(self):
+        """What the dump leaves out or changes, a text each."""
+        notes = [f"{count} {what}" for what, count in self.left_out.items() if count]
+        if self.log.roots.cells:
+            count = len(self.log.roots.cells)
+            notes.append(f"{count} roots, which have no line in a dump: what they hold is judged as any other cell")
+        return notes
+
+
+def read_log(path):
+    """The log of a file, or of standard input where the path is -."""
+    try:
+        file = nullcontext(sys.stdin.buffer) if path == "-" else open(path, "rb", 1 << 20)
+        with file as lines, Progress("lines read") as progress:
+            return Log(lines, progress)
+    except OSError as error:
+        raise Fault(f"{path}: {error.strerror}") from None
+    except Fault as fault:
+        raise Fault(f"{path}: {fault}") from None
