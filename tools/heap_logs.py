@@ -11,6 +11,7 @@ from collections import Counter, defaultdict
 from contextlib import nullcontext
 
 from command_line import Fault, Progress
+from reach import Graph, tell_way
 
 CELL = re.compile(rb"(0x[0-9a-fA-F]+) (\S)(?: (.*))?\n?", re.S)
 ADDRESS = re.compile(rb"0x[0-9a-fA-F]+")
@@ -18,6 +19,8 @@ ENTRY = re.compile(rb"WeakMapEntry map=(\S+) key=(\S+) keyDelegate=(\S+) value=(
 EDGE, NOTE, LINE_END, SEPARATOR, WEAK = b">#\n=W"
 COLOURS = {ord("B"): "black", ord("G"): "gray"}
 NO_HEAP = "it ends before its heap; a heap log has a line of ========== behind its roots and weak maps"
+WHITE = "as those made since the last collection; their edges are not judged"
+NAMED = "as permanent atoms; they have the colour that an edge or a root gives them"
 # How many lines are read between two looks at the clock.
 STRIDE = 1 << 16
 
@@ -188,6 +191,44 @@ class Log:
         return None
 
 
+def way_graph(log):
+    """The graph of a log, and for each of its entries what it does, in words."""
+    entries, texts = [], []
+    for map_, key, delegate, value in ([log.numbers.get(address) for address in entry] for entry in log.entries):
+        if None in (map_, key):
+            continue
+        if delegate not in (None, key):
+            entries.append((map_, delegate, key))
+            texts.append(f"key with the delegate {log.address(delegate)} in map {log.address(map_)}")
+        if value is not None:
+            entries.append((map_, key, value))
+            texts.append(f"value of key {log.address(key)} in map {log.address(map_)}")
+    return Graph(log.first_edge, log.edges.cells, entries, log.roots.cells), texts
+
+
+def why(log, cell):
+    """Why a cell has its colour, and what keeps it, line by line."""
+    graph, entry_texts = way_graph(log)
+    colours = [log.colour(root) for root in graph.roots]
+
+    def text_of(step):
+        if step.kind == "root":
+            return f"{colours[step.number]} root {log.name(log.roots, step.number)}"
+        if step.kind == "entry":
+            return entry_texts[step.number]
+        return f"field {log.name(log.edges, step.number)} of {log.address(step.sources[0])}"
+
+    by_colour = {colour: [root for root, own in enumerate(colours) if own == colour] for colour in ("black", "gray")}
+    texts = [log.words(cell)]
+    for some, roots in (*by_colour.items(), ("", range(len(colours)))):
+        ways = graph.ways(roots)
+        if ways.reaches(cell):
+            way = ways.way(cell)
+            texts.append(f"a {some} root leads to it:" if some else "roots lead to it, but not those of one colour alone:")
+            return texts + tell_way(graph, range(len(colours)), way, cell, text_of, log.words)
+    return [*texts, "no root leads to it: the next collection frees it, if the log has all roots"]
+
+
 class Dump:
     """The dump of a log, line by line, and each line in the log's words."""
 
@@ -201,14 +242,8 @@ class Dump:
         )
         judged = sum(log.letters.count(letter) for letter in COLOURS)
         named = log.letters[log.own_count:]
-        self.count(
-            "cells that are neither black nor gray, as those made since the last collection; their edges are not judged",
-            len(log.letters) - judged,
-        )
-        self.count(
-            "cells without a line of their own, as permanent atoms; they have the colour that an edge or a root gives them",
-            sum(named.count(letter) for letter in COLOURS),
-        )
+        self.count(f"cells that are neither black nor gray, {WHITE}", len(log.letters) - judged)
+        self.count(f"cells without a line of their own, {NAMED}", sum(named.count(letter) for letter in COLOURS))
 
     def count(self, what, more=1):
         self.left_out[what] += more
