@@ -13,7 +13,7 @@ def main(cells, edges):
     letters = ["B" if bin(n)[3:4] == "0" else "G" for n in range(cells)]
     words = [f"{0x7F0000000000 + 16 * n:#x} {letters[n]}" for n in range(cells)]
     names = ["shape", "group", "script", "proto", *(f"objectElements[{n}]" for n in range(1000))]
-    write = sys.stdout.write
+    everywhere, more, write = range(2, cells), edges // cells, sys.stdout.write
     write(f"# Roots.\n{words[2]} exact-Object\n{words[3]} holder\n# Weak maps.\n")
     for number in range(1000, cells, 1000):
         map_, key, value = (words[n].split(" ")[0] for n in (number, number - 1, number - 2))
@@ -24,11 +24,10 @@ def main(cells, edges):
         for below, name in ((2 * number, "left"), (2 * number + 1, "right")):
             if below < cells:
                 write(f"> {words[below]} {name}\n")
-        for _ in range(edges // cells):
-            target = chosen.randrange(2, cells)
-            if (letters[number], letters[target]) == ("B", "G"):
+        for target, name in zip(chosen.choices(everywhere, k=more), chosen.choices(names, k=more)):
+            if letters[number] == "B" and letters[target] == "G":
                 target -= 1 << target.bit_length() - 2  # the same place in the black tree
-            write(f"> {words[target]} {chosen.choice(names)}\n")
+            write(f"> {words[target]} {name}\n")
 
 
 if __name__ == "__main__":
