@@ -28,16 +28,21 @@ READERS = [
     ("draw", ["heap", "{}", "--dot"], "trace"),
     ("draw", ["timeline", "{}"], "trace"),
     ("explain", ["{}"], "trace"),
+    ("why", ["{}", "1", "0"], "trace"),
+    ("stats", ["{}"], "trace"),
     ("heap-log", ["{}"], "log"),
     ("check-heap-log", ["{}"], "log"),
 ]
 # Each tool that runs a program, with words that it takes.
 RUNNERS = [
     ("draw", ["heap", FIRST, "--dot"]), ("draw", ["timeline", FIRST]), ("draw", ["pictures", "--check"]),
-    ("explain", [FIRST]), ("check-heap-log", [HEAP_LOG]), ("check-piles", []), ("check-storms", ["--count", "1"]),
+    ("explain", [FIRST]), ("why", [FIRST, "5", "1"]), ("stats", [FIRST]), ("check-heap-log", [HEAP_LOG]), ("check-piles", []), ("check-storms", ["--count", "1"]),
     ("check-step", ["--collector", "true", "--seeds", "0"]),
 ]
-ALL = ["draw", "explain", "heap-log", "check-heap-log", "check-piles", "check-storms", "check-step", "check-faults"]
+ALL = [
+    "draw", "explain", "why", "stats", "heap-log", "check-heap-log", "check-piles", "check-storms", "check-step",
+    "check-faults",
+]
 
 
 def run_tool(name, *words, data=b"", path=None):
@@ -119,16 +124,17 @@ class WrongInput(Tools):
 
     def test_no_line_of_the_trace(self):
         calls = [["draw", "heap", FIRST, "999"], ["explain", FIRST, "999"], ["explain", FIRST, "2-10"]]
-        self.check_refuses(calls, "there is no line ", "the trace has lines 1 to 9")
-        self.check_refuses([["draw", "heap", FIRST, "0"], ["draw", "heap", FIRST, "x"]], "is no number from 1 on")
+        self.check_refuses([*calls, ["why", FIRST, "10", "0"]], "there is no line ", "the trace has lines 1 to 9")
+        self.check_refuses([["draw", "heap", FIRST, "0"], ["why", FIRST, "x", "0"]], "is no number from 1 on")
         self.check_refuses([["explain", FIRST, "0"]], "there is no line 0")
         self.check_refuses([["explain", FIRST, "x"]], "'x' is no line")
         self.check_refuses([["explain", FIRST, "5-3"]], "line 3 stands before line 5")
 
     def test_standard_input_is_read(self):
         data = Path(FIRST).read_bytes()
-        for words in (["explain", "-"], ["draw", "timeline", "-"]):
-            self.assertEqual(run_tool(*words, data=data), run_tool(*words[:-1], FIRST))
+        for words in (["explain", "{}"], ["draw", "timeline", "{}"], ["why", "{}", "5", "1"]):
+            read = [run_tool(*(path if word == "{}" else word for word in words), data=data) for path in ("-", FIRST)]
+            self.assertEqual(read[0], read[1])
         self.assertEqual(run_tool("heap-log", "-", data=Path(HEAP_LOG).read_bytes()), run_tool("heap-log", HEAP_LOG))
 
 
@@ -151,7 +157,7 @@ class WrongWords(Tools):
         self.check_refuses([["draw", "heep", FIRST]], "'heep'", "'heap', 'timeline'")
 
     def test_a_word_that_is_missing_is_named(self):
-        self.check_refuses([["draw"], ["explain"], ["heap-log"], ["check-heap-log"]], "are required")
+        self.check_refuses([["draw"], ["explain"], ["why"], ["why", FIRST, "1"], ["stats"], ["heap-log"]], "are required")
         self.check_refuses([["draw", "heap"]], "a trace is needed")
         self.check_refuses([["check-step"]], "either --model or --collector is needed")
 
