@@ -32,18 +32,19 @@
 // prepared and its marking begins at once, with no unit between. Mark bits are cleared, gray roots
 // buffered, black roots marked.
 //
-// A collection goes on unit by unit. `unit` does the first of six steps that has work, each by the laws
-// of its step:
+// A collection goes on step by step. `advance` does the first of these that has work, each by the laws of
+// its step:
 //
-//     1 marks_black      a cell that is pending in black, or a weak entry for black
-//     2 forms_groups     before the groups are formed, a look at a wrapper, or a grouping step
-//     3 begins_zone      gray marking of a zone of the current group begins
-//     4 marks_gray       a piece of gray marking of the group, or a weak entry for gray
-//     5 next_out         an arena that is out is due, and `take_one` takes it in
-//     6 end_group        the current group ends
+//     quiet_units        units that report nothing, as many as come one after another:
+//         marks_black    a cell that is pending in black, or a weak entry for black
+//         looks          before the groups are formed, a look at a wrapper
+//         begins_zone    gray marking of a zone of the current group begins
+//         marks_gray     a piece of gray marking of the group, or a weak entry for gray
+//     next_out           the lowest arena that is out is due: it is taken in
+//     advance_one        the unit that is left: a grouping step, or the current group ends
 //
-// Most units report nothing. `quiet_units` does many of these in one call (steps 1, 3, 4 and the looks of step 2): each
-// leaves the world as it is, so many are told like one, and no report is built or moved for them.
+// A quiet unit leaves each world as it is, so many are told like one, and no report is built or moved for
+// them.
 //
 // So a group is grouped once black marking rests, and ends once all of its marking rests and no arena
 // of the group before is out. Each unit lowers one number (`units_left`), which is below 2^64
