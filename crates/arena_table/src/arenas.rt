@@ -30,7 +30,7 @@ use mark_stack::Pile;
 use std::alloc::{AllocError, Global};
 use std::marker::Model;
 
-// For so many jobs at most memory is taken before they are listed.
+// The most jobs for which memory is taken before they are listed.
 const JOBS_AHEAD: usize = 256;
 
 /// A place that is kept for a cell of a zone.

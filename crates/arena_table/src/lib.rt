@@ -16,7 +16,7 @@
 // nothing. So freeing the white cells of an arena is one step on a word:
 //
 //     alloc   1 1 0 1     taken in with freed 0 1 0 0:
-//     freed   0 1 0 0     alloc 1 0 0 1, the name of the second slot's cell is answered,
+//     freed   0 1 0 0     alloc 1 0 0 1, the reply has the name of the second slot's cell,
 //                         and the next cell of the zone goes into the second slot
 //
 // A new cell goes to the lowest free slot of its zone's lowest arena that has one and is not out,

@@ -11,7 +11,7 @@ use gz_names::{Names64, Place, ZoneNo};
 use std::alloc::{AllocError, Global};
 use std::marker::Model;
 
-// For so many arenas memory is taken at first. Their cells take 192 kilobytes, which the C library maps: a page of
+// How many arenas memory is taken for at first. Their cells take 192 kilobytes, which the C library maps: a page of
 // them takes no memory before it is written, and as there are more arenas, pages are moved and no cell is copied.
 const FIRST_ARENAS: usize = 64;
 

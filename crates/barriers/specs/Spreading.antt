@@ -60,8 +60,8 @@ pub record Blackens (P : Place → Type 0) (h k : HeapState) : Type 0 where
   pub others : (y : Place) → IsBlack k y ⊎ (colour_of k y ≡ colour_of h y)
   pub whites_less : whites k ≤ whites h
 
--- the same with the piles: in marking zones what turned black is on the black pile, and no work came up; nor may any
--- cell be scanned more often
+-- black spread, and the piles know it: in marking zones what turned black is on the black pile, and no work came up;
+-- nor may any cell be scanned more often
 pub record Spreads (P : Place → Type 0) (h : HeapState) (p : Piles) (k : HeapState) (q : Piles) : Type 0 where
   pub blackens : Blackens P h k
   pub gray_is : q.gray ≡ p.gray
@@ -72,7 +72,7 @@ pub record Spreads (P : Place → Type 0) (h : HeapState) (p : Piles) (k : HeapS
   pub grays : grays_outside k + length q.wake ≤ grays_outside h + length p.wake
   pub scans : ScansNoMore h p k q
 
--- the same, where no woken cell was taken from its pile
+-- black spread, and no woken cell was taken from its pile
 pub record Grows (P : Place → Type 0) (h : HeapState) (p : Piles) (k : HeapState) (q : Piles) : Type 0 where
   pub spreads : Spreads P h p k q
   pub wake_kept : (y : Place) → Contains p.wake y → Contains q.wake y

@@ -57,7 +57,7 @@ answers_linked_and_dropped how =
       reply.Collected,
     ) ∷ quiet (reply.Named (Cell 1)) ∷ []
 
--- the same without the freed cell, which is wrong
+-- these answers without the freed cell, which are wrong
 abbrev pub answers_without_freed_cell : Beginning → List (List Report × Reply)
 answers_without_freed_cell how =
     quiet (reply.Zone 0) ∷ quiet (reply.Comp comp_0) ∷ quiet (reply.Made 0) ∷ quiet (reply.Made 1)

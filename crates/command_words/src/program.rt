@@ -1,4 +1,4 @@
-// The command that clap is told of.
+// The command that clap reads.
 ghost use Rattle.std.specs.Prelude.{◌≡◌, IfOk, false, map};
 ghost use Rattle.clap.specs.Words.{FailsBy, fault_of, rule_of, subcommand_of, subcommand_rows_of};
 ghost use Rattle.command_words.specs.Program.{Tells, check, gczone, helpers_rule, lines_rule, run, seed_rule, storm};

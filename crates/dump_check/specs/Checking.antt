@@ -55,7 +55,7 @@ pub record Progress : Type 0 where
   pub entries : ℕ
   pub lines : ℕ
 
--- the same of these lines
+-- what is kept of these lines
 abbrev pub read_of : List DumpLine → Progress
 read_of ls = record {
   cells = cells_of ls;

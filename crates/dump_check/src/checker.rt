@@ -14,7 +14,7 @@ use std::marker::Model;
 /// What is to be said of a dump.
 #[derive(Clone, Copy, Debug, PartialEq, Eq)]
 pub enum Verdict {
-    /// It is sound, and has so many cells, edges and weak entries.
+    /// It is sound. The numbers are those of its cells, edges and weak entries.
     Sound(u64, u64, u64),
     /// This line, counted from 1, is the first at fault.
     Fault(u64, DumpFault),
@@ -76,7 +76,7 @@ impl Checker {
     }
 
     /// Judges the next line, without its line feed: nothing is said of a sound one. After a verdict
-    /// the checker is given no more. Where memory is wanted the line was not taken.
+    /// the checker is given no more. Out of memory, the line was not taken.
     pub fn line(&mut self, text: &[u8]) -> Result<Option<Verdict>, NoMemory>
         requires { self.old.lines + 1 < 2 ^ 64 }
         ensures says { (ls : List ALine) → AreSoundLines [] ls → self.old ≡ read_of ls

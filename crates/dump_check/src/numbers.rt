@@ -1,4 +1,4 @@
-// Numbers and names at the front of a text.
+// Numbers and names that a text begins with.
 ghost use Rattle.std.specs.Prelude.{
   ◌≡◌,
   ◌<◌,
@@ -25,7 +25,7 @@ ghost use Rattle.dump_check.specs.Digits.{after_digits, front_digits, IsStop, Is
 
 use gz_names::{CompNo, Name};
 
-// The number that the digits in front are, if it is below 2^32, and what follows them. It is 0
+// The number that the first digits are, if it is below 2^32, and what follows them. It is 0
 // where there are none.
 fn digits(text: &[u8]) -> Option<(u64, &[u8])>
     ensures some { IfSome result (λ p. (p.0 < 2 ^ 32)

@@ -70,7 +70,7 @@ pub enum NoVerdict {
     TooManyLines,
 }
 
-// The verdict on a line that cannot be one of a dump, after so many lines.
+// The verdict on a line that cannot be one of a dump, after this number of lines.
 fn refusal(read: u64) -> Result<Verdict, NoVerdict>
     requires { read < 4294967296 }
     ensures { result ≡ refusal_after read }

@@ -173,7 +173,7 @@ fn check_end<R: Abort + Threads + Wait + Sync>(
     );
 }
 
-// How many bytes answer the lines that end within so many bytes.
+// How many bytes the replies to the lines have that end within this number of bytes.
 fn answered(row: Row, taken: usize) -> usize {
     let mut left = taken;
     let mut bytes = 0usize;
@@ -187,7 +187,7 @@ fn answered(row: Row, taken: usize) -> usize {
     bytes
 }
 
-// How a replay of so many bytes of a row ends, no line of which begins with another line of the
+// How a replay of this number of bytes of a row ends, no line of which begins with another line of the
 // language, and how many bytes answer them. The last line may be without its line feed.
 fn end_of_prefix(row: Row, taken: usize) -> (Exit, usize) {
     let mut left = taken;
@@ -207,8 +207,8 @@ fn end_of_prefix(row: Row, taken: usize) -> (Exit, usize) {
     (Exit::Done, bytes)
 }
 
-// The same where the source fails if it is asked again once it told its end. It is asked again after a last line
-// without its line feed.
+// How a replay ends where the source fails if it is asked again once it told its end. It is asked again after a last
+// line without its line feed.
 fn end_if_asked_again(row: Row, taken: usize, cut: bool) -> (Exit, usize) {
     match end_of_prefix(row, taken) {
         (Exit::Done, bytes) if cut => (Exit::ReadFault, bytes),

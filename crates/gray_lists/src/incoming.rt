@@ -56,8 +56,8 @@ impl Lists {
         }
     }
 
-    /// Makes room for so many wrappers more, before they are made. Room for more than 4,294,967,295
-    /// is refused as want of memory; there are never so many cells (our choice).
+    /// Makes room for this number of wrappers more, before they are made. Room for more than 4,294,967,295
+    /// is refused as want of memory; there are never more cells than that (our choice).
     pub fn reserve(&mut self, wrappers: u64) -> Result<(), NoMemory>
         ensures ok { OnOk result
             (self.new ≡ record self.old { room = self.old.room + wrappers }) }

@@ -40,7 +40,7 @@ Gives xs ys next.TooLong line = (ys ≡ xs) × IsTooLong xs
 Gives xs ys next.NotAscii line = (ys ≡ xs) × IsNotAscii xs
 Gives xs ys next.ReadFault line = ys ≡ xs
 
--- the same of bytes that are told, or not
+-- what was given, of a source that tells its bytes or does not
 abbrev pub GivesKnown : Option (List ℕ) → Option (List ℕ) → Next → List ℕ → Type 0
 GivesKnown None new result line = ⊤
 GivesKnown (Some xs) None result line = ⊥

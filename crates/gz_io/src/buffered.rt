@@ -73,7 +73,7 @@ impl<K: Sink + Drop> Buffered<K> {
         true
     }
 
-    // Holds a front of the piece, as much as there is room for, and answers its length.
+    // Holds a prefix of the piece, as much as there is room for, and returns its length.
     fn hold(&mut self, piece: &[u8]) -> usize
         ensures most { result ≤ length piece.now }
         ensures some { self.old.held ≡ [] → 0 < length piece.now → 0 < result }
@@ -104,7 +104,7 @@ impl<K: Sink + Drop> Buffered<K> {
         Ok(())
     }
 
-    // Holds a front of a piece for which there is not room, where need be after it hands on all.
+    // Holds a prefix of a piece for which there is not room, where need be after it hands on all.
     #[cold]
     fn put_front(&mut self, piece: &[u8]) -> Result<usize, Failed>
         ensures bound { WritesAtMost result piece.now }

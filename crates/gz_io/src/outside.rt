@@ -19,7 +19,7 @@ pub trait Source {
     // how often it failed; this never falls
     ghost faults: { Self → ℕ };
 
-    /// Puts the next bytes into the front of the buffer and answers how many. None into a buffer
+    /// Puts the next bytes at the start of the buffer and returns how many. None into a buffer
     /// with room is the end of the input. A failed call gives no byte and loses none.
     fn take(&mut self, buf: &mut [u8]) -> Result<usize, Failed>
         ensures bound { ReadsAtMost result buf.new }
@@ -36,7 +36,7 @@ pub trait Sink {
     // how many of the bytes written are held back
     ghost behind: { Self → ℕ };
 
-    /// Writes a front of the piece and answers its length, which is 0 for an empty piece alone.
+    /// Writes a prefix of the piece and returns its length, which is 0 for an empty piece alone.
     fn put(&mut self, piece: &[u8]) -> Result<usize, Failed>
         ensures bound { WritesAtMost result piece.now }
         ensures some { IfOk result (λ n. 0 < length piece.now → 0 < n) }
@@ -50,7 +50,7 @@ pub trait Sink {
         ensures cause { HasCause (faults self.old) (faults self.new) result };
 }
 
-// Writes what is left of a piece, or fails after a front of it.
+// Writes what is left of a piece, or fails after a prefix of it.
 #[cold]
 fn write_rest<K: Sink>(sink: &mut K, piece: &[u8]) -> Result<(), WriteFault>
     ensures ok { OnOk result (Appends (K.written sink.old) (K.written sink.new) piece.now) }
@@ -67,7 +67,7 @@ fn write_rest<K: Sink>(sink: &mut K, piece: &[u8]) -> Result<(), WriteFault>
     Ok(())
 }
 
-/// Writes the whole piece, or fails after a front of it.
+/// Writes the whole piece, or fails after a prefix of it.
 pub fn write_all<K: Sink>(sink: &mut K, piece: &[u8]) -> Result<(), WriteFault>
     ensures ok { OnOk result (Appends (K.written sink.old) (K.written sink.new) piece.now) }
     ensures err { OnErr result (AppendsFront (K.written sink.old) (K.written sink.new) piece.now) }

@@ -1,4 +1,4 @@
-// What is answered.
+// Replies and reports.
 use crate::lists::{DumpLines, Groups, NameList, Names64};
 use crate::names::Name;
 use crate::numbers::{CompNo, ZoneNo};

@@ -57,7 +57,7 @@ with_taken h a freed bits = record h {
 abbrev pub is_absent : Shape → Place → Bool
 is_absent s p = is_none (cell_of s p)
 
--- the same, by the arenas as they are kept
+-- whether no present cell is at a place of the arenas as they are kept
 abbrev pub is_absent_in : List Arena → Place → Bool
 is_absent_in arenas p = is_none (cell_in_arena (slice_get (arena_shapes arenas) p.0) p.1)
 

@@ -80,7 +80,7 @@ fn run_both<R: Threads + Wait + Sync, H: Graph + Sync, L: PlaceList + Sync, G: G
 }
 
 /// Marks black, by two callers, the cells of marking zones that edges reach from the cells of `from`,
-/// through cells of marking zones that are not black. What is left is told by `HasMarked`: which cells
+/// through cells of marking zones that are not black. `HasMarked` tells what is left: which cells
 /// are black, that each cell of `from` and each cell won was scanned once, and what lies outside.
 /// `AreShared` tells it for each caller and for main, which tries what the callers left: what it began
 /// with, won and found outside, that it scanned each cell that it won, once, and no other, and that what

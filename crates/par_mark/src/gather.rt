@@ -18,7 +18,7 @@ use mark_words::{Marks, PlaceList, Seat};
 use std::alloc::Global;
 use std::collections::VecDeque;
 
-/// Lists for a caller that begins with these tries: room for so many tries, and spare places for what
+/// Lists for a caller that begins with these tries: room for that number of tries, and spare places for what
 /// it wins and finds outside.
 pub(crate) fn new_lists(
     alloc: Global,

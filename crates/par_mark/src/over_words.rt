@@ -15,7 +15,7 @@ use std::marker::Brand;
 use std::sync::Wait;
 use std::thread::Threads;
 
-// The same, with a place list that is what may be tried.
+// Marks with a place list that is what may be tried.
 fn mark_listed<R: Threads + Wait + Sync, H: Graph + Sync, L: PlaceList + Sync, G: Gate + Sync>(
     rt: &R,
     alloc: Global,

@@ -18,7 +18,7 @@ use gz_io::{FreeGate, Gate};
 use mark_words::{Marks, PlaceList, Seat};
 use std::sync::Wait;
 
-/// One caller's turns: until it finds nothing to try, or has made so many.
+/// One caller's turns: until it finds nothing to try, or has made this number of tries.
 pub(crate) fn run<R: Wait, H: Graph, L: PlaceList, G: Gate>(
     rt: &R,
     heap: &H,

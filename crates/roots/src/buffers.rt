@@ -60,7 +60,7 @@ fn count_items(counts: &mut [usize; 64], counted: &mut ZoneSet, items: &[(ZoneNo
     }
 }
 
-// Takes memory for so many places more in each zone's buffer.
+// Takes memory for this number of places more in each zone's buffer.
 fn reserve_all(
     buffers: &mut [Vec<Place>],
     slots: &[(ZoneNo, Place)],
@@ -78,7 +78,7 @@ fn reserve_all(
     reserve_counted(buffers, counted, &counts)
 }
 
-// Takes memory for so many places more in the buffers of some zones.
+// Takes memory for this number of places more in the buffers of some zones.
 fn reserve_counted(
     buffers: &mut [Vec<Place>],
     zones: ZoneSet,

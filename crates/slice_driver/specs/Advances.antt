@@ -35,7 +35,7 @@ pub record UnitsDone (w : World) (n : ℕ) (reports : List Report) (new : Collec
   pub valid : IsValid after
   pub represents : Represents new flying after
 
--- the same in each valid world that the collector stood for
+-- this number of units was done in each valid world that the collector stood for
 abbrev pub DoesUnits : CollectorState → (ℕ → Option Bits) → ℕ → List Report → CollectorState → (ℕ → Option Bits)
     → Type 0
 DoesUnits old flown n reports new flying = (w : World) → IsValid w → Represents old flown w

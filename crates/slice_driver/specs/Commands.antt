@@ -57,7 +57,7 @@ waking (Some x) collection = with_waking x collection
 abbrev pub with_colours : HeapState → List Bits → HeapState
 with_colours h colours = with_marks h colours no_places
 
--- the same present cells are black
+-- a present cell is black exactly where it was
 abbrev pub KeepsBlack : HeapState → HeapState → Type 0
 KeepsBlack h k = (p : Place) → IsPresent h.shape p → IsBlack k p ↔ IsBlack h p
 

@@ -45,7 +45,7 @@ IsGrayBefore h zones zone n z x = (i : ℕ) × (i < n) × IsGrayAt h zones zone 
 abbrev pub IsGrayOf : HeapState → ZoneSet → ℕ → ℕ → Place → Type 0
 IsGrayOf h zones zone z x = (i : ℕ) × IsGrayAt h zones zone i z x
 
--- the same for the wrappers of the first zones, outside of these
+-- it is a gray wrapper of one of the first zones, which is none of these, and its target's zone is this one
 abbrev pub IsGrayAmong : HeapState → ZoneSet → ℕ → ℕ → Place → Type 0
 IsGrayAmong h zones n z x = (w : ℕ) × (w < n) × (HasZone zones.bits w → ⊥) × IsGrayOf h zones w z x
 

@@ -52,7 +52,7 @@ KeepsLooks c flown d flying = (r : RunState) (w : World) (k : Collection) → Re
     → w.collection ≡ Some k → r.formed ≡ false → AreLookedAt (heap_with c flown) c r w k
     → AreLookedAt (heap_with d flying) d r w k
 
--- the same edges are noted and the same wrappers were looked at, and no zone had its grouping step but where each
+-- no edge more is noted and no wrapper more was looked at, and no zone had its grouping step but where each
 -- wrapper was looked at
 pub record HasSameLooks (c d : CollectorState) : Type 0 where
   pub zones_are : d.edges.zones ≡ c.edges.zones

@@ -37,7 +37,7 @@ use std::alloc::Global;
 use sweep_groups::GroupOrder;
 use zones::State;
 
-// For so many names of gray cells memory is taken before they are listed.
+// The number of names of gray cells for which memory is taken before they are listed.
 const NAMES_AHEAD: usize = 64;
 
 // What the end of a group did.
@@ -191,7 +191,7 @@ fn report_arena(heap: &mut Heap, arena: u32, taken: Taken, report: &mut Option<R
     report_first(heap, arena, taken, report);
 }
 
-// The same, where no arena is reported there.
+// Takes an arena in, where no arena is reported in that place.
 #[cold]
 fn report_first(heap: &mut Heap, arena: u32, taken: Taken, report: &mut Option<Report>)
     requires out { is_some (out_of heap.old.shape arena) ≡ true }
@@ -247,7 +247,7 @@ fn hand_out_group(alloc: Global, heap: &mut Heap, group: ZoneSet) -> Result<Opti
 }
 
 // Where no arena is out any more, the zones that were swept are finished; where no group is left
-// either, they are in no collection. True where that is so.
+// either, they are in no collection, and true is returned.
 pub(crate) fn end_sweeping(heap: &mut Heap, order: &GroupOrder) -> bool
     ensures { EndsSweeping heap.old order.now result heap.new }
 {

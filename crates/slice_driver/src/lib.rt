@@ -43,8 +43,8 @@
 //     next_out           the lowest arena that is out is due: it is taken in
 //     advance_one        the unit that is left: a grouping step, or the current group ends
 //
-// A quiet unit leaves each world as it is, so many are told like one, and no report is built or moved for
-// them.
+// A quiet unit leaves each world as it is, so one definition tells of any number of them, and no report is
+// built or moved for them.
 //
 // So a group is grouped once black marking rests, and ends once all of its marking rests and no arena
 // of the group before is out. Each unit lowers one number (`units_left`), which is below 2^64

@@ -206,7 +206,7 @@ fn result_of(outcome: Result<Reply, CmdFault>) -> Result<Reply, SessionFault>
     }
 }
 
-// Returns whether a command has room for what it may make, when so many cells were made.
+// Returns whether a command has room for what it may make, when this number of cells was made.
 fn has_room(made: u64, cmd: &GraphCmd) -> bool
     ensures room { IsTrue result → (h : HeapState) → h.made ≡ made → HasRoom h cmd.now }
     ensures full { result ≡ false → 4294967295 ≤ made }

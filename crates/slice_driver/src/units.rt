@@ -35,7 +35,7 @@ impl Collector {
     ///    arenas of the group are handed to sweeping with their bits.
     /// It reads at most nine edges, and eight for each gray cell outside marking zones that turns black.
     ///
-    /// Only the end of a group takes memory, all of it before anything changes: so memory is wanted
+    /// Only the end of a group takes memory, all of it before anything changes: so memory runs out
     /// only where steps 1 to 5 have no work, and then nothing is done.
     pub fn unit<F: Flight, L: Ledger>(
         &mut self,

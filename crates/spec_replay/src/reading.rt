@@ -12,14 +12,14 @@ use std::fmt::{self, Display, Formatter, Write};
 /// How a replay ends (statuses are those of gczone).
 #[derive(Clone, Copy, Debug, PartialEq, Eq)]
 pub enum ReplayEnd {
-    /// The input was read to its end, and every line was answered.
+    /// The input was read to its end, and every line has its reply.
     Done,
     /// This line, counted from 1, is no line of the language.
     BadLine(u64),
     ReadFault,
     WriteFault,
     NoMemory,
-    /// 2^64 - 1 lines were answered.
+    /// 2^64 - 1 lines have their replies.
     TooManyLines,
 }
 

@@ -31,8 +31,8 @@ impl Model for StormSource {
 }
 
 impl StormSource {
-    /// The source of the storm with this seed and so many drawn lines. A seed of 2^31 or more draws what its remainder
-    /// by 2^31 does.
+    /// The source of the storm with this seed and number of drawn lines. A seed of 2^31 or more draws what its
+    /// remainder by 2^31 does.
     pub fn new(seed: u32, lines: u32) -> Self
         ensures { result ≡ storm_text seed lines }
     {

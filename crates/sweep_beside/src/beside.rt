@@ -19,7 +19,7 @@ use std::thread::Threads;
 use sweep_board::{Board, HelperSeat, InFlight, MainSeat};
 use sweeping::{MainSweeper, Sweeper, Sweeping};
 
-// For so many arenas one helper more starts.
+// The number of arenas for which one helper more starts.
 const ARENAS_A_HELPER: usize = 1024;
 
 /// What main does while arenas are out, until none is. Its result stands in its fields.
@@ -99,7 +99,7 @@ fn work_on<'b, R: Threads + Wait + Sync, G: Gate + Sync, W: Works + Send>(
     (main, own_seat)
 }
 
-// How many helpers are of use for so many arenas: starting a thread takes longer than sweeping some hundred arenas.
+// How many helpers are of use for these arenas: starting a thread takes longer than sweeping some hundred arenas.
 fn most_helpers(arenas: usize) -> usize
     ensures { result ≡ div_ceil arenas 1024 }
 {

@@ -26,7 +26,7 @@ pub record AnswersCommand {T : Type 0} (cmd : Cmd) (old : CollectorState) (flown
   pub memory : result ≡ Err fault.Memory → EachWorld old flown (λ w. WritesStart w cmd p q)
   pub write : result ≡ Err fault.Write → EachWorld old flown (λ w. WritesFront w cmd p q)
 
--- the same of a command whose units may be left to be done
+-- what holds once a command was begun whose units may be left to be done
 pub record StartsCommand {T : Type 0} (cmd : Cmd) (left : Option Pending) (old : CollectorState)
     (flown : ℕ → Option Bits) (new : CollectorState) (flying : ℕ → Option Bits) (p q : Option (List ℕ))
     (result : Result T AnswerFault) : Type 0 where

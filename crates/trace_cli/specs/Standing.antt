@@ -165,7 +165,7 @@ StopsSo (stop.HandsOut jobs) e m i written writes behind =
     Standing e m i written writes (outs_of jobs) (flown_by jobs) × Ascend (outs_of jobs)
 StopsSo (stop.Over x) e m i written writes behind = HasEnded e x m i written writes behind
 
--- the same of what the loop leaves behind: why it is over, or the jobs to be swept, or none
+-- where the loop stands by what it leaves behind: why it is over, or the jobs to be swept, or none
 abbrev pub RanSo : Option Exit → Option (List Job) → Entry → Machine → Input → Option (List ℕ) → ℕ → ℕ → Type 0
 RanSo (Some x) handed e m i written writes behind = HasEnded e x m i written writes behind
 RanSo None (Some jobs) e m i written writes behind =

@@ -11,6 +11,6 @@ use Rattle.slice_driver.specs.UnitsToCome.{IsWithin}
 abbrev pub EachWorld : CollectorState → (ℕ → Option Bits) → (World → Type 0) → Type 0
 EachWorld c flown P = (w : World) → IsValid w → Represents c flown w → P w
 
--- the same of each of them in which the collection that runs is within its bound on units
+-- this holds of each such world in which the collection that runs is within its bound on units
 abbrev pub EachWorldWithin : CollectorState → (ℕ → Option Bits) → (World → Type 0) → Type 0
 EachWorldWithin c flown P = (w : World) → IsValid w → Represents c flown w → IsWithin c flown w → P w

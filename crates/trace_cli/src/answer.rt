@@ -1,4 +1,4 @@
-// What a command is answered.
+// The reply to a command.
 ghost use Rattle.std.specs.Prelude.{◌≡◌, ◌≢◌, None, OnOk, OnErr, false};
 ghost use Rattle.std.specs.Io.KnownBytes.{Appends};
 ghost use Rattle.gz_io.specs.Causes.{AppendsFront};
@@ -27,7 +27,7 @@ use trace_lang::write_reply;
 pub enum AnswerFault {
     /// Memory was wanted: the reports of whole units were written, and nothing else.
     Memory,
-    /// A front of the answer was written.
+    /// A prefix of the reply was written.
     Write,
 }
 

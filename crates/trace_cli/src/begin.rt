@@ -43,7 +43,7 @@ pub fn gc<F: Sweeping, K: Sink, L: Ledger>(
     }
 }
 
-/// Begins a collection of these zones, whose units are to be answered, or writes why not.
+/// Begins a collection of these zones, whose units are still to be done, or writes why not.
 #[inline(never)]
 pub fn begin_collect<F: Sweeping, K: Sink, L: Ledger>(
     alloc: Global,

@@ -15,7 +15,7 @@ pub struct Helpers {
 }
 
 impl Helpers {
-    /// So many helpers: for any arenas where the words ask for helpers, and else for 16,384 arenas or more.
+    /// This number of helpers: for any arenas where the words ask for helpers, and else for 16,384 arenas or more.
     pub fn of(words: &[&str], most: u8) -> Self
         ensures most { result.most ≡ most }
         ensures fewest_arenas { (result.fewest_arenas ≡ 0) ⊎ (result.fewest_arenas ≡ 16384) }

@@ -8,10 +8,10 @@
 //     session    a replay as main's work beside helpers
 //     helpers    how many helpers sweep beside main
 //     lines      the reading loop: lines are started and gone on with, until something stands in the way
-//     answer     what one line is answered at once
+//     answer     the reply to a line that comes at once
 //     begin      the lines that begin a collection or go on with one
 //     turns      the units that a line asks for, each report written as it comes
-//     pending    what is left to be answered of a line
+//     pending    what is left to do of a line
 //     dump       the dump of the heap, when no zone is marking
 //     dumps      under `check`, a dump of colours is read instead, and its verdict written (`dump_cli`)
 //     storm      a generated trace, and its summary
@@ -46,7 +46,7 @@
 //
 // Why each report is lawful by itself: a failed write, or want of memory, ends the replay between two reports, or
 // within one. What was written then is the start of a lawful answer, since each unit is lawful in the world that the
-// units before it lead to. Memory is wanted only by a command that is not refused. Whatever the exit, the arenas that
+// units before it lead to. Only a command that is not refused takes memory. Whatever the exit, the arenas that
 // lie on a board are taken from it, helpers' seats are joined and the board is closed, and nothing is written of it.
 #![tactic(auto)]
 

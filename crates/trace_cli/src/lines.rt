@@ -1,4 +1,4 @@
-// The reading loop: lines are answered one after the other, until something stands in the way.
+// The reading loop: it replies to one line after the other, until something stands in the way.
 ghost use Rattle.std.specs.Prelude.{◌≡◌, ◌<◌, ◌+◌, ◌⊎◌, [], Err, Contains, IfNone, IfSome, None, OnErr, OnOk};
 ghost use Rattle.std.specs.Prelude.{Some};
 ghost use Rattle.std.specs.Io.KnownBytes.{Appends};
@@ -52,7 +52,7 @@ fn flush_before<S: CommandSource, K: Sink>(source: &S, sink: &mut K) -> Result<(
     Ok(())
 }
 
-// The exit at a line outside the language, after so many lines.
+// The exit at a line outside the language, after this number of lines.
 fn refusal(answered: u64) -> Exit
     requires { answered < 4294967296 }
     ensures { ((answered ≡ 4294967295) × (result ≡ Exit.TooManyLines))
@@ -64,7 +64,7 @@ fn refusal(answered: u64) -> Exit
     Exit::BadLine(answered + 1)
 }
 
-// Does a command, after so many lines, and writes the answer, or leaves the units that it asks for.
+// Does a command, after this number of lines, and writes the answer, or leaves the units that it asks for.
 #[inline(always)]
 fn start_next<F: Sweeping, K: Sink, L: Ledger>(
     alloc: Global,

@@ -8,7 +8,7 @@ use slice_driver::Collector;
 #[derive(Drop)]
 pub struct Machine {
     pub collector: Collector,
-    /// How many lines were answered whole.
+    /// How many lines have their whole reply.
     pub answered: u64,
     /// What is left of the line that was read last.
     pub pending: Option<Pending>,

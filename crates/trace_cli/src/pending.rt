@@ -1,17 +1,17 @@
-// What is left to be answered of a line.
+// What is left to do of a line.
 ghost use Rattle.std.specs.Prelude.{◌≡◌, ◌<◌, ◌≤◌, ◌+◌, ◌^◌};
 ghost use Rattle.trace_cli.specs.Pending.{after, done_of, limit_of, reply_of};
 
 use gz_names::Reply;
 
-/// What is left to be answered of a line that asks for units of a collection: these units, and its last line.
+/// What is left to do of a line that asks for units of a collection: these units, and its last line.
 #[derive(Clone, Copy, Debug, PartialEq, Eq)]
 pub enum Pending {
     /// `collect`: units until the collection is over.
     Collect,
-    /// `slice`: at most so many units more, after so many.
+    /// `slice`: at most `left` units more, after `done` of them.
     Slice { left: u64, done: u64 },
-    /// `finish`: units until the collection is over, after so many.
+    /// `finish`: units until the collection is over, after `done` of them.
     Finish { done: u64 },
 }
 

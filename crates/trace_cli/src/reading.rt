@@ -106,7 +106,7 @@ pub fn run_on<
     unreachable!()
 }
 
-/// Goes on with a run until it is over, beside so many helpers. The steps of its answers are counted in a new ledger.
+/// Goes on with a run until it is over, beside this number of helpers. A new ledger counts the steps of its answers.
 pub fn finish_run<
     L: Ledger + Send,
     R: Threads + Wait + Sync,
@@ -194,7 +194,7 @@ fn finish_trace<
     )
 }
 
-// Answers each line of a source, in order, beside so many helpers.
+// Answers each line of a source, in order, beside this number of helpers.
 fn answer_lines<
     L: Ledger + Send,
     R: Threads + Wait + Sync,

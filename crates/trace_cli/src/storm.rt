@@ -1,4 +1,4 @@
-// A generated trace is answered, and its summary written.
+// The replay of a generated trace, and its summary.
 ghost use Rattle.std.specs.Prelude.{◌≡◌, ◌<◌, None, IfErr, IfOk, Ok, length};
 ghost use Rattle.gz_io.specs.Causes.{Rose};
 ghost use Rattle.trace_cli.specs.Storms.{IsLeftByStorm, IsSummary, StopsStorm, Storms, summary_text};
@@ -75,7 +75,7 @@ fn summary_text(alloc: Global, summary: &Summary) -> Result<Vec<u8>, NoMemory>
     Ok(text)
 }
 
-// Answers each line of a storm beside so many helpers, and drops the answers. Its last collection is over
+// Replies to each line of a storm beside this number of helpers, and drops the answers. Its last collection is over
 // then, and no arena is out.
 fn run_storm<L: Ledger + Send, R: Threads + Wait + Sync, G: Gate + Sync>(
     rt: &R,
@@ -135,7 +135,7 @@ fn summary_of(
     })
 }
 
-// The summary of a storm that is answered beside so many helpers.
+// The summary of a storm that runs beside this number of helpers.
 fn sum_up<L: Ledger + Send, R: Threads + Wait + Sync, G: Gate + Sync>(
     rt: &R,
     alloc: Global,
@@ -158,7 +158,7 @@ fn sum_up<L: Ledger + Send, R: Threads + Wait + Sync, G: Gate + Sync>(
     }
 }
 
-/// Answers the trace of a storm beside so many helpers, drops the answers, and writes its summary.
+/// Replays the trace of a storm beside this number of helpers, drops the answers, and writes its summary.
 pub fn answer_storm<L: Ledger + Send, R: Threads + Wait + Sync, K: Sink, G: Gate + Sync>(
     rt: &R,
     alloc: Global,

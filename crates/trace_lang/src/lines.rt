@@ -134,7 +134,7 @@ fn any_command(line: &[u8]) -> Option<Cmd>
     command(word, rest)
 }
 
-// The command of a line that begins with a row's word, of so many bytes, and a space.
+// The command of a line that begins with a row's word, of this number of bytes, and a space.
 #[inline(always)]
 fn command_after<R: Row>(line: &[u8], len: usize) -> Option<Cmd>
     requires front { StartsWith line.now (word_text R.first ++ codes " ") }
@@ -145,7 +145,7 @@ fn command_after<R: Row>(line: &[u8], len: usize) -> Option<Cmd>
     R::read(&line[len..])
 }
 
-// The same as `any_command`, in a few steps for the words that most lines begin with.
+// Returns what `any_command` would, in a few steps for the words that most lines begin with.
 #[inline(always)]
 fn command_of(line: &[u8]) -> Option<Cmd>
     ensures some { IfSome result (Spells line.now) }

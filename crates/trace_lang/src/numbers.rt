@@ -1,4 +1,4 @@
-// Numbers at the front of a text.
+// Numbers that a text begins with.
 ghost use Rattle.std.specs.Prelude.{◌≡◌, ◌<◌, ◌≤◌, ◌+◌, ◌*◌, ◌^◌, ◌++◌, ◌∷◌, ℕ, List, IfSome, IfNone, MatchOption};
 ghost use Rattle.std.specs.Prelude.{false, drop, length, nat_lt, slice_index, if◌then◌else◌};
 ghost use Rattle.std.specs.Char.{is_ascii_digit};
@@ -6,7 +6,7 @@ ghost use Rattle.std.specs.Fmt.{decimal};
 ghost use Rattle.trace_lang.specs.Words.{IsBreak, number_word};
 ghost use Rattle.trace_lang.specs.Numbers.{front_digits, after_digits, read_on};
 
-// The number that a number goes on to by the digits in front, if it is below the limit, and what follows
+// The number that a number goes on to by the first digits, if it is below the limit, and what follows
 // them.
 #[inline(never)]
 fn digits(first: u64, text: &[u8], limit: u64) -> Option<(u64, &[u8])>
@@ -56,7 +56,7 @@ fn digit_or_more(text: &[u8]) -> u8
     }
 }
 
-// How many digits a number that may be one stands for: 1 below 10, and else 0. It is told by arithmetic, of which
+// How many digits a number that may be one stands for: 1 below 10, and else 0. Arithmetic tells it, of which
 // the compiler makes no branch, since no processor foresees whether a number has one digit or two.
 #[inline(always)]
 fn count_digit(number: u8) -> usize

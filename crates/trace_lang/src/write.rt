@@ -268,7 +268,7 @@ pub fn write_name<K: Sink>(sink: &mut K, name: Name) -> Result<(), WriteFault>
     write_all(sink, tail.text())
 }
 
-/// Writes a reply with its line feed, or fails after a front of it.
+/// Writes a reply with its line feed, or fails after a prefix of it.
 #[inline(always)]
 pub fn write_reply<K: Sink>(sink: &mut K, reply: &Reply) -> Result<(), WriteFault>
     ensures ok { OnOk result
@@ -355,7 +355,7 @@ fn write_stopped<K: Sink>(sink: &mut K, zones: ZoneSet) -> Result<(), WriteFault
     end_line(&mut piece, sink)
 }
 
-/// Writes a report with its line feed, or fails after a front of it.
+/// Writes a report with its line feed, or fails after a prefix of it.
 pub fn write_report<K: Sink>(sink: &mut K, report: &Report) -> Result<(), WriteFault>
     ensures ok { OnOk result
         (Appends (K.written sink.old) (K.written sink.new) (line_of (report_text report.now))) }

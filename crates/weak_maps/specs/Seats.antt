@@ -46,14 +46,14 @@ pub record AreSeated (lists : List ListingState) (seats : List Seat) : Type 0 wh
   pub seated : (j i x : ℕ) → entry_in lists j i ≡ Some x → slice_get seats x ≡ Some (record { list = j; at = i })
   pub within : AreWithin lists
 
--- the same but for one entry, which stands nowhere
+-- each entry but one stands in one list, at its seat; that one stands nowhere
 pub record AreOthersSeated (x : ℕ) (lists : List ListingState) (seats : List Seat) : Type 0 where
   pub stands : (y : ℕ) (seat : Seat) → y ≢ x → slice_get seats y ≡ Some seat → entry_in lists seat.list seat.at ≡ Some y
   pub seated : (j i y : ℕ) → entry_in lists j i ≡ Some y → (slice_get seats y ≡ Some (record { list = j; at = i }))
       × (y ≢ x)
   pub within : AreWithin lists
 
--- the same, where what stands at a hole does not count
+-- each entry but one stands in one list, at its seat; what stands at a hole does not count
 pub record AreSeatedBut (x : ℕ) (hole : Seat) (lists : List ListingState) (seats : List Seat) : Type 0 where
   pub stands : (y : ℕ) (seat : Seat) → y ≢ x → slice_get seats y ≡ Some seat
       → (entry_in lists seat.list seat.at ≡ Some y) × (seat.list ≡ hole.list → seat.at ≢ hole.at)
@@ -86,7 +86,7 @@ pub record NoMoreLeft (old new : List ListingState) : Type 0 where
   pub only : (j : ℕ) (n : ListingState) (c : MarkColour) → slice_get new j ≡ Some n → IsLeft n c → (l : ListingState)
       × (slice_get old j ≡ Some l) × IsLeft l c
 
--- the same, where one list came, after the others
+-- in no list entries are to be looked at where none were, and one list came, after the others
 pub record NoneLeftInNew (old new : List ListingState) : Type 0 where
   pub sized : length new ≡ length old + 1
   pub only : (j : ℕ) (n : ListingState) (c : MarkColour) → slice_get new j ≡ Some n → IsLeft n c → (l : ListingState)

@@ -105,7 +105,7 @@ impl Wrappers {
             → list_of self.new z
             ≡ without_dead (bit_at zones.bits z) is_dead (list_of self.old z) }
 
-        // The same of a test that may answer this or that.
+        // If the test may answer this or that, each wrapper goes or stays by the answer for it.
         ensures kept { (z : ℕ) → DropsDead (bit_at zones.bits z) (D.post dead)
             (list_of self.old z) (list_of self.new z) }
         ensures apart { AreApart self.old.lists }
