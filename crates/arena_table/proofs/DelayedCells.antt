@@ -127,7 +127,7 @@ places_from-push_zero n [] = ap (λ ys. ys ++ []) (at_bits-zero (places_of n))
 places_from-push_zero n (mask ∷ masks) = ap (λ ys. at_bits mask (places_of n) ++ ys)
     (places_from-push_zero (suc n) masks)
 
--- so many places there are at most
+-- there are at most this number of places
 pub length-places_from : (n : ℕ) (masks : List ℕ) → length (places_from n masks) ≤ 64 * length masks
 length-places_from n [] = omega arith
 length-places_from n (mask ∷ masks) =

@@ -29,7 +29,7 @@ bit_at-alloc_word (Some cell ∷ slots) (suc k) = bit_at-suc (1 + 2 * alloc_word
     ∙ (ap (λ w. bit_at w k) (let half : (1 + 2 * alloc_word_of slots) / 2 ≡ alloc_word_of slots = omega arith in half)
     ∙ bit_at-alloc_word slots k)
 
--- the word of so many slots
+-- the word of this number of slots
 pub alloc_word_of-fits : (slots : List (Option CellState)) → alloc_word_of slots < 2 ^ length slots
 alloc_word_of-fits [] = omega arith
 alloc_word_of-fits (None ∷ slots) =

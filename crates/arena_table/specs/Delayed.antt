@@ -43,7 +43,7 @@ pub record DelayedSets : Type 0 where
 abbrev pub delayed_of : DelayedSets → Piles
 delayed_of sets = record { black = sets.black.places; gray = sets.gray.places; wake = sets.wake.places }
 
--- each set has memory for the cells of so many arenas
+-- each set has memory for the cells of this number of arenas
 pub record AreCovered (sets : DelayedSets) (arenas : ℕ) : Type 0 where
   pub black : arenas ≤ sets.black.room
   pub gray : arenas ≤ sets.gray.room

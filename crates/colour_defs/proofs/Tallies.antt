@@ -11,7 +11,7 @@ use Rattle.colour_defs.specs.World.{Collection, Preparation, World}
 use Rattle.colour_defs.specs.Lawful.{AreLawfulUnits, Finishes, IsLawfulReport, IsLawfulUnit, last, quiet, says}
 use Rattle.colour_defs.specs.Lawful.{with_sweep}
 
--- so many arenas more were swept, and nothing is prepared; a collection that runs is the one that ran
+-- this number of arenas more were swept, and nothing is prepared; a collection that runs is the one that ran
 pub record SweepsMore (w v : World) (n : ℕ) : Type 0 where
   pub none_prepared : v.preparing ≡ None
   pub tally : (after : Collection) → v.collection ≡ Some after → (before : Collection)

@@ -1,4 +1,4 @@
--- Numbers and names at the front of a text.
+-- Numbers and names that a text begins with.
 use Rattle.std.proofs.Common.{
   ◌≡◌,
   ◌≢◌,

@@ -19,7 +19,7 @@ use Rattle.gz_names.specs.declared.dumps.DumpColour.TheVariants.{Black, Gray}
 use Rattle.gz_names.specs.DumpTexts.{FitsName, SpellsLine, colour_text, dump_text, name_text}
 use Rattle.dump_check.specs.Digits.{read_on}
 
--- at most so many bytes that a line may have
+-- at most this number of bytes that a line may have
 pub record IsFine (n : ℕ) (xs : List ℕ) : Type 0 where
   pub short : length xs ≤ n
   pub plain : IsPlain xs

@@ -71,7 +71,7 @@ plain_both : (xs ys : List ℕ) → IsPlain xs → IsPlain ys → IsPlain (xs ++
 plain_both [] ys p q = q
 plain_both (x ∷ xs) ys p q = (p.0, p.1, plain_both xs ys p.2 q)
 
--- a plain front goes on with what is plain of the next 16 bytes
+-- a plain prefix goes on with what is plain of the next 16 bytes
 pub plain_run : (xs : List ℕ) (i n : ℕ) → IsPlain (take i xs) → n ≡ prefix_len is_plain (take 16 (drop i xs))
     → IsPlain (take (i + n) xs)
 plain_run xs i n p e =
@@ -96,7 +96,7 @@ run_stop xs i n room e few =
     subst Stops at (stops (get_or next n 0) (ap (λ k. is_plain (get_or next k 0)) e ∙ prefix_len_stops is_plain next 0
     short))
 
--- a byte at the end of a plain front of some of the bytes
+-- a byte at the end of a plain prefix of some of the bytes
 pub high_byte : (xs : List ℕ) (m n : ℕ) → n < m → Stops (get_or (take m xs) n 0) → get_or xs n 0 ≢ 10
     → 128 ≤ get_or xs n 0
 high_byte xs m n h (inl e) o = absurd (o (sym (get_or-take m xs n 0 h) ∙ e))

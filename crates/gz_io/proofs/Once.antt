@@ -7,7 +7,7 @@ use Rattle.gz_io.specs.declared.reader.Next.{Next}
 use Rattle.gz_io.specs.declared.reader.Next.TheVariants as next
 use Rattle.gz_io.proofs.Plain.{plain_get, at_seam, before_seam, seam_fits}
 
--- a plain front of bytes, and the byte behind it
+-- a plain prefix of bytes, and the byte behind it
 record Front (xs line : List ℕ) (byte : ℕ) : Type 0 where
   rest : List ℕ
   bytes : xs ≡ line ++ byte ∷ rest
@@ -21,7 +21,7 @@ stops_no_plain : (b : ℕ) → Stops b → b < 128 → b ≢ 10 → ⊥
 stops_no_plain b (inl e) l o = o e
 stops_no_plain b (inr h) l o = omega arith
 
--- the front before such a byte is the longest
+-- the prefix before such a byte is the longest
 longest : (xs l m : List ℕ) (b c : ℕ) → Front xs l b → Front xs m c → Stops b → length m ≤ length l
 longest xs l m b c f g s = elim (cases_lt (length l) (length m)) [
   | inl h ↦ (

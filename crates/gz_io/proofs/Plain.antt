@@ -58,7 +58,7 @@ not_ascii xs h =
       high = h.4;
     }
 
--- what is known of a place behind a plain front
+-- what is known of a place behind a plain prefix
 pub at_seam : (xs line rest : List ℕ) (b : ℕ) → xs ≡ line ++ (b ∷ rest) → get_or xs (length line) 0 ≡ b
 at_seam xs line rest b e = ap (λ t. get_or t (length line) 0) e ∙ get_or-append_seam line b rest 0
 

@@ -16,6 +16,6 @@ pub record HasCause {T E : Type 0} (before now : ℕ) (result : Result T E) : Ty
   pub same : OnOk result (now ≡ before)
   pub failed : OnErr result (Rose before now)
 
--- known bytes grew by a front of a text
+-- known bytes grew by a prefix of a text
 abbrev pub AppendsFront : Option (List ℕ) → Option (List ℕ) → List ℕ → Type 0
 AppendsFront old new text = (part rest : List ℕ) × (text ≡ part ++ rest) × Appends old new part

@@ -10,7 +10,7 @@ use Rattle.colour_defs.specs.Step.{step_of, refusal_in}
 use Rattle.heap_core.specs.Heap.{HeapState}
 use Rattle.heap_core.specs.Shows.{Shows}
 
--- the answer gives this reply: a refusal is answered as such, and memory is wanted only where the command is not
+-- the answer gives this reply: a refusal is answered as such, and memory runs out only where the command is not
 -- refused
 abbrev pub IsAnswer : Reply → Result Reply CmdFault → Type 0
 IsAnswer r (Ok answer) = (answer ≡ r) × (refusal_in r ≡ None)

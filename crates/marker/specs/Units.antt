@@ -94,8 +94,8 @@ pub record MayMarkGray (zones : ℕ) (h : HeapState) (flown : ℕ → Option Bit
     pub invariant : MarkingInvariant (joined h flown) (pending h p)
     pub gray : GrayInvariant (joined h flown) (pending h p) lists
 
--- one kind of gray marking was tried for these zones, which reads at most so many edges: a piece of it was done; or
--- there is none, and nothing was done
+-- one kind of gray marking was tried for these zones, which reads at most this number of edges: a piece of it was done;
+-- or there is none, and nothing was done
 pub record TriesGray (did : Bool) (none : Type 0) (most zones : ℕ) (flown : ℕ → Option Bits) (h : HeapState) (p : Piles)
     (a : Incoming) (read : ℕ) (k : HeapState) (q : Piles) (b : Incoming) (now : ℕ) : Type 0 where
   pub does : MatchBool did (DoesGray (joined h flown) (pending h p) a (joined k flown) (pending k q) b)

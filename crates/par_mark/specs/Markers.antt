@@ -15,7 +15,7 @@ use Rattle.par_mark.specs.declared.lists.Lists.{Lists}
 use Rattle.par_mark.specs.Tries.{TakenWasPut}
 
 module _ (edge : ℕ × ℕ → ℕ → Option (ℕ × ℕ)) (marking : ℕ × ℕ → Bool) (P : ℕ × ℕ → Type 0) where
-  -- it has done nothing yet, and has room for so many turns
+  -- it has done nothing yet, and has room for this number of turns
   pub record IsReady (turns : ℕ) (m : Marker) : Type 0 where
     pub parts : 0 < (view_of m.seat).parts
     pub queue_parts : 0 < (view m.pass).parts

@@ -38,7 +38,7 @@ lists_of buffers = map (λ b. b.items) buffers
 abbrev pub capacities_of : List (Vec Place Global) → List ℕ
 capacities_of buffers = map (λ b. vec_capacity b) buffers
 
--- each zone's buffer has room for so many places more
+-- each zone's buffer has room for this number of places more
 abbrev pub HasRoom : List (List Place) → List ℕ → (ℕ → ℕ) → Type 0
 HasRoom lists capacities more = (z : ℕ) → z < length lists
     → length (buffer_at lists z) + more z ≤ slice_index capacities z

@@ -23,8 +23,8 @@ use Rattle.slice_driver.specs.Working.{IsStill}
 pub record AreOut (s : Shape) (outs : List (ℕ × ℕ)) : Type 0 where
   pub freed : (a word : ℕ) → Contains outs (a, word) → IsFreedWord s a word
 
--- so many units were done, with these reports in all: they are lawful, and the collector stands for the valid world
--- after them
+-- this number of units were done, with these reports in all: they are lawful, and the collector stands for the valid
+-- world after them
 pub record UnitsDone (w : World) (n : ℕ) (reports : List Report) (new : CollectorState) (flying : ℕ → Option Bits)
     : Type 0 where
   pub units : List (List Report)

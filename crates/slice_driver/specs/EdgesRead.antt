@@ -3,7 +3,8 @@ use Rattle.std.specs.Prelude.{◌+◌, ◌*◌, ◌-◌, ◌≤◌, ℕ, Bool, i
 use Rattle.heap_core.specs.Heap.{HeapState}
 use Rattle.barriers.specs.Colours.{grays_outside}
 
--- so many units read at most nine edges each, and eight for each gray cell outside marking zones that turned black
+-- this number of units read at most nine edges each, and eight for each gray cell outside marking zones that turned
+-- black
 abbrev pub ReadsFew : ℕ → ℕ → HeapState → ℕ → HeapState → Type 0
 ReadsFew n read h now k = now + 8 * grays_outside k ≤ read + 8 * grays_outside h + 9 * n
 

@@ -9,7 +9,7 @@ abbrev pub arenas_after : HeapState → Option ℕ → ℕ
 arenas_after h None = length h.colours
 arenas_after h (Some zone) = length h.colours + (if (next_place h.shape zone).0 == length h.shape.arenas then 1 else 0)
 
--- room for the slots of so many arenas
+-- room for the slots of this number of arenas
 pub record IsRoomy (c : CollectorState) (arenas : ℕ) : Type 0 where
   pub lists : 64 * arenas ≤ c.lists.room
 

@@ -34,7 +34,7 @@ outcome_of (Err (session.Refused why)) = Some (Err (fault.Refused why))
 outcome_of (Err session.NoMemory) = Some (Err fault.NoMemory)
 outcome_of (Err session.Full) = None
 
--- a step was done: at most so many units, some where a collection runs, and what they report is told
+-- a step was done: at most this number of units, some where a collection runs, and what they report is told
 pub record SessionSteps (limit : ℕ) (old : CollectorState) (flown : ℕ → Option Bits) (step : Step)
     (new : CollectorState) (flying : ℕ → Option Bits) (report : Option Report) : Type 0 where
   pub done : DoesUnits old flown step.units (told step report) new flying

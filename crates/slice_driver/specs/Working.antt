@@ -146,8 +146,8 @@ abbrev pub QuietOrNone : Bool → CollectorState → (ℕ → Option Bits) → C
 QuietOrNone true c flown d flying = GoesOn c flown [] d flying
 QuietOrNone false c flown d flying = IsStill c flown d flying × IsQuietDone c flown
 
--- so many units were done that report nothing: the worlds are as they were, and each unit lowered what is left and what
--- is to come
+-- this number of units were done that report nothing: the worlds are as they were, and each unit lowered what is left
+-- and what is to come
 pub record DoesQuietUnits (n : ℕ) (c : CollectorState) (flown : ℕ → Option Bits) (d : CollectorState)
     (flying : ℕ → Option Bits) : Type 0 where
   pub none : n ≡ 0 → IsStill c flown d flying

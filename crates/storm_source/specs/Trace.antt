@@ -77,7 +77,7 @@ line_state x =
     let y = next_state x in let row = choice_of y 16 in
     if nat_lt row 15 then words_state (row_choices row) y else next_state (next_state y)
 
--- so many lines, one after another
+-- this number of lines, one after another
 abbrev pub drawn_lines : ℕ → ℕ → List (List ℕ)
 drawn_lines zero x = []
 drawn_lines (suc n) x = drawn_line x ∷ drawn_lines n (line_state x)

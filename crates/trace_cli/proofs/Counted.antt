@@ -160,7 +160,7 @@ module _ (s : Shape) (apart : (p q : Place) (x : Name) → name_at s p ≡ Some 
 pub same_decides : (x y : Name) → Decides (same_name x y) (x ≡ y)
 same_decides x y = (same_name-is x y, λ e. subst (λ (z : Name). same_name x z ≡ true) e (same_name-refl x))
 
--- in a world that a collector stands for, so many names are present
+-- in a world that a collector stands for, this number of names are present
 module _ (c : CollectorState) (flown : ℕ → Option Bits) (w : World) (r : Represents c flown w) where
   abbrev s : Shape
   s = c.heap.shape

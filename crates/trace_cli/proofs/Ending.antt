@@ -65,7 +65,7 @@ line_writes w cmd left n begun most d g p q r (finishes c l runs b) units over w
     (finish_written d g most n w runs p q r here idle
     (subst (λ (x : Pending). Appends q r (last_line x)) l written))
 
--- a front of it was
+-- a prefix of it was
 pub line_fronts : (w : World) (cmd : Cmd) (left : Pending) (n : ℕ) (begun : World) (most : ℕ) (d : CollectorState)
     (g : ℕ → Option Bits) (p q r : Option (List ℕ)) → IsAnswering w cmd left n begun most
     → WritesUnits begun d g most n p q → IsOver left d → AppendsFront q r (last_line left) → WritesFront w cmd p r

@@ -10,7 +10,7 @@ use Rattle.trace_cli.specs.Worlds.{EachWorld, EachWorldWithin}
 use Rattle.trace_cli.specs.declared.answer.AnswerFault.{AnswerFault}
 use Rattle.trace_cli.specs.declared.answer.AnswerFault.TheVariants as fault
 
--- a reply was written, or a front of it
+-- a reply was written, or a prefix of it
 pub replied : {T A B : Type 0} {cmd : Cmd} {old new : CollectorState} {flown flying : ℕ → Option Bits}
     {p q : Option (List ℕ)}
     (r : Result T AnswerFault) → OnErr r (r ≡ Err fault.Write) → OnOk r A → OnErr r B

@@ -481,7 +481,7 @@ start_kept w c p q r h k = record {
   written = rw append-nil at (Appends-trans p q r (report_lines h.reports) [] h.written k);
 }
 
--- and it is a front of an answer
+-- and it is a prefix of an answer
 pub start_front : (w : World) (c : Cmd) (p q : Option (List ℕ)) → WritesStart w c p q → WritesFront w c p q
 start_front w c p q h = record {
   text = report_lines h.reports;

@@ -161,7 +161,7 @@ pub sweeps_append : (xs ys : List (List Report))
 sweeps_append xs ys =
     ap sweeps_in (flat_map-append (λ (u : List Report). u) xs ys) ∙ sweeps_both (reports_in xs) (reports_in ys)
 
--- the world in which so many units more were counted
+-- the world in which this number of units more were counted
 abbrev pub spent : ℕ → World → World
 spent n w = record w { preparing = with_spent_preparing n w.preparing; collection = with_spent n w.collection }
 
@@ -170,7 +170,7 @@ counted : (n : ℕ) (o : Option Collection) (k : Collection) → with_spent n o 
 counted n None k e = absurd (cc e)
 counted n (Some j) k e = (j, refl, ap (λ (i : Collection). i.tally) (sym (some_is _ _ e)))
 
--- so many arenas were swept, and so many units done
+-- this number of arenas were swept, and this number of units done
 abbrev with_units : ℕ → ℕ → Tally → Tally
 with_units swept n t = record t { sweeps = t.sweeps + swept; spent = t.spent + n }
 

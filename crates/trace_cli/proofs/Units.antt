@@ -253,7 +253,7 @@ goes_on left mid now c d e f g h p q r a b = record {
   less = omega (arith, a.less, b.less);
 }
 
--- where a front of the next units' reports was written, or memory was wanted for them
+-- where a prefix of the next units' reports was written, or memory was wanted for them
 pub goes_breaks : (left mid : Pending) (c d : CollectorState) (f g : ℕ → Option Bits) (p q r : Option (List ℕ))
     → Goes c f left d g mid p q → EachWorld d g (λ w. (n : ℕ) × Allows mid n × BreaksInUnits w n q r)
     → EachWorld c f (λ w. (n : ℕ) × Allows left n × BreaksInUnits w n p r)

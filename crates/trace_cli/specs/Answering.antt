@@ -17,7 +17,7 @@ pub record CountsFaults {T : Type 0} (old new : ℕ) (result : Result T AnswerFa
   pub same : OnOk result (new ≡ old)
   pub cause : result ≡ Err fault.Write → Rose old new
 
--- in each world that the collector stood for, a command was answered whole, or wanted memory, or a front of its answer
+-- in each world that the collector stood for, a command was answered whole, or wanted memory, or a prefix of its answer
 -- was written
 pub record AnswersCommand {T : Type 0} (cmd : Cmd) (old : CollectorState) (flown : ℕ → Option Bits)
     (new : CollectorState) (flying : ℕ → Option Bits) (p q : Option (List ℕ)) (result : Result T AnswerFault)

@@ -11,7 +11,7 @@ limit_of pending.Collect = 18446744073709551615
 limit_of (pending.Slice left done) = left
 limit_of (pending.Finish done) = 18446744073709551615
 
--- so many units more can be done for it
+-- this number of units more can be done for it
 abbrev pub Allows : Pending → ℕ → Type 0
 Allows pending.Collect n = ⊤
 Allows (pending.Slice left done) n = n ≤ left
@@ -23,7 +23,7 @@ done_of pending.Collect = 0
 done_of (pending.Slice left done) = done
 done_of (pending.Finish done) = done
 
--- what is left after so many units more
+-- what is left after this number of units more
 abbrev pub after : ℕ → Pending → Pending
 after n pending.Collect = pending.Collect
 after n (pending.Slice left done) = pending.Slice (left - n) (done + n)

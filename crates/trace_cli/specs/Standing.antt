@@ -29,7 +29,7 @@ use Rattle.trace_cli.specs.declared.machine.Stop.{Stop}
 use Rattle.trace_cli.specs.declared.machine.Stop.TheVariants as stop
 use Rattle.trace_cli.specs.declared.pending.Pending.{Pending}
 
--- so many cells and weak entries were made at most
+-- this number of cells and weak entries were made at most
 pub record HasMadeAtMost (c : CollectorState) (n : ℕ) : Type 0 where
   pub made : c.heap.made ≤ n
   pub entries : length c.heap.shape.weak.entries ≤ n
@@ -38,7 +38,7 @@ pub record HasMadeAtMost (c : CollectorState) (n : ℕ) : Type 0 where
 pub data IsFirst (c : CollectorState) : Type 0 where
   first : IsValid first_world → Represents c none_flown first_world → HasMadeAtMost c 0 → IsFirst c
 
--- a collector that stands for some world, with these arenas and bits in flight, after so many lines
+-- a collector that stands for some world, with these arenas and bits in flight, after this number of lines
 pub data IsReady (c : CollectorState) (outs : List (ℕ × ℕ)) (flown : ℕ → Option Bits) (n : ℕ) : Type 0 where
   ready : IsSound c flown → AreOut c.heap.shape outs → HasMadeAtMost c n → n < 4294967295 → IsReady c outs flown n
 
@@ -68,7 +68,7 @@ pub data AnswersCommand (c : Cmd) (left : Option Pending) (old : CollectorState)
   answers : StartedAs left c old flown new flying p q → AreOut new.heap.shape outs → IsSound new flying
       → HasMadeAtMost new (n + 1) → AnswersCommand c left old flown n new outs flying p q
 
--- the last line of an answer was written, or a front of it
+-- the last line of an answer was written, or a prefix of it
 abbrev pub last_line : Pending → List ℕ
 last_line left = line_of (reply_text (reply_of left))
 
@@ -102,8 +102,8 @@ pub record Between (e : Entry) (rest written : Option (List ℕ)) (n : ℕ) (c :
   pub made : HasMadeAtMost c n
   pub out : AreOut c.heap.shape outs
 
--- amid the answer to a line: it was asked for in such a world, where so many units were to come at most, and so many of
--- its units were done since
+-- amid the answer to a line: it was asked for in such a world, where this number of units were to come at most, and so
+-- many of its units were done since
 pub record Amid (e : Entry) (rest written : Option (List ℕ)) (n : ℕ) (c : CollectorState) (left : Pending)
     (outs : List (ℕ × ℕ)) (flown : ℕ → Option Bits) : Type 0 where
   pub world : World

@@ -17,7 +17,7 @@ use Rattle.trace_cli.specs.Worlds.{EachWorldWithin}
 use Rattle.trace_cli.specs.declared.pending.Pending.{Pending}
 use Rattle.trace_cli.specs.declared.pending.Pending.TheVariants as pending
 
--- a collection runs in a world, and with so many units to come it is within its bound on units
+-- a collection runs in a world, and with this number of units to come it is within its bound on units
 pub record RunsWithin (w : World) (most : ℕ) : Type 0 where
   pub collection : Collection
   pub running : w.collection ≡ Some collection

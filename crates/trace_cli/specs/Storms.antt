@@ -25,7 +25,7 @@ summary_text s =
     codes "storm " ++ decimal s.seed ++ codes " " ++ decimal s.lines ++ codes "\ncells " ++ decimal s.cells
     ++ codes "\nkept " ++ decimal s.kept ++ codes "\ngray " ++ decimal s.gray ++ codes "\n"
 
--- so many names meet P
+-- this number of names meet P
 pub record Counts (P : Name → Type 0) (n : ℕ) : Type 0 where
   pub names : List Name
   pub exact : (x : Name) → Contains names x ↔ P x

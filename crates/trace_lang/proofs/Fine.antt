@@ -21,7 +21,7 @@ use Rattle.trace_lang.proofs.Decimals.{own}
 use Rattle.trace_lang.proofs.ZoneLists.{has_or_not, zones_from-has, zones_from-lacks, zones_from-nil, zones_from-split}
 use Rattle.trace_lang.proofs.ZoneLists.{number_words-append}
 
--- at most so many bytes that a line may have
+-- at most this number of bytes that a line may have
 pub record IsFine (n : ℕ) (xs : List ℕ) : Type 0 where
   pub short : length xs ≤ n
   pub plain : IsPlain xs
@@ -99,7 +99,7 @@ three_fine : (xs ys zs : List ℕ) → IsFine 4 xs → IsFine 4 ys → IsFine 4 
 three_fine xs ys zs h k l =
     fine_more 12 182 (xs ++ ys ++ zs) (omega arith) (fine_append 8 4 (xs ++ ys) zs (fine_append 4 4 xs ys h k) l)
 
--- lists of zones: so many bytes for each
+-- lists of zones: this number of bytes for each
 abbrev bytes : ℕ → ℕ → ℕ
 bytes m zero = 0
 bytes m (suc count) = m + bytes m count

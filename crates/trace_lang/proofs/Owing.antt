@@ -39,7 +39,7 @@ owes_end a b c held text more h k =
     subst (λ t. Appends a c t) (sym (ap (λ t. t ++ more) h.2 ∙ append_assoc h.0 held more))
     (Appends-trans a b c h.0 (held ++ more) h.1 k)
 
--- a front of what is held, and of more, is written
+-- a prefix of what is held, and of more, is written
 pub owes_front : (a b c : Option (List ℕ)) (held text more : List ℕ) → Owes a b held text
     → AppendsFront b c (held ++ more) → AppendsFront a c (text ++ more)
 owes_front a b c held text more h k = (
@@ -63,7 +63,7 @@ owes_step a b c held mid new text next more h k n e =
     subst (λ t. Owes a c t next) (sym n) (subst
     (λ t. Owes a c (mid ++ more) t) (sym e) (owes_more a c mid text more (owes_sent a b c held mid text h k)))
 
--- a front of what is held was written
+-- a prefix of what is held was written
 pub front_step : (a b c : Option (List ℕ)) (held text all more : List ℕ) → Owes a b held text → AppendsFront b c held
     → all ≡ text ++ more → AppendsFront a c all
 front_step a b c held text all more h k e =

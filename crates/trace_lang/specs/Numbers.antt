@@ -1,4 +1,4 @@
--- Digits at the front of a text.
+-- Digits that a text begins with.
 use Rattle.std.specs.Prelude.{ℕ, ◌+◌, ◌-◌, ◌*◌, List, [], ◌∷◌, if◌then◌else◌}
 use Rattle.std.specs.Char.{is_ascii_digit}
 

@@ -31,7 +31,7 @@ pub end_reads : {E : Type 0} (r : Result Unit E) (read now : ℕ) (h : HeapState
 end_reads (Ok unit) read now h d f none = omega (arith, none)
 end_reads (Err why) read now h d f none = tt
 
--- so many units that report nothing read few
+-- this number of units that report nothing read few
 pub quiet_reads : (n read now : ℕ) (h k : HeapState) → ReadsFew n read h now k → UnitsReadFew n read h now k
 quiet_reads n read now h k few = omega (arith, few)
 

@@ -132,7 +132,7 @@ not_both c g formed = (
     let bits = ap (λ (r : RunState). r.formed) same in
     cc (bits, g.2, formed.2))
 
--- the collector after so many units
+-- the collector after this number of units
 pub quiet_sound : (n : ℕ) (c : CollectorState) (f : ℕ → Option Bits) (d : CollectorState) (g : ℕ → Option Bits)
     → DoesQuietUnits n c f d g → IsSound c f → IsSound d g
 quiet_sound zero c f d g did s = still_sound c f d g (did.none refl) s

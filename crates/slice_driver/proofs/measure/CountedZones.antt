@@ -61,7 +61,7 @@ below_most word n (suc m) = subst (λ k. zones_below word n ≤ zones_below word
     (let same : suc (n + m) ≡ n + suc m = omega arith in same)
     (let rest = below_most word n m in omega (arith, rest))
 
--- a word of so many bits has no zone past them
+-- a word of this number of bits has no zone past them
 past_none : (word most : ℕ) → ((z : ℕ) → bit_at word z ≡ 1 → z < most) → (n : ℕ)
     → zones_below word (most + n) ≡ zones_below word most
 unfolding zones_below
