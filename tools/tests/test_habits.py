@@ -291,7 +291,7 @@ class Lint(Habits):
 
     def test_labels_and_paths(self):
         self.expect("label", "docs/A.md", "As R" "14 asks.\n", "`R" "14`: a label that no reader here knows")
-        self.expect("label", "docs/A.md", "See /ro" "ot/x.\n", "`/ro" "ot`: a path of one machine")
+        self.expect("machine-path", "tools/a.py", 'a = "/ro' 'ot/x"\n', ":1: machine-path: `/ro" "ot`")
         self.expect("label", "docs/A.md", "In `T4` and r0.\n")
 
     def test_literal(self):
