@@ -1,14 +1,13 @@
 -- Units change of the tally of a collection that runs, and is not prepared, nothing but what they sweep.
-use Rattle.std.proofs.Common.{◌≡◌, ◌≢◌, ◌+◌, ℕ, zero, suc, List, [], ◌∷◌, ◌++◌, map, Option, None, Some, refl, sym, ap}
+use Rattle.std.proofs.Common.{◌≡◌, ◌+◌, ℕ, List, [], ◌∷◌, ◌++◌, Option, None, Some, refl, sym, ap}
 use Rattle.std.proofs.Common.{subst}
 use Rattle.std.proofs.Common.{◌∙◌, arith}
 use Rattle.std.specs.List.{flat_map}
-use Rattle.gz_names.specs.Zones.{zones_in}
 use Rattle.gz_names.specs.declared.replies.Report.{Report}
 use Rattle.gz_names.specs.declared.replies.Report.TheVariants as report
 use Rattle.colour_defs.specs.Units.{Tally, sweeps_in}
-use Rattle.colour_defs.specs.World.{Collection, Preparation, World}
-use Rattle.colour_defs.specs.Lawful.{AreLawfulUnits, Finishes, IsLawfulReport, IsLawfulUnit, last, quiet, says}
+use Rattle.colour_defs.specs.World.{Collection, World}
+use Rattle.colour_defs.specs.Lawful.{AreLawfulUnits, IsLawfulReport, IsLawfulUnit, last, quiet, says}
 use Rattle.colour_defs.specs.Lawful.{with_sweep}
 
 -- this number of arenas more were swept, and nothing is prepared; a collection that runs is the one that ran

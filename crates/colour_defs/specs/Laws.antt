@@ -1,18 +1,15 @@
 -- What holds of every world that a lawful run can reach: the laws, and the one invariant that carries them.
-use Rattle.std.specs.Prelude.{◌≡◌, ◌≢◌, ◌⊎◌, ◌↔◌, ◌≤◌, ℕ, ◌+◌, ◌*◌, List, [], ◌∷◌, length, Some, None, IsTrue, Contains}
-use Rattle.std.specs.Prelude.{count_by}
-use Rattle.std.specs.FinMap as map
+use Rattle.std.specs.Prelude.{◌≡◌, ◌≢◌, ◌⊎◌, ℕ, List, [], Some, None, IsTrue, Contains}
 use Rattle.gz_names.specs.declared.names.Name.{Name}
 use Rattle.gz_names.specs.declared.names.Name.TheVariants.{Cell, Wrap}
 use Rattle.gz_names.specs.declared.numbers.CompNo.{CompNo}
 use Rattle.colour_defs.specs.Graph.{GraphState, register_cell, slot_cell, has_wrapper, value_of, comp_of, zone_of}
-use Rattle.colour_defs.specs.Graph.{IsInZones, is_in_zones}
+use Rattle.colour_defs.specs.Graph.{IsInZones}
 use Rattle.colour_defs.specs.Closure.{HasEdge, Closure, ClosureWithin}
 use Rattle.colour_defs.specs.World.{Has, Preparation, Collection, World, IsPresent, IsLeftOut, IsSettled, BlackClosure}
 use Rattle.colour_defs.specs.World.{LiveClosure}
 use Rattle.colour_defs.specs.Groups.{EachLater, IsKeyOfPresent}
-use Rattle.colour_defs.specs.Ends.{arenas_from}
-use Rattle.colour_defs.specs.WeakRefs.{weak_cell, if_present}
+use Rattle.colour_defs.specs.WeakRefs.{weak_cell}
 use Rattle.gz_names.specs.declared.commands.WeakCmd.{WeakCmd}
 use Rattle.gz_names.specs.declared.commands.Cmd.{Cmd}
 use Rattle.gz_names.specs.declared.commands.Cmd.TheVariants as command
@@ -100,18 +97,7 @@ GarbageGoesAtEnd w k zones v = (x : Name) → IsInZones w.graph zones x → (Liv
 abbrev pub GarbageIsGone : World → Collection → Type 0
 GarbageIsGone w k = (x : Name) → (LiveClosure k x → ⊥) → IsPresent w x → ⊥
 
--- a compaction keeps what is present, and leaves the zone no arena more than its cells need
-pub record IsTight (w : World) (zone given : ℕ) (v : World) : Type 0 where
-  pub present : (x : Name) → IsPresent v x ↔ IsPresent w x
-  pub owned : length (arenas_from 0 v.owner (zone ∷ [])) + given ≡ length (arenas_from 0 w.owner (zone ∷ []))
-  pub fewest : (n : ℕ) → count_by (λ x. is_in_zones w.graph (zone ∷ []) x) (map.keys w.places) ≤ 64 * n
-      → length (arenas_from 0 w.owner (zone ∷ [])) ≤ given + n
-
--- weak slots and watched cells keep what is still present, and nothing else
-pub record KeepsWeak (w v : World) : Type 0 where
-  pub slots : (q : ℕ) → weak_cell v q ≡ if_present v (weak_cell w q)
-  pub watched : (x : Name) → Has v.weak.watched x ↔ (Has w.weak.watched x × IsPresent v x)
-
+-- no command on weak slots and watches
 abbrev pub IsNoWeakCmd : Cmd → Type 0
 IsNoWeakCmd c = (k : WeakCmd) → c ≢ command.Weak k
 

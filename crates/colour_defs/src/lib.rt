@@ -60,19 +60,12 @@ mod fields;
 mod graph;
 mod laws;
 mod reach;
-mod rows;
 
 pub use commands::step;
 pub use fields::Fields;
 pub use graph::{Entry, Graph, Object};
 pub use laws::{
-    agrees_law, answer_law, begin_law, closure_law, compaction_law, dump_law, edges_law, end_law,
-    garbage_law, presence_law, reached_law, refusal_law, register_law, shown_law, starts_law,
-    unit_law, valid_law, weak_law,
+    agrees_law, answer_law, begin_law, closure_law, edges_law, end_law, garbage_law, presence_law,
+    reached_law, refusal_law, register_law, shown_law, unit_law, valid_law,
 };
 pub use reach::closure;
-pub use rows::{
-    compacted_law, given_up_law, gray_key_law, gray_slot_alone_law, linked_and_dropped_law,
-    made_while_marking_law, made_while_preparing_law, one_way_gray_law, weakly_named_law,
-    wrapper_key_law,
-};

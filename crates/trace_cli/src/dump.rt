@@ -17,10 +17,11 @@ ghost use Rattle.trace_cli.specs.Headline.{LeadsTo};
 ghost use Rattle.trace_cli.specs.Standing.{StandsWith};
 
 use crate::answer::{AnswerFault, write_last};
-use colour_defs::{dump_law, valid_law};
+use colour_defs::valid_law;
 use gz_io::Sink;
 use gz_names::{DumpLines, Refusal, Reply};
 use slice_driver::Collector;
+use spec_laws::dump_law;
 use std::alloc::Global;
 use sweeping::Sweeping;
 

@@ -24,7 +24,7 @@ use Rattle.colour_defs.specs.World.{World, Collection, IsPresent as IsPresentNam
 use Rattle.colour_defs.specs.Ends.{Lists}
 use Rattle.colour_defs.specs.Laws.{IsValid}
 use Rattle.colour_defs.specs.Present as present
-use Rattle.colour_defs.proofs.OneZone.{loses_nothing}
+use Rattle.colour_defs.proofs.NothingWeak.{loses_nothing}
 use Rattle.colour_defs.proofs.Lists.{both_of, contains_cases, contains_head, nothing_in_none}
 use Rattle.colour_defs.proofs.ValidEnds.{end_valid}
 use Rattle.heap_core.specs.Shape.{HasEdge, IsPresent, cell_of, field_at, field_in, held_name, name_at, zone_of}

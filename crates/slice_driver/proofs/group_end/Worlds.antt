@@ -20,7 +20,7 @@ use Rattle.colour_defs.proofs.Lists.{first_of_both, second_of_both, both_of}
 use Rattle.colour_defs.proofs.Membership.{in_zone, zone_in}
 use Rattle.colour_defs.proofs.Names.{names_apart}
 use Rattle.colour_defs.proofs.ZoneSets.{zones_in-has}
-use Rattle.colour_defs.proofs.OneZone.{loses_nothing}
+use Rattle.colour_defs.proofs.NothingWeak.{loses_nothing}
 use Rattle.heap_core.specs.Shape.{name_at, zone_of}
 use Rattle.heap_core.specs.Heap.{HeapState, colour_of}
 use Rattle.barriers.specs.Colours.{IsBlack, IsWhite}

@@ -1,0 +1,4 @@
+pub mod Starts
+pub mod Dumped
+pub mod Tight
+pub mod WeakKept
