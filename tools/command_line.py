@@ -8,7 +8,8 @@ import sys
 import time
 from pathlib import Path
 
-from program import TOP, Missing, find_program
+from crate_list import TOP
+from program import Missing, find_program
 
 
 class Fault(Exception):
