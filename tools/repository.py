@@ -11,7 +11,7 @@ import subprocess
 import tokenize
 from dataclasses import dataclass, field
 
-from program import TOP, read_crates
+from crate_list import TOP, read_crates
 
 # What separates two words of an .antt file.
 WORD = re.compile(r"[^\s(){}\[\],;|]+")

@@ -340,7 +340,7 @@ REFUSALS = {
 
 
 def replay(lines, output, later=()):
-    """Yields, for each command that was answered, its words, its output lines, and the model after it.
+    """Yields, for each command with an answer, its words, its output lines, and the model after it.
 
     `lines` are the texts of commands, `output` the program's output lines, and `later` the output lines that would come
     after it, so that the cells which a group left dead are known before they are swept.
@@ -360,7 +360,7 @@ def replay(lines, output, later=()):
 
 
 def step(model, words, own, reports, at):
-    """Does a command that was answered by these lines, and returns how many of all the reports are done then."""
+    """Does a command whose answer these lines are, and returns how many of all the reports are done then."""
     begins = words[0] in ("gc", "collect")
     if begins and own[-1] in ("gc ok", "collected"):
         model.command(words, own[-1])

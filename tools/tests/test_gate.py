@@ -69,7 +69,7 @@ echo "36 passed, 0 failed"
 
 
 def write_fake_rt_ci(folder, seconds):
-    """A command in place of `rt`, whose `rattle` takes so many seconds of a processor."""
+    """A command in place of `rt`, whose `rattle` takes this number of seconds of a processor."""
     busy = f"#!{sys.executable}\nimport time\nwhile time.process_time() < {seconds}: pass\n"
     write_script(Path(folder) / "rattle", busy)
     return write_script(Path(folder) / "rt", FAKE_RT_CI.format(folder=folder))

@@ -26,7 +26,8 @@ use Rattle.colour_defs.proofs.Membership.{gray_of, white_is_not_live}
 use Rattle.colour_defs.proofs.ValidCommands.{insert_has, in_insert}
 use Rattle.colour_defs.proofs.ValidRuns.{answer_valid}
 use Rattle.colour_defs.proofs.Finite.{Members, members_empty, members_insert, no_name}
-use Rattle.spec_rows.proofs.Places.{Places, places_empty, places_insert, reached_within, place_named, single, each_has, fresh_slot}
+use Rattle.spec_rows.proofs.Places.{Places, places_empty, places_insert, reached_within, place_named, single, each_has}
+use Rattle.spec_rows.proofs.Places.{fresh_slot}
 use Rattle.spec_rows.proofs.Making.{object_world, made_world, new_lawful, map_lawful, room_first, room_next}
 use Rattle.colour_defs.proofs.NothingWeak.{loses_nothing}
 use Rattle.spec_rows.proofs.OneZone.{prepared, prepares_one, grouped, forms_one_group, collect_lawful}

@@ -37,7 +37,7 @@ module _ (w v : World) (c : GraphCmd) (r : Reply) (g : GraphState) (at : w.graph
       (ap (λ z. woken_by z c) at ∙ is) accepts in
       subst (λ z. HasPlace w (step_of z c).0 x v) at a.0
 
--- the same while a collection is prepared
+-- a collection is being prepared
 module _ (w v : World) (c : GraphCmd) (r : Reply) (g : GraphState) (at : w.graph ≡ g)
     (fine : refusal_in (step_of g c).1 ≡ None) (p : Preparation) (was : w.preparing ≡ Some p)
     (h : CommandInWorld w c r v) where

@@ -25,7 +25,8 @@ use Rattle.colour_defs.proofs.Membership.{white_of}
 use Rattle.colour_defs.proofs.ValidCommands.{insert_has}
 use Rattle.colour_defs.proofs.ValidRuns.{answer_valid, first_valid}
 use Rattle.colour_defs.proofs.Finite.{Members, members_empty, members_insert, insert_cases, no_name}
-use Rattle.spec_rows.proofs.Places.{Places, place_in, places_empty, places_insert, reached_within, fresh_slot, place_named, single, each_has}
+use Rattle.spec_rows.proofs.Places.{Places, place_in, places_empty, places_insert, reached_within, fresh_slot}
+use Rattle.spec_rows.proofs.Places.{place_named, single, each_has}
 use Rattle.spec_rows.proofs.Making.{room_next, room_first, made_world, new_lawful}
 use Rattle.spec_rows.proofs.OneWhite.{after_remove, one_gone, others_stay, one_white, sweep_of_one}
 use Rattle.colour_defs.proofs.NothingWeak.{loses_nothing}

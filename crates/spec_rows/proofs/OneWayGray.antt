@@ -31,7 +31,8 @@ use Rattle.colour_defs.proofs.Membership.{gray_of, white_is_not_live}
 use Rattle.colour_defs.proofs.ValidCommands.{insert_has}
 use Rattle.colour_defs.proofs.ValidRuns.{answer_valid, first_valid}
 use Rattle.colour_defs.proofs.Finite.{Members, members_empty, members_insert, no_name, insert_cases}
-use Rattle.spec_rows.proofs.Places.{Places, places_empty, places_insert, reached_within, fresh_slot, place_named, single, each_has}
+use Rattle.spec_rows.proofs.Places.{Places, places_empty, places_insert, reached_within, fresh_slot, place_named}
+use Rattle.spec_rows.proofs.Places.{single, each_has}
 use Rattle.colour_defs.proofs.NothingWeak.{loses_nothing}
 use Rattle.spec_rows.proofs.Beginnings.{begun_world, starting_units, begins_either, units_either, reports_either}
 use Rattle.spec_rows.proofs.Making.{room_next, room_first, made_world, new_lawful}
