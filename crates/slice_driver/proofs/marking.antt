@@ -1,11 +1,11 @@
 -- Units that report nothing: marking, the beginnings of zones, and why they leave each world as it is.
+pub mod AtGroupEnd
 pub mod Cells
 pub mod EdgesRead
 pub mod Flights
 pub mod MarkingSteps
 pub mod MarkingUnits
 pub mod Marks
-pub mod OneUnit
 pub mod Settled
 pub mod Steps
 pub mod Units

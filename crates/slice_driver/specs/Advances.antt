@@ -1,23 +1,25 @@
 -- What a step of a collection does, whoever sweeps.
-use Rattle.std.specs.Prelude.{◌≡◌, ◌↔◌, ◌<◌, ◌≤◌, ◌+◌, ℕ, Bool, true, false, List, [], Option, None, Some, Result}
+use Rattle.std.specs.Prelude.{◌≡◌, ◌≢◌, ◌↔◌, ◌<◌, ◌≤◌, ◌+◌, ℕ, Bool, true, false, List, [], Option, None, Some, Result}
 use Rattle.std.specs.Prelude.{IsSome, OnErr, if◌then◌else◌, length, Contains}
 use Rattle.std.specs.List.{flat_map}
 use Rattle.gz_names.specs.declared.replies.Report.{Report}
 use Rattle.cell_bits.specs.declared.bits.Bits.{Bits}
+use Rattle.cell_bits.specs.declared.jobs.Job.{Job}
 use Rattle.colour_defs.specs.World.{World}
 use Rattle.colour_defs.specs.Laws.{IsValid}
 use Rattle.colour_defs.specs.Lawful.{AreLawfulUnits}
 use Rattle.colour_defs.specs.Units.{sweeps_in}
-use Rattle.sweeping.specs.ArenasOut.{AscendHanded}
+use Rattle.sweeping.specs.ArenasOut.{AscendHanded, outs_of}
 use Rattle.heap_core.specs.Shape.{Shape}
+use Rattle.heap_core.specs.Heap.{HeapState}
 use Rattle.slice_driver.specs.declared.advance.Step.{Step}
 use Rattle.slice_driver.specs.Collector.{CollectorState}
 use Rattle.slice_driver.specs.Left.{units_left}
 use Rattle.slice_driver.specs.Represents.{Represents}
-use Rattle.slice_driver.specs.Units.{DoesUnit, IsFreedWord, IsLowestOut, IsSound, KeepsFreedWords, reports_of}
-use Rattle.slice_driver.specs.Units.{without_arena}
+use Rattle.slice_driver.specs.Units.{DoesUnit, EndsColoured, IsFreedWord, IsLowestOut, IsSound, KeepsFreedWords}
+use Rattle.slice_driver.specs.Units.{TellsSweep, is_group_end, jobs_at, reports_of, without_arena}
 use Rattle.slice_driver.specs.UnitsToCome.{units_to_come}
-use Rattle.slice_driver.specs.Working.{IsStill}
+use Rattle.slice_driver.specs.Working.{IsAtGroupEnd, IsQuietDone, IsResting, IsStill}
 
 -- these arenas are out, each with the slots of its white cells as it was handed to sweeping
 pub record AreOut (s : Shape) (outs : List (ℕ × ℕ)) : Type 0 where
@@ -45,8 +47,16 @@ DoesUnits old flown n reports new flying = (w : World) → IsValid w → Represe
 abbrev pub told : Step → Option Report → List Report
 told step place = if step.reported then reports_of place step.finished else []
 
--- a step was done: some units and at most so many, and what they report is told. These bits are in flight then, and
--- these arenas are out, with those that the step handed to sweeping
+-- whether that is the end of a group
+abbrev pub tells_end : Step → Option Report → Bool
+tells_end step place = if step.reported then is_group_end place else false
+
+-- the jobs that come with it: the arenas of the zones that end, with their bits, and none but at the end of a group
+abbrev pub jobs_told : Step → Option Report → HeapState → List Job
+jobs_told step place h = if step.reported then jobs_at place h else []
+
+-- a step was done: units that report nothing, some and at most so many, or one unit that reports. What it reports is
+-- told. These bits are in flight then, and these arenas are out, with those that the step handed to sweeping
 pub record Advances (limit : ℕ) (old : CollectorState) (flown : ℕ → Option Bits) (before : Option Report) (step : Step)
     (new : CollectorState) (flying : ℕ → Option Bits) (outs : List (ℕ × ℕ)) (now : Option Report) : Type 0 where
   -- what was done
@@ -59,6 +69,16 @@ pub record Advances (limit : ℕ) (old : CollectorState) (flown : ℕ → Option
   pub told_some : step.reported ≡ true → IsSome now
   pub told_none : step.reported ≡ false → now ≡ before
   pub finished : (step.finished ≡ true) ↔ (new.run ≡ None)
+  -- where it tells: one unit that reports is the whole step, and no unit that reports nothing was left before it
+  pub one : step.reported ≡ true → step.units ≡ 1
+  pub rests : step.reported ≡ true → IsQuietDone old flown
+  -- it is the end of a group exactly where nothing else is left to do, and the lowest arena where one is out; as a group
+  -- ends each present cell of any zone has by its bits the colour that the end asks, and its arenas are handed over
+  pub ended_where : (tells_end step now ≡ true) ↔ IsAtGroupEnd old flown
+  pub due_where : IsResting old flown → (a : ℕ) → IsLowestOut old.heap.shape a → (step.reported ≡ true)
+      × TellsSweep a now
+  pub coloured : step.reported ≡ true → EndsColoured now old flown new.heap.colours
+  pub queued : jobs_told step now old.heap ≢ [] → outs ≡ outs_of (jobs_told step now old.heap)
   -- how the collector stands then
   pub sound : IsSound new flying
   pub out : AreOut new.heap.shape outs

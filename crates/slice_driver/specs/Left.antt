@@ -1,5 +1,5 @@
 -- A number that each unit of a collection lowers.
-use Rattle.std.specs.Prelude.{◌<◌, ◌≤◌, ◌+◌, ℕ, Option, Some, None}
+use Rattle.std.specs.Prelude.{◌+◌, ℕ, Option}
 use Rattle.cell_bits.specs.declared.bits.Bits.{Bits}
 use Rattle.slice_driver.specs.Collector.{CollectorState}
 use Rattle.slice_driver.specs.Remaining.{arenas_left}
@@ -9,8 +9,3 @@ use Rattle.slice_driver.specs.UnitsToCome.{units_to_come}
 -- come in
 abbrev pub units_left : CollectorState → (ℕ → Option Bits) → ℕ
 units_left c flown = units_to_come c flown + arenas_left c.heap.shape c.heap.shape.arenas
-
--- a unit lowers a number, or an arena is due and it does not raise it
-abbrev pub Lowers : Option ℕ → ℕ → ℕ → Type 0
-Lowers None old new = new < old
-Lowers (Some arena) old new = new ≤ old

@@ -1,5 +1,5 @@
 -- A collector with who sweeps, as an embedder sees it.
-use Rattle.std.specs.Prelude.{◌<◌, ◌≤◌, ◌+◌, ℕ, List, Option, Some, None, Result, Ok, Err, IsSome}
+use Rattle.std.specs.Prelude.{◌≡◌, ◌<◌, ℕ, false, List, Option, Some, None, Result, Ok, Err, IsSome}
 use Rattle.gz_names.specs.declared.dumps.DumpLine.{DumpLine}
 use Rattle.gz_names.specs.declared.names.Name.{Name}
 use Rattle.gz_names.specs.declared.replies.CmdFault.{CmdFault}
@@ -11,15 +11,12 @@ use Rattle.colour_defs.specs.Dumps.{IsDump}
 use Rattle.colour_defs.specs.Ends.{Lists}
 use Rattle.colour_defs.specs.World.{World, Has, IsPresent, IsSettled}
 use Rattle.colour_defs.specs.Laws.{IsValid}
-use Rattle.colour_defs.specs.Units.{sweeps_in}
 use Rattle.slice_driver.specs.declared.session.SessionFault.{SessionFault}
 use Rattle.slice_driver.specs.declared.session.SessionFault.TheVariants as session
 use Rattle.slice_driver.specs.declared.advance.Step.{Step}
-use Rattle.slice_driver.specs.Advances.{DoesUnits, told}
+use Rattle.slice_driver.specs.Advances.{Advances}
 use Rattle.slice_driver.specs.Collector.{CollectorState}
-use Rattle.slice_driver.specs.Left.{units_left}
 use Rattle.slice_driver.specs.Represents.{Represents}
-use Rattle.slice_driver.specs.UnitsToCome.{units_to_come}
 
 -- a collector, who sweeps, and the last report
 pub record SessionState (S : Type 0) : Type 0 where
@@ -34,14 +31,17 @@ outcome_of (Err (session.Refused why)) = Some (Err (fault.Refused why))
 outcome_of (Err session.NoMemory) = Some (Err fault.NoMemory)
 outcome_of (Err session.Full) = None
 
--- a step was done: at most this number of units, some where a collection runs, and what they report is told
-pub record SessionSteps (limit : ℕ) (old : CollectorState) (flown : ℕ → Option Bits) (step : Step)
-    (new : CollectorState) (flying : ℕ → Option Bits) (report : Option Report) : Type 0 where
-  pub done : DoesUnits old flown step.units (told step report) new flying
-  pub most : step.units ≤ limit
-  pub some : 0 < limit → IsSome old.run → 0 < step.units
-  pub less : units_left new flying + step.units ≤ units_left old flown
-  pub to_come : units_to_come new flying + step.units ≤ units_to_come old flown + sweeps_in (told step report)
+-- no unit was done
+abbrev pub no_step : Step
+no_step = record { units = 0; reported = false; finished = false; handed = None }
+
+-- where a collection runs and some units are asked for, a step of the collector was done; else nothing was
+pub record SessionSteps (limit : ℕ) (old : CollectorState) (flown : ℕ → Option Bits) (before : Option Report)
+    (step : Step) (new : CollectorState) (flying : ℕ → Option Bits) (outs : List (ℕ × ℕ)) (now : Option Report)
+    : Type 0 where
+  pub steps : 0 < limit → IsSome old.run → Advances limit old flown before step new flying outs now
+  pub none : (0 < limit → IsSome old.run → ⊥) → step ≡ no_step
+  pub still : (0 < limit → IsSome old.run → ⊥) → (new ≡ old) × (flying ≡ flown) × (now ≡ before)
 
 -- the names of the gray cells in each valid world that a collector stands for; in none of these is a zone marking
 abbrev pub AreGrayNames : CollectorState → (ℕ → Option Bits) → List Name → Type 0

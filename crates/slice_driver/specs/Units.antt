@@ -25,7 +25,6 @@ use Rattle.sweeping.specs.ArenasOut as arenas
 use Rattle.heap_core.specs.Shape.{ArenaShape, Shape, out_of}
 use Rattle.heap_core.specs.Heap.{HeapState}
 use Rattle.heap_core.specs.Sweeping.{jobs_of}
-use Rattle.slice_driver.specs.declared.collector.Unit.{Unit}
 use Rattle.slice_driver.specs.Collector.{CollectorState}
 use Rattle.slice_driver.specs.GroupEnd.{AreColoured}
 use Rattle.slice_driver.specs.Represents.{Represents}
@@ -109,17 +108,6 @@ flying_after = arenas.flying_after
 pub record IsLowestOut (s : Shape) (a : ℕ) : Type 0 where
   pub out : IsSome (out_of s a)
   pub lowest : (b : ℕ) → b < a → out_of s b ≡ None
-
--- a unit was done, or an arena is due, and the collector stands for what it stood for
-abbrev pub DoneOrDue : Option ℕ → CollectorState → (ℕ → Option Bits) → Unit → CollectorState → (ℕ → Option Bits)
-    → Type 0
-DoneOrDue (Some a) old flown unit new flying = IsLowestOut new.heap.shape a
-    × ((w : World) → Represents old flown w → Represents new flying w)
-DoneOrDue None old flown unit new flying = DoesUnit old flown (reports_of unit.report unit.finished) new
-    (flying_after unit.handed flying)
-
-abbrev pub UnitDone : CollectorState → (ℕ → Option Bits) → Unit → CollectorState → (ℕ → Option Bits) → Type 0
-UnitDone old flown unit new flying = DoneOrDue unit.due old flown unit new flying
 
 -- the slots of an arena's white cells as it was handed to sweeping
 abbrev pub IsFreedWord : Shape → ℕ → ℕ → Type 0

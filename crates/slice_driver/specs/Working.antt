@@ -24,7 +24,6 @@ use Rattle.slice_driver.specs.Quiet.{IsFormed}
 use Rattle.slice_driver.specs.Represents.{Represents}
 use Rattle.slice_driver.specs.Units.{AreJobs, DoesUnit, EndsColoured, HandsJobs, IsSound, KeepsFreedWords, flying_after}
 use Rattle.slice_driver.specs.Units.{is_group_end, jobs_at, reports_of}
-use Rattle.slice_driver.specs.declared.collector.Unit.{Unit}
 
 -- a unit with these reports was done, which hands out no arena and takes none in; the collection goes on, and less is
 -- left of it
@@ -87,20 +86,12 @@ pub record IsGrayDone (c : CollectorState) (flown : ℕ → Option Bits) (g : Zo
   pub idle : IsGrayIdle c.heap c.stack c.lists g.bits
   pub looked : NoneLeft mark.Gray c.heap.looks
 
--- a unit of the grouping goes on with the collection, whose groups are not formed
-pub record IsGroupingUnit (c : CollectorState) (unit : Unit) (d : CollectorState) : Type 0 where
+-- a unit of the grouping with this report goes on with the collection, whose groups are not formed
+pub record IsGroupingUnit (c : CollectorState) (said : Option Report) (d : CollectorState) : Type 0 where
   pub unformed : IsFormed c → ⊥
-  pub goes_on : is_group_end unit.report ≡ false
-  pub handed : unit.handed ≡ None
-  pub finished : unit.finished ≡ false
-  pub due : unit.due ≡ None
+  pub goes_on : is_group_end said ≡ false
   pub goes : (flown : ℕ → Option Bits) → IsSound c flown → IsBlackDone c flown
-      → GoesOn c flown (reports_of unit.report unit.finished) d flown
-
--- the groups are not formed yet and such a unit was done, or they are
-abbrev pub GroupsOrFormed : Option Unit → CollectorState → CollectorState → Type 0
-GroupsOrFormed None c d = IsFormed c × (d ≡ c)
-GroupsOrFormed (Some unit) c d = IsGroupingUnit c unit d
+      → GoesOn c flown (reports_of said false) d flown
 
 -- the zones of the current group have begun their gray marking, and no others
 abbrev pub HasBegun : CollectorState → Type 0
@@ -165,7 +156,7 @@ pub record TellsGrouping (c : CollectorState) (before : Option Report) (reported
   pub said : Option Report
   pub reported_is : reported ≡ is_some said
   pub now_is : now ≡ place_of said before
-  pub done : IsGroupingUnit c (record { report = said; handed = None; finished = false; due = None }) d
+  pub done : IsGroupingUnit c said d
 
 -- the current group ended, whatever is in flight: a unit with this report was done, which handed these arenas to
 -- sweeping, and with which the collection is over or not

@@ -1,18 +1,20 @@
 // Steps of a collection, whoever sweeps: the one place where units, due arenas and their sweeping meet.
 ghost use Rattle.std.specs.Prelude.{◌≡◌, ◌<◌, ℕ, List, None, Option, false, true, IfOk, IsSome, OnErr};
+ghost use Rattle.std.specs.Int.{bit_at};
 ghost use Rattle.cell_bits.specs.declared.bits.Bits.{Bits as ABits};
 ghost use Rattle.sweeping.specs.ArenasOut.{flying_after, outs_after};
 ghost use Rattle.heap_core.specs.Shape.{out_of};
 ghost use Rattle.slice_driver.specs.Collector.{heap_with};
 ghost use Rattle.slice_driver.specs.EdgesRead.{UnitsReadFew};
-ghost use Rattle.slice_driver.specs.Advances.{Advances, AreOut, MayAdvance, StillOnErr, TakesDue};
-ghost use Rattle.slice_driver.specs.Units.{IsLowestOut, IsSound, TellsSweep};
-ghost use Rattle.slice_driver.specs.Working.{IsQuietDone, IsStill};
+ghost use Rattle.slice_driver.specs.Advances.{Advances, AreOut, MayAdvance, StillOnErr, TakesDue, jobs_told};
+ghost use Rattle.slice_driver.specs.Quiet.{IsFormed};
+ghost use Rattle.slice_driver.specs.Units.{AreJobs, IsLowestOut, IsSound, TellsSweep};
+ghost use Rattle.slice_driver.specs.Working.{HasGroups, IsAtGroupEnd, IsQuietDone, IsStill};
 
-use crate::collector::{Collector, Unit};
+use crate::collector::Collector;
 use crate::ends::Ended;
 use arena_table::Jobs;
-use gz_names::{NoMemory, Report};
+use gz_names::{NoMemory, Report, ZoneSet};
 use heap_core::Steps;
 use std::alloc::Global;
 use std::sync::ledger::Ledger;
@@ -63,10 +65,21 @@ impl Step {
 }
 
 impl Collector {
-    /// Does some units of the collection that runs, at most `limit`: those that report nothing, as
-    /// many as come one after another, or one that reports something. What it reports is put into
-    /// `report`, which is left as it is when nothing is reported (a report is large, and most steps
-    /// have none). An arena that is due is taken in: who sweeps hands over what was swept.
+    /// Does some units of the collection that runs, at most `limit`. A unit does the first of these that
+    /// has work:
+    ///
+    /// 1. black marking: a cell that is pending in black, or a weak entry for black (`quiet_units`);
+    /// 2. before the groups are formed, a look at a wrapper (`quiet_units`), or else a grouping step,
+    ///    the last of which reports the groups;
+    /// 3. the beginning of a zone of the current group (`quiet_units`);
+    /// 4. gray marking of the current group, or a weak entry for gray (`quiet_units`);
+    /// 5. the lowest arena that is out is taken in, and reported: who sweeps hands over what was swept;
+    /// 6. the current group ends, and is reported. Each present cell of any zone has the colour then
+    ///    that the end asks, and the group's arenas are handed to sweeping with their bits.
+    ///
+    /// Units that report nothing are done together, as many as come one after another; one that reports is
+    /// done alone, where none of those is left. What it reports is put into `report`, which is left as it
+    /// is when nothing is reported (a report is large, and most steps have none).
     ///
     /// The arenas that a unit hands to sweeping are the caller's: who sweeps by itself takes them
     /// over, and a board may be entered with them.
@@ -92,6 +105,9 @@ impl Collector {
         ensures steps { IfOk result (λ step. UnitsReadFew step.units steps.old
             (heap_with self.old (F.bits flight.old)) steps.new
             (heap_with self.new (flying_after step.handed (F.bits flight.new)))) }
+        ensures handed { IfOk result (λ step. AreJobs step.handed
+            (jobs_told step report.new self.old.heap)) }
+        ensures err_where { OnErr result (IsAtGroupEnd self.old (F.bits flight.old)) }
         ensures still { StillOnErr F.bits F.origin F.home result self.old flight.old report.old
             self.new flight.new report.new }
     {
@@ -127,6 +143,7 @@ impl Collector {
             (heap_with self.old (F.bits sweeper.old)) steps.new
             (heap_with self.new (F.bits sweeper.new))) }
         ensures handed { IfOk result (λ step. step.handed ≡ None) }
+        ensures err_where { OnErr result (IsAtGroupEnd self.old (F.bits sweeper.old)) }
         ensures err { OnErr result (IsStill self.old (F.bits sweeper.old) self.new
             (F.bits sweeper.new)) }
         ensures err_report { OnErr result (report.new ≡ report.old) }
@@ -149,8 +166,7 @@ impl Collector {
     }
 
     // Does the unit that is left where none is quiet and no arena is out: the end of the current group, or
-    // a grouping step. What it reports goes right into its place: a `Unit` has room for a report, and is
-    // large.
+    // a grouping step.
     fn advance_one(&mut self, alloc: Global, report: &mut Option<Report>) -> Result<Step, NoMemory>
         requires rests { (flown : ℕ → Option ABits) × IsSound self.old flown
             × IsQuietDone self.old flown }
@@ -161,7 +177,10 @@ impl Collector {
             → AreOut self.old.heap.shape outs
             → Advances 1 self.old flown report.old step self.new (flying_after step.handed flown)
             (outs_after step.handed outs) report.new) }
+        ensures handed { IfOk result (λ step. AreJobs step.handed
+            (jobs_told step report.new self.old.heap)) }
         ensures err { OnErr result (self.new ≡ self.old) }
+        ensures err_formed { OnErr result (IsFormed self.old) }
         ensures err_report { OnErr result (report.new ≡ report.old) }
     {
         let Some(run) = self.run else {
@@ -185,27 +204,6 @@ impl Collector {
         })
     }
 
-    /// Takes the lowest arena in that is out: who sweeps hands over what was swept.
-    pub fn take_due<F: Sweeping>(&mut self, flight: &mut F, arena: u32) -> Unit
-        requires sound { IsSound self.old (F.bits flight.old) }
-        requires running { IsSome self.old.run }
-        requires out { AreOut self.old.heap.shape (F.left (F.origin flight.old)) }
-        requires lowest { IsLowestOut self.old.heap.shape arena }
-        ensures takes { TakesDue F.bits F.origin F.left F.home result.report result.finished
-            self.old flight.old self.new flight.new }
-        ensures told { TellsSweep arena result.report }
-        ensures none_handed { result.handed ≡ None }
-    {
-        let mut report = None;
-        let finished = self.take_due_into(flight, arena, &mut report);
-        Unit {
-            report,
-            handed: None,
-            finished,
-            due: None,
-        }
-    }
-
     // Takes the lowest arena in that is out, and puts what it reports into a place: returns whether the
     // collection is over.
     fn take_due_into<F: Sweeping>(
@@ -226,4 +224,21 @@ impl Collector {
         let taken = flight.take_lowest();
         self.take_one_into(taken, arena, report)
     }
+
+    // What holds of the groups. It does nothing.
+    pub(crate) fn groups_law(&self)
+        ensures { HasGroups self.now }
+    {
+        let Some(group) = self.order.current() else {
+            return;
+        };
+        word_law(group);
+    }
+}
+
+// A set of zones is a word of 64 bits. It does nothing.
+fn word_law(zones: ZoneSet)
+    ensures { (z : ℕ) → bit_at zones.bits z ≡ 1 → z < 64 }
+{
+    zones.is_empty();
 }

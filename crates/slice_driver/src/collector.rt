@@ -7,9 +7,8 @@ ghost use Rattle.heap_core.specs.Shape.{is_marking_state, state_in};
 ghost use Rattle.slice_driver.specs.Units.{none_flown};
 ghost use Rattle.slice_driver.specs.Represents.{Represents};
 
-use arena_table::Jobs;
 use gray_lists::Lists;
-use gz_names::{NoMemory, Report, ZoneSet};
+use gz_names::{NoMemory, ZoneSet};
 use heap_core::Heap;
 use mark_stack::Stack;
 use std::alloc::Global;
@@ -24,19 +23,6 @@ pub struct Run {
     pub zones: ZoneSet,
     /// Whether the groups are formed.
     pub formed: bool,
-}
-
-/// What one unit did.
-#[derive(Drop)]
-pub struct Unit {
-    /// What it reports.
-    pub report: Option<Report>,
-    /// The arenas that it handed to sweeping, ascending.
-    pub handed: Option<Jobs>,
-    /// Whether the collection is over with it.
-    pub finished: bool,
-    /// The arena that is to be taken in: then nothing was done, and `take_one` does it.
-    pub due: Option<u32>,
 }
 
 /// A heap, and the collection that runs over it.
@@ -126,29 +112,5 @@ impl Collector {
         ensures { result ≡ length self.now.heap.shape.weak.entries }
     {
         self.heap.entries()
-    }
-}
-
-impl Unit {
-    // A unit that reports nothing.
-    pub(crate) fn quiet() -> Self
-        ensures { result ≡ record { report = None; handed = None; finished = false; due = None } }
-    {
-        Unit {
-            report: None,
-            handed: None,
-            finished: false,
-            due: None,
-        }
-    }
-
-    // No unit: an arena is to be taken in.
-    pub(crate) fn due(arena: u32) -> Self
-        ensures { result ≡ record { report = None; handed = None; finished = false; due = Some arena } }
-    {
-        Unit {
-            due: Some(arena),
-            ..Unit::quiet()
-        }
     }
 }

@@ -2,16 +2,18 @@
 //
 // A count is tied to its ledger by a type, so a session that kept one would have to carry that type to
 // everybody who holds a session.
-ghost use Rattle.std.specs.Prelude.{◌≡◌, ◌↔◌, ◌<◌, ℕ, Err, None, Option, IfOk, IsSome, OnErr, OnOk};
+ghost use Rattle.std.specs.Prelude.{◌≡◌, ◌↔◌, ◌<◌, ℕ, Err, None, Option, false, IfOk, IsSome, OnErr, OnOk};
+ghost use Rattle.gz_names.specs.declared.replies.CmdFault.TheVariants as fault;
 ghost use Rattle.cell_bits.specs.declared.bits.Bits.{Bits as ABits};
-ghost use Rattle.colour_defs.specs.Step.{HasFewFields};
+ghost use Rattle.colour_defs.specs.Step.{HasFewFields, refusal_in};
 ghost use Rattle.gz_names.specs.Zones.{HasZone};
-ghost use Rattle.heap_core.specs.Effects.{HasRoom};
+ghost use Rattle.heap_core.specs.Effects.{HasRoom, takes_memory};
 ghost use Rattle.slice_driver.specs.Advances.{Advances, AreOut, MayAdvance};
 ghost use Rattle.slice_driver.specs.Begins.{AreMade};
+ghost use Rattle.slice_driver.specs.Commands.{WantsMemory};
 ghost use Rattle.slice_driver.specs.Units.{BeginsIn, BeginsWithin, DoesCommand, IsSound, KeepsFreedWords};
 ghost use Rattle.slice_driver.specs.Units.{RaisesWithin};
-ghost use Rattle.slice_driver.specs.Working.{IsStill};
+ghost use Rattle.slice_driver.specs.Working.{IsAtGroupEnd, IsStill};
 
 use crate::advance::Step;
 use crate::begin::BeginFault;
@@ -40,6 +42,12 @@ pub(crate) fn command<S: Sweeper, L: Ledger>(
         (S.bits sweeper.new) }
     ensures to_come { RaisesWithin collector.old (S.bits sweeper.old) cmd result collector.new
         (S.bits sweeper.new) }
+    ensures answered { IfOk result (λ answer. refusal_in answer ≡ None) }
+    ensures refused { (why : _) → result ≡ Err (fault.Refused why)
+        → (collector.new ≡ collector.old) × (S.bits sweeper.new ≡ S.bits sweeper.old) }
+    ensures wanted { result ≡ Err fault.NoMemory → WantsMemory collector.old (S.bits sweeper.old)
+        cmd collector.new (S.bits sweeper.new) }
+    ensures sure { takes_memory cmd ≡ false → result ≡ Err fault.NoMemory → ⊥ }
     ensures run { collector.new.run ≡ collector.old.run }
     ensures sound { IsSound collector.new (S.bits sweeper.new) }
     ensures out { AreOut collector.new.heap.shape (S.left (S.origin sweeper.new)) }
@@ -93,6 +101,8 @@ pub(crate) fn advance<S: Sweeper, L: Ledger>(
     ensures done { IfOk result (λ step. Advances limit collector.old (S.bits sweeper.old)
         report.old step collector.new (S.bits sweeper.new) (S.left (S.origin sweeper.new))
         report.new) }
+    ensures handed { IfOk result (λ step. step.handed ≡ None) }
+    ensures err_where { OnErr result (IsAtGroupEnd collector.old (S.bits sweeper.old)) }
     ensures err { OnErr result (IsStill collector.old (S.bits sweeper.old) collector.new
         (S.bits sweeper.new)) }
     ensures err_report { OnErr result (report.new ≡ report.old) }

@@ -1,5 +1,5 @@
 // The end of a group, and taking arenas in.
-ghost use Rattle.std.specs.Prelude.{◌≡◌, ◌↔◌, ◌<◌, ◌≤◌, ℕ, List, Option, None, Some, true, IsSomeAnd, IfOk};
+ghost use Rattle.std.specs.Prelude.{◌≡◌, ◌<◌, ◌≤◌, ℕ, List, Option, None, Some, true, IsSomeAnd, IfOk};
 ghost use Rattle.std.specs.Prelude.{IfSome, IfNone, OnErr, is_some, length, slice_get};
 ghost use Rattle.gz_names.specs.Zones.{HasZone};
 ghost use Rattle.std.specs.List.Sorted.{IsPermutation, IsSorted};
@@ -18,15 +18,13 @@ ghost use Rattle.slice_driver.specs.Advancing.{EndsSweeping};
 ghost use Rattle.slice_driver.specs.Grays.{grays_up_to};
 ghost use Rattle.slice_driver.specs.GroupEnd.{IsReady};
 ghost use Rattle.slice_driver.specs.HandingOut.{HandsOut};
-ghost use Rattle.slice_driver.specs.Left.{units_left};
 ghost use Rattle.slice_driver.specs.NameKinds.{is_cell};
 ghost use Rattle.slice_driver.specs.Sweeping.{AreFreed};
-ghost use Rattle.slice_driver.specs.Units.{AreJobs, DoesUnit, EndsColoured, HandsJobs, IsLowestOut, IsSound};
-ghost use Rattle.slice_driver.specs.Units.{TellsSweep, is_group_end, flying_after, jobs_at, reports_of};
-ghost use Rattle.slice_driver.specs.UnitsToCome.{units_to_come};
+ghost use Rattle.slice_driver.specs.Units.{IsLowestOut, IsSound};
+ghost use Rattle.slice_driver.specs.Units.{TellsSweep};
 ghost use Rattle.slice_driver.specs.Working.{EndsGroup};
 
-use crate::collector::{Collector, Unit};
+use crate::collector::Collector;
 use crate::colours::push_own_gray;
 use crate::zone_states::advance_all;
 use arena_table::Jobs;
@@ -50,27 +48,9 @@ pub(crate) struct Ended {
 }
 
 impl Collector {
-    /// Takes in the lowest arena that is handed to sweeping, with the slots of its white cells at
-    /// hand-out and the bits that were in flight for it. It takes no memory.
-    pub fn take_one(&mut self, taken: Taken, arena: u32) -> Unit
-        requires { MayTakeIn self.old arena taken.freed }
-        ensures takes { TakesIn arena taken.bits result.report result.finished self.old self.new }
-        ensures told { TellsSweep arena result.report }
-        ensures none_handed { result.handed ≡ None }
-        ensures none_due { result.due ≡ None }
-    {
-        let mut report = None;
-        let finished = self.take_one_into(taken, arena, &mut report);
-        Unit {
-            report,
-            handed: None,
-            finished,
-            due: None,
-        }
-    }
-
-    // Takes in the lowest arena that is handed to sweeping, and puts what it reports into a place: returns
-    // whether the collection is over.
+    // Takes in the lowest arena that is handed to sweeping, with the slots of its white cells at hand-out and
+    // the bits that were in flight for it, and puts what it reports into a place. Returns whether the
+    // collection is over. It takes no memory.
     #[inline(always)]
     pub(crate) fn take_one_into(
         &mut self,
@@ -131,42 +111,6 @@ impl Collector {
         }
         *report = Some(Report::Ended(group, grays, NameList::new(alloc)));
         Ok(Ended { handed, finished })
-    }
-
-    // Ends the current group, as a whole unit.
-    pub(crate) fn end_group(&mut self, alloc: Global) -> Result<Unit, NoMemory>
-        requires ready { (g : AZoneSet) × (rest : List AZoneSet) × IsReady self.old g rest }
-        requires sound { (flown : ℕ → Option ABits) × IsSound self.old flown }
-        ensures done { IfOk result (λ unit. (flown : ℕ → Option ABits)
-            → DoesUnit self.old flown (reports_of unit.report unit.finished) self.new
-            (flying_after unit.handed flown)) }
-        ensures handed { IfOk result (λ unit. AreJobs unit.handed
-            (jobs_at unit.report self.old.heap)) }
-        ensures jobs { IfOk result (λ unit. HandsJobs unit.handed self.old.heap.shape
-            self.new.heap.shape) }
-        ensures coloured { IfOk result (λ unit. (flown : ℕ → Option ABits)
-            → EndsColoured unit.report self.old flown self.new.heap.colours) }
-        ensures ended { IfOk result (λ unit. is_group_end unit.report ≡ true) }
-        ensures due { IfOk result (λ unit. unit.due ≡ None) }
-        ensures left { IfOk result (λ unit. (flown : ℕ → Option ABits) → IsSound self.old flown
-            → units_left self.new (flying_after unit.handed flown) < units_left self.old flown) }
-        ensures to_come { IfOk result (λ unit. (flown : ℕ → Option ABits) → IsSound self.old flown
-            → units_to_come self.new (flying_after unit.handed flown)
-            < units_to_come self.old flown) }
-        ensures finished { IfOk result (λ unit. (unit.finished ≡ true) ↔ (self.new.run ≡ None)) }
-        ensures err { OnErr result (self.new ≡ self.old) }
-        ensures made { self.new.heap.made ≡ self.old.heap.made }
-        ensures entries { length self.new.heap.shape.weak.entries
-            ≤ length self.old.heap.shape.weak.entries }
-    {
-        let mut report = None;
-        let Ended { handed, finished } = self.end_group_into(alloc, &mut report)?;
-        Ok(Unit {
-            report,
-            handed,
-            finished,
-            due: None,
-        })
     }
 }
 

@@ -1,11 +1,11 @@
-// The steps of a unit that form the groups.
-ghost use Rattle.std.specs.Prelude.{◌≡◌, ◌≤◌, ◌+◌, ℕ, Option, Some, false, IsSome, is_some, if◌then◌else◌};
+// The steps of a collection that form the groups.
+ghost use Rattle.std.specs.Prelude.{◌≡◌, ◌≤◌, ◌+◌, ℕ, Option, Some, false, if◌then◌else◌};
 ghost use Rattle.cell_bits.specs.declared.bits.Bits.{Bits as ABits};
 ghost use Rattle.zone_edges.specs.Looks.{AreAllLookedAt};
 ghost use Rattle.slice_driver.specs.Units.{IsSound};
-ghost use Rattle.slice_driver.specs.Working.{GroupsOrFormed, IsBlackDone, IsGrouping, LooksOrAll, TellsGrouping};
+ghost use Rattle.slice_driver.specs.Working.{IsGrouping, LooksOrAll, TellsGrouping};
 
-use crate::collector::{Collector, Run, Unit};
+use crate::collector::{Collector, Run};
 use gz_names::{Groups, Report};
 use heap_core::Steps;
 use std::sync::ledger::Ledger;
@@ -49,30 +49,6 @@ impl Collector {
         self.order.set(copy_of(&groups));
         *report = Some(Report::Groups(groups));
         true
-    }
-
-    // Before the groups are formed: looks at a wrapper, or else does a grouping step.
-    pub(crate) fn forms_groups<L: Ledger>(&mut self, steps: &mut Steps<L>) -> Option<Unit>
-        requires sound { (flown : ℕ → Option ABits) × IsSound self.old flown }
-        requires running { IsSome self.old.run }
-        ensures groups { GroupsOrFormed result self.old self.new }
-        ensures steps { steps.new ≤ steps.old + (if is_some result then 1 else 0) }
-    {
-        let run = self.run?;
-        if run.formed {
-            return None;
-        }
-        if self.looks(steps) {
-            return Some(Unit::quiet());
-        }
-        let mut report = None;
-        self.group_step(run, &mut report);
-        Some(Unit {
-            report,
-            handed: None,
-            finished: false,
-            due: None,
-        })
     }
 }
 

@@ -15,12 +15,6 @@
 //
 // Bits of arenas that are handed to sweeping are in flight, and come from elsewhere.
 //
-// The laws say what becomes of the worlds as a piece of work is done by places: a command, the
-// beginning of a collection, a quiet unit, a look at a wrapper, the groups, the end of a group, an
-// arena that comes in, the end of all. Each is the contract of a function that does nothing: in
-// laws.rt for commands and beginnings, in end_laws.rt for units. A unit is lawful in each world that
-// the collector stood for, and the collector stands for the world after it (`DoesUnit`).
-//
 // `command` does a command, also between two units of a collection: it makes room, exposes what is
 // overwritten, what a `wrap` is about and what is handed out, and lets the heap do the command. Each
 // barrier but that of a woken cell is on a cell that black marking would reach anyway, so it leaves
@@ -32,19 +26,16 @@
 // prepared and its marking begins at once, with no unit between. Mark bits are cleared, gray roots
 // buffered, black roots marked.
 //
-// A collection goes on step by step. `advance` does the first of these that has work, each by the laws of
-// its step:
+// A collection goes on unit by unit, and each unit does the first of six steps that has work. They stand
+// in `advance`, and those that report nothing in `some_quiet_units`, which `quiet_units` calls for many of
+// them at once: each leaves the world as it is, so many are told like one, and no report is built for them.
 //
-//     quiet_units        units that report nothing, as many as come one after another:
-//         marks_black    a cell that is pending in black, or a weak entry for black
-//         looks          before the groups are formed, a look at a wrapper
-//         begins_zone    gray marking of a zone of the current group begins
-//         marks_gray     a piece of gray marking of the group, or a weak entry for gray
-//     next_out           the lowest arena that is out is due: it is taken in
-//     advance_one        the unit that is left: a grouping step, or the current group ends
-//
-// A quiet unit leaves each world as it is, so one definition tells of any number of them, and no report is
-// built or moved for them.
+//     1 marks_black        a cell that is pending in black, or a weak entry for black
+//     2 looks, group_step  before the groups are formed, a look at a wrapper, or a grouping step
+//     3 begins_zone        gray marking of a zone of the current group begins
+//     4 marks_gray_up_to   gray marking of the group, or a weak entry for gray
+//     5 take_due_into      the lowest arena that is out is taken in
+//     6 end_group_into     the current group ends
 //
 // So a group is grouped once black marking rests, and ends once all of its marking rests and no arena
 // of the group before is out. Each unit lowers one number (`units_left`), which is below 2^64
@@ -59,7 +50,6 @@ mod colours;
 mod commands;
 mod counted;
 mod dump;
-mod end_laws;
 mod ends;
 mod gray_roots;
 mod grouping_steps;
@@ -70,11 +60,10 @@ mod present;
 mod quiet_units;
 mod root_marking;
 mod session;
-mod units;
 mod zone_states;
 
 pub use advance::Step;
 pub use begin::BeginFault;
-pub use collector::{Collector, Run, Unit};
+pub use collector::{Collector, Run};
 pub use laws::zones_made_law;
 pub use session::{Session, SessionFault};

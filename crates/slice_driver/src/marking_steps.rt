@@ -1,14 +1,16 @@
-// The steps of a unit that mark.
-ghost use Rattle.std.specs.Prelude.{◌≡◌, ◌≤◌, ◌<◌, [], IsSome};
+// The steps of a collection that mark.
+ghost use Rattle.std.specs.Prelude.{◌≡◌, ◌≤◌, ◌<◌, ℕ, [], Option, IsSome};
+ghost use Rattle.cell_bits.specs.declared.bits.Bits.{Bits as ABits};
 ghost use Rattle.barriers.specs.Colours.{grays_outside};
 ghost use Rattle.marker.specs.GrayBits.{AreGraying};
 ghost use Rattle.marker.specs.Units.{IsGrayIdle};
 ghost use Rattle.slice_driver.specs.Collector.{heap_with};
 ghost use Rattle.slice_driver.specs.EdgesRead.{ReadsFew, TriesFew};
+ghost use Rattle.slice_driver.specs.Quiet.{IsFormed};
 ghost use Rattle.slice_driver.specs.Units.{IsSound};
 ghost use Rattle.weak_maps.specs.WeakMaps.{NoneLeft};
 ghost use Rattle.weak_maps.specs.declared.colours.MarkColour.TheVariants as mark;
-ghost use Rattle.slice_driver.specs.Working.{DidOrStill, DoesQuietUnits, HasBegun, IsBlackDone};
+ghost use Rattle.slice_driver.specs.Working.{BeginsOrBegun, DidOrStill, DoesQuietUnits, HasBegun, IsBlackDone};
 ghost use Rattle.slice_driver.specs.Working.{IsGrayDone, IsGroupDone, TriesGroup};
 
 use crate::collector::Collector;
@@ -18,6 +20,7 @@ use heap_core::Steps;
 use marker::{Work, black_unit, gray_unit, weak_unit};
 use std::sync::ledger::Ledger;
 use weak_maps::MarkColour;
+use zones::State;
 
 impl Collector {
     // Follows a cell that is pending in black. False where there is none.
@@ -143,27 +146,23 @@ impl Collector {
         self.adds_gray(flight)
     }
 
-    // Gray marking of the current group, whose zones have begun. False where it has nothing left to
-    // do, or no group is left.
-    #[inline(always)]
-    pub(crate) fn marks_gray<F: Flight, L: Ledger>(
-        &mut self,
-        flight: &mut F,
-        steps: &mut Steps<L>,
-    ) -> bool
-        requires sound { IsSound self.old (F.bits flight.old) }
-        requires running { IsSome self.old.run }
-        requires begun { HasBegun self.old }
-        ensures done { DidOrStill result (IsGroupDone self.old (F.bits flight.old)) self.old
-            (F.bits flight.old) self.new (F.bits flight.new) }
-        ensures steps { TriesFew result steps.old (heap_with self.old (F.bits flight.old)) steps.new
-            (heap_with self.new (F.bits flight.new)) }
-        ensures origin { F.origin flight.new ≡ F.origin flight.old }
+    // Takes a zone of the current group on to gray marking. False where all have begun.
+    pub(crate) fn begins_zone(&mut self) -> bool
+        requires sound { (flown : ℕ → Option ABits) × IsSound self.old flown }
+        requires formed { IsFormed self.old }
+        ensures begins { BeginsOrBegun result self.old self.new }
+        ensures grays { (flown : ℕ → Option ABits) → grays_outside (heap_with self.new flown)
+            ≡ grays_outside (heap_with self.old flown) }
     {
         let Some(group) = self.order.current() else {
             return false;
         };
-        self.marks_group(group, flight, steps)
+        let waiting = self.heap.in_state(State::MarkBlackOnly);
+        let Some(zone) = group.without(group.without(waiting)).first() else {
+            return false;
+        };
+        self.heap.advance(zone);
+        true
     }
 
     // Does pieces of the gray marking of the current group, whose zones have begun, at most `limit`, and
@@ -183,6 +182,7 @@ impl Collector {
         ensures steps { ReadsFew result steps.old (heap_with self.old (F.bits flight.old)) steps.new
             (heap_with self.new (F.bits flight.new)) }
         ensures rests { result < limit → IsGroupDone self.new (F.bits flight.new) }
+        ensures ended { IsGroupDone self.old (F.bits flight.old) → result ≡ 0 }
         ensures origin { F.origin flight.new ≡ F.origin flight.old }
     {
         let Some(group) = self.order.current() else {

@@ -4,7 +4,7 @@ ghost use Rattle.slice_driver.specs.Collector.{heap_with};
 ghost use Rattle.slice_driver.specs.EdgesRead.{ReadsFew};
 ghost use Rattle.slice_driver.specs.Quiet.{IsFormed};
 ghost use Rattle.slice_driver.specs.Units.{IsSound, KeepsFreedWords};
-ghost use Rattle.slice_driver.specs.Working.{DoesQuietUnits, IsGrouping, IsQuietDone};
+ghost use Rattle.slice_driver.specs.Working.{DoesQuietUnits, IsGrouping, IsQuietDone, IsResting};
 
 use crate::collector::Collector;
 use cell_bits::Flight;
@@ -15,8 +15,8 @@ impl Collector {
     /// Does units of the collection that runs while they report nothing and hand no arena to
     /// sweeping, at most `limit`, and returns how many it did. Each does the first of these that has
     /// work: black marking, a look at a wrapper, the beginning of a zone, gray marking. Fewer than
-    /// `limit` are done exactly when none of these has work left. What is left for `unit` then is a
-    /// grouping step, the end of a group, or an arena that is due.
+    /// `limit` are done exactly when none of these has work left. What is left for `advance` then is a
+    /// grouping step, an arena that is due, or the end of a group.
     ///
     /// Such a unit leaves each world as it is. It takes no memory, and builds no report. It reads at most
     /// nine edges, and eight for each gray cell outside marking zones that turns black.
@@ -34,6 +34,7 @@ impl Collector {
         ensures steps { ReadsFew result steps.old (heap_with self.old (F.bits flight.old)) steps.new
             (heap_with self.new (F.bits flight.new)) }
         ensures rests { result < limit → IsQuietDone self.new (F.bits flight.new) }
+        ensures resting { IsResting self.old (F.bits flight.old) → result ≡ 0 }
         ensures sound { IsSound self.new (F.bits flight.new) }
         ensures words { KeepsFreedWords self.old.heap.shape self.new.heap.shape }
         ensures running { IsSome self.new.run }
@@ -74,6 +75,7 @@ impl Collector {
         ensures steps { ReadsFew result steps.old (heap_with self.old (F.bits flight.old)) steps.new
             (heap_with self.new (F.bits flight.new)) }
         ensures rests { result ≡ 0 → IsQuietDone self.new (F.bits flight.new) }
+        ensures resting { IsResting self.old (F.bits flight.old) → result ≡ 0 }
         ensures origin { F.origin flight.new ≡ F.origin flight.old }
     {
         if self.marks_black(flight, steps) {

@@ -2,16 +2,17 @@
 ghost use Rattle.std.specs.Prelude.{◌≡◌, ◌↔◌, ◌⊎◌, ◌≤◌, ◌<◌, Err, None, IfOk, IfSome, IsSome, IsTrue, OnErr, OnOk};
 ghost use Rattle.std.specs.Prelude.{Some, false, ℕ};
 ghost use Rattle.gz_names.specs.Zones.{HasZone};
-ghost use Rattle.colour_defs.specs.Step.{HasFewFields};
-ghost use Rattle.colour_defs.specs.World.{first_world};
-ghost use Rattle.heap_core.specs.Effects.{HasRoom};
-ghost use Rattle.heap_core.specs.Heap.{HeapState};
+ghost use Rattle.colour_defs.specs.Step.{HasFewFields, refusal_in};
+ghost use Rattle.colour_defs.specs.World.{World, first_world};
+ghost use Rattle.heap_core.specs.Effects.{HasRoom, takes_memory};
+ghost use Rattle.heap_core.specs.Heap.{HeapState, joined};
 ghost use Rattle.slice_driver.specs.Begins.{AreMade};
+ghost use Rattle.slice_driver.specs.Commands.{WantsMemory};
 ghost use Rattle.slice_driver.specs.Represents.{Represents};
 ghost use Rattle.slice_driver.specs.Sessions.{AreDumpLines, AreGrayNames, IsNowhereSettled};
 ghost use Rattle.slice_driver.specs.Sessions.{SessionSteps, outcome_of};
 ghost use Rattle.slice_driver.specs.Units.{BeginsIn, BeginsWithin, DoesCommand, RaisesWithin};
-ghost use Rattle.slice_driver.specs.Working.{IsStill};
+ghost use Rattle.slice_driver.specs.Working.{IsAtGroupEnd, IsStill};
 ghost use Rattle.sweeping.specs.ArenasOut.{flown_by};
 
 use crate::advance::Step;
@@ -68,6 +69,7 @@ impl Session<MainSweeper> {
     pub fn new(alloc: Global) -> Result<Self, NoMemory>
         ensures first { IfOk result (λ s. Represents s.collector (flown_by s.sweeper) first_world) }
         ensures idle { IfOk result (λ s. s.collector.run ≡ None) }
+        ensures report { IfOk result (λ s. s.report ≡ None) }
     {
         Ok(Session {
             alloc,
@@ -79,16 +81,26 @@ impl Session<MainSweeper> {
 }
 
 impl<S: Sweeper> Session<S> {
-    /// Does a command on the graph, also between two steps of a collection.
+    /// Does a command on the graph, also between two steps of a collection. A command that is refused
+    /// changes nothing. Only a command that is not refused returns `NoMemory`, and only one that makes
+    /// something: then the graph is as it was.
     pub fn command(&mut self, cmd: GraphCmd) -> Result<Reply, SessionFault>
         requires fields { HasFewFields cmd }
         ensures done { IfSome (outcome_of result) (λ outcome. DoesCommand self.old.collector
             (S.bits self.old.sweeper) cmd outcome self.new.collector (S.bits self.new.sweeper)) }
         ensures to_come { IfSome (outcome_of result) (λ outcome. RaisesWithin self.old.collector
             (S.bits self.old.sweeper) cmd outcome self.new.collector (S.bits self.new.sweeper)) }
+        ensures answered { IfOk result (λ answer. refusal_in answer ≡ None) }
+        ensures refused { (why : _) → result ≡ Err (SessionFault.Refused why)
+            → (self.new.collector ≡ self.old.collector)
+            × (S.bits self.new.sweeper ≡ S.bits self.old.sweeper) }
+        ensures wanted { result ≡ Err SessionFault.NoMemory → WantsMemory self.old.collector
+            (S.bits self.old.sweeper) cmd self.new.collector (S.bits self.new.sweeper) }
+        ensures sure { takes_memory cmd ≡ false → result ≡ Err SessionFault.NoMemory → ⊥ }
         ensures full { result ≡ Err SessionFault.Full
             → (self.new ≡ self.old) × (4294967295 ≤ self.old.collector.heap.made) }
         ensures run { self.new.collector.run ≡ self.old.collector.run }
+        ensures report { self.new.report ≡ self.old.report }
     {
         if !has_room(self.collector.made(), &cmd) {
             return Err(SessionFault::Full);
@@ -114,6 +126,7 @@ impl<S: Sweeper> Session<S> {
             ⊎ (AreMade self.old.collector.heap.shape zones → ⊥))) }
         ensures refused { OnErr result (self.new.collector ≡ self.old.collector) }
         ensures sweeper { self.new.sweeper ≡ self.old.sweeper }
+        ensures report { self.new.report ≡ self.old.report }
     {
         if self.collector.running() {
             return Err(BeginFault::Running);
@@ -126,14 +139,18 @@ impl<S: Sweeper> Session<S> {
 
     /// Does a step of the collection that runs, at most `limit` units: those that report nothing, as
     /// many as come one after another, or one that reports something, which `report` returns then.
-    /// Nothing is done when none runs. After `NoMemory` nothing was done, and the step may be tried
-    /// again.
+    /// Nothing is done when none runs. It returns `NoMemory` only where a group is to end; then nothing
+    /// was done, and the step may be tried again.
     pub fn advance(&mut self, limit: u64) -> Result<Step, NoMemory>
         ensures done { IfOk result (λ step. SessionSteps limit self.old.collector
-            (S.bits self.old.sweeper) step self.new.collector (S.bits self.new.sweeper)
-            self.new.report) }
+            (S.bits self.old.sweeper) self.old.report step self.new.collector
+            (S.bits self.new.sweeper) (S.left (S.origin self.new.sweeper)) self.new.report) }
+        ensures handed { IfOk result (λ step. step.handed ≡ None) }
         ensures err { OnErr result (IsStill self.old.collector (S.bits self.old.sweeper)
             self.new.collector (S.bits self.new.sweeper)) }
+        ensures err_where { OnErr result (IsAtGroupEnd self.old.collector
+            (S.bits self.old.sweeper)) }
+        ensures err_report { OnErr result (self.new.report ≡ self.old.report) }
     {
         if limit == 0 {
             return Ok(Step::none());
@@ -165,6 +182,11 @@ impl<S: Sweeper> Session<S> {
         ensures marking { IfOk result (λ names. names ≡ None
             → IsNowhereSettled self.old.collector (S.bits self.old.sweeper)) }
         ensures collector { self.new.collector ≡ self.old.collector }
+        ensures worlds { (w : World) → Represents self.old.collector (S.bits self.old.sweeper) w
+            → Represents self.new.collector (S.bits self.new.sweeper) w }
+        ensures colours { joined self.new.collector.heap (S.bits self.new.sweeper)
+            ≡ joined self.old.collector.heap (S.bits self.old.sweeper) }
+        ensures report { self.new.report ≡ self.old.report }
     {
         if !self.collector.settled() {
             return Ok(None);
@@ -180,6 +202,11 @@ impl<S: Sweeper> Session<S> {
         ensures marking { IfOk result (λ lines. lines ≡ None
             → IsNowhereSettled self.old.collector (S.bits self.old.sweeper)) }
         ensures collector { self.new.collector ≡ self.old.collector }
+        ensures worlds { (w : World) → Represents self.old.collector (S.bits self.old.sweeper) w
+            → Represents self.new.collector (S.bits self.new.sweeper) w }
+        ensures colours { joined self.new.collector.heap (S.bits self.new.sweeper)
+            ≡ joined self.old.collector.heap (S.bits self.old.sweeper) }
+        ensures report { self.new.report ≡ self.old.report }
     {
         if !self.collector.settled() {
             return Ok(None);

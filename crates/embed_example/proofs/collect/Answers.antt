@@ -2,7 +2,7 @@ use Rattle.std.proofs.Common.{◌≡◌, ◌∙◌, Result, Ok, Err, IfOk, Some,
 use Rattle.std.specs.Result.{result_ok}
 use Rattle.slice_driver.specs.Sessions.{SessionSteps}
 use Rattle.slice_driver.specs.declared.advance.Step.{Step}
-use Rattle.sweeping.specs.ArenasOut.{flown_by}
+use Rattle.sweeping.specs.ArenasOut.{flown_by, outs_of}
 use Rattle.embed_example.proofs.collect.Goals as goal
 
 -- what is told of a step that was done
@@ -15,7 +15,8 @@ pub loop-session-smaller-after-step : goal.loop-session-smaller-after-step
 loop-session-smaller-after-step c =
     let old = c.loop-session.session in
     let new = c.advance.new.self in
-    let did = of_step (λ step. SessionSteps 1000 old.collector (flown_by old.sweeper) step new.collector
-    (flown_by new.sweeper) new.report) c.advance.result c.in_ok-step.step
+    let did = of_step (λ step. SessionSteps 1000 old.collector (flown_by old.sweeper) old.report step new.collector
+    (flown_by new.sweeper) (outs_of new.sweeper) new.report) c.advance.result c.in_ok-step.step
     (sym c.ok-in-loop-session.ensures.value ∙ c.in_ok-step.was) c.advance.ensures.done in
-    omega (arith, did.less, did.some (omega arith) (c.running.ensures.0 c.loop-session-test.true))
+    let steps = did.steps (omega arith) (c.running.ensures.0 c.loop-session-test.true) in
+    omega (arith, steps.less, steps.some)

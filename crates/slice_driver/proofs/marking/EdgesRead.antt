@@ -1,7 +1,6 @@
 -- How many edges units read, and what stays of the gray cells outside marking zones.
-use Rattle.std.proofs.Common.{◌≡◌, ◌∙◌, ◌≤◌, ℕ, ap, sym, subst, List, Option, None, Result, Ok, Err, IfOk, arith}
+use Rattle.std.proofs.Common.{◌≡◌, ◌∙◌, ◌≤◌, ℕ, ap, Option, Result, Ok, Err, IfOk, arith}
 use Rattle.cell_bits.specs.declared.bits.Bits.{Bits}
-use Rattle.cell_bits.specs.declared.jobs.Job.{Job}
 use Rattle.sweeping.specs.ArenasOut.{flying_after}
 use Rattle.heap_core.specs.Heap.{HeapState}
 use Rattle.barriers.specs.Colours.{grays_outside}
@@ -9,27 +8,12 @@ use Rattle.slice_driver.specs.Collector.{CollectorState, heap_with}
 use Rattle.slice_driver.specs.EdgesRead.{ReadsFew, UnitsReadFew}
 use Rattle.slice_driver.specs.Working.{IsStill}
 use Rattle.slice_driver.specs.declared.advance.Step.{Step}
-use Rattle.slice_driver.specs.declared.collector.Unit.{Unit}
 
 -- where nothing was done, as many are gray
 pub still_grays : (c : CollectorState) (f : ℕ → Option Bits) (d : CollectorState) (g : ℕ → Option Bits)
     → IsStill c f d g → grays_outside (heap_with d g) ≡ grays_outside (heap_with c f)
 still_grays c f d g still = ap (λ (x : CollectorState). grays_outside (heap_with x g)) still.same
     ∙ ap grays_outside still.colours
-
--- a unit that hands out no arena
-pub none_handed_reads : (unit : Unit) (read now : ℕ) (h : HeapState) (d : CollectorState) (f : ℕ → Option Bits)
-    → unit.handed ≡ None → UnitsReadFew 1 read h now (heap_with d f)
-    → UnitsReadFew 1 read h now (heap_with d (flying_after unit.handed f))
-none_handed_reads unit read now h d f none few = subst
-    (λ (o : Option (List Job)). UnitsReadFew 1 read h now (heap_with d (flying_after o f))) (sym none) few
-
--- the end of a group reads none
-pub end_reads : {E : Type 0} (r : Result Unit E) (read now : ℕ) (h : HeapState) (d : CollectorState)
-    (f : ℕ → Option Bits) → now ≤ read
-    → IfOk r (λ (unit : Unit). UnitsReadFew 1 read h now (heap_with d (flying_after unit.handed f)))
-end_reads (Ok unit) read now h d f none = omega (arith, none)
-end_reads (Err why) read now h d f none = tt
 
 -- this number of units that report nothing read few
 pub quiet_reads : (n read now : ℕ) (h k : HeapState) → ReadsFew n read h now k → UnitsReadFew n read h now k

@@ -1,6 +1,6 @@
 -- What a session promises, from what its collector does.
 use Rattle.std.proofs.Common.{◌≡◌, ◌<◌, ℕ, [], List, Option, Some, None, Result, Ok, Err, IfOk, IfSome, OnErr, OnOk}
-use Rattle.std.proofs.Common.{IsSome, false, refl, sym, subst, arith}
+use Rattle.std.proofs.Common.{IsSome, refl, sym, ap, ◌∙◌, subst}
 use Rattle.gz_names.specs.declared.replies.CmdFault.{CmdFault}
 use Rattle.gz_names.specs.declared.replies.Reply.{Reply}
 use Rattle.gz_names.specs.declared.replies.Report.{Report}
@@ -12,41 +12,25 @@ use Rattle.sweeping.specs.ArenasOut.{flown_by, outs_of}
 use Rattle.heap_core.specs.Shape.{Shape}
 use Rattle.slice_driver.specs.Advances.{Advances, AreOut}
 use Rattle.slice_driver.specs.Collector.{CollectorState}
-use Rattle.slice_driver.specs.Sessions.{SessionSteps, outcome_of}
+use Rattle.slice_driver.specs.Sessions.{SessionSteps, no_step, outcome_of}
 use Rattle.slice_driver.specs.Represents.{Represents}
 use Rattle.slice_driver.specs.Units.{IsFreedWord, IsSound, KeepsFreedWords, none_flown}
 use Rattle.slice_driver.specs.Working.{IsStill}
 use Rattle.slice_driver.specs.declared.advance.Step.{Step}
 use Rattle.slice_driver.specs.declared.session.SessionFault.{SessionFault}
+use Rattle.slice_driver.proofs.abstraction.Named.{some_one}
 use Rattle.slice_driver.proofs.marking.MarkingUnits.{still_sound}
 use Rattle.slice_driver.proofs.taking_in.TakingDue.{out_none}
 
-abbrev pub no_step : Step
-no_step = record { units = 0; reported = false; finished = false; handed = None }
-
 -- no unit was done
-none_done : (limit : ℕ) (c : CollectorState) (f : ℕ → Option Bits) (report : Option Report)
-    → (0 < limit → IsSome c.run → ⊥) → SessionSteps limit c f no_step c f report
-none_done limit c f report idle = record {
-  done = λ w ok r. record {
-    units = [];
-    number = refl;
-    reports_are = refl;
-    after = w;
-    done = refl;
-    valid = ok;
-    represents = r;
-  };
-  most = omega arith;
-  some = λ lt running. absurd (idle lt running);
-  less = omega arith;
-  to_come = omega arith;
+pub no_step_done : (step : Step) (limit : ℕ) (c : CollectorState) (f : ℕ → Option Bits) (outs : List (ℕ × ℕ))
+    (report : Option Report) → step ≡ no_step → (0 < limit → IsSome c.run → ⊥)
+    → SessionSteps limit c f report step c f outs report
+no_step_done step limit c f outs report is idle = record {
+  steps = λ lt running. absurd (idle lt running);
+  none = λ n. is;
+  still = λ n. (refl, refl, refl);
 }
-
-pub no_step_done : (step : Step) (limit : ℕ) (c : CollectorState) (f : ℕ → Option Bits) (report : Option Report)
-    → step ≡ no_step → (0 < limit → IsSome c.run → ⊥) → SessionSteps limit c f step c f report
-no_step_done step limit c f report is idle = subst (λ (x : Step). SessionSteps limit c f x c f report) (sym is)
-    (none_done limit c f report idle)
 
 -- words are kept where a call did its work, and where it did nothing
 pub begin_words : {E : Type 0} {X : Type 0} (r : Result X E) (s t : Shape) → OnOk r (KeepsFreedWords s t)
@@ -58,17 +42,15 @@ begin_words (Err why) s t words same = λ a freed is. subst (λ (x : Shape). IsF
 module _ (limit : ℕ) (c : CollectorState) (f : ℕ → Option Bits) (before : Option Report) (d : CollectorState)
     (g : ℕ → Option Bits) (now : Option Report) where
   -- a step of a session is one of its collector
-  pub ok_steps : {E : Type 0} (r : Result Step E) (outs : List (ℕ × ℕ))
+  pub ok_steps : {E : Type 0} (r : Result Step E) (outs : List (ℕ × ℕ)) → 0 < limit → IsSome c.run
       → IfOk r (λ (step : Step). Advances limit c f before step d g outs now)
-      → IfOk r (λ (step : Step). SessionSteps limit c f step d g now)
-  ok_steps (Ok step) outs a = record {
-    done = a.done;
-    most = a.most;
-    some = λ lt running. a.some;
-    less = a.less;
-    to_come = a.to_come;
+      → IfOk r (λ (step : Step). SessionSteps limit c f before step d g outs now)
+  ok_steps (Ok step) outs some running a = record {
+    steps = λ lt is. a;
+    none = λ n. absurd (n some running);
+    still = λ n. absurd (n some running);
   }
-  ok_steps (Err why) outs a = tt
+  ok_steps (Err why) outs some running a = tt
 
   -- the collector stands for a valid world after it
   pub after_sound : {E : Type 0} (r : Result Step E) (outs : List (ℕ × ℕ)) → IsSound c f
@@ -107,3 +89,12 @@ new_first c jobs is rep = subst (λ (xs : List Job). Represents c (flown_by xs) 
 pub told_done : (r : Result Reply SessionFault) (o : Result Reply CmdFault) (P : Result Reply CmdFault → Type 0)
     → outcome_of r ≡ Some o → P o → IfSome (outcome_of r) P
 told_done r o P is p = subst (λ (x : Option (Result Reply CmdFault)). IfSome x P) (sym is) p
+
+pub told_ok : (r : Result Reply SessionFault) (o : Result Reply CmdFault) (P : Reply → Type 0)
+    → outcome_of r ≡ Some o → IfOk o P → IfOk r P
+told_ok (Ok reply) o P is p = subst (λ (x : Result Reply CmdFault). IfOk x P) (sym (some_one _ _ is)) p
+told_ok (Err why) o P is p = tt
+
+pub told_as : (r s : Result Reply SessionFault) (o p : Result Reply CmdFault) → outcome_of r ≡ Some o → r ≡ s
+    → outcome_of s ≡ Some p → o ≡ p
+told_as r s o p is same other = some_one _ _ (sym is ∙ (ap outcome_of same ∙ other))

@@ -1,27 +1,33 @@
 -- Steps of a collection: units that report nothing, and one that is told.
-use Rattle.std.proofs.Common.{◌≡◌, ◌↔◌, ◌<◌, ◌≤◌, ◌+◌, ℕ, zero, suc, Bool, true, false, List, [], ◌∷◌, length, Option}
-use Rattle.std.proofs.Common.{Some, None, Result, Ok, Err, IfOk, IsSome, is_some, refl, ap, sym, ◌∙◌, subst, arith}
+use Rattle.std.proofs.Common.{◌≡◌, ◌≢◌, ◌↔◌, ◌<◌, ◌≤◌, ◌+◌, ℕ, zero, suc, Bool, true, false, List, [], ◌∷◌, length}
+use Rattle.std.proofs.Common.{Option, Some, None, Result, Ok, Err, IfOk, OnErr, IsSome, is_some, refl, ap, sym, ◌∙◌}
+use Rattle.std.proofs.Common.{subst, arith}
 use Rattle.std.proofs.Common.{if◌then◌else◌, append-nil}
 use Rattle.std.specs.List.{flat_map}
 use Rattle.gz_names.specs.declared.replies.Report.{Report}
 use Rattle.gz_names.specs.declared.replies.Report.TheVariants as report
 use Rattle.cell_bits.specs.declared.bits.Bits.{Bits}
 use Rattle.cell_bits.specs.declared.jobs.Job.{Job}
-use Rattle.sweeping.specs.ArenasOut.{AscendHanded, flying_after, outs_after}
+use Rattle.sweeping.specs.ArenasOut.{AscendHanded, flying_after, outs_after, outs_of}
+use Rattle.heap_core.specs.Shape.{Shape, out_of}
+use Rattle.heap_core.specs.Heap.{HeapState}
 use Rattle.colour_defs.specs.Units.{sweeps_in}
 use Rattle.colour_defs.specs.World.{World}
 use Rattle.colour_defs.specs.Lawful.{AreLawfulUnits, IsLawfulUnit, IsRunning, quiet, says, last}
 use Rattle.colour_defs.proofs.ValidReports.{unit_valid}
-use Rattle.slice_driver.specs.Advances.{Advances, AreOut, DoesUnits, told}
+use Rattle.slice_driver.specs.Advances.{Advances, AreOut, DoesUnits, jobs_told, told}
 use Rattle.slice_driver.specs.Collector.{CollectorState, RunState}
 use Rattle.slice_driver.specs.Left.{units_left}
+use Rattle.slice_driver.specs.Quiet.{IsFormed}
 use Rattle.slice_driver.specs.Represents.{Represents}
-use Rattle.slice_driver.specs.Units.{DoesUnit, IsSound, TellsSweep, is_group_end, reports_of}
+use Rattle.slice_driver.specs.Units.{AreJobs, DoesUnit, EndsColoured, IsLowestOut, IsSound, TellsSweep, is_group_end}
+use Rattle.slice_driver.specs.Units.{jobs_at, reports_of}
 use Rattle.slice_driver.specs.UnitsToCome.{units_to_come}
-use Rattle.slice_driver.specs.Working.{DoesQuietUnits, EndsGroup, IsBlackDone, IsQuietDone, IsStill, TellsGrouping}
-use Rattle.slice_driver.specs.Working.{place_of}
+use Rattle.slice_driver.specs.Working.{DoesQuietUnits, EndsGroup, IsAtGroupEnd, IsQuietDone, IsResting, IsStill}
+use Rattle.slice_driver.specs.Working.{TellsGrouping, place_of}
 use Rattle.slice_driver.specs.declared.advance.Step.{Step}
-use Rattle.slice_driver.specs.declared.collector.Unit.{Unit}
+use Rattle.slice_driver.proofs.marking.AtGroupEnd.{coloured_before, end_before, formed_rests, no_colours, no_jobs}
+use Rattle.slice_driver.proofs.marking.AtGroupEnd.{one_lowest, quiet_done_before, still_at_end, still_resting}
 use Rattle.slice_driver.proofs.marking.MarkingUnits.{still_left, still_to_come}
 use Rattle.slice_driver.proofs.abstraction.SoundAfter.{unit_sound}
 use Rattle.slice_driver.proofs.taking_in.TakingDue.{ascend_handed, out_handed, out_kept}
@@ -82,13 +88,15 @@ runs_on b o e some = (
   λ n. absurd (let none = ap is_some n in cc (some, none)),
 )
 
--- some units that report nothing
+-- some units that report nothing, which are none where marking rests
 pub quiet_advances : (limit n : ℕ) (c d : CollectorState) (f g : ℕ → Option Bits) (outs rest : List (ℕ × ℕ))
-    (place : Option Report) → DoesQuietUnits n c f d g → 0 < n → n ≤ limit → IsSound d g → rest ≡ outs
-    → AreOut c.heap.shape outs
+    (place : Option Report) → DoesQuietUnits n c f d g → 0 < n → n ≤ limit → (IsResting c f → n ≡ 0) → IsSound d g
+    → rest ≡ outs → AreOut c.heap.shape outs
     → Advances limit c f place (record { units = n; reported = false; finished = false; handed = None }) d g rest place
-quiet_advances limit n c d f g outs rest place does some most s same are =
-    let goes = does.some some in record {
+quiet_advances limit n c d f g outs rest place does some most resting s same are =
+    let goes = does.some some in
+    let busy : IsResting c f → ⊥ = λ rests. (let none = resting rests in omega (arith, none, some)) in
+    record {
       done = quiet_done c d f g n goes.done;
       some = some;
       most = most;
@@ -97,6 +105,12 @@ quiet_advances limit n c d f g outs rest place does some most s same are =
       told_some = λ e. absurd (cc e);
       told_none = λ e. refl;
       finished = runs_on false d.run refl goes.running;
+      one = λ e. absurd (cc e);
+      rests = λ e. absurd (cc e);
+      ended_where = (λ e. absurd (cc e), λ at. absurd (busy at.0));
+      due_where = λ rests a low. absurd (busy rests);
+      coloured = λ e. absurd (cc e);
+      queued = λ some. absurd (some refl);
       sound = s;
       out = out_kept c.heap.shape d.heap.shape outs rest same goes.words are;
       ascending = tt;
@@ -104,9 +118,14 @@ quiet_advances limit n c d f g outs rest place does some most s same are =
       entries = let e = ap (λ ws. length ws.entries) goes.weak_is in omega (arith, e);
     }
 
--- what one unit told, in its place
-abbrev pub step_of : Unit → Step
-step_of unit = record { units = 1; reported = is_some unit.report; finished = unit.finished; handed = unit.handed }
+-- what one unit said, in its place
+abbrev step_of : Option Report → Option (List Job) → Bool → Step
+step_of said handed finished = record {
+  units = 1;
+  reported = is_some said;
+  finished = finished;
+  handed = handed;
+}
 
 told_said : (said before : Option Report) (finished : Bool)
     → (if is_some said then reports_of (place_of said before) finished else []) ≡ reports_of said finished
@@ -121,41 +140,94 @@ said_none : (said before : Option Report) → is_some said ≡ false → place_o
 said_none None before e = refl
 said_none (Some r) before e = absurd (cc e)
 
--- one unit was done and told
-module _ (c d : CollectorState) (f g : ℕ → Option Bits) (outs : List (ℕ × ℕ)) (unit : Unit)
-    (before place : Option Report) (step : Step) (step_is : step ≡ step_of unit)
-    (place_is : place ≡ place_of unit.report before) where
-  pub one_advances : DoesUnit c f (reports_of unit.report unit.finished) d (flying_after unit.handed g)
-      → units_left d (flying_after unit.handed g) < units_left c f
-      → units_to_come d (flying_after unit.handed g) + 1
-      ≤ units_to_come c f + sweeps_in (reports_of unit.report unit.finished)
-      → (unit.finished ≡ true) ↔ (d.run ≡ None)
-      → IsSound d (flying_after unit.handed g) → AreOut d.heap.shape (outs_after unit.handed outs)
-      → AscendHanded unit.handed → d.heap.made ≡ c.heap.made
-      → length d.heap.shape.weak.entries ≤ length c.heap.shape.weak.entries
+said_end : (said before : Option Report)
+    → (if is_some said then is_group_end (place_of said before) else false) ≡ is_group_end said
+said_end None before = refl
+said_end (Some r) before = refl
+
+said_jobs : (said before : Option Report) (h : HeapState)
+    → (if is_some said then jobs_at (place_of said before) h else []) ≡ jobs_at said h
+said_jobs None before h = refl
+said_jobs (Some r) before h = refl
+
+said_sweep : (said before : Option Report) (a : ℕ) → TellsSweep a said
+    → (is_some said ≡ true) × TellsSweep a (place_of said before)
+said_sweep None before a told = absurd (let e = told.1 in cc e)
+said_sweep (Some r) before a told = (refl, told)
+
+said_coloured : (said before : Option Report) (c : CollectorState) (f : ℕ → Option Bits) (colours : List Bits)
+    → EndsColoured said c f colours → is_some said ≡ true → EndsColoured (place_of said before) c f colours
+said_coloured None before c f colours h e = absurd (cc e)
+said_coloured (Some r) before c f colours h e = h
+
+queued_jobs : (handed : Option (List Job)) (jobs : List Job) (outs : List (ℕ × ℕ)) → AreJobs handed jobs → jobs ≢ []
+    → outs_after handed outs ≡ outs_of jobs
+queued_jobs None jobs outs none some = absurd (some none)
+queued_jobs (Some given) jobs outs are some = ap outs_of are.0
+
+-- one unit was done: what it said, the arenas that it handed to sweeping, and whether the collection is over with it
+record UnitSays (c : CollectorState) (f : ℕ → Option Bits) (said : Option Report) (handed : Option (List Job))
+    (over : Bool) (d : CollectorState) (g : ℕ → Option Bits) (outs : List (ℕ × ℕ)) : Type 0 where
+  done : DoesUnit c f (reports_of said over) d g
+  less : units_left d g < units_left c f
+  falls : units_to_come d g + 1 ≤ units_to_come c f + sweeps_in (reports_of said over)
+  finished : (over ≡ true) ↔ (d.run ≡ None)
+  rests : is_some said ≡ true → IsQuietDone c f
+  ended_where : (is_group_end said ≡ true) ↔ IsAtGroupEnd c f
+  due_where : IsResting c f → (a : ℕ) → IsLowestOut c.heap.shape a → TellsSweep a said
+  coloured : EndsColoured said c f d.heap.colours
+  jobs : AreJobs handed (jobs_at said c.heap)
+  sound : IsSound d g
+  out : AreOut d.heap.shape outs
+  ascending : AscendHanded handed
+  made : d.heap.made ≡ c.heap.made
+  entries : length d.heap.shape.weak.entries ≤ length c.heap.shape.weak.entries
+
+module _ (c d : CollectorState) (f g : ℕ → Option Bits) (outs : List (ℕ × ℕ)) (said : Option Report)
+    (handed : Option (List Job)) (over : Bool) (before place : Option Report) (step : Step)
+    (step_is : step ≡ step_of said handed over) (place_is : place ≡ place_of said before) where
+  one_advances : UnitSays c f said handed over d (flying_after handed g) (outs_after handed outs)
       → Advances 1 c f before step d (flying_after step.handed g) (outs_after step.handed outs) place
-  one_advances does less falls finished sound out up made entries =
+  one_advances unit =
       subst (λ (s : Step). Advances 1 c f before s d (flying_after s.handed g) (outs_after s.handed outs) place)
       (sym step_is)
-      (subst (λ (p : Option Report). Advances 1 c f before (step_of unit) d (flying_after unit.handed g)
-      (outs_after unit.handed outs) p) (sym place_is) (record {
-        done = subst (λ (rs : List Report). DoesUnits c f 1 rs d (flying_after unit.handed g))
-            (sym (told_said unit.report before unit.finished))
-            (one_done c d f (flying_after unit.handed g) (reports_of unit.report unit.finished) does);
+      (subst (λ (p : Option Report). Advances 1 c f before (step_of said handed over) d (flying_after handed g)
+      (outs_after handed outs) p) (sym place_is) (record {
+        done = subst (λ (rs : List Report). DoesUnits c f 1 rs d (flying_after handed g))
+            (sym (told_said said before over))
+            (one_done c d f (flying_after handed g) (reports_of said over) unit.done);
         some = omega arith;
         most = omega arith;
-        less = omega (arith, less);
-        to_come = subst (λ (rs : List Report). units_to_come d (flying_after unit.handed g) + 1
-            ≤ units_to_come c f + sweeps_in rs) (sym (told_said unit.report before unit.finished)) falls;
-        told_some = said_some unit.report before;
-        told_none = said_none unit.report before;
-        finished = finished;
-        sound = sound;
-        out = out;
-        ascending = up;
-        made = made;
-        entries = entries;
+        less = let less = unit.less in omega (arith, less);
+        to_come = subst (λ (rs : List Report). units_to_come d (flying_after handed g) + 1
+            ≤ units_to_come c f + sweeps_in rs) (sym (told_said said before over)) unit.falls;
+        told_some = said_some said before;
+        told_none = said_none said before;
+        finished = unit.finished;
+        one = λ e. refl;
+        rests = unit.rests;
+        ended_where = subst (λ (b : Bool). (b ≡ true) ↔ IsAtGroupEnd c f) (sym (said_end said before))
+            unit.ended_where;
+        due_where = λ rests a low. said_sweep said before a (unit.due_where rests a low);
+        coloured = said_coloured said before c f d.heap.colours unit.coloured;
+        queued = subst (λ (js : List Job). js ≢ [] → outs_after handed outs ≡ outs_of js)
+            (sym (said_jobs said before c.heap))
+            (queued_jobs handed (jobs_at said c.heap) outs unit.jobs);
+        sound = unit.sound;
+        out = unit.out;
+        ascending = unit.ascending;
+        made = unit.made;
+        entries = unit.entries;
       }))
+
+-- exactly the jobs that come with what is told were handed to sweeping
+one_handed : (said : Option Report) (handed : Option (List Job)) (over : Bool) (before place : Option Report)
+    (step : Step) (h : HeapState) → step ≡ step_of said handed over → place ≡ place_of said before
+    → AreJobs handed (jobs_at said h) → AreJobs step.handed (jobs_told step place h)
+one_handed said handed over before place step h step_is place_is jobs =
+    subst (λ (s : Step). AreJobs s.handed (jobs_told s place h)) (sym step_is)
+    (subst (λ (p : Option Report). AreJobs handed (jobs_told (step_of said handed over) p h)) (sym place_is)
+    (subst (λ (js : List Job). AreJobs handed js) (sym (said_jobs said before h)) jobs))
 
 -- the same after nothing was done
 pub still_advances : (limit : ℕ) (c d e : CollectorState) (f g h : ℕ → Option Bits) (outs : List (ℕ × ℕ))
@@ -180,6 +252,17 @@ still_advances limit c d e f g h outs before place step some still a = record {
   told_some = a.told_some;
   told_none = a.told_none;
   finished = a.finished;
+  one = a.one;
+  rests = λ e. quiet_done_before c f d g still (a.rests e);
+  ended_where = (
+    λ e. end_before c f d g still (a.ended_where.0 e),
+    λ at. a.ended_where.1 (still_at_end c f d g still at),
+  );
+  due_where = λ rests n low. a.due_where (still_resting c f d g still rests) n
+      (subst (λ (x : CollectorState). IsLowestOut x.heap.shape n) (sym still.same) low);
+  coloured = λ e. coloured_before c f d g still place _ (a.coloured e);
+  queued = subst (λ (x : CollectorState). jobs_told step place x.heap ≢ []
+      → outs ≡ outs_of (jobs_told step place x.heap)) still.same a.queued;
   sound = a.sound;
   out = a.out;
   ascending = a.ascending;
@@ -203,55 +286,94 @@ end_placed : (r before : Option Report) → is_group_end r ≡ true → r ≡ pl
 end_placed None before e = absurd (cc e)
 end_placed (Some r) before e = refl
 
-module _ (c d : CollectorState) (f : ℕ → Option Bits) (s : IsSound c f) (outs : List (ℕ × ℕ))
-    (are : AreOut c.heap.shape outs) (before now : Option Report) where
-  pub grouping_advances : (reported : Bool) → TellsGrouping c before reported d now → IsBlackDone c f
+-- a unit that ends no group, where none is at its end
+no_end : (r : Option Report) (P : Type 0) → is_group_end r ≡ false → (P → ⊥) → (is_group_end r ≡ true) ↔ P
+no_end r P other none = (λ e. absurd (cc (e, other)), λ p. absurd (none p))
+
+-- where no arena is out, none is the lowest
+none_lowest : (s : Shape) (a : ℕ) → ((b : ℕ) → out_of s b ≡ None) → IsLowestOut s a → ⊥
+none_lowest s a none low = let some = low.out in let is = ap is_some (none a) in cc (some, is)
+
+-- where no unit that reports nothing is left and no arena is out
+module _ (c d : CollectorState) (f : ℕ → Option Bits) (s : IsSound c f) (rested : IsQuietDone c f)
+    (none_out : (a : ℕ) → out_of c.heap.shape a ≡ None) (outs : List (ℕ × ℕ)) (are : AreOut c.heap.shape outs)
+    (before now : Option Report) where
+  -- a grouping step was done
+  pub grouping_advances : (reported : Bool) → TellsGrouping c before reported d now
       → Advances 1 c f before (record { units = 1; reported = reported; finished = false; handed = None }) d f outs now
-  grouping_advances reported tells black =
-      let goes = tells.done.goes f s black in
-      one_advances c d f f outs (record { report = tells.said; handed = None; finished = false; due = None }) before now
+  grouping_advances reported tells =
+      let goes = tells.done.goes f s rested.black in
+      one_advances c d f f outs tells.said None false before now
       (record { units = 1; reported = reported; finished = false; handed = None })
       (ap (λ (b : Bool). record { units = 1; reported = b; finished = false; handed = None }) tells.reported_is)
-      tells.now_is goes.done goes.less (let falls = goes.to_come in omega (arith, falls))
-      (runs_on false d.run refl goes.running) (unit_sound c d f f (reports_of tells.said false) goes.done s)
-      (out_kept c.heap.shape d.heap.shape outs outs refl goes.words are) tt goes.made_is
-      (let e = ap (λ ws. length ws.entries) goes.weak_is in omega (arith, e))
+      tells.now_is (record {
+        done = goes.done;
+        less = goes.less;
+        falls = let falls = goes.to_come in omega (arith, falls);
+        finished = runs_on false d.run refl goes.running;
+        rests = λ e. rested;
+        ended_where = no_end tells.said (IsAtGroupEnd c f) tells.done.goes_on
+            (λ at. tells.done.unformed at.0.formed);
+        due_where = λ rests a low. absurd (tells.done.unformed rests.formed);
+        coloured = no_colours tells.said c f d.heap.colours tells.done.goes_on;
+        jobs = no_jobs tells.said c.heap tells.done.goes_on;
+        sound = unit_sound c d f f (reports_of tells.said false) goes.done s;
+        out = out_kept c.heap.shape d.heap.shape outs outs refl goes.words are;
+        ascending = tt;
+        made = goes.made_is;
+        entries = let e = ap (λ ws. length ws.entries) goes.weak_is in omega (arith, e);
+      })
 
-  pub ending_advances : (handed : Option (List Job)) (over : Bool) → EndsGroup handed over now c d
+  -- the current group ended
+  pub ending_advances : IsFormed c → (handed : Option (List Job)) (over : Bool) → EndsGroup handed over now c d
       → d.heap.made ≡ c.heap.made → length d.heap.shape.weak.entries ≤ length c.heap.shape.weak.entries
       → Advances 1 c f before (record { units = 1; reported = true; finished = over; handed = handed }) d
       (flying_after handed f) (outs_after handed outs) now
-  ending_advances handed over ends made entries =
-      one_advances c d f f outs (record { report = now; handed = handed; finished = over; due = None }) before now
+  ending_advances formed handed over ends made entries =
+      let at : IsAtGroupEnd c f = (formed_rests c f rested formed, none_out) in
+      one_advances c d f f outs now handed over before now
       (record { units = 1; reported = true; finished = over; handed = handed })
       (ap (λ (b : Bool). record { units = 1; reported = b; finished = over; handed = handed })
       (sym (end_some now ends.ended)))
-      (end_placed now before ends.ended) (ends.done f) (ends.left f s)
-      (let falls = ends.to_come f s in omega (arith, falls)) ends.finished
-      (unit_sound c d f (flying_after handed f) (reports_of now over) (ends.done f) s)
-      (out_handed c.heap.shape d.heap.shape handed outs outs refl ends.jobs are)
-      (ascend_handed c.heap.shape d.heap.shape handed ends.jobs) made entries
+      (end_placed now before ends.ended) (record {
+        done = ends.done f;
+        less = ends.left f s;
+        falls = let falls = ends.to_come f s in omega (arith, falls);
+        finished = ends.finished;
+        rests = λ e. rested;
+        ended_where = (λ e. at, λ a. ends.ended);
+        due_where = λ rests a low. absurd (none_lowest c.heap.shape a none_out low);
+        coloured = ends.coloured f;
+        jobs = ends.handed_are;
+        sound = unit_sound c d f (flying_after handed f) (reports_of now over) (ends.done f) s;
+        out = out_handed c.heap.shape d.heap.shape handed outs outs refl ends.jobs are;
+        ascending = ascend_handed c.heap.shape d.heap.shape handed ends.jobs;
+        made = made;
+        entries = entries;
+      })
 
--- the arena that was due was taken in and told
-pub due_advances : (c d : CollectorState) (f g : ℕ → Option Bits) (outs : List (ℕ × ℕ)) (unit : Unit)
-    (before place : Option Report) (step : Step) → step ≡ step_of unit → place ≡ place_of unit.report before
-    → unit.handed ≡ None → DoesUnit c f (reports_of unit.report unit.finished) d g → units_left d g < units_left c f
-    → units_to_come d g + 1 ≤ units_to_come c f + sweeps_in (reports_of unit.report unit.finished)
-    → (unit.finished ≡ true) ↔ (d.run ≡ None) → IsSound d g → AreOut d.heap.shape outs → d.heap.made ≡ c.heap.made
-    → d.heap.shape.weak ≡ c.heap.shape.weak
-    → Advances 1 c f before step d (flying_after step.handed g) (outs_after step.handed outs) place
-due_advances c d f g outs unit before place step step_is place_is none does less falls finished sound out made weak =
-    one_advances c d f g outs unit before place step step_is place_is
-    (subst (λ (h : Option (List Job)). DoesUnit c f (reports_of unit.report unit.finished) d (flying_after h g))
-    (sym none)
-    does)
-    (subst (λ (h : Option (List Job)). units_left d (flying_after h g) < units_left c f) (sym none) less)
-    (subst (λ (h : Option (List Job)). units_to_come d (flying_after h g) + 1
-    ≤ units_to_come c f + sweeps_in (reports_of unit.report unit.finished)) (sym none) falls) finished
-    (subst (λ (h : Option (List Job)). IsSound d (flying_after h g)) (sym none) sound)
-    (subst (λ (h : Option (List Job)). AreOut d.heap.shape (outs_after h outs)) (sym none) out)
-    (subst (λ (h : Option (List Job)). AscendHanded h) (sym none) tt) made
-    (let e = ap (λ ws. length ws.entries) weak in omega (arith, e))
+-- a grouping step hands nothing to sweeping
+pub grouping_hands : (c d : CollectorState) (before now : Option Report) (reported : Bool)
+    → TellsGrouping c before reported d now
+    → AreJobs None (jobs_told (record { units = 1; reported = reported; finished = false; handed = None }) now c.heap)
+grouping_hands c d before now reported tells = one_handed tells.said None false before now
+    (record { units = 1; reported = reported; finished = false; handed = None }) c.heap
+    (ap (λ (b : Bool). record { units = 1; reported = b; finished = false; handed = None }) tells.reported_is)
+    tells.now_is (no_jobs tells.said c.heap tells.done.goes_on)
+
+-- nothing was done before the step that hands them over
+pub ok_hands : {E : Type 0} (r : Result Step E) (c d : CollectorState) (f g : ℕ → Option Bits) (place : Option Report)
+    → IsStill c f d g → IfOk r (λ step. AreJobs step.handed (jobs_told step place d.heap))
+    → IfOk r (λ step. AreJobs step.handed (jobs_told step place c.heap))
+ok_hands (Ok step) c d f g place still are = subst
+    (λ (x : CollectorState). AreJobs step.handed (jobs_told step place x.heap)) still.same are
+ok_hands (Err why) c d f g place still are = tt
+
+-- memory is taken only where a group is to end
+pub err_ends : {E : Type 0} (r : Result Step E) (c d : CollectorState) (f g : ℕ → Option Bits) → IsStill c f d g
+    → IsQuietDone d g → ((a : ℕ) → out_of d.heap.shape a ≡ None) → OnErr r (IsFormed d) → OnErr r (IsAtGroupEnd c f)
+err_ends (Ok step) c d f g still rested none formed = tt
+err_ends (Err why) c d f g still rested none formed = end_before c f d g still (formed_rests d g rested formed, none)
 
 -- one arena was swept
 swept_one : (a : ℕ) (place : Option Report) (finished : Bool) → TellsSweep a place
@@ -262,22 +384,45 @@ swept_one a place finished told = ap (λ (o : Option Report). sweeps_in (reports
     go true = refl
     go false = refl
 
--- the same, where its report was put into its place
+-- the arena that was due was taken in, and its report was put into its place
 pub due_into : (c d : CollectorState) (f g : ℕ → Option Bits) (outs : List (ℕ × ℕ)) (before place : Option Report)
     (finished : Bool) (step : Step) → step ≡ record { units = 1; reported = true; finished = finished; handed = None }
-    → (a : ℕ) → TellsSweep a place → DoesUnit c f (reports_of place finished) d g → units_left d g < units_left c f
+    → (a : ℕ) → IsLowestOut c.heap.shape a → IsQuietDone c f → TellsSweep a place
+    → DoesUnit c f (reports_of place finished) d g → units_left d g < units_left c f
     → units_to_come d g ≤ units_to_come c f → (finished ≡ true) ↔ (d.run ≡ None) → IsSound d g
     → AreOut d.heap.shape outs → d.heap.made ≡ c.heap.made
     → d.heap.shape.weak ≡ c.heap.shape.weak
     → Advances 1 c f before step d (flying_after step.handed g) (outs_after step.handed outs) place
-due_into c d f g outs before place finished step step_is a told does less keeps over sound out made weak =
-    let some : is_some place ≡ true = ap (λ (o : Option Report). is_some o) told.1 in
-    let one = swept_one a place finished told in
-    due_advances c d f g outs (record { report = place; handed = None; finished = finished; due = None }) before place
-    step
+due_into c d f g outs before place finished step step_is a low rested swept does less keeps over sound out made weak =
+    let some : is_some place ≡ true = ap (λ (o : Option Report). is_some o) swept.1 in
+    let other : is_group_end place ≡ false = ap (λ (o : Option Report). is_group_end o) swept.1 in
+    let one = swept_one a place finished swept in
+    one_advances c d f g outs place None finished before place step
     (step_is ∙ ap (λ (b : Bool). record { units = 1; reported = b; finished = finished; handed = None }) (sym some))
-    (sym (ap (λ (b : Bool). if b then place else before) some)) refl does less (omega (arith, keeps, one)) over sound
-    out made weak
+    (sym (ap (λ (b : Bool). if b then place else before) some)) (record {
+      done = does;
+      less = less;
+      falls = omega (arith, keeps, one);
+      finished = over;
+      rests = λ e. rested;
+      ended_where = no_end place (IsAtGroupEnd c f) other (λ at. none_lowest c.heap.shape a at.1 low);
+      due_where = λ rests b lowest. subst (λ (n : ℕ). TellsSweep n place) (one_lowest c.heap.shape a b low lowest) swept;
+      coloured = no_colours place c f d.heap.colours other;
+      jobs = no_jobs place c.heap other;
+      sound = sound;
+      out = out;
+      ascending = tt;
+      made = made;
+      entries = let e = ap (λ ws. length ws.entries) weak in omega (arith, e);
+    })
+
+-- and nothing was handed to sweeping
+pub due_hands : (c : CollectorState) (place : Option Report) (finished : Bool) (step : Step)
+    → step ≡ record { units = 1; reported = true; finished = finished; handed = None } → (a : ℕ) → TellsSweep a place
+    → AreJobs step.handed (jobs_told step place c.heap)
+due_hands c place finished step step_is a swept = subst (λ (s : Step). AreJobs s.handed (jobs_told s place c.heap))
+    (sym step_is)
+    (no_jobs place c.heap (ap (λ (o : Option Report). is_group_end o) swept.1))
 
 pub ok_still : {E : Type 0} (r : Result Step E) (limit : ℕ) (c d e : CollectorState) (f g : ℕ → Option Bits)
     (outs : List (ℕ × ℕ)) (before place : Option Report) → 0 < limit → IsStill c f d g → IsSound d g → IsQuietDone d g

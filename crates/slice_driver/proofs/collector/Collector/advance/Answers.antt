@@ -3,7 +3,8 @@ use Rattle.sweeping.specs.ArenasOut.{flying_after, outs_after}
 use Rattle.slice_driver.specs.Collector.{heap_with}
 use Rattle.slice_driver.specs.declared.advance.Step.{Step}
 use Rattle.slice_driver.proofs.marking.EdgesRead.{ok_reads, quiet_reads, still_grays}
-use Rattle.slice_driver.proofs.taking_in.UnitSteps.{due_into, ok_still, quiet_advances, still_advances, still_out}
+use Rattle.slice_driver.proofs.taking_in.UnitSteps.{due_hands, due_into, err_ends, ok_hands, ok_still, quiet_advances}
+use Rattle.slice_driver.proofs.taking_in.UnitSteps.{still_advances, still_out}
 use Rattle.slice_driver.proofs.collector.Collector.advance.Goals as goal
 
 pub returns-then-quiet-gt0-clause-done : goal.returns-then-quiet-gt0-clause-done
@@ -14,13 +15,16 @@ returns-then-quiet-gt0-clause-done g c =
     (g.F.Flight.bits c.args.flight.now) (g.F.Flight.bits c.quiet_units-quiet.new.flight)
     (g.F.Sweeping.left (g.F.Flight.origin c.args.flight.now))
     (g.F.Sweeping.left (g.F.Flight.origin c.quiet_units-quiet.new.flight)) c.args.report.now
-    c.quiet_units-quiet.ensures.done some c.quiet_units-quiet.ensures.most c.quiet_units-quiet.ensures.sound
+    c.quiet_units-quiet.ensures.done some c.quiet_units-quiet.ensures.most c.quiet_units-quiet.ensures.resting
+    c.quiet_units-quiet.ensures.sound
     (ap g.F.Sweeping.left c.quiet_units-quiet.ensures.origin) c.requires.ready.out
 
 pub returns-in-Some-clause-done : goal.returns-in-Some-clause-done
 returns-in-Some-clause-done g c =
     let none = c.if-quiet-gt0.false in
+    let some = c.requires.some in
     let zero : c.quiet_units-quiet.result ≡ 0 = omega (arith, none) in
+    let rests = c.quiet_units-quiet.ensures.rests (omega (arith, none, some)) in
     let took = c.take_due_into.ensures in
     still_advances c.args.limit c.args.self.now c.quiet_units-quiet.new.self c.take_due_into.new.self
     (g.F.Flight.bits c.args.flight.now) (g.F.Flight.bits c.quiet_units-quiet.new.flight)
@@ -31,8 +35,8 @@ returns-in-Some-clause-done g c =
     (due_into c.quiet_units-quiet.new.self c.take_due_into.new.self (g.F.Flight.bits c.quiet_units-quiet.new.flight)
     (g.F.Flight.bits c.take_due_into.new.flight) (g.F.Sweeping.left (g.F.Flight.origin c.take_due_into.new.flight))
     c.args.report.now c.take_due_into.new.report c.take_due_into.result c.swept.result c.swept.ensures
-    c.in-Some.arena took.told took.takes.done took.takes.left took.takes.to_come took.takes.finished took.takes.sound
-    took.takes.out took.takes.made took.takes.weak)
+    c.in-Some.arena c.in-Some.ensures.some rests took.told took.takes.done took.takes.left took.takes.to_come
+    took.takes.finished took.takes.sound took.takes.out took.takes.made took.takes.weak)
 
 pub advance_one-requires-clause-rests : goal.advance_one-requires-clause-rests
 advance_one-requires-clause-rests g c =
@@ -86,3 +90,25 @@ returns-clause-steps g c =
     ok_reads c.advance_one.result c.args.steps.now c.quiet_units-quiet.new.steps
     (heap_with c.args.self.now (g.F.Flight.bits c.args.flight.now)) c.advance_one.new.self
     (g.F.Flight.bits c.quiet_units-quiet.new.flight) (omega (arith, few, zero, still))
+
+pub returns-in-Some-clause-handed : goal.returns-in-Some-clause-handed
+returns-in-Some-clause-handed g c = due_hands c.args.self.now c.take_due_into.new.report c.take_due_into.result
+    c.swept.result c.swept.ensures c.in-Some.arena c.take_due_into.ensures.told
+
+pub returns-clause-handed : goal.returns-clause-handed
+returns-clause-handed g c =
+    let none = c.if-quiet-gt0.false in
+    let zero : c.quiet_units-quiet.result ≡ 0 = omega (arith, none) in
+    ok_hands c.advance_one.result c.args.self.now c.quiet_units-quiet.new.self (g.F.Flight.bits c.args.flight.now)
+    (g.F.Flight.bits c.quiet_units-quiet.new.flight) c.advance_one.new.report
+    (c.quiet_units-quiet.ensures.done.none zero) c.advance_one.ensures.handed
+
+pub returns-clause-err_where : goal.returns-clause-err_where
+returns-clause-err_where g c =
+    let none = c.if-quiet-gt0.false in
+    let some = c.requires.some in
+    let zero : c.quiet_units-quiet.result ≡ 0 = omega (arith, none) in
+    err_ends c.advance_one.result c.args.self.now c.quiet_units-quiet.new.self (g.F.Flight.bits c.args.flight.now)
+    (g.F.Flight.bits c.quiet_units-quiet.new.flight) (c.quiet_units-quiet.ensures.done.none zero)
+    (c.quiet_units-quiet.ensures.rests (omega (arith, none, some))) c.in_default.ensures.none
+    c.advance_one.ensures.err_formed

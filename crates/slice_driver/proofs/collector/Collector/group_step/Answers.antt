@@ -109,9 +109,6 @@ returns-in-Some-first c =
       done = record {
         unformed = subst (λ (x : CollectorState). IsFormed x → ⊥) c.self.view_is (not_formed v grouping);
         goes_on = refl;
-        handed = refl;
-        finished = refl;
-        due = refl;
         goes = λ f s black. subst (λ (x : CollectorState). IsSound x f → GoesOn x f [] d f) c.self.view_is (goes f) s;
       };
     }
@@ -159,9 +156,6 @@ returns c =
       done = record {
         unformed = subst (λ (x : CollectorState). IsFormed x → ⊥) c.self.view_is (not_formed v grouping);
         goes_on = refl;
-        handed = refl;
-        finished = refl;
-        due = refl;
         goes = λ f s black.
             subst (λ (gs : List ZoneSet). GoesOn c.args.self.now f (report.Groups groups ∷ []) (d gs) f) (sym set)
             (subst (λ (x : CollectorState). IsSound x f → GoesOn x f (report.Groups groups ∷ []) (d groups) f)

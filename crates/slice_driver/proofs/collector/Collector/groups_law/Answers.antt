@@ -7,7 +7,7 @@ use Rattle.slice_driver.specs.Collector.{CollectorState, run_of}
 use Rattle.slice_driver.specs.Quiet.{IsFormed}
 use Rattle.slice_driver.specs.Working.{HasGroups}
 use Rattle.slice_driver.proofs.abstraction.Named.{some_one}
-use Rattle.slice_driver.proofs.marking.OneUnit.{more_of}
+use Rattle.slice_driver.proofs.marking.AtGroupEnd.{more_of}
 use Rattle.slice_driver.proofs.collector.Collector.groups_law.Goals as goal
 
 pub returns-in_default : goal.returns-in_default

@@ -1,5 +1,6 @@
 use Rattle.std.proofs.Common.{◌≡◌, ◌+◌, ℕ, ◌∙◌, subst, arith}
 use Rattle.slice_driver.specs.Working.{DoesQuietUnits}
+use Rattle.slice_driver.proofs.marking.AtGroupEnd.{still_resting}
 use Rattle.slice_driver.proofs.marking.Settled.{settled_quiet}
 use Rattle.slice_driver.proofs.marking.Units.{no_quiet, quiet_sound, quiet_words, then_quiet}
 use Rattle.slice_driver.proofs.collector.Collector.quiet_units.Goals as goal
@@ -41,6 +42,12 @@ returns-clause-words g c = quiet_words c.loop-count.count _ _ _ _ c.loop-count.i
 pub loop-count-preserved : goal.loop-count-preserved
 loop-count-preserved g c = record {
   did = then_quiet _ _ _ _ _ _ _ _ c.loop-count.invariant.did c.some_quiet_units-more.ensures.done;
+  busy = λ rests.
+      (let none = c.loop-count.invariant.busy rests in
+      let more = c.some_quiet_units-more.ensures.resting
+      (still_resting c.args.self.now (g.F.Flight.bits c.args.flight.now) c.loop-count.self
+      (g.F.Flight.bits c.loop-count.flight) (c.loop-count.invariant.did.none none) rests) in
+      omega (arith, none, more));
   steps = (let before = c.loop-count.invariant.steps in let more = c.some_quiet_units-more.ensures.steps in omega
       (arith, before, more));
   most = (let more = c.some_quiet_units-more.ensures.most in omega (arith, more));
@@ -58,3 +65,9 @@ returns-clause-steps g c =
     let before = c.loop-count.invariant.steps in
     let most = c.loop-count.invariant.most in
     omega (arith, before, most)
+
+pub returns-clause-resting : goal.returns-clause-resting
+returns-clause-resting g c = λ rests.
+    let none = c.loop-count.invariant.busy rests in
+    let most = c.loop-count.invariant.most in
+    omega (arith, none, most)

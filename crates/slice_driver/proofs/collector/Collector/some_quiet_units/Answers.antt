@@ -3,10 +3,10 @@ use Rattle.heap_core.specs.Heap.{HeapState, joined}
 use Rattle.barriers.specs.Colours.{grays_outside}
 use Rattle.slice_driver.specs.Quiet.{IsFormed}
 use Rattle.slice_driver.specs.Working.{HasBegun}
-use Rattle.slice_driver.proofs.marking.MarkingUnits.{still_goes, still_sound}
-use Rattle.slice_driver.proofs.marking.OneUnit.{still_on}
-use Rattle.slice_driver.proofs.marking.Units.{looks_quietly, many_quietly, none_rests, one_quiet, still_quiet}
-use Rattle.slice_driver.proofs.marking.Units.{still_quiet_done}
+use Rattle.slice_driver.proofs.marking.MarkingUnits.{still_goes, still_group_done, still_sound}
+use Rattle.slice_driver.proofs.marking.AtGroupEnd.{still_on}
+use Rattle.slice_driver.proofs.marking.Units.{looks_quietly, many_quietly, none_rests, not_both, one_quiet}
+use Rattle.slice_driver.proofs.marking.Units.{still_quiet, still_quiet_done}
 use Rattle.slice_driver.proofs.collector.Collector.some_quiet_units.Goals as goal
 
 pub returns-then-marks_black-clause-done : goal.returns-then-marks_black-clause-done
@@ -106,3 +106,22 @@ returns-clause-steps g c =
     let grays = c.if-begins_zone.ensures.grays (g.F.Flight.bits c.marks_black.new.flight) in
     let more = c.marks_gray_up_to.ensures.steps in
     omega (arith, none, grays, more)
+
+pub returns-then-marks_black-clause-resting : goal.returns-then-marks_black-clause-resting
+returns-then-marks_black-clause-resting g c = λ rests. absurd (c.if-marks_black.ensures.done.1 rests.black)
+
+pub returns-then-looks-clause-resting : goal.returns-then-looks-clause-resting
+returns-then-looks-clause-resting g c = λ rests. absurd (not_both c.marks_black.new.self c.if-is_grouping.ensures
+    (subst IsFormed (sym c.if-marks_black.ensures.done.0.same) rests.formed))
+
+pub returns-then-begins_zone-clause-resting : goal.returns-then-begins_zone-clause-resting
+returns-then-begins_zone-clause-resting g c = λ rests. absurd (c.if-begins_zone.ensures.begins.1
+    (subst HasBegun (sym c.if-marks_black.ensures.done.0.same) rests.begun))
+
+pub returns-clause-resting : goal.returns-clause-resting
+returns-clause-resting g c = λ rests. c.marks_gray_up_to.ensures.ended
+    (still_group_done c.args.self.now (g.F.Flight.bits c.args.flight.now) c.begins_zone.new.self
+    (g.F.Flight.bits c.marks_black.new.flight)
+    (still_on c.args.self.now (g.F.Flight.bits c.args.flight.now) c.marks_black.new.self
+    (g.F.Flight.bits c.marks_black.new.flight) c.begins_zone.new.self c.if-marks_black.ensures.done.0
+    c.if-begins_zone.ensures.begins.1) rests.group)

@@ -1,7 +1,11 @@
-use Rattle.std.proofs.Common.{sym, subst}
+use Rattle.std.proofs.Common.{◌≡◌, None, Err, refl, sym, subst}
+use Rattle.gz_names.specs.declared.replies.CmdFault.TheVariants as fault
+use Rattle.colour_defs.specs.Step.{refusal_in}
+use Rattle.slice_driver.specs.Commands.{WantsMemory}
 use Rattle.slice_driver.specs.Sessions.{SessionState}
 use Rattle.slice_driver.specs.Units.{DoesCommand, RaisesWithin}
-use Rattle.slice_driver.proofs.taking_in.Sessions.{told_done}
+use Rattle.slice_driver.specs.declared.session.SessionFault.TheVariants as session
+use Rattle.slice_driver.proofs.taking_in.Sessions.{told_as, told_done, told_ok}
 use Rattle.slice_driver.proofs.session.Session.command.Goals as goal
 
 pub command-outcome-requires-clause-few : goal.command-outcome-requires-clause-few
@@ -27,3 +31,29 @@ returns-clause-to_come g c =
     (subst (λ (x : SessionState _). RaisesWithin x.collector (g.S.Flight.bits x.sweeper) c.args.cmd
     c.command-outcome.result after.collector (g.S.Flight.bits after.sweeper)) c.self.view_is
     c.command-outcome.ensures.to_come)
+
+pub returns-clause-answered : goal.returns-clause-answered
+returns-clause-answered g c = told_ok _ c.command-outcome.result (λ answer. refusal_in answer ≡ None)
+    c.result_of.ensures
+    c.command-outcome.ensures.answered
+
+pub returns-clause-refused : goal.returns-clause-refused
+returns-clause-refused g c = λ why is.
+    let after = c.command-outcome.new in
+    subst (λ (x : SessionState _). (after.collector ≡ x.collector)
+    × (g.S.Flight.bits after.sweeper ≡ g.S.Flight.bits x.sweeper)) c.self.view_is
+    (c.command-outcome.ensures.refused why
+    (told_as _ (Err (session.Refused why)) c.command-outcome.result (Err (fault.Refused why)) c.result_of.ensures is
+    refl))
+
+pub returns-clause-wanted : goal.returns-clause-wanted
+returns-clause-wanted g c = λ is.
+    let after = c.command-outcome.new in
+    subst (λ (x : SessionState _). WantsMemory x.collector (g.S.Flight.bits x.sweeper) c.args.cmd after.collector
+    (g.S.Flight.bits after.sweeper)) c.self.view_is
+    (c.command-outcome.ensures.wanted
+    (told_as _ (Err session.NoMemory) c.command-outcome.result (Err fault.NoMemory) c.result_of.ensures is refl))
+
+pub returns-clause-sure : goal.returns-clause-sure
+returns-clause-sure g c = λ none is. c.command-outcome.ensures.sure none
+    (told_as _ (Err session.NoMemory) c.command-outcome.result (Err fault.NoMemory) c.result_of.ensures is refl)

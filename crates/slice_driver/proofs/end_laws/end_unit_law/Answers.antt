@@ -1,5 +1,0 @@
-use Rattle.slice_driver.proofs.taking_in.Laws.{end_unit}
-use Rattle.slice_driver.proofs.end_laws.end_unit_law.Goals as goal
-
-pub returns : goal.returns
-returns c = end_unit
