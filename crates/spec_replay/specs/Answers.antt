@@ -1,5 +1,5 @@
 -- What a line is answered, and what a whole trace is.
-use Rattle.std.specs.Prelude.{◌≡◌, ◌⊎◌, ℕ, ◌+◌, List, [], ◌++◌, Option, codes, ⊤}
+use Rattle.std.specs.Prelude.{◌≡◌, ◌⊎◌, ℕ, ◌+◌, ◌-◌, ◌^◌, List, [], ◌++◌, Option, codes, ⊤}
 use Rattle.std.specs.Io.KnownBytes.{Appends}
 use Rattle.gz_io.specs.Lines.{EndsLine, IsNotAscii, IsTooLong}
 use Rattle.gz_names.specs.declared.names.Name.{Name}
@@ -66,4 +66,5 @@ EndsBy input old new (end.BadLine n) =
 EndsBy input old new end.ReadFault = (n : ℕ) × (rest : List ℕ) × HasAnswered input n rest old new
 EndsBy input old new end.WriteFault = ⊤
 EndsBy input old new end.NoMemory = (n : ℕ) × (rest : List ℕ) × HasAnswered input n rest old new
-EndsBy input old new end.TooManyLines = (n : ℕ) × (rest : List ℕ) × HasAnswered input n rest old new
+EndsBy input old new end.TooManyLines =
+    (n : ℕ) × (rest : List ℕ) × (n ≡ 2 ^ 64 - 1) × HasAnswered input n rest old new

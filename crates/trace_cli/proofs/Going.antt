@@ -77,7 +77,7 @@ ended_by e m x r i q f g behind lawful (inl h) le done read other usage verdict 
 ended_by e m x r i q f g behind lawful (inr h) le done read other usage verdict ends = record {
   lawful = lawful;
   quiet = λ k. absurd (let t = h.0 in cc (t, k));
-  handed_on = λ k. absurd (let t = h.0 in cc (t, k));
+  handed_on = λ k. absurd (k h.0);
   read = λ k. absurd (let t = h.0 in cc (t, k));
   write = λ k. rose_more e.writes f g le h.1;
   runs = λ k. (let t = h.0 in cc (t, k));
@@ -91,7 +91,7 @@ pub ended_write : (e : Entry) (m : Machine) (i : Input) (q : Option (List ℕ)) 
 ended_write e m i q f g behind lawful le rose = record {
   lawful = lawful;
   quiet = λ k. absurd (cc k);
-  handed_on = λ k. absurd (cc k);
+  handed_on = λ k. absurd (k refl);
   read = λ k. absurd (cc k);
   write = λ k. rose_more e.writes f g le rose;
   runs = λ k. cc k;
@@ -112,6 +112,12 @@ ended_untaken h = record {
   no_verdict = h.no_verdict;
   ends_in = h.ends_in;
 }
+
+-- the answers are handed on, whatever the exit but a failed write
+pub handed_by : {x r : Exit} {f g behind : ℕ}
+    → ((r ≡ x) × (g ≡ f) × (behind ≡ 0)) ⊎ ((r ≡ exit.WriteFault) × Rose f g) → r ≢ exit.WriteFault → behind ≡ 0
+handed_by (inl h) k = h.2
+handed_by (inr h) k = absurd (k h.0)
 
 -- every line was answered, where the source gave no byte more
 pub ends_here : (e : Entry) (m k : Machine) (b ys p q : Option (List ℕ)) (line : List ℕ) (outs : List (ℕ × ℕ))

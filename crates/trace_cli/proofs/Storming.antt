@@ -368,9 +368,6 @@ module _ (before mid now behind : ℕ) (r : Exit)
   pub summed_quiet : mid ≡ before → r ≡ exit.Done → now ≡ before
   summed_quiet same done = elim cause [ inl h ↦ h.1 ∙ same | inr h ↦ absurd (cc (h.0, done)) ]
 
-  pub summed_on : r ≡ exit.Done → behind ≡ 0
-  summed_on done = elim cause [ inl h ↦ h.2 | inr h ↦ absurd (cc (h.0, done)) ]
-
   pub summed_rose : mid ≡ before → r ≡ exit.WriteFault → Rose before now
   summed_rose same failed = elim cause [
     | inl h ↦ absurd (cc (h.0, failed))

@@ -151,7 +151,7 @@ pub record HasEnded (e : Entry) (x : Exit) (m : Machine) (i : Input)
     (written : Option (List ℕ)) (writes behind : ℕ) : Type 0 where
   pub lawful : Replays e.left i.left e.written written x
   pub quiet : x ≡ exit.Done → (i.faults ≡ e.reads) × (writes ≡ e.writes)
-  pub handed_on : x ≡ exit.Done → behind ≡ 0
+  pub handed_on : x ≢ exit.WriteFault → behind ≡ 0
   pub read : x ≡ exit.ReadFault → Rose e.reads i.faults
   pub write : x ≡ exit.WriteFault → Rose e.writes writes
   pub runs : x ≢ exit.Usage

@@ -216,7 +216,7 @@ fn answer_lines<
     ensures lawful { Replays (S.left source.old) (S.left source.new) (K.written sink.old) (K.written sink.new) result }
     ensures quiet { result ≡ Exit.Done → (S.faults source.new ≡ S.faults source.old)
         × (K.faults sink.new ≡ K.faults sink.old) }
-    ensures handed_on { result ≡ Exit.Done → K.behind sink.new ≡ 0 }
+    ensures handed_on { result ≢ Exit.WriteFault → K.behind sink.new ≡ 0 }
     ensures read { result ≡ Exit.ReadFault → Rose (S.faults source.old) (S.faults source.new) }
     ensures write { result ≡ Exit.WriteFault → Rose (K.faults sink.old) (K.faults sink.new) }
     ensures runs { result ≢ Exit.Usage }
@@ -246,7 +246,10 @@ pub fn replay<R: Threads + Wait + Sync, S: Source + Send, K: Sink + Send, G: Gat
         → Checks (S.left source.old) (K.written sink.old) (K.written sink.new) result }
     ensures quiet { (result ≡ Exit.Done) ⊎ (result ≡ Exit.Unsound) → (S.faults source.new ≡ S.faults source.old)
         × (K.faults sink.new ≡ K.faults sink.old) }
-    ensures handed_on { (result ≡ Exit.Done) ⊎ (result ≡ Exit.Unsound) → K.behind sink.new ≡ 0 }
+    ensures handed_on { result ≢ Exit.WriteFault
+        → (IsCheck (map (λ w. w.now) words.now) → (result ≡ Exit.Done) ⊎ (result ≡ Exit.Unsound))
+        → (K.behind sink.new ≡ 0) ⊎ (sink.new ≡ sink.old) }
+    ensures unread { IsStorm (map (λ w. w.now) words.now) → source.new ≡ source.old }
     ensures read { result ≡ Exit.ReadFault → Rose (S.faults source.old) (S.faults source.new) }
     ensures write { result ≡ Exit.WriteFault → Rose (K.faults sink.old) (K.faults sink.new) }
     ensures usage { result ≡ Exit.Usage → fault_of gczone (map (λ w. w.now) words.now) ≢ [] }

@@ -1,5 +1,5 @@
-// The replay of a generated trace, and its summary.
-ghost use Rattle.std.specs.Prelude.{◌≡◌, ◌<◌, None, IfErr, IfOk, Ok, length};
+// A generated trace is answered, and its summary written.
+ghost use Rattle.std.specs.Prelude.{◌≡◌, ◌≢◌, ◌<◌, None, IfErr, IfOk, Ok, length};
 ghost use Rattle.gz_io.specs.Causes.{Rose};
 ghost use Rattle.trace_cli.specs.Storms.{IsLeftByStorm, IsSummary, StopsStorm, Storms, summary_text};
 
@@ -174,7 +174,7 @@ pub fn answer_storm<L: Ledger + Send, R: Threads + Wait + Sync, K: Sink, G: Gate
     requires some { 0 < blank.parts }
     ensures storm { Storms seed lines (K.written sink.old) (K.written sink.new) result }
     ensures quiet { result ≡ Exit.Done → K.faults sink.new ≡ K.faults sink.old }
-    ensures handed_on { result ≡ Exit.Done → K.behind sink.new ≡ 0 }
+    ensures handed_on { result ≢ Exit.WriteFault → K.behind sink.new ≡ 0 }
     ensures write { result ≡ Exit.WriteFault → Rose (K.faults sink.old) (K.faults sink.new) }
 {
     let summary = match sum_up::<L, R, G>(rt, alloc, seed, lines, helpers, gate, blank) {

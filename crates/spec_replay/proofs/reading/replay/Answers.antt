@@ -1,4 +1,4 @@
-use Rattle.std.proofs.Common.{◌∙◌, inl, inr, [], refl, sym, subst}
+use Rattle.std.proofs.Common.{◌∙◌, arith, inl, inr, [], refl, sym, subst}
 use Rattle.std.proofs.KnownBytes.{Appends-nil}
 use Rattle.colour_defs.specs.Graph.{GraphState, empty_graph}
 use Rattle.trace_lang.specs.Grammar.{Spells}
@@ -49,3 +49,8 @@ loop-answered-preserved g c = record {
       c.line.ensures ok.1 ok.2 in
       (given.0, given.1, all.0, all.1, all.2);
 }
+
+pub returns-clause-answers : goal.returns-clause-answers
+returns-clause-answers g c = λ input e.
+    let i = c.loop-answered.invariant.so input e in
+    (c.loop-answered.answered, i.0, omega arith, (i.2, _, i.3, i.4))

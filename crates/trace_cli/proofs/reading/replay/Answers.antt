@@ -1,4 +1,4 @@
-use Rattle.std.proofs.Common.{ap, map, subst, ℕ, Err}
+use Rattle.std.proofs.Common.{ap, map, subst, ℕ, Err, inl, inr, refl}
 use Rattle.std.proofs.KnownBytes.{Appends-nil}
 use Rattle.command_words.specs.declared.line.WordsFault.{WordsFault}
 use Rattle.trace_cli.proofs.Complete.{complete, complete_memory, complete_unless}
@@ -169,3 +169,32 @@ returns-in-Err-NoMemory-clause-storm g c = λ seed lines storm. Appends-nil (g.K
 
 pub returns-in-Err-NoMemory-clause-complete : goal.returns-in-Err-NoMemory-clause-complete
 returns-in-Err-NoMemory-clause-complete g c = complete_memory (map (λ w. w.now) c.args.words.now) _ _ _ _ _
+
+pub returns-in-Ok-Run-clause-handed_on : goal.returns-in-Ok-Run-clause-handed_on
+returns-in-Ok-Run-clause-handed_on g c = λ written verdict. inl (c.answer_lines.ensures.handed_on written)
+
+pub returns-in-Ok-Run-clause-unread : goal.returns-in-Ok-Run-clause-unread
+returns-in-Ok-Run-clause-unread g c = λ storm. absurd (run_or_storm (map (λ w. w.now) c.args.words.now) (
+  c.in-Ok-Run.helpers,
+  said (map (λ w. w.now) c.args.words.now) _ c.in-Ok-Run.field-0
+      c.in-Ok-Run.field-0-is c.in-Ok-Run.ensures.taken c.in-Ok-Run.ensures.numbers,
+) storm)
+
+pub returns-in-Ok-Storm-clause-handed_on : goal.returns-in-Ok-Storm-clause-handed_on
+returns-in-Ok-Storm-clause-handed_on g c = λ written verdict. inl (c.answer_storm.ensures.handed_on written)
+
+pub returns-in-Ok-Check-clause-handed_on : goal.returns-in-Ok-Check-clause-handed_on
+returns-in-Ok-Check-clause-handed_on g c = λ written verdict. inl
+    (c.check_dump.ensures.handed_on (verdict (said (map (λ w. w.now) c.args.words.now) _ c.in-Ok-Check.field-0
+    c.in-Ok-Check.field-0-is c.in-Ok-Check.ensures.taken c.in-Ok-Check.ensures.numbers)))
+
+pub returns-in-Ok-Check-clause-unread : goal.returns-in-Ok-Check-clause-unread
+returns-in-Ok-Check-clause-unread g c = λ storm. absurd (check_or_storm (map (λ w. w.now) c.args.words.now)
+    (said (map (λ w. w.now) c.args.words.now) _ c.in-Ok-Check.field-0
+    c.in-Ok-Check.field-0-is c.in-Ok-Check.ensures.taken c.in-Ok-Check.ensures.numbers) storm)
+
+pub returns-in-Err-Usage-clause-handed_on : goal.returns-in-Err-Usage-clause-handed_on
+returns-in-Err-Usage-clause-handed_on g c = λ written verdict. inr refl
+
+pub returns-in-Err-NoMemory-clause-handed_on : goal.returns-in-Err-NoMemory-clause-handed_on
+returns-in-Err-NoMemory-clause-handed_on g c = λ written verdict. inr refl

@@ -1,7 +1,8 @@
 use Rattle.std.proofs.Common.{◌≡◌, ◌∙◌, ℕ, List, subst}
 use Rattle.std.specs.Io.KnownBytes.{Appends}
 use Rattle.trace_cli.specs.Storms.{summary_text}
-use Rattle.trace_cli.proofs.Storming.{storm_summed, summed_on, summed_quiet, summed_rose}
+use Rattle.trace_cli.proofs.Going.{handed_by}
+use Rattle.trace_cli.proofs.Storming.{storm_summed, summed_quiet, summed_rose}
 use Rattle.trace_cli.proofs.storm.answer_storm.Goals as goal
 
 pub returns-in-Ok-write_all-clause-storm : goal.returns-in-Ok-write_all-clause-storm
@@ -20,7 +21,7 @@ returns-in-Ok-write_all-clause-quiet g c =
     summed_quiet _ _ _ _ _ c.end_so-in-Ok-write_all.ensures.cause c.in-Ok-write_all.ensures.cause.same
 
 pub returns-in-Ok-write_all-clause-handed_on : goal.returns-in-Ok-write_all-clause-handed_on
-returns-in-Ok-write_all-clause-handed_on g c = summed_on 0 _ _ _ _ c.end_so-in-Ok-write_all.ensures.cause
+returns-in-Ok-write_all-clause-handed_on g c = handed_by c.end_so-in-Ok-write_all.ensures.cause
 
 pub returns-in-Ok-write_all-clause-write : goal.returns-in-Ok-write_all-clause-write
 returns-in-Ok-write_all-clause-write g c =
