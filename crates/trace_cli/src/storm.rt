@@ -1,4 +1,4 @@
-// A generated trace is answered, and its summary written.
+// The replay of a generated trace, and its summary.
 ghost use Rattle.std.specs.Prelude.{◌≡◌, ◌≢◌, ◌<◌, None, IfErr, IfOk, Ok, length};
 ghost use Rattle.gz_io.specs.Causes.{Rose};
 ghost use Rattle.trace_cli.specs.Storms.{IsLeftByStorm, IsSummary, StopsStorm, Storms, summary_text};
