@@ -27,8 +27,8 @@
 // buffered, black roots marked.
 //
 // A collection goes on unit by unit, and each unit does the first of six steps that has work. They stand
-// in `advance`, and those that report nothing in `some_quiet_units`, which `quiet_units` calls for many of
-// them at once: each leaves the world as it is, so many are told like one, and no report is built for them.
+// in `advance`, and those that report nothing in `some_quiet_units`, which `quiet_units` calls for any number
+// of them: each leaves the world as it is, so one definition tells of all, and no report is built for them.
 //
 //     1 marks_black        a cell that is pending in black, or a weak entry for black
 //     2 looks, group_step  before the groups are formed, a look at a wrapper, or a grouping step
