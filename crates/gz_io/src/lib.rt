@@ -39,4 +39,3 @@ pub use memory::{MemSink, MemSource, SureSink, SureSource};
 pub use outside::{Failed, Sink, Source, WriteFault, write_all};
 pub use reader::{LineReader, Next};
 pub use standard::{StdSink, StdSource};
-
