@@ -219,12 +219,14 @@ def why(log, cell):
         return f"field {log.name(log.edges, step.number)} of {log.address(step.sources[0])}"
 
     by_colour = {colour: [root for root, own in enumerate(colours) if own == colour] for colour in ("black", "gray")}
+    whose = {f"a {colour} root leads to it:": roots for colour, roots in by_colour.items()}
+    whose["roots lead to it, but not those of one colour alone:"] = range(len(colours))
     texts = [log.words(cell)]
-    for some, roots in (*by_colour.items(), ("", range(len(colours)))):
+    for text, roots in whose.items():
         ways = graph.ways(roots)
         if ways.reaches(cell):
             way = ways.way(cell)
-            texts.append(f"a {some} root leads to it:" if some else "roots lead to it, but not those of one colour alone:")
+            texts.append(text)
             return texts + tell_way(graph, range(len(colours)), way, cell, text_of, log.words)
     return [*texts, "no root leads to it: the next collection frees it, if the log has all roots"]
 
