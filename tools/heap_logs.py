@@ -7,22 +7,24 @@ bytes, and cells, edges and names by numbers, since a log may have millions of t
 import re
 import sys
 from array import array
+from bisect import bisect_right
 from collections import Counter, defaultdict
 from contextlib import nullcontext
 
 from command_line import Fault, Progress
 from reach import Graph, tell_way
 
-CELL = re.compile(rb"(0x[0-9a-fA-F]+) (\S)(?: (.*))?\n?", re.S)
+CELL = re.compile(rb"(0x[0-9a-fA-F]+) (\S)(?: (.*))?\n?")
+EDGE_LINE = re.compile(rb"> 0x[0-9a-fA-F]+ \S ")
 ADDRESS = re.compile(rb"0x[0-9a-fA-F]+")
 ENTRY = re.compile(rb"WeakMapEntry map=(\S+) key=(\S+) keyDelegate=(\S+) value=(\S+)\n?")
-EDGE, NOTE, LINE_END, SEPARATOR, WEAK = b">#\n=W"
+EDGE, NOTE, LINE_END = b">#\n"
 COLOURS = {ord("B"): "black", ord("G"): "gray"}
 NO_HEAP = "it ends before its heap; a heap log has a line of ========== behind its roots and weak maps"
 WHITE = "as those made since the last collection; their edges are not judged"
 NAMED = "as permanent atoms; they have the colour that an edge or a root gives them"
-# How many lines are read between two looks at the clock.
-STRIDE = 1 << 16
+# How many bytes are read at once, and how many lines are written between two looks at the clock.
+BLOCK, STRIDE = 1 << 20, 1 << 16
 
 
 def text_of(words):
@@ -42,80 +44,116 @@ def numbering():
 
 
 class Reader:
-    """Reads a heap log line by line. Cells have the numbers in which order the log names them first."""
+    """Reads a heap log. Cells have the numbers in which order the log names them first.
+
+    Edges are most of a log, so those of many lines are taken in at once.
+    """
 
     def __init__(self, progress):
         self.progress = progress
-        self.cells, self.names = numbering(), numbering()
-        self.named = bytearray()        # for each cell: the letter that names it first, and its line
-        self.named_lines = array("I")
-        self.own = {}                   # cell: its kind, letter and line, of the cells that have a line of their own
-        self.first_edge = array("Q")    # for each of these: its first edge
+        self.cells, self.names = Addresses(), numbering()
+        self.own = {}                       # cell: its kind, letter and line, of the cells that have one of their own
+        self.first_edge = array("Q")        # for each of these: its first edge
+        self.edges_before = array("Q")      # for each line that is no edge: how many edges come before it
         self.edges, self.roots = Mentions(), Mentions()
         self.entries = []
         self.in_heap = False
 
-    def read(self, lines):
-        edges, names, cells = self.edges, self.names, self.cells
-        for number, line in enumerate(lines, 1):
-            if line[0] == EDGE:
-                parts = line.split(b" ", 3)
-                if len(parts) != 4 or len(parts[2]) != 1 or parts[0] != b">":
-                    parts = [b">", *self.parse(line[2:] if parts[0] == b">" else b"", line, number)]
-                if not self.first_edge:
-                    raise Fault(f"line {number} has an edge of no cell")
-                cell = cells[parts[1]]
-                if cell == len(self.named):
-                    self.add(parts[1], parts[2], line, number)
-                edges.add(cell, names[parts[3]], parts[2], number)
-                if not number % STRIDE:
-                    self.progress.tell(number)
-            else:
-                self.read_other(line, number)
+    def read(self, file):
+        number = 0
+        while lines := file.readlines(BLOCK):
+            self.read_others(lines, number)
+            self.read_edges([line for line in lines if line[0] == EDGE], lines, number)
+            number += len(lines)
+            self.progress.tell(number)
         if not self.in_heap:
             raise Fault(NO_HEAP)
         return self
 
-    def read_other(self, line, number):
-        """A line that is no edge."""
-        if line[0] == SEPARATOR and line.startswith(b"=========="):
+    def read_edges(self, edges, lines, before):
+        """The lines of edges among some lines of the log, which come after so many."""
+        numbers, names = self.cells, self.names
+        parts = [line.split(b" ", 3) for line in edges]
+        try:
+            more_names = [names[part[3]] for part in parts]
+            letters = [part[2] for part in parts]
+            if {part[0] for part in parts} - {b">"} or set(map(len, letters)) - {1}:
+                raise ValueError
+            cells = [numbers[part[1]] for part in parts]
+        except (IndexError, ValueError):
+            bad = next(at for at, line in enumerate(lines, before + 1) if line[0] == EDGE and not EDGE_LINE.match(line))
+            raise Fault(f"line {bad} is no line of a heap log: {text_of(lines[bad - before - 1][:80])}") from None
+        self.edges.cells.extend(cells)
+        self.edges.names.extend(more_names)
+        self.edges.letters += b"".join(letters)
+
+    def read_others(self, lines, before):
+        """The lines that are no edges among some lines of the log, which come after so many."""
+        edges = len(self.edges.cells)
+        others = [at for at, line in enumerate(lines) if line[0] != EDGE]
+        for count, at in enumerate(others):
+            self.edges_before.append(edges + at - count)
+            self.read_other(lines[at], before + at + 1, edges + at - count)
+        first = self.first_edge[0] if self.first_edge else len(lines) - len(others)
+        if first:
+            raise Fault(f"line {self.line_of_edge(0)} has an edge of no cell")
+
+    def line_of_edge(self, edge):
+        """The line of an edge: those before it are edges, and lines that are none."""
+        return edge + 1 + bisect_right(self.edges_before, edge)
+
+    def read_other(self, line, number, edges):
+        """A line that is no edge, behind so many edges."""
+        if line.startswith(b"=========="):
             self.in_heap = True
-        elif line[0] == WEAK and line.startswith(b"WeakMapEntry"):
+        elif line.startswith(b"WeakMapEntry"):
             match = ENTRY.fullmatch(line)
             if not match:
                 raise Fault(f"line {number} is no weak entry of a heap log: {text_of(line[:80])}")
             self.entries.append(match.groups())
         elif line[0] not in (NOTE, LINE_END):
-            address, letter, words = self.parse(line, line, number)
+            match = CELL.fullmatch(line)
+            if not match:
+                raise Fault(f"line {number} is no line of a heap log: {text_of(line[:80])}")
+            address, letter, words = match.groups()
             cell = self.cells[address]
-            if cell == len(self.named):
-                self.add(address, letter, line, number)
             if not self.in_heap:
-                self.roots.add(cell, self.names[words], letter, number)
+                self.roots.add(cell, self.names[words or b""], letter, number)
                 return
             if cell in self.own:
                 raise Fault(f"line {number} has the cell {text_of(address)} again")
-            kind = words.split(b" ")[0].rstrip(b"\n") or b"cell"
+            kind = (words or b"").split(b" ")[0] or b"cell"
             self.own[cell] = sys.intern(text_of(kind)), letter[0], number
-            self.first_edge.append(len(self.edges.cells))
+            self.first_edge.append(edges)
 
-    def parse(self, rest, line, number):
-        """The address, the letter and the words of a line of a cell, of a root, or of an edge behind its sign."""
-        match = CELL.fullmatch(rest)
-        if not match:
-            raise Fault(f"line {number} is no line of a heap log: {text_of(line[:80])}")
-        return match[1], match[2], match[3] or b""
+    def first_mentions(self, rest):
+        """For each of these cells, which have no line of their own, the letter and the line that name it first."""
+        found, missing = {}, set(rest)
+        if missing:
+            for cell, letter, line in zip(self.roots.cells, self.roots.letters, self.roots.lines):
+                if cell in missing:
+                    found.setdefault(cell, (letter, line))
+            missing -= found.keys()
+        if missing:
+            for edge, cell in enumerate(self.edges.cells):
+                if cell in missing:
+                    missing.remove(cell)
+                    found[cell] = self.edges.letters[edge], self.line_of_edge(edge)
+        return [found[cell] for cell in rest]
 
-    def add(self, address, letter, line, number):
-        """Takes note of a cell that was not named before."""
+
+class Addresses(dict):
+    """The number of each address: a new one gets the next."""
+
+    def __missing__(self, address):
         if not ADDRESS.fullmatch(address):
-            raise Fault(f"line {number} is no line of a heap log: {text_of(line[:80])}")
-        self.named += letter
-        self.named_lines.append(number)
+            raise ValueError
+        self[address] = number = len(self)
+        return number
 
 
 class Mentions:
-    """The cells that edges, or roots, lead to: by cell, name, letter and line."""
+    """The cells that edges, or roots, lead to: by cell, name and letter, and roots by line."""
 
     def __init__(self):
         self.cells, self.names, self.letters, self.lines = array("I"), array("I"), bytearray(), array("I")
@@ -134,8 +172,8 @@ class Log:
     alone. The edges of cell n are those from first_edge[n] on and below first_edge[n + 1].
     """
 
-    def __init__(self, lines, progress):
-        reader = Reader(progress).read(lines)
+    def __init__(self, file, progress):
+        reader = Reader(progress).read(file)
         rest = [cell for cell in range(len(reader.cells)) if cell not in reader.own]
         order = [*reader.own, *rest]
         addresses = list(reader.cells)
@@ -143,8 +181,10 @@ class Log:
         self.own_count = len(reader.own)
         own = list(reader.own.values())
         self.kinds = [kind for kind, _, _ in own]
-        self.letters = bytearray(letter for _, letter, _ in own) + bytearray(reader.named[cell] for cell in rest)
-        self.lines = array("I", [line for _, _, line in own] + [reader.named_lines[cell] for cell in rest])
+        self.line_of_edge = reader.line_of_edge
+        coloured = [(letter, line) for _, letter, line in own] + reader.first_mentions(rest)
+        self.letters = bytearray(letter for letter, _ in coloured)
+        self.lines = array("I", [line for _, line in coloured])
         numbers = array("I", bytes(4 * len(order)))
         for number, cell in enumerate(order):
             numbers[cell] = number
@@ -183,10 +223,11 @@ class Log:
             letters = bytes(map(self.letters.__getitem__, mentions.cells))
             if letters != mentions.letters:
                 at = next(at for at, pair in enumerate(zip(letters, mentions.letters)) if pair[0] != pair[1])
+                line = self.line_of_edge(at) if mentions is self.edges else mentions.lines[at]
                 cell, letter = mentions.cells[at], chr(mentions.letters[at])
                 return (
                     f"two colours: {self.address(cell)} is {chr(self.letters[cell])} at line {self.lines[cell]}, "
-                    f"and {letter} at line {mentions.lines[at]}"
+                    f"and {letter} at line {line}"
                 )
         return None
 
@@ -326,8 +367,8 @@ def read_log(path):
     """The log of a file, or of standard input where the path is -."""
     try:
         file = nullcontext(sys.stdin.buffer) if path == "-" else open(path, "rb", 1 << 20)
-        with file as lines, Progress("lines read") as progress:
-            return Log(lines, progress)
+        with file as log, Progress("lines read") as progress:
+            return Log(log, progress)
     except OSError as error:
         raise Fault(f"{path}: {error.strerror}") from None
     except Fault as fault:
