@@ -36,6 +36,11 @@ def is_null(address):
     return address in (b"(nil)", b"null", b"(null)") or set(address) <= set(b"0x")
 
 
+def line_of_edge(edges_before, edge):
+    """The line of an edge, by how many edges come before each line that is none."""
+    return edge + 1 + bisect_right(edges_before, edge)
+
+
 def numbering():
     """A dictionary that gives each new key the next number."""
     numbers = defaultdict()
@@ -71,7 +76,7 @@ class Reader:
         return self
 
     def read_edges(self, edges, lines, before):
-        """The lines of edges among some lines of the log, which come after so many."""
+        """Takes in the edges among some lines of the log; `before` is how many lines come before these."""
         numbers, names = self.cells, self.names
         parts = [line.split(b" ", 3) for line in edges]
         try:
@@ -88,7 +93,7 @@ class Reader:
         self.edges.letters += b"".join(letters)
 
     def read_others(self, lines, before):
-        """The lines that are no edges among some lines of the log, which come after so many."""
+        """Takes in the lines that are no edges among some lines of the log; `before` is as above."""
         edges = len(self.edges.cells)
         others = [at for at, line in enumerate(lines) if line[0] != EDGE]
         for count, at in enumerate(others):
@@ -96,14 +101,10 @@ class Reader:
             self.read_other(lines[at], before + at + 1, edges + at - count)
         first = self.first_edge[0] if self.first_edge else len(lines) - len(others)
         if first:
-            raise Fault(f"line {self.line_of_edge(0)} has an edge of no cell")
-
-    def line_of_edge(self, edge):
-        """The line of an edge: those before it are edges, and lines that are none."""
-        return edge + 1 + bisect_right(self.edges_before, edge)
+            raise Fault(f"line {line_of_edge(self.edges_before, 0)} has an edge of no cell")
 
     def read_other(self, line, number, edges):
-        """A line that is no edge, behind so many edges."""
+        """Takes in a line that is no edge; `edges` is how many edges come before it."""
         if line.startswith(b"=========="):
             self.in_heap = True
         elif line.startswith(b"WeakMapEntry"):
@@ -138,7 +139,7 @@ class Reader:
             for edge, cell in enumerate(self.edges.cells):
                 if cell in missing:
                     missing.remove(cell)
-                    found[cell] = self.edges.letters[edge], self.line_of_edge(edge)
+                    found[cell] = self.edges.letters[edge], line_of_edge(self.edges_before, edge)
         return [found[cell] for cell in rest]
 
 
@@ -181,7 +182,7 @@ class Log:
         self.own_count = len(reader.own)
         own = list(reader.own.values())
         self.kinds = [kind for kind, _, _ in own]
-        self.line_of_edge = reader.line_of_edge
+        self.edges_before = reader.edges_before
         coloured = [(letter, line) for _, letter, line in own] + reader.first_mentions(rest)
         self.letters = bytearray(letter for letter, _ in coloured)
         self.lines = array("I", [line for _, line in coloured])
@@ -223,7 +224,7 @@ class Log:
             letters = bytes(map(self.letters.__getitem__, mentions.cells))
             if letters != mentions.letters:
                 at = next(at for at, pair in enumerate(zip(letters, mentions.letters)) if pair[0] != pair[1])
-                line = self.line_of_edge(at) if mentions is self.edges else mentions.lines[at]
+                line = mentions.lines[at] if mentions.lines else line_of_edge(self.edges_before, at)
                 cell, letter = mentions.cells[at], chr(mentions.letters[at])
                 return (
                     f"two colours: {self.address(cell)} is {chr(self.letters[cell])} at line {self.lines[cell]}, "

@@ -10,8 +10,7 @@ import signal
 import subprocess
 
 from command_line import Fault, read_file
-from crate_list import TOP
-from program import find_program
+from program import TOP, find_program
 
 SLOTS = 64
 REPORTS = ("groups", "ended", "swept", "done")
@@ -340,7 +339,7 @@ REFUSALS = {
 
 
 def replay(lines, output, later=()):
-    """Yields, for each command with an answer, its words, its output lines, and the model after it.
+    """Yields, for each command that has an answer, its words, its output lines, and the model after it.
 
     `lines` are the texts of commands, `output` the program's output lines, and `later` the output lines that would come
     after it, so that the cells which a group left dead are known before they are swept.
@@ -360,7 +359,7 @@ def replay(lines, output, later=()):
 
 
 def step(model, words, own, reports, at):
-    """Does a command whose answer these lines are, and returns how many of all the reports are done then."""
+    """Does a command whose answer is these lines, and returns how many of all the reports are done then."""
     begins = words[0] in ("gc", "collect")
     if begins and own[-1] in ("gc ok", "collected"):
         model.command(words, own[-1])

@@ -26,7 +26,7 @@ def main(cells, edges):
                 write(f"> {words[below]} {name}\n")
         for target, name in zip(chosen.choices(everywhere, k=more), chosen.choices(names, k=more)):
             if letters[number] == "B" and letters[target] == "G":
-                target -= 1 << target.bit_length() - 2  # its place in the black tree
+                target -= 1 << target.bit_length() - 2  # this place in the black tree
             write(f"> {words[target]} {name}\n")
 
 

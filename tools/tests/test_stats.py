@@ -35,7 +35,8 @@ class Stats(unittest.TestCase):
         found = self.ask(EXAMPLES / "three_slices.trace")
         times, memory = found.pop("seconds"), found.pop("memory_bytes")
         counts = {
-            "zone": 1, "comp": 1, "new": 4, "get": 3, "set": 6, "drop": 5, "gc": 1, "slice": 2, "finish": 1, "collect": 1,
+            "zone": 1, "comp": 1, "new": 4, "get": 3, "set": 6, "drop": 5, "gc": 1, "slice": 2, "finish": 1,
+            "collect": 1,
         }
         self.assertEqual(found, {
             "lines": 25,

@@ -36,7 +36,8 @@ READERS = [
 # Each tool that runs a program, with words that it takes.
 RUNNERS = [
     ("draw", ["heap", FIRST, "--dot"]), ("draw", ["timeline", FIRST]), ("draw", ["pictures", "--check"]),
-    ("explain", [FIRST]), ("why", [FIRST, "5", "1"]), ("stats", [FIRST]), ("check-heap-log", [HEAP_LOG]), ("check-piles", []), ("check-storms", ["--count", "1"]),
+    ("explain", [FIRST]), ("why", [FIRST, "5", "1"]), ("stats", [FIRST]),
+    ("check-heap-log", [HEAP_LOG]), ("check-piles", []), ("check-storms", ["--count", "1"]),
     ("check-step", ["--collector", "true", "--seeds", "0"]),
 ]
 ALL = [
@@ -62,7 +63,8 @@ def run_tool(name, *words, data=b"", path=None):
 
 def run_process(folder, name, *words, **how):
     """A tool in a process of its own, as one runs it."""
-    return subprocess.run([sys.executable, folder / name, *words], stderr=subprocess.PIPE, check=False, timeout=60, **how)
+    command = [sys.executable, folder / name, *words]
+    return subprocess.run(command, stderr=subprocess.PIPE, check=False, timeout=60, **how)
 
 
 class Tools(unittest.TestCase):
@@ -157,7 +159,8 @@ class WrongWords(Tools):
         self.check_refuses([["draw", "heep", FIRST]], "'heep'", "'heap', 'timeline'")
 
     def test_a_word_that_is_missing_is_named(self):
-        self.check_refuses([["draw"], ["explain"], ["why"], ["why", FIRST, "1"], ["stats"], ["heap-log"]], "are required")
+        calls = [["draw"], ["explain"], ["why"], ["why", FIRST, "1"], ["stats"], ["heap-log"], ["check-heap-log"]]
+        self.check_refuses(calls, "are required")
         self.check_refuses([["draw", "heap"]], "a trace is needed")
         self.check_refuses([["check-step"]], "either --model or --collector is needed")
 
@@ -184,7 +187,8 @@ class WrongProgram(Tools):
         self.check_refuses(self.with_program("/bin/true"))
 
     def test_a_program_that_answers_something_else(self):
-        wrong = self.file("wrong", "#!/bin/sh\nwhile read -r line; do echo ended 0 gray 7; echo swept 9 9; echo 3:4; done\n")
+        answer = "echo ended 0 gray 7; echo swept 9 9; echo 3:4"
+        wrong = self.file("wrong", f"#!/bin/sh\nwhile read -r line; do {answer}; done\n")
         os.chmod(wrong, 0o755)
         self.check_refuses(self.with_program(wrong))
 
@@ -205,7 +209,8 @@ class WrongProgram(Tools):
         for path in TOOLS.iterdir():
             if path.is_file():
                 shutil.copy(path, self.folder / "tools")
-        done = run_process(self.folder / "tools", "explain", FIRST, env={"PATH": "/usr/bin:/bin"}, stdout=subprocess.PIPE)
+        how = {"env": {"PATH": "/usr/bin:/bin"}, "stdout": subprocess.PIPE}
+        done = run_process(self.folder / "tools", "explain", FIRST, **how)
         message = done.stderr.decode().splitlines()
         self.assertEqual((done.returncode, done.stdout), (1, b""))
         self.assertEqual(message[-1], "explain: there is no gczone, and it could not be built")
@@ -227,7 +232,7 @@ class Drawing(Tools):
         _, output, _ = run_tool("draw", "heap", str(EXAMPLES / "expose.trace"), "11", "--dot")
         self.assertIn('"1" [shape=ellipse, style=filled, fillcolor="#b8b8b8", fontcolor=black]', output)
         self.assertIn('g3 -> "0"', output)
-        self.check_refuses([["draw", "growth", "--output", "/nowhere/file"]], "/nowhere/file: No such file or directory")
+        self.check_refuses([["draw", "growth", "--output", "/nowhere/file"]], "/nowhere/file: No such file")
 
     def test_nobody_reads_on(self):
         reading, writing = os.pipe()
@@ -349,7 +354,8 @@ class HeapLogs(Tools):
     )
     # The cells in the log's order: 0 is 0x10, 1 is 0x20, 2 is 0x30, 3 is 0x50, and without a line 4 is 0x40 and 5 0x60.
     DUMP = (
-        "cell 0 b\ncell 1 b\ncell 2 b\ncell 3 g\ncell 4 b\ncell 5 b\ncell 0:0 b\nedge 0 1\nedge 0 4\nweak 1 0:0 3\nend\n"
+        "cell 0 b\ncell 1 b\ncell 2 b\ncell 3 g\ncell 4 b\ncell 5 b\ncell 0:0 b\n"
+        "edge 0 1\nedge 0 4\nweak 1 0:0 3\nend\n"
     )
     TABLE = [
         "black Object 0x10", "black WeakMap 0x20", "black Proxy 0x30", "gray Object 0x50", "black cell 0x40",
@@ -381,7 +387,8 @@ class HeapLogs(Tools):
 
     def test_lines_that_are_none(self):
         head = "==========\n0x1 B x\n"
-        for line in (">x0x12 B a", "> 0x12 BB a", ">", "> ", "> 0x12  a", "0x", "0x12", ">0x12 B a", "> 0xg B a", "WeakMapEntry"):
+        edges = (">x0x12 B a", "> 0x12 BB a", ">", "> ", "> 0x12 B", "> 0x12  a", ">0x12 B a", "> 0xg B a")
+        for line in (*edges, "0x", "0x12", "WeakMapEntry"):
             self.check_refuses([["heap-log", self.file("log", f"{head}{line}\n")]], "line 3 is no ")
         self.check_refuses([["heap-log", self.file("log", f"{head}0x1 B y\n")]], "line 3 has the cell 0x1 again")
         self.check_refuses([["heap-log", self.file("log", "==========\n> 0x1 B y\n")]], "line 2 has an edge of no cell")
