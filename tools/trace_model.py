@@ -10,7 +10,8 @@ import signal
 import subprocess
 
 from command_line import Fault, read_file
-from program import TOP, find_program
+from crate_list import TOP
+from program import find_program
 
 SLOTS = 64
 REPORTS = ("groups", "ended", "swept", "done")

@@ -72,8 +72,8 @@ pub record Advances (limit : ℕ) (old : CollectorState) (flown : ℕ → Option
   -- where it tells: one unit that reports is the whole step, and no unit that reports nothing was left before it
   pub one : step.reported ≡ true → step.units ≡ 1
   pub rests : step.reported ≡ true → IsQuietDone old flown
-  -- it is the end of a group exactly where nothing else is left to do, and the lowest arena where one is out; as a group
-  -- ends each present cell of any zone has by its bits the colour that the end asks, and its arenas are handed over
+  -- it is the end of a group exactly where nothing else is left to do, and the lowest arena where only one is out; as a
+  -- group ends each present cell has by its bits the colour that the end asks, and the group's arenas are handed over
   pub ended_where : (tells_end step now ≡ true) ↔ IsAtGroupEnd old flown
   pub due_where : IsResting old flown → (a : ℕ) → IsLowestOut old.heap.shape a → (step.reported ≡ true)
       × TellsSweep a now

@@ -406,7 +406,8 @@ due_into c d f g outs before place finished step step_is a low rested swept does
       finished = over;
       rests = λ e. rested;
       ended_where = no_end place (IsAtGroupEnd c f) other (λ at. none_lowest c.heap.shape a at.1 low);
-      due_where = λ rests b lowest. subst (λ (n : ℕ). TellsSweep n place) (one_lowest c.heap.shape a b low lowest) swept;
+      due_where = λ rests b lowest. subst (λ (n : ℕ). TellsSweep n place) (one_lowest c.heap.shape a b low lowest)
+          swept;
       coloured = no_colours place c f d.heap.colours other;
       jobs = no_jobs place c.heap other;
       sound = sound;
