@@ -242,7 +242,7 @@ class AfterEdit(Habits):
         self.write("docs/NEW.md", "# New\n")
         _, output, _ = self.run_tool("after-edit", "--since", "HEAD~1")
         self.assertIn("cd crates/high && rt check\n", output)
-        self.assertIn("python3 examples/documents.py\n", output)
+        self.assertIn("./gczone test documents\n", output)
         status, _, error = self.run_tool("after-edit", "--since", "nowhere")
         self.assertEqual(status, 2)
         self.assertTrue(error.startswith("after-edit: "))
