@@ -9,7 +9,7 @@ import unittest
 from pathlib import Path
 
 TOOLS = Path(__file__).resolve().parent.parent
-COPIED = ("program.py", "repository.py", "uses", "after-edit", "lint")
+COPIED = ("crate_list.py", "program.py", "repository.py", "uses", "after-edit", "lint")
 CRATES = "low:\nhigh: low\nother:\n"
 SUMS = """-- Sums.
 use Rattle.std.specs.Prelude.{◌≡◌, ℕ}

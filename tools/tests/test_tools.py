@@ -213,12 +213,17 @@ class WrongProgram(Tools):
         done = run_process(self.folder / "tools", "explain", FIRST, **how)
         message = done.stderr.decode().splitlines()
         self.assertEqual((done.returncode, done.stdout), (1, b""))
-        self.assertEqual(message[-1], "explain: there is no gczone, and it could not be built")
+        self.assertIn("explain: there is no gczone that is newer than its sources", message[-1])
 
 
 class Drawing(Tools):
     def test_no_graphviz(self):
-        status, output, error = run_tool("draw", "heap", FIRST, path="/nowhere")
+        commands = self.folder / "commands"
+        commands.mkdir()
+        for name in ("python3", "readlink", "sed", "awk", "find", "cmp", "dirname", "sh", "git", "env"):
+            if found := shutil.which(name):
+                (commands / name).symlink_to(found)
+        status, output, error = run_tool("draw", "heap", FIRST, path=str(commands))
         self.assertEqual((status, output), (1, ""))
         self.assertIn("draw: Graphviz's dot is not found", error)
 
