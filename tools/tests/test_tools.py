@@ -218,12 +218,7 @@ class WrongProgram(Tools):
 
 class Drawing(Tools):
     def test_no_graphviz(self):
-        commands = self.folder / "commands"
-        commands.mkdir()
-        for name in ("python3", "readlink", "sed", "awk", "find", "cmp", "dirname", "sh", "git", "env"):
-            if found := shutil.which(name):
-                (commands / name).symlink_to(found)
-        status, output, error = run_tool("draw", "heap", FIRST, path=str(commands))
+        status, output, error = run_tool("draw", "heap", FIRST, "--program", str(find_program()), path="/nowhere")
         self.assertEqual((status, output), (1, ""))
         self.assertIn("draw: Graphviz's dot is not found", error)
 
