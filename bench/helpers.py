@@ -1,7 +1,7 @@
 #!/usr/bin/env python3
 """Measures gczone with helper threads beside gczone without, and prints one table.
 
-    ./gczone run < examples/first.trace          # proves and builds the program
+    ./gczone prove                               # proves and builds the program
     bench/helpers.py [--helpers N,..] [--only CASE,..] [--program PATH]
 
 For each case: the wall time and the processor time of a run with 0, 1, 2 and 4 helpers. The runs take turns, and of

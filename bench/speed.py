@@ -1,7 +1,7 @@
 #!/usr/bin/env python3
 """Measures gczone beside plain Rust (bench/plain), and prints one table.
 
-    ./gczone run < examples/first.trace          # proves and builds the program
+    ./gczone prove                               # proves and builds the program
     bench/speed.py [--time] [--scale X,..] [--only FAMILY,..] [--program PATH] [--plain PATH]
 
 For each family of traces (bench/families.py) and each scale (0.02 and 0.32): the lines, the instructions a line of
@@ -189,7 +189,7 @@ def read_words():
 def find_program(asked):
     program = asked or next((path for path in BUILT if path.exists()), None)
     if program is None:
-        sys.exit("build the program first: ./gczone run < examples/first.trace")
+        sys.exit("build the program first: ./gczone prove")
     return program.resolve()
 
 
