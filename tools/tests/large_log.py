@@ -1,14 +1,15 @@
-"""Writes a heap log as large as one likes, always the same for the same numbers: large_log.py CELLS EDGES > LOG
+"""Writes a heap log of any size, the same for the same numbers: large_log.py CELLS EDGES [DISTANCE] > LOG
 
-The cells are those of two binary trees, one black and one gray, with a root each. Edges lead down the trees, and
-EDGES more to any cells that they may lead to. There is a weak entry for each 1,000 cells.
+The cells are those of two binary trees, one black and one gray, with a root each. Edges lead down the trees, and EDGES
+more to any cells, or to cells whose numbers are at most DISTANCE away; but where a black cell would lead to a gray one,
+to that of the same place in the black tree. There is a weak entry for each 1,000 cells.
 """
 
 import random
 import sys
 
 
-def main(cells, edges):
+def main(cells, edges, distance=None):
     chosen = random.Random(1)
     letters = ["B" if bin(n)[3:4] == "0" else "G" for n in range(cells)]
     words = [f"{0x7F0000000000 + 16 * n:#x} {letters[n]}" for n in range(cells)]
@@ -24,11 +25,12 @@ def main(cells, edges):
         for below, name in ((2 * number, "left"), (2 * number + 1, "right")):
             if below < cells:
                 write(f"> {words[below]} {name}\n")
-        for target, name in zip(chosen.choices(everywhere, k=more), chosen.choices(names, k=more)):
+        near = range(max(number - distance, 2), min(number + distance, cells)) if distance else everywhere
+        for target, name in zip(chosen.choices(near, k=more), chosen.choices(names, k=more)):
             if letters[number] == "B" and letters[target] == "G":
                 target -= 1 << target.bit_length() - 2  # this place in the black tree
             write(f"> {words[target]} {name}\n")
 
 
 if __name__ == "__main__":
-    main(int(sys.argv[1]), int(sys.argv[2]))
+    main(*map(int, sys.argv[1:]))
