@@ -334,6 +334,31 @@ class Steps(Tools):
             self.assertEqual((status, error), (1, ""))
             self.assertIn("the specification answers 'gray -', the collector 'colours'", output)
 
+    MODEL = """
+class Graph:
+    def __init__(self):
+        self.regs, self.slots, self.counts = [], [], {"zone": 0, "comp": 0}
+def parse(line, stage):
+    return line.decode().split(" ")[0]
+def step(graph, word, stage):
+    graph.counts[word] += 1
+    return True, f"{word} {graph.counts[word] - 1}"
+def close(graph, starts, delegates):
+    return set(starts)
+text = str
+"""
+
+    # With one line a trace has its zones and compartments alone, and `colours`.
+    def test_a_model(self):
+        words = ["--seeds", "0-9", "--lines", "1", "--model"]
+        status, output, error = run_tool("check-step", *words, self.file("model.py", self.MODEL))
+        self.assertEqual((status, output.split(" ")[0], error), (0, "10", ""))
+        wrong = self.file("wrong.py", self.MODEL.replace('"comp": 0', '"comp": 7'))
+        status, output, error = run_tool("check-step", *words, wrong)
+        # One line is enough: without a zone the compartment is refused, and the model numbers it all the same.
+        wanted = "check-step: seed 0: line 1, 'comp 1': the specification answers 'no-zone', the model 'comp 7'"
+        self.assertEqual((status, output.splitlines(), error), (1, ["comp 1", wanted], ""))
+
     def test_a_model_that_is_none(self):
         for text in ("", "x = ", "class Graph:\n    regs = slots = []\n"):
             path = self.file("model.py", text)
