@@ -4,6 +4,7 @@ A heap log is what js::DumpHeap writes, and what about:memory saves as gc-edges 
 bytes, and cells, edges and names by numbers, since a log may have millions of them.
 """
 
+import gc
 import re
 import sys
 from array import array
@@ -366,6 +367,8 @@ class Dump:
 
 def read_log(path):
     """The log of a file, or of standard input where the path is -."""
+    # What is made of a line is gone with its block, and holds no cycles that Python would have to look for.
+    gc.disable()
     try:
         file = nullcontext(sys.stdin.buffer) if path == "-" else open(path, "rb", 1 << 20)
         with file as log, Progress("lines read") as progress:
@@ -374,3 +377,5 @@ def read_log(path):
         raise Fault(f"{path}: {error.strerror}") from None
     except Fault as fault:
         raise Fault(f"{path}: {fault}") from None
+    finally:
+        gc.enable()
