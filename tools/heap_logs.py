@@ -58,8 +58,10 @@ class Reader:
     def __init__(self, progress):
         self.progress = progress
         self.cells, self.names = Addresses(), numbering()
-        self.own = {}                       # cell: its kind, letter and line, of the cells that have one of their own
+        self.own = {}                       # cell: its kind, of the cells that have a line of their own
+        self.own_letters, self.own_lines = bytearray(), array("I")
         self.first_edge = array("Q")        # for each of these: its first edge
+        self.kinds = {}
         self.edges_before = array("Q")      # for each line that is no edge: how many edges come before it
         self.edges, self.roots = Mentions(), Mentions()
         self.entries = []
@@ -106,7 +108,10 @@ class Reader:
 
     def read_other(self, line, number, edges):
         """Takes in a line that is no edge; `edges` is how many edges come before it."""
-        if line.startswith(b"=========="):
+        match = CELL.fullmatch(line)
+        if match:
+            self.read_cell(*match.groups(), number, edges)
+        elif line.startswith(b"=========="):
             self.in_heap = True
         elif line.startswith(b"WeakMapEntry"):
             match = ENTRY.fullmatch(line)
@@ -114,19 +119,21 @@ class Reader:
                 raise Fault(f"line {number} is no weak entry of a heap log: {text_of(line[:80])}")
             self.entries.append(match.groups())
         elif line[0] not in (NOTE, LINE_END):
-            match = CELL.fullmatch(line)
-            if not match:
-                raise Fault(f"line {number} is no line of a heap log: {text_of(line[:80])}")
-            address, letter, words = match.groups()
-            cell = self.cells[address]
-            if not self.in_heap:
-                self.roots.add(cell, self.names[words or b""], letter, number)
-                return
-            if cell in self.own:
-                raise Fault(f"line {number} has the cell {text_of(address)} again")
-            kind = (words or b"").split(b" ")[0] or b"cell"
-            self.own[cell] = sys.intern(text_of(kind)), letter[0], number
-            self.first_edge.append(edges)
+            raise Fault(f"line {number} is no line of a heap log: {text_of(line[:80])}")
+
+    def read_cell(self, address, letter, words, number, edges):
+        """Takes in a root, or the line of a cell, with the arguments of `read_other`."""
+        cell, words = self.cells[address], words or b""
+        if not self.in_heap:
+            self.roots.add(cell, self.names[words], letter, number)
+            return
+        if cell in self.own:
+            raise Fault(f"line {number} has the cell {text_of(address)} again")
+        kind = words.partition(b" ")[0] or b"cell"
+        self.own[cell] = self.kinds.setdefault(kind, kind)
+        self.own_letters += letter
+        self.own_lines.append(number)
+        self.first_edge.append(edges)
 
     def first_mentions(self, rest):
         """For each of these cells, which have no line of their own, the letter and the line that name it first."""
@@ -181,12 +188,11 @@ class Log:
         addresses = list(reader.cells)
         self.addresses = [addresses[cell] for cell in order]
         self.own_count = len(reader.own)
-        own = list(reader.own.values())
-        self.kinds = [kind for kind, _, _ in own]
+        self.kinds = list(reader.own.values())
         self.edges_before = reader.edges_before
-        coloured = [(letter, line) for _, letter, line in own] + reader.first_mentions(rest)
-        self.letters = bytearray(letter for letter, _ in coloured)
-        self.lines = array("I", [line for _, line in coloured])
+        named = reader.first_mentions(rest)
+        self.letters = reader.own_letters + bytearray(letter for letter, _ in named)
+        self.lines = reader.own_lines + array("I", [line for _, line in named])
         numbers = array("I", bytes(4 * len(order)))
         for number, cell in enumerate(order):
             numbers[cell] = number
@@ -206,7 +212,7 @@ class Log:
         return COLOURS.get(self.letters[cell], "uncoloured")
 
     def kind(self, cell):
-        return self.kinds[cell] if cell < self.own_count else "cell"
+        return text_of(self.kinds[cell]) if cell < self.own_count else "cell"
 
     def address(self, cell):
         return text_of(self.addresses[cell])
