@@ -76,9 +76,11 @@ def program_of(path, crate="gczone"):
             return find_program(crate)
         except Missing as missing:
             raise Fault(str(missing), 1) from None
-    if not shutil.which(path):
+    found = shutil.which(path)
+    if not found:
         raise Fault(f"{path} is {'no program' if Path(path).exists() else 'not there'}", 1)
-    return Path(shutil.which(path)).resolve()
+    # A link stays one: some programs do what their name says.
+    return Path(found).absolute()
 
 
 def read_file(path):
