@@ -28,8 +28,8 @@ PAGES = TOP / "docs/pages"
 sys.dont_write_bytecode = True
 sys.path.insert(0, str(TOOLS))
 from program import find_program  # noqa: E402 (the folder of tools is no package)
-from trace_model import ask, fault_of, split_lines  # noqa: E402
-from world import load_script, record  # noqa: E402
+from trace_model import answers, ask, fault_of, replay, split_lines  # noqa: E402
+from world import Recorder, load_script, record  # noqa: E402
 
 PAGE = load_script("page")
 CHROMIUM = shutil.which("chromium")
@@ -133,6 +133,22 @@ class WorldTest(unittest.TestCase):
                 changes = sum((step.changes for step in recorder.steps), [])
                 states |= {value for key, value in changes if re.fullmatch(r"s\d+", key)}
         self.assertEqual(states, {"b", "g", "B", "G", "W", "d", ""})
+
+    def test_the_colours_of_tools_why(self):
+        """tools/why follows the definitions by itself, and for a line at a time."""
+        why = load_script("why")
+        words_of = {"b": "black", "g": "gray", "B": "black", "G": "gray", "W": "white"}
+        for seed in range(20, 24):
+            lines = random_lines(seed, 200)
+            output = ask([*lines, "finish"])
+            recorder, world = Recorder(), why.World()
+            told = answers(lines, output)
+            later = output[sum(map(len, told)):]
+            for number, (words, own, model) in enumerate(replay(lines, output, later), 1):
+                world.follow(number, words, own, model)
+                recorder.line(number, lines[number - 1], own)
+                mine = {name: words_of[recorder.world.status(name)] for name in recorder.world.model.cells}
+                self.assertEqual(mine, {name: world.state(name) for name in model.cells}, f"seed {seed}, line {number}")
 
     def test_what_must_be_black_and_what_may_become_so(self):
         """Cell 2 was moved, and cell 3 taken out of its field, while only cell 0 was scanned; nothing leads to 3."""
