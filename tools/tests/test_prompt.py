@@ -298,14 +298,16 @@ class TerminalTest(unittest.TestCase):
 
     def test_interrupts_keep_the_session(self):
         with tempfile.TemporaryDirectory() as folder:
-            self.start("--program", str(write_program(folder, "time.sleep(1000)")))
+            waits = Path(folder) / "waits"
+            self.start("--program", str(write_program(folder, f"open({str(waits)!r}, 'w').close(); time.sleep(1000)")))
             self.type("zone\n")
             self.type("comp 0\n")
             self.type("gc 0\n")
             self.type("half a line\x03")
             os.write(self.leader, b"finish\n")
-            self.wait_for("finish")
-            time.sleep(1)
+            until = time.monotonic() + SECONDS
+            while not waits.exists() and time.monotonic() < until:
+                time.sleep(0.05)
             self.assertIn("interrupted; 'finish' is left out", self.type("\x03"))
             self.assertIn("cell 0", self.type("new r0 0 0\n"))
             self.leave("quit\n")
