@@ -282,17 +282,16 @@ class Recorder:
 
     def report(self, number, line):
         model = self.world.model
-        entries = dict(model.entries)
-        dead = dict(self.world.dead)
+        entries, dead = dict(model.entries), dict(self.world.dead)
         wanted = self.world.report(line)
         for place, cell in dead.items():
             if place not in self.world.dead:
                 self.put(f"s{self.numbers[cell]}", NONE)
         for cell in self.world.dead.values():
             self.put(f"s{self.numbers[cell]}", DEAD)
-        for key in entries.keys() - model.entries.keys():
-            owner, kept, _ = entries[key]
-            self.put(f"e{self.number(owner)}.{self.number(kept)}", None)
+        for key, (owner, kept, _) in entries.items():
+            if key not in model.entries:
+                self.put(f"e{self.number(owner)}.{self.number(kept)}", None)
         if line.startswith("groups "):
             self.put("groups", line.removeprefix("groups "))
         self.put_collection()
