@@ -95,9 +95,10 @@ def heap_of(cells):
     return [*lines, "drop r0", "drop r1", "gc 0 1 2 3", "slice 40", "expose r2 g0", "finish"]
 
 
-def run_page(*words, data=b""):
+def run_page(*words, data=b"", **variables):
     words = [TOOLS / "page", *map(str, words)]
-    return subprocess.run(words, input=data, capture_output=True, timeout=SECONDS, check=False)
+    given = {"input": data, "env": {**os.environ, **variables}}
+    return subprocess.run(words, capture_output=True, timeout=SECONDS, check=False, **given)
 
 
 def pictures_of(recorder):
@@ -188,6 +189,13 @@ class PageTest(unittest.TestCase):
             made = run_page(EXAMPLES / f"{page.stem}.trace")
             self.assertEqual((made.returncode, made.stderr), (0, b""))
             self.assertTrue(made.stdout == page.read_bytes(), f"tools/page examples/{page.stem}.trace differs")
+
+    def test_it_is_the_same_each_time(self):
+        with tempfile.TemporaryDirectory() as folder:
+            file = Path(folder) / "trace"
+            file.write_text("".join(f"{line}\n" for line in [*random_lines(7, 400), "finish"]))
+            pages = {run_page(file, PYTHONHASHSEED=str(seed)).stdout for seed in range(4)}
+        self.assertEqual(len(pages), 1)
 
     def test_it_loads_nothing(self):
         page = run_page(EXAMPLES / "first.trace").stdout.decode()
