@@ -4,7 +4,7 @@ for. Shared by tools/page and tools/prompt.
 The colours follow crates/colour_defs/specs (World, Ends, Lawful), also while zones are marking. Then a cell is black
 by the black closure, gray by the live closure without it, and white else: the black closure only grows, so black is
 sure, gray may still turn black, and white is freed unless `wrap` finds the wrapper. This is plain Python, and proved in
-nothing; a line of the program that says something else is told with what the definitions ask for.
+nothing; where a line of the program says something else, a note says what the definitions ask for.
 """
 
 import importlib.machinery

@@ -19,7 +19,7 @@ import times  # noqa: E402 (the folders of scripts are no packages)
 from checks import Check, NotRun, Outcome, run_checks  # noqa: E402
 from program import find_program  # noqa: E402
 
-# It answers `run` as examples/first.trace is to be answered, but wrongly with four helpers, and refuses all else.
+# It answers `run` as examples/first.trace wants it, but wrongly with four helpers, and refuses all else.
 FIRST_ALONE = f"""\
 #!/bin/sh
 case "$*" in

@@ -51,7 +51,7 @@ def read_lines(name):
 
 
 def answered_traces():
-    """The lines of each example that is answered to its end."""
+    """The lines of each example whose every line has an answer."""
     for file in sorted(EXAMPLES.rglob("*.trace")):
         raw = split_lines(file.read_bytes())
         if not any(map(fault_of, raw)):
