@@ -46,9 +46,8 @@ LATE_GRAY_SLOT = Class(
 )
 ENDLESS_BUDGET = Class(
     "budget without end", f"{TRACES}/chain_above_budget.trace",
-    "A slice that runs out while it follows weak entries begins their table again: with a work budget of 10, or of 12, "
-    "a"
-    " chain of 20 entries is never done; with 15 it is. A budget of one ends no collection",
+    "A slice that runs out while it follows weak entries begins their table again: with a work budget of 10, or of 12,"
+    " a chain of 20 entries is never done; with 15 it is. A budget of one ends no collection",
     "`markWeakReferences`, gc/Sweeping.cpp",
     "What the slices count in all is bounded by what lies in the heap and what changed (`unit_limit`), whatever the"
     " budget",
