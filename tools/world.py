@@ -12,7 +12,7 @@ import importlib.util
 import textwrap
 
 from command_line import Fault
-from program import TOP
+from crate_list import TOP
 from trace_model import REFUSALS, Model, answers, is_report, name_order
 
 LONGEST = 200
