@@ -22,5 +22,4 @@ pub mod Shown
 pub mod ZoneSets
 pub mod Finite
 pub mod NothingWeak
-pub mod Progress
 pub mod EdgesAgree

@@ -1,5 +1,4 @@
-// The definitions of the collector, laws of all its lawful runs, and the plain functions that
-// compute the graph's step and its closure.
+// The definitions of the collector, and laws of all its lawful runs.
 //
 // [gczone] Definitions
 //
@@ -55,17 +54,13 @@
 // a change keeps is in proofs/Follows; from there on no law looks at a command.
 #![tactic(auto)]
 
-mod commands;
 mod fields;
 mod graph;
 mod laws;
-mod reach;
 
-pub use commands::step;
 pub use fields::Fields;
-pub use graph::{Entry, Graph, Object};
+pub use graph::{Entry, Object};
 pub use laws::{
     agrees_law, answer_law, begin_law, closure_law, edges_law, end_law, garbage_law, presence_law,
     reached_law, refusal_law, register_law, shown_law, unit_law, valid_law,
 };
-pub use reach::closure;

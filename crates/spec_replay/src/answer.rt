@@ -9,9 +9,9 @@ ghost use Rattle.trace_lang.specs.Texts.{line_of, names_text, reply_text};
 ghost use Rattle.spec_replay.specs.Answers.{AnswersLine, WritesReached};
 
 use crate::reached::{black_names, live_names};
-use colour_defs::{Graph, step};
 use gz_io::{Sink, WriteFault, write_all};
 use gz_names::{Cmd, GraphCmd, Name};
+use plain_graph::{Graph, step};
 use std::alloc::Global;
 use trace_lang::{parse, write_name, write_reply};
 

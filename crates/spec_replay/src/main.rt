@@ -2,7 +2,7 @@
 //
 // [gczone] The specification, run
 //
-// `step` and `closure` of colour_defs are plain programs that equal the definitions. This program
+// `step` and `closure` of plain_graph are plain programs that equal the definitions. This program
 // answers a trace by them, on a graph from which nothing is ever removed:
 //
 //     a command on the graph      its reply, as `gczone run` writes it

@@ -6,8 +6,8 @@ ghost use Rattle.colour_defs.specs.Closure.{Closure};
 ghost use Rattle.colour_defs.specs.Ends.{Lists};
 ghost use Rattle.spec_replay.specs.Reached.{IsBlackNow, IsInRegister, IsInSlotsBelow, IsLiveNow};
 
-use colour_defs::{Graph, closure};
 use gz_names::{GrayNo, Name, NoMemory, Reg};
+use plain_graph::{Graph, closure};
 use std::alloc::Global;
 
 // Adds a name, if there is one.

@@ -4,8 +4,8 @@ ghost use Rattle.gz_io.specs.Causes.{Rose};
 ghost use Rattle.spec_replay.specs.Answers.{EndsBy};
 
 use crate::answer::{LineFault, answer_line};
-use colour_defs::Graph;
 use gz_io::{LineReader, Next, Sink, Source};
+use plain_graph::Graph;
 use std::alloc::Global;
 use std::fmt::{self, Display, Formatter, Write};
 
