@@ -70,6 +70,15 @@ impl Stack {
         }
     }
 
+    /// Takes all places off all piles.
+    pub fn clear(&mut self)
+        ensures { self.new ≡ no_places }
+    {
+        self.black.clear();
+        self.gray.clear();
+        self.wake.clear();
+    }
+
     /// Whether a pile is empty.
     #[inline(always)]
     pub fn is_empty(&self, pile: Pile) -> bool
