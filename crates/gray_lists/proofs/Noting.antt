@@ -1,5 +1,5 @@
 -- Noting a wrapper and taking one, as the lists tell it.
-use Rattle.std.proofs.Common.{◌≡◌, ◌<◌, ◌≤◌, ◌+◌, ℕ, zero, suc, List, [], ◌∷◌, Option, Some, None, IfSome, IfNone}
+use Rattle.std.proofs.Common.{◌≡◌, ◌<◌, ◌≤◌, ◌+◌, ◌^◌, ℕ, zero, suc, List, [], ◌∷◌, Option, Some, None, IfSome, IfNone}
 use Rattle.std.proofs.Common.{length, set, get_or, replicate, sum_by, length-set, length-append, get_or-set_same, refl}
 use Rattle.std.proofs.Common.{sym, ◌∙◌, ap, arith}
 use Rattle.std.proofs.lemmas.List.{get_or-replicate, get_or-map, set-set, set-get_or}
@@ -112,15 +112,20 @@ notes nodes heads free lists spare k at w news frees links h puts =
       now = lists_of-is news (set heads k (Some at)) frees (set lists k (w ∷ list_at lists k)) put.0 put.1;
     }
 
-pub IsSound-new : (capacity : ℕ) → IsSound [] capacity (replicate 256 None) None 0
-IsSound-new capacity = record {
+-- without nodes, whatever the room
+pub IsSound-empty : (capacity room : ℕ) → room ≤ capacity → room < 2 ^ 32
+    → IsSound [] capacity (replicate 256 None) None room
+IsSound-empty capacity room held few = record {
   spare = [];
   links = Links-none;
   apart = AreApart-none;
   within = omega arith;
-  held = omega arith;
-  limit = omega arith;
+  held = held;
+  limit = few;
 }
+
+pub IsSound-new : (capacity : ℕ) → IsSound [] capacity (replicate 256 None) None 0
+IsSound-new capacity = IsSound-empty capacity 0 (omega arith) (omega arith)
 
 within-puts : (nodes : List Node) (heads : List (Option ℕ)) (free : Option ℕ) (lists : List (List Place))
     (spare : List Place) (room at : ℕ) (node : Node) (news : List Node) (frees : Option ℕ)

@@ -105,6 +105,16 @@ impl Lists {
         Some(node.wrapper)
     }
 
+    /// Takes all wrappers off the lists, whose room stays. It takes no memory.
+    pub fn clear(&mut self)
+        ensures { self.new ≡ record self.old { lists = replicate 256 [] } }
+    {
+        self.nodes.clear();
+        self.heads = [None; 256];
+        self.free = None;
+        self.waiting = CompSet::new();
+    }
+
     /// The lowest compartment from a number on for which a wrapper waits. It looks at no list.
     pub fn next_waiting(&self, from: u16) -> Option<CompNo>
         ensures some { IfSome result (λ c. (from ≤ c.0) × (list_of self.now c.0 ≢ [])) }
