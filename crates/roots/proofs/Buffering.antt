@@ -316,3 +316,13 @@ nil_from_not (x ∷ xs) n = absurd (n (λ e. cc))
 pub buffer_at-idle : (ls : List (List Place)) (w : ℕ) → IsWaiting ls w → (z : ℕ) → (HasZone w z → ⊥)
     → buffer_at ls z ≡ []
 buffer_at-idle ls w h z n = nil_from_not (buffer_at ls z) (λ k. n ((h z).1 k))
+
+-- where nothing waits for any zone, all buffers are empty
+pub lists_of-empty : (ls : List (List Place)) (n : ℕ) → length ls ≡ n → ((z : ℕ) → buffer_at ls z ≡ [])
+    → ls ≡ replicate n []
+lists_of-empty [] zero e none = refl
+lists_of-empty [] (suc n) e none = absurd (omega (arith, e))
+lists_of-empty (x ∷ xs) zero e none = absurd (omega (arith, e))
+lists_of-empty (x ∷ xs) (suc n) e none =
+    ap (λ y. y ∷ xs) (none 0)
+    ∙ ap (λ ys. [] ∷ ys) (lists_of-empty xs n (omega (arith, e)) (λ z. none (suc z)))

@@ -140,3 +140,18 @@ pub(crate) fn take_item(
     }
     place
 }
+
+// Empties the buffers of the zones for which something waits.
+pub(crate) fn clear_waiting(buffers: &mut [Vec<Place>], waiting: &mut ZoneSet)
+    requires zones { length buffers.old ≡ 64 }
+    requires waiting { IsWaiting (lists_of buffers.old) waiting.old.bits }
+    ensures empty { lists_of buffers.new ≡ replicate 64 [] }
+    ensures waiting { IsWaiting (lists_of buffers.new) waiting.new.bits }
+{
+    let mut left = *waiting;
+    while let Some(zone) = left.first() {
+        buffers[zone.index() as usize].clear();
+        left.remove(zone);
+    }
+    *waiting = left;
+}

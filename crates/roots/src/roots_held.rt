@@ -4,7 +4,7 @@ ghost use Rattle.std.specs.Prelude.{slice_get, slice_set, IfOk, IfSome, IfNone, 
 ghost use Rattle.gz_names.specs.Zones.{HasZone};
 ghost use Rattle.roots.specs.Buffers.{places_in};
 
-use crate::buffers::{new_buffers, put_both, take_item};
+use crate::buffers::{clear_waiting, new_buffers, put_both, take_item};
 use gz_names::{GrayNo, NoMemory, Place, Reg, ZoneNo, ZoneSet};
 use std::alloc::Global;
 use std::marker::Model;
@@ -117,6 +117,13 @@ impl Roots {
         ensures none { IfNone result ((buffer_of self.old zone ≡ []) × (self.new ≡ self.old)) }
     {
         take_item(&mut self.buffers, &mut self.waiting, zone)
+    }
+
+    /// Empties all buffers. It looks only at those that hold something, and takes no memory.
+    pub fn clear(&mut self)
+        ensures { self.new ≡ record self.old { buffers = replicate 64 [] } }
+    {
+        clear_waiting(&mut self.buffers, &mut self.waiting);
     }
 
     /// The zones whose buffers hold something.
