@@ -60,6 +60,13 @@ impl GroupOrder {
         self.ended = 0;
     }
 
+    /// No group is left.
+    pub fn clear(&mut self)
+        ensures { self.new ≡ [] }
+    {
+        self.set(Groups::new());
+    }
+
     /// The first group that has not finished.
     pub fn current(&self) -> Option<ZoneSet>
         ensures { result ≡ slice_get self.now 0 }
