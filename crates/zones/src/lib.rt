@@ -15,6 +15,7 @@
 //     a group ends               its zones go to Sweep
 //     its arenas are taken in    its zones go to Finished
 //     the collection is over     all its zones go back to NoGC
+//     it is stopped before that  its zones go back to NoGC, whatever their states are
 //
 // A zone is *marking* in MarkBlackOnly and MarkBlackAndGray. Gray marking must not enter a zone
 // that is still MarkBlackOnly: a gray cell there could be reached by black marking that is still to

@@ -137,10 +137,34 @@ impl Zones {
             ≡ record self.old { states = slice_set self.old.states zone (next_state s) }) }
     {
         let state = self.states[zone.index() as usize];
-        let next = state.next();
+        self.put_into(zone, state.next());
+    }
+
+    // Puts a zone into a state.
+    fn put_into(&mut self, zone: ZoneNo, next: State)
+        requires { zone < length self.old.states }
+        ensures { self.new ≡ record self.old { states = slice_set self.old.states zone next } }
+    {
+        let state = self.states[zone.index() as usize];
         self.states[zone.index() as usize] = next;
         leave(&mut self.members, state, zone);
         enter(&mut self.members, next, zone);
+    }
+
+    /// Takes these zones, which are made, out of the collection, whatever their states are.
+    pub fn stop(&mut self, zones: ZoneSet)
+        requires { (z : ℕ) → HasZone zones.bits z → z < length self.old.states }
+        ensures stopped { (z : ℕ) → HasZone zones.bits z → slice_get self.new.states z ≡ Some State.NoGC }
+        ensures others { (z : ℕ) → (HasZone zones.bits z → ⊥)
+            → slice_get self.new.states z ≡ slice_get self.old.states z }
+        ensures count { length self.new.states ≡ length self.old.states }
+        ensures comps { self.new.comps ≡ self.old.comps }
+    {
+        let mut left = zones;
+        while let Some(zone) = left.first() {
+            self.put_into(zone, State::NoGC);
+            left.remove(zone);
+        }
     }
 
     /// The zone of a compartment.
