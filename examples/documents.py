@@ -14,6 +14,9 @@ from checks import Check, NotRun, Outcome
 
 TOP = Path(__file__).resolve().parent.parent
 SECONDS = 120
+# Of a page that a reader goes through: docs/PROOFS.md has one row a promise.
+MOST_ROWS = 90
+MOST_WORDS = 60
 # tools/draw needs Graphviz, but not for these.
 NO_DOT = ("--dot", "--check", "timeline")
 PICTURES = "tools/draw pictures --check"
@@ -122,6 +125,16 @@ def check_clauses(path):
     return Outcome(wrong)
 
 
+def check_rows(path):
+    """Whether the rows of docs/PROOFS.md are few and short enough to be read."""
+    tables = re.findall(r"(?m)^\|[- |]+\|\n((?:\|.*\n)+)", path.read_text())
+    rows = [row for table in tables for row in table.splitlines()]
+    wrong = [f"{len(rows)} rows, and {MOST_ROWS} at most"] if len(rows) > MOST_ROWS else []
+    words = ((len(row.replace("|", " ").split()), row) for row in rows)
+    wrong += [f"{count} words, and {MOST_WORDS} at most: {row[:60]}" for count, row in words if count > MOST_WORDS]
+    return Outcome(wrong)
+
+
 def checks(is_own):
     """All checks of the documents; is_own says whether ./gczone runs the program that is to be checked."""
     for path in documents():
@@ -131,4 +144,5 @@ def checks(is_own):
             call = partial(check_command, command, wanted, is_own)
             yield Check(f"documents, {name} line {number}", 1, call)
     yield Check("documents, clauses of docs/PROOFS.md", 2, partial(check_clauses, TOP / "docs/PROOFS.md"))
+    yield Check("documents, rows of docs/PROOFS.md", 0.1, partial(check_rows, TOP / "docs/PROOFS.md"))
     yield Check("documents, pictures", 2, partial(check_command, PICTURES, [], is_own))
