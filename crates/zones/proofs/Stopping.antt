@@ -1,5 +1,6 @@
 -- A zone's state is replaced.
-use Rattle.std.proofs.Common.{◌≡◌, ◌≢◌, ◌<◌, ℕ, zero, suc, List, [], ◌∷◌, Some, length, refl, ap, arith, slice_get, slice_set}
+use Rattle.std.proofs.Common.{◌≡◌, ◌≢◌, ◌<◌, ℕ, zero, suc, List, [], ◌∷◌, Some, length, refl, ap, arith}
+use Rattle.std.proofs.Common.{slice_get, slice_set}
 use Rattle.zones.specs.declared.states.State.{State}
 
 pub set_here : (xs : List State) (i : ℕ) (v : State) → i < length xs → slice_get (slice_set xs i v) i ≡ Some v
