@@ -1,6 +1,6 @@
 -- A cell becomes pending, or is pending no more: on a pile of the stack, or as one that is delayed for it.
-use Rattle.std.proofs.Common.{◌≡◌, ◌≢◌, ◌++◌, ◌∷◌, ◌<◌, ℕ, [], List, Option, Some, None, IfSome, IfNone, Contains}
-use Rattle.std.proofs.Common.{if◌then◌else◌, length, refl, sym, ap, ◌∙◌, subst}
+use Rattle.std.proofs.Common.{◌≡◌, ◌≢◌, ◌++◌, ◌∷◌, ℕ, [], List, Option, Some, None, IfSome, IfNone, Contains}
+use Rattle.std.proofs.Common.{if◌then◌else◌, refl, sym, ap, ◌∙◌, subst}
 use Rattle.std.specs.List.Sorted.{IsPermutation}
 use Rattle.std.proofs.lemmas.List.Elements.{Contains-append_right}
 use Rattle.std.proofs.lemmas.List.Sorted.{IsPermutation-append_left, IsPermutation-append_right, IsPermutation-middle}
@@ -10,9 +10,8 @@ use Rattle.mark_stack.specs.Stack.{Piles, IsPushed, pile_of}
 use Rattle.mark_stack.specs.declared.stack.Pile.{Pile}
 use Rattle.mark_stack.specs.declared.stack.Pile.TheVariants as pile
 use Rattle.cell_bits.specs.declared.bits.Bits.{Bits}
-use Rattle.heap_core.specs.Shape.{Shape, IsPresent, is_marking}
+use Rattle.heap_core.specs.Shape.{Shape, is_marking}
 use Rattle.heap_core.specs.Heap.{HeapState, joined}
-use Rattle.heap_core.proofs.Places.{present_within}
 use Rattle.barriers.specs.Pending.{pending}
 use Rattle.barriers.specs.Invariant.{PileInvariant}
 use Rattle.barriers.specs.Spreading.{Blackened, Covers, Turns}
@@ -126,10 +125,6 @@ module _ (h m : HeapState) (f g : ℕ → Option Bits) (s : Piles) (x : Place)
     (delayed : m.delayed ≡ h.delayed) where
   pub turned_shape : m.shape ≡ h.shape
   turned_shape = ap (λ (z : HeapState). z.shape) turned.rest
-
-  pub turned_within : IsPresent h.shape x → x.0 < length m.shape.arenas
-  turned_within present =
-      subst (λ (z : Shape). x.0 < length z.arenas) (sym turned_shape) (present_within h.shape x present)
 
   -- it was not pending
   pub turned_fresh : PileInvariant (joined h f) (pending h s) → (on : Pile)

@@ -1,5 +1,5 @@
 -- What keeps the point on weak entries.
-use Rattle.std.proofs.Common.{◌≡◌, ◌⊎◌, ℕ, true, false, inl, inr, sym, ap, ◌∙◌, subst, Contains, List, ◌∷◌, Option}
+use Rattle.std.proofs.Common.{◌≡◌, ◌⊎◌, true, inl, inr, sym, ap, ◌∙◌, subst, Contains, List, ◌∷◌, Option}
 use Rattle.std.specs.Prelude.{unwrap_or}
 use Rattle.std.specs.List.Sorted.{IsPermutation}
 use Rattle.gz_names.specs.declared.numbers.Place.{Place}
@@ -10,7 +10,7 @@ use Rattle.mark_stack.proofs.Pushed.{black_alone, gray_alone, more_cases}
 use Rattle.weak_maps.specs.WeakMaps.{WeakTableState}
 use Rattle.weak_maps.specs.declared.colours.MarkColour.{MarkColour}
 use Rattle.weak_maps.specs.declared.colours.MarkColour.TheVariants as mark
-use Rattle.heap_core.specs.Shape.{IsPresent, Shape, is_marking, is_marking_state, state_in, state_of, zone_of}
+use Rattle.heap_core.specs.Shape.{Shape, is_marking, is_marking_state, state_in, state_of, zone_of}
 use Rattle.heap_core.specs.Heap.{HeapState, colour_of}
 use Rattle.barriers.specs.Reached.{HasEntry}
 use Rattle.barriers.specs.Colours.{IsBlack, IsGray, IsSeen}
@@ -257,77 +257,6 @@ look_none h p a b v old new w e not none others = looks_keep h p a b old new w (
       absurd (none sa sb (subst (λ z. state_of h.shape z ≡ state.MarkBlackAndGray) (sym (one_value h.shape a b v u e f))
       t));
 })
-
--- what becomes of entries as the heap changes and nothing is marked: each was there and is left as it was, or has a
--- black value; the cells that were present have their colours, what was piled is piled, and zones at most stop marking
-pub record KeepsEntries (h : HeapState) (p : Piles) (old : Left) (k : HeapState) (q : Piles) (new : Left) : Type 0 where
-  pub from : (m n v : Place) → HasEntry k.shape m n v
-      → (HasEntry h.shape m n v × ((d : MarkColour) → old d m n → new d m n)) ⊎ IsBlack k v
-  pub colours : (x : Place) → IsPresent h.shape x → colour_of k x ≡ colour_of h x
-  pub black_pile : (x : Place) → Contains p.black x → Contains q.black x
-  pub gray_pile : (x : Place) → Contains p.gray x → Contains q.gray x
-  pub marking : (x : Place) → IsPresent h.shape x → is_marking k.shape x ≡ true → is_marking h.shape x ≡ true
-  pub takes : (x : Place) → IsPresent h.shape x → state_of k.shape x ≡ state.MarkBlackAndGray
-      → state_of h.shape x ≡ state.MarkBlackAndGray
-
-module _ (h : HeapState) (p : Piles) (old : Left) (k : HeapState) (q : Piles) (new : Left)
-    (keeps : KeepsEntries h p old k q new) where
-  seen_before : (x : Place) → IsPresent h.shape x → IsSeen k x → IsSeen h x
-  seen_before x present (inl g) = inl (sym (keeps.colours x present) ∙ g)
-  seen_before x present (inr b) = inr (sym (keeps.colours x present) ∙ b)
-
-  seen_after : (x : Place) → IsPresent h.shape x → IsSeen h x → IsSeen k x
-  seen_after x present (inl g) = inl (keeps.colours x present ∙ g)
-  seen_after x present (inr b) = inr (keeps.colours x present ∙ b)
-
-  piled_after : (x : Place) → IsPiled p x → IsPiled q x
-  piled_after x (inl c) = inl (keeps.black_pile x c)
-  piled_after x (inr c) = inr (keeps.gray_pile x c)
-
-  -- a command, a birth, entries that are dropped, and a group's end keep the point
-  pub entries_keep : ShapeInvariant h.shape → WeakPoint h p old → WeakPoint k q new
-  entries_keep shape w = record {
-    black = λ m n v e bm bn on. elim (keeps.from m n v e) [
-      | inr b ↦ inl b
-      | inl (was, stays) ↦ (let present = shape.entries m n v was in
-          elim (w.black m n v was (sym (keeps.colours m present.0) ∙ bm) (sym (keeps.colours n present.1) ∙ bn)
-          (keeps.marking v present.2 on)) [
-            | inl b ↦ inl (keeps.colours v present.2 ∙ b)
-            | inr (inl c) ↦ inr (inl (keeps.black_pile m c))
-            | inr (inr (inl c)) ↦ inr (inr (inl (keeps.black_pile n c)))
-            | inr (inr (inr l)) ↦ inr (inr (inr (stays mark.Black l)))
-          ])
-    ];
-    gray = λ m n v e sm sn takes. elim (keeps.from m n v e) [
-      | inr b ↦ inl (inr b)
-      | inl (was, stays) ↦ (let present = shape.entries m n v was in
-          elim (w.gray m n v was (seen_before m present.0 sm) (seen_before n present.1 sn)
-          (keeps.takes v present.2 takes)) [
-            | inl s ↦ inl (seen_after v present.2 s)
-            | inr (inl c) ↦ inr (inl (piled_after m c))
-            | inr (inr (inl c)) ↦ inr (inr (inl (piled_after n c)))
-            | inr (inr (inr l)) ↦ inr (inr (inr (stays mark.Gray l)))
-          ])
-    ];
-  }
-
--- a collection begins: each black cell of a marking zone is on the black pile, and no zone takes gray
-pub begun_point : (h : HeapState) (p : Piles) (left : Left) → ShapeInvariant h.shape
-    → ((x : Place) → IsBlack h x → is_marking h.shape x ≡ true → Contains p.black x)
-    → ((z : ℕ) → state_in h.shape z ≡ state.MarkBlackAndGray → ⊥) → WeakPoint h p left
-begun_point h p left shape piled no_gray = record {
-  black = λ m n v e bm bn on. inr (inl (piled m bm (same_zone h.shape m v (shape.one_zone m n v e).0 on)));
-  gray = λ m n v e sm sn takes. absurd (no_gray (zone_of h.shape v) takes);
-}
-
--- no zone is marking
-pub idle_point : (h : HeapState) (p : Piles) (left : Left)
-    → ((z : ℕ) → is_marking_state (state_in h.shape z) ≡ false) → WeakPoint h p left
-idle_point h p left idle = record {
-  black = λ m n v e bm bn on. absurd (let off = idle (zone_of h.shape v) in cc (on, off));
-  gray = λ m n v e sm sn takes.
-      absurd (let off = idle (zone_of h.shape v) in let on = takes_marking h.shape v takes in cc (on, off));
-}
 
 -- zones begin to take gray: no cell of theirs is gray, so the point of black covers them
 pub gray_begins : (h : HeapState) (p : Piles) (k : HeapState) (left : Left) → IsWeaker left → ShapeInvariant h.shape
