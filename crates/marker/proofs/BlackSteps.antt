@@ -28,7 +28,7 @@ use Rattle.barriers.proofs.BlackClosure.{pending_same, reached_from}
 use Rattle.barriers.proofs.LiveClosure.{gray_kept, live_same}
 use Rattle.barriers.proofs.Scans.{no_more_twice, once_kept, pops_black, pops_black_once}
 use Rattle.marker.specs.Looks.{StartsBoth, with_looks}
-use Rattle.marker.specs.Units.{ScansBlack}
+use Rattle.marker.specs.Units.{FollowsBlack, ScansBlack}
 use Rattle.marker.proofs.Looking.{gray_on, live_on, marking_on, more_left, pending_on, point_on}
 use Rattle.marker.proofs.Looking.{starts_on}
 
@@ -160,13 +160,6 @@ pub record Started (h : HeapState) (p q : Piles) (x : Place) (m : HeapState) : T
   pub key : Starts (λ entry. entry.key) mark.Black x h.shape.weak.entries h.looks.by_key m.looks.by_key
   pub parallel : AreParallel (weak_of m)
 
-pub record BlackDone (h : HeapState) (p : Piles) (m l : HeapState) (t : Piles) : Type 0 where
-  pub blackens : Blackens (Reached h.shape (IsBlack h)) (with_looks h l.looks) l
-  pub gray : t.gray ≡ p.gray
-  pub pending_black : (y : Place) → PendingBlack l t y ↔ PendingBlack h p y
-  pub pending_live : KeepsLive h p l t
-  pub scans : ScansBlack h p l t
-
 pub started_by : (h n m : HeapState) (flown : ℕ → Option Bits) (p s : Piles) (x : Place)
     → MarkingInvariant (joined h flown) p → n ≡ record h { delayed = n.delayed }
     → IsPushed (pending n s) pile.Black x p → m ≡ record n { looks = m.looks }
@@ -219,17 +212,18 @@ module _ (h : HeapState) (p q : Piles) (x : Place) (m : HeapState) (s : Started 
       omega (arith, scan.spreads.grays, same, zero)
 
   pub black_done : (k : HeapState) (r : Piles) (l : HeapState) (t : Piles) → Grows (HasEdge m.shape x) m q k r
-      → Spreads (Reached k.shape (IsBlack k)) k r l t → MarkingInvariant l t → BlackDone h p m l t
+      → Spreads (Reached k.shape (IsBlack k)) k r l t → MarkingInvariant l t → FollowsBlack h p l t
   black_done k r l t = subst (λ (z : HeapState). Grows (HasEdge z.shape x) z q k r
-      → Spreads (Reached k.shape (IsBlack k)) k r l t → MarkingInvariant l t → BlackDone h p z l t) (sym s.rest)
+      → Spreads (Reached k.shape (IsBlack k)) k r l t → MarkingInvariant l t → FollowsBlack h p l t) (sym s.rest)
       (λ scan sp new.
       let both : StartsBoth mark.Black x h (with_looks h m.looks) = starts_both in
       let bl = (did h p q x m.looks s.inv s.popped both k r l t scan sp new).blackens in
       let weak = weak_is h p q x m.looks s.inv s.popped both k r l t scan sp new in
       record {
+        invariant = new;
         blackens = subst (λ (z : LooksState). Blackens (Reached h.shape (IsBlack h)) (with_looks h z) l)
             (sym (ap (λ (w : WeakMapsState). w.looks) weak)) bl;
-        gray = sp.gray_is ∙ (scan.spreads.gray_is ∙ sym (s.popped.others pile.Gray gray_black));
+        gray_is = sp.gray_is ∙ (scan.spreads.gray_is ∙ sym (s.popped.others pile.Gray gray_black));
         pending_black = black_same h p q x m.looks s.inv s.popped both k r l t scan sp new;
         pending_live = keeps_live h p q x m.looks s.inv s.popped both k r l t scan sp new;
         scans = scans_black h p q x m.looks s.inv s.popped both k r l t scan sp new;

@@ -41,11 +41,6 @@ shaded_none P h p = record {
   scans = none_more h p;
 }
 
--- a cell on the pile is seen, if those that were on it were
-pub pile_seen : (P : Place → Type 0) (h : HeapState) (p : Piles) (k : HeapState) (q : Piles) → Shaded P h p k q
-    → ((y : Place) → Contains p.gray y → IsSeen h y) → (y : Place) → Contains q.gray y → IsSeen k y
-pile_seen P h p k q a seen y c = elim (a.pile_only y c) [ inl was ↦ a.kept y (seen y was) | inr new ↦ new.1 ]
-
 pub shaded_more : (P Q R : Place → Type 0) (h : HeapState) (p : Piles) (k : HeapState) (q : Piles) (l : HeapState)
     (r : Piles) → Shaded P h p k q → Shaded Q k q l r → ((y : Place) → P y → R y) → ((y : Place) → Q y → R y)
     → Shaded R h p l r

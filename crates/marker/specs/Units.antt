@@ -1,5 +1,5 @@
 -- Units of marking: what they keep and take, and where there is no work.
-use Rattle.std.specs.Prelude.{◌≡◌, ◌⊎◌, ◌↔◌, ◌<◌, ◌≤◌, ◌+◌, ◌*◌, ℕ, Bool, true, [], length, Contains, Option, Some}
+use Rattle.std.specs.Prelude.{◌≡◌, ◌⊎◌, ◌↔◌, ◌<◌, ◌≤◌, ◌+◌, ℕ, Bool, true, [], length, Contains, Option, Some}
 use Rattle.std.specs.Prelude.{IsTrue, MatchBool, slice_get, sum_by}
 use Rattle.gz_names.specs.Zones.{HasZone}
 use Rattle.gz_names.specs.declared.numbers.Place.{Place}
@@ -14,7 +14,7 @@ use Rattle.weak_maps.specs.declared.colours.MarkColour.TheVariants as mark
 use Rattle.gray_lists.specs.Incoming.{Incoming, list_of, waiting_count}
 use Rattle.heap_core.specs.Shape.{Shape, is_marking, is_marking_state, state_in, state_of, zone_of}
 use Rattle.heap_core.specs.Heap.{HeapState, joined}
-use Rattle.barriers.specs.Reached.{HasEntry}
+use Rattle.barriers.specs.Reached.{HasEntry, Reached}
 use Rattle.barriers.specs.Colours.{HasGob, IsBlack, IsSeen, grays_outside}
 use Rattle.barriers.specs.Pending.{pending}
 use Rattle.barriers.specs.PendingBlack.{PendingBlack}
@@ -22,7 +22,7 @@ use Rattle.barriers.specs.PendingLive.{PendingLive, GrayInvariant, buffer_of}
 use Rattle.barriers.specs.Invariant.{MarkingInvariant}
 use Rattle.barriers.specs.Exposing.{KeepsLive}
 use Rattle.barriers.specs.Scans.{ScansNoMore, black_scans, gray_scans}
-use Rattle.barriers.specs.Spreading.{Covers}
+use Rattle.barriers.specs.Spreading.{Blackens, Covers}
 use Rattle.marker.specs.GrayBits.{AreGraying}
 use Rattle.marker.specs.Waiting.{IsBlackOnlyComp, Noted}
 use Rattle.marker.specs.Looks.{Raises, StartsBoth, with_looks}
@@ -47,6 +47,16 @@ pub record ScansBlack (h : HeapState) (p : Piles) (k : HeapState) (q : Piles) : 
   pub fewer : black_scans k q cell < black_scans h p cell
   pub no_more : ScansNoMore h p k q
   pub starts : StartsBoth mark.Black cell h k
+
+-- black marking followed a cell that was pending in black: black spread to what black cells reach, and both pending
+-- closures are as they were
+pub record FollowsBlack (h : HeapState) (p : Piles) (k : HeapState) (q : Piles) : Type 0 where
+  pub invariant : MarkingInvariant k q
+  pub blackens : Blackens (Reached h.shape (IsBlack h)) (with_looks h k.looks) k
+  pub gray_is : q.gray ≡ p.gray
+  pub pending_black : (y : Place) → PendingBlack k q y ↔ PendingBlack h p y
+  pub pending_live : KeepsLive h p k q
+  pub scans : ScansBlack h p k q
 
 -- a cell of the gray pile was scanned: it may be scanned less often than before in gray, and is noted where it waits
 -- for a zone that takes no gray yet; and its entries are to be looked at

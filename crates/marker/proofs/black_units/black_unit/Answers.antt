@@ -43,16 +43,10 @@ returns g c =
     let s = started g (goal.at.returns g c).After-start in
     let k = joined c.scan.new.heap (g.F.Flight.bits c.scan.new.flight) in
     let r = pending c.scan.new.heap c.scan.new.stack in
-    let done = black_done _ _ _ _ _ s k r (joined c.drain.new.heap (g.F.Flight.bits c.drain.new.flight))
-    (pending c.drain.new.heap c.drain.new.stack) c.scan.ensures.follows.grows c.drain.ensures.spreads
-    c.drain.ensures.invariant in
     record {
-      invariant = c.drain.ensures.invariant;
-      blackens = done.blackens;
-      gray = done.gray;
-      pending_black = done.pending_black;
-      pending_live = done.pending_live;
-      scans = λ did. done.scans;
+      does = λ did. black_done _ _ _ _ _ s k r (joined c.drain.new.heap (g.F.Flight.bits c.drain.new.flight))
+          (pending c.drain.new.heap c.drain.new.stack) c.scan.ensures.follows.grows c.drain.ensures.spreads
+          c.drain.ensures.invariant;
       empty = (
         λ e. cc e,
         λ none. absurd
