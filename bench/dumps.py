@@ -10,14 +10,18 @@ script, up to 25 MB, cannot be told. Both must write the same. Say nothing of ti
 shows.
 """
 
-import argparse
 import subprocess
 import sys
 import tempfile
 from pathlib import Path
 
-from speed import MEGABYTE, TRIES, build_plain, count_instructions, find_program, print_head, print_row, ratio
-from speed import run_once, write_trace
+sys.dont_write_bytecode = True
+sys.path.insert(0, str(Path(__file__).resolve().parent.parent / "tools"))
+
+from command_line import Fault, Parser, run_main  # noqa: E402 (no bytecode beside the sources)
+from progress import Progress  # noqa: E402
+from speed import MEGABYTE, TRIES, build_plain, count_instructions, find_program, names_of  # noqa: E402
+from speed import print_head, print_row, ratio, require, run_once, write_trace  # noqa: E402
 
 LIMIT = 300
 
@@ -118,21 +122,25 @@ def measure(programs, folder, name, scale):
 
 
 def main():
-    words = argparse.ArgumentParser(description=__doc__, formatter_class=argparse.RawDescriptionHelpFormatter)
-    words.add_argument("--scale", type=float, default=1)
+    words = Parser(__doc__)
+    words.add_argument("--scale", type=float, default=1, help="how large the dumps are (1)")
     words.add_argument("--only", help="kinds of dumps, with a comma between two")
     words.add_argument("--program", type=Path, help="the gczone to measure")
     words.add_argument("--plain", type=Path, help="the program to measure it against, in place of bench/plain")
     given = words.parse_args()
+    names = names_of(given.only, DUMPS)
+    require("rustc", "valgrind")
     with tempfile.TemporaryDirectory() as folder:
         programs = [find_program(given.program), given.plain or build_plain(folder)]
         millions = "million lines a second"
         print_head("dump", "lines", millions, "plain", "ratio", "instructions a line", "plain", "ratio", "MB", "plain")
-        names = given.only.split(",") if given.only else DUMPS
-        differing = [name for name in names if not measure(programs, Path(folder), name, given.scale)]
+        with Progress("dumps", len(names)) as progress:
+            named = progress.over(names)
+            differing = [name for name in named if not measure(programs, Path(folder), name, given.scale)]
     if differing:
-        sys.exit(f"the outputs differ: {', '.join(differing)}")
+        raise Fault(f"the outputs differ: {', '.join(differing)}", 1)
+    return 0
 
 
 if __name__ == "__main__":
-    main()
+    run_main(main)

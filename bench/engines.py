@@ -32,7 +32,8 @@ sys.path.insert(0, str(TOP / "tools"))
 
 from command_line import Fault, Parser, at_least, program_of, run_main  # noqa: E402 (no bytecode beside the sources)
 from families import collect, drop_all, grow, places  # noqa: E402
-from speed import print_head, print_row, write_trace  # noqa: E402
+from progress import Progress  # noqa: E402
+from speed import names_of, print_head, print_row, write_trace  # noqa: E402
 
 COLLECTORS = TOP / "bench/collectors"
 TRIES = 3
@@ -231,10 +232,7 @@ def parse():
     parser.add_argument("--only", help="heaps, with a comma between two")
     parser.add_program()
     given = parser.parse_args()
-    given.names = given.only.split(",") if given.only else list(HEAPS)
-    unknown = [name for name in given.names if name not in HEAPS]
-    if unknown:
-        parser.error(f"no heap: {' '.join(unknown)}; there are {', '.join(HEAPS)}")
+    given.names = names_of(given.only, HEAPS)
     return given
 
 
@@ -247,8 +245,9 @@ def main():
     print_head("heap", "cells", "collector", "live: processor ns", "wall ns", "dead: processor ns", "wall ns", "bytes")
     with tempfile.TemporaryDirectory() as folder:
         bench = Bench(commands, Path(folder), given.cells)
-        for name in given.names:
-            bench.measure(name)
+        with Progress("heaps", len(given.names)) as progress:
+            for name in progress.over(given.names):
+                bench.measure(name)
     print()
     print_collectors()
     return 0

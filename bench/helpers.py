@@ -9,13 +9,17 @@ five the quickest counts. All must write the same bytes; the exit status is 1 wh
 what one run on one machine shows: helpers need processors of their own.
 """
 
-import argparse
 import sys
 import tempfile
 from pathlib import Path
 
-from families import FAMILIES, collect, places
-from speed import find_program, print_head, print_row, run_once, write_trace
+sys.dont_write_bytecode = True
+sys.path.insert(0, str(Path(__file__).resolve().parent.parent / "tools"))
+
+from command_line import Fault, Parser, at_least, run_main  # noqa: E402 (no bytecode beside the sources)
+from families import FAMILIES, collect, places  # noqa: E402
+from progress import Progress  # noqa: E402
+from speed import find_program, names_of, print_head, print_row, run_once, write_trace  # noqa: E402
 
 TRIES = 5
 
@@ -73,21 +77,23 @@ def measure(program, folder, name, helpers):
 
 
 def main():
-    words = argparse.ArgumentParser(description=__doc__, formatter_class=argparse.RawDescriptionHelpFormatter)
-    words.add_argument("--helpers", default="0,1,2,4", help="numbers of helpers, with a comma between two")
+    words = Parser(__doc__)
+    words.add_argument("--helpers", default="0,1,2,4", metavar="N,..", help="numbers of helpers (0,1,2,4)")
     words.add_argument("--only", help="cases, with a comma between two")
     words.add_argument("--program", type=Path, help="the gczone to measure")
     given = words.parse_args()
-    helpers = [int(count) for count in given.helpers.split(",")]
-    names = given.only.split(",") if given.only else list(CASES)
+    helpers = names_of(given.helpers, ["0", "1", "2", "3", "4"])
+    names = names_of(given.only, CASES)
     with tempfile.TemporaryDirectory() as folder:
         program = find_program(given.program)
         heads = [text for count in helpers for text in (f"{count} helpers: wall s", "processor s")]
         print_head("case", "lines", *heads)
-        differing = [name for name in names if not measure(program, Path(folder), name, helpers)]
+        with Progress("cases", len(names)) as progress:
+            differing = [name for name in progress.over(names) if not measure(program, Path(folder), name, helpers)]
     if differing:
-        sys.exit(f"the outputs differ: {', '.join(differing)}")
+        raise Fault(f"the outputs differ: {', '.join(differing)}", 1)
+    return 0
 
 
 if __name__ == "__main__":
-    main()
+    run_main(main)

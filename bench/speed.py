@@ -17,7 +17,6 @@ gczone runs with `--helpers 0`. Both programs must write the same bytes, but for
 come between slices, the same replies. The exit status is 1 when they do not. valgrind and rustc must be there.
 """
 
-import argparse
 import itertools
 import os
 import re
@@ -26,11 +25,17 @@ import subprocess
 import sys
 import tempfile
 import time
+from argparse import ArgumentTypeError
 from pathlib import Path
 
-from families import FAMILIES, REPLIES_ALONE
-
+sys.dont_write_bytecode = True
 TOP = Path(__file__).resolve().parent.parent
+sys.path.insert(0, str(TOP / "tools"))
+
+from command_line import Fault, Parser, run_main  # noqa: E402 (no bytecode beside the sources)
+from families import FAMILIES, REPLIES_ALONE  # noqa: E402
+from progress import Progress, print_line  # noqa: E402
+
 BUILT = [TOP / "crates/gczone/out/gczone", TOP / "crates/trace_cli/out/trace_cli"]
 OPTIONS = ["--edition", "2024", "-C", "opt-level=3", "-C", "target-cpu=x86-64-v2"]
 TRIES = 3
@@ -69,7 +74,7 @@ def count_instructions(program, trace, limit, word="run", more=()):
         return None
     counted = re.search(rb"Collected : (\d+)", run.stderr)
     if run.returncode or not counted:
-        sys.exit(f"{program} failed under valgrind:\n{run.stderr.decode()}")
+        raise Fault(f"{program} failed under valgrind:\n{run.stderr.decode()}", 1)
     return int(counted[1])
 
 
@@ -85,7 +90,7 @@ def run_once(program, trace, output=os.devnull, word="run", more=()):
     _, status, usage = os.wait4(child, 0)
     wall = time.perf_counter() - start
     if status:
-        sys.exit(f"{program} failed: status {os.waitstatus_to_exitcode(status)}")
+        raise Fault(f"{program} failed: status {os.waitstatus_to_exitcode(status)}", 1)
     return wall, usage.ru_utime + usage.ru_stime, usage.ru_maxrss * 1024
 
 
@@ -107,7 +112,7 @@ def agree(programs, trace, folder, replies_alone):
 
 
 def print_row(*cells):
-    print("| " + " | ".join(map(str, cells)) + " |", flush=True)
+    print_line("| " + " | ".join(map(str, cells)) + " |")
 
 
 def print_head(*names):
@@ -144,15 +149,20 @@ class Bench:
         print_head("family", "scale", "lines", "gczone", "plain Rust", "ratio")
         write_trace(self.trace, ["zone"])
         empty = self.count()
-        for name, scale in itertools.product(names, scales):
-            lines = self.prepare(name, scale)
-            found = self.count()
-            if None in found:
-                print_row(name, f"{scale:g}", f"{lines:,}", "-", "-", f"over {self.limit} s")
-                continue
-            self.compare(name, scale)
-            ours, theirs = ((count - start) / lines for count, start in zip(found, empty))
-            print_row(name, f"{scale:g}", f"{lines:,}", f"{ours:,.0f}", f"{theirs:,.0f}", ratio(ours, theirs))
+        traces = list(itertools.product(names, scales))
+        with Progress("traces", len(traces)) as progress:
+            for name, scale in progress.over(traces):
+                self.print_instructions_of(name, scale, empty)
+
+    def print_instructions_of(self, name, scale, empty):
+        lines = self.prepare(name, scale)
+        found = self.count()
+        if None in found:
+            print_row(name, f"{scale:g}", f"{lines:,}", "-", "-", f"over {self.limit} s")
+            return
+        self.compare(name, scale)
+        ours, theirs = ((count - start) / lines for count, start in zip(found, empty))
+        print_row(name, f"{scale:g}", f"{lines:,}", f"{ours:,.0f}", f"{theirs:,.0f}", ratio(ours, theirs))
 
     def quickest(self):
         """For each program the least of each figure; the programs take turns."""
@@ -162,23 +172,42 @@ class Bench:
 
     def print_times(self, names, scale):
         print_head("family", "lines", "wall s", "plain", "ratio", "processor s", "plain", "ratio", "MB", "plain")
-        for name in names:
-            lines = self.prepare(name, scale)
-            (wall, spent, size), (plain_wall, plain_spent, plain_size) = self.quickest()
-            self.compare(name, scale)
-            print_row(
-                name,
-                f"{lines:,}",
-                *(f"{wall:.2f}", f"{plain_wall:.2f}", ratio(wall, plain_wall)),
-                *(f"{spent:.2f}", f"{plain_spent:.2f}", ratio(spent, plain_spent)),
-                *(f"{size / MEGABYTE:.0f}", f"{plain_size / MEGABYTE:.0f}"),
-            )
+        with Progress("traces", len(names)) as progress:
+            for name in progress.over(names):
+                self.print_times_of(name, scale)
+
+    def print_times_of(self, name, scale):
+        lines = self.prepare(name, scale)
+        (wall, spent, size), (plain_wall, plain_spent, plain_size) = self.quickest()
+        self.compare(name, scale)
+        print_row(
+            name,
+            f"{lines:,}",
+            *(f"{wall:.2f}", f"{plain_wall:.2f}", ratio(wall, plain_wall)),
+            *(f"{spent:.2f}", f"{plain_spent:.2f}", ratio(spent, plain_spent)),
+            *(f"{size / MEGABYTE:.0f}", f"{plain_size / MEGABYTE:.0f}"),
+        )
+
+
+def scales_of(text):
+    """The scales that a list with commas names."""
+    try:
+        return [float(scale) for scale in text.split(",")]
+    except ValueError:
+        raise ArgumentTypeError(f"'{text}' is no list of numbers as 0.02,0.32") from None
+
+
+def require(*commands):
+    """Whether these commands are there."""
+    for command in commands:
+        if not shutil.which(command):
+            raise Fault(f"{command} is not found", 1)
 
 
 def read_words():
-    words = argparse.ArgumentParser(description=__doc__, formatter_class=argparse.RawDescriptionHelpFormatter)
+    words = Parser(__doc__)
     words.add_argument("--time", action="store_true", help="times and memory in place of instructions")
-    words.add_argument("--scale", help="scales, with a comma between two (0.02,0.32; with --time one, 1)")
+    words.add_argument("--scale", type=scales_of, metavar="X,..", help="scales (0.02,0.32; with --time one, 1)")
     words.add_argument("--only", help="families, with a comma between two")
     words.add_argument("--program", type=Path, help="the gczone to measure")
     words.add_argument("--plain", type=Path, help="the program to measure it against, in place of bench/plain")
@@ -189,19 +218,26 @@ def read_words():
 def find_program(asked):
     program = asked or next((path for path in BUILT if path.exists()), None)
     if program is None:
-        sys.exit("build the program first: ./gczone prove")
+        raise Fault("there is no proved program: ./gczone prove makes it; --program names another", 1)
+    if not os.access(program, os.X_OK) or program.is_dir():
+        raise Fault(f"{program} is {'no program' if program.exists() else 'not there'}", 1)
     return program.resolve()
+
+
+def names_of(asked, known):
+    """The names that a list with commas asks for, or all that are known."""
+    names = asked.split(",") if asked else list(known)
+    unknown = [name for name in names if name not in known]
+    if unknown:
+        raise Fault(f"'{unknown[0]}' is none of {', '.join(known)}")
+    return names
 
 
 def main():
     words = read_words()
-    names = words.only.split(",") if words.only else list(FAMILIES)
-    unknown = [name for name in names if name not in FAMILIES]
-    if unknown:
-        sys.exit(f"no family: {' '.join(unknown)}; there are {' '.join(FAMILIES)}")
-    if not words.time and not shutil.which("valgrind"):
-        sys.exit("valgrind is not there")
-    scales = [float(scale) for scale in (words.scale or ("1" if words.time else "0.02,0.32")).split(",")]
+    names = names_of(words.only, FAMILIES)
+    require("rustc", *([] if words.time else ["valgrind"]))
+    scales = words.scale or ([1.0] if words.time else [0.02, 0.32])
     with tempfile.TemporaryDirectory() as folder:
         folder = Path(folder)
         plain = words.plain.resolve() if words.plain else build_plain(folder)
@@ -211,8 +247,9 @@ def main():
         else:
             bench.print_instructions(names, scales)
     if bench.differing:
-        sys.exit(f"the programs write different lines: {', '.join(bench.differing)}")
+        raise Fault(f"the programs write different lines: {', '.join(bench.differing)}", 1)
+    return 0
 
 
 if __name__ == "__main__":
-    main()
+    run_main(main)

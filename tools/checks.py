@@ -6,6 +6,8 @@ from collections.abc import Callable
 from concurrent.futures import ThreadPoolExecutor
 from dataclasses import dataclass, field
 
+from progress import Progress
+
 
 class NotRun(Exception):
     """A check cannot be run here; the message says why."""
@@ -55,6 +57,10 @@ def tell_details(name, faults):
             print(f"{name}:", *fault.strip().splitlines(), sep="\n  ", file=sys.stderr, flush=True)
 
 
+def count_ended(begun):
+    return sum(ended.done() for _, ended in begun)
+
+
 def run_checks(checks, jobs):
     """Starts the checks in their order, prints a line for each in that order, and returns how many passed and failed.
 
@@ -62,19 +68,23 @@ def run_checks(checks, jobs):
     """
     passed, failed, left_out = 0, 0, []
     pool = ThreadPoolExecutor(jobs)
-    try:
-        begun = [(check.name, pool.submit(outcome_of, check)) for check in checks]
-        for name, ended in begun:
-            outcome, reason = ended.result()
-            if outcome is None:
-                left_out.append(f"{name}: {reason}")
-                continue
-            print(line_of(name, outcome), flush=True)
-            tell_details(name, outcome.faults)
-            left_out += [f"{name}, {part}" for part in outcome.left_out]
-            passed, failed = passed + (not outcome.faults), failed + bool(outcome.faults)
-    finally:
-        pool.shutdown(cancel_futures=True)
+    with Progress("checks", len(checks), at_terminals_alone=True) as progress:
+        try:
+            begun = [(check.name, pool.submit(outcome_of, check)) for check in checks]
+            for _, ended in begun:
+                ended.add_done_callback(lambda _: progress.tell(count_ended(begun)))
+            for name, ended in begun:
+                outcome, reason = ended.result()
+                if outcome is None:
+                    left_out.append(f"{name}: {reason}")
+                    continue
+                with progress.aside():
+                    print(line_of(name, outcome), flush=True)
+                    tell_details(name, outcome.faults)
+                left_out += [f"{name}, {part}" for part in outcome.left_out]
+                passed, failed = passed + (not outcome.faults), failed + bool(outcome.faults)
+        finally:
+            pool.shutdown(cancel_futures=True)
     for line in left_out:
         print(f"not run: {line}")
     print(f"{passed} passed, {failed} failed", flush=True)

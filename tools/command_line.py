@@ -1,11 +1,10 @@
-"""What the tools share at the command line: options, faults told in words, progress."""
+"""What the tools share at the command line: options, and faults told in words."""
 
 import argparse
 import os
 import shutil
 import subprocess
 import sys
-import time
 from pathlib import Path
 
 from crate_list import TOP
@@ -113,31 +112,3 @@ def run_main(main):
     except KeyboardInterrupt:
         status = 130
     sys.exit(status)
-
-
-class Progress:
-    """A line on standard error, if that is a terminal, that says how far a work of some seconds has come."""
-
-    SILENT, EVERY = 2.0, 0.2
-
-    def __init__(self, what, total=None, stream=None, clock=time.monotonic):
-        self.what, self.total, self.stream, self.clock = what, total, stream or sys.stderr, clock
-        self.shown, self.next = False, clock() + self.SILENT
-        self.told = self.stream.isatty()
-
-    def __enter__(self):
-        return self
-
-    def tell(self, done):
-        """Says how much is done, unless it did so just before."""
-        if not self.told or self.clock() < self.next:
-            return
-        of = f" of {self.total:,}" if self.total else ""
-        self.stream.write(f"\r{done:,}{of} {self.what}\x1b[K")
-        self.stream.flush()
-        self.shown, self.next = True, self.clock() + self.EVERY
-
-    def __exit__(self, *_):
-        if self.shown:
-            self.stream.write("\r\x1b[K")
-            self.stream.flush()

@@ -5,6 +5,7 @@ bytes, and cells, edges and names by numbers, since a log may have millions of t
 """
 
 import gc
+import os
 import re
 import sys
 from array import array
@@ -12,7 +13,8 @@ from bisect import bisect_right
 from collections import Counter, defaultdict
 from contextlib import nullcontext
 
-from command_line import Fault, Progress
+from command_line import Fault
+from progress import Progress
 from reach import Graph, tell_way
 
 CELL = re.compile(rb"(0x[0-9a-fA-F]+) (\S)(?: (.*))?\n?")
@@ -24,8 +26,8 @@ COLOURS = {ord("B"): "black", ord("G"): "gray"}
 NO_HEAP = "it ends before its heap; a heap log has a line of ========== behind its roots and weak maps"
 WHITE = "as those made since the last collection; their edges are not judged"
 NAMED = "as permanent atoms; they have the colour that an edge or a root gives them"
-# How many bytes are read at once, and how many lines are written between two looks at the clock.
-BLOCK, STRIDE = 1 << 20, 1 << 16
+# How many bytes are read at once.
+BLOCK = 1 << 20
 
 
 def text_of(words):
@@ -40,6 +42,14 @@ def is_null(address):
 def line_of_edge(edges_before, edge):
     """The line of an edge, by how many edges come before each line that is none."""
     return edge + 1 + bisect_right(edges_before, edge)
+
+
+def size_of(file):
+    """How many bytes a file has; None if that is not known, as of a pipe."""
+    try:
+        return os.fstat(file.fileno()).st_size or None
+    except OSError:
+        return None
 
 
 def numbering():
@@ -68,12 +78,12 @@ class Reader:
         self.in_heap = False
 
     def read(self, file):
-        number = 0
+        number, size, read = 0, size_of(file), 0
         while lines := file.readlines(BLOCK):
             self.read_others(lines, number)
             self.read_edges([line for line in lines if line[0] == EDGE], lines, number)
-            number += len(lines)
-            self.progress.tell(number)
+            number, read = number + len(lines), read + sum(map(len, lines))
+            self.progress.tell(number, read / size if size else None)
         if not self.in_heap:
             raise Fault(NO_HEAP)
         return self
@@ -324,6 +334,10 @@ class Dump:
             raise Fault(f"{self.log.address(delegate)} is the delegate of more than 256 keys")
         self.wrappers_of[delegate] += 1
         self.wrappers[key, delegate] = comp, delegate
+
+    def most_rows(self):
+        """As many lines as the dump has, or some more if edges are left out."""
+        return len(self.log.letters) + len(self.wrappers) + len(self.log.edges.cells) + len(self.entries) + 1
 
     def rows(self):
         """Each line of the dump, and what it is made of: `words` makes the log's words of that."""

@@ -11,6 +11,7 @@ import subprocess
 import tokenize
 from dataclasses import dataclass, field
 
+from command_line import Fault
 from crate_list import TOP, read_crates
 
 # What separates two words of an .antt file.
@@ -20,10 +21,6 @@ ANTT_WORDS = {"pub", "abbrev", "unfoldable", "record", "data"}
 FUNCTION = re.compile(r"^( *)(?:pub(?:\(\w+\))? )?(?:const )?fn (\w+)")
 TYPE = re.compile(r"^ *(?:pub(?:\(\w+\))? )?(?:struct|enum|trait|const|type|static) (\w+)")
 HOLDER = re.compile(r"^(?:impl(?:<.*?>)? (?:.* for )?|(?:pub )?trait )(\w+)")
-
-
-class Fault(Exception):
-    """What a tool says before it gives up."""
 
 
 @dataclass
@@ -53,7 +50,7 @@ def run_git(*words):
     except OSError as fault:
         raise Fault(f"git: {fault.strerror}") from fault
     if ran.returncode:
-        raise Fault(ran.stderr.decode(errors="replace").strip())
+        raise Fault(f"git: {ran.stderr.decode(errors='replace').strip().partition(chr(10))[0]}")
     return ran.stdout.decode(errors="replace")
 
 

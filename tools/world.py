@@ -13,6 +13,7 @@ import textwrap
 
 from command_line import Fault
 from crate_list import TOP
+from progress import Progress
 from trace_model import REFUSALS, Model, answers, is_report, name_order
 
 LONGEST = 200
@@ -329,9 +330,10 @@ class Recorder:
 def record(lines, output):
     """Follows a trace that the program answered by these output lines."""
     recorder = Recorder()
-    for number, (text, own) in enumerate(zip(lines, answers(lines, output)), 1):
-        try:
-            recorder.line(number, text, own)
-        except (LookupError, ValueError, AttributeError, TypeError):
-            raise Fault(f"line {number}, '{text}', cannot be answered by '{cut(' / '.join(own))}'", 1) from None
+    with Progress("lines", len(lines)) as progress:
+        for number, (text, own) in enumerate(progress.over(zip(lines, answers(lines, output))), 1):
+            try:
+                recorder.line(number, text, own)
+            except (LookupError, ValueError, AttributeError, TypeError):
+                raise Fault(f"line {number}, '{text}', cannot be answered by '{cut(' / '.join(own))}'", 1) from None
     return recorder

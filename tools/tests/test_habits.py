@@ -9,7 +9,9 @@ import unittest
 from pathlib import Path
 
 TOOLS = Path(__file__).resolve().parent.parent
-COPIED = ("crate_list.py", "program.py", "repository.py", "uses", "after-edit", "lint")
+COPIED = (
+    "command_line.py", "crate_list.py", "program.py", "progress.py", "repository.py", "uses", "after-edit", "lint",
+)
 CRATES = "low:\nhigh: low\nother:\n"
 SUMS = """-- Sums.
 use Rattle.std.specs.Prelude.{◌≡◌, ℕ}

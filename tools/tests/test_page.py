@@ -5,7 +5,9 @@ What runs in the browser is left out where there is none (Debian's package is `c
 
 import base64
 import collections
+import contextlib
 import fcntl
+import io
 import json
 import os
 import random
@@ -20,6 +22,7 @@ import time
 import unittest
 import zlib
 from pathlib import Path
+from unittest import mock
 
 TOP = Path(__file__).resolve().parent.parent.parent
 TOOLS = TOP / "tools"
@@ -182,13 +185,29 @@ class WorldTest(unittest.TestCase):
 
 
 class PageTest(unittest.TestCase):
-    def test_the_page_of_the_documents(self):
-        pages = sorted(PAGES.glob("*.html"))
-        self.assertTrue(pages)
-        for page in pages:
-            made = run_page(EXAMPLES / f"{page.stem}.trace")
-            self.assertEqual((made.returncode, made.stderr), (0, b""))
-            self.assertTrue(made.stdout == page.read_bytes(), f"tools/page examples/{page.stem}.trace differs")
+    def test_the_pages_of_the_documents(self):
+        made = run_page("--documents", "--check")
+        self.assertEqual((made.returncode, made.stdout, made.stderr), (0, b"", b""))
+        pages = list(PAGES.glob("*.html"))
+        self.assertEqual(len(pages), 12)
+        self.assertLess(max(page.stat().st_size for page in pages), 10_000)
+        lesson = (EXAMPLES / "README.md").read_text().partition("\n## All examples\n")[0]
+        linked = re.findall(r"\(\.\./docs/pages/(\w+)\.html\)", lesson)
+        self.assertEqual(linked, (PAGES / "list").read_text().split())
+
+    def test_a_page_of_the_documents_that_is_old_or_too_many(self):
+        with tempfile.TemporaryDirectory() as folder, mock.patch.object(PAGE, "PAGES", Path(folder)):
+            Path(folder, "list").write_text("first\nexpose\n")
+            with contextlib.redirect_stdout(io.StringIO()):
+                self.assertEqual(PAGE.write_documents(True, find_program()), 1)
+                self.assertEqual(PAGE.write_documents(False, find_program()), 0)
+                self.assertEqual(PAGE.write_documents(True, find_program()), 0)
+            self.assertEqual(Path(folder, "first.html").read_bytes(), (PAGES / "first.html").read_bytes())
+            Path(folder, "first.html").write_text("another")
+            Path(folder, "rings.html").write_text("one more")
+            with contextlib.redirect_stdout(io.StringIO()) as told:
+                self.assertEqual(PAGE.write_documents(True, find_program()), 1)
+            self.assertIn("docs/pages/list: rings, first; tools/page --documents", told.getvalue())
 
     def test_it_is_the_same_each_time(self):
         with tempfile.TemporaryDirectory() as folder:
@@ -214,7 +233,7 @@ class PageTest(unittest.TestCase):
         lines = ["colours"]
         page = PAGE.page_of("<b>&", lines, ["<script>alert(1)</script>"])
         self.assertIn("<title>&lt;b&gt;&amp;</title>", page)
-        self.assertEqual(page.count("<script>"), 1)
+        self.assertEqual(page.count("<script>"), 2)
 
     def test_standard_input_and_output_files(self):
         trace = EXAMPLES / "first.trace"
@@ -230,7 +249,8 @@ class PageTest(unittest.TestCase):
             binary = Path(folder) / "binary"
             binary.write_bytes(bytes(range(256)))
             rows = [
-                ([], 2), (["walk", "on"], 2), (["--walk"], 2), (["/nofile"], 2), ([folder], 2), ([binary], 2),
+                ([], 2), (["--check"], 2), (["walk", "--documents"], 2), (["walk", "on"], 2), (["--walk"], 2),
+                (["/nofile"], 2), ([folder], 2), ([binary], 2),
                 (["-"], 2), ([EXAMPLES / "bad_line.trace"], 2),
                 *(([EXAMPLES / "first.trace", "--program", name], 1) for name in ("/nofile", "true", "echo", "false")),
             ]
@@ -444,6 +464,20 @@ class BrowserTest(unittest.TestCase):
         self.browser.press("Home")
         self.assertEqual(self.place(), 0)
 
+    def test_the_pages_of_the_documents(self):
+        """They load what all pages have in common from tools/."""
+        for page in sorted(PAGES.glob("*.html")):
+            with self.subTest(page.stem):
+                lines = read_lines(page.stem)
+                pictures = pictures_of(record(lines, ask(lines)))
+                self.browser.open(page)
+                self.browser.press("End")
+                self.assertEqual((self.place(), self.counts()), (len(pictures) - 1, pictures[-1]))
+                self.browser.press("ArrowLeft")
+                self.assertEqual((self.place(), self.counts()), (len(pictures) - 2, pictures[-2]))
+                self.assertEqual(self.browser.value("getComputedStyle(document.body).paddingLeft"), "16px")
+                self.assertEqual(self.browser.faults(), [])
+
     def test_each_example_both_ways(self):
         for file, lines in answered_traces():
             with self.subTest(file.name):
@@ -512,6 +546,23 @@ class BrowserTest(unittest.TestCase):
         self.assertEqual(self.browser.value('document.querySelectorAll("#heap .slot").length'), 2)
         self.browser.press("Tab")
         self.assertNotEqual(self.browser.value("document.activeElement.dataset.zone"), "0")
+
+    def test_two_hundred_cells(self):
+        """All are drawn, none in a folded zone, and each can be read: its text is within it."""
+        lines = heap_of(200)
+        pictures = self.open(lines, step=len(lines) - 2)
+        self.assertEqual(self.browser.value('document.querySelectorAll("#heap g.cell").length'), 200)
+        for key in ("ArrowRight", "ArrowLeft", "End", "PageUp", "Home", "PageDown"):
+            self.browser.press(key)
+            self.assertEqual(self.counts(), pictures[self.place()])
+        self.browser.press("End")
+        wide = """[...document.querySelectorAll("#heap g.cell")].filter(part =>
+          part.querySelector("text").getBoundingClientRect().width >
+          part.querySelector(".body").getBoundingClientRect().width).length"""
+        self.assertEqual(self.browser.value(wide), 0)
+        sizes = """Math.min(...[...document.querySelectorAll("#heap g.cell text")].map(
+          text => parseFloat(getComputedStyle(text).fontSize)))"""
+        self.assertGreaterEqual(self.browser.value(sizes), 9)
 
     def test_two_thousand_cells(self):
         lines = heap_of(2000)

@@ -54,6 +54,16 @@ class TestSpiderMonkey(unittest.TestCase):
     def test_random_traces_in_slices(self):
         self.assertIn(" 0 failures", self.check("10 traces, ", "10", "1", "--slices"))
 
+    def test_a_program_that_answers_nothing_or_something_else(self):
+        with tempfile.TemporaryDirectory() as folder:
+            wrong = Path(folder, "wrong")
+            wrong.write_text("#!/bin/sh\nwhile read -r line; do echo ended 0 gray 7; echo swept 9 9; echo 3:4; done\n")
+            wrong.chmod(0o755)
+            for program in (wrong, "/bin/true", "/bin/false"):
+                status, output, error = run(TOOLS / "versus", "1", "1", "--program", program)
+                self.assertEqual((status, error), (1, ""))
+                self.assertIn("versus: seed 1: run: ", output)
+
     def test_known_traces(self):
         output = self.check("", "--traces")
         for kind in classes.COUNTED:

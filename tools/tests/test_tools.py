@@ -17,7 +17,7 @@ TOOLS = TOP / "tools"
 EXAMPLES = TOP / "examples"
 sys.dont_write_bytecode = True
 sys.path.insert(0, str(TOOLS))
-from command_line import Progress  # noqa: E402 (the folder of tools is no package)
+import command_line  # noqa: E402 (the folder of tools is no package)
 from program import find_program  # noqa: E402
 from trace_model import Model, answers, replay, split_lines  # noqa: E402
 
@@ -30,20 +30,36 @@ READERS = [
     ("explain", ["{}"], "trace"),
     ("why", ["{}", "1", "0"], "trace"),
     ("stats", ["{}"], "trace"),
+    ("page", ["{}"], "trace"),
+    ("prompt", ["{}"], "trace"),
+    ("versus", ["--traces", "{}"], "trace"),
     ("heap-log", ["{}"], "log"),
     ("check-heap-log", ["{}"], "log"),
 ]
 # Each tool that runs a program, with words that it takes.
 RUNNERS = [
     ("draw", ["heap", FIRST, "--dot"]), ("draw", ["timeline", FIRST]), ("draw", ["pictures", "--check"]),
-    ("explain", [FIRST]), ("why", [FIRST, "5", "1"]), ("stats", [FIRST]),
+    ("explain", [FIRST]), ("why", [FIRST, "5", "1"]), ("stats", [FIRST]), ("page", [FIRST]),
+    ("page", ["--documents", "--check"]),
     ("check-heap-log", [HEAP_LOG]), ("check-piles", []), ("check-storms", ["--count", "1"]),
     ("check-step", ["--collector", "true", "--seeds", "0"]),
 ]
-ALL = [
-    "draw", "explain", "why", "stats", "heap-log", "check-heap-log", "check-piles", "check-storms", "check-step",
-    "check-faults",
-]
+# All scripts that one runs, with words that each needs before any other.
+WORDS = {
+    **dict(RUNNERS), "heap-log": [HEAP_LOG], "prompt": [FIRST], "versus": ["1", "1"], "check-faults": [],
+    "after-edit": [], "uses": ["replay"], "lint": [], "test": [], "prove": [], "build-unproved": [],
+    "spidermonkey/check-logs": [], "../bench/speed.py": [], "../bench/helpers.py": [], "../bench/dumps.py": [],
+    "../bench/engines.py": [],
+}
+SHELL = ["find-program"]
+
+
+def scripts():
+    """The scripts that are there, as words after tools/."""
+    for folder in ("tools", "tools/spidermonkey", "bench"):
+        for path in (TOP / folder).iterdir():
+            if path.is_file() and os.access(path, os.X_OK):
+                yield os.path.relpath(path, TOOLS)
 
 
 def run_tool(name, *words, data=b"", path=None):
@@ -61,10 +77,9 @@ def run_tool(name, *words, data=b"", path=None):
     return status, *(stream.buffer.getvalue().decode() for stream in (output, error))
 
 
-def run_process(folder, name, *words, **how):
+def run_process(folder, name, *words, command=(sys.executable,), **how):
     """A tool in a process of its own, as one runs it."""
-    command = [sys.executable, folder / name, *words]
-    return subprocess.run(command, stderr=subprocess.PIPE, check=False, timeout=60, **how)
+    return subprocess.run([*command, folder / name, *words], stderr=subprocess.PIPE, check=False, timeout=60, **how)
 
 
 class Tools(unittest.TestCase):
@@ -87,7 +102,8 @@ class Tools(unittest.TestCase):
                 status, output, error = run_tool(*call)
                 self.assertIn(status, (1, 2), error)
                 message = ((error or output).splitlines() or [""])[-1]
-                self.assertTrue(message.startswith(f"{call[0]}: "), error)
+                self.assertTrue(message.startswith(f"{Path(call[0]).name}: "), error)
+                self.assertNotIn("Traceback", output + error)
                 for part in wanted:
                     self.assertIn(part, message)
 
@@ -124,6 +140,11 @@ class WrongInput(Tools):
                 other = HEAP_LOG if kind == "trace" else FIRST
                 self.check_refuses([[name, *(other if word == "{}" else word for word in words)]], "line 1 is")
 
+    def test_what_is_no_record(self):
+        for data in (b"", bytes(range(256)), b"{}", b"[1]", b'{"seed": 1, "tally": 2}'):
+            self.check_refuses([["versus", "--table", self.file("record", data)]], "is no record: --record writes one")
+        self.check_refuses([["versus", "--table", "/nowhere/file"]], "/nowhere/file: No such file")
+
     def test_no_line_of_the_trace(self):
         calls = [["draw", "heap", FIRST, "999"], ["explain", FIRST, "999"], ["explain", FIRST, "2-10"]]
         self.check_refuses([*calls, ["why", FIRST, "10", "0"]], "there is no line ", "the trace has lines 1 to 9")
@@ -141,27 +162,55 @@ class WrongInput(Tools):
 
 
 class WrongWords(Tools):
+    def test_each_script_is_tested_here(self):
+        self.assertEqual(sorted(scripts()), sorted([*WORDS, *SHELL]))
+
+    def test_a_script_of_the_shell(self):
+        def run(*words):
+            done = run_process(TOOLS, *words, command=(), stdout=subprocess.PIPE)
+            return done.returncode, done.stdout.decode(), done.stderr.decode()
+
+        self.assertEqual(run("find-program", "--version"), run_tool("draw", "--version"))
+        status, output, error = run("find-program", "--help")
+        self.assertEqual((status, output.splitlines()[0], error), (0, "usage: find-program [CRATE]", ""))
+        for words in (["nothing"], ["gczone", "nothing"]):
+            wanted = (2, "", "find-program: 'nothing' is no crate of crates.txt\n")
+            self.assertEqual(run("find-program", *words), wanted)
+
     def test_help_and_version(self):
         describe = subprocess.run(["git", "describe", "--always", "--dirty"], cwd=TOP, capture_output=True, text=True)
         said = subprocess.run([TOP / "gczone", "version"], capture_output=True, text=True, stdin=subprocess.DEVNULL)
         version = said.stdout.splitlines()[0] if said.returncode == 0 else describe.stdout.strip()
-        for name in ALL:
-            with self.subTest(tool=name):
+        for name in WORDS:
+            with self.subTest(tool=name), mock.patch.object(command_line, "version", lambda: version):
                 self.assertEqual(run_tool(name, "--version"), (0, version + "\n", ""))
                 status, output, error = run_tool(name, "--help")
                 self.assertEqual((status, error), (0, ""))
-                self.assertTrue(output.startswith(f"usage: {name} "))
+                self.assertTrue(output.startswith(f"usage: {Path(name).name} "))
                 self.assertNotIn("--try", output)
+        self.assertEqual(run_tool("draw", "--version"), (0, version + "\n", ""))
 
     def test_a_word_that_is_unknown_is_named(self):
-        calls = [[name, *words, "--frobnicate"] for name, words in RUNNERS] + [["heap-log", HEAP_LOG, "--frobnicate"]]
+        calls = [[name, *words, "--frobnicate"] for name, words in [*WORDS.items(), *RUNNERS]]
         self.check_refuses(calls, "unrecognized arguments: --frobnicate")
+        self.check_refuses([["lint", "frobnicate"]], "no rule is named frobnicate: ", "long-line")
+        self.check_refuses([["uses", "frobnicate"]], "is named frobnicate")
+        self.check_refuses([["uses", "--dead", "frobnicate"]], "crates.txt has no crate frobnicate")
+        self.check_refuses([["after-edit", "--since", "frobnicate"]], "frobnicate")
+        self.check_refuses([["prove", "frobnicate"]], "frobnicate is no crate of crates.txt")
+        self.check_refuses([["build-unproved", "frobnicate"]], "frobnicate is no program of this repository")
+        self.check_refuses([["test", "frobnicate"]], "no check is named frobnicate: see --list")
+        benches = [["../bench/speed.py"], ["../bench/helpers.py"], ["../bench/dumps.py"], ["../bench/engines.py"]]
+        self.check_refuses([[*call, "--only", "frobnicate"] for call in benches], "'frobnicate' is none of ")
         self.check_refuses([["draw", "heep", FIRST]], "'heep'", "'heap', 'timeline'")
 
     def test_a_word_that_is_missing_is_named(self):
         calls = [["draw"], ["explain"], ["why"], ["why", FIRST, "1"], ["stats"], ["heap-log"], ["check-heap-log"]]
         self.check_refuses(calls, "are required")
         self.check_refuses([["draw", "heap"]], "a trace is needed")
+        self.check_refuses([["page"]], "either a TRACE or --documents is needed")
+        self.check_refuses([["versus"], ["versus", "1"]], "COUNT and SEED are needed")
+        self.check_refuses([["uses"]], "a name is wanted")
         self.check_refuses([["check-step"]], "either --model or --collector is needed")
 
     def test_numbers(self):
@@ -177,6 +226,7 @@ class WrongProgram(Tools):
 
     def test_no_program(self):
         self.check_refuses(self.with_program("/nowhere/gczone"), "/nowhere/gczone is not there")
+        self.check_refuses([["versus", "1", "1", "--program", "/nowhere/gczone"]], "/nowhere/gczone is not there")
         self.check_refuses(self.with_program(EXAMPLES), "is no program")
         self.check_refuses(self.with_program(FIRST), "is no program")
 
@@ -270,28 +320,6 @@ class Placement(unittest.TestCase):
                 dead = {cell.name for cell in model.slots.values() if model.cells.get(cell.name) is not cell}
                 swept = {name for names in arenas.values() for name in names}
                 self.assertFalse(dead & swept - model.cells.keys(), path)
-
-
-class Telling(unittest.TestCase):
-    """Progress on standard error."""
-
-    class Terminal(io.StringIO):
-        def isatty(self):
-            return True
-
-    def tell(self, stream, times):
-        now = iter([0, *times, *times])
-        with Progress("lines", 3000, stream, lambda: next(now)) as progress:
-            progress.tell(1000)
-            progress.tell(2000)
-        return stream.getvalue()
-
-    def test_a_terminal_is_told_after_two_seconds(self):
-        self.assertEqual(self.tell(self.Terminal(), [1.9, 1.95]), "")
-        self.assertEqual(self.tell(self.Terminal(), [1.9, 2.1]), "\r2,000 of 3,000 lines\x1b[K\r\x1b[K")
-
-    def test_a_file_is_not_told(self):
-        self.assertEqual(self.tell(io.StringIO(), [3, 4]), "")
 
 
 class Steps(Tools):

@@ -67,7 +67,9 @@ class Why(unittest.TestCase):
         self.check_has(texts, "no register leads to it, and a gray slot does:", "* g3 0", "* field 0 of 0 1")
         self.assertEqual(texts[0], "object 1 is gray after line 11 (`colours`)")
         self.check_has_not(texts, "since")
-        self.check_has_not(texts, "frees it:")
+        self.check_has(texts, "line 18 (`collect 0`) frees it: group 0 ended, and nothing had reached it")
+        texts = self.example("expose", 18, "1")
+        self.check_has(texts, "no root led to it after line 17 (`release g3`)", "line 18 (`collect 0`) frees it:")
 
     # Line 20 takes 3 out of its field unread, so that nothing leads to it. The snapshot of line 13 has it.
     def test_a_cell_that_was_overwritten_while_a_collection_ran(self):

@@ -1,0 +1,217 @@
+"""Tests of tools/progress.py: what a terminal shows of a work that takes long, and what a file does."""
+
+import contextlib
+import io
+import os
+import pty
+import re
+import subprocess
+import sys
+import tempfile
+import time
+import unittest
+from pathlib import Path
+from unittest import mock
+
+TOP = Path(__file__).resolve().parent.parent.parent
+TOOLS = TOP / "tools"
+EXAMPLES = TOP / "examples"
+sys.dont_write_bytecode = True
+sys.path[:0] = [str(TOOLS), str(TOOLS / "tests")]
+from large_log import main as write_log  # noqa: E402 (the folder of tests is no package)
+from progress import Progress, print_line  # noqa: E402
+
+SECONDS = 60
+# In place of gczone: they answer as that does, and take longer than two seconds.
+SLOW_COMP = "#!/bin/sh\nread -r a; echo ok; read -r a; echo zone 0; read -r a; sleep 2.5; echo comp 0\n"
+SLOW_CHECK = "#!/bin/sh\ncat > /dev/null\nsleep 2.5\necho ok 0 0 0\n"
+
+
+class Quick(Progress):
+    """A progress that does not wait two seconds, nor a minute."""
+
+    SILENT, EVERY, MINUTE = 0.05, 0.01, 0.1
+
+
+class Terminal:
+    """A terminal of its own: what is written to `stream` is `seen`."""
+
+    def __init__(self):
+        self.leader, follower = pty.openpty()
+        self.stream = os.fdopen(follower, "w")
+
+    def seen(self):
+        """All that was written, once nothing more can be."""
+        self.stream.close()
+        found = b""
+        with contextlib.suppress(OSError):
+            while part := os.read(self.leader, 1 << 16):
+                found += part
+        os.close(self.leader)
+        return found.decode()
+
+
+def shown(text):
+    """The lines that a terminal shows one after another at one place."""
+    return [line for line in re.split(r"\r|\x1b\[K|\n", text) if line]
+
+
+def at_terminal(*words):
+    """What a tool writes to a terminal, and its exit status. What it prints goes elsewhere."""
+    terminal = Terminal()
+    done = subprocess.run(
+        [TOOLS / words[0], *map(str, words[1:])], stdin=subprocess.DEVNULL, stdout=subprocess.DEVNULL,
+        stderr=terminal.stream, timeout=SECONDS, check=False,
+    )
+    return terminal.seen(), done.returncode
+
+
+class ProgressTest(unittest.TestCase):
+    def setUp(self):
+        # The work of the test before is over for long.
+        Progress.last_ended = 0.0
+
+    def tell(self, stream, work, what="lines", total=None, **how):
+        with contextlib.redirect_stderr(stream), Quick(what, total, **how) as progress:
+            work(progress)
+
+    def at_terminal(self, work, *words, **how):
+        terminal = Terminal()
+        self.tell(terminal.stream, work, *words, **how)
+        return terminal.seen()
+
+    def test_a_terminal_shows_a_bar_and_is_clear_in_the_end(self):
+        def work(progress):
+            progress.tell(1000)
+            progress.note = "at work: low"
+            time.sleep(0.2)
+            progress.tell(3000)
+            time.sleep(0.1)
+
+        text = self.at_terminal(work, "lines", 4000)
+        self.assertEqual(shown(text)[0], f"[{'#' * 4}{'-' * 12}] 1,000 of 4,000 lines, 0 s; at work: low")
+        self.assertEqual(shown(text)[-1], f"[{'#' * 12}{'-' * 4}] 3,000 of 4,000 lines, 0 s; at work: low")
+        self.assertTrue(text.endswith("\r\x1b[K"))
+
+    def test_what_is_known_is_shown(self):
+        self.assertEqual(shown(self.at_terminal(lambda _: time.sleep(0.2), "reading"))[0], "reading, 0 s")
+
+        def read(progress):
+            progress.tell(12345, 0.5)
+            time.sleep(0.2)
+
+        self.assertEqual(shown(self.at_terminal(read, "lines read"))[0], f"[{'#' * 8}{'-' * 8}] 12,345 lines read, 0 s")
+        progress = Progress("lines")
+        progress.began -= 190
+        self.assertEqual(progress.text(), "lines, 3 min 10 s")
+
+    def test_a_line_fits_the_terminal(self):
+        def work(progress):
+            progress.note = "x" * 500
+            time.sleep(0.2)
+
+        self.assertEqual({len(line) for line in shown(self.at_terminal(work))}, {79})
+
+    def test_a_short_work_shows_nothing(self):
+        self.assertEqual(self.at_terminal(lambda progress: progress.tell(5)), "")
+        terminal = Terminal()
+        with Progress("lines", stream=terminal.stream) as progress:
+            progress.tell(5)
+            time.sleep(0.5)
+        self.assertEqual(terminal.seen(), "")
+
+    def test_a_file_gets_a_line_a_minute(self):
+        stream, name = io.StringIO(), Path(sys.argv[0]).name
+        self.tell(stream, lambda progress: (progress.tell(7), time.sleep(0.35)), "lines", 9)
+        lines = stream.getvalue().splitlines()
+        self.assertIn(len(lines), (1, 2, 3))
+        self.assertEqual(set(lines), {f"{name}: 7 of 9 lines, 0 s"})
+        stream = io.StringIO()
+        self.tell(stream, lambda _: time.sleep(0.3), at_terminals_alone=True)
+        self.assertEqual(stream.getvalue(), "")
+        self.assertEqual(Progress.MINUTE, 60)
+
+    def test_works_that_follow_on_each_other_are_silent_together(self):
+        terminal, later = Terminal(), mock.patch.multiple(Quick, SILENT=0.3)
+        with later, Quick("reading", stream=terminal.stream):
+            time.sleep(0.25)
+        with later, Quick("drawing", stream=terminal.stream):
+            time.sleep(0.25)
+        self.assertEqual(set(shown(terminal.seen())), {"drawing, 0 s"})
+        with mock.patch.object(Progress, "last_ended", 0.0), Quick("writing", stream=io.StringIO()):
+            self.assertGreater(Progress.whole_began, time.monotonic() - 0.1)
+
+    def test_the_inner_work_is_shown_alone(self):
+        terminal = Terminal()
+        with Quick("seeds", stream=terminal.stream):
+            time.sleep(0.2)
+            with Quick("lines", stream=terminal.stream):
+                time.sleep(0.2)
+        places = [line.split(",")[0] for line in shown(terminal.seen())]
+        self.assertEqual(places, sorted(places, reverse=True))
+        self.assertEqual(set(places), {"seeds", "lines"})
+
+    def test_a_printed_line_takes_the_place_of_what_is_shown(self):
+        terminal = Terminal()
+        with contextlib.redirect_stdout(terminal.stream), Quick("lines", stream=terminal.stream):
+            time.sleep(0.1)
+            print_line("found")
+        self.assertRegex(terminal.seen(), "lines, 0 s\x1b\\[K\r\x1b\\[Kfound\r\n")
+
+    def test_items_are_counted(self):
+        with Progress("items", 3) as progress:
+            told = [(item, progress.done) for item in progress.over("abc")]
+        self.assertEqual(told, [("a", None), ("b", 1), ("c", 2)])
+        self.assertEqual(progress.done, 3)
+
+    def test_nobody_is_there_to_read(self):
+        stream = io.StringIO()
+        with Quick("lines", stream=stream):
+            stream.close()
+            time.sleep(0.3)
+
+
+class ToolsTest(unittest.TestCase):
+    """Tools that take longer than two seconds, at a terminal. tools/tests/test_gczone.py has building and proving."""
+
+    def setUp(self):
+        holder = tempfile.TemporaryDirectory()
+        self.addCleanup(holder.cleanup)
+        self.folder = Path(holder.name)
+
+    def program(self, text):
+        path = self.folder / "program"
+        path.write_text(text)
+        path.chmod(0o755)
+        return path
+
+    def check_shows(self, pattern, *words, status=0):
+        seen, found = at_terminal(*words)
+        self.assertEqual(found, status, seen)
+        self.assertRegex("\n".join(shown(seen)), f"(?m)^{pattern}$")
+
+    def test_a_heap_log(self):
+        log = self.folder / "log"
+        with open(log, "w", encoding="ascii") as out, contextlib.redirect_stdout(out):
+            write_log(2000, 20000)
+        self.check_shows(
+            r"\[#+-*\] [\d,]+ of [\d,]+ lines checked, [23] s", "check-heap-log", log, "--program",
+            self.program(SLOW_CHECK),
+        )
+
+    def test_a_comparison(self):
+        slow = self.program("#!/bin/sh\nsleep 1.1\nexit 1\n")
+        self.check_shows(
+            r"[\d,]+ runs to leave out lines, \d+ s", "check-step", "--collector", slow, "--seeds", "0",
+            "--lines", "20", status=1,
+        )
+
+    def test_statistics(self):
+        trace = self.folder / "trace"
+        trace.write_text("zone\ncomp 0\n")
+        slow = self.program(SLOW_COMP)
+        self.check_shows(r"\[#{8}-{8}\] 1 of 2 lines, 2 s", "stats", trace, "--program", slow)
+
+
+if __name__ == "__main__":
+    unittest.main()
