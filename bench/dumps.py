@@ -108,7 +108,7 @@ def measure(programs, folder, name, scale):
     """Prints the row of a kind of dump, and answers whether both programs say the same."""
     dump = folder / "dump"
     small = write_dump(dump, name, scale / 100)
-    ours, theirs = (count_instructions(program, dump, LIMIT, word="check") / small for program in programs)
+    ours, theirs = (count_instructions([program, "check"], dump, LIMIT) / small for program in programs)
     lines = write_dump(dump, name, scale)
     (spent, size), (plain_spent, plain_size) = quickest(programs, dump)
     print_row(

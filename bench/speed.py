@@ -62,19 +62,19 @@ def write_trace(path, lines):
     return count
 
 
-def count_instructions(program, trace, limit, word="run", more=()):
+def count_instructions(command, trace, limit):
     """The instructions of a run, or None when it takes too long."""
-    command = ["valgrind", "--tool=callgrind", "--callgrind-out-file=/dev/null", program, word, *more]
+    counting = ["valgrind", "--tool=callgrind", "--callgrind-out-file=/dev/null", *command]
     try:
         with open(trace, "rb") as source:
             run = subprocess.run(
-                command, stdin=source, stdout=subprocess.DEVNULL, stderr=subprocess.PIPE, timeout=limit
+                counting, stdin=source, stdout=subprocess.DEVNULL, stderr=subprocess.PIPE, timeout=limit
             )
     except subprocess.TimeoutExpired:
         return None
     counted = re.search(rb"Collected : (\d+)", run.stderr)
     if run.returncode or not counted:
-        raise Fault(f"{program} failed under valgrind:\n{run.stderr.decode()}", 1)
+        raise Fault(f"{command[0]} failed under valgrind:\n{run.stderr.decode()}", 1)
     return int(counted[1])
 
 
@@ -141,7 +141,7 @@ class Bench:
 
     def count(self):
         return [
-            count_instructions(program, self.trace, self.limit, more=more)
+            count_instructions([program, "run", *more], self.trace, self.limit)
             for program, more in zip(self.programs, WITHOUT_HELPERS)
         ]
 

@@ -1,5 +1,6 @@
 /* Answers a trace of bench/engines.py with the Boehm collector: a cell is a block of as many words as it has fields.
-   There are no zones, wrappers and weak entries here: status 3 at a line that asks for one. */
+   There are no zones, wrappers and weak entries here: status 3 at a line that asks for one. It writes a line once it has
+   collected. */
 
 /* For GC_set_markers_count: one thread marks, as elsewhere. */
 #define GC_THREADS
@@ -29,6 +30,8 @@ static void drop(char **words) { registers[number(words[1])] = NULL; }
 static void collect(char **words) {
   (void)words;
   GC_gcollect();
+  puts("collected");
+  fflush(stdout);
 }
 
 static void nothing(char **words) { (void)words; }

@@ -1,6 +1,6 @@
 (* Answers a trace of bench/engines.py with OCaml's collector: a cell is a block of as many words as it has fields, a
    weak entry an ephemeron in the list of its map. There are no zones and wrappers here: status 3 at a line that asks for
-   one. *)
+   one. It writes a line once it has collected. *)
 
 type map = { mutable entries : (Obj.t, Obj.t) Ephemeron.K1.t list }
 
@@ -29,7 +29,9 @@ let answer = function
   | [ "drop"; r ] -> hold r null
   | [ "map"; r; _ ] -> hold r (Obj.repr { entries = [] })
   | [ "put"; m; k; v ] -> put m k v
-  | "collect" :: _ -> Gc.major ()
+  | "collect" :: _ ->
+      Gc.major ();
+      print_endline "collected"
   | "zone" :: _ | "comp" :: _ -> ()
   | _ -> exit not_served
 

@@ -1,9 +1,11 @@
 // Answers a trace of bench/engines.py with SpiderMonkey: an object has as many reserved slots as its cell has fields.
-// What a heap needs beside its cells (the names of tools/spidermonkey/replay) is left out here.
+// What a heap needs beside its cells (the names of tools/spidermonkey/replay) is left out here. It writes a line once it
+// has collected, and its threads have swept.
 
+#include <algorithm>
 #include <array>
+#include <cctype>
 #include <iostream>
-#include <sstream>
 #include <stdexcept>
 #include <string>
 #include <vector>
@@ -73,17 +75,27 @@ class Heap {
 
   // Whether the line is served.
   bool answer(const std::string& line) {
-    std::istringstream text(line);
-    std::string word;
-    std::vector<size_t> numbers;
-    text >> word;
-    for (std::string each; text >> each;) {
-      numbers.push_back(std::stoul(each[0] == 'r' ? each.substr(1) : each));
-    }
-    return do_command(word, numbers);
+    size_t end = std::min(line.find(' '), line.size());
+    return do_command(line.substr(0, end), numbers_of(line, end));
   }
 
  private:
+  // The numbers of the words from there on, of registers too.
+  static std::vector<size_t> numbers_of(const std::string& line, size_t from) {
+    std::vector<size_t> numbers;
+    for (size_t at = from; at < line.size(); at++) {
+      if (!isdigit(line[at])) {
+        continue;
+      }
+      size_t number = 0;
+      for (; at < line.size() && isdigit(line[at]); at++) {
+        number = 10 * number + size_t(line[at] - '0');
+      }
+      numbers.push_back(number);
+    }
+    return numbers;
+  }
+
   bool do_command(const std::string& word, const std::vector<size_t>& numbers) {
     if (word == "new") {
       make(numbers[0], numbers[1], numbers[2]);
@@ -146,6 +158,9 @@ class Heap {
       JS::PrepareZoneForGC(context_, JS::GetObjectZone(globals_[zone]));
     }
     JS::NonIncrementalGC(context_, JS::GCOptions::Normal, JS::GCReason::API);
+    // A parameter is set once all sweeping is done.
+    JS_SetGCParameter(context_, JSGC_COMPACTING_ENABLED, 0);
+    std::cout << "collected" << std::endl;
   }
 
   JSContext* context_;
@@ -157,6 +172,7 @@ class Heap {
 }  // namespace
 
 int main() {
+  std::ios::sync_with_stdio(false);
   try {
     Library library;
     Context context;
