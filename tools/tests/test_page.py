@@ -8,6 +8,7 @@ import collections
 import contextlib
 import fcntl
 import io
+import itertools
 import json
 import os
 import random
@@ -285,6 +286,12 @@ def pixels_of(png):
     return width, height, [[tuple(row[x * each:x * each + 3]) for x in range(width)] for row in rows]
 
 
+def differing(rows, others):
+    """How many pixels of two pictures differ by more than how a browser smooths the edges of letters."""
+    pairs = zip(itertools.chain(*rows), itertools.chain(*others), strict=True)
+    return sum(max(abs(part - other) for part, other in zip(*pair)) > 12 for pair in pairs)
+
+
 def unfiltered(kind, row, above, each):
     """A row of a PNG, by the filter that it was written with."""
     for at in range(len(row) if kind else 0):
@@ -384,6 +391,13 @@ class Browser:
         """The upper left part of the page."""
         clip = {"x": 0, "y": 0, "width": width, "height": height, "scale": 1}
         return pixels_of(base64.b64decode(self.call("Page.captureScreenshot", format="png", clip=clip)["data"]))
+
+    def picture_of(self, selector):
+        """The rows of pixels of the upper left part of an element."""
+        box = f"document.querySelector({json.dumps(selector)}).getBoundingClientRect()"
+        x, y, width, height = json.loads(self.value(f"(b => JSON.stringify([b.x, b.y, b.width, b.height]))({box})"))
+        clip = {"x": x, "y": y, "width": min(width, 400), "height": min(height, 200), "scale": 1}
+        return pixels_of(base64.b64decode(self.call("Page.captureScreenshot", format="png", clip=clip)["data"]))[2]
 
     def faults(self):
         """What the page wrote as an error."""
@@ -578,6 +592,20 @@ class BrowserTest(unittest.TestCase):
         self.browser.value("findCell('0')")
         self.assertIn("object 0", self.text("cell"))
         self.assertIn("shortest way from a register: r2 → 499", self.text("cell"))
+
+    def test_the_picture_is_the_same_whichever_way_one_comes(self):
+        for lines in (read_lines("three_slices"), heap_of(200)):
+            pictures = self.open(lines)
+            self.browser.press("End")
+            self.browser.press("ArrowLeft")
+            self.browser.press("ArrowLeft")
+            before = self.browser.picture_of("#heap")
+            self.browser.press("ArrowRight")
+            self.browser.press("ArrowRight")
+            self.assertTrue(differing(self.browser.picture_of("#heap"), before))
+            self.browser.press("Home")
+            self.browser.value(f"goTo({len(pictures) - 3})")
+            self.assertFalse(differing(self.browser.picture_of("#heap"), before))
 
     def test_the_picture(self):
         """A black cell is dark, a gray one is between, in a light and in a dark page."""

@@ -243,11 +243,11 @@ class PipeTest(unittest.TestCase):
 
 
 class TerminalTest(unittest.TestCase):
-    def start(self, *words):
+    def start(self, *words, script=PROMPT):
         """Starts the prompt at a terminal of its own."""
         self.leader, follower = pty.openpty()
         self.process = subprocess.Popen(
-            [PROMPT, *words], stdin=follower, stdout=follower, stderr=follower, start_new_session=True,
+            [script, *words], stdin=follower, stdout=follower, stderr=follower, start_new_session=True,
             preexec_fn=lambda: fcntl.ioctl(0, termios.TIOCSCTTY, 0),
             env={**os.environ, "TERM": "dumb", "INPUTRC": "/dev/null"},
         )
@@ -295,6 +295,23 @@ class TerminalTest(unittest.TestCase):
         self.assertIn("cell 0\n", self.type("new r0 0 2\n"))
         self.assertIn("object 0 is black", self.type("why 0\t\n"))
         self.leave("\x04")
+
+    def test_gczone_without_words_is_the_prompt(self):
+        with tempfile.TemporaryDirectory() as folder:
+            saved = Path(folder, "saved")
+            self.assertIn("`help` lists what there is", self.start(script=TOP / "gczone"))
+            for line in ("zone", "comp 0", "new r0 0 1", "new r1 0 0", "set r0 0 r1"):
+                self.type(f"{line}\n")
+            self.assertIn("'zoen' is no command; did you mean 'zone'?", self.type("zoen\n"))
+            self.assertIn("empty\n  r5 holds nothing\n", self.type("get r2 r5 0\n"))
+            self.assertIn("refusals in order: empty, kind, no-field", self.type("help get\n"))
+            self.assertEqual(self.type("drop r1\n"), "drop r1\nok\n")
+            self.assertIn("field 0 of 0  1\n", self.type("why 1\n"))
+            self.assertIn("taken back: drop r1\n", self.type("undo\n"))
+            self.assertRegex(self.type("draw\n"), r"1  +object  black +\[\] +r1\n")
+            self.assertIn(f"6 lines are in {saved}\n", self.type(f"save {saved}\n"))
+            self.leave("quit\n")
+            self.assertEqual(saved.read_text().splitlines()[-1], "get r2 r5 0")
 
     def test_interrupts_keep_the_session(self):
         with tempfile.TemporaryDirectory() as folder:
