@@ -52,8 +52,20 @@ class Terminal:
 
 
 def shown(text):
-    """The lines that a terminal shows one after another at one place."""
-    return [line for line in re.split(r"\r|\x1b\[K|\n", text) if line]
+    """The lines that a terminal shows one after another at one place, with N for seconds."""
+    return [re.sub(r", \d+ s\b", ", N s", line) for line in re.split(r"\r|\x1b\[K|\n", text) if line]
+
+
+def wait_until(is_true):
+    until = time.monotonic() + SECONDS
+    while not is_true() and time.monotonic() < until:
+        time.sleep(0.01)
+
+
+def until_shown(progress):
+    """Waits until a line has been drawn that says what is done now."""
+    progress.is_drawn = False
+    wait_until(lambda: progress.is_drawn)
 
 
 def at_terminal(*words):
@@ -82,25 +94,24 @@ class ProgressTest(unittest.TestCase):
 
     def test_a_terminal_shows_a_bar_and_is_clear_in_the_end(self):
         def work(progress):
-            progress.tell(1000)
             progress.note = "at work: low"
-            time.sleep(0.2)
-            progress.tell(3000)
-            time.sleep(0.1)
+            for done in (1000, 3000):
+                progress.tell(done)
+                until_shown(progress)
 
         text = self.at_terminal(work, "lines", 4000)
-        self.assertEqual(shown(text)[0], f"[{'#' * 4}{'-' * 12}] 1,000 of 4,000 lines, 0 s; at work: low")
-        self.assertEqual(shown(text)[-1], f"[{'#' * 12}{'-' * 4}] 3,000 of 4,000 lines, 0 s; at work: low")
+        self.assertEqual(shown(text)[0], f"[{'#' * 4}{'-' * 12}] 1,000 of 4,000 lines, N s; at work: low")
+        self.assertEqual(shown(text)[-1], f"[{'#' * 12}{'-' * 4}] 3,000 of 4,000 lines, N s; at work: low")
         self.assertTrue(text.endswith("\r\x1b[K"))
 
     def test_what_is_known_is_shown(self):
-        self.assertEqual(shown(self.at_terminal(lambda _: time.sleep(0.2), "reading"))[0], "reading, 0 s")
+        self.assertEqual(shown(self.at_terminal(until_shown, "reading"))[0], "reading, N s")
 
         def read(progress):
             progress.tell(12345, 0.5)
-            time.sleep(0.2)
+            until_shown(progress)
 
-        self.assertEqual(shown(self.at_terminal(read, "lines read"))[0], f"[{'#' * 8}{'-' * 8}] 12,345 lines read, 0 s")
+        self.assertEqual(shown(self.at_terminal(read, "lines read"))[0], f"[{'#' * 8}{'-' * 8}] 12,345 lines read, N s")
         progress = Progress("lines")
         progress.began -= 190
         self.assertEqual(progress.text(), "lines, 3 min 10 s")
@@ -108,7 +119,7 @@ class ProgressTest(unittest.TestCase):
     def test_a_line_fits_the_terminal(self):
         def work(progress):
             progress.note = "x" * 500
-            time.sleep(0.2)
+            until_shown(progress)
 
         self.assertEqual({len(line) for line in shown(self.at_terminal(work))}, {79})
 
@@ -122,41 +133,40 @@ class ProgressTest(unittest.TestCase):
 
     def test_a_file_gets_a_line_a_minute(self):
         stream, name = io.StringIO(), Path(sys.argv[0]).name
-        self.tell(stream, lambda progress: (progress.tell(7), time.sleep(0.35)), "lines", 9)
-        lines = stream.getvalue().splitlines()
-        self.assertIn(len(lines), (1, 2, 3))
-        self.assertEqual(set(lines), {f"{name}: 7 of 9 lines, 0 s"})
+        self.tell(stream, lambda progress: (progress.tell(7), wait_until(stream.getvalue)), "lines", 9)
+        self.assertEqual(set(shown(stream.getvalue())), {f"{name}: 7 of 9 lines, N s"})
         stream = io.StringIO()
         self.tell(stream, lambda _: time.sleep(0.3), at_terminals_alone=True)
         self.assertEqual(stream.getvalue(), "")
         self.assertEqual(Progress.MINUTE, 60)
 
     def test_works_that_follow_on_each_other_are_silent_together(self):
-        terminal, later = Terminal(), mock.patch.multiple(Quick, SILENT=0.3)
+        terminal, later = Terminal(), mock.patch.multiple(Quick, SILENT=1.0)
         with later, Quick("reading", stream=terminal.stream):
-            time.sleep(0.25)
-        with later, Quick("drawing", stream=terminal.stream):
-            time.sleep(0.25)
-        self.assertEqual(set(shown(terminal.seen())), {"drawing, 0 s"})
+            time.sleep(0.1)
+        with later, Quick("drawing", stream=terminal.stream) as progress:
+            self.assertLess(Progress.whole_began, progress.began - 0.05)
+            until_shown(progress)
+        self.assertEqual(set(shown(terminal.seen())), {"drawing, N s"})
         with mock.patch.object(Progress, "last_ended", 0.0), Quick("writing", stream=io.StringIO()):
-            self.assertGreater(Progress.whole_began, time.monotonic() - 0.1)
+            self.assertEqual(Progress.whole_began, Progress.at_work[0].began)
 
     def test_the_inner_work_is_shown_alone(self):
         terminal = Terminal()
-        with Quick("seeds", stream=terminal.stream):
-            time.sleep(0.2)
-            with Quick("lines", stream=terminal.stream):
-                time.sleep(0.2)
+        with Quick("seeds", stream=terminal.stream) as outer:
+            until_shown(outer)
+            with Quick("lines", stream=terminal.stream) as inner:
+                until_shown(inner)
         places = [line.split(",")[0] for line in shown(terminal.seen())]
         self.assertEqual(places, sorted(places, reverse=True))
         self.assertEqual(set(places), {"seeds", "lines"})
 
     def test_a_printed_line_takes_the_place_of_what_is_shown(self):
         terminal = Terminal()
-        with contextlib.redirect_stdout(terminal.stream), Quick("lines", stream=terminal.stream):
-            time.sleep(0.1)
+        with contextlib.redirect_stdout(terminal.stream), Quick("lines", stream=terminal.stream) as progress:
+            until_shown(progress)
             print_line("found")
-        self.assertRegex(terminal.seen(), "lines, 0 s\x1b\\[K\r\x1b\\[Kfound\r\n")
+        self.assertRegex(terminal.seen(), "lines, \\d+ s\x1b\\[K\r\x1b\\[Kfound\r\n")
 
     def test_items_are_counted(self):
         with Progress("items", 3) as progress:
@@ -195,14 +205,14 @@ class ToolsTest(unittest.TestCase):
         with open(log, "w", encoding="ascii") as out, contextlib.redirect_stdout(out):
             write_log(2000, 20000)
         self.check_shows(
-            r"\[#+-*\] [\d,]+ of [\d,]+ lines checked, [23] s", "check-heap-log", log, "--program",
+            r"\[#+-*\] [\d,]+ of [\d,]+ lines checked, N s", "check-heap-log", log, "--program",
             self.program(SLOW_CHECK),
         )
 
     def test_a_comparison(self):
         slow = self.program("#!/bin/sh\nsleep 1.1\nexit 1\n")
         self.check_shows(
-            r"[\d,]+ runs to leave out lines, \d+ s", "check-step", "--collector", slow, "--seeds", "0",
+            r"[\d,]+ runs to leave out lines, N s", "check-step", "--collector", slow, "--seeds", "0",
             "--lines", "20", status=1,
         )
 
@@ -210,7 +220,7 @@ class ToolsTest(unittest.TestCase):
         trace = self.folder / "trace"
         trace.write_text("zone\ncomp 0\n")
         slow = self.program(SLOW_COMP)
-        self.check_shows(r"\[#{8}-{8}\] 1 of 2 lines, 2 s", "stats", trace, "--program", slow)
+        self.check_shows(r"\[#{8}-{8}\] 1 of 2 lines, N s", "stats", trace, "--program", slow)
 
 
 if __name__ == "__main__":
