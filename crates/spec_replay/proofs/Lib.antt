@@ -2,3 +2,4 @@ pub mod Sorted
 pub mod Starts
 pub mod Written
 pub mod Runs
+pub mod Traces

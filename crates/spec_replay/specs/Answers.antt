@@ -1,7 +1,7 @@
 -- What a line is answered, and what a whole trace is.
-use Rattle.std.specs.Prelude.{◌≡◌, ◌⊎◌, ℕ, ◌+◌, ◌-◌, ◌^◌, List, [], ◌++◌, Option, codes, ⊤}
-use Rattle.std.specs.Io.KnownBytes.{Appends}
-use Rattle.gz_io.specs.Lines.{EndsLine, IsNotAscii, IsTooLong}
+use Rattle.std.specs.Prelude.{◌≡◌, ◌⊎◌, ℕ, zero, suc, ◌+◌, ◌-◌, ◌^◌, List, [], ◌++◌, Option, Some, codes, ⊤}
+use Rattle.std.specs.Io.KnownBytes.{Appends, prepend_known}
+use Rattle.gz_io.specs.Lines.{EndsLine, IsNotAscii, IsPlain, IsTooLong}
 use Rattle.gz_names.specs.declared.names.Name.{Name}
 use Rattle.gz_names.specs.declared.commands.Cmd.{Cmd}
 use Rattle.gz_names.specs.declared.commands.Cmd.TheVariants as command
@@ -58,13 +58,22 @@ abbrev pub HasAnswered : List ℕ → ℕ → List ℕ → Option (List ℕ) →
 HasAnswered input n rest old new =
     (text : List ℕ) × (h : GraphState) × Answers empty_graph input n rest text h × Appends old new text
 
--- what was written, by how the replay ends: the answers of whole lines. After a failed write nothing is told
-abbrev pub EndsBy : List ℕ → Option (List ℕ) → Option (List ℕ) → ReplayEnd → Type 0
-EndsBy input old new end.Done = (n : ℕ) × HasAnswered input n [] old new
-EndsBy input old new (end.BadLine n) =
+-- the bytes are this number of lines, each of which stands for a command
+abbrev pub IsTrace : ℕ → List ℕ → Type 0
+IsTrace zero input = input ≡ []
+IsTrace (suc n) input =
+    (line more : List ℕ) × (c : Cmd) × EndsLine input more line × Spells line c × IsTrace n more
+
+-- what was written, by how the replay ends: the answers of whole lines. At a failed read each line that has its line
+-- feed in the bytes taken was answered: what was taken behind them, before the bytes that are left, has none. After a
+-- failed write nothing is told
+abbrev pub EndsBy : List ℕ → Option (List ℕ) → Option (List ℕ) → Option (List ℕ) → ReplayEnd → Type 0
+EndsBy input left old new end.Done = (n : ℕ) × HasAnswered input n [] old new
+EndsBy input left old new (end.BadLine n) =
     (k : ℕ) × (rest : List ℕ) × HasAnswered input k rest old new × IsBadNext rest × (n ≡ k + 1)
-EndsBy input old new end.ReadFault = (n : ℕ) × (rest : List ℕ) × HasAnswered input n rest old new
-EndsBy input old new end.WriteFault = ⊤
-EndsBy input old new end.NoMemory = (n : ℕ) × (rest : List ℕ) × HasAnswered input n rest old new
-EndsBy input old new end.TooManyLines =
+EndsBy input left old new end.ReadFault = (n : ℕ) × (rest held : List ℕ) × HasAnswered input n rest old new
+    × IsPlain held × (prepend_known held left ≡ Some rest)
+EndsBy input left old new end.WriteFault = ⊤
+EndsBy input left old new end.NoMemory = (n : ℕ) × (rest : List ℕ) × HasAnswered input n rest old new
+EndsBy input left old new end.TooManyLines =
     (n : ℕ) × (rest : List ℕ) × (n ≡ 2 ^ 64 - 1) × HasAnswered input n rest old new

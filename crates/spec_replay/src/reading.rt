@@ -1,7 +1,7 @@
 // The reading loop.
-ghost use Rattle.std.specs.Prelude.{◌≡◌, ◌↔◌, ℕ, IsTrue, List, Some};
+ghost use Rattle.std.specs.Prelude.{◌≡◌, ◌↔◌, ◌⊎◌, ◌<◌, ◌-◌, ◌^◌, ℕ, IsTrue, List, Some};
 ghost use Rattle.gz_io.specs.Causes.{Rose};
-ghost use Rattle.spec_replay.specs.Answers.{EndsBy};
+ghost use Rattle.spec_replay.specs.Answers.{EndsBy, IsTrace};
 
 use crate::answer::{LineFault, answer_line};
 use gz_io::{LineReader, Next, Sink, Source};
@@ -57,10 +57,16 @@ impl Display for ReplayEnd {
     }
 }
 
-/// Answers each line of a trace by the specification, on a new graph.
+/// Answers each line of a trace by the specification, on a new graph. A trace of fewer than 2^64 - 1 lines, all of the
+/// language, is answered to its end, unless memory runs out or a count of faults rises.
 pub fn replay<S: Source, K: Sink>(alloc: Global, source: &mut S, sink: &mut K) -> ReplayEnd
     ensures answers { (input : List ℕ) → S.left source.old ≡ Some input
-        → EndsBy input (K.written sink.old) (K.written sink.new) result }
+        → EndsBy input (S.left source.new) (K.written sink.old) (K.written sink.new) result }
+    ensures complete { (input : List ℕ) (lines : ℕ) → S.left source.old ≡ Some input → IsTrace lines input
+        → lines < 2 ^ 64 - 1
+        → (Rose (S.faults source.old) (S.faults source.new) → ⊥)
+        → (Rose (K.faults sink.old) (K.faults sink.new) → ⊥)
+        → (result ≡ ReplayEnd.Done) ⊎ (result ≡ ReplayEnd.NoMemory) }
     ensures read { result ≡ ReplayEnd.ReadFault → Rose (S.faults source.old) (S.faults source.new) }
     ensures write { result ≡ ReplayEnd.WriteFault → Rose (K.faults sink.old) (K.faults sink.new) }
 {

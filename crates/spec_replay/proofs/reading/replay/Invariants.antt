@@ -1,7 +1,7 @@
-use Rattle.std.proofs.Common.{◌≡◌, ℕ, List, Some}
+use Rattle.std.proofs.Common.{◌≡◌, ◌+◌, ℕ, List, Some}
 use Rattle.std.specs.Io.KnownBytes.{Appends, prepend_known}
 use Rattle.colour_defs.specs.Graph.{empty_graph}
-use Rattle.spec_replay.specs.Answers.{Answers}
+use Rattle.spec_replay.specs.Answers.{Answers, IsTrace}
 use Rattle.spec_replay.proofs.reading.replay.Given as goal
 
 abbrev pub invariant-loop-answered : goal.invariant-loop-answered
@@ -11,5 +11,6 @@ invariant-loop-answered g l = record {
   so : (input : List ℕ) → g.S.Source.left l.fn.source ≡ Some input → (rest : List ℕ)
       × (prepend_known l.reader.held (g.S.Source.left l.source) ≡ Some rest) × (text : List ℕ)
       × Answers empty_graph input l.answered rest text l.graph
-      × Appends (g.K.Sink.written l.fn.sink) (g.K.Sink.written l.sink) text;
+      × Appends (g.K.Sink.written l.fn.sink) (g.K.Sink.written l.sink) text
+      × ((n : ℕ) → IsTrace n input → (k : ℕ) × IsTrace k rest × (l.answered + k ≡ n));
 }
