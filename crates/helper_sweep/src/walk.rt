@@ -1,5 +1,5 @@
 // The walk of a helper, and main's work beside the helpers.
-ghost use Rattle.std.specs.Prelude.{◌≡◌, ℕ, ◌<◌, All, length, slice_index_or};
+ghost use Rattle.std.specs.Prelude.{◌≡◌, ℕ, ◌<◌, [], All, length, slice_index_or};
 ghost use Rattle.gz_io.specs.declared.gate.Point.TheVariants as point;
 ghost use Rattle.cell_bits.specs.Jobs.{job_at};
 ghost use Rattle.sweep_board.specs.Seats.{board_len, jobs_of, helper_view_of};
@@ -7,22 +7,12 @@ ghost use Rattle.sweep_board.specs.declared.board.HelperSeat.{HelperSeat as ASea
 ghost use Rattle.sweep_board.specs.Views.{IsNoted};
 ghost use Rattle.helper_sweep.specs.Walks.{IsIdle, HasWalked, VisitsArena, WalksInOrder};
 
+use crate::works::Works;
 use gz_io::Gate;
 use std::sync::Wait;
 use std::thread::{Threads, for_each_mut, join_mut};
 use sweep_board::{Board, HelperSeat};
-
-/// What main does while helpers sweep. Its result stands in its fields.
-pub trait MainWork {
-    /// What has to hold before the work is done.
-    ghost ready: { Self → Type 0 };
-    /// How the work stands before and after it is done.
-    ghost ran: { Self → Self → Type 0 };
-
-    fn run(&mut self)
-        requires { ready self.old }
-        ensures { ran self.old self.new };
-}
+use sweeping::Sweeping;
 
 // Claims the arena, stands at the gate and sweeps it, or notes that it is not ready.
 fn visit<G: Gate>(board: &Board, seat: &mut HelperSeat, gate: &G, index: u32)
@@ -69,24 +59,27 @@ fn all_help<R: Threads + Sync, G: Gate + Sync>(
     for_each_mut(rt, seats, helpers, &|_, seat| help(board, seat, gate));
 }
 
-/// Does main's work here, beside one helper for each seat in threads of their own, and waits for
-/// the helpers as it ends. With no seat it starts no thread.
-pub fn with_helpers<R: Threads + Wait + Sync, G: Gate + Sync, M: MainWork + Send>(
+/// Does main's work here, over this flight, beside one helper for each seat in threads of their own, and
+/// waits for the helpers as it ends. With no seat it starts no thread.
+pub fn with_helpers<R: Threads + Wait + Sync, G: Gate + Sync, W: Works + Send, F: Sweeping + Send>(
     rt: &R,
     board: &Board,
     seats: &mut [HelperSeat],
     gate: &G,
-    main_work: &mut M,
+    work: &mut W,
+    flight: &mut F,
 )
     requires seats { All (IsIdle board.now) seats.old }
-    requires work { M.ready main_work.old }
+    requires ready { W.ready work.old (F.left (F.origin flight.old)) (F.bits flight.old) }
     ensures seats { All (HasWalked board.now) seats.new }
     ensures order { (k : ℕ) (d : ASeat) → k < length seats.old → WalksInOrder board.now G.name
         (G.passed gate.now point.Claimed) (slice_index_or seats.old k d) (slice_index_or seats.new k d) }
-    ensures work { M.ran main_work.old main_work.new }
+    ensures ran { W.ran work.old (F.left (F.origin flight.old)) (F.bits flight.old) work.new }
+    ensures home { F.home (F.origin flight.new) ≡ F.home (F.origin flight.old) }
+    ensures taken { F.left (F.origin flight.new) ≡ [] }
 {
     if seats.is_empty() {
-        main_work.run();
+        work.run(flight);
         return;
     }
     join_mut(
@@ -96,7 +89,7 @@ pub fn with_helpers<R: Threads + Wait + Sync, G: Gate + Sync, M: MainWork + Send
             requires idle { All (IsIdle board.now) seats.now }
         { all_help(rt, board, seats, gate) },
         &mut ||
-            requires { M.ready main_work.now }
-        { main_work.run() },
+            requires { W.ready work.now (F.left (F.origin flight.now)) (F.bits flight.now) }
+        { work.run(flight) },
     );
 }

@@ -14,12 +14,6 @@ outs_on b = drop b.next (outs_of (jobs_of b.flight.board.now))
 abbrev pub bits_on : {R : Type 0} → OnBoard R → ℕ → Option Bits
 bits_on b = flight_bits (main_view_of b.flight.main)
 
--- main took all arenas of the board in
-pub record HasEmptied {R : Type 0} (old new : OnBoard R) : Type 0 where
-  pub none : outs_on new ≡ []
-  pub board : new.flight.board.now ≡ old.flight.board.now
-  pub helpers : (main_view_of new.flight.main).helpers ≡ (main_view_of old.flight.main).helpers
-
 -- main has woken nothing yet, and taken nothing in
 pub record IsFresh (v : View) : Type 0 where
   pub woken : v.woken ≡ []

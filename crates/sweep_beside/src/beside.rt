@@ -1,59 +1,22 @@
 // Main's work beside helpers, on a board that is made for it.
-ghost use Rattle.std.specs.Prelude.{◌≡◌, ℕ, ◌<◌, [], true, All, List, OnErr, OnOk, Option};
+ghost use Rattle.std.specs.Prelude.{◌≡◌, ℕ, ◌<◌, true, All, OnErr, OnOk};
 ghost use Rattle.std.specs.Int.{div_ceil};
-ghost use Rattle.cell_bits.specs.declared.bits.Bits.{Bits as ABits};
 ghost use Rattle.sweep_board.specs.Seats.{board_len, jobs_of, main_view_of, IsMainOf};
 ghost use Rattle.sweep_board.specs.Views.{is_taken};
 ghost use Rattle.sweeping.specs.ArenasOut.{Ascend, flown_by, outs_of};
 ghost use Rattle.helper_sweep.specs.Walks.{IsIdle};
-ghost use Rattle.sweep_beside.specs.Boards.{bits_on, outs_on, HasEmptied, IsFresh};
+ghost use Rattle.sweep_beside.specs.Boards.{IsFresh};
 
 use crate::on_board::OnBoard;
 use arena_table::Jobs;
 use gz_io::Gate;
 use gz_names::NoMemory;
-use helper_sweep::{MainWork, join_seats, split_seats, with_helpers};
+use helper_sweep::{Works, join_seats, split_seats, with_helpers};
 use std::alloc::{AllocError, Global};
 use std::sync::Wait;
 use std::thread::Threads;
 use sweep_board::{Board, HelperSeat, InFlight, MainSeat};
 use sweeping::{MainSweeper, Sweeper, Sweeping};
-
-// The number of arenas for which one helper more starts.
-const ARENAS_A_HELPER: usize = 1024;
-
-/// What main does while arenas are out, until none is. Its result stands in its fields.
-pub trait Works {
-    /// What the work asks of the arenas that are out, each with the slots to free, and of their bits.
-    ghost ready: { Self → List (ℕ × ℕ) → (ℕ → Option ABits) → Type 0 };
-    /// How it stands before, with these arenas and bits, and after.
-    ghost ran: { Self → List (ℕ × ℕ) → (ℕ → Option ABits) → Self → Type 0 };
-
-    /// Does the work, and takes all arenas in.
-    fn run<F: Sweeping>(&mut self, flight: &mut F)
-        requires { ready self.old (F.left (F.origin flight.old)) (F.bits flight.old) }
-        ensures ran { ran self.old (F.left (F.origin flight.old)) (F.bits flight.old) self.new }
-        ensures home { F.home (F.origin flight.new) ≡ F.home (F.origin flight.old) }
-        ensures taken { F.left (F.origin flight.new) ≡ [] };
-}
-
-// Main's work, and the arenas on a board that it is over.
-struct OverBoard<'a, 'b, R: Threads + Wait, W: Works> {
-    work: &'a mut W,
-    board: &'a mut OnBoard<'b, R>,
-}
-
-impl<'a, 'b, R: Threads + Wait, W: Works> MainWork for OverBoard<'a, 'b, R, W> {
-    ghost ready = { λ s. W.ready s.work.now (outs_on s.board.now) (bits_on s.board.now) };
-
-    ghost ran = { λ s t. (t.work.ghost_name ≡ s.work.ghost_name) × (t.board.ghost_name ≡ s.board.ghost_name)
-        × W.ran s.work.now (outs_on s.board.now) (bits_on s.board.now) t.work.now
-        × HasEmptied s.board.now t.board.now };
-
-    fn run(&mut self) {
-        self.work.run(self.board);
-    }
-}
 
 // Has the work done over a board beside its helpers. Main's seat comes back, and its own helper's seat.
 fn work_on<'b, R: Threads + Wait + Sync, G: Gate + Sync, W: Works + Send>(
@@ -83,12 +46,7 @@ fn work_on<'b, R: Threads + Wait + Sync, G: Gate + Sync, W: Works + Send>(
         own_seat,
         next: 0,
     };
-    let mut over_board = OverBoard {
-        work,
-        board: &mut on_board,
-    };
-    with_helpers(rt, board, seats, gate, &mut over_board);
-    let OverBoard { work: _, board: _ } = over_board;
+    with_helpers(rt, board, seats, gate, work, &mut on_board);
     let OnBoard {
         rt: _,
         flight,
@@ -99,11 +57,12 @@ fn work_on<'b, R: Threads + Wait + Sync, G: Gate + Sync, W: Works + Send>(
     (main, own_seat)
 }
 
-// How many helpers are of use for these arenas: starting a thread takes longer than sweeping some hundred arenas.
-fn most_helpers(arenas: usize) -> usize
-    ensures { result ≡ div_ceil arenas 1024 }
+// How many helpers are of use for these arenas.
+fn most_helpers(arenas: usize, arenas_a_helper: usize) -> usize
+    requires { 0 < arenas_a_helper }
+    ensures { result ≡ div_ceil arenas arenas_a_helper }
 {
-    arenas.div_ceil(ARENAS_A_HELPER)
+    arenas.div_ceil(arenas_a_helper)
 }
 
 // Sweeps the arenas of these jobs and takes them in: memory for their board is wanted, which is the answer.
@@ -131,18 +90,21 @@ fn sweep_by_main<W: Works>(alloc: Global, jobs: Jobs, work: &mut W)
 }
 
 /// Has the work done over the arenas of these jobs, beside this many helpers that sweep them, and no more than one for
-/// each 1,024 arenas begun (our choice). All helpers' seats are joined and the board is closed as it returns. Where
-/// there are no helpers, main sweeps each arena as it takes it in, and no board is made. Where memory for the board or
-/// its seats is wanted, nothing is done of the work: main sweeps the arenas, and takes them in.
+/// each `arenas_a_helper` arenas begun. All helpers' seats are joined and the board is closed as it returns, since
+/// nothing else ends a board. Where there are no helpers, main sweeps each arena as it takes it in, and no board is
+/// made. Where memory for the seats or their board is wanted, nothing is done of the work: main sweeps the arenas, and
+/// takes them in.
 pub fn sweep_beside<R: Threads + Wait + Sync, G: Gate + Sync, W: Works + Send>(
     rt: &R,
     alloc: Global,
     jobs: Jobs,
     helpers: usize,
+    arenas_a_helper: usize,
     gate: &G,
     work: &mut W,
 ) -> Result<(), NoMemory>
     requires ascending { Ascend (outs_of jobs) }
+    requires some { 0 < arenas_a_helper }
     requires ready { W.ready work.old (outs_of jobs) (flown_by jobs) }
     ensures ran { OnOk result (W.ran work.old (outs_of jobs) (flown_by jobs) work.new) }
     ensures kept { OnErr result (work.new ≡ work.old) }
@@ -155,14 +117,15 @@ pub fn sweep_beside<R: Threads + Wait + Sync, G: Gate + Sync, W: Works + Send>(
     if arenas > u32::MAX as usize {
         return Err(sweep_alone(alloc, jobs));
     }
+    let count = most_helpers(arenas, arenas_a_helper).min(helpers);
+    let Ok(mut seats) = Vec::with_capacity(alloc, count) else {
+        return Err(sweep_alone(alloc, jobs));
+    };
     let Ok((board, mut main)) = Board::new(alloc, jobs.as_slice()) else {
         return Err(sweep_alone(alloc, jobs));
     };
     let own_seat = board.split(&mut main);
-    let Ok(mut seats) = split_seats(alloc, &board, &mut main, most_helpers(arenas).min(helpers))
-    else {
-        return Err(sweep_alone(alloc, jobs));
-    };
+    split_seats(&board, &mut main, &mut seats, count);
     let (mut main, own_seat) = work_on(
         rt,
         &board,

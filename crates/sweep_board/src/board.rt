@@ -31,8 +31,8 @@ const FREED: usize = 3;
 
 const WORDS: usize = 4;
 
-/// The arenas that were handed to sweeping, as atomic words.
-#[derive(Drop)]
+/// The arenas that were handed to sweeping, as atomic words. It can't be let go, so only `close` ends it,
+/// once all arenas were taken in and all helpers' seats are joined.
 pub struct Board {
     table: Table<(), View, Vec<Job>, Ruled, Global>,
     jobs: Vec<Job>,
@@ -43,7 +43,7 @@ pub struct Board {
     ghost ascending: { ArenasAscend jobs.items },
 }
 
-/// Main's seat: it wakes cells in flight, and takes arenas in.
+/// Main's seat: it wakes cells in flight, and takes arenas in. Nothing but it closes its board.
 #[derive(Drop)]
 pub struct MainSeat {
     seat: Seat<(), View>,

@@ -31,6 +31,10 @@ use std::thread::Threads;
 use sweep_beside::{Works, sweep_beside};
 use sweeping::MainSweeper;
 
+// One helper at most starts for each so many arenas begun: starting a thread takes longer than sweeping some hundred
+// arenas (our choice).
+const ARENAS_A_HELPER: usize = 1_024;
+
 // A new collector.
 pub fn first_collector(alloc: Global) -> Result<Collector, NoMemory>
     ensures { IfOk result IsFirst }
@@ -96,7 +100,7 @@ pub fn run_on<
         match session.run.handed.take() {
             Some(jobs) => {
                 let count = helpers.beside(&jobs);
-                if sweep_beside(rt, alloc, jobs, count, gate, session).is_err() {
+                if sweep_beside(rt, alloc, jobs, count, ARENAS_A_HELPER, gate, session).is_err() {
                     return end_so(session.sink, Exit::NoMemory);
                 }
             }

@@ -14,7 +14,7 @@ new-requires-clause-ascending g c =
 
 pub join_seats-requires-clause-seats : goal.join_seats-requires-clause-seats
 join_seats-requires-clause-seats g c =
-    subst (λ (seats : List HelperSeat). All (IsIdle c.in-Ok.board) seats)
-    (sym (whole_slice c.work_on-main.new.seats c.in-Ok-split_seats.seats.items _
-    (c.work_on-main.auto.seats ∙ c.as_mut_slice.ensures.len) (sym c.in-Ok-split_seats.seats.ok.0)))
+    subst (λ (seats : List HelperSeat). All (IsIdle c.in-Ok-new.board) seats)
+    (sym (whole_slice c.work_on-main.new.seats c.split_seats.new.seats.items _
+    (c.work_on-main.auto.seats ∙ c.as_mut_slice.ensures.len) (sym c.split_seats.new.seats.ok.0)))
     c.work_on-main.ensures.seats
