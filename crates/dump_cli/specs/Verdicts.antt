@@ -1,10 +1,10 @@
 -- The verdict on the bytes of a dump, and its text.
-use Rattle.std.specs.Prelude.{◌≡◌, ◌≢◌, ℕ, ◌+◌, ◌==◌, List, [], ◌∷◌, ◌++◌, Option, Result, Ok, Err, codes, length, ◌⊎◌}
+use Rattle.std.specs.Prelude.{◌≡◌, ◌≢◌, ℕ, ◌+◌, ◌==◌, List, [], ◌∷◌, ◌++◌, Option, Some, Result, Ok, Err, codes, length, ◌⊎◌}
 use Rattle.std.specs.Prelude.{if◌then◌else◌, IsTrue, ⊤, ◌≤◌}
 use Rattle.std.specs.Fmt.{decimal}
-use Rattle.std.specs.Io.KnownBytes.{Appends}
+use Rattle.std.specs.Io.KnownBytes.{Appends, prepend_known}
 use Rattle.gz_io.specs.Causes.{AppendsFront}
-use Rattle.gz_io.specs.Lines.{EndsLine, IsNotAscii, IsTooLong}
+use Rattle.gz_io.specs.Lines.{EndsLine, IsNotAscii, IsPlain, IsTooLong}
 use Rattle.gz_names.specs.declared.dumps.DumpFault.{DumpFault}
 use Rattle.gz_names.specs.declared.dumps.DumpFault.TheVariants as fault
 use Rattle.gz_names.specs.declared.dumps.DumpLine.{DumpLine}
@@ -46,6 +46,16 @@ IsVerdictOn input (Fault n why) = (ls : List DumpLine) × (rest : List ℕ) × A
     × IsFaultNext ls rest n why
 IsVerdictOn input (Bad n) = (ls : List DumpLine) × (rest : List ℕ) × AreReadSo input ls rest × (n ≡ length ls + 1)
     × IsBadNext ls rest
+
+-- no line of the bytes taken decides: those that have their line feed are sound ones, and what was taken behind them,
+-- before the bytes that are left, has none
+pub record IsUndecided (input : List ℕ) (left : Option (List ℕ)) : Type 0 where
+  pub lines : List DumpLine
+  pub rest : List ℕ
+  pub held : List ℕ
+  pub so : AreReadSo input lines rest
+  pub plain : IsPlain held
+  pub taken : prepend_known held left ≡ Some rest
 
 -- so many sound lines come first that no more are counted, and bytes come after them
 pub record HasTooMany (input : List ℕ) : Type 0 where

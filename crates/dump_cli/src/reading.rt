@@ -1,8 +1,8 @@
 // The reading loop.
 ghost use Rattle.std.specs.Prelude.{◌≡◌, ◌<◌, ◌↔◌, ◌⊎◌, List, ℕ, Some, Err, IfOk, IsTrue, OnOk};
 ghost use Rattle.gz_io.specs.Causes.{Rose};
-ghost use Rattle.dump_cli.specs.Verdicts.{EndsBy, HasTooMany, IsJudged, IsUnjudged, IsVerdictOn, IsWellFormed};
-ghost use Rattle.dump_cli.specs.Verdicts.{refusal_after};
+ghost use Rattle.dump_cli.specs.Verdicts.{EndsBy, HasTooMany, IsJudged, IsUndecided, IsUnjudged, IsVerdictOn};
+ghost use Rattle.dump_cli.specs.Verdicts.{IsWellFormed, refusal_after};
 
 use crate::verdicts::verdict_text;
 use dump_check::{Checker, Verdict};
@@ -89,6 +89,8 @@ fn judge<S: Source>(alloc: Global, source: &mut S) -> Result<Verdict, NoVerdict>
     ensures judged { (input : List ℕ) → S.left source.old ≡ Some input → IsWellFormed input → IsJudged result }
     ensures unjudged { (input : List ℕ) → S.left source.old ≡ Some input → HasTooMany input → IsUnjudged result }
     ensures read { result ≡ Err NoVerdict.Read → Rose (S.faults source.old) (S.faults source.new) }
+    ensures undecided { result ≡ Err NoVerdict.Read → (input : List ℕ) → S.left source.old ≡ Some input
+        → IsUndecided input (S.left source.new) }
     ensures quiet { OnOk result (S.faults source.new ≡ S.faults source.old) }
 {
     let mut reader = LineReader::new();
@@ -112,7 +114,8 @@ fn judge<S: Source>(alloc: Global, source: &mut S) -> Result<Verdict, NoVerdict>
     Err(NoVerdict::TooManyLines)
 }
 
-/// Reads a dump, and writes its verdict as one line.
+/// Reads a dump, and writes its verdict as one line. Behind the line that decides nothing is read: a read can only fail
+/// where none of the lines taken decides.
 pub fn check<S: Source, K: Sink>(alloc: Global, source: &mut S, sink: &mut K) -> CheckEnd
     ensures verdict { (input : List ℕ) → S.left source.old ≡ Some input
         → EndsBy input (K.written sink.old) (K.written sink.new) result }
@@ -125,6 +128,8 @@ pub fn check<S: Source, K: Sink>(alloc: Global, source: &mut S, sink: &mut K) ->
     ensures quiet { (result ≡ CheckEnd.Sound) ⊎ (result ≡ CheckEnd.Unsound)
         → (S.faults source.new ≡ S.faults source.old) × (K.faults sink.new ≡ K.faults sink.old) }
     ensures read { result ≡ CheckEnd.ReadFault → Rose (S.faults source.old) (S.faults source.new) }
+    ensures undecided { result ≡ CheckEnd.ReadFault → (input : List ℕ) → S.left source.old ≡ Some input
+        → IsUndecided input (S.left source.new) }
     ensures write { result ≡ CheckEnd.WriteFault → Rose (K.faults sink.old) (K.faults sink.new) }
 {
     let verdict = match judge(alloc, source) {

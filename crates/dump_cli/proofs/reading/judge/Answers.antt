@@ -1,4 +1,4 @@
-use Rattle.std.proofs.Common.{◌∙◌, arith}
+use Rattle.std.proofs.Common.{◌∙◌, Some, ap, arith, refl}
 use Rattle.std.specs.declared.alloc.AllocError.{AllocError}
 use Rattle.dump_cli.proofs.Judging.{end_judged, end_unjudged, line_judged, line_unjudged, refusal_unjudged}
 use Rattle.dump_cli.proofs.Judging.{well_counted, well_refused}
@@ -45,6 +45,19 @@ returns-then-read-eq4294967295-clause-many g c = λ too input e.
       so = i.3;
       count = i.5 ∙ c.if-read-eq4294967295.true;
       more = line_there i.1 given.0 _ given.2.3;
+    }
+
+pub returns-in-ReadFault-clause-undecided : goal.returns-in-ReadFault-clause-undecided
+returns-in-ReadFault-clause-undecided g c = λ failed input e.
+    let i = c.loop-read.invariant.so input e in
+    let given = gives_of _ _ _ _ i.1 c.in-ReadFault.ensures.bytes i.2 in
+    record {
+      lines = i.0;
+      rest = i.1;
+      held = _;
+      so = i.3;
+      plain = c.in-ReadFault.ensures.none_held refl;
+      taken = given.1 ∙ ap (λ r. Some r) given.2;
     }
 
 pub loop-read-preserved : goal.loop-read-preserved
