@@ -1,5 +1,5 @@
 -- What is still to come of a trace.
-use Rattle.std.specs.Prelude.{ℕ, List, Option}
+use Rattle.std.specs.Prelude.{◌≡◌, ℕ, List, Option}
 use Rattle.std.specs.Io.KnownBytes.{prepend_known}
 
 pub record Input : Type 0 where
@@ -13,3 +13,7 @@ pub record Input : Type 0 where
 -- all bytes to come, where they are told
 abbrev pub to_come : Input → Option (List ℕ)
 to_come i = prepend_known i.held i.left
+
+-- nothing of the bytes behind those that are held was read
+abbrev pub IsUnread : Input → Input → Type 0
+IsUnread old new = (new.left ≡ old.left) × (new.faults ≡ old.faults)

@@ -3,7 +3,7 @@ ghost use Rattle.std.specs.Prelude.{◌≡◌, ◌≢◌, ◌↔◌, ℕ, Contai
 ghost use Rattle.gz_io.specs.Causes.{Rose};
 ghost use Rattle.gz_io.specs.Lines.{IsPlain};
 ghost use Rattle.command_source.specs.Giving.{GivesNext};
-ghost use Rattle.command_source.specs.Input.{Input, to_come};
+ghost use Rattle.command_source.specs.Input.{Input, IsUnread, to_come};
 
 use gz_names::Cmd;
 
@@ -22,8 +22,13 @@ pub enum NextCommand {
 
 /// Where the commands of a trace come from.
 pub trait CommandSource {
+    /// What the source reads from. Contracts alone see its values.
+    type Behind;
+
     // what is still to come
     ghost input: { Self → Input };
+    // what it reads from, as it stands
+    ghost behind: { Self → Self.Behind };
     // the name of the borrow that it reads from, for a source that has one; the same after each call
     ghost lender: { Self → ℕ };
 
@@ -34,6 +39,9 @@ pub trait CommandSource {
     /// Takes the next line, and gives the command that it stands for.
     fn next(&mut self) -> NextCommand
         ensures gives { GivesNext (to_come (input self.old)) (to_come (input self.new)) result }
+        // while a line feed is held, nothing is read
+        ensures takes_late { Contains (input self.old).held 10 → (behind self.new ≡ behind self.old)
+            × IsUnread (input self.old) (input self.new) }
         // every whole line of the bytes that were read was given before
         ensures none_held { result ≡ NextCommand.ReadFault → IsPlain (input self.new).held }
         ensures fault { result ≡ NextCommand.ReadFault → Rose (input self.old).faults (input self.new).faults }

@@ -11,11 +11,15 @@ pub struct TraceSource<'s, S: Source> {
 }
 
 impl<'s, S: Source> CommandSource for TraceSource<'s, S> {
+    type Behind = S;
+
     ghost input = { λ t. record {
       held = t.reader.held;
       left = S.left t.source.now;
       faults = S.faults t.source.now;
     } };
+
+    ghost behind = { λ t. t.source.now };
 
     ghost lender = { λ t. t.source.ghost_name };
 

@@ -46,7 +46,11 @@ impl StormSource {
 }
 
 impl CommandSource for StormSource {
+    type Behind = ();
+
     ghost input = { λ s. record { held = []; left = Some s; faults = 0 } };
+
+    ghost behind = { λ _. tt };
 
     ghost lender = { λ _. 0 };
 
