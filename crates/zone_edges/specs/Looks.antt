@@ -1,6 +1,7 @@
 -- The wrappers that are looked at, and the edges that they lead along.
-use Rattle.std.specs.Prelude.{◌≡◌, ◌≢◌, ℕ, zero, suc, ◌+◌, ◌-◌, ◌*◌, ◌<◌, ◌≤◌, ◌⊎◌, ◌↔◌, Option, Some, Contains, length}
-use Rattle.std.specs.Prelude.{List, slice_get, slice_index, slice_index_or, slice_set}
+use Rattle.std.specs.Prelude.{◌≡◌, ◌≢◌, ℕ, zero, suc, ◌+◌, ◌-◌, ◌*◌, ◌<◌, ◌≤◌, ◌⊎◌, ◌↔◌, Bool, Option, Some, Contains}
+use Rattle.std.specs.Prelude.{length}
+use Rattle.std.specs.Prelude.{true, false, List, slice_get, slice_index, slice_index_or, slice_set}
 use Rattle.std.specs.Int.{bit_at}
 use Rattle.std.specs.Option.{option_map}
 use Rattle.gz_names.specs.Zones.{HasZone}
@@ -15,8 +16,6 @@ use Rattle.heap_core.specs.declared.plans.Change.{Change}
 use Rattle.heap_core.specs.declared.plans.Change.TheVariants as change
 use Rattle.heap_core.specs.Shape.{Shape, IsPresent, cell_of, field_at, zone_of}
 use Rattle.heap_core.specs.Heap.{HeapState, colour_of}
-use Rattle.zone_edges.specs.declared.look.Look.{Look}
-use Rattle.zone_edges.specs.declared.look.Look.TheVariants.{Did, Empty}
 use Rattle.zone_edges.specs.Groups.{Edge}
 use Rattle.zone_edges.specs.Noted.{Noted}
 
@@ -100,12 +99,7 @@ pub record LooksAtNext (h : HeapState) (old new : Noted) : Type 0 where
   pub edges : (a b : ℕ) → Edge new.sources a b ↔ (Edge old.sources a b ⊎ LeadsFrom h old.zones wrapper a b)
   pub left : left_to_look h.shape old ≡ left_to_look h.shape new + 1
 
--- what a look does
-abbrev pub Looks : HeapState → Noted → Look → Noted → Type 0
-Looks h old Did new = LooksAtNext h old new
-Looks h old Empty new = AreAllLookedAt h.shape old × (new ≡ old)
-
--- how many edges a look reads
-abbrev pub edges_read : Look → ℕ
-edges_read Did = 1
-edges_read Empty = 0
+-- a look was done, or each wrapper was looked at
+abbrev pub Looks : HeapState → Noted → Bool → Noted → Type 0
+Looks h old true new = LooksAtNext h old new
+Looks h old false new = AreAllLookedAt h.shape old × (new ≡ old)

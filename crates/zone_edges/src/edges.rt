@@ -1,11 +1,11 @@
 // The edges that are noted between zones, and the steps that group the zones.
-ghost use Rattle.std.specs.Prelude.{◌≡◌, ℕ, ◌+◌, ◌⊎◌, ◌↔◌, None, length};
+ghost use Rattle.std.specs.Prelude.{◌≡◌, ℕ, ◌+◌, ◌⊎◌, ◌↔◌, None, if◌then◌else◌, length};
 ghost use Rattle.gz_names.specs.Zones.{HasZone};
 ghost use Rattle.heap_core.specs.Shape.{out_of};
 ghost use Rattle.zone_edges.specs.Groups.{Edge, AreComponents};
-ghost use Rattle.zone_edges.specs.Looks.{AreLeftBlack, AreWrappers, Looks, cursor_of, edges_read};
+ghost use Rattle.zone_edges.specs.Looks.{AreLeftBlack, AreWrappers, Looks, cursor_of};
 
-use crate::look::{Look, edge_from, next_wrapper};
+use crate::look::{edge_from, next_wrapper};
 use crate::search::Search;
 use gz_names::{Groups, ZoneNo, ZoneSet};
 use heap_core::{Heap, Steps};
@@ -68,10 +68,10 @@ impl Edges {
     }
 
     /// Looks at the next wrapper of a zone. Where it leads to another one of the zones, to a cell
-    /// that is not black, an edge is noted from its zone to its target's. `Empty` exactly where each
+    /// that is not black, an edge is noted from its zone to its target's. False exactly where each
     /// wrapper was looked at. No arena is out, so all mark bits are the heap's. A look reads one
     /// edge, and takes no memory.
-    pub fn edge_unit<L: Ledger>(&mut self, heap: &Heap, steps: &mut Steps<L>) -> Look
+    pub fn edge_unit<L: Ledger>(&mut self, heap: &Heap, steps: &mut Steps<L>) -> bool
         requires kept { (a : ℕ) → out_of heap.now.shape a ≡ None }
         requires sized { length heap.now.colours ≡ length heap.now.shape.arenas }
         requires wrappers { AreWrappers heap.now.shape }
@@ -79,18 +79,18 @@ impl Edges {
         ensures looked { Looks heap.now self.old result self.new }
         ensures zones { self.new.zones ≡ self.old.zones }
         ensures stepped { self.new.stepped ≡ self.old.stepped }
-        ensures steps { steps.new ≡ steps.old + edges_read result }
+        ensures steps { steps.new ≡ steps.old + (if result then 1 else 0) }
     {
         let zones = self.search.zones;
         let Some((zone, wrapper)) = next_wrapper(heap, zones, self.current, &mut self.cursors)
         else {
-            return Look::Empty;
+            return false;
         };
         self.current = Some(zone);
         if let Some(to) = edge_from(heap, zones, zone, wrapper, steps) {
             self.search.note(zone, to);
         }
-        Look::Did
+        true
     }
 
     /// Notes an edge between two zones, before the first step: `a` must not finish after `b`.

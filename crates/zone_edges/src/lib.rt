@@ -64,4 +64,3 @@ mod search;
 
 pub use edges::Edges;
 pub use keeping::left_black_law;
-pub use look::Look;

@@ -8,15 +8,6 @@ use gz_names::{Place, ZoneNo, ZoneSet};
 use heap_core::{Heap, Steps};
 use std::sync::ledger::Ledger;
 
-/// What a look did.
-#[derive(Clone, Copy, Debug, PartialEq, Eq)]
-pub enum Look {
-    /// It looked at one wrapper.
-    Did,
-    /// Each wrapper was looked at.
-    Empty,
-}
-
 /// The next wrapper of one of these zones by their cursors, and its zone; the zone's cursor is
 /// raised. `None` where all cursors are at the end. As long as the current zone is one of them and
 /// has wrappers left, it looks at no other.
