@@ -1,9 +1,11 @@
+-- In layers: each folder uses those above it alone.
+pub mod basics
 pub mod abstraction
-pub mod commanding
-pub mod beginning
-pub mod marking
-pub mod grouping
 pub mod group_end
+pub mod grouping
 pub mod taking_in
 pub mod measure
+pub mod marking
+pub mod beginning
+pub mod commanding
 pub mod dumping

@@ -9,8 +9,9 @@ pub mod Lying
 pub mod Moving
 pub mod Named
 pub mod Placing
+pub mod Serving
 pub mod SoundAfter
-pub mod Starting
+pub mod Steps
 pub mod Tying
 pub mod Waits
 pub mod WorldRuns

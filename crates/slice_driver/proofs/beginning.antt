@@ -5,7 +5,7 @@ pub mod Begun
 pub mod BegunSteps
 pub mod BegunToCome
 pub mod ClearedBits
-pub mod FewWrappers
 pub mod GatheredRoots
 pub mod HasBegun
 pub mod MarkedRoots
+pub mod Starting

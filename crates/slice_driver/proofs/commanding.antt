@@ -8,8 +8,6 @@ pub mod JoinedChanges
 pub mod Quiet
 pub mod RaisesToCome
 pub mod Rooms
-pub mod Serving
 pub mod Through
 pub mod Viewed
 pub mod Waking
-pub mod Woken

@@ -2,12 +2,12 @@
 pub mod Cells
 pub mod Colours
 pub mod EndReady
+pub mod FewWrappers
 pub mod Graphs
 pub mod GrayNames
 pub mod GraySlots
 pub mod Grays
 pub mod GraysHere
-pub mod GroupEnding
 pub mod Heaps
 pub mod JobsHanded
 pub mod Laws

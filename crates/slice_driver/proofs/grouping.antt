@@ -1,5 +1,3 @@
 -- Looks at wrappers, grouping steps, and the unit that forms the groups.
 pub mod Forms
-pub mod Laws
 pub mod Looks
-pub mod Steps

@@ -1,15 +1,13 @@
 -- Units that report nothing: marking, the beginnings of zones, and why they leave each world as it is.
 pub mod AtGroupEnd
-pub mod Cells
 pub mod EdgesRead
 pub mod Flights
+pub mod GroupingSteps
 pub mod MarkingSteps
 pub mod MarkingUnits
-pub mod Marks
+pub mod Sessions
 pub mod Settled
-pub mod Steps
+pub mod UnitSteps
 pub mod Units
 pub mod Views
-pub mod Worlds
 pub mod ZoneSteps
-pub mod Zones

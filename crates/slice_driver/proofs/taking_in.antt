@@ -3,15 +3,14 @@ pub mod Advancing
 pub mod Done
 pub mod EndSweeping
 pub mod FirstOut
+pub mod GroupEnding
+pub mod GroupingLaws
 pub mod Heaps
 pub mod Kept
 pub mod Laws
 pub mod PresentCells
 pub mod Runs
 pub mod SetBits
-pub mod Sessions
 pub mod Slots
-pub mod Sorted
 pub mod TakingDue
 pub mod TakingIn
-pub mod UnitSteps

@@ -12,6 +12,7 @@ pub mod Begins
 pub mod RootMarking
 pub mod GrayRoots
 pub mod Units
+pub mod Calls
 pub mod Remaining
 pub mod Left
 pub mod UnitsToCome

@@ -146,6 +146,15 @@ pub record DoesQuietUnits (n : ℕ) (c : CollectorState) (flown : ℕ → Option
   pub less : units_left d flying + n ≤ units_left c flown
   pub to_come : units_to_come d flying + n ≤ units_to_come c flown
 
+-- units that report nothing were done, at most a limit of them: fewer only where none is left, and none where the first
+-- four steps of a unit had no work
+pub record DoesQuietly (limit : ℕ) (c : CollectorState) (flown : ℕ → Option Bits) (n : ℕ) (d : CollectorState)
+    (flying : ℕ → Option Bits) : Type 0 where
+  pub most : n ≤ limit
+  pub done : DoesQuietUnits n c flown d flying
+  pub rests : n < limit → IsQuietDone d flying
+  pub resting : IsResting c flown → n ≡ 0
+
 -- what a unit reports, in a place that held something else: where it reports nothing, that stays
 abbrev pub place_of : Option Report → Option Report → Option Report
 place_of said before = if is_some said then said else before

@@ -1,12 +1,12 @@
 // How a collection begins.
-ghost use Rattle.std.specs.Prelude.{◌≡◌, ◌↔◌, ◌<◌, ℕ, Err, None, Option, Some, IfNone, IfSome, IsSome, IsTrue, OnErr};
-ghost use Rattle.std.specs.Prelude.{OnOk, false, length};
+ghost use Rattle.std.specs.Prelude.{◌≡◌, ◌↔◌, ℕ, IsTrue, Option};
 ghost use Rattle.gz_names.specs.Zones.{HasZone};
 ghost use Rattle.cell_bits.specs.declared.bits.Bits.{Bits as ABits};
 ghost use Rattle.zones.specs.declared.states.State.TheVariants as state;
 ghost use Rattle.heap_core.specs.Shape.{state_in};
 ghost use Rattle.slice_driver.specs.Begins.{AreMade};
-ghost use Rattle.slice_driver.specs.Units.{BeginsIn, BeginsWithin, IsSound, KeepsFreedWords};
+ghost use Rattle.slice_driver.specs.Calls.{BeginDone};
+ghost use Rattle.slice_driver.specs.Units.{IsSound};
 
 use crate::collector::{Collector, Run};
 use crate::gray_roots::buffer_gray_roots;
@@ -53,20 +53,7 @@ impl Collector {
     ) -> Result<(), BeginFault>
         requires sound { (flown : ℕ → Option ABits) × IsSound self.old flown }
         requires some { (z : ℕ) × HasZone zones.bits z }
-        ensures begun { OnOk result (BeginsIn self.old zones.bits self.new) }
-        ensures within { OnOk result (BeginsWithin self.old zones.bits self.new) }
-        ensures started { OnOk result
-            (self.new.run ≡ Some (record { zones = zones; formed = false })) }
-        ensures running { (result ≡ Err BeginFault.Running) ↔ IsSome self.old.run }
-        ensures no_zone { (result ≡ Err BeginFault.NoZone)
-            ↔ ((self.old.run ≡ None) × (AreMade self.old.heap.shape zones → ⊥)) }
-        ensures made_zones { OnOk result (AreMade self.old.heap.shape zones) }
-        ensures sound { (flown : ℕ → Option ABits) → IsSound self.old flown
-            → IsSound self.new flown }
-        ensures words { OnOk result (KeepsFreedWords self.old.heap.shape self.new.heap.shape) }
-        ensures refused { OnErr result (self.new ≡ self.old) }
-        ensures made { self.new.heap.made ≡ self.old.heap.made }
-        ensures weak { self.new.heap.shape.weak ≡ self.old.heap.shape.weak }
+        ensures { BeginDone self.old zones result self.new }
     {
         if self.running() {
             return Err(BeginFault::Running);

@@ -1,20 +1,17 @@
 // Commands on the graph, with their barriers.
-ghost use Rattle.std.specs.Prelude.{◌≡◌, ◌≤◌, ◌<◌, ◌+◌, Err, IfOk, IsSome, None, OnErr, OnOk, false, length};
+ghost use Rattle.std.specs.Prelude.{◌≡◌, IsSome, OnErr, OnOk, length};
 ghost use Rattle.std.specs.Option.{ForSome};
-ghost use Rattle.gz_names.specs.declared.replies.CmdFault.TheVariants as fault;
-ghost use Rattle.colour_defs.specs.Step.{HasFewFields, refusal_in};
+ghost use Rattle.colour_defs.specs.Step.{HasFewFields};
 ghost use Rattle.wrappers.specs.WrapperMaps.{AreApart};
 ghost use Rattle.heap_core.specs.Shape.{IsPresent};
 ghost use Rattle.heap_core.specs.Heap.{joined};
-ghost use Rattle.heap_core.specs.Answers as heap;
-ghost use Rattle.heap_core.specs.Effects.{HasRoom, takes_memory};
-ghost use Rattle.heap_core.specs.Peeks.{cells_made, made_in};
+ghost use Rattle.heap_core.specs.Effects.{HasRoom};
 ghost use Rattle.barriers.specs.Invariant.{MarkingInvariant};
 ghost use Rattle.barriers.specs.Spreading.{Covers};
-ghost use Rattle.slice_driver.specs.Commands.{WantsMemory};
+ghost use Rattle.slice_driver.specs.Calls.{CommandDone};
 ghost use Rattle.slice_driver.specs.Rooms.{IsRoomy, Widens, arenas_after};
 ghost use Rattle.slice_driver.specs.Steps.{GoesThrough};
-ghost use Rattle.slice_driver.specs.Units.{DoesCommand, IsSound, KeepsFreedWords, RaisesWithin};
+ghost use Rattle.slice_driver.specs.Units.{IsSound};
 
 use crate::collector::Collector;
 use barriers::expose;
@@ -42,24 +39,7 @@ impl Collector {
         requires sound { IsSound self.old (F.bits flight.old) }
         requires few { HasRoom self.old.heap cmd }
         requires fields { HasFewFields cmd }
-        ensures done { DoesCommand self.old (F.bits flight.old) cmd result self.new
-            (F.bits flight.new) }
-        ensures to_come { RaisesWithin self.old (F.bits flight.old) cmd result self.new
-            (F.bits flight.new) }
-        ensures answered { IfOk result (λ answer. refusal_in answer ≡ None) }
-        ensures refused { (why : _) → result ≡ Err (fault.Refused why)
-            → (self.new ≡ self.old) × (F.bits flight.new ≡ F.bits flight.old) }
-        ensures wanted { result ≡ Err fault.NoMemory → WantsMemory self.old (F.bits flight.old) cmd
-            self.new (F.bits flight.new) }
-        ensures sure { takes_memory cmd ≡ false → result ≡ Err fault.NoMemory → ⊥ }
-        ensures sound { IsSound self.new (F.bits flight.new) }
-        ensures words { KeepsFreedWords self.old.heap.shape self.new.heap.shape }
-        ensures run { self.new.run ≡ self.old.run }
-        ensures origin { F.origin flight.new ≡ F.origin flight.old }
-        ensures made { self.new.heap.made
-            ≡ self.old.heap.made + cells_made self.old.heap cmd result }
-        ensures entries { length self.new.heap.shape.weak.entries
-            ≤ length self.old.heap.shape.weak.entries + 1 }
+        ensures { CommandDone F.bits F.origin self.old flight.old cmd result self.new flight.new }
     {
         self.wrappers_law();
         self.entries_law();

@@ -9,7 +9,6 @@ use crate::collector::{Collector, Run};
 use gz_names::{Groups, Report};
 use heap_core::Steps;
 use std::sync::ledger::Ledger;
-use zone_edges::Look;
 
 impl Collector {
     // Looks at a wrapper. False where each was looked at.
@@ -20,10 +19,7 @@ impl Collector {
         ensures heap { self.new.heap ≡ self.old.heap }
         ensures steps { steps.new ≤ steps.old + (if result then 1 else 0) }
     {
-        match self.edges.edge_unit(&self.heap, steps) {
-            Look::Did => true,
-            Look::Empty => false,
-        }
+        self.edges.edge_unit(&self.heap, steps)
     }
 
     // One grouping step; the last one forms the groups, and puts them into a place. Returns whether it did.

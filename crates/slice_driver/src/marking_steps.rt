@@ -17,47 +17,14 @@ use crate::collector::Collector;
 use cell_bits::Flight;
 use gz_names::ZoneSet;
 use heap_core::Steps;
-use marker::{Work, black_unit, gray_unit, weak_unit};
+use marker::{black_unit, gray_unit, weak_unit};
 use std::sync::ledger::Ledger;
 use weak_maps::MarkColour;
 use zones::State;
 
 impl Collector {
-    // Follows a cell that is pending in black. False where there is none.
-    #[inline(always)]
-    fn follows_black<F: Flight, L: Ledger>(&mut self, flight: &mut F, steps: &mut Steps<L>) -> bool
-        requires sound { IsSound self.old (F.bits flight.old) }
-        requires running { IsSome self.old.run }
-        ensures done { DidOrStill result (self.old.stack.black ≡ []) self.old
-            (F.bits flight.old) self.new (F.bits flight.new) }
-        ensures steps { TriesFew result steps.old (heap_with self.old (F.bits flight.old)) steps.new
-            (heap_with self.new (F.bits flight.new)) }
-        ensures origin { F.origin flight.new ≡ F.origin flight.old }
-    {
-        match black_unit(&mut self.heap, &mut self.stack, flight, steps) {
-            Work::Did => true,
-            Work::Empty => false,
-        }
-    }
-
-    // Looks at a weak entry that is to be looked at in black. False where there is none.
-    #[inline(always)]
-    fn adds_black<F: Flight>(&mut self, flight: &mut F) -> bool
-        requires sound { IsSound self.old (F.bits flight.old) }
-        requires running { IsSome self.old.run }
-        ensures done { DidOrStill result (NoneLeft mark.Black self.old.heap.looks) self.old
-            (F.bits flight.old) self.new (F.bits flight.new) }
-        ensures grays { grays_outside (heap_with self.new (F.bits flight.new))
-            ≡ grays_outside (heap_with self.old (F.bits flight.old)) }
-        ensures origin { F.origin flight.new ≡ F.origin flight.old }
-    {
-        match weak_unit(MarkColour::Black, &mut self.heap, &mut self.stack, flight) {
-            Work::Did => true,
-            Work::Empty => false,
-        }
-    }
-
-    // Black marking. False where it has nothing left to do.
+    // Black marking: follows a cell that is pending in black, or else looks at a weak entry that is to be
+    // looked at in black. False where it has nothing left to do.
     #[inline(always)]
     pub(crate) fn marks_black<F: Flight, L: Ledger>(
         &mut self,
@@ -72,58 +39,14 @@ impl Collector {
             (heap_with self.new (F.bits flight.new)) }
         ensures origin { F.origin flight.new ≡ F.origin flight.old }
     {
-        if self.follows_black(flight, steps) {
+        if black_unit(&mut self.heap, &mut self.stack, flight, steps) {
             return true;
         }
-        self.adds_black(flight)
+        weak_unit(MarkColour::Black, &mut self.heap, &mut self.stack, flight)
     }
 
-    // Does a piece of gray marking for a group. False where there is none.
-    #[inline(always)]
-    fn follows_gray<F: Flight, L: Ledger>(
-        &mut self,
-        group: ZoneSet,
-        flight: &F,
-        steps: &mut Steps<L>,
-    ) -> bool
-        requires sound { IsSound self.old (F.bits flight.now) }
-        requires running { IsSome self.old.run }
-        requires begun { AreGraying self.old.heap.shape group.bits }
-        ensures tries { TriesGroup result (IsGrayIdle self.old.heap self.old.stack self.old.lists
-            group.bits) self.old (F.bits flight.now) self.new (F.bits flight.now) }
-        ensures steps { TriesFew result steps.old (heap_with self.old (F.bits flight.now)) steps.new
-            (heap_with self.new (F.bits flight.now)) }
-    {
-        match gray_unit(
-            group,
-            &mut self.heap,
-            &mut self.stack,
-            &mut self.lists,
-            flight,
-            steps,
-        ) {
-            Work::Did => true,
-            Work::Empty => false,
-        }
-    }
-
-    // Looks at a weak entry that is to be looked at in gray. False where there is none.
-    fn adds_gray<F: Flight>(&mut self, flight: &mut F) -> bool
-        requires sound { IsSound self.old (F.bits flight.old) }
-        requires running { IsSome self.old.run }
-        ensures tries { TriesGroup result (NoneLeft mark.Gray self.old.heap.looks) self.old
-            (F.bits flight.old) self.new (F.bits flight.new) }
-        ensures grays { grays_outside (heap_with self.new (F.bits flight.new))
-            ≡ grays_outside (heap_with self.old (F.bits flight.old)) }
-        ensures origin { F.origin flight.new ≡ F.origin flight.old }
-    {
-        match weak_unit(MarkColour::Gray, &mut self.heap, &mut self.stack, flight) {
-            Work::Did => true,
-            Work::Empty => false,
-        }
-    }
-
-    // Gray marking of a group. False where it has nothing left to do.
+    // Gray marking of a group: does a piece of it, or else looks at a weak entry that is to be looked at in
+    // gray. False where it has nothing left to do.
     #[inline(always)]
     fn marks_group<F: Flight, L: Ledger>(
         &mut self,
@@ -140,10 +63,17 @@ impl Collector {
             (heap_with self.new (F.bits flight.new)) }
         ensures origin { F.origin flight.new ≡ F.origin flight.old }
     {
-        if self.follows_gray(group, flight, steps) {
+        if gray_unit(
+            group,
+            &mut self.heap,
+            &mut self.stack,
+            &mut self.lists,
+            flight,
+            steps,
+        ) {
             return true;
         }
-        self.adds_gray(flight)
+        weak_unit(MarkColour::Gray, &mut self.heap, &mut self.stack, flight)
     }
 
     // Takes a zone of the current group on to gray marking. False where all have begun.
@@ -158,7 +88,7 @@ impl Collector {
             return false;
         };
         let waiting = self.heap.in_state(State::MarkBlackOnly);
-        let Some(zone) = group.without(group.without(waiting)).first() else {
+        let Some(zone) = group.intersection(waiting).first() else {
             return false;
         };
         self.heap.advance(zone);

@@ -3,8 +3,8 @@ ghost use Rattle.std.specs.Prelude.{◌≡◌, ◌≤◌, ◌<◌, IsSome, Match
 ghost use Rattle.slice_driver.specs.Collector.{heap_with};
 ghost use Rattle.slice_driver.specs.EdgesRead.{ReadsFew};
 ghost use Rattle.slice_driver.specs.Quiet.{IsFormed};
-ghost use Rattle.slice_driver.specs.Units.{IsSound, KeepsFreedWords};
-ghost use Rattle.slice_driver.specs.Working.{DoesQuietUnits, IsGrouping, IsQuietDone, IsResting};
+ghost use Rattle.slice_driver.specs.Units.{IsSound};
+ghost use Rattle.slice_driver.specs.Working.{DoesQuietUnits, DoesQuietly, IsGrouping, IsQuietDone, IsResting};
 
 use crate::collector::Collector;
 use cell_bits::Flight;
@@ -28,19 +28,11 @@ impl Collector {
     ) -> u64
         requires sound { IsSound self.old (F.bits flight.old) }
         requires running { IsSome self.old.run }
-        ensures most { result ≤ limit }
-        ensures done { DoesQuietUnits result self.old (F.bits flight.old) self.new
+        ensures does { DoesQuietly limit self.old (F.bits flight.old) result self.new
             (F.bits flight.new) }
         ensures steps { ReadsFew result steps.old (heap_with self.old (F.bits flight.old)) steps.new
             (heap_with self.new (F.bits flight.new)) }
-        ensures rests { result < limit → IsQuietDone self.new (F.bits flight.new) }
-        ensures resting { IsResting self.old (F.bits flight.old) → result ≡ 0 }
-        ensures sound { IsSound self.new (F.bits flight.new) }
-        ensures words { KeepsFreedWords self.old.heap.shape self.new.heap.shape }
-        ensures running { IsSome self.new.run }
         ensures origin { F.origin flight.new ≡ F.origin flight.old }
-        ensures made { self.new.heap.made ≡ self.old.heap.made }
-        ensures weak { self.new.heap.shape.weak ≡ self.old.heap.shape.weak }
     {
         // Where no zone is marking, as while the last arenas come in, there is none.
         if self.settled() {

@@ -1,18 +1,16 @@
 -- What leads out of a zone is a wrapper of its list.
 use Rattle.std.proofs.Common.{◌≡◌, ◌≢◌, ℕ, zero, suc, List, [], ◌∷◌, Option, Some, None, IfSome, slice_get}
-use Rattle.std.proofs.Common.{slice_index_or, refl, sym, ap, subst, ◌∙◌, inl, inr, arith, Contains, AllPairs}
+use Rattle.std.proofs.Common.{refl, sym, ap, subst, ◌∙◌, Contains}
 use Rattle.std.proofs.Common.{option_map, is_some}
 use Rattle.std.specs.Map.{lookup}
-use Rattle.std.proofs.lemmas.List.{get_or_default}
-use Rattle.std.proofs.lemmas.Bool.{cases_lt}
 use Rattle.gz_names.specs.declared.names.Name.{Name}
 use Rattle.gz_names.specs.declared.names.Name.TheVariants.{Cell, Wrap}
 use Rattle.gz_names.specs.declared.numbers.CompNo.{CompNo}
 use Rattle.gz_names.specs.declared.numbers.Place.{Place}
 use Rattle.arena_table.specs.Cells.{CellState, joined}
-use Rattle.wrappers.specs.WrapperMaps.{AreApart, first_of, is_key, list_at, list_of, place_at}
+use Rattle.wrappers.specs.WrapperMaps.{first_of, is_key, list_at, list_of, place_at}
 use Rattle.wrappers.specs.declared.wrapper_maps.WrapperKey.{WrapperKey}
-use Rattle.wrappers.proofs.Finding.{lookup-Contains, lookup-none, place_at-home}
+use Rattle.wrappers.proofs.Finding.{lookup-Contains}
 use Rattle.colour_defs.specs.Graph.{GraphState}
 use Rattle.colour_defs.specs.Closure as names
 use Rattle.colour_defs.specs.Laws.{IsWellFormed}
@@ -20,7 +18,7 @@ use Rattle.colour_defs.specs.Present as present
 use Rattle.colour_defs.proofs.Membership.{same_zone_of}
 use Rattle.heap_core.specs.Shape.{HasEdge, IsPresent, cell_of, field_in, name_at, zone_of}
 use Rattle.heap_core.specs.Heap.{HeapState}
-use Rattle.heap_core.specs.Shows.{Shows, StandsFor, IsWrapperOf}
+use Rattle.heap_core.specs.Shows.{Shows, StandsFor}
 use Rattle.slice_driver.specs.Begins.{IsListed}
 use Rattle.slice_driver.proofs.abstraction.Named.{name_of, named_cell, some_one, edge_as}
 use Rattle.slice_driver.proofs.abstraction.Lying.{zone_named}
@@ -40,56 +38,6 @@ found_listed (es ∷ lists) c t p e = go (λ f. found_listed lists c t p f) (loo
       subst (λ r. Contains es (record { comp = c; target = t }, r)) (some_one _ _ f)
           (subst (λ o. IfSome o (λ r. Contains es (record { comp = c; target = t }, r))) at (lookup-Contains es c t)),
     )
-
--- and one that is listed is found
-one_place : (es : List (WrapperKey × Place)) (k : WrapperKey) (p q : Place) → AllPairs (λ d e. d.0 ≢ e.0) es
-    → Contains es (k, p) → Contains es (k, q) → q ≡ p
-one_place es k p q apart (i, lt, at) (j, below, is) = elim (cases_lt i j) [
-  | inl less ↦ absurd (apart i j (k, p) less below
-      (ap (λ (e : WrapperKey × Place). e.0) at
-      ∙ sym (ap (λ (e : WrapperKey × Place). e.0) (get_or_default es j (k, p) (k, q) below ∙ is))))
-  | inr ge ↦ elim (cases_lt j i) [
-    | inl less ↦ absurd (apart j i (k, p) less lt
-        (ap (λ (e : WrapperKey × Place). e.0) (get_or_default es j (k, p) (k, q) below ∙ is)
-        ∙ sym (ap (λ (e : WrapperKey × Place). e.0) at)))
-    | inr le ↦
-        let same : i ≡ j = omega (arith, ge, le) in
-        ap (λ (e : WrapperKey × Place). e.1)
-        (sym is ∙ (sym (get_or_default es j (k, p) (k, q) below)
-        ∙ (ap (λ n. slice_index_or es n (k, p)) (sym same) ∙ at)))
-  ]
-]
-
-looked_up : (es : List (WrapperKey × Place)) (k : WrapperKey) (p : Place) → AllPairs (λ d e. d.0 ≢ e.0) es
-    → Contains es (k, p) → lookup (is_key k.comp k.target) es ≡ Some p
-looked_up es k p apart c = go (lookup (is_key k.comp k.target) es) refl
-  where
-    go : (o : Option Place) → lookup (is_key k.comp k.target) es ≡ o → o ≡ Some p
-    go None e = absurd (lookup-none es k.comp k.target p e c)
-    go (Some q) e = ap (λ z. Some z)
-        (one_place es k p q apart c
-        (subst (λ o. IfSome o (λ r. Contains es (k, r))) e (lookup-Contains es k.comp k.target)))
-
-pub listed_found : (lists : List (List (WrapperKey × Place))) (z : ℕ) (k : WrapperKey) (p : Place) → AreApart lists
-    → Contains (list_at lists z) (k, p) → place_at lists k.comp k.target ≡ Some p
-listed_found lists z k p apart c =
-    place_at-home lists z k.comp k.target (λ y e there same. apart.one_zone y z e (k, p) there c same)
-    ∙ looked_up (list_at lists z) k p (apart.distinct z) c
-
--- a listed wrapper is present, under its name, in the zone of its list
-pub listed_present : (h : HeapState) (g : GraphState) (z : ℕ) (k : WrapperKey) (p : Place) → Shows h g
-    → AreApart h.shape.wrappers.lists → Contains (list_of h.shape.wrappers z) (k, p)
-    → (name_at h.shape p ≡ Some (Wrap (record { 0 = k.comp }) k.target)) × (zone_of h.shape p ≡ z)
-listed_present h g z k p s apart c =
-    let named : name_at h.shape p ≡ Some (Wrap (record { 0 = k.comp }) k.target) =
-    s.mapped (record { 0 = k.comp }) k.target p (listed_found h.shape.wrappers.lists z k p apart c) in
-    let cell = named_cell h.shape p (Wrap (record { 0 = k.comp }) k.target) named in
-    let shown = s.cells p cell.0 cell.1 in
-    let stands : IsWrapperOf h.shape g p cell.0 (record { 0 = k.comp }) k.target =
-    subst (λ x. StandsFor h.shape g p cell.0 x) cell.2 shown.stands in
-    let home : slice_get h.shape.comps k.comp ≡ Some (zone_of h.shape p) =
-    ap (λ (d : CompNo). slice_get h.shape.comps d.0) (sym stands.comp_is) ∙ shown.at_home in
-    (named, some_one _ _ (sym home ∙ s.maps_at_home z (k, p) c))
 
 pub same_part : (g : GraphState) → present.IsPartOf g g
 same_part g = record {

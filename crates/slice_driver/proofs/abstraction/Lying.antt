@@ -13,7 +13,7 @@ use Rattle.gz_names.specs.declared.replies.Refusal.{Refusal}
 use Rattle.cell_bits.specs.declared.bits.Bits.{Bits}
 use Rattle.arena_table.specs.Cells.{CellState}
 use Rattle.colour_defs.specs.declared.graph.Object.{Object}
-use Rattle.colour_defs.specs.Graph.{GraphState, object_of, has_wrapper, comp_of, comp_of_object, zone_of_comp}
+use Rattle.colour_defs.specs.Graph.{GraphState, object_of, comp_of, comp_of_object, zone_of_comp}
 use Rattle.colour_defs.specs.Graph as graph
 use Rattle.colour_defs.specs.Step.{IsAccepted, step_of, refusal_in}
 use Rattle.colour_defs.specs.World.{World, no_weak_names, Preparation, Accepts, AcceptsIn, AcceptsUnless}
@@ -160,9 +160,6 @@ lies_marked h ds d w l = record {
 
 pub lies_coloured : (h : HeapState) (ds : List Bits) (w : World) → LiesIn h w → LiesIn (with_colours h ds) w
 lies_coloured h ds w l = lies_marked h ds no_places w l
-
-pub lies_plain : (h : HeapState) (ds : List Bits) (w : World) → LiesIn (with_colours h ds) w → LiesIn h w
-lies_plain h ds w l = lies_marked (with_colours h ds) h.colours h.delayed w l
 
 -- a command that is refused
 pub refused_in : (w : World) (old new : HeapState) (c : GraphCmd) (why : Refusal) → IsValid w → LiesIn old w

@@ -203,8 +203,5 @@ module _ (h : HeapState) (w : World) (l : LiesIn h w) where
       λ r. (let at = closure_placed r in subst (Reached h.shape P) (l.shown.apart at.0 p x at.1 e) at.2),
     )
 
-    pub reached_present : (p : Place) → Reached h.shape P p → IsPresent h.shape p
-    reached_present p r = let n = reached_named r in named_present h.shape p n.0 n.1
-
     pub closure_present : (x : Name) → Closure w.graph Q x → IsPresentName w x
     closure_present x r = let at = closure_placed r in present_named at.0 x at.1

@@ -49,7 +49,7 @@ use Rattle.slice_driver.specs.Begins.{BeginsMarking, IsWithin}
 use Rattle.slice_driver.proofs.abstraction.Named.{AreSameStarts, closure_present, named_present, present_named}
 use Rattle.slice_driver.proofs.abstraction.Named.{same_reached, some_one}
 use Rattle.slice_driver.proofs.abstraction.Lying.{zone_named}
-use Rattle.slice_driver.proofs.commanding.Woken.{reached_kept}
+use Rattle.slice_driver.proofs.basics.Woken.{reached_kept}
 use Rattle.slice_driver.proofs.abstraction.Keeping.{stay_same}
 use Rattle.arena_table.specs.Cells.{CellState}
 use Rattle.weak_maps.specs.WeakMaps.{value_of as entry_of}

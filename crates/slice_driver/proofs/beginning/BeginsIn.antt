@@ -269,8 +269,3 @@ has_begun w zones v b = record {
     after = b.begins.world_is
         ∙ (ap (λ (z : World). record z { preparing = None; collection = Some b.begins.collection }) b.prepares.world_is
         ∙ ap (λ s. record w { black = s; preparing = None; collection = Some b.begins.collection }) (sym same_black))
-
-pub same_collection : (w : World) (zones : List ℕ) (v : World) (b : BeginsAtOnce w zones v)
-    → (has_begun w zones v b).collection ≡ b.begins.collection
-unfolding has_begun
-same_collection w zones v b = refl

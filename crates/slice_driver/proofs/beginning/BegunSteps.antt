@@ -401,71 +401,113 @@ module _ (h : HeapState) (zones : ZoneSet) (b : HeapState) (put : Buffers h zone
       → Marks P zones (without_delayed a) (pending a s) k q → Marks P zones (without_delayed a) (pending h s) k q
   registers_seen P k q m = subst (λ (p : Piles). Marks P zones (without_delayed a) p k q) cleared_pending m
 
--- a collector that went through the steps has begun a collection in each world
-module _ (c : CollectorState) (rest : IsAtRest c) (zones : ZoneSet) (small : (z : ℕ) → bit_at zones.bits z ≡ 1 → z < 64)
-    (b : HeapState) (put : Buffers c.heap zones b) (a : HeapState) (cleared : a ≡ with_clear b zones.bits) where
-  same : a ≡ with_begun c.heap zones b.buffers
-  same = clear_is c.heap b a zones put cleared
+-- a collection of these zones begins: the collector is at rest, gray roots were buffered, and then mark bits cleared
+pub record AreCleared (c : CollectorState) (zones : ZoneSet) (a : HeapState) : Type 0 where
+  pub rest : IsAtRest c
+  pub small : (z : ℕ) → bit_at zones.bits z ≡ 1 → z < 64
+  pub buffered : HeapState
+  pub put : Buffers c.heap zones buffered
+  pub cleared : a ≡ with_clear buffered zones.bits
+
+-- then the cells of registers were marked
+pub record AreRegistersMarked (c : CollectorState) (zones : ZoneSet) (k : HeapState) (q : Piles) : Type 0 where
+  pub before : HeapState
+  pub cleared : AreCleared c zones before
+  pub marks : Marks (λ x. Contains before.shape.regs (Some x)) zones before c.stack k q
+
+-- then the targets of black wrappers, and zones went on to be marked black only
+pub record AreRootsMarked (c : CollectorState) (zones : ZoneSet) (l : HeapState) (r : Piles) : Type 0 where
+  pub between : HeapState
+  pub stack : Piles
+  pub registers : AreRegistersMarked c zones between stack
+  pub marks : Marks (IsTargetAmong between zones (length between.shape.states)) zones between stack l r
+  pub made : AreMade c.heap.shape zones
+
+-- and the search for groups began anew
+pub record AreEdgesNone (zones : ZoneSet) (edges : Noted) : Type 0 where
+  pub some : zones_in zones ≢ []
+  pub are : edges.zones ≡ zones
+  pub none : (x y : ℕ) → Edge edges.sources x y → ⊥
+  pub start : (z : ℕ) → cursor_of edges z ≡ 0
+  pub fresh : edges.stepped.bits ≡ 0
+
+module _ (c : CollectorState) (zones : ZoneSet) (a : HeapState) (at : AreCleared c zones a) where
+  same : a ≡ with_begun c.heap zones at.buffered.buffers
+  same = clear_is c.heap at.buffered a zones at.put at.cleared
 
   -- registers hold present cells, as before
   pub held_begun : (x : Place) → Contains a.shape.regs (Some x) → IsPresent a.shape x
   held_begun x = subst (λ (h : HeapState). Contains h.shape.regs (Some x) → IsPresent h.shape x) (sym same)
-      (rest.represents.lies.shown.registers_held x)
+      (at.rest.represents.lies.shown.registers_held x)
 
   pub ready_begun : IsReady a c.stack
   ready_begun = subst (λ (x : HeapState). IsReady x c.stack) (sym same)
-      (ready_clear c rest.world rest.represents rest.idle zones small b.buffers)
+      (ready_clear c at.rest.world at.rest.represents at.rest.idle zones at.small at.buffered.buffers)
 
-  module _ (k : HeapState) (q : Piles) (regs : Marks (λ x. Contains a.shape.regs (Some x)) zones a c.stack k q) where
-    pub ready_marked : IsReady k q
-    ready_marked = ready_still (λ x. Contains a.shape.regs (Some x)) zones a c.stack k q ready_begun regs
+module _ (c : CollectorState) (zones : ZoneSet) (k : HeapState) (q : Piles) (at : AreRegistersMarked c zones k q) where
+  pub ready_marked : IsReady k q
+  ready_marked = ready_still (λ x. Contains at.before.shape.regs (Some x)) zones at.before c.stack k q
+      (ready_begun c zones at.before at.cleared) at.marks
 
-    pub wrappers_marked : AreWrappers k.shape
-    wrappers_marked = wrappers_still (λ x. Contains a.shape.regs (Some x)) zones a c.stack k q regs
-        (subst (λ (x : HeapState). AreWrappers x.shape) (sym same) (wrappers_of c rest.world rest.represents rest.idle))
+  pub wrappers_marked : AreWrappers k.shape
+  wrappers_marked = wrappers_still (λ x. Contains at.before.shape.regs (Some x)) zones at.before c.stack k q at.marks
+      (subst (λ (x : HeapState). AreWrappers x.shape) (sym (same c zones at.before at.cleared))
+      (wrappers_of c at.cleared.rest.world at.cleared.rest.represents at.cleared.rest.idle))
 
-    module _ (l : HeapState) (r : Piles) (targets : Marks (IsTargetAmong k zones (length k.shape.states)) zones k q l r)
-        (made : AreMade c.heap.shape zones) where
-      abbrev marked : CollectorState
-      marked = record c { heap = l; stack = r }
+  first_shape : k.shape ≡ (with_begun c.heap zones at.cleared.buffered.buffers).shape
+  first_shape = shape_still (λ x. Contains at.before.shape.regs (Some x)) zones at.before c.stack k q at.marks
+      ∙ ap (λ (x : HeapState). x.shape) (same c zones at.before at.cleared)
 
-      -- the zones are made, as they were
-      pub made_marked : (z : ℕ) → HasZone zones.bits z → z < length l.shape.states
-      made_marked z has =
-          let first = shape_still (λ x. Contains a.shape.regs (Some x)) zones a c.stack k q regs in
-          let last = shape_still (IsTargetAmong k zones (length k.shape.states)) zones k q l r targets in
-          subst (λ (s : Shape). z < length s.states) (sym (last ∙ first ∙ ap (λ (x : HeapState). x.shape) same))
-          (made z has)
+module _ (c : CollectorState) (zones : ZoneSet) (l : HeapState) (r : Piles) (at : AreRootsMarked c zones l r) where
+  last_shape : l.shape ≡ (with_begun c.heap zones at.registers.cleared.buffered.buffers).shape
+  last_shape = shape_still (IsTargetAmong at.between zones (length at.between.shape.states)) zones at.between at.stack
+      l r at.marks
+      ∙ first_shape c zones at.between at.stack at.registers
 
-      -- no arena is out, as before
-      pub none_out : (k2 : HeapState) → Advances l zones.bits k2 → (x : ℕ) → out_of k2.shape x ≡ None
-      none_out k2 on x =
-          let first = shape_still (λ y. Contains a.shape.regs (Some y)) zones a c.stack k q regs in
-          let last = shape_still (IsTargetAmong k zones (length k.shape.states)) zones k q l r targets in
-          ap (λ (h : HeapState). out_of h.shape x) on.rest
-          ∙ (ap (λ (s : Shape). out_of s x) (last ∙ first ∙ ap (λ (h : HeapState). h.shape) same)
-          ∙ (idle_of c rest.world rest.represents rest.idle).kept x)
+  -- the zones are made, as they were
+  pub made_marked : (z : ℕ) → HasZone zones.bits z → z < length l.shape.states
+  made_marked z has = subst (λ (s : Shape). z < length s.states) (sym last_shape) (at.made z has)
 
-      module _ (some : zones_in zones ≢ []) (edges : Noted) (are : edges.zones ≡ zones)
-          (none : (x y : ℕ) → Edge edges.sources x y → ⊥) (start : (z : ℕ) → cursor_of edges z ≡ 0)
-          (fresh : edges.stepped.bits ≡ 0) where
-        abbrev started : CollectorState → CollectorState
-        started d = record d { edges = edges; run = Some (record { zones = zones; formed = false }) }
+  -- no arena is out, as before
+  pub none_out : (k2 : HeapState) → Advances l zones.bits k2 → (x : ℕ) → out_of k2.shape x ≡ None
+  none_out k2 on x =
+      let rest = at.registers.cleared.rest in
+      ap (λ (h : HeapState). out_of h.shape x) on.rest
+      ∙ (ap (λ (s : Shape). out_of s x) last_shape
+      ∙ (idle_of c rest.world rest.represents rest.idle).kept x)
 
-        begun_marking : (k2 : HeapState) → Advances l zones.bits k2 → BeginsMarking c.heap zones k2 r c.lists
-        begun_marking k2 on = subst (λ (x : HeapState). BeginsMarking c.heap zones x r c.lists) (sym on.rest)
-            (begins c rest.world rest.represents rest.idle zones small b.buffers k q
-            (subst (λ (x : HeapState). Marks (λ y. Contains x.shape.regs (Some y)) zones x c.stack k q) same regs)
-            l r targets put.roots put.few k2.shape.states made on.sized (λ z has _. on.gone_on z has) on.others)
+  begun_marking : (k2 : HeapState) → Advances l zones.bits k2 → BeginsMarking c.heap zones k2 r c.lists
+  begun_marking k2 on =
+      let start = at.registers.cleared in
+      let regs = at.registers.marks in
+      let is = same c zones at.registers.before start in
+      subst (λ (x : HeapState). BeginsMarking c.heap zones x r c.lists) (sym on.rest)
+      (begins c start.rest.world start.rest.represents start.rest.idle zones start.small start.buffered.buffers
+      at.between at.stack
+      (subst (λ (x : HeapState). Marks (λ y. Contains x.shape.regs (Some y)) zones x c.stack at.between at.stack) is
+      regs)
+      l r at.marks start.put.roots start.put.few k2.shape.states at.made on.sized (λ z has _. on.gone_on z has)
+      on.others)
 
-        pub begun_worlds : (k2 : HeapState) → Advances l zones.bits k2
-            → BeginsIn c zones.bits (started (record marked { heap = k2 }))
-        begun_worlds k2 on = begins_worlds c (started (record marked { heap = k2 })) zones some rest.idle
-            (begun_marking k2 on) made refl are none start fresh
+  -- the collector has begun a collection
+  module _ (edges : Noted) (fresh : AreEdgesNone zones edges) (k2 : HeapState) (on : Advances l zones.bits k2) where
+    abbrev started : CollectorState
+    started = record c {
+      heap = k2;
+      stack = r;
+      edges = edges;
+      run = Some (record { zones = zones; formed = false });
+    }
 
-        -- and what is to come is within the bound on units
-        pub begun_to_come : (k2 : HeapState) → Advances l zones.bits k2 → AreEntries c.heap.shape.weak
-            → AreApart c.heap.shape.wrappers.lists → BeginsWithin c zones.bits (started (record marked { heap = k2 }))
-        begun_to_come k2 on sound apart flown w v ok rep at_once =
-            within_begun c (started (record marked { heap = k2 })) flown w v zones rep ok rest.idle
-            (begun_marking k2 on) (has_begun w (zones_in zones) v at_once) small sound apart are start refl
+    -- in each world
+    pub begun_worlds : BeginsIn c zones.bits started
+    begun_worlds = begins_worlds c started zones fresh.some at.registers.cleared.rest.idle (begun_marking k2 on) at.made
+        refl fresh.are fresh.none fresh.start fresh.fresh
+
+    -- and what is to come is within the bound on units
+    pub begun_to_come : AreEntries c.heap.shape.weak → AreApart c.heap.shape.wrappers.lists
+        → BeginsWithin c zones.bits started
+    begun_to_come sound apart flown w v ok rep at_once =
+        within_begun c started flown w v zones rep ok at.registers.cleared.rest.idle
+        (begun_marking k2 on) (has_begun w (zones_in zones) v at_once) at.registers.cleared.small sound apart fresh.are
+        fresh.start refl

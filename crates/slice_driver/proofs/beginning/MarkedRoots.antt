@@ -275,9 +275,6 @@ below_none s zone n i u none some = elim (cases_lt i n) [
 
 -- the wrappers of another zone, one after another
 module _ (h : HeapState) (zones : ZoneSet) (p : Piles) (zone : ℕ) where
-  pub target_first : Marks (IsTargetBefore h zone 0) zones h p h p
-  target_first = marks_still (IsTargetBefore h zone 0) zones h p (λ x t w. absurd (omega (arith, t.1)))
-
   pub target_step : (HasZone zones.bits zone → ⊥)
       → (i : ℕ) (u : Place) (k : HeapState) (q : Piles) (l : HeapState) (r : Piles) → wrapper_at h.shape zone i ≡ Some u
       → zone_of h.shape u ≡ zone → Marks (IsTargetBefore h zone i) zones h p k q
@@ -338,9 +335,6 @@ module _ (P : Place → Type 0) (zones : ZoneSet) (h : HeapState) (p : Piles) (k
 
 -- the zones, one after another
 module _ (h : HeapState) (zones : ZoneSet) (p : Piles) where
-  pub among_first : Marks (IsTargetAmong h zones 0) zones h p h p
-  among_first = marks_still (IsTargetAmong h zones 0) zones h p (λ x t w. absurd (omega (arith, t.1)))
-
   none_from : (i : ℕ) (x : Place) → IsNoSource h.shape zones i → (HasZone zones.bits i → ⊥) → IsWithin h.shape zones x
       → IsTargetOf h i x → ⊥
   none_from i x (inl has) other w of = other has

@@ -85,14 +85,14 @@ use Rattle.slice_driver.proofs.marking.MarkingUnits.{piled_still, waits_on}
 use Rattle.slice_driver.proofs.abstraction.Named.{name_of, some_one}
 use Rattle.slice_driver.proofs.abstraction.Moving.{IsHeld, Moves, finds, makes, moves_of, near_reached, quiet}
 use Rattle.slice_driver.proofs.commanding.Quiet.{does_quiet}
-use Rattle.slice_driver.proofs.marking.Steps.{settled_states}
-use Rattle.slice_driver.proofs.commanding.Serving.{serves}
+use Rattle.slice_driver.proofs.abstraction.Steps.{settled_states}
+use Rattle.slice_driver.proofs.abstraction.Serving.{serves}
 use Rattle.slice_driver.proofs.commanding.Through.{IsReached, represents_exposed, represents_through}
 use Rattle.slice_driver.proofs.commanding.Through.{represents_widened}
 use Rattle.slice_driver.proofs.abstraction.Tying.{objects_grow, tied_exposed, tied_made, tied_served}
 use Rattle.slice_driver.proofs.commanding.Viewed.{delayed_kept}
 use Rattle.slice_driver.proofs.commanding.Waking.{does_found, does_made}
-use Rattle.slice_driver.proofs.commanding.Woken.{made_black, one_spreads, others_keep, reached_kept}
+use Rattle.slice_driver.proofs.basics.Woken.{made_black, one_spreads, others_keep, reached_kept}
 
 -- a zone of a word, where its bit is set
 zone_at_bit : (word z : ℕ) → z < 64 → in_zones word z ≡ true → HasZone word z

@@ -14,9 +14,7 @@ use Rattle.mark_stack.specs.Stack.{Piles}
 use Rattle.gray_lists.specs.Incoming.{Incoming}
 use Rattle.colour_defs.specs.Graph.{GraphState}
 use Rattle.colour_defs.specs.Step.{HasFewFields, IsAccepted, refusal_in}
-use Rattle.colour_defs.specs.World.{first_world}
 use Rattle.colour_defs.proofs.ValidCommands.{command_valid}
-use Rattle.colour_defs.proofs.ValidRuns.{first_valid}
 use Rattle.heap_core.specs.Shape.{out_of}
 use Rattle.weak_maps.specs.WeakMaps.{AreParallel, IsSound as AreEntries}
 use Rattle.heap_core.specs.Heap.{HeapState, joined, weak_of, with_marks}
@@ -37,9 +35,9 @@ use Rattle.barriers.proofs.Flying.{flown_length}
 use Rattle.gz_names.specs.declared.zone_sets.ZoneSet.{ZoneSet}
 use Rattle.zone_edges.specs.Noted.{Noted}
 use Rattle.slice_driver.specs.declared.collector.Run.{Run}
+use Rattle.slice_driver.specs.Calls.{CommandDone}
 use Rattle.slice_driver.specs.Collector.{CollectorState, HasMore, IsKept}
 use Rattle.slice_driver.specs.Commands.{Exposed, WantsMemory}
-use Rattle.slice_driver.specs.Represents.{Represents}
 use Rattle.slice_driver.specs.Rooms.{IsRoomy, Widens, arenas_after}
 use Rattle.slice_driver.specs.Steps.{CommandSteps, GoesThrough}
 use Rattle.slice_driver.specs.Units.{AnswersIn, DoesCommand, IsSound, KeepsFreedWords, RaisesWithin}
@@ -445,11 +443,79 @@ command_sound c d flown flying command result does s = go result (does s.world s
     go (Err (fault.Refused why)) was = record { world = s.world; valid = s.valid; represents = was.1 }
     go (Err fault.NoMemory) was = record { world = s.world; valid = s.valid; represents = was }
 
--- a new collector does
-pub first_sound : (c : CollectorState) (flown : ℕ → Option Bits) → Represents c flown first_world → IsSound c flown
-first_sound c flown rep = record { world = first_world; valid = first_valid; represents = rep }
-
 -- nothing changed where a command was refused
 pub refused_raises : (c : CollectorState) (flown : ℕ → Option Bits) (command : GraphCmd) (why : Refusal)
     → RaisesWithin c flown command (Err (fault.Refused why)) c flown
 refused_raises c flown command why w k ok rep at = omega arith
+
+-- so a command that is refused keeps the promises of commands
+pub refused_done : {S O : Type 0} (bits_of : S → ℕ → Option Bits) (origin_of : S → O) (c : CollectorState) (f : S)
+    (command : GraphCmd) (why : Refusal) → IsRefused c.heap command why → IsSound c (bits_of f)
+    → CommandDone bits_of origin_of c f command (Err (fault.Refused why)) c f
+refused_done bits_of origin_of c f command why is sound = record {
+  done = refused_at c (bits_of f) command why is;
+  to_come = refused_raises c (bits_of f) command why;
+  answered = tt;
+  refused = λ other same. (refl, refl);
+  wanted = λ wants. cc wants;
+  sure = λ never wants. cc wants;
+  sound = sound;
+  words = λ a freed was. was;
+  run = refl;
+  origin = refl;
+  made = omega arith;
+  entries = omega arith;
+}
+
+-- one for whose cell no room could be made
+pub roomless_done : {S O : Type 0} (bits_of : S → ℕ → Option Bits) (origin_of : S → O) (c d : CollectorState) (f : S)
+    (command : GraphCmd) → Widens c d → IsSound c (bits_of f)
+    → ((g : GraphState) → Shows c.heap g → IsAccepted g command) → takes_memory command ≡ true
+    → CommandDone bits_of origin_of c f command (Err fault.NoMemory) d f
+roomless_done bits_of origin_of c d f command wide sound accepted takes =
+    let heap_is = wide_heap c d wide in
+    let done = wants_room c d (bits_of f) command wide in
+    record {
+      done = done;
+      to_come = room_raises c d (bits_of f) command wide;
+      answered = tt;
+      refused = λ why is. cc is;
+      wanted = λ wants. room_wanted c d (bits_of f) command wide accepted;
+      sure = λ never wants. cc (never, takes);
+      sound = command_sound c d (bits_of f) (bits_of f) command (Err fault.NoMemory) done sound;
+      words = wide_words c d wide;
+      run = ap (λ (x : CollectorState). x.run) wide.rest;
+      origin = refl;
+      made = (let same = ap (λ (h : HeapState). h.made) heap_is in omega (arith, same));
+      entries = (let same = ap (λ (h : HeapState). length h.shape.weak.entries) heap_is in omega (arith, same));
+    }
+
+-- and one whose plan was carried out
+pub planned_done : {S O : Type 0} {E : Type 0} (bits_of : S → ℕ → Option Bits) (origin_of : S → O) (f f1 f2 g : S)
+    (c d1 d2 d3 d4 d : CollectorState) (command : GraphCmd) (plan : Plan) (committed : Result Reply E)
+    → IsPlanned E c d1 d2 d3 d4 d (bits_of f) (bits_of f1) (bits_of f2) (bits_of g) command plan committed
+    → AreEntries c.heap.shape.weak → AreParallel (weak_of c.heap) → origin_of g ≡ origin_of f
+    → CommandDone bits_of origin_of c f command (as_fault committed) d g
+planned_done bits_of origin_of f f1 f2 g c d1 d2 d3 d4 d command plan committed p entries parallel origin =
+    let done = does_call _ c d1 d2 d3 d4 d (bits_of f) (bits_of f1) (bits_of f2) (bits_of g) command plan committed p in
+    record {
+      done = done;
+      to_come = raises_call _ c d1 d2 d3 d4 d (bits_of f) (bits_of f1) (bits_of f2) (bits_of g) command plan committed p
+          entries parallel;
+      answered = answered_call _ c d1 d2 d3 d4 d (bits_of f) (bits_of f1) (bits_of f2) (bits_of g) command plan
+          committed p;
+      refused = λ why is. absurd (never_refused committed why is);
+      wanted = wanted_call _ c d1 d2 d3 d4 d (bits_of f) (bits_of f1) (bits_of f2) (bits_of g) command plan committed p;
+      sure = sure_call _ c d1 d2 d3 d4 d (bits_of f) (bits_of f1) (bits_of f2) (bits_of g) command plan committed p;
+      sound = command_sound c d (bits_of f) (bits_of g) command (as_fault committed) done p.sound;
+      words = words_call _ c d1 d2 d3 d4 d (bits_of f) (bits_of f1) (bits_of f2) (bits_of g) command plan committed p;
+      run = run_after _ c d1 d2 d3 d4 d (bits_of f) (bits_of f1) (bits_of f2) (bits_of g) command plan committed p;
+      origin = origin;
+      made = made_call _ c d1 d2 d3 d4 d (bits_of f) (bits_of f1) (bits_of f2) (bits_of g) command plan committed p;
+      entries = entries_after _ c d1 d2 d3 d4 d (bits_of f) (bits_of f1) (bits_of f2) (bits_of g) command plan
+          committed p;
+    }
+  where
+    never_refused : {E : Type 0} (r : Result Reply E) (why : Refusal) → as_fault r ≡ Err (fault.Refused why) → ⊥
+    never_refused (Ok answer) why is = cc is
+    never_refused (Err other) why is = cc is

@@ -25,7 +25,7 @@ use Rattle.slice_driver.specs.Steps.{GoesThrough}
 use Rattle.slice_driver.proofs.marking.Flights.{still_flies}
 use Rattle.slice_driver.proofs.marking.MarkingSteps.{Marked, marked_quiet, own_sized}
 use Rattle.slice_driver.proofs.marking.MarkingUnits.{looks_on, piled_still, waits_on}
-use Rattle.slice_driver.proofs.marking.Steps.{keeps_looks, looks_same, quiet as stands_quiet}
+use Rattle.slice_driver.proofs.abstraction.Steps.{keeps_looks, looks_same, quiet as stands_quiet}
 use Rattle.slice_driver.proofs.commanding.Rooms.{gray_room}
 
 -- what is exposed is reached from black cells already

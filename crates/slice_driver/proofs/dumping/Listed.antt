@@ -17,7 +17,7 @@ use Rattle.slice_driver.specs.declared.listings.NamedCell.{NamedCell}
 use Rattle.slice_driver.proofs.abstraction.Named.{named_present}
 use Rattle.slice_driver.proofs.group_end.GrayNames.{present_within}
 use Rattle.slice_driver.proofs.group_end.Grays.{distinct_append, distinct_none, distinct_one}
-use Rattle.slice_driver.proofs.taking_in.Sorted.{ascending_from_sort}
+use Rattle.slice_driver.proofs.basics.Sorted.{ascending_from_sort}
 
 named : (p : Place) (o : Option Name) (c : NamedCell) → Contains (cell_named p o) c
     → (c.place ≡ p) × (o ≡ Some c.name)

@@ -44,7 +44,7 @@ ends_coloured v flown g rest ready w k ok rep is =
     let own : heap_with v flown ≡ v.heap = joined_none v.heap flown rep.delayed
     (λ a. no_some (flown a) (rep.flies.covers a ∙ ap is_some (ready.kept a))) in
     subst (λ h. AreColoured h w.graph k (zones_without k.marking (zones_in g))) own
-    (coloured v flown w k g rest ok rep ready is)
+    (coloured v flown w k g rest (record { valid = ok; represents = rep; ready = ready; running = is }))
 
 module _ (v : CollectorState) (flown : ℕ → Option Bits) (kept : (a : ℕ) → out_of v.heap.shape a ≡ None)
     (s : IsSound v flown) where

@@ -12,10 +12,9 @@ use Rattle.arena_table.specs.Cells.{CellState}
 use Rattle.arena_table.specs.Slots.{cell_in}
 use Rattle.colour_defs.specs.Ends.{Lists}
 use Rattle.colour_defs.specs.World.{World, Has, IsPresent as IsPresentName, IsSettled}
-use Rattle.heap_core.specs.Shape.{ArenaShape, AreWhole, IsPresent, Shape, is_white, name_at, out_in, out_of, present_in}
+use Rattle.heap_core.specs.Shape.{ArenaShape, AreWhole, IsPresent, Shape, is_white, out_in, out_of, present_in}
 use Rattle.heap_core.specs.Shape.{zone_of}
 use Rattle.heap_core.specs.Heap.{HeapState, joined}
-use Rattle.barriers.specs.Colours.{IsGray}
 use Rattle.barriers.specs.Invariant.{ColourInvariant, MarkingInvariant}
 use Rattle.barriers.specs.PendingLive.{GrayInvariant}
 use Rattle.barriers.specs.Spreading.{Covers}
@@ -28,7 +27,7 @@ use Rattle.slice_driver.specs.Units.{IsSound}
 use Rattle.slice_driver.specs.Worlds.{IsWokenFrom}
 use Rattle.slice_driver.proofs.group_end.Grays.{grays_listed}
 use Rattle.slice_driver.proofs.abstraction.Named.{named_present, place_of, present_named}
-use Rattle.slice_driver.proofs.marking.Steps.{settled_states}
+use Rattle.slice_driver.proofs.abstraction.Steps.{settled_states}
 
 -- a present cell is at a slot of an arena
 there : (slots : List (Option CellState)) (i : ℕ) → IsSome (cell_in slots i) → i < length slots
@@ -140,13 +139,6 @@ represents_flown c flown flying w covers same rep = record {
             let is : Some new ≡ Some b = sym now ∙ (ap (λ (h : HeapState). slice_get h.colours a) same ∙ was) in
             let one : b ≡ new = cc is in
             rep.flies.woken a old new out (e ∙ ap (λ z. Some z) one)
-
--- a gray cell is present
-pub gray_present : (c : CollectorState) (flown flying : ℕ → Option Bits) → IsSound c flown
-    → joined c.heap flying ≡ joined c.heap flown → (p : Place) → IsGray (joined c.heap flying) p
-    → IsPresent c.heap.shape p
-gray_present c flown flying s same p g =
-    s.represents.marks.holds.colours.seen_present p (inl (subst (λ h. IsGray h p) same g))
 
 -- each arena has its bits
 pub arena_coloured : (c : CollectorState) (flown : ℕ → Option Bits) (a : ℕ) → IsSound c flown

@@ -1,7 +1,7 @@
 -- The gray slots of an arena, by a word of bits.
-use Rattle.std.proofs.Common.{◌≡◌, ◌≢◌, ◌↔◌, ◌<◌, ◌≤◌, ◌+◌, ◌-◌, ◌^◌, ◌++◌, ◌==◌, ℕ, zero, suc, Bool, true, false, List}
-use Rattle.std.proofs.Common.{[], ◌∷◌, length, Option, Some, None, is_some, IsSome, slice_get, min, refl, sym, ap}
-use Rattle.std.proofs.Common.{subst, ◌∙◌, inl, inr, arith, bit_and, w64}
+use Rattle.std.proofs.Common.{◌≡◌, ◌↔◌, ◌<◌, ◌≤◌, ◌+◌, ◌-◌, ◌^◌, ◌++◌, ℕ, zero, suc, Bool, true, false, List}
+use Rattle.std.proofs.Common.{[], ◌∷◌, length, Option, Some, None, slice_get, min, refl, sym, ap}
+use Rattle.std.proofs.Common.{◌∙◌, inl, inr, arith, bit_and, w64}
 use Rattle.std.proofs.lemmas.Bool.{cases_eq}
 use Rattle.std.proofs.lemmas.Grind.{common_steps}
 use Rattle.std.proofs.lemmas.List.{append-nil}
@@ -51,9 +51,6 @@ pub record IsLeft (mask left n : ℕ) : Type 0 where
   pub within : n ≤ 64
   pub done : (k : ℕ) → k < n → bit_at left k ≡ 0
   pub same : (k : ℕ) → n ≤ k → bit_at left k ≡ bit_at mask k
-
-pub left_first : (mask : ℕ) → IsLeft mask mask 0
-left_first mask = record { within = omega arith; done = λ k lt. absurd (omega (arith, lt)); same = λ k le. refl }
 
 -- the lowest of them
 pub record IsNextSlot (mask left n : ℕ) : Type 0 where

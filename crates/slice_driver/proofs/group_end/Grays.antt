@@ -17,7 +17,7 @@ use Rattle.heap_core.specs.Shape.{name_at}
 use Rattle.heap_core.specs.Heap.{HeapState, colour_of}
 use Rattle.barriers.specs.Colours.{IsGray}
 use Rattle.slice_driver.specs.Grays.{IsGrayIn, gray_name, grays_below, grays_up_to, is_gray_colour, names_in}
-use Rattle.slice_driver.proofs.taking_in.Sorted.{lists_from_sort}
+use Rattle.slice_driver.proofs.basics.Sorted.{lists_from_sort}
 
 gray_is : (c : Colour) → is_gray_colour c ≡ true → c ≡ colour.Gray
 gray_is colour.White e = absurd (cc e)

@@ -18,29 +18,28 @@ use Rattle.arena_table.specs.Indexed.{in_zones}
 use Rattle.wrappers.specs.WrapperMaps.{list_of, place_of}
 use Rattle.wrappers.specs.declared.wrapper_maps.WrapperKey.{WrapperKey}
 use Rattle.weak_maps.specs.WeakMaps.{alive_value, is_dead_entry, value_of}
-use Rattle.colour_defs.specs.Graph.{GraphState, has_wrapper, object_of, register_cell, slot_cell}
+use Rattle.colour_defs.specs.Graph.{GraphState, register_cell, slot_cell}
 use Rattle.colour_defs.specs.Graph as graph
 use Rattle.colour_defs.specs.World.{World, Collection, IsPresent as IsPresentName}
 use Rattle.colour_defs.specs.Ends.{Lists}
 use Rattle.colour_defs.specs.Laws.{IsValid}
 use Rattle.colour_defs.specs.Present as present
 use Rattle.colour_defs.proofs.NothingWeak.{loses_nothing}
-use Rattle.colour_defs.proofs.Lists.{both_of, contains_cases, contains_head, nothing_in_none}
+use Rattle.colour_defs.proofs.Lists.{contains_cases, contains_head, nothing_in_none}
 use Rattle.colour_defs.proofs.ValidEnds.{end_valid}
 use Rattle.heap_core.specs.Shape.{HasEdge, IsPresent, cell_of, field_at, field_in, held_name, name_at, zone_of}
 use Rattle.heap_core.specs.Heap.{HeapState, colour_of}
 use Rattle.heap_core.specs.Sweeping.{handed, is_absent}
 use Rattle.heap_core.specs.Shows.{Shows, StandsFor, is_map, object_at}
 use Rattle.slice_driver.specs.Collector.{CollectorState}
-use Rattle.slice_driver.specs.Represents.{Represents}
-use Rattle.slice_driver.specs.GroupEnd.{IsEnded, IsGrayHere, IsReady}
+use Rattle.slice_driver.specs.GroupEnd.{IsEnded, IsGrayHere}
 use Rattle.slice_driver.proofs.abstraction.Named.{edge_named, name_of, named_cell, named_present, present_named}
-use Rattle.slice_driver.proofs.group_end.Ready.{groups_are, inv}
+use Rattle.slice_driver.proofs.group_end.Ready.{AtGroupEnd, groups_are, inv}
 use Rattle.slice_driver.proofs.group_end.Cells.{cell_at_end, is_dead, is_white_colour, zone_at_end}
 use Rattle.slice_driver.proofs.group_end.Graphs.{object_back, object_on, objects_kept, restrict, shows_restricted}
 use Rattle.slice_driver.proofs.group_end.Graphs.{value_back, value_kept_too, value_on, wrapper_back, wrapper_on}
-use Rattle.slice_driver.proofs.group_end.Worlds.{ended, ended_collection, ended_place, get_ended, is_kept, lawful_end}
-use Rattle.slice_driver.proofs.group_end.Worlds.{not_true, place_ended}
+use Rattle.slice_driver.proofs.group_end.Worlds.{ended, get_ended, is_kept, lawful_end}
+use Rattle.slice_driver.proofs.group_end.Worlds.{not_true}
 use Rattle.slice_driver.proofs.group_end.Wrappers.{AreAtHome, found_listed, has_kept, kept_has, listed_found, listed_is}
 
 -- what is held somewhere is held at an index
@@ -82,27 +81,28 @@ some_is None e = absurd (cc e)
 some_is (Some x) e = refl
 
 module _ (c : CollectorState) (flown : ℕ → Option Bits) (w : World) (k : Collection) (g : ZoneSet) (rest : List ZoneSet)
-    (ok : IsValid w) (s : Represents c flown w) (ready : IsReady c g rest) (at : w.collection ≡ Some k)
+    (ending : AtGroupEnd c flown w k g rest)
     (grays : List Name) (listed : Lists (IsGrayHere c.heap g) grays) (n : HeapState) (e : IsEnded c.heap g n) where
   abbrev pub after : World
   after = ended c.heap w k g rest
 
   pub valid : IsValid after
-  valid = end_valid w after k (zones_in g) (map zones_in rest) grays ok at (groups_are c flown w k g rest ok s ready at)
-      [] (lawful_end c flown w k g rest ok s ready at grays listed)
-      (loses_nothing w after s.lies.weak_is s.lies.weak_is)
+  valid = end_valid w after k (zones_in g) (map zones_in rest) grays ending.valid ending.running
+      (groups_are c flown w k g rest ending)
+      [] (lawful_end c flown w k g rest ending grays listed)
+      (loses_nothing w after ending.represents.lies.weak_is ending.represents.lies.weak_is)
 
   pub sized : length c.heap.colours ≡ length c.heap.shape.arenas
-  sized = (inv c flown w k g rest ok s ready at).holds.colours.sized
+  sized = (inv c flown w k g rest ending).holds.colours.sized
 
   pub arenas_are : n.shape.arenas ≡ handed g.bits c.heap.shape.arenas c.heap.colours
   arenas_are = ap (λ (z : HeapState). z.shape.arenas) e.rest
 
   pub cells : (p : Place) → cell_of n.shape p ≡ cond (is_dead c.heap g p) None (cell_of c.heap.shape p)
-  cells p = cell_at_end c.heap n g arenas_are sized ready.kept p
+  cells p = cell_at_end c.heap n g arenas_are sized ending.ready.kept p
 
   pub zones : (p : Place) → zone_of n.shape p ≡ zone_of c.heap.shape p
-  zones p = zone_at_end c.heap n g arenas_are sized ready.kept p
+  zones p = zone_at_end c.heap n g arenas_are sized ending.ready.kept p
 
   pub cell_on : (p : Place) → is_dead c.heap g p ≡ false → cell_of n.shape p ≡ cell_of c.heap.shape p
   cell_on p alive = cells p ∙ ap (λ b. cond b None (cell_of c.heap.shape p)) alive
@@ -141,12 +141,12 @@ module _ (c : CollectorState) (flown : ℕ → Option Bits) (w : World) (k : Col
 
   alive_kept : (p : Place) (x : Name) → name_at c.heap.shape p ≡ Some x → is_dead c.heap g p ≡ false → keep x ≡ true
   alive_kept p x named alive = ap (λ o. Rattle.slice_driver.proofs.group_end.Worlds.kept_place c.heap g o)
-      ((s.lies.places_are x p).1 named) ∙ ap not alive
+      ((ending.represents.lies.places_are x p).1 named) ∙ ap not alive
 
   kept_alive : (p : Place) (x : Name) → name_at c.heap.shape p ≡ Some x → keep x ≡ true → is_dead c.heap g p ≡ false
   kept_alive p x named kept =
       not_true _ (sym (ap (λ o. Rattle.slice_driver.proofs.group_end.Worlds.kept_place c.heap g o)
-      ((s.lies.places_are x p).1 named)) ∙ kept)
+      ((ending.represents.lies.places_are x p).1 named)) ∙ kept)
 
   stays : (x : Name) → IsPresentName after x ↔ (IsPresentName w x × (keep x ≡ true))
   stays x = (
@@ -164,20 +164,22 @@ module _ (c : CollectorState) (flown : ℕ → Option Bits) (w : World) (k : Col
   present_alive p x named there = kept_alive p x named ((stays x).0 there).1
 
   abbrev pub graph_after : GraphState
-  graph_after = restrict s.lies.graph keep
+  graph_after = restrict ending.represents.lies.graph keep
 
-  shown : Shows c.heap s.lies.graph
-  shown = s.lies.shown
+  shown : Shows c.heap ending.represents.lies.graph
+  shown = ending.represents.lies.shown
 
   pub part : present.Shows after graph_after
-  part = shows_restricted s.lies.graph keep w after s.lies.part refl stays valid.presence ok.graph
+  part = shows_restricted ending.represents.lies.graph keep w after ending.represents.lies.part refl stays
+      valid.presence ending.valid.graph
 
   reg_alive : (p : Place) → Contains c.heap.shape.regs (Some p) → is_dead c.heap g p ≡ false
   reg_alive p held =
       let x = name_of c.heap.shape p (shown.registers_held p held) in
       let r = held_index (held_name c.heap.shape) c.heap.shape.regs p x.0 held x.1 in
       let cell : register_cell w.graph r.0 ≡ Some x.0 =
-      ap (λ rs. slice_index_or rs r.0 None) (sym s.lies.part.part.registers ∙ shown.registers_are) ∙ r.1 in
+      ap (λ rs. slice_index_or rs r.0 None) (sym ending.represents.lies.part.part.registers ∙ shown.registers_are)
+          ∙ r.1 in
       present_alive p x.0 x.1 (valid.presence.registers r.0 x.0 cell)
 
   slot_alive : (p : Place) → Contains c.heap.shape.slots (Some p) → is_dead c.heap g p ≡ false
@@ -185,7 +187,7 @@ module _ (c : CollectorState) (flown : ℕ → Option Bits) (w : World) (k : Col
       let x = name_of c.heap.shape p (shown.slots_held p held) in
       let r = held_index (held_name c.heap.shape) c.heap.shape.slots p x.0 held x.1 in
       let cell : slot_cell w.graph r.0 ≡ Some x.0 =
-      ap (λ rs. slice_index_or rs r.0 None) (sym s.lies.part.part.slots ∙ shown.slots_are) ∙ r.1 in
+      ap (λ rs. slice_index_or rs r.0 None) (sym ending.represents.lies.part.part.slots ∙ shown.slots_are) ∙ r.1 in
       present_alive p x.0 x.1 (valid.presence.slots r.0 x.0 cell)
 
   -- a cell that stays names only cells that stay
@@ -195,8 +197,8 @@ module _ (c : CollectorState) (flown : ℕ → Option Bits) (w : World) (k : Col
       let y = name_of c.heap.shape q (shown.fields_held p q edge.0 edge.2) in
       present_alive q y.0 y.1
       (valid.presence.edges x.0 y.0
-      ((stays x.0).1 (present_named c.heap w s.lies p x.0 x.1, alive_kept p x.0 x.1 alive))
-      (edge_named c.heap w s.lies p q x.0 y.0 x.1 y.1 edge))
+      ((stays x.0).1 (present_named c.heap w ending.represents.lies p x.0 x.1, alive_kept p x.0 x.1 alive))
+      (edge_named c.heap w ending.represents.lies p q x.0 y.0 x.1 y.1 edge))
 
   field_alive : (p q : Place) (cell : CellState) (f : ℕ) → cell_of c.heap.shape p ≡ Some cell → field_of cell f ≡ Some q
       → is_dead c.heap g p ≡ false → is_dead c.heap g q ≡ false
@@ -258,8 +260,8 @@ module _ (c : CollectorState) (flown : ℕ → Option Bits) (w : World) (k : Col
       zone_same z at named =
           let d = named_cell c.heap.shape p (Wrap comp t) named in
           let is = shown.cells p d.0 d.1 in
-          let stands : StandsFor c.heap.shape s.lies.graph p d.0 (Wrap comp t) =
-          subst (λ y. StandsFor c.heap.shape s.lies.graph p d.0 y) d.2 is.stands in
+          let stands : StandsFor c.heap.shape ending.represents.lies.graph p d.0 (Wrap comp t) =
+          subst (λ y. StandsFor c.heap.shape ending.represents.lies.graph p d.0 y) d.2 is.stands in
           let same : Some (zone_of c.heap.shape p) ≡ Some z = sym is.at_home
           ∙ ap (λ (m : CompNo). slice_get c.heap.shape.comps m.0) stands.comp_is ∙ at in
           cc same
@@ -278,8 +280,8 @@ module _ (c : CollectorState) (flown : ℕ → Option Bits) (w : World) (k : Col
       let old = name_back p (Wrap comp t) named in
       let cell = named_cell c.heap.shape p (Wrap comp t) old.0 in
       let is = shown.cells p cell.0 cell.1 in
-      let stands : StandsFor c.heap.shape s.lies.graph p cell.0 (Wrap comp t) =
-      subst (λ y. StandsFor c.heap.shape s.lies.graph p cell.0 y) cell.2 is.stands in
+      let stands : StandsFor c.heap.shape ending.represents.lies.graph p cell.0 (Wrap comp t) =
+      subst (λ y. StandsFor c.heap.shape ending.represents.lies.graph p cell.0 y) cell.2 is.stands in
       let r = found_listed c.heap.shape.comps c.heap.shape.wrappers home comp t p stands.mapped in
       let there = in_new r.0 (record { comp = comp.0; target = t }, p) r.2
       (some_is (cell_of n.shape p) (named_present n.shape p (Wrap comp t) named)) in
@@ -296,11 +298,11 @@ module _ (c : CollectorState) (flown : ℕ → Option Bits) (w : World) (k : Col
           (name_back p (Wrap comp t) named).0)
 
   stands_after : (p : Place) (cell : CellState) (x : Name) → cell_of n.shape p ≡ Some cell → name_at n.shape p ≡ Some x
-      → StandsFor c.heap.shape s.lies.graph p cell x → StandsFor n.shape graph_after p cell x
+      → StandsFor c.heap.shape ending.represents.lies.graph p cell x → StandsFor n.shape graph_after p cell x
   stands_after p cell (Cell m) there named stands =
       (let old = cell_back p cell there in (
         stands.0,
-        object_on s.lies.graph keep m (object_at n.shape cell)
+        object_on ending.represents.lies.graph keep m (object_at n.shape cell)
             (alive_kept p (Cell m) (name_back p (Cell m) named).0 old.1)
             (stands.1 ∙ ap (λ z. Some z) (object_same p cell old.0 old.1)),
       ))
@@ -312,7 +314,8 @@ module _ (c : CollectorState) (flown : ℕ → Option Bits) (w : World) (k : Col
     target_is = name_on stands.target
         (field_alive p stands.target cell 0 old.0 (ap (λ fs. joined (slice_get fs 0)) stands.fields_is) old.1)
         ∙ stands.target_is;
-    known = wrapper_on s.lies.graph keep comp t (alive_kept p (Wrap comp t) (name_back p (Wrap comp t) named).0 old.1)
+    known = wrapper_on ending.represents.lies.graph keep comp t
+        (alive_kept p (Wrap comp t) (name_back p (Wrap comp t) named).0 old.1)
         stands.known;
     mapped = found_after comp t p named;
   })
@@ -366,12 +369,13 @@ module _ (c : CollectorState) (flown : ℕ → Option Bits) (w : World) (k : Col
       × (v : Place) × (value_of n.shape.weak m q ≡ Some v) × (name_at n.shape m ≡ Some x) × (name_at n.shape q ≡ Some y)
       × (name_at n.shape v ≡ Some z)
   entries_known_after x y z f =
-      let r = value_back s.lies.graph keep x y z f in
+      let r = value_back ending.represents.lies.graph keep x y z f in
       let o = shown.entries_known x y z r.2 in
       let am = kept_alive o.0 x o.4 r.0 in
       let aq = kept_alive o.1 y o.5 r.1 in
       let av = kept_alive o.2 z o.6
-      (value_kept_too s.lies.graph keep w after s.lies.part refl stays valid.presence ok.graph x y z r.0 r.1 r.2) in
+      (value_kept_too ending.represents.lies.graph keep w after ending.represents.lies.part refl stays valid.presence
+          ending.valid.graph x y z r.0 r.1 r.2) in
       let nm = name_on o.0 am ∙ o.4 in
       let nq = name_on o.1 aq ∙ o.5 in
       let nv = name_on o.2 av ∙ o.6 in (
@@ -389,7 +393,7 @@ module _ (c : CollectorState) (flown : ℕ → Option Bits) (w : World) (k : Col
   shows_after = record {
     zones_are = shown.zones_are ∙ sym e.sized;
     comps_are = shown.comps_are ∙ sym comps_same;
-    objects_made = objects_kept s.lies.graph keep ∙ shown.objects_made
+    objects_made = objects_kept ending.represents.lies.graph keep ∙ shown.objects_made
         ∙ sym (ap (λ (z : HeapState). z.shape.objects) e.rest);
     registers_are = shown.registers_are
         ∙ map_same _ _ c.heap.shape.regs
@@ -418,17 +422,18 @@ module _ (c : CollectorState) (flown : ℕ → Option Bits) (w : World) (k : Col
           ∙ ap (λ z. Some z) (sym (zones p));
     });
     apart = λ p q x a b. shown.apart p q x (name_back p x a).0 (name_back q x b).0;
-    objects_are = λ m o f. (let r = object_back s.lies.graph keep m o f in let p = shown.objects_are m o r.1 in
+    objects_are = λ m o f. (let r = object_back ending.represents.lies.graph keep m o f in
+        let p = shown.objects_are m o r.1 in
         (p.0, name_on p.0 (kept_alive p.0 (Cell m) p.1 r.0) ∙ p.1));
     wrappers_are = λ comp t f.
-        (let r = wrapper_back s.lies.graph keep comp t f in let p = shown.wrappers_are comp t r.1 in
+        (let r = wrapper_back ending.represents.lies.graph keep comp t f in let p = shown.wrappers_are comp t r.1 in
         (p.0, name_on p.0 (kept_alive p.0 (Wrap comp t) p.1 r.0) ∙ p.1));
     mapped = mapped_after;
     maps_at_home = λ z d there. ap (λ (cs : List ℕ). slice_get cs d.0.comp) comps_same ∙ home_after z d there;
     entries_held = entry_present;
     entries_are = λ m q v x y z f a b d.
         (let om = name_back m x a in let oq = name_back q y b in let ov = name_back v z d in
-        value_on s.lies.graph keep x y (alive_kept m x om.0 om.1) (alive_kept q y oq.0 oq.1)
+        value_on ending.represents.lies.graph keep x y (alive_kept m x om.0 om.1) (alive_kept q y oq.0 oq.1)
         ∙ shown.entries_are m q v x y z (entry_was m q v f) om.0 oq.0 ov.0);
     entries_known = entries_known_after;
     few_objects = subst (λ (z : HeapState). z.shape.objects ≤ z.made) (sym e.rest) shown.few_objects;

@@ -18,7 +18,7 @@ use Rattle.slice_driver.specs.Represents.{Represents}
 use Rattle.slice_driver.specs.GroupEnd.{AreJustFlown, EndsIn, IsGrayHere, IsReady}
 use Rattle.slice_driver.specs.Units.{flown_by}
 use Rattle.slice_driver.proofs.group_end.Heaps.{valid}
-use Rattle.slice_driver.proofs.group_end.Ready.{collection_of}
+use Rattle.slice_driver.proofs.group_end.Ready.{AtGroupEnd, collection_of}
 use Rattle.slice_driver.proofs.group_end.Runs.{represents_after}
 use Rattle.slice_driver.proofs.group_end.Worlds.{ended, ends_group}
 
@@ -27,11 +27,13 @@ pub group_ends : (c d : CollectorState) (flown flying : ℕ → Option Bits) (w 
     → AreJustFlown d.heap.shape flying → Lists (IsGrayHere c.heap g) grays
     → (v : World) × EndsGroup w (zones_in g) grays [] v × IsValid v × Represents d flying v
 group_ends c d flown flying w g rest grays ok s ready ends flies listed =
-    let k = collection_of c (heap_with c flown) w ready.run ready.running s.runs in (
+    let k = collection_of c (heap_with c flown) w ready.run ready.running s.runs in
+    let ending : AtGroupEnd c flown w k.0 g rest = record { valid = ok; represents = s; ready = ready; running = k.1 }
+        in (
       ended c.heap w k.0 g rest,
-      ends_group c flown w k.0 g rest ok s ready k.1 grays listed,
-      valid c flown w k.0 g rest ok s ready k.1 grays listed d.heap ends.heap,
-      represents_after c flown w k.0 g rest ok s ready k.1 grays listed d ends flying flies,
+      ends_group c flown w k.0 g rest ending grays listed,
+      valid c flown w k.0 g rest ending grays listed d.heap ends.heap,
+      represents_after c flown w k.0 g rest ending grays listed d ends flying flies,
     )
 
 -- no job is that of an arena before the first

@@ -14,7 +14,6 @@ use Rattle.roots.specs.Buffers.{buffer_at}
 use Rattle.gray_lists.specs.Incoming.{waiting_count}
 use Rattle.colour_defs.specs.World.{World, Collection}
 use Rattle.colour_defs.specs.Ends.{Lists}
-use Rattle.colour_defs.specs.Laws.{IsValid}
 use Rattle.colour_defs.proofs.Lists.{both_of, first_of_both, second_of_both}
 use Rattle.heap_core.specs.Shape.{ArenaShape, HasEdge, IsPresent, cell_of, field_at, field_in, is_marking}
 use Rattle.heap_core.specs.Shape.{is_marking_state, is_white, out_of, state_in, zone_of}
@@ -34,9 +33,8 @@ use Rattle.barriers.proofs.Places.{nothing_in_none}
 use Rattle.barriers.proofs.BlackClosure.{pending_is_reached, reached_is_pending}
 use Rattle.barriers.proofs.LiveClosure.{live_is_reached, reached_is_live}
 use Rattle.slice_driver.specs.Collector.{CollectorState}
-use Rattle.slice_driver.specs.Represents.{Represents}
-use Rattle.slice_driver.specs.GroupEnd.{IsEnded, IsGrayHere, IsReady}
-use Rattle.slice_driver.proofs.group_end.Ready.{gray, inv, ordered}
+use Rattle.slice_driver.specs.GroupEnd.{IsEnded, IsGrayHere}
+use Rattle.slice_driver.proofs.group_end.Ready.{AtGroupEnd, gray, inv, ordered}
 use Rattle.slice_driver.proofs.group_end.Colours.{colours_are}
 use Rattle.slice_driver.proofs.group_end.Cells.{handed_length, has_in_zones, in_zones_has, is_dead, is_white_colour}
 use Rattle.slice_driver.proofs.group_end.Cells.{out_at_end, some_out, zone_or_not}
@@ -46,13 +44,13 @@ use Rattle.slice_driver.proofs.group_end.Places.{black_follows, black_values, ed
 use Rattle.slice_driver.proofs.group_end.Worlds.{is_white_test}
 
 module _ (c : CollectorState) (flown : ℕ → Option Bits) (w : World) (k : Collection) (g : ZoneSet) (rest : List ZoneSet)
-    (ok : IsValid w) (s : Represents c flown w) (ready : IsReady c g rest) (at : w.collection ≡ Some k)
+    (ending : AtGroupEnd c flown w k g rest)
     (grays : List Name) (listed : Lists (IsGrayHere c.heap g) grays) (n : HeapState) (e : IsEnded c.heap g n) where
   was : MarkingInvariant c.heap c.stack
-  was = inv c flown w k g rest ok s ready at
+  was = inv c flown w k g rest ending
 
   was_gray : GrayInvariant c.heap c.stack c.lists
-  was_gray = gray c flown w k g rest ok s ready at
+  was_gray = gray c flown w k g rest ending
 
   pub colours_same : n.colours ≡ c.heap.colours
   colours_same = ap (λ (z : HeapState). z.colours) e.rest
@@ -76,7 +74,7 @@ module _ (c : CollectorState) (flown : ℕ → Option Bits) (w : World) (k : Col
   seen_back p sn = elim sn [ inl gr ↦ inl (sym (colour_same p) ∙ gr) | inr b ↦ inr (sym (colour_same p) ∙ b) ]
 
   zone_same : (p : Place) → zone_of n.shape p ≡ zone_of c.heap.shape p
-  zone_same p = zones c flown w k g rest ok s ready at grays listed n e p
+  zone_same p = zones c flown w k g rest ending grays listed n e p
 
   pub alive : (p : Place) → IsSeen c.heap p → is_dead c.heap g p ≡ false
   alive p sn = go (is_dead c.heap g p) refl
@@ -106,7 +104,7 @@ module _ (c : CollectorState) (flown : ℕ → Option Bits) (w : World) (k : Col
   group_done z here = elim (state_group z here) [ inl sw ↦ ap is_marking_state sw | inr fin ↦ ap is_marking_state fin ]
 
   pub in_group : (z : ℕ) → HasZone g.bits z ⊎ (HasZone g.bits z → ⊥)
-  in_group z = zone_or_not g ready.small z
+  in_group z = zone_or_not g ending.ready.small z
 
   -- a marking zone is none of the group
   pub marking_before : (z : ℕ) → is_marking_state (state_in n.shape z) ≡ true → (HasZone g.bits z → ⊥)
@@ -117,10 +115,10 @@ module _ (c : CollectorState) (flown : ℕ → Option Bits) (w : World) (k : Col
   ]
 
   present_was : (p : Place) → IsPresent n.shape p → IsPresent c.heap.shape p × (is_dead c.heap g p ≡ false)
-  present_was p there = present_back c flown w k g rest ok s ready at grays listed n e p there
+  present_was p there = present_back c flown w k g rest ending grays listed n e p there
 
   present_stays : (p : Place) → IsPresent c.heap.shape p → is_dead c.heap g p ≡ false → IsPresent n.shape p
-  present_stays p there stays = present_on c flown w k g rest ok s ready at grays listed n e p there stays
+  present_stays p there stays = present_on c flown w k g rest ending grays listed n e p there stays
 
   pub edge_was : (p q : Place) → HasEdge n.shape p q → HasEdge c.heap.shape p q × (is_dead c.heap g p ≡ false)
   edge_was p q ed =
@@ -128,7 +126,7 @@ module _ (c : CollectorState) (flown : ℕ → Option Bits) (w : World) (k : Col
         (
           ed.0,
           ed.1,
-          sym (ap (λ o. field_in o ed.0) (cell_on c flown w k g rest ok s ready at grays listed n e p stays))
+          sym (ap (λ o. field_in o ed.0) (cell_on c flown w k g rest ending grays listed n e p stays))
               ∙ ed.2,
         ),
         stays,
@@ -136,10 +134,10 @@ module _ (c : CollectorState) (flown : ℕ → Option Bits) (w : World) (k : Col
 
   pub edge_stays : (p q : Place) → HasEdge c.heap.shape p q → is_dead c.heap g p ≡ false → HasEdge n.shape p q
   edge_stays p q ed stays =
-      (ed.0, ed.1, ap (λ o. field_in o ed.0) (cell_on c flown w k g rest ok s ready at grays listed n e p stays) ∙ ed.2)
+      (ed.0, ed.1, ap (λ o. field_in o ed.0) (cell_on c flown w k g rest ending grays listed n e p stays) ∙ ed.2)
 
   target_alive : (p q : Place) → HasEdge c.heap.shape p q → is_dead c.heap g p ≡ false → is_dead c.heap g q ≡ false
-  target_alive p q ed stays = edge_alive c flown w k g rest ok s ready at grays listed n e p q ed stays
+  target_alive p q ed stays = edge_alive c flown w k g rest ending grays listed n e p q ed stays
 
   shape_after : ShapeInvariant n.shape
   shape_after = record {
@@ -148,14 +146,14 @@ module _ (c : CollectorState) (flown : ℕ → Option Bits) (w : World) (k : Col
         (was.holds.colours.shape.made x (present_was x there).0));
     at_home = λ x cell there. ap (λ (z : HeapState). slice_get z.shape.comps cell.comp.0) e.rest
         ∙ was.holds.colours.shape.at_home x cell
-        (cell_back c flown w k g rest ok s ready at grays listed n e x cell there).0
+        (cell_back c flown w k g rest ending grays listed n e x cell there).0
         ∙ ap (λ z. Some z) (sym (zone_same x));
-    targets = λ x y ed. (shows_after c flown w k g rest ok s ready at grays listed n e).fields_held x y ed.0 ed.2;
+    targets = λ x y ed. (shows_after c flown w k g rest ending grays listed n e).fields_held x y ed.0 ed.2;
     across = across;
-    entries = λ m q v f. entry_present c flown w k g rest ok s ready at grays listed n e m q v f;
+    entries = λ m q v f. entry_present c flown w k g rest ending grays listed n e m q v f;
     one_zone = λ m q v f.
         (let z = was.holds.colours.shape.one_zone m q v
-        (entry_was c flown w k g rest ok s ready at grays listed n e m q v f) in
+        (entry_was c flown w k g rest ending grays listed n e m q v f) in
         (zone_same m ∙ z.0 ∙ sym (zone_same v), zone_same q ∙ z.1 ∙ sym (zone_same v)));
     kept = λ x m. kept x (in_zones g.bits (zone_of c.heap.shape x)) refl m;
   }
@@ -168,7 +166,7 @@ module _ (c : CollectorState) (flown : ℕ → Option Bits) (w : World) (k : Col
           go None there h = absurd (cc h)
           go (Some cell) there h =
               was.holds.colours.shape.across x y f lt
-              (ap (λ o. field_in o f) (cell_back c flown w k g rest ok s ready at grays listed n e x cell there).0 ∙ h)
+              (ap (λ o. field_in o f) (cell_back c flown w k g rest ending grays listed n e x cell there).0 ∙ h)
               (λ z. apart (zone_same x ∙ z ∙ sym (zone_same y)))
 
       kept : (x : Place) (t : Bool) → in_zones g.bits (zone_of c.heap.shape x) ≡ t → is_marking n.shape x ≡ true
@@ -176,20 +174,20 @@ module _ (c : CollectorState) (flown : ℕ → Option Bits) (w : World) (k : Col
       kept x true t m = absurd
           (cc (
             group_done (zone_of n.shape x)
-                (subst (λ z. HasZone g.bits z) (sym (zone_same x)) (in_zones_has g ready.small _ t)),
+                (subst (λ z. HasZone g.bits z) (sym (zone_same x)) (in_zones_has g ending.ready.small _ t)),
             m,
           ))
-      kept x false t m = out_at_end c.heap n g (arenas_are c flown w k g rest ok s ready at grays listed n e)
-          (sized c flown w k g rest ok s ready at grays listed n e) ready.kept x.0
+      kept x false t m = out_at_end c.heap n g (arenas_are c flown w k g rest ending grays listed n e)
+          (sized c flown w k g rest ending grays listed n e) ending.ready.kept x.0
           ∙ ap (λ b. cond b (slice_get c.heap.colours x.0) None) t
 
   colours_after : ColourInvariant n
   colours_after = record {
     shape = shape_after;
-    sized = ap (λ (cs : List Bits). length cs) colours_same ∙ sized c flown w k g rest ok s ready at grays listed n e
-        ∙ sym (ap (λ (xs : List ArenaShape). length xs) (arenas_are c flown w k g rest ok s ready at grays listed n e)
+    sized = ap (λ (cs : List Bits). length cs) colours_same ∙ sized c flown w k g rest ending grays listed n e
+        ∙ sym (ap (λ (xs : List ArenaShape). length xs) (arenas_are c flown w k g rest ending grays listed n e)
         ∙ handed_length g.bits c.heap.shape.arenas c.heap.colours
-        (sized c flown w k g rest ok s ready at grays listed n e));
+        (sized c flown w k g rest ending grays listed n e));
     seen_present = λ x sn. (let o = seen_back x sn in present_stays x (was.holds.colours.seen_present x o) (alive x o));
     no_white = λ x there m. (let o = present_was x there in elim (in_group (zone_of c.heap.shape x)) [
       | inl here ↦ seen_on x (alive_seen x here o.1)
@@ -212,13 +210,14 @@ module _ (c : CollectorState) (flown : ℕ → Option Bits) (w : World) (k : Col
   empty xs x none held = nothing_in_none x (subst (λ ys. Contains ys x) none held)
 
   entry_then : (m q v : Place) → HasEntry n.shape m q v → HasEntry c.heap.shape m q v
-  entry_then m q v f = entry_was c flown w k g rest ok s ready at grays listed n e m q v f
+  entry_then m q v f = entry_was c flown w k g rest ending grays listed n e m q v f
 
   -- where a zone still takes gray it did, and entries are left as they were
   weak_after : WeakPoint n c.stack (left_of n)
   weak_after = record {
     black = λ m q v f bm bq on.
-        inl (black_on v (black_values c.heap c.stack c.lists was was_gray g ready.marked m q v (entry_then m q v f)
+        inl (black_on v (black_values c.heap c.stack c.lists was was_gray g ending.ready.marked m q v
+            (entry_then m q v f)
         (black_back m bm) (black_back q bq)));
     gray = λ m q v f sm sq takes.
         let then_state = ap (state_in c.heap.shape) (sym (zone_same v))
@@ -236,16 +235,16 @@ module _ (c : CollectorState) (flown : ℕ → Option Bits) (w : World) (k : Col
     holds = record {
       colours = colours_after;
       piles = record {
-        black = λ x held. absurd (empty c.stack.black x ready.marked.black_empty held);
+        black = λ x held. absurd (empty c.stack.black x ending.ready.marked.black_empty held);
         wake = λ x held. absurd (empty c.stack.wake x was.none_woken held);
-        gray = λ x held. absurd (empty c.stack.gray x ready.marked.gray_empty held);
+        gray = λ x held. absurd (empty c.stack.gray x ending.ready.marked.gray_empty held);
       };
       closed = λ x y b ed.
-          inl (black_on y (black_follows c.heap c.stack c.lists was was_gray g ready.marked x y (black_back x b)
+          inl (black_on y (black_follows c.heap c.stack c.lists was was_gray g ending.ready.marked x y (black_back x b)
           (edge_was x y ed).0));
       weak_closed = λ m q v f bm bq mv.
-          inl (black_on v (black_values c.heap c.stack c.lists was was_gray g ready.marked m q v
-          (entry_was c flown w k g rest ok s ready at grays listed n e m q v f) (black_back m bm) (black_back q bq)));
+          inl (black_on v (black_values c.heap c.stack c.lists was was_gray g ending.ready.marked m q v
+          (entry_was c flown w k g rest ending grays listed n e m q v f) (black_back m bm) (black_back q bq)));
     };
     none_woken = was.none_woken;
     weak = weak_after;
@@ -268,8 +267,8 @@ module _ (c : CollectorState) (flown : ℕ → Option Bits) (w : World) (k : Col
       go : (t : Bool) → is_dead c.heap g x ≡ t → zone_of c.heap.shape x ≡ z → is_dead c.heap g x ≡ false
       go false t is = t
       go true t is = (let here : HasZone g.bits z =
-          subst (λ y. HasZone g.bits y) is (in_zones_has g ready.small _ (first_of_both _ _ t)) in
-          absurd (empty _ x (ready.marked.none_buffered z here) held))
+          subst (λ y. HasZone g.bits y) is (in_zones_has g ending.ready.small _ (first_of_both _ _ t)) in
+          absurd (empty _ x (ending.ready.marked.none_buffered z here) held))
 
   covered : (x y : Place) → is_dead c.heap g y ≡ false → IsCovered c.heap c.stack c.lists x y
       → IsCovered n c.stack c.lists x y
@@ -285,7 +284,7 @@ module _ (c : CollectorState) (flown : ℕ → Option Bits) (w : World) (k : Col
         ↦ inr (inr (inr (
           noted.0,
           ap (option_map (λ (z : CellState). z.comp))
-              (cell_on c flown w k g rest ok s ready at grays listed n e y stays)
+              (cell_on c flown w k g rest ending grays listed n e y stays)
               ∙ noted.1,
           noted.2,
         )))
@@ -312,14 +311,14 @@ module _ (c : CollectorState) (flown : ℕ → Option Bits) (w : World) (k : Col
   pub pending_after : (p : Place) → PendingBlack n c.stack p ↔ PendingBlack c.heap c.stack p
   pending_after p = (
     λ l. reached_is_pending c.heap c.stack was (back (pending_is_reached n c.stack marks_after l)),
-    λ l. black_closure.black (black_on p (pending_black c.heap c.stack c.lists was was_gray g ready.marked p l)),
+    λ l. black_closure.black (black_on p (pending_black c.heap c.stack c.lists was was_gray g ending.ready.marked p l)),
   )
     where
       back : {x : Place} → Reached n.shape (IsBlack n) x → Reached c.heap.shape (IsBlack c.heap) x
       back (reached.from {x} b) = reached.from (black_back x b)
       back (reached.along {x} {y} r ed) = reached.along (back r) (edge_was x y ed).0
       back (reached.weak {m} {k = q} {v} f a b) =
-          reached.weak (entry_was c flown w k g rest ok s ready at grays listed n e m q v f) (back a) (back b)
+          reached.weak (entry_was c flown w k g rest ending grays listed n e m q v f) (back a) (back b)
 
   -- what is left to reach isn't dead
   pub live_alive : (p : Place) → PendingLive c.heap c.stack c.lists p → is_dead c.heap g p ≡ false
@@ -327,8 +326,8 @@ module _ (c : CollectorState) (flown : ℕ → Option Bits) (w : World) (k : Col
     where
       go : (t : Bool) → is_dead c.heap g p ≡ t → is_dead c.heap g p ≡ false
       go false t = t
-      go true t = alive p (pending_live c.heap c.stack c.lists was was_gray g ready.marked
-          (ordered c flown w k g rest ok s ready at) p l (in_zones_has g ready.small _ (first_of_both _ _ t)))
+      go true t = alive p (pending_live c.heap c.stack c.lists was was_gray g ending.ready.marked
+          (ordered c flown w k g rest ending) p l (in_zones_has g ending.ready.small _ (first_of_both _ _ t)))
 
   start_on : (p : Place) → IsLiveStart c.heap p → IsLiveStart n p
   start_on p st = elim st [
@@ -348,7 +347,7 @@ module _ (c : CollectorState) (flown : ℕ → Option Bits) (w : World) (k : Col
   live_back (reached.from {x} st) = reached.from (start_back x st)
   live_back (reached.along {x} {y} r ed) = reached.along (live_back r) (edge_was x y ed).0
   live_back (reached.weak {m} {k = q} {v} f a b) =
-      reached.weak (entry_was c flown w k g rest ok s ready at grays listed n e m q v f) (live_back a) (live_back b)
+      reached.weak (entry_was c flown w k g rest ending grays listed n e m q v f) (live_back a) (live_back b)
 
   reached_alive : (p : Place) → Reached c.heap.shape (IsLiveStart c.heap) p → is_dead c.heap g p ≡ false
   reached_alive p r = live_alive p (reached_is_live c.heap c.stack c.lists was was_gray r)
@@ -358,7 +357,7 @@ module _ (c : CollectorState) (flown : ℕ → Option Bits) (w : World) (k : Col
   live_on (reached.along {x} {y} r ed) = reached.along (live_on r) (edge_stays x y ed (reached_alive x r))
   live_on (reached.weak {m} {k = q} {v} f a b) =
       let there = was.holds.colours.shape.entries m q v f in
-      reached.weak (entry_on c flown w k g rest ok s ready at grays listed n e m q v f
+      reached.weak (entry_on c flown w k g rest ending grays listed n e m q v f
       (present_stays m there.0 (reached_alive m a)) (present_stays q there.1 (reached_alive q b))
       (present_stays v there.2 (reached_alive v (reached.weak f a b)))) (live_on a) (live_on b)
 

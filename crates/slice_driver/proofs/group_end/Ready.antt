@@ -1,5 +1,5 @@
 -- What is known of a collector whose current group is ready to end.
-use Rattle.std.proofs.Common.{◌≡◌, ◌⊎◌, ◌↔◌, ℕ, zero, suc, Bool, true, false, inl, inr, refl, sym, ap, ◌∙◌, subst}
+use Rattle.std.proofs.Common.{◌≡◌, ◌⊎◌, ℕ, suc, true, false, inl, inr, refl, sym, ap, ◌∙◌, subst}
 use Rattle.std.proofs.Common.{Option, None, Some, is_some, List, [], ◌∷◌, map, Contains}
 use Rattle.gz_names.specs.Zones.{HasZone, zones_in}
 use Rattle.gz_names.specs.declared.names.Name.{Name}
@@ -85,30 +85,38 @@ collection_of c h w r e i = go w.collection refl (subst (λ (o : Option RunState
     go None f i = absurd i
     go (Some k) f i = (k, f)
 
+-- a collector stands for a valid world, in which this collection runs, and its current group is ready to end
+pub record AtGroupEnd (c : CollectorState) (flown : ℕ → Option Bits) (w : World) (k : Collection) (g : ZoneSet)
+    (rest : List ZoneSet) : Type 0 where
+  pub valid : IsValid w
+  pub represents : Represents c flown w
+  pub ready : IsReady c g rest
+  pub running : w.collection ≡ Some k
+
 module _ (c : CollectorState) (flown : ℕ → Option Bits) (w : World) (k : Collection) (g : ZoneSet) (rest : List ZoneSet)
-    (ok : IsValid w) (s : Represents c flown w) (ready : IsReady c g rest) (at : w.collection ≡ Some k) where
+    (ending : AtGroupEnd c flown w k g rest) where
   none_out : (a : ℕ) → flown a ≡ None
-  none_out a = no_some (flown a) (s.flies.covers a ∙ ap is_some (ready.kept a))
+  none_out a = no_some (flown a) (ending.represents.flies.covers a ∙ ap is_some (ending.ready.kept a))
 
   pub heap_is : heap_with c flown ≡ c.heap
-  heap_is = joined_none c.heap flown s.delayed none_out
+  heap_is = joined_none c.heap flown ending.represents.delayed none_out
 
   pub inv : MarkingInvariant c.heap c.stack
-  inv = subst (λ h. MarkingInvariant h c.stack) heap_is s.marks
+  inv = subst (λ h. MarkingInvariant h c.stack) heap_is ending.represents.marks
 
   pub gray : GrayInvariant c.heap c.stack c.lists
-  gray = subst (λ h. GrayInvariant h c.stack c.lists) heap_is s.gray
+  gray = subst (λ h. GrayInvariant h c.stack c.lists) heap_is ending.represents.gray
 
-  pub runs : Runs c.heap c w ready.run k
-  runs = subst (λ h. Runs h c w ready.run k) heap_is
-      (runs_of c (heap_with c flown) w ready.run k ready.running at s.runs)
+  pub runs : Runs c.heap c w ending.ready.run k
+  runs = subst (λ h. Runs h c w ending.ready.run k) heap_is
+      (runs_of c (heap_with c flown) w ending.ready.run k ending.ready.running ending.running ending.represents.runs)
 
   pub groups_are : k.groups ≡ Some (zones_in g ∷ map zones_in rest)
   groups_are = runs.groups_are ∙ ap (λ b. Rattle.std.proofs.Common.cond b (Some (map zones_in c.groups)) None)
-      ready.formed ∙ ap (λ gs. Some (map zones_in gs)) ready.groups_are
+      ending.ready.formed ∙ ap (λ gs. Some (map zones_in gs)) ending.ready.groups_are
 
   pub groups_ok : AreValidGroups w k (zones_in g ∷ map zones_in rest)
-  groups_ok = ok.groups k _ at groups_are
+  groups_ok = ending.valid.groups k _ ending.running groups_are
 
   pub some_zone : (z : ℕ) × Contains (zones_in g) z
   some_zone = some_member (zones_in g) (groups_ok.full (zones_in g) (contains_head _ _))
@@ -124,32 +132,34 @@ module _ (c : CollectorState) (flown : ℕ → Option Bits) (w : World) (k : Col
       let i = groups_ok.in_some z ((runs.marking_are z).1 m) in
       elim (contains_cases (zones_in g) (map zones_in rest) i.0 i.1) [
         | inl e ↦ inl ((zones_in-has g z).0 (subst (λ xs. Contains xs z) (sym e) i.2))
-        | inr t ↦ elim (runs.states.later ready.formed z
-            (subst (λ gs. IsInGroups gs z) (sym ready.groups_are) (in_groups_from (g ∷ rest) i.0 z i.1 i.2))) [
+        | inr t ↦ elim (runs.states.later ending.ready.formed z
+            (subst (λ gs. IsInGroups gs z) (sym ending.ready.groups_are) (in_groups_from (g ∷ rest) i.0 z i.1 i.2))) [
               | inl only ↦ inr (only, i.0, t, i.2)
-              | inr both ↦ inl (subst (λ gs. IsCurrent gs z) ready.groups_are both.0)
+              | inr both ↦ inl (subst (λ gs. IsCurrent gs z) ending.ready.groups_are both.0)
             ]
       ]
 
   group_takes_gray : (z : ℕ) → HasZone g.bits z → state_in c.heap.shape z ≡ state.MarkBlackOnly → ⊥
-  group_takes_gray z here only = cc (ready.marked.begun z here, only)
+  group_takes_gray z here only = cc (ending.ready.marked.begun z here, only)
 
   pub black_is : (x : Name) (p : Place) → name_at c.heap.shape p ≡ Some x → BlackClosure k x → IsBlack c.heap p
-  black_is x p named b = pending_black c.heap c.stack c.lists inv gray g ready.marked p ((tied.black x p named).1 b)
+  black_is x p named b = pending_black c.heap c.stack c.lists inv gray g ending.ready.marked p
+      ((tied.black x p named).1 b)
 
   pub is_black : (x : Name) (p : Place) → name_at c.heap.shape p ≡ Some x → IsBlack c.heap p → BlackClosure k x
   is_black x p named b = (tied.black x p named).0 (black_closure.black b)
 
   zone_is : (x : Name) (p : Place) → name_at c.heap.shape p ≡ Some x
       → graph.zone_of w.graph x ≡ Some (zone_of c.heap.shape p)
-  zone_is x p named = zone_named c.heap s.lies.graph w.graph p x s.lies.shown s.lies.part.part named
+  zone_is x p named = zone_named c.heap ending.represents.lies.graph w.graph p x ending.represents.lies.shown
+      ending.represents.lies.part.part named
 
   into_black : (p q : Place) (x y : Name) → name_at c.heap.shape p ≡ Some x → name_at c.heap.shape q ≡ Some y
       → names.HasEdge w.graph x y → state_of c.heap.shape p ≡ state.MarkBlackOnly
       → HasZone g.bits (zone_of c.heap.shape q) → (IsBlack c.heap q → ⊥) → ⊥
   into_black p q (Cell n) y np nq e only here not =
       let same : Some (zone_of c.heap.shape p) ≡ Some (zone_of c.heap.shape q) = sym (zone_is (Cell n) p np)
-      ∙ same_zone_of w.graph (Cell n) y (ok.graph.fields n y e) ∙ zone_is y q nq in
+      ∙ same_zone_of w.graph (Cell n) y (ending.valid.graph.fields n y e) ∙ zone_is y q nq in
       group_takes_gray _ here (subst (λ z. state_in c.heap.shape z ≡ state.MarkBlackOnly) (some_one _ _ same) only)
   into_black p q (Wrap d t) y np nq e only here not =
       elim (marking_zone (zone_of c.heap.shape p) (ap is_marking_state only)) [
@@ -157,7 +167,8 @@ module _ (c : CollectorState) (flown : ℕ → Option Bits) (w : World) (k : Col
         | inr later ↦
             let target : name_at c.heap.shape q ≡ Some (Cell t) = nq ∙ ap (λ z. Some z) (sym e.0) in
             groups_ok.backward.0 later.1 later.2 d t (zone_of c.heap.shape p) (zone_of c.heap.shape q)
-            (present_named c.heap w s.lies p (Wrap d t) np) (zone_is (Wrap d t) p np) (zone_is (Cell t) q target)
+            (present_named c.heap w ending.represents.lies p (Wrap d t) np) (zone_is (Wrap d t) p np)
+                (zone_is (Cell t) q target)
             later.3 ((zones_in-has g _).1 here) (λ b. not (black_is (Cell t) q target b))
       ]
 
@@ -174,6 +185,7 @@ module _ (c : CollectorState) (flown : ℕ → Option Bits) (w : World) (k : Col
           | inr not ↦
               let x = name_of c.heap.shape p (edge_from c.heap.shape p q e) in
               let y = name_of c.heap.shape q (inv.holds.colours.shape.targets p q e) in
-              absurd (into_black p q x.0 y.0 x.1 y.1 (edge_named c.heap w s.lies p q x.0 y.0 x.1 y.1 e) only here not)
+              absurd (into_black p q x.0 y.0 x.1 y.1 (edge_named c.heap w ending.represents.lies p q x.0 y.0 x.1 y.1 e)
+                  only here not)
         ];
   }

@@ -13,10 +13,9 @@ use Rattle.zones.specs.declared.states.State.TheVariants as state
 use Rattle.arena_table.specs.Indexed.{in_zones}
 use Rattle.mark_stack.specs.Stack.{Piles, no_places}
 use Rattle.gray_lists.specs.Incoming.{Incoming}
-use Rattle.colour_defs.specs.World.{World, Collection, BlackClosure, Has, IsSettled, LiveClosure}
+use Rattle.colour_defs.specs.World.{World, Collection}
 use Rattle.colour_defs.specs.World as names
 use Rattle.colour_defs.specs.Ends.{Lists, zones_without}
-use Rattle.colour_defs.specs.Laws.{IsValid}
 use Rattle.colour_defs.proofs.Lists.{contains_cases, contains_tail, nothing_in_none}
 use Rattle.colour_defs.proofs.Membership.{among_from, among_to, without_has, without_was}
 use Rattle.colour_defs.proofs.ZoneSets.{zones_in-has}
@@ -31,10 +30,10 @@ use Rattle.slice_driver.specs.Closures.{AreBlack, AreTied}
 use Rattle.slice_driver.specs.Worlds.{IsInFlight, IsWokenFrom}
 use Rattle.slice_driver.specs.Represents.{AreBehind, AreInStates, IsCurrent, IsInGroups, Represents, Runs, RunsAs}
 use Rattle.slice_driver.specs.Represents.{WaitsWhileMarking}
-use Rattle.slice_driver.specs.GroupEnd.{AreJustFlown, EndsIn, IsEnded, IsGrayHere, IsReady}
+use Rattle.slice_driver.specs.GroupEnd.{AreJustFlown, EndsIn, IsEnded, IsGrayHere}
 use Rattle.slice_driver.proofs.abstraction.Waits.{none_carried}
 use Rattle.slice_driver.proofs.abstraction.Named.{some_one}
-use Rattle.slice_driver.proofs.group_end.Ready.{groups_ok, in_groups_to, ordered, runs, tied}
+use Rattle.slice_driver.proofs.group_end.Ready.{AtGroupEnd, groups_ok, in_groups_to, ordered, runs, tied}
 use Rattle.slice_driver.proofs.group_end.Cells.{in_zones_has, out_at_end}
 use Rattle.slice_driver.proofs.group_end.Heaps.{after, arenas_are, name_back, sized, zones}
 use Rattle.slice_driver.proofs.group_end.Lies.{lies_after, unswept_apart_after}
@@ -59,7 +58,7 @@ own_flown flown n (b ∷ colours) own = λ i. here (flown n) refl i ∷ own_flow
         sym (some_one b d is))
 
 module _ (c : CollectorState) (flown : ℕ → Option Bits) (w : World) (k : Collection) (g : ZoneSet) (rest : List ZoneSet)
-    (ok : IsValid w) (s : Represents c flown w) (ready : IsReady c g rest) (at : w.collection ≡ Some k)
+    (ending : AtGroupEnd c flown w k g rest)
     (grays : List Name) (listed : Lists (IsGrayHere c.heap g) grays) (d : CollectorState) (ends : EndsIn c g rest d)
     (flying : ℕ → Option Bits) (flies : AreJustFlown d.heap.shape flying) where
   e : IsEnded c.heap g d.heap
@@ -67,8 +66,8 @@ module _ (c : CollectorState) (flown : ℕ → Option Bits) (w : World) (k : Col
 
   out_is : (a : ℕ) → out_of d.heap.shape a ≡ cond (in_zones g.bits (zone_in (slice_get c.heap.shape.arenas a)))
       (slice_get c.heap.colours a) None
-  out_is a = out_at_end c.heap d.heap g (arenas_are c flown w k g rest ok s ready at grays listed d.heap e)
-      (sized c flown w k g rest ok s ready at grays listed d.heap e) ready.kept a
+  out_is a = out_at_end c.heap d.heap g (arenas_are c flown w k g rest ending grays listed d.heap e)
+      (sized c flown w k g rest ending grays listed d.heap e) ending.ready.kept a
 
   -- an arena that is out is one of the group, and has its bits
   out_of_group : (a : ℕ) (b : Bits) → out_of d.heap.shape a ≡ Some b
@@ -78,17 +77,17 @@ module _ (c : CollectorState) (flown : ℕ → Option Bits) (w : World) (k : Col
       go : (t : Bool) → in_zones g.bits (zone_in (slice_get c.heap.shape.arenas a)) ≡ t
           → cond t (slice_get c.heap.colours a) None ≡ Some b
           → HasZone g.bits (zone_in (slice_get c.heap.shape.arenas a)) × (slice_get c.heap.colours a ≡ Some b)
-      go true t f = (in_zones_has g ready.small _ t, f)
+      go true t f = (in_zones_has g ending.ready.small _ t, f)
       go false t f = absurd (cc f)
 
   delayed_after : d.heap.delayed ≡ no_places
-  delayed_after = ap (λ (h : HeapState). h.delayed) e.rest ∙ s.delayed
+  delayed_after = ap (λ (h : HeapState). h.delayed) e.rest ∙ ending.represents.delayed
 
   heap_is : heap_with d flying ≡ d.heap
   heap_is = ap (λ (cs : List Bits). record d.heap { colours = cs; delayed = no_places })
       (own_flown flying 0 d.heap.colours (λ a b f.
       let same : 0 + a ≡ a = omega arith in
-      ap (λ (cs : List Bits). slice_get cs a) (colours_same c flown w k g rest ok s ready at grays listed d.heap e)
+      ap (λ (cs : List Bits). slice_get cs a) (colours_same c flown w k g rest ending grays listed d.heap e)
       ∙ (out_of_group a b (sym (flies a) ∙ ap flying (sym same) ∙ f)).1))
       ∙ ap (λ (ps : Piles). record d.heap { delayed = ps }) (sym delayed_after)
 
@@ -103,14 +102,14 @@ module _ (c : CollectorState) (flown : ℕ → Option Bits) (w : World) (k : Col
   -- a zone of the groups that are left is none of this one
   left_apart : (z : ℕ) → IsInGroups rest z → HasZone g.bits z → ⊥
   left_apart z i here = let l = in_groups_to rest z i in
-      (groups_ok c flown w k g rest ok s ready at).apart.0 l.0 l.1 z ((zones_in-has g z).1 here) l.2
+      (groups_ok c flown w k g rest ending).apart.0 l.0 l.1 z ((zones_in-has g z).1 here) l.2
 
   in_later : (z : ℕ) → IsInGroups rest z → IsInGroups c.groups z
-  in_later z i = subst (λ gs. IsInGroups gs z) (sym ready.groups_are) (i.0, contains_tail g rest i.0 i.1, i.2)
+  in_later z i = subst (λ gs. IsInGroups gs z) (sym ending.ready.groups_are) (i.0, contains_tail g rest i.0 i.1, i.2)
 
   in_earlier : (z : ℕ) → (HasZone g.bits z → ⊥) → (IsInGroups rest z → ⊥) → IsInGroups c.groups z → ⊥
   in_earlier z out none i =
-      let j = subst (λ gs. IsInGroups gs z) ready.groups_are i in
+      let j = subst (λ gs. IsInGroups gs z) ending.ready.groups_are i in
       elim (contains_cases g rest j.0 j.1) [
         | inl same ↦ out (subst (λ (y : ZoneSet). HasZone y.bits z) (sym same) j.2)
         | inr tail
@@ -125,24 +124,24 @@ module _ (c : CollectorState) (flown : ℕ → Option Bits) (w : World) (k : Col
 
   -- a zone of a group that is left is marked black only
   left_black_only : (z : ℕ) → IsInGroups rest z → state_in c.heap.shape z ≡ state.MarkBlackOnly
-  left_black_only z i = elim ((runs c flown w k g rest ok s ready at).states.later ready.formed z (in_later z i)) [
+  left_black_only z i = elim ((runs c flown w k g rest ending).states.later ending.ready.formed z (in_later z i)) [
     | inl only ↦ only
-    | inr both ↦ absurd (left_apart z i (subst (λ gs. IsCurrent gs z) ready.groups_are both.0))
+    | inr both ↦ absurd (left_apart z i (subst (λ gs. IsCurrent gs z) ending.ready.groups_are both.0))
   ]
 
   group_of : (z : ℕ) → HasZone g.bits z ⊎ (HasZone g.bits z → ⊥)
-  group_of z = in_group c flown w k g rest ok s ready at grays listed d.heap e z
+  group_of z = in_group c flown w k g rest ending grays listed d.heap e z
 
   state_end : (z : ℕ) → HasZone g.bits z → (state_in d.heap.shape z ≡ state.Sweep)
       ⊎ (state_in d.heap.shape z ≡ state.Finished)
-  state_end z here = state_group c flown w k g rest ok s ready at grays listed d.heap e z here
+  state_end z here = state_group c flown w k g rest ending grays listed d.heap e z here
 
-  states_after : AreInStates d ready.run
+  states_after : AreInStates d ending.ready.run
   states_after = record {
     outside = λ z out. (let was : state_in c.heap.shape z ≡ state.NoGC = old.outside z out in
-        e.others z (λ here. cc (was, ready.marked.begun z here)) ∙ was);
+        e.others z (λ here. cc (was, ending.ready.marked.begun z here)) ∙ was);
     made = λ z here. subst (λ m. z < m) (sym e.sized) (old.made z here);
-    early = λ unformed. absurd (cc (unformed, ready.formed));
+    early = λ unformed. absurd (cc (unformed, ending.ready.formed));
     later = λ formed z here. (let i = left_back z here in inl (e.others z (left_apart z i) ∙ left_black_only z i));
     ended = λ formed z here none. elim (group_of z) [
       | inl mine ↦ state_end z mine
@@ -152,29 +151,29 @@ module _ (c : CollectorState) (flown : ℕ → Option Bits) (w : World) (k : Col
     sweeping = λ z a p is zone out. sweeping z a p is zone (out_of d.heap.shape a) refl out;
     swept = λ none z sw. elim (group_of z) [
       | inl mine ↦ cc (sw, e.finished none z mine)
-      | inr out ↦ old.swept ready.kept z (sym (e.others z out) ∙ sw)
+      | inr out ↦ old.swept ending.ready.kept z (sym (e.others z out) ∙ sw)
     ];
   }
     where
-      old : AreInStates c ready.run
-      old = (runs c flown w k g rest ok s ready at).states
+      old : AreInStates c ending.ready.run
+      old = (runs c flown w k g rest ending).states
 
       sweeping : (z a : ℕ) (p : Place) → p.0 ≡ a → zone_of d.heap.shape p ≡ z → (o : Option Bits)
           → out_of d.heap.shape a ≡ o → IsSome (out_of d.heap.shape a) → state_in d.heap.shape z ≡ state.Sweep
       sweeping z a p is zone None f out = absurd (cc (f, out))
       sweeping z a p is zone (Some b) f out =
           e.swept a out z (subst (λ y. HasZone g.bits y) (ap (λ i. zone_in (slice_get c.heap.shape.arenas i)) (sym is)
-          ∙ sym (zones c flown w k g rest ok s ready at grays listed d.heap e p) ∙ zone) (out_of_group a b f).0)
+          ∙ sym (zones c flown w k g rest ending grays listed d.heap e p) ∙ zone) (out_of_group a b f).0)
 
   left_marking : (z : ℕ) → Contains (zones_without k.marking (zones_in g)) z
       ↔ (is_marking_state (state_in d.heap.shape z) ≡ true)
   left_marking z = (
     λ m. (let r = without_was k.marking (zones_in g) z m in
         ap is_marking_state (e.others z (λ here. cc (among_from z (zones_in g) ((zones_in-has g z).1 here), r.1)))
-        ∙ ((runs c flown w k g rest ok s ready at).marking_are z).0 r.0),
-    λ m. (let b = marking_before c flown w k g rest ok s ready at grays listed d.heap e z m in
+        ∙ ((runs c flown w k g rest ending).marking_are z).0 r.0),
+    λ m. (let b = marking_before c flown w k g rest ending grays listed d.heap e z m in
         without_has k.marking (zones_in g) z
-        (((runs c flown w k g rest ok s ready at).marking_are z).1 (ap is_marking_state (sym b.1) ∙ m))
+        (((runs c flown w k g rest ending).marking_are z).1 (ap is_marking_state (sym b.1) ∙ m))
         (unlisted (list_any (eqb z) (zones_in g)) refl b.0)),
   )
     where
@@ -184,13 +183,13 @@ module _ (c : CollectorState) (flown : ℕ → Option Bits) (w : World) (k : Col
       unlisted false t out = t
 
   was_tied : AreTied c.heap c.stack c.lists w k
-  was_tied = tied c flown w k g rest ok s ready at
+  was_tied = tied c flown w k g rest ending
 
   name_was : (p : Place) (x : Name) → name_at d.heap.shape p ≡ Some x → name_at c.heap.shape p ≡ Some x
-  name_was p x named = (name_back c flown w k g rest ok s ready at grays listed d.heap e p x named).0
+  name_was p x named = (name_back c flown w k g rest ending grays listed d.heap e p x named).0
 
   abbrev world_after : World
-  world_after = after c flown w k g rest ok s ready at grays listed d.heap e
+  world_after = after c flown w k g rest ending grays listed d.heap e
 
   present_was : (x : Name) → names.IsPresent world_after x → names.IsPresent w x
   present_was x there = go (places.get world_after.places x) refl there
@@ -203,20 +202,20 @@ module _ (c : CollectorState) (flown : ℕ → Option Bits) (w : World) (k : Col
   tied_here = record {
     black = λ x p named. (
       (λ l. (was_tied.black x p (name_was p x named)).0
-          ((pending_after c flown w k g rest ok s ready at grays listed d.heap e p).0 l)),
-      λ u. (pending_after c flown w k g rest ok s ready at grays listed d.heap e p).1
+          ((pending_after c flown w k g rest ending grays listed d.heap e p).0 l)),
+      λ u. (pending_after c flown w k g rest ending grays listed d.heap e p).1
           ((was_tied.black x p (name_was p x named)).1 u),
     );
     live = λ x p named. (
       (λ l. (was_tied.live x p (name_was p x named)).0
-          ((live_after c flown w k g rest ok s ready at grays listed d.heap e p).0 l)),
-      λ u. (live_after c flown w k g rest ok s ready at grays listed d.heap e p).1
+          ((live_after c flown w k g rest ending grays listed d.heap e p).0 l)),
+      λ u. (live_after c flown w k g rest ending grays listed d.heap e p).1
           ((was_tied.live x p (name_was p x named)).1 u),
     );
-    present = λ x u. (let p = Rattle.slice_driver.proofs.abstraction.Named.place_of c.heap w s.lies x
+    present = λ x u. (let p = Rattle.slice_driver.proofs.abstraction.Named.place_of c.heap w ending.represents.lies x
         (was_tied.present x u) in
-        ap is_some (place_ended c.heap g w x p.0 ((s.lies.places_are x p.0).1 p.1)
-        (live_alive c flown w k g rest ok s ready at grays listed d.heap e p.0 ((was_tied.live x p.0 p.1).1 u))));
+        ap is_some (place_ended c.heap g w x p.0 ((ending.represents.lies.places_are x p.0).1 p.1)
+        (live_alive c flown w k g rest ending grays listed d.heap e p.0 ((was_tied.live x p.0 p.1).1 u))));
     edges_then = λ x y there ed. was_tied.edges_then x y (present_was x there) ed;
     entries_then = λ m q v pm pq f. was_tied.entries_then m q v (present_was m pm) (present_was q pq) f;
     grown = was_tied.grown;
@@ -228,58 +227,58 @@ module _ (c : CollectorState) (flown : ℕ → Option Bits) (w : World) (k : Col
       (subst (λ l. AreTied d.heap c.stack l world_after (ended_collection k g rest)) (sym ends.lists_is) tied_here)
 
   zone_same : (p : Place) → zone_of d.heap.shape p ≡ zone_of c.heap.shape p
-  zone_same p = zones c flown w k g rest ok s ready at grays listed d.heap e p
+  zone_same p = zones c flown w k g rest ending grays listed d.heap e p
 
-  behind_after : AreBehind d.heap d ready.run
+  behind_after : AreBehind d.heap d ending.ready.run
   behind_after p q l here none =
-      let ed = (edge_was c flown w k g rest ok s ready at grays listed d.heap e p q l.edge).0 in
+      let ed = (edge_was c flown w k g rest ending grays listed d.heap e p q l.edge).0 in
       let mine = subst (λ z. IsInGroups rest z) (zone_same p) (left_back _ here) in
-      black_on c flown w k g rest ok s ready at grays listed d.heap e q (elim (group_of (zone_of c.heap.shape q)) [
-        | inl of ↦ (ordered c flown w k g rest ok s ready at).order p q ed (left_black_only _ mine) of
-        | inr out ↦ (runs c flown w k g rest ok s ready at).late ready.formed p q
+      black_on c flown w k g rest ending grays listed d.heap e q (elim (group_of (zone_of c.heap.shape q)) [
+        | inl of ↦ (ordered c flown w k g rest ending).order p q ed (left_black_only _ mine) of
+        | inr out ↦ (runs c flown w k g rest ending).late ending.ready.formed p q
             (record {
               edge = ed;
-              from = subst (λ z. HasZone ready.run.zones.bits z) (zone_same p) l.from;
-              to = subst (λ z. HasZone ready.run.zones.bits z) (zone_same q) l.to;
+              from = subst (λ z. HasZone ending.ready.run.zones.bits z) (zone_same p) l.from;
+              to = subst (λ z. HasZone ending.ready.run.zones.bits z) (zone_same q) l.to;
               apart = λ z. l.apart (zone_same p ∙ z ∙ sym (zone_same q));
             })
             (in_later _ mine)
             (in_earlier _ out (λ i. none (left_on _ (subst (λ z. IsInGroups rest z) (sym (zone_same q)) i))))
       ])
 
-  runs_after : Runs d.heap d world_after ready.run (ended_collection k g rest)
+  runs_after : Runs d.heap d world_after ending.ready.run (ended_collection k g rest)
   runs_after = record {
-    zones_are = (runs c flown w k g rest ok s ready at).zones_are;
+    zones_are = (runs c flown w k g rest ending).zones_are;
     marking_are = left_marking;
     groups_are = ap (λ gs. Some (map zones_in gs)) (sym ends.groups_is)
-        ∙ ap (λ b. cond b (Some (map zones_in d.groups)) None) (sym ready.formed);
+        ∙ ap (λ b. cond b (Some (map zones_in d.groups)) None) (sym ending.ready.formed);
     states = states_after;
     tied = λ z m. tied_after;
-    early = λ unformed. absurd (cc (unformed, ready.formed));
+    early = λ unformed. absurd (cc (unformed, ending.ready.formed));
     late = λ formed. behind_after;
   }
 
   waits_after : WaitsWhileMarking d
   waits_after = record {
     piled = λ x has. absurd (nothing_in_none x (subst (λ xs. Contains xs x)
-        (ap (λ (p : Piles). p.gray) ends.stack_is ∙ ready.marked.gray_empty) has));
+        (ap (λ (p : Piles). p.gray) ends.stack_is ∙ ending.ready.marked.gray_empty) has));
     looks = λ quiet. (
-      none_carried mark.Gray (weak_of c.heap) (weak_of d.heap) e.carries e.parallel ready.marked.none_gray,
-      none_carried mark.Black (weak_of c.heap) (weak_of d.heap) e.carries e.parallel ready.marked.none_black,
+      none_carried mark.Gray (weak_of c.heap) (weak_of d.heap) e.carries e.parallel ending.ready.marked.none_gray,
+      none_carried mark.Black (weak_of c.heap) (weak_of d.heap) e.carries e.parallel ending.ready.marked.none_black,
     );
     buffered = λ z quiet. ap (λ (h : HeapState). buffer_of h z) e.rest ∙ elim (group_of z) [
-      | inl mine ↦ ready.marked.none_buffered z mine
-      | inr out ↦ s.waits.buffered z (ap is_marking_state (sym (e.others z out)) ∙ quiet)
+      | inl mine ↦ ending.ready.marked.none_buffered z mine
+      | inr out ↦ ending.represents.waits.buffered z (ap is_marking_state (sym (e.others z out)) ∙ quiet)
     ];
     incoming = λ m p held. (
         let old = subst (λ (l : Incoming). Contains (Rattle.gray_lists.specs.Incoming.list_of l m) p) ends.lists_is held
         in
-        let z = s.waits.incoming m p old in (
+        let z = ending.represents.waits.incoming m p old in (
           z.0,
           ap (λ (h : HeapState). slice_get h.shape.comps m) e.rest ∙ z.1,
           elim (group_of z.0) [
             | inl mine ↦ absurd (nothing_in_none p
-                (subst (λ xs. Contains xs p) (ready.marked.none_incoming z.0 m mine z.1) old))
+                (subst (λ xs. Contains xs p) (ending.ready.marked.none_incoming z.0 m mine z.1) old))
             | inr out ↦ ap is_marking_state (e.others z.0 out) ∙ z.2
           ],
         ));
@@ -288,29 +287,29 @@ module _ (c : CollectorState) (flown : ℕ → Option Bits) (w : World) (k : Col
   black_names : AreBlack d.heap world_after
   black_names x p named =
       let o = name_was p x named in (
-        λ b. (let r = black_has c flown w k g rest ok s ready at x b in
-            let same : r.0 ≡ p = some_one r.0 p (sym r.1 ∙ (s.lies.places_are x p).1 o) in
-            black_on c flown w k g rest ok s ready at grays listed d.heap e p (subst (λ y. IsBlack c.heap y) same r.2)),
-        λ b. has_black c flown w k g rest ok s ready at x p ((s.lies.places_are x p).1 o)
-            (black_back c flown w k g rest ok s ready at grays listed d.heap e p b),
+        λ b. (let r = black_has c flown w k g rest ending x b in
+            let same : r.0 ≡ p = some_one r.0 p (sym r.1 ∙ (ending.represents.lies.places_are x p).1 o) in
+            black_on c flown w k g rest ending grays listed d.heap e p (subst (λ y. IsBlack c.heap y) same r.2)),
+        λ b. has_black c flown w k g rest ending x p ((ending.represents.lies.places_are x p).1 o)
+            (black_back c flown w k g rest ending grays listed d.heap e p b),
       )
 
   pub represents_after : Represents d flying (ended c.heap w k g rest)
   represents_after = record {
     delayed = delayed_after;
-    lies = lies_after c flown w k g rest ok s ready at grays listed d.heap e;
-    unswept_apart = unswept_apart_after c flown w k g rest ok s ready at grays listed d.heap e;
+    lies = lies_after c flown w k g rest ending grays listed d.heap e;
+    unswept_apart = unswept_apart_after c flown w k g rest ending grays listed d.heap e;
     flies = in_flight;
     marks = subst (λ h. MarkingInvariant h d.stack) (sym heap_is)
         (subst (λ p. MarkingInvariant d.heap p) (sym ends.stack_is)
-        (marks_after c flown w k g rest ok s ready at grays listed d.heap e));
+        (marks_after c flown w k g rest ending grays listed d.heap e));
     gray = subst (λ h. GrayInvariant h d.stack d.lists) (sym heap_is)
         (subst (λ p. GrayInvariant d.heap p d.lists) (sym ends.stack_is)
         (subst (λ l. GrayInvariant d.heap c.stack l) (sym ends.lists_is)
-        (gray_after c flown w k g rest ok s ready at grays listed d.heap e)));
+        (gray_after c flown w k g rest ending grays listed d.heap e)));
     waits = waits_after;
     black = λ settled. subst (λ h. AreBlack h world_after) (sym heap_is) black_names;
     runs = subst (λ (o : Option RunState). RunsAs (heap_with d flying) d world_after o world_after.collection)
-        (sym (ends.run_is ∙ ready.running))
-        (subst (λ h. Runs h d world_after ready.run (ended_collection k g rest)) (sym heap_is) runs_after);
+        (sym (ends.run_is ∙ ending.ready.running))
+        (subst (λ h. Runs h d world_after ending.ready.run (ended_collection k g rest)) (sym heap_is) runs_after);
   }

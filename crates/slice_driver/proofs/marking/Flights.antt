@@ -15,7 +15,7 @@ use Rattle.barriers.specs.Spreading.{Covers}
 use Rattle.barriers.proofs.Flying.{flown_there}
 use Rattle.barriers.proofs.NewCells.{white_tells}
 use Rattle.slice_driver.specs.Worlds.{IsInFlight, IsWokenFrom}
-use Rattle.slice_driver.proofs.commanding.Serving.{within_arenas}
+use Rattle.slice_driver.proofs.abstraction.Serving.{within_arenas}
 
 -- a present cell of an arena that is out was not white
 not_white : (s : Shape) (a i : ℕ) (b : Bits) → out_of s a ≡ Some b → IsPresent s (a, i) → is_white b i ≡ true → ⊥

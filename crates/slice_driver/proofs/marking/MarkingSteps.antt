@@ -4,7 +4,7 @@ use Rattle.gz_names.specs.declared.numbers.Place.{Place}
 use Rattle.cell_bits.specs.declared.bits.Bits.{Bits}
 use Rattle.mark_stack.specs.Stack.{Piles}
 use Rattle.heap_core.specs.Shape.{Shape, state_in}
-use Rattle.heap_core.specs.Heap.{HeapState, colour_of}
+use Rattle.heap_core.specs.Heap.{HeapState}
 use Rattle.barriers.specs.Colours.{IsBlack}
 use Rattle.barriers.specs.Invariant.{MarkingInvariant}
 use Rattle.barriers.specs.PendingBlack.{PendingBlack}
@@ -19,8 +19,8 @@ use Rattle.slice_driver.specs.Units.{IsFreedWord, KeepsFreedWords}
 use Rattle.slice_driver.specs.UnitsToCome.{marking_to_come, units_to_come}
 use Rattle.slice_driver.specs.Working.{GoesOn}
 use Rattle.slice_driver.specs.Worlds.{IsInFlight}
-use Rattle.slice_driver.proofs.grouping.Laws.{quiet_unit}
-use Rattle.slice_driver.proofs.marking.Steps.{looks_same}
+use Rattle.slice_driver.proofs.taking_in.GroupingLaws.{quiet_unit}
+use Rattle.slice_driver.proofs.abstraction.Steps.{looks_same}
 
 -- a step of marking: what it keeps, and that work was done
 pub record Marked (c : CollectorState) (flown : ℕ → Option Bits) (d : CollectorState) (flying : ℕ → Option Bits) : Type

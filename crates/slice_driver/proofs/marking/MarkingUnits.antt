@@ -17,13 +17,10 @@ use Rattle.colour_defs.proofs.Lists.{nothing_in_none}
 use Rattle.heap_core.specs.Shape.{Shape, is_marking, is_marking_state, state_in, state_of, zone_of}
 use Rattle.heap_core.specs.Heap.{HeapState, colour_of, joined}
 use Rattle.heap_core.proofs.MakingCells.{same-place}
-use Rattle.barriers.specs.Reached.{Reached}
-use Rattle.barriers.specs.Colours.{IsBlack}
-use Rattle.barriers.specs.Exposing.{KeepsLive}
+use Rattle.barriers.specs.Colours.{IsBlack, grays_outside}
 use Rattle.barriers.specs.Invariant.{MarkingInvariant}
-use Rattle.barriers.specs.PendingBlack.{PendingBlack}
 use Rattle.barriers.specs.PendingLive.{GrayInvariant, buffer_of}
-use Rattle.barriers.specs.Spreading.{Blackens, Covers}
+use Rattle.barriers.specs.Spreading.{Covers}
 use Rattle.marker.specs.GrayBits.{AreGraying}
 use Rattle.barriers.specs.WeakPoint.{IsPiled}
 use Rattle.barriers.proofs.StayingLeft.{none_left}
@@ -31,22 +28,23 @@ use Rattle.weak_maps.specs.WeakMaps.{LooksState, NoneLeft}
 use Rattle.weak_maps.specs.declared.colours.MarkColour.{MarkColour}
 use Rattle.weak_maps.specs.declared.colours.MarkColour.TheVariants as mark
 use Rattle.marker.specs.Looks.{RaisesTo, weaker, with_looks}
-use Rattle.marker.specs.Units.{DoesGray, DoesLook, IsGrayIdle, ScansBlack, TakesOne}
+use Rattle.marker.specs.Units.{DoesGray, DoesLook, FollowsBlack, IsGrayIdle, TakesOne}
 use Rattle.slice_driver.specs.Collector.{CollectorState, heap_with}
 use Rattle.slice_driver.specs.Closures.{AreBlack}
+use Rattle.slice_driver.specs.EdgesRead.{TriesFew}
 use Rattle.slice_driver.specs.Left.{units_left}
 use Rattle.slice_driver.specs.Remaining.{grouping_left, steps_left, arenas_left}
 use Rattle.slice_driver.specs.Represents.{NothingLeft, Represents, RunsAs, WaitsWhileMarking}
 use Rattle.slice_driver.specs.Units.{IsSound}
 use Rattle.slice_driver.specs.UnitsToCome.{marking_to_come, units_to_come}
 use Rattle.slice_driver.specs.Working.{DidOrStill, GoesOn, IsBlackDone, IsBlackFixed, IsGrayDone, IsGrayFixed}
-use Rattle.slice_driver.specs.Working.{IsGroupDone, IsStill}
+use Rattle.slice_driver.specs.Working.{IsGroupDone, IsStill, TriesGroup}
 use Rattle.slice_driver.proofs.abstraction.Waits.{looked_one, none_piled, none_in_it}
 use Rattle.slice_driver.proofs.measure.GrayPiles.{gray_pile}
 use Rattle.slice_driver.proofs.measure.MarkingToCome.{black_falls, does_gray_falls, looks_fall}
 use Rattle.slice_driver.proofs.marking.Flights.{still_flies}
 use Rattle.slice_driver.proofs.marking.MarkingSteps.{Marked, marked_goes, own_sized}
-use Rattle.slice_driver.proofs.marking.Worlds.{flies_same}
+use Rattle.slice_driver.proofs.basics.Worlds.{flies_same}
 
 -- nothing waits that did not
 module _ (c : CollectorState) (h : HeapState) (p : Piles) (shape_is : h.shape ≡ c.heap.shape)
@@ -90,18 +88,17 @@ module _ (c : CollectorState) (h : HeapState) (p : Piles) (shape_is : h.shape �
 
 -- a cell of the black pile was followed
 pub black_followed : (c : CollectorState) (flown flying : ℕ → Option Bits) (h : HeapState) (p : Piles) → IsSound c flown
-    → IsSome c.run → h.delayed ≡ c.heap.delayed → Covers h.shape flying → MarkingInvariant (joined h flying) p
-    → Blackens (Reached c.heap.shape (IsBlack (heap_with c flown))) (with_looks (heap_with c flown) h.looks)
-    (joined h flying) → p.gray ≡ c.stack.gray
-    → ((y : Place) → PendingBlack (joined h flying) p y ↔ PendingBlack (heap_with c flown) c.stack y)
-    → KeepsLive (heap_with c flown) c.stack (joined h flying) p
-    → ScansBlack (heap_with c flown) c.stack (joined h flying) p
+    → IsSome c.run → h.delayed ≡ c.heap.delayed → Covers h.shape flying
+    → FollowsBlack (heap_with c flown) c.stack (joined h flying) p
     → GoesOn c flown [] (record c { heap = h; stack = p }) flying
-black_followed c flown flying h p s running delayed covers inv bl gray pending live scanned =
+black_followed c flown flying h p s running delayed covers does =
+    let inv = does.invariant in
+    let bl = does.blackens in
+    let scanned = does.scans in
     let rep = s.represents in
     let d : CollectorState = record c { heap = h; stack = p } in
     let shape_is : h.shape ≡ c.heap.shape = ap (λ (z : HeapState). z.shape) bl.rest in
-    let both = live c.lists rep.gray in
+    let both = does.pending_live c.lists rep.gray in
     let m : Marked c flown d flying = record {
       shape_is = shape_is;
       made_is = ap (λ (z : HeapState). z.made) bl.rest;
@@ -115,12 +112,12 @@ black_followed c flown flying h p s running delayed covers inv bl gray pending l
       marks = inv;
       gray = both.0;
       waits = waits_on c h p shape_is (ap (λ (z : HeapState). z.buffers) bl.rest) rep.waits
-          (piled_still c h p shape_is (ap (λ (z : HeapState). z.buffers) bl.rest) rep.waits gray)
+          (piled_still c h p shape_is (ap (λ (z : HeapState). z.buffers) bl.rest) rep.waits does.gray_is)
           (λ quiet. absurd (let off = quiet_before c h p shape_is (ap (λ (z : HeapState). z.buffers) bl.rest) rep.waits
           quiet (zone_of c.heap.shape scanned.cell) in
           let on = scanned.zone in cc (on, off)));
       darker = bl.kept;
-      black = pending;
+      black = does.pending_black;
       live = both.1;
     } in
     marked_goes c flown d flying m running
@@ -284,6 +281,88 @@ still_gray c flown h p l eh ep el = record {
   colours = refl;
   worlds = λ w s. s;
 }
+
+-- nothing changed: the heap, what is pending, and the colours in flight
+abbrev pub IsUnmarked : CollectorState → (ℕ → Option Bits) → HeapState → Piles → (ℕ → Option Bits) → Type 0
+IsUnmarked c flown h p flying = (h ≡ c.heap) × (p ≡ c.stack) × (heap_with c flying ≡ heap_with c flown)
+
+-- a unit of marking was tried: it did a piece of work, or there is none and nothing changed
+module _ (c : CollectorState) (flown flying : ℕ → Option Bits) (h : HeapState) (p : Piles) (s : IsSound c flown)
+    (running : IsSome c.run) (delayed : h.delayed ≡ c.heap.delayed) where
+  pub black_tried : (did : Bool) → Covers h.shape flying
+      → (did ≡ true → FollowsBlack (heap_with c flown) c.stack (joined h flying) p)
+      → ((did ≡ false) ↔ (c.stack.black ≡ [])) → (did ≡ false → IsUnmarked c flown h p flying)
+      → DidOrStill did (c.stack.black ≡ []) c flown (record c { heap = h; stack = p }) flying
+  black_tried true covers does none same = (
+    black_followed c flown flying h p s running delayed covers (does refl),
+    λ empty. let no = none.1 empty in cc no,
+  )
+  black_tried false covers does none same = (
+    still c flown flying h p covers (same refl).0 (same refl).1 (same refl).2,
+    none.0 refl,
+  )
+
+  pub look_tried : (colour_is : MarkColour) (did : Bool) → Covers h.shape flying
+      → (did ≡ true → DoesLook colour_is (heap_with c flown) c.stack (joined h flying) p)
+      → ((did ≡ false) ↔ NoneLeft colour_is c.heap.looks) → (did ≡ false → IsUnmarked c flown h p flying)
+      → DidOrStill did (NoneLeft colour_is c.heap.looks) c flown (record c { heap = h; stack = p }) flying
+  look_tried colour_is true covers does none same = (
+    entry_looked c flown flying h p colour_is s running delayed covers (does refl),
+    λ empty. let no = none.1 empty in cc no,
+  )
+  look_tried colour_is false covers does none same = (
+    still c flown flying h p covers (same refl).0 (same refl).1 (same refl).2,
+    none.0 refl,
+  )
+
+  -- a look turns no cell black outside marking zones, and leaves the shape
+  pub look_grays : (colour_is : MarkColour) (did : Bool)
+      → (did ≡ true → DoesLook colour_is (heap_with c flown) c.stack (joined h flying) p)
+      → (did ≡ false → IsUnmarked c flown h p flying)
+      → grays_outside (joined h flying) ≡ grays_outside (heap_with c flown)
+  look_grays colour_is true does same = (does refl).grays_is
+  look_grays colour_is false does same =
+      ap (λ (x : HeapState). grays_outside (joined x flying)) (same refl).0 ∙ ap grays_outside (same refl).2
+
+  pub look_shape : (colour_is : MarkColour) (did : Bool)
+      → (did ≡ true → DoesLook colour_is (heap_with c flown) c.stack (joined h flying) p)
+      → (did ≡ false → IsUnmarked c flown h p flying) → h.shape ≡ c.heap.shape
+  look_shape colour_is true does same = ap (λ (x : HeapState). x.shape) (does refl).rest
+  look_shape colour_is false does same = ap (λ (x : HeapState). x.shape) (same refl).0
+
+  -- nor does a piece of gray marking
+  pub gray_grays : (lists : Incoming) (did : Bool)
+      → (did ≡ true → DoesGray (heap_with c flown) c.stack c.lists (joined h flown) p lists)
+      → (did ≡ false → (h ≡ c.heap) × (p ≡ c.stack) × (lists ≡ c.lists))
+      → grays_outside (joined h flown) ≡ grays_outside (heap_with c flown)
+  gray_grays lists true does same = (does refl).grays_is
+  gray_grays lists false does same = ap (λ (x : HeapState). grays_outside (joined x flown)) (same refl).0
+
+  pub gray_tried : (lists : Incoming) (g : ZoneSet) (did : Bool)
+      → (did ≡ true → DoesGray (heap_with c flown) c.stack c.lists (joined h flown) p lists)
+      → ((did ≡ false) ↔ IsGrayIdle c.heap c.stack c.lists g.bits)
+      → (did ≡ false → (h ≡ c.heap) × (p ≡ c.stack) × (lists ≡ c.lists))
+      → TriesGroup did (IsGrayIdle c.heap c.stack c.lists g.bits) c flown
+      (record c { heap = h; stack = p; lists = lists }) flown
+  gray_tried lists g true does none same = record {
+    done = (
+      gray_followed c flown h p lists s running delayed (does refl),
+      λ empty. let no = none.1 empty in cc no,
+    );
+    shape = ap (λ (x : HeapState). x.shape) (does refl).marks.rest;
+    groups = refl;
+  }
+  gray_tried lists g false does none same = record {
+    done = (still_gray c flown h p lists (same refl).0 (same refl).1 (same refl).2, none.0 refl);
+    shape = ap (λ (x : HeapState). x.shape) (same refl).0;
+    groups = refl;
+  }
+
+-- what reads no edge reads few
+pub tries_few : (did : Bool) (read : ℕ) (h : HeapState) (now : ℕ) (k : HeapState) → TriesFew false read h now k
+    → TriesFew did read h now k
+tries_few true read h now k none = omega (arith, none)
+tries_few false read h now k none = none
 
 -- where no cell is to be scanned and no entry to be looked at, the weak rule adds nothing
 pub black_fixed : (c : CollectorState) (flown : ℕ → Option Bits) → IsSound c flown → IsBlackDone c flown

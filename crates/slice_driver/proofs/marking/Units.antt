@@ -138,27 +138,6 @@ pub quiet_sound : (n : ℕ) (c : CollectorState) (f : ℕ → Option Bits) (d : 
 quiet_sound zero c f d g did s = still_sound c f d g (did.none refl) s
 quiet_sound (suc k) c f d g did s = unit_sound c d f g [] (did.some (omega arith)).done s
 
-pub quiet_running : (n : ℕ) (c : CollectorState) (f : ℕ → Option Bits) (d : CollectorState) (g : ℕ → Option Bits)
-    → DoesQuietUnits n c f d g → IsSome c.run → IsSome d.run
-quiet_running zero c f d g did running = subst (λ (x : CollectorState). IsSome x.run) (sym (did.none refl).same) running
-quiet_running (suc k) c f d g did running = (did.some (omega arith)).running
-
-pub quiet_words : (n : ℕ) (c : CollectorState) (f : ℕ → Option Bits) (d : CollectorState) (g : ℕ → Option Bits)
-    → DoesQuietUnits n c f d g → KeepsFreedWords c.heap.shape d.heap.shape
-quiet_words zero c f d g did = subst (λ (x : CollectorState). KeepsFreedWords c.heap.shape x.heap.shape)
-    (sym (did.none refl).same) (λ a freed is. is)
-quiet_words (suc k) c f d g did = (did.some (omega arith)).words
-
-pub quiet_made : (n : ℕ) (c : CollectorState) (f : ℕ → Option Bits) (d : CollectorState) (g : ℕ → Option Bits)
-    → DoesQuietUnits n c f d g → d.heap.made ≡ c.heap.made
-quiet_made zero c f d g did = ap (λ (x : CollectorState). x.heap.made) (did.none refl).same
-quiet_made (suc k) c f d g did = (did.some (omega arith)).made_is
-
-pub quiet_weak : (n : ℕ) (c : CollectorState) (f : ℕ → Option Bits) (d : CollectorState) (g : ℕ → Option Bits)
-    → DoesQuietUnits n c f d g → d.heap.shape.weak ≡ c.heap.shape.weak
-quiet_weak zero c f d g did = ap (λ (x : CollectorState). x.heap.shape.weak) (did.none refl).same
-quiet_weak (suc k) c f d g did = (did.some (omega arith)).weak_is
-
 -- after black marking that found nothing to do
 module _ (c : CollectorState) (f : ℕ → Option Bits) (s : IsSound c f) (e : CollectorState) (g : ℕ → Option Bits)
     (still : IsStill c f e g) (black : IsBlackDone c f) where

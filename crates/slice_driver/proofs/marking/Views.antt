@@ -1,6 +1,6 @@
 -- Steps over a heap are the same steps where what is delayed is told among what is pending.
 use Rattle.std.proofs.Common.{◌≡◌, ◌↔◌, ◌∙◌, ℕ, Bool, List, Option, Some, IsSomeAnd, slice_get, slice_set, sym, ap}
-use Rattle.std.proofs.Common.{inl, inr}
+use Rattle.std.proofs.Common.{false, inl, inr, true}
 use Rattle.gz_names.specs.declared.names.Name.{Name}
 use Rattle.gz_names.specs.declared.numbers.Place.{Place}
 use Rattle.gz_names.specs.declared.zone_sets.ZoneSet.{ZoneSet}
@@ -11,9 +11,9 @@ use Rattle.zones.specs.declared.states.State.TheVariants as state
 use Rattle.mark_stack.specs.Stack.{Piles}
 use Rattle.gray_lists.specs.Incoming.{Incoming}
 use Rattle.colour_defs.specs.Ends.{Lists}
-use Rattle.heap_core.specs.Heap.{HeapState, without_delayed}
+use Rattle.heap_core.specs.Heap.{HeapState, joined, without_delayed}
 use Rattle.heap_core.specs.Sweeping.{with_handed, with_taken}
-use Rattle.zone_edges.specs.Looks.{LeadsFrom, LooksAtNext}
+use Rattle.zone_edges.specs.Looks.{LeadsFrom, Looks, LooksAtNext}
 use Rattle.zone_edges.specs.Noted.{Noted}
 use Rattle.barriers.specs.Pending.{pending}
 use Rattle.marker.specs.Units.{IsGrayIdle}
@@ -25,6 +25,11 @@ use Rattle.slice_driver.proofs.marking.ZoneSteps.{advanced_to}
 -- nothing changed, so what is pending did not
 pub same_pending : (h k : HeapState) (p q : Piles) → k ≡ h → q ≡ p → pending k q ≡ pending h p
 same_pending h k p q eh ep = ap (λ (z : HeapState). pending z q) eh ∙ ap (λ (r : Piles). pending h r) ep
+
+-- nor did the colours in flight
+pub unmarked_seen : (h k : HeapState) (p q : Piles) (f g : ℕ → Option Bits) → k ≡ h → q ≡ p → joined h g ≡ joined h f
+    → (without_delayed k ≡ without_delayed h) × (pending k q ≡ pending h p) × (joined h g ≡ joined h f)
+unmarked_seen h k p q f g eh ep ej = (ap without_delayed eh, same_pending h k p q eh ep, ej)
 
 pub idle_seen : (h : HeapState) (p : Piles) (lists : Incoming) (word : ℕ) → IsGrayIdle h p lists word
     → IsGrayIdle (without_delayed h) p lists word
@@ -60,7 +65,7 @@ leads_from_seen h zones p a b = (
   },
 )
 
-pub look_seen : (h : HeapState) (old new : Noted) → LooksAtNext h old new → LooksAtNext (without_delayed h) old new
+look_seen : (h : HeapState) (old new : Noted) → LooksAtNext h old new → LooksAtNext (without_delayed h) old new
 look_seen h old new l = record {
   zone = l.zone;
   wrapper = l.wrapper;
@@ -82,6 +87,11 @@ look_seen h old new l = record {
   );
   left = l.left;
 }
+
+pub looks_seen : (h : HeapState) (old : Noted) (did : Bool) (new : Noted) → Looks h old did new
+    → Looks (without_delayed h) old did new
+looks_seen h old true new looks = look_seen h old new looks
+looks_seen h old false new looks = looks
 
 -- zones go on
 module _ (l : HeapState) (word : ℕ) (k : HeapState) (on : Advances l word k) where

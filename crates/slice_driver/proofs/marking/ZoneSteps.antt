@@ -1,5 +1,5 @@
 -- The beginning of a zone of the current group, and what all of them have begun.
-use Rattle.std.proofs.Common.{◌≡◌, ◌≢◌, ◌↔◌, ◌<◌, ◌≤◌, ◌+◌, ℕ, zero, suc, Bool, List, [], ◌∷◌, length, Option, Some}
+use Rattle.std.proofs.Common.{◌≡◌, ◌≢◌, ◌<◌, ◌≤◌, ◌+◌, ℕ, zero, suc, Bool, List, [], ◌∷◌, length, Option, Some}
 use Rattle.std.proofs.Common.{IsSomeAnd, is_some, slice_get, slice_set, length-set, inl, inr, refl, sym, ap, subst, ◌∙◌}
 use Rattle.std.proofs.Common.{None, arith, if◌then◌else◌}
 use Rattle.std.proofs.lemmas.Bool.{cases_eq}
@@ -24,11 +24,11 @@ use Rattle.slice_driver.specs.UnitsToCome.{units_to_come}
 use Rattle.slice_driver.specs.Working.{GoesOn, HasBegun}
 use Rattle.slice_driver.proofs.measure.Fewer.{arenas_same, fewer_steps, grouped}
 use Rattle.slice_driver.proofs.measure.StatesToCome.{same_marks_no_more}
-use Rattle.slice_driver.proofs.marking.Zones.{same_marks}
+use Rattle.slice_driver.proofs.basics.Zones.{same_marks}
 use Rattle.slice_driver.proofs.group_end.Ready.{collection_of, runs_of}
-use Rattle.slice_driver.proofs.grouping.Laws.{zone_unit}
+use Rattle.slice_driver.proofs.taking_in.GroupingLaws.{zone_unit}
 use Rattle.slice_driver.proofs.abstraction.Named.{some_one}
-use Rattle.slice_driver.proofs.marking.Steps.{current_in_groups}
+use Rattle.slice_driver.proofs.abstraction.Steps.{current_in_groups}
 use Rattle.slice_driver.proofs.taking_in.Runs.{has_zone_or_not}
 
 within_list : (xs : List State) (i : ℕ) (s : State) → slice_get xs i ≡ Some s → i < length xs
@@ -216,12 +216,3 @@ pub not_begun : (c : CollectorState) (g : ZoneSet) (z : ℕ) → slice_get c.gro
 not_begun c g z at h found begun =
     (let both = (begun g at z).0 h in let only : state_in c.heap.shape z ≡ state.MarkBlackOnly = ap state_or found in
     cc (both, only))
-
--- the zones of two words, by taking away twice
-pub in_both : (g w a b : ℕ) → ((z : ℕ) → HasZone a z ↔ (HasZone g z × (HasZone w z → ⊥)))
-    → ((z : ℕ) → HasZone b z ↔ (HasZone g z × (HasZone a z → ⊥))) → (z : ℕ) → HasZone b z ↔ (HasZone g z × HasZone w z)
-in_both g w a b first second z = (
-  λ h. (let both = (second z).0 h in
-      elim (has_zone_or_not w z) [ inl has ↦ (both.0, has) | inr none ↦ absurd (both.1 ((first z).1 (both.0, none))) ]),
-  λ both. (second z).1 (both.0, λ h. ((first z).0 h).1 both.1),
-)

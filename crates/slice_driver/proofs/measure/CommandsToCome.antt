@@ -56,7 +56,7 @@ use Rattle.slice_driver.specs.UnitsToCome.{is_wrapper_named, marking_to_come, ma
 use Rattle.slice_driver.specs.Worlds.{owners_of}
 use Rattle.slice_driver.proofs.abstraction.Moving.{Moves, finds, makes, quiet}
 use Rattle.slice_driver.proofs.abstraction.Keeping.{stay_same}
-use Rattle.slice_driver.proofs.commanding.Woken.{made_black, others_keep}
+use Rattle.slice_driver.proofs.basics.Woken.{made_black, others_keep}
 use Rattle.slice_driver.proofs.measure.BornToCome.{IsBorn, born_notes, born_scans, put_few, scans_same}
 use Rattle.slice_driver.proofs.measure.EntriesToCome.{carried_looks, carried_starts, put_looks, put_starts}
 use Rattle.slice_driver.proofs.measure.PresentPlaces.{present_no_more, sum_among, where_present}

@@ -27,7 +27,7 @@ use Rattle.zone_edges.specs.Noted.{Noted}
 use Rattle.zone_edges.proofs.SoundWrappers.{found_there}
 use Rattle.slice_driver.specs.ListedWrappers.{listed_below}
 use Rattle.slice_driver.specs.Worlds.{LiesIn}
-use Rattle.slice_driver.proofs.beginning.FewWrappers.{key_name, same_key}
+use Rattle.slice_driver.proofs.group_end.FewWrappers.{key_name, same_key}
 use Rattle.slice_driver.proofs.measure.CountedCells.{IsApart, sum_injected}
 
 -- a list whose members are pairwise apart, and two such lists without a common one

@@ -29,7 +29,7 @@ use Rattle.slice_driver.specs.Remaining.{arenas_left, grouping_left, steps_left,
 use Rattle.slice_driver.specs.Units.{IsSound}
 use Rattle.slice_driver.specs.UnitsToCome.{marking_to_come, may_be_noted, notes, places_below, present_places}
 use Rattle.slice_driver.specs.UnitsToCome.{slots_of, units_to_come}
-use Rattle.slice_driver.proofs.beginning.FewWrappers.{few_wrappers}
+use Rattle.slice_driver.proofs.group_end.FewWrappers.{few_wrappers}
 
 -- a bit takes a number or nothing
 bit_times : (b n : ℕ) → b < 2 → b * n ≤ n

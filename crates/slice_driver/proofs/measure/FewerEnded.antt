@@ -35,7 +35,7 @@ use Rattle.slice_driver.proofs.group_end.Cells.{cell_at_end, handed_length, has_
 use Rattle.slice_driver.proofs.group_end.Cells.{is_white_colour, zone_at_end, zone_or_not}
 use Rattle.slice_driver.proofs.group_end.Laws.{jobs_flown}
 use Rattle.slice_driver.proofs.group_end.Ready.{collection_of, no_some, some_zone}
-use Rattle.slice_driver.proofs.group_end.GroupEnding.{group_swept, others_stay}
+use Rattle.slice_driver.proofs.taking_in.GroupEnding.{group_swept, others_stay}
 
 -- what an arena has as it goes out is the heap's
 handed_bits : (word : ℕ) (arenas : List ArenaShape) (colours : List Bits)
@@ -106,7 +106,8 @@ module _ (c : CollectorState) (g : ZoneSet) (rest : List ZoneSet) (ready : IsRea
   a_zone : (z : ℕ) × HasZone g.bits z
   a_zone =
       let kind = collection_of c (heap_with c flown) s.world ready.run ready.running s.represents.runs in
-      let z = some_zone c flown s.world kind.0 g rest s.valid s.represents ready kind.1 in
+      let z = some_zone c flown s.world kind.0 g rest
+      (record { valid = s.valid; represents = s.represents; ready = ready; running = kind.1 }) in
       (z.0, (zones_in-has g z.0).0 z.1)
 
   steps_less : steps_left k.shape.states < steps_left c.heap.shape.states

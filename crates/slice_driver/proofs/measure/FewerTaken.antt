@@ -24,7 +24,7 @@ use Rattle.slice_driver.proofs.measure.Fewer.{arenas_same, arenas_taken, grouped
 use Rattle.slice_driver.proofs.measure.Fewer.{steps_kept}
 use Rattle.slice_driver.proofs.measure.StatesToCome.{IsStillMarking, states_no_more}
 use Rattle.slice_driver.proofs.group_end.Ready.{collection_of, runs_of}
-use Rattle.slice_driver.proofs.grouping.Laws.{unformed_kept}
+use Rattle.slice_driver.proofs.taking_in.GroupingLaws.{unformed_kept}
 use Rattle.slice_driver.proofs.taking_in.Heaps.{taken_colours}
 use Rattle.slice_driver.proofs.taking_in.TakingIn.{formed_of, run_there}
 

@@ -20,7 +20,7 @@ use Rattle.marker.specs.Looks.{looks_now}
 use Rattle.marker.specs.UnitsToCome.{scans, starts_of, units_at}
 use Rattle.marker.proofs.UnitsToCome.{where_both, where_off}
 use Rattle.slice_driver.specs.UnitsToCome.{is_wrapper_named, marking_to_come, may_be_noted, notes, present_places}
-use Rattle.slice_driver.proofs.marking.Marks.{HasSameMarks, colour_same}
+use Rattle.slice_driver.proofs.basics.Marks.{HasSameMarks, colour_same}
 use Rattle.slice_driver.proofs.measure.PresentPlaces.{present_no_more, where_present}
 
 -- by what counts at cells, by looks and entries, and what waits

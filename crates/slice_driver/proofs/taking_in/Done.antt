@@ -1,7 +1,7 @@
 -- A collection that is over: the collector stands for the world in which none runs.
 use Rattle.slice_driver.proofs.abstraction.Waits.{none_piled}
-use Rattle.std.proofs.Common.{◌≡◌, ◌≢◌, ◌⊎◌, ◌↔◌, ℕ, Bool, true, false, cond, inl, inr, refl, sym, ap, ◌∙◌, subst}
-use Rattle.std.proofs.Common.{Option, None, Some, IsSome, List, [], ◌∷◌, map, Contains, slice_get}
+use Rattle.std.proofs.Common.{◌≡◌, ◌≢◌, ◌⊎◌, ℕ, false, cond, inl, inr, refl, sym, ap, ◌∙◌, subst}
+use Rattle.std.proofs.Common.{Option, None, Some, List, [], ◌∷◌, map, Contains}
 use Rattle.gz_names.specs.Zones.{zones_in}
 use Rattle.gz_names.specs.declared.numbers.Place.{Place}
 use Rattle.cell_bits.specs.declared.bits.Bits.{Bits}
@@ -11,7 +11,7 @@ use Rattle.gray_lists.specs.Incoming.{Incoming, list_of as waiting_for}
 use Rattle.colour_defs.specs.World.{World, Collection, IsSettled}
 use Rattle.colour_defs.specs.Lawful.{Finishes}
 use Rattle.colour_defs.proofs.Lists.{contains_head, nothing_in_none}
-use Rattle.heap_core.specs.Shape.{ArenaShape, Shape, is_marking, is_marking_state, out_of, state_in, zone_of}
+use Rattle.heap_core.specs.Shape.{ArenaShape, Shape, is_marking_state, out_of, state_in, zone_of}
 use Rattle.heap_core.specs.Heap.{HeapState, with_flown}
 use Rattle.barriers.specs.Invariant.{MarkingInvariant}
 use Rattle.barriers.specs.PendingLive.{GrayInvariant, buffer_of}
@@ -23,9 +23,9 @@ use Rattle.slice_driver.specs.Represents.{WaitsWhileMarking}
 use Rattle.slice_driver.specs.Sweeping.{FinishesIn, IsAllDone}
 use Rattle.slice_driver.proofs.group_end.Cells.{none_out_listed}
 use Rattle.slice_driver.proofs.group_end.Ready.{runs_of}
-use Rattle.slice_driver.proofs.marking.Cells.{HasSameCells, name_same}
-use Rattle.slice_driver.proofs.marking.Marks.{HasSameMarks, black_back, black_on, gray_kept, marks_kept}
-use Rattle.slice_driver.proofs.marking.Worlds.{flies_same, lies_same, unswept_same}
+use Rattle.slice_driver.proofs.basics.Cells.{HasSameCells, name_same}
+use Rattle.slice_driver.proofs.basics.Marks.{HasSameMarks, black_back, black_on, gray_kept, marks_kept}
+use Rattle.slice_driver.proofs.basics.Worlds.{flies_same, lies_same, unswept_same}
 use Rattle.slice_driver.proofs.taking_in.Runs.{has_zone_or_not}
 
 -- the world does not tell what collection runs by what lies in it

@@ -22,8 +22,8 @@ use Rattle.slice_driver.specs.Units.{without_arena}
 use Rattle.slice_driver.specs.Worlds.{IsInFlight, IsUnswept, outs_from, owners_of}
 use Rattle.slice_driver.proofs.abstraction.Named.{some_one}
 use Rattle.slice_driver.proofs.group_end.Cells.{some_out}
-use Rattle.slice_driver.proofs.marking.Cells.{HasSameCells}
-use Rattle.slice_driver.proofs.marking.Marks.{HasSameMarks}
+use Rattle.slice_driver.proofs.basics.Cells.{HasSameCells}
+use Rattle.slice_driver.proofs.basics.Marks.{HasSameMarks}
 use Rattle.slice_driver.proofs.taking_in.Slots.{left_in, length_freed}
 
 -- bits from other arenas on
@@ -237,9 +237,6 @@ module _ (c : CollectorState) (flown : ℕ → Option Bits) (w : World) (a freed
 
   pub state_on : (z : ℕ) (x : State) → state_in c.heap.shape z ≡ x → after_sweep x ≡ x → state_in d.heap.shape z ≡ x
   state_on z x e n = elim (states_are z) [ inl same ↦ same ∙ e | inr next ↦ next.1 ∙ ap after_sweep e ∙ n ]
-
-  flying : ℕ → Option Bits
-  flying = without_arena flown a
 
   flying_none : without_arena flown a a ≡ None
   flying_none = ap (λ b. cond b None (flown a)) (eq-eqb a a refl)

@@ -1,5 +1,5 @@
 -- What is kept as an arena comes in: the words of the others, and what a collector keeps besides.
-use Rattle.std.proofs.Common.{◌≡◌, ◌≢◌, ℕ, false, Option, None, Some, List, [], slice_get, refl, sym, ap, subst, ◌∙◌}
+use Rattle.std.proofs.Common.{◌≡◌, ℕ, false, Option, None, Some, List, [], slice_get, refl, sym, ap, subst, ◌∙◌}
 use Rattle.std.proofs.Common.{inl, inr, option_map}
 use Rattle.std.proofs.lemmas.Bool.{cases_eq}
 use Rattle.gz_names.specs.declared.zone_sets.ZoneSet.{ZoneSet}
@@ -30,9 +30,6 @@ module _ (h : HeapState) (a freed : ℕ) (bits : Bits) where
       go : (o : Option ArenaShape) → out_in (option_map (come_in freed) o) ≡ None
       go None = refl
       go (Some arena) = refl
-
-  pub out_other : (b : ℕ) → b ≢ a → out_of after.shape b ≡ out_of h.shape b
-  out_other b ne = ap out_in (slice_get-change_other (come_in freed) h.shape.arenas a b ne)
 
   pub words_taken : KeepsFreedWords h.shape after.shape
   words_taken b word is arena old at out = elim (cases_eq b a) [

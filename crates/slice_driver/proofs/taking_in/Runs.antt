@@ -17,7 +17,7 @@ use Rattle.arena_table.specs.Slots.{at_bits, cell_in, names_of}
 use Rattle.colour_defs.specs.World.{World, Collection, marking_of}
 use Rattle.colour_defs.specs.Ends.{Lists}
 use Rattle.colour_defs.specs.Lawful.{IsLawfulSweep, with_sweep}
-use Rattle.heap_core.specs.Shape.{ArenaShape, Shape, HasEdge, is_marking_state, name_at, out_of, present_in, state_in}
+use Rattle.heap_core.specs.Shape.{ArenaShape, Shape, name_at, out_of, state_in}
 use Rattle.heap_core.specs.Shape.{stored_in, zone_of}
 use Rattle.heap_core.specs.Heap.{HeapState}
 use Rattle.barriers.specs.Invariant.{MarkingInvariant}
@@ -33,15 +33,15 @@ use Rattle.slice_driver.specs.Units.{without_arena}
 use Rattle.slice_driver.proofs.abstraction.Named.{some_one}
 use Rattle.slice_driver.proofs.group_end.Ready.{runs_of}
 use Rattle.slice_driver.proofs.group_end.Wrappers.{filter_has, has_filter}
-use Rattle.slice_driver.proofs.marking.Cells.{edge_back, name_same, shows_same}
-use Rattle.slice_driver.proofs.marking.Marks.{black_back, black_on, gray_kept, live_back, live_on, marks_kept}
-use Rattle.slice_driver.proofs.marking.Marks.{pending_back, pending_on}
-use Rattle.slice_driver.proofs.taking_in.Heaps.{arenas_are, flies_after, kept_on, marking_same, no_sweep_after}
-use Rattle.slice_driver.proofs.taking_in.Heaps.{outs_are, owners_same, same_cells, same_marks, state_back, state_on}
+use Rattle.slice_driver.proofs.basics.Cells.{edge_back, name_same, shows_same}
+use Rattle.slice_driver.proofs.basics.Marks.{black_back, black_on, gray_kept, live_back, live_on, marks_kept}
+use Rattle.slice_driver.proofs.basics.Marks.{pending_back, pending_on}
+use Rattle.slice_driver.proofs.taking_in.Heaps.{flies_after, marking_same, no_sweep_after}
+use Rattle.slice_driver.proofs.taking_in.Heaps.{outs_are, owners_same, same_cells, same_marks, state_on}
 use Rattle.slice_driver.proofs.taking_in.Heaps.{states_are, unswept_back, unswept_on, was_out, whole_after, zones_same}
 use Rattle.slice_driver.proofs.taking_in.Slots.{AreNamedApart, freed_white, listed_named, named_listed, names_distinct}
 use Rattle.slice_driver.proofs.taking_in.Slots.{white_freed}
-use Rattle.slice_driver.proofs.taking_in.Sorted.{lists_from_sort}
+use Rattle.slice_driver.proofs.basics.Sorted.{lists_from_sort}
 
 -- a word has a zone, or hasn't
 pub has_zone_or_not : (word z : ℕ) → HasZone word z ⊎ (HasZone word z → ⊥)

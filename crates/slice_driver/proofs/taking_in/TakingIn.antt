@@ -18,7 +18,7 @@ use Rattle.slice_driver.specs.Represents.{AreInStates, IsInGroups}
 use Rattle.slice_driver.specs.Sweeping.{AreFreed, FitsWords, TakesIn, after_sweep}
 use Rattle.slice_driver.specs.Units.{DoesUnit, IsFreedWord, IsLowestOut, reports_of, without_arena}
 use Rattle.slice_driver.proofs.group_end.Ready.{collection_of, runs_of}
-use Rattle.slice_driver.proofs.grouping.Laws.{unformed_kept}
+use Rattle.slice_driver.proofs.taking_in.GroupingLaws.{unformed_kept}
 use Rattle.slice_driver.proofs.taking_in.Laws.{sweep_last_unit, sweep_unit}
 use Rattle.slice_driver.proofs.taking_in.Runs.{has_zone_or_not}
 
@@ -68,10 +68,19 @@ after_both state.MarkBlackAndGray = refl
 after_both state.Sweep = refl
 after_both state.Finished = refl
 
+-- the lowest arena that is out is to be taken in: these are the slots of its white cells at hand-out and their names,
+-- and its bits in flight
+pub record AtTaking (c : CollectorState) (flown : ℕ → Option Bits) (a freed : ℕ) (bits : Bits) (names : List Name)
+    : Type 0 where
+  pub bits_are : flown a ≡ Some bits
+  pub lowest : IsLowestOut c.heap.shape a
+  pub freed_is : IsFreedWord c.heap.shape a freed
+  pub running : IsSome c.run
+  pub fits : (old : Bits) → out_of c.heap.shape a ≡ Some old → FitsWords old
+  pub listed : AreFreed c.heap.shape a freed names
+
 module _ (c : CollectorState) (flown : ℕ → Option Bits) (a freed : ℕ) (bits : Bits) (names : List Name)
-    (at : flown a ≡ Some bits) (lowest : IsLowestOut c.heap.shape a) (word : IsFreedWord c.heap.shape a freed)
-    (running : IsSome c.run) (fits : (old : Bits) → out_of c.heap.shape a ≡ Some old → FitsWords old)
-    (listed : AreFreed c.heap.shape a freed names) (k : HeapState) where
+    (taking : AtTaking c flown a freed bits names) (k : HeapState) where
   abbrev taken : HeapState
   taken = with_taken c.heap a freed bits
 
@@ -87,11 +96,11 @@ module _ (c : CollectorState) (flown : ℕ → Option Bits) (a freed : ℕ) (bit
 
     takes : TakesIn c flown a freed bits (middle h)
     takes = record {
-      running = running;
-      lowest = lowest;
-      freed_is = word;
-      fits = fits;
-      bits_are = at;
+      running = taking.running;
+      lowest = taking.lowest;
+      freed_is = taking.freed_is;
+      fits = taking.fits;
+      bits_are = taking.bits_are;
       heap_is = rest;
       sized = sized;
       still = λ b out z. still b (subst (λ (o : Option Bits). IsSome o) (out_same b) out) z;
@@ -106,7 +115,7 @@ module _ (c : CollectorState) (flown : ℕ → Option Bits) (a freed : ℕ) (bit
   pub sweeps_on : EndsSweeping taken c.groups false k
       → DoesUnit c flown (report.Swept a names ∷ []) (middle k) (without_arena flown a)
   sweeps_on e = sweep_unit c (middle k) flown a freed bits names
-      (takes k e.rest e.sized (λ b out. (e.still b out).1) (λ none. (e.swept none refl).1)) listed
+      (takes k e.rest e.sized (λ b out. (e.still b out).1) (λ none. (e.swept none refl).1)) taking.listed
       (λ done. (e.swept (λ b.
       sym (out_same k e.rest e.sized (λ b out. (e.still b out).1) (λ none. (e.swept none refl).1) b) ∙ done.kept b)
       refl).0 done.none_left)
@@ -117,10 +126,10 @@ module _ (c : CollectorState) (flown : ℕ → Option Bits) (a freed : ℕ) (bit
       (without_arena flown a)
   sweeps_last e w ok s =
       let over = e.ended refl in
-      let run = run_there c.run running in
+      let run = run_there c.run taking.running in
       let is_formed : run.0.formed ≡ true =
       formed_of run.0.formed
-      (λ no. nothing_out (out_of c.heap.shape a) lowest.out (unformed_kept c flown w run.0 s run.1 no a)) in
+      (λ no. nothing_out (out_of c.heap.shape a) taking.lowest.out (unformed_kept c flown w run.0 s run.1 no a)) in
       let kind = collection_of c (heap_with c flown) w run.0 run.1 s.runs in
       let states = (runs_of c (heap_with c flown) w run.0 kind.0 run.1 kind.1 s.runs).states in
       let none_now : (b : ℕ) → out_of (all_swept taken).shape b ≡ None = over.1 in
@@ -128,7 +137,7 @@ module _ (c : CollectorState) (flown : ℕ → Option Bits) (a freed : ℕ) (bit
       (takes (all_swept taken) refl (length-map c.heap.shape.states after_sweep)
       (λ b out. absurd (nothing_out (out_of taken.shape b) out (over.1 b)))
       (λ none z. states_mapped after_sweep refl c.heap.shape.states z))
-      listed
+      taking.listed
       (record { run = run.0; running = run.1; formed = is_formed; none_left = over.0; kept = none_now })
       (record {
         heap_is = e.rest;

@@ -1,4 +1,4 @@
-use Rattle.slice_driver.proofs.taking_in.Sessions.{after_out, after_sound}
+use Rattle.slice_driver.proofs.marking.Sessions.{after_out, after_sound}
 use Rattle.slice_driver.proofs.counted.advance.Goals as goal
 
 pub returns-clause-sound : goal.returns-clause-sound

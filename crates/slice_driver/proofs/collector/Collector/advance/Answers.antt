@@ -1,10 +1,12 @@
-use Rattle.std.proofs.Common.{◌≡◌, ◌<◌, arith, ap}
+use Rattle.std.proofs.Common.{◌≡◌, ◌<◌, IsSome, arith, ap, subst, sym}
 use Rattle.sweeping.specs.ArenasOut.{flying_after, outs_after}
-use Rattle.slice_driver.specs.Collector.{heap_with}
+use Rattle.slice_driver.specs.Collector.{CollectorState, heap_with}
 use Rattle.slice_driver.specs.declared.advance.Step.{Step}
+use Rattle.slice_driver.proofs.marking.MarkingUnits.{still_sound}
+use Rattle.slice_driver.proofs.marking.Units.{quiet_sound}
 use Rattle.slice_driver.proofs.marking.EdgesRead.{ok_reads, quiet_reads, still_grays}
-use Rattle.slice_driver.proofs.taking_in.UnitSteps.{due_hands, due_into, err_ends, ok_hands, ok_still, quiet_advances}
-use Rattle.slice_driver.proofs.taking_in.UnitSteps.{still_advances, still_out}
+use Rattle.slice_driver.proofs.marking.UnitSteps.{due_hands, due_into, err_ends, ok_hands, ok_still, quiet_advances}
+use Rattle.slice_driver.proofs.marking.UnitSteps.{still_advances, still_out}
 use Rattle.slice_driver.proofs.collector.Collector.advance.Goals as goal
 
 pub returns-then-quiet-gt0-clause-done : goal.returns-then-quiet-gt0-clause-done
@@ -15,8 +17,11 @@ returns-then-quiet-gt0-clause-done g c =
     (g.F.Flight.bits c.args.flight.now) (g.F.Flight.bits c.quiet_units-quiet.new.flight)
     (g.F.Sweeping.left (g.F.Flight.origin c.args.flight.now))
     (g.F.Sweeping.left (g.F.Flight.origin c.quiet_units-quiet.new.flight)) c.args.report.now
-    c.quiet_units-quiet.ensures.done some c.quiet_units-quiet.ensures.most c.quiet_units-quiet.ensures.resting
-    c.quiet_units-quiet.ensures.sound
+    c.quiet_units-quiet.ensures.does.done some c.quiet_units-quiet.ensures.does.most
+        c.quiet_units-quiet.ensures.does.resting
+    (quiet_sound c.quiet_units-quiet.result c.args.self.now (g.F.Flight.bits c.args.flight.now)
+    c.quiet_units-quiet.new.self (g.F.Flight.bits c.quiet_units-quiet.new.flight) c.quiet_units-quiet.ensures.does.done
+    c.requires.ready.sound)
     (ap g.F.Sweeping.left c.quiet_units-quiet.ensures.origin) c.requires.ready.out
 
 pub returns-in-Some-clause-done : goal.returns-in-Some-clause-done
@@ -24,27 +29,53 @@ returns-in-Some-clause-done g c =
     let none = c.if-quiet-gt0.false in
     let some = c.requires.some in
     let zero : c.quiet_units-quiet.result ≡ 0 = omega (arith, none) in
-    let rests = c.quiet_units-quiet.ensures.rests (omega (arith, none, some)) in
+    let rests = c.quiet_units-quiet.ensures.does.rests (omega (arith, none, some)) in
     let took = c.take_due_into.ensures in
     still_advances c.args.limit c.args.self.now c.quiet_units-quiet.new.self c.take_due_into.new.self
     (g.F.Flight.bits c.args.flight.now) (g.F.Flight.bits c.quiet_units-quiet.new.flight)
     (flying_after c.swept.result.handed (g.F.Flight.bits c.take_due_into.new.flight))
     (outs_after c.swept.result.handed (g.F.Sweeping.left (g.F.Flight.origin c.take_due_into.new.flight)))
     c.args.report.now c.take_due_into.new.report c.swept.result c.requires.some
-    (c.quiet_units-quiet.ensures.done.none zero)
+    (c.quiet_units-quiet.ensures.does.done.none zero)
     (due_into c.quiet_units-quiet.new.self c.take_due_into.new.self (g.F.Flight.bits c.quiet_units-quiet.new.flight)
     (g.F.Flight.bits c.take_due_into.new.flight) (g.F.Sweeping.left (g.F.Flight.origin c.take_due_into.new.flight))
     c.args.report.now c.take_due_into.new.report c.take_due_into.result c.swept.result c.swept.ensures
     c.in-Some.arena c.in-Some.ensures.some rests took.told took.takes.done took.takes.left took.takes.to_come
     took.takes.finished took.takes.sound took.takes.out took.takes.made took.takes.weak)
 
+pub take_due_into-requires-clause-ready : goal.take_due_into-requires-clause-ready
+take_due_into-requires-clause-ready g c =
+    let none = c.if-quiet-gt0.false in
+    let zero : c.quiet_units-quiet.result ≡ 0 = omega (arith, none) in
+    let still = c.quiet_units-quiet.ensures.does.done.none zero in
+    record {
+      sound = still_sound c.args.self.now (g.F.Flight.bits c.args.flight.now) c.quiet_units-quiet.new.self
+          (g.F.Flight.bits c.quiet_units-quiet.new.flight) still c.requires.ready.sound;
+      running = subst (λ (x : CollectorState). IsSome x.run) (sym still.same) c.requires.ready.running;
+      out = still_out c.args.self.now c.quiet_units-quiet.new.self (g.F.Flight.bits c.args.flight.now)
+          (g.F.Flight.bits c.quiet_units-quiet.new.flight)
+          (g.F.Sweeping.left (g.F.Flight.origin c.args.flight.now))
+          (g.F.Sweeping.left (g.F.Flight.origin c.quiet_units-quiet.new.flight)) still
+          (ap g.F.Sweeping.left c.quiet_units-quiet.ensures.origin) c.requires.ready.out;
+    }
+
+pub advance_one-requires-clause-running : goal.advance_one-requires-clause-running
+advance_one-requires-clause-running g c =
+    let none = c.if-quiet-gt0.false in
+    let zero : c.quiet_units-quiet.result ≡ 0 = omega (arith, none) in
+    subst (λ (x : CollectorState). IsSome x.run) (sym (c.quiet_units-quiet.ensures.does.done.none zero).same)
+    c.requires.ready.running
+
 pub advance_one-requires-clause-rests : goal.advance_one-requires-clause-rests
 advance_one-requires-clause-rests g c =
     let none = c.if-quiet-gt0.false in
     let some = c.requires.some in (
       g.F.Flight.bits c.quiet_units-quiet.new.flight,
-      c.quiet_units-quiet.ensures.sound,
-      c.quiet_units-quiet.ensures.rests (omega (arith, none, some)),
+      (quiet_sound c.quiet_units-quiet.result c.args.self.now (g.F.Flight.bits c.args.flight.now)
+          c.quiet_units-quiet.new.self (g.F.Flight.bits c.quiet_units-quiet.new.flight)
+              c.quiet_units-quiet.ensures.does.done
+          c.requires.ready.sound),
+      c.quiet_units-quiet.ensures.does.rests (omega (arith, none, some)),
     )
 
 pub returns-clause-done : goal.returns-clause-done
@@ -52,12 +83,15 @@ returns-clause-done g c =
     let none = c.if-quiet-gt0.false in
     let some = c.requires.some in
     let zero : c.quiet_units-quiet.result ≡ 0 = omega (arith, none) in
-    let still = c.quiet_units-quiet.ensures.done.none zero in
+    let still = c.quiet_units-quiet.ensures.does.done.none zero in
     ok_still c.advance_one.result c.args.limit c.args.self.now c.quiet_units-quiet.new.self c.advance_one.new.self
     (g.F.Flight.bits c.args.flight.now) (g.F.Flight.bits c.quiet_units-quiet.new.flight)
     (g.F.Sweeping.left (g.F.Flight.origin c.quiet_units-quiet.new.flight))
-    c.args.report.now c.advance_one.new.report some still c.quiet_units-quiet.ensures.sound
-    (c.quiet_units-quiet.ensures.rests (omega (arith, none, some)))
+    c.args.report.now c.advance_one.new.report some still
+        (quiet_sound c.quiet_units-quiet.result c.args.self.now (g.F.Flight.bits c.args.flight.now)
+    c.quiet_units-quiet.new.self (g.F.Flight.bits c.quiet_units-quiet.new.flight) c.quiet_units-quiet.ensures.does.done
+    c.requires.ready.sound)
+    (c.quiet_units-quiet.ensures.does.rests (omega (arith, none, some)))
     (still_out c.args.self.now c.quiet_units-quiet.new.self (g.F.Flight.bits c.args.flight.now)
     (g.F.Flight.bits c.quiet_units-quiet.new.flight) (g.F.Sweeping.left (g.F.Flight.origin c.args.flight.now))
     (g.F.Sweeping.left (g.F.Flight.origin c.quiet_units-quiet.new.flight)) still
@@ -76,7 +110,7 @@ returns-in-Some-clause-steps g c =
     let zero : c.quiet_units-quiet.result ≡ 0 = omega (arith, none) in
     let few = c.quiet_units-quiet.ensures.steps in
     let still = still_grays c.args.self.now (g.F.Flight.bits c.args.flight.now) c.quiet_units-quiet.new.self
-    (g.F.Flight.bits c.quiet_units-quiet.new.flight) (c.quiet_units-quiet.ensures.done.none zero) in
+    (g.F.Flight.bits c.quiet_units-quiet.new.flight) (c.quiet_units-quiet.ensures.does.done.none zero) in
     let one = ap (λ (s : Step). s.units) c.swept.ensures in
     omega (arith, few, zero, still, one)
 
@@ -86,7 +120,7 @@ returns-clause-steps g c =
     let zero : c.quiet_units-quiet.result ≡ 0 = omega (arith, none) in
     let few = c.quiet_units-quiet.ensures.steps in
     let still = still_grays c.args.self.now (g.F.Flight.bits c.args.flight.now) c.quiet_units-quiet.new.self
-    (g.F.Flight.bits c.quiet_units-quiet.new.flight) (c.quiet_units-quiet.ensures.done.none zero) in
+    (g.F.Flight.bits c.quiet_units-quiet.new.flight) (c.quiet_units-quiet.ensures.does.done.none zero) in
     ok_reads c.advance_one.result c.args.steps.now c.quiet_units-quiet.new.steps
     (heap_with c.args.self.now (g.F.Flight.bits c.args.flight.now)) c.advance_one.new.self
     (g.F.Flight.bits c.quiet_units-quiet.new.flight) (omega (arith, few, zero, still))
@@ -101,7 +135,7 @@ returns-clause-handed g c =
     let zero : c.quiet_units-quiet.result ≡ 0 = omega (arith, none) in
     ok_hands c.advance_one.result c.args.self.now c.quiet_units-quiet.new.self (g.F.Flight.bits c.args.flight.now)
     (g.F.Flight.bits c.quiet_units-quiet.new.flight) c.advance_one.new.report
-    (c.quiet_units-quiet.ensures.done.none zero) c.advance_one.ensures.handed
+    (c.quiet_units-quiet.ensures.does.done.none zero) c.advance_one.ensures.handed
 
 pub returns-clause-err_where : goal.returns-clause-err_where
 returns-clause-err_where g c =
@@ -109,6 +143,6 @@ returns-clause-err_where g c =
     let some = c.requires.some in
     let zero : c.quiet_units-quiet.result ≡ 0 = omega (arith, none) in
     err_ends c.advance_one.result c.args.self.now c.quiet_units-quiet.new.self (g.F.Flight.bits c.args.flight.now)
-    (g.F.Flight.bits c.quiet_units-quiet.new.flight) (c.quiet_units-quiet.ensures.done.none zero)
-    (c.quiet_units-quiet.ensures.rests (omega (arith, none, some))) c.in_default.ensures.none
+    (g.F.Flight.bits c.quiet_units-quiet.new.flight) (c.quiet_units-quiet.ensures.does.done.none zero)
+    (c.quiet_units-quiet.ensures.does.rests (omega (arith, none, some))) c.in_default.ensures.none
     c.advance_one.ensures.err_formed

@@ -3,7 +3,7 @@ use Rattle.slice_driver.specs.Collector.{CollectorState, run_of}
 use Rattle.slice_driver.specs.Quiet.{IsFormed}
 use Rattle.slice_driver.specs.declared.collector.Run.{Run}
 use Rattle.slice_driver.proofs.marking.AtGroupEnd.{formed_rests, ready}
-use Rattle.slice_driver.proofs.taking_in.UnitSteps.{ending_advances, grouping_advances, grouping_hands}
+use Rattle.slice_driver.proofs.marking.UnitSteps.{ending_advances, grouping_advances, grouping_hands}
 use Rattle.slice_driver.proofs.collector.Collector.advance_one.Goals as goal
 
 is_formed : (c : CollectorState) (o : Option Run) (run : Run) → c.run ≡ run_of o → o ≡ Some run → run.formed ≡ true

@@ -5,38 +5,29 @@ use Rattle.mark_stack.specs.Stack.{Piles}
 use Rattle.heap_core.specs.Heap.{HeapState, joined, without_delayed}
 use Rattle.barriers.specs.Pending.{pending}
 use Rattle.barriers.specs.Colours.{grays_outside}
-use Rattle.slice_driver.specs.Collector.{CollectorState, heap_with, run_of}
+use Rattle.slice_driver.specs.Collector.{CollectorState, heap_with}
 use Rattle.slice_driver.specs.Quiet.{IsFormed}
 use Rattle.slice_driver.specs.Units.{IsSound}
 use Rattle.slice_driver.specs.Working.{GoesOn, HasBegun}
+use Rattle.slice_driver.specs.contracts.collector.Collector.{the_view}
 use Rattle.slice_driver.proofs.abstraction.Named.{some_one}
-use Rattle.slice_driver.proofs.marking.ZoneSteps.{all_begun, current_is, in_both, not_begun, zone_goes}
+use Rattle.slice_driver.proofs.marking.ZoneSteps.{all_begun, current_is, not_begun, zone_goes}
 use Rattle.slice_driver.proofs.marking.ZoneSteps.{zone_grays}
 use Rattle.slice_driver.proofs.marking.Views.{begun_pending, begun_seen}
 use Rattle.slice_driver.proofs.collector.Collector.begins_zone.Goals as goal
 
 pub returns-in_default-first-clause-begins : goal.returns-in_default-first-clause-begins
 returns-in_default-first-clause-begins c =
-    let v : CollectorState =
-    record {
-      heap = without_delayed c.self.inside.heap;
-      stack = pending c.self.inside.heap c.self.inside.stack;
-      lists = c.self.inside.lists;
-      edges = c.self.inside.edges;
-      groups = c.self.inside.order;
-      run = run_of c.self.inside.run;
-    } in
+    let v : CollectorState = the_view c.self.inside in
     let is : v ≡ c.args.self.now = c.self.view_is in
     let flown = c.requires.sound.0 in
     let sound : IsSound v flown = subst (λ (x : CollectorState). IsSound x flown) (sym is) c.requires.sound.1 in
     let formed : IsFormed v = subst (λ (x : CollectorState). IsFormed x) (sym is) c.requires.formed in
     let at : slice_get v.groups 0 ≡ Some c.in-Some.group = sym c.current.ensures ∙ c.in-Some.is in
-    let both = in_both c.in-Some.group.bits c.in_state-waiting.result.bits c.without.result.bits c.without-2.result.bits
-    c.without.ensures c.without-2.ensures in
     let begun : HasBegun v =
     λ g e. all_begun v flown sound formed g e
     (λ z h found. c.in_default-first.ensures.none z
-    ((both z).1 (
+    ((c.intersection.ensures z).1 (
       subst (λ (y : ZoneSet). HasZone y.bits z) (some_one _ _ (sym e ∙ at)) h,
       (c.in_state-waiting.ensures z).1 found,
     ))) in
@@ -44,21 +35,12 @@ returns-in_default-first-clause-begins c =
 
 pub returns-clause-begins : goal.returns-clause-begins
 returns-clause-begins c =
-    let v : CollectorState =
-    record {
-      heap = without_delayed c.self.inside.heap;
-      stack = pending c.self.inside.heap c.self.inside.stack;
-      lists = c.self.inside.lists;
-      edges = c.self.inside.edges;
-      groups = c.self.inside.order;
-      run = run_of c.self.inside.run;
-    } in
+    let v : CollectorState = the_view c.self.inside in
     let is : v ≡ c.args.self.now = c.self.view_is in
     let formed : IsFormed v = subst (λ (x : CollectorState). IsFormed x) (sym is) c.requires.formed in
     let at : slice_get v.groups 0 ≡ Some c.in-Some.group = sym c.current.ensures ∙ c.in-Some.is in
     let zone = c.in-Some-first.zone in
-    let both = (in_both c.in-Some.group.bits c.in_state-waiting.result.bits c.without.result.bits
-    c.without-2.result.bits c.without.ensures c.without-2.ensures zone).0 c.in-Some-first.ensures.some in
+    let both = (c.intersection.ensures zone).0 c.in-Some-first.ensures.some in
     let found = (c.in_state-waiting.ensures zone).0 both.1 in
     let h : HeapState = c.self.inside.heap in
     let n : HeapState = c.advance.new.self in
@@ -74,20 +56,11 @@ returns-clause-begins c =
 
 pub returns-clause-grays : goal.returns-clause-grays
 returns-clause-grays c =
-    let v : CollectorState =
-    record {
-      heap = without_delayed c.self.inside.heap;
-      stack = pending c.self.inside.heap c.self.inside.stack;
-      lists = c.self.inside.lists;
-      edges = c.self.inside.edges;
-      groups = c.self.inside.order;
-      run = run_of c.self.inside.run;
-    } in
+    let v : CollectorState = the_view c.self.inside in
     let formed : IsFormed v = subst (λ (x : CollectorState). IsFormed x) (sym c.self.view_is) c.requires.formed in
     let at : slice_get v.groups 0 ≡ Some c.in-Some.group = sym c.current.ensures ∙ c.in-Some.is in
     let zone = c.in-Some-first.zone in
-    let both = (in_both c.in-Some.group.bits c.in_state-waiting.result.bits c.without.result.bits
-    c.without-2.result.bits c.without.ensures c.without-2.ensures zone).0 c.in-Some-first.ensures.some in
+    let both = (c.intersection.ensures zone).0 c.in-Some-first.ensures.some in
     let found = (c.in_state-waiting.ensures zone).0 both.1 in
     λ flown. subst (λ (x : CollectorState). grays_outside (joined c.advance.new.self flown)
     ≡ grays_outside (heap_with x flown)) c.self.view_is

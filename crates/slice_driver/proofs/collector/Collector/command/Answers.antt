@@ -1,25 +1,20 @@
-use Rattle.std.proofs.Common.{◌≡◌, ◌∙◌, ◌+◌, IfOk, OnErr, Err, IsSome, ap, sym, subst, rules, Option, None, ℕ}
-use Rattle.gz_names.specs.declared.replies.CmdFault.TheVariants as fault
-use Rattle.colour_defs.specs.Step.{refusal_in}
-use Rattle.heap_core.specs.Answers.{IsSound as IsSoundHeap}
-use Rattle.heap_core.specs.Peeks.{cells_made}
+use Rattle.std.proofs.Common.{◌≡◌, ◌∙◌, IfOk, OnErr, IsSome, ap, sym, subst, rules, Option, ℕ}
 use Rattle.mark_stack.specs.Stack.{Piles}
+use Rattle.heap_core.specs.Answers.{IsSound as IsSoundHeap}
 use Rattle.heap_core.specs.Heap.{HeapState, without_delayed}
-use Rattle.barriers.specs.Pending.{pending}
 use Rattle.heap_core.specs.Lookups.{IsRefused}
 use Rattle.heap_core.specs.Plans.{ChangesBy, IsAble, IsPlanOf, MayWant}
 use Rattle.heap_core.proofs.Planned.{making-wants, planned-here}
-use Rattle.slice_driver.specs.Collector.{CollectorState, IsKept, run_of}
+use Rattle.barriers.specs.Pending.{pending}
+use Rattle.slice_driver.specs.Calls.{CommandDone}
+use Rattle.slice_driver.specs.Collector.{CollectorState, IsKept}
 use Rattle.slice_driver.specs.Rooms.{IsRoomy, arenas_after}
 use Rattle.slice_driver.specs.Steps.{GoesThrough}
-use Rattle.slice_driver.specs.Units.{DoesCommand, RaisesWithin}
-use Rattle.slice_driver.proofs.commanding.Commanded.{IsPlanned, as_fault, does_call, entries_after, exposed_after}
-use Rattle.slice_driver.proofs.commanding.Commanded.{kept_call, made_call, raises_call, refused_at, refused_raises}
-use Rattle.slice_driver.proofs.commanding.Commanded.{room_raises, run_after, sound_heap, sound_roomy}
-use Rattle.slice_driver.proofs.commanding.Commanded.{sure_call, through_able, through_plan, through_sound, wants_room}
-use Rattle.slice_driver.proofs.commanding.Commanded.{wide_able, wide_marks, wide_plan, wide_sound, wide_words}
-use Rattle.slice_driver.proofs.commanding.Commanded.{words_call, answered_call, command_sound, room_wanted, wanted_call}
-use Rattle.slice_driver.proofs.commanding.Commanded.{where_err}
+use Rattle.slice_driver.specs.contracts.collector.Collector.{the_view}
+use Rattle.slice_driver.proofs.commanding.Commanded.{IsPlanned, as_fault, exposed_after, kept_call, planned_done}
+use Rattle.slice_driver.proofs.commanding.Commanded.{refused_done, roomless_done, sound_heap, sound_roomy}
+use Rattle.slice_driver.proofs.commanding.Commanded.{through_able, through_plan, through_sound, where_err, wide_able}
+use Rattle.slice_driver.proofs.commanding.Commanded.{wide_marks, wide_plan, wide_sound}
 use Rattle.slice_driver.proofs.commanding.Viewed.{committed_delayed, committed_viewed, refused_viewed, sound_plain}
 use Rattle.slice_driver.proofs.commanding.Viewed.{uncommitted_viewed}
 use Rattle.slice_driver.proofs.collector.Collector.command.Given.{Over}
@@ -32,24 +27,16 @@ heap_of c = c.heap
 
 -- the collector as the change was made, with these cells still delayed
 abbrev with_pending : (g : Over) → Joined-commit g → Piles → CollectorState
-with_pending g c delayed = record {
+with_pending g c delayed = record (the_view c.self-2.inside) {
   heap = without_delayed c.commit.new.self;
   stack = pending (record c.commit.new.self { delayed = delayed }) c.self-2.inside.stack;
-  lists = c.self-2.inside.lists;
-  edges = c.self-2.inside.edges;
-  groups = c.self-2.inside.order;
-  run = run_of c.self-2.inside.run;
 }
 
 -- the collector after the call
 abbrev after : (g : Over) → Joined-commit g → CollectorState
-after g c = record {
+after g c = record (the_view c.self-2.inside) {
   heap = without_delayed c.commit.new.self;
   stack = pending c.commit.new.self c.self-2.inside.stack;
-  lists = c.self-2.inside.lists;
-  edges = c.self-2.inside.edges;
-  groups = c.self-2.inside.order;
-  run = run_of c.self-2.inside.run;
 }
 
 planned : (g : Over) (c : Joined-commit g)
@@ -101,42 +88,9 @@ resolve-requires g c = record {
       (sound_heap c.args.self.now (g.F.Flight.bits c.args.flight.now) c.requires.sound));
 }
 
-pub returns-in-Err-clause-done : goal.returns-in-Err-clause-done
-returns-in-Err-clause-done g c = refused_at c.args.self.now (g.F.Flight.bits c.args.flight.now) c.args.cmd c.in-Err.why
-    (subst (λ h. IsRefused h c.args.cmd c.in-Err.why) (ap heap_of c.self.view_is)
-    (refused_viewed c.self.inside.heap c.args.cmd c.in-Err.why c.in-Err.ensures.refused))
-
 pub make_room-requires : goal.make_room-requires
 make_room-requires g c =
     record { roomy = sound_roomy c.args.self.now (g.F.Flight.bits c.args.flight.now) c.requires.sound }
-
-pub returns-then-is_err-clause-done : goal.returns-then-is_err-clause-done
-returns-then-is_err-clause-done g c =
-    wants_room c.args.self.now c.make_room.new.self (g.F.Flight.bits c.args.flight.now) c.args.cmd
-    c.make_room.ensures.widens
-
-pub returns-then-is_err-clause-wanted : goal.returns-then-is_err-clause-wanted
-returns-then-is_err-clause-wanted g c = λ wants. room_wanted c.args.self.now c.make_room.new.self
-    (g.F.Flight.bits c.args.flight.now) c.args.cmd c.make_room.ensures.widens
-    (planned-here c.args.self.now.heap c.args.cmd c.in-Ok.plan
-    (subst (λ h. IsPlanOf h c.args.cmd c.in-Ok.plan) (ap heap_of c.self.view_is) c.in-Ok.ensures.plan)).accepted
-
-pub returns-then-is_err-clause-sure : goal.returns-then-is_err-clause-sure
-returns-then-is_err-clause-sure g c = λ never wants. (
-    let makes = where_err c.make_room.result (sym c.is_err.ensures.value ∙ c.if-is_err.true) c.make_room.ensures.makes
-    in
-    let may = making-wants c.self.inside.heap.shape c.in-Ok.plan.change
-    (subst (λ (o : Option ℕ). IsSome o) c.makes_in.ensures makes) in
-    let some = (planned-here c.self.inside.heap c.args.cmd c.in-Ok.plan c.in-Ok.ensures.plan).wants may in
-    cc (never, some))
-
-pub returns-then-is_err-clause-sound : goal.returns-then-is_err-clause-sound
-returns-then-is_err-clause-sound g c = command_sound c.args.self.now c.make_room.new.self
-    (g.F.Flight.bits c.args.flight.now) (g.F.Flight.bits c.args.flight.now) c.args.cmd (Err fault.NoMemory)
-    (returns-then-is_err-clause-done g c) c.requires.sound
-
-pub returns-then-is_err-clause-words : goal.returns-then-is_err-clause-words
-returns-then-is_err-clause-words g c = wide_words c.args.self.now c.make_room.new.self c.make_room.ensures.widens
 
 pub expose-requires-clause-present : goal.expose-requires-clause-present
 expose-requires-clause-present g c =
@@ -229,51 +183,27 @@ invariant_of-self g c =
     (subst (λ s. IsKept s c.self-2.inside.edges c.self-2.inside.order c.self-2.inside.run
     c.self-2.inside.ungrouped) here c.self-2.invariant)
 
-pub returns-clause-done : goal.returns-clause-done
-returns-clause-done g c = subst (λ r. DoesCommand c.args.self.now (g.F.Flight.bits c.args.flight.now) c.args.cmd r
-    (after g c) (g.F.Flight.bits c.expose-3.new.flight)) (sym (result_is g c))
-    (does_call _ _ _ _ _ _ _ _ _ _ _ _ _ _ (planned g c))
-
-pub returns-clause-run : goal.returns-clause-run
-returns-clause-run g c = run_after _ _ _ _ _ _ _ _ _ _ _ _ _ _ (planned g c)
-
-pub returns-clause-entries : goal.returns-clause-entries
-returns-clause-entries g c = entries_after _ _ _ _ _ _ _ _ _ _ _ _ _ _ (planned g c)
-
-pub returns-clause-made : goal.returns-clause-made
-returns-clause-made g c =
-    subst (λ r. c.commit.new.self.made
-    ≡ c.args.self.now.heap.made + cells_made c.args.self.now.heap c.args.cmd r) (sym (result_is g c))
-    (made_call _ _ _ _ _ _ _ _ _ _ _ _ _ _ (planned g c))
-
-pub returns-clause-words : goal.returns-clause-words
-returns-clause-words g c = words_call _ _ _ _ _ _ _ _ _ _ _ _ _ _ (planned g c)
-
-pub returns-clause-answered : goal.returns-clause-answered
-returns-clause-answered g c = subst (λ r. IfOk r (λ answer. refusal_in answer ≡ None)) (sym (result_is g c))
-    (answered_call _ _ _ _ _ _ _ _ _ _ _ _ _ _ (planned g c))
-
-pub returns-clause-wanted : goal.returns-clause-wanted
-returns-clause-wanted g c = λ wants. wanted_call _ _ _ _ _ _ _ _ _ _ _ _ _ _ (planned g c)
-    (sym (result_is g c) ∙ wants)
-
-pub returns-clause-sure : goal.returns-clause-sure
-returns-clause-sure g c = λ never wants. sure_call _ _ _ _ _ _ _ _ _ _ _ _ _ _ (planned g c) never
-    (sym (result_is g c) ∙ wants)
-
-pub returns-clause-sound : goal.returns-clause-sound
-returns-clause-sound g c = command_sound _ _ _ _ _ _ (returns-clause-done g c) c.requires.sound
-
-pub returns-in-Err-clause-to_come : goal.returns-in-Err-clause-to_come
-returns-in-Err-clause-to_come g c = refused_raises c.args.self.now (g.F.Flight.bits c.args.flight.now) c.args.cmd
+pub returns-in-Err : goal.returns-in-Err
+returns-in-Err g c = refused_done g.F.Flight.bits g.F.Flight.origin c.args.self.now c.args.flight.now c.args.cmd
     c.in-Err.why
+    (subst (λ h. IsRefused h c.args.cmd c.in-Err.why) (ap heap_of c.self.view_is)
+    (refused_viewed c.self.inside.heap c.args.cmd c.in-Err.why c.in-Err.ensures.refused)) c.requires.sound
 
-pub returns-then-is_err-clause-to_come : goal.returns-then-is_err-clause-to_come
-returns-then-is_err-clause-to_come g c = room_raises c.args.self.now c.make_room.new.self
-    (g.F.Flight.bits c.args.flight.now) c.args.cmd c.make_room.ensures.widens
+pub returns-then-is_err : goal.returns-then-is_err
+returns-then-is_err g c =
+    let makes = where_err c.make_room.result (sym c.is_err.ensures.value ∙ c.if-is_err.true) c.make_room.ensures.makes
+    in
+    let may = making-wants c.self.inside.heap.shape c.in-Ok.plan.change
+    (subst (λ (o : Option ℕ). IsSome o) c.makes_in.ensures makes) in
+    roomless_done g.F.Flight.bits g.F.Flight.origin c.args.self.now c.make_room.new.self c.args.flight.now c.args.cmd
+    c.make_room.ensures.widens c.requires.sound
+    (planned-here c.args.self.now.heap c.args.cmd c.in-Ok.plan
+    (subst (λ h. IsPlanOf h c.args.cmd c.in-Ok.plan) (ap heap_of c.self.view_is) c.in-Ok.ensures.plan)).accepted
+    ((planned-here c.self.inside.heap c.args.cmd c.in-Ok.plan c.in-Ok.ensures.plan).wants may)
 
-pub returns-clause-to_come : goal.returns-clause-to_come
-returns-clause-to_come g c =
-    subst (λ r. RaisesWithin c.args.self.now (g.F.Flight.bits c.args.flight.now) c.args.cmd r (after g c)
-    (g.F.Flight.bits c.expose-3.new.flight)) (sym (result_is g c))
-    (raises_call _ _ _ _ _ _ _ _ _ _ _ _ _ _ (planned g c) c.entries_law.ensures.sound c.entries_law.ensures.parallel)
+pub returns : goal.returns
+returns g c = subst (λ r. CommandDone g.F.Flight.bits g.F.Flight.origin c.args.self.now c.args.flight.now c.args.cmd r
+    (after g c) c.expose-3.new.flight) (sym (result_is g c))
+    (planned_done g.F.Flight.bits g.F.Flight.origin c.args.flight.now c.expose.new.flight c.expose-2.new.flight
+    c.expose-3.new.flight _ _ _ _ _ _ _ _ _ (planned g c) c.entries_law.ensures.sound c.entries_law.ensures.parallel
+    (c.expose-3.ensures.origin ∙ (c.expose-2.ensures.origin ∙ c.expose.ensures.origin)))

@@ -15,7 +15,7 @@ use Rattle.barriers.specs.Pending.{pending}
 use Rattle.heap_core.specs.Sweeping.{handed}
 use Rattle.barriers.specs.Colours.{IsGray}
 use Rattle.slice_driver.specs.Advancing.{EndsSweeping}
-use Rattle.slice_driver.specs.Collector.{CollectorState, HasMore, run_of}
+use Rattle.slice_driver.specs.Collector.{CollectorState, HasMore}
 use Rattle.slice_driver.specs.GroupEnd.{IsGrayHere}
 use Rattle.slice_driver.specs.HandingOut.{HandsOut}
 use Rattle.slice_driver.specs.Units.{AreJobs, DoesUnit, EndsColoured, HandsJobs, IsSound, flying_after, jobs_at}
@@ -23,10 +23,11 @@ use Rattle.slice_driver.specs.Units.{reports_of}
 use Rattle.slice_driver.specs.declared.collector.Run.{Run}
 use Rattle.slice_driver.specs.Left.{units_left}
 use Rattle.slice_driver.specs.UnitsToCome.{units_to_come}
+use Rattle.slice_driver.specs.contracts.collector.Collector.{the_view}
 use Rattle.slice_driver.proofs.measure.FewerEnded.{ending_lowers, ending_to_come}
 use Rattle.slice_driver.proofs.group_end.EndReady.{IsReadyHere, ends_coloured, gray_present, ready_here, sized_here}
 use Rattle.slice_driver.proofs.group_end.GraysHere.{grays_here}
-use Rattle.slice_driver.proofs.group_end.GroupEnding.{ends_group}
+use Rattle.slice_driver.proofs.taking_in.GroupEnding.{ends_group}
 use Rattle.slice_driver.proofs.group_end.Laws.{jobs_flown}
 use Rattle.slice_driver.proofs.group_end.JobsHanded.{hands_jobs}
 use Rattle.slice_driver.proofs.taking_in.Kept.{more_left}
@@ -62,15 +63,7 @@ invariant_of-self-else-finished c = record {
 
 pub returns-clause-done : goal.returns-clause-done
 returns-clause-done c =
-    let v : CollectorState =
-    record {
-      heap = without_delayed c.self.inside.heap;
-      stack = pending c.self.inside.heap c.self.inside.stack;
-      lists = c.self.inside.lists;
-      edges = c.self.inside.edges;
-      groups = c.self.inside.order;
-      run = run_of c.self.inside.run;
-    } in
+    let v : CollectorState = the_view c.self.inside in
     let old : CollectorState = c.args.self.now in
     let is : v ≡ old = c.self.view_is in
     let group : ZoneSet = c.in-Some.group in

@@ -3,27 +3,19 @@ use Rattle.gz_names.specs.declared.replies.Report.TheVariants as report
 use Rattle.cell_bits.specs.declared.bits.Bits.{Bits}
 use Rattle.gz_names.specs.declared.zone_sets.ZoneSet.{ZoneSet}
 use Rattle.zone_edges.specs.Looks.{AreAllLookedAt}
-use Rattle.heap_core.specs.Heap.{without_delayed}
-use Rattle.barriers.specs.Pending.{pending}
-use Rattle.slice_driver.specs.Collector.{CollectorState, run_of}
+use Rattle.slice_driver.specs.Collector.{CollectorState}
 use Rattle.slice_driver.specs.Quiet.{IsFormed}
 use Rattle.slice_driver.specs.Units.{IsSound}
 use Rattle.slice_driver.specs.Working.{GoesOn, IsGrouping}
-use Rattle.slice_driver.proofs.grouping.Steps.{all_stepped, forms_goes, kept_waiting, not_formed, some_wait, step_goes}
-use Rattle.slice_driver.proofs.grouping.Steps.{steps_in, still_waiting, waiting_in, zones_noted}
+use Rattle.slice_driver.specs.contracts.collector.Collector.{the_view}
+use Rattle.slice_driver.proofs.marking.GroupingSteps.{all_stepped, forms_goes, kept_waiting, not_formed, some_wait}
+use Rattle.slice_driver.proofs.marking.GroupingSteps.{step_goes}
+use Rattle.slice_driver.proofs.marking.GroupingSteps.{steps_in, still_waiting, waiting_in, zones_noted}
 use Rattle.slice_driver.proofs.collector.Collector.group_step.Goals as goal
 
 pub invariant_of-self : goal.invariant_of-self
 invariant_of-self c =
-    let v : CollectorState =
-    record {
-      heap = without_delayed c.self.inside.heap;
-      stack = pending c.self.inside.heap c.self.inside.stack;
-      lists = c.self.inside.lists;
-      edges = c.self.inside.edges;
-      groups = c.self.inside.order;
-      run = run_of c.self.inside.run;
-    } in
+    let v : CollectorState = the_view c.self.inside in
     let flown = c.requires.sound.0 in
     let sound : IsSound v flown = subst (λ (x : CollectorState). IsSound x flown) (sym c.self.view_is)
     c.requires.sound.1 in
@@ -48,15 +40,7 @@ invariant_of-self c =
 
 pub components-groups-requires : goal.components-groups-requires
 components-groups-requires c =
-    let v : CollectorState =
-    record {
-      heap = without_delayed c.self.inside.heap;
-      stack = pending c.self.inside.heap c.self.inside.stack;
-      lists = c.self.inside.lists;
-      edges = c.self.inside.edges;
-      groups = c.self.inside.order;
-      run = run_of c.self.inside.run;
-    } in
+    let v : CollectorState = the_view c.self.inside in
     let flown = c.requires.sound.0 in
     let sound : IsSound v flown = subst (λ (x : CollectorState). IsSound x flown) (sym c.self.view_is)
     c.requires.sound.1 in
@@ -76,15 +60,7 @@ components-groups-requires c =
 
 pub returns-in-Some-first : goal.returns-in-Some-first
 returns-in-Some-first c =
-    let v : CollectorState =
-    record {
-      heap = without_delayed c.self.inside.heap;
-      stack = pending c.self.inside.heap c.self.inside.stack;
-      lists = c.self.inside.lists;
-      edges = c.self.inside.edges;
-      groups = c.self.inside.order;
-      run = run_of c.self.inside.run;
-    } in
+    let v : CollectorState = the_view c.self.inside in
     let flown = c.requires.sound.0 in
     let sound : IsSound v flown = subst (λ (x : CollectorState). IsSound x flown) (sym c.self.view_is)
     c.requires.sound.1 in
@@ -115,15 +91,7 @@ returns-in-Some-first c =
 
 pub returns : goal.returns
 returns c =
-    let v : CollectorState =
-    record {
-      heap = without_delayed c.self.inside.heap;
-      stack = pending c.self.inside.heap c.self.inside.stack;
-      lists = c.self.inside.lists;
-      edges = c.self.inside.edges;
-      groups = c.self.inside.order;
-      run = run_of c.self.inside.run;
-    } in
+    let v : CollectorState = the_view c.self.inside in
     let flown = c.requires.sound.0 in
     let sound : IsSound v flown = subst (λ (x : CollectorState). IsSound x flown) (sym c.self.view_is)
     c.requires.sound.1 in

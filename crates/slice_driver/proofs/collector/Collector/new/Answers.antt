@@ -1,8 +1,8 @@
 use Rattle.std.proofs.Common.{◌∙◌, ap, refl}
 use Rattle.mark_stack.specs.Stack.{Piles}
 use Rattle.gray_lists.specs.Incoming.{Incoming, list_of}
-use Rattle.slice_driver.proofs.abstraction.Starting.{empty_viewed, no_buffer, no_entries, none_pending}
-use Rattle.slice_driver.proofs.abstraction.Starting.{represents_first}
+use Rattle.slice_driver.proofs.beginning.Starting.{empty_viewed, no_buffer, no_entries, none_pending}
+use Rattle.slice_driver.proofs.beginning.Starting.{represents_first}
 use Rattle.slice_driver.proofs.collector.Collector.new.Goals as goal
 
 pub returns-clause-first : goal.returns-clause-first

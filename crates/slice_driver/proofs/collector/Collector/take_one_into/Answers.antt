@@ -11,7 +11,7 @@ use Rattle.heap_core.specs.Heap.{HeapState, without_delayed}
 use Rattle.barriers.specs.Pending.{pending}
 use Rattle.heap_core.specs.Sweeping.{with_taken}
 use Rattle.slice_driver.specs.Advancing.{EndsSweeping}
-use Rattle.slice_driver.specs.Collector.{CollectorState, HasMore, run_of}
+use Rattle.slice_driver.specs.Collector.{CollectorState, HasMore}
 use Rattle.slice_driver.specs.Sweeping.{AreFreed, FitsWords}
 use Rattle.slice_driver.specs.declared.collector.Run.{Run}
 use Rattle.slice_driver.specs.Units.{DoesUnit, IsFreedWord, IsLowestOut, IsSound, KeepsFreedWords, reports_of}
@@ -21,6 +21,7 @@ use Rattle.slice_driver.proofs.abstraction.SoundAfter.{unit_sound}
 use Rattle.slice_driver.proofs.taking_in.TakingIn.{takes_unit}
 use Rattle.slice_driver.specs.Left.{units_left}
 use Rattle.slice_driver.specs.UnitsToCome.{units_to_come}
+use Rattle.slice_driver.specs.contracts.collector.Collector.{the_view}
 use Rattle.slice_driver.proofs.measure.FewerTaken.{taking_lowers, taking_to_come}
 use Rattle.slice_driver.proofs.taking_in.Kept.{more_left, words_both, words_rest, words_taken}
 use Rattle.slice_driver.proofs.marking.Views.{ends_seen, taken_pending}
@@ -53,11 +54,14 @@ module _ (v old : CollectorState) (is : v ≡ old) (a freed : ℕ) (bits : ABits
   one_done names r told kept kept_is fit freed_is listed =
       let fits : (b : ABits) → out_of v.heap.shape a ≡ Some b → FitsWords b =
       λ b e. subst (λ (x : ABits). FitsWords x) (some_one _ _ (sym kept_is ∙ e)) fit in
-      let unit = takes_unit v flown a freed bits names at
-      (subst (λ (x : CollectorState). IsLowestOut x.heap.shape a) (sym is) lowest)
-      (subst (λ (x : CollectorState). IsFreedWord x.heap.shape a freed) (sym is) freed_is)
-      (subst (λ (x : CollectorState). IsSome x.run) (sym is) running)
-      fits listed k over ends in
+      let unit = takes_unit v flown a freed bits names (record {
+        bits_are = at;
+        lowest = subst (λ (x : CollectorState). IsLowestOut x.heap.shape a) (sym is) lowest;
+        freed_is = subst (λ (x : CollectorState). IsFreedWord x.heap.shape a freed) (sym is) freed_is;
+        running = subst (λ (x : CollectorState). IsSome x.run) (sym is) running;
+        fits = fits;
+        listed = listed;
+      }) k over ends in
       subst (λ (x : Option Report). DoesUnit old flown (reports_of x over) new (without_arena flown a)) (sym told)
       (subst (λ (x : CollectorState). DoesUnit x flown (reports_of (Some (report.Swept a names)) over) new
       (without_arena flown a)) is
@@ -93,15 +97,7 @@ one_words v old is a freed bits k over ends =
 
 pub returns-then-finished-clause-takes : goal.returns-then-finished-clause-takes
 returns-then-finished-clause-takes c =
-    let v : CollectorState =
-    record {
-      heap = without_delayed c.self.inside.heap;
-      stack = pending c.self.inside.heap c.self.inside.stack;
-      lists = c.self.inside.lists;
-      edges = c.self.inside.edges;
-      groups = c.self.inside.order;
-      run = run_of c.self.inside.run;
-    } in
+    let v : CollectorState = the_view c.self.inside in
     let old : CollectorState = c.args.self.now in
     let k : HeapState = c.end_sweeping-finished.new.heap in
     let now : HeapState = without_delayed k in
@@ -140,15 +136,7 @@ returns-then-finished-clause-takes c =
 
 pub returns-else-finished-clause-takes : goal.returns-else-finished-clause-takes
 returns-else-finished-clause-takes c =
-    let v : CollectorState =
-    record {
-      heap = without_delayed c.self.inside.heap;
-      stack = pending c.self.inside.heap c.self.inside.stack;
-      lists = c.self.inside.lists;
-      edges = c.self.inside.edges;
-      groups = c.self.inside.order;
-      run = run_of c.self.inside.run;
-    } in
+    let v : CollectorState = the_view c.self.inside in
     let old : CollectorState = c.args.self.now in
     let k : HeapState = c.end_sweeping-finished.new.heap in
     let now : HeapState = without_delayed k in

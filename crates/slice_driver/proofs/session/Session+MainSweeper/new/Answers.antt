@@ -1,4 +1,4 @@
-use Rattle.slice_driver.proofs.taking_in.Sessions.{new_first, new_sound}
+use Rattle.slice_driver.proofs.marking.Sessions.{new_first, new_sound}
 use Rattle.slice_driver.proofs.session.Session+MainSweeper.new.Goals as goal
 
 pub invariant_of-result : goal.invariant_of-result

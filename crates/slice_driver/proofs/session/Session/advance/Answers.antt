@@ -2,7 +2,7 @@ use Rattle.std.proofs.Common.{◌<◌, IfOk, IsSome, OnErr, arith, sym, subst}
 use Rattle.slice_driver.specs.Sessions.{SessionState, SessionSteps}
 use Rattle.slice_driver.specs.Working.{IsAtGroupEnd}
 use Rattle.slice_driver.specs.declared.advance.Step.{Step}
-use Rattle.slice_driver.proofs.taking_in.Sessions.{no_step_done, ok_steps}
+use Rattle.slice_driver.proofs.marking.Sessions.{no_step_done, ok_steps}
 use Rattle.slice_driver.proofs.session.Session.advance.Goals as goal
 
 pub returns-then-limit-eq0-clause-done : goal.returns-then-limit-eq0-clause-done

@@ -3,13 +3,15 @@ use Rattle.slice_driver.specs.Begins.{AreMade}
 use Rattle.slice_driver.specs.declared.begin.BeginFault.TheVariants.{NoZone}
 use Rattle.slice_driver.specs.Sessions.{SessionState}
 use Rattle.slice_driver.specs.Units.{BeginsIn, BeginsWithin}
+use Rattle.slice_driver.proofs.marking.Sessions.{begin_words}
 use Rattle.slice_driver.proofs.taking_in.TakingDue.{out_kept}
 use Rattle.slice_driver.proofs.session.Session.begin.Goals as goal
 
 pub invariant_of-self : goal.invariant_of-self
 invariant_of-self g c = (
   c.begin.ensures.sound (g.S.Flight.bits c.self.inside.sweeper) c.self.invariant.0,
-  out_kept _ _ _ _ refl c.begin.ensures.words c.self.invariant.1,
+  out_kept _ _ _ _ refl (begin_words c.begin.result c.self.inside.collector c.begin.new.collector
+      c.begin.ensures.words c.begin.ensures.refused) c.self.invariant.1,
 )
 
 pub returns-clause-begun : goal.returns-clause-begun

@@ -5,7 +5,7 @@ use Rattle.slice_driver.specs.Commands.{WantsMemory}
 use Rattle.slice_driver.specs.Sessions.{SessionState}
 use Rattle.slice_driver.specs.Units.{DoesCommand, RaisesWithin}
 use Rattle.slice_driver.specs.declared.session.SessionFault.TheVariants as session
-use Rattle.slice_driver.proofs.taking_in.Sessions.{told_as, told_done, told_ok}
+use Rattle.slice_driver.proofs.marking.Sessions.{told_as, told_done, told_ok}
 use Rattle.slice_driver.proofs.session.Session.command.Goals as goal
 
 pub command-outcome-requires-clause-few : goal.command-outcome-requires-clause-few
@@ -20,7 +20,7 @@ returns-clause-done g c =
     c.result_of.ensures
     (subst (λ (x : SessionState _). DoesCommand x.collector (g.S.Flight.bits x.sweeper) c.args.cmd
     c.command-outcome.result after.collector (g.S.Flight.bits after.sweeper)) c.self.view_is
-    c.command-outcome.ensures.done)
+    c.command-outcome.ensures.done.done)
 
 pub returns-clause-to_come : goal.returns-clause-to_come
 returns-clause-to_come g c =
@@ -30,19 +30,19 @@ returns-clause-to_come g c =
     c.result_of.ensures
     (subst (λ (x : SessionState _). RaisesWithin x.collector (g.S.Flight.bits x.sweeper) c.args.cmd
     c.command-outcome.result after.collector (g.S.Flight.bits after.sweeper)) c.self.view_is
-    c.command-outcome.ensures.to_come)
+    c.command-outcome.ensures.done.to_come)
 
 pub returns-clause-answered : goal.returns-clause-answered
 returns-clause-answered g c = told_ok _ c.command-outcome.result (λ answer. refusal_in answer ≡ None)
     c.result_of.ensures
-    c.command-outcome.ensures.answered
+    c.command-outcome.ensures.done.answered
 
 pub returns-clause-refused : goal.returns-clause-refused
 returns-clause-refused g c = λ why is.
     let after = c.command-outcome.new in
     subst (λ (x : SessionState _). (after.collector ≡ x.collector)
     × (g.S.Flight.bits after.sweeper ≡ g.S.Flight.bits x.sweeper)) c.self.view_is
-    (c.command-outcome.ensures.refused why
+    (c.command-outcome.ensures.done.refused why
     (told_as _ (Err (session.Refused why)) c.command-outcome.result (Err (fault.Refused why)) c.result_of.ensures is
     refl))
 
@@ -51,9 +51,9 @@ returns-clause-wanted g c = λ is.
     let after = c.command-outcome.new in
     subst (λ (x : SessionState _). WantsMemory x.collector (g.S.Flight.bits x.sweeper) c.args.cmd after.collector
     (g.S.Flight.bits after.sweeper)) c.self.view_is
-    (c.command-outcome.ensures.wanted
+    (c.command-outcome.ensures.done.wanted
     (told_as _ (Err session.NoMemory) c.command-outcome.result (Err fault.NoMemory) c.result_of.ensures is refl))
 
 pub returns-clause-sure : goal.returns-clause-sure
-returns-clause-sure g c = λ none is. c.command-outcome.ensures.sure none
+returns-clause-sure g c = λ none is. c.command-outcome.ensures.done.sure none
     (told_as _ (Err session.NoMemory) c.command-outcome.result (Err fault.NoMemory) c.result_of.ensures is refl)

@@ -1,5 +1,5 @@
 use Rattle.std.proofs.Common.{ap}
-use Rattle.slice_driver.proofs.taking_in.Sessions.{flies_sound}
+use Rattle.slice_driver.proofs.marking.Sessions.{flies_sound}
 use Rattle.slice_driver.proofs.taking_in.TakingDue.{out_kept}
 use Rattle.slice_driver.proofs.session.Session.gray_names.Goals as goal
 

@@ -1,5 +1,6 @@
 -- Looks and grouping steps of a unit.
 use Rattle.std.proofs.Common.{◌≡◌, ◌≢◌, ◌⊎◌, ◌↔◌, ◌<◌, ◌≤◌, ◌+◌, ◌-◌, ◌*◌, ℕ, zero, suc, true, false, List, [], ◌∷◌}
+use Rattle.std.proofs.Common.{Bool}
 use Rattle.std.proofs.Common.{length, Option, Some, None, IsSome, is_some, slice_index_or, cond, inl, inr, refl, sym}
 use Rattle.std.proofs.Common.{ap, subst, ◌∙◌, arith}
 use Rattle.std.specs.Int.{bit_at}
@@ -12,7 +13,7 @@ use Rattle.gz_names.specs.declared.zone_sets.ZoneSet.{ZoneSet}
 use Rattle.cell_bits.specs.declared.bits.Bits.{Bits}
 use Rattle.zone_edges.specs.Groups.{AreComponents}
 use Rattle.zone_edges.specs.Looks.{AreAllLookedAt, AreLeftBlack, AreWrappers, LooksAtNext, cursor_of, left_below}
-use Rattle.zone_edges.specs.Looks.{left_to_look}
+use Rattle.zone_edges.specs.Looks.{Looks, left_to_look}
 use Rattle.wrappers.specs.WrapperMaps.{list_of}
 use Rattle.zone_edges.specs.Noted.{Noted}
 use Rattle.zone_edges.proofs.SoundWrappers.{sound_has_wrappers}
@@ -29,9 +30,9 @@ use Rattle.slice_driver.specs.Quiet.{HasSameLooks, IsFormed, IsQuiet}
 use Rattle.slice_driver.specs.Represents.{AreLookedAt}
 use Rattle.slice_driver.specs.Units.{IsSound}
 use Rattle.slice_driver.specs.UnitsToCome.{units_to_come}
-use Rattle.slice_driver.specs.Working.{GoesOn, IsBlackDone, IsGrouping}
+use Rattle.slice_driver.specs.Working.{GoesOn, IsBlackDone, IsGrouping, LooksOrAll}
 use Rattle.slice_driver.proofs.group_end.Ready.{collection_of, runs_of}
-use Rattle.slice_driver.proofs.grouping.Laws.{form_unit, look_unit, quiet_unit, unformed_kept}
+use Rattle.slice_driver.proofs.taking_in.GroupingLaws.{form_unit, look_unit, quiet_unit, unformed_kept}
 use Rattle.slice_driver.proofs.grouping.Looks.{own_heap}
 use Rattle.slice_driver.proofs.marking.MarkingSteps.{own_sized}
 use Rattle.slice_driver.proofs.taking_in.Runs.{has_zone_or_not}
@@ -88,7 +89,7 @@ grouping_at : (s : Shape) (n : Noted) (o : Option RunState) (r : RunState) → o
 grouping_at s n o r e f = ap (grouping_left s n) e ∙ ap (λ b. cond b 0 (left_to_look s n + ungrouped_below n 64)) f
 
 -- a look goes on
-pub look_goes : (c : CollectorState) (edges : Noted) → IsGrouping c → LooksAtNext c.heap c.edges edges
+look_goes : (c : CollectorState) (edges : Noted) → IsGrouping c → LooksAtNext c.heap c.edges edges
     → edges.zones ≡ c.edges.zones → edges.stepped ≡ c.edges.stepped → (flown : ℕ → Option Bits) → IsSound c flown
     → IsBlackDone c flown → GoesOn c flown [] (record c { edges = edges }) flown
 unfolding units_to_come
@@ -124,6 +125,13 @@ look_goes c edges g looks zones stepped flown s black =
       less = falls_with _ _ _ _ _ fewer_left;
       to_come = falls _ _ _ _ fewer_left;
     }
+
+-- a look was tried: it goes on, or each wrapper was looked at
+pub look_tried : (c : CollectorState) (edges : Noted) (did : Bool) → IsGrouping c
+    → Looks c.heap c.edges did edges → edges.zones ≡ c.edges.zones → edges.stepped ≡ c.edges.stepped
+    → LooksOrAll did c (record c { edges = edges })
+look_tried c edges true g looks zones stepped = look_goes c edges g looks zones stepped
+look_tried c edges false g looks zones stepped = (looks.0, ap (λ (e : Noted). record c { edges = e }) looks.1)
 
 -- one zone more had its grouping step
 pub record StepsIn (old : Noted) (zone : ℕ) (new : Noted) : Type 0 where

@@ -32,8 +32,8 @@ use Rattle.slice_driver.specs.Represents.{AreBehind, AreInStates, IsCurrent, IsI
 use Rattle.slice_driver.specs.Represents.{Represents, Runs, RunsAs}
 use Rattle.slice_driver.specs.Quiet.{HasSameLooks, IsQuiet, KeepsLooks}
 use Rattle.slice_driver.proofs.abstraction.Named.{some_one}
-use Rattle.slice_driver.proofs.marking.Cells.{HasSameCells}
-use Rattle.slice_driver.proofs.marking.Worlds.{lies_same, unswept_same}
+use Rattle.slice_driver.proofs.basics.Cells.{HasSameCells}
+use Rattle.slice_driver.proofs.basics.Worlds.{lies_same, unswept_same}
 
 -- where no zone is marking, black is all that is left to turn black
 pub settled_pending : (h : HeapState) (p : Piles) → MarkingInvariant h p → ((x : Place) → is_marking h.shape x ≡ false)

@@ -19,8 +19,8 @@ use Rattle.slice_driver.specs.Units.{DoesUnit}
 use Rattle.slice_driver.proofs.group_end.Ready.{collection_of, runs_of}
 use Rattle.slice_driver.proofs.grouping.Forms.{after, forms, represents_formed, some_group}
 use Rattle.slice_driver.proofs.grouping.Looks.{keeps_look, quiet_look}
-use Rattle.slice_driver.proofs.marking.Steps.{keeps_looks, looks_same, quiet as stands_quiet}
-use Rattle.slice_driver.proofs.marking.Zones.{begins_quiet}
+use Rattle.slice_driver.proofs.abstraction.Steps.{keeps_looks, looks_same, quiet as stands_quiet}
+use Rattle.slice_driver.proofs.basics.Zones.{begins_quiet}
 use Rattle.slice_driver.proofs.taking_in.Runs.{has_zone_or_not}
 use Rattle.slice_driver.proofs.taking_in.Laws.{over_done, running_of, some_running}
 

@@ -1,5 +1,5 @@
 -- What a session promises, from what its collector does.
-use Rattle.std.proofs.Common.{◌≡◌, ◌<◌, ℕ, [], List, Option, Some, None, Result, Ok, Err, IfOk, IfSome, OnErr, OnOk}
+use Rattle.std.proofs.Common.{◌≡◌, ◌<◌, ℕ, [], List, Option, Some, Result, Ok, Err, IfOk, IfSome, OnErr, OnOk}
 use Rattle.std.proofs.Common.{IsSome, refl, sym, ap, ◌∙◌, subst}
 use Rattle.gz_names.specs.declared.replies.CmdFault.{CmdFault}
 use Rattle.gz_names.specs.declared.replies.Reply.{Reply}
@@ -9,12 +9,11 @@ use Rattle.cell_bits.specs.declared.jobs.Job.{Job}
 use Rattle.colour_defs.specs.World.{World, first_world}
 use Rattle.colour_defs.proofs.ValidRuns.{first_valid}
 use Rattle.sweeping.specs.ArenasOut.{flown_by, outs_of}
-use Rattle.heap_core.specs.Shape.{Shape}
 use Rattle.slice_driver.specs.Advances.{Advances, AreOut}
 use Rattle.slice_driver.specs.Collector.{CollectorState}
 use Rattle.slice_driver.specs.Sessions.{SessionSteps, no_step, outcome_of}
 use Rattle.slice_driver.specs.Represents.{Represents}
-use Rattle.slice_driver.specs.Units.{IsFreedWord, IsSound, KeepsFreedWords, none_flown}
+use Rattle.slice_driver.specs.Units.{IsSound, KeepsFreedWords, none_flown}
 use Rattle.slice_driver.specs.Working.{IsStill}
 use Rattle.slice_driver.specs.declared.advance.Step.{Step}
 use Rattle.slice_driver.specs.declared.session.SessionFault.{SessionFault}
@@ -32,12 +31,12 @@ no_step_done step limit c f outs report is idle = record {
   still = λ n. (refl, refl, refl);
 }
 
--- words are kept where a call did its work, and where it did nothing
-pub begin_words : {E : Type 0} {X : Type 0} (r : Result X E) (s t : Shape) → OnOk r (KeepsFreedWords s t)
-    → OnErr r (t ≡ s)
-    → KeepsFreedWords s t
-begin_words (Ok done) s t words same = words
-begin_words (Err why) s t words same = λ a freed is. subst (λ (x : Shape). IsFreedWord x a freed) (sym same) is
+-- words are kept where a collection was begun, and where none was
+pub begin_words : {X E : Type 0} (r : Result X E) (c d : CollectorState)
+    → OnOk r (KeepsFreedWords c.heap.shape d.heap.shape) → OnErr r (d ≡ c) → KeepsFreedWords c.heap.shape d.heap.shape
+begin_words (Ok done) c d words same = words
+begin_words (Err why) c d words same = subst (λ (x : CollectorState). KeepsFreedWords c.heap.shape x.heap.shape)
+    (sym same) (λ a freed is. is)
 
 module _ (limit : ℕ) (c : CollectorState) (f : ℕ → Option Bits) (before : Option Report) (d : CollectorState)
     (g : ℕ → Option Bits) (now : Option Report) where

@@ -1,5 +1,5 @@
 -- Heaps with the same cells and the same arenas have the same cells of a world.
-use Rattle.std.proofs.Common.{◌≡◌, ◌↔◌, ℕ, List, Option, Some, Contains, refl, sym, ap, subst, ◌∙◌}
+use Rattle.std.proofs.Common.{◌≡◌, ℕ, List, Option, Some, sym, ap, subst, ◌∙◌}
 use Rattle.gz_names.specs.declared.names.Name.{Name}
 use Rattle.gz_names.specs.declared.numbers.Place.{Place}
 use Rattle.colour_defs.specs.World.{World}
@@ -8,7 +8,7 @@ use Rattle.std.proofs.Common.{slice_get}
 use Rattle.cell_bits.specs.declared.bits.Bits.{Bits}
 use Rattle.heap_core.specs.Heap.{HeapState}
 use Rattle.slice_driver.specs.Worlds.{IsInFlight, IsUnswept, LiesIn, outs_from, owners_of}
-use Rattle.slice_driver.proofs.marking.Cells.{HasSameCells, name_same, shows_same}
+use Rattle.slice_driver.proofs.basics.Cells.{HasSameCells, name_same, shows_same}
 
 -- what stands in arenas and is not present, by the arenas alone
 pub unswept_same : (s t : Shape) (p : Place) (x : Name) → t.arenas ≡ s.arenas → IsUnswept s p x → IsUnswept t p x

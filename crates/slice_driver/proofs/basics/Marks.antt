@@ -23,8 +23,8 @@ use Rattle.barriers.proofs.Scans.{once_alike}
 use Rattle.barriers.proofs.StayingLeft.{left_weaker}
 use Rattle.barriers.proofs.WeakPoint.{gray_begins}
 use Rattle.marker.proofs.GraySteps.{state_cases}
-use Rattle.slice_driver.proofs.marking.Cells.{HasSameCells, comp_same, edge_back, edge_on, entry_back, entry_on}
-use Rattle.slice_driver.proofs.marking.Cells.{field_same, present_back, present_on}
+use Rattle.slice_driver.proofs.basics.Cells.{HasSameCells, comp_same, edge_back, edge_on, entry_back, entry_on}
+use Rattle.slice_driver.proofs.basics.Cells.{field_same, present_back, present_on}
 
 pub record HasSameMarks (h k : HeapState) : Type 0 where
   pub cells : HasSameCells h k

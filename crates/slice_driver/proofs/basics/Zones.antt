@@ -1,6 +1,6 @@
 -- The beginning step of a zone is quiet.
-use Rattle.std.proofs.Common.{◌≡◌, ◌≢◌, ◌⊎◌, ◌↔◌, ℕ, true, false, List, length, Option, None, Some, Contains, inl, inr}
-use Rattle.std.proofs.Common.{refl, sym, ap, subst, ◌∙◌}
+use Rattle.std.proofs.Common.{◌≡◌, ◌↔◌, ℕ, length, Option, Contains, inl, inr}
+use Rattle.std.proofs.Common.{sym, ap, subst, ◌∙◌}
 use Rattle.std.proofs.lemmas.Bool.{cases_eq}
 use Rattle.gz_names.specs.declared.numbers.Place.{Place}
 use Rattle.cell_bits.specs.declared.bits.Bits.{Bits}
@@ -17,9 +17,9 @@ use Rattle.slice_driver.specs.Collector.{CollectorState, heap_with}
 use Rattle.slice_driver.specs.Quiet.{BeginsZone, IsQuiet, IsStateAfter}
 use Rattle.weak_maps.specs.WeakMaps.{LooksState}
 use Rattle.slice_driver.specs.Represents.{NothingLeft, Represents, WaitsWhileMarking}
-use Rattle.slice_driver.proofs.marking.Marks.{HasSameMarks, black_on, gray_kept, live_back, live_on, marks_kept}
-use Rattle.slice_driver.proofs.marking.Marks.{pending_back, pending_on}
-use Rattle.slice_driver.proofs.marking.Worlds.{flies_same}
+use Rattle.slice_driver.proofs.basics.Marks.{HasSameMarks, black_on, gray_kept, live_back, live_on, marks_kept}
+use Rattle.slice_driver.proofs.basics.Marks.{pending_back, pending_on}
+use Rattle.slice_driver.proofs.basics.Worlds.{flies_same}
 
 module _ (c d : CollectorState) (zone : ℕ) (flown : ℕ → Option Bits) (w : World) (s : Represents c flown w)
     (b : BeginsZone c zone d) where

@@ -10,10 +10,10 @@ use Rattle.heap_core.specs.Shape.{ArenaShape, Shape, is_marking, out_in, out_of,
 use Rattle.heap_core.specs.Heap.{HeapState, colour_in, colour_of, flown_or, joined}
 use Rattle.heap_core.specs.Changes.{Makes}
 use Rattle.heap_core.proofs.MakingCells.{same-place}
-use Rattle.barriers.specs.Reached.{Reached, HasEntry}
+use Rattle.barriers.specs.Reached.{Reached}
 use Rattle.barriers.specs.Reached as reached
 use Rattle.barriers.specs.Colours.{IsBlack}
-use Rattle.barriers.specs.Exposing.{BlackOr, Exposes}
+use Rattle.barriers.specs.Exposing.{BlackOr}
 use Rattle.barriers.specs.Invariant.{MarkingInvariant}
 use Rattle.barriers.specs.Spreading.{Covers}
 use Rattle.barriers.proofs.BlackClosure.{reached_is_black, reached_more}
@@ -30,16 +30,6 @@ reached_kept s t P e f (reached.along {x} {y} r (i, lt, at)) =
     (i, lt, ap (λ (xs : List ArenaShape). field_in (cell_in_arena (slice_get xs x.0) x.1) i) e ∙ at)
 reached_kept s t P e f (reached.weak {m} {k} {v} at a b) =
     reached.weak (ap (λ w. value_of w m k) f ∙ at) (reached_kept s t P e f a) (reached_kept s t P e f b)
-
--- an exposed cell, where no zone is marking; the arenas and the entries may be of a heap with other registers
-pub exposes_spreads : (h : HeapState) (p : Piles) (x : Place) (k : HeapState) (q : Piles) → Exposes h p x k q
-    → ((y : Place) → is_marking h.shape y ≡ false) → SpreadsBlack h x k
-exposes_spreads h p x k q ex none y =
-    let both = ex.settled none y in
-    let same : k.shape ≡ h.shape = ap (λ (z : HeapState). z.shape) ex.spreads.blackens.rest in (
-      λ b. subst (λ s. Reached s (BlackOr h x) y) (sym same) (both.0 b),
-      λ r. both.1 (subst (λ s. Reached s (BlackOr h x) y) same r),
-    )
 
 -- one cell turned black
 pub one_spreads : (h k : HeapState) (stack : Piles) (p : Place) → MarkingInvariant k stack
