@@ -64,8 +64,8 @@ IsTrace zero input = input ≡ []
 IsTrace (suc n) input =
     (line more : List ℕ) × (c : Cmd) × EndsLine input more line × Spells line c × IsTrace n more
 
--- what was written, by how the replay ends: the answers of whole lines. At a failed read each line that has its line
--- feed in the bytes taken was answered: what was taken behind them, before the bytes that are left, has none. After a
+-- what was written, by how the replay ends: the answers of whole lines. At a failed read these are all lines that have
+-- their line feed in the bytes taken: what was taken behind them, before the bytes that are left, has none. After a
 -- failed write nothing is told
 abbrev pub EndsBy : List ℕ → Option (List ℕ) → Option (List ℕ) → Option (List ℕ) → ReplayEnd → Type 0
 EndsBy input left old new end.Done = (n : ℕ) × HasAnswered input n [] old new

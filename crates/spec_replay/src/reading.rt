@@ -57,8 +57,8 @@ impl Display for ReplayEnd {
     }
 }
 
-/// Answers each line of a trace by the specification, on a new graph. A trace of fewer than 2^64 - 1 lines, all of the
-/// language, is answered to its end, unless memory runs out or a count of faults rises.
+/// Answers each line of a trace by the specification, on a new graph. It comes to the end of a trace of fewer than
+/// 2^64 - 1 lines, all of the language, unless memory runs out or a count of faults rises.
 pub fn replay<S: Source, K: Sink>(alloc: Global, source: &mut S, sink: &mut K) -> ReplayEnd
     ensures answers { (input : List ℕ) → S.left source.old ≡ Some input
         → EndsBy input (S.left source.new) (K.written sink.old) (K.written sink.new) result }

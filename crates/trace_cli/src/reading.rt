@@ -31,7 +31,7 @@ use std::thread::Threads;
 use sweep_beside::{Works, sweep_beside};
 use sweeping::MainSweeper;
 
-// One helper at most starts for each so many arenas begun: starting a thread takes longer than sweeping some hundred
+// For each 1,024 arenas begun one helper at most starts: starting a thread takes longer than sweeping some hundred
 // arenas (our choice).
 const ARENAS_A_HELPER: usize = 1_024;
 
