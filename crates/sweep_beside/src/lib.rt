@@ -19,11 +19,11 @@
 //
 // `sweep_beside` is given the jobs that a unit handed out and a piece of work (`Works`) that goes on over any flight
 // until no arena is out. It makes a board, splits off a seat for each helper, has the work done beside the helpers,
-// joins all seats and closes the board, which nothing else ends. The work says how it leaves itself, over any flight with these arenas and bits,
-// and that is all that the caller is promised: who swept can't be told from what was written. Where there are no
-// helpers, no board is made: the work goes on over a `MainSweeper` with the jobs. Where memory for the seats or for the
-// board is wanted, none of the work is done: main sweeps the arenas over a `MainSweeper`, and the call says that memory
-// was wanted.
+// joins all seats and closes the board, which nothing else ends. The work says how it leaves itself, over any flight
+// with these arenas and bits, and that is all that the caller is promised: who swept can't be told from what was
+// written. Where there are no helpers, no board is made: the work goes on over a `MainSweeper` with the jobs. Where
+// memory for the seats or for the board is wanted, none of the work is done: main sweeps the arenas over a
+// `MainSweeper`, and the call says that memory was wanted.
 #![tactic(auto)]
 
 mod beside;
