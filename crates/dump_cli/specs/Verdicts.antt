@@ -1,6 +1,6 @@
 -- The verdict on the bytes of a dump, and its text.
-use Rattle.std.specs.Prelude.{◌≡◌, ◌≢◌, ℕ, ◌+◌, ◌==◌, List, [], ◌∷◌, ◌++◌, Option, Some, Result, Ok, Err, codes, length, ◌⊎◌}
-use Rattle.std.specs.Prelude.{if◌then◌else◌, IsTrue, ⊤, ◌≤◌}
+use Rattle.std.specs.Prelude.{◌≡◌, ◌≢◌, ℕ, ◌+◌, ◌==◌, List, [], ◌∷◌, ◌++◌, Option, Some, Result, Ok, Err, codes, length}
+use Rattle.std.specs.Prelude.{if◌then◌else◌, IsTrue, ⊤, ◌≤◌, ◌⊎◌}
 use Rattle.std.specs.Fmt.{decimal}
 use Rattle.std.specs.Io.KnownBytes.{Appends, prepend_known}
 use Rattle.gz_io.specs.Causes.{AppendsFront}
