@@ -14,10 +14,11 @@ use native.Mathlib.Decide.{ℕ_discrete}
 use lib.ListN.{get_elem?}
 use Rattle.atomic_table.specs.Table.{State, Me, step, keeps, stepped, opening, Allows, Splits, Joins}
 use Rattle.atomic_table.proofs.Lists.{at_set, at_snoc, set_again}
+use Rattle.mark_words.specs.declared.view.MarkLog.{MarkLog}
 use Rattle.mark_words.specs.declared.view.MarkView.{MarkView}
 use Rattle.mark_words.specs.Sums.{weight, weigh, only, times, total, whole}
 use Rattle.mark_words.specs.Rule.{bit_of, IsBlackIn, SeatRule, MarkRule}
-use Rattle.mark_words.specs.Views.{first_view, with_less, split_off, joined, spent, with_won, with_known}
+use Rattle.mark_words.specs.Views.{first_view, new_log, with_less, split_off, joined, spent, with_won, with_known}
 use Rattle.mark_words.specs.Steps.{Wins, KnowsAll, tries, settles}
 use Rattle.mark_words.proofs.Counts.{total-set, total-snoc, total-at, total-alone, weigh-append, weigh-snoc, only-same}
 use Rattle.mark_words.proofs.Counts.{only-arena, only-slot}
@@ -165,9 +166,9 @@ module _ (P : ℕ × ℕ → Type 0) (first : List ℕ) (slots id : ℕ) (me : S
       ))
 
 module _ (P : ℕ × ℕ → Type 0) (first : List ℕ) where
-  fresh : (words firsts : List ℕ) (parts : ℕ) → SeatRule P first words
-      record { first = firsts; parts = parts; won = []; known = [] }
-  fresh words firsts parts = record {
+  fresh : (words firsts : List ℕ) (parts : ℕ) (logs : List MarkLog) → SeatRule P first words
+      record { first = firsts; parts = parts; won = []; known = []; logs = logs }
+  fresh words firsts parts logs = record {
     listed = All-nil P;
     inside = All-nil (λ (p : ℕ × ℕ). p.0 < length first);
     black = All-nil (IsBlackIn words);
@@ -194,7 +195,7 @@ module _ (P : ℕ × ℕ → Type 0) (first : List ℕ) where
         ap (λ (z : ℕ). bit_at z p.1) (before first (0 ∷ []) p.0 lt) in omega arith;
     parts = omega arith;
     seats = λ id v there. subst (SeatRule P first (first ++ 0 ∷ [])) (sole (first_view first) v id there)
-        (fresh (first ++ 0 ∷ []) first whole);
+        (fresh (first ++ 0 ∷ []) first whole (new_log ∷ []));
   }
 
   pub splitting : (id : ℕ) (v : MarkView) → 1 < v.parts → Splits (MarkRule P first) id v (with_less v) (split_off v)
@@ -213,7 +214,7 @@ module _ (P : ℕ × ℕ → Type 0) (first : List ℕ) where
               black = old.black;
               idle = λ none. absurd (omega arith);
             }) (λ e. r.seats other u e.1) (at_set s.views id other l u in'))
-            (λ e. subst (SeatRule P first s.words) e (fresh s.words v.first 1))
+            (λ e. subst (SeatRule P first s.words) e (fresh s.words v.first 1 (new_log ∷ [])))
             (at_snoc (set s.views id l) new u other there);
       }
 
@@ -244,7 +245,7 @@ module _ (P : ℕ × ℕ → Type 0) (first : List ℕ) where
         parts = (let h : MarkView → ℕ = λ u. u.parts in let t = total-set h s.views id v x at in
             let u = total-set h (set s.views id x) other w spent there in let b = r.parts in omega arith);
         seats = λ o u at'. ⊎_elim
-            (λ e. subst (SeatRule P first s.words) e.1 (fresh s.words [] 0))
+            (λ e. subst (SeatRule P first s.words) e.1 (fresh s.words [] 0 []))
             (λ e. ⊎_elim (λ h. subst (SeatRule P first s.words) h.1 mine) (λ h. r.seats o u h.1)
             (at_set s.views id o x u e.1))
             (at_set (set s.views id x) other o spent u at');

@@ -16,9 +16,10 @@
 // clear the bit that the earlier one set: a reached cell would be white at the end, and be swept.
 //
 // Each thread steps with a *seat*. A seat's view lists the cells that its tries won (`won`) and the
-// cells that it tried at all, which are black (`known`). Between any two steps, in whatever order the
-// threads make theirs, this holds (`MarkRule` in specs/Rule.antt; `mark_rule_in_words` says it in
-// sentences):
+// cells that it tried at all, which are black (`known`). `join` puts the lists of one seat behind those of
+// another; what each seat did by itself stays apart (`logs`), so that a caller can say who won a cell.
+// Between any two steps, in whatever order the threads make theirs, this holds (`MarkRule` in
+// specs/Rule.antt; `mark_rule_in_words` says it in sentences):
 //
 //     each black word is its first value with the bits of all cells won, and each bit was won once
 //     each cell won is in the place list of the marks' type: what marking may make black at all
@@ -43,4 +44,4 @@ mod view;
 pub use in_words::mark_rule_in_words;
 pub use marks::{Marks, Seat};
 pub use place_list::PlaceList;
-pub use view::MarkView;
+pub use view::{MarkLog, MarkView};

@@ -9,8 +9,8 @@ use Rattle.crossbeam_queue.proofs.Lists.{at_set, at_snoc}
 use Rattle.mark_words.specs.Sums.{weigh, total, whole}
 use Rattle.mark_words.proofs.Counts.{total-set, total-snoc, total-alone, weigh-append, weigh-snoc}
 use Rattle.par_mark.specs.declared.donations.QueueView.{QueueView}
-use Rattle.par_mark.specs.Donations.{queue_view, IsIdle, Balanced, with_less, new_view, joined_view, spent_view, HasPut}
-use Rattle.par_mark.specs.Donations.{HasTaken, Total}
+use Rattle.par_mark.specs.Donations.{queue_view, moves_with, unused_view, IsIdle, Balanced, with_less, new_view}
+use Rattle.par_mark.specs.Donations.{joined_view, spent_view, HasPut, HasTaken, Total}
 
 there : (views : List QueueView) (id : ℕ) (d w : QueueView) → get_elem? views id ≡ some d
     → get_elem? (set views id w) id ≡ some w
@@ -29,17 +29,17 @@ module _ (P : ℕ × ℕ → Type 0) where
   sole x d zero e = some-injective x d e
   sole x d (suc id) e = absurd (some-ne-none d (sym e))
 
-  pub begins : Balanced P [] (queue_view whole [] [] ∷ [])
+  pub begins : Balanced P [] (unused_view ∷ [])
   begins = record {
     parts = omega arith;
     balance = λ h. omega arith;
     listed = All-nil P;
-    idle = λ id d at. subst IsIdle (sole (queue_view whole [] []) d id at) (λ none. (refl, refl));
+    idle = λ id d at. subst IsIdle (sole unused_view d id at) (λ none. (refl, refl));
   }
 
   pub puts : (n id : ℕ) (d : QueueView) (x : ℕ × ℕ) → 0 < d.parts → P x → Pushes (Balanced P) n id d x (HasPut d x)
   puts n id d x some_part listed items views room b at =
-      let w : QueueView = queue_view d.parts (d.put ++ x ∷ []) d.taken in (
+      let w : QueueView = queue_view d.parts (d.put ++ x ∷ []) d.taken (moves_with (x ∷ []) [] d.moves) in (
         w,
         record {
           parts = (let s = total-set (λ (u : QueueView). u.parts) views id d w at in let p = b.parts in omega arith);
@@ -68,7 +68,7 @@ module _ (P : ℕ × ℕ → Type 0) where
 
   pub takes : (id : ℕ) (d : QueueView) → 0 < d.parts → Pops (Balanced P) id d (HasTaken P d)
   takes id d some_part x items views b at =
-      let w : QueueView = queue_view d.parts d.put (d.taken ++ x ∷ []) in
+      let w : QueueView = queue_view d.parts d.put (d.taken ++ x ∷ []) (moves_with [] (x ∷ []) d.moves) in
       let idle = idle_set views id w (λ none. absurd (omega arith)) b.idle in
       let parts : total (λ u. u.parts) (set views id w) ≡ whole =
       (let s = total-set (λ (u : QueueView). u.parts) views id d w at in let p = b.parts in omega arith) in

@@ -1,20 +1,22 @@
 -- A marker's run.
-use Rattle.std.proofs.Common.{◌≡◌, ℕ, ◌+◌, ◌-◌, ◌<◌, ◌≤◌, Bool, true, false, List, [], length, Option, sym, refl, ap}
-use Rattle.std.proofs.Common.{◌∙◌, subst, arith, All, vec_capacity}
+use Rattle.std.proofs.Common.{◌≡◌, ℕ, ◌+◌, ◌-◌, ◌<◌, ◌≤◌, Bool, true, false, List, [], ◌∷◌, ◌++◌, length, Option}
+use Rattle.std.proofs.Common.{sym, refl, ap, ◌∙◌, subst, arith, All, append-nil, vec_capacity}
 use Rattle.std.proofs.lemmas.List.Elements.{All-nil, All-same}
 use Rattle.crossbeam_queue.specs.Passes.{view}
 use Rattle.mark_words.specs.declared.view.MarkView.{MarkView}
 use Rattle.mark_words.specs.Sums.{weigh, times}
 use Rattle.mark_words.specs.Rule.{bit_of}
 use Rattle.mark_words.specs.Seats.{view_of}
+use Rattle.mark_words.specs.Views.{logs_with}
 use Rattle.par_mark.specs.declared.donations.QueueView.{QueueView}
 use Rattle.par_mark.specs.declared.marker.Marker.{Marker}
 use Rattle.par_mark.specs.declared.lists.Lists.{Lists}
+use Rattle.par_mark.specs.Donations.{moves_with}
 use Rattle.par_mark.specs.Edges.{out}
 use Rattle.par_mark.specs.Accounts.{Accounts, HasRoom}
 use Rattle.par_mark.specs.Lists.{AreAsLarge, tries_of, tries_room, won_of, outside_of}
-use Rattle.par_mark.specs.Markers.{IsOpen, IsReady, HasRun}
-use Rattle.par_mark.specs.Tries.{IsDonated, kept, given, HasTurned, TakenWasPut, done}
+use Rattle.par_mark.specs.Markers.{IsOpen, IsReady, HasRun, own_log, own_moves}
+use Rattle.par_mark.specs.Tries.{IsDonated, kept, given, HasGrown, HasTurned, TakenWasPut, done}
 use Rattle.par_mark.proofs.Accounting.{gave}
 use Rattle.par_mark.proofs.Scanning.{weigh-one}
 
@@ -43,11 +45,36 @@ module _ (edge : ℕ × ℕ → ℕ → Option (ℕ × ℕ)) (marking : ℕ × �
   starts turns m r = record {
     accounts = opened (tries_of m.lists) (outside_of m.lists) (view_of m.seat) (view m.pass) r.outside_empty r.no_won
         r.no_known r.no_put r.no_taken r.listed;
+    logs_are = r.new_logs ∙ (λ i. record { won = sym r.no_won i; tried = sym r.no_known i } ∷ []);
+    moves_are = r.no_moves ∙ (λ i. record { given = sym r.no_put i; taken = sym r.no_taken i } ∷ []);
     won_is = r.won_empty ∙ sym r.no_won;
     room = record { tries = refl; won = refl; outside = refl };
     parts_is = refl;
     queue_parts = refl;
   }
+
+  -- a turn that a caller made by itself, and what it donated
+  own_turned : (o o' : List (ℕ × ℕ)) (v v' : MarkView) (d d' : QueueView) → HasGrown o v d o' v' d'
+      → v.logs ≡ own_log v ∷ [] → v'.logs ≡ own_log v' ∷ []
+  own_turned o o' v v' d d' g is =
+      g.logs_are ∙ ap (logs_with g.won g.tried) is
+      ∙ (λ i. record { won = sym g.won_is i; tried = sym g.tried_is i } ∷ [])
+
+  own_moved : (o o' : List (ℕ × ℕ)) (v v' : MarkView) (d d' : QueueView) → HasGrown o v d o' v' d'
+      → d.moves ≡ own_moves d ∷ [] → d'.moves ≡ own_moves d' ∷ []
+  own_moved o o' v v' d d' g is =
+      let given : d.put ++ [] ≡ d'.put = append-nil d.put ∙ sym g.put_is in
+      g.moves_are ∙ ap (moves_with [] g.taken) is
+      ∙ (λ i. record { given = given i; taken = sym g.taken_is i } ∷ [])
+
+  own_donated : (tries tries' : List (ℕ × ℕ)) (d d' : QueueView) → IsDonated tries d tries' d'
+      → d.moves ≡ own_moves d ∷ [] → d'.moves ≡ own_moves d' ∷ []
+  own_donated tries tries' d d' (kept e f) is =
+      subst (λ (x : QueueView). x.moves ≡ own_moves x ∷ []) (sym f) is
+  own_donated tries tries' d d' (given p e f) is =
+      subst (λ (x : QueueView). x.moves ≡ own_moves x ∷ []) (sym f)
+      (ap (moves_with (p ∷ []) []) is
+      ∙ (λ i. record { given = d.put ++ p ∷ []; taken = append-nil d.taken i } ∷ []))
 
   -- one turn more, and what it donated
   pub goes_on : (m old new : Marker) (middle : Lists) (d : QueueView)
@@ -63,6 +90,8 @@ module _ (edge : ℕ × ℕ → ℕ → Option (ℕ × ℕ)) (marking : ℕ × �
         (view_of new.seat) (view new.pass)) (sym outside)
         (gave edge marking P (tries_of m.lists) (tries_of middle) (tries_of new.lists) (outside_of middle)
         (view_of new.seat) d (view new.pass) g (t.accounts (tries_of m.lists) r.accounts));
+    logs_are = own_turned _ _ _ _ _ _ t.grown r.logs_are;
+    moves_are = own_donated _ _ d (view new.pass) g (own_moved _ _ _ _ _ _ t.grown r.moves_are);
     won_is = won ∙ t.won_is r.won_is;
     room = room;
     parts_is = t.parts_is ∙ r.parts_is;

@@ -1,17 +1,18 @@
 -- The shares of the two callers and of main.
-use Rattle.std.proofs.Common.{◌≡◌, ℕ, ◌+◌, Bool, List, [], ◌++◌, Option, sym, refl, ap, ◌∙◌, arith}
+use Rattle.std.proofs.Common.{◌≡◌, ℕ, ◌+◌, Bool, List, [], ◌∷◌, ◌++◌, Option, sym, refl, ap, ◌∙◌, arith}
 use Rattle.crossbeam_queue.specs.Passes.{view}
 use Rattle.mark_words.specs.declared.view.MarkView.{MarkView}
+use Rattle.mark_words.specs.Views.{logs_with, new_log}
 use Rattle.mark_words.specs.Seats.{view_of}
 use Rattle.mark_words.specs.Sums.{weigh, whole}
 use Rattle.mark_words.proofs.Counts.{weigh-append}
 use Rattle.par_mark.specs.declared.donations.QueueView.{QueueView}
 use Rattle.par_mark.specs.declared.marker.Marker.{Marker}
 use Rattle.par_mark.specs.Accounts.{Accounts}
-use Rattle.par_mark.specs.Donations.{Total}
+use Rattle.par_mark.specs.Donations.{Total, moves_with, new_moves}
 use Rattle.par_mark.specs.Edges.{out}
 use Rattle.par_mark.specs.Lists.{tries_of, outside_of}
-use Rattle.par_mark.specs.Markers.{HasRun}
+use Rattle.par_mark.specs.Markers.{HasRun, own_log, own_moves}
 use Rattle.par_mark.specs.Shares.{Share, ScansItsOwn, AreShared}
 use Rattle.par_mark.specs.Tries.{HasGrown}
 
@@ -21,10 +22,8 @@ module _ (edge : ℕ × ℕ → ℕ → Option (ℕ × ℕ)) (marking : ℕ × �
   share_of m one = record {
     firsts = tries_of m.lists;
     left = tries_of one.lists;
-    given = (view one.pass).put;
-    taken = (view one.pass).taken;
-    tried = (view_of one.seat).known;
-    won = (view_of one.seat).won;
+    log = own_log (view_of one.seat);
+    moves = own_moves (view one.pass);
     outside = outside_of one.lists;
   }
 
@@ -39,10 +38,8 @@ module _ (edge : ℕ × ℕ → ℕ → Option (ℕ × ℕ)) (marking : ℕ × �
   main_share tries won tried taken beyond = record {
     firsts = tries;
     left = [];
-    given = [];
-    taken = taken;
-    tried = tried;
-    won = won;
+    log = record { won = won; tried = tried };
+    moves = record { given = []; taken = taken };
     outside = beyond;
   }
 
@@ -69,19 +66,25 @@ module _ (edge : ℕ × ℕ → ℕ → Option (ℕ × ℕ)) (marking : ℕ × �
       → HasRun edge marking P m one → HasRun edge marking P n two
       → v.won ≡ (view_of one.seat).won ++ (view_of two.seat).won
       → v.known ≡ (view_of one.seat).known ++ (view_of two.seat).known
+      → v.logs ≡ (new_log ∷ (view_of one.seat).logs) ++ (view_of two.seat).logs
       → d.put ≡ (view one.pass).put ++ (view two.pass).put
       → d.taken ≡ (view one.pass).taken ++ (view two.pass).taken
+      → d.moves ≡ (new_moves ∷ (view one.pass).moves) ++ (view two.pass).moves
       → tries ≡ tries_of one.lists ++ tries_of two.lists
       → o ≡ outside_of one.lists ++ outside_of two.lists
       → Accounts edge marking P (tries_of m.lists ++ tries_of n.lists) [] tries o v d
       → Accounts edge marking P (tries_of m.lists ++ tries_of n.lists) [] [] o' v' d'
       → HasGrown o v d o' v' d' → d'.parts ≡ whole → Total d' [] → v'.won ≡ won
-      → AreShared edge (tries_of m.lists ++ tries_of n.lists) won o' v'.known
-  shared m n one two tries o o' won v v' d d' r s won_is known_is put_is taken_is tries_is outside_is a b g all total is
-      = record {
+      → AreShared edge (tries_of m.lists ++ tries_of n.lists) won o' v' d'
+  shared m n one two tries o o' won v v' d d' r s won_is known_is logs_are put_is taken_is moves_are tries_is outside_is
+      a b g all total is = record {
         one = share_of m one;
         two = share_of n two;
         main = main_share tries g.won g.tried g.taken g.beyond;
+        logs_are = g.logs_are ∙ ap (logs_with g.won g.tried)
+            (logs_are ∙ (λ i. (new_log ∷ r.logs_are i) ++ s.logs_are i));
+        moves_are = g.moves_are ∙ ap (moves_with [] g.taken)
+            (moves_are ∙ (λ i. (new_moves ∷ r.moves_are i) ++ s.moves_are i));
         one_scans = scans m one r;
         two_scans = scans n two s;
         main_scans = main_scans (tries_of m.lists ++ tries_of n.lists) tries o o' v v' d d' g a b;

@@ -3,10 +3,24 @@ use Rattle.std.specs.Prelude.{◌≡◌, ℕ, ◌+◌, ◌-◌, ◌≤◌, List,
 use mathlib.Core.Option.{some}
 use lib.ListN.{get_elem?}
 use Rattle.mark_words.specs.Sums.{weigh, total, whole}
+use Rattle.par_mark.specs.declared.donations.Moves.{Moves}
 use Rattle.par_mark.specs.declared.donations.QueueView.{QueueView}
 
-abbrev pub queue_view : ℕ → List (ℕ × ℕ) → List (ℕ × ℕ) → QueueView
-queue_view parts put taken = record { parts = parts; put = put; taken = taken }
+-- a caller that did nothing yet
+abbrev pub new_moves : Moves
+new_moves = record { given = []; taken = [] }
+
+-- the caller whose moves stand first gave these, and took those
+abbrev pub moves_with : List (ℕ × ℕ) → List (ℕ × ℕ) → List Moves → List Moves
+moves_with given taken [] = []
+moves_with given taken (m ∷ ms) = record { given = m.given ++ given; taken = m.taken ++ taken } ∷ ms
+
+abbrev pub queue_view : ℕ → List (ℕ × ℕ) → List (ℕ × ℕ) → List Moves → QueueView
+queue_view parts put taken moves = record { parts = parts; put = put; taken = taken; moves = moves }
+
+-- that of the first caller
+abbrev pub unused_view : QueueView
+unused_view = queue_view whole [] [] (new_moves ∷ [])
 
 -- a caller without parts has put and taken nothing
 abbrev pub IsIdle : QueueView → Type 0
@@ -21,23 +35,23 @@ pub record Balanced (P : ℕ × ℕ → Type 0) (items : List (ℕ × ℕ)) (vie
   pub idle : (id : ℕ) (d : QueueView) → get_elem? views id ≡ some d → IsIdle d
 
 abbrev pub with_less : QueueView → QueueView
-with_less d = queue_view (d.parts - 1) d.put d.taken
+with_less d = queue_view (d.parts - 1) d.put d.taken d.moves
 
 abbrev pub new_view : QueueView
-new_view = queue_view 1 [] []
+new_view = queue_view 1 [] [] (new_moves ∷ [])
 
 abbrev pub joined_view : QueueView → QueueView → QueueView
-joined_view d f = queue_view (d.parts + f.parts) (d.put ++ f.put) (d.taken ++ f.taken)
+joined_view d f = queue_view (d.parts + f.parts) (d.put ++ f.put) (d.taken ++ f.taken) (d.moves ++ f.moves)
 
 abbrev pub spent_view : QueueView
-spent_view = queue_view 0 [] []
+spent_view = queue_view 0 [] [] []
 
 abbrev pub HasPut : QueueView → ℕ × ℕ → QueueView → Type 0
-HasPut d x f = f ≡ queue_view d.parts (d.put ++ x ∷ []) d.taken
+HasPut d x f = f ≡ queue_view d.parts (d.put ++ x ∷ []) d.taken (moves_with (x ∷ []) [] d.moves)
 
 -- who holds all parts has never taken more than was put
 abbrev pub HasTaken : (ℕ × ℕ → Type 0) → QueueView → ℕ × ℕ → QueueView → Type 0
-HasTaken P d x f = (f ≡ queue_view d.parts d.put (d.taken ++ x ∷ [])) × P x
+HasTaken P d x f = (f ≡ queue_view d.parts d.put (d.taken ++ x ∷ []) (moves_with [] (x ∷ []) d.moves)) × P x
     × (d.parts ≡ whole → (h : ℕ × ℕ → ℕ) → weigh h f.taken ≤ weigh h f.put)
 
 -- what the holder of all parts learns of the queue

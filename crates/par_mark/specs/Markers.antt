@@ -1,18 +1,29 @@
 -- What a caller begins with and ends with.
-use Rattle.std.specs.Prelude.{◌≡◌, ℕ, ◌+◌, ◌<◌, ◌≤◌, Bool, true, false, List, [], Option, All, vec_capacity}
+use Rattle.std.specs.Prelude.{◌≡◌, ℕ, ◌+◌, ◌<◌, ◌≤◌, Bool, true, false, List, [], ◌∷◌, Option, All, vec_capacity}
 use Rattle.crossbeam_queue.specs.Passes.{view}
 use Rattle.mark_words.specs.Sums.{weigh, times}
 use Rattle.mark_words.specs.Rule.{bit_of}
 use Rattle.mark_words.specs.Steps.{KnowsAll}
 use Rattle.par_mark.specs.Edges.{out}
 use Rattle.mark_words.specs.Seats.{view_of}
+use Rattle.mark_words.specs.Views.{new_log}
+use Rattle.mark_words.specs.declared.view.MarkLog.{MarkLog}
 use Rattle.par_mark.specs.declared.marker.Marker.{Marker}
 use Rattle.par_mark.specs.Accounts.{Accounts, HasRoom}
 use Rattle.par_mark.specs.Lists.{AreAsLarge, tries_of, tries_room, won_of, outside_of}
 use Rattle.mark_words.specs.declared.view.MarkView.{MarkView}
+use Rattle.par_mark.specs.declared.donations.Moves.{Moves}
 use Rattle.par_mark.specs.declared.donations.QueueView.{QueueView}
+use Rattle.par_mark.specs.Donations.{new_moves}
 use Rattle.par_mark.specs.declared.lists.Lists.{Lists}
 use Rattle.par_mark.specs.Tries.{TakenWasPut}
+
+-- what a seat into which none was joined knows, it did by itself; likewise a pass
+abbrev pub own_log : MarkView → MarkLog
+own_log v = record { won = v.won; tried = v.known }
+
+abbrev pub own_moves : QueueView → Moves
+own_moves d = record { given = d.put; taken = d.taken }
 
 module _ (edge : ℕ × ℕ → ℕ → Option (ℕ × ℕ)) (marking : ℕ × ℕ → Bool) (P : ℕ × ℕ → Type 0) where
   -- it has done nothing yet, and has room for this number of turns
@@ -23,6 +34,8 @@ module _ (edge : ℕ × ℕ → ℕ → Option (ℕ × ℕ)) (marking : ℕ × �
     pub no_known : (view_of m.seat).known ≡ []
     pub no_put : (view m.pass).put ≡ []
     pub no_taken : (view m.pass).taken ≡ []
+    pub new_logs : (view_of m.seat).logs ≡ new_log ∷ []
+    pub no_moves : (view m.pass).moves ≡ new_moves ∷ []
     pub won_empty : won_of m.lists ≡ []
     pub outside_empty : outside_of m.lists ≡ []
     pub listed : All P (tries_of m.lists)
@@ -34,6 +47,8 @@ module _ (edge : ℕ × ℕ → ℕ → Option (ℕ × ℕ)) (marking : ℕ × �
   pub record HasRun (m m' : Marker) : Type 0 where
     pub accounts : Accounts edge marking P (tries_of m.lists) [] (tries_of m'.lists) (outside_of m'.lists)
         (view_of m'.seat) (view m'.pass)
+    pub logs_are : (view_of m'.seat).logs ≡ own_log (view_of m'.seat) ∷ []
+    pub moves_are : (view m'.pass).moves ≡ own_moves (view m'.pass) ∷ []
     pub won_is : won_of m'.lists ≡ (view_of m'.seat).won
     pub room : AreAsLarge m.lists m'.lists
     pub parts_is : (view_of m'.seat).parts ≡ (view_of m.seat).parts

@@ -3,10 +3,10 @@ use Rattle.std.specs.Prelude.{◌≡◌, ℕ, ◌+◌, ◌<◌, ◌≤◌, Bool,
 use Rattle.mark_words.specs.declared.view.MarkView.{MarkView}
 use Rattle.mark_words.specs.Sums.{weigh, whole}
 use Rattle.mark_words.specs.Rule.{bit_of}
-use Rattle.mark_words.specs.Views.{with_known}
+use Rattle.mark_words.specs.Views.{logs_with, with_known}
 use Rattle.mark_words.specs.Steps.{Wins}
 use Rattle.par_mark.specs.declared.donations.QueueView.{QueueView}
-use Rattle.par_mark.specs.Donations.{HasPut, HasTaken}
+use Rattle.par_mark.specs.Donations.{HasPut, HasTaken, moves_with}
 use Rattle.par_mark.specs.Accounts.{Accounts}
 use Rattle.par_mark.specs.Edges.{Leads, targets}
 
@@ -50,8 +50,8 @@ TakenWasPut d = (h : ℕ × ℕ → ℕ) → weigh h d.taken ≤ weigh h d.put
 abbrev pub done : MarkView → List (ℕ × ℕ) → ℕ
 done v outside = weigh (λ _. 1) v.known + weigh (λ _. 1) outside
 
--- what turns have won, tried, taken from the queue and found outside stands behind what was there before them; nothing
--- was given away
+-- what turns have won, tried, taken from the queue and found outside stands behind what was there before them, also in
+-- the logs of the seat and the pass by which they were made; nothing was given away
 pub record HasGrown (outside : List (ℕ × ℕ)) (v : MarkView) (d : QueueView) (outside' : List (ℕ × ℕ)) (v' : MarkView)
     (d' : QueueView) : Type 0 where
   pub won : List (ℕ × ℕ)
@@ -63,6 +63,8 @@ pub record HasGrown (outside : List (ℕ × ℕ)) (v : MarkView) (d : QueueView)
   pub taken_is : d'.taken ≡ d.taken ++ taken
   pub beyond_is : outside' ≡ outside ++ beyond
   pub put_is : d'.put ≡ d.put
+  pub logs_are : v'.logs ≡ logs_with won tried v.logs
+  pub moves_are : d'.moves ≡ moves_with [] taken d.moves
   pub won_tried : (h : ℕ × ℕ → ℕ) → weigh h won ≤ weigh h tried
 
 -- a try was taken and made

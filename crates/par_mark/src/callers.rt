@@ -10,7 +10,7 @@ ghost use Rattle.par_mark.specs.Marking.{HasMarked, Sought};
 ghost use Rattle.par_mark.specs.Accounts.{HasRoom};
 ghost use Rattle.par_mark.specs.Lists.{AreNew, tries_of};
 ghost use Rattle.par_mark.specs.Markers.{HasRun, HasSettled, IsReady};
-ghost use Rattle.par_mark.specs.Queues.{IsUnused};
+ghost use Rattle.par_mark.specs.Queues.{IsUnused, pass_view};
 ghost use Rattle.par_mark.specs.Shares.{AreShared};
 ghost use Rattle.par_mark.specs.Tries.{Serves};
 
@@ -84,7 +84,8 @@ fn run_both<R: Threads + Wait + Sync, H: Graph + Sync, L: PlaceList + Sync, G: G
 /// are black, that each cell of `from` and each cell won was scanned once, and what lies outside.
 /// `AreShared` tells it for each caller and for main, which tries what the callers left: what it began
 /// with, won and found outside, that it scanned each cell that it won, once, and no other, and that what
-/// was given to the queue was taken from it.
+/// was given to the queue was taken from it. Who tried and won a cell, and who gave and took one, is what
+/// the logs of main's seat and main's pass say.
 /// The place list of the marks is exactly what may be tried. `NoMemory` comes before any step, and then
 /// the marks and the queue are as they were. The gate is called before each try that one of the callers
 /// makes.
@@ -111,7 +112,7 @@ pub fn mark<R: Threads + Wait + Sync, H: Graph + Sync, L: PlaceList + Sync, G: G
     ensures marked { IfOk result (λ m. HasMarked (H.edge heap.now) (H.marking heap.now) (first_of marks.now) from.now
         m.won.items m.outside.items (view_of seat.new)) }
     ensures shares { IfOk result (λ m. AreShared (H.edge heap.now) (all_targets (H.edge heap.now) from.now) m.won.items
-        m.outside.items (view_of seat.new).known) }
+        m.outside.items (view_of seat.new) (pass_view queue.new)) }
     ensures unchanged { OnErr result ((view_of seat.new ≡ view_of seat.old) × IsUnused queue.new) }
 {
     let tries = first_tries(alloc, heap, from)?;
@@ -151,7 +152,7 @@ fn mark_from<R: Threads + Wait + Sync, H: Graph + Sync, L: PlaceList + Sync, G: 
     ensures accounts { HasSettled (H.edge heap.now) (H.marking heap.now) L.places (tries_of front ++ tries_of back)
         result.won.items result.outside.items (view_of seat.new) }
     ensures shares { AreShared (H.edge heap.now) (tries_of front ++ tries_of back) result.won.items result.outside.items
-        (view_of seat.new).known }
+        (view_of seat.new) (pass_view queue.new) }
 {
     let one = Marker {
         seat: marks.split(seat),

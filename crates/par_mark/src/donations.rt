@@ -1,7 +1,4 @@
 // The queue by which callers give tries away, and its rule.
-ghost use Rattle.std.specs.Prelude.{[]};
-ghost use Rattle.mark_words.specs.Sums.{whole};
-
 use crossbeam_queue::protocol::{Join, Lesson, Outcome, Protocol, Split};
 use crossbeam_queue::{Pass, RuledArrayQueue};
 use gz_names::Place;
@@ -9,12 +6,22 @@ use mark_words::PlaceList;
 use std::collections::LinkedList;
 use std::marker::PhantomData;
 
-/// What a caller has put into the queue and taken from it, for the proofs alone. No value of it is made.
+/// What a caller gave to the queue and took from it by itself, without the callers that were joined into it.
+/// No value of it is made.
+pub struct Moves {
+    pub given: LinkedList<(u32, u8)>,
+    pub taken: LinkedList<(u32, u8)>,
+}
+
+/// What a caller and those that were joined into it have put into the queue and taken from it, for the proofs
+/// alone. No value of it is made.
 pub struct QueueView {
     /// Its parts of the right to know everything.
     pub parts: u64,
     pub put: LinkedList<(u32, u8)>,
     pub taken: LinkedList<(u32, u8)>,
+    /// What it did by itself, and behind it what each caller that was joined into it did.
+    pub moves: LinkedList<Moves>,
 }
 
 /// The queue's rule: what was put into it is what was taken and what stands in it.
@@ -23,11 +30,11 @@ pub struct DonationRule<L> {
 }
 
 impl<L: PlaceList> Protocol<Place, QueueView> for DonationRule<L> {
-    ghost use Rattle.par_mark.specs.Donations.{queue_view, Balanced};
+    ghost use Rattle.par_mark.specs.Donations.{unused_view, Balanced};
 
     ghost holds = { Balanced L.places };
 
-    ghost first = { queue_view whole [] [] };
+    ghost first = { unused_view };
 }
 
 /// One part comes off, for one more caller.

@@ -42,10 +42,11 @@
 //
 //     tries made + outside = targets of the cells that marking began from + targets of all cells won
 //
-// So each of these cells was scanned, once, and each of its targets was tried or is in `outside`. The
-// public calls tell this sum (`scanned` of `HasMarked`), and the first equation for each caller and for
-// main by itself (`AreShared`): a caller that scanned what another one won, or scanned a cell twice,
-// would hold targets that its own wins do not account for.
+// So each of these cells was scanned, once, and each of its targets was tried or is in `outside`. `mark`
+// tells this sum (`scanned` of `HasMarked`), and the first equation for each caller and for main by itself
+// (`AreShared`): what each of them tried, won, gave and took stands in the log of its own seat and pass, which
+// stay apart as main joins them. A caller that scanned what another one won, or scanned a cell twice, would
+// hold targets that its own wins do not account for.
 //
 // What was tried is black; hence black cells lead to black cells or to those outside, and by induction
 // along edges all that is reached is black (proofs/Reaching.antt). That induction is the only place
@@ -84,7 +85,7 @@ mod turns;
 
 pub use callers::{Marked, mark};
 pub use closed::closes_up_law;
-pub use donations::{DonationRule, QueueView};
+pub use donations::{DonationRule, Moves, QueueView};
 pub use graph::Graph;
 pub use over_heap::mark_heap;
 pub use over_words::mark_black;

@@ -1,9 +1,7 @@
 // Marking a heap.
-ghost use Rattle.std.specs.Prelude.{◌≡◌, ◌<◌, ℕ, List, length, All, IfOk};
+ghost use Rattle.std.specs.Prelude.{◌≡◌, ◌<◌, ℕ, length, All, IfOk};
 ghost use Rattle.heap_core.specs.Shape.{AreWhole, HasEdge, IsPresent, field_at, is_marking, zone_of};
-ghost use Rattle.par_mark.specs.Edges.{all_targets};
 ghost use Rattle.par_mark.specs.Marking.{HasBlackened};
-ghost use Rattle.par_mark.specs.Shares.{AreShared};
 
 use crate::callers::Marked;
 use crate::over_words::mark_black;
@@ -17,8 +15,7 @@ use std::thread::Threads;
 /// Marks black, by two callers, the cells of marking zones that edges of a heap reach from these cells,
 /// through cells of marking zones that are not black. It takes the black word of each arena, and answers
 /// the black word of each arena as marking leaves it, with the cells that turned black and the targets
-/// outside the marking zones. `AreShared` tells what each caller won and scanned. The heap does not change.
-/// `NoMemory` comes before any step.
+/// outside the marking zones. The heap does not change. `NoMemory` comes before any step.
 pub fn mark_heap<R: Threads + Wait + Sync, G: Gate + Sync>(
     rt: &R,
     alloc: Global,
@@ -34,8 +31,6 @@ pub fn mark_heap<R: Threads + Wait + Sync, G: Gate + Sync>(
     requires words { length words.items ≡ length heap.now.shape.arenas }
     ensures blackened { IfOk result (λ r. HasBlackened (field_at heap.now.shape) (is_marking heap.now.shape)
         words.items from.now r.0.items r.1.won.items r.1.outside.items) }
-    ensures shares { IfOk result (λ r. (tried : List (ℕ × ℕ)) × AreShared (field_at heap.now.shape)
-        (all_targets (field_at heap.now.shape) from.now) r.1.won.items r.1.outside.items tried) }
 {
     mark_black(rt, alloc, heap, from, words, gate)
 }

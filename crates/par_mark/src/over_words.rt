@@ -1,8 +1,7 @@
 // Marking over black words.
-ghost use Rattle.std.specs.Prelude.{◌≡◌, ◌<◌, ℕ, List, length, All, IfOk};
-ghost use Rattle.par_mark.specs.Edges.{Leads, all_targets};
+ghost use Rattle.std.specs.Prelude.{◌<◌, ℕ, length, All, IfOk};
+ghost use Rattle.par_mark.specs.Edges.{Leads};
 ghost use Rattle.par_mark.specs.Marking.{HasBlackened, Sought};
-ghost use Rattle.par_mark.specs.Shares.{AreShared};
 
 use crate::callers::{Marked, mark};
 use crate::graph::Graph;
@@ -31,8 +30,6 @@ fn mark_listed<R: Threads + Wait + Sync, H: Graph + Sync, L: PlaceList + Sync, G
     requires lists { (q : ℕ × ℕ) → Sought (H.edge heap.now) (H.marking heap.now) words.items from.now q → L.places q }
     ensures blackened { IfOk result (λ r. HasBlackened (H.edge heap.now) (H.marking heap.now) words.items from.now
         r.0.items r.1.won.items r.1.outside.items) }
-    ensures shares { IfOk result (λ r. (tried : List (ℕ × ℕ)) × AreShared (H.edge heap.now)
-        (all_targets (H.edge heap.now) from.now) r.1.won.items r.1.outside.items tried) }
 {
     let (marks, mut seat) = Marks::<L>::new(alloc, words)?;
     let mut queue = Queue::<L>::new(alloc)?;
@@ -42,8 +39,7 @@ fn mark_listed<R: Threads + Wait + Sync, H: Graph + Sync, L: PlaceList + Sync, G
 
 /// Marks black, by two callers, the cells of marking zones that edges reach from these cells, through
 /// cells of marking zones that are not black. It takes the black word of each arena, and answers the
-/// black word of each arena as marking leaves it. `AreShared` tells what each caller won and scanned.
-/// `NoMemory` comes before any step.
+/// black word of each arena as marking leaves it. `NoMemory` comes before any step.
 pub fn mark_black<R: Threads + Wait + Sync, H: Graph + Sync, G: Gate + Sync>(
     rt: &R,
     alloc: Global,
@@ -57,8 +53,6 @@ pub fn mark_black<R: Threads + Wait + Sync, H: Graph + Sync, G: Gate + Sync>(
     requires words { (p : ℕ × ℕ) → H.has heap.now p → p.0 < length words.items }
     ensures blackened { IfOk result (λ r. HasBlackened (H.edge heap.now) (H.marking heap.now) words.items from.now
         r.0.items r.1.won.items r.1.outside.items) }
-    ensures shares { IfOk result (λ r. (tried : List (ℕ × ℕ)) × AreShared (H.edge heap.now)
-        (all_targets (H.edge heap.now) from.now) r.1.won.items r.1.outside.items tried) }
 {
     mark_listed::<R, H, Brand, G>(rt, alloc, heap, from, words, gate)
 }

@@ -5,6 +5,7 @@ use Rattle.mark_words.specs.Sums.{weigh}
 use Rattle.mark_words.proofs.Counts.{weigh-append}
 use Rattle.par_mark.specs.Lists.{tries_of}
 use Rattle.par_mark.specs.Edges.{all_targets}
+use Rattle.par_mark.specs.Queues.{pass_view}
 use Rattle.par_mark.specs.Shares.{AreShared}
 use Rattle.par_mark.proofs.Cells.{weigh-all_targets}
 use Rattle.par_mark.proofs.Reaching.{serves, tries_sought, marked, front_all, back_all}
@@ -97,4 +98,5 @@ returns-clause-shares g c =
     (λ i. c.in_ok-front.ensures.tries_are i ++ c.in_ok-back.ensures.tries_are i)
     ∙ sym c.split_at.ensures.by_index.0 ∙ c.as_slice.ensures.value ∙ c.in_ok-tries.ensures in
     subst (λ (firsts : List (ℕ × ℕ)). AreShared edge firsts c.mark_from.result.won.items
-    c.mark_from.result.outside.items (view_of c.mark_from.new.seat).known) is c.mark_from.ensures.shares
+    c.mark_from.result.outside.items (view_of c.mark_from.new.seat) (pass_view c.mark_from.new.queue)) is
+    c.mark_from.ensures.shares

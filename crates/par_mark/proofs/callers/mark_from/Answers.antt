@@ -2,11 +2,10 @@ use Rattle.std.proofs.Common.{rules, ◌≡◌, ℕ, List, [], ◌++◌, sym, ap
 use Rattle.crossbeam_queue.specs.Passes.{view}
 use Rattle.mark_words.specs.declared.view.MarkView.{MarkView}
 use Rattle.mark_words.specs.Seats.{first_of, view_of}
-use Rattle.mark_words.specs.Sums.{whole}
 use Rattle.mark_words.specs.Views.{first_view, with_less, joined}
 use Rattle.par_mark.specs.declared.donations.QueueView.{QueueView}
 use Rattle.par_mark.specs.Accounts.{Accounts}
-use Rattle.par_mark.specs.Donations.{queue_view, joined_view}
+use Rattle.par_mark.specs.Donations.{unused_view, joined_view}
 use Rattle.par_mark.specs.Donations as donations
 use Rattle.par_mark.specs.Lists.{tries_of, won_of, outside_of}
 use Rattle.par_mark.proofs.Balancing.{forks}
@@ -42,7 +41,7 @@ append_lists-requires g c =
     c.join_one.ensures.pass.1 in
     let v0_is : v0 ≡ with_less (with_less (first_view (first_of c.args.marks.now))) = c.split-2.ensures.old.1
     ∙ ap with_less (c.split.ensures.old.1 ∙ ap with_less c.requires.seat.1) in
-    let d0_is : d0 ≡ fewer_parts (fewer_parts (queue_view whole [] [])) = c.another-2.ensures.rule.0
+    let d0_is : d0 ≡ fewer_parts (fewer_parts (unused_view)) = c.another-2.ensures.rule.0
     ∙ ap fewer_parts (c.another.ensures.rule.0 ∙ ap fewer_parts c.requires.queue) in
     let first_is = c.settle.ensures.seat.0.1 in
     let t : Together e m P (tries_of c.args.front) (tries_of c.args.back) c.args.turns one.lists two.lists v d =
@@ -83,7 +82,7 @@ drain-requires-clause-accounts g c =
     c.join_one.ensures.pass.1 in
     let v0_is : v0 ≡ with_less (with_less (first_view (first_of c.args.marks.now))) = c.split-2.ensures.old.1
     ∙ ap with_less (c.split.ensures.old.1 ∙ ap with_less c.requires.seat.1) in
-    let d0_is : d0 ≡ fewer_parts (fewer_parts (queue_view whole [] [])) = c.another-2.ensures.rule.0
+    let d0_is : d0 ≡ fewer_parts (fewer_parts (unused_view)) = c.another-2.ensures.rule.0
     ∙ ap fewer_parts (c.another.ensures.rule.0 ∙ ap fewer_parts c.requires.queue) in
     let first_is = c.settle.ensures.seat.0.1 in
     let t : Together e m P (tries_of c.args.front) (tries_of c.args.back) c.args.turns one.lists two.lists v d =
@@ -137,7 +136,7 @@ returns-clause-accounts g c =
     c.join_one.ensures.pass.1 in
     let v0_is : v0 ≡ with_less (with_less (first_view (first_of c.args.marks.now))) = c.split-2.ensures.old.1
     ∙ ap with_less (c.split.ensures.old.1 ∙ ap with_less c.requires.seat.1) in
-    let d0_is : d0 ≡ fewer_parts (fewer_parts (queue_view whole [] [])) = c.another-2.ensures.rule.0
+    let d0_is : d0 ≡ fewer_parts (fewer_parts (unused_view)) = c.another-2.ensures.rule.0
     ∙ ap fewer_parts (c.another.ensures.rule.0 ∙ ap fewer_parts c.requires.queue) in
     let first_is = c.settle.ensures.seat.0.1 in
     let t : Together e m P (tries_of c.args.front) (tries_of c.args.back) c.args.turns one.lists two.lists v d =
@@ -177,7 +176,7 @@ returns-clause-shares g c =
     c.join_one.ensures.pass.1 in
     let v0_is : v0 ≡ with_less (with_less (first_view (first_of c.args.marks.now))) = c.split-2.ensures.old.1
     ∙ ap with_less (c.split.ensures.old.1 ∙ ap with_less c.requires.seat.1) in
-    let d0_is : d0 ≡ fewer_parts (fewer_parts (queue_view whole [] [])) = c.another-2.ensures.rule.0
+    let d0_is : d0 ≡ fewer_parts (fewer_parts (unused_view)) = c.another-2.ensures.rule.0
     ∙ ap fewer_parts (c.another.ensures.rule.0 ∙ ap fewer_parts c.requires.queue) in
     let first_is = c.settle.ensures.seat.0.1 in
     let t : Together e m P (tries_of c.args.front) (tries_of c.args.back) c.args.turns one.lists two.lists v d =
@@ -194,8 +193,6 @@ returns-clause-shares g c =
     (λ i. (sym n.tries i, sym n.outside i)) t.accounts in
     let b = c.drain.ensures.accounts firsts a in
     let same = c.settle-2.ensures.seat.1 in
-    let known_is : (view_of c.settle-2.new.seat).known ≡ (view_of c.drain.new.seat).known =
-    ap (λ (u : MarkView). u.known) same in
     let s = shared e m P _ _ one two (tries_of c.append_lists.new.lists) (outside_of c.append_lists.new.lists)
     (outside_of c.drain.new.lists) (won_of c.drain.new.lists) v (view_of c.drain.new.seat) d (view c.drain.new.pass)
     c.run_both-one.ensures.one c.run_both-one.ensures.two
@@ -203,11 +200,15 @@ returns-clause-shares g c =
     ++ (view_of two.seat).won) v0_is)
     (ap (λ (u : MarkView). u.known) v_is ∙ ap (λ (u : MarkView). (u.known ++ (view_of one.seat).known)
     ++ (view_of two.seat).known) v0_is)
+    (ap (λ (u : MarkView). u.logs) v_is ∙ ap (λ (u : MarkView). (u.logs ++ (view_of one.seat).logs)
+    ++ (view_of two.seat).logs) v0_is)
     (ap (λ (u : QueueView). u.put) d_is ∙ ap (λ (u : QueueView). (u.put ++ (view one.pass).put)
     ++ (view two.pass).put) d0_is)
     (ap (λ (u : QueueView). u.taken) d_is ∙ ap (λ (u : QueueView). (u.taken ++ (view one.pass).taken)
     ++ (view two.pass).taken) d0_is)
+    (ap (λ (u : QueueView). u.moves) d_is ∙ ap (λ (u : QueueView). (u.moves ++ (view one.pass).moves)
+    ++ (view two.pass).moves) d0_is)
     n.tries n.outside a b c.drain.ensures.grown c.drain.ensures.pass.1 c.drain.ensures.empty
     (sym c.drain.ensures.won_is) in
-    subst (λ (known : List (ℕ × ℕ)). AreShared e firsts (won_of c.drain.new.lists) (outside_of c.drain.new.lists) known)
-    (sym known_is) s
+    subst (λ (x : MarkView × QueueView). AreShared e firsts (won_of c.drain.new.lists) (outside_of c.drain.new.lists)
+    x.0 x.1) (λ i. (sym same i, sym c.settle-2.ensures.pass.1 i)) s
