@@ -70,8 +70,7 @@ class Progress:
 
     def show_all(self):
         if not self.is_terminal:
-            while not self.ended.wait(self.MINUTE):
-                self.show(f"{Path(sys.argv[0]).name}: {self.text()}\n")
+            self.show_each_minute()
             return
         wait = max(self.SILENT - (time.monotonic() - Progress.whole_began), self.EVERY)
         while not self.ended.wait(wait):
@@ -80,6 +79,15 @@ class Progress:
                 if self.at_work[-1] is self:
                     self.show(f"\r{f'{self.bar()}{self.text()}'[:self.width() - 1]}\x1b[K")
                     self.is_drawn = True
+
+    def show_each_minute(self):
+        """Writes a line at each whole minute of this work and those before it that it follows on."""
+        began = Progress.whole_began
+        minute = int((time.monotonic() - began) // self.MINUTE) + 1
+        while not self.ended.wait(max(began + minute * self.MINUTE - time.monotonic(), 0)):
+            minute += 1
+            if self.at_work[-1] is self:
+                self.show(f"{Path(sys.argv[0]).name}: {self.text()}\n")
 
     def show(self, text):
         # Nobody may be there to read it any more.

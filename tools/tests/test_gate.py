@@ -259,12 +259,12 @@ class RunTest(unittest.TestCase):
         for name in ("dot", "rustc"):
             write_script(self.top / "bin" / name, "#!/bin/sh\n")
 
-    def run_gate(self, **more):
+    def run_gate(self, words=(), **more):
         environment = {**os.environ, "PATH": f"{self.top}/bin:{os.environ['PATH']}", **more}
         environment.pop("RT_JOBS", None)
         done = subprocess.run(
-            [self.top / ".ci/run"], env=environment, stdout=subprocess.PIPE, stderr=subprocess.STDOUT, text=True,
-            check=False,
+            [self.top / ".ci/run", *words], env=environment, stdout=subprocess.PIPE, stderr=subprocess.STDOUT,
+            text=True, check=False,
         )
         return done.returncode, done.stdout.splitlines()
 
@@ -278,6 +278,12 @@ class RunTest(unittest.TestCase):
         self.assertEqual(words[0], "words: ")
         self.assertTrue(words[1].startswith("words: --proved examples/ "))
         self.assertRegex((self.top / "jobs").read_text(), r"^RT_JOBS=[1-9]\d*$")
+
+    def test_words_start_nothing(self):
+        status, lines = self.run_gate(words=["--help"])
+        self.assertEqual((status, lines[0]), (0, "usage: .ci/run"))
+        self.assertEqual(self.run_gate(words=["all"]), (2, ["gate: .ci/run takes no words, and 'all' is one"]))
+        self.assertFalse((self.top / "tested").exists())
 
     def test_nothing_is_proved_if_a_check_without_proof_fails(self):
         (self.top / "fails0").touch()

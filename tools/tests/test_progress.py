@@ -136,6 +136,11 @@ class ProgressTest(unittest.TestCase):
         self.tell(stream, lambda progress: (progress.tell(7), wait_until(stream.getvalue)), "lines", 9)
         self.assertEqual(set(shown(stream.getvalue())), {f"{name}: 7 of 9 lines, N s"})
         stream = io.StringIO()
+        with Quick("seeds", stream=stream):
+            with Quick("lines", stream=stream):
+                wait_until(lambda: stream.getvalue().count("\n") > 3)
+        self.assertEqual(set(shown(stream.getvalue())), {f"{name}: lines, N s"})
+        stream = io.StringIO()
         self.tell(stream, lambda _: time.sleep(0.3), at_terminals_alone=True)
         self.assertEqual(stream.getvalue(), "")
         self.assertEqual(Progress.MINUTE, 60)
