@@ -1,22 +1,24 @@
 -- What commands keep of a test's heap, and what marking needs of it.
-use Rattle.std.proofs.Common.{◌≡◌, ℕ, ◌<◌, List, length, Option, Some, None, IsSome, IsSomeAnd, Result, Ok, Err, All}
-use Rattle.std.proofs.Common.{Contains, OnOk, OnErr, slice_get, slice_set, sym, ap, subst, refl, ◌∙◌}
+use Rattle.std.proofs.Common.{◌≡◌, ℕ, ◌<◌, List, length, Option, Some, None, IsSome, IsSomeAnd, Result, Ok, Err}
+use Rattle.std.proofs.Common.{All, Contains, IfOk, OnErr, slice_get, slice_set, sym, ap, subst, refl, ◌∙◌}
 use Rattle.std.proofs.lemmas.List.Elements.{All-get_or, Contains-get_or}
 use Rattle.std.proofs.lemmas.Option.{get_or_from_slice_get, slice_get_within}
 use Rattle.gz_names.specs.declared.commands.GraphCmd.{GraphCmd}
 use Rattle.gz_names.specs.declared.commands.GraphCmd.TheVariants as cmd
-use Rattle.gz_names.specs.declared.numbers.CompNo.{CompNo}
-use Rattle.gz_names.specs.declared.numbers.Place.{Place}
 use Rattle.gz_names.specs.declared.replies.Reply.{Reply}
-use Rattle.gz_names.specs.declared.replies.CmdFault.{CmdFault}
 use Rattle.zones.specs.States.{next_state}
 use Rattle.zones.specs.declared.states.State.{State}
 use Rattle.arena_table.specs.Cells.{CellState}
 use Rattle.heap_core.specs.Shape.{AreWhole, HasEdge, IsPresent, cell_in_arena, cell_of, field_in, zone_in, zone_of}
-use Rattle.heap_core.specs.Heap.{HeapState, IsEmpty, reg_of}
-use Rattle.heap_core.specs.Changes.{IsWith, IsWithout, Writes}
-use Rattle.heap_core.specs.Effects.{Changes, HasRoom, Wraps, itself, found, made}
-use Rattle.heap_core.specs.Lookups.{value_to_set}
+use Rattle.heap_core.specs.Heap.{HeapState, IsEmpty}
+use Rattle.heap_core.specs.Effects.{HasRoom}
+use Rattle.heap_core.specs.Plans.{ChangesBy, IsPlanOf}
+use Rattle.heap_core.specs.declared.plans.Change.{Change}
+use Rattle.heap_core.specs.declared.plans.Change.TheVariants as change
+use Rattle.heap_core.specs.declared.plans.Plan.{Plan}
+use Rattle.heap_core.proofs.Planned.{planned-here}
+use Rattle.heap_core.proofs.Stepping.{still-sound}
+use Rattle.colour_defs.specs.Step.{HasFewFields}
 use Rattle.heap_core.specs.Answers.{IsSound}
 use Rattle.par_mark.specs.TestHeaps.{IsMarkable, markable}
 
@@ -54,55 +56,27 @@ same old new k e is = subst (λ (h : HeapState). Keeps old h) (sym is) (λ whole
 makes : (old new : HeapState) (m : HeapState) → Keeps old m → new.shape.arenas ≡ m.shape.arenas → Keeps old new
 makes old new m keeps e whole = subst AreWhole (sym e) (keeps whole)
 
-sets : (old new : HeapState) (f : ℕ) (v : Option Place) (o : Option Place)
-    → IsSomeAnd o (λ p. Writes old p f v new) → Keeps old new
-sets old new f v None w = absurd w
-sets old new f v (Some p) w = w.whole
+keeps : (old new : HeapState) (ch : Change) (answer : Reply) → ChangesBy old ch answer new → Keeps old new
+keeps old new change.Zone answer by = same old new _ refl by.0
+keeps old new (change.Comp z) answer by = same old new _ refl by.0
+keeps old new (change.Cell r z c k) answer by =
+    makes old new by.0.made by.0.makes.whole (ap (λ (k : HeapState). k.shape.arenas) by.0.rest)
+keeps old new (change.Wrapper r z c t) answer by = makes old new by.0.makes.made by.0.makes.makes.whole
+    (ap (λ (k : HeapState). k.shape.arenas) by.0.rest ∙ ap (λ (k : HeapState). k.shape.arenas) by.0.makes.rest)
+keeps old new (change.Register r v named) answer by = same old new _ refl by.0
+keeps old new (change.Slot g v) answer by = same old new _ refl by.0
+keeps old new (change.Field p f v) answer by = by.0.whole
+keeps old new (change.Put m k v) answer by = same old new _ refl by.0.rest
+keeps old new (change.Del m k) answer by = same old new _ refl by.0.rest
 
-wraps : (old new : HeapState) (r s : ℕ) (c : CompNo) → Wraps old r s c new → Keeps old new
-wraps old new r s c (itself p e n is) = same old new _ refl is
-wraps old new r s c (found p w e n m is) = same old new _ refl is
-wraps old new r s c (made p e n m w) = makes old new w.makes.made w.makes.makes.whole
-    (ap (λ (k : HeapState). k.shape.arenas) w.rest ∙ ap (λ (k : HeapState). k.shape.arenas) w.makes.rest)
-
-puts : (old new : HeapState) (m k v : Option Place)
-    → IsSomeAnd m (λ map. IsSomeAnd k (λ key. IsSomeAnd v (λ value. IsWith old map key value new))) → Keeps old new
-puts old new None k v is = absurd is
-puts old new (Some m) None v is = absurd is
-puts old new (Some m) (Some k) None is = absurd is
-puts old new (Some m) (Some k) (Some v) is = same old new _ refl is.rest
-
-dels : (old new : HeapState) (m k : Option Place) → IsSomeAnd m (λ map. IsSomeAnd k (λ key. IsWithout old map key new))
-    → Keeps old new
-dels old new None k is = absurd is
-dels old new (Some m) None is = absurd is
-dels old new (Some m) (Some k) is = same old new _ refl is.rest
-
-keeps : (old new : HeapState) (c : GraphCmd) → Changes old c new → Keeps old new
-keeps old new cmd.Zone is = same old new _ refl is
-keeps old new (cmd.Comp z) is = same old new _ refl is
-keeps old new (cmd.New r c n) is =
-    makes old new is.made is.makes.whole (ap (λ (k : HeapState). k.shape.arenas) is.rest)
-keeps old new (cmd.Map r c) is =
-    makes old new is.made is.makes.whole (ap (λ (k : HeapState). k.shape.arenas) is.rest)
-keeps old new (cmd.Get r s f) is = same old new _ refl is
-keeps old new (cmd.Set s f t) is = sets old new f (value_to_set old t) (reg_of old s) is
-keeps old new (cmd.Wrap r s c) is = wraps old new r s c is
-keeps old new (cmd.Unwrap r s) is = same old new _ refl is
-keeps old new (cmd.Copy r s) is = same old new _ refl is
-keeps old new (cmd.Drop r) is = same old new _ refl is
-keeps old new (cmd.Hold g r) is = same old new _ refl is
-keeps old new (cmd.Release g) is = same old new _ refl is
-keeps old new (cmd.Expose r g) is = same old new _ refl is
-keeps old new (cmd.Put m k v) is = puts old new (reg_of old m) (reg_of old k) (reg_of old v) is
-keeps old new (cmd.Del m k) is = dels old new (reg_of old m) (reg_of old k) is
-keeps old new (cmd.Find r m k) is = same old new _ refl is
-
--- a command that is done or fails
-pub after : (old new : HeapState) (c : GraphCmd) (r : Result Reply CmdFault) → IsMarkable old
-    → OnOk r (Changes old c new) → OnErr r (new ≡ old) → IsSound new → IsMarkable new
-after old new c (Ok reply) m ok err sound = markable sound (keeps old new c ok (whole_of old m))
-after old new c (Err why) m ok err sound = markable sound (same old new old refl err (whole_of old m))
+-- a command that is done, or for which there is no memory
+pub after : {E : Type 0} (old new : HeapState) (c : GraphCmd) (plan : Plan) (r : Result Reply E) → IsMarkable old
+    → HasFewFields c → IsPlanOf old c plan → IfOk r (λ answer. ChangesBy old plan.change answer new)
+    → OnErr r (new ≡ old) → IsMarkable new
+after old new c plan (Ok answer) m few is by err = markable
+    (still-sound old new c (Ok answer) (sound_of old m) ((planned-here old c plan is).does few answer new by).0)
+    (keeps old new plan.change answer by (whole_of old m))
+after old new c plan (Err why) m few is by err = subst IsMarkable (sym err) m
 
 none_whole : (h : HeapState) → IsEmpty h → AreWhole h.shape.arenas
 none_whole h empty = subst AreWhole (sym empty.arenas) (λ a arena is. cc is)

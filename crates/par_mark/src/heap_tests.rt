@@ -93,7 +93,11 @@ impl TestHeap {
         if is_full(&self.heap) {
             return Err(Fail::new("the heap is full"));
         }
-        match self.heap.do_command(cmd) {
+        let plan = match self.heap.resolve(cmd) {
+            Ok(plan) => plan,
+            Err(why) => return Err(Fail::from(why)),
+        };
+        match self.heap.commit(&plan) {
             Ok(_) => Ok(()),
             Err(fault) => Err(Fail::from(fault)),
         }
