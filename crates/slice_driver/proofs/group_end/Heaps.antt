@@ -179,7 +179,7 @@ module _ (c : CollectorState) (flown : ℕ → Option Bits) (w : World) (k : Col
       let r = held_index (held_name c.heap.shape) c.heap.shape.regs p x.0 held x.1 in
       let cell : register_cell w.graph r.0 ≡ Some x.0 =
       ap (λ rs. slice_index_or rs r.0 None) (sym ending.represents.lies.part.part.registers ∙ shown.registers_are)
-          ∙ r.1 in
+      ∙ r.1 in
       present_alive p x.0 x.1 (valid.presence.registers r.0 x.0 cell)
 
   slot_alive : (p : Place) → Contains c.heap.shape.slots (Some p) → is_dead c.heap g p ≡ false
@@ -375,7 +375,7 @@ module _ (c : CollectorState) (flown : ℕ → Option Bits) (w : World) (k : Col
       let aq = kept_alive o.1 y o.5 r.1 in
       let av = kept_alive o.2 z o.6
       (value_kept_too ending.represents.lies.graph keep w after ending.represents.lies.part refl stays valid.presence
-          ending.valid.graph x y z r.0 r.1 r.2) in
+      ending.valid.graph x y z r.0 r.1 r.2) in
       let nm = name_on o.0 am ∙ o.4 in
       let nq = name_on o.1 aq ∙ o.5 in
       let nv = name_on o.2 av ∙ o.6 in (

@@ -29,7 +29,7 @@ pub group_ends : (c d : CollectorState) (flown flying : ℕ → Option Bits) (w 
 group_ends c d flown flying w g rest grays ok s ready ends flies listed =
     let k = collection_of c (heap_with c flown) w ready.run ready.running s.runs in
     let ending : AtGroupEnd c flown w k.0 g rest = record { valid = ok; represents = s; ready = ready; running = k.1 }
-        in (
+    in (
       ended c.heap w k.0 g rest,
       ends_group c flown w k.0 g rest ending grays listed,
       valid c flown w k.0 g rest ending grays listed d.heap ends.heap,

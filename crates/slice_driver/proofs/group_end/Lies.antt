@@ -39,7 +39,7 @@ module _ (c : CollectorState) (flown : ℕ → Option Bits) (w : World) (k : Col
   stored_is : (p : Place) → Rattle.heap_core.specs.Shape.stored_at n.shape p ≡ cell_of c.heap.shape p
   stored_is p = stored_at_end c.heap n g (arenas_are c flown w k g rest ending grays listed n e)
       (sized c flown w k g rest ending grays listed n e) ending.ready.kept p
-          ∙ stored_present c.heap.shape ending.ready.kept p
+      ∙ stored_present c.heap.shape ending.ready.kept p
 
   places_after : (x : Name) (p : Place)
       → (places.get (after c flown w k g rest ending grays listed n e).places x ≡ Some p)

@@ -217,7 +217,7 @@ module _ (c : CollectorState) (flown : ℕ → Option Bits) (w : World) (k : Col
   weak_after = record {
     black = λ m q v f bm bq on.
         inl (black_on v (black_values c.heap c.stack c.lists was was_gray g ending.ready.marked m q v
-            (entry_then m q v f)
+        (entry_then m q v f)
         (black_back m bm) (black_back q bq)));
     gray = λ m q v f sm sq takes.
         let then_state = ap (state_in c.heap.shape) (sym (zone_same v))

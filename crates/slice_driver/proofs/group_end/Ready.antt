@@ -168,7 +168,7 @@ module _ (c : CollectorState) (flown : ℕ → Option Bits) (w : World) (k : Col
             let target : name_at c.heap.shape q ≡ Some (Cell t) = nq ∙ ap (λ z. Some z) (sym e.0) in
             groups_ok.backward.0 later.1 later.2 d t (zone_of c.heap.shape p) (zone_of c.heap.shape q)
             (present_named c.heap w ending.represents.lies p (Wrap d t) np) (zone_is (Wrap d t) p np)
-                (zone_is (Cell t) q target)
+            (zone_is (Cell t) q target)
             later.3 ((zones_in-has g _).1 here) (λ b. not (black_is (Cell t) q target b))
       ]
 
@@ -186,6 +186,6 @@ module _ (c : CollectorState) (flown : ℕ → Option Bits) (w : World) (k : Col
               let x = name_of c.heap.shape p (edge_from c.heap.shape p q e) in
               let y = name_of c.heap.shape q (inv.holds.colours.shape.targets p q e) in
               absurd (into_black p q x.0 y.0 x.1 y.1 (edge_named c.heap w ending.represents.lies p q x.0 y.0 x.1 y.1 e)
-                  only here not)
+              only here not)
         ];
   }

@@ -1,7 +1,6 @@
 -- Where no zone is marking, no unit is left that reports nothing.
-use Rattle.std.proofs.Common.{◌≡◌, ◌≢◌, [], ℕ, Option, Some, Contains, true, false, inl, inr, ap, slice_get, subst}
+use Rattle.std.proofs.Common.{◌≡◌, ◌≢◌, [], ℕ, Option, Some, true, false, inl, inr, ap, slice_get, subst}
 use Rattle.gz_names.specs.Zones.{HasZone}
-use Rattle.gz_names.specs.declared.numbers.Place.{Place}
 use Rattle.gz_names.specs.declared.zone_sets.ZoneSet.{ZoneSet}
 use Rattle.cell_bits.specs.declared.bits.Bits.{Bits}
 use Rattle.zones.specs.declared.states.State.TheVariants as state

@@ -18,7 +18,7 @@ returns-then-quiet-gt0-clause-done g c =
     (g.F.Sweeping.left (g.F.Flight.origin c.args.flight.now))
     (g.F.Sweeping.left (g.F.Flight.origin c.quiet_units-quiet.new.flight)) c.args.report.now
     c.quiet_units-quiet.ensures.does.done some c.quiet_units-quiet.ensures.does.most
-        c.quiet_units-quiet.ensures.does.resting
+    c.quiet_units-quiet.ensures.does.resting
     (quiet_sound c.quiet_units-quiet.result c.args.self.now (g.F.Flight.bits c.args.flight.now)
     c.quiet_units-quiet.new.self (g.F.Flight.bits c.quiet_units-quiet.new.flight) c.quiet_units-quiet.ensures.does.done
     c.requires.ready.sound)
@@ -73,7 +73,7 @@ advance_one-requires-clause-rests g c =
       g.F.Flight.bits c.quiet_units-quiet.new.flight,
       (quiet_sound c.quiet_units-quiet.result c.args.self.now (g.F.Flight.bits c.args.flight.now)
           c.quiet_units-quiet.new.self (g.F.Flight.bits c.quiet_units-quiet.new.flight)
-              c.quiet_units-quiet.ensures.does.done
+          c.quiet_units-quiet.ensures.does.done
           c.requires.ready.sound),
       c.quiet_units-quiet.ensures.does.rests (omega (arith, none, some)),
     )
@@ -88,7 +88,7 @@ returns-clause-done g c =
     (g.F.Flight.bits c.args.flight.now) (g.F.Flight.bits c.quiet_units-quiet.new.flight)
     (g.F.Sweeping.left (g.F.Flight.origin c.quiet_units-quiet.new.flight))
     c.args.report.now c.advance_one.new.report some still
-        (quiet_sound c.quiet_units-quiet.result c.args.self.now (g.F.Flight.bits c.args.flight.now)
+    (quiet_sound c.quiet_units-quiet.result c.args.self.now (g.F.Flight.bits c.args.flight.now)
     c.quiet_units-quiet.new.self (g.F.Flight.bits c.quiet_units-quiet.new.flight) c.quiet_units-quiet.ensures.does.done
     c.requires.ready.sound)
     (c.quiet_units-quiet.ensures.does.rests (omega (arith, none, some)))

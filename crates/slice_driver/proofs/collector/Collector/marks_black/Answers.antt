@@ -110,7 +110,7 @@ returns-clause-steps g c =
     let read = (c.black_unit.ensures.same c.if-black_unit.false).3 in
     let before = ap grays_outside (none g first c.if-black_unit.false).0.colours in
     let kept = ap (λ (x : CollectorState). grays_outside (heap_with x f1)) (none g first c.if-black_unit.false).0.same
-        in
+    in
     let grays = look_grays (followed g first) f1 (g.F.Flight.bits c.weak_unit.new.flight) (looked g at).heap
     (looked g at).stack (still g first c.if-black_unit.false) (running g first) refl mark.Black c.weak_unit.result
     c.weak_unit.ensures.does

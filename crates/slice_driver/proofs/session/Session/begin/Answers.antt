@@ -1,4 +1,4 @@
-use Rattle.std.proofs.Common.{◌≡◌, ◌↔◌, ◌⊎◌, inl, inr, Err, None, OnOk, refl, rules, subst}
+use Rattle.std.proofs.Common.{◌≡◌, ◌↔◌, inl, inr, Err, None, OnOk, refl, rules, subst}
 use Rattle.slice_driver.specs.Begins.{AreMade}
 use Rattle.slice_driver.specs.declared.begin.BeginFault.TheVariants.{NoZone}
 use Rattle.slice_driver.specs.Sessions.{SessionState}
