@@ -100,25 +100,49 @@ fn command(word: Word, rest: &[u8]) -> Option<Cmd>
 {
     match word {
         Word::Zone => no_more(rest, Cmd::Graph(GraphCmd::Zone)),
-        Word::Comp => one(rest).map(|z| Cmd::Graph(GraphCmd::Comp(z))),
+        Word::Comp => Some(Cmd::Graph(GraphCmd::Comp(one(rest)?))),
         Word::New => NewRow::read(rest),
-        Word::Map => two(rest).map(|(r, c)| Cmd::Graph(GraphCmd::Map(r, c))),
+        Word::Map => {
+            let (r, c) = two(rest)?;
+            Some(Cmd::Graph(GraphCmd::Map(r, c)))
+        }
         Word::Get => GetRow::read(rest),
         Word::Set => SetRow::read(rest),
-        Word::Wrap => three(rest).map(|(r, s, c)| Cmd::Graph(GraphCmd::Wrap(r, s, c))),
-        Word::Unwrap => two(rest).map(|(r, s)| Cmd::Graph(GraphCmd::Unwrap(r, s))),
+        Word::Wrap => {
+            let (r, s, c) = three(rest)?;
+            Some(Cmd::Graph(GraphCmd::Wrap(r, s, c)))
+        }
+        Word::Unwrap => {
+            let (r, s) = two(rest)?;
+            Some(Cmd::Graph(GraphCmd::Unwrap(r, s)))
+        }
         Word::Copy => CopyRow::read(rest),
         Word::Drop => DropRow::read(rest),
-        Word::Hold => two(rest).map(|(g, r)| Cmd::Graph(GraphCmd::Hold(g, r))),
-        Word::Release => one(rest).map(|g| Cmd::Graph(GraphCmd::Release(g))),
-        Word::Expose => two(rest).map(|(r, g)| Cmd::Graph(GraphCmd::Expose(r, g))),
-        Word::Put => three(rest).map(|(m, k, v)| Cmd::Graph(GraphCmd::Put(m, k, v))),
-        Word::Del => two(rest).map(|(m, k)| Cmd::Graph(GraphCmd::Del(m, k))),
-        Word::Find => three(rest).map(|(r, m, k)| Cmd::Graph(GraphCmd::Find(r, m, k))),
-        Word::Gc => zone_list(rest).map(Cmd::Gc),
-        Word::Slice => one(rest).map(Cmd::Slice),
+        Word::Hold => {
+            let (g, r) = two(rest)?;
+            Some(Cmd::Graph(GraphCmd::Hold(g, r)))
+        }
+        Word::Release => Some(Cmd::Graph(GraphCmd::Release(one(rest)?))),
+        Word::Expose => {
+            let (r, g) = two(rest)?;
+            Some(Cmd::Graph(GraphCmd::Expose(r, g)))
+        }
+        Word::Put => {
+            let (m, k, v) = three(rest)?;
+            Some(Cmd::Graph(GraphCmd::Put(m, k, v)))
+        }
+        Word::Del => {
+            let (m, k) = two(rest)?;
+            Some(Cmd::Graph(GraphCmd::Del(m, k)))
+        }
+        Word::Find => {
+            let (r, m, k) = three(rest)?;
+            Some(Cmd::Graph(GraphCmd::Find(r, m, k)))
+        }
+        Word::Gc => Some(Cmd::Gc(zone_list(rest)?)),
+        Word::Slice => Some(Cmd::Slice(one(rest)?)),
         Word::Finish => no_more(rest, Cmd::Finish),
-        Word::Collect => zone_list(rest).map(Cmd::Collect),
+        Word::Collect => Some(Cmd::Collect(zone_list(rest)?)),
         Word::Colours => no_more(rest, Cmd::Colours),
         Word::Dump => no_more(rest, Cmd::Dump),
     }

@@ -27,7 +27,8 @@ impl Row for NewRow {
     ghost first = { word.New };
 
     fn read(rest: &[u8]) -> Option<Cmd> {
-        three(rest).map(|(r, c, FieldCount(n))| Cmd::Graph(GraphCmd::New(r, c, n)))
+        let (r, c, FieldCount(n)) = three(rest)?;
+        Some(Cmd::Graph(GraphCmd::New(r, c, n)))
     }
 }
 
@@ -39,7 +40,8 @@ impl Row for GetRow {
 
     #[inline(always)]
     fn read(rest: &[u8]) -> Option<Cmd> {
-        three(rest).map(|(r, s, Field(f))| Cmd::Graph(GraphCmd::Get(r, s, f)))
+        let (r, s, Field(f)) = three(rest)?;
+        Some(Cmd::Graph(GraphCmd::Get(r, s, f)))
     }
 }
 
@@ -51,7 +53,8 @@ impl Row for SetRow {
 
     #[inline(always)]
     fn read(rest: &[u8]) -> Option<Cmd> {
-        three(rest).map(|(s, Field(f), Target(t))| Cmd::Graph(GraphCmd::Set(s, f, t)))
+        let (s, Field(f), Target(t)) = three(rest)?;
+        Some(Cmd::Graph(GraphCmd::Set(s, f, t)))
     }
 }
 
@@ -63,7 +66,8 @@ impl Row for CopyRow {
 
     #[inline(always)]
     fn read(rest: &[u8]) -> Option<Cmd> {
-        two(rest).map(|(r, s)| Cmd::Graph(GraphCmd::Copy(r, s)))
+        let (r, s) = two(rest)?;
+        Some(Cmd::Graph(GraphCmd::Copy(r, s)))
     }
 }
 
@@ -74,6 +78,6 @@ impl Row for DropRow {
     ghost first = { word.Drop };
 
     fn read(rest: &[u8]) -> Option<Cmd> {
-        one(rest).map(|r| Cmd::Graph(GraphCmd::Drop(r)))
+        Some(Cmd::Graph(GraphCmd::Drop(one(rest)?)))
     }
 }
