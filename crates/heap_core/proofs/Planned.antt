@@ -1,19 +1,15 @@
 -- What a plan says of the change that is made by it.
-use Rattle.std.proofs.Common.{◌≡◌, ◌+◌, ℕ, Option, Ok, Err, IsSome, is_some, if◌then◌else◌, sym, ap, subst, ◌∙◌, arith}
+use Rattle.std.proofs.Common.{◌≡◌, ◌+◌, ℕ, Option, Ok, IsSome, is_some, if◌then◌else◌, sym, ap, subst, ◌∙◌, arith}
 use Rattle.gz_names.specs.declared.numbers.Place.{Place}
 use Rattle.gz_names.specs.declared.commands.GraphCmd.{GraphCmd}
 use Rattle.gz_names.specs.declared.replies.Reply.{Reply}
-use Rattle.gz_names.specs.declared.replies.CmdFault.TheVariants as fault
-use Rattle.gz_names.specs.declared.replies.Refusal.{Refusal}
 use Rattle.heap_core.specs.declared.plans.Change.{Change}
 use Rattle.heap_core.specs.declared.plans.Change.TheVariants as change
 use Rattle.heap_core.specs.declared.plans.Plan.{Plan}
 use Rattle.heap_core.specs.Shape.{Shape}
 use Rattle.heap_core.specs.Heap.{HeapState, with_marks}
-use Rattle.heap_core.specs.Answers.{DoesStep}
-use Rattle.heap_core.specs.Peeks.{IsOld, cells_made, handed, stored, unless_refused}
+use Rattle.heap_core.specs.Peeks.{cells_made}
 use Rattle.heap_core.specs.Plans.{ChangesBy, IsPlanIn, IsPlanOf, MayWant, handed_by, made_by, overwritten_by}
-use Rattle.heap_core.proofs.Stepping.{does-wanting}
 
 abbrev made_of : HeapState → ℕ
 made_of h = h.made
@@ -72,20 +68,6 @@ making-wants s (change.Put m k v) some = absurd (cc some)
 making-wants s (change.Del m k) some = absurd (cc some)
 
 module _ (h : HeapState) (c : GraphCmd) (plan : Plan) (is : IsPlanIn h c plan) where
-  pub wants-step : DoesStep h c (Err fault.NoMemory) h
-  wants-step = does-wanting h c is.accepted
-
-  pub handed-sure : IsSome (handed h c) → MayWant h.shape plan.change → ⊥
-  handed-sure some = handed-wants h.shape plan.change (subst (λ (o : Option Place). IsSome o) (sym is.handed) some)
-
-  pub stored-sure : IsSome (stored h c) → MayWant h.shape plan.change → ⊥
-  stored-sure some = overwritten-wants h.shape plan.change
-      (subst (λ (o : Option Place). IsSome o) (sym is.overwritten ∙ is.replaced) some)
-
-  -- what the plan overwrites, on each graph that the heap shows
-  pub is-old : IsOld h c plan.overwritten
-  is-old g s = is.overwritten ∙ sym (ap (λ (o : Option Refusal). unless_refused o (stored h c)) (is.accepted g s))
-
   pub made-cells : (answer : Reply) (new : HeapState) → ChangesBy h plan.change answer new
       → new.made ≡ h.made + cells_made h c (Ok answer)
   made-cells answer new by = made-by_change h new plan.change answer by

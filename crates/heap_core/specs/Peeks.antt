@@ -1,5 +1,5 @@
 -- What a command will overwrite or remove, what it is about, and what it will hand to its register.
-use Rattle.std.specs.Prelude.{◌≡◌, ℕ, Option, Some, None, Result, Ok, Err, is_some, slice_get, option_and_then}
+use Rattle.std.specs.Prelude.{ℕ, Option, Some, None, Result, Ok, Err, is_some, slice_get, option_and_then}
 use Rattle.std.specs.Prelude.{if◌then◌else◌}
 use Rattle.std.specs.Option.{option_map}
 use Rattle.gz_names.specs.declared.commands.GraphCmd.{GraphCmd}
@@ -7,12 +7,8 @@ use Rattle.gz_names.specs.declared.commands.GraphCmd.TheVariants as cmd
 use Rattle.gz_names.specs.declared.numbers.CompNo.{CompNo}
 use Rattle.gz_names.specs.declared.numbers.Place.{Place}
 use Rattle.gz_names.specs.declared.replies.CmdFault.{CmdFault}
-use Rattle.gz_names.specs.declared.replies.Refusal.{Refusal}
 use Rattle.gz_names.specs.declared.replies.Reply.{Reply}
-use Rattle.colour_defs.specs.Graph.{GraphState}
-use Rattle.colour_defs.specs.Step.{step_of, refusal_in}
 use Rattle.heap_core.specs.Heap.{HeapState, reg_of, slot_of}
-use Rattle.heap_core.specs.Shows.{Shows}
 use Rattle.heap_core.specs.Lookups.{held_field, held_value, seen_from, target_at}
 
 -- what a command overwrites or removes: a field's value, or an entry's
@@ -71,15 +67,6 @@ wrapped_target h (cmd.Expose r g) = None
 wrapped_target h (cmd.Put m k v) = None
 wrapped_target h (cmd.Del m k) = None
 wrapped_target h (cmd.Find r m k) = None
-
--- nothing, where a command is refused
-abbrev pub unless_refused : Option Refusal → Option Place → Option Place
-unless_refused None p = p
-unless_refused (Some why) p = None
-
--- on each graph that the heap shows, this is the value that the command overwrites or removes
-abbrev pub IsOld : HeapState → GraphCmd → Option Place → Type 0
-IsOld h c p = (g : GraphState) → Shows h g → p ≡ unless_refused (refusal_in (step_of g c).1) (stored h c)
 
 -- the zone of a new wrapper of a register's cell in a compartment; none where the compartment sees the cell already
 abbrev pub wrapped_in : HeapState → Option Place → CompNo → Option ℕ

@@ -60,7 +60,6 @@
 // They take it before they change anything, and a heap that was refused some is as it was.
 #![tactic(auto)]
 
-mod commands;
 mod commit;
 mod edges;
 mod entries;

@@ -1,11 +1,8 @@
 // Commands are resolved: what they will do, or why they are refused.
 ghost use Rattle.std.specs.Prelude.{IfErr, IfOk};
-ghost use Rattle.std.specs.Option.{ForSome};
 ghost use Rattle.gz_names.specs.declared.commands.GraphCmd.TheVariants as cmd;
-ghost use Rattle.heap_core.specs.Shape.{IsPresent};
 ghost use Rattle.heap_core.specs.Answers.{IsSound};
 ghost use Rattle.heap_core.specs.Lookups.{IsRefused};
-ghost use Rattle.heap_core.specs.Peeks.{IsOld};
 ghost use Rattle.heap_core.specs.Plans.{IsPlanOf};
 
 use crate::heap::Heap;
@@ -38,20 +35,6 @@ impl Heap {
             GraphCmd::Put(m, k, v) => self.resolve_put(*m, *k, *v),
             GraphCmd::Del(m, k) => self.resolve_del(*m, *k),
             GraphCmd::Find(r, m, k) => self.resolve_find(*r, *m, *k),
-        }
-    }
-
-    /// The value that a command will overwrite or remove: what the field of a `set` holds, or the
-    /// value of the entry of a `put` or a `del`. `None` exactly where there is none, and where the
-    /// command is refused.
-    pub fn old_of(&self, cmd: &GraphCmd) -> Option<Place>
-        requires { IsSound self.now }
-        ensures value { IsOld self.now cmd.now result }
-        ensures present { ForSome result (IsPresent self.now.shape) }
-    {
-        match self.resolve(cmd) {
-            Ok(plan) => plan.overwritten,
-            Err(_) => None,
         }
     }
 
