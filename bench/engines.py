@@ -5,16 +5,17 @@
     bench/engines.py [--cells N] [--rounds N] [--only HEAP,..] [--times] [--program PATH]
 
 A heap is a trace that all four answer (bench/collectors has the three others). In each of --rounds rounds (7) a program
-makes the cells and collects once. Then, timed, it collects while all cells live, and once more when nothing holds them
-any more. The time is that of the processor, of all threads of the program, by the system's clock for that process. It
-is read before the line that collects is sent, and again when the program has answered; so it has nothing of the making
-of the cells. The programs take turns, a round each. A figure is the median of the rounds, with the middle half of them
-in brackets. Two figures whose middle halves overlap are not told apart, and are named below the table; so are figures
-for which less than half a second was measured in all.
+makes the cells and collects once. Then, timed, it collects while all cells live, and twice when nothing holds them any
+more: the first time OCaml ends a cycle that began before, and a stale pointer may keep cells of Boehm's. The time is
+that of the processor, of all threads of the program, by the system's clock for that process. It is read before the line
+that collects is sent, and again when the program has answered; so it has nothing of the making of the cells. The
+programs take turns, a round each. A figure is the median of the rounds, with the middle half of them in brackets. Two
+figures whose middle halves overlap are not told apart, and are named below the table; so are figures for which less
+than half a second was measured in all.
 
 The memory of a cell is what was resident after the first collection, less what was before the cells were made.
 
-Instructions are counted by valgrind, at 2^16 cells: of a run with more collections less one with fewer, and less what
+Instructions are counted by valgrind, at 2^14 cells: of a run with more collections less one with fewer, and less what
 as many take of a heap without cells. They are the same whatever else the machine does, where a program does the same
 twice. Without valgrind, or with --times, there are none.
 
@@ -54,7 +55,8 @@ LIMIT = 300
 ENOUGH = 0.5
 PAUSE = 0.0005
 MORE = 4
-COUNTED_CELLS = 1 << 16
+TWICE = 2
+COUNTED_CELLS = 1 << 14
 TREE_DEPTH = 14
 HELD = 14
 BESIDE = {
@@ -253,7 +255,7 @@ class Rounds:
         self.count, self.rounds, self.repeat = count, rounds, 0
         self.live, self.dead, self.size, self.lacks = [], [], 0, None
         self.collect = text_of(collect(1, heap.zones))
-        self.die = text_of(drop_all(), collect(1, heap.zones))
+        self.die = text_of(drop_all(), collect(TWICE, heap.zones))
         self.begin = text_of(places(heap.zones), collect(1, heap.zones))
 
     def go(self, cells):
@@ -268,7 +270,7 @@ class Rounds:
                 once = self.process.spent(self.collect)
                 self.repeat = max(1, math.ceil(ENOUGH / self.rounds / once))
             self.live.append(self.process.spent(self.collect * self.repeat, self.repeat) / self.repeat)
-            self.dead.append(self.process.spent(self.die))
+            self.dead.append(self.process.spent(self.die, TWICE))
         except Stopped as stopped:
             self.lacks = str(stopped)
 
@@ -303,17 +305,17 @@ class Counts:
         return count_instructions(command, trace, LIMIT)
 
     def count(self, command, heap, count):
-        """Instructions a cell of a collection in which all cells live, and of one in which all are dead."""
+        """Instructions a cell of a collection in which all cells live, and of two when all are dead."""
         def collected(cells, *behind):
             return self.run(command, places(heap.zones), heap.lines(cells), collect(1, heap.zones), *behind)
         more = collect(MORE, heap.zones)
         runs = [collected(0), collected(0, collect(MORE, heap.zones)), collected(count), collected(count, more),
-                collected(count, drop_all(), collect(1, heap.zones))]
+                collected(count, drop_all(), collect(TWICE, heap.zones))]
         if None in runs:
             return "-", "-"
         empty, empty_more, once, often, dead = runs
         nothing = (empty_more - empty) / MORE
-        return [f"{(all_of_it - nothing) / count:.0f}" for all_of_it in ((often - once) / MORE, dead - once)]
+        return [f"{each / count:.0f}" for each in ((often - once) / MORE - nothing, dead - once - TWICE * nothing)]
 
 
 class Bench:
