@@ -287,7 +287,8 @@ class Figure:
         self.low, self.middle, self.high = statistics.quantiles(cells, method="inclusive") if cells[1:] else cells * 3
 
     def __str__(self):
-        return f"{self.middle:.1f} ({self.low:.1f} to {self.high:.1f})"
+        digits = 1 if self.middle < 1000 else 0
+        return f"{self.middle:,.{digits}f} ({self.low:,.{digits}f} to {self.high:,.{digits}f})"
 
     def is_like(self, other):
         return self.low <= other.high and other.low <= self.high
@@ -315,7 +316,7 @@ class Counts:
             return "-", "-"
         empty, empty_more, once, often, dead = runs
         nothing = (empty_more - empty) / MORE
-        return [f"{each / count:.0f}" for each in ((often - once) / MORE - nothing, dead - once - TWICE * nothing)]
+        return [f"{each / count:,.0f}" for each in ((often - once) / MORE - nothing, dead - once - TWICE * nothing)]
 
 
 class Bench:
