@@ -19,7 +19,10 @@ pub mod GraphSizes
 pub mod DumpedNames
 pub mod Started
 pub mod Ending
+pub mod Closing
 pub mod Going
+pub mod LineStarts
+pub mod LineGoes
 pub mod Handing
 pub mod Counted
 pub mod Storming

@@ -27,9 +27,8 @@ use Rattle.command_source.specs.Giving.{GivesBad, GivesCommand, IsBad, not_ascii
 use Rattle.trace_cli.specs.Served.{StandsFor}
 use Rattle.trace_cli.specs.Headline.{report_lines, answer_lines, StandForAll, LeadsTo, WritesAnswer, WritesFront}
 use Rattle.trace_cli.specs.Headline.{WritesStart, Replays}
-use Rattle.trace_cli.specs.declared.exit.Exit.{Exit}
 use Rattle.trace_cli.specs.declared.exit.Exit.TheVariants as exit
-use Rattle.trace_cli.proofs.Lined.{AreFine, line_given, line_feeds-append, line_feeds-plain, too_long_bad}
+use Rattle.trace_cli.proofs.Lined.{line_given, line_feeds-append, line_feeds-plain, too_long_bad}
 use Rattle.trace_cli.proofs.Lined.{not_ascii_bad}
 
 -- what is known of a first collector
@@ -270,31 +269,13 @@ read_after (Some i) (Some xs) (Some ys) p q r held line n w h t plain k = (
   },
 )
 
-pub ends_memory : (a l p q r : Option (List ℕ)) (held : List ℕ) (n : ℕ) (w : World)
-    → Stands a (prepend_known held l) p q n w → Appends q r [] → Replays a l p r exit.NoMemory
-ends_memory None l p q r held n w h k = tt
-ends_memory (Some i) None p q r held n w h k = absurd h
-ends_memory (Some i) (Some ys) p q r held n w h k = (
-  h.output,
-  wrote_more i (held ++ ys) p q r n w h k,
-  record {
-    answered = n;
-    whole = h.output;
-    part = [];
-    world = w;
-    parts = sym (append-nil h.output);
-    leads = first_n i (held ++ ys) p q n w h;
-    last = inl refl;
-  },
-)
-
-gives_line : AreFine → (xs ys line : List ℕ) (res : Next) → Gives xs ys res line → res ≢ next.End
+gives_line : (xs ys line : List ℕ) (res : Next) → Gives xs ys res line → res ≢ next.End
     → res ≢ next.ReadFault → (l : List ℕ) × (more : List (List ℕ)) × (lines_of xs ≡ l ∷ more)
-gives_line fine xs ys line (next.Line m) g e f = (line, lines_of ys, line_given xs ys line g.2 g.3)
-gives_line fine xs ys line next.End g e f = absurd (e refl)
-gives_line fine xs ys line next.TooLong g e f = let b = too_long_bad fine xs g.1 in (b.0, b.1, b.2)
-gives_line fine xs ys line next.NotAscii g e f = let b = not_ascii_bad fine xs g.1 in (b.0, b.1, b.2)
-gives_line fine xs ys line next.ReadFault g e f = absurd (f refl)
+gives_line xs ys line (next.Line m) g e f = (line, lines_of ys, line_given xs ys line g.2 g.3)
+gives_line xs ys line next.End g e f = absurd (e refl)
+gives_line xs ys line next.TooLong g e f = let b = too_long_bad xs g.1 in (b.0, b.1, b.2)
+gives_line xs ys line next.NotAscii g e f = let b = not_ascii_bad xs g.1 in (b.0, b.1, b.2)
+gives_line xs ys line next.ReadFault g e f = absurd (f refl)
 
 many :
     (i xs : List ℕ) (p q : Option (List ℕ)) (n : ℕ) (w : World) (l : List ℕ) (more : List (List ℕ))
@@ -304,14 +285,14 @@ many i xs p q n w l more h e m =
     let s : length (lines_of i) ≡ length (h.done ++ (l ∷ more)) = ap length (h.lines ∙ ap
     (λ (u : List (List ℕ)). h.done ++ u) m) in omega (arith, s, length-append h.done (l ∷ more), h.count, e)
 
-pub many_after : AreFine → (a b l p q r : Option (List ℕ)) (held line : List ℕ) (res : Next) (n : ℕ) (w : World)
+pub many_after : (a b l p q r : Option (List ℕ)) (held line : List ℕ) (res : Next) (n : ℕ) (w : World)
     → Stands a b p q n w → GivesKnown b (prepend_known held l) res line → res ≢ next.End → res ≢ next.ReadFault
     → n ≡ 4294967295 → Appends q r [] → Replays a l p r exit.TooManyLines
-many_after fine None b l p q r held line res n w h t x y e k = tt
-many_after fine (Some i) None l p q r held line res n w h t x y e k = absurd h
-many_after fine (Some i) (Some xs) None p q r held line res n w h t x y e k = absurd t
-many_after fine (Some i) (Some xs) (Some ys) p q r held line res n w h t x y e k =
-    let g = gives_line fine xs (held ++ ys) line res t x y in (
+many_after None b l p q r held line res n w h t x y e k = tt
+many_after (Some i) None l p q r held line res n w h t x y e k = absurd h
+many_after (Some i) (Some xs) None p q r held line res n w h t x y e k = absurd t
+many_after (Some i) (Some xs) (Some ys) p q r held line res n w h t x y e k =
+    let g = gives_line xs (held ++ ys) line res t x y in (
       h.output,
       wrote_more i xs p q r n w h k,
       record {
@@ -320,14 +301,14 @@ many_after fine (Some i) (Some xs) (Some ys) p q r held line res n w h t x y e k
       },
     )
 
-too_long_after : AreFine → (a b l p q r : Option (List ℕ)) (held line : List ℕ) (n : ℕ) (w : World)
+too_long_after : (a b l p q r : Option (List ℕ)) (held line : List ℕ) (n : ℕ) (w : World)
     → n < 4294967295 → Stands a b p q n w → GivesKnown b (prepend_known held l) next.TooLong line → Appends q r []
     → Replays a l p r (exit.BadLine (n + 1))
-too_long_after fine None b l p q r held line n w few h t k = tt
-too_long_after fine (Some i) None l p q r held line n w few h t k = absurd h
-too_long_after fine (Some i) (Some xs) None p q r held line n w few h t k = absurd t
-too_long_after fine (Some i) (Some xs) (Some ys) p q r held line n w few h t k =
-    let g = too_long_bad fine xs t.1 in (
+too_long_after None b l p q r held line n w few h t k = tt
+too_long_after (Some i) None l p q r held line n w few h t k = absurd h
+too_long_after (Some i) (Some xs) None p q r held line n w few h t k = absurd t
+too_long_after (Some i) (Some xs) (Some ys) p q r held line n w few h t k =
+    let g = too_long_bad xs t.1 in (
       h.output,
       wrote_more i xs p q r n w h k,
       record {
@@ -341,14 +322,14 @@ too_long_after fine (Some i) (Some xs) (Some ys) p q r held line n w few h t k =
       },
     )
 
-not_ascii_after : AreFine → (a b l p q r : Option (List ℕ)) (held line : List ℕ) (n : ℕ) (w : World)
+not_ascii_after : (a b l p q r : Option (List ℕ)) (held line : List ℕ) (n : ℕ) (w : World)
     → n < 4294967295 → Stands a b p q n w → GivesKnown b (prepend_known held l) next.NotAscii line → Appends q r []
     → Replays a l p r (exit.BadLine (n + 1))
-not_ascii_after fine None b l p q r held line n w few h t k = tt
-not_ascii_after fine (Some i) None l p q r held line n w few h t k = absurd h
-not_ascii_after fine (Some i) (Some xs) None p q r held line n w few h t k = absurd t
-not_ascii_after fine (Some i) (Some xs) (Some ys) p q r held line n w few h t k =
-    let g = not_ascii_bad fine xs t.1 in (
+not_ascii_after None b l p q r held line n w few h t k = tt
+not_ascii_after (Some i) None l p q r held line n w few h t k = absurd h
+not_ascii_after (Some i) (Some xs) None p q r held line n w few h t k = absurd t
+not_ascii_after (Some i) (Some xs) (Some ys) p q r held line n w few h t k =
+    let g = not_ascii_bad xs t.1 in (
       h.output,
       wrote_more i xs p q r n w h k,
       record {
@@ -443,25 +424,25 @@ stop_after (Some i) (Some xs) (Some ys) p q r held n w c h t k = (
 )
 
 -- a line outside the language: whatever is wrong with it
-pub refused_after : AreFine → (a b l p q r : Option (List ℕ)) (held : List ℕ) (n : ℕ) (w : World) → n < 4294967295
+pub refused_after : (a b l p q r : Option (List ℕ)) (held : List ℕ) (n : ℕ) (w : World) → n < 4294967295
     → Stands a b p q n w → GivesBad b (prepend_known held l) → Appends q r [] → Replays a l p r (exit.BadLine (n + 1))
-refused_after fine a b l p q r held n w few h (too_long line t) k =
-    too_long_after fine a b l p q r held line n w few h t k
-refused_after fine a b l p q r held n w few h (not_ascii line t) k =
-    not_ascii_after fine a b l p q r held line n w few h t k
-refused_after fine a b l p q r held n w few h (unspelt line m t bad) k =
+refused_after a b l p q r held n w few h (too_long line t) k =
+    too_long_after a b l p q r held line n w few h t k
+refused_after a b l p q r held n w few h (not_ascii line t) k =
+    not_ascii_after a b l p q r held line n w few h t k
+refused_after a b l p q r held n w few h (unspelt line m t bad) k =
     bad_after a b l p q r held line n m w few h t bad k
 
 -- where it is one line too many
-pub refused_at_limit : AreFine → (a b l p q r : Option (List ℕ)) (held : List ℕ) (n : ℕ) (w : World)
+pub refused_at_limit : (a b l p q r : Option (List ℕ)) (held : List ℕ) (n : ℕ) (w : World)
     → Stands a b p q n w → GivesBad b (prepend_known held l) → n ≡ 4294967295 → Appends q r []
     → Replays a l p r exit.TooManyLines
-refused_at_limit fine a b l p q r held n w h (too_long line t) most k =
-    many_after fine a b l p q r held line next.TooLong n w h t (λ e. cc e) (λ e. cc e) most k
-refused_at_limit fine a b l p q r held n w h (not_ascii line t) most k =
-    many_after fine a b l p q r held line next.NotAscii n w h t (λ e. cc e) (λ e. cc e) most k
-refused_at_limit fine a b l p q r held n w h (unspelt line m t bad) most k =
-    many_after fine a b l p q r held line (next.Line m) n w h t (λ e. cc e) (λ e. cc e) most k
+refused_at_limit a b l p q r held n w h (too_long line t) most k =
+    many_after a b l p q r held line next.TooLong n w h t (λ e. cc e) (λ e. cc e) most k
+refused_at_limit a b l p q r held n w h (not_ascii line t) most k =
+    many_after a b l p q r held line next.NotAscii n w h t (λ e. cc e) (λ e. cc e) most k
+refused_at_limit a b l p q r held n w h (unspelt line m t bad) most k =
+    many_after a b l p q r held line (next.Line m) n w h t (λ e. cc e) (λ e. cc e) most k
 
 -- and where the sink fails then
 pub refused_write : (a b l p q r : Option (List ℕ)) (held : List ℕ) (n : ℕ) (w : World)
@@ -494,18 +475,18 @@ usage_ends None written = tt
 usage_ends (Some input) written = ([], Appends-nil written, record { none = refl; kept = refl })
 
 -- memory was wanted before anything was read
-pub memory_ends : (left written : Option (List ℕ)) → Replays left left written written exit.NoMemory
-memory_ends left written = ends_memory left left written written written [] 0 first_world
-    (stands_first left written [] refl) (Appends-nil written)
-
--- an exit, or that of a fault of the sink
-pub either : (P : Exit → Type 0) (r e : Exit) → (r ≡ e) ⊎ (r ≡ exit.WriteFault) → P e → P exit.WriteFault → P r
-either P r e (inl h) x y = subst P (sym h) x
-either P r e (inr h) x y = subst P (sym h) y
-
--- the same at a line that is none of the language
-pub either_refusal : (P : Exit → Type 0) (r e : Exit) (n : ℕ) → (r ≡ e) ⊎ (r ≡ exit.WriteFault)
-    → ((n ≡ 4294967295) × (e ≡ exit.TooManyLines)) ⊎ ((n < 4294967295) × (e ≡ exit.BadLine (n + 1)))
-    → (n ≡ 4294967295 → P exit.TooManyLines) → (n < 4294967295 → P (exit.BadLine (n + 1))) → P exit.WriteFault → P r
-either_refusal P r e n h (inl k) m b w = either P r e h (subst P (sym k.1) (m k.0)) w
-either_refusal P r e n h (inr k) m b w = either P r e h (subst P (sym k.1) (b k.0)) w
+pub memory_ends : (left p q : Option (List ℕ)) → Appends p q [] → Replays left left p q exit.NoMemory
+memory_ends None p q kept = tt
+memory_ends (Some input) p q kept = (
+  [],
+  kept,
+  record {
+    answered = 0;
+    whole = [];
+    part = [];
+    world = first_world;
+    parts = refl;
+    leads = record { commands = []; answers = []; stand = tt; run = refl; written = refl };
+    last = inl (refl, refl, refl);
+  },
+)

@@ -1,6 +1,6 @@
 -- The lines of a storm, how a replay of it ends, and what its collector tells.
 use Rattle.std.proofs.Common.{◌≡◌, ◌≢◌, ◌↔◌, ◌<◌, ◌≤◌, ◌+◌, ℕ, zero, suc, List, [], ◌∷◌, ◌++◌, length, take, Option}
-use Rattle.std.proofs.Common.{Some, None, refl, ap, sym, subst, ◌∙◌, arith, append_assoc, length-append, inl, inr, ◌⊎◌}
+use Rattle.std.proofs.Common.{Some, None, refl, ap, sym, subst, ◌∙◌, arith, append_assoc, length-append, inl, inr}
 use Rattle.std.proofs.Common.{Contains, Bool, true, false, append-nil}
 use Rattle.std.specs.Prelude.{All}
 use Rattle.std.specs.Io.KnownBytes.{Appends}
@@ -39,6 +39,7 @@ use Rattle.slice_driver.specs.Present.{present_in_all}
 use Rattle.slice_driver.specs.Units.{IsSound, none_flown}
 use Rattle.slice_driver.proofs.abstraction.IdleFlight.{idle_flown}
 use Rattle.trace_lang.specs.Grammar.{Spells}
+use Rattle.trace_lang.proofs.Fine.{spells_fine}
 use Rattle.storm_source.specs.Commands.{MakesNoZone, SpellAll}
 use Rattle.storm_source.specs.Trace.{drawn_lines, head_lines, line_state, storm_lines, storm_text, tail_lines}
 use Rattle.storm_source.specs.Trace.{text_of}
@@ -48,7 +49,8 @@ use Rattle.trace_cli.specs.Headline.{Ends, EndsSo, LeadsTo, StandForAll}
 use Rattle.trace_cli.specs.Lines.{lines_of}
 use Rattle.trace_cli.specs.Reaching.{Stands}
 use Rattle.trace_cli.specs.Served.{FitsLanguage}
-use Rattle.trace_cli.specs.Standing.{Entry, HasEnded, untaken}
+use Rattle.trace_cli.specs.Standing.{Entry, HandsOn, HasEnded, ReplayEnds, entry_of}
+use Rattle.command_source.specs.Input.{Input}
 use Rattle.trace_cli.specs.Storms.{Counts, IsLeftByStorm, IsSummary, StopsStorm, Storms, summary_text}
 use Rattle.trace_cli.specs.declared.exit.Exit.{Exit}
 use Rattle.trace_cli.specs.declared.exit.Exit.TheVariants as exit
@@ -56,8 +58,8 @@ use Rattle.trace_cli.specs.declared.machine.Machine.{Machine}
 use Rattle.trace_cli.specs.declared.storm.Summary.{Summary}
 use Rattle.trace_cli.proofs.Complete.{by_exit}
 use Rattle.trace_cli.proofs.Counted.{present_counted, same_decides}
-use Rattle.trace_cli.proofs.Lined.{AreFine, lines_of-line}
-use Rattle.trace_cli.proofs.Spelled.{HasZones, fits_language}
+use Rattle.trace_cli.proofs.Lined.{lines_of-line}
+use Rattle.trace_cli.proofs.Spelled.{fits_language}
 
 -- lines and the commands that they stand for
 stand_all : (lines : List (List ℕ)) (cs : List Cmd) → SpellAll lines cs → StandForAll lines cs
@@ -81,18 +83,18 @@ stand_front (suc n) [] (c ∷ cs) s = absurd s
 stand_front (suc n) (line ∷ lines) [] s = absurd s
 
 -- lines of the language are those of their text
-text_lines : AreFine → (lines : List (List ℕ)) (cs : List Cmd) → SpellAll lines cs → lines_of (text_of lines) ≡ lines
-text_lines fine [] [] s = refl
-text_lines fine (line ∷ lines) (c ∷ cs) s =
+text_lines : (lines : List (List ℕ)) (cs : List Cmd) → SpellAll lines cs → lines_of (text_of lines) ≡ lines
+text_lines [] [] s = refl
+text_lines (line ∷ lines) (c ∷ cs) s =
     ap lines_of (append_assoc line (10 ∷ []) (text_of lines))
-    ∙ lines_of-line line (text_of lines) (fine.plain line c s.0)
-    ∙ ap (λ (ls : List (List ℕ)). line ∷ ls) (text_lines fine lines cs s.1)
-text_lines fine [] (c ∷ cs) s = absurd s
-text_lines fine (line ∷ lines) [] s = absurd s
+    ∙ lines_of-line line (text_of lines) (spells_fine line c s.0).plain
+    ∙ ap (λ (ls : List (List ℕ)). line ∷ ls) (text_lines lines cs s.1)
+text_lines [] (c ∷ cs) s = absurd s
+text_lines (line ∷ lines) [] s = absurd s
 
-storm_has_lines : AreFine → (seed lines : ℕ) → lines_of (storm_text seed lines) ≡ storm_lines seed lines
-storm_has_lines fine seed lines =
-    let s = storm_spells seed lines in text_lines fine (storm_lines seed lines) s.0 s.1
+storm_has_lines : (seed lines : ℕ) → lines_of (storm_text seed lines) ≡ storm_lines seed lines
+storm_has_lines seed lines =
+    let s = storm_spells seed lines in text_lines (storm_lines seed lines) s.0 s.1
 
 -- how many they are
 drawn_length : (n x : ℕ) → length (drawn_lines n x) ≡ n
@@ -123,11 +125,11 @@ pub data StormEnds (lines : ℕ) (e : Exit) : Type 0 where
   at_end : e ≡ exit.Done → StormEnds lines e
   before_end : StopsStorm lines e → StormEnds lines e
 
-storm_ends : AreFine → (seed lines : ℕ) (e : Exit) (rest output : List ℕ)
+storm_ends : (seed lines : ℕ) (e : Exit) (rest output : List ℕ)
     → EndsSo e (storm_text seed lines) rest output → (e ≡ exit.ReadFault → Rose 0 0)
     → (e ≡ exit.WriteFault → Rose 0 0) → e ≢ exit.Usage → StormEnds lines e
-storm_ends fine seed lines e rest output ends read write usage =
-    let same = storm_has_lines fine seed lines in
+storm_ends seed lines e rest output ends read write usage =
+    let same = storm_has_lines seed lines in
     let s = storm_spells seed lines in
     let stands = stand_all (storm_lines seed lines) s.0 s.1 in
     let count = storm_length seed lines in
@@ -147,14 +149,14 @@ storm_ends fine seed lines e rest output ends read write usage =
 
 -- what a replay of a storm that ended so was
 abbrev pub storm_entry : List ℕ → Entry
-storm_entry text = record { left = Some text; written = None; reads = 0; writes = 0 }
+storm_entry text = entry_of (Some text) None 0 0
 
-pub storm_over : AreFine → (seed lines : ℕ) (text : List ℕ) → text ≡ storm_text seed lines → (e : Exit) (m : Machine)
-    (left written : Option (List ℕ)) (behind : ℕ) → HasEnded (storm_entry text) e m (untaken left 0) written 0 behind
+pub storm_over : (seed lines : ℕ) (text : List ℕ) → text ≡ storm_text seed lines → (e : Exit)
+    (left written : Option (List ℕ)) (behind : ℕ) → ReplayEnds (storm_entry text) e left written 0 0 behind
     → StormEnds lines e
-storm_over fine seed lines text is e m None written behind h = absurd h.lawful
-storm_over fine seed lines text is e m (Some rest) written behind h =
-    storm_ends fine seed lines e rest h.lawful.0
+storm_over seed lines text is e None written behind h = absurd h.lawful
+storm_over seed lines text is e (Some rest) written behind h =
+    storm_ends seed lines e rest h.lawful.0
     (subst (λ (t : List ℕ). EndsSo e t rest h.lawful.0) is h.lawful.2) h.read h.write h.runs
 
 -- so it stops for one of two causes, if it is not done
@@ -163,15 +165,15 @@ storm_stops (at_end is) other = absurd (other is)
 storm_stops (before_end so) other = so
 
 -- commands of the language are no weak ones
-no_weak : HasZones → (line : List ℕ) (c : Cmd) → Spells line c → IsNoWeakCmd c
-no_weak some line c s k e = subst FitsLanguage e (fits_language some line c s)
+no_weak : (line : List ℕ) (c : Cmd) → Spells line c → IsNoWeakCmd c
+no_weak line c s k e = subst FitsLanguage e (fits_language line c s)
 
-all_plain : HasZones → (lines : List (List ℕ)) (cs : List Cmd) → SpellAll lines cs → All IsNoWeakCmd cs
-all_plain some [] [] s = All-nil IsNoWeakCmd
-all_plain some (line ∷ lines) (c ∷ cs) s =
-    All-cons IsNoWeakCmd c cs (no_weak some line c s.0) (all_plain some lines cs s.1)
-all_plain some [] (c ∷ cs) s = absurd s
-all_plain some (line ∷ lines) [] s = absurd s
+all_plain : (lines : List (List ℕ)) (cs : List Cmd) → SpellAll lines cs → All IsNoWeakCmd cs
+all_plain [] [] s = All-nil IsNoWeakCmd
+all_plain (line ∷ lines) (c ∷ cs) s =
+    All-cons IsNoWeakCmd c cs (no_weak line c s.0) (all_plain lines cs s.1)
+all_plain [] (c ∷ cs) s = absurd s
+all_plain (line ∷ lines) [] s = absurd s
 
 all_front : (P : Cmd → Type 0) (xs ys : List Cmd) → All P (xs ++ ys) → All P xs
 all_front P [] ys all = All-nil P
@@ -224,12 +226,12 @@ run_idle h c w (Some r) None runs e = absurd runs
 run_idle h c w (Some r) (Some k) runs e = absurd (cc e)
 
 -- the world that all lines lead to
-storm_left : HasZones → (seed lines : ℕ) (output : List ℕ) (w : World) (c : CollectorState) (flown : ℕ → Option Bits)
+storm_left : (seed lines : ℕ) (output : List ℕ) (w : World) (c : CollectorState) (flown : ℕ → Option Bits)
     → LeadsTo (storm_lines seed lines) output w → Represents c flown w → IsValid w → IsLeftByStorm seed lines c
-storm_left some seed lines output w c flown leads rep ok =
+storm_left seed lines output w c flown leads rep ok =
     let spelled = spell_all (storm_lines seed lines) leads.commands leads.stand in
     let of = storm_exact seed lines leads.commands spelled in
-    let plain = all_plain some (storm_lines seed lines) leads.commands spelled in
+    let plain = all_plain (storm_lines seed lines) leads.commands spelled in
     let tail : List Cmd = command.Finish ∷ command.Collect of.zones ∷ command.Colours ∷ [] in
     let run : Run first_world (with_zones of.between ++ tail) leads.answers w =
     subst (λ (cs : List Cmd). Run first_world cs leads.answers w) of.commands_are leads.run in
@@ -257,15 +259,14 @@ all_led input (Some xs) written n w h read =
     ∙ append-nil h.done) in
     (h.output, subst (λ (ls : List (List ℕ)). LeadsTo ls h.output w) all h.leads)
 
-pub storm_done : AreFine → HasZones → (seed lines : ℕ) (text : List ℕ) → text ≡ storm_text seed lines → (e : Exit)
-    (m : Machine) (left written : Option (List ℕ)) (behind : ℕ)
-    → HasEnded (storm_entry text) e m (untaken left 0) written 0 behind → e ≡ exit.Done
-    → IsLeftByStorm seed lines m.collector
-storm_done fine some seed lines text is e m left written behind h done =
+pub storm_done : (seed lines : ℕ) (text : List ℕ) → text ≡ storm_text seed lines → (e : Exit) (m : Machine) (i : Input)
+    (written : Option (List ℕ)) (writes behind : ℕ) → HasEnded (storm_entry text) e m i written writes behind
+    → e ≡ exit.Done → IsLeftByStorm seed lines m.collector
+storm_done seed lines text is e m i written writes behind h done =
     let end = h.ends_in done in
     let led = all_led text end.rest written m.answered end.here.world end.here.stands end.read in
-    let same : lines_of text ≡ storm_lines seed lines = ap lines_of is ∙ storm_has_lines fine seed lines in
-    storm_left some seed lines led.0 end.here.world m.collector end.flown
+    let same : lines_of text ≡ storm_lines seed lines = ap lines_of is ∙ storm_has_lines seed lines in
+    storm_left seed lines led.0 end.here.world m.collector end.flown
     (subst (λ (ls : List (List ℕ)). LeadsTo ls led.0 end.here.world) same led.1) end.here.represents end.here.valid
 
 -- names that are counted
@@ -338,19 +339,20 @@ module _ (seed lines : ℕ) (c : CollectorState) (h : IsLeftByStorm seed lines c
 
 -- what was written, by the exit
 module _ (seed lines : ℕ) (old new : Option (List ℕ)) where
-  pub storm_stopped : (x r : Exit) → StopsStorm lines x → (r ≡ x) ⊎ (r ≡ exit.WriteFault) → Appends old new []
+  pub storm_stopped : {f g behind : ℕ} (x r : Exit) → StopsStorm lines x → HandsOn x r f g behind → Appends old new []
       → Storms seed lines old new r
-  storm_stopped x r why (inr e) wrote = subst (Storms seed lines old new) (sym e) (inl wrote)
-  storm_stopped x r (inl memory) (inl e) wrote = subst (Storms seed lines old new) (sym (e ∙ memory)) wrote
-  storm_stopped x r (inr many) (inl e) wrote = subst (Storms seed lines old new) (sym (e ∙ many.0)) (many.1, wrote)
+  storm_stopped x r why (inr h) wrote = subst (Storms seed lines old new) (sym h.0) (inl wrote)
+  storm_stopped x r (inl memory) (inl h) wrote = subst (Storms seed lines old new) (sym (h.0 ∙ memory)) wrote
+  storm_stopped x r (inr many) (inl h) wrote =
+      subst (Storms seed lines old new) (sym (h.0 ∙ many.0)) (many.1, wrote)
 
-  pub storm_summed : (mid : Option (List ℕ)) (s : Summary) (r : Exit) → IsSummary seed lines s
-      → Appends old mid (summary_text s) → (r ≡ exit.Done) ⊎ (r ≡ exit.WriteFault) → Appends mid new []
+  pub storm_summed : {f g behind : ℕ} (mid : Option (List ℕ)) (s : Summary) (r : Exit) → IsSummary seed lines s
+      → Appends old mid (summary_text s) → HandsOn exit.Done r f g behind → Appends mid new []
       → Storms seed lines old new r
   storm_summed mid s r is wrote (inl e) kept =
-      subst (Storms seed lines old new) (sym e) (s, is, whole old mid new (summary_text s) wrote kept)
+      subst (Storms seed lines old new) (sym e.0) (s, is, whole old mid new (summary_text s) wrote kept)
   storm_summed mid s r is wrote (inr e) kept =
-      subst (Storms seed lines old new) (sym e)
+      subst (Storms seed lines old new) (sym e.0)
       (inr (
         s,
         is,
@@ -362,14 +364,19 @@ module _ (seed lines : ℕ) (old new : Option (List ℕ)) where
         ),
       ))
 
--- the counts of a sink's faults and of what it holds back, where all was written and then handed on, or not
-module _ (before mid now behind : ℕ) (r : Exit)
-    (cause : ((r ≡ exit.Done) × (now ≡ mid) × (behind ≡ 0)) ⊎ ((r ≡ exit.WriteFault) × Rose mid now)) where
-  pub summed_quiet : mid ≡ before → r ≡ exit.Done → now ≡ before
-  summed_quiet same done = elim cause [ inl h ↦ h.1 ∙ same | inr h ↦ absurd (cc (h.0, done)) ]
+-- the counts of a sink's faults, where all was written and then handed on, or not
+module _ (before mid now behind : ℕ) (x r : Exit) (other : x ≢ exit.WriteFault) (cause : HandsOn x r mid now behind)
+    (same : mid ≡ before) where
+  pub handed_quiet : r ≡ exit.Done → now ≡ before
+  handed_quiet done = elim cause [ inl h ↦ h.1 ∙ same | inr h ↦ absurd (cc (h.0, done)) ]
 
-  pub summed_rose : mid ≡ before → r ≡ exit.WriteFault → Rose before now
-  summed_rose same failed = elim cause [
-    | inl h ↦ absurd (cc (h.0, failed))
+  pub handed_rose : r ≡ exit.WriteFault → Rose before now
+  handed_rose failed = elim cause [
+    | inl h ↦ absurd (other (sym h.0 ∙ failed))
     | inr h ↦ subst (λ (n : ℕ). Rose n now) same h.1
   ]
+
+-- why a storm stops is no failed write
+pub stops_unwritten : (lines : ℕ) (x : Exit) → StopsStorm lines x → x ≢ exit.WriteFault
+stops_unwritten lines x (inl memory) k = cc (memory, k)
+stops_unwritten lines x (inr many) k = let t = many.0 in cc (t, k)

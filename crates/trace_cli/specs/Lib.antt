@@ -3,12 +3,12 @@ pub mod Lines
 pub mod CommandLine
 pub mod Headline
 pub mod Pending
-pub mod Turns
 pub mod Worlds
 pub mod Writing
 pub mod Starting
 pub mod Reaching
 pub mod Standing
+pub mod Pauses
 pub mod Answering
 pub mod Storms
 pub mod Statuses

@@ -1,13 +1,11 @@
 -- What the reading loop knows, as single facts.
-use Rattle.std.specs.Prelude.{◌≡◌, ◌≢◌, ◌<◌, ◌≤◌, ◌+◌, ◌^◌, ℕ, List, [], Option, Some, None, length}
+use Rattle.std.specs.Prelude.{◌≡◌, ◌≢◌, ◌<◌, ◌≤◌, ◌⊎◌, ◌+◌, ◌-◌, ◌*◌, ◌^◌, ℕ, List, [], Option, Some, None, length}
 use Rattle.std.specs.Io.KnownBytes.{Appends}
 use Rattle.gz_io.specs.Causes.{AppendsFront, Rose}
 use Rattle.gz_names.specs.declared.commands.Cmd.{Cmd}
 use Rattle.cell_bits.specs.declared.bits.Bits.{Bits}
-use Rattle.cell_bits.specs.declared.jobs.Job.{Job}
 use Rattle.colour_defs.specs.Laws.{IsValid}
 use Rattle.colour_defs.specs.World.{World, first_world}
-use Rattle.sweeping.specs.ArenasOut.{Ascend, flown_by, outs_of}
 use Rattle.command_source.specs.Giving.{GivesCommand}
 use Rattle.command_source.specs.Input.{Input, to_come}
 use Rattle.slice_driver.specs.Advances.{AreOut}
@@ -20,13 +18,11 @@ use Rattle.trace_lang.specs.Texts.{reply_text, line_of}
 use Rattle.trace_cli.specs.Headline.{Replays}
 use Rattle.trace_cli.specs.Pending.{reply_of}
 use Rattle.trace_cli.specs.Reaching.{Stands}
-use Rattle.trace_cli.specs.Starting.{IsAnswering, StartedAs}
+use Rattle.trace_cli.specs.Starting.{IsAnswering}
 use Rattle.trace_cli.specs.Writing.{WritesUnits}
 use Rattle.trace_cli.specs.declared.exit.Exit.{Exit}
 use Rattle.trace_cli.specs.declared.exit.Exit.TheVariants as exit
 use Rattle.trace_cli.specs.declared.machine.Machine.{Machine}
-use Rattle.trace_cli.specs.declared.machine.Stop.{Stop}
-use Rattle.trace_cli.specs.declared.machine.Stop.TheVariants as stop
 use Rattle.trace_cli.specs.declared.pending.Pending.{Pending}
 
 -- this number of cells and weak entries were made at most
@@ -38,9 +34,11 @@ pub record HasMadeAtMost (c : CollectorState) (n : ℕ) : Type 0 where
 pub data IsFirst (c : CollectorState) : Type 0 where
   first : IsValid first_world → Represents c none_flown first_world → HasMadeAtMost c 0 → IsFirst c
 
--- a collector that stands for some world, with these arenas and bits in flight, after this number of lines
-pub data IsReady (c : CollectorState) (outs : List (ℕ × ℕ)) (flown : ℕ → Option Bits) (n : ℕ) : Type 0 where
-  ready : IsSound c flown → AreOut c.heap.shape outs → HasMadeAtMost c n → n < 4294967295 → IsReady c outs flown n
+-- the loop before its first line, over such a collector
+pub record IsNew (m : Machine) : Type 0 where
+  pub collector : IsFirst m.collector
+  pub answered : m.answered ≡ 0
+  pub pending : m.pending ≡ None
 
 -- a collector that stands for some world, with these arenas and bits in flight
 pub record StandsWith (c : CollectorState) (outs : List (ℕ × ℕ)) (flown : ℕ → Option Bits) : Type 0 where
@@ -62,12 +60,6 @@ pub record MakesNone (old new : CollectorState) : Type 0 where
   pub made : new.heap.made ≡ old.heap.made
   pub entries : length new.heap.shape.weak.entries ≤ length old.heap.shape.weak.entries
 
--- a command was answered whole in each world that the collector stood for, or its units are left to be done
-pub data AnswersCommand (c : Cmd) (left : Option Pending) (old : CollectorState) (flown : ℕ → Option Bits) (n : ℕ)
-    (new : CollectorState) (outs : List (ℕ × ℕ)) (flying : ℕ → Option Bits) (p q : Option (List ℕ)) : Type 0 where
-  answers : StartedAs left c old flown new flying p q → AreOut new.heap.shape outs → IsSound new flying
-      → HasMadeAtMost new (n + 1) → AnswersCommand c left old flown n new outs flying p q
-
 -- the last line of an answer was written, or a prefix of it
 abbrev pub last_line : Pending → List ℕ
 last_line left = line_of (reply_text (reply_of left))
@@ -79,16 +71,15 @@ EndsLine m left n p q =
 abbrev pub BreaksLine : Pending → Option (List ℕ) → Option (List ℕ) → Type 0
 BreaksLine left p q = AppendsFront p q (last_line left)
 
--- what is still to come of a source from which nothing was taken
-abbrev pub untaken : Option (List ℕ) → ℕ → Input
-untaken left faults = record { held = []; left = left; faults = faults }
-
 -- the bytes and the counts of faults as a replay began
 pub record Entry : Type 0 where
   pub left : Option (List ℕ)
   pub written : Option (List ℕ)
   pub reads : ℕ
   pub writes : ℕ
+
+abbrev pub entry_of : Option (List ℕ) → Option (List ℕ) → ℕ → ℕ → Entry
+entry_of left written reads writes = record { left = left; written = written; reads = reads; writes = writes }
 
 -- between two lines: the collector stands for a valid world that the lines answered so far lead to, and the collection
 -- that runs there is within its bound on units
@@ -146,28 +137,31 @@ pub record EndsIn (e : Entry) (m : Machine) (written : Option (List ℕ)) : Type
   pub here : Between e rest written m.answered m.collector outs flown
   pub read : (xs : List ℕ) → rest ≡ Some xs → xs ≡ []
 
--- a replay ended so
-pub record HasEnded (e : Entry) (x : Exit) (m : Machine) (i : Input)
-    (written : Option (List ℕ)) (writes behind : ℕ) : Type 0 where
-  pub lawful : Replays e.left i.left e.written written x
-  pub quiet : x ≡ exit.Done → (i.faults ≡ e.reads) × (writes ≡ e.writes)
+-- a replay ended so, with these bytes left and written
+pub record ReplayEnds (e : Entry) (x : Exit) (left written : Option (List ℕ)) (reads writes behind : ℕ) : Type 0 where
+  pub lawful : Replays e.left left e.written written x
+  pub quiet : x ≡ exit.Done → (reads ≡ e.reads) × (writes ≡ e.writes)
   pub handed_on : x ≢ exit.WriteFault → behind ≡ 0
-  pub read : x ≡ exit.ReadFault → Rose e.reads i.faults
+  pub read : x ≡ exit.ReadFault → Rose e.reads reads
   pub write : x ≡ exit.WriteFault → Rose e.writes writes
   pub runs : x ≢ exit.Usage
   pub no_verdict : x ≢ exit.Unsound
+
+-- so the loop is over
+pub record HasEnded (e : Entry) (x : Exit) (m : Machine) (i : Input)
+    (written : Option (List ℕ)) (writes behind : ℕ) : Type 0 where
+  pub over : ReplayEnds e x i.left written i.faults writes behind
   pub ends_in : x ≡ exit.Done → EndsIn e m written
 
--- why the loop stopped, and where it stands then
-abbrev pub StopsSo : Stop → Entry → Machine → Input → Option (List ℕ) → ℕ → ℕ → Type 0
-StopsSo stop.LastIn e m i written writes behind = Standing e m i written writes [] none_flown
-StopsSo (stop.HandsOut jobs) e m i written writes behind =
-    Standing e m i written writes (outs_of jobs) (flown_by jobs) × Ascend (outs_of jobs)
-StopsSo (stop.Over x) e m i written writes behind = HasEnded e x m i written writes behind
+-- what is held back was handed on as a replay ends by an exit, or the sink failed
+abbrev pub HandsOn : Exit → Exit → ℕ → ℕ → ℕ → Type 0
+HandsOn x result old new behind =
+    ((result ≡ x) × (new ≡ old) × (behind ≡ 0)) ⊎ ((result ≡ exit.WriteFault) × Rose old new)
 
--- where the loop stands by what it leaves behind: why it is over, or the jobs to be swept, or none
-abbrev pub RanSo : Option Exit → Option (List Job) → Entry → Machine → Input → Option (List ℕ) → ℕ → ℕ → Type 0
-RanSo (Some x) handed e m i written writes behind = HasEnded e x m i written writes behind
-RanSo None (Some jobs) e m i written writes behind =
-    Standing e m i written writes (outs_of jobs) (flown_by jobs) × Ascend (outs_of jobs)
-RanSo None None e m i written writes behind = Standing e m i written writes [] none_flown
+-- a turn of the loop begins a line, or ends one: twice the lines to come, and one where none is begun, gets less
+abbrev pub unbegun : Option Pending → ℕ
+unbegun None = 1
+unbegun (Some left) = 0
+
+abbrev pub turns_left : Machine → ℕ
+turns_left m = 2 * (2 ^ 32 - m.answered) + unbegun m.pending

@@ -11,7 +11,7 @@ use crate::pending::Pending;
 use gz_io::Sink;
 use gz_names::{Refusal, Reply, ZoneSet};
 use heap_core::Steps;
-use slice_driver::{BeginFault, Collector, zones_made_law};
+use slice_driver::{BeginFault, Collector};
 use std::alloc::Global;
 use std::sync::ledger::Ledger;
 use sweeping::Sweeping;
@@ -34,7 +34,6 @@ pub fn gc<F: Sweeping, K: Sink, L: Ledger>(
     ensures size { MakesNone collector.old collector.new }
     ensures faults { CountsFaults (K.faults sink.old) (K.faults sink.new) result }
 {
-    zones_made_law();
     match collector.begin(alloc, zones, steps) {
         Ok(()) => write_last(sink, &Reply::GcBegun),
         Err(BeginFault::Running) => write_last(sink, &Reply::Refused(Refusal::Running)),
@@ -63,7 +62,6 @@ pub fn begin_collect<F: Sweeping, K: Sink, L: Ledger>(
     ensures size { MakesNone collector.old collector.new }
     ensures faults { CountsFaults (K.faults sink.old) (K.faults sink.new) result }
 {
-    zones_made_law();
     match collector.begin(alloc, zones, steps) {
         Ok(()) => {
             *pending = Some(Pending::Collect);

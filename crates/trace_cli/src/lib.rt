@@ -5,7 +5,7 @@
 // one is asked for; `storm` does the same with a generated trace and writes a summary; `check` reads a dump of colours.
 //
 //     reading    what the words ask for; a replay from its first line to its exit
-//     session    a replay as main's work beside helpers
+//     replaying  a replay as main's work beside helpers
 //     helpers    how many helpers sweep beside main
 //     lines      the reading loop: lines are started and gone on with, until something stands in the way
 //     answer     the reply to a line that comes at once
@@ -34,7 +34,7 @@
 //     line       finish                                                   set r0 0 -   ..
 //     units      unit unit unit | unit unit swept | unit unit | ..
 //     over       no arena       | the board       | no arena  | a board
-//     go         HandsOut         LastIn            HandsOut
+//     go         Sweep            BoardEmpty        Sweep
 //
 // All units are done by `Collector::advance`, a step at a time: many units that report nothing, or one that does. A
 // slice is as many units as it is allowed, however steps cut them.
@@ -60,7 +60,7 @@ mod lines;
 mod machine;
 mod pending;
 mod reading;
-mod session;
+mod replaying;
 mod storm;
 mod turns;
 

@@ -1,13 +1,13 @@
 // The replay of a generated trace, and its summary.
 ghost use Rattle.std.specs.Prelude.{◌≡◌, ◌≢◌, ◌<◌, None, IfErr, IfOk, Ok, length};
 ghost use Rattle.gz_io.specs.Causes.{Rose};
+ghost use Rattle.trace_cli.specs.Standing.{IsNew};
 ghost use Rattle.trace_cli.specs.Storms.{IsLeftByStorm, IsSummary, StopsStorm, Storms, summary_text};
 
 use crate::exit::Exit;
-use crate::helpers::Helpers;
 use crate::lines::end_so;
-use crate::reading::{finish_run, first_collector, first_run};
-use crate::session::Run;
+use crate::machine::Machine;
+use crate::reading::{Resources, answer_all};
 use cell_bits::NoFlight;
 use gz_io::{Failed, Gate, Sink, write_all};
 use gz_names::NoMemory;
@@ -18,7 +18,6 @@ use std::sync::Wait;
 use std::sync::ledger::{Blank, Ledger};
 use std::thread::Threads;
 use storm_source::StormSource;
-use trace_lang::{spelling_law, zones_law};
 
 // A sink that drops what is written.
 #[derive(Drop)]
@@ -75,57 +74,15 @@ fn summary_text(alloc: Global, summary: &Summary) -> Result<Vec<u8>, NoMemory>
     Ok(text)
 }
 
-// Replies to each line of a storm beside this number of helpers, and drops the answers. Its last collection is over
-// then, and no arena is out.
-fn run_storm<L: Ledger + Send, R: Threads + Wait + Sync, G: Gate + Sync>(
-    rt: &R,
-    alloc: Global,
-    seed: u32,
-    lines: u32,
-    helpers: Helpers,
-    gate: &G,
-    blank: Blank,
-) -> Result<Run, Exit>
-    requires name { blank.name ≡ L.name }
-    requires parts { blank.parts ≡ L.parts }
-    requires some { 0 < blank.parts }
-    ensures ok { IfOk result (λ run. IsLeftByStorm seed lines run.machine.collector) }
+// What a collector tells after a storm.
+fn summary_of(alloc: Global, seed: u32, lines: u32, collector: &Collector) -> Result<Summary, Exit>
+    requires { IsLeftByStorm seed lines collector.now }
+    ensures ok { IfOk result (IsSummary seed lines) }
     ensures err { IfErr result (StopsStorm lines) }
 {
-    spelling_law();
-    zones_law();
-    let Ok(collector) = first_collector(alloc) else {
+    let Ok(gray) = collector.gray_names(alloc, &mut NoFlight) else {
         return Err(Exit::NoMemory);
     };
-    let mut run = first_run(collector);
-    let mut source = StormSource::new(seed, lines);
-    let mut sink = NullSink;
-    match finish_run::<L, R, StormSource, NullSink, G>(
-        rt,
-        alloc,
-        helpers,
-        gate,
-        &mut run,
-        &mut source,
-        &mut sink,
-        blank,
-    ) {
-        Exit::Done => Ok(run),
-        exit => Err(exit),
-    }
-}
-
-// What a collector tells after a storm.
-fn summary_of(
-    alloc: Global,
-    seed: u32,
-    lines: u32,
-    collector: &Collector,
-) -> Result<Summary, NoMemory>
-    requires { IsLeftByStorm seed lines collector.now }
-    ensures { IfOk result (IsSummary seed lines) }
-{
-    let gray = collector.gray_names(alloc, &mut NoFlight)?;
     Ok(Summary {
         seed,
         lines,
@@ -135,53 +92,70 @@ fn summary_of(
     })
 }
 
-// The summary of a storm that runs beside this number of helpers.
-fn sum_up<L: Ledger + Send, R: Threads + Wait + Sync, G: Gate + Sync>(
-    rt: &R,
-    alloc: Global,
+// Replies to each line of a storm, drops the answers, and tells what is left: its last collection is over then, and no
+// arena is out.
+fn run_storm<L: Ledger + Send, R: Threads + Wait + Sync, G: Gate + Sync>(
+    resources: &Resources<'_, R, G>,
+    machine: &mut Machine,
     seed: u32,
     lines: u32,
-    helpers: Helpers,
-    gate: &G,
     blank: Blank,
 ) -> Result<Summary, Exit>
-    requires name { blank.name ≡ L.name }
-    requires parts { blank.parts ≡ L.parts }
-    requires some { 0 < blank.parts }
+    requires ledger { (blank.name ≡ L.name) × (blank.parts ≡ L.parts) × (0 < blank.parts) }
+    requires new { IsNew machine.old }
     ensures ok { IfOk result (IsSummary seed lines) }
     ensures err { IfErr result (StopsStorm lines) }
 {
-    let run = run_storm::<L, R, G>(rt, alloc, seed, lines, helpers, gate, blank)?;
-    match summary_of(alloc, seed, lines, &run.machine.collector) {
-        Ok(summary) => Ok(summary),
-        Err(_) => Err(Exit::NoMemory),
+    let mut source = StormSource::new(seed, lines);
+    let mut sink = NullSink;
+    match answer_all::<L, R, StormSource, NullSink, G>(
+        resources,
+        machine,
+        &mut source,
+        &mut sink,
+        blank,
+    ) {
+        Exit::Done => summary_of(resources.alloc, seed, lines, &machine.collector),
+        exit => Err(exit),
     }
 }
 
-/// Replays the trace of a storm beside this number of helpers, drops the answers, and writes its summary.
-pub fn answer_storm<L: Ledger + Send, R: Threads + Wait + Sync, K: Sink, G: Gate + Sync>(
-    rt: &R,
-    alloc: Global,
+// The summary of a storm that a new collector answers.
+fn sum_up<L: Ledger + Send, R: Threads + Wait + Sync, G: Gate + Sync>(
+    resources: &Resources<'_, R, G>,
     seed: u32,
     lines: u32,
-    helpers: Helpers,
-    gate: &G,
+    blank: Blank,
+) -> Result<Summary, Exit>
+    requires ledger { (blank.name ≡ L.name) × (blank.parts ≡ L.parts) × (0 < blank.parts) }
+    ensures ok { IfOk result (IsSummary seed lines) }
+    ensures err { IfErr result (StopsStorm lines) }
+{
+    let Ok(mut machine) = Machine::new(resources.alloc) else {
+        return Err(Exit::NoMemory);
+    };
+    run_storm::<L, R, G>(resources, &mut machine, seed, lines, blank)
+}
+
+/// Replays the trace of a storm, drops the answers, and writes its summary.
+pub fn answer_storm<L: Ledger + Send, R: Threads + Wait + Sync, K: Sink, G: Gate + Sync>(
+    resources: &Resources<'_, R, G>,
+    seed: u32,
+    lines: u32,
     sink: &mut K,
     blank: Blank,
 ) -> Exit
-    requires name { blank.name ≡ L.name }
-    requires parts { blank.parts ≡ L.parts }
-    requires some { 0 < blank.parts }
+    requires ledger { (blank.name ≡ L.name) × (blank.parts ≡ L.parts) × (0 < blank.parts) }
     ensures storm { Storms seed lines (K.written sink.old) (K.written sink.new) result }
     ensures quiet { result ≡ Exit.Done → K.faults sink.new ≡ K.faults sink.old }
     ensures handed_on { result ≢ Exit.WriteFault → K.behind sink.new ≡ 0 }
     ensures write { result ≡ Exit.WriteFault → Rose (K.faults sink.old) (K.faults sink.new) }
 {
-    let summary = match sum_up::<L, R, G>(rt, alloc, seed, lines, helpers, gate, blank) {
+    let summary = match sum_up::<L, R, G>(resources, seed, lines, blank) {
         Ok(summary) => summary,
         Err(exit) => return end_so(sink, exit),
     };
-    let Ok(text) = summary_text(alloc, &summary) else {
+    let Ok(text) = summary_text(resources.alloc, &summary) else {
         return end_so(sink, Exit::NoMemory);
     };
     match write_all(sink, text.as_slice()) {

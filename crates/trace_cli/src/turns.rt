@@ -11,10 +11,11 @@ ghost use Rattle.trace_cli.specs.Headline.{report_lines};
 ghost use Rattle.trace_cli.specs.Pending.{Allows, done_of, limit_of};
 ghost use Rattle.trace_cli.specs.Standing.{MakesNone, StandsWith};
 ghost use Rattle.trace_cli.specs.Worlds.{EachWorld};
-ghost use Rattle.trace_cli.specs.Turns.{IsLeftBy, bits_in, out_in};
+ghost use Rattle.trace_cli.specs.Pauses.{IsLeftBy, bits_in, outs_in};
 ghost use Rattle.trace_cli.specs.Writing.{BreaksInUnits, Goes, StopsInUnits};
 
 use crate::answer::AnswerFault;
+use crate::machine::Pause;
 use crate::pending::Pending;
 use arena_table::Jobs;
 use gz_io::{Sink, WriteFault};
@@ -26,30 +27,19 @@ use std::sync::ledger::Ledger;
 use sweeping::Sweeping;
 use trace_lang::write_report;
 
-/// What units ask of the loop.
-#[derive(Drop)]
-pub enum Turn {
-    /// To go on.
-    More,
-    /// To go on without a board: the last arena was taken in.
-    LastIn,
-    /// To have these arenas swept.
-    HandsOut(Jobs),
-}
-
-// What a step asks of the loop, by whether an arena was out before it.
-fn turn_after<F: Sweeping>(some_out: bool, flight: &F, handed: Option<Jobs>) -> Turn
+// Why the loop pauses after a step, by whether an arena was out before it.
+fn pause_after<F: Sweeping>(some_out: bool, flight: &F, handed: Option<Jobs>) -> Pause
     ensures bits { bits_in result (F.bits flight.now) ≡ flying_after handed (F.bits flight.now) }
-    ensures out { out_in result (F.left (F.origin flight.now)) ≡ outs_after handed (F.left (F.origin flight.now)) }
+    ensures out { outs_in result (F.left (F.origin flight.now)) ≡ outs_after handed (F.left (F.origin flight.now)) }
     ensures by { AscendHanded handed → IsLeftBy result (F.left (F.origin flight.now)) (F.bits flight.now) }
 {
     if let Some(jobs) = handed {
-        return Turn::HandsOut(jobs);
+        return Pause::Sweep(jobs);
     }
     if some_out && flight.is_empty() {
-        return Turn::LastIn;
+        return Pause::BoardEmpty;
     }
-    Turn::More
+    Pause::None
 }
 
 // Writes what a unit reports; the last one is followed by `done`.
@@ -98,20 +88,20 @@ fn answer_step<F: Sweeping, K: Sink, L: Ledger>(
     report: &mut Option<Report>,
     sink: &mut K,
     steps: &mut Steps<L>,
-) -> Result<Turn, AnswerFault>
+) -> Result<Pause, AnswerFault>
     requires flight { StandsWith collector.old (F.left (F.origin flight.old)) (F.bits flight.old) }
     requires running { IsSome collector.old.run }
     requires some { 0 < limit_of pending.old }
     requires few { done_of pending.old + units_left collector.old (F.bits flight.old) < 2 ^ 64 }
-    ensures ok { IfOk result (λ turn. Goes collector.old (F.bits flight.old) pending.old collector.new
-        (bits_in turn (F.bits flight.new)) pending.new (K.written sink.old) (K.written sink.new)) }
-    ensures some { IfOk result (λ turn. units_left collector.new (bits_in turn (F.bits flight.new))
+    ensures ok { IfOk result (λ pause. Goes collector.old (F.bits flight.old) pending.old collector.new
+        (bits_in pause (F.bits flight.new)) pending.new (K.written sink.old) (K.written sink.new)) }
+    ensures some { IfOk result (λ pause. units_left collector.new (bits_in pause (F.bits flight.new))
         < units_left collector.old (F.bits flight.old)) }
-    ensures flight { IfOk result (λ turn. StandsWith collector.new
-        (out_in turn (F.left (F.origin flight.new))) (bits_in turn (F.bits flight.new))) }
-    ensures by { IfOk result (λ turn. IsLeftBy turn (F.left (F.origin flight.new)) (F.bits flight.new)) }
+    ensures flight { IfOk result (λ pause. StandsWith collector.new
+        (outs_in pause (F.left (F.origin flight.new))) (bits_in pause (F.bits flight.new))) }
+    ensures by { IfOk result (λ pause. IsLeftBy pause (F.left (F.origin flight.new)) (F.bits flight.new)) }
     ensures home { F.home (F.origin flight.new) ≡ F.home (F.origin flight.old) }
-    ensures size { IfOk result (λ turn. MakesNone collector.old collector.new) }
+    ensures size { IfOk result (λ pause. MakesNone collector.old collector.new) }
     ensures memory { result ≡ Err AnswerFault.Memory → Appends (K.written sink.old) (K.written sink.new) [] }
     ensures write { result ≡ Err AnswerFault.Write → EachWorld collector.old (F.bits flight.old)
         (λ w. (n : ℕ) × Allows pending.old n × BreaksInUnits w n (K.written sink.old) (K.written sink.new)) }
@@ -123,13 +113,13 @@ fn answer_step<F: Sweeping, K: Sink, L: Ledger>(
     };
     pending.count(step.units);
     match write_step(sink, report, &step) {
-        Ok(()) => Ok(turn_after(some_out, flight, step.handed)),
+        Ok(()) => Ok(pause_after(some_out, flight, step.handed)),
         Err(_) => Err(AnswerFault::Write),
     }
 }
 
 /// Does units of the line that is being answered, and writes their reports, until it has all that it
-/// asks for (`More`), the last arena is taken in, or arenas are to be swept.
+/// asks for (`Pause::None`), the last arena is taken in, or arenas are to be swept.
 pub fn answer_units<F: Sweeping, K: Sink, L: Ledger>(
     alloc: Global,
     collector: &mut Collector,
@@ -137,17 +127,17 @@ pub fn answer_units<F: Sweeping, K: Sink, L: Ledger>(
     flight: &mut F,
     sink: &mut K,
     steps: &mut Steps<L>,
-) -> Result<Turn, AnswerFault>
+) -> Result<Pause, AnswerFault>
     requires flight { StandsWith collector.old (F.left (F.origin flight.old)) (F.bits flight.old) }
     requires few { done_of pending.old + units_left collector.old (F.bits flight.old) < 2 ^ 64 }
-    ensures ok { IfOk result (λ turn. Goes collector.old (F.bits flight.old) pending.old collector.new
-        (bits_in turn (F.bits flight.new)) pending.new (K.written sink.old) (K.written sink.new)) }
-    ensures over { result ≡ Ok Turn.More → 0 < limit_of pending.new → collector.new.run ≡ None }
-    ensures flight { IfOk result (λ turn. StandsWith collector.new
-        (out_in turn (F.left (F.origin flight.new))) (bits_in turn (F.bits flight.new))) }
-    ensures by { IfOk result (λ turn. IsLeftBy turn (F.left (F.origin flight.new)) (F.bits flight.new)) }
+    ensures ok { IfOk result (λ pause. Goes collector.old (F.bits flight.old) pending.old collector.new
+        (bits_in pause (F.bits flight.new)) pending.new (K.written sink.old) (K.written sink.new)) }
+    ensures over { result ≡ Ok Pause.None → 0 < limit_of pending.new → collector.new.run ≡ None }
+    ensures flight { IfOk result (λ pause. StandsWith collector.new
+        (outs_in pause (F.left (F.origin flight.new))) (bits_in pause (F.bits flight.new))) }
+    ensures by { IfOk result (λ pause. IsLeftBy pause (F.left (F.origin flight.new)) (F.bits flight.new)) }
     ensures home { F.home (F.origin flight.new) ≡ F.home (F.origin flight.old) }
-    ensures size { IfOk result (λ turn. MakesNone collector.old collector.new) }
+    ensures size { IfOk result (λ pause. MakesNone collector.old collector.new) }
     ensures memory { result ≡ Err AnswerFault.Memory → EachWorld collector.old (F.bits flight.old)
         (λ w. (n : ℕ) × Allows pending.old n × StopsInUnits w n (K.written sink.old) (K.written sink.new)) }
     ensures write { result ≡ Err AnswerFault.Write → EachWorld collector.old (F.bits flight.old)
@@ -157,11 +147,10 @@ pub fn answer_units<F: Sweeping, K: Sink, L: Ledger>(
     let mut report = None;
     while pending.limit() > 0 && collector.running() {
         match answer_step(alloc, collector, pending, flight, &mut report, sink, steps) {
-            Ok(Turn::More) => {}
-            Ok(Turn::LastIn) => return Ok(Turn::LastIn),
-            Ok(Turn::HandsOut(jobs)) => return Ok(Turn::HandsOut(jobs)),
+            Ok(Pause::None) => {}
+            Ok(pause) => return Ok(pause),
             Err(fault) => return Err(fault),
         }
     }
-    Ok(Turn::More)
+    Ok(Pause::None)
 }

@@ -48,11 +48,11 @@ returns-in-Err-NoZone-clause-answer g c =
     _ _ _
     (λ w answer refuses. inr refuses)
     (λ w r. no_zone c.args.collector.now (g.F.Flight.bits c.args._flight.now) w c.args.zones
-    c.zones_made_law.ensures r none.0 none.1) c.in-Err-NoZone.ensures.refused written)
+    r none.0 none.1) c.in-Err-NoZone.ensures.refused written)
     (λ written. refusal_breaks c.args.collector.now (g.F.Flight.bits c.args._flight.now) c.args.zones _ _ _ _
     (λ w answer refuses. inr refuses)
     (λ w r. no_zone c.args.collector.now (g.F.Flight.bits c.args._flight.now) w c.args.zones
-    c.zones_made_law.ensures r none.0 none.1) written))
+    r none.0 none.1) written))
 
 pub returns-in-Err-NoZone-clause-flight : goal.returns-in-Err-NoZone-clause-flight
 returns-in-Err-NoZone-clause-flight g c = stands_as c.args.collector.now c.begin.new.self
@@ -62,7 +62,7 @@ returns-in-Err-NoZone-clause-flight g c = stands_as c.args.collector.now c.begin
 pub returns-in-Err-NoMemory-clause-answer : goal.returns-in-Err-NoMemory-clause-answer
 returns-in-Err-NoMemory-clause-answer g c =
     start_wanted c.requires.none (begin_stops c.args.collector.now (g.F.Flight.bits c.args._flight.now) c.args.zones
-    (command.Collect c.args.zones) c.begin.result _ _ c.zones_made_law.ensures
+    (command.Collect c.args.zones) c.begin.result _ _
     (λ w idle made. collect_accepted w c.args.zones idle made) (λ w. inl refl) c.begin.ensures.running
     c.begin.ensures.no_zone
     (c.in-Err-NoMemory.is ∙ ap (λ (f : BeginFault). Err f) c.in-Err-NoMemory.field-0-is) (Appends-nil _))

@@ -1,16 +1,19 @@
 use Rattle.std.proofs.Common.{inl, inr, refl}
 use Rattle.dump_cli.specs.declared.reading.CheckEnd.TheVariants as end
+use Rattle.trace_cli.proofs.Closing.{handed_exit}
 use Rattle.trace_cli.proofs.Concluding.{checks, concluded, concludes_as, sound_checked, unsound_checked}
 use Rattle.trace_cli.proofs.Concluding.{verdict_concludes}
 use Rattle.trace_cli.proofs.dumps.check_dump.Goals as goal
 
 pub returns-in-Sound-clause-verdict : goal.returns-in-Sound-clause-verdict
 returns-in-Sound-clause-verdict g c = checks _ _ _ _ (λ input e. sound_checked input _ _ _ _
-    (c.in-Sound.ensures.verdict input e) c.end_so.ensures.kept c.end_so.ensures.exit)
+    (c.in-Sound.ensures.verdict input e) c.end_so.ensures.kept
+    (handed_exit c.end_so.ensures.cause))
 
 pub returns-in-Unsound-clause-verdict : goal.returns-in-Unsound-clause-verdict
 returns-in-Unsound-clause-verdict g c = checks _ _ _ _ (λ input e. unsound_checked input _ _ _ _
-    (c.in-Unsound.ensures.verdict input e) c.end_so-in-Unsound.ensures.kept c.end_so-in-Unsound.ensures.exit)
+    (c.in-Unsound.ensures.verdict input e) c.end_so-in-Unsound.ensures.kept
+    (handed_exit c.end_so-in-Unsound.ensures.cause))
 
 pub returns-in-Sound-clause-concludes : goal.returns-in-Sound-clause-concludes
 returns-in-Sound-clause-concludes g c = concluded _ _ _ _ _ _ (λ input e.

@@ -1,29 +1,41 @@
 use Rattle.std.proofs.Common.{refl, ap, ◌∙◌}
 use Rattle.trace_cli.proofs.Going.{stands_on}
+use Rattle.trace_cli.proofs.Handing.{paused}
 use Rattle.trace_cli.proofs.lines.go.Goals as goal
 
 pub loop-machine-init : goal.loop-machine-init
-loop-machine-init g c = (c.requires.standing, λ e s. s, refl, refl)
+loop-machine-init g c = record {
+  standing = c.requires.standing;
+  stands = λ e s. s;
+  home = refl;
+  lender = refl;
+}
 
-pub returns-in-Some-go_on-clause-stops : goal.returns-in-Some-go_on-clause-stops
-returns-in-Some-go_on-clause-stops g c = λ e s. c.in-Some-go_on.ensures.some e (c.loop-machine.invariant.1 e s)
+pub returns-in_default-go_on-clause-pauses : goal.returns-in_default-go_on-clause-pauses
+returns-in_default-go_on-clause-pauses g c = λ e s.
+    paused e _ _ _ _ _ _ _ c.go_on.result c.in_default-go_on.not-None
+    (c.go_on.ensures.pauses e (c.loop-machine.invariant.stands e s))
 
-pub loop-machine-preserved-in_default-go_on : goal.loop-machine-preserved-in_default-go_on
-loop-machine-preserved-in_default-go_on g c =
+pub loop-machine-preserved-in-None : goal.loop-machine-preserved-in-None
+loop-machine-preserved-in-None g c =
     let so = c.loop-machine.invariant in
-    let more = c.in_default-go_on.ensures in
-    (stands_on more.none so.0, λ e s. more.none e (so.1 e s), more.home ∙ so.2, so.3)
+    let more = c.in-None.ensures in record {
+      standing = stands_on more.pauses so.standing;
+      stands = λ e s. more.pauses e (so.stands e s);
+      home = more.home ∙ so.home;
+      lender = so.lender;
+    }
 
-pub returns-in-Some-start_line-clause-stops : goal.returns-in-Some-start_line-clause-stops
-returns-in-Some-start_line-clause-stops g c =
-    λ e s. c.in-Some-start_line.ensures.some e (c.loop-machine.invariant.1 e s)
+pub returns-in-Some-start_line-clause-pauses : goal.returns-in-Some-start_line-clause-pauses
+returns-in-Some-start_line-clause-pauses g c =
+    λ e s. c.in-Some-start_line.ensures.some e (c.loop-machine.invariant.stands e s)
 
 pub loop-machine-preserved : goal.loop-machine-preserved
 loop-machine-preserved g c =
     let so = c.loop-machine.invariant in
-    let more = c.in_default-start_line.ensures in (
-      stands_on more.none so.0,
-      λ e s. more.none e (so.1 e s),
-      ap g.F.Sweeping.home c.start_line.ensures.origin ∙ so.2,
-      c.start_line.ensures.lender ∙ so.3,
-    )
+    let more = c.in_default-start_line.ensures in record {
+      standing = stands_on more.none so.standing;
+      stands = λ e s. more.none e (so.stands e s);
+      home = ap g.F.Sweeping.home c.start_line.ensures.origin ∙ so.home;
+      lender = c.start_line.ensures.lender ∙ so.lender;
+    }

@@ -155,7 +155,7 @@ returns-in-Err-Usage-clause-plain g c = λ p e. not_plain _ p.0
 
 pub returns-in-Err-NoMemory-clause-lawful : goal.returns-in-Err-NoMemory-clause-lawful
 returns-in-Err-NoMemory-clause-lawful g c = λ check storm. memory_ends (g.S.Source.left c.args.source.now)
-    (g.K.Sink.written c.args.sink.now)
+    (g.K.Sink.written c.args.sink.now) (g.K.Sink.written c.args.sink.now) (Appends-nil _)
 
 pub returns-in-Err-NoMemory-clause-verdict : goal.returns-in-Err-NoMemory-clause-verdict
 returns-in-Err-NoMemory-clause-verdict g c =

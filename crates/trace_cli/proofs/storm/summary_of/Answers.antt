@@ -14,8 +14,8 @@ gray_names-requires c = record { sound = storm_sound c.args.seed c.args.lines c.
 pub present-requires : goal.present-requires
 present-requires c = (none_flown, storm_sound c.args.seed c.args.lines c.args.collector.now c.requires)
 
-pub returns : goal.returns
-returns c =
+pub returns-clause-ok : goal.returns-clause-ok
+returns-clause-ok c =
     let seed = c.args.seed in
     let lines = c.args.lines in
     let left = c.args.collector.now in
@@ -28,5 +28,5 @@ returns c =
       cells_are = c.objects.ensures ∙ storm_cells seed lines left c.requires;
       kept_are = subst (Counts (IsKept graph)) (sym c.present.ensures) (storm_kept seed lines left c.requires);
       gray_are = subst (λ (names : List Name). Counts (IsGray graph) (length names)) (sym c.as_slice.ensures)
-          (storm_gray seed lines left c.requires c.in_ok-gray.gray c.in_ok-gray.ensures.names);
+          (storm_gray seed lines left c.requires c.in-Ok.gray c.in-Ok.ensures.names);
     }

@@ -17,24 +17,24 @@ returns-in-Ok-write_step-clause-ok g c =
     c.in-Ok-write_step.ensures.ok in
     goes_as c.args.pending.now _ c.count.new.self c.args.collector.now c.advance.new.self
     (g.F.Flight.bits c.args.flight.now) _ _ (g.K.Sink.written c.args.sink.now)
-    (g.K.Sink.written c.write_step.new.sink) c.turn_after.ensures.bits c.count.ensures goes
+    (g.K.Sink.written c.write_step.new.sink) c.pause_after.ensures.bits c.count.ensures goes
 
 pub returns-in-Ok-write_step-clause-some : goal.returns-in-Ok-write_step-clause-some
 returns-in-Ok-write_step-clause-some g c =
     subst (λ (h : ℕ → Option Bits). units_left c.advance.new.self h
-    < units_left c.args.collector.now (g.F.Flight.bits c.args.flight.now)) (sym c.turn_after.ensures.bits)
+    < units_left c.args.collector.now (g.F.Flight.bits c.args.flight.now)) (sym c.pause_after.ensures.bits)
     (omega (arith, c.in-Ok.ensures.done.less, c.in-Ok.ensures.done.some))
 
 pub returns-in-Ok-write_step-clause-flight : goal.returns-in-Ok-write_step-clause-flight
 returns-in-Ok-write_step-clause-flight g c = record {
-  sound = subst (λ (h : ℕ → Option Bits). IsSound c.advance.new.self h) (sym c.turn_after.ensures.bits)
+  sound = subst (λ (h : ℕ → Option Bits). IsSound c.advance.new.self h) (sym c.pause_after.ensures.bits)
       c.in-Ok.ensures.done.sound;
-  out = subst (λ (o : List (ℕ × ℕ)). AreOut c.advance.new.self.heap.shape o) (sym c.turn_after.ensures.out)
+  out = subst (λ (o : List (ℕ × ℕ)). AreOut c.advance.new.self.heap.shape o) (sym c.pause_after.ensures.out)
       c.in-Ok.ensures.done.out;
 }
 
 pub returns-in-Ok-write_step-clause-by : goal.returns-in-Ok-write_step-clause-by
-returns-in-Ok-write_step-clause-by g c = c.turn_after.ensures.by c.in-Ok.ensures.done.ascending
+returns-in-Ok-write_step-clause-by g c = c.pause_after.ensures.by c.in-Ok.ensures.done.ascending
 
 pub returns-in-Err-clause-write : goal.returns-in-Err-clause-write
 returns-in-Err-clause-write g c = λ e. step_fronts c.limit.result c.args.pending.now c.args.collector.now

@@ -1,5 +1,5 @@
 use Rattle.std.proofs.Common.{◌≡◌, length}
-use Rattle.trace_cli.proofs.session.drain.Given as goal
+use Rattle.trace_cli.proofs.replaying.drain.Given as goal
 
 abbrev pub invariant-loop-flight : goal.invariant-loop-flight
 invariant-loop-flight g l =

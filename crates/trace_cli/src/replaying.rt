@@ -1,0 +1,64 @@
+// A replay, as main's work beside helpers.
+ghost use Rattle.std.specs.Prelude.{◌≡◌, []};
+ghost use Rattle.slice_driver.specs.Units.{none_flown};
+ghost use Rattle.trace_cli.specs.Pauses.{PausesSo};
+ghost use Rattle.trace_cli.specs.Standing.{Entry, IsStanding, Standing};
+
+use crate::lines::go;
+use crate::machine::{Machine, Pause};
+use command_source::CommandSource;
+use gz_io::Sink;
+use heap_core::Steps;
+use std::alloc::Global;
+use std::sync::ledger::Ledger;
+use sweep_beside::Works;
+use sweeping::Sweeping;
+
+/// A replay between two stretches of it, with all that it is lent.
+#[derive(Drop)]
+pub struct Replaying<'m, 's, 'k, 't, 'p, S: CommandSource, K: Sink, L: Ledger> {
+    pub alloc: Global,
+    pub machine: &'m mut Machine,
+    pub source: &'s mut S,
+    pub sink: &'k mut K,
+    pub steps: &'t mut Steps<L>,
+    /// Why the last stretch ended.
+    pub pause: &'p mut Pause,
+}
+
+// Takes in the arenas that are still out.
+fn drain<F: Sweeping>(flight: &mut F)
+    ensures home { F.home (F.origin flight.new) ≡ F.home (F.origin flight.old) }
+    ensures none_left { F.left (F.origin flight.new) ≡ [] }
+{
+    while !flight.is_empty() {
+        flight.take_lowest();
+    }
+}
+
+impl<'m, 's, 'k, 't, 'p, S: CommandSource, K: Sink, L: Ledger> Works
+    for Replaying<'m, 's, 'k, 't, 'p, S, K, L> {
+    ghost ready = { λ r outs flown. IsStanding r.machine.now (S.input r.source.now) (K.written r.sink.now)
+        (K.faults r.sink.now) outs flown };
+
+    ghost ran = { λ r outs flown t. (t.machine.ghost_name ≡ r.machine.ghost_name)
+        × (t.source.ghost_name ≡ r.source.ghost_name) × (t.sink.ghost_name ≡ r.sink.ghost_name)
+        × (t.steps.ghost_name ≡ r.steps.ghost_name) × (t.pause.ghost_name ≡ r.pause.ghost_name)
+        × (S.lender t.source.now ≡ S.lender r.source.now)
+        × ((e : Entry) → Standing e r.machine.now (S.input r.source.now)
+        (K.written r.sink.now) (K.faults r.sink.now) outs flown
+        → PausesSo t.pause.now e t.machine.now (S.input t.source.now) (K.written t.sink.now) (K.faults t.sink.now)
+        (K.behind t.sink.now) [] none_flown) };
+
+    fn run<F: Sweeping>(&mut self, flight: &mut F) {
+        *self.pause = go(
+            self.alloc,
+            self.machine,
+            flight,
+            self.source,
+            self.sink,
+            self.steps,
+        );
+        drain(flight);
+    }
+}
