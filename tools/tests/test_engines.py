@@ -9,7 +9,8 @@ from pathlib import Path
 
 TOP = Path(__file__).resolve().parent.parent.parent
 COLLECTORS = TOP / "bench/collectors"
-FIGURE = r"\d+\.\d \(\d+\.\d to \d+\.\d\)"
+NUMBER = r"(?:\d+\.\d|\d+,\d+)"
+FIGURE = rf"{NUMBER} \({NUMBER} to {NUMBER}\)"
 
 
 def run(*words):
@@ -38,7 +39,7 @@ class TestEngines(unittest.TestCase):
     def test_unknown_heap(self):
         status, output, error = run(TOP / "bench/engines.py", "--only", "forest")
         self.assertEqual((status, output), (2, ""))
-        self.assertIn("no heap: forest; there are tree, ", error)
+        self.assertIn("'forest' is none of tree, ", error)
 
 
 if __name__ == "__main__":
