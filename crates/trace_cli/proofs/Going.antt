@@ -122,8 +122,8 @@ opened_amid {e} {m} {more} {i} {written} {writes} {outs} {flown} some (amid othe
 }
 
 -- an answer keeps a world valid
-keeps_valid : (w v : World) (c : Cmd) (reports : List Report) (answer : Reply) → IsValid w → Answers w c reports answer v
-    → IsValid v
+keeps_valid : (w v : World) (c : Cmd) (reports : List Report) (answer : Reply)
+    → IsValid w → Answers w c reports answer v → IsValid v
 keeps_valid w v c reports answer ok answers = answer_valid beginning w c reports answer v ok answers
 
 -- a line was started in a world that the lines so far lead to

@@ -2,7 +2,8 @@ use Rattle.std.proofs.Common.{refl, subst, sym, ◌∙◌}
 use Rattle.sweeping.specs.ArenasOut.{flown_by, outs_of}
 use Rattle.trace_cli.specs.Pauses.{Sweeps}
 use Rattle.trace_cli.proofs.Closing.{from_err, from_ok}
-use Rattle.trace_cli.proofs.Handing.{none_at_first, pause_ends, pause_over, pause_sweeps, some_ends, some_sweeps, unswept}
+use Rattle.trace_cli.proofs.Handing.{none_at_first, pause_ends, pause_over, pause_sweeps, some_ends, some_sweeps}
+use Rattle.trace_cli.proofs.Handing.{unswept}
 use Rattle.trace_cli.proofs.reading.run_on.Goals as goal
 
 pub loop-init : goal.loop-init
