@@ -5,6 +5,8 @@
 // objects and both wrappers. docs/EMBEDDING.md goes through the lines.
 #![tactic(auto)]
 
+ghost use Rattle.colour_defs.specs.Step.{HasFewFields};
+
 use gz_names::{CompNo, GraphCmd, GrayNo, Reg, Report, ZoneNo, ZoneSet};
 use slice_driver::Session;
 use std::process::ExitCode;
@@ -36,51 +38,63 @@ fn collect(rt: &HostRuntime, session: &mut Session<MainSweeper>, zones: ZoneSet)
     println!(rt; "collected").ok()
 }
 
-// Prints how many cells are gray, and how many lines a dump of the heap has.
-fn print_colours(rt: &HostRuntime, session: &mut Session<MainSweeper>) -> Option<()> {
-    let grays = session.gray_names().ok()??;
-    let lines = session.dump().ok()??;
-    println!(rt;
-        "gray: {}, lines of a dump: {}",
-        grays.as_slice().len(),
-        lines.len()
-    )
-    .ok()
+// How many cells are gray.
+fn count_grays(session: &mut Session<MainSweeper>) -> Option<usize> {
+    Some(session.gray_names().ok()??.as_slice().len())
 }
 
-// An object in each of two zones, each with a wrapper of the other; a gray slot holds the first.
-fn link(
-    session: &mut Session<MainSweeper>,
-    left: ZoneNo,
-    right: ZoneNo,
-    root: GrayNo,
-) -> Option<()> {
-    let (a, b, w) = (Reg::new(0)?, Reg::new(1)?, Reg::new(2)?);
-    session.command(GraphCmd::Zone).ok()?;
-    session.command(GraphCmd::Zone).ok()?;
-    session.command(GraphCmd::Comp(left)).ok()?;
-    session.command(GraphCmd::Comp(right)).ok()?;
-    session.command(GraphCmd::New(a, CompNo(0), 1)).ok()?;
-    session.command(GraphCmd::New(b, CompNo(1), 1)).ok()?;
-    session.command(GraphCmd::Wrap(w, b, CompNo(0))).ok()?;
-    session.command(GraphCmd::Set(a, 0, Some(w))).ok()?;
-    session.command(GraphCmd::Wrap(w, a, CompNo(1))).ok()?;
-    session.command(GraphCmd::Set(b, 0, Some(w))).ok()?;
-    session.command(GraphCmd::Hold(root, a)).ok()?;
-    session.command(GraphCmd::Drop(a)).ok()?;
-    session.command(GraphCmd::Drop(b)).ok()?;
-    session.command(GraphCmd::Drop(w)).ok()?;
+// How many lines a dump of the heap has.
+fn count_lines(session: &mut Session<MainSweeper>) -> Option<usize> {
+    Some(session.dump().ok()??.len())
+}
+
+// Prints how many cells are gray, and how many lines a dump of the heap has.
+fn print_colours(rt: &HostRuntime, session: &mut Session<MainSweeper>) -> Option<()> {
+    let grays = count_grays(session)?;
+    let lines = count_lines(session)?;
+    println!(rt; "gray: {grays}, lines of a dump: {lines}").ok()
+}
+
+// Gives a command that is not to be refused.
+fn give(session: &mut Session<MainSweeper>, cmd: GraphCmd) -> Option<()>
+    requires fields { HasFewFields cmd }
+{
+    session.command(cmd).ok()?;
     Some(())
+}
+
+// Makes two zones, and a compartment in each.
+fn make_zones(session: &mut Session<MainSweeper>, left: ZoneNo, right: ZoneNo) -> Option<()> {
+    give(session, GraphCmd::Zone)?;
+    give(session, GraphCmd::Zone)?;
+    give(session, GraphCmd::Comp(left))?;
+    give(session, GraphCmd::Comp(right))
+}
+
+// An object in each of two compartments, each with a wrapper of the other; a gray slot holds the first.
+fn link(session: &mut Session<MainSweeper>, root: GrayNo) -> Option<()> {
+    let (a, b, w) = (Reg::new(0)?, Reg::new(1)?, Reg::new(2)?);
+    give(session, GraphCmd::New(a, CompNo(0), 1))?;
+    give(session, GraphCmd::New(b, CompNo(1), 1))?;
+    give(session, GraphCmd::Wrap(w, b, CompNo(0)))?;
+    give(session, GraphCmd::Set(a, 0, Some(w)))?;
+    give(session, GraphCmd::Wrap(w, a, CompNo(1)))?;
+    give(session, GraphCmd::Set(b, 0, Some(w)))?;
+    give(session, GraphCmd::Hold(root, a))?;
+    give(session, GraphCmd::Drop(a))?;
+    give(session, GraphCmd::Drop(b))?;
+    give(session, GraphCmd::Drop(w))
 }
 
 // Links two objects, and collects their zones with a root and without.
 fn run(rt: &HostRuntime, session: &mut Session<MainSweeper>) -> Option<()> {
     let (left, right, root) = (ZoneNo::new(0)?, ZoneNo::new(1)?, GrayNo::new(0)?);
-    link(session, left, right, root)?;
+    make_zones(session, left, right)?;
+    link(session, root)?;
     let both = ZoneSet::only(left).union(ZoneSet::only(right));
     collect(rt, session, both)?;
     print_colours(rt, session)?;
-    session.command(GraphCmd::Release(root)).ok()?;
+    give(session, GraphCmd::Release(root))?;
     collect(rt, session, both)?;
     print_colours(rt, session)
 }
@@ -89,7 +103,9 @@ fn main(rt: HostRuntime) -> ExitCode {
     let Ok(mut session) = Session::new(rt.alloc()) else {
         return ExitCode::from(1);
     };
-    match run(&rt, &mut session) {
+    let done = run(&rt, &mut session);
+    drop(session);
+    match done {
         Some(()) => ExitCode::from(0),
         None => ExitCode::from(1),
     }
