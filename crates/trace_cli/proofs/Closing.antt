@@ -73,33 +73,41 @@ over_write e left q reads f g behind lawful le rose = record {
 }
 
 -- or by an exit, with which all that was held back is handed on
-module _ (e : Entry) (x r : Exit) (left q : Option (List ℕ)) (reads f g behind : ℕ)
-    (lawful : Replays e.left left e.written q x) (broken : Replays e.left left e.written q exit.WriteFault)
-    (le : e.writes ≤ f) where
-  over_by : HandsOn x r f g behind → (x ≡ exit.Done → (reads ≡ e.reads) × (f ≡ e.writes))
-      → (x ≡ exit.ReadFault → Rose e.reads reads) → x ≢ exit.WriteFault → x ≢ exit.Usage → x ≢ exit.Unsound
-      → ReplayEnds e r left q reads g behind
-  over_by (inl h) done read other usage verdict =
-      subst (λ (y : Exit). ReplayEnds e y left q reads g behind) (sym h.0) (record {
-        lawful = lawful;
-        quiet = λ k. (let d = done k in (d.0, h.1 ∙ d.1));
-        handed_on = λ k. h.2;
-        read = read;
-        write = λ k. absurd (other k);
-        runs = usage;
-        no_verdict = verdict;
-      })
-  over_by (inr h) done read other usage verdict =
-      subst (λ (y : Exit). ReplayEnds e y left q reads g behind) (sym h.0)
-      (over_write e left q reads f g behind broken le h.1)
+over_by : (e : Entry) (x r : Exit) (left q : Option (List ℕ)) (reads f g behind : ℕ)
+    → Replays e.left left e.written q x → Replays e.left left e.written q exit.WriteFault → e.writes ≤ f
+    → HandsOn x r f g behind → (x ≡ exit.Done → (reads ≡ e.reads) × (f ≡ e.writes))
+    → (x ≡ exit.ReadFault → Rose e.reads reads) → x ≢ exit.WriteFault → x ≢ exit.Usage → x ≢ exit.Unsound
+    → ReplayEnds e r left q reads g behind
+over_by e x r left q reads f g behind lawful broken le (inl h) done read other usage verdict =
+    subst (λ (y : Exit). ReplayEnds e y left q reads g behind) (sym h.0) (record {
+      lawful = lawful;
+      quiet = λ k. (let d = done k in (d.0, h.1 ∙ d.1));
+      handed_on = λ k. h.2;
+      read = read;
+      write = λ k. absurd (other k);
+      runs = usage;
+      no_verdict = verdict;
+    })
+over_by e x r left q reads f g behind lawful broken le (inr h) done read other usage verdict =
+    subst (λ (y : Exit). ReplayEnds e y left q reads g behind) (sym h.0)
+    (over_write e left q reads f g behind broken le h.1)
 
-  pub over_plain : IsNoEnd x → HandsOn x r f g behind → ReplayEnds e r left q reads g behind
-  over_plain none cause = over_by cause (λ k. absurd (none.done k)) (λ k. absurd (none.read k)) none.write none.usage
-      none.verdict
+over_plain : (e : Entry) (x r : Exit) (left q : Option (List ℕ)) (reads f g behind : ℕ)
+    → Replays e.left left e.written q x → Replays e.left left e.written q exit.WriteFault → e.writes ≤ f → IsNoEnd x
+    → HandsOn x r f g behind → ReplayEnds e r left q reads g behind
+over_plain e x r left q reads f g behind lawful broken le none cause =
+    over_by e x r left q reads f g behind lawful broken le cause (λ k. absurd (none.done k))
+    (λ k. absurd (none.read k)) none.write none.usage none.verdict
 
-  no_end_in : (m : Machine) → IsNoEnd x → HandsOn x r f g behind → r ≡ exit.Done → EndsIn e m q
-  no_end_in m none (inl h) k = absurd (none.done (sym h.0 ∙ k))
-  no_end_in m none (inr h) k = absurd (let t = h.0 in cc (t, k))
+no_end_in : {x r : Exit} {f g behind : ℕ} (e : Entry) (m : Machine) (q : Option (List ℕ)) → IsNoEnd x
+    → HandsOn x r f g behind → r ≡ exit.Done → EndsIn e m q
+no_end_in e m q none (inl h) k = absurd (none.done (sym h.0 ∙ k))
+no_end_in e m q none (inr h) k = absurd (let t = h.0 in cc (t, k))
+
+not_done : {r : Exit} {f g behind : ℕ} (e : Entry) (m : Machine) (q : Option (List ℕ))
+    → HandsOn exit.ReadFault r f g behind → r ≡ exit.Done → EndsIn e m q
+not_done e m q (inl h) k = absurd (let t = h.0 in cc (t, k))
+not_done e m q (inr h) k = absurd (let t = h.0 in cc (t, k))
 
 -- so the loop is over
 pub ended_write : (e : Entry) (m : Machine) (i : Input) (q : Option (List ℕ)) (f g behind : ℕ)
@@ -108,35 +116,33 @@ pub ended_write : (e : Entry) (m : Machine) (i : Input) (q : Option (List ℕ)) 
 ended_write e m i q f g behind lawful le rose =
     record { over = over_write e i.left q i.faults f g behind lawful le rose; ends_in = λ k. absurd (cc k) }
 
-module _ (e : Entry) (m : Machine) (r : Exit) (i : Input) (q : Option (List ℕ)) (f g behind : ℕ)
-    (broken : Replays e.left i.left e.written q exit.WriteFault) (le : e.writes ≤ f) where
-  pub ended_plain : (x : Exit) → Replays e.left i.left e.written q x → IsNoEnd x → HandsOn x r f g behind
-      → HasEnded e r m i q g behind
-  ended_plain x lawful none cause = record {
-    over = over_plain e x r i.left q i.faults f g behind lawful broken le none cause;
-    ends_in = no_end_in e x r i.left q i.faults f g behind lawful broken le m none cause;
-  }
+pub ended_plain : (e : Entry) (m : Machine) (r : Exit) (i : Input) (q : Option (List ℕ)) (f g behind : ℕ)
+    → Replays e.left i.left e.written q exit.WriteFault → e.writes ≤ f → (x : Exit)
+    → Replays e.left i.left e.written q x → IsNoEnd x → HandsOn x r f g behind → HasEnded e r m i q g behind
+ended_plain e m r i q f g behind broken le x lawful none cause = record {
+  over = over_plain e x r i.left q i.faults f g behind lawful broken le none cause;
+  ends_in = no_end_in e m q none cause;
+}
 
-  pub ended_read : Replays e.left i.left e.written q exit.ReadFault → Rose e.reads i.faults
-      → HandsOn exit.ReadFault r f g behind → HasEnded e r m i q g behind
-  ended_read lawful rose (inl h) = record {
-    over = over_by e exit.ReadFault r i.left q i.faults f g behind lawful broken le (inl h) (λ k. absurd (cc k))
-        (λ k. rose) (λ k. cc k) (λ k. cc k) (λ k. cc k);
-    ends_in = λ k. absurd (let t = h.0 in cc (t, k));
-  }
-  ended_read lawful rose (inr h) = record {
-    over = over_by e exit.ReadFault r i.left q i.faults f g behind lawful broken le (inr h) (λ k. absurd (cc k))
-        (λ k. rose) (λ k. cc k) (λ k. cc k) (λ k. cc k);
-    ends_in = λ k. absurd (let t = h.0 in cc (t, k));
-  }
+pub ended_read : (e : Entry) (m : Machine) (r : Exit) (i : Input) (q : Option (List ℕ)) (f g behind : ℕ)
+    → Replays e.left i.left e.written q exit.WriteFault → e.writes ≤ f
+    → Replays e.left i.left e.written q exit.ReadFault → Rose e.reads i.faults
+    → HandsOn exit.ReadFault r f g behind → HasEnded e r m i q g behind
+ended_read e m r i q f g behind broken le lawful rose cause = record {
+  over = over_by e exit.ReadFault r i.left q i.faults f g behind lawful broken le cause (λ k. absurd (cc k))
+      (λ k. rose) (λ k. cc k) (λ k. cc k) (λ k. cc k);
+  ends_in = not_done e m q cause;
+}
 
-  pub ended_done : Replays e.left i.left e.written q exit.Done → i.faults ≡ e.reads → f ≡ e.writes → EndsIn e m q
-      → HandsOn exit.Done r f g behind → HasEnded e r m i q g behind
-  ended_done lawful reads writes ends cause = record {
-    over = over_by e exit.Done r i.left q i.faults f g behind lawful broken le cause (λ k. (reads, writes))
-        (λ k. absurd (cc k)) (λ k. cc k) (λ k. cc k) (λ k. cc k);
-    ends_in = λ k. ends;
-  }
+pub ended_done : (e : Entry) (m : Machine) (r : Exit) (i : Input) (q : Option (List ℕ)) (f g behind : ℕ)
+    → Replays e.left i.left e.written q exit.WriteFault → e.writes ≤ f → Replays e.left i.left e.written q exit.Done
+    → i.faults ≡ e.reads → f ≡ e.writes → EndsIn e m q → HandsOn exit.Done r f g behind
+    → HasEnded e r m i q g behind
+ended_done e m r i q f g behind broken le lawful reads writes ends cause = record {
+  over = over_by e exit.Done r i.left q i.faults f g behind lawful broken le cause (λ k. (reads, writes))
+      (λ k. absurd (cc k)) (λ k. cc k) (λ k. cc k) (λ k. cc k);
+  ends_in = λ k. ends;
+}
 
 -- memory was wanted before anything was read
 pub over_at_once : (left p q : Option (List ℕ)) (reads f g behind : ℕ) (r : Exit) → Appends p q []

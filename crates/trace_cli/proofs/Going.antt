@@ -1,10 +1,9 @@
 -- From one standing to the next, and to the exits.
 use Rattle.std.proofs.Common.{◌≡◌, ◌≢◌, ℕ, ◌+◌, ◌^◌, ◌<◌, ◌≤◌, List, [], Option, Some, None, refl, sym, subst, ◌∙◌}
-use Rattle.std.proofs.Common.{arith}
+use Rattle.std.proofs.Common.{arith, ◌-◌, ◌*◌, is_some, true, false, inl, inr, ◌⊎◌}
 use Rattle.std.specs.Io.KnownBytes.{Appends}
-use Rattle.gz_io.specs.Causes.{AppendsFront}
-use Rattle.gz_io.specs.Lines.{GivesKnown}
-use Rattle.gz_io.specs.declared.reader.Next.TheVariants as next
+use Rattle.gz_io.specs.Causes.{AppendsFront, Rose}
+use Rattle.gz_io.specs.Lines.{GivesKnown, IsPlain}
 use Rattle.gz_names.specs.declared.commands.Cmd.{Cmd}
 use Rattle.gz_names.specs.declared.replies.Reply.{Reply}
 use Rattle.gz_names.specs.declared.replies.Report.{Report}
@@ -13,7 +12,7 @@ use Rattle.colour_defs.specs.Laws.{IsValid}
 use Rattle.colour_defs.specs.Lawful.{Answers, beginning}
 use Rattle.colour_defs.specs.World.{World, first_world}
 use Rattle.colour_defs.proofs.ValidRuns.{answer_valid}
-use Rattle.command_source.specs.Giving.{GivesCommand}
+use Rattle.command_source.specs.Giving.{GivesCommand, GivesBad}
 use Rattle.command_source.specs.Input.{Input, to_come}
 use Rattle.slice_driver.specs.Advances.{AreOut}
 use Rattle.slice_driver.specs.Collector.{CollectorState}
@@ -23,23 +22,33 @@ use Rattle.slice_driver.specs.UnitsToCome.{units_to_come}
 use Rattle.trace_cli.specs.declared.machine.Machine.{Machine}
 use Rattle.trace_cli.specs.declared.pending.Pending.{Pending}
 use Rattle.trace_cli.specs.Headline.{WritesFront, WritesStart}
-use Rattle.trace_cli.specs.Pending.{Allows, done_of}
+use Rattle.trace_cli.specs.Pending.{Allows, done_of, limit_of}
 use Rattle.trace_cli.specs.Reaching.{Stands}
 use Rattle.trace_cli.specs.Standing.{Amid, Between, EndsIn, Entry, HasMadeAtMost, HasRoomForOne, IsNew, IsStanding}
 use Rattle.trace_cli.specs.Standing.{MakesAtMostOne, MakesNone, Standing, StandsWith, amid, between, entry_of}
-use Rattle.trace_cli.specs.Standing.{last_line, somewhere}
+use Rattle.trace_cli.specs.Standing.{last_line, somewhere, HandsOn, HasEnded, turns_left, unbegun, BreaksLine, EndsLine}
 use Rattle.trace_cli.specs.Starting.{IsAnswering, StartedAs}
 use Rattle.trace_cli.specs.Worlds.{EachWorld}
 use Rattle.trace_cli.specs.Writing.{BreaksInUnits, Goes, StopsInUnits}
 use Rattle.trace_cli.proofs.ArenasOut.{out_none}
 use Rattle.trace_cli.proofs.Ending.{IsOver, answers_more, done_counted, line_breaks, line_fronts, line_stops}
 use Rattle.trace_cli.proofs.Ending.{line_writes}
-use Rattle.trace_cli.proofs.Stands.{opened_first, stands_first, stands_kept, stands_more}
+use Rattle.trace_cli.proofs.Stands.{opened_first, stands_first, stands_kept, stands_more, done_after, ends_write}
+use Rattle.trace_cli.proofs.Stands.{many_after, part_after, read_after, refused_after, refused_at_limit, refused_write}
+use Rattle.trace_cli.proofs.Stands.{start_front, start_kept, stop_after, write_after}
 use Rattle.trace_cli.proofs.UnitBound.{idle_within}
 use Rattle.trace_cli.proofs.Units.{more_breaks, more_stops, more_units, no_units}
+use Rattle.trace_cli.specs.declared.exit.Exit.{Exit}
+use Rattle.trace_cli.proofs.Closing.{bad_is_none, ended_done, ended_plain, ended_read, ended_write, limit_is_none}
+use Rattle.trace_cli.proofs.Closing.{memory_is_none}
+use Rattle.trace_cli.specs.declared.machine.Pause.{Pause}
+use Rattle.trace_cli.specs.Pauses.{IsLeftBy, PausesSo, bits_in, outs_in}
+use Rattle.gz_io.specs.declared.reader.Next.TheVariants as next
+use Rattle.trace_cli.specs.declared.exit.Exit.TheVariants as exit
+use Rattle.trace_cli.specs.declared.machine.Pause.TheVariants as pause
 
 -- every line was answered, where the source gave no byte more
-pub ends_here : (e : Entry) (m k : Machine) (b ys p q : Option (List ℕ)) (line : List ℕ) (outs : List (ℕ × ℕ))
+ends_here : (e : Entry) (m k : Machine) (b ys p q : Option (List ℕ)) (line : List ℕ) (outs : List (ℕ × ℕ))
     (flown : ℕ → Option Bits) → Between e b p m.answered m.collector outs flown → Appends p q []
     → GivesKnown b ys next.End line → k.collector ≡ m.collector → k.answered ≡ m.answered → EndsIn e k q
 ends_here e m k b ys p q line outs flown so kept given same count = record {
@@ -122,8 +131,8 @@ opened_amid {e} {m} {more} {i} {written} {writes} {outs} {flown} some (amid othe
 }
 
 -- an answer keeps a world valid
-keeps_valid : (w v : World) (c : Cmd) (reports : List Report) (answer : Reply)
-    → IsValid w → Answers w c reports answer v → IsValid v
+keeps_valid : (w v : World) (c : Cmd) (reports : List Report) (answer : Reply) → IsValid w
+    → Answers w c reports answer v → IsValid v
 keeps_valid w v c reports answer ok answers = answer_valid beginning w c reports answer v ok answers
 
 -- a line was started in a world that the lines so far lead to
@@ -137,7 +146,7 @@ module _ (e : Entry) (xs ys p q : Option (List ℕ)) (command : Cmd) (n : ℕ) (
   }
 
   -- it was answered whole
-  pub between_next : StartedAs None command c f d g p q → Between e ys q (n + 1) d others g
+  between_next : StartedAs None command c f d g p q → Between e ys q (n + 1) d others g
   between_next does =
       let writes = does so.world so.valid so.represents so.within in record {
         world = writes.after;
@@ -150,7 +159,7 @@ module _ (e : Entry) (xs ys p q : Option (List ℕ)) (command : Cmd) (n : ℕ) (
       }
 
   -- its units are to be done
-  pub amid_first : (left : Pending) → units_left d g < 2 ^ 64 → StartedAs (Some left) command c f d g p q
+  amid_first : (left : Pending) → units_left d g < 2 ^ 64 → StartedAs (Some left) command c f d g p q
       → Amid e ys q n d left others g
   amid_first left small does =
       let begins = does.0 so.world so.valid so.represents so.within in record {
@@ -174,23 +183,23 @@ module _ (e : Entry) (xs ys p q : Option (List ℕ)) (command : Cmd) (n : ℕ) (
 -- units of a line that is being answered
 module _ (e : Entry) (xs p q : Option (List ℕ)) (n : ℕ) (c d : CollectorState) (left now : Pending)
     (outs others : List (ℕ × ℕ)) (f g : ℕ → Option Bits) (a : Amid e xs p n c left outs f) where
-  pub amid_stands : StandsWith c outs f
+  amid_stands : StandsWith c outs f
   amid_stands = record {
     sound = record { world = a.units.after; valid = a.units.valid; represents = a.units.represents };
     out = a.out;
   }
 
-  pub amid_few : done_of left + units_left c f < 2 ^ 64
+  amid_few : done_of left + units_left c f < 2 ^ 64
   amid_few = omega (arith, a.few, done_counted a.world a.command left a.count a.begun a.most a.answering)
 
-  pub amid_breaks : EachWorld c f (λ w. (m : ℕ) × Allows left m × BreaksInUnits w m p q)
+  amid_breaks : EachWorld c f (λ w. (m : ℕ) × Allows left m × BreaksInUnits w m p q)
       → WritesFront a.world a.command a.before q
   amid_breaks breaks =
       let b = breaks a.units.after a.units.valid a.units.represents in
       line_breaks a.world a.command left a.count b.0 a.begun a.most a.before q a.answering b.1
       (more_breaks a.begun c f a.most a.count b.0 a.before p q a.units b.2)
 
-  pub amid_stops : EachWorld c f (λ w. (m : ℕ) × Allows left m × StopsInUnits w m p q)
+  amid_stops : EachWorld c f (λ w. (m : ℕ) × Allows left m × StopsInUnits w m p q)
       → WritesStart a.world a.command a.before q
   amid_stops stops =
       let b = stops a.units.after a.units.valid a.units.represents in
@@ -198,7 +207,7 @@ module _ (e : Entry) (xs p q : Option (List ℕ)) (n : ℕ) (c d : CollectorStat
       (more_stops a.begun c f a.most a.count b.0 a.before p q a.units b.2)
 
   -- its units go on
-  pub amid_more : Goes c f left d g now p q → MakesNone c d → AreOut d.heap.shape others
+  amid_more : Goes c f left d g now p q → MakesNone c d → AreOut d.heap.shape others
       → Amid e xs q n d now others g
   amid_more goes size out = record {
     world = a.world;
@@ -227,7 +236,7 @@ module _ (e : Entry) (xs p q : Option (List ℕ)) (n : ℕ) (c d : CollectorStat
 -- a line that had all its units
 module _ (e : Entry) (xs q r : Option (List ℕ)) (n : ℕ) (d : CollectorState) (left : Pending)
     (outs : List (ℕ × ℕ)) (g : ℕ → Option Bits) (a : Amid e xs q n d left outs g) (over : IsOver left d) where
-  pub amid_ends : Appends q r (last_line left) → Between e xs r (n + 1) d outs g
+  amid_ends : Appends q r (last_line left) → Between e xs r (n + 1) d outs g
   amid_ends written =
       let writes = line_writes a.world a.command left a.count a.begun a.most d g a.before q r a.answering a.units over
       written in record {
@@ -240,7 +249,7 @@ module _ (e : Entry) (xs q r : Option (List ℕ)) (n : ℕ) (d : CollectorState)
         out = a.out;
       }
 
-  pub amid_fronts : AppendsFront q r (last_line left) → WritesFront a.world a.command a.before r
+  amid_fronts : AppendsFront q r (last_line left) → WritesFront a.world a.command a.before r
   amid_fronts written =
       line_fronts a.world a.command left a.count a.begun a.most d g a.before q r a.answering a.units over written
 
@@ -327,3 +336,248 @@ new_stands m i written writes new held =
       made = subst (λ (n : ℕ). HasMadeAtMost m.collector n) (sym none) f.made;
       out = out_none m.collector.heap.shape;
     }) refl refl
+
+-- the answers could not be handed on
+pub unflushed : (e : Entry) (m k : Machine) (i : Input) (p q : Option (List ℕ)) (f g behind : ℕ) (outs : List (ℕ × ℕ))
+    (flown : ℕ → Option Bits) → AtStart e m i p f outs flown → Appends p q [] → Rose f g
+    → HasEnded e exit.WriteFault k i q g behind
+unflushed e m k i p q f g behind outs flown so kept rose = ended_write e k i q f g behind
+    (ends_write _ _ _ _ _ i.held m.answered so.here.world so.here.stands kept) (omega (arith, so.writes_are)) rose
+
+module _ (e : Entry) (m k : Machine) (i j : Input) (q r : Option (List ℕ)) (f g behind : ℕ) (outs : List (ℕ × ℕ))
+    (flown : ℕ → Option Bits) (so : AtStart e m i q f outs flown) (x : Exit) where
+  written_before : e.writes ≤ f
+  written_before = omega (arith, so.writes_are)
+
+  -- the source failed, or had no line more
+  pub at_fault : (line : List ℕ) → GivesKnown (to_come i) (to_come j) next.ReadFault line → IsPlain j.held
+      → Rose i.faults j.faults → Appends q r [] → HandsOn exit.ReadFault x f g behind → HasEnded e x k j r g behind
+  at_fault line given plain rose kept cause =
+      ended_read e k x j r f g behind
+      (write_after _ _ _ _ _ _ j.held line next.ReadFault m.answered so.here.world so.here.stands given kept)
+      written_before (read_after _ _ _ _ _ _ j.held line m.answered so.here.world so.here.stands given plain kept)
+      (subst (λ (n : ℕ). Rose n j.faults) so.reads_are rose) cause
+
+  pub at_end : (line : List ℕ) → GivesKnown (to_come i) (to_come j) next.End line → j.faults ≡ i.faults
+      → k.collector ≡ m.collector → k.answered ≡ m.answered → Appends q r [] → HandsOn exit.Done x f g behind
+      → HasEnded e x k j r g behind
+  at_end line given same collector answered kept cause =
+      ended_done e k x j r f g behind
+      (write_after _ _ _ _ _ _ j.held line next.End m.answered so.here.world so.here.stands given kept)
+      written_before
+      (done_after _ _ _ _ _ _ j.held line m.answered so.here.world so.here.stands given so.few kept)
+      (same ∙ so.reads_are) so.writes_are
+      (ends_here e m k _ _ _ _ _ _ _ so.here kept given collector answered) cause
+
+  -- the line is outside the language
+  pub at_refusal : (y : Exit) → GivesBad (to_come i) (to_come j)
+      → ((m.answered ≡ 4294967295) × (y ≡ exit.TooManyLines))
+      ⊎ ((m.answered < 4294967295) × (y ≡ exit.BadLine (m.answered + 1)))
+      → Appends q r [] → HandsOn y x f g behind → HasEnded e x k j r g behind
+  at_refusal y bad (inl h) kept cause =
+      ended_plain e k x j r f g behind
+      (refused_write _ _ _ _ _ _ j.held m.answered so.here.world so.here.stands bad kept) written_before
+      exit.TooManyLines
+      (refused_at_limit _ _ _ _ _ _ j.held m.answered so.here.world so.here.stands bad h.0 kept) limit_is_none
+      (subst (λ (z : Exit). HandsOn z x f g behind) h.1 cause)
+  at_refusal y bad (inr h) kept cause =
+      ended_plain e k x j r f g behind
+      (refused_write _ _ _ _ _ _ j.held m.answered so.here.world so.here.stands bad kept) written_before
+      (exit.BadLine (m.answered + 1))
+      (refused_after _ _ _ _ _ _ j.held m.answered so.here.world h.0 so.here.stands bad kept)
+      (bad_is_none (m.answered + 1)) (subst (λ (z : Exit). HandsOn z x f g behind) h.1 cause)
+
+  -- there is a command
+  module _ (command : Cmd) (given : GivesCommand (to_come i) (to_come j) command) where
+    -- one line too many
+    pub at_limit : m.answered ≡ 4294967295 → Appends q r [] → HandsOn exit.TooManyLines x f g behind
+        → HasEnded e x k j r g behind
+    at_limit most kept cause =
+        ended_plain e k x j r f g behind
+        (write_after _ _ _ _ _ _ j.held given.line (next.Line given.size) m.answered so.here.world so.here.stands
+        given.taken kept) written_before exit.TooManyLines
+        (many_after _ _ _ _ _ _ j.held given.line (next.Line given.size) m.answered so.here.world so.here.stands
+        given.taken (λ e. cc e) (λ e. cc e) most kept) limit_is_none cause
+
+    -- a prefix of its answer was written
+    pub at_break : EachWorld m.collector flown (λ w. WritesFront w command q r) → Rose f g
+        → HasEnded e exit.WriteFault k j r g behind
+    at_break fronts rose =
+        ended_write e k j r f g behind
+        (part_after _ _ _ _ _ _ j.held m.answered so.here.world command so.here.stands given
+        (fronts so.here.world so.here.valid so.here.represents)) written_before rose
+
+    -- it wanted memory
+    pub at_want : (p : Option (List ℕ)) (h : ℕ) → EachWorld m.collector flown (λ w. WritesStart w command q p)
+        → f ≤ h → Appends p r [] → HandsOn exit.NoMemory x h g behind → HasEnded e x k j r g behind
+    at_want p h starts later kept cause =
+        let start = start_kept so.here.world command _ _ _
+        (starts so.here.world so.here.valid so.here.represents) kept in
+        ended_plain e k x j r h g behind
+        (part_after _ _ _ _ _ _ j.held m.answered so.here.world command so.here.stands given
+        (start_front so.here.world command _ _ start)) (omega (arith, so.writes_are, later)) exit.NoMemory
+        (stop_after _ _ _ _ _ _ j.held m.answered so.here.world command so.here.stands given start)
+        memory_is_none cause
+
+-- a line of those that are counted
+below : {e : Entry} {m : Machine} {i : Input} {q : Option (List ℕ)} {f : ℕ} {outs : List (ℕ × ℕ)}
+    {flown : ℕ → Option Bits} → AtStart e m i q f outs flown → m.answered ≢ 4294967295 → m.answered < 4294967295
+below so other = let few = so.few in omega (arith, few, other)
+
+-- it was started: its units are left to be done
+pub line_begun : (e : Entry) (m : Machine) (i j : Input) (q r : Option (List ℕ)) (f g : ℕ) (outs others : List (ℕ × ℕ))
+    (flown flying : ℕ → Option Bits) (d : CollectorState) → AtStart e m i q f outs flown → m.answered ≢ 4294967295
+    → (command : Cmd) → GivesCommand (to_come i) (to_come j) command → StandsWith d others flying
+    → MakesAtMostOne m.collector d → j.faults ≡ i.faults → g ≡ f → (o : Option Pending)
+    → StartedAs o command m.collector flown d flying q r → is_some o ≡ true → units_left d flying < 2 ^ 64
+    → Standing e (record { collector = d; answered = m.answered; pending = o }) j r g others flying
+line_begun e m i j q r f g outs others flown flying d so other command given stands size reads writes None does some
+    small = absurd (cc some)
+line_begun e m i j q r f g outs others flown flying d so other command given stands size reads writes (Some left) does
+    some small =
+    amid left refl (below so other)
+    (amid_first e _ _ _ _ command m.answered m.collector d outs others flown flying so.here given stands size left
+    small does) (reads ∙ so.reads_are) (writes ∙ so.writes_are)
+
+-- or it was answered whole
+pub line_answered : (e : Entry) (m : Machine) (i j : Input) (q r : Option (List ℕ)) (f g : ℕ)
+    (outs others : List (ℕ × ℕ)) (flown flying : ℕ → Option Bits) (d : CollectorState) → AtStart e m i q f outs flown
+    → m.answered ≢ 4294967295 → (command : Cmd) → GivesCommand (to_come i) (to_come j) command
+    → StandsWith d others flying → MakesAtMostOne m.collector d → j.faults ≡ i.faults → g ≡ f → (o : Option Pending)
+    → StartedAs o command m.collector flown d flying q r → is_some o ≡ false
+    → Standing e (record { collector = d; answered = m.answered + 1; pending = o }) j r g others flying
+line_answered e m i j q r f g outs others flown flying d so other command given stands size reads writes None does
+    none =
+    between refl (let less = below so other in omega (arith, less))
+    (between_next e _ _ _ _ command m.answered m.collector d outs others flown flying so.here given stands size does)
+    (reads ∙ so.reads_are) (writes ∙ so.writes_are)
+line_answered e m i j q r f g outs others flown flying d so other command given stands size reads writes (Some left)
+    does none = absurd (cc none)
+
+-- a turn less is left
+pub turn_begun : (n : ℕ) (old new : Option Pending) → old ≡ None → is_some new ≡ true
+    → 2 * (2 ^ 32 - n) + unbegun new < 2 * (2 ^ 32 - n) + unbegun old
+turn_begun n None None none some = absurd (cc some)
+turn_begun n None (Some left) none some = omega arith
+turn_begun n (Some more) new none some = absurd (cc none)
+
+pub turn_whole : (n : ℕ) (old new : Option Pending) → old ≡ None → n ≤ 4294967295
+    → 2 * (2 ^ 32 - (n + 1)) + unbegun new < 2 * (2 ^ 32 - n) + unbegun old
+turn_whole n None None none most = omega (arith, most)
+turn_whole n None (Some left) none most = omega (arith, most)
+turn_whole n (Some more) new none most = absurd (cc none)
+
+turn_ended : (n : ℕ) (old : Option Pending) (left : Pending) → old ≡ Some left → n < 4294967295
+    → 2 * (2 ^ 32 - (n + 1)) + unbegun None < 2 * (2 ^ 32 - n) + unbegun old
+turn_ended n None left some few = absurd (cc some)
+turn_ended n (Some more) left some few = omega (arith, few)
+
+pub turn_over : (m k : Machine) (d : CollectorState) (left : Pending) → m.pending ≡ Some left → m.answered < 4294967295
+    → k ≡ record { collector = d; answered = m.answered + 1; pending = None } → turns_left k < turns_left m
+turn_over m k d left some few is = subst (λ (n : Machine). turns_left n < turns_left m) (sym is)
+    (turn_ended m.answered m.pending left some few)
+
+-- where units of a line could not be done, or their reports not be written
+module _ (e : Entry) (m k : Machine) (left : Pending) (i : Input) (p q : Option (List ℕ)) (f g behind : ℕ)
+    (outs : List (ℕ × ℕ)) (flown : ℕ → Option Bits) (so : AtAmid e m left i p f outs flown) where
+  pub amid_broken : EachWorld m.collector flown (λ w. (n : ℕ) × Allows left n × BreaksInUnits w n p q) → Rose f g
+      → HasEnded e exit.WriteFault k i q g behind
+  amid_broken breaks rose =
+      ended_write e k i q f g behind
+      (part_after _ _ _ _ _ _ i.held m.answered so.here.world so.here.command so.here.stands so.here.given
+      (amid_breaks e _ p q m.answered m.collector m.collector left left outs [] flown none_flown so.here breaks))
+      (omega (arith, so.writes_are)) rose
+
+  pub amid_wanting : (r : Option (List ℕ)) (h : ℕ) (x : Exit)
+      → EachWorld m.collector flown (λ w. (n : ℕ) × Allows left n × StopsInUnits w n p q) → f ≤ h → Appends q r []
+      → HandsOn exit.NoMemory x h g behind → HasEnded e x k i r g behind
+  amid_wanting r h x stops later kept cause =
+      let start = start_kept so.here.world so.here.command _ _ _
+      (amid_stops e _ p q m.answered m.collector m.collector left left outs [] flown none_flown so.here stops) kept in
+      ended_plain e k x i r h g behind
+      (part_after _ _ _ _ _ _ i.held m.answered so.here.world so.here.command so.here.stands so.here.given
+      (start_front so.here.world so.here.command _ _ start)) (omega (arith, so.writes_are, later)) exit.NoMemory
+      (stop_after _ _ _ _ _ _ i.held m.answered so.here.world so.here.command so.here.stands so.here.given start)
+      memory_is_none cause
+
+-- where its units went on
+amid_now : (e : Entry) (m : Machine) (left now : Pending) (i : Input) (p q : Option (List ℕ)) (f : ℕ)
+    (outs others : List (ℕ × ℕ)) (flown flying : ℕ → Option Bits) (d : CollectorState) (t : Pause)
+    (so : AtAmid e m left i p f outs flown) → Goes m.collector flown left d (bits_in t flying) now p q
+    → MakesNone m.collector d → StandsWith d (outs_in t others) (bits_in t flying)
+    → Amid e (to_come i) q m.answered d now (outs_in t others) (bits_in t flying)
+amid_now e m left now i p q f outs others flown flying d t so goes size stands =
+    amid_more e (to_come i) p q m.answered m.collector d left now outs (outs_in t others) flown (bits_in t flying)
+    so.here goes size stands.out
+
+stands_amid : (e : Entry) (m : Machine) (left now : Pending) (i : Input) (p q : Option (List ℕ)) (f g : ℕ)
+    (outs others : List (ℕ × ℕ)) (flown flying : ℕ → Option Bits) (d : CollectorState) (t : Pause)
+    (so : AtAmid e m left i p f outs flown) → Goes m.collector flown left d (bits_in t flying) now p q
+    → MakesNone m.collector d → StandsWith d (outs_in t others) (bits_in t flying) → g ≡ f
+    → Standing e (record { collector = d; answered = m.answered; pending = Some now }) i q g
+    (outs_in t others) (bits_in t flying)
+stands_amid e m left now i p q f g outs others flown flying d t so goes size stands writes =
+    amid now refl so.few (amid_now e m left now i p q f outs others flown flying d t so goes size stands)
+    so.reads_are (writes ∙ so.writes_are)
+
+-- the loop pauses amid the line
+pub amid_pauses : (e : Entry) (m : Machine) (left now : Pending) (i : Input) (p q : Option (List ℕ)) (f g behind : ℕ)
+    (outs others : List (ℕ × ℕ)) (flown flying : ℕ → Option Bits) (d : CollectorState) (t : Pause)
+    (so : AtAmid e m left i p f outs flown) → Goes m.collector flown left d (bits_in t flying) now p q
+    → MakesNone m.collector d → StandsWith d (outs_in t others) (bits_in t flying) → g ≡ f → IsLeftBy t others flying
+    → PausesSo t e (record { collector = d; answered = m.answered; pending = Some now }) i q g behind others flying
+amid_pauses e m left now i p q f g behind outs others flown flying d pause.None so goes size stands writes by =
+    stands_amid e m left now i p q f g outs others flown flying d pause.None so goes size stands writes
+amid_pauses e m left now i p q f g behind outs others flown flying d pause.BoardEmpty so goes size stands writes by =
+    no_flight by.0 by.1
+    (stands_amid e m left now i p q f g outs others flown flying d pause.BoardEmpty so goes size stands writes)
+amid_pauses e m left now i p q f g behind outs others flown flying d (pause.Sweep jobs) so goes size stands writes by =
+    record {
+      amid = refl;
+      stands =
+          stands_amid e m left now i p q f g outs others flown flying d (pause.Sweep jobs) so goes size stands writes;
+      ascend = by;
+    }
+amid_pauses e m left now i p q f g behind outs others flown flying d (pause.Over x) so goes size stands writes by =
+    absurd by
+
+-- the line had all its units, and its last line was written, or a prefix of it
+pub amid_over : (e : Entry) (m k : Machine) (left now : Pending) (i : Input) (p q r : Option (List ℕ)) (f g h : ℕ)
+    (outs others : List (ℕ × ℕ)) (flown flying : ℕ → Option Bits) (d : CollectorState) (t : Pause)
+    (so : AtAmid e m left i p f outs flown) → Goes m.collector flown left d (bits_in t flying) now p q
+    → MakesNone m.collector d → StandsWith d (outs_in t others) (bits_in t flying) → g ≡ f → t ≡ pause.None
+    → (0 < limit_of now → d.run ≡ None)
+    → EndsLine (record { collector = d; answered = m.answered; pending = m.pending }) now k q r → h ≡ g
+    → Standing e k i r h others flying
+amid_over e m k left now i p q r f g h outs others flown flying d pause.None so goes size stands writes none over ended
+    later =
+    subst (λ (n : Machine). Standing e n i r h others flying) (sym ended.0)
+    (between refl (let few = so.few in omega (arith, few))
+    (amid_ends e (to_come i) q r m.answered d now others flying
+    (amid_now e m left now i p q f outs others flown flying d pause.None so goes size stands) over ended.1)
+    so.reads_are (later ∙ writes ∙ so.writes_are))
+amid_over e m k left now i p q r f g h outs others flown flying d pause.BoardEmpty so goes size stands writes none over
+    ended later = absurd (cc none)
+amid_over e m k left now i p q r f g h outs others flown flying d (pause.Sweep jobs) so goes size stands writes none
+    over ended later = absurd (cc none)
+amid_over e m k left now i p q r f g h outs others flown flying d (pause.Over x) so goes size stands writes none over
+    ended later = absurd (cc none)
+
+pub amid_unended : (e : Entry) (m k : Machine) (left now : Pending) (i : Input) (p q r : Option (List ℕ))
+    (f g h behind : ℕ) (outs others : List (ℕ × ℕ)) (flown flying : ℕ → Option Bits) (d : CollectorState) (t : Pause)
+    (so : AtAmid e m left i p f outs flown) → Goes m.collector flown left d (bits_in t flying) now p q
+    → MakesNone m.collector d → StandsWith d (outs_in t others) (bits_in t flying) → g ≡ f → t ≡ pause.None
+    → (0 < limit_of now → d.run ≡ None) → BreaksLine now q r → Rose g h → HasEnded e exit.WriteFault k i r h behind
+amid_unended e m k left now i p q r f g h behind outs others flown flying d pause.None so goes size stands writes none
+    over broken rose =
+    let here = amid_now e m left now i p q f outs others flown flying d pause.None so goes size stands in
+    ended_write e k i r g h behind
+    (part_after _ _ _ _ _ _ i.held m.answered here.world here.command here.stands here.given
+    (amid_fronts e (to_come i) q r m.answered d now others flying here over broken))
+    (let same = so.writes_are in omega (arith, same, writes)) rose
+amid_unended e m k left now i p q r f g h behind outs others flown flying d pause.BoardEmpty so goes size stands writes
+    none over broken rose = absurd (cc none)
+amid_unended e m k left now i p q r f g h behind outs others flown flying d (pause.Sweep jobs) so goes size stands
+    writes none over broken rose = absurd (cc none)
+amid_unended e m k left now i p q r f g h behind outs others flown flying d (pause.Over x) so goes size stands writes
+    none over broken rose = absurd (cc none)

@@ -17,7 +17,7 @@ use Rattle.trace_cli.specs.declared.pending.Pending.{Pending}
 use Rattle.trace_cli.specs.Pauses.{PausesSo, Sweeps}
 use Rattle.trace_cli.specs.Standing.{Entry, HandsOn, HasEnded, IsStanding, Standing, amid, between, somewhere}
 use Rattle.trace_cli.proofs.Going.{opened_amid}
-use Rattle.trace_cli.proofs.LineGoes.{amid_wanting}
+use Rattle.trace_cli.proofs.Going.{amid_wanting}
 use Rattle.trace_cli.proofs.Units.{goes_stops, none_gone}
 
 -- where the loop pauses nothing is said of the arenas that it was over
@@ -60,26 +60,22 @@ module _ (e : Entry) (m : Machine) (i : Input) (written : Option (List ℕ)) (wr
       standing (inl is) = at_pause pause.None (sym same ∙ is)
       standing (inr is) = at_pause pause.BoardEmpty (sym same ∙ is)
 
--- the same from some standing at the start
-module _ (m k : Machine) (i j : Input) (written text : Option (List ℕ)) (writes fell behind : ℕ) (t : Pause)
-    (so : (e : Entry) → Standing e m i written writes [] none_flown
-    → PausesSo t e k j text fell behind [] none_flown) (begun : IsStanding m i written writes [] none_flown) where
-  pub some_ends : (jobs : List Job) (v : Pause) → v ≡ t → (v ≡ pause.None) ⊎ (v ≡ pause.BoardEmpty) → jobs ≡ []
-      → IsStanding k j text fell (outs_of jobs) (flown_by jobs)
-  some_ends jobs v same or none = at begun
-    where
-      at : IsStanding m i written writes [] none_flown → IsStanding k j text fell (outs_of jobs) (flown_by jobs)
-      at (somewhere e s) = somewhere e (pause_ends e k j text fell behind t (so e s) jobs v same or none)
+-- so it does from some standing at the start
+pub some_ends : (m k : Machine) (i j : Input) (written text : Option (List ℕ)) (writes fell behind : ℕ) (t : Pause)
+    → ((e : Entry) → Standing e m i written writes [] none_flown
+    → PausesSo t e k j text fell behind [] none_flown) → IsStanding m i written writes [] none_flown
+    → (jobs : List Job) (v : Pause) → v ≡ t → (v ≡ pause.None) ⊎ (v ≡ pause.BoardEmpty) → jobs ≡ []
+    → IsStanding k j text fell (outs_of jobs) (flown_by jobs)
+some_ends m k i j written text writes fell behind t so (somewhere e s) jobs v same or none =
+    somewhere e (pause_ends e k j text fell behind t (so e s) jobs v same or none)
 
-  pub some_sweeps : (jobs : List Job) → t ≡ pause.Sweep jobs
-      → IsStanding k j text fell (outs_of jobs) (flown_by jobs) × Ascend (outs_of jobs)
-  some_sweeps jobs is = at begun
-    where
-      at : IsStanding m i written writes [] none_flown
-          → IsStanding k j text fell (outs_of jobs) (flown_by jobs) × Ascend (outs_of jobs)
-      at (somewhere e s) =
-          let sweeps = pause_sweeps e k j text fell behind t (so e s) jobs is in
-          (somewhere e sweeps.stands, sweeps.ascend)
+pub some_sweeps : (m k : Machine) (i j : Input) (written text : Option (List ℕ)) (writes fell behind : ℕ) (t : Pause)
+    → ((e : Entry) → Standing e m i written writes [] none_flown
+    → PausesSo t e k j text fell behind [] none_flown) → IsStanding m i written writes [] none_flown
+    → (jobs : List Job) → t ≡ pause.Sweep jobs
+    → IsStanding k j text fell (outs_of jobs) (flown_by jobs) × Ascend (outs_of jobs)
+some_sweeps m k i j written text writes fell behind t so (somewhere e s) jobs is =
+    let sweeps = pause_sweeps e k j text fell behind t (so e s) jobs is in (somewhere e sweeps.stands, sweeps.ascend)
 
 none_left : (o : Option Pending) → o ≡ None → IsSome o → ⊥
 none_left None none some = cc some

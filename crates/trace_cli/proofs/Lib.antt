@@ -21,8 +21,6 @@ pub mod Started
 pub mod Ending
 pub mod Closing
 pub mod Going
-pub mod LineStarts
-pub mod LineGoes
 pub mod Handing
 pub mod Counted
 pub mod Storming

@@ -3,8 +3,8 @@ use Rattle.trace_cli.specs.declared.answer.AnswerFault.{AnswerFault}
 use Rattle.trace_cli.specs.declared.machine.Pause.{Pause}
 use Rattle.trace_cli.proofs.Closing.{from_err, from_ok}
 use Rattle.trace_cli.proofs.Going.{below_at, few_at, opened_amid, stands_at}
-use Rattle.trace_cli.proofs.LineGoes.{amid_broken, amid_over, amid_pauses, amid_unended, amid_wanting}
-use Rattle.trace_cli.proofs.LineStarts.{turn_over}
+use Rattle.trace_cli.proofs.Going.{amid_broken, amid_over, amid_pauses, amid_unended, amid_wanting}
+use Rattle.trace_cli.proofs.Going.{turn_over}
 use Rattle.trace_cli.proofs.lines.go_on.Goals as goal
 
 pub answer_units-requires-clause-flight : goal.answer_units-requires-clause-flight

@@ -4,8 +4,8 @@ use Rattle.command_source.specs.declared.source.NextCommand.TheVariants as given
 use Rattle.trace_cli.specs.declared.exit.Exit.TheVariants as exit
 use Rattle.trace_cli.proofs.Closing.{from_err, from_ok}
 use Rattle.trace_cli.proofs.Going.{most_at, opened_start, room_at, start_flushed, starts_at}
-use Rattle.trace_cli.proofs.LineStarts.{at_break, at_end, at_fault, at_limit, at_refusal, at_want, line_answered}
-use Rattle.trace_cli.proofs.LineStarts.{line_begun, turn_begun, turn_whole, unflushed}
+use Rattle.trace_cli.proofs.Going.{at_break, at_end, at_fault, at_limit, at_refusal, at_want, line_answered}
+use Rattle.trace_cli.proofs.Going.{line_begun, turn_begun, turn_whole, unflushed}
 use Rattle.trace_cli.proofs.Spelled.{fits_language}
 use Rattle.trace_cli.proofs.lines.start_line.Goals as goal
 
