@@ -18,6 +18,11 @@ def read_crates():
     return {name: libraries for name, libraries, _ in list_entries()}
 
 
+def is_static_library(crate):
+    """Whether the line of a crate makes it a static library."""
+    return any(line.split(":")[0].split()[:2] == [crate, "staticlib"] for _, _, line in list_entries())
+
+
 def crates_below(crate):
     """The crates of the repository that this one is made of, itself last, each after those that it uses."""
     libraries, found = read_crates(), []
