@@ -1,0 +1,232 @@
+-- What calls from C do with what a handle leads to, and what C gets: what the calls of `Session` promise, and that the
+-- lists beside the session stay.
+use Rattle.std.specs.Prelude.{◌≡◌, ◌↔◌, ◌⊎◌, ◌≤◌, ℕ, Bool, true, false, Option, None, Some, Result, Ok, Err}
+use Rattle.std.specs.Prelude.{List, IfOk, IfSome, IsSome, OnErr, OnOk, length}
+use Rattle.std.specs.declared.alloc.AllocError.{AllocError}
+use Rattle.gz_names.specs.Zones.{HasZone}
+use Rattle.gz_names.specs.declared.commands.GraphCmd.{GraphCmd}
+use Rattle.gz_names.specs.declared.dumps.DumpLine.{DumpLine}
+use Rattle.gz_names.specs.declared.names.Name.{Name}
+use Rattle.gz_names.specs.declared.names.Name.TheVariants as name
+use Rattle.gz_names.specs.declared.numbers.CompNo.{CompNo}
+use Rattle.gz_names.specs.declared.replies.Report.{Report}
+use Rattle.gz_names.specs.declared.replies.Report.TheVariants as report
+use Rattle.gz_names.specs.declared.replies.Reply.{Reply}
+use Rattle.gz_names.specs.declared.replies.Reply.TheVariants as reply
+use Rattle.colour_defs.specs.Step.{refusal_in}
+use Rattle.colour_defs.specs.World.{World, first_world}
+use Rattle.heap_core.specs.Effects.{takes_memory}
+use Rattle.sweeping.specs.ArenasOut.{flown_by, outs_of}
+use Rattle.slice_driver.specs.Begins.{AreMade}
+use Rattle.slice_driver.specs.Commands.{WantsMemory}
+use Rattle.slice_driver.specs.Represents.{Represents}
+use Rattle.slice_driver.specs.Sessions.{AreDumpLines, AreGrayNames, IsNowhereSettled, SessionSteps, outcome_of}
+use Rattle.slice_driver.specs.Units.{BeginsIn, BeginsWithin, DoesCommand, RaisesWithin}
+use Rattle.slice_driver.specs.Working.{IsAtGroupEnd, IsStill}
+use Rattle.slice_driver.specs.declared.advance.Step.{Step}
+use Rattle.slice_driver.specs.declared.begin.BeginFault.{BeginFault}
+use Rattle.slice_driver.specs.declared.begin.BeginFault.TheVariants as begin
+use Rattle.slice_driver.specs.declared.session.SessionFault.{SessionFault}
+use Rattle.slice_driver.specs.declared.session.SessionFault.TheVariants as session
+use Rattle.gczone_c.specs.Statuses.{begin_status, command_status, list_status, step_status}
+use Rattle.gczone_c.specs.declared.told.Answer.{Answer}
+use Rattle.gczone_c.specs.declared.told.StepDone.{StepDone}
+use Rattle.gczone_c.specs.declared.handle.Gcz.{Gcz}
+use Rattle.gczone_c.specs.declared.held.Held.{Held}
+
+-- a compartment by its number
+abbrev pub comp_no : ℕ → CompNo
+comp_no n = record { 0 = n }
+
+-- what a handle leads to goes over by a call; a closed handle stays closed, and the status says so
+abbrev pub GoesOver : Type 0 → (Held → Held → Type 0) → Option Held → Option Held → Type 0
+GoesOver Closed P None None = Closed
+GoesOver Closed P (Some old) (Some new) = P old new
+GoesOver Closed P None (Some new) = ⊥
+GoesOver Closed P (Some old) None = ⊥
+
+abbrev pub Goes : Type 0 → (Held → Held → Type 0) → Gcz → Gcz → Type 0
+Goes Closed P old new = GoesOver Closed P old.slot.held new.slot.held
+
+-- the handle is closed: that is the status, and nothing is written
+abbrev pub IsClosed : {T : Type 0} → ℕ → T → T → Type 0
+IsClosed status before after = (status ≡ 1) × (after ≡ before)
+
+-- a number is out of range: this status is returned, and nothing was done
+abbrev pub IsUndone : ℕ → ℕ → Gcz → Gcz → Type 0
+IsUndone fault status old new = (status ≡ fault) × (new.slot.held ≡ old.slot.held)
+
+-- likewise, and nothing is written
+abbrev pub IsRefused : ℕ → ℕ → Gcz → Gcz → Answer → Answer → Type 0
+IsRefused fault status old new before after = (status ≡ fault) × (new.slot.held ≡ old.slot.held) × (after ≡ before)
+
+-- a handle is opened: it leads to a session of the first world; or there is no memory, and it stays closed; or it was
+-- open, and leads to what it led to
+abbrev pub OpensOver : ℕ → Option Held → Option Held → Type 0
+OpensOver status None None = status ≡ 3
+OpensOver status None (Some new) = (status ≡ 0)
+    × Represents new.session.collector (flown_by new.session.sweeper) first_world
+    × (new.session.collector.run ≡ None) × (new.session.report ≡ None)
+OpensOver status (Some old) (Some new) = (status ≡ 2) × (new ≡ old)
+OpensOver status (Some old) None = ⊥
+
+abbrev pub Opens : ℕ → Gcz → Gcz → Type 0
+Opens status old new = OpensOver status old.slot.held new.slot.held
+
+-- the lists that were last asked for stay
+abbrev pub KeepsLists : Held → Held → Type 0
+KeepsLists old new = (new.grays ≡ old.grays) × (new.lines ≡ old.lines)
+
+-- no name
+abbrev pub no_name : Answer
+no_name = record { number = 0; kind = 0; compartment = 0 }
+
+-- a name, as C sees it
+abbrev pub name_told : Name → Answer
+name_told (name.Cell n) = record { number = n; kind = 1; compartment = 0 }
+name_told (name.Wrap c n) = record { number = n; kind = 2; compartment = c.0 }
+
+-- what C gets by a reply, where it had something else before
+abbrev pub answer_told : Reply → Answer → Answer
+answer_told (reply.Zone z) before = record { number = z; kind = 3; compartment = 0 }
+answer_told (reply.Comp c) before = record { number = c.0; kind = 4; compartment = 0 }
+answer_told (reply.Made n) before = record { number = n; kind = 1; compartment = 0 }
+answer_told (reply.Named x) before = name_told x
+answer_told reply.Null before = no_name
+answer_told reply.Accepted before = no_name
+answer_told reply.Absent before = before
+answer_told reply.GcBegun before = before
+answer_told (reply.Sliced n) before = before
+answer_told reply.Collected before = before
+answer_told reply.ResetDone before = before
+answer_told (reply.Gray xs) before = before
+answer_told (reply.Dump xs) before = before
+answer_told (reply.Compacted m n) before = before
+answer_told (reply.Refused r) before = before
+
+abbrev pub command_told : Result Reply SessionFault → Answer → Answer
+command_told (Ok r) before = answer_told r before
+command_told (Err why) before = before
+
+-- a session did a command with this result, and C gets it
+pub record CommandDone (cmd : GraphCmd) (before after : Answer) (status : ℕ) (old new : Held) : Type 0 where
+  pub result : Result Reply SessionFault
+  pub does : IfSome (outcome_of result) (λ outcome. DoesCommand old.session.collector (flown_by old.session.sweeper)
+      cmd outcome new.session.collector (flown_by new.session.sweeper))
+  pub to_come : IfSome (outcome_of result) (λ outcome. RaisesWithin old.session.collector
+      (flown_by old.session.sweeper) cmd outcome new.session.collector (flown_by new.session.sweeper))
+  pub answered : IfOk result (λ answer. refusal_in answer ≡ None)
+  pub refused : (why : _) → result ≡ Err (session.Refused why) → (new.session.collector ≡ old.session.collector)
+      × (flown_by new.session.sweeper ≡ flown_by old.session.sweeper)
+  pub wanted : result ≡ Err session.NoMemory → WantsMemory old.session.collector (flown_by old.session.sweeper) cmd
+      new.session.collector (flown_by new.session.sweeper)
+  pub sure : takes_memory cmd ≡ false → result ≡ Err session.NoMemory → ⊥
+  pub full : result ≡ Err session.Full → (new.session ≡ old.session)
+      × (4294967295 ≤ old.session.collector.heap.made)
+  pub run : new.session.collector.run ≡ old.session.collector.run
+  pub report : new.session.report ≡ old.session.report
+  pub lists : KeepsLists old new
+  pub status_is : status ≡ command_status result
+  pub answer_is : after ≡ command_told result before
+
+-- likewise where C gets no answer
+abbrev pub OrderDone : GraphCmd → ℕ → Held → Held → Type 0
+OrderDone cmd status old new = (after : Answer) × CommandDone cmd no_name after status old new
+
+-- the command of a call is done, if the handle is open
+abbrev pub Does : GraphCmd → ℕ → Gcz → Gcz → Answer → Answer → Type 0
+Does cmd status old new before after = Goes (IsClosed status before after) (CommandDone cmd before after status) old new
+
+abbrev pub DoesOrder : GraphCmd → ℕ → Gcz → Gcz → Type 0
+DoesOrder cmd status old new = Goes (status ≡ 1) (OrderDone cmd status) old new
+
+-- a session was asked to begin a collection of these zones, with this result
+pub record BeginDone (zones : ℕ) (status : ℕ) (old new : Held) : Type 0 where
+  pub result : Result Unit BeginFault
+  pub begun : OnOk result (BeginsIn old.session.collector zones new.session.collector)
+  pub within : OnOk result (BeginsWithin old.session.collector zones new.session.collector)
+  pub running : (result ≡ Err begin.Running) ↔ IsSome old.session.collector.run
+  pub no_zone : (result ≡ Err begin.NoZone) ↔ ((old.session.collector.run ≡ None)
+      × (((z : ℕ) → HasZone zones z → ⊥) ⊎ (AreMade old.session.collector.heap.shape (record { bits = zones }) → ⊥)))
+  pub refused : OnErr result (new.session.collector ≡ old.session.collector)
+  pub sweeper : new.session.sweeper ≡ old.session.sweeper
+  pub report : new.session.report ≡ old.session.report
+  pub lists : KeepsLists old new
+  pub status_is : status ≡ begin_status result
+
+-- the kind of a report: a session gives none of the others
+abbrev pub report_kind : Option Report → ℕ
+report_kind None = 0
+report_kind (Some report.Started) = 0
+report_kind (Some (report.Groups groups)) = 1
+report_kind (Some (report.Ended zones grays dead)) = 2
+report_kind (Some (report.Swept arena names)) = 3
+report_kind (Some report.Done) = 0
+report_kind (Some (report.Stopped zones)) = 0
+
+-- what C gets of a step: the kind of the report is that of the last one, where the step reports
+abbrev pub step_kind : Bool → Option Report → ℕ
+step_kind true report = report_kind report
+step_kind false report = 0
+
+abbrev pub step_told : {E : Type 0} → Result Step E → Option Report → StepDone → StepDone
+step_told (Ok step) report before =
+    record { units = step.units; report = step_kind step.reported report; finished = step.finished }
+step_told (Err why) report before = before
+
+-- a session was asked for a step of its collection, with this result, which C gets
+pub record AdvanceDone (limit : ℕ) (before after : StepDone) (status : ℕ) (old new : Held) : Type 0 where
+  pub result : Result Step AllocError
+  pub steps : IfOk result (λ step. SessionSteps limit old.session.collector (flown_by old.session.sweeper)
+      old.session.report step new.session.collector (flown_by new.session.sweeper) (outs_of new.session.sweeper)
+      new.session.report)
+  pub err : OnErr result (IsStill old.session.collector (flown_by old.session.sweeper) new.session.collector
+      (flown_by new.session.sweeper))
+  pub err_where : OnErr result (IsAtGroupEnd old.session.collector (flown_by old.session.sweeper))
+  pub err_report : OnErr result (new.session.report ≡ old.session.report)
+  pub lists : KeepsLists old new
+  pub status_is : status ≡ step_status result
+  pub told_is : after ≡ step_told result new.session.report before
+
+-- a list was asked for: what stays of the session
+pub record StaysListed (old new : Held) : Type 0 where
+  pub collector : new.session.collector ≡ old.session.collector
+  pub worlds : (w : World) → Represents old.session.collector (flown_by old.session.sweeper) w
+      → Represents new.session.collector (flown_by new.session.sweeper) w
+  pub report : new.session.report ≡ old.session.report
+
+abbrev pub count_told : {T E : Type 0} → Result (Option T) E → (T → ℕ) → ℕ → ℕ
+count_told (Ok (Some items)) count before = count items
+count_told (Ok None) count before = before
+count_told (Err why) count before = before
+
+abbrev pub list_kept : {T E : Type 0} → Result (Option T) E → T → T
+list_kept (Ok (Some items)) before = items
+list_kept (Ok None) before = before
+list_kept (Err why) before = before
+
+-- the gray names were asked for, with this result: they are listed, or the list is as it was
+pub record GraysListed (before count : ℕ) (status : ℕ) (old new : Held) : Type 0 where
+  pub result : Result (Option (List Name)) AllocError
+  pub names : IfOk result (λ names. IfSome names
+      (AreGrayNames old.session.collector (flown_by old.session.sweeper)))
+  pub marking : IfOk result (λ names. names ≡ None
+      → IsNowhereSettled old.session.collector (flown_by old.session.sweeper))
+  pub stays : StaysListed old new
+  pub list_is : new.grays ≡ list_kept result old.grays
+  pub lines : new.lines ≡ old.lines
+  pub status_is : status ≡ list_status result
+  pub count_is : count ≡ count_told result length before
+
+-- a dump was asked for, with this result: its lines are listed, or the list is as it was
+pub record LinesListed (before count : ℕ) (status : ℕ) (old new : Held) : Type 0 where
+  pub result : Result (Option (List DumpLine)) AllocError
+  pub dump : IfOk result (λ lines. IfSome lines
+      (AreDumpLines old.session.collector (flown_by old.session.sweeper)))
+  pub marking : IfOk result (λ lines. lines ≡ None
+      → IsNowhereSettled old.session.collector (flown_by old.session.sweeper))
+  pub stays : StaysListed old new
+  pub list_is : new.lines.items ≡ list_kept result old.lines.items
+  pub grays : new.grays ≡ old.grays
+  pub status_is : status ≡ list_status result
+  pub count_is : count ≡ count_told result length before

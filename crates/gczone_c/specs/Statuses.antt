@@ -1,0 +1,68 @@
+-- What a call returns: a number for each way in which it can end.
+use Rattle.std.specs.Prelude.{ℕ, Result, Ok, Err, Option, Some, None}
+use Rattle.gz_names.specs.declared.replies.Refusal.{Refusal}
+use Rattle.gz_names.specs.declared.replies.Refusal.TheVariants as why
+use Rattle.gz_names.specs.declared.replies.Reply.{Reply}
+use Rattle.gz_names.specs.declared.replies.Reply.TheVariants as reply
+use Rattle.slice_driver.specs.declared.begin.BeginFault.{BeginFault}
+use Rattle.slice_driver.specs.declared.begin.BeginFault.TheVariants as begin
+use Rattle.slice_driver.specs.declared.session.SessionFault.{SessionFault}
+use Rattle.slice_driver.specs.declared.session.SessionFault.TheVariants as session
+
+abbrev pub refusal_status : Refusal → ℕ
+refusal_status why.Full = 16
+refusal_status why.NoZone = 17
+refusal_status why.NoComp = 18
+refusal_status why.Empty = 19
+refusal_status why.Kind = 20
+refusal_status why.NoField = 21
+refusal_status why.Cross = 22
+refusal_status why.WrapperKey = 23
+refusal_status why.Running = 24
+refusal_status why.Idle = 25
+refusal_status why.Marking = 26
+
+-- a session gives none of the replies from `GcBegun` to `Compacted` to a command on the graph
+abbrev pub reply_status : Reply → ℕ
+reply_status (reply.Zone z) = 0
+reply_status (reply.Comp c) = 0
+reply_status (reply.Made n) = 0
+reply_status (reply.Named x) = 0
+reply_status reply.Null = 0
+reply_status reply.Accepted = 0
+reply_status reply.Absent = 5
+reply_status reply.GcBegun = 5
+reply_status (reply.Sliced n) = 5
+reply_status reply.Collected = 5
+reply_status reply.ResetDone = 5
+reply_status (reply.Gray xs) = 5
+reply_status (reply.Dump xs) = 5
+reply_status (reply.Compacted m n) = 5
+reply_status (reply.Refused r) = refusal_status r
+
+abbrev pub command_status : Result Reply SessionFault → ℕ
+command_status (Ok r) = reply_status r
+command_status (Err (session.Refused why)) = refusal_status why
+command_status (Err session.Full) = 4
+command_status (Err session.NoMemory) = 3
+
+abbrev pub begin_status : {T : Type 0} → Result T BeginFault → ℕ
+begin_status (Ok done) = 0
+begin_status (Err begin.Running) = 24
+begin_status (Err begin.NoZone) = 17
+begin_status (Err begin.NoMemory) = 3
+
+abbrev pub step_status : {T E : Type 0} → Result T E → ℕ
+step_status (Ok step) = 0
+step_status (Err why) = 3
+
+-- a list was asked for: there it is, or a zone is marking, or there is no memory
+abbrev pub list_status : {T E : Type 0} → Result (Option T) E → ℕ
+list_status (Ok (Some items)) = 0
+list_status (Ok None) = 26
+list_status (Err why) = 3
+
+-- whether there is what was asked for
+abbrev pub found_status : {T : Type 0} → Option T → ℕ
+found_status (Some x) = 0
+found_status None = 5

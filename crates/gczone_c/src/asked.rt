@@ -1,0 +1,57 @@
+// Numbers of C as those of a command, where they are in range.
+ghost use Rattle.std.specs.Prelude.{◌≡◌, ◌<◌, ◌≤◌, SomeIff};
+ghost use Rattle.gczone_c.specs.Calls.{comp_no};
+
+use gz_names::{CompNo, FIELD_LIMIT, GrayNo, Reg, ZoneNo};
+
+/// The register with this number, if there is one.
+pub fn register(number: u32) -> Option<Reg>
+    ensures { SomeIff result (number < 16) number }
+{
+    Reg::new(u8::try_from(number).ok()?)
+}
+
+/// The zone with this number, if there can be one.
+pub fn zone(number: u32) -> Option<ZoneNo>
+    ensures { SomeIff result (number < 64) number }
+{
+    ZoneNo::new(u8::try_from(number).ok()?)
+}
+
+/// The gray slot with this number, if there is one.
+pub fn slot(number: u32) -> Option<GrayNo>
+    ensures { SomeIff result (number < 64) number }
+{
+    GrayNo::new(u8::try_from(number).ok()?)
+}
+
+/// The compartment with this number, if there can be one.
+pub fn compartment(number: u32) -> Option<CompNo>
+    ensures { SomeIff result (number < 256) (comp_no number) }
+{
+    Some(CompNo(u8::try_from(number).ok()?))
+}
+
+/// The field with this number, if an object can have it.
+pub fn field(number: u32) -> Option<u8>
+    ensures { SomeIff result (number < 8) number }
+{
+    let index = u8::try_from(number).ok()?;
+    if index < FIELD_LIMIT {
+        Some(index)
+    } else {
+        None
+    }
+}
+
+/// A number of fields, if an object can have that many.
+pub fn field_count(number: u32) -> Option<u8>
+    ensures { SomeIff result (number ≤ 8) number }
+{
+    let count = u8::try_from(number).ok()?;
+    if count <= FIELD_LIMIT {
+        Some(count)
+    } else {
+        None
+    }
+}
