@@ -1,0 +1,184 @@
+/* gczone: a zone-by-zone incremental collector with black and gray, for C and C++.
+ *
+ * Nothing checks these points, and all that is promised of the library rests on them. A caller owes them:
+ *
+ *  1. Each pointer is aligned, not null, and leads to a live object of its type.
+ *  2. The pointers of one call lead to objects that do not overlap.
+ *  3. A gcz_t is GCZ_CLOSED_HANDLE, or as these functions left it. Nothing else writes it.
+ *  4. A gcz_t may be moved, and then the old one is not used: of several copies only one is used.
+ *  5. A handle is in one call at a time. It may go from thread to thread, if a lock, a join or a
+ *     sequentially consistent atomic orders the calls.
+ *  6. No call comes from a signal handler, or from the forked child of a process with threads.
+ *  7. malloc, realloc and free belong to one allocator, and a block is aligned as C asks.
+ *  8. The room of gcz_status_text has at least the size that is given.
+ *  9. The header and the library are of one interface: gcz_interface() == GCZ_INTERFACE.
+ * 10. A handle that is not closed in the end leaks what it holds, and nothing worse.
+ *
+ * All numbers are tested: one that is out of range has a status of its own, and nothing is done.
+ * docs/EMBEDDING.md tells what each call does.
+ */
+#ifndef GCZONE_H
+#define GCZONE_H
+
+#include <stdbool.h>
+#include <stddef.h>
+#include <stdint.h>
+
+#ifdef __cplusplus
+extern "C" {
+#endif
+
+#define GCZ_INTERFACE 1u
+
+#if defined(__GNUC__) || defined(__clang__)
+#define GCZ_CALL __attribute__((nonnull, warn_unused_result))
+#define GCZ_NONNULL __attribute__((nonnull))
+#else
+#define GCZ_CALL
+#define GCZ_NONNULL
+#endif
+
+/* A handle. All zero is a closed one: gcz_t heap = GCZ_CLOSED_HANDLE; */
+typedef struct gcz {
+    bool is_open;
+    struct {
+        uint8_t *at;
+    } slot;
+} gcz_t;
+#define GCZ_CLOSED_HANDLE {0, {0}}
+
+/* How a call ended. Numbers that are left out are kept for later interfaces. */
+enum gcz_status {
+    GCZ_DONE = 0,
+    GCZ_CLOSED = 1,           /* the handle is closed; nothing was done */
+    GCZ_OPEN = 2,             /* the handle is open already, and stays as it is */
+    GCZ_NO_MEMORY = 3,        /* malloc or realloc failed; the graph is as it was */
+    GCZ_HEAP_FULL = 4,        /* 4,294,967,295 cells were made; nothing was done */
+    GCZ_NONE = 5,             /* there is no such entry, name or report */
+    /* A number is out of range, and nothing was done. */
+    GCZ_BAD_REGISTER = 8,     /* above 15 */
+    GCZ_BAD_ZONE = 9,         /* above 63 */
+    GCZ_BAD_COMPARTMENT = 10, /* above 255 */
+    GCZ_BAD_SLOT = 11,        /* above 63 */
+    GCZ_BAD_FIELD = 12,       /* above 7 */
+    GCZ_BAD_FIELD_COUNT = 13, /* above 8 */
+    /* The command is refused, and nothing was done. */
+    GCZ_FULL = 16,            /* 64 zones, or 256 compartments, are there */
+    GCZ_NO_ZONE = 17,         /* a zone is not made, or no zone is given */
+    GCZ_NO_COMPARTMENT = 18,  /* the compartment is not made */
+    GCZ_EMPTY = 19,           /* a register that the command reads is empty */
+    GCZ_KIND = 20,            /* a cell is of another kind than the command wants */
+    GCZ_NO_FIELD = 21,        /* the object has no such field */
+    GCZ_CROSS = 22,           /* two cells are of different compartments */
+    GCZ_WRAPPER_KEY = 23,     /* the key is a wrapper */
+    GCZ_RUNNING = 24,         /* a collection runs */
+    GCZ_IDLE = 25,            /* no collection runs: no call of this interface returns it */
+    GCZ_MARKING = 26          /* a zone is marking, so colours are not settled */
+};
+
+/* What a name is of. */
+enum gcz_kind {
+    GCZ_NOTHING = 0,
+    GCZ_CELL = 1,
+    GCZ_WRAPPER = 2,
+    GCZ_ZONE = 3,
+    GCZ_COMPARTMENT = 4
+};
+
+/* What a command answers, or a name of a list. A cell, a zone or a compartment has its number; a wrapper has the
+ * number of its target, and the compartment that it stands in. A null is GCZ_NOTHING. */
+typedef struct gcz_name {
+    uint64_t number;
+    uint32_t kind;
+    uint32_t compartment;
+} gcz_name_t;
+
+/* What a step reports. */
+enum gcz_report_kind {
+    GCZ_NO_REPORT = 0,
+    GCZ_GROUPS = 1, /* the sweep groups are formed: sets of zones, in the order in which they end */
+    GCZ_ENDED = 2,  /* the marking of a group ended: its zones, and its gray names */
+    GCZ_SWEPT = 3   /* an arena was swept: its number, and the names of what was freed */
+};
+
+/* What a step did: how many units, the kind of its report, and whether the collection is over. */
+typedef struct gcz_step {
+    uint64_t units;
+    uint32_t report;
+    bool finished;
+} gcz_step_t;
+
+/* A report: its zones, a bit for each, and how many groups or names it lists. */
+typedef struct gcz_report {
+    uint64_t zones;
+    size_t count;
+    uint32_t kind;
+    uint32_t arena;
+} gcz_report_t;
+
+/* What a line of a dump is. */
+enum gcz_line_kind {
+    GCZ_LINE_END = 0,  /* the last one */
+    GCZ_LINE_CELL = 1, /* a cell that is there: its name, and whether it is black or gray */
+    GCZ_LINE_EDGE = 2, /* a field: the number of the object, and the name of what it holds */
+    GCZ_LINE_ENTRY = 3 /* an entry of a weak map: the number of the map, the name of the key, and the value */
+};
+
+typedef struct gcz_line {
+    uint64_t owner;
+    gcz_name_t name;
+    gcz_name_t value;
+    uint32_t kind;
+    bool black;
+} gcz_line_t;
+
+uint32_t gcz_interface(void);
+
+/* Writes a status in plain words, cut to the room, with a zero byte behind. Returns the length of the whole text. */
+GCZ_NONNULL size_t gcz_status_text(uint32_t status, uint8_t *room, size_t size);
+
+/* Opens a handle that is closed, with an empty heap. Closing one that is closed does nothing. */
+GCZ_CALL uint32_t gcz_open(gcz_t *gcz);
+GCZ_NONNULL void gcz_close(gcz_t *gcz);
+
+/* Commands, also between two steps of a collection. The first number is what the command writes. */
+GCZ_CALL uint32_t gcz_zone(gcz_t *gcz, gcz_name_t *answer);
+GCZ_CALL uint32_t gcz_comp(gcz_t *gcz, uint32_t zone, gcz_name_t *answer);
+GCZ_CALL uint32_t gcz_new(gcz_t *gcz, uint32_t reg, uint32_t comp, uint32_t fields, gcz_name_t *answer);
+GCZ_CALL uint32_t gcz_map(gcz_t *gcz, uint32_t reg, uint32_t comp, gcz_name_t *answer);
+GCZ_CALL uint32_t gcz_get(gcz_t *gcz, uint32_t reg, uint32_t from, uint32_t field, gcz_name_t *answer);
+GCZ_CALL uint32_t gcz_set(gcz_t *gcz, uint32_t reg, uint32_t field, uint32_t from);
+GCZ_CALL uint32_t gcz_clear(gcz_t *gcz, uint32_t reg, uint32_t field);
+GCZ_CALL uint32_t gcz_copy(gcz_t *gcz, uint32_t reg, uint32_t from);
+GCZ_CALL uint32_t gcz_drop(gcz_t *gcz, uint32_t reg);
+GCZ_CALL uint32_t gcz_wrap(gcz_t *gcz, uint32_t reg, uint32_t from, uint32_t comp, gcz_name_t *answer);
+GCZ_CALL uint32_t gcz_unwrap(gcz_t *gcz, uint32_t reg, uint32_t from, gcz_name_t *answer);
+GCZ_CALL uint32_t gcz_hold(gcz_t *gcz, uint32_t slot, uint32_t reg);
+GCZ_CALL uint32_t gcz_release(gcz_t *gcz, uint32_t slot);
+GCZ_CALL uint32_t gcz_expose(gcz_t *gcz, uint32_t reg, uint32_t slot, gcz_name_t *answer);
+GCZ_CALL uint32_t gcz_put(gcz_t *gcz, uint32_t map, uint32_t key, uint32_t value);
+GCZ_CALL uint32_t gcz_del(gcz_t *gcz, uint32_t map, uint32_t key);
+GCZ_CALL uint32_t gcz_find(gcz_t *gcz, uint32_t reg, uint32_t map, uint32_t key, gcz_name_t *answer);
+
+/* A collection of the zones whose bits are set, step by step: each of at most limit units. */
+GCZ_CALL uint32_t gcz_begin(gcz_t *gcz, uint64_t zones);
+GCZ_CALL uint32_t gcz_advance(gcz_t *gcz, uint64_t limit, gcz_step_t *done);
+GCZ_CALL uint32_t gcz_running(gcz_t *gcz, bool *running);
+
+/* The last report, until the next one, and what it lists by its place. */
+GCZ_CALL uint32_t gcz_report(gcz_t *gcz, gcz_report_t *told);
+GCZ_CALL uint32_t gcz_report_name(gcz_t *gcz, size_t index, gcz_name_t *name);
+GCZ_CALL uint32_t gcz_report_group(gcz_t *gcz, size_t index, uint64_t *zones);
+
+/* The gray names, ascending: lists them, and then each by its place, until the next list. */
+GCZ_CALL uint32_t gcz_grays(gcz_t *gcz, size_t *count);
+GCZ_CALL uint32_t gcz_gray(gcz_t *gcz, size_t index, gcz_name_t *name);
+
+/* A dump of the heap: lists its lines, and then each by its place, until the next dump. */
+GCZ_CALL uint32_t gcz_dump(gcz_t *gcz, size_t *count);
+GCZ_CALL uint32_t gcz_dump_line(gcz_t *gcz, size_t index, gcz_line_t *line);
+
+#ifdef __cplusplus
+}
+#endif
+#endif

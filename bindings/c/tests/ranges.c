@@ -1,0 +1,257 @@
+/* Each export with each number out of range, at an open and at a closed handle: its own status, and nothing is done. */
+#include "gczone.h"
+
+#include <stdio.h>
+#include <stdlib.h>
+#include <string.h>
+
+static int failures;
+
+#define WANT(call, status)                                                                              \
+    do {                                                                                                \
+        uint32_t got_ = (call);                                                                         \
+        if (got_ != (uint32_t)(status)) {                                                               \
+            printf("line %d: %s returned %u, not %u\n", __LINE__, #call, (unsigned)got_, (unsigned)(status)); \
+            failures++;                                                                                 \
+        }                                                                                               \
+    } while (0)
+
+/* Numbers that no argument takes, and the first ones above each limit. */
+static const uint32_t BEYOND[] = {UINT32_MAX, UINT32_MAX - 1, UINT32_C(1) << 31, UINT32_C(1) << 16, 65535, 65536 + 1,
+                                  257, 256 + 15, 512};
+enum { BEYOND_COUNT = sizeof BEYOND / sizeof *BEYOND };
+
+static const gcz_name_t UNTOLD = {99, 98, 97};
+
+/* The answer of a call that does nothing stays as it was. */
+static void want_untold(const gcz_name_t *answer, int line) {
+    if (memcmp(answer, &UNTOLD, sizeof UNTOLD) != 0) {
+        printf("line %d: an answer was written\n", line);
+        failures++;
+    }
+}
+#define REFUSED(call, status)                \
+    do {                                     \
+        gcz_name_t n = UNTOLD;               \
+        WANT(call, status);                  \
+        want_untold(&n, __LINE__);           \
+    } while (0)
+
+static void registers(gcz_t *g, uint32_t bad) {
+    REFUSED(gcz_new(g, bad, 0, 1, &n), GCZ_BAD_REGISTER);
+    REFUSED(gcz_map(g, bad, 0, &n), GCZ_BAD_REGISTER);
+    REFUSED(gcz_get(g, bad, 0, 0, &n), GCZ_BAD_REGISTER);
+    REFUSED(gcz_get(g, 0, bad, 0, &n), GCZ_BAD_REGISTER);
+    WANT(gcz_set(g, bad, 0, 0), GCZ_BAD_REGISTER);
+    WANT(gcz_set(g, 0, 0, bad), GCZ_BAD_REGISTER);
+    WANT(gcz_clear(g, bad, 0), GCZ_BAD_REGISTER);
+    WANT(gcz_copy(g, bad, 0), GCZ_BAD_REGISTER);
+    WANT(gcz_copy(g, 0, bad), GCZ_BAD_REGISTER);
+    WANT(gcz_drop(g, bad), GCZ_BAD_REGISTER);
+    REFUSED(gcz_wrap(g, bad, 0, 0, &n), GCZ_BAD_REGISTER);
+    REFUSED(gcz_wrap(g, 0, bad, 0, &n), GCZ_BAD_REGISTER);
+    REFUSED(gcz_unwrap(g, bad, 0, &n), GCZ_BAD_REGISTER);
+    REFUSED(gcz_unwrap(g, 0, bad, &n), GCZ_BAD_REGISTER);
+    WANT(gcz_hold(g, 0, bad), GCZ_BAD_REGISTER);
+    REFUSED(gcz_expose(g, bad, 0, &n), GCZ_BAD_REGISTER);
+    WANT(gcz_put(g, bad, 0, 0), GCZ_BAD_REGISTER);
+    WANT(gcz_put(g, 0, bad, 0), GCZ_BAD_REGISTER);
+    WANT(gcz_put(g, 0, 0, bad), GCZ_BAD_REGISTER);
+    WANT(gcz_del(g, bad, 0), GCZ_BAD_REGISTER);
+    WANT(gcz_del(g, 0, bad), GCZ_BAD_REGISTER);
+    REFUSED(gcz_find(g, bad, 0, 0, &n), GCZ_BAD_REGISTER);
+    REFUSED(gcz_find(g, 0, bad, 0, &n), GCZ_BAD_REGISTER);
+    REFUSED(gcz_find(g, 0, 0, bad, &n), GCZ_BAD_REGISTER);
+}
+
+static void slots(gcz_t *g, uint32_t bad) {
+    WANT(gcz_hold(g, bad, 0), GCZ_BAD_SLOT);
+    WANT(gcz_release(g, bad), GCZ_BAD_SLOT);
+    REFUSED(gcz_expose(g, 0, bad, &n), GCZ_BAD_SLOT);
+}
+
+static void zones(gcz_t *g, uint32_t bad) {
+    REFUSED(gcz_comp(g, bad, &n), GCZ_BAD_ZONE);
+}
+
+static void compartments(gcz_t *g, uint32_t bad) {
+    REFUSED(gcz_new(g, 0, bad, 1, &n), GCZ_BAD_COMPARTMENT);
+    REFUSED(gcz_map(g, 0, bad, &n), GCZ_BAD_COMPARTMENT);
+    REFUSED(gcz_wrap(g, 0, 0, bad, &n), GCZ_BAD_COMPARTMENT);
+}
+
+static void fields(gcz_t *g, uint32_t bad) {
+    REFUSED(gcz_get(g, 0, 0, bad, &n), GCZ_BAD_FIELD);
+    WANT(gcz_set(g, 0, bad, 0), GCZ_BAD_FIELD);
+    WANT(gcz_clear(g, 0, bad), GCZ_BAD_FIELD);
+}
+
+static void all_beyond(gcz_t *g) {
+    for (int i = 0; i < BEYOND_COUNT; i++) {
+        registers(g, BEYOND[i]);
+        slots(g, BEYOND[i]);
+        zones(g, BEYOND[i]);
+        compartments(g, BEYOND[i]);
+        fields(g, BEYOND[i]);
+        REFUSED(gcz_new(g, 0, 0, BEYOND[i], &n), GCZ_BAD_FIELD_COUNT);
+    }
+    for (uint32_t bad = 16; bad < 300; bad++)
+        registers(g, bad);
+    for (uint32_t bad = 64; bad < 300; bad++) {
+        slots(g, bad);
+        zones(g, bad);
+    }
+    for (uint32_t bad = 256; bad < 600; bad++)
+        compartments(g, bad);
+    for (uint32_t bad = 8; bad < 300; bad++)
+        fields(g, bad);
+    for (uint32_t bad = 9; bad < 300; bad++)
+        REFUSED(gcz_new(g, 0, 0, bad, &n), GCZ_BAD_FIELD_COUNT);
+}
+
+/* Calls at a closed handle. */
+static void all_closed(gcz_t *g) {
+    gcz_step_t step = {99, 98, true};
+    gcz_report_t report = {99, 98, 97, 96};
+    gcz_line_t line = {.owner = 99};
+    size_t count = 99;
+    uint64_t bits = 99;
+    bool running = true;
+    REFUSED(gcz_zone(g, &n), GCZ_CLOSED);
+    REFUSED(gcz_comp(g, 0, &n), GCZ_CLOSED);
+    REFUSED(gcz_new(g, 0, 0, 1, &n), GCZ_CLOSED);
+    REFUSED(gcz_map(g, 0, 0, &n), GCZ_CLOSED);
+    REFUSED(gcz_get(g, 0, 0, 0, &n), GCZ_CLOSED);
+    WANT(gcz_set(g, 0, 0, 0), GCZ_CLOSED);
+    WANT(gcz_clear(g, 0, 0), GCZ_CLOSED);
+    WANT(gcz_copy(g, 0, 0), GCZ_CLOSED);
+    WANT(gcz_drop(g, 0), GCZ_CLOSED);
+    REFUSED(gcz_wrap(g, 0, 0, 0, &n), GCZ_CLOSED);
+    REFUSED(gcz_unwrap(g, 0, 0, &n), GCZ_CLOSED);
+    WANT(gcz_hold(g, 0, 0), GCZ_CLOSED);
+    WANT(gcz_release(g, 0), GCZ_CLOSED);
+    REFUSED(gcz_expose(g, 0, 0, &n), GCZ_CLOSED);
+    WANT(gcz_put(g, 0, 0, 0), GCZ_CLOSED);
+    WANT(gcz_del(g, 0, 0), GCZ_CLOSED);
+    REFUSED(gcz_find(g, 0, 0, 0, &n), GCZ_CLOSED);
+    WANT(gcz_begin(g, 1), GCZ_CLOSED);
+    WANT(gcz_advance(g, 1, &step), GCZ_CLOSED);
+    WANT(gcz_running(g, &running), GCZ_CLOSED);
+    WANT(gcz_report(g, &report), GCZ_CLOSED);
+    REFUSED(gcz_report_name(g, 0, &n), GCZ_CLOSED);
+    WANT(gcz_report_group(g, 0, &bits), GCZ_CLOSED);
+    WANT(gcz_grays(g, &count), GCZ_CLOSED);
+    REFUSED(gcz_gray(g, 0, &n), GCZ_CLOSED);
+    WANT(gcz_dump(g, &count), GCZ_CLOSED);
+    WANT(gcz_dump_line(g, 0, &line), GCZ_CLOSED);
+    WANT(step.units == 99 && step.finished && report.count == 98 && line.owner == 99 && count == 99 && bits == 99
+             && running, 1);
+}
+
+/* Places of lists beyond their ends. */
+static void beyond_lists(gcz_t *g, size_t names, size_t groups, size_t lines) {
+    const size_t far[] = {0, 1, 63, 64, SIZE_MAX / 2, SIZE_MAX - 1, SIZE_MAX};
+    for (size_t i = 0; i < sizeof far / sizeof *far; i++) {
+        uint64_t bits = 99;
+        gcz_line_t line = {.owner = 99};
+        if (far[i] >= names) {
+            REFUSED(gcz_report_name(g, far[i], &n), GCZ_NONE);
+            REFUSED(gcz_gray(g, far[i], &n), GCZ_NONE);
+        }
+        if (far[i] >= groups)
+            WANT(gcz_report_group(g, far[i], &bits), GCZ_NONE);
+        if (far[i] >= lines)
+            WANT(gcz_dump_line(g, far[i], &line), GCZ_NONE);
+        WANT(bits == 99 && line.owner == 99, 1);
+    }
+}
+
+static void limits(gcz_t *g) {
+    gcz_name_t n;
+    gcz_step_t step;
+    gcz_report_t report = {99, 98, 97, 96};
+    size_t count;
+    WANT(gcz_begin(g, 0), GCZ_NO_ZONE);
+    WANT(gcz_begin(g, UINT64_MAX), GCZ_NO_ZONE);
+    REFUSED(gcz_comp(g, 63, &n), GCZ_NO_ZONE);
+    REFUSED(gcz_new(g, 15, 255, 8, &n), GCZ_NO_COMPARTMENT);
+    WANT(gcz_report(g, &report), GCZ_NONE);
+    WANT(report.count == 98, 1);
+    WANT(gcz_advance(g, UINT64_MAX, &step), GCZ_DONE);
+    WANT(step.units == 0 && step.report == GCZ_NO_REPORT && !step.finished, 1);
+    for (uint32_t zone = 0; zone < 64; zone++) {
+        WANT(gcz_zone(g, &n), GCZ_DONE);
+        WANT(n.kind == GCZ_ZONE && n.number == zone, 1);
+    }
+    REFUSED(gcz_zone(g, &n), GCZ_FULL);
+    for (uint32_t comp = 0; comp < 256; comp++) {
+        WANT(gcz_comp(g, comp % 64, &n), GCZ_DONE);
+        WANT(n.kind == GCZ_COMPARTMENT && n.number == comp, 1);
+    }
+    REFUSED(gcz_comp(g, 0, &n), GCZ_FULL);
+    WANT(gcz_new(g, 15, 255, 8, &n), GCZ_DONE);
+    WANT(n.kind == GCZ_CELL && n.number == 0, 1);
+    WANT(gcz_hold(g, 63, 15), GCZ_DONE);
+    WANT(gcz_get(g, 0, 15, 7, &n), GCZ_DONE);
+    WANT(n.kind == GCZ_NOTHING, 1);
+    REFUSED(gcz_get(g, 0, 1, 7, &n), GCZ_EMPTY);
+    WANT(gcz_map(g, 2, 255, &n), GCZ_DONE);
+    WANT(gcz_del(g, 2, 15), GCZ_NONE);
+    WANT(gcz_put(g, 2, 15, 15), GCZ_DONE);
+    WANT(gcz_begin(g, UINT64_MAX), GCZ_DONE);
+    WANT(gcz_begin(g, 1), GCZ_RUNNING);
+    count = 99;
+    WANT(gcz_grays(g, &count), GCZ_MARKING);
+    WANT(gcz_dump(g, &count), GCZ_MARKING);
+    WANT(count == 99, 1);
+    WANT(gcz_advance(g, 0, &step), GCZ_DONE);
+    WANT(step.units == 0 && !step.finished, 1);
+    do
+        WANT(gcz_advance(g, UINT64_MAX, &step), GCZ_DONE);
+    while (!step.finished);
+}
+
+static void texts(void) {
+    static const uint32_t none[] = {6, 7, 14, 15, 27, 99, UINT32_MAX};
+    uint8_t whole[80], other[80];
+    size_t length = gcz_status_text(none[0], whole, sizeof whole);
+    for (size_t i = 0; i < sizeof none / sizeof *none; i++)
+        WANT(gcz_status_text(none[i], other, sizeof other) == length && memcmp(whole, other, length + 1) == 0, 1);
+    for (uint32_t status = 0; status <= GCZ_MARKING; status++) {
+        length = gcz_status_text(status, whole, sizeof whole);
+        WANT(length > 0 && length < sizeof whole && strlen((char *)whole) == length, 1);
+        for (size_t size = 0; size <= length; size++) {
+            memset(other, 'x', sizeof other);
+            WANT(gcz_status_text(status, other, size) == length, 1);
+            WANT(size == 0 || (memcmp(other, whole, size - 1) == 0 && other[size - 1] == 0), 1);
+            WANT(other[size] == 'x', 1);
+        }
+    }
+}
+
+int main(void) {
+    gcz_t g = GCZ_CLOSED_HANDLE;
+    gcz_name_t n;
+    size_t lines;
+    WANT(gcz_interface(), GCZ_INTERFACE);
+    texts();
+    all_closed(&g);
+    all_beyond(&g);
+    gcz_close(&g);
+    WANT(gcz_open(&g), GCZ_DONE);
+    WANT(gcz_open(&g), GCZ_OPEN);
+    WANT(gcz_dump(&g, &lines), GCZ_DONE);
+    all_beyond(&g);
+    beyond_lists(&g, 0, 0, lines);
+    limits(&g);
+    all_beyond(&g);
+    gcz_t moved = g;
+    memset(&g, 0, sizeof g);
+    WANT(gcz_find(&moved, 3, 2, 15, &n), GCZ_DONE);
+    WANT(n.kind == GCZ_CELL && n.number == 0, 1);
+    gcz_close(&moved);
+    gcz_close(&moved);
+    all_closed(&moved);
+    puts(failures ? "FAILED" : "ok");
+    return failures > 0;
+}

@@ -1,0 +1,117 @@
+#!/usr/bin/env python3
+"""Answers a trace of docs/TRACE.md by calls of the library, and prints what `gczone run` prints."""
+
+import sys
+from pathlib import Path
+
+sys.dont_write_bytecode = True
+sys.path.insert(0, str(Path(__file__).resolve().parent.parent))
+import gczone  # noqa: E402 (the module lies beside the folder)
+
+WORDS = ("full no-zone no-comp empty kind no-field cross wrapper-key running idle marking").split()
+
+
+def name_text(name):
+    if name is None:
+        return "null"
+    return "{}:{}".format(*name) if isinstance(name, tuple) else str(name)
+
+
+def list_text(names):
+    return " ".join(map(name_text, names)) or "-"
+
+
+def zones_text(zones):
+    return " ".join(map(str, zones))
+
+
+def event_text(event):
+    if isinstance(event, gczone.Groups):
+        return "groups " + " | ".join(map(zones_text, event.groups))
+    if isinstance(event, gczone.Ended):
+        return f"ended {zones_text(event.zones)} gray {list_text(event.grays)}"
+    return f"swept {event.arena} {list_text(event.freed)}"
+
+
+def line_text(line):
+    if isinstance(line, gczone.Cell):
+        return f"cell {name_text(line.name)} {'b' if line.black else 'g'}"
+    if isinstance(line, gczone.Edge):
+        return f"edge {line.object} {name_text(line.name)}"
+    return f"weak {line.map} {name_text(line.key)} {name_text(line.value)}"
+
+
+class Replay:
+    """A heap, and the answers to lines."""
+
+    def __init__(self, heap):
+        self.heap = heap
+
+    def advance(self, limit):
+        """Does units, prints what they report, and returns how many they are."""
+        done = 0
+        while done < limit and self.heap.running():
+            units, event, finished = self.heap.advance(limit - done)
+            done += units
+            if event:
+                print(event_text(event))
+            if finished:
+                print("done")
+        return done
+
+    def slice(self, limit):
+        return f"slice {self.advance(limit)}" if self.heap.running() else "idle"
+
+    def collect(self, zones):
+        self.heap.begin(zones)
+        self.advance(2**64 - 1)
+        return "collected"
+
+    def answer(self, word, *words):
+        """The answer to a line, the last lines that are printed of it."""
+        heap, numbers = self.heap, [int(it.lstrip("rg")) for it in words if it != "-"]
+        answered = {"get": heap.get, "wrap": heap.wrap, "unwrap": heap.unwrap, "expose": heap.expose, "find": heap.find}
+        ordered = {
+            "set": heap.set, "copy": heap.copy, "drop": heap.drop, "hold": heap.hold, "release": heap.release,
+            "put": heap.put,
+        }
+        numbered = {"zone": heap.zone, "comp": heap.compartment, "new": heap.object, "map": heap.map}
+        if word in answered:
+            return name_text(answered[word](*numbers))
+        if word in numbered:
+            made = numbered[word](*numbers)
+            return f"{word if word in ('zone', 'comp') else 'cell'} {made}"
+        if word in ordered:
+            ordered[word](*numbers)
+            return "ok"
+        others = {
+            "del": lambda: "ok" if heap.delete(*numbers) else "absent",
+            "gc": lambda: heap.begin(numbers) or "gc ok",
+            "collect": lambda: self.collect(numbers),
+            "slice": lambda: self.slice(*numbers),
+            "finish": lambda: self.slice(2**64 - 1),
+            "colours": lambda: f"gray {list_text(heap.grays())}",
+            "dump": lambda: "\n".join([*map(line_text, heap.dump()), "end"]),
+        }
+        return others[word]()
+
+
+def main():
+    with gczone.Heap() as heap:
+        replay = Replay(heap)
+        for number, line in enumerate(sys.stdin, 1):
+            try:
+                print(replay.answer(*line.split()))
+            except gczone.Fault as fault:
+                if fault.status < gczone.FULL:
+                    print(f"replay: {fault}", file=sys.stderr)
+                    return 6 if fault.status == gczone.NO_MEMORY else 1
+                print(WORDS[fault.status - gczone.FULL])
+            except (KeyError, TypeError, ValueError):
+                print(f"replay: line {number}: bad line", file=sys.stderr)
+                return 3
+    return 0
+
+
+if __name__ == "__main__":
+    sys.exit(main())

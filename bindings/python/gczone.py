@@ -1,0 +1,275 @@
+"""A heap of zones with its incremental collector, called by ctypes.
+
+    import gczone
+    with gczone.Heap() as heap:
+        zone = heap.zone()
+        compartment = heap.compartment(zone)
+        heap.object(0, compartment, fields=1)        # register 0 holds it
+        heap.drop(0)
+        for event in heap.collect([zone]):
+            print(event)
+
+A register, 0 to 15, is a black root, and a gray slot, 0 to 63, a gray one. A name is the number of an object or a map,
+or a pair of a compartment and a number for a wrapper. docs/EMBEDDING.md tells what each call does. The library is
+libgczone.so in the folder that GCZONE_LIB_DIR names, or in bindings/c/out, or where the system's linker finds it.
+"""
+
+import ctypes
+import os
+from collections import namedtuple
+from ctypes import POINTER, byref, c_bool, c_size_t, c_uint8, c_uint32, c_uint64, c_void_p
+from pathlib import Path
+
+INTERFACE = 1
+DONE, CLOSED, OPEN, NO_MEMORY, HEAP_FULL, NONE = range(6)
+BAD_REGISTER, BAD_ZONE, BAD_COMPARTMENT, BAD_SLOT, BAD_FIELD, BAD_FIELD_COUNT = range(8, 14)
+FULL, NO_ZONE, NO_COMPARTMENT, EMPTY, KIND, NO_FIELD, CROSS, WRAPPER_KEY, RUNNING, IDLE, MARKING = range(16, 27)
+NOTHING, CELL, WRAPPER, ZONE, COMPARTMENT = range(5)
+NO_REPORT, GROUPS, ENDED, SWEPT = range(4)
+LINE_END, LINE_CELL, LINE_EDGE, LINE_ENTRY = range(4)
+
+Groups = namedtuple("Groups", "groups")
+Ended = namedtuple("Ended", "zones grays")
+Swept = namedtuple("Swept", "arena freed")
+Cell = namedtuple("Cell", "name black")
+Edge = namedtuple("Edge", "object name")
+Entry = namedtuple("Entry", "map key value")
+
+
+class _Slot(ctypes.Structure):
+    _fields_ = [("at", c_void_p)]
+
+
+class _Gcz(ctypes.Structure):
+    _fields_ = [("is_open", c_bool), ("slot", _Slot)]
+
+
+class _Name(ctypes.Structure):
+    _fields_ = [("number", c_uint64), ("kind", c_uint32), ("compartment", c_uint32)]
+
+    def value(self):
+        if self.kind == NOTHING:
+            return None
+        return (self.compartment, self.number) if self.kind == WRAPPER else self.number
+
+
+class _Step(ctypes.Structure):
+    _fields_ = [("units", c_uint64), ("report", c_uint32), ("finished", c_bool)]
+
+
+class _Report(ctypes.Structure):
+    _fields_ = [("zones", c_uint64), ("count", c_size_t), ("kind", c_uint32), ("arena", c_uint32)]
+
+
+class _Line(ctypes.Structure):
+    _fields_ = [("owner", c_uint64), ("name", _Name), ("value", _Name), ("kind", c_uint32), ("black", c_bool)]
+
+
+# The parameters of each call behind the handle, and what it answers.
+_CALLS = {
+    "zone": ([], _Name), "comp": ([c_uint32], _Name), "new": ([c_uint32] * 3, _Name), "map": ([c_uint32] * 2, _Name),
+    "get": ([c_uint32] * 3, _Name), "set": ([c_uint32] * 3, None), "clear": ([c_uint32] * 2, None),
+    "copy": ([c_uint32] * 2, None), "drop": ([c_uint32], None), "wrap": ([c_uint32] * 3, _Name),
+    "unwrap": ([c_uint32] * 2, _Name), "hold": ([c_uint32] * 2, None), "release": ([c_uint32], None),
+    "expose": ([c_uint32] * 2, _Name), "put": ([c_uint32] * 3, None), "del": ([c_uint32] * 2, None),
+    "find": ([c_uint32] * 3, _Name), "begin": ([c_uint64], None), "advance": ([c_uint64], _Step),
+    "running": ([], c_bool), "report": ([], _Report), "report_name": ([c_size_t], _Name),
+    "report_group": ([c_size_t], c_uint64), "grays": ([], c_size_t), "gray": ([c_size_t], _Name),
+    "dump": ([], c_size_t), "dump_line": ([c_size_t], _Line), "open": ([], None),
+}
+
+
+class Fault(Exception):
+    """A call did nothing; `status` is a number of this module, and the text says it in words."""
+
+    def __init__(self, status, text):
+        super().__init__(text)
+        self.status = status
+
+
+def load(path=None):
+    """Loads the library, and declares its calls."""
+    folder = os.environ.get("GCZONE_LIB_DIR", Path(__file__).resolve().parent.parent / "c/out")
+    built = Path(folder, "libgczone.so")
+    library = ctypes.CDLL(str(path or (built if built.exists() else f"libgczone.so.{INTERFACE}")))
+    library.gcz_interface.restype = c_uint32
+    if library.gcz_interface() != INTERFACE:
+        raise OSError(f"the library has interface {library.gcz_interface()}, and {INTERFACE} is wanted")
+    library.gcz_status_text.argtypes, library.gcz_status_text.restype = [c_uint32, POINTER(c_uint8), c_size_t], c_size_t
+    library.gcz_close.argtypes, library.gcz_close.restype = [POINTER(_Gcz)], None
+    for name, (numbers, answer) in _CALLS.items():
+        call = getattr(library, f"gcz_{name}")
+        call.argtypes = [POINTER(_Gcz), *numbers, *([POINTER(answer)] if answer else [])]
+        call.restype = c_uint32
+    return library
+
+
+def zones_of(bits):
+    """The zones whose bits are set."""
+    return [zone for zone in range(64) if bits >> zone & 1]
+
+
+class Heap:
+    """A heap with its collector. It is in one call at a time, whichever thread calls."""
+
+    def __init__(self, library=None):
+        self._library, self._gcz = library or load(), _Gcz()
+        self._call("open")
+
+    def __enter__(self):
+        return self
+
+    def __exit__(self, *_):
+        self.close()
+
+    def __del__(self):
+        if hasattr(self, "_gcz"):
+            self.close()
+
+    def close(self):
+        """Frees all that the heap holds. Each later call but this one is a fault."""
+        self._library.gcz_close(byref(self._gcz))
+
+    def _call(self, name, *numbers):
+        answer = _CALLS[name][1] and _CALLS[name][1]()
+        # A number that C has no room for is out of range, too.
+        clipped = [min(max(number, -1), limit) & limit for number, limit in zip(numbers, self._limits(name))]
+        places = [] if answer is None else [byref(answer)]
+        status = getattr(self._library, f"gcz_{name}")(byref(self._gcz), *clipped, *places)
+        if status != DONE:
+            raise Fault(status, self.status_text(status))
+        return answer
+
+    @staticmethod
+    def _limits(name):
+        return [2 ** (8 * ctypes.sizeof(kind)) - 1 for kind in _CALLS[name][0]]
+
+    def status_text(self, status):
+        """A status in words."""
+        room = (c_uint8 * 80)()
+        length = self._library.gcz_status_text(status, room, len(room))
+        return bytes(room)[: min(length, len(room) - 1)].decode()
+
+    def zone(self):
+        """Makes a zone."""
+        return self._call("zone").number
+
+    def compartment(self, zone):
+        """Makes a compartment of a zone."""
+        return self._call("comp", zone).number
+
+    def object(self, register, compartment, fields):
+        """Makes an object with this many null fields, at most 8. The register holds it."""
+        return self._call("new", register, compartment, fields).number
+
+    def map(self, register, compartment):
+        """Makes a weak map without entries. The register holds it."""
+        return self._call("map", register, compartment).number
+
+    def get(self, register, source, field):
+        """The register holds what a field of the object in `source` holds, or becomes empty."""
+        return self._call("get", register, source, field).value()
+
+    def set(self, register, field, source=None):
+        """A field of the register's object holds what another register holds, or null."""
+        if source is None:
+            self._call("clear", register, field)
+        else:
+            self._call("set", register, field, source)
+
+    def copy(self, register, source):
+        """The register holds what another one holds, or becomes empty."""
+        self._call("copy", register, source)
+
+    def drop(self, register):
+        """The register becomes empty."""
+        self._call("drop", register)
+
+    def wrap(self, register, source, compartment):
+        """The register holds the cell of another one as a compartment sees it: itself, or its wrapper."""
+        return self._call("wrap", register, source, compartment).value()
+
+    def unwrap(self, register, source):
+        """The register holds the target of the wrapper in `source`."""
+        return self._call("unwrap", register, source).value()
+
+    def hold(self, slot, register):
+        """The gray slot holds what the register holds, or becomes empty."""
+        self._call("hold", slot, register)
+
+    def release(self, slot):
+        """The gray slot becomes empty."""
+        self._call("release", slot)
+
+    def expose(self, register, slot):
+        """The register holds what the gray slot holds, and that turns black; or it becomes empty."""
+        return self._call("expose", register, slot).value()
+
+    def put(self, map_register, key, value):
+        """In the map of a register, the key has a value."""
+        self._call("put", map_register, key, value)
+
+    def delete(self, map_register, key):
+        """Removes the entry of a key. Returns whether there was one."""
+        try:
+            self._call("del", map_register, key)
+        except Fault as fault:
+            if fault.status != NONE:
+                raise
+            return False
+        return True
+
+    def find(self, register, map_register, key):
+        """The register holds the value of a key, or becomes empty."""
+        return self._call("find", register, map_register, key).value()
+
+    def begin(self, zones):
+        """Begins a collection of these zones."""
+        if any(not 0 <= zone < 64 for zone in zones):
+            raise Fault(BAD_ZONE, self.status_text(BAD_ZONE))
+        self._call("begin", sum({1 << zone for zone in zones}))
+
+    def running(self):
+        """Whether a collection runs."""
+        return self._call("running").value
+
+    def advance(self, limit):
+        """Does a step of at most `limit` units. Returns how many it did, the event or None, and whether it is over."""
+        step = self._call("advance", limit)
+        return step.units, self._event() if step.report != NO_REPORT else None, step.finished
+
+    def events(self, limit=1000):
+        """The events of the collection that runs, which goes on as they are asked for."""
+        while self.running():
+            _, event, _ = self.advance(max(limit, 1))
+            if event:
+                yield event
+
+    def collect(self, zones, limit=1000):
+        """Begins a collection, and returns its events."""
+        self.begin(zones)
+        return self.events(limit)
+
+    def grays(self):
+        """The gray names, ascending."""
+        return [self._call("gray", index).value() for index in range(self._call("grays").value)]
+
+    def dump(self):
+        """The cells by name, the edges by object and field, and the weak entries by map and key."""
+        lines = (self._call("dump_line", index) for index in range(self._call("dump").value))
+        return [_line(line) for line in lines if line.kind != LINE_END]
+
+    def _event(self):
+        report = self._call("report")
+        if report.kind == GROUPS:
+            return Groups([zones_of(self._call("report_group", index).value) for index in range(report.count)])
+        names = [self._call("report_name", index).value() for index in range(report.count)]
+        return Ended(zones_of(report.zones), names) if report.kind == ENDED else Swept(report.arena, names)
+
+
+def _line(line):
+    if line.kind == LINE_CELL:
+        return Cell(line.name.value(), line.black)
+    if line.kind == LINE_EDGE:
+        return Edge(line.owner, line.name.value())
+    return Entry(line.owner, line.name.value(), line.value.value())

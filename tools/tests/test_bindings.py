@@ -1,0 +1,255 @@
+"""Tests of the C library, and of the Rust package and the Python module over it.
+
+The library is that of tools/find-program, which builds one without its proof if there is none. What the machine lacks,
+as a C compiler, cargo or valgrind, counts as skipped.
+"""
+
+import os
+import random
+import re
+import shutil
+import subprocess
+import sys
+import tempfile
+import unittest
+from pathlib import Path
+
+TOP = Path(__file__).resolve().parent.parent.parent
+BINDINGS = TOP / "bindings"
+CHECK = TOP / "tools/check-bindings"
+SECONDS = 600
+# How many random commands go through C and Rust in all is their product; Python takes some of the traces.
+SEEDS, COMMANDS, PYTHON_SEEDS = 25, 4000, 3
+# What the list machine prints, whatever the slices: 8 closures keep 160 numbers of the 12,000 that were made.
+LISTS = re.compile(
+    r"total 93120\nevaluated: (\d+) numbers, (\d+) let go by \d+ collections\n"
+    r"with closures: 160 numbers, 11840 let go by \d+ collections\n"
+    r"without: 0 numbers, 12000 let go by \d+ collections\n"
+)
+CYCLES = """gray, and freed by the heap alone: 0
+let go: ring bell
+freed then: 2
+let go without the page's owner: page menu item
+freed then: 3 cells left: 0
+"""
+
+sys.path.insert(0, str(TOP / "tools"))
+sys.dont_write_bytecode = True
+from program import Missing, find_program  # noqa: E402 (the tools lie in another folder)
+
+
+def run(*words, **options):
+    return subprocess.run(
+        words, stdin=options.pop("stdin", subprocess.DEVNULL), stdout=subprocess.PIPE, stderr=subprocess.STDOUT,
+        text=True, timeout=SECONDS, check=False, **options,
+    )
+
+
+class DeclarationTest(unittest.TestCase):
+    def test_all_declarations_agree(self):
+        done = run(CHECK)
+        self.assertEqual((done.returncode, done.stdout[:15]), (0, "check-bindings:"), done.stdout)
+
+    def refused(self, old, new):
+        """What is printed of a header in which a text is another one."""
+        header = (BINDINGS / "c/gczone.h").read_text(encoding="utf-8")
+        self.assertEqual(header.count(old), 1)
+        with tempfile.TemporaryDirectory() as folder:
+            changed = Path(folder, "gczone.h")
+            changed.write_text(header.replace(old, new), encoding="utf-8")
+            done = run(CHECK, "--header", changed)
+        self.assertEqual(done.returncode, 1)
+        return done.stdout
+
+    def test_another_type_is_found(self):
+        told = self.refused("gcz_begin(gcz_t *gcz, uint64_t", "gcz_begin(gcz_t *gcz, uint32_t")
+        self.assertIn("call gcz_begin", told)
+
+    def test_another_order_of_fields_is_found(self):
+        told = self.refused("    uint64_t zones;\n    size_t count;", "    size_t count;\n    uint64_t zones;")
+        self.assertIn("struct report", told)
+
+    def test_another_number_is_found(self):
+        self.assertIn("constant BAD_SLOT", self.refused("GCZ_BAD_SLOT = 11", "GCZ_BAD_SLOT = 14"))
+
+    def test_missing_call_is_found(self):
+        call = "GCZ_CALL uint32_t gcz_drop(gcz_t *gcz, uint32_t reg);\n"
+        self.assertIn("call gcz_drop: missing in the header", self.refused(call, ""))
+
+
+class LibraryTest(unittest.TestCase):
+    """Has a folder with the library, and with the C programs."""
+
+    @classmethod
+    def setUpClass(cls):
+        for command in ("make", "cc", "ar"):
+            if not shutil.which(command):
+                raise unittest.SkipTest(f"there is no {command}")
+        try:
+            archive = find_program("gczone_c")
+        except Missing as missing:
+            raise unittest.SkipTest(str(missing)) from None
+        folder = tempfile.TemporaryDirectory()
+        cls.addClassCleanup(folder.cleanup)
+        cls.out = Path(folder.name)
+        cls.environment = {**os.environ, "GCZONE_LIB_DIR": str(cls.out)}
+        made = run("make", "-C", BINDINGS / "c", f"OUT={cls.out}", f"ARCHIVE={archive}", "all", "examples", "tests")
+        if made.returncode:
+            raise AssertionError(made.stdout)
+
+    def need(self, command):
+        if not shutil.which(command):
+            self.skipTest(f"there is no {command}")
+
+    def assert_prints(self, text, *words, **options):
+        done = run(*words, **options)
+        self.assertEqual(done.returncode, 0, done.stdout)
+        if isinstance(text, str):
+            self.assertEqual(done.stdout, text)
+        else:
+            self.assertRegex(done.stdout, re.compile(text.pattern + r"\Z"))
+
+
+class ProgramTest(LibraryTest):
+    def test_numbers_out_of_range(self):
+        self.assert_prints("ok\n", self.out / "ranges")
+
+    def test_each_allocation_fails(self):
+        self.assert_prints("ok\n", self.out / "faults")
+
+    def test_list_machine(self):
+        self.assert_prints(LISTS, self.out / "lists")
+
+    def test_memory_under_valgrind(self):
+        self.need("valgrind")
+        words = ("valgrind", "-q", "--leak-check=full", "--error-exitcode=9")
+        for program, text in (("ranges", "ok\n"), ("faults", "ok\n"), ("lists", LISTS)):
+            with self.subTest(program):
+                self.assert_prints(text, *words, self.out / program)
+
+    def test_header_is_of_c_plus_plus_too(self):
+        self.need("c++")
+        body = "gcz_t heap = GCZ_CLOSED_HANDLE; gcz_close(&heap); return gcz_interface() != GCZ_INTERFACE;"
+        (self.out / "closed.cpp").write_text(f'#include "gczone.h"\nint main() {{ {body} }}\n', encoding="utf-8")
+        words = ("c++", "-std=c++17", "-Wall", "-Wextra", "-Werror", f"-I{BINDINGS / 'c'}", "-o", self.out / "closed")
+        self.assert_prints("", *words, self.out / "closed.cpp", self.out / "libgczone.a")
+        self.assert_prints("", self.out / "closed")
+
+    def test_install(self):
+        root = self.out / "root"
+        words = ("make", "-C", BINDINGS / "c", f"OUT={self.out}", "ARCHIVE=", "HEAP=", f"DESTDIR={root}", "install")
+        made = run(*words, "-o", self.out / "libgczone.a", "-o", self.out / "libgczone.so")
+        self.assertEqual(made.returncode, 0, made.stdout)
+        lines = (root / "usr/local/lib/pkgconfig/gczone.pc").read_text(encoding="utf-8").splitlines()
+        self.assertIn("prefix=/usr/local", lines)
+        self.assertTrue((root / "usr/local/lib/libgczone.so").resolve().is_file())
+
+    def test_cycle_collector(self):
+        words = (sys.executable, "-B", BINDINGS / "python/examples/cycles.py")
+        self.assert_prints(CYCLES, *words, env=self.environment)
+
+
+class Trace:
+    """Random commands, two zones in five compartments, with collections in slices between them."""
+
+    ROWS = (
+        ["new r c n"] * 5 + ["map r c"] * 2 + ["get r r f"] * 4 + ["set r f r"] * 5 + ["wrap r r c"] * 2
+        + ["put r r r"] * 2 + ["set r f -", "unwrap r r", "copy r r", "drop r", "hold g r", "release g", "expose r g"]
+        + ["del r r"]
+        + ["find r r r", "slice s", "slice s", "slice s", "gc z", "collect z", "finish", "colours", "dump", "comp 2"]
+    )
+
+    def __init__(self, seed):
+        self.random = random.Random(seed)
+
+    def word(self, kind):
+        below = {"r": 16, "g": 64, "c": 6, "n": 9, "f": 8, "s": 40}
+        if kind in ("-", "2"):
+            return kind
+        if kind == "z":
+            return " ".join(map(str, sorted(self.random.sample(range(3), self.random.randint(1, 2)))))
+        number = self.random.randrange(below[kind])
+        return f"{kind}{min(number, number % 7) if kind == 'r' else number % 5}" if kind in "rg" else str(number)
+
+    def text(self, lines):
+        head = ["zone", "zone", *(f"comp {number % 2}" for number in range(5))]
+        rows = (self.random.choice(self.ROWS).split() for _ in range(lines))
+        body = [" ".join([row[0], *map(self.word, row[1:])]) for row in rows]
+        return "\n".join([*head, *body, "finish", "collect 0 1", "dump", ""])
+
+
+class ReplyTest(LibraryTest):
+    """The library answers a trace as the program does, whoever calls it."""
+
+    def setUp(self):
+        self.program = find_program()
+
+    def replays(self):
+        """The commands that answer a trace by calls of the library."""
+        return {
+            "C": [self.out / "replay"],
+            "Python": [sys.executable, "-B", BINDINGS / "python/examples/replay.py"],
+        }
+
+    def compare(self, text, name, *languages):
+        with tempfile.TemporaryFile("w+") as file:
+            file.write(text)
+
+            def answers(*words):
+                file.seek(0)
+                return run(*words, stdin=file, env=self.environment).stdout
+
+            wanted = answers(self.program, "run")
+            for language in languages:
+                self.assertTrue(answers(*self.replays()[language]) == wanted, f"{language} answers {name} otherwise")
+
+    def test_examples(self):
+        traces = sorted((TOP / "examples").glob("*.trace"))
+        self.assertGreater(len(traces), 30)
+        for trace in traces:
+            if not trace.with_suffix(".status").exists():
+                with self.subTest(trace.name):
+                    self.compare(trace.read_text(encoding="ascii"), trace.name, *self.replays())
+
+    def test_random_commands(self):
+        for seed in range(SEEDS):
+            with self.subTest(seed):
+                self.compare(Trace(seed).text(COMMANDS), f"seed {seed}", "C", *["Python"] * (seed < PYTHON_SEEDS))
+
+
+class RustTest(ReplyTest):
+    @classmethod
+    def setUpClass(cls):
+        super().setUpClass()
+        if not shutil.which("cargo"):
+            raise unittest.SkipTest("there is no cargo")
+        cls.environment["CARGO_TARGET_DIR"] = str(cls.out / "target")
+        made = run("cargo", "build", "--offline", "--quiet", "--examples", cwd=BINDINGS / "rust", env=cls.environment)
+        if made.returncode:
+            raise AssertionError(made.stdout)
+
+    def example(self, name):
+        return self.out / "target/debug/examples" / name
+
+    def replays(self):
+        return {"Rust": [self.example("replay")]}
+
+    def test_package(self):
+        done = run("cargo", "test", "--offline", "--quiet", cwd=BINDINGS / "rust", env=self.environment)
+        self.assertEqual((done.returncode, len(re.findall("test result: ok", done.stdout)) > 0), (0, True), done.stdout)
+
+    def test_list_machine(self):
+        self.assert_prints(run(self.out / "lists").stdout, self.example("lists"))
+
+    def test_memory_under_valgrind(self):
+        self.need("valgrind")
+        self.assert_prints(LISTS, "valgrind", "-q", "--leak-check=full", "--error-exitcode=9", self.example("lists"))
+
+    def test_random_commands(self):
+        for seed in range(SEEDS):
+            with self.subTest(seed):
+                self.compare(Trace(seed).text(COMMANDS), f"seed {seed}", "Rust")
+
+
+if __name__ == "__main__":
+    unittest.main()
