@@ -89,7 +89,8 @@ def check_links(path):
 def heads(path):
     """The signature and contract of each function of a file, by its name."""
     found = {}
-    pattern = r"(?m)^\s*(?:pub(?:\(crate\))? )?fn (\w+).*(?:\n(?!\s*\{\s*$)(?!\s*(?:pub(?:\(crate\))? )?fn ).*)*"
+    begin = r'(?:pub(?:\(crate\))? )?(?:extern "C" )?fn '
+    pattern = rf"(?m)^\s*{begin}(\w+).*(?:\n(?!\s*\{{\s*$)(?!\s*{begin}).*)*"
     for match in re.finditer(pattern, path.read_text()):
         found.setdefault(match[1], []).append(match[0])
     return found

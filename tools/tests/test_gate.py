@@ -256,7 +256,7 @@ class RunTest(unittest.TestCase):
         (self.top / ".ci/budgets").write_text("zones 1.0 0.1 4.0\n")
         write_script(self.top / "tools/test", FAKE_TEST)
         write_script(self.top / "bin/rt", FAKE_RT)
-        for name in ("dot", "rustc"):
+        for name in ("dot", "rustc", "cargo", "cc", "c++", "make", "valgrind"):
             write_script(self.top / "bin" / name, "#!/bin/sh\n")
 
     def run_gate(self, words=(), **more):
@@ -277,6 +277,7 @@ class RunTest(unittest.TestCase):
         words = (self.top / "tested").read_text().splitlines()
         self.assertEqual(words[0], "words: ")
         self.assertTrue(words[1].startswith("words: --proved examples/ "))
+        self.assertTrue(words[1].endswith(" test_bindings"))
         self.assertRegex((self.top / "jobs").read_text(), r"^RT_JOBS=[1-9]\d*$")
 
     def test_words_start_nothing(self):
@@ -292,7 +293,7 @@ class RunTest(unittest.TestCase):
         self.assertFalse((self.top / "jobs").exists())
 
     def test_each_part_can_fail_the_gate(self):
-        for name in ("rt_fails", "no_program", "fails4"):
+        for name in ("rt_fails", "no_program", "fails5"):
             (self.top / name).touch()
             (self.top / "crates/gczone/out/gczone").unlink(missing_ok=True)
             status, lines = self.run_gate()
