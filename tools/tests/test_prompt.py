@@ -320,7 +320,11 @@ class TerminalTest(unittest.TestCase):
             self.type("zone\n")
             self.type("comp 0\n")
             self.type("gc 0\n")
-            self.type("half a line\x03")
+            # A signal that comes before readline waits for a key is seen at the next key alone.
+            os.write(self.leader, b"half a line")
+            self.wait_for("half a line")
+            time.sleep(0.5)
+            self.type("\x03")
             os.write(self.leader, b"finish\n")
             until = time.monotonic() + SECONDS
             while not waits.exists() and time.monotonic() < until:
