@@ -48,8 +48,8 @@ RUNNERS = [
 WORDS = {
     **dict(RUNNERS), "heap-log": [HEAP_LOG], "prompt": [FIRST], "versus": ["1", "1"], "check-faults": [],
     "after-edit": [], "uses": ["replay"], "lint": [], "test": [], "prove": [], "build-unproved": [],
-    "spidermonkey/check-logs": [], "../bench/speed.py": [], "../bench/helpers.py": [], "../bench/dumps.py": [],
-    "../bench/engines.py": [],
+    "check-bindings": [], "spidermonkey/check-logs": [], "../bench/speed.py": [], "../bench/helpers.py": [],
+    "../bench/dumps.py": [], "../bench/engines.py": [],
 }
 SHELL = ["find-program"]
 
