@@ -22,8 +22,10 @@ class Progress:
     # Works of which one follows on another within this time, or is part of it, are silent together.
     PAUSE = 1.0
     whole_began, last_ended = 0.0, -PAUSE
-    # Those that are at work, an inner one behind the one that it is part of: the last one alone is shown.
+    # Those that are at work, an inner one behind the one that it is part of: the last one alone is shown. Who looks
+    # which one that is, and draws, holds the lock.
     at_work = []
+    lock = threading.Lock()
 
     def __init__(self, what, total=None, stream=None, at_terminals_alone=False):
         # A tool may be started with no standard error.
@@ -32,7 +34,7 @@ class Progress:
         self.began, self.is_drawn = time.monotonic(), False
         self.is_terminal = self.stream.isatty()
         self.is_silent = at_terminals_alone and not self.is_terminal
-        self.lock, self.ended = threading.Lock(), threading.Event()
+        self.ended = threading.Event()
         self.thread = threading.Thread(target=self.show_all, daemon=True)
 
     def __enter__(self):
@@ -49,7 +51,8 @@ class Progress:
             self.thread.join()
         self.at_work.remove(self)
         Progress.last_ended = time.monotonic()
-        self.clear()
+        with self.lock:
+            self.clear()
 
     def tell(self, done, part=None):
         """Says how much is done, and which part of the whole that is if there is no total."""
@@ -86,8 +89,9 @@ class Progress:
         minute = int((time.monotonic() - began) // self.MINUTE) + 1
         while not self.ended.wait(max(began + minute * self.MINUTE - time.monotonic(), 0)):
             minute += 1
-            if self.at_work[-1] is self:
-                self.show(f"{Path(sys.argv[0]).name}: {self.text()}\n")
+            with self.lock:
+                if self.at_work[-1] is self:
+                    self.show(f"{Path(sys.argv[0]).name}: {self.text()}\n")
 
     def show(self, text):
         # Nobody may be there to read it any more.

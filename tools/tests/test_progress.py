@@ -10,6 +10,7 @@ import sys
 import tempfile
 import time
 import unittest
+from itertools import groupby
 from pathlib import Path
 from unittest import mock
 
@@ -22,9 +23,9 @@ from large_log import main as write_log  # noqa: E402 (the folder of tests is no
 from progress import Progress, print_line  # noqa: E402
 
 SECONDS = 60
-# In place of gczone: they answer as that does, and take longer than two seconds.
-SLOW_COMP = "#!/bin/sh\nread -r a; echo ok; read -r a; echo zone 0; read -r a; sleep 2.5; echo comp 0\n"
-SLOW_CHECK = "#!/bin/sh\ncat > /dev/null\nsleep 2.5\necho ok 0 0 0\n"
+# In place of gczone: they answer as that does, and take much longer than two seconds, also on a busy machine.
+SLOW_COMP = "#!/bin/sh\nread -r a; echo ok; read -r a; echo zone 0; read -r a; sleep 6; echo comp 0\n"
+SLOW_CHECK = "#!/bin/sh\ncat > /dev/null\nsleep 6\necho ok 0 0 0\n"
 
 
 class Quick(Progress):
@@ -163,8 +164,8 @@ class ProgressTest(unittest.TestCase):
             with Quick("lines", stream=terminal.stream) as inner:
                 until_shown(inner)
         places = [line.split(",")[0] for line in shown(terminal.seen())]
-        self.assertEqual(places, sorted(places, reverse=True))
-        self.assertEqual(set(places), {"seeds", "lines"})
+        # Once the inner one has ended, the outer one may be drawn again, or end before that.
+        self.assertIn([place for place, _ in groupby(places)], (["seeds", "lines"], ["seeds", "lines", "seeds"]))
 
     def test_a_printed_line_takes_the_place_of_what_is_shown(self):
         terminal = Terminal()
