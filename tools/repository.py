@@ -263,6 +263,9 @@ def read_item(name, text, first, last):
     keys = [word for word in words[:4] if word in ANTT_WORDS]
     kind = next((word for word in keys if word in ("record", "data")), "definition")
     head = text[re.match(rf"(?:\w+\s+){{{len(keys)}}}", text).end():]
+    if kind != "definition":
+        # The parts of a record, and the cases of a sum, are what it says and no arguments of it.
+        head = re.split(r"\bwhere\b", head, maxsplit=1)[0]
     return Item(WORD.match(head)[0], name, first, last, kind, "pub" in keys, count_arguments(head), head=text)
 
 
