@@ -30,10 +30,6 @@ pub next_digit : (xs : List ℕ) (i n : ℕ) → i < length xs → is_ascii_digi
     → read_on n (front_digits (drop i xs)) ≡ read_on (10 * n + (get_or xs i 0 - 48)) (front_digits (drop (i + 1) xs))
 next_digit xs i n h d = rw (drop-cons xs i 0 h) (rw d (rw add-one refl))
 
-pub next_after : (xs : List ℕ) (i : ℕ) → i < length xs → is_ascii_digit (get_or xs i 0) ≡ true
-    → after_digits (drop i xs) ≡ after_digits (drop (i + 1) xs)
-next_after xs i h d = rw (drop-cons xs i 0 h) (rw d (rw add-one refl))
-
 -- another byte ends the number
 pub last_digit : (xs : List ℕ) (i n : ℕ) → i < length xs → is_ascii_digit (get_or xs i 0) ≡ false
     → read_on n (front_digits (drop i xs)) ≡ n
@@ -134,21 +130,6 @@ front_number (b ∷ bs) rest n some d other h e r =
     digits_parts (b ∷ bs)
     ∙ ap (λ t. t ++ after_digits (b ∷ bs)) (sym (digits_number b bs d other (omega (arith, e))) ∙ ap decimal (sym e))
     ∙ ap (λ t. decimal n ++ t) (sym r)
-
--- a text without a digit in front holds no number
-pub no_decimal : (text rest : List ℕ) (n : ℕ) → n < 2 ^ 32
-    → (0 < length text → is_ascii_digit (get_or text 0 0) ≡ false) → text ≡ decimal n ++ rest → ⊥
-no_decimal text rest n h none e =
-    let first = decimal_first text rest n h e in
-    let other = none first.0 in cc (first.1, other)
-
-pub zero_front : (text : List ℕ) → 0 < length text → get_or text 0 0 ≡ 48 → text ≡ decimal 0 ++ drop 1 text
-zero_front [] some z = absurd (omega arith)
-zero_front (b ∷ bs) some z = ap (λ k. k ∷ bs) z ∙ ap (λ t. t ++ bs) (sym (decimal_digit 0 (omega arith)))
-
-pub zero_parts : (text : List ℕ) → 0 < length text → get_or text 0 0 ≡ 48 → text ≡ 48 ∷ drop 1 text
-zero_parts [] some z = absurd (omega arith)
-zero_parts (b ∷ bs) some z = ap (λ k. k ∷ bs) z
 
 -- numbers of one digit and of two
 digit_is : (d : ℕ) → d < 10 → is_ascii_digit (48 + d) ≡ true

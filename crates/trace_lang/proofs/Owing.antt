@@ -1,12 +1,11 @@
 -- What was written of a text and what is held back.
 use Rattle.std.proofs.Common.{◌≡◌, ℕ, ◌+◌, ◌<◌, ◌≤◌, take, drop, List, [], ◌∷◌, ◌++◌, length, get_or, refl, ap, sym}
-use Rattle.std.proofs.Common.{subst, ◌∙◌, arith, append_assoc, take-append-drop, Option, true, false}
+use Rattle.std.proofs.Common.{subst, ◌∙◌, arith, append_assoc, take-append-drop, Option, false}
 use Rattle.std.proofs.lemmas.List.{append-nil, length-take-le}
 use Rattle.std.specs.Prelude.{codes, ◌==◌}
-use Rattle.std.proofs.lemmas.Bool.{eqb-true}
 use Rattle.std.proofs.Math.Seq.{drop-cons, take-add}
 use Rattle.std.specs.Io.KnownBytes.{Appends}
-use Rattle.std.proofs.KnownBytes.{Appends-trans, Appends-nil}
+use Rattle.std.proofs.KnownBytes.{Appends-trans}
 use Rattle.gz_io.specs.Causes.{AppendsFront}
 use Rattle.gz_names.specs.declared.names.Name.{Name}
 use Rattle.gz_names.specs.declared.zone_sets.ZoneSet.{ZoneSet}
@@ -18,9 +17,6 @@ use Rattle.trace_lang.specs.Words.{number_words}
 use Rattle.trace_lang.specs.Texts.{name_words, names_text, name_text, bar_text, groups_text, line_of}
 use Rattle.trace_lang.specs.Texts.{break_text, dump_lines_text, told_text, told_line}
 
-pub owes_first : (a : Option (List ℕ)) (held : List ℕ) → Owes a a held held
-owes_first a held = ([], Appends-nil a, refl)
-
 -- what is held grows
 pub owes_more : (a b : Option (List ℕ)) (held text more : List ℕ) → Owes a b held text
     → Owes a b (held ++ more) (text ++ more)
@@ -31,13 +27,6 @@ pub owes_sent : (a b c : Option (List ℕ)) (held rest text : List ℕ) → Owes
     → Owes a c rest text
 owes_sent a b c held rest text h k =
     (h.0 ++ k.0, Appends-trans a b c h.0 k.0 h.1 k.1, h.2 ∙ ap (λ t. h.0 ++ t) k.2 ∙ sym (append_assoc h.0 k.0 rest))
-
--- all that is held is written, and more
-pub owes_end : (a b c : Option (List ℕ)) (held text more : List ℕ) → Owes a b held text → Appends b c (held ++ more)
-    → Appends a c (text ++ more)
-owes_end a b c held text more h k =
-    subst (λ t. Appends a c t) (sym (ap (λ t. t ++ more) h.2 ∙ append_assoc h.0 held more))
-    (Appends-trans a b c h.0 (held ++ more) h.1 k)
 
 -- a prefix of what is held, and of more, is written
 pub owes_front : (a b c : Option (List ℕ)) (held text more : List ℕ) → Owes a b held text
@@ -52,9 +41,6 @@ owes_front a b c held text more h k = (
 
 pub front_more : (a b : Option (List ℕ)) (text more : List ℕ) → AppendsFront a b text → AppendsFront a b (text ++ more)
 front_more a b text more h = (h.0, h.1 ++ more, ap (λ t. t ++ more) h.2 ∙ append_assoc h.0 h.1 more, h.3)
-
-pub owes_moved : (a b : Option (List ℕ)) (held new text : List ℕ) → new ≡ held → Owes a b held text → Owes a b new text
-owes_moved a b held new text e h = subst (λ t. Owes a b t text) (sym e) h
 
 -- a step of a loop: room is made, and then more is held
 pub owes_step : (a b c : Option (List ℕ)) (held mid new text next more : List ℕ) → Owes a b held text
@@ -94,10 +80,6 @@ groups_text-append n m [] ys e = ap (λ k. groups_text k ys) (let k : n ≡ m = 
 groups_text-append n m (x ∷ xs) ys e =
     ap (λ t. (bar_text n ++ number_words (zones_in x)) ++ t) (groups_text-append (n + 1) m xs ys (omega (arith, e)))
     ∙ sym (append_assoc (bar_text n ++ number_words (zones_in x)) (groups_text (n + 1) xs) (groups_text m ys))
-
-pub names_none : (xs : List Name) → (length xs == 0) ≡ true → names_text xs ≡ codes " -"
-names_none [] h = refl
-names_none (x ∷ xs) h = absurd (let e : length (x ∷ xs) ≡ 0 = eqb-true (length (x ∷ xs)) 0 h in omega (arith, e))
 
 pub names_some : (xs : List Name) → (length xs == 0) ≡ false → names_text xs ≡ name_words xs
 names_some [] h = absurd (cc h)
@@ -197,6 +179,20 @@ ended_text : (piece zs names : List ℕ) (told : List Name) → piece ≡ (codes
 ended_text piece zs names told e =
     told_behind (((codes "ended" ++ zs) ++ codes " gray") ++ names) told
     ∙ ap (λ t. line_of (t ++ names) ++ told_line told) (sym e)
+
+-- the piece, as its words are put into it
+pub ended_piece : (empty word ended piece zs : List ℕ) → empty ≡ [] → word ≡ empty ++ codes "ended" → ended ≡ word ++ zs
+    → piece ≡ ended ++ codes " gray" → piece ≡ (codes "ended" ++ zs) ++ codes " gray"
+ended_piece empty word ended piece zs e f g h =
+    h ∙ ap (λ t. t ++ codes " gray") (g ∙ ap (λ t. t ++ zs) (f ∙ ap (λ t. t ++ codes "ended") e))
+
+pub ended_whole : (a b c : Option (List ℕ)) (piece zs names : List ℕ) (told : List Name)
+    → piece ≡ (codes "ended" ++ zs) ++ codes " gray" → Appends a b (line_of (piece ++ names))
+    → Appends b c (told_line told)
+    → Appends a c (line_of (codes "ended" ++ zs ++ codes " gray" ++ names ++ told_text told))
+ended_whole a b c piece zs names told e h k =
+    subst (λ t. Appends a c t) (sym (ended_text piece zs names told e))
+    (Appends-trans a b c (line_of (piece ++ names)) (told_line told) h k)
 
 pub ended_front : (a b : Option (List ℕ)) (piece zs names : List ℕ) (told : List Name)
     → piece ≡ (codes "ended" ++ zs) ++ codes " gray" → AppendsFront a b (line_of (piece ++ names))

@@ -27,7 +27,6 @@
 #![tactic(auto)]
 
 mod arguments;
-mod laws;
 mod lines;
 mod numbers;
 mod piece;
@@ -37,6 +36,5 @@ mod words;
 mod write;
 mod zone_bits;
 
-pub use laws::{spelling_law, zones_law};
 pub use lines::{BadLine, parse};
 pub use write::{write_name, write_reply, write_report};
