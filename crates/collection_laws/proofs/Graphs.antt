@@ -46,7 +46,7 @@ taken_graph : (o : Option Preparation) (w : World) (k : Option Collection) (g : 
 taken_graph None w k g x y v h = accepted_graph w k g x v h
 taken_graph (Some p) w k g x y v h = prepared_graph w p g x y v h
 
-command_graph : (w : World) (c : GraphCmd) (answer : Reply) (v : World) → CommandInWorld w c answer v
+pub command_graph : (w : World) (c : GraphCmd) (answer : Reply) (v : World) → CommandInWorld w c answer v
     → v.graph ≡ (step_of w.graph c).0
 command_graph w c answer v h = go (refusal_in (step_of w.graph c).1) refl h.1
   where

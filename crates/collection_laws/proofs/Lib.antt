@@ -3,3 +3,7 @@ pub mod Zones
 pub mod Fresh
 pub mod Collecting
 pub mod LastLines
+pub mod Replies
+pub mod Times
+pub mod Lying
+pub mod Accounts

@@ -18,18 +18,22 @@
 #![tactic(auto)]
 
 ghost use Rattle.std.specs.Prelude.{◌≡◌, ◌++◌, ◌∷◌, [], ℕ, List, All};
+ghost use Rattle.std.specs.List.{flat_map};
 ghost use Rattle.gz_names.specs.declared.commands.Cmd.{Cmd};
 ghost use Rattle.gz_names.specs.declared.commands.Cmd.TheVariants as command;
+ghost use Rattle.gz_names.specs.declared.commands.GraphCmd.{GraphCmd};
+ghost use Rattle.gz_names.specs.declared.names.Name.{Name};
 ghost use Rattle.gz_names.specs.declared.replies.Reply.{Reply};
 ghost use Rattle.gz_names.specs.declared.replies.Report.{Report};
 ghost use Rattle.gz_names.specs.declared.zone_sets.ZoneSet.{ZoneSet};
 ghost use Rattle.gz_names.specs.Zones.{zones_in};
 ghost use Rattle.colour_defs.specs.Graph.{GraphState, empty_graph};
-ghost use Rattle.colour_defs.specs.World.{World, first_world};
-ghost use Rattle.colour_defs.specs.Lawful.{Beginning, Collects, RunBy};
-ghost use Rattle.colour_defs.specs.Laws.{IsNoWeakCmd};
+ghost use Rattle.colour_defs.specs.World.{CommandInWorld, World, first_world};
+ghost use Rattle.colour_defs.specs.Lawful.{AreLawfulUnits, Beginning, BeginsBy, Collects, RunBy};
+ghost use Rattle.colour_defs.specs.Laws.{IsNoWeakCmd, IsValid};
 ghost use Rattle.collection_laws.specs.Collected.{AreAllZones, IsCollected};
 ghost use Rattle.collection_laws.specs.Graphs.{MakesNoZone, graph_after};
+ghost use Rattle.collection_laws.specs.Numbers.{GivesNext, IsAccounted, freed_in, given_after};
 
 /// A run without weak commands leads to the graph that its commands on the graph lead to.
 pub fn graph_law()
@@ -61,4 +65,18 @@ pub fn last_collection_law()
         → All IsNoWeakCmd commands → AreAllZones (graph_after empty_graph commands) (zones_in zones)
         → RunBy how first_world (commands ++ command.Finish ∷ command.Collect zones ∷ command.Colours ∷ []) answers v
         → IsCollected v × (v.graph ≡ graph_after empty_graph commands) }
+{}
+
+/// A number is given once, to an object or a map, and listed once as freed: so it is from the first world on, with
+/// each command on the graph, each beginning of a collection, and each unit.
+pub fn numbers_law()
+    ensures first { IsAccounted first_world 0 [] }
+    ensures command { (w v : World) (c : GraphCmd) (answer : Reply) (given : ℕ) (freed : List Name)
+        → IsValid w → IsAccounted w given freed → CommandInWorld w c answer v
+        → GivesNext given answer × IsAccounted v (given_after given answer) freed }
+    ensures begins { (how : Beginning) (w v : World) (zones : List ℕ) (given : ℕ) (freed : List Name)
+        → IsAccounted w given freed → BeginsBy how w zones v → IsAccounted v given freed }
+    ensures units { (w v : World) (units : List (List Report)) (given : ℕ) (freed : List Name)
+        → IsAccounted w given freed → AreLawfulUnits w units v
+        → IsAccounted v given (freed ++ freed_in (flat_map (λ u. u) units)) }
 {}

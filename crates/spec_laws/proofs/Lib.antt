@@ -2,3 +2,5 @@ pub mod Starts
 pub mod Dumped
 pub mod Tight
 pub mod WeakKept
+pub mod MovedNumbers
+pub mod RunNumbers

@@ -94,7 +94,7 @@ without_none (x ∷ xs) ys given none =
     (none x (contains_head x xs)) ∙ ap (λ l. x ∷ l) (without_none xs ys given (λ a c. none a (contains_tail x xs a c)))
 
 -- so exactly the kept arenas are the zone's afterwards
-owned_after : (w : World) (zone moved given : ℕ) (v : World) (c : Compacts w zone moved given v)
+pub owned_after : (w : World) (zone moved given : ℕ) (v : World) (c : Compacts w zone moved given v)
     → arenas_from 0 v.owner (zone ∷ []) ≡ c.kept ++ []
 owned_after w zone moved given v c =
     ap (λ (z : World). arenas_from 0 z.owner (zone ∷ [])) c.world_is

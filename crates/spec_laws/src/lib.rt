@@ -1,18 +1,19 @@
-// Four more laws of the definitions, on which the collector's proofs do not rest.
+// Five more laws of the definitions, on which the collector's proofs do not rest.
 //
 // [gczone] Laws of the specification
 //
-// A reader of the definitions asks more of them than the proofs of the collector need. These laws answer four such
+// A reader of the definitions asks more of them than the proofs of the collector need. These laws answer five such
 // questions, each for every lawful answer or every valid world:
 //
 //     what may stand before a last line?     reports of whole units, which go on to the end
 //     is a dump sound?                       yes, whenever no zone is marking
 //     what does a compaction keep?           each present cell; and no placement of them takes fewer arenas
 //     what do weak slots and watches keep?   exactly what is still present
+//     what becomes of a cell's number?       it is given once, and listed once as freed
 //
 // Without the first, a run whose output stopped in the middle of a line's reports would be outside the specification,
-// though nothing is wrong with it. Without the last, a weak slot could go on naming a cell that is gone, or lose one
-// that is there.
+// though nothing is wrong with it. Without the fourth, a weak slot could go on naming a cell that is gone, or lose one
+// that is there; without the last, who keeps data by a cell's number could not tell when to let it go.
 //
 // Only the check of dumps uses one of them (trace_cli, `dump_law`). So they stand beside the crates of the collector,
 // and not below them.
@@ -26,13 +27,15 @@ ghost use Rattle.gz_names.specs.declared.replies.Report.{Report};
 ghost use Rattle.gz_names.specs.declared.dumps.DumpLine.{DumpLine};
 ghost use Rattle.gz_names.specs.Dumps.{IsSoundDump};
 ghost use Rattle.colour_defs.specs.Dumps.{IsDump};
-ghost use Rattle.colour_defs.specs.World.{World, IsSettled};
-ghost use Rattle.colour_defs.specs.Lawful.{Beginning, AnswersBy};
+ghost use Rattle.colour_defs.specs.World.{World, IsSettled, first_world};
+ghost use Rattle.colour_defs.specs.Lawful.{Beginning, AnswersBy, RunBy};
 ghost use Rattle.colour_defs.specs.Lawful.{AreLawfulUnits, StartsToAnswerBy};
 ghost use Rattle.colour_defs.specs.Laws.{IsValid, IsNoWeakCmd};
 ghost use Rattle.colour_defs.specs.Compaction.{Compacts};
 ghost use Rattle.colour_defs.specs.WeakRefs.{WeakInWorld};
+ghost use Rattle.collection_laws.specs.Numbers.{IsAccounted};
 ghost use Rattle.spec_laws.specs.Kept.{IsTight, KeepsWeak};
+ghost use Rattle.spec_laws.specs.NumbersInRuns.{GiveInOrder, freed_by, given_in};
 
 /// The reports of a lawful answer may be written before its last line, and the first units of
 /// lawful units are lawful.
@@ -63,4 +66,12 @@ pub fn weak_law()
         → IsValid w → IsNoWeakCmd c → AnswersBy how w c reports answer v → KeepsWeak w v }
     ensures deref { (w v : World) (r q : ℕ) (answer : Reply)
         → WeakInWorld w (weak_cmd.Deref r q) answer v → v.weak ≡ w.weak }
+{}
+
+/// In every run replies give the numbers of objects and maps from 0 on, each once, and reports list each number
+/// once as freed, whose cell is neither present nor still to be swept.
+pub fn run_numbers_law()
+    ensures { (how : Beginning) (commands : List Cmd) (answers : List (List Report × Reply)) (w : World)
+        → RunBy how first_world commands answers w
+        → GiveInOrder 0 answers × IsAccounted w (given_in 0 answers) (freed_by answers) }
 {}
