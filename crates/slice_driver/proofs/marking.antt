@@ -1,10 +1,12 @@
 -- Units that report nothing: marking, the beginnings of zones, and why they leave each world as it is.
+pub mod Accounts
 pub mod AtGroupEnd
 pub mod EdgesRead
 pub mod Flights
 pub mod GroupingSteps
 pub mod MarkingSteps
 pub mod MarkingUnits
+pub mod SessionReports
 pub mod Sessions
 pub mod Settled
 pub mod UnitSteps

@@ -78,6 +78,7 @@ pub record DoesInWorld (w : World) (c : GraphCmd) (answer : Reply) (new : HeapSt
     pub lies : LiesIn new after
     pub black : IsSettled after → AreBlack (with_colours new colours) after
     pub out_is : after.out ≡ w.out
+    pub preparing_is : after.preparing ≡ w.preparing
     pub graph_is : after.graph ≡ (step_of w.graph c).0
     pub collection_is : after.collection ≡ waking (woken_by w.graph c) (with_counts w.graph c w.collection)
 

@@ -26,6 +26,7 @@ pub mod Advances
 pub mod Serves
 pub mod Present
 pub mod Sessions
+pub mod Accounts
 pub mod NameKinds
 pub mod ListedWrappers
 pub mod Listings

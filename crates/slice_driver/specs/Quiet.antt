@@ -8,12 +8,11 @@ use Rattle.colour_defs.specs.World.{World, Collection}
 use Rattle.heap_core.specs.Shape.{state_in}
 use Rattle.zone_edges.specs.Looks.{AreAllLookedAt}
 use Rattle.barriers.specs.Colours.{IsBlack}
-use Rattle.barriers.specs.Invariant.{MarkingInvariant}
 use Rattle.barriers.specs.PendingBlack.{PendingBlack}
-use Rattle.barriers.specs.PendingLive.{PendingLive, GrayInvariant}
+use Rattle.barriers.specs.PendingLive.{PendingLive}
 use Rattle.slice_driver.specs.Collector.{CollectorState, RunState, heap_with}
 use Rattle.slice_driver.specs.Worlds.{IsInFlight}
-use Rattle.slice_driver.specs.Represents.{AreLookedAt, IsCurrent, Represents, WaitsWhileMarking}
+use Rattle.slice_driver.specs.Represents.{AreLookedAt, IsColoured, IsCurrent, Represents}
 
 -- a collection runs, and its groups are formed
 abbrev pub IsFormed : CollectorState → Type 0
@@ -37,9 +36,7 @@ pub record IsQuiet (c : CollectorState) (flown : ℕ → Option Bits) (d : Colle
   pub sized : length d.heap.shape.states ≡ length c.heap.shape.states
   pub states : (z : ℕ) → IsStateAfter c z (state_in d.heap.shape z)
   pub flies : IsInFlight d.heap.shape flying
-  pub marks : MarkingInvariant (heap_with d flying) d.stack
-  pub gray : GrayInvariant (heap_with d flying) d.stack d.lists
-  pub waits : WaitsWhileMarking d
+  pub coloured : IsColoured (heap_with d flying) d.stack d.lists
   pub darker : (p : Place) → IsBlack (heap_with c flown) p → IsBlack (heap_with d flying) p
   pub black : (p : Place) → PendingBlack (heap_with d flying) d.stack p ↔ PendingBlack (heap_with c flown) c.stack p
   pub live : (p : Place) → PendingLive (heap_with d flying) d.stack d.lists p

@@ -9,13 +9,13 @@ use Rattle.cell_bits.specs.declared.bits.Bits.{Bits}
 use Rattle.zones.specs.declared.states.State.TheVariants as state
 use Rattle.weak_maps.specs.WeakMaps.{LooksState, NoneLeft}
 use Rattle.weak_maps.specs.declared.colours.MarkColour.TheVariants as mark
-use Rattle.gray_lists.specs.Incoming.{list_of as waiting_for}
+use Rattle.gray_lists.specs.Incoming.{Incoming, list_of as waiting_for}
 use Rattle.zone_edges.specs.Groups.{Edge}
 use Rattle.zone_edges.specs.Looks.{AreLeftBlack, IsLookedAt}
 use Rattle.colour_defs.specs.World.{World, Collection, IsSettled}
 use Rattle.colour_defs.specs.Groups.{IsFirstEdge}
 use Rattle.heap_core.specs.Shape.{HasEdge, Shape, is_marking_state, out_of, state_in, state_of, zone_of}
-use Rattle.mark_stack.specs.Stack.{no_places}
+use Rattle.mark_stack.specs.Stack.{Piles, no_places}
 use Rattle.heap_core.specs.Heap.{HeapState}
 use Rattle.barriers.specs.Colours.{IsBlack}
 use Rattle.barriers.specs.Invariant.{MarkingInvariant}
@@ -37,12 +37,12 @@ NothingLeft looks = NoneLeft mark.Gray looks × NoneLeft mark.Black looks
 
 -- only for marking zones does anything wait: cells for a zone's gray marking, wrappers for a compartment of a zone, and
 -- weak entries to be looked at; and on the gray pile are cells of zones that take gray
-pub record WaitsWhileMarking (c : CollectorState) : Type 0 where
-  pub piled : (x : Place) → Contains c.stack.gray x → state_of c.heap.shape x ≡ state.MarkBlackAndGray
-  pub buffered : (z : ℕ) → is_marking_state (state_in c.heap.shape z) ≡ false → buffer_of c.heap z ≡ []
-  pub incoming : (n : ℕ) (p : Place) → Contains (waiting_for c.lists n) p
-      → (z : ℕ) × (slice_get c.heap.shape.comps n ≡ Some z) × (is_marking_state (state_in c.heap.shape z) ≡ true)
-  pub looks : ((z : ℕ) → is_marking_state (state_in c.heap.shape z) ≡ false) → NothingLeft c.heap.looks
+pub record WaitsWhileMarking (h : HeapState) (p : Piles) (lists : Incoming) : Type 0 where
+  pub piled : (x : Place) → Contains p.gray x → state_of h.shape x ≡ state.MarkBlackAndGray
+  pub buffered : (z : ℕ) → is_marking_state (state_in h.shape z) ≡ false → buffer_of h z ≡ []
+  pub incoming : (n : ℕ) (x : Place) → Contains (waiting_for lists n) x
+      → (z : ℕ) × (slice_get h.shape.comps n ≡ Some z) × (is_marking_state (state_in h.shape z) ≡ true)
+  pub looks : ((z : ℕ) → is_marking_state (state_in h.shape z) ≡ false) → NothingLeft h.looks
 
 -- a zone is in one of the groups
 abbrev pub IsInGroups : List ZoneSet → ℕ → Type 0
@@ -82,11 +82,6 @@ pub record AreLookedAt (h : HeapState) (c : CollectorState) (r : RunState) (w : 
       → IsBlack h q ⊎ Edge c.edges.sources (zone_of h.shape p) (zone_of h.shape q)
   pub left_black : (c.edges.stepped.bits ≡ 0) ⊎ AreLeftBlack h c.edges
 
--- after it: a wrapper of a group that has not ended leads into an earlier one only to black cells
-abbrev pub AreBehind : HeapState → CollectorState → RunState → Type 0
-AreBehind h c r = (p q : Place) → LeadsAcross h.shape r p q → IsInGroups c.groups (zone_of h.shape p)
-    → (IsInGroups c.groups (zone_of h.shape q) → ⊥) → IsBlack h q
-
 -- the collection that runs
 pub record Runs (h : HeapState) (c : CollectorState) (w : World) (r : RunState) (k : Collection) : Type 0 where
   pub zones_are : k.zones ≡ zones_in r.zones
@@ -95,7 +90,6 @@ pub record Runs (h : HeapState) (c : CollectorState) (w : World) (r : RunState) 
   pub states : AreInStates c r
   pub tied : (z : ℕ) → Contains k.marking z → AreTied h c.stack c.lists w k
   pub early : r.formed ≡ false → AreLookedAt h c r w k
-  pub late : r.formed ≡ true → AreBehind h c r
 
 abbrev pub RunsAs : HeapState → CollectorState → World → Option RunState → Option Collection → Type 0
 RunsAs h c w None None = IsIdle c
@@ -103,14 +97,35 @@ RunsAs h c w None (Some k) = ⊥
 RunsAs h c w (Some r) None = ⊥
 RunsAs h c w (Some r) (Some k) = Runs h c w r k
 
--- a collector stands for a world, with these bits in flight; what is delayed is told among what is pending
+-- where cells lie: each at its place in the world; what is delayed stands among what is pending
+pub record IsPlaced (h : HeapState) (w : World) : Type 0 where
+  pub delayed : h.delayed ≡ no_places
+  pub lies : LiesIn h w
+
+-- what is being swept: exactly the arenas that are handed out are in flight, and what is not swept yet has no second
+-- place
+pub record IsBeingSwept (s : Shape) (flown : ℕ → Option Bits) : Type 0 where
+  pub apart : (x : Name) (p q : Place) → IsUnswept s p x → IsUnswept s q x → p ≡ q
+  pub flies : IsInFlight s flown
+
+-- colours, and what waits for marking
+pub record IsColoured (h : HeapState) (p : Piles) (lists : Incoming) : Type 0 where
+  pub marks : MarkingInvariant h p
+  pub gray : GrayInvariant h p lists
+  pub waits : WaitsWhileMarking h p lists
+
+-- how far the world is: nothing is being prepared in it; what is black where no zone is marking; the collection that
+-- runs
+pub record IsInPhase (h : HeapState) (c : CollectorState) (w : World) : Type 0 where
+  pub calm : w.preparing ≡ None
+  pub black : IsSettled w → AreBlack h w
+  pub runs : RunsAs h c w c.run w.collection
+
+-- a collector stands for a world, with these bits in flight. Its parts by what changes them: commands that make or drop
+-- a cell, and arenas that come in, change where cells lie; sweeping changes what is being swept; marking and barriers
+-- change colours; and what goes on with a collection changes the phase
 pub record Represents (c : CollectorState) (flown : ℕ → Option Bits) (w : World) : Type 0 where
-  pub delayed : c.heap.delayed ≡ no_places
-  pub lies : LiesIn c.heap w
-  pub unswept_apart : (x : Name) (p q : Place) → IsUnswept c.heap.shape p x → IsUnswept c.heap.shape q x → p ≡ q
-  pub flies : IsInFlight c.heap.shape flown
-  pub marks : MarkingInvariant (heap_with c flown) c.stack
-  pub gray : GrayInvariant (heap_with c flown) c.stack c.lists
-  pub waits : WaitsWhileMarking c
-  pub black : IsSettled w → AreBlack (heap_with c flown) w
-  pub runs : RunsAs (heap_with c flown) c w c.run w.collection
+  pub placed : IsPlaced c.heap w
+  pub swept : IsBeingSwept c.heap.shape flown
+  pub coloured : IsColoured (heap_with c flown) c.stack c.lists
+  pub phase : IsInPhase (heap_with c flown) c w

@@ -1,6 +1,6 @@
 -- Where the cells of a heap lie in a world.
 use Rattle.std.specs.Prelude.{◌≡◌, ◌↔◌, ◌⊎◌, ℕ, suc, true, is_some, if◌then◌else◌, List, [], ◌∷◌, map, Option, Some}
-use Rattle.std.specs.Prelude.{None, Contains}
+use Rattle.std.specs.Prelude.{Contains}
 use Rattle.std.specs.FinMap as places
 use Rattle.gz_names.specs.declared.names.Name.{Name}
 use Rattle.gz_names.specs.declared.numbers.Place.{Place}
@@ -54,6 +54,5 @@ pub record LiesIn (h : HeapState) (w : World) : Type 0 where
   pub places_are : (x : Name) (p : Place) → (places.get w.places x ≡ Some p) ↔ (name_at h.shape p ≡ Some x)
   pub owner_is : w.owner ≡ owners_of h.shape.arenas
   pub weak_is : w.weak ≡ no_weak_names
-  pub calm : w.preparing ≡ None
   pub out_is : w.out ≡ outs_from 0 h.shape.arenas
   pub white_are : (x : Name) (p : Place) → Contains {X = Name × (ℕ × ℕ)} w.white (x, p) ↔ IsUnswept h.shape p x

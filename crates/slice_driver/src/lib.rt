@@ -5,14 +5,16 @@
 // The definitions speak of names and worlds, the crates below of places, bits and piles. `Represents`
 // ties the two. A collector stands for a world where
 //
-//     cells      each present cell lies where the world has its name, with its zone; what was white as
+//     placed     each present cell lies where the world has its name, with its zone; what was white as
 //                its arena went out is a name that the world has not swept yet (`LiesIn`)
-//     marks      the marking invariants of barriers hold
-//     colours    while no zone is marking, what is black is what the world has black (`AreBlack`)
-//     closures   while a zone is marking, what is still to become black is the black closure of the
-//                collection, and what is still to become gray or black is the live one (`AreTied`)
-//     the run    states of zones, groups, noted edges and looks are those of the collection (`Runs`)
+//     swept      exactly the arenas that are handed out are in flight, and no name is to be swept twice
+//     coloured   the marking invariants of barriers hold, and nothing waits but for marking zones
+//     phase      while no zone is marking, what is black is what the world has black (`AreBlack`);
+//                while a zone is marking, what is still to become black is the black closure of the
+//                collection, and what is still to become gray or black is the live one (`AreTied`);
+//                and states of zones, groups, noted edges and looks are those of the collection (`Runs`)
 //
+// Each part has its laws of keeping, so that a proof about a step names the parts that the step changes.
 // Bits of arenas that are handed to sweeping are in flight, and come from elsewhere.
 //
 // `command` does a command, also between two units of a collection: it makes room, exposes what is
@@ -66,4 +68,4 @@ pub use advance::Step;
 pub use begin::BeginFault;
 pub use collector::{Collector, Run};
 pub use laws::zones_made_law;
-pub use session::{Session, SessionFault};
+pub use session::{Session, SessionFault, SessionReply, SessionReport, SessionStep, refusal_words};

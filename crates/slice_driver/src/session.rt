@@ -1,29 +1,38 @@
 // A session: a collector with who sweeps its arenas, for those who embed it.
 ghost use Rattle.std.specs.Prelude.{◌≡◌, ◌↔◌, ◌⊎◌, ◌≤◌, ◌<◌, Err, None, IfOk, IfSome, IsSome, IsTrue, OnErr, OnOk};
-ghost use Rattle.std.specs.Prelude.{Some, false, ℕ};
+ghost use Rattle.std.specs.Prelude.{Some, false, [], ℕ};
 ghost use Rattle.gz_names.specs.Zones.{HasZone};
 ghost use Rattle.colour_defs.specs.Step.{HasFewFields, refusal_in};
 ghost use Rattle.colour_defs.specs.World.{World, first_world};
 ghost use Rattle.heap_core.specs.Effects.{HasRoom, takes_memory};
+ghost use Rattle.collection_laws.specs.Numbers.{IsGraphReply};
 ghost use Rattle.heap_core.specs.Heap.{HeapState, joined};
+ghost use Rattle.slice_driver.specs.Accounts.{Accounts, FreesOn, GivesOn, freed_by};
 ghost use Rattle.slice_driver.specs.Begins.{AreMade};
 ghost use Rattle.slice_driver.specs.Commands.{WantsMemory};
 ghost use Rattle.slice_driver.specs.Represents.{Represents};
 ghost use Rattle.slice_driver.specs.Sessions.{AreDumpLines, AreGrayNames, IsNowhereSettled};
-ghost use Rattle.slice_driver.specs.Sessions.{SessionSteps, outcome_of};
+ghost use Rattle.slice_driver.specs.Sessions.{SessionSteps, groups_of, kind_of, names_of, outcome_of};
 ghost use Rattle.slice_driver.specs.Units.{BeginsIn, BeginsWithin, DoesCommand, RaisesWithin};
 ghost use Rattle.slice_driver.specs.Working.{IsAtGroupEnd, IsStill};
 ghost use Rattle.sweeping.specs.ArenasOut.{flown_by};
 
-use crate::advance::Step;
+mod counts;
+mod faults;
+mod told;
+
 use crate::begin::BeginFault;
 use crate::collector::Collector;
 use crate::counted::{advance, begin, command};
-use gz_names::{CmdFault, DumpLine, GraphCmd, NameList, NoMemory, Refusal, Reply, Report, ZoneSet};
+pub use faults::refusal_words;
+use gz_names::{
+    CmdFault, DumpLine, GraphCmd, Name, NameList, NoMemory, Refusal, Reply, Report, ZoneSet,
+};
 use std::alloc::Global;
 use std::marker::{Brand, Model};
 use std::sync::ledger::Blank;
 use sweeping::{MainSweeper, Sweeper};
+pub use told::{SessionReply, SessionReport, SessionStep};
 
 /// Why a session did not do a command.
 #[derive(Clone, Copy, Debug, PartialEq, Eq)]
@@ -70,6 +79,7 @@ impl Session<MainSweeper> {
         ensures first { IfOk result (λ s. Represents s.collector (flown_by s.sweeper) first_world) }
         ensures idle { IfOk result (λ s. s.collector.run ≡ None) }
         ensures report { IfOk result (λ s. s.report ≡ None) }
+        ensures accounts { IfOk result (λ s. Accounts s.collector (flown_by s.sweeper) 0 []) }
     {
         Ok(Session {
             alloc,
@@ -84,13 +94,16 @@ impl<S: Sweeper> Session<S> {
     /// Does a command on the graph, also between two steps of a collection. A command that is refused
     /// changes nothing. Only a command that is not refused returns `NoMemory`, and only one that makes
     /// something: then the graph is as it was.
-    pub fn command(&mut self, cmd: GraphCmd) -> Result<Reply, SessionFault>
+    ///
+    /// An object or a map gets the next number, from 0 on.
+    pub fn command(&mut self, cmd: GraphCmd) -> Result<SessionReply, SessionFault>
         requires fields { HasFewFields cmd }
         ensures done { IfSome (outcome_of result) (λ outcome. DoesCommand self.old.collector
             (S.bits self.old.sweeper) cmd outcome self.new.collector (S.bits self.new.sweeper)) }
         ensures to_come { IfSome (outcome_of result) (λ outcome. RaisesWithin self.old.collector
             (S.bits self.old.sweeper) cmd outcome self.new.collector (S.bits self.new.sweeper)) }
-        ensures answered { IfOk result (λ answer. refusal_in answer ≡ None) }
+        ensures accounts { GivesOn self.old.collector (S.bits self.old.sweeper) result
+            self.new.collector (S.bits self.new.sweeper) }
         ensures refused { (why : _) → result ≡ Err (SessionFault.Refused why)
             → (self.new.collector ≡ self.old.collector)
             × (S.bits self.new.sweeper ≡ S.bits self.old.sweeper) }
@@ -127,6 +140,8 @@ impl<S: Sweeper> Session<S> {
         ensures refused { OnErr result (self.new.collector ≡ self.old.collector) }
         ensures sweeper { self.new.sweeper ≡ self.old.sweeper }
         ensures report { self.new.report ≡ self.old.report }
+        ensures accounts { FreesOn self.old.collector (S.bits self.old.sweeper) []
+            self.new.collector (S.bits self.new.sweeper) }
     {
         if self.collector.running() {
             return Err(BeginFault::Running);
@@ -138,14 +153,17 @@ impl<S: Sweeper> Session<S> {
     }
 
     /// Does a step of the collection that runs, at most `limit` units: those that report nothing, as
-    /// many as come one after another, or one that reports something, which `report` returns then.
-    /// Nothing is done when none runs. It returns `NoMemory` only where a group is to end; then nothing
-    /// was done, and the step may be tried again.
-    pub fn advance(&mut self, limit: u64) -> Result<Step, NoMemory>
+    /// many as come one after another, or one that reports something, as the step says. Nothing is done
+    /// when none runs. It returns `NoMemory` only where a group is to end; then nothing was done, and the
+    /// step may be tried again.
+    ///
+    /// Each object and map is listed once as freed, in the report of its arena.
+    pub fn advance(&mut self, limit: u64) -> Result<SessionStep, NoMemory>
         ensures done { IfOk result (λ step. SessionSteps limit self.old.collector
             (S.bits self.old.sweeper) self.old.report step self.new.collector
             (S.bits self.new.sweeper) (S.left (S.origin self.new.sweeper)) self.new.report) }
-        ensures handed { IfOk result (λ step. step.handed ≡ None) }
+        ensures accounts { FreesOn self.old.collector (S.bits self.old.sweeper)
+            (freed_by result self.new.report) self.new.collector (S.bits self.new.sweeper) }
         ensures err { OnErr result (IsStill self.old.collector (S.bits self.old.sweeper)
             self.new.collector (S.bits self.new.sweeper)) }
         ensures err_where { OnErr result (IsAtGroupEnd self.old.collector
@@ -153,26 +171,42 @@ impl<S: Sweeper> Session<S> {
         ensures err_report { OnErr result (self.new.report ≡ self.old.report) }
     {
         if limit == 0 {
-            return Ok(Step::none());
+            return Ok(SessionStep::none());
         }
         if !self.collector.running() {
-            return Ok(Step::none());
+            return Ok(SessionStep::none());
         }
-        advance::<S, Brand>(
+        let done = advance::<S, Brand>(
             self.alloc,
             &mut self.collector,
             limit,
             &mut self.sweeper,
             &mut self.report,
             Blank::new(1),
-        )
+        );
+        told::steps_of(done, &self.report)
     }
 
-    /// The last report.
-    pub fn report(&self) -> &Option<Report>
-        ensures { result.now ≡ self.now.report }
+    /// What the last report is about, until the next one.
+    pub fn report(&self) -> Option<SessionReport>
+        ensures { result ≡ kind_of self.now.report }
     {
-        &self.report
+        told::report_of(&self.report)
+    }
+
+    /// The names that the last report lists: the gray cells of a group that ended, or what was freed from
+    /// an arena, ascending.
+    pub fn names(&self) -> &[Name]
+        ensures { result.now ≡ names_of self.now.report }
+    {
+        told::names(&self.report)
+    }
+
+    /// The groups that the last report lists, in the order in which they end.
+    pub fn groups(&self) -> &[ZoneSet]
+        ensures { result.now ≡ groups_of self.now.report }
+    {
+        told::groups(&self.report)
     }
 
     /// The names of the gray cells, ascending; `None` exactly when a zone is marking.
@@ -223,11 +257,13 @@ impl<S: Sweeper> Session<S> {
 }
 
 // What came of a command, told as a session tells it.
-fn result_of(outcome: Result<Reply, CmdFault>) -> Result<Reply, SessionFault>
+fn result_of(outcome: Result<Reply, CmdFault>) -> Result<SessionReply, SessionFault>
+    requires graph { IfOk outcome IsGraphReply }
+    requires answered { IfOk outcome (λ reply. refusal_in reply ≡ None) }
     ensures { outcome_of result ≡ Some outcome }
 {
     match outcome {
-        Ok(reply) => Ok(reply),
+        Ok(reply) => Ok(told::reply_of(&reply)),
         Err(CmdFault::Refused(why)) => Err(SessionFault::Refused(why)),
         Err(CmdFault::NoMemory) => Err(SessionFault::NoMemory),
     }

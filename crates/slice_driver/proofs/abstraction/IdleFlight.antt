@@ -20,8 +20,8 @@ is_none (Some x) p e k = absurd (let s : is_some p ≡ false = ap is_some k in c
 
 pub idle_flown : (c : CollectorState) (f : ℕ → Option Bits) (w : World) → Represents c f w → c.run ≡ None
     → f ≡ none_flown
-idle_flown c f w rep e = λ i a. is_none (f a) (out_of c.heap.shape a) (rep.flies.covers a)
-    (none_out (heap_with c f) c w c.run w.collection rep.runs e a) i
+idle_flown c f w rep e = λ i a. is_none (f a) (out_of c.heap.shape a) (rep.swept.flies.covers a)
+    (none_out (heap_with c f) c w c.run w.collection rep.phase.runs e a) i
 
 pub idle_sound : (c : CollectorState) (f : ℕ → Option Bits) → IsSound c f → c.run ≡ None → IsSound c none_flown
 idle_sound c f s e = subst (λ (g : ℕ → Option Bits). IsSound c g) (idle_flown c f s.world s.represents e) s

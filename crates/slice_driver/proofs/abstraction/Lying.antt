@@ -65,10 +65,9 @@ present_at v x there = go (places.get v.places x) refl there
 pub lies_from : (h : HeapState) (g : GraphState) (v : World) → Shows h g → IsWellFormed g → present.IsPartOf v.graph g
     → AreWhole h.shape.arenas
     → ((x : Name) (p : Place) → (places.get v.places x ≡ Some p) ↔ (name_at h.shape p ≡ Some x))
-    → v.owner ≡ owners_of h.shape.arenas → v.weak ≡ no_weak_names → v.preparing ≡ None
-    → v.out ≡ outs_from 0 h.shape.arenas
+    → v.owner ≡ owners_of h.shape.arenas → v.weak ≡ no_weak_names → v.out ≡ outs_from 0 h.shape.arenas
     → ((x : Name) (p : Place) → Contains {X = Name × (ℕ × ℕ)} v.white (x, p) ↔ IsUnswept h.shape p x) → LiesIn h v
-lies_from h g v s well part whole at owner weak calm out white = record {
+lies_from h g v s well part whole at owner weak out white = record {
   whole = whole;
   graph = g;
   shown = s;
@@ -83,7 +82,6 @@ lies_from h g v s well part whole at owner weak calm out white = record {
   places_are = at;
   owner_is = owner;
   weak_is = weak;
-  calm = calm;
   out_is = out;
   white_are = white;
 }
@@ -153,7 +151,6 @@ lies_marked h ds d w l = record {
   places_are = l.places_are;
   owner_is = l.owner_is;
   weak_is = l.weak_is;
-  calm = l.calm;
   out_is = l.out_is;
   white_are = l.white_are;
 }

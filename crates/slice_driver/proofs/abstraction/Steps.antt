@@ -28,12 +28,12 @@ use Rattle.barriers.proofs.BlackClosure.{pending_is_reached, reached_is_black}
 use Rattle.slice_driver.specs.Collector.{CollectorState, RunState, heap_with}
 use Rattle.slice_driver.specs.Closures.{AreBlack, AreTied}
 use Rattle.zone_edges.specs.Looks.{AreAllLookedAt, AreLeftBlack, IsLookedAt, wrapper_at}
-use Rattle.slice_driver.specs.Represents.{AreBehind, AreInStates, IsCurrent, IsIdle, IsInGroups, LeadsAcross}
+use Rattle.slice_driver.specs.Represents.{AreInStates, IsCurrent, IsIdle, IsInGroups, LeadsAcross}
 use Rattle.slice_driver.specs.Represents.{Represents, Runs, RunsAs}
 use Rattle.slice_driver.specs.Quiet.{HasSameLooks, IsQuiet, KeepsLooks}
 use Rattle.slice_driver.proofs.abstraction.Named.{some_one}
 use Rattle.slice_driver.proofs.basics.Cells.{HasSameCells}
-use Rattle.slice_driver.proofs.basics.Worlds.{lies_same, unswept_same}
+use Rattle.slice_driver.proofs.basics.Worlds.{placed_same, swept_in}
 
 -- where no zone is marking, black is all that is left to turn black
 pub settled_pending : (h : HeapState) (p : Piles) → MarkingInvariant h p → ((x : Place) → is_marking h.shape x ≡ false)
@@ -165,11 +165,6 @@ module _ (c : CollectorState) (flown : ℕ → Option Bits) (d : CollectorState)
   across_back r p x l = subst (λ (s : Shape). LeadsAcross s r p x → LeadsAcross c.heap.shape r p x) (sym q.shape_is)
       (λ m. record { edge = m.edge; from = m.from; to = m.to; apart = m.apart }) l
 
-  behind_after : (r : RunState) → AreBehind (heap_with c flown) c r → AreBehind (heap_with d flying) d r
-  behind_after r b p x l here none =
-      q.darker x (b p x (across_back r p x l) (subst (λ z. IsInGroups c.groups z) (zone_same p) (in_groups_back _ here))
-      (λ i. none (in_groups_on _ (subst (λ z. IsInGroups c.groups z) (sym (zone_same x)) i))))
-
   runs_after : (w : World) (r : RunState) (k : Collection) → Represents c flown w → c.run ≡ Some r
       → w.collection ≡ Some k → KeepsLooks c flown d flying → Runs (heap_with c flown) c w r k
       → Runs (heap_with d flying) d w r k
@@ -184,7 +179,6 @@ module _ (c : CollectorState) (flown : ℕ → Option Bits) (d : CollectorState)
     states = states_after r running s.states;
     tied = λ z m. tied_after w k (s.tied z m);
     early = λ unformed. looks r w k old running at unformed (s.early unformed);
-    late = λ formed. behind_after r (s.late formed);
   }
 
   looked_back : HasSameLooks c d → (p : Place) → IsLookedAt d.heap.shape d.edges p → IsLookedAt c.heap.shape c.edges p
@@ -260,8 +254,10 @@ module _ (c : CollectorState) (flown : ℕ → Option Bits) (d : CollectorState)
   module _ (w : World) (looks : KeepsLooks c flown d flying) (old : Represents c flown w) where
     runs_as : (o : Option RunState) (k : Option Collection) → c.run ≡ o → w.collection ≡ k
         → RunsAs (heap_with c flown) c w o k → RunsAs (heap_with d flying) d w o k
-    runs_as None None e f i = idle_after i (empty d.stack.black (λ x c'. unmarked x (q.marks.holds.piles.black x c').1))
-        (none_piled d q.waits (λ z both. cc (stays z state.NoGC (i.states z) (λ only. cc only), both)))
+    runs_as None None e f i =
+        idle_after i (empty d.stack.black (λ x c'. unmarked x (q.coloured.marks.holds.piles.black x c').1))
+        (none_piled (heap_with d flying) d.stack d.lists q.coloured.waits
+        (λ z both. cc (stays z state.NoGC (i.states z) (λ only. cc only), both)))
       where
         unmarked : (x : Place) → is_marking d.heap.shape x ≡ true → ⊥
         unmarked x m = let no : state_in d.heap.shape (zone_of d.heap.shape x) ≡ state.NoGC =
@@ -277,25 +273,23 @@ module _ (c : CollectorState) (flown : ℕ → Option Bits) (d : CollectorState)
     black_after : IsSettled w → AreBlack (heap_with d flying) w
     black_after settled x p named =
         let none : (z : ℕ) → is_marking_state (state_in c.heap.shape z) ≡ false =
-        settled_states (heap_with c flown) c w c.run w.collection old.runs settled.none_marking in
-        let before = settled_pending (heap_with c flown) c.stack old.marks (λ y. none (zone_of c.heap.shape y)) p in
-        let after = settled_pending (heap_with d flying) d.stack q.marks
+        settled_states (heap_with c flown) c w c.run w.collection old.phase.runs settled.none_marking in
+        let before = settled_pending (heap_with c flown) c.stack old.coloured.marks (λ y. none (zone_of c.heap.shape y))
+        p in
+        let after = settled_pending (heap_with d flying) d.stack q.coloured.marks
         (λ y. marking_same (zone_of d.heap.shape y) ∙ none (zone_of d.heap.shape y)) p in
-        let was = old.black settled x p (sym (name_same p) ∙ named) in
+        let was = old.phase.black settled x p (sym (name_same p) ∙ named) in
         ((λ b. after.0 ((q.black p).1 (before.1 (was.0 b)))), λ b. was.1 (before.0 ((q.black p).0 (after.1 b))))
 
     pub quiet : Represents d flying w
     quiet = record {
-      delayed = q.delayed_is ∙ old.delayed;
-      lies = lies_same c.heap d.heap w same_cells same_arenas old.lies;
-      unswept_apart = λ x p o a b.
-          old.unswept_apart x p o (unswept_same d.heap.shape c.heap.shape p x (sym same_arenas) a)
-          (unswept_same d.heap.shape c.heap.shape o x (sym same_arenas) b);
-      flies = q.flies;
-      marks = q.marks;
-      gray = q.gray;
-      waits = q.waits;
-      black = black_after;
-      runs = subst (λ (o : Option RunState). RunsAs (heap_with d flying) d w o w.collection) (sym q.run_is)
-          (runs_as c.run w.collection refl refl old.runs);
+      placed = placed_same c.heap d.heap w same_cells same_arenas q.delayed_is old.placed;
+      swept = swept_in c.heap.shape d.heap.shape flown flying same_arenas q.flies old.swept;
+      coloured = q.coloured;
+      phase = record {
+        calm = old.phase.calm;
+        black = black_after;
+        runs = subst (λ (o : Option RunState). RunsAs (heap_with d flying) d w o w.collection) (sym q.run_is)
+            (runs_as c.run w.collection refl refl old.phase.runs);
+      };
     }

@@ -15,7 +15,8 @@ use Rattle.colour_defs.proofs.Lists.{contains_head}
 use Rattle.heap_core.specs.Shape.{state_in, zone_of}
 use Rattle.heap_core.specs.Heap.{HeapState, weak_of}
 use Rattle.heap_core.specs.Plans.{ChangesBy}
-use Rattle.slice_driver.specs.Collector.{CollectorState}
+use Rattle.mark_stack.specs.Stack.{Piles}
+use Rattle.gray_lists.specs.Incoming.{Incoming}
 use Rattle.slice_driver.specs.Represents.{NothingLeft, WaitsWhileMarking}
 
 pub none_in_it : {X : Type 0} (xs : List X) → ((x : X) → Contains xs x → ⊥) → xs ≡ []
@@ -23,9 +24,9 @@ none_in_it [] none = refl
 none_in_it (x ∷ xs) none = absurd (none x (contains_head x xs))
 
 -- where no zone takes gray, the gray pile is empty
-pub none_piled : (c : CollectorState) → WaitsWhileMarking c
-    → ((z : ℕ) → state_in c.heap.shape z ≢ state.MarkBlackAndGray) → c.stack.gray ≡ []
-none_piled c waits none = none_in_it c.stack.gray (λ x has. none (zone_of c.heap.shape x) (waits.piled x has))
+pub none_piled : (h : HeapState) (p : Piles) (lists : Incoming) → WaitsWhileMarking h p lists
+    → ((z : ℕ) → state_in h.shape z ≢ state.MarkBlackAndGray) → p.gray ≡ []
+none_piled h p lists waits none = none_in_it p.gray (λ x has. none (zone_of h.shape x) (waits.piled x has))
 
 -- entries went, and the others are to be looked at as they were
 there : (es : List EntryState) (n : ℕ) → n < length es → (entry : EntryState) × (slice_get es n ≡ Some entry)

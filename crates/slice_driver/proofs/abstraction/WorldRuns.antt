@@ -19,9 +19,9 @@ runs_as h c w (Some r) (Some k) runs = (λ some. (k, refl), λ j. refl)
 pub world_runs : (c : CollectorState) (flown : ℕ → Option Bits) (w : World) → Represents c flown w →
     IsSome c.run ↔ IsRunning w
 world_runs c flown w rep =
-    let runs = runs_as (heap_with c flown) c w c.run w.collection rep.runs in (
+    let runs = runs_as (heap_with c flown) c w c.run w.collection rep.phase.runs in (
       λ some. inl (runs.0 some),
-      λ r. elim r [ inl j ↦ runs.1 j | inr p ↦ absurd (let calm = rep.lies.calm in let is = p.1 in cc (calm, is)) ],
+      λ r. elim r [ inl j ↦ runs.1 j | inr p ↦ absurd (let calm = rep.phase.calm in let is = p.1 in cc (calm, is)) ],
     )
 
 settled_as : (h : HeapState) (c : CollectorState) (w : World) (r : Option RunState) (k : Option Collection) →
@@ -36,6 +36,6 @@ settled_as h c w (Some r) (Some k) runs rests = none_in_it k.marking
 pub world_settled : (c : CollectorState) (flown : ℕ → Option Bits) (w : World) → Represents c flown w →
     ((z : ℕ) → is_marking_state (state_in c.heap.shape z) ≡ false) → IsSettled w
 world_settled c flown w rep rests = record {
-  none_marking = settled_as (heap_with c flown) c w c.run w.collection rep.runs rests;
-  none_preparing = rep.lies.calm;
+  none_marking = settled_as (heap_with c flown) c w c.run w.collection rep.phase.runs rests;
+  none_preparing = rep.phase.calm;
 }

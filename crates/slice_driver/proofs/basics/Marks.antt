@@ -23,8 +23,15 @@ use Rattle.barriers.proofs.Scans.{once_alike}
 use Rattle.barriers.proofs.StayingLeft.{left_weaker}
 use Rattle.barriers.proofs.WeakPoint.{gray_begins}
 use Rattle.marker.proofs.GraySteps.{state_cases}
+use Rattle.slice_driver.specs.Represents.{IsColoured, NothingLeft, WaitsWhileMarking}
 use Rattle.slice_driver.proofs.basics.Cells.{HasSameCells, comp_same, edge_back, edge_on, entry_back, entry_on}
 use Rattle.slice_driver.proofs.basics.Cells.{field_same, present_back, present_on}
+
+-- by the values of its parts
+pub coloured_as : (h k : HeapState) (p q : Piles) (l m : Incoming) → k ≡ h → q ≡ p → m ≡ l → IsColoured h p l
+    → IsColoured k q m
+coloured_as h k p q l m eh ep el i = subst (λ z. IsColoured z q m) (sym eh)
+    (subst (λ z. IsColoured h z m) (sym ep) (subst (λ z. IsColoured h p z) (sym el) i))
 
 pub record HasSameMarks (h k : HeapState) : Type 0 where
   pub cells : HasSameCells h k
@@ -114,7 +121,7 @@ module _ (h k : HeapState) (same : HasSameMarks h k) where
       (gray_begins h p k (left_of h) (left_weaker (weak_of h)) m.holds.colours.shape m.holds.colours.no_gray
       same.cells.weak colour_same marking_same takes_before m.weak))
 
-  pub marks_kept : (p : Piles) → MarkingInvariant h p → MarkingInvariant k p
+  marks_kept : (p : Piles) → MarkingInvariant h p → MarkingInvariant k p
   marks_kept p m = record {
     holds = record {
       colours = colours_kept m.holds.colours;
@@ -149,7 +156,7 @@ module _ (h k : HeapState) (same : HasSameMarks h k) where
     | inr (inr (inr noted)) ↦ inr (inr (inr (noted.0, comp_same h k same.cells y ∙ noted.1, noted.2)))
   ]
 
-  pub gray_kept : (p : Piles) (lists : Incoming) → GrayInvariant h p lists → GrayInvariant k p lists
+  gray_kept : (p : Piles) (lists : Incoming) → GrayInvariant h p lists → GrayInvariant k p lists
   gray_kept p lists g = record {
     buffered_seen = λ z x c. elim (g.buffered_seen z x (waiting_back z x c))
         [ inl is ↦ inl (same.cells.zones x ∙ is) | inr s ↦ inr (seen_on x s) ];
@@ -162,6 +169,30 @@ module _ (h k : HeapState) (same : HasSameMarks h k) where
     few = subst (λ (cs : List Bits). waiting_count lists + (length p.gray + slots_in is_white cs) ≤ 64 * length cs)
         (sym same.colours) g.few;
     room = subst (λ (cs : List Bits). 64 * length cs ≤ lists.room) (sym same.colours) g.room;
+  }
+
+  waits_kept : (p : Piles) (lists : Incoming)
+      → ((z : ℕ) → state_in h.shape z ≡ state.MarkBlackAndGray → state_in k.shape z ≡ state.MarkBlackAndGray)
+      → WaitsWhileMarking h p lists → WaitsWhileMarking k p lists
+  waits_kept p lists takes w = record {
+    piled = λ x c. ap (state_in k.shape) (same.cells.zones x) ∙ takes (zone_of h.shape x) (w.piled x c);
+    buffered = λ z quiet. ap (λ (bs : List (List Place)). buffer_at bs z) same.buffers
+        ∙ w.buffered z (sym (same.marking z) ∙ quiet);
+    incoming = λ n x c.
+        (let i = w.incoming n x c in
+        (i.0, ap (λ (cs : List ℕ). slice_get cs n) same.cells.comps ∙ i.1, same.marking i.0 ∙ i.2));
+    looks = λ quiet. subst (λ (l : LooksState). NothingLeft l) (sym same.looks)
+        (w.looks (λ z. sym (same.marking z) ∙ quiet z));
+  }
+
+  -- zones that take gray go on to take it
+  pub coloured_kept : (p : Piles) (lists : Incoming)
+      → ((z : ℕ) → state_in h.shape z ≡ state.MarkBlackAndGray → state_in k.shape z ≡ state.MarkBlackAndGray)
+      → IsColoured h p lists → IsColoured k p lists
+  coloured_kept p lists takes i = record {
+    marks = marks_kept p i.marks;
+    gray = gray_kept p lists i.gray;
+    waits = waits_kept p lists takes i.waits;
   }
 
   pub pending_on : (p : Piles) {x : Place} → PendingBlack h p x → PendingBlack k p x

@@ -2,13 +2,33 @@
 use Rattle.std.proofs.Common.{◌≡◌, ℕ, List, Option, Some, sym, ap, subst, ◌∙◌}
 use Rattle.gz_names.specs.declared.names.Name.{Name}
 use Rattle.gz_names.specs.declared.numbers.Place.{Place}
-use Rattle.colour_defs.specs.World.{World}
+use Rattle.colour_defs.specs.World.{Collection, Preparation, World}
 use Rattle.heap_core.specs.Shape.{ArenaShape, AreWhole, Shape, out_in, stored_in}
 use Rattle.std.proofs.Common.{slice_get}
 use Rattle.cell_bits.specs.declared.bits.Bits.{Bits}
 use Rattle.heap_core.specs.Heap.{HeapState}
+use Rattle.slice_driver.specs.Represents.{IsBeingSwept, IsPlaced}
 use Rattle.slice_driver.specs.Worlds.{IsInFlight, IsUnswept, LiesIn, outs_from, owners_of}
 use Rattle.slice_driver.proofs.basics.Cells.{HasSameCells, name_same, shows_same}
+
+-- what lies in a world does not tell what runs in it
+pub lies_running : (h : HeapState) (w : World) (o : Option Collection) (p : Option Preparation) → LiesIn h w
+    → LiesIn h (record w { collection = o; preparing = p })
+lies_running h w o p l = record {
+  whole = l.whole;
+  graph = l.graph;
+  shown = l.shown;
+  part = record { well_formed = l.part.well_formed; part = l.part.part; here = l.part.here };
+  places_are = l.places_are;
+  owner_is = l.owner_is;
+  weak_is = l.weak_is;
+  out_is = l.out_is;
+  white_are = l.white_are;
+}
+
+pub placed_running : (h : HeapState) (w : World) (o : Option Collection) (p : Option Preparation) → IsPlaced h w
+    → IsPlaced h (record w { collection = o; preparing = p })
+placed_running h w o p i = record { delayed = i.delayed; lies = lies_running h w o p i.lies }
 
 -- what stands in arenas and is not present, by the arenas alone
 pub unswept_same : (s t : Shape) (p : Place) (x : Name) → t.arenas ≡ s.arenas → IsUnswept s p x → IsUnswept t p x
@@ -34,7 +54,6 @@ lies_same h k w same e l = record {
   );
   owner_is = l.owner_is ∙ ap owners_of (sym e);
   weak_is = l.weak_is;
-  calm = l.calm;
   out_is = l.out_is ∙ ap (outs_from 0) (sym e);
   white_are = λ x p. (
     (λ c. unswept_same h.shape k.shape p x e ((l.white_are x p).0 c)),
@@ -49,3 +68,20 @@ flies_same s t flown e f = record {
   woken = λ a old new out.
       f.woken a old new (subst (λ (xs : List ArenaShape). out_in (slice_get xs a) ≡ Some old) e out);
 }
+
+pub placed_same : (h k : HeapState) (w : World) → HasSameCells h k → k.shape.arenas ≡ h.shape.arenas
+    → k.delayed ≡ h.delayed → IsPlaced h w → IsPlaced k w
+placed_same h k w same e delayed i =
+    record { delayed = delayed ∙ i.delayed; lies = lies_same h k w same e i.lies }
+
+-- the arenas say what is being swept, but for the bits in flight
+pub swept_in : (s t : Shape) (flown flying : ℕ → Option Bits) → t.arenas ≡ s.arenas → IsInFlight t flying
+    → IsBeingSwept s flown → IsBeingSwept t flying
+swept_in s t flown flying e flies b = record {
+  apart = λ x p q up uq. b.apart x p q (unswept_same t s p x (sym e) up) (unswept_same t s q x (sym e) uq);
+  flies = flies;
+}
+
+pub swept_same : (s t : Shape) (flown : ℕ → Option Bits) → t.arenas ≡ s.arenas → IsBeingSwept s flown
+    → IsBeingSwept t flown
+swept_same s t flown e b = swept_in s t flown flown e (flies_same s t flown e b.flies) b

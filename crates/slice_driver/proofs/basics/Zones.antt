@@ -1,5 +1,5 @@
 -- The beginning step of a zone is quiet.
-use Rattle.std.proofs.Common.{◌≡◌, ◌↔◌, ℕ, length, Option, Contains, inl, inr}
+use Rattle.std.proofs.Common.{◌≡◌, ◌↔◌, ℕ, length, Option, inl, inr, refl}
 use Rattle.std.proofs.Common.{sym, ap, subst, ◌∙◌}
 use Rattle.std.proofs.lemmas.Bool.{cases_eq}
 use Rattle.gz_names.specs.declared.numbers.Place.{Place}
@@ -16,8 +16,8 @@ use Rattle.barriers.specs.PendingLive.{GrayInvariant, PendingLive, buffer_of}
 use Rattle.slice_driver.specs.Collector.{CollectorState, heap_with}
 use Rattle.slice_driver.specs.Quiet.{BeginsZone, IsQuiet, IsStateAfter}
 use Rattle.weak_maps.specs.WeakMaps.{LooksState}
-use Rattle.slice_driver.specs.Represents.{NothingLeft, Represents, WaitsWhileMarking}
-use Rattle.slice_driver.proofs.basics.Marks.{HasSameMarks, black_on, gray_kept, live_back, live_on, marks_kept}
+use Rattle.slice_driver.specs.Represents.{Represents}
+use Rattle.slice_driver.proofs.basics.Marks.{HasSameMarks, black_on, coloured_as, coloured_kept, live_back, live_on}
 use Rattle.slice_driver.proofs.basics.Marks.{pending_back, pending_on}
 use Rattle.slice_driver.proofs.basics.Worlds.{flies_same}
 
@@ -62,29 +62,14 @@ module _ (c d : CollectorState) (zone : ℕ) (flown : ℕ → Option Bits) (w : 
     marking = marking_same;
     black_only = λ z only. elim (states z) [ inl e ↦ sym e ∙ only | inr next ↦ absurd (cc (only, next.3)) ];
     kept = λ p m. ap (λ (z : HeapState). out_of z.shape p.0) b.heap_is
-        ∙ s.marks.holds.colours.shape.kept p
+        ∙ s.coloured.marks.holds.colours.shape.kept p
         (ap (λ (z : HeapState). is_marking_state (state_in c.heap.shape (zone_of z.shape p))) (sym b.heap_is)
         ∙ sym (marking_same (zone_of d.heap.shape p)) ∙ m);
   }
 
-  waits : WaitsWhileMarking d
-  waits = record {
-    piled = λ x has.
-        (let was = s.waits.piled x (subst (λ (p : Piles). Contains p.gray x) b.stack_is has) in
-        let here : state_in d.heap.shape (zone_of c.heap.shape x) ≡ state.MarkBlackAndGray =
-        elim (states (zone_of c.heap.shape x)) [ inl e ↦ e ∙ was | inr next ↦ next.3 ] in
-        ap (λ (h : HeapState). state_in d.heap.shape (zone_of h.shape x)) b.heap_is ∙ here);
-    buffered = λ z quiet. ap (λ (h : HeapState). buffer_of h z) b.heap_is
-        ∙ s.waits.buffered z (sym (marking_same z) ∙ quiet);
-    incoming = λ n p held.
-        (let i = s.waits.incoming n p (subst (λ (l : Incoming). Contains (waiting_for l n) p) b.lists_is held) in (
-          i.0,
-          ap (λ (h : HeapState). Rattle.std.proofs.Common.slice_get h.shape.comps n) b.heap_is ∙ i.1,
-          marking_same i.0 ∙ i.2,
-        ));
-    looks = λ quiet. subst (λ (l : LooksState). NothingLeft l) (sym (ap (λ (h : HeapState). h.looks) b.heap_is))
-        (s.waits.looks (λ z. sym (marking_same z) ∙ quiet z));
-  }
+  takes_on : (z : ℕ) → state_in c.heap.shape z ≡ state.MarkBlackAndGray
+      → state_in d.heap.shape z ≡ state.MarkBlackAndGray
+  takes_on z was = elim (states z) [ inl e ↦ e ∙ was | inr next ↦ next.3 ]
 
   black_same : (p : Place) → PendingBlack (heap_with d flown) d.stack p ↔ PendingBlack (heap_with c flown) c.stack p
   black_same p = subst (λ (x : Piles). PendingBlack (heap_with d flown) x p
@@ -112,13 +97,10 @@ module _ (c d : CollectorState) (zone : ℕ) (flown : ℕ → Option Bits) (w : 
     groups_is = b.groups_is;
     sized = b.sized;
     states = states;
-    flies = flies_same c.heap.shape d.heap.shape flown (ap (λ (z : HeapState). z.shape.arenas) b.heap_is) s.flies;
-    marks = subst (λ p. MarkingInvariant (heap_with d flown) p) (sym b.stack_is)
-        (marks_kept (heap_with c flown) (heap_with d flown) same_marks c.stack s.marks);
-    gray = subst (λ p. GrayInvariant (heap_with d flown) p d.lists) (sym b.stack_is)
-        (subst (λ l. GrayInvariant (heap_with d flown) c.stack l) (sym b.lists_is)
-        (gray_kept (heap_with c flown) (heap_with d flown) same_marks c.stack c.lists s.gray));
-    waits = waits;
+    flies = flies_same c.heap.shape d.heap.shape flown (ap (λ (z : HeapState). z.shape.arenas) b.heap_is) s.swept.flies;
+    coloured = coloured_as (heap_with d flown) (heap_with d flown) c.stack d.stack c.lists d.lists refl b.stack_is
+        b.lists_is (coloured_kept (heap_with c flown) (heap_with d flown) same_marks c.stack c.lists takes_on
+        s.coloured);
     darker = λ p. black_on (heap_with c flown) (heap_with d flown) same_marks p;
     black = black_same;
     live = live_same;

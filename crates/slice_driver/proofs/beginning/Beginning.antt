@@ -611,7 +611,6 @@ module _ (h : HeapState) (old : Piles) (w v : World) (zones : ZoneSet) (k : Heap
         ↔ (name_at s p ≡ Some x)) (sym b.shape_is) l.places_are;
     owner_is = l.owner_is ∙ ap (λ (s : Shape). owners_of s.arenas) (sym b.shape_is);
     weak_is = l.weak_is;
-    calm = l.calm;
     out_is = l.out_is ∙ ap (λ (s : Shape). outs_from 0 s.arenas) (sym b.shape_is);
     white_are = λ x p. (let same = (stay_same h.shape k.shape (ap (λ (s : Shape). s.arenas) b.shape_is) l.whole).unswept
         p x in (
@@ -692,7 +691,6 @@ module _ (h : HeapState) (zones : ZoneSet) (c : CollectorState) (b : BeginsMarki
     states = states_begun made;
     tied = λ z marking. tied;
     early = λ e. looked;
-    late = λ e. absurd (cc e);
   }
 
 pub begins_marking : (h k : HeapState) (old stack : Piles) (lists : Incoming) (zones : ZoneSet) (w : World)

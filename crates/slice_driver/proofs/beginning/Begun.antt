@@ -21,7 +21,7 @@ use Rattle.slice_driver.specs.Worlds.{IsInFlight, LiesIn}
 use Rattle.slice_driver.specs.Closures.{AreBlack, AreTied}
 use Rattle.weak_maps.specs.WeakMaps.{LooksState}
 use Rattle.slice_driver.specs.Represents.{AreLookedAt, IsIdle, NothingLeft, Represents, RunsAs}
-use Rattle.slice_driver.specs.Represents.{WaitsWhileMarking}
+use Rattle.slice_driver.specs.Represents.{IsColoured, IsInPhase, WaitsWhileMarking}
 use Rattle.slice_driver.specs.Units.{BeginsIn}
 use Rattle.slice_driver.specs.Begins.{BeginsMarking}
 use Rattle.colour_defs.proofs.ValidReports.{begin_valid, prepare_valid}
@@ -37,50 +37,51 @@ module _ (c d : CollectorState) (flown : ℕ → Option Bits) (w v : World) (zon
     (bg : HasBegun w (zones_in zones) v) where
   pub idle : IsIdle c
   idle = subst (λ k. RunsAs (heap_with c flown) c w None k) bg.idle.none_running
-      (subst (λ r. RunsAs (heap_with c flown) c w r w.collection) idle_run rep.runs)
+      (subst (λ r. RunsAs (heap_with c flown) c w r w.collection) idle_run rep.phase.runs)
 
   own : joined c.heap flown ≡ c.heap
-  own = none_flown c.heap flown rep.delayed rep.flies.covers idle.kept
+  own = none_flown c.heap flown rep.placed.delayed rep.swept.flies.covers idle.kept
 
   pub marks : MarkingInvariant c.heap c.stack
-  marks = subst (λ h. MarkingInvariant h c.stack) own rep.marks
+  marks = subst (λ h. MarkingInvariant h c.stack) own rep.coloured.marks
 
   none_marking : (p : Place) → is_marking c.heap.shape p ≡ false
   none_marking p = ap is_marking_state (idle.states (zone_of c.heap.shape p))
 
   black : AreBlack c.heap w
   black = subst (λ h. AreBlack h w) own
-      (rep.black (record {
+      (rep.phase.black (record {
         none_marking = ap marking_of bg.idle.none_running;
         none_preparing = bg.idle.none_preparing;
       }))
 
   begun : MarkingInvariant d.heap d.stack × GrayInvariant d.heap d.stack d.lists
-  begun = begins_marking c.heap d.heap c.stack d.stack d.lists zones w marks b none_marking idle.kept rep.lies
+  begun = begins_marking c.heap d.heap c.stack d.stack d.lists zones w marks b none_marking idle.kept rep.placed.lies
 
   tied : LiesIn d.heap v × AreTied d.heap d.stack d.lists v bg.collection
-  tied = begins_tied c.heap d.heap c.stack d.stack d.lists zones w v marks b none_marking idle.kept rep.lies ok black bg
+  tied = begins_tied c.heap d.heap c.stack d.stack d.lists zones w v marks b none_marking idle.kept rep.placed.lies ok
+      black bg
 
   kept_out : (a : ℕ) → out_of d.heap.shape a ≡ None
   kept_out a = ap (λ (s : Shape). out_of s a) b.shape_is ∙ idle.kept a
 
   flies : IsInFlight d.heap.shape flown
   flies = record {
-    covers = λ a. rep.flies.covers a ∙ ap is_some (idle.kept a ∙ sym (kept_out a));
+    covers = λ a. rep.swept.flies.covers a ∙ ap is_some (idle.kept a ∙ sym (kept_out a));
     woken = λ a old new out at. absurd (cc (kept_out a, out));
   }
 
   pub own_begun : joined d.heap flown ≡ d.heap
-  own_begun = none_flown d.heap flown (b.delayed_is ∙ rep.delayed) flies.covers kept_out
+  own_begun = none_flown d.heap flown (b.delayed_is ∙ rep.placed.delayed) flies.covers kept_out
 
-  waits : WaitsWhileMarking d
+  waits : WaitsWhileMarking d.heap d.stack d.lists
   waits = record {
     piled = λ x has. absurd (nothing_in_none x (subst (λ xs. Contains xs x) b.gray_pile has));
     buffered = λ z m. none_member (buffer_of d.heap z)
         (λ x has. (let root = (b.buffered z x).0 has in cc (ap is_marking_state (b.states z root.0), m)));
     incoming = λ n p has. absurd (nothing_in_none p (subst (λ xs. Contains xs p) (b.none_incoming n) has));
     looks = λ quiet. subst (λ (l : LooksState). NothingLeft l) (sym b.looks_is)
-        (rep.waits.looks (λ z. ap is_marking_state (idle.states z)));
+        (rep.coloured.waits.looks (λ z. ap is_marking_state (idle.states z)));
   }
 
   -- where no zone is to be marked, black is as it was
@@ -98,30 +99,29 @@ module _ (c d : CollectorState) (flown : ℕ → Option Bits) (w v : World) (zon
         λ has. same ∙ both.0 ((bg.black_are x).0 has).0,
         λ is. (bg.black_are x).1 (
           both.1 (sym same ∙ is),
-          λ here. no_zone settled (zone_of c.heap.shape p) (zones_placed c.heap w rep.lies zones p x was here),
+          λ here. no_zone settled (zone_of c.heap.shape p) (zones_placed c.heap w rep.placed.lies zones p x was here),
         ),
       )
 
   zones_made : (z : ℕ) → HasZone zones.bits z → z < length c.heap.shape.states
-  zones_made z has = subst (λ n. z < n) (sym rep.lies.part.part.zones ∙ rep.lies.shown.zones_are)
+  zones_made z has = subst (λ n. z < n) (sym rep.placed.lies.part.part.zones ∙ rep.placed.lies.shown.zones_are)
       (bg.made z ((zones_in-has zones z).1 has))
 
   pub represents_begun : d.run ≡ Some (record { zones = zones; formed = false })
       → AreLookedAt d.heap d (record { zones = zones; formed = false }) v bg.collection → Represents d flown v
   represents_begun run looked = record {
-    delayed = b.delayed_is ∙ rep.delayed;
-    lies = tied.0;
-    unswept_apart = λ x p q up uq. absurd (cc (kept_out p.0, up.out_is));
-    flies = flies;
-    marks = subst (λ h. MarkingInvariant h d.stack) (sym own_begun) begun.0;
-    gray = subst (λ h. GrayInvariant h d.stack d.lists) (sym own_begun) begun.1;
-    waits = waits;
-    black = λ settled. subst (λ h. AreBlack h v) (sym own_begun) (black_begun settled);
-    runs = subst (λ h. RunsAs h d v d.run v.collection) (sym own_begun)
-        (subst (λ r. RunsAs d.heap d v r v.collection) (sym run)
-        (subst (λ k. RunsAs d.heap d v (Some (record { zones = zones; formed = false })) k)
-        (sym (ap (λ (u : World). u.collection) bg.world_is))
-        (runs_begun c.heap zones d b idle.states idle.kept w v bg zones_made tied.1 looked)));
+    placed = record { delayed = b.delayed_is ∙ rep.placed.delayed; lies = tied.0 };
+    swept = record { apart = λ x p q up uq. absurd (cc (kept_out p.0, up.out_is)); flies = flies };
+    coloured = subst (λ h. IsColoured h d.stack d.lists) (sym own_begun)
+        (record { marks = begun.0; gray = begun.1; waits = waits });
+    phase = subst (λ h. IsInPhase h d v) (sym own_begun) (record {
+      calm = ap (λ (u : World). u.preparing) bg.world_is ∙ rep.phase.calm;
+      black = black_begun;
+      runs = subst (λ r. RunsAs d.heap d v r v.collection) (sym run)
+          (subst (λ k. RunsAs d.heap d v (Some (record { zones = zones; formed = false })) k)
+          (sym (ap (λ (u : World). u.collection) bg.world_is))
+          (runs_begun c.heap zones d b idle.states idle.kept w v bg zones_made tied.1 looked));
+    });
   }
 
 -- before the first look nothing was looked at
@@ -139,7 +139,7 @@ looked_begun h d zones v k are none start fresh = record {
 pub none_runs : (c : CollectorState) (flown : ℕ → Option Bits) (w : World) → c.run ≡ None → Represents c flown w
     → w.collection ≡ None
 none_runs c flown w idle rep =
-    go w.collection (subst (λ r. RunsAs (heap_with c flown) c w r w.collection) idle rep.runs)
+    go w.collection (subst (λ r. RunsAs (heap_with c flown) c w r w.collection) idle rep.phase.runs)
   where
     go : (o : Option Collection) → RunsAs (heap_with c flown) c w None o → o ≡ None
     go None runs = refl
@@ -153,8 +153,8 @@ pub begins_worlds : (c d : CollectorState) (zones : ZoneSet) → zones_in zones 
     → BeginsIn c zones.bits d
 begins_worlds c d zones some idle b made run are none start fresh flown w ok rep =
     let begun = begins_in w (zones_in zones)
-    (record { none_running = none_runs c flown w idle rep; none_preparing = rep.lies.calm }) some
-    (λ z has. subst (λ n. z < n) (sym rep.lies.shown.zones_are ∙ rep.lies.part.part.zones)
+    (record { none_running = none_runs c flown w idle rep; none_preparing = rep.phase.calm }) some
+    (λ z has. subst (λ n. z < n) (sym rep.placed.lies.shown.zones_are ∙ rep.placed.lies.part.part.zones)
     (made z ((zones_in-has zones z).0 has))) in
     let seen = has_begun w (zones_in zones) begun.0 begun.1 in (
       begun.0,

@@ -77,26 +77,26 @@ module _ (c : CollectorState) (w : World) (rep : Represents c flight.none_flown 
   pub idle_of : IsIdle c
   idle_of = subst (λ k. RunsAs (heap_with c flight.none_flown) c w None k)
       (none_runs c flight.none_flown w idle_run rep)
-      (subst (λ r. RunsAs (heap_with c flight.none_flown) c w r w.collection) idle_run rep.runs)
+      (subst (λ r. RunsAs (heap_with c flight.none_flown) c w r w.collection) idle_run rep.phase.runs)
 
   own : heap_with c flight.none_flown ≡ c.heap
-  own = none_flown c.heap flight.none_flown rep.delayed rep.flies.covers idle_of.kept
+  own = none_flown c.heap flight.none_flown rep.placed.delayed rep.swept.flies.covers idle_of.kept
 
   pub marks_of : MarkingInvariant c.heap c.stack
-  marks_of = subst (λ h. MarkingInvariant h c.stack) own rep.marks
+  marks_of = subst (λ h. MarkingInvariant h c.stack) own rep.coloured.marks
 
   pub gray_of : GrayInvariant c.heap c.stack c.lists
-  gray_of = subst (λ h. GrayInvariant h c.stack c.lists) own rep.gray
+  gray_of = subst (λ h. GrayInvariant h c.stack c.lists) own rep.coloured.gray
 
   pub wrappers_of : AreWrappers c.heap.shape
-  wrappers_of = sound_has_wrappers c.heap (rep.lies.graph, rep.lies.shown)
+  wrappers_of = sound_has_wrappers c.heap (rep.placed.lies.graph, rep.placed.lies.shown)
 
   pub nothing_buffered : (z : ℕ) → buffer_of c.heap z ≡ []
-  nothing_buffered z = rep.waits.buffered z (ap is_marking_state (idle_of.states z))
+  nothing_buffered z = rep.coloured.waits.buffered z (ap is_marking_state (idle_of.states z))
 
   pub none_incoming : (n : ℕ) → waiting_for c.lists n ≡ []
   none_incoming n = none_member (waiting_for c.lists n)
-      (λ p has. (let at = rep.waits.incoming n p has in cc (ap is_marking_state (idle_of.states at.0), at.2)))
+      (λ p has. (let at = rep.coloured.waits.incoming n p has in cc (ap is_marking_state (idle_of.states at.0), at.2)))
 
   -- no arena is out, so each may be cleared
   pub kept_of : (word : ℕ) → AreKept word c.heap.shape
@@ -156,7 +156,7 @@ module _ (c : CollectorState) (w : World) (rep : Represents c flight.none_flown 
   module _ (u x : Place) (out : IsWithin h.shape zones u → ⊥) (within : IsWithin h.shape zones x)
       (edge : HasEdge h.shape u x) where
     listed : IsListed h.shape u x
-    listed = crosses h rep.lies.graph u x rep.lies.shown rep.lies.part.well_formed edge
+    listed = crosses h rep.placed.lies.graph u x rep.placed.lies.shown rep.placed.lies.part.well_formed edge
         (λ e. out (subst (λ z. HasZone zones.bits z) (sym e) within))
 
     abbrev index : ℕ
@@ -438,7 +438,7 @@ module _ (c : CollectorState) (zones : ZoneSet) (a : HeapState) (at : AreCleared
   -- registers hold present cells, as before
   pub held_begun : (x : Place) → Contains a.shape.regs (Some x) → IsPresent a.shape x
   held_begun x = subst (λ (h : HeapState). Contains h.shape.regs (Some x) → IsPresent h.shape x) (sym same)
-      (at.rest.represents.lies.shown.registers_held x)
+      (at.rest.represents.placed.lies.shown.registers_held x)
 
   pub ready_begun : IsReady a c.stack
   ready_begun = subst (λ (x : HeapState). IsReady x c.stack) (sym same)

@@ -75,16 +75,16 @@ module _ (c d : CollectorState) (flown : ℕ → Option Bits) (w v : World) (zon
   named_here : (p : Place) (x : Name) → name_at c.heap.shape p ≡ Some x → is_marking d.heap.shape p ≡ true
       → is_here x ≡ true
   named_here p x named on = in_zone w.graph (zones_in zones) x (zone_of c.heap.shape p)
-      (zone_named c.heap rep.lies.graph w.graph p x rep.lies.shown rep.lies.part.part named)
+      (zone_named c.heap rep.placed.lies.graph w.graph p x rep.placed.lies.shown rep.placed.lies.part.part named)
       ((zones_in-has zones (zone_of c.heap.shape p)).1 (marking_in p on))
 
   few_cells : count_by (is_marking d.heap.shape) (present_places d.heap.shape) ≤ tally.cells
   few_cells = subst (λ (ps : List Place). count_by (is_marking d.heap.shape) ps ≤ tally.cells) (sym places_same)
-      (counted_cells c.heap w rep.lies (is_marking d.heap.shape) is_here named_here)
+      (counted_cells c.heap w rep.placed.lies (is_marking d.heap.shape) is_here named_here)
 
   few_wrappers : count_by (may_be_noted d.heap.shape) (present_places d.heap.shape) ≤ tally.wrappers
   few_wrappers = subst (λ (ps : List Place). count_by (may_be_noted d.heap.shape) ps ≤ tally.wrappers) (sym places_same)
-      (counted_cells c.heap w rep.lies (may_be_noted d.heap.shape) (λ x. is_wrapper x && is_here x) counts)
+      (counted_cells c.heap w rep.placed.lies (may_be_noted d.heap.shape) (λ x. is_wrapper x && is_here x) counts)
     where
       counts : (p : Place) (x : Name) → name_at c.heap.shape p ≡ Some x → may_be_noted d.heap.shape p ≡ true
           → (is_wrapper x && is_here x) ≡ true
@@ -99,7 +99,7 @@ module _ (c d : CollectorState) (flown : ℕ → Option Bits) (w v : World) (zon
   few_entries = subst
       (λ (s : Shape). count_by (λ (e : EntryState). is_marking d.heap.shape e.map) s.weak.entries ≤ tally.entries)
       (sym b.shape_is)
-      (counted_entries c.heap w rep.lies sound (is_marking d.heap.shape) (is_counted_entry w (zones_in zones))
+      (counted_entries c.heap w rep.placed.lies sound (is_marking d.heap.shape) (is_counted_entry w (zones_in zones))
       (λ x y z m named on here there. both_of _ _ (go (is_here x) (named_here m x named on) _)
       (both_of _ _ here there)))
     where
@@ -119,7 +119,7 @@ module _ (c d : CollectorState) (flown : ℕ → Option Bits) (w v : World) (zon
 
   nothing_left : NothingLeft d.heap.looks
   nothing_left = subst (λ (l : LooksState). NothingLeft l) (sym b.looks_is)
-      (rep.waits.looks (λ z. ap is_marking_state (at_rest.states z)))
+      (rep.coloured.waits.looks (λ z. ap is_marking_state (at_rest.states z)))
 
   unscanned : IsUnscanned (heap_with d flown) d.stack d.lists
   unscanned = subst (λ (h : HeapState). IsUnscanned h d.stack d.lists)
@@ -136,7 +136,8 @@ module _ (c d : CollectorState) (flown : ℕ → Option Bits) (w v : World) (zon
 
   buffered : sum_by length d.heap.buffers ≤ 64 + tally.outside
   buffered =
-      let few = counted_wrappers c.heap w rep.lies apart (is_outside zones) (λ x. is_wrapper x && not (is_here x))
+      let few = counted_wrappers c.heap w rep.placed.lies apart (is_outside zones)
+      (λ x. is_wrapper x && not (is_here x))
       (λ z x out at wrapper. both_of _ _ wrapper (ap not (told_here x z at) ∙ out)) (length c.heap.shape.states) in
       omega (arith, few, b.few_buffered)
 
@@ -149,7 +150,7 @@ module _ (c d : CollectorState) (flown : ℕ → Option Bits) (w v : World) (zon
       ap (λ (y : ZoneSet). listed_below d.heap.shape (in_zones y.bits) 64) are
       ∙ listed_same d.heap.shape c.heap.shape (in_zones zones.bits)
       (ap (λ (s : Shape). s.wrappers) b.shape_is) 64 in
-      let few = counted_wrappers c.heap w rep.lies apart (in_zones zones.bits) (λ x. is_wrapper x && is_here x)
+      let few = counted_wrappers c.heap w rep.placed.lies apart (in_zones zones.bits) (λ x. is_wrapper x && is_here x)
       (λ z x has at wrapper. both_of _ _ wrapper (told_here x z at ∙ has)) 64 in
       let steps = few_ungrouped d.edges zones are in
       omega (arith, is, looks, inside, few, steps)

@@ -108,7 +108,6 @@ module _ (c : CollectorState) (e : IsEmpty c.heap) where
     );
     owner_is = sym (ap owners_of e.arenas);
     weak_is = refl;
-    calm = refl;
     out_is = sym (ap (outs_from 0) e.arenas);
     white_are = λ x p. (
       (λ has. absurd (nothing_in_none {X = Name × (ℕ × ℕ)} (x, p) has)),
@@ -178,26 +177,33 @@ module _ (c : CollectorState) (e : IsEmpty c.heap) where
         room = omega (arith, size);
       }
 
-  pub represents_first : c.stack.black ≡ [] → c.stack.gray ≡ [] → c.stack.wake ≡ [] → ((n : ℕ) → list_of c.lists n ≡ [])
-      → c.run ≡ None → Represents c flight.none_flown first_world
-  represents_first black gray wake lists run = record {
-    delayed = e.delayed;
-    lies = lies;
-    unswept_apart = λ x p q up uq. absurd (let none = none_out p.0 in cc (none, up.out_is));
-    flies = record { covers = λ a. ap is_some (sym (none_out a)); woken = λ a old new is at. absurd (cc at) };
-    marks = marks c.stack black gray wake;
-    gray = gray_begins c.stack gray lists;
+pub represents_first : (c : CollectorState) → IsEmpty c.heap → c.stack.black ≡ [] → c.stack.gray ≡ []
+    → c.stack.wake ≡ []
+    → ((n : ℕ) → list_of c.lists n ≡ []) → c.run ≡ None → Represents c flight.none_flown first_world
+represents_first c e black gray wake lists run = record {
+  placed = record { delayed = e.delayed; lies = lies c e };
+  swept = record {
+    apart = λ x p q up uq. absurd (let none = none_out c e p.0 in cc (none, up.out_is));
+    flies = record { covers = λ a. ap is_some (sym (none_out c e a)); woken = λ a old new is at. absurd (cc at) };
+  };
+  coloured = record {
+    marks = marks c e c.stack black gray wake;
+    gray = gray_begins c e c.stack gray lists;
     waits = record {
       piled = λ x has. absurd (nothing_in_none x (subst (λ xs. Contains xs x) gray has));
-      buffered = λ z m. nothing_buffered z;
+      buffered = λ z m. nothing_buffered c e z;
       incoming = λ n p has. absurd (nothing_in_none p (subst (λ xs. Contains xs p) (lists n) has));
       looks = λ quiet. subst (λ (l : LooksState). NothingLeft l) (sym e.looks)
           ((λ n. (λ at. cc at, λ at. cc at)), (λ n. (λ at. cc at, λ at. cc at)));
     };
+  };
+  phase = record {
+    calm = refl;
     black = λ s x p is. absurd (cc (no_name c.heap e p, is));
     runs = subst (λ r. RunsAs (heap_with c flight.none_flown) c first_world r None) (sym run)
-        (record { states = no_state; kept = none_out; black = black; gray = gray });
-  }
+        (record { states = no_state c e; kept = none_out c e; black = black; gray = gray });
+  };
+}
 
 -- a heap without cells is one as the collector is seen, and nothing is pending in it
 pub empty_viewed : (h : HeapState) → IsEmpty h → IsEmpty (without_delayed h)

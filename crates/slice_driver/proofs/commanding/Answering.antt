@@ -126,7 +126,7 @@ exposed_gray (Some x) h k s t lists e g = (e.pending_live lists g).0
 held_reached : (c : CollectorState) (flown : ℕ → Option Bits) (w : World) → Represents c flown w → (p : Place)
     → Reached c.heap.shape (IsHeld c.heap) p → Reached c.heap.shape (IsBlack (heap_with c flown)) p
 held_reached c flown w rep p r = reached_more c.heap.shape (IsHeld c.heap) (IsBlack (heap_with c flown))
-    (λ y held. rep.marks.holds.colours.regs_black y held) r
+    (λ y held. rep.coloured.marks.holds.colours.regs_black y held) r
 
 none_waking : (o : Option Name) → waking o None ≡ None
 none_waking None = refl
@@ -151,19 +151,19 @@ module _ (b : CollectorState) (flown : ℕ → Option Bits) (command : GraphCmd)
   t = record b { heap = m; stack = stack }
 
   lies : LiesIn m w
-  lies = lies_marked b.heap ds delayed w rep.lies
+  lies = lies_marked b.heap ds delayed w rep.placed.lies
 
   lies_joined : LiesIn (joined m flying) w
-  lies_joined = lies_coloured b.heap (with_flown flying 0 ds) w rep.lies
+  lies_joined = lies_coloured b.heap (with_flown flying 0 ds) w rep.placed.lies
 
-  shows : Shows m rep.lies.graph
-  shows = shows_coloured b.heap ds delayed rep.lies.graph rep.lies.shown
+  shows : Shows m rep.placed.lies.graph
+  shows = shows_coloured b.heap ds delayed rep.placed.lies.graph rep.placed.lies.shown
 
   inv : MarkingInvariant (joined m flying) stack
-  inv = exposed_marks given (heap_with b flown) b.stack (joined m flying) stack exposed rep.marks
+  inv = exposed_marks given (heap_with b flown) b.stack (joined m flying) stack exposed rep.coloured.marks
 
   gray : GrayInvariant (joined m flying) stack b.lists
-  gray = exposed_gray given (heap_with b flown) (joined m flying) b.stack stack b.lists exposed rep.gray
+  gray = exposed_gray given (heap_with b flown) (joined m flying) b.stack stack b.lists exposed rep.coloured.gray
 
   -- nothing was handed out
   pub nothing_handed : given ≡ None → Represents t flying w
@@ -218,21 +218,27 @@ module _ (b : CollectorState) (flown : ℕ → Option Bits) (command : GraphCmd)
     -- after the change the collector stands for the world after the command
     represents_after : (done : DoesInWorld w command answer new es)
         → ((p : Place) (x : Name) → IsUnswept new.shape p x ↔ IsUnswept m.shape p x) → IsInFlight m.shape flying
-        → WaitsWhileMarking t → RunsAs (joined new flying) d done.after b.run done.after.collection
+        → WaitsWhileMarking (joined m flying) stack b.lists
+        → RunsAs (joined new flying) d done.after b.run done.after.collection
         → AnswersIn w command (Ok answer) d flying
     represents_after done unswept flies waits runs = (
       done.after,
       done.command,
       record {
-        delayed = delayed_kept m new ch answer change ∙ (still ∙ rep.delayed);
-        lies = done.lies;
-        unswept_apart = λ x p q up uq. rep.unswept_apart x p q ((unswept p x).0 up) ((unswept q x).0 uq);
-        flies = flies_served flies;
-        marks = served.marks;
-        gray = served.gray;
-        waits = waits_served t d flying refl served inv (nothing_changed m new ch answer change) waits;
-        black = done.black;
-        runs = runs;
+        placed = record {
+          delayed = delayed_kept m new ch answer change ∙ (still ∙ rep.placed.delayed);
+          lies = done.lies;
+        };
+        swept = record {
+          apart = λ x p q up uq. rep.swept.apart x p q ((unswept p x).0 up) ((unswept q x).0 uq);
+          flies = flies_served flies;
+        };
+        coloured = record {
+          marks = served.marks;
+          gray = served.gray;
+          waits = waits_served t d flying refl served inv (nothing_changed m new ch answer change) waits;
+        };
+        phase = record { calm = done.preparing_is ∙ rep.phase.calm; black = done.black; runs = runs };
       },
     )
 
@@ -245,7 +251,7 @@ module _ (b : CollectorState) (flown : ℕ → Option Bits) (command : GraphCmd)
           → Runs (joined new flying) d done.after r kk
       runs_on k kk r same runs tied = runs_served t d flying refl served inv w done.after k kk lies done.lies ok same
           names ch answer
-          rep.lies.graph change shows able apart wraps_black covers r runs tied
+          rep.placed.lies.graph change shows able apart wraps_black covers r runs tied
 
       none_after : w.collection ≡ None → done.after.collection ≡ None
       none_after none = done.collection_is
@@ -294,11 +300,11 @@ module _ (b : CollectorState) (flown : ℕ → Option Bits) (command : GraphCmd)
           λ black. ap (λ (bs : List Bits). colour_in (slice_get (with_flown flying 0 bs) p.0) p.1) colours ∙ black,
         ) in
         let done : DoesInWorld w command answer new es = does_quiet w m new command answer (with_flown flying 0 ds) es
-        ok lies there.black does stay wakes same in
+        ok lies rep.phase.calm there.phase.black does stay wakes same in
         let none : woken_by w.graph command ≡ None = woken_in w m command None ok lies wakes in
-        represents_after done stay.unswept there.flies there.waits
-        (runs_all done (names_stay m.shape new.shape stay) b.run w.collection refl there.runs
-        (λ k at kk e. ties done none stay k at there.runs kk e))
+        represents_after done stay.unswept there.swept.flies there.coloured.waits
+        (runs_all done (names_stay m.shape new.shape stay) b.run w.collection refl there.phase.runs
+        (λ k at kk e. ties done none stay k at there.phase.runs kk e))
       where
         ties : (done : DoesInWorld w command answer new es) → woken_by w.graph command ≡ None
             → StayInPlace m.shape new.shape → (k : Collection) → w.collection ≡ Some k
@@ -338,7 +344,7 @@ module _ (b : CollectorState) (flown : ℕ → Option Bits) (command : GraphCmd)
         → new.shape.arenas ≡ m.shape.arenas → new.shape.weak ≡ m.shape.weak → given ≡ Some p
         → AnswersIn w command (Ok answer) d flying
     answers_found p x named wakes colours arenas weak is =
-        represents_after done stay.unswept flies waits (runs_found b.run w.collection refl rep.runs)
+        represents_after done stay.unswept flies waits (runs_found b.run w.collection refl rep.phase.runs)
       where
         ex : Exposes (heap_with b flown) b.stack p (joined m flying) stack
         ex = subst (λ o. Exposed o (heap_with b flown) b.stack (joined m flying) stack) is exposed
@@ -350,7 +356,7 @@ module _ (b : CollectorState) (flown : ℕ → Option Bits) (command : GraphCmd)
         colour_same q = ap (λ (bs : List Bits). colour_in (slice_get (with_flown flying 0 bs) q.0) q.1) colours
 
         none : IsSettled w → (q : Place) → is_marking b.heap.shape q ≡ false
-        none settled q = settled_states (heap_with b flown) b w b.run w.collection rep.runs settled.none_marking
+        none settled q = settled_states (heap_with b flown) b w b.run w.collection rep.phase.runs settled.none_marking
             (zone_of b.heap.shape q)
 
         spreads : IsSettled w → SpreadsBlack (heap_with b flown) p (with_colours new es)
@@ -363,19 +369,21 @@ module _ (b : CollectorState) (flown : ℕ → Option Bits) (command : GraphCmd)
 
         done : DoesInWorld w command answer new es
         done = does_found w m new command answer (with_flown flown 0 b.heap.colours) es p x ok lies
-            rep.marks.holds.colours (λ s. rep.black s) does stay wakes named spreads
+            rep.phase.calm rep.coloured.marks.holds.colours (λ s. rep.phase.black s) does stay wakes named spreads
 
         woken : woken_by w.graph command ≡ Some x
         woken = woken_in w m command (Some x) ok lies wakes
 
         flies : IsInFlight m.shape flying
-        flies = still_flies b.heap m flown flying rep.flies refl rep.marks.holds.colours inv.holds.colours covers
-            (own_sized b.heap flown b.stack rep.marks) (own_sized m flying stack inv) ex.spreads.blackens.kept
+        flies = still_flies b.heap m flown flying rep.swept.flies refl rep.coloured.marks.holds.colours
+            inv.holds.colours covers
+            (own_sized b.heap flown b.stack rep.coloured.marks) (own_sized m flying stack inv) ex.spreads.blackens.kept
             (λ y. elim (ex.spreads.blackens.others y) [ inl black ↦ inl black | inr e ↦ inr (inl e) ])
 
-        waits : WaitsWhileMarking t
-        waits = waits_on b m stack refl refl rep.waits
-            (piled_still b m stack refl refl rep.waits ex.spreads.gray_is) rep.waits.looks
+        waits : WaitsWhileMarking (joined m flying) stack b.lists
+        waits = waits_on (heap_with b flown) (joined m flying) b.stack stack b.lists refl refl rep.coloured.waits
+            (piled_still (heap_with b flown) (joined m flying) b.stack stack b.lists refl rep.coloured.waits
+            ex.spreads.gray_is) rep.coloured.waits.looks
 
         idle_found : IsIdle b → IsIdle t
         idle_found i = record {
@@ -426,13 +434,11 @@ module _ (b : CollectorState) (flown : ℕ → Option Bits) (command : GraphCmd)
           groups_are = i.groups_are;
           states = states_found r i.states;
           tied = λ z has. tied_exposed (heap_with b flown) (joined m flying) b.stack stack b.lists w k p x ok
-              (lies_coloured b.heap (with_flown flown 0 b.heap.colours) w rep.lies) at
-              (λ none. nothing_in_none z (subst (λ zs. Contains zs z) none has)) rep.marks rep.gray ex named
+              (lies_coloured b.heap (with_flown flown 0 b.heap.colours) w rep.placed.lies) at
+              (λ none. nothing_in_none z (subst (λ zs. Contains zs z) none has)) rep.coloured.marks rep.coloured.gray ex
+              named
               (i.tied z has);
           early = λ unformed. looked_found r k (i.early unformed);
-          late = λ formed y z across here gone.
-              keeps z (i.late formed y z
-              (record { edge = across.edge; from = across.from; to = across.to; apart = across.apart }) here gone);
         }
 
         collection_found : (k kk : Collection) → (o : Option Name) → o ≡ Some x
@@ -477,8 +483,8 @@ module _ (b : CollectorState) (flown : ℕ → Option Bits) (command : GraphCmd)
         → new.colours ≡ between.colours → given ≡ None → ((n : ℕ) → x ≡ Cell n → n ≡ m.shape.objects)
         → AnswersIn w command (Ok answer) d flying
     answers_made zone p x cell between comes wakes mk colours nothing number =
-        represents_after done comes.unswept there.flies there.waits
-        (runs_all done (names_come m.shape new.shape zone p x comes) b.run w.collection refl there.runs ties)
+        represents_after done comes.unswept there.swept.flies there.coloured.waits
+        (runs_all done (names_come m.shape new.shape zone p x comes) b.run w.collection refl there.phase.runs ties)
       where
         there : Represents t flying w
         there = nothing_handed nothing
@@ -491,7 +497,7 @@ module _ (b : CollectorState) (flown : ℕ → Option Bits) (command : GraphCmd)
 
         none_marking : IsSettled w → (q : Place) → is_marking new.shape q ≡ false
         none_marking settled q = ap is_marking_state (served.states (zone_of new.shape q))
-            ∙ settled_states (joined m flying) t w b.run w.collection there.runs settled.none_marking
+            ∙ settled_states (joined m flying) t w b.run w.collection there.phase.runs settled.none_marking
             (zone_of new.shape q)
 
         spreads : IsSettled w → SpreadsBlack (joined m flying) p (joined new flying)
@@ -500,8 +506,9 @@ module _ (b : CollectorState) (flown : ℕ → Option Bits) (command : GraphCmd)
             (λ q n. colour_same q ∙ others_keep m zone p cell between flying mk covers sized q n)
 
         done : DoesInWorld w command answer new es
-        done = does_made w m new command answer (with_flown flying 0 ds) es p x ok lies there.marks.holds.colours
-            (λ s. there.black s) zone does comes wakes spreads
+        done = does_made w m new command answer (with_flown flying 0 ds) es p x ok lies rep.phase.calm
+            there.coloured.marks.holds.colours
+            (λ s. there.phase.black s) zone does comes wakes spreads
 
         woken : woken_by w.graph command ≡ Some x
         woken = woken_in w m command (Some x) ok lies wakes
@@ -540,7 +547,7 @@ module _ (b : CollectorState) (flown : ℕ → Option Bits) (command : GraphCmd)
                   (command_valid w done.after command answer ok done.command) at lies_joined
                   (lies_after done.after done.lies) served comes
                   (λ n is. number n is ∙ (sym lies.shown.objects_made ∙ lies.part.part.made))
-                  (was k b.run (subst (λ u. RunsAs (joined m flying) t w b.run u) at there.runs) z has) _
+                  (was k b.run (subst (λ u. RunsAs (joined m flying) t w b.run u) at there.phase.runs) z has) _
                   (grown done.after done.graph_is),
             )
 
@@ -634,7 +641,8 @@ module _ (c : CollectorState) (flown : ℕ → Option Bits) (command : GraphCmd)
 
   old_reached : IsReached plan.overwritten wide flown
   old_reached p e = held_reached wide flown w wide_stands p
-      (near_reached wide.heap wide_stands.lies.graph wide_stands.lies.shown p (plan_wide.overwritten_near p e))
+      (near_reached wide.heap wide_stands.placed.lies.graph wide_stands.placed.lies.shown p
+      (plan_wide.overwritten_near p e))
 
   first_stands : Represents first steps.first_flown w
   first_stands = represents_through plan.overwritten wide first flown steps.first_flown w steps.old_through old_reached
@@ -642,7 +650,8 @@ module _ (c : CollectorState) (flown : ℕ → Option Bits) (command : GraphCmd)
 
   target_reached : IsReached plan.wrapped first steps.first_flown
   target_reached p e = held_reached first steps.first_flown w first_stands p
-      (near_reached first.heap first_stands.lies.graph first_stands.lies.shown p (plan_first.wrapped_near p e))
+      (near_reached first.heap first_stands.placed.lies.graph first_stands.placed.lies.shown p
+      (plan_first.wrapped_near p e))
 
   second_stands : Represents second steps.second_flown w
   second_stands = represents_through plan.wrapped first second steps.first_flown steps.second_flown w
@@ -709,9 +718,9 @@ module _ (c : CollectorState) (flown : ℕ → Option Bits) (command : GraphCmd)
     lists_last = subst (λ (e : CollectorState). 64 * length d.heap.colours ≤ e.lists.room) d_is steps.more_room
 
     moves_ok : Moves last_heap command plan.change d.heap
-    moves_ok = moves_of last_heap second_stands.lies.graph
-        (shows_coloured second.heap ds delayed second_stands.lies.graph second_stands.lies.shown)
-        second_stands.lies.whole command d.heap second.heap.made plan.change answer able_second plan_last.wakes
+    moves_ok = moves_of last_heap second_stands.placed.lies.graph
+        (shows_coloured second.heap ds delayed second_stands.placed.lies.graph second_stands.placed.lies.shown)
+        second_stands.placed.lies.whole command d.heap second.heap.made plan.change answer able_second plan_last.wakes
         change_ok
 
     pub answered_ok : AnswersIn w command (Ok answer) d flying
@@ -739,15 +748,15 @@ module _ (c : CollectorState) (flown : ℕ → Option Bits) (command : GraphCmd)
 
       inv_last : MarkingInvariant (joined last_heap flying) stack
       inv_last = exposed_marks (handed_by plan.change) (heap_with second steps.second_flown) second.stack
-          (joined last_heap flying) stack exposed_last second_stands.marks
+          (joined last_heap flying) stack exposed_last second_stands.coloured.marks
 
       served_last : Serves (joined last_heap flying) (joined d.heap flying) stack second.lists
       served_last = served second steps.second_flown command plan.change w ok second_stands ds delayed stack flying
           exposed_last covers_last still_last able_second apart_second gone_black target_black answer d.heap step_ok
           change_ok lists_last
 
-      shows_last : Shows last_heap second_stands.lies.graph
-      shows_last = shows_coloured second.heap ds delayed second_stands.lies.graph second_stands.lies.shown
+      shows_last : Shows last_heap second_stands.placed.lies.graph
+      shows_last = shows_coloured second.heap ds delayed second_stands.placed.lies.graph second_stands.placed.lies.shown
 
       weak_last : second.heap ≡ with_marks c.heap second.heap.colours second.heap.delayed
       weak_last = second_wide
@@ -756,7 +765,7 @@ module _ (c : CollectorState) (flown : ℕ → Option Bits) (command : GraphCmd)
       runs_there : (r : RunState) × (second.run ≡ Some r) × Runs (heap_with second steps.second_flown) second w r k
       runs_there = go second.run refl
           (subst (λ u. RunsAs (heap_with second steps.second_flown) second w second.run u) at
-          second_stands.runs)
+          second_stands.phase.runs)
         where
           go : (o : Option RunState) → second.run ≡ o → RunsAs (heap_with second steps.second_flown) second w o (Some k)
               → (r : RunState) × (second.run ≡ Some r) × Runs (heap_with second steps.second_flown) second w r k
@@ -777,7 +786,7 @@ module _ (c : CollectorState) (flown : ℕ → Option Bits) (command : GraphCmd)
       held_last : (r : ℕ) (p : Place) → reg_of last_heap r ≡ Some p → is_marking last_heap.shape p ≡ true
           → is_held_in_zones w.graph k.zones (register_cell w.graph r) ≡ true
       held_last r p holds on =
-          let lies = second_stands.lies in
+          let lies = second_stands.placed.lies in
           let x = name_of last_heap.shape p (reg_present last_heap lies.graph r p shows_last holds) in
           let named : register_cell w.graph r ≡ Some x.0 =
           ap (λ (rs : List (Option Name)). slice_index_or rs r None) (sym lies.part.part.registers)
@@ -791,7 +800,7 @@ module _ (c : CollectorState) (flown : ℕ → Option Bits) (command : GraphCmd)
       one_zone_last : (rm rk : ℕ) (pm pk pv : Place) → reg_of last_heap rm ≡ Some pm → reg_of last_heap rk ≡ Some pk
           → IsWith last_heap pm pk pv d.heap → zone_of last_heap.shape pk ≡ zone_of last_heap.shape pm
       one_zone_last rm rk pm pk pv holds_map holds_key with_it =
-          let lies = second_stands.lies in
+          let lies = second_stands.placed.lies in
           let there = with_it.values pm pk
           ∙ ap (λ b. if b then Some pv else value_of last_heap.shape.weak pm pk)
           (both_of (is_same pm pm) (is_same pk pk) (is_same-self pm) (is_same-self pk)) in
@@ -803,7 +812,8 @@ module _ (c : CollectorState) (flown : ℕ → Option Bits) (command : GraphCmd)
       counted_last : CountsNoMore last_heap d.heap flying stack second.lists inv_last served_last
           (own_sized last_heap flying stack inv_last) covers_last
       counted_last = counts last_heap d.heap flying stack second.lists inv_last served_last
-          (own_sized last_heap flying stack inv_last) covers_last command plan.change second_stands.lies.whole moves_ok
+          (own_sized last_heap flying stack inv_last) covers_last command plan.change second_stands.placed.lies.whole
+          moves_ok
 
       looks_last : looks_now d.heap.looks + sum_by (starts_of (joined d.heap flying) stack) d.heap.shape.weak.entries
           ≤ looks_now last_heap.looks + sum_by (starts_of (joined last_heap flying) stack) last_heap.shape.weak.entries
@@ -813,7 +823,7 @@ module _ (c : CollectorState) (flown : ℕ → Option Bits) (command : GraphCmd)
           (subst (λ (h : HeapState). AreEntries h.shape.weak) (sym weak_last) sound)
           (subst (λ (h : HeapState). AreParallel (weak_of h)) (sym weak_last) parallel) w.graph k.zones held_last
           command (plan_last.does steps.few answer d.heap change_ok).1 one_zone_last
-          (λ r q holds. reg_present last_heap second_stands.lies.graph r q shows_last holds)
+          (λ r q holds. reg_present last_heap second_stands.placed.lies.graph r q shows_last holds)
 
       marking_last : marking_to_come (joined d.heap flying) stack second.lists
           ≤ marking_to_come (joined last_heap flying) stack second.lists + more_looks w.graph k.zones command
@@ -836,13 +846,13 @@ module _ (c : CollectorState) (flown : ℕ → Option Bits) (command : GraphCmd)
         where
           woken : woken_by w.graph command ≡ Some (Wrap comp (number_at last_heap.shape t))
           woken = woken_in w last_heap command (Some (Wrap comp (number_at last_heap.shape t))) ok
-              (lies_marked second.heap ds delayed w second_stands.lies)
+              (lies_marked second.heap ds delayed w second_stands.placed.lies)
               (subst (λ (y : Change). WakesBy last_heap command y) is_wrap plan_last.wakes)
 
           go : (b : Bool) → in_zones second.edges.zones.bits made.zone ≡ b → (if b then 1 else 0) ≤ more
           go false out = omega arith
           go true has =
-              let lies = second_stands.lies in
+              let lies = second_stands.placed.lies in
               let inside : HasZone runs_there.0.zones.bits made.zone =
               subst (λ (y : ZoneSet). HasZone y.bits made.zone) are_zones
               (zone_at_bit second.edges.zones.bits made.zone below has) in

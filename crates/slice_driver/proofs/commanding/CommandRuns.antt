@@ -32,7 +32,7 @@ use Rattle.zone_edges.proofs.LeftBlack.{left_changes}
 use Rattle.slice_driver.specs.Closures.{AreTied}
 use Rattle.slice_driver.specs.Collector.{CollectorState, RunState}
 use Rattle.slice_driver.specs.Commands.{ComesTo, StayInPlace}
-use Rattle.slice_driver.specs.Represents.{AreBehind, AreInStates, AreLookedAt, IsInGroups, LeadsAcross, Runs}
+use Rattle.slice_driver.specs.Represents.{AreInStates, AreLookedAt, IsInGroups, LeadsAcross, Runs}
 use Rattle.slice_driver.specs.Represents.{NothingLeft, WaitsWhileMarking}
 use Rattle.slice_driver.specs.Serves.{Serves}
 use Rattle.slice_driver.specs.Worlds.{LiesIn}
@@ -86,22 +86,19 @@ module _ (c d : CollectorState) (flying : ℕ → Option Bits) (rest : d ≡ rec
       }
 
   pub waits_served : MarkingInvariant old c.stack → (NothingLeft c.heap.looks → NothingLeft d.heap.looks)
-      → WaitsWhileMarking c → WaitsWhileMarking d
-  waits_served marks nothing a = subst (λ (x : CollectorState). WaitsWhileMarking x) (sym rest) now
-    where
-      now : WaitsWhileMarking (record c { heap = d.heap })
-      now = record {
-        piled = λ x has.
-            (let present = marks.holds.colours.seen_present x (marks.holds.piles.gray x has) in
-            ap (state_in d.heap.shape) (served.zones x present) ∙ served.states (zone_of c.heap.shape x)
-            ∙ a.piled x has);
-        buffered = λ z idle. ap (λ (bs : List (List Place)). buffer_of (record d.heap { buffers = bs }) z)
-            served.buffers ∙ a.buffered z (sym (ap is_marking_state (served.states z)) ∙ idle);
-        incoming = λ n p waits.
-            (let was = a.incoming n p waits in
-            (was.0, served.comps n was.0 was.1, ap is_marking_state (served.states was.0) ∙ was.2));
-        looks = λ idle. nothing (a.looks (λ z. sym (ap is_marking_state (served.states z)) ∙ idle z));
-      }
+      → WaitsWhileMarking old c.stack c.lists → WaitsWhileMarking new c.stack c.lists
+  waits_served marks nothing a = record {
+    piled = λ x has.
+        (let present = marks.holds.colours.seen_present x (marks.holds.piles.gray x has) in
+        ap (state_in d.heap.shape) (served.zones x present) ∙ served.states (zone_of c.heap.shape x)
+        ∙ a.piled x has);
+    buffered = λ z idle. ap (λ (bs : List (List Place)). buffer_of (record d.heap { buffers = bs }) z)
+        served.buffers ∙ a.buffered z (sym (ap is_marking_state (served.states z)) ∙ idle);
+    incoming = λ n p waits.
+        (let was = a.incoming n p waits in
+        (was.0, served.comps n was.0 was.1, ap is_marking_state (served.states was.0) ∙ was.2));
+    looks = λ idle. nothing (a.looks (λ z. sym (ap is_marking_state (served.states z)) ∙ idle z));
+  }
 
   module _ (marks : MarkingInvariant old c.stack) where
     zone_from : (p q : Place) → HasEdge c.heap.shape p q → zone_of d.heap.shape p ≡ zone_of c.heap.shape p
@@ -122,17 +119,6 @@ module _ (c d : CollectorState) (flying : ℕ → Option Bits) (rest : d ≡ rec
         apart = λ same. leads.apart (from ∙ (same ∙ sym to));
       }))
     ]
-
-    pub behind_served : (r : RunState) → AreBehind old c r → AreBehind new d r
-    behind_served r a = subst (λ (x : CollectorState). AreBehind new x r) (sym rest) now
-      where
-        now : AreBehind new (record c { heap = d.heap }) r
-        now p q leads here out = elim (led_across r p q leads) [
-          | inr black ↦ black
-          | inl was ↦ served.darker q
-              (a p q was (subst (λ z. IsInGroups c.groups z) (zone_from p q was.edge) here)
-              (λ i. out (subst (λ z. IsInGroups c.groups z) (sym (zone_to p q was.edge)) i)))
-        ]
 
   module _ (w v : World) (k kk : Collection) (lies : LiesIn c.heap w) (lies_after : LiesIn d.heap v) (ok : IsValid w)
       (same : kk ≡ record k { tally = kk.tally; woken = kk.woken }) (names : (q : Place) (y : Name)
@@ -236,7 +222,6 @@ module _ (c d : CollectorState) (flying : ℕ → Option Bits) (rest : d ≡ rec
       states = states_served r a.states;
       tied = tied;
       early = λ unformed. looked_served r (a.early unformed);
-      late = λ formed. behind_served marks r (a.late formed);
     }
       where
         marking_same : kk.marking ≡ k.marking

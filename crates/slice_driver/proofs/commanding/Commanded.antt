@@ -75,12 +75,12 @@ pub same_sound : (h k : HeapState) → SameShape h k → answers.IsSound h → a
 same_sound h k same s = (s.0, subst (λ z. Shows z s.0) (sym same) (shows_coloured h k.colours k.delayed s.0 s.1))
 
 pub sound_heap : (c : CollectorState) (flown : ℕ → Option Bits) → IsSound c flown → answers.IsSound c.heap
-sound_heap c flown s = (s.represents.lies.graph, s.represents.lies.shown)
+sound_heap c flown s = (s.represents.placed.lies.graph, s.represents.placed.lies.shown)
 
 pub sound_roomy : (c : CollectorState) (flown : ℕ → Option Bits) → IsSound c flown → IsRoomy c (length c.heap.colours)
 sound_roomy c flown s =
     let n = flown_length flown 0 c.heap.colours in
-    let room = s.represents.gray.room in
+    let room = s.represents.coloured.gray.room in
     record { lists = omega (arith, n, room) }
 
 pub through_sound : (o : Option Place) (c d : CollectorState) (flown flying : ℕ → Option Bits)
@@ -99,7 +99,7 @@ wide_sound c d flown wide s = subst answers.IsSound (sym (wide_heap c d wide)) (
 pub wide_marks : (c d : CollectorState) (flown : ℕ → Option Bits) → Widens c d → IsSound c flown
     → MarkingInvariant (joined d.heap flown) d.stack
 wide_marks c d flown wide s = subst (λ (e : CollectorState). MarkingInvariant (joined e.heap flown) e.stack)
-    (sym wide.rest) s.represents.marks
+    (sym wide.rest) s.represents.coloured.marks
 
 pub exposed_after : (o : Option Place) (c d : CollectorState) (flown flying : ℕ → Option Bits)
     → Exposed o (joined c.heap flown) c.stack (joined d.heap flying) d.stack
@@ -129,7 +129,8 @@ where_err (Err y) e p = p
 pub room_wanted : (c d : CollectorState) (flown : ℕ → Option Bits) (command : GraphCmd) → Widens c d →
     ((g : GraphState) → Shows c.heap g → IsAccepted g command) → WantsMemory c flown command d flown
 room_wanted c d flown command wide accepted = record {
-  accepted = λ w ok rep. accepted_in w c.heap command ok rep.lies (accepted rep.lies.graph rep.lies.shown);
+  accepted = λ w ok rep. accepted_in w c.heap command ok rep.placed.lies
+      (accepted rep.placed.lies.graph rep.placed.lies.shown);
   shape_is = ap (λ (h : HeapState). h.shape) (wide_heap c d wide);
   kept = λ plain. (wide, refl);
 }
@@ -242,7 +243,7 @@ module _ (E : Type 0) (c d1 d2 d3 d4 d : CollectorState) (flown f1 f2 f3 : ℕ �
 
   sized : length d4.heap.colours ≡ length d4.heap.shape.arenas
   sized = as_many ∙ (sym (flown_length flown 0 c.heap.colours)
-      ∙ (p.sound.represents.marks.holds.colours.sized
+      ∙ (p.sound.represents.coloured.marks.holds.colours.sized
       ∙ ap (λ (z : HeapState). length z.shape.arenas) (sym third_same)))
 
   abbrev o : Option ℕ
@@ -313,9 +314,9 @@ module _ (E : Type 0) (c d1 d2 d3 d4 d : CollectorState) (flown f1 f2 f3 : ℕ �
       go : (r : Result Reply E) → IfOk r (λ answer. ChangesBy d4.heap plan.change answer d.heap)
           → IfOk (as_fault r) (λ answer. refusal_in answer ≡ None)
       go (Ok answer) by =
-          let g = p.sound.represents.lies.graph in
+          let g = p.sound.represents.placed.lies.graph in
           let shown : Shows d4.heap g = subst (λ z. Shows z g) (sym third_same)
-          (shows_coloured c.heap d4.heap.colours d4.heap.delayed g p.sound.represents.lies.shown) in
+          (shows_coloured c.heap d4.heap.colours d4.heap.delayed g p.sound.represents.placed.lies.shown) in
           let step : DoesStep d4.heap command (Ok answer) d.heap = (last_plan.does p.few answer d.heap by).0 in
           let said = (step g shown).0 in
           ap refusal_in said.0 ∙ said.1
@@ -341,8 +342,8 @@ module _ (E : Type 0) (c d1 d2 d3 d4 d : CollectorState) (flown f1 f2 f3 : ℕ �
   -- then nothing was overwritten or handed out, and only a `wrap` exposed its target
   pub wanted_call : as_fault committed ≡ Err fault.NoMemory → WantsMemory c flown command d f3
   wanted_call wants = record {
-    accepted = λ w ok rep. accepted_in w c.heap command ok rep.lies
-        (first_plan.accepted rep.lies.graph rep.lies.shown);
+    accepted = λ w ok rep. accepted_in w c.heap command ok rep.placed.lies
+        (first_plan.accepted rep.placed.lies.graph rep.placed.lies.shown);
     shape_is = ap (λ (h : HeapState). h.shape) same ∙ ap (λ (h : HeapState). h.shape) third_same;
     kept = λ plain. (let after = still same old_none (first_plan.only_wraps plain) given_none in
         (subst (Widens c) (sym after.0) p.wide, after.1));
@@ -427,7 +428,7 @@ pub refused_at : (c : CollectorState) (flown : ℕ → Option Bits) (command : G
     → DoesCommand c flown command (Err (fault.Refused why)) c flown
 refused_at c flown command why is w ok rep =
     let step : DoesStep c.heap command (Err (fault.Refused why)) c.heap = does-refused c.heap command why is in
-    ((refused_in w c.heap c.heap command why ok rep.lies step).1, rep)
+    ((refused_in w c.heap c.heap command why ok rep.placed.lies step).1, rep)
 
 -- after a command the collector stands for some valid world, as before
 pub command_sound : (c d : CollectorState) (flown flying : ℕ → Option Bits) (command : GraphCmd)

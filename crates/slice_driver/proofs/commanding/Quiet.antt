@@ -28,9 +28,8 @@ counted_marking w c (Some k) = refl
 -- where all cells stay in place, the heap lies in each world with the graph after the step, and else as before
 pub lies_still : (w v : World) (old new : HeapState) (c : GraphCmd) (answer : Reply) (l : LiesIn old w)
     → IsStepIn w old new c answer l → StayInPlace old.shape new.shape → v.graph ≡ (step_of w.graph c).0
-    → v.places ≡ w.places → v.owner ≡ w.owner → v.weak ≡ w.weak → v.preparing ≡ w.preparing → v.out ≡ w.out
-    → v.white ≡ w.white → LiesIn new v
-lies_still w v old new c answer l step stay graph at owner weak calm out white =
+    → v.places ≡ w.places → v.owner ≡ w.owner → v.weak ≡ w.weak → v.out ≡ w.out → v.white ≡ w.white → LiesIn new v
+lies_still w v old new c answer l step stay graph at owner weak out white =
     lies_from new (step_of l.graph c).0 v step.shown step.well_formed
     (subst (λ g. IsPartOf g (step_of l.graph c).0) (sym graph) step.part) stay.whole
     (λ x p. (
@@ -39,7 +38,6 @@ lies_still w v old new c answer l step stay graph at owner weak calm out white =
     ))
     (owner ∙ (l.owner_is ∙ sym stay.owners))
     (weak ∙ l.weak_is)
-    (calm ∙ l.calm)
     (out ∙ (l.out_is ∙ sym stay.outs))
     (λ x p. (
       λ has. (stay.unswept p x).1
@@ -49,23 +47,24 @@ lies_still w v old new c answer l step stay graph at owner weak calm out white =
     ))
 
 pub does_quiet : (w : World) (old new : HeapState) (c : GraphCmd) (answer : Reply) (ds es : List Bits) → IsValid w
-    → LiesIn old w → (IsSettled w → AreBlack (with_colours old ds) w) → DoesStep old c (Ok answer) new
+    → LiesIn old w → w.preparing ≡ None → (IsSettled w → AreBlack (with_colours old ds) w)
+    → DoesStep old c (Ok answer) new
     → StayInPlace old.shape new.shape → Wakes old c None
     → ((p : Place) → IsPresent old.shape p → IsBlack (with_colours new es) p ↔ IsBlack (with_colours old ds) p)
     → DoesInWorld w c answer new es
-does_quiet w old new c answer ds es ok l black does stay quiet same =
+does_quiet w old new c answer ds es ok l calm black does stay quiet same =
     let step = step_in w old new c answer ok l does in
     let none : woken_by w.graph c ≡ None = woken_in w old c None ok l quiet in
     let v : World = record w { graph = (step_of w.graph c).0; collection = with_counts w.graph c w.collection } in
     record {
       after = v;
-      command = command_accepted w v c answer None l.calm step.answer_is step.accepted none refl;
-      lies = lies_still w v old new c answer l step stay refl refl refl refl refl refl refl;
+      command = command_accepted w v c answer None calm step.answer_is step.accepted none refl;
+      lies = lies_still w v old new c answer l step stay refl refl refl refl refl refl;
       black = λ settled x p e. (
           let was : name_at old.shape p ≡ Some x = sym (stay.names p) ∙ e in
           let both = black (record {
             none_marking = sym (counted_marking w c w.collection) ∙ settled.none_marking;
-            none_preparing = l.calm;
+            none_preparing = calm;
           }) x p was in
           let there = named_present old.shape p x was in (
             λ has. (same p there).1 (both.0 has),
@@ -73,6 +72,7 @@ does_quiet w old new c answer ds es ok l black does stay quiet same =
           )
           );
       out_is = refl;
+      preparing_is = refl;
       graph_is = refl;
       collection_is = ap (λ o. waking o (with_counts w.graph c w.collection)) (sym none);
     }

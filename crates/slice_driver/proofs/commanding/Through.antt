@@ -50,19 +50,25 @@ module _ (c : CollectorState) (flown : ℕ → Option Bits) (w : World) (rep : R
     edges_is = refl;
     groups_is = refl;
     run_is = refl;
-    flies = still_flies c.heap h flown flying rep.flies (ap (λ (z : HeapState). z.shape) bl.rest)
-        rep.marks.holds.colours inv.holds.colours covers (own_sized c.heap flown c.stack rep.marks)
+    flies = still_flies c.heap h flown flying rep.swept.flies (ap (λ (z : HeapState). z.shape) bl.rest)
+        rep.coloured.marks.holds.colours inv.holds.colours covers (own_sized c.heap flown c.stack rep.coloured.marks)
         (own_sized h flying p inv) bl.kept (λ y. elim (bl.others y) [ inl b ↦ inl b | inr e ↦ inr (inl e) ]);
-    marks = inv;
-    gray = live;
-    waits = waits_on c h p (ap (λ (z : HeapState). z.shape) bl.rest) (ap (λ (z : HeapState). z.buffers) bl.rest)
-        rep.waits (piled_still c h p (ap (λ (z : HeapState). z.shape) bl.rest)
-        (ap (λ (z : HeapState). z.buffers) bl.rest) rep.waits gray)
-        (looks_on c h p (ap (λ (z : HeapState). z.shape) bl.rest) (ap (λ (z : HeapState). z.buffers) bl.rest) rep.waits
-        (ap (λ (z : HeapState). z.looks) bl.rest));
+    coloured = record {
+      marks = inv;
+      gray = live;
+      waits = waits_on (heap_with c flown) (joined h flying) c.stack p c.lists
+          (ap (λ (z : HeapState). z.shape) bl.rest) (ap (λ (z : HeapState). z.buffers) bl.rest) rep.coloured.waits
+          (piled_still (heap_with c flown) (joined h flying) c.stack p c.lists
+          (ap (λ (z : HeapState). z.shape) bl.rest) rep.coloured.waits
+          gray)
+          (looks_on (heap_with c flown) (joined h flying) c.stack p c.lists
+          (ap (λ (z : HeapState). z.shape) bl.rest) rep.coloured.waits
+          (ap (λ (z : HeapState). z.looks) bl.rest));
+    };
     darker = bl.kept;
-    black = pending_same (heap_with c flown) c.stack (joined h flying) p rep.marks inv bl;
-    live = live_same (heap_with c flown) c.stack (joined h flying) p c.lists rep.marks rep.gray inv gray bl;
+    black = pending_same (heap_with c flown) c.stack (joined h flying) p rep.coloured.marks inv bl;
+    live = live_same (heap_with c flown) c.stack (joined h flying) p c.lists rep.coloured.marks rep.coloured.gray inv
+        gray bl;
   }
 
   -- the collector stands for the world for which it stood
@@ -78,10 +84,10 @@ module _ (c : CollectorState) (flown : ℕ → Option Bits) (w : World) (rep : R
       (subst (λ z. Blackens (Reached c.heap.shape (IsBlack (heap_with c flown))) (heap_with c flown) z) (sym e)
       (blackens_none (Reached c.heap.shape (IsBlack (heap_with c flown))) (heap_with c flown)))
       (subst (λ z. MarkingInvariant z p) (sym e)
-      (subst (λ q. MarkingInvariant (heap_with c flown) q) (sym f) rep.marks))
+      (subst (λ q. MarkingInvariant (heap_with c flown) q) (sym f) rep.coloured.marks))
       (ap (λ (q : Piles). q.gray) f)
       (subst (λ z. GrayInvariant z p c.lists) (sym e)
-      (subst (λ q. GrayInvariant (heap_with c flown) q c.lists) (sym f) rep.gray))
+      (subst (λ q. GrayInvariant (heap_with c flown) q c.lists) (sym f) rep.coloured.gray))
 
   exposed_some : (x : Place) → Exposes (heap_with c flown) c.stack x (joined h flying) p
       → Reached c.heap.shape (IsBlack (heap_with c flown)) x → Represents after flying w
@@ -94,7 +100,7 @@ module _ (c : CollectorState) (flown : ℕ → Option Bits) (w : World) (rep : R
         | inr is
             ↦ subst (Reached c.heap.shape (IsBlack (heap_with c flown))) (sym is) r
       ])))
-      e.invariant e.spreads.gray_is (e.pending_live c.lists rep.gray).0
+      e.invariant e.spreads.gray_is (e.pending_live c.lists rep.coloured.gray).0
 
   pub represents_exposed : (o : Option Place) → Exposed o (heap_with c flown) c.stack (joined h flying) p
       → IsReached o c flown → Represents after flying w
@@ -150,14 +156,16 @@ represents_widened c d flown w wide rep =
       edges_is = refl;
       groups_is = refl;
       run_is = refl;
-      flies = rep.flies;
-      marks = rep.marks;
-      gray = gray_room (heap_with c flown) c.stack c.lists (widened c d).lists refl wide.lists rep.gray;
-      waits = record {
-        piled = rep.waits.piled;
-        buffered = rep.waits.buffered;
-        incoming = rep.waits.incoming;
-        looks = rep.waits.looks;
+      flies = rep.swept.flies;
+      coloured = record {
+        marks = rep.coloured.marks;
+        gray = gray_room (heap_with c flown) c.stack c.lists (widened c d).lists refl wide.lists rep.coloured.gray;
+        waits = record {
+          piled = rep.coloured.waits.piled;
+          buffered = rep.coloured.waits.buffered;
+          incoming = rep.coloured.waits.incoming;
+          looks = rep.coloured.waits.looks;
+        };
       };
       darker = λ p b. b;
       black = λ p. (λ l. l, λ l. l);

@@ -54,7 +54,8 @@ world_after w c x at owner black = record w {
 }
 
 module _ (w : World) (old new : HeapState) (c : GraphCmd) (answer : Reply) (ds es : List Bits) (p : Place) (x : Name)
-    (ok : IsValid w) (l : LiesIn old w) (colours : ColourInvariant (with_colours old ds)) (black : IsSettled w
+    (ok : IsValid w) (l : LiesIn old w) (calm : w.preparing ≡ None) (colours : ColourInvariant (with_colours old ds))
+    (black : IsSettled w
     → AreBlack (with_colours old ds) w) where
   starts_same : (v : World) → LiesIn new v → IsThere old.shape new.shape p x → IsSettled w
       → AreSameStarts new v (BlackOr (with_colours old ds) p) (λ s. Has w.black s ⊎ (x ≡ s))
@@ -94,7 +95,7 @@ module _ (w : World) (old new : HeapState) (c : GraphCmd) (answer : Reply) (ds e
         → DoesInWorld w c answer new es
     does_in b k blacks = record {
       after = world_after w c x at owner b;
-      command = command_accepted w (world_after w c x at owner b) c answer (Some x) l.calm step.answer_is step.accepted
+      command = command_accepted w (world_after w c x at owner b) c answer (Some x) calm step.answer_is step.accepted
           wakes (has b, k);
       lies = lies b;
       black = λ settled. blacks
@@ -102,9 +103,10 @@ module _ (w : World) (old new : HeapState) (c : GraphCmd) (answer : Reply) (ds e
             none_marking =
                 sym (woken_marking x (with_counts w.graph c w.collection) ∙ counted_marking w c w.collection)
                 ∙ settled.none_marking;
-            none_preparing = l.calm;
+            none_preparing = calm;
           });
       out_is = refl;
+      preparing_is = refl;
       graph_is = refl;
       collection_is = ap (λ o. waking o (with_counts w.graph c w.collection)) (sym wakes);
     }
@@ -142,7 +144,7 @@ module _ (w : World) (old new : HeapState) (c : GraphCmd) (answer : Reply) (ds e
     does_waking = go (marking_of w.collection) refl
       where
         go : (zs : List ℕ) → marking_of w.collection ≡ zs → DoesInWorld w c answer new es
-        go [] e = does_settled (record { none_marking = e; none_preparing = l.calm })
+        go [] e = does_settled (record { none_marking = e; none_preparing = calm })
         go (z ∷ zs) e = does_in w.black
             (subst (λ ys. world.Wakes w (with_counts w.graph c w.collection) ys (step_of w.graph c).0 x
             (world_after w c x at owner w.black)) (sym e) (refl, refl))
@@ -163,7 +165,7 @@ module _ (w : World) (old new : HeapState) (c : GraphCmd) (answer : Reply) (ds e
       })
       (woken_in w old c (Some x) ok l wakes)
       (λ b. lies_still w (world_after w c x w.places w.owner b) old new c answer l step stay refl refl refl refl refl
-      refl refl)
+      refl)
       (λ b. record {
         graph_is = refl;
         found = λ there. (refl, refl);
@@ -247,7 +249,6 @@ module _ (w : World) (old new : HeapState) (c : GraphCmd) (answer : Reply) (ds e
       (placed_are step zone m)
       refl
       l.weak_is
-      l.calm
       (l.out_is ∙ sym m.outs)
       (λ y q. ((λ has. (m.unswept q y).1 ((l.white_are y q).0 has)), λ un. (l.white_are y q).1 ((m.unswept q y).0 un)))
 

@@ -75,7 +75,7 @@ module _ (c : CollectorState) (flown : ℕ → Option Bits) (w : World) (rep : R
 
   colour_as : (x : NamedCell) → name_at c.heap.shape x.place ≡ Some x.name → coloured_line h x ≡ cell_line w x.name
   colour_as x e =
-      let black = rep.black settled x.name x.place e in
+      let black = rep.phase.black settled x.name x.place e in
       ap (λ k. line.Cell x.name k) (told (set.contains w.black x.name) (colour_of h x.place) black.0 black.1)
 
   colours_as : (xs : List NamedCell)
@@ -89,10 +89,10 @@ module _ (c : CollectorState) (flown : ℕ → Option Bits) (w : World) (rep : R
   cell_as : (p : Place) (x : Name) (cell : CellState) → cell_of c.heap.shape p ≡ Some cell → cell.name ≡ x
       → lines_of_cell c.heap.shape (Some cell) (Some x) ≡ edge_lines w.graph x
   cell_as p (Cell n) cell at is =
-      let stands = subst (λ z. StandsFor c.heap.shape rep.lies.graph p cell z) is
-      (rep.lies.shown.cells p cell at).stands
+      let stands = subst (λ z. StandsFor c.heap.shape rep.placed.lies.graph p cell z) is
+      (rep.placed.lies.shown.cells p cell at).stands
       in
-      sym (ap (λ o. object_lines n o) (rep.lies.part.part.objects n _ stands.1))
+      sym (ap (λ o. object_lines n o) (rep.placed.lies.part.part.objects n _ stands.1))
   cell_as p (Wrap d t) cell at is = refl
 
   edge_as : (x : NamedCell) → name_at c.heap.shape x.place ≡ Some x.name
@@ -112,26 +112,26 @@ module _ (c : CollectorState) (flown : ℕ → Option Bits) (w : World) (rep : R
       (edge_as x (all x (contains_head x xs)))
       ∙ ap (λ ls. edge_lines w.graph x.name ++ ls) (edges_as xs (λ y b. all y (contains_tail x xs y b)))
 
-  is_here : (p : Place) (x : Name) → name_at c.heap.shape p ≡ Some x → present.IsHere rep.lies.graph x
-  is_here p x e = (rep.lies.part.here x).1 (present_named c.heap w rep.lies p x e)
+  is_here : (p : Place) (x : Name) → name_at c.heap.shape p ≡ Some x → present.IsHere rep.placed.lies.graph x
+  is_here p x e = (rep.placed.lies.part.here x).1 (present_named c.heap w rep.placed.lies p x e)
 
   entry_out : (e : NamedEntry) → IsEntryOf c.heap.shape e → IsWeakOf w (weak_of e)
   entry_out e i = record {
-    found = sym (rep.lies.part.part.entries (Cell e.map) e.key
-        (is_here i.map (Cell e.map) i.map_is) (key_here c.heap w rep.lies i.key e.key i.key_is))
-        ∙ rep.lies.shown.entries_are i.map i.key i.value (Cell e.map) e.key e.value i.found i.map_is i.key_is
+    found = sym (rep.placed.lies.part.part.entries (Cell e.map) e.key
+        (is_here i.map (Cell e.map) i.map_is) (key_here c.heap w rep.placed.lies i.key e.key i.key_is))
+        ∙ rep.placed.lies.shown.entries_are i.map i.key i.value (Cell e.map) e.key e.value i.found i.map_is i.key_is
         i.value_is;
-    map_present = present_named c.heap w rep.lies i.map (Cell e.map) i.map_is;
-    key_present = present_named c.heap w rep.lies i.key e.key i.key_is;
+    map_present = present_named c.heap w rep.placed.lies i.map (Cell e.map) i.map_is;
+    key_present = present_named c.heap w rep.placed.lies i.key e.key i.key_is;
   }
 
   entry_back : (e : NamedEntry) → IsWeakOf w (weak_of e) → IsEntryOf c.heap.shape e
   entry_back e i =
-      let map = place_of c.heap w rep.lies (Cell e.map) i.map_present in
-      let key = place_of c.heap w rep.lies e.key i.key_present in
-      let known = rep.lies.shown.entries_known (Cell e.map) e.key e.value
-      (rep.lies.part.part.entries (Cell e.map) e.key (is_here map.0 (Cell e.map) map.1)
-      (key_here c.heap w rep.lies key.0 e.key key.1) ∙ i.found) in
+      let map = place_of c.heap w rep.placed.lies (Cell e.map) i.map_present in
+      let key = place_of c.heap w rep.placed.lies e.key i.key_present in
+      let known = rep.placed.lies.shown.entries_known (Cell e.map) e.key e.value
+      (rep.placed.lies.part.part.entries (Cell e.map) e.key (is_here map.0 (Cell e.map) map.1)
+      (key_here c.heap w rep.placed.lies key.0 e.key key.1) ∙ i.found) in
       record {
         map = known.0;
         key = known.1;
@@ -153,8 +153,8 @@ module _ (c : CollectorState) (flown : ℕ → Option Bits) (w : World) (rep : R
       has = λ x. (
         (λ b. (let r = name_from cells x b in
             subst (λ y. IsPresentName w y) r.2
-            (present_named c.heap w rep.lies r.0.place r.0.name ((lc.exact r.0).0 r.1)))),
-        (λ b. (let p = place_of c.heap w rep.lies x b in
+            (present_named c.heap w rep.placed.lies r.0.place r.0.name ((lc.exact r.0).0 r.1)))),
+        (λ b. (let p = place_of c.heap w rep.placed.lies x b in
             name_in cells (record { name = x; place = p.0 }) ((lc.exact (record { name = x; place = p.0 })).1 p.1))),
       );
     };

@@ -20,7 +20,8 @@ use Rattle.slice_driver.specs.declared.listings.NamedCell.{NamedCell}
 use Rattle.slice_driver.specs.declared.listings.NamedEntry.{NamedEntry}
 use Rattle.slice_driver.proofs.abstraction.Named.{named_present}
 use Rattle.slice_driver.proofs.dumping.Worlds.{dumped}
-use Rattle.slice_driver.proofs.group_end.GrayNames.{arena_coloured, present_within, represents_flown}
+use Rattle.slice_driver.proofs.group_end.GrayNames.{arena_coloured, present_within}
+use Rattle.slice_driver.proofs.marking.MarkingUnits.{same_worlds}
 
 -- the cells that are listed are present, and their arenas have colours
 pub listed_present : (s : Shape) (cells : List NamedCell) → ListsCells s cells
@@ -34,14 +35,14 @@ pub listed_coloured : (c : CollectorState) (flown : ℕ → Option Bits) (cells 
 listed_coloured c flown cells sound lists = λ k d lt. (
     let cell = slice_index_or cells k d in
     arena_coloured c flown cell.place.0 sound
-    (present_within c.heap.shape cell.place sound.represents.lies.whole
+    (present_within c.heap.shape cell.place sound.represents.placed.lies.whole
     (listed_present c.heap.shape cells lists k d lt)).0)
 
 -- bits were read that stand for the same heap
 pub represents_seen : (c : CollectorState) (flown flying : ℕ → Option Bits) (h : HeapState) → h ≡ c.heap
     → Covers h.shape flying → joined h flying ≡ joined h flown → (w : World) → Represents c flown w
     → Represents c flying w
-represents_seen c flown flying h here covers same w rep = represents_flown c flown flying w
+represents_seen c flown flying h here covers same w rep = same_worlds c flown flying w
     (subst (λ (k : HeapState). Covers k.shape flying) here covers)
     (subst (λ (k : HeapState). joined k flying ≡ joined k flown) here same) rep
 

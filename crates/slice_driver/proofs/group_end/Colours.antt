@@ -47,8 +47,9 @@ module _ (c : CollectorState) (flown : ℕ → Option Bits) (w : World) (k : Col
 
   zone_is : (x : Name) (p : Place) → name_at c.heap.shape p ≡ Some x
       → graph.zone_of w.graph x ≡ Some (zone_of c.heap.shape p)
-  zone_is x p named = zone_named c.heap ending.represents.lies.graph w.graph p x ending.represents.lies.shown
-      ending.represents.lies.part.part named
+  zone_is x p named = zone_named c.heap ending.represents.placed.lies.graph w.graph p x
+      ending.represents.placed.lies.shown
+      ending.represents.placed.lies.part.part named
 
   -- a cell of a zone that is not marked black only is in no zone that marks on
   not_later : (x : Name) (p : Place) → name_at c.heap.shape p ≡ Some x

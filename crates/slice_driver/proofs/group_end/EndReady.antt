@@ -41,19 +41,19 @@ pub ends_coloured : (v : CollectorState) (flown : ℕ → Option Bits) (g : Zone
     → IsReady v g rest → (w : World) (k : Collection) → IsValid w → Represents v flown w → w.collection ≡ Some k
     → AreColoured v.heap w.graph k (zones_without k.marking (zones_in g))
 ends_coloured v flown g rest ready w k ok rep is =
-    let own : heap_with v flown ≡ v.heap = joined_none v.heap flown rep.delayed
-    (λ a. no_some (flown a) (rep.flies.covers a ∙ ap is_some (ready.kept a))) in
+    let own : heap_with v flown ≡ v.heap = joined_none v.heap flown rep.placed.delayed
+    (λ a. no_some (flown a) (rep.swept.flies.covers a ∙ ap is_some (ready.kept a))) in
     subst (λ h. AreColoured h w.graph k (zones_without k.marking (zones_in g))) own
     (coloured v flown w k g rest (record { valid = ok; represents = rep; ready = ready; running = is }))
 
 module _ (v : CollectorState) (flown : ℕ → Option Bits) (kept : (a : ℕ) → out_of v.heap.shape a ≡ None)
     (s : IsSound v flown) where
   own : heap_with v flown ≡ v.heap
-  own = joined_none v.heap flown s.represents.delayed
-      (λ a. no_some (flown a) (s.represents.flies.covers a ∙ ap is_some (kept a)))
+  own = joined_none v.heap flown s.represents.placed.delayed
+      (λ a. no_some (flown a) (s.represents.swept.flies.covers a ∙ ap is_some (kept a)))
 
   marks : MarkingInvariant v.heap v.stack
-  marks = subst (λ (h : HeapState). MarkingInvariant h v.stack) own s.represents.marks
+  marks = subst (λ (h : HeapState). MarkingInvariant h v.stack) own s.represents.coloured.marks
 
   pub sized_here : length v.heap.colours ≡ length v.heap.shape.arenas
   sized_here = marks.holds.colours.sized

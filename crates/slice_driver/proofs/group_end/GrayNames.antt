@@ -72,8 +72,8 @@ pub settled_grays : (c : CollectorState) (flown : ℕ → Option Bits) (w : Worl
     → IsSorted name_cmp names → Lists (λ x. IsPresentName w x × (Has w.black x → ⊥)) names
 settled_grays c flown w names rep settled moved sorted =
     lists_as (IsGrayIn h all) (λ x. IsPresentName w x × (Has w.black x → ⊥)) names (λ x. (out x, back x))
-    (grays_listed h all (length c.heap.shape.arenas) names rep.lies.shown.apart
-    (λ p g. present_within c.heap.shape p rep.lies.whole (colours.seen_present p (inl g))) moved sorted)
+    (grays_listed h all (length c.heap.shape.arenas) names rep.placed.lies.shown.apart
+    (λ p g. present_within c.heap.shape p rep.placed.lies.whole (colours.seen_present p (inl g))) moved sorted)
   where
     h : HeapState
     h = joined c.heap flown
@@ -82,68 +82,28 @@ settled_grays c flown w names rep settled moved sorted =
     all a = true
 
     colours : ColourInvariant (joined c.heap flown)
-    colours = rep.marks.holds.colours
+    colours = rep.coloured.marks.holds.colours
 
     out : (x : Name) → IsGrayIn (joined c.heap flown) (λ a. true) x → IsPresentName w x × (Has w.black x → ⊥)
     out x g = (
-      present_named c.heap w rep.lies g.place x g.named,
-      λ has. (let black = (rep.black settled x g.place g.named).0 has in cc (g.gray, black)),
+      present_named c.heap w rep.placed.lies g.place x g.named,
+      λ has. (let black = (rep.phase.black settled x g.place g.named).0 has in cc (g.gray, black)),
     )
 
     back : (x : Name) → IsPresentName w x × (Has w.black x → ⊥) → IsGrayIn (joined c.heap flown) (λ a. true) x
     back x at =
-        let p = place_of c.heap w rep.lies x at.0 in
-        let none = settled_states (heap_with c flown) c w c.run w.collection rep.runs settled.none_marking
+        let p = place_of c.heap w rep.placed.lies x at.0 in
+        let none = settled_states (heap_with c flown) c w c.run w.collection rep.phase.runs settled.none_marking
         (zone_of c.heap.shape p.0) in
         elim (colours.no_white p.0 (named_present c.heap.shape p.0 x p.1) none) [
           | inl gray ↦ record { place = p.0; named = p.1; here = refl; gray = gray }
-          | inr black ↦ absurd (at.1 ((rep.black settled x p.0 p.1).1 black))
+          | inr black ↦ absurd (at.1 ((rep.phase.black settled x p.0 p.1).1 black))
         ]
-
--- the same bits in flight: the same worlds
-pub represents_flown : (c : CollectorState) (flown flying : ℕ → Option Bits) (w : World) → Covers c.heap.shape flying
-    → joined c.heap flying ≡ joined c.heap flown → Represents c flown w → Represents c flying w
-represents_flown c flown flying w covers same rep = record {
-  delayed = rep.delayed;
-  lies = rep.lies;
-  unswept_apart = rep.unswept_apart;
-  flies = record { covers = covers; woken = woken };
-  marks = subst (λ h. MarkingInvariant h c.stack) (sym same) rep.marks;
-  gray = subst (λ h. GrayInvariant h c.stack c.lists) (sym same) rep.gray;
-  waits = rep.waits;
-  black = λ settled. subst (λ h. AreBlack h w) (sym same) (rep.black settled);
-  runs = subst (λ h. RunsAs h c w c.run w.collection) (sym same) rep.runs;
-}
-  where
-    few : (a : ℕ) (old : Bits) → out_of c.heap.shape a ≡ Some old → a < length c.heap.colours
-    few a old out =
-        let n = rep.marks.holds.colours.sized in
-        let m = flown_length flown 0 c.heap.colours in
-        let lt = within (slice_get c.heap.shape.arenas a) refl out in
-        omega (arith, n, m, lt)
-      where
-        within : (o : Option ArenaShape) → slice_get c.heap.shape.arenas a ≡ o → out_in o ≡ Some old
-            → a < length c.heap.shape.arenas
-        within None e at = absurd (cc at)
-        within (Some arena) e at = slice_get_within c.heap.shape.arenas a arena e
-
-    woken : (a : ℕ) (old new : Bits) → out_of c.heap.shape a ≡ Some old → flying a ≡ Some new → IsWokenFrom old new
-    woken a old new out at = go (flown a) refl (rep.flies.covers a ∙ ap is_some out)
-      where
-        go : (o : Option Bits) → flown a ≡ o → is_some o ≡ true → IsWokenFrom old new
-        go None e some = absurd (cc some)
-        go (Some b) e some =
-            let lt = few a old out in
-            let now = flown_there c.heap flying a new lt at in
-            let was = flown_there c.heap flown a b lt e in
-            let is : Some new ≡ Some b = sym now ∙ (ap (λ (h : HeapState). slice_get h.colours a) same ∙ was) in
-            let one : b ≡ new = cc is in
-            rep.flies.woken a old new out (e ∙ ap (λ z. Some z) one)
 
 -- each arena has its bits
 pub arena_coloured : (c : CollectorState) (flown : ℕ → Option Bits) (a : ℕ) → IsSound c flown
     → a < length c.heap.shape.arenas → a < length c.heap.colours
 arena_coloured c flown a s lt =
-    let n = s.represents.marks.holds.colours.sized in
+    let n = s.represents.coloured.marks.holds.colours.sized in
     let m = flown_length flown 0 c.heap.colours in
     omega (arith, n, m, lt)

@@ -90,7 +90,7 @@ module _ (c : CollectorState) (flown : ℕ → Option Bits) (w : World) (k : Col
   valid = end_valid w after k (zones_in g) (map zones_in rest) grays ending.valid ending.running
       (groups_are c flown w k g rest ending)
       [] (lawful_end c flown w k g rest ending grays listed)
-      (loses_nothing w after ending.represents.lies.weak_is ending.represents.lies.weak_is)
+      (loses_nothing w after ending.represents.placed.lies.weak_is ending.represents.placed.lies.weak_is)
 
   pub sized : length c.heap.colours ≡ length c.heap.shape.arenas
   sized = (inv c flown w k g rest ending).holds.colours.sized
@@ -141,12 +141,12 @@ module _ (c : CollectorState) (flown : ℕ → Option Bits) (w : World) (k : Col
 
   alive_kept : (p : Place) (x : Name) → name_at c.heap.shape p ≡ Some x → is_dead c.heap g p ≡ false → keep x ≡ true
   alive_kept p x named alive = ap (λ o. Rattle.slice_driver.proofs.group_end.Worlds.kept_place c.heap g o)
-      ((ending.represents.lies.places_are x p).1 named) ∙ ap not alive
+      ((ending.represents.placed.lies.places_are x p).1 named) ∙ ap not alive
 
   kept_alive : (p : Place) (x : Name) → name_at c.heap.shape p ≡ Some x → keep x ≡ true → is_dead c.heap g p ≡ false
   kept_alive p x named kept =
       not_true _ (sym (ap (λ o. Rattle.slice_driver.proofs.group_end.Worlds.kept_place c.heap g o)
-      ((ending.represents.lies.places_are x p).1 named)) ∙ kept)
+      ((ending.represents.placed.lies.places_are x p).1 named)) ∙ kept)
 
   stays : (x : Name) → IsPresentName after x ↔ (IsPresentName w x × (keep x ≡ true))
   stays x = (
@@ -164,13 +164,13 @@ module _ (c : CollectorState) (flown : ℕ → Option Bits) (w : World) (k : Col
   present_alive p x named there = kept_alive p x named ((stays x).0 there).1
 
   abbrev pub graph_after : GraphState
-  graph_after = restrict ending.represents.lies.graph keep
+  graph_after = restrict ending.represents.placed.lies.graph keep
 
-  shown : Shows c.heap ending.represents.lies.graph
-  shown = ending.represents.lies.shown
+  shown : Shows c.heap ending.represents.placed.lies.graph
+  shown = ending.represents.placed.lies.shown
 
   pub part : present.Shows after graph_after
-  part = shows_restricted ending.represents.lies.graph keep w after ending.represents.lies.part refl stays
+  part = shows_restricted ending.represents.placed.lies.graph keep w after ending.represents.placed.lies.part refl stays
       valid.presence ending.valid.graph
 
   reg_alive : (p : Place) → Contains c.heap.shape.regs (Some p) → is_dead c.heap g p ≡ false
@@ -178,7 +178,8 @@ module _ (c : CollectorState) (flown : ℕ → Option Bits) (w : World) (k : Col
       let x = name_of c.heap.shape p (shown.registers_held p held) in
       let r = held_index (held_name c.heap.shape) c.heap.shape.regs p x.0 held x.1 in
       let cell : register_cell w.graph r.0 ≡ Some x.0 =
-      ap (λ rs. slice_index_or rs r.0 None) (sym ending.represents.lies.part.part.registers ∙ shown.registers_are)
+      ap (λ rs. slice_index_or rs r.0 None) (sym ending.represents.placed.lies.part.part.registers
+      ∙ shown.registers_are)
       ∙ r.1 in
       present_alive p x.0 x.1 (valid.presence.registers r.0 x.0 cell)
 
@@ -187,7 +188,8 @@ module _ (c : CollectorState) (flown : ℕ → Option Bits) (w : World) (k : Col
       let x = name_of c.heap.shape p (shown.slots_held p held) in
       let r = held_index (held_name c.heap.shape) c.heap.shape.slots p x.0 held x.1 in
       let cell : slot_cell w.graph r.0 ≡ Some x.0 =
-      ap (λ rs. slice_index_or rs r.0 None) (sym ending.represents.lies.part.part.slots ∙ shown.slots_are) ∙ r.1 in
+      ap (λ rs. slice_index_or rs r.0 None) (sym ending.represents.placed.lies.part.part.slots ∙ shown.slots_are)
+      ∙ r.1 in
       present_alive p x.0 x.1 (valid.presence.slots r.0 x.0 cell)
 
   -- a cell that stays names only cells that stay
@@ -197,8 +199,8 @@ module _ (c : CollectorState) (flown : ℕ → Option Bits) (w : World) (k : Col
       let y = name_of c.heap.shape q (shown.fields_held p q edge.0 edge.2) in
       present_alive q y.0 y.1
       (valid.presence.edges x.0 y.0
-      ((stays x.0).1 (present_named c.heap w ending.represents.lies p x.0 x.1, alive_kept p x.0 x.1 alive))
-      (edge_named c.heap w ending.represents.lies p q x.0 y.0 x.1 y.1 edge))
+      ((stays x.0).1 (present_named c.heap w ending.represents.placed.lies p x.0 x.1, alive_kept p x.0 x.1 alive))
+      (edge_named c.heap w ending.represents.placed.lies p q x.0 y.0 x.1 y.1 edge))
 
   field_alive : (p q : Place) (cell : CellState) (f : ℕ) → cell_of c.heap.shape p ≡ Some cell → field_of cell f ≡ Some q
       → is_dead c.heap g p ≡ false → is_dead c.heap g q ≡ false
@@ -260,8 +262,8 @@ module _ (c : CollectorState) (flown : ℕ → Option Bits) (w : World) (k : Col
       zone_same z at named =
           let d = named_cell c.heap.shape p (Wrap comp t) named in
           let is = shown.cells p d.0 d.1 in
-          let stands : StandsFor c.heap.shape ending.represents.lies.graph p d.0 (Wrap comp t) =
-          subst (λ y. StandsFor c.heap.shape ending.represents.lies.graph p d.0 y) d.2 is.stands in
+          let stands : StandsFor c.heap.shape ending.represents.placed.lies.graph p d.0 (Wrap comp t) =
+          subst (λ y. StandsFor c.heap.shape ending.represents.placed.lies.graph p d.0 y) d.2 is.stands in
           let same : Some (zone_of c.heap.shape p) ≡ Some z = sym is.at_home
           ∙ ap (λ (m : CompNo). slice_get c.heap.shape.comps m.0) stands.comp_is ∙ at in
           cc same
@@ -280,8 +282,8 @@ module _ (c : CollectorState) (flown : ℕ → Option Bits) (w : World) (k : Col
       let old = name_back p (Wrap comp t) named in
       let cell = named_cell c.heap.shape p (Wrap comp t) old.0 in
       let is = shown.cells p cell.0 cell.1 in
-      let stands : StandsFor c.heap.shape ending.represents.lies.graph p cell.0 (Wrap comp t) =
-      subst (λ y. StandsFor c.heap.shape ending.represents.lies.graph p cell.0 y) cell.2 is.stands in
+      let stands : StandsFor c.heap.shape ending.represents.placed.lies.graph p cell.0 (Wrap comp t) =
+      subst (λ y. StandsFor c.heap.shape ending.represents.placed.lies.graph p cell.0 y) cell.2 is.stands in
       let r = found_listed c.heap.shape.comps c.heap.shape.wrappers home comp t p stands.mapped in
       let there = in_new r.0 (record { comp = comp.0; target = t }, p) r.2
       (some_is (cell_of n.shape p) (named_present n.shape p (Wrap comp t) named)) in
@@ -298,11 +300,11 @@ module _ (c : CollectorState) (flown : ℕ → Option Bits) (w : World) (k : Col
           (name_back p (Wrap comp t) named).0)
 
   stands_after : (p : Place) (cell : CellState) (x : Name) → cell_of n.shape p ≡ Some cell → name_at n.shape p ≡ Some x
-      → StandsFor c.heap.shape ending.represents.lies.graph p cell x → StandsFor n.shape graph_after p cell x
+      → StandsFor c.heap.shape ending.represents.placed.lies.graph p cell x → StandsFor n.shape graph_after p cell x
   stands_after p cell (Cell m) there named stands =
       (let old = cell_back p cell there in (
         stands.0,
-        object_on ending.represents.lies.graph keep m (object_at n.shape cell)
+        object_on ending.represents.placed.lies.graph keep m (object_at n.shape cell)
             (alive_kept p (Cell m) (name_back p (Cell m) named).0 old.1)
             (stands.1 ∙ ap (λ z. Some z) (object_same p cell old.0 old.1)),
       ))
@@ -314,7 +316,7 @@ module _ (c : CollectorState) (flown : ℕ → Option Bits) (w : World) (k : Col
     target_is = name_on stands.target
         (field_alive p stands.target cell 0 old.0 (ap (λ fs. joined (slice_get fs 0)) stands.fields_is) old.1)
         ∙ stands.target_is;
-    known = wrapper_on ending.represents.lies.graph keep comp t
+    known = wrapper_on ending.represents.placed.lies.graph keep comp t
         (alive_kept p (Wrap comp t) (name_back p (Wrap comp t) named).0 old.1)
         stands.known;
     mapped = found_after comp t p named;
@@ -369,12 +371,13 @@ module _ (c : CollectorState) (flown : ℕ → Option Bits) (w : World) (k : Col
       × (v : Place) × (value_of n.shape.weak m q ≡ Some v) × (name_at n.shape m ≡ Some x) × (name_at n.shape q ≡ Some y)
       × (name_at n.shape v ≡ Some z)
   entries_known_after x y z f =
-      let r = value_back ending.represents.lies.graph keep x y z f in
+      let r = value_back ending.represents.placed.lies.graph keep x y z f in
       let o = shown.entries_known x y z r.2 in
       let am = kept_alive o.0 x o.4 r.0 in
       let aq = kept_alive o.1 y o.5 r.1 in
       let av = kept_alive o.2 z o.6
-      (value_kept_too ending.represents.lies.graph keep w after ending.represents.lies.part refl stays valid.presence
+      (value_kept_too ending.represents.placed.lies.graph keep w after ending.represents.placed.lies.part refl stays
+      valid.presence
       ending.valid.graph x y z r.0 r.1 r.2) in
       let nm = name_on o.0 am ∙ o.4 in
       let nq = name_on o.1 aq ∙ o.5 in
@@ -393,7 +396,7 @@ module _ (c : CollectorState) (flown : ℕ → Option Bits) (w : World) (k : Col
   shows_after = record {
     zones_are = shown.zones_are ∙ sym e.sized;
     comps_are = shown.comps_are ∙ sym comps_same;
-    objects_made = objects_kept ending.represents.lies.graph keep ∙ shown.objects_made
+    objects_made = objects_kept ending.represents.placed.lies.graph keep ∙ shown.objects_made
         ∙ sym (ap (λ (z : HeapState). z.shape.objects) e.rest);
     registers_are = shown.registers_are
         ∙ map_same _ _ c.heap.shape.regs
@@ -422,18 +425,19 @@ module _ (c : CollectorState) (flown : ℕ → Option Bits) (w : World) (k : Col
           ∙ ap (λ z. Some z) (sym (zones p));
     });
     apart = λ p q x a b. shown.apart p q x (name_back p x a).0 (name_back q x b).0;
-    objects_are = λ m o f. (let r = object_back ending.represents.lies.graph keep m o f in
+    objects_are = λ m o f. (let r = object_back ending.represents.placed.lies.graph keep m o f in
         let p = shown.objects_are m o r.1 in
         (p.0, name_on p.0 (kept_alive p.0 (Cell m) p.1 r.0) ∙ p.1));
     wrappers_are = λ comp t f.
-        (let r = wrapper_back ending.represents.lies.graph keep comp t f in let p = shown.wrappers_are comp t r.1 in
+        (let r = wrapper_back ending.represents.placed.lies.graph keep comp t f in
+        let p = shown.wrappers_are comp t r.1 in
         (p.0, name_on p.0 (kept_alive p.0 (Wrap comp t) p.1 r.0) ∙ p.1));
     mapped = mapped_after;
     maps_at_home = λ z d there. ap (λ (cs : List ℕ). slice_get cs d.0.comp) comps_same ∙ home_after z d there;
     entries_held = entry_present;
     entries_are = λ m q v x y z f a b d.
         (let om = name_back m x a in let oq = name_back q y b in let ov = name_back v z d in
-        value_on ending.represents.lies.graph keep x y (alive_kept m x om.0 om.1) (alive_kept q y oq.0 oq.1)
+        value_on ending.represents.placed.lies.graph keep x y (alive_kept m x om.0 om.1) (alive_kept q y oq.0 oq.1)
         ∙ shown.entries_are m q v x y z (entry_was m q v f) om.0 oq.0 ov.0);
     entries_known = entries_known_after;
     few_objects = subst (λ (z : HeapState). z.shape.objects ≤ z.made) (sym e.rest) shown.few_objects;

@@ -27,7 +27,7 @@ pub group_ends : (c d : CollectorState) (flown flying : ℕ → Option Bits) (w 
     → AreJustFlown d.heap.shape flying → Lists (IsGrayHere c.heap g) grays
     → (v : World) × EndsGroup w (zones_in g) grays [] v × IsValid v × Represents d flying v
 group_ends c d flown flying w g rest grays ok s ready ends flies listed =
-    let k = collection_of c (heap_with c flown) w ready.run ready.running s.runs in
+    let k = collection_of c (heap_with c flown) w ready.run ready.running s.phase.runs in
     let ending : AtGroupEnd c flown w k.0 g rest = record { valid = ok; represents = s; ready = ready; running = k.1 }
     in (
       ended c.heap w k.0 g rest,

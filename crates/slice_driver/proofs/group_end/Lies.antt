@@ -46,9 +46,10 @@ module _ (c : CollectorState) (flown : ℕ → Option Bits) (w : World) (k : Col
       ↔ (name_at n.shape p ≡ Some x)
   places_after x p = (
     λ there. (let r = ended_place c.heap g w x p there in
-        name_on c flown w k g rest ending grays listed n e p r.1 ∙ (ending.represents.lies.places_are x p).0 r.0),
+        name_on c flown w k g rest ending grays listed n e p r.1 ∙ (ending.represents.placed.lies.places_are x p).0
+        r.0),
     λ named. (let r = name_back c flown w k g rest ending grays listed n e p x named in
-        place_ended c.heap g w x p ((ending.represents.lies.places_are x p).1 r.0) r.1),
+        place_ended c.heap g w x p ((ending.represents.placed.lies.places_are x p).1 r.0) r.1),
   )
 
   -- a dead place is not swept yet
@@ -94,23 +95,23 @@ module _ (c : CollectorState) (flown : ℕ → Option Bits) (w : World) (k : Col
       (part c flown w k g rest ending grays listed n e).well_formed
       (part c flown w k g rest ending grays listed n e).part
       (whole_at_end c.heap n g (arenas_are c flown w k g rest ending grays listed n e)
-      (sized c flown w k g rest ending grays listed n e) ending.ready.kept ending.represents.lies.whole)
+      (sized c flown w k g rest ending grays listed n e) ending.ready.kept ending.represents.placed.lies.whole)
       places_after
-      (ending.represents.lies.owner_is ∙ sym
+      (ending.represents.placed.lies.owner_is ∙ sym
       (owners_at_end c.heap n g (arenas_are c flown w k g rest ending grays listed n e)
       (sized c flown w k g rest ending grays listed n e)))
-      ending.represents.lies.weak_is
-      ending.represents.lies.calm
-      (ap (λ owner. arenas_from 0 owner (zones_in g)) ending.represents.lies.owner_is
+      ending.represents.placed.lies.weak_is
+      (ap (λ owner. arenas_from 0 owner (zones_in g)) ending.represents.placed.lies.owner_is
       ∙ sym (outs_at_end c.heap n g (arenas_are c flown w k g rest ending grays listed n e)
       (sized c flown w k g rest ending grays listed n e) ending.ready.small ending.ready.kept))
       (λ x p. (
         λ l. (let r = placed_by_has (is_dead c.heap g) (places.entries w.places) x p l in
-            dead_unswept x p ((ending.represents.lies.places_are x p).0 ((entries_are w.places x p).0 r.0)) r.1),
+            dead_unswept x p ((ending.represents.placed.lies.places_are x p).0 ((entries_are w.places x p).0 r.0)) r.1),
         λ u. (let r = unswept_dead x p u in
             has_placed_by (is_dead c.heap g) (places.entries w.places) x p
-            ((entries_are w.places x p).1 ((ending.represents.lies.places_are x p).1 r.0)) r.1),
+            ((entries_are w.places x p).1 ((ending.represents.placed.lies.places_are x p).1 r.0)) r.1),
       ))
 
   pub unswept_apart_after : (x : Name) (p q : Place) → IsUnswept n.shape p x → IsUnswept n.shape q x → p ≡ q
-  unswept_apart_after x p q a b = ending.represents.lies.shown.apart p q x (unswept_dead x p a).0 (unswept_dead x q b).0
+  unswept_apart_after x p q a b = ending.represents.placed.lies.shown.apart p q x (unswept_dead x p a).0
+      (unswept_dead x q b).0

@@ -96,20 +96,21 @@ pub record AtGroupEnd (c : CollectorState) (flown : ℕ → Option Bits) (w : Wo
 module _ (c : CollectorState) (flown : ℕ → Option Bits) (w : World) (k : Collection) (g : ZoneSet) (rest : List ZoneSet)
     (ending : AtGroupEnd c flown w k g rest) where
   none_out : (a : ℕ) → flown a ≡ None
-  none_out a = no_some (flown a) (ending.represents.flies.covers a ∙ ap is_some (ending.ready.kept a))
+  none_out a = no_some (flown a) (ending.represents.swept.flies.covers a ∙ ap is_some (ending.ready.kept a))
 
   pub heap_is : heap_with c flown ≡ c.heap
-  heap_is = joined_none c.heap flown ending.represents.delayed none_out
+  heap_is = joined_none c.heap flown ending.represents.placed.delayed none_out
 
   pub inv : MarkingInvariant c.heap c.stack
-  inv = subst (λ h. MarkingInvariant h c.stack) heap_is ending.represents.marks
+  inv = subst (λ h. MarkingInvariant h c.stack) heap_is ending.represents.coloured.marks
 
   pub gray : GrayInvariant c.heap c.stack c.lists
-  gray = subst (λ h. GrayInvariant h c.stack c.lists) heap_is ending.represents.gray
+  gray = subst (λ h. GrayInvariant h c.stack c.lists) heap_is ending.represents.coloured.gray
 
   pub runs : Runs c.heap c w ending.ready.run k
   runs = subst (λ h. Runs h c w ending.ready.run k) heap_is
-      (runs_of c (heap_with c flown) w ending.ready.run k ending.ready.running ending.running ending.represents.runs)
+      (runs_of c (heap_with c flown) w ending.ready.run k ending.ready.running ending.running
+      ending.represents.phase.runs)
 
   pub groups_are : k.groups ≡ Some (zones_in g ∷ map zones_in rest)
   groups_are = runs.groups_are ∙ ap (λ b. Rattle.std.proofs.Common.cond b (Some (map zones_in c.groups)) None)
@@ -151,8 +152,9 @@ module _ (c : CollectorState) (flown : ℕ → Option Bits) (w : World) (k : Col
 
   zone_is : (x : Name) (p : Place) → name_at c.heap.shape p ≡ Some x
       → graph.zone_of w.graph x ≡ Some (zone_of c.heap.shape p)
-  zone_is x p named = zone_named c.heap ending.represents.lies.graph w.graph p x ending.represents.lies.shown
-      ending.represents.lies.part.part named
+  zone_is x p named = zone_named c.heap ending.represents.placed.lies.graph w.graph p x
+      ending.represents.placed.lies.shown
+      ending.represents.placed.lies.part.part named
 
   into_black : (p q : Place) (x y : Name) → name_at c.heap.shape p ≡ Some x → name_at c.heap.shape q ≡ Some y
       → names.HasEdge w.graph x y → state_of c.heap.shape p ≡ state.MarkBlackOnly
@@ -167,7 +169,7 @@ module _ (c : CollectorState) (flown : ℕ → Option Bits) (w : World) (k : Col
         | inr later ↦
             let target : name_at c.heap.shape q ≡ Some (Cell t) = nq ∙ ap (λ z. Some z) (sym e.0) in
             groups_ok.backward.0 later.1 later.2 d t (zone_of c.heap.shape p) (zone_of c.heap.shape q)
-            (present_named c.heap w ending.represents.lies p (Wrap d t) np) (zone_is (Wrap d t) p np)
+            (present_named c.heap w ending.represents.placed.lies p (Wrap d t) np) (zone_is (Wrap d t) p np)
             (zone_is (Cell t) q target)
             later.3 ((zones_in-has g _).1 here) (λ b. not (black_is (Cell t) q target b))
       ]
@@ -185,7 +187,8 @@ module _ (c : CollectorState) (flown : ℕ → Option Bits) (w : World) (k : Col
           | inr not ↦
               let x = name_of c.heap.shape p (edge_from c.heap.shape p q e) in
               let y = name_of c.heap.shape q (inv.holds.colours.shape.targets p q e) in
-              absurd (into_black p q x.0 y.0 x.1 y.1 (edge_named c.heap w ending.represents.lies p q x.0 y.0 x.1 y.1 e)
+              absurd (into_black p q x.0 y.0 x.1 y.1
+              (edge_named c.heap w ending.represents.placed.lies p q x.0 y.0 x.1 y.1 e)
               only here not)
         ];
   }

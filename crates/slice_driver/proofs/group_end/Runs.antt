@@ -28,8 +28,8 @@ use Rattle.barriers.specs.PendingLive.{GrayInvariant, buffer_of}
 use Rattle.slice_driver.specs.Collector.{CollectorState, RunState, heap_with}
 use Rattle.slice_driver.specs.Closures.{AreBlack, AreTied}
 use Rattle.slice_driver.specs.Worlds.{IsInFlight, IsWokenFrom}
-use Rattle.slice_driver.specs.Represents.{AreBehind, AreInStates, IsCurrent, IsInGroups, Represents, Runs, RunsAs}
-use Rattle.slice_driver.specs.Represents.{WaitsWhileMarking}
+use Rattle.slice_driver.specs.Represents.{AreInStates, IsCurrent, IsInGroups, Represents, Runs, RunsAs}
+use Rattle.slice_driver.specs.Represents.{IsColoured, IsInPhase, WaitsWhileMarking}
 use Rattle.slice_driver.specs.GroupEnd.{AreJustFlown, EndsIn, IsEnded, IsGrayHere}
 use Rattle.slice_driver.proofs.abstraction.Waits.{none_carried}
 use Rattle.slice_driver.proofs.abstraction.Named.{some_one}
@@ -81,7 +81,7 @@ module _ (c : CollectorState) (flown : ℕ → Option Bits) (w : World) (k : Col
       go false t f = absurd (cc f)
 
   delayed_after : d.heap.delayed ≡ no_places
-  delayed_after = ap (λ (h : HeapState). h.delayed) e.rest ∙ ending.represents.delayed
+  delayed_after = ap (λ (h : HeapState). h.delayed) e.rest ∙ ending.represents.placed.delayed
 
   heap_is : heap_with d flying ≡ d.heap
   heap_is = ap (λ (cs : List Bits). record d.heap { colours = cs; delayed = no_places })
@@ -212,9 +212,10 @@ module _ (c : CollectorState) (flown : ℕ → Option Bits) (w : World) (k : Col
       λ u. (live_after c flown w k g rest ending grays listed d.heap e p).1
           ((was_tied.live x p (name_was p x named)).1 u),
     );
-    present = λ x u. (let p = Rattle.slice_driver.proofs.abstraction.Named.place_of c.heap w ending.represents.lies x
+    present = λ x u. (let p = Rattle.slice_driver.proofs.abstraction.Named.place_of c.heap w
+        ending.represents.placed.lies x
         (was_tied.present x u) in
-        ap is_some (place_ended c.heap g w x p.0 ((ending.represents.lies.places_are x p.0).1 p.1)
+        ap is_some (place_ended c.heap g w x p.0 ((ending.represents.placed.lies.places_are x p.0).1 p.1)
         (live_alive c flown w k g rest ending grays listed d.heap e p.0 ((was_tied.live x p.0 p.1).1 u))));
     edges_then = λ x y there ed. was_tied.edges_then x y (present_was x there) ed;
     entries_then = λ m q v pm pq f. was_tied.entries_then m q v (present_was m pm) (present_was q pq) f;
@@ -229,23 +230,6 @@ module _ (c : CollectorState) (flown : ℕ → Option Bits) (w : World) (k : Col
   zone_same : (p : Place) → zone_of d.heap.shape p ≡ zone_of c.heap.shape p
   zone_same p = zones c flown w k g rest ending grays listed d.heap e p
 
-  behind_after : AreBehind d.heap d ending.ready.run
-  behind_after p q l here none =
-      let ed = (edge_was c flown w k g rest ending grays listed d.heap e p q l.edge).0 in
-      let mine = subst (λ z. IsInGroups rest z) (zone_same p) (left_back _ here) in
-      black_on c flown w k g rest ending grays listed d.heap e q (elim (group_of (zone_of c.heap.shape q)) [
-        | inl of ↦ (ordered c flown w k g rest ending).order p q ed (left_black_only _ mine) of
-        | inr out ↦ (runs c flown w k g rest ending).late ending.ready.formed p q
-            (record {
-              edge = ed;
-              from = subst (λ z. HasZone ending.ready.run.zones.bits z) (zone_same p) l.from;
-              to = subst (λ z. HasZone ending.ready.run.zones.bits z) (zone_same q) l.to;
-              apart = λ z. l.apart (zone_same p ∙ z ∙ sym (zone_same q));
-            })
-            (in_later _ mine)
-            (in_earlier _ out (λ i. none (left_on _ (subst (λ z. IsInGroups rest z) (sym (zone_same q)) i))))
-      ])
-
   runs_after : Runs d.heap d world_after ending.ready.run (ended_collection k g rest)
   runs_after = record {
     zones_are = (runs c flown w k g rest ending).zones_are;
@@ -255,10 +239,9 @@ module _ (c : CollectorState) (flown : ℕ → Option Bits) (w : World) (k : Col
     states = states_after;
     tied = λ z m. tied_after;
     early = λ unformed. absurd (cc (unformed, ending.ready.formed));
-    late = λ formed. behind_after;
   }
 
-  waits_after : WaitsWhileMarking d
+  waits_after : WaitsWhileMarking d.heap d.stack d.lists
   waits_after = record {
     piled = λ x has. absurd (nothing_in_none x (subst (λ xs. Contains xs x)
         (ap (λ (p : Piles). p.gray) ends.stack_is ∙ ending.ready.marked.gray_empty) has));
@@ -268,12 +251,12 @@ module _ (c : CollectorState) (flown : ℕ → Option Bits) (w : World) (k : Col
     );
     buffered = λ z quiet. ap (λ (h : HeapState). buffer_of h z) e.rest ∙ elim (group_of z) [
       | inl mine ↦ ending.ready.marked.none_buffered z mine
-      | inr out ↦ ending.represents.waits.buffered z (ap is_marking_state (sym (e.others z out)) ∙ quiet)
+      | inr out ↦ ending.represents.coloured.waits.buffered z (ap is_marking_state (sym (e.others z out)) ∙ quiet)
     ];
     incoming = λ m p held. (
         let old = subst (λ (l : Incoming). Contains (Rattle.gray_lists.specs.Incoming.list_of l m) p) ends.lists_is held
         in
-        let z = ending.represents.waits.incoming m p old in (
+        let z = ending.represents.coloured.waits.incoming m p old in (
           z.0,
           ap (λ (h : HeapState). slice_get h.shape.comps m) e.rest ∙ z.1,
           elim (group_of z.0) [
@@ -288,28 +271,34 @@ module _ (c : CollectorState) (flown : ℕ → Option Bits) (w : World) (k : Col
   black_names x p named =
       let o = name_was p x named in (
         λ b. (let r = black_has c flown w k g rest ending x b in
-            let same : r.0 ≡ p = some_one r.0 p (sym r.1 ∙ (ending.represents.lies.places_are x p).1 o) in
+            let same : r.0 ≡ p = some_one r.0 p (sym r.1 ∙ (ending.represents.placed.lies.places_are x p).1 o) in
             black_on c flown w k g rest ending grays listed d.heap e p (subst (λ y. IsBlack c.heap y) same r.2)),
-        λ b. has_black c flown w k g rest ending x p ((ending.represents.lies.places_are x p).1 o)
+        λ b. has_black c flown w k g rest ending x p ((ending.represents.placed.lies.places_are x p).1 o)
             (black_back c flown w k g rest ending grays listed d.heap e p b),
       )
 
   pub represents_after : Represents d flying (ended c.heap w k g rest)
   represents_after = record {
-    delayed = delayed_after;
-    lies = lies_after c flown w k g rest ending grays listed d.heap e;
-    unswept_apart = unswept_apart_after c flown w k g rest ending grays listed d.heap e;
-    flies = in_flight;
-    marks = subst (λ h. MarkingInvariant h d.stack) (sym heap_is)
-        (subst (λ p. MarkingInvariant d.heap p) (sym ends.stack_is)
-        (marks_after c flown w k g rest ending grays listed d.heap e));
-    gray = subst (λ h. GrayInvariant h d.stack d.lists) (sym heap_is)
-        (subst (λ p. GrayInvariant d.heap p d.lists) (sym ends.stack_is)
-        (subst (λ l. GrayInvariant d.heap c.stack l) (sym ends.lists_is)
-        (gray_after c flown w k g rest ending grays listed d.heap e)));
-    waits = waits_after;
-    black = λ settled. subst (λ h. AreBlack h world_after) (sym heap_is) black_names;
-    runs = subst (λ (o : Option RunState). RunsAs (heap_with d flying) d world_after o world_after.collection)
-        (sym (ends.run_is ∙ ending.ready.running))
-        (subst (λ h. Runs h d world_after ending.ready.run (ended_collection k g rest)) (sym heap_is) runs_after);
+    placed = record {
+      delayed = delayed_after;
+      lies = lies_after c flown w k g rest ending grays listed d.heap e;
+    };
+    swept = record {
+      apart = unswept_apart_after c flown w k g rest ending grays listed d.heap e;
+      flies = in_flight;
+    };
+    coloured = subst (λ h. IsColoured h d.stack d.lists) (sym heap_is) (record {
+      marks = subst (λ p. MarkingInvariant d.heap p) (sym ends.stack_is)
+          (marks_after c flown w k g rest ending grays listed d.heap e);
+      gray = subst (λ p. GrayInvariant d.heap p d.lists) (sym ends.stack_is)
+          (subst (λ l. GrayInvariant d.heap c.stack l) (sym ends.lists_is)
+          (gray_after c flown w k g rest ending grays listed d.heap e));
+      waits = waits_after;
+    });
+    phase = subst (λ h. IsInPhase h d world_after) (sym heap_is) (record {
+      calm = ending.represents.phase.calm;
+      black = λ settled. black_names;
+      runs = subst (λ (o : Option RunState). RunsAs d.heap d world_after o world_after.collection)
+          (sym (ends.run_is ∙ ending.ready.running)) runs_after;
+    });
   }

@@ -123,8 +123,9 @@ module _ (c : CollectorState) (flown : ℕ → Option Bits) (w : World) (k : Col
 
   zone_is : (x : Name) (p : Place) → name_at c.heap.shape p ≡ Some x
       → graph.zone_of w.graph x ≡ Some (zone_of c.heap.shape p)
-  zone_is x p named = zone_named c.heap ending.represents.lies.graph w.graph p x ending.represents.lies.shown
-      ending.represents.lies.part.part named
+  zone_is x p named = zone_named c.heap ending.represents.placed.lies.graph w.graph p x
+      ending.represents.placed.lies.shown
+      ending.represents.placed.lies.part.part named
 
   in_group : (x : Name) (p : Place) → name_at c.heap.shape p ≡ Some x → HasZone g.bits (zone_of c.heap.shape p)
       → IsInZones w.graph (zones_in g) x
@@ -142,7 +143,7 @@ module _ (c : CollectorState) (flown : ℕ → Option Bits) (w : World) (k : Col
   pub dead_white : (x : Name) (p : Place) → places.get w.places x ≡ Some p → is_dead c.heap g p ≡ true
       → IsWhiteOf w k (zones_in g) x
   dead_white x p there dead =
-      let named = (ending.represents.lies.places_are x p).0 there in record {
+      let named = (ending.represents.placed.lies.places_are x p).0 there in record {
         present = ap is_some there;
         here = in_group x p named (in_zones_has g ending.ready.small _ (first_of_both _ _ dead));
         white = (col.white x p named).0
@@ -152,14 +153,14 @@ module _ (c : CollectorState) (flown : ℕ → Option Bits) (w : World) (k : Col
   pub white_dead : (x : Name) (p : Place) → places.get w.places x ≡ Some p → IsWhiteOf w k (zones_in g) x
       → is_dead c.heap g p ≡ true
   white_dead x p there white =
-      let named = (ending.represents.lies.places_are x p).0 there in
+      let named = (ending.represents.placed.lies.places_are x p).0 there in
       both_of _ _ (has_in_zones g _ (group_has x p named white.here))
       (ap is_white_colour ((col.white x p named).1 white.white))
 
   gone : (x : Name) → IsWhiteOf w k (zones_in g) x → places.get (ended c.heap w k g rest).places x ≡ None
   gone x white =
-      let p = place_of c.heap w ending.represents.lies x white.present in
-      let there = (ending.represents.lies.places_are x p.0).1 p.1 in
+      let p = place_of c.heap w ending.represents.placed.lies x white.present in
+      let there = (ending.represents.placed.lies.places_are x p.0).1 p.1 in
       gone_ended c.heap g w x p.0 there (white_dead x p.0 there white)
 
   stay : (x : Name) → (IsWhiteOf w k (zones_in g) x → ⊥) → places.get (ended c.heap w k g rest).places x
@@ -211,7 +212,7 @@ module _ (c : CollectorState) (flown : ℕ → Option Bits) (w : World) (k : Col
       ↔ (BlackClosure k x × IsPresent (ended c.heap w k g rest) x)
   black_are x = (
     λ b. (let r = black_has x b in (
-      (col.black x r.0 ((ending.represents.lies.places_are x r.0).0 r.1)).0 r.2,
+      (col.black x r.0 ((ending.represents.placed.lies.places_are x r.0).0 r.1)).0 r.2,
       ap is_some (place_ended c.heap g w x r.0 r.1 (alive r.0 (λ white. cc (r.2, white)))),
     )),
     λ r. go (places.get (ended c.heap w k g rest).places x) refl r.0 r.1,
@@ -222,17 +223,17 @@ module _ (c : CollectorState) (flown : ℕ → Option Bits) (w : World) (k : Col
       go None e b there = absurd (cc there)
       go (Some p) e b there =
           (let q = ended_place c.heap g w x p e in
-          has_black x p q.0 ((col.black x p ((ending.represents.lies.places_are x p).0 q.0)).1 b))
+          has_black x p q.0 ((col.black x p ((ending.represents.placed.lies.places_are x p).0 q.0)).1 b))
 
   gray_of_group : (x : Name) → IsGrayHere c.heap g x → IsGrayOf w k (zones_in g) x
   gray_of_group x is = record {
-    present = present_named c.heap w ending.represents.lies is.place x is.named;
+    present = present_named c.heap w ending.represents.placed.lies is.place x is.named;
     here = in_group x is.place is.named is.here;
     gray = (col.gray x is.place is.named).0 is.gray;
   }
 
   group_gray : (x : Name) → IsGrayOf w k (zones_in g) x → IsGrayHere c.heap g x
-  group_gray x is = (let p = place_of c.heap w ending.represents.lies x is.present in record {
+  group_gray x is = (let p = place_of c.heap w ending.represents.placed.lies x is.present in record {
     place = p.0;
     named = p.1;
     here = group_has x p.0 p.1 is.here;
@@ -242,7 +243,7 @@ module _ (c : CollectorState) (flown : ℕ → Option Bits) (w : World) (k : Col
   pub lawful_end : (grays : List Name) → Lists (IsGrayHere c.heap g) grays
       → IsLawfulEnd w k (zones_in g) (map zones_in rest) grays (ended c.heap w k g rest)
   lawful_end grays l = record {
-    ready = ending.represents.lies.out_is ∙ none_out_listed c.heap.shape ending.ready.kept;
+    ready = ending.represents.placed.lies.out_is ∙ none_out_listed c.heap.shape ending.ready.kept;
     grays_are = record {
       ascending = l.ascending;
       has = λ x. ((λ m. gray_of_group x ((l.has x).0 m)), λ is. (l.has x).1 (group_gray x is));
@@ -258,13 +259,15 @@ module _ (c : CollectorState) (flown : ℕ → Option Bits) (w : World) (k : Col
     black_are = λ settled x. black_are x;
   }
 
-  pub ends_group : (grays : List Name) → Lists (IsGrayHere c.heap g) grays
-      → EndsGroup w (zones_in g) grays [] (ended c.heap w k g rest)
-  ends_group grays l = record {
-    collection = k;
-    rest = map zones_in rest;
-    running = ending.running;
-    first = groups_are c flown w k g rest ending;
-    ends = lawful_end grays l;
-    loses = loses_nothing w (ended c.heap w k g rest) ending.represents.lies.weak_is ending.represents.lies.weak_is;
-  }
+pub ends_group : (c : CollectorState) (flown : ℕ → Option Bits) (w : World) (k : Collection) (g : ZoneSet)
+    (rest : List ZoneSet) → AtGroupEnd c flown w k g rest → (grays : List Name) → Lists (IsGrayHere c.heap g) grays
+    → EndsGroup w (zones_in g) grays [] (ended c.heap w k g rest)
+ends_group c flown w k g rest ending grays l =
+    let lies = ending.represents.placed.lies in record {
+      collection = k;
+      rest = map zones_in rest;
+      running = ending.running;
+      first = groups_are c flown w k g rest ending;
+      ends = lawful_end c flown w k g rest ending grays l;
+      loses = loses_nothing w (ended c.heap w k g rest) lies.weak_is lies.weak_is;
+    }

@@ -35,9 +35,11 @@ use Rattle.group_laws.proofs.Listed.{components_are_lawful}
 use Rattle.slice_driver.specs.Collector.{CollectorState, RunState, heap_with}
 use Rattle.slice_driver.specs.Closures.{AreBlack, AreTied}
 use Rattle.slice_driver.specs.Grouping.{FormsIn}
-use Rattle.slice_driver.specs.Represents.{AreBehind, AreInStates, AreLookedAt, IsInGroups, LeadsAcross, Represents}
+use Rattle.slice_driver.specs.Represents.{AreInStates, AreLookedAt, IsInGroups, LeadsAcross, Represents}
 use Rattle.weak_maps.specs.WeakMaps.{LooksState}
-use Rattle.slice_driver.specs.Represents.{NothingLeft, Runs, RunsAs, WaitsWhileMarking}
+use Rattle.slice_driver.specs.Represents.{IsBeingSwept, IsPlaced, Runs, RunsAs}
+use Rattle.slice_driver.proofs.basics.Marks.{coloured_as}
+use Rattle.slice_driver.proofs.basics.Worlds.{placed_running}
 use Rattle.slice_driver.specs.Worlds.{IsInFlight, IsUnswept, LiesIn}
 use Rattle.slice_driver.proofs.abstraction.Named.{edge_placed, named_cell, place_of as place_named, some_one}
 use Rattle.slice_driver.proofs.abstraction.Lying.{zone_named}
@@ -57,33 +59,18 @@ at_in_groups groups z (g, (i, lt, is), here) =
 abbrev pub formed_collection : Collection → List ZoneSet → Collection
 formed_collection k groups = record k { groups = Some (map zones_in groups) }
 
--- what lies in a world does not tell which collection runs
-pub lies_running : (h : HeapState) (w : World) (o : Option Collection) → LiesIn h w
-    → LiesIn h (record w { collection = o })
-lies_running h w o l = record {
-  whole = l.whole;
-  graph = l.graph;
-  shown = l.shown;
-  part = record { well_formed = l.part.well_formed; part = l.part.part; here = l.part.here };
-  places_are = l.places_are;
-  owner_is = l.owner_is;
-  weak_is = l.weak_is;
-  calm = l.calm;
-  out_is = l.out_is;
-  white_are = l.white_are;
-}
-
 module _ (c d : CollectorState) (flown : ℕ → Option Bits) (w : World) (k : Collection) (groups : List ZoneSet)
     (ok : IsValid w) (s : Represents c flown w) (f : FormsIn c groups d) (at : w.collection ≡ Some k) where
   runs : Runs (heap_with c flown) c w f.run k
-  runs = runs_of c (heap_with c flown) w f.run k f.running at s.runs
+  runs = runs_of c (heap_with c flown) w f.run k f.running at s.phase.runs
 
   noted : AreLookedAt (heap_with c flown) c f.run w k
   noted = runs.early f.unformed
 
   zone_is : (x : Name) (p : Place) → name_at c.heap.shape p ≡ Some x
       → zone_of_name w.graph x ≡ Some (zone_of c.heap.shape p)
-  zone_is x p named = zone_named c.heap s.lies.graph w.graph p x s.lies.shown s.lies.part.part named
+  zone_is x p named = zone_named c.heap s.placed.lies.graph w.graph p x s.placed.lies.shown s.placed.lies.part.part
+      named
 
   components : AreComponents c.edges.sources f.run.zones groups
   components = subst (λ zs. AreComponents c.edges.sources zs groups) noted.zones_are f.components
@@ -96,10 +83,11 @@ module _ (c d : CollectorState) (flown : ℕ → Option Bits) (w : World) (k : C
       → HasZone f.run.zones.bits (zone_of c.heap.shape p) → IsLookedAt c.heap.shape c.edges p
   looked_at p comp t named here =
       let cell = named_cell c.heap.shape p (Wrap comp t) named in
-      let is = s.lies.shown.cells p cell.0 cell.1 in
-      let stands : StandsFor c.heap.shape s.lies.graph p cell.0 (Wrap comp t) =
-      subst (λ y. StandsFor c.heap.shape s.lies.graph p cell.0 y) cell.2 is.stands in
-      let l = found_listed c.heap.shape.comps c.heap.shape.wrappers s.lies.shown.maps_at_home comp t p stands.mapped in
+      let is = s.placed.lies.shown.cells p cell.0 cell.1 in
+      let stands : StandsFor c.heap.shape s.placed.lies.graph p cell.0 (Wrap comp t) =
+      subst (λ y. StandsFor c.heap.shape s.placed.lies.graph p cell.0 y) cell.2 is.stands in
+      let l = found_listed c.heap.shape.comps c.heap.shape.wrappers s.placed.lies.shown.maps_at_home comp t p
+      stands.mapped in
       let same : l.0 ≡ zone_of c.heap.shape p =
       some_one _ _ (sym l.1 ∙ ap (λ (m : CompNo). slice_get c.heap.shape.comps m.0) (sym stands.comp_is)
       ∙ is.at_home) in
@@ -121,13 +109,13 @@ module _ (c d : CollectorState) (flown : ℕ → Option Bits) (w : World) (k : C
 
   has_made : (comp : CompNo) (t : ℕ) → Rattle.colour_defs.specs.World.IsPresent w (Wrap comp t)
       → IsTrue (Rattle.colour_defs.specs.Graph.has_wrapper w.graph comp t)
-  has_made comp t there = s.lies.part.part.wrappers comp t ((s.lies.part.here (Wrap comp t)).1 there)
+  has_made comp t there = s.placed.lies.part.part.wrappers comp t ((s.placed.lies.part.here (Wrap comp t)).1 there)
 
   direct : (a b : ℕ) → a ≢ b → Contains k.zones a → Contains k.zones b → (comp : CompNo) (t : ℕ)
       → LeadsOutside w (BlackClosure k) a b comp t → Edge c.edges.sources a b
   direct a b apart la lb comp t e =
-      let p = place_named c.heap w s.lies (Wrap comp t) e.present in
-      let q = edge_placed c.heap w s.lies p.0 (Wrap comp t) (Cell t) p.1 (refl, has_made comp t e.present) in
+      let p = place_named c.heap w s.placed.lies (Wrap comp t) e.present in
+      let q = edge_placed c.heap w s.placed.lies p.0 (Wrap comp t) (Cell t) p.1 (refl, has_made comp t e.present) in
       let from : zone_of c.heap.shape p.0 ≡ a = some_one _ _ (sym (zone_is (Wrap comp t) p.0 p.1) ∙ e.of) in
       let to : zone_of c.heap.shape q.0 ≡ b = some_one _ _ (sym (zone_is (Cell t) q.0 q.2) ∙ e.into) in
       let here = subst (λ z. HasZone f.run.zones.bits z) (sym from) (in_zones a la) in
@@ -210,12 +198,6 @@ module _ (c d : CollectorState) (flown : ℕ → Option Bits) (w : World) (k : C
         formed = t.formed;
       })))
 
-  -- all zones are in groups that have not ended
-  behind_after : (h : HeapState) → h.shape ≡ c.heap.shape → AreBehind h d formed_run
-  behind_after h same p q l here none =
-      absurd (none (subst (λ gs. IsInGroups gs (zone_of h.shape q)) (sym f.groups_is)
-      (covered (zone_of h.shape q) l.to)))
-
   runs_after : Runs (heap_with d flown) d after formed_run (formed_collection k groups)
   runs_after = record {
     zones_are = runs.zones_are;
@@ -225,42 +207,22 @@ module _ (c d : CollectorState) (flown : ℕ → Option Bits) (w : World) (k : C
     states = states_after;
     tied = λ z m. tied_after (runs.tied z m);
     early = λ no. absurd (cc no);
-    late = λ formed. behind_after (heap_with d flown) (ap (λ (h : HeapState). h.shape) f.heap_is);
-  }
-
-  waits_after : WaitsWhileMarking d
-  waits_after = record {
-    piled = λ x has. ap (λ (h : HeapState). state_of h.shape x) f.heap_is
-        ∙ s.waits.piled x (subst (λ (p : Piles). Contains p.gray x) f.stack_is has);
-    buffered = λ z quiet. ap (λ h. buffer_of h z) f.heap_is
-        ∙ s.waits.buffered z (ap (λ (h : HeapState). is_marking_state (state_in h.shape z)) (sym f.heap_is) ∙ quiet);
-    incoming = λ n p held.
-        (let i = s.waits.incoming n p (subst (λ (l : Incoming). Contains (waiting_for l n) p) f.lists_is held) in (
-          i.0,
-          ap (λ (h : HeapState). slice_get h.shape.comps n) f.heap_is ∙ i.1,
-          ap (λ (h : HeapState). is_marking_state (state_in h.shape i.0)) f.heap_is ∙ i.2,
-        ));
-    looks = λ quiet. subst (λ (l : LooksState). NothingLeft l) (sym (ap (λ (h : HeapState). h.looks) f.heap_is))
-        (s.waits.looks (λ z. ap (λ (h : HeapState). is_marking_state (state_in h.shape z)) (sym f.heap_is) ∙ quiet z));
   }
 
   pub represents_formed : Represents d flown (record w { collection = Some (formed_collection k groups) })
   represents_formed = record {
-    delayed = ap (λ (h : HeapState). h.delayed) f.heap_is ∙ s.delayed;
-    lies = subst (λ h. LiesIn h after) (sym f.heap_is)
-        (lies_running c.heap w (Some (formed_collection k groups)) s.lies);
-    unswept_apart = λ x p q a b. s.unswept_apart x p q (subst (λ (h : HeapState). IsUnswept h.shape p x) f.heap_is a)
-        (subst (λ (h : HeapState). IsUnswept h.shape q x) f.heap_is b);
-    flies = subst (λ (h : HeapState). IsInFlight h.shape flown) (sym f.heap_is) s.flies;
-    marks = subst (λ h. MarkingInvariant h d.stack) (sym heap_same)
-        (subst (λ p. MarkingInvariant (heap_with c flown) p) (sym f.stack_is) s.marks);
-    gray = subst (λ h. GrayInvariant h d.stack d.lists) (sym heap_same)
-        (subst (λ p. GrayInvariant (heap_with c flown) p d.lists) (sym f.stack_is)
-        (subst (λ l. GrayInvariant (heap_with c flown) c.stack l) (sym f.lists_is) s.gray));
-    waits = waits_after;
-    black = λ settled. subst (λ h. AreBlack h after) (sym heap_same)
-        (λ x p named. s.black
-        (record { none_marking = ap marking_of at ∙ settled.none_marking; none_preparing = s.lies.calm }) x p named);
-    runs = subst (λ (o : Option RunState). RunsAs (heap_with d flown) d after o (Some (formed_collection k groups)))
-        (sym f.run_is) runs_after;
+    placed = subst (λ h. IsPlaced h after) (sym f.heap_is)
+        (placed_running c.heap w (Some (formed_collection k groups)) w.preparing s.placed);
+    swept = subst (λ (h : HeapState). IsBeingSwept h.shape flown) (sym f.heap_is) s.swept;
+    coloured = coloured_as (heap_with c flown) (heap_with d flown) c.stack d.stack c.lists d.lists heap_same f.stack_is
+        f.lists_is s.coloured;
+    phase = record {
+      calm = s.phase.calm;
+      black = λ settled. subst (λ h. AreBlack h after) (sym heap_same)
+          (λ x p named. s.phase.black
+          (record { none_marking = ap marking_of at ∙ settled.none_marking; none_preparing = s.phase.calm }) x p
+          named);
+      runs = subst (λ (o : Option RunState). RunsAs (heap_with d flown) d after o
+          (Some (formed_collection k groups))) (sym f.run_is) runs_after;
+    };
   }

@@ -38,7 +38,7 @@ use Rattle.slice_driver.proofs.group_end.Ready.{joined_none, no_some, runs_of}
 pub own_heap : (c : CollectorState) (flown : ℕ → Option Bits) (w : World) → Represents c flown w
     → ((a : ℕ) → out_of c.heap.shape a ≡ None) → heap_with c flown ≡ c.heap
 own_heap c flown w s kept =
-    joined_none c.heap flown s.delayed (λ a. no_some (flown a) (s.flies.covers a ∙ ap is_some (kept a)))
+    joined_none c.heap flown s.placed.delayed (λ a. no_some (flown a) (s.swept.flies.covers a ∙ ap is_some (kept a)))
 
 -- where black marking has nothing left to do, all that is reached from black is black
 pub black_reached : (h : HeapState) (p : Piles) → MarkingInvariant h p → p.black ≡ []
@@ -79,15 +79,8 @@ module _ (c d : CollectorState) (l : LooksIn c d) where
     groups_is = refl;
     sized = refl;
     states = λ z. inl refl;
-    flies = s.flies;
-    marks = s.marks;
-    gray = s.gray;
-    waits = record {
-      piled = s.waits.piled;
-      buffered = s.waits.buffered;
-      incoming = s.waits.incoming;
-      looks = s.waits.looks;
-    };
+    flies = s.swept.flies;
+    coloured = s.coloured;
     darker = λ p b. b;
     black = λ p. ((λ x. x), λ x. x);
     live = λ p. ((λ x. x), λ x. x);
@@ -100,10 +93,10 @@ module _ (c d : CollectorState) (l : LooksIn c d) where
     own = own_heap c flown w s l.kept
 
     inv : MarkingInvariant c.heap c.stack
-    inv = subst (λ h. MarkingInvariant h c.stack) own s.marks
+    inv = subst (λ h. MarkingInvariant h c.stack) own s.coloured.marks
 
     runs : Runs c.heap c w r k
-    runs = subst (λ h. Runs h c w r k) own (runs_of c (heap_with c flown) w r k running at s.runs)
+    runs = subst (λ h. Runs h c w r k) own (runs_of c (heap_with c flown) w r k running at s.phase.runs)
 
     listed : (z : ℕ) → HasZone c.edges.zones.bits z → Contains k.zones z
     listed z here = subst (λ zs. Contains zs z) (sym runs.zones_are)
@@ -126,7 +119,8 @@ module _ (c d : CollectorState) (l : LooksIn c d) where
         p = l.looks.wrapper
 
         by : (x : Name) (cell : CellState) → cell_of c.heap.shape p ≡ Some cell → cell.kind ≡ kind.Wrapper
-            → name_at c.heap.shape p ≡ Some x → StandsFor c.heap.shape s.lies.graph p cell x → IsFirstEdge w k a b
+            → name_at c.heap.shape p ≡ Some x → StandsFor c.heap.shape s.placed.lies.graph p cell x
+            → IsFirstEdge w k a b
         by (Cell n) cell there is named stands = absurd (not_both (is_wrapper cell.kind) (ap is_wrapper is) stands.0)
         by (Wrap comp t) cell there is named stands =
             let held : Some stands.target ≡ Some e.target =
@@ -141,10 +135,12 @@ module _ (c d : CollectorState) (l : LooksIn c d) where
                 comp,
                 t,
                 record {
-                  present = present_named c.heap w s.lies p (Wrap comp t) named;
-                  of = zone_named c.heap s.lies.graph w.graph p (Wrap comp t) s.lies.shown s.lies.part.part named
+                  present = present_named c.heap w s.placed.lies p (Wrap comp t) named;
+                  of = zone_named c.heap s.placed.lies.graph w.graph p (Wrap comp t) s.placed.lies.shown
+                      s.placed.lies.part.part named
                       ∙ ap (λ z. Some z) e.from;
-                  into = zone_named c.heap s.lies.graph w.graph e.target (Cell t) s.lies.shown s.lies.part.part target
+                  into = zone_named c.heap s.placed.lies.graph w.graph e.target (Cell t) s.placed.lies.shown
+                      s.placed.lies.part.part target
                       ∙ ap (λ z. Some z) e.to;
                   outside = λ closed.
                       let black : BlackClosure k (Cell t) = reached_more k.snapshot _ _ (λ y start. inl start) closed in
@@ -160,7 +156,7 @@ module _ (c d : CollectorState) (l : LooksIn c d) where
         go None there is = absurd (cc is)
         go (Some cell) there is =
             by cell.name cell there (some_one _ _ is) (ap (option_map (λ (z : CellState). z.name)) there)
-            (s.lies.shown.cells p cell there).stands
+            (s.placed.lies.shown.cells p cell there).stands
 
     cursor_more : (z : ℕ) → cursor_of c.edges z ≤ cursor_of d.edges z
     cursor_more z = elim (cases_eq z l.looks.zone) [

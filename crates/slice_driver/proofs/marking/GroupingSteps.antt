@@ -49,14 +49,14 @@ module _ (c : CollectorState) (flown : ℕ → Option Bits) (s : IsSound c flown
   own = own_heap c flown s.world s.represents none_out
 
   pub sized : length c.heap.colours ≡ length c.heap.shape.arenas
-  sized = own_sized c.heap flown c.stack s.represents.marks
+  sized = own_sized c.heap flown c.stack s.represents.coloured.marks
 
   pub wrappers : AreWrappers c.heap.shape
-  wrappers = sound_has_wrappers c.heap (s.represents.lies.graph, s.represents.lies.shown)
+  wrappers = sound_has_wrappers c.heap (s.represents.placed.lies.graph, s.represents.placed.lies.shown)
 
   looked_at : (k : Collection) × AreLookedAt (heap_with c flown) c g.0 s.world k
-  looked_at = (let k = collection_of c (heap_with c flown) s.world g.0 g.1 s.represents.runs in
-      (k.0, (runs_of c (heap_with c flown) s.world g.0 k.0 g.1 k.1 s.represents.runs).early g.2))
+  looked_at = (let k = collection_of c (heap_with c flown) s.world g.0 g.1 s.represents.phase.runs in
+      (k.0, (runs_of c (heap_with c flown) s.world g.0 k.0 g.1 k.1 s.represents.phase.runs).early g.2))
 
   pub early : (c.edges.stepped.bits ≡ 0) ⊎ AreLeftBlack c.heap c.edges
   early = subst (λ h. (c.edges.stepped.bits ≡ 0) ⊎ AreLeftBlack h c.edges) own looked_at.1.left_black
@@ -242,15 +242,8 @@ module _ (c : CollectorState) (zone : ℕ) (edges : Noted) (g : IsGrouping c)
         groups_is = refl;
         sized = refl;
         states = λ z. inl refl;
-        flies = rep.flies;
-        marks = rep.marks;
-        gray = rep.gray;
-        waits = record {
-          piled = rep.waits.piled;
-          buffered = rep.waits.buffered;
-          incoming = rep.waits.incoming;
-          looks = rep.waits.looks;
-        };
+        flies = rep.swept.flies;
+        coloured = rep.coloured;
         darker = λ p b. b;
         black = λ p. ((λ x. x), λ x. x);
         live = λ p. ((λ x. x), λ x. x);

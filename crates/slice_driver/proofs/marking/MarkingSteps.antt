@@ -14,7 +14,7 @@ use Rattle.zone_edges.specs.Noted.{Noted}
 use Rattle.slice_driver.specs.Collector.{CollectorState, RunState, heap_with}
 use Rattle.slice_driver.specs.Remaining.{arenas_left, grouping_left, steps_left}
 use Rattle.slice_driver.specs.Quiet.{IsQuiet}
-use Rattle.slice_driver.specs.Represents.{WaitsWhileMarking}
+use Rattle.slice_driver.specs.Represents.{IsColoured}
 use Rattle.slice_driver.specs.Units.{IsFreedWord, KeepsFreedWords}
 use Rattle.slice_driver.specs.UnitsToCome.{marking_to_come, units_to_come}
 use Rattle.slice_driver.specs.Working.{GoesOn}
@@ -32,9 +32,7 @@ pub record Marked (c : CollectorState) (flown : ℕ → Option Bits) (d : Collec
   pub groups_is : d.groups ≡ c.groups
   pub run_is : d.run ≡ c.run
   pub flies : IsInFlight d.heap.shape flying
-  pub marks : MarkingInvariant (heap_with d flying) d.stack
-  pub gray : GrayInvariant (heap_with d flying) d.stack d.lists
-  pub waits : WaitsWhileMarking d
+  pub coloured : IsColoured (heap_with d flying) d.stack d.lists
   pub darker : (p : Place) → IsBlack (heap_with c flown) p → IsBlack (heap_with d flying) p
   pub black : (p : Place) → PendingBlack (heap_with d flying) d.stack p ↔ PendingBlack (heap_with c flown) c.stack p
   pub live : (p : Place) → PendingLive (heap_with d flying) d.stack d.lists p
@@ -57,9 +55,7 @@ module _ (c : CollectorState) (flown : ℕ → Option Bits) (d : CollectorState)
     sized = ap (λ (t : Shape). length t.states) m.shape_is;
     states = λ z. inl (ap (λ (t : Shape). state_in t z) m.shape_is);
     flies = m.flies;
-    marks = m.marks;
-    gray = m.gray;
-    waits = m.waits;
+    coloured = m.coloured;
     darker = m.darker;
     black = m.black;
     live = m.live;

@@ -34,7 +34,7 @@ use Rattle.slice_driver.specs.Closures.{AreBlack}
 use Rattle.slice_driver.specs.EdgesRead.{TriesFew}
 use Rattle.slice_driver.specs.Left.{units_left}
 use Rattle.slice_driver.specs.Remaining.{grouping_left, steps_left, arenas_left}
-use Rattle.slice_driver.specs.Represents.{NothingLeft, Represents, RunsAs, WaitsWhileMarking}
+use Rattle.slice_driver.specs.Represents.{IsInPhase, NothingLeft, Represents, WaitsWhileMarking}
 use Rattle.slice_driver.specs.Units.{IsSound}
 use Rattle.slice_driver.specs.UnitsToCome.{marking_to_come, units_to_come}
 use Rattle.slice_driver.specs.Working.{DidOrStill, GoesOn, IsBlackDone, IsBlackFixed, IsGrayDone, IsGrayFixed}
@@ -44,47 +44,51 @@ use Rattle.slice_driver.proofs.measure.GrayPiles.{gray_pile}
 use Rattle.slice_driver.proofs.measure.MarkingToCome.{black_falls, does_gray_falls, looks_fall}
 use Rattle.slice_driver.proofs.marking.Flights.{still_flies}
 use Rattle.slice_driver.proofs.marking.MarkingSteps.{Marked, marked_goes, own_sized}
-use Rattle.slice_driver.proofs.basics.Worlds.{flies_same}
+use Rattle.slice_driver.proofs.basics.Marks.{coloured_as}
+use Rattle.slice_driver.proofs.basics.Worlds.{flies_same, swept_in}
 
--- nothing waits that did not
-module _ (c : CollectorState) (h : HeapState) (p : Piles) (shape_is : h.shape ≡ c.heap.shape)
-    (buffers_is : h.buffers ≡ c.heap.buffers) (waits : WaitsWhileMarking c) where
-  none_before : (P : State → Type 0) → ((z : ℕ) → P (state_in h.shape z)) → (z : ℕ) → P (state_in c.heap.shape z)
+-- on the gray pile and among the entries to be looked at is nothing that was not there
+module _ (g h : HeapState) (s p : Piles) (lists : Incoming) (shape_is : h.shape ≡ g.shape)
+    (waits : WaitsWhileMarking g s lists) where
+  none_before : (P : State → Type 0) → ((z : ℕ) → P (state_in h.shape z)) → (z : ℕ) → P (state_in g.shape z)
   none_before P all z = subst (λ (s : Shape). P (state_in s z)) shape_is (all z)
 
   pub quiet_before : ((z : ℕ) → is_marking_state (state_in h.shape z) ≡ false) → (z : ℕ)
-      → is_marking_state (state_in c.heap.shape z) ≡ false
+      → is_marking_state (state_in g.shape z) ≡ false
   quiet_before quiet = none_before (λ t. is_marking_state t ≡ false) quiet
 
-  pub looks_on : h.looks ≡ c.heap.looks → ((z : ℕ) → is_marking_state (state_in h.shape z) ≡ false)
+  pub looks_on : h.looks ≡ g.looks → ((z : ℕ) → is_marking_state (state_in h.shape z) ≡ false)
       → NothingLeft h.looks
   looks_on same quiet = subst (λ (l : LooksState). NothingLeft l) (sym same) (waits.looks (quiet_before quiet))
 
-  pub piled_on : ((x : Place) → Contains p.gray x → Contains c.stack.gray x
-      ⊎ (state_of c.heap.shape x ≡ state.MarkBlackAndGray)) → (x : Place) → Contains p.gray x
+  pub piled_on : ((x : Place) → Contains p.gray x → Contains s.gray x
+      ⊎ (state_of g.shape x ≡ state.MarkBlackAndGray)) → (x : Place) → Contains p.gray x
       → state_of h.shape x ≡ state.MarkBlackAndGray
-  piled_on only x has = ap (λ (s : Shape). state_of s x) shape_is ∙ elim (only x has)
+  piled_on only x has = ap (λ (t : Shape). state_of t x) shape_is ∙ elim (only x has)
       [ inl was ↦ waits.piled x was | inr takes ↦ takes ]
 
-  pub piled_still : p.gray ≡ c.stack.gray → (x : Place) → Contains p.gray x
+  pub piled_still : p.gray ≡ s.gray → (x : Place) → Contains p.gray x
       → state_of h.shape x ≡ state.MarkBlackAndGray
   piled_still same = piled_on (λ x has. inl (subst (λ (xs : List Place). Contains xs x) same has))
 
-  pub waits_on : ((x : Place) → Contains p.gray x → state_of h.shape x ≡ state.MarkBlackAndGray)
-      → (((z : ℕ) → is_marking_state (state_in h.shape z) ≡ false) → NothingLeft h.looks)
-      → WaitsWhileMarking (record c { heap = h; stack = p })
-  waits_on piled looks = record {
-    looks = looks;
-    piled = piled;
-    buffered = λ z quiet. ap (λ (bs : List (List Place)). buffer_at bs z) buffers_is
-        ∙ waits.buffered z (ap (λ (s : Shape). is_marking_state (state_in s z)) (sym shape_is) ∙ quiet);
-    incoming = λ n x has.
-        (let i = waits.incoming n x has in (
-          i.0,
-          ap (λ (s : Shape). slice_get s.comps n) shape_is ∙ i.1,
-          ap (λ (s : Shape). is_marking_state (state_in s i.0)) shape_is ∙ i.2,
-        ));
-  }
+-- so nothing waits that did not
+pub waits_on : (g h : HeapState) (s p : Piles) (lists : Incoming) → h.shape ≡ g.shape → h.buffers ≡ g.buffers
+    → WaitsWhileMarking g s lists
+    → ((x : Place) → Contains p.gray x → state_of h.shape x ≡ state.MarkBlackAndGray)
+    → (((z : ℕ) → is_marking_state (state_in h.shape z) ≡ false) → NothingLeft h.looks)
+    → WaitsWhileMarking h p lists
+waits_on g h s p lists shape_is buffers_is waits piled looks = record {
+  looks = looks;
+  piled = piled;
+  buffered = λ z quiet. ap (λ (bs : List (List Place)). buffer_at bs z) buffers_is
+      ∙ waits.buffered z (ap (λ (t : Shape). is_marking_state (state_in t z)) (sym shape_is) ∙ quiet);
+  incoming = λ n x has.
+      (let i = waits.incoming n x has in (
+        i.0,
+        ap (λ (t : Shape). slice_get t.comps n) shape_is ∙ i.1,
+        ap (λ (t : Shape). is_marking_state (state_in t i.0)) shape_is ∙ i.2,
+      ));
+}
 
 -- a cell of the black pile was followed
 pub black_followed : (c : CollectorState) (flown flying : ℕ → Option Bits) (h : HeapState) (p : Piles) → IsSound c flown
@@ -98,7 +102,8 @@ black_followed c flown flying h p s running delayed covers does =
     let rep = s.represents in
     let d : CollectorState = record c { heap = h; stack = p } in
     let shape_is : h.shape ≡ c.heap.shape = ap (λ (z : HeapState). z.shape) bl.rest in
-    let both = does.pending_live c.lists rep.gray in
+    let buffers_is : h.buffers ≡ c.heap.buffers = ap (λ (z : HeapState). z.buffers) bl.rest in
+    let both = does.pending_live c.lists rep.coloured.gray in
     let m : Marked c flown d flying = record {
       shape_is = shape_is;
       made_is = ap (λ (z : HeapState). z.made) bl.rest;
@@ -106,23 +111,27 @@ black_followed c flown flying h p s running delayed covers does =
       edges_is = refl;
       groups_is = refl;
       run_is = refl;
-      flies = still_flies c.heap h flown flying rep.flies shape_is rep.marks.holds.colours inv.holds.colours covers
-          (own_sized c.heap flown c.stack rep.marks) (own_sized h flying p inv) bl.kept
+      flies = still_flies c.heap h flown flying rep.swept.flies shape_is rep.coloured.marks.holds.colours
+          inv.holds.colours covers
+          (own_sized c.heap flown c.stack rep.coloured.marks) (own_sized h flying p inv) bl.kept
           (λ y. elim (bl.others y) [ inl b ↦ inl b | inr e ↦ inr (inl e) ]);
-      marks = inv;
-      gray = both.0;
-      waits = waits_on c h p shape_is (ap (λ (z : HeapState). z.buffers) bl.rest) rep.waits
-          (piled_still c h p shape_is (ap (λ (z : HeapState). z.buffers) bl.rest) rep.waits does.gray_is)
-          (λ quiet. absurd (let off = quiet_before c h p shape_is (ap (λ (z : HeapState). z.buffers) bl.rest) rep.waits
-          quiet (zone_of c.heap.shape scanned.cell) in
-          let on = scanned.zone in cc (on, off)));
+      coloured = record {
+        marks = inv;
+        gray = both.0;
+        waits = waits_on (heap_with c flown) (joined h flying) c.stack p c.lists shape_is buffers_is rep.coloured.waits
+            (piled_still (heap_with c flown) (joined h flying) c.stack p c.lists shape_is rep.coloured.waits
+            does.gray_is)
+            (λ quiet. absurd (let off = quiet_before (heap_with c flown) (joined h flying) c.stack p c.lists shape_is
+            rep.coloured.waits quiet (zone_of c.heap.shape scanned.cell) in
+            let on = scanned.zone in cc (on, off)));
+      };
       darker = bl.kept;
       black = does.pending_black;
       live = both.1;
     } in
     marked_goes c flown d flying m running
-    (black_falls (heap_with c flown) c.stack c.lists (joined h flying) p shape_is
-    (ap (λ (z : HeapState). z.buffers) bl.rest) rep.lies.whole rep.marks.holds.colours.seen_present scanned)
+    (black_falls (heap_with c flown) c.stack c.lists (joined h flying) p shape_is buffers_is rep.placed.lies.whole
+    rep.coloured.marks.holds.colours.seen_present scanned)
 
 -- what a look coloured: black, or gray in a marking zone
 raised_others : (d : Colour) (h : HeapState) (p : Piles) (v : Place) (k : HeapState) (q : Piles) → RaisesTo d h p v k q
@@ -152,7 +161,8 @@ entry_looked c flown flying h p colour_is s running delayed covers does =
     let rep = s.represents in
     let d : CollectorState = record c { heap = h; stack = p } in
     let shape_is : h.shape ≡ c.heap.shape = ap (λ (z : HeapState). z.shape) does.rest in
-    let both = does.pending_live c.lists rep.gray in
+    let buffers_is : h.buffers ≡ c.heap.buffers = ap (λ (z : HeapState). z.buffers) does.rest in
+    let both = does.pending_live c.lists rep.coloured.gray in
     let before : HeapState = with_looks (heap_with c flown) h.looks in
     let m : Marked c flown d flying = record {
       shape_is = shape_is;
@@ -161,17 +171,22 @@ entry_looked c flown flying h p colour_is s running delayed covers does =
       edges_is = refl;
       groups_is = refl;
       run_is = refl;
-      flies = still_flies c.heap h flown flying rep.flies shape_is rep.marks.holds.colours does.invariant.holds.colours
-          covers (own_sized c.heap flown c.stack rep.marks) (own_sized h flying p does.invariant) does.black_kept
+      flies = still_flies c.heap h flown flying rep.swept.flies shape_is rep.coloured.marks.holds.colours
+          does.invariant.holds.colours
+          covers (own_sized c.heap flown c.stack rep.coloured.marks) (own_sized h flying p does.invariant)
+          does.black_kept
           (raised_others (weaker (colour_of before does.map) (colour_of before does.key)) before c.stack does.value
           (joined h flying) p does.raises);
-      marks = does.invariant;
-      gray = both.0;
-      waits = waits_on c h p shape_is (ap (λ (z : HeapState). z.buffers) does.rest) rep.waits
-          (piled_on c h p shape_is (ap (λ (z : HeapState). z.buffers) does.rest) rep.waits does.gray_pile)
-          (λ quiet. absurd (looked_one colour_is (does.map, does.key, does.value) c.heap.shape.weak.entries c.heap.looks
-          h.looks does.looked (rep.waits.looks (quiet_before c h p shape_is
-          (ap (λ (z : HeapState). z.buffers) does.rest) rep.waits quiet))));
+      coloured = record {
+        marks = does.invariant;
+        gray = both.0;
+        waits = waits_on (heap_with c flown) (joined h flying) c.stack p c.lists shape_is buffers_is rep.coloured.waits
+            (piled_on (heap_with c flown) (joined h flying) c.stack p c.lists shape_is rep.coloured.waits
+            does.gray_pile)
+            (λ quiet. absurd (looked_one colour_is (does.map, does.key, does.value) c.heap.shape.weak.entries
+            c.heap.looks h.looks does.looked (rep.coloured.waits.looks (quiet_before (heap_with c flown)
+            (joined h flying) c.stack p c.lists shape_is rep.coloured.waits quiet))));
+      };
       darker = does.black_kept;
       black = does.pending_black;
       live = both.1;
@@ -195,51 +210,54 @@ gray_followed c flown h p lists s running delayed does =
       edges_is = refl;
       groups_is = refl;
       run_is = refl;
-      flies = flies_same c.heap.shape h.shape flown (ap (λ (t : Shape). t.arenas) shape_is) rep.flies;
-      marks = does.marks.invariant;
-      gray = does.marks.gray;
-      waits = record {
-        piled = λ x has. ap (λ (t : Shape). state_of t x) shape_is ∙ elim (does.gray_pile x has)
-            [ inl was ↦ rep.waits.piled x was | inr takes ↦ takes ];
-        buffered = λ z quiet.
-            none_in_it (buffer_of h z)
-            (λ x has. nothing_in_none x
-            (subst (λ (xs : List Place). Contains xs x)
-            (rep.waits.buffered z (ap (λ (t : Shape). is_marking_state (state_in t z)) (sym shape_is) ∙ quiet))
-            (does.buffered z x has)));
-        incoming = λ n x has. elim (does.incoming n x has) [
-          | inl was ↦ (let i = rep.waits.incoming n x was in (
-            i.0,
-            ap (λ (t : Shape). slice_get t.comps n) shape_is ∙ i.1,
-            ap (λ (t : Shape). is_marking_state (state_in t i.0)) shape_is ∙ i.2,
-          ))
-          | inr new ↦ (
-            new.0,
-            ap (λ (t : Shape). slice_get t.comps n) shape_is ∙ new.1,
-            ap (λ (t : Shape). is_marking_state (state_in t new.0)) shape_is ∙ ap is_marking_state new.2,
-          )
-        ];
-        looks = λ quiet. nothing_taken does.takes
-            (λ z. ap (λ (t : Shape). is_marking_state (state_in t z)) (sym shape_is) ∙ quiet z);
+      flies = flies_same c.heap.shape h.shape flown (ap (λ (t : Shape). t.arenas) shape_is) rep.swept.flies;
+      coloured = record {
+        marks = does.marks.invariant;
+        gray = does.marks.gray;
+        waits = record {
+          piled = λ x has. ap (λ (t : Shape). state_of t x) shape_is ∙ elim (does.gray_pile x has)
+              [ inl was ↦ rep.coloured.waits.piled x was | inr takes ↦ takes ];
+          buffered = λ z quiet.
+              none_in_it (buffer_of h z)
+              (λ x has. nothing_in_none x
+              (subst (λ (xs : List Place). Contains xs x)
+              (rep.coloured.waits.buffered z (ap (λ (t : Shape). is_marking_state (state_in t z)) (sym shape_is)
+              ∙ quiet))
+              (does.buffered z x has)));
+          incoming = λ n x has. elim (does.incoming n x has) [
+            | inl was ↦ (let i = rep.coloured.waits.incoming n x was in (
+              i.0,
+              ap (λ (t : Shape). slice_get t.comps n) shape_is ∙ i.1,
+              ap (λ (t : Shape). is_marking_state (state_in t i.0)) shape_is ∙ i.2,
+            ))
+            | inr new ↦ (
+              new.0,
+              ap (λ (t : Shape). slice_get t.comps n) shape_is ∙ new.1,
+              ap (λ (t : Shape). is_marking_state (state_in t new.0)) shape_is ∙ ap is_marking_state new.2,
+            )
+          ];
+          looks = λ quiet. nothing_taken does.takes
+              (λ z. ap (λ (t : Shape). is_marking_state (state_in t z)) (sym shape_is) ∙ quiet z);
+        };
       };
       darker = does.marks.black_kept;
       black = does.marks.pending_black;
       live = does.marks.pending_live;
     } in
     marked_goes c flown d flown m running
-    (does_gray_falls (heap_with c flown) c.stack c.lists (joined h flown) p lists rep.lies.whole
-    rep.marks.holds.colours.seen_present (gray_pile c flown s.world rep) does)
+    (does_gray_falls (heap_with c flown) c.stack c.lists (joined h flown) p lists rep.placed.lies.whole
+    rep.coloured.marks.holds.colours.seen_present (gray_pile c flown s.world rep) does)
   where
     nothing_taken : TakesOne (heap_with c flown) c.stack c.lists (joined h flown) p lists
         → ((z : ℕ) → is_marking_state (state_in c.heap.shape z) ≡ false) → NothingLeft h.looks
     nothing_taken (inl buffered) quiet =
-        subst (λ (l : LooksState). NothingLeft l) (sym buffered.2) (s.represents.waits.looks quiet)
+        subst (λ (l : LooksState). NothingLeft l) (sym buffered.2) (s.represents.coloured.waits.looks quiet)
     nothing_taken (inr (inl incoming)) quiet =
-        subst (λ (l : LooksState). NothingLeft l) (sym incoming.2) (s.represents.waits.looks quiet)
+        subst (λ (l : LooksState). NothingLeft l) (sym incoming.2) (s.represents.coloured.waits.looks quiet)
     nothing_taken (inr (inr scanned)) quiet =
         absurd (nothing_in_none scanned.cell
         (subst (λ (xs : List Place). Contains xs scanned.cell)
-        (none_piled c s.represents.waits
+        (none_piled (heap_with c flown) c.stack c.lists s.represents.coloured.waits
         (λ z takes. (let on = ap is_marking_state takes in let off = quiet z in cc (on, off))))
         scanned.piled))
 
@@ -247,20 +265,17 @@ gray_followed c flown h p lists s running delayed does =
 pub same_worlds : (c : CollectorState) (flown flying : ℕ → Option Bits) (w : World) → Covers c.heap.shape flying
     → heap_with c flying ≡ heap_with c flown → Represents c flown w → Represents c flying w
 same_worlds c flown flying w covers e s =
-    let marks : MarkingInvariant (heap_with c flying) c.stack =
-    subst (λ h. MarkingInvariant h c.stack) (sym e) s.marks in
+    let coloured = coloured_as (heap_with c flown) (heap_with c flying) c.stack c.stack c.lists c.lists e refl refl
+    s.coloured in
     record {
-      delayed = s.delayed;
-      lies = s.lies;
-      unswept_apart = s.unswept_apart;
-      flies = still_flies c.heap c.heap flown flying s.flies refl s.marks.holds.colours marks.holds.colours covers
-          (own_sized c.heap flown c.stack s.marks) (own_sized c.heap flown c.stack s.marks)
-          (λ p b. ap (λ h. colour_of h p) e ∙ b) (λ p. inr (inl (ap (λ h. colour_of h p) e)));
-      marks = marks;
-      gray = subst (λ h. GrayInvariant h c.stack c.lists) (sym e) s.gray;
-      waits = s.waits;
-      black = λ settled. subst (λ h. AreBlack h w) (sym e) (s.black settled);
-      runs = subst (λ h. RunsAs h c w c.run w.collection) (sym e) s.runs;
+      placed = s.placed;
+      swept = swept_in c.heap.shape c.heap.shape flown flying refl
+          (still_flies c.heap c.heap flown flying s.swept.flies refl s.coloured.marks.holds.colours
+          coloured.marks.holds.colours covers (own_sized c.heap flown c.stack s.coloured.marks)
+          (own_sized c.heap flown c.stack s.coloured.marks) (λ p b. ap (λ h. colour_of h p) e ∙ b)
+          (λ p. inr (inl (ap (λ h. colour_of h p) e)))) s.swept;
+      coloured = coloured;
+      phase = subst (λ h. IsInPhase h c w) (sym e) s.phase;
     }
 
 -- nothing was done
@@ -367,7 +382,7 @@ tries_few false read h now k none = none
 -- where no cell is to be scanned and no entry to be looked at, the weak rule adds nothing
 pub black_fixed : (c : CollectorState) (flown : ℕ → Option Bits) → IsSound c flown → IsBlackDone c flown
     → IsBlackFixed c flown
-black_fixed c flown s done m k v has bm bk on = elim (s.represents.marks.weak.black m k v has bm bk on) [
+black_fixed c flown s done m k v has bm bk on = elim (s.represents.coloured.marks.weak.black m k v has bm bk on) [
   | inl b ↦ b
   | inr (inl p) ↦ absurd (nothing_in_none m (subst (λ (xs : List Place). Contains xs m) done.pile p))
   | inr (inr (inl p)) ↦ absurd (nothing_in_none k (subst (λ (xs : List Place). Contains xs k) done.pile p))
@@ -377,7 +392,7 @@ black_fixed c flown s done m k v has bm bk on = elim (s.represents.marks.weak.bl
 pub gray_fixed : (c : CollectorState) (flown : ℕ → Option Bits) (g : ZoneSet) → IsSound c flown → IsBlackDone c flown
     → AreGraying c.heap.shape g.bits → IsGrayDone c flown g → IsGrayFixed c flown g
 gray_fixed c flown g s black begun done m k v has sm sk here =
-    elim (s.represents.marks.weak.gray m k v has sm sk ((begun (zone_of c.heap.shape v)).0 here)) [
+    elim (s.represents.coloured.marks.weak.gray m k v has sm sk ((begun (zone_of c.heap.shape v)).0 here)) [
       | inl sv ↦ sv
       | inr (inl p) ↦ absurd (off m p)
       | inr (inr (inl p)) ↦ absurd (off k p)

@@ -31,8 +31,8 @@ module _ (c : CollectorState) (flown : ℕ → Option Bits) (s : IsSound c flown
   -- the collection that runs
   the_runs : (r : RunState) → c.run ≡ Some r → (k : Collection) × Runs (heap_with c flown) c s.world r k
   the_runs r running =
-      let at = collection_of c (heap_with c flown) s.world r running s.represents.runs in
-      (at.0, runs_of c (heap_with c flown) s.world r at.0 running at.1 s.represents.runs)
+      let at = collection_of c (heap_with c flown) s.world r running s.represents.phase.runs in
+      (at.0, runs_of c (heap_with c flown) s.world r at.0 running at.1 s.represents.phase.runs)
 
   -- the zones of a collection whose groups are not formed are marking, so it has none
   all_looked : IsGrouping c → AreAllLookedAt c.heap.shape c.edges
@@ -52,23 +52,23 @@ module _ (c : CollectorState) (flown : ℕ → Option Bits) (s : IsSound c flown
 
   none_incoming : (n : ℕ) → list_of c.lists n ≡ []
   none_incoming n = none_in_it (list_of c.lists n) (λ p has.
-      let zone = s.represents.waits.incoming n p has in not_marking zone.0 zone.2)
+      let zone = s.represents.coloured.waits.incoming n p has in not_marking zone.0 zone.2)
 
   pub settled_quiet : IsQuietDone c flown
   settled_quiet = record {
     black = record {
       pile = none_in_it c.stack.black (λ x has.
-          not_marking (zone_of c.heap.shape x) (s.represents.marks.holds.piles.black x has).1);
-      looked = (s.represents.waits.looks rests).1;
+          not_marking (zone_of c.heap.shape x) (s.represents.coloured.marks.holds.piles.black x has).1);
+      looked = (s.represents.coloured.waits.looks rests).1;
     };
     looked = all_looked;
     begun = λ formed g first z. (λ has. absurd (none_current formed g first z has), λ is. absurd (no_gray z is));
     group = λ formed g first. record {
       idle = record {
-        pile = none_piled c s.represents.waits no_gray;
-        buffers = λ z has. s.represents.waits.buffered z (rests z);
+        pile = none_piled (heap_with c flown) c.stack c.lists s.represents.coloured.waits no_gray;
+        buffers = λ z has. s.represents.coloured.waits.buffered z (rests z);
         incoming = λ z n has at. none_incoming n;
       };
-      looked = (s.represents.waits.looks rests).0;
+      looked = (s.represents.coloured.waits.looks rests).0;
     };
   }

@@ -183,8 +183,8 @@ pub all_begun : (c : CollectorState) (flown : ℕ → Option Bits) → IsSound c
 all_begun c flown s formed g at none z = (on, back)
   where
     runs : (k : Collection) × Runs (heap_with c flown) c s.world formed.0 k
-    runs = (let k = collection_of c (heap_with c flown) s.world formed.0 formed.1 s.represents.runs in
-        (k.0, runs_of c (heap_with c flown) s.world formed.0 k.0 formed.1 k.1 s.represents.runs))
+    runs = (let k = collection_of c (heap_with c flown) s.world formed.0 formed.1 s.represents.phase.runs in
+        (k.0, runs_of c (heap_with c flown) s.world formed.0 k.0 formed.1 k.1 s.represents.phase.runs))
 
     on : HasZone g.bits z → state_in c.heap.shape z ≡ state.MarkBlackAndGray
     on h = elim (runs.1.states.later formed.2 z (current_in_groups c.groups z (current_is c.groups g z at h))) [

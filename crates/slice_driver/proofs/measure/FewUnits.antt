@@ -89,7 +89,7 @@ few_arenas s (arena ∷ arenas) = go (is_some arena.out || is_marking_state (sta
 pub few_in_zone : (c : CollectorState) (flown : ℕ → Option Bits) → IsSound c flown
     → length c.heap.shape.arenas < 2 ^ 32 → AreApart c.heap.shape.wrappers.lists → HasFewWrappers c.heap.shape
 few_in_zone c flown sound arenas apart z =
-    let lies = sound.represents.lies in
+    let lies = sound.represents.placed.lies in
     let few = few_wrappers c.heap lies.graph lies.whole lies.shown apart z in
     omega (arith, few, arenas)
 
@@ -201,10 +201,10 @@ pub few_units : (c : CollectorState) → length c.heap.shape.arenas < 2 ^ 32 →
 unfolding units_to_come
 few_units c arenas buffered zones entries parallel apart flown sound =
     let r = sound.represents in
-    let sized = r.marks.holds.colours.sized in
-    let gray = r.gray.few in
+    let sized = r.coloured.marks.holds.colours.sized in
+    let gray = r.coloured.gray.few in
     let most = few_in_zone c flown sound arenas apart in
-    let marks = few_marks (heap_with c flown) c.stack c.lists r.marks.once parallel in
+    let marks = few_marks (heap_with c flown) c.stack c.lists r.coloured.marks.once parallel in
     let grouping = few_groupings c.heap.shape c.edges c.run 274877906944 most in
     let steps = few_steps c.heap.shape.states in
     let handed = few_arenas c.heap.shape c.heap.shape.arenas in

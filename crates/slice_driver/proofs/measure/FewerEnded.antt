@@ -55,7 +55,7 @@ module _ (c : CollectorState) (g : ZoneSet) (rest : List ZoneSet) (ready : IsRea
     (m : HeapState) (out : HandsOut c.heap g jobs m) (flown : ℕ → Option Bits) (s : IsSound c flown) (k : HeapState)
     (over : Bool) (e : EndsSweeping m rest over k) where
   none_flown : (a : ℕ) → flown a ≡ None
-  none_flown a = no_some (flown a) (s.represents.flies.covers a ∙ ap is_some (ready.kept a))
+  none_flown a = no_some (flown a) (s.represents.swept.flies.covers a ∙ ap is_some (ready.kept a))
 
   sized : length c.heap.colours ≡ length c.heap.shape.arenas
   sized = sized_here c flown ready.kept s
@@ -105,7 +105,7 @@ module _ (c : CollectorState) (g : ZoneSet) (rest : List ZoneSet) (ready : IsRea
 
   a_zone : (z : ℕ) × HasZone g.bits z
   a_zone =
-      let kind = collection_of c (heap_with c flown) s.world ready.run ready.running s.represents.runs in
+      let kind = collection_of c (heap_with c flown) s.world ready.run ready.running s.represents.phase.runs in
       let z = some_zone c flown s.world kind.0 g rest
       (record { valid = s.valid; represents = s.represents; ready = ready; running = kind.1 }) in
       (z.0, (zones_in-has g z.0).0 z.1)

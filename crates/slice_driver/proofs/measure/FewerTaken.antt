@@ -56,8 +56,8 @@ module _ (c : CollectorState) (flown : ℕ → Option Bits) (a freed : ℕ) (bit
       (unformed_kept c flown s.world the_run.0 s.represents the_run.1 unformed a))
 
   states : AreInStates c the_run.0
-  states = let kind = collection_of c (heap_with c flown) s.world the_run.0 the_run.1 s.represents.runs in
-      (runs_of c (heap_with c flown) s.world the_run.0 kind.0 the_run.1 kind.1 s.represents.runs).states
+  states = let kind = collection_of c (heap_with c flown) s.world the_run.0 the_run.1 s.represents.phase.runs in
+      (runs_of c (heap_with c flown) s.world the_run.0 kind.0 the_run.1 kind.1 s.represents.phase.runs).states
 
   colours_same : with_flown (without_arena flown a) 0 k.colours ≡ with_flown flown 0 c.heap.colours
   colours_same = ap (λ (h : HeapState). with_flown (without_arena flown a) 0 h.colours) e.rest

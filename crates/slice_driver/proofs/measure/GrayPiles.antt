@@ -20,13 +20,13 @@ wrapper_named s x (c, t, is) = ap is_wrapper_named is
 pub gray_pile : (c : CollectorState) (flown : ℕ → Option Bits) (w : World) → Represents c flown w
     → IsGrayPile (heap_with c flown) c.stack
 gray_pile c flown w s = record {
-  seen = s.marks.holds.piles.gray;
-  marking = λ x has. ap is_marking_state (s.waits.piled x has);
+  seen = s.coloured.marks.holds.piles.gray;
+  marking = λ x has. ap is_marking_state (s.coloured.waits.piled x has);
   inside = λ x y has object leads only.
-      (let takes = s.waits.piled x has in
+      (let takes = s.coloured.waits.piled x has in
       let apart : zone_of c.heap.shape x ≢ zone_of c.heap.shape y =
       λ same. (let state_same = ap (state_in c.heap.shape) same in cc (takes, state_same, only)) in
-      let wrapper = crosses_named c.heap s.lies.graph x y s.lies.shown s.lies.part.well_formed
+      let wrapper = crosses_named c.heap s.placed.lies.graph x y s.placed.lies.shown s.placed.lies.part.well_formed
       (0, omega arith, leads) apart in
       let is = wrapper_named c.heap.shape x wrapper in
       cc (is, object));

@@ -19,34 +19,19 @@ use Rattle.slice_driver.specs.Collector.{CollectorState, RunState, heap_with}
 use Rattle.slice_driver.specs.Worlds.{LiesIn}
 use Rattle.weak_maps.specs.WeakMaps.{LooksState}
 use Rattle.slice_driver.specs.Represents.{IsIdle, IsInGroups, NothingLeft, Represents, Runs, RunsAs}
-use Rattle.slice_driver.specs.Represents.{WaitsWhileMarking}
+use Rattle.slice_driver.specs.Represents.{IsColoured}
 use Rattle.slice_driver.specs.Sweeping.{FinishesIn, IsAllDone}
 use Rattle.slice_driver.proofs.group_end.Cells.{none_out_listed}
 use Rattle.slice_driver.proofs.group_end.Ready.{runs_of}
 use Rattle.slice_driver.proofs.basics.Cells.{HasSameCells, name_same}
-use Rattle.slice_driver.proofs.basics.Marks.{HasSameMarks, black_back, black_on, gray_kept, marks_kept}
-use Rattle.slice_driver.proofs.basics.Worlds.{flies_same, lies_same, unswept_same}
+use Rattle.slice_driver.proofs.basics.Marks.{HasSameMarks, black_back, black_on, coloured_as, coloured_kept}
+use Rattle.slice_driver.proofs.basics.Worlds.{placed_running, placed_same, swept_same}
 use Rattle.slice_driver.proofs.taking_in.Runs.{has_zone_or_not}
-
--- the world does not tell what collection runs by what lies in it
-lies_idle : (h : HeapState) (w : World) → LiesIn h w → LiesIn h (record w { collection = None })
-lies_idle h w l = record {
-  whole = l.whole;
-  graph = l.graph;
-  shown = l.shown;
-  part = record { well_formed = l.part.well_formed; part = l.part.part; here = l.part.here };
-  places_are = l.places_are;
-  owner_is = l.owner_is;
-  weak_is = l.weak_is;
-  calm = l.calm;
-  out_is = l.out_is;
-  white_are = l.white_are;
-}
 
 module _ (c d : CollectorState) (flown : ℕ → Option Bits) (w : World) (k : Collection) (s : Represents c flown w)
     (o : IsAllDone c) (f : FinishesIn c d) (at : w.collection ≡ Some k) where
   runs : Runs (heap_with c flown) c w o.run k
-  runs = runs_of c (heap_with c flown) w o.run k o.running at s.runs
+  runs = runs_of c (heap_with c flown) w o.run k o.running at s.phase.runs
 
   in_none : (z : ℕ) → IsInGroups c.groups z → ⊥
   in_none z i = (let j = subst (λ gs. IsInGroups gs z) o.none_left i in nothing_in_none j.0 j.1)
@@ -113,9 +98,10 @@ module _ (c d : CollectorState) (flown : ℕ → Option Bits) (w : World) (k : C
     kept = λ p m. absurd (cc (m, ap is_marking_state (f.states (zone_of d.heap.shape p))));
   }
 
-  marks_after : MarkingInvariant (heap_with d flown) d.stack
-  marks_after = subst (λ p. MarkingInvariant (heap_with d flown) p) (sym f.stack_is)
-      (marks_kept (heap_with c flown) (heap_with d flown) same_marks c.stack s.marks)
+  coloured_after : IsColoured (heap_with d flown) d.stack d.lists
+  coloured_after = coloured_as (heap_with d flown) (heap_with d flown) c.stack d.stack c.lists d.lists refl f.stack_is
+      f.lists_is (coloured_kept (heap_with c flown) (heap_with d flown) same_marks c.stack c.lists
+      (λ z both. absurd (not_taking_gray z both)) s.coloured)
 
   empty : (xs : List Place) → ((x : Place) → Contains xs x → ⊥) → xs ≡ []
   empty [] none = refl
@@ -127,28 +113,18 @@ module _ (c d : CollectorState) (flown : ℕ → Option Bits) (w : World) (k : C
     kept = λ a. out_same a ∙ o.kept a;
     black = empty d.stack.black
         (λ x held. cc (
-          (marks_after.holds.piles.black x held).1,
+          (coloured_after.marks.holds.piles.black x held).1,
           ap is_marking_state (f.states (zone_of d.heap.shape x)),
         ));
-    gray = ap (λ (p : Piles). p.gray) f.stack_is ∙ none_piled c s.waits not_taking_gray;
-  }
-
-  waits_after : WaitsWhileMarking d
-  waits_after = record {
-    piled = λ x has. absurd (nothing_in_none x (subst (λ (xs : List Place). Contains xs x) idle.gray has));
-    buffered = λ z quiet. ap (λ (h : HeapState). buffer_of h z) f.heap_is ∙ s.waits.buffered z (not_marking z);
-    incoming = λ n p held.
-        absurd (let i = s.waits.incoming n p (subst (λ (l : Incoming). Contains (waiting_for l n) p) f.lists_is held) in
-        cc (i.2, not_marking i.0));
-    looks = λ quiet. subst (λ (l : LooksState). NothingLeft l) (sym (ap (λ (h : HeapState). h.looks) f.heap_is))
-        (s.waits.looks not_marking);
+    gray = ap (λ (p : Piles). p.gray) f.stack_is ∙ none_piled (heap_with c flown) c.stack c.lists s.coloured.waits
+        not_taking_gray;
   }
 
   settled : IsSettled w
   settled = record {
     none_marking = ap Rattle.colour_defs.specs.World.marking_of at
         ∙ none k.marking (λ z m. cc ((runs.marking_are z).0 m, not_marking z));
-    none_preparing = s.lies.calm;
+    none_preparing = s.phase.calm;
   }
     where
       none : (zs : List ℕ) → ((z : ℕ) → Contains zs z → ⊥) → zs ≡ []
@@ -162,27 +138,25 @@ module _ (c d : CollectorState) (flown : ℕ → Option Bits) (w : World) (k : C
       running = at;
       ended = runs.groups_are ∙ ap (λ b. cond b (Some (map zones_in c.groups)) None) o.formed
           ∙ ap (λ gs. Some (map zones_in gs)) o.none_left;
-      none_out = s.lies.out_is ∙ none_out_listed c.heap.shape o.kept;
+      none_out = s.placed.lies.out_is ∙ none_out_listed c.heap.shape o.kept;
     };
     world_is = refl;
   }
 
   pub represents_done : Represents d flown (record w { collection = None })
   represents_done = record {
-    delayed = ap (λ (h : HeapState). h.delayed) f.heap_is ∙ s.delayed;
-    lies = lies_idle d.heap w (lies_same c.heap d.heap w same_cells arenas_same s.lies);
-    unswept_apart = λ x p q a b. s.unswept_apart x p q (unswept_same d.heap.shape c.heap.shape p x (sym arenas_same) a)
-        (unswept_same d.heap.shape c.heap.shape q x (sym arenas_same) b);
-    flies = flies_same c.heap.shape d.heap.shape flown arenas_same s.flies;
-    marks = marks_after;
-    gray = subst (λ p. GrayInvariant (heap_with d flown) p d.lists) (sym f.stack_is)
-        (subst (λ l. GrayInvariant (heap_with d flown) c.stack l) (sym f.lists_is)
-        (gray_kept (heap_with c flown) (heap_with d flown) same_marks c.stack c.lists s.gray));
-    waits = waits_after;
-    black = λ now x p named. (let b = s.black settled x p (sym (name_same c.heap d.heap same_cells p) ∙ named) in (
-      λ h. black_on (heap_with c flown) (heap_with d flown) same_marks p (b.0 h),
-      λ h. b.1 (black_back (heap_with c flown) (heap_with d flown) same_marks p h),
-    ));
-    runs = subst (λ (r : Option RunState). RunsAs (heap_with d flown) d (record w { collection = None }) r None)
-        (sym f.run_is) idle;
+    placed = placed_running d.heap w None w.preparing (placed_same c.heap d.heap w same_cells arenas_same
+        (ap (λ (h : HeapState). h.delayed) f.heap_is) s.placed);
+    swept = swept_same c.heap.shape d.heap.shape flown arenas_same s.swept;
+    coloured = coloured_after;
+    phase = record {
+      calm = s.phase.calm;
+      black = λ now x p named.
+          (let b = s.phase.black settled x p (sym (name_same c.heap d.heap same_cells p) ∙ named) in (
+            λ h. black_on (heap_with c flown) (heap_with d flown) same_marks p (b.0 h),
+            λ h. b.1 (black_back (heap_with c flown) (heap_with d flown) same_marks p h),
+          ));
+      runs = subst (λ (r : Option RunState). RunsAs (heap_with d flown) d (record w { collection = None }) r None)
+          (sym f.run_is) idle;
+    };
   }

@@ -105,15 +105,15 @@ module _ (c : CollectorState) (g : ZoneSet) (rest : List ZoneSet) (ready : IsRea
   module _ (grays : List Name) (listed : Lists (IsGrayHere c.heap g) grays) (k : HeapState) (flown : ℕ → Option Bits)
     where
       none_flown : (w : World) → Represents c flown w → (a : ℕ) → flown a ≡ None
-      none_flown w s a = no_some (flown a) (s.flies.covers a ∙ ap is_some (ready.kept a))
+      none_flown w s a = no_some (flown a) (s.swept.flies.covers a ∙ ap is_some (ready.kept a))
 
       sized_in : (w : World) → Represents c flown w → length c.heap.colours ≡ length c.heap.shape.arenas
       sized_in w s = sym (Rattle.barriers.proofs.Flying.flown_length flown 0 c.heap.colours)
-          ∙ s.marks.holds.colours.sized
+          ∙ s.coloured.marks.holds.colours.sized
 
       states_in : (w : World) → Represents c flown w → AreInStates c ready.run
-      states_in w s = let kind = collection_of c (heap_with c flown) w ready.run ready.running s.runs in
-          (runs_of c (heap_with c flown) w ready.run kind.0 ready.running kind.1 s.runs).states
+      states_in w s = let kind = collection_of c (heap_with c flown) w ready.run ready.running s.phase.runs in
+          (runs_of c (heap_with c flown) w ready.run kind.0 ready.running kind.1 s.phase.runs).states
 
       ends_on : EndsSweeping m rest false k
           → DoesUnit c flown (report.Ended g grays [] ∷ []) (record c { heap = k; groups = rest })
@@ -149,10 +149,11 @@ module _ (c : CollectorState) (g : ZoneSet) (rest : List ZoneSet) (ready : IsRea
           let v = group_ends c d flown (flying_after jobs flown) w g rest grays ok s ready (ends_in n has no_sweep)
           flies
           listed in
-          let kind = collection_of d (heap_with d (flying_after jobs flown)) v.0 ready.run ready.running v.3.runs in
+          let kind = collection_of d (heap_with d (flying_after jobs flown)) v.0 ready.run ready.running v.3.phase.runs
+          in
           let states : AreInStates d ready.run =
           (runs_of d (heap_with d (flying_after jobs flown)) v.0 ready.run kind.0 ready.running kind.1
-          v.3.runs).states in
+          v.3.phase.runs).states in
           let none_now : (b : ℕ) → out_of d.heap.shape b ≡ None = over.1 in
           end_last_unit c d (record c { heap = k; groups = rest; run = None }) flown (flying_after jobs flown) g rest
           grays ready (ends_in n has no_sweep) flies listed

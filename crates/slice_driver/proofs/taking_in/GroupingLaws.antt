@@ -43,7 +43,7 @@ pub groups_form : (c d : CollectorState) (flown : ℕ → Option Bits) (w : Worl
     → Represents c flown w → FormsIn c groups d → (v : World) × FormsGroups w (map zones_in groups) v
     × Represents d flown v
 groups_form c d flown w groups ok s f =
-    let k = collection_of c (heap_with c flown) w f.run f.running s.runs in (
+    let k = collection_of c (heap_with c flown) w f.run f.running s.phase.runs in (
       after c d flown w k.0 groups ok s f k.1,
       forms c d flown w k.0 groups ok s f k.1,
       represents_formed c d flown w k.0 groups ok s f k.1,
@@ -52,7 +52,7 @@ groups_form c d flown w groups ok s f =
 pub form_unit : (c d : CollectorState) (flown : ℕ → Option Bits) (groups : List ZoneSet) → FormsIn c groups d
     → DoesUnit c flown (report.Groups groups ∷ []) d flown
 form_unit c d flown groups f w ok s =
-    let k = collection_of c (heap_with c flown) w f.run f.running s.runs in
+    let k = collection_of c (heap_with c flown) w f.run f.running s.phase.runs in
     let v = groups_form c d flown w groups ok s f in (
       v.0,
       says (running_of c flown w f.run f.running s) (λ q. cc q) v.1
@@ -79,8 +79,8 @@ unformed_kept c flown w r s running unformed a = go (out_of c.heap.shape a) refl
     go : (o : Option Bits) → out_of c.heap.shape a ≡ o → out_of c.heap.shape a ≡ None
     go None e = e
     go (Some b) e =
-        let k = collection_of c (heap_with c flown) w r running s.runs in
-        let runs = runs_of c (heap_with c flown) w r k.0 running k.1 s.runs in
+        let k = collection_of c (heap_with c flown) w r running s.phase.runs in
+        let runs = runs_of c (heap_with c flown) w r k.0 running k.1 s.phase.runs in
         let p : Place = (a, 0) in
         let sweep : state_in c.heap.shape (zone_of c.heap.shape p) ≡ state.Sweep =
         runs.states.sweeping (zone_of c.heap.shape p) a p refl refl (ap is_some e) in

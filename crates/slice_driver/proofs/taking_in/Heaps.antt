@@ -134,7 +134,7 @@ module _ (c : CollectorState) (flown : ℕ → Option Bits) (w : World) (a freed
 
   left_slots : (i : ℕ) → cell_in (without_freed freed was_out.0.slots) i ≡ present_in (Some was_out.1) was_out.0.slots i
   left_slots i = left_in was_out.1 was_out.0.slots freed i (t.fits was_out.1 (ap out_in was_out.2 ∙ was_out.3))
-      (s.lies.whole a was_out.0 was_out.2) (t.freed_is was_out.0 was_out.1 was_out.2 was_out.3)
+      (s.placed.lies.whole a was_out.0 was_out.2) (t.freed_is was_out.0 was_out.1 was_out.2 was_out.3)
 
   cells_same : (p : Place) → cell_of d.heap.shape p ≡ cell_of c.heap.shape p
   cells_same p = elim (cases_eq p.0 a) [
@@ -172,13 +172,13 @@ module _ (c : CollectorState) (flown : ℕ → Option Bits) (w : World) (a freed
 
   pub whole_after : AreWhole d.heap.shape.arenas
   whole_after b arena at = elim (cases_eq b a) [
-    | inr ne ↦ s.lies.whole b arena (sym (arena_same b ne) ∙ at)
+    | inr ne ↦ s.placed.lies.whole b arena (sym (arena_same b ne) ∙ at)
     | inl is ↦
         let taken : Some (come_in freed was_out.0) ≡ Some arena =
         sym (arena_taken ∙ ap (λ o. option_map (come_in freed) o) was_out.2)
         ∙ ap (λ i. slice_get d.heap.shape.arenas i) (sym is) ∙ at in
         ap (λ (x : ArenaShape). length x.slots) (sym (some_one _ _ taken)) ∙ length_freed freed was_out.0.slots
-        ∙ s.lies.whole a was_out.0 was_out.2
+        ∙ s.placed.lies.whole a was_out.0 was_out.2
   ]
 
   -- what is not swept yet lies in other arenas
@@ -293,19 +293,20 @@ module _ (c : CollectorState) (flown : ℕ → Option Bits) (w : World) (a freed
     marking = marking_same;
     black_only = λ z only. state_back z state.MarkBlackOnly only (λ e. cc e);
     kept = λ p m. kept_on p.0
-        (s.marks.holds.colours.shape.kept p (ap (λ z. is_marking_state (state_in c.heap.shape z)) (sym (zones_same p))
+        (s.coloured.marks.holds.colours.shape.kept p
+        (ap (λ z. is_marking_state (state_in c.heap.shape z)) (sym (zones_same p))
         ∙ sym (marking_same (zone_of d.heap.shape p)) ∙ m));
   }
 
   pub flies_after : IsInFlight d.heap.shape (without_arena flown a)
   flies_after = record {
     covers = λ b. elim (cases_eq b a) [
-      | inr ne ↦ ap is_some (flying_same b ne) ∙ s.flies.covers b ∙ ap is_some (sym (out_same b ne))
+      | inr ne ↦ ap is_some (flying_same b ne) ∙ s.swept.flies.covers b ∙ ap is_some (sym (out_same b ne))
       | inl is ↦ ap (λ i. is_some (without_arena flown a i)) is ∙ ap is_some flying_none ∙ ap is_some (sym out_none)
           ∙ ap (λ i. is_some (out_of d.heap.shape i)) (sym is)
     ];
     woken = λ b old new out fly. elim (cases_eq b a) [
-      | inr ne ↦ s.flies.woken b old new (sym (out_same b ne) ∙ out) (sym (flying_same b ne) ∙ fly)
+      | inr ne ↦ s.swept.flies.woken b old new (sym (out_same b ne) ∙ out) (sym (flying_same b ne) ∙ fly)
       | inl is ↦ absurd (cc (sym (ap (λ i. out_of d.heap.shape i) is ∙ out_none) ∙ out))
     ];
   }

@@ -32,7 +32,7 @@ takes_in c d flown w a freed bits names s t f = go c.run refl t.running
         × Represents d (without_arena flown a) v
     go None e some = absurd (cc some)
     go (Some r) e some =
-        let k = collection_of c (heap_with c flown) w r e s.runs in (
+        let k = collection_of c (heap_with c flown) w r e s.phase.runs in (
           swept_world w a (outs_from 0 d.heap.shape.arenas) k.0,
           sweeps c flown w k.0 a freed bits d s t r e k.1 names f,
           represents_after c flown w k.0 a freed bits d s t r e k.1,
@@ -42,7 +42,7 @@ takes_in c d flown w a freed bits names s t f = go c.run refl t.running
 pub finishes_here : (c d : CollectorState) (flown : ℕ → Option Bits) (w : World) → Represents c flown w → IsAllDone c
     → FinishesIn c d → (v : World) × Finishes w v × Represents d flown v
 finishes_here c d flown w s o f =
-    let k = collection_of c (heap_with c flown) w o.run o.running s.runs in
+    let k = collection_of c (heap_with c flown) w o.run o.running s.phase.runs in
     (record w { collection = None }, finishes c d flown w k.0 s o f k.1, represents_done c d flown w k.0 s o f k.1)
 
 -- where nothing is listed as out, no arena is
@@ -64,7 +64,7 @@ none_out (x ∷ arenas) n e (suc a) = none_out arenas (suc n) (go x.out e) a
 pub over_done : (c : CollectorState) (flown : ℕ → Option Bits) (w : World) → Represents c flown w → IsOver w
     → IsAllDone c
 over_done c flown w s o =
-    go c.run refl (subst (λ (z : Option Collection). RunsAs (heap_with c flown) c w c.run z) o.running s.runs)
+    go c.run refl (subst (λ (z : Option Collection). RunsAs (heap_with c flown) c w c.run z) o.running s.phase.runs)
   where
     empty : (groups : List ZoneSet) → map zones_in groups ≡ [] → groups ≡ []
     empty [] e = refl
@@ -85,12 +85,12 @@ over_done c flown w s o =
           running = e;
           formed = f.0;
           none_left = f.1;
-          kept = none_out c.heap.shape.arenas 0 (sym s.lies.out_is ∙ o.none_out);
+          kept = none_out c.heap.shape.arenas 0 (sym s.placed.lies.out_is ∙ o.none_out);
         }
 
 pub running_of : (c : CollectorState) (flown : ℕ → Option Bits) (w : World) (r : RunState) → c.run ≡ Some r
     → Represents c flown w → IsRunning w
-running_of c flown w r e s = let k = collection_of c (heap_with c flown) w r e s.runs in inl (k.0, k.1)
+running_of c flown w r e s = let k = collection_of c (heap_with c flown) w r e s.phase.runs in inl (k.0, k.1)
 
 pub some_running : (c : CollectorState) (flown : ℕ → Option Bits) (w : World) → IsSome c.run → Represents c flown w
     → IsRunning w

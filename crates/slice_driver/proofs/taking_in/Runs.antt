@@ -25,16 +25,15 @@ use Rattle.barriers.specs.PendingLive.{GrayInvariant, buffer_of}
 use Rattle.slice_driver.specs.Collector.{CollectorState, RunState, heap_with}
 use Rattle.slice_driver.specs.Closures.{AreTied}
 use Rattle.slice_driver.specs.Worlds.{IsUnswept, LiesIn, outs_from}
-use Rattle.slice_driver.specs.Represents.{AreBehind, AreInStates, IsCurrent, IsInGroups, Represents, Runs, RunsAs}
+use Rattle.slice_driver.specs.Represents.{AreInStates, IsCurrent, IsInGroups, Represents, Runs, RunsAs}
 use Rattle.weak_maps.specs.WeakMaps.{LooksState}
-use Rattle.slice_driver.specs.Represents.{NothingLeft, WaitsWhileMarking}
 use Rattle.slice_driver.specs.Sweeping.{AreFreed, TakesIn, after_sweep}
 use Rattle.slice_driver.specs.Units.{without_arena}
 use Rattle.slice_driver.proofs.abstraction.Named.{some_one}
 use Rattle.slice_driver.proofs.group_end.Ready.{runs_of}
 use Rattle.slice_driver.proofs.group_end.Wrappers.{filter_has, has_filter}
 use Rattle.slice_driver.proofs.basics.Cells.{edge_back, name_same, shows_same}
-use Rattle.slice_driver.proofs.basics.Marks.{black_back, black_on, gray_kept, live_back, live_on, marks_kept}
+use Rattle.slice_driver.proofs.basics.Marks.{black_back, black_on, coloured_as, coloured_kept, live_back, live_on}
 use Rattle.slice_driver.proofs.basics.Marks.{pending_back, pending_on}
 use Rattle.slice_driver.proofs.taking_in.Heaps.{flies_after, marking_same, no_sweep_after}
 use Rattle.slice_driver.proofs.taking_in.Heaps.{outs_are, owners_same, same_cells, same_marks, state_on}
@@ -82,7 +81,7 @@ module _ (c : CollectorState) (flown : ℕ → Option Bits) (w : World) (k : Col
   after = swept_world w a (outs_from 0 d.heap.shape.arenas) k
 
   runs : Runs (heap_with c flown) c w r k
-  runs = runs_of c (heap_with c flown) w r k running at s.runs
+  runs = runs_of c (heap_with c flown) w r k running at s.phase.runs
 
   white_are : (x : Name) (p : Place) → Contains {X = Name × (ℕ × ℕ)} after.white (x, p)
       ↔ (Contains {X = Name × (ℕ × ℕ)} w.white (x, p) × (p.0 ≢ a))
@@ -95,23 +94,29 @@ module _ (c : CollectorState) (flown : ℕ → Option Bits) (w : World) (k : Col
   pub lies_after : LiesIn d.heap after
   lies_after = record {
     whole = whole_after c flown w a freed bits d s t;
-    graph = s.lies.graph;
-    shown = shows_same c.heap d.heap (same_cells c flown w a freed bits d s t) s.lies.graph s.lies.shown;
-    part = record { well_formed = s.lies.part.well_formed; part = s.lies.part.part; here = s.lies.part.here };
+    graph = s.placed.lies.graph;
+    shown = shows_same c.heap d.heap (same_cells c flown w a freed bits d s t) s.placed.lies.graph s.placed.lies.shown;
+    part = record {
+      well_formed = s.placed.lies.part.well_formed;
+      part = s.placed.lies.part.part;
+      here = s.placed.lies.part.here;
+    };
     places_are = λ x p. (
-      λ there. name_same c.heap d.heap (same_cells c flown w a freed bits d s t) p ∙ (s.lies.places_are x p).0 there,
-      λ named. (s.lies.places_are x p).1 (sym (name_same c.heap d.heap (same_cells c flown w a freed bits d s t) p)
+      λ there. name_same c.heap d.heap (same_cells c flown w a freed bits d s t) p
+          ∙ (s.placed.lies.places_are x p).0 there,
+      λ named. (s.placed.lies.places_are x p).1
+          (sym (name_same c.heap d.heap (same_cells c flown w a freed bits d s t) p)
           ∙ named),
     );
-    owner_is = s.lies.owner_is ∙ sym (owners_same c flown w a freed bits d s t);
-    weak_is = s.lies.weak_is;
-    calm = s.lies.calm;
+    owner_is = s.placed.lies.owner_is ∙ sym (owners_same c flown w a freed bits d s t);
+    weak_is = s.placed.lies.weak_is;
     out_is = refl;
     white_are = λ x p. (
-      λ l. (let f = (white_are x p).0 l in unswept_on c flown w a freed bits d s t p x ((s.lies.white_are x p).0 f.0)
+      λ l. (let f = (white_are x p).0 l in
+          unswept_on c flown w a freed bits d s t p x ((s.placed.lies.white_are x p).0 f.0)
           f.1),
       λ u. (let f = unswept_back c flown w a freed bits d s t p x u in
-          (white_are x p).1 ((s.lies.white_are x p).1 f.0, f.1)),
+          (white_are x p).1 ((s.placed.lies.white_are x p).1 f.0, f.1)),
     );
   }
 
@@ -134,7 +139,7 @@ module _ (c : CollectorState) (flown : ℕ → Option Bits) (w : World) (k : Col
     bits = old;
     cell = cell;
     out_is = out_is;
-    white = freed_white old arena.slots freed i cell (t.fits old out_is) (s.lies.whole a arena arena_is)
+    white = freed_white old arena.slots freed i cell (t.fits old out_is) (s.placed.lies.whole a arena arena_is)
         (t.freed_is arena old arena_is (was_out c flown w a freed bits d s t).3) bit there;
     cell_is = ap (λ o. stored_in o i) arena_is ∙ there;
     name_is = refl;
@@ -146,14 +151,14 @@ module _ (c : CollectorState) (flown : ℕ → Option Bits) (w : World) (k : Col
       let there : cell_in arena.slots i ≡ Some u.cell = sym (ap (λ o. stored_in o i) arena_is) ∙ u.cell_is in
       let same : u.bits ≡ old = some_one u.bits old (sym u.out_is ∙ out_is) in (
         there,
-        white_freed old arena.slots freed i u.cell (t.fits old out_is) (s.lies.whole a arena arena_is)
+        white_freed old arena.slots freed i u.cell (t.fits old out_is) (s.placed.lies.whole a arena arena_is)
             (t.freed_is arena old arena_is (was_out c flown w a freed bits d s t).3)
             (subst (λ (b : Bits). Rattle.heap_core.specs.Shape.is_white b i ≡ true) same u.white) there,
       )
 
   named_apart : AreNamedApart freed arena.slots
   named_apart i j x y bi bj xi yj e =
-      let one : (a, i) ≡ (a, j) = s.unswept_apart x.name (a, i) (a, j) (freed_unswept i x bi xi)
+      let one : (a, i) ≡ (a, j) = s.swept.apart x.name (a, i) (a, j) (freed_unswept i x bi xi)
       (subst (λ n. IsUnswept c.heap.shape (a, j) n) (sym e) (freed_unswept j y bj yj)) in
       ap (λ (p : Place). p.1) one
 
@@ -163,10 +168,10 @@ module _ (c : CollectorState) (flown : ℕ → Option Bits) (w : World) (k : Col
   freed_has x = (
     λ l. (let n = listed_named freed arena.slots x l in (
       n.slot,
-      (s.lies.white_are x (a, n.slot)).1
+      (s.placed.lies.white_are x (a, n.slot)).1
           (subst (λ y. IsUnswept c.heap.shape (a, n.slot) y) n.name_is (freed_unswept n.slot n.cell n.bit n.there)),
     )),
-    λ l. (let u = (s.lies.white_are x (a, l.0)).0 l.1 in
+    λ l. (let u = (s.placed.lies.white_are x (a, l.0)).0 l.1 in
         let there = unswept_freed l.0 x u in
         subst (λ y. Contains (names_of (at_bits freed arena.slots)) y) u.name_is
         (named_listed freed arena.slots l.0 u.cell there.1 there.0)),
@@ -180,7 +185,7 @@ module _ (c : CollectorState) (flown : ℕ → Option Bits) (w : World) (k : Col
   pub sweeps : (names : List Name) → AreFreed c.heap.shape a freed names → IsLawfulSweep w a names after
   sweeps names f = record {
     rest = outs_from 0 d.heap.shape.arenas;
-    first = s.lies.out_is ∙ outs_are c flown w a freed bits d s t;
+    first = s.placed.lies.out_is ∙ outs_are c flown w a freed bits d s t;
     world_is = ap (λ (o : Option Collection). record w {
       out = outs_from 0 d.heap.shape.arenas;
       white = filter (is_elsewhere a) w.white;
@@ -270,20 +275,6 @@ module _ (c : CollectorState) (flown : ℕ → Option Bits) (w : World) (k : Col
   tied_after b = subst (λ p. AreTied (heap_with d flying) p d.lists after (swept_collection k)) (sym t.stack_is)
       (subst (λ l. AreTied (heap_with d flying) c.stack l after (swept_collection k)) (sym t.lists_is) (tied_here b))
 
-  behind_after : AreBehind (heap_with c flown) c r → AreBehind (heap_with d flying) d r
-  behind_after b p q l here none =
-      let zp = zones_same c flown w a freed bits d s t p in
-      let zq = zones_same c flown w a freed bits d s t q in
-      black_on (heap_with c flown) (heap_with d flying) (same_marks c flown w a freed bits d s t) q (b p q
-      (record {
-        edge = edge_back c.heap d.heap (same_cells c flown w a freed bits d s t) p q l.edge;
-        from = subst (λ z. HasZone r.zones.bits z) zp l.from;
-        to = subst (λ z. HasZone r.zones.bits z) zq l.to;
-        apart = λ e. l.apart (zp ∙ e ∙ sym zq);
-      })
-      (subst (λ z. IsInGroups c.groups z) zp (in_groups_back _ here))
-      (λ i. none (in_groups_on _ (subst (λ z. IsInGroups c.groups z) (sym zq) i))))
-
   runs_after : Runs (heap_with d flying) d after r (swept_collection k)
   runs_after = record {
     zones_are = runs.zones_are;
@@ -296,49 +287,37 @@ module _ (c : CollectorState) (flown : ℕ → Option Bits) (w : World) (k : Col
     states = states_after;
     tied = λ z m. tied_after (runs.tied z m);
     early = λ no_groups. absurd (unformed no_groups);
-    late = λ formed. behind_after (runs.late formed);
   }
 
-  waits_after : WaitsWhileMarking d
-  waits_after = record {
-    piled = λ x has. ap (state_in d.heap.shape) (zones_same c flown w a freed bits d s t x)
-        ∙ state_on c flown w a freed bits d s t (zone_of c.heap.shape x) state.MarkBlackAndGray
-        (s.waits.piled x (subst (λ (p : Piles). Contains p.gray x) t.stack_is has)) refl;
-    buffered = λ z quiet. ap (λ (h : HeapState). buffer_of h z) t.heap_is
-        ∙ s.waits.buffered z (sym (marking_same c flown w a freed bits d s t z) ∙ quiet);
-    incoming = λ n p held.
-        (let i = s.waits.incoming n p (subst (λ (l : Incoming). Contains (waiting_for l n) p) t.lists_is held) in (
-          i.0,
-          ap (λ (h : HeapState). slice_get h.shape.comps n) t.heap_is ∙ i.1,
-          marking_same c flown w a freed bits d s t i.0 ∙ i.2,
-        ));
-    looks = λ quiet. subst (λ (l : LooksState). NothingLeft l) (sym (ap (λ (h : HeapState). h.looks) t.heap_is))
-        (s.waits.looks (λ z. sym (marking_same c flown w a freed bits d s t z) ∙ quiet z));
-  }
+  takes_on : (z : ℕ) → state_in c.heap.shape z ≡ state.MarkBlackAndGray
+      → state_in d.heap.shape z ≡ state.MarkBlackAndGray
+  takes_on z was = state_on c flown w a freed bits d s t z state.MarkBlackAndGray was refl
 
   pub represents_after : Represents d (without_arena flown a) (swept_world w a (outs_from 0 d.heap.shape.arenas) k)
   represents_after = record {
-    delayed = ap (λ (h : HeapState). h.delayed) t.heap_is ∙ s.delayed;
-    lies = lies_after;
-    unswept_apart = λ x p q u v. s.unswept_apart x p q (unswept_back c flown w a freed bits d s t p x u).0
-        (unswept_back c flown w a freed bits d s t q x v).0;
-    flies = flies_after c flown w a freed bits d s t;
-    marks = subst (λ p. MarkingInvariant (heap_with d flying) p) (sym t.stack_is)
-        (marks_kept (heap_with c flown) (heap_with d flying) (same_marks c flown w a freed bits d s t) c.stack s.marks);
-    gray = subst (λ p. GrayInvariant (heap_with d flying) p d.lists) (sym t.stack_is)
-        (subst (λ l. GrayInvariant (heap_with d flying) c.stack l) (sym t.lists_is)
-        (gray_kept (heap_with c flown) (heap_with d flying) (same_marks c flown w a freed bits d s t) c.stack c.lists
-        s.gray));
-    waits = waits_after;
-    black = λ settled x p named. (
-        let b = s.black (record {
-          none_marking = ap marking_of at ∙ settled.none_marking;
-          none_preparing = s.lies.calm;
-        }) x p
-        (sym (name_same c.heap d.heap (same_cells c flown w a freed bits d s t) p) ∙ named) in (
-          λ h. black_on (heap_with c flown) (heap_with d flying) (same_marks c flown w a freed bits d s t) p (b.0 h),
-          λ h. b.1 (black_back (heap_with c flown) (heap_with d flying) (same_marks c flown w a freed bits d s t) p h),
-        ));
-    runs = subst (λ (o : Option RunState). RunsAs (heap_with d flying) d after o after.collection)
-        (sym (t.run_is ∙ running)) runs_after;
+    placed = record { delayed = ap (λ (h : HeapState). h.delayed) t.heap_is ∙ s.placed.delayed; lies = lies_after };
+    swept = record {
+      apart = λ x p q u v. s.swept.apart x p q (unswept_back c flown w a freed bits d s t p x u).0
+          (unswept_back c flown w a freed bits d s t q x v).0;
+      flies = flies_after c flown w a freed bits d s t;
+    };
+    coloured = coloured_as (heap_with d flying) (heap_with d flying) c.stack d.stack c.lists d.lists refl t.stack_is
+        t.lists_is (coloured_kept (heap_with c flown) (heap_with d flying) (same_marks c flown w a freed bits d s t)
+        c.stack c.lists takes_on s.coloured);
+    phase = record {
+      calm = s.phase.calm;
+      black = λ settled x p named. (
+          let b = s.phase.black (record {
+            none_marking = ap marking_of at ∙ settled.none_marking;
+            none_preparing = s.phase.calm;
+          }) x p
+          (sym (name_same c.heap d.heap (same_cells c flown w a freed bits d s t) p) ∙ named) in (
+            λ h. black_on (heap_with c flown) (heap_with d flying) (same_marks c flown w a freed bits d s t) p
+                (b.0 h),
+            λ h. b.1 (black_back (heap_with c flown) (heap_with d flying) (same_marks c flown w a freed bits d s t) p
+                h),
+          ));
+      runs = subst (λ (o : Option RunState). RunsAs (heap_with d flying) d after o after.collection)
+          (sym (t.run_is ∙ running)) runs_after;
+    };
   }

@@ -23,7 +23,7 @@ no_out o some none = cc (some, none)
 -- while an arena is due, some arena is out
 pub due_flies : (d : CollectorState) (f : ℕ → Option Bits) (a : ℕ) → IsSound d f → IsLowestOut d.heap.shape a
     → ((b : ℕ) → f b ≡ None) → ⊥
-due_flies d f a s low none = no_out (f a) (s.represents.flies.covers a ∙ low.out) (none a)
+due_flies d f a s low none = no_out (f a) (s.represents.swept.flies.covers a ∙ low.out) (none a)
 
 pub some_left : (b : Bool) (outs : List (ℕ × ℕ)) → IsTrue b ↔ (outs ≡ []) → b ≡ false → outs ≢ []
 some_left b outs h e none = let t : b ≡ true = h.1 none in cc (t, e)
@@ -34,10 +34,10 @@ module _ (d : CollectorState) (f g : ℕ → Option Bits) (outs rest : List (ℕ
   -- the arena that the flight takes is the one that is due
   arena_is : takes.arena ≡ a
   arena_is =
-      let at_most : takes.arena ≤ a = takes.lowest a (s.represents.flies.covers a ∙ low.out) in
+      let at_most : takes.arena ≤ a = takes.lowest a (s.represents.swept.flies.covers a ∙ low.out) in
       elim (cases_lt takes.arena a) [
         | inl less ↦ absurd (no_out (out_of d.heap.shape takes.arena)
-            (sym (s.represents.flies.covers takes.arena) ∙ ap is_some takes.bits) (low.lowest takes.arena less))
+            (sym (s.represents.swept.flies.covers takes.arena) ∙ ap is_some takes.bits) (low.lowest takes.arena less))
         | inr from ↦ omega (arith, at_most, from)
       ]
 

@@ -130,8 +130,8 @@ module _ (c : CollectorState) (flown : ℕ → Option Bits) (a freed : ℕ) (bit
       let is_formed : run.0.formed ≡ true =
       formed_of run.0.formed
       (λ no. nothing_out (out_of c.heap.shape a) taking.lowest.out (unformed_kept c flown w run.0 s run.1 no a)) in
-      let kind = collection_of c (heap_with c flown) w run.0 run.1 s.runs in
-      let states = (runs_of c (heap_with c flown) w run.0 kind.0 run.1 kind.1 s.runs).states in
+      let kind = collection_of c (heap_with c flown) w run.0 run.1 s.phase.runs in
+      let states = (runs_of c (heap_with c flown) w run.0 kind.0 run.1 kind.1 s.phase.runs).states in
       let none_now : (b : ℕ) → out_of (all_swept taken).shape b ≡ None = over.1 in
       sweep_last_unit c (middle (all_swept taken)) (record c { heap = k; run = None }) flown a freed bits names
       (takes (all_swept taken) refl (length-map c.heap.shape.states after_sweep)

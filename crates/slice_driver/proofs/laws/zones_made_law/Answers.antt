@@ -5,7 +5,7 @@ use Rattle.slice_driver.proofs.laws.zones_made_law.Goals as goal
 pub returns : goal.returns
 returns c = λ d flown w zones stands.
     let same : length d.heap.shape.states ≡ w.graph.zones = sym
-    (sym stands.lies.part.part.zones ∙ stands.lies.shown.zones_are) in (
+    (sym stands.placed.lies.part.part.zones ∙ stands.placed.lies.shown.zones_are) in (
       λ made z has. subst (λ (n : ℕ). z < n) same (made z ((zones_in-has zones z).0 has)),
       λ made z has. subst (λ (n : ℕ). z < n) (sym same) (made z ((zones_in-has zones z).1 has)),
     )

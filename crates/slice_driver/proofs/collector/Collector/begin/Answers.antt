@@ -31,7 +31,7 @@ buffer_gray_roots-requires-clause-held g c =
     let rest = at_rest (the_view c.self.inside) c.args.self.now c.self.view_is
     (idle_sound c.args.self.now c.requires.sound.0 c.requires.sound.1) c.running.result c.running.ensures.run
     c.if-running.false in
-    rest.represents.lies.shown.slots_held
+    rest.represents.placed.lies.shown.slots_held
 
 pub buffer_gray_roots-requires-clause-gather : goal.buffer_gray_roots-requires-clause-gather
 buffer_gray_roots-requires-clause-gather g c =

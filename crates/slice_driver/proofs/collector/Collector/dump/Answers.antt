@@ -29,7 +29,8 @@ push_edge_lines-requires-clause-cells g c =
 pub entries_by_name-requires-clause-held : goal.entries_by_name-requires-clause-held
 entries_by_name-requires-clause-held g c =
     let here = ap (λ (z : CollectorState). z.heap) c.self.view_is in
-    subst (λ (h : HeapState). AreEntriesHeld h.shape) (sym here) c.requires.sound.represents.lies.shown.entries_held
+    subst (λ (h : HeapState). AreEntriesHeld h.shape) (sym here)
+    c.requires.sound.represents.placed.lies.shown.entries_held
 
 pub returns-in_err-push_cell_lines-clause-same : goal.returns-in_err-push_cell_lines-clause-same
 returns-in_err-push_cell_lines-clause-same g c w rep =

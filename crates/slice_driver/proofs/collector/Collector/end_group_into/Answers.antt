@@ -91,7 +91,8 @@ returns-clause-done c =
     ∙ ended_pending m here.rest over k ends c.self.inside.stack in
     let listed : Lists (IsGrayHere v.heap group) grays =
     grays_seen h group grays
-    (grays_here h group here.ready.small grays sound.represents.lies.whole sound.represents.lies.shown.apart
+    (grays_here h group here.ready.small grays sound.represents.placed.lies.whole
+    sound.represents.placed.lies.shown.apart
     (gray_present v c.requires.sound.0 here.ready.kept sound) c.in_ok-grays.ensures.moved
     c.in_ok-grays.ensures.sorted) in
     let none : [] ≡ told = sym c.new.ensures in

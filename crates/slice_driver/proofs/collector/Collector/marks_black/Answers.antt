@@ -60,7 +60,8 @@ still g c is = still_sound (the_view c.self.inside) (g.F.Flight.bits c.args.flig
 
 pub weak_unit-requires-clause-invariant : goal.weak_unit-requires-clause-invariant
 weak_unit-requires-clause-invariant g c =
-    (still g (goal.at.weak_unit-requires-clause-invariant g c).After-black_unit c.if-black_unit.false).represents.marks
+    (still g (goal.at.weak_unit-requires-clause-invariant g c).After-black_unit
+    c.if-black_unit.false).represents.coloured.marks
 
 pub returns-then-black_unit-clause-done : goal.returns-then-black_unit-clause-done
 returns-then-black_unit-clause-done g c =

@@ -75,7 +75,8 @@ still g c is = still_sound (the_view c.self.inside) (g.F.Flight.bits c.args.flig
 
 pub weak_unit-requires-clause-invariant : goal.weak_unit-requires-clause-invariant
 weak_unit-requires-clause-invariant g c =
-    (still g (goal.at.weak_unit-requires-clause-invariant g c).After-gray_unit c.if-gray_unit.false).represents.marks
+    (still g (goal.at.weak_unit-requires-clause-invariant g c).After-gray_unit
+    c.if-gray_unit.false).represents.coloured.marks
 
 pub returns-then-gray_unit-clause-tries : goal.returns-then-gray_unit-clause-tries
 returns-then-gray_unit-clause-tries g c =

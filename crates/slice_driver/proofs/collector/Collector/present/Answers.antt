@@ -8,7 +8,8 @@ use Rattle.slice_driver.proofs.collector.Collector.present.Goals as goal
 pub returns-in_default : goal.returns-in_default
 returns-in_default c =
     c.count.ensures ∙ (ap (λ (s : CollectorState). held_in_all s.heap.shape.arenas) c.self.view_is
-    ∙ none_lost_at_all c.args.self.now.heap.shape.arenas c.requires.1.represents.lies.whole c.in_default.ensures.none)
+    ∙ none_lost_at_all c.args.self.now.heap.shape.arenas c.requires.1.represents.placed.lies.whole
+    c.in_default.ensures.none)
 
 pub lost_from-requires-clause-first : goal.lost_from-requires-clause-first
 lost_from-requires-clause-first c =

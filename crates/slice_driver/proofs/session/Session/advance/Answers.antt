@@ -1,8 +1,11 @@
-use Rattle.std.proofs.Common.{◌<◌, IfOk, IsSome, OnErr, arith, sym, subst}
-use Rattle.slice_driver.specs.Sessions.{SessionState, SessionSteps}
+use Rattle.std.proofs.Common.{◌<◌, IfOk, IsSome, OnErr, Result, arith, sym, subst}
+use Rattle.std.specs.declared.alloc.AllocError.{AllocError}
+use Rattle.slice_driver.specs.Accounts.{FreesOn, freed_by}
+use Rattle.slice_driver.specs.Sessions.{SessionState, SessionSteps, session_result}
 use Rattle.slice_driver.specs.Working.{IsAtGroupEnd}
-use Rattle.slice_driver.specs.declared.advance.Step.{Step}
-use Rattle.slice_driver.proofs.marking.Sessions.{no_step_done, ok_steps}
+use Rattle.slice_driver.specs.declared.session.told.SessionStep.{SessionStep}
+use Rattle.slice_driver.proofs.marking.Accounts.{frees_on, idle_on}
+use Rattle.slice_driver.proofs.marking.Sessions.{no_step_done, ok_steps, told_err}
 use Rattle.slice_driver.proofs.session.Session.advance.Goals as goal
 
 pub returns-then-limit-eq0-clause-done : goal.returns-then-limit-eq0-clause-done
@@ -19,17 +22,53 @@ returns-then-not-running-clause-done g c = no_step_done c.none-then-not-running.
     (subst (λ (x : SessionState _). IsSome x.collector.run) (sym c.self.view_is) running) in
     cc (t, c.if-not-running.true)))
 
+pub returns-then-limit-eq0-clause-accounts : goal.returns-then-limit-eq0-clause-accounts
+returns-then-limit-eq0-clause-accounts g c = idle_on AllocError c.args.self.now.collector
+    (g.S.Flight.bits c.args.self.now.sweeper) c.none.result c.args.self.now.report c.none.ensures
+
+pub returns-then-not-running-clause-accounts : goal.returns-then-not-running-clause-accounts
+returns-then-not-running-clause-accounts g c = idle_on AllocError c.args.self.now.collector
+    (g.S.Flight.bits c.args.self.now.sweeper) c.none-then-not-running.result c.args.self.now.report
+    c.none-then-not-running.ensures
+
 pub returns-clause-done : goal.returns-clause-done
 returns-clause-done g c =
     let some : 0 < c.args.limit = omega (arith, c.if-limit-eq0.false) in
     let running = c.running.ensures.run.0 c.if-not-running.false in
+    let after = c.advance-done.new in
     subst
-    (λ (x : SessionState _). IfOk c.advance.result (λ (step : Step). SessionSteps c.args.limit x.collector
-    (g.S.Flight.bits x.sweeper) x.report step c.advance.new.collector (g.S.Flight.bits c.advance.new.sweeper)
-    (g.S.Sweeping.left (g.S.Flight.origin c.advance.new.sweeper)) c.advance.new.report))
-    c.self.view_is (ok_steps _ _ _ _ _ _ _ c.advance.result _ some running c.advance.ensures.done)
+    (λ (r : Result SessionStep AllocError). IfOk r (λ (step : SessionStep). SessionSteps c.args.limit
+    c.args.self.now.collector (g.S.Flight.bits c.args.self.now.sweeper) c.args.self.now.report step after.collector
+    (g.S.Flight.bits after.sweeper) (g.S.Sweeping.left (g.S.Flight.origin after.sweeper)) after.report))
+    (sym c.steps_of.ensures)
+    (subst
+    (λ (x : SessionState _). IfOk (session_result c.advance-done.result after.report) (λ (step : SessionStep).
+    SessionSteps c.args.limit x.collector (g.S.Flight.bits x.sweeper) x.report step after.collector
+    (g.S.Flight.bits after.sweeper) (g.S.Sweeping.left (g.S.Flight.origin after.sweeper)) after.report))
+    c.self.view_is (ok_steps _ _ _ _ _ _ _ c.advance-done.result _ some running c.self.invariant.0
+    c.advance-done.ensures.handed c.advance-done.ensures.done))
+
+pub returns-clause-accounts : goal.returns-clause-accounts
+returns-clause-accounts g c =
+    let after = c.advance-done.new in
+    subst
+    (λ (r : Result SessionStep AllocError). FreesOn c.args.self.now.collector
+    (g.S.Flight.bits c.args.self.now.sweeper) (freed_by r after.report) after.collector
+    (g.S.Flight.bits after.sweeper))
+    (sym c.steps_of.ensures)
+    (subst
+    (λ (x : SessionState _). FreesOn x.collector (g.S.Flight.bits x.sweeper)
+    (freed_by (session_result c.advance-done.result after.report) after.report) after.collector
+    (g.S.Flight.bits after.sweeper))
+    c.self.view_is (frees_on _ _ _ _ _ _ _ _ c.advance-done.result c.advance-done.ensures.done
+    c.advance-done.ensures.err))
 
 pub returns-clause-err_where : goal.returns-clause-err_where
 returns-clause-err_where g c = subst
-    (λ (x : SessionState _). OnErr c.advance.result (IsAtGroupEnd x.collector (g.S.Flight.bits x.sweeper)))
-    c.self.view_is c.advance.ensures.err_where
+    (λ (r : Result SessionStep AllocError). OnErr r (IsAtGroupEnd c.args.self.now.collector
+    (g.S.Flight.bits c.args.self.now.sweeper)))
+    (sym c.steps_of.ensures)
+    (told_err c.advance-done.result c.advance-done.new.report _
+    (subst
+    (λ (x : SessionState _). OnErr c.advance-done.result (IsAtGroupEnd x.collector (g.S.Flight.bits x.sweeper)))
+    c.self.view_is c.advance-done.ensures.err_where))

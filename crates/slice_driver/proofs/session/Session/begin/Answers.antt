@@ -1,8 +1,10 @@
-use Rattle.std.proofs.Common.{◌≡◌, ◌↔◌, inl, inr, Err, None, OnOk, refl, rules, subst}
+use Rattle.std.proofs.Common.{◌≡◌, ◌↔◌, [], inl, inr, Err, None, OnOk, refl, rules, subst}
+use Rattle.slice_driver.specs.Accounts.{FreesOn}
 use Rattle.slice_driver.specs.Begins.{AreMade}
 use Rattle.slice_driver.specs.declared.begin.BeginFault.TheVariants.{NoZone}
 use Rattle.slice_driver.specs.Sessions.{SessionState}
 use Rattle.slice_driver.specs.Units.{BeginsIn, BeginsWithin}
+use Rattle.slice_driver.proofs.marking.Accounts.{begins_on}
 use Rattle.slice_driver.proofs.marking.Sessions.{begin_words}
 use Rattle.slice_driver.proofs.taking_in.TakingDue.{out_kept}
 use Rattle.slice_driver.proofs.session.Session.begin.Goals as goal
@@ -40,3 +42,9 @@ returns-clause-no_zone g c =
         | inr other ↦ same.1 (h.0, other)
       ],
     )
+
+pub returns-clause-accounts : goal.returns-clause-accounts
+returns-clause-accounts g c = subst
+    (λ (x : SessionState _). FreesOn x.collector (g.S.Flight.bits x.sweeper) [] c.begin.new.collector
+    (g.S.Flight.bits c.self.inside.sweeper))
+    c.self.view_is (begins_on _ _ _ c.begin.result c.args.zones.bits c.begin.ensures.begun c.begin.ensures.refused)

@@ -1,16 +1,23 @@
 use Rattle.std.proofs.Common.{◌≡◌, None, Err, refl, sym, subst}
 use Rattle.gz_names.specs.declared.replies.CmdFault.TheVariants as fault
-use Rattle.colour_defs.specs.Step.{refusal_in}
 use Rattle.slice_driver.specs.Commands.{WantsMemory}
 use Rattle.slice_driver.specs.Sessions.{SessionState}
 use Rattle.slice_driver.specs.Units.{DoesCommand, RaisesWithin}
 use Rattle.slice_driver.specs.declared.session.SessionFault.TheVariants as session
-use Rattle.slice_driver.proofs.marking.Sessions.{told_as, told_done, told_ok}
+use Rattle.slice_driver.proofs.marking.Accounts.{gives_on}
+use Rattle.slice_driver.proofs.marking.SessionReports.{graph_reply}
+use Rattle.slice_driver.proofs.marking.Sessions.{told_as, told_done}
 use Rattle.slice_driver.proofs.session.Session.command.Goals as goal
 
 pub command-outcome-requires-clause-few : goal.command-outcome-requires-clause-few
 command-outcome-requires-clause-few g c = c.has_room.ensures.room c.if-not-has_room.false c.self.inside.collector.heap
     (sym c.made.ensures)
+
+pub result_of-requires-clause-graph : goal.result_of-requires-clause-graph
+result_of-requires-clause-graph g c =
+    let after = c.command-outcome.new in
+    graph_reply c.self.inside.collector (g.S.Flight.bits c.self.inside.sweeper) c.args.cmd c.command-outcome.result
+    after.collector (g.S.Flight.bits after.sweeper) c.self.invariant.0 c.command-outcome.ensures.done.done
 
 pub returns-clause-done : goal.returns-clause-done
 returns-clause-done g c =
@@ -32,10 +39,14 @@ returns-clause-to_come g c =
     c.command-outcome.result after.collector (g.S.Flight.bits after.sweeper)) c.self.view_is
     c.command-outcome.ensures.done.to_come)
 
-pub returns-clause-answered : goal.returns-clause-answered
-returns-clause-answered g c = told_ok _ c.command-outcome.result (λ answer. refusal_in answer ≡ None)
-    c.result_of.ensures
-    c.command-outcome.ensures.done.answered
+pub returns-clause-accounts : goal.returns-clause-accounts
+returns-clause-accounts g c =
+    let after = c.command-outcome.new in
+    gives_on c.args.self.now.collector (g.S.Flight.bits c.args.self.now.sweeper) after.collector
+    (g.S.Flight.bits after.sweeper) c.args.cmd _ c.command-outcome.result c.result_of.ensures
+    (subst (λ (x : SessionState _). DoesCommand x.collector (g.S.Flight.bits x.sweeper) c.args.cmd
+    c.command-outcome.result after.collector (g.S.Flight.bits after.sweeper)) c.self.view_is
+    c.command-outcome.ensures.done.done)
 
 pub returns-clause-refused : goal.returns-clause-refused
 returns-clause-refused g c = λ why is.

@@ -1,0 +1,136 @@
+-- The numbers that a session gave, and those that its reports listed as freed, from what its collector does.
+use Rattle.std.proofs.Common.{◌≡◌, ℕ, Bool, true, false, List, [], ◌∷◌, ◌++◌, append-nil, cond, Option, Some, None}
+use Rattle.std.proofs.Common.{Result}
+use Rattle.std.proofs.Common.{Ok, Err, IfOk, OnErr, OnOk, refl, sym, ap, ◌∙◌, subst}
+use Rattle.std.specs.List.{flat_map}
+use Rattle.gz_names.specs.Zones.{zones_in}
+use Rattle.gz_names.specs.declared.commands.GraphCmd.{GraphCmd}
+use Rattle.gz_names.specs.declared.names.Name.{Name}
+use Rattle.gz_names.specs.declared.replies.CmdFault.{CmdFault}
+use Rattle.gz_names.specs.declared.replies.CmdFault.TheVariants as fault
+use Rattle.gz_names.specs.declared.replies.Reply.{Reply}
+use Rattle.gz_names.specs.declared.replies.Report.{Report}
+use Rattle.gz_names.specs.declared.replies.Report.TheVariants as report
+use Rattle.cell_bits.specs.declared.bits.Bits.{Bits}
+use Rattle.cell_bits.specs.declared.jobs.Job.{Job}
+use Rattle.colour_defs.specs.Lawful.{at_once}
+use Rattle.colour_defs.specs.World.{World, first_world}
+use Rattle.colour_defs.proofs.ValidCommands.{command_valid}
+use Rattle.colour_defs.proofs.ValidRuns.{first_valid}
+use Rattle.collection_laws.specs.Numbers.{IsAccounted, freed_in}
+use Rattle.collection_laws.proofs.Accounts.{beginning_accounts, command_accounts, first_accounts, units_accounts}
+use Rattle.sweeping.specs.ArenasOut.{flown_by}
+use Rattle.slice_driver.specs.Accounts.{Accounts, FreesOn, GivesOn, freed_by, freed_by_report}
+use Rattle.slice_driver.specs.Advances.{Advances}
+use Rattle.slice_driver.specs.Collector.{CollectorState}
+use Rattle.slice_driver.specs.Represents.{Represents}
+use Rattle.slice_driver.specs.Sessions.{as_reply, kind_of, no_step, outcome_of, session_result}
+use Rattle.slice_driver.specs.Units.{AnswersIn, BeginsIn, DoesCommand, none_flown, reports_of, with_done}
+use Rattle.slice_driver.specs.Working.{IsStill}
+use Rattle.slice_driver.specs.declared.advance.Step.{Step}
+use Rattle.slice_driver.specs.declared.session.SessionFault.{SessionFault}
+use Rattle.slice_driver.specs.declared.session.SessionFault.TheVariants as session
+use Rattle.slice_driver.specs.declared.session.told.SessionReply.{SessionReply}
+use Rattle.slice_driver.specs.declared.session.told.SessionStep.{SessionStep}
+use Rattle.slice_driver.proofs.abstraction.Named.{some_one}
+use Rattle.slice_driver.proofs.marking.Sessions.{new_first}
+
+pub new_accounts : (c : CollectorState) (jobs : List Job) → jobs ≡ [] → Represents c none_flown first_world
+    → Accounts c (flown_by jobs) 0 []
+new_accounts c jobs is rep = record {
+  world = first_world;
+  valid = first_valid;
+  represents = new_first c jobs is rep;
+  accounted = first_accounts;
+}
+
+module _ (c : CollectorState) (f : ℕ → Option Bits) (d : CollectorState) (g : ℕ → Option Bits) where
+  pub gives_on : (cmd : GraphCmd) (r : Result SessionReply SessionFault) (o : Result Reply CmdFault)
+      → outcome_of r ≡ Some o → DoesCommand c f cmd o d g → GivesOn c f r d g
+  gives_on cmd (Ok answer) o is does given freed a =
+      let did : AnswersIn a.world cmd (Ok (as_reply answer)) d g =
+      subst (λ (x : Result Reply CmdFault). AnswersIn a.world cmd x d g) (sym (some_one _ _ is))
+      (does a.world a.valid a.represents) in
+      let next = command_accounts a.world cmd (as_reply answer) did.0 given freed a.valid a.accounted did.1 in (
+        next.0,
+        record {
+          world = did.0;
+          valid = command_valid a.world did.0 cmd (as_reply answer) a.valid did.1;
+          represents = did.2;
+          accounted = next.1;
+        },
+      )
+  gives_on cmd (Err (session.Refused why)) o is does given freed a =
+      let did : AnswersIn a.world cmd (Err (fault.Refused why)) d g =
+      subst (λ (x : Result Reply CmdFault). AnswersIn a.world cmd x d g) (sym (some_one _ _ is))
+      (does a.world a.valid a.represents) in
+      (tt, record { world = a.world; valid = a.valid; represents = did.1; accounted = a.accounted })
+  gives_on cmd (Err session.NoMemory) o is does given freed a =
+      let did : AnswersIn a.world cmd (Err fault.NoMemory) d g =
+      subst (λ (x : Result Reply CmdFault). AnswersIn a.world cmd x d g) (sym (some_one _ _ is))
+      (does a.world a.valid a.represents) in
+      (tt, record { world = a.world; valid = a.valid; represents = did; accounted = a.accounted })
+  gives_on cmd (Err session.Full) o is does given freed a = absurd (cc is)
+
+  -- nothing is listed as freed, and each world stays
+  pub stays_on : d ≡ c → ((w : World) → Represents c f w → Represents c g w) → FreesOn c f [] d g
+  stays_on same worlds given freed a =
+      subst (λ (x : CollectorState). Accounts x g given (freed ++ [])) (sym same) (record {
+        world = a.world;
+        valid = a.valid;
+        represents = worlds a.world a.represents;
+        accounted = subst (λ (l : List Name). IsAccounted a.world given l) (sym (append-nil freed)) a.accounted;
+      })
+
+pub begins_on : {T E : Type 0} (c : CollectorState) (f : ℕ → Option Bits) (d : CollectorState) (r : Result T E)
+    (zones : ℕ) → OnOk r (BeginsIn c zones d) → OnErr r (d ≡ c) → FreesOn c f [] d f
+begins_on c f d (Ok done) zones begun same given freed a =
+    let b = begun f a.world a.valid a.represents in
+    record {
+      world = b.0;
+      valid = b.2;
+      represents = b.3;
+      accounted = subst (λ (l : List Name). IsAccounted b.0 given l) (sym (append-nil freed))
+          (beginning_accounts at_once a.world (zones_in (record { bits = zones })) b.0 given freed b.1 a.accounted);
+    }
+begins_on c f d (Err why) zones begun same given freed a = stays_on c f d f same (λ w rep. rep) given freed a
+
+-- what a step lists as freed
+done_tells : (f : Bool) → freed_in (with_done f) ≡ []
+done_tells true = refl
+done_tells false = refl
+
+tells : (b : Bool) (now : Option Report) (f : Bool)
+    → freed_in (cond b (reports_of now f) []) ≡ freed_by_report (cond b (kind_of now) None) now
+tells false now f = refl
+tells true None f = refl
+tells true (Some report.Started) f = done_tells f
+tells true (Some (report.Groups groups)) f = done_tells f
+tells true (Some (report.Ended zones grays dead)) f = done_tells f
+tells true (Some (report.Swept arena names)) f = ap (λ (l : List Name). names ++ l) (done_tells f) ∙ append-nil names
+tells true (Some report.Done) f = done_tells f
+tells true (Some (report.Stopped zones)) f = done_tells f
+
+pub frees_on : {E : Type 0} (limit : ℕ) (c : CollectorState) (f : ℕ → Option Bits) (before : Option Report)
+    (d : CollectorState) (g : ℕ → Option Bits) (outs : List (ℕ × ℕ)) (now : Option Report) (r : Result Step E)
+    → IfOk r (λ (step : Step). Advances limit c f before step d g outs now) → OnErr r (IsStill c f d g)
+    → FreesOn c f (freed_by (session_result r now) now) d g
+frees_on limit c f before d g outs now (Ok step) done still given freed a =
+    let u = done.done a.world a.valid a.represents in
+    record {
+      world = u.after;
+      valid = u.valid;
+      represents = u.represents;
+      accounted = subst (λ (l : List Name). IsAccounted u.after given (freed ++ l))
+          (ap freed_in u.reports_are ∙ tells step.reported now step.finished)
+          (units_accounts a.world u.units u.after given freed u.done a.accounted);
+    }
+frees_on limit c f before d g outs now (Err why) done still given freed a =
+    stays_on c f d g still.same still.worlds given freed a
+
+-- no unit was done
+pub idle_on : (E : Type 0) (c : CollectorState) (f : ℕ → Option Bits) (step : SessionStep) (now : Option Report)
+    → step ≡ no_step → FreesOn c f (freed_by {E = E} (Ok step) now) c f
+idle_on E c f step now is =
+    subst (λ (s : SessionStep). FreesOn c f (freed_by_report s.report now) c f) (sym is)
+    (stays_on c f c f refl (λ w rep. rep))

@@ -1,0 +1,54 @@
+// What went wrong, in words.
+use super::SessionFault;
+use crate::begin::BeginFault;
+use gz_names::Refusal;
+use std::alloc::AllocError;
+use std::fmt::{self, Display, Formatter, Write};
+
+impl From<AllocError> for SessionFault {
+    ghost use Rattle.std.specs.Prelude.{◌≡◌};
+    ghost use Rattle.slice_driver.specs.declared.session.SessionFault.TheVariants.{NoMemory};
+
+    ghost from_gives = { λ _ fault. fault ≡ NoMemory };
+
+    fn from(_error: AllocError) -> Self {
+        SessionFault::NoMemory
+    }
+}
+
+impl Display for SessionFault {
+    fn fmt<W: Write>(&self, f: &mut Formatter<W>) -> fmt::Result {
+        match self {
+            SessionFault::Refused(why) => f.write_str(refusal_words(*why)),
+            SessionFault::Full => f.write_str("the most cells were made: 4,294,967,295"),
+            SessionFault::NoMemory => f.write_str("out of memory"),
+        }
+    }
+}
+
+impl Display for BeginFault {
+    fn fmt<W: Write>(&self, f: &mut Formatter<W>) -> fmt::Result {
+        match self {
+            BeginFault::Running => f.write_str(refusal_words(Refusal::Running)),
+            BeginFault::NoZone => f.write_str(refusal_words(Refusal::NoZone)),
+            BeginFault::NoMemory => f.write_str("out of memory"),
+        }
+    }
+}
+
+/// Why a command is refused.
+pub fn refusal_words(why: Refusal) -> &'static str {
+    match why {
+        Refusal::Full => "the most zones or compartments are there",
+        Refusal::NoZone => "a zone is not made, or none is named",
+        Refusal::NoComp => "the compartment is not made",
+        Refusal::Empty => "a register that is read is empty",
+        Refusal::Kind => "a cell is of another kind",
+        Refusal::NoField => "the object has no such field",
+        Refusal::Cross => "two cells are of different compartments",
+        Refusal::WrapperKey => "the key is a wrapper",
+        Refusal::Running => "a collection runs",
+        Refusal::Idle => "no collection runs",
+        Refusal::Marking => "a zone is marking",
+    }
+}
