@@ -17,11 +17,13 @@
 // Each table goes on to the first k that fails no more, and that replay must be over after all lines. In one trace a
 // key is gray and its map black, and a collection is one line. In the other, arenas are out between two lines when a
 // gray object is exposed; so helpers sweep, and stop, at faults in every line of a collection in slices. The sink fails
-// in a third one too, in which the arenas of two zones are out at once. A check of a dump has such a table as well.
+// in a third one too, in which the arenas of two zones are out at once, and two helpers sweep: one may start for each
+// arena here, and in the program for each 1,024. A check of a dump has such a table as well.
 //
 // Beside the tables stand the other tests that need a source, a sink, a gate or an allocator of their own:
 //
-//     gates      a gate holds helpers up: they still sweep what is printed, and what is written stays the same
+//     gates      a gate holds helpers up: they still sweep what is printed, four of them at once, and what is written
+//                stays the same
 //     devices    a reader goes on after a fault, and a sink that holds bytes back writes each of them once
 //     again      a step of a session that ran out of memory is taken again (tools/check-faults refuses each growth)
 //     texts      what no trace can show: texts of exits, of replies that no line gets yet, and of the largest numbers

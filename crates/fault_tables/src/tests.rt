@@ -3,7 +3,7 @@ mod devices;
 mod gates;
 mod texts;
 
-use gz_io::{Buffered, FreeGate, MemSink, MemSource};
+use gz_io::{Buffered, FreeGate, MemSink, MemSource, Sink};
 use std::alloc::Global;
 use std::process::Abort;
 use std::sync::Wait;
@@ -95,6 +95,9 @@ const ROWS: [Row; 2] = [GRAY_KEY, GRAY_OBJECT];
 // How many helpers sweep.
 const HELPERS: [&str; 2] = ["0", "2"];
 
+// Each arena that is out may have a helper of its own, so that as many start as the words ask for.
+const ARENAS_A_HELPER: usize = 1;
+
 // The lines of a row, one after the other.
 fn trace_of(alloc: Global, row: Row) -> Result<Vec<u8>, Fail> {
     let mut bytes = Vec::new(alloc);
@@ -121,6 +124,17 @@ fn outcome(exit: Exit, written: &[u8], answers: &[u8]) -> Option<(Exit, usize)> 
     Some((exit, written.len()))
 }
 
+// Does what the words ask for, with this source and sink.
+fn replay_in_memory<R: Threads + Wait + Sync, K: Sink + Send>(
+    rt: &R,
+    alloc: Global,
+    words: &[&str],
+    source: &mut MemSource<'_>,
+    sink: &mut K,
+) -> Exit {
+    replay(rt, alloc, words, ARENAS_A_HELPER, source, sink, &FreeGate)
+}
+
 // Replays a trace in pieces of one byte, where these calls of the source and of the sink fail.
 fn run<R: Threads + Wait + Sync>(
     rt: &R,
@@ -132,7 +146,7 @@ fn run<R: Threads + Wait + Sync>(
     let mut source = MemSource::new(trace, 1, reads);
     let mut sink = MemSink::new(Vec::new(alloc), 1, writes);
     let words = ["gczone", "run", "--helpers", helpers];
-    let exit = replay(rt, alloc, &words, &mut source, &mut sink, &FreeGate);
+    let exit = replay_in_memory(rt, alloc, &words, &mut source, &mut sink);
     outcome(exit, sink.bytes(), answers)
 }
 
@@ -147,7 +161,7 @@ fn run_held_back<R: Threads + Wait + Sync>(
     let mut source = MemSource::new(trace, 1, reads);
     let mut sink = Buffered::new(MemSink::new(Vec::new(alloc), 1, writes));
     let words = ["gczone", "run", "--helpers", helpers];
-    let exit = replay(rt, alloc, &words, &mut source, &mut sink, &FreeGate);
+    let exit = replay_in_memory(rt, alloc, &words, &mut source, &mut sink);
     outcome(exit, sink.inner().bytes(), answers)
 }
 
@@ -321,14 +335,8 @@ fn check_dump<R: Threads + Wait + Sync>(
 ) -> Option<(Exit, usize)> {
     let mut source = MemSource::new(DUMP, 1, reads);
     let mut sink = MemSink::new(Vec::new(alloc), 1, writes);
-    let exit = replay(
-        rt,
-        alloc,
-        &["gczone", "check"],
-        &mut source,
-        &mut sink,
-        &FreeGate,
-    );
+    let words = ["gczone", "check"];
+    let exit = replay_in_memory(rt, alloc, &words, &mut source, &mut sink);
     outcome(exit, sink.bytes(), VERDICT)
 }
 

@@ -11,6 +11,10 @@ use std::io::ErrorKind;
 use std::process::ExitCode;
 use trace_cli::{Exit, replay};
 
+// For each 1,024 arenas begun one helper at most starts: starting a thread takes longer than sweeping some hundred
+// arenas (our choice).
+const ARENAS_A_HELPER: usize = 1_024;
+
 // The arguments. Some that are no text are no words that the program takes.
 fn arguments(rt: &HostRuntime) -> Result<Vec<String>, Exit> {
     match env::args(rt) {
@@ -35,6 +39,7 @@ fn main(rt: HostRuntime) -> ExitCode {
                     &rt,
                     alloc,
                     words.as_slice(),
+                    ARENAS_A_HELPER,
                     &mut source,
                     &mut sink,
                     &FreeGate,

@@ -16,7 +16,7 @@ use Rattle.heap_core.specs.Heap.{HeapState}
 use Rattle.slice_driver.specs.Collector.{CollectorState, RunState, heap_with}
 use Rattle.slice_driver.specs.Represents.{Represents, RunsAs}
 use Rattle.slice_driver.specs.UnitsToCome.{IsWithin}
-use Rattle.slice_driver.specs.Worlds.{LiesIn}
+use Rattle.slice_driver.proofs.basics.Worlds.{placed_running}
 use Rattle.trace_cli.specs.Headline.{report_lines, answer_lines, IsAccepted, WritesAnswer, WritesFront, WritesStart}
 use Rattle.trace_cli.specs.Starting.{RunsWithin}
 use Rattle.trace_cli.specs.Writing.{reports_in, BreaksInUnits, StopsInUnits, WritesUnits}
@@ -34,20 +34,6 @@ idle_spent n w idle = record {
 marking_spent : (n : ℕ) (o : Option Collection) → marking_of (with_spent n o) ≡ marking_of o
 marking_spent n None = refl
 marking_spent n (Some k) = refl
-
-lies_spent : (h : HeapState) (w : World) (n : ℕ) → LiesIn h w → LiesIn h (spent n w)
-lies_spent h w n l = record {
-  whole = l.whole;
-  graph = l.graph;
-  shown = l.shown;
-  part = record { well_formed = l.part.well_formed; part = l.part.part; here = l.part.here };
-  places_are = l.places_are;
-  owner_is = l.owner_is;
-  out_is = l.out_is;
-  white_are = l.white_are;
-  weak_is = l.weak_is;
-  calm = ap (with_spent_preparing n) l.calm;
-}
 
 runs_spent : (h : HeapState) (c : CollectorState) (w : World) (n : ℕ) (o : Option RunState) (u : Option Collection)
     → RunsAs h c w o u → RunsAs h c (spent n w) o (with_spent n u)
@@ -92,24 +78,22 @@ runs_spent h c w n (Some r) (Some k) i = record {
     looked = l.looked;
     left_black = l.left_black;
   });
-  late = i.late;
 }
 
 represents_spent : (c : CollectorState) (f : ℕ → Option Bits) (w : World) (n : ℕ) → Represents c f w → Represents c f
     (spent n w)
 represents_spent c f w n r = record {
-  delayed = r.delayed;
-  lies = lies_spent c.heap w n r.lies;
-  unswept_apart = r.unswept_apart;
-  flies = r.flies;
-  marks = r.marks;
-  gray = r.gray;
-  waits = r.waits;
-  black = λ settled. r.black (record {
-    none_marking = sym (marking_spent n w.collection) ∙ settled.none_marking;
-    none_preparing = r.lies.calm;
-  });
-  runs = runs_spent (heap_with c f) c w n c.run w.collection r.runs;
+  placed = placed_running c.heap w (with_spent n w.collection) (with_spent_preparing n w.preparing) r.placed;
+  swept = r.swept;
+  coloured = r.coloured;
+  phase = record {
+    calm = ap (with_spent_preparing n) r.phase.calm;
+    black = λ settled. r.phase.black (record {
+      none_marking = sym (marking_spent n w.collection) ∙ settled.none_marking;
+      none_preparing = r.phase.calm;
+    });
+    runs = runs_spent (heap_with c f) c w n c.run w.collection r.phase.runs;
+  };
 }
 
 -- units of a collection that ran, in a slice

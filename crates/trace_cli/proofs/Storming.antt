@@ -239,7 +239,7 @@ storm_left seed lines output w c flown leads rep ok =
     (subst (λ (cs : List Cmd). All IsNoWeakCmd cs) of.commands_are plain) in
     let end = run_collected beginning (with_zones of.between) leads.answers w of.zones first
     (all_named of.between (zones_in of.zones) of.none_made of.zones_are) run in
-    let idle = run_idle (heap_with c flown) c w c.run w.collection rep.runs end.0.idle.none_running in
+    let idle = run_idle (heap_with c flown) c w c.run w.collection rep.phase.runs end.0.idle.none_running in
     record {
       commands = leads.commands;
       stand = leads.stand;
@@ -314,7 +314,7 @@ module _ (seed lines : ℕ) (c : CollectorState) (h : IsLeftByStorm seed lines c
 
   pub storm_cells : c.heap.shape.objects ≡ length (graph_after empty_graph h.commands).objects
   storm_cells =
-      sym h.represents.lies.shown.objects_made ∙ h.represents.lies.part.part.made
+      sym h.represents.placed.lies.shown.objects_made ∙ h.represents.placed.lies.part.part.made
       ∙ ap (λ (g : GraphState). length g.objects) h.graph_is
 
   pub storm_kept : Counts (IsKept (graph_after empty_graph h.commands)) (present_in_all c.heap.shape.arenas)

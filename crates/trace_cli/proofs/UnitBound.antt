@@ -53,11 +53,11 @@ pub runs_within : (c : CollectorState) (flown : ℕ → Option Bits) (w : World)
 runs_within c flown w stands (inl k) within = record {
   collection = k.0;
   running = k.1;
-  none_prepared = stands.lies.calm;
+  none_prepared = stands.phase.calm;
   within = within k.0 k.1;
 }
 runs_within c flown w stands (inr p) within =
-    absurd (let none = stands.lies.calm in let some = p.1 in cc (none, some))
+    absurd (let none = stands.phase.calm in let some = p.1 in cc (none, some))
 
 -- the collection after a command, and its tally
 wakes_collection : (w : World) (o : Option Collection) (zones : List ℕ) (g : GraphState) (x : Name) (v : World)
@@ -131,7 +131,7 @@ module _ (c d : CollectorState) (f g : ℕ → Option Bits) (command : GraphCmd)
   pub accepted_within : (answer : Reply) → r ≡ Ok answer → refusal_in answer ≡ None → (v : World)
       → CommandInWorld w command answer v → IsWithin d g v
   accepted_within answer e taken v done k running =
-      let was = command_tally w command answer v stands.lies.calm taken done k running in
+      let was = command_tally w command answer v stands.phase.calm taken done k running in
       let j = was.0 in
       let after = tally_after w.graph command j in
       let same : after.spent ≡ j.tally.spent =

@@ -30,17 +30,16 @@ use std::thread::Threads;
 use sweep_beside::{Works, sweep_beside};
 use sweeping::MainSweeper;
 
-// For each 1,024 arenas begun one helper at most starts: starting a thread takes longer than sweeping some hundred
-// arenas (our choice).
-const ARENAS_A_HELPER: usize = 1_024;
-
 /// What a replay is lent: threads and memory, how many helpers sweep, and the gate that they pass.
 #[derive(Drop)]
 pub struct Resources<'r, R, G> {
     pub rt: &'r R,
     pub alloc: Global,
     pub helpers: Helpers,
+    /// For how many arenas begun one helper at most starts.
+    pub arenas_a_helper: usize,
     pub gate: &'r G,
+    ghost some: { 0 < arenas_a_helper },
 }
 
 // Goes on until the replay is over: over no arenas, or beside the helpers that sweep those that were handed out.
@@ -78,7 +77,7 @@ fn run_on<
                     resources.alloc,
                     jobs,
                     count,
-                    ARENAS_A_HELPER,
+                    resources.arenas_a_helper,
                     resources.gate,
                     replaying,
                 )
@@ -149,24 +148,29 @@ fn answer_lines<
         reader: LineReader::new(),
         source,
     };
-    answer_all::<L, R, TraceSource<'_, S>, K, G>(
+    let exit = answer_all::<L, R, TraceSource<'_, S>, K, G>(
         resources,
         &mut machine,
         &mut commands,
         sink,
         blank,
-    )
+    );
+    drop(machine);
+    exit
 }
 
-/// Replays a trace, or checks a dump of colours. The words are the command line's, the program's name first.
+/// Replays a trace, or checks a dump of colours. The words are the command line's, the program's name first. Of the
+/// helpers that they ask for no more start than one for each `arenas_a_helper` arenas begun.
 pub fn replay<R: Threads + Wait + Sync, S: Source + Send, K: Sink + Send, G: Gate + Sync>(
     rt: &R,
     alloc: Global,
     words: &[&str],
+    arenas_a_helper: usize,
     source: &mut S,
     sink: &mut K,
     gate: &G,
 ) -> Exit
+    requires some { 0 < arenas_a_helper }
     ensures lawful { (IsCheck (map (λ w. w.now) words.now) → ⊥) → (IsStorm (map (λ w. w.now) words.now) → ⊥)
         → Replays (S.left source.old) (S.left source.new) (K.written sink.old) (K.written sink.new) result }
     ensures storm { (seed lines : ℕ) → IsStormOf (map (λ w. w.now) words.now) seed lines
@@ -198,6 +202,7 @@ pub fn replay<R: Threads + Wait + Sync, S: Source + Send, K: Sink + Send, G: Gat
                 rt,
                 alloc,
                 helpers: Helpers::of(words, helpers),
+                arenas_a_helper,
                 gate,
             };
             answer_lines::<Brand, R, S, K, G>(&resources, source, sink, Blank::new(1))
@@ -213,6 +218,7 @@ pub fn replay<R: Threads + Wait + Sync, S: Source + Send, K: Sink + Send, G: Gat
                 rt,
                 alloc,
                 helpers: Helpers::of(words, helpers),
+                arenas_a_helper,
                 gate,
             };
             answer_storm::<Brand, R, K, G>(&resources, seed, lines, sink, Blank::new(1))

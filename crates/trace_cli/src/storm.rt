@@ -134,7 +134,9 @@ fn sum_up<L: Ledger + Send, R: Threads + Wait + Sync, G: Gate + Sync>(
     let Ok(mut machine) = Machine::new(resources.alloc) else {
         return Err(Exit::NoMemory);
     };
-    run_storm::<L, R, G>(resources, &mut machine, seed, lines, blank)
+    let summary = run_storm::<L, R, G>(resources, &mut machine, seed, lines, blank);
+    drop(machine);
+    summary
 }
 
 /// Replays the trace of a storm, drops the answers, and writes its summary.

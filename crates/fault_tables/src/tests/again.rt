@@ -2,8 +2,8 @@
 ghost use Rattle.std.specs.Prelude.{All};
 ghost use Rattle.colour_defs.specs.Step.{HasFewFields};
 
-use gz_names::{CompNo, GraphCmd, GrayNo, Name, Reg, Report, ZoneNo, ZoneSet};
-use slice_driver::Session;
+use gz_names::{CompNo, GraphCmd, GrayNo, Name, Reg, ZoneNo, ZoneSet};
+use slice_driver::{Session, SessionReport, SessionStep};
 use std::alloc::Global;
 use std::test::Fail;
 use sweeping::MainSweeper;
@@ -77,12 +77,12 @@ fn begin_with_garbage(session: &mut Session<MainSweeper>) -> Option<()> {
     begin_in_both(session)
 }
 
-// Does a step of a collection, again if it runs out of memory: whether it reported something.
-fn step_or_again(session: &mut Session<MainSweeper>) -> Option<bool> {
+// Does a step of a collection, again if it runs out of memory.
+fn step_or_again(session: &mut Session<MainSweeper>) -> Option<SessionStep> {
     if let Ok(step) = session.advance(1000) {
-        return Some(step.reported);
+        return Some(step);
     }
-    Some(session.advance(1000).ok()?.reported)
+    session.advance(1000).ok()
 }
 
 // Keeps names, again if it runs out of memory.
@@ -100,12 +100,16 @@ struct Reported {
     freed: Vec<Name>,
 }
 
-// Keeps the names of the last report.
-fn keep_names(session: &Session<MainSweeper>, reported: &mut Reported) -> Option<()> {
-    match session.report() {
-        Some(Report::Ended(_, grays, _)) => keep_or_again(&mut reported.grays, grays.as_slice()),
-        Some(Report::Swept(_, names)) => keep_or_again(&mut reported.freed, names.as_slice()),
-        _ => Some(()),
+// Keeps the names that a step reported.
+fn keep_names(
+    session: &Session<MainSweeper>,
+    step: SessionStep,
+    reported: &mut Reported,
+) -> Option<()> {
+    match step.report {
+        Some(SessionReport::Ended(_)) => keep_or_again(&mut reported.grays, session.names()),
+        Some(SessionReport::Swept(_)) => keep_or_again(&mut reported.freed, session.names()),
+        Some(SessionReport::Groups) | None => Some(()),
     }
 }
 
@@ -115,9 +119,8 @@ fn collect_names(session: &mut Session<MainSweeper>, reported: &mut Reported) ->
         if !session.running() {
             return Some(());
         }
-        if step_or_again(session)? {
-            keep_names(session, reported)?;
-        }
+        let step = step_or_again(session)?;
+        keep_names(session, step, reported)?;
     }
     None
 }

@@ -1,6 +1,8 @@
-// Helpers that a gate holds up: they sweep what is printed, and what is written does not depend on them.
+// Helpers that a gate holds up: they sweep what is printed, as many as the words ask for, and what is written does not
+// depend on them.
 ghost use Rattle.std.specs.Prelude.{None};
 
+use crate::tests::ARENAS_A_HELPER;
 use gz_io::{Failed, Gate, MemSink, MemSource, Point, Sink};
 use std::alloc::Global;
 use std::process::Abort;
@@ -32,6 +34,21 @@ const WAKE_ANSWERS: &[u8] = b"zone 0\ncomp 0\ncell 0\nok\nok\ngc ok\n\
 // The line of `WAKE_ANSWERS`, counted from 1, that answers `expose`.
 const EXPOSED: u64 = 14;
 
+// A ring over four zones that nothing holds. The slice ends with the group of all four, whose arenas are out then.
+const RING: &[u8] = b"zone\nzone\nzone\nzone\ncomp 0\ncomp 1\ncomp 2\ncomp 3\n\
+    new r0 0 1\nnew r1 1 1\nnew r2 2 1\nnew r3 3 1\n\
+    wrap r4 r1 0\nset r0 0 r4\nwrap r4 r2 1\nset r1 0 r4\nwrap r4 r3 2\nset r2 0 r4\nwrap r4 r0 3\nset r3 0 r4\n\
+    drop r0\ndrop r1\ndrop r2\ndrop r3\ndrop r4\n\
+    gc 0 1 2 3\nslice 13\ncolours\nfinish\n";
+
+const RING_ANSWERS: &[u8] = b"zone 0\nzone 1\nzone 2\nzone 3\ncomp 0\ncomp 1\ncomp 2\ncomp 3\n\
+    cell 0\ncell 1\ncell 2\ncell 3\n0:1\nok\n1:2\nok\n2:3\nok\n3:0\nok\nok\nok\nok\nok\nok\ngc ok\n\
+    groups 0 1 2 3\nended 0 1 2 3 gray -\nslice 13\ngray -\n\
+    swept 0 0 0:1\nswept 1 1 1:2\nswept 2 2 2:3\nswept 3 3 3:0\ndone\nslice 4\n";
+
+// The line of `RING_ANSWERS`, counted from 1, that answers `colours`.
+const LISTED: u64 = 30;
+
 // A gate that yields often.
 struct SlowGate;
 
@@ -43,14 +60,33 @@ impl Gate for SlowGate {
     }
 }
 
+// Replays a trace beside helpers that yield often.
+fn check_slow<R: Abort + Threads + Wait + Sync>(
+    rt: &R,
+    alloc: Global,
+    words: &[&str],
+    (trace, answers): (&[u8], &[u8]),
+) {
+    let mut source = MemSource::new(trace, 64, &[]);
+    let mut sink = MemSink::new(Vec::new(alloc), 64, &[]);
+    let ended = replay(
+        rt,
+        alloc,
+        words,
+        ARENAS_A_HELPER,
+        &mut source,
+        &mut sink,
+        &SlowGate,
+    );
+    assert_eq!(rt; ended, Exit::Done);
+    assert_eq!(rt; sink.bytes(), answers);
+}
+
 #[test]
 fn helpers_may_be_slow(rt: HostRuntime) -> Result<(), Fail> {
-    for words in BESIDE {
-        let mut source = MemSource::new(WAKE, 64, &[]);
-        let mut sink = MemSink::new(Vec::new(rt.alloc()), 64, &[]);
-        let ended = replay(&rt, rt.alloc(), &words, &mut source, &mut sink, &SlowGate);
-        assert_eq!(rt; ended, Exit::Done);
-        assert_eq!(rt; sink.bytes(), WAKE_ANSWERS);
+    for words in &BESIDE {
+        check_slow(&rt, rt.alloc(), words, (WAKE, WAKE_ANSWERS));
+        check_slow(&rt, rt.alloc(), words, (RING, RING_ANSWERS));
     }
     Ok(())
 }
@@ -162,7 +198,15 @@ fn check_meeting<R: Abort + Threads + Wait + Sync>(rt: &R, alloc: Global, words:
         is_s: false,
         swept: None,
     };
-    let ended = replay(rt, alloc, words, &mut source, &mut watch, &meeting);
+    let ended = replay(
+        rt,
+        alloc,
+        words,
+        ARENAS_A_HELPER,
+        &mut source,
+        &mut watch,
+        &meeting,
+    );
     assert_eq!(rt; ended, Exit::Done);
     assert_eq!(rt; watch.swept, Some(1));
     assert_eq!(rt; meeting.gave_up.load(SeqCst), 0);
@@ -173,5 +217,100 @@ fn a_helper_sweeps_what_is_printed(rt: HostRuntime) -> Result<(), Fail> {
     for words in &BESIDE[1..] {
         check_meeting(&rt, rt.alloc(), words);
     }
+    Ok(())
+}
+
+// A gate at which each helper waits until four were there, or gives up.
+#[derive(Drop)]
+struct FourMeet {
+    arrived: AtomicU64,
+    gave_up: AtomicU64,
+}
+
+impl FourMeet {
+    fn new() -> Self {
+        FourMeet {
+            arrived: AtomicU64::new(0),
+            gave_up: AtomicU64::new(0),
+        }
+    }
+
+    fn wait_for_four(&self) {
+        for _ in 0..1_000_000 {
+            if self.arrived.load(SeqCst) >= 4 {
+                return;
+            }
+            yield_now();
+        }
+        self.gave_up.store(1, SeqCst);
+    }
+}
+
+impl Gate for FourMeet {
+    fn at(&self, _point: Point, _arena: u32) {
+        self.arrived.fetch_add(1, SeqCst);
+        self.wait_for_four();
+    }
+}
+
+// A sink that waits at the answer to `colours`, behind the end of the group, until four helpers are at the gate.
+#[derive(Drop)]
+struct WaitForFour<'m> {
+    meeting: &'m FourMeet,
+    lines: u64,
+}
+
+impl<'m> WaitForFour<'m> {
+    fn end_line(&mut self) {
+        self.lines = self.lines.saturating_add(1);
+        if self.lines == LISTED {
+            self.meeting.wait_for_four();
+        }
+    }
+}
+
+impl<'m> Sink for WaitForFour<'m> {
+    ghost written = { λ _. None };
+
+    ghost faults = { λ _. 0 };
+
+    ghost behind = { λ _. 0 };
+
+    fn put(&mut self, piece: &[u8]) -> Result<usize, Failed> {
+        for byte in piece {
+            if *byte == b'\n' {
+                self.end_line();
+            }
+        }
+        Ok(piece.len())
+    }
+
+    fn flush(&mut self) -> Result<(), Failed> {
+        Ok(())
+    }
+}
+
+// No helper leaves the gate before four are there, and main takes no arena in before that: so four helpers sweep at
+// once, an arena each.
+#[test]
+fn four_helpers_sweep_at_once(rt: HostRuntime) -> Result<(), Fail> {
+    let meeting = FourMeet::new();
+    let mut source = MemSource::new(RING, 64, &[]);
+    let mut sink = WaitForFour {
+        meeting: &meeting,
+        lines: 0,
+    };
+    let ended = replay(
+        &rt,
+        rt.alloc(),
+        &BESIDE[3],
+        ARENAS_A_HELPER,
+        &mut source,
+        &mut sink,
+        &meeting,
+    );
+    assert_eq!(rt; ended, Exit::Done);
+    assert_eq!(rt; meeting.gave_up.load(SeqCst), 0);
+    assert_eq!(rt; meeting.arrived.load(SeqCst), 4);
     Ok(())
 }

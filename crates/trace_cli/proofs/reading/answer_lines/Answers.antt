@@ -6,4 +6,4 @@ pub returns-in_default : goal.returns-in_default
 returns-in_default g c = over_at_once _ _ _ _ _ _ _ _ c.end_so.ensures.kept c.end_so.ensures.cause
 
 pub returns : goal.returns
-returns g c = let over = c.answer_all.ensures.ended.over in search rules
+returns g c = let over = c.answer_all-exit.ensures.ended.over in search rules
