@@ -7,22 +7,26 @@
 
 ghost use Rattle.colour_defs.specs.Step.{HasFewFields};
 
-use gz_names::{CompNo, GraphCmd, GrayNo, Reg, Report, ZoneNo, ZoneSet};
-use slice_driver::Session;
+use gz_names::{CompNo, GraphCmd, GrayNo, Reg, ZoneNo, ZoneSet};
+use slice_driver::{Session, SessionReport};
 use std::process::ExitCode;
 use sweeping::MainSweeper;
 
-// Prints what a step reported.
-fn print_report(rt: &HostRuntime, report: &Option<Report>) -> Option<()> {
+// Prints what a step reported, if it did.
+fn print_report(
+    rt: &HostRuntime,
+    session: &Session<MainSweeper>,
+    report: Option<SessionReport>,
+) -> Option<()> {
     match report {
-        Some(Report::Groups(groups)) => println!(rt; "groups: {}", groups.len()).ok(),
-        Some(Report::Ended(_, grays, _)) => {
-            println!(rt; "a group ends: {} gray", grays.as_slice().len()).ok()
+        Some(SessionReport::Groups) => println!(rt; "groups: {}", session.groups().len()).ok(),
+        Some(SessionReport::Ended(_)) => {
+            println!(rt; "a group ends: {} gray", session.names().len()).ok()
         }
-        Some(Report::Swept(arena, names)) => {
-            println!(rt; "arena {arena}: {} freed", names.as_slice().len()).ok()
+        Some(SessionReport::Swept(arena)) => {
+            println!(rt; "arena {arena}: {} freed", session.names().len()).ok()
         }
-        Some(Report::Started | Report::Done | Report::Stopped(_)) | None => Some(()),
+        None => Some(()),
     }
 }
 
@@ -31,9 +35,7 @@ fn collect(rt: &HostRuntime, session: &mut Session<MainSweeper>, zones: ZoneSet)
     session.begin(zones).ok()?;
     while session.running() {
         let step = session.advance(1000).ok()?;
-        if step.reported {
-            print_report(rt, session.report())?;
-        }
+        print_report(rt, session, step.report)?;
     }
     println!(rt; "collected").ok()
 }

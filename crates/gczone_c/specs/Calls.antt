@@ -1,7 +1,7 @@
 -- What calls from C do with what a handle leads to, and what C gets: what the calls of `Session` promise, and that the
 -- lists beside the session stay.
 use Rattle.std.specs.Prelude.{◌≡◌, ◌↔◌, ◌⊎◌, ◌≤◌, ℕ, Bool, true, false, Option, None, Some, Result, Ok, Err}
-use Rattle.std.specs.Prelude.{List, IfOk, IfSome, IsSome, OnErr, OnOk, length}
+use Rattle.std.specs.Prelude.{List, [], IfOk, IfSome, IsSome, OnErr, OnOk, length}
 use Rattle.std.specs.declared.alloc.AllocError.{AllocError}
 use Rattle.gz_names.specs.Zones.{HasZone}
 use Rattle.gz_names.specs.declared.commands.GraphCmd.{GraphCmd}
@@ -9,25 +9,25 @@ use Rattle.gz_names.specs.declared.dumps.DumpLine.{DumpLine}
 use Rattle.gz_names.specs.declared.names.Name.{Name}
 use Rattle.gz_names.specs.declared.names.Name.TheVariants as name
 use Rattle.gz_names.specs.declared.numbers.CompNo.{CompNo}
-use Rattle.gz_names.specs.declared.replies.Report.{Report}
-use Rattle.gz_names.specs.declared.replies.Report.TheVariants as report
-use Rattle.gz_names.specs.declared.replies.Reply.{Reply}
-use Rattle.gz_names.specs.declared.replies.Reply.TheVariants as reply
-use Rattle.colour_defs.specs.Step.{refusal_in}
 use Rattle.colour_defs.specs.World.{World, first_world}
 use Rattle.heap_core.specs.Effects.{takes_memory}
 use Rattle.sweeping.specs.ArenasOut.{flown_by, outs_of}
+use Rattle.slice_driver.specs.Accounts.{Accounts, FreesOn, GivesOn, freed_by}
 use Rattle.slice_driver.specs.Begins.{AreMade}
 use Rattle.slice_driver.specs.Commands.{WantsMemory}
 use Rattle.slice_driver.specs.Represents.{Represents}
 use Rattle.slice_driver.specs.Sessions.{AreDumpLines, AreGrayNames, IsNowhereSettled, SessionSteps, outcome_of}
 use Rattle.slice_driver.specs.Units.{BeginsIn, BeginsWithin, DoesCommand, RaisesWithin}
 use Rattle.slice_driver.specs.Working.{IsAtGroupEnd, IsStill}
-use Rattle.slice_driver.specs.declared.advance.Step.{Step}
 use Rattle.slice_driver.specs.declared.begin.BeginFault.{BeginFault}
 use Rattle.slice_driver.specs.declared.begin.BeginFault.TheVariants as begin
 use Rattle.slice_driver.specs.declared.session.SessionFault.{SessionFault}
 use Rattle.slice_driver.specs.declared.session.SessionFault.TheVariants as session
+use Rattle.slice_driver.specs.declared.session.told.SessionReply.{SessionReply}
+use Rattle.slice_driver.specs.declared.session.told.SessionReply.TheVariants as reply
+use Rattle.slice_driver.specs.declared.session.told.SessionReport.{SessionReport}
+use Rattle.slice_driver.specs.declared.session.told.SessionReport.TheVariants as report
+use Rattle.slice_driver.specs.declared.session.told.SessionStep.{SessionStep}
 use Rattle.gczone_c.specs.Statuses.{begin_status, command_status, list_status, step_status}
 use Rattle.gczone_c.specs.declared.told.Answer.{Answer}
 use Rattle.gczone_c.specs.declared.told.StepDone.{StepDone}
@@ -67,6 +67,7 @@ OpensOver status None None = status ≡ 3
 OpensOver status None (Some new) = (status ≡ 0)
     × Represents new.session.collector (flown_by new.session.sweeper) first_world
     × (new.session.collector.run ≡ None) × (new.session.report ≡ None)
+    × Accounts new.session.collector (flown_by new.session.sweeper) 0 []
 OpensOver status (Some old) (Some new) = (status ≡ 2) × (new ≡ old)
 OpensOver status (Some old) None = ⊥
 
@@ -87,7 +88,7 @@ name_told (name.Cell n) = record { number = n; kind = 1; compartment = 0 }
 name_told (name.Wrap c n) = record { number = n; kind = 2; compartment = c.0 }
 
 -- what C gets by a reply, where it had something else before
-abbrev pub answer_told : Reply → Answer → Answer
+abbrev pub answer_told : SessionReply → Answer → Answer
 answer_told (reply.Zone z) before = record { number = z; kind = 3; compartment = 0 }
 answer_told (reply.Comp c) before = record { number = c.0; kind = 4; compartment = 0 }
 answer_told (reply.Made n) before = record { number = n; kind = 1; compartment = 0 }
@@ -95,27 +96,20 @@ answer_told (reply.Named x) before = name_told x
 answer_told reply.Null before = no_name
 answer_told reply.Accepted before = no_name
 answer_told reply.Absent before = before
-answer_told reply.GcBegun before = before
-answer_told (reply.Sliced n) before = before
-answer_told reply.Collected before = before
-answer_told reply.ResetDone before = before
-answer_told (reply.Gray xs) before = before
-answer_told (reply.Dump xs) before = before
-answer_told (reply.Compacted m n) before = before
-answer_told (reply.Refused r) before = before
 
-abbrev pub command_told : Result Reply SessionFault → Answer → Answer
+abbrev pub command_told : Result SessionReply SessionFault → Answer → Answer
 command_told (Ok r) before = answer_told r before
 command_told (Err why) before = before
 
 -- a session did a command with this result, and C gets it
 pub record CommandDone (cmd : GraphCmd) (before after : Answer) (status : ℕ) (old new : Held) : Type 0 where
-  pub result : Result Reply SessionFault
+  pub result : Result SessionReply SessionFault
   pub does : IfSome (outcome_of result) (λ outcome. DoesCommand old.session.collector (flown_by old.session.sweeper)
       cmd outcome new.session.collector (flown_by new.session.sweeper))
   pub to_come : IfSome (outcome_of result) (λ outcome. RaisesWithin old.session.collector
       (flown_by old.session.sweeper) cmd outcome new.session.collector (flown_by new.session.sweeper))
-  pub answered : IfOk result (λ answer. refusal_in answer ≡ None)
+  pub accounts : GivesOn old.session.collector (flown_by old.session.sweeper) result new.session.collector
+      (flown_by new.session.sweeper)
   pub refused : (why : _) → result ≡ Err (session.Refused why) → (new.session.collector ≡ old.session.collector)
       × (flown_by new.session.sweeper ≡ flown_by old.session.sweeper)
   pub wanted : result ≡ Err session.NoMemory → WantsMemory old.session.collector (flown_by old.session.sweeper) cmd
@@ -151,32 +145,27 @@ pub record BeginDone (zones : ℕ) (status : ℕ) (old new : Held) : Type 0 wher
   pub refused : OnErr result (new.session.collector ≡ old.session.collector)
   pub sweeper : new.session.sweeper ≡ old.session.sweeper
   pub report : new.session.report ≡ old.session.report
+  pub accounts : FreesOn old.session.collector (flown_by old.session.sweeper) [] new.session.collector
+      (flown_by new.session.sweeper)
   pub lists : KeepsLists old new
   pub status_is : status ≡ begin_status result
 
--- the kind of a report: a session gives none of the others
-abbrev pub report_kind : Option Report → ℕ
+-- the kind of a report
+abbrev pub report_kind : Option SessionReport → ℕ
 report_kind None = 0
-report_kind (Some report.Started) = 0
-report_kind (Some (report.Groups groups)) = 1
-report_kind (Some (report.Ended zones grays dead)) = 2
-report_kind (Some (report.Swept arena names)) = 3
-report_kind (Some report.Done) = 0
-report_kind (Some (report.Stopped zones)) = 0
+report_kind (Some report.Groups) = 1
+report_kind (Some (report.Ended zones)) = 2
+report_kind (Some (report.Swept arena)) = 3
 
--- what C gets of a step: the kind of the report is that of the last one, where the step reports
-abbrev pub step_kind : Bool → Option Report → ℕ
-step_kind true report = report_kind report
-step_kind false report = 0
-
-abbrev pub step_told : {E : Type 0} → Result Step E → Option Report → StepDone → StepDone
-step_told (Ok step) report before =
-    record { units = step.units; report = step_kind step.reported report; finished = step.finished }
-step_told (Err why) report before = before
+-- what C gets of a step
+abbrev pub step_told : {E : Type 0} → Result SessionStep E → StepDone → StepDone
+step_told (Ok step) before =
+    record { units = step.units; report = report_kind step.report; finished = step.finished }
+step_told (Err why) before = before
 
 -- a session was asked for a step of its collection, with this result, which C gets
 pub record AdvanceDone (limit : ℕ) (before after : StepDone) (status : ℕ) (old new : Held) : Type 0 where
-  pub result : Result Step AllocError
+  pub result : Result SessionStep AllocError
   pub steps : IfOk result (λ step. SessionSteps limit old.session.collector (flown_by old.session.sweeper)
       old.session.report step new.session.collector (flown_by new.session.sweeper) (outs_of new.session.sweeper)
       new.session.report)
@@ -184,9 +173,11 @@ pub record AdvanceDone (limit : ℕ) (before after : StepDone) (status : ℕ) (o
       (flown_by new.session.sweeper))
   pub err_where : OnErr result (IsAtGroupEnd old.session.collector (flown_by old.session.sweeper))
   pub err_report : OnErr result (new.session.report ≡ old.session.report)
+  pub accounts : FreesOn old.session.collector (flown_by old.session.sweeper)
+      (freed_by result new.session.report) new.session.collector (flown_by new.session.sweeper)
   pub lists : KeepsLists old new
   pub status_is : status ≡ step_status result
-  pub told_is : after ≡ step_told result new.session.report before
+  pub told_is : after ≡ step_told result before
 
 -- a list was asked for: what stays of the session
 pub record StaysListed (old new : Held) : Type 0 where

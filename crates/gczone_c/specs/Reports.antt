@@ -5,57 +5,33 @@ use Rattle.gz_names.specs.declared.dumps.DumpColour.TheVariants as colour
 use Rattle.gz_names.specs.declared.dumps.DumpLine.{DumpLine}
 use Rattle.gz_names.specs.declared.dumps.DumpLine.TheVariants as line
 use Rattle.gz_names.specs.declared.names.Name.{Name}
-use Rattle.gz_names.specs.declared.replies.Report.{Report}
-use Rattle.gz_names.specs.declared.replies.Report.TheVariants as report
 use Rattle.gz_names.specs.declared.zone_sets.ZoneSet.{ZoneSet}
+use Rattle.slice_driver.specs.Present.{present_in_all}
+use Rattle.slice_driver.specs.Sessions.{groups_of, kind_of, names_of}
+use Rattle.slice_driver.specs.declared.session.told.SessionReport.{SessionReport}
+use Rattle.slice_driver.specs.declared.session.told.SessionReport.TheVariants as report
 use Rattle.gczone_c.specs.Calls.{name_told, no_name}
 use Rattle.gczone_c.specs.Statuses.{found_status}
 use Rattle.gczone_c.specs.declared.told.Answer.{Answer}
+use Rattle.gczone_c.specs.declared.told.Counts.{Counts}
 use Rattle.gczone_c.specs.declared.told.LineTold.{LineTold}
 use Rattle.gczone_c.specs.declared.told.ReportTold.{ReportTold}
 use Rattle.gczone_c.specs.declared.held.Held.{Held}
 
--- the names that a report lists
-abbrev pub report_names : Option Report → List Name
-report_names None = []
-report_names (Some report.Started) = []
-report_names (Some (report.Groups groups)) = []
-report_names (Some (report.Ended zones grays dead)) = grays
-report_names (Some (report.Swept arena names)) = names
-report_names (Some report.Done) = []
-report_names (Some (report.Stopped zones)) = []
-
--- the groups that a report lists
-abbrev pub report_groups : Option Report → List ZoneSet
-report_groups None = []
-report_groups (Some report.Started) = []
-report_groups (Some (report.Groups groups)) = groups
-report_groups (Some (report.Ended zones grays dead)) = []
-report_groups (Some (report.Swept arena names)) = []
-report_groups (Some report.Done) = []
-report_groups (Some (report.Stopped zones)) = []
-
 -- whether there is a report to be read
-abbrev pub report_status : Option Report → ℕ
+abbrev pub report_status : Option SessionReport → ℕ
 report_status None = 5
-report_status (Some report.Started) = 5
-report_status (Some (report.Groups groups)) = 0
-report_status (Some (report.Ended zones grays dead)) = 0
-report_status (Some (report.Swept arena names)) = 0
-report_status (Some report.Done) = 5
-report_status (Some (report.Stopped zones)) = 5
+report_status (Some told) = 0
 
--- what C gets of it
-abbrev pub report_told : Option Report → ReportTold → ReportTold
-report_told None before = before
-report_told (Some report.Started) before = before
-report_told (Some (report.Groups groups)) before = record { zones = 0; count = length groups; kind = 1; arena = 0 }
-report_told (Some (report.Ended zones grays dead)) before =
-    record { zones = zones.bits; count = length grays; kind = 2; arena = 0 }
-report_told (Some (report.Swept arena names)) before =
+-- what C gets of it, where it lists these names or groups
+abbrev pub report_told : Option SessionReport → List Name → List ZoneSet → ReportTold → ReportTold
+report_told None names groups before = before
+report_told (Some report.Groups) names groups before =
+    record { zones = 0; count = length groups; kind = 1; arena = 0 }
+report_told (Some (report.Ended zones)) names groups before =
+    record { zones = zones.bits; count = length names; kind = 2; arena = 0 }
+report_told (Some (report.Swept arena)) names groups before =
     record { zones = 0; count = length names; kind = 3; arena = arena }
-report_told (Some report.Done) before = before
-report_told (Some (report.Stopped zones)) before = before
 
 -- what C gets of a name, and of a group
 abbrev pub name_answer : Option Name → Answer → Answer
@@ -86,19 +62,32 @@ abbrev pub RunningTold : Bool → ℕ → Held → Held → Type 0
 RunningTold running status old new = (new ≡ old) × (status ≡ 0)
     × (IsTrue running ↔ IsSome old.session.collector.run)
 
+-- how much a session holds
+abbrev pub counts_told : Held → Counts
+counts_told held = record {
+  cells = present_in_all held.session.collector.heap.shape.arenas;
+  objects = held.session.collector.heap.shape.objects;
+  entries = length held.session.collector.heap.shape.weak.entries;
+  arenas = length held.session.collector.heap.shape.arenas;
+}
+
+abbrev pub CountsTold : Counts → ℕ → Held → Held → Type 0
+CountsTold counts status old new = (new ≡ old) × (status ≡ 0) × (counts ≡ counts_told old)
+
 abbrev pub ReportIsTold : ReportTold → ReportTold → ℕ → Held → Held → Type 0
-ReportIsTold before told status old new = (new ≡ old) × (status ≡ report_status old.session.report)
-    × (told ≡ report_told old.session.report before)
+ReportIsTold before told status old new = (new ≡ old) × (status ≡ report_status (kind_of old.session.report))
+    × (told ≡ report_told (kind_of old.session.report) (names_of old.session.report) (groups_of old.session.report)
+    before)
 
 abbrev pub NameTold : ℕ → Answer → Answer → ℕ → Held → Held → Type 0
 NameTold index before told status old new = (new ≡ old)
-    × (status ≡ found_status (slice_get (report_names old.session.report) index))
-    × (told ≡ name_answer (slice_get (report_names old.session.report) index) before)
+    × (status ≡ found_status (slice_get (names_of old.session.report) index))
+    × (told ≡ name_answer (slice_get (names_of old.session.report) index) before)
 
 abbrev pub GroupTold : ℕ → ℕ → ℕ → ℕ → Held → Held → Type 0
 GroupTold index before told status old new = (new ≡ old)
-    × (status ≡ found_status (slice_get (report_groups old.session.report) index))
-    × (told ≡ group_told (slice_get (report_groups old.session.report) index) before)
+    × (status ≡ found_status (slice_get (groups_of old.session.report) index))
+    × (told ≡ group_told (slice_get (groups_of old.session.report) index) before)
 
 abbrev pub GrayTold : ℕ → Answer → Answer → ℕ → Held → Held → Type 0
 GrayTold index before told status old new = (new ≡ old) × (status ≡ found_status (slice_get old.grays index))

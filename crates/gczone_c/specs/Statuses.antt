@@ -2,12 +2,12 @@
 use Rattle.std.specs.Prelude.{ℕ, Result, Ok, Err, Option, Some, None}
 use Rattle.gz_names.specs.declared.replies.Refusal.{Refusal}
 use Rattle.gz_names.specs.declared.replies.Refusal.TheVariants as why
-use Rattle.gz_names.specs.declared.replies.Reply.{Reply}
-use Rattle.gz_names.specs.declared.replies.Reply.TheVariants as reply
 use Rattle.slice_driver.specs.declared.begin.BeginFault.{BeginFault}
 use Rattle.slice_driver.specs.declared.begin.BeginFault.TheVariants as begin
 use Rattle.slice_driver.specs.declared.session.SessionFault.{SessionFault}
 use Rattle.slice_driver.specs.declared.session.SessionFault.TheVariants as session
+use Rattle.slice_driver.specs.declared.session.told.SessionReply.{SessionReply}
+use Rattle.slice_driver.specs.declared.session.told.SessionReply.TheVariants as reply
 
 abbrev pub refusal_status : Refusal → ℕ
 refusal_status why.Full = 16
@@ -22,8 +22,7 @@ refusal_status why.Running = 24
 refusal_status why.Idle = 25
 refusal_status why.Marking = 26
 
--- a session gives none of the replies from `GcBegun` to `Compacted` to a command on the graph
-abbrev pub reply_status : Reply → ℕ
+abbrev pub reply_status : SessionReply → ℕ
 reply_status (reply.Zone z) = 0
 reply_status (reply.Comp c) = 0
 reply_status (reply.Made n) = 0
@@ -31,16 +30,8 @@ reply_status (reply.Named x) = 0
 reply_status reply.Null = 0
 reply_status reply.Accepted = 0
 reply_status reply.Absent = 5
-reply_status reply.GcBegun = 5
-reply_status (reply.Sliced n) = 5
-reply_status reply.Collected = 5
-reply_status reply.ResetDone = 5
-reply_status (reply.Gray xs) = 5
-reply_status (reply.Dump xs) = 5
-reply_status (reply.Compacted m n) = 5
-reply_status (reply.Refused r) = refusal_status r
 
-abbrev pub command_status : Result Reply SessionFault → ℕ
+abbrev pub command_status : Result SessionReply SessionFault → ℕ
 command_status (Ok r) = reply_status r
 command_status (Err (session.Refused why)) = refusal_status why
 command_status (Err session.Full) = 4

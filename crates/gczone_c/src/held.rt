@@ -2,13 +2,16 @@
 ghost use Rattle.std.specs.Prelude.{◌≡◌, ◌↔◌, [], IfOk, IsSome, IsTrue, None, slice_get};
 ghost use Rattle.colour_defs.specs.Step.{HasFewFields};
 ghost use Rattle.colour_defs.specs.World.{first_world};
+ghost use Rattle.slice_driver.specs.Accounts.{Accounts};
 ghost use Rattle.slice_driver.specs.Represents.{Represents};
+ghost use Rattle.slice_driver.specs.Sessions.{groups_of, kind_of, names_of};
 ghost use Rattle.sweeping.specs.ArenasOut.{flown_by};
 ghost use Rattle.gczone_c.specs.Calls.{AdvanceDone, BeginDone, CommandDone, GraysListed, LinesListed};
+ghost use Rattle.gczone_c.specs.Reports.{counts_told, report_status, report_told};
 
-use crate::told::{Answer, StepDone};
+use crate::told::{Answer, Counts, ReportTold, StepDone};
 use crate::{statuses, told};
-use gz_names::{DumpLine, GraphCmd, Name, NameList, NoMemory, Report, ZoneSet};
+use gz_names::{DumpLine, GraphCmd, Name, NameList, NoMemory, ZoneSet};
 use slice_driver::Session;
 use std::alloc::Global;
 use sweeping::MainSweeper;
@@ -28,6 +31,8 @@ impl Held {
             (flown_by h.session.sweeper) first_world) }
         ensures idle { IfOk result (λ h. h.session.collector.run ≡ None) }
         ensures report { IfOk result (λ h. h.session.report ≡ None) }
+        ensures accounts { IfOk result (λ h. Accounts h.session.collector
+            (flown_by h.session.sweeper) 0 []) }
     {
         Ok(Held {
             session: Session::new(alloc)?,
@@ -58,7 +63,7 @@ impl Held {
         ensures done { AdvanceDone limit done.old done.new result self.old self.new }
     {
         let step = self.session.advance(limit);
-        told::tell_step(&step, self.session.report(), done)
+        told::tell_step(&step, done)
     }
 
     /// Whether a collection runs.
@@ -68,11 +73,40 @@ impl Held {
         self.session.running()
     }
 
-    /// The last report.
-    pub fn report(&self) -> &Option<Report>
-        ensures { result.now ≡ self.now.session.report }
+    /// How much the session holds.
+    pub fn counts(&self) -> Counts
+        ensures { result ≡ counts_told self.now }
     {
-        self.session.report()
+        Counts {
+            cells: self.session.cells(),
+            objects: self.session.objects(),
+            entries: self.session.entries(),
+            arenas: self.session.arenas(),
+        }
+    }
+
+    /// Writes what the last report is about.
+    pub fn tell_report(&self, told: &mut ReportTold) -> u32
+        ensures status { result ≡ report_status (kind_of self.now.session.report) }
+        ensures told { told.new ≡ report_told (kind_of self.now.session.report)
+            (names_of self.now.session.report) (groups_of self.now.session.report) told.old }
+    {
+        let session = &self.session;
+        told::tell_report(session.report(), session.names(), session.groups(), told)
+    }
+
+    /// A name that the last report lists.
+    pub fn reported_name(&self, index: usize) -> Option<Name>
+        ensures { result ≡ slice_get (names_of self.now.session.report) index }
+    {
+        self.session.names().get(index).copied()
+    }
+
+    /// A group that the last report lists.
+    pub fn reported_group(&self, index: usize) -> Option<ZoneSet>
+        ensures { result ≡ slice_get (groups_of self.now.session.report) index }
+    {
+        self.session.groups().get(index).copied()
     }
 
     /// Lists the gray names, and writes how many there are.

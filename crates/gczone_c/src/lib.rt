@@ -18,13 +18,14 @@ ghost use Rattle.colour_defs.specs.Step.{HasFewFields};
 ghost use Rattle.gz_names.specs.declared.commands.GraphCmd.TheVariants as cmd;
 ghost use Rattle.gczone_c.specs.Calls.{AdvanceDone, BeginDone, Does, DoesOrder, Goes, GraysListed, IsClosed};
 ghost use Rattle.gczone_c.specs.Calls.{IsRefused, IsUndone, LinesListed, Opens, comp_no};
-ghost use Rattle.gczone_c.specs.Reports.{GrayTold, GroupTold, LineIsTold, NameTold, ReportIsTold, RunningTold};
+ghost use Rattle.gczone_c.specs.Reports.{CountsTold, GrayTold, GroupTold, LineIsTold, NameTold};
+ghost use Rattle.gczone_c.specs.Reports.{ReportIsTold, RunningTold};
 
 use gz_names::{GraphCmd, ZoneSet};
 use handle::Gcz;
 use held::Held;
 use std::alloc::Global;
-use told::{Answer, LineTold, ReportTold, StepDone};
+use told::{Answer, Counts, LineTold, ReportTold, StepDone};
 
 // Does a command on what a handle leads to.
 fn command(alloc: Global, gcz: &mut Gcz, cmd: GraphCmd, answer: &mut Answer) -> u32
@@ -471,6 +472,21 @@ pub extern "C" fn gcz_running(alloc: Global, gcz: &mut Gcz, running: &mut bool) 
     status
 }
 
+/// Writes how many cells, objects and maps, weak entries and arenas there are.
+#[unsafe(no_mangle)]
+pub extern "C" fn gcz_counts(alloc: Global, gcz: &mut Gcz, counts: &mut Counts) -> u32
+    ensures done { Goes (IsClosed result counts.old counts.new)
+        (CountsTold counts.new result) gcz.old gcz.new }
+{
+    let Some(held) = gcz.take(alloc) else {
+        return statuses::CLOSED;
+    };
+    *counts = held.counts();
+    let status = statuses::DONE;
+    gcz.put(alloc, held);
+    status
+}
+
 /// Writes what the last report is about, and how many groups or names it lists.
 #[unsafe(no_mangle)]
 pub extern "C" fn gcz_report(alloc: Global, gcz: &mut Gcz, told: &mut ReportTold) -> u32
@@ -480,7 +496,7 @@ pub extern "C" fn gcz_report(alloc: Global, gcz: &mut Gcz, told: &mut ReportTold
     let Some(held) = gcz.take(alloc) else {
         return statuses::CLOSED;
     };
-    let status = told::tell_report(held.report(), told);
+    let status = held.tell_report(told);
     gcz.put(alloc, held);
     status
 }
@@ -499,7 +515,7 @@ pub extern "C" fn gcz_report_name(
     let Some(held) = gcz.take(alloc) else {
         return statuses::CLOSED;
     };
-    let status = told::tell_name(told::reported_name(held.report(), index), name);
+    let status = told::tell_name(held.reported_name(index), name);
     gcz.put(alloc, held);
     status
 }
@@ -518,7 +534,7 @@ pub extern "C" fn gcz_report_group(
     let Some(held) = gcz.take(alloc) else {
         return statuses::CLOSED;
     };
-    let status = told::tell_group(held.report(), index, zones);
+    let status = told::tell_group(held.reported_group(index), zones);
     gcz.put(alloc, held);
     status
 }

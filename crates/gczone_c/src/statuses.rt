@@ -3,7 +3,7 @@ ghost use Rattle.std.specs.Prelude.{◌≡◌};
 ghost use Rattle.gczone_c.specs.Statuses.{begin_status, refusal_status};
 
 use gz_names::Refusal;
-use slice_driver::BeginFault;
+use slice_driver::{BeginFault, refusal_words};
 
 pub const DONE: u32 = 0;
 /// The handle is closed.
@@ -88,7 +88,7 @@ pub fn text(status: u32) -> &'static str {
         DONE => "done",
         CLOSED => "the handle is closed",
         OPEN => "the handle is open already",
-        NO_MEMORY => "there is no memory",
+        NO_MEMORY => "out of memory",
         HEAP_FULL => "the most cells were made: 4,294,967,295",
         NONE => "there is no such entry, name or report",
         BAD_REGISTER => "a register is above 15",
@@ -97,17 +97,17 @@ pub fn text(status: u32) -> &'static str {
         BAD_SLOT => "a gray slot is above 63",
         BAD_FIELD => "a field is above 7",
         BAD_FIELD_COUNT => "an object has at most 8 fields",
-        FULL => "the most zones or compartments are there",
-        NO_ZONE => "a zone is not made",
-        NO_COMPARTMENT => "the compartment is not made",
-        EMPTY => "a register that is read is empty",
-        KIND => "a cell is of another kind",
-        NO_FIELD => "the object has no such field",
-        CROSS => "two cells are of different compartments",
-        WRAPPER_KEY => "the key is a wrapper",
-        RUNNING => "a collection runs",
-        IDLE => "no collection runs",
-        MARKING => "a zone is marking",
+        FULL => refusal_words(Refusal::Full),
+        NO_ZONE => refusal_words(Refusal::NoZone),
+        NO_COMPARTMENT => refusal_words(Refusal::NoComp),
+        EMPTY => refusal_words(Refusal::Empty),
+        KIND => refusal_words(Refusal::Kind),
+        NO_FIELD => refusal_words(Refusal::NoField),
+        CROSS => refusal_words(Refusal::Cross),
+        WRAPPER_KEY => refusal_words(Refusal::WrapperKey),
+        RUNNING => refusal_words(Refusal::Running),
+        IDLE => refusal_words(Refusal::Idle),
+        MARKING => refusal_words(Refusal::Marking),
         _ => "no status of this interface",
     }
 }

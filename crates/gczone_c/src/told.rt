@@ -1,13 +1,12 @@
 // What C gets: the structs of gczone.h.
-ghost use Rattle.std.specs.Prelude.{◌≡◌, slice_get};
+ghost use Rattle.std.specs.Prelude.{◌≡◌};
 ghost use Rattle.gczone_c.specs.Calls.{answer_told, command_told, name_told, no_name, report_kind, step_told};
-ghost use Rattle.gczone_c.specs.Reports.{group_told, line_answer, line_told, name_answer};
-ghost use Rattle.gczone_c.specs.Reports.{report_groups, report_names, report_status, report_told};
+ghost use Rattle.gczone_c.specs.Reports.{group_told, line_answer, line_told, name_answer, report_status, report_told};
 ghost use Rattle.gczone_c.specs.Statuses.{command_status, found_status, reply_status, step_status};
 
 use crate::statuses;
-use gz_names::{CompNo, DumpColour, DumpLine, Name, NoMemory, Reply, Report};
-use slice_driver::{SessionFault, Step};
+use gz_names::{CompNo, DumpColour, DumpLine, Name, NoMemory, ZoneSet};
+use slice_driver::{SessionFault, SessionReply, SessionReport, SessionStep};
 
 pub const NOTHING: u32 = 0;
 
@@ -74,6 +73,16 @@ pub struct LineTold {
     pub black: bool,
 }
 
+/// How much a session holds: `gcz_counts_t`.
+#[repr(C)]
+#[derive(Drop)]
+pub struct Counts {
+    pub cells: u64,
+    pub objects: u64,
+    pub entries: u64,
+    pub arenas: u32,
+}
+
 /// No name.
 pub fn nothing() -> Answer
     ensures { result ≡ no_name }
@@ -104,12 +113,12 @@ pub fn named(name: Name) -> Answer
 }
 
 /// Writes what a command answers, and returns the status.
-pub fn tell_reply(reply: &Reply, answer: &mut Answer) -> u32
+pub fn tell_reply(reply: &SessionReply, answer: &mut Answer) -> u32
     ensures status { result ≡ reply_status reply.now }
     ensures told { answer.new ≡ answer_told reply.now answer.old }
 {
     match reply {
-        Reply::Zone(zone) => {
+        SessionReply::Zone(zone) => {
             *answer = Answer {
                 number: u64::from(zone.index()),
                 kind: ZONE,
@@ -117,7 +126,7 @@ pub fn tell_reply(reply: &Reply, answer: &mut Answer) -> u32
             };
             statuses::DONE
         }
-        Reply::Comp(CompNo(comp)) => {
+        SessionReply::Comp(CompNo(comp)) => {
             *answer = Answer {
                 number: u64::from(*comp),
                 kind: COMPARTMENT,
@@ -125,7 +134,7 @@ pub fn tell_reply(reply: &Reply, answer: &mut Answer) -> u32
             };
             statuses::DONE
         }
-        Reply::Made(number) => {
+        SessionReply::Made(number) => {
             *answer = Answer {
                 number: *number,
                 kind: CELL,
@@ -133,28 +142,20 @@ pub fn tell_reply(reply: &Reply, answer: &mut Answer) -> u32
             };
             statuses::DONE
         }
-        Reply::Named(name) => {
+        SessionReply::Named(name) => {
             *answer = named(*name);
             statuses::DONE
         }
-        Reply::Null | Reply::Accepted => {
+        SessionReply::Null | SessionReply::Accepted => {
             *answer = nothing();
             statuses::DONE
         }
-        Reply::Refused(why) => statuses::of_refusal(*why),
-        Reply::Absent
-        | Reply::GcBegun
-        | Reply::Sliced(_)
-        | Reply::Collected
-        | Reply::ResetDone
-        | Reply::Gray(_)
-        | Reply::Dump(_)
-        | Reply::Compacted(_, _) => statuses::NONE,
+        SessionReply::Absent => statuses::NONE,
     }
 }
 
 /// Writes what came of a command, and returns the status.
-pub fn tell_outcome(outcome: &Result<Reply, SessionFault>, answer: &mut Answer) -> u32
+pub fn tell_outcome(outcome: &Result<SessionReply, SessionFault>, answer: &mut Answer) -> u32
     ensures status { result ≡ command_status outcome.now }
     ensures told { answer.new ≡ command_told outcome.now answer.old }
 {
@@ -166,98 +167,82 @@ pub fn tell_outcome(outcome: &Result<Reply, SessionFault>, answer: &mut Answer) 
     }
 }
 
-/// Writes what came of a step, where this is the last report.
-pub fn tell_step(step: &Result<Step, NoMemory>, report: &Option<Report>, done: &mut StepDone) -> u32
+/// Writes what came of a step.
+pub fn tell_step(step: &Result<SessionStep, NoMemory>, done: &mut StepDone) -> u32
     ensures status { result ≡ step_status step.now }
-    ensures told { done.new ≡ step_told step.now report.now done.old }
+    ensures told { done.new ≡ step_told step.now done.old }
 {
     let Ok(step) = step else {
         return statuses::NO_MEMORY;
     };
-    let report = if step.reported {
-        kind_of(report)
-    } else {
-        NO_REPORT
-    };
     *done = StepDone {
         units: step.units,
-        report,
+        report: kind_of(step.report),
         finished: step.finished,
     };
     statuses::DONE
 }
 
 /// The kind of a report.
-pub fn kind_of(report: &Option<Report>) -> u32
-    ensures { result ≡ report_kind report.now }
+pub fn kind_of(report: Option<SessionReport>) -> u32
+    ensures { result ≡ report_kind report }
 {
     match report {
-        Some(Report::Groups(_)) => GROUPS,
-        Some(Report::Ended(_, _, _)) => ENDED,
-        Some(Report::Swept(_, _)) => SWEPT,
-        Some(Report::Started | Report::Done | Report::Stopped(_)) | None => NO_REPORT,
+        Some(SessionReport::Groups) => GROUPS,
+        Some(SessionReport::Ended(_)) => ENDED,
+        Some(SessionReport::Swept(_)) => SWEPT,
+        None => NO_REPORT,
     }
 }
 
 /// Writes what a report is about: its kind, its zones or its arena, and how many groups or names it lists.
-pub fn tell_report(report: &Option<Report>, told: &mut ReportTold) -> u32
-    ensures status { result ≡ report_status report.now }
-    ensures told { told.new ≡ report_told report.now told.old }
+pub fn tell_report(
+    report: Option<SessionReport>,
+    names: &[Name],
+    groups: &[ZoneSet],
+    told: &mut ReportTold,
+) -> u32
+    ensures status { result ≡ report_status report }
+    ensures told { told.new ≡ report_told report names.now groups.now told.old }
 {
     match report {
-        Some(Report::Groups(groups)) => {
+        Some(SessionReport::Groups) => {
             *told = ReportTold {
                 zones: 0,
-                count: groups.as_slice().len(),
+                count: groups.len(),
                 kind: GROUPS,
                 arena: 0,
             };
             statuses::DONE
         }
-        Some(Report::Ended(zones, grays, _)) => {
+        Some(SessionReport::Ended(zones)) => {
             *told = ReportTold {
                 zones: zones.bits,
-                count: grays.as_slice().len(),
+                count: names.len(),
                 kind: ENDED,
                 arena: 0,
             };
             statuses::DONE
         }
-        Some(Report::Swept(arena, names)) => {
+        Some(SessionReport::Swept(arena)) => {
             *told = ReportTold {
                 zones: 0,
-                count: names.as_slice().len(),
+                count: names.len(),
                 kind: SWEPT,
-                arena: *arena,
+                arena,
             };
             statuses::DONE
         }
-        Some(Report::Started | Report::Done | Report::Stopped(_)) | None => statuses::NONE,
+        None => statuses::NONE,
     }
 }
 
-/// A name that a report lists, by its place.
-pub fn reported_name(report: &Option<Report>, index: usize) -> Option<Name>
-    ensures { result ≡ slice_get (report_names report.now) index }
+/// Writes the zones of a group, if there is one.
+pub fn tell_group(group: Option<ZoneSet>, zones: &mut u64) -> u32
+    ensures status { result ≡ found_status group }
+    ensures told { zones.new ≡ group_told group zones.old }
 {
-    match report {
-        Some(Report::Ended(_, grays, _)) => grays.as_slice().get(index).copied(),
-        Some(Report::Swept(_, names)) => names.as_slice().get(index).copied(),
-        Some(Report::Groups(_) | Report::Started | Report::Done | Report::Stopped(_)) | None => {
-            None
-        }
-    }
-}
-
-/// Writes the zones of a group that a report lists, by its place.
-pub fn tell_group(report: &Option<Report>, index: usize, zones: &mut u64) -> u32
-    ensures status { result ≡ found_status (slice_get (report_groups report.now) index) }
-    ensures told { zones.new ≡ group_told (slice_get (report_groups report.now) index) zones.old }
-{
-    let Some(Report::Groups(groups)) = report else {
-        return statuses::NONE;
-    };
-    match groups.get(index) {
+    match group {
         Some(group) => {
             *zones = group.bits;
             statuses::DONE
