@@ -116,6 +116,14 @@ typedef struct gcz_report {
     uint32_t arena;
 } gcz_report_t;
 
+/* How much a heap holds. The next object or map that is made has the number `objects`. */
+typedef struct gcz_counts {
+    uint64_t cells;   /* that are there, wrappers among them */
+    uint64_t objects; /* objects and maps that were ever made */
+    uint64_t entries; /* of weak maps */
+    uint32_t arenas;  /* of 64 slots each; none is given back but by gcz_close */
+} gcz_counts_t;
+
 /* What a line of a dump is. */
 enum gcz_line_kind {
     GCZ_LINE_END = 0,  /* the last one */
@@ -164,6 +172,9 @@ GCZ_CALL uint32_t gcz_find(gcz_t *gcz, uint32_t reg, uint32_t map, uint32_t key,
 GCZ_CALL uint32_t gcz_begin(gcz_t *gcz, uint64_t zones);
 GCZ_CALL uint32_t gcz_advance(gcz_t *gcz, uint64_t limit, gcz_step_t *done);
 GCZ_CALL uint32_t gcz_running(gcz_t *gcz, bool *running);
+
+/* How many cells, objects and maps, weak entries and arenas there are. */
+GCZ_CALL uint32_t gcz_counts(gcz_t *gcz, gcz_counts_t *counts);
 
 /* The last report, until the next one, and what it lists by its place. */
 GCZ_CALL uint32_t gcz_report(gcz_t *gcz, gcz_report_t *told);

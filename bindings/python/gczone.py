@@ -34,6 +34,7 @@ Swept = namedtuple("Swept", "arena freed")
 Cell = namedtuple("Cell", "name black")
 Edge = namedtuple("Edge", "object name")
 Entry = namedtuple("Entry", "map key value")
+Counts = namedtuple("Counts", "cells objects entries arenas")
 
 
 class _Slot(ctypes.Structure):
@@ -57,6 +58,10 @@ class _Step(ctypes.Structure):
     _fields_ = [("units", c_uint64), ("report", c_uint32), ("finished", c_bool)]
 
 
+class _Counts(ctypes.Structure):
+    _fields_ = [("cells", c_uint64), ("objects", c_uint64), ("entries", c_uint64), ("arenas", c_uint32)]
+
+
 class _Report(ctypes.Structure):
     _fields_ = [("zones", c_uint64), ("count", c_size_t), ("kind", c_uint32), ("arena", c_uint32)]
 
@@ -73,7 +78,7 @@ _CALLS = {
     "unwrap": ([c_uint32] * 2, _Name), "hold": ([c_uint32] * 2, None), "release": ([c_uint32], None),
     "expose": ([c_uint32] * 2, _Name), "put": ([c_uint32] * 3, None), "del": ([c_uint32] * 2, None),
     "find": ([c_uint32] * 3, _Name), "begin": ([c_uint64], None), "advance": ([c_uint64], _Step),
-    "running": ([], c_bool), "report": ([], _Report), "report_name": ([c_size_t], _Name),
+    "running": ([], c_bool), "counts": ([], _Counts), "report": ([], _Report), "report_name": ([c_size_t], _Name),
     "report_group": ([c_size_t], c_uint64), "grays": ([], c_size_t), "gray": ([c_size_t], _Name),
     "dump": ([], c_size_t), "dump_line": ([c_size_t], _Line), "open": ([], None),
 }
@@ -232,6 +237,11 @@ class Heap:
     def running(self):
         """Whether a collection runs."""
         return self._call("running").value
+
+    def counts(self):
+        """How many cells are there, objects and maps were made, weak entries and arenas there are."""
+        counts = self._call("counts")
+        return Counts(*(getattr(counts, name) for name in Counts._fields))
 
     def advance(self, limit):
         """Does a step of at most `limit` units. Returns how many it did, the event or None, and whether it is over."""

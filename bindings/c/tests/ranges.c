@@ -113,6 +113,7 @@ static void all_beyond(gcz_t *g) {
 static void all_closed(gcz_t *g) {
     gcz_step_t step = {99, 98, true};
     gcz_report_t report = {99, 98, 97, 96};
+    gcz_counts_t counts = {99, 98, 97, 96};
     gcz_line_t line = {.owner = 99};
     size_t count = 99;
     uint64_t bits = 99;
@@ -137,6 +138,7 @@ static void all_closed(gcz_t *g) {
     WANT(gcz_begin(g, 1), GCZ_CLOSED);
     WANT(gcz_advance(g, 1, &step), GCZ_CLOSED);
     WANT(gcz_running(g, &running), GCZ_CLOSED);
+    WANT(gcz_counts(g, &counts), GCZ_CLOSED);
     WANT(gcz_report(g, &report), GCZ_CLOSED);
     REFUSED(gcz_report_name(g, 0, &n), GCZ_CLOSED);
     WANT(gcz_report_group(g, 0, &bits), GCZ_CLOSED);
@@ -145,7 +147,7 @@ static void all_closed(gcz_t *g) {
     WANT(gcz_dump(g, &count), GCZ_CLOSED);
     WANT(gcz_dump_line(g, 0, &line), GCZ_CLOSED);
     WANT(step.units == 99 && step.finished && report.count == 98 && line.owner == 99 && count == 99 && bits == 99
-             && running, 1);
+             && running && counts.cells == 99, 1);
 }
 
 /* Places of lists beyond their ends. */
@@ -170,6 +172,7 @@ static void limits(gcz_t *g) {
     gcz_name_t n;
     gcz_step_t step;
     gcz_report_t report = {99, 98, 97, 96};
+    gcz_counts_t counts;
     size_t count;
     WANT(gcz_begin(g, 0), GCZ_NO_ZONE);
     WANT(gcz_begin(g, UINT64_MAX), GCZ_NO_ZONE);
@@ -198,6 +201,8 @@ static void limits(gcz_t *g) {
     WANT(gcz_map(g, 2, 255, &n), GCZ_DONE);
     WANT(gcz_del(g, 2, 15), GCZ_NONE);
     WANT(gcz_put(g, 2, 15, 15), GCZ_DONE);
+    WANT(gcz_counts(g, &counts), GCZ_DONE);
+    WANT(counts.cells == 2 && counts.objects == 2 && counts.entries == 1 && counts.arenas == 1, 1);
     WANT(gcz_begin(g, UINT64_MAX), GCZ_DONE);
     WANT(gcz_begin(g, 1), GCZ_RUNNING);
     count = 99;

@@ -82,7 +82,7 @@ def main():
     print("freed then:", host.collect())
     page.owners = 0
     print("let go without the page's owner:", *host.collect_cycles())
-    print("freed then:", host.collect(), "cells left:", len(host.heap.dump()))
+    print("freed then:", host.collect(), "cells left:", host.heap.counts().cells)
     host.heap.close()
     return 0
 

@@ -33,6 +33,15 @@ pub struct Step {
 
 #[repr(C)]
 #[derive(Clone, Copy, Default)]
+pub struct Counts {
+    pub cells: u64,
+    pub objects: u64,
+    pub entries: u64,
+    pub arenas: u32,
+}
+
+#[repr(C)]
+#[derive(Clone, Copy, Default)]
 pub struct Report {
     pub zones: u64,
     pub count: usize,
@@ -117,6 +126,7 @@ extern "C" {
     fn gcz_begin(gcz: *mut Gcz, zones: u64) -> u32;
     fn gcz_advance(gcz: *mut Gcz, limit: u64, done: *mut Step) -> u32;
     fn gcz_running(gcz: *mut Gcz, running: *mut bool) -> u32;
+    fn gcz_counts(gcz: *mut Gcz, counts: *mut Counts) -> u32;
     fn gcz_report(gcz: *mut Gcz, told: *mut Report) -> u32;
     fn gcz_report_name(gcz: *mut Gcz, index: usize, name: *mut Name) -> u32;
     fn gcz_report_group(gcz: *mut Gcz, index: usize, zones: *mut u64) -> u32;
@@ -214,6 +224,7 @@ calls! {
     begin = gcz_begin(zones: u64);
     advance = gcz_advance(limit: u64) -> Step;
     running = gcz_running() -> bool;
+    counts = gcz_counts() -> Counts;
     report = gcz_report() -> Report;
     report_name = gcz_report_name(index: usize) -> Name;
     report_group = gcz_report_group(index: usize) -> u64;

@@ -229,6 +229,19 @@ pub struct Step {
     pub finished: bool,
 }
 
+/// How much a heap holds.
+#[derive(Clone, Copy, Debug, PartialEq, Eq)]
+pub struct Counts {
+    /// The cells that are there, wrappers among them.
+    pub cells: u64,
+    /// The objects and maps that were ever made. The next one has this number.
+    pub objects: u64,
+    /// The entries of weak maps.
+    pub entries: u64,
+    /// The arenas of 64 slots each. None is given back but with the heap.
+    pub arenas: u32,
+}
+
 /// A line of a dump.
 #[derive(Clone, Copy, Debug, PartialEq, Eq)]
 pub enum Line {
@@ -367,6 +380,17 @@ impl Heap {
     /// Whether a collection runs.
     pub fn is_running(&mut self) -> bool {
         matches!(self.handle.running(), Ok(true))
+    }
+
+    /// How much the heap holds.
+    pub fn counts(&mut self) -> Result<Counts> {
+        let counts = checked(self.handle.counts())?;
+        Ok(Counts {
+            cells: counts.cells,
+            objects: counts.objects,
+            entries: counts.entries,
+            arenas: counts.arenas,
+        })
     }
 
     /// Does a step of the collection that runs, of at most `limit` units: those that report nothing, or one that

@@ -42,8 +42,11 @@ fn ring_is_gray_and_then_freed() -> Result<(), Error> {
     assert_eq!(lines.iter().filter(|line| matches!(line, Line::Cell { black: false, .. })).count(), 4);
     assert_eq!(lines.iter().filter(|line| matches!(line, Line::Edge { .. })).count(), 2);
     heap.release(SLOTS[0])?;
+    assert_eq!(heap.counts()?.cells, 4);
     assert_eq!(freed(&collect(&mut heap, &zones, 1000)?), 4);
     assert_eq!(heap.dump()?, []);
+    let counts = heap.counts()?;
+    assert_eq!((counts.cells, counts.objects, counts.entries, counts.arenas), (0, 2, 0, 2));
     Ok(())
 }
 
@@ -64,7 +67,7 @@ fn errors_have_words() -> Result<(), Error> {
     assert_eq!(heap.begin(&[zone]), Err(Error::Running));
     assert_eq!(heap.grays(), Err(Error::Marking));
     assert_eq!(Error::Empty.to_string(), "a register that is read is empty");
-    assert_eq!(Error::NoMemory.to_string(), "there is no memory");
+    assert_eq!(Error::NoMemory.to_string(), "out of memory");
     Ok(())
 }
 
