@@ -1,0 +1,58 @@
+/* Does one call of the library a number of times: calls CALL COUNT. bench/calls.py measures it. */
+#include <stdio.h>
+#include <stdlib.h>
+#include <string.h>
+
+#include "gczone.h"
+
+static gcz_t heap = GCZ_CLOSED_HANDLE;
+static gcz_name_t name;
+static gcz_step_t step;
+static bool running;
+
+static uint32_t nothing(void) { return GCZ_DONE; }
+static uint32_t is_running(void) { return gcz_running(&heap, &running); }
+static uint32_t beyond(void) { return gcz_copy(&heap, 16, 0); }
+static uint32_t copy(void) { return gcz_copy(&heap, 1, 0); }
+static uint32_t get(void) { return gcz_get(&heap, 1, 0, 0, &name); }
+static uint32_t set(void) { return gcz_set(&heap, 0, 0, 2); }
+static uint32_t new(void) { return gcz_new(&heap, 1, 0, 1, &name); }
+static uint32_t refused(void) { return gcz_get(&heap, 1, 9, 0, &name); }
+static uint32_t idle_step(void) { return gcz_advance(&heap, 1, &step); }
+
+static const struct {
+    const char *word;
+    uint32_t (*does)(void);
+    uint32_t status;
+} calls[] = {
+    {"nothing", nothing, GCZ_DONE}, {"gcz_running", is_running, GCZ_DONE},
+    {"gcz_copy", copy, GCZ_DONE},   {"gcz_get", get, GCZ_DONE},
+    {"gcz_set", set, GCZ_DONE},     {"gcz_new", new, GCZ_DONE},
+    {"refused", refused, GCZ_EMPTY}, {"out-of-range", beyond, GCZ_BAD_REGISTER},
+    {"gcz_advance", idle_step, GCZ_DONE},
+};
+
+static uint32_t prepare(void) {
+    uint32_t status = gcz_open(&heap);
+    status |= gcz_zone(&heap, &name);
+    status |= gcz_comp(&heap, 0, &name);
+    status |= gcz_new(&heap, 0, 0, 1, &name);
+    status |= gcz_new(&heap, 2, 0, 1, &name);
+    status |= gcz_set(&heap, 0, 0, 2);
+    return status;
+}
+
+int main(int count, char **words) {
+    if (count != 3 || prepare() != GCZ_DONE)
+        return 2;
+    for (size_t i = 0; i < sizeof calls / sizeof *calls; i++) {
+        if (strcmp(calls[i].word, words[1]) != 0)
+            continue;
+        for (long left = strtol(words[2], NULL, 10); left > 0; left--)
+            if (calls[i].does() != calls[i].status)
+                return 1;
+        gcz_close(&heap);
+        return 0;
+    }
+    return 2;
+}

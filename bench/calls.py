@@ -1,0 +1,116 @@
+#!/usr/bin/env python3
+"""Measures what a call of the library for C costs, and a line through a pipe, and prints one table.
+
+    bench/calls.py [--library PATH] [--program PATH]
+
+For each call: the instructions that it takes, as valgrind counts them, and the nanoseconds of processor time, of five
+runs the quickest; what the loop takes without the call is taken off. `gcz_running` does next to nothing behind the
+handle, so it shows what the handle costs; `refused` is a `gcz_get` from an empty register, `out-of-range` a `gcz_copy`
+to register 16, and `gcz_advance` is one where no collection runs. Last, a line that is written to `gczone run` and
+whose answer is read, in microseconds of wall time. Say nothing of times but what one run on one machine shows.
+"""
+
+import os
+import resource
+import subprocess
+import sys
+import tempfile
+import time
+from pathlib import Path
+
+sys.dont_write_bytecode = True
+sys.path.insert(0, str(Path(__file__).resolve().parent.parent / "tools"))
+
+from command_line import Fault, Parser, run_main  # noqa: E402 (no bytecode beside the sources)
+from progress import Progress  # noqa: E402
+from speed import TOP, count_instructions, find_program, print_head, print_row, require  # noqa: E402
+
+BINDINGS = TOP / "bindings/c"
+CALLS = ["gcz_running", "out-of-range", "refused", "gcz_copy", "gcz_get", "gcz_set", "gcz_new", "gcz_advance"]
+COUNTED, TIMED, LINES, TRIES, LIMIT = 20_000, 2_000_000, 20_000, 5, 120
+
+
+def build(library, folder):
+    program = folder / "calls"
+    made = subprocess.run(
+        ["cc", "-std=c11", "-O2", f"-I{BINDINGS}", "-o", program, TOP / "bench/calls.c", library], check=False
+    )
+    if made.returncode:
+        raise Fault("bench/calls.c does not compile", 1)
+    return program
+
+
+def instructions(program, call):
+    """What a call takes: what twice the number of calls takes more than that number, by the call."""
+    few, many = (
+        count_instructions([str(program), call, str(count)], os.devnull, LIMIT) for count in (COUNTED, 2 * COUNTED)
+    )
+    if few is None or many is None:
+        raise Fault(f"{call} takes too long under valgrind", 1)
+    return (many - few) / COUNTED
+
+
+def processor_time():
+    used = resource.getrusage(resource.RUSAGE_CHILDREN)
+    return used.ru_utime + used.ru_stime
+
+
+def seconds(program, call):
+    before = processor_time()
+    done = subprocess.run([program, call, str(TIMED)], check=False)
+    if done.returncode:
+        raise Fault(f"{call} ended with status {done.returncode}", 1)
+    return processor_time() - before
+
+
+def nanoseconds(program, call):
+    return min(seconds(program, call) for _ in range(TRIES)) / TIMED * 1e9
+
+
+def round_trip(program):
+    """Microseconds from a line that is written to the answer that is read."""
+    asks = subprocess.Popen([program, "run"], stdin=subprocess.PIPE, stdout=subprocess.PIPE, bufsize=0)
+    reader = os.fdopen(os.dup(asks.stdout.fileno()), "rb")
+    for line in (b"zone\n", b"comp 0\n", b"new r0 0 1\n"):
+        asks.stdin.write(line)
+        reader.readline()
+    start = time.monotonic()
+    for _ in range(LINES):
+        asks.stdin.write(b"copy r1 r0\n")
+        reader.readline()
+    taken = time.monotonic() - start
+    asks.stdin.close()
+    if asks.wait():
+        raise Fault(f"{program} ended with status {asks.returncode}", 1)
+    return taken / LINES * 1e6
+
+
+def read_words():
+    words = Parser(__doc__)
+    words.add_argument("--library", type=Path, default=BINDINGS / "out/libgczone.a", help="the libgczone.a to measure")
+    words.add_argument("--program", type=Path, help="the gczone to measure")
+    return words.parse_args()
+
+
+def main():
+    require("cc", "valgrind")
+    words = read_words()
+    program = find_program(words.program)
+    if not words.library.is_file():
+        raise Fault(f"{words.library} is not there: make -C bindings/c", 1)
+    with tempfile.TemporaryDirectory() as folder, Progress("calls measured", len(CALLS)) as measured:
+        calls = build(words.library, Path(folder))
+        empty = instructions(calls, "nothing"), nanoseconds(calls, "nothing")
+        rows = [
+            (call, instructions(calls, call) - empty[0], nanoseconds(calls, call) - empty[1])
+            for call in measured.over(CALLS)
+        ]
+        trip = min(round_trip(program) for _ in range(TRIES))
+    print_head("call", "instructions", "ns")
+    for call, count, time_taken in rows:
+        print_row(call, f"{count:,.0f}", f"{time_taken:.1f}")
+    print(f"\nA line through a pipe and its answer: {trip:.1f} microseconds.")
+
+
+if __name__ == "__main__":
+    run_main(main)
