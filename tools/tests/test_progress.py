@@ -22,7 +22,7 @@ sys.path[:0] = [str(TOOLS), str(TOOLS / "tests")]
 from large_log import main as write_log  # noqa: E402 (the folder of tests is no package)
 from progress import Progress, print_line  # noqa: E402
 
-SECONDS = 60
+SECONDS = 300
 # In place of gczone: they answer as that does, and take much longer than two seconds, also on a busy machine.
 SLOW_COMP = "#!/bin/sh\nread -r a; echo ok; read -r a; echo zone 0; read -r a; sleep 6; echo comp 0\n"
 SLOW_CHECK = "#!/bin/sh\ncat > /dev/null\nsleep 6\necho ok 0 0 0\n"

@@ -49,7 +49,7 @@ WORDS = {
     **dict(RUNNERS), "heap-log": [HEAP_LOG], "prompt": [FIRST], "versus": ["1", "1"], "check-faults": [],
     "after-edit": [], "uses": ["replay"], "lint": [], "test": [], "prove": [], "build-unproved": [],
     "check-bindings": [], "spidermonkey/check-logs": [], "../bench/speed.py": [], "../bench/helpers.py": [],
-    "../bench/dumps.py": [], "../bench/engines.py": [],
+    "../bench/dumps.py": [], "../bench/engines.py": [], "../bench/calls.py": [],
 }
 SHELL = ["find-program"]
 
