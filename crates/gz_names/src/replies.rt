@@ -25,8 +25,6 @@ pub enum Refusal {
     NoField,
     /// Two cells are of different compartments.
     Cross,
-    /// The key is a wrapper.
-    WrapperKey,
     /// A collection runs.
     Running,
     /// No collection runs.

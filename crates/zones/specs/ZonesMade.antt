@@ -23,5 +23,5 @@ pub record AreSound (states : List State) (comps : List ℕ) (members : List Zon
   pub zones_fit : length states ≤ 64
   pub comps_fit : length comps ≤ 256
   pub zones_made : All (λ z. z < length states) comps
-  pub five : length members ≡ 5
+  pub six : length members ≡ 6
   pub grouped : AreGrouped states members

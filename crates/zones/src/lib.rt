@@ -6,11 +6,12 @@
 // (js/src/vm/Compartment.h). Both are numbered from 0 in order of making, and none goes away. Each
 // zone has a state, and the states follow each other in one order:
 //
-//     NoGC -> MarkBlackOnly -> MarkBlackAndGray -> Sweep -> Finished
-//      ^                                                      |
-//      +------------------------------------------------------+
+//     NoGC -> Prepare -> MarkBlackOnly -> MarkBlackAndGray -> Sweep -> Finished
+//      ^                                                                 |
+//      +-----------------------------------------------------------------+
 //
-//     a collection begins        its zones go to MarkBlackOnly
+//     a collection begins        its zones go to Prepare, and their mark bits are cleared
+//     its marking begins         they go to MarkBlackOnly
 //     a group begins             its zones go to MarkBlackAndGray, one after another
 //     a group ends               its zones go to Sweep
 //     its arenas are taken in    its zones go to Finished

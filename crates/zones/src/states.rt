@@ -7,6 +7,8 @@ ghost use Rattle.zones.specs.States.{next_state, IsMarking, number_of};
 pub enum State {
     /// The zone is in no collection.
     NoGC,
+    /// The zone will be collected: its mark bits are being cleared, arena by arena, and count for nothing.
+    Prepare,
     /// Black marking goes through the zone; gray marking waits at its edge.
     MarkBlackOnly,
     /// The zone's group is marked gray, and still black.
@@ -23,7 +25,8 @@ impl State {
         ensures { result ≡ next_state self }
     {
         match self {
-            State::NoGC => State::MarkBlackOnly,
+            State::NoGC => State::Prepare,
+            State::Prepare => State::MarkBlackOnly,
             State::MarkBlackOnly => State::MarkBlackAndGray,
             State::MarkBlackAndGray => State::Sweep,
             State::Sweep => State::Finished,
@@ -41,7 +44,7 @@ impl State {
     // The state's place in their order.
     pub(crate) fn number(self) -> usize
         ensures value { result ≡ number_of self }
-        ensures below { result < 5 }
+        ensures below { result < 6 }
     {
         self as usize
     }

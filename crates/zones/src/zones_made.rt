@@ -55,7 +55,7 @@ pub struct Zones {
     states: Vec<State>,
     comps: Vec<ZoneNo>,
     // The zones of each state, by the state's place in their order.
-    members: [ZoneSet; 5],
+    members: [ZoneSet; 6],
 }
 
 impl Model for Zones {
@@ -78,7 +78,7 @@ impl Zones {
         Zones {
             states: Vec::new(alloc),
             comps: Vec::new(alloc),
-            members: [ZoneSet { bits: 0 }; 5],
+            members: [ZoneSet { bits: 0 }; 6],
         }
     }
 
@@ -200,6 +200,13 @@ impl Zones {
         self.members[state.number()]
     }
 
+    /// The zones that are being prepared.
+    pub fn preparing(&self) -> ZoneSet
+        ensures { (z : ℕ) → HasZone result.bits z ↔ (slice_get self.now.states z ≡ Some State.Prepare) }
+    {
+        self.in_state(State::Prepare)
+    }
+
     /// The zones that black marking goes through.
     pub fn marking(&self) -> ZoneSet
         ensures { (z : ℕ) → HasZone result.bits z
@@ -212,7 +219,7 @@ impl Zones {
 
 // A zone comes into the set of a state.
 fn enter(members: &mut [ZoneSet], state: State, zone: ZoneNo)
-    requires { length members.old ≡ 5 }
+    requires { length members.old ≡ 6 }
     ensures { (z : ℕ) (s : State) → HasZone (word_of members.new s) z
         ↔ (HasZone (word_of members.old s) z ⊎ ((s ≡ state) × (z ≡ zone))) }
 {
@@ -223,7 +230,7 @@ fn enter(members: &mut [ZoneSet], state: State, zone: ZoneNo)
 
 // A zone goes out of the set of a state.
 fn leave(members: &mut [ZoneSet], state: State, zone: ZoneNo)
-    requires { length members.old ≡ 5 }
+    requires { length members.old ≡ 6 }
     ensures { (z : ℕ) (s : State) → HasZone (word_of members.new s) z
         ↔ (HasZone (word_of members.old s) z × ((s ≡ state) → z ≢ zone)) }
 {

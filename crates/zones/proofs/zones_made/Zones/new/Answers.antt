@@ -9,6 +9,6 @@ invariant_of-result c =
       zones_fit = omega arith;
       comps_fit = omega arith;
       zones_made = search rules;
-      five = search rules;
+      six = search rules;
       grouped = AreGrouped-none;
     })
