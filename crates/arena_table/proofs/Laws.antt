@@ -41,21 +41,6 @@ cell_at-set_bits xs a bits (b, s) = by xs a b
     by (y ∷ ys) (suc i) zero = refl
     by (y ∷ ys) (suc i) (suc j) = by ys i j
 
-pub cell_at-clear_bits : (xs : List Arena) (word : ℕ) (bits : Bits) (p : Place)
-    → cell_at (in_these (with_bits bits) word xs) p ≡ cell_at xs p
-cell_at-clear_bits xs word bits (b, s) = by xs b
-  where
-    one : (x : Arena) (c : Bool) → cell_in (if c then with_bits bits x else x).slots s ≡ cell_in x.slots s
-    one x true = refl
-    one x false = refl
-
-    by : (ys : List Arena) (j : ℕ)
-        → option_and_then (λ (x : Arena). cell_in x.slots s) (slice_get (in_these (with_bits bits) word ys) j)
-        ≡ option_and_then (λ (x : Arena). cell_in x.slots s) (slice_get ys j)
-    by [] j = refl
-    by (y ∷ ys) zero = one y (in_zones word y.zone)
-    by (y ∷ ys) (suc j) = by ys j
-
 -- no arena of a set of zones is handed to sweeping, and none is by a change that keeps zones and takes none out
 abbrev IsIn : ℕ → Arena → Type 0
 IsIn word x = in_zones word x.zone ≡ true → x.is_out ≡ false

@@ -18,6 +18,6 @@ pub mod Reserving
 pub mod Visiting
 pub mod Outs
 pub mod Laws
-mod DelayedCells
+pub mod DelayedCells
 mod CellSets
 mod Covered

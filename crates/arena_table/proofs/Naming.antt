@@ -15,7 +15,7 @@ use Rattle.arena_table.specs.declared.cells.Cell.{Cell}
 use Rattle.arena_table.specs.declared.store.Head.{Head}
 use Rattle.arena_table.proofs.Fields.{AreNullFrom-none}
 use Rattle.arena_table.proofs.SlotBits.{alloc_word_of-slots_of}
-use Rattle.arena_table.proofs.Storing.{in_heads, length-chunk, no_head, slice_get-arenas_of}
+use Rattle.arena_table.proofs.Storing.{cells_in, in_heads, long_at, no_head, slice_get-arenas_of}
 use Rattle.arena_table.proofs.AtBits.{at_bits-lowest, at_bits-zero, length-at_bits}
 
 abbrev pub no_cell : Cell
@@ -23,7 +23,6 @@ no_cell = record {
   kind = kind.Object 0;
   comp = record { 0 = 0 };
   fetched = false;
-  wrapped_in = None;
   fields = [];
   number = 0;
   few = omega arith;
@@ -90,16 +89,18 @@ names_of-slots word w (c ∷ cs) h =
         ∙ ap (λ ns. (state_of c).name ∷ ns) rest
 
 -- the names of the cells of an arena
-pub names_of-stored : (hs : List Head) (cs : List (List Cell)) (arenas : List Arena) (i word : ℕ) (names : List Name)
-    (c : List Cell) → AreStored hs cs → arenas_of hs cs ≡ arenas → i < length arenas → c ≡ get_or cs i c
-    → IsSomeAnd (slice_get arenas i) (λ a. IsWithin word (alloc_word_of a.slots)) → names ≡ names_in (at_bits word c)
+pub names_of-stored : (hs : List Head) (cs : List Cell) (arenas : List Arena) (i word : ℕ) (names : List Name)
+    → AreStored hs cs → arenas_of hs cs ≡ arenas → i < length arenas
+    → IsSomeAnd (slice_get arenas i) (λ a. IsWithin word (alloc_word_of a.slots))
+    → names ≡ names_in (at_bits word (cells_in i cs))
     → IsSomeAnd (slice_get arenas i) (λ a. names ≡ names_of (at_bits word a.slots))
-names_of-stored hs cs arenas i word names c stored e lt chunk within read =
-    let inside = in_heads hs cs arenas i stored e lt in
+names_of-stored hs cs arenas i word names stored e lt within read =
+    let inside = in_heads hs cs arenas i e lt in
     let h = get_or hs i no_head in
-    let long : length c ≡ 64 = ap length chunk ∙ length-chunk hs cs i c stored inside in
+    let c = cells_in i cs in
+    let long : length c ≡ 64 = long_at hs cs i stored inside in
     let here : slice_get arenas i ≡ Some (arena_of h c) = ap (λ as'. slice_get as' i) (sym e)
-    ∙ (slice_get-arenas_of hs cs i no_head c stored.paired inside ∙ ap (λ x. Some (arena_of h x)) (sym chunk)) in
+    ∙ slice_get-arenas_of hs cs i no_head inside in
     let bits : IsWithin word (alloc_word_of (slots_of h.alloc_word c)) =
     subst (λ (o : Option Arena). IsSomeAnd o (λ a. IsWithin word (alloc_word_of a.slots))) here within in
     let fits : h.alloc_word < 2 ^ length c = rw long (stored.words i no_head inside) in

@@ -1,6 +1,7 @@
 -- What a cell is, and how its fields are kept.
 use Rattle.std.specs.Prelude.{ℕ, zero, suc, ◌/◌, ◌%◌, List, Option, Some, None, map, take, slice_get, slice_set}
 use Rattle.gz_names.specs.declared.commands.Kind.{Kind}
+use Rattle.gz_names.specs.declared.commands.Kind.TheVariants.{Object, Map, Wrapper}
 use Rattle.gz_names.specs.declared.names.Name.{Name}
 use Rattle.gz_names.specs.declared.names.Name.TheVariants as name
 use Rattle.gz_names.specs.declared.numbers.CompNo.{CompNo}
@@ -33,16 +34,17 @@ abbrev pub place_at : ℕ → Option Place
 place_at zero = None
 place_at (suc n) = Some (n / 64, n % 64)
 
--- the name that a cell keeps as a compartment, which a wrapper alone has, and a number
-abbrev pub kept_name : Option CompNo → ℕ → Name
-kept_name None number = name.Cell number
-kept_name (Some comp) number = name.Wrap comp number
+-- what a cell is called: an object or a map by its number, a wrapper by its compartment and its target's number
+abbrev pub name_of : Kind → CompNo → ℕ → Name
+name_of (Object n) comp number = name.Cell number
+name_of Map comp number = name.Cell number
+name_of Wrapper comp number = name.Wrap comp number
 
 -- a cell as it is kept
 abbrev pub state_of : Cell → CellState
 state_of cell = record {
   kind = cell.kind;
   comp = cell.comp;
-  name = kept_name cell.wrapped_in cell.number;
+  name = name_of cell.kind cell.comp cell.number;
   fields = map (λ (link : Link). place_at link.position) (take (field_count cell.kind) cell.fields);
 }

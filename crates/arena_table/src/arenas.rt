@@ -5,8 +5,9 @@ ghost use Rattle.std.specs.Prelude.{OnOk, OnErr};
 ghost use Rattle.std.specs.Prelude.{IfSome, IfNone, MatchBool, is_some, if◌then◌else◌};
 ghost use Rattle.std.specs.Int.{bit_at};
 ghost use Rattle.std.specs.Option.{ForSome, option_map};
+ghost use Rattle.gz_names.specs.Order.{number_of};
 ghost use Rattle.gz_names.specs.declared.numbers.Place.{Place};
-ghost use Rattle.arena_table.specs.Cells.{field_count, field_of, state_of, with_value};
+ghost use Rattle.arena_table.specs.Cells.{field_count, field_of, name_of, state_of, with_value};
 ghost use Rattle.arena_table.specs.Slots.{Arena, IsWithin, alloc_word_of, at_bits, bit_of, cell_at, change_at};
 ghost use Rattle.arena_table.specs.Slots.{handed_out, held_by, is_out_at, names_of, taken_in, with_bits, with_cell};
 ghost use Rattle.arena_table.specs.Slots.{with_field};
@@ -157,10 +158,13 @@ impl Arenas {
         }
     }
 
-    /// Puts a cell, its fields null, at the place that is kept.
+    /// Puts a cell, its fields null, at the place that is kept. Its name tells no more than its kind, its
+    /// compartment and a number.
     pub fn put_cell(&mut self, place: Place, kind: Kind, comp: CompNo, name: Name)
         requires reserved { option_map (λ r. r.place) self.old.reserved ≡ Some place }
         requires fields { field_count kind ≤ 8 }
+        requires name { name ≡ name_of kind comp (number_of name) }
+        requires number { number_of name < 4294967296 }
         ensures put { IfSome self.old.reserved (λ r. self.new ≡ record self.old {
           arenas = put_at self.old.arenas r.zone place (new_cell kind comp name);
           made = self.old.made + 1;
@@ -194,7 +198,8 @@ impl Arenas {
 
     pub fn name(&self, place: Place) -> Name
         requires { IsSome (cell_at self.now.arenas place) }
-        ensures { option_map (λ c. c.name) (cell_at self.now.arenas place) ≡ Some result }
+        ensures value { option_map (λ c. c.name) (cell_at self.now.arenas place) ≡ Some result }
+        ensures few { number_of result < 4294967296 }
     {
         self.store.cell(place).name()
     }
@@ -257,16 +262,6 @@ impl Arenas {
         } }
     {
         self.store.set_bits(arena as usize, bits);
-    }
-
-    /// Clears the mark bits of all arenas of these zones. It walks the arenas of these zones alone.
-    pub fn clear_bits(&mut self, zones: ZoneSet)
-        requires { AreIn zones.bits self.old.arenas }
-        ensures { self.new ≡ record self.old {
-          arenas = in_these (with_bits no_bits) zones.bits self.old.arenas;
-        } }
-    {
-        clear_in_zones(&mut self.store, &self.index, zones);
     }
 
     /// Hands all arenas of these zones to sweeping: their bits are in flight from now on, and they
@@ -581,18 +576,6 @@ fn send_out(store: &mut Store, index: &Index, out: &mut ArenaSet, zones: ZoneSet
     while let Some(arena) = walk.next(index) {
         store.set_out(arena);
         out.insert(arena);
-    }
-}
-
-// The bits of the arenas of these zones are cleared.
-fn clear_in_zones(store: &mut Store, index: &Index, zones: ZoneSet)
-    requires { IsOwnedBy store.old.arenas index.now.owned }
-    ensures arenas { store.new.arenas ≡ in_these (with_bits no_bits) zones.bits store.old.arenas }
-    ensures room { store.new.room ≡ store.old.room }
-{
-    let mut walk = Walk::over(zones);
-    while let Some(arena) = walk.next(index) {
-        store.set_bits(arena, Bits { black: 0, gob: 0 });
     }
 }
 

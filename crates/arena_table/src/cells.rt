@@ -1,6 +1,7 @@
 // Cells as they are kept.
 ghost use Rattle.std.specs.Prelude.{◌≡◌, ◌≤◌, ◌<◌, ◌+◌, ◌*◌, ◌-◌, ◌^◌, ℕ, None, replicate, slice_set, length};
 ghost use Rattle.std.specs.Option.{ForSome};
+ghost use Rattle.gz_names.specs.Order.{number_of};
 ghost use Rattle.arena_table.specs.Kinds.{AreNullFrom, field_count};
 
 use gz_names::{CompNo, Kind, Name, Place};
@@ -16,19 +17,17 @@ pub(crate) struct Link {
     pub position: u32,
 }
 
-/// A cell as it is kept, in 48 bytes. Links past the fields that its kind has are null. What marking
-/// reads stands first.
+/// A cell as it is kept, in 40 bytes. Links past the fields that its kind has are null. What marking
+/// reads stands first. Its name is not kept: the kind, the compartment and the number tell it.
 #[derive(Clone, Copy)]
 pub(crate) struct Cell {
     pub kind: Kind,
     pub comp: CompNo,
     /// Written to fetch the cell, and never read.
     pub fetched: bool,
-    /// The compartment that the name tells; an object or a map has none.
-    pub wrapped_in: Option<CompNo>,
     pub fields: [Link; 8],
     /// The number that the name tells.
-    pub number: u64,
+    pub number: u32,
     ghost few: { field_count kind ≤ 8 },
     ghost null_past: { AreNullFrom (field_count kind) fields },
 }
@@ -38,10 +37,19 @@ pub(crate) const NO_CELL: Cell = Cell {
     kind: Kind::Map,
     comp: CompNo(0),
     fetched: false,
-    wrapped_in: None,
     fields: [Link { position: 0 }; 8],
     number: 0,
 };
+
+/// The position of a place among the slots of all arenas.
+#[inline(always)]
+pub(crate) fn position(place: Place) -> u32
+    requires { place.0 < ARENA_LIMIT }
+    ensures value { result ≡ 64 * place.0 + place.1 }
+    ensures slot { place.1 < 64 }
+{
+    64 * place.arena() + u32::from(place.slot())
+}
 
 impl Link {
     ghost use Rattle.arena_table.specs.Cells.{place_at};
@@ -53,7 +61,7 @@ impl Link {
     {
         match value {
             Some(place) => Link {
-                position: 64 * place.arena() + u32::from(place.slot()) + 1,
+                position: position(place) + 1,
             },
             None => Link { position: 0 },
         }
@@ -82,12 +90,25 @@ pub(crate) fn fields_of(kind: Kind) -> u8
     }
 }
 
+// The number that a name tells.
+fn number_in(name: Name) -> u32
+    requires { number_of name < 4294967296 }
+    ensures { result ≡ number_of name }
+{
+    match name {
+        Name::Cell(number) => number as u32,
+        Name::Wrap(_, number) => number as u32,
+    }
+}
+
 impl Cell {
-    ghost use Rattle.arena_table.specs.Cells.{CellState, field_of, kept_name, state_of};
+    ghost use Rattle.arena_table.specs.Cells.{CellState, field_of, name_of, state_of};
 
     /// A cell whose fields are null.
     pub fn new(kind: Kind, comp: CompNo, name: Name) -> Self
-        requires { field_count kind ≤ 8 }
+        requires fields { field_count kind ≤ 8 }
+        requires name { name ≡ name_of kind comp (number_of name) }
+        requires number { number_of name < 4294967296 }
         ensures { state_of result ≡ record {
           kind = kind;
           comp = comp;
@@ -95,34 +116,25 @@ impl Cell {
           fields = replicate (field_count kind) None;
         } }
     {
-        let (wrapped_in, number) = Self::split_name(name);
         Cell {
             kind,
             comp,
             fetched: false,
-            wrapped_in,
             fields: [Link { position: 0 }; 8],
-            number,
-        }
-    }
-
-    // The compartment and the number that a name tells.
-    fn split_name(name: Name) -> (Option<CompNo>, u64)
-        ensures { kept_name result.0 result.1 ≡ name }
-    {
-        match name {
-            Name::Cell(number) => (None, number),
-            Name::Wrap(comp, number) => (Some(comp), number),
+            number: number_in(name),
         }
     }
 
     /// What the cell is called.
     pub fn name(&self) -> Name
-        ensures { result ≡ (state_of self.now).name }
+        ensures value { result ≡ (state_of self.now).name }
+        ensures few { number_of result < 4294967296 }
     {
-        match self.wrapped_in {
-            Some(comp) => Name::Wrap(comp, self.number),
-            None => Name::Cell(self.number),
+        let number = u64::from(self.number);
+        match self.kind {
+            Kind::Object(_) => Name::Cell(number),
+            Kind::Map => Name::Cell(number),
+            Kind::Wrapper => Name::Wrap(self.comp, number),
         }
     }
 

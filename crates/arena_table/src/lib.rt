@@ -9,8 +9,9 @@
 //
 //     heads     [ 0 | 1 | 2 | .. ]    32 bytes an arena: the word of its allocated slots, its two
 //                                     words of mark bits, its zone, whether it is out
-//     chunks    [ 0 | 1 | 2 | .. ]    64 cells of 56 bytes: name, kind, compartment, 8 fields of
-//                                     four bytes, null past those that the cell has
+//     cells     [ 0 | 1 | 2 | .. ]    64 cells of 40 bytes an arena: kind, compartment, 8 fields of four
+//                                     bytes, null past those that the cell has, and a number, which with
+//                                     the kind and the compartment tells the name
 //
 // A slot has a cell where its bit of the allocation word is set; what a free slot's memory holds says
 // nothing. So freeing the white cells of an arena is one step on a word:

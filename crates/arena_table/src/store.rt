@@ -1,17 +1,18 @@
 // Arenas as they are kept.
 ghost use Rattle.std.specs.Prelude.{◌≡◌, ◌≤◌, ◌<◌, ◌+◌, ◌++◌, ◌∷◌, ◌^◌, [], ℕ, Bool, true, false, IsSome, IsSomeAnd};
-ghost use Rattle.std.specs.Prelude.{IsTrue, Some, None, length, map, slice_get, slice_set, OnOk, OnErr};
+ghost use Rattle.std.specs.Prelude.{IsTrue, Some, None, length, map, replicate, slice_get, slice_set, OnOk, OnErr};
+ghost use Rattle.std.specs.Prelude.{vec_len, vec_capacity};
 ghost use Rattle.std.specs.Option.{ForSome, option_map};
 ghost use Rattle.arena_table.specs.Cells.{state_of};
 ghost use Rattle.arena_table.specs.Slots.{at_bits};
 
-use crate::cells::{ARENA_LIMIT, Cell, NO_CELL};
+use crate::cells::{ARENA_LIMIT, Cell, NO_CELL, position};
 use cell_bits::Bits;
 use gz_names::{Names64, Place, ZoneNo};
 use std::alloc::{AllocError, Global};
 use std::marker::Model;
 
-// How many arenas memory is taken for at first. Their cells take 192 kilobytes, which the C library maps: a page of
+// How many arenas memory is taken for at first. Their cells take 160 kilobytes, which the C library maps: a page of
 // them takes no memory before it is written, and as there are more arenas, pages are moved and no cell is copied.
 const FIRST_ARENAS: usize = 64;
 
@@ -25,25 +26,26 @@ pub(crate) struct Head {
     pub is_out: bool,
 }
 
-/// All arenas by number: what marking and sweeping look at most is kept apart from the cells.
+/// All arenas by number: what marking and sweeping look at most is kept apart from the cells, which
+/// are 64 an arena, one arena after the other.
 #[derive(Drop)]
 pub(crate) struct Store {
     heads: Vec<Head>,
-    chunks: Vec<[Cell; 64]>,
+    cells: Vec<Cell>,
 }
 
 impl Model for Store {
-    ghost use Rattle.std.specs.Prelude.{◌-◌, min, vec_len, vec_capacity};
+    ghost use Rattle.std.specs.Prelude.{◌-◌, ◌/◌, min, vec_len, vec_capacity};
     ghost use Rattle.arena_table.specs.Stored.{StoreState, AreStored, arenas_of};
 
     ghost Value = { StoreState };
 
     ghost view = { λ s. record {
-      arenas = arenas_of s.heads.items s.chunks.items;
-      room = min (vec_capacity s.heads) (vec_capacity s.chunks) - vec_len s.heads;
+      arenas = arenas_of s.heads.items s.cells.items;
+      room = min (vec_capacity s.heads) (vec_capacity s.cells / 64) - vec_len s.heads;
     } };
 
-    ghost invariant = { λ s. AreStored s.heads.items s.chunks.items };
+    ghost invariant = { λ s. AreStored s.heads.items s.cells.items };
 }
 
 impl Store {
@@ -58,7 +60,7 @@ impl Store {
     {
         Store {
             heads: Vec::new(alloc),
-            chunks: Vec::new(alloc),
+            cells: Vec::new(alloc),
         }
     }
 
@@ -82,7 +84,7 @@ impl Store {
             1
         };
         self.heads.reserve(more)?;
-        self.chunks.reserve(more)?;
+        self.cells.reserve(64 * more)?;
         Ok(())
     }
 
@@ -100,7 +102,7 @@ impl Store {
             zone,
             is_out: false,
         });
-        self.chunks.push_reserved([NO_CELL; 64]);
+        push_alike(&mut self.cells, NO_CELL);
     }
 
     /// The cell at a place.
@@ -108,7 +110,7 @@ impl Store {
         requires { IsSome (cell_at self.now.arenas place) }
         ensures { cell_at self.now.arenas place ≡ Some (state_of result.now) }
     {
-        &self.chunks[place.arena() as usize][place.slot() as usize]
+        &self.cells[position(place) as usize]
     }
 
     /// An arena without its cells.
@@ -126,10 +128,8 @@ impl Store {
         ensures { self.new.arenas
             ≡ change_at (with_cell place.1 (state_of cell)) self.old.arenas place.0 }
     {
-        let arena = place.arena() as usize;
-        let slot = place.slot();
-        self.heads[arena].alloc_word |= 1 << slot;
-        self.chunks[arena][slot as usize] = cell;
+        self.heads[place.arena() as usize].alloc_word |= 1 << place.slot();
+        self.cells[position(place) as usize] = cell;
     }
 
     /// A field of a cell takes a value.
@@ -140,8 +140,7 @@ impl Store {
             ≡ change_at (with_field place.1 f value) self.old.arenas place.0 }
         ensures room { self.new.room ≡ self.old.room }
     {
-        let cell = &mut self.chunks[place.arena() as usize][place.slot() as usize];
-        cell.set_field(f, value);
+        self.cells[position(place) as usize].set_field(f, value);
     }
 
     /// Has the memory of a slot fetched, without waiting for it.
@@ -150,7 +149,7 @@ impl Store {
         requires { place.0 < length self.old.arenas }
         ensures { self.new ≡ self.old }
     {
-        self.chunks[place.arena() as usize][place.slot() as usize].fetched = true;
+        self.cells[position(place) as usize].fetched = true;
     }
 
     /// An arena takes mark bits.
@@ -190,7 +189,19 @@ impl Store {
         ensures { IsSomeAnd (slice_get self.now.arenas arena)
             (λ a. names.new ≡ names_of (at_bits word a.slots)) }
     {
-        names_of_cells(&self.chunks[arena], word, names)
+        let cells = self.cells.as_slice();
+        let first = 64 * arena;
+        names_of_cells(&cells[first..first + 64], word, names)
+    }
+}
+
+// Pushes the cells of an arena, all alike, for which there is room.
+fn push_alike(cells: &mut Vec<Cell>, cell: Cell)
+    requires { vec_len cells.old + 64 ≤ vec_capacity cells.old }
+    ensures { cells.new.items ≡ cells.old.items ++ replicate 64 cell }
+{
+    for _slot in 0..64u8 {
+        cells.push_reserved(cell);
     }
 }
 

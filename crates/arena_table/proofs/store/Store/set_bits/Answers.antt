@@ -6,12 +6,12 @@ use Rattle.arena_table.proofs.store.Store.set_bits.Goals as goal
 
 pub index_mut-requires : goal.index_mut-requires
 index_mut-requires c =
-    let within = in_heads c.self.inside.heads.items c.self.inside.chunks.items _ c.args.arena c.self.invariant
+    let within = in_heads c.self.inside.heads.items c.self.inside.cells.items _ c.args.arena
     (ap (λ (s : StoreState). s.arenas) c.self.view_is) c.requires in
     omega (arith, c.self.inside.heads.ok.0)
 
 pub returns-clause-arenas : goal.returns-clause-arenas
 returns-clause-arenas c =
-    arenas_of-headed c.self.inside.heads.items c.self.inside.chunks.items _ c.args.arena c.index_mut.result.now _
+    arenas_of-headed c.self.inside.heads.items c.self.inside.cells.items _ c.args.arena c.index_mut.result.now _
     (with_bits c.args.bits) c.self.invariant (ap (λ (s : StoreState). s.arenas) c.self.view_is) c.requires
     c.index_mut.ensures.value (λ _ _. refl)
