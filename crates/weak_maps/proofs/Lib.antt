@@ -18,5 +18,8 @@ pub mod Table
 pub mod Tying
 pub mod Sound
 pub mod Walking
+pub mod Rows
+pub mod RowsKept
+pub mod Kept
 pub mod Listed
 pub mod Taking

@@ -6,7 +6,6 @@ use Rattle.std.proofs.Math.Seq.{map-set_same}
 use Rattle.std.proofs.lemmas.Bool.{cases_eq, cases_lt}
 use Rattle.std.proofs.lemmas.List.{length-map}
 use Rattle.std.proofs.lemmas.Option.{slice_get_within, slice_get-map, get_or_from_slice_get, same_Some, IfSome_then}
-use Rattle.gz_names.specs.declared.numbers.Place.{Place}
 use Rattle.weak_maps.specs.Heads.{HeadsState}
 use Rattle.weak_maps.specs.Listings.{ListingState}
 use Rattle.weak_maps.specs.Seats.{entry_in, left_of, left_at, left_in, owners_of, AreSeated, NoMoreLeft, NoneIsLeft}

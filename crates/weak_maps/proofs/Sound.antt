@@ -1,5 +1,6 @@
 -- What callers may rely on.
-use Rattle.std.proofs.Common.{◌≡◌, ◌&&◌, ◌⊎◌, inl, inr, ℕ, zero, suc, Bool, true, false, cond, List, [], ◌∷◌, length}
+use Rattle.std.proofs.Common.{◌≡◌, ◌↔◌, ◌&&◌, ◌⊎◌, inl, inr, ℕ, zero, suc, Bool, true, false, cond, List, [], ◌∷◌}
+use Rattle.std.proofs.Common.{length}
 use Rattle.std.proofs.Common.{map, get_or, slice_get, Contains, Option, Some, None, unwrap_or, refl, sym, ◌∙◌, ap}
 use Rattle.std.proofs.Common.{subst, arith}
 use Rattle.std.specs.Option.{option_map}
@@ -11,35 +12,36 @@ use Rattle.std.proofs.lemmas.Option.{get_or_from_slice_get, same_Some}
 use Rattle.gz_names.specs.declared.numbers.Place.{Place}
 use Rattle.weak_maps.specs.Places.{is_same}
 use Rattle.weak_maps.specs.Sides.{SideState, entries_at, listed, number_of, shown}
-use Rattle.weak_maps.specs.WeakMaps.{EntryState, AreDistinct, AreThose, AreTied, IsFor, IsSound, is_entry, is_of}
-use Rattle.weak_maps.specs.WeakMaps.{list_of, value_at, numbered, table_of}
+use Rattle.weak_maps.specs.Entries.{AreDistinct, AreEntries, AreThose, AreTied, IsFor, is_entry, is_of, list_of}
+use Rattle.weak_maps.specs.Entries.{numbered, table_of, value_at}
+use Rattle.weak_maps.specs.declared.entries.WeakEntry.{WeakEntry}
 use Rattle.weak_maps.proofs.Places.{is_same-true, is_same-self}
 use Rattle.weak_maps.proofs.Table.{and-true}
 use Rattle.weak_maps.proofs.Siding.{Contains-at}
 use Rattle.weak_maps.proofs.Reading.{map_at}
 
-Contains-tail : {X : Type 0} (y : X) (xs : List X) (x : X) → Contains xs x → Contains (y ∷ xs) x
+pub Contains-tail : {X : Type 0} (y : X) (xs : List X) (x : X) → Contains xs x → Contains (y ∷ xs) x
 Contains-tail y xs x h = Contains-append_right (y ∷ []) xs x h
 
 -- the first is met, or the rest has it
-Contains-cases : {X : Type 0} (y : X) (xs : List X) (x : X) → Contains (y ∷ xs) x → (y ≡ x) ⊎ Contains xs x
+pub Contains-cases : {X : Type 0} (y : X) (xs : List X) (x : X) → Contains (y ∷ xs) x → (y ≡ x) ⊎ Contains xs x
 Contains-cases y xs x (zero, h, e) = inl e
 Contains-cases y xs x (suc k, h, e) = inr (k, omega arith, e)
 
-distinct-tail : (e : EntryState) (es : List EntryState) → AreDistinct (e ∷ es) → AreDistinct es
+distinct-tail : (e : WeakEntry) (es : List WeakEntry) → AreDistinct (e ∷ es) → AreDistinct es
 distinct-tail e es h i j d less within = h (suc i) (suc j) d (omega arith) (omega arith)
 
-distinct-head : (e d : EntryState) (es : List EntryState) → AreDistinct (e ∷ es) → Contains es d → e.map ≡ d.map
+distinct-head : (e d : WeakEntry) (es : List WeakEntry) → AreDistinct (e ∷ es) → Contains es d → e.map ≡ d.map
     → e.key ≡ d.key → ⊥
 distinct-head e d es h (k, less, is) maps keys =
-    h 0 (suc k) d (omega arith) (omega arith) (maps ∙ ap (λ (x : EntryState). x.map) (sym is))
-    (keys ∙ ap (λ (x : EntryState). x.key) (sym is))
+    h 0 (suc k) d (omega arith) (omega arith) (maps ∙ ap (λ (x : WeakEntry). x.map) (sym is))
+    (keys ∙ ap (λ (x : WeakEntry). x.key) (sym is))
 
 is_entry-self : (m k v : Place) → is_entry m k (record { map = m; key = k; value = v }) ≡ true
 is_entry-self m k v = λ j. is_same-self m j && is_same-self k j
 
 -- an entry that is there is found
-pub found-Contains : (es : List EntryState) (m k v : Place) → AreDistinct es
+pub found-Contains : (es : List WeakEntry) (m k v : Place) → AreDistinct es
     → Contains es (record { map = m; key = k; value = v }) → value_at es m k ≡ Some v
 found-Contains [] m k v h there = absurd (omega (arith, there.1))
 found-Contains (e ∷ es) m k v h there = elim (Contains-cases e es _ there) [
@@ -56,7 +58,7 @@ found-Contains (e ∷ es) m k v h there = elim (Contains-cases e es _ there) [
     by false is later rest = rest
 
 -- what is found is an entry
-pub Contains-found : (es : List EntryState) (m k v : Place) → value_at es m k ≡ Some v
+pub Contains-found : (es : List WeakEntry) (m k v : Place) → value_at es m k ≡ Some v
     → Contains es (record { map = m; key = k; value = v })
 Contains-found [] m k v found = cc
 Contains-found (e ∷ es) m k v found = by (is_entry m k e) refl found (Contains-found es m k v)
@@ -71,7 +73,7 @@ Contains-found (e ∷ es) m k v found = by (is_entry m k e) refl found (Contains
         let values : e.value ≡ v = ap (λ o. unwrap_or o v) here in
         let same : e ≡ record { map = m; key = k; value = v } =
         λ j. record { map = sym maps j; key = sym keys j; value = values j } in
-        subst (λ (x : EntryState). Contains (e ∷ es) x) same (Contains-get_or (e ∷ es) 0 e (omega arith))
+        subst (λ (x : WeakEntry). Contains (e ∷ es) x) same (Contains-get_or (e ∷ es) 0 e (omega arith))
     by false is later rest = Contains-tail e es _ (rest later)
 
 -- where an element stands
@@ -79,7 +81,7 @@ pub stands_at : {X : Type 0} (xs : List X) (x : X) → Contains xs x → (k : �
 stands_at xs x (k, less, is) = (k, slice_get_read xs (length xs) k x refl less (sym is))
 
 -- two entries with one map and key are one
-same_number : (entries : List EntryState) → AreDistinct entries → (x y : ℕ) (d e : EntryState)
+same_number : (entries : List WeakEntry) → AreDistinct entries → (x y : ℕ) (d e : WeakEntry)
     → slice_get entries x ≡ Some d → slice_get entries y ≡ Some e → d.map ≡ e.map → d.key ≡ e.key → x ≡ y
 same_number entries distinct x y d e at too maps keys = elim (cases_eq x y) [
   | inl same ↦ same
@@ -97,7 +99,7 @@ same_number entries distinct x y d e at too maps keys = elim (cases_eq x y) [
   ])
 ]
 
-module _ (place_of : EntryState → Place) (entries : List EntryState) (side : SideState)
+module _ {E : Type 0} (place_of : E → Place) (entries : List E) (side : SideState)
     (is : IsFor place_of entries side) (p : Place) where
   listed_number : (i x : ℕ) → slice_get (listed side p) i ≡ Some x → (j : ℕ) × (number_of side p ≡ Some j)
       × (slice_get (entries_at side.lists j) i ≡ Some x)
@@ -110,7 +112,7 @@ module _ (place_of : EntryState → Place) (entries : List EntryState) (side : S
 
   -- a number that is listed is that of an entry of the place
   pub listed_entry : (i x : ℕ) → slice_get (listed side p) i ≡ Some x
-      → (e : EntryState) × (slice_get entries x ≡ Some e) × (place_of e ≡ p)
+      → (e : E) × (slice_get entries x ≡ Some e) × (place_of e ≡ p)
   listed_entry i x h =
       let found = listed_number i x h in
       let owner = is.sound.owned found.0 i x found.2 in
@@ -121,7 +123,7 @@ module _ (place_of : EntryState → Place) (entries : List EntryState) (side : S
       (entry.0, entry.1, is.sound.apart (place_of entry.0) p found.0 entry.2 found.1)
 
   -- and each is
-  pub entry_listed : (x : ℕ) (e : EntryState) → slice_get entries x ≡ Some e → place_of e ≡ p
+  pub entry_listed : (x : ℕ) (e : E) → slice_get entries x ≡ Some e → place_of e ≡ p
       → (i : ℕ) × (slice_get (listed side p) i ≡ Some x)
   entry_listed x e at of =
       let number : slice_get (map (λ j. Some j) side.owners) x ≡ Some (number_of side p) =
@@ -142,9 +144,36 @@ module _ (place_of : EntryState → Place) (entries : List EntryState) (side : S
       let same : second.0 ≡ first.0 = same_Some _ _ (sym second.1 ∙ first.1) in
       is.sound.once first.0 i k x first.2 (ap (λ j. slice_get (entries_at side.lists j) k) (sym same) ∙ second.2)
 
-  numbered_is : (x : ℕ) (e : EntryState) → slice_get entries x ≡ Some e → numbered entries p x ≡ e
-  numbered_is x e at = get_or_from_slice_get entries x e (record { map = p; key = p; value = p }) at
+-- the entries of the numbers that are listed are those of the place
+module _ {E : Type 0} (place_of : E → Place) (entries : List E) (side : SideState) (is : IsFor place_of entries side)
+    (p : Place) (entry_at : ℕ → E) (reads : (x : ℕ) (e : E) → slice_get entries x ≡ Some e → entry_at x ≡ e) where
+  pub listed_exact : (e : E) → Contains (map entry_at (listed side p)) e ↔ (Contains entries e × (place_of e ≡ p))
+  listed_exact e = (of_list, to_list)
+    where
+      of_list : Contains (map entry_at (listed side p)) e → Contains entries e × (place_of e ≡ p)
+      of_list has =
+          let at = stands_at (map entry_at (listed side p)) e has in
+          let number = map_at entry_at (listed side p) at.0 e at.1 in
+          let entry = listed_entry place_of entries side is p at.0 number.0 number.1 in
+          let same : entry.0 ≡ e = sym (reads number.0 entry.0 entry.1) ∙ number.2 in
+          subst (λ (x : E). Contains entries x × (place_of x ≡ p)) same
+          (Contains-at entries number.0 entry.0 entry.1, entry.2)
 
+      to_list : Contains entries e × (place_of e ≡ p) → Contains (map entry_at (listed side p)) e
+      to_list (has, of) =
+          let at = stands_at entries e has in
+          let here = entry_listed place_of entries side is p at.0 e at.1 of in
+          Contains-at (map entry_at (listed side p)) here.0 e
+          (slice_get-map entry_at (listed side p) here.0
+          ∙ (ap (option_map entry_at) here.1 ∙ ap (λ z. Some z) (reads at.0 e at.1)))
+
+-- the entry of a number
+pub numbered_is : (entries : List WeakEntry) (p : Place) (x : ℕ) (e : WeakEntry) → slice_get entries x ≡ Some e
+    → numbered entries p x ≡ e
+numbered_is entries p x e at = get_or_from_slice_get entries x e (record { map = p; key = p; value = p }) at
+
+module _ (place_of : WeakEntry → Place) (entries : List WeakEntry) (side : SideState)
+    (is : IsFor place_of entries side) (p : Place) where
   pub AreThose-listed : AreDistinct entries
       → AreThose (λ e. place_of e ≡ p) entries (map (numbered entries p) (listed side p))
   AreThose-listed distinct = record {
@@ -154,40 +183,22 @@ module _ (place_of : EntryState → Place) (entries : List EntryState) (side : S
         (slice_get-get_or (map (numbered entries p) (listed side p)) i d (omega (arith, less, within))) in
         let second = map_at (numbered entries p) (listed side p) k _
         (slice_get-get_or (map (numbered entries p) (listed side p)) k d within) in
-        let e = listed_entry i first.0 first.1 in
-        let f = listed_entry k second.0 second.1 in
-        let e_is : e.0 ≡ get_or (map (numbered entries p) (listed side p)) i d = sym (numbered_is first.0 e.0 e.1)
-        ∙ first.2 in
-        let f_is : f.0 ≡ get_or (map (numbered entries p) (listed side p)) k d = sym (numbered_is second.0 f.0 f.1)
-        ∙ second.2 in
+        let e = listed_entry place_of entries side is p i first.0 first.1 in
+        let f = listed_entry place_of entries side is p k second.0 second.1 in
+        let e_is : e.0 ≡ get_or (map (numbered entries p) (listed side p)) i d =
+        sym (numbered_is entries p first.0 e.0 e.1) ∙ first.2 in
+        let f_is : f.0 ≡ get_or (map (numbered entries p) (listed side p)) k d =
+        sym (numbered_is entries p second.0 f.0 f.1) ∙ second.2 in
         let same = same_number entries distinct first.0 second.0 e.0 f.0 e.1 f.1
         ((λ j. (e_is j).map) ∙ (maps ∙ (λ j. (sym f_is j).map)))
         ((λ j. (e_is j).key) ∙ (keys ∙ (λ j. (sym f_is j).key))) in
-        let once = listed_once i k first.0 first.1 (second.1 ∙ ap (λ z. Some z) (sym same)) in
+        let once = listed_once place_of entries side is p i k first.0 first.1
+        (second.1 ∙ ap (λ z. Some z) (sym same)) in
         absurd (omega (arith, less, once)));
-    exact = λ e. (λ has. of_list e has, λ has. to_list e has);
+    exact = listed_exact place_of entries side is p (numbered entries p) (numbered_is entries p);
   }
-    where
-      of_list : (e : EntryState) → Contains (map (numbered entries p) (listed side p)) e → Contains entries e
-          × (place_of e ≡ p)
-      of_list e has =
-          let at = stands_at (map (numbered entries p) (listed side p)) e has in
-          let number = map_at (numbered entries p) (listed side p) at.0 e at.1 in
-          let entry = listed_entry at.0 number.0 number.1 in
-          let same : entry.0 ≡ e = sym (numbered_is number.0 entry.0 entry.1) ∙ number.2 in
-          subst (λ (x : EntryState). Contains entries x × (place_of x ≡ p)) same
-          (Contains-at entries number.0 entry.0 entry.1, entry.2)
 
-      to_list : (e : EntryState) → Contains entries e × (place_of e ≡ p)
-          → Contains (map (numbered entries p) (listed side p)) e
-      to_list e (has, of) =
-          let at = stands_at entries e has in
-          let here = entry_listed at.0 e at.1 of in
-          Contains-at (map (numbered entries p) (listed side p)) here.0 e
-          (slice_get-map (numbered entries p) (listed side p) here.0
-          ∙ (ap (option_map (numbered entries p)) here.1 ∙ ap (λ z. Some z) (numbered_is at.0 e at.1)))
-
-module _ (place_of : EntryState → Place) (entries : List EntryState) (p : Place) where
+module _ {E : Type 0} (place_of : E → Place) (entries : List E) (p : Place) where
   -- where no list is that of the place
   none_of : (lists : List (List ℕ))
       → ((k n : ℕ) (ns : List ℕ) → slice_get lists k ≡ Some (n ∷ ns) → is_of place_of entries p n ≡ true → ⊥)
@@ -227,20 +238,20 @@ module _ (place_of : EntryState → Place) (entries : List EntryState) (p : Plac
   list_of-shown ([] ∷ lists) = list_of-shown lists
   list_of-shown ((n ∷ ns) ∷ lists) = ap (λ rest. cond (is_of place_of entries p n) (n ∷ ns) rest) (list_of-shown lists)
 
-module _ (place_of : EntryState → Place) (entries : List EntryState) (side : SideState)
+module _ {E : Type 0} (place_of : E → Place) (entries : List E) (side : SideState)
     (is : IsFor place_of entries side) (p : Place) where
   -- the first entry of a list, and whose it is
   first_entry : (k n : ℕ) (ns : List ℕ) → slice_get side.lists k ≡ Some (n ∷ ns)
-      → (e : EntryState) × (slice_get entries n ≡ Some e) × (number_of side (place_of e) ≡ Some k)
+      → (e : E) × (slice_get entries n ≡ Some e) × (number_of side (place_of e) ≡ Some k)
   first_entry k n ns at =
       let owner = is.sound.owned k 0 n (ap (λ o. slice_get (unwrap_or o []) 0) at) in
       map_at (λ e. number_of side (place_of e)) entries n (Some k)
       (ap (λ ns. slice_get ns n) is.numbers
       ∙ (slice_get-map (λ j. Some j) side.owners n ∙ ap (option_map (λ j. Some j)) owner))
 
-  is_of-read : (n : ℕ) (e : EntryState) → slice_get entries n ≡ Some e
+  is_of-read : (n : ℕ) (e : E) → slice_get entries n ≡ Some e
       → is_of place_of entries p n ≡ is_same p (place_of e)
-  is_of-read n e at = ap (λ o. unwrap_or (option_map (λ (d : EntryState). is_same p (place_of d)) o) false) at
+  is_of-read n e at = ap (λ o. unwrap_or (option_map (λ (d : E). is_same p (place_of d)) o) false) at
 
   first_tells : (k n : ℕ) (ns : List ℕ) → slice_get side.lists k ≡ Some (n ∷ ns) → is_of place_of entries p n ≡ true
       → number_of side p ≡ Some k
@@ -265,9 +276,9 @@ module _ (place_of : EntryState → Place) (entries : List EntryState) (side : S
       by (Some j) some = one_of place_of entries p side.lists j
           (λ k n ns at its. same_Some _ _ (sym (first_tells k n ns at its) ∙ some)) (λ n ns at. first_is j n ns some at)
 
-pub IsSound-from_tied : (entries : List EntryState) (by_map by_key : SideState) → AreTied entries by_map by_key
-    → IsSound (table_of entries by_map by_key)
-IsSound-from_tied entries by_map by_key tied = record {
+pub AreEntries-from_tied : (entries : List WeakEntry) (by_map by_key : SideState) → AreTied entries by_map by_key
+    → AreEntries (table_of entries by_map by_key)
+AreEntries-from_tied entries by_map by_key tied = record {
   distinct = tied.distinct;
   found = λ m k v. (λ has. found-Contains entries m k v tied.distinct has, λ has. Contains-found entries m k v has);
   of_map = λ m. subst (λ ns. AreThose (λ e. e.map ≡ m) entries (map (numbered entries m) ns))

@@ -1,5 +1,6 @@
 -- The entries as the table holds them.
-use Rattle.std.proofs.Common.{◌≡◌, ◌+◌, ◌&&◌, ℕ, zero, suc, slice_get, unwrap_or, IfSome, Bool, true, false, cond, List}
+use Rattle.std.proofs.Common.{◌≡◌, ◌≢◌, ◌+◌, ◌&&◌, AllPairs, ℕ, zero, suc, slice_get, unwrap_or, IfSome, Bool, true}
+use Rattle.std.proofs.Common.{false, cond, List}
 use Rattle.std.proofs.Common.{[], ◌∷◌, ◌++◌, length, map, get_or, Option, Some, None, is_some, if◌then◌else◌, refl, sym}
 use Rattle.std.proofs.Common.{◌∙◌, ap, arith}
 use Rattle.std.specs.Bool.{Decides}
@@ -17,8 +18,9 @@ use Rattle.indexmap.proofs.CallerLemmas.{insert_entry-new}
 use Rattle.gz_names.specs.declared.numbers.Place.{Place}
 use Rattle.weak_maps.specs.Places.{is_same}
 use Rattle.weak_maps.specs.Tables.{entries_of, is_key}
-use Rattle.weak_maps.specs.WeakMaps.{EntryState, AreDistinct, is_entry, value_at, put_at}
-use Rattle.weak_maps.specs.declared.tables.EntryKey.{EntryKey}
+use Rattle.weak_maps.specs.declared.entries.WeakEntry.{WeakEntry}
+use Rattle.weak_maps.specs.Entries.{AreDistinct, is_entry, value_at, put_at}
+use Rattle.weak_maps.specs.declared.entries.EntryKey.{EntryKey}
 use Rattle.weak_maps.proofs.Places.{is_same-true, is_same-self, is_same-flip}
 use Rattle.weak_maps.proofs.SwapRemove.{swap_remove-map, swap_remove_by-map, swap_remove_entry-by}
 
@@ -26,11 +28,11 @@ abbrev pub Table : Type 0
 Table = IndexMap EntryKey Place (BuildHasherDefault FoldHasher)
 
 -- an entry as the table holds it
-abbrev pub seen_entry : EntryKey × Place → EntryState
+abbrev pub seen_entry : EntryKey × Place → WeakEntry
 seen_entry e = record { map = e.0.map; key = e.0.key; value = e.1 }
 
 -- what an entry is found by
-abbrev pub key_of : EntryState → EntryKey
+abbrev pub key_of : WeakEntry → EntryKey
 key_of e = record { map = e.map; key = e.key }
 
 pub and-true : (a b : Bool) → (a && b) ≡ true → (a ≡ true) × (b ≡ true)
@@ -56,22 +58,29 @@ value_at-seen [] m k = refl
 value_at-seen (e ∷ es) m k = ap (cond (is_entry m k (seen_entry e)) (Some e.1)) (value_at-seen es m k)
 
 -- no key of a map has two entries
-keys_of-seen : (es : List (EntryKey × Place)) → map key_of (map seen_entry es) ≡ keys_of es
-keys_of-seen [] = refl
-keys_of-seen (e ∷ es) = ap (λ ks. e.0 ∷ ks) (keys_of-seen es)
+keys_of-seen : {E V : Type 0} (seen : EntryKey × V → E) (key_at : E → EntryKey)
+    → ((e : EntryKey × V) → key_at (seen e) ≡ e.0) → (es : List (EntryKey × V)) → map key_at (map seen es) ≡ keys_of es
+keys_of-seen seen key_at is [] = refl
+keys_of-seen seen key_at is (e ∷ es) = λ i. is e i ∷ keys_of-seen seen key_at is es i
+
+pub distinct-from_unique : {E V : Type 0} (seen : EntryKey × V → E) (key_at : E → EntryKey)
+    → ((e : EntryKey × V) → key_at (seen e) ≡ e.0) → (es : List (EntryKey × V)) → IsDistinct is_key (keys_of es)
+    → AllPairs (λ (d e : E). (key_at d).map ≡ (key_at e).map → (key_at d).key ≢ (key_at e).key) (map seen es)
+distinct-from_unique seen key_at is es unique i j d less within maps keys =
+    let entries = map seen es in
+    let apart = AllPairs-from_IsDistinct is_key-decides (keys_of es) unique in
+    let shown = keys_of-seen seen key_at is es in
+    let len : length (keys_of es) ≡ length entries = sym (ap length shown) ∙ length-map entries key_at in
+    let first : get_or (keys_of es) i (key_at d) ≡ key_at (get_or entries i d) =
+    ap (λ (ks : List EntryKey). get_or ks i (key_at d)) (sym shown) ∙ get_or-map key_at entries i d in
+    let second : get_or (keys_of es) j (key_at d) ≡ key_at (get_or entries j d) =
+    ap (λ (ks : List EntryKey). get_or ks j (key_at d)) (sym shown) ∙ get_or-map key_at entries j d in
+    let same : key_at (get_or entries i d) ≡ key_at (get_or entries j d) = λ n. record { map = maps n; key = keys n } in
+    apart i j (key_at d) less (omega arith) (first ∙ (same ∙ sym second))
 
 pub AreDistinct-from_unique : (es : List (EntryKey × Place)) → IsDistinct is_key (keys_of es)
     → AreDistinct (map seen_entry es)
-AreDistinct-from_unique es unique i j d less within maps keys =
-    let entries = map seen_entry es in
-    let apart = AllPairs-from_IsDistinct is_key-decides (keys_of es) unique in
-    let len : length (keys_of es) ≡ length entries = sym (ap length (keys_of-seen es)) ∙ length-map entries key_of in
-    let first : get_or (keys_of es) i (key_of d) ≡ key_of (get_or entries i d) =
-    ap (λ (ks : List EntryKey). get_or ks i (key_of d)) (sym (keys_of-seen es)) ∙ get_or-map key_of entries i d in
-    let second : get_or (keys_of es) j (key_of d) ≡ key_of (get_or entries j d) =
-    ap (λ (ks : List EntryKey). get_or ks j (key_of d)) (sym (keys_of-seen es)) ∙ get_or-map key_of entries j d in
-    let same : key_of (get_or entries i d) ≡ key_of (get_or entries j d) = λ n. record { map = maps n; key = keys n } in
-    apart i j (key_of d) less (omega arith) (first ∙ (same ∙ sym second))
+AreDistinct-from_unique es unique = distinct-from_unique seen_entry key_of (λ e. refl) es unique
 
 -- a value is written in place
 pub put_at-there : (es : List (EntryKey × Place)) (m k v w : Place) → lookup (is_key (record { map = m; key = k })) es
@@ -89,7 +98,7 @@ put_at-there (e ∷ es) m k v w h = by (is_entry m k (seen_entry e)) h (put_at-t
     by false there rest = ap (λ entries. seen_entry e ∷ entries) (rest there)
 
 -- a first value goes last
-pub put_at-new : (entries : List EntryState) (m k v : Place) → value_at entries m k ≡ None
+pub put_at-new : (entries : List WeakEntry) (m k v : Place) → value_at entries m k ≡ None
     → put_at entries m k v ≡ entries ++ record { map = m; key = k; value = v } ∷ []
 put_at-new [] m k v h = refl
 put_at-new (e ∷ entries) m k v h = by (is_entry m k e) h (put_at-new entries m k v)
@@ -149,7 +158,7 @@ flip : (m k n l : Place) → (is_same n m && is_same l k) ≡ (is_same m n && is
 flip m k n l = λ j. is_same-flip n m j && is_same-flip l k j
 
 -- look-ups after a value is put
-pub value_at-put_at : (es : List EntryState) (m k v n l : Place)
+pub value_at-put_at : (es : List WeakEntry) (m k v n l : Place)
     → value_at (put_at es m k v) n l ≡ cond (is_same m n && is_same k l) (Some v) (value_at es n l)
 value_at-put_at [] m k v n l = ap (λ b. cond b (Some v) None) (flip m k n l)
 value_at-put_at (e ∷ es) m k v n l = by (is_entry m k e) refl (value_at-put_at es m k v n l)
@@ -185,7 +194,7 @@ value_at-put_at (e ∷ es) m k v n l = by (is_entry m k e) refl (value_at-put_at
         let keys = is_same-true k l both.1 in
         false≢true (sym is ∙ ((λ j. is_entry (maps j) (keys j) e) ∙ here)))) rest
 
-pub length-put_at : (es : List EntryState) (m k v : Place)
+pub length-put_at : (es : List WeakEntry) (m k v : Place)
     → length (put_at es m k v) ≡ length es + (if is_some (value_at es m k) then 0 else 1)
 length-put_at [] m k v = refl
 length-put_at (e ∷ es) m k v = by (is_entry m k e) (length-put_at es m k v)

@@ -11,15 +11,16 @@ use Rattle.std.proofs.lemmas.Option.{slice_get-map, slice_get-get_or}
 use Rattle.gz_names.specs.declared.numbers.Place.{Place}
 use Rattle.weak_maps.specs.Places.{is_same}
 use Rattle.weak_maps.specs.Tables.{entries_of, is_key}
-use Rattle.weak_maps.specs.WeakMaps.{EntryState, value_at}
-use Rattle.weak_maps.specs.declared.tables.EntryKey.{EntryKey}
+use Rattle.weak_maps.specs.declared.entries.WeakEntry.{WeakEntry}
+use Rattle.weak_maps.specs.Entries.{value_at}
+use Rattle.weak_maps.specs.declared.entries.EntryKey.{EntryKey}
 use Rattle.weak_maps.proofs.SwapRemove.{swap_remove-map}
 use Rattle.weak_maps.proofs.Table.{Table, seen_entry, value_at-updated, and-true, is_key-true}
 use Rattle.weak_maps.proofs.Places.{is_same-true}
 
 -- what was taken
 pub record Taken (old new : Table) (i : ℕ) : Type 0 where
-  pub entry : EntryState
+  pub entry : WeakEntry
   pub there : slice_get (entries_of old) i ≡ Some entry
   pub entries : entries_of new ≡ swap_remove (entries_of old) i entry
   pub found : (m k : Place) → value_at (entries_of new) m k ≡ cond (is_same entry.map m && is_same entry.key k) None
@@ -48,7 +49,7 @@ none_from None h = refl
 none_from (Some x) h = absurd (false≢true h)
 
 -- a look-up of what is not there
-pub found-none : (es : List EntryState) (m k : Place) → value_at es m k ≡ None → (n l : Place)
+pub found-none : (es : List WeakEntry) (m k : Place) → value_at es m k ≡ None → (n l : Place)
     → value_at es n l ≡ cond (is_same m n && is_same k l) None (value_at es n l)
 found-none es m k none n l = by (is_same m n && is_same k l) refl
   where
@@ -59,7 +60,7 @@ found-none es m k none n l = by (is_same m n && is_same k l) refl
 
 -- the entry at the index of a key
 pub at_position : (table : Table) (key : EntryKey) (n : ℕ) → Some n ≡ position (is_key key) (keys_of table.entries)
-    → (e : EntryState) × (slice_get (entries_of table) n ≡ Some e) × (key.map ≡ e.map) × (key.key ≡ e.key)
+    → (e : WeakEntry) × (slice_get (entries_of table) n ≡ Some e) × (key.map ≡ e.map) × (key.key ≡ e.key)
 at_position table key n h =
     let here = position-Some (is_key key) (keys_of table.entries) n key (sym h) in
     let len = length-map table.entries (λ (p : EntryKey × Place). p.0) in

@@ -1,108 +1,91 @@
--- The entries of weak maps.
-use Rattle.std.specs.Prelude.{◌≡◌, ◌≢◌, ◌↔◌, ◌⊎◌, ◌&&◌, ◌||◌, ◌∷◌, [], ℕ, Bool, true, false, List, Option, Some, None}
-use Rattle.std.specs.Prelude.{AllPairs, Contains, MatchOption, length, ◌≤◌, slice_get, slice_index_or, slice_set}
-use Rattle.std.specs.Prelude.{swap_remove, map, unwrap_or, ◌++◌, if◌then◌else◌}
-use Rattle.std.specs.Option.{option_map}
+-- The entries of weak maps, and the delegates of their keys.
+use Rattle.std.specs.Prelude.{◌≡◌, ◌↔◌, ◌⊎◌, ◌||◌, ◌∷◌, [], ℕ, Bool, true, false, List, Option, Some, None}
+use Rattle.std.specs.Prelude.{Contains, MatchOption, length, slice_get, slice_set, swap_remove, map, unwrap_or}
+use Rattle.std.specs.Prelude.{◌++◌, if◌then◌else◌}
 use Rattle.gz_names.specs.declared.numbers.Place.{Place}
-use Rattle.weak_maps.specs.Places.{is_same}
-use Rattle.weak_maps.specs.Sides.{SideState, IsSide, number_of, shown}
+use Rattle.weak_maps.specs.Entries.{AreDistinct, AreEntries, AreThose, EntriesState, HaveLooks, NoEntryLeft, listed_of}
+use Rattle.weak_maps.specs.Entries.{value_at}
+use Rattle.weak_maps.specs.Delegates.{AreDelegates, AreSoundRows, DelegateRow, DelegatesState, DelegateTableState}
+use Rattle.weak_maps.specs.Delegates.{NoRowLeft, delegate_at, row_of, rows_of_target, rows_of_zone, rows_shown}
 use Rattle.weak_maps.specs.declared.colours.MarkColour.{MarkColour}
-use Rattle.weak_maps.specs.declared.colours.MarkColour.TheVariants as colour
+use Rattle.weak_maps.specs.declared.delegates.Delegate.{Delegate}
+use Rattle.weak_maps.specs.declared.entries.EntryKey.{EntryKey}
+use Rattle.weak_maps.specs.declared.entries.WeakEntry.{WeakEntry}
 
--- a key of a weak map, and its value
-pub record EntryState : Type 0 where
-  pub map : Place
-  pub key : Place
-  pub value : Place
-
--- the entries of all weak maps, by number; the numbers of the entries of each map that has any, and of each key
+-- the entries of all weak maps, by number; the numbers of the entries of each map that has any, and of each key; and
+-- the rows of those whose key is a wrapper
 pub record WeakTableState : Type 0 where
-  pub entries : List EntryState
+  pub entries : List WeakEntry
   pub by_map : List (List ℕ)
   pub by_key : List (List ℕ)
+  pub delegates : DelegateTableState
 
--- in which colour each entry is still to be looked at for its map, and for its key
+-- in which colour each entry is still to be looked at for its map, and for its key, and each row for its target
 pub record LooksState : Type 0 where
   pub by_map : List (Option MarkColour)
   pub by_key : List (Option MarkColour)
+  pub by_delegate : List (Option MarkColour)
 
 -- the entries, and apart from them what marking has still to look at
 pub record WeakMapsState : Type 0 where
   pub table : WeakTableState
   pub looks : LooksState
 
-abbrev pub table_of : List EntryState → SideState → SideState → WeakTableState
-table_of entries by_map by_key =
-    record { entries = entries; by_map = shown by_map.lists; by_key = shown by_key.lists }
-
-abbrev pub state_of : List EntryState → SideState → SideState → WeakMapsState
-state_of entries by_map by_key =
-    record { table = table_of entries by_map by_key; looks = record { by_map = by_map.left; by_key = by_key.left } }
-
--- whether an entry is that of a key in a map
-abbrev pub is_entry : Place → Place → EntryState → Bool
-is_entry m k entry = is_same m entry.map && is_same k entry.key
+abbrev pub state_with : EntriesState → DelegatesState → WeakMapsState
+state_with e d = record {
+  table = record {
+    entries = e.table.entries;
+    by_map = e.table.by_map;
+    by_key = e.table.by_key;
+    delegates = rows_shown d;
+  };
+  looks = record { by_map = e.looks.by_map; by_key = e.looks.by_key; by_delegate = d.by_target.left };
+}
 
 -- the value of a key in a map
-abbrev pub value_at : List EntryState → Place → Place → Option Place
-value_at [] m k = None
-value_at (entry ∷ entries) m k = if is_entry m k entry then Some entry.value else value_at entries m k
-
 abbrev pub value_of : WeakTableState → Place → Place → Option Place
 value_of weak m k = value_at weak.entries m k
 
--- a value is given to a key of a map: in place where it has one, else in an entry after the others
-abbrev pub put_at : List EntryState → Place → Place → Place → List EntryState
-put_at [] m k v = record { map = m; key = k; value = v } ∷ []
-put_at (entry ∷ entries) m k v = if is_entry m k entry then record { map = entry.map; key = entry.key; value = v }
-    ∷ entries else entry ∷ put_at entries m k v
-
--- an entry as it is handed out
-abbrev pub parts : EntryState → Place × Place × Place
-parts entry = (entry.map, entry.key, entry.value)
-
--- the entry of a number
-abbrev pub numbered : List EntryState → Place → ℕ → EntryState
-numbered entries p n = slice_index_or entries n (record { map = p; key = p; value = p })
-
--- whether the entry of a number is one of a place
-abbrev pub is_of : (EntryState → Place) → List EntryState → Place → ℕ → Bool
-is_of place_of entries p n = unwrap_or (option_map (λ entry. is_same p (place_of entry)) (slice_get entries n)) false
-
--- the list of a place: the first entry of it tells
-abbrev pub list_of : (EntryState → Place) → List EntryState → Place → List (List ℕ) → List ℕ
-list_of place_of entries p [] = []
-list_of place_of entries p ([] ∷ lists) = list_of place_of entries p lists
-list_of place_of entries p ((n ∷ ns) ∷ lists) =
-    if is_of place_of entries p n then n ∷ ns else list_of place_of entries p lists
+-- what a key of a map leads to, if it is a wrapper
+abbrev pub delegate_of : WeakTableState → Place → Place → Option Place
+delegate_of weak m k = delegate_at weak.delegates.rows m k
 
 -- the entries of a map, and of a key
-abbrev pub listed_of_map : WeakTableState → Place → List EntryState
-listed_of_map weak m = map (numbered weak.entries m) (list_of (λ entry. entry.map) weak.entries m weak.by_map)
+abbrev pub listed_of_map : WeakTableState → Place → List WeakEntry
+listed_of_map weak m = listed_of (λ entry. entry.map) weak.entries m weak.by_map
 
-abbrev pub listed_of_key : WeakTableState → Place → List EntryState
-listed_of_key weak k = map (numbered weak.entries k) (list_of (λ entry. entry.key) weak.entries k weak.by_key)
+abbrev pub listed_of_key : WeakTableState → Place → List WeakEntry
+listed_of_key weak k = listed_of (λ entry. entry.key) weak.entries k weak.by_key
 
--- no key of a map has two entries
-abbrev pub AreDistinct : List EntryState → Type 0
-AreDistinct entries = AllPairs (λ d e. d.map ≡ e.map → d.key ≢ e.key) entries
+-- the entry of a row
+abbrev pub entry_of_row : WeakTableState → DelegateRow → WeakEntry
+entry_of_row weak row =
+    record { map = row.map; key = row.key; value = unwrap_or (value_of weak row.map row.key) row.target }
 
--- each entry stands in the list of its own place
-pub record IsFor (place_of : EntryState → Place) (entries : List EntryState) (side : SideState) : Type 0 where
-  pub sound : IsSide side
-  pub numbers : map (λ entry. number_of side (place_of entry)) entries ≡ map (λ j. Some j) side.owners
+-- the entries whose key is a wrapper of a place
+abbrev pub listed_of_delegate : WeakTableState → Place → List WeakEntry
+listed_of_delegate weak p = map (entry_of_row weak) (rows_of_target weak.delegates p)
+
+-- the maps of a zone's entries whose key is a wrapper, one for each of them
+abbrev pub maps_delegated_in : WeakTableState → ℕ → List Place
+maps_delegated_in weak z = map (λ row. row.map) (rows_of_zone weak.delegates z)
+
+-- each row is that of an entry
+abbrev pub HaveEntries : List DelegateRow → List WeakEntry → Type 0
+HaveEntries rows entries =
+    (row : DelegateRow) → Contains rows row → (v : Place) × (value_at entries row.map row.key ≡ Some v)
+
+-- an entry has a number
+abbrev pub IsAt : List WeakEntry → ℕ → EntryKey → Type 0
+IsAt entries n key =
+    (entry : WeakEntry) × (slice_get entries n ≡ Some entry) × (entry.map ≡ key.map) × (entry.key ≡ key.key)
 
 -- what always holds
-pub record AreTied (entries : List EntryState) (by_map by_key : SideState) : Type 0 where
-  pub distinct : AreDistinct entries
-  pub few : length entries ≤ 4294967295
-  pub maps : IsFor (λ entry. entry.map) entries by_map
-  pub keys : IsFor (λ entry. entry.key) entries by_key
-
--- those of the entries that meet a condition, each once
-pub record AreThose (P : EntryState → Type 0) (entries listed : List EntryState) : Type 0 where
-  pub distinct : AreDistinct listed
-  pub exact : (entry : EntryState) → Contains listed entry ↔ (Contains entries entry × P entry)
+pub record IsKept (e : EntriesState) (d : DelegatesState) : Type 0 where
+  pub entries : AreEntries e.table
+  pub looks : HaveLooks e
+  pub rows : AreSoundRows d
+  pub entered : HaveEntries d.rows e.table.entries
 
 -- what always holds, as callers see it
 pub record IsSound (weak : WeakTableState) : Type 0 where
@@ -111,20 +94,31 @@ pub record IsSound (weak : WeakTableState) : Type 0 where
       ↔ (value_of weak m k ≡ Some v)
   pub of_map : (m : Place) → AreThose (λ entry. entry.map ≡ m) weak.entries (listed_of_map weak m)
   pub of_key : (k : Place) → AreThose (λ entry. entry.key ≡ k) weak.entries (listed_of_key weak k)
+  pub delegates : AreDelegates weak.delegates
+  pub entered : HaveEntries weak.delegates.rows weak.entries
 
--- each entry was there, and is to be looked at as it was
+-- the rows of the entries that stayed
+pub record KeepsRows (old new : WeakTableState) : Type 0 where
+  pub rows : (row : DelegateRow) → Contains new.delegates.rows row
+      ↔ (Contains old.delegates.rows row × (v : Place) × (value_of new row.map row.key ≡ Some v))
+  pub delegates : (m k v : Place) → value_of new m k ≡ Some v → delegate_of new m k ≡ delegate_of old m k
+
+-- each entry, and each row, was there, and is to be looked at as it was
 pub record Carries (old new : WeakMapsState) : Type 0 where
-  pub from : (i : ℕ) (entry : EntryState) → slice_get new.table.entries i ≡ Some entry → (j : ℕ)
+  pub from : (i : ℕ) (entry : WeakEntry) → slice_get new.table.entries i ≡ Some entry → (j : ℕ)
       × (slice_get old.table.entries j ≡ Some entry)
       × (slice_get new.looks.by_map i ≡ slice_get old.looks.by_map j)
       × (slice_get new.looks.by_key i ≡ slice_get old.looks.by_key j)
+  pub from_row : (i : ℕ) (row : DelegateRow) → slice_get new.table.delegates.rows i ≡ Some row → (j : ℕ)
+      × (slice_get old.table.delegates.rows j ≡ Some row)
+      × (slice_get new.looks.by_delegate i ≡ slice_get old.looks.by_delegate j)
 
 -- all answers are those of a test
 abbrev pub AnswersBy : (Place → Bool → Type 0) → (Place → Bool) → Type 0
 AnswersBy ask test = (place : Place) (answer : Bool) → ask place answer → answer ≡ test place
 
 -- whether the map, the key or the value of an entry is dead
-abbrev pub is_dead_entry : (Place → Bool) → EntryState → Bool
+abbrev pub is_dead_entry : (Place → Bool) → WeakEntry → Bool
 is_dead_entry is_dead entry = is_dead entry.map || is_dead entry.key || is_dead entry.value
 
 -- a value that was found, unless its entry is dead
@@ -135,75 +129,85 @@ alive_value is_dead m k (Some v) = if is_dead_entry is_dead (record { map = m; k
 
 -- the entries without the dead ones, in some order
 pub record IsWithoutDead (is_dead : Place → Bool) (old new : WeakTableState) : Type 0 where
-  pub exact : (entry : EntryState) → Contains new.entries entry
+  pub exact : (entry : WeakEntry) → Contains new.entries entry
       ↔ (Contains old.entries entry × (is_dead_entry is_dead entry ≡ false))
   pub found : (m k : Place) → value_of new m k ≡ alive_value is_dead m k (value_of old m k)
 
 -- one of the three places of an entry was answered to be dead
-abbrev pub AnsweredDead : (Place → Bool → Type 0) → EntryState → Type 0
+abbrev pub AnsweredDead : (Place → Bool → Type 0) → WeakEntry → Type 0
 AnsweredDead ask entry = ask entry.map true ⊎ ask entry.key true ⊎ ask entry.value true
 
 -- each of the three was answered not to be
-abbrev pub AnsweredAlive : (Place → Bool → Type 0) → EntryState → Type 0
+abbrev pub AnsweredAlive : (Place → Bool → Type 0) → WeakEntry → Type 0
 AnsweredAlive ask entry = ask entry.map false × ask entry.key false × ask entry.value false
 
 -- an entry is kept only if it was answered alive, and dropped only if it was answered dead
-pub record KeepsAlive (ask : Place → Bool → Type 0) (old new : List EntryState) : Type 0 where
-  pub kept : (entry : EntryState) → Contains new entry → Contains old entry × AnsweredAlive ask entry
-  pub dropped : (entry : EntryState) → Contains old entry → Contains new entry ⊎ AnsweredDead ask entry
+pub record KeepsAlive (ask : Place → Bool → Type 0) (old new : List WeakEntry) : Type 0 where
+  pub kept : (entry : WeakEntry) → Contains new entry → Contains old entry × AnsweredAlive ask entry
+  pub dropped : (entry : WeakEntry) → Contains old entry → Contains new entry ⊎ AnsweredDead ask entry
 
 -- one entry is looked at: where it was answered alive, or there is none, all stay; where it was answered dead, the last
 -- has its place
-abbrev pub LooksAt : (Place → Bool → Type 0) → ℕ → List EntryState → List EntryState → Type 0
+abbrev pub LooksAt : (Place → Bool → Type 0) → ℕ → List WeakEntry → List WeakEntry → Type 0
 LooksAt ask index old new =
     MatchOption (slice_get old index) (new ≡ old) (λ entry. ((new ≡ old) × AnsweredAlive ask entry)
     ⊎ ((new ≡ swap_remove old index entry) × AnsweredDead ask entry))
 
--- each entry has its looks
+-- each entry, and each row, has its looks
 abbrev pub AreParallel : WeakMapsState → Type 0
 AreParallel weak =
     (length weak.looks.by_map ≡ length weak.table.entries) × (length weak.looks.by_key ≡ length weak.table.entries)
+    × (length weak.looks.by_delegate ≡ length weak.table.delegates.rows)
 
--- a value was put where one was, or not: a new entry is not to be looked at, and the others are as they were
-abbrev pub PutsLeft : Option Place → LooksState → LooksState → Type 0
-PutsLeft (Some v) old new = new ≡ old
-PutsLeft None old new = new ≡ record { by_map = old.by_map ++ None ∷ []; by_key = old.by_key ++ None ∷ [] }
+-- the rows after an entry came with this delegate
+abbrev pub rows_with : List DelegateRow → EntryKey → Option Delegate → List DelegateRow
+rows_with rows key None = rows
+rows_with rows key (Some delegate) = rows ++ row_of key delegate ∷ []
 
--- an entry of a place is to be looked at in a colour
-pub record IsLeftOf (place_of : EntryState → Place) (c : MarkColour) (p : Place) (entries : List EntryState)
-    (left : List (Option MarkColour)) : Type 0 where
+-- what this delegate is
+abbrev pub target_of : Option Delegate → Option Place
+target_of None = None
+target_of (Some delegate) = Some delegate.target
+
+-- the looks of these rows
+abbrev pub looks_with : List (Option MarkColour) → Option Delegate → List (Option MarkColour)
+looks_with left None = left
+looks_with left (Some delegate) = left ++ None ∷ []
+
+-- a value was put where one was, or not: a new entry is not to be looked at, nor its row, and the others are as they
+-- were
+abbrev pub PutsLeft : Option Place → Option Delegate → LooksState → LooksState → Type 0
+PutsLeft (Some v) delegate old new = new ≡ old
+PutsLeft None delegate old new = new ≡ record {
+  by_map = old.by_map ++ None ∷ [];
+  by_key = old.by_key ++ None ∷ [];
+  by_delegate = looks_with old.by_delegate delegate;
+}
+
+-- a row of an entry
+pub record IsRowOf (rows : List DelegateRow) (entry : WeakEntry) (number : ℕ) : Type 0 where
+  pub row : DelegateRow
+  pub there : slice_get rows number ≡ Some row
+  pub map : row.map ≡ entry.map
+  pub key : row.key ≡ entry.key
+
+-- an entry that was to be looked at in a colour, for its map or its key, or whose row was for its target, is not any
+-- more
+pub record HasLooked (c : MarkColour) (handed : WeakEntry) (weak : WeakTableState) (old new : LooksState) : Type 0 where
   pub number : ℕ
-  pub entry : EntryState
-  pub there : slice_get entries number ≡ Some entry
-  pub of : place_of entry ≡ p
-  pub is_left : slice_get left number ≡ Some (Some c)
-
--- in which colour the entries of a place are still to be looked at after these were started in a colour: in black where
--- one of them was to be looked at in black
-pub record Starts (place_of : EntryState → Place) (c : MarkColour) (p : Place) (entries : List EntryState)
-    (old new : List (Option MarkColour)) : Type 0 where
-  pub sized : length new ≡ length old
-  pub colour_now : MarkColour
-  pub those : (n : ℕ) (entry : EntryState) → slice_get entries n ≡ Some entry → place_of entry ≡ p
-      → slice_get new n ≡ Some (Some colour_now)
-  pub is : (colour_now ≡ c) ⊎ ((colour_now ≡ colour.Black) × IsLeftOf place_of colour.Black p entries old)
-  pub black : (n : ℕ) → slice_get old n ≡ Some (Some colour.Black) → slice_get new n ≡ Some (Some colour.Black)
-  pub others : (n : ℕ) (entry : EntryState) → slice_get entries n ≡ Some entry → place_of entry ≢ p
-      → slice_get new n ≡ slice_get old n
-
--- an entry that was to be looked at in a colour, for its map or its key, is not any more
-pub record HasLooked (c : MarkColour) (handed : Place × Place × Place) (entries : List EntryState)
-    (old new : LooksState) : Type 0 where
-  pub number : ℕ
-  pub entry : EntryState
-  pub there : slice_get entries number ≡ Some entry
-  pub is : handed ≡ parts entry
+  pub there : slice_get weak.entries number ≡ Some handed
   pub looked : ((slice_get old.by_map number ≡ Some (Some c))
       × (new ≡ record old { by_map = slice_set old.by_map number None }))
       ⊎ ((slice_get old.by_key number ≡ Some (Some c))
       × (new ≡ record old { by_key = slice_set old.by_key number None }))
+      ⊎ ((n : ℕ) × IsRowOf weak.delegates.rows handed n × (slice_get old.by_delegate n ≡ Some (Some c))
+      × (new ≡ record old { by_delegate = slice_set old.by_delegate n None }))
 
--- no entry is to be looked at in a colour
+-- no entry is to be looked at in a colour, and no row
 abbrev pub NoneLeft : MarkColour → LooksState → Type 0
 NoneLeft c looks =
-    (n : ℕ) → (slice_get looks.by_map n ≢ Some (Some c)) × (slice_get looks.by_key n ≢ Some (Some c))
+    NoEntryLeft c (record { by_map = looks.by_map; by_key = looks.by_key }) × NoRowLeft c looks.by_delegate
+
+-- what is left in no colour stays so
+abbrev pub IsLeftFewer : LooksState → LooksState → Type 0
+IsLeftFewer old new = (c : MarkColour) → NoneLeft c old → NoneLeft c new

@@ -15,6 +15,13 @@
 //     map first, then key     as the key is marked:   the entries of that key, by all maps
 //     key first, then map     as the map is marked:   the entries of that map, by all keys
 //
+// A key that is a wrapper lives on even if nothing else holds it, as long as its map and what it leads
+// to do: the latter is the entry's *delegate* (js/src/gc/WeakMap.h, "delegate"). So an entry with such
+// a key is met as its delegate is marked, too. It has a row in a second table, and entries with other
+// keys have none, and pay one test. The rows are also listed by zone: a delegate may lie in a zone that
+// is not collected, where nothing scans it, and so a zone whose gray marking begins asks for the maps
+// of its rows.
+//
 // Hence two lists beside the table, one of each map's entries and one of each key's. Without the
 // second, each newly marked cell would cost a walk over all entries (SpiderMonkey's weak keys table
 // is there for the same reason). The lists hold numbers of entries, and an entry's number is its
@@ -35,8 +42,9 @@
 //
 // So a new entry comes last and is not looked at, an entry of the front part that goes is replaced by
 // the last one of that part, and there is nothing else that a deletion could leave wrong. An entry is
-// looked at once for its map and once for its key each time these are started. Marking starts each
-// list at most once in either colour, so an entry is looked at at most four times in a collection. A
+// looked at once for its map, once for its key and once for its delegate each time these are started.
+// Marking starts each list at most once in either colour, so an entry is looked at at most six times in
+// a collection, and at most four times if its key is no wrapper. A
 // list of which some entries are left in black stays in black as it is started in gray, since a look
 // does the same in either colour.
 //
@@ -49,8 +57,8 @@
 // with a dead cell. It walks from the last entry on: what takes the number of one that goes was
 // asked about already.
 //
-// Only `put` takes memory. The table changes last, once all of it is there; where the second list
-// is refused some, the entry goes from the first list again. What may stay is an empty list, which no
+// Only `put` takes memory. A table changes last, once all of it is there; where a list is refused
+// some, the entry goes from the other lists again. What may stay is an empty list, which no
 // caller sees, and which is used again as soon as its place has an entry.
 //
 //     colours    black and gray
@@ -60,10 +68,14 @@
 //     seats      where each entry stands in the lists of one side
 //     heads      the number of the list of each place
 //     sides      the entries by their maps, or by their keys
-//     tables     the entries
+//     entries    the table of entries
+//     delegates  what keys that are wrappers lead to
+//     tables     the two together
 #![tactic(auto)]
 
 mod colours;
+mod delegates;
+mod entries;
 mod heads;
 mod listings;
 mod numbers;
@@ -73,4 +85,6 @@ mod sides;
 mod tables;
 
 pub use colours::MarkColour;
+pub use delegates::Delegate;
+pub use entries::{EntryKey, WeakEntry};
 pub use tables::WeakMaps;

@@ -1,62 +1,62 @@
-// The table of entries, with the lists of each map and of each key.
-ghost use Rattle.std.specs.Prelude.{◌≡◌, ◌<◌, ◌≤◌, ◌+◌, ◌&&◌, Bool, true, Some, None, [], length, slice_get};
-ghost use Rattle.std.specs.Prelude.{swap_remove, is_some, IfSome, IfNone, IfOk, OnOk, OnErr, if◌then◌else◌};
+// The entries of all weak maps, with the delegates of their keys.
+ghost use Rattle.std.specs.Prelude.{◌≡◌, ◌<◌, ◌≤◌, ◌+◌, ◌&&◌, ℕ, Bool, Some, None, [], length, slice_get, is_none};
+ghost use Rattle.std.specs.Prelude.{is_some};
+ghost use Rattle.std.specs.Prelude.{IfNone, IfOk, IfSome, IsTrue, ◌↔◌, ◌≢◌, ◌++◌, ◌∷◌, OnOk, OnErr, if◌then◌else◌};
+ghost use Rattle.std.specs.Prelude.{swap_remove};
 ghost use Rattle.std.specs.Option.{option_map};
 
 use crate::colours::MarkColour;
-use crate::sides::Side;
-use gz_names::{NoMemory, Place};
-use indexmap::IndexMap;
-use std::alloc::{AllocError, Global};
+use crate::delegates::{Delegate, Delegates};
+use crate::entries::{Entries, EntryKey, WeakEntry};
+use gz_names::{NoMemory, Place, ZoneNo};
+use std::alloc::Global;
 use std::marker::Model;
-use std::mem;
-
-/// What an entry is found by.
-#[derive(Clone, Copy, Debug, PartialEq, Eq, Hash)]
-pub struct EntryKey {
-    /// The weak map.
-    pub map: Place,
-    /// A key of it.
-    pub key: Place,
-}
 
 /// The entries of all weak maps, and which of them marking has still to look at. There are at most
 /// 4,294,967,295 entries (our choice; js/src/gc/WeakMap.h has a hash table in each map).
 #[derive(Drop)]
 pub struct WeakMaps {
-    // An entry's number is its index here.
-    table: IndexMap<EntryKey, Place>,
-    by_map: Side,
-    by_key: Side,
+    entries: Entries,
+    delegates: Delegates,
 }
 
 impl Model for WeakMaps {
-    ghost use Rattle.weak_maps.specs.WeakMaps.{WeakMapsState, AreTied, state_of};
-    ghost use Rattle.weak_maps.specs.Tables.{entries_of};
+    ghost use Rattle.weak_maps.specs.WeakMaps.{WeakMapsState, IsKept, state_with};
 
     ghost Value = { WeakMapsState };
 
-    ghost view = { λ w. state_of (entries_of w.table) w.by_map w.by_key };
+    ghost view = { λ w. state_with w.entries w.delegates };
 
-    ghost invariant = { λ w. AreTied (entries_of w.table) w.by_map w.by_key };
+    ghost invariant = { λ w. IsKept w.entries w.delegates };
 }
 
 impl WeakMaps {
     ghost use Rattle.weak_maps.specs.Places.{is_same};
-    ghost use Rattle.weak_maps.specs.WeakMaps.{WeakMapsState, AreParallel, IsSound, Carries, PutsLeft, HasLooked};
-    ghost use Rattle.weak_maps.specs.WeakMaps.{NoneLeft, AnswersBy, IsWithoutDead, KeepsAlive, LooksAt, Starts};
-    ghost use Rattle.weak_maps.specs.WeakMaps.{value_of, put_at, parts, listed_of_map, listed_of_key};
+    ghost use Rattle.weak_maps.specs.Entries.{Starts, put_at};
+    ghost use Rattle.weak_maps.specs.Delegates.{DelegateRow};
+    ghost use Rattle.weak_maps.specs.WeakMaps.{WeakMapsState, AnswersBy, AreParallel, Carries, HasLooked, IsSound};
+    ghost use Rattle.weak_maps.specs.WeakMaps.{IsAt, IsLeftFewer, IsWithoutDead, KeepsAlive, KeepsRows, LooksAt};
+    ghost use Rattle.weak_maps.specs.WeakMaps.{NoneLeft};
+    ghost use Rattle.weak_maps.specs.WeakMaps.{PutsLeft};
+    ghost use Rattle.weak_maps.specs.declared.colours.MarkColour.{MarkColour};
+    ghost use Rattle.weak_maps.specs.WeakMaps.{delegate_of, listed_of_delegate, listed_of_key};
+    ghost use Rattle.weak_maps.specs.WeakMaps.{listed_of_map, maps_delegated_in, rows_with, target_of, value_of};
+    ghost use Rattle.weak_maps.specs.declared.entries.WeakEntry.{WeakEntry};
 
     /// No entries.
     pub fn new(alloc: Global) -> Self
-        ensures empty { result.table ≡ record { entries = []; by_map = []; by_key = [] } }
-        ensures none { result.looks ≡ record { by_map = []; by_key = [] } }
+        ensures empty { result.table ≡ record {
+          entries = [];
+          by_map = [];
+          by_key = [];
+          delegates = record { rows = []; by_target = []; by_zone = [] };
+        } }
+        ensures none { result.looks ≡ record { by_map = []; by_key = []; by_delegate = [] } }
         ensures sound { IsSound result.table }
     {
         WeakMaps {
-            table: IndexMap::new(alloc),
-            by_map: Side::new(alloc),
-            by_key: Side::new(alloc),
+            entries: Entries::new(alloc),
+            delegates: Delegates::new(alloc),
         }
     }
 
@@ -67,7 +67,15 @@ impl WeakMaps {
         ensures few { result ≤ 4294967295 }
         ensures sound { IsSound self.now.table }
     {
-        self.table.len() as u64
+        self.entries.count()
+    }
+
+    /// Whether the key of some entry is a wrapper.
+    #[inline(always)]
+    pub fn has_delegates(&self) -> bool
+        ensures { IsTrue result ↔ (self.now.table.delegates.rows ≢ []) }
+    {
+        !self.delegates.is_empty()
     }
 
     /// The value of a key in a map.
@@ -75,112 +83,182 @@ impl WeakMaps {
         ensures value { result ≡ value_of self.now.table map key }
         ensures sound { IsSound self.now.table }
     {
-        self.table.get(&EntryKey { map, key }).copied()
+        self.entries.find(map, key)
     }
 
-    /// The map, the key and the value of an entry, by its number; none past the last.
-    pub fn entry(&self, index: u64) -> Option<(Place, Place, Place)>
-        ensures entry { result ≡ option_map parts (slice_get self.now.table.entries index) }
+    /// What the key of an entry leads to, if it is a wrapper; none if there is no such entry.
+    #[inline(always)]
+    pub fn delegate_of(&self, map: Place, key: Place) -> Option<Place>
+        ensures delegate { result ≡ delegate_of self.now.table map key }
+        ensures sound { IsSound self.now.table }
+    {
+        self.delegates.target(map, key)
+    }
+
+    /// An entry, by its number; none past the last.
+    pub fn entry(&self, index: u64) -> Option<WeakEntry>
+        ensures entry { result ≡ slice_get self.now.table.entries index }
         ensures more { IfSome result (λ _. index < 18446744073709551615) }
         ensures parallel { AreParallel self.now }
         ensures sound { IsSound self.now.table }
     {
-        if index >= self.count() {
-            return None;
-        }
-        let (key, value) = self.table.get_index(index as usize)?;
-        Some((key.map, key.key, *value))
+        self.entries.entry(index)
     }
 
-    /// The map, the key and the value of an entry of a map, by its index in the map's list; none past
-    /// the last.
-    pub fn entries_of_map(&self, map: Place, index: u64) -> Option<(Place, Place, Place)>
-        ensures entry { result ≡ option_map parts (slice_get (listed_of_map self.now.table map) index) }
+    /// An entry of a map, by its index in the map's list; none past the last.
+    pub fn entries_of_map(&self, map: Place, index: u64) -> Option<WeakEntry>
+        ensures entry { result ≡ slice_get (listed_of_map self.now.table map) index }
         ensures more { IfSome result (λ _. index < 18446744073709551615) }
         ensures sound { IsSound self.now.table }
     {
-        let entry = self.by_map.get(map, index)?;
-        self.entry(u64::from(entry))
+        self.entries.entries_of_map(map, index)
     }
 
-    /// The map, the key and the value of an entry of a key, by its index in the key's list; none past
-    /// the last.
-    pub fn entries_of_key(&self, key: Place, index: u64) -> Option<(Place, Place, Place)>
-        ensures entry { result ≡ option_map parts (slice_get (listed_of_key self.now.table key) index) }
+    /// An entry of a key, by its index in the key's list; none past the last.
+    pub fn entries_of_key(&self, key: Place, index: u64) -> Option<WeakEntry>
+        ensures entry { result ≡ slice_get (listed_of_key self.now.table key) index }
         ensures more { IfSome result (λ _. index < 18446744073709551615) }
         ensures sound { IsSound self.now.table }
     {
-        let entry = self.by_key.get(key, index)?;
-        self.entry(u64::from(entry))
+        self.entries.entries_of_key(key, index)
     }
 
-    /// Gives a value to a key of a map, and answers the one it had. Only a new entry takes memory, and
-    /// where none is left, or there are 4,294,967,295 entries, nothing has changed. A new entry is not
-    /// to be looked at.
-    pub fn put(&mut self, map: Place, key: Place, value: Place) -> Result<Option<Place>, NoMemory>
-        ensures old { IfOk result (λ old. old ≡ value_of self.old.table map key) }
-        ensures entries { OnOk result (self.new.table.entries ≡ put_at self.old.table.entries map key value) }
+    /// An entry whose key is a wrapper of this cell, by its index in the cell's list; none past the last.
+    pub fn entries_of_delegate(&self, target: Place, index: u64) -> Option<WeakEntry>
+        ensures entry { result ≡ slice_get (listed_of_delegate self.now.table target) index }
+        ensures more { IfSome result (λ _. index < 18446744073709551615) }
+        ensures sound { IsSound self.now.table }
+    {
+        let key = self.delegates.key_of_target(target, index)?;
+        self.entry_of(key)
+    }
+
+    // The entry of a key.
+    fn entry_of(&self, at: EntryKey) -> Option<WeakEntry>
+        ensures { result ≡ option_map (λ v. record { map = at.map; key = at.key; value = v })
+            (value_of self.now.table at.map at.key) }
+    {
+        let value = self.find(at.map, at.key)?;
+        Some(WeakEntry {
+            map: at.map,
+            key: at.key,
+            value,
+        })
+    }
+
+    /// The map of an entry of a zone whose key is a wrapper, by the entry's index among these; none past the last.
+    pub fn map_delegated_in(&self, zone: ZoneNo, index: u64) -> Option<Place>
+        ensures map { result ≡ slice_get (maps_delegated_in self.now.table zone) index }
+        ensures more { IfSome result (λ _. index < 18446744073709551615) }
+        ensures sound { IsSound self.now.table }
+    {
+        let key = self.delegates.key_in_zone(zone, index)?;
+        Some(key.map)
+    }
+
+    /// Gives a value to a key of a map, and returns the one it had. A key that is a wrapper comes with its delegate,
+    /// which stays as long as the entry does. Only a new entry takes memory, and where none is left, or there are
+    /// 4,294,967,295 entries, nothing has changed. A new entry is not to be looked at.
+    pub fn put(
+        &mut self,
+        entry: WeakEntry,
+        delegate: Option<Delegate>,
+    ) -> Result<Option<Place>, NoMemory>
+        ensures old { IfOk result (λ old. old ≡ value_of self.old.table entry.map entry.key) }
+        ensures entries { OnOk result
+            (self.new.table.entries ≡ put_at self.old.table.entries entry.map entry.key entry.value) }
         ensures found { OnOk result ((m k : Place) → value_of self.new.table m k
-            ≡ (if is_same map m && is_same key k then Some value else value_of self.old.table m k)) }
+            ≡ (if is_same entry.map m && is_same entry.key k then Some entry.value
+            else value_of self.old.table m k)) }
+        ensures rows { OnOk result (self.new.table.delegates.rows
+            ≡ (if is_some (value_of self.old.table entry.map entry.key) then self.old.table.delegates.rows
+            else rows_with self.old.table.delegates.rows (record { map = entry.map; key = entry.key }) delegate)) }
+        ensures delegates { OnOk result ((m k : Place) → delegate_of self.new.table m k
+            ≡ (if is_none (value_of self.old.table entry.map entry.key) && (is_same entry.map m && is_same entry.key k)
+            then target_of delegate else delegate_of self.old.table m k)) }
         ensures count { OnOk result (length self.new.table.entries
             ≡ length self.old.table.entries
-            + (if is_some (value_of self.old.table map key) then 0 else 1)) }
-        ensures left { OnOk result (PutsLeft (value_of self.old.table map key) self.old.looks self.new.looks) }
+            + (if is_some (value_of self.old.table entry.map entry.key) then 0 else 1)) }
+        ensures left { OnOk result (PutsLeft (value_of self.old.table entry.map entry.key) delegate self.old.looks
+            self.new.looks) }
         ensures parallel { AreParallel self.new }
         ensures sound { IsSound self.new.table }
         ensures err { OnErr result (self.new ≡ self.old) }
-        ensures wanted { OnErr result (value_of self.old.table map key ≡ None) }
+        ensures wanted { OnErr result (value_of self.old.table entry.map entry.key ≡ None) }
     {
-        if let Some(old) = self.table.get_mut(&EntryKey { map, key }) {
-            return Ok(Some(mem::replace(old, value)));
+        if let Some(old) = self.entries.replace(&entry) {
+            return Ok(Some(old));
         }
-        self.add(map, key, value)?;
+        self.add(&entry, delegate)?;
         Ok(None)
     }
 
     // Adds an entry, which is not there.
-    fn add(&mut self, map: Place, key: Place, value: Place) -> Result<(), NoMemory>
-        requires absent { value_of self.old.table map key ≡ None }
-        ensures entries { OnOk result (self.new.table.entries ≡ put_at self.old.table.entries map key value) }
-        ensures left { OnOk result (PutsLeft None self.old.looks self.new.looks) }
+    fn add(&mut self, entry: &WeakEntry, delegate: Option<Delegate>) -> Result<(), NoMemory>
+        requires absent { value_of self.old.table entry.now.map entry.now.key ≡ None }
+        ensures entries { OnOk result (self.new.table.entries ≡ self.old.table.entries ++ entry.now ∷ []) }
+        ensures found { OnOk result ((m k : Place) → value_of self.new.table m k
+            ≡ (if is_same entry.now.map m && is_same entry.now.key k then Some entry.now.value
+            else value_of self.old.table m k)) }
+        ensures rows { OnOk result (self.new.table.delegates.rows
+            ≡ rows_with self.old.table.delegates.rows (record { map = entry.now.map; key = entry.now.key }) delegate) }
+        ensures left { OnOk result (PutsLeft None delegate self.old.looks self.new.looks) }
         ensures parallel { AreParallel self.new }
         ensures sound { IsSound self.new.table }
         ensures err { OnErr result (self.new ≡ self.old) }
     {
-        let entry = self.table.len();
-        if entry >= u32::MAX as usize {
-            return Err(AllocError);
+        match delegate {
+            None => self.entries.add(entry),
+            Some(delegate) => self.add_delegated(entry, delegate),
         }
-        self.table.reserve(1)?;
-        self.by_map.add(map)?;
-        match self.by_key.add(key) {
-            Ok(()) => {
-                self.table.insert(EntryKey { map, key }, value)?;
-                Ok(())
-            }
+    }
+
+    // Adds an entry, which is not there, and whose key is a wrapper.
+    #[cold]
+    #[inline(never)]
+    fn add_delegated(&mut self, entry: &WeakEntry, delegate: Delegate) -> Result<(), NoMemory>
+        requires absent { value_of self.old.table entry.now.map entry.now.key ≡ None }
+        ensures entries { OnOk result (self.new.table.entries ≡ self.old.table.entries ++ entry.now ∷ []) }
+        ensures found { OnOk result ((m k : Place) → value_of self.new.table m k
+            ≡ (if is_same entry.now.map m && is_same entry.now.key k then Some entry.now.value
+            else value_of self.old.table m k)) }
+        ensures rows { OnOk result (self.new.table.delegates.rows
+            ≡ rows_with self.old.table.delegates.rows (record { map = entry.now.map; key = entry.now.key })
+            (Some delegate)) }
+        ensures left { OnOk result (PutsLeft None (Some delegate) self.old.looks self.new.looks) }
+        ensures parallel { AreParallel self.new }
+        ensures sound { IsSound self.new.table }
+        ensures err { OnErr result (self.new ≡ self.old) }
+    {
+        let key = EntryKey {
+            map: entry.map,
+            key: entry.key,
+        };
+        self.delegates.add(key, delegate)?;
+        match self.entries.add(entry) {
+            Ok(()) => Ok(()),
             Err(refused) => {
-                self.by_map.undo_add();
+                self.delegates.undo_add();
                 Err(refused)
             }
         }
     }
 
-    /// Takes an entry out, and answers the value that was there. The last entry has its number then.
+    /// Takes an entry out, and returns the value that was there. The last entry has its number then.
     /// The others are still to be looked at as they were.
     pub fn del(&mut self, map: Place, key: Place) -> Option<Place>
         ensures old { result ≡ value_of self.old.table map key }
         ensures found { (m k : Place) → value_of self.new.table m k
             ≡ (if is_same map m && is_same key k then None else value_of self.old.table m k) }
+        ensures rows { KeepsRows self.old.table self.new.table }
         ensures count { length self.new.table.entries + (if is_some result then 1 else 0)
             ≡ length self.old.table.entries }
         ensures carries { Carries self.old self.new }
         ensures parallel { AreParallel self.new }
         ensures sound { IsSound self.new.table }
     {
-        let entry = self.table.get_index_of(&EntryKey { map, key })?;
-        let value = self.find(map, key);
-        self.take_at(entry as u64);
-        value
+        self.delegates.take(EntryKey { map, key });
+        self.entries.del(map, key)
     }
 
     /// Takes out the entries whose map, key or value is dead. The others may change their numbers, and
@@ -193,6 +271,7 @@ impl WeakMaps {
         // What holds of a test that may answer this or that.
         ensures kept { KeepsAlive (D.post dead) self.old.table.entries self.new.table.entries }
         ensures fewer { length self.new.table.entries ≤ length self.old.table.entries }
+        ensures rows { KeepsRows self.old.table self.new.table }
         ensures carries { Carries self.old self.new }
         ensures parallel { AreParallel self.new }
         ensures sound { IsSound self.new.table }
@@ -207,72 +286,105 @@ impl WeakMaps {
     fn drop_if_dead<D: Fn(Place) -> bool>(&mut self, index: u64, dead: &D)
         requires { D.IsAlwaysCallable dead.now }
         ensures looked { LooksAt (D.post dead.now) index self.old.table.entries self.new.table.entries }
+        ensures rows { KeepsRows self.old.table self.new.table }
         ensures carries { Carries self.old self.new }
         ensures parallel { AreParallel self.new }
         ensures sound { IsSound self.new.table }
     {
-        if let Some((map, key, value)) = self.entry(index) {
+        if let Some(WeakEntry { map, key, value }) = self.entry(index) {
             if dead(map) || dead(key) || dead(value) {
-                self.take_at(index);
+                self.take_at(index, EntryKey { map, key });
             }
         }
     }
 
-    // Takes an entry out; the last has its number then.
-    fn take_at(&mut self, index: u64)
+    // Takes out the entry with this number, which is that of this key; the last has its number then.
+    fn take_at(&mut self, index: u64, key: EntryKey)
+        requires { IsAt self.old.table.entries index key }
         ensures taken { IfSome (slice_get self.old.table.entries index) (λ entry.
             self.new.table.entries ≡ swap_remove self.old.table.entries index entry) }
-        ensures found { IfSome (slice_get self.old.table.entries index) (λ entry. (m k : Place)
-            → value_of self.new.table m k ≡ (if is_same entry.map m && is_same entry.key k then None
-            else value_of self.old.table m k)) }
+        ensures rows { KeepsRows self.old.table self.new.table }
         ensures carries { Carries self.old self.new }
         ensures parallel { AreParallel self.new }
         ensures sound { IsSound self.new.table }
     {
-        if index < self.count() {
-            self.table.swap_remove_index(index as usize);
-            self.by_map.take(index as u32);
-            self.by_key.take(index as u32);
-        }
+        self.delegates.take(key);
+        self.entries.take_at(index);
     }
 
-    /// Marking has followed a cell in a colour: the entries of which it is the map or the key are still
-    /// to be looked at for it, in that colour, or in black where some of them are so already. It takes
-    /// no memory.
+    /// Marking has followed a cell in a colour: the entries of which it is the map or the key, or whose key is a
+    /// wrapper of it, are still to be looked at for it, in that colour, or in black where some of them are so already.
+    /// It takes no memory.
     #[inline(always)]
     pub fn start(&mut self, colour: MarkColour, place: Place)
         ensures table { self.new.table ≡ self.old.table }
-        ensures map { Starts (λ entry. entry.map) colour place self.old.table.entries self.old.looks.by_map
-            self.new.looks.by_map }
-        ensures key { Starts (λ entry. entry.key) colour place self.old.table.entries self.old.looks.by_key
-            self.new.looks.by_key }
+        ensures map { Starts (λ (entry : WeakEntry). entry.map) colour place self.old.table.entries
+            self.old.looks.by_map self.new.looks.by_map }
+        ensures key { Starts (λ (entry : WeakEntry). entry.key) colour place self.old.table.entries
+            self.old.looks.by_key self.new.looks.by_key }
+        ensures delegate { Starts (λ (row : DelegateRow). row.target) colour place self.old.table.delegates.rows
+            self.old.looks.by_delegate self.new.looks.by_delegate }
         ensures parallel { AreParallel self.new }
         ensures sound { IsSound self.new.table }
     {
         if self.count() == 0 {
             return;
         }
-        self.by_map.start(colour, place);
-        self.by_key.start(colour, place);
+        self.entries.start_map(colour, place);
+        self.entries.start_key(colour, place);
+        self.delegates.start(colour, place);
     }
 
-    /// Takes the next entry that is still to be looked at in a colour, first of those that are so for
-    /// their maps, then for their keys; none where nothing is left in that colour. It takes no memory.
+    /// The entries of a map are still to be looked at for it in a colour, or in black where some of them are so
+    /// already. It takes no memory.
+    pub fn start_map(&mut self, colour: MarkColour, map: Place)
+        ensures table { self.new.table ≡ self.old.table }
+        ensures looks { self.new.looks ≡ record self.old.looks { by_map = self.new.looks.by_map } }
+        ensures map { Starts (λ (entry : WeakEntry). entry.map) colour map self.old.table.entries
+            self.old.looks.by_map self.new.looks.by_map }
+        ensures parallel { AreParallel self.new }
+        ensures sound { IsSound self.new.table }
+    {
+        self.entries.start_map(colour, map);
+    }
+
+    /// Takes the next entry that is still to be looked at in a colour, first of those that are so for their maps, then
+    /// for their keys, then for what their keys lead to; none where nothing is left in that colour. It takes no memory.
     /// Lists that deletions have emptied are passed over, each once.
-    pub fn next_left(&mut self, colour: MarkColour) -> Option<(Place, Place, Place)>
+    pub fn next_left(&mut self, colour: MarkColour) -> Option<WeakEntry>
         ensures table { self.new.table ≡ self.old.table }
         ensures some { IfSome result (λ entry.
-            HasLooked colour entry self.old.table.entries self.old.looks self.new.looks) }
+            HasLooked colour entry self.old.table self.old.looks self.new.looks) }
         ensures none { IfNone result ((self.new.looks ≡ self.old.looks) × NoneLeft colour self.old.looks) }
         ensures parallel { AreParallel self.new }
         ensures sound { IsSound self.new.table }
     {
-        match self.by_map.next(colour) {
-            Some(entry) => self.entry(u64::from(entry)),
-            None => {
-                let entry = self.by_key.next(colour)?;
-                self.entry(u64::from(entry))
-            }
+        if let Some(entry) = self.entries.next_left(colour) {
+            return Some(entry);
         }
+        let key = self.delegates.next_left(colour)?;
+        self.entry_of(key)
+    }
+
+    /// No entry is to be looked at any more, in either colour. It takes one step for each that was.
+    pub fn forget(&mut self)
+        ensures table { self.new.table ≡ self.old.table }
+        ensures none { (colour : MarkColour) → NoneLeft colour self.new.looks }
+        ensures parallel { AreParallel self.new }
+        ensures sound { IsSound self.new.table }
+    {
+        self.forget_in(MarkColour::Black);
+        self.forget_in(MarkColour::Gray);
+    }
+
+    // No entry is to be looked at any more in a colour.
+    fn forget_in(&mut self, colour: MarkColour)
+        ensures table { self.new.table ≡ self.old.table }
+        ensures none { NoneLeft colour self.new.looks }
+        ensures fewer { IsLeftFewer self.old.looks self.new.looks }
+        ensures parallel { AreParallel self.new }
+        ensures sound { IsSound self.new.table }
+    {
+        while self.next_left(colour).is_some() {}
     }
 }

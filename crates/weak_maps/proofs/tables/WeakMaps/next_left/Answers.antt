@@ -1,28 +1,80 @@
-use Rattle.std.proofs.Common.{◌≡◌, ◌∙◌, Some, slice_get, ap}
+use Rattle.std.proofs.Common.{◌∙◌, IfSome, ap, refl, subst, sym}
 use Rattle.std.specs.Option.{option_map}
-use Rattle.weak_maps.specs.Tables.{entries_of}
-use Rattle.weak_maps.specs.WeakMaps.{parts}
-use Rattle.weak_maps.proofs.Sound.{IsSound-from_tied}
-use Rattle.weak_maps.proofs.Tying.{entry_left}
+use Rattle.weak_maps.specs.Entries.{value_at}
+use Rattle.weak_maps.specs.WeakMaps.{HasLooked, LooksState, state_with}
+use Rattle.weak_maps.proofs.Kept.{HasLooked-row, IsSound-kept, entry_with, kept_looks}
 use Rattle.weak_maps.proofs.tables.WeakMaps.next_left.Goals as goal
 
-pub returns-in-Some-clause-none : goal.returns-in-Some-clause-none
-returns-in-Some-clause-none c =
-    let e = entry_left (λ e. e.map) (entries_of c.self.inside.table) c.self.inside.by_map c.in-Some.entry
-    (Some c.args.colour) c.self.invariant.maps c.in-Some.ensures.some.0 in
-    let is : c.entry.result ≡ Some (parts e.0) = c.entry.ensures.entry
-    ∙ ap (option_map parts) (ap (slice_get (entries_of c.self.inside.table)) c.from.ensures ∙ e.1) in
-    rw is tt
+pub invariant_of-self : goal.invariant_of-self
+invariant_of-self c =
+    kept_looks c.self.inside.entries c.next_left.new.self c.self.inside.delegates c.self.inside.delegates
+    c.self.invariant c.next_left.ensures.table c.next_left.ensures.sound c.next_left.ensures.parallel refl
+    c.self.invariant.rows
 
-pub returns-in_ok-entry-in-None-clause-none : goal.returns-in_ok-entry-in-None-clause-none
-returns-in_ok-entry-in-None-clause-none c =
-    let e = entry_left (λ e. e.key) (entries_of c.self.inside.table) c.self.inside.by_key c.in_ok-entry-in-None.entry
-    (Some c.args.colour) c.self.invariant.keys c.in_ok-entry-in-None.ensures.some.0 in
-    let is : c.entry-in-None.result ≡ Some (parts e.0) = c.entry-in-None.ensures.entry
-    ∙ ap (option_map parts) (ap (slice_get (entries_of c.self.inside.table)) c.from-in-None.ensures ∙ e.1) in
-    rw is tt
+pub returns-in-Some-clause-sound : goal.returns-in-Some-clause-sound
+returns-in-Some-clause-sound c =
+    IsSound-kept c.next_left.new.self c.self.inside.delegates
+    (kept_looks c.self.inside.entries c.next_left.new.self c.self.inside.delegates c.self.inside.delegates
+    c.self.invariant c.next_left.ensures.table c.next_left.ensures.sound c.next_left.ensures.parallel refl
+    c.self.invariant.rows)
 
-pub returns-in_err-entry-in-None-clause-sound : goal.returns-in_err-entry-in-None-clause-sound
-returns-in_err-entry-in-None-clause-sound c =
-    rw (c.in-None.ensures.none.0, c.in_err-entry-in-None.ensures.none.0)
-    (IsSound-from_tied (entries_of c.self.inside.table) c.self.inside.by_map c.self.inside.by_key c.self.invariant)
+pub invariant_of-self-in_err-key : goal.invariant_of-self-in_err-key
+invariant_of-self-in_err-key c =
+    kept_looks c.self.inside.entries c.next_left.new.self c.self.inside.delegates c.next_left-2.new.self
+    c.self.invariant c.next_left.ensures.table c.next_left.ensures.sound c.next_left.ensures.parallel
+    c.next_left-2.ensures.rows c.next_left-2.ensures.sound
+
+pub returns-in_err-key-clause-sound : goal.returns-in_err-key-clause-sound
+returns-in_err-key-clause-sound c =
+    IsSound-kept c.next_left.new.self c.next_left-2.new.self
+    (kept_looks c.self.inside.entries c.next_left.new.self c.self.inside.delegates c.next_left-2.new.self
+    c.self.invariant c.next_left.ensures.table c.next_left.ensures.sound c.next_left.ensures.parallel
+    c.next_left-2.ensures.rows c.next_left-2.ensures.sound)
+
+pub invariant_of-self-2 : goal.invariant_of-self-2
+invariant_of-self-2 c =
+    kept_looks c.self.inside.entries c.next_left.new.self c.self.inside.delegates c.next_left-2.new.self
+    c.self.invariant c.next_left.ensures.table c.next_left.ensures.sound c.next_left.ensures.parallel
+    c.next_left-2.ensures.rows c.next_left-2.ensures.sound
+
+pub returns-clause-sound : goal.returns-clause-sound
+returns-clause-sound c =
+    IsSound-kept c.next_left.new.self c.next_left-2.new.self
+    (kept_looks c.self.inside.entries c.next_left.new.self c.self.inside.delegates c.next_left-2.new.self
+    c.self.invariant c.next_left.ensures.table c.next_left.ensures.sound c.next_left.ensures.parallel
+    c.next_left-2.ensures.rows c.next_left-2.ensures.sound)
+
+pub returns-clause-some : goal.returns-clause-some
+returns-clause-some c =
+    let old = state_with c.self.inside.entries c.self.inside.delegates in
+    let new : LooksState = record {
+      by_map = c.next_left.new.self.looks.by_map;
+      by_key = c.next_left.new.self.looks.by_key;
+      by_delegate = c.next_left-2.new.self.by_target.left;
+    } in
+    let same = c.in_default.ensures.none.0 in
+    let key = c.in_ok-key.key in
+    let it = HasLooked-row old.table old.looks new c.args.colour key c.entry_of.result
+    (IsSound-kept c.self.inside.entries c.self.inside.delegates c.self.invariant) c.in_ok-key.ensures.some
+    (λ i. record { by_map = (same i).by_map; by_key = (same i).by_key; by_delegate = new.by_delegate })
+    (c.entry_of.ensures
+    ∙ ap (λ t. option_map (entry_with key) (value_at t.entries key.map key.key)) c.next_left.ensures.table) in
+    rw (← c.self.view_is)
+    (subst (λ r. IfSome r (λ e. HasLooked c.args.colour e old.table old.looks new)) (sym it.1) it.2)
+
+pub returns-clause-none : goal.returns-clause-none
+returns-clause-none c =
+    let old = state_with c.self.inside.entries c.self.inside.delegates in
+    let new : LooksState = record {
+      by_map = c.next_left.new.self.looks.by_map;
+      by_key = c.next_left.new.self.looks.by_key;
+      by_delegate = c.next_left-2.new.self.by_target.left;
+    } in
+    let same = c.in_default.ensures.none.0 in
+    let key = c.in_ok-key.key in
+    let it = HasLooked-row old.table old.looks new c.args.colour key c.entry_of.result
+    (IsSound-kept c.self.inside.entries c.self.inside.delegates c.self.invariant) c.in_ok-key.ensures.some
+    (λ i. record { by_map = (same i).by_map; by_key = (same i).by_key; by_delegate = new.by_delegate })
+    (c.entry_of.ensures
+    ∙ ap (λ t. option_map (entry_with key) (value_at t.entries key.map key.key)) c.next_left.ensures.table) in
+    rw it.1 tt

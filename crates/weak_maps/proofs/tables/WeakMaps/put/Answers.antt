@@ -1,74 +1,57 @@
-use Rattle.std.proofs.Common.{◌∙◌, length, refl, sym, ap}
-use Rattle.std.proofs.lemmas.Result.{err_from_is_err_and}
-use Rattle.weak_maps.specs.Tables.{entries_of}
-use Rattle.weak_maps.specs.WeakMaps.{value_at, put_at}
-use Rattle.weak_maps.proofs.Sound.{IsSound-from_tied}
-use Rattle.weak_maps.proofs.Table.{value_at-entries, value_at-put_at, put_at-written, length-put_at}
-use Rattle.weak_maps.proofs.Table.{AreDistinct-entries}
-use Rattle.weak_maps.proofs.Tying.{AreParallel-tied, AreTied-put}
+use Rattle.std.proofs.Common.{◌≡◌, ◌∙◌, ◌&&◌, ◌++◌, ◌∷◌, [], List, None, Option, ap, cond, is_none, sym}
+use Rattle.gz_names.specs.declared.numbers.Place.{Place}
+use Rattle.weak_maps.specs.Places.{is_same}
+use Rattle.weak_maps.specs.Delegates.{DelegateRow, delegate_at}
+use Rattle.weak_maps.specs.Entries.{value_at}
+use Rattle.weak_maps.specs.WeakMaps.{target_of}
+use Rattle.weak_maps.proofs.Kept.{IsSound-kept, delegate-added, entered-put, no_row_without}
+use Rattle.weak_maps.proofs.Table.{put_at-new}
 use Rattle.weak_maps.proofs.tables.WeakMaps.put.Goals as goal
 
 pub invariant_of-self : goal.invariant_of-self
-invariant_of-self c =
-    let old = c.self.inside.table in
-    let there = sym c.in-Some.ensures.value in
-    let found = value_at-entries old c.args.map c.args.key ∙ there in
-    let holds = c.get_mut.follows.holds c.replace.new.dest in
-    let new = c.get_mut.follows.lender c.replace.new.dest in
-    let written = put_at-written old new c.args.map c.args.key c.replace.new.dest c.in-Some.old.now there holds.0 in
-    let given = written ∙ ap (put_at (entries_of old) c.args.map c.args.key) c.replace.ensures.after in
-    AreTied-put (entries_of old) (entries_of new) c.self.inside.by_map c.self.inside.by_key c.args.map c.args.key
-    c.args.value c.in-Some.old.now c.self.invariant found given (AreDistinct-entries new holds.4)
-
-pub returns-in-Some : goal.returns-in-Some
-returns-in-Some c =
-    let old = c.self.inside.table in
-    let there = sym c.in-Some.ensures.value in
-    let found = value_at-entries old c.args.map c.args.key ∙ there in
-    let holds = c.get_mut.follows.holds c.replace.new.dest in
-    let new = c.get_mut.follows.lender c.replace.new.dest in
-    let written = put_at-written old new c.args.map c.args.key c.replace.new.dest c.in-Some.old.now there holds.0 in
-    let given = written ∙ ap (put_at (entries_of old) c.args.map c.args.key) c.replace.ensures.after in
-    let tied = AreTied-put (entries_of old) (entries_of new) c.self.inside.by_map c.self.inside.by_key c.args.map
-    c.args.key c.args.value c.in-Some.old.now c.self.invariant found given (AreDistinct-entries new holds.4) in
-    rw (← c.self.view_is) record {
-      old = rw c.replace.ensures.value (sym found);
-      entries = given;
-      found = λ m k. ap (λ es. value_at es m k) given ∙ value_at-put_at (entries_of old) c.args.map c.args.key
-          c.args.value m k;
-      count = ap length given ∙ length-put_at (entries_of old) c.args.map c.args.key c.args.value;
-      left = rw found refl;
-      parallel = AreParallel-tied (entries_of new) c.self.inside.by_map c.self.inside.by_key tied;
-      sound = IsSound-from_tied (entries_of new) c.self.inside.by_map c.self.inside.by_key tied;
-      err = tt;
-      wanted = tt;
-    }
-
-pub add-requires : goal.add-requires
-add-requires c = record {
-  absent = rw c.get_mut.follows.holds-at-none (value_at-entries c.self.inside.table c.args.map c.args.key
-      ∙ sym c.in_default.ensures.value);
+invariant_of-self c = record {
+  entries = c.replace.ensures.sound;
+  looks = c.replace.ensures.parallel;
+  rows = c.self.invariant.rows;
+  entered = entered-put c.self.inside.delegates.rows c.self.inside.entries.table.entries
+      c.replace.new.self.table.entries
+      c.args.entry.map c.args.entry.key c.args.entry.value c.in-Some.ensures.found c.self.invariant.entered;
 }
 
-pub returns : goal.returns
-returns c =
-    let none = value_at-entries c.self.inside.table c.args.map c.args.key ∙ sym c.in_default.ensures.value in
-    let put = rw c.get_mut.follows.holds-at-none at c.in_ok-add.ensures.entries in
-    rw (← c.self.view_is) record {
-      old = sym none;
-      entries = put;
-      found = λ m k. ap (λ es. value_at es m k) put ∙ value_at-put_at (entries_of c.self.inside.table) c.args.map
-          c.args.key c.args.value m k;
-      count = ap length put ∙ length-put_at (entries_of c.self.inside.table) c.args.map c.args.key c.args.value;
-      left = rw none c.in_ok-add.ensures.left;
-      parallel = c.in_ok-add.ensures.parallel;
-      sound = c.in_ok-add.ensures.sound;
-      err = tt;
-      wanted = tt;
-    }
+pub returns-in-Some-clause-sound : goal.returns-in-Some-clause-sound
+returns-in-Some-clause-sound c =
+    IsSound-kept c.replace.new.self c.self.inside.delegates (record {
+      entries = c.replace.ensures.sound;
+      looks = c.replace.ensures.parallel;
+      rows = c.self.invariant.rows;
+      entered = entered-put c.self.inside.delegates.rows c.self.inside.entries.table.entries
+          c.replace.new.self.table.entries
+          c.args.entry.map c.args.entry.key c.args.entry.value c.in-Some.ensures.found c.self.invariant.entered;
+    })
 
-pub returns-in_err-add-clause-wanted : goal.returns-in_err-add-clause-wanted
-returns-in_err-add-clause-wanted c =
-    let given = err_from_is_err_and c.from_residual.result c.from_residual.ensures.1 in
-    rw (given.1, ← c.self.view_is) (value_at-entries c.self.inside.table c.args.map c.args.key
-    ∙ sym c.in_default.ensures.value)
+pub returns-clause-entries : goal.returns-clause-entries
+returns-clause-entries c =
+    let same = c.in_default.ensures.none in
+    let none : value_at c.self.inside.entries.table.entries c.args.entry.map c.args.entry.key ≡ None =
+    sym c.in_default.ensures.old in
+    c.in_ok-add.ensures.entries
+    ∙ (ap (λ s. s.table.entries ++ c.args.entry ∷ []) same
+    ∙ rw (← c.self.view_is)
+    (sym (put_at-new c.self.inside.entries.table.entries c.args.entry.map c.args.entry.key c.args.entry.value none)))
+
+pub returns-in-Some-clause-delegates : goal.returns-in-Some-clause-delegates
+returns-in-Some-clause-delegates c = rw (← c.self.view_is) (λ m k.
+    ap (λ (o : Option Place). cond (is_none o && (is_same c.args.entry.map m && is_same c.args.entry.key k))
+    (target_of c.args.delegate) (delegate_at c.self.inside.delegates.rows m k)) c.in-Some.ensures.old)
+
+pub returns-clause-delegates : goal.returns-clause-delegates
+returns-clause-delegates c =
+    let rows = c.self.inside.delegates.rows in
+    let none : value_at c.self.inside.entries.table.entries c.args.entry.map c.args.entry.key ≡ None =
+    sym c.in_default.ensures.old in
+    let no_row = no_row_without rows c.self.inside.entries.table.entries c.args.entry.map c.args.entry.key
+    c.self.invariant.entered none in
+    rw (← c.self.view_is) (λ m k. ap (λ (rs : List DelegateRow). delegate_at rs m k) c.in_ok-add.ensures.rows
+    ∙ (delegate-added rows (record { map = c.args.entry.map; key = c.args.entry.key }) c.args.delegate no_row m k
+    ∙ ap (λ (o : Option Place). cond (is_none o && (is_same c.args.entry.map m && is_same c.args.entry.key k))
+    (target_of c.args.delegate) (delegate_at rows m k)) (sym none)))

@@ -1,0 +1,6 @@
+use Rattle.weak_maps.proofs.Kept.{IsSound-kept}
+use Rattle.weak_maps.proofs.tables.WeakMaps.delegate_of.Goals as goal
+
+pub returns-clause-sound : goal.returns-clause-sound
+returns-clause-sound c =
+    rw (← c.self.view_is) (IsSound-kept c.self.inside.entries c.self.inside.delegates c.self.invariant)
