@@ -18,7 +18,7 @@ use Rattle.colour_defs.specs.Step.{step_of, with_register, with_field, fits_comp
 use Rattle.colour_defs.specs.Step.{get_in, get_value, set_from, set_in, value_to_set, some_value, wrap_from}
 use Rattle.colour_defs.specs.Step.{unwrap_from, target_of, put_from, put_unless, put_entry, del_from, del_unless}
 use Rattle.colour_defs.specs.Step.{del_value, del_entry, find_from, find_unless, entry_refusal, entry_refusal_in}
-use Rattle.colour_defs.specs.Step.{map_comp, map_comp_in, key_refusal, new_object, new_map, make_object, named_or_null}
+use Rattle.colour_defs.specs.Step.{map_comp, map_comp_in, new_object, new_map, make_object, named_or_null}
 use Rattle.colour_defs.specs.Step.{refuse}
 use Rattle.colour_defs.specs.Present.{IsHere, IsKeyHere, IsComplete, IsPartOf}
 
@@ -203,8 +203,8 @@ module _ (g h : GraphState) (p : IsPartOf g h) (ok : IsComplete h) where
         where
           step : (o : Option CompNo) → entry_refusal_in h o k v ≡ entry_refusal_in g o k v
           step None = refl
-          step (Some c) = ap (λ b. cond (b && is_in_comp h c v) (key_refusal k) (Some refusal.Cross))
-              (in_comp_same c k hk) ∙ ap (λ b. cond (is_in_comp g c k && b) (key_refusal k) (Some refusal.Cross))
+          step (Some c) = ap (λ b. cond (b && is_in_comp h c v) None (Some refusal.Cross))
+              (in_comp_same c k hk) ∙ ap (λ b. cond (is_in_comp g c k && b) None (Some refusal.Cross))
               (in_comp_same c v hv)
 
   put_both : (m k v : Option Name) → AllHere h m → AllHere h k → AllHere h v

@@ -19,7 +19,7 @@ use Rattle.colour_defs.specs.Step.{step_of, with_register, with_field, fits_comp
 use Rattle.colour_defs.specs.Step.{del_entry, get_from, get_in, get_value, set_from, set_in, value_to_set, some_value}
 use Rattle.colour_defs.specs.Step.{wrap_from, take_wrapper, unwrap_from, target_of, put_from, put_unless, del_from}
 use Rattle.colour_defs.specs.Step.{del_unless, del_value, find_from, find_unless, entry_refusal, entry_refusal_in}
-use Rattle.colour_defs.specs.Step.{map_comp, map_comp_in, key_refusal, new_object, new_map, make_object}
+use Rattle.colour_defs.specs.Step.{map_comp, map_comp_in, new_object, new_map, make_object}
 use Rattle.colour_defs.specs.World.{woken_by, woken_by_wrap, also_woken_by, target_cell}
 use Rattle.colour_defs.specs.Laws.{IsSameComp, IsNoWrapper}
 use Rattle.colour_defs.proofs.Lists.{contains_at, choose, no_name_in_nulls, nothing_in_none}
@@ -66,7 +66,6 @@ pub record EntryOk (g : GraphState) (m k v : Name) : Type 0 where
   pub key : IsSameComp g m k
   pub value : IsSameComp g m v
   pub map_cell : IsNoWrapper m
-  pub key_cell : IsNoWrapper k
   pub key_held : IsHeld g k
 
 -- what a command does to a graph: nothing, or a change of one of these kinds. w is the name that it wakes
@@ -191,20 +190,15 @@ map_comp_is g (Cell n) c e = (go (object_of g n) e, tt)
     go None e = absurd (cc e)
     go (Some o) e = in_map o o.is_map e
 
-key_is : (k : Name) → key_refusal k ≡ None → IsNoWrapper k
-key_is (Cell n) e = tt
-key_is (Wrap c t) e = absurd (cc e)
-
 pub entry_ok : (g : GraphState) (m k v : Name) → IsHeld g k → entry_refusal g m k v ≡ None → EntryOk g m k v
 entry_ok g m k v held e = go (map_comp g m) refl e
   where
     fits : (c : CompNo) → map_comp g m ≡ Some c → (p q : Bool) → is_in_comp g c k ≡ p → is_in_comp g c v ≡ q
-        → cond (p && q) (key_refusal k) (Some refusal.Cross) ≡ None → EntryOk g m k v
+        → cond (p && q) None (Some refusal.Cross) ≡ None → EntryOk g m k v
     fits c at true true ep eq e = record {
       key = (c, (map_comp_is g m c at).0, is_comp (comp_of g k) c ep);
       value = (c, (map_comp_is g m c at).0, is_comp (comp_of g v) c eq);
       map_cell = (map_comp_is g m c at).1;
-      key_cell = key_is k e;
       key_held = held;
     }
     fits c at true false ep eq e = absurd (cc e)

@@ -303,7 +303,6 @@ well_formed_stays g w h f made ok = record {
         ↦ same_stays g w h f m v s.0.value
   ];
   no_wrappers = λ m k v e. elim (f.entries m k v e) [ inl old ↦ ok.no_wrappers m k v old | inr s ↦ s.0.map_cell ];
-  plain_keys = λ m k v e. elim (f.entries m k v e) [ inl old ↦ ok.plain_keys m k v old | inr s ↦ s.0.key_cell ];
   delegates = λ m v c t e. elim (f.entries m (Wrap c t) v e) [
     | inl old ↦ let d = ok.delegates m v c t old in (d.0, f.comps (Cell t) d.0 d.1)
     | inr s ↦ let d = made s.0.key_held.0 c t s.0.key_held.1 in (d.0, f.comps (Cell t) d.0 d.1)

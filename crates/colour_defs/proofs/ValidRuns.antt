@@ -95,7 +95,6 @@ first_valid = record {
     keys = λ m k v e. absurd (cc e);
     values = λ m k v e. absurd (cc e);
     no_wrappers = λ m k v e. absurd (cc e);
-    plain_keys = λ m k v e. absurd (cc e);
     delegates = λ m v c t e. absurd (cc e);
   };
   presence = record {

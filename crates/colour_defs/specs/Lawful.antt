@@ -124,9 +124,9 @@ pub data Beginning : Type 0 where
   by_units : Beginning
   at_once : Beginning
 
--- how a collection begins in the program, which does not prepare by units
+-- how a collection begins in the program
 abbrev pub beginning : Beginning
-beginning = at_once
+beginning = by_units
 
 -- a collection of these zones is prepared, and its marking begins, with nothing between
 pub record BeginsAtOnce (w : World) (zones : List ℕ) (v : World) : Type 0 where

@@ -116,7 +116,6 @@ pub record IsWellFormed (g : GraphState) : Type 0 where
   pub keys : (m k v : Name) → value_of g m k ≡ Some v → IsSameComp g m k
   pub values : (m k v : Name) → value_of g m k ≡ Some v → IsSameComp g m v
   pub no_wrappers : (m k v : Name) → value_of g m k ≡ Some v → IsNoWrapper m
-  pub plain_keys : (m k v : Name) → value_of g m k ≡ Some v → IsNoWrapper k
   pub delegates : (m v : Name) (c : CompNo) (t : ℕ) → value_of g m (Wrap c t) ≡ Some v → (d : CompNo)
       × (comp_of g (Cell t) ≡ Some d)
 

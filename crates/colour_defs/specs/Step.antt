@@ -166,14 +166,9 @@ abbrev pub map_comp : GraphState → Name → Option CompNo
 map_comp g (Wrap c t) = None
 map_comp g (Cell n) = map_comp_in (object_of g n)
 
--- why a key is refused in any map: a wrapper is no key
-abbrev pub key_refusal : Name → Option Refusal
-key_refusal (Cell n) = None
-key_refusal (Wrap c t) = Some refusal.WrapperKey
-
 abbrev pub entry_refusal_in : GraphState → Option CompNo → Name → Name → Option Refusal
 entry_refusal_in g None k v = Some refusal.Kind
-entry_refusal_in g (Some c) k v = if is_in_comp g c k && is_in_comp g c v then key_refusal k else Some refusal.Cross
+entry_refusal_in g (Some c) k v = if is_in_comp g c k && is_in_comp g c v then None else Some refusal.Cross
 
 -- why an entry of this map with this key and value is refused, if it is
 abbrev pub entry_refusal : GraphState → Name → Name → Name → Option Refusal

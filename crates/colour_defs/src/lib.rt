@@ -22,8 +22,6 @@
 //          |  +---- reset -------+--------------------+------------------+--------------------------+       |
 //          +------------------------------------------ done ------------------------------------------------+
 //
-// For now `gc` goes on to marking at once, and writes no line for it (`beginning` in specs/Lawful).
-//
 // As a group ends (specs/Ends) exactly the black closure is black, the rest of the live closure
 // gray, and the remainder white: white names stop being present, and lie in their arenas until
 // these are taken in. Which reports are lawful, one unit after another, and so which answers to a
