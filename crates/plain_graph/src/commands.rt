@@ -3,11 +3,11 @@
 ghost use Rattle.std.specs.Prelude.{◌≡◌, ◌<◌, ◌↔◌, IfOk, IsTrue, OnErr, OnOk, length};
 ghost use Rattle.gz_names.specs.declared.commands.GraphCmd.TheVariants as cmd;
 ghost use Rattle.colour_defs.specs.Graph.{object_of, register_cell, slot_cell};
-ghost use Rattle.colour_defs.specs.Step.{HasFewFields, IsAccepted, entry_refusal, fits_comp, is_in_comp, make_object};
+ghost use Rattle.colour_defs.specs.Step.{IsAccepted, entry_refusal, fits_comp, is_in_comp, make_object};
 ghost use Rattle.colour_defs.specs.Step.{map_comp, named_or_null, set_in, step_of, take_in_register, take_wrapper};
-ghost use Rattle.colour_defs.specs.Step.{target_of, value_to_set};
+ghost use Rattle.colour_defs.specs.Step.{value_to_set};
 
-use crate::graph::Graph;
+use crate::graph::{Graph, target_of};
 use colour_defs::{Fields, Object};
 use gz_names::{COMP_LIMIT, CompNo, GraphCmd, GrayNo, Name, NoMemory, Refusal, Reg, Reply, ZoneNo};
 use std::alloc::Global;
@@ -73,7 +73,7 @@ fn add_object(graph: &mut Graph, register: Reg, object: Object) -> Result<Reply,
     ensures reply { IfOk result (λ r. r ≡ (make_object graph.old register object).1) }
     ensures err { OnErr result (graph.new ≡ graph.old) }
 {
-    let number = graph.objects().len() as u64;
+    let number = graph.made() as u64;
     graph.add_object(object)?;
     graph.set_register(register, Some(Name::Cell(number)));
     Ok(Reply::Made(number))
@@ -226,16 +226,6 @@ fn take_wrapper(
     Ok(Reply::Named(Name::Wrap(comp, target)))
 }
 
-// The number of the object or map that a name stands for.
-fn target_of(name: Name) -> u64
-    ensures { result ≡ target_of name }
-{
-    match name {
-        Name::Cell(number) => number,
-        Name::Wrap(_, target) => target,
-    }
-}
-
 fn wrap(graph: &mut Graph, register: Reg, source: Reg, comp: CompNo) -> Result<Reply, NoMemory>
     ensures graph { OnOk result
         (graph.new ≡ (step_of graph.old (cmd.Wrap register source comp)).0) }
@@ -316,15 +306,8 @@ fn entry_refusal(graph: &Graph, map: Name, key: Name, value: Name) -> Option<Ref
 {
     match map_comp(graph, map) {
         None => Some(Refusal::Kind),
-        Some(comp) => {
-            if !is_in_comp(graph, comp, key) || !is_in_comp(graph, comp, value) {
-                return Some(Refusal::Cross);
-            }
-            match key {
-                Name::Cell(_) => None,
-                Name::Wrap(_, _) => Some(Refusal::WrapperKey),
-            }
-        }
+        Some(comp) if is_in_comp(graph, comp, key) && is_in_comp(graph, comp, value) => None,
+        Some(_) => Some(Refusal::Cross),
     }
 }
 
@@ -386,7 +369,6 @@ fn find(graph: &mut Graph, register: Reg, map: Reg, key: Reg) -> Reply
 /// Does a command on the graph, and answers it. Refusals come before want of memory, which is the
 /// one error and leaves the graph as it was.
 pub fn step(alloc: Global, graph: &mut Graph, cmd: &GraphCmd) -> Result<Reply, NoMemory>
-    requires { HasFewFields cmd.now }
     ensures graph { OnOk result (graph.new ≡ (step_of graph.old cmd.now).0) }
     ensures reply { IfOk result (λ r. r ≡ (step_of graph.old cmd.now).1) }
     ensures accepted { OnErr result (IsAccepted graph.old cmd.now) }

@@ -1,24 +1,32 @@
 // The graph that never frees.
 ghost use Rattle.std.specs.Prelude.{◌≡◌, ◌+◌, ◌++◌, ◌∷◌, [], ◌<◌, Bool, IsSome, List, OnOk, OnErr, Some, length};
-ghost use Rattle.std.specs.Prelude.{position, slice_get, slice_set};
+ghost use Rattle.std.specs.Prelude.{Contains, position, slice_get, slice_set, vec_capacity, vec_len, ◌≤◌};
 ghost use Rattle.std.specs.Option.{option_copied, option_flatten};
-ghost use Rattle.colour_defs.specs.Graph.{value_in};
-ghost use Rattle.colour_defs.specs.Step.{is_entry_of, put_entry, del_entry, with_field_in};
+ghost use Rattle.colour_defs.specs.Step.{is_entry_of, put_entry, del_entry, target_of, with_field_in};
 
+use crate::waiting::{Pair, Pairs, add_pair, pairs_at};
 use colour_defs::{Entry, Object};
 use gz_names::{CompNo, GrayNo, Name, NoMemory, Reg, ZONE_LIMIT, ZoneNo};
 use std::alloc::Global;
+use std::collections::{BTreeMap, BTreeSet};
 use std::marker::Model;
 
 /// A graph from which no cell is ever removed. Objects and maps stand by number; one that is absent
 /// is None, which a graph made by commands never has.
 #[derive(Drop)]
 pub struct Graph {
+    alloc: Global,
     zones: u8,
     comps: Vec<ZoneNo>,
     objects: Vec<Option<Object>>,
     wrappers: Vec<(CompNo, u64)>,
+    /// The wrappers again, by the number of the compartment and by the target.
+    known: BTreeSet<(u8, u64)>,
     entries: Vec<Entry>,
+    /// The value of each entry, by its map and its key.
+    values: BTreeMap<Pair, Name>,
+    /// The map and the key of each entry, and of some that were removed, by the number of either.
+    waiting: BTreeMap<u64, Pairs>,
     registers: [Option<Name>; 16],
     slots: [Option<Name>; 64],
 }
@@ -37,23 +45,33 @@ impl Model for Graph {
       registers = g.registers;
       slots = g.slots;
     } };
+
+    ghost use Rattle.plain_graph.specs.Indexed.{IsIndexed};
+
+    ghost invariant = { λ g. IsIndexed g.wrappers.items g.known g.entries.items g.values g.waiting };
 }
 
 impl Graph {
     ghost use Rattle.colour_defs.specs.Graph.{empty_graph, object_of, register_cell, slot_cell, has_wrapper, value_of};
-    ghost use Rattle.colour_defs.specs.Graph.{comp_of};
+    ghost use Rattle.colour_defs.specs.Graph.{comp_of, zone_of};
     ghost use Rattle.colour_defs.specs.Step.{with_register, with_slot};
+    ghost use Rattle.gz_names.specs.declared.names.Name.{Name as AName};
+    ghost use Rattle.plain_graph.specs.Reach.{Waits};
 
     /// A graph with nothing in it. It takes no memory.
     pub fn new(alloc: Global) -> Self
         ensures { result ≡ empty_graph }
     {
         Graph {
+            alloc,
             zones: 0,
             comps: Vec::new(alloc),
             objects: Vec::new(alloc),
             wrappers: Vec::new(alloc),
+            known: BTreeSet::new(alloc),
             entries: Vec::new(alloc),
+            values: BTreeMap::new(alloc),
+            waiting: BTreeMap::new(alloc),
             registers: [None; 16],
             slots: [None; 64],
         }
@@ -110,32 +128,35 @@ impl Graph {
         }
     }
 
+    /// The zone of a cell, if the cell is there.
+    pub fn zone_of(&self, name: Name) -> Option<ZoneNo>
+        ensures { result ≡ zone_of self.now name }
+    {
+        let comp = self.comp_of(name)?;
+        self.comps.get(comp.0 as usize).copied()
+    }
+
     /// Whether the wrapper of a target in a compartment was ever made.
     pub fn has_wrapper(&self, comp: CompNo, target: u64) -> bool
         ensures { result ≡ has_wrapper self.now comp target }
     {
-        self.wrappers.iter().any(|w| w.0 == comp && w.1 == target)
+        self.known.contains(&(comp.0, target))
     }
 
     /// The value of a map's key, where there is an entry.
     pub fn value_of(&self, map: Name, key: Name) -> Option<Name>
         ensures { result ≡ value_of self.now map key }
     {
-        find_value(self.entries.as_slice(), map, key)
+        self.values.get(&(map, key)).copied()
     }
 
-    /// The objects and maps, by number.
-    pub fn objects(&self) -> &[Option<Object>]
-        ensures { result.now ≡ self.now.objects }
+    /// The maps and keys of all entries for which a name may matter: it is the map, the key, or the target of a
+    /// wrapper that is the key.
+    pub fn waiting_for(&self, name: Name) -> &[Pair]
+        ensures { (m k v : AName) → value_of self.now m k ≡ Some v → Waits name m k
+            → Contains result.now (m, k) }
     {
-        self.objects.as_slice()
-    }
-
-    /// The wrappers, each as its compartment and its target.
-    pub fn wrappers(&self) -> &[(CompNo, u64)]
-        ensures { result.now ≡ self.now.wrappers }
-    {
-        self.wrappers.as_slice()
+        pairs_at(&self.waiting, target_of(name))
     }
 
     /// The entries of the weak maps.
@@ -143,6 +164,13 @@ impl Graph {
         ensures { result.now ≡ self.now.entries }
     {
         self.entries.as_slice()
+    }
+
+    /// How many objects and maps were made.
+    pub(crate) fn made(&self) -> usize
+        ensures { result ≡ length self.now.objects }
+    {
+        self.objects.len()
     }
 
     /// Makes the next zone.
@@ -179,6 +207,8 @@ impl Graph {
             OnOk result (self.new ≡ record self.old { wrappers = more }) }
         ensures err { OnErr result (self.new ≡ self.old) }
     {
+        self.wrappers.reserve(1)?;
+        self.known.insert((comp.0, target))?;
         self.wrappers.push((comp, target))?;
         Ok(())
     }
@@ -202,13 +232,19 @@ impl Graph {
             OnOk result (self.new ≡ record self.old { entries = entries }) }
         ensures err { OnErr result (self.new ≡ self.old) }
     {
-        put_in(&mut self.entries, map, key, value)
+        add_pair(self.alloc, &mut self.waiting, target_of(map), (map, key))?;
+        add_pair(self.alloc, &mut self.waiting, target_of(key), (map, key))?;
+        self.entries.reserve(1)?;
+        self.values.insert((map, key), value)?;
+        put_in(&mut self.entries, map, key, value)?;
+        Ok(())
     }
 
     /// Removes the entry of a map's key.
     pub(crate) fn del_entry(&mut self, map: Name, key: Name)
         ensures { self.new ≡ record self.old { entries = del_entry self.old.entries map key } }
     {
+        self.values.remove(&(map, key));
         del_in(&mut self.entries, map, key);
     }
 
@@ -246,7 +282,7 @@ fn find_entry(entries: &[Entry], map: Name, key: Name) -> Option<usize>
 /// The entry of a map's key gets a value, or is added.
 fn put_in(entries: &mut Vec<Entry>, map: Name, key: Name, value: Name) -> Result<(), NoMemory>
     ensures ok { OnOk result (entries.new.items ≡ put_entry entries.old.items map key value) }
-    ensures err { OnErr result (entries.new.items ≡ entries.old.items) }
+    ensures full { OnErr result (vec_capacity entries.old ≤ vec_len entries.old) }
 {
     match find_entry(entries.as_slice(), map, key) {
         Some(index) => entries[index].value = value,
@@ -284,14 +320,12 @@ fn set_field_in(object: &mut Option<Object>, field: usize, value: Option<Name>)
     }
 }
 
-/// The value of a map's key in a list of entries.
-fn find_value(entries: &[Entry], map: Name, key: Name) -> Option<Name>
-    ensures { result ≡ value_in entries.now map key }
+/// The number of the object or map that a name stands for.
+pub(crate) fn target_of(name: Name) -> u64
+    ensures { result ≡ target_of name }
 {
-    for entry in entries {
-        if is_entry_of(*entry, map, key) {
-            return Some(entry.value);
-        }
+    match name {
+        Name::Cell(number) => number,
+        Name::Wrap(_, target) => target,
     }
-    None
 }

@@ -6,9 +6,9 @@
 // are functions that run, and are proved to be those definitions: `step` does what `step_of` says, and `closure`
 // returns exactly what is in `Closure`, each name once.
 //
-// They are slow and short, as nothing else is asked of them: a list of entries is searched from its front, and the
-// closure is found by looking for one more name that is due, until there is none. So whoever doubts a definition can
-// run it. spec_replay answers a trace by them, and tools/check-step compares other collectors with what it answers.
+// So whoever doubts a definition can run it. spec_replay answers a trace by them, and tools/check-step compares other
+// collectors with what it answers. Both are short. A step looks up wrappers and entries by name; the closure visits
+// each of its names once, and each entry that may wait for the name: an entry is listed under its map and its key.
 //
 // The collector has no use for them, and no crate of it stands on this one.
 #![tactic(auto)]
@@ -16,7 +16,8 @@
 mod commands;
 mod graph;
 mod reach;
+mod waiting;
 
 pub use commands::step;
 pub use graph::Graph;
-pub use reach::closure;
+pub use reach::{Walk, closure};

@@ -1,206 +1,218 @@
-// The closure, by search. One list has the names that are known to be reached, another one those
-// that may be:
+// The closure, by a walk. One list has the names that are known to be reached, in the order in which they were found:
 //
-//     names: reached, each once | rest: may be reached
+//     visited | to be visited
 //
-// What is due beside the names is among the names or in the rest. A name of the rest that is due
-// moves over; where none is, the names are closed.
-ghost use Rattle.std.specs.Prelude.{◌≡◌, ◌≢◌, ◌↔◌, AllPairs, Contains, IfNone, IfOk, IfSome, IsTrue, OnOk, Some};
-ghost use Rattle.std.specs.Prelude.{slice_get};
-ghost use Rattle.std.specs.Option.{option_copied};
-ghost use Rattle.gz_names.specs.declared.names.Name.{Name};
-ghost use Rattle.colour_defs.specs.Closure.{Closure, HasEdge, HoldsInField};
-ghost use Rattle.plain_graph.specs.Reach.{AddsOnce, Gains, Gives, GivesKey, HasAllEnds, HasDelegateIn, HasEdgeFrom};
-ghost use Rattle.plain_graph.specs.Reach.{HasKeyFrom, HasValueFrom, IsDue, IsFieldIn, IsHeldIn, IsKeyIn, IsTargetIn};
-ghost use Rattle.plain_graph.specs.Reach.{IsValueIn};
+// Beside the visited ones all is found. So where none is left to visit, the names are closed.
+ghost use Rattle.std.specs.Prelude.{◌≡◌, ◌≢◌, ◌↔◌, ◌+◌, ◌<◌, ◌^◌, [], List, AllPairs, Contains, IfOk, IsTrue, OnOk};
+ghost use Rattle.std.specs.Prelude.{Some, is_some, slice_get, if◌then◌else◌};
+ghost use Rattle.gz_names.specs.declared.names.Name.{Name as AName};
+ghost use Rattle.colour_defs.specs.Closure.{Closure, HasEdge};
+ghost use Rattle.plain_graph.specs.Reach.{Adds, Follows, HasDelegateIn, IsAt, IsDone, Keeps, Visits};
 
 use crate::graph::Graph;
-use colour_defs::{Entry, Object};
-use gz_names::{CompNo, Name, NoMemory};
+use crate::waiting::Pair;
+use gz_names::{Name, NoMemory};
 use std::alloc::Global;
+use std::collections::BTreeSet;
+use std::marker::Model;
 
-fn is_among(names: &[Name], name: Name) -> bool
-    ensures { IsTrue result ↔ Contains names.now name }
-{
-    names.contains(&name)
+/// A walk over what is reached from some names. More of them may be added after it.
+#[derive(Drop)]
+pub struct Walk {
+    found: BTreeSet<Name>,
+    names: Vec<Name>,
+    /// For each name the one that led to it; a start has none.
+    from: Vec<Option<Name>>,
+    next: usize,
 }
 
-// Whether an object holds a name in some field.
-fn holds(object: Option<&Object>, name: Name) -> bool
-    ensures { IsTrue result ↔ HoldsInField (option_copied object.entry) name }
-{
-    match object {
-        None => false,
-        Some(object) => object.fields.contains(name),
-    }
+impl Model for Walk {
+    ghost use Rattle.plain_graph.specs.Reach.{IsWalk, WalkState};
+
+    ghost Value = { WalkState };
+
+    ghost view = { λ w. record { names = w.names.items; next = w.next } };
+
+    ghost invariant = { λ w. IsWalk w.found w.names.items w.next };
 }
 
-// Whether an edge leads from a name to a name.
-fn has_edge(graph: &Graph, from: Name, to: Name) -> bool
-    ensures { IsTrue result ↔ HasEdge graph.now from to }
-{
-    match from {
-        Name::Cell(number) => holds(graph.object(number), to),
-        Name::Wrap(comp, target) => Name::Cell(target) == to && graph.has_wrapper(comp, target),
-    }
-}
-
-fn has_edge_from(graph: &Graph, names: &[Name], to: Name) -> bool
-    ensures { IsTrue result ↔ HasEdgeFrom graph.now names.now to }
-{
-    names.iter().any(|from| has_edge(graph, *from, to))
-}
-
-// Whether an entry gives a name, and its map and key are among the names.
-fn gives(graph: &Graph, names: &[Name], entry: Entry, to: Name) -> bool
-    ensures { IsTrue result ↔ Gives graph.now names.now entry to }
-{
-    is_among(names, entry.map)
-        && is_among(names, entry.key)
-        && graph.value_of(entry.map, entry.key) == Some(to)
-}
-
-fn has_value_from(graph: &Graph, names: &[Name], to: Name) -> bool
-    ensures { IsTrue result ↔ HasValueFrom graph.now names.now to }
-{
-    graph
-        .entries()
-        .iter()
-        .any(|entry| gives(graph, names, *entry, to))
-}
-
-// Whether the target of a name is among the names, if it is a wrapper.
-fn has_delegate_in(names: &[Name], name: Name) -> bool
-    ensures { IsTrue result ↔ HasDelegateIn names.now name }
-{
-    match name {
-        Name::Cell(_) => false,
-        Name::Wrap(_, target) => is_among(names, Name::Cell(target)),
-    }
-}
-
-// Whether an entry has a name as its key, and its map and the key's target are among the names.
-fn gives_key(graph: &Graph, names: &[Name], entry: Entry, to: Name) -> bool
-    ensures { IsTrue result ↔ GivesKey graph.now names.now entry to }
-{
-    is_among(names, entry.map)
-        && entry.key == to
-        && has_delegate_in(names, entry.key)
-        && graph.value_of(entry.map, entry.key).is_some()
-}
-
-fn has_key_from(graph: &Graph, names: &[Name], to: Name) -> bool
-    ensures { IsTrue result ↔ HasKeyFrom graph.now names.now to }
-{
-    graph
-        .entries()
-        .iter()
-        .any(|entry| gives_key(graph, names, *entry, to))
-}
-
-// Whether a name belongs beside the names.
-fn is_due(graph: &Graph, starts: &[Name], names: &[Name], name: Name) -> bool
-    ensures { IsTrue result ↔ IsDue graph.now starts.now names.now name }
-{
-    is_among(starts, name)
-        || has_edge_from(graph, names, name)
-        || has_value_from(graph, names, name)
-        || has_key_from(graph, names, name)
-}
-
-// The place of a name that is due.
-fn next_due(graph: &Graph, starts: &[Name], names: &[Name], rest: &[Name]) -> Option<usize>
-    ensures some { IfSome result (λ i. (y : Name)
-        × (slice_get rest.now i ≡ Some y) × IsDue graph.now starts.now names.now y) }
-    ensures none { IfNone result ((y : Name)
-        → Contains rest.now y → IsDue graph.now starts.now names.now y → ⊥) }
-{
-    rest.iter()
-        .position(|name| is_due(graph, starts, names, *name))
-}
-
-fn add_held(names: &mut Vec<Name>, fields: &[Option<Name>]) -> Result<(), NoMemory>
-    ensures { OnOk result (Gains names.old.items names.new.items (IsFieldIn fields.now)) }
-{
-    for held in fields {
-        if let Some(name) = held {
-            names.push(*name)?;
+impl Walk {
+    /// A walk that has found nothing. It takes no memory.
+    pub fn new(alloc: Global) -> Self
+        ensures { result ≡ record { names = []; next = 0 } }
+    {
+        Walk {
+            found: BTreeSet::new(alloc),
+            names: Vec::new(alloc),
+            from: Vec::new(alloc),
+            next: 0,
         }
     }
-    Ok(())
-}
 
-fn add_all_held(names: &mut Vec<Name>, objects: &[Option<Object>]) -> Result<(), NoMemory>
-    ensures { OnOk result (Gains names.old.items names.new.items (IsHeldIn objects.now)) }
-{
-    for object in objects {
-        if let Some(object) = object {
-            add_held(names, object.fields.as_slice())?;
+    /// Whether a name was found.
+    pub fn contains(&self, name: Name) -> bool
+        ensures { IsTrue result ↔ Contains self.now.names name }
+    {
+        self.found.contains(&name)
+    }
+
+    /// The names that were found, each once.
+    pub fn into_names(self) -> Vec<Name>
+        ensures names { result.items ≡ self.names }
+        ensures distinct { AllPairs (λ x y. x ≢ y) result.items }
+    {
+        self.names
+    }
+
+    /// A way to a name that was found, backwards: the name first, a start last.
+    pub fn way_to(&self, alloc: Global, name: Name) -> Result<Vec<Name>, NoMemory> {
+        let mut way = Vec::new(alloc);
+        let mut wanted = Some(name);
+        for (found, from) in self.names.iter().rev().zip(self.from.iter().rev()) {
+            if Some(*found) == wanted {
+                way.push(*found)?;
+                wanted = *from;
+            }
+        }
+        Ok(way)
+    }
+
+    /// Adds a name to which another one led, or a start, unless it was found.
+    pub fn add(&mut self, name: Name, from: Option<Name>) -> Result<(), NoMemory>
+        ensures next { self.new.next ≡ self.old.next }
+        ensures added { OnOk result (Adds self.old.names self.new.names (λ x. name ≡ x)) }
+    {
+        if self.contains(name) {
+            return Ok(());
+        }
+        self.from.push(from)?;
+        self.names.reserve(1)?;
+        self.found.insert(name)?;
+        self.names.push(name)?;
+        Ok(())
+    }
+
+    // The next name to be visited.
+    fn take_next(&mut self) -> Option<Name>
+        ensures next { self.new.next ≡ self.old.next + (if is_some result then 1 else 0) }
+        ensures names { self.new.names ≡ self.old.names }
+        ensures few { self.new.next < 2 ^ 64 }
+        ensures at { result ≡ slice_get self.old.names self.old.next }
+    {
+        let name = self.names.get(self.next).copied();
+        if name.is_some() {
+            self.next += 1;
+        }
+        name
+    }
+
+    // Adds what fields hold.
+    fn add_held(&mut self, fields: &[Option<Name>], from: Name) -> Result<(), NoMemory>
+        ensures next { self.new.next ≡ self.old.next }
+        ensures added { OnOk result (Adds self.old.names self.new.names (λ x. Contains fields.now (Some x))) }
+    {
+        for held in fields {
+            if let Some(name) = held {
+                self.add(*name, Some(from))?;
+            }
+        }
+        Ok(())
+    }
+
+    // Adds what a name leads to.
+    fn add_ends(&mut self, graph: &Graph, name: Name) -> Result<(), NoMemory>
+        ensures next { self.new.next ≡ self.old.next }
+        ensures added { OnOk result (Adds self.old.names self.new.names (HasEdge graph.now name)) }
+    {
+        match name {
+            Name::Cell(number) => match graph.object(number) {
+                None => Ok(()),
+                Some(object) => self.add_held(object.fields.as_slice(), name),
+            },
+            Name::Wrap(comp, target) => {
+                if graph.has_wrapper(comp, target) {
+                    self.add(Name::Cell(target), Some(name))?;
+                }
+                Ok(())
+            }
         }
     }
-    Ok(())
-}
 
-fn add_targets(names: &mut Vec<Name>, wrappers: &[(CompNo, u64)]) -> Result<(), NoMemory>
-    ensures { OnOk result (Gains names.old.items names.new.items (IsTargetIn wrappers.now)) }
-{
-    for wrapper in wrappers {
-        names.push(Name::Cell(wrapper.1))?;
+    // Whether the target of a name was found, if it is a wrapper.
+    fn has_delegate(&self, name: Name) -> bool
+        ensures { IsTrue result ↔ HasDelegateIn self.now.names name }
+    {
+        match name {
+            Name::Cell(_) => false,
+            Name::Wrap(_, target) => self.contains(Name::Cell(target)),
+        }
     }
-    Ok(())
-}
 
-fn add_values(names: &mut Vec<Name>, entries: &[Entry]) -> Result<(), NoMemory>
-    ensures { OnOk result (Gains names.old.items names.new.items (IsValueIn entries.now)) }
-{
-    for entry in entries {
-        names.push(entry.value)?;
+    // Adds what an entry keeps: its value beside its map and its key, and its key beside its map and the key's target.
+    fn add_kept(&mut self, graph: &Graph, pair: Pair, from: Name) -> Result<(), NoMemory>
+        ensures next { self.new.next ≡ self.old.next }
+        ensures kept { OnOk result (Keeps graph.now (IsAt pair.0 pair.1) self.old.names self.new.names) }
+    {
+        let (map, key) = pair;
+        let Some(value) = graph.value_of(map, key) else {
+            return Ok(());
+        };
+        if !self.contains(map) {
+            return Ok(());
+        }
+        if self.contains(key) {
+            return self.add(value, Some(from));
+        }
+        if self.has_delegate(key) {
+            return self.add(key, Some(from));
+        }
+        Ok(())
     }
-    Ok(())
-}
 
-fn add_keys(names: &mut Vec<Name>, entries: &[Entry]) -> Result<(), NoMemory>
-    ensures { OnOk result (Gains names.old.items names.new.items (IsKeyIn entries.now)) }
-{
-    for entry in entries {
-        names.push(entry.key)?;
+    // Adds what entries keep.
+    fn add_all_kept(&mut self, graph: &Graph, pairs: &[Pair], from: Name) -> Result<(), NoMemory>
+        ensures next { self.new.next ≡ self.old.next }
+        ensures kept { OnOk result (Keeps graph.now (λ m k. Contains pairs.now (m, k))
+            self.old.names self.new.names) }
+    {
+        for pair in pairs {
+            self.add_kept(graph, *pair, from)?;
+        }
+        Ok(())
     }
-    Ok(())
-}
 
-// Every name that may be reached from the starts.
-fn candidates(alloc: Global, graph: &Graph, starts: &[Name]) -> Result<Vec<Name>, NoMemory>
-    ensures { IfOk result (λ names. HasAllEnds graph.now starts.now names.items) }
-{
-    let mut names = Vec::from_slice(alloc, starts)?;
-    add_all_held(&mut names, graph.objects())?;
-    add_targets(&mut names, graph.wrappers())?;
-    add_values(&mut names, graph.entries())?;
-    add_keys(&mut names, graph.entries())?;
-    Ok(names)
-}
-
-// Adds a name, unless it is there.
-fn add_once(names: &mut Vec<Name>, name: Name) -> Result<(), NoMemory>
-    ensures { OnOk result (AddsOnce names.old.items names.new.items name) }
-{
-    if !is_among(names.as_slice(), name) {
-        names.push(name)?;
+    // Visits a name that was found.
+    fn visit(&mut self, graph: &Graph, name: Name) -> Result<(), NoMemory>
+        requires { Contains self.old.names name }
+        ensures next { self.new.next ≡ self.old.next }
+        ensures visited { OnOk result (Visits graph.now name self.old.names self.new.names) }
+    {
+        self.add_ends(graph, name)?;
+        self.add_all_kept(graph, graph.waiting_for(name), name)
     }
-    Ok(())
+
+    /// Visits all that is to be visited, and what is found on the way.
+    pub fn finish(&mut self, graph: &Graph) -> Result<(), NoMemory>
+        ensures { OnOk result ((starts : List AName) → Follows graph.now starts self.old
+            → IsDone graph.now starts self.new) }
+    {
+        while let Some(name) = self.take_next() {
+            self.visit(graph, name)?;
+        }
+        Ok(())
+    }
 }
 
 /// What is reached in the graph from the starts, each name once. Want of memory is the one error.
 pub fn closure(alloc: Global, graph: &Graph, starts: &[Name]) -> Result<Vec<Name>, NoMemory>
-    ensures closure { IfOk result (λ names. (x : Name)
+    ensures closure { IfOk result (λ names. (x : AName)
         → Contains names.items x ↔ Closure graph.now (Contains starts.now) x) }
     ensures distinct { IfOk result (λ names. AllPairs (λ x y. x ≢ y) names.items) }
 {
-    let mut rest = candidates(alloc, graph, starts)?;
-    let mut names = Vec::new(alloc);
-    'due: while let Some(place) = next_due(graph, starts, names.as_slice(), rest.as_slice()) {
-        let name = rest.remove(place);
-        add_once(&mut names, name)?;
+    let mut walk = Walk::new(alloc);
+    for start in starts {
+        walk.add(*start, None)?;
     }
-    Ok(names)
+    walk.finish(graph)?;
+    Ok(walk.into_names())
 }

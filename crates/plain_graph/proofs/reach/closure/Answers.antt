@@ -1,18 +1,22 @@
-use Rattle.std.proofs.Common.{subst, sym, Contains}
-use Rattle.plain_graph.specs.Reach.{IsDue}
-use Rattle.plain_graph.proofs.Progress.{due_here, progress_step, progress_end}
+use Rattle.std.proofs.Common.{◌∙◌, ◌↔◌, List, Contains, arith, subst, sym}
+use Rattle.gz_names.specs.declared.names.Name.{Name}
+use Rattle.colour_defs.specs.Closure.{Closure}
+use Rattle.plain_graph.proofs.Walks.{starts_all, starts_more, walk_starts}
 use Rattle.plain_graph.proofs.reach.closure.Goals as goal
 
-pub due-preserved : goal.due-preserved
-due-preserved c =
-    let here = due_here c.args.graph.now c.args.starts.now c.due.names.items _ c.due.rest.items _ c.in-Some.place
-    c.as_slice.ensures.value c.as_slice-in-due.ensures.value c.in-Some.ensures.some c.remove-name.result
-    c.remove-name.ensures.value in
-    rw c.remove-name.ensures.items
-    (progress_step _ _ _ _ _ _ c.in-Some.place _ c.due.invariant here c.in_ok-add_once.ensures)
+pub loop-start-preserved : goal.loop-start-preserved
+loop-start-preserved c = record {
+  next = c.in_ok-add.ensures.next ∙ c.loop-start.invariant.next;
+  added = starts_more c.args.starts.now c.loop-start.start-index _ c.loop-start.walk.names c.add.new.self.names
+      c.loop-start-test.true c.loop-start.invariant.added c.in_ok-add.ensures.added;
+}
 
 pub returns-clause-closure : goal.returns-clause-closure
 returns-clause-closure c =
-    progress_end _ _ _ _ c.due.rest.items c.due.invariant (λ y h due.
-    c.in_default.ensures.none y (subst (λ zs. Contains zs y) (sym c.as_slice-in-due.ensures.value) h)
-    (subst (λ zs. IsDue c.args.graph.now c.args.starts.now zs y) (sym c.as_slice.ensures.value) due))
+    let starts = c.args.starts.now in
+    let same = starts_all starts c.loop-start.walk.names c.loop-start.start-index (omega arith)
+    c.loop-start.invariant.added in
+    let done = c.in_ok-finish.ensures starts
+    (walk_starts c.args.graph.now starts c.loop-start.walk c.loop-start.invariant.next same) in
+    λ x. subst (λ (xs : List Name). Contains xs x ↔ Closure c.args.graph.now (Contains starts) x)
+    (sym c.into_names.ensures.names) (done.all x)

@@ -1,9 +1,9 @@
-use Rattle.std.proofs.Common.{vec_len}
-use Rattle.plain_graph.proofs.Progress.{Progress}
+use Rattle.std.proofs.Common.{◌≡◌, [], Contains, take}
+use Rattle.plain_graph.specs.Reach.{Adds}
 use Rattle.plain_graph.proofs.reach.closure.Given as goal
 
-abbrev pub invariant-due : goal.invariant-due
-invariant-due l = Progress l.graph l.starts l.initial.rest.items l.names.items l.rest.items
-
-abbrev pub decreases-due : goal.decreases-due
-decreases-due l = vec_len l.rest
+abbrev pub invariant-loop-start : goal.invariant-loop-start
+invariant-loop-start l = record {
+  next : l.walk.next ≡ 0;
+  added : Adds [] l.walk.names (λ x. Contains (take l.start-index l.starts) x);
+}
