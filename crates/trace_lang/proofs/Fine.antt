@@ -171,6 +171,7 @@ rest_fine word.Finish rest c s = at_text 0 rest [] s.1 (omega arith) fine_nil
 rest_fine word.Collect rest c s = list_fine s.0 rest s.2
 rest_fine word.Colours rest c s = at_text 0 rest [] s.1 (omega arith) fine_nil
 rest_fine word.Dump rest c s = at_text 0 rest [] s.1 (omega arith) fine_nil
+rest_fine word.Reset rest c s = at_text 0 rest [] s.1 (omega arith) fine_nil
 
 -- first words, by a test that computes
 abbrev is_plain : List ℕ → Bool
@@ -212,6 +213,7 @@ word_plain word.Finish = refl
 word_plain word.Collect = refl
 word_plain word.Colours = refl
 word_plain word.Dump = refl
+word_plain word.Reset = refl
 
 word_short : (w : Word) → length (word_text w) ≤ 7
 word_short word.Zone = omega arith
@@ -236,6 +238,7 @@ word_short word.Finish = omega arith
 word_short word.Collect = omega arith
 word_short word.Colours = omega arith
 word_short word.Dump = omega arith
+word_short word.Reset = omega arith
 
 -- `collect` with all 64 zones has 189 bytes
 pub spells_fine : (line : List ℕ) (c : Cmd) → Spells line c → IsFine 189 line

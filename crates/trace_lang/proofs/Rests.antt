@@ -34,6 +34,7 @@ rest_break word.Finish rest c s = break_at rest _ s.1 tt
 rest_break word.Collect rest c s = break_at rest _ s.2.2 (number_words-break (zones_in s.0))
 rest_break word.Colours rest c s = break_at rest _ s.1 tt
 rest_break word.Dump rest c s = break_at rest _ s.1 tt
+rest_break word.Reset rest c s = break_at rest _ s.1 tt
 
 -- a word and the rest of a line that are these ones
 pub rest_is : (v w : Word) (rest r : List ℕ) (c : Cmd) → (v ≡ w) × (rest ≡ r) → SpellsRest w r c → SpellsRest v rest c

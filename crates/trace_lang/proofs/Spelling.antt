@@ -65,6 +65,7 @@ no_space_text word.Finish = refl
 no_space_text word.Collect = refl
 no_space_text word.Colours = refl
 no_space_text word.Dump = refl
+no_space_text word.Reset = refl
 
 pub word_text_word : (w : Word) → IsWord (word_text w)
 word_text_word w = no_space_word (word_text w) (no_space_text w)

@@ -4,7 +4,7 @@ use Rattle.gz_names.specs.Zones.{zones_in}
 use Rattle.gz_names.specs.declared.numbers.CompNo.{CompNo}
 use Rattle.gz_names.specs.declared.zone_sets.ZoneSet.{ZoneSet}
 use Rattle.gz_names.specs.declared.commands.Cmd.{Cmd}
-use Rattle.gz_names.specs.declared.commands.Cmd.TheVariants.{Graph, Gc, Slice, Finish, Collect, Colours, Dump}
+use Rattle.gz_names.specs.declared.commands.Cmd.TheVariants.{Graph, Gc, Slice, Finish, Collect, Colours, Dump, Reset}
 use Rattle.gz_names.specs.declared.commands.GraphCmd.TheVariants as cmd
 use Rattle.trace_lang.specs.declared.words.Word.{Word}
 use Rattle.trace_lang.specs.declared.words.Word.TheVariants as word
@@ -58,6 +58,7 @@ SpellsRest word.Finish rest c = (c ≡ Finish) × (rest ≡ [])
 SpellsRest word.Collect rest c = (zones : ZoneSet) × (c ≡ Collect zones) × SpellsZones zones rest
 SpellsRest word.Colours rest c = (c ≡ Colours) × (rest ≡ [])
 SpellsRest word.Dump rest c = (c ≡ Dump) × (rest ≡ [])
+SpellsRest word.Reset rest c = (c ≡ Reset) × (rest ≡ [])
 
 -- the line stands for the command
 abbrev pub Spells : List ℕ → Cmd → Type 0

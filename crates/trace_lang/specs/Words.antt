@@ -28,6 +28,7 @@ word_text word.Finish = codes "finish"
 word_text word.Collect = codes "collect"
 word_text word.Colours = codes "colours"
 word_text word.Dump = codes "dump"
+word_text word.Reset = codes "reset"
 
 -- a number behind a space
 abbrev pub number_word : ℕ → List ℕ

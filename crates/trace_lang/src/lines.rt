@@ -145,6 +145,7 @@ fn command(word: Word, rest: &[u8]) -> Option<Cmd>
         Word::Collect => Some(Cmd::Collect(zone_list(rest)?)),
         Word::Colours => no_more(rest, Cmd::Colours),
         Word::Dump => no_more(rest, Cmd::Dump),
+        Word::Reset => no_more(rest, Cmd::Reset),
     }
 }
 

@@ -28,6 +28,7 @@ pub enum Word {
     Collect,
     Colours,
     Dump,
+    Reset,
 }
 
 // The word of three letters that a text is.
@@ -82,6 +83,7 @@ fn other_word(text: &[u8]) -> Option<Word>
         b"finish" => Some(Word::Finish),
         b"collect" => Some(Word::Collect),
         b"colours" => Some(Word::Colours),
+        b"reset" => Some(Word::Reset),
         _ => None,
     }
 }

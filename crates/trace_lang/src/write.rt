@@ -235,7 +235,6 @@ fn refusal_line(refusal: Refusal) -> &'static [u8]
         Refusal::Kind => b"kind\n",
         Refusal::NoField => b"no-field\n",
         Refusal::Cross => b"cross\n",
-        Refusal::WrapperKey => b"wrapper-key\n",
         Refusal::Running => b"running\n",
         Refusal::Idle => b"idle\n",
         Refusal::Marking => b"marking\n",
