@@ -28,7 +28,7 @@ use Rattle.heap_core.specs.Heap.{HeapState, reg_of}
 use Rattle.heap_core.specs.Changes.{IsWith, IsWithout}
 use Rattle.heap_core.specs.Shows.{Shows, IsWrapperOf, is_map, is_wrapper}
 use Rattle.heap_core.specs.Answers.{DoesStep}
-use Rattle.heap_core.specs.Lookups.{Hands, IsEntry, IsNoEntry, entry_refusal, entry_refusal_in, key_refusal, refusal_by}
+use Rattle.heap_core.specs.Lookups.{Hands, IsEntry, IsNoEntry, entry_refusal, entry_refusal_in, refusal_by}
 use Rattle.heap_core.proofs.Places.{place-is, place-same, present_cell, cell_named}
 use Rattle.heap_core.proofs.Shown.{reg_present, reg_named, object_there, wrapper_there, stands_as}
 use Rattle.heap_core.proofs.Stepping.{does-accepted, does-wanting}
@@ -62,18 +62,6 @@ map_shown h g p cell s e = go (is_wrapper cell.kind) refl
         let o = object_there h g p cell s e plain in
         ap (map_comp g) o.name_is ∙ ap map_comp_in o.object_is
 
--- whether a key is a wrapper, as the graph says
-key_shown : (h : HeapState) (g : GraphState) (p : Place) (cell : CellState) → Shows h g → cell_of h.shape p ≡ Some cell
-    → step.key_refusal cell.name ≡ key_refusal (cell_of h.shape p)
-key_shown h g p cell s e = go (is_wrapper cell.kind) refl ∙ ap key_refusal (sym e)
-  where
-    go : (b : Bool) → is_wrapper cell.kind ≡ b
-        → step.key_refusal cell.name ≡ cond (is_wrapper cell.kind) (Some refusal.WrapperKey) None
-    go true w = ap step.key_refusal (wrapper_there h g p cell s e w).name_is
-        ∙ ap (λ (b : Bool). cond b (Some refusal.WrapperKey) None) (sym w)
-    go false plain = ap step.key_refusal (object_there h g p cell s e plain).name_is
-        ∙ ap (λ (b : Bool). cond b (Some refusal.WrapperKey) None) (sym plain)
-
 -- why an entry is refused, as the graph says
 refusal_shown : (h : HeapState) (g : GraphState) (m k v : Place) (x : IsNamed h m) (y : IsNamed h k) (z : IsNamed h v)
     → Shows h g → step.entry_refusal g x.cell.name y.cell.name z.cell.name ≡ entry_refusal h.shape m k v
@@ -88,8 +76,7 @@ refusal_shown h g m k v x y z s =
     go true is =
         let a = comp_tested h g x.cell.comp k y.cell.name s y.name_is in
         let b = comp_tested h g x.cell.comp v z.cell.name s z.name_is in
-        let c = key_shown h g k y.cell s y.cell_is in
-        rw (is, a, b, c) refl
+        rw (is, a, b) refl
     go false is = rw is refl
 
 -- what registers hold, by name

@@ -22,3 +22,4 @@ pub mod Taking
 pub mod Resolved
 pub mod Planned
 pub mod NotedTargets
+pub mod Forgetting

@@ -5,8 +5,10 @@ use Rattle.std.proofs.Common.{is_none, if◌then◌else◌, refl, sym, ◌∙◌
 use Rattle.std.proofs.lemmas.Bool.{cases_eq, and_from, and_left, and_right}
 use Rattle.std.proofs.lemmas.Nat.Bits.{bit_at-zero}
 use Rattle.std.proofs.lemmas.List.{length-append, length-map, length-set}
+use Rattle.std.proofs.lemmas.Option.{same_Some}
 use Rattle.gz_names.specs.declared.numbers.Place.{Place}
 use Rattle.cell_bits.specs.declared.bits.Bits.{Bits}
+use Rattle.cell_bits.specs.declared.bits.Colour.{Colour}
 use Rattle.cell_bits.specs.declared.bits.Colour.TheVariants as colour
 use Rattle.cell_bits.specs.Colours as bits
 use Rattle.cell_bits.specs.Colours.{Marks}
@@ -20,9 +22,9 @@ use Rattle.arena_table.proofs.Placing.{open-parts}
 use Rattle.arena_table.proofs.Putting.{grown-open}
 use Rattle.arena_table.proofs.Changing.{length-change_at}
 use Rattle.heap_core.specs.Shape.{ArenaShape, AreWhole, Shape, arena_shape, arena_shapes, cell_of, out_in, present_in}
-use Rattle.heap_core.specs.Shape.{is_white, stored_at, zone_in}
+use Rattle.heap_core.specs.Shape.{is_prepared, is_white, stored_at, zone_in}
 use Rattle.heap_core.specs.Heap.{HeapState, bits_of, colour_in}
-use Rattle.heap_core.specs.Blackening.{Blackens}
+use Rattle.heap_core.specs.Births.{ColoursAtBirth}
 use Rattle.heap_core.specs.Changes.{Makes, next_place_from, takes_cells}
 use Rattle.heap_core.proofs.Views.{shapes-with_bits, bits-with_bits, with_state}
 
@@ -231,22 +233,27 @@ colours-put xs zone p cell a k =
     ap (λ bs. colour_in (slice_get bs a) k) (colours-change (with_cell p.1 cell) (λ x. refl) (grown_to xs zone p.0) p.0)
     ∙ colours-grown xs zone p.0 a k
 
-marked-here : (xs : List Arena) (a k : ℕ) (b : Bits) → IfSome (slice_get xs a) (λ x. Marks x.bits k colour.Black b)
+-- the colour at birth of a cell in a slot with these bits
+abbrev born : Bool → ℕ → Bits → Colour
+born is_prepared k b = if is_prepared then bits.colour_of b k else colour.Black
+
+marked-here : (xs : List Arena) (a k : ℕ) (b : Bits) (is_prepared : Bool)
+    → IfSome (slice_get xs a) (λ x. Marks x.bits k (born is_prepared k x.bits) b)
     → IsSomeAnd (slice_get xs a) (λ x. x.is_out ≡ false) → colour_in (slice_get (slice_set (bits_of xs) a b) a) k
-    ≡ colour.Black
-marked-here [] a k b m h = absurd h
-marked-here (x ∷ xs) zero k b m h = m.marked
-marked-here (x ∷ xs) (suc a) k b m h = marked-here xs a k b m h
+    ≡ (if is_prepared then colour_in (slice_get (bits_of xs) a) k else colour.Black)
+marked-here [] a k b is_prepared m h = absurd h
+marked-here (x ∷ xs) zero k b is_prepared m h = m.marked
+marked-here (x ∷ xs) (suc a) k b is_prepared m h = marked-here xs a k b is_prepared m h
 
 marked-there : (xs : List Arena) (a k : ℕ) (b : Bits) (q : Place)
-    → IfSome (slice_get xs a) (λ x. Marks x.bits k colour.Black b) → q ≢ (a, k)
+    (is_prepared : Bool) → IfSome (slice_get xs a) (λ x. Marks x.bits k (born is_prepared k x.bits) b) → q ≢ (a, k)
     → colour_in (slice_get (slice_set (bits_of xs) a b) q.0) q.1 ≡ colour_in (slice_get (bits_of xs) q.0) q.1
-marked-there [] a k b q m n = refl
-marked-there (x ∷ xs) zero k b (zero, l) m n = m.others l (λ e. n (ap (λ j. (0, j)) e))
-marked-there (x ∷ xs) zero k b (suc c, l) m n = refl
-marked-there (x ∷ xs) (suc a) k b (zero, l) m n = refl
-marked-there (x ∷ xs) (suc a) k b (suc c, l) m n =
-    marked-there xs a k b (c, l) m (λ e. n (ap (λ (r : Place). (suc r.0, r.1)) e))
+marked-there [] a k b q is_prepared m n = refl
+marked-there (x ∷ xs) zero k b (zero, l) is_prepared m n = m.others l (λ e. n (ap (λ j. (0, j)) e))
+marked-there (x ∷ xs) zero k b (suc c, l) is_prepared m n = refl
+marked-there (x ∷ xs) (suc a) k b (zero, l) is_prepared m n = refl
+marked-there (x ∷ xs) (suc a) k b (suc c, l) is_prepared m n =
+    marked-there xs a k b (c, l) is_prepared m (λ e. n (ap (λ (r : Place). (suc r.0, r.1)) e))
 
 -- two places are the same, or not
 pub same-place : (q p : Place) → ((q ≡ p) × (is_place q p ≡ true)) ⊎ ((q ≢ p) × (is_place q p ≡ false))
@@ -266,8 +273,33 @@ length-grown xs zone a = by (a == length xs)
     by true = length-append xs (empty_arena zone ∷ [])
     by false = refl
 
--- a black cell is made at a place of a zone: the arenas before, after it is put, and after it is black
-pub record IsMade (s t : ArenasState) (zone : ℕ) (p : Place) (cell : CellState) : Type 0 where
+-- an arena that is there
+pub kept-within : (xs : List Arena) (a : ℕ) (P : Arena → Type 0) → IsSomeAnd (slice_get xs a) P → a < length xs
+kept-within [] a P h = absurd h
+kept-within (x ∷ xs) zero P h = omega arith
+kept-within (x ∷ xs) (suc a) P h = omega (arith, kept-within xs a P h)
+
+-- bits that are written as they were
+pub bits-same : (s : ArenasState) (p : Place) → IsSomeAnd (slice_get s.arenas p.0) (λ a. a.is_out ≡ false)
+    → ColoursAtBirth true s p s
+bits-same s p there = by (slice_get s.arenas p.0) refl there
+  where
+    same : (xs : List Arena) (i : ℕ) (a : Arena) → slice_get xs i ≡ Some a → change_at (with_bits a.bits) xs i ≡ xs
+    same [] i a at = refl
+    same (x ∷ xs) zero a at = (λ j. record x { bits = (sym (same_Some x a at) j).bits } ∷ xs)
+    same (x ∷ xs) (suc i) a at = ap (λ ys. x ∷ ys) (same xs i a at)
+
+    by : (o : Option Arena) → slice_get s.arenas p.0 ≡ o → IsSomeAnd o (λ a. a.is_out ≡ false)
+        → ColoursAtBirth true s p s
+    by None at out = absurd out
+    by (Some a) at out = record {
+      bits = a.bits;
+      new_is = ap (λ xs. record s { arenas = xs }) (sym (same s.arenas p.0 a at));
+      marks = rw at (record { marked = refl; others = λ k n. refl });
+    }
+
+-- a cell is made at a place of a zone: the arenas before, after it is put, and after it has its colour
+pub record IsMade (s t : ArenasState) (zone : ℕ) (p : Place) (cell : CellState) (is_kept : Bool) : Type 0 where
   pub put : List Arena
   pub bits : Bits
   pub place_is : p ≡ place_for s.arenas zone
@@ -277,42 +309,49 @@ pub record IsMade (s t : ArenasState) (zone : ℕ) (p : Place) (cell : CellState
   pub arenas_is : t.arenas ≡ change_at (with_bits bits) put p.0
   pub made_is : t.made ≡ s.made + 1
   pub delayed_is : t.delayed ≡ s.delayed
-  pub marks : IfSome (slice_get put p.0) (λ x. Marks x.bits p.1 colour.Black bits)
+  pub marks : IfSome (slice_get put p.0) (λ x. Marks x.bits p.1 (born is_kept p.1 x.bits) bits)
 
 pub makes-seen : (h k : HeapState) (s t : ArenasState) (zone : ℕ) (p : Place) (cell : CellState) → with_state h s ≡ k
-    → IsMade s t zone p cell → Makes k zone p cell (with_state h t)
-makes-seen h k s t zone p cell v m = subst (λ (k : HeapState). Makes k zone p cell (with_state h t)) v (record {
-  rest = ap (λ n. record (with_state h t) { made = n }) m.made_is
-      ∙ ap (λ d. record (with_state h t) { made = s.made + 1; delayed = d }) m.delayed_is;
-  place_is = m.place_is ∙ place-seen 0 xs zone;
-  free = cells-seen (with_state h s).shape xs p refl ∙ (ap (λ o. visible o p.1 (cell_at xs p)) kept ∙ m.free);
-  grown = ap length shapes
-      ∙ (length-map m.put arena_shape
-      ∙ (ap length m.put_is
-      ∙ (length-change_at (with_cell p.1 cell) (grown_to xs zone p.0) p.0
-      ∙ (length-grown xs zone p.0 ∙ ap (λ n. if p.0 == n then n + 1 else n) (sym (length-map xs arena_shape))))));
-  coloured = length-map t.arenas (λ (x : Arena). x.bits) ∙ sym (length-map t.arenas arena_shape);
-  zone_is = ap (λ ss. zone_in (slice_get ss p.0)) shapes
-      ∙ (ap (λ ys. zone_at ys p.0) m.put_is ∙ put-zone xs zone p cell m.place_is);
-  zones = λ q lt. ap (λ ss. zone_in (slice_get ss q.0)) shapes
-      ∙ (ap (λ ys. zone_at ys q.0) m.put_is
-      ∙ zone-put xs zone p cell q.0 (subst (λ n. q.0 < n) (length-map xs arena_shape) lt));
-  outs = outs;
-  in_place = kept;
-  cells = λ q. cells-seen (with_state h t).shape m.put q shapes
-      ∙ (ap (λ o. visible o q.1 (cell_at m.put q)) (ap (λ ys. out_at ys q.0) m.put_is ∙ out-put xs zone p cell q.0)
-      ∙ (ap (λ o. visible (out_at xs q.0) q.1 o) (m.cells q)
-      ∙ (at-place q (same-place q p) ∙ ap (λ o. if is_place q p then Some cell else o)
-      (sym (cells-seen (with_state h s).shape xs q refl)))));
-  stored = λ q. stored-seen (with_state h t).shape m.put q shapes
-      ∙ (m.cells q ∙ ap (λ o. if is_place q p then Some cell else o)
-      (sym (stored-seen (with_state h s).shape xs q refl)));
-  whole = λ w. subst (λ ss. AreWhole ss) (sym (shapes ∙ ap arena_shapes m.put_is)) (whole-put xs zone p cell w);
-  black = ap (λ bs. colour_in (slice_get bs p.0) p.1) colours ∙ marked-here m.put p.0 p.1 m.bits m.marks stays;
-  colours = λ q n. ap (λ bs. colour_in (slice_get bs q.0) q.1) colours
-      ∙ (marked-there m.put p.0 p.1 m.bits q m.marks n
-      ∙ (ap (λ ys. colour_in (slice_get (bits_of ys) q.0) q.1) m.put_is ∙ colours-put xs zone p cell q.0 q.1));
-})
+    → (is_kept : Bool) → IsMade s t zone p cell is_kept
+    → is_kept ≡ is_prepared (with_state h s).shape zone
+    → Makes k zone p cell (with_state h t)
+makes-seen h k s t zone p cell v is_kept m same =
+    subst (λ (k : HeapState). Makes k zone p cell (with_state h t)) v (record {
+      rest = ap (λ n. record (with_state h t) { made = n }) m.made_is
+          ∙ ap (λ d. record (with_state h t) { made = s.made + 1; delayed = d }) m.delayed_is;
+      place_is = m.place_is ∙ place-seen 0 xs zone;
+      free = cells-seen (with_state h s).shape xs p refl ∙ (ap (λ o. visible o p.1 (cell_at xs p)) kept ∙ m.free);
+      grown = ap length shapes
+          ∙ (length-map m.put arena_shape
+          ∙ (ap length m.put_is
+          ∙ (length-change_at (with_cell p.1 cell) (grown_to xs zone p.0) p.0
+          ∙ (length-grown xs zone p.0 ∙ ap (λ n. if p.0 == n then n + 1 else n) (sym (length-map xs arena_shape))))));
+      coloured = length-map t.arenas (λ (x : Arena). x.bits) ∙ sym (length-map t.arenas arena_shape);
+      zone_is = ap (λ ss. zone_in (slice_get ss p.0)) shapes
+          ∙ (ap (λ ys. zone_at ys p.0) m.put_is ∙ put-zone xs zone p cell m.place_is);
+      zones = λ q lt. ap (λ ss. zone_in (slice_get ss q.0)) shapes
+          ∙ (ap (λ ys. zone_at ys q.0) m.put_is
+          ∙ zone-put xs zone p cell q.0 (subst (λ n. q.0 < n) (length-map xs arena_shape) lt));
+      outs = outs;
+      in_place = kept;
+      cells = λ q. cells-seen (with_state h t).shape m.put q shapes
+          ∙ (ap (λ o. visible o q.1 (cell_at m.put q)) (ap (λ ys. out_at ys q.0) m.put_is ∙ out-put xs zone p cell q.0)
+          ∙ (ap (λ o. visible (out_at xs q.0) q.1 o) (m.cells q)
+          ∙ (at-place q (same-place q p) ∙ ap (λ o. if is_place q p then Some cell else o)
+          (sym (cells-seen (with_state h s).shape xs q refl)))));
+      stored = λ q. stored-seen (with_state h t).shape m.put q shapes
+          ∙ (m.cells q ∙ ap (λ o. if is_place q p then Some cell else o)
+          (sym (stored-seen (with_state h s).shape xs q refl)));
+      whole = λ w. subst (λ ss. AreWhole ss) (sym (shapes ∙ ap arena_shapes m.put_is)) (whole-put xs zone p cell w);
+      born = ap (λ bs. colour_in (slice_get bs p.0) p.1) colours
+          ∙ (marked-here m.put p.0 p.1 m.bits is_kept m.marks stays
+          ∙ (ap (λ c. if is_kept then c else colour.Black)
+          (ap (λ ys. colour_in (slice_get (bits_of ys) p.0) p.1) m.put_is ∙ colours-put xs zone p cell p.0 p.1)
+          ∙ ap (λ b. if b then colour_in (slice_get (bits_of xs) p.0) p.1 else colour.Black) same));
+      colours = λ q n. ap (λ bs. colour_in (slice_get bs q.0) q.1) colours
+          ∙ (marked-there m.put p.0 p.1 m.bits q is_kept m.marks n
+          ∙ (ap (λ ys. colour_in (slice_get (bits_of ys) q.0) q.1) m.put_is ∙ colours-put xs zone p cell q.0 q.1));
+    })
   where
     xs : List Arena
     xs = s.arenas
@@ -400,9 +439,9 @@ pub made-by : (s r u t : ArenasState) (zone : ℕ) (p : Place) (cell : CellState
       made = r.made + 1;
       reserved = None;
     })
-    → ((q : Place) → cell_at u.arenas q ≡ (if is_place q p then Some cell else cell_at r.arenas q)) → Blackens u p t
-    → IsMade s t zone p cell
-made-by s r u t zone p cell e free k put cells b = record {
+    → ((q : Place) → cell_at u.arenas q ≡ (if is_place q p then Some cell else cell_at r.arenas q))
+    → (is_kept : Bool) → ColoursAtBirth is_kept u p t → IsMade s t zone p cell is_kept
+made-by s r u t zone p cell e free k put cells is_kept b = record {
   put = u.arenas;
   bits = b.bits;
   place_is = e;

@@ -13,9 +13,9 @@ use Rattle.arena_table.specs.Placement.{place_for}
 use Rattle.arena_table.specs.Table.{ArenasState, grown_to, is_place, new_cell, put_at}
 use Rattle.arena_table.proofs.Changing.{length-change_at}
 use Rattle.wrappers.specs.WrapperMaps.{WrappersState, add_at, list_at, list_of, place_of}
-use Rattle.heap_core.specs.Shape.{IsPresent}
+use Rattle.heap_core.specs.Shape.{IsPresent, is_prepared}
 use Rattle.heap_core.specs.Heap.{HeapState}
-use Rattle.heap_core.specs.Blackening.{Blackens}
+use Rattle.heap_core.specs.Births.{ColoursAtBirth}
 use Rattle.heap_core.specs.Changes.{MakesWrapper, wrapper_cell}
 use Rattle.heap_core.proofs.Views.{with_state}
 use Rattle.heap_core.proofs.MakingCells.{IsMade, length-grown, makes-seen, put-kept, put-state, put-with_field}
@@ -84,8 +84,9 @@ pub wrapper-made : (s r u x t : ArenasState) (zone : ℕ) (comp : CompNo) (numbe
     → x ≡ record u { arenas = change_at (with_field p.1 0 (Some target)) u.arenas p.0 }
     → ((q : Place) → cell_at x.arenas q
     ≡ (if is_place q p then option_map (with_value 0 (Some target)) (cell_at u.arenas q) else cell_at u.arenas q))
-    → Blackens x p t → IsMade s t zone p (wrapper_cell comp number target)
-wrapper-made s r u x t zone comp number p target put cells e written b = record {
+    → (is_kept : Bool) → ColoursAtBirth is_kept x p t
+    → IsMade s t zone p (wrapper_cell comp number target) is_kept
+wrapper-made s r u x t zone comp number p target put cells e written is_kept b = record {
   put = x.arenas;
   bits = b.bits;
   place_is = put.place_is;
@@ -140,12 +141,13 @@ listed-in old new zone comp number p h = elim (cases_lt zone (length old.lists))
 
 pub wrapper-seen : (h k : HeapState) (s t : ArenasState) (old new : WrappersState) (zone : ℕ) (comp : CompNo)
     (number : ℕ) (p target : Place) → with_state h s ≡ k → k.shape.wrappers ≡ old
-    → IsMade s t zone p (wrapper_cell comp number target) → IsAdded old new zone comp.0 number p
+    → (is_kept : Bool) → IsMade s t zone p (wrapper_cell comp number target) is_kept
+    → IsAdded old new zone comp.0 number p → is_kept ≡ is_prepared (with_state h s).shape zone
     → MakesWrapper k zone comp number target p
     (record (with_state h t) { shape = record (with_state h t).shape { wrappers = new } })
-wrapper-seen h k s t old new zone comp number p target e w m a = record {
+wrapper-seen h k s t old new zone comp number p target e w is_kept m a same = record {
   made = with_state h t;
-  makes = makes-seen h k s t zone p (wrapper_cell comp number target) e m;
+  makes = makes-seen h k s t zone p (wrapper_cell comp number target) e is_kept m same;
   rest = refl;
   found = λ c u. a.found c u
       ∙ ap (λ (x : WrappersState). if (c == comp.0) && (u == number) then Some p else place_of x c u) (sym w);

@@ -142,14 +142,6 @@ noted-set_bits s t a bits noted is n = subst (λ (x : ArenasState). AreTargetsNo
     (owner-change (with_bits bits) (λ x. refl) s.arenas a)
     (λ p. cells-change (with_bits bits) (λ x. refl) s.arenas a p.0 p.1) n)
 
-pub noted-clear_bits : (s t : ArenasState) (word : ℕ) (noted : List ZoneSet)
-    → t ≡ record s { arenas = in_these (with_bits no_bits) word s.arenas } → AreTargetsNoted s.arenas noted
-    → AreTargetsNoted t.arenas noted
-noted-clear_bits s t word noted is n = subst (λ (x : ArenasState). AreTargetsNoted x.arenas noted) (sym is)
-    (noted-same s.arenas (in_these (with_bits no_bits) word s.arenas) noted
-    (owner-these (with_bits no_bits) (λ x. refl) word s.arenas)
-    (λ p. cells-these (with_bits no_bits) (λ x. refl) word s.arenas p.0 p.1) n)
-
 pub noted-handed : (s t : ArenasState) (word : ℕ) (noted : List ZoneSet)
     → t ≡ record s { arenas = in_these handed_out word s.arenas; reserved = None } → AreTargetsNoted s.arenas noted
     → AreTargetsNoted t.arenas noted
@@ -218,9 +210,10 @@ pub record IsNotedWith (xs : List Arena) (noted : List ZoneSet) (zone : ℕ) (ce
       → (to : ℕ) × (owner_in xs target.0 ≡ Some to) × IsNoted noted zone to
 
 pub noted-made : (s t : ArenasState) (zone : ℕ) (p : Place) (cell : CellState) (old new : List ZoneSet)
-    → IsMade s t zone p cell → IsNotedWith s.arenas new zone cell → ((a b : ℕ) → IsNoted old a b → IsNoted new a b)
+    (is_kept : Bool) → IsMade s t zone p cell is_kept → IsNotedWith s.arenas new zone cell
+    → ((a b : ℕ) → IsNoted old a b → IsNoted new a b)
     → AreTargetsNoted s.arenas old → AreTargetsNoted t.arenas new
-noted-made s t zone p cell old new m with more n = record {
+noted-made s t zone p cell old new is_kept m with more n = record {
   targets = λ q target c at wraps. by q target c (is_place q p) refl (sym (stands q) ∙ at) wraps;
 }
   where

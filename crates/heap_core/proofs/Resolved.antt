@@ -33,7 +33,7 @@ use Rattle.heap_core.specs.Answers.{DoesStep, IsSound}
 use Rattle.heap_core.specs.Changes.{IsWithout, Writes, with_comp, with_zone}
 use Rattle.heap_core.specs.Effects.{Changes}
 use Rattle.heap_core.specs.Lookups.{Hands, IsEntry, IsWrappable, IsWritable, entry_refusal, entry_refusal_in}
-use Rattle.heap_core.specs.Lookups.{field_refusal, fits_in, held_field, held_value, key_refusal, number_at, seen_from}
+use Rattle.heap_core.specs.Lookups.{field_refusal, fits_in, held_field, held_value, number_at, seen_from}
 use Rattle.heap_core.specs.Lookups.{target_at, target_in, value_to_set}
 use Rattle.heap_core.specs.Peeks.{handed, made_in, stored, wrapped_in, wrapped_target}
 use Rattle.heap_core.specs.Plans as plans
@@ -390,7 +390,7 @@ plans-new h r c n z home = record {
   target = tt;
   only_wraps = λ plain. refl;
   handed_there = none_there h;
-  able = λ room few. (home, few, room);
+  able = λ room few. (home, few, room, refl);
   wakes = λ j t. ap (λ (n : ℕ). Some (Cell n)) t.objects_made;
   wants = λ may. refl;
   does = λ few answer new by. (
@@ -417,7 +417,7 @@ plans-map h r c z home = record {
   target = tt;
   only_wraps = λ plain. refl;
   handed_there = none_there h;
-  able = λ room few. (home, omega arith, room);
+  able = λ room few. (home, omega arith, room, refl);
   wakes = λ j t. ap (λ (n : ℕ). Some (Cell n)) t.objects_made;
   wants = λ may. refl;
   does = λ few answer new by. (
@@ -475,7 +475,7 @@ entry_comes h g m k v shows allowed key value = go (cell_of h.shape m) refl allo
   where
     both : (cell : CellState) → cell_of h.shape m ≡ Some cell → (a b : Bool)
         → is_same_comp (comp_at h.shape k) cell.comp ≡ a → is_same_comp (comp_at h.shape v) cell.comp ≡ b
-        → (if a && b then key_refusal (cell_of h.shape k) else Some refusal.Cross) ≡ None → MayCome h.shape m k
+        → (if a && b then None else Some refusal.Cross) ≡ None → MayCome h.shape m k
         × MayCome h.shape m v
     both cell at true true a b e = (
       record { held = key; zone = same_zone h g m k cell shows at a },
@@ -486,7 +486,7 @@ entry_comes h g m k v shows allowed key value = go (cell_of h.shape m) refl allo
 
     map_there : (cell : CellState) → cell_of h.shape m ≡ Some cell → (b : Bool)
         → (if b then (if is_same_comp (comp_at h.shape k) cell.comp && is_same_comp (comp_at h.shape v) cell.comp
-        then key_refusal (cell_of h.shape k) else Some refusal.Cross) else Some refusal.Kind) ≡ None
+        then None else Some refusal.Cross) else Some refusal.Kind) ≡ None
         → MayCome h.shape m k × MayCome h.shape m v
     map_there cell at true e =
         both cell at (is_same_comp (comp_at h.shape k) cell.comp) (is_same_comp (comp_at h.shape v) cell.comp) refl refl

@@ -1,8 +1,9 @@
 -- How a change of the arenas shows in the heap.
 use Rattle.std.proofs.Common.{◌≡◌, ◌+◌, ◌<◌, ◌&&◌, ℕ, zero, suc, Bool, true, false, List, [], ◌∷◌, length, Option, Some}
 use Rattle.std.proofs.Common.{None, slice_get, slice_set, option_map, unwrap_or, IfNone, IsSome, is_some, if◌then◌else◌}
-use Rattle.std.proofs.Common.{All, Contains, IfSome, refl, sym, ◌∙◌, ap, subst, arith}
+use Rattle.std.proofs.Common.{All, Contains, IfSome, IsSomeAnd, refl, sym, ◌∙◌, ap, subst, arith}
 use Rattle.std.proofs.lemmas.List.{length-map}
+use Rattle.std.proofs.lemmas.Option.{same_Some}
 use Rattle.std.proofs.lemmas.List.Elements.{All-nil, All-cons, All-head, All-tail}
 use Rattle.cell_bits.specs.declared.bits.Bits.{Bits}
 use Rattle.cell_bits.specs.declared.jobs.Job.{Job}
@@ -12,10 +13,10 @@ use Rattle.mark_stack.specs.declared.stack.Pile.{Pile}
 use Rattle.arena_table.specs.Slots.{Arena, alloc_word_of, change_at, handed_out, held_by, held_in, is_out_at, taken_in}
 use Rattle.arena_table.specs.Slots.{with_bits}
 use Rattle.arena_table.specs.Indexed.{in_zones, is_among}
-use Rattle.arena_table.specs.Table.{ArenasState, AreIn, in_these, jobs_from, no_bits}
+use Rattle.arena_table.specs.Table.{ArenasState, AreIn, in_these, jobs_from}
 use Rattle.heap_core.specs.Shape.{ArenaShape, arena_shape, arena_shapes, is_owned_in, is_white, out_in, out_of}
 use Rattle.heap_core.specs.Heap.{HeapState, bits_of}
-use Rattle.heap_core.specs.Sweeping.{AreKept, cleared, come_in, handed, held_in_all, is_lost_in, jobs_of, with_clear}
+use Rattle.heap_core.specs.Sweeping.{AreKept, come_in, handed, held_in_all, is_lost_in, jobs_of}
 use Rattle.heap_core.specs.Sweeping.{with_handed, with_taken}
 
 -- the heap with these arenas
@@ -105,36 +106,6 @@ are-in word (x ∷ xs) all = All-cons (λ (x : Arena). in_zones word x.zone ≡ 
     (arena_shapes xs) all e))
     (are-in word xs (All-tail (λ (s : ArenaShape). in_zones word s.zone ≡ true → s.out ≡ None) (arena_shape x)
     (arena_shapes xs) all))
-
-shape-cleared : (x : Arena) (b : Bool) → (b ≡ true → x.is_out ≡ false)
-    → arena_shape (if b then with_bits no_bits x else x) ≡ arena_shape x
-shape-cleared x true k = ap (λ (o : Option Bits). record { zone = x.zone; out = o; slots = x.slots })
-    (same x.is_out (k refl))
-  where
-    same : (b : Bool) → b ≡ false → (if b then Some no_bits else None) ≡ (if b then Some x.bits else None)
-    same b f = rw f refl
-shape-cleared x false k = refl
-
-pub shapes-cleared : (word : ℕ) (xs : List Arena) → AreIn word xs → arena_shapes (in_these (with_bits no_bits) word xs)
-    ≡ arena_shapes xs
-shapes-cleared word [] all = refl
-shapes-cleared word (x ∷ xs) all =
-    ap (λ (s : ArenaShape). s ∷ arena_shapes (in_these (with_bits no_bits) word xs))
-    (shape-cleared x (in_zones word x.zone)
-    (All-head (λ (x : Arena). in_zones word x.zone ≡ true → x.is_out ≡ false) x xs all))
-    ∙ ap (λ (ss : List ArenaShape). arena_shape x ∷ ss)
-    (shapes-cleared word xs (All-tail (λ (x : Arena). in_zones word x.zone ≡ true → x.is_out ≡ false) x xs all))
-
-pub bits-cleared : (word : ℕ) (xs : List Arena) → bits_of (in_these (with_bits no_bits) word xs)
-    ≡ cleared word (arena_shapes xs) (bits_of xs)
-bits-cleared word [] = refl
-bits-cleared word (x ∷ xs) =
-    ap (λ (b : Bits). b ∷ bits_of (in_these (with_bits no_bits) word xs)) (one (in_zones word x.zone))
-    ∙ ap (λ (bs : List Bits). (if in_zones word x.zone then no_bits else x.bits) ∷ bs) (bits-cleared word xs)
-  where
-    one : (b : Bool) → (if b then with_bits no_bits x else x).bits ≡ (if b then no_bits else x.bits)
-    one true = refl
-    one false = refl
 
 shape-handed : (x : Arena) (b : Bool) → arena_shape (if b then handed_out x else x)
     ≡ (if b then record (arena_shape x) { out = Some x.bits } else arena_shape x)
@@ -244,12 +215,38 @@ set_bits-seen h k s t a bits v out e =
     (arena_shapes s.arenas) (slice_set (bits_of s.arenas) a bits) refl refl (shapes-with_bits s.arenas a bits o)
     (bits-with_bits s.arenas a bits)) out
 
-pub clear_bits-seen : (h k : HeapState) (s t : ArenasState) (word : ℕ) → with_state h s ≡ k → AreIn word s.arenas
-    → t ≡ record s { arenas = in_these (with_bits no_bits) word s.arenas } → with_state h t ≡ with_clear k word
-clear_bits-seen h k s t word v kept e = subst (λ (k : HeapState). with_state h t ≡ with_clear k word) v
-    (ap (with_state h) e ∙ state-is h s (record s { arenas = in_these (with_bits no_bits) word s.arenas })
-    (arena_shapes s.arenas) (cleared word (arena_shapes s.arenas) (bits_of s.arenas)) refl refl
-    (shapes-cleared word s.arenas kept) (bits-cleared word s.arenas))
+-- all cells of an arena turn black
+pub blackened-seen : (h k : HeapState) (s t : ArenasState) (a black : ℕ) (was : Bits) → with_state h s ≡ k
+    → out_of k.shape a ≡ None → option_map (λ (x : Arena). alloc_word_of x.slots) (slice_get s.arenas a) ≡ Some black
+    → option_map (λ (x : Arena). x.bits) (slice_get s.arenas a) ≡ Some was
+    → t ≡ record s { arenas = change_at (with_bits (record { black = black; gob = was.gob })) s.arenas a }
+    → IsSomeAnd (slice_get k.shape.arenas a) (λ x. IsSomeAnd (slice_get k.colours a) (λ bits.
+    with_state h t ≡ record k {
+      colours = slice_set k.colours a (record { black = alloc_word_of x.slots; gob = bits.gob });
+    }))
+blackened-seen h k s t a black was v out word bits e =
+    subst (λ (g : HeapState). IsSomeAnd (slice_get g.shape.arenas a) (λ x. IsSomeAnd (slice_get g.colours a) (λ bits.
+    with_state h t ≡ record k {
+      colours = slice_set k.colours a (record { black = alloc_word_of x.slots; gob = bits.gob });
+    }))) v (by s.arenas a word bits)
+  where
+    now : with_state h t ≡ record k { colours = slice_set k.colours a (record { black = black; gob = was.gob }) }
+    now = set_bits-seen h k s t a (record { black = black; gob = was.gob }) v out e
+
+    by : (xs : List Arena) (i : ℕ) → option_map (λ (x : Arena). alloc_word_of x.slots) (slice_get xs i) ≡ Some black
+        → option_map (λ (x : Arena). x.bits) (slice_get xs i) ≡ Some was
+        → IsSomeAnd (slice_get (arena_shapes xs) i) (λ x. IsSomeAnd (slice_get (bits_of xs) i) (λ bits.
+        with_state h t ≡ record k {
+          colours = slice_set k.colours a (record { black = alloc_word_of x.slots; gob = bits.gob });
+        }))
+    by [] i w b = cc w
+    by (x ∷ xs) zero w b =
+        let is_word : alloc_word_of x.slots ≡ black = same_Some (alloc_word_of x.slots) black w in
+        let is_bits : x.bits ≡ was = same_Some x.bits was b in
+        now ∙ (λ j. record k {
+          colours = slice_set k.colours a (record { black = sym is_word j; gob = (sym is_bits j).gob });
+        })
+    by (x ∷ xs) (suc i) w b = by xs i w b
 
 pub hand_out-seen : (h k : HeapState) (s t : ArenasState) (word : ℕ) → with_state h s ≡ k
     → t ≡ record s { arenas = in_these handed_out word s.arenas; reserved = None } → with_state h t ≡ with_handed k word

@@ -13,8 +13,11 @@ use Rattle.arena_table.specs.Slots.{has_free, first_free}
 use Rattle.arena_table.specs.Table.{is_place}
 use Rattle.wrappers.specs.WrapperMaps.{place_of, list_of}
 use Rattle.weak_maps.specs.Places.{is_same}
-use Rattle.weak_maps.specs.WeakMaps.{AreDistinct, AreParallel, Carries, PutsLeft, put_at, value_of}
-use Rattle.heap_core.specs.Shape.{Shape, ArenaShape, AreWhole, cell_of, zone_of, out_of, stored_at}
+use Rattle.weak_maps.specs.Entries.{put_at}
+use Rattle.weak_maps.specs.WeakMaps.{AreParallel, Carries, IsSound as AreEntries, KeepsRows, PutsLeft, delegate_of}
+use Rattle.weak_maps.specs.WeakMaps.{rows_with, target_of, value_of}
+use Rattle.heap_core.specs.Shape.{Shape, ArenaShape, AreWhole, cell_of, delegate_of_key, is_prepared, out_of, stored_at}
+use Rattle.heap_core.specs.Shape.{zone_of}
 use Rattle.heap_core.specs.Heap.{HeapState, colour_of, weak_of}
 
 -- whether an arena takes new cells of a zone: it is one of the zone's, not handed to sweeping, and has a free slot
@@ -45,7 +48,8 @@ pub record Writes (old : HeapState) (p : Place) (f : ℕ) (v : Option Place) (ne
       ≡ (if is_place q p then option_map (with_value f v) (stored_at old.shape q) else stored_at old.shape q)
   pub whole : AreWhole old.shape.arenas → AreWhole new.shape.arenas
 
--- a black cell was made at the next place of a zone
+-- a cell was made at the next place of a zone: black, or if the zone is being prepared with the bits of its slot, which
+-- are clear where nothing stands
 pub record Makes (old : HeapState) (zone : ℕ) (p : Place) (cell : CellState) (new : HeapState) : Type 0 where
   pub rest : new ≡ record old {
     shape = record old.shape { arenas = new.shape.arenas };
@@ -64,7 +68,7 @@ pub record Makes (old : HeapState) (zone : ℕ) (p : Place) (cell : CellState) (
   pub cells : (q : Place) → cell_of new.shape q ≡ (if is_place q p then Some cell else cell_of old.shape q)
   pub stored : (q : Place) → stored_at new.shape q ≡ (if is_place q p then Some cell else stored_at old.shape q)
   pub whole : AreWhole old.shape.arenas → AreWhole new.shape.arenas
-  pub black : colour_of new p ≡ colour.Black
+  pub born : colour_of new p ≡ (if is_prepared old.shape zone then colour_of old p else colour.Black)
   pub colours : (q : Place) → q ≢ p → colour_of new q ≡ colour_of old q
 
 -- a wrapper: its one field holds its target
@@ -95,19 +99,26 @@ pub record IsWith (old : HeapState) (map key value : Place) (new : HeapState) : 
   pub count : length new.shape.weak.entries ≡ length old.shape.weak.entries
       + (if is_some (value_of old.shape.weak map key) then 0 else 1)
   pub entries : new.shape.weak.entries ≡ put_at old.shape.weak.entries map key value
-  pub left : PutsLeft (value_of old.shape.weak map key) old.looks new.looks
+  pub rows : new.shape.weak.delegates.rows
+      ≡ (if is_some (value_of old.shape.weak map key) then old.shape.weak.delegates.rows
+      else rows_with old.shape.weak.delegates.rows (record { map = map; key = key }) (delegate_of_key old.shape key))
+  pub delegates : (m k : Place) → delegate_of new.shape.weak m k
+      ≡ (if is_none (value_of old.shape.weak map key) && (is_same map m && is_same key k)
+      then target_of (delegate_of_key old.shape key) else delegate_of old.shape.weak m k)
+  pub left : PutsLeft (value_of old.shape.weak map key) (delegate_of_key old.shape key) old.looks new.looks
   pub parallel : AreParallel (weak_of new)
 
 -- an entry is there no more, and each other one is found as before, and is to be looked at as it was; no key of a map
--- has two
+-- has two, nor two rows
 pub record IsWithout (old : HeapState) (map key : Place) (new : HeapState) : Type 0 where
   pub rest : new ≡ record old { shape = record old.shape { weak = new.shape.weak }; looks = new.looks }
   pub values : (m k : Place)
       → value_of new.shape.weak m k ≡ (if is_same map m && is_same key k then None else value_of old.shape.weak m k)
   pub count : length new.shape.weak.entries + (if is_some (value_of old.shape.weak map key) then 1 else 0)
       ≡ length old.shape.weak.entries
+  pub rows : KeepsRows old.shape.weak new.shape.weak
   pub carries : Carries (weak_of old) (weak_of new)
-  pub distinct : AreDistinct new.shape.weak.entries
+  pub sound : AreEntries new.shape.weak
   pub parallel : AreParallel (weak_of new)
 
 -- one more zone, in no collection; one more compartment of a zone; one more number for an object or a map

@@ -12,8 +12,8 @@ use Rattle.weak_maps.specs.WeakMaps.{LooksState, WeakMapsState, value_of}
 use Rattle.heap_core.specs.Shape.{Shape}
 
 -- the mark bits of each arena, for each zone the places that wait for its gray marking, how many cells were ever made,
--- in which colour each weak entry is still to be looked at, and the places for which piles of the mark stack had no
--- room
+-- in which colour each weak entry is still to be looked at, the places for which piles of the mark stack had no room,
+-- and the name of the ledger in which the edges that are read are counted, if they are
 pub record HeapState : Type 0 where
   pub shape : Shape
   pub colours : List Bits
@@ -21,6 +21,7 @@ pub record HeapState : Type 0 where
   pub made : ℕ
   pub looks : LooksState
   pub delayed : Piles
+  pub ledger : Option ℕ
 
 -- the weak entries, and which of them are still to be looked at
 abbrev pub weak_of : HeapState → WeakMapsState
@@ -87,5 +88,6 @@ pub record IsEmpty (h : HeapState) : Type 0 where
   pub colours : h.colours ≡ []
   pub buffers : h.buffers ≡ replicate 64 []
   pub made : h.made ≡ 0
-  pub looks : h.looks ≡ record { by_map = []; by_key = [] }
+  pub looks : h.looks ≡ record { by_map = []; by_key = []; by_delegate = [] }
   pub delayed : h.delayed ≡ no_places
+  pub ledger : h.ledger ≡ None

@@ -6,7 +6,7 @@ pub mod Shows
 pub mod Answers
 pub mod Changes
 pub mod Sweeping
-pub mod Blackening
+pub mod Births
 pub mod Lookups
 pub mod Effects
 pub mod Peeks

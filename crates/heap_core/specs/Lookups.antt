@@ -69,17 +69,12 @@ abbrev pub is_filled : HeapState → Option ℕ → Bool
 is_filled h None = true
 is_filled h (Some t) = is_some (reg_of h t)
 
--- why a key is refused, if it is
-abbrev pub key_refusal : Option CellState → Option Refusal
-key_refusal None = None
-key_refusal (Some cell) = if is_wrapper cell.kind then Some refusal.WrapperKey else None
-
 -- why an entry of this map with this key and value is refused, if it is
 abbrev pub entry_refusal_in : Shape → Option CellState → Place → Place → Option Refusal
 entry_refusal_in s None k v = Some refusal.Kind
 entry_refusal_in s (Some map) k v =
     if is_map map.kind
-    then (if is_same_comp (comp_at s k) map.comp && is_same_comp (comp_at s v) map.comp then key_refusal (cell_of s k)
+    then (if is_same_comp (comp_at s k) map.comp && is_same_comp (comp_at s v) map.comp then None
     else Some refusal.Cross)
     else Some refusal.Kind
 

@@ -97,7 +97,7 @@ pub record LiesIn (s : Shape) (c : CompNo) (z : ℕ) : Type 0 where
 abbrev pub IsAble : Shape → ℕ → Change → Type 0
 IsAble s n change.Zone = length s.states ≢ ZONE_LIMIT
 IsAble s n (change.Comp z) = (z < length s.states) × (length s.comps ≢ COMP_LIMIT)
-IsAble s n (change.Cell r z c k) = LiesIn s c z × (field_count k ≤ 8) × (n < 4294967295)
+IsAble s n (change.Cell r z c k) = LiesIn s c z × (field_count k ≤ 8) × (n < 4294967295) × (is_wrapper k ≡ false)
 IsAble s n (change.Wrapper r z c t) = LiesIn s c z × IsPresent s t × (place_of s.wrappers c.0 (number_at s t) ≡ None)
     × (n < 4294967295)
 IsAble s n (change.Register r v named) = ForSome v (IsPresent s)

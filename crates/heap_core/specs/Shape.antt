@@ -4,6 +4,8 @@ use Rattle.std.specs.Prelude.{IsSome, slice_get, if◌then◌else◌, option_and
 use Rattle.std.specs.Option.{option_map}
 use Rattle.std.specs.Int.{bit_at}
 use Rattle.gz_names.specs.declared.names.Name.{Name}
+use Rattle.gz_names.specs.declared.commands.Kind.{Kind}
+use Rattle.gz_names.specs.declared.commands.Kind.TheVariants as kind
 use Rattle.gz_names.specs.declared.numbers.CompNo.{CompNo}
 use Rattle.gz_names.specs.declared.numbers.Place.{Place}
 use Rattle.cell_bits.specs.declared.bits.Bits.{Bits}
@@ -14,6 +16,7 @@ use Rattle.arena_table.specs.Slots.{Arena, cell_in}
 use Rattle.arena_table.specs.Indexed.{in_zones}
 use Rattle.wrappers.specs.WrapperMaps.{WrappersState}
 use Rattle.weak_maps.specs.WeakMaps.{WeakTableState}
+use Rattle.weak_maps.specs.declared.delegates.Delegate.{Delegate}
 
 -- an arena: its zone, its bits at hand-out where it is handed to sweeping, and its slots
 pub record ArenaShape : Type 0 where
@@ -106,6 +109,7 @@ state_of s p = state_in s (zone_of s p)
 
 abbrev pub is_marking_state : State → Bool
 is_marking_state state.NoGC = false
+is_marking_state state.Prepare = false
 is_marking_state state.MarkBlackOnly = true
 is_marking_state state.MarkBlackAndGray = true
 is_marking_state state.Sweep = false
@@ -115,6 +119,18 @@ is_marking_state state.Finished = false
 abbrev pub is_marking : Shape → Place → Bool
 is_marking s p = is_marking_state (state_of s p)
 
+abbrev pub is_prepare_state : State → Bool
+is_prepare_state state.NoGC = false
+is_prepare_state state.Prepare = true
+is_prepare_state state.MarkBlackOnly = false
+is_prepare_state state.MarkBlackAndGray = false
+is_prepare_state state.Sweep = false
+is_prepare_state state.Finished = false
+
+-- whether a zone is being prepared
+abbrev pub is_prepared : Shape → ℕ → Bool
+is_prepared s z = is_prepare_state (state_in s z)
+
 abbrev pub out_in : Option ArenaShape → Option Bits
 out_in None = None
 out_in (Some arena) = arena.out
@@ -122,6 +138,25 @@ out_in (Some arena) = arena.out
 -- the bits at hand-out of an arena that is handed to sweeping
 abbrev pub out_of : Shape → ℕ → Option Bits
 out_of s a = out_in (slice_get s.arenas a)
+
+-- what a cell of a kind leads to, if it is a wrapper, with its zone
+abbrev pub wrapped_by : Kind → Option Place → ℕ → Option Delegate
+wrapped_by (kind.Object n) t z = None
+wrapped_by kind.Map t z = None
+wrapped_by kind.Wrapper t z = option_map (λ target. record { target = target; zone = z }) t
+
+abbrev pub delegate_in : Option CellState → ℕ → Option Delegate
+delegate_in None z = None
+delegate_in (Some cell) z = wrapped_by cell.kind (field_of cell 0) z
+
+-- the delegate of a key, if that is a wrapper
+abbrev pub delegate_of_key : Shape → Place → Option Delegate
+delegate_of_key s key = delegate_in (cell_of s key) (zone_of s key)
+
+-- a key is a wrapper, and this is what it leads to
+abbrev pub IsDelegate : Shape → Place → Place → Type 0
+IsDelegate s key target =
+    (option_map (λ cell. cell.kind) (cell_of s key) ≡ Some kind.Wrapper) × (field_at s key 0 ≡ Some target)
 
 -- the name of the present cell at a place, and of what is held
 abbrev pub name_at : Shape → Place → Option Name

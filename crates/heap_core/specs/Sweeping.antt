@@ -14,16 +14,6 @@ use Rattle.heap_core.specs.Heap.{HeapState}
 abbrev pub AreKept : ℕ → Shape → Type 0
 AreKept word s = All (λ (arena : ArenaShape). in_zones word arena.zone ≡ true → arena.out ≡ None) s.arenas
 
--- the bits of all arenas, clear in those of these zones
-abbrev pub cleared : ℕ → List ArenaShape → List Bits → List Bits
-cleared word [] colours = []
-cleared word (arena ∷ arenas) [] = []
-cleared word (arena ∷ arenas) (bits ∷ colours) = (if in_zones word arena.zone then no_bits else bits)
-    ∷ cleared word arenas colours
-
-abbrev pub with_clear : HeapState → ℕ → HeapState
-with_clear h word = record h { colours = cleared word h.shape.arenas h.colours }
-
 -- the arenas, those of these zones handed to sweeping with their bits
 abbrev pub handed : ℕ → List ArenaShape → List Bits → List ArenaShape
 handed word [] colours = []

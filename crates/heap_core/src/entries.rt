@@ -2,20 +2,13 @@
 ghost use Rattle.std.specs.Prelude.{◌≡◌, IfErr, IfOk};
 ghost use Rattle.std.specs.Option.{ForSome};
 ghost use Rattle.gz_names.specs.declared.commands.GraphCmd.TheVariants as cmd;
-ghost use Rattle.heap_core.specs.Shape.{IsPresent, cell_of};
+ghost use Rattle.heap_core.specs.Shape.{IsPresent};
 ghost use Rattle.heap_core.specs.Answers.{IsSound};
-ghost use Rattle.heap_core.specs.Lookups.{Hands, IsEntry, IsNoEntry, entry_refusal, held_value, key_refusal};
+ghost use Rattle.heap_core.specs.Lookups.{Hands, IsEntry, IsNoEntry, entry_refusal, held_value};
 
 use crate::heap::Heap;
 use gz_names::{Kind, Place, Refusal, Reg};
-
-// The map, the key and the value of an entry.
-#[derive(Clone, Copy)]
-pub(crate) struct Entry {
-    pub map: Place,
-    pub key: Place,
-    pub value: Place,
-}
+use weak_maps::WeakEntry;
 
 impl Heap {
     // What a `find` hands to its register, or why it is refused.
@@ -32,7 +25,7 @@ impl Heap {
     }
 
     // The map, the key and the value that a command on an entry names, or why it is refused.
-    pub(crate) fn entry_named(&self, m: Reg, k: Reg, v: Reg) -> Result<Entry, Refusal>
+    pub(crate) fn entry_named(&self, m: Reg, k: Reg, v: Reg) -> Result<WeakEntry, Refusal>
         requires sound { IsSound self.now }
         ensures ok { IfOk result (λ e. IsEntry self.now m k v e.map e.key e.value) }
         ensures err { IfErr result (IsNoEntry self.now m k v) }
@@ -47,7 +40,7 @@ impl Heap {
             return Err(Refusal::Empty);
         };
         match self.entry_refusal(map, key, value) {
-            None => Ok(Entry { map, key, value }),
+            None => Ok(WeakEntry { map, key, value }),
             Some(why) => Err(why),
         }
     }
@@ -65,22 +58,10 @@ impl Heap {
                 if self.comp(key) != comp || self.comp(value) != comp {
                     return Some(Refusal::Cross);
                 }
-                self.key_refusal(key)
+                None
             }
             Kind::Object(_) => Some(Refusal::Kind),
             Kind::Wrapper => Some(Refusal::Kind),
-        }
-    }
-
-    // Why a present cell is no key, if so: wrappers are none, for now.
-    fn key_refusal(&self, key: Place) -> Option<Refusal>
-        requires { IsPresent self.now.shape key }
-        ensures { result ≡ key_refusal (cell_of self.now.shape key) }
-    {
-        match self.kind(key) {
-            Kind::Wrapper => Some(Refusal::WrapperKey),
-            Kind::Object(_) => None,
-            Kind::Map => None,
         }
     }
 }

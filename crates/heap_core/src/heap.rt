@@ -7,28 +7,35 @@ ghost use Rattle.cell_bits.specs.declared.bits.Colour.TheVariants as colour;
 ghost use Rattle.gz_names.specs.declared.numbers.Place.{Place as APlace};
 ghost use Rattle.std.specs.Int.{bit_at};
 ghost use Rattle.std.specs.Option.{ForSome, option_map};
+ghost use Rattle.gz_names.specs.Order.{number_of};
 ghost use Rattle.gz_names.specs.Zones.{HasZone};
 ghost use Rattle.zones.specs.States.{next_state, IsMarking};
 ghost use Rattle.zones.specs.declared.states.State.{State as AState};
-ghost use Rattle.arena_table.specs.Cells.{field_count};
+ghost use Rattle.arena_table.specs.Cells.{field_count, name_of};
 ghost use Rattle.arena_table.specs.Table.{new_cell};
 ghost use Rattle.heap_core.specs.Shape.{Shape, IsPresent, is_owned, is_white, cell_of, field_at, out_of, stored_at};
-ghost use Rattle.heap_core.specs.Shape.{zone_of};
+ghost use Rattle.heap_core.specs.Shape.{delegate_of_key, is_prepared, zone_of};
 ghost use Rattle.heap_core.specs.Edges.{edge_count};
 ghost use Rattle.heap_core.specs.Heap.{HeapState, colour_of, reg_of, slot_of, weak_of, with_reg, with_slot};
 ghost use Rattle.heap_core.specs.Changes.{IsWith, IsWithout, Makes, MakesWrapper, Writes, next_place, with_comp};
 ghost use Rattle.heap_core.specs.Changes.{with_number, with_zone, wrapper_cell};
-ghost use Rattle.heap_core.specs.Blackening.{Blackens};
+ghost use Rattle.heap_core.specs.Births.{ColoursAtBirth};
 ghost use Rattle.heap_core.specs.MarkBits.{TakesBlack, TakesGray};
 ghost use Rattle.heap_core.specs.TargetZones.{IsListedWrapper, owner_in};
 ghost use Rattle.wrappers.specs.TargetZones.{IsNoted};
 ghost use Rattle.heap_core.specs.Sweeping.{AreKept, held_in_all, is_absent, is_absent_in, is_lost_in, jobs_of};
-ghost use Rattle.heap_core.specs.Sweeping.{with_clear, with_handed, with_taken};
+ghost use Rattle.heap_core.specs.Sweeping.{with_handed, with_taken};
 ghost use Rattle.arena_table.specs.Slots.{IsWithin, alloc_word_of, at_bits, cell_at, names_of};
 ghost use Rattle.wrappers.specs.WrapperMaps.{AreApart, list_of, place_of, without_dead};
+ghost use Rattle.weak_maps.specs.Delegates.{DelegateRow};
+ghost use Rattle.weak_maps.specs.Entries.{Starts};
 ghost use Rattle.weak_maps.specs.WeakMaps.{AreParallel, Carries, HasLooked, IsSound as AreEntries, IsWithoutDead};
-ghost use Rattle.weak_maps.specs.WeakMaps.{NoneLeft, Starts, listed_of_key, listed_of_map, parts, value_of};
-ghost use Rattle.mark_stack.specs.Stack.{IsPushed, pile_of};
+ghost use Rattle.weak_maps.specs.WeakMaps.{KeepsRows, NoneLeft, delegate_of, listed_of_delegate, listed_of_key};
+ghost use Rattle.weak_maps.specs.WeakMaps.{listed_of_map, maps_delegated_in, value_of};
+ghost use Rattle.weak_maps.specs.declared.colours.MarkColour.{MarkColour};
+ghost use Rattle.weak_maps.specs.declared.entries.WeakEntry.{WeakEntry as AnEntry};
+ghost use Rattle.mark_stack.specs.Stack.{IsPushed, no_places, pile_of};
+ghost use Rattle.mark_stack.specs.declared.stack.Pile.{Pile as APile};
 ghost use Rattle.roots.specs.Buffers.{buffer_at, places_in, put_all, put_at};
 ghost use Rattle.gz_names.specs.declared.names.Name.TheVariants.{Cell as ACell, Wrap as AWrap};
 ghost use Rattle.gz_names.specs.declared.commands.Kind.TheVariants as kind;
@@ -44,8 +51,9 @@ use mark_stack::Pile;
 use roots::Roots;
 use std::alloc::{AllocError, Global};
 use std::marker::Model;
-use std::sync::ledger::Ledger;
-use weak_maps::{MarkColour, WeakMaps};
+use std::snapshot::Snapshot;
+use std::sync::ledger::{Blank, Ledger};
+use weak_maps::{Delegate, MarkColour, WeakEntry, WeakMaps};
 use wrappers::{TargetZones, Wrappers};
 use zones::{CompFault, State, ZoneFault, Zones};
 
@@ -61,9 +69,12 @@ pub struct Heap {
     weak: WeakMaps,
     // How many objects and maps were made: the number of the next.
     objects: u64,
+    // The ledger in which the edges that are read are counted, if they are.
+    counted_in: Option<Snapshot<Blank>>,
 }
 
 impl Model for Heap {
+    ghost use Rattle.std.specs.Option.{option_map};
     ghost use Rattle.heap_core.specs.Shape.{arena_shapes};
     ghost use Rattle.heap_core.specs.Heap.{HeapState, bits_of};
 
@@ -85,6 +96,7 @@ impl Model for Heap {
       made = h.arenas.made;
       looks = h.weak.looks;
       delayed = h.arenas.delayed;
+      ledger = option_map (λ s. s.value.name) h.counted_in;
     } };
 
     ghost use Rattle.heap_core.specs.TargetZones.{AreTargetsNoted};
@@ -109,7 +121,27 @@ impl Heap {
             roots: Roots::new(alloc)?,
             weak: WeakMaps::new(alloc),
             objects: 0,
+            counted_in: None,
         })
+    }
+
+    /// From now on the edges that are read are counted, from 0 on, in a new ledger and in no other.
+    pub fn count_edges<L: Ledger>(&mut self, blank: Blank) -> Steps<L>
+        requires name { blank.name ≡ L.name }
+        requires parts { blank.parts ≡ L.parts }
+        requires some { 0 < blank.parts }
+        ensures none { result ≡ 0 }
+        ensures ledger { self.new ≡ record self.old { ledger = Some L.name } }
+    {
+        self.counted_in = Some(Snapshot::of(&blank));
+        Steps::new(blank)
+    }
+
+    /// From now on the edges that are read are not counted, and `edge_at` reads them.
+    pub fn uncount_edges(&mut self)
+        ensures { self.new ≡ record self.old { ledger = None } }
+    {
+        self.counted_in = None;
     }
 
     /// The kind of a present cell.
@@ -131,16 +163,18 @@ impl Heap {
     /// The name of a present cell.
     pub fn name(&self, place: Place) -> Name
         requires { IsPresent self.now.shape place }
-        ensures { option_map (λ c. c.name) (cell_of self.now.shape place) ≡ Some result }
+        ensures value { option_map (λ c. c.name) (cell_of self.now.shape place) ≡ Some result }
+        ensures few { number_of result < 4294967296 }
     {
         self.arenas.name(place)
     }
 
     /// The i-th edge of a present cell: what its field of this number holds; `None` exactly where
-    /// that is null or there is no such field. It counts itself. Nothing else in a unit's work may read an
-    /// edge: `edge_at` is for markers that run beside each other, outside units.
+    /// that is null or there is no such field. It counts itself, in the one ledger in which the heap's
+    /// edges are counted.
     pub fn reached_by<L: Ledger>(&self, place: Place, i: u8, steps: &mut Steps<L>) -> Option<Place>
-        requires { IsPresent self.now.shape place }
+        requires present { IsPresent self.now.shape place }
+        requires counted { self.now.ledger ≡ Some L.name }
         ensures edge { result ≡ field_at self.now.shape place i }
         ensures steps { steps.new ≡ steps.old + 1 }
     {
@@ -425,6 +459,76 @@ impl Heap {
         self.zones.marking()
     }
 
+    /// The zones that are being prepared.
+    #[inline(always)]
+    pub fn preparing(&self) -> ZoneSet
+        ensures { (z : ℕ) → HasZone result.bits z
+            ↔ (slice_get self.now.shape.states z ≡ Some AState.Prepare) }
+    {
+        self.zones.preparing()
+    }
+
+    /// Whether a zone is being prepared.
+    #[inline(always)]
+    pub fn is_prepared(&self, zone: ZoneNo) -> bool
+        ensures { result ≡ is_prepared self.now.shape zone }
+    {
+        self.preparing().contains(zone)
+    }
+
+    /// Whether some zone is being prepared.
+    #[inline(always)]
+    pub fn is_preparing(&self) -> bool
+        ensures { MatchBool result ((z : ℕ) × (is_prepared self.now.shape z ≡ true))
+            ((z : ℕ) → is_prepared self.now.shape z ≡ false) }
+    {
+        let zones = self.preparing();
+        zones.first().is_some()
+    }
+
+    /// Takes these zones, which are made, out of the collection, whatever their states are.
+    pub fn stop(&mut self, zones: ZoneSet)
+        requires { (z : ℕ) → HasZone zones.bits z → z < length self.old.shape.states }
+        ensures rest { self.new ≡ record self.old {
+          shape = record self.old.shape { states = self.new.shape.states };
+        } }
+        ensures stopped { (z : ℕ) → HasZone zones.bits z
+            → slice_get self.new.shape.states z ≡ Some AState.NoGC }
+        ensures others { (z : ℕ) → (HasZone zones.bits z → ⊥)
+            → slice_get self.new.shape.states z ≡ slice_get self.old.shape.states z }
+        ensures count { length self.new.shape.states ≡ length self.old.shape.states }
+    {
+        self.zones.stop(zones);
+    }
+
+    /// Nothing waits for marking any more: no place is buffered, no weak entry is to be looked at, and no cell is
+    /// delayed. It takes no memory, and one step for each that waited.
+    pub fn forget_waiting(&mut self)
+        ensures rest { self.new ≡ record self.old {
+          buffers = replicate 64 [];
+          looks = self.new.looks;
+          delayed = no_places;
+        } }
+        ensures none { (colour : MarkColour) → NoneLeft colour self.new.looks }
+        ensures parallel { AreParallel (weak_of self.new) }
+    {
+        self.roots.clear();
+        self.weak.forget();
+        self.forget_delayed(Pile::Black);
+        self.forget_delayed(Pile::Gray);
+        self.forget_delayed(Pile::Wake);
+    }
+
+    // No cell is delayed for a pile any more.
+    fn forget_delayed(&mut self, pile: Pile)
+        ensures rest { self.new ≡ record self.old { delayed = self.new.delayed } }
+        ensures none { pile_of self.new.delayed pile ≡ [] }
+        ensures others { (other : APile) → other ≢ pile
+            → pile_of self.new.delayed other ≡ pile_of self.old.delayed other }
+    {
+        while self.next_delayed(pile).is_some() {}
+    }
+
     /// Takes a zone on to the state that follows its own.
     pub fn advance(&mut self, zone: ZoneNo)
         requires { zone < length self.old.shape.states }
@@ -528,12 +632,19 @@ impl Heap {
         self.arenas.alloc_word(arena)
     }
 
-    /// Clears the mark bits of all arenas of these zones.
-    pub fn clear_bits(&mut self, zones: ZoneSet)
-        requires { AreKept zones.bits self.old.shape }
-        ensures { self.new ≡ with_clear self.old zones.bits }
+    /// All cells of an arena that is not handed to sweeping turn black.
+    pub fn blacken_arena(&mut self, arena: u32)
+        requires made { arena < length self.old.shape.arenas }
+        requires kept { out_of self.old.shape arena ≡ None }
+        ensures { IsSomeAnd (slice_get self.old.shape.arenas arena) (λ a.
+            IsSomeAnd (slice_get self.old.colours arena) (λ bits.
+            self.new ≡ record self.old {
+              colours = slice_set self.old.colours arena (record { black = alloc_word_of a.slots; gob = bits.gob });
+            })) }
     {
-        self.arenas.clear_bits(zones);
+        let black = self.arenas.alloc_word(arena);
+        let gob = self.arenas.bits(arena).gob;
+        self.arenas.set_bits(arena, Bits { black, gob });
     }
 
     /// Hands all arenas of these zones to sweeping: their white cells are not present any more.
@@ -591,6 +702,7 @@ impl Heap {
             self.new.shape.weak }
         ensures fewer { length self.new.shape.weak.entries
             ≤ length self.old.shape.weak.entries }
+        ensures rows { KeepsRows self.old.shape.weak self.new.shape.weak }
         ensures carries { Carries (weak_of self.old) (weak_of self.new) }
         ensures parallel { AreParallel (weak_of self.new) }
         ensures sound { AreEntries self.new.shape.weak }
@@ -687,7 +799,7 @@ impl Heap {
         self.objects
     }
 
-    // Makes a black cell of a zone, its fields null, at the next place.
+    // Makes a cell of a zone, its fields null, at the next place. It is black, unless the zone is being prepared.
     #[inline(always)]
     pub(crate) fn make_cell(
         &mut self,
@@ -698,13 +810,16 @@ impl Heap {
     ) -> Result<Place, NoMemory>
         requires few { self.old.made < 4294967295 }
         requires fields { field_count kind ≤ 8 }
+        requires name { name ≡ name_of kind comp (number_of name) }
+        requires number { number_of name < 4294967296 }
         ensures ok { IfOk result
             (λ p. Makes self.old zone p (new_cell kind comp name) self.new) }
         ensures err { OnErr result (self.new ≡ self.old) }
     {
+        let is_prepared = self.is_prepared(zone);
         let place = self.arenas.reserve_place(zone)?;
         self.arenas.put_cell(place, kind, comp, name);
-        blacken(&mut self.arenas, place);
+        colour_at_birth(&mut self.arenas, place, is_prepared);
         Ok(place)
     }
 
@@ -718,6 +833,7 @@ impl Heap {
         target: Place,
     ) -> Result<Place, NoMemory>
         requires few { self.old.made < 4294967295 }
+        requires number { number < 4294967296 }
         requires absent { place_of self.old.shape.wrappers comp.0 number ≡ None }
         requires one_zone { (z : ℕ) (entry : _)
             → Contains (list_of self.old.shape.wrappers z) entry
@@ -728,20 +844,20 @@ impl Heap {
             (λ p. MakesWrapper self.old zone comp number target p self.new) }
         ensures err { OnErr result (self.new ≡ self.old) }
     {
+        let is_prepared = self.is_prepared(zone);
         let place = self.arenas.reserve_place(zone)?;
         self.wrappers.add(zone, comp, number, place)?;
         note_target(&self.arenas, &mut self.target_zones, zone, target);
         self.arenas
             .put_cell(place, Kind::Wrapper, comp, Name::Wrap(comp, number));
         self.arenas.set_field(place, 0, Some(target));
-        blacken(&mut self.arenas, place);
+        colour_at_birth(&mut self.arenas, place, is_prepared);
         Ok(place)
     }
 
-    /// The map, the key and the value of a weak entry, by its number; `None` past the last.
-    pub fn entry(&self, index: u64) -> Option<(Place, Place, Place)>
-        ensures entry { result
-            ≡ option_map parts (slice_get self.now.shape.weak.entries index) }
+    /// A weak entry, by its number; `None` past the last.
+    pub fn entry(&self, index: u64) -> Option<WeakEntry>
+        ensures entry { result ≡ slice_get self.now.shape.weak.entries index }
         ensures more { IfSome result (λ _. index < 18446744073709551615) }
         ensures parallel { AreParallel (weak_of self.now) }
         ensures sound { AreEntries self.now.shape.weak }
@@ -749,26 +865,75 @@ impl Heap {
         self.weak.entry(index)
     }
 
-    /// The map, the key and the value of an entry of one map, by its index in the map's list; `None`
-    /// past the last.
-    pub fn entries_of_map(&self, map: Place, index: u64) -> Option<(Place, Place, Place)>
-        ensures entry { result
-            ≡ option_map parts (slice_get (listed_of_map self.now.shape.weak map) index) }
+    /// An entry of one map, by its index in the map's list; `None` past the last.
+    pub fn entries_of_map(&self, map: Place, index: u64) -> Option<WeakEntry>
+        ensures entry { result ≡ slice_get (listed_of_map self.now.shape.weak map) index }
         ensures more { IfSome result (λ _. index < 18446744073709551615) }
         ensures sound { AreEntries self.now.shape.weak }
     {
         self.weak.entries_of_map(map, index)
     }
 
-    /// The map, the key and the value of an entry of one key, by its index in the key's list; `None`
-    /// past the last.
-    pub fn entries_of_key(&self, key: Place, index: u64) -> Option<(Place, Place, Place)>
-        ensures entry { result
-            ≡ option_map parts (slice_get (listed_of_key self.now.shape.weak key) index) }
+    /// An entry of one key, by its index in the key's list; `None` past the last.
+    pub fn entries_of_key(&self, key: Place, index: u64) -> Option<WeakEntry>
+        ensures entry { result ≡ slice_get (listed_of_key self.now.shape.weak key) index }
         ensures more { IfSome result (λ _. index < 18446744073709551615) }
         ensures sound { AreEntries self.now.shape.weak }
     {
         self.weak.entries_of_key(key, index)
+    }
+
+    /// An entry whose key is a wrapper of this cell, by its index in the cell's list; `None` past the last.
+    pub fn entries_of_delegate(&self, target: Place, index: u64) -> Option<WeakEntry>
+        ensures entry { result ≡ slice_get (listed_of_delegate self.now.shape.weak target) index }
+        ensures more { IfSome result (λ _. index < 18446744073709551615) }
+        ensures sound { AreEntries self.now.shape.weak }
+    {
+        self.weak.entries_of_delegate(target, index)
+    }
+
+    /// The map of an entry of a zone whose key is a wrapper, by the entry's index among these; `None` past the last.
+    pub fn map_delegated_in(&self, zone: ZoneNo, index: u64) -> Option<Place>
+        ensures map { result ≡ slice_get (maps_delegated_in self.now.shape.weak zone) index }
+        ensures more { IfSome result (λ _. index < 18446744073709551615) }
+        ensures sound { AreEntries self.now.shape.weak }
+    {
+        self.weak.map_delegated_in(zone, index)
+    }
+
+    /// The delegate of an entry: what its key leads to, if it is a wrapper; `None` if there is no such entry.
+    #[inline(always)]
+    pub fn delegate_of(&self, map: Place, key: Place) -> Option<Place>
+        ensures delegate { result ≡ delegate_of self.now.shape.weak map key }
+        ensures sound { AreEntries self.now.shape.weak }
+    {
+        self.weak.delegate_of(map, key)
+    }
+
+    /// Whether the key of some entry is a wrapper.
+    #[inline(always)]
+    pub fn has_delegates(&self) -> bool
+        ensures { IsTrue result ↔ (self.now.shape.weak.delegates.rows ≢ []) }
+    {
+        self.weak.has_delegates()
+    }
+
+    // What a present key leads to, if it is a wrapper, and the key's zone.
+    #[inline(always)]
+    fn delegate_of_key(&self, key: Place) -> Option<Delegate>
+        requires { IsPresent self.now.shape key }
+        ensures { result ≡ delegate_of_key self.now.shape key }
+    {
+        match self.kind(key) {
+            Kind::Wrapper => {
+                let target = self.field(key, 0)?;
+                Some(Delegate {
+                    target,
+                    zone: self.zone_at(key),
+                })
+            }
+            Kind::Object(_) | Kind::Map => None,
+        }
     }
 
     // The value of a key in a map.
@@ -778,28 +943,44 @@ impl Heap {
         self.weak.find(map, key)
     }
 
-    /// Marking has followed a cell in a colour: the weak entries of which it is the map or the key are
-    /// still to be looked at for it, in that colour, or in black where some of them are so already. It
-    /// takes no memory.
+    /// Marking has followed a cell in a colour: the weak entries of which it is the map or the key, or whose
+    /// key is a wrapper of it, are still to be looked at for it, in that colour, or in black where some of them
+    /// are so already. It takes no memory.
     #[inline(always)]
     pub fn start(&mut self, colour: MarkColour, place: Place)
         ensures rest { self.new ≡ record self.old { looks = self.new.looks } }
-        ensures map { Starts (λ entry. entry.map) colour place self.old.shape.weak.entries
+        ensures map { Starts (λ (entry : AnEntry). entry.map) colour place self.old.shape.weak.entries
             self.old.looks.by_map self.new.looks.by_map }
-        ensures key { Starts (λ entry. entry.key) colour place self.old.shape.weak.entries
+        ensures key { Starts (λ (entry : AnEntry). entry.key) colour place self.old.shape.weak.entries
             self.old.looks.by_key self.new.looks.by_key }
+        ensures delegate { Starts (λ (row : DelegateRow). row.target) colour place
+            self.old.shape.weak.delegates.rows self.old.looks.by_delegate self.new.looks.by_delegate }
         ensures parallel { AreParallel (weak_of self.new) }
+        ensures sound { AreEntries self.new.shape.weak }
     {
         self.weak.start(colour, place);
     }
 
-    /// Takes the next weak entry that is still to be looked at in a colour, for its map or for its key,
-    /// and answers its map, its key and its value; `None` exactly where nothing is left in that colour.
-    /// It takes no memory.
-    pub fn next_left(&mut self, colour: MarkColour) -> Option<(Place, Place, Place)>
+    /// The weak entries of a map are still to be looked at for it in a colour, or in black where some of them
+    /// are so already. It takes no memory.
+    pub fn start_map(&mut self, colour: MarkColour, map: Place)
+        ensures rest { self.new ≡ record self.old {
+          looks = record self.old.looks { by_map = self.new.looks.by_map };
+        } }
+        ensures map { Starts (λ (entry : AnEntry). entry.map) colour map self.old.shape.weak.entries
+            self.old.looks.by_map self.new.looks.by_map }
+        ensures parallel { AreParallel (weak_of self.new) }
+        ensures sound { AreEntries self.new.shape.weak }
+    {
+        self.weak.start_map(colour, map);
+    }
+
+    /// Takes the next weak entry that is still to be looked at in a colour, for its map, for its key or for its
+    /// delegate; `None` exactly where nothing is left in that colour. It takes no memory.
+    pub fn next_left(&mut self, colour: MarkColour) -> Option<WeakEntry>
         ensures rest { self.new ≡ record self.old { looks = self.new.looks } }
         ensures some { IfSome result (λ entry. HasLooked colour entry
-            self.old.shape.weak.entries self.old.looks self.new.looks) }
+            self.old.shape.weak self.old.looks self.new.looks) }
         ensures none { IfNone result ((self.new ≡ self.old) × NoneLeft colour self.old.looks) }
         ensures parallel { AreParallel (weak_of self.new) }
         ensures sound { AreEntries self.new.shape.weak }
@@ -807,14 +988,16 @@ impl Heap {
         self.weak.next_left(colour)
     }
 
-    // Gives a value to a key of a map.
+    // Gives a value to a present key of a map.
     #[inline(always)]
     pub(crate) fn put_entry(&mut self, map: Place, key: Place, value: Place) -> Result<(), NoMemory>
+        requires { IsPresent self.old.shape key }
         ensures put { OnOk result (IsWith self.old map key value self.new) }
         ensures err { OnErr result (self.new ≡ self.old) }
         ensures wanted { OnErr result (value_of self.old.shape.weak map key ≡ None) }
     {
-        self.weak.put(map, key, value)?;
+        let delegate = self.delegate_of_key(key);
+        self.weak.put(WeakEntry { map, key, value }, delegate)?;
         Ok(())
     }
 
@@ -839,11 +1022,14 @@ fn note_target(arenas: &Arenas, target_zones: &mut TargetZones, zone: ZoneNo, ta
     }
 }
 
-// A cell of an arena that is not out turns black.
-fn blacken(arenas: &mut Arenas, place: Place)
+// A new cell of an arena that is not out is black, unless its zone is being prepared: then its bits stay clear.
+fn colour_at_birth(arenas: &mut Arenas, place: Place, is_prepared: bool)
     requires kept { IsSomeAnd (slice_get arenas.old.arenas place.0) (λ a. a.is_out ≡ false) }
-    ensures { Blackens arenas.old place arenas.new }
+    ensures { ColoursAtBirth is_prepared arenas.old place arenas.new }
 {
+    if is_prepared {
+        return;
+    }
     let mut bits = arenas.bits(place.arena());
     bits.mark_black(place.slot());
     arenas.set_bits(place.arena(), bits);

@@ -4,8 +4,8 @@
 //
 // The heap puts its parts together: cells in arenas, zones and compartments, wrapper maps, registers
 // and gray slots, entries of weak maps. It does each of the sixteen commands on the graph, without
-// barriers; of colours it knows only that a new cell is black. It speaks of places, not of names,
-// and contracts see it as plain data:
+// barriers; of colours it knows only that a new cell is black, unless its zone is being prepared. It speaks
+// of places, not of names, and contracts see it as plain data:
 //
 //     shape      the arenas with their cells; the states of zones, the homes of compartments, the
 //                wrapper maps, the entries, what registers and gray slots hold
@@ -13,6 +13,10 @@
 //     buffers    what waits for the gray marking of each zone
 //     looks      in which colour marking has still to look at each weak entry
 //     delayed    the cells for which a pile of the mark stack had no room
+//     ledger     the name of the ledger in which the edges that are read are counted, if they are
+//
+// An edge is read by `reached_by`, which asks for the count in that ledger, so that a body which is handed a
+// count can read none without it. Only a heap whose edges are not counted lets `edge_at` read.
 //
 // Barriers change `colours` and `delayed` alone, and no unit of marking changes `shape`, so what is said of
 // it stays said through all of them.

@@ -1,10 +1,11 @@
 // Making zones, compartments, objects and maps.
-ghost use Rattle.std.specs.Prelude.{◌≡◌, ◌≢◌, ◌<◌, ◌≤◌, ◌↔◌, IfOk, IsTrue, OnErr, Some, length, slice_get};
+ghost use Rattle.std.specs.Prelude.{◌≡◌, ◌≢◌, ◌<◌, ◌≤◌, ◌↔◌, IfOk, IsTrue, OnErr, Some, false, length, slice_get};
 ghost use Rattle.gz_names.specs.declared.replies.Reply.TheVariants as reply;
 ghost use Rattle.arena_table.specs.Cells.{field_count};
 ghost use Rattle.heap_core.specs.Answers.{IsSound};
 ghost use Rattle.heap_core.specs.Changes.{with_comp, with_zone};
 ghost use Rattle.heap_core.specs.Effects.{MakesHeld};
+ghost use Rattle.heap_core.specs.Shows.{is_wrapper};
 
 use crate::heap::Heap;
 use gz_names::{COMP_LIMIT, CompNo, Kind, Name, NoMemory, Reg, Reply, ZONE_LIMIT, ZoneNo};
@@ -54,6 +55,7 @@ impl Heap {
         requires sound { IsSound self.old }
         requires home { slice_get self.old.shape.comps c.0 ≡ Some zone }
         requires fields { field_count kind ≤ 8 }
+        requires plain { is_wrapper kind ≡ false }
         requires few { self.old.made < 4294967295 }
         ensures change { IfOk result (λ answer. MakesHeld self.old r kind c self.new
             × (answer ≡ reply.Made self.old.shape.objects)) }

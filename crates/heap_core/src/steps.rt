@@ -4,7 +4,8 @@ ghost use Rattle.std.specs.Prelude.{◌≡◌, ◌+◌, ◌<◌};
 use std::marker::Model;
 use std::sync::ledger::{Blank, Book, Ledger, Share};
 
-/// How many edges were read. It takes no bytes, and `Heap::reached_by` alone raises it.
+/// How many edges were read. It takes no bytes, `Heap::count_edges` alone makes one, and `Heap::reached_by`
+/// alone raises it.
 #[derive(Drop)]
 pub struct Steps<L: Ledger> {
     book: Book<L>,
@@ -22,8 +23,8 @@ impl<L: Ledger> Model for Steps<L> {
 }
 
 impl<L: Ledger> Steps<L> {
-    /// A count that begins at 0, in a new ledger.
-    pub fn new(blank: Blank) -> Self
+    // A count that begins at 0, in a new ledger.
+    pub(crate) fn new(blank: Blank) -> Self
         requires name { blank.name ≡ L.name }
         requires parts { blank.parts ≡ L.parts }
         requires some { 0 < blank.parts }

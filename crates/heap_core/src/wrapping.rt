@@ -57,7 +57,8 @@ impl Heap {
     // The number in the name of a present cell.
     fn number(&self, place: Place) -> u64
         requires { IsPresent self.now.shape place }
-        ensures { result ≡ number_at self.now.shape place }
+        ensures value { result ≡ number_at self.now.shape place }
+        ensures few { result < 4294967296 }
     {
         match self.name(place) {
             Name::Cell(number) => number,

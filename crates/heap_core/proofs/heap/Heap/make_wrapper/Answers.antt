@@ -5,7 +5,7 @@ use Rattle.heap_core.specs.Heap.{HeapState}
 use Rattle.heap_core.proofs.MakingWrappers.{target-within, wrapper-made, wrapper-seen, written-kept}
 use Rattle.arena_table.specs.Table.{ArenasState}
 use Rattle.heap_core.specs.Changes.{wrapper_cell}
-use Rattle.heap_core.specs.Shape.{IsPresent}
+use Rattle.heap_core.specs.Shape.{IsPresent, is_prepared}
 use Rattle.heap_core.specs.TargetZones.{owner_in}
 use Rattle.heap_core.proofs.NotedTargets.{noted-made, wrapper-noted}
 use Rattle.heap_core.proofs.Views.{with_state}
@@ -27,8 +27,8 @@ set_field-requires-clause-value c = target-within (the_view c.self.inside) c.arg
       put = c.put_cell.ensures.put;
     })
 
-pub blacken-requires : goal.blacken-requires
-blacken-requires c = record {
+pub colour_at_birth-requires : goal.colour_at_birth-requires
+colour_at_birth-requires c = record {
   kept = written-kept c.self.inside.arenas c.reserve_place.new.self c.put_cell.new.self
       c.set_field.new.self c.args.zone c.args.comp c.args.number c.in_ok-place.place c.args.target
       (record {
@@ -41,11 +41,12 @@ blacken-requires c = record {
 }
 
 pub returns-clause-ok : goal.returns-clause-ok
-returns-clause-ok c = wrapper-seen (the_view c.self.inside) c.args.self.now c.self.inside.arenas c.blacken.new.arenas
+returns-clause-ok c = wrapper-seen (the_view c.self.inside) c.args.self.now c.self.inside.arenas
+    c.colour_at_birth.new.arenas
     c.self.inside.wrappers c.add.new.self c.args.zone c.args.comp c.args.number c.in_ok-place.place c.args.target
-    c.self.view_is (ap (λ (h : HeapState). h.shape.wrappers) (sym c.self.view_is))
+    c.self.view_is (ap (λ (h : HeapState). h.shape.wrappers) (sym c.self.view_is)) _
     (wrapper-made c.self.inside.arenas c.reserve_place.new.self c.put_cell.new.self c.set_field.new.self
-    c.blacken.new.arenas c.args.zone c.args.comp c.args.number c.in_ok-place.place c.args.target
+    c.colour_at_birth.new.arenas c.args.zone c.args.comp c.args.number c.in_ok-place.place c.args.target
     (record {
       place_is = c.in_ok-place.ensures.place;
       free = c.in_ok-place.ensures.free;
@@ -53,13 +54,14 @@ returns-clause-ok c = wrapper-seen (the_view c.self.inside) c.args.self.now c.se
           c.in_ok-place.ensures.kept;
       put = c.put_cell.ensures.put;
     }) c.put_cell.ensures.cells c.set_field.ensures.state
-    c.set_field.ensures.cells c.blacken.ensures)
+    c.set_field.ensures.cells c.is_prepared-is_prepared.result c.colour_at_birth.ensures)
     (record {
       added = c.in_ok-add.ensures.added;
       found = c.in_ok-add.ensures.found;
       absent = ap
           (λ (h : HeapState). place_of h.shape.wrappers c.args.comp.0 c.args.number) c.self.view_is ∙ c.requires.absent;
     })
+    (c.is_prepared-is_prepared.ensures ∙ ap (λ (h : HeapState). is_prepared h.shape c.args.zone) (sym c.self.view_is))
 
 pub note_target-requires : goal.note_target-requires
 note_target-requires c = subst (λ (s : ArenasState). c.args.target.0 < length s.arenas) (sym c.in_ok-place.ensures.kept)
@@ -70,10 +72,10 @@ note_target-requires c = subst (λ (s : ArenasState). c.args.target.0 < length s
 pub invariant_of-self-2 : goal.invariant_of-self-2
 invariant_of-self-2 c =
     let target = c.note_target.ensures.noted in
-    noted-made c.self.inside.arenas c.blacken.new.arenas c.args.zone c.in_ok-place.place
-    (wrapper_cell c.args.comp c.args.number c.args.target) _ _
+    noted-made c.self.inside.arenas c.colour_at_birth.new.arenas c.args.zone c.in_ok-place.place
+    (wrapper_cell c.args.comp c.args.number c.args.target) _ _ _
     (wrapper-made c.self.inside.arenas c.reserve_place.new.self c.put_cell.new.self c.set_field.new.self
-    c.blacken.new.arenas c.args.zone c.args.comp c.args.number c.in_ok-place.place c.args.target
+    c.colour_at_birth.new.arenas c.args.zone c.args.comp c.args.number c.in_ok-place.place c.args.target
     (record {
       place_is = c.in_ok-place.ensures.place;
       free = c.in_ok-place.ensures.free;
@@ -81,6 +83,6 @@ invariant_of-self-2 c =
           c.in_ok-place.ensures.kept;
       put = c.put_cell.ensures.put;
     }) c.put_cell.ensures.cells c.set_field.ensures.state
-    c.set_field.ensures.cells c.blacken.ensures)
+    c.set_field.ensures.cells c.is_prepared-is_prepared.result c.colour_at_birth.ensures)
     (wrapper-noted _ _ _ _ _ _ target.0 (subst (λ (s : ArenasState). owner_in s.arenas c.args.target.0 ≡ Some target.0)
     c.in_ok-place.ensures.kept target.1) target.2) c.note_target.ensures.kept c.self.invariant
