@@ -114,6 +114,14 @@ grows_none P h p = record {
   woken = λ y b m. inl b;
 }
 
+pub grows_within : (P R : Place → Type 0) (h : HeapState) (p : Piles) (k : HeapState) (q : Piles) → Grows P h p k q
+    → ((y : Place) → P y → R y) → Grows R h p k q
+grows_within P R h p k q a f = record {
+  spreads = spreads_within P R h p k q a.spreads f;
+  wake_kept = a.wake_kept;
+  woken = a.woken;
+}
+
 pub grows_more : (P Q R : Place → Type 0) (h : HeapState) (p : Piles) (k : HeapState) (q : Piles) (l : HeapState)
     (r : Piles) → Grows P h p k q → Grows Q k q l r → ((y : Place) → P y → R y) → ((y : Place) → Q y → R y)
     → Grows R h p l r

@@ -7,10 +7,10 @@ use Rattle.mark_stack.specs.Stack.{Piles, IsPushed, pile_of}
 use Rattle.mark_stack.specs.declared.stack.Pile.TheVariants as pile
 use Rattle.mark_stack.proofs.Pushed.{black_wake, gray_black, gray_wake, more_cases, more_has, more_kept, more_length}
 use Rattle.mark_stack.proofs.Pushed.{wake_black}
-use Rattle.heap_core.specs.Shape.{Shape, is_marking, is_marking_state, state_in, IsPresent}
+use Rattle.heap_core.specs.Shape.{Shape, is_marking, IsPresent}
 use Rattle.heap_core.specs.Heap.{HeapState, colour_of}
 use Rattle.barriers.specs.Colours.{IsBlack, IsSeen}
-use Rattle.barriers.specs.Invariant.{ColourInvariant, PileInvariant, InvariantWhile}
+use Rattle.barriers.specs.Invariant.{ColourInvariant, InvariantWhile, IsToFollow, PileInvariant}
 use Rattle.barriers.specs.Scans.{ScansNoMore}
 use Rattle.barriers.specs.Spreading.{Blackened, Grows, Turns}
 use Rattle.barriers.proofs.Places.{same_or_other}
@@ -152,39 +152,51 @@ module _ (h : HeapState) (ds : List Bits) (p q : Piles) (t : Place) (turned : Bl
     gray = λ y c. seen y (inv.gray y (subst (λ zs. Contains zs y) puts.gray_is c));
   }
 
-  pending : Contains q.black t ⊎ Contains q.wake t
-  pending = elim (marking_or_not h.shape t) [ inl m ↦ inl (puts.black_has m) | inr m ↦ inr (puts.wake_has m) ]
+  to_follow : (followed : List Place) → IsToFollow followed q t
+  to_follow followed = elim (marking_or_not h.shape t)
+      [ inl m ↦ inl (puts.black_has m) | inr m ↦ inr (inl (puts.wake_has m)) ]
+
+  still_to_follow : (followed : List Place) (y : Place) → IsToFollow followed p y → IsToFollow followed q y
+  still_to_follow followed y (inl c) = inl (puts.black_kept y c)
+  still_to_follow followed y (inr (inl c)) = inr (inl (puts.wake_kept y c))
+  still_to_follow followed y (inr (inr c)) = inr (inr c)
+
+  -- a cell that is black now was so, or is still to be followed
+  black_or_to_follow : (followed : List Place) (y : Place) → IsBlack k y → IsBlack h y ⊎ IsToFollow followed q y
+  black_or_to_follow followed y b = elim (only y b) [
+    | inl was ↦ inl was
+    | inr is ↦ inr (subst (λ z. IsToFollow followed q z) (sym is) (to_follow followed))
+  ]
 
   invariant_kept : (followed : List Place) → InvariantWhile followed h p → InvariantWhile followed k q
   invariant_kept followed inv = record {
     colours = colours_kept inv.colours;
     piles = piles_kept inv.piles;
-    closed = λ x y b e. elim (only x b) [
-      | inl was ↦ elim (inv.closed x y was e) [
-        | inl by ↦ inl (kept y by)
-        | inr (inl c) ↦ inr (inl (puts.black_kept x c))
-        | inr (inr (inl c)) ↦ inr (inr (inl (puts.wake_kept x c)))
-        | inr (inr (inr c)) ↦ inr (inr (inr c))
-      ]
-      | inr is ↦ elim pending [
-        | inl c ↦ inr (inl (subst (λ z. Contains q.black z) (sym is) c))
-        | inr c ↦ inr (inr (inl (subst (λ z. Contains q.wake z) (sym is) c)))
-      ]
+    closed = λ x y b e. elim (black_or_to_follow followed x b) [
+      | inl was ↦ elim (inv.closed x y was e)
+          [ inl by ↦ inl (kept y by) | inr f ↦ inr (still_to_follow followed x f) ]
+      | inr f ↦ inr f
     ];
-    weak_closed = λ m n v e bm bn off. elim (only m bm) [
-      | inr is ↦ inr (inl (subst (λ z. Contains q.wake z) (sym is)
-          (puts.wake_has (subst (λ z. is_marking h.shape z ≡ false) is
-          (ap (λ z. is_marking_state (state_in h.shape z)) (inv.colours.shape.one_zone m n v e).0 ∙ off)))))
-      | inl wm ↦ elim (only n bn) [
-        | inr is ↦ inr (inr (inl
-            (subst (λ z. Contains q.wake z) (sym is)
-            (puts.wake_has (subst (λ z. is_marking h.shape z ≡ false) is
-            (ap (λ z. is_marking_state (state_in h.shape z)) (inv.colours.shape.one_zone m n v e).1 ∙ off))))))
+    weak_closed = λ m n v e bm bn off. elim (black_or_to_follow followed m bm) [
+      | inr f ↦ inr (inl f)
+      | inl wm ↦ elim (black_or_to_follow followed n bn) [
+        | inr f ↦ inr (inr f)
         | inl wn ↦ elim (inv.weak_closed m n v e wm wn off) [
           | inl b ↦ inl (kept v b)
-          | inr (inl w) ↦ inr (inl (puts.wake_kept m w))
-          | inr (inr (inl w)) ↦ inr (inr (inl (puts.wake_kept n w)))
-          | inr (inr (inr w)) ↦ inr (inr (inr w))
+          | inr (inl f) ↦ inr (inl (still_to_follow followed m f))
+          | inr (inr f) ↦ inr (inr (still_to_follow followed n f))
+        ]
+      ]
+    ];
+    key_closed = λ m n v d e is bm bd. elim (black_or_to_follow followed m bm) [
+      | inr f ↦ inr (inl f)
+      | inl wm ↦ elim (black_or_to_follow followed d bd) [
+        | inr f ↦ inr (inr (inl f))
+        | inl wd ↦ elim (inv.key_closed m n v d e is wm wd) [
+          | inl b ↦ inl (kept n b)
+          | inr (inl f) ↦ inr (inl (still_to_follow followed m f))
+          | inr (inr (inl f)) ↦ inr (inr (inl (still_to_follow followed d f)))
+          | inr (inr (inr l)) ↦ inr (inr (inr l))
         ]
       ]
     ];

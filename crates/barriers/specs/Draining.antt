@@ -1,5 +1,5 @@
 -- Following all woken cells.
-use Rattle.std.specs.Prelude.{◌≡◌, ◌≤◌, ◌+◌, ◌*◌, [], ℕ, Option, length}
+use Rattle.std.specs.Prelude.{◌≡◌, ◌≤◌, ◌+◌, ◌*◌, [], ℕ, Option, Some, length}
 use Rattle.cell_bits.specs.declared.bits.Bits.{Bits}
 use Rattle.mark_stack.specs.Stack.{Piles}
 use Rattle.heap_core.specs.Heap.{HeapState, joined}
@@ -11,9 +11,10 @@ use Rattle.barriers.specs.Scans.{AreScannedOnce}
 use Rattle.barriers.specs.Invariant.{InvariantWhile, MarkingInvariant}
 use Rattle.barriers.specs.Spreading.{Covers, Spreads}
 
--- what following all woken cells asks: exactly the arenas that are handed to sweeping are in flight, and the marking
--- invariant holds but for the woken cells
-pub record MayDrain (h : HeapState) (flown : ℕ → Option Bits) (p : Piles) : Type 0 where
+-- what following all woken cells asks: edges are counted in this ledger, exactly the arenas that are handed to sweeping
+-- are in flight, and the marking invariant holds but for the woken cells
+pub record MayDrain (ledger : ℕ) (h : HeapState) (flown : ℕ → Option Bits) (p : Piles) : Type 0 where
+  pub counted : h.ledger ≡ Some ledger
   pub covers : Covers h.shape flown
   pub holds : InvariantWhile [] (joined h flown) (pending h p)
   pub weak : WeakPoint (joined h flown) (pending h p) (left_of (joined h flown))
