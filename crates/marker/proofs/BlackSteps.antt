@@ -1,16 +1,16 @@
 -- One cell of the black pile was followed.
-use Rattle.std.proofs.Common.{◌≡◌, ◌↔◌, ◌<◌, ◌≤◌, true, inl, inr, refl, sym, ap, ◌∙◌, subst, arith, ◌∷◌, []}
-use Rattle.std.proofs.Common.{ℕ, ◌+◌, Option, length}
+use Rattle.std.proofs.Common.{◌≡◌, ◌↔◌, ◌⊎◌, ◌<◌, ◌≤◌, true, inl, inr, refl, sym, ap, ◌∙◌, subst, arith, ◌∷◌, []}
+use Rattle.std.proofs.Common.{ℕ, ◌+◌, Option, Some, length}
 use Rattle.gz_names.specs.declared.numbers.Place.{Place}
 use Rattle.mark_stack.specs.Stack.{Piles, IsPushed}
 use Rattle.mark_stack.specs.declared.stack.Pile.TheVariants as pile
 use Rattle.mark_stack.proofs.Pushed.{gray_black, more_length, wake_black}
-use Rattle.weak_maps.specs.WeakMaps.{AreParallel, LooksState, Starts, WeakMapsState}
+use Rattle.weak_maps.specs.WeakMaps.{IsSound, LooksState, WeakMapsState}
 use Rattle.weak_maps.specs.declared.colours.MarkColour.TheVariants as mark
-use Rattle.heap_core.specs.Shape.{Shape, HasEdge, is_marking}
+use Rattle.heap_core.specs.Shape.{Shape, HasEdge, IsDelegate, is_marking}
 use Rattle.cell_bits.specs.declared.bits.Bits.{Bits}
 use Rattle.heap_core.specs.Heap.{HeapState, joined, weak_of}
-use Rattle.barriers.specs.Reached.{Reached}
+use Rattle.barriers.specs.Reached.{HasEntry, Reached}
 use Rattle.barriers.specs.Reached as reached
 use Rattle.barriers.specs.Colours.{IsBlack, grays_outside}
 use Rattle.barriers.specs.PendingBlack.{PendingBlack}
@@ -20,26 +20,33 @@ use Rattle.barriers.specs.Spreading.{Blackens, Grows, Spreads}
 use Rattle.barriers.specs.Exposing.{KeepsLive}
 use Rattle.barriers.specs.Scans.{AreScannedOnce, ScansNoMore, black_scans}
 use Rattle.barriers.proofs.Spreading.{shape_is, spreads_more, spreads_within}
-use Rattle.barriers.specs.WeakPoint.{WeakPoint, left_of}
+use Rattle.barriers.specs.WeakPoint.{IsLeft, WeakPoint, left_of}
 use Rattle.barriers.proofs.Following.{Taken, followed, taken_black}
 use Rattle.barriers.proofs.StayingLeft.{left_weaker, starts_entries}
 use Rattle.barriers.proofs.WeakPoint.{StartsEntries, black_starts, spread_point}
 use Rattle.barriers.proofs.BlackClosure.{pending_same, reached_from}
 use Rattle.barriers.proofs.LiveClosure.{gray_kept, live_same}
 use Rattle.barriers.proofs.Scans.{no_more_twice, once_kept, pops_black, pops_black_once}
-use Rattle.marker.specs.Looks.{StartsBoth, with_looks}
+use Rattle.marker.specs.Looks.{StartsLooks, with_looks}
 use Rattle.marker.specs.Units.{FollowsBlack, ScansBlack}
-use Rattle.marker.proofs.Looking.{gray_on, live_on, marking_on, more_left, pending_on, point_on}
+use Rattle.marker.proofs.Looking.{gray_on, live_on, marking_on, pending_on, point_on}
 use Rattle.marker.proofs.Looking.{starts_on}
 
--- before what was woken is followed: the cell's zone is marking, so its entries are not looked at
+-- the entries of which a cell is the map or the delegate are left in black
+abbrev pub AreLeft : Place → HeapState → Type 0
+AreLeft x k = (m n v d : Place) → HasEntry k.shape m n v → IsDelegate k.shape n d → (x ≡ m) ⊎ (x ≡ d)
+    → left_of k mark.Black m n
+
+-- before what was woken is followed: the cell's zone is marking, so its entries are left to be looked at
 pub scanned : (h : HeapState) (p q : Piles) (x : Place) (k : HeapState) (r : Piles) → InvariantWhile [] h p
     → IsPushed q pile.Black x p → InvariantWhile (x ∷ []) k r → Grows (HasEdge h.shape x) h q k r
-    → ((y : Place) → HasEdge h.shape x y → IsBlack k y) → InvariantWhile [] k r
-scanned h p q x k r inv e holds grows edges =
+    → ((y : Place) → HasEdge h.shape x y → IsBlack k y) → AreLeft x k → InvariantWhile [] k r
+scanned h p q x k r inv e holds grows edges left =
     let same : k.shape ≡ h.shape = shape_is h k grows.spreads.blackens.rest in
-    let on : is_marking k.shape x ≡ true = ap (λ (s : Shape). is_marking s x) same ∙ (taken_black h p q x inv e).zone in
-    followed k r x holds (λ y ed. edges y (subst (λ (s : Shape). HasEdge s x y) same ed)) (λ off. cc (on, off))
+    let on : is_marking k.shape x ≡ true =
+    ap (λ (s : Shape). is_marking s x) same ∙ (taken_black [] h p q x inv e).zone in
+    followed [] k r x holds (λ y ed. edges y (subst (λ (s : Shape). HasEdge s x y) same ed)) (λ off. cc (on, off))
+    (λ m n v d entry is at bm bd. inr (inr (left m n v d entry is at)))
 
 pub record Follows (h : HeapState) (p : Piles) (l : HeapState) (t : Piles) : Type 0 where
   pub blackens : Blackens (Reached h.shape (IsBlack h)) h l
@@ -65,7 +72,7 @@ follows h p q x k r l t inv e scan sp new =
     let R : Place → Type 0 = Reached h.shape (IsBlack h) in
     let same : k.shape ≡ h.shape = shape_is h k scan.spreads.blackens.rest in
     let edge : (y : Place) → HasEdge h.shape x y
-    → R y = λ y ed. reached.along (reached.from (taken_black h p q x inv.holds e).black) ed in
+    → R y = λ y ed. reached.along (reached.from (taken_black [] h p q x inv.holds e).black) ed in
     let spreads : Spreads R h q l t = spreads_more R R R h q k r l t
     (spreads_within (HasEdge h.shape x) R h q k r scan.spreads edge)
     (spreads_within (Reached k.shape (IsBlack k)) R k r l t sp
@@ -83,31 +90,33 @@ black_some p q x popped none =
 
 -- the cell that was taken from the black pile was started, and then scanned
 module _ (h : HeapState) (p q : Piles) (x : Place) (looks : LooksState) (inv : MarkingInvariant h p)
-    (popped : IsPushed q pile.Black x p) (starts : StartsBoth mark.Black x h (with_looks h looks)) where
+    (popped : IsPushed q pile.Black x p) (sound : IsSound h.shape.weak)
+    (starts : StartsLooks mark.Black x h (with_looks h looks)) where
   abbrev m : HeapState
   m = with_looks h looks
 
   entries : StartsEntries h.shape mark.Black x (left_of h) (left_of m)
-  entries = starts_entries h mark.Black x m refl starts.map starts.key
+  entries = starts_entries h mark.Black x m refl sound starts.map starts.key starts.delegate
 
   marks : MarkingInvariant m p
-  marks = marking_on h looks p inv (more_left h p (left_of h) (left_of m) entries.kept inv.weak)
+  marks = marking_on h looks p inv entries.kept
 
   point : WeakPoint m q (left_of m)
   point = point_on h looks q (left_of m)
-      (black_starts h q p x (left_of h) (left_of m) popped inv.weak entries (left_weaker (weak_of m)))
+      (black_starts h q p x (left_of h) (left_of m) popped inv.weak inv.holds.colours.shape entries
+      (left_weaker (weak_of m)))
 
   point_scanned : (k : HeapState) (r : Piles) → Grows (HasEdge m.shape x) m q k r → WeakPoint k r (left_of k)
   point_scanned k r scan =
-      spread_point (HasEdge m.shape x) m q k r scan.spreads inv.holds.colours.shape point
+      spread_point (HasEdge m.shape x) m q k r scan.spreads marks.holds.colours point
 
   once_scanned : (k : HeapState) (r : Piles) → Grows (HasEdge m.shape x) m q k r → AreScannedOnce k r
   once_scanned k r scan =
       once_kept m q k r scan.spreads.scans
       (once_kept m p m q (pops_black m q p x popped) marks.once)
 
-  taken_started : Taken m q x true
-  taken_started = taken_black m p q x marks.holds popped
+  taken_started : Taken [] m q x true
+  taken_started = taken_black [] m p q x marks.holds popped
 
   module _ (k : HeapState) (r : Piles) (l : HeapState) (t : Piles) (scan : Grows (HasEdge m.shape x) m q k r)
       (sp : Spreads (Reached k.shape (IsBlack k)) k r l t) (new : MarkingInvariant l t) where
@@ -132,7 +141,7 @@ module _ (h : HeapState) (p q : Piles) (x : Place) (looks : LooksState) (inv : M
     weak_is : weak_of l ≡ weak_of m
     weak_is = ap weak_of sp.blackens.rest ∙ ap weak_of scan.spreads.blackens.rest
 
-    started_here : StartsBoth mark.Black x h l
+    started_here : StartsLooks mark.Black x h l
     started_here = starts_on mark.Black x h m l starts weak_is
 
     after : ScansNoMore h q l t
@@ -148,7 +157,7 @@ module _ (h : HeapState) (p q : Piles) (x : Place) (looks : LooksState) (inv : M
 
     scans_black : ScansBlack h p l t
     scans_black =
-        let was = taken_black h p q x inv.holds popped in
+        let was = taken_black [] h p q x inv.holds popped in
         record { cell = x; black = was.black; zone = was.zone; fewer = fewer; no_more = none; starts = started_here }
 
 -- as it is called
@@ -156,51 +165,63 @@ pub record Started (h : HeapState) (p q : Piles) (x : Place) (m : HeapState) : T
   pub inv : MarkingInvariant h p
   pub popped : IsPushed q pile.Black x p
   pub rest : m ≡ with_looks h m.looks
-  pub map : Starts (λ entry. entry.map) mark.Black x h.shape.weak.entries h.looks.by_map m.looks.by_map
-  pub key : Starts (λ entry. entry.key) mark.Black x h.shape.weak.entries h.looks.by_key m.looks.by_key
-  pub parallel : AreParallel (weak_of m)
+  pub sound : IsSound h.shape.weak
+  pub starts : StartsLooks mark.Black x h m
 
 pub started_by : (h n m : HeapState) (flown : ℕ → Option Bits) (p s : Piles) (x : Place)
     → MarkingInvariant (joined h flown) p → n ≡ record h { delayed = n.delayed }
-    → IsPushed (pending n s) pile.Black x p → m ≡ record n { looks = m.looks }
-    → Starts (λ entry. entry.map) mark.Black x n.shape.weak.entries n.looks.by_map m.looks.by_map
-    → Starts (λ entry. entry.key) mark.Black x n.shape.weak.entries n.looks.by_key m.looks.by_key
-    → AreParallel (weak_of m) → Started (joined h flown) p (pending m s) x (joined m flown)
-started_by h n m flown p s x inv taken popped rest map key parallel =
+    → IsPushed (pending n s) pile.Black x p → m ≡ record n { looks = m.looks } → IsSound m.shape.weak
+    → StartsLooks mark.Black x n m → Started (joined h flown) p (pending m s) x (joined m flown)
+started_by h n m flown p s x inv taken popped rest sound starts =
     let here = ap (λ (z : HeapState). joined z flown) taken in
     let same = ap (λ (z : HeapState). pending z s) rest in
     subst (λ (z : HeapState). Started z p (pending m s) x (joined m flown)) here (record {
       inv = subst (λ (z : HeapState). MarkingInvariant z p) (sym here) inv;
       popped = subst (λ (q : Piles). IsPushed q pile.Black x p) (sym same) popped;
       rest = ap (λ (z : HeapState). joined z flown) rest;
-      map = map;
-      key = key;
-      parallel = parallel;
+      sound = subst (λ (z : HeapState). IsSound z.shape.weak) rest sound;
+      starts = record {
+        map = starts.map;
+        key = starts.key;
+        delegate = starts.delegate;
+        parallel = starts.parallel;
+      };
     })
 
 module _ (h : HeapState) (p q : Piles) (x : Place) (m : HeapState) (s : Started h p q x m) where
-  starts_both : StartsBoth mark.Black x h (with_looks h m.looks)
-  starts_both = record {
-    map = s.map;
-    key = s.key;
-    parallel = subst (λ (z : HeapState). AreParallel (weak_of z)) s.rest s.parallel;
-  }
+  starts_here : StartsLooks mark.Black x h (with_looks h m.looks)
+  starts_here = subst (λ (z : HeapState). StartsLooks mark.Black x h z) s.rest s.starts
 
-  pub started_taken : Taken m q x true
-  started_taken = subst (λ (z : HeapState). Taken z q x true) (sym s.rest)
-      (taken_started h p q x m.looks s.inv s.popped starts_both)
+  pub started_taken : Taken [] m q x true
+  started_taken = subst (λ (z : HeapState). Taken [] z q x true) (sym s.rest)
+      (taken_started h p q x m.looks s.inv s.popped s.sound starts_here)
 
   pub started_marks : MarkingInvariant m p
   started_marks = subst (λ (z : HeapState). MarkingInvariant z p) (sym s.rest)
-      (marks h p q x m.looks s.inv s.popped starts_both)
+      (marks h p q x m.looks s.inv s.popped s.sound starts_here)
 
   pub started_point : (k : HeapState) (r : Piles) → Grows (HasEdge m.shape x) m q k r → WeakPoint k r (left_of k)
   started_point k r = subst (λ (z : HeapState). Grows (HasEdge z.shape x) z q k r → WeakPoint k r (left_of k))
-      (sym s.rest) (point_scanned h p q x m.looks s.inv s.popped starts_both k r)
+      (sym s.rest) (point_scanned h p q x m.looks s.inv s.popped s.sound starts_here k r)
 
   pub started_once : (k : HeapState) (r : Piles) → Grows (HasEdge m.shape x) m q k r → AreScannedOnce k r
   started_once k r = subst (λ (z : HeapState). Grows (HasEdge z.shape x) z q k r → AreScannedOnce k r) (sym s.rest)
-      (once_scanned h p q x m.looks s.inv s.popped starts_both k r)
+      (once_scanned h p q x m.looks s.inv s.popped s.sound starts_here k r)
+
+  -- its entries are left, also after the scan
+  pub started_left : (k : HeapState) (r : Piles) → Grows (HasEdge m.shape x) m q k r → AreLeft x k
+  started_left k r scan a n v d e is at =
+      let begun = entries h p q x m.looks s.inv s.popped s.sound starts_here in
+      let then : k.shape ≡ h.shape = shape_is m k scan.spreads.blackens.rest ∙ ap (λ (z : HeapState). z.shape) s.rest in
+      let left : (left_of (with_looks h m.looks) mark.Black a n → left_of k mark.Black a n) =
+      subst (λ (z : WeakMapsState). IsLeft z mark.Black a n)
+      (sym (ap weak_of scan.spreads.blackens.rest ∙ ap weak_of s.rest)) in
+      left (elim at [
+        | inl map ↦ subst (λ z. left_of (with_looks h m.looks) mark.Black z n) map (begun.as_map n)
+        | inr here ↦ begun.as_delegate a n
+            ((s.inv.holds.colours.shape.delegates a n v d (subst (λ (z : Shape). HasEntry z a n v) then e)).0
+            (subst (λ (z : Shape). IsDelegate z n d) then is) ∙ ap (λ z. Some z) (sym here))
+      ])
 
   -- it was scanned: what it woke were gray cells outside marking zones
   pub started_grays : (k : HeapState) (r : Piles) → Grows (HasEdge m.shape x) m q k r
@@ -216,15 +237,14 @@ module _ (h : HeapState) (p q : Piles) (x : Place) (m : HeapState) (s : Started 
   black_done k r l t = subst (λ (z : HeapState). Grows (HasEdge z.shape x) z q k r
       → Spreads (Reached k.shape (IsBlack k)) k r l t → MarkingInvariant l t → FollowsBlack h p l t) (sym s.rest)
       (λ scan sp new.
-      let both : StartsBoth mark.Black x h (with_looks h m.looks) = starts_both in
-      let bl = (did h p q x m.looks s.inv s.popped both k r l t scan sp new).blackens in
-      let weak = weak_is h p q x m.looks s.inv s.popped both k r l t scan sp new in
+      let bl = (did h p q x m.looks s.inv s.popped s.sound starts_here k r l t scan sp new).blackens in
+      let weak = weak_is h p q x m.looks s.inv s.popped s.sound starts_here k r l t scan sp new in
       record {
         invariant = new;
         blackens = subst (λ (z : LooksState). Blackens (Reached h.shape (IsBlack h)) (with_looks h z) l)
             (sym (ap (λ (w : WeakMapsState). w.looks) weak)) bl;
         gray_is = sp.gray_is ∙ (scan.spreads.gray_is ∙ sym (s.popped.others pile.Gray gray_black));
-        pending_black = black_same h p q x m.looks s.inv s.popped both k r l t scan sp new;
-        pending_live = keeps_live h p q x m.looks s.inv s.popped both k r l t scan sp new;
-        scans = scans_black h p q x m.looks s.inv s.popped both k r l t scan sp new;
+        pending_black = black_same h p q x m.looks s.inv s.popped s.sound starts_here k r l t scan sp new;
+        pending_live = keeps_live h p q x m.looks s.inv s.popped s.sound starts_here k r l t scan sp new;
+        scans = scans_black h p q x m.looks s.inv s.popped s.sound starts_here k r l t scan sp new;
       })

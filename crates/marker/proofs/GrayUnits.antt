@@ -11,7 +11,7 @@ use Rattle.gray_lists.specs.Incoming.{Incoming, list_of, waiting_count}
 use Rattle.heap_core.specs.Shape.{Shape, HasEdge, IsPresent, state_of}
 use Rattle.cell_bits.specs.declared.bits.Bits.{Bits}
 use Rattle.heap_core.specs.Heap.{HeapState, joined, weak_of}
-use Rattle.weak_maps.specs.WeakMaps.{AreParallel, LooksState, Starts}
+use Rattle.weak_maps.specs.WeakMaps.{IsSound, LooksState}
 use Rattle.weak_maps.specs.declared.colours.MarkColour.TheVariants as mark
 use Rattle.barriers.specs.Colours.{IsBlack, grays_outside}
 use Rattle.barriers.specs.PendingLive.{GrayInvariant, buffer_of}
@@ -26,8 +26,8 @@ use Rattle.marker.specs.GrayBits.{AreGraying}
 use Rattle.marker.specs.Shading.{IsForItem, ItemShaded, Shaded}
 use Rattle.marker.specs.Waiting.{IsBlackOnlyComp, IsCompOf, Noted, TakesBuffered, TakesIncoming}
 use Rattle.marker.specs.Units.{DoesGray, Marks, TakesOne}
-use Rattle.marker.specs.Looks.{StartsBoth, with_looks}
-use Rattle.marker.proofs.Looking.{gray_on, live_on, marking_on, more_left, pending_on, point_on, starts_on}
+use Rattle.marker.specs.Looks.{StartsLooks, with_looks}
+use Rattle.marker.proofs.Looking.{gray_on, live_on, marking_on, pending_on, point_on, starts_on}
 use Rattle.marker.proofs.GraySteps.{LeadsToSeen, buffered_step, gray_seen, incoming_step, pile_step}
 
 -- what waits for a compartment waited before, or the compartment's zone takes no gray yet
@@ -83,19 +83,20 @@ popped_some p p0 x popped none =
 
 -- one cell of the gray pile was started, and then followed
 module _ (h : HeapState) (p p0 : Piles) (x : Place) (looks : LooksState) (inv : MarkingInvariant h p)
-    (popped : IsPushed p0 pile.Gray x p) (starts : StartsBoth mark.Gray x h (with_looks h looks)) where
+    (popped : IsPushed p0 pile.Gray x p) (sound : IsSound h.shape.weak)
+    (starts : StartsLooks mark.Gray x h (with_looks h looks)) where
   abbrev m : HeapState
   m = with_looks h looks
 
   entries : StartsEntries h.shape mark.Gray x (left_of h) (left_of m)
-  entries = starts_entries h mark.Gray x m refl starts.map starts.key
+  entries = starts_entries h mark.Gray x m refl sound starts.map starts.key starts.delegate
 
   marks_on : MarkingInvariant m p
-  marks_on = marking_on h looks p inv (more_left h p (left_of h) (left_of m) entries.kept inv.weak)
+  marks_on = marking_on h looks p inv entries.kept
 
   point : WeakPoint m p0 (left_of m)
   point = point_on h looks p0 (left_of m)
-      (gray_starts h p0 p x (left_of h) (left_of m) popped inv.weak entries)
+      (gray_starts h p0 p x (left_of h) (left_of m) popped inv.weak inv.holds.colours.shape entries)
 
   module _ (k : HeapState) (q : Piles) (a b : Incoming) (g : GrayInvariant h p a) (holds : InvariantWhile [] k q)
       (sh : Shaded (HasEdge m.shape x) m p0 k q) (all : LeadsToSeen m.shape x k) (noted : Noted k.shape x a b) where
@@ -142,7 +143,7 @@ module _ (h : HeapState) (p p0 : Piles) (x : Place) (looks : LooksState) (inv : 
     weak_is : weak_of k ≡ weak_of m
     weak_is = ap weak_of sh.rest
 
-    started_here : StartsBoth mark.Gray x h k
+    started_here : StartsLooks mark.Gray x h k
     started_here = starts_on mark.Gray x h m k starts weak_is
 
     did_pile : DoesGray h p a k q b
@@ -166,39 +167,36 @@ pub record StartedGray (h : HeapState) (p p0 : Piles) (x : Place) (m : HeapState
   pub inv : MarkingInvariant h p
   pub popped : IsPushed p0 pile.Gray x p
   pub rest : m ≡ with_looks h m.looks
-  pub map : Starts (λ entry. entry.map) mark.Gray x h.shape.weak.entries h.looks.by_map m.looks.by_map
-  pub key : Starts (λ entry. entry.key) mark.Gray x h.shape.weak.entries h.looks.by_key m.looks.by_key
-  pub parallel : AreParallel (weak_of m)
+  pub sound : IsSound h.shape.weak
+  pub starts : StartsLooks mark.Gray x h m
 
 pub started_gray : (h n m : HeapState) (flown : ℕ → Option Bits) (p s : Piles) (x : Place)
     → MarkingInvariant (joined h flown) p → n ≡ record h { delayed = n.delayed }
-    → IsPushed (pending n s) pile.Gray x p → m ≡ record n { looks = m.looks }
-    → Starts (λ entry. entry.map) mark.Gray x n.shape.weak.entries n.looks.by_map m.looks.by_map
-    → Starts (λ entry. entry.key) mark.Gray x n.shape.weak.entries n.looks.by_key m.looks.by_key
-    → AreParallel (weak_of m) → StartedGray (joined h flown) p (pending m s) x (joined m flown)
-started_gray h n m flown p s x inv taken popped rest map key parallel =
+    → IsPushed (pending n s) pile.Gray x p → m ≡ record n { looks = m.looks } → IsSound m.shape.weak
+    → StartsLooks mark.Gray x n m → StartedGray (joined h flown) p (pending m s) x (joined m flown)
+started_gray h n m flown p s x inv taken popped rest sound starts =
     let here = ap (λ (z : HeapState). joined z flown) taken in
     let same = ap (λ (z : HeapState). pending z s) rest in
     subst (λ (z : HeapState). StartedGray z p (pending m s) x (joined m flown)) here (record {
       inv = subst (λ (z : HeapState). MarkingInvariant z p) (sym here) inv;
       popped = subst (λ (q : Piles). IsPushed q pile.Gray x p) (sym same) popped;
       rest = ap (λ (z : HeapState). joined z flown) rest;
-      map = map;
-      key = key;
-      parallel = parallel;
+      sound = subst (λ (z : HeapState). IsSound z.shape.weak) rest sound;
+      starts = record {
+        map = starts.map;
+        key = starts.key;
+        delegate = starts.delegate;
+        parallel = starts.parallel;
+      };
     })
 
 module _ (h : HeapState) (p p0 : Piles) (x : Place) (m : HeapState) (s : StartedGray h p p0 x m) where
-  starts_both : StartsBoth mark.Gray x h (with_looks h m.looks)
-  starts_both = record {
-    map = s.map;
-    key = s.key;
-    parallel = subst (λ (z : HeapState). AreParallel (weak_of z)) s.rest s.parallel;
-  }
+  starts_here : StartsLooks mark.Gray x h (with_looks h m.looks)
+  starts_here = subst (λ (z : HeapState). StartsLooks mark.Gray x h z) s.rest s.starts
 
   pub started_marks : MarkingInvariant m p
   started_marks = subst (λ (z : HeapState). MarkingInvariant z p) (sym s.rest)
-      (marks_on h p p0 x m.looks s.inv s.popped starts_both)
+      (marks_on h p p0 x m.looks s.inv s.popped s.sound starts_here)
 
   pub does_pile : (k : HeapState) (q : Piles) (a b : Incoming) → GrayInvariant h p a → InvariantWhile [] k q
       → Shaded (HasEdge m.shape x) m p0 k q → LeadsToSeen m.shape x k → Noted k.shape x a b
@@ -206,7 +204,7 @@ module _ (h : HeapState) (p p0 : Piles) (x : Place) (m : HeapState) (s : Started
   does_pile k q a b = subst (λ (z : HeapState). GrayInvariant h p a → InvariantWhile [] k q
       → Shaded (HasEdge z.shape x) z p0 k q → LeadsToSeen z.shape x k → Noted k.shape x a b
       → DoesGray h p a k q b) (sym s.rest)
-      (did_pile h p p0 x m.looks s.inv s.popped starts_both k q a b)
+      (did_pile h p p0 x m.looks s.inv s.popped s.sound starts_here k q a b)
 
 -- a place was taken out of a buffer: the colours are as they were
 buffered_here : (h : HeapState) (bs : List (List Place)) (p : Piles) → InvariantWhile [] h p
@@ -227,6 +225,7 @@ buffered_here h bs p inv = record {
   };
   closed = inv.closed;
   weak_closed = inv.weak_closed;
+  key_closed = inv.key_closed;
 }
 
 -- the same with the bits in flight in place

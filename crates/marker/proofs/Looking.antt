@@ -1,5 +1,5 @@
 -- Other looks are to come, and all else is as it was.
-use Rattle.std.proofs.Common.{◌≡◌, ◌≢◌, ◌↔◌, ◌+◌, ◌<◌, ◌≤◌, ℕ, zero, suc, Bool, List, [], ◌∷◌, Option, Some}
+use Rattle.std.proofs.Common.{◌≡◌, ◌≢◌, ◌⊎◌, ◌↔◌, ◌+◌, ◌<◌, ◌≤◌, ℕ, zero, suc, Bool, List, [], ◌∷◌, Option, Some}
 use Rattle.std.proofs.Common.{None, inl, inr, refl, sym, ap, subst, arith, count_by, cond, is_some, length}
 use Rattle.std.proofs.Common.{slice_get, slice_set}
 use Rattle.std.proofs.Common.{sum_by}
@@ -8,32 +8,42 @@ use Rattle.gz_names.specs.declared.numbers.Place.{Place}
 use Rattle.arena_table.specs.Table.{is_place}
 use Rattle.mark_stack.specs.Stack.{Piles}
 use Rattle.gray_lists.specs.Incoming.{Incoming}
-use Rattle.weak_maps.specs.WeakMaps.{AreParallel, EntryState, HasLooked, LooksState, Starts, WeakMapsState}
-use Rattle.weak_maps.specs.WeakMaps.{WeakTableState}
+use Rattle.weak_maps.specs.Delegates.{DelegateRow}
+use Rattle.weak_maps.specs.Entries.{Starts}
+use Rattle.weak_maps.specs.WeakMaps.{AreParallel, HasLooked, LooksState, WeakMapsState, WeakTableState}
 use Rattle.weak_maps.specs.declared.colours.MarkColour.{MarkColour}
 use Rattle.weak_maps.specs.declared.colours.MarkColour.TheVariants as mark
+use Rattle.weak_maps.specs.declared.entries.WeakEntry.{WeakEntry}
+use Rattle.heap_core.specs.Shape.{IsDelegate}
 use Rattle.heap_core.specs.Heap.{HeapState, weak_of}
 use Rattle.heap_core.proofs.MakingCells.{same-place}
 use Rattle.barriers.specs.PendingBlack.{PendingBlack}
 use Rattle.barriers.specs.PendingLive.{GrayInvariant, PendingLive}
-use Rattle.barriers.specs.Invariant.{InvariantWhile, MarkingInvariant}
+use Rattle.barriers.specs.Colours.{IsBlack}
+use Rattle.barriers.specs.Invariant.{ColourInvariant, InvariantWhile, MarkingInvariant}
 use Rattle.barriers.specs.WeakPoint.{Left, WeakPoint, left_of}
 use Rattle.barriers.proofs.BlackClosure.{pending_is_reached, reached_is_pending}
 use Rattle.barriers.proofs.LiveClosure.{live_is_reached, reached_is_live}
-use Rattle.marker.specs.Looks.{StartsBoth, looks_now, with_looks}
+use Rattle.marker.specs.Looks.{StartsLooks, looks_now, with_looks}
 
 -- what does not speak of looks holds with others
-pub holds_on : (h : HeapState) (l : LooksState) (p : Piles) (followed : List Place) → InvariantWhile followed h p
-    → InvariantWhile followed (with_looks h l) p
-holds_on h l p followed inv = record {
-  colours = record {
-    shape = inv.colours.shape;
-    sized = inv.colours.sized;
-    seen_present = inv.colours.seen_present;
-    no_white = inv.colours.no_white;
-    no_gray = inv.colours.no_gray;
-    regs_black = inv.colours.regs_black;
-  };
+pub colours_on : (h : HeapState) (l : LooksState) → ColourInvariant h → ColourInvariant (with_looks h l)
+colours_on h l inv = record {
+  shape = inv.shape;
+  sized = inv.sized;
+  seen_present = inv.seen_present;
+  no_white = inv.no_white;
+  no_gray = inv.no_gray;
+  regs_black = inv.regs_black;
+}
+
+-- and so does the rest, where the entries that are left in black still are, or their keys are black
+pub holds_on : (h : HeapState) (l : LooksState) (p : Piles) (followed : List Place)
+    → ((m n d : Place) → IsDelegate h.shape n d → IsBlack h m → IsBlack h d → left_of h mark.Black m n
+    → left_of (with_looks h l) mark.Black m n ⊎ IsBlack h n)
+    → InvariantWhile followed h p → InvariantWhile followed (with_looks h l) p
+holds_on h l p followed more inv = record {
+  colours = colours_on h l inv.colours;
   piles = record {
     black = inv.piles.black;
     wake = inv.piles.wake;
@@ -41,11 +51,17 @@ holds_on h l p followed inv = record {
   };
   closed = inv.closed;
   weak_closed = inv.weak_closed;
+  key_closed = λ m n v d e is bm bd. elim (inv.key_closed m n v d e is bm bd) [
+    | inl b ↦ inl b
+    | inr (inl f) ↦ inr (inl f)
+    | inr (inr (inl f)) ↦ inr (inr (inl f))
+    | inr (inr (inr l)) ↦ elim (more m n d is bm bd l) [ inl still ↦ inr (inr (inr still)) | inr b ↦ inl b ]
+  ];
 }
 
 pub point_on : (h : HeapState) (l : LooksState) (p : Piles) (left : Left) → WeakPoint h p left
     → WeakPoint (with_looks h l) p left
-point_on h l p left w = record { black = w.black; gray = w.gray }
+point_on h l p left w = record { black = w.black; gray = w.gray; gray_key = w.gray_key }
 
 -- more entries are left
 pub more_left : (h : HeapState) (p : Piles) (old new : Left) → ((d : MarkColour) (m n : Place) → old d m n → new d m n)
@@ -63,16 +79,24 @@ more_left h p old new more w = record {
     | inr (inr (inl c)) ↦ inr (inr (inl c))
     | inr (inr (inr l)) ↦ inr (inr (inr (more mark.Gray m n l)))
   ];
+  gray_key = λ m n v d e is sm sd takes. elim (w.gray_key m n v d e is sm sd takes) [
+    | inl b ↦ inl b
+    | inr (inl c) ↦ inr (inl c)
+    | inr (inr (inl c)) ↦ inr (inr (inl c))
+    | inr (inr (inr l)) ↦ inr (inr (inr (more mark.Gray m n l)))
+  ];
 }
 
 -- the looks are what was started
-pub starts_on : (c : MarkColour) (x : Place) (h m k : HeapState) → StartsBoth c x h m → weak_of k ≡ weak_of m
-    → StartsBoth c x h k
+pub starts_on : (c : MarkColour) (x : Place) (h m k : HeapState) → StartsLooks c x h m → weak_of k ≡ weak_of m
+    → StartsLooks c x h k
 starts_on c x h m k s e = record {
-  map = subst (λ (w : WeakMapsState). Starts (λ entry. entry.map) c x h.shape.weak.entries h.looks.by_map
-      w.looks.by_map) (sym e) s.map;
-  key = subst (λ (w : WeakMapsState). Starts (λ entry. entry.key) c x h.shape.weak.entries h.looks.by_key
-      w.looks.by_key) (sym e) s.key;
+  map = subst (λ (w : WeakMapsState). Starts (λ (entry : WeakEntry). entry.map) c x h.shape.weak.entries
+      h.looks.by_map w.looks.by_map) (sym e) s.map;
+  key = subst (λ (w : WeakMapsState). Starts (λ (entry : WeakEntry). entry.key) c x h.shape.weak.entries
+      h.looks.by_key w.looks.by_key) (sym e) s.key;
+  delegate = subst (λ (w : WeakMapsState). Starts (λ (row : DelegateRow). row.target) c x
+      h.shape.weak.delegates.rows h.looks.by_delegate w.looks.by_delegate) (sym e) s.delegate;
   parallel = subst (λ (w : WeakMapsState). AreParallel w) (sym e) s.parallel;
 }
 
@@ -90,11 +114,12 @@ gray_on h l p lists g = record {
 }
 
 pub marking_on : (h : HeapState) (l : LooksState) (p : Piles) → MarkingInvariant h p
-    → WeakPoint h p (left_of (with_looks h l)) → MarkingInvariant (with_looks h l) p
-marking_on h l p inv w = record {
-  holds = holds_on h l p [] inv.holds;
+    → ((d : MarkColour) (m n : Place) → left_of h d m n → left_of (with_looks h l) d m n)
+    → MarkingInvariant (with_looks h l) p
+marking_on h l p inv more = record {
+  holds = holds_on h l p [] (λ m n d is bm bd left. inl (more mark.Black m n left)) inv.holds;
   none_woken = inv.none_woken;
-  weak = point_on h l p (left_of (with_looks h l)) w;
+  weak = point_on h l p (left_of (with_looks h l)) (more_left h p (left_of h) (left_of (with_looks h l)) more inv.weak);
   once = record { black = inv.once.black; gray = inv.once.gray };
 }
 
@@ -133,36 +158,38 @@ one_less (x ∷ xs) (suc n) c e =
     let new = sum_by-cons (λ (y : Option MarkColour). cond (is_some y) 1 0) x (slice_set xs n None) in
     omega (arith, old, new, one_less xs n c e)
 
-pub looked_less : (c : MarkColour) (handed : Place × Place × Place) (es : List EntryState) (old new : LooksState)
-    → HasLooked c handed es old new → looks_now new + 1 ≡ looks_now old
-looked_less c handed es old new looked = elim looked.looked [
+pub looked_less : (c : MarkColour) (handed : WeakEntry) (weak : WeakTableState) (old new : LooksState)
+    → HasLooked c handed weak old new → looks_now new + 1 ≡ looks_now old
+looked_less c handed weak old new looked = elim looked.looked [
   | inl (was, now) ↦ (let one = one_less old.by_map looked.number c was in
       let same = ap looks_now now in omega (arith, one, same))
-  | inr (was, now) ↦ (let one = one_less old.by_key looked.number c was in
+  | inr (inl (was, now)) ↦ (let one = one_less old.by_key looked.number c was in
+      let same = ap looks_now now in omega (arith, one, same))
+  | inr (inr (n, row, was, now)) ↦ (let one = one_less old.by_delegate n c was in
       let same = ap looks_now now in omega (arith, one, same))
 ]
 
 -- the entries of a cell were started: one look more is to come for each of them
-some_few : (o : Option MarkColour) → cond (is_some o) 1 0 ≤ 1
+pub some_few : (o : Option MarkColour) → cond (is_some o) 1 0 ≤ 1
 some_few None = omega arith
 some_few (Some c) = omega arith
 
-started_more : (f : EntryState → Place) (x : Place) (es : List EntryState) (old new : List (Option MarkColour))
+started_more : {X : Type 0} (f : X → Place) (x : Place) (es : List X) (old new : List (Option MarkColour))
     → length old ≡ length es → length new ≡ length es
-    → ((n : ℕ) (e : EntryState) → slice_get es n ≡ Some e → f e ≢ x → slice_get new n ≡ slice_get old n)
+    → ((n : ℕ) (e : X) → slice_get es n ≡ Some e → f e ≢ x → slice_get new n ≡ slice_get old n)
     → count_by is_some new ≤ count_by is_some old + count_by (λ e. is_place (f e) x) es
 started_more f x [] [] [] a b others = omega arith
 started_more f x [] (o ∷ old) new a b others = absurd (omega (arith, a))
 started_more f x [] [] (n ∷ new) a b others = absurd (omega (arith, b))
 started_more f x (e ∷ es) [] new a b others = absurd (omega (arith, a))
 started_more f x (e ∷ es) (o ∷ old) [] a b others = absurd (omega (arith, b))
-started_more f x (e ∷ es) (o ∷ old) (n ∷ new) a b others =
+started_more {X} f x (e ∷ es) (o ∷ old) (n ∷ new) a b others =
     let rest = started_more f x es old new (omega (arith, a)) (omega (arith, b))
     (λ m d at other. others (suc m) d at other)
     in
     let was = sum_by-cons (λ (y : Option MarkColour). cond (is_some y) 1 0) o old in
     let now = sum_by-cons (λ (y : Option MarkColour). cond (is_some y) 1 0) n new in
-    let all = sum_by-cons (λ (d : EntryState). cond (is_place (f d) x) 1 0) e es in
+    let all = sum_by-cons (λ (d : X). cond (is_place (f d) x) 1 0) e es in
     elim (same-place (f e) x) [
       | inl (is, tells) ↦ (let one = ap {B = ℕ} (λ (t : Bool). cond t 1 0) tells in
           omega (arith, rest, was, now, all, one, some_few n))
@@ -171,33 +198,51 @@ started_more f x (e ∷ es) (o ∷ old) (n ∷ new) a b others =
           omega (arith, rest, was, now, all, alike))
     ]
 
--- the entries of a cell were started: one look more is to come for each of which it is the map, and for each of which
--- it is the key
-pub starts_few : (c : MarkColour) (x : Place) (h k : HeapState) → StartsBoth c x h k
+-- the entries of a cell were started: one look more is to come for each of which it is the map, the key or the delegate
+pub starts_few : (c : MarkColour) (x : Place) (h k : HeapState) → StartsLooks c x h k
     → k.shape.weak ≡ h.shape.weak → looks_now k.looks ≤ looks_now h.looks
-    + (count_by (λ e. is_place e.map x) h.shape.weak.entries + count_by (λ e. is_place e.key x) h.shape.weak.entries)
+    + ((count_by (λ (e : WeakEntry). is_place e.map x) h.shape.weak.entries
+    + count_by (λ (e : WeakEntry). is_place e.key x) h.shape.weak.entries)
+    + count_by (λ (r : DelegateRow). is_place r.target x) h.shape.weak.delegates.rows)
 starts_few c x h k starts weak =
     let parallel = starts.parallel in
     let sizes = ap (λ (w : WeakTableState). length w.entries) weak in
-    let by_map = started_more (λ e. e.map) x h.shape.weak.entries h.looks.by_map k.looks.by_map
+    let row_sizes = ap (λ (w : WeakTableState). length w.delegates.rows) weak in
+    let by_map = started_more (λ (e : WeakEntry). e.map) x h.shape.weak.entries h.looks.by_map k.looks.by_map
     (omega (arith, starts.map.sized, parallel.0, sizes)) (omega (arith, parallel.0, sizes)) starts.map.others in
-    let by_key = started_more (λ e. e.key) x h.shape.weak.entries h.looks.by_key k.looks.by_key
+    let by_key = started_more (λ (e : WeakEntry). e.key) x h.shape.weak.entries h.looks.by_key k.looks.by_key
     (omega (arith, starts.key.sized, parallel.1, sizes)) (omega (arith, parallel.1, sizes)) starts.key.others in
-    omega (arith, by_map, by_key)
+    let by_delegate = started_more (λ (r : DelegateRow). r.target) x h.shape.weak.delegates.rows h.looks.by_delegate
+    k.looks.by_delegate (omega (arith, starts.delegate.sized, parallel.2, row_sizes))
+    (omega (arith, parallel.2, row_sizes)) starts.delegate.others in
+    omega (arith, by_map, by_key, by_delegate)
 
--- a scan of a cell pays for one look at each entry of which it is the map, and for one where it is the key
-pub scans_paid : (f g : Place → ℕ) (x : Place) → ((y : Place) → f y + cond (is_place y x) 1 0 ≤ g y)
-    → (es : List EntryState) → sum_by (λ e. f e.map + f e.key) es
-    + (count_by (λ e. is_place e.map x) es + count_by (λ e. is_place e.key x) es)
-    ≤ sum_by (λ e. g e.map + g e.key) es
-scans_paid f g x fewer [] = omega arith
-scans_paid f g x fewer (e ∷ es) =
-    let rest = scans_paid f g x fewer es in
-    let was = sum_by-cons (λ (d : EntryState). g d.map + g d.key) e es in
-    let now = sum_by-cons (λ (d : EntryState). f d.map + f d.key) e es in
-    let maps = sum_by-cons (λ (d : EntryState). cond (is_place d.map x) 1 0) e es in
-    let keys = sum_by-cons (λ (d : EntryState). cond (is_place d.key x) 1 0) e es in
-    omega (arith, rest, was, now, maps, keys, fewer e.map, fewer e.key)
+-- what falls by one at a cell pays for one look at each entry of which it is the map, and for one where it is the key
+pub scans_paid : (f g i j : Place → ℕ) (x : Place) → ((y : Place) → f y + cond (is_place y x) 1 0 ≤ g y)
+    → ((y : Place) → i y + cond (is_place y x) 1 0 ≤ j y) → (es : List WeakEntry)
+    → sum_by (λ (e : WeakEntry). f e.map + i e.key) es
+    + (count_by (λ (e : WeakEntry). is_place e.map x) es + count_by (λ (e : WeakEntry). is_place e.key x) es)
+    ≤ sum_by (λ (e : WeakEntry). g e.map + j e.key) es
+scans_paid f g i j x maps keys [] = omega arith
+scans_paid f g i j x maps keys (e ∷ es) =
+    let rest = scans_paid f g i j x maps keys es in
+    let was = sum_by-cons (λ (d : WeakEntry). g d.map + j d.key) e es in
+    let now = sum_by-cons (λ (d : WeakEntry). f d.map + i d.key) e es in
+    let map = sum_by-cons (λ (d : WeakEntry). cond (is_place d.map x) 1 0) e es in
+    let key = sum_by-cons (λ (d : WeakEntry). cond (is_place d.key x) 1 0) e es in
+    omega (arith, rest, was, now, map, key, maps e.map, keys e.key)
+
+-- and for one look at each entry of which it is the delegate
+pub rows_paid : (f g : Place → ℕ) (x : Place) → ((y : Place) → f y + cond (is_place y x) 1 0 ≤ g y)
+    → (rows : List DelegateRow) → sum_by (λ (r : DelegateRow). f r.target) rows
+    + count_by (λ (r : DelegateRow). is_place r.target x) rows ≤ sum_by (λ (r : DelegateRow). g r.target) rows
+rows_paid f g x fewer [] = omega arith
+rows_paid f g x fewer (r ∷ rows) =
+    let rest = rows_paid f g x fewer rows in
+    let was = sum_by-cons (λ (d : DelegateRow). g d.target) r rows in
+    let now = sum_by-cons (λ (d : DelegateRow). f d.target) r rows in
+    let all = sum_by-cons (λ (d : DelegateRow). cond (is_place d.target x) 1 0) r rows in
+    omega (arith, rest, was, now, all, fewer r.target)
 
 -- what is no greater anywhere, and less at a cell
 pub less_at : (f g : Place → ℕ) (x : Place) → ((y : Place) → f y ≤ g y) → f x < g x → (y : Place)

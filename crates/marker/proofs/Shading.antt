@@ -201,6 +201,8 @@ module _ (h : HeapState) (ds : List Bits) (p : Piles) (t : Place) (more : List P
     ];
     weak_closed = λ m n v e bm bn off. elim (inv.weak_closed m n v e (black_only m bm) (black_only n bn) off)
         [ inl b ↦ inl (black_kept v b) | inr pend ↦ inr pend ];
+    key_closed = λ m n v d e is bm bd. elim (inv.key_closed m n v d e is (black_only m bm) (black_only d bd))
+        [ inl b ↦ inl (black_kept n b) | inr pend ↦ inr pend ];
   }
 
 -- what shading a cell gives

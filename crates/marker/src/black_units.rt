@@ -1,5 +1,5 @@
 // A unit of black marking.
-ghost use Rattle.std.specs.Prelude.{◌≡◌, ◌↔◌, ◌≤◌, ◌+◌, ◌*◌, [], false, true};
+ghost use Rattle.std.specs.Prelude.{◌≡◌, ◌↔◌, ◌≤◌, ◌+◌, ◌*◌, [], Some, false, true};
 ghost use Rattle.heap_core.specs.Heap.{joined};
 ghost use Rattle.barriers.specs.Pending.{pending};
 ghost use Rattle.barriers.specs.Colours.{grays_outside};
@@ -23,6 +23,7 @@ pub fn black_unit<F: Flight, L: Ledger>(
     flight: &mut F,
     steps: &mut Steps<L>,
 ) -> bool
+    requires counted { heap.old.ledger ≡ Some L.name }
     requires covers { Covers heap.old.shape (F.bits flight.old) }
     requires invariant { MarkingInvariant (joined heap.old (F.bits flight.old)) (pending heap.old stack.old) }
     ensures does { result ≡ true → FollowsBlack (joined heap.old (F.bits flight.old)) (pending heap.old stack.old)

@@ -3,17 +3,16 @@ use Rattle.heap_core.specs.Shape.{Shape}
 use Rattle.barriers.specs.Spreading.{Covers}
 use Rattle.barriers.proofs.Answering.{bits_within}
 use Rattle.marker.proofs.LookSteps.{graying_by, raises_black, raises_gray, raises_white, shades_shape}
-use Rattle.marker.proofs.weak_units.raise_value.Goals as goal
+use Rattle.marker.proofs.weak_units.raise.Goals as goal
 
 pub weaker_colour-requires-clause-one_made : goal.weaker_colour-requires-clause-one_made
 weaker_colour-requires-clause-one_made g c =
-    bits_within c.args.heap.now (g.F.Flight.bits c.args.flight.now) _ c.requires.marks.colours
-    (c.requires.marks.colours.shape.entries _ _ _ c.requires.entry).0
+    bits_within c.args.heap.now (g.F.Flight.bits c.args.flight.now) c.args.one c.requires.marks.colours c.requires.one
 
 pub weaker_colour-requires-clause-other_made : goal.weaker_colour-requires-clause-other_made
 weaker_colour-requires-clause-other_made g c =
-    bits_within c.args.heap.now (g.F.Flight.bits c.args.flight.now) _ c.requires.marks.colours
-    (c.requires.marks.colours.shape.entries _ _ _ c.requires.entry).1
+    bits_within c.args.heap.now (g.F.Flight.bits c.args.flight.now) c.args.other c.requires.marks.colours
+    c.requires.other
 
 pub shade-requires-clause-group : goal.shade-requires-clause-group
 shade-requires-clause-group g c = graying_by c.args.heap.now.shape _ c.in_state-group.ensures
