@@ -27,7 +27,7 @@ in_set : (s : ZoneSet) (z : ℕ) (g : List ℕ) → zones_in s ≡ g → Contain
 in_set s z g e h = (zones_in-has s z).0 (subst (λ xs. Contains xs z) (sym e) h)
 
 -- what holds of each set and each later one holds of their lists
-each_later : (R : List ℕ → List ℕ → Type 0) (groups : List ZoneSet)
+pub each_later : (R : List ℕ → List ℕ → Type 0) (groups : List ZoneSet)
     → ((i j : ℕ) → i < j → j < length groups
     → R (zones_in (get_or groups i no_zones)) (zones_in (get_or groups j no_zones))) → EachLater R (map zones_in groups)
 each_later R [] h = tt

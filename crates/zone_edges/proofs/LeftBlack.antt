@@ -1,5 +1,7 @@
 -- Changes keep that each wrapper that was not looked at has a black target.
-use Rattle.std.proofs.Common.{◌≡◌, ◌⊎◌, ◌++◌, ◌∷◌, ℕ, zero, suc, List, [], Option, Some, None, IsSomeAnd, inl, inr}
+use Rattle.std.proofs.Common.{◌≡◌, ◌⊎◌, ◌++◌, ◌∷◌, ℕ, zero, suc, Bool, true, false, List, [], Option, Some, None}
+use Rattle.std.proofs.Common.{IsSomeAnd}
+use Rattle.std.proofs.Common.{inl, inr}
 use Rattle.std.proofs.Common.{slice_get, if◌then◌else◌, refl, sym, ap, subst, ◌∙◌}
 use Rattle.std.specs.Option.{option_map}
 use Rattle.std.proofs.lemmas.Bool.{cases_eq}
@@ -10,6 +12,7 @@ use Rattle.gz_names.specs.declared.numbers.CompNo.{CompNo}
 use Rattle.gz_names.specs.declared.numbers.Place.{Place}
 use Rattle.gz_names.specs.declared.replies.Reply.{Reply}
 use Rattle.cell_bits.specs.declared.bits.Bits.{Bits}
+use Rattle.cell_bits.specs.declared.bits.Colour.{Colour}
 use Rattle.cell_bits.specs.declared.bits.Colour.TheVariants as colour
 use Rattle.arena_table.specs.Cells.{CellState}
 use Rattle.arena_table.specs.Table.{new_cell}
@@ -17,7 +20,7 @@ use Rattle.wrappers.specs.WrapperMaps.{AreApart, WrappersState, list_of}
 use Rattle.colour_defs.specs.Graph.{GraphState}
 use Rattle.heap_core.specs.declared.plans.Change.{Change}
 use Rattle.heap_core.specs.declared.plans.Change.TheVariants as change
-use Rattle.heap_core.specs.Shape.{ArenaShape, cell_of, field_at, field_in}
+use Rattle.heap_core.specs.Shape.{ArenaShape, cell_of, field_at, field_in, is_prepared}
 use Rattle.heap_core.specs.Heap.{HeapState, colour_of, colour_in}
 use Rattle.heap_core.specs.Changes.{Makes, MakesWrapper, Writes, wrapper_cell}
 use Rattle.heap_core.specs.Effects.{HoldsWrapper, MakesHeld}
@@ -80,7 +83,20 @@ module _ (old : HeapState) (g : GraphState) (n : Noted) (shows : Shows old g)
             ∙ left z i u q has from stood (ap (λ o. field_in o 0) (sym cell) ∙ to))
       ]
 
-  -- a black cell was made
+  -- a cell was made, black or with the bits of its slot: a black place is black still
+  still_black : (new : HeapState) (zone : ℕ) (p : Place) (cell : CellState) → Makes old zone p cell new → (q : Place)
+      → colour_of old q ≡ colour.Black → colour_of new q ≡ colour.Black
+  still_black new zone p cell m q black = elim (same-place q p) [
+    | inr away ↦ m.colours q away.0 ∙ black
+    | inl here ↦ ap (colour_of new) here.0 ∙ (m.born
+        ∙ either (is_prepared old.shape zone) (colour_of old p) (ap (colour_of old) (sym here.0) ∙ black))
+  ]
+    where
+      either : (b : Bool) (c : Colour) → c ≡ colour.Black → (if b then c else colour.Black) ≡ colour.Black
+      either true c e = e
+      either false c e = refl
+
+  -- a cell was made
   left_made : (new : HeapState) (zone : ℕ) (p : Place) (cell : CellState) → Makes old zone p cell new
       → AreLeftBlack new n
   left_made new zone p cell m z i u q has from at to =
@@ -92,12 +108,8 @@ module _ (old : HeapState) (g : GraphState) (n : Noted) (shows : Shows old g)
             absurd (cc (sym k.1 ∙ ap (cell_of old.shape) same.0 ∙ m.free)))
         | inr other ↦ (let before : cell_of new.shape u ≡ cell_of old.shape u = m.cells u
             ∙ ap (λ b. if b then Some cell else cell_of old.shape u) other.1 in
-            let black = left z i u q has from stood (ap (λ o. field_in o 0) (sym before) ∙ to) in
-            elim (same-place q p) [
-              | inl here ↦ ap (colour_of new) here.0 ∙ m.black
-              | inr away ↦ m.colours q away.0
-                  ∙ black
-            ])
+            let leads : field_at old.shape u 0 ≡ Some q = ap (λ o. field_in o 0) (sym before) ∙ to in
+            still_black new zone p cell m q (left z i u q has from stood leads))
       ]
 
   -- a wrapper of a black cell was made
@@ -129,11 +141,7 @@ module _ (old : HeapState) (g : GraphState) (n : Noted) (shows : Shows old g)
                   cc (sym (ap (λ o. field_in o 0) made_there)
                   ∙ (ap (λ x. field_at m.made.shape x 0) is ∙ (sym (cells u) ∙ to))) in
                   let still : colour_of m.made target ≡ colour.Black =
-                  elim (same-place target p) [
-                    | inl same ↦ ap (colour_of m.made) same.0 ∙ m.makes.black
-                    | inr other
-                        ↦ m.makes.colours target other.0 ∙ black
-                  ] in
+                  still_black m.made zone p (wrapper_cell comp number target) m.makes target black in
                   colours ∙ subst (λ x. colour_of m.made x ≡ colour.Black) leads still)
             ])
         | inr away ↦ before (ap (λ es. option_map (λ entry. entry.1) (slice_get es i)) (sym (m.others z away)) ∙ at)

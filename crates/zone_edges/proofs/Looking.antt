@@ -17,8 +17,8 @@ use Rattle.wrappers.specs.declared.wrapper_maps.WrapperKey.{WrapperKey}
 use Rattle.heap_core.specs.Shape.{Shape, zone_of}
 use Rattle.heap_core.specs.Heap.{HeapState}
 use Rattle.zone_edges.specs.Groups.{Edge}
-use Rattle.zone_edges.specs.Looks.{AreWrappers, IsLookedAt, IsWrapperIn, LeadsFrom, LooksAtNext, cursor_of, left_below}
-use Rattle.zone_edges.specs.Looks.{wrapper_at}
+use Rattle.zone_edges.specs.Looks.{AreWrappers, IsEdgeFor, IsKey, IsLookedAt, IsWrapperIn, LeadsFrom, LooksAtNext}
+use Rattle.zone_edges.specs.Looks.{cursor_of, left_below, wrapper_at}
 use Rattle.zone_edges.specs.Noted.{Noted}
 use Rattle.zone_edges.specs.Sets.{size}
 use Rattle.zone_edges.proofs.Words.{size-more}
@@ -75,25 +75,40 @@ leads_along_one h zones p a b x y e f =
     let same : e.target ≡ f.target = cc (e.target_is, f.target_is) in
     (sym f.from ∙ e.from, sym f.to ∙ ap (zone_of h.shape) (sym same) ∙ e.to)
 
--- what is noted by a look at a wrapper: its edge, where it leads along one
-pub notes_its_edge : (h : HeapState) (zones : ZoneSet) (p : Place) (a b : ℕ) (old new : List ZoneSet)
+-- what is noted by a look at a wrapper: its edge, where it leads along one, and the reverse if it is a key
+pub notes_its_edges : (h : HeapState) (zones : ZoneSet) (p : Place) (a b : ℕ) (old new : List ZoneSet)
     → LeadsFrom h zones p a b
-    → ((x y : ℕ) → Edge new x y ↔ (Edge old x y ⊎ ((x ≡ a) × (y ≡ b))))
-    → (x y : ℕ) → Edge new x y ↔ (Edge old x y ⊎ LeadsFrom h zones p x y)
-notes_its_edge h zones p a b old new leads noted x y = (
+    → ((x y : ℕ) → Edge new x y ↔ (Edge old x y
+    ⊎ (((x ≡ a) × (y ≡ b)) ⊎ (IsKey h.shape p × (x ≡ b) × (y ≡ a)))))
+    → (x y : ℕ) → Edge new x y ↔ (Edge old x y ⊎ IsEdgeFor h zones p x y)
+notes_its_edges h zones p a b old new leads noted x y = (
   λ e. elim ((noted x y).0 e) [
     | inl before ↦ inl before
-    | inr ends ↦ inr (subst (λ u. LeadsFrom h zones p u y) (sym ends.0)
-        (subst (λ v. LeadsFrom h zones p a v) (sym ends.1) leads))
+    | inr (inl ends) ↦ inr (inl (along x y ends.0 ends.1))
+    | inr (inr (key, at_b, at_a)) ↦ inr (inr (key, along y x at_a at_b))
   ],
-  λ e. (noted x y).1 (elim e [ inl before ↦ inl before | inr l ↦ inr (leads_along_one h zones p a b x y leads l) ]),
+  λ e. (noted x y).1 (elim e [
+    | inl before ↦ inl before
+    | inr (inl l) ↦ inr (inl (leads_along_one h zones p a b x y leads l))
+    | inr (inr (key, l)) ↦ (let ends = leads_along_one h zones p a b y x leads l in inr (inr (key, ends.1, ends.0)))
+  ]),
 )
+  where
+    along : (u v : ℕ) → u ≡ a → v ≡ b → LeadsFrom h zones p u v
+    along u v e f =
+        subst (λ w. LeadsFrom h zones p w v) (sym e) (subst (λ w. LeadsFrom h zones p a w) (sym f) leads)
 
 pub notes_nothing : (h : HeapState) (zones : ZoneSet) (p : Place) (sources : List ZoneSet)
     → ((a b : ℕ) → LeadsFrom h zones p a b → ⊥)
-    → (a b : ℕ) → Edge sources a b ↔ (Edge sources a b ⊎ LeadsFrom h zones p a b)
-notes_nothing h zones p sources none a b =
-    (λ e. inl e, λ e. elim e [ inl before ↦ before | inr l ↦ absurd (none a b l) ])
+    → (a b : ℕ) → Edge sources a b ↔ (Edge sources a b ⊎ IsEdgeFor h zones p a b)
+notes_nothing h zones p sources none a b = (
+  λ e. inl e,
+  λ e. elim e [
+    | inl before ↦ before
+    | inr (inl l) ↦ absurd (none a b l)
+    | inr (inr (key, l)) ↦ absurd (none b a l)
+  ],
+)
 
 module _ (s : Shape) (old new : Noted) (zone : ℕ) (same : new.zones ≡ old.zones)
     (raised : cursor_of new zone ≡ cursor_of old zone + 1) (others : (z : ℕ) → z ≢ zone
@@ -178,7 +193,7 @@ module _ (s : Shape) (old new : Noted) (zone : ℕ) (same : new.zones ≡ old.zo
 pub looks_at : (h : HeapState) (old new : Noted) (zone : ℕ) (p : Place) → length old.cursors ≡ 64
     → HasZone old.zones.bits zone → wrapper_at h.shape zone (cursor_of old zone) ≡ Some p → IsWrapperIn h.shape zone p
     → new.zones ≡ old.zones → new.cursors ≡ set old.cursors zone (cursor_of old zone + 1)
-    → ((a b : ℕ) → Edge new.sources a b ↔ (Edge old.sources a b ⊎ LeadsFrom h old.zones p a b))
+    → ((a b : ℕ) → Edge new.sources a b ↔ (Edge old.sources a b ⊎ IsEdgeFor h old.zones p a b))
     → LooksAtNext h old new
 looks_at h old new zone p sized there next is same set_so edges =
     let below : zone < length old.cursors = omega (arith, HasZone-below old.zones.bits zone there) in

@@ -12,9 +12,10 @@ use Rattle.gz_names.specs.declared.zone_sets.ZoneSet.{ZoneSet}
 use Rattle.cell_bits.specs.declared.bits.Colour.TheVariants as colour
 use Rattle.wrappers.specs.WrapperMaps.{AreApart, list_of}
 use Rattle.wrappers.specs.declared.wrapper_maps.WrapperKey.{WrapperKey}
+use Rattle.weak_maps.specs.WeakMaps.{delegate_of, value_of}
 use Rattle.heap_core.specs.declared.plans.Change.{Change}
 use Rattle.heap_core.specs.declared.plans.Change.TheVariants as change
-use Rattle.heap_core.specs.Shape.{Shape, IsPresent, cell_of, field_at, zone_of}
+use Rattle.heap_core.specs.Shape.{IsDelegate, IsPresent, Shape, cell_of, field_at, zone_of}
 use Rattle.heap_core.specs.Heap.{HeapState, colour_of}
 use Rattle.zone_edges.specs.Groups.{Edge}
 use Rattle.zone_edges.specs.Noted.{Noted}
@@ -77,6 +78,19 @@ pub record LeadsFrom (h : HeapState) (zones : ZoneSet) (p : Place) (a b : ℕ) :
   pub apart : a ≢ b
   pub pale : colour_of h target ≢ colour.Black
 
+-- a cell is the key of some entry of a weak map
+abbrev pub IsKey : Shape → Place → Type 0
+IsKey s p = (m v : Place) × (value_of s.weak m p ≡ Some v)
+
+-- an edge is noted for a wrapper: the one along which it leads, and if it is the key of an entry its reverse as well,
+-- since it lives as long as its target does
+abbrev pub IsEdgeFor : HeapState → ZoneSet → Place → ℕ → ℕ → Type 0
+IsEdgeFor h zones p a b = LeadsFrom h zones p a b ⊎ (IsKey h.shape p × LeadsFrom h zones p b a)
+
+-- an entry whose key is a wrapper came with what that leads to
+abbrev pub AreDelegated : Shape → Type 0
+AreDelegated s = (m k v d : Place) → value_of s.weak m k ≡ Some v → IsDelegate s k d → delegate_of s.weak m k ≡ Some d
+
 -- each wrapper of the zones that was not looked at has a black target
 abbrev pub AreLeftBlack : HeapState → Noted → Type 0
 AreLeftBlack h n = (z index : ℕ) (p q : Place) → HasZone n.zones.bits z → cursor_of n z ≤ index
@@ -86,7 +100,7 @@ AreLeftBlack h n = (z index : ℕ) (p q : Place) → HasZone n.zones.bits z → 
 abbrev pub WrapsBlack : HeapState → Change → Type 0
 WrapsBlack h ch = (r z : ℕ) (comp : CompNo) (t : Place) → ch ≡ change.Wrapper r z comp t → colour_of h t ≡ colour.Black
 
--- one wrapper more was looked at, the next of its zone, and its edge is noted where it leads along one
+-- one wrapper more was looked at, the next of its zone, and its edges are noted where it leads along one
 pub record LooksAtNext (h : HeapState) (old new : Noted) : Type 0 where
   pub zone : ℕ
   pub wrapper : Place
@@ -96,7 +110,7 @@ pub record LooksAtNext (h : HeapState) (old new : Noted) : Type 0 where
   pub raised : cursor_of new zone ≡ cursor_of old zone + 1
   pub others : (z : ℕ) → z ≢ zone → cursor_of new z ≡ cursor_of old z
   pub looked : (p : Place) → IsLookedAt h.shape new p ↔ (IsLookedAt h.shape old p ⊎ (p ≡ wrapper))
-  pub edges : (a b : ℕ) → Edge new.sources a b ↔ (Edge old.sources a b ⊎ LeadsFrom h old.zones wrapper a b)
+  pub edges : (a b : ℕ) → Edge new.sources a b ↔ (Edge old.sources a b ⊎ IsEdgeFor h old.zones wrapper a b)
   pub left : left_to_look h.shape old ≡ left_to_look h.shape new + 1
 
 -- a look was done, or each wrapper was looked at

@@ -1,13 +1,15 @@
 // The edges that are noted between zones, and the steps that group the zones.
-ghost use Rattle.std.specs.Prelude.{◌≡◌, ℕ, ◌+◌, ◌⊎◌, ◌↔◌, None, if◌then◌else◌, length};
+ghost use Rattle.std.specs.Prelude.{◌≡◌, ℕ, ◌+◌, ◌⊎◌, ◌↔◌, None, Some, if◌then◌else◌, length};
 ghost use Rattle.gz_names.specs.Zones.{HasZone};
-ghost use Rattle.heap_core.specs.Shape.{out_of};
+ghost use Rattle.gz_names.specs.declared.numbers.Place.{Place as APlace};
+ghost use Rattle.heap_core.specs.Shape.{IsDelegate, out_of};
 ghost use Rattle.zone_edges.specs.Groups.{Edge, AreComponents};
-ghost use Rattle.zone_edges.specs.Looks.{AreLeftBlack, AreWrappers, Looks, cursor_of};
+ghost use Rattle.zone_edges.specs.Walk.{IsSearch};
+ghost use Rattle.zone_edges.specs.Looks.{AreDelegated, AreLeftBlack, AreWrappers, IsKey, Looks, cursor_of};
 
-use crate::look::{edge_from, next_wrapper};
+use crate::look::{edge_from, is_key, next_wrapper};
 use crate::search::Search;
-use gz_names::{Groups, ZoneNo, ZoneSet};
+use gz_names::{Groups, Place, ZoneNo, ZoneSet};
 use heap_core::{Heap, Steps};
 use std::marker::Model;
 use std::sync::ledger::Ledger;
@@ -68,13 +70,17 @@ impl Edges {
     }
 
     /// Looks at the next wrapper of a zone. Where it leads to another one of the zones, to a cell
-    /// that is not black, an edge is noted from its zone to its target's. False exactly where each
-    /// wrapper was looked at. No arena is out, so all mark bits are the heap's. A look reads one
+    /// that is not black, an edge is noted from its zone to its target's; and if it is the key of an
+    /// entry of a weak map, one from its target's zone to its own, since the key lives as long as the
+    /// target does. False exactly where each wrapper was looked at. No arena is out, so all mark bits are the heap's.
+    /// A look reads one
     /// edge, and takes no memory.
     pub fn edge_unit<L: Ledger>(&mut self, heap: &Heap, steps: &mut Steps<L>) -> bool
+        requires counted { heap.now.ledger ≡ Some L.name }
         requires kept { (a : ℕ) → out_of heap.now.shape a ≡ None }
         requires sized { length heap.now.colours ≡ length heap.now.shape.arenas }
         requires wrappers { AreWrappers heap.now.shape }
+        requires delegated { AreDelegated heap.now.shape }
         requires early { (self.old.stepped.bits ≡ 0) ⊎ AreLeftBlack heap.now self.old }
         ensures looked { Looks heap.now self.old result self.new }
         ensures zones { self.new.zones ≡ self.old.zones }
@@ -88,7 +94,7 @@ impl Edges {
         };
         self.current = Some(zone);
         if let Some(to) = edge_from(heap, zones, zone, wrapper, steps) {
-            self.search.note(zone, to);
+            note_wrapper(&mut self.search, heap, wrapper, zone, to);
         }
         true
     }
@@ -128,5 +134,27 @@ impl Edges {
         ensures { AreComponents self.now.sources self.now.zones result }
     {
         self.search.found()
+    }
+}
+
+// Notes the edge along which a wrapper leads, and if the wrapper is a key its reverse as well.
+fn note_wrapper(search: &mut Search, heap: &Heap, wrapper: Place, from: ZoneNo, to: ZoneNo)
+    requires delegated { AreDelegated heap.now.shape }
+    requires wrapper { (d : APlace) × IsDelegate heap.now.shape wrapper d }
+    requires search { IsSearch search.old }
+    requires idle { search.old.depth ≡ 0 }
+    requires unseen { (z : ℕ) → HasZone search.old.seen.bits z → ⊥ }
+    requires from { HasZone search.old.zones.bits from }
+    requires to { HasZone search.old.zones.bits to }
+    ensures search { IsSearch search.new }
+    ensures idle { search.new.depth ≡ 0 }
+    ensures unseen { (z : ℕ) → HasZone search.new.seen.bits z → ⊥ }
+    ensures zones { search.new.zones ≡ search.old.zones }
+    ensures edges { (a b : ℕ) → Edge search.new.sources a b ↔ (Edge search.old.sources a b
+        ⊎ (((a ≡ from) × (b ≡ to)) ⊎ (IsKey heap.now.shape wrapper × (a ≡ to) × (b ≡ from)))) }
+{
+    search.note(from, to);
+    if is_key(heap, wrapper) {
+        search.note(to, from);
     }
 }

@@ -1,7 +1,11 @@
 // The look at one wrapper: which one is next, and the edge that it leads along.
-ghost use Rattle.std.specs.Prelude.{◌≡◌, ℕ, ◌+◌, ◌<◌, length, None, Some, slice_index, slice_set, IfSome, IfNone};
+ghost use Rattle.std.specs.Prelude.{◌≡◌, ◌↔◌, ℕ, ◌+◌, ◌<◌, length, None, Some, slice_index, slice_set, IfSome};
+ghost use Rattle.std.specs.Prelude.{IfNone, IsTrue};
 ghost use Rattle.gz_names.specs.Zones.{HasZone};
-ghost use Rattle.zone_edges.specs.Looks.{AreWrappers, IsWrapperIn, LeadsFrom, TakesNext, wrapper_at};
+ghost use Rattle.gz_names.specs.declared.numbers.Place.{Place as APlace};
+ghost use Rattle.heap_core.specs.Shape.{IsDelegate};
+ghost use Rattle.zone_edges.specs.Looks.{AreDelegated, AreWrappers, IsKey, IsWrapperIn, LeadsFrom, TakesNext};
+ghost use Rattle.zone_edges.specs.Looks.{wrapper_at};
 
 use cell_bits::Colour;
 use gz_names::{Place, ZoneNo, ZoneSet};
@@ -94,6 +98,7 @@ pub fn edge_from<L: Ledger>(
     wrapper: Place,
     steps: &mut Steps<L>,
 ) -> Option<ZoneNo>
+    requires counted { heap.now.ledger ≡ Some L.name }
     requires inside { HasZone zones.bits zone }
     requires wrapper { IsWrapperIn heap.now.shape zone wrapper }
     requires sized { length heap.now.colours ≡ length heap.now.shape.arenas }
@@ -109,4 +114,13 @@ pub fn edge_from<L: Ledger>(
         return None;
     }
     Some(to)
+}
+
+/// Whether a wrapper is the key of some entry of a weak map. It looks at none where no key is a wrapper.
+pub fn is_key(heap: &Heap, wrapper: Place) -> bool
+    requires delegated { AreDelegated heap.now.shape }
+    requires wrapper { (d : APlace) × IsDelegate heap.now.shape wrapper d }
+    ensures { IsTrue result ↔ IsKey heap.now.shape wrapper }
+{
+    heap.has_delegates() && heap.entries_of_key(wrapper, 0).is_some()
 }
