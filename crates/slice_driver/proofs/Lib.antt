@@ -5,7 +5,10 @@ pub mod group_end
 pub mod grouping
 pub mod taking_in
 pub mod measure
+pub mod clearing
 pub mod marking
 pub mod beginning
 pub mod commanding
+pub mod resetting
 pub mod dumping
+pub mod Sent

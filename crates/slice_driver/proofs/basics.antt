@@ -1,6 +1,8 @@
 -- Zones, cells, marks and worlds by themselves: what the other folders stand on.
 pub mod Cells
+pub mod LeftLooks
 pub mod Marks
+pub mod Rows
 pub mod Sorted
 pub mod Woken
 pub mod Worlds

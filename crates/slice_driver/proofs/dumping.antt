@@ -2,6 +2,7 @@
 pub mod Listed
 pub mod Fields
 pub mod Held
+pub mod Reading
 pub mod Worlds
 pub mod Orders
 pub mod Entries

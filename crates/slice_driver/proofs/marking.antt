@@ -1,6 +1,7 @@
 -- Units that report nothing: marking, the beginnings of zones, and why they leave each world as it is.
 pub mod Accounts
 pub mod AtGroupEnd
+pub mod BlackMaps
 pub mod EdgesRead
 pub mod Flights
 pub mod GroupingSteps

@@ -47,9 +47,11 @@ FreesOn old flown names new flying = (given : ℕ) (freed : List Name) → Accou
 -- what a step lists as freed, where this is the last report
 abbrev pub freed_by_report : Option SessionReport → Option Report → List Name
 freed_by_report None now = []
+freed_by_report (Some told.Started) now = []
 freed_by_report (Some told.Groups) now = []
 freed_by_report (Some (told.Ended zones)) now = []
 freed_by_report (Some (told.Swept arena)) now = names_of now
+freed_by_report (Some (told.Stopped zones)) now = []
 
 abbrev pub freed_by : {E : Type 0} → Result SessionStep E → Option Report → List Name
 freed_by (Ok step) now = freed_by_report step.report now

@@ -17,9 +17,10 @@ use Rattle.slice_driver.specs.Collector.{CollectorState}
 use Rattle.slice_driver.specs.Left.{units_left}
 use Rattle.slice_driver.specs.Represents.{Represents}
 use Rattle.slice_driver.specs.Units.{DoesUnit, EndsColoured, IsFreedWord, IsLowestOut, IsSound, KeepsFreedWords}
-use Rattle.slice_driver.specs.Units.{TellsSweep, is_group_end, jobs_at, reports_of, without_arena}
+use Rattle.slice_driver.specs.Units.{StartsWithin, TellsSweep, is_group_end, is_start, jobs_at, reports_of}
+use Rattle.slice_driver.specs.Units.{without_arena}
 use Rattle.slice_driver.specs.UnitsToCome.{units_to_come}
-use Rattle.slice_driver.specs.Working.{IsAtGroupEnd, IsQuietDone, IsResting, IsStill}
+use Rattle.slice_driver.specs.Working.{IsAtGroupEnd, IsAtStart, IsQuietDone, IsResting, IsStill}
 
 -- these arenas are out, each with the slots of its white cells as it was handed to sweeping
 pub record AreOut (s : Shape) (outs : List (ℕ × ℕ)) : Type 0 where
@@ -51,6 +52,10 @@ told step place = if step.reported then reports_of place step.finished else []
 abbrev pub tells_end : Step → Option Report → Bool
 tells_end step place = if step.reported then is_group_end place else false
 
+-- whether it is that marking began
+abbrev pub tells_start : Step → Option Report → Bool
+tells_start step place = if step.reported then is_start place else false
+
 -- the jobs that come with it: the arenas of the zones that end, with their bits, and none but at the end of a group
 abbrev pub jobs_told : Step → Option Report → HeapState → List Job
 jobs_told step place h = if step.reported then jobs_at place h else []
@@ -64,7 +69,9 @@ pub record Advances (limit : ℕ) (old : CollectorState) (flown : ℕ → Option
   pub some : 0 < step.units
   pub most : step.units ≤ limit
   pub less : units_left new flying + step.units ≤ units_left old flown
-  pub to_come : units_to_come new flying + step.units ≤ units_to_come old flown + sweeps_in (told step now)
+  pub to_come : tells_start step now ≡ false
+      → units_to_come new flying + step.units ≤ units_to_come old flown + sweeps_in (told step now)
+  pub starts : tells_start step now ≡ true → StartsWithin old flown new flying
   -- what is told of it
   pub told_some : step.reported ≡ true → IsSome now
   pub told_none : step.reported ≡ false → now ≡ before
@@ -72,8 +79,10 @@ pub record Advances (limit : ℕ) (old : CollectorState) (flown : ℕ → Option
   -- where it tells: one unit that reports is the whole step, and no unit that reports nothing was left before it
   pub one : step.reported ≡ true → step.units ≡ 1
   pub rests : step.reported ≡ true → IsQuietDone old flown
-  -- it is the end of a group exactly where nothing else is left to do, and the lowest arena where only one is out; as a
+  -- it is the beginning of marking exactly where a collection is being prepared and no arena is left to be cleared; it
+  -- is the end of a group exactly where nothing else is left to do, and the lowest arena where only one is out; as a
   -- group ends each present cell has by its bits the colour that the end asks, and the group's arenas are handed over
+  pub started_where : (tells_start step now ≡ true) ↔ IsAtStart old
   pub ended_where : (tells_end step now ≡ true) ↔ IsAtGroupEnd old flown
   pub due_where : IsResting old flown → (a : ℕ) → IsLowestOut old.heap.shape a → (step.reported ≡ true)
       × TellsSweep a now
@@ -84,6 +93,7 @@ pub record Advances (limit : ℕ) (old : CollectorState) (flown : ℕ → Option
   pub out : AreOut new.heap.shape outs
   pub ascending : AscendHanded step.handed
   pub made : new.heap.made ≡ old.heap.made
+  pub ledger : new.heap.ledger ≡ old.heap.ledger
   pub entries : length new.heap.shape.weak.entries ≤ length old.heap.shape.weak.entries
 
 -- what a step asks: the collector stands for a valid world, a collection runs, and these arenas are out
@@ -115,6 +125,7 @@ pub record TakesDue {S O H : Type 0} (bits_of : S → ℕ → Option Bits) (orig
   pub out : AreOut d.heap.shape (left_of (origin_of g))
   pub home : home_of (origin_of g) ≡ home_of (origin_of f)
   pub made : d.heap.made ≡ c.heap.made
+  pub ledger : d.heap.ledger ≡ c.heap.ledger
   pub weak : d.heap.shape.weak ≡ c.heap.shape.weak
 
 -- what taking an arena in asks: it is the lowest that is handed to sweeping, these were the slots of its white cells
@@ -136,4 +147,5 @@ pub record TakesIn (a : ℕ) (bits : Bits) (report : Option Report) (over : Bool
       → units_to_come d (without_arena flown a) ≤ units_to_come c flown
   pub finished : (over ≡ true) ↔ (d.run ≡ None)
   pub made : d.heap.made ≡ c.heap.made
+  pub ledger : d.heap.ledger ≡ c.heap.ledger
   pub weak : d.heap.shape.weak ≡ c.heap.shape.weak

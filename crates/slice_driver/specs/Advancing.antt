@@ -19,6 +19,7 @@ pub record Advances (h : HeapState) (word : ℕ) (k : HeapState) : Type 0 where
 -- the state of a zone once its collection is over
 abbrev pub after_end : State → State
 after_end state.NoGC = state.NoGC
+after_end state.Prepare = state.Prepare
 after_end state.MarkBlackOnly = state.MarkBlackOnly
 after_end state.MarkBlackAndGray = state.MarkBlackAndGray
 after_end state.Sweep = state.NoGC

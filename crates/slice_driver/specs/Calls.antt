@@ -36,15 +36,20 @@ pub record CommandDone {S O : Type 0} (bits_of : S → ℕ → Option Bits) (ori
   pub run : new.run ≡ old.run
   pub origin : origin_of g ≡ origin_of f
   pub made : new.heap.made ≡ old.heap.made + cells_made old.heap cmd result
+  pub ledger : new.heap.ledger ≡ old.heap.ledger
   pub entries : length new.heap.shape.weak.entries ≤ length old.heap.shape.weak.entries + 1
 
--- a collection of these zones began, or none did and nothing changed
+-- the preparation of a collection of these zones began, or none did and nothing changed
 pub record BeginDone {T : Type 0} (old : CollectorState) (zones : ZoneSet) (result : Result T BeginFault)
     (new : CollectorState) : Type 0 where
   -- what it did in each world, and that what is to come is within the bound on units
   pub begun : OnOk result (BeginsIn old zones.bits new)
   pub within : OnOk result (BeginsWithin old zones.bits new)
-  pub started : OnOk result (new.run ≡ Some (record { zones = zones; formed = false }))
+  pub started : OnOk result (new.run ≡ Some (record {
+    zones = zones;
+    formed = false;
+    clearing = Some (record { from = 0; end = length old.heap.shape.arenas });
+  }))
   pub made_zones : OnOk result (AreMade old.heap.shape zones)
   -- why it was not
   pub running : (result ≡ Err begin.Running) ↔ IsSome old.run
@@ -54,4 +59,5 @@ pub record BeginDone {T : Type 0} (old : CollectorState) (zones : ZoneSet) (resu
   pub sound : (flown : ℕ → Option Bits) → IsSound old flown → IsSound new flown
   pub words : OnOk result (KeepsFreedWords old.heap.shape new.heap.shape)
   pub made : new.heap.made ≡ old.heap.made
+  pub ledger : new.heap.ledger ≡ old.heap.ledger
   pub weak : new.heap.shape.weak ≡ old.heap.shape.weak

@@ -19,6 +19,7 @@ use Rattle.mark_stack.specs.Stack.{Piles, no_places}
 use Rattle.barriers.specs.Reached.{Reached}
 use Rattle.barriers.specs.Colours.{IsBlack}
 use Rattle.barriers.specs.Exposing.{BlackOr, Exposes}
+use Rattle.barriers.specs.LeftOut.{ExposesLeftOut}
 use Rattle.slice_driver.specs.Worlds.{IsUnswept, LiesIn, outs_from, owners_of}
 use Rattle.slice_driver.specs.Closures.{AreBlack}
 use Rattle.slice_driver.specs.Collector.{CollectorState}
@@ -69,6 +70,11 @@ SpreadsBlack h p k = (q : Place) → IsBlack k q ↔ Reached k.shape (BlackOr h 
 abbrev pub Exposed : Option Place → HeapState → Piles → HeapState → Piles → Type 0
 Exposed None h p k q = (k ≡ h) × (q ≡ p)
 Exposed (Some x) h p k q = Exposes h p x k q
+
+-- so it did while a collection is being prepared
+abbrev pub ExposedLeftOut : Option Place → HeapState → Piles → HeapState → Piles → Type 0
+ExposedLeftOut None h p k q = (k ≡ h) × (q ≡ p)
+ExposedLeftOut (Some x) h p k q = ExposesLeftOut h p x k q
 
 -- a command leads to a world in which the heap lies, and whose black names are black by these bits
 pub record DoesInWorld (w : World) (c : GraphCmd) (answer : Reply) (new : HeapState) (colours : List Bits) : Type 0

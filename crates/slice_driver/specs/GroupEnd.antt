@@ -8,14 +8,14 @@ use Rattle.gz_names.specs.declared.zone_sets.ZoneSet.{ZoneSet}
 use Rattle.cell_bits.specs.declared.bits.Bits.{Bits}
 use Rattle.zones.specs.declared.states.State.TheVariants as state
 use Rattle.wrappers.specs.WrapperMaps.{AreApart, list_of, without_dead}
-use Rattle.weak_maps.specs.WeakMaps.{AreDistinct, AreParallel, Carries, IsWithoutDead, NoneLeft}
+use Rattle.weak_maps.specs.WeakMaps.{AreParallel, Carries, IsSound as AreEntries, IsWithoutDead, KeepsRows, NoneLeft}
 use Rattle.weak_maps.specs.declared.colours.MarkColour.TheVariants as mark
 use Rattle.mark_stack.specs.Stack.{Piles}
 use Rattle.gray_lists.specs.Incoming.{Incoming, list_of as waiting_for}
 use Rattle.colour_defs.specs.Graph.{GraphState}
 use Rattle.colour_defs.specs.World.{Collection}
 use Rattle.colour_defs.specs.Ends.{IsBlackAtEnd, IsGrayAtEnd, IsWhiteAtEnd}
-use Rattle.heap_core.specs.Shape.{Shape, is_marking, name_at, out_of, state_in, zone_of}
+use Rattle.heap_core.specs.Shape.{IsDelegate, Shape, is_marking, name_at, out_of, state_in, zone_of}
 use Rattle.heap_core.specs.Heap.{HeapState, weak_of}
 use Rattle.heap_core.specs.Sweeping.{handed, is_absent}
 use Rattle.barriers.specs.Reached.{HasEntry}
@@ -24,17 +24,22 @@ use Rattle.barriers.specs.PendingLive.{buffer_of}
 use Rattle.slice_driver.specs.Collector.{CollectorState, RunState}
 
 -- nothing is left to mark for a group: its zones all take gray, no cell is pending, nothing waits for it, no weak
--- entry is to be looked at, and the weak rule adds nothing, in black for any marking zone, in gray for the group
+-- entry is to be looked at, and the weak rule adds nothing, in black for any marking zone and any key, in gray for the
+-- group
 pub record IsMarked (h : HeapState) (p : Piles) (lists : Incoming) (g : ZoneSet) : Type 0 where
   pub begun : (z : ℕ) → HasZone g.bits z → state_in h.shape z ≡ state.MarkBlackAndGray
   pub black_empty : p.black ≡ []
   pub black_fixed : (m k v : Place) → HasEntry h.shape m k v → IsBlack h m → IsBlack h k → is_marking h.shape v ≡ true
       → IsBlack h v
+  pub black_keys : (m k v d : Place) → HasEntry h.shape m k v → IsDelegate h.shape k d → IsBlack h m → IsBlack h d
+      → IsBlack h k
   pub gray_empty : p.gray ≡ []
   pub none_buffered : (z : ℕ) → HasZone g.bits z → buffer_of h z ≡ []
   pub none_incoming : (z n : ℕ) → HasZone g.bits z → slice_get h.shape.comps n ≡ Some z → waiting_for lists n ≡ []
   pub gray_fixed : (m k v : Place) → HasEntry h.shape m k v → IsSeen h m → IsSeen h k
       → HasZone g.bits (zone_of h.shape v) → IsSeen h v
+  pub gray_keys : (m k v d : Place) → HasEntry h.shape m k v → IsDelegate h.shape k d → IsSeen h m → IsSeen h d
+      → HasZone g.bits (zone_of h.shape k) → IsSeen h k
   pub none_black : NoneLeft mark.Black h.looks
   pub none_gray : NoneLeft mark.Gray h.looks
 
@@ -76,6 +81,7 @@ pub record IsEnded (old : HeapState) (g : ZoneSet) (new : HeapState) : Type 0 wh
   pub wrappers : (z : ℕ) → list_of new.shape.wrappers z ≡ without_dead (bit_at g.bits z) (is_absent new.shape)
       (list_of old.shape.wrappers z)
   pub entries : IsWithoutDead (is_absent new.shape) old.shape.weak new.shape.weak
+  pub rows : KeepsRows old.shape.weak new.shape.weak
   pub carries : Carries (weak_of old) (weak_of new)
   pub parallel : AreParallel (weak_of new)
 
@@ -109,7 +115,8 @@ pub record DropsDead (old : HeapState) (g : ZoneSet) (new : HeapState) : Type 0 
   pub wrappers : (z : ℕ) → list_of new.shape.wrappers z ≡ without_dead (bit_at g.bits z) (is_absent old.shape)
       (list_of old.shape.wrappers z)
   pub entries : IsWithoutDead (is_absent old.shape) old.shape.weak new.shape.weak
-  pub distinct : AreDistinct new.shape.weak.entries
+  pub rows : KeepsRows old.shape.weak new.shape.weak
+  pub sound : AreEntries new.shape.weak
   pub carries : Carries (weak_of old) (weak_of new)
   pub parallel : AreParallel (weak_of new)
 

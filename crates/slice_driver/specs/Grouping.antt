@@ -3,7 +3,7 @@ use Rattle.std.specs.Prelude.{◌≡◌, ℕ, true, false, List, [], Some, None}
 use Rattle.gz_names.specs.Zones.{HasZone}
 use Rattle.gz_names.specs.declared.numbers.Place.{Place}
 use Rattle.gz_names.specs.declared.zone_sets.ZoneSet.{ZoneSet}
-use Rattle.heap_core.specs.Shape.{is_marking, out_of}
+use Rattle.heap_core.specs.Shape.{IsDelegate, is_marking, out_of}
 use Rattle.zone_edges.specs.Groups.{AreComponents}
 use Rattle.zone_edges.specs.Looks.{AreAllLookedAt, LooksAtNext}
 use Rattle.barriers.specs.Reached.{HasEntry}
@@ -16,6 +16,8 @@ pub record LooksIn (c d : CollectorState) : Type 0 where
   pub black_empty : c.stack.black ≡ []
   pub black_fixed : (m k v : Place) → HasEntry c.heap.shape m k v → IsBlack c.heap m → IsBlack c.heap k
       → is_marking c.heap.shape v ≡ true → IsBlack c.heap v
+  pub keys_fixed : (m k v d : Place) → HasEntry c.heap.shape m k v → IsDelegate c.heap.shape k d → IsBlack c.heap m
+      → IsBlack c.heap d → IsBlack c.heap k
   pub looks : LooksAtNext c.heap c.edges d.edges
   pub zones_are : d.edges.zones ≡ c.edges.zones
   pub stepped_is : d.edges.stepped ≡ c.edges.stepped
@@ -27,6 +29,7 @@ pub record FormsIn (c : CollectorState) (groups : List ZoneSet) (d : CollectorSt
   pub run : RunState
   pub running : c.run ≡ Some run
   pub unformed : run.formed ≡ false
+  pub started : run.clearing ≡ None
   pub some_zone : (z : ℕ) × HasZone run.zones.bits z
   pub looked : AreAllLookedAt c.heap.shape c.edges
   pub components : AreComponents c.edges.sources c.edges.zones groups

@@ -25,6 +25,8 @@ pub mod Working
 pub mod Advances
 pub mod Serves
 pub mod Present
+pub mod Preparing
+pub mod Resets
 pub mod Sessions
 pub mod Accounts
 pub mod NameKinds

@@ -5,7 +5,8 @@ use Rattle.gz_names.specs.declared.names.Name.TheVariants.{Cell, Wrap}
 use Rattle.gz_names.specs.declared.numbers.Place.{Place}
 use Rattle.gz_names.specs.declared.dumps.DumpLine.{DumpLine}
 use Rattle.gz_names.specs.declared.dumps.DumpLine.TheVariants as line
-use Rattle.weak_maps.specs.WeakMaps.{EntryState, value_of}
+use Rattle.weak_maps.specs.WeakMaps.{value_of}
+use Rattle.weak_maps.specs.declared.entries.WeakEntry.{WeakEntry}
 use Rattle.colour_defs.specs.Ends.{IsAscending}
 use Rattle.colour_defs.specs.Dumps.{IsAscendingWeak, WeakLine, field_lines}
 use Rattle.arena_table.specs.Cells.{CellState}
@@ -88,7 +89,7 @@ entry_named (Some (Cell n)) None value = None
 entry_named (Some (Cell n)) (Some k) None = None
 entry_named (Some (Cell n)) (Some k) (Some v) = Some (record { map = n; key = k; value = v })
 
-abbrev pub entry_in : Shape → Option EntryState → Option NamedEntry
+abbrev pub entry_in : Shape → Option WeakEntry → Option NamedEntry
 entry_in s None = None
 entry_in s (Some e) = entry_named (name_at s e.map) (name_at s e.key) (name_at s e.value)
 

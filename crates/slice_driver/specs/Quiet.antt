@@ -1,22 +1,38 @@
 -- A step that leaves the world as it is.
-use Rattle.std.specs.Prelude.{◌≡◌, ◌≢◌, ◌⊎◌, ◌↔◌, ℕ, true, false, length, Option, Some}
+use Rattle.std.specs.Prelude.{◌≡◌, ◌≢◌, ◌⊎◌, ◌↔◌, ℕ, true, false, length, None, Option, Some, slice_get}
 use Rattle.gz_names.specs.declared.numbers.Place.{Place}
 use Rattle.cell_bits.specs.declared.bits.Bits.{Bits}
+use Rattle.weak_maps.specs.Entries.{Starts}
+use Rattle.weak_maps.specs.declared.colours.MarkColour.{MarkColour}
+use Rattle.weak_maps.specs.declared.colours.MarkColour.TheVariants as mark
+use Rattle.weak_maps.specs.declared.entries.WeakEntry.{WeakEntry}
 use Rattle.zones.specs.declared.states.State.{State}
 use Rattle.zones.specs.declared.states.State.TheVariants as state
 use Rattle.colour_defs.specs.World.{World, Collection}
-use Rattle.heap_core.specs.Shape.{state_in}
+use Rattle.heap_core.specs.Shape.{IsDelegate, state_in, zone_of}
 use Rattle.zone_edges.specs.Looks.{AreAllLookedAt}
 use Rattle.barriers.specs.Colours.{IsBlack}
+use Rattle.barriers.specs.Reached.{HasEntry}
+use Rattle.barriers.specs.WeakPoint.{left_of}
 use Rattle.barriers.specs.PendingBlack.{PendingBlack}
 use Rattle.barriers.specs.PendingLive.{PendingLive}
+use Rattle.heap_core.specs.Heap.{HeapState}
 use Rattle.slice_driver.specs.Collector.{CollectorState, RunState, heap_with}
+use Rattle.slice_driver.specs.declared.collector.Uncleared.{Uncleared}
 use Rattle.slice_driver.specs.Worlds.{IsInFlight}
-use Rattle.slice_driver.specs.Represents.{AreLookedAt, IsColoured, IsCurrent, Represents}
+use Rattle.slice_driver.specs.Represents.{AreLookedAt, IsColoured, IsCurrent, RepresentsMarking}
 
 -- a collection runs, and its groups are formed
 abbrev pub IsFormed : CollectorState → Type 0
 IsFormed c = (r : RunState) × (c.run ≡ Some r) × (r.formed ≡ true)
+
+-- a collection runs whose marking has begun
+abbrev pub IsStarted : CollectorState → Type 0
+IsStarted c = (r : RunState) × (c.run ≡ Some r) × (r.clearing ≡ None)
+
+-- a collection is being prepared, and the mark bits of these arenas are still to be cleared
+abbrev pub IsPreparing : CollectorState → Uncleared → Type 0
+IsPreparing c u = (r : RunState) × (c.run ≡ Some r) × (r.clearing ≡ Some u)
 
 -- a zone's state is as it was, or its gray marking begins: then it is one of the current group
 abbrev pub IsStateAfter : CollectorState → ℕ → State → Type 0
@@ -42,10 +58,10 @@ pub record IsQuiet (c : CollectorState) (flown : ℕ → Option Bits) (d : Colle
   pub live : (p : Place) → PendingLive (heap_with d flying) d.stack d.lists p
       ↔ PendingLive (heap_with c flown) c.stack c.lists p
 
--- in each world that the collector stands for, what was noted before the groups are formed is noted rightly, and each
+-- in a world that the collector stands for, what was noted before the groups are formed is noted rightly, and each
 -- wrapper that was looked at is accounted for
-abbrev pub KeepsLooks : CollectorState → (ℕ → Option Bits) → CollectorState → (ℕ → Option Bits) → Type 0
-KeepsLooks c flown d flying = (r : RunState) (w : World) (k : Collection) → Represents c flown w → c.run ≡ Some r
+abbrev pub KeepsLooks : World → CollectorState → (ℕ → Option Bits) → CollectorState → (ℕ → Option Bits) → Type 0
+KeepsLooks w c flown d flying = (r : RunState) (k : Collection) → RepresentsMarking c flown w → c.run ≡ Some r
     → w.collection ≡ Some k → r.formed ≡ false → AreLookedAt (heap_with c flown) c r w k
     → AreLookedAt (heap_with d flying) d r w k
 
@@ -57,7 +73,26 @@ pub record HasSameLooks (c d : CollectorState) : Type 0 where
   pub cursors_are : d.edges.cursors ≡ c.edges.cursors
   pub stepped : (d.edges.stepped ≡ c.edges.stepped) ⊎ AreAllLookedAt c.heap.shape c.edges
 
--- gray marking of one zone of the current group begins, and nothing else changed
+-- the entries of each black map of a zone whose keys are wrappers are to be looked at in gray for their maps; those
+-- that were to be looked at still are, and no look came but for black maps of the zone
+pub record QueuesBlackMaps (h : HeapState) (zone : ℕ) (k : HeapState) : Type 0 where
+  pub left : (m q v d : Place) → HasEntry h.shape m q v → IsDelegate h.shape q d → zone_of h.shape m ≡ zone
+      → IsBlack h m → left_of k mark.Gray m q
+  pub kept : (a : MarkColour) (m q : Place) → left_of h a m q → left_of k a m q
+  pub sized : length k.looks.by_map ≡ length h.looks.by_map
+  pub by_map : (n : ℕ) (entry : WeakEntry) → slice_get h.shape.weak.entries n ≡ Some entry
+      → (slice_get k.looks.by_map n ≡ slice_get h.looks.by_map n)
+      ⊎ ((zone_of h.shape entry.map ≡ zone) × IsBlack h entry.map)
+  pub by_key : k.looks.by_key ≡ h.looks.by_key
+  pub by_delegate : k.looks.by_delegate ≡ h.looks.by_delegate
+
+-- the entries of a map are to be looked at in gray for it, if it is black
+abbrev pub QueuesIfBlack : HeapState → Place → HeapState → Type 0
+QueuesIfBlack h m k = (IsBlack h m × (k ≡ record h { looks = record h.looks { by_map = k.looks.by_map } })
+    × Starts (λ (entry : WeakEntry). entry.map) mark.Gray m h.shape.weak.entries h.looks.by_map k.looks.by_map)
+    ⊎ ((IsBlack h m → ⊥) × (k ≡ h))
+
+-- gray marking of one zone of the current group begins: the entries of its black maps are to be looked at
 pub record BeginsZone (c : CollectorState) (zone : ℕ) (d : CollectorState) : Type 0 where
   pub formed : IsFormed c
   pub current : IsCurrent c.groups zone
@@ -65,7 +100,11 @@ pub record BeginsZone (c : CollectorState) (zone : ℕ) (d : CollectorState) : T
   pub now : state_in d.heap.shape zone ≡ state.MarkBlackAndGray
   pub others : (z : ℕ) → z ≢ zone → state_in d.heap.shape z ≡ state_in c.heap.shape z
   pub sized : length d.heap.shape.states ≡ length c.heap.shape.states
-  pub heap_is : d.heap ≡ record c.heap { shape = record c.heap.shape { states = d.heap.shape.states } }
+  pub heap_is : d.heap ≡ record c.heap {
+    shape = record c.heap.shape { states = d.heap.shape.states };
+    looks = d.heap.looks;
+  }
+  pub queued : QueuesBlackMaps c.heap zone d.heap
   pub stack_is : d.stack ≡ c.stack
   pub lists_is : d.lists ≡ c.lists
   pub edges_is : d.edges ≡ c.edges

@@ -17,7 +17,7 @@ IsNew h k p = IsPresent k.shape p × (IsPresent h.shape p → ⊥)
 
 -- the invariants hold afterwards; zones, compartments and arenas are as they were, but that some may be added; black
 -- cells stay black, and of those that were there no other is black; both pending closures gain the new cell alone; and
--- edges and entries go only where they led to black
+-- edges and entries go only where they led to black, and the key of a new entry is black
 pub record Serves (h k : HeapState) (s : Piles) (lists : Incoming) : Type 0 where
   pub marks : MarkingInvariant k s
   pub gray : GrayInvariant k s lists
@@ -35,5 +35,6 @@ pub record Serves (h k : HeapState) (s : Piles) (lists : Incoming) : Type 0 wher
   pub pending_live : (p : Place) → PendingLive k s lists p ↔ (PendingLive h s lists p ⊎ IsNew h k p)
   pub edges_then : (p q : Place) → HasEdge h.shape p q → HasEdge k.shape p q ⊎ IsBlack h q
   pub entries_then : (m q v : Place) → HasEntry h.shape m q v → HasEntry k.shape m q v ⊎ IsBlack h v
+  pub keys : (m q v : Place) → HasEntry k.shape m q v → ((u : Place) × HasEntry h.shape m q u) ⊎ IsBlack k q
   pub across : (p q : Place) → HasEdge k.shape p q → zone_of k.shape p ≢ zone_of k.shape q → HasEdge h.shape p q
       ⊎ IsBlack k q

@@ -26,6 +26,7 @@ use Rattle.slice_driver.specs.declared.advance.Step.{Step}
 use Rattle.slice_driver.specs.Advances.{Advances}
 use Rattle.slice_driver.specs.Collector.{CollectorState}
 use Rattle.slice_driver.specs.Represents.{Represents}
+use Rattle.slice_driver.specs.Resets.{ResetsOn}
 
 -- a collector, who sweeps, and the last report
 pub record SessionState (S : Type 0) : Type 0 where
@@ -50,15 +51,15 @@ outcome_of (Err (session.Refused why)) = Some (Err (fault.Refused why))
 outcome_of (Err session.NoMemory) = Some (Err fault.NoMemory)
 outcome_of (Err session.Full) = None
 
--- what a report is about: a session gives none of the others
+-- what a report is about: a session never gives `Done`
 abbrev pub kind_of : Option Report → Option SessionReport
 kind_of None = None
-kind_of (Some report.Started) = None
+kind_of (Some report.Started) = Some told.Started
 kind_of (Some (report.Groups groups)) = Some told.Groups
 kind_of (Some (report.Ended zones grays dead)) = Some (told.Ended zones)
 kind_of (Some (report.Swept arena names)) = Some (told.Swept arena)
 kind_of (Some report.Done) = None
-kind_of (Some (report.Stopped zones)) = None
+kind_of (Some (report.Stopped zones)) = Some (told.Stopped zones)
 
 -- the names that a report lists: gray cells, or what was freed
 abbrev pub names_of : Option Report → List Name
@@ -102,25 +103,39 @@ step_told step = record {
 abbrev pub no_step : SessionStep
 no_step = record { units = 0; report = None; finished = false }
 
--- where a collection runs and some units are asked for, a step of the collector was done; else nothing was. What it
--- reports is the last report
+-- a collector whose edges are counted in a ledger of this name: it stands for the worlds for which it stood
+abbrev pub counted_in : CollectorState → Option ℕ → CollectorState
+counted_in c ledger = record c { heap = record c.heap { ledger = ledger } }
+
+-- where a collection runs and some units are asked for, a step of the collector was done, with its edges counted in a
+-- new ledger; else nothing was. What it reports is the last report
 pub record SessionSteps (limit : ℕ) (old : CollectorState) (flown : ℕ → Option Bits) (before : Option Report)
     (step : SessionStep) (new : CollectorState) (flying : ℕ → Option Bits) (outs : List (ℕ × ℕ)) (now : Option Report)
     : Type 0 where
-  pub steps : 0 < limit → IsSome old.run → Advances limit old flown before (step_told step) new flying outs now
+  pub steps : 0 < limit → IsSome old.run
+      → Advances limit (counted_in old new.heap.ledger) flown before (step_told step) new flying outs now
   pub report_is : IsSome step.report → step.report ≡ kind_of now
   pub none : (0 < limit → IsSome old.run → ⊥) → step ≡ no_step
   pub still : (0 < limit → IsSome old.run → ⊥) → (new ≡ old) × (flying ≡ flown) × (now ≡ before)
 
--- the names of the gray cells in each valid world that a collector stands for; in none of these is a zone marking
+-- where a collection runs, a step of giving it up was done, with its edges counted in a new ledger; else nothing was.
+-- What it reports is the last report
+pub record SessionResets (old : CollectorState) (flown : ℕ → Option Bits) (before : Option Report) (step : SessionStep)
+    (new : CollectorState) (flying : ℕ → Option Bits) (outs : List (ℕ × ℕ)) (now : Option Report) : Type 0 where
+  pub some : IsSome old.run → ResetsOn (counted_in old new.heap.ledger) flown (step_told step) new flying outs now
+  pub report_is : IsSome step.report → step.report ≡ kind_of now
+  pub none : old.run ≡ None → step ≡ no_step
+  pub still : old.run ≡ None → (new ≡ old) × (flying ≡ flown) × (now ≡ before)
+
+-- the names of the gray cells in each valid world that a collector stands for; each of these is settled
 abbrev pub AreGrayNames : CollectorState → (ℕ → Option Bits) → List Name → Type 0
 AreGrayNames c flown names = (w : World) → IsValid w → Represents c flown w → IsSettled w
     × Lists (λ x. IsPresent w x × (Has w.black x → ⊥)) names
 
--- the lines are the dump of each valid world that a collector stands for; in none of these is a zone marking
+-- the lines are the dump of each valid world that a collector stands for; each of these is settled
 abbrev pub AreDumpLines : CollectorState → (ℕ → Option Bits) → List DumpLine → Type 0
 AreDumpLines c flown lines = (w : World) → IsValid w → Represents c flown w → IsSettled w × IsDump w lines
 
--- in each world that a collector stands for, a zone is marking
+-- in each world that a collector stands for, a zone is being prepared or marking
 abbrev pub IsNowhereSettled : CollectorState → (ℕ → Option Bits) → Type 0
 IsNowhereSettled c flown = (w : World) → Represents c flown w → IsSettled w → ⊥

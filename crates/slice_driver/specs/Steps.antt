@@ -1,5 +1,5 @@
 -- What the call of a command does, step by step.
-use Rattle.std.specs.Prelude.{◌≡◌, ◌≤◌, ◌*◌, ℕ, length, Option, None, Result, IfErr, IfOk, OnErr}
+use Rattle.std.specs.Prelude.{◌≡◌, ◌≤◌, ◌*◌, ℕ, true, false, length, Option, None, Result, IfErr, IfOk, OnErr}
 use Rattle.gz_names.specs.declared.numbers.Place.{Place}
 use Rattle.gz_names.specs.declared.commands.GraphCmd.{GraphCmd}
 use Rattle.gz_names.specs.declared.replies.Reply.{Reply}
@@ -9,20 +9,35 @@ use Rattle.cell_bits.specs.declared.bits.Bits.{Bits}
 use Rattle.wrappers.specs.WrapperMaps.{AreApart}
 use Rattle.colour_defs.specs.Step.{HasFewFields}
 use Rattle.heap_core.specs.declared.plans.Plan.{Plan}
+use Rattle.heap_core.specs.Shape.{is_prepared}
 use Rattle.heap_core.specs.Heap.{joined}
 use Rattle.heap_core.specs.Plans.{ChangesBy, IsAble, IsPlanOf, MayWant, handed_by}
+use Rattle.barriers.specs.Invariant.{MarkingInvariant}
+use Rattle.barriers.specs.LeftOut.{PreparingInvariant}
 use Rattle.barriers.specs.Spreading.{Covers}
 use Rattle.slice_driver.specs.Collector.{CollectorState}
-use Rattle.slice_driver.specs.Commands.{Exposed}
+use Rattle.slice_driver.specs.Commands.{Exposed, ExposedLeftOut}
 use Rattle.slice_driver.specs.Rooms.{Widens}
+
+-- what a barrier asks where marking may go on: the marking invariant holds, and no zone is being prepared
+pub record IsMarkable (c : CollectorState) (flown : ℕ → Option Bits) : Type 0 where
+  pub invariant : MarkingInvariant (joined c.heap flown) c.stack
+  pub none_prepared : (z : ℕ) → is_prepared c.heap.shape z ≡ false
+
+-- and where some zone is being prepared: the colours that count are closed
+pub record IsPrepared (c : CollectorState) : Type 0 where
+  pub invariant : PreparingInvariant c.heap c.stack
+  pub prepared : (z : ℕ) × (is_prepared c.heap.shape z ≡ true)
 
 -- a cell went through a barrier, if there was one to expose, and the flight covers what it covered; where there was
 -- none, nothing changed
 pub record GoesThrough (o : Option Place) (c : CollectorState) (flown : ℕ → Option Bits) (d : CollectorState)
     (flying : ℕ → Option Bits) : Type 0 where
-  pub exposed : Exposed o (joined c.heap flown) c.stack (joined d.heap flying) d.stack
+  pub marking : IsMarkable c flown → Exposed o (joined c.heap flown) c.stack (joined d.heap flying) d.stack
+  pub preparing : IsPrepared c → ExposedLeftOut o c.heap c.stack d.heap d.stack × (flying ≡ flown)
   pub rest : d ≡ record c { heap = d.heap; stack = d.stack }
-  pub delayed : d.heap.delayed ≡ c.heap.delayed
+  pub heap_is : d.heap ≡ record c.heap { colours = d.heap.colours }
+  pub sized : length d.heap.colours ≡ length c.heap.colours
   pub still : o ≡ None → (d ≡ c) × (flying ≡ flown)
   pub covers : Covers d.heap.shape flying
 

@@ -15,6 +15,7 @@ use Rattle.slice_driver.specs.Units.{IsFreedWord, IsLowestOut}
 -- the state of a zone once no arena is out any more
 abbrev pub after_sweep : State → State
 after_sweep state.NoGC = state.NoGC
+after_sweep state.Prepare = state.Prepare
 after_sweep state.MarkBlackOnly = state.MarkBlackOnly
 after_sweep state.MarkBlackAndGray = state.MarkBlackAndGray
 after_sweep state.Sweep = state.Finished

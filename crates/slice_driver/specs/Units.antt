@@ -1,6 +1,6 @@
 -- What a collector's calls do in the worlds that it stands for.
-use Rattle.std.specs.Prelude.{◌≡◌, ◌≢◌, ◌+◌, ◌<◌, ◌≤◌, ◌==◌, ℕ, Bool, true, false, List, [], ◌∷◌, Option, Some, None}
-use Rattle.std.specs.Prelude.{Result, Ok}
+use Rattle.std.specs.Prelude.{◌≡◌, ◌≢◌, ◌⊎◌, ◌+◌, ◌<◌, ◌≤◌, ◌==◌, ℕ, Bool, true, false, List, [], ◌∷◌, Option, Some}
+use Rattle.std.specs.Prelude.{None, Result, Ok}
 use Rattle.std.specs.Prelude.{Err, IsSome, slice_get, if◌then◌else◌, Contains, ⊤}
 use Rattle.gz_names.specs.Zones.{zones_in}
 use Rattle.gz_names.specs.declared.names.Name.{Name}
@@ -16,8 +16,9 @@ use Rattle.cell_bits.specs.declared.jobs.Job.{Job}
 use Rattle.colour_defs.specs.Ends.{zones_without}
 use Rattle.colour_defs.specs.Graph.{GraphState}
 use Rattle.colour_defs.specs.Units.{Tally, unit_limit, with_put, with_woken}
-use Rattle.colour_defs.specs.World.{World, Collection, CommandInWorld, woken_by}
-use Rattle.colour_defs.specs.Lawful.{BeginsAtOnce, IsLawfulUnit}
+use Rattle.colour_defs.specs.World.{World, Collection, CommandInWorld, Preparation, WakesLeftOut, also_woken_by}
+use Rattle.colour_defs.specs.World.{first_tally, woken_by}
+use Rattle.colour_defs.specs.Lawful.{IsLawfulUnit, Prepares}
 use Rattle.colour_defs.specs.Laws.{IsValid}
 use Rattle.cell_bits.specs.Colours.{white_mask_of}
 use Rattle.arena_table.specs.Slots.{alloc_word_of}
@@ -27,7 +28,7 @@ use Rattle.heap_core.specs.Heap.{HeapState}
 use Rattle.heap_core.specs.Sweeping.{jobs_of}
 use Rattle.slice_driver.specs.Collector.{CollectorState}
 use Rattle.slice_driver.specs.GroupEnd.{AreColoured}
-use Rattle.slice_driver.specs.Represents.{Represents}
+use Rattle.slice_driver.specs.Represents.{Represents, RepresentsMarking}
 use Rattle.slice_driver.specs.UnitsToCome.{IsWithin, units_to_come}
 
 -- no arena is in flight
@@ -48,11 +49,23 @@ pub record IsSound (c : CollectorState) (flown : ℕ → Option Bits) : Type 0 w
   pub valid : IsValid world
   pub represents : Represents c flown world
 
--- a command was answered: it is one in the world, or memory was wanted and the world is as it was
+-- in which nothing is being prepared
+pub record IsSoundMarking (c : CollectorState) (flown : ℕ → Option Bits) : Type 0 where
+  pub world : World
+  pub valid : IsValid world
+  pub represents : RepresentsMarking c flown world
+
+-- the world after memory was wanted for a command: it is as it was, but that while a collection is being prepared what
+-- a `wrap` is about may have turned black, with what it leads to among the names that the collection leaves out
+abbrev pub IsAfterWant : World → GraphCmd → World → Type 0
+IsAfterWant w cmd v = (v ≡ w) ⊎ ((p : Preparation) × (w.preparing ≡ Some p) × (v ≡ record w { black = v.black })
+    × WakesLeftOut w p (λ s. also_woken_by w.graph cmd ≡ Some s) v)
+
+-- a command was answered: it is one in the world, or memory was wanted
 abbrev pub AnswersIn : World → GraphCmd → Result Reply CmdFault → CollectorState → (ℕ → Option Bits) → Type 0
 AnswersIn w cmd (Ok answer) c flown = (v : World) × CommandInWorld w cmd answer v × Represents c flown v
 AnswersIn w cmd (Err (fault.Refused why)) c flown = CommandInWorld w cmd (reply.Refused why) w × Represents c flown w
-AnswersIn w cmd (Err fault.NoMemory) c flown = Represents c flown w
+AnswersIn w cmd (Err fault.NoMemory) c flown = (v : World) × IsAfterWant w cmd v × Represents c flown v
 
 -- in each world that the collector stood for
 abbrev pub DoesCommand : CollectorState → (ℕ → Option Bits) → GraphCmd → Result Reply CmdFault → CollectorState
@@ -69,23 +82,33 @@ abbrev pub RaisesBy : World → Collection → GraphCmd → Result Reply CmdFaul
 RaisesBy w k cmd (Ok answer) old new = new + unit_limit k.tally ≤ old + unit_limit (tally_after w.graph cmd k)
 RaisesBy w k cmd (Err why) old new = new ≤ old
 
--- it so raises what is to come of the collection that runs, in each world that the collector stood for
-abbrev pub RaisesWithin : CollectorState → (ℕ → Option Bits) → GraphCmd → Result Reply CmdFault → CollectorState
-    → (ℕ → Option Bits) → Type 0
-RaisesWithin old flown cmd result new flying = (w : World) (k : Collection) → IsValid w → Represents old flown w
-    → w.collection ≡ Some k → RaisesBy w k cmd result (units_to_come old flown) (units_to_come new flying)
+-- it so raises what is to come of the collection that runs, in each world that the collector stood for, and not at all
+-- while that is being prepared
+pub record RaisesWithin (old : CollectorState) (flown : ℕ → Option Bits) (cmd : GraphCmd)
+    (result : Result Reply CmdFault) (new : CollectorState) (flying : ℕ → Option Bits) : Type 0 where
+  pub marking : (w : World) (k : Collection) → IsValid w → Represents old flown w → w.collection ≡ Some k
+      → RaisesBy w k cmd result (units_to_come old flown) (units_to_come new flying)
+  pub preparing : (w : World) (p : Preparation) → IsValid w → Represents old flown w → w.preparing ≡ Some p
+      → units_to_come new flying ≤ units_to_come old flown
 
--- a collection of these zones was prepared and began its marking at once, in each world that the collector stood for,
--- which is valid after it
+-- a collection of these zones is being prepared, in each world that the collector stood for, which is valid after it
 abbrev pub BeginsIn : CollectorState → ℕ → CollectorState → Type 0
 BeginsIn old zones new = (flown : ℕ → Option Bits) (w : World) → IsValid w → Represents old flown w → (v : World)
-    × BeginsAtOnce w (zones_in (record { bits = zones })) v × IsValid v × Represents new flown v
+    × Prepares w (zones_in (record { bits = zones })) v × IsValid v × Represents new flown v
 
 -- what is to come of a collection of these zones that began is within its bound on units, in each world in which it
 -- began and for whose beginning the collector stood
 abbrev pub BeginsWithin : CollectorState → ℕ → CollectorState → Type 0
 BeginsWithin old zones new = (flown : ℕ → Option Bits) (w v : World) → IsValid w → Represents old flown w
-    → BeginsAtOnce w (zones_in (record { bits = zones })) v → IsWithin new flown v
+    → Prepares w (zones_in (record { bits = zones })) v → IsWithin new flown v
+
+-- a unit begins the marking of the collection: nothing was left to clear, and with what is to come then the collection
+-- is within its bound on units, in each world that the collector stood for
+pub record StartsWithin (old : CollectorState) (flown : ℕ → Option Bits) (new : CollectorState)
+    (flying : ℕ → Option Bits) : Type 0 where
+  pub cleared : units_to_come old flown ≡ 0
+  pub within : (w : World) (p : Preparation) → IsValid w → Represents old flown w → w.preparing ≡ Some p
+      → p.arenas + 1 + units_to_come new flying ≤ unit_limit (first_tally w p)
 
 -- the reports of a unit
 abbrev pub with_done : Bool → List Report
@@ -146,6 +169,16 @@ is_group_end (Some (report.Swept arena names)) = false
 is_group_end (Some report.Started) = false
 is_group_end (Some report.Done) = false
 is_group_end (Some (report.Stopped zones)) = false
+
+-- a unit reports that marking began
+abbrev pub is_start : Option Report → Bool
+is_start None = false
+is_start (Some (report.Groups groups)) = false
+is_start (Some (report.Ended zones grays told)) = false
+is_start (Some (report.Swept arena names)) = false
+is_start (Some report.Started) = true
+is_start (Some report.Done) = false
+is_start (Some (report.Stopped zones)) = false
 
 -- the jobs that a unit hands to sweeping, by its report: the arenas of the zones that end, with their bits
 abbrev pub jobs_at : Option Report → HeapState → List Job

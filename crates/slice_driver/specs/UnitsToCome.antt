@@ -8,13 +8,13 @@ use Rattle.cell_bits.specs.declared.bits.Bits.{Bits}
 use Rattle.mark_stack.specs.Stack.{Piles}
 use Rattle.gray_lists.specs.Incoming.{Incoming, waiting_count}
 use Rattle.colour_defs.specs.Units.{Tally, unit_limit}
-use Rattle.colour_defs.specs.World.{Collection, World, is_wrapper}
+use Rattle.colour_defs.specs.World.{Collection, Preparation, World, is_wrapper}
 use Rattle.heap_core.specs.Shape.{Shape, cell_of, is_marking, name_at}
 use Rattle.heap_core.specs.Heap.{HeapState}
 use Rattle.barriers.specs.Scans.{gray_scans}
 use Rattle.marker.specs.UnitsToCome.{units_at}
 use Rattle.slice_driver.specs.Collector.{CollectorState, heap_with}
-use Rattle.slice_driver.specs.Remaining.{grouping_left, steps_left}
+use Rattle.slice_driver.specs.Remaining.{clearing_left, grouping_left, steps_left}
 
 -- the places of the slots below a number in an arena
 unfoldable pub slots_of : ℕ → ℕ → List Place
@@ -49,16 +49,19 @@ marking_to_come h p lists =
     units_at h p (present_places h.shape)
     + (sum_by (notes h p) (present_places h.shape) + (waiting_count lists + sum_by length h.buffers))
 
--- what is to come of the collection that runs: its marking, its grouping, and the steps of its zones
+-- what is to come of the collection that runs: its marking, its grouping, and the steps of its zones; or, while it is
+-- being prepared, the arenas that are still to be cleared
 unfoldable pub units_to_come : CollectorState → (ℕ → Option Bits) → ℕ
 units_to_come c flown =
     marking_to_come (heap_with c flown) c.stack c.lists
     + (grouping_left c.heap.shape c.edges c.run + steps_left c.heap.shape.states)
+    + clearing_left c.heap.shape c.run
 
 -- what was done and what is to come is within the bound on units
 abbrev pub IsWithinBound : Tally → ℕ → Type 0
 IsWithinBound t n = t.spent + n ≤ unit_limit t
 
--- so it is of the collection that runs in a world
-abbrev pub IsWithin : CollectorState → (ℕ → Option Bits) → World → Type 0
-IsWithin c flown w = (k : Collection) → w.collection ≡ Some k → IsWithinBound k.tally (units_to_come c flown)
+-- so it is of the collection that runs in a world; and of one that is being prepared within its arenas
+pub record IsWithin (c : CollectorState) (flown : ℕ → Option Bits) (w : World) : Type 0 where
+  pub marking : (k : Collection) → w.collection ≡ Some k → IsWithinBound k.tally (units_to_come c flown)
+  pub preparing : (p : Preparation) → w.preparing ≡ Some p → p.spent + units_to_come c flown ≤ p.arenas

@@ -1,5 +1,5 @@
 -- What the steps of a unit do, and what they find done.
-use Rattle.std.specs.Prelude.{◌≡◌, ◌↔◌, ◌<◌, ◌≤◌, ◌+◌, ℕ, Bool, true, false, List, [], Option, None, Some, IsSome}
+use Rattle.std.specs.Prelude.{◌≡◌, ◌↔◌, ◌<◌, ◌≤◌, ◌+◌, ◌⊎◌, ℕ, Bool, true, false, List, [], Option, None, Some, IsSome}
 use Rattle.std.specs.Prelude.{is_some, if◌then◌else◌, slice_get}
 use Rattle.std.specs.Int.{bit_at}
 use Rattle.gz_names.specs.Zones.{HasZone}
@@ -11,7 +11,7 @@ use Rattle.cell_bits.specs.declared.jobs.Job.{Job}
 use Rattle.colour_defs.specs.World.{World}
 use Rattle.weak_maps.specs.WeakMaps.{NoneLeft}
 use Rattle.weak_maps.specs.declared.colours.MarkColour.TheVariants as mark
-use Rattle.heap_core.specs.Shape.{is_marking, out_of, zone_of}
+use Rattle.heap_core.specs.Shape.{IsDelegate, is_marking, out_of, zone_of}
 use Rattle.barriers.specs.Reached.{HasEntry}
 use Rattle.barriers.specs.Colours.{IsBlack, IsSeen}
 use Rattle.marker.specs.GrayBits.{AreGraying}
@@ -21,9 +21,12 @@ use Rattle.slice_driver.specs.Collector.{CollectorState, RunState, heap_with}
 use Rattle.slice_driver.specs.UnitsToCome.{units_to_come}
 use Rattle.slice_driver.specs.Left.{units_left}
 use Rattle.slice_driver.specs.Quiet.{IsFormed}
+use Rattle.slice_driver.specs.Remaining.{clearing_left}
 use Rattle.slice_driver.specs.Represents.{Represents}
-use Rattle.slice_driver.specs.Units.{AreJobs, DoesUnit, EndsColoured, HandsJobs, IsSound, KeepsFreedWords, flying_after}
-use Rattle.slice_driver.specs.Units.{is_group_end, jobs_at, reports_of}
+use Rattle.slice_driver.specs.declared.collector.Uncleared.{Uncleared}
+use Rattle.slice_driver.specs.Units.{AreJobs, DoesUnit, EndsColoured, HandsJobs, IsSoundMarking, KeepsFreedWords}
+use Rattle.slice_driver.specs.Units.{flying_after}
+use Rattle.slice_driver.specs.Units.{is_group_end, is_start, jobs_at, reports_of}
 
 -- a unit with these reports was done, which hands out no arena and takes none in; the collection goes on, and less is
 -- left of it
@@ -33,6 +36,7 @@ pub record GoesOn (c : CollectorState) (flown : ℕ → Option Bits) (reports : 
   pub words : KeepsFreedWords c.heap.shape d.heap.shape
   pub running : IsSome d.run
   pub made_is : d.heap.made ≡ c.heap.made
+  pub ledger_is : d.heap.ledger ≡ c.heap.ledger
   pub weak_is : d.heap.shape.weak ≡ c.heap.shape.weak
   pub less : units_left d flying < units_left c flown
   pub to_come : units_to_come d flying < units_to_come c flown
@@ -57,29 +61,35 @@ pub record TriesGroup (did : Bool) (found : Type 0) (c : CollectorState) (flown 
   pub shape : d.heap.shape ≡ c.heap.shape
   pub groups : d.groups ≡ c.groups
 
--- the weak rule adds no black cell in a marking zone
-abbrev pub IsBlackFixed : CollectorState → (ℕ → Option Bits) → Type 0
-IsBlackFixed c flown = (m k v : Place) → HasEntry c.heap.shape m k v → IsBlack (heap_with c flown) m
-    → IsBlack (heap_with c flown) k → is_marking c.heap.shape v ≡ true → IsBlack (heap_with c flown) v
+-- the weak rule adds no black cell in a marking zone, nor any key
+pub record IsBlackFixed (c : CollectorState) (flown : ℕ → Option Bits) : Type 0 where
+  pub values : (m k v : Place) → HasEntry c.heap.shape m k v → IsBlack (heap_with c flown) m
+      → IsBlack (heap_with c flown) k → is_marking c.heap.shape v ≡ true → IsBlack (heap_with c flown) v
+  pub keys : (m k v d : Place) → HasEntry c.heap.shape m k v → IsDelegate c.heap.shape k d
+      → IsBlack (heap_with c flown) m → IsBlack (heap_with c flown) d → IsBlack (heap_with c flown) k
 
 -- black marking has nothing left to do: no cell is to be scanned in black, and no entry to be looked at
 pub record IsBlackDone (c : CollectorState) (flown : ℕ → Option Bits) : Type 0 where
   pub pile : c.stack.black ≡ []
   pub looked : NoneLeft mark.Black c.heap.looks
 
--- a collection runs, and its groups are not formed
+-- a collection runs whose marking has begun, and its groups are not formed
 abbrev pub IsGrouping : CollectorState → Type 0
-IsGrouping c = (r : RunState) × (c.run ≡ Some r) × (r.formed ≡ false)
+IsGrouping c = (r : RunState) × (c.run ≡ Some r) × (r.formed ≡ false) × (r.clearing ≡ None)
 
 -- a unit before the groups are formed: each wrapper was looked at, or one more was
 abbrev pub LooksOrAll : Bool → CollectorState → CollectorState → Type 0
-LooksOrAll true c d = (flown : ℕ → Option Bits) → IsSound c flown → IsBlackDone c flown → GoesOn c flown [] d flown
+LooksOrAll true c d =
+    (flown : ℕ → Option Bits) → IsSoundMarking c flown → IsBlackDone c flown → GoesOn c flown [] d flown
 LooksOrAll false c d = AreAllLookedAt c.heap.shape c.edges × (d ≡ c)
 
--- the weak rule adds no gray cell in a group
-abbrev pub IsGrayFixed : CollectorState → (ℕ → Option Bits) → ZoneSet → Type 0
-IsGrayFixed c flown g = (m k v : Place) → HasEntry c.heap.shape m k v → IsSeen (heap_with c flown) m
-    → IsSeen (heap_with c flown) k → HasZone g.bits (zone_of c.heap.shape v) → IsSeen (heap_with c flown) v
+-- the weak rule adds no gray cell in a group, neither a value nor a key
+pub record IsGrayFixed (c : CollectorState) (flown : ℕ → Option Bits) (g : ZoneSet) : Type 0 where
+  pub values : (m k v : Place) → HasEntry c.heap.shape m k v → IsSeen (heap_with c flown) m
+      → IsSeen (heap_with c flown) k → HasZone g.bits (zone_of c.heap.shape v) → IsSeen (heap_with c flown) v
+  pub keys : (m k v d : Place) → HasEntry c.heap.shape m k v → IsDelegate c.heap.shape k d
+      → IsSeen (heap_with c flown) m → IsSeen (heap_with c flown) d → HasZone g.bits (zone_of c.heap.shape k)
+      → IsSeen (heap_with c flown) k
 
 -- the gray marking of a group has nothing left to do
 pub record IsGrayDone (c : CollectorState) (flown : ℕ → Option Bits) (g : ZoneSet) : Type 0 where
@@ -90,7 +100,8 @@ pub record IsGrayDone (c : CollectorState) (flown : ℕ → Option Bits) (g : Zo
 pub record IsGroupingUnit (c : CollectorState) (said : Option Report) (d : CollectorState) : Type 0 where
   pub unformed : IsFormed c → ⊥
   pub goes_on : is_group_end said ≡ false
-  pub goes : (flown : ℕ → Option Bits) → IsSound c flown → IsBlackDone c flown
+  pub no_start : is_start said ≡ false
+  pub goes : (flown : ℕ → Option Bits) → IsSoundMarking c flown → IsBlackDone c flown
       → GoesOn c flown (reports_of said false) d flown
 
 -- the zones of the current group have begun their gray marking, and no others
@@ -99,7 +110,8 @@ HasBegun c = (g : ZoneSet) → slice_get c.groups 0 ≡ Some g → AreGraying c.
 
 -- a zone of the current group began, which had not, or all have
 abbrev pub BeginsOrBegun : Bool → CollectorState → CollectorState → Type 0
-BeginsOrBegun true c d = ((flown : ℕ → Option Bits) → IsSound c flown → GoesOn c flown [] d flown) × (HasBegun c → ⊥)
+BeginsOrBegun true c d =
+    ((flown : ℕ → Option Bits) → IsSoundMarking c flown → GoesOn c flown [] d flown) × (HasBegun c → ⊥)
 BeginsOrBegun false c d = HasBegun c × (d ≡ c)
 
 -- the gray marking of the current group has nothing left to do
@@ -124,9 +136,23 @@ pub record IsResting (c : CollectorState) (flown : ℕ → Option Bits) : Type 0
 abbrev pub IsAtGroupEnd : CollectorState → (ℕ → Option Bits) → Type 0
 IsAtGroupEnd c flown = IsResting c flown × ((a : ℕ) → out_of c.heap.shape a ≡ None)
 
--- no unit that reports nothing is left: black marking is done; before the groups are formed each wrapper was looked at,
--- and after that the zones of the current group have begun their gray marking, and that is done
+-- a collection is being prepared, and no arena is left to be cleared
+pub record IsAtStart (c : CollectorState) : Type 0 where
+  pub run : RunState
+  pub run_is : c.run ≡ Some run
+  pub uncleared : Uncleared
+  pub clearing : run.clearing ≡ Some uncleared
+  pub cleared : clearing_left c.heap.shape c.run ≡ 0
+
+-- memory may be wanted: marking is to begin, or a group is to end
+abbrev pub MayWantMemory : CollectorState → (ℕ → Option Bits) → Type 0
+MayWantMemory c flown = IsAtStart c ⊎ IsAtGroupEnd c flown
+
+-- no unit that reports nothing is left: no arena is to be cleared; black marking is done; before the groups are formed
+-- each wrapper was looked at, and after that the zones of the current group have begun their gray marking, and that is
+-- done
 pub record IsQuietDone (c : CollectorState) (flown : ℕ → Option Bits) : Type 0 where
+  pub cleared : clearing_left c.heap.shape c.run ≡ 0
   pub black : IsBlackDone c flown
   pub looked : IsGrouping c → AreAllLookedAt c.heap.shape c.edges
   pub begun : IsFormed c → HasBegun c
@@ -176,7 +202,8 @@ pub record EndsGroup (handed : Option (List Job)) (over : Bool) (report : Option
   pub jobs : HandsJobs handed c.heap.shape d.heap.shape
   pub coloured : (flown : ℕ → Option Bits) → EndsColoured report c flown d.heap.colours
   pub ended : is_group_end report ≡ true
-  pub left : (flown : ℕ → Option Bits) → IsSound c flown → units_left d (flying_after handed flown) < units_left c flown
-  pub to_come : (flown : ℕ → Option Bits) → IsSound c flown
+  pub left : (flown : ℕ → Option Bits) → IsSoundMarking c flown
+      → units_left d (flying_after handed flown) < units_left c flown
+  pub to_come : (flown : ℕ → Option Bits) → IsSoundMarking c flown
       → units_to_come d (flying_after handed flown) < units_to_come c flown
   pub finished : (over ≡ true) ↔ (d.run ≡ None)

@@ -1,6 +1,6 @@
 -- Where the cells of a heap lie in a world.
-use Rattle.std.specs.Prelude.{◌≡◌, ◌↔◌, ◌⊎◌, ℕ, suc, true, is_some, if◌then◌else◌, List, [], ◌∷◌, map, Option, Some}
-use Rattle.std.specs.Prelude.{Contains}
+use Rattle.std.specs.Prelude.{◌≡◌, ◌↔◌, ◌⊎◌, ◌<◌, ℕ, suc, true, is_some, if◌then◌else◌, List, [], ◌∷◌, map, Option}
+use Rattle.std.specs.Prelude.{Some, Contains, length}
 use Rattle.std.specs.FinMap as places
 use Rattle.gz_names.specs.declared.names.Name.{Name}
 use Rattle.gz_names.specs.declared.numbers.Place.{Place}
@@ -11,7 +11,8 @@ use Rattle.arena_table.specs.Cells.{CellState}
 use Rattle.colour_defs.specs.Graph.{GraphState}
 use Rattle.colour_defs.specs.World.{World, no_weak_names}
 use Rattle.colour_defs.specs.Present as present
-use Rattle.heap_core.specs.Shape.{ArenaShape, AreWhole, Shape, is_white, name_at, out_of, stored_at}
+use Rattle.weak_maps.specs.Delegates.{DelegateRow}
+use Rattle.heap_core.specs.Shape.{ArenaShape, AreWhole, Shape, is_white, name_at, out_of, stored_at, zone_of}
 use Rattle.heap_core.specs.Heap.{HeapState}
 use Rattle.heap_core.specs.Shows.{Shows}
 
@@ -56,3 +57,11 @@ pub record LiesIn (h : HeapState) (w : World) : Type 0 where
   pub weak_is : w.weak ≡ no_weak_names
   pub out_is : w.out ≡ outs_from 0 h.shape.arenas
   pub white_are : (x : Name) (p : Place) → Contains {X = Name × (ℕ × ℕ)} w.white (x, p) ↔ IsUnswept h.shape p x
+
+-- the row of a weak entry whose key is a wrapper: it tells the zone of the key
+pub record IsRowAtHome (s : Shape) (row : DelegateRow) : Type 0 where
+  pub within : row.key.0 < length s.arenas
+  pub zone_is : row.zone ≡ zone_of s row.key
+
+abbrev pub AreRowsAtHome : Shape → Type 0
+AreRowsAtHome s = (row : DelegateRow) → Contains s.weak.delegates.rows row → IsRowAtHome s row

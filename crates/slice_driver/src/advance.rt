@@ -1,5 +1,5 @@
 // Steps of a collection, whoever sweeps: the one place where units, due arenas and their sweeping meet.
-ghost use Rattle.std.specs.Prelude.{◌≡◌, ◌<◌, ℕ, List, None, Option, false, true, IfOk, IsSome, OnErr};
+ghost use Rattle.std.specs.Prelude.{◌≡◌, ◌⊎◌, ◌<◌, ℕ, List, None, Option, false, true, IfOk, IsSome, OnErr, Some};
 ghost use Rattle.std.specs.Int.{bit_at};
 ghost use Rattle.cell_bits.specs.declared.bits.Bits.{Bits as ABits};
 ghost use Rattle.sweeping.specs.ArenasOut.{flying_after, outs_after};
@@ -7,12 +7,12 @@ ghost use Rattle.heap_core.specs.Shape.{out_of};
 ghost use Rattle.slice_driver.specs.Collector.{heap_with};
 ghost use Rattle.slice_driver.specs.EdgesRead.{UnitsReadFew};
 ghost use Rattle.slice_driver.specs.Advances.{Advances, AreOut, MayAdvance, StillOnErr, TakesDue, jobs_told};
+ghost use Rattle.slice_driver.specs.Advances.{tells_start};
 ghost use Rattle.slice_driver.specs.Quiet.{IsFormed};
 ghost use Rattle.slice_driver.specs.Units.{AreJobs, IsLowestOut, IsSound, TellsSweep};
-ghost use Rattle.slice_driver.specs.Working.{HasGroups, IsAtGroupEnd, IsQuietDone, IsStill};
+ghost use Rattle.slice_driver.specs.Working.{HasGroups, IsAtStart, IsQuietDone, IsStill, MayWantMemory};
 
-use crate::collector::Collector;
-use crate::ends::Ended;
+use crate::collector::{Collector, Phase};
 use arena_table::Jobs;
 use gz_names::{NoMemory, Report, ZoneSet};
 use heap_core::Steps;
@@ -46,8 +46,25 @@ impl Step {
         }
     }
 
+    // One unit was done, with which the collection goes on, and which hands nothing to sweeping.
+    fn one(reported: bool) -> Self
+        ensures { result ≡ record {
+          units = 1;
+          reported = reported;
+          finished = false;
+          handed = None;
+        } }
+    {
+        Step {
+            units: 1,
+            reported,
+            finished: false,
+            handed: None,
+        }
+    }
+
     // One unit was done, which reports something and hands nothing to sweeping.
-    fn swept(finished: bool) -> Self
+    pub(crate) fn swept(finished: bool) -> Self
         ensures { result ≡ record {
           units = 1;
           reported = true;
@@ -68,13 +85,15 @@ impl Collector {
     /// Does some units of the collection that runs, at most `limit`. A unit does the first of these that
     /// has work:
     ///
-    /// 1. black marking: a cell that is pending in black, or a weak entry for black (`quiet_units`);
-    /// 2. before the groups are formed, a look at a wrapper (`quiet_units`), or else a grouping step,
+    /// 1. while the collection is being prepared, an arena is cleared (`quiet_units`), or else marking begins,
+    ///    which is reported;
+    /// 2. black marking: a cell that is pending in black, or a weak entry for black (`quiet_units`);
+    /// 3. before the groups are formed, a look at a wrapper (`quiet_units`), or else a grouping step,
     ///    the last of which reports the groups;
-    /// 3. the beginning of a zone of the current group (`quiet_units`);
-    /// 4. gray marking of the current group, or a weak entry for gray (`quiet_units`);
-    /// 5. the lowest arena that is out is taken in, and reported: who sweeps hands over what was swept;
-    /// 6. the current group ends, and is reported. Each present cell of any zone has the colour then
+    /// 4. the beginning of a zone of the current group (`quiet_units`);
+    /// 5. gray marking of the current group, or a weak entry for gray (`quiet_units`);
+    /// 6. the lowest arena that is out is taken in, and reported: who sweeps hands over what was swept;
+    /// 7. the current group ends, and is reported. Each present cell of any zone has the colour then
     ///    that the end asks, and the group's arenas are handed to sweeping with their bits.
     ///
     /// Units that report nothing are done together, as many as come one after another; one that reports is
@@ -85,9 +104,9 @@ impl Collector {
     /// over, and a board may be entered with them.
     ///
     /// It reads at most nine edges a unit, and eight for each gray cell outside marking zones that turns
-    /// black.
+    /// black; as marking begins, one for each wrapper of another zone that may lead into the collection's.
     ///
-    /// Returns `NoMemory` only where a group is to end; then nothing was done.
+    /// Returns `NoMemory` only where marking is to begin or a group to end; then nothing was done.
     #[inline(always)]
     pub fn advance<F: Sweeping, L: Ledger>(
         &mut self,
@@ -97,17 +116,18 @@ impl Collector {
         report: &mut Option<Report>,
         steps: &mut Steps<L>,
     ) -> Result<Step, NoMemory>
+        requires counted { self.old.heap.ledger ≡ Some L.name }
         requires ready { MayAdvance self.old (F.bits flight.old) (F.left (F.origin flight.old)) }
         requires some { 0 < limit }
         ensures done { IfOk result (λ step. Advances limit self.old (F.bits flight.old) report.old
             step self.new (flying_after step.handed (F.bits flight.new))
             (outs_after step.handed (F.left (F.origin flight.new))) report.new) }
-        ensures steps { IfOk result (λ step. UnitsReadFew step.units steps.old
-            (heap_with self.old (F.bits flight.old)) steps.new
+        ensures steps { IfOk result (λ step. tells_start step report.new ≡ false
+            → UnitsReadFew step.units steps.old (heap_with self.old (F.bits flight.old)) steps.new
             (heap_with self.new (flying_after step.handed (F.bits flight.new)))) }
         ensures handed { IfOk result (λ step. AreJobs step.handed
             (jobs_told step report.new self.old.heap)) }
-        ensures err_where { OnErr result (IsAtGroupEnd self.old (F.bits flight.old)) }
+        ensures err_where { OnErr result (MayWantMemory self.old (F.bits flight.old)) }
         ensures still { StillOnErr F.bits F.origin F.home result self.old flight.old report.old
             self.new flight.new report.new }
     {
@@ -121,9 +141,9 @@ impl Collector {
             });
         }
         if let Some(arena) = self.next_out() {
-            return Ok(Step::swept(self.take_due_into(flight, arena, report)));
+            return Ok(Step::swept(self.take_due(flight, arena, report)));
         }
-        self.advance_one(alloc, report)
+        self.advance_one(alloc, report, steps)
     }
 
     /// Does a step like `advance`, where who sweeps takes over what the step hands to sweeping.
@@ -135,15 +155,16 @@ impl Collector {
         report: &mut Option<Report>,
         steps: &mut Steps<L>,
     ) -> Result<Step, NoMemory>
+        requires counted { self.old.heap.ledger ≡ Some L.name }
         requires ready { MayAdvance self.old (F.bits sweeper.old) (F.left (F.origin sweeper.old)) }
         requires some { 0 < limit }
         ensures done { IfOk result (λ step. Advances limit self.old (F.bits sweeper.old) report.old
             step self.new (F.bits sweeper.new) (F.left (F.origin sweeper.new)) report.new) }
-        ensures steps { IfOk result (λ step. UnitsReadFew step.units steps.old
-            (heap_with self.old (F.bits sweeper.old)) steps.new
+        ensures steps { IfOk result (λ step. tells_start step report.new ≡ false
+            → UnitsReadFew step.units steps.old (heap_with self.old (F.bits sweeper.old)) steps.new
             (heap_with self.new (F.bits sweeper.new))) }
         ensures handed { IfOk result (λ step. step.handed ≡ None) }
-        ensures err_where { OnErr result (IsAtGroupEnd self.old (F.bits sweeper.old)) }
+        ensures err_where { OnErr result (MayWantMemory self.old (F.bits sweeper.old)) }
         ensures err { OnErr result (IsStill self.old (F.bits sweeper.old) self.new
             (F.bits sweeper.new)) }
         ensures err_report { OnErr result (report.new ≡ report.old) }
@@ -165,9 +186,15 @@ impl Collector {
         })
     }
 
-    // Does the unit that is left where none is quiet and no arena is out: the end of the current group, or
-    // a grouping step.
-    fn advance_one(&mut self, alloc: Global, report: &mut Option<Report>) -> Result<Step, NoMemory>
+    // Does the unit that is left where none is quiet and no arena is out: the beginning of marking, a grouping step,
+    // or the end of the current group.
+    fn advance_one<L: Ledger>(
+        &mut self,
+        alloc: Global,
+        report: &mut Option<Report>,
+        steps: &mut Steps<L>,
+    ) -> Result<Step, NoMemory>
+        requires counted { self.old.heap.ledger ≡ Some L.name }
         requires rests { (flown : ℕ → Option ABits) × IsSound self.old flown
             × IsQuietDone self.old flown }
         requires running { IsSome self.old.run }
@@ -179,34 +206,30 @@ impl Collector {
             (outs_after step.handed outs) report.new) }
         ensures handed { IfOk result (λ step. AreJobs step.handed
             (jobs_told step report.new self.old.heap)) }
+        ensures steps { IfOk result (λ step. tells_start step report.new ≡ false → steps.new ≡ steps.old) }
         ensures err { OnErr result (self.new ≡ self.old) }
-        ensures err_formed { OnErr result (IsFormed self.old) }
+        ensures err_where { OnErr result (IsFormed self.old ⊎ IsAtStart self.old) }
         ensures err_report { OnErr result (report.new ≡ report.old) }
     {
-        let Some(run) = self.run else {
-            unreachable!();
-        };
-        if run.formed {
-            self.groups_law();
-            let Ended { handed, finished } = self.end_group_into(alloc, report)?;
-            return Ok(Step {
-                units: 1,
-                reported: true,
-                finished,
-                handed,
-            });
+        match self.phase {
+            Phase::Idle => Ok(Step::none()),
+            Phase::Preparing { zones, .. } => {
+                self.start_marking(alloc, zones, report, steps)?;
+                Ok(Step::one(true))
+            }
+            Phase::Grouping { zones, ungrouped } => {
+                Ok(Step::one(self.group_step(zones, ungrouped, report)))
+            }
+            Phase::Grouped { .. } => {
+                self.groups_law();
+                self.end_group_into(alloc, report)
+            }
         }
-        Ok(Step {
-            units: 1,
-            reported: self.group_step(run, report),
-            finished: false,
-            handed: None,
-        })
     }
 
-    // Takes the lowest arena in that is out, and puts what it reports into a place: returns whether the
-    // collection is over.
-    fn take_due_into<F: Sweeping>(
+    /// Takes the lowest arena in that is out, and puts what it reports into a place: returns whether the
+    /// collection is over. It takes no memory.
+    pub fn take_due<F: Sweeping>(
         &mut self,
         flight: &mut F,
         arena: u32,

@@ -16,6 +16,7 @@ impl Collector {
             → units_left self.now flown < 2 ^ 64 }
     {
         self.sizes_law();
+        self.entries_law();
         self.wrappers_law();
     }
 

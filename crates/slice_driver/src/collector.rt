@@ -1,28 +1,65 @@
 // The collector's parts, and what may be asked of it at any time.
-ghost use Rattle.std.specs.Prelude.{◌≡◌, ◌↔◌, ℕ, None, Option, false, IsSome, IsTrue, IfOk, length};
+ghost use Rattle.std.specs.Prelude.{◌≡◌, ◌↔◌, ◌<◌, ℕ, None, Option, Some, false, IsSome, IsTrue, IfOk, IfSome, length};
 ghost use Rattle.cell_bits.specs.declared.bits.Bits.{Bits as ABits};
 ghost use Rattle.colour_defs.specs.Lawful.{IsRunning};
 ghost use Rattle.colour_defs.specs.World.{World, IsSettled, first_world};
-ghost use Rattle.heap_core.specs.Shape.{is_marking_state, state_in};
+ghost use Rattle.heap_core.specs.Shape.{is_marking_state, is_prepared, state_in};
 ghost use Rattle.slice_driver.specs.Units.{none_flown};
 ghost use Rattle.slice_driver.specs.Represents.{Represents};
 
 use gray_lists::Lists;
 use gz_names::{NoMemory, ZoneSet};
-use heap_core::Heap;
+use heap_core::{Heap, Steps};
 use mark_stack::Stack;
 use std::alloc::Global;
 use std::marker::Model;
+use std::sync::ledger::{Blank, Ledger};
 use sweep_groups::GroupOrder;
 use zone_edges::Edges;
 
-/// The collection that runs.
+/// How far a collection is.
 #[derive(Clone, Copy, Debug, PartialEq, Eq)]
-pub struct Run {
-    /// Its zones.
-    pub zones: ZoneSet,
-    /// Whether the groups are formed.
-    pub formed: bool,
+pub enum Phase {
+    /// None runs.
+    Idle,
+    /// Its zones are being prepared: mark bits are still to be cleared.
+    Preparing {
+        zones: ZoneSet,
+        uncleared: Uncleared,
+    },
+    /// Its zones are marked, and the groups are still to be formed: some zones had no grouping step yet.
+    Grouping {
+        zones: ZoneSet,
+        ungrouped: ZoneSet,
+    },
+    /// The groups of its zones are formed.
+    Grouped {
+        zones: ZoneSet,
+    },
+}
+
+impl Phase {
+    ghost use Rattle.slice_driver.specs.Collector.{run_of};
+
+    /// The zones of the collection, if one runs.
+    pub fn zones(self) -> ZoneSet
+        ensures { IfSome (run_of self) (λ run. result ≡ run.zones) }
+    {
+        match self {
+            Phase::Idle => ZoneSet::new(),
+            Phase::Preparing { zones, .. }
+            | Phase::Grouping { zones, .. }
+            | Phase::Grouped { zones } => zones,
+        }
+    }
+}
+
+/// The arenas whose mark bits are still to be cleared: those of a collection's zones from a number on, and
+/// below the end.
+#[derive(Clone, Copy, Debug, PartialEq, Eq)]
+pub struct Uncleared {
+    pub from: u32,
+    pub end: u32,
 }
 
 /// A heap, and the collection that runs over it.
@@ -33,9 +70,7 @@ pub struct Collector {
     pub(crate) lists: Lists,
     pub(crate) edges: Edges,
     pub(crate) order: GroupOrder,
-    pub(crate) run: Option<Run>,
-    // The zones of the collection that had no grouping step yet.
-    pub(crate) ungrouped: ZoneSet,
+    pub(crate) phase: Phase,
 }
 
 impl Model for Collector {
@@ -51,10 +86,10 @@ impl Model for Collector {
       lists = c.lists;
       edges = c.edges;
       groups = c.order;
-      run = run_of c.run;
+      run = run_of c.phase;
     } };
 
-    ghost invariant = { λ c. IsKept c.heap.shape c.edges c.order c.run c.ungrouped };
+    ghost invariant = { λ c. IsKept c.heap.shape c.edges c.order c.phase };
 }
 
 impl Collector {
@@ -67,15 +102,16 @@ impl Collector {
         ensures made { IfOk result (λ c. c.heap.made ≡ 0) }
         ensures entries { IfOk result (λ c. length c.heap.shape.weak.entries ≡ 0) }
     {
-        Ok(Collector {
+        let collector = Collector {
             heap: Heap::new(alloc)?,
             stack: Stack::new(alloc)?,
             lists: Lists::new(alloc),
             edges: Edges::new(),
             order: GroupOrder::new(),
-            run: None,
-            ungrouped: ZoneSet::new(),
-        })
+            phase: Phase::Idle,
+        };
+        collector.entries_law();
+        Ok(collector)
     }
 
     /// Whether a collection runs, in each world that the collector stands for.
@@ -84,20 +120,33 @@ impl Collector {
         ensures worlds { (flown : ℕ → Option ABits) (w : World) → Represents self.now flown w
             → IsTrue result ↔ IsRunning w }
     {
-        self.run.is_some()
+        !matches!(&self.phase, Phase::Idle)
     }
 
-    /// Whether no zone is marking, in each world that the collector stands for.
+    /// Whether no zone is marking and none is being prepared, in each world that the collector stands for.
     pub fn settled(&self) -> bool
         ensures states { IsTrue result
-            ↔ ((z : ℕ) → is_marking_state (state_in self.now.heap.shape z) ≡ false) }
+            ↔ ((z : ℕ) → (is_marking_state (state_in self.now.heap.shape z) ≡ false)
+            × (is_prepared self.now.heap.shape z ≡ false)) }
         ensures worlds { (flown : ℕ → Option ABits) (w : World) → Represents self.now flown w
             → IsTrue result ↔ IsSettled w }
     {
-        match self.heap.marking().first() {
-            Some(_) => false,
-            None => true,
-        }
+        self.heap.marking().is_empty() && self.heap.preparing().is_empty()
+    }
+
+    /// From now on the edges that are read are counted, from 0 on, in a new ledger and in no other.
+    pub fn count_edges<L: Ledger>(&mut self, blank: Blank) -> Steps<L>
+        requires name { blank.name ≡ L.name }
+        requires parts { blank.parts ≡ L.parts }
+        requires some { 0 < blank.parts }
+        ensures none { result ≡ 0 }
+        ensures ledger { self.new ≡ record self.old {
+          heap = record self.old.heap { ledger = Some L.name };
+        } }
+        ensures worlds { (flown : ℕ → Option ABits) (w : World)
+            → Represents self.old flown w ↔ Represents self.new flown w }
+    {
+        self.heap.count_edges::<L>(blank)
     }
 
     /// How many cells were ever made.

@@ -20,7 +20,7 @@ use heap_core::Heap;
 use std::alloc::Global;
 
 impl Collector {
-    /// The names of the gray cells, ascending, where no zone is marking.
+    /// The names of the gray cells, ascending, where no zone is being prepared or marking.
     pub fn gray_names<F: Flight>(&self, alloc: Global, flight: &mut F) -> Result<NameList, NoMemory>
         requires sound { IsSound self.now (F.bits flight.old) }
         ensures names { IfOk result (λ names. (w : World)

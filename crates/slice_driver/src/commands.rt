@@ -1,16 +1,14 @@
 // Commands on the graph, with their barriers.
-ghost use Rattle.std.specs.Prelude.{◌≡◌, IsSome, OnErr, OnOk, length};
+ghost use Rattle.std.specs.Prelude.{◌≡◌, ◌⊎◌, IsSome, OnErr, OnOk, length, Some};
 ghost use Rattle.std.specs.Option.{ForSome};
 ghost use Rattle.colour_defs.specs.Step.{HasFewFields};
 ghost use Rattle.wrappers.specs.WrapperMaps.{AreApart};
 ghost use Rattle.heap_core.specs.Shape.{IsPresent};
-ghost use Rattle.heap_core.specs.Heap.{joined};
 ghost use Rattle.heap_core.specs.Effects.{HasRoom};
-ghost use Rattle.barriers.specs.Invariant.{MarkingInvariant};
 ghost use Rattle.barriers.specs.Spreading.{Covers};
 ghost use Rattle.slice_driver.specs.Calls.{CommandDone};
 ghost use Rattle.slice_driver.specs.Rooms.{IsRoomy, Widens, arenas_after};
-ghost use Rattle.slice_driver.specs.Steps.{GoesThrough};
+ghost use Rattle.slice_driver.specs.Steps.{GoesThrough, IsMarkable, IsPrepared};
 ghost use Rattle.slice_driver.specs.Units.{IsSound};
 
 use crate::collector::Collector;
@@ -36,6 +34,7 @@ impl Collector {
         cmd: GraphCmd,
         steps: &mut Steps<L>,
     ) -> Result<Reply, CmdFault>
+        requires counted { self.old.heap.ledger ≡ Some L.name }
         requires sound { IsSound self.old (F.bits flight.old) }
         requires few { HasRoom self.old.heap cmd }
         requires fields { HasFewFields cmd }
@@ -84,10 +83,10 @@ impl Collector {
         place: Option<Place>,
         steps: &mut Steps<L>,
     )
+        requires counted { self.old.heap.ledger ≡ Some L.name }
         requires covers { Covers self.old.heap.shape (F.bits flight.old) }
         requires present { ForSome place (IsPresent self.old.heap.shape) }
-        requires invariant { MarkingInvariant (joined self.old.heap (F.bits flight.old))
-            self.old.stack }
+        requires phase { IsMarkable self.old (F.bits flight.old) ⊎ IsPrepared self.old }
         ensures through { GoesThrough place self.old (F.bits flight.old) self.new
             (F.bits flight.new) }
         ensures origin { F.origin flight.new ≡ F.origin flight.old }

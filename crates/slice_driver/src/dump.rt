@@ -17,14 +17,22 @@ use crate::listings::{NamedCell, NamedEntry, cells_by_name, entries_by_name, pus
 use barriers::colour;
 use cell_bits::{Colour, Flight};
 use gz_names::{DumpColour, DumpLine, NoMemory};
-use heap_core::Heap;
+use heap_core::{Heap, Steps};
 use std::alloc::Global;
+use std::sync::ledger::Ledger;
 
 impl Collector {
-    /// The dump of the heap where no zone is marking: a line for each present cell with its colour, by
-    /// name; a line for each edge that is not null, by object and field; a line for each weak entry, by
-    /// map and key; and the end. The bits of arenas that are being swept are read from the flight.
-    pub fn dump<F: Flight>(&self, alloc: Global, flight: &mut F) -> Result<Vec<DumpLine>, NoMemory>
+    /// The dump of the heap where no zone is being prepared or marking: a line for each present cell with
+    /// its colour, by name; a line for each edge that is not null, by object and field; a line for each
+    /// weak entry, by map and key; and the end. The bits of arenas that are being swept are read from the
+    /// flight.
+    pub fn dump<F: Flight, L: Ledger>(
+        &self,
+        alloc: Global,
+        flight: &mut F,
+        steps: &mut Steps<L>,
+    ) -> Result<Vec<DumpLine>, NoMemory>
+        requires counted { self.now.heap.ledger ≡ Some L.name }
         requires sound { IsSound self.now (F.bits flight.old) }
         ensures lines { IfOk result (λ lines. (w : World)
             → Represents self.now (F.bits flight.old) w → IsSettled w → IsDump w lines.items) }
@@ -37,7 +45,7 @@ impl Collector {
         let cells = cells_by_name(&self.heap, alloc)?;
         let mut lines = Vec::new(alloc);
         push_cell_lines(&self.heap, flight, &cells, &mut lines)?;
-        push_edge_lines(&self.heap, &cells, &mut lines)?;
+        push_edge_lines(&self.heap, &cells, &mut lines, steps)?;
         push_entry_lines(&entries_by_name(&self.heap, alloc)?, &mut lines)?;
         lines.push(DumpLine::End)?;
         Ok(lines)
@@ -68,18 +76,20 @@ fn push_cell_lines<F: Flight>(
 }
 
 // Adds the lines of the edges of these cells.
-fn push_edge_lines(
+fn push_edge_lines<L: Ledger>(
     heap: &Heap,
     cells: &[NamedCell],
     lines: &mut Vec<DumpLine>,
+    steps: &mut Steps<L>,
 ) -> Result<(), NoMemory>
+    requires counted { heap.now.ledger ≡ Some L.name }
     requires held { AreFieldsHeld heap.now.shape }
     requires cells { All (λ (cell : ANamedCell). IsPresent heap.now.shape cell.place) cells.now }
     ensures { OnOk result (lines.new.items
         ≡ lines.old.items ++ flat_map (λ (cell : ANamedCell). edge_lines_at heap.now.shape cell.place) cells.now) }
 {
     for cell in cells {
-        push_edges(heap, cell.place, lines)?;
+        push_edges(heap, cell.place, lines, steps)?;
     }
     Ok(())
 }

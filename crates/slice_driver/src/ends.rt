@@ -20,11 +20,12 @@ ghost use Rattle.slice_driver.specs.GroupEnd.{IsReady};
 ghost use Rattle.slice_driver.specs.HandingOut.{HandsOut};
 ghost use Rattle.slice_driver.specs.NameKinds.{is_cell};
 ghost use Rattle.slice_driver.specs.Sweeping.{AreFreed};
-ghost use Rattle.slice_driver.specs.Units.{IsLowestOut, IsSound};
+ghost use Rattle.slice_driver.specs.Units.{IsLowestOut, IsSoundMarking};
 ghost use Rattle.slice_driver.specs.Units.{TellsSweep};
 ghost use Rattle.slice_driver.specs.Working.{EndsGroup};
 
-use crate::collector::Collector;
+use crate::advance::Step;
+use crate::collector::{Collector, Phase};
 use crate::colours::push_own_gray;
 use crate::zone_states::advance_all;
 use arena_table::Jobs;
@@ -37,15 +38,6 @@ use zones::State;
 
 // The number of names of gray cells for which memory is taken before they are listed.
 const NAMES_AHEAD: usize = 64;
-
-// What the end of a group did.
-#[derive(Drop)]
-pub(crate) struct Ended {
-    // The arenas that it handed to sweeping, ascending.
-    pub(crate) handed: Option<Jobs>,
-    // Whether the collection is over with it.
-    pub(crate) finished: bool,
-}
 
 impl Collector {
     // Takes in the lowest arena that is handed to sweeping, with the slots of its white cells at hand-out and
@@ -67,7 +59,7 @@ impl Collector {
         report_arena(&mut self.heap, arena, taken, report);
         let finished = end_sweeping(&mut self.heap, &self.order);
         if finished {
-            self.run = None;
+            self.phase = Phase::Idle;
         }
         finished
     }
@@ -88,29 +80,36 @@ impl Collector {
         &mut self,
         alloc: Global,
         report: &mut Option<Report>,
-    ) -> Result<Ended, NoMemory>
+    ) -> Result<Step, NoMemory>
         requires ready { (g : AZoneSet) × (rest : List AZoneSet) × IsReady self.old g rest }
-        requires sound { (flown : ℕ → Option ABits) × IsSound self.old flown }
-        ensures done { IfOk result (λ ended. EndsGroup ended.handed ended.finished report.new
+        requires sound { (flown : ℕ → Option ABits) × IsSoundMarking self.old flown }
+        ensures done { IfOk result (λ step. EndsGroup step.handed step.finished report.new
             self.old self.new) }
+        ensures step { IfOk result (λ step. (step.units ≡ 1) × (step.reported ≡ true)) }
         ensures err { OnErr result (self.new ≡ self.old) }
         ensures err_report { OnErr result (report.new ≡ report.old) }
         ensures made { self.new.heap.made ≡ self.old.heap.made }
+        ensures ledger { self.new.heap.ledger ≡ self.old.heap.ledger }
         ensures entries { length self.new.heap.shape.weak.entries
             ≤ length self.old.heap.shape.weak.entries }
     {
         let Some(group) = self.order.current() else {
-            unreachable!();
+            return Ok(Step::none());
         };
         let grays = gray_names_in(alloc, &self.heap, group)?;
         let handed = hand_out_group(alloc, &mut self.heap, group)?;
         self.order.advance();
         let finished = end_sweeping(&mut self.heap, &self.order);
         if finished {
-            self.run = None;
+            self.phase = Phase::Idle;
         }
         *report = Some(Report::Ended(group, grays, NameList::new(alloc)));
-        Ok(Ended { handed, finished })
+        Ok(Step {
+            units: 1,
+            reported: true,
+            finished,
+            handed,
+        })
     }
 }
 

@@ -22,6 +22,7 @@ pub(crate) fn buffer_gray_roots<L: Ledger>(
     zones: ZoneSet,
     steps: &mut Steps<L>,
 ) -> Result<(), NoMemory>
+    requires counted { heap.old.ledger ≡ Some L.name }
     requires held { (x : _) → Contains heap.old.shape.slots (Some x)
         → IsPresent heap.old.shape x }
     requires gather { MayGather heap.old }
@@ -61,7 +62,8 @@ fn gather_wrappers<L: Ledger>(
     steps: &mut Steps<L>,
     found: &mut Vec<(ZoneNo, Place)>,
 ) -> Result<(), NoMemory>
-    requires { MayGather heap.now }
+    requires counted { heap.now.ledger ≡ Some L.name }
+    requires gather { MayGather heap.now }
     ensures gathered { OnOk result (Gathers
         (IsGrayAmong heap.now zones (length heap.now.shape.states)) found.old.items
         found.new.items) }
@@ -85,7 +87,8 @@ fn gather_of<L: Ledger>(
     steps: &mut Steps<L>,
     found: &mut Vec<(ZoneNo, Place)>,
 ) -> Result<(), NoMemory>
-    requires { MayGather heap.now }
+    requires counted { heap.now.ledger ≡ Some L.name }
+    requires gather { MayGather heap.now }
     ensures gathered { OnOk result (Gathers (IsGrayOf heap.now zones zone) found.old.items
         found.new.items) }
     ensures few { OnOk result (length found.new.items
@@ -140,6 +143,7 @@ fn gather_wrapper<L: Ledger>(
     steps: &mut Steps<L>,
     found: &mut Vec<(ZoneNo, Place)>,
 ) -> Result<(), NoMemory>
+    requires counted { heap.now.ledger ≡ Some L.name }
     requires wrapper { (z : _) × IsWrapperIn heap.now.shape z wrapper }
     requires sized { length heap.now.colours ≡ length heap.now.shape.arenas }
     ensures gathered { OnOk result (Gathers (IsGrayWrapper heap.now zones wrapper)

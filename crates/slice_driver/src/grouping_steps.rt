@@ -1,19 +1,21 @@
 // The steps of a collection that form the groups.
-ghost use Rattle.std.specs.Prelude.{◌≡◌, ◌≤◌, ◌+◌, ℕ, Option, Some, false, if◌then◌else◌};
+ghost use Rattle.std.specs.Prelude.{◌≡◌, ◌≤◌, ◌+◌, ℕ, None, Option, Some, false, if◌then◌else◌};
 ghost use Rattle.cell_bits.specs.declared.bits.Bits.{Bits as ABits};
 ghost use Rattle.zone_edges.specs.Looks.{AreAllLookedAt};
-ghost use Rattle.slice_driver.specs.Units.{IsSound};
+ghost use Rattle.slice_driver.specs.Collector.{WaitsToGroup};
+ghost use Rattle.slice_driver.specs.Units.{IsSoundMarking};
 ghost use Rattle.slice_driver.specs.Working.{IsGrouping, LooksOrAll, TellsGrouping};
 
-use crate::collector::{Collector, Run};
-use gz_names::{Groups, Report};
+use crate::collector::{Collector, Phase};
+use gz_names::{Groups, Report, ZoneSet};
 use heap_core::Steps;
 use std::sync::ledger::Ledger;
 
 impl Collector {
     // Looks at a wrapper. False where each was looked at.
     pub(crate) fn looks<L: Ledger>(&mut self, steps: &mut Steps<L>) -> bool
-        requires sound { (flown : ℕ → Option ABits) × IsSound self.old flown }
+        requires counted { self.old.heap.ledger ≡ Some L.name }
+        requires sound { (flown : ℕ → Option ABits) × IsSoundMarking self.old flown }
         requires grouping { IsGrouping self.old }
         ensures looks { LooksOrAll result self.old self.new }
         ensures heap { self.new.heap ≡ self.old.heap }
@@ -23,24 +25,35 @@ impl Collector {
     }
 
     // One grouping step; the last one forms the groups, and puts them into a place. Returns whether it did.
-    pub(crate) fn group_step(&mut self, run: Run, report: &mut Option<Report>) -> bool
-        requires sound { (flown : ℕ → Option ABits) × IsSound self.old flown }
-        requires grouping { self.old.run ≡ Some (record { zones = run.zones; formed = false }) }
+    pub(crate) fn group_step(
+        &mut self,
+        zones: ZoneSet,
+        ungrouped: ZoneSet,
+        report: &mut Option<Report>,
+    ) -> bool
+        requires sound { (flown : ℕ → Option ABits) × IsSoundMarking self.old flown }
+        requires grouping { self.old.run ≡ Some (record {
+          zones = zones;
+          formed = false;
+          clearing = None;
+        }) }
+        requires left { WaitsToGroup self.old.edges zones ungrouped }
         requires looked { AreAllLookedAt self.old.heap.shape self.old.edges }
         ensures { TellsGrouping self.old report.old result self.new report.new }
     {
-        let Some(zone) = self.ungrouped.first() else {
+        let Some(zone) = ungrouped.first() else {
             return false;
         };
         self.edges.group_step(zone);
-        self.ungrouped.remove(zone);
-        if let Some(_) = self.ungrouped.first() {
+        let left = ungrouped.without(ZoneSet::only(zone));
+        if !left.is_empty() {
+            self.phase = Phase::Grouping {
+                zones,
+                ungrouped: left,
+            };
             return false;
         }
-        self.run = Some(Run {
-            formed: true,
-            ..run
-        });
+        self.phase = Phase::Grouped { zones };
         let groups = self.edges.components();
         self.order.set(copy_of(&groups));
         *report = Some(Report::Groups(groups));

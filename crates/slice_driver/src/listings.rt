@@ -7,8 +7,10 @@ ghost use Rattle.slice_driver.specs.Listings.{AreFieldsHeld, AreEntriesHeld, Are
 ghost use Rattle.slice_driver.specs.Listings.{cells_below, edge_lines_at, edges_below, entry_at};
 
 use gz_names::{DumpLine, Name, NoMemory, Place};
-use heap_core::Heap;
+use heap_core::{Heap, Steps};
 use std::alloc::Global;
+use std::sync::ledger::Ledger;
+use weak_maps::WeakEntry;
 
 /// A present cell: its name, and where it lies. Cells are ordered by name.
 #[derive(Clone, Copy, Debug, PartialEq, Eq, PartialOrd, Ord)]
@@ -59,35 +61,39 @@ fn push_cells(heap: &Heap, arena: u32, cells: &mut Vec<NamedCell>) -> Result<(),
 
 /// Adds a line for each edge of a present cell that is not null, in the order of its fields. A
 /// wrapper's name tells its edge, so it has no line.
-pub(crate) fn push_edges(
+pub(crate) fn push_edges<L: Ledger>(
     heap: &Heap,
     place: Place,
     lines: &mut Vec<DumpLine>,
+    steps: &mut Steps<L>,
 ) -> Result<(), NoMemory>
+    requires counted { heap.now.ledger ≡ Some L.name }
     requires held { AreFieldsHeld heap.now.shape }
     requires present { IsPresent heap.now.shape place }
     ensures { OnOk result (lines.new.items ≡ lines.old.items ++ edge_lines_at heap.now.shape place) }
 {
     match heap.name(place) {
-        Name::Cell(number) => push_fields(heap, place, number, lines),
+        Name::Cell(number) => push_fields(heap, place, number, lines, steps),
         Name::Wrap(_, _) => Ok(()),
     }
 }
 
 // Adds a line for each field of a present cell that is not null, under this number.
-fn push_fields(
+fn push_fields<L: Ledger>(
     heap: &Heap,
     place: Place,
     number: u64,
     lines: &mut Vec<DumpLine>,
+    steps: &mut Steps<L>,
 ) -> Result<(), NoMemory>
+    requires counted { heap.now.ledger ≡ Some L.name }
     requires held { AreFieldsHeld heap.now.shape }
     requires present { IsPresent heap.now.shape place }
     ensures { OnOk result (lines.new.items
         ≡ lines.old.items ++ edges_below heap.now.shape place number (edge_count heap.now.shape place)) }
 {
     for i in 0..heap.edge_count(place) {
-        if let Some(target) = heap.edge_at(place, i) {
+        if let Some(target) = heap.reached_by(place, i, steps) {
             lines.push(DumpLine::Edge(number, heap.name(target)))?;
         }
     }
@@ -116,7 +122,7 @@ fn named_entry(heap: &Heap, index: u64) -> Option<NamedEntry>
     ensures entry { result ≡ entry_at heap.now.shape index }
     ensures sound { AreEntries heap.now.shape.weak }
 {
-    let (map, key, value) = heap.entry(index)?;
+    let WeakEntry { map, key, value } = heap.entry(index)?;
     let Name::Cell(number) = heap.name(map) else {
         return None;
     };

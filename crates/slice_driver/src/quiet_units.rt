@@ -1,22 +1,23 @@
 // Units that report nothing, many in one call.
-ghost use Rattle.std.specs.Prelude.{◌≡◌, ◌≤◌, ◌<◌, IsSome, MatchBool};
+ghost use Rattle.std.specs.Prelude.{◌≡◌, ◌≤◌, ◌<◌, IsSome, MatchBool, Some};
 ghost use Rattle.slice_driver.specs.Collector.{heap_with};
 ghost use Rattle.slice_driver.specs.EdgesRead.{ReadsFew};
-ghost use Rattle.slice_driver.specs.Quiet.{IsFormed};
-ghost use Rattle.slice_driver.specs.Units.{IsSound};
+ghost use Rattle.slice_driver.specs.Quiet.{IsFormed, IsStarted};
+ghost use Rattle.slice_driver.specs.Units.{IsSound, IsSoundMarking};
 ghost use Rattle.slice_driver.specs.Working.{DoesQuietUnits, DoesQuietly, IsGrouping, IsQuietDone, IsResting};
 
-use crate::collector::Collector;
+use crate::collector::{Collector, Phase};
 use cell_bits::Flight;
 use heap_core::Steps;
 use std::sync::ledger::Ledger;
 
 impl Collector {
     /// Does units of the collection that runs while they report nothing and hand no arena to
-    /// sweeping, at most `limit`, and returns how many it did. Each does the first of these that has
-    /// work: black marking, a look at a wrapper, the beginning of a zone, gray marking. Fewer than
-    /// `limit` are done exactly when none of these has work left. What is left for `advance` then is a
-    /// grouping step, an arena that is due, or the end of a group.
+    /// sweeping, at most `limit`, and returns how many it did. While the collection is being prepared, each
+    /// clears the mark bits of an arena. Later each does the first of these that has work: black marking,
+    /// a look at a wrapper, the beginning of a zone, gray marking. Fewer than `limit` are done exactly when
+    /// none of these has work left. What is left for `advance` then is the beginning of marking, a grouping
+    /// step, an arena that is due, or the end of a group.
     ///
     /// Such a unit leaves each world as it is. It takes no memory, and builds no report. It reads at most
     /// nine edges, and eight for each gray cell outside marking zones that turns black.
@@ -26,6 +27,7 @@ impl Collector {
         flight: &mut F,
         steps: &mut Steps<L>,
     ) -> u64
+        requires counted { self.old.heap.ledger ≡ Some L.name }
         requires sound { IsSound self.old (F.bits flight.old) }
         requires running { IsSome self.old.run }
         ensures does { DoesQuietly limit self.old (F.bits flight.old) result self.new
@@ -34,6 +36,9 @@ impl Collector {
             (heap_with self.new (F.bits flight.new)) }
         ensures origin { F.origin flight.new ≡ F.origin flight.old }
     {
+        if let Phase::Preparing { zones, uncleared } = self.phase {
+            return self.clears_up_to(zones, uncleared, limit);
+        }
         // Where no zone is marking, as while the last arenas come in, there is none.
         if self.settled() {
             return 0;
@@ -58,7 +63,8 @@ impl Collector {
         flight: &mut F,
         steps: &mut Steps<L>,
     ) -> u64
-        requires sound { IsSound self.old (F.bits flight.old) }
+        requires counted { self.old.heap.ledger ≡ Some L.name }
+        requires sound { IsSoundMarking self.old (F.bits flight.old) }
         requires running { IsSome self.old.run }
         requires some { 0 < limit }
         ensures most { result ≤ limit }
@@ -87,12 +93,9 @@ impl Collector {
 
     // Returns whether the groups of the collection that runs are still to be formed.
     fn is_grouping(&self) -> bool
-        requires running { IsSome self.now.run }
+        requires started { IsStarted self.now }
         ensures { MatchBool result (IsGrouping self.now) (IsFormed self.now) }
     {
-        match self.run {
-            Some(run) => !run.formed,
-            None => false,
-        }
+        matches!(&self.phase, Phase::Grouping { .. })
     }
 }

@@ -39,6 +39,7 @@ pub(crate) fn mark_targets<L: Ledger>(
     zones: ZoneSet,
     steps: &mut Steps<L>,
 )
+    requires counted { heap.old.ledger ≡ Some L.name }
     requires ready { IsReady (without_delayed heap.old) (pending heap.old stack.old) }
     requires wrappers { AreWrappers heap.old.shape }
     ensures { Marks
@@ -109,6 +110,7 @@ fn mark_targets_of<L: Ledger>(
     zones: ZoneSet,
     steps: &mut Steps<L>,
 )
+    requires counted { heap.old.ledger ≡ Some L.name }
     requires ready { IsReady (without_delayed heap.old) (pending heap.old stack.old) }
     requires wrappers { AreWrappers heap.old.shape }
     requires other { HasZone zones.bits zone → ⊥ }
@@ -130,6 +132,7 @@ fn mark_target<L: Ledger>(
     wrapper: Place,
     steps: &mut Steps<L>,
 )
+    requires counted { heap.old.ledger ≡ Some L.name }
     requires ready { IsReady (without_delayed heap.old) (pending heap.old stack.old) }
     requires wrapper { (z : _) × IsWrapperIn heap.old.shape z wrapper }
     ensures { Marks

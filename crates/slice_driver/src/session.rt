@@ -7,14 +7,15 @@ ghost use Rattle.colour_defs.specs.World.{World, first_world};
 ghost use Rattle.heap_core.specs.Effects.{HasRoom, takes_memory};
 ghost use Rattle.collection_laws.specs.Numbers.{IsGraphReply};
 ghost use Rattle.heap_core.specs.Heap.{HeapState, joined};
-ghost use Rattle.slice_driver.specs.Accounts.{Accounts, FreesOn, GivesOn, freed_by};
+ghost use Rattle.slice_driver.specs.Accounts.{Accounts, FreesOn, GivesOn, freed_by, freed_by_report};
 ghost use Rattle.slice_driver.specs.Begins.{AreMade};
 ghost use Rattle.slice_driver.specs.Commands.{WantsMemory};
 ghost use Rattle.slice_driver.specs.Represents.{Represents};
 ghost use Rattle.slice_driver.specs.Sessions.{AreDumpLines, AreGrayNames, IsNowhereSettled};
-ghost use Rattle.slice_driver.specs.Sessions.{SessionSteps, groups_of, kind_of, names_of, outcome_of};
+ghost use Rattle.slice_driver.specs.Sessions.{SessionResets, SessionSteps, counted_in, groups_of, kind_of, names_of};
+ghost use Rattle.slice_driver.specs.Sessions.{outcome_of};
 ghost use Rattle.slice_driver.specs.Units.{BeginsIn, BeginsWithin, DoesCommand, RaisesWithin};
-ghost use Rattle.slice_driver.specs.Working.{IsAtGroupEnd, IsStill};
+ghost use Rattle.slice_driver.specs.Working.{IsStill, MayWantMemory};
 ghost use Rattle.sweeping.specs.ArenasOut.{flown_by};
 
 mod counts;
@@ -23,7 +24,7 @@ mod told;
 
 use crate::begin::BeginFault;
 use crate::collector::Collector;
-use crate::counted::{advance, begin, command};
+use crate::counted::{advance, command, dump, reset};
 pub use faults::refusal_words;
 use gz_names::{
     CmdFault, DumpLine, GraphCmd, Name, NameList, NoMemory, Refusal, Reply, Report, ZoneSet,
@@ -100,15 +101,17 @@ impl<S: Sweeper> Session<S> {
         requires fields { HasFewFields cmd }
         ensures done { IfSome (outcome_of result) (λ outcome. DoesCommand self.old.collector
             (S.bits self.old.sweeper) cmd outcome self.new.collector (S.bits self.new.sweeper)) }
-        ensures to_come { IfSome (outcome_of result) (λ outcome. RaisesWithin self.old.collector
-            (S.bits self.old.sweeper) cmd outcome self.new.collector (S.bits self.new.sweeper)) }
+        ensures to_come { IfSome (outcome_of result) (λ outcome. RaisesWithin
+            (counted_in self.old.collector self.new.collector.heap.ledger) (S.bits self.old.sweeper) cmd outcome
+            self.new.collector (S.bits self.new.sweeper)) }
         ensures accounts { GivesOn self.old.collector (S.bits self.old.sweeper) result
             self.new.collector (S.bits self.new.sweeper) }
         ensures refused { (why : _) → result ≡ Err (SessionFault.Refused why)
-            → (self.new.collector ≡ self.old.collector)
+            → (self.new.collector ≡ counted_in self.old.collector self.new.collector.heap.ledger)
             × (S.bits self.new.sweeper ≡ S.bits self.old.sweeper) }
-        ensures wanted { result ≡ Err SessionFault.NoMemory → WantsMemory self.old.collector
-            (S.bits self.old.sweeper) cmd self.new.collector (S.bits self.new.sweeper) }
+        ensures wanted { result ≡ Err SessionFault.NoMemory → WantsMemory
+            (counted_in self.old.collector self.new.collector.heap.ledger) (S.bits self.old.sweeper) cmd
+            self.new.collector (S.bits self.new.sweeper) }
         ensures sure { takes_memory cmd ≡ false → result ≡ Err SessionFault.NoMemory → ⊥ }
         ensures full { result ≡ Err SessionFault.Full
             → (self.new ≡ self.old) × (4294967295 ≤ self.old.collector.heap.made) }
@@ -149,13 +152,13 @@ impl<S: Sweeper> Session<S> {
         let Some(_first) = zones.first() else {
             return Err(BeginFault::NoZone);
         };
-        begin::<Brand>(self.alloc, &mut self.collector, zones, Blank::new(1))
+        self.collector.begin(zones)
     }
 
     /// Does a step of the collection that runs, at most `limit` units: those that report nothing, as
     /// many as come one after another, or one that reports something, as the step says. Nothing is done
-    /// when none runs. It returns `NoMemory` only where a group is to end; then nothing was done, and the
-    /// step may be tried again.
+    /// when none runs. It returns `NoMemory` only where marking is to begin or a group is to end; then
+    /// nothing was done, and the step may be tried again.
     ///
     /// Each object and map is listed once as freed, in the report of its arena.
     pub fn advance(&mut self, limit: u64) -> Result<SessionStep, NoMemory>
@@ -164,10 +167,10 @@ impl<S: Sweeper> Session<S> {
             (S.bits self.new.sweeper) (S.left (S.origin self.new.sweeper)) self.new.report) }
         ensures accounts { FreesOn self.old.collector (S.bits self.old.sweeper)
             (freed_by result self.new.report) self.new.collector (S.bits self.new.sweeper) }
-        ensures err { OnErr result (IsStill self.old.collector (S.bits self.old.sweeper)
-            self.new.collector (S.bits self.new.sweeper)) }
-        ensures err_where { OnErr result (IsAtGroupEnd self.old.collector
-            (S.bits self.old.sweeper)) }
+        ensures err { OnErr result (IsStill (counted_in self.old.collector self.new.collector.heap.ledger)
+            (S.bits self.old.sweeper) self.new.collector (S.bits self.new.sweeper)) }
+        ensures err_where { OnErr result (MayWantMemory
+            (counted_in self.old.collector self.new.collector.heap.ledger) (S.bits self.old.sweeper)) }
         ensures err_report { OnErr result (self.new.report ≡ self.old.report) }
     {
         if limit == 0 {
@@ -185,6 +188,31 @@ impl<S: Sweeper> Session<S> {
             Blank::new(1),
         );
         told::steps_of(done, &self.report)
+    }
+
+    /// Does a step of giving up the collection that runs: takes in the lowest arena that is out, or gives
+    /// the collection up where none is out. The step reports `Swept`, or `Stopped`. Nothing is done when no
+    /// collection runs, so it may be called until `finished`. It takes no memory.
+    ///
+    /// Each object and map is listed once as freed, in the report of its arena.
+    pub fn reset(&mut self) -> SessionStep
+        ensures done { SessionResets self.old.collector (S.bits self.old.sweeper) self.old.report result
+            self.new.collector (S.bits self.new.sweeper) (S.left (S.origin self.new.sweeper))
+            self.new.report }
+        ensures accounts { FreesOn self.old.collector (S.bits self.old.sweeper)
+            (freed_by_report result.report self.new.report) self.new.collector
+            (S.bits self.new.sweeper) }
+    {
+        if !self.collector.running() {
+            return SessionStep::none();
+        }
+        let step = reset::<S, Brand>(
+            &mut self.collector,
+            &mut self.sweeper,
+            &mut self.report,
+            Blank::new(1),
+        );
+        told::step_of(&step, &self.report)
     }
 
     /// What the last report is about, until the next one.
@@ -209,7 +237,7 @@ impl<S: Sweeper> Session<S> {
         told::groups(&self.report)
     }
 
-    /// The names of the gray cells, ascending; `None` exactly when a zone is marking.
+    /// The names of the gray cells, ascending; `None` exactly when a zone is being prepared or marking.
     pub fn gray_names(&mut self) -> Result<Option<NameList>, NoMemory>
         ensures names { IfOk result (λ names. IfSome names
             (AreGrayNames self.old.collector (S.bits self.old.sweeper))) }
@@ -229,23 +257,31 @@ impl<S: Sweeper> Session<S> {
     }
 
     /// The dump of the heap: its present cells with their colours, by name; its edges, by object and
-    /// field; its weak entries, by map and key; and the end. `None` exactly when a zone is marking.
+    /// field; its weak entries, by map and key; and the end. `None` exactly when a zone is being prepared or
+    /// marking.
     pub fn dump(&mut self) -> Result<Option<Vec<DumpLine>>, NoMemory>
         ensures lines { IfOk result (λ lines. IfSome lines
             (λ lines. AreDumpLines self.old.collector (S.bits self.old.sweeper) lines.items)) }
         ensures marking { IfOk result (λ lines. lines ≡ None
             → IsNowhereSettled self.old.collector (S.bits self.old.sweeper)) }
-        ensures collector { self.new.collector ≡ self.old.collector }
+        ensures collector { self.new.collector
+            ≡ counted_in self.old.collector self.new.collector.heap.ledger }
         ensures worlds { (w : World) → Represents self.old.collector (S.bits self.old.sweeper) w
             → Represents self.new.collector (S.bits self.new.sweeper) w }
         ensures colours { joined self.new.collector.heap (S.bits self.new.sweeper)
-            ≡ joined self.old.collector.heap (S.bits self.old.sweeper) }
+            ≡ joined self.new.collector.heap (S.bits self.old.sweeper) }
         ensures report { self.new.report ≡ self.old.report }
     {
         if !self.collector.settled() {
             return Ok(None);
         }
-        Ok(Some(self.collector.dump(self.alloc, &mut self.sweeper)?))
+        let lines = dump::<S, Brand>(
+            self.alloc,
+            &mut self.collector,
+            &mut self.sweeper,
+            Blank::new(1),
+        )?;
+        Ok(Some(lines))
     }
 
     /// Whether a collection runs.

@@ -6,7 +6,8 @@ use Rattle.heap_core.specs.Heap.{HeapState}
 use Rattle.heap_core.specs.Shape.{out_of}
 use Rattle.slice_driver.specs.Collector.{CollectorState, RunState, heap_with}
 use Rattle.slice_driver.specs.Represents.{Represents, RunsAs}
-use Rattle.slice_driver.specs.Units.{IsSound, none_flown}
+use Rattle.slice_driver.specs.Units.{IsSound, IsSoundMarking, none_flown}
+use Rattle.slice_driver.proofs.abstraction.Phases.{marking_of, none_idle, sound_marking}
 
 none_out : (h : HeapState) (c : CollectorState) (w : World) (r : Option RunState) (k : Option Collection) →
     RunsAs h c w r k → r ≡ None → (a : ℕ) → out_of c.heap.shape a ≡ None
@@ -20,8 +21,12 @@ is_none (Some x) p e k = absurd (let s : is_some p ≡ false = ap is_some k in c
 
 pub idle_flown : (c : CollectorState) (f : ℕ → Option Bits) (w : World) → Represents c f w → c.run ≡ None
     → f ≡ none_flown
-idle_flown c f w rep e = λ i a. is_none (f a) (out_of c.heap.shape a) (rep.swept.flies.covers a)
-    (none_out (heap_with c f) c w c.run w.collection rep.phase.runs e a) i
+idle_flown c f w rep e =
+    let m = marking_of c f w (none_idle c f w e) rep in
+    λ i a. is_none (f a) (out_of c.heap.shape a) (m.swept.flies.covers a)
+    (none_out (heap_with c f) c w c.run w.collection m.phase.runs e a) i
 
-pub idle_sound : (c : CollectorState) (f : ℕ → Option Bits) → IsSound c f → c.run ≡ None → IsSound c none_flown
-idle_sound c f s e = subst (λ (g : ℕ → Option Bits). IsSound c g) (idle_flown c f s.world s.represents e) s
+pub idle_sound : (c : CollectorState) (f : ℕ → Option Bits) → IsSound c f → c.run ≡ None
+    → IsSoundMarking c none_flown
+idle_sound c f s e = sound_marking c none_flown (λ w. none_idle c none_flown w e)
+    (subst (λ (g : ℕ → Option Bits). IsSound c g) (idle_flown c f s.world s.represents e) s)

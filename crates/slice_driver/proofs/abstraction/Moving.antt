@@ -46,7 +46,7 @@ pub data Moves (old : HeapState) (c : GraphCmd) (ch : Change) (new : HeapState) 
       → Moves old c ch new
 
 module _ (old : HeapState) (g : GraphState) (shows : Shows old g) where
-  field_below : (p q : Place) (f : ℕ) → field_at old.shape p f ≡ Some q → f < 8
+  pub field_below : (p q : Place) (f : ℕ) → field_at old.shape p f ≡ Some q → f < 8
   field_below p q f e = go (cell_of old.shape p) refl e
     where
       within : (fs : List (Option Place)) (i : ℕ) → joined (slice_get fs i) ≡ Some q → i < length fs

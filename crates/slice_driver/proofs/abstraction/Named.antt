@@ -3,8 +3,10 @@ use Rattle.std.proofs.Common.{◌≡◌, ◌↔◌, ◌<◌, ◌≤◌, ℕ, zer
 use Rattle.std.proofs.Common.{is_some, slice_get, Contains, refl, sym, ap, subst, ◌∙◌, inl, inr, arith, option_map}
 use Rattle.std.proofs.Common.{true}
 use Rattle.std.specs.FinMap as places
+use Rattle.gz_names.specs.declared.commands.Kind.TheVariants as kind
 use Rattle.gz_names.specs.declared.names.Name.{Name}
 use Rattle.gz_names.specs.declared.names.Name.TheVariants.{Cell, Wrap}
+use Rattle.gz_names.specs.declared.numbers.CompNo.{CompNo}
 use Rattle.gz_names.specs.declared.numbers.Place.{Place}
 use Rattle.arena_table.specs.Cells.{CellState, joined, field_of}
 use Rattle.colour_defs.specs.Graph.{GraphState, object_of, value_of}
@@ -14,9 +16,9 @@ use Rattle.colour_defs.specs.World.{World, IsPresent as IsPresentName}
 use Rattle.colour_defs.specs.Present as present
 use Rattle.colour_defs.proofs.Lists.{contains_at, contains_cases, nothing_in_none}
 use Rattle.colour_defs.specs.declared.graph.Object.{Object}
-use Rattle.heap_core.specs.Shape.{Shape, HasEdge, IsPresent, cell_of, field_in, held_name, name_at}
+use Rattle.heap_core.specs.Shape.{Shape, HasEdge, IsDelegate, IsPresent, cell_of, field_in, held_name, name_at}
 use Rattle.heap_core.specs.Heap.{HeapState}
-use Rattle.heap_core.specs.Shows.{StandsFor, object_at}
+use Rattle.heap_core.specs.Shows.{StandsFor, is_wrapper, object_at}
 use Rattle.barriers.specs.Reached.{Reached}
 use Rattle.barriers.specs.Reached as reached
 use Rattle.slice_driver.specs.Worlds.{LiesIn}
@@ -154,6 +156,35 @@ module _ (h : HeapState) (w : World) (l : LiesIn h w) where
       let shown = l.shown.cells p c.0 c.1 in
       whole_edge p x y c.0 c.1 shown.few (subst (λ z. StandsFor h.shape l.graph p c.0 z) c.2 shown.stands) e
 
+  -- a delegate by places and by names
+  pub delegate_named : (k d : Place) (x : Name) → IsDelegate h.shape k d → name_at h.shape k ≡ Some x
+      → (c : CompNo) × (t : ℕ) × (x ≡ Wrap c t) × (name_at h.shape d ≡ Some (Cell t))
+  delegate_named k d (Cell n) is e =
+      let cell = named_cell h.shape k (Cell n) e in
+      let stands : StandsFor h.shape l.graph k cell.0 (Cell n) =
+      subst (λ z. StandsFor h.shape l.graph k cell.0 z) cell.2 (l.shown.cells k cell.0 cell.1).stands in
+      let kind_is : Some cell.0.kind ≡ Some kind.Wrapper =
+      sym (ap (option_map (λ (z : CellState). z.kind)) cell.1) ∙ is.0 in
+      absurd (let wrapper = ap is_wrapper (some_one _ _ kind_is) in let none = stands.0 in cc (wrapper, none))
+  delegate_named k d (Wrap c t) is e =
+      let cell = named_cell h.shape k (Wrap c t) e in
+      let stands : StandsFor h.shape l.graph k cell.0 (Wrap c t) =
+      subst (λ z. StandsFor h.shape l.graph k cell.0 z) cell.2 (l.shown.cells k cell.0 cell.1).stands in
+      let held : Some stands.target ≡ Some d = sym (ap (λ o. field_in o 0) cell.1
+      ∙ ap (λ fs. joined (slice_get fs 0)) stands.fields_is) ∙ is.1 in
+      (c, t, refl, ap (name_at h.shape) (sym (some_one _ _ held)) ∙ stands.target_is)
+
+  pub delegate_placed : (k d : Place) (c : CompNo) (t : ℕ) → name_at h.shape k ≡ Some (Wrap c t)
+      → name_at h.shape d ≡ Some (Cell t) → IsDelegate h.shape k d
+  delegate_placed k d c t nk nd =
+      let cell = named_cell h.shape k (Wrap c t) nk in
+      let stands : StandsFor h.shape l.graph k cell.0 (Wrap c t) =
+      subst (λ z. StandsFor h.shape l.graph k cell.0 z) cell.2 (l.shown.cells k cell.0 cell.1).stands in (
+        ap (option_map (λ (z : CellState). z.kind)) cell.1 ∙ ap (λ z. Some z) stands.kind_is,
+        ap (λ o. field_in o 0) cell.1 ∙ ap (λ fs. joined (slice_get fs 0)) stands.fields_is
+            ∙ ap (λ z. Some z) (l.shown.apart stands.target d (Cell t) stands.target_is nd),
+      )
+
   module _ (P : Place → Type 0) (Q : Name → Type 0) (starts : AreSameStarts h w P Q) where
     pub reached_named : {p : Place} → Reached h.shape P p → (x : Name) × (name_at h.shape p ≡ Some x)
         × Closure w.graph Q x
@@ -169,6 +200,22 @@ module _ (h : HeapState) (w : World) (l : LiesIn h w) where
         let n = name_of h.shape v (l.shown.entries_held m k v e).2 in
         let value : value_of l.graph i.0 j.0 ≡ Some n.0 = l.shown.entries_are m k v i.0 j.0 n.0 e i.1 j.1 n.1 in
         (n.0, n.1, weak (sym (l.part.part.entries i.0 j.0 (here m i.0 i.1) (key_here k j.0 j.1)) ∙ value) i.2 j.2)
+    reached_named (reached.delegate {m} {k} {v} {d} e is a b) =
+        let i = reached_named a in
+        let j = reached_named b in
+        let held = l.shown.entries_held m k v e in
+        let key = name_of h.shape k held.1 in
+        let n = name_of h.shape v held.2 in
+        let names = delegate_named k d key.0 is key.1 in
+        let value : value_of w.graph i.0 key.0 ≡ Some n.0 =
+        sym (l.part.part.entries i.0 key.0 (here m i.0 i.1) (key_here k key.0 key.1))
+        ∙ l.shown.entries_are m k v i.0 key.0 n.0 e i.1 key.1 n.1 in
+        let same : j.0 ≡ Cell names.1 = some_one _ _ (sym j.1 ∙ names.3) in (
+          Wrap names.0 names.1,
+          key.1 ∙ ap (λ z. Some z) names.2,
+          delegate (subst (λ z. value_of w.graph i.0 z ≡ Some n.0) names.2 value) i.2
+              (subst (λ z. Closure w.graph Q z) same j.2),
+        )
 
     pub closure_placed : {x : Name} → Closure w.graph Q x → (p : Place) × (name_at h.shape p ≡ Some x)
         × Reached h.shape P p
@@ -183,7 +230,13 @@ module _ (h : HeapState) (w : World) (l : LiesIn h w) where
         let j = closure_placed b in
         let value : value_of l.graph m (Wrap c t) ≡ Some v =
         l.part.part.entries m (Wrap c t) (here i.0 m i.1) (here j.0 (Cell t) j.1) ∙ e in
-        absurd (l.part.well_formed.plain_keys m (Wrap c t) v value)
+        let entry = l.shown.entries_known m (Wrap c t) v value in
+        let at_map : entry.0 ≡ i.0 = l.shown.apart entry.0 i.0 m entry.4 i.1 in (
+          entry.1,
+          entry.5,
+          reached.delegate entry.3 (delegate_placed entry.1 j.0 c t entry.5 j.1)
+              (subst (Reached h.shape P) (sym at_map) i.2) j.2,
+        )
     closure_placed (weak {m} {k} {v} e a b) =
         let i = closure_placed a in
         let j = closure_placed b in

@@ -12,34 +12,46 @@ use Rattle.cell_bits.specs.declared.bits.Bits.{Bits}
 use Rattle.zones.specs.declared.states.State.{State}
 use Rattle.zones.specs.declared.states.State.TheVariants as state
 use Rattle.mark_stack.specs.Stack.{Piles}
+use Rattle.gray_lists.specs.Incoming.{Incoming}
+use Rattle.weak_maps.specs.declared.colours.MarkColour.TheVariants as mark
 use Rattle.wrappers.specs.WrapperMaps.{list_of}
 use Rattle.wrappers.specs.declared.wrapper_maps.WrapperKey.{WrapperKey}
 use Rattle.zone_edges.specs.Groups.{Edge}
 use Rattle.zone_edges.specs.Noted.{Noted}
 use Rattle.colour_defs.specs.World.{World, Collection, IsSettled, marking_of}
 use Rattle.colour_defs.proofs.Lists.{contains_head, nothing_in_none}
-use Rattle.heap_core.specs.Shape.{Shape, field_at, is_marking, is_marking_state, name_at, out_of, state_in, zone_of}
+use Rattle.heap_core.specs.Shape.{Shape, field_at, is_marking, is_marking_state, name_at, out_of, state_in}
+use Rattle.heap_core.specs.Shape.{zone_of}
 use Rattle.heap_core.specs.Heap.{HeapState}
 use Rattle.barriers.specs.Colours.{IsBlack}
-use Rattle.barriers.specs.Invariant.{MarkingInvariant}
+use Rattle.barriers.specs.Invariant.{IsSettled as IsSettledHeap, MarkingInvariant}
 use Rattle.barriers.specs.PendingBlack.{PendingBlack}
 use Rattle.barriers.specs.PendingBlack as black_closure
 use Rattle.barriers.proofs.BlackClosure.{pending_is_reached, reached_is_black}
+use Rattle.barriers.proofs.StayingLeft.{none_left as none_left_in}
 use Rattle.slice_driver.specs.Collector.{CollectorState, RunState, heap_with}
 use Rattle.slice_driver.specs.Closures.{AreBlack, AreTied}
-use Rattle.zone_edges.specs.Looks.{AreAllLookedAt, AreLeftBlack, IsLookedAt, wrapper_at}
+use Rattle.zone_edges.specs.Looks.{AreAllLookedAt, AreLeftBlack, IsKey, IsLookedAt, wrapper_at}
 use Rattle.slice_driver.specs.Represents.{AreInStates, IsCurrent, IsIdle, IsInGroups, LeadsAcross}
-use Rattle.slice_driver.specs.Represents.{Represents, Runs, RunsAs}
+use Rattle.slice_driver.specs.Represents.{RepresentsMarking, Runs, RunsAs, WaitsWhileMarking}
 use Rattle.slice_driver.specs.Quiet.{HasSameLooks, IsQuiet, KeepsLooks}
 use Rattle.slice_driver.proofs.abstraction.Named.{some_one}
 use Rattle.slice_driver.proofs.basics.Cells.{HasSameCells}
 use Rattle.slice_driver.proofs.basics.Worlds.{placed_same, swept_in}
 
 -- where no zone is marking, black is all that is left to turn black
-pub settled_pending : (h : HeapState) (p : Piles) → MarkingInvariant h p → ((x : Place) → is_marking h.shape x ≡ false)
-    → (x : Place) → PendingBlack h p x ↔ IsBlack h x
+pub settled_pending : (h : HeapState) (p : Piles) → MarkingInvariant h p → IsSettledHeap h → (x : Place)
+    → PendingBlack h p x ↔ IsBlack h x
 settled_pending h p inv settled x =
     ((λ l. reached_is_black h p inv settled (pending_is_reached h p inv l)), λ b. black_closure.black b)
+
+-- where no zone is marking, no entry is left either
+pub settled_heap : (h : HeapState) (p : Piles) (lists : Incoming) → WaitsWhileMarking h p lists
+    → ((z : ℕ) → is_marking_state (state_in h.shape z) ≡ false) → IsSettledHeap h
+settled_heap h p lists waits off = record {
+  outside = λ x. off (zone_of h.shape x);
+  none_left = λ m k v has left. none_left_in h mark.Black (waits.looks off).1 (waits.looks off).1 m k v has left;
+}
 
 is_false : (b : Bool) → (b ≡ true → ⊥) → b ≡ false
 is_false true none = absurd (none refl)
@@ -68,6 +80,7 @@ module _ (c : CollectorState) (flown : ℕ → Option Bits) (d : CollectorState)
         colours = d.heap.colours;
         buffers = d.heap.buffers;
         made = d.heap.made;
+        ledger = d.heap.ledger;
         looks = d.heap.looks;
         delayed = d.heap.delayed;
       })) (sym q.shape_is) (record {
@@ -165,10 +178,14 @@ module _ (c : CollectorState) (flown : ℕ → Option Bits) (d : CollectorState)
   across_back r p x l = subst (λ (s : Shape). LeadsAcross s r p x → LeadsAcross c.heap.shape r p x) (sym q.shape_is)
       (λ m. record { edge = m.edge; from = m.from; to = m.to; apart = m.apart }) l
 
-  runs_after : (w : World) (r : RunState) (k : Collection) → Represents c flown w → c.run ≡ Some r
-      → w.collection ≡ Some k → KeepsLooks c flown d flying → Runs (heap_with c flown) c w r k
+  key_back : (p : Place) → IsKey d.heap.shape p → IsKey c.heap.shape p
+  key_back p key = subst (λ (s : Shape). IsKey s p → IsKey c.heap.shape p) (sym q.shape_is) (λ k. k) key
+
+  runs_after : (w : World) (r : RunState) (k : Collection) → RepresentsMarking c flown w → c.run ≡ Some r
+      → w.collection ≡ Some k → KeepsLooks w c flown d flying → Runs (heap_with c flown) c w r k
       → Runs (heap_with d flying) d w r k
   runs_after w r k old running at looks s = record {
+    started = s.started;
     zones_are = s.zones_are;
     marking_are = λ z. (
       (λ m. marking_same z ∙ (s.marking_are z).0 m),
@@ -178,7 +195,7 @@ module _ (c : CollectorState) (flown : ℕ → Option Bits) (d : CollectorState)
         (sym q.groups_is);
     states = states_after r running s.states;
     tied = λ z m. tied_after w k (s.tied z m);
-    early = λ unformed. looks r w k old running at unformed (s.early unformed);
+    early = λ unformed. looks r k old running at unformed (s.early unformed);
   }
 
   looked_back : HasSameLooks c d → (p : Place) → IsLookedAt d.heap.shape d.edges p → IsLookedAt c.heap.shape c.edges p
@@ -213,17 +230,23 @@ module _ (c : CollectorState) (flown : ℕ → Option Bits) (d : CollectorState)
       past_end (y ∷ es) zero le e = omega arith
       past_end (y ∷ es) (suc i) le e = past_end es i (omega arith) e
 
+  edge_on : HasSameLooks c d → (p x : Place) → Edge c.edges.sources (zone_of c.heap.shape p) (zone_of c.heap.shape x)
+      → Edge d.edges.sources (zone_of d.heap.shape p) (zone_of d.heap.shape x)
+  edge_on e p x n = subst (λ z. Edge d.edges.sources z (zone_of d.heap.shape x)) (sym (zone_same p))
+      (subst (λ z. Edge d.edges.sources (zone_of c.heap.shape p) z) (sym (zone_same x))
+      (subst (λ (z : List ZoneSet). Edge z (zone_of c.heap.shape p) (zone_of c.heap.shape x)) (sym e.sources_are) n))
+
   -- where the same is noted, what was noted is noted rightly
-  pub keeps_looks : HasSameLooks c d → KeepsLooks c flown d flying
-  keeps_looks e r w k old running at unformed l = record {
+  pub keeps_looks : HasSameLooks c d → (w : World) → KeepsLooks w c flown d flying
+  keeps_looks e w r k old running at unformed l = record {
     zones_are = e.zones_are ∙ l.zones_are;
     first = λ a b n. l.first a b (subst (λ (z : List ZoneSet). Edge z a b) e.sources_are n);
     looked = λ p x across at. elim (l.looked p x (across_back r p x across) (looked_back e p at)) [
       | inl b ↦ inl (q.darker x b)
-      | inr n ↦ inr (subst (λ z. Edge d.edges.sources z (zone_of d.heap.shape x)) (sym (zone_same p))
-          (subst (λ z. Edge d.edges.sources (zone_of c.heap.shape p) z) (sym (zone_same x))
-          (subst (λ (z : List ZoneSet). Edge z (zone_of c.heap.shape p) (zone_of c.heap.shape x)) (sym e.sources_are)
-          n)))
+      | inr n ↦ inr (
+        edge_on e p x n.0,
+        λ key. elim (n.1 (key_back p key)) [ inl b ↦ inl (q.darker p b) | inr back ↦ inr (edge_on e x p back) ],
+      )
     ];
     left_black = elim e.stepped [
       | inr all ↦ inr (left_same e (none_left all))
@@ -251,13 +274,16 @@ module _ (c : CollectorState) (flown : ℕ → Option Bits) (d : CollectorState)
     gray = gray;
   }
 
-  module _ (w : World) (looks : KeepsLooks c flown d flying) (old : Represents c flown w) where
+  module _ (w : World) (looks : KeepsLooks w c flown d flying) (old : RepresentsMarking c flown w) where
     runs_as : (o : Option RunState) (k : Option Collection) → c.run ≡ o → w.collection ≡ k
         → RunsAs (heap_with c flown) c w o k → RunsAs (heap_with d flying) d w o k
-    runs_as None None e f i =
-        idle_after i (empty d.stack.black (λ x c'. unmarked x (q.coloured.marks.holds.piles.black x c').1))
-        (none_piled (heap_with d flying) d.stack d.lists q.coloured.waits
-        (λ z both. cc (stays z state.NoGC (i.states z) (λ only. cc only), both)))
+    runs_as None None e f i = idle_after i (empty d.stack.black (λ x c'. unmarked x
+        (q.coloured.marks.holds.piles.black x c').1))
+        (none_piled (heap_with d flying) d.stack d.lists q.coloured.waits (λ z both. cc (
+          stays z state.NoGC
+              (i.states z) (λ only. cc only),
+          both,
+        )))
       where
         unmarked : (x : Place) → is_marking d.heap.shape x ≡ true → ⊥
         unmarked x m = let no : state_in d.heap.shape (zone_of d.heap.shape x) ≡ state.NoGC =
@@ -274,14 +300,14 @@ module _ (c : CollectorState) (flown : ℕ → Option Bits) (d : CollectorState)
     black_after settled x p named =
         let none : (z : ℕ) → is_marking_state (state_in c.heap.shape z) ≡ false =
         settled_states (heap_with c flown) c w c.run w.collection old.phase.runs settled.none_marking in
-        let before = settled_pending (heap_with c flown) c.stack old.coloured.marks (λ y. none (zone_of c.heap.shape y))
-        p in
+        let before = settled_pending (heap_with c flown) c.stack old.coloured.marks
+        (settled_heap (heap_with c flown) c.stack c.lists old.coloured.waits none) p in
         let after = settled_pending (heap_with d flying) d.stack q.coloured.marks
-        (λ y. marking_same (zone_of d.heap.shape y) ∙ none (zone_of d.heap.shape y)) p in
+        (settled_heap (heap_with d flying) d.stack d.lists q.coloured.waits (λ z. marking_same z ∙ none z)) p in
         let was = old.phase.black settled x p (sym (name_same p) ∙ named) in
         ((λ b. after.0 ((q.black p).1 (before.1 (was.0 b)))), λ b. was.1 (before.0 ((q.black p).0 (after.1 b))))
 
-    pub quiet : Represents d flying w
+    pub quiet : RepresentsMarking d flying w
     quiet = record {
       placed = placed_same c.heap d.heap w same_cells same_arenas q.delayed_is old.placed;
       swept = swept_in c.heap.shape d.heap.shape flown flying same_arenas q.flies old.swept;

@@ -25,7 +25,7 @@ use Rattle.colour_defs.proofs.Effects.{writes, slots, puts, dels}
 use Rattle.colour_defs.proofs.Finite.{insert_cases}
 use Rattle.colour_defs.proofs.Lists.{length_push, length_set}
 use Rattle.colour_defs.proofs.ValidCommands.{in_insert, insert_has}
-use Rattle.heap_core.specs.Shape.{HasEdge, Shape, name_at}
+use Rattle.heap_core.specs.Shape.{Shape, name_at}
 use Rattle.heap_core.specs.Shape as shape
 use Rattle.heap_core.specs.Heap.{HeapState}
 use Rattle.heap_core.proofs.MakingCells.{same-place}
@@ -78,8 +78,9 @@ present_reached : (h : HeapState) (P : Place → Type 0) → ColourInvariant h
 present_reached h P inv there (reached.from s) = there _ s
 present_reached h P inv there (reached.along {x = p} {y = q} r e) = inv.shape.targets p q e
 present_reached h P inv there (reached.weak {m} {k} {v} e a b) = (inv.shape.entries m k v e).2
+present_reached h P inv there (reached.delegate {m} {k} {v} e is a b) = (inv.shape.entries m k v e).1
 
-black_present : (h : HeapState) (s : Piles) → MarkingInvariant h s → (p : Place) → PendingBlack h s p
+pub black_present : (h : HeapState) (s : Piles) → MarkingInvariant h s → (p : Place) → PendingBlack h s p
     → shape.IsPresent h.shape p
 black_present h s inv p b =
     present_reached h (IsBlack h) inv.holds.colours (λ q d. inv.holds.colours.seen_present q (inr d))
@@ -97,12 +98,12 @@ module _ (h : HeapState) (w : World) (l : LiesIn h w) where
   here : (p : Place) (x : Name) → name_at h.shape p ≡ Some x → present.IsHere l.graph x
   here p x e = (l.part.here x).1 (present_named h w l p x e)
 
-  entry_named : (a b c : Place) (m q u : Name) → name_at h.shape a ≡ Some m → name_at h.shape b ≡ Some q
+  pub entry_named : (a b c : Place) (m q u : Name) → name_at h.shape a ≡ Some m → name_at h.shape b ≡ Some q
       → name_at h.shape c ≡ Some u → HasEntry h.shape a b c → value_of w.graph m q ≡ Some u
   entry_named a b c m q u na nb nc e = sym (l.part.part.entries m q (here a m na) (key_here h w l b q nb))
       ∙ l.shown.entries_are a b c m q u e na nb nc
 
-  entry_placed : (a b : Place) (m q u : Name) → name_at h.shape a ≡ Some m → name_at h.shape b ≡ Some q
+  pub entry_placed : (a b : Place) (m q u : Name) → name_at h.shape a ≡ Some m → name_at h.shape b ≡ Some q
       → value_of w.graph m q ≡ Some u → (c : Place) × HasEntry h.shape a b c × (name_at h.shape c ≡ Some u)
   entry_placed a b m q u na nb e =
       let known = l.shown.entries_known m q u (l.part.part.entries m q (here a m na) (key_here h w l b q nb) ∙ e) in
@@ -160,7 +161,11 @@ module _ (h j : HeapState) (s t : Piles) (lists : Incoming) (w : World) (k : Col
     closure_then (weak {m} {k = q} {v = u} e a b) =
         elim ((ok.marking k running marking).entries m q u e)
         [ inl old ↦ weak old (closure_then a) (closure_then b) | inr d ↦ from_woken k S x (dark u d) ]
-    closure_then (delegate {m} {v = u} {c} {t} e a b) = absurd (ok.graph.plain_keys m (Wrap c t) u e)
+    closure_then (delegate {m} {v = u} {c} {t} e a b) =
+        elim ((ok.marking k running marking).keys m (Wrap c t) u e) [
+          | inl old ↦ delegate old.1 (closure_then a) (closure_then b)
+          | inr d ↦ from_woken k S x (dark (Wrap c t) d)
+        ]
 
     closure_there : (y : Name) → Closure w.graph (λ z. FromStarts S k z ⊎ (x ≡ z)) y → IsPresent w y
     closure_there y c = closure_present h w l (λ q. P q ⊎ (q ≡ p)) (λ z. FromStarts S k z ⊎ (x ≡ z)) starts y c
@@ -181,7 +186,11 @@ module _ (h j : HeapState) (s t : Piles) (lists : Incoming) (w : World) (k : Col
         let bq = closure_now b in
         elim (tied.entries_then m q u (closure_there m am) (closure_there q bq) e)
         [ inl still ↦ weak still am bq | inr d ↦ from (inl (dark u d)) ]
-    closure_now (delegate {m} {v = u} {c} {t} e a b) = absurd (tied.formed.plain_keys m (Wrap c t) u e)
+    closure_now (delegate {m} {v = u} {c} {t} e a b) =
+        elim ((ok.marking k running marking).kept m (Wrap c t) u e) [
+          | inl still ↦ delegate still.1 (closure_now a) (closure_now b)
+          | inr d ↦ from (inl (dark (Wrap c t) d))
+        ]
 
     reached_woken : (q : Place) (y : Name) → name_at h.shape q ≡ Some y → Reached h.shape (λ z. P z ⊎ (z ≡ p)) q
         ↔ FromStarts S (woken_with k x) y
@@ -299,8 +308,9 @@ tied_served h j s lists w v k t l m serves same more tied = record {
 
 -- a cell was made
 module _ (h j : HeapState) (s : Piles) (lists : Incoming) (w v : World) (k : Collection) (zone : ℕ) (p : Place)
-    (x : Name) (ok : IsValid w) (made : IsValid v) (running : w.collection ≡ Some k) (l : LiesIn h w) (m : LiesIn j v)
-    (serves : Serves h j s lists) (comes : ComesTo h.shape j.shape zone p x) (next : (n : ℕ) → x ≡ Cell n
+    (x : Name) (ok : IsValid w) (made : IsValid v) (running : w.collection ≡ Some k) (marking : IsMarking k)
+    (l : LiesIn h w) (m : LiesIn j v) (serves : Serves h j s lists) (comes : ComesTo h.shape j.shape zone p x) (next :
+    (n : ℕ) → x ≡ Cell n
     → n ≡ length w.graph.objects) (tied : AreTied h s lists w k) where
   made_named : name_at j.shape p ≡ Some x
   made_named = comes.names p
@@ -358,9 +368,31 @@ module _ (h j : HeapState) (s : Piles) (lists : Incoming) (w v : World) (k : Col
   no_map (Cell n) q u is e = (let r = tied.formed.keys (Cell n) q u e in no_comp n r.0 is r.1)
   no_map (Wrap c t) q u is e = tied.formed.no_wrappers (Wrap c t) q u e
 
-  no_key : (o y u : Name) → x ≡ y → value_of k.snapshot o y ≡ Some u → ⊥
-  no_key o (Cell n) u is e = (let r = tied.formed.keys o (Cell n) u e in no_comp n r.0 is r.2)
-  no_key o (Wrap c t) u is e = tied.formed.plain_keys o (Wrap c t) u e
+  -- it was not there
+  not_there : IsPresent w x → ⊥
+  not_there there =
+      let at = place_of h w l x there in
+      let same : at.0 ≡ p = m.shown.apart at.0 p x (made_stays at.0 x at.1) made_named in
+      comes.free (named_present h.shape p x (ap (name_at h.shape) (sym same) ∙ at.1))
+
+  -- the target of a new wrapper was there
+  target_there : (c : CompNo) (t : ℕ) → x ≡ Wrap c t → IsPresent w (Cell t)
+  target_there c t is =
+      let edge = (made.made (Wrap c t) (subst (IsPresent v) is (present_named j v m p x made_named))).2 in
+      let at = edge_placed j v m p (Wrap c t) (Cell t) (made_named ∙ ap (λ o. Some o) is) (refl, edge) in
+      elim (made_fresh at.0 (Cell t) at.2) [
+        | inl was ↦ present_named h w l at.0 (Cell t) was
+        | inr self ↦ absurd (let other = self.1 in cc (is, other))
+      ]
+
+  -- an entry of a map that was there has no new key: with the map and its target a wrapper key would have been there
+  no_key : (o y u : Name) → IsPresent w o → x ≡ y → value_of k.snapshot o y ≡ Some u → ⊥
+  no_key o (Cell n) u there is e = (let r = tied.formed.keys o (Cell n) u e in no_comp n r.0 is r.2)
+  no_key o (Wrap c t) u there is e = elim ((ok.marking k running marking).kept o (Wrap c t) u e) [
+    | inl now ↦ not_there (subst (IsPresent w) (sym is)
+        (ok.presence.keys o now.0 c t now.1 there (target_there c t is)))
+    | inr black ↦ not_there (subst (IsPresent w) (sym is) (tied.present (Wrap c t) (starts_are_live black)))
+  ]
 
   -- an edge that the snapshot has of the new cell is that of a wrapper that was made again
   edge_made : (y z : Name) → x ≡ y → names.HasEdge k.snapshot y z → names.HasEdge v.graph y z
@@ -388,28 +420,36 @@ module _ (h j : HeapState) (s : Piles) (lists : Incoming) (w v : World) (k : Col
       ]
 
   -- what is reached where x was woken is reached before, or is x
-  reached_before : (S : Names) → ((y : Name) → BlackClosure k y → FromStarts S k y) → {y : Name}
-      → FromStarts S (woken_with k x) y → FromStarts S k y ⊎ (x ≡ y)
-  reached_before S dark (from (inl st)) = inl (from (inl st))
-  reached_before S dark (from {x = y} (inr u)) =
+  reached_before : (S : Names) → ((y : Name) → BlackClosure k y → FromStarts S k y)
+      → ((y : Name) → FromStarts S k y → IsPresent w y) → {y : Name} → FromStarts S (woken_with k x) y
+      → FromStarts S k y ⊎ (x ≡ y)
+  reached_before S dark there (from (inl st)) = inl (from (inl st))
+  reached_before S dark there (from {x = y} (inr u)) =
       elim (insert_cases k.woken x y u) [ inl old ↦ inl (from (inr old)) | inr is ↦ inr is ]
-  reached_before S dark (along {x = y} {y = z} c e) =
-      elim (reached_before S dark c) [ inl old ↦ inl (along old e) | inr is ↦ inl (dark z (edge_black y z is e)) ]
-  reached_before S dark (weak {m = o} {k = q} {v = u} e a b) = elim (reached_before S dark a) [
+  reached_before S dark there (along {x = y} {y = z} c e) =
+      elim (reached_before S dark there c) [ inl old ↦ inl (along old e) | inr is ↦ inl (dark z (edge_black y z is e)) ]
+  reached_before S dark there (weak {m = o} {k = q} {v = u} e a b) = elim (reached_before S dark there a) [
     | inr is ↦ absurd (no_map o q u is e)
-    | inl old ↦ elim (reached_before S dark b) [
-      | inr is ↦ absurd (no_key o q u is e)
+    | inl old ↦ elim (reached_before S dark there b) [
+      | inr is ↦ absurd (no_key o q u (there o old) is e)
       | inl also
           ↦ inl (weak e old also)
     ]
   ]
-  reached_before S dark (delegate {m = o} {v = u} {c} {t} e a b) = absurd (tied.formed.plain_keys o (Wrap c t) u e)
+  reached_before S dark there (delegate {m = o} {v = u} {c} {t} e a b) = elim (reached_before S dark there a) [
+    | inr is ↦ absurd (no_map o (Wrap c t) u is e)
+    | inl old ↦ elim (reached_before S dark there b) [
+      | inl also ↦ inl (delegate e old also)
+      | inr is ↦ absurd (let d = tied.formed.delegates o u c t e in no_comp t d.0 is d.1)
+    ]
+  ]
 
   woken_here : (S : Names) (y : Name) → x ≡ y → FromStarts S (woken_with k x) y
   woken_here S y is = from (inr (subst (Has (set.insert k.woken x)) is (insert_has k.woken x)))
 
   module _ (S : Names) (P R : Place → Type 0) (dark : (y : Name) → BlackClosure k y → FromStarts S k y)
-      (same : (y : Name) (q : Place) → name_at h.shape q ≡ Some y → P q ↔ FromStarts S k y) (grows : (q : Place)
+      (there : (y : Name) → FromStarts S k y → IsPresent w y) (same : (y : Name) (q : Place)
+      → name_at h.shape q ≡ Some y → P q ↔ FromStarts S k y) (grows : (q : Place)
       → R q ↔ (P q ⊎ IsNew h j q)) where
     tied_then : (y : Name) (q : Place) → name_at j.shape q ≡ Some y → R q ↔ FromStarts S (woken_with k x) y
     tied_then y q e = (
@@ -423,7 +463,7 @@ module _ (h j : HeapState) (s : Piles) (lists : Incoming) (w v : World) (k : Col
       ],
       λ c. elim (made_fresh q y e) [
         | inr is ↦ subst R (sym is.0) ((grows p).1 (inr new_here))
-        | inl was ↦ elim (reached_before S dark c) [
+        | inl was ↦ elim (reached_before S dark there c) [
           | inl old ↦ (grows q).1 (inl ((same y q was).1 old))
           | inr is ↦ subst R (m.shown.apart p q y (made_named ∙ ap (λ o. Some o) is) e) ((grows p).1 (inr new_here))
         ]
@@ -433,10 +473,11 @@ module _ (h j : HeapState) (s : Piles) (lists : Incoming) (w v : World) (k : Col
   pub tied_made : (t : Tally) → length w.graph.objects ≤ length v.graph.objects
       → AreTied j s lists v (record k { tally = t; woken = set.insert k.woken x })
   tied_made t more = record {
-    black = tied_then k.black_starts (PendingBlack h s) (PendingBlack j s) (λ y c. c) tied.black serves.pending_black;
-    live = tied_then k.live_starts (PendingLive h s lists) (PendingLive j s lists) (λ y c. starts_are_live c) tied.live
-        serves.pending_live;
-    present = λ y c. elim (reached_before k.live_starts (λ z d. starts_are_live d) c) [
+    black = tied_then k.black_starts (PendingBlack h s) (PendingBlack j s) (λ y c. c)
+        (λ y c. tied.present y (starts_are_live c)) tied.black serves.pending_black;
+    live = tied_then k.live_starts (PendingLive h s lists) (PendingLive j s lists) (λ y c. starts_are_live c)
+        tied.present tied.live serves.pending_live;
+    present = λ y c. elim (reached_before k.live_starts (λ z d. starts_are_live d) tied.present c) [
       | inl old ↦ kept_present h j s lists w v k l m serves made_stays tied y (tied.present y old)
       | inr is ↦ subst (IsPresent v) is (present_named j v m p x made_named)
     ];
@@ -449,7 +490,7 @@ module _ (h j : HeapState) (s : Piles) (lists : Incoming) (w v : World) (k : Col
         elim (made_fresh at.0 o at.1) [
           | inr is ↦ absurd (no_map o q u is.1 e)
           | inl was ↦ elim (made_fresh to.0 q to.1) [
-            | inr is ↦ absurd (no_key o q u is.1 e)
+            | inr is ↦ absurd (no_key o q u (present_named h w l at.0 o was) is.1 e)
             | inl also ↦ elim (entry_on h j s lists w v k l m serves made_stays tied at.0 to.0 o q u was also e)
                 [ inl still ↦ inl still | inr b ↦ inr (from_woken k k.black_starts x b) ]
           ]

@@ -9,12 +9,13 @@ use Rattle.arena_table.specs.Cells.{CellState}
 use Rattle.wrappers.specs.WrapperMaps.{WrappersState, list_of, place_of}
 use Rattle.weak_maps.specs.WeakMaps.{WeakTableState, value_of}
 use Rattle.colour_defs.specs.Graph.{GraphState}
-use Rattle.heap_core.specs.Shape.{HasEdge, IsPresent, cell_of, comp_at, field_at, field_in, held_name, name_at, zone_of}
+use Rattle.heap_core.specs.Shape.{HasEdge, IsDelegate, IsPresent, cell_of, comp_at, field_at, field_in, held_name}
+use Rattle.heap_core.specs.Shape.{name_at, zone_of}
 use Rattle.heap_core.specs.Heap.{HeapState}
 use Rattle.heap_core.specs.Shows.{IsShown, Shows, StandsFor}
 use Rattle.barriers.specs.Reached.{HasEntry}
 
--- the same cells are present in the same zones, and all else that a graph is shown by is the same
+-- each zone has the present cells that it had, and all else that a graph is shown by is as it was
 pub record HasSameCells (h k : HeapState) : Type 0 where
   pub cells : (p : Place) → cell_of k.shape p ≡ cell_of h.shape p
   pub zones : (p : Place) → zone_of k.shape p ≡ zone_of h.shape p
@@ -55,6 +56,13 @@ module _ (h k : HeapState) (same : HasSameCells h k) where
 
   pub entry_back : (m q v : Place) → HasEntry k.shape m q v → HasEntry h.shape m q v
   entry_back m q v e = subst (λ (w : WeakTableState). value_of w m q ≡ Some v) same.weak e
+
+  pub delegate_on : (q d : Place) → IsDelegate h.shape q d → IsDelegate k.shape q d
+  delegate_on q d is = (ap (option_map (λ (z : CellState). z.kind)) (same.cells q) ∙ is.0, field_same q 0 ∙ is.1)
+
+  pub delegate_back : (q d : Place) → IsDelegate k.shape q d → IsDelegate h.shape q d
+  delegate_back q d is =
+      (sym (ap (option_map (λ (z : CellState). z.kind)) (same.cells q)) ∙ is.0, sym (field_same q 0) ∙ is.1)
 
   pub present_on : (p : Place) → IsPresent h.shape p → IsPresent k.shape p
   present_on p there = subst (λ (o : Option CellState). IsSome o) (sym (same.cells p)) there

@@ -9,9 +9,13 @@ use Rattle.zones.specs.declared.states.State.TheVariants as state
 use Rattle.roots.specs.Buffers.{buffer_at}
 use Rattle.mark_stack.specs.Stack.{Piles}
 use Rattle.gray_lists.specs.Incoming.{Incoming, waiting_count}
-use Rattle.heap_core.specs.Shape.{is_marking, is_marking_state, is_white, out_of, state_in, state_of, zone_of}
-use Rattle.weak_maps.specs.WeakMaps.{LooksState, WeakTableState}
+use Rattle.heap_core.specs.Shape.{IsDelegate, is_marking, is_marking_state, is_white, out_of, state_in, state_of}
+use Rattle.heap_core.specs.Shape.{zone_of}
+use Rattle.weak_maps.specs.WeakMaps.{LooksState, WeakTableState, delegate_of}
+use Rattle.weak_maps.specs.declared.colours.MarkColour.{MarkColour}
+use Rattle.weak_maps.specs.declared.colours.MarkColour.TheVariants as mark
 use Rattle.heap_core.specs.Heap.{HeapState, colour_in, colour_of, weak_of}
+use Rattle.barriers.specs.Reached.{HasEntry}
 use Rattle.barriers.specs.Colours.{IsBlack, IsSeen, slots_in}
 use Rattle.barriers.specs.PendingBlack.{PendingBlack}
 use Rattle.barriers.specs.PendingBlack as black_closure
@@ -24,8 +28,10 @@ use Rattle.barriers.proofs.StayingLeft.{left_weaker}
 use Rattle.barriers.proofs.WeakPoint.{gray_begins}
 use Rattle.marker.proofs.GraySteps.{state_cases}
 use Rattle.slice_driver.specs.Represents.{IsColoured, NothingLeft, WaitsWhileMarking}
-use Rattle.slice_driver.proofs.basics.Cells.{HasSameCells, comp_same, edge_back, edge_on, entry_back, entry_on}
+use Rattle.slice_driver.proofs.basics.Cells.{HasSameCells, comp_same, delegate_back, delegate_on, edge_back, edge_on}
+use Rattle.slice_driver.proofs.basics.Cells.{entry_back, entry_on}
 use Rattle.slice_driver.proofs.basics.Cells.{field_same, present_back, present_on}
+use Rattle.slice_driver.proofs.basics.LeftLooks.{looks_of_marking, same_left}
 
 -- by the values of its parts
 pub coloured_as : (h k : HeapState) (p q : Piles) (l m : Incoming) → k ≡ h → q ≡ p → m ≡ l → IsColoured h p l
@@ -41,6 +47,9 @@ pub record HasSameMarks (h k : HeapState) : Type 0 where
   pub looks : k.looks ≡ h.looks
   pub marking : (z : ℕ) → is_marking_state (state_in k.shape z) ≡ is_marking_state (state_in h.shape z)
   pub black_only : (z : ℕ) → state_in k.shape z ≡ state.MarkBlackOnly → state_in h.shape z ≡ state.MarkBlackOnly
+  pub begun : (m q v d : Place) → HasEntry h.shape m q v → IsDelegate h.shape q d → IsBlack h m
+      → state_of h.shape q ≡ state.MarkBlackOnly → state_of k.shape q ≡ state.MarkBlackAndGray
+      → left_of h mark.Gray m q
   pub kept : (p : Place) → is_marking k.shape p ≡ true → out_of k.shape p.0 ≡ None
 
 module _ (h k : HeapState) (same : HasSameMarks h k) where
@@ -81,6 +90,12 @@ module _ (h k : HeapState) (same : HasSameMarks h k) where
     ));
     one_zone = λ m q v e. (let z = s.one_zone m q v (entry_back h k same.cells m q v e) in
         (same.cells.zones m ∙ z.0 ∙ sym (same.cells.zones v), same.cells.zones q ∙ z.1 ∙ sym (same.cells.zones v)));
+    delegates = λ m q v d e.
+        (let both = s.delegates m q v d (entry_back h k same.cells m q v e) in
+        let rows = ap (λ (z : WeakTableState). delegate_of z m q) same.cells.weak in (
+          λ is. rows ∙ both.0 (delegate_back h k same.cells q d is),
+          λ is. delegate_on h k same.cells q d (both.1 (sym rows ∙ is)),
+        ));
     kept = same.kept;
   }
 
@@ -119,7 +134,12 @@ module _ (h k : HeapState) (same : HasSameMarks h k) where
       (sym same.cells.weak)
       (subst (λ (z : LooksState). WeakPoint k p (IsLeft (record { table = h.shape.weak; looks = z }))) (sym same.looks)
       (gray_begins h p k (left_of h) (left_weaker (weak_of h)) m.holds.colours.shape m.holds.colours.no_gray
-      same.cells.weak colour_same marking_same takes_before m.weak))
+      same.cells.weak colour_same marking_same (delegate_back h k same.cells) takes_before same.begun m.weak))
+
+  left_kept : (c : MarkColour) (m q : Place) → left_of h c m q → left_of k c m q
+  left_kept c m q left =
+      subst (λ (z : WeakTableState). IsLeft (record { table = z; looks = k.looks }) c m q) (sym same.cells.weak)
+      (subst (λ (z : LooksState). IsLeft (record { table = h.shape.weak; looks = z }) c m q) (sym same.looks) left)
 
   marks_kept : (p : Piles) → MarkingInvariant h p → MarkingInvariant k p
   marks_kept p m = record {
@@ -131,6 +151,14 @@ module _ (h k : HeapState) (same : HasSameMarks h k) where
       weak_closed = λ a q v e ba bq mv.
           elim (m.holds.weak_closed a q v (entry_back h k same.cells a q v e) (black_back a ba) (black_back q bq)
           (sym (marking_same v) ∙ mv)) [ inl c ↦ inl (black_on v c) | inr c ↦ inr c ];
+      key_closed = λ a q v d e is ba bd.
+          elim (m.holds.key_closed a q v d (entry_back h k same.cells a q v e) (delegate_back h k same.cells q d is)
+          (black_back a ba) (black_back d bd)) [
+            | inl c ↦ inl (black_on q c)
+            | inr (inl c) ↦ inr (inl c)
+            | inr (inr (inl c)) ↦ inr (inr (inl c))
+            | inr (inr (inr left)) ↦ inr (inr (inr (left_kept mark.Black a q left)))
+          ];
     };
     none_woken = m.none_woken;
     weak = weak_kept p m;
@@ -183,6 +211,13 @@ module _ (h k : HeapState) (same : HasSameMarks h k) where
         (i.0, ap (λ (cs : List ℕ). slice_get cs n) same.cells.comps ∙ i.1, same.marking i.0 ∙ i.2));
     looks = λ quiet. subst (λ (l : LooksState). NothingLeft l) (sym same.looks)
         (w.looks (λ z. sym (same.marking z) ∙ quiet z));
+    of_marking = looks_of_marking h.shape h.looks k.shape k.looks
+        (λ p here. (
+          present_on h k same.cells p here.0,
+          ap (λ (z : ℕ). is_marking_state (state_in k.shape z)) (same.cells.zones p)
+              ∙ (same.marking (zone_of h.shape p) ∙ here.1),
+        ))
+        (same_left h.shape h.looks k.shape k.looks same.cells.weak same.looks) w.of_marking;
   }
 
   -- zones that take gray go on to take it
@@ -202,6 +237,9 @@ module _ (h k : HeapState) (same : HasSameMarks h k) where
       (edge_on h k same.cells x y e)
   pending_on p (black_closure.weak {m} {k = q} {v} e a b) =
       black_closure.weak (entry_on h k same.cells m q v e) (pending_on p a) (pending_on p b)
+  pending_on p (black_closure.delegate {m} {k = q} {v} {d} e is a b) =
+      black_closure.delegate (entry_on h k same.cells m q v e) (delegate_on h k same.cells q d is) (pending_on p a)
+      (pending_on p b)
 
   pub pending_back : (p : Piles) {x : Place} → PendingBlack k p x → PendingBlack h p x
   pending_back p (black_closure.black {x} b) = black_closure.black (black_back x b)
@@ -210,6 +248,9 @@ module _ (h k : HeapState) (same : HasSameMarks h k) where
       (edge_back h k same.cells x y e)
   pending_back p (black_closure.weak {m} {k = q} {v} e a b) =
       black_closure.weak (entry_back h k same.cells m q v e) (pending_back p a) (pending_back p b)
+  pending_back p (black_closure.delegate {m} {k = q} {v} {d} e is a b) =
+      black_closure.delegate (entry_back h k same.cells m q v e) (delegate_back h k same.cells q d is)
+      (pending_back p a) (pending_back p b)
 
   pub live_on : (p : Piles) (lists : Incoming) {x : Place} → PendingLive h p lists x → PendingLive k p lists x
   live_on p lists (live_closure.black l) = live_closure.black (pending_on p l)
@@ -225,6 +266,9 @@ module _ (h k : HeapState) (same : HasSameMarks h k) where
       live_closure.along (live_on p lists l) (colour_same x ∙ w) (edge_on h k same.cells x y e)
   live_on p lists (live_closure.weak {m} {k = q} {v} e a b) =
       live_closure.weak (entry_on h k same.cells m q v e) (live_on p lists a) (live_on p lists b)
+  live_on p lists (live_closure.delegate {m} {k = q} {v} {d} e is a b) =
+      live_closure.delegate (entry_on h k same.cells m q v e) (delegate_on h k same.cells q d is) (live_on p lists a)
+      (live_on p lists b)
 
   pub live_back : (p : Piles) (lists : Incoming) {x : Place} → PendingLive k p lists x → PendingLive h p lists x
   live_back p lists (live_closure.black l) = live_closure.black (pending_back p l)
@@ -240,3 +284,6 @@ module _ (h k : HeapState) (same : HasSameMarks h k) where
       live_closure.along (live_back p lists l) (sym (colour_same x) ∙ w) (edge_back h k same.cells x y e)
   live_back p lists (live_closure.weak {m} {k = q} {v} e a b) =
       live_closure.weak (entry_back h k same.cells m q v e) (live_back p lists a) (live_back p lists b)
+  live_back p lists (live_closure.delegate {m} {k = q} {v} {d} e is a b) =
+      live_closure.delegate (entry_back h k same.cells m q v e) (delegate_back h k same.cells q d is)
+      (live_back p lists a) (live_back p lists b)

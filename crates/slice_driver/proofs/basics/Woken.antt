@@ -6,7 +6,9 @@ use Rattle.gz_names.specs.declared.numbers.Place.{Place}
 use Rattle.cell_bits.specs.declared.bits.Bits.{Bits}
 use Rattle.arena_table.specs.Cells.{CellState}
 use Rattle.mark_stack.specs.Stack.{Piles}
-use Rattle.heap_core.specs.Shape.{ArenaShape, Shape, is_marking, out_in, out_of, field_in, cell_in_arena}
+use Rattle.cell_bits.specs.declared.bits.Colour.TheVariants as colour
+use Rattle.heap_core.specs.Shape.{ArenaShape, Shape, is_prepared, out_in, out_of, field_in, cell_in_arena}
+use Rattle.heap_core.specs.Shape.{IsDelegate}
 use Rattle.heap_core.specs.Heap.{HeapState, colour_in, colour_of, flown_or, joined}
 use Rattle.heap_core.specs.Changes.{Makes}
 use Rattle.heap_core.proofs.MakingCells.{same-place}
@@ -14,7 +16,7 @@ use Rattle.barriers.specs.Reached.{Reached}
 use Rattle.barriers.specs.Reached as reached
 use Rattle.barriers.specs.Colours.{IsBlack}
 use Rattle.barriers.specs.Exposing.{BlackOr}
-use Rattle.barriers.specs.Invariant.{MarkingInvariant}
+use Rattle.barriers.specs.Invariant.{IsSettled, MarkingInvariant}
 use Rattle.barriers.specs.Spreading.{Covers}
 use Rattle.barriers.proofs.BlackClosure.{reached_is_black, reached_more}
 use Rattle.barriers.proofs.Flying.{flown_get}
@@ -30,10 +32,14 @@ reached_kept s t P e f (reached.along {x} {y} r (i, lt, at)) =
     (i, lt, ap (λ (xs : List ArenaShape). field_in (cell_in_arena (slice_get xs x.0) x.1) i) e ∙ at)
 reached_kept s t P e f (reached.weak {m} {k} {v} at a b) =
     reached.weak (ap (λ w. value_of w m k) f ∙ at) (reached_kept s t P e f a) (reached_kept s t P e f b)
+reached_kept s t P e f (reached.delegate {m} {k} {v} {d} at is a b) =
+    reached.delegate (ap (λ w. value_of w m k) f ∙ at)
+    (subst (λ (xs : List ArenaShape). IsDelegate (record t { arenas = xs }) k d) (sym e) is)
+    (reached_kept s t P e f a) (reached_kept s t P e f b)
 
 -- one cell turned black
 pub one_spreads : (h k : HeapState) (stack : Piles) (p : Place) → MarkingInvariant k stack
-    → ((y : Place) → is_marking k.shape y ≡ false) → IsBlack k p → ((q : Place) → q ≢ p → colour_of k q ≡ colour_of h q)
+    → IsSettled k → IsBlack k p → ((q : Place) → q ≢ p → colour_of k q ≡ colour_of h q)
     → SpreadsBlack h p k
 one_spreads h k stack p inv none black same q = (
   λ b. elim (same-place q p) [ inl e ↦ reached.from (inr e.0) | inr n ↦ reached.from (inl (sym (same q n.0) ∙ b)) ],
@@ -95,11 +101,13 @@ module _ (old : HeapState) (zone : ℕ) (p : Place) (cell : CellState) (new : He
           ∙ sym (flown_bits old.colours q.0 b (omega (arith, lt, sized))))
           ∙ ap (λ f. colour_in (option_map (flown_or f) (slice_get old.colours q.0)) q.1) (sym e))
 
-  pub made_black : IsBlack (joined new flown) p
-  made_black = joined_bits new p
+  -- where its zone is not being prepared, the new cell is black
+  pub made_black : is_prepared old.shape zone ≡ false → IsBlack (joined new flown) p
+  made_black off = joined_bits new p
       ∙ (ap (λ f. colour_in (option_map (flown_or f) (slice_get new.colours p.0)) p.1)
       (none (flown p.0) (covers p.0 ∙ ap is_some m.in_place))
-      ∙ (ap (λ o. colour_in o p.1) (own (slice_get new.colours p.0)) ∙ m.black))
+      ∙ (ap (λ o. colour_in o p.1) (own (slice_get new.colours p.0)) ∙ m.born
+      ∙ ap (λ (b : Bool). if b then colour_of old p else colour.Black) off))
     where
       none : (o : Option Bits) → is_some o ≡ false → o ≡ None
       none None e = refl

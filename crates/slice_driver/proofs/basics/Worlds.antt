@@ -10,6 +10,7 @@ use Rattle.heap_core.specs.Heap.{HeapState}
 use Rattle.slice_driver.specs.Represents.{IsBeingSwept, IsPlaced}
 use Rattle.slice_driver.specs.Worlds.{IsInFlight, IsUnswept, LiesIn, outs_from, owners_of}
 use Rattle.slice_driver.proofs.basics.Cells.{HasSameCells, name_same, shows_same}
+use Rattle.slice_driver.proofs.basics.Rows.{rows_same}
 
 -- what lies in a world does not tell what runs in it
 pub lies_running : (h : HeapState) (w : World) (o : Option Collection) (p : Option Preparation) → LiesIn h w
@@ -28,7 +29,7 @@ lies_running h w o p l = record {
 
 pub placed_running : (h : HeapState) (w : World) (o : Option Collection) (p : Option Preparation) → IsPlaced h w
     → IsPlaced h (record w { collection = o; preparing = p })
-placed_running h w o p i = record { delayed = i.delayed; lies = lies_running h w o p i.lies }
+placed_running h w o p i = record { delayed = i.delayed; lies = lies_running h w o p i.lies; homes = i.homes }
 
 -- what stands in arenas and is not present, by the arenas alone
 pub unswept_same : (s t : Shape) (p : Place) (x : Name) → t.arenas ≡ s.arenas → IsUnswept s p x → IsUnswept t p x
@@ -71,10 +72,13 @@ flies_same s t flown e f = record {
 
 pub placed_same : (h k : HeapState) (w : World) → HasSameCells h k → k.shape.arenas ≡ h.shape.arenas
     → k.delayed ≡ h.delayed → IsPlaced h w → IsPlaced k w
-placed_same h k w same e delayed i =
-    record { delayed = delayed ∙ i.delayed; lies = lies_same h k w same e i.lies }
+placed_same h k w same e delayed i = record {
+  delayed = delayed ∙ i.delayed;
+  lies = lies_same h k w same e i.lies;
+  homes = rows_same h.shape k.shape same.weak e i.homes;
+}
 
--- the arenas say what is being swept, but for the bits in flight
+-- the arenas tell what is being swept, but for the bits in flight
 pub swept_in : (s t : Shape) (flown flying : ℕ → Option Bits) → t.arenas ≡ s.arenas → IsInFlight t flying
     → IsBeingSwept s flown → IsBeingSwept t flying
 swept_in s t flown flying e flies b = record {

@@ -1,8 +1,7 @@
 -- As marking begins, its invariants hold, and it is tied to the collection.
 use Rattle.std.proofs.Common.{◌≡◌, ◌<◌, ◌≤◌, ◌⊎◌, ◌↔◌, ℕ, suc, true, false, List, [], ◌∷◌, length, map, Option, Some}
-use Rattle.std.proofs.Common.{None, is_some, refl, sym, ap, subst, ◌∙◌, inl, inr, arith, Contains, sum_by}
+use Rattle.std.proofs.Common.{None, is_some, refl, sym, ap, subst, ◌∙◌, inl, inr, arith, Contains}
 use Rattle.std.specs.Int.{bit_at}
-use Rattle.std.proofs.lemmas.List.Sums.{sum_by-cons}
 use Rattle.std.proofs.lemmas.Bool.{cases_lt, cases_eq}
 use Rattle.std.specs.FinMap as places
 use Rattle.gz_names.specs.Zones.{HasZone, zones_in}
@@ -14,18 +13,20 @@ use Rattle.zones.specs.declared.states.State.{State}
 use Rattle.zones.specs.declared.states.State.TheVariants as state
 use Rattle.cell_bits.specs.declared.bits.Bits.{Bits}
 use Rattle.mark_stack.specs.Stack.{Piles, no_places}
-use Rattle.gray_lists.specs.Incoming.{Incoming, IsOnce, list_at, list_of, waiting_count}
+use Rattle.gray_lists.specs.Incoming.{Incoming, IsOnce}
 use Rattle.colour_defs.specs.Graph.{GraphState, IsInZones, value_of}
 use Rattle.colour_defs.specs.Closure.{Closure, HasEdge as HasNamedEdge}
-use Rattle.colour_defs.specs.World.{World, Collection, Has, IsSettled, BlackClosure, LiveClosure}
-use Rattle.colour_defs.specs.World.{IsPresent as IsPresentName, marking_of}
-use Rattle.colour_defs.specs.Laws.{IsValid, IsWellFormed}
+use Rattle.colour_defs.specs.World.{World, Collection, Has, BlackClosure, LiveClosure}
+use Rattle.colour_defs.specs.World.{IsPresent as IsPresentName}
+use Rattle.colour_defs.specs.Laws.{IsValid, IsValidPreparing, IsWellFormed}
+use Rattle.colour_defs.specs.Lawful.{Begins}
 use Rattle.colour_defs.proofs.Lists.{contains_cases, contains_head, contains_tail, nothing_in_none}
 use Rattle.colour_defs.proofs.Finite.{no_name}
 use Rattle.colour_defs.proofs.Membership.{in_zone, zone_in}
 use Rattle.colour_defs.proofs.ZoneSets.{zones_in-has}
-use Rattle.heap_core.specs.Shape.{Shape, is_white, HasEdge, IsPresent, cell_of, held_name, is_marking, is_marking_state}
-use Rattle.heap_core.specs.Shape.{name_at, out_of, state_in, zone_of, field_in, AreWhole}
+use Rattle.heap_core.specs.Shape.{Shape, is_white, HasEdge, IsDelegate, IsPresent, cell_of, held_name, is_marking}
+use Rattle.heap_core.specs.Shape.{is_marking_state, is_prepare_state, name_at, out_of, state_in, zone_of, field_in}
+use Rattle.heap_core.specs.Shape.{AreWhole}
 use Rattle.heap_core.specs.Heap.{HeapState, flown_or, joined, with_flown}
 use Rattle.heap_core.specs.Shows.{Shows, StandsFor}
 use Rattle.barriers.specs.Reached.{HasEntry, Reached}
@@ -34,15 +35,16 @@ use Rattle.barriers.specs.Colours.{IsBlack, IsGray, IsSeen}
 use Rattle.barriers.specs.PendingBlack.{PendingBlack}
 use Rattle.barriers.specs.PendingLive.{GrayInvariant, IsLiveStart, PendingLive}
 use Rattle.barriers.specs.WeakPoint.{WeakPoint, left_of}
-use Rattle.barriers.specs.Invariant.{ColourInvariant, MarkingInvariant, ShapeInvariant}
+use Rattle.barriers.specs.Invariant.{ColourInvariant, IsToFollow, MarkingInvariant, ShapeInvariant}
+use Rattle.barriers.specs.LeftOut.{Counts, PreparingInvariant}
 use Rattle.barriers.specs.Spreading.{Covers}
 use Rattle.barriers.proofs.Slots.{slots_most}
-use Rattle.barriers.proofs.BlackClosure.{none_on_wake, pending_is_reached, reached_from, reached_is_pending}
+use Rattle.barriers.proofs.BlackClosure.{pending_is_reached, reached_from, reached_is_pending}
 use Rattle.barriers.proofs.BlackClosure.{reached_more}
 use Rattle.barriers.proofs.LiveClosure.{live_is_reached, reached_is_live}
-use Rattle.slice_driver.proofs.beginning.HasBegun.{HasBegun}
+use Rattle.slice_driver.proofs.abstraction.Waits.{none_waiting}
 use Rattle.slice_driver.specs.Worlds.{LiesIn, owners_of, outs_from}
-use Rattle.slice_driver.specs.Closures.{AreBlack, AreTied}
+use Rattle.slice_driver.specs.Closures.{AreTied}
 use Rattle.slice_driver.specs.Collector.{CollectorState, RunState}
 use Rattle.slice_driver.specs.Represents.{AreInStates, AreLookedAt, Runs}
 use Rattle.slice_driver.specs.Begins.{BeginsMarking, IsWithin}
@@ -69,45 +71,60 @@ no_edge_from_none s x y e = go (cell_of s x) refl e.2
     go None at f = absurd (cc f)
     go (Some c) at f = ap is_some at
 
--- where all lists are empty, nothing waits
-all_empty : (lists : List (List Place)) → ((c : ℕ) → list_at lists c ≡ []) → sum_by length lists ≡ 0
-all_empty [] none = refl
-all_empty (xs ∷ lists) none =
-    omega (
-      arith,
-      sum_by-cons (λ (ys : List Place). length ys) xs lists,
-      all_empty lists (λ c. none (suc c)),
-      ap (λ (ys : List Place). length ys) (none 0),
-    )
+-- exactly these zones are being prepared, and the others are in no collection
+pub record IsPrepared (h : HeapState) (p : Piles) (zones : ZoneSet) : Type 0 where
+  pub invariant : PreparingInvariant h p
+  pub inside : (z : ℕ) → HasZone zones.bits z → state_in h.shape z ≡ state.Prepare
+  pub outside : (z : ℕ) → (HasZone zones.bits z → ⊥) → state_in h.shape z ≡ state.NoGC
 
-pub none_waiting : (lists : Incoming) → ((c : ℕ) → list_of lists c ≡ []) → waiting_count lists ≡ 0
-none_waiting lists none = all_empty lists.lists none
+-- the colour of each other cell counts
+pub counts_out : (h : HeapState) (p : Piles) (zones : ZoneSet) → IsPrepared h p zones → (x : Place)
+    → (IsWithin h.shape zones x → ⊥) → Counts h.shape x
+counts_out h p zones at x out = ap is_prepare_state (at.outside (zone_of h.shape x) out)
+
+-- where no cell is pending none is to be followed
+none_follows : (h : HeapState) (p : Piles) (zones : ZoneSet) → IsPrepared h p zones → (x : Place)
+    → IsToFollow [] p x → ⊥
+none_follows h p zones at x (inl c) =
+    nothing_in_none x (subst (λ (q : Piles). Contains q.black x) at.invariant.empty c)
+none_follows h p zones at x (inr (inl c)) =
+    nothing_in_none x (subst (λ (q : Piles). Contains q.wake x) at.invariant.empty c)
+none_follows h p zones at x (inr (inr c)) = nothing_in_none x c
 
 module _ (h : HeapState) (old : Piles) (zones : ZoneSet) (k : HeapState) (stack : Piles) (lists : Incoming)
-    (inv : MarkingInvariant h old) (b : BeginsMarking h zones k stack lists) (settled : (x : Place)
-    → is_marking h.shape x ≡ false) (none_out : (a : ℕ) → out_of h.shape a ≡ None) (regs_held : (x : Place)
+    (at : IsPrepared h old zones) (b : BeginsMarking h zones k stack lists) (regs_held : (x : Place)
     → Contains h.shape.regs (Some x) → IsPresent h.shape x) (slots_held : (x : Place) → Contains h.shape.slots (Some x)
     → IsPresent h.shape x) where
   shape : ShapeInvariant h.shape
-  shape = inv.holds.colours.shape
+  shape = at.invariant.holds.colours.shape
 
-  -- in a settled heap nothing is pending
-  black_along : (x y : Place) → IsBlack h x → HasEdge h.shape x y → IsBlack h y
-  black_along x y bx e = elim (inv.holds.closed x y bx e) [
+  counts : (x : Place) → (IsWithin h.shape zones x → ⊥) → Counts h.shape x
+  counts = counts_out h old zones at
+
+  -- what is black outside of these zones leads there to black
+  black_along : (x y : Place) → (IsWithin h.shape zones x → ⊥) → (IsWithin h.shape zones y → ⊥) → IsBlack h x
+      → HasEdge h.shape x y → IsBlack h y
+  black_along x y out outer bx e = elim (at.invariant.holds.closed x y (counts x out) bx e (counts y outer)) [
     | inl by ↦ by
-    | inr (inl c) ↦ cc ((inv.holds.piles.black x c).1, settled x)
-    | inr (inr (inl c)) ↦ absurd (none_on_wake h old x inv c)
-    | inr (inr (inr c)) ↦ absurd (nothing_in_none x c)
+    | inr c ↦ absurd (none_follows h old zones at x c)
   ]
 
-  black_value : (m q v : Place) → HasEntry h.shape m q v → IsBlack h m → IsBlack h q → IsBlack h v
-  black_value m q v e bm bq = elim (inv.holds.weak_closed m q v e bm bq (settled v)) [
+  black_value : (m q v : Place) → (IsWithin h.shape zones v → ⊥) → HasEntry h.shape m q v → IsBlack h m → IsBlack h q
+      → IsBlack h v
+  black_value m q v out e bm bq = elim (at.invariant.holds.weak_closed m q v e (counts v out) bm bq) [
     | inl bv ↦ bv
-    | inr (inl c) ↦ absurd (none_on_wake h old m inv c)
-    | inr (inr (inl c)) ↦ absurd (none_on_wake h old q inv c)
-    | inr (inr (inr (inl c))) ↦ absurd (nothing_in_none m c)
-    | inr (inr (inr (inr c))) ↦ absurd (nothing_in_none q c)
+    | inr (inl c) ↦ absurd (none_follows h old zones at m c)
+    | inr (inr c) ↦ absurd (none_follows h old zones at q c)
   ]
+
+  black_key : (m q v d : Place) → (IsWithin h.shape zones q → ⊥) → (IsWithin h.shape zones d → ⊥)
+      → HasEntry h.shape m q v → IsDelegate h.shape q d → IsBlack h m → IsBlack h d → IsBlack h q
+  black_key m q v d out outer e is bm bd =
+      elim (at.invariant.holds.key_closed m q v d e is (counts q out) (counts d outer) bm bd) [
+        | inl bq ↦ bq
+        | inr (inl c) ↦ absurd (none_follows h old zones at m c)
+        | inr (inr c) ↦ absurd (none_follows h old zones at d c)
+      ]
 
   -- the shape afterwards has other states alone
   arenas_are : k.shape.arenas ≡ h.shape.arenas
@@ -128,7 +145,8 @@ module _ (h : HeapState) (old : Piles) (zones : ZoneSet) (k : HeapState) (stack 
 
   marking_outside : (x : Place) → (IsWithin h.shape zones x → ⊥) → is_marking k.shape x ≡ false
   marking_outside x n = ap (λ z. is_marking_state (state_in k.shape z)) (zone_same x)
-      ∙ (ap is_marking_state (b.other_states (zone_of h.shape x) n) ∙ settled x)
+      ∙ (ap is_marking_state (b.other_states (zone_of h.shape x) n)
+      ∙ ap is_marking_state (at.outside (zone_of h.shape x) n))
 
   not_marking : (x : Place) → is_marking k.shape x ≡ false → IsWithin h.shape zones x → ⊥
   not_marking x e w = cc (e, marking_within x w)
@@ -142,6 +160,9 @@ module _ (h : HeapState) (old : Piles) (zones : ZoneSet) (k : HeapState) (stack 
   entry_was : (m q v : Place) → HasEntry k.shape m q v → HasEntry h.shape m q v
   entry_was m q v e = ap (λ w. entry_of w m q) (sym weak_is) ∙ e
 
+  delegate_was : (q d : Place) → IsDelegate k.shape q d → IsDelegate h.shape q d
+  delegate_was q d is = subst (λ (s : Shape). IsDelegate s q d) b.shape_is is
+
   present_was : (x : Place) → IsPresent k.shape x → IsPresent h.shape x
   present_was x p = subst (λ (s : Shape). IsPresent s x) b.shape_is p
 
@@ -149,7 +170,7 @@ module _ (h : HeapState) (old : Piles) (zones : ZoneSet) (k : HeapState) (stack 
   present_is x p = subst (λ (s : Shape). IsPresent s x) (sym b.shape_is) p
 
   seen_out : (x : Place) → IsPresent h.shape x → (IsWithin h.shape zones x → ⊥) → IsSeen k x
-  seen_out x here n = elim (inv.holds.colours.no_white x here (settled x)) [
+  seen_out x here n = elim (at.invariant.holds.colours.seen x here (counts x n)) [
     | inl g ↦ inl (b.outside x n ∙ g)
     | inr bl
         ↦ inr (b.outside x n ∙ bl)
@@ -170,15 +191,16 @@ module _ (h : HeapState) (old : Piles) (zones : ZoneSet) (k : HeapState) (stack 
     across = shape.across;
     entries = shape.entries;
     one_zone = shape.one_zone;
-    kept = λ x m. none_out x.0;
+    delegates = shape.delegates;
+    kept = λ x m. at.invariant.holds.colours.none_out x.0;
   })
 
   colours_begun : ColourInvariant k
   colours_begun = record {
     shape = shape_begun;
-    sized = b.sized ∙ (inv.holds.colours.sized ∙ ap (λ xs. length xs) (sym arenas_are));
+    sized = b.sized ∙ (at.invariant.holds.colours.sized ∙ ap (λ xs. length xs) (sym arenas_are));
     seen_present = λ x s. present_is x (elim (within_or_not x) [
-      | inr n ↦ inv.holds.colours.seen_present x
+      | inr n ↦ at.invariant.holds.colours.seen_present x
           (elim s [ inl g ↦ inl (sym (b.outside x n) ∙ g) | inr bl ↦ inr (sym (b.outside x n) ∙ bl) ])
       | inl w ↦ elim s [
         | inl g ↦ absurd (b.none_gray x w g)
@@ -190,7 +212,7 @@ module _ (h : HeapState) (old : Piles) (zones : ZoneSet) (k : HeapState) (stack 
     regs_black = λ x c. (let r : Contains h.shape.regs (Some x) =
         subst (λ (s : Shape). Contains s.regs (Some x)) b.shape_is c in elim (within_or_not x) [
           | inl w ↦ (b.within x w).1 (inl r)
-          | inr n ↦ b.outside x n ∙ inv.holds.colours.regs_black x r
+          | inr n ↦ b.outside x n ∙ at.invariant.holds.colours.regs_black x r (counts x n)
         ]);
   }
 
@@ -204,6 +226,10 @@ module _ (h : HeapState) (old : Piles) (zones : ZoneSet) (k : HeapState) (stack 
     gray = λ m q v e sm sq takes.
         let only = b.states (zone_of h.shape v) (is_in v (ap is_marking_state takes)) in
         let now = ap (state_in k.shape) (sym (zone_same v)) ∙ takes in
+        cc (only, now);
+    gray_key = λ m q v d e is sm sd takes.
+        let only = b.states (zone_of h.shape q) (is_in q (ap is_marking_state takes)) in
+        let now = ap (state_in k.shape) (sym (zone_same q)) ∙ takes in
         cc (only, now);
   }
 
@@ -224,7 +250,7 @@ module _ (h : HeapState) (old : Piles) (zones : ZoneSet) (k : HeapState) (stack 
             inl (elim (within_or_not y) [
               | inl w ↦ (b.within y w).1 (inr (x, n, bh, was))
               | inr m
-                  ↦ b.outside y m ∙ black_along x y bh was
+                  ↦ b.outside y m ∙ black_along x y n m bh was
             ])
       ];
       weak_closed = λ m q v e bm bq no.
@@ -233,7 +259,21 @@ module _ (h : HeapState) (old : Piles) (zones : ZoneSet) (k : HeapState) (stack 
           let out = not_marking v no in
           let om : IsWithin h.shape zones m → ⊥ = λ w. out (zone_within m v same.0 w) in
           let oq : IsWithin h.shape zones q → ⊥ = λ w. out (zone_within q v same.1 w) in
-          inl (b.outside v out ∙ black_value m q v was (sym (b.outside m om) ∙ bm) (sym (b.outside q oq) ∙ bq));
+          inl (b.outside v out
+          ∙ black_value m q v out was (sym (b.outside m om) ∙ bm) (sym (b.outside q oq) ∙ bq));
+      key_closed = λ m q v d e is bm bd.
+          let was = entry_was m q v e in
+          let same = shape.one_zone m q v was in
+          elim (within_or_not m) [
+            | inl w ↦ inr (inl (inl ((b.black_pile m).1 (bm, w))))
+            | inr om ↦ elim (within_or_not d) [
+              | inl w ↦ inr (inr (inl (inl ((b.black_pile d).1 (bd, w)))))
+              | inr od ↦
+                  let oq : IsWithin h.shape zones q → ⊥ = λ w. om (zone_within q m (same.1 ∙ sym same.0) w) in
+                  inl (b.outside q oq ∙ black_key m q v d oq od was (delegate_was q d is)
+                  (sym (b.outside m om) ∙ bm) (sym (b.outside d od) ∙ bd))
+            ]
+          ];
     };
     none_woken = b.wake_pile;
     weak = weak_begun;
@@ -305,7 +345,7 @@ named_held s (o ∷ xs) p x c e = elim (contains_cases o xs (Some p) c) [
 
 module _ (h : HeapState) (w : World) (l : LiesIn h w) (zones : ZoneSet) where
   -- zones by places and by names
-  zones_named : (p : Place) (x : Name) → name_at h.shape p ≡ Some x → IsWithin h.shape zones p
+  pub zones_named : (p : Place) (x : Name) → name_at h.shape p ≡ Some x → IsWithin h.shape zones p
       → IsInZones w.graph (zones_in zones) x
   zones_named p x e within =
       in_zone w.graph (zones_in zones) x (zone_of h.shape p) (zone_named h l.graph w.graph p x l.shown l.part.part e)
@@ -374,27 +414,36 @@ abbrev IsLiveRoot : HeapState → ZoneSet → Place → Type 0
 IsLiveRoot h zones x = IsBlackStart h zones x
     ⊎ (Contains h.shape.slots (Some x) ⊎ (IsPresent h.shape x × (IsWithin h.shape zones x → ⊥)))
 
+-- the cells that are left out are black where the world has their names black
+abbrev pub AreBlackLeftOut : HeapState → World → Type 0
+AreBlackLeftOut h w =
+    (x : Name) (p : Place) → name_at h.shape p ≡ Some x → Counts h.shape p → Has w.black x ↔ IsBlack h p
+
 module _ (h : HeapState) (old : Piles) (w v : World) (zones : ZoneSet) (k : HeapState) (stack : Piles)
-    (lists : Incoming) (inv : MarkingInvariant h old) (b : BeginsMarking h zones k stack lists) (settled : (x : Place)
-    → is_marking h.shape x ≡ false) (none_out : (a : ℕ) → out_of h.shape a ≡ None) (l : LiesIn h w) (ok : IsValid w)
-    (black : AreBlack h w) (bg : HasBegun w (zones_in zones) v) where
+    (lists : Incoming) (at : IsPrepared h old zones) (b : BeginsMarking h zones k stack lists) (l : LiesIn h w)
+    (ok : IsValid w) (black : AreBlackLeftOut h w) (bg : Begins w (zones_in zones) v) where
   abbrev c : Collection
   c = bg.collection
 
-  none_marking : IsSettled w
-  none_marking = record {
-    none_marking = ap (λ o. marking_of o) bg.idle.none_running;
-    none_preparing = bg.idle.none_preparing;
-  }
-
   begun : MarkingInvariant k stack
-  begun = marking_begun h old zones k stack lists inv b settled none_out l.shown.registers_held l.shown.slots_held
+  begun = marking_begun h old zones k stack lists at b l.shown.registers_held l.shown.slots_held
 
   gray : GrayInvariant k stack lists
-  gray = gray_begun h old zones k stack lists inv b settled none_out l.shown.registers_held l.shown.slots_held
+  gray = gray_begun h old zones k stack lists at b l.shown.registers_held l.shown.slots_held
 
   seen_present : (x : Place) → IsSeen h x → IsPresent h.shape x
-  seen_present = inv.holds.colours.seen_present
+  seen_present = at.invariant.holds.colours.seen_present
+
+  counts_here : (x : Place) → (IsWithin h.shape zones x → ⊥) → Counts h.shape x
+  counts_here = counts_out h old zones at
+
+  preparing : IsValidPreparing w bg.preparation
+  preparing = ok.preparing bg.preparation bg.was
+
+  -- a black name is of no zone that is prepared
+  black_out : (p : Place) (x : Name) → name_at h.shape p ≡ Some x → Has w.black x → IsWithin h.shape zones p → ⊥
+  black_out p x e has within = (preparing.left_out x has).1
+      (subst (λ zs. IsInZones w.graph zs x) (sym bg.of_zones) (zones_named h w l zones p x e within))
 
   none_woken : (x : Name) → Has c.woken x → ⊥
   none_woken x has = no_name x (subst (λ s. Has s x) bg.woken_is has)
@@ -405,15 +454,13 @@ module _ (h : HeapState) (old : Piles) (w v : World) (zones : ZoneSet) (k : Heap
       λ s. inl ((bg.black_starts x).1
           (elim s [
             | inl r ↦ inl ((regs_named h w l zones p x e).0 r)
-            | inr o
-                ↦ inr ((black x p e).1 o.1, λ within. o.0 (zones_placed h w l zones p x e within))
+            | inr o ↦ inr ((black x p e (counts_here p o.0)).1 o.1)
           ])),
       λ s. elim s [
         | inr t ↦ absurd (none_woken x t)
         | inl st ↦ elim ((bg.black_starts x).0 st) [
           | inl r ↦ inl ((regs_named h w l zones p x e).1 r)
-          | inr o
-              ↦ inr ((λ within. o.1 (zones_named h w l zones p x e within)), (black x p e).0 o.0)
+          | inr o ↦ (let out = black_out p x e o in inr (out, (black x p e (counts_here p out)).0 o))
         ]
       ],
     );
@@ -422,8 +469,7 @@ module _ (h : HeapState) (old : Piles) (w v : World) (zones : ZoneSet) (k : Heap
       | inr t ↦ absurd (none_woken x t)
       | inl st ↦ elim ((bg.black_starts x).0 st) [
         | inl r ↦ reg_present h w l zones x r
-        | inr o
-            ↦ (ok.settled none_marking).present x o.0
+        | inr o ↦ (preparing.left_out x o).0
       ]
     ];
   }
@@ -512,7 +558,7 @@ module _ (h : HeapState) (old : Piles) (w v : World) (zones : ZoneSet) (k : Heap
 
   seen_outside : (x : Place) → IsPresent h.shape x → (IsWithin h.shape zones x → ⊥) → IsSeen k x
   seen_outside x here n =
-      elim (inv.holds.colours.no_white x here (settled x)) [
+      elim (at.invariant.holds.colours.seen x here (counts_here x n)) [
         | inl g ↦ inl (b.outside x n ∙ g)
         | inr bl
             ↦ inr (b.outside x n ∙ bl)
@@ -601,7 +647,7 @@ module _ (h : HeapState) (old : Piles) (w v : World) (zones : ZoneSet) (k : Heap
     few_objects = subst (λ n. h.shape.objects ≤ n) (sym b.made_is) l.shown.few_objects;
   })
 
-  lies_here : LiesIn k (record w { black = v.black; collection = v.collection })
+  lies_here : LiesIn k (record w { preparing = None; collection = Some bg.collection })
   lies_here = record {
     whole = subst AreWhole (ap (λ (s : Shape). s.arenas) (sym b.shape_is)) l.whole;
     graph = l.graph;
@@ -620,9 +666,7 @@ module _ (h : HeapState) (old : Piles) (w v : World) (zones : ZoneSet) (k : Heap
   }
 
   pub lies_begun : LiesIn k v
-  lies_begun = subst (λ (u : World). LiesIn k u)
-      (ap (λ o. record w { black = v.black; collection = o }) (ap (λ (u : World). u.collection) bg.world_is)
-      ∙ sym bg.world_is) lies_here
+  lies_begun = subst (λ (u : World). LiesIn k u) (sym bg.world_is) lies_here
 
 -- where no arena is out, none is in flight
 own_bits : (flown : ℕ → Option Bits) (n : ℕ) (xs : List Bits) → ((a : ℕ) → flown a ≡ None) → with_flown flown n xs ≡ xs
@@ -642,30 +686,30 @@ none_flown h flown delayed covers none =
     gone (Some b) e = absurd (cc e)
 
 -- the states of the zones, and the collection that runs
-module _ (h : HeapState) (zones : ZoneSet) (c : CollectorState) (b : BeginsMarking h zones c.heap c.stack c.lists)
-    (states : (z : ℕ) → state_in h.shape z ≡ state.NoGC) (none_out : (a : ℕ) → out_of h.shape a ≡ None) where
+module _ (h : HeapState) (old : Piles) (zones : ZoneSet) (c : CollectorState) (at : IsPrepared h old zones)
+    (b : BeginsMarking h zones c.heap c.stack c.lists) where
   abbrev run : RunState
-  run = record { zones = zones; formed = false }
+  run = record { zones = zones; formed = false; clearing = None }
 
   none_out_now : (a : ℕ) → out_of c.heap.shape a ≡ None
-  none_out_now a = ap (λ (s : Shape). out_of s a) b.shape_is ∙ none_out a
+  none_out_now a = ap (λ (s : Shape). out_of s a) b.shape_is ∙ at.invariant.holds.colours.none_out a
 
   state_cases : (z : ℕ) → (HasZone zones.bits z × (state_in c.heap.shape z ≡ state.MarkBlackOnly))
       ⊎ ((HasZone zones.bits z → ⊥) × (state_in c.heap.shape z ≡ state.NoGC))
   state_cases z = elim (has_or_not zones.bits z) [
     | inl has ↦ inl (has, b.states z has)
     | inr n
-        ↦ inr (n, b.other_states z n ∙ states z)
+        ↦ inr (n, b.other_states z n ∙ at.outside z n)
   ]
 
   pub states_begun : ((z : ℕ) → HasZone zones.bits z → z < length h.shape.states) → AreInStates c run
   states_begun made = record {
-    outside = λ z n. b.other_states z n ∙ states z;
+    outside = λ z n. b.other_states z n ∙ at.outside z n;
     made = λ z has. subst (λ n. z < n) (sym b.count) (made z has);
     early = λ e z has. b.states z has;
     later = λ e z group. absurd (cc e);
     ended = λ e z has none. absurd (cc e);
-    sweeping = λ z a p at zone some. absurd (cc (some, none_out_now a));
+    sweeping = λ z a p is zone some. absurd (cc (some, none_out_now a));
     swept = λ none z e. elim (state_cases z) [ inl m ↦ cc (m.1, e) | inr n ↦ cc (n.1, e) ];
   }
 
@@ -680,10 +724,11 @@ module _ (h : HeapState) (zones : ZoneSet) (c : CollectorState) (b : BeginsMarki
   )
 
   -- but for what was looked at, the collection that has begun runs
-  pub runs_begun : (w v : World) (bg : HasBegun w (zones_in zones) v)
+  pub runs_begun : (w v : World) (bg : Begins w (zones_in zones) v)
       → ((z : ℕ) → HasZone zones.bits z → z < length h.shape.states) → AreTied c.heap c.stack c.lists v bg.collection
       → AreLookedAt c.heap c run v bg.collection → Runs c.heap c v run bg.collection
   runs_begun w v bg made tied looked = record {
+    started = refl;
     zones_are = bg.zones_are;
     marking_are = λ z. subst (λ zs. Contains zs z ↔ (is_marking_state (state_in c.heap.shape z) ≡ true))
         (sym bg.marking_are) (marking_are_begun z);
@@ -694,18 +739,17 @@ module _ (h : HeapState) (zones : ZoneSet) (c : CollectorState) (b : BeginsMarki
   }
 
 pub begins_marking : (h k : HeapState) (old stack : Piles) (lists : Incoming) (zones : ZoneSet) (w : World)
-    → MarkingInvariant h old → BeginsMarking h zones k stack lists → ((x : Place) → is_marking h.shape x ≡ false)
-    → ((a : ℕ) → out_of h.shape a ≡ None) → LiesIn h w → MarkingInvariant k stack × GrayInvariant k stack lists
-begins_marking h k old stack lists zones w inv b settled none_out l = (
-  marking_begun h old zones k stack lists inv b settled none_out l.shown.registers_held l.shown.slots_held,
-  gray_begun h old zones k stack lists inv b settled none_out l.shown.registers_held l.shown.slots_held,
+    → IsPrepared h old zones → BeginsMarking h zones k stack lists → LiesIn h w
+    → MarkingInvariant k stack × GrayInvariant k stack lists
+begins_marking h k old stack lists zones w at b l = (
+  marking_begun h old zones k stack lists at b l.shown.registers_held l.shown.slots_held,
+  gray_begun h old zones k stack lists at b l.shown.registers_held l.shown.slots_held,
 )
 
 pub begins_tied : (h k : HeapState) (old stack : Piles) (lists : Incoming) (zones : ZoneSet) (w v : World)
-    → MarkingInvariant h old → BeginsMarking h zones k stack lists → ((x : Place) → is_marking h.shape x ≡ false)
-    → ((a : ℕ) → out_of h.shape a ≡ None) → LiesIn h w → IsValid w → AreBlack h w → (bg : HasBegun w (zones_in zones) v)
-    → LiesIn k v × AreTied k stack lists v bg.collection
-begins_tied h k old stack lists zones w v inv b settled none_out l ok black bg = (
-  lies_begun h old w v zones k stack lists inv b settled none_out l ok black bg,
-  tied_begun h old w v zones k stack lists inv b settled none_out l ok black bg,
+    → IsPrepared h old zones → BeginsMarking h zones k stack lists → LiesIn h w → IsValid w → AreBlackLeftOut h w
+    → (bg : Begins w (zones_in zones) v) → LiesIn k v × AreTied k stack lists v bg.collection
+begins_tied h k old stack lists zones w v at b l ok black bg = (
+  lies_begun h old w v zones k stack lists at b l ok black bg,
+  tied_begun h old w v zones k stack lists at b l ok black bg,
 )

@@ -1,4 +1,4 @@
--- A world in which a collection begins.
+-- The worlds in which a collection is being prepared, and in which its marking begins.
 use Rattle.std.proofs.Common.{◌≡◌, ◌≢◌, ◌<◌, ◌⊎◌, ◌↔◌, ◌&&◌, ◌||◌, not, ℕ, Bool, true, false, List, [], ◌∷◌, Option}
 use Rattle.std.proofs.Common.{Some, None, is_some, refl, sym, ap, subst, ◌∙◌, inl, inr, Contains}
 use Rattle.std.specs.FinSet as set
@@ -8,13 +8,12 @@ use Rattle.std.specs.Ordering.{eq_by_cmp}
 use Rattle.gz_names.specs.Order.{name_cmp, names_total}
 use Rattle.gz_names.specs.declared.names.Name.{Name}
 use Rattle.colour_defs.specs.Graph.{GraphState, IsInZones, is_in_zones}
-use Rattle.colour_defs.specs.World.{World, Collection, Has, IsIdle, Names, IsPresent, first_preparation, first_tally}
-use Rattle.colour_defs.specs.Lawful.{BeginsAtOnce}
+use Rattle.colour_defs.specs.World.{World, Collection, Has, IsIdle, Names, IsPresent, Preparation, first_preparation}
+use Rattle.colour_defs.specs.World.{first_tally}
+use Rattle.colour_defs.specs.Lawful.{Begins, Prepares}
 use Rattle.colour_defs.proofs.Lists.{contains_cases, contains_head, contains_tail, first_of_both, nothing_in_none}
 use Rattle.colour_defs.proofs.Lists.{second_of_both, both_of}
 use Rattle.colour_defs.proofs.Names.{eq_name-is, eq_name-refl, names_apart}
-use Rattle.slice_driver.proofs.abstraction.Named.{some_one}
-use Rattle.slice_driver.proofs.beginning.HasBegun.{HasBegun}
 
 -- the names among what is held, and a set of them
 some_names : List (Option Name) → List Name
@@ -116,42 +115,41 @@ has_union s t x =
     (λ h. o.0 (sym e ∙ h), λ h. e ∙ o.1 h)
 
 -- the collection
-black_start_set : World → List ℕ → Names
-black_start_set w zones = set.union (held_set w.graph.registers) (outside_set w.graph zones w.black)
+black_start_set : World → Names
+black_start_set w = set.union (held_set w.graph.registers) w.black
 
 live_start_set : World → List ℕ → Names
 live_start_set w zones =
-    set.union (black_start_set w zones) (set.union (held_set w.graph.slots) (outside_set w.graph zones (present_set w)))
+    set.union (black_start_set w) (set.union (held_set w.graph.slots) (outside_set w.graph zones (present_set w)))
 
-abbrev first_collection : World → List ℕ → Collection
-first_collection w zones = record {
-  zones = zones;
-  marking = zones;
+abbrev first_collection : World → Preparation → Collection
+first_collection w p = record {
+  zones = p.zones;
+  marking = p.zones;
   snapshot = w.graph;
-  black_starts = black_start_set w zones;
-  live_starts = live_start_set w zones;
+  black_starts = black_start_set w;
+  live_starts = live_start_set w p.zones;
   woken = set.empty;
   groups = None;
-  tally = first_tally w (first_preparation w zones);
+  tally = first_tally w p;
 }
 
-has_black_start : (w : World) (zones : List ℕ) (x : Name) → Has (black_start_set w zones) x
-    ↔ (Contains w.graph.registers (Some x) ⊎ (Has w.black x × (IsInZones w.graph zones x → ⊥)))
+has_black_start : (w : World) (x : Name) → Has (black_start_set w) x
+    ↔ (Contains w.graph.registers (Some x) ⊎ Has w.black x)
 unfolding black_start_set
-has_black_start w zones x =
-    let u = has_union (held_set w.graph.registers) (outside_set w.graph zones w.black) x in
-    let r = has_held w.graph.registers x in
-    let o = has_outside w.graph zones w.black x in (
-      λ h. elim (u.0 h) [ inl a ↦ inl (r.0 a) | inr b ↦ inr (o.0 b) ],
-      λ h. u.1 (elim h [ inl a ↦ inl (r.1 a) | inr b ↦ inr (o.1 b) ]),
+has_black_start w x =
+    let u = has_union (held_set w.graph.registers) w.black x in
+    let r = has_held w.graph.registers x in (
+      λ h. elim (u.0 h) [ inl a ↦ inl (r.0 a) | inr b ↦ inr b ],
+      λ h. u.1 (elim h [ inl a ↦ inl (r.1 a) | inr b ↦ inr b ]),
     )
 
 has_live_start : (w : World) (zones : List ℕ) (x : Name) → Has (live_start_set w zones) x
-    ↔ (Has (black_start_set w zones) x
+    ↔ (Has (black_start_set w) x
     ⊎ (Contains w.graph.slots (Some x) ⊎ (IsPresent w x × (IsInZones w.graph zones x → ⊥))))
 unfolding live_start_set
 has_live_start w zones x =
-    let u = has_union (black_start_set w zones)
+    let u = has_union (black_start_set w)
     (set.union (held_set w.graph.slots) (outside_set w.graph zones (present_set w))) x in
     let t = has_union (held_set w.graph.slots) (outside_set w.graph zones (present_set w)) x in
     let r = has_held w.graph.slots x in
@@ -168,104 +166,37 @@ has_live_start w zones x =
       ]),
     )
 
--- the worlds between and after
-abbrev prepared : World → List ℕ → World
-prepared w zones = record w { black = outside_set w.graph zones w.black; preparing = Some (first_preparation w zones) }
-
-pub begins_in : (w : World) (zones : List ℕ) → IsIdle w → zones ≢ [] → ((z : ℕ) → Contains zones z → z < w.graph.zones)
-    → (v : World) × BeginsAtOnce w zones v
-begins_in w zones idle some made = (
-  record w {
-    black = outside_set w.graph zones w.black;
-    preparing = None;
-    collection = Some (first_collection w zones);
-  },
+-- the world in which these zones are being prepared
+pub prepares_in : (w : World) (zones : List ℕ) → IsIdle w → zones ≢ []
+    → ((z : ℕ) → Contains zones z → z < w.graph.zones) → (v : World) × Prepares w zones v
+prepares_in w zones idle some made = (
+  record w { black = outside_set w.graph zones w.black; preparing = Some (first_preparation w zones) },
   record {
-    between = prepared w zones;
-    prepares = record {
-      idle = idle;
-      made = made;
-      some = some;
-      world_is = refl;
-      black_are = has_outside w.graph zones w.black;
-    };
-    begins = record {
-      preparation = first_preparation w zones;
-      was = refl;
-      of_zones = refl;
-      collection = first_collection w zones;
-      world_is = refl;
-      zones_are = refl;
-      marking_are = refl;
-      snapshot_is = refl;
-      woken_is = refl;
-      groups_are = refl;
-      tally_is = refl;
-      black_starts = λ x. (let b = has_black_start w zones x in let o = has_outside w.graph zones w.black x in (
-        λ h. elim (b.0 h) [ inl r ↦ inl r | inr q ↦ inr (o.1 q) ],
-        λ h. b.1 (elim h [ inl r ↦ inl r | inr q ↦ inr (o.0 q) ]),
-      ));
-      live_starts = has_live_start w zones;
-    };
+    idle = idle;
+    made = made;
+    some = some;
+    world_is = refl;
+    black_are = has_outside w.graph zones w.black;
   },
 )
 
--- what this says of the worlds before and after
-pub has_begun : (w : World) (zones : List ℕ) (v : World) → BeginsAtOnce w zones v → HasBegun w zones v
-has_begun w zones v b = record {
-  idle = b.prepares.idle;
-  made = b.prepares.made;
-  collection = b.begins.collection;
-  world_is = after ∙ ap (λ p. record w { black = v.black; preparing = p; collection = Some b.begins.collection })
-      (sym b.prepares.idle.none_preparing);
-  black_are = λ x. (let p = b.prepares.black_are x in
-      (λ h. p.0 (subst (λ s. Has s x) same_black h), λ h. subst (λ s. Has s x) (sym same_black) (p.1 h)));
-  zones_are = b.begins.zones_are;
-  marking_are = b.begins.marking_are;
-  snapshot_is = b.begins.snapshot_is ∙ graph_is;
-  woken_is = b.begins.woken_is;
-  groups_are = b.begins.groups_are;
-  tally_is = b.begins.tally_is ∙ (ap (λ (z : World). first_tally z b.begins.preparation) b.prepares.world_is
-      ∙ ap (first_tally w) prepared_is);
-  black_starts = λ x. (let p = b.prepares.black_are x in (
-    λ h. elim ((b.begins.black_starts x).0 h)
-        [ inl r ↦ inl (subst (λ g. Contains g.registers (Some x)) graph_is r) | inr q ↦ inr (p.0 q) ],
-    λ h. (b.begins.black_starts x).1
-        (elim h [ inl r ↦ inl (subst (λ g. Contains g.registers (Some x)) (sym graph_is) r) | inr q ↦ inr (p.1 q) ]),
-  ));
-  live_starts = λ x. (
-    λ h. elim ((b.begins.live_starts x).0 h) [
-      | inl s ↦ inl s
-      | inr (inl s) ↦ inr (inl (subst (λ g. Contains g.slots (Some x)) graph_is s))
-      | inr (inr q) ↦ inr (inr (
-        subst (λ m. places.contains_key m x ≡ true) places_are q.0,
-        λ i. q.1 (subst (λ g. IsInZones g zones x) (sym graph_is) i),
-      ))
-    ],
-    λ h. (b.begins.live_starts x).1 (elim h [
-      | inl s ↦ inl s
-      | inr (inl s) ↦ inr (inl (subst (λ g. Contains g.slots (Some x)) (sym graph_is) s))
-      | inr (inr q) ↦ inr (inr (
-        subst (λ m. places.contains_key m x ≡ true) (sym places_are) q.0,
-        λ i. q.1 (subst (λ g. IsInZones g zones x) graph_is i),
-      ))
-    ]),
-  );
-}
-  where
-    graph_is : b.between.graph ≡ w.graph
-    graph_is = ap (λ (z : World). z.graph) b.prepares.world_is
-
-    places_are : b.between.places ≡ w.places
-    places_are = ap (λ (z : World). z.places) b.prepares.world_is
-
-    prepared_is : b.begins.preparation ≡ first_preparation w zones
-    prepared_is = some_one _ _ (sym b.begins.was ∙ ap (λ (z : World). z.preparing) b.prepares.world_is)
-
-    same_black : v.black ≡ b.between.black
-    same_black = ap (λ (z : World). z.black) b.begins.world_is
-
-    after : v ≡ record w { black = v.black; preparing = None; collection = Some b.begins.collection }
-    after = b.begins.world_is
-        ∙ (ap (λ (z : World). record z { preparing = None; collection = Some b.begins.collection }) b.prepares.world_is
-        ∙ ap (λ s. record w { black = s; preparing = None; collection = Some b.begins.collection }) (sym same_black))
+-- the world in which marking of the zones that were prepared begins
+pub begins_in : (w : World) (p : Preparation) → w.preparing ≡ Some p → (v : World) × Begins w p.zones v
+begins_in w p was = (
+  record w { preparing = None; collection = Some (first_collection w p) },
+  record {
+    preparation = p;
+    was = was;
+    of_zones = refl;
+    collection = first_collection w p;
+    world_is = refl;
+    zones_are = refl;
+    marking_are = refl;
+    snapshot_is = refl;
+    woken_is = refl;
+    groups_are = refl;
+    tally_is = refl;
+    black_starts = has_black_start w;
+    live_starts = has_live_start w p.zones;
+  },
+)

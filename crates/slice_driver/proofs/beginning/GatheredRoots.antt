@@ -281,7 +281,7 @@ listed_one s zones i below none =
     off true e = absurd (none (below, eqb-true (bit_at zones.bits i) 1 e))
     off false e = refl
 
--- no zone has more than so many
+-- no zone has more than this number
 pub listed_most : (s : Shape) (test : ℕ → Bool) → HasFewWrappers s → (n : ℕ)
     → listed_below s test n ≤ 274877906944 * n
 unfolding listed_below

@@ -13,7 +13,8 @@ use Rattle.zones.specs.declared.states.State.TheVariants as state
 use Rattle.mark_stack.specs.Stack.{Piles, no_places}
 use Rattle.gray_lists.specs.Incoming.{IsOnce, list_of}
 use Rattle.weak_maps.specs.Places.{is_same}
-use Rattle.weak_maps.specs.WeakMaps.{EntryState, LooksState, value_at}
+use Rattle.weak_maps.specs.Entries.{value_at}
+use Rattle.weak_maps.specs.WeakMaps.{IsSound as AreEntries, LooksState}
 use Rattle.weak_maps.proofs.Places.{is_same-self}
 use Rattle.roots.specs.Buffers.{buffer_at}
 use Rattle.colour_defs.specs.Graph.{empty_graph}
@@ -33,11 +34,13 @@ use Rattle.barriers.specs.PendingLive.{GrayInvariant, buffer_of}
 use Rattle.barriers.specs.Invariant.{MarkingInvariant, ShapeInvariant}
 use Rattle.barriers.proofs.Scans.{once_empty}
 use Rattle.barriers.proofs.Slots.{slots_most}
+use Rattle.weak_maps.specs.declared.entries.WeakEntry.{WeakEntry}
 use Rattle.slice_driver.specs.Collector.{CollectorState, heap_with}
-use Rattle.slice_driver.specs.Worlds.{LiesIn, outs_from, owners_of}
-use Rattle.slice_driver.specs.Represents.{NothingLeft, Represents, RunsAs}
+use Rattle.slice_driver.specs.Worlds.{AreRowsAtHome, LiesIn, outs_from, owners_of}
+use Rattle.slice_driver.specs.Represents.{NothingLeft, RepresentsMarking, RunsAs}
 use Rattle.slice_driver.specs.Units as flight
-use Rattle.slice_driver.proofs.beginning.Beginning.{none_waiting}
+use Rattle.slice_driver.proofs.abstraction.Waits.{none_waiting}
+use Rattle.slice_driver.proofs.basics.LeftLooks.{none_of}
 use Rattle.slice_driver.proofs.abstraction.Crossing.{same_part}
 
 pub no_buffer : (n z : ℕ) → slice_index_or (replicate {A = List Place} n []) z [] ≡ []
@@ -123,6 +126,7 @@ module _ (c : CollectorState) (e : IsEmpty c.heap) where
     across = λ p q f lt is apart. absurd (no_edge p q (f, lt, is));
     entries = λ m k v is. absurd (cc (e.entries m k, is));
     one_zone = λ m k v is. absurd (cc (e.entries m k, is));
+    delegates = λ m k v d is. absurd (cc (e.entries m k, is));
     kept = λ p m. none_out p.0;
   }
 
@@ -146,11 +150,13 @@ module _ (c : CollectorState) (e : IsEmpty c.heap) where
           };
           closed = λ p q b edge. absurd (no_edge p q edge);
           weak_closed = λ m k v is bm bk off. absurd (cc (e.entries m k, is));
+          key_closed = λ m k v d is delegate bm bd. absurd (cc (e.entries m k, is));
         };
         none_woken = wake;
         weak = record {
           black = λ m k v is bm bk on. absurd (cc (e.entries m k, is));
           gray = λ m k v is sm sk takes. absurd (cc (e.entries m k, is));
+          gray_key = λ m k v d is delegate sm sd takes. absurd (cc (e.entries m k, is));
         };
         once = once_empty h stack black gray;
       }
@@ -177,33 +183,41 @@ module _ (c : CollectorState) (e : IsEmpty c.heap) where
         room = omega (arith, size);
       }
 
-pub represents_first : (c : CollectorState) → IsEmpty c.heap → c.stack.black ≡ [] → c.stack.gray ≡ []
-    → c.stack.wake ≡ []
-    → ((n : ℕ) → list_of c.lists n ≡ []) → c.run ≡ None → Represents c flight.none_flown first_world
-represents_first c e black gray wake lists run = record {
-  placed = record { delayed = e.delayed; lies = lies c e };
-  swept = record {
-    apart = λ x p q up uq. absurd (let none = none_out c e p.0 in cc (none, up.out_is));
-    flies = record { covers = λ a. ap is_some (sym (none_out c e a)); woken = λ a old new is at. absurd (cc at) };
-  };
-  coloured = record {
-    marks = marks c e c.stack black gray wake;
-    gray = gray_begins c e c.stack gray lists;
-    waits = record {
-      piled = λ x has. absurd (nothing_in_none x (subst (λ xs. Contains xs x) gray has));
-      buffered = λ z m. nothing_buffered c e z;
-      incoming = λ n p has. absurd (nothing_in_none p (subst (λ xs. Contains xs p) (lists n) has));
-      looks = λ quiet. subst (λ (l : LooksState). NothingLeft l) (sym e.looks)
-          ((λ n. (λ at. cc at, λ at. cc at)), (λ n. (λ at. cc at, λ at. cc at)));
+  -- a row is that of an entry, and there is none
+  no_rows : AreEntries c.heap.shape.weak → AreRowsAtHome c.heap.shape
+  no_rows sound row has =
+      absurd (let entered = sound.entered row has in let none = e.entries row.map row.key in cc (none, entered.1))
+
+  nothing_left : NothingLeft c.heap.looks
+  nothing_left = subst (λ (l : LooksState). NothingLeft l) (sym e.looks)
+      (((λ n. (λ at. cc at, λ at. cc at)), λ n at. cc at), ((λ n. (λ at. cc at, λ at. cc at)), λ n at. cc at))
+
+  pub represents_first : AreEntries c.heap.shape.weak → c.stack.black ≡ [] → c.stack.gray ≡ [] → c.stack.wake ≡ []
+      → ((n : ℕ) → list_of c.lists n ≡ []) → c.run ≡ None → RepresentsMarking c flight.none_flown first_world
+  represents_first sound black gray wake lists run = record {
+    placed = record { delayed = e.delayed; lies = lies; homes = no_rows sound };
+    swept = record {
+      apart = λ x p q up uq. absurd (let none = none_out p.0 in cc (none, up.out_is));
+      flies = record { covers = λ a. ap is_some (sym (none_out a)); woken = λ a old new is at. absurd (cc at) };
     };
-  };
-  phase = record {
-    calm = refl;
-    black = λ s x p is. absurd (cc (no_name c.heap e p, is));
-    runs = subst (λ r. RunsAs (heap_with c flight.none_flown) c first_world r None) (sym run)
-        (record { states = no_state c e; kept = none_out c e; black = black; gray = gray });
-  };
-}
+    coloured = record {
+      marks = marks c.stack black gray wake;
+      gray = gray_begins c.stack gray lists;
+      waits = record {
+        piled = λ x has. absurd (nothing_in_none x (subst (λ xs. Contains xs x) gray has));
+        buffered = λ z m. nothing_buffered z;
+        incoming = λ n p has. absurd (nothing_in_none p (subst (λ xs. Contains xs p) (lists n) has));
+        looks = λ quiet. nothing_left;
+        of_marking = none_of c.heap.shape c.heap.looks nothing_left;
+      };
+    };
+    phase = record {
+      calm = refl;
+      black = λ s x p is. absurd (cc (no_name c.heap e p, is));
+      runs = subst (λ r. RunsAs (heap_with c flight.none_flown) c first_world r None) (sym run)
+          (record { states = no_state; kept = none_out; black = black; gray = gray });
+    };
+  }
 
 -- a heap without cells is one as the collector is seen, and nothing is pending in it
 pub empty_viewed : (h : HeapState) → IsEmpty h → IsEmpty (without_delayed h)
@@ -221,6 +235,7 @@ empty_viewed h e = record {
   made = e.made;
   looks = e.looks;
   delayed = refl;
+  ledger = e.ledger;
 }
 
 pub none_pending : (h : HeapState) (p : Piles) → IsEmpty h → p ≡ no_places → pending h p ≡ no_places
@@ -228,7 +243,7 @@ none_pending h p e none = ap (λ (q : Piles). pending h q) none
     ∙ ap (λ (d : Piles). pending (record h { delayed = d }) no_places) e.delayed
 
 -- weak maps without a value have no entry
-pub no_entries : (es : List EntryState) → ((m k : Place) → value_at es m k ≡ None) → length es ≡ 0
+pub no_entries : (es : List WeakEntry) → ((m k : Place) → value_at es m k ≡ None) → length es ≡ 0
 no_entries [] none = refl
 no_entries (e ∷ es) none =
     absurd (by (is_same e.map e.map) (is_same e.key e.key) (is_same-self e.map) (is_same-self e.key) (none e.map e.key))

@@ -1,7 +1,7 @@
 -- The call of a command, also between two units of a collection.
 use Rattle.std.proofs.Common.{◌≡◌, ◌↔◌, ◌≤◌, ◌*◌, ℕ, false, List, length, Option, Some, None, is_some, Result, Ok, Err}
 use Rattle.std.proofs.Common.{IfErr, IfOk, OnErr, Contains, slice_get, if◌then◌else◌, refl, sym, ap, subst, ◌∙◌, inl}
-use Rattle.std.proofs.Common.{inr, IsSome, ◌+◌, ◌<◌, Bool, true, arith, eqb-true, slice_index_or, sum_by}
+use Rattle.std.proofs.Common.{inr, IsSome, ◌+◌, ◌||◌, ◌<◌, Bool, true, arith, eqb-true, slice_index_or}
 use Rattle.std.specs.Int.{bit_at}
 use Rattle.std.specs.FinSet as set
 use Rattle.gz_names.specs.declared.names.Name.{Name}
@@ -15,18 +15,20 @@ use Rattle.gz_names.specs.declared.replies.Reply.{Reply}
 use Rattle.gz_names.specs.declared.replies.CmdFault.{CmdFault}
 use Rattle.gz_names.specs.declared.replies.CmdFault.TheVariants as fault
 use Rattle.cell_bits.specs.declared.bits.Bits.{Bits}
+use Rattle.zones.specs.declared.states.State.TheVariants as state
 use Rattle.arena_table.specs.Cells.{CellState}
 use Rattle.arena_table.specs.Indexed.{in_zones}
 use Rattle.weak_maps.specs.Places.{is_same}
 use Rattle.weak_maps.specs.WeakMaps.{AreParallel, IsSound as AreEntries, value_of}
 use Rattle.weak_maps.proofs.Places.{is_same-self}
+use Rattle.slice_driver.proofs.basics.Rows.{rows_changed}
 use Rattle.wrappers.specs.WrapperMaps.{AreApart}
 use Rattle.mark_stack.specs.Stack.{Piles}
 use Rattle.gray_lists.specs.Incoming.{Incoming}
 use Rattle.colour_defs.specs.Graph.{GraphState, is_in_zones, register_cell}
 use Rattle.colour_defs.specs.Laws.{IsValid}
 use Rattle.colour_defs.specs.Step.{step_of}
-use Rattle.colour_defs.specs.Units.{Tally, is_held_in_zones, with_put, with_woken}
+use Rattle.colour_defs.specs.Units.{Tally, holds_delegate_in_zones, is_held_in_zones, with_put, with_woken}
 use Rattle.colour_defs.specs.World.{World, Collection, IsSettled, with_counts, woken_by}
 use Rattle.colour_defs.proofs.Lists.{both_of, nothing_in_none}
 use Rattle.colour_defs.proofs.Membership.{in_zone}
@@ -35,7 +37,8 @@ use Rattle.colour_defs.proofs.ValidCommands.{command_valid}
 use Rattle.heap_core.specs.declared.plans.Change.{Change}
 use Rattle.heap_core.specs.declared.plans.Change.TheVariants as change
 use Rattle.heap_core.specs.declared.plans.Plan.{Plan}
-use Rattle.heap_core.specs.Shape.{Shape, held_name, is_marking, is_marking_state, name_at, out_of, state_in, zone_of}
+use Rattle.heap_core.specs.Shape.{Shape, delegate_of_key, held_name, is_marking, is_marking_state, name_at, out_of}
+use Rattle.heap_core.specs.Shape.{state_in, state_of, zone_of}
 use Rattle.heap_core.specs.Heap.{HeapState, colour_in, colour_of, joined, reg_of, weak_of, with_flown, with_marks}
 use Rattle.heap_core.specs.Answers.{DoesStep}
 use Rattle.heap_core.specs.Changes.{IsWith, Makes}
@@ -45,11 +48,9 @@ use Rattle.heap_core.specs.Plans.{ChangesBy, IsAble, IsPlanIn, IsTarget, MayWant
 use Rattle.heap_core.proofs.Planned.{handed-wants, planned-at, planned-here}
 use Rattle.heap_core.proofs.Shown.{reg_present, reg_shown}
 use Rattle.heap_core.specs.Shows.{Shows}
-use Rattle.marker.specs.Looks.{looks_now}
-use Rattle.marker.specs.UnitsToCome.{starts_of}
 use Rattle.barriers.specs.Colours.{IsBlack}
 use Rattle.barriers.specs.Exposing.{BlackOr, Exposes}
-use Rattle.barriers.specs.Invariant.{MarkingInvariant}
+use Rattle.barriers.specs.Invariant.{IsSettled as IsSettledHeap, MarkingInvariant}
 use Rattle.barriers.specs.PendingLive.{GrayInvariant}
 use Rattle.barriers.specs.Reached.{Reached}
 use Rattle.barriers.specs.Spreading.{Covers}
@@ -59,17 +60,19 @@ use Rattle.slice_driver.specs.Closures.{AreTied}
 use Rattle.slice_driver.specs.Collector.{CollectorState, RunState, heap_with}
 use Rattle.slice_driver.specs.Commands.{ComesTo, DoesInWorld, Exposed, KeepsBlack, SpreadsBlack, StayInPlace, Wakes}
 use Rattle.slice_driver.specs.Commands.{waking, with_colours}
-use Rattle.slice_driver.specs.Remaining.{grouping_left, steps_left, steps_of, ungrouped_below}
-use Rattle.slice_driver.specs.Represents.{AreInStates, AreLookedAt, IsIdle, Represents, Runs, RunsAs, WaitsWhileMarking}
+use Rattle.slice_driver.specs.Remaining.{clearing_left, grouping_left, left_of, steps_left, steps_of, ungrouped_below}
+use Rattle.slice_driver.specs.Represents.{AreInStates, AreLookedAt, IsIdle, RepresentsMarking, Runs, RunsAs, going}
+use Rattle.slice_driver.specs.Represents.{WaitsWhileMarking}
 use Rattle.slice_driver.specs.Serves.{Serves}
 use Rattle.slice_driver.specs.Steps.{CommandSteps, GoesThrough}
-use Rattle.slice_driver.specs.Units.{AnswersIn, DoesCommand, KeepsFreedWords}
+use Rattle.slice_driver.specs.Units.{AnswersIn, KeepsFreedWords}
 use Rattle.slice_driver.specs.UnitsToCome.{marking_to_come, units_to_come}
 use Rattle.slice_driver.specs.Worlds.{IsInFlight, IsUnswept, LiesIn}
 use Rattle.slice_driver.proofs.beginning.Begun.{none_member}
 use Rattle.slice_driver.proofs.abstraction.Waits.{nothing_changed}
+use Rattle.slice_driver.proofs.basics.LeftLooks.{changed_left, same_left}
 use Rattle.slice_driver.proofs.commanding.CommandRuns.{names_come, names_stay, runs_served, waits_served}
-use Rattle.slice_driver.proofs.commanding.Commanding.{exposed_marks}
+use Rattle.slice_driver.proofs.commanding.Commanding.{exposed_marks, markable}
 use Rattle.slice_driver.proofs.marking.Flights.{still_flies}
 use Rattle.slice_driver.proofs.commanding.FreedWords.{keeps_words, same_words}
 use Rattle.heap_core.proofs.MakingCells.{same-place}
@@ -77,15 +80,20 @@ use Rattle.slice_driver.proofs.abstraction.Keeping.{stay_same}
 use Rattle.heap_core.proofs.Resolved.{shows_coloured}
 use Rattle.slice_driver.proofs.abstraction.Lying.{lies_coloured, lies_marked, woken_in, zone_named}
 use Rattle.slice_driver.proofs.measure.CommandsToCome.{CountsNoMore, change_wrappers, changed_marking, command_weak}
-use Rattle.slice_driver.proofs.measure.CommandsToCome.{counts, more_looks, more_wrappers, steps_by_state}
+use Rattle.slice_driver.proofs.measure.CommandsToCome.{counts, delegate_is, more_looks, more_wrappers, steps_by_state}
 use Rattle.slice_driver.proofs.measure.Fewer.{grouped}
 use Rattle.slice_driver.proofs.taking_in.Runs.{has_zone_or_not}
 use Rattle.slice_driver.proofs.marking.MarkingSteps.{own_sized}
 use Rattle.slice_driver.proofs.marking.MarkingUnits.{piled_still, waits_on}
-use Rattle.slice_driver.proofs.abstraction.Named.{name_of, some_one}
+use Rattle.slice_driver.proofs.abstraction.Named.{delegate_named, name_of, some_one}
+use Rattle.slice_driver.proofs.abstraction.WorldRuns.{none_prepared}
+use Rattle.slice_driver.proofs.measure.MarkingToCome.{exposed_gray as exposed_pile}
+use Rattle.slice_driver.proofs.measure.StatesToCome.{looks_to_come}
+use Rattle.slice_driver.specs.declared.collector.Uncleared.{Uncleared}
+use Rattle.weak_maps.specs.declared.delegates.Delegate.{Delegate}
 use Rattle.slice_driver.proofs.abstraction.Moving.{IsHeld, Moves, finds, makes, moves_of, near_reached, quiet}
 use Rattle.slice_driver.proofs.commanding.Quiet.{does_quiet}
-use Rattle.slice_driver.proofs.abstraction.Steps.{settled_states}
+use Rattle.slice_driver.proofs.abstraction.Steps.{settled_heap, settled_states}
 use Rattle.slice_driver.proofs.abstraction.Serving.{serves}
 use Rattle.slice_driver.proofs.commanding.Through.{IsReached, represents_exposed, represents_through}
 use Rattle.slice_driver.proofs.commanding.Through.{represents_widened}
@@ -110,12 +118,6 @@ pub exposed_keeps : (o : Option Place) (h : HeapState) (s : Piles) (k : HeapStat
 exposed_keeps None h s k t e p b = subst (λ z. IsBlack z p) (sym e.0) b
 exposed_keeps (Some x) h s k t e p b = e.spreads.blackens.kept p b
 
-pub exposed_rest : (o : Option Place) (h k : HeapState) (f e : ℕ → Option Bits) (s t : Piles)
-    → Exposed o (joined h f) s (joined k e) t → k ≡ with_marks h k.colours k.delayed
-exposed_rest None h k f e s t x = ap (λ (z : HeapState). with_marks z k.colours k.delayed) x.0
-exposed_rest (Some p) h k f e s t x =
-    ap (λ (z : HeapState). with_marks z k.colours k.delayed) x.spreads.blackens.rest
-
 exposed_gray : (o : Option Place) (h k : HeapState) (s t : Piles) (lists : Incoming) → Exposed o h s k t
     → GrayInvariant h s lists → GrayInvariant k t lists
 exposed_gray None h k s t lists e g =
@@ -123,7 +125,7 @@ exposed_gray None h k s t lists e g =
 exposed_gray (Some x) h k s t lists e g = (e.pending_live lists g).0
 
 -- what registers hold and what they reach is reached from black
-held_reached : (c : CollectorState) (flown : ℕ → Option Bits) (w : World) → Represents c flown w → (p : Place)
+held_reached : (c : CollectorState) (flown : ℕ → Option Bits) (w : World) → RepresentsMarking c flown w → (p : Place)
     → Reached c.heap.shape (IsHeld c.heap) p → Reached c.heap.shape (IsBlack (heap_with c flown)) p
 held_reached c flown w rep p r = reached_more c.heap.shape (IsHeld c.heap) (IsBlack (heap_with c flown))
     (λ y held. rep.coloured.marks.holds.colours.regs_black y held) r
@@ -138,7 +140,7 @@ with_name x k = record k { woken = set.insert k.woken x }
 
 -- the last two steps: what is handed out goes through a barrier, and the heap does the command
 module _ (b : CollectorState) (flown : ℕ → Option Bits) (command : GraphCmd) (ch : Change) (w : World) (ok : IsValid w)
-    (rep : Represents b flown w) (ds : List Bits) (delayed stack : Piles) (flying : ℕ → Option Bits)
+    (rep : RepresentsMarking b flown w) (ds : List Bits) (delayed stack : Piles) (flying : ℕ → Option Bits)
     (exposed : Exposed (handed_by ch) (heap_with b flown) b.stack (joined (with_marks b.heap ds delayed) flying) stack)
     (covers : Covers b.heap.shape flying) (still : delayed ≡ b.heap.delayed) where
   abbrev given : Option Place
@@ -166,7 +168,7 @@ module _ (b : CollectorState) (flown : ℕ → Option Bits) (command : GraphCmd)
   gray = exposed_gray given (heap_with b flown) (joined m flying) b.stack stack b.lists exposed rep.coloured.gray
 
   -- nothing was handed out
-  pub nothing_handed : given ≡ None → Represents t flying w
+  pub nothing_handed : given ≡ None → RepresentsMarking t flying w
   nothing_handed none = represents_exposed b flown w rep m stack flying covers still given exposed
       (λ p e. absurd (cc (none, e)))
 
@@ -188,7 +190,9 @@ module _ (b : CollectorState) (flown : ℕ → Option Bits) (command : GraphCmd)
     wraps_black r z c t is = keeps t (target_black r z c t is)
 
     pub served : Serves (joined m flying) (joined new flying) stack b.lists
-    served = serves m new flying stack b.lists inv gray covers room b.heap.made ch answer able
+    served = serves m new flying stack b.lists inv gray covers room (markable b flown w rep).none_prepared b.heap.made
+        ch
+        answer able
         (λ p e. keeps p (gone_black p e))
         (λ p e. exposed_is given (heap_with b flown) b.stack (joined m flying) stack exposed p e)
         wraps_black change
@@ -218,16 +222,17 @@ module _ (b : CollectorState) (flown : ℕ → Option Bits) (command : GraphCmd)
     -- after the change the collector stands for the world after the command
     represents_after : (done : DoesInWorld w command answer new es)
         → ((p : Place) (x : Name) → IsUnswept new.shape p x ↔ IsUnswept m.shape p x) → IsInFlight m.shape flying
-        → WaitsWhileMarking (joined m flying) stack b.lists
-        → RunsAs (joined new flying) d done.after b.run done.after.collection
+        → WaitsWhileMarking (joined m flying) stack b.lists → RunsAs (joined new flying) d done.after b.run
+        done.after.collection
         → AnswersIn w command (Ok answer) d flying
     represents_after done unswept flies waits runs = (
       done.after,
       done.command,
-      record {
+      going (record {
         placed = record {
           delayed = delayed_kept m new ch answer change ∙ (still ∙ rep.placed.delayed);
           lies = done.lies;
+          homes = rows_changed m new ch answer change rep.placed.homes;
         };
         swept = record {
           apart = λ x p q up uq. rep.swept.apart x p q ((unswept p x).0 up) ((unswept q x).0 uq);
@@ -236,10 +241,11 @@ module _ (b : CollectorState) (flown : ℕ → Option Bits) (command : GraphCmd)
         coloured = record {
           marks = served.marks;
           gray = served.gray;
-          waits = waits_served t d flying refl served inv (nothing_changed m new ch answer change) waits;
+          waits = waits_served t d flying refl served inv (nothing_changed m new ch answer change)
+              (changed_left m new ch answer change) waits;
         };
         phase = record { calm = done.preparing_is ∙ rep.phase.calm; black = done.black; runs = runs };
-      },
+      }),
     )
 
     -- the collection that runs, by what it is after the command
@@ -292,7 +298,8 @@ module _ (b : CollectorState) (flown : ℕ → Option Bits) (command : GraphCmd)
         → ((p : Place) → given ≡ Some p → Reached b.heap.shape (IsHeld b.heap) p)
         → AnswersIn w command (Ok answer) d flying
     answers_quiet stay wakes colours reach =
-        let there : Represents t flying w = represents_exposed b flown w rep m stack flying covers still given exposed
+        let there : RepresentsMarking t flying w = represents_exposed b flown w rep m stack flying covers still given
+        exposed
         (λ p e. held_reached b flown w rep p (reach p e)) in
         let same : KeepsBlack (joined m flying) (with_colours new es) = λ p here. (
           λ black. ap (λ (bs : List Bits). colour_in (slice_get (with_flown flying 0 bs) p.0) p.1) (sym colours)
@@ -355,9 +362,9 @@ module _ (b : CollectorState) (flown : ℕ → Option Bits) (command : GraphCmd)
         colour_same : (q : Place) → colour_of (with_colours new es) q ≡ colour_of (joined m flying) q
         colour_same q = ap (λ (bs : List Bits). colour_in (slice_get (with_flown flying 0 bs) q.0) q.1) colours
 
-        none : IsSettled w → (q : Place) → is_marking b.heap.shape q ≡ false
-        none settled q = settled_states (heap_with b flown) b w b.run w.collection rep.phase.runs settled.none_marking
-            (zone_of b.heap.shape q)
+        none : IsSettled w → IsSettledHeap (heap_with b flown)
+        none settled = settled_heap (heap_with b flown) b.stack b.lists rep.coloured.waits
+            (settled_states (heap_with b flown) b w b.run w.collection rep.phase.runs settled.none_marking)
 
         spreads : IsSettled w → SpreadsBlack (heap_with b flown) p (with_colours new es)
         spreads settled q = (
@@ -382,8 +389,9 @@ module _ (b : CollectorState) (flown : ℕ → Option Bits) (command : GraphCmd)
 
         waits : WaitsWhileMarking (joined m flying) stack b.lists
         waits = waits_on (heap_with b flown) (joined m flying) b.stack stack b.lists refl refl rep.coloured.waits
-            (piled_still (heap_with b flown) (joined m flying) b.stack stack b.lists refl rep.coloured.waits
+            (piled_still (heap_with b flown) (joined m flying) b.stack stack b.lists refl refl rep.coloured.waits
             ex.spreads.gray_is) rep.coloured.waits.looks
+            (same_left b.heap.shape b.heap.looks m.shape m.looks refl refl)
 
         idle_found : IsIdle b → IsIdle t
         idle_found i = record {
@@ -417,8 +425,10 @@ module _ (b : CollectorState) (flown : ℕ → Option Bits) (command : GraphCmd)
                 from = across.from;
                 to = across.to;
                 apart = across.apart;
-              }) (record { index = at.index; before = at.before; stands = at.stands }))
-              [ inl black ↦ inl (keeps z black) | inr e ↦ inr e ];
+              }) (record { index = at.index; before = at.before; stands = at.stands })) [
+                | inl black ↦ inl (keeps z black)
+                | inr e ↦ inr (e.0, λ key. elim (e.1 key) [ inl b ↦ inl (keeps y b) | inr back ↦ inr back ])
+              ];
           left_black = elim l.left_black [
             | inl fresh ↦ inl fresh
             | inr black
@@ -429,14 +439,15 @@ module _ (b : CollectorState) (flown : ℕ → Option Bits) (command : GraphCmd)
         runs_woken : (r : RunState) (k : Collection) → w.collection ≡ Some k → Runs (heap_with b flown) b w r k
             → Runs (joined m flying) t w r (with_name x k)
         runs_woken r k at i = record {
+          started = i.started;
           zones_are = i.zones_are;
           marking_are = i.marking_are;
           groups_are = i.groups_are;
           states = states_found r i.states;
           tied = λ z has. tied_exposed (heap_with b flown) (joined m flying) b.stack stack b.lists w k p x ok
               (lies_coloured b.heap (with_flown flown 0 b.heap.colours) w rep.placed.lies) at
-              (λ none. nothing_in_none z (subst (λ zs. Contains zs z) none has)) rep.coloured.marks rep.coloured.gray ex
-              named
+              (λ none. nothing_in_none z (subst (λ zs. Contains zs z) none has)) rep.coloured.marks rep.coloured.gray
+              ex named
               (i.tied z has);
           early = λ unformed. looked_found r k (i.early unformed);
         }
@@ -486,7 +497,7 @@ module _ (b : CollectorState) (flown : ℕ → Option Bits) (command : GraphCmd)
         represents_after done comes.unswept there.swept.flies there.coloured.waits
         (runs_all done (names_come m.shape new.shape zone p x comes) b.run w.collection refl there.phase.runs ties)
       where
-        there : Represents t flying w
+        there : RepresentsMarking t flying w
         there = nothing_handed nothing
 
         sized : length m.colours ≡ length m.shape.arenas
@@ -495,14 +506,17 @@ module _ (b : CollectorState) (flown : ℕ → Option Bits) (command : GraphCmd)
         colour_same : (q : Place) → colour_of (joined new flying) q ≡ colour_of (joined between flying) q
         colour_same q = ap (λ (bs : List Bits). colour_in (slice_get (with_flown flying 0 bs) q.0) q.1) colours
 
-        none_marking : IsSettled w → (q : Place) → is_marking new.shape q ≡ false
-        none_marking settled q = ap is_marking_state (served.states (zone_of new.shape q))
-            ∙ settled_states (joined m flying) t w b.run w.collection there.phase.runs settled.none_marking
-            (zone_of new.shape q)
+        none_marking : IsSettled w → IsSettledHeap (joined new flying)
+        none_marking settled = settled_heap (joined new flying) stack b.lists
+            (waits_served t d flying refl served inv (nothing_changed m new ch answer change)
+            (changed_left m new ch answer change) there.coloured.waits)
+            (λ z. ap is_marking_state (served.states z)
+            ∙ settled_states (joined m flying) t w b.run w.collection there.phase.runs settled.none_marking z)
 
         spreads : IsSettled w → SpreadsBlack (joined m flying) p (joined new flying)
         spreads settled = one_spreads (joined m flying) (joined new flying) stack p served.marks (none_marking settled)
-            (colour_same p ∙ made_black m zone p cell between flying mk covers sized)
+            (colour_same p ∙ made_black m zone p cell between flying mk covers sized
+            (none_prepared t flying w there zone))
             (λ q n. colour_same q ∙ others_keep m zone p cell between flying mk covers sized q n)
 
         done : DoesInWorld w command answer new es
@@ -544,7 +558,8 @@ module _ (b : CollectorState) (flown : ℕ → Option Bits) (command : GraphCmd)
               refl,
               λ z has.
                   tied_made (joined m flying) (joined new flying) stack b.lists w done.after k zone p x ok
-                  (command_valid w done.after command answer ok done.command) at lies_joined
+                  (command_valid w done.after command answer ok done.command) at
+                  (λ none. nothing_in_none z (subst (λ zs. Contains zs z) none has)) lies_joined
                   (lies_after done.after done.lies) served comes
                   (λ n is. number n is ∙ (sym lies.shown.objects_made ∙ lies.part.part.made))
                   (was k b.run (subst (λ u. RunsAs (joined m flying) t w b.run u) at there.phase.runs) z has) _
@@ -580,11 +595,12 @@ module _ (b : CollectorState) (flown : ℕ → Option Bits) (command : GraphCmd)
 pub through_rest : (o : Option Place) (c : CollectorState) (flown : ℕ → Option Bits) (d : CollectorState)
     (flying : ℕ → Option Bits) → GoesThrough o c flown d flying
     → d.heap ≡ with_marks c.heap d.heap.colours d.heap.delayed
-through_rest o c flown d flying t = exposed_rest o c.heap d.heap flown flying c.stack d.stack t.exposed
+through_rest o c flown d flying t = t.heap_is
+    ∙ ap (with_marks c.heap d.heap.colours) (sym (ap (λ (h : HeapState). h.delayed) t.heap_is))
 
 module _ (c : CollectorState) (flown : ℕ → Option Bits) (command : GraphCmd) (result : Result Reply CmdFault)
     (d : CollectorState) (flying : ℕ → Option Bits) (steps : CommandSteps c flown command result d flying) (w : World)
-    (ok : IsValid w) (rep : Represents c flown w) where
+    (ok : IsValid w) (rep : RepresentsMarking c flown w) where
   abbrev wide : CollectorState
   wide = steps.wide
 
@@ -636,7 +652,7 @@ module _ (c : CollectorState) (flown : ℕ → Option Bits) (command : GraphCmd)
   plan_last = planned-at wide.heap last_heap command plan
       (ap (λ (h : HeapState). with_marks h ds delayed) second_wide) steps.planned
 
-  wide_stands : Represents wide flown w
+  pub wide_stands : RepresentsMarking wide flown w
   wide_stands = represents_widened c wide flown w steps.widens rep
 
   old_reached : IsReached plan.overwritten wide flown
@@ -644,7 +660,7 @@ module _ (c : CollectorState) (flown : ℕ → Option Bits) (command : GraphCmd)
       (near_reached wide.heap wide_stands.placed.lies.graph wide_stands.placed.lies.shown p
       (plan_wide.overwritten_near p e))
 
-  first_stands : Represents first steps.first_flown w
+  pub first_stands : RepresentsMarking first steps.first_flown w
   first_stands = represents_through plan.overwritten wide first flown steps.first_flown w steps.old_through old_reached
       wide_stands
 
@@ -653,7 +669,7 @@ module _ (c : CollectorState) (flown : ℕ → Option Bits) (command : GraphCmd)
       (near_reached first.heap first_stands.placed.lies.graph first_stands.placed.lies.shown p
       (plan_first.wrapped_near p e))
 
-  second_stands : Represents second steps.second_flown w
+  pub second_stands : RepresentsMarking second steps.second_flown w
   second_stands = represents_through plan.wrapped first second steps.first_flown steps.second_flown w
       steps.target_through target_reached first_stands
 
@@ -670,34 +686,37 @@ module _ (c : CollectorState) (flown : ℕ → Option Bits) (command : GraphCmd)
   exposed_last : Exposed (handed_by plan.change) (heap_with second steps.second_flown) second.stack
       (joined last_heap flying) steps.third.stack
   exposed_last = subst (λ h. Exposed (handed_by plan.change) (heap_with second steps.second_flown) second.stack
-      (joined h flying) steps.third.stack) third_rest steps.handed_through.exposed
+      (joined h flying) steps.third.stack) third_rest (steps.handed_through.marking
+      (markable second steps.second_flown w second_stands))
 
   still_last : delayed ≡ second.heap.delayed
-  still_last = steps.handed_through.delayed
+  still_last = ap (λ (h : HeapState). h.delayed) steps.handed_through.heap_is
 
   covers_last : Covers second.heap.shape flying
   covers_last = subst (λ (h : HeapState). Covers h.shape flying) third_rest steps.handed_through.covers
 
   -- where nothing was handed out and nothing done, the collector stands for what it stood for
-  still_stands : d.heap ≡ steps.third.heap → handed_by plan.change ≡ None → Represents d flying w
+  still_stands : d.heap ≡ steps.third.heap → handed_by plan.change ≡ None → RepresentsMarking d flying w
   still_stands same none =
-      let there : Represents last flying w = nothing_handed second steps.second_flown command plan.change w ok
+      let there : RepresentsMarking last flying w = nothing_handed second steps.second_flown command plan.change w ok
       second_stands ds delayed steps.third.stack flying exposed_last covers_last still_last none in
-      subst (λ e. Represents e flying w)
+      subst (λ e. RepresentsMarking e flying w)
       (sym (d_is ∙ ap (λ (h : HeapState). record last { heap = h }) (same ∙ third_rest))) there
 
   gone_black : (p : Place) → overwritten_by second.heap.shape plan.change ≡ Some p
       → IsBlack (heap_with second steps.second_flown) p
   gone_black p e =
       exposed_keeps plan.wrapped (heap_with first steps.first_flown) first.stack
-      (heap_with second steps.second_flown) second.stack steps.target_through.exposed p
+      (heap_with second steps.second_flown) second.stack
+      (steps.target_through.marking (markable first steps.first_flown w first_stands)) p
       (exposed_is plan.overwritten (heap_with wide flown) wide.stack (heap_with first steps.first_flown) first.stack
-      steps.old_through.exposed p (plan_second.replaced ∙ e))
+      (steps.old_through.marking (markable wide flown w wide_stands)) p (plan_second.replaced ∙ e))
 
   target_black : WrapsBlack (heap_with second steps.second_flown) plan.change
   target_black r z comp t is =
       exposed_is plan.wrapped (heap_with first steps.first_flown) first.stack
-      (heap_with second steps.second_flown) second.stack steps.target_through.exposed t
+      (heap_with second steps.second_flown) second.stack
+      (steps.target_through.marking (markable first steps.first_flown w first_stands)) t
       (subst (IsTarget plan.wrapped) is plan_wide.target)
 
   able_second : IsAble second.heap.shape second.heap.made plan.change
@@ -796,6 +815,27 @@ module _ (c : CollectorState) (flown : ℕ → Option Bits) (command : GraphCmd)
           (zone_named last_heap lies.graph w.graph p x.0 shows_last lies.part.part x.1)
           (in_collection (zone_of last_heap.shape p) on)
 
+      delegated_last : (r : ℕ) (p : Place) (t : Delegate) → reg_of last_heap r ≡ Some p
+          → delegate_of_key last_heap.shape p ≡ Some t → is_marking last_heap.shape t.target ≡ true
+          → holds_delegate_in_zones w.graph k.zones (register_cell w.graph r) ≡ true
+      delegated_last r p t holds key_is on =
+          let lies = second_stands.placed.lies in
+          let x = name_of last_heap.shape p (reg_present last_heap lies.graph r p shows_last holds) in
+          let named : register_cell w.graph r ≡ Some x.0 =
+          ap (λ (rs : List (Option Name)). slice_index_or rs r None) (sym lies.part.part.registers)
+          ∙ (reg_shown last_heap lies.graph r shows_last ∙ (ap (held_name last_heap.shape) holds ∙ x.1)) in
+          let target = delegate_named last_heap w (lies_marked second.heap ds delayed w lies) p t.target x.0
+          (delegate_is last_heap.shape p t key_is) x.1 in
+          ap (holds_delegate_in_zones w.graph k.zones) (named ∙ ap (λ (y : Name). Some y) target.2)
+          ∙ in_zone w.graph k.zones (Cell target.1) (zone_of last_heap.shape t.target)
+          (zone_named last_heap lies.graph w.graph t.target (Cell target.1) shows_last lies.part.part target.3)
+          (in_collection (zone_of last_heap.shape t.target) on)
+
+      piled_last : (x : Place) → Contains stack.gray x → state_of last_heap.shape x ≡ state.MarkBlackAndGray
+      piled_last x has = second_stands.coloured.waits.piled x (subst (λ (xs : List Place). Contains xs x)
+          (exposed_pile (handed_by plan.change) (heap_with second steps.second_flown) second.stack
+          (joined last_heap flying) stack exposed_last) has)
+
       -- map and key of an entry lie in one zone
       one_zone_last : (rm rk : ℕ) (pm pk pv : Place) → reg_of last_heap rm ≡ Some pm → reg_of last_heap rk ≡ Some pk
           → IsWith last_heap pm pk pv d.heap → zone_of last_heap.shape pk ≡ zone_of last_heap.shape pm
@@ -813,16 +853,15 @@ module _ (c : CollectorState) (flown : ℕ → Option Bits) (command : GraphCmd)
           (own_sized last_heap flying stack inv_last) covers_last
       counted_last = counts last_heap d.heap flying stack second.lists inv_last served_last
           (own_sized last_heap flying stack inv_last) covers_last command plan.change second_stands.placed.lies.whole
-          moves_ok
+          (none_prepared second steps.second_flown w second_stands) moves_ok
 
-      looks_last : looks_now d.heap.looks + sum_by (starts_of (joined d.heap flying) stack) d.heap.shape.weak.entries
-          ≤ looks_now last_heap.looks + sum_by (starts_of (joined last_heap flying) stack) last_heap.shape.weak.entries
-          + more_looks w.graph k.zones command
+      looks_last : looks_to_come (joined d.heap flying) stack
+          ≤ looks_to_come (joined last_heap flying) stack + more_looks w.graph k.zones command
       looks_last = command_weak last_heap d.heap flying stack second.lists inv_last served_last
           (own_sized last_heap flying stack inv_last) covers_last counted_last
           (subst (λ (h : HeapState). AreEntries h.shape.weak) (sym weak_last) sound)
           (subst (λ (h : HeapState). AreParallel (weak_of h)) (sym weak_last) parallel) w.graph k.zones held_last
-          command (plan_last.does steps.few answer d.heap change_ok).1 one_zone_last
+          delegated_last piled_last command (plan_last.does steps.few answer d.heap change_ok).1 one_zone_last
           (λ r q holds. reg_present last_heap second_stands.placed.lies.graph r q shows_last holds)
 
       marking_last : marking_to_come (joined d.heap flying) stack second.lists
@@ -876,14 +915,22 @@ module _ (c : CollectorState) (flown : ℕ → Option Bits) (command : GraphCmd)
               let none = grouped d.heap.shape second.edges runs_there.0 formed in
               omega (arith, none)
           go false unformed =
-              let now = ap (λ b. if b then 0 else left_to_look d.heap.shape second.edges
-              + ungrouped_below second.edges 64) unformed in
-              let was = ap (λ b. if b then 0 else left_to_look last_heap.shape second.edges
-              + ungrouped_below second.edges 64) unformed in
+              let now = ap (λ b. if b || is_some runs_there.0.clearing then 0
+              else left_to_look d.heap.shape second.edges + ungrouped_below second.edges 64) unformed
+              ∙ ap (λ (o : Option Uncleared). if is_some o then 0
+              else left_to_look d.heap.shape second.edges + ungrouped_below second.edges 64) runs_last.started in
+              let was = ap (λ b. if b || is_some runs_there.0.clearing then 0
+              else left_to_look last_heap.shape second.edges + ungrouped_below second.edges 64) unformed
+              ∙ ap (λ (o : Option Uncleared). if is_some o then 0
+              else left_to_look last_heap.shape second.edges + ungrouped_below second.edges 64) runs_last.started in
               let looks = change_wrappers last_heap d.heap flying stack second.lists inv_last served_last
               (own_sized last_heap flying stack inv_last) covers_last plan.change answer change_ok second.edges more
               (one_wrapper (runs_last.early unformed).zones_are) in
               omega (arith, now, was, looks)
+
+      -- nothing is to be cleared
+      none_clearing : (s : Shape) → clearing_left s second.run ≡ 0
+      none_clearing s = ap (clearing_left s) runs_there.1 ∙ ap (left_of s runs_there.0.zones) runs_last.started
 
       pub rises_ok : units_to_come d flying
           ≤ units_to_come steps.third flying + (more_looks w.graph k.zones command + more)
@@ -891,7 +938,16 @@ module _ (c : CollectorState) (flown : ℕ → Option Bits) (command : GraphCmd)
       rises_ok =
           let now = ap (λ (e : CollectorState). units_to_come e flying) d_is in
           let was = ap (λ (e : CollectorState). units_to_come e flying) third_is in
-          omega (arith, now, was, marking_last, grouping_last, steps_last)
+          omega (
+            arith,
+            now,
+            was,
+            marking_last,
+            grouping_last,
+            steps_last,
+            none_clearing d.heap.shape,
+            none_clearing last_heap.shape,
+          )
 
   -- a change that wants memory hands nothing out
   none_handed : MayWant steps.third.heap.shape plan.change → handed_by plan.change ≡ None
@@ -911,8 +967,11 @@ module _ (c : CollectorState) (flown : ℕ → Option Bits) (command : GraphCmd)
   answered (Err fault.NoMemory) is =
       let wanted : (fault.NoMemory ≡ fault.NoMemory) × MayWant steps.third.heap.shape plan.change =
       subst (λ r. IfErr r (λ why. (why ≡ fault.NoMemory) × MayWant steps.third.heap.shape plan.change)) is
-      steps.wanted in
-      still_stands (subst (λ r. OnErr r (d.heap ≡ steps.third.heap)) is steps.err) (none_handed wanted.1)
+      steps.wanted in (
+        w,
+        inl refl,
+        going (still_stands (subst (λ r. OnErr r (d.heap ≡ steps.third.heap)) is steps.err) (none_handed wanted.1)),
+      )
 
   pub answers_command : AnswersIn w command result d flying
   answers_command = answered result refl
@@ -942,9 +1001,3 @@ module _ (c : CollectorState) (flown : ℕ → Option Bits) (command : GraphCmd)
       go (Err why) is = same_words c.heap.shape d.heap.shape
           (ap (λ (h : HeapState). h.shape) (subst (λ r. OnErr r (d.heap ≡ steps.third.heap)) is steps.err) ∙
           (ap (λ (h : HeapState). h.shape) third_rest ∙ first_same))
-
-pub serves_command : (c : CollectorState) (flown : ℕ → Option Bits) (command : GraphCmd)
-    (result : Result Reply CmdFault) (d : CollectorState) (flying : ℕ → Option Bits)
-    → CommandSteps c flown command result d flying → DoesCommand c flown command result d flying
-serves_command c flown command result d flying steps w ok rep =
-    answers_command c flown command result d flying steps w ok rep

@@ -32,10 +32,11 @@ use Rattle.zone_edges.proofs.LeftBlack.{left_changes}
 use Rattle.slice_driver.specs.Closures.{AreTied}
 use Rattle.slice_driver.specs.Collector.{CollectorState, RunState}
 use Rattle.slice_driver.specs.Commands.{ComesTo, StayInPlace}
-use Rattle.slice_driver.specs.Represents.{AreInStates, AreLookedAt, IsInGroups, LeadsAcross, Runs}
+use Rattle.slice_driver.specs.Represents.{AreInStates, AreLookedAt, LeadsAcross, Runs}
 use Rattle.slice_driver.specs.Represents.{NothingLeft, WaitsWhileMarking}
 use Rattle.slice_driver.specs.Serves.{Serves}
 use Rattle.slice_driver.specs.Worlds.{LiesIn}
+use Rattle.slice_driver.proofs.basics.LeftLooks.{LooksLeftFrom, looks_of_marking}
 use Rattle.slice_driver.proofs.group_end.Places.{edge_from}
 use Rattle.slice_driver.proofs.commanding.JoinedChanges.{changes_joined, stood_before}
 use Rattle.heap_core.proofs.Resolved.{shows_coloured}
@@ -86,8 +87,16 @@ module _ (c d : CollectorState) (flying : ℕ → Option Bits) (rest : d ≡ rec
       }
 
   pub waits_served : MarkingInvariant old c.stack → (NothingLeft c.heap.looks → NothingLeft d.heap.looks)
+      → LooksLeftFrom c.heap.shape c.heap.looks d.heap.shape d.heap.looks
       → WaitsWhileMarking old c.stack c.lists → WaitsWhileMarking new c.stack c.lists
-  waits_served marks nothing a = record {
+  waits_served marks nothing left a = record {
+    of_marking = looks_of_marking c.heap.shape c.heap.looks d.heap.shape d.heap.looks
+        (λ p here. (
+          served.there p here.0,
+          ap (λ (z : ℕ). is_marking_state (state_in d.heap.shape z)) (served.zones p here.0)
+              ∙ (ap is_marking_state (served.states (zone_of c.heap.shape p)) ∙ here.1),
+        ))
+        left a.of_marking;
     piled = λ x has.
         (let present = marks.holds.colours.seen_present x (marks.holds.piles.gray x has) in
         ap (state_in d.heap.shape) (served.zones x present) ∙ served.states (zone_of c.heap.shape x)
@@ -186,6 +195,13 @@ module _ (c d : CollectorState) (flying : ℕ → Option Bits) (rest : d ≡ rec
     left_served left = left_changes old g c.edges (shows_coloured c.heap old.colours old.delayed g shows) apart left new
         c.heap.made ch answer able black (changes_joined c.heap flying covers sized d.heap ch answer changes)
 
+    edge_served : (p q : Place) → zone_of d.heap.shape p ≡ zone_of c.heap.shape p
+        → zone_of d.heap.shape q ≡ zone_of c.heap.shape q
+        → Edge c.edges.sources (zone_of c.heap.shape p) (zone_of c.heap.shape q)
+        → Edge c.edges.sources (zone_of d.heap.shape p) (zone_of d.heap.shape q)
+    edge_served p q from to e = subst (λ z. Edge c.edges.sources z (zone_of d.heap.shape q)) (sym from)
+        (subst (λ z. Edge c.edges.sources (zone_of c.heap.shape p) z) (sym to) e)
+
     pub looked_served : (r : RunState) → AreLookedAt old c r w k → AreLookedAt new d r v kk
     looked_served r a = subst (λ (x : CollectorState). AreLookedAt new x r v kk) (sym rest) now
       where
@@ -197,10 +213,16 @@ module _ (c d : CollectorState) (flying : ℕ → Option Bits) (rest : d ≡ rec
             | inr to_black ↦ inl to_black
             | inl was ↦ elim (a.looked p q was (looked_before p q was.edge looked)) [
               | inl to_black ↦ inl (served.darker q to_black)
-              | inr noted ↦ inr (subst (λ z. Edge c.edges.sources z (zone_of d.heap.shape q))
-                  (sym (zone_from marks p q was.edge))
-                  (subst (λ z. Edge c.edges.sources (zone_of c.heap.shape p) z) (sym (zone_to marks p q was.edge))
-                  noted))
+              | inr noted ↦ inr (
+                edge_served p q (zone_from marks p q was.edge) (zone_to marks p q was.edge) noted.0,
+                λ key. elim (served.keys key.0 p key.1 key.2) [
+                  | inr black_key ↦ inl black_key
+                  | inl key_then ↦ elim (noted.1 (key.0, key_then.0, key_then.1)) [
+                    | inl black_key ↦ inl (served.darker p black_key)
+                    | inr back ↦ inr (edge_served q p (zone_to marks p q was.edge) (zone_from marks p q was.edge) back)
+                  ]
+                ],
+              )
             ]
           ];
           left_black = elim a.left_black [ inl none ↦ inl none | inr left ↦ inr (left_served left) ];
@@ -209,6 +231,7 @@ module _ (c d : CollectorState) (flying : ℕ → Option Bits) (rest : d ≡ rec
     pub runs_served : (r : RunState) → Runs old c w r k
         → ((z : ℕ) → Contains kk.marking z → AreTied new d.stack d.lists v kk) → Runs new d v r kk
     runs_served r a tied = record {
+      started = a.started;
       zones_are = ap (λ (x : Collection). x.zones) same ∙ a.zones_are;
       marking_are = λ z. (
         λ on. ap is_marking_state (served.states z)

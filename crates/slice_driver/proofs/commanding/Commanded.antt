@@ -1,5 +1,6 @@
 -- From what the parts of the call of a command do to its steps.
-use Rattle.std.proofs.Common.{◌≡◌, ◌≤◌, ◌+◌, ◌==◌, ℕ, List, length, Option, Some, None, IsSome, is_some, true, false}
+use Rattle.std.proofs.Common.{◌≡◌, ◌≤◌, ◌+◌, ◌*◌, ◌==◌, ℕ, inl, List, length, Option, Some, None, IsSome, is_some, true}
+use Rattle.std.proofs.Common.{false}
 use Rattle.std.proofs.Common.{Result, Ok, Err, IfErr, IfOk, OnErr, if◌then◌else◌, refl, sym, ap, subst, ◌∙◌, arith}
 use Rattle.std.specs.Result.{is_err}
 use Rattle.gz_names.specs.declared.numbers.Place.{Place}
@@ -10,14 +11,14 @@ use Rattle.gz_names.specs.declared.replies.CmdFault.TheVariants as fault
 use Rattle.gz_names.specs.declared.replies.Refusal.{Refusal}
 use Rattle.cell_bits.specs.declared.bits.Bits.{Bits}
 use Rattle.wrappers.specs.WrapperMaps.{AreApart}
-use Rattle.mark_stack.specs.Stack.{Piles}
 use Rattle.gray_lists.specs.Incoming.{Incoming}
 use Rattle.colour_defs.specs.Graph.{GraphState}
+use Rattle.colour_defs.specs.World.{World}
 use Rattle.colour_defs.specs.Step.{HasFewFields, IsAccepted, refusal_in}
 use Rattle.colour_defs.proofs.ValidCommands.{command_valid}
 use Rattle.heap_core.specs.Shape.{out_of}
 use Rattle.weak_maps.specs.WeakMaps.{AreParallel, IsSound as AreEntries}
-use Rattle.heap_core.specs.Heap.{HeapState, joined, weak_of, with_marks}
+use Rattle.heap_core.specs.Heap.{HeapState, weak_of, with_marks}
 use Rattle.heap_core.specs.Answers as answers
 use Rattle.heap_core.specs.Answers.{DoesStep}
 use Rattle.heap_core.specs.Effects.{takes_memory}
@@ -30,31 +31,36 @@ use Rattle.heap_core.specs.declared.plans.Plan.{Plan}
 use Rattle.heap_core.specs.Plans.{ChangesBy, IsAble, IsPlanIn, IsPlanOf, MayWant, handed_by, made_by, overwritten_by}
 use Rattle.heap_core.proofs.Planned.{handed-wants, made-cells, overwritten-wants, planned-at, planned-here}
 use Rattle.heap_core.proofs.Stepping.{does-refused}
-use Rattle.barriers.specs.Invariant.{MarkingInvariant}
 use Rattle.barriers.proofs.Flying.{flown_length}
 use Rattle.gz_names.specs.declared.zone_sets.ZoneSet.{ZoneSet}
 use Rattle.zone_edges.specs.Noted.{Noted}
-use Rattle.slice_driver.specs.declared.collector.Run.{Run}
+use Rattle.slice_driver.specs.declared.collector.Phase.{Phase}
+use Rattle.slice_driver.specs.declared.collector.Phase.TheVariants as phase
 use Rattle.slice_driver.specs.Calls.{CommandDone}
-use Rattle.slice_driver.specs.Collector.{CollectorState, HasMore, IsKept}
-use Rattle.slice_driver.specs.Commands.{Exposed, WantsMemory}
+use Rattle.slice_driver.specs.Collector.{CollectorState, IsKept}
+use Rattle.slice_driver.specs.Commands.{WantsMemory}
+use Rattle.slice_driver.specs.Represents.{Represents, going, prepared}
 use Rattle.slice_driver.specs.Rooms.{IsRoomy, Widens, arenas_after}
 use Rattle.slice_driver.specs.Steps.{CommandSteps, GoesThrough}
 use Rattle.slice_driver.specs.Units.{AnswersIn, DoesCommand, IsSound, KeepsFreedWords, RaisesWithin}
-use Rattle.slice_driver.proofs.commanding.RaisesToCome.{raises_command, widened_to_come}
+use Rattle.slice_driver.proofs.commanding.RaisesToCome.{raises_marking, widened_to_come}
 use Rattle.slice_driver.proofs.commanding.FreedWords.{same_words}
-use Rattle.slice_driver.proofs.commanding.Answering.{exposed_rest, outs_command, serves_command, through_rest}
-use Rattle.slice_driver.proofs.commanding.Answering.{words_command}
-use Rattle.slice_driver.proofs.commanding.Commanding.{exposed_marks}
+use Rattle.slice_driver.proofs.commanding.Answering.{answers_command, outs_command, through_rest, words_command}
+use Rattle.slice_driver.proofs.commanding.PreparingCommands.{answers_preparing, outs_preparing, raises_preparing}
+use Rattle.slice_driver.proofs.commanding.PreparingCommands.{words_preparing}
+use Rattle.slice_driver.proofs.commanding.Viewed.{ledger_kept}
+use Rattle.slice_driver.proofs.abstraction.Wanted.{wanted_valid}
 use Rattle.heap_core.proofs.Resolved.{shows_coloured}
 use Rattle.slice_driver.proofs.abstraction.Lying.{accepted_in, refused_in}
 use Rattle.slice_driver.proofs.commanding.Rooms.{few_arenas, few_entries}
-use Rattle.slice_driver.proofs.commanding.Through.{represents_widened}
+use Rattle.slice_driver.proofs.abstraction.Phases.{placed_in}
+use Rattle.slice_driver.proofs.commanding.PreparingCommands.{preparing_world, represents_wide, running_marking}
 
-exposed_sized : (o : Option Place) (h : HeapState) (s : Piles) (k : HeapState) (t : Piles) → Exposed o h s k t
-    → length k.colours ≡ length h.colours
-exposed_sized None h s k t e = ap (λ (z : HeapState). length z.colours) e.0
-exposed_sized (Some x) h s k t e = e.spreads.blackens.sized
+-- each arena has bits
+sized_in : (c : CollectorState) (flown : ℕ → Option Bits) (w : World) → Represents c flown w
+    → length c.heap.colours ≡ length c.heap.shape.arenas
+sized_in c flown w (prepared rep) = rep.cleared.invariant.holds.colours.sized
+sized_in c flown w (going rep) = sym (flown_length flown 0 c.heap.colours) ∙ rep.coloured.marks.holds.colours.sized
 
 no_fewer : (h : HeapState) (o : Option ℕ) → length h.colours ≤ arenas_after h o
 no_fewer h None = omega arith
@@ -67,28 +73,30 @@ SameShape h k = k ≡ with_marks h k.colours k.delayed
 same_then : (h k l : HeapState) → SameShape h k → SameShape k l → SameShape h l
 same_then h k l a b = b ∙ ap (λ (z : HeapState). with_marks z l.colours l.delayed) a
 
-pub through_shape : (o : Option Place) (c d : CollectorState) (flown flying : ℕ → Option Bits)
-    → Exposed o (joined c.heap flown) c.stack (joined d.heap flying) d.stack → SameShape c.heap d.heap
-through_shape o c d flown flying e = exposed_rest o c.heap d.heap flown flying c.stack d.stack e
-
 pub same_sound : (h k : HeapState) → SameShape h k → answers.IsSound h → answers.IsSound k
 same_sound h k same s = (s.0, subst (λ z. Shows z s.0) (sym same) (shows_coloured h k.colours k.delayed s.0 s.1))
 
 pub sound_heap : (c : CollectorState) (flown : ℕ → Option Bits) → IsSound c flown → answers.IsSound c.heap
-sound_heap c flown s = (s.represents.placed.lies.graph, s.represents.placed.lies.shown)
+sound_heap c flown s =
+    let lies = (placed_in c flown s.world s.represents).lies in
+    (lies.graph, lies.shown)
+
+room_in : (c : CollectorState) (flown : ℕ → Option Bits) (w : World) → Represents c flown w
+    → 64 * length c.heap.colours ≤ c.lists.room
+room_in c flown w (prepared rep) = rep.cleared.room
+room_in c flown w (going rep) =
+    let n = flown_length flown 0 c.heap.colours in
+    let room = rep.coloured.gray.room in
+    omega (arith, n, room)
 
 pub sound_roomy : (c : CollectorState) (flown : ℕ → Option Bits) → IsSound c flown → IsRoomy c (length c.heap.colours)
-sound_roomy c flown s =
-    let n = flown_length flown 0 c.heap.colours in
-    let room = s.represents.coloured.gray.room in
-    record { lists = omega (arith, n, room) }
+sound_roomy c flown s = record { lists = room_in c flown s.world s.represents }
 
 pub through_sound : (o : Option Place) (c d : CollectorState) (flown flying : ℕ → Option Bits)
-    → Exposed o (joined c.heap flown) c.stack (joined d.heap flying) d.stack → answers.IsSound c.heap
-    → answers.IsSound d.heap
-through_sound o c d flown flying e s = same_sound c.heap d.heap (through_shape o c d flown flying e) s
+    → GoesThrough o c flown d flying → answers.IsSound c.heap → answers.IsSound d.heap
+through_sound o c d flown flying t s = same_sound c.heap d.heap (through_rest o c flown d flying t) s
 
--- the same heap, stack and lists, but for the room of the lists
+-- heap, stack and lists stay, but for the room of the lists
 pub wide_heap : (c d : CollectorState) → Widens c d → d.heap ≡ c.heap
 wide_heap c d wide = ap (λ (e : CollectorState). e.heap) wide.rest
 
@@ -96,30 +104,20 @@ pub wide_sound : (c d : CollectorState) (flown : ℕ → Option Bits) → Widens
     → answers.IsSound d.heap
 wide_sound c d flown wide s = subst answers.IsSound (sym (wide_heap c d wide)) (sound_heap c flown s)
 
-pub wide_marks : (c d : CollectorState) (flown : ℕ → Option Bits) → Widens c d → IsSound c flown
-    → MarkingInvariant (joined d.heap flown) d.stack
-wide_marks c d flown wide s = subst (λ (e : CollectorState). MarkingInvariant (joined e.heap flown) e.stack)
-    (sym wide.rest) s.represents.coloured.marks
-
-pub exposed_after : (o : Option Place) (c d : CollectorState) (flown flying : ℕ → Option Bits)
-    → Exposed o (joined c.heap flown) c.stack (joined d.heap flying) d.stack
-    → MarkingInvariant (joined c.heap flown) c.stack → MarkingInvariant (joined d.heap flying) d.stack
-exposed_after o c d flown flying e inv = exposed_marks o (joined c.heap flown) c.stack (joined d.heap flying) d.stack e
-    inv
-
 -- where room is wanted, nothing was done
 pub wide_words : (c d : CollectorState) → Widens c d → KeepsFreedWords c.heap.shape d.heap.shape
 wide_words c d wide = same_words c.heap.shape d.heap.shape (ap (λ (h : HeapState). h.shape) (wide_heap c d wide))
 
 pub wants_room : (c d : CollectorState) (flown : ℕ → Option Bits) (command : GraphCmd) → Widens c d
     → DoesCommand c flown command (Err fault.NoMemory) d flown
-wants_room c d flown command wide w ok rep = represents_widened c d flown w wide rep
+wants_room c d flown command wide w ok rep = (w, inl refl, represents_wide c d flown w wide rep)
 
 -- and nothing more is to come
 pub room_raises : (c d : CollectorState) (flown : ℕ → Option Bits) (command : GraphCmd) → Widens c d
     → RaisesWithin c flown command (Err fault.NoMemory) d flown
-room_raises c d flown command wide w k ok rep at =
-    let same = widened_to_come c d flown wide in omega (arith, same)
+room_raises c d flown command wide =
+    let same = widened_to_come c d flown wide in
+    record { marking = λ w k ok rep at. omega (arith, same); preparing = λ w p ok rep at. omega (arith, same) }
 
 pub where_err : {T E P : Type 0} (r : Result T E) → is_err r ≡ true → OnErr r P → P
 where_err (Ok x) e p = absurd (cc e)
@@ -129,19 +127,17 @@ where_err (Err y) e p = p
 pub room_wanted : (c d : CollectorState) (flown : ℕ → Option Bits) (command : GraphCmd) → Widens c d →
     ((g : GraphState) → Shows c.heap g → IsAccepted g command) → WantsMemory c flown command d flown
 room_wanted c d flown command wide accepted = record {
-  accepted = λ w ok rep. accepted_in w c.heap command ok rep.placed.lies
-      (accepted rep.placed.lies.graph rep.placed.lies.shown);
+  accepted = λ w ok rep. (let lies = (placed_in c flown w rep).lies in
+      accepted_in w c.heap command ok lies (accepted lies.graph lies.shown));
   shape_is = ap (λ (h : HeapState). h.shape) (wide_heap c d wide);
   kept = λ plain. (wide, refl);
 }
 
 -- a plan stays one through barriers, and where room is made
 pub through_plan : (o : Option Place) (c d : CollectorState) (flown flying : ℕ → Option Bits) (command : GraphCmd)
-    (plan : Plan)
-    → Exposed o (joined c.heap flown) c.stack (joined d.heap flying) d.stack → IsPlanOf c.heap command plan
-    → IsPlanOf d.heap command plan
-through_plan o c d flown flying command plan e is =
-    subst (λ h. IsPlanOf h command plan) (sym (through_shape o c d flown flying e)) is
+    (plan : Plan) → GoesThrough o c flown d flying → IsPlanOf c.heap command plan → IsPlanOf d.heap command plan
+through_plan o c d flown flying command plan t is =
+    subst (λ h. IsPlanOf h command plan) (sym (through_rest o c flown d flying t)) is
 
 pub wide_plan : (c d : CollectorState) (command : GraphCmd) (plan : Plan) → Widens c d → IsPlanOf c.heap command plan
     → IsPlanOf d.heap command plan
@@ -149,10 +145,9 @@ wide_plan c d command plan wide is = subst (λ h. IsPlanOf h command plan) (sym 
 
 -- and its change can be made
 pub through_able : (o : Option Place) (c d : CollectorState) (flown flying : ℕ → Option Bits) (ch : Change)
-    → Exposed o (joined c.heap flown) c.stack (joined d.heap flying) d.stack → IsAble c.heap.shape c.heap.made ch
-    → IsAble d.heap.shape d.heap.made ch
-through_able o c d flown flying ch e able =
-    subst (λ (h : HeapState). IsAble h.shape h.made ch) (sym (through_shape o c d flown flying e)) able
+    → GoesThrough o c flown d flying → IsAble c.heap.shape c.heap.made ch → IsAble d.heap.shape d.heap.made ch
+through_able o c d flown flying ch t able =
+    subst (λ (h : HeapState). IsAble h.shape h.made ch) (sym (through_rest o c flown d flying t)) able
 
 pub wide_able : (c d : CollectorState) (ch : Change) → Widens c d → IsAble c.heap.shape c.heap.made ch
     → IsAble d.heap.shape d.heap.made ch
@@ -229,22 +224,12 @@ module _ (E : Type 0) (c d1 d2 d3 d4 d : CollectorState) (flown f1 f2 f3 : ℕ �
   able_last = subst (λ (h : HeapState). IsAble h.shape h.made plan.change) (sym third_same) p.able
 
   as_many : length d4.heap.colours ≡ length c.heap.colours
-  as_many =
-      many (handed_by plan.change) d3 d4 f2 f3 p.third.exposed
-      ∙ (many plan.wrapped d2 d3 f1 f2 p.second.exposed
-      ∙ (many plan.overwritten d1 d2 flown f1 p.first.exposed
-      ∙ ap (λ (z : HeapState). length z.colours) (wide_heap c d1 p.wide)))
-    where
-      many : (o : Option Place) (a b : CollectorState) (f e : ℕ → Option Bits)
-          → Exposed o (joined a.heap f) a.stack (joined b.heap e) b.stack
-          → length b.heap.colours ≡ length a.heap.colours
-      many o a b f e x = sym (flown_length e 0 b.heap.colours)
-          ∙ (exposed_sized o (joined a.heap f) a.stack (joined b.heap e) b.stack x ∙ flown_length f 0 a.heap.colours)
+  as_many = p.third.sized ∙ (p.second.sized
+      ∙ (p.first.sized ∙ ap (λ (z : HeapState). length z.colours) (wide_heap c d1 p.wide)))
 
   sized : length d4.heap.colours ≡ length d4.heap.shape.arenas
-  sized = as_many ∙ (sym (flown_length flown 0 c.heap.colours)
-      ∙ (p.sound.represents.coloured.marks.holds.colours.sized
-      ∙ ap (λ (z : HeapState). length z.shape.arenas) (sym third_same)))
+  sized = as_many ∙ (sized_in c flown p.sound.world p.sound.represents
+      ∙ ap (λ (z : HeapState). length z.shape.arenas) (sym third_same))
 
   abbrev o : Option ℕ
   o = made_by plan.change
@@ -294,6 +279,15 @@ module _ (E : Type 0) (c d1 d2 d3 d4 d : CollectorState) (flown f1 f2 f3 : ℕ �
           let m = kept in
           omega (arith, n, m)
 
+  -- and edges are counted in the same ledger
+  pub ledger_call : d.heap.ledger ≡ c.heap.ledger
+  ledger_call = go committed p.change p.err ∙ ap (λ (h : HeapState). h.ledger) third_same
+    where
+      go : (r : Result Reply E) → IfOk r (λ answer. ChangesBy d4.heap plan.change answer d.heap)
+          → OnErr r (d.heap ≡ d4.heap) → d.heap.ledger ≡ d4.heap.ledger
+      go (Ok answer) by same = ledger_kept d4.heap d.heap plan.change answer by
+      go (Err why) by same = ap (λ (h : HeapState). h.ledger) same
+
   pub entries_after : length d.heap.shape.weak.entries ≤ length c.heap.shape.weak.entries + 1
   entries_after = subst (λ (z : HeapState). length d.heap.shape.weak.entries ≤ length z.shape.weak.entries + 1)
       third_same (go committed p.change p.err)
@@ -314,15 +308,16 @@ module _ (E : Type 0) (c d1 d2 d3 d4 d : CollectorState) (flown f1 f2 f3 : ℕ �
       go : (r : Result Reply E) → IfOk r (λ answer. ChangesBy d4.heap plan.change answer d.heap)
           → IfOk (as_fault r) (λ answer. refusal_in answer ≡ None)
       go (Ok answer) by =
-          let g = p.sound.represents.placed.lies.graph in
+          let lies = (placed_in c flown p.sound.world p.sound.represents).lies in
+          let g = lies.graph in
           let shown : Shows d4.heap g = subst (λ z. Shows z g) (sym third_same)
-          (shows_coloured c.heap d4.heap.colours d4.heap.delayed g p.sound.represents.placed.lies.shown) in
+          (shows_coloured c.heap d4.heap.colours d4.heap.delayed g lies.shown) in
           let step : DoesStep d4.heap command (Ok answer) d.heap = (last_plan.does p.few answer d.heap by).0 in
           let said = (step g shown).0 in
           ap refusal_in said.0 ∙ said.1
       go (Err why) by = tt
 
-  -- memory is wanted only for a command that may want some
+  -- out of memory comes only at a command that may take memory
   pub sure_call : takes_memory command ≡ false → as_fault committed ≡ Err fault.NoMemory → ⊥
   sure_call never wants =
       let some = last_plan.wants (where_fault (MayWant d4.heap.shape plan.change) committed p.wanted wants) in
@@ -342,8 +337,8 @@ module _ (E : Type 0) (c d1 d2 d3 d4 d : CollectorState) (flown f1 f2 f3 : ℕ �
   -- then nothing was overwritten or handed out, and only a `wrap` exposed its target
   pub wanted_call : as_fault committed ≡ Err fault.NoMemory → WantsMemory c flown command d f3
   wanted_call wants = record {
-    accepted = λ w ok rep. accepted_in w c.heap command ok rep.placed.lies
-        (first_plan.accepted rep.placed.lies.graph rep.placed.lies.shown);
+    accepted = λ w ok rep. (let lies = (placed_in c flown w rep).lies in
+        accepted_in w c.heap command ok lies (first_plan.accepted lies.graph lies.shown));
     shape_is = ap (λ (h : HeapState). h.shape) same ∙ ap (λ (h : HeapState). h.shape) third_same;
     kept = λ plain. (let after = still same old_none (first_plan.only_wraps plain) given_none in
         (subst (Widens c) (sym after.0) p.wide, after.1));
@@ -389,38 +384,48 @@ module _ (E : Type 0) (c d1 d2 d3 d4 d : CollectorState) (flown f1 f2 f3 : ℕ �
   }
 
   pub does_call : DoesCommand c flown command (as_fault committed) d f3
-  does_call = serves_command c flown command (as_fault committed) d f3 steps
+  does_call w ok (going rep) = answers_command c flown command (as_fault committed) d f3 steps w ok rep
+  does_call w ok (prepared rep) = answers_preparing c flown command (as_fault committed) d f3 steps w ok rep
 
   -- what is to come rises by no more than the bound
   pub raises_call : AreEntries c.heap.shape.weak → AreParallel (weak_of c.heap)
       → RaisesWithin c flown command (as_fault committed) d f3
-  raises_call sound parallel = raises_command c flown command (as_fault committed) d f3 steps sound parallel
+  raises_call sound parallel = record {
+    marking = λ w k ok rep at. raises_marking c flown command (as_fault committed) d f3 steps sound parallel w ok
+        (running_marking c flown w k ok at rep) k at;
+    preparing = λ w q ok rep at. raises_preparing c flown command (as_fault committed) d f3 steps w ok
+        (preparing_world c flown w q at rep);
+  }
 
   -- what is freed of the arenas that are out stays the same
   pub words_call : KeepsFreedWords c.heap.shape d.heap.shape
-  words_call = words_command c flown command (as_fault committed) d f3 steps p.sound.world p.sound.valid
-      p.sound.represents
+  words_call = words_in p.sound.represents
+    where
+      words_in : Represents c flown p.sound.world → KeepsFreedWords c.heap.shape d.heap.shape
+      words_in (going rep) = words_command c flown command (as_fault committed) d f3 steps p.sound.world p.sound.valid
+          rep
+      words_in (prepared rep) = words_preparing c flown command (as_fault committed) d f3 steps p.sound.world
+          p.sound.valid rep
 
   -- no arena is handed out or taken in
   outs_call : (a : ℕ) → out_of d.heap.shape a ≡ out_of c.heap.shape a
-  outs_call = outs_command c flown command (as_fault committed) d f3 steps p.sound.world p.sound.valid
-      p.sound.represents
+  outs_call = outs_in p.sound.represents
+    where
+      outs_in : Represents c flown p.sound.world → (a : ℕ) → out_of d.heap.shape a ≡ out_of c.heap.shape a
+      outs_in (going rep) = outs_command c flown command (as_fault committed) d f3 steps p.sound.world p.sound.valid rep
+      outs_in (prepared rep) = outs_preparing c flown command (as_fault committed) d f3 steps p.sound.world
+          p.sound.valid rep
 
   outs_last : (a : ℕ) → out_of d.heap.shape a ≡ out_of d4.heap.shape a
   outs_last a = outs_call a ∙ sym (ap (λ (h : HeapState). out_of h.shape a) third_same)
 
-  more_call : (groups : List ZoneSet) (r : Option Run) → HasMore d4.heap.shape groups r → HasMore d.heap.shape groups r
-  more_call groups None m = m
-  more_call groups (Some run) m = λ none rests formed. m none (λ a. sym (outs_last a) ∙ rests a) formed
-
   -- so what the collector keeps besides it still keeps
-  pub kept_call : (edges : Noted) (groups : List ZoneSet) (r : Option Run) (ungrouped : ZoneSet)
-      → IsKept d4.heap.shape edges groups r ungrouped → IsKept d.heap.shape edges groups r ungrouped
-  kept_call edges groups r ungrouped k = record {
-    waiting = k.waiting;
-    some_waits = k.some_waits;
-    more = more_call groups r k.more;
-  }
+  pub kept_call : (edges : Noted) (groups : List ZoneSet) (phase : Phase) → IsKept d4.heap.shape edges groups phase
+      → IsKept d.heap.shape edges groups phase
+  kept_call edges groups phase.Idle kept = tt
+  kept_call edges groups (phase.Preparing zones uncleared) kept = tt
+  kept_call edges groups (phase.Grouping zones ungrouped) kept = kept
+  kept_call edges groups (phase.Grouped zones) kept = λ none rests. kept none (λ a. sym (outs_last a) ∙ rests a)
 
 -- where a command is refused, nothing was done
 pub refused_at : (c : CollectorState) (flown : ℕ → Option Bits) (command : GraphCmd) (why : Refusal)
@@ -428,7 +433,7 @@ pub refused_at : (c : CollectorState) (flown : ℕ → Option Bits) (command : G
     → DoesCommand c flown command (Err (fault.Refused why)) c flown
 refused_at c flown command why is w ok rep =
     let step : DoesStep c.heap command (Err (fault.Refused why)) c.heap = does-refused c.heap command why is in
-    ((refused_in w c.heap c.heap command why ok rep.placed.lies step).1, rep)
+    ((refused_in w c.heap c.heap command why ok (placed_in c flown w rep).lies step).1, rep)
 
 -- after a command the collector stands for some valid world, as before
 pub command_sound : (c d : CollectorState) (flown flying : ℕ → Option Bits) (command : GraphCmd)
@@ -442,12 +447,17 @@ command_sound c d flown flying command result does s = go result (does s.world s
       represents = was.2;
     }
     go (Err (fault.Refused why)) was = record { world = s.world; valid = s.valid; represents = was.1 }
-    go (Err fault.NoMemory) was = record { world = s.world; valid = s.valid; represents = was }
+    go (Err fault.NoMemory) was = record {
+      world = was.0;
+      valid = wanted_valid s.world command was.0 s.valid was.1;
+      represents = was.2;
+    }
 
 -- nothing changed where a command was refused
 pub refused_raises : (c : CollectorState) (flown : ℕ → Option Bits) (command : GraphCmd) (why : Refusal)
     → RaisesWithin c flown command (Err (fault.Refused why)) c flown
-refused_raises c flown command why w k ok rep at = omega arith
+refused_raises c flown command why =
+    record { marking = λ w k ok rep at. omega arith; preparing = λ w p ok rep at. omega arith }
 
 -- so a command that is refused keeps the promises of commands
 pub refused_done : {S O : Type 0} (bits_of : S → ℕ → Option Bits) (origin_of : S → O) (c : CollectorState) (f : S)
@@ -465,6 +475,7 @@ refused_done bits_of origin_of c f command why is sound = record {
   run = refl;
   origin = refl;
   made = omega arith;
+  ledger = refl;
   entries = omega arith;
 }
 
@@ -488,6 +499,7 @@ roomless_done bits_of origin_of c d f command wide sound accepted takes =
       run = ap (λ (x : CollectorState). x.run) wide.rest;
       origin = refl;
       made = (let same = ap (λ (h : HeapState). h.made) heap_is in omega (arith, same));
+      ledger = ap (λ (h : HeapState). h.ledger) heap_is;
       entries = (let same = ap (λ (h : HeapState). length h.shape.weak.entries) heap_is in omega (arith, same));
     }
 
@@ -512,6 +524,8 @@ planned_done bits_of origin_of f f1 f2 g c d1 d2 d3 d4 d command plan committed 
       words = words_call _ c d1 d2 d3 d4 d (bits_of f) (bits_of f1) (bits_of f2) (bits_of g) command plan committed p;
       run = run_after _ c d1 d2 d3 d4 d (bits_of f) (bits_of f1) (bits_of f2) (bits_of g) command plan committed p;
       origin = origin;
+      ledger = ledger_call _ c d1 d2 d3 d4 d (bits_of f) (bits_of f1) (bits_of f2) (bits_of g) command plan committed
+          p;
       made = made_call _ c d1 d2 d3 d4 d (bits_of f) (bits_of f1) (bits_of f2) (bits_of g) command plan committed p;
       entries = entries_after _ c d1 d2 d3 d4 d (bits_of f) (bits_of f1) (bits_of f2) (bits_of g) command plan
           committed p;

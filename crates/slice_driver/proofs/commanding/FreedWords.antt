@@ -12,7 +12,7 @@ use Rattle.heap_core.specs.Shape.{present_in, stored_at, stored_in}
 use Rattle.slice_driver.specs.Units.{IsFreedWord, KeepsFreedWords}
 use Rattle.slice_driver.specs.Worlds.{IsUnswept}
 
--- the same slots are taken
+-- the slots that were taken are taken
 same_word : (xs ys : List (Option CellState)) → length xs ≡ length ys →
     ((i : ℕ) → is_some (cell_in xs i) ≡ is_some (cell_in ys i)) → alloc_word_of xs ≡ alloc_word_of ys
 same_word [] [] e same = refl

@@ -11,11 +11,12 @@ use Rattle.gz_names.specs.declared.numbers.CompNo.{CompNo}
 use Rattle.gz_names.specs.declared.numbers.Place.{Place}
 use Rattle.gz_names.specs.declared.replies.Reply.{Reply}
 use Rattle.cell_bits.specs.declared.bits.Bits.{Bits}
+use Rattle.cell_bits.specs.declared.bits.Colour.TheVariants as colour
 use Rattle.arena_table.specs.Cells.{CellState}
 use Rattle.wrappers.specs.WrapperMaps.{WrappersState, list_of}
 use Rattle.heap_core.specs.declared.plans.Change.{Change}
 use Rattle.heap_core.specs.declared.plans.Change.TheVariants as change
-use Rattle.heap_core.specs.Shape.{ArenaShape, IsPresent, Shape, cell_of, out_in, out_of}
+use Rattle.heap_core.specs.Shape.{ArenaShape, IsPresent, Shape, cell_of, is_prepared, out_in, out_of}
 use Rattle.heap_core.specs.Heap.{HeapState, colour_in, colour_of, flown_or, joined}
 use Rattle.heap_core.specs.Changes.{Makes, MakesWrapper, Writes}
 use Rattle.heap_core.specs.Effects.{HoldsWrapper, MakesHeld}
@@ -86,11 +87,14 @@ module _ (old : HeapState) (flown : ℕ → Option Bits) (covers : Covers old.sh
     cells = m.cells;
     stored = m.stored;
     whole = m.whole;
-    black = own_seen new flown p (none_flown (flown p.0) (covers p.0 ∙ ap (λ (o : Option Bits). is_some o) m.in_place))
-        ∙ m.black;
+    born = own_seen new flown p own ∙ (m.born
+        ∙ ap (λ c. if is_prepared old.shape zone then c else colour.Black) (sym (own_seen old flown p own)));
     colours = λ q other. seen_same new q longer (m.colours q other);
   }
     where
+      own : flown p.0 ≡ None
+      own = none_flown (flown p.0) (covers p.0 ∙ ap (λ (o : Option Bits). is_some o) m.in_place)
+
       by : (b : Bool) → length new.shape.arenas ≡ (if b then length old.shape.arenas + 1 else length old.shape.arenas)
           → length old.shape.arenas ≤ length new.shape.arenas
       by true e = omega arith
@@ -148,6 +152,8 @@ module _ (old : HeapState) (flown : ℕ → Option Bits) (covers : Covers old.sh
       values = by.0.values;
       count = by.0.count;
       entries = by.0.entries;
+      rows = by.0.rows;
+      delegates = by.0.delegates;
       left = by.0.left;
       parallel = by.0.parallel;
     },
@@ -158,8 +164,9 @@ module _ (old : HeapState) (flown : ℕ → Option Bits) (covers : Covers old.sh
       rest = ap (λ (h : HeapState). joined h flown) by.0.rest;
       values = by.0.values;
       count = by.0.count;
+      rows = by.0.rows;
       carries = by.0.carries;
-      distinct = by.0.distinct;
+      sound = by.0.sound;
       parallel = by.0.parallel;
     },
     by.1,

@@ -47,8 +47,8 @@ lies_still w v old new c answer l step stay graph at owner weak out white =
     ))
 
 pub does_quiet : (w : World) (old new : HeapState) (c : GraphCmd) (answer : Reply) (ds es : List Bits) → IsValid w
-    → LiesIn old w → w.preparing ≡ None → (IsSettled w → AreBlack (with_colours old ds) w)
-    → DoesStep old c (Ok answer) new
+    → LiesIn old w → w.preparing ≡ None → (IsSettled w → AreBlack (with_colours old ds) w) → DoesStep old c
+    (Ok answer) new
     → StayInPlace old.shape new.shape → Wakes old c None
     → ((p : Place) → IsPresent old.shape p → IsBlack (with_colours new es) p ↔ IsBlack (with_colours old ds) p)
     → DoesInWorld w c answer new es

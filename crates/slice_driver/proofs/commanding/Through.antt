@@ -19,13 +19,15 @@ use Rattle.barriers.proofs.Spreading.{blackens_none, blackens_within}
 use Rattle.slice_driver.specs.Collector.{CollectorState, heap_with}
 use Rattle.slice_driver.specs.Commands.{Exposed}
 use Rattle.slice_driver.specs.Quiet.{IsQuiet}
-use Rattle.slice_driver.specs.Represents.{Represents}
+use Rattle.slice_driver.specs.Represents.{RepresentsMarking}
 use Rattle.slice_driver.specs.Rooms.{Widens}
 use Rattle.slice_driver.specs.Steps.{GoesThrough}
 use Rattle.slice_driver.proofs.marking.Flights.{still_flies}
+use Rattle.slice_driver.proofs.basics.LeftLooks.{same_left}
 use Rattle.slice_driver.proofs.marking.MarkingSteps.{Marked, marked_quiet, own_sized}
 use Rattle.slice_driver.proofs.marking.MarkingUnits.{looks_on, piled_still, waits_on}
 use Rattle.slice_driver.proofs.abstraction.Steps.{keeps_looks, looks_same, quiet as stands_quiet}
+use Rattle.slice_driver.proofs.commanding.Commanding.{markable}
 use Rattle.slice_driver.proofs.commanding.Rooms.{gray_room}
 
 -- what is exposed is reached from black cells already
@@ -33,7 +35,7 @@ abbrev pub IsReached : Option Place → CollectorState → (ℕ → Option Bits)
 IsReached o c flown = (p : Place) → o ≡ Some p → Reached c.heap.shape (IsBlack (heap_with c flown)) p
 
 -- black spread to what is reached from it alone
-module _ (c : CollectorState) (flown : ℕ → Option Bits) (w : World) (rep : Represents c flown w) (h : HeapState)
+module _ (c : CollectorState) (flown : ℕ → Option Bits) (w : World) (rep : RepresentsMarking c flown w) (h : HeapState)
     (p : Piles) (flying : ℕ → Option Bits) (covers : Covers h.shape flying) (delayed : h.delayed ≡ c.heap.delayed) where
   abbrev after : CollectorState
   after = record c { heap = h; stack = p }
@@ -46,6 +48,7 @@ module _ (c : CollectorState) (flown : ℕ → Option Bits) (w : World) (rep : R
   marked_spread bl inv gray live = record {
     shape_is = ap (λ (z : HeapState). z.shape) bl.rest;
     made_is = ap (λ (z : HeapState). z.made) bl.rest;
+    ledger_is = ap (λ (z : HeapState). z.ledger) bl.rest;
     delayed_is = delayed;
     edges_is = refl;
     groups_is = refl;
@@ -59,10 +62,12 @@ module _ (c : CollectorState) (flown : ℕ → Option Bits) (w : World) (rep : R
       waits = waits_on (heap_with c flown) (joined h flying) c.stack p c.lists
           (ap (λ (z : HeapState). z.shape) bl.rest) (ap (λ (z : HeapState). z.buffers) bl.rest) rep.coloured.waits
           (piled_still (heap_with c flown) (joined h flying) c.stack p c.lists
-          (ap (λ (z : HeapState). z.shape) bl.rest) rep.coloured.waits
+          (ap (λ (z : HeapState). z.shape) bl.rest) (ap (λ (z : HeapState). z.buffers) bl.rest) rep.coloured.waits
           gray)
           (looks_on (heap_with c flown) (joined h flying) c.stack p c.lists
-          (ap (λ (z : HeapState). z.shape) bl.rest) rep.coloured.waits
+          (ap (λ (z : HeapState). z.shape) bl.rest) (ap (λ (z : HeapState). z.buffers) bl.rest) rep.coloured.waits
+          (ap (λ (z : HeapState). z.looks) bl.rest))
+          (same_left c.heap.shape c.heap.looks h.shape h.looks (ap (λ (z : HeapState). z.shape.weak) bl.rest)
           (ap (λ (z : HeapState). z.looks) bl.rest));
     };
     darker = bl.kept;
@@ -73,13 +78,13 @@ module _ (c : CollectorState) (flown : ℕ → Option Bits) (w : World) (rep : R
 
   -- the collector stands for the world for which it stood
   represents_spread : IsSpread → MarkingInvariant (joined h flying) p → p.gray ≡ c.stack.gray
-      → GrayInvariant (joined h flying) p c.lists → Represents after flying w
+      → GrayInvariant (joined h flying) p c.lists → RepresentsMarking after flying w
   represents_spread bl inv gray live =
       let q = marked_quiet c flown after flying (marked_spread bl inv gray live) in
       stands_quiet c flown after flying q w
-      (keeps_looks c flown after flying q (looks_same c flown after flying q refl)) rep
+      (keeps_looks c flown after flying q (looks_same c flown after flying q refl) w) rep
 
-  exposed_none : joined h flying ≡ joined c.heap flown → p ≡ c.stack → Represents after flying w
+  exposed_none : joined h flying ≡ joined c.heap flown → p ≡ c.stack → RepresentsMarking after flying w
   exposed_none e f = represents_spread
       (subst (λ z. Blackens (Reached c.heap.shape (IsBlack (heap_with c flown))) (heap_with c flown) z) (sym e)
       (blackens_none (Reached c.heap.shape (IsBlack (heap_with c flown))) (heap_with c flown)))
@@ -90,7 +95,7 @@ module _ (c : CollectorState) (flown : ℕ → Option Bits) (w : World) (rep : R
       (subst (λ q. GrayInvariant (heap_with c flown) q c.lists) (sym f) rep.coloured.gray))
 
   exposed_some : (x : Place) → Exposes (heap_with c flown) c.stack x (joined h flying) p
-      → Reached c.heap.shape (IsBlack (heap_with c flown)) x → Represents after flying w
+      → Reached c.heap.shape (IsBlack (heap_with c flown)) x → RepresentsMarking after flying w
   exposed_some x e r = represents_spread
       (blackens_within (Reached c.heap.shape (BlackOr (heap_with c flown) x))
       (Reached c.heap.shape (IsBlack (heap_with c flown))) (heap_with c flown) (joined h flying) e.spreads.blackens
@@ -103,15 +108,16 @@ module _ (c : CollectorState) (flown : ℕ → Option Bits) (w : World) (rep : R
       e.invariant e.spreads.gray_is (e.pending_live c.lists rep.coloured.gray).0
 
   pub represents_exposed : (o : Option Place) → Exposed o (heap_with c flown) c.stack (joined h flying) p
-      → IsReached o c flown → Represents after flying w
+      → IsReached o c flown → RepresentsMarking after flying w
   represents_exposed None e r = exposed_none e.0 e.1
   represents_exposed (Some x) e r = exposed_some x e (r x refl)
 
 pub represents_through : (o : Option Place) (c d : CollectorState) (flown flying : ℕ → Option Bits) (w : World)
-    → GoesThrough o c flown d flying → IsReached o c flown → Represents c flown w → Represents d flying w
+    → GoesThrough o c flown d flying → IsReached o c flown → RepresentsMarking c flown w → RepresentsMarking d flying w
 represents_through o c d flown flying w t r rep =
-    subst (λ e. Represents e flying w) (sym t.rest)
-    (represents_exposed c flown w rep d.heap d.stack flying t.covers t.delayed o t.exposed r)
+    subst (λ e. RepresentsMarking e flying w) (sym t.rest)
+    (represents_exposed c flown w rep d.heap d.stack flying t.covers (ap (λ (h : HeapState). h.delayed) t.heap_is) o
+    (t.marking (markable c flown w rep)) r)
 
 -- the collector with the room of another one
 abbrev widened : CollectorState → CollectorState → CollectorState
@@ -128,6 +134,7 @@ module _ (c d : CollectorState) (flown : ℕ → Option Bits) where
   live_on (live_closure.pending has e) = live_closure.pending has e
   live_on (live_closure.along l n e) = live_closure.along (live_on l) n e
   live_on (live_closure.weak e a b) = live_closure.weak e (live_on a) (live_on b)
+  live_on (live_closure.delegate e i a b) = live_closure.delegate e i (live_on a) (live_on b)
 
   live_back : {p : Place} → PendingLive (heap_with c flown) c.stack (widened c d).lists p
       → PendingLive (heap_with c flown) c.stack c.lists p
@@ -139,19 +146,21 @@ module _ (c d : CollectorState) (flown : ℕ → Option Bits) where
   live_back (live_closure.pending has e) = live_closure.pending has e
   live_back (live_closure.along l n e) = live_closure.along (live_back l) n e
   live_back (live_closure.weak e a b) = live_closure.weak e (live_back a) (live_back b)
+  live_back (live_closure.delegate e i a b) = live_closure.delegate e i (live_back a) (live_back b)
 
 -- with more room a collector stands for the same worlds
 pub represents_widened : (c d : CollectorState) (flown : ℕ → Option Bits) (w : World) → Widens c d
-    → Represents c flown w → Represents d flown w
+    → RepresentsMarking c flown w → RepresentsMarking d flown w
 represents_widened c d flown w wide rep =
-    subst (λ e. Represents e flown w) (sym wide.rest)
+    subst (λ e. RepresentsMarking e flown w) (sym wide.rest)
     (stands_quiet c flown (widened c d) flown q w
-    (keeps_looks c flown (widened c d) flown q (looks_same c flown (widened c d) flown q refl)) rep)
+    (keeps_looks c flown (widened c d) flown q (looks_same c flown (widened c d) flown q refl) w) rep)
   where
     m : Marked c flown (widened c d) flown
     m = record {
       shape_is = refl;
       made_is = refl;
+      ledger_is = refl;
       delayed_is = refl;
       edges_is = refl;
       groups_is = refl;
@@ -165,6 +174,7 @@ represents_widened c d flown w wide rep =
           buffered = rep.coloured.waits.buffered;
           incoming = rep.coloured.waits.incoming;
           looks = rep.coloured.waits.looks;
+          of_marking = rep.coloured.waits.of_marking;
         };
       };
       darker = λ p b. b;

@@ -29,6 +29,9 @@ refused_viewed h c why is g shows = is g (shows_coloured (without_delayed h) h.c
 abbrev delayed_of : HeapState → Piles
 delayed_of h = h.delayed
 
+abbrev ledger_of : HeapState → Option ℕ
+ledger_of h = h.ledger
+
 -- a change
 module _ (old new : HeapState) where
   writes_viewed : (p : Place) (f : ℕ) (v : Option Place) → Writes old p f v new
@@ -58,7 +61,7 @@ module _ (old new : HeapState) where
     cells = m.cells;
     stored = m.stored;
     whole = m.whole;
-    black = m.black;
+    born = m.born;
     colours = m.colours;
   }
 
@@ -112,6 +115,8 @@ module _ (old new : HeapState) where
       values = by.0.values;
       count = by.0.count;
       entries = by.0.entries;
+      rows = by.0.rows;
+      delegates = by.0.delegates;
       left = by.0.left;
       parallel = by.0.parallel;
     },
@@ -122,8 +127,9 @@ module _ (old new : HeapState) where
       rest = ap without_delayed by.0.rest;
       values = by.0.values;
       count = by.0.count;
+      rows = by.0.rows;
       carries = by.0.carries;
-      distinct = by.0.distinct;
+      sound = by.0.sound;
       parallel = by.0.parallel;
     },
     by.1,
@@ -141,6 +147,19 @@ module _ (old new : HeapState) where
   delayed_kept (change.Field p f v) answer by = ap delayed_of by.0.rest
   delayed_kept (change.Put m k v) answer by = ap delayed_of by.0.rest
   delayed_kept (change.Del m k) answer by = ap delayed_of by.0.rest
+
+  -- and the ledger in which edges are counted
+  pub ledger_kept : (ch : Change) (answer : Reply) → ChangesBy old ch answer new → new.ledger ≡ old.ledger
+  ledger_kept change.Zone answer by = ap ledger_of by.0
+  ledger_kept (change.Comp z) answer by = ap ledger_of by.0
+  ledger_kept (change.Cell r z c k) answer by = ap ledger_of by.0.rest ∙ ap ledger_of by.0.makes.rest
+  ledger_kept (change.Wrapper r z c t) answer by = ap ledger_of by.0.rest
+      ∙ (ap ledger_of by.0.makes.rest ∙ ap ledger_of by.0.makes.makes.rest)
+  ledger_kept (change.Register r v named) answer by = ap ledger_of by.0
+  ledger_kept (change.Slot g v) answer by = ap ledger_of by.0
+  ledger_kept (change.Field p f v) answer by = ap ledger_of by.0.rest
+  ledger_kept (change.Put m k v) answer by = ap ledger_of by.0.rest
+  ledger_kept (change.Del m k) answer by = ap ledger_of by.0.rest
 
   -- what the heap answers to a plan
   pub committed_viewed : {E : Type 0} (ch : Change) (r : Result Reply E)

@@ -1,6 +1,6 @@
 -- Commands that wake a cell: one that is found, or one that is made.
 use Rattle.std.proofs.Common.{◌≡◌, ◌⊎◌, ◌↔◌, ℕ, Bool, true, false, List, [], ◌∷◌, Option, Some, None, Ok, cond}
-use Rattle.std.proofs.Common.{if◌then◌else◌, refl, sym, ap, subst, ◌∙◌, inl, inr}
+use Rattle.std.proofs.Common.{Contains, if◌then◌else◌, refl, sym, ap, subst, ◌∙◌, inl, inr}
 use Rattle.std.specs.FinMap as places
 use Rattle.std.specs.Ordering.{eq_by_cmp}
 use Rattle.gz_names.specs.Order.{name_cmp, names_total}
@@ -11,8 +11,9 @@ use Rattle.gz_names.specs.declared.replies.Reply.{Reply}
 use Rattle.cell_bits.specs.declared.bits.Bits.{Bits}
 use Rattle.colour_defs.specs.Step.{step_of}
 use Rattle.colour_defs.specs.World as world
-use Rattle.colour_defs.specs.World.{World, Collection, Names, Has, HasPlace, IsSettled, marking_of, with_counts}
-use Rattle.colour_defs.specs.World.{with_waking, woken_by}
+use Rattle.colour_defs.specs.Present.{IsPartOf}
+use Rattle.colour_defs.specs.World.{World, Collection, Names, Has, HasPlace, IsPlaceFor, IsSettled, marking_of}
+use Rattle.colour_defs.specs.World.{with_counts, with_waking, woken_by}
 use Rattle.colour_defs.specs.Laws.{IsValid}
 use Rattle.colour_defs.proofs.Names.{eq_name-is, eq_name-refl}
 use Rattle.heap_core.specs.Shape.{Shape, IsPresent, name_at}
@@ -38,10 +39,10 @@ woken_marking x None = refl
 woken_marking x (Some k) = refl
 
 -- the cell p of name x is there afterwards, and all others stay
-record IsThere (s t : Shape) (p : Place) (x : Name) : Type 0 where
-  named : name_at t p ≡ Some x
-  kept : (q : Place) (y : Name) → name_at s q ≡ Some y → name_at t q ≡ Some y
-  fresh : (q : Place) (y : Name) → name_at t q ≡ Some y → (name_at s q ≡ Some y) ⊎ ((q ≡ p) × (x ≡ y))
+pub record IsThere (s t : Shape) (p : Place) (x : Name) : Type 0 where
+  pub named : name_at t p ≡ Some x
+  pub kept : (q : Place) (y : Name) → name_at s q ≡ Some y → name_at t q ≡ Some y
+  pub fresh : (q : Place) (y : Name) → name_at t q ≡ Some y → (name_at s q ≡ Some y) ⊎ ((q ≡ p) × (x ≡ y))
 
 -- the world afterwards, but for the black names
 abbrev world_after : World → GraphCmd → Name → places.FinMap name_cmp (ℕ × ℕ) → List (Option ℕ) → Names → World
@@ -52,6 +53,116 @@ world_after w c x at owner black = record w {
   black = black;
   collection = with_waking x (with_counts w.graph c w.collection);
 }
+
+-- a cell that is made, in a world with the graph after the step
+module _ (w : World) (old new : HeapState) (c : GraphCmd) (answer : Reply) (p : Place) (x : Name) (l : LiesIn old w)
+  where
+    pub there_made : (zone : ℕ) → ComesTo old.shape new.shape zone p x → IsThere old.shape new.shape p x
+    there_made zone m = record { named = here; kept = stays; fresh = comes }
+      where
+        here : name_at new.shape p ≡ Some x
+        here = m.names p ∙ elim (same-place p p) [
+          | inl e ↦ ap (λ b. if b then Some x else name_at old.shape p) e.1
+          | inr n
+              ↦ absurd (n.0 refl)
+        ]
+
+        stays : (q : Place) (y : Name) → name_at old.shape q ≡ Some y → name_at new.shape q ≡ Some y
+        stays q y was = m.names q ∙ elim (same-place q p) [
+          | inl e ↦ absurd (m.free (named_present old.shape p y (ap (name_at old.shape) (sym e.0) ∙ was)))
+          | inr n ↦ ap (λ b. if b then Some x else name_at old.shape q) n.1 ∙ was
+        ]
+
+        comes : (q : Place) (y : Name) → name_at new.shape q ≡ Some y → (name_at old.shape q ≡ Some y)
+            ⊎ ((q ≡ p) × (x ≡ y))
+        comes q y now = elim (same-place q p) [
+          | inl e ↦ inr (
+            e.0,
+            some_one _ _ (sym (m.names q ∙ ap (λ b. if b then Some x else name_at old.shape q) e.1)
+                ∙ now),
+          )
+          | inr n ↦ inl (sym (m.names q ∙ ap (λ b. if b then Some x else name_at old.shape q) n.1) ∙ now)
+        ]
+
+    abbrev pub placed : places.FinMap name_cmp (ℕ × ℕ)
+    placed = places.insert w.places x p
+
+    absent_before : IsStepIn w old new c answer l → (zone : ℕ) → ComesTo old.shape new.shape zone p x
+        → world.IsPresent w x → ⊥
+    absent_before step zone m there =
+        let is = there_made zone m in
+        let q = place_of old w l x there in
+        let same : q.0 ≡ p = step.shown.apart q.0 p x (is.kept q.0 x q.1) is.named in
+        m.free (subst (IsPresent old.shape) same (named_present old.shape q.0 x q.1))
+
+    placed_are : IsStepIn w old new c answer l → (zone : ℕ) → ComesTo old.shape new.shape zone p x
+        → (y : Name) (q : Place) → (places.get placed y ≡ Some q) ↔ (name_at new.shape q ≡ Some y)
+    placed_are step zone m y q = (
+      λ e. there (eq_by_cmp name_cmp y x) refl (sym (places.get-insert names_total w.places x p y) ∙ e),
+      λ e. places.get-insert names_total w.places x p y ∙ back e (eq_by_cmp name_cmp y x) refl,
+    )
+      where
+        is : IsThere old.shape new.shape p x
+        is = there_made zone m
+
+        there : (b : Bool) → eq_by_cmp name_cmp y x ≡ b → cond b (Some p) (places.get w.places y) ≡ Some q
+            → name_at new.shape q ≡ Some y
+        there true same e = ap (name_at new.shape) (sym (some_one _ _ e))
+            ∙ (is.named ∙ ap (λ z. Some z) (sym (eq_name-is y x same)))
+        there false other e = is.kept q y ((l.places_are y q).0 e)
+
+        back : name_at new.shape q ≡ Some y → (b : Bool) → eq_by_cmp name_cmp y x ≡ b
+            → cond b (Some p) (places.get w.places y) ≡ Some q
+        back e true same = ap (λ z. Some z)
+            (step.shown.apart p q y (is.named ∙ ap (λ z. Some z) (sym (eq_name-is y x same))) e)
+        back e false other = elim (is.fresh q y e) [
+          | inl was ↦ (l.places_are y q).1 was
+          | inr n ↦ absurd (cc (ap (λ z. eq_by_cmp name_cmp z x) (sym n.1), eq_name-refl x, other))
+        ]
+
+    pub lies_made : (v : World) → IsStepIn w old new c answer l → (zone : ℕ) → ComesTo old.shape new.shape zone p x
+        → v.graph ≡ (step_of w.graph c).0 → v.places ≡ placed → v.owner ≡ owners_of new.shape.arenas → v.weak ≡ w.weak
+        → v.out ≡ w.out → v.white ≡ w.white → LiesIn new v
+    lies_made v step zone m graph at owner weak out white =
+        lies_from new (step_of l.graph c).0 v step.shown step.well_formed
+        (subst (λ g. IsPartOf g (step_of l.graph c).0) (sym graph) step.part) m.whole
+        (λ y q. (
+          λ e. (placed_are step zone m y q).0 (ap (λ ps. places.get ps y) (sym at) ∙ e),
+          λ e. ap (λ ps. places.get ps y) at ∙ (placed_are step zone m y q).1 e,
+        ))
+        owner
+        (weak ∙ l.weak_is)
+        (out ∙ (l.out_is ∙ sym m.outs))
+        (λ y q. (
+          λ has. (m.unswept q y).1
+              ((l.white_are y q).0 (subst (λ (ws : List (Name × (ℕ × ℕ))). Contains ws (y, q)) white has)),
+          λ un. subst (λ (ws : List (Name × (ℕ × ℕ))). Contains ws (y, q)) (sym white)
+              ((l.white_are y q).1 ((m.unswept q y).0 un)),
+        ))
+
+    -- it has its place in such a world
+    pub has_made : (v : World) → IsStepIn w old new c answer l → (zone : ℕ) → ComesTo old.shape new.shape zone p x
+        → v.graph ≡ (step_of w.graph c).0 → v.places ≡ placed → v.owner ≡ owners_of new.shape.arenas → v.weak ≡ w.weak
+        → v.out ≡ w.out → v.white ≡ w.white → v.preparing ≡ w.preparing → HasPlace w (step_of w.graph c).0 x v
+    has_made v step zone m graph at owner weak out white preparing =
+        let is = there_made zone m in
+        record {
+          graph_is = graph;
+          found = λ there. absurd (absent_before step zone m there);
+          made = λ absent. (
+            zone,
+            p,
+            zone_named new (step_of l.graph c).0 (step_of w.graph c).0 p x step.shown step.part
+                is.named ∙ ap (λ z. Some z) m.zone_is,
+            subst (λ o. IsPlaceFor w zone p o) (sym owner)
+                (place_is_for old w l zone p (owners_of new.shape.arenas) m.place_is m.owners),
+            at,
+          );
+          out_is = out;
+          white_is = white;
+          weak_is = weak;
+          preparing_is = preparing;
+        }
 
 module _ (w : World) (old new : HeapState) (c : GraphCmd) (answer : Reply) (ds es : List Bits) (p : Place) (x : Name)
     (ok : IsValid w) (l : LiesIn old w) (calm : w.preparing ≡ None) (colours : ColourInvariant (with_colours old ds))
@@ -178,104 +289,19 @@ module _ (w : World) (old new : HeapState) (c : GraphCmd) (answer : Reply) (ds e
       spread
 
   -- the cell was made
-  there_made : (zone : ℕ) → ComesTo old.shape new.shape zone p x → IsThere old.shape new.shape p x
-  there_made zone m = record { named = here; kept = stays; fresh = comes }
-    where
-      here : name_at new.shape p ≡ Some x
-      here = m.names p ∙ elim (same-place p p) [
-        | inl e ↦ ap (λ b. if b then Some x else name_at old.shape p) e.1
-        | inr n
-            ↦ absurd (n.0 refl)
-      ]
-
-      stays : (q : Place) (y : Name) → name_at old.shape q ≡ Some y → name_at new.shape q ≡ Some y
-      stays q y was = m.names q ∙ elim (same-place q p) [
-        | inl e ↦ absurd (m.free (named_present old.shape p y (ap (name_at old.shape) (sym e.0) ∙ was)))
-        | inr n ↦ ap (λ b. if b then Some x else name_at old.shape q) n.1 ∙ was
-      ]
-
-      comes : (q : Place) (y : Name) → name_at new.shape q ≡ Some y → (name_at old.shape q ≡ Some y)
-          ⊎ ((q ≡ p) × (x ≡ y))
-      comes q y now = elim (same-place q p) [
-        | inl e ↦ inr (
-          e.0,
-          some_one _ _ (sym (m.names q ∙ ap (λ b. if b then Some x else name_at old.shape q) e.1)
-              ∙ now),
-        )
-        | inr n ↦ inl (sym (m.names q ∙ ap (λ b. if b then Some x else name_at old.shape q) n.1) ∙ now)
-      ]
-
-  abbrev placed : places.FinMap name_cmp (ℕ × ℕ)
-  placed = places.insert w.places x p
-
-  absent_before : IsStepIn w old new c answer l → (zone : ℕ) → ComesTo old.shape new.shape zone p x
-      → world.IsPresent w x → ⊥
-  absent_before step zone m there =
-      let is = there_made zone m in
-      let q = place_of old w l x there in
-      let same : q.0 ≡ p = step.shown.apart q.0 p x (is.kept q.0 x q.1) is.named in
-      m.free (subst (IsPresent old.shape) same (named_present old.shape q.0 x q.1))
-
-  placed_are : IsStepIn w old new c answer l → (zone : ℕ) → ComesTo old.shape new.shape zone p x
-      → (y : Name) (q : Place) → (places.get placed y ≡ Some q) ↔ (name_at new.shape q ≡ Some y)
-  placed_are step zone m y q = (
-    λ e. there (eq_by_cmp name_cmp y x) refl (sym (places.get-insert names_total w.places x p y) ∙ e),
-    λ e. places.get-insert names_total w.places x p y ∙ back e (eq_by_cmp name_cmp y x) refl,
-  )
-    where
-      is : IsThere old.shape new.shape p x
-      is = there_made zone m
-
-      there : (b : Bool) → eq_by_cmp name_cmp y x ≡ b → cond b (Some p) (places.get w.places y) ≡ Some q
-          → name_at new.shape q ≡ Some y
-      there true same e = ap (name_at new.shape) (sym (some_one _ _ e))
-          ∙ (is.named ∙ ap (λ z. Some z) (sym (eq_name-is y x same)))
-      there false other e = is.kept q y ((l.places_are y q).0 e)
-
-      back : name_at new.shape q ≡ Some y → (b : Bool) → eq_by_cmp name_cmp y x ≡ b
-          → cond b (Some p) (places.get w.places y) ≡ Some q
-      back e true same = ap (λ z. Some z)
-          (step.shown.apart p q y (is.named ∙ ap (λ z. Some z) (sym (eq_name-is y x same))) e)
-      back e false other = elim (is.fresh q y e) [
-        | inl was ↦ (l.places_are y q).1 was
-        | inr n ↦ absurd (cc (ap (λ z. eq_by_cmp name_cmp z x) (sym n.1), eq_name-refl x, other))
-      ]
-
-  lies_made : (b : Names) → IsStepIn w old new c answer l → (zone : ℕ) → ComesTo old.shape new.shape zone p x
-      → LiesIn new (world_after w c x placed (owners_of new.shape.arenas) b)
-  lies_made b step zone m =
-      lies_from new (step_of l.graph c).0 (world_after w c x placed (owners_of new.shape.arenas) b) step.shown
-      step.well_formed step.part m.whole
-      (placed_are step zone m)
-      refl
-      l.weak_is
-      (l.out_is ∙ sym m.outs)
-      (λ y q. ((λ has. (m.unswept q y).1 ((l.white_are y q).0 has)), λ un. (l.white_are y q).1 ((m.unswept q y).0 un)))
-
   pub does_made : (zone : ℕ) → DoesStep old c (Ok answer) new → ComesTo old.shape new.shape zone p x
       → Wakes old c (Some x)
       → (IsSettled w → (q : Place) → IsBlack (with_colours new es) q
       ↔ Reached new.shape (BlackOr (with_colours old ds) p) q) → DoesInWorld w c answer new es
   does_made zone does m wakes spread =
       let step = step_in w old new c answer ok l does in
-      let is = there_made zone m in
-      does_waking placed (owners_of new.shape.arenas) step is
+      does_waking (places.insert w.places x p) (owners_of new.shape.arenas) step
+      (there_made w old new c answer p x l zone m)
       (woken_in w old c (Some x) ok l wakes)
-      (λ b. lies_made b step zone m)
-      (λ b. record {
-        graph_is = refl;
-        found = λ there. absurd (absent_before step zone m there);
-        made = λ absent. (
-          zone,
-          p,
-          zone_named new (step_of l.graph c).0 (step_of w.graph c).0 p x step.shown step.part
-              is.named ∙ ap (λ z. Some z) m.zone_is,
-          place_is_for old w l zone p (owners_of new.shape.arenas) m.place_is m.owners,
-          refl,
-        );
-        out_is = refl;
-        white_is = refl;
-        weak_is = refl;
-        preparing_is = refl;
-      })
+      (λ b. lies_made w old new c answer p x l
+      (world_after w c x (places.insert w.places x p) (owners_of new.shape.arenas) b) step zone m refl refl refl refl
+      refl refl)
+      (λ b. has_made w old new c answer p x l
+      (world_after w c x (places.insert w.places x p) (owners_of new.shape.arenas) b) step zone m refl refl refl refl
+      refl refl refl)
       spread

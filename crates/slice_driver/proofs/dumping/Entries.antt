@@ -20,11 +20,13 @@ use Rattle.gz_names.specs.Order.{name_cmp, names_total}
 use Rattle.gz_names.specs.declared.names.Name.{Name}
 use Rattle.gz_names.specs.declared.names.Name.TheVariants.{Cell, Wrap}
 use Rattle.gz_names.specs.declared.numbers.Place.{Place}
-use Rattle.weak_maps.specs.WeakMaps.{AreDistinct, EntryState, IsSound, WeakTableState, value_at, value_of}
+use Rattle.weak_maps.specs.WeakMaps.{IsSound, WeakTableState, value_of}
+use Rattle.weak_maps.specs.Entries.{AreDistinct, value_at}
 use Rattle.colour_defs.specs.Dumps.{IsAscendingWeak, WeakLine}
 use Rattle.colour_defs.proofs.Lists.{contains_at, contains_cases, contains_head, contains_tail, nothing_in_none}
 use Rattle.colour_defs.proofs.Names.{names_apart}
 use Rattle.heap_core.specs.Shape.{Shape, name_at}
+use Rattle.weak_maps.specs.declared.entries.WeakEntry.{WeakEntry}
 use Rattle.slice_driver.specs.Listings.{AreNamedApart, IsEntryOf, ListsEntries, entries_below, entry_at, entry_in}
 use Rattle.slice_driver.specs.Listings.{entry_named, listed_entry, weak_of}
 use Rattle.slice_driver.specs.declared.listings.NamedEntry.{NamedEntry}
@@ -99,12 +101,12 @@ unfolding IsDistinct
 distinct_none = tt
 
 -- what an entry by names says of its places
-record IsNamed (s : Shape) (st : EntryState) (e : NamedEntry) : Type 0 where
+record IsNamed (s : Shape) (st : WeakEntry) (e : NamedEntry) : Type 0 where
   map_is : name_at s st.map ≡ Some (Cell e.map)
   key_is : name_at s st.key ≡ Some e.key
   value_is : name_at s st.value ≡ Some e.value
 
-named : (s : Shape) (st : EntryState) (e : NamedEntry) → entry_in s (Some st) ≡ Some e → IsNamed s st e
+named : (s : Shape) (st : WeakEntry) (e : NamedEntry) → entry_in s (Some st) ≡ Some e → IsNamed s st e
 named s st e is = go (name_at s st.map) (name_at s st.key) (name_at s st.value) refl refl refl is
   where
     go : (m k v : Option Name) → name_at s st.map ≡ m → name_at s st.key ≡ k → name_at s st.value ≡ v
@@ -120,11 +122,11 @@ named s st e is = go (name_at s st.map) (name_at s st.key) (name_at s st.value) 
           value_is = ev ∙ ap (λ (d : NamedEntry). Some d.value) one;
         }
 
-entry_from : (s : Shape) (n : ℕ) (e : NamedEntry) → entry_at s n ≡ Some e → (st : EntryState)
+entry_from : (s : Shape) (n : ℕ) (e : NamedEntry) → entry_at s n ≡ Some e → (st : WeakEntry)
     × (slice_get s.weak.entries n ≡ Some st) × IsNamed s st e
 entry_from s n e is = go (slice_get s.weak.entries n) refl is
   where
-    go : (o : Option EntryState) → slice_get s.weak.entries n ≡ o → entry_in s o ≡ Some e → (st : EntryState)
+    go : (o : Option WeakEntry) → slice_get s.weak.entries n ≡ o → entry_in s o ≡ Some e → (st : WeakEntry)
         × (slice_get s.weak.entries n ≡ Some st) × IsNamed s st e
     go None at is = absurd (cc is)
     go (Some st) at is = (st, at, named s st e is)
@@ -172,7 +174,7 @@ record IsFoundOnce (weak : WeakTableState) : Type 0 where
 found_once : (weak : WeakTableState) → (0 < length weak.entries → IsSound weak) → IsFoundOnce weak
 found_once weak sound = go weak.entries refl
   where
-    go : (es : List EntryState) → weak.entries ≡ es → IsFoundOnce weak
+    go : (es : List WeakEntry) → weak.entries ≡ es → IsFoundOnce weak
     go [] is = record {
       distinct = subst AreDistinct (sym is) (λ i j d lt below. absurd (omega (arith, below)));
       found = λ m k v. (
@@ -202,8 +204,8 @@ module _ (s : Shape) (apart : AreNamedApart s) (more : 0 < length s.weak.entries
       let first = get_or_from_slice_get s.weak.entries i one.0 one.0 one.1 in
       let second = get_or_from_slice_get s.weak.entries n two.0 one.0 two.1 in
       sound.distinct i n one.0 lt (slice_get_within s.weak.entries n two.0 two.1)
-      (ap (λ (st : EntryState). st.map) first ∙ (maps ∙ sym (ap (λ (st : EntryState). st.map) second)))
-      (ap (λ (st : EntryState). st.key) first ∙ (keys ∙ sym (ap (λ (st : EntryState). st.key) second)))))
+      (ap (λ (st : WeakEntry). st.map) first ∙ (maps ∙ sym (ap (λ (st : WeakEntry). st.map) second)))
+      (ap (λ (st : WeakEntry). st.key) first ∙ (keys ∙ sym (ap (λ (st : WeakEntry). st.key) second)))))
 
   distinct_below : (n : ℕ) → IsDistinct same_key (map weak_of (entries_below s n))
   distinct_below zero = distinct_none
@@ -254,7 +256,7 @@ module _ (s : Shape) (apart : AreNamedApart s) (more : 0 < length s.weak.entries
 
       back : (e : NamedEntry) → IsEntryOf s e → Contains (entries_below s (length s.weak.entries)) e
       back e i =
-          let st : EntryState = record { map = i.map; key = i.key; value = i.value } in
+          let st : WeakEntry = record { map = i.map; key = i.key; value = i.value } in
           let c = (sound.found i.map i.key i.value).1 i.found in
           let at : slice_get s.weak.entries c.0 ≡ Some st =
           slice_get-get_or s.weak.entries c.0 st c.1 ∙ ap (λ z. Some z) c.2 in

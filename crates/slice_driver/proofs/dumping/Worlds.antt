@@ -24,7 +24,7 @@ use Rattle.slice_driver.specs.Collector.{CollectorState}
 use Rattle.slice_driver.specs.Dumps.{coloured_line, entry_line, told_colour}
 use Rattle.slice_driver.specs.Listings.{IsEntryOf, ListsCells, ListsEntries, edge_lines_at, lines_of_cell, names_of}
 use Rattle.slice_driver.specs.Listings.{weak_of}
-use Rattle.slice_driver.specs.Represents.{Represents}
+use Rattle.slice_driver.specs.Represents.{RepresentsMarking}
 use Rattle.slice_driver.specs.declared.listings.NamedCell.{NamedCell}
 use Rattle.slice_driver.specs.declared.listings.NamedEntry.{NamedEntry}
 use Rattle.slice_driver.proofs.abstraction.Named.{key_here, named_cell, place_of, present_named}
@@ -68,7 +68,7 @@ entries_as : (entries : List NamedEntry) → map entry_line entries ≡ map weak
 entries_as [] = refl
 entries_as (e ∷ entries) = ap (λ ls. entry_line e ∷ ls) (entries_as entries)
 
-module _ (c : CollectorState) (flown : ℕ → Option Bits) (w : World) (rep : Represents c flown w)
+module _ (c : CollectorState) (flown : ℕ → Option Bits) (w : World) (rep : RepresentsMarking c flown w)
     (settled : IsSettled w) where
   abbrev h : HeapState
   h = joined c.heap flown

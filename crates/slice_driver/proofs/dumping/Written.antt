@@ -20,8 +20,9 @@ use Rattle.slice_driver.specs.declared.listings.NamedCell.{NamedCell}
 use Rattle.slice_driver.specs.declared.listings.NamedEntry.{NamedEntry}
 use Rattle.slice_driver.proofs.abstraction.Named.{named_present}
 use Rattle.slice_driver.proofs.dumping.Worlds.{dumped}
-use Rattle.slice_driver.proofs.group_end.GrayNames.{arena_coloured, present_within}
-use Rattle.slice_driver.proofs.marking.MarkingUnits.{same_worlds}
+use Rattle.slice_driver.proofs.abstraction.Phases.{calm_marking, placed_in}
+use Rattle.slice_driver.proofs.dumping.Reading.{arena_coloured, reads_same}
+use Rattle.slice_driver.proofs.group_end.GrayNames.{present_within}
 
 -- the cells that are listed are present, and their arenas have colours
 pub listed_present : (s : Shape) (cells : List NamedCell) → ListsCells s cells
@@ -34,15 +35,15 @@ pub listed_coloured : (c : CollectorState) (flown : ℕ → Option Bits) (cells 
     → ListsCells c.heap.shape cells → All (λ (cell : NamedCell). cell.place.0 < length c.heap.colours) cells
 listed_coloured c flown cells sound lists = λ k d lt. (
     let cell = slice_index_or cells k d in
-    arena_coloured c flown cell.place.0 sound
-    (present_within c.heap.shape cell.place sound.represents.placed.lies.whole
+    arena_coloured c flown sound.world cell.place.0 sound.represents
+    (present_within c.heap.shape cell.place (placed_in c flown sound.world sound.represents).lies.whole
     (listed_present c.heap.shape cells lists k d lt)).0)
 
 -- bits were read that stand for the same heap
 pub represents_seen : (c : CollectorState) (flown flying : ℕ → Option Bits) (h : HeapState) → h ≡ c.heap
     → Covers h.shape flying → joined h flying ≡ joined h flown → (w : World) → Represents c flown w
     → Represents c flying w
-represents_seen c flown flying h here covers same w rep = same_worlds c flown flying w
+represents_seen c flown flying h here covers same w rep = reads_same c flown flying w
     (subst (λ (k : HeapState). Covers k.shape flying) here covers)
     (subst (λ (k : HeapState). joined k flying ≡ joined k flown) here same) rep
 
@@ -73,4 +74,4 @@ module _ (c : CollectorState) (flown : ℕ → Option Bits) (cells : List NamedC
       (sym (four_parts (map (coloured_line (joined c.heap flown)) cells)
       (flat_map (λ (cell : NamedCell). edge_lines_at c.heap.shape cell.place) cells) (map entry_line entries)
       (line.End ∷ []) start coloured edged all lines none one two ended last))
-      (dumped c flown w rep settled cells entries lc le))
+      (dumped c flown w (calm_marking c flown w settled.none_preparing rep) settled cells entries lc le))

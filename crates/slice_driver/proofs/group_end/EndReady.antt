@@ -15,7 +15,8 @@ use Rattle.barriers.specs.Invariant.{MarkingInvariant}
 use Rattle.slice_driver.specs.Collector.{CollectorState, heap_with}
 use Rattle.slice_driver.specs.GroupEnd.{AreColoured, IsReady}
 use Rattle.slice_driver.specs.Represents.{Represents}
-use Rattle.slice_driver.specs.Units.{IsSound}
+use Rattle.slice_driver.proofs.abstraction.Phases.{marking_of, none_formed}
+use Rattle.slice_driver.specs.Units.{IsSoundMarking}
 use Rattle.slice_driver.proofs.group_end.Colours.{coloured}
 use Rattle.slice_driver.proofs.group_end.Ready.{joined_none, no_some}
 use Rattle.slice_driver.proofs.abstraction.Named.{some_one}
@@ -40,14 +41,15 @@ ready_here v now is g rest ready group at =
 pub ends_coloured : (v : CollectorState) (flown : ℕ → Option Bits) (g : ZoneSet) (rest : List ZoneSet)
     → IsReady v g rest → (w : World) (k : Collection) → IsValid w → Represents v flown w → w.collection ≡ Some k
     → AreColoured v.heap w.graph k (zones_without k.marking (zones_in g))
-ends_coloured v flown g rest ready w k ok rep is =
+ends_coloured v flown g rest ready w k ok r is =
+    let rep = marking_of v flown w (none_formed v flown w (ready.run, ready.running, ready.formed)) r in
     let own : heap_with v flown ≡ v.heap = joined_none v.heap flown rep.placed.delayed
     (λ a. no_some (flown a) (rep.swept.flies.covers a ∙ ap is_some (ready.kept a))) in
     subst (λ h. AreColoured h w.graph k (zones_without k.marking (zones_in g))) own
     (coloured v flown w k g rest (record { valid = ok; represents = rep; ready = ready; running = is }))
 
 module _ (v : CollectorState) (flown : ℕ → Option Bits) (kept : (a : ℕ) → out_of v.heap.shape a ≡ None)
-    (s : IsSound v flown) where
+    (s : IsSoundMarking v flown) where
   own : heap_with v flown ≡ v.heap
   own = joined_none v.heap flown s.represents.placed.delayed
       (λ a. no_some (flown a) (s.represents.swept.flies.covers a ∙ ap is_some (kept a)))

@@ -207,12 +207,8 @@ module _ (g : GraphState) (keep : Name → Bool) where
   cell_here (Cell n) c plain e = (c, e)
   cell_here (Wrap d t) c plain e = absurd plain
 
-  key_as_here : (h : GraphState) (k : Name) → Rattle.colour_defs.specs.Laws.IsNoWrapper k → IsHere h k → IsKeyHere h k
-  key_as_here h (Cell n) plain here = here
-  key_as_here h (Wrap c t) plain here = absurd plain
-
   module _ (w v : World) (s : Shows w g) (same : v.graph ≡ w.graph) (stays : (x : Name) → IsPresent v x
-      ↔ (IsPresent w x × (keep x ≡ true))) (presence : NamesOnlyPresent v) (whole : IsWellFormed w.graph) where
+      ↔ (IsPresent w x × (keep x ≡ true))) (before : NamesOnlyPresent w) (presence : NamesOnlyPresent v) where
     edge_here : (n : ℕ) (y : Name) → HasEdge (restrict g keep) (Cell n) y → (keep (Cell n) ≡ true)
         × HasEdge g (Cell n) y × IsPresent w (Cell n)
     edge_here n y e = go (object_of (restrict g keep) n) refl e
@@ -228,16 +224,45 @@ module _ (g : GraphState) (keep : Name → Bool) where
         ((stays y).0 (presence.edges x y ((stays x).1 (p, t))
         (subst (λ h. HasEdge h x y) (sym same) (part_edge w.graph g s.part x y e)))).1
 
+    -- the map of an entry is here, and its key is present
+    map_here : (m k u : Name) → value_of g m k ≡ Some u → IsHere g m
+    map_here m k u e =
+        let both = s.well_formed.keys m k u e in
+        cell_here m both.0 (s.well_formed.no_wrappers m k u e) both.1
+
+    key_stands : (m k u : Name) → value_of g m k ≡ Some u → IsKeyHere g k
+    key_stands m (Cell n) u e = (let both = s.well_formed.keys m (Cell n) u e in (both.0, both.2))
+    key_stands m (Wrap c t) u e = s.well_formed.delegates m u c t e
+
+    key_present : (m k u : Name) → value_of g m k ≡ Some u → IsPresent w k
+    key_present m (Cell n) u e = (s.here (Cell n)).0 (key_stands m (Cell n) u e)
+    key_present m (Wrap c t) u e =
+        let key = key_stands m (Wrap c t) u e in
+        let map = map_here m (Wrap c t) u e in
+        before.keys m u c t (sym (s.part.entries m (Wrap c t) map key) ∙ e) ((s.here m).0 map) ((s.here (Cell t)).0 key)
+
+    -- so it is an entry of the world after it
+    value_then : (m k u : Name) → value_of g m k ≡ Some u → value_of v.graph m k ≡ Some u
+    value_then m k u e = ap (λ (h : GraphState). value_of h m k) same
+        ∙ (sym (s.part.entries m k (map_here m k u e) (key_stands m k u e)) ∙ e)
+
     value_stays : (m k u : Name) → keep m ≡ true → keep k ≡ true → value_of g m k ≡ Some u → keep u ≡ true
     value_stays m k u tm tk e =
-        let nw = s.well_formed.no_wrappers m k u e in
-        let sc = s.well_formed.keys m k u e in
-        let hm = cell_here m sc.0 nw sc.1 in
-        let plain = s.well_formed.plain_keys m k u e in
-        let hk = cell_here k sc.0 plain sc.2 in
-        ((stays u).0 (presence.entries m k u
-        (subst (λ h. value_of h m k ≡ Some u) (sym same) (sym (s.part.entries m k hm (key_as_here g k plain hk))
-        ∙ e)) ((stays m).1 ((s.here m).0 hm, tm)) ((stays k).1 ((s.here k).0 hk, tk)))).1
+        ((stays u).0 (presence.entries m k u (value_then m k u e)
+        ((stays m).1 ((s.here m).0 (map_here m k u e), tm)) ((stays k).1 (key_present m k u e, tk)))).1
+
+    -- with its map and its target a wrapper key stays, and with it its target
+    key_stays : (m u : Name) (c : CompNo) (t : ℕ) → keep m ≡ true → keep (Cell t) ≡ true
+        → value_of g m (Wrap c t) ≡ Some u → keep (Wrap c t) ≡ true
+    key_stays m u c t tm tt e = ((stays (Wrap c t)).0 (presence.keys m u c t (value_then m (Wrap c t) u e)
+        ((stays m).1 ((s.here m).0 (map_here m (Wrap c t) u e), tm))
+        ((stays (Cell t)).1 ((s.here (Cell t)).0 (key_stands m (Wrap c t) u e), tt)))).1
+
+    target_stays : (m u : Name) (c : CompNo) (t : ℕ) → keep (Wrap c t) ≡ true → value_of g m (Wrap c t) ≡ Some u
+        → keep (Cell t) ≡ true
+    target_stays m u c t tk e =
+        let present = key_present m (Wrap c t) u e in
+        stays_along (Wrap c t) (Cell t) present tk (refl, (s.here (Wrap c t)).1 present)
 
     well_formed : IsWellFormed (restrict g keep)
     well_formed = record {
@@ -247,8 +272,10 @@ module _ (g : GraphState) (keep : Name → Bool) where
       values = λ m k u e. (let r = value_back m k u e in
           comps_on m u r.0 (value_stays m k u r.0 r.1 r.2) (s.well_formed.values m k u r.2));
       no_wrappers = λ m k u e. s.well_formed.no_wrappers m k u (value_back m k u e).2;
-      plain_keys = λ m k u e. s.well_formed.plain_keys m k u (value_back m k u e).2;
-      delegates = λ m u c t e. absurd (s.well_formed.plain_keys m (Wrap c t) u (value_back m (Wrap c t) u e).2);
+      delegates = λ m u c t e.
+          (let r = value_back m (Wrap c t) u e in
+          let comp = s.well_formed.delegates m u c t r.2 in
+          (comp.0, comp_on (Cell t) (target_stays m u c t r.1 r.2) ∙ comp.1));
     }
 
     part : IsPartOf w.graph (restrict g keep)
@@ -263,19 +290,28 @@ module _ (g : GraphState) (keep : Name → Bool) where
       entries = entries;
     }
       where
-        no_entry : (h : GraphState) → IsWellFormed h → (m : Name) (c : CompNo) (t : ℕ) → value_of h m (Wrap c t) ≡ None
-        no_entry h well m c t = go (value_of h m (Wrap c t)) refl
-          where
-            go : (o : Option Name) → value_of h m (Wrap c t) ≡ o → value_of h m (Wrap c t) ≡ None
-            go None e = e
-            go (Some u) e = absurd (well.plain_keys m (Wrap c t) u e)
-
         entries : (m k : Name) → IsHere (restrict g keep) m → IsKeyHere (restrict g keep) k
             → value_of (restrict g keep) m k ≡ value_of w.graph m k
         entries m (Cell n) hm hk =
             (let a = here_back m hm in let b = here_back (Cell n) hk in value_on m (Cell n) a.1 b.1
             ∙ s.part.entries m (Cell n) a.0 b.0)
-        entries m (Wrap c t) hm hk = no_entry (restrict g keep) well_formed m c t ∙ sym (no_entry w.graph whole m c t)
+        entries m (Wrap c t) hm hk =
+            (let a = here_back m hm in let b = here_back (Cell t) hk in by m c t a.1 b.1 (keep (Wrap c t)) refl
+            (value_of g m (Wrap c t)) refl ∙ s.part.entries m (Wrap c t) a.0 b.0)
+          where
+            neither : (b : Bool) → ◌≡◌ {A = Option Name} (cond b None None) None
+            neither true = refl
+            neither false = refl
+
+            by : (m : Name) (c : CompNo) (t : ℕ) → keep m ≡ true → keep (Cell t) ≡ true → (b : Bool)
+                → keep (Wrap c t) ≡ b → (o : Option Name) → value_of g m (Wrap c t) ≡ o
+                → value_of (restrict g keep) m (Wrap c t) ≡ value_of g m (Wrap c t)
+            by m c t tm tt true on o e = value_on m (Wrap c t) tm on
+            by m c t tm tt false off None e = value_kept m (Wrap c t)
+                ∙ (ap (λ (o : Option Name). cond (keep m && keep (Wrap c t)) o None) e
+                ∙ (neither (keep m && keep (Wrap c t)) ∙ sym e))
+            by m c t tm tt false off (Some u) e =
+                absurd (let on = key_stays m u c t tm tt e in cc (on, off))
 
     pub shows_restricted : Shows v (restrict g keep)
     shows_restricted = record {

@@ -1,6 +1,6 @@
 -- The names of gray cells in the worlds that a collector stands for, where no zone is marking.
-use Rattle.std.proofs.Common.{◌≡◌, ◌↔◌, ◌<◌, ℕ, Bool, true, false, List, length, Option, Some, None, IsSome, is_some}
-use Rattle.std.proofs.Common.{slice_get, option_and_then, refl, sym, ap, subst, ◌∙◌, inl, inr, arith}
+use Rattle.std.proofs.Common.{◌≡◌, ◌↔◌, ◌<◌, ℕ, Bool, true, false, List, length, Option, Some, None, IsSome}
+use Rattle.std.proofs.Common.{slice_get, option_and_then, refl, inl, inr, arith}
 use Rattle.std.specs.List.Sorted.{IsPermutation, IsSorted}
 use Rattle.std.specs.Prelude.{if◌then◌else◌}
 use Rattle.std.proofs.lemmas.Option.{slice_get_within}
@@ -15,16 +15,10 @@ use Rattle.colour_defs.specs.World.{World, Has, IsPresent as IsPresentName, IsSe
 use Rattle.heap_core.specs.Shape.{ArenaShape, AreWhole, IsPresent, Shape, is_white, out_in, out_of, present_in}
 use Rattle.heap_core.specs.Shape.{zone_of}
 use Rattle.heap_core.specs.Heap.{HeapState, joined}
-use Rattle.barriers.specs.Invariant.{ColourInvariant, MarkingInvariant}
-use Rattle.barriers.specs.PendingLive.{GrayInvariant}
-use Rattle.barriers.specs.Spreading.{Covers}
-use Rattle.barriers.proofs.Flying.{flown_length, flown_there}
-use Rattle.slice_driver.specs.Closures.{AreBlack}
+use Rattle.barriers.specs.Invariant.{ColourInvariant}
 use Rattle.slice_driver.specs.Collector.{CollectorState, heap_with}
 use Rattle.slice_driver.specs.Grays.{IsGrayIn, grays_up_to}
-use Rattle.slice_driver.specs.Represents.{Represents, RunsAs}
-use Rattle.slice_driver.specs.Units.{IsSound}
-use Rattle.slice_driver.specs.Worlds.{IsWokenFrom}
+use Rattle.slice_driver.specs.Represents.{RepresentsMarking}
 use Rattle.slice_driver.proofs.group_end.Grays.{grays_listed}
 use Rattle.slice_driver.proofs.abstraction.Named.{named_present, place_of, present_named}
 use Rattle.slice_driver.proofs.abstraction.Steps.{settled_states}
@@ -67,7 +61,7 @@ lists_as P Q xs same l = record {
 
 -- in a settled world the gray names are those that are present and not black
 pub settled_grays : (c : CollectorState) (flown : ℕ → Option Bits) (w : World) (names : List Name)
-    → Represents c flown w → IsSettled w
+    → RepresentsMarking c flown w → IsSettled w
     → IsPermutation (grays_up_to (joined c.heap flown) (λ a. true) (length c.heap.shape.arenas)) names
     → IsSorted name_cmp names → Lists (λ x. IsPresentName w x × (Has w.black x → ⊥)) names
 settled_grays c flown w names rep settled moved sorted =
@@ -99,11 +93,3 @@ settled_grays c flown w names rep settled moved sorted =
           | inl gray ↦ record { place = p.0; named = p.1; here = refl; gray = gray }
           | inr black ↦ absurd (at.1 ((rep.phase.black settled x p.0 p.1).1 black))
         ]
-
--- each arena has its bits
-pub arena_coloured : (c : CollectorState) (flown : ℕ → Option Bits) (a : ℕ) → IsSound c flown
-    → a < length c.heap.shape.arenas → a < length c.heap.colours
-arena_coloured c flown a s lt =
-    let n = s.represents.coloured.marks.holds.colours.sized in
-    let m = flown_length flown 0 c.heap.colours in
-    omega (arith, n, m, lt)

@@ -171,7 +171,7 @@ module _ (c : CollectorState) (flown : ℕ → Option Bits) (w : World) (k : Col
 
   pub part : present.Shows after graph_after
   part = shows_restricted ending.represents.placed.lies.graph keep w after ending.represents.placed.lies.part refl stays
-      valid.presence ending.valid.graph
+      ending.valid.presence valid.presence
 
   reg_alive : (p : Place) → Contains c.heap.shape.regs (Some p) → is_dead c.heap g p ≡ false
   reg_alive p held =
@@ -377,8 +377,7 @@ module _ (c : CollectorState) (flown : ℕ → Option Bits) (w : World) (k : Col
       let aq = kept_alive o.1 y o.5 r.1 in
       let av = kept_alive o.2 z o.6
       (value_kept_too ending.represents.placed.lies.graph keep w after ending.represents.placed.lies.part refl stays
-      valid.presence
-      ending.valid.graph x y z r.0 r.1 r.2) in
+      ending.valid.presence valid.presence x y z r.0 r.1 r.2) in
       let nm = name_on o.0 am ∙ o.4 in
       let nq = name_on o.1 aq ∙ o.5 in
       let nv = name_on o.2 av ∙ o.6 in (

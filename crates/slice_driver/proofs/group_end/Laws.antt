@@ -14,7 +14,7 @@ use Rattle.heap_core.specs.Heap.{HeapState}
 use Rattle.heap_core.specs.Shape.{ArenaShape, out_in, out_of}
 use Rattle.heap_core.specs.Sweeping.{handed, jobs_of}
 use Rattle.slice_driver.specs.Collector.{CollectorState, heap_with}
-use Rattle.slice_driver.specs.Represents.{Represents}
+use Rattle.slice_driver.specs.Represents.{RepresentsMarking}
 use Rattle.slice_driver.specs.GroupEnd.{AreJustFlown, EndsIn, IsGrayHere, IsReady}
 use Rattle.slice_driver.specs.Units.{flown_by}
 use Rattle.slice_driver.proofs.group_end.Heaps.{valid}
@@ -23,9 +23,9 @@ use Rattle.slice_driver.proofs.group_end.Runs.{represents_after}
 use Rattle.slice_driver.proofs.group_end.Worlds.{ended, ends_group}
 
 pub group_ends : (c d : CollectorState) (flown flying : ℕ → Option Bits) (w : World) (g : ZoneSet) (rest : List ZoneSet)
-    (grays : List Name) → IsValid w → Represents c flown w → IsReady c g rest → EndsIn c g rest d
+    (grays : List Name) → IsValid w → RepresentsMarking c flown w → IsReady c g rest → EndsIn c g rest d
     → AreJustFlown d.heap.shape flying → Lists (IsGrayHere c.heap g) grays
-    → (v : World) × EndsGroup w (zones_in g) grays [] v × IsValid v × Represents d flying v
+    → (v : World) × EndsGroup w (zones_in g) grays [] v × IsValid v × RepresentsMarking d flying v
 group_ends c d flown flying w g rest grays ok s ready ends flies listed =
     let k = collection_of c (heap_with c flown) w ready.run ready.running s.phase.runs in
     let ending : AtGroupEnd c flown w k.0 g rest = record { valid = ok; represents = s; ready = ready; running = k.1 }

@@ -1,6 +1,6 @@
 -- After the end of a group what holds of marking goes on to hold, and as much is left to mark.
 use Rattle.std.proofs.Common.{◌≡◌, ◌≢◌, ◌⊎◌, ◌↔◌, ◌<◌, ◌≤◌, ◌+◌, ◌*◌, ℕ, Bool, true, false, cond, inl, inr, refl, sym}
-use Rattle.std.proofs.Common.{ap, ◌∙◌, subst, Option, None, Some, List, [], length, Contains, slice_get}
+use Rattle.std.proofs.Common.{ap, ◌∙◌, subst, arith, Option, None, Some, List, [], length, Contains, slice_get}
 use Rattle.std.specs.Option.{option_map}
 use Rattle.gz_names.specs.Zones.{HasZone}
 use Rattle.gz_names.specs.declared.names.Name.{Name}
@@ -15,7 +15,7 @@ use Rattle.gray_lists.specs.Incoming.{waiting_count}
 use Rattle.colour_defs.specs.World.{World, Collection}
 use Rattle.colour_defs.specs.Ends.{Lists}
 use Rattle.colour_defs.proofs.Lists.{both_of, first_of_both, second_of_both}
-use Rattle.heap_core.specs.Shape.{ArenaShape, HasEdge, IsPresent, cell_of, field_at, field_in, is_marking}
+use Rattle.heap_core.specs.Shape.{ArenaShape, HasEdge, IsDelegate, IsPresent, cell_of, field_at, field_in, is_marking}
 use Rattle.heap_core.specs.Shape.{is_marking_state, is_white, out_of, state_in, zone_of}
 use Rattle.heap_core.specs.Heap.{HeapState, colour_in, colour_of}
 use Rattle.barriers.specs.Reached.{Reached, HasEntry}
@@ -136,6 +136,17 @@ module _ (c : CollectorState) (flown : ℕ → Option Bits) (w : World) (k : Col
   edge_stays p q ed stays =
       (ed.0, ed.1, ap (λ o. field_in o ed.0) (cell_on c flown w k g rest ending grays listed n e p stays) ∙ ed.2)
 
+  delegate_was : (q d : Place) → IsDelegate n.shape q d → IsDelegate c.heap.shape q d
+  delegate_was q d is =
+      let stays = (present_was q (edge_from n.shape q d (0, omega arith, is.1))).1 in
+      let same = cell_on c flown w k g rest ending grays listed n e q stays in
+      (sym (ap (option_map (λ (z : CellState). z.kind)) same) ∙ is.0, sym (ap (λ o. field_in o 0) same) ∙ is.1)
+
+  delegate_stays : (q d : Place) → IsDelegate c.heap.shape q d → is_dead c.heap g q ≡ false → IsDelegate n.shape q d
+  delegate_stays q d is stays =
+      let same = cell_on c flown w k g rest ending grays listed n e q stays in
+      (ap (option_map (λ (z : CellState). z.kind)) same ∙ is.0, ap (λ o. field_in o 0) same ∙ is.1)
+
   target_alive : (p q : Place) → HasEdge c.heap.shape p q → is_dead c.heap g p ≡ false → is_dead c.heap g q ≡ false
   target_alive p q ed stays = edge_alive c flown w k g rest ending grays listed n e p q ed stays
 
@@ -155,6 +166,14 @@ module _ (c : CollectorState) (flown : ℕ → Option Bits) (w : World) (k : Col
         (let z = was.holds.colours.shape.one_zone m q v
         (entry_was c flown w k g rest ending grays listed n e m q v f) in
         (zone_same m ∙ z.0 ∙ sym (zone_same v), zone_same q ∙ z.1 ∙ sym (zone_same v)));
+    delegates = λ m q v d f.
+        (let before = entry_was c flown w k g rest ending grays listed n e m q v f in
+        let both = was.holds.colours.shape.delegates m q v d before in
+        let stays = (present_was q (entry_present c flown w k g rest ending grays listed n e m q v f).1).1 in
+        let same = e.rows.delegates m q v f in (
+          λ is. same ∙ both.0 (delegate_was q d is),
+          λ is. delegate_stays q d (both.1 (sym same ∙ is)) stays,
+        ));
     kept = λ x m. kept x (in_zones g.bits (zone_of c.heap.shape x)) refl m;
   }
     where
@@ -226,7 +245,17 @@ module _ (c : CollectorState) (flown : ℕ → Option Bits) (w : World) (k : Col
           | inl sv ↦ inl (seen_on v sv)
           | inr (inl p) ↦ inr (inl p)
           | inr (inr (inl p)) ↦ inr (inr (inl p))
-          | inr (inr (inr l)) ↦ inr (inr (inr (carried_stay c.heap n e.carries mark.Gray m q l)))
+          | inr (inr (inr l)) ↦ inr (inr (inr (carried_stay c.heap n e.carries e.rows mark.Gray m q v f l)))
+        ];
+    gray_key = λ m q v d f is sm sd takes.
+        let then_state = ap (state_in c.heap.shape) (sym (zone_same q))
+        ∙ sym (marking_before (zone_of n.shape q) (ap is_marking_state takes)).1 ∙ takes in
+        elim (was.weak.gray_key m q v d (entry_then m q v f) (delegate_was q d is) (seen_back m sm) (seen_back d sd)
+        then_state) [
+          | inl sq ↦ inl (seen_on q sq)
+          | inr (inl p) ↦ inr (inl p)
+          | inr (inr (inl p)) ↦ inr (inr (inl p))
+          | inr (inr (inr l)) ↦ inr (inr (inr (carried_stay c.heap n e.carries e.rows mark.Gray m q v f l)))
         ];
   }
 
@@ -245,6 +274,9 @@ module _ (c : CollectorState) (flown : ℕ → Option Bits) (w : World) (k : Col
       weak_closed = λ m q v f bm bq mv.
           inl (black_on v (black_values c.heap c.stack c.lists was was_gray g ending.ready.marked m q v
           (entry_was c flown w k g rest ending grays listed n e m q v f) (black_back m bm) (black_back q bq)));
+      key_closed = λ m q v d f is bm bd.
+          inl (black_on q (ending.ready.marked.black_keys m q v d (entry_then m q v f) (delegate_was q d is)
+          (black_back m bm) (black_back d bd)));
     };
     none_woken = was.none_woken;
     weak = weak_after;
@@ -319,6 +351,8 @@ module _ (c : CollectorState) (flown : ℕ → Option Bits) (w : World) (k : Col
       back (reached.along {x} {y} r ed) = reached.along (back r) (edge_was x y ed).0
       back (reached.weak {m} {k = q} {v} f a b) =
           reached.weak (entry_was c flown w k g rest ending grays listed n e m q v f) (back a) (back b)
+      back (reached.delegate {m} {k = q} {v} {d} f is a b) =
+          reached.delegate (entry_then m q v f) (delegate_was q d is) (back a) (back b)
 
   -- what is left to reach isn't dead
   pub live_alive : (p : Place) → PendingLive c.heap c.stack c.lists p → is_dead c.heap g p ≡ false
@@ -348,6 +382,8 @@ module _ (c : CollectorState) (flown : ℕ → Option Bits) (w : World) (k : Col
   live_back (reached.along {x} {y} r ed) = reached.along (live_back r) (edge_was x y ed).0
   live_back (reached.weak {m} {k = q} {v} f a b) =
       reached.weak (entry_was c flown w k g rest ending grays listed n e m q v f) (live_back a) (live_back b)
+  live_back (reached.delegate {m} {k = q} {v} {d} f is a b) =
+      reached.delegate (entry_then m q v f) (delegate_was q d is) (live_back a) (live_back b)
 
   reached_alive : (p : Place) → Reached c.heap.shape (IsLiveStart c.heap) p → is_dead c.heap g p ≡ false
   reached_alive p r = live_alive p (reached_is_live c.heap c.stack c.lists was was_gray r)
@@ -360,6 +396,13 @@ module _ (c : CollectorState) (flown : ℕ → Option Bits) (w : World) (k : Col
       reached.weak (entry_on c flown w k g rest ending grays listed n e m q v f
       (present_stays m there.0 (reached_alive m a)) (present_stays q there.1 (reached_alive q b))
       (present_stays v there.2 (reached_alive v (reached.weak f a b)))) (live_on a) (live_on b)
+  live_on (reached.delegate {m} {k = q} {v} {d} f is a b) =
+      let there = was.holds.colours.shape.entries m q v f in
+      let key = reached_alive q (reached.delegate f is a b) in
+      reached.delegate (entry_on c flown w k g rest ending grays listed n e m q v f
+      (present_stays m there.0 (reached_alive m a)) (present_stays q there.1 key)
+      (present_stays v there.2 (reached_alive v (reached.weak f a (reached.delegate f is a b)))))
+      (delegate_stays q d is key) (live_on a) (live_on b)
 
   pub live_after : (p : Place) → PendingLive n c.stack c.lists p ↔ PendingLive c.heap c.stack c.lists p
   live_after p = (

@@ -1,6 +1,6 @@
 -- Where nothing is left to mark for a group, exactly what is pending is coloured.
-use Rattle.std.proofs.Common.{◌≡◌, ◌⊎◌, ◌↔◌, ◌∷◌, ℕ, Bool, true, false, inl, inr, refl, sym, ap, ◌∙◌, subst, Option}
-use Rattle.std.proofs.Common.{None, Some, IsSome, is_some, Contains, List, []}
+use Rattle.std.proofs.Common.{◌≡◌, ◌⊎◌, ℕ, Bool, true, false, inl, inr, refl, sym, ap, ◌∙◌, subst, Option}
+use Rattle.std.proofs.Common.{arith, None, Some, is_some, Contains, List, []}
 use Rattle.gz_names.specs.Zones.{HasZone}
 use Rattle.gz_names.specs.declared.numbers.Place.{Place}
 use Rattle.gz_names.specs.declared.zone_sets.ZoneSet.{ZoneSet}
@@ -15,11 +15,12 @@ use Rattle.heap_core.specs.Heap.{HeapState}
 use Rattle.barriers.specs.Reached.{Reached, HasEntry}
 use Rattle.barriers.specs.Reached as reached
 use Rattle.barriers.specs.Colours.{IsBlack, IsSeen}
-use Rattle.barriers.specs.Invariant.{MarkingInvariant}
+use Rattle.barriers.specs.Invariant.{IsToFollow, MarkingInvariant}
 use Rattle.barriers.specs.PendingBlack.{PendingBlack}
 use Rattle.barriers.specs.PendingBlack as black_closure
 use Rattle.barriers.specs.PendingLive.{PendingLive, GrayInvariant, IsLiveStart, IsNotedFor}
 use Rattle.barriers.specs.PendingLive as live_closure
+use Rattle.zone_edges.specs.Looks.{IsKey}
 use Rattle.barriers.proofs.Places.{nothing_in_none}
 use Rattle.barriers.proofs.BlackClosure.{none_on_wake, pending_is_reached}
 use Rattle.barriers.proofs.LiveClosure.{live_is_reached}
@@ -33,6 +34,7 @@ states_are s x = go (state_of s x) refl
     go : (t : State) → state_of s x ≡ t → (is_marking s x ≡ false)
         ⊎ ((state_of s x ≡ state.MarkBlackOnly) ⊎ (state_of s x ≡ state.MarkBlackAndGray))
     go state.NoGC e = inl (ap is_marking_state e)
+    go state.Prepare e = inl (ap is_marking_state e)
     go state.MarkBlackOnly e = inr (inl e)
     go state.MarkBlackAndGray e = inr (inr e)
     go state.Sweep e = inl (ap is_marking_state e)
@@ -50,21 +52,24 @@ not_in_none : (xs : List Place) (x : Place) → xs ≡ [] → Contains xs x → 
 not_in_none xs x e c = nothing_in_none x (subst (λ ys. Contains ys x) e c)
 
 -- zones that take gray are of the group, and an edge into the group from a zone that is marked black only leads to a
--- black cell
+-- black cell; and so does an edge from a key of the group to such a zone
 pub record IsOrdered (h : HeapState) (g : ZoneSet) : Type 0 where
   pub only : (z : ℕ) → state_in h.shape z ≡ state.MarkBlackAndGray → HasZone g.bits z
   pub order : (x y : Place) → HasEdge h.shape x y → state_of h.shape x ≡ state.MarkBlackOnly
       → HasZone g.bits (zone_of h.shape y) → IsBlack h y
+  pub keys : (x y : Place) → HasEdge h.shape x y → IsKey h.shape x → HasZone g.bits (zone_of h.shape x)
+      → state_of h.shape y ≡ state.MarkBlackOnly → IsBlack h y
 
 module _ (h : HeapState) (p : Piles) (lists : Incoming) (inv : MarkingInvariant h p) (gray : GrayInvariant h p lists)
     (g : ZoneSet) (marked : IsMarked h p lists g) where
+  -- nothing is to be followed
+  none_follows : (x : Place) → IsToFollow [] p x → ⊥
+  none_follows x (inl c) = not_in_none p.black x marked.black_empty c
+  none_follows x (inr (inl c)) = none_on_wake h p x inv c
+  none_follows x (inr (inr c)) = nothing_in_none x c
+
   pub black_follows : (x y : Place) → IsBlack h x → HasEdge h.shape x y → IsBlack h y
-  black_follows x y b e = elim (inv.holds.closed x y b e) [
-    | inl by ↦ by
-    | inr (inl c) ↦ absurd (not_in_none p.black x marked.black_empty c)
-    | inr (inr (inl c)) ↦ absurd (none_on_wake h p x inv c)
-    | inr (inr (inr c)) ↦ absurd (nothing_in_none x c)
-  ]
+  black_follows x y b e = elim (inv.holds.closed x y b e) [ inl by ↦ by | inr c ↦ absurd (none_follows x c) ]
 
   pub black_values : (m k v : Place) → HasEntry h.shape m k v → IsBlack h m → IsBlack h k → IsBlack h v
   black_values m k v e bm bk = go (is_marking h.shape v) refl
@@ -73,16 +78,15 @@ module _ (h : HeapState) (p : Piles) (lists : Incoming) (inv : MarkingInvariant 
       go true t = marked.black_fixed m k v e bm bk t
       go false t = elim (inv.holds.weak_closed m k v e bm bk t) [
         | inl b ↦ b
-        | inr (inl w) ↦ absurd (none_on_wake h p m inv w)
-        | inr (inr (inl w)) ↦ absurd (none_on_wake h p k inv w)
-        | inr (inr (inr (inl w))) ↦ absurd (nothing_in_none m w)
-        | inr (inr (inr (inr w))) ↦ absurd (nothing_in_none k w)
+        | inr (inl w) ↦ absurd (none_follows m w)
+        | inr (inr w) ↦ absurd (none_follows k w)
       ]
 
   all_black : {x : Place} → Reached h.shape (IsBlack h) x → IsBlack h x
   all_black (reached.from b) = b
   all_black (reached.along {x} {y} r e) = black_follows x y (all_black r) e
   all_black (reached.weak {m} {k} {v} e a b) = black_values m k v e (all_black a) (all_black b)
+  all_black (reached.delegate {m} {k} {v} {d} e is a b) = marked.black_keys m k v d e is (all_black a) (all_black b)
 
   pub pending_black : (x : Place) → PendingBlack h p x → IsBlack h x
   pending_black x l = all_black (pending_is_reached h p inv l)
@@ -124,6 +128,16 @@ module _ (h : HeapState) (p : Piles) (lists : Incoming) (inv : MarkingInvariant 
         let zones = inv.holds.colours.shape.one_zone m k v e in
         marked.gray_fixed m k v e (all_seen a (subst (λ z. HasZone g.bits z) (sym zones.0) here))
         (all_seen b (subst (λ z. HasZone g.bits z) (sym zones.1) here)) here
+    all_seen (reached.delegate {m} {k} {v} {d} e is a b) here =
+        let zones = inv.holds.colours.shape.one_zone m k v e in
+        let seen_map : IsSeen h m = all_seen a (subst (λ z. HasZone g.bits z) (zones.1 ∙ sym zones.0) here) in
+        let by_target : IsSeen h d → IsSeen h k = λ sd. marked.gray_keys m k v d e is seen_map sd here in
+        elim (states_are h.shape d) [
+          | inl rest ↦ by_target (inv.holds.colours.no_white d
+              (inv.holds.colours.shape.targets k d (0, omega arith, is.1)) rest)
+          | inr (inl only) ↦ by_target (inr (ordered.keys k d (0, omega arith, is.1) (m, v, e) here only))
+          | inr (inr both) ↦ by_target (all_seen b (ordered.only _ both))
+        ]
 
     pub pending_live : (x : Place) → PendingLive h p lists x → HasZone g.bits (zone_of h.shape x) → IsSeen h x
     pending_live x l here = all_seen (live_is_reached h p lists inv gray l) here

@@ -23,12 +23,14 @@ use Rattle.barriers.specs.Invariant.{MarkingInvariant}
 use Rattle.barriers.specs.PendingBlack as black_closure
 use Rattle.barriers.specs.PendingLive.{GrayInvariant}
 use Rattle.barriers.proofs.BlackClosure.{black_or_not}
+use Rattle.zone_edges.specs.Looks.{IsKey}
 use Rattle.slice_driver.specs.Collector.{CollectorState, RunState, heap_with}
 use Rattle.slice_driver.specs.Closures.{AreTied}
-use Rattle.slice_driver.specs.Represents.{IsCurrent, IsInGroups, Represents, Runs, RunsAs}
+use Rattle.slice_driver.specs.Represents.{IsCurrent, IsInGroups, RepresentsMarking, Runs, RunsAs}
 use Rattle.slice_driver.specs.GroupEnd.{IsReady}
 use Rattle.slice_driver.proofs.abstraction.Named.{edge_named, name_of, present_named, some_one}
 use Rattle.slice_driver.proofs.abstraction.Lying.{zone_named}
+use Rattle.slice_driver.proofs.abstraction.Tying.{entry_named}
 use Rattle.slice_driver.proofs.group_end.Places.{IsOrdered, edge_from, pending_black}
 
 -- where no arena is in flight, the heap's own bits count
@@ -89,7 +91,7 @@ collection_of c h w r e i = go w.collection refl (subst (λ (o : Option RunState
 pub record AtGroupEnd (c : CollectorState) (flown : ℕ → Option Bits) (w : World) (k : Collection) (g : ZoneSet)
     (rest : List ZoneSet) : Type 0 where
   pub valid : IsValid w
-  pub represents : Represents c flown w
+  pub represents : RepresentsMarking c flown w
   pub ready : IsReady c g rest
   pub running : w.collection ≡ Some k
 
@@ -174,6 +176,32 @@ module _ (c : CollectorState) (flown : ℕ → Option Bits) (w : World) (k : Col
             later.3 ((zones_in-has g _).1 here) (λ b. not (black_is (Cell t) q target b))
       ]
 
+  -- and so does a wrapper of the group that is a key
+  key_into_black : (p q : Place) (x y : Name) → name_at c.heap.shape p ≡ Some x → name_at c.heap.shape q ≡ Some y
+      → names.HasEdge w.graph x y → IsKey c.heap.shape p → HasZone g.bits (zone_of c.heap.shape p)
+      → state_of c.heap.shape q ≡ state.MarkBlackOnly → (IsBlack c.heap q → ⊥) → ⊥
+  key_into_black p q (Cell n) y np nq e key here only not =
+      let same : Some (zone_of c.heap.shape p) ≡ Some (zone_of c.heap.shape q) = sym (zone_is (Cell n) p np)
+      ∙ same_zone_of w.graph (Cell n) y (ending.valid.graph.fields n y e) ∙ zone_is y q nq in
+      group_takes_gray _ here
+      (subst (λ z. state_in c.heap.shape z ≡ state.MarkBlackOnly) (sym (some_one _ _ same)) only)
+  key_into_black p q (Wrap d t) y np nq e key here only not =
+      elim (marking_zone (zone_of c.heap.shape q) (ap is_marking_state only)) [
+        | inl mine ↦ group_takes_gray _ mine only
+        | inr later ↦
+            let target : name_at c.heap.shape q ≡ Some (Cell t) = nq ∙ ap (λ z. Some z) (sym e.0) in
+            let lies = ending.represents.placed.lies in
+            let held = lies.shown.entries_held key.0 p key.1 key.2 in
+            let map = name_of c.heap.shape key.0 held.0 in
+            let value = name_of c.heap.shape key.1 held.2 in
+            let entry = entry_named c.heap w lies key.0 p key.1 map.0 (Wrap d t) value.0 map.1 np value.1 key.2 in
+            groups_ok.forward.0 later.1 later.2 d t (zone_of c.heap.shape p) (zone_of c.heap.shape q)
+            (present_named c.heap w lies p (Wrap d t) np)
+            (map.0, value.0, entry, present_named c.heap w lies key.0 map.0 map.1) (zone_is (Wrap d t) p np)
+            (zone_is (Cell t) q target) ((zones_in-has g _).1 here) later.3
+            (λ b. not (black_is (Cell t) q target b))
+      ]
+
   pub ordered : IsOrdered c.heap g
   ordered = record {
     only = λ z both. elim (marking_zone z (ap is_marking_state both)) [
@@ -190,5 +218,14 @@ module _ (c : CollectorState) (flown : ℕ → Option Bits) (w : World) (k : Col
               absurd (into_black p q x.0 y.0 x.1 y.1
               (edge_named c.heap w ending.represents.placed.lies p q x.0 y.0 x.1 y.1 e)
               only here not)
+        ];
+    keys = λ p q e key here only.
+        elim (black_or_not c.heap q) [
+          | inl b ↦ b
+          | inr not ↦
+              let x = name_of c.heap.shape p (edge_from c.heap.shape p q e) in
+              let y = name_of c.heap.shape q (inv.holds.colours.shape.targets p q e) in
+              absurd (key_into_black p q x.0 y.0 x.1 y.1 (edge_named c.heap w ending.represents.placed.lies p q x.0 y.0
+              x.1 y.1 e) key here only not)
         ];
   }

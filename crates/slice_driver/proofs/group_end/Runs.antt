@@ -1,7 +1,7 @@
 -- After the end of a group the collector stands for the world after it.
 use Rattle.std.proofs.Common.{◌≡◌, ◌⊎◌, ◌↔◌, ◌+◌, ◌<◌, ℕ, suc, Bool, true, false, cond, inl, inr, refl, sym, ap, ◌∙◌}
 use Rattle.std.proofs.Common.{subst, arith, eqb, Option, None, Some, IsSome, is_some, List, [], ◌∷◌, map, Contains}
-use Rattle.std.proofs.Common.{slice_get}
+use Rattle.std.proofs.Common.{slice_get, length}
 use Rattle.std.specs.FinMap as places
 use Rattle.std.specs.List.{list_any}
 use Rattle.gz_names.specs.Zones.{HasZone, zones_in}
@@ -28,18 +28,20 @@ use Rattle.barriers.specs.PendingLive.{GrayInvariant, buffer_of}
 use Rattle.slice_driver.specs.Collector.{CollectorState, RunState, heap_with}
 use Rattle.slice_driver.specs.Closures.{AreBlack, AreTied}
 use Rattle.slice_driver.specs.Worlds.{IsInFlight, IsWokenFrom}
-use Rattle.slice_driver.specs.Represents.{AreInStates, IsCurrent, IsInGroups, Represents, Runs, RunsAs}
-use Rattle.slice_driver.specs.Represents.{IsColoured, IsInPhase, WaitsWhileMarking}
+use Rattle.slice_driver.specs.Represents.{AreInStates, IsCurrent, IsInGroups, RepresentsMarking, Runs, RunsAs}
+use Rattle.slice_driver.specs.Represents.{IsColoured, IsInPhase, NothingLeft, WaitsWhileMarking}
 use Rattle.slice_driver.specs.GroupEnd.{AreJustFlown, EndsIn, IsEnded, IsGrayHere}
 use Rattle.slice_driver.proofs.abstraction.Waits.{none_carried}
 use Rattle.slice_driver.proofs.abstraction.Named.{some_one}
-use Rattle.slice_driver.proofs.group_end.Ready.{AtGroupEnd, groups_ok, in_groups_to, ordered, runs, tied}
+use Rattle.slice_driver.proofs.group_end.Ready.{AtGroupEnd, groups_ok, in_groups_to, runs, tied}
 use Rattle.slice_driver.proofs.group_end.Cells.{in_zones_has, out_at_end}
 use Rattle.slice_driver.proofs.group_end.Heaps.{after, arenas_are, name_back, sized, zones}
 use Rattle.slice_driver.proofs.group_end.Lies.{lies_after, unswept_apart_after}
-use Rattle.slice_driver.proofs.group_end.Marks.{black_back, black_on, colours_same, edge_was, gray_after, in_group}
+use Rattle.slice_driver.proofs.group_end.Marks.{black_back, black_on, colours_same, gray_after, in_group}
 use Rattle.slice_driver.proofs.group_end.Marks.{live_after, live_alive, marking_before, marks_after, pending_after}
 use Rattle.slice_driver.proofs.group_end.Marks.{state_group}
+use Rattle.slice_driver.proofs.basics.LeftLooks.{none_of}
+use Rattle.slice_driver.proofs.basics.Rows.{rows_kept}
 use Rattle.slice_driver.proofs.group_end.Worlds.{black_has, ended, ended_collection, ended_place, has_black}
 use Rattle.slice_driver.proofs.group_end.Worlds.{place_ended}
 
@@ -227,11 +229,9 @@ module _ (c : CollectorState) (flown : ℕ → Option Bits) (w : World) (k : Col
   tied_after = subst (λ p. AreTied d.heap p d.lists world_after (ended_collection k g rest)) (sym ends.stack_is)
       (subst (λ l. AreTied d.heap c.stack l world_after (ended_collection k g rest)) (sym ends.lists_is) tied_here)
 
-  zone_same : (p : Place) → zone_of d.heap.shape p ≡ zone_of c.heap.shape p
-  zone_same p = zones c flown w k g rest ending grays listed d.heap e p
-
   runs_after : Runs d.heap d world_after ending.ready.run (ended_collection k g rest)
   runs_after = record {
+    started = (runs c flown w k g rest ending).started;
     zones_are = (runs c flown w k g rest ending).zones_are;
     marking_are = left_marking;
     groups_are = ap (λ gs. Some (map zones_in gs)) (sym ends.groups_is)
@@ -241,14 +241,18 @@ module _ (c : CollectorState) (flown : ℕ → Option Bits) (w : World) (k : Col
     early = λ unformed. absurd (cc (unformed, ending.ready.formed));
   }
 
+  nothing_left : NothingLeft d.heap.looks
+  nothing_left = (
+    none_carried mark.Gray (weak_of c.heap) (weak_of d.heap) e.carries e.parallel ending.ready.marked.none_gray,
+    none_carried mark.Black (weak_of c.heap) (weak_of d.heap) e.carries e.parallel ending.ready.marked.none_black,
+  )
+
   waits_after : WaitsWhileMarking d.heap d.stack d.lists
   waits_after = record {
     piled = λ x has. absurd (nothing_in_none x (subst (λ xs. Contains xs x)
         (ap (λ (p : Piles). p.gray) ends.stack_is ∙ ending.ready.marked.gray_empty) has));
-    looks = λ quiet. (
-      none_carried mark.Gray (weak_of c.heap) (weak_of d.heap) e.carries e.parallel ending.ready.marked.none_gray,
-      none_carried mark.Black (weak_of c.heap) (weak_of d.heap) e.carries e.parallel ending.ready.marked.none_black,
-    );
+    looks = λ quiet. nothing_left;
+    of_marking = none_of d.heap.shape d.heap.looks nothing_left;
     buffered = λ z quiet. ap (λ (h : HeapState). buffer_of h z) e.rest ∙ elim (group_of z) [
       | inl mine ↦ ending.ready.marked.none_buffered z mine
       | inr out ↦ ending.represents.coloured.waits.buffered z (ap is_marking_state (sym (e.others z out)) ∙ quiet)
@@ -277,11 +281,19 @@ module _ (c : CollectorState) (flown : ℕ → Option Bits) (w : World) (k : Col
             (black_back c flown w k g rest ending grays listed d.heap e p b),
       )
 
-  pub represents_after : Represents d flying (ended c.heap w k g rest)
+  pub represents_after : RepresentsMarking d flying (ended c.heap w k g rest)
   represents_after = record {
     placed = record {
       delayed = delayed_after;
       lies = lies_after c flown w k g rest ending grays listed d.heap e;
+      homes = rows_kept c.heap.shape d.heap.shape (λ row has. ((e.rows.rows row).0 has).0)
+          (λ a lt.
+          (let now = (marks_after c flown w k g rest ending grays listed d.heap e).holds.colours.sized in
+          let same = ap (λ (bs : List Bits). length bs)
+          (colours_same c flown w k g rest ending grays listed d.heap e) in
+          let was = sized c flown w k g rest ending grays listed d.heap e in
+          omega (arith, now, same, was, lt)))
+          (λ p lt. zones c flown w k g rest ending grays listed d.heap e p) ending.represents.placed.homes;
     };
     swept = record {
       apart = unswept_apart_after c flown w k g rest ending grays listed d.heap e;

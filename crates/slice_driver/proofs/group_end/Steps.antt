@@ -5,7 +5,8 @@ use Rattle.std.proofs.lemmas.Bool.{cases_lt}
 use Rattle.std.proofs.lemmas.Nat.Bits.{bit_at_cat_high, bit_at-zero}
 use Rattle.gz_names.specs.declared.zone_sets.ZoneSet.{ZoneSet}
 use Rattle.wrappers.specs.WrapperMaps.{WrappersState, list_of, without_dead}
-use Rattle.weak_maps.specs.WeakMaps.{AreParallel, Carries, IsWithoutDead, LooksState, WeakMapsState, WeakTableState}
+use Rattle.weak_maps.specs.WeakMaps.{KeepsRows, AreParallel, Carries, IsWithoutDead, LooksState, WeakMapsState}
+use Rattle.weak_maps.specs.WeakMaps.{WeakTableState}
 use Rattle.heap_core.specs.Heap.{HeapState, weak_of}
 use Rattle.heap_core.specs.Sweeping.{is_absent, with_handed}
 use Rattle.slice_driver.specs.GroupEnd.{DropsDead, EndsZones, IsEnded}
@@ -31,9 +32,10 @@ ended_with : (h : HeapState) (g : ZoneSet) (ws : WrappersState) (es : WeakTableS
     → EndsZones h g n → ((z : ℕ)
     → list_of ws z ≡ without_dead (bit_at g.bits z) (is_absent (with_handed h g.bits).shape)
     (list_of h.shape.wrappers z)) → IsWithoutDead (is_absent (with_handed h g.bits).shape) h.shape.weak es
-    → Carries (weak_of h) (record { table = es; looks = ls }) → AreParallel (record { table = es; looks = ls })
+    → KeepsRows h.shape.weak es → Carries (weak_of h) (record { table = es; looks = ls })
+    → AreParallel (record { table = es; looks = ls })
     → Rattle.wrappers.specs.WrapperMaps.AreApart h.shape.wrappers.lists → IsEnded h g n
-ended_with h g ws es ls n is zones wrappers entries carries parallel apart =
+ended_with h g ws es ls n is zones wrappers entries rows carries parallel apart =
     let same_wrappers : n.shape.wrappers ≡ ws = ap (λ (z : HeapState). z.shape.wrappers) is in
     let same_weak : n.shape.weak ≡ es = ap (λ (z : HeapState). z.shape.weak) is in
     let same_looks : n.looks ≡ ls = ap (λ (z : HeapState). z.looks) is in
@@ -67,6 +69,7 @@ ended_with h g ws es ls n is zones wrappers entries carries parallel apart =
           (sym is);
       entries = subst (λ (x : HeapState). IsWithoutDead (is_absent x.shape) h.shape.weak n.shape.weak) (sym is)
           (subst (λ e. IsWithoutDead (is_absent (with_handed h g.bits).shape) h.shape.weak e) (sym same_weak) entries);
+      rows = subst (λ e. KeepsRows h.shape.weak e) (sym same_weak) rows;
       carries = subst (λ (w : WeakMapsState). Carries (weak_of h) w) (sym (ap weak_of is)) carries;
       parallel = subst (λ (w : WeakMapsState). AreParallel w) (sym (ap weak_of is)) parallel;
     }
@@ -77,4 +80,4 @@ ended_by_steps h m k n g handed drops on zones =
     let d : DropsDead (with_handed h g.bits) g k = subst (λ x. DropsDead x g k) handed drops in
     ended_with h g k.shape.wrappers k.shape.weak k.looks n
     (on ∙ ap (λ (x : HeapState). record x { shape = record x.shape { states = n.shape.states } }) d.rest) zones
-    d.wrappers d.entries d.carries d.parallel d.apart
+    d.wrappers d.entries d.rows d.carries d.parallel d.apart

@@ -259,15 +259,14 @@ module _ (c : CollectorState) (flown : ℕ → Option Bits) (w : World) (k : Col
     black_are = λ settled x. black_are x;
   }
 
-pub ends_group : (c : CollectorState) (flown : ℕ → Option Bits) (w : World) (k : Collection) (g : ZoneSet)
-    (rest : List ZoneSet) → AtGroupEnd c flown w k g rest → (grays : List Name) → Lists (IsGrayHere c.heap g) grays
-    → EndsGroup w (zones_in g) grays [] (ended c.heap w k g rest)
-ends_group c flown w k g rest ending grays l =
-    let lies = ending.represents.placed.lies in record {
-      collection = k;
-      rest = map zones_in rest;
-      running = ending.running;
-      first = groups_are c flown w k g rest ending;
-      ends = lawful_end c flown w k g rest ending grays l;
-      loses = loses_nothing w (ended c.heap w k g rest) lies.weak_is lies.weak_is;
-    }
+  pub ends_group : (grays : List Name) → Lists (IsGrayHere c.heap g) grays
+      → EndsGroup w (zones_in g) grays [] (ended c.heap w k g rest)
+  ends_group grays l = record {
+    collection = k;
+    rest = map zones_in rest;
+    running = ending.running;
+    first = groups_are c flown w k g rest ending;
+    ends = lawful_end grays l;
+    loses = loses_nothing w (ended c.heap w k g rest) ending.represents.placed.lies.weak_is
+        ending.represents.placed.lies.weak_is;
+  }

@@ -1,5 +1,6 @@
 -- As the groups are formed the collector stands for the world in which they are.
-use Rattle.std.proofs.Common.{◌≡◌, ◌≢◌, ◌↔◌, ◌<◌, ℕ, true, cond, inl, inr, refl, sym, ap, ◌∙◌, subst, arith, Option}
+use Rattle.std.proofs.Common.{◌≡◌, ◌≢◌, ◌↔◌, ◌<◌, ℕ, true, cond, inl, inr, refl, sym, ap, ◌∙◌, subst, arith}
+use Rattle.std.proofs.Common.{Option}
 use Rattle.std.proofs.Common.{None, Some, IsTrue, List, [], length, map, get_or, Contains, slice_get, slice_index_or}
 use Rattle.std.proofs.Common.{option_map}
 use Rattle.std.proofs.lemmas.List.{get_or_default}
@@ -14,20 +15,18 @@ use Rattle.gz_names.specs.declared.zone_sets.ZoneSet.{ZoneSet}
 use Rattle.cell_bits.specs.declared.bits.Bits.{Bits}
 use Rattle.wrappers.specs.WrapperMaps.{list_of}
 use Rattle.wrappers.specs.declared.wrapper_maps.WrapperKey.{WrapperKey}
-use Rattle.mark_stack.specs.Stack.{Piles}
-use Rattle.gray_lists.specs.Incoming.{Incoming, list_of as waiting_for}
 use Rattle.colour_defs.specs.Graph.{zone_of as zone_of_name}
-use Rattle.colour_defs.specs.Groups.{AreLawfulGroups, IsLastEdge, LeadsOutside}
+use Rattle.colour_defs.specs.Groups.{AreLawfulGroups, IsKeyOfPresent, IsLastEdge, LeadsOutside}
 use Rattle.colour_defs.specs.Laws.{IsValid}
 use Rattle.colour_defs.specs.Lawful.{FormsGroups}
-use Rattle.colour_defs.specs.World.{World, Collection, IsSettled, marking_of, BlackClosure}
+use Rattle.colour_defs.specs.World.{World, Collection, marking_of, BlackClosure}
 use Rattle.colour_defs.proofs.ZoneSets.{zones_in-has}
-use Rattle.heap_core.specs.Shape.{is_marking_state, name_at, state_in, zone_of, state_of}
+use Rattle.heap_core.specs.Shape.{is_marking_state, name_at, state_in, zone_of}
 use Rattle.heap_core.specs.Heap.{HeapState, joined}
 use Rattle.heap_core.specs.Shows.{StandsFor}
-use Rattle.barriers.specs.Invariant.{MarkingInvariant}
 use Rattle.barriers.specs.PendingBlack as black_closure
-use Rattle.barriers.specs.PendingLive.{GrayInvariant, buffer_of}
+use Rattle.barriers.specs.Reached as reached
+use Rattle.barriers.proofs.BlackClosure.{reached_is_pending}
 use Rattle.zone_edges.specs.Groups.{AreComponents, Edge}
 use Rattle.zone_edges.specs.Looks.{IsLookedAt}
 use Rattle.zone_edges.specs.Sets.{no_zones}
@@ -35,13 +34,13 @@ use Rattle.group_laws.proofs.Listed.{components_are_lawful}
 use Rattle.slice_driver.specs.Collector.{CollectorState, RunState, heap_with}
 use Rattle.slice_driver.specs.Closures.{AreBlack, AreTied}
 use Rattle.slice_driver.specs.Grouping.{FormsIn}
-use Rattle.slice_driver.specs.Represents.{AreInStates, AreLookedAt, IsInGroups, LeadsAcross, Represents}
-use Rattle.weak_maps.specs.WeakMaps.{LooksState}
+use Rattle.slice_driver.specs.Represents.{AreInStates, AreLookedAt, IsInGroups, LeadsAcross, RepresentsMarking}
 use Rattle.slice_driver.specs.Represents.{IsBeingSwept, IsPlaced, Runs, RunsAs}
 use Rattle.slice_driver.proofs.basics.Marks.{coloured_as}
 use Rattle.slice_driver.proofs.basics.Worlds.{placed_running}
-use Rattle.slice_driver.specs.Worlds.{IsInFlight, IsUnswept, LiesIn}
-use Rattle.slice_driver.proofs.abstraction.Named.{edge_placed, named_cell, place_of as place_named, some_one}
+use Rattle.slice_driver.proofs.abstraction.Named.{edge_placed, named_cell}
+use Rattle.slice_driver.proofs.abstraction.Named.{place_of as place_named, some_one}
+use Rattle.slice_driver.proofs.abstraction.Tying.{entry_placed}
 use Rattle.slice_driver.proofs.abstraction.Lying.{zone_named}
 use Rattle.slice_driver.proofs.group_end.Ready.{runs_of}
 use Rattle.slice_driver.proofs.group_end.Wrappers.{found_listed}
@@ -60,7 +59,7 @@ abbrev pub formed_collection : Collection → List ZoneSet → Collection
 formed_collection k groups = record k { groups = Some (map zones_in groups) }
 
 module _ (c d : CollectorState) (flown : ℕ → Option Bits) (w : World) (k : Collection) (groups : List ZoneSet)
-    (ok : IsValid w) (s : Represents c flown w) (f : FormsIn c groups d) (at : w.collection ≡ Some k) where
+    (ok : IsValid w) (s : RepresentsMarking c flown w) (f : FormsIn c groups d) (at : w.collection ≡ Some k) where
   runs : Runs (heap_with c flown) c w f.run k
   runs = runs_of c (heap_with c flown) w f.run k f.running at s.phase.runs
 
@@ -126,7 +125,32 @@ module _ (c d : CollectorState) (flown : ℕ → Option Bits) (w : World) (k : C
         | inl black ↦ absurd
             (e.outside (((tied_by a (in_zones a la)).black (Cell t) q.0 q.2).0 (black_closure.black black)))
         | inr n ↦ subst (λ z. Edge c.edges.sources z b) from
-            (subst (λ z. Edge c.edges.sources (zone_of c.heap.shape p.0) z) to n)
+            (subst (λ z. Edge c.edges.sources (zone_of c.heap.shape p.0) z) to n.0)
+      ]
+
+  -- a wrapper that is a key leads the other way as well
+  by_key : (a b : ℕ) → a ≢ b → Contains k.zones a → Contains k.zones b → (comp : CompNo) (t : ℕ)
+      → LeadsOutside w (BlackClosure k) b a comp t → IsKeyOfPresent w w.graph (Wrap comp t) → Edge c.edges.sources a b
+  by_key a b apart la lb comp t e key =
+      let p = place_named c.heap w s.placed.lies (Wrap comp t) e.present in
+      let q = edge_placed c.heap w s.placed.lies p.0 (Wrap comp t) (Cell t) p.1 (refl, has_made comp t e.present) in
+      let m = place_named c.heap w s.placed.lies key.0 key.3 in
+      let entry = entry_placed c.heap w s.placed.lies m.0 p.0 key.0 (Wrap comp t) key.1 m.1 p.1 key.2 in
+      let from : zone_of c.heap.shape p.0 ≡ b = some_one _ _ (sym (zone_is (Wrap comp t) p.0 p.1) ∙ e.of) in
+      let to : zone_of c.heap.shape q.0 ≡ a = some_one _ _ (sym (zone_is (Cell t) q.0 q.2) ∙ e.into) in
+      let here = subst (λ z. HasZone f.run.zones.bits z) (sym from) (in_zones b lb) in
+      let there = subst (λ z. HasZone f.run.zones.bits z) (sym to) (in_zones a la) in
+      let across : LeadsAcross c.heap.shape f.run p.0 q.0 =
+      record { edge = q.1; from = here; to = there; apart = λ z. apart (sym to ∙ sym z ∙ from) } in
+      let black = (tied_by b (in_zones b lb)).black (Cell t) q.0 q.2 in
+      elim (noted.looked p.0 q.0 across (looked_at p.0 comp t p.1 here)) [
+        | inl is ↦ absurd (e.outside (black.0 (black_closure.black is)))
+        | inr n ↦ elim (n.1 (m.0, entry.0, entry.1)) [
+          | inl is ↦ absurd (e.outside (black.0 (reached_is_pending (heap_with c flown) c.stack s.coloured.marks
+              (reached.along (reached.from is) q.1))))
+          | inr back ↦ subst (λ z. Edge c.edges.sources z b) to
+              (subst (λ z. Edge c.edges.sources (zone_of c.heap.shape q.0) z) from back)
+        ]
       ]
 
   -- each last edge is noted
@@ -134,8 +158,7 @@ module _ (c d : CollectorState) (flown : ℕ → Option Bits) (w : World) (k : C
   last_noted a b (apart, la, lb, way) =
       elim way [
         | inl l ↦ direct a b apart la lb l.0 l.1 l.2
-        | inr q
-            ↦ absurd (ok.graph.plain_keys q.3.0 (Wrap q.0 q.1) q.3.1 q.3.2)
+        | inr q ↦ by_key a b apart la lb q.0 q.1 q.2 q.3
       ]
 
   lawful : AreLawfulGroups w k (map zones_in groups)
@@ -200,6 +223,7 @@ module _ (c d : CollectorState) (flown : ℕ → Option Bits) (w : World) (k : C
 
   runs_after : Runs (heap_with d flown) d after formed_run (formed_collection k groups)
   runs_after = record {
+    started = f.started;
     zones_are = runs.zones_are;
     marking_are = λ z. subst (λ (h : HeapState). Contains k.marking z ↔ (is_marking_state (state_in h.shape z) ≡ true))
         (sym f.heap_is) (runs.marking_are z);
@@ -209,7 +233,7 @@ module _ (c d : CollectorState) (flown : ℕ → Option Bits) (w : World) (k : C
     early = λ no. absurd (cc no);
   }
 
-  pub represents_formed : Represents d flown (record w { collection = Some (formed_collection k groups) })
+  pub represents_formed : RepresentsMarking d flown (record w { collection = Some (formed_collection k groups) })
   represents_formed = record {
     placed = subst (λ h. IsPlaced h after) (sym f.heap_is)
         (placed_running c.heap w (Some (formed_collection k groups)) w.preparing s.placed);

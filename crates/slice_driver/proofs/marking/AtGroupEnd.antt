@@ -1,6 +1,6 @@
 -- Where a group ends, and what its end says of the bits.
 use Rattle.std.proofs.Common.{◌≡◌, ◌+◌, ℕ, true, false, List, [], ◌∷◌, Option, Some, None, IsSome, is_some}
-use Rattle.std.proofs.Common.{slice_get, inl, inr, refl, sym, ap, subst, ◌∙◌, arith}
+use Rattle.std.proofs.Common.{slice_get, inl, inr, refl, sym, ap, subst, arith}
 use Rattle.std.proofs.lemmas.Bool.{cases_eq, cases_lt}
 use Rattle.gz_names.specs.Zones.{zones_in}
 use Rattle.gz_names.specs.declared.zone_sets.ZoneSet.{ZoneSet}
@@ -13,12 +13,15 @@ use Rattle.heap_core.specs.Shape.{Shape, out_of}
 use Rattle.heap_core.specs.Heap.{HeapState}
 use Rattle.barriers.specs.Colours.{IsBlack, IsSeen}
 use Rattle.zone_edges.specs.Looks.{AreAllLookedAt}
-use Rattle.slice_driver.specs.Collector.{CollectorState, HasMore, RunState, heap_with, run_of}
-use Rattle.slice_driver.specs.declared.collector.Run.{Run}
+use Rattle.zone_edges.specs.Noted.{Noted}
+use Rattle.slice_driver.specs.Collector.{CollectorState, IsKept, RunState, heap_with, run_of}
+use Rattle.slice_driver.specs.declared.collector.Phase.{Phase}
+use Rattle.slice_driver.specs.declared.collector.Phase.TheVariants as phase
 use Rattle.slice_driver.specs.GroupEnd.{AreColoured, IsReady}
 use Rattle.slice_driver.specs.Quiet.{IsFormed}
+use Rattle.slice_driver.specs.Remaining.{clearing_left}
 use Rattle.slice_driver.specs.Represents.{Represents}
-use Rattle.slice_driver.specs.Units.{AreJobs, EndsColoured, IsLowestOut, IsSound, is_group_end, jobs_at}
+use Rattle.slice_driver.specs.Units.{AreJobs, EndsColoured, IsLowestOut, IsSoundMarking, is_group_end, jobs_at}
 use Rattle.slice_driver.specs.Working.{HasBegun, HasGroups, IsAtGroupEnd, IsBlackDone, IsGrouping, IsQuietDone}
 use Rattle.slice_driver.specs.Working.{DoesQuietUnits, IsGrayDone, IsGroupDone, IsResting, IsStill}
 use Rattle.slice_driver.proofs.abstraction.Named.{some_one}
@@ -52,7 +55,7 @@ moved : (c : CollectorState) (flown : ℕ → Option Bits) (d : CollectorState) 
 moved c flown d flying a w s = subst (λ (x : CollectorState). Represents x flying w) (sym a.same) (a.worlds w s)
 
 -- where the first four steps have no work and no arena is out, the group is ready to end
-pub ready : (c : CollectorState) (flown : ℕ → Option Bits) → IsSound c flown → IsResting c flown
+pub ready : (c : CollectorState) (flown : ℕ → Option Bits) → IsSoundMarking c flown → IsResting c flown
     → ((a : ℕ) → out_of c.heap.shape a ≡ None) → HasGroups c → (g : ZoneSet) × (rest : List ZoneSet) × IsReady c g rest
 ready c flown s rests kept groups = go c.groups refl
   where
@@ -78,15 +81,24 @@ ready c flown s rests kept groups = go c.groups refl
               black_empty = rests.black.pile;
               black_fixed = λ m k v has bm bk mv.
                   subst (λ h. IsBlack h v) own
-                  (black_fixed c flown s rests.black m k v has (subst (λ h. IsBlack h m) (sym own) bm)
+                  ((black_fixed c flown s rests.black).values m k v has (subst (λ h. IsBlack h m) (sym own) bm)
                   (subst (λ h. IsBlack h k) (sym own) bk) mv);
+              black_keys = λ m k v d has is bm bd.
+                  subst (λ h. IsBlack h k) own
+                  ((black_fixed c flown s rests.black).keys m k v d has is (subst (λ h. IsBlack h m) (sym own) bm)
+                  (subst (λ h. IsBlack h d) (sym own) bd));
               gray_empty = done.idle.pile;
               none_buffered = done.idle.buffers;
               none_incoming = done.idle.incoming;
               gray_fixed = λ m k v has sm sk here.
                   subst (λ h. IsSeen h v) own
-                  (gray_fixed c flown g s rests.black (rests.begun g at) done m k v has
+                  ((gray_fixed c flown g s rests.black (rests.begun g at) done).values m k v has
                   (subst (λ h. IsSeen h m) (sym own) sm) (subst (λ h. IsSeen h k) (sym own) sk)
+                  here);
+              gray_keys = λ m k v d has is sm sd here.
+                  subst (λ h. IsSeen h k) own
+                  ((gray_fixed c flown g s rests.black (rests.begun g at) done).keys m k v d has is
+                  (subst (λ h. IsSeen h m) (sym own) sm) (subst (λ h. IsSeen h d) (sym own) sd)
                   here);
               none_black = rests.black.looked;
               none_gray = done.looked;
@@ -95,11 +107,14 @@ ready c flown s rests kept groups = go c.groups refl
         )
 
 -- something is left, while a collection runs whose groups are formed
-pub more_of : (s : Shape) (groups : List ZoneSet) (o : Option Run) (r : RunState) → run_of o ≡ Some r → r.formed ≡ true
-    → HasMore s groups o → ((a : ℕ) → out_of s a ≡ None) → groups ≡ [] → ⊥
-more_of s groups None r e formed m none empty = cc e
-more_of s groups (Some run) r e formed m none empty =
-    m empty none (ap (λ (x : RunState). x.formed) (some_one _ _ e) ∙ formed)
+pub more_of : (s : Shape) (edges : Noted) (groups : List ZoneSet) (p : Phase) (r : RunState) → run_of p ≡ Some r
+    → r.formed ≡ true → IsKept s edges groups p → ((a : ℕ) → out_of s a ≡ None) → groups ≡ [] → ⊥
+more_of s edges groups phase.Idle r e formed kept none empty = cc e
+more_of s edges groups (phase.Preparing zones uncleared) r e formed kept none empty =
+    (let is = ap (λ (x : RunState). x.formed) (some_one _ _ e) in cc (is, formed))
+more_of s edges groups (phase.Grouping zones ungrouped) r e formed kept none empty =
+    (let is = ap (λ (x : RunState). x.formed) (some_one _ _ e) in cc (is, formed))
+more_of s edges groups (phase.Grouped zones) r e formed kept none empty = kept empty none
 
 -- nothing was done, and after that nothing changed
 pub still_on : (c : CollectorState) (flown : ℕ → Option Bits) (d : CollectorState) (flying : ℕ → Option Bits)
@@ -154,6 +169,7 @@ module _ (c : CollectorState) (flown : ℕ → Option Bits) (d : CollectorState)
 
   pub quiet_done_before : IsQuietDone d flying → IsQuietDone c flown
   quiet_done_before done = record {
+    cleared = subst (λ (x : CollectorState). clearing_left x.heap.shape x.run ≡ 0) a.same done.cleared;
     black = black_before done.black;
     looked = subst (λ (x : CollectorState). IsGrouping x → AreAllLookedAt x.heap.shape x.edges) a.same done.looked;
     begun = subst (λ (x : CollectorState). IsFormed x → HasBegun x) a.same done.begun;

@@ -1,7 +1,8 @@
 -- Looks and grouping steps of a unit.
-use Rattle.std.proofs.Common.{◌≡◌, ◌≢◌, ◌⊎◌, ◌↔◌, ◌<◌, ◌≤◌, ◌+◌, ◌-◌, ◌*◌, ℕ, zero, suc, true, false, List, [], ◌∷◌}
+use Rattle.std.proofs.Common.{◌≡◌, ◌≢◌, ◌⊎◌, ◌↔◌, ◌<◌, ◌≤◌, ◌+◌, ◌-◌, ◌*◌, ◌||◌, ℕ, zero, suc, true, false, List, []}
+use Rattle.std.proofs.Common.{◌∷◌}
 use Rattle.std.proofs.Common.{Bool}
-use Rattle.std.proofs.Common.{length, Option, Some, None, IsSome, is_some, slice_index_or, cond, inl, inr, refl, sym}
+use Rattle.std.proofs.Common.{length, Option, Some, None, is_some, slice_index_or, cond, inl, inr, refl, sym}
 use Rattle.std.proofs.Common.{ap, subst, ◌∙◌, arith}
 use Rattle.std.specs.Int.{bit_at}
 use Rattle.std.proofs.lemmas.Nat.Bits.{bit_at-lt}
@@ -12,8 +13,8 @@ use Rattle.gz_names.specs.declared.replies.Report.TheVariants as report
 use Rattle.gz_names.specs.declared.zone_sets.ZoneSet.{ZoneSet}
 use Rattle.cell_bits.specs.declared.bits.Bits.{Bits}
 use Rattle.zone_edges.specs.Groups.{AreComponents}
-use Rattle.zone_edges.specs.Looks.{AreAllLookedAt, AreLeftBlack, AreWrappers, LooksAtNext, cursor_of, left_below}
-use Rattle.zone_edges.specs.Looks.{Looks, left_to_look}
+use Rattle.zone_edges.specs.Looks.{AreAllLookedAt, AreDelegated, AreLeftBlack, AreWrappers, LooksAtNext, cursor_of}
+use Rattle.zone_edges.specs.Looks.{Looks, left_below, left_to_look}
 use Rattle.wrappers.specs.WrapperMaps.{list_of}
 use Rattle.zone_edges.specs.Noted.{Noted}
 use Rattle.zone_edges.proofs.SoundWrappers.{sound_has_wrappers}
@@ -21,14 +22,17 @@ use Rattle.colour_defs.specs.World.{Collection, World}
 use Rattle.barriers.specs.Colours.{IsBlack}
 use Rattle.heap_core.specs.Shape.{Shape, out_of}
 use Rattle.slice_driver.proofs.marking.MarkingUnits.{black_fixed}
-use Rattle.slice_driver.specs.Collector.{AreUngrouped, CollectorState, RunState, SomeWaits, heap_with, run_of}
-use Rattle.slice_driver.specs.declared.collector.Run.{Run}
+use Rattle.slice_driver.specs.declared.collector.Phase.{Phase}
+use Rattle.slice_driver.specs.declared.collector.Phase.TheVariants as phase
+use Rattle.slice_driver.specs.Collector.{CollectorState, IsKept, RunState, WaitsToGroup, heap_with}
+use Rattle.slice_driver.specs.declared.collector.Uncleared.{Uncleared}
 use Rattle.slice_driver.proofs.abstraction.Named.{some_one}
 use Rattle.slice_driver.specs.Grouping.{FormsIn, LooksIn}
-use Rattle.slice_driver.specs.Remaining.{grouping_left, ungrouped_below}
+use Rattle.slice_driver.specs.Left.{marking_left, starting_left}
+use Rattle.slice_driver.specs.Remaining.{clearing_left, grouping_left, left_of, ungrouped_below}
 use Rattle.slice_driver.specs.Quiet.{HasSameLooks, IsFormed, IsQuiet}
 use Rattle.slice_driver.specs.Represents.{AreLookedAt}
-use Rattle.slice_driver.specs.Units.{IsSound}
+use Rattle.slice_driver.specs.Units.{IsSoundMarking}
 use Rattle.slice_driver.specs.UnitsToCome.{units_to_come}
 use Rattle.slice_driver.specs.Working.{GoesOn, IsBlackDone, IsGrouping, LooksOrAll}
 use Rattle.slice_driver.proofs.group_end.Ready.{collection_of, runs_of}
@@ -38,7 +42,7 @@ use Rattle.slice_driver.proofs.marking.MarkingSteps.{own_sized}
 use Rattle.slice_driver.proofs.taking_in.Runs.{has_zone_or_not}
 
 -- what a collector that groups offers to a look
-module _ (c : CollectorState) (flown : ℕ → Option Bits) (s : IsSound c flown) (g : IsGrouping c) where
+module _ (c : CollectorState) (flown : ℕ → Option Bits) (s : IsSoundMarking c flown) (g : IsGrouping c) where
   abbrev w : World
   w = s.world
 
@@ -53,6 +57,9 @@ module _ (c : CollectorState) (flown : ℕ → Option Bits) (s : IsSound c flown
 
   pub wrappers : AreWrappers c.heap.shape
   wrappers = sound_has_wrappers c.heap (s.represents.placed.lies.graph, s.represents.placed.lies.shown)
+
+  pub delegated : AreDelegated c.heap.shape
+  delegated m k v d has is = (s.represents.coloured.marks.holds.colours.shape.delegates m k v d has).0 is
 
   looked_at : (k : Collection) × AreLookedAt (heap_with c flown) c g.0 s.world k
   looked_at = (let k = collection_of c (heap_with c flown) s.world g.0 g.1 s.represents.phase.runs in
@@ -77,34 +84,32 @@ ungrouped_same n m e f (suc z) =
     ∙ ap (λ (y : ZoneSet). bit_at n.zones.bits z * (1 - bit_at y.bits z)) f in
     omega (arith, rest, own)
 
--- nothing but the number of what is to be grouped falls
-falls : (x a b y : ℕ) → a < b → x + (a + y) < x + (b + y)
-falls x a b y lt = omega (arith, lt)
-
-falls_with : (x a b y z : ℕ) → a < b → x + (a + y) + z < x + (b + y) + z
-falls_with x a b y z lt = omega (arith, lt)
-
 grouping_at : (s : Shape) (n : Noted) (o : Option RunState) (r : RunState) → o ≡ Some r → r.formed ≡ false
-    → grouping_left s n o ≡ left_to_look s n + ungrouped_below n 64
-grouping_at s n o r e f = ap (grouping_left s n) e ∙ ap (λ b. cond b 0 (left_to_look s n + ungrouped_below n 64)) f
+    → r.clearing ≡ None → grouping_left s n o ≡ left_to_look s n + ungrouped_below n 64
+grouping_at s n o r e f k = ap (grouping_left s n) e
+    ∙ ap (λ b. cond (b || is_some r.clearing) 0 (left_to_look s n + ungrouped_below n 64)) f
+    ∙ ap (λ (u : Option Uncleared). cond (is_some u) 0 (left_to_look s n + ungrouped_below n 64)) k
 
 -- a look goes on
 look_goes : (c : CollectorState) (edges : Noted) → IsGrouping c → LooksAtNext c.heap c.edges edges
-    → edges.zones ≡ c.edges.zones → edges.stepped ≡ c.edges.stepped → (flown : ℕ → Option Bits) → IsSound c flown
+    → edges.zones ≡ c.edges.zones → edges.stepped ≡ c.edges.stepped → (flown : ℕ → Option Bits) → IsSoundMarking c flown
     → IsBlackDone c flown → GoesOn c flown [] (record c { edges = edges }) flown
 unfolding units_to_come
 look_goes c edges g looks zones stepped flown s black =
     let d : CollectorState = record c { edges = edges } in
     let none = none_out c flown s g in
     let own = own_heap c flown s.world s.represents none in
-    let running : IsSome c.run = ap is_some g.1 in
     let l : LooksIn c d = record {
       kept = none;
       black_empty = black.pile;
       black_fixed = λ m k v has bm bk mv.
           subst (λ h. IsBlack h v) own
-          (black_fixed c flown s black m k v has (subst (λ h. IsBlack h m) (sym own) bm)
+          ((black_fixed c flown s black).values m k v has (subst (λ h. IsBlack h m) (sym own) bm)
           (subst (λ h. IsBlack h k) (sym own) bk) mv);
+      keys_fixed = λ m k v d has is bm bd.
+          subst (λ h. IsBlack h k) own
+          ((black_fixed c flown s black).keys m k v d has is (subst (λ h. IsBlack h m) (sym own) bm)
+          (subst (λ h. IsBlack h d) (sym own) bd));
       looks = looks;
       zones_are = zones;
       stepped_is = stepped;
@@ -113,17 +118,18 @@ look_goes c edges g looks zones stepped flown s black =
     let fewer_left : grouping_left c.heap.shape edges c.run < grouping_left c.heap.shape c.edges c.run =
     (let fewer = looks.left in
     let same = ungrouped_same c.edges edges zones stepped 64 in
-    let old = grouping_at c.heap.shape c.edges c.run g.0 g.1 g.2 in
-    let new = grouping_at c.heap.shape edges c.run g.0 g.1 g.2 in
+    let old = grouping_at c.heap.shape c.edges c.run g.0 g.1 g.2 g.3 in
+    let new = grouping_at c.heap.shape edges c.run g.0 g.1 g.2 g.3 in
     omega (arith, fewer, same, old, new)) in
     record {
-      done = look_unit c d flown running l;
+      done = look_unit c d flown (g.0, g.1, g.3) l;
       words = λ a freed is. is;
-      running = running;
+      running = ap is_some g.1;
       made_is = refl;
+      ledger_is = refl;
       weak_is = refl;
-      less = falls_with _ _ _ _ _ fewer_left;
-      to_come = falls _ _ _ _ fewer_left;
+      less = omega (arith, fewer_left);
+      to_come = omega (arith, fewer_left);
     }
 
 -- a look was tried: it goes on, or each wrapper was looked at
@@ -227,7 +233,7 @@ left_same sh n m e f (suc z) =
 
 module _ (c : CollectorState) (zone : ℕ) (edges : Noted) (g : IsGrouping c)
     (looked : AreAllLookedAt c.heap.shape c.edges) (steps : StepsIn c.edges zone edges) (flown : ℕ → Option Bits)
-    (s : IsSound c flown) where
+    (s : IsSoundMarking c flown) where
   -- a grouping step that is not the last goes on
   pub step_goes : GoesOn c flown [] (record c { edges = edges }) flown
   unfolding units_to_come
@@ -248,7 +254,6 @@ module _ (c : CollectorState) (zone : ℕ) (edges : Noted) (g : IsGrouping c)
         black = λ p. ((λ x. x), λ x. x);
         live = λ p. ((λ x. x), λ x. x);
       } in
-      let running : IsSome c.run = ap is_some g.1 in
       let same : HasSameLooks c d =
       record {
         zones_are = steps.zones_are;
@@ -259,17 +264,18 @@ module _ (c : CollectorState) (zone : ℕ) (edges : Noted) (g : IsGrouping c)
       let fewer_left : grouping_left c.heap.shape edges c.run < grouping_left c.heap.shape c.edges c.run =
       (let fewer = one_fewer c.edges zone edges steps in
       let left = left_same c.heap.shape c.edges edges steps.zones_are steps.cursors_are 64 in
-      let old = grouping_at c.heap.shape c.edges c.run g.0 g.1 g.2 in
-      let new = grouping_at c.heap.shape edges c.run g.0 g.1 g.2 in
+      let old = grouping_at c.heap.shape c.edges c.run g.0 g.1 g.2 g.3 in
+      let new = grouping_at c.heap.shape edges c.run g.0 g.1 g.2 g.3 in
       omega (arith, fewer, left, old, new)) in
       record {
-        done = quiet_unit c d flown flown running q same;
+        done = quiet_unit c d flown flown (g.0, g.1, g.3) q same;
         words = λ a freed is. is;
-        running = running;
+        running = ap is_some g.1;
         made_is = refl;
+        ledger_is = refl;
         weak_is = refl;
-        less = falls_with _ _ _ _ _ fewer_left;
-        to_come = falls _ _ _ _ fewer_left;
+        less = omega (arith, fewer_left);
+        to_come = omega (arith, fewer_left);
       }
 
   -- the last one forms the groups
@@ -283,6 +289,7 @@ module _ (c : CollectorState) (zone : ℕ) (edges : Noted) (g : IsGrouping c)
         run = g.0;
         running = g.1;
         unformed = g.2;
+        started = g.3;
         some_zone = (zone, subst (λ (y : ZoneSet). HasZone y.bits zone) (zones_noted c flown s g) steps.inside);
         looked = looked;
         components = subst (λ (xs : List ZoneSet). AreComponents xs c.edges.zones groups) steps.edges_are
@@ -295,16 +302,19 @@ module _ (c : CollectorState) (zone : ℕ) (edges : Noted) (g : IsGrouping c)
       } in
       let fewer_left : 0 < grouping_left c.heap.shape c.edges c.run =
       (let fewer = one_fewer c.edges zone edges steps in
-      let old = grouping_at c.heap.shape c.edges c.run g.0 g.1 g.2 in
+      let old = grouping_at c.heap.shape c.edges c.run g.0 g.1 g.2 g.3 in
       omega (arith, fewer, old)) in
+      let cleared : clearing_left c.heap.shape d.run ≡ 0 = ap (left_of c.heap.shape g.0.zones) g.3 in
+      let begun : marking_left c.heap.shape d.run ≡ 0 = ap (starting_left c.heap.shape) g.3 in
       record {
         done = form_unit c d flown groups f;
         words = λ a freed is. is;
         running = refl;
         made_is = refl;
+        ledger_is = refl;
         weak_is = refl;
-        less = falls_with _ _ _ _ _ fewer_left;
-        to_come = falls _ _ _ _ fewer_left;
+        less = omega (arith, fewer_left, cleared, begun);
+        to_come = omega (arith, fewer_left, cleared);
       }
 
 -- once none waits, each zone had its step
@@ -336,52 +346,50 @@ still_waiting old zone new zones ungrouped left s waiting less z = (
   λ h. (less z).1 ((waiting z).1 (h.0, λ was. h.1 ((s.stepped z).1 (inl was))), λ is. h.1 ((s.stepped z).1 (inr is))),
 )
 
+-- a look leaves which zones wait, and all else that is kept
+pub kept_same : (s : Shape) (old new : Noted) (groups : List ZoneSet) (p : Phase) → new.stepped ≡ old.stepped
+    → IsKept s old groups p → IsKept s new groups p
+kept_same s old new groups phase.Idle same kept = tt
+kept_same s old new groups (phase.Preparing zones uncleared) same kept = tt
+kept_same s old new groups (phase.Grouping zones ungrouped) same kept = record {
+  waiting = subst (λ (y : ZoneSet). (z : ℕ) → HasZone ungrouped.bits z
+      ↔ (HasZone zones.bits z × (HasZone y.bits z → ⊥))) (sym same) kept.waiting;
+  some = kept.some;
+}
+kept_same s old new groups (phase.Grouped zones) same kept = kept
+
+-- the components of some zones are some groups
+pub some_formed : (sources : List ZoneSet) (zones : ZoneSet) (groups : List ZoneSet) (z : ℕ) → HasZone zones.bits z
+    → AreComponents sources zones groups → groups ≡ [] → ⊥
+some_formed sources zones groups z has components empty =
+    let at = components.covered z has in
+    let none = ap (λ (gs : List ZoneSet). length gs) empty in
+    let lt = at.1 in
+    omega (arith, none, lt)
+
 -- as a collection groups, its groups are not formed
 pub not_formed : (c : CollectorState) → IsGrouping c → IsFormed c → ⊥
 not_formed c g f = (let formed = ap (λ (r : RunState). r.formed) (some_one g.0 f.0 (sym g.1 ∙ f.1)) in let no = g.2 in
     let yes = f.2 in cc (formed, no, yes))
 
--- which zones wait does not change with what is noted besides
-pub waiting_same : (n m : Noted) (o : Option Run) (u : ZoneSet) → m.stepped ≡ n.stepped → AreUngrouped n o u
-    → AreUngrouped m o u
-waiting_same n m None u e a = tt
-waiting_same n m (Some run) u e a = λ unformed z. (let b = a unformed z in (
-  λ h. (let x = b.0 h in (x.0, λ st. x.1 (subst (λ (y : ZoneSet). HasZone y.bits z) e st))),
-  λ h. b.1 (h.0, λ st. h.1 (subst (λ (y : ZoneSet). HasZone y.bits z) (sym e) st)),
-))
-
--- which zones wait, as a collection groups
-pub waiting_in : (edges : Noted) (o : Option Run) (u : ZoneSet) (r : RunState) → run_of o ≡ Some r → r.formed ≡ false
-    → AreUngrouped edges o u → (z : ℕ) → HasZone u.bits z
-    ↔ (HasZone r.zones.bits z × (HasZone edges.stepped.bits z → ⊥))
-waiting_in edges None u r e f a = absurd (cc e)
-waiting_in edges (Some run) u r e f a =
-    let is : record { zones = run.zones; formed = run.formed } ≡ r = some_one _ _ e in
-    λ z. subst (λ (y : ZoneSet). HasZone u.bits z ↔ (HasZone y.bits z × (HasZone edges.stepped.bits z → ⊥)))
-    (ap (λ (x : RunState). x.zones) is) (a (ap (λ (x : RunState). x.formed) is ∙ f) z)
-
--- what is kept after a grouping step that is not the last
-pub kept_waiting : (edges : Noted) (o : Option Run) (u : ZoneSet) (r : RunState) → run_of o ≡ Some r
-    → ((z : ℕ) → HasZone u.bits z ↔ (HasZone r.zones.bits z × (HasZone edges.stepped.bits z → ⊥)))
-    → AreUngrouped edges o u
-kept_waiting edges None u r e a = tt
-kept_waiting edges (Some run) u r e a =
-    let is : record { zones = run.zones; formed = run.formed } ≡ r = some_one _ _ e in
-    λ unformed z. subst (λ (y : ZoneSet). HasZone u.bits z ↔ (HasZone y.bits z × (HasZone edges.stepped.bits z → ⊥)))
-    (sym (ap (λ (x : RunState). x.zones) is)) (a z)
-
-pub some_wait : (o : Option Run) (u : ZoneSet) (z : ℕ) → HasZone u.bits z → SomeWaits o u
-some_wait None u z h = tt
-some_wait (Some run) u z h = λ unformed. (z, h)
+-- which zones wait, after the step of one of them that is not the last
+pub waits_on : (old : Noted) (zone : ℕ) (new : Noted) (zones ungrouped left : ZoneSet) → StepsIn old zone new
+    → WaitsToGroup old zones ungrouped
+    → ((z : ℕ) → HasZone left.bits z ↔ (HasZone ungrouped.bits z × (z ≢ zone))) → (next : ℕ) → HasZone left.bits next
+    → WaitsToGroup new zones left
+waits_on old zone new zones ungrouped left s waits less next has = record {
+  waiting = still_waiting old zone new zones ungrouped left s waits.waiting less;
+  some = (next, has);
+}
 
 -- the step of a zone that waits
-pub steps_in : (c : CollectorState) (flown : ℕ → Option Bits) → IsSound c flown
-    → (g : IsGrouping c) (o : Option Run) (u : ZoneSet) (zone : ℕ) (new : Noted) → run_of o ≡ Some g.0
-    → AreUngrouped c.edges o u → HasZone u.bits zone
+pub steps_in : (c : CollectorState) (flown : ℕ → Option Bits) → IsSoundMarking c flown
+    → (g : IsGrouping c) (ungrouped : ZoneSet) (zone : ℕ) (new : Noted) → WaitsToGroup c.edges g.0.zones ungrouped
+    → HasZone ungrouped.bits zone
     → ((z : ℕ) → HasZone new.stepped.bits z ↔ (HasZone c.edges.stepped.bits z ⊎ (z ≡ zone))) → new.zones ≡ c.edges.zones
     → new.sources ≡ c.edges.sources → new.cursors ≡ c.edges.cursors → StepsIn c.edges zone new
-steps_in c flown s g o u zone new e waits has stepped zones sources cursors =
-    let w = (waiting_in c.edges o u g.0 e g.2 waits zone).0 has in
+steps_in c flown s g ungrouped zone new waits has stepped zones sources cursors =
+    let w = (waits.waiting zone).0 has in
     record {
       inside = subst (λ (y : ZoneSet). HasZone y.bits zone) (sym (zones_noted c flown s g)) w.0;
       once = w.1;

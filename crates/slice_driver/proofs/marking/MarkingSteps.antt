@@ -1,5 +1,6 @@
 -- A step of marking leaves the world as it is, and lowers what is left.
-use Rattle.std.proofs.Common.{◌≡◌, ◌↔◌, ◌<◌, ◌+◌, ℕ, [], length, Option, IsSome, inl, refl, sym, ap, subst, ◌∙◌, arith}
+use Rattle.std.proofs.Common.{◌≡◌, ◌↔◌, ◌<◌, ◌+◌, ℕ, [], length, Option, IsSome, is_some, inl, refl, sym, ap, subst}
+use Rattle.std.proofs.Common.{◌∙◌, arith}
 use Rattle.gz_names.specs.declared.numbers.Place.{Place}
 use Rattle.cell_bits.specs.declared.bits.Bits.{Bits}
 use Rattle.mark_stack.specs.Stack.{Piles}
@@ -8,11 +9,13 @@ use Rattle.heap_core.specs.Heap.{HeapState}
 use Rattle.barriers.specs.Colours.{IsBlack}
 use Rattle.barriers.specs.Invariant.{MarkingInvariant}
 use Rattle.barriers.specs.PendingBlack.{PendingBlack}
-use Rattle.barriers.specs.PendingLive.{PendingLive, GrayInvariant}
+use Rattle.barriers.specs.PendingLive.{PendingLive}
 use Rattle.barriers.proofs.Flying.{flown_length}
 use Rattle.zone_edges.specs.Noted.{Noted}
 use Rattle.slice_driver.specs.Collector.{CollectorState, RunState, heap_with}
-use Rattle.slice_driver.specs.Remaining.{arenas_left, grouping_left, steps_left}
+use Rattle.slice_driver.specs.Left.{marking_left}
+use Rattle.slice_driver.specs.Quiet.{IsStarted}
+use Rattle.slice_driver.specs.Remaining.{arenas_left, clearing_left, grouping_left, steps_left}
 use Rattle.slice_driver.specs.Quiet.{IsQuiet}
 use Rattle.slice_driver.specs.Represents.{IsColoured}
 use Rattle.slice_driver.specs.Units.{IsFreedWord, KeepsFreedWords}
@@ -27,6 +30,7 @@ pub record Marked (c : CollectorState) (flown : ℕ → Option Bits) (d : Collec
     0 where
   pub shape_is : d.heap.shape ≡ c.heap.shape
   pub made_is : d.heap.made ≡ c.heap.made
+  pub ledger_is : d.heap.ledger ≡ c.heap.ledger
   pub delayed_is : d.heap.delayed ≡ c.heap.delayed
   pub edges_is : d.edges ≡ c.edges
   pub groups_is : d.groups ≡ c.groups
@@ -75,21 +79,31 @@ module _ (c : CollectorState) (flown : ℕ → Option Bits) (d : CollectorState)
   same_arenas : arenas_left d.heap.shape d.heap.shape.arenas ≡ arenas_left c.heap.shape c.heap.shape.arenas
   same_arenas = ap (λ (s : Shape). arenas_left s s.arenas) m.shape_is
 
-  pub marked_goes : IsSome c.run
+  same_clearing : clearing_left d.heap.shape d.run ≡ clearing_left c.heap.shape c.run
+  same_clearing = ap (λ (s : Shape). clearing_left s d.run) m.shape_is
+      ∙ ap (λ (o : Option RunState). clearing_left c.heap.shape o) m.run_is
+
+  same_starting : marking_left d.heap.shape d.run ≡ marking_left c.heap.shape c.run
+  same_starting = ap (λ (s : Shape). marking_left s d.run) m.shape_is
+      ∙ ap (λ (o : Option RunState). marking_left c.heap.shape o) m.run_is
+
+  pub marked_goes : IsStarted c
       → marking_to_come (heap_with d flying) d.stack d.lists < marking_to_come (heap_with c flown) c.stack c.lists
       → GoesOn c flown [] d flying
   unfolding units_to_come
-  marked_goes running falls =
+  marked_goes started falls =
       let q = marked_quiet in
+      let steps = same_steps in
+      let clearing = same_clearing in
+      let starting = same_starting in
+      let arenas = same_arenas in
       record {
-        done = quiet_unit c d flown flying running q (looks_same c flown d flying q m.edges_is);
+        done = quiet_unit c d flown flying started q (looks_same c flown d flying q m.edges_is);
         words = same_words;
-        running = subst (λ (o : Option RunState). IsSome o) (sym m.run_is) running;
+        running = subst (λ (o : Option RunState). IsSome o) (sym m.run_is) (ap is_some started.1);
         made_is = m.made_is;
+        ledger_is = m.ledger_is;
         weak_is = ap (λ (t : Shape). t.weak) m.shape_is;
-        less = sum_less _ _ _ _ (sum_less _ _ _ _ falls same_steps) same_arenas;
-        to_come = sum_less _ _ _ _ falls same_steps;
+        less = omega (arith, falls, steps, clearing, starting, arenas);
+        to_come = omega (arith, falls, steps, clearing);
       }
-    where
-      sum_less : (a b x y : ℕ) → a < b → x ≡ y → a + x < b + y
-      sum_less a b x y lt e = omega (arith, lt, e)

@@ -5,8 +5,6 @@ use Rattle.gz_names.specs.declared.numbers.Place.{Place}
 use Rattle.gz_names.specs.declared.replies.Report.{Report}
 use Rattle.gz_names.specs.declared.zone_sets.ZoneSet.{ZoneSet}
 use Rattle.cell_bits.specs.declared.bits.Bits.{Bits}
-use Rattle.cell_bits.specs.declared.bits.Colour.{Colour}
-use Rattle.cell_bits.specs.declared.bits.Colour.TheVariants as colour
 use Rattle.zones.specs.declared.states.State.{State}
 use Rattle.zones.specs.declared.states.State.TheVariants as state
 use Rattle.mark_stack.specs.Stack.{Piles}
@@ -14,12 +12,11 @@ use Rattle.roots.specs.Buffers.{buffer_at}
 use Rattle.gray_lists.specs.Incoming.{Incoming}
 use Rattle.colour_defs.specs.World.{World}
 use Rattle.colour_defs.proofs.Lists.{nothing_in_none}
-use Rattle.heap_core.specs.Shape.{Shape, is_marking, is_marking_state, state_in, state_of, zone_of}
+use Rattle.heap_core.specs.Shape.{Shape, is_marking_state, state_in, state_of, zone_of}
 use Rattle.heap_core.specs.Heap.{HeapState, colour_of, joined}
-use Rattle.heap_core.proofs.MakingCells.{same-place}
-use Rattle.barriers.specs.Colours.{IsBlack, grays_outside}
-use Rattle.barriers.specs.Invariant.{MarkingInvariant}
-use Rattle.barriers.specs.PendingLive.{GrayInvariant, buffer_of}
+use Rattle.barriers.specs.Colours.{grays_outside}
+use Rattle.barriers.specs.Invariant.{IsToFollow}
+use Rattle.barriers.specs.PendingLive.{buffer_of}
 use Rattle.barriers.specs.Spreading.{Covers}
 use Rattle.marker.specs.GrayBits.{AreGraying}
 use Rattle.barriers.specs.WeakPoint.{IsPiled}
@@ -27,18 +24,21 @@ use Rattle.barriers.proofs.StayingLeft.{none_left}
 use Rattle.weak_maps.specs.WeakMaps.{LooksState, NoneLeft}
 use Rattle.weak_maps.specs.declared.colours.MarkColour.{MarkColour}
 use Rattle.weak_maps.specs.declared.colours.MarkColour.TheVariants as mark
-use Rattle.marker.specs.Looks.{RaisesTo, weaker, with_looks}
 use Rattle.marker.specs.Units.{DoesGray, DoesLook, FollowsBlack, IsGrayIdle, TakesOne}
 use Rattle.slice_driver.specs.Collector.{CollectorState, heap_with}
-use Rattle.slice_driver.specs.Closures.{AreBlack}
 use Rattle.slice_driver.specs.EdgesRead.{TriesFew}
-use Rattle.slice_driver.specs.Left.{units_left}
-use Rattle.slice_driver.specs.Remaining.{grouping_left, steps_left, arenas_left}
-use Rattle.slice_driver.specs.Represents.{IsInPhase, NothingLeft, Represents, WaitsWhileMarking}
-use Rattle.slice_driver.specs.Units.{IsSound}
+use Rattle.slice_driver.specs.Left.{marking_left, units_left}
+use Rattle.slice_driver.specs.Quiet.{IsStarted}
+use Rattle.slice_driver.specs.Remaining.{arenas_left, clearing_left, grouping_left, steps_left}
+use Rattle.slice_driver.specs.Represents.{IsInPhase, IsOfMarking, NothingLeft, Represents, RepresentsMarking}
+use Rattle.slice_driver.specs.Represents.{WaitsWhileMarking}
+use Rattle.slice_driver.proofs.basics.LeftLooks.{LooksLeftFrom, looks_of_marking, looked_left, same_left, started_left}
+use Rattle.slice_driver.specs.Represents.{going}
+use Rattle.slice_driver.specs.Units.{IsSound, IsSoundMarking}
 use Rattle.slice_driver.specs.UnitsToCome.{marking_to_come, units_to_come}
 use Rattle.slice_driver.specs.Working.{DidOrStill, GoesOn, IsBlackDone, IsBlackFixed, IsGrayDone, IsGrayFixed}
 use Rattle.slice_driver.specs.Working.{IsGroupDone, IsStill, TriesGroup}
+use Rattle.slice_driver.proofs.abstraction.Phases.{calm_marking, marking_of, none_started, started_of}
 use Rattle.slice_driver.proofs.abstraction.Waits.{looked_one, none_piled, none_in_it}
 use Rattle.slice_driver.proofs.measure.GrayPiles.{gray_pile}
 use Rattle.slice_driver.proofs.measure.MarkingToCome.{black_falls, does_gray_falls, looks_fall}
@@ -47,9 +47,9 @@ use Rattle.slice_driver.proofs.marking.MarkingSteps.{Marked, marked_goes, own_si
 use Rattle.slice_driver.proofs.basics.Marks.{coloured_as}
 use Rattle.slice_driver.proofs.basics.Worlds.{flies_same, swept_in}
 
--- on the gray pile and among the entries to be looked at is nothing that was not there
+-- nothing waits that did not
 module _ (g h : HeapState) (s p : Piles) (lists : Incoming) (shape_is : h.shape ≡ g.shape)
-    (waits : WaitsWhileMarking g s lists) where
+    (buffers_is : h.buffers ≡ g.buffers) (waits : WaitsWhileMarking g s lists) where
   none_before : (P : State → Type 0) → ((z : ℕ) → P (state_in h.shape z)) → (z : ℕ) → P (state_in g.shape z)
   none_before P all z = subst (λ (s : Shape). P (state_in s z)) shape_is (all z)
 
@@ -71,27 +71,28 @@ module _ (g h : HeapState) (s p : Piles) (lists : Incoming) (shape_is : h.shape 
       → state_of h.shape x ≡ state.MarkBlackAndGray
   piled_still same = piled_on (λ x has. inl (subst (λ (xs : List Place). Contains xs x) same has))
 
--- so nothing waits that did not
-pub waits_on : (g h : HeapState) (s p : Piles) (lists : Incoming) → h.shape ≡ g.shape → h.buffers ≡ g.buffers
-    → WaitsWhileMarking g s lists
-    → ((x : Place) → Contains p.gray x → state_of h.shape x ≡ state.MarkBlackAndGray)
-    → (((z : ℕ) → is_marking_state (state_in h.shape z) ≡ false) → NothingLeft h.looks)
-    → WaitsWhileMarking h p lists
-waits_on g h s p lists shape_is buffers_is waits piled looks = record {
-  looks = looks;
-  piled = piled;
-  buffered = λ z quiet. ap (λ (bs : List (List Place)). buffer_at bs z) buffers_is
-      ∙ waits.buffered z (ap (λ (t : Shape). is_marking_state (state_in t z)) (sym shape_is) ∙ quiet);
-  incoming = λ n x has.
-      (let i = waits.incoming n x has in (
-        i.0,
-        ap (λ (t : Shape). slice_get t.comps n) shape_is ∙ i.1,
-        ap (λ (t : Shape). is_marking_state (state_in t i.0)) shape_is ∙ i.2,
-      ));
-}
+  pub waits_on : ((x : Place) → Contains p.gray x → state_of h.shape x ≡ state.MarkBlackAndGray)
+      → (((z : ℕ) → is_marking_state (state_in h.shape z) ≡ false) → NothingLeft h.looks)
+      → LooksLeftFrom g.shape g.looks h.shape h.looks
+      → WaitsWhileMarking h p lists
+  waits_on piled looks left = record {
+    looks = looks;
+    of_marking = looks_of_marking g.shape g.looks h.shape h.looks
+        (λ x here. subst (λ (t : Shape). IsOfMarking t x) (sym shape_is) here) left waits.of_marking;
+    piled = piled;
+    buffered = λ z quiet. ap (λ (bs : List (List Place)). buffer_at bs z) buffers_is
+        ∙ waits.buffered z (ap (λ (t : Shape). is_marking_state (state_in t z)) (sym shape_is) ∙ quiet);
+    incoming = λ n x has.
+        (let i = waits.incoming n x has in (
+          i.0,
+          ap (λ (t : Shape). slice_get t.comps n) shape_is ∙ i.1,
+          ap (λ (t : Shape). is_marking_state (state_in t i.0)) shape_is ∙ i.2,
+        ));
+  }
 
 -- a cell of the black pile was followed
-pub black_followed : (c : CollectorState) (flown flying : ℕ → Option Bits) (h : HeapState) (p : Piles) → IsSound c flown
+pub black_followed : (c : CollectorState) (flown flying : ℕ → Option Bits) (h : HeapState) (p : Piles)
+    → IsSoundMarking c flown
     → IsSome c.run → h.delayed ≡ c.heap.delayed → Covers h.shape flying
     → FollowsBlack (heap_with c flown) c.stack (joined h flying) p
     → GoesOn c flown [] (record c { heap = h; stack = p }) flying
@@ -107,6 +108,7 @@ black_followed c flown flying h p s running delayed covers does =
     let m : Marked c flown d flying = record {
       shape_is = shape_is;
       made_is = ap (λ (z : HeapState). z.made) bl.rest;
+      ledger_is = ap (λ (z : HeapState). z.ledger) bl.rest;
       delayed_is = delayed;
       edges_is = refl;
       groups_is = refl;
@@ -119,42 +121,26 @@ black_followed c flown flying h p s running delayed covers does =
         marks = inv;
         gray = both.0;
         waits = waits_on (heap_with c flown) (joined h flying) c.stack p c.lists shape_is buffers_is rep.coloured.waits
-            (piled_still (heap_with c flown) (joined h flying) c.stack p c.lists shape_is rep.coloured.waits
+            (piled_still (heap_with c flown) (joined h flying) c.stack p c.lists shape_is buffers_is rep.coloured.waits
             does.gray_is)
             (λ quiet. absurd (let off = quiet_before (heap_with c flown) (joined h flying) c.stack p c.lists shape_is
-            rep.coloured.waits quiet (zone_of c.heap.shape scanned.cell) in
-            let on = scanned.zone in cc (on, off)));
+            buffers_is rep.coloured.waits quiet (zone_of c.heap.shape scanned.cell) in
+            let on = scanned.zone in cc (on, off)))
+            (started_left mark.Black scanned.cell (heap_with c flown) (joined h flying) scanned.starts shape_is
+            (rep.coloured.marks.holds.colours.seen_present scanned.cell (inr scanned.black), scanned.zone));
       };
       darker = bl.kept;
       black = does.pending_black;
       live = both.1;
     } in
-    marked_goes c flown d flying m running
+    marked_goes c flown d flying m (started_of c flown s.world rep running)
     (black_falls (heap_with c flown) c.stack c.lists (joined h flying) p shape_is buffers_is rep.placed.lies.whole
-    rep.coloured.marks.holds.colours.seen_present scanned)
-
--- what a look coloured: black, or gray in a marking zone
-raised_others : (d : Colour) (h : HeapState) (p : Piles) (v : Place) (k : HeapState) (q : Piles) → RaisesTo d h p v k q
-    → (y : Place) → IsBlack k y ⊎ ((colour_of k y ≡ colour_of h y) ⊎ (is_marking h.shape y ≡ true))
-raised_others colour.White h p v k q (ek, eq) y = inr (inl (ap (λ (z : HeapState). colour_of z y) ek))
-raised_others colour.Gray h p v k q (inl (none, ek, eq)) y = inr (inl (ap (λ (z : HeapState). colour_of z y) ek))
-raised_others colour.Gray h p v k q (inr (grayed, pushes)) y = elim (same-place y v) [
-  | inr n ↦ inr (inl (grayed.others y n.0))
-  | inl e ↦ inr (inr (subst (λ z. is_marking h.shape z ≡ true) (sym e.0) (ap is_marking_state grayed.takes)))
-]
-raised_others colour.Black h p v k q (inl (was, ek, eq)) y = inr (inl (ap (λ (z : HeapState). colour_of z y) ek))
-raised_others colour.Black h p v k q (inr (inl (turned, on, pushes))) y = elim (same-place y v) [
-  | inr n ↦ inr (inl (turned.others y n.0))
-  | inl e ↦ inl (subst (λ z. IsBlack k z) (sym e.0) turned.black)
-]
-raised_others colour.Black h p v k q (inr (inr (turned, off, pushes))) y = elim (same-place y v) [
-  | inr n ↦ inr (inl (turned.others y n.0))
-  | inl e ↦ inl (subst (λ z. IsBlack k z) (sym e.0) turned.black)
-]
+    rep.coloured.marks.holds.colours.seen_present rep.coloured.marks does.gray_is scanned)
 
 -- a weak entry was looked at
 pub entry_looked : (c : CollectorState) (flown flying : ℕ → Option Bits) (h : HeapState) (p : Piles)
-    (colour_is : MarkColour) → IsSound c flown → IsSome c.run → h.delayed ≡ c.heap.delayed → Covers h.shape flying
+    (colour_is : MarkColour) → IsSoundMarking c flown → IsSome c.run → h.delayed ≡ c.heap.delayed
+    → Covers h.shape flying
     → DoesLook colour_is (heap_with c flown) c.stack (joined h flying) p
     → GoesOn c flown [] (record c { heap = h; stack = p }) flying
 entry_looked c flown flying h p colour_is s running delayed covers does =
@@ -163,10 +149,10 @@ entry_looked c flown flying h p colour_is s running delayed covers does =
     let shape_is : h.shape ≡ c.heap.shape = ap (λ (z : HeapState). z.shape) does.rest in
     let buffers_is : h.buffers ≡ c.heap.buffers = ap (λ (z : HeapState). z.buffers) does.rest in
     let both = does.pending_live c.lists rep.coloured.gray in
-    let before : HeapState = with_looks (heap_with c flown) h.looks in
     let m : Marked c flown d flying = record {
       shape_is = shape_is;
       made_is = ap (λ (z : HeapState). z.made) does.rest;
+      ledger_is = ap (λ (z : HeapState). z.ledger) does.rest;
       delayed_is = delayed;
       edges_is = refl;
       groups_is = refl;
@@ -175,28 +161,29 @@ entry_looked c flown flying h p colour_is s running delayed covers does =
           does.invariant.holds.colours
           covers (own_sized c.heap flown c.stack rep.coloured.marks) (own_sized h flying p does.invariant)
           does.black_kept
-          (raised_others (weaker (colour_of before does.map) (colour_of before does.key)) before c.stack does.value
-          (joined h flying) p does.raises);
+          does.coloured;
       coloured = record {
         marks = does.invariant;
         gray = both.0;
         waits = waits_on (heap_with c flown) (joined h flying) c.stack p c.lists shape_is buffers_is rep.coloured.waits
-            (piled_on (heap_with c flown) (joined h flying) c.stack p c.lists shape_is rep.coloured.waits
+            (piled_on (heap_with c flown) (joined h flying) c.stack p c.lists shape_is buffers_is rep.coloured.waits
             does.gray_pile)
-            (λ quiet. absurd (looked_one colour_is (does.map, does.key, does.value) c.heap.shape.weak.entries
+            (λ quiet. absurd (looked_one colour_is _ c.heap.shape.weak
             c.heap.looks h.looks does.looked (rep.coloured.waits.looks (quiet_before (heap_with c flown)
-            (joined h flying) c.stack p c.lists shape_is rep.coloured.waits quiet))));
+            (joined h flying) c.stack p c.lists shape_is buffers_is rep.coloured.waits quiet))))
+            (looked_left colour_is does.entry c.heap.shape c.heap.looks h.shape h.looks does.looked
+            (ap (λ (t : Shape). t.weak) shape_is));
       };
       darker = does.black_kept;
       black = does.pending_black;
       live = both.1;
     } in
-    marked_goes c flown d flying m running
-    (looks_fall colour_is (heap_with c flown) c.stack c.lists (joined h flying) p does)
+    marked_goes c flown d flying m (started_of c flown s.world rep running)
+    (looks_fall colour_is (heap_with c flown) c.stack c.lists (joined h flying) p rep.coloured.marks does)
 
 -- a piece of gray marking was done
 pub gray_followed : (c : CollectorState) (flown : ℕ → Option Bits) (h : HeapState) (p : Piles) (lists : Incoming)
-    → IsSound c flown → IsSome c.run → h.delayed ≡ c.heap.delayed
+    → IsSoundMarking c flown → IsSome c.run → h.delayed ≡ c.heap.delayed
     → DoesGray (heap_with c flown) c.stack c.lists (joined h flown) p lists
     → GoesOn c flown [] (record c { heap = h; stack = p; lists = lists }) flown
 gray_followed c flown h p lists s running delayed does =
@@ -206,6 +193,7 @@ gray_followed c flown h p lists s running delayed does =
     let m : Marked c flown d flown = record {
       shape_is = shape_is;
       made_is = ap (λ (z : HeapState). z.made) does.marks.rest;
+      ledger_is = ap (λ (z : HeapState). z.ledger) does.marks.rest;
       delayed_is = delayed;
       edges_is = refl;
       groups_is = refl;
@@ -238,16 +226,32 @@ gray_followed c flown h p lists s running delayed does =
           ];
           looks = λ quiet. nothing_taken does.takes
               (λ z. ap (λ (t : Shape). is_marking_state (state_in t z)) (sym shape_is) ∙ quiet z);
+          of_marking = looks_of_marking c.heap.shape c.heap.looks h.shape h.looks
+              (λ x here. subst (λ (t : Shape). IsOfMarking t x) (sym shape_is) here) (left_by shape_is does.takes)
+              rep.coloured.waits.of_marking;
         };
       };
       darker = does.marks.black_kept;
       black = does.marks.pending_black;
       live = does.marks.pending_live;
     } in
-    marked_goes c flown d flown m running
+    marked_goes c flown d flown m (started_of c flown s.world rep running)
     (does_gray_falls (heap_with c flown) c.stack c.lists (joined h flown) p lists rep.placed.lies.whole
-    rep.coloured.marks.holds.colours.seen_present (gray_pile c flown s.world rep) does)
+    rep.coloured.marks.holds.colours.seen_present (gray_pile c flown s.world rep) rep.coloured.marks does)
   where
+    left_by : h.shape ≡ c.heap.shape → TakesOne (heap_with c flown) c.stack c.lists (joined h flown) p lists
+        → LooksLeftFrom c.heap.shape c.heap.looks h.shape h.looks
+    left_by shape (inl buffered) = same_left c.heap.shape c.heap.looks h.shape h.looks
+        (ap (λ (t : Shape). t.weak) shape) buffered.2
+    left_by shape (inr (inl incoming)) = same_left c.heap.shape c.heap.looks h.shape h.looks
+        (ap (λ (t : Shape). t.weak) shape) incoming.2
+    left_by shape (inr (inr scanned)) = started_left mark.Gray scanned.cell (heap_with c flown) (joined h flown)
+        scanned.starts shape (
+          s.represents.coloured.marks.holds.colours.seen_present scanned.cell
+              (s.represents.coloured.marks.holds.piles.gray scanned.cell scanned.piled),
+          ap is_marking_state (s.represents.coloured.waits.piled scanned.cell scanned.piled),
+        )
+
     nothing_taken : TakesOne (heap_with c flown) c.stack c.lists (joined h flown) p lists
         → ((z : ℕ) → is_marking_state (state_in c.heap.shape z) ≡ false) → NothingLeft h.looks
     nothing_taken (inl buffered) quiet =
@@ -263,7 +267,7 @@ gray_followed c flown h p lists s running delayed does =
 
 -- with the same colours the collector stands for the same worlds
 pub same_worlds : (c : CollectorState) (flown flying : ℕ → Option Bits) (w : World) → Covers c.heap.shape flying
-    → heap_with c flying ≡ heap_with c flown → Represents c flown w → Represents c flying w
+    → heap_with c flying ≡ heap_with c flown → RepresentsMarking c flown w → RepresentsMarking c flying w
 same_worlds c flown flying w covers e s =
     let coloured = coloured_as (heap_with c flown) (heap_with c flying) c.stack c.stack c.lists c.lists e refl refl
     s.coloured in
@@ -279,13 +283,14 @@ same_worlds c flown flying w covers e s =
     }
 
 -- nothing was done
-pub still : (c : CollectorState) (flown flying : ℕ → Option Bits) (h : HeapState) (p : Piles) → Covers h.shape flying
-    → h ≡ c.heap → p ≡ c.stack → heap_with c flying ≡ heap_with c flown
+pub still : (c : CollectorState) (flown flying : ℕ → Option Bits) (h : HeapState) (p : Piles) → IsStarted c
+    → Covers h.shape flying → h ≡ c.heap → p ≡ c.stack → heap_with c flying ≡ heap_with c flown
     → IsStill c flown (record c { heap = h; stack = p }) flying
-still c flown flying h p covers eh ep e = record {
+still c flown flying h p started covers eh ep e = record {
   same = ap (λ (z : HeapState). record c { heap = z; stack = p }) eh ∙ ap (λ (q : Piles). record c { stack = q }) ep;
   colours = e;
-  worlds = λ w s. same_worlds c flown flying w (subst (λ (z : HeapState). Covers z.shape flying) eh covers) e s;
+  worlds = λ w r. going (same_worlds c flown flying w (subst (λ (z : HeapState). Covers z.shape flying) eh covers) e
+      (marking_of c flown w (none_started c flown w started) r));
 }
 
 pub still_gray : (c : CollectorState) (flown : ℕ → Option Bits) (h : HeapState) (p : Piles) (l : Incoming) → h ≡ c.heap
@@ -302,7 +307,7 @@ abbrev pub IsUnmarked : CollectorState → (ℕ → Option Bits) → HeapState �
 IsUnmarked c flown h p flying = (h ≡ c.heap) × (p ≡ c.stack) × (heap_with c flying ≡ heap_with c flown)
 
 -- a unit of marking was tried: it did a piece of work, or there is none and nothing changed
-module _ (c : CollectorState) (flown flying : ℕ → Option Bits) (h : HeapState) (p : Piles) (s : IsSound c flown)
+module _ (c : CollectorState) (flown flying : ℕ → Option Bits) (h : HeapState) (p : Piles) (s : IsSoundMarking c flown)
     (running : IsSome c.run) (delayed : h.delayed ≡ c.heap.delayed) where
   pub black_tried : (did : Bool) → Covers h.shape flying
       → (did ≡ true → FollowsBlack (heap_with c flown) c.stack (joined h flying) p)
@@ -313,7 +318,8 @@ module _ (c : CollectorState) (flown flying : ℕ → Option Bits) (h : HeapStat
     λ empty. let no = none.1 empty in cc no,
   )
   black_tried false covers does none same = (
-    still c flown flying h p covers (same refl).0 (same refl).1 (same refl).2,
+    still c flown flying h p (started_of c flown s.world s.represents running) covers (same refl).0 (same refl).1
+        (same refl).2,
     none.0 refl,
   )
 
@@ -326,19 +332,12 @@ module _ (c : CollectorState) (flown flying : ℕ → Option Bits) (h : HeapStat
     λ empty. let no = none.1 empty in cc no,
   )
   look_tried colour_is false covers does none same = (
-    still c flown flying h p covers (same refl).0 (same refl).1 (same refl).2,
+    still c flown flying h p (started_of c flown s.world s.represents running) covers (same refl).0 (same refl).1
+        (same refl).2,
     none.0 refl,
   )
 
-  -- a look turns no cell black outside marking zones, and leaves the shape
-  pub look_grays : (colour_is : MarkColour) (did : Bool)
-      → (did ≡ true → DoesLook colour_is (heap_with c flown) c.stack (joined h flying) p)
-      → (did ≡ false → IsUnmarked c flown h p flying)
-      → grays_outside (joined h flying) ≡ grays_outside (heap_with c flown)
-  look_grays colour_is true does same = (does refl).grays_is
-  look_grays colour_is false does same =
-      ap (λ (x : HeapState). grays_outside (joined x flying)) (same refl).0 ∙ ap grays_outside (same refl).2
-
+  -- a look leaves the shape
   pub look_shape : (colour_is : MarkColour) (did : Bool)
       → (did ≡ true → DoesLook colour_is (heap_with c flown) c.stack (joined h flying) p)
       → (did ≡ false → IsUnmarked c flown h p flying) → h.shape ≡ c.heap.shape
@@ -380,24 +379,51 @@ tries_few true read h now k none = omega (arith, none)
 tries_few false read h now k none = none
 
 -- where no cell is to be scanned and no entry to be looked at, the weak rule adds nothing
-pub black_fixed : (c : CollectorState) (flown : ℕ → Option Bits) → IsSound c flown → IsBlackDone c flown
+pub black_fixed : (c : CollectorState) (flown : ℕ → Option Bits) → IsSoundMarking c flown → IsBlackDone c flown
     → IsBlackFixed c flown
-black_fixed c flown s done m k v has bm bk on = elim (s.represents.coloured.marks.weak.black m k v has bm bk on) [
-  | inl b ↦ b
-  | inr (inl p) ↦ absurd (nothing_in_none m (subst (λ (xs : List Place). Contains xs m) done.pile p))
-  | inr (inr (inl p)) ↦ absurd (nothing_in_none k (subst (λ (xs : List Place). Contains xs k) done.pile p))
-  | inr (inr (inr l)) ↦ absurd (none_left (heap_with c flown) mark.Black done.looked done.looked m k v has l)
-]
+black_fixed c flown s done = record {
+  values = λ m k v has bm bk on. elim (s.represents.coloured.marks.weak.black m k v has bm bk on) [
+    | inl b ↦ b
+    | inr (inl p) ↦ absurd (unpiled m p)
+    | inr (inr (inl p)) ↦ absurd (unpiled k p)
+    | inr (inr (inr l)) ↦ absurd (none_left (heap_with c flown) mark.Black done.looked done.looked m k v has l)
+  ];
+  keys = λ m k v d has is bm bd. elim (s.represents.coloured.marks.holds.key_closed m k v d has is bm bd) [
+    | inl b ↦ b
+    | inr (inl w) ↦ absurd (followed m w)
+    | inr (inr (inl w)) ↦ absurd (followed d w)
+    | inr (inr (inr l)) ↦ absurd (none_left (heap_with c flown) mark.Black done.looked done.looked m k v has l)
+  ];
+}
+  where
+    unpiled : (x : Place) → Contains c.stack.black x → ⊥
+    unpiled x p = nothing_in_none x (subst (λ (xs : List Place). Contains xs x) done.pile p)
 
-pub gray_fixed : (c : CollectorState) (flown : ℕ → Option Bits) (g : ZoneSet) → IsSound c flown → IsBlackDone c flown
+    followed : (x : Place) → IsToFollow [] c.stack x → ⊥
+    followed x (inl p) = unpiled x p
+    followed x (inr (inl p)) = nothing_in_none x (subst (λ (xs : List Place). Contains xs x)
+        s.represents.coloured.marks.none_woken p)
+    followed x (inr (inr p)) = nothing_in_none x p
+
+pub gray_fixed : (c : CollectorState) (flown : ℕ → Option Bits) (g : ZoneSet) → IsSoundMarking c flown
+    → IsBlackDone c flown
     → AreGraying c.heap.shape g.bits → IsGrayDone c flown g → IsGrayFixed c flown g
-gray_fixed c flown g s black begun done m k v has sm sk here =
-    elim (s.represents.coloured.marks.weak.gray m k v has sm sk ((begun (zone_of c.heap.shape v)).0 here)) [
-      | inl sv ↦ sv
-      | inr (inl p) ↦ absurd (off m p)
-      | inr (inr (inl p)) ↦ absurd (off k p)
-      | inr (inr (inr l)) ↦ absurd (none_left (heap_with c flown) mark.Gray done.looked black.looked m k v has l)
-    ]
+gray_fixed c flown g s black begun done = record {
+  values = λ m k v has sm sk here.
+      elim (s.represents.coloured.marks.weak.gray m k v has sm sk ((begun (zone_of c.heap.shape v)).0 here)) [
+        | inl sv ↦ sv
+        | inr (inl p) ↦ absurd (off m p)
+        | inr (inr (inl p)) ↦ absurd (off k p)
+        | inr (inr (inr l)) ↦ absurd (none_left (heap_with c flown) mark.Gray done.looked black.looked m k v has l)
+      ];
+  keys = λ m k v d has is sm sd here.
+      elim (s.represents.coloured.marks.weak.gray_key m k v d has is sm sd ((begun (zone_of c.heap.shape k)).0 here)) [
+        | inl sk ↦ sk
+        | inr (inl p) ↦ absurd (off m p)
+        | inr (inr (inl p)) ↦ absurd (off d p)
+        | inr (inr (inr l)) ↦ absurd (none_left (heap_with c flown) mark.Gray done.looked black.looked m k v has l)
+      ];
+}
   where
     off : (x : Place) → IsPiled c.stack x → ⊥
     off x (inl p) = nothing_in_none x (subst (λ (xs : List Place). Contains xs x) black.pile p)
@@ -449,18 +475,26 @@ module _ (c : CollectorState) (flown : ℕ → Option Bits) (d : CollectorState)
 
 pub still_sound : (c : CollectorState) (flown : ℕ → Option Bits) (d : CollectorState) (flying : ℕ → Option Bits)
     → IsStill c flown d flying → IsSound c flown → IsSound d flying
-still_sound c flown d flying a s =
-    record {
-      world = s.world;
-      valid = s.valid;
-      represents = subst (λ (x : CollectorState). Represents x flying s.world) (sym a.same)
-          (a.worlds s.world s.represents);
-    }
+still_sound c flown d flying a s = record {
+  world = s.world;
+  valid = s.valid;
+  represents = subst (λ (x : CollectorState). Represents x flying s.world) (sym a.same) (a.worlds s.world s.represents);
+}
+
+pub still_marking : (c : CollectorState) (flown : ℕ → Option Bits) (d : CollectorState) (flying : ℕ → Option Bits)
+    → IsStill c flown d flying → IsSoundMarking c flown → IsSoundMarking d flying
+still_marking c flown d flying a s = record {
+  world = s.world;
+  valid = s.valid;
+  represents = calm_marking d flying s.world s.represents.phase.calm
+      (subst (λ (x : CollectorState). Represents x flying s.world) (sym a.same) (a.worlds s.world
+      (going s.represents)));
+}
 
 -- what is to come, with the bits of a heap
 to_come_by : CollectorState → HeapState → ℕ
 to_come_by c h = marking_to_come h c.stack c.lists
-    + (grouping_left c.heap.shape c.edges c.run + steps_left c.heap.shape.states)
+    + (grouping_left c.heap.shape c.edges c.run + steps_left c.heap.shape.states) + clearing_left c.heap.shape c.run
 
 pub still_to_come : (c : CollectorState) (flown : ℕ → Option Bits) (d : CollectorState) (flying : ℕ → Option Bits)
     → IsStill c flown d flying → units_to_come d flying ≡ units_to_come c flown
@@ -474,7 +508,8 @@ pub still_left : (c : CollectorState) (flown : ℕ → Option Bits) (d : Collect
 still_left c flown d flying a =
     let to_come = still_to_come c flown d flying a in
     let arenas = ap (λ (x : CollectorState). arenas_left x.heap.shape x.heap.shape.arenas) a.same in
-    omega (arith, to_come, arenas)
+    let starting = ap (λ (x : CollectorState). marking_left x.heap.shape x.run) a.same in
+    omega (arith, to_come, arenas, starting)
 
 pub still_goes : (c : CollectorState) (flown : ℕ → Option Bits) (d : CollectorState) (f1 : ℕ → Option Bits)
     (rs : List Report) (e : CollectorState) (f2 : ℕ → Option Bits) → IsStill c flown d f1 → GoesOn d f1 rs e f2
@@ -490,6 +525,7 @@ still_goes c flown d f1 rs e f2 a g = go
       words = moved.words;
       running = moved.running;
       made_is = moved.made_is;
+      ledger_is = moved.ledger_is;
       weak_is = moved.weak_is;
       less = subst (λ n. units_left e f2 < n) (ap (λ (x : CollectorState). units_left x f1) (sym a.same)
           ∙ still_left c flown d f1 a) moved.less;

@@ -1,6 +1,6 @@
--- A step of a session reports the groups, the end of a group, or a swept arena; and a command on the graph gets the
+-- A step of a session reports something that a session tells of; and a command on the graph gets the
 -- reply that the language has for it.
-use Rattle.std.proofs.Common.{◌≡◌, ◌≢◌, ◌⊎◌, ℕ, inl, inr, Bool, true, false, List, [], ◌∷◌, ◌++◌, Option, Some, None}
+use Rattle.std.proofs.Common.{◌≡◌, ◌≢◌, ◌⊎◌, ℕ, inl, inr, Bool, true, List, [], ◌∷◌, ◌++◌, Option, Some, None}
 use Rattle.std.proofs.Common.{Result}
 use Rattle.std.proofs.Common.{Ok, Err, IfOk, IsSome, is_some, cond, refl, sym, ap, ◌∙◌, subst}
 use Rattle.std.specs.List.{flat_map}
@@ -10,7 +10,7 @@ use Rattle.gz_names.specs.declared.replies.Reply.{Reply}
 use Rattle.gz_names.specs.declared.replies.Report.{Report}
 use Rattle.gz_names.specs.declared.replies.Report.TheVariants.{Started, Groups, Ended, Swept, Done, Stopped}
 use Rattle.cell_bits.specs.declared.bits.Bits.{Bits}
-use Rattle.colour_defs.specs.Lawful.{IsLawfulReport, IsLawfulUnit, quiet, says, last, AreLawfulUnits}
+use Rattle.colour_defs.specs.Lawful.{IsLawfulUnit, quiet, says, last, AreLawfulUnits}
 use Rattle.colour_defs.specs.World.{World}
 use Rattle.collection_laws.specs.Numbers.{IsGraphReply}
 use Rattle.collection_laws.proofs.Replies.{answered}
@@ -20,35 +20,31 @@ use Rattle.slice_driver.specs.Sessions.{kind_of}
 use Rattle.slice_driver.specs.Units.{DoesCommand, IsSound, reports_of, with_done}
 use Rattle.slice_driver.specs.declared.advance.Step.{Step}
 
--- where no collection is being prepared, marking does not begin by a unit
-of_kind : (w : World) (r : Report) (v : World) → w.preparing ≡ None → r ≢ Done → IsLawfulReport w r v
-    → IsSome (kind_of (Some r))
-of_kind w Started v calm not h = absurd (cc (calm, h.1.was))
-of_kind w (Groups groups) v calm not h = refl
-of_kind w (Ended zones grays dead) v calm not h = refl
-of_kind w (Swept arena names) v calm not h = refl
-of_kind w Done v calm not h = absurd (not refl)
-of_kind w (Stopped zones) v calm not h = absurd h
+of_kind : (r : Report) → r ≢ Done → IsSome (kind_of (Some r))
+of_kind Started not = refl
+of_kind (Groups groups) not = refl
+of_kind (Ended zones grays dead) not = refl
+of_kind (Swept arena names) not = refl
+of_kind Done not = absurd (not refl)
+of_kind (Stopped zones) not = refl
 
-first_said : (w : World) → w.preparing ≡ None → {unit : List Report} {u : World} → IsLawfulUnit w unit u
-    → (said : Report) (more rs : List Report) → unit ++ more ≡ said ∷ rs
-    → ((unit ≡ []) × (u ≡ w)) ⊎ IsSome (kind_of (Some said))
-first_said w calm (quiet run) said more rs e = inl (refl, refl)
-first_said w calm (says {r} {v} run not h over) said more rs e =
-    inr (subst (λ (x : Report). IsSome (kind_of (Some x))) (cc e) (of_kind w r v calm not h))
-first_said w calm (last {r} {u} {v} run not h done) said more rs e =
-    inr (subst (λ (x : Report). IsSome (kind_of (Some x))) (cc e) (of_kind w r u calm not h))
+first_said : (w : World) {unit : List Report} {u : World} → IsLawfulUnit w unit u → (said : Report)
+    (more rs : List Report) → unit ++ more ≡ said ∷ rs → (unit ≡ []) ⊎ IsSome (kind_of (Some said))
+first_said w (quiet run) said more rs e = inl refl
+first_said w (says {r} run not h over) said more rs e =
+    inr (subst (λ (x : Report). IsSome (kind_of (Some x))) (cc e) (of_kind r not))
+first_said w (last {r} run not h done) said more rs e =
+    inr (subst (λ (x : Report). IsSome (kind_of (Some x))) (cc e) (of_kind r not))
 
 -- the first report of units
-units_say : (w : World) → w.preparing ≡ None → (units : List (List Report)) (v : World) → AreLawfulUnits w units v
-    → (r : Report) (rs : List Report) → flat_map (λ u. u) units ≡ r ∷ rs → IsSome (kind_of (Some r))
-units_say w calm [] v h r rs e = absurd (cc e)
-units_say w calm (unit ∷ units) v (u, first, rest) r rs e =
-    elim (first_said w calm first r (flat_map (λ x. x) units) rs e) [
+units_say : (w : World) (units : List (List Report)) (v : World) → AreLawfulUnits w units v → (r : Report)
+    (rs : List Report) → flat_map (λ u. u) units ≡ r ∷ rs → IsSome (kind_of (Some r))
+units_say w [] v h r rs e = absurd (cc e)
+units_say w (unit ∷ units) v (u, first, rest) r rs e =
+    elim (first_said w first r (flat_map (λ x. x) units) rs e) [
       | inl none ↦
-          let calm_then : u.preparing ≡ None = subst (λ (x : World). x.preparing ≡ None) (sym none.1) calm in
-          units_say u calm_then units v rest r rs
-          (subst (λ (x : List Report). x ++ flat_map (λ y. y) units ≡ r ∷ rs) none.0 e)
+          units_say u units v rest r rs
+          (subst (λ (x : List Report). x ++ flat_map (λ y. y) units ≡ r ∷ rs) none e)
       | inr is ↦ is
     ]
 
@@ -65,8 +61,7 @@ says_kind limit c f before step d g outs now s a reported = go now refl (a.told_
         ap (λ (b : Bool). cond b (reports_of now step.finished) []) reported
         ∙ ap (λ (o : Option Report). reports_of o step.finished) e in
         subst (λ (o : Option Report). IsSome (kind_of o)) (sym e)
-        (units_say s.world s.represents.phase.calm u.units u.after u.done r (with_done step.finished)
-        (u.reports_are ∙ at))
+        (units_say s.world u.units u.after u.done r (with_done step.finished) (u.reports_are ∙ at))
 
 -- the reply to a command is one to a command on the graph
 pub graph_reply : (c : CollectorState) (f : ℕ → Option Bits) (cmd : GraphCmd) (r : Result Reply CmdFault)

@@ -10,14 +10,16 @@ use Rattle.colour_defs.specs.World.{Collection}
 use Rattle.colour_defs.proofs.Lists.{contains_at}
 use Rattle.heap_core.specs.Shape.{is_marking_state, state_in, zone_of}
 use Rattle.slice_driver.specs.Collector.{CollectorState, RunState, heap_with}
-use Rattle.slice_driver.specs.Quiet.{IsFormed}
+use Rattle.slice_driver.specs.Quiet.{IsFormed, IsStarted}
 use Rattle.slice_driver.specs.Represents.{Runs}
-use Rattle.slice_driver.specs.Units.{IsSound}
+use Rattle.slice_driver.specs.Units.{IsSoundMarking}
 use Rattle.slice_driver.specs.Working.{IsGrouping, IsQuietDone}
+use Rattle.slice_driver.proofs.abstraction.Phases.{none_to_clear}
 use Rattle.slice_driver.proofs.abstraction.Waits.{none_in_it, none_piled}
 use Rattle.slice_driver.proofs.group_end.Ready.{collection_of, runs_of}
 
-module _ (c : CollectorState) (flown : ℕ → Option Bits) (s : IsSound c flown)
+module _ (c : CollectorState) (flown : ℕ → Option Bits) (s : IsSoundMarking c flown)
+    (started : IsStarted c)
     (rests : (z : ℕ) → is_marking_state (state_in c.heap.shape z) ≡ false) where
   not_marking : (z : ℕ) → is_marking_state (state_in c.heap.shape z) ≡ true → ⊥
   not_marking z on = (let off = rests z in cc (on, off))
@@ -56,6 +58,7 @@ module _ (c : CollectorState) (flown : ℕ → Option Bits) (s : IsSound c flown
 
   pub settled_quiet : IsQuietDone c flown
   settled_quiet = record {
+    cleared = none_to_clear c started;
     black = record {
       pile = none_in_it c.stack.black (λ x has.
           not_marking (zone_of c.heap.shape x) (s.represents.coloured.marks.holds.piles.black x has).1);

@@ -1,5 +1,6 @@
 -- Units that report nothing, one after another.
-use Rattle.std.proofs.Common.{◌≡◌, ◌<◌, ◌+◌, ℕ, zero, suc, Bool, true, false, [], Option, IsSome, refl, sym, ap, subst}
+use Rattle.std.proofs.Common.{◌≡◌, ◌<◌, ◌+◌, ℕ, zero, suc, Bool, true, false, [], Option, IsSome, is_some, None, refl}
+use Rattle.std.proofs.Common.{sym, ap, subst}
 use Rattle.std.proofs.Common.{◌∙◌}
 use Rattle.std.proofs.Common.{arith}
 use Rattle.cell_bits.specs.declared.bits.Bits.{Bits}
@@ -8,17 +9,20 @@ use Rattle.colour_defs.specs.World.{World}
 use Rattle.colour_defs.proofs.ValidReports.{unit_valid}
 use Rattle.zone_edges.specs.Looks.{AreAllLookedAt}
 use Rattle.slice_driver.specs.Collector.{CollectorState, RunState}
-use Rattle.slice_driver.specs.Quiet.{IsFormed}
-use Rattle.slice_driver.specs.Represents.{Represents}
-use Rattle.slice_driver.specs.Units.{IsSound, KeepsFreedWords}
+use Rattle.slice_driver.specs.Quiet.{IsFormed, IsStarted}
+use Rattle.slice_driver.specs.Remaining.{clearing_left}
+use Rattle.slice_driver.specs.Represents.{Represents, going}
+use Rattle.slice_driver.specs.Units.{IsSound, IsSoundMarking, KeepsFreedWords}
 use Rattle.slice_driver.specs.Working.{DidOrStill, DoesQuietUnits, GoesOn, LooksOrAll, QuietOrNone, HasBegun}
 use Rattle.slice_driver.specs.Working.{IsBlackDone, IsGroupDone, IsGrouping, IsQuietDone, IsStill}
 use Rattle.slice_driver.proofs.marking.MarkingUnits.{both_still, group_done_before, still_black_done, still_goes}
-use Rattle.slice_driver.proofs.marking.MarkingUnits.{still_group_done, still_left, still_sound, still_to_come}
+use Rattle.slice_driver.proofs.marking.MarkingUnits.{still_group_done, still_left, still_marking, still_sound}
+use Rattle.slice_driver.proofs.marking.MarkingUnits.{still_to_come}
 use Rattle.slice_driver.proofs.abstraction.Named.{some_one}
+use Rattle.slice_driver.proofs.abstraction.Phases.{calm_marking, none_to_clear, started_of}
 use Rattle.slice_driver.proofs.abstraction.SoundAfter.{unit_sound}
 
--- a unit without a report leaves the world as it is, so two are told like one
+-- a unit without a report leaves the world as it is, so two count like one
 quiet_then : (w v u : World) → IsLawfulUnit w [] v → IsLawfulUnit v [] u → IsLawfulUnit w [] u
 quiet_then w v u (quiet running) second = second
 
@@ -32,6 +36,7 @@ goes_then c f d g e h a b = record {
   words = λ n freed is. b.words n freed (a.words n freed is);
   running = b.running;
   made_is = b.made_is ∙ a.made_is;
+  ledger_is = b.ledger_is ∙ a.ledger_is;
   weak_is = b.weak_is ∙ a.weak_is;
   less = omega (arith, a.less, b.less);
   to_come = omega (arith, a.to_come, b.to_come);
@@ -47,6 +52,7 @@ goes_still c f d g e h a b = record {
   words = subst (λ (x : CollectorState). KeepsFreedWords c.heap.shape x.heap.shape) (sym b.same) a.words;
   running = subst (λ (x : CollectorState). IsSome x.run) (sym b.same) a.running;
   made_is = ap (λ (x : CollectorState). x.heap.made) b.same ∙ a.made_is;
+  ledger_is = ap (λ (x : CollectorState). x.heap.ledger) b.same ∙ a.ledger_is;
   weak_is = ap (λ (x : CollectorState). x.heap.shape.weak) b.same ∙ a.weak_is;
   less = (let same = still_left d g e h b in let lt = a.less in omega (arith, same, lt));
   to_come = (let same = still_to_come d g e h b in let lt = a.to_come in omega (arith, same, lt));
@@ -118,6 +124,7 @@ still_quiet c f d g still = last_quiet 0 c f c f d g (no_quiet c f) still
 pub still_quiet_done : (c : CollectorState) (f : ℕ → Option Bits) (d : CollectorState) (g : ℕ → Option Bits)
     → IsStill c f d g → IsQuietDone c f → IsQuietDone d g
 still_quiet_done c f d g still done = record {
+  cleared = subst (λ (x : CollectorState). clearing_left x.heap.shape x.run ≡ 0) (sym still.same) done.cleared;
   black = still_black_done c f d g still done.black;
   looked = subst (λ (x : CollectorState). IsGrouping x → AreAllLookedAt x.heap.shape x.edges) (sym still.same)
       done.looked;
@@ -138,16 +145,36 @@ pub quiet_sound : (n : ℕ) (c : CollectorState) (f : ℕ → Option Bits) (d : 
 quiet_sound zero c f d g did s = still_sound c f d g (did.none refl) s
 quiet_sound (suc k) c f d g did s = unit_sound c d f g [] (did.some (omega arith)).done s
 
+-- nothing is being prepared in the world after a unit that reports nothing, where nothing was before
+quiet_calm : (w v : World) → IsLawfulUnit w [] v → w.preparing ≡ None → v.preparing ≡ None
+quiet_calm w v (quiet running) calm = calm
+
+goes_marking : (c : CollectorState) (f : ℕ → Option Bits) (d : CollectorState) (g : ℕ → Option Bits)
+    → GoesOn c f [] d g → IsSoundMarking c f → IsSoundMarking d g
+goes_marking c f d g goes s =
+    let does = goes.done s.world s.valid (going s.represents) in
+    record {
+      world = does.0;
+      valid = unit_valid s.world s.valid does.1;
+      represents = calm_marking d g does.0 (quiet_calm s.world does.0 does.1 s.represents.phase.calm) does.2;
+    }
+
+pub quiet_marking : (n : ℕ) (c : CollectorState) (f : ℕ → Option Bits) (d : CollectorState) (g : ℕ → Option Bits)
+    → DoesQuietUnits n c f d g → IsSoundMarking c f → IsSoundMarking d g
+quiet_marking zero c f d g did s = still_marking c f d g (did.none refl) s
+quiet_marking (suc k) c f d g did s = goes_marking c f d g (did.some (omega arith)) s
+
 -- after black marking that found nothing to do
-module _ (c : CollectorState) (f : ℕ → Option Bits) (s : IsSound c f) (e : CollectorState) (g : ℕ → Option Bits)
+module _ (c : CollectorState) (f : ℕ → Option Bits) (s : IsSoundMarking c f) (e : CollectorState) (g : ℕ → Option Bits)
     (still : IsStill c f e g) (black : IsBlackDone c f) where
   -- a look at a wrapper
   pub looks_quietly : (b : Bool) (d : CollectorState) → IsGrouping e → LooksOrAll b e d → QuietOrNone b c f d g
   looks_quietly true d grouping looks =
-      still_goes c f e g [] d g still (looks g (still_sound c f e g still s) (still_black_done c f e g still black))
+      still_goes c f e g [] d g still (looks g (still_marking c f e g still s) (still_black_done c f e g still black))
   looks_quietly false d grouping looks = (
     subst (λ (x : CollectorState). IsStill c f x g) (sym looks.1) still,
     record {
+      cleared = none_to_clear c (subst IsStarted still.same (grouping.0, grouping.1, grouping.3));
       black = black;
       looked = λ g. subst (λ (x : CollectorState). AreAllLookedAt x.heap.shape x.edges) still.same looks.0;
       begun = λ formed. absurd (not_both e grouping (subst IsFormed (sym still.same) formed));
@@ -162,6 +189,7 @@ module _ (c : CollectorState) (f : ℕ → Option Bits) (s : IsSound c f) (e : C
   grays_quietly false d h formed begun did = (
     both_still c f e g d h still did.0,
     record {
+      cleared = none_to_clear c (started_of c f s.world s.represents (ap is_some (subst IsFormed still.same formed).1));
       black = black;
       looked = λ grouping. absurd (not_both e (subst IsGrouping (sym still.same) grouping) formed);
       begun = λ was. subst HasBegun still.same begun;

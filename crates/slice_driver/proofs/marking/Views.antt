@@ -1,6 +1,6 @@
--- Steps over a heap are the same steps where what is delayed is told among what is pending.
+-- Steps over a heap are steps, too, if what is delayed counts among what is pending.
 use Rattle.std.proofs.Common.{◌≡◌, ◌↔◌, ◌∙◌, ℕ, Bool, List, Option, Some, IsSomeAnd, slice_get, slice_set, sym, ap}
-use Rattle.std.proofs.Common.{false, inl, inr, true}
+use Rattle.std.proofs.Common.{false, inl, inr, subst, true}
 use Rattle.gz_names.specs.declared.names.Name.{Name}
 use Rattle.gz_names.specs.declared.numbers.Place.{Place}
 use Rattle.gz_names.specs.declared.zone_sets.ZoneSet.{ZoneSet}
@@ -13,13 +13,14 @@ use Rattle.gray_lists.specs.Incoming.{Incoming}
 use Rattle.colour_defs.specs.Ends.{Lists}
 use Rattle.heap_core.specs.Heap.{HeapState, joined, without_delayed}
 use Rattle.heap_core.specs.Sweeping.{with_handed, with_taken}
-use Rattle.zone_edges.specs.Looks.{LeadsFrom, Looks, LooksAtNext}
+use Rattle.zone_edges.specs.Looks.{IsEdgeFor, LeadsFrom, Looks, LooksAtNext}
 use Rattle.zone_edges.specs.Noted.{Noted}
 use Rattle.barriers.specs.Pending.{pending}
 use Rattle.marker.specs.Units.{IsGrayIdle}
 use Rattle.slice_driver.specs.Advancing.{Advances, EndsSweeping}
 use Rattle.slice_driver.specs.GroupEnd.{DropsDead, IsGrayHere}
 use Rattle.slice_driver.specs.HandingOut.{HandsOut}
+use Rattle.slice_driver.specs.Quiet.{QueuesBlackMaps}
 use Rattle.slice_driver.proofs.marking.ZoneSteps.{advanced_to}
 
 -- nothing changed, so what is pending did not
@@ -41,28 +42,42 @@ idle_unseen h p lists word i = record { pile = i.pile; buffers = i.buffers; inco
 
 -- a wrapper was looked at
 leads_from_seen : (h : HeapState) (zones : ZoneSet) (p : Place) (a b : ℕ) → LeadsFrom h zones p a b
-    ↔ LeadsFrom (without_delayed h) zones p a b
-leads_from_seen h zones p a b = (
-  (λ l. record {
-    target = l.target;
-    target_is = l.target_is;
-    from = l.from;
-    to = l.to;
-    has_from = l.has_from;
-    has_to = l.has_to;
-    apart = l.apart;
-    pale = l.pale;
-  }),
-  λ l. record {
-    target = l.target;
-    target_is = l.target_is;
-    from = l.from;
-    to = l.to;
-    has_from = l.has_from;
-    has_to = l.has_to;
-    apart = l.apart;
-    pale = l.pale;
-  },
+    → LeadsFrom (without_delayed h) zones p a b
+leads_from_seen h zones p a b l = record {
+  target = l.target;
+  target_is = l.target_is;
+  from = l.from;
+  to = l.to;
+  has_from = l.has_from;
+  has_to = l.has_to;
+  apart = l.apart;
+  pale = l.pale;
+}
+
+leads_from_unseen : (h : HeapState) (zones : ZoneSet) (p : Place) (a b : ℕ)
+    → LeadsFrom (without_delayed h) zones p a b → LeadsFrom h zones p a b
+leads_from_unseen h zones p a b l = record {
+  target = l.target;
+  target_is = l.target_is;
+  from = l.from;
+  to = l.to;
+  has_from = l.has_from;
+  has_to = l.has_to;
+  apart = l.apart;
+  pale = l.pale;
+}
+
+edge_seen : (h : HeapState) (zones : ZoneSet) (p : Place) (a b : ℕ) → IsEdgeFor h zones p a b
+    ↔ IsEdgeFor (without_delayed h) zones p a b
+edge_seen h zones p a b = (
+  λ e. elim e [
+    | inl leads ↦ inl (leads_from_seen h zones p a b leads)
+    | inr back ↦ inr (back.0, leads_from_seen h zones p b a back.1)
+  ],
+  λ e. elim e [
+    | inl leads ↦ inl (leads_from_unseen h zones p a b leads)
+    | inr back ↦ inr (back.0, leads_from_unseen h zones p b a back.1)
+  ],
 )
 
 look_seen : (h : HeapState) (old new : Noted) → LooksAtNext h old new → LooksAtNext (without_delayed h) old new
@@ -78,11 +93,11 @@ look_seen h old new l = record {
   edges = λ a b. (
     (λ e. elim ((l.edges a b).0 e) [
       | inl was ↦ inl was
-      | inr leads ↦ inr ((leads_from_seen h old.zones l.wrapper a b).0 leads)
+      | inr leads ↦ inr ((edge_seen h old.zones l.wrapper a b).0 leads)
     ]),
     λ o. (l.edges a b).1 (elim o [
       | inl was ↦ inl was
-      | inr leads ↦ inr ((leads_from_seen h old.zones l.wrapper a b).1 leads)
+      | inr leads ↦ inr ((edge_seen h old.zones l.wrapper a b).1 leads)
     ]),
   );
   left = l.left;
@@ -110,13 +125,48 @@ module _ (l : HeapState) (word : ℕ) (k : HeapState) (on : Advances l word k) w
 module _ (h : HeapState) (zone : ℕ) (k : HeapState) (found : slice_get h.shape.states zone ≡ Some state.MarkBlackOnly)
     (on : IsSomeAnd (slice_get h.shape.states zone)
     (λ s. k ≡ record h { shape = record h.shape { states = slice_set h.shape.states zone (next_state s) } })) where
-  pub begun_seen : without_delayed k ≡ record (without_delayed h) {
+  begun_seen : without_delayed k ≡ record (without_delayed h) {
     shape = record h.shape { states = slice_set h.shape.states zone state.MarkBlackAndGray };
   }
   begun_seen = ap without_delayed (advanced_to h zone k found on)
 
-  pub begun_pending : (s : Piles) → pending h s ≡ pending k s
+  begun_pending : (s : Piles) → pending h s ≡ pending k s
   begun_pending s = sym (ap (λ (x : HeapState). pending x s) (advanced_to h zone k found on))
+
+-- the entries of its black maps were queued before
+module _ (h : HeapState) (zone : ℕ) (q : HeapState) (rest : q ≡ record h { looks = q.looks })
+    (queued : QueuesBlackMaps h zone q) where
+  queued_as : QueuesBlackMaps h zone (record h { looks = q.looks })
+  queued_as = subst (λ (z : HeapState). QueuesBlackMaps h zone z) rest queued
+
+  pub queued_seen : QueuesBlackMaps (without_delayed h) zone (record (without_delayed h) { looks = q.looks })
+  queued_seen = record {
+    left = queued_as.left;
+    kept = queued_as.kept;
+    sized = queued_as.sized;
+    by_map = queued_as.by_map;
+    by_key = queued_as.by_key;
+    by_delegate = queued_as.by_delegate;
+  }
+
+  pub queued_state : slice_get h.shape.states zone ≡ Some state.MarkBlackOnly
+      → slice_get q.shape.states zone ≡ Some state.MarkBlackOnly
+  queued_state found = ap (λ (z : HeapState). slice_get z.shape.states zone) rest ∙ found
+
+  module _ (k : HeapState) (found : slice_get h.shape.states zone ≡ Some state.MarkBlackOnly)
+      (on : IsSomeAnd (slice_get q.shape.states zone)
+      (λ s. k ≡ record q { shape = record q.shape { states = slice_set q.shape.states zone (next_state s) } })) where
+    pub zone_seen : without_delayed k ≡ record (without_delayed h) {
+      shape = record h.shape { states = slice_set h.shape.states zone state.MarkBlackAndGray };
+      looks = q.looks;
+    }
+    zone_seen = begun_seen q zone k (queued_state found) on
+        ∙ ap (λ (z : HeapState). record (without_delayed z) {
+          shape = record z.shape { states = slice_set z.shape.states zone state.MarkBlackAndGray };
+        }) rest
+
+    pub zone_pending : (s : Piles) → pending h s ≡ pending k s
+    zone_pending s = sym (ap (λ (z : HeapState). pending z s) rest) ∙ begun_pending q zone k (queued_state found) on s
 
 -- sweeping ends
 module _ (h : HeapState) (groups : List ZoneSet) (over : Bool) (k : HeapState) (e : EndsSweeping h groups over k) where
@@ -146,7 +196,8 @@ drops_seen h g k d = record {
   apart = d.apart;
   wrappers = d.wrappers;
   entries = d.entries;
-  distinct = d.distinct;
+  rows = d.rows;
+  sound = d.sound;
   carries = d.carries;
   parallel = d.parallel;
 }

@@ -1,5 +1,5 @@
 -- A cell is born black, and on no pile: what is to come of marking is no more than before.
-use Rattle.std.proofs.Common.{◌≡◌, ◌≢◌, ◌⊎◌, ◌+◌, ◌≤◌, ◌&&◌, ℕ, suc, Bool, true, false, inl, inr, refl, ap, ◌∙◌}
+use Rattle.std.proofs.Common.{◌≡◌, ◌≢◌, ◌⊎◌, ◌+◌, ◌-◌, ◌≤◌, ◌&&◌, ℕ, suc, Bool, true, false, inl, inr, refl, ap, ◌∙◌}
 use Rattle.std.proofs.Common.{subst}
 use Rattle.std.proofs.Common.{arith, cond, List, [], ◌∷◌, length, count_by, sum_by, Contains, Option, None, Some}
 use Rattle.std.proofs.Common.{is_some}
@@ -9,29 +9,31 @@ use Rattle.std.proofs.lemmas.Option.{slice_get_within}
 use Rattle.gz_names.specs.declared.names.Name.{Name}
 use Rattle.gz_names.specs.declared.numbers.Place.{Place}
 use Rattle.cell_bits.specs.declared.bits.Colour.{Colour}
+use Rattle.cell_bits.specs.declared.bits.Colour.TheVariants as colour
+use Rattle.zones.specs.declared.states.State.TheVariants as state
 use Rattle.arena_table.specs.Table.{is_place}
 use Rattle.colour_defs.proofs.Lists.{contains_head, contains_tail}
 use Rattle.mark_stack.specs.Stack.{Piles}
-use Rattle.weak_maps.specs.WeakMaps.{EntryState}
-use Rattle.heap_core.specs.Shape.{ArenaShape, IsPresent, Shape, cell_in_arena, cell_of, is_marking, name_at}
+use Rattle.heap_core.specs.Shape.{ArenaShape, IsPresent, Shape, cell_in_arena, cell_of, is_marking, is_marking_state}
+use Rattle.heap_core.specs.Shape.{name_at, state_of}
 use Rattle.heap_core.specs.Heap.{HeapState, colour_of}
 use Rattle.heap_core.proofs.MakingCells.{same-place}
 use Rattle.barriers.specs.Colours.{IsBlack}
 use Rattle.barriers.specs.Scans.{AreScannedOnce, black_scans, black_turns, gray_scans, gray_turns}
 use Rattle.barriers.proofs.Places.{same_or_other}
-use Rattle.marker.specs.UnitsToCome.{scans, starts_of}
+use Rattle.marker.specs.UnitsToCome.{is_black_only, map_starts, scans}
 use Rattle.marker.proofs.UnitsToCome.{where_both, where_off}
 use Rattle.slice_driver.specs.UnitsToCome.{is_wrapper_named, may_be_noted, notes}
 use Rattle.slice_driver.specs.UnitsToCome.{present_places}
 use Rattle.slice_driver.proofs.measure.PresentPlaces.{present_no_more, present_no_more_grown, where_present}
-use Rattle.slice_driver.proofs.measure.StatesToCome.{present_by_name}
+use Rattle.slice_driver.proofs.measure.StatesToCome.{marks_black, present_by_name}
 
 -- a cell came to a place where none was present: it is black and on no pile of marking, and the cells that were present
 -- are as they were
 pub record IsBorn (h k : HeapState) (p : Piles) (x : Place) : Type 0 where
   pub absent : IsPresent h.shape x → ⊥
   pub others : (y : Place) → y ≢ x → name_at k.shape y ≡ name_at h.shape y
-  pub marking : (y : Place) → IsPresent h.shape y → is_marking k.shape y ≡ is_marking h.shape y
+  pub states : (y : Place) → IsPresent h.shape y → state_of k.shape y ≡ state_of h.shape y
   pub colours : (y : Place) → IsPresent h.shape y → colour_of k y ≡ colour_of h y
   pub black : IsBlack k x
   pub off_black : Contains p.black x → ⊥
@@ -77,6 +79,9 @@ module _ (h k : HeapState) (p : Piles) (x : Place) (born : IsBorn h k p x) where
   not_born : (y : Place) → IsPresent h.shape y → y ≢ x
   not_born y present e = born.absent (subst (IsPresent h.shape) e present)
 
+  marking : (y : Place) → IsPresent h.shape y → is_marking k.shape y ≡ is_marking h.shape y
+  marking y present = ap is_marking_state (born.states y present)
+
   -- and each that was present for what it did
   pub scans_same : (y : Place) → IsPresent h.shape y → scans k p y ≤ scans h p y
   scans_same y present =
@@ -85,7 +90,16 @@ module _ (h k : HeapState) (p : Piles) (x : Place) (born : IsBorn h k p x) where
       let gray : gray_scans k p y ≡ gray_scans h p y =
       ap (λ (c : Colour). gray_turns c + count_by (is_place y) p.gray) (born.colours y present) in
       where_both (is_marking k.shape y) (is_marking h.shape y) (black_scans k p y + gray_scans k p y)
-      (black_scans h p y + gray_scans h p y) (born.marking y present) (omega (arith, black, gray))
+      (black_scans h p y + gray_scans h p y) (marking y present) (omega (arith, black, gray))
+
+  pub maps_same : (y : Place) → IsPresent h.shape y → map_starts k p y ≤ map_starts h p y
+  maps_same y present =
+      let colour : 1 - black_turns (colour_of k y) ≡ 1 - black_turns (colour_of h y) =
+      ap (λ (c : Colour). 1 - black_turns c) (born.colours y present) in
+      let more = where_both (is_black_only (state_of k.shape y)) (is_black_only (state_of h.shape y))
+      (1 - black_turns (colour_of k y)) (1 - black_turns (colour_of h y)) (ap is_black_only (born.states y present))
+      (omega (arith, colour)) in
+      omega (arith, more, scans_same y present)
 
   notes_same : (y : Place) → IsPresent h.shape y → notes k p y ≤ notes h p y
   notes_same y present =
@@ -93,7 +107,7 @@ module _ (h k : HeapState) (p : Piles) (x : Place) (born : IsBorn h k p x) where
       ap (λ (c : Colour). gray_turns c + count_by (is_place y) p.gray) (born.colours y present) in
       let name = born.others y (not_born y present) in
       let may : may_be_noted k.shape y ≡ may_be_noted h.shape y =
-      ap (λ (b : Bool). b && is_wrapper_named (name_at k.shape y)) (born.marking y present)
+      ap (λ (b : Bool). b && is_wrapper_named (name_at k.shape y)) (marking y present)
       ∙ ap (λ (o : Option Name). is_marking h.shape y && is_wrapper_named o) name in
       where_both (may_be_noted k.shape y) (may_be_noted h.shape y) (gray_scans k p y) (gray_scans h p y) may
       (omega (arith, gray))
@@ -141,13 +155,53 @@ module _ (h k : HeapState) (p : Piles) (x : Place) (born : IsBorn h k p x) where
       → sum_by (notes k p) (present_places k.shape) ≤ sum_by (notes h p) (present_places h.shape)
   born_notes sized = sum_less (notes h p) (notes k p) (none_noted (may_be_noted k.shape x)) notes_same sized
 
--- an entry is put: at most four looks more
-pub put_few : (h : HeapState) (p : Piles) (e : EntryState) → AreScannedOnce h p → starts_of h p e ≤ 4
-put_few h p e once = omega (arith, few e.map, few e.key)
-  where
-    at : (b : Bool) (m : ℕ) → m ≤ 2 → (if b then m else 0) ≤ 2
-    at true m low = low
-    at false m low = omega arith
+if_few : (b : Bool) (m n : ℕ) → m ≤ n → (if b then m else 0) ≤ n
+if_few true m n low = low
+if_few false m n low = omega arith
 
-    few : (x : Place) → scans h p x ≤ 2
-    few x = at (is_marking h.shape x) (black_scans h p x + gray_scans h p x) (omega (arith, once.black x, once.gray x))
+-- where each cell may be scanned once at most in either colour, and only cells of zones that take gray are on the gray
+-- pile
+module _ (h : HeapState) (p : Piles) (once : AreScannedOnce h p)
+    (piled : (x : Place) → Contains p.gray x → state_of h.shape x ≡ state.MarkBlackAndGray) where
+  -- twice at most
+  pub few_scans : (x : Place) → scans h p x ≤ 2
+  few_scans x = if_few (is_marking h.shape x) (black_scans h p x + gray_scans h p x) 2
+      (omega (arith, once.black x, once.gray x))
+
+  -- a black cell that is on no gray pile is scanned in gray no more
+  two_at : (x : Place) (c : Colour) → colour_of h x ≡ c → count_by (is_place x) p.gray ≡ 0
+      → black_scans h p x + gray_scans h p x + (1 - black_turns (colour_of h x)) ≤ 2
+  two_at x colour.White e none =
+      let turns : black_turns (colour_of h x) ≡ 1 = ap black_turns e in omega (arith, once.black x, once.gray x, turns)
+  two_at x colour.Gray e none =
+      let turns : black_turns (colour_of h x) ≡ 1 = ap black_turns e in omega (arith, once.black x, once.gray x, turns)
+  two_at x colour.Black e none =
+      let turns : gray_turns (colour_of h x) ≡ 0 = ap gray_turns e in omega (arith, once.black x, turns, none)
+
+  pub few_maps : (x : Place) → map_starts h p x ≤ 2
+  few_maps x = go (is_black_only (state_of h.shape x)) refl
+    where
+      go : (b : Bool) → is_black_only (state_of h.shape x) ≡ b → map_starts h p x ≤ 2
+      go true only =
+          let none = count_none p.gray x
+          (λ has. (let takes = ap is_black_only (piled x has) in cc (only, takes))) in
+          let two = two_at x (colour_of h x) refl none in
+          let first = if_few (is_marking h.shape x) (black_scans h p x + gray_scans h p x)
+          (black_scans h p x + gray_scans h p x) (omega arith) in
+          let second = if_few (is_black_only (state_of h.shape x)) (1 - black_turns (colour_of h x))
+          (1 - black_turns (colour_of h x)) (omega arith) in
+          omega (arith, two, first, second)
+      go false off =
+          let none = where_off (is_black_only (state_of h.shape x)) (1 - black_turns (colour_of h x)) 0 off in
+          omega (arith, none, few_scans x)
+
+-- nothing is started for a map of a zone that is not marking
+pub maps_none : (h : HeapState) (p : Piles) (x : Place) → is_marking h.shape x ≡ false → map_starts h p x ≤ 0
+maps_none h p x off = go (is_black_only (state_of h.shape x)) refl
+  where
+    go : (b : Bool) → is_black_only (state_of h.shape x) ≡ b → map_starts h p x ≤ 0
+    go true only = absurd (let on = marks_black (state_of h.shape x) only in cc (on, off))
+    go false none =
+        let more = where_off (is_black_only (state_of h.shape x)) (1 - black_turns (colour_of h x)) 0 none in
+        let scanned = where_off (is_marking h.shape x) (black_scans h p x + gray_scans h p x) 0 off in
+        omega (arith, more, scanned)

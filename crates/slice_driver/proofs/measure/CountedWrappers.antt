@@ -26,9 +26,12 @@ use Rattle.zone_edges.specs.Looks.{cursor_of, left_below}
 use Rattle.zone_edges.specs.Noted.{Noted}
 use Rattle.zone_edges.proofs.SoundWrappers.{found_there}
 use Rattle.slice_driver.specs.ListedWrappers.{listed_below}
+use Rattle.slice_driver.specs.UnitsToCome.{present_places}
 use Rattle.slice_driver.specs.Worlds.{LiesIn}
+use Rattle.slice_driver.proofs.abstraction.Named.{named_present, some_one}
 use Rattle.slice_driver.proofs.group_end.FewWrappers.{key_name, same_key}
 use Rattle.slice_driver.proofs.measure.CountedCells.{IsApart, sum_injected}
+use Rattle.slice_driver.proofs.measure.PresentPlaces.{present_listed}
 
 -- a list whose members are pairwise apart, and two such lists without a common one
 pub apart_pairs : {X Y : Type 0} (to : Y → X) (ys : List Y)
@@ -38,6 +41,15 @@ apart_pairs to [] apart = tt
 apart_pairs to (y ∷ ys) apart = (
   λ z c e. apart 0 (suc c.0) z (omega arith) (omega (arith, c.1)) (e ∙ sym (ap to c.2)),
   apart_pairs to ys (λ i j d lt within. apart (suc i) (suc j) d (omega (arith, lt)) (omega (arith, within))),
+)
+
+-- members that lead to different things are different
+apart_finer : {X Y Z : Type 0} (to : Y → X) (on : Y → Z) (ys : List Y) → IsApart to ys
+    → ((y z : Y) → Contains ys y → Contains ys z → on y ≡ on z → to y ≡ to z) → IsApart on ys
+apart_finer to on [] apart finer = tt
+apart_finer to on (y ∷ ys) apart finer = (
+  λ z c e. apart.0 z c (finer y z (contains_head y ys) (contains_tail y ys z c) e),
+  apart_finer to on ys apart.1 (λ w z c d e. finer w z (contains_tail y ys w c) (contains_tail y ys z d) e),
 )
 
 apart_append : {X Y : Type 0} (to : Y → X) (xs ys : List Y) → IsApart to xs → IsApart to ys
@@ -51,7 +63,7 @@ apart_append to (x ∷ xs) ys first second across = (
   apart_append to xs ys first.1 second (λ y z c d. across y z (contains_tail x xs y c) d),
 )
 
-each_one : {X : Type 0} (xs : List X) → sum_by (λ x. 1) xs ≡ length xs
+pub each_one : {X : Type 0} (xs : List X) → sum_by (λ x. 1) xs ≡ length xs
 each_one [] = refl
 each_one (x ∷ xs) = let rest = each_one xs in let both = sum_by-cons (λ y. 1) x xs in omega (arith, rest, both)
 
@@ -160,6 +172,24 @@ module _ (h : HeapState) (w : World) (lies : LiesIn h w) (apart : AreApart h.sha
       let long = each_one (listed n) in
       let same = listed_length n in
       omega (arith, all, long, same)
+
+  -- each stands in a place of its own
+  apart_places : (n : ℕ) → IsApart (λ (e : WrapperKey × Place). e.1) (listed n)
+  apart_places n = apart_finer entry_name (λ (e : WrapperKey × Place). e.1) (listed n) (listed_apart n)
+      (λ d e c f same. (let first = in_listed n d c in
+      let second = in_listed n e f in
+      some_one _ _ (sym (named first.0 d first.3) ∙ (ap (name_at h.shape) same ∙ named second.0 e second.3))))
+
+  pub few_listed : (n : ℕ) → listed_below h.shape test n ≤ length (present_places h.shape)
+  few_listed n =
+      let all = sum_injected (λ (p : Place). 1) (λ (e : WrapperKey × Place). 1) (λ (e : WrapperKey × Place). e.1)
+      (present_places h.shape) (listed n) (apart_places n)
+      (λ e c. (let at = in_listed n e c in present_listed h.shape lies.whole e.1
+      (named_present h.shape e.1 (entry_name e) (named at.0 e at.3)))) (λ e c. omega arith) in
+      let long = each_one (listed n) in
+      let cells = each_one (present_places h.shape) in
+      let same = listed_length n in
+      omega (arith, all, long, cells, same)
 
 -- before the first look all wrappers of the zones are to be looked at
 pub left_listed : (s : Shape) (n : Noted) → ((z : ℕ) → cursor_of n z ≡ 0) → (k : ℕ)

@@ -86,6 +86,28 @@ few_below word small n = elim (cases_lt n 64) [
       omega (arith, past, same))
 ]
 
+below_few : (word n : ℕ) → zones_below word n ≤ n
+unfolding zones_below
+below_few word zero = omega arith
+below_few word (suc z) = let rest = below_few word z in let here = one (bit_at word z == 1) in omega (arith, rest, here)
+  where
+    one : (b : Bool) → (if b then 1 else 0) ≤ 1
+    one true = omega arith
+    one false = omega arith
+
+-- zones that are below some number are no more than that
+pub few_zones : (zones : ZoneSet) (most : ℕ) → ((z : ℕ) → bit_at zones.bits z ≡ 1 → z < most)
+    → length (zones_in zones) ≤ most
+few_zones zones most small = elim (cases_lt most 64) [
+  | inl lt ↦ (let past = past_none zones.bits most small (64 - most) in
+      let same : zones_below zones.bits 64 ≡ zones_below zones.bits (most + (64 - most)) =
+      ap (zones_below zones.bits) (let back : 64 ≡ most + (64 - most) = omega (arith, lt) in back) in
+      let few = below_few zones.bits most in
+      let long = zones_length zones in
+      omega (arith, past, same, few, long))
+  | inr ge ↦ (let few = below_few zones.bits 64 in let long = zones_length zones in omega (arith, few, long, ge))
+]
+
 -- zones that have not had their grouping step
 ungrouped_most : (n : Noted) (k : ℕ) → ungrouped_below n k ≤ zones_below n.zones.bits k
 unfolding ungrouped_below zones_below

@@ -11,6 +11,7 @@ use Rattle.arena_table.specs.Slots.{change_at}
 use Rattle.heap_core.specs.Shape.{ArenaShape, Shape, is_marking_state, out_of, state_in, state_or}
 use Rattle.heap_core.specs.Heap.{HeapState, flown_or, with_flown}
 use Rattle.heap_core.specs.Sweeping.{come_in, handed}
+use Rattle.marker.specs.UnitsToCome.{is_black_only}
 use Rattle.zone_edges.specs.Noted.{Noted}
 use Rattle.slice_driver.specs.Advancing.{EndsSweeping, after_end}
 use Rattle.slice_driver.specs.Collector.{RunState}
@@ -21,7 +22,7 @@ use Rattle.slice_driver.proofs.group_end.Cells.{some_out}
 -- nothing is left of the grouping
 pub grouped : (s : Shape) (n : Noted) (r : RunState) → r.formed ≡ true → grouping_left s n (Some r) ≡ 0
 grouped s n r formed =
-    ap (λ (b : Bool). if b then 0 else Rattle.zone_edges.specs.Looks.left_to_look s n
+    ap (λ (b : Bool). if b || is_some r.clearing then 0 else Rattle.zone_edges.specs.Looks.left_to_look s n
     + Rattle.slice_driver.specs.Remaining.ungrouped_below n 64) formed
 
 -- no zone has more steps to go
@@ -115,6 +116,7 @@ arenas_handed s t word (arena ∷ arenas) (bits ∷ colours) sized here others =
 
 swept_steps : (t : State) → steps_of (after_sweep t) ≡ steps_of t
 swept_steps state.NoGC = refl
+swept_steps state.Prepare = refl
 swept_steps state.MarkBlackOnly = refl
 swept_steps state.MarkBlackAndGray = refl
 swept_steps state.Sweep = refl
@@ -122,6 +124,7 @@ swept_steps state.Finished = refl
 
 ended_steps : (t : State) → steps_of (after_end t) ≡ steps_of t
 ended_steps state.NoGC = refl
+ended_steps state.Prepare = refl
 ended_steps state.MarkBlackOnly = refl
 ended_steps state.MarkBlackAndGray = refl
 ended_steps state.Sweep = refl
@@ -129,6 +132,7 @@ ended_steps state.Finished = refl
 
 swept_marking : (t : State) → is_marking_state (after_sweep t) ≡ is_marking_state t
 swept_marking state.NoGC = refl
+swept_marking state.Prepare = refl
 swept_marking state.MarkBlackOnly = refl
 swept_marking state.MarkBlackAndGray = refl
 swept_marking state.Sweep = refl
@@ -136,12 +140,29 @@ swept_marking state.Finished = refl
 
 ended_marking : (t : State) → is_marking_state (after_end t) ≡ is_marking_state t
 ended_marking state.NoGC = refl
+ended_marking state.Prepare = refl
 ended_marking state.MarkBlackOnly = refl
 ended_marking state.MarkBlackAndGray = refl
 ended_marking state.Sweep = refl
 ended_marking state.Finished = refl
 
--- as sweeping ends, zones have as many steps to go, and the same are marking
+swept_black_only : (t : State) → is_black_only (after_sweep t) ≡ is_black_only t
+swept_black_only state.NoGC = refl
+swept_black_only state.Prepare = refl
+swept_black_only state.MarkBlackOnly = refl
+swept_black_only state.MarkBlackAndGray = refl
+swept_black_only state.Sweep = refl
+swept_black_only state.Finished = refl
+
+ended_black_only : (t : State) → is_black_only (after_end t) ≡ is_black_only t
+ended_black_only state.NoGC = refl
+ended_black_only state.Prepare = refl
+ended_black_only state.MarkBlackOnly = refl
+ended_black_only state.MarkBlackAndGray = refl
+ended_black_only state.Sweep = refl
+ended_black_only state.Finished = refl
+
+-- as sweeping ends, zones have as many steps to go, and the same are marking, in the same way
 module _ (h k : HeapState) (groups : List ZoneSet) (over : Bool) (e : EndsSweeping h groups over k) where
   pub steps_kept : (z : ℕ) → steps_of (state_in k.shape z) ≡ steps_of (state_in h.shape z)
   steps_kept z = elim (some_out h.shape) [
@@ -164,6 +185,17 @@ module _ (h k : HeapState) (groups : List ZoneSet) (over : Bool) (e : EndsSweepi
           ≡ is_marking_state (state_in h.shape z)
       go true is none = ap is_marking_state ((e.ended is).2 z) ∙ ended_marking (state_in h.shape z)
       go false is none = ap is_marking_state ((e.swept none is).1 z) ∙ swept_marking (state_in h.shape z)
+
+  pub black_only_kept : (z : ℕ) → is_black_only (state_in k.shape z) ≡ is_black_only (state_in h.shape z)
+  black_only_kept z = elim (some_out h.shape) [
+    | inl some ↦ ap is_black_only ((e.still some.0 some.1).1 z)
+    | inr none ↦ go over refl none
+  ]
+    where
+      go : (b : Bool) → over ≡ b → ((a : ℕ) → out_of h.shape a ≡ None) → is_black_only (state_in k.shape z)
+          ≡ is_black_only (state_in h.shape z)
+      go true is none = ap is_black_only ((e.ended is).2 z) ∙ ended_black_only (state_in h.shape z)
+      go false is none = ap is_black_only ((e.swept none is).1 z) ∙ swept_black_only (state_in h.shape z)
 
 -- bits in flight that are the heap's own
 pub own_flown : (g : ℕ → Option Bits) (n : ℕ) (colours : List Bits)

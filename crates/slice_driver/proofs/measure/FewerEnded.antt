@@ -15,19 +15,25 @@ use Rattle.colour_defs.proofs.ZoneSets.{zones_in-has}
 use Rattle.heap_core.specs.Shape.{ArenaShape, cell_of, is_marking, is_marking_state, out_in, state_in, zone_of}
 use Rattle.heap_core.specs.Heap.{HeapState, colour_in, colour_of, weak_of, with_flown}
 use Rattle.heap_core.specs.Sweeping.{handed, jobs_of, with_handed}
-use Rattle.weak_maps.specs.WeakMaps.{EntryState, WeakMapsState}
+use Rattle.weak_maps.specs.Delegates.{DelegateRow}
+use Rattle.weak_maps.specs.WeakMaps.{WeakMapsState}
 use Rattle.weak_maps.specs.declared.colours.MarkColour.TheVariants as mark
 use Rattle.marker.specs.Looks.{looks_now}
+use Rattle.marker.specs.UnitsToCome.{is_black_only}
+use Rattle.weak_maps.specs.declared.entries.WeakEntry.{WeakEntry}
 use Rattle.slice_driver.specs.Advancing.{EndsSweeping}
 use Rattle.slice_driver.specs.Collector.{CollectorState, heap_with}
 use Rattle.slice_driver.specs.GroupEnd.{IsReady}
 use Rattle.slice_driver.specs.HandingOut.{HandsOut}
-use Rattle.slice_driver.specs.Left.{units_left}
-use Rattle.slice_driver.specs.Remaining.{arenas_left, grouping_left, steps_left, steps_of}
-use Rattle.slice_driver.specs.Units.{AreJobs, IsSound, flown_by, flying_after}
+use Rattle.slice_driver.specs.Left.{marking_left, starting_left, units_left}
+use Rattle.slice_driver.specs.Quiet.{IsStarted}
+use Rattle.slice_driver.specs.Remaining.{arenas_left, clearing_left, grouping_left, left_of, steps_left, steps_of}
+use Rattle.slice_driver.specs.Units.{AreJobs, IsSoundMarking, flown_by, flying_after}
 use Rattle.slice_driver.specs.UnitsToCome.{units_to_come}
 use Rattle.slice_driver.proofs.group_end.EndReady.{sized_here}
-use Rattle.slice_driver.proofs.measure.Fewer.{arenas_handed, fewer_steps, grouped, marking_kept, own_flown, steps_kept}
+use Rattle.slice_driver.proofs.measure.Fewer.{arenas_handed, black_only_kept, fewer_steps, grouped, marking_kept}
+use Rattle.slice_driver.proofs.measure.Fewer.{own_flown, steps_kept}
+use Rattle.slice_driver.proofs.abstraction.Phases.{started_of}
 use Rattle.slice_driver.proofs.abstraction.Waits.{none_carried}
 use Rattle.slice_driver.proofs.measure.FewerEntries.{none_now, sum_no_more}
 use Rattle.slice_driver.proofs.measure.StatesToCome.{IsStillMarking, states_no_more}
@@ -52,7 +58,8 @@ handed_bits word (arena ∷ arenas) (bits ∷ colours) kept (suc i) b e =
     handed_bits word arenas colours (λ a. kept (suc a)) i b e
 
 module _ (c : CollectorState) (g : ZoneSet) (rest : List ZoneSet) (ready : IsReady c g rest) (jobs : Option (List Job))
-    (m : HeapState) (out : HandsOut c.heap g jobs m) (flown : ℕ → Option Bits) (s : IsSound c flown) (k : HeapState)
+    (m : HeapState) (out : HandsOut c.heap g jobs m) (flown : ℕ → Option Bits) (s : IsSoundMarking c flown)
+    (k : HeapState)
     (over : Bool) (e : EndsSweeping m rest over k) where
   none_flown : (a : ℕ) → flown a ≡ None
   none_flown a = no_some (flown a) (s.represents.swept.flies.covers a ∙ ap is_some (ready.kept a))
@@ -141,6 +148,18 @@ module _ (c : CollectorState) (g : ZoneSet) (rest : List ZoneSet) (ready : IsRea
   none_grouping false = ap (grouping_left k.shape c.edges) ready.running
       ∙ grouped k.shape c.edges ready.run ready.formed
 
+  begun : IsStarted c
+  begun = started_of c flown s.world s.represents (ap is_some ready.running)
+
+  -- nothing is to be cleared, nor is marking to begin
+  none_clearing : (b : Bool) → clearing_left k.shape (if b then None else c.run) ≡ 0
+  none_clearing true = refl
+  none_clearing false = ap (clearing_left k.shape) begun.1 ∙ ap (left_of k.shape begun.0.zones) begun.2
+
+  none_starting : (b : Bool) → marking_left k.shape (if b then None else c.run) ≡ 0
+  none_starting true = refl
+  none_starting false = ap (marking_left k.shape) begun.1 ∙ ap (starting_left k.shape) begun.2
+
   weak_are : weak_of k ≡ weak_of out.dropped
   weak_are = ap weak_of e.rest ∙ ap weak_of out.goes.rest
 
@@ -156,11 +175,20 @@ module _ (c : CollectorState) (g : ZoneSet) (rest : List ZoneSet) (ready : IsRea
       omega (arith, none, same)
 
   -- entries are dropped, and none comes
-  entries_less : (f : EntryState → ℕ) → sum_by f k.shape.weak.entries ≤ sum_by f c.heap.shape.weak.entries
+  entries_less : (f : WeakEntry → ℕ) → sum_by f k.shape.weak.entries ≤ sum_by f c.heap.shape.weak.entries
   entries_less f =
-      let less = sum_no_more f out.dropped.shape.weak.entries c.heap.shape.weak.entries out.drops.distinct
+      let less = sum_no_more (λ (x : WeakEntry). x.map) (λ (x : WeakEntry). x.key) f out.dropped.shape.weak.entries
+      c.heap.shape.weak.entries out.drops.sound.distinct
       (λ entry has. ((out.drops.entries.exact entry).0 has).0) in
       let same = ap (λ (w : WeakMapsState). sum_by f w.table.entries) weak_are in
+      omega (arith, less, same)
+
+  rows_less : (f : DelegateRow → ℕ) → sum_by f k.shape.weak.delegates.rows ≤ sum_by f c.heap.shape.weak.delegates.rows
+  rows_less f =
+      let less = sum_no_more (λ (x : DelegateRow). x.map) (λ (x : DelegateRow). x.key) f
+      out.dropped.shape.weak.delegates.rows c.heap.shape.weak.delegates.rows out.drops.sound.delegates.distinct
+      (λ row has. ((out.drops.rows.rows row).0 has).0) in
+      let same = ap (λ (w : WeakMapsState). sum_by f w.table.delegates.rows) weak_are in
       omega (arith, less, same)
 
   -- a cell of a zone that is still marking is of no zone of the group, so it is what it was
@@ -173,6 +201,10 @@ module _ (c : CollectorState) (g : ZoneSet) (rest : List ZoneSet) (ready : IsRea
         ∙ ap (λ (b : Bool). cond b None (cell_of c.heap.shape x)) alive);
     was = sym (marking_then other) ∙ on;
     colour_is = ap (λ (cs : List Bits). colour_in (slice_get cs x.0) x.1) colours_same;
+    black_only = λ only. sym (ap is_black_only
+        (others_stay c g rest ready jobs m out (zone_of c.heap.shape x) other))
+        ∙ (sym (ap (λ z. is_black_only (state_in k.shape z)) zone_same
+        ∙ black_only_kept m k rest over e (zone_of c.heap.shape x)) ∙ only);
   }
     where
       zone_same : zone_of k.shape x ≡ zone_of c.heap.shape x
@@ -207,9 +239,10 @@ module _ (c : CollectorState) (g : ZoneSet) (rest : List ZoneSet) (ready : IsRea
       (flying_after jobs flown)) c.stack c.lists
       (ap (λ (xs : List ArenaShape). length xs) arenas_are
       ∙ handed_length g.bits c.heap.shape.arenas c.heap.colours sized)
-      buffers_are still_marking looks_less entries_less in
-      omega (arith, marks, none_grouping over, none_to_group, steps_less)
+      buffers_are still_marking looks_less entries_less
+      rows_less in
+      omega (arith, marks, none_grouping over, none_to_group, steps_less, none_clearing over)
 
   pub ending_lowers : units_left (record c { heap = k; groups = rest; run = if over then None else c.run })
       (flying_after jobs flown) < units_left c flown
-  ending_lowers = let falls = ending_to_come in omega (arith, falls, arenas_less)
+  ending_lowers = let falls = ending_to_come in omega (arith, falls, arenas_less, none_starting over)

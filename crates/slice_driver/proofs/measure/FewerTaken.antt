@@ -13,16 +13,20 @@ use Rattle.heap_core.specs.Shape.{state_in, zone_in, zone_of}
 use Rattle.heap_core.specs.Heap.{HeapState, colour_in, with_flown}
 use Rattle.heap_core.specs.Sweeping.{come_in, with_taken}
 use Rattle.marker.specs.Looks.{looks_now}
+use Rattle.marker.specs.UnitsToCome.{is_black_only}
 use Rattle.slice_driver.specs.Advancing.{EndsSweeping}
 use Rattle.slice_driver.specs.Collector.{CollectorState, RunState, heap_with}
-use Rattle.slice_driver.specs.Left.{units_left}
-use Rattle.slice_driver.specs.Remaining.{arenas_left, grouping_left, steps_left}
+use Rattle.slice_driver.specs.Left.{marking_left, starting_left, units_left}
+use Rattle.slice_driver.specs.Quiet.{IsStarted}
+use Rattle.slice_driver.specs.Remaining.{arenas_left, clearing_left, grouping_left, left_of, steps_left}
 use Rattle.slice_driver.specs.Represents.{AreInStates}
-use Rattle.slice_driver.specs.Units.{IsLowestOut, IsSound, without_arena}
+use Rattle.slice_driver.specs.Units.{IsLowestOut, IsSoundMarking, without_arena}
 use Rattle.slice_driver.specs.UnitsToCome.{units_to_come}
-use Rattle.slice_driver.proofs.measure.Fewer.{arenas_same, arenas_taken, grouped, marking_kept, no_more_steps}
+use Rattle.slice_driver.proofs.measure.Fewer.{arenas_same, arenas_taken, black_only_kept, grouped, marking_kept}
+use Rattle.slice_driver.proofs.measure.Fewer.{no_more_steps}
 use Rattle.slice_driver.proofs.measure.Fewer.{steps_kept}
 use Rattle.slice_driver.proofs.measure.StatesToCome.{IsStillMarking, states_no_more}
+use Rattle.slice_driver.proofs.abstraction.Phases.{started_of}
 use Rattle.slice_driver.proofs.group_end.Ready.{collection_of, runs_of}
 use Rattle.slice_driver.proofs.taking_in.GroupingLaws.{unformed_kept}
 use Rattle.slice_driver.proofs.taking_in.Heaps.{taken_colours}
@@ -42,7 +46,8 @@ nothing_out None s e = cc s
 nothing_out (Some b) s e = cc e
 
 module _ (c : CollectorState) (flown : ℕ → Option Bits) (a freed : ℕ) (bits : Bits) (at : flown a ≡ Some bits)
-    (lowest : IsLowestOut c.heap.shape a) (running : IsSome c.run) (s : IsSound c flown) (k : HeapState) (over : Bool)
+    (lowest : IsLowestOut c.heap.shape a) (running : IsSome c.run) (s : IsSoundMarking c flown) (k : HeapState)
+    (over : Bool)
     (e : EndsSweeping (with_taken c.heap a freed bits) c.groups over k) where
   abbrev taken : HeapState
   taken = with_taken c.heap a freed bits
@@ -105,6 +110,18 @@ module _ (c : CollectorState) (flown : ℕ → Option Bits) (a freed : ℕ) (bit
   none_grouping true = refl
   none_grouping false = ap (grouping_left k.shape c.edges) the_run.1 ∙ grouped k.shape c.edges the_run.0 formed
 
+  begun : IsStarted c
+  begun = started_of c flown s.world s.represents running
+
+  -- nothing is to be cleared, nor is marking to begin
+  none_clearing : (b : Bool) → clearing_left k.shape (if b then None else c.run) ≡ 0
+  none_clearing true = refl
+  none_clearing false = ap (clearing_left k.shape) begun.1 ∙ ap (left_of k.shape begun.0.zones) begun.2
+
+  none_starting : (b : Bool) → marking_left k.shape (if b then None else c.run) ≡ 0
+  none_starting true = refl
+  none_starting false = ap (marking_left k.shape) begun.1 ∙ ap (starting_left k.shape) begun.2
+
   arenas_are : k.shape.arenas ≡ change_at (come_in freed) c.heap.shape.arenas a
   arenas_are = ap (λ (h : HeapState). h.shape.arenas) e.rest
 
@@ -122,6 +139,8 @@ module _ (c : CollectorState) (flown : ℕ → Option Bits) (a freed : ℕ) (bit
       was = sym (ap (λ z. is_marking_state (state_in c.heap.shape z)) (ap zone_in same))
           ∙ (sym (marking_same (zone_of k.shape x)) ∙ on);
       colour_is = ap (λ (cs : List Bits). colour_in (slice_get cs x.0) x.1) colours_same;
+      black_only = λ only. sym (black_only_kept taken k c.groups over e (zone_of c.heap.shape x))
+          ∙ (ap (λ z. is_black_only (state_in k.shape z)) (sym (ap zone_in same)) ∙ only);
     })
   ]
     where
@@ -151,9 +170,10 @@ module _ (c : CollectorState) (flown : ℕ → Option Bits) (a freed : ℕ) (bit
       ∙ length-change_at (come_in freed) c.heap.shape.arenas a)
       buffers_same still_marking
       (let looks = ap (λ (h : HeapState). looks_now h.looks) e.rest in omega (arith, looks))
-      (λ f. (let entries = ap (λ (h : HeapState). sum_by f h.shape.weak.entries) e.rest in omega (arith, entries))) in
-      omega (arith, marks, none_grouping over, none_to_group, steps_less)
+      (λ f. (let entries = ap (λ (h : HeapState). sum_by f h.shape.weak.entries) e.rest in omega (arith, entries)))
+      (λ f. (let rows = ap (λ (h : HeapState). sum_by f h.shape.weak.delegates.rows) e.rest in omega (arith, rows))) in
+      omega (arith, marks, none_grouping over, none_to_group, steps_less, none_clearing over)
 
   pub taking_lowers : units_left (record c { heap = k; run = if over then None else c.run }) (without_arena flown a)
       < units_left c flown
-  taking_lowers = let less = taking_to_come in omega (arith, less, arenas_less)
+  taking_lowers = let less = taking_to_come in omega (arith, less, arenas_less, none_starting over)

@@ -7,7 +7,7 @@ use Rattle.cell_bits.specs.declared.bits.Bits.{Bits}
 use Rattle.colour_defs.specs.World.{World}
 use Rattle.heap_core.specs.Shape.{Shape, is_marking_state, name_at, state_in, zone_of}
 use Rattle.slice_driver.specs.Collector.{CollectorState, heap_with}
-use Rattle.slice_driver.specs.Represents.{Represents}
+use Rattle.slice_driver.specs.Represents.{RepresentsMarking}
 use Rattle.slice_driver.specs.UnitsToCome.{is_wrapper_named}
 use Rattle.slice_driver.proofs.abstraction.Crossing.{crosses_named}
 use Rattle.slice_driver.proofs.measure.MarkingToCome.{IsGrayPile}
@@ -17,7 +17,7 @@ wrapper_named : (s : Shape) (x : Place) → (c : CompNo) × (t : ℕ) × (name_a
     → is_wrapper_named (name_at s x) ≡ true
 wrapper_named s x (c, t, is) = ap is_wrapper_named is
 
-pub gray_pile : (c : CollectorState) (flown : ℕ → Option Bits) (w : World) → Represents c flown w
+pub gray_pile : (c : CollectorState) (flown : ℕ → Option Bits) (w : World) → RepresentsMarking c flown w
     → IsGrayPile (heap_with c flown) c.stack
 gray_pile c flown w s = record {
   seen = s.coloured.marks.holds.piles.gray;

@@ -1,5 +1,5 @@
 -- Units of marking lower what is to come of it.
-use Rattle.std.proofs.Common.{◌≡◌, ◌+◌, ◌<◌, ◌≤◌, ◌&&◌, ℕ, Bool, true, false, inl, inr, refl, sym, ap, ◌∙◌, subst}
+use Rattle.std.proofs.Common.{◌≡◌, ◌⊎◌, ◌+◌, ◌<◌, ◌≤◌, ◌&&◌, ℕ, Bool, true, false, inl, inr, refl, sym, ap, ◌∙◌, subst}
 use Rattle.std.proofs.Common.{arith, List, length, sum_by, Contains, Option, None, Some, get_or}
 use Rattle.std.proofs.lemmas.List.Sums.{sum_by-le-sum_by}
 use Rattle.gz_names.specs.declared.numbers.Place.{Place}
@@ -10,14 +10,15 @@ use Rattle.weak_maps.specs.declared.colours.MarkColour.{MarkColour}
 use Rattle.weak_maps.specs.declared.colours.MarkColour.TheVariants as mark
 use Rattle.heap_core.specs.Shape.{AreWhole, IsPresent, Shape, field_at, is_marking, name_at, state_of}
 use Rattle.heap_core.specs.Heap.{HeapState}
-use Rattle.barriers.specs.Colours.{IsSeen}
+use Rattle.barriers.specs.Colours.{IsBlack, IsSeen}
+use Rattle.barriers.specs.Invariant.{MarkingInvariant}
 use Rattle.barriers.specs.Scans.{ScansNoMore, gray_scans}
-use Rattle.marker.specs.Looks.{StartsBoth, looks_now}
+use Rattle.marker.specs.Looks.{StartsLooks, looks_now}
 use Rattle.marker.specs.Units.{DoesGray, DoesLook, ScansBlack, ScansGray, TakesOne}
-use Rattle.marker.specs.UnitsToCome.{scans, units_at}
+use Rattle.marker.specs.UnitsToCome.{map_starts, scans, units_at}
 use Rattle.marker.proofs.Looking.{looked_less}
 use Rattle.marker.proofs.UnitsToCome.{black_fewer, gray_fewer, look_lowers, others_keep, scan_lowers, scans_no_more}
-use Rattle.marker.proofs.UnitsToCome.{sum_fewer, where_both, where_on}
+use Rattle.marker.proofs.UnitsToCome.{maps_fewer, maps_no_more, sum_fewer, where_both, where_on}
 use Rattle.slice_driver.specs.Commands.{Exposed}
 use Rattle.slice_driver.specs.UnitsToCome.{is_wrapper_named, marking_to_come, may_be_noted, notes, present_places}
 use Rattle.slice_driver.proofs.measure.PresentPlaces.{present_listed}
@@ -32,7 +33,8 @@ pub record IsGrayPile (h : HeapState) (p : Piles) : Type 0 where
 
 -- a step that changes no shape and lets no cell be scanned more often
 module _ (h : HeapState) (p : Piles) (a : Incoming) (k : HeapState) (q : Piles) (b : Incoming)
-    (same : k.shape ≡ h.shape) (none : ScansNoMore h p k q) where
+    (same : k.shape ≡ h.shape) (none : ScansNoMore h p k q)
+    (maps : (x : Place) → map_starts k q x ≤ map_starts h p x) where
   abbrev cells : List Place
   cells = present_places h.shape
 
@@ -70,7 +72,7 @@ module _ (h : HeapState) (p : Piles) (a : Incoming) (k : HeapState) (q : Piles) 
       → marking_to_come k q b ≤ marking_to_come h p a
   kept_no_more looks waits =
       let same_looks = ap looks_now looks in
-      let units = others_keep h p k q cells weak_same no_more (omega (arith, same_looks)) in
+      let units = others_keep h p k q cells weak_same no_more maps (omega (arith, same_looks)) in
       omega (arith, units, units_here, notes_here, notes_sum, waits)
 
   -- something that waited was taken
@@ -78,24 +80,24 @@ module _ (h : HeapState) (p : Piles) (a : Incoming) (k : HeapState) (q : Piles) 
       → marking_to_come k q b < marking_to_come h p a
   taken_falls looks fewer =
       let same_looks = ap looks_now looks in
-      let units = others_keep h p k q cells weak_same no_more (omega (arith, same_looks)) in
+      let units = others_keep h p k q cells weak_same no_more maps (omega (arith, same_looks)) in
       omega (arith, units, units_here, notes_here, notes_sum, fewer)
 
   -- an entry was looked at
   pub look_falls : looks_now k.looks < looks_now h.looks → waits_after ≤ waits_before
       → marking_to_come k q b < marking_to_come h p a
   look_falls fewer waits =
-      let units = look_lowers h p k q cells weak_same no_more fewer in
+      let units = look_lowers h p k q cells weak_same no_more maps fewer in
       omega (arith, units, units_here, notes_here, notes_sum, waits)
 
   -- a present cell was scanned and its entries started, and what is noted and waits is no more than before
   scan_falls : AreWhole h.shape.arenas → (c : MarkColour) (x : Place) → IsPresent h.shape x
-      → scans k q x < scans h p x → StartsBoth c x h k
+      → scans k q x < scans h p x → map_starts k q x < map_starts h p x → StartsLooks c x h k
       → sum_by (notes k q) cells + waits_after ≤ sum_by (notes h p) cells + waits_before
       → marking_to_come k q b < marking_to_come h p a
-  scan_falls whole c x present fewer starts waits =
+  scan_falls whole c x present fewer fewer_maps starts waits =
       let listed = present_listed h.shape whole x present in
-      let units = scan_lowers h p k q cells weak_same no_more c x listed fewer starts in
+      let units = scan_lowers h p k q cells weak_same no_more maps c x listed fewer fewer_maps starts in
       omega (arith, units, units_here, notes_here, waits)
 
   notes_fewer : AreWhole h.shape.arenas → (x : Place) → IsPresent h.shape x → may_be_noted h.shape x ≡ true
@@ -111,12 +113,14 @@ module _ (h : HeapState) (p : Piles) (a : Incoming) (k : HeapState) (q : Piles) 
 
   -- a cell of the gray pile was scanned
   pub gray_falls : AreWhole h.shape.arenas → ((x : Place) → IsSeen h x → IsPresent h.shape x) → IsGrayPile h p
-      → ScansGray h p a k q b → marking_to_come k q b < marking_to_come h p a
-  gray_falls whole seen gray taken =
+      → ((y : Place) → IsBlack k y → IsBlack h y) → ScansGray h p a k q b
+      → marking_to_come k q b < marking_to_come h p a
+  gray_falls whole seen gray still taken =
       let x = taken.cell in
       let present = seen x (gray.seen x taken.piled) in
       let on = gray.marking x taken.piled in
-      scan_falls whole mark.Gray x present (gray_fewer h p k q same none x on taken.fewer) taken.starts
+      let fewer = gray_fewer h p k q same none x on taken.fewer in
+      scan_falls whole mark.Gray x present fewer (maps_fewer h p k q same x fewer (still x)) taken.starts
       (waits (is_wrapper_named (name_at h.shape x)) refl present on)
     where
       buffers_sum : sum_by length k.buffers ≡ sum_by length h.buffers
@@ -138,50 +142,73 @@ module _ (h : HeapState) (p : Piles) (a : Incoming) (k : HeapState) (q : Piles) 
 -- a piece of gray marking was done
 pub does_gray_falls : (h : HeapState) (p : Piles) (a : Incoming) (k : HeapState) (q : Piles) (b : Incoming)
     → AreWhole h.shape.arenas → ((x : Place) → IsSeen h x → IsPresent h.shape x) → IsGrayPile h p
-    → DoesGray h p a k q b → marking_to_come k q b < marking_to_come h p a
-does_gray_falls h p a k q b whole seen gray does = go does.takes
+    → MarkingInvariant h p → DoesGray h p a k q b → marking_to_come k q b < marking_to_come h p a
+does_gray_falls h p a k q b whole seen gray inv does = go does.takes
   where
     same : k.shape ≡ h.shape
     same = ap (λ (z : HeapState). z.shape) does.marks.rest
 
+    maps : (x : Place) → map_starts k q x ≤ map_starts h p x
+    maps = maps_no_more h p k q same does.scans inv.holds.colours.no_gray inv.once does.gray_pile
+
     go : TakesOne h p a k q b → marking_to_come k q b < marking_to_come h p a
-    go (inl buffered) = taken_falls h p a k q b same does.scans buffered.2
+    go (inl buffered) = taken_falls h p a k q b same does.scans maps buffered.2
         (omega (arith, buffered.0, ap waiting_count buffered.1))
-    go (inr (inl incoming)) = taken_falls h p a k q b same does.scans incoming.2
+    go (inr (inl incoming)) = taken_falls h p a k q b same does.scans maps incoming.2
         (omega (arith, incoming.0, ap (λ (bs : List (List Place)). sum_by length bs) incoming.1))
-    go (inr (inr taken)) = gray_falls h p a k q b same does.scans whole seen gray taken
+    go (inr (inr taken)) = gray_falls h p a k q b same does.scans maps whole seen gray (λ y. (does.black_is y).0)
+        taken
+
+-- the gray pile has the cells that it had
+pile_same : (h : HeapState) (p q : Piles) → q.gray ≡ p.gray → (x : Place) → Contains q.gray x
+    → Contains p.gray x ⊎ (state_of h.shape x ≡ state.MarkBlackAndGray)
+pile_same h p q same x has = inl (subst (λ (xs : List Place). Contains xs x) same has)
 
 -- a cell of the black pile was scanned
 pub black_falls : (h : HeapState) (p : Piles) (lists : Incoming) (k : HeapState) (q : Piles) → k.shape ≡ h.shape
     → k.buffers ≡ h.buffers → AreWhole h.shape.arenas → ((x : Place) → IsSeen h x → IsPresent h.shape x)
-    → ScansBlack h p k q → marking_to_come k q lists < marking_to_come h p lists
-black_falls h p lists k q same buffers whole seen scanned =
+    → MarkingInvariant h p → q.gray ≡ p.gray → ScansBlack h p k q
+    → marking_to_come k q lists < marking_to_come h p lists
+black_falls h p lists k q same buffers whole seen inv gray scanned =
     let none = scanned.no_more in
     let sums : sum_by length k.buffers ≡ sum_by length h.buffers =
     ap (λ (bs : List (List Place)). sum_by length bs) buffers in
-    let notes_less = notes_sum h p lists k q lists same none in
-    scan_falls h p lists k q lists same none whole mark.Black scanned.cell (seen scanned.cell (inr scanned.black))
-    (black_fewer h p k q same none scanned.cell scanned.zone scanned.fewer) scanned.starts
+    let maps = maps_no_more h p k q same none inv.holds.colours.no_gray inv.once (pile_same h p q gray) in
+    let notes_less = notes_sum h p lists k q lists same none maps in
+    let fewer = black_fewer h p k q same none scanned.cell scanned.zone scanned.fewer in
+    scan_falls h p lists k q lists same none maps whole mark.Black scanned.cell (seen scanned.cell (inr scanned.black))
+    fewer (maps_fewer h p k q same scanned.cell fewer (λ b. scanned.black)) scanned.starts
     (omega (arith, sums, notes_less))
 
 -- an entry was looked at
 pub looks_fall : (c : MarkColour) (h : HeapState) (p : Piles) (lists : Incoming) (k : HeapState) (q : Piles)
-    → DoesLook c h p k q → marking_to_come k q lists < marking_to_come h p lists
-looks_fall c h p lists k q does =
-    let one = looked_less c (does.map, does.key, does.value) h.shape.weak.entries h.looks k.looks does.looked in
+    → MarkingInvariant h p → DoesLook c h p k q → marking_to_come k q lists < marking_to_come h p lists
+looks_fall c h p lists k q inv does =
+    let same : k.shape ≡ h.shape = ap (λ (z : HeapState). z.shape) does.rest in
+    let maps = maps_no_more h p k q same does.scans inv.holds.colours.no_gray inv.once does.gray_pile in
+    let one = looked_less c does.entry h.shape.weak h.looks k.looks does.looked in
     let sums = ap (λ (z : HeapState). sum_by length z.buffers) does.rest in
-    look_falls h p lists k q lists (ap (λ (z : HeapState). z.shape) does.rest) does.scans (omega (arith, one))
+    look_falls h p lists k q lists same does.scans maps (omega (arith, one))
     (omega (arith, sums))
 
--- a barrier exposed a cell, if there was one to expose
+-- a barrier exposed a cell, if there was one to expose: nothing came on the gray pile
+pub exposed_gray : (o : Option Place) (h : HeapState) (p : Piles) (k : HeapState) (q : Piles) → Exposed o h p k q
+    → q.gray ≡ p.gray
+exposed_gray None h p k q still = ap (λ (x : Piles). x.gray) still.1
+exposed_gray (Some x) h p k q exposes = exposes.spreads.gray_is
+
+-- and no more is to come
 pub exposed_no_more : (o : Option Place) (h : HeapState) (p : Piles) (lists : Incoming) (k : HeapState) (q : Piles)
-    → Exposed o h p k q → marking_to_come k q lists ≤ marking_to_come h p lists
-exposed_no_more None h p lists k q still =
+    → MarkingInvariant h p → Exposed o h p k q → marking_to_come k q lists ≤ marking_to_come h p lists
+exposed_no_more None h p lists k q inv still =
     subst (λ (z : HeapState). marking_to_come z q lists ≤ marking_to_come h p lists) (sym still.0)
     (subst (λ (z : Piles). marking_to_come h z lists ≤ marking_to_come h p lists) (sym still.1) (omega arith))
-exposed_no_more (Some x) h p lists k q exposes =
+exposed_no_more (Some x) h p lists k q inv exposes =
     let rest = exposes.spreads.blackens.rest in
     let sums : sum_by length k.buffers ≡ sum_by length h.buffers =
     ap (λ (z : HeapState). sum_by length z.buffers) rest in
-    kept_no_more h p lists k q lists (ap (λ (z : HeapState). z.shape) rest) exposes.spreads.scans
+    let same : k.shape ≡ h.shape = ap (λ (z : HeapState). z.shape) rest in
+    let maps = maps_no_more h p k q same exposes.spreads.scans inv.holds.colours.no_gray inv.once
+    (pile_same h p q exposes.spreads.gray_is) in
+    kept_no_more h p lists k q lists same exposes.spreads.scans maps
     (ap (λ (z : HeapState). z.looks) rest) (omega (arith, sums))

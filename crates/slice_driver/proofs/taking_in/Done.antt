@@ -7,18 +7,13 @@ use Rattle.gz_names.specs.declared.numbers.Place.{Place}
 use Rattle.cell_bits.specs.declared.bits.Bits.{Bits}
 use Rattle.zones.specs.declared.states.State.TheVariants as state
 use Rattle.mark_stack.specs.Stack.{Piles}
-use Rattle.gray_lists.specs.Incoming.{Incoming, list_of as waiting_for}
 use Rattle.colour_defs.specs.World.{World, Collection, IsSettled}
 use Rattle.colour_defs.specs.Lawful.{Finishes}
 use Rattle.colour_defs.proofs.Lists.{contains_head, nothing_in_none}
-use Rattle.heap_core.specs.Shape.{ArenaShape, Shape, is_marking_state, out_of, state_in, zone_of}
+use Rattle.heap_core.specs.Shape.{ArenaShape, is_marking_state, out_of, state_in, zone_of}
 use Rattle.heap_core.specs.Heap.{HeapState, with_flown}
-use Rattle.barriers.specs.Invariant.{MarkingInvariant}
-use Rattle.barriers.specs.PendingLive.{GrayInvariant, buffer_of}
 use Rattle.slice_driver.specs.Collector.{CollectorState, RunState, heap_with}
-use Rattle.slice_driver.specs.Worlds.{LiesIn}
-use Rattle.weak_maps.specs.WeakMaps.{LooksState}
-use Rattle.slice_driver.specs.Represents.{IsIdle, IsInGroups, NothingLeft, Represents, Runs, RunsAs}
+use Rattle.slice_driver.specs.Represents.{IsIdle, IsInGroups, RepresentsMarking, Runs, RunsAs}
 use Rattle.slice_driver.specs.Represents.{IsColoured}
 use Rattle.slice_driver.specs.Sweeping.{FinishesIn, IsAllDone}
 use Rattle.slice_driver.proofs.group_end.Cells.{none_out_listed}
@@ -28,7 +23,7 @@ use Rattle.slice_driver.proofs.basics.Marks.{HasSameMarks, black_back, black_on,
 use Rattle.slice_driver.proofs.basics.Worlds.{placed_running, placed_same, swept_same}
 use Rattle.slice_driver.proofs.taking_in.Runs.{has_zone_or_not}
 
-module _ (c d : CollectorState) (flown : ℕ → Option Bits) (w : World) (k : Collection) (s : Represents c flown w)
+module _ (c d : CollectorState) (flown : ℕ → Option Bits) (w : World) (k : Collection) (s : RepresentsMarking c flown w)
     (o : IsAllDone c) (f : FinishesIn c d) (at : w.collection ≡ Some k) where
   runs : Runs (heap_with c flown) c w o.run k
   runs = runs_of c (heap_with c flown) w o.run k o.running at s.phase.runs
@@ -95,6 +90,7 @@ module _ (c d : CollectorState) (flown : ℕ → Option Bits) (w : World) (k : C
     looks = ap (λ (z : HeapState). z.looks) f.heap_is;
     marking = λ z. ap is_marking_state (f.states z) ∙ sym (not_marking z);
     black_only = λ z only. absurd (cc (only, f.states z));
+    begun = λ m q v e has is black_map was takes. absurd (cc (takes, f.states (zone_of d.heap.shape q)));
     kept = λ p m. absurd (cc (m, ap is_marking_state (f.states (zone_of d.heap.shape p))));
   }
 
@@ -143,7 +139,7 @@ module _ (c d : CollectorState) (flown : ℕ → Option Bits) (w : World) (k : C
     world_is = refl;
   }
 
-  pub represents_done : Represents d flown (record w { collection = None })
+  pub represents_done : RepresentsMarking d flown (record w { collection = None })
   represents_done = record {
     placed = placed_running d.heap w None w.preparing (placed_same c.heap d.heap w same_cells arenas_same
         (ap (λ (h : HeapState). h.delayed) f.heap_is) s.placed);

@@ -38,6 +38,7 @@ sweep_ends h k word are goes z = go (state_in h.shape z) refl
   where
     go : (t : State) → state_in h.shape z ≡ t → state_in k.shape z ≡ after_sweep t
     go state.NoGC e = stayed h k state.Sweep word are goes (λ q. cc q) z state.NoGC e (λ q. cc q)
+    go state.Prepare e = stayed h k state.Sweep word are goes (λ q. cc q) z state.Prepare e (λ q. cc q)
     go state.MarkBlackOnly e = stayed h k state.Sweep word are goes (λ q. cc q) z state.MarkBlackOnly e (λ q. cc q)
     go state.MarkBlackAndGray e = stayed h k state.Sweep word are goes (λ q. cc q) z state.MarkBlackAndGray e
         (λ q. cc q)
@@ -54,6 +55,8 @@ all_ends h k m word swept are goes z = go (state_in h.shape z) refl
 
     go : (t : State) → state_in h.shape z ≡ t → state_in m.shape z ≡ after_end t
     go state.NoGC e = stayed k m state.Finished word are goes (λ q. cc q) z state.NoGC (was state.NoGC e) (λ q. cc q)
+    go state.Prepare e = stayed k m state.Finished word are goes (λ q. cc q) z state.Prepare (was state.Prepare e)
+        (λ q. cc q)
     go state.MarkBlackOnly e = stayed k m state.Finished word are goes (λ q. cc q) z state.MarkBlackOnly
         (was state.MarkBlackOnly e) (λ q. cc q)
     go state.MarkBlackAndGray e = stayed k m state.Finished word are goes (λ q. cc q) z state.MarkBlackAndGray

@@ -20,9 +20,10 @@ use Rattle.slice_driver.specs.Advancing.{EndsSweeping}
 use Rattle.slice_driver.specs.Collector.{CollectorState, heap_with}
 use Rattle.slice_driver.specs.GroupEnd.{AreJustFlown, EndsIn, EndsZones, IsEnded, IsGrayHere, IsReady}
 use Rattle.slice_driver.specs.HandingOut.{HandsOut}
-use Rattle.slice_driver.specs.Represents.{AreInStates, Represents}
+use Rattle.slice_driver.specs.Represents.{AreInStates, Represents, RepresentsMarking}
 use Rattle.slice_driver.specs.Sweeping.{after_sweep}
 use Rattle.slice_driver.specs.Units.{AreJobs, DoesUnit, flown_by, flying_after, reports_of}
+use Rattle.slice_driver.proofs.abstraction.Phases.{marking_of, none_formed}
 use Rattle.slice_driver.proofs.group_end.Cells.{some_out}
 use Rattle.slice_driver.proofs.group_end.Laws.{group_ends, jobs_flown}
 use Rattle.slice_driver.proofs.group_end.Ready.{collection_of, no_some, runs_of}
@@ -32,6 +33,7 @@ use Rattle.slice_driver.proofs.taking_in.TakingIn.{after_both, all_swept, ends_a
 
 not_swept : (t : State) → t ≢ state.Sweep → after_sweep t ≡ t
 not_swept state.NoGC n = refl
+not_swept state.Prepare n = refl
 not_swept state.MarkBlackOnly n = refl
 not_swept state.MarkBlackAndGray n = refl
 not_swept state.Sweep n = absurd (n refl)
@@ -104,21 +106,25 @@ module _ (c : CollectorState) (g : ZoneSet) (rest : List ZoneSet) (ready : IsRea
 
   module _ (grays : List Name) (listed : Lists (IsGrayHere c.heap g) grays) (k : HeapState) (flown : ℕ → Option Bits)
     where
-      none_flown : (w : World) → Represents c flown w → (a : ℕ) → flown a ≡ None
+      marking : (w : World) → Represents c flown w → RepresentsMarking c flown w
+      marking w r = marking_of c flown w (none_formed c flown w (ready.run, ready.running, ready.formed)) r
+
+      none_flown : (w : World) → RepresentsMarking c flown w → (a : ℕ) → flown a ≡ None
       none_flown w s a = no_some (flown a) (s.swept.flies.covers a ∙ ap is_some (ready.kept a))
 
-      sized_in : (w : World) → Represents c flown w → length c.heap.colours ≡ length c.heap.shape.arenas
+      sized_in : (w : World) → RepresentsMarking c flown w → length c.heap.colours ≡ length c.heap.shape.arenas
       sized_in w s = sym (Rattle.barriers.proofs.Flying.flown_length flown 0 c.heap.colours)
           ∙ s.coloured.marks.holds.colours.sized
 
-      states_in : (w : World) → Represents c flown w → AreInStates c ready.run
+      states_in : (w : World) → RepresentsMarking c flown w → AreInStates c ready.run
       states_in w s = let kind = collection_of c (heap_with c flown) w ready.run ready.running s.phase.runs in
           (runs_of c (heap_with c flown) w ready.run kind.0 ready.running kind.1 s.phase.runs).states
 
       ends_on : EndsSweeping m rest false k
           → DoesUnit c flown (report.Ended g grays [] ∷ []) (record c { heap = k; groups = rest })
           (flying_after jobs flown)
-      ends_on e w ok s =
+      ends_on e w ok r =
+          let s = marking w r in
           let has : HasStates k = record {
             rest_is = e.rest;
             sized = e.sized;
@@ -129,12 +135,13 @@ module _ (c : CollectorState) (g : ZoneSet) (rest : List ZoneSet) (ready : IsRea
           end_unit c (record c { heap = k; groups = rest }) flown (flying_after jobs flown) g rest grays ready
           (ends_in k has no_sweep) (just_flown k has no_sweep flown (none_flown w s) (sized_in w s)) listed
           (λ done. (e.swept (λ b. sym (out_same k has no_sweep b) ∙ done.kept b) refl).0 done.none_left)
-          w ok s
+          w ok r
 
       ends_last : EndsSweeping m rest true k
           → DoesUnit c flown (report.Ended g grays [] ∷ report.Done ∷ [])
           (record c { heap = k; groups = rest; run = None }) (flying_after jobs flown)
-      ends_last e w ok s =
+      ends_last e w ok r =
+          let s = marking w r in
           let over = e.ended refl in
           let n : HeapState = all_swept m in
           let has : HasStates n = record {
@@ -177,7 +184,7 @@ module _ (c : CollectorState) (g : ZoneSet) (rest : List ZoneSet) (ready : IsRea
             lists_is = refl;
             run_is = refl;
           })
-          w ok s
+          w ok r
 
       pub ends_group : (over : Bool) → EndsSweeping m rest over k
           → DoesUnit c flown (reports_of (Some (report.Ended g grays [])) over)

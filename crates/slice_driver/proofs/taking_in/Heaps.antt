@@ -16,7 +16,7 @@ use Rattle.heap_core.specs.Shape.{present_in, state_in, stored_in, zone_in, zone
 use Rattle.heap_core.specs.Heap.{HeapState, flown_or, with_flown}
 use Rattle.heap_core.specs.Sweeping.{come_in}
 use Rattle.slice_driver.specs.Collector.{CollectorState, heap_with}
-use Rattle.slice_driver.specs.Represents.{Represents}
+use Rattle.slice_driver.specs.Represents.{RepresentsMarking}
 use Rattle.slice_driver.specs.Sweeping.{TakesIn, after_sweep}
 use Rattle.slice_driver.specs.Units.{without_arena}
 use Rattle.slice_driver.specs.Worlds.{IsInFlight, IsUnswept, outs_from, owners_of}
@@ -83,6 +83,7 @@ owners_after f zone (suc a) (x ∷ arenas) = ap (λ l. Some x.zone ∷ l) (owner
 
 pub marking_after_sweep : (t : State) → is_marking_state (after_sweep t) ≡ is_marking_state t
 marking_after_sweep state.NoGC = refl
+marking_after_sweep state.Prepare = refl
 marking_after_sweep state.MarkBlackOnly = refl
 marking_after_sweep state.MarkBlackAndGray = refl
 marking_after_sweep state.Sweep = refl
@@ -90,6 +91,7 @@ marking_after_sweep state.Finished = refl
 
 pub sweep_is : (s t : State) → after_sweep s ≡ t → t ≢ state.Finished → s ≡ t
 sweep_is state.NoGC t e n = e
+sweep_is state.Prepare t e n = e
 sweep_is state.MarkBlackOnly t e n = e
 sweep_is state.MarkBlackAndGray t e n = e
 sweep_is state.Sweep t e n = absurd (n (sym e))
@@ -97,13 +99,14 @@ sweep_is state.Finished t e n = e
 
 pub no_sweep_after : (s : State) → after_sweep s ≡ state.Sweep → ⊥
 no_sweep_after state.NoGC e = cc e
+no_sweep_after state.Prepare e = cc e
 no_sweep_after state.MarkBlackOnly e = cc e
 no_sweep_after state.MarkBlackAndGray e = cc e
 no_sweep_after state.Sweep e = cc e
 no_sweep_after state.Finished e = cc e
 
 module _ (c : CollectorState) (flown : ℕ → Option Bits) (w : World) (a freed : ℕ) (bits : Bits) (d : CollectorState)
-    (s : Represents c flown w) (t : TakesIn c flown a freed bits d) where
+    (s : RepresentsMarking c flown w) (t : TakesIn c flown a freed bits d) where
   pub arenas_are : d.heap.shape.arenas ≡ change_at (come_in freed) c.heap.shape.arenas a
   arenas_are = ap (λ (z : HeapState). z.shape.arenas) t.heap_is
 
@@ -292,6 +295,9 @@ module _ (c : CollectorState) (flown : ℕ → Option Bits) (w : World) (a freed
     looks = ap (λ (z : HeapState). z.looks) t.heap_is;
     marking = marking_same;
     black_only = λ z only. state_back z state.MarkBlackOnly only (λ e. cc e);
+    begun = λ m q v e has is black_map was takes.
+        absurd (let then = state_back (zone_of d.heap.shape q) state.MarkBlackAndGray
+        takes (λ e. cc e) in let zone = zones_same q in cc (was, then, zone));
     kept = λ p m. kept_on p.0
         (s.coloured.marks.holds.colours.shape.kept p
         (ap (λ z. is_marking_state (state_in c.heap.shape z)) (sym (zones_same p))

@@ -11,30 +11,26 @@ use Rattle.gz_names.specs.declared.numbers.Place.{Place}
 use Rattle.gz_names.specs.declared.zone_sets.ZoneSet.{ZoneSet}
 use Rattle.cell_bits.specs.declared.bits.Bits.{Bits}
 use Rattle.zones.specs.declared.states.State.TheVariants as state
-use Rattle.mark_stack.specs.Stack.{Piles}
-use Rattle.gray_lists.specs.Incoming.{Incoming, list_of as waiting_for}
 use Rattle.arena_table.specs.Slots.{at_bits, cell_in, names_of}
 use Rattle.colour_defs.specs.World.{World, Collection, marking_of}
 use Rattle.colour_defs.specs.Ends.{Lists}
 use Rattle.colour_defs.specs.Lawful.{IsLawfulSweep, with_sweep}
-use Rattle.heap_core.specs.Shape.{ArenaShape, Shape, name_at, out_of, state_in}
+use Rattle.heap_core.specs.Shape.{ArenaShape, name_at, out_of, state_in}
 use Rattle.heap_core.specs.Shape.{stored_in, zone_of}
 use Rattle.heap_core.specs.Heap.{HeapState}
-use Rattle.barriers.specs.Invariant.{MarkingInvariant}
-use Rattle.barriers.specs.PendingLive.{GrayInvariant, buffer_of}
 use Rattle.slice_driver.specs.Collector.{CollectorState, RunState, heap_with}
 use Rattle.slice_driver.specs.Closures.{AreTied}
 use Rattle.slice_driver.specs.Worlds.{IsUnswept, LiesIn, outs_from}
-use Rattle.slice_driver.specs.Represents.{AreInStates, IsCurrent, IsInGroups, Represents, Runs, RunsAs}
-use Rattle.weak_maps.specs.WeakMaps.{LooksState}
+use Rattle.slice_driver.specs.Represents.{AreInStates, IsCurrent, IsInGroups, RepresentsMarking, Runs, RunsAs}
 use Rattle.slice_driver.specs.Sweeping.{AreFreed, TakesIn, after_sweep}
 use Rattle.slice_driver.specs.Units.{without_arena}
 use Rattle.slice_driver.proofs.abstraction.Named.{some_one}
 use Rattle.slice_driver.proofs.group_end.Ready.{runs_of}
 use Rattle.slice_driver.proofs.group_end.Wrappers.{filter_has, has_filter}
-use Rattle.slice_driver.proofs.basics.Cells.{edge_back, name_same, shows_same}
+use Rattle.slice_driver.proofs.basics.Cells.{name_same, shows_same}
 use Rattle.slice_driver.proofs.basics.Marks.{black_back, black_on, coloured_as, coloured_kept, live_back, live_on}
 use Rattle.slice_driver.proofs.basics.Marks.{pending_back, pending_on}
+use Rattle.slice_driver.proofs.basics.Rows.{rows_in}
 use Rattle.slice_driver.proofs.taking_in.Heaps.{flies_after, marking_same, no_sweep_after}
 use Rattle.slice_driver.proofs.taking_in.Heaps.{outs_are, owners_same, same_cells, same_marks, state_on}
 use Rattle.slice_driver.proofs.taking_in.Heaps.{states_are, unswept_back, unswept_on, was_out, whole_after, zones_same}
@@ -72,7 +68,7 @@ is_elsewhere_where a e ne = go (e.1.0 == a) refl
     go false f = ap not f
 
 module _ (c : CollectorState) (flown : ℕ → Option Bits) (w : World) (k : Collection) (a freed : ℕ) (bits : Bits)
-    (d : CollectorState) (s : Represents c flown w) (t : TakesIn c flown a freed bits d) (r : RunState)
+    (d : CollectorState) (s : RepresentsMarking c flown w) (t : TakesIn c flown a freed bits d) (r : RunState)
     (running : c.run ≡ Some r) (at : w.collection ≡ Some k) where
   abbrev flying : ℕ → Option Bits
   flying = without_arena flown a
@@ -277,6 +273,7 @@ module _ (c : CollectorState) (flown : ℕ → Option Bits) (w : World) (k : Col
 
   runs_after : Runs (heap_with d flying) d after r (swept_collection k)
   runs_after = record {
+    started = runs.started;
     zones_are = runs.zones_are;
     marking_are = λ z. (
       (λ m. marking_same c flown w a freed bits d s t z ∙ (runs.marking_are z).0 m),
@@ -293,9 +290,15 @@ module _ (c : CollectorState) (flown : ℕ → Option Bits) (w : World) (k : Col
       → state_in d.heap.shape z ≡ state.MarkBlackAndGray
   takes_on z was = state_on c flown w a freed bits d s t z state.MarkBlackAndGray was refl
 
-  pub represents_after : Represents d (without_arena flown a) (swept_world w a (outs_from 0 d.heap.shape.arenas) k)
+  pub represents_after : RepresentsMarking d (without_arena flown a)
+      (swept_world w a (outs_from 0 d.heap.shape.arenas) k)
   represents_after = record {
-    placed = record { delayed = ap (λ (h : HeapState). h.delayed) t.heap_is ∙ s.placed.delayed; lies = lies_after };
+    placed = record {
+      delayed = ap (λ (h : HeapState). h.delayed) t.heap_is ∙ s.placed.delayed;
+      lies = lies_after;
+      homes = rows_in c.heap d.heap (same_cells c flown w a freed bits d s t)
+          (same_marks c flown w a freed bits d s t).arenas s.placed.homes;
+    };
     swept = record {
       apart = λ x p q u v. s.swept.apart x p q (unswept_back c flown w a freed bits d s t p x u).0
           (unswept_back c flown w a freed bits d s t q x v).0;

@@ -16,6 +16,8 @@ use Rattle.slice_driver.specs.Left.{units_left}
 use Rattle.slice_driver.specs.Units.{AreAscendingJobs, AreJobsOf, DoesUnit, HandsJobs, IsFreedWord, IsLowestOut}
 use Rattle.slice_driver.specs.Units.{IsSound, KeepsFreedWords, without_arena}
 use Rattle.slice_driver.specs.UnitsToCome.{units_to_come}
+use Rattle.slice_driver.specs.Worlds.{IsInFlight}
+use Rattle.slice_driver.proofs.abstraction.Phases.{swept_of}
 
 no_out : {X : Type 0} (o : Option X) → is_some o ≡ true → o ≡ None → ⊥
 no_out o some none = cc (some, none)
@@ -23,7 +25,7 @@ no_out o some none = cc (some, none)
 -- while an arena is due, some arena is out
 pub due_flies : (d : CollectorState) (f : ℕ → Option Bits) (a : ℕ) → IsSound d f → IsLowestOut d.heap.shape a
     → ((b : ℕ) → f b ≡ None) → ⊥
-due_flies d f a s low none = no_out (f a) (s.represents.swept.flies.covers a ∙ low.out) (none a)
+due_flies d f a s low none = no_out (f a) ((swept_of d f s.world s.represents).flies.covers a ∙ low.out) (none a)
 
 pub some_left : (b : Bool) (outs : List (ℕ × ℕ)) → IsTrue b ↔ (outs ≡ []) → b ≡ false → outs ≢ []
 some_left b outs h e none = let t : b ≡ true = h.1 none in cc (t, e)
@@ -31,13 +33,16 @@ some_left b outs h e none = let t : b ≡ true = h.1 none in cc (t, e)
 module _ (d : CollectorState) (f g : ℕ → Option Bits) (outs rest : List (ℕ × ℕ)) (a : ℕ) (taken : Taken)
     (s : IsSound d f) (low : IsLowestOut d.heap.shape a) (are : AreOut d.heap.shape outs)
     (takes : TakesLowest outs rest f g taken) where
+  flies : IsInFlight d.heap.shape f
+  flies = (swept_of d f s.world s.represents).flies
+
   -- the arena that the flight takes is the one that is due
   arena_is : takes.arena ≡ a
   arena_is =
-      let at_most : takes.arena ≤ a = takes.lowest a (s.represents.swept.flies.covers a ∙ low.out) in
+      let at_most : takes.arena ≤ a = takes.lowest a (flies.covers a ∙ low.out) in
       elim (cases_lt takes.arena a) [
         | inl less ↦ absurd (no_out (out_of d.heap.shape takes.arena)
-            (sym (s.represents.swept.flies.covers takes.arena) ∙ ap is_some takes.bits) (low.lowest takes.arena less))
+            (sym (flies.covers takes.arena) ∙ ap is_some takes.bits) (low.lowest takes.arena less))
         | inr from ↦ omega (arith, at_most, from)
       ]
 

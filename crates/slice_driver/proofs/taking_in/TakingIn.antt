@@ -17,6 +17,7 @@ use Rattle.slice_driver.specs.Collector.{CollectorState, RunState, heap_with}
 use Rattle.slice_driver.specs.Represents.{AreInStates, IsInGroups}
 use Rattle.slice_driver.specs.Sweeping.{AreFreed, FitsWords, TakesIn, after_sweep}
 use Rattle.slice_driver.specs.Units.{DoesUnit, IsFreedWord, IsLowestOut, reports_of, without_arena}
+use Rattle.slice_driver.proofs.abstraction.Phases.{marking_of, none_out}
 use Rattle.slice_driver.proofs.group_end.Ready.{collection_of, runs_of}
 use Rattle.slice_driver.proofs.taking_in.GroupingLaws.{unformed_kept}
 use Rattle.slice_driver.proofs.taking_in.Laws.{sweep_last_unit, sweep_unit}
@@ -63,6 +64,7 @@ formed_of false n = absurd (n refl)
 
 pub after_both : (t : State) → after_end (after_sweep t) ≡ after_end t
 after_both state.NoGC = refl
+after_both state.Prepare = refl
 after_both state.MarkBlackOnly = refl
 after_both state.MarkBlackAndGray = refl
 after_both state.Sweep = refl
@@ -124,7 +126,8 @@ module _ (c : CollectorState) (flown : ℕ → Option Bits) (a freed : ℕ) (bit
   pub sweeps_last : EndsSweeping taken c.groups true k
       → DoesUnit c flown (report.Swept a names ∷ report.Done ∷ []) (record c { heap = k; run = None })
       (without_arena flown a)
-  sweeps_last e w ok s =
+  sweeps_last e w ok r =
+      let s = marking_of c flown w (none_out c flown w a taking.lowest.out) r in
       let over = e.ended refl in
       let run = run_there c.run taking.running in
       let is_formed : run.0.formed ≡ true =
@@ -147,7 +150,7 @@ module _ (c : CollectorState) (flown : ℕ → Option Bits) (a freed : ℕ) (bit
         lists_is = refl;
         run_is = refl;
       })
-      w ok s
+      w ok r
 
   pub takes_unit : (over : Bool) → EndsSweeping taken c.groups over k
       → DoesUnit c flown (reports_of (Some (report.Swept a names)) over)

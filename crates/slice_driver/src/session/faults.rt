@@ -31,7 +31,6 @@ impl Display for BeginFault {
         match self {
             BeginFault::Running => f.write_str(refusal_words(Refusal::Running)),
             BeginFault::NoZone => f.write_str(refusal_words(Refusal::NoZone)),
-            BeginFault::NoMemory => f.write_str("out of memory"),
         }
     }
 }
@@ -46,7 +45,6 @@ pub fn refusal_words(why: Refusal) -> &'static str {
         Refusal::Kind => "a cell is of another kind",
         Refusal::NoField => "the object has no such field",
         Refusal::Cross => "two cells are of different compartments",
-        Refusal::WrapperKey => "the key is a wrapper",
         Refusal::Running => "a collection runs",
         Refusal::Idle => "no collection runs",
         Refusal::Marking => "a zone is marking",

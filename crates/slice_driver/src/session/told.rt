@@ -30,12 +30,16 @@ pub enum SessionReply {
 /// What a step reports. The session lists what belongs to it, until the next report.
 #[derive(Clone, Copy, Debug, PartialEq, Eq)]
 pub enum SessionReport {
+    /// The zones are prepared, and marking begins with the heap as it is.
+    Started,
     /// The groups were formed. `Session::groups` lists them.
     Groups,
     /// The group of these zones ended. `Session::names` lists its gray cells.
     Ended(ZoneSet),
     /// The arena with this number was taken in. `Session::names` lists what was freed from it.
     Swept(u32),
+    /// The collection was given up, of which these zones were being prepared or marked.
+    Stopped(ZoneSet),
 }
 
 /// What a step of a collection did.
@@ -95,12 +99,14 @@ pub(super) fn report_of(report: &Option<Report>) -> Option<SessionReport>
         Some(Report::Groups(_)) => Some(SessionReport::Groups),
         Some(Report::Ended(zones, _, _)) => Some(SessionReport::Ended(*zones)),
         Some(Report::Swept(arena, _)) => Some(SessionReport::Swept(*arena)),
-        Some(Report::Started | Report::Done | Report::Stopped(_)) | None => None,
+        Some(Report::Started) => Some(SessionReport::Started),
+        Some(Report::Stopped(zones)) => Some(SessionReport::Stopped(*zones)),
+        Some(Report::Done) | None => None,
     }
 }
 
 // A step, where this is the last report.
-fn step_of(step: &Step, report: &Option<Report>) -> SessionStep
+pub(super) fn step_of(step: &Step, report: &Option<Report>) -> SessionStep
     ensures { result ≡ session_step step.now report.now }
 {
     let said = if step.reported {

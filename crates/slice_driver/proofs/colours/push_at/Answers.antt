@@ -25,7 +25,8 @@ loop-left-preserved c =
         | in-Some+in_ok-push w ↦ ap (λ z. z.items) w.names-is
             ∙ gray_more c.args.heap.now c.args.arena c.args.slots c.requires.gray c.loop-left.names.items _
             c.args.names.now.items c.loop-left.left l.0 w.name.result l.1 some c.loop-left.auto.left-fits.fits l.2
-            (ap (name_at c.args.heap.now.shape) (sym w.in-Some.ensures.1) ∙ w.name.ensures) w.in_ok-push.ensures.items
+            (ap (name_at c.args.heap.now.shape) (sym w.in-Some.ensures.1) ∙ w.name.ensures.value)
+            w.in_ok-push.ensures.items
         | in_default w ↦ absurd (w.in_default.ensures s.below)
       ],
     )

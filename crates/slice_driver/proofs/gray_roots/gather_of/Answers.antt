@@ -8,7 +8,7 @@ pub gather_wrapper-requires-clause-wrapper : goal.gather_wrapper-requires-clause
 gather_wrapper-requires-clause-wrapper g c = (
   c.args.zone,
   stands_in c.args.heap.now.shape c.args.zone c.loop-wrapper.cursor c.in-Some.wrapper
-      c.requires.wrappers c.in-Some.ensures.apart (sym c.in-Some.ensures.place),
+      c.requires.gather.wrappers c.in-Some.ensures.apart (sym c.in-Some.ensures.place),
 )
 
 pub loop-wrapper-smaller : goal.loop-wrapper-smaller
@@ -37,7 +37,7 @@ loop-wrapper-preserved g c =
       gathered = subst (λ n. Gathers (IsGrayBefore h c.args.zones zone n) old new) (sym c.in-Some.ensures.cursor)
           (gray_step h c.args.zones zone i old mid new c.loop-wrapper.invariant.gathered
           (gray_at h c.args.zones zone i u at
-          (stands_in h.shape zone i u c.requires.wrappers c.in-Some.ensures.apart at).zone_is mid new
+          (stands_in h.shape zone i u c.requires.gather.wrappers c.in-Some.ensures.apart at).zone_is mid new
           c.in_ok-gather_wrapper.ensures.gathered));
     }
 

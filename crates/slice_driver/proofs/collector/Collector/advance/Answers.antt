@@ -2,6 +2,7 @@ use Rattle.std.proofs.Common.{◌≡◌, ◌<◌, IsSome, arith, ap, subst, sym}
 use Rattle.sweeping.specs.ArenasOut.{flying_after, outs_after}
 use Rattle.slice_driver.specs.Collector.{CollectorState, heap_with}
 use Rattle.slice_driver.specs.declared.advance.Step.{Step}
+use Rattle.slice_driver.proofs.abstraction.Phases.{due_started}
 use Rattle.slice_driver.proofs.marking.MarkingUnits.{still_sound}
 use Rattle.slice_driver.proofs.marking.Units.{quiet_sound}
 use Rattle.slice_driver.proofs.marking.EdgesRead.{ok_reads, quiet_reads, still_grays}
@@ -18,7 +19,7 @@ returns-then-quiet-gt0-clause-done g c =
     (g.F.Sweeping.left (g.F.Flight.origin c.args.flight.now))
     (g.F.Sweeping.left (g.F.Flight.origin c.quiet_units-quiet.new.flight)) c.args.report.now
     c.quiet_units-quiet.ensures.does.done some c.quiet_units-quiet.ensures.does.most
-    c.quiet_units-quiet.ensures.does.resting
+    c.quiet_units-quiet.ensures.does.resting c.requires.ready.sound
     (quiet_sound c.quiet_units-quiet.result c.args.self.now (g.F.Flight.bits c.args.flight.now)
     c.quiet_units-quiet.new.self (g.F.Flight.bits c.quiet_units-quiet.new.flight) c.quiet_units-quiet.ensures.does.done
     c.requires.ready.sound)
@@ -30,21 +31,25 @@ returns-in-Some-clause-done g c =
     let some = c.requires.some in
     let zero : c.quiet_units-quiet.result ≡ 0 = omega (arith, none) in
     let rests = c.quiet_units-quiet.ensures.does.rests (omega (arith, none, some)) in
-    let took = c.take_due_into.ensures in
-    still_advances c.args.limit c.args.self.now c.quiet_units-quiet.new.self c.take_due_into.new.self
+    let took = c.take_due.ensures in
+    still_advances c.args.limit c.args.self.now c.quiet_units-quiet.new.self c.take_due.new.self
     (g.F.Flight.bits c.args.flight.now) (g.F.Flight.bits c.quiet_units-quiet.new.flight)
-    (flying_after c.swept.result.handed (g.F.Flight.bits c.take_due_into.new.flight))
-    (outs_after c.swept.result.handed (g.F.Sweeping.left (g.F.Flight.origin c.take_due_into.new.flight)))
-    c.args.report.now c.take_due_into.new.report c.swept.result c.requires.some
+    (flying_after c.swept.result.handed (g.F.Flight.bits c.take_due.new.flight))
+    (outs_after c.swept.result.handed (g.F.Sweeping.left (g.F.Flight.origin c.take_due.new.flight)))
+    c.args.report.now c.take_due.new.report c.swept.result c.requires.some
     (c.quiet_units-quiet.ensures.does.done.none zero)
-    (due_into c.quiet_units-quiet.new.self c.take_due_into.new.self (g.F.Flight.bits c.quiet_units-quiet.new.flight)
-    (g.F.Flight.bits c.take_due_into.new.flight) (g.F.Sweeping.left (g.F.Flight.origin c.take_due_into.new.flight))
-    c.args.report.now c.take_due_into.new.report c.take_due_into.result c.swept.result c.swept.ensures
+    (due_into c.quiet_units-quiet.new.self c.take_due.new.self (g.F.Flight.bits c.quiet_units-quiet.new.flight)
+    (g.F.Flight.bits c.take_due.new.flight) (g.F.Sweeping.left (g.F.Flight.origin c.take_due.new.flight))
+    c.args.report.now c.take_due.new.report c.take_due.result c.swept.result c.swept.ensures
     c.in-Some.arena c.in-Some.ensures.some rests took.told took.takes.done took.takes.left took.takes.to_come
-    took.takes.finished took.takes.sound took.takes.out took.takes.made took.takes.weak)
+    took.takes.finished took.takes.sound took.takes.out took.takes.made took.takes.ledger took.takes.weak
+    (due_started _ _ (still_sound _ _ _ _ (c.quiet_units-quiet.ensures.does.done.none zero) c.requires.ready.sound)
+    c.in-Some.arena c.in-Some.ensures.some.out
+    (subst (λ (x : CollectorState). IsSome x.run) (sym (c.quiet_units-quiet.ensures.does.done.none zero).same)
+    c.requires.ready.running)))
 
-pub take_due_into-requires-clause-ready : goal.take_due_into-requires-clause-ready
-take_due_into-requires-clause-ready g c =
+pub take_due-requires-clause-ready : goal.take_due-requires-clause-ready
+take_due-requires-clause-ready g c =
     let none = c.if-quiet-gt0.false in
     let zero : c.quiet_units-quiet.result ≡ 0 = omega (arith, none) in
     let still = c.quiet_units-quiet.ensures.does.done.none zero in
@@ -99,7 +104,7 @@ returns-clause-done g c =
     c.advance_one.ensures.done
 
 pub returns-then-quiet-gt0-clause-steps : goal.returns-then-quiet-gt0-clause-steps
-returns-then-quiet-gt0-clause-steps g c = quiet_reads c.quiet_units-quiet.result c.args.steps.now
+returns-then-quiet-gt0-clause-steps g c = λ other. quiet_reads c.quiet_units-quiet.result c.args.steps.now
     c.quiet_units-quiet.new.steps (heap_with c.args.self.now (g.F.Flight.bits c.args.flight.now))
     (heap_with c.quiet_units-quiet.new.self (g.F.Flight.bits c.quiet_units-quiet.new.flight))
     c.quiet_units-quiet.ensures.steps
@@ -112,7 +117,7 @@ returns-in-Some-clause-steps g c =
     let still = still_grays c.args.self.now (g.F.Flight.bits c.args.flight.now) c.quiet_units-quiet.new.self
     (g.F.Flight.bits c.quiet_units-quiet.new.flight) (c.quiet_units-quiet.ensures.does.done.none zero) in
     let one = ap (λ (s : Step). s.units) c.swept.ensures in
-    omega (arith, few, zero, still, one)
+    λ other. omega (arith, few, zero, still, one)
 
 pub returns-clause-steps : goal.returns-clause-steps
 returns-clause-steps g c =
@@ -121,13 +126,14 @@ returns-clause-steps g c =
     let few = c.quiet_units-quiet.ensures.steps in
     let still = still_grays c.args.self.now (g.F.Flight.bits c.args.flight.now) c.quiet_units-quiet.new.self
     (g.F.Flight.bits c.quiet_units-quiet.new.flight) (c.quiet_units-quiet.ensures.does.done.none zero) in
-    ok_reads c.advance_one.result c.args.steps.now c.quiet_units-quiet.new.steps
+    ok_reads c.advance_one.result c.args.steps.now c.quiet_units-quiet.new.steps c.advance_one.new.steps
     (heap_with c.args.self.now (g.F.Flight.bits c.args.flight.now)) c.advance_one.new.self
-    (g.F.Flight.bits c.quiet_units-quiet.new.flight) (omega (arith, few, zero, still))
+    (g.F.Flight.bits c.quiet_units-quiet.new.flight) c.advance_one.new.report (omega (arith, few, zero, still))
+    c.advance_one.ensures.steps
 
 pub returns-in-Some-clause-handed : goal.returns-in-Some-clause-handed
-returns-in-Some-clause-handed g c = due_hands c.args.self.now c.take_due_into.new.report c.take_due_into.result
-    c.swept.result c.swept.ensures c.in-Some.arena c.take_due_into.ensures.told
+returns-in-Some-clause-handed g c = due_hands c.args.self.now c.take_due.new.report c.take_due.result
+    c.swept.result c.swept.ensures c.in-Some.arena c.take_due.ensures.told
 
 pub returns-clause-handed : goal.returns-clause-handed
 returns-clause-handed g c =
@@ -145,4 +151,4 @@ returns-clause-err_where g c =
     err_ends c.advance_one.result c.args.self.now c.quiet_units-quiet.new.self (g.F.Flight.bits c.args.flight.now)
     (g.F.Flight.bits c.quiet_units-quiet.new.flight) (c.quiet_units-quiet.ensures.does.done.none zero)
     (c.quiet_units-quiet.ensures.does.rests (omega (arith, none, some))) c.in_default.ensures.none
-    c.advance_one.ensures.err_formed
+    c.advance_one.ensures.err_where

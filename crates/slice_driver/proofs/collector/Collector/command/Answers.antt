@@ -11,10 +11,11 @@ use Rattle.slice_driver.specs.Collector.{CollectorState, IsKept}
 use Rattle.slice_driver.specs.Rooms.{IsRoomy, arenas_after}
 use Rattle.slice_driver.specs.Steps.{GoesThrough}
 use Rattle.slice_driver.specs.contracts.collector.Collector.{the_view}
-use Rattle.slice_driver.proofs.commanding.Commanded.{IsPlanned, as_fault, exposed_after, kept_call, planned_done}
+use Rattle.slice_driver.proofs.commanding.Commanded.{IsPlanned, as_fault, kept_call, planned_done}
 use Rattle.slice_driver.proofs.commanding.Commanded.{refused_done, roomless_done, sound_heap, sound_roomy}
 use Rattle.slice_driver.proofs.commanding.Commanded.{through_able, through_plan, through_sound, where_err, wide_able}
-use Rattle.slice_driver.proofs.commanding.Commanded.{wide_marks, wide_plan, wide_sound}
+use Rattle.slice_driver.proofs.commanding.Commanded.{wide_plan, wide_sound}
+use Rattle.slice_driver.proofs.commanding.Commanding.{sound_phase, through_phase, wide_phase}
 use Rattle.slice_driver.proofs.commanding.Viewed.{committed_delayed, committed_viewed, refused_viewed, sound_plain}
 use Rattle.slice_driver.proofs.commanding.Viewed.{uncommitted_viewed}
 use Rattle.slice_driver.proofs.collector.Collector.command.Given.{Over}
@@ -106,7 +107,7 @@ expose-requires-2-clause-present g c =
     (planned-here c.expose.new.self.heap c.args.cmd c.in-Ok.plan
     (through_plan c.in-Ok.plan.overwritten c.make_room.new.self c.expose.new.self (g.F.Flight.bits c.args.flight.now)
     (g.F.Flight.bits c.expose.new.flight)
-    c.args.cmd c.in-Ok.plan c.expose.ensures.through.exposed wide)).wrapped_there
+    c.args.cmd c.in-Ok.plan c.expose.ensures.through wide)).wrapped_there
 
 pub expose-requires-3-clause-present : goal.expose-requires-3-clause-present
 expose-requires-3-clause-present g c =
@@ -114,46 +115,45 @@ expose-requires-3-clause-present g c =
     let wide = wide_plan c.args.self.now c.make_room.new.self c.args.cmd c.in-Ok.plan c.make_room.ensures.widens plan in
     let first = through_plan c.in-Ok.plan.overwritten c.make_room.new.self c.expose.new.self
     (g.F.Flight.bits c.args.flight.now) (g.F.Flight.bits c.expose.new.flight)
-    c.args.cmd c.in-Ok.plan c.expose.ensures.through.exposed wide in
+    c.args.cmd c.in-Ok.plan c.expose.ensures.through wide in
     let second = through_plan c.in-Ok.plan.wrapped c.expose.new.self c.expose-2.new.self
     (g.F.Flight.bits c.expose.new.flight) (g.F.Flight.bits c.expose-2.new.flight)
-    c.args.cmd c.in-Ok.plan c.expose-2.ensures.through.exposed first in
+    c.args.cmd c.in-Ok.plan c.expose-2.ensures.through first in
     λ p is. (planned-here c.expose-2.new.self.heap c.args.cmd c.in-Ok.plan second).handed_there p
     (sym c.handed.ensures ∙ is)
 
-pub expose-requires-clause-invariant : goal.expose-requires-clause-invariant
-expose-requires-clause-invariant g c =
-    wide_marks c.args.self.now c.make_room.new.self (g.F.Flight.bits c.args.flight.now) c.make_room.ensures.widens
-    c.requires.sound
+-- a barrier finds what it asks
+pub expose-requires-clause-phase : goal.expose-requires-clause-phase
+expose-requires-clause-phase g c = wide_phase c.args.self.now c.make_room.new.self (g.F.Flight.bits c.args.flight.now)
+    c.make_room.ensures.widens (sound_phase c.args.self.now (g.F.Flight.bits c.args.flight.now) c.requires.sound)
 
-pub expose-requires-2-clause-invariant : goal.expose-requires-2-clause-invariant
-expose-requires-2-clause-invariant g c = exposed_after c.in-Ok.plan.overwritten c.make_room.new.self c.expose.new.self
-    (g.F.Flight.bits c.args.flight.now) (g.F.Flight.bits c.expose.new.flight) c.expose.ensures.through.exposed
-    (wide_marks c.args.self.now c.make_room.new.self (g.F.Flight.bits c.args.flight.now) c.make_room.ensures.widens
-    c.requires.sound)
+pub expose-requires-2-clause-phase : goal.expose-requires-2-clause-phase
+expose-requires-2-clause-phase g c = through_phase c.in-Ok.plan.overwritten c.make_room.new.self
+    (g.F.Flight.bits c.args.flight.now) c.expose.new.self (g.F.Flight.bits c.expose.new.flight) c.expose.ensures.through
+    (wide_phase c.args.self.now c.make_room.new.self (g.F.Flight.bits c.args.flight.now) c.make_room.ensures.widens
+    (sound_phase c.args.self.now (g.F.Flight.bits c.args.flight.now) c.requires.sound))
 
-pub expose-requires-3-clause-invariant : goal.expose-requires-3-clause-invariant
-expose-requires-3-clause-invariant g c =
-    let first = exposed_after c.in-Ok.plan.overwritten c.make_room.new.self c.expose.new.self
-    (g.F.Flight.bits c.args.flight.now) (g.F.Flight.bits c.expose.new.flight) c.expose.ensures.through.exposed
-    (wide_marks c.args.self.now c.make_room.new.self (g.F.Flight.bits c.args.flight.now) c.make_room.ensures.widens
-    c.requires.sound) in
-    exposed_after c.in-Ok.plan.wrapped c.expose.new.self c.expose-2.new.self
-    (g.F.Flight.bits c.expose.new.flight) (g.F.Flight.bits c.expose-2.new.flight) c.expose-2.ensures.through.exposed
-    first
+pub expose-requires-3-clause-phase : goal.expose-requires-3-clause-phase
+expose-requires-3-clause-phase g c = through_phase c.in-Ok.plan.wrapped c.expose.new.self
+    (g.F.Flight.bits c.expose.new.flight) c.expose-2.new.self (g.F.Flight.bits c.expose-2.new.flight)
+    c.expose-2.ensures.through
+    (through_phase c.in-Ok.plan.overwritten c.make_room.new.self (g.F.Flight.bits c.args.flight.now) c.expose.new.self
+    (g.F.Flight.bits c.expose.new.flight) c.expose.ensures.through
+    (wide_phase c.args.self.now c.make_room.new.self (g.F.Flight.bits c.args.flight.now) c.make_room.ensures.widens
+    (sound_phase c.args.self.now (g.F.Flight.bits c.args.flight.now) c.requires.sound)))
 
 pub commit-requires-clause-sound : goal.commit-requires-clause-sound
 commit-requires-clause-sound g c =
     let wide = wide_sound c.args.self.now c.make_room.new.self (g.F.Flight.bits c.args.flight.now)
     c.make_room.ensures.widens c.requires.sound in
     let first = through_sound c.in-Ok.plan.overwritten c.make_room.new.self c.expose.new.self
-    (g.F.Flight.bits c.args.flight.now) (g.F.Flight.bits c.expose.new.flight) c.expose.ensures.through.exposed wide in
+    (g.F.Flight.bits c.args.flight.now) (g.F.Flight.bits c.expose.new.flight) c.expose.ensures.through wide in
     let second = through_sound c.in-Ok.plan.wrapped c.expose.new.self c.expose-2.new.self
-    (g.F.Flight.bits c.expose.new.flight) (g.F.Flight.bits c.expose-2.new.flight) c.expose-2.ensures.through.exposed
+    (g.F.Flight.bits c.expose.new.flight) (g.F.Flight.bits c.expose-2.new.flight) c.expose-2.ensures.through
     first
     in
     let third = through_sound c.handed.result c.expose-2.new.self c.expose-3.new.self
-    (g.F.Flight.bits c.expose-2.new.flight) (g.F.Flight.bits c.expose-3.new.flight) c.expose-3.ensures.through.exposed
+    (g.F.Flight.bits c.expose-2.new.flight) (g.F.Flight.bits c.expose-3.new.flight) c.expose-3.ensures.through
     second in
     sound_plain c.self-2.inside.heap (subst IsSoundHeap (sym (ap heap_of c.self-2.view_is)) third)
 
@@ -164,14 +164,14 @@ commit-requires-clause-able g c =
     let able = (planned-here c.args.self.now.heap c.args.cmd c.in-Ok.plan plan).able c.requires.few c.requires.fields in
     let wide = wide_able c.args.self.now c.make_room.new.self ch c.make_room.ensures.widens able in
     let first = through_able c.in-Ok.plan.overwritten c.make_room.new.self c.expose.new.self
-    (g.F.Flight.bits c.args.flight.now) (g.F.Flight.bits c.expose.new.flight) ch c.expose.ensures.through.exposed wide
+    (g.F.Flight.bits c.args.flight.now) (g.F.Flight.bits c.expose.new.flight) ch c.expose.ensures.through wide
     in
     let second = through_able c.in-Ok.plan.wrapped c.expose.new.self c.expose-2.new.self
-    (g.F.Flight.bits c.expose.new.flight) (g.F.Flight.bits c.expose-2.new.flight) ch c.expose-2.ensures.through.exposed
+    (g.F.Flight.bits c.expose.new.flight) (g.F.Flight.bits c.expose-2.new.flight) ch c.expose-2.ensures.through
     first in
     let third = through_able c.handed.result c.expose-2.new.self c.expose-3.new.self
     (g.F.Flight.bits c.expose-2.new.flight) (g.F.Flight.bits c.expose-3.new.flight) ch
-    c.expose-3.ensures.through.exposed
+    c.expose-3.ensures.through
     second in
     subst (λ (h : HeapState). IsAble h.shape h.made ch) (sym (ap heap_of c.self-2.view_is)) third
 
@@ -179,9 +179,8 @@ pub invariant_of-self : goal.invariant_of-self
 invariant_of-self g c =
     let here = ap (λ (z : CollectorState). z.heap.shape) c.self-2.view_is in
     kept_call _ _ _ _ _ _ _ _ _ _ _ _ _ _
-    (planned g c) c.self-2.inside.edges c.self-2.inside.order c.self-2.inside.run c.self-2.inside.ungrouped
-    (subst (λ s. IsKept s c.self-2.inside.edges c.self-2.inside.order c.self-2.inside.run
-    c.self-2.inside.ungrouped) here c.self-2.invariant)
+    (planned g c) c.self-2.inside.edges c.self-2.inside.order c.self-2.inside.phase
+    (subst (λ s. IsKept s c.self-2.inside.edges c.self-2.inside.order c.self-2.inside.phase) here c.self-2.invariant)
 
 pub returns-in-Err : goal.returns-in-Err
 returns-in-Err g c = refused_done g.F.Flight.bits g.F.Flight.origin c.args.self.now c.args.flight.now c.args.cmd

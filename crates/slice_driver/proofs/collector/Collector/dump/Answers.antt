@@ -6,6 +6,7 @@ use Rattle.slice_driver.specs.Collector.{CollectorState}
 use Rattle.slice_driver.specs.Dumps.{coloured_line, entry_line}
 use Rattle.slice_driver.specs.Listings.{AreEntriesHeld, ListsCells, edge_lines_at}
 use Rattle.slice_driver.specs.declared.listings.NamedCell.{NamedCell}
+use Rattle.slice_driver.proofs.abstraction.Phases.{placed_in}
 use Rattle.slice_driver.proofs.dumping.Written.{heap_seen, listed_coloured, listed_present, represents_seen, written}
 use Rattle.slice_driver.proofs.collector.Collector.dump.Goals as goal
 
@@ -30,7 +31,8 @@ pub entries_by_name-requires-clause-held : goal.entries_by_name-requires-clause-
 entries_by_name-requires-clause-held g c =
     let here = ap (λ (z : CollectorState). z.heap) c.self.view_is in
     subst (λ (h : HeapState). AreEntriesHeld h.shape) (sym here)
-    c.requires.sound.represents.placed.lies.shown.entries_held
+    (placed_in c.args.self.now (g.F.Flight.bits c.args.flight.now) c.requires.sound.world
+    c.requires.sound.represents).lies.shown.entries_held
 
 pub returns-in_err-push_cell_lines-clause-same : goal.returns-in_err-push_cell_lines-clause-same
 returns-in_err-push_cell_lines-clause-same g c w rep =

@@ -15,12 +15,13 @@ use Rattle.barriers.specs.Pending.{pending}
 use Rattle.heap_core.specs.Sweeping.{handed}
 use Rattle.barriers.specs.Colours.{IsGray}
 use Rattle.slice_driver.specs.Advancing.{EndsSweeping}
-use Rattle.slice_driver.specs.Collector.{CollectorState, HasMore}
+use Rattle.slice_driver.specs.Collector.{CollectorState, IsKept}
 use Rattle.slice_driver.specs.GroupEnd.{IsGrayHere}
 use Rattle.slice_driver.specs.HandingOut.{HandsOut}
-use Rattle.slice_driver.specs.Units.{AreJobs, DoesUnit, EndsColoured, HandsJobs, IsSound, flying_after, jobs_at}
+use Rattle.slice_driver.specs.Units.{AreJobs, DoesUnit, EndsColoured, HandsJobs, IsSoundMarking, flying_after, jobs_at}
 use Rattle.slice_driver.specs.Units.{reports_of}
-use Rattle.slice_driver.specs.declared.collector.Run.{Run}
+use Rattle.slice_driver.specs.declared.collector.Phase.{Phase}
+use Rattle.slice_driver.specs.declared.collector.Phase.TheVariants as phase
 use Rattle.slice_driver.specs.Left.{units_left}
 use Rattle.slice_driver.specs.UnitsToCome.{units_to_come}
 use Rattle.slice_driver.specs.contracts.collector.Collector.{the_view}
@@ -48,17 +49,16 @@ gray_names_in-requires-clause-present c =
     (gray_present c.args.self.now c.requires.sound.0 kept c.requires.sound.1)
 
 pub invariant_of-self-else-finished : goal.invariant_of-self-else-finished
-invariant_of-self-else-finished c = record {
-  waiting = c.self.invariant.waiting;
-  some_waits = c.self.invariant.some_waits;
-  more = go c.self.inside.run c.if-finished.ensures;
-}
+invariant_of-self-else-finished c = go c.self.inside.phase c.if-finished.ensures c.self.invariant
   where
-    go : (run : Option Run)
+    go : (p : Phase)
         → EndsSweeping c.hand_out_group.new.heap c.advance.new.self false c.end_sweeping-finished.new.heap
-        → HasMore c.end_sweeping-finished.new.heap.shape c.advance.new.self run
-    go None ends = tt
-    go (Some run) ends = λ empty none formed. more_left c.hand_out_group.new.heap c.advance.new.self
+        → IsKept c.self.inside.heap.shape c.self.inside.edges c.self.inside.order p
+        → IsKept c.end_sweeping-finished.new.heap.shape c.self.inside.edges c.advance.new.self p
+    go phase.Idle ends kept = tt
+    go (phase.Preparing zones uncleared) ends kept = tt
+    go (phase.Grouping zones ungrouped) ends kept = kept
+    go (phase.Grouped zones) ends kept = λ empty none. more_left c.hand_out_group.new.heap c.advance.new.self
         c.end_sweeping-finished.new.heap ends empty none
 
 pub returns-clause-done : goal.returns-clause-done
@@ -69,8 +69,8 @@ returns-clause-done c =
     let group : ZoneSet = c.in-Some.group in
     let here : IsReadyHere v group = ready_here v old is c.requires.ready.0 c.requires.ready.1
     c.requires.ready.2 group (sym c.current.ensures ∙ c.in-Some.is) in
-    let sound : IsSound v c.requires.sound.0 = subst (λ (x : CollectorState). IsSound x c.requires.sound.0) (sym is)
-    c.requires.sound.1 in
+    let sound : IsSoundMarking v c.requires.sound.0 =
+    subst (λ (x : CollectorState). IsSoundMarking x c.requires.sound.0) (sym is) c.requires.sound.1 in
     let jobs : Option (List Job) = c.in_ok-handed.handed in
     let h : HeapState = c.self.inside.heap in
     let m : HeapState = c.hand_out_group.new.heap in
@@ -144,11 +144,13 @@ returns-clause-done c =
           subst (λ (x : CollectorState). units_left new (flying_after jobs flown) < units_left x flown) is
           (subst (λ (x : CollectorState). units_left x (flying_after jobs flown) < units_left v flown) new_is
           (ending_lowers v group here.rest here.ready jobs (without_delayed m) out flown
-          (subst (λ (x : CollectorState). IsSound x flown) (sym is) sound_then) (without_delayed k) over ends_here));
+          (subst (λ (x : CollectorState). IsSoundMarking x flown) (sym is) sound_then) (without_delayed k) over
+          ends_here));
       to_come = λ flown sound_then.
           subst (λ (x : CollectorState). units_to_come new (flying_after jobs flown) < units_to_come x flown) is
           (subst (λ (x : CollectorState). units_to_come x (flying_after jobs flown) < units_to_come v flown) new_is
           (ending_to_come v group here.rest here.ready jobs (without_delayed m) out flown
-          (subst (λ (x : CollectorState). IsSound x flown) (sym is) sound_then) (without_delayed k) over ends_here));
+          (subst (λ (x : CollectorState). IsSoundMarking x flown) (sym is) sound_then) (without_delayed k) over
+          ends_here));
       finished = search rules;
     }

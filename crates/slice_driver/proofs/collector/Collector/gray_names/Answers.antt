@@ -9,8 +9,9 @@ use Rattle.barriers.specs.Spreading.{Covers}
 use Rattle.slice_driver.specs.Collector.{CollectorState}
 use Rattle.slice_driver.specs.Grays.{MayNameGrays, grays_below, grays_up_to}
 use Rattle.slice_driver.proofs.group_end.Grays.{grays_more}
-use Rattle.slice_driver.proofs.group_end.GrayNames.{arena_coloured, settled_grays}
-use Rattle.slice_driver.proofs.marking.MarkingUnits.{same_worlds}
+use Rattle.slice_driver.proofs.abstraction.Phases.{calm_marking}
+use Rattle.slice_driver.proofs.dumping.Reading.{arena_coloured, reads_same, seen_present}
+use Rattle.slice_driver.proofs.group_end.GrayNames.{settled_grays}
 use Rattle.slice_driver.proofs.collector.Collector.gray_names.Goals as goal
 
 pub push_gray-requires : goal.push_gray-requires
@@ -21,9 +22,11 @@ push_gray-requires g c =
     let there : MayNameGrays c.args.self.now.heap (g.F.Flight.bits c.loop-arena.flight) c.loop-arena.arena =
     record {
       covers = c.loop-arena.invariant.covers;
-      made = arena_coloured c.args.self.now (g.F.Flight.bits c.args.flight.now) c.loop-arena.arena c.requires.sound
+      made = arena_coloured c.args.self.now (g.F.Flight.bits c.args.flight.now) c.requires.sound.world
+          c.loop-arena.arena c.requires.sound.represents
           (subst (λ (h : HeapState). c.loop-arena.arena < length h.shape.arenas) here below);
-      present = λ p gray. c.requires.sound.represents.coloured.marks.holds.colours.seen_present p
+      present = λ p gray. seen_present c.args.self.now (g.F.Flight.bits c.args.flight.now) c.requires.sound.world
+          c.requires.sound.represents p
           (inl (subst (λ (h : HeapState). IsGray h p) c.loop-arena.invariant.same gray));
     } in
     let seen : MayNameGrays (without_delayed c.self.inside.heap) (g.F.Flight.bits c.loop-arena.flight)
@@ -39,7 +42,7 @@ returns-in_err-push_gray-clause-same g c w rep =
     ≡ joined h (g.F.Flight.bits c.loop-arena.flight)) here c.push_gray.ensures.kept.same in
     let covers = subst (λ (h : HeapState). Covers h.shape (g.F.Flight.bits c.push_gray.new.flight)) here
     c.push_gray.ensures.kept.covers in
-    same_worlds c.args.self.now (g.F.Flight.bits c.args.flight.now) (g.F.Flight.bits c.push_gray.new.flight) w
+    reads_same c.args.self.now (g.F.Flight.bits c.args.flight.now) (g.F.Flight.bits c.push_gray.new.flight) w
     covers (same ∙ c.loop-arena.invariant.same) rep
 
 pub loop-arena-preserved : goal.loop-arena-preserved
@@ -76,11 +79,12 @@ returns-clause-names g c w rep settled =
     c.sort_unstable.ensures.permutation) in
     let sorted : IsSorted name_cmp c.sort_unstable.new.self.items = search rules in
     subst (λ xs. Lists (λ x. IsPresentName w x × (Has w.black x → ⊥)) xs) (sym c.from_vec.ensures)
-    (settled_grays c.args.self.now (g.F.Flight.bits c.args.flight.now) w c.sort_unstable.new.self.items rep settled
+    (settled_grays c.args.self.now (g.F.Flight.bits c.args.flight.now) w c.sort_unstable.new.self.items
+    (calm_marking c.args.self.now (g.F.Flight.bits c.args.flight.now) w settled.none_preparing rep) settled
     moved sorted)
 
 pub returns-clause-same : goal.returns-clause-same
-returns-clause-same g c w rep = same_worlds c.args.self.now (g.F.Flight.bits c.args.flight.now)
+returns-clause-same g c w rep = reads_same c.args.self.now (g.F.Flight.bits c.args.flight.now)
     (g.F.Flight.bits c.loop-arena.flight) w c.loop-arena.invariant.covers c.loop-arena.invariant.same rep
 
 pub returns-in_err-push_gray-clause-heap : goal.returns-in_err-push_gray-clause-heap

@@ -14,7 +14,7 @@ returns-in_default c =
     let v : CollectorState = the_view c.self.inside in
     subst (λ (x : CollectorState). HasGroups x) c.self.view_is (record {
       small = λ g e. absurd (let first = c.current.ensures in let none = c.in_default.is in cc (first, none, e));
-      more = λ (f : IsFormed v). more_of v.heap.shape v.groups c.self.inside.run f.0 f.1 f.2 c.self.invariant.more;
+      more = λ (f : IsFormed v). more_of v.heap.shape v.edges v.groups c.self.inside.phase f.0 f.1 f.2 c.self.invariant;
     })
 
 pub returns : goal.returns
@@ -24,5 +24,5 @@ returns c =
     subst (λ (x : CollectorState). HasGroups x) c.self.view_is (record {
       small = λ g e. subst (λ (y : ZoneSet). (z : ℕ) → bit_at y.bits z ≡ 1 → z < 64) (some_one _ _ (sym at ∙ e))
           c.word_law.ensures;
-      more = λ (f : IsFormed v). more_of v.heap.shape v.groups c.self.inside.run f.0 f.1 f.2 c.self.invariant.more;
+      more = λ (f : IsFormed v). more_of v.heap.shape v.edges v.groups c.self.inside.phase f.0 f.1 f.2 c.self.invariant;
     })

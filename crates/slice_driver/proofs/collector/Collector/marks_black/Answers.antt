@@ -5,11 +5,11 @@ use Rattle.heap_core.specs.Heap.{without_delayed}
 use Rattle.barriers.specs.Pending.{pending}
 use Rattle.barriers.specs.Colours.{grays_outside}
 use Rattle.slice_driver.specs.Collector.{CollectorState, heap_with}
-use Rattle.slice_driver.specs.Units.{IsSound}
+use Rattle.slice_driver.specs.Units.{IsSoundMarking}
 use Rattle.slice_driver.specs.Working.{DidOrStill, IsBlackDone}
 use Rattle.slice_driver.specs.contracts.collector.Collector.{the_view}
-use Rattle.slice_driver.proofs.marking.MarkingUnits.{black_tried, look_grays, look_tried, still_looked}
-use Rattle.slice_driver.proofs.marking.MarkingUnits.{still_sound, then_marks, tries_few}
+use Rattle.slice_driver.proofs.marking.MarkingUnits.{black_tried, look_tried, still_looked}
+use Rattle.slice_driver.proofs.marking.MarkingUnits.{still_marking, then_marks, tries_few}
 use Rattle.slice_driver.proofs.marking.Views.{unmarked_seen}
 use Rattle.slice_driver.proofs.collector.Collector.marks_black.Given.{Over}
 use Rattle.slice_driver.proofs.collector.Collector.marks_black.Goals as goal
@@ -28,8 +28,9 @@ looked g c = record (the_view c.self.inside) {
   stack = pending c.weak_unit.new.heap c.weak_unit.new.stack;
 }
 
-sound : (g : Over) (c : After-black_unit g) → IsSound (the_view c.self.inside) (g.F.Flight.bits c.args.flight.now)
-sound g c = subst (λ (x : CollectorState). IsSound x (g.F.Flight.bits c.args.flight.now)) (sym c.self.view_is)
+sound : (g : Over) (c : After-black_unit g) → IsSoundMarking (the_view c.self.inside)
+    (g.F.Flight.bits c.args.flight.now)
+sound g c = subst (λ (x : CollectorState). IsSoundMarking x (g.F.Flight.bits c.args.flight.now)) (sym c.self.view_is)
     c.requires.sound
 
 running : (g : Over) (c : After-black_unit g) → IsSome (the_view c.self.inside).run
@@ -53,9 +54,9 @@ none g c is = subst (λ (did : Bool). DidOrStill did ((the_view c.self.inside).s
     (the_view c.self.inside) (g.F.Flight.bits c.args.flight.now) (followed g c)
     (g.F.Flight.bits c.black_unit.new.flight)) is (cell g c)
 
-still : (g : Over) (c : After-black_unit g) → c.black_unit.result ≡ false → IsSound (followed g c)
+still : (g : Over) (c : After-black_unit g) → c.black_unit.result ≡ false → IsSoundMarking (followed g c)
     (g.F.Flight.bits c.black_unit.new.flight)
-still g c is = still_sound (the_view c.self.inside) (g.F.Flight.bits c.args.flight.now) (followed g c)
+still g c is = still_marking (the_view c.self.inside) (g.F.Flight.bits c.args.flight.now) (followed g c)
     (g.F.Flight.bits c.black_unit.new.flight) (none g c is).0 (sound g c)
 
 pub weak_unit-requires-clause-invariant : goal.weak_unit-requires-clause-invariant
@@ -112,12 +113,6 @@ returns-clause-steps g c =
     let before = ap grays_outside (none g first c.if-black_unit.false).0.colours in
     let kept = ap (λ (x : CollectorState). grays_outside (heap_with x f1)) (none g first c.if-black_unit.false).0.same
     in
-    let grays = look_grays (followed g first) f1 (g.F.Flight.bits c.weak_unit.new.flight) (looked g at).heap
-    (looked g at).stack (still g first c.if-black_unit.false) (running g first) refl mark.Black c.weak_unit.result
-    c.weak_unit.ensures.does
-    (λ is. let same = c.weak_unit.ensures.same is in
-    unmarked_seen c.black_unit.new.heap c.weak_unit.new.heap c.black_unit.new.stack c.weak_unit.new.stack f1
-    (g.F.Flight.bits c.weak_unit.new.flight) same.0 same.1 same.2) in
-    tries_few c.weak_unit.result c.args.steps.now (heap_with c.args.self.now flown) c.black_unit.new.steps
-    (heap_with (looked g at) (g.F.Flight.bits c.weak_unit.new.flight))
-    (omega (arith, view, read, before, kept, grays))
+    let few = c.weak_unit.ensures.steps in
+    tries_few c.weak_unit.result c.args.steps.now (heap_with c.args.self.now flown) c.weak_unit.new.steps
+    (heap_with (looked g at) (g.F.Flight.bits c.weak_unit.new.flight)) (omega (arith, view, read, before, kept, few))

@@ -3,11 +3,11 @@ use Rattle.gz_names.specs.declared.zone_sets.ZoneSet.{ZoneSet}
 use Rattle.heap_core.specs.Shape.{Shape}
 use Rattle.marker.specs.GrayBits.{AreGraying}
 use Rattle.slice_driver.proofs.marking.AtGroupEnd.{first_busy}
-use Rattle.slice_driver.proofs.marking.Units.{last_quiet, more_quiet, quiet_sound}
+use Rattle.slice_driver.proofs.marking.Units.{last_quiet, more_quiet, quiet_marking}
 use Rattle.slice_driver.proofs.collector.Collector.marks_gray_up_to.Goals as goal
 
 pub marks_group-requires-clause-sound : goal.marks_group-requires-clause-sound
-marks_group-requires-clause-sound g c = quiet_sound c.loop-count.count _ _ _ _ c.loop-count.invariant.did
+marks_group-requires-clause-sound g c = quiet_marking c.loop-count.count _ _ _ _ c.loop-count.invariant.did
     c.requires.sound
 
 pub returns-then-not-marks_group-clause-done : goal.returns-then-not-marks_group-clause-done

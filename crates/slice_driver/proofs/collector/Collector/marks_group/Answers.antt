@@ -6,11 +6,11 @@ use Rattle.barriers.specs.Pending.{pending}
 use Rattle.barriers.specs.Colours.{grays_outside}
 use Rattle.marker.specs.Units.{IsGrayIdle}
 use Rattle.slice_driver.specs.Collector.{CollectorState, heap_with}
-use Rattle.slice_driver.specs.Units.{IsSound}
+use Rattle.slice_driver.specs.Units.{IsSoundMarking}
 use Rattle.slice_driver.specs.Working.{IsGrayDone, TriesGroup}
 use Rattle.slice_driver.specs.contracts.collector.Collector.{the_view}
-use Rattle.slice_driver.proofs.marking.MarkingUnits.{gray_grays, gray_tried, look_grays, look_shape}
-use Rattle.slice_driver.proofs.marking.MarkingUnits.{look_tried, still_looked, still_sound, then_marks, tries_few}
+use Rattle.slice_driver.proofs.marking.MarkingUnits.{gray_grays, gray_tried, look_shape}
+use Rattle.slice_driver.proofs.marking.MarkingUnits.{look_tried, still_looked, still_marking, then_marks, tries_few}
 use Rattle.slice_driver.proofs.marking.Views.{idle_seen, idle_unseen, same_pending, unmarked_seen}
 use Rattle.slice_driver.proofs.collector.Collector.marks_group.Given.{Over}
 use Rattle.slice_driver.proofs.collector.Collector.marks_group.Goals as goal
@@ -31,8 +31,8 @@ looked g c = record (the_view c.self.inside) {
   lists = c.gray_unit.new.lists;
 }
 
-sound : (g : Over) (c : After-gray_unit g) → IsSound (the_view c.self.inside) (g.F.Flight.bits c.args.flight.now)
-sound g c = subst (λ (x : CollectorState). IsSound x (g.F.Flight.bits c.args.flight.now)) (sym c.self.view_is)
+sound : (g : Over) (c : After-gray_unit g) → IsSoundMarking (the_view c.self.inside) (g.F.Flight.bits c.args.flight.now)
+sound g c = subst (λ (x : CollectorState). IsSoundMarking x (g.F.Flight.bits c.args.flight.now)) (sym c.self.view_is)
     c.requires.sound
 
 running : (g : Over) (c : After-gray_unit g) → IsSome (the_view c.self.inside).run
@@ -68,9 +68,9 @@ none g c is = subst (λ (did : Bool). TriesGroup did
     (the_view c.self.inside) (g.F.Flight.bits c.args.flight.now) (followed g c) (g.F.Flight.bits c.args.flight.now))
     is (piece g c)
 
-still : (g : Over) (c : After-gray_unit g) → c.gray_unit.result ≡ false → IsSound (followed g c)
+still : (g : Over) (c : After-gray_unit g) → c.gray_unit.result ≡ false → IsSoundMarking (followed g c)
     (g.F.Flight.bits c.args.flight.now)
-still g c is = still_sound (the_view c.self.inside) (g.F.Flight.bits c.args.flight.now) (followed g c)
+still g c is = still_marking (the_view c.self.inside) (g.F.Flight.bits c.args.flight.now) (followed g c)
     (g.F.Flight.bits c.args.flight.now) (none g c is).done.0 (sound g c)
 
 pub weak_unit-requires-clause-invariant : goal.weak_unit-requires-clause-invariant
@@ -139,11 +139,6 @@ returns-clause-steps g c =
     let read = (c.gray_unit.ensures.same c.if-gray_unit.false).3 in
     let kept = ap (λ (x : CollectorState). grays_outside (heap_with x flown))
     (none g first c.if-gray_unit.false).done.0.same in
-    let grays = look_grays (followed g first) flown (g.F.Flight.bits c.weak_unit.new.flight) (looked g at).heap
-    (looked g at).stack (still g first c.if-gray_unit.false) (running g first) refl mark.Gray c.weak_unit.result
-    c.weak_unit.ensures.does
-    (λ is. let same = c.weak_unit.ensures.same is in
-    unmarked_seen c.gray_unit.new.heap c.weak_unit.new.heap c.gray_unit.new.stack c.weak_unit.new.stack flown
-    (g.F.Flight.bits c.weak_unit.new.flight) same.0 same.1 same.2) in
-    tries_few c.weak_unit.result c.args.steps.now (heap_with c.args.self.now flown) c.gray_unit.new.steps
-    (heap_with (looked g at) (g.F.Flight.bits c.weak_unit.new.flight)) (omega (arith, view, read, kept, grays))
+    let few = c.weak_unit.ensures.steps in
+    tries_few c.weak_unit.result c.args.steps.now (heap_with c.args.self.now flown) c.weak_unit.new.steps
+    (heap_with (looked g at) (g.F.Flight.bits c.weak_unit.new.flight)) (omega (arith, view, read, kept, few))

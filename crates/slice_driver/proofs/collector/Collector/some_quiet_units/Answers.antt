@@ -3,7 +3,7 @@ use Rattle.heap_core.specs.Heap.{HeapState, joined}
 use Rattle.barriers.specs.Colours.{grays_outside}
 use Rattle.slice_driver.specs.Quiet.{IsFormed}
 use Rattle.slice_driver.specs.Working.{HasBegun}
-use Rattle.slice_driver.proofs.marking.MarkingUnits.{still_goes, still_group_done, still_sound}
+use Rattle.slice_driver.proofs.marking.MarkingUnits.{still_goes, still_group_done, still_marking}
 use Rattle.slice_driver.proofs.marking.AtGroupEnd.{still_on}
 use Rattle.slice_driver.proofs.marking.Units.{looks_quietly, many_quietly, none_rests, not_both, one_quiet}
 use Rattle.slice_driver.proofs.marking.Units.{still_quiet, still_quiet_done}
@@ -39,7 +39,7 @@ returns-then-begins_zone-clause-done g c =
     let still = c.if-marks_black.ensures.done.0 in
     let f1 = g.F.Flight.bits c.marks_black.new.flight in
     one_quiet _ _ _ _ (still_goes old flown c.marks_black.new.self f1 [] c.begins_zone.new.self f1 still
-    (c.if-begins_zone.ensures.begins.0 f1 (still_sound old flown c.marks_black.new.self f1 still c.requires.sound)))
+    (c.if-begins_zone.ensures.begins.0 f1 (still_marking old flown c.marks_black.new.self f1 still c.requires.sound)))
 
 pub marks_gray_up_to-requires-clause-sound : goal.marks_gray_up_to-requires-clause-sound
 marks_gray_up_to-requires-clause-sound g c =
@@ -48,7 +48,7 @@ marks_gray_up_to-requires-clause-sound g c =
     let f1 = g.F.Flight.bits c.marks_black.new.flight in
     let still = still_on old flown c.marks_black.new.self f1 c.begins_zone.new.self c.if-marks_black.ensures.done.0
     c.if-begins_zone.ensures.begins.1 in
-    still_sound old flown c.begins_zone.new.self f1 still c.requires.sound
+    still_marking old flown c.begins_zone.new.self f1 still c.requires.sound
 
 pub returns-clause-done : goal.returns-clause-done
 returns-clause-done g c =

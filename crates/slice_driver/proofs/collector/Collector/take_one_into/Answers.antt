@@ -11,12 +11,14 @@ use Rattle.heap_core.specs.Heap.{HeapState, without_delayed}
 use Rattle.barriers.specs.Pending.{pending}
 use Rattle.heap_core.specs.Sweeping.{with_taken}
 use Rattle.slice_driver.specs.Advancing.{EndsSweeping}
-use Rattle.slice_driver.specs.Collector.{CollectorState, HasMore}
+use Rattle.slice_driver.specs.Collector.{CollectorState, IsKept}
 use Rattle.slice_driver.specs.Sweeping.{AreFreed, FitsWords}
-use Rattle.slice_driver.specs.declared.collector.Run.{Run}
-use Rattle.slice_driver.specs.Units.{DoesUnit, IsFreedWord, IsLowestOut, IsSound, KeepsFreedWords, reports_of}
-use Rattle.slice_driver.specs.Units.{without_arena}
+use Rattle.slice_driver.specs.declared.collector.Phase.{Phase}
+use Rattle.slice_driver.specs.declared.collector.Phase.TheVariants as phase
+use Rattle.slice_driver.specs.Units.{DoesUnit, IsFreedWord, IsLowestOut, IsSound, IsSoundMarking, KeepsFreedWords}
+use Rattle.slice_driver.specs.Units.{reports_of, without_arena}
 use Rattle.slice_driver.proofs.abstraction.Named.{some_one}
+use Rattle.slice_driver.proofs.abstraction.Phases.{none_out, sound_marking}
 use Rattle.slice_driver.proofs.abstraction.SoundAfter.{unit_sound}
 use Rattle.slice_driver.proofs.taking_in.TakingIn.{takes_unit}
 use Rattle.slice_driver.specs.Left.{units_left}
@@ -28,20 +30,16 @@ use Rattle.slice_driver.proofs.marking.Views.{ends_seen, taken_pending}
 use Rattle.slice_driver.proofs.collector.Collector.take_one_into.Goals as goal
 
 pub invariant_of-self-else-finished : goal.invariant_of-self-else-finished
-invariant_of-self-else-finished c =
-    let ends : EndsSweeping c.report_arena.new.heap c.self.inside.order false c.end_sweeping-finished.new.heap =
-    c.if-finished.ensures in
-    record {
-      waiting = c.self.invariant.waiting;
-      some_waits = c.self.invariant.some_waits;
-      more = go c.self.inside.run ends;
-    }
+invariant_of-self-else-finished c = go c.self.inside.phase c.if-finished.ensures c.self.invariant
   where
-    go : (run : Option Run)
+    go : (p : Phase)
         → EndsSweeping c.report_arena.new.heap c.self.inside.order false c.end_sweeping-finished.new.heap
-        → HasMore c.end_sweeping-finished.new.heap.shape c.self.inside.order run
-    go None ends = tt
-    go (Some run) ends = λ empty none formed. more_left c.report_arena.new.heap c.self.inside.order
+        → IsKept c.self.inside.heap.shape c.self.inside.edges c.self.inside.order p
+        → IsKept c.end_sweeping-finished.new.heap.shape c.self.inside.edges c.self.inside.order p
+    go phase.Idle ends kept = tt
+    go (phase.Preparing zones uncleared) ends kept = tt
+    go (phase.Grouping zones ungrouped) ends kept = kept
+    go (phase.Grouped zones) ends kept = λ empty none. more_left c.report_arena.new.heap c.self.inside.order
         c.end_sweeping-finished.new.heap ends empty none
 
 module _ (v old : CollectorState) (is : v ≡ old) (a freed : ℕ) (bits : ABits) (k : HeapState) (over : Bool)
@@ -68,12 +66,17 @@ module _ (v old : CollectorState) (is : v ≡ old) (a freed : ℕ) (bits : ABits
       (subst (λ (x : CollectorState). DoesUnit v flown (reports_of (Some (report.Swept a names)) over) x
       (without_arena flown a)) new_is unit))
 
+  -- while an arena is out marking has begun
+  marking_sound : IsSound v flown → IsSoundMarking v flown
+  marking_sound sound = sound_marking v flown
+      (λ w. none_out v flown w a (subst (λ (x : CollectorState). IsLowestOut x.heap.shape a) (sym is) lowest).out) sound
+
   one_left : IsSound old flown → units_left new (without_arena flown a) < units_left old flown
   one_left sound =
       let less = taking_lowers v flown a freed bits at
       (subst (λ (x : CollectorState). IsLowestOut x.heap.shape a) (sym is) lowest)
       (subst (λ (x : CollectorState). IsSome x.run) (sym is) running)
-      (subst (λ (x : CollectorState). IsSound x flown) (sym is) sound)
+      (marking_sound (subst (λ (x : CollectorState). IsSound x flown) (sym is) sound))
       k over ends in
       subst (λ (x : CollectorState). units_left new (without_arena flown a) < units_left x flown) is
       (subst (λ (x : CollectorState). units_left x (without_arena flown a) < units_left v flown) new_is less)
@@ -83,7 +86,7 @@ module _ (v old : CollectorState) (is : v ≡ old) (a freed : ℕ) (bits : ABits
       let less = taking_to_come v flown a freed bits at
       (subst (λ (x : CollectorState). IsLowestOut x.heap.shape a) (sym is) lowest)
       (subst (λ (x : CollectorState). IsSome x.run) (sym is) running)
-      (subst (λ (x : CollectorState). IsSound x flown) (sym is) sound)
+      (marking_sound (subst (λ (x : CollectorState). IsSound x flown) (sym is) sound))
       k over ends in
       subst (λ (x : CollectorState). units_to_come new (without_arena flown a) ≤ units_to_come x flown) is
       (subst (λ (x : CollectorState). units_to_come x (without_arena flown a) ≤ units_to_come v flown) new_is less)
@@ -131,6 +134,7 @@ returns-then-finished-clause-takes c =
           over ends new new_is flown at c.requires.lowest c.requires.running sound;
       finished = search rules;
       made = search rules;
+      ledger = search rules;
       weak = search rules;
     }
 
@@ -170,6 +174,7 @@ returns-else-finished-clause-takes c =
           over ends new new_is flown at c.requires.lowest c.requires.running sound;
       finished = search rules;
       made = search rules;
+      ledger = search rules;
       weak = search rules;
     }
 

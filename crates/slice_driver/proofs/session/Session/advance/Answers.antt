@@ -1,11 +1,11 @@
-use Rattle.std.proofs.Common.{◌<◌, IfOk, IsSome, OnErr, Result, arith, sym, subst}
+use Rattle.std.proofs.Common.{◌<◌, IfOk, IsSome, OnErr, Result, ap, arith, sym, subst}
 use Rattle.std.specs.declared.alloc.AllocError.{AllocError}
 use Rattle.slice_driver.specs.Accounts.{FreesOn, freed_by}
-use Rattle.slice_driver.specs.Sessions.{SessionState, SessionSteps, session_result}
-use Rattle.slice_driver.specs.Working.{IsAtGroupEnd}
+use Rattle.slice_driver.specs.Sessions.{SessionState, SessionSteps, counted_in, session_result}
+use Rattle.slice_driver.specs.Working.{IsStill, MayWantMemory}
 use Rattle.slice_driver.specs.declared.session.told.SessionStep.{SessionStep}
-use Rattle.slice_driver.proofs.marking.Accounts.{frees_on, idle_on}
-use Rattle.slice_driver.proofs.marking.Sessions.{no_step_done, ok_steps, told_err}
+use Rattle.slice_driver.proofs.marking.Accounts.{frees_counted, frees_on, idle_on}
+use Rattle.slice_driver.proofs.marking.Sessions.{in_ledger, no_step_done, ok_steps, sound_counted, told_err}
 use Rattle.slice_driver.proofs.session.Session.advance.Goals as goal
 
 pub returns-then-limit-eq0-clause-done : goal.returns-then-limit-eq0-clause-done
@@ -45,8 +45,10 @@ returns-clause-done g c =
     (λ (x : SessionState _). IfOk (session_result c.advance-done.result after.report) (λ (step : SessionStep).
     SessionSteps c.args.limit x.collector (g.S.Flight.bits x.sweeper) x.report step after.collector
     (g.S.Flight.bits after.sweeper) (g.S.Sweeping.left (g.S.Flight.origin after.sweeper)) after.report))
-    c.self.view_is (ok_steps _ _ _ _ _ _ _ c.advance-done.result _ some running c.self.invariant.0
-    c.advance-done.ensures.handed c.advance-done.ensures.done))
+    c.self.view_is (ok_steps _ _ _ _ _ _ _ c.advance-done.result _ some running
+    (sound_counted _ _ _ c.self.invariant.0) c.advance-done.ensures.handed c.advance-done.ensures.done
+    c.self.inside.collector running
+    (ap (counted_in c.self.inside.collector) (sym c.advance-done.ensures.ledger))))
 
 pub returns-clause-accounts : goal.returns-clause-accounts
 returns-clause-accounts g c =
@@ -60,15 +62,39 @@ returns-clause-accounts g c =
     (λ (x : SessionState _). FreesOn x.collector (g.S.Flight.bits x.sweeper)
     (freed_by (session_result c.advance-done.result after.report) after.report) after.collector
     (g.S.Flight.bits after.sweeper))
-    c.self.view_is (frees_on _ _ _ _ _ _ _ _ c.advance-done.result c.advance-done.ensures.done
-    c.advance-done.ensures.err))
+    c.self.view_is (frees_counted _ _ _ _ _ _ (frees_on _ _ _ _ _ _ _ _ c.advance-done.result
+    c.advance-done.ensures.done c.advance-done.ensures.err)))
+
+pub returns-clause-err : goal.returns-clause-err
+returns-clause-err g c =
+    let after = c.advance-done.new in
+    subst
+    (λ (r : Result SessionStep AllocError). OnErr r (IsStill
+    (counted_in c.args.self.now.collector after.collector.heap.ledger) (g.S.Flight.bits c.args.self.now.sweeper)
+    after.collector (g.S.Flight.bits after.sweeper)))
+    (sym c.steps_of.ensures)
+    (told_err c.advance-done.result after.report _
+    (subst
+    (λ (x : SessionState _). OnErr c.advance-done.result (IsStill
+    (counted_in x.collector after.collector.heap.ledger) (g.S.Flight.bits x.sweeper) after.collector
+    (g.S.Flight.bits after.sweeper)))
+    c.self.view_is
+    (in_ledger (λ z. OnErr c.advance-done.result (IsStill z (g.S.Flight.bits c.self.inside.sweeper) after.collector
+    (g.S.Flight.bits after.sweeper))) c.self.inside.collector _ _ c.advance-done.ensures.ledger
+    c.advance-done.ensures.err)))
 
 pub returns-clause-err_where : goal.returns-clause-err_where
-returns-clause-err_where g c = subst
-    (λ (r : Result SessionStep AllocError). OnErr r (IsAtGroupEnd c.args.self.now.collector
-    (g.S.Flight.bits c.args.self.now.sweeper)))
+returns-clause-err_where g c =
+    let after = c.advance-done.new in
+    subst
+    (λ (r : Result SessionStep AllocError). OnErr r (MayWantMemory
+    (counted_in c.args.self.now.collector after.collector.heap.ledger) (g.S.Flight.bits c.args.self.now.sweeper)))
     (sym c.steps_of.ensures)
-    (told_err c.advance-done.result c.advance-done.new.report _
+    (told_err c.advance-done.result after.report _
     (subst
-    (λ (x : SessionState _). OnErr c.advance-done.result (IsAtGroupEnd x.collector (g.S.Flight.bits x.sweeper)))
-    c.self.view_is c.advance-done.ensures.err_where))
+    (λ (x : SessionState _). OnErr c.advance-done.result (MayWantMemory
+    (counted_in x.collector after.collector.heap.ledger) (g.S.Flight.bits x.sweeper)))
+    c.self.view_is
+    (in_ledger (λ z. OnErr c.advance-done.result (MayWantMemory z (g.S.Flight.bits c.self.inside.sweeper)))
+    c.self.inside.collector _ _
+    c.advance-done.ensures.ledger c.advance-done.ensures.err_where)))

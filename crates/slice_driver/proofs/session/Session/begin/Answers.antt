@@ -12,18 +12,18 @@ use Rattle.slice_driver.proofs.session.Session.begin.Goals as goal
 pub invariant_of-self : goal.invariant_of-self
 invariant_of-self g c = (
   c.begin.ensures.sound (g.S.Flight.bits c.self.inside.sweeper) c.self.invariant.0,
-  out_kept _ _ _ _ refl (begin_words c.begin.result c.self.inside.collector c.begin.new.collector
-      c.begin.ensures.words c.begin.ensures.refused) c.self.invariant.1,
+  out_kept _ _ _ _ refl (begin_words c.begin.result c.self.inside.collector c.begin.new.self c.begin.ensures.words
+      c.begin.ensures.refused) c.self.invariant.1,
 )
 
 pub returns-clause-begun : goal.returns-clause-begun
 returns-clause-begun g c = subst
-    (λ (x : SessionState _). OnOk c.begin.result (BeginsIn x.collector c.args.zones.bits c.begin.new.collector))
+    (λ (x : SessionState _). OnOk c.begin.result (BeginsIn x.collector c.args.zones.bits c.begin.new.self))
     c.self.view_is c.begin.ensures.begun
 
 pub returns-clause-within : goal.returns-clause-within
 returns-clause-within g c = subst
-    (λ (x : SessionState _). OnOk c.begin.result (BeginsWithin x.collector c.args.zones.bits c.begin.new.collector))
+    (λ (x : SessionState _). OnOk c.begin.result (BeginsWithin x.collector c.args.zones.bits c.begin.new.self))
     c.self.view_is c.begin.ensures.within
 
 pub returns-in_default-clause-no_zone : goal.returns-in_default-clause-no_zone
@@ -45,6 +45,6 @@ returns-clause-no_zone g c =
 
 pub returns-clause-accounts : goal.returns-clause-accounts
 returns-clause-accounts g c = subst
-    (λ (x : SessionState _). FreesOn x.collector (g.S.Flight.bits x.sweeper) [] c.begin.new.collector
+    (λ (x : SessionState _). FreesOn x.collector (g.S.Flight.bits x.sweeper) [] c.begin.new.self
     (g.S.Flight.bits c.self.inside.sweeper))
     c.self.view_is (begins_on _ _ _ c.begin.result c.args.zones.bits c.begin.ensures.begun c.begin.ensures.refused)

@@ -1,7 +1,7 @@
 use Rattle.std.proofs.Common.{rules}
 use Rattle.slice_driver.proofs.taking_in.TakingDue.{due_does, due_flies, due_freed, due_keeps, due_lowers, due_out}
 use Rattle.slice_driver.proofs.taking_in.TakingDue.{due_to_come, some_left}
-use Rattle.slice_driver.proofs.collector.Collector.take_due_into.Goals as goal
+use Rattle.slice_driver.proofs.collector.Collector.take_due.Goals as goal
 
 pub unreachable-requires : goal.unreachable-requires
 unreachable-requires g c = due_flies c.args.self.now (g.F.Flight.bits c.args.flight.now) c.args.arena
@@ -34,5 +34,6 @@ returns-clause-takes g c =
       out = due_out _ _ _ _ _ _ _ ready.sound c.requires.lowest ready.out taken c.take_one_into.new.self took.words;
       home = search rules;
       made = took.made;
+      ledger = took.ledger;
       weak = took.weak;
     }

@@ -1,1 +1,0 @@
--- Black by places and black by names.
