@@ -57,6 +57,7 @@ zone_word word.Finish rest c h e = absurd (cc (e, h.0))
 zone_word word.Collect rest c h e = absurd (cc (e, h.1))
 zone_word word.Colours rest c h e = absurd (cc (e, h.0))
 zone_word word.Dump rest c h e = absurd (cc (e, h.0))
+zone_word word.Reset rest c h e = absurd (cc (e, h.0))
 
 -- what a line stands for makes a zone, if anything that it stands for does
 one_zone : (line : List ℕ) (c d : Cmd) → Spells line c → Spells line d → d ≡ Graph cmd.Zone → c ≡ Graph cmd.Zone

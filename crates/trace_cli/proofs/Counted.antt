@@ -23,7 +23,9 @@ use Rattle.heap_core.specs.Shape.{ArenaShape, Shape, cell_in_arena, cell_of, nam
 use Rattle.slice_driver.specs.Collector.{CollectorState}
 use Rattle.slice_driver.specs.Present.{present_in_all, present_in_arena}
 use Rattle.slice_driver.specs.Represents.{Represents}
+use Rattle.slice_driver.specs.Worlds.{LiesIn}
 use Rattle.slice_driver.proofs.abstraction.Named.{named_present, some_one}
+use Rattle.slice_driver.proofs.abstraction.Phases.{placed_in}
 use Rattle.slice_driver.proofs.group_end.GrayNames.{present_within}
 use Rattle.slice_driver.proofs.group_end.Grays.{distinct_append, distinct_none, distinct_one}
 use Rattle.slice_driver.proofs.taking_in.PresentCells.{arena_there, take_one_more}
@@ -168,21 +170,24 @@ module _ (c : CollectorState) (flown : ℕ → Option Bits) (w : World) (r : Rep
   abbrev n : ℕ
   n = length c.heap.shape.arenas
 
+  lies : LiesIn c.heap w
+  lies = (placed_in c flown w r).lies
+
   apart : (p q : Place) (x : Name) → name_at s p ≡ Some x → name_at s q ≡ Some x → p ≡ q
-  apart p q x e f = some_one p q (sym ((r.placed.lies.places_are x p).1 e) ∙ (r.placed.lies.places_are x q).1 f)
+  apart p q x e f = some_one p q (sym ((lies.places_are x p).1 e) ∙ (lies.places_are x q).1 f)
 
   listed : (x : Name) (o : Option Place) → places.get w.places x ≡ o → is_some o ≡ true → Contains (names_up_to s n) x
   listed x None e some = absurd (cc some)
   listed x (Some p) e some =
-      let at = (r.placed.lies.places_are x p).0 e in
-      let within = present_within s p r.placed.lies.whole (named_present s p x at) in
+      let at = (lies.places_are x p).0 e in
+      let within = present_within s p lies.whole (named_present s p x at) in
       listed_up_to s n p.0 p.1 x within.0 within.1 at
 
   pub present_counted : Counts (IsPresentName w) (present_in_all c.heap.shape.arenas)
   present_counted = record {
     names = names_up_to s n;
     exact = λ x. (
-      λ h. let at = up_to_listed s n x h in ap is_some ((r.placed.lies.places_are x (at.0, at.1)).1 at.3),
+      λ h. let at = up_to_listed s n x h in ap is_some ((lies.places_are x (at.0, at.1)).1 at.3),
       λ p. listed x (places.get w.places x) refl p,
     );
     each_once = AllPairs-from_IsDistinct same_decides (names_up_to s n) (distinct_up_to s apart n);

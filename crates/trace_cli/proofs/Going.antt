@@ -1,6 +1,7 @@
 -- From one standing to the next, and to the exits.
-use Rattle.std.proofs.Common.{◌≡◌, ◌≢◌, ℕ, ◌+◌, ◌^◌, ◌<◌, ◌≤◌, List, [], Option, Some, None, refl, sym, subst, ◌∙◌}
-use Rattle.std.proofs.Common.{arith, ◌-◌, ◌*◌, is_some, true, false, inl, inr, ◌⊎◌}
+use Rattle.std.proofs.Common.{◌≡◌, ◌≢◌, ◌↔◌, ℕ, ◌+◌, ◌^◌, ◌<◌, ◌≤◌, List, [], Option, Some, None, refl, sym, subst, ◌∙◌}
+use Rattle.std.proofs.Common.{length, arith, ◌-◌, ◌*◌, is_some, true, false, inl, inr, ◌⊎◌, Result, Ok, Err}
+use Rattle.std.specs.Prelude.{IfOk}
 use Rattle.std.specs.Io.KnownBytes.{Appends}
 use Rattle.gz_io.specs.Causes.{AppendsFront, Rose}
 use Rattle.gz_io.specs.Lines.{GivesKnown, IsPlain}
@@ -9,7 +10,7 @@ use Rattle.gz_names.specs.declared.replies.Reply.{Reply}
 use Rattle.gz_names.specs.declared.replies.Report.{Report}
 use Rattle.cell_bits.specs.declared.bits.Bits.{Bits}
 use Rattle.colour_defs.specs.Laws.{IsValid}
-use Rattle.colour_defs.specs.Lawful.{Answers, beginning}
+use Rattle.colour_defs.specs.Lawful.{Answers, IsRunning, beginning}
 use Rattle.colour_defs.specs.World.{World, first_world}
 use Rattle.colour_defs.proofs.ValidRuns.{answer_valid}
 use Rattle.command_source.specs.Giving.{GivesCommand, GivesBad}
@@ -17,27 +18,37 @@ use Rattle.command_source.specs.Input.{Input, to_come}
 use Rattle.slice_driver.specs.Advances.{AreOut}
 use Rattle.slice_driver.specs.Collector.{CollectorState}
 use Rattle.slice_driver.specs.Left.{units_left}
+use Rattle.slice_driver.specs.Represents.{Represents}
 use Rattle.slice_driver.specs.Units.{none_flown}
 use Rattle.slice_driver.specs.UnitsToCome.{units_to_come}
+use Rattle.trace_cli.specs.declared.answer.AnswerFault.{AnswerFault}
 use Rattle.trace_cli.specs.declared.machine.Machine.{Machine}
+use Rattle.slice_driver.proofs.abstraction.WorldRuns.{world_runs}
 use Rattle.trace_cli.specs.declared.pending.Pending.{Pending}
+use Rattle.trace_cli.specs.declared.pending.Pending.TheVariants as pending
 use Rattle.trace_cli.specs.Headline.{WritesFront, WritesStart}
-use Rattle.trace_cli.specs.Pending.{Allows, done_of, limit_of}
+use Rattle.trace_cli.specs.Pending.{done_of, limit_of}
 use Rattle.trace_cli.specs.Reaching.{Stands}
 use Rattle.trace_cli.specs.Standing.{Amid, Between, EndsIn, Entry, HasMadeAtMost, HasRoomForOne, IsNew, IsStanding}
 use Rattle.trace_cli.specs.Standing.{MakesAtMostOne, MakesNone, Standing, StandsWith, amid, between, entry_of}
-use Rattle.trace_cli.specs.Standing.{last_line, somewhere, HandsOn, HasEnded, turns_left, unbegun, BreaksLine, EndsLine}
-use Rattle.trace_cli.specs.Starting.{IsAnswering, StartedAs}
+use Rattle.trace_cli.specs.Standing.{BreaksLine, EndsLine, HandsOn, HasEnded, first, last_line, somewhere}
+use Rattle.trace_cli.specs.Standing.{turns_left, unbegun}
+use Rattle.trace_cli.specs.Starting.{BeginsAnswer, IsAnswering, StartedAs}
 use Rattle.trace_cli.specs.Worlds.{EachWorld}
-use Rattle.trace_cli.specs.Writing.{BreaksInUnits, Goes, StopsInUnits}
+use Rattle.trace_cli.specs.Writing.{BreaksFurther, BreaksInReset, Goes, GoesFurther, GoesOnReset, StopsFurther}
+use Rattle.trace_cli.specs.Writing.{WritesSoFar, WritesSweeps, WritesUnits, broke_reset, broke_units, did_reset}
+use Rattle.trace_cli.specs.Writing.{did_units, stopped_before, stopped_units}
 use Rattle.trace_cli.proofs.ArenasOut.{out_none}
-use Rattle.trace_cli.proofs.Ending.{IsOver, answers_more, done_counted, line_breaks, line_fronts, line_stops}
-use Rattle.trace_cli.proofs.Ending.{line_writes}
+use Rattle.trace_cli.proofs.Ending.{IsOver, IsReset, answers_more, done_counted, is_reset, line_breaks, line_fronts}
+use Rattle.trace_cli.proofs.Ending.{line_stops, line_writes, reset_asked, so_far_sound, so_far_sweeps, so_far_units}
+use Rattle.trace_cli.proofs.Ending.{sweeps_so_far, units_so_far}
+use Rattle.trace_cli.proofs.Resetting.{no_sweeps, reset_broken, reset_waits, sweeps_break, sweeps_more}
 use Rattle.trace_cli.proofs.Stands.{opened_first, stands_first, stands_kept, stands_more, done_after, ends_write}
 use Rattle.trace_cli.proofs.Stands.{many_after, part_after, read_after, refused_after, refused_at_limit, refused_write}
 use Rattle.trace_cli.proofs.Stands.{start_front, start_kept, stop_after, write_after}
 use Rattle.trace_cli.proofs.UnitBound.{idle_within}
-use Rattle.trace_cli.proofs.Units.{more_breaks, more_stops, more_units, no_units}
+use Rattle.trace_cli.proofs.Units.{after_units, allows_none, more_breaks, more_stops, more_units, no_units}
+use Rattle.trace_cli.proofs.Units.{none_stopped}
 use Rattle.trace_cli.specs.declared.exit.Exit.{Exit}
 use Rattle.trace_cli.proofs.Closing.{bad_is_none, ended_done, ended_plain, ended_read, ended_write, limit_is_none}
 use Rattle.trace_cli.proofs.Closing.{memory_is_none}
@@ -135,6 +146,19 @@ keeps_valid : (w v : World) (c : Cmd) (reports : List Report) (answer : Reply) �
     → Answers w c reports answer v → IsValid v
 keeps_valid w v c reports answer ok answers = answer_valid beginning w c reports answer v ok answers
 
+-- nothing was done yet of a line that was begun
+first_so_far : (w : World) (command : Cmd) (left : Pending) (d : CollectorState) (g : ℕ → Option Bits)
+    (q : Option (List ℕ)) → (b : BeginsAnswer w command left d g)
+    → WritesSoFar left b.begun d g (units_to_come d g) 0 q q
+first_so_far w command left d g q b = elim (is_reset left) [
+  | inl is ↦ (let asked = reset_asked w command left 0 b.begun (units_to_come d g) b.answering is in
+      let running = subst IsRunning (sym asked.same) asked.running in
+      so_far_sweeps left b.begun d g (units_to_come d g) 0 q q is
+      (no_sweeps b.begun d g q ((world_runs d g b.begun b.represents).1 running) b.valid b.represents))
+  | inr other ↦ so_far_units left b.begun d g (units_to_come d g) 0 q q other
+      (no_units b.begun d g q b.valid b.represents)
+]
+
 -- a line was started in a world that the lines so far lead to
 module _ (e : Entry) (xs ys p q : Option (List ℕ)) (command : Cmd) (n : ℕ) (c d : CollectorState)
     (outs others : List (ℕ × ℕ)) (f g : ℕ → Option Bits) (so : Between e xs p n c outs f)
@@ -174,42 +198,126 @@ module _ (e : Entry) (xs ys p q : Option (List ℕ)) (command : Cmd) (n : ℕ) (
         most = units_to_come d g;
         count = 0;
         answering = begins.answering;
-        units = no_units begins.begun d g q begins.valid begins.represents;
-        few = omega (arith, small);
+        so_far = first_so_far so.world command left d g q begins;
+        few = λ other. omega (arith, small);
         made = one_made;
         out = stands.out;
       }
 
--- units of a line that is being answered
-module _ (e : Entry) (xs p q : Option (List ℕ)) (n : ℕ) (c d : CollectorState) (left now : Pending)
-    (outs others : List (ℕ × ℕ)) (f g : ℕ → Option Bits) (a : Amid e xs p n c left outs f) where
+-- a line that is being answered
+module _ (e : Entry) (xs p : Option (List ℕ)) (n : ℕ) (c : CollectorState) (left : Pending) (outs : List (ℕ × ℕ))
+    (f : ℕ → Option Bits) (a : Amid e xs p n c left outs f) where
   amid_stands : StandsWith c outs f
   amid_stands = record {
-    sound = record { world = a.units.after; valid = a.units.valid; represents = a.units.represents };
+    sound = so_far_sound left a.begun c f a.most a.count a.before p a.so_far;
     out = a.out;
   }
 
-  amid_few : done_of left + units_left c f < 2 ^ 64
-  amid_few = omega (arith, a.few, done_counted a.world a.command left a.count a.begun a.most a.answering)
+  amid_few : left ≢ pending.Reset → done_of left + units_left c f < 2 ^ 64
+  amid_few other = let few = a.few other in
+      omega (arith, few, done_counted a.world a.command left a.count a.begun a.most a.answering)
 
-  amid_breaks : EachWorld c f (λ w. (m : ℕ) × Allows left m × BreaksInUnits w m p q)
+  amid_units : left ≢ pending.Reset → WritesUnits a.begun c f a.most a.count a.before p
+  amid_units other = units_so_far left a.begun c f a.most a.count a.before p other a.so_far
+
+  amid_sweeps : left ≡ pending.Reset → WritesSweeps a.begun c f a.before p
+  amid_sweeps is = sweeps_so_far left a.begun c f a.most a.count a.before p is a.so_far
+
+  amid_asked : left ≡ pending.Reset → IsReset a.world a.command a.begun
+  amid_asked is = reset_asked a.world a.command left a.count a.begun a.most a.answering is
+
+  amid_runs : left ≡ pending.Reset → IsRunning a.begun
+  amid_runs is = let asked = amid_asked is in subst IsRunning (sym asked.same) asked.running
+
+  amid_breaks : (q : Option (List ℕ)) → EachWorld c f (λ w. BreaksFurther w left p q)
       → WritesFront a.world a.command a.before q
-  amid_breaks breaks =
-      let b = breaks a.units.after a.units.valid a.units.represents in
-      line_breaks a.world a.command left a.count b.0 a.begun a.most a.before q a.answering b.1
-      (more_breaks a.begun c f a.most a.count b.0 a.before p q a.units b.2)
+  amid_breaks q breaks = by (is_reset left)
+    where
+      in_units : left ≢ pending.Reset → (h : WritesUnits a.begun c f a.most a.count a.before p)
+          → BreaksFurther h.after left p q → WritesFront a.world a.command a.before q
+      in_units other h (broke_units m same allowed b) =
+          line_breaks a.world a.command left a.count m a.begun a.most a.before q a.answering other allowed
+          (more_breaks a.begun c f a.most a.count m a.before p q h b)
+      in_units other h (broke_reset is b) = absurd (other is)
 
-  amid_stops : EachWorld c f (λ w. (m : ℕ) × Allows left m × StopsInUnits w m p q)
+      in_reset : left ≡ pending.Reset → (h : WritesSweeps a.begun c f a.before p) → BreaksFurther h.after left p q
+          → WritesFront a.world a.command a.before q
+      in_reset is h (broke_units m other allowed b) = absurd (other is)
+      in_reset is h (broke_reset same b) =
+          let asked = amid_asked is in
+          subst (λ (x : Cmd). WritesFront a.world x a.before q) (sym asked.cmd_is)
+          (reset_broken a.world a.before q (subst (λ (w : World). BreaksInReset w a.before q) asked.same
+          (sweeps_break a.begun c f a.before p q (amid_runs is) h b)))
+
+      by : (left ≡ pending.Reset) ⊎ (left ≢ pending.Reset) → WritesFront a.world a.command a.before q
+      by (inl is) =
+          let h = amid_sweeps is in in_reset is h (breaks h.after h.valid h.represents)
+      by (inr other) =
+          let h = amid_units other in in_units other h (breaks h.after h.valid h.represents)
+
+  amid_stops : (q : Option (List ℕ)) → EachWorld c f (λ w. StopsFurther w left p q)
       → WritesStart a.world a.command a.before q
-  amid_stops stops =
-      let b = stops a.units.after a.units.valid a.units.represents in
-      line_stops a.world a.command left a.count b.0 a.begun a.most a.before q a.answering b.1
-      (more_stops a.begun c f a.most a.count b.0 a.before p q a.units b.2)
+  amid_stops q stops = by (is_reset left)
+    where
+      in_units : left ≢ pending.Reset → (h : WritesUnits a.begun c f a.most a.count a.before p)
+          → StopsFurther h.after left p q → WritesStart a.world a.command a.before q
+      in_units other h (stopped_units m same allowed b) =
+          line_stops a.world a.command left a.count m a.begun a.most a.before q a.answering other allowed
+          (more_stops a.begun c f a.most a.count m a.before p q h b)
+      in_units other h (stopped_before kept) =
+          line_stops a.world a.command left a.count 0 a.begun a.most a.before q a.answering other (allows_none left)
+          (more_stops a.begun c f a.most a.count 0 a.before p q h (none_stopped h.after p q kept))
 
-  -- its units go on
-  amid_more : Goes c f left d g now p q → MakesNone c d → AreOut d.heap.shape others
+      in_reset : left ≡ pending.Reset → (h : WritesSweeps a.begun c f a.before p) → StopsFurther h.after left p q
+          → WritesStart a.world a.command a.before q
+      in_reset is h (stopped_units m other allowed b) = absurd (other is)
+      in_reset is h (stopped_before kept) =
+          let asked = amid_asked is in
+          subst (λ (x : Cmd). WritesStart a.world x a.before q) (sym asked.cmd_is)
+          (reset_waits a.world c f a.before p q asked.running
+          (subst (λ (w : World). WritesSweeps w c f a.before p) asked.same h) kept)
+
+      by : (left ≡ pending.Reset) ⊎ (left ≢ pending.Reset) → WritesStart a.world a.command a.before q
+      by (inl is) =
+          let h = amid_sweeps is in in_reset is h (stops h.after h.valid h.represents)
+      by (inr other) =
+          let h = amid_units other in in_units other h (stops h.after h.valid h.represents)
+
+  made_on : (d : CollectorState) → MakesNone c d → HasMadeAtMost d (n + 1)
+  made_on d size = record {
+    made = omega (arith, a.made.made, size.made);
+    entries = omega (arith, a.made.entries, size.entries);
+  }
+
+  -- it goes on
+  amid_more : (q : Option (List ℕ)) (d : CollectorState) (now : Pending) (others : List (ℕ × ℕ))
+      (g : ℕ → Option Bits) → GoesFurther c f left d g now p q → MakesNone c d → AreOut d.heap.shape others
       → Amid e xs q n d now others g
-  amid_more goes size out = record {
+  amid_more q d now others g (did_units other goes) size out =
+      let after_now : now ≢ pending.Reset = λ is. after_units left goes.count other (sym goes.left_is ∙ is) in
+      let h = amid_units other in
+      record {
+        world = a.world;
+        valid = a.valid;
+        asked = a.asked;
+        before = a.before;
+        stands = a.stands;
+        command = a.command;
+        given = a.given;
+        begun = a.begun;
+        most = a.most;
+        count = a.count + goes.count;
+        answering = subst (λ (x : Pending). IsAnswering a.world a.command x (a.count + goes.count) a.begun a.most)
+            (sym goes.left_is)
+            (answers_more a.world a.command left a.count goes.count a.begun a.most a.answering goes.most);
+        so_far = so_far_units now a.begun d g a.most (a.count + goes.count) a.before q after_now
+            (more_units a.begun c d f g a.most a.count goes.count a.before p q h
+            (goes.writes h.after h.valid h.represents));
+        few = λ same. (let few = a.few other in omega (arith, few, goes.less));
+        made = made_on d size;
+        out = out;
+      }
+  amid_more q d now others g (did_reset is now_is goes) size out = record {
     world = a.world;
     valid = a.valid;
     asked = a.asked;
@@ -219,26 +327,35 @@ module _ (e : Entry) (xs p q : Option (List ℕ)) (n : ℕ) (c d : CollectorStat
     given = a.given;
     begun = a.begun;
     most = a.most;
-    count = a.count + goes.count;
-    answering = subst (λ (x : Pending). IsAnswering a.world a.command x (a.count + goes.count) a.begun a.most)
-        (sym goes.left_is)
-        (answers_more a.world a.command left a.count goes.count a.begun a.most a.answering goes.most);
-    units = more_units a.begun c d f g a.most a.count goes.count a.before p q a.units
-        (goes.writes a.units.after a.units.valid a.units.represents);
-    few = omega (arith, a.few, goes.less);
-    made = record {
-      made = omega (arith, a.made.made, size.made);
-      entries = omega (arith, a.made.entries, size.entries);
-    };
+    count = a.count;
+    answering = subst (λ (x : Pending). IsAnswering a.world a.command x a.count a.begun a.most) (is ∙ sym now_is)
+        a.answering;
+    so_far = so_far_sweeps now a.begun d g a.most a.count a.before q now_is
+        (sweeps_more a.begun c d f g a.before p q (amid_runs is) (amid_sweeps is) goes);
+    few = λ other. absurd (other now_is);
+    made = made_on d size;
     out = out;
   }
 
--- a line that had all its units
+-- what of it was done, by what it is
+pub reset_goes : (c : CollectorState) (f : ℕ → Option Bits) (left : Pending) (d : CollectorState) (g : ℕ → Option Bits)
+    (p q : Option (List ℕ)) (r : Result Pause AnswerFault) → left ≡ pending.Reset
+    → IfOk r (λ t. GoesOnReset c f d (bits_in t g) p q) → IfOk r (λ t. GoesFurther c f left d (bits_in t g) left p q)
+reset_goes c f left d g p q (Ok t) is goes = did_reset is is goes
+reset_goes c f left d g p q (Err x) is goes = tt
+
+pub units_go : (c : CollectorState) (f : ℕ → Option Bits) (left : Pending) (d : CollectorState) (g : ℕ → Option Bits)
+    (now : Pending) (p q : Option (List ℕ)) (r : Result Pause AnswerFault) → left ≢ pending.Reset
+    → IfOk r (λ t. Goes c f left d (bits_in t g) now p q) → IfOk r (λ t. GoesFurther c f left d (bits_in t g) now p q)
+units_go c f left d g now p q (Ok t) other goes = did_units other goes
+units_go c f left d g now p q (Err x) other goes = tt
+
+-- a line of which nothing is left to do
 module _ (e : Entry) (xs q r : Option (List ℕ)) (n : ℕ) (d : CollectorState) (left : Pending)
     (outs : List (ℕ × ℕ)) (g : ℕ → Option Bits) (a : Amid e xs q n d left outs g) (over : IsOver left d) where
   amid_ends : Appends q r (last_line left) → Between e xs r (n + 1) d outs g
   amid_ends written =
-      let writes = line_writes a.world a.command left a.count a.begun a.most d g a.before q r a.answering a.units over
+      let writes = line_writes a.world a.command left a.count a.begun a.most d g a.before q r a.so_far over a.answering
       written in record {
         world = writes.after;
         represents = writes.represents;
@@ -251,7 +368,7 @@ module _ (e : Entry) (xs q r : Option (List ℕ)) (n : ℕ) (d : CollectorState)
 
   amid_fronts : AppendsFront q r (last_line left) → WritesFront a.world a.command a.before r
   amid_fronts written =
-      line_fronts a.world a.command left a.count a.begun a.most d g a.before q r a.answering a.units over written
+      line_fronts a.world a.command left a.count a.begun a.most d g a.before q r a.so_far over a.answering written
 
 -- what the next line asks
 pub starts_at : {m : Machine} {i : Input} {written : Option (List ℕ)} {writes : ℕ} {outs : List (ℕ × ℕ)}
@@ -279,22 +396,21 @@ room_at none other (somewhere e s) =
       entries = omega (arith, so.here.made.entries, so.few, other);
     }
 
--- what the units of a line ask
+-- what going on with a line asks
 pub stands_at : {m : Machine} {more : Pending} {i : Input} {written : Option (List ℕ)} {writes : ℕ}
     {outs : List (ℕ × ℕ)} {flown : ℕ → Option Bits} → m.pending ≡ Some more
     → IsStanding m i written writes outs flown → StandsWith m.collector outs flown
 stands_at {m} {more} {i} {written} {writes} {outs} {flown} some (somewhere e s) =
     let so = opened_amid some s in
-    amid_stands e (to_come i) written written m.answered m.collector m.collector more more outs
-    outs flown flown so.here
+    amid_stands e (to_come i) written m.answered m.collector more outs flown so.here
 
 pub few_at : {m : Machine} {more : Pending} {i : Input} {written : Option (List ℕ)} {writes : ℕ}
     {outs : List (ℕ × ℕ)} {flown : ℕ → Option Bits} → m.pending ≡ Some more
-    → IsStanding m i written writes outs flown → done_of more + units_left m.collector flown < 2 ^ 64
-few_at {m} {more} {i} {written} {writes} {outs} {flown} some (somewhere e s) =
+    → IsStanding m i written writes outs flown → more ≢ pending.Reset
+    → done_of more + units_left m.collector flown < 2 ^ 64
+few_at {m} {more} {i} {written} {writes} {outs} {flown} some (somewhere e s) other =
     let so = opened_amid some s in
-    amid_few e (to_come i) written written m.answered m.collector m.collector more more outs
-    outs flown flown so.here
+    amid_few e (to_come i) written m.answered m.collector more outs flown so.here other
 
 pub below_at : {m : Machine} {more : Pending} {i : Input} {written : Option (List ℕ)} {writes : ℕ}
     {outs : List (ℕ × ℕ)} {flown : ℕ → Option Bits} → m.pending ≡ Some more
@@ -320,6 +436,22 @@ pub stands_on : {m k : Machine} {i j : Input} {written text : Option (List ℕ)}
     → IsStanding m i written writes outs flown → IsStanding k j text fell others flying
 stands_on f (somewhere e s) = somewhere e (f e s)
 
+-- edges are counted from now on
+pub new_counted : (m : Machine) (c : CollectorState) (ledger : Option ℕ)
+    → c ≡ record m.collector { heap = record m.collector.heap { ledger = ledger } }
+    → ((flown : ℕ → Option Bits) (w : World) → Represents m.collector flown w ↔ Represents c flown w) → IsNew m
+    → IsNew (record m { collector = c })
+new_counted m c ledger is same new =
+    let f = opened_first new.collector in
+    record {
+      collector = first f.valid ((same none_flown first_world).0 f.represents) (record {
+        made = subst (λ (d : CollectorState). d.heap.made ≤ 0) (sym is) f.made.made;
+        entries = subst (λ (d : CollectorState). length d.heap.shape.weak.entries ≤ 0) (sym is) f.made.entries;
+      });
+      answered = new.answered;
+      pending = new.pending;
+    }
+
 -- a replay that begins
 pub new_stands : (m : Machine) (i : Input) (written : Option (List ℕ)) (writes : ℕ) → IsNew m → i.held ≡ []
     → Standing (entry_of i.left written i.faults writes) m i written writes [] none_flown
@@ -330,7 +462,8 @@ new_stands m i written writes new held =
       world = first_world;
       represents = f.represents;
       valid = f.valid;
-      within = idle_within m.collector none_flown first_world refl;
+      within = idle_within m.collector none_flown first_world
+          (record { none_running = refl; none_preparing = refl });
       stands = subst (λ (n : ℕ). Stands i.left (to_come i) written written n first_world)
           (sym none) (stands_first i.left written i.held held);
       made = subst (λ (n : ℕ). HasMadeAtMost m.collector n) (sym none) f.made;
@@ -424,7 +557,7 @@ below : {e : Entry} {m : Machine} {i : Input} {q : Option (List ℕ)} {f : ℕ} 
     {flown : ℕ → Option Bits} → AtStart e m i q f outs flown → m.answered ≢ 4294967295 → m.answered < 4294967295
 below so other = let few = so.few in omega (arith, few, other)
 
--- it was started: its units are left to be done
+-- it was started: something of it is left to be done
 pub line_begun : (e : Entry) (m : Machine) (i j : Input) (q r : Option (List ℕ)) (f g : ℕ) (outs others : List (ℕ × ℕ))
     (flown flying : ℕ → Option Bits) (d : CollectorState) → AtStart e m i q f outs flown → m.answered ≢ 4294967295
     → (command : Cmd) → GivesCommand (to_come i) (to_come j) command → StandsWith d others flying
@@ -477,42 +610,42 @@ pub turn_over : (m k : Machine) (d : CollectorState) (left : Pending) → m.pend
 turn_over m k d left some few is = subst (λ (n : Machine). turns_left n < turns_left m) (sym is)
     (turn_ended m.answered m.pending left some few)
 
--- where units of a line could not be done, or their reports not be written
+-- where what is left of a line could not be done, or its reports not be written
 module _ (e : Entry) (m k : Machine) (left : Pending) (i : Input) (p q : Option (List ℕ)) (f g behind : ℕ)
     (outs : List (ℕ × ℕ)) (flown : ℕ → Option Bits) (so : AtAmid e m left i p f outs flown) where
-  pub amid_broken : EachWorld m.collector flown (λ w. (n : ℕ) × Allows left n × BreaksInUnits w n p q) → Rose f g
+  pub amid_broken : EachWorld m.collector flown (λ w. BreaksFurther w left p q) → Rose f g
       → HasEnded e exit.WriteFault k i q g behind
   amid_broken breaks rose =
       ended_write e k i q f g behind
       (part_after _ _ _ _ _ _ i.held m.answered so.here.world so.here.command so.here.stands so.here.given
-      (amid_breaks e _ p q m.answered m.collector m.collector left left outs [] flown none_flown so.here breaks))
+      (amid_breaks e _ p m.answered m.collector left outs flown so.here q breaks))
       (omega (arith, so.writes_are)) rose
 
   pub amid_wanting : (r : Option (List ℕ)) (h : ℕ) (x : Exit)
-      → EachWorld m.collector flown (λ w. (n : ℕ) × Allows left n × StopsInUnits w n p q) → f ≤ h → Appends q r []
+      → EachWorld m.collector flown (λ w. StopsFurther w left p q) → f ≤ h → Appends q r []
       → HandsOn exit.NoMemory x h g behind → HasEnded e x k i r g behind
   amid_wanting r h x stops later kept cause =
       let start = start_kept so.here.world so.here.command _ _ _
-      (amid_stops e _ p q m.answered m.collector m.collector left left outs [] flown none_flown so.here stops) kept in
+      (amid_stops e _ p m.answered m.collector left outs flown so.here q stops) kept in
       ended_plain e k x i r h g behind
       (part_after _ _ _ _ _ _ i.held m.answered so.here.world so.here.command so.here.stands so.here.given
       (start_front so.here.world so.here.command _ _ start)) (omega (arith, so.writes_are, later)) exit.NoMemory
       (stop_after _ _ _ _ _ _ i.held m.answered so.here.world so.here.command so.here.stands so.here.given start)
       memory_is_none cause
 
--- where its units went on
+-- where it went on
 amid_now : (e : Entry) (m : Machine) (left now : Pending) (i : Input) (p q : Option (List ℕ)) (f : ℕ)
     (outs others : List (ℕ × ℕ)) (flown flying : ℕ → Option Bits) (d : CollectorState) (t : Pause)
-    (so : AtAmid e m left i p f outs flown) → Goes m.collector flown left d (bits_in t flying) now p q
+    (so : AtAmid e m left i p f outs flown) → GoesFurther m.collector flown left d (bits_in t flying) now p q
     → MakesNone m.collector d → StandsWith d (outs_in t others) (bits_in t flying)
     → Amid e (to_come i) q m.answered d now (outs_in t others) (bits_in t flying)
 amid_now e m left now i p q f outs others flown flying d t so goes size stands =
-    amid_more e (to_come i) p q m.answered m.collector d left now outs (outs_in t others) flown (bits_in t flying)
-    so.here goes size stands.out
+    amid_more e (to_come i) p m.answered m.collector left outs flown so.here q d now (outs_in t others)
+    (bits_in t flying) goes size stands.out
 
 stands_amid : (e : Entry) (m : Machine) (left now : Pending) (i : Input) (p q : Option (List ℕ)) (f g : ℕ)
     (outs others : List (ℕ × ℕ)) (flown flying : ℕ → Option Bits) (d : CollectorState) (t : Pause)
-    (so : AtAmid e m left i p f outs flown) → Goes m.collector flown left d (bits_in t flying) now p q
+    (so : AtAmid e m left i p f outs flown) → GoesFurther m.collector flown left d (bits_in t flying) now p q
     → MakesNone m.collector d → StandsWith d (outs_in t others) (bits_in t flying) → g ≡ f
     → Standing e (record { collector = d; answered = m.answered; pending = Some now }) i q g
     (outs_in t others) (bits_in t flying)
@@ -523,7 +656,7 @@ stands_amid e m left now i p q f g outs others flown flying d t so goes size sta
 -- the loop pauses amid the line
 pub amid_pauses : (e : Entry) (m : Machine) (left now : Pending) (i : Input) (p q : Option (List ℕ)) (f g behind : ℕ)
     (outs others : List (ℕ × ℕ)) (flown flying : ℕ → Option Bits) (d : CollectorState) (t : Pause)
-    (so : AtAmid e m left i p f outs flown) → Goes m.collector flown left d (bits_in t flying) now p q
+    (so : AtAmid e m left i p f outs flown) → GoesFurther m.collector flown left d (bits_in t flying) now p q
     → MakesNone m.collector d → StandsWith d (outs_in t others) (bits_in t flying) → g ≡ f → IsLeftBy t others flying
     → PausesSo t e (record { collector = d; answered = m.answered; pending = Some now }) i q g behind others flying
 amid_pauses e m left now i p q f g behind outs others flown flying d pause.None so goes size stands writes by =
@@ -541,10 +674,10 @@ amid_pauses e m left now i p q f g behind outs others flown flying d (pause.Swee
 amid_pauses e m left now i p q f g behind outs others flown flying d (pause.Over x) so goes size stands writes by =
     absurd by
 
--- the line had all its units, and its last line was written, or a prefix of it
+-- nothing was left to do of the line, and its last line was written, or a prefix of it
 pub amid_over : (e : Entry) (m k : Machine) (left now : Pending) (i : Input) (p q r : Option (List ℕ)) (f g h : ℕ)
     (outs others : List (ℕ × ℕ)) (flown flying : ℕ → Option Bits) (d : CollectorState) (t : Pause)
-    (so : AtAmid e m left i p f outs flown) → Goes m.collector flown left d (bits_in t flying) now p q
+    (so : AtAmid e m left i p f outs flown) → GoesFurther m.collector flown left d (bits_in t flying) now p q
     → MakesNone m.collector d → StandsWith d (outs_in t others) (bits_in t flying) → g ≡ f → t ≡ pause.None
     → (0 < limit_of now → d.run ≡ None)
     → EndsLine (record { collector = d; answered = m.answered; pending = m.pending }) now k q r → h ≡ g
@@ -565,7 +698,7 @@ amid_over e m k left now i p q r f g h outs others flown flying d (pause.Over x)
 
 pub amid_unended : (e : Entry) (m k : Machine) (left now : Pending) (i : Input) (p q r : Option (List ℕ))
     (f g h behind : ℕ) (outs others : List (ℕ × ℕ)) (flown flying : ℕ → Option Bits) (d : CollectorState) (t : Pause)
-    (so : AtAmid e m left i p f outs flown) → Goes m.collector flown left d (bits_in t flying) now p q
+    (so : AtAmid e m left i p f outs flown) → GoesFurther m.collector flown left d (bits_in t flying) now p q
     → MakesNone m.collector d → StandsWith d (outs_in t others) (bits_in t flying) → g ≡ f → t ≡ pause.None
     → (0 < limit_of now → d.run ≡ None) → BreaksLine now q r → Rose g h → HasEnded e exit.WriteFault k i r h behind
 amid_unended e m k left now i p q r f g h behind outs others flown flying d pause.None so goes size stands writes none

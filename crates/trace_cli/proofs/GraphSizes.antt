@@ -28,7 +28,7 @@ use Rattle.colour_defs.specs.World.{World, Preparation, Collection, AcceptsIn, A
 use Rattle.colour_defs.specs.World.{first_world, with_counts, woken_by, also_woken_by}
 use Rattle.colour_defs.specs.WeakRefs.{WeakInWorld, unwatch_cell, watch_cell, weak_cell, with_read}
 use Rattle.colour_defs.specs.Lawful.{IsLawfulReport, IsLawfulUnit, quiet, says, last, AreLawfulUnits, AreLawfulSweeps}
-use Rattle.colour_defs.specs.Lawful.{LastOfReset, Slices, BeginsAtOnce, RefusesToBegin, Answers, Run}
+use Rattle.colour_defs.specs.Lawful.{LastOfReset, Slices, Prepares, RefusesToBegin, Answers, Run}
 use Rattle.colour_defs.proofs.Lists.{choose, length_push, length_set}
 use Rattle.trace_cli.specs.Headline.{StandForAll, LeadsTo}
 
@@ -219,8 +219,8 @@ last_graph w (Swept arena freed) v h = absurd h
 last_graph w Done v h = ap graph_in h.world_is
 last_graph w (Stopped zones) v h = ap graph_in h.world_is
 
-begun_graph : (w : World) (zones : List ℕ) (v : World) → BeginsAtOnce w zones v → v.graph ≡ w.graph
-begun_graph w zones v h = ap graph_in h.begins.world_is ∙ ap graph_in h.prepares.world_is
+begun_graph : (w : World) (zones : List ℕ) (v : World) → Prepares w zones v → v.graph ≡ w.graph
+begun_graph w zones v h = ap graph_in h.world_is
 
 sliced_graph : (w : World) (reports : List Report) (k : ℕ) (v : World) → Slices w reports k v → v.graph ≡ w.graph
 sliced_graph w reports k v h = ap graph_in h.world_is ∙ units_graph w h.units h.after h.done

@@ -16,9 +16,9 @@ use Rattle.trace_cli.specs.declared.machine.Pause.TheVariants as pause
 use Rattle.trace_cli.specs.declared.pending.Pending.{Pending}
 use Rattle.trace_cli.specs.Pauses.{PausesSo, Sweeps}
 use Rattle.trace_cli.specs.Standing.{Entry, HandsOn, HasEnded, IsStanding, Standing, amid, between, somewhere}
+use Rattle.trace_cli.specs.Writing.{stopped_before}
 use Rattle.trace_cli.proofs.Going.{opened_amid}
 use Rattle.trace_cli.proofs.Going.{amid_wanting}
-use Rattle.trace_cli.proofs.Units.{goes_stops, none_gone}
 
 -- where the loop pauses nothing is said of the arenas that it was over
 pub paused : (e : Entry) (m : Machine) (i : Input) (written : Option (List ℕ)) (writes behind : ℕ)
@@ -91,5 +91,4 @@ unswept e m i p q f g behind outs flown r sweeps kept cause = at sweeps.stands s
     at (between none few b reads writes) some = absurd (none_left m.pending none some)
     at (amid more is few a reads writes) some =
         amid_wanting e m m more i p p f g behind outs flown (opened_amid is (amid more is few a reads writes)) q f r
-        (goes_stops more more m.collector m.collector flown flown p p p (none_gone more m.collector flown p)
-        (Appends-nil p)) (omega arith) kept cause
+        (λ w ok stands. stopped_before (Appends-nil p)) (omega arith) kept cause

@@ -18,9 +18,12 @@ pub mod Replied
 pub mod GraphSizes
 pub mod DumpedNames
 pub mod Started
+pub mod Preparing
+pub mod Resetting
 pub mod Ending
 pub mod Closing
 pub mod Going
 pub mod Handing
 pub mod Counted
 pub mod Storming
+pub mod Sent

@@ -1,5 +1,5 @@
 -- Slices of a collection: what was written of them, and the world after them.
-use Rattle.std.proofs.Common.{◌≡◌, ◌≤◌, ◌<◌, ℕ, List, [], Option, Some, None, refl, ap, sym, ◌∙◌}
+use Rattle.std.proofs.Common.{◌≡◌, ◌+◌, ◌≤◌, ◌<◌, ℕ, List, [], Option, Some, None, refl, ap, sym, ◌∙◌}
 use Rattle.std.proofs.Common.{inl, inr}
 use Rattle.std.specs.Io.KnownBytes.{Appends}
 use Rattle.gz_io.specs.Causes.{AppendsFront}
@@ -14,14 +14,13 @@ use Rattle.colour_defs.specs.Laws.{IsValid}
 use Rattle.colour_defs.specs.Lawful.{Answers, IsRunning, RefusesIdle, Slices, with_spent, with_spent_preparing}
 use Rattle.heap_core.specs.Heap.{HeapState}
 use Rattle.slice_driver.specs.Collector.{CollectorState, RunState, heap_with}
-use Rattle.slice_driver.specs.Represents.{Represents, RunsAs}
+use Rattle.slice_driver.specs.Represents.{Represents, RunsAs, going, prepared}
 use Rattle.slice_driver.specs.UnitsToCome.{IsWithin}
 use Rattle.slice_driver.proofs.basics.Worlds.{placed_running}
 use Rattle.trace_cli.specs.Headline.{report_lines, answer_lines, IsAccepted, WritesAnswer, WritesFront, WritesStart}
 use Rattle.trace_cli.specs.Starting.{RunsWithin}
 use Rattle.trace_cli.specs.Writing.{reports_in, BreaksInUnits, StopsInUnits, WritesUnits}
-use Rattle.trace_cli.proofs.Answered.{not_both}
-use Rattle.trace_cli.proofs.Flights.{idle_world}
+use Rattle.trace_cli.proofs.Flights.{idle_world, not_both}
 use Rattle.trace_cli.proofs.UnitBound.{spent, spent_within, units_slice}
 use Rattle.trace_cli.proofs.Written.{both_written, then_front_written}
 
@@ -41,6 +40,7 @@ runs_spent h c w n None None i = i
 runs_spent h c w n None (Some k) i = i
 runs_spent h c w n (Some r) None i = i
 runs_spent h c w n (Some r) (Some k) i = record {
+  started = i.started;
   zones_are = i.zones_are;
   marking_are = i.marking_are;
   groups_are = i.groups_are;
@@ -82,19 +82,41 @@ runs_spent h c w n (Some r) (Some k) i = record {
 
 represents_spent : (c : CollectorState) (f : ℕ → Option Bits) (w : World) (n : ℕ) → Represents c f w → Represents c f
     (spent n w)
-represents_spent c f w n r = record {
+represents_spent c f w n (going m) = going (record {
+  placed = placed_running c.heap w (with_spent n w.collection) (with_spent_preparing n w.preparing) m.placed;
+  swept = m.swept;
+  coloured = m.coloured;
+  phase = record {
+    calm = ap (with_spent_preparing n) m.phase.calm;
+    black = λ settled. m.phase.black (record {
+      none_marking = sym (marking_spent n w.collection) ∙ settled.none_marking;
+      none_preparing = m.phase.calm;
+    });
+    runs = runs_spent (heap_with c f) c w n c.run w.collection m.phase.runs;
+  };
+})
+represents_spent c f w n (prepared r) = prepared (record {
+  run = r.run;
+  run_is = r.run_is;
+  uncleared = r.uncleared;
+  clearing = r.clearing;
+  unformed = r.unformed;
   placed = placed_running c.heap w (with_spent n w.collection) (with_spent_preparing n w.preparing) r.placed;
   swept = r.swept;
-  coloured = r.coloured;
+  none_out = r.none_out;
+  cleared = r.cleared;
   phase = record {
-    calm = ap (with_spent_preparing n) r.phase.calm;
-    black = λ settled. r.phase.black (record {
-      none_marking = sym (marking_spent n w.collection) ∙ settled.none_marking;
-      none_preparing = r.phase.calm;
-    });
-    runs = runs_spent (heap_with c f) c w n c.run w.collection r.phase.runs;
+    preparation = record r.phase.preparation { spent = r.phase.preparation.spent + n };
+    preparing_is = ap (with_spent_preparing n) r.phase.preparing_is;
+    none_running = ap (with_spent n) r.phase.none_running;
+    zones_are = r.phase.zones_are;
+    some = r.phase.some;
+    made = r.phase.made;
+    inside = r.phase.inside;
+    outside = r.phase.outside;
+    black = r.phase.black;
   };
-}
+})
 
 -- units of a collection that ran, in a slice
 module _ (d : CollectorState) (flying : ℕ → Option Bits) (most n : ℕ) (w : World) (runs : RunsWithin w most)

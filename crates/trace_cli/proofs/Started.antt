@@ -9,11 +9,9 @@ use Rattle.cell_bits.specs.declared.bits.Bits.{Bits}
 use Rattle.slice_driver.specs.Collector.{CollectorState}
 use Rattle.slice_driver.specs.Units.{BeginsIn}
 use Rattle.trace_cli.specs.Answering.{AnswersCommand, StartsCommand}
-use Rattle.trace_cli.specs.Headline.{WritesStart}
-use Rattle.trace_cli.specs.Starting.{BeginsAnswer, StartedAs, collects, finishes, slices}
-use Rattle.trace_cli.specs.Worlds.{EachWorld, EachWorldWithin}
+use Rattle.trace_cli.specs.Starting.{BeginsAnswer, StartedAs, collects, finishes, resets, slices}
+use Rattle.trace_cli.specs.Worlds.{EachWorldWithin}
 use Rattle.trace_cli.specs.declared.answer.AnswerFault.{AnswerFault}
-use Rattle.trace_cli.specs.declared.answer.AnswerFault.TheVariants as fault
 use Rattle.trace_cli.specs.declared.pending.Pending.{Pending}
 use Rattle.trace_cli.specs.declared.pending.Pending.TheVariants as pending
 use Rattle.trace_cli.proofs.Flights.{running_world}
@@ -44,14 +42,6 @@ begun does kept = record {
   write = λ e. absurd (cc e);
 }
 
--- memory was wanted
-pub start_wanted : {U : Type 0} {cmd : Cmd} {left : Option Pending} {old new : CollectorState}
-    {flown flying : ℕ → Option Bits} {p q : Option (List ℕ)} → left ≡ None
-    → EachWorld old flown (λ w. WritesStart w cmd p q)
-    → StartsCommand {T = U} cmd left old flown new flying p q (Err fault.Memory)
-start_wanted e start =
-    record { ok = tt; none = e; memory = λ k. start; write = λ k. absurd (cc k) }
-
 -- a collection was begun for `collect`
 pub collect_begins : (c d : CollectorState) (f : ℕ → Option Bits) (zones : ZoneSet) → BeginsIn c zones.bits d
     → EachWorldWithin c f (λ w. BeginsAnswer w (command.Collect zones) pending.Collect d f)
@@ -63,7 +53,7 @@ collect_begins c d f zones begins w ok stands within =
       answering = collects zones refl refl b.1;
     }
 
--- one goes on for `slice` and `finish`
+-- one goes on for `slice` and `finish`, and `reset` gives one up
 pub slice_begins : (c : CollectorState) (f : ℕ → Option Bits) (budget left : ℕ) → left ≡ budget → IsSome c.run
     → EachWorldWithin c f (λ w. BeginsAnswer w (command.Slice budget) (pending.Slice left 0) c f)
 slice_begins c f budget left same runs w ok stands within = record {
@@ -71,7 +61,7 @@ slice_begins c f budget left same runs w ok stands within = record {
   valid = ok;
   represents = stands;
   answering = slices budget left refl refl (omega (arith, same))
-      (runs_within c f w stands (running_world c f w stands runs) within) refl;
+      (runs_within c f w (running_world c f w stands runs) within) refl;
 }
 
 pub finish_begins : (c : CollectorState) (f : ℕ → Option Bits) → IsSome c.run
@@ -80,5 +70,14 @@ finish_begins c f runs w ok stands within = record {
   begun = w;
   valid = ok;
   represents = stands;
-  answering = finishes refl refl (runs_within c f w stands (running_world c f w stands runs) within) refl;
+  answering = finishes refl refl (runs_within c f w (running_world c f w stands runs) within) refl;
+}
+
+pub reset_begins : (c : CollectorState) (f : ℕ → Option Bits) → IsSome c.run
+    → EachWorldWithin c f (λ w. BeginsAnswer w command.Reset pending.Reset c f)
+reset_begins c f runs w ok stands within = record {
+  begun = w;
+  valid = ok;
+  represents = stands;
+  answering = resets refl refl (running_world c f w stands runs) refl;
 }

@@ -24,7 +24,7 @@ use Rattle.colour_defs.specs.Ends.{IsAscending, Lists}
 use Rattle.colour_defs.specs.Graph.{GraphState, empty_graph}
 use Rattle.colour_defs.specs.Lawful.{beginning, Run}
 use Rattle.colour_defs.specs.Laws.{IsNoWeakCmd, IsValid}
-use Rattle.colour_defs.specs.World.{Has, World, Collection, IsPresent, IsSettled, first_world, marking_of}
+use Rattle.colour_defs.specs.World.{Has, World, IsPresent, IsSettled, first_world, marking_of}
 use Rattle.colour_defs.proofs.Lists.{contains_cases, contains_head, contains_tail, nothing_in_none}
 use Rattle.colour_defs.proofs.Names.{eq_name-refl, same_name-is}
 use Rattle.collection_laws.specs.Collected.{AreAllZones, IsGray, IsKept}
@@ -32,12 +32,12 @@ use Rattle.collection_laws.specs.Graphs.{graph_after}
 use Rattle.collection_laws.proofs.Graphs.{run_graph}
 use Rattle.collection_laws.proofs.LastLines.{run_collected}
 use Rattle.collection_laws.proofs.Zones.{zones_kept}
-use Rattle.heap_core.specs.Heap.{HeapState}
-use Rattle.slice_driver.specs.Collector.{CollectorState, RunState, heap_with}
-use Rattle.slice_driver.specs.Represents.{Represents, RunsAs}
+use Rattle.slice_driver.specs.Collector.{CollectorState}
+use Rattle.slice_driver.specs.Represents.{Represents}
 use Rattle.slice_driver.specs.Present.{present_in_all}
 use Rattle.slice_driver.specs.Units.{IsSound, none_flown}
 use Rattle.slice_driver.proofs.abstraction.IdleFlight.{idle_flown}
+use Rattle.slice_driver.proofs.abstraction.Phases.{placed_in}
 use Rattle.trace_lang.specs.Grammar.{Spells}
 use Rattle.trace_lang.proofs.Fine.{spells_fine}
 use Rattle.storm_source.specs.Commands.{MakesNoZone, SpellAll}
@@ -58,6 +58,7 @@ use Rattle.trace_cli.specs.declared.machine.Machine.{Machine}
 use Rattle.trace_cli.specs.declared.storm.Summary.{Summary}
 use Rattle.trace_cli.proofs.Complete.{by_exit}
 use Rattle.trace_cli.proofs.Counted.{present_counted, same_decides}
+use Rattle.trace_cli.proofs.Flights.{idle_run}
 use Rattle.trace_cli.proofs.Lined.{lines_of-line}
 use Rattle.trace_cli.proofs.Spelled.{fits_language}
 
@@ -218,13 +219,6 @@ all_named cs zones none are z = (
       (below_four z (subst (λ (n : ℕ). z < n) (four_made cs none) lt)),
 )
 
--- no collection runs in the collector where none does in the world
-run_idle : (h : HeapState) (c : CollectorState) (w : World) (r : Option RunState) (k : Option Collection)
-    → RunsAs h c w r k → k ≡ None → r ≡ None
-run_idle h c w None k runs e = refl
-run_idle h c w (Some r) None runs e = absurd runs
-run_idle h c w (Some r) (Some k) runs e = absurd (cc e)
-
 -- the world that all lines lead to
 storm_left : (seed lines : ℕ) (output : List ℕ) (w : World) (c : CollectorState) (flown : ℕ → Option Bits)
     → LeadsTo (storm_lines seed lines) output w → Represents c flown w → IsValid w → IsLeftByStorm seed lines c
@@ -239,7 +233,7 @@ storm_left seed lines output w c flown leads rep ok =
     (subst (λ (cs : List Cmd). All IsNoWeakCmd cs) of.commands_are plain) in
     let end = run_collected beginning (with_zones of.between) leads.answers w of.zones first
     (all_named of.between (zones_in of.zones) of.none_made of.zones_are) run in
-    let idle = run_idle (heap_with c flown) c w c.run w.collection rep.phase.runs end.0.idle.none_running in
+    let idle = idle_run c flown w rep end.0.idle in
     record {
       commands = leads.commands;
       stand = leads.stand;
@@ -314,8 +308,8 @@ module _ (seed lines : ℕ) (c : CollectorState) (h : IsLeftByStorm seed lines c
 
   pub storm_cells : c.heap.shape.objects ≡ length (graph_after empty_graph h.commands).objects
   storm_cells =
-      sym h.represents.placed.lies.shown.objects_made ∙ h.represents.placed.lies.part.part.made
-      ∙ ap (λ (g : GraphState). length g.objects) h.graph_is
+      let lies = (placed_in c none_flown h.world h.represents).lies in
+      sym lies.shown.objects_made ∙ lies.part.part.made ∙ ap (λ (g : GraphState). length g.objects) h.graph_is
 
   pub storm_kept : Counts (IsKept (graph_after empty_graph h.commands)) (present_in_all c.heap.shape.arenas)
   storm_kept =

@@ -13,51 +13,51 @@ use Rattle.gz_names.specs.declared.replies.Report.{Report}
 use Rattle.cell_bits.specs.declared.bits.Bits.{Bits}
 use Rattle.colour_defs.specs.Graph.{GraphState}
 use Rattle.colour_defs.specs.Laws.{IsValid}
-use Rattle.colour_defs.specs.Lawful.{IsRunning, Slices, with_spent, with_spent_preparing}
+use Rattle.colour_defs.specs.Lawful.{HasTally, IsRunning, Slices, with_spent, with_spent_preparing}
 use Rattle.colour_defs.specs.Step.{refusal_in, step_of}
 use Rattle.colour_defs.specs.Units.{MeetsUnitBound, Tally, sweeps_in, unit_limit, with_put, with_woken}
-use Rattle.colour_defs.specs.World.{Accepts, AcceptsIn, AcceptsUnless, Collection, CommandInWorld, Preparation, Wakes}
-use Rattle.colour_defs.specs.World.{World, also_woken_by, marking_of, with_counts, with_waking, woken_by}
+use Rattle.colour_defs.specs.World.{Accepts, AcceptsIn, AcceptsPreparing, AcceptsUnless, Collection, CommandInWorld}
+use Rattle.colour_defs.specs.World.{IsIdle, Preparation, Wakes, World, also_woken_by, first_tally, marking_of}
+use Rattle.colour_defs.specs.World.{with_counts, with_waking, woken_by}
 use Rattle.colour_defs.proofs.Tallies.{sweeps_both, units_sweep}
 use Rattle.heap_core.specs.Heap.{HeapState, joined}
 use Rattle.slice_driver.specs.Collector.{CollectorState}
-use Rattle.slice_driver.specs.Remaining.{grouping_left, steps_left}
+use Rattle.slice_driver.specs.Remaining.{clearing_left, grouping_left, steps_left}
 use Rattle.slice_driver.specs.Represents.{Represents}
 use Rattle.slice_driver.specs.Units.{RaisesBy, RaisesWithin, tally_after}
 use Rattle.slice_driver.specs.UnitsToCome.{IsWithin, IsWithinBound, marking_to_come, units_to_come}
 use Rattle.trace_cli.specs.Starting.{RunsWithin}
 use Rattle.trace_cli.specs.Writing.{WritesUnits, reports_in}
-
-some_is : {X : Type 0} (x y : X) → Some x ≡ Some y → x ≡ y
-some_is x y e = cc e
+use Rattle.trace_cli.proofs.Preparing.{FromPreparing, some_is, started, units_from, waits}
 
 -- where no collection runs nothing is bounded
-pub idle_within : (c : CollectorState) (flown : ℕ → Option Bits) (w : World) → w.collection ≡ None → IsWithin c flown w
-idle_within c flown w none k some = absurd (cc (none, some))
+pub idle_within : (c : CollectorState) (flown : ℕ → Option Bits) (w : World) → IsIdle w → IsWithin c flown w
+idle_within c flown w idle = record {
+  marking = λ k some. absurd (let none = idle.none_running in cc (none, some));
+  preparing = λ p some. absurd (let none = idle.none_preparing in cc (none, some));
+}
 
 -- the same heap, with the bits in flight: the same is to come
 same_to_come : (c : CollectorState) (f g : ℕ → Option Bits) → joined c.heap g ≡ joined c.heap f
     → units_to_come c g ≡ units_to_come c f
 unfolding units_to_come
 same_to_come c f g same = ap (λ (h : HeapState). marking_to_come h c.stack c.lists
-    + (grouping_left c.heap.shape c.edges c.run + steps_left c.heap.shape.states)) same
+    + (grouping_left c.heap.shape c.edges c.run + steps_left c.heap.shape.states)
+    + clearing_left c.heap.shape c.run) same
 
 pub same_within : (c : CollectorState) (f g : ℕ → Option Bits) (w : World) → joined c.heap g ≡ joined c.heap f
     → IsWithin c f w → IsWithin c g w
-same_within c f g w same within k running =
-    subst (λ (n : ℕ). IsWithinBound k.tally n) (sym (same_to_come c f g same)) (within k running)
+same_within c f g w same within =
+    let still = sym (same_to_come c f g same) in record {
+      marking = λ k running. subst (λ (n : ℕ). IsWithinBound k.tally n) still (within.marking k running);
+      preparing = λ p is. subst (λ (n : ℕ). p.spent + n ≤ p.arenas) still (within.preparing p is);
+    }
 
 -- a collection that runs in the world of a collector
-pub runs_within : (c : CollectorState) (flown : ℕ → Option Bits) (w : World) → Represents c flown w → IsRunning w
-    → IsWithin c flown w → RunsWithin w (units_to_come c flown)
-runs_within c flown w stands (inl k) within = record {
-  collection = k.0;
-  running = k.1;
-  none_prepared = stands.phase.calm;
-  within = within k.0 k.1;
-}
-runs_within c flown w stands (inr p) within =
-    absurd (let none = stands.phase.calm in let some = p.1 in cc (none, some))
+pub runs_within : (c : CollectorState) (flown : ℕ → Option Bits) (w : World) → IsRunning w → IsWithin c flown w
+    → RunsWithin w (units_to_come c flown)
+runs_within c flown w running within =
+    record { running = running; marking = within.marking; preparing = within.preparing }
 
 -- the collection after a command, and its tally
 wakes_collection : (w : World) (o : Option Collection) (zones : List ℕ) (g : GraphState) (x : Name) (v : World)
@@ -120,40 +120,91 @@ put_spent g zones (cmd.Put m k v) t = refl
 put_spent g zones (cmd.Del m k) t = refl
 put_spent g zones (cmd.Find r m k) t = refl
 
+-- what is being prepared stays so over a command
+command_preparing : (w : World) (c : GraphCmd) (answer : Reply) (v : World) → refusal_in answer ≡ None
+    → CommandInWorld w c answer v → v.preparing ≡ w.preparing
+command_preparing w c answer v taken done =
+    go w.preparing (woken_by w.graph c) (also_woken_by w.graph c) (subst (λ (o : Option Refusal). AcceptsUnless o w
+    (with_counts w.graph c w.collection) (step_of w.graph c).0 (woken_by w.graph c) (also_woken_by w.graph c) v)
+    (sym (ap refusal_in done.0) ∙ taken) done.1)
+  where
+    go : (o : Option Preparation) (x also : Option Name)
+        → AcceptsIn o w (with_counts w.graph c w.collection) (step_of w.graph c).0 x also v
+        → v.preparing ≡ w.preparing
+    go None None also is = ap (λ (u : World). u.preparing) is
+    go None (Some x) also is = is.0.preparing_is
+    go (Some p) None None is = ap (λ (u : World). u.preparing) is
+    go (Some p) None (Some y) is = ap (λ (u : World). u.preparing) is.0
+    go (Some p) (Some x) also is = is.0.preparing_is
+
+-- and no collection begins with a command while one is being prepared
+preparing_alone : (w : World) (c : GraphCmd) (answer : Reply) (v : World) (p : Preparation) → w.preparing ≡ Some p
+    → refusal_in answer ≡ None → CommandInWorld w c answer v → v.collection ≡ w.collection
+preparing_alone w c answer v p is taken done =
+    go (woken_by w.graph c) (also_woken_by w.graph c) (subst (λ (o : Option Preparation). AcceptsIn o w
+    (with_counts w.graph c w.collection) (step_of w.graph c).0 (woken_by w.graph c) (also_woken_by w.graph c) v) is
+    (subst (λ (o : Option Refusal). AcceptsUnless o w (with_counts w.graph c w.collection) (step_of w.graph c).0
+    (woken_by w.graph c) (also_woken_by w.graph c) v) (sym (ap refusal_in done.0) ∙ taken) done.1))
+  where
+    go : (x also : Option Name) → AcceptsPreparing w p (step_of w.graph c).0 x also v → v.collection ≡ w.collection
+    go None None same = ap (λ (u : World). u.collection) same
+    go None (Some y) same = ap (λ (u : World). u.collection) same.0
+    go (Some x) also same = same.1
+
 -- what is to come rises by no more than the bound
 raised : (spent old new limit more : ℕ) → spent + old ≤ limit → new + limit ≤ old + more → spent + new ≤ more
 raised spent old new limit more within rise = omega (arith, within, rise)
+
+lowered : (spent old new limit : ℕ) → spent + old ≤ limit → new ≤ old → spent + new ≤ limit
+lowered spent old new limit bound fewer = omega (arith, bound, fewer)
 
 -- a command that was accepted, and one that was not done
 module _ (c d : CollectorState) (f g : ℕ → Option Bits) (command : GraphCmd) (r : Result Reply CmdFault)
     (raises : RaisesWithin c f command r d g) (w : World) (ok : IsValid w) (stands : Represents c f w)
     (within : IsWithin c f w) where
-  pub accepted_within : (answer : Reply) → r ≡ Ok answer → refusal_in answer ≡ None → (v : World)
-      → CommandInWorld w command answer v → IsWithin d g v
-  accepted_within answer e taken v done k running =
-      let was = command_tally w command answer v stands.phase.calm taken done k running in
+  accepted_marking : (answer : Reply) → r ≡ Ok answer → refusal_in answer ≡ None → (v : World)
+      → CommandInWorld w command answer v → w.preparing ≡ None → (k : Collection) → v.collection ≡ Some k
+      → IsWithinBound k.tally (units_to_come d g)
+  accepted_marking answer e taken v done calm k running =
+      let was = command_tally w command answer v calm taken done k running in
       let j = was.0 in
       let after = tally_after w.graph command j in
       let same : after.spent ≡ j.tally.spent =
       woken_spent w.graph j.zones (woken_by w.graph command) (with_put w.graph j.zones command j.tally)
       ∙ put_spent w.graph j.zones command j.tally in
       let rise = subst (λ (x : Result Reply CmdFault). RaisesBy w j command x (units_to_come c f) (units_to_come d g)) e
-      (raises w j ok stands was.1) in
+      (raises.marking w j ok stands was.1) in
       let bound = raised j.tally.spent (units_to_come c f) (units_to_come d g) (unit_limit j.tally) (unit_limit after)
-      (within j was.1) rise in
+      (within.marking j was.1) rise in
       subst (λ (t : Tally). IsWithinBound t (units_to_come d g)) (sym was.2)
       (subst (λ (n : ℕ). n + units_to_come d g ≤ unit_limit after) (sym same) bound)
 
-  pub refused_within : (why : CmdFault) → r ≡ Err why → IsWithin d g w
-  refused_within why e k running =
-      let fewer : units_to_come d g ≤ units_to_come c f =
-      subst (λ (x : Result Reply CmdFault). RaisesBy w k command x (units_to_come c f) (units_to_come d g)) e
-      (raises w k ok stands running) in
-      let bound : k.tally.spent + units_to_come c f ≤ unit_limit k.tally = within k running in
-      kept k.tally.spent (units_to_come c f) (units_to_come d g) (unit_limit k.tally) bound fewer
+  still_preparing : (p : Preparation) → w.preparing ≡ Some p → p.spent + units_to_come d g ≤ p.arenas
+  still_preparing p is = lowered p.spent (units_to_come c f) (units_to_come d g) p.arenas (within.preparing p is)
+      (raises.preparing w p ok stands is)
+
+  pub accepted_within : (answer : Reply) → r ≡ Ok answer → refusal_in answer ≡ None → (v : World)
+      → CommandInWorld w command answer v → IsWithin d g v
+  accepted_within answer e taken v done = record {
+    marking = λ k running. by w.preparing refl k running;
+    preparing = λ p is. still_preparing p (sym (command_preparing w command answer v taken done) ∙ is);
+  }
     where
-      kept : (spent old new limit : ℕ) → spent + old ≤ limit → new ≤ old → spent + new ≤ limit
-      kept spent old new limit bound fewer = omega (arith, bound, fewer)
+      by : (o : Option Preparation) → w.preparing ≡ o → (k : Collection) → v.collection ≡ Some k
+          → IsWithinBound k.tally (units_to_come d g)
+      by None calm k running = accepted_marking answer e taken v done calm k running
+      by (Some p) is k running =
+          absurd (let none = (ok.preparing p is).alone in
+          let same = preparing_alone w command answer v p is taken done in cc (none, same, running))
+
+  pub refused_within : (why : CmdFault) → r ≡ Err why → IsWithin d g w
+  refused_within why e = record {
+    marking = λ k running.
+        lowered k.tally.spent (units_to_come c f) (units_to_come d g) (unit_limit k.tally) (within.marking k running)
+        (subst (λ (x : Result Reply CmdFault). RaisesBy w k command x (units_to_come c f) (units_to_come d g)) e
+        (raises.marking w k ok stands running));
+    preparing = λ p is. still_preparing p is;
+  }
 
 -- units one after another: what they sweep
 pub sweeps_append : (xs ys : List (List Report))
@@ -170,6 +221,11 @@ counted : (n : ℕ) (o : Option Collection) (k : Collection) → with_spent n o 
 counted n None k e = absurd (cc e)
 counted n (Some j) k e = (j, refl, ap (λ (i : Collection). i.tally) (sym (some_is _ _ e)))
 
+counted_preparing : (n : ℕ) (o : Option Preparation) (p : Preparation) → with_spent_preparing n o ≡ Some p
+    → (q : Preparation) × (o ≡ Some q) × (p ≡ record q { spent = q.spent + n })
+counted_preparing n None p e = absurd (cc e)
+counted_preparing n (Some q) p e = (q, refl, sym (some_is _ _ e))
+
 -- this number of arenas were swept, and this number of units done
 abbrev with_units : ℕ → ℕ → Tally → Tally
 with_units swept n t = record t { sweeps = t.sweeps + swept; spent = t.spent + n }
@@ -177,54 +233,129 @@ with_units swept n t = record t { sweeps = t.sweeps + swept; spent = t.spent + n
 limit_swept : (t : Tally) (swept n : ℕ) → unit_limit (with_units swept n t) ≡ unit_limit t + swept
 limit_swept t swept n = omega arith
 
+-- units that keep the bound: with the tally by which they count, and what is to come after them
+pub record KeepsBound (w v : World) (n left : ℕ) (reports : List Report) : Type 0 where
+  pub tally : Tally
+  pub has : HasTally w tally
+  pub within : MeetsUnitBound (is_some v.preparing) tally reports n
+  pub marking : (k : Collection) → v.collection ≡ Some k
+      → (k.tally ≡ record tally { sweeps = tally.sweeps + sweeps_in reports })
+      × (tally.spent + n + left ≤ unit_limit tally + sweeps_in reports)
+  pub preparing : (p : Preparation) → v.preparing ≡ Some p → p.spent + n + left ≤ p.arenas
+
+fewer : (spent n left limit : ℕ) → spent + n + left ≤ limit → spent + n ≤ limit
+fewer spent n left limit bound = omega (arith, bound)
+
+-- by what was to come before them, of a collection whose marking had begun
+marking_bound : (spent most n left swept limit : ℕ) → spent + most ≤ limit → left + n ≤ most + swept
+    → spent + n + left ≤ limit + swept
+marking_bound spent most n left swept limit bound took = omega (arith, bound, took)
+
+-- of one that is being prepared on
+preparing_bound : (spent most n left arenas swept : ℕ) → swept ≡ 0 → spent + most ≤ arenas → left + n ≤ most + swept
+    → spent + n + left ≤ arenas
+preparing_bound spent most n left arenas swept none bound took = omega (arith, none, bound, took)
+
+-- and of one whose marking began with them
+starting_bound : (spent most n left arenas limit swept : ℕ) → spent + most ≤ arenas
+    → left + n + arenas ≤ most + (limit + swept) → spent + n + left ≤ limit + swept
+starting_bound spent most n left arenas limit swept bound took = omega (arith, bound, took)
+
 -- units of a collection that runs within its bound
 module _ (w : World) (d : CollectorState) (g : ℕ → Option Bits) (most n : ℕ) (p q : Option (List ℕ))
     (runs : RunsWithin w most) (h : WritesUnits w d g most n p q) where
-  abbrev swept : ℕ
-  swept = sweeps_in (reports_in h.units)
+  abbrev said : List Report
+  said = reports_in h.units
 
-  abbrev tally : Tally
-  tally = runs.collection.tally
+  abbrev Keeps : Type 0
+  Keeps = KeepsBound w h.after n (units_to_come d g) said
 
-  -- they keep it
-  keeps_bound : MeetsUnitBound (is_some h.after.preparing) tally (reports_in h.units) n
-  keeps_bound = subst (λ (o : Option Preparation). MeetsUnitBound (is_some o) tally (reports_in h.units) n)
-      (sym (units_sweep w h.units h.after runs.none_prepared h.done).none_prepared)
-      (kept tally.spent most n (units_to_come d g) swept (unit_limit tally) runs.within h.to_come)
+  -- its marking had begun
+  going_on : w.preparing ≡ None → (k : Collection) → w.collection ≡ Some k → Keeps
+  going_on calm k running =
+      let swept = units_sweep w h.units h.after calm h.done in
+      let bound = marking_bound k.tally.spent most n (units_to_come d g) (sweeps_in said) (unit_limit k.tally)
+      (runs.marking k running) (h.to_come.goes (inl calm)) in
+      record {
+        tally = k.tally;
+        has = inl (k, running, refl);
+        within = subst (λ (o : Option Preparation). MeetsUnitBound (is_some o) k.tally said n)
+            (sym swept.none_prepared)
+            (fewer k.tally.spent n (units_to_come d g) (unit_limit k.tally + sweeps_in said) bound);
+        marking = λ j at.
+            (let was = swept.tally j at in
+            let same : was.0 ≡ k = some_is _ _ (sym was.1 ∙ running) in (
+              was.2 ∙ ap (λ (i : Collection). record i.tally { sweeps = i.tally.sweeps + sweeps_in said }) same,
+              bound,
+            ));
+        preparing = λ r is. absurd (let none = swept.none_prepared in cc (none, is));
+      }
+
+  -- it is being prepared
+  prepares : (r : Preparation) → w.preparing ≡ Some r → FromPreparing w r said h.after → Keeps
+  prepares r is (waits same silent) =
+      let here : h.after.preparing ≡ Some r = ap (λ (x : World). x.preparing) same ∙ is in
+      let bound = preparing_bound r.spent most n (units_to_come d g) r.arenas (sweeps_in said) (ap sweeps_in silent)
+      (runs.preparing r is) (h.to_come.goes (inr (ap is_some here))) in
+      record {
+        tally = first_tally w r;
+        has = inr (r, is, refl);
+        within = subst (λ (o : Option Preparation). MeetsUnitBound (is_some o) (first_tally w r) said n) (sym here)
+            (fewer r.spent n (units_to_come d g) r.arenas bound);
+        marking = λ k at.
+            absurd (let was = ap (λ (x : World). x.collection) same in
+            let none = (h.prepared r is).alone in cc (at, was, none));
+        preparing = λ o at.
+            subst (λ (t : Preparation). t.spent + n + units_to_come d g ≤ t.arenas) (some_is _ _ (sym here ∙ at)) bound;
+      }
+  prepares r is (started rest says gone counts) =
+      let bound = starting_bound r.spent most n (units_to_come d g) r.arenas (unit_limit (first_tally w r))
+      (sweeps_in said) (runs.preparing r is) (h.to_come.starts r is gone) in
+      record {
+        tally = first_tally w r;
+        has = inr (r, is, refl);
+        within = subst (λ (o : Option Preparation). MeetsUnitBound (is_some o) (first_tally w r) said n) (sym gone)
+            (fewer r.spent n (units_to_come d g) (unit_limit (first_tally w r) + sweeps_in said) bound);
+        marking = λ k at. (counts k at, bound);
+        preparing = λ o at. absurd (cc (gone, at));
+      }
+
+  keeps : Keeps
+  keeps = by w.preparing refl runs.running
     where
-      kept : (spent most n rest swept limit : ℕ) → spent + most ≤ limit → rest + n ≤ most + swept
-          → spent + n ≤ limit + swept
-      kept spent most n rest swept limit bound took = omega (arith, bound, took)
+      by : (o : Option Preparation) → w.preparing ≡ o → IsRunning w → Keeps
+      by None calm (inl k) = going_on calm k.0 k.1
+      by None calm (inr r) = absurd (let is = r.1 in cc (calm, is))
+      by (Some r) is running = prepares r is (units_from w r (h.prepared r is) h.units h.after h.done)
 
   -- so they are units of a slice
   pub units_slice : Slices w (reports_in h.units) n (spent n h.after)
   units_slice = record {
-    running = inl (runs.collection, runs.running);
+    running = runs.running;
     units = h.units;
     after = h.after;
     done = h.done;
     number = h.number;
     reports_are = refl;
     world_is = refl;
-    tally = tally;
-    tally_is = inl (runs.collection, runs.running, refl);
-    within = keeps_bound;
+    tally = keeps.tally;
+    tally_is = keeps.has;
+    within = keeps.within;
   }
 
   -- and once they are counted it is within its bound on
   pub spent_within : IsWithin d g (spent n h.after)
-  spent_within k running =
-      let now = counted n h.after.collection k running in
-      let was = (units_sweep w h.units h.after runs.none_prepared h.done).tally now.0 now.1 in
-      let same : was.0 ≡ runs.collection = some_is _ _ (sym was.1 ∙ runs.running) in
-      let is : k.tally ≡ with_units swept n tally =
-      now.2 ∙ (ap (λ (t : Tally). record t { spent = t.spent + n }) was.2
-      ∙ ap (λ (i : Collection). with_units swept n i.tally) same) in
-      let bound : tally.spent + n + units_to_come d g ≤ unit_limit tally + swept =
-      kept tally.spent most n (units_to_come d g) swept (unit_limit tally) runs.within h.to_come in
-      subst (λ (t : Tally). IsWithinBound t (units_to_come d g)) (sym is)
-      (subst (λ (m : ℕ). tally.spent + n + units_to_come d g ≤ m) (sym (limit_swept tally swept n)) bound)
-    where
-      kept : (spent most n rest swept limit : ℕ) → spent + most ≤ limit → rest + n ≤ most + swept
-          → spent + n + rest ≤ limit + swept
-      kept spent most n rest swept limit bound took = omega (arith, bound, took)
+  spent_within = record {
+    marking = λ k running.
+        (let now = counted n h.after.collection k running in
+        let so = keeps.marking now.0 now.1 in
+        let is : k.tally ≡ with_units (sweeps_in said) n keeps.tally =
+        now.2 ∙ ap (λ (t : Tally). record t { spent = t.spent + n }) so.0 in
+        subst (λ (t : Tally). IsWithinBound t (units_to_come d g)) (sym is)
+        (subst (λ (m : ℕ). keeps.tally.spent + n + units_to_come d g ≤ m)
+        (sym (limit_swept keeps.tally (sweeps_in said) n)) so.1));
+    preparing = λ r is.
+        (let now = counted_preparing n h.after.preparing r is in
+        subst (λ (t : Preparation). t.spent + units_to_come d g ≤ t.arenas) (sym now.2)
+        (keeps.preparing now.0 now.1));
+  }

@@ -19,11 +19,12 @@ use Rattle.trace_cli.specs.Headline.{Replays}
 use Rattle.trace_cli.specs.Pending.{reply_of}
 use Rattle.trace_cli.specs.Reaching.{Stands}
 use Rattle.trace_cli.specs.Starting.{IsAnswering}
-use Rattle.trace_cli.specs.Writing.{WritesUnits}
+use Rattle.trace_cli.specs.Writing.{WritesSoFar}
 use Rattle.trace_cli.specs.declared.exit.Exit.{Exit}
 use Rattle.trace_cli.specs.declared.exit.Exit.TheVariants as exit
 use Rattle.trace_cli.specs.declared.machine.Machine.{Machine}
 use Rattle.trace_cli.specs.declared.pending.Pending.{Pending}
+use Rattle.trace_cli.specs.declared.pending.Pending.TheVariants as pending
 
 -- this number of cells and weak entries were made at most
 pub record HasMadeAtMost (c : CollectorState) (n : ℕ) : Type 0 where
@@ -50,15 +51,17 @@ pub record HasRoomForOne (c : CollectorState) : Type 0 where
   pub made : c.heap.made < 4294967295
   pub entries : length c.heap.shape.weak.entries < 4294967295
 
--- at most one cell was made, and one weak entry
+-- at most one cell was made, and one weak entry; edges are counted where they were
 pub record MakesAtMostOne (old new : CollectorState) : Type 0 where
   pub made : new.heap.made ≤ old.heap.made + 1
   pub entries : length new.heap.shape.weak.entries ≤ length old.heap.shape.weak.entries + 1
+  pub ledger : new.heap.ledger ≡ old.heap.ledger
 
--- no cell was made, and no weak entry
+-- no cell was made, and no weak entry; edges are counted where they were
 pub record MakesNone (old new : CollectorState) : Type 0 where
   pub made : new.heap.made ≡ old.heap.made
   pub entries : length new.heap.shape.weak.entries ≤ length old.heap.shape.weak.entries
+  pub ledger : new.heap.ledger ≡ old.heap.ledger
 
 -- the last line of an answer was written, or a prefix of it
 abbrev pub last_line : Pending → List ℕ
@@ -108,8 +111,8 @@ pub record Amid (e : Entry) (rest written : Option (List ℕ)) (n : ℕ) (c : Co
   pub most : ℕ
   pub count : ℕ
   pub answering : IsAnswering world command left count begun most
-  pub units : WritesUnits begun c flown most count before written
-  pub few : count + units_left c flown < 2 ^ 64
+  pub so_far : WritesSoFar left begun c flown most count before written
+  pub few : left ≢ pending.Reset → count + units_left c flown < 2 ^ 64
   pub made : HasMadeAtMost c (n + 1)
   pub out : AreOut c.heap.shape outs
 

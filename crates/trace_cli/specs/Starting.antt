@@ -1,14 +1,14 @@
 -- How a line is begun that asks for units, and which units it asks for.
-use Rattle.std.specs.Prelude.{◌≡◌, ℕ, ◌+◌, List, [], Option, Some, None}
+use Rattle.std.specs.Prelude.{◌≡◌, ◌≤◌, ℕ, ◌+◌, List, [], Option, Some, None}
 use Rattle.std.specs.Io.KnownBytes.{Appends}
 use Rattle.gz_names.specs.Zones.{zones_in}
 use Rattle.gz_names.specs.declared.commands.Cmd.{Cmd}
 use Rattle.gz_names.specs.declared.commands.Cmd.TheVariants as command
 use Rattle.gz_names.specs.declared.zone_sets.ZoneSet.{ZoneSet}
 use Rattle.cell_bits.specs.declared.bits.Bits.{Bits}
-use Rattle.colour_defs.specs.World.{Collection, World}
+use Rattle.colour_defs.specs.World.{Collection, Preparation, World}
 use Rattle.colour_defs.specs.Laws.{IsValid}
-use Rattle.colour_defs.specs.Lawful.{BeginsAtOnce}
+use Rattle.colour_defs.specs.Lawful.{BeginsBy, IsRunning, beginning}
 use Rattle.slice_driver.specs.Collector.{CollectorState}
 use Rattle.slice_driver.specs.Represents.{Represents}
 use Rattle.slice_driver.specs.UnitsToCome.{IsWithinBound, units_to_come}
@@ -17,22 +17,23 @@ use Rattle.trace_cli.specs.Worlds.{EachWorldWithin}
 use Rattle.trace_cli.specs.declared.pending.Pending.{Pending}
 use Rattle.trace_cli.specs.declared.pending.Pending.TheVariants as pending
 
--- a collection runs in a world, and with this number of units to come it is within its bound on units
+-- a collection runs in a world, and with this number of units to come it is within its bound on units, or within its
+-- arenas while it is being prepared
 pub record RunsWithin (w : World) (most : ℕ) : Type 0 where
-  pub collection : Collection
-  pub running : w.collection ≡ Some collection
-  pub none_prepared : w.preparing ≡ None
-  pub within : IsWithinBound collection.tally most
+  pub running : IsRunning w
+  pub marking : (k : Collection) → w.collection ≡ Some k → IsWithinBound k.tally most
+  pub preparing : (p : Preparation) → w.preparing ≡ Some p → p.spent + most ≤ p.arenas
 
--- a command that asks for units in a world: its units are done from a world on, where so many were to come at most, and
--- so many were done
+-- a command that asks for units in a world, or for a reset: they are done from a world on, where so many units were to
+-- come at most, and so many were done
 pub data IsAnswering (w : World) (cmd : Cmd) (left : Pending) (n : ℕ) (begun : World) (most : ℕ) : Type 0 where
   collects : (zones : ZoneSet) → cmd ≡ command.Collect zones → left ≡ pending.Collect
-      → BeginsAtOnce w (zones_in zones) begun → IsAnswering w cmd left n begun most
+      → BeginsBy beginning w (zones_in zones) begun → IsAnswering w cmd left n begun most
   slices : (budget more : ℕ) → cmd ≡ command.Slice budget → left ≡ pending.Slice more n → more + n ≡ budget
       → RunsWithin w most → begun ≡ w → IsAnswering w cmd left n begun most
   finishes : cmd ≡ command.Finish → left ≡ pending.Finish n → RunsWithin w most → begun ≡ w
       → IsAnswering w cmd left n begun most
+  resets : cmd ≡ command.Reset → left ≡ pending.Reset → IsRunning w → begun ≡ w → IsAnswering w cmd left n begun most
 
 -- the units of a command are to be done; the collector stands for the world from which on they are
 pub record BeginsAnswer (w : World) (cmd : Cmd) (left : Pending) (c : CollectorState) (flown : ℕ → Option Bits)

@@ -1,5 +1,5 @@
 // The reply to a command.
-ghost use Rattle.std.specs.Prelude.{◌≡◌, ◌≢◌, None, OnOk, OnErr, false};
+ghost use Rattle.std.specs.Prelude.{◌≡◌, ◌≢◌, None, OnOk, OnErr, false, Some};
 ghost use Rattle.std.specs.Io.KnownBytes.{Appends};
 ghost use Rattle.gz_io.specs.Causes.{AppendsFront};
 ghost use Rattle.gz_names.specs.declared.commands.Cmd.TheVariants as ACmd;
@@ -10,7 +10,7 @@ ghost use Rattle.trace_cli.specs.Served.{FitsLanguage};
 ghost use Rattle.trace_cli.specs.Answering.{AnswersCommand, CountsFaults, StartsCommand};
 ghost use Rattle.trace_cli.specs.Standing.{HasRoomForOne, MakesAtMostOne, StandsWith};
 
-use crate::begin::{begin_collect, begin_finish, begin_slice, gc};
+use crate::begin::{begin_collect, begin_finish, begin_reset, begin_slice, gc};
 use crate::dump::answer_dump;
 use crate::pending::Pending;
 use gz_io::Sink;
@@ -54,6 +54,7 @@ fn answer_command<F: Sweeping, K: Sink, L: Ledger>(
     sink: &mut K,
     steps: &mut Steps<L>,
 ) -> Result<(), AnswerFault>
+    requires counted { collector.old.heap.ledger ≡ Some L.name }
     requires flight { StandsWith collector.old (F.left (F.origin flight.old)) (F.bits flight.old) }
     requires room { HasRoomForOne collector.old }
     requires fields { HasFewFields command.now }
@@ -107,6 +108,7 @@ pub fn start_command<F: Sweeping, K: Sink, L: Ledger>(
     sink: &mut K,
     steps: &mut Steps<L>,
 ) -> Result<(), AnswerFault>
+    requires counted { collector.old.heap.ledger ≡ Some L.name }
     requires flight { StandsWith collector.old (F.left (F.origin flight.old)) (F.bits flight.old) }
     requires room { HasRoomForOne collector.old }
     requires fits { FitsLanguage cmd.now }
@@ -120,15 +122,14 @@ pub fn start_command<F: Sweeping, K: Sink, L: Ledger>(
 {
     match cmd {
         Cmd::Graph(command) => answer_command(collector, flight, command, sink, steps),
-        Cmd::Collect(zones) => begin_collect(
-            alloc, collector, flight, *zones, pending, sink, steps,
-        ),
+        Cmd::Collect(zones) => begin_collect(collector, flight, *zones, pending, sink),
         Cmd::Colours => answer_colours(alloc, collector, flight, sink),
-        Cmd::Dump => answer_dump(alloc, collector, flight, sink),
-        Cmd::Gc(zones) => gc(alloc, collector, flight, *zones, sink, steps),
+        Cmd::Dump => answer_dump(alloc, collector, flight, sink, steps),
+        Cmd::Gc(zones) => gc(collector, flight, *zones, sink),
         Cmd::Slice(budget) => begin_slice(collector, flight, *budget, pending, sink),
         Cmd::Finish => begin_finish(collector, flight, pending, sink),
+        Cmd::Reset => begin_reset(collector, flight, pending, sink),
         // No line of the language stands for these.
-        Cmd::Weak(_) | Cmd::Reset | Cmd::Compact(_) => unreachable!(),
+        Cmd::Weak(_) | Cmd::Compact(_) => unreachable!(),
     }
 }

@@ -10,21 +10,16 @@ use crate::answer::{AnswerFault, write_last};
 use crate::pending::Pending;
 use gz_io::Sink;
 use gz_names::{Refusal, Reply, ZoneSet};
-use heap_core::Steps;
 use slice_driver::{BeginFault, Collector};
-use std::alloc::Global;
-use std::sync::ledger::Ledger;
 use sweeping::Sweeping;
 
 /// Begins a collection of these zones, and writes the reply.
 #[inline(never)]
-pub fn gc<F: Sweeping, K: Sink, L: Ledger>(
-    alloc: Global,
+pub fn gc<F: Sweeping, K: Sink>(
     collector: &mut Collector,
     _flight: &F,
     zones: ZoneSet,
     sink: &mut K,
-    steps: &mut Steps<L>,
 ) -> Result<(), AnswerFault>
     requires flight { StandsWith collector.old (F.left (F.origin _flight.now)) (F.bits _flight.now) }
     requires some { (z : ℕ) × HasZone zones.bits z }
@@ -34,24 +29,21 @@ pub fn gc<F: Sweeping, K: Sink, L: Ledger>(
     ensures size { MakesNone collector.old collector.new }
     ensures faults { CountsFaults (K.faults sink.old) (K.faults sink.new) result }
 {
-    match collector.begin(alloc, zones, steps) {
+    match collector.begin(zones) {
         Ok(()) => write_last(sink, &Reply::GcBegun),
         Err(BeginFault::Running) => write_last(sink, &Reply::Refused(Refusal::Running)),
         Err(BeginFault::NoZone) => write_last(sink, &Reply::Refused(Refusal::NoZone)),
-        Err(BeginFault::NoMemory) => Err(AnswerFault::Memory),
     }
 }
 
 /// Begins a collection of these zones, whose units are still to be done, or writes why not.
 #[inline(never)]
-pub fn begin_collect<F: Sweeping, K: Sink, L: Ledger>(
-    alloc: Global,
+pub fn begin_collect<F: Sweeping, K: Sink>(
     collector: &mut Collector,
     _flight: &F,
     zones: ZoneSet,
     pending: &mut Option<Pending>,
     sink: &mut K,
-    steps: &mut Steps<L>,
 ) -> Result<(), AnswerFault>
     requires flight { StandsWith collector.old (F.left (F.origin _flight.now)) (F.bits _flight.now) }
     requires some { (z : ℕ) × HasZone zones.bits z }
@@ -62,14 +54,13 @@ pub fn begin_collect<F: Sweeping, K: Sink, L: Ledger>(
     ensures size { MakesNone collector.old collector.new }
     ensures faults { CountsFaults (K.faults sink.old) (K.faults sink.new) result }
 {
-    match collector.begin(alloc, zones, steps) {
+    match collector.begin(zones) {
         Ok(()) => {
             *pending = Some(Pending::Collect);
             Ok(())
         }
         Err(BeginFault::Running) => write_last(sink, &Reply::Refused(Refusal::Running)),
         Err(BeginFault::NoZone) => write_last(sink, &Reply::Refused(Refusal::NoZone)),
-        Err(BeginFault::NoMemory) => Err(AnswerFault::Memory),
     }
 }
 
@@ -114,5 +105,25 @@ pub fn begin_finish<F: Sweeping, K: Sink>(
         return write_last(sink, &Reply::Refused(Refusal::Idle));
     }
     *pending = Some(Pending::Finish { done: 0 });
+    Ok(())
+}
+
+/// Begins to answer `reset`, or writes that no collection runs.
+pub fn begin_reset<F: Sweeping, K: Sink>(
+    collector: &Collector,
+    _flight: &F,
+    pending: &mut Option<Pending>,
+    sink: &mut K,
+) -> Result<(), AnswerFault>
+    requires flight { StandsWith collector.now (F.left (F.origin _flight.now)) (F.bits _flight.now) }
+    requires none { pending.old ≡ None }
+    ensures answer { StartsCommand ACmd.Reset pending.new collector.now (F.bits _flight.now) collector.now
+        (F.bits _flight.now) (K.written sink.old) (K.written sink.new) result }
+    ensures faults { CountsFaults (K.faults sink.old) (K.faults sink.new) result }
+{
+    if !collector.running() {
+        return write_last(sink, &Reply::Refused(Refusal::Idle));
+    }
+    *pending = Some(Pending::Reset);
     Ok(())
 }

@@ -1,5 +1,5 @@
 // The dump of the heap is written. A check of it finds no fault.
-ghost use Rattle.std.specs.Prelude.{◌≡◌, ℕ, ◌≤◌, List, length};
+ghost use Rattle.std.specs.Prelude.{◌≡◌, ℕ, ◌≤◌, List, length, Some};
 ghost use Rattle.std.specs.List.{AllByRecursion};
 ghost use Rattle.gz_names.specs.declared.commands.Cmd.TheVariants as ACmd;
 ghost use Rattle.gz_names.specs.declared.dumps.DumpLine.{DumpLine as ALine};
@@ -20,20 +20,24 @@ use crate::answer::{AnswerFault, write_last};
 use colour_defs::valid_law;
 use gz_io::Sink;
 use gz_names::{DumpLines, Refusal, Reply};
+use heap_core::Steps;
 use slice_driver::Collector;
 use spec_laws::dump_law;
 use std::alloc::Global;
+use std::sync::ledger::Ledger;
 use sweeping::Sweeping;
 
 /// Writes the dump of the heap, where no zone is marking.
 #[inline(never)]
-pub fn answer_dump<F: Sweeping, K: Sink>(
+pub fn answer_dump<F: Sweeping, K: Sink, L: Ledger>(
     alloc: Global,
     collector: &Collector,
     flight: &mut F,
     sink: &mut K,
+    steps: &mut Steps<L>,
 ) -> Result<(), AnswerFault>
-    requires { StandsWith collector.now (F.left (F.origin flight.old)) (F.bits flight.old) }
+    requires counted { collector.now.heap.ledger ≡ Some L.name }
+    requires flight { StandsWith collector.now (F.left (F.origin flight.old)) (F.bits flight.old) }
     ensures answer { AnswersCommand ACmd.Dump collector.now (F.bits flight.old) collector.now (F.bits flight.new)
         (K.written sink.old) (K.written sink.new) result }
     ensures flight { StandsWith collector.now (F.left (F.origin flight.new)) (F.bits flight.new) }
@@ -43,7 +47,7 @@ pub fn answer_dump<F: Sweeping, K: Sink>(
     if !collector.settled() {
         return write_last(sink, &Reply::Refused(Refusal::Marking));
     }
-    let Ok(lines) = collector.dump(alloc, flight) else {
+    let Ok(lines) = collector.dump(alloc, flight, steps) else {
         return Err(AnswerFault::Memory);
     };
     write_last(sink, &Reply::Dump(DumpLines::from_vec(lines)))

@@ -11,6 +11,7 @@
 //     answer     the reply to a line that comes at once
 //     begin      the lines that begin a collection or go on with one
 //     turns      the units that a line asks for, each report written as it comes
+//     resets     a collection is given up, each report written as it comes
 //     pending    what is left to do of a line
 //     dump       the dump of the heap, when no zone is marking
 //     dumps      under `check`, a dump of colours is read instead, and its verdict written (`dump_cli`)
@@ -61,6 +62,7 @@ mod machine;
 mod pending;
 mod reading;
 mod replaying;
+mod resets;
 mod storm;
 mod turns;
 

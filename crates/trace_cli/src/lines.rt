@@ -1,22 +1,28 @@
 // The reading loop: it replies to one line after the other, until something stands in the way.
-ghost use Rattle.std.specs.Prelude.{◌≡◌, ◌≢◌, ◌<◌, ◌+◌, ◌⊎◌, [], Err, Contains, IfNone, IfSome, None, OnErr, OnOk};
-ghost use Rattle.std.specs.Prelude.{Some};
+ghost use Rattle.std.specs.Prelude.{◌≡◌, ◌≢◌, ◌<◌, ◌+◌, ◌^◌, ◌⊎◌, [], Err, Contains, IfNone, IfOk, IfSome, None, Ok};
+ghost use Rattle.std.specs.Prelude.{OnErr, OnOk, Some};
 ghost use Rattle.std.specs.Io.KnownBytes.{Appends};
 ghost use Rattle.gz_io.specs.Causes.{Rose};
+ghost use Rattle.slice_driver.specs.Left.{units_left};
 ghost use Rattle.slice_driver.specs.Units.{none_flown};
 ghost use Rattle.trace_cli.specs.Answering.{CountsFaults};
-ghost use Rattle.trace_cli.specs.Pauses.{PausesSo};
-ghost use Rattle.trace_cli.specs.Standing.{BreaksLine, EndsLine, Entry, HandsOn, HasEnded, IsStanding, Standing};
-ghost use Rattle.trace_cli.specs.Standing.{turns_left};
+ghost use Rattle.trace_cli.specs.Pauses.{IsLeftBy, PausesSo, bits_in, outs_in};
+ghost use Rattle.trace_cli.specs.Pending.{done_of, limit_of};
+ghost use Rattle.trace_cli.specs.Standing.{BreaksLine, EndsLine, Entry, HandsOn, HasEnded, IsStanding, MakesNone};
+ghost use Rattle.trace_cli.specs.Standing.{Standing, StandsWith, turns_left};
+ghost use Rattle.trace_cli.specs.Worlds.{EachWorld};
+ghost use Rattle.trace_cli.specs.Writing.{BreaksFurther, GoesFurther, StopsFurther};
 
 use crate::answer::{AnswerFault, start_command, write_last};
 use crate::exit::Exit;
 use crate::machine::{Machine, Pause};
 use crate::pending::Pending;
+use crate::resets::answer_reset;
 use crate::turns::answer_units;
 use command_source::{CommandSource, NextCommand};
 use gz_io::Sink;
 use heap_core::Steps;
+use slice_driver::Collector;
 use std::alloc::Global;
 use std::sync::ledger::Ledger;
 use sweeping::Sweeping;
@@ -66,6 +72,7 @@ fn start_line<F: Sweeping, S: CommandSource, K: Sink, L: Ledger>(
     sink: &mut K,
     steps: &mut Steps<L>,
 ) -> Option<Exit>
+    requires counted { machine.old.collector.heap.ledger ≡ Some L.name }
     requires between { machine.old.pending ≡ None }
     requires standing { IsStanding machine.old (S.input source.old) (K.written sink.old)
         (K.faults sink.old) (F.left (F.origin flight.old)) (F.bits flight.old) }
@@ -81,6 +88,7 @@ fn start_line<F: Sweeping, S: CommandSource, K: Sink, L: Ledger>(
         → HasEnded e x machine.new (S.input source.new) (K.written sink.new)
         (K.faults sink.new) (K.behind sink.new)) }
     ensures origin { F.origin flight.new ≡ F.origin flight.old }
+    ensures ledger { machine.new.collector.heap.ledger ≡ machine.old.collector.heap.ledger }
     ensures lender { S.lender source.new ≡ S.lender source.old }
 {
     if flush_before(source, sink).is_err() {
@@ -123,11 +131,45 @@ fn end_line<K: Sink>(machine: &mut Machine, left: Pending, sink: &mut K) -> Resu
         × (K.faults sink.new ≡ K.faults sink.old)) }
     ensures err { OnErr result (BreaksLine left (K.written sink.old) (K.written sink.new)
         × Rose (K.faults sink.old) (K.faults sink.new)) }
+    ensures kept { machine.new.collector ≡ machine.old.collector }
 {
     write_last(sink, &left.reply())?;
     machine.pending = None;
     machine.answered += 1;
     Ok(())
+}
+
+// Does what is left of a line but for its last line, until that is done or something stands in the way.
+fn answer_pending<F: Sweeping, K: Sink, L: Ledger>(
+    alloc: Global,
+    collector: &mut Collector,
+    left: &mut Pending,
+    flight: &mut F,
+    sink: &mut K,
+    steps: &mut Steps<L>,
+) -> Result<Pause, AnswerFault>
+    requires counted { collector.old.heap.ledger ≡ Some L.name }
+    requires flight { StandsWith collector.old (F.left (F.origin flight.old)) (F.bits flight.old) }
+    requires few { left.old ≢ Pending.Reset
+        → done_of left.old + units_left collector.old (F.bits flight.old) < 2 ^ 64 }
+    ensures ok { IfOk result (λ pause. GoesFurther collector.old (F.bits flight.old) left.old collector.new
+        (bits_in pause (F.bits flight.new)) left.new (K.written sink.old) (K.written sink.new)) }
+    ensures over { result ≡ Ok Pause.None → 0 < limit_of left.new → collector.new.run ≡ None }
+    ensures flight { IfOk result (λ pause. StandsWith collector.new
+        (outs_in pause (F.left (F.origin flight.new))) (bits_in pause (F.bits flight.new))) }
+    ensures by { IfOk result (λ pause. IsLeftBy pause (F.left (F.origin flight.new)) (F.bits flight.new)) }
+    ensures home { F.home (F.origin flight.new) ≡ F.home (F.origin flight.old) }
+    ensures size { MakesNone collector.old collector.new }
+    ensures memory { result ≡ Err AnswerFault.Memory → EachWorld collector.old (F.bits flight.old)
+        (λ w. StopsFurther w left.old (K.written sink.old) (K.written sink.new)) }
+    ensures write { result ≡ Err AnswerFault.Write → EachWorld collector.old (F.bits flight.old)
+        (λ w. BreaksFurther w left.old (K.written sink.old) (K.written sink.new)) }
+    ensures faults { CountsFaults (K.faults sink.old) (K.faults sink.new) result }
+{
+    match *left {
+        Pending::Reset => answer_reset(collector, flight, sink, steps),
+        _ => answer_units(alloc, collector, left, flight, sink, steps),
+    }
 }
 
 // Goes on with the line that is being answered.
@@ -141,6 +183,7 @@ fn go_on<F: Sweeping, S: CommandSource, K: Sink, L: Ledger>(
     sink: &mut K,
     steps: &mut Steps<L>,
 ) -> Pause
+    requires counted { machine.old.collector.heap.ledger ≡ Some L.name }
     requires amid { machine.old.pending ≡ Some pending }
     requires standing { IsStanding machine.old (S.input _source.now) (K.written sink.old)
         (K.faults sink.old) (F.left (F.origin flight.old)) (F.bits flight.old) }
@@ -150,10 +193,11 @@ fn go_on<F: Sweeping, S: CommandSource, K: Sink, L: Ledger>(
         → PausesSo result e machine.new (S.input _source.now) (K.written sink.new) (K.faults sink.new)
         (K.behind sink.new) (F.left (F.origin flight.new)) (F.bits flight.new) }
     ensures fewer { result ≡ Pause.None → turns_left machine.new < turns_left machine.old }
+    ensures ledger { machine.new.collector.heap.ledger ≡ machine.old.collector.heap.ledger }
     ensures home { F.home (F.origin flight.new) ≡ F.home (F.origin flight.old) }
 {
     let mut left = pending;
-    match answer_units(
+    match answer_pending(
         alloc,
         &mut machine.collector,
         &mut left,
@@ -185,6 +229,7 @@ pub fn go<F: Sweeping, S: CommandSource, K: Sink, L: Ledger>(
     sink: &mut K,
     steps: &mut Steps<L>,
 ) -> Pause
+    requires counted { machine.old.collector.heap.ledger ≡ Some L.name }
     requires standing { IsStanding machine.old (S.input source.old) (K.written sink.old)
         (K.faults sink.old) (F.left (F.origin flight.old)) (F.bits flight.old) }
     ensures pauses { (e : Entry)
@@ -193,6 +238,7 @@ pub fn go<F: Sweeping, S: CommandSource, K: Sink, L: Ledger>(
         → PausesSo result e machine.new (S.input source.new) (K.written sink.new)
         (K.faults sink.new) (K.behind sink.new) [] none_flown }
     ensures home { F.home (F.origin flight.new) ≡ F.home (F.origin flight.old) }
+    ensures ledger { machine.new.collector.heap.ledger ≡ machine.old.collector.heap.ledger }
     ensures lender { S.lender source.new ≡ S.lender source.old }
 {
     loop {

@@ -4,7 +4,7 @@ ghost use Rattle.trace_cli.specs.Pending.{after, done_of, limit_of, reply_of};
 
 use gz_names::Reply;
 
-/// What is left to do of a line that asks for units of a collection: these units, and its last line.
+/// What is left to do of a line that goes on with a collection: its units, or giving it up, and its last line.
 #[derive(Clone, Copy, Debug, PartialEq, Eq)]
 pub enum Pending {
     /// `collect`: units until the collection is over.
@@ -13,6 +13,8 @@ pub enum Pending {
     Slice { left: u64, done: u64 },
     /// `finish`: units until the collection is over, after `done` of them.
     Finish { done: u64 },
+    /// `reset`: the arenas that are out are taken in, and the collection is given up.
+    Reset,
 }
 
 impl Pending {
@@ -22,7 +24,7 @@ impl Pending {
     {
         match self {
             Pending::Slice { left, done: _ } => *left,
-            Pending::Collect | Pending::Finish { done: _ } => u64::MAX,
+            Pending::Collect | Pending::Finish { done: _ } | Pending::Reset => u64::MAX,
         }
     }
 
@@ -33,7 +35,7 @@ impl Pending {
         ensures { self.new ≡ after units self.old }
     {
         match self {
-            Pending::Collect => {}
+            Pending::Collect | Pending::Reset => {}
             Pending::Slice { left, done } => {
                 *left -= units;
                 *done += units;
@@ -48,6 +50,7 @@ impl Pending {
     {
         match self {
             Pending::Collect => Reply::Collected,
+            Pending::Reset => Reply::ResetDone,
             Pending::Slice { left: _, done } | Pending::Finish { done } => Reply::Sliced(*done),
         }
     }

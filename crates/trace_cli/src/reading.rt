@@ -1,5 +1,5 @@
 // The whole replay: what the words ask for is done to its end.
-ghost use Rattle.std.specs.Prelude.{◌≡◌, ◌≢◌, ◌<◌, ℕ, [], map, ◌⊎◌};
+ghost use Rattle.std.specs.Prelude.{◌≡◌, ◌≢◌, ◌<◌, ℕ, [], map, ◌⊎◌, Some};
 ghost use Rattle.clap.specs.Words.{fault_of};
 ghost use Rattle.gz_io.specs.Causes.{Rose};
 ghost use Rattle.command_words.specs.Program.{gczone};
@@ -51,6 +51,7 @@ fn run_on<
     L: Ledger + Send,
 >(resources: &Resources<'_, R, G>, replaying: &mut Replaying<'_, '_, '_, '_, '_, S, K, L>) -> Exit
     requires going { replaying.old.pause.now ≡ Pause.None }
+    requires counted { replaying.old.machine.now.collector.heap.ledger ≡ Some L.name }
     requires standing { IsStanding replaying.old.machine.now (S.input replaying.old.source.now)
         (K.written replaying.old.sink.now) (K.faults replaying.old.sink.now) [] none_flown }
     ensures machine { replaying.new.machine.ghost_name ≡ replaying.old.machine.ghost_name }
@@ -115,7 +116,7 @@ pub fn answer_all<
         (K.faults sink.old)) result machine.new (S.input source.new) (K.written sink.new) (K.faults sink.new)
         (K.behind sink.new) }
 {
-    let mut steps = Steps::<L>::new(blank);
+    let mut steps = machine.collector.count_edges::<L>(blank);
     let mut pause = Pause::None;
     let mut replaying = Replaying {
         alloc: resources.alloc,

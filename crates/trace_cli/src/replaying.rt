@@ -1,5 +1,5 @@
 // A replay, as main's work beside helpers.
-ghost use Rattle.std.specs.Prelude.{◌≡◌, []};
+ghost use Rattle.std.specs.Prelude.{◌≡◌, [], Some};
 ghost use Rattle.slice_driver.specs.Units.{none_flown};
 ghost use Rattle.trace_cli.specs.Pauses.{PausesSo};
 ghost use Rattle.trace_cli.specs.Standing.{Entry, IsStanding, Standing};
@@ -38,12 +38,13 @@ fn drain<F: Sweeping>(flight: &mut F)
 
 impl<'m, 's, 'k, 't, 'p, S: CommandSource, K: Sink, L: Ledger> Works
     for Replaying<'m, 's, 'k, 't, 'p, S, K, L> {
-    ghost ready = { λ r outs flown. IsStanding r.machine.now (S.input r.source.now) (K.written r.sink.now)
-        (K.faults r.sink.now) outs flown };
+    ghost ready = { λ r outs flown. (r.machine.now.collector.heap.ledger ≡ Some L.name)
+        × IsStanding r.machine.now (S.input r.source.now) (K.written r.sink.now) (K.faults r.sink.now) outs flown };
 
     ghost ran = { λ r outs flown t. (t.machine.ghost_name ≡ r.machine.ghost_name)
         × (t.source.ghost_name ≡ r.source.ghost_name) × (t.sink.ghost_name ≡ r.sink.ghost_name)
         × (t.steps.ghost_name ≡ r.steps.ghost_name) × (t.pause.ghost_name ≡ r.pause.ghost_name)
+        × (t.machine.now.collector.heap.ledger ≡ r.machine.now.collector.heap.ledger)
         × (S.lender t.source.now ≡ S.lender r.source.now)
         × ((e : Entry) → Standing e r.machine.now (S.input r.source.now)
         (K.written r.sink.now) (K.faults r.sink.now) outs flown

@@ -1,5 +1,5 @@
 // Units of a collection, each report written as it comes.
-ghost use Rattle.std.specs.Prelude.{◌≡◌, ◌<◌, ◌+◌, ◌^◌, ℕ, [], Err, IfOk, IsSome, None, Ok, OnErr, OnOk};
+ghost use Rattle.std.specs.Prelude.{◌≡◌, ◌<◌, ◌+◌, ◌^◌, ℕ, [], Err, IfOk, IsSome, None, Ok, OnErr, OnOk, Some};
 ghost use Rattle.std.specs.Io.KnownBytes.{Appends};
 ghost use Rattle.gz_io.specs.Causes.{HasCause, AppendsFront};
 ghost use Rattle.sweeping.specs.ArenasOut.{AscendHanded, flying_after, outs_after};
@@ -43,7 +43,7 @@ fn pause_after<F: Sweeping>(some_out: bool, flight: &F, handed: Option<Jobs>) ->
 }
 
 // Writes what a unit reports; the last one is followed by `done`.
-fn write_reports<K: Sink>(
+pub fn write_reports<K: Sink>(
     sink: &mut K,
     report: &Option<Report>,
     finished: bool,
@@ -89,6 +89,7 @@ fn answer_step<F: Sweeping, K: Sink, L: Ledger>(
     sink: &mut K,
     steps: &mut Steps<L>,
 ) -> Result<Pause, AnswerFault>
+    requires counted { collector.old.heap.ledger ≡ Some L.name }
     requires flight { StandsWith collector.old (F.left (F.origin flight.old)) (F.bits flight.old) }
     requires running { IsSome collector.old.run }
     requires some { 0 < limit_of pending.old }
@@ -101,7 +102,7 @@ fn answer_step<F: Sweeping, K: Sink, L: Ledger>(
         (outs_in pause (F.left (F.origin flight.new))) (bits_in pause (F.bits flight.new))) }
     ensures by { IfOk result (λ pause. IsLeftBy pause (F.left (F.origin flight.new)) (F.bits flight.new)) }
     ensures home { F.home (F.origin flight.new) ≡ F.home (F.origin flight.old) }
-    ensures size { IfOk result (λ pause. MakesNone collector.old collector.new) }
+    ensures size { MakesNone collector.old collector.new }
     ensures memory { result ≡ Err AnswerFault.Memory → Appends (K.written sink.old) (K.written sink.new) [] }
     ensures write { result ≡ Err AnswerFault.Write → EachWorld collector.old (F.bits flight.old)
         (λ w. (n : ℕ) × Allows pending.old n × BreaksInUnits w n (K.written sink.old) (K.written sink.new)) }
@@ -128,6 +129,7 @@ pub fn answer_units<F: Sweeping, K: Sink, L: Ledger>(
     sink: &mut K,
     steps: &mut Steps<L>,
 ) -> Result<Pause, AnswerFault>
+    requires counted { collector.old.heap.ledger ≡ Some L.name }
     requires flight { StandsWith collector.old (F.left (F.origin flight.old)) (F.bits flight.old) }
     requires few { done_of pending.old + units_left collector.old (F.bits flight.old) < 2 ^ 64 }
     ensures ok { IfOk result (λ pause. Goes collector.old (F.bits flight.old) pending.old collector.new
@@ -137,7 +139,7 @@ pub fn answer_units<F: Sweeping, K: Sink, L: Ledger>(
         (outs_in pause (F.left (F.origin flight.new))) (bits_in pause (F.bits flight.new))) }
     ensures by { IfOk result (λ pause. IsLeftBy pause (F.left (F.origin flight.new)) (F.bits flight.new)) }
     ensures home { F.home (F.origin flight.new) ≡ F.home (F.origin flight.old) }
-    ensures size { IfOk result (λ pause. MakesNone collector.old collector.new) }
+    ensures size { MakesNone collector.old collector.new }
     ensures memory { result ≡ Err AnswerFault.Memory → EachWorld collector.old (F.bits flight.old)
         (λ w. (n : ℕ) × Allows pending.old n × StopsInUnits w n (K.written sink.old) (K.written sink.new)) }
     ensures write { result ≡ Err AnswerFault.Write → EachWorld collector.old (F.bits flight.old)

@@ -53,3 +53,10 @@ returns-in-Finish-clause-answer g c =
     (g.K.Sink.written c.args.sink.now) (g.K.Sink.written c.begin_finish.new.sink) c.begin_finish.result)
     (sym c.in-Finish.is)
     c.begin_finish.ensures.answer
+
+pub returns-in-Reset-clause-answer : goal.returns-in-Reset-clause-answer
+returns-in-Reset-clause-answer g c = subst (λ (d : Cmd). StartsCommand d c.begin_reset.new.pending c.args.collector.now
+    (g.F.Flight.bits c.args.flight.now) c.args.collector.now (g.F.Flight.bits c.args.flight.now)
+    (g.K.Sink.written c.args.sink.now) (g.K.Sink.written c.begin_reset.new.sink) c.begin_reset.result)
+    (sym c.in-Reset.is)
+    c.begin_reset.ensures.answer

@@ -1,11 +1,10 @@
-use Rattle.std.proofs.Common.{inl, inr, refl, ap, Err, ◌∙◌}
+use Rattle.std.proofs.Common.{inr, refl, ap, Err}
 use Rattle.slice_driver.specs.declared.begin.BeginFault.{BeginFault}
-use Rattle.trace_cli.proofs.Answered.{begin_stops, collect_accepted, no_zone, one_runs, refusal_breaks, refusal_writes}
+use Rattle.trace_cli.proofs.Answered.{no_zone, one_runs, refusal_breaks, refusal_writes}
 use Rattle.trace_cli.proofs.ArenasOut.{out_kept, stands_as}
 use Rattle.trace_cli.proofs.Replied.{replied}
-use Rattle.trace_cli.proofs.Started.{begun, collect_begins, start_wanted, started}
+use Rattle.trace_cli.proofs.Started.{begun, collect_begins, started}
 use Rattle.std.proofs.KnownBytes.{Appends-nil}
-use Rattle.gz_names.specs.declared.commands.Cmd.TheVariants as command
 use Rattle.trace_cli.proofs.begin.begin_collect.Goals as goal
 
 pub returns-in-Ok-clause-answer : goal.returns-in-Ok-clause-answer
@@ -58,16 +57,3 @@ pub returns-in-Err-NoZone-clause-flight : goal.returns-in-Err-NoZone-clause-flig
 returns-in-Err-NoZone-clause-flight g c = stands_as c.args.collector.now c.begin.new.self
     (g.F.Sweeping.left (g.F.Flight.origin c.args._flight.now)) (g.F.Flight.bits c.args._flight.now)
     c.in-Err-NoZone.ensures.refused c.requires.flight
-
-pub returns-in-Err-NoMemory-clause-answer : goal.returns-in-Err-NoMemory-clause-answer
-returns-in-Err-NoMemory-clause-answer g c =
-    start_wanted c.requires.none (begin_stops c.args.collector.now (g.F.Flight.bits c.args._flight.now) c.args.zones
-    (command.Collect c.args.zones) c.begin.result _ _
-    (λ w idle made. collect_accepted w c.args.zones idle made) (λ w. inl refl) c.begin.ensures.running
-    c.begin.ensures.no_zone
-    (c.in-Err-NoMemory.is ∙ ap (λ (f : BeginFault). Err f) c.in-Err-NoMemory.field-0-is) (Appends-nil _))
-
-pub returns-in-Err-NoMemory-clause-flight : goal.returns-in-Err-NoMemory-clause-flight
-returns-in-Err-NoMemory-clause-flight g c = stands_as c.args.collector.now c.begin.new.self
-    (g.F.Sweeping.left (g.F.Flight.origin c.args._flight.now)) (g.F.Flight.bits c.args._flight.now)
-    c.in-Err-NoMemory.ensures.refused c.requires.flight

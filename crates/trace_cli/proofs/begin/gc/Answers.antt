@@ -1,11 +1,9 @@
-use Rattle.std.proofs.Common.{inr, refl, ap, Err, ◌∙◌}
+use Rattle.std.proofs.Common.{inr, refl, ap, Err}
 use Rattle.slice_driver.specs.declared.begin.BeginFault.{BeginFault}
-use Rattle.trace_cli.proofs.Answered.{begin_stops, gc_accepted, gc_breaks, gc_writes, no_zone, one_runs}
+use Rattle.trace_cli.proofs.Answered.{gc_breaks, gc_writes, no_zone, one_runs}
 use Rattle.trace_cli.proofs.Answered.{refusal_breaks, refusal_writes}
 use Rattle.trace_cli.proofs.ArenasOut.{out_kept, stands_as}
-use Rattle.trace_cli.proofs.Replied.{replied, wanted}
-use Rattle.std.proofs.KnownBytes.{Appends-nil}
-use Rattle.gz_names.specs.declared.commands.Cmd.TheVariants as command
+use Rattle.trace_cli.proofs.Replied.{replied}
 use Rattle.trace_cli.proofs.begin.gc.Goals as goal
 
 pub returns-in-Ok-clause-answer : goal.returns-in-Ok-clause-answer
@@ -63,15 +61,3 @@ pub returns-in-Err-NoZone-clause-flight : goal.returns-in-Err-NoZone-clause-flig
 returns-in-Err-NoZone-clause-flight g c = stands_as c.args.collector.now c.begin.new.self
     (g.F.Sweeping.left (g.F.Flight.origin c.args._flight.now)) (g.F.Flight.bits c.args._flight.now)
     c.in-Err-NoZone.ensures.refused c.requires.flight
-
-pub returns-in-Err-NoMemory-clause-answer : goal.returns-in-Err-NoMemory-clause-answer
-returns-in-Err-NoMemory-clause-answer g c =
-    wanted (begin_stops c.args.collector.now (g.F.Flight.bits c.args._flight.now) c.args.zones
-    (command.Gc c.args.zones) c.begin.result _ _
-    (λ w idle made. gc_accepted w c.args.zones idle made) (λ w. refl) c.begin.ensures.running c.begin.ensures.no_zone
-    (c.in-Err-NoMemory.is ∙ ap (λ (f : BeginFault). Err f) c.in-Err-NoMemory.field-0-is) (Appends-nil _))
-
-pub returns-in-Err-NoMemory-clause-flight : goal.returns-in-Err-NoMemory-clause-flight
-returns-in-Err-NoMemory-clause-flight g c = stands_as c.args.collector.now c.begin.new.self
-    (g.F.Sweeping.left (g.F.Flight.origin c.args._flight.now)) (g.F.Flight.bits c.args._flight.now)
-    c.in-Err-NoMemory.ensures.refused c.requires.flight

@@ -31,9 +31,9 @@ pub returns-clause-flight : goal.returns-clause-flight
 returns-clause-flight g c = record {
   sound = same_sound c.args.collector.now c.args.collector.now (g.F.Flight.bits c.args.flight.now)
       (g.F.Flight.bits c.dump.new.flight)
-      c.requires.sound c.dump.ensures.same;
+      c.requires.flight.sound c.dump.ensures.same;
   out = out_kept c.args.collector.now.heap.shape c.args.collector.now.heap.shape _ _ (λ a freed is. is)
-      (ap g.F.Sweeping.left c.dump.ensures.origin) c.requires.out;
+      (ap g.F.Sweeping.left c.dump.ensures.origin) c.requires.flight.out;
 }
 
 pub returns-in_default-clause-answer : goal.returns-in_default-clause-answer
@@ -44,7 +44,7 @@ pub returns-in_default-clause-flight : goal.returns-in_default-clause-flight
 returns-in_default-clause-flight g c = record {
   sound = same_sound c.args.collector.now c.args.collector.now (g.F.Flight.bits c.args.flight.now)
       (g.F.Flight.bits c.dump.new.flight)
-      c.requires.sound c.dump.ensures.same;
+      c.requires.flight.sound c.dump.ensures.same;
   out = out_kept c.args.collector.now.heap.shape c.args.collector.now.heap.shape _ _ (λ a freed is. is)
-      (ap g.F.Sweeping.left c.dump.ensures.origin) c.requires.out;
+      (ap g.F.Sweeping.left c.dump.ensures.origin) c.requires.flight.out;
 }

@@ -8,8 +8,15 @@ loop-machine-init g c = record {
   standing = c.requires.standing;
   stands = λ e s. s;
   home = refl;
+  ledger = refl;
   lender = refl;
 }
+
+pub go_on-requires-clause-counted : goal.go_on-requires-clause-counted
+go_on-requires-clause-counted g c = c.loop-machine.invariant.ledger ∙ c.requires.counted
+
+pub start_line-requires-clause-counted : goal.start_line-requires-clause-counted
+start_line-requires-clause-counted g c = c.loop-machine.invariant.ledger ∙ c.requires.counted
 
 pub returns-in_default-go_on-clause-pauses : goal.returns-in_default-go_on-clause-pauses
 returns-in_default-go_on-clause-pauses g c = λ e s.
@@ -23,6 +30,7 @@ loop-machine-preserved-in-None g c =
       standing = stands_on more.pauses so.standing;
       stands = λ e s. more.pauses e (so.stands e s);
       home = more.home ∙ so.home;
+      ledger = more.ledger ∙ so.ledger;
       lender = so.lender;
     }
 
@@ -37,5 +45,6 @@ loop-machine-preserved g c =
       standing = stands_on more.none so.standing;
       stands = λ e s. more.none e (so.stands e s);
       home = ap g.F.Sweeping.home c.start_line.ensures.origin ∙ so.home;
+      ledger = c.start_line.ensures.ledger ∙ so.ledger;
       lender = c.start_line.ensures.lender ∙ so.lender;
     }

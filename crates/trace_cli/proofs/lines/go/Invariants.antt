@@ -12,6 +12,7 @@ invariant-loop-machine g l = record {
       → Standing e l.machine (g.S.CommandSource.input l.source) (g.K.Sink.written l.sink)
       (g.K.Sink.faults l.sink) (g.F.Sweeping.left (g.F.Flight.origin l.flight)) (g.F.Flight.bits l.flight);
   home : g.F.Sweeping.home (g.F.Flight.origin l.flight) ≡ g.F.Sweeping.home (g.F.Flight.origin l.fn.flight);
+  ledger : l.machine.collector.heap.ledger ≡ l.fn.machine.collector.heap.ledger;
   lender : g.S.CommandSource.lender l.source ≡ g.S.CommandSource.lender l.fn.source;
 }
 

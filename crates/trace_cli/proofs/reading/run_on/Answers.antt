@@ -1,9 +1,11 @@
+use denote.Param.Send.{sendable}
 use Rattle.std.proofs.Common.{refl, subst, sym, ◌∙◌}
 use Rattle.sweeping.specs.ArenasOut.{flown_by, outs_of}
 use Rattle.trace_cli.specs.Pauses.{Sweeps}
 use Rattle.trace_cli.proofs.Closing.{from_err, from_ok}
 use Rattle.trace_cli.proofs.Handing.{none_at_first, pause_ends, pause_over, pause_sweeps, some_ends, some_sweeps}
 use Rattle.trace_cli.proofs.Handing.{unswept}
+use Rattle.trace_cli.proofs.Sent.{replaying_send}
 use Rattle.trace_cli.proofs.reading.run_on.Goals as goal
 
 pub loop-init : goal.loop-init
@@ -13,6 +15,7 @@ loop-init g c = record {
   sink = refl;
   steps = refl;
   pause = refl;
+  ledger = refl;
   lender = refl;
   pauses = λ e s. none_at_first e _ _ _ _ _ _ c.requires.going s;
 }
@@ -21,15 +24,20 @@ pub returns-in-Over-clause-ended : goal.returns-in-Over-clause-ended
 returns-in-Over-clause-ended g c = λ e s. pause_over e _ _ _ _ _ c.loop.replaying.pause.now
     (c.loop.invariant.pauses e s) c.in-Over.exit (sym c.replace.ensures.value ∙ c.in-Over.is)
 
+pub sweep_beside-requires-send-W : goal.sweep_beside-requires-send-W
+sweep_beside-requires-send-W g c κs within = search (sendable, replaying_send)
+
 pub sweep_beside-requires-clause-ascending : goal.sweep_beside-requires-clause-ascending
 sweep_beside-requires-clause-ascending g c = λ κs within.
     (some_sweeps _ _ _ _ _ _ _ _ _ c.loop.replaying.pause.now c.loop.invariant.pauses c.requires.standing
     c.in-Sweep.jobs (sym c.replace.ensures.value ∙ c.in-Sweep.is)).1
 
 pub sweep_beside-requires-clause-ready : goal.sweep_beside-requires-clause-ready
-sweep_beside-requires-clause-ready g c = λ κs within.
-    (some_sweeps _ _ _ _ _ _ _ _ _ c.loop.replaying.pause.now c.loop.invariant.pauses c.requires.standing
-    c.in-Sweep.jobs (sym c.replace.ensures.value ∙ c.in-Sweep.is)).0
+sweep_beside-requires-clause-ready g c = λ κs within. (
+  c.loop.invariant.ledger ∙ c.requires.counted,
+  (some_sweeps _ _ _ _ _ _ _ _ _ c.loop.replaying.pause.now c.loop.invariant.pauses c.requires.standing
+      c.in-Sweep.jobs (sym c.replace.ensures.value ∙ c.in-Sweep.is)).0,
+)
 
 pub returns-then-is_err-clause-ended : goal.returns-then-is_err-clause-ended
 returns-then-is_err-clause-ended g c = λ e s.
@@ -51,14 +59,18 @@ loop-preserved g c =
       sink = ran.2 ∙ so.sink;
       steps = ran.3 ∙ so.steps;
       pause = ran.4 ∙ so.pause;
-      lender = ran.5 ∙ so.lender;
-      pauses = λ e s. ran.6 e (pause_sweeps e _ _ _ _ _ c.loop.replaying.pause.now (so.pauses e s) c.in-Sweep.jobs
+      ledger = ran.5 ∙ so.ledger;
+      lender = ran.6 ∙ so.lender;
+      pauses = λ e s. ran.7 e (pause_sweeps e _ _ _ _ _ c.loop.replaying.pause.now (so.pauses e s) c.in-Sweep.jobs
           (sym c.replace.ensures.value ∙ c.in-Sweep.is)).stands;
     }
 
 pub run-requires : goal.run-requires
-run-requires g c = some_ends _ _ _ _ _ _ _ _ _ c.loop.replaying.pause.now c.loop.invariant.pauses c.requires.standing
-    c.new.result c.replace.result c.replace.ensures.value c.in-None-replace.is c.new.ensures
+run-requires g c = (
+  c.loop.invariant.ledger ∙ c.requires.counted,
+  some_ends _ _ _ _ _ _ _ _ _ c.loop.replaying.pause.now c.loop.invariant.pauses c.requires.standing c.new.result
+      c.replace.result c.replace.ensures.value c.in-None-replace.is c.new.ensures,
+)
 
 pub loop-preserved-in-None-replace : goal.loop-preserved-in-None-replace
 loop-preserved-in-None-replace g c =
@@ -69,7 +81,8 @@ loop-preserved-in-None-replace g c =
       sink = ran.2 ∙ so.sink;
       steps = ran.3 ∙ so.steps;
       pause = ran.4 ∙ so.pause;
-      lender = ran.5 ∙ so.lender;
-      pauses = λ e s. ran.6 e (pause_ends e _ _ _ _ _ c.loop.replaying.pause.now (so.pauses e s) c.new.result
+      ledger = ran.5 ∙ so.ledger;
+      lender = ran.6 ∙ so.lender;
+      pauses = λ e s. ran.7 e (pause_ends e _ _ _ _ _ c.loop.replaying.pause.now (so.pauses e s) c.new.result
           c.replace.result c.replace.ensures.value c.in-None-replace.is c.new.ensures);
     }

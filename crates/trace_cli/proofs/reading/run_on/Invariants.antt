@@ -11,6 +11,8 @@ invariant-loop g l = record {
   sink : l.replaying.sink.ghost_name ≡ l.initial.replaying.sink.ghost_name;
   steps : l.replaying.steps.ghost_name ≡ l.initial.replaying.steps.ghost_name;
   pause : l.replaying.pause.ghost_name ≡ l.initial.replaying.pause.ghost_name;
+  ledger : l.replaying.machine.now.collector.heap.ledger
+      ≡ l.initial.replaying.machine.now.collector.heap.ledger;
   lender : g.S.CommandSource.lender l.replaying.source.now
       ≡ g.S.CommandSource.lender l.initial.replaying.source.now;
   pauses : (e : Entry) → Standing e l.initial.replaying.machine.now

@@ -3,7 +3,7 @@ use Rattle.cell_bits.specs.declared.bits.Bits.{Bits}
 use Rattle.slice_driver.specs.Advances.{AreOut}
 use Rattle.slice_driver.specs.Left.{units_left}
 use Rattle.slice_driver.specs.Units.{IsSound}
-use Rattle.trace_cli.proofs.Units.{goes_as, step_fronts, step_goes}
+use Rattle.trace_cli.proofs.Units.{goes_as, makes_same, step_fronts, step_goes}
 use Rattle.trace_cli.proofs.turns.answer_step.Goals as goal
 
 pub count-requires-clause-small : goal.count-requires-clause-small
@@ -35,6 +35,18 @@ returns-in-Ok-write_step-clause-flight g c = record {
 
 pub returns-in-Ok-write_step-clause-by : goal.returns-in-Ok-write_step-clause-by
 returns-in-Ok-write_step-clause-by g c = c.pause_after.ensures.by c.in-Ok.ensures.done.ascending
+
+pub returns-in-Ok-write_step-clause-size : goal.returns-in-Ok-write_step-clause-size
+returns-in-Ok-write_step-clause-size g c =
+    let did = c.in-Ok.ensures.done in record { made = did.made; entries = did.entries; ledger = did.ledger }
+
+pub returns-in_default-clause-size : goal.returns-in_default-clause-size
+returns-in_default-clause-size g c =
+    makes_same c.args.collector.now c.advance.new.self c.in_default.ensures.still.err.same
+
+pub returns-in-Err-clause-size : goal.returns-in-Err-clause-size
+returns-in-Err-clause-size g c =
+    let did = c.in-Ok.ensures.done in record { made = did.made; entries = did.entries; ledger = did.ledger }
 
 pub returns-in-Err-clause-write : goal.returns-in-Err-clause-write
 returns-in-Err-clause-write g c = λ e. step_fronts c.limit.result c.args.pending.now c.args.collector.now

@@ -21,10 +21,13 @@ loop-collector-init g c = (
   c.requires.few,
   none_gone c.args.pending.now c.args.collector.now (g.F.Flight.bits c.args.flight.now)
       (g.K.Sink.written c.args.sink.now),
-  record { made = refl; entries = omega arith },
+  record { made = refl; entries = omega arith; ledger = refl },
   refl,
   refl,
 )
+
+pub answer_step-requires-clause-counted : goal.answer_step-requires-clause-counted
+answer_step-requires-clause-counted g c = c.loop-collector.invariant.3.ledger ∙ c.requires.counted
 
 pub loop-collector-preserved : goal.loop-collector-preserved
 loop-collector-preserved g c =
@@ -56,6 +59,9 @@ returns-in-Ok-clause-ok g c =
 
 pub returns-in-Ok-clause-size : goal.returns-in-Ok-clause-size
 returns-in-Ok-clause-size g c = makes_none _ _ _ c.loop-collector.invariant.3 c.in-Ok.ensures.size
+
+pub returns-in-Err-clause-size : goal.returns-in-Err-clause-size
+returns-in-Err-clause-size g c = makes_none _ _ _ c.loop-collector.invariant.3 c.in-Err.ensures.size
 
 pub returns-in-Err-clause-memory : goal.returns-in-Err-clause-memory
 returns-in-Err-clause-memory g c = λ e. goes_stops _ _ _ _ _ _ _ _ _ c.loop-collector.invariant.2
