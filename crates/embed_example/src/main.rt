@@ -19,6 +19,7 @@ fn print_report(
     report: Option<SessionReport>,
 ) -> Option<()> {
     match report {
+        Some(SessionReport::Started) => println!(rt; "marking begins").ok(),
         Some(SessionReport::Groups) => println!(rt; "groups: {}", session.groups().len()).ok(),
         Some(SessionReport::Ended(_)) => {
             println!(rt; "a group ends: {} gray", session.names().len()).ok()
@@ -26,6 +27,7 @@ fn print_report(
         Some(SessionReport::Swept(arena)) => {
             println!(rt; "arena {arena}: {} freed", session.names().len()).ok()
         }
+        Some(SessionReport::Stopped(_)) => println!(rt; "given up").ok(),
         None => Some(()),
     }
 }

@@ -27,7 +27,7 @@ const GRAY_KEY: Row = &[
     ("drop r2\n", "ok\n"),
     (
         "collect 0\n",
-        "groups 0\nended 0 gray 1 2\nswept 0 -\ndone\ncollected\n",
+        "started\ngroups 0\nended 0 gray 1 2\nswept 0 -\ndone\ncollected\n",
     ),
     ("expose r1 g0\n", "1\n"),
     ("colours\n", "gray -\n"),
@@ -49,6 +49,9 @@ const GRAY_OBJECT: Row = &[
     ("drop r1\n", "ok\n"),
     ("drop r2\n", "ok\n"),
     ("gc 0 1\n", "gc ok\n"),
+    ("slice 1\n", "slice 1\n"),
+    ("slice 1\n", "slice 1\n"),
+    ("slice 1\n", "started\nslice 1\n"),
     ("slice 1\n", "slice 1\n"),
     ("slice 1\n", "slice 1\n"),
     ("slice 1\n", "groups 0 | 1\nslice 1\n"),
@@ -85,15 +88,17 @@ const GRAY_RING: Row = &[
     ("gc 0 1\n", "gc ok\n"),
     (
         "finish\n",
-        "groups 0 1\nended 0 1 gray 0 1 0:1 1:0\nswept 0 -\nswept 1 -\ndone\nslice 14\n",
+        "started\ngroups 0 1\nended 0 1 gray 0 1 0:1 1:0\nswept 0 -\nswept 1 -\ndone\nslice 17\n",
     ),
     ("zone\n", "zone 2\n"),
 ];
 
 const ROWS: [Row; 2] = [GRAY_KEY, GRAY_OBJECT];
 
-// How many helpers sweep.
-const HELPERS: [&str; 2] = ["0", "2"];
+// How many helpers sweep: none, or two beside main. Each table is a test for either, as a test has a minute.
+const ALONE: &str = "0";
+
+const BESIDE: &str = "2";
 
 // Each arena that is out may have a helper of its own, so that as many start as the words ask for.
 const ARENAS_A_HELPER: usize = 1;
@@ -272,30 +277,44 @@ fn check_writes<R: Abort + Threads + Wait + Sync>(
 
 #[test]
 fn every_read_fails_in_turn(rt: HostRuntime) -> Result<(), Fail> {
-    for helpers in HELPERS {
-        for row in ROWS {
-            check_reads(&rt, rt.alloc(), helpers, row)?;
-        }
+    for row in ROWS {
+        check_reads(&rt, rt.alloc(), ALONE, row)?;
+    }
+    Ok(())
+}
+
+#[test]
+fn every_read_fails_in_turn_beside_helpers(rt: HostRuntime) -> Result<(), Fail> {
+    for row in ROWS {
+        check_reads(&rt, rt.alloc(), BESIDE, row)?;
     }
     Ok(())
 }
 
 #[test]
 fn every_write_fails_in_turn(rt: HostRuntime) -> Result<(), Fail> {
-    for helpers in HELPERS {
-        for row in ROWS {
-            check_writes(&rt, rt.alloc(), helpers, row)?;
-        }
+    for row in ROWS {
+        check_writes(&rt, rt.alloc(), ALONE, row)?;
+    }
+    Ok(())
+}
+
+#[test]
+fn every_write_fails_in_turn_beside_helpers(rt: HostRuntime) -> Result<(), Fail> {
+    for row in ROWS {
+        check_writes(&rt, rt.alloc(), BESIDE, row)?;
     }
     Ok(())
 }
 
 #[test]
 fn every_write_fails_while_two_arenas_are_out(rt: HostRuntime) -> Result<(), Fail> {
-    for helpers in HELPERS {
-        check_writes(&rt, rt.alloc(), helpers, GRAY_RING)?;
-    }
-    Ok(())
+    check_writes(&rt, rt.alloc(), ALONE, GRAY_RING)
+}
+
+#[test]
+fn every_write_fails_while_two_helpers_sweep(rt: HostRuntime) -> Result<(), Fail> {
+    check_writes(&rt, rt.alloc(), BESIDE, GRAY_RING)
 }
 
 #[test]
@@ -306,7 +325,7 @@ fn every_prefix_ends_as_its_last_line_says(rt: HostRuntime) -> Result<(), Fail> 
         let texts = (&trace[..taken], answers.as_slice());
         let wanted = Some(end_of_prefix(GRAY_KEY, taken));
         assert_eq!(rt;
-            run(&rt, rt.alloc(), "0", texts, (&[], &[])),
+            run(&rt, rt.alloc(), ALONE, texts, (&[], &[])),
             wanted,
             "{taken} bytes"
         );
@@ -314,7 +333,7 @@ fn every_prefix_ends_as_its_last_line_says(rt: HostRuntime) -> Result<(), Fail> 
         let wanted = Some(end_if_asked_again(GRAY_KEY, taken, cut));
         let past = (taken as u64).saturating_add(1);
         assert_eq!(rt;
-            run(&rt, rt.alloc(), "0", texts, (&[past], &[])),
+            run(&rt, rt.alloc(), ALONE, texts, (&[past], &[])),
             wanted,
             "{taken} bytes, and a failure"
         );

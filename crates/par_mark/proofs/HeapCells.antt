@@ -4,8 +4,9 @@ use Rattle.std.proofs.Common.{IsSome, slice_get, option_and_then, refl, arith, i
 use Rattle.cell_bits.specs.declared.bits.Bits.{Bits}
 use Rattle.arena_table.specs.Cells.{CellState}
 use Rattle.arena_table.specs.Slots.{cell_in}
-use Rattle.heap_core.specs.Shape.{Shape, ArenaShape, AreWhole, IsPresent, HasEdge, cell_in_arena, field_at, is_white}
+use Rattle.heap_core.specs.Shape.{ArenaShape, AreWhole, IsPresent, HasEdge, cell_in_arena, field_at, is_white}
 use Rattle.heap_core.specs.Shape.{present_in, zone_of}
+use Rattle.heap_core.specs.Heap.{HeapState}
 use Rattle.par_mark.specs.Edges.{Leads}
 use Rattle.par_mark.specs.Heaps.{HasCell}
 
@@ -37,11 +38,13 @@ in_arena arenas p (Some arena) whole e some' =
     (there arenas p.0 arena e, omega arith)
 
 -- a present cell lies in an arena that was made, in one of its 64 slots
-pub inside : (s : Shape) (p : ℕ × ℕ) → HasCell s p → (p.0 < length s.arenas) × (p.1 < 64)
-inside s p h = in_arena s.arenas p (slice_get s.arenas p.0) h.whole refl h.present
+pub inside : (h : HeapState) (p : ℕ × ℕ) → HasCell h p → (p.0 < length h.shape.arenas) × (p.1 < 64)
+inside h p has = in_arena h.shape.arenas p (slice_get h.shape.arenas p.0) has.whole refl has.present
 
 -- edges lead to cells, where present cells lie in zones that were made and name present cells
-pub leads_on : (s : Shape) → ((x : ℕ × ℕ) → IsPresent s x → zone_of s x < length s.states)
-    → ((x y : ℕ × ℕ) → HasEdge s x y → IsPresent s y) → (p q : ℕ × ℕ) → HasCell s p → Leads (field_at s) p q
-    → HasCell s q
-leads_on s made targets p q h l = let y = targets p q l in record { present = y; zone = made q y; whole = h.whole }
+pub leads_on : (h : HeapState) → ((x : ℕ × ℕ) → IsPresent h.shape x → zone_of h.shape x < length h.shape.states)
+    → ((x y : ℕ × ℕ) → HasEdge h.shape x y → IsPresent h.shape y) → (p q : ℕ × ℕ) → HasCell h p
+    → Leads (field_at h.shape) p q → HasCell h q
+leads_on h made targets p q has l =
+    let y = targets p q l in
+    record { present = y; zone = made q y; whole = has.whole; uncounted = has.uncounted }

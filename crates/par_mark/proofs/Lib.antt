@@ -12,5 +12,6 @@ pub mod Reaching
 pub mod Pigeons
 pub mod TestCells
 pub mod HeapCells
+pub mod HeapSync
 pub mod Closing
 pub mod TestHeaps

@@ -99,6 +99,7 @@ pub fn mark<R: Threads + Wait + Sync, H: Graph + Sync, L: PlaceList + Sync, G: G
     queue: &mut Queue<L>,
     gate: &G,
 ) -> Result<Marked, NoMemory>
+    requires uncounted { H.uncounted heap.now }
     requires present { All (H.has heap.now) from.now }
     requires targets { (p q : ℕ × ℕ) → H.has heap.now p → Leads (H.edge heap.now) p q → H.has heap.now q }
     requires words { (p : ℕ × ℕ) → H.has heap.now p → p.0 < length (first_of marks.now) }

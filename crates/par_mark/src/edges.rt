@@ -1,5 +1,5 @@
 // How many edges a heap has.
-ghost use Rattle.std.specs.Prelude.{◌≡◌, ◌≤◌, length};
+ghost use Rattle.std.specs.Prelude.{◌≡◌, ◌≤◌, length, None};
 ghost use Rattle.heap_core.specs.Shape.{field_at};
 ghost use Rattle.par_mark.specs.Edges.{arenas_sum, degree, slots_sum};
 
@@ -8,6 +8,7 @@ use heap_core::Heap;
 
 /// How many edges the cells of a heap have together. It reads each cell.
 pub(crate) fn count_edges(heap: &Heap) -> usize
+    requires { heap.now.ledger ≡ None }
     ensures { result ≡ arenas_sum (degree (field_at heap.now.shape)) 64 (length heap.now.shape.arenas) }
 {
     let mut count = 0usize;
@@ -19,6 +20,7 @@ pub(crate) fn count_edges(heap: &Heap) -> usize
 
 // How many edges the cells of an arena have.
 fn arena_edges(heap: &Heap, arena: u32) -> usize
+    requires { heap.now.ledger ≡ None }
     ensures edges { result ≡ slots_sum (degree (field_at heap.now.shape)) arena 64 }
     ensures most { result ≤ 512 }
 {
@@ -34,6 +36,7 @@ fn arena_edges(heap: &Heap, arena: u32) -> usize
 
 // How many edges the present cell at a place has: none if there is no such cell.
 fn cell_edges(heap: &Heap, place: Place) -> usize
+    requires { heap.now.ledger ≡ None }
     ensures edges { result ≡ degree (field_at heap.now.shape) place }
     ensures most { result ≤ 8 }
 {

@@ -16,6 +16,9 @@ pub trait Graph {
     /// Whether the zone of a cell is marking.
     ghost marking: { Self → ℕ × ℕ → Bool };
 
+    /// Nobody counts the edges that are read, so several threads may read them at once.
+    ghost uncounted: { Self → Type 0 };
+
     /// What a field of a cell holds; `None` if that is null or there is no such field. A cell has at most
     /// eight fields.
     fn edge_at(&self, place: Place, i: u8) -> Option<Place>
@@ -35,6 +38,7 @@ pub trait Graph {
 
     /// A bound on edges: no set of cells has more edges than this together.
     fn most_edges(&self) -> usize
+        requires { uncounted self.now }
         ensures { (ps : List (ℕ × ℕ)) → ((p : ℕ × ℕ) → times p ps ≤ 1) → All (has self.now) ps
             → weigh (degree (edge self.now)) ps ≤ result };
 }

@@ -1,7 +1,7 @@
 // Marking a heap of two zones.
-ghost use Rattle.std.specs.Prelude.{◌≡◌, ◌<◌, false};
+ghost use Rattle.std.specs.Prelude.{◌≡◌, ◌<◌, false, length};
 ghost use Rattle.colour_defs.specs.Step.{HasFewFields};
-ghost use Rattle.par_mark.specs.TestHeaps.{IsMarkable};
+ghost use Rattle.par_mark.specs.TestHeaps.{IsMarkable, IsTakenOn};
 
 use crate::{Marked, mark_heap};
 use gz_io::FreeGate;
@@ -167,6 +167,15 @@ fn find_in<R: Threads + Wait + Sync>(
     Ok(count_found(&words, &marked))
 }
 
+// Takes a zone on to its marking: its mark bits count for nothing, so that there are none to clear.
+fn take_to_marking(heap: &mut Heap, zone: ZoneNo)
+    requires { zone < length heap.old.shape.states }
+    ensures { IsTakenOn heap.old heap.new }
+{
+    heap.advance(zone);
+    heap.advance(zone);
+}
+
 // Takes the first zone on to its marking, and marks from what a register holds, which is black.
 fn mark_in<R: Threads + Wait + Sync>(
     rt: &R,
@@ -183,7 +192,7 @@ fn mark_in<R: Threads + Wait + Sync>(
     if heap.zones() == 0 {
         return Err(Fail::new("there is no zone"));
     }
-    heap.advance(zone);
+    take_to_marking(heap, zone);
     if heap.comps() == 0 {
         return Err(Fail::new("there is no compartment"));
     }

@@ -1,5 +1,5 @@
 // Marking a heap.
-ghost use Rattle.std.specs.Prelude.{◌≡◌, ◌<◌, ℕ, length, All, IfOk};
+ghost use Rattle.std.specs.Prelude.{◌≡◌, ◌<◌, ℕ, length, All, IfOk, None};
 ghost use Rattle.heap_core.specs.Shape.{AreWhole, HasEdge, IsPresent, field_at, is_marking, zone_of};
 ghost use Rattle.par_mark.specs.Marking.{HasBlackened};
 
@@ -24,6 +24,7 @@ pub fn mark_heap<R: Threads + Wait + Sync, G: Gate + Sync>(
     words: Vec<u64>,
     gate: &G,
 ) -> Result<(Vec<u64>, Marked), NoMemory>
+    requires uncounted { heap.now.ledger ≡ None }
     requires present { All (IsPresent heap.now.shape) from.now }
     requires made { (x : ℕ × ℕ) → IsPresent heap.now.shape x → zone_of heap.now.shape x < length heap.now.shape.states }
     requires targets { (x y : ℕ × ℕ) → HasEdge heap.now.shape x y → IsPresent heap.now.shape y }

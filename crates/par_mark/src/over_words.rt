@@ -23,6 +23,7 @@ fn mark_listed<R: Threads + Wait + Sync, H: Graph + Sync, L: PlaceList + Sync, G
     words: Vec<u64>,
     gate: &G,
 ) -> Result<(Vec<u64>, Marked), NoMemory>
+    requires uncounted { H.uncounted heap.now }
     requires present { All (H.has heap.now) from.now }
     requires targets { (p q : ℕ × ℕ) → H.has heap.now p → Leads (H.edge heap.now) p q → H.has heap.now q }
     requires words { (p : ℕ × ℕ) → H.has heap.now p → p.0 < length words.items }
@@ -48,6 +49,7 @@ pub fn mark_black<R: Threads + Wait + Sync, H: Graph + Sync, G: Gate + Sync>(
     words: Vec<u64>,
     gate: &G,
 ) -> Result<(Vec<u64>, Marked), NoMemory>
+    requires uncounted { H.uncounted heap.now }
     requires present { All (H.has heap.now) from.now }
     requires targets { (p q : ℕ × ℕ) → H.has heap.now p → Leads (H.edge heap.now) p q → H.has heap.now q }
     requires words { (p : ℕ × ℕ) → H.has heap.now p → p.0 < length words.items }

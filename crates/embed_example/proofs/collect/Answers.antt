@@ -1,6 +1,7 @@
 use Rattle.std.proofs.Common.{◌≡◌, ◌∙◌, Result, Ok, Err, IfOk, Some, arith, subst, sym}
 use Rattle.std.specs.Result.{result_ok}
 use Rattle.slice_driver.specs.Sessions.{SessionSteps}
+use Rattle.slice_driver.proofs.marking.Sessions.{left_counted}
 use Rattle.slice_driver.specs.declared.session.told.SessionStep.{SessionStep}
 use Rattle.sweeping.specs.ArenasOut.{flown_by, outs_of}
 use Rattle.embed_example.proofs.collect.Goals as goal
@@ -19,4 +20,5 @@ loop-session-smaller c =
     (flown_by new.sweeper) (outs_of new.sweeper) new.report) c.advance.result c.in_ok-step.step
     (sym c.ok-in-loop-session.ensures.value ∙ c.in_ok-step.was) c.advance.ensures.done in
     let steps = did.steps (omega arith) (c.running.ensures.0 c.loop-session-test.true) in
-    omega (arith, steps.less, steps.some)
+    let same = left_counted old.collector new.collector.heap.ledger (flown_by old.sweeper) in
+    omega (arith, same, steps.less, steps.some)

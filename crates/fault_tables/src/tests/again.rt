@@ -109,7 +109,8 @@ fn keep_names(
     match step.report {
         Some(SessionReport::Ended(_)) => keep_or_again(&mut reported.grays, session.names()),
         Some(SessionReport::Swept(_)) => keep_or_again(&mut reported.freed, session.names()),
-        Some(SessionReport::Groups) | None => Some(()),
+        Some(SessionReport::Started | SessionReport::Groups | SessionReport::Stopped(_)) | None =>
+            Some(()),
     }
 }
 

@@ -23,31 +23,32 @@ const BESIDE: [[&str; 4]; 4] = [
 
 // A gray cell's arena is out while it is exposed: it is turned black there, and stays.
 const WAKE: &[u8] = b"zone\ncomp 0\nnew r0 0 0\nhold g0 r0\ndrop r0\ngc 0\n\
-    slice 1\nslice 1\nslice 1\nslice 1\nslice 1\nexpose r0 g0\nnew r1 0 0\ndrop r1\ncolours\n\
+    slice 1\nslice 1\nslice 1\nslice 1\nslice 1\nslice 1\nslice 1\nexpose r0 g0\nnew r1 0 0\ndrop r1\ncolours\n\
     finish\ncolours\ncollect 0\n";
 
 const WAKE_ANSWERS: &[u8] = b"zone 0\ncomp 0\ncell 0\nok\nok\ngc ok\n\
+    slice 1\nstarted\nslice 1\n\
     groups 0\nslice 1\nslice 1\nslice 1\nslice 1\nended 0 gray 0\nslice 1\n0\ncell 1\nok\ngray -\n\
     swept 0 -\ndone\nslice 1\ngray -\n\
-    groups 0\nended 0 gray -\nswept 0 -\nswept 1 1\ndone\ncollected\n";
+    started\ngroups 0\nended 0 gray -\nswept 0 -\nswept 1 1\ndone\ncollected\n";
 
 // The line of `WAKE_ANSWERS`, counted from 1, that answers `expose`.
-const EXPOSED: u64 = 14;
+const EXPOSED: u64 = 17;
 
 // A ring over four zones that nothing holds. The slice ends with the group of all four, whose arenas are out then.
 const RING: &[u8] = b"zone\nzone\nzone\nzone\ncomp 0\ncomp 1\ncomp 2\ncomp 3\n\
     new r0 0 1\nnew r1 1 1\nnew r2 2 1\nnew r3 3 1\n\
     wrap r4 r1 0\nset r0 0 r4\nwrap r4 r2 1\nset r1 0 r4\nwrap r4 r3 2\nset r2 0 r4\nwrap r4 r0 3\nset r3 0 r4\n\
     drop r0\ndrop r1\ndrop r2\ndrop r3\ndrop r4\n\
-    gc 0 1 2 3\nslice 13\ncolours\nfinish\n";
+    gc 0 1 2 3\nslice 18\ncolours\nfinish\n";
 
 const RING_ANSWERS: &[u8] = b"zone 0\nzone 1\nzone 2\nzone 3\ncomp 0\ncomp 1\ncomp 2\ncomp 3\n\
     cell 0\ncell 1\ncell 2\ncell 3\n0:1\nok\n1:2\nok\n2:3\nok\n3:0\nok\nok\nok\nok\nok\nok\ngc ok\n\
-    groups 0 1 2 3\nended 0 1 2 3 gray -\nslice 13\ngray -\n\
+    started\ngroups 0 1 2 3\nended 0 1 2 3 gray -\nslice 18\ngray -\n\
     swept 0 0 0:1\nswept 1 1 1:2\nswept 2 2 2:3\nswept 3 3 3:0\ndone\nslice 4\n";
 
 // The line of `RING_ANSWERS`, counted from 1, that answers `colours`.
-const LISTED: u64 = 30;
+const LISTED: u64 = 31;
 
 // A gate that yields often.
 struct SlowGate;

@@ -11,6 +11,6 @@ pub returns : goal.returns
 returns c = λ ps once all.
     let n : ℕ = length c.args.self.now.shape.arenas in
     let w = different_weigh (degree (field_at c.args.self.now.shape)) 64 n ps once
-    (All-weaker (HasCell c.args.self.now.shape) (λ (p : ℕ × ℕ). (p.0 < n) × (p.1 < 64))
-    (inside c.args.self.now.shape) ps all) in
+    (All-weaker (HasCell c.args.self.now) (λ (p : ℕ × ℕ). (p.0 < n) × (p.1 < 64))
+    (inside c.args.self.now) ps all) in
     let e = c.count_edges.ensures in omega arith
