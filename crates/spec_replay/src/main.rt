@@ -14,9 +14,8 @@
 // If all zones were collected just before a `colours`, what is live and not black has to be gray there.
 //
 // `replay` is proved over any source and sink: it answers each line as the definitions say, in order,
-// until the input ends or a line is none of the language. It is slow, as a closure looks through the
-// whole graph for each name that it adds. tools/check-step compares it with another model, or with a
-// collector, on random traces.
+// until the input ends or a line is none of the language. tools/check-step compares it with another
+// model, or with a collector, on random traces.
 #![tactic(auto)]
 
 mod answer;

@@ -66,6 +66,12 @@ returns-in-Err-Bad-clause-answers g c = λ input e.
       refl,
     )
 
+pub returns-in-Err-Memory-clause-answers : goal.returns-in-Err-Memory-clause-answers
+returns-in-Err-Memory-clause-answers g c = λ input e.
+    let i = c.loop-answered.invariant.so input e in
+    let nothing = c.in-Err-Memory.ensures.memory (cc c.in-Err-Memory.field-0-is) in
+    (c.loop-answered.answered, i.0, (i.2, _, i.3, none_more i.2 _ _ _ i.4 nothing))
+
 pub loop-answered-preserved : goal.loop-answered-preserved
 loop-answered-preserved g c = record {
   quiet = c.in-Line.ensures.same (λ p. cc p) ∙ c.loop-answered.invariant.quiet;
