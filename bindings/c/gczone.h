@@ -47,7 +47,7 @@ typedef struct gcz {
 } gcz_t;
 #define GCZ_CLOSED_HANDLE {0, {0}}
 
-/* How a call ended. Numbers that are left out are kept for later interfaces. */
+/* How a call ended. Numbers that are left out, as 23 is, are kept for later interfaces. */
 enum gcz_status {
     GCZ_DONE = 0,
     GCZ_CLOSED = 1,           /* the handle is closed; nothing was done */
@@ -70,10 +70,9 @@ enum gcz_status {
     GCZ_KIND = 20,            /* a cell is of another kind than the command wants */
     GCZ_NO_FIELD = 21,        /* the object has no such field */
     GCZ_CROSS = 22,           /* two cells are of different compartments */
-    GCZ_WRAPPER_KEY = 23,     /* the key is a wrapper */
     GCZ_RUNNING = 24,         /* a collection runs */
     GCZ_IDLE = 25,            /* no collection runs: no call of this interface returns it */
-    GCZ_MARKING = 26          /* a zone is marking, so colours are not settled */
+    GCZ_MARKING = 26          /* a zone is being prepared or marking, so colours are not settled */
 };
 
 /* What a name is of. */
@@ -96,9 +95,11 @@ typedef struct gcz_name {
 /* What a step reports. */
 enum gcz_report_kind {
     GCZ_NO_REPORT = 0,
-    GCZ_GROUPS = 1, /* the sweep groups are formed: sets of zones, in the order in which they end */
-    GCZ_ENDED = 2,  /* the marking of a group ended: its zones, and its gray names */
-    GCZ_SWEPT = 3   /* an arena was swept: its number, and the names of what was freed */
+    GCZ_GROUPS = 1,  /* the sweep groups are formed: sets of zones, in the order in which they end */
+    GCZ_ENDED = 2,   /* the marking of a group ended: its zones, and its gray names */
+    GCZ_SWEPT = 3,   /* an arena was swept: its number, and the names of what was freed */
+    GCZ_STARTED = 4, /* the zones are prepared, and marking begins with the heap as it is */
+    GCZ_STOPPED = 5  /* the collection was given up: its zones that were still being prepared or marking */
 };
 
 /* What a step did: how many units, the kind of its report, and whether the collection is over. */
@@ -172,6 +173,9 @@ GCZ_CALL uint32_t gcz_find(gcz_t *gcz, uint32_t reg, uint32_t map, uint32_t key,
 GCZ_CALL uint32_t gcz_begin(gcz_t *gcz, uint64_t zones);
 GCZ_CALL uint32_t gcz_advance(gcz_t *gcz, uint64_t limit, gcz_step_t *done);
 GCZ_CALL uint32_t gcz_running(gcz_t *gcz, bool *running);
+
+/* Gives the collection up, step by step: each takes in an arena that is out, and the last one does the rest. */
+GCZ_CALL uint32_t gcz_reset(gcz_t *gcz, gcz_step_t *done);
 
 /* How many cells, objects and maps, weak entries and arenas there are. */
 GCZ_CALL uint32_t gcz_counts(gcz_t *gcz, gcz_counts_t *counts);

@@ -23,18 +23,29 @@ from pathlib import Path
 INTERFACE = 1
 DONE, CLOSED, OPEN, NO_MEMORY, HEAP_FULL, NONE = range(6)
 BAD_REGISTER, BAD_ZONE, BAD_COMPARTMENT, BAD_SLOT, BAD_FIELD, BAD_FIELD_COUNT = range(8, 14)
-FULL, NO_ZONE, NO_COMPARTMENT, EMPTY, KIND, NO_FIELD, CROSS, WRAPPER_KEY, RUNNING, IDLE, MARKING = range(16, 27)
+FULL, NO_ZONE, NO_COMPARTMENT, EMPTY, KIND, NO_FIELD, CROSS = range(16, 23)
+RUNNING, IDLE, MARKING = range(24, 27)
 NOTHING, CELL, WRAPPER, ZONE, COMPARTMENT = range(5)
-NO_REPORT, GROUPS, ENDED, SWEPT = range(4)
+NO_REPORT, GROUPS, ENDED, SWEPT, STARTED, STOPPED = range(6)
 LINE_END, LINE_CELL, LINE_EDGE, LINE_ENTRY = range(4)
 
 Groups = namedtuple("Groups", "groups")
 Ended = namedtuple("Ended", "zones grays")
 Swept = namedtuple("Swept", "arena freed")
+Stopped = namedtuple("Stopped", "zones")
 Cell = namedtuple("Cell", "name black")
 Edge = namedtuple("Edge", "object name")
 Entry = namedtuple("Entry", "map key value")
 Counts = namedtuple("Counts", "cells objects entries arenas")
+
+
+class Started(namedtuple("Started", ())):
+    """Marking begins. It has no parts, and counts as true, as each event does."""
+
+    __slots__ = ()
+
+    def __bool__(self):
+        return True
 
 
 class _Slot(ctypes.Structure):
@@ -78,9 +89,9 @@ _CALLS = {
     "unwrap": ([c_uint32] * 2, _Name), "hold": ([c_uint32] * 2, None), "release": ([c_uint32], None),
     "expose": ([c_uint32] * 2, _Name), "put": ([c_uint32] * 3, None), "del": ([c_uint32] * 2, None),
     "find": ([c_uint32] * 3, _Name), "begin": ([c_uint64], None), "advance": ([c_uint64], _Step),
-    "running": ([], c_bool), "counts": ([], _Counts), "report": ([], _Report), "report_name": ([c_size_t], _Name),
-    "report_group": ([c_size_t], c_uint64), "grays": ([], c_size_t), "gray": ([c_size_t], _Name),
-    "dump": ([], c_size_t), "dump_line": ([c_size_t], _Line), "open": ([], None),
+    "reset": ([], _Step), "running": ([], c_bool), "counts": ([], _Counts), "report": ([], _Report),
+    "report_name": ([c_size_t], _Name), "report_group": ([c_size_t], c_uint64), "grays": ([], c_size_t),
+    "gray": ([c_size_t], _Name), "dump": ([], c_size_t), "dump_line": ([c_size_t], _Line), "open": ([], None),
 }
 
 
@@ -246,7 +257,15 @@ class Heap:
     def advance(self, limit):
         """Does a step of at most `limit` units. Returns how many it did, the event or None, and whether it is over."""
         step = self._call("advance", limit)
-        return step.units, self._event() if step.report != NO_REPORT else None, step.finished
+        return step.units, self._event(step.report), step.finished
+
+    def reset(self):
+        """Gives up the collection that runs, and returns its last events. What its zones that were still being prepared
+        or marking hold is black then, and is not freed before the next collection. Does nothing if none runs."""
+        events = []
+        while self.running():
+            events.append(self._event(self._call("reset").report))
+        return events
 
     def events(self, limit=1000):
         """The events of the collection that runs, which goes on as they are asked for."""
@@ -269,12 +288,18 @@ class Heap:
         lines = (self._call("dump_line", index) for index in range(self._call("dump").value))
         return [_line(line) for line in lines if line.kind != LINE_END]
 
-    def _event(self):
+    def _event(self, kind):
+        if kind == NO_REPORT:
+            return None
         report = self._call("report")
-        if report.kind == GROUPS:
+        if kind == STARTED:
+            return Started()
+        if kind == GROUPS:
             return Groups([zones_of(self._call("report_group", index).value) for index in range(report.count)])
+        if kind == STOPPED:
+            return Stopped(zones_of(report.zones))
         names = [self._call("report_name", index).value() for index in range(report.count)]
-        return Ended(zones_of(report.zones), names) if report.kind == ENDED else Swept(report.arena, names)
+        return Ended(zones_of(report.zones), names) if kind == ENDED else Swept(report.arena, names)
 
 
 def _line(line):

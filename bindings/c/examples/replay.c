@@ -13,8 +13,18 @@
 
 enum { MOST_WORDS = 80, BAD_LINE = 3, OUT_OF_MEMORY = 6 };
 
-static const char *const REFUSALS[] = {"full", "no-zone", "no-comp", "empty", "kind", "no-field", "cross",
-                                       "wrapper-key", "running", "idle", "marking"};
+static const char *const REFUSALS[] = {
+    [GCZ_FULL] = "full",
+    [GCZ_NO_ZONE] = "no-zone",
+    [GCZ_NO_COMPARTMENT] = "no-comp",
+    [GCZ_EMPTY] = "empty",
+    [GCZ_KIND] = "kind",
+    [GCZ_NO_FIELD] = "no-field",
+    [GCZ_CROSS] = "cross",
+    [GCZ_RUNNING] = "running",
+    [GCZ_IDLE] = "idle",
+    [GCZ_MARKING] = "marking",
+};
 
 static void print_name(gcz_name_t name) {
     if (name.kind == GCZ_WRAPPER)
@@ -54,6 +64,7 @@ static void print_report(gcz_t *gcz) {
     gcz_report_t report;
     must(gcz_report(gcz, &report));
     switch (report.kind) {
+    case GCZ_STARTED: printf("started"); break;
     case GCZ_GROUPS:
         printf("groups");
         for (size_t index = 0; index < report.count; index++) {
@@ -69,6 +80,10 @@ static void print_report(gcz_t *gcz) {
         print_zones(report.zones);
         printf(" gray");
         print_names(gcz, report.count, gcz_report_name);
+        break;
+    case GCZ_STOPPED:
+        printf("stopped");
+        print_zones(report.zones);
         break;
     default:
         printf("swept %" PRIu32, report.arena);
@@ -102,7 +117,7 @@ static uint64_t advance(gcz_t *gcz, uint64_t limit) {
 static bool print_refusal(uint32_t status) {
     if (status < GCZ_FULL)
         return false;
-    puts(REFUSALS[status - GCZ_FULL]);
+    puts(REFUSALS[status]);
     return true;
 }
 
@@ -156,6 +171,22 @@ static void slice(gcz_t *gcz, uint64_t limit) {
     }
     uint64_t units = advance(gcz, limit);
     printf("slice %" PRIu64 "\n", units);
+}
+
+/* Takes in the arenas that are out, and gives the collection up if it is not over with them. */
+static void reset(gcz_t *gcz) {
+    gcz_step_t step = {0, GCZ_NO_REPORT, false};
+    if (!runs(gcz)) {
+        puts("idle");
+        return;
+    }
+    while (!step.finished) {
+        must(gcz_reset(gcz, &step));
+        print_report(gcz);
+    }
+    if (step.report == GCZ_SWEPT)
+        puts("done");
+    puts("reset ok");
 }
 
 static void print_grays(gcz_t *gcz) {
@@ -238,6 +269,7 @@ static bool do_line(gcz_t *gcz, char **words, int count) {
     if (IS("find", 4)) return ANSWER(gcz_find(gcz, a, b, c, &answer));
     if (IS("slice", 2)) return slice(gcz, strtoull(words[1], NULL, 10)), true;
     if (IS("finish", 1)) return slice(gcz, UINT64_MAX), true;
+    if (IS("reset", 1)) return reset(gcz), true;
     if (IS("colours", 1)) return print_grays(gcz), true;
     if (IS("dump", 1)) return print_dump(gcz), true;
     if (strcmp(word, "collect") == 0 && count > 1) return collect(gcz, zones_of(words + 1, count - 1)), true;

@@ -75,6 +75,11 @@ static uint64_t history(void) {
         DO(gcz_advance(&g, 50, &step));
         DO(gcz_running(&g, &running));
     }
+    DO(gcz_begin(&g, 7));
+    DO(gcz_advance(&g, 30, &step));
+    do
+        DO(gcz_reset(&g, &step));
+    while (!step.finished);
     DO(gcz_grays(&g, &grays));
     DO(gcz_dump(&g, &lines));
     gcz_close(&g);

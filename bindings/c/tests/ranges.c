@@ -137,6 +137,7 @@ static void all_closed(gcz_t *g) {
     REFUSED(gcz_find(g, 0, 0, 0, &n), GCZ_CLOSED);
     WANT(gcz_begin(g, 1), GCZ_CLOSED);
     WANT(gcz_advance(g, 1, &step), GCZ_CLOSED);
+    WANT(gcz_reset(g, &step), GCZ_CLOSED);
     WANT(gcz_running(g, &running), GCZ_CLOSED);
     WANT(gcz_counts(g, &counts), GCZ_CLOSED);
     WANT(gcz_report(g, &report), GCZ_CLOSED);
@@ -211,13 +212,20 @@ static void limits(gcz_t *g) {
     WANT(count == 99, 1);
     WANT(gcz_advance(g, 0, &step), GCZ_DONE);
     WANT(step.units == 0 && !step.finished, 1);
+    WANT(gcz_reset(g, &step), GCZ_DONE);
+    WANT(step.units == 1 && step.report == GCZ_STOPPED && step.finished, 1);
+    WANT(gcz_report(g, &report), GCZ_DONE);
+    WANT(report.kind == GCZ_STOPPED && report.zones == UINT64_MAX && report.count == 0, 1);
+    WANT(gcz_reset(g, &step), GCZ_DONE);
+    WANT(step.units == 0 && step.report == GCZ_NO_REPORT && !step.finished, 1);
+    WANT(gcz_begin(g, UINT64_MAX), GCZ_DONE);
     do
         WANT(gcz_advance(g, UINT64_MAX, &step), GCZ_DONE);
     while (!step.finished);
 }
 
 static void texts(void) {
-    static const uint32_t none[] = {6, 7, 14, 15, 27, 99, UINT32_MAX};
+    static const uint32_t none[] = {6, 7, 14, 15, 23, 27, 99, UINT32_MAX};
     uint8_t whole[80], other[80];
     size_t length = gcz_status_text(none[0], whole, sizeof whole);
     for (size_t i = 0; i < sizeof none / sizeof *none; i++)

@@ -8,7 +8,11 @@ sys.dont_write_bytecode = True
 sys.path.insert(0, str(Path(__file__).resolve().parent.parent))
 import gczone  # noqa: E402 (the module lies beside the folder)
 
-WORDS = ("full no-zone no-comp empty kind no-field cross wrapper-key running idle marking").split()
+WORDS = {
+    gczone.FULL: "full", gczone.NO_ZONE: "no-zone", gczone.NO_COMPARTMENT: "no-comp", gczone.EMPTY: "empty",
+    gczone.KIND: "kind", gczone.NO_FIELD: "no-field", gczone.CROSS: "cross", gczone.RUNNING: "running",
+    gczone.IDLE: "idle", gczone.MARKING: "marking",
+}
 
 
 def name_text(name):
@@ -26,6 +30,10 @@ def zones_text(zones):
 
 
 def event_text(event):
+    if isinstance(event, gczone.Started):
+        return "started"
+    if isinstance(event, gczone.Stopped):
+        return f"stopped {zones_text(event.zones)}"
     if isinstance(event, gczone.Groups):
         return "groups " + " | ".join(map(zones_text, event.groups))
     if isinstance(event, gczone.Ended):
@@ -62,6 +70,15 @@ class Replay:
     def slice(self, limit):
         return f"slice {self.advance(limit)}" if self.heap.running() else "idle"
 
+    def reset(self):
+        if not self.heap.running():
+            return "idle"
+        events = self.heap.reset()
+        print(*map(event_text, events), sep="\n")
+        if isinstance(events[-1], gczone.Swept):
+            print("done")
+        return "reset ok"
+
     def collect(self, zones):
         self.heap.begin(zones)
         self.advance(2**64 - 1)
@@ -90,6 +107,7 @@ class Replay:
             "collect": lambda: self.collect(numbers),
             "slice": lambda: self.slice(*numbers),
             "finish": lambda: self.slice(2**64 - 1),
+            "reset": self.reset,
             "colours": lambda: f"gray {list_text(heap.grays())}",
             "dump": lambda: "\n".join([*map(line_text, heap.dump()), "end"]),
         }
@@ -106,7 +124,7 @@ def main():
                 if fault.status < gczone.FULL:
                     print(f"replay: {fault}", file=sys.stderr)
                     return 6 if fault.status == gczone.NO_MEMORY else 1
-                print(WORDS[fault.status - gczone.FULL])
+                print(WORDS[fault.status])
             except (KeyError, TypeError, ValueError):
                 print(f"replay: line {number}: bad line", file=sys.stderr)
                 return 3

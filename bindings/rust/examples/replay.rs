@@ -30,7 +30,6 @@ fn word_of(error: Error) -> std::result::Result<&'static str, Ended> {
         Error::Kind => "kind",
         Error::NoField => "no-field",
         Error::Cross => "cross",
-        Error::WrapperKey => "wrapper-key",
         Error::Running => "running",
         Error::Marking => "marking",
         other => return Err(Ended::Heap(other)),
@@ -50,11 +49,13 @@ fn zones_text(zones: &[Zone]) -> String {
 
 fn event_text(event: &Event) -> String {
     match event {
+        Event::Started => "started".to_owned(),
         Event::Groups(groups) => {
             format!("groups {}", groups.iter().map(|zones| zones_text(zones)).collect::<Vec<_>>().join(" | "))
         }
         Event::Ended { zones, grays } => format!("ended {} gray {}", zones_text(zones), list_of(grays)),
         Event::Swept { arena, freed } => format!("swept {arena} {}", list_of(freed)),
+        Event::Stopped(zones) => format!("stopped {}", zones_text(zones)),
     }
 }
 
@@ -122,6 +123,21 @@ impl<W: Write> Replay<W> {
         Ok(format!("slice {}", self.advance(limit)?))
     }
 
+    /// Gives the collection up, and prints what that reports.
+    fn reset(&mut self) -> std::result::Result<String, Ended> {
+        if !self.heap.is_running() {
+            return Ok("idle".to_owned());
+        }
+        let events = self.heap.reset().map_err(Ended::Heap)?;
+        for event in &events {
+            writeln!(self.out, "{}", event_text(event))?;
+        }
+        if let Some(Event::Swept { .. }) = events.last() {
+            writeln!(self.out, "done")?;
+        }
+        Ok("reset ok".to_owned())
+    }
+
     /// Answers a line. The answer is the last line that is printed.
     fn answer(&mut self, words: &[&str]) -> std::result::Result<Result<String>, Ended> {
         let ok = |()| "ok".to_owned();
@@ -161,6 +177,7 @@ impl<W: Write> Replay<W> {
             },
             ["slice", n] => Ok(self.slice(n.parse().map_err(|_| Ended::BadLine)?)?),
             ["finish"] => Ok(self.slice(u64::MAX)?),
+            ["reset"] => Ok(self.reset()?),
             ["colours"] => self.heap.grays().map(|names| format!("gray {}", list_of(&names))),
             ["dump"] => self.heap.dump().map(|lines| {
                 lines.iter().map(|line| line_text(line) + "\n").collect::<String>() + "end"

@@ -80,7 +80,6 @@ pub const GCZ_EMPTY: u32 = 19;
 pub const GCZ_KIND: u32 = 20;
 pub const GCZ_NO_FIELD: u32 = 21;
 pub const GCZ_CROSS: u32 = 22;
-pub const GCZ_WRAPPER_KEY: u32 = 23;
 pub const GCZ_RUNNING: u32 = 24;
 pub const GCZ_IDLE: u32 = 25;
 pub const GCZ_MARKING: u32 = 26;
@@ -95,6 +94,8 @@ pub const GCZ_NO_REPORT: u32 = 0;
 pub const GCZ_GROUPS: u32 = 1;
 pub const GCZ_ENDED: u32 = 2;
 pub const GCZ_SWEPT: u32 = 3;
+pub const GCZ_STARTED: u32 = 4;
+pub const GCZ_STOPPED: u32 = 5;
 
 pub const GCZ_LINE_END: u32 = 0;
 pub const GCZ_LINE_CELL: u32 = 1;
@@ -126,6 +127,7 @@ extern "C" {
     fn gcz_begin(gcz: *mut Gcz, zones: u64) -> u32;
     fn gcz_advance(gcz: *mut Gcz, limit: u64, done: *mut Step) -> u32;
     fn gcz_running(gcz: *mut Gcz, running: *mut bool) -> u32;
+    fn gcz_reset(gcz: *mut Gcz, done: *mut Step) -> u32;
     fn gcz_counts(gcz: *mut Gcz, counts: *mut Counts) -> u32;
     fn gcz_report(gcz: *mut Gcz, told: *mut Report) -> u32;
     fn gcz_report_name(gcz: *mut Gcz, index: usize, name: *mut Name) -> u32;
@@ -224,6 +226,7 @@ calls! {
     begin = gcz_begin(zones: u64);
     advance = gcz_advance(limit: u64) -> Step;
     running = gcz_running() -> bool;
+    reset = gcz_reset() -> Step;
     counts = gcz_counts() -> Counts;
     report = gcz_report() -> Report;
     report_name = gcz_report_name(index: usize) -> Name;

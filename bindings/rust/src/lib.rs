@@ -141,10 +141,9 @@ pub enum Error {
     NoField,
     /// Two cells are of different compartments.
     Cross,
-    WrapperKey,
     /// A collection runs.
     Running,
-    /// A zone is marking, so colours are not settled.
+    /// A zone is being prepared or marking, so colours are not settled.
     Marking,
     /// A status that this package does not know.
     Other(u32),
@@ -165,7 +164,6 @@ impl Error {
             sys::GCZ_KIND => Error::Kind,
             sys::GCZ_NO_FIELD => Error::NoField,
             sys::GCZ_CROSS => Error::Cross,
-            sys::GCZ_WRAPPER_KEY => Error::WrapperKey,
             sys::GCZ_RUNNING => Error::Running,
             sys::GCZ_MARKING => Error::Marking,
             other => Error::Other(other),
@@ -186,7 +184,6 @@ impl Error {
             Error::Kind => sys::GCZ_KIND,
             Error::NoField => sys::GCZ_NO_FIELD,
             Error::Cross => sys::GCZ_CROSS,
-            Error::WrapperKey => sys::GCZ_WRAPPER_KEY,
             Error::Running => sys::GCZ_RUNNING,
             Error::Marking => sys::GCZ_MARKING,
             Error::Other(status) | Error::OtherInterface(status) => status,
@@ -212,12 +209,16 @@ pub type Result<T> = std::result::Result<T, Error>;
 /// What a collection reports.
 #[derive(Clone, Debug, PartialEq, Eq)]
 pub enum Event {
+    /// The zones are prepared, and marking begins with the heap as it is.
+    Started,
     /// The sweep groups, in the order in which they end.
     Groups(Vec<Vec<Zone>>),
     /// The marking of a group ended: its zones, and its gray names.
     Ended { zones: Vec<Zone>, grays: Vec<Name> },
     /// An arena was swept: the names of what was freed.
     Swept { arena: u32, freed: Vec<Name> },
+    /// The collection was given up: its zones that were still being prepared or marking.
+    Stopped(Vec<Zone>),
 }
 
 /// What a step of a collection did.
@@ -397,8 +398,18 @@ impl Heap {
     /// reports. Does nothing if none runs.
     pub fn advance(&mut self, limit: u64) -> Result<Step> {
         let step = checked(self.handle.advance(limit))?;
-        let event = if step.report == sys::GCZ_NO_REPORT { None } else { Some(self.last_event()?) };
-        Ok(Step { units: step.units, event, finished: step.finished })
+        self.told(step)
+    }
+
+    /// Gives up the collection that runs, and returns its last events. All that its zones hold which were still being
+    /// prepared or marking is black then, and is not freed before the next collection. Does nothing if none runs.
+    pub fn reset(&mut self) -> Result<Vec<Event>> {
+        let mut events = Vec::new();
+        while self.is_running() {
+            let step = checked(self.handle.reset())?;
+            events.extend(self.told(step)?.event);
+        }
+        Ok(events)
     }
 
     /// The events of the collection that runs, which goes on, in steps of at most `limit` units, as they are asked for.
@@ -423,6 +434,12 @@ impl Heap {
         Ok(lines)
     }
 
+    // A step, with what it reports.
+    fn told(&mut self, step: sys::Step) -> Result<Step> {
+        let event = if step.report == sys::GCZ_NO_REPORT { None } else { Some(self.last_event()?) };
+        Ok(Step { units: step.units, event, finished: step.finished })
+    }
+
     fn names(
         &mut self,
         count: usize,
@@ -438,6 +455,7 @@ impl Heap {
     fn last_event(&mut self) -> Result<Event> {
         let report = checked(self.handle.report())?;
         Ok(match report.kind {
+            sys::GCZ_STARTED => Event::Started,
             sys::GCZ_GROUPS => {
                 let mut groups = Vec::with_capacity(report.count);
                 for index in 0..report.count {
@@ -449,6 +467,7 @@ impl Heap {
                 zones: zones_of(report.zones),
                 grays: self.names(report.count, sys::Handle::report_name)?,
             },
+            sys::GCZ_STOPPED => Event::Stopped(zones_of(report.zones)),
             _ => Event::Swept { arena: report.arena, freed: self.names(report.count, sys::Handle::report_name)? },
         })
     }

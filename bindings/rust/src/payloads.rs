@@ -65,7 +65,7 @@ impl<T> Payloads<T> {
             Event::Swept { freed, .. } => {
                 freed.iter().filter_map(|name| Some((*name, self.by_name.remove(name)?))).collect()
             }
-            Event::Groups(_) | Event::Ended { .. } => Vec::new(),
+            Event::Started | Event::Groups(_) | Event::Ended { .. } | Event::Stopped(_) => Vec::new(),
         }
     }
 

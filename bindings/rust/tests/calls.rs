@@ -34,9 +34,9 @@ fn freed(events: &[Event]) -> usize {
 fn ring_is_gray_and_then_freed() -> Result<(), Error> {
     let (mut heap, zones) = ring()?;
     let events = collect(&mut heap, &zones, 1)?;
-    assert_eq!(events[0], Event::Groups(vec![zones.to_vec()]));
+    assert_eq!(events[..2], [Event::Started, Event::Groups(vec![zones.to_vec()])]);
     let grays = heap.grays()?;
-    assert_eq!(events[1], Event::Ended { zones: zones.to_vec(), grays: grays.clone() });
+    assert_eq!(events[2], Event::Ended { zones: zones.to_vec(), grays: grays.clone() });
     assert_eq!((grays.len(), freed(&events)), (4, 0));
     let lines = heap.dump()?;
     assert_eq!(lines.iter().filter(|line| matches!(line, Line::Cell { black: false, .. })).count(), 4);
@@ -47,6 +47,44 @@ fn ring_is_gray_and_then_freed() -> Result<(), Error> {
     assert_eq!(heap.dump()?, []);
     let counts = heap.counts()?;
     assert_eq!((counts.cells, counts.objects, counts.entries, counts.arenas), (0, 2, 0, 2));
+    Ok(())
+}
+
+#[test]
+fn collection_is_given_up() -> Result<(), Error> {
+    let (mut heap, zones) = ring()?;
+    assert_eq!(heap.reset()?, []);
+    heap.release(SLOTS[0])?;
+    heap.begin(&zones[..1])?;
+    assert_eq!(heap.reset()?, [Event::Stopped(vec![zones[0]])]);
+    assert!(!heap.is_running());
+    assert_eq!(heap.counts()?.cells, 4);
+    assert_eq!(freed(&collect(&mut heap, &zones, 1000)?), 4);
+    assert_eq!(heap.reset()?, []);
+    Ok(())
+}
+
+#[test]
+fn wrapper_is_a_key() -> Result<(), Error> {
+    let [map, key, value, target, ..] = REGISTERS;
+    let mut heap = Heap::new()?;
+    let zones = [heap.zone()?, heap.zone()?];
+    let (left, right) = (heap.compartment(zones[0])?, heap.compartment(zones[1])?);
+    heap.map(map, left)?;
+    heap.object(target, right, 0)?;
+    let name = heap.wrap(key, target, left)?;
+    heap.object(value, left, 0)?;
+    heap.put(map, key, value)?;
+    heap.empty(key)?;
+    heap.empty(value)?;
+    assert_eq!(freed(&collect(&mut heap, &zones, 1000)?), 0);
+    assert_eq!(heap.wrap(key, target, left)?, name);
+    assert_eq!(heap.find(value, map, key)?, Some(Name::Cell(2)));
+    for register in [key, value, target] {
+        heap.empty(register)?;
+    }
+    assert_eq!(freed(&collect(&mut heap, &zones, 1000)?), 3);
+    assert_eq!(heap.counts()?.entries, 0);
     Ok(())
 }
 
@@ -88,7 +126,7 @@ fn events_dropped_early_leave_the_collection_running() -> Result<(), Error> {
     heap.begin(&zones)?;
     assert!(heap.events(1).next().is_some());
     assert!(heap.is_running());
-    assert_eq!(heap.events(1).filter(Result::is_ok).count(), 3);
+    assert_eq!(heap.events(1).filter(Result::is_ok).count(), 4);
     assert!(!heap.is_running());
     Ok(())
 }

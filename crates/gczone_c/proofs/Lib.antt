@@ -1,3 +1,4 @@
 pub mod Going
 pub mod LooseValues
+pub mod Sent
 pub mod Slots

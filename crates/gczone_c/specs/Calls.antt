@@ -12,13 +12,15 @@ use Rattle.gz_names.specs.declared.numbers.CompNo.{CompNo}
 use Rattle.colour_defs.specs.World.{World, first_world}
 use Rattle.heap_core.specs.Effects.{takes_memory}
 use Rattle.sweeping.specs.ArenasOut.{flown_by, outs_of}
-use Rattle.slice_driver.specs.Accounts.{Accounts, FreesOn, GivesOn, freed_by}
+use Rattle.slice_driver.specs.Accounts.{Accounts, FreesOn, GivesOn, freed_by, freed_by_report}
 use Rattle.slice_driver.specs.Begins.{AreMade}
+use Rattle.slice_driver.specs.Collector.{CollectorState}
 use Rattle.slice_driver.specs.Commands.{WantsMemory}
 use Rattle.slice_driver.specs.Represents.{Represents}
-use Rattle.slice_driver.specs.Sessions.{AreDumpLines, AreGrayNames, IsNowhereSettled, SessionSteps, outcome_of}
+use Rattle.slice_driver.specs.Sessions.{AreDumpLines, AreGrayNames, IsNowhereSettled}
+use Rattle.slice_driver.specs.Sessions.{SessionResets, SessionSteps, counted_in, outcome_of}
 use Rattle.slice_driver.specs.Units.{BeginsIn, BeginsWithin, DoesCommand, RaisesWithin}
-use Rattle.slice_driver.specs.Working.{IsAtGroupEnd, IsStill}
+use Rattle.slice_driver.specs.Working.{IsStill, MayWantMemory}
 use Rattle.slice_driver.specs.declared.begin.BeginFault.{BeginFault}
 use Rattle.slice_driver.specs.declared.begin.BeginFault.TheVariants as begin
 use Rattle.slice_driver.specs.declared.session.SessionFault.{SessionFault}
@@ -106,14 +108,17 @@ pub record CommandDone (cmd : GraphCmd) (before after : Answer) (status : ℕ) (
   pub result : Result SessionReply SessionFault
   pub does : IfSome (outcome_of result) (λ outcome. DoesCommand old.session.collector (flown_by old.session.sweeper)
       cmd outcome new.session.collector (flown_by new.session.sweeper))
-  pub to_come : IfSome (outcome_of result) (λ outcome. RaisesWithin old.session.collector
-      (flown_by old.session.sweeper) cmd outcome new.session.collector (flown_by new.session.sweeper))
+  pub to_come : IfSome (outcome_of result) (λ outcome. RaisesWithin
+      (counted_in old.session.collector new.session.collector.heap.ledger) (flown_by old.session.sweeper) cmd outcome
+      new.session.collector (flown_by new.session.sweeper))
   pub accounts : GivesOn old.session.collector (flown_by old.session.sweeper) result new.session.collector
       (flown_by new.session.sweeper)
-  pub refused : (why : _) → result ≡ Err (session.Refused why) → (new.session.collector ≡ old.session.collector)
+  pub refused : (why : _) → result ≡ Err (session.Refused why)
+      → (new.session.collector ≡ counted_in old.session.collector new.session.collector.heap.ledger)
       × (flown_by new.session.sweeper ≡ flown_by old.session.sweeper)
-  pub wanted : result ≡ Err session.NoMemory → WantsMemory old.session.collector (flown_by old.session.sweeper) cmd
-      new.session.collector (flown_by new.session.sweeper)
+  pub wanted : result ≡ Err session.NoMemory
+      → WantsMemory (counted_in old.session.collector new.session.collector.heap.ledger)
+      (flown_by old.session.sweeper) cmd new.session.collector (flown_by new.session.sweeper)
   pub sure : takes_memory cmd ≡ false → result ≡ Err session.NoMemory → ⊥
   pub full : result ≡ Err session.Full → (new.session ≡ old.session)
       × (4294967295 ≤ old.session.collector.heap.made)
@@ -156,11 +161,16 @@ report_kind None = 0
 report_kind (Some report.Groups) = 1
 report_kind (Some (report.Ended zones)) = 2
 report_kind (Some (report.Swept arena)) = 3
+report_kind (Some report.Started) = 4
+report_kind (Some (report.Stopped zones)) = 5
+
+-- a step, as C sees it
+abbrev pub done_told : SessionStep → StepDone
+done_told step = record { units = step.units; report = report_kind step.report; finished = step.finished }
 
 -- what C gets of a step
 abbrev pub step_told : {E : Type 0} → Result SessionStep E → StepDone → StepDone
-step_told (Ok step) before =
-    record { units = step.units; report = report_kind step.report; finished = step.finished }
+step_told (Ok step) before = done_told step
 step_told (Err why) before = before
 
 -- a session was asked for a step of its collection, with this result, which C gets
@@ -169,9 +179,10 @@ pub record AdvanceDone (limit : ℕ) (before after : StepDone) (status : ℕ) (o
   pub steps : IfOk result (λ step. SessionSteps limit old.session.collector (flown_by old.session.sweeper)
       old.session.report step new.session.collector (flown_by new.session.sweeper) (outs_of new.session.sweeper)
       new.session.report)
-  pub err : OnErr result (IsStill old.session.collector (flown_by old.session.sweeper) new.session.collector
-      (flown_by new.session.sweeper))
-  pub err_where : OnErr result (IsAtGroupEnd old.session.collector (flown_by old.session.sweeper))
+  pub err : OnErr result (IsStill (counted_in old.session.collector new.session.collector.heap.ledger)
+      (flown_by old.session.sweeper) new.session.collector (flown_by new.session.sweeper))
+  pub err_where : OnErr result (MayWantMemory
+      (counted_in old.session.collector new.session.collector.heap.ledger) (flown_by old.session.sweeper))
   pub err_report : OnErr result (new.session.report ≡ old.session.report)
   pub accounts : FreesOn old.session.collector (flown_by old.session.sweeper)
       (freed_by result new.session.report) new.session.collector (flown_by new.session.sweeper)
@@ -179,9 +190,20 @@ pub record AdvanceDone (limit : ℕ) (before after : StepDone) (status : ℕ) (o
   pub status_is : status ≡ step_status result
   pub told_is : after ≡ step_told result before
 
--- a list was asked for: what stays of the session
-pub record StaysListed (old new : Held) : Type 0 where
-  pub collector : new.session.collector ≡ old.session.collector
+-- a session was asked for a step of giving its collection up, which it did, and C gets it
+pub record ResetDone (after : StepDone) (status : ℕ) (old new : Held) : Type 0 where
+  pub step : SessionStep
+  pub resets : SessionResets old.session.collector (flown_by old.session.sweeper) old.session.report step
+      new.session.collector (flown_by new.session.sweeper) (outs_of new.session.sweeper) new.session.report
+  pub accounts : FreesOn old.session.collector (flown_by old.session.sweeper)
+      (freed_by_report step.report new.session.report) new.session.collector (flown_by new.session.sweeper)
+  pub lists : KeepsLists old new
+  pub status_is : status ≡ 0
+  pub told_is : after ≡ done_told step
+
+-- a list was asked for: what stays of the session, whose collector is this one then
+pub record StaysListed (collector : CollectorState) (old new : Held) : Type 0 where
+  pub collector_is : new.session.collector ≡ collector
   pub worlds : (w : World) → Represents old.session.collector (flown_by old.session.sweeper) w
       → Represents new.session.collector (flown_by new.session.sweeper) w
   pub report : new.session.report ≡ old.session.report
@@ -203,7 +225,7 @@ pub record GraysListed (before count : ℕ) (status : ℕ) (old new : Held) : Ty
       (AreGrayNames old.session.collector (flown_by old.session.sweeper)))
   pub marking : IfOk result (λ names. names ≡ None
       → IsNowhereSettled old.session.collector (flown_by old.session.sweeper))
-  pub stays : StaysListed old new
+  pub stays : StaysListed old.session.collector old new
   pub list_is : new.grays ≡ list_kept result old.grays
   pub lines : new.lines ≡ old.lines
   pub status_is : status ≡ list_status result
@@ -216,7 +238,7 @@ pub record LinesListed (before count : ℕ) (status : ℕ) (old new : Held) : Ty
       (AreDumpLines old.session.collector (flown_by old.session.sweeper)))
   pub marking : IfOk result (λ lines. lines ≡ None
       → IsNowhereSettled old.session.collector (flown_by old.session.sweeper))
-  pub stays : StaysListed old new
+  pub stays : StaysListed (counted_in old.session.collector new.session.collector.heap.ledger) old new
   pub list_is : new.lines.items ≡ list_kept result old.lines.items
   pub grays : new.grays ≡ old.grays
   pub status_is : status ≡ list_status result

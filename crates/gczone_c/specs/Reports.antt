@@ -26,12 +26,15 @@ report_status (Some told) = 0
 -- what C gets of it, where it lists these names or groups
 abbrev pub report_told : Option SessionReport → List Name → List ZoneSet → ReportTold → ReportTold
 report_told None names groups before = before
+report_told (Some report.Started) names groups before = record { zones = 0; count = 0; kind = 4; arena = 0 }
 report_told (Some report.Groups) names groups before =
     record { zones = 0; count = length groups; kind = 1; arena = 0 }
 report_told (Some (report.Ended zones)) names groups before =
     record { zones = zones.bits; count = length names; kind = 2; arena = 0 }
 report_told (Some (report.Swept arena)) names groups before =
     record { zones = 0; count = length names; kind = 3; arena = arena }
+report_told (Some (report.Stopped zones)) names groups before =
+    record { zones = zones.bits; count = 0; kind = 5; arena = 0 }
 
 -- what C gets of a name, and of a group
 abbrev pub name_answer : Option Name → Answer → Answer

@@ -17,7 +17,6 @@ refusal_status why.Empty = 19
 refusal_status why.Kind = 20
 refusal_status why.NoField = 21
 refusal_status why.Cross = 22
-refusal_status why.WrapperKey = 23
 refusal_status why.Running = 24
 refusal_status why.Idle = 25
 refusal_status why.Marking = 26
@@ -41,7 +40,6 @@ abbrev pub begin_status : {T : Type 0} → Result T BeginFault → ℕ
 begin_status (Ok done) = 0
 begin_status (Err begin.Running) = 24
 begin_status (Err begin.NoZone) = 17
-begin_status (Err begin.NoMemory) = 3
 
 abbrev pub step_status : {T E : Type 0} → Result T E → ℕ
 step_status (Ok step) = 0

@@ -6,7 +6,7 @@ ghost use Rattle.slice_driver.specs.Accounts.{Accounts};
 ghost use Rattle.slice_driver.specs.Represents.{Represents};
 ghost use Rattle.slice_driver.specs.Sessions.{groups_of, kind_of, names_of};
 ghost use Rattle.sweeping.specs.ArenasOut.{flown_by};
-ghost use Rattle.gczone_c.specs.Calls.{AdvanceDone, BeginDone, CommandDone, GraysListed, LinesListed};
+ghost use Rattle.gczone_c.specs.Calls.{AdvanceDone, BeginDone, CommandDone, GraysListed, LinesListed, ResetDone};
 ghost use Rattle.gczone_c.specs.Reports.{counts_told, report_status, report_told};
 
 use crate::told::{Answer, Counts, ReportTold, StepDone};
@@ -64,6 +64,15 @@ impl Held {
     {
         let step = self.session.advance(limit);
         told::tell_step(&step, done)
+    }
+
+    /// Does a step of giving the collection up, and writes what was done.
+    pub fn reset(&mut self, done: &mut StepDone) -> u32
+        ensures done { ResetDone done.new result self.old self.new }
+    {
+        let step = self.session.reset();
+        *done = told::done(&step);
+        statuses::DONE
     }
 
     /// Whether a collection runs.

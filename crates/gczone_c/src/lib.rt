@@ -17,7 +17,7 @@ ghost use Rattle.std.specs.Prelude.{◌≡◌, ◌<◌, ◌≤◌, None, Some};
 ghost use Rattle.colour_defs.specs.Step.{HasFewFields};
 ghost use Rattle.gz_names.specs.declared.commands.GraphCmd.TheVariants as cmd;
 ghost use Rattle.gczone_c.specs.Calls.{AdvanceDone, BeginDone, Does, DoesOrder, Goes, GraysListed, IsClosed};
-ghost use Rattle.gczone_c.specs.Calls.{IsRefused, IsUndone, LinesListed, Opens, comp_no};
+ghost use Rattle.gczone_c.specs.Calls.{IsRefused, IsUndone, LinesListed, Opens, ResetDone, comp_no};
 ghost use Rattle.gczone_c.specs.Reports.{CountsTold, GrayTold, GroupTold, LineIsTold, NameTold};
 ghost use Rattle.gczone_c.specs.Reports.{ReportIsTold, RunningTold};
 
@@ -453,6 +453,19 @@ pub extern "C" fn gcz_advance(alloc: Global, gcz: &mut Gcz, limit: u64, done: &m
         return statuses::CLOSED;
     };
     let status = held.advance(limit, done);
+    gcz.put(alloc, held);
+    status
+}
+
+/// Does a step of giving up the collection that runs: takes in an arena that is out, or gives the collection up.
+#[unsafe(no_mangle)]
+pub extern "C" fn gcz_reset(alloc: Global, gcz: &mut Gcz, done: &mut StepDone) -> u32
+    ensures done { Goes (IsClosed result done.old done.new) (ResetDone done.new result) gcz.old gcz.new }
+{
+    let Some(mut held) = gcz.take(alloc) else {
+        return statuses::CLOSED;
+    };
+    let status = held.reset(done);
     gcz.put(alloc, held);
     status
 }

@@ -43,8 +43,6 @@ pub const NO_FIELD: u32 = 21;
 
 pub const CROSS: u32 = 22;
 
-pub const WRAPPER_KEY: u32 = 23;
-
 pub const RUNNING: u32 = 24;
 
 pub const IDLE: u32 = 25;
@@ -63,7 +61,6 @@ pub fn of_refusal(why: Refusal) -> u32
         Refusal::Kind => KIND,
         Refusal::NoField => NO_FIELD,
         Refusal::Cross => CROSS,
-        Refusal::WrapperKey => WRAPPER_KEY,
         Refusal::Running => RUNNING,
         Refusal::Idle => IDLE,
         Refusal::Marking => MARKING,
@@ -78,7 +75,6 @@ pub fn of_begin(begun: &Result<(), BeginFault>) -> u32
         Ok(()) => DONE,
         Err(BeginFault::Running) => RUNNING,
         Err(BeginFault::NoZone) => NO_ZONE,
-        Err(BeginFault::NoMemory) => NO_MEMORY,
     }
 }
 
@@ -104,7 +100,6 @@ pub fn text(status: u32) -> &'static str {
         KIND => refusal_words(Refusal::Kind),
         NO_FIELD => refusal_words(Refusal::NoField),
         CROSS => refusal_words(Refusal::Cross),
-        WRAPPER_KEY => refusal_words(Refusal::WrapperKey),
         RUNNING => refusal_words(Refusal::Running),
         IDLE => refusal_words(Refusal::Idle),
         MARKING => refusal_words(Refusal::Marking),

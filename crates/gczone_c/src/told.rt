@@ -1,6 +1,7 @@
 // What C gets: the structs of gczone.h.
 ghost use Rattle.std.specs.Prelude.{◌≡◌};
-ghost use Rattle.gczone_c.specs.Calls.{answer_told, command_told, name_told, no_name, report_kind, step_told};
+ghost use Rattle.gczone_c.specs.Calls.{answer_told, command_told, done_told, name_told, no_name};
+ghost use Rattle.gczone_c.specs.Calls.{report_kind, step_told};
 ghost use Rattle.gczone_c.specs.Reports.{group_told, line_answer, line_told, name_answer, report_status, report_told};
 ghost use Rattle.gczone_c.specs.Statuses.{command_status, found_status, reply_status, step_status};
 
@@ -25,6 +26,10 @@ pub const GROUPS: u32 = 1;
 pub const ENDED: u32 = 2;
 
 pub const SWEPT: u32 = 3;
+
+pub const STARTED: u32 = 4;
+
+pub const STOPPED: u32 = 5;
 
 pub const LINE_END: u32 = 0;
 
@@ -167,19 +172,26 @@ pub fn tell_outcome(outcome: &Result<SessionReply, SessionFault>, answer: &mut A
     }
 }
 
+/// A step, as C sees it.
+pub fn done(step: &SessionStep) -> StepDone
+    ensures { result ≡ done_told step.now }
+{
+    StepDone {
+        units: step.units,
+        report: kind_of(step.report),
+        finished: step.finished,
+    }
+}
+
 /// Writes what came of a step.
-pub fn tell_step(step: &Result<SessionStep, NoMemory>, done: &mut StepDone) -> u32
+pub fn tell_step(step: &Result<SessionStep, NoMemory>, told: &mut StepDone) -> u32
     ensures status { result ≡ step_status step.now }
-    ensures told { done.new ≡ step_told step.now done.old }
+    ensures told { told.new ≡ step_told step.now told.old }
 {
     let Ok(step) = step else {
         return statuses::NO_MEMORY;
     };
-    *done = StepDone {
-        units: step.units,
-        report: kind_of(step.report),
-        finished: step.finished,
-    };
+    *told = done(step);
     statuses::DONE
 }
 
@@ -188,9 +200,11 @@ pub fn kind_of(report: Option<SessionReport>) -> u32
     ensures { result ≡ report_kind report }
 {
     match report {
+        Some(SessionReport::Started) => STARTED,
         Some(SessionReport::Groups) => GROUPS,
         Some(SessionReport::Ended(_)) => ENDED,
         Some(SessionReport::Swept(_)) => SWEPT,
+        Some(SessionReport::Stopped(_)) => STOPPED,
         None => NO_REPORT,
     }
 }
@@ -206,6 +220,15 @@ pub fn tell_report(
     ensures told { told.new ≡ report_told report names.now groups.now told.old }
 {
     match report {
+        Some(SessionReport::Started) => {
+            *told = ReportTold {
+                zones: 0,
+                count: 0,
+                kind: STARTED,
+                arena: 0,
+            };
+            statuses::DONE
+        }
         Some(SessionReport::Groups) => {
             *told = ReportTold {
                 zones: 0,
@@ -230,6 +253,15 @@ pub fn tell_report(
                 count: names.len(),
                 kind: SWEPT,
                 arena,
+            };
+            statuses::DONE
+        }
+        Some(SessionReport::Stopped(zones)) => {
+            *told = ReportTold {
+                zones: zones.bits,
+                count: 0,
+                kind: STOPPED,
+                arena: 0,
             };
             statuses::DONE
         }

@@ -11,7 +11,7 @@ use denote.RawPtr.{Ptr, block_ptr, null_ptr}
 use Rattle.gczone_c.specs.Owned.{heap, owns_box}
 use Rattle.gczone_c.specs.declared.held.Held.{Held}
 use Rattle.gczone_c.specs.contracts.held.Held.{the_row as held_row}
-use Rattle.gczone_c.proofs.held.Held.TheSendSync as held_send
+use Rattle.gczone_c.proofs.Sent.{held_send}
 use Rattle.gczone_c.specs.contracts.handle.Slot as slot
 
 pointer : IsSend RawPtr
@@ -21,7 +21,7 @@ keyless : (p : Ptr) (held : Option Held) → Keyless (owns_box held_row p held)
 keyless p None = tt
 keyless null_ptr (Some x) = (tt, frees.frees heap (raw (lone (held_row).mir)) null_ptr)
 keyless (block_ptr b o) (Some x) = (
-  part_keyless held_row held_send.the_send full_share x b o,
+  part_keyless held_row held_send full_share x b o,
   frees.frees heap (raw (lone (held_row).mir)) (block_ptr b o),
 )
 

@@ -12,7 +12,7 @@ returns-in-Ok-Some c = record {
     dump = of_some _ c.in-Ok-Some.field-0-is c.in-Ok-Some.ensures.lines;
     marking = λ none. absurd (cc none);
     stays = record {
-      collector = c.dump.ensures.collector;
+      collector_is = c.dump.ensures.collector;
       worlds = c.dump.ensures.worlds;
       report = c.dump.ensures.report;
     };
@@ -30,7 +30,7 @@ returns-in-Ok-None c = record {
     dump = tt;
     marking = λ none. c.in-Ok-None.ensures.marking c.in-Ok-None.field-0-is;
     stays = record {
-      collector = c.dump.ensures.collector;
+      collector_is = c.dump.ensures.collector;
       worlds = c.dump.ensures.worlds;
       report = c.dump.ensures.report;
     };
@@ -48,7 +48,7 @@ returns-in-Err c = record {
     dump = tt;
     marking = tt;
     stays = record {
-      collector = c.dump.ensures.collector;
+      collector_is = c.dump.ensures.collector;
       worlds = c.dump.ensures.worlds;
       report = c.dump.ensures.report;
     };
