@@ -1,0 +1,4 @@
+pub mod Feeds
+pub mod Reading
+pub mod Runs
+pub mod Ends

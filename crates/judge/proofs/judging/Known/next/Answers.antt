@@ -1,0 +1,14 @@
+use Rattle.std.proofs.Common.{ℕ, List, IfOk, subst, sym}
+use Rattle.judge.specs.Replies.{Steps, due_as}
+use Rattle.judge.specs.Verdicts.{IsSaid}
+use Rattle.judge.proofs.judging.Known.next.Goals as goal
+
+pub returns-in-Some-clause-said : goal.returns-in-Some-clause-said
+returns-in-Some-clause-said c =
+    subst (λ (l : List ℕ). IfOk c.trace_line.result (IsSaid (due_as c.args.self.now.awaited) l))
+    (sym c.in-Some.ensures.some) c.trace_line.ensures.said
+
+pub returns-in-Some-clause-fine : goal.returns-in-Some-clause-fine
+returns-in-Some-clause-fine c = λ e.
+    subst (λ (l : List ℕ). Steps c.args.self.now.graph (due_as c.args.self.now.awaited) l c.trace_line.new.self.graph
+    (due_as c.trace_line.new.self.awaited)) (sym c.in-Some.ensures.some) (c.trace_line.ensures.fine e)

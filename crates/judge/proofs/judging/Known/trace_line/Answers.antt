@@ -1,0 +1,6 @@
+use Rattle.std.proofs.Common.{refl}
+use Rattle.judge.proofs.judging.Known.trace_line.Goals as goal
+
+pub returns-in-Err-clause-said : goal.returns-in-Err-clause-said
+returns-in-Err-clause-said c =
+    (c.args.text.now, refl, λ d s. let p = c.parse.ensures.exact d s in cc (p, c.in-Err.is))

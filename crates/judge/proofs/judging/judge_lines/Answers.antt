@@ -1,0 +1,91 @@
+use Rattle.std.proofs.Common.{◌≡◌, ◌∙◌, ℕ, ◌+◌, inl, inr, List, refl, subst, sym}
+use Rattle.gz_io.specs.Lines.{EndsLine}
+use Rattle.colour_defs.specs.Graph.{GraphState}
+use Rattle.judge.specs.Lines.{GivesLine, IsOneLine}
+use Rattle.judge.specs.Replies.{Due, Judged, asked, answered, Steps, due_as, graph_after}
+use Rattle.judge.specs.Verdicts.{IsBadLine, IsSaid, IsWrongLine}
+use Rattle.judge.specs.declared.judging.Said.{Said}
+use Rattle.judge.specs.declared.lines.NextLine.{NextLine}
+use Rattle.judge.specs.declared.lines.NextLine.TheVariants as next_line
+use Rattle.judge.proofs.Runs.{bad_judged, cut_judged, gives_of, none_held, start_judged, whole_judged, wrong_judged}
+use Rattle.judge.proofs.judging.judge_lines.Goals as goal
+
+-- a line more
+one_more_judged : (input rest more line : List ℕ) (n : ℕ) (g h : GraphState) (due next : Due)
+    → Judged input n rest g due → IsOneLine line → EndsLine rest more line → Steps g due line h next
+    → Judged input (n + 1) more h next
+one_more_judged input rest more line n g h due next j one e (inl (text, c, is, m, s, after, follows)) =
+    subst (λ k. Judged input (n + 1) more k next) (sym after)
+    (subst (λ d. Judged input (n + 1) more (graph_after g c) d) (sym follows)
+    (asked (subst (λ d. Judged input n rest g d) is j) one e m s))
+one_more_judged input rest more line n g h due next j one e (inr (u, same, ans)) =
+    subst (λ k. Judged input (n + 1) more k next) (sym same) (answered j one e u ans)
+
+pub loop-read-init : goal.loop-read-init
+loop-read-init g c = record {
+  calm = refl;
+  so = λ input e. (
+    input,
+    none_held _ _ input c.new-lines.ensures e,
+    start_judged input _ _ c.requires.graph c.requires.due,
+  );
+}
+
+pub loop-read-preserved : goal.loop-read-preserved
+loop-read-preserved g c = record {
+  calm = c.in_ok-next.ensures.same (λ p. let q : next_line.Line ≡ next_line.ReadFault = sym c.in-Line.is ∙ p in cc q)
+      ∙ c.loop-read.invariant.calm;
+  so = λ input e.
+      let i = c.loop-read.invariant.so input e in
+      let given = gives_of _ _ _ _ i.0 c.in_ok-next.ensures.bytes i.1 in
+      let line : List ℕ = c.next.new.line.items in
+      let one = subst (λ (r : NextLine). GivesLine i.0 given.0 r line) c.in-Line.is given.2 in
+      let steps = c.next-in-loop-read.ensures.fine (cc (c.in_ok-next-2.was, c.in-Fine.is)) in
+      let before : GraphState = c.loop-read.known.graph in
+      let after : GraphState = c.next-in-loop-read.new.self.graph in
+      let due : Due = due_as c.loop-read.known.awaited in
+      let then : Due = due_as c.next-in-loop-read.new.self.awaited in
+      let stepped = subst (λ (l : List ℕ). Steps before due l after then) c.as_slice.ensures.value steps in (
+        given.0,
+        given.1,
+        one_more_judged input i.0 given.0 line c.loop-read.read before after due then i.2 one.0 one.1 stepped,
+      );
+}
+
+pub returns-then-is_whole-clause-verdict : goal.returns-then-is_whole-clause-verdict
+returns-then-is_whole-clause-verdict g c = λ input e.
+    let i = c.loop-read.invariant.so input e in
+    let given = gives_of _ _ _ _ i.0 c.in_ok-next.ensures.bytes i.1 in
+    let over = subst (λ (r : NextLine). GivesLine i.0 given.0 r c.next.new.line.items) c.in-End.is given.2 in
+    whole_judged input i.0 c.loop-read.read c.loop-read.known.graph c.loop-read.known.awaited i.2 over.0
+    (c.is_whole.ensures.0 c.if-is_whole.true)
+
+pub returns-in-End-clause-verdict : goal.returns-in-End-clause-verdict
+returns-in-End-clause-verdict g c = λ input e.
+    let i = c.loop-read.invariant.so input e in
+    let given = gives_of _ _ _ _ i.0 c.in_ok-next.ensures.bytes i.1 in
+    let over = subst (λ (r : NextLine). GivesLine i.0 given.0 r c.next.new.line.items) c.in-End.is given.2 in
+    cut_judged input i.0 c.loop-read.read c.loop-read.known.graph c.loop-read.known.awaited i.2 over.0
+    (λ is. let whole = c.is_whole.ensures.1 is in cc (whole, c.if-is_whole.false))
+
+pub returns-in-Bad-clause-verdict : goal.returns-in-Bad-clause-verdict
+returns-in-Bad-clause-verdict g c = λ input e.
+    let i = c.loop-read.invariant.so input e in
+    let given = gives_of _ _ _ _ i.0 c.in_ok-next.ensures.bytes i.1 in
+    let line : List ℕ = c.next.new.line.items in
+    let one = subst (λ (r : NextLine). GivesLine i.0 given.0 r line) c.in-Line.is given.2 in
+    let due : Due = due_as c.loop-read.known.awaited in
+    let bad = subst (λ (s : Said). IsSaid due c.as_slice.result.now s) c.in-Bad.is c.in_ok-next-2.ensures.said in
+    bad_judged input i.0 given.0 line c.loop-read.read c.loop-read.known.graph due i.2 one
+    (subst (λ (l : List ℕ). IsBadLine l) c.as_slice.ensures.value bad)
+
+pub returns-in-Wrong-clause-verdict : goal.returns-in-Wrong-clause-verdict
+returns-in-Wrong-clause-verdict g c = λ input e.
+    let i = c.loop-read.invariant.so input e in
+    let given = gives_of _ _ _ _ i.0 c.in_ok-next.ensures.bytes i.1 in
+    let line : List ℕ = c.next.new.line.items in
+    let one = subst (λ (r : NextLine). GivesLine i.0 given.0 r line) c.in-Line.is given.2 in
+    let due : Due = due_as c.loop-read.known.awaited in
+    let wrong = subst (λ (s : Said). IsSaid due c.as_slice.result.now s) c.in-Wrong.is c.in_ok-next-2.ensures.said in
+    wrong_judged input i.0 given.0 line c.loop-read.read c.loop-read.known.graph due i.2 one
+    (subst (λ (l : List ℕ). IsWrongLine due l) c.as_slice.ensures.value wrong)

@@ -1,0 +1,106 @@
+-- What a judge writes, and how it ends.
+use Rattle.std.specs.Prelude.{◌≡◌, ◌≢◌, ◌⊎◌, ℕ, ◌+◌, List, [], ◌++◌, Option, codes, ⊤}
+use Rattle.std.specs.Fmt.{decimal}
+use Rattle.std.specs.Io.KnownBytes.{Appends}
+use Rattle.gz_io.specs.Causes.{AppendsFront}
+use Rattle.gz_io.specs.Lines.{EndsLine}
+use Rattle.gz_names.specs.declared.commands.Cmd.{Cmd}
+use Rattle.colour_defs.specs.Graph.{GraphState}
+use Rattle.trace_lang.specs.Grammar.{Spells}
+use Rattle.judge.specs.Lines.{IsOneLine}
+use Rattle.judge.specs.Replies.{Due, nothing, Judged, IsUnmarked, MayBeWrong, marked}
+use Rattle.judge.specs.declared.judging.JudgeEnd.{JudgeEnd}
+use Rattle.judge.specs.declared.judging.JudgeEnd.TheVariants as end
+use Rattle.judge.specs.declared.judging.Verdict.{Verdict}
+use Rattle.judge.specs.declared.judging.Verdict.TheVariants as verdict
+use Rattle.judge.specs.declared.judging.Said.{Said}
+use Rattle.judge.specs.declared.judging.Said.TheVariants as said
+
+-- a line that stands for no command, and is one of a trace
+abbrev pub IsBadLine : List ℕ → Type 0
+IsBadLine line = (text : List ℕ) × (line ≡ marked text) × ((c : Cmd) → Spells text c → ⊥)
+
+-- a line that is wrong after these: a command before the answer to the last one is whole, or a wrong answer
+abbrev pub IsWrongLine : Due → List ℕ → Type 0
+IsWrongLine due line =
+    ((text : List ℕ) × (line ≡ marked text) × (due ≢ nothing)) ⊎ (IsUnmarked line × MayBeWrong due line)
+
+-- the first n lines were judged, and the rest is left
+pub record HasJudged (input : List ℕ) (n : ℕ) (rest : List ℕ) (due : Due) : Type 0 where
+  pub graph : GraphState
+  pub judged : Judged input n rest graph due
+
+-- the line after n judged ones
+pub record IsNext (input : List ℕ) (n : ℕ) (due : Due) (line : List ℕ) : Type 0 where
+  pub rest : List ℕ
+  pub more : List ℕ
+  pub before : HasJudged input n rest due
+  pub one : IsOneLine line
+  pub ends : EndsLine rest more line
+
+-- all lines were judged, and nothing is due
+abbrev pub IsJudgedWhole : List ℕ → Type 0
+IsJudgedWhole input = (n : ℕ) × HasJudged input n [] nothing
+
+-- the n-th line, counted from 1, is wrong, and is the first such line
+abbrev pub IsFirstWrong : List ℕ → ℕ → Type 0
+IsFirstWrong input n =
+    (before : ℕ) × (due : Due) × (line : List ℕ) × (n ≡ before + 1) × IsNext input before due line
+    × IsWrongLine due line
+
+-- the n-th line is bad, and those before it are judged
+abbrev pub IsFirstBad : List ℕ → ℕ → Type 0
+IsFirstBad input n =
+    (before : ℕ) × (due : Due) × (line : List ℕ) × (n ≡ before + 1) × IsNext input before due line × IsBadLine line
+
+-- the transcript ends within an answer
+abbrev pub IsCut : List ℕ → Type 0
+IsCut input = (n : ℕ) × (due : Due) × HasJudged input n [] due × (due ≢ nothing)
+
+-- what the next line is, by what the judge says of it
+abbrev pub IsSaid : Due → List ℕ → Said → Type 0
+IsSaid due line said.Fine = ⊤
+IsSaid due line said.Bad = IsBadLine line
+IsSaid due line (said.Wrong kind) = IsWrongLine due line
+
+-- a verdict on the bytes of a transcript
+abbrev pub IsVerdictOn : List ℕ → Verdict → Type 0
+IsVerdictOn input verdict.Lawful = IsJudgedWhole input
+IsVerdictOn input (verdict.Wrong n kind) = IsFirstWrong input n
+IsVerdictOn input verdict.Cut = IsCut input
+IsVerdictOn input (verdict.Bad n) = IsFirstBad input n
+IsVerdictOn input verdict.ReadFault = ⊤
+IsVerdictOn input verdict.TooManyLines = ⊤
+
+-- the line of a verdict that is not lawful, by its kind
+abbrev pub wrong_text : ℕ → List ℕ → List ℕ
+wrong_text n kind = codes "at line " ++ decimal n ++ codes ": " ++ kind ++ codes "\n"
+
+-- a verdict on these bytes, and its text
+abbrev pub IsVerdictText : List ℕ → List ℕ → Type 0
+IsVerdictText input text =
+    (IsJudgedWhole input × (text ≡ codes "lawful\n"))
+    ⊎ ((n : ℕ) × (kind : List ℕ) × IsFirstWrong input n × (text ≡ wrong_text n kind))
+
+-- what is written for these bytes, by how the judge ends
+abbrev pub EndsBy : List ℕ → Option (List ℕ) → Option (List ℕ) → JudgeEnd → Type 0
+EndsBy input old new end.Lawful = IsJudgedWhole input × Appends old new (codes "lawful\n")
+EndsBy input old new (end.Unlawful n) =
+    IsFirstWrong input n × (kind : List ℕ) × Appends old new (wrong_text n kind)
+EndsBy input old new end.Cut = IsCut input × Appends old new []
+EndsBy input old new (end.BadLine n) = IsFirstBad input n × Appends old new []
+EndsBy input old new end.ReadFault = Appends old new []
+EndsBy input old new end.WriteFault = (text : List ℕ) × IsVerdictText input text × AppendsFront old new text
+EndsBy input old new end.NoMemory = Appends old new []
+EndsBy input old new end.TooManyLines = Appends old new []
+
+-- a verdict was written
+abbrev pub HasVerdict : JudgeEnd → Type 0
+HasVerdict end.Lawful = ⊤
+HasVerdict (end.Unlawful n) = ⊤
+HasVerdict end.Cut = ⊥
+HasVerdict (end.BadLine n) = ⊥
+HasVerdict end.ReadFault = ⊥
+HasVerdict end.WriteFault = ⊥
+HasVerdict end.NoMemory = ⊥
+HasVerdict end.TooManyLines = ⊥

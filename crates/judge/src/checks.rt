@@ -1,0 +1,267 @@
+// The checks of reports, by the definitions: which report is due, and what is wrong with another one.
+use crate::collection::{Collection, GroupEnd, ZoneEdges, wrapper_keys, zone_edges};
+use crate::former::Former;
+use crate::kinds;
+use crate::parse::{after, parse_groups};
+use crate::text::{is_same, report_text};
+use crate::world::{Phase, World};
+use gz_names::{Groups, Name, NameList, Names64, NoMemory, Place, Report, ZoneNo, ZoneSet};
+use plain_graph::Graph;
+use std::alloc::Global;
+use std::collections::BTreeMap;
+
+/// What is wrong with a line, as a text; None where nothing is.
+pub type Fault = Option<Vec<u8>>;
+
+/// Judges a line as the next report of a unit, and does what the report does.
+pub fn judge_report(graph: &Graph, world: &mut World, line: &[u8]) -> Result<Fault, NoMemory> {
+    if world.is_over() {
+        return done(world, line);
+    }
+    if let Some(arena) = world.arenas.first_out() {
+        return swept(world, arena, line);
+    }
+    match &world.phase {
+        Phase::Idle => Ok(Some(kinds::said(world.alloc, b"report, no collection runs")?)),
+        Phase::Preparing(_) => started(graph, world, line),
+        Phase::Collecting(collection) if !collection.has_groups() => formed(graph, world, line),
+        Phase::Collecting(_) => ended(graph, world, line),
+    }
+}
+
+/// Judges a line as the next report of a reset, and does what the report does.
+pub fn judge_reset(graph: &Graph, world: &mut World, line: &[u8]) -> Result<Fault, NoMemory> {
+    if let Some(arena) = world.arenas.first_out() {
+        return swept(world, arena, line);
+    }
+    if world.is_over() {
+        return done(world, line);
+    }
+    stopped(graph, world, line)
+}
+
+fn started(graph: &Graph, world: &mut World, line: &[u8]) -> Result<Fault, NoMemory> {
+    if is_same(line, b"started") {
+        world.start(graph)?;
+        return Ok(None);
+    }
+    Ok(Some(kinds::due(world.alloc, b"report", b"started")?))
+}
+
+fn stopped(graph: &Graph, world: &mut World, line: &[u8]) -> Result<Fault, NoMemory> {
+    let due = report_text(world.alloc, &Report::Stopped(world.unfinished()))?;
+    if is_same(line, due.as_slice()) {
+        world.stop(graph)?;
+        return Ok(None);
+    }
+    Ok(Some(kinds::due(world.alloc, b"report", due.as_slice())?))
+}
+
+fn done(world: &mut World, line: &[u8]) -> Result<Fault, NoMemory> {
+    if is_same(line, b"done") {
+        world.finish();
+        return Ok(None);
+    }
+    Ok(Some(kinds::due(world.alloc, b"report", b"done")?))
+}
+
+// The report of the lowest arena that is out.
+fn swept_report(world: &World, arena: u32) -> Report {
+    let mut names = Names64::new();
+    for white in world.next_freed() {
+        if names.len() < 64 {
+            names.push(white.name);
+        }
+    }
+    Report::Swept(arena, names)
+}
+
+fn swept(world: &mut World, arena: u32, line: &[u8]) -> Result<Fault, NoMemory> {
+    let due = report_text(world.alloc, &swept_report(world, arena))?;
+    if is_same(line, due.as_slice()) {
+        world.sweep();
+        return Ok(None);
+    }
+    Ok(Some(kinds::swept(world, arena, due.as_slice(), line)?))
+}
+
+// A copy of names for a report.
+fn listed(names: &[Name], world: &World) -> Result<NameList, NoMemory> {
+    Ok(NameList::from_vec(Vec::from_slice(world.alloc, names)?))
+}
+
+fn ended_text(world: &World, end: &GroupEnd) -> Result<Vec<u8>, NoMemory> {
+    let grays = listed(end.grays.as_slice(), world)?;
+    let report = Report::Ended(end.zones, grays, NameList::new(world.alloc));
+    report_text(world.alloc, &report)
+}
+
+fn ended(graph: &Graph, world: &mut World, line: &[u8]) -> Result<Fault, NoMemory> {
+    let Some(end) = world.group_end(graph)? else {
+        return Ok(None);
+    };
+    let due = ended_text(world, &end)?;
+    if is_same(line, due.as_slice()) {
+        world.end_group(&end)?;
+        return Ok(None);
+    }
+    Ok(Some(kinds::ended(world, &end, due.as_slice(), line)?))
+}
+
+fn copied(groups: &Groups) -> Groups {
+    let mut copy = Groups::new();
+    for group in groups.as_slice() {
+        if copy.len() < 64 {
+            copy.push(*group);
+        }
+    }
+    copy
+}
+
+// The groups that a line writes, if it is their text.
+fn groups_of(world: &World, line: &[u8]) -> Result<Option<Groups>, NoMemory> {
+    let Some(text) = after(line, b"groups") else {
+        return Ok(None);
+    };
+    let Some(read) = parse_groups(text) else {
+        return Ok(None);
+    };
+    let due = report_text(world.alloc, &Report::Groups(copied(&read)))?;
+    if is_same(line, due.as_slice()) {
+        Ok(Some(read))
+    } else {
+        Ok(None)
+    }
+}
+
+fn formed(graph: &Graph, world: &mut World, line: &[u8]) -> Result<Fault, NoMemory> {
+    let Some(groups) = groups_of(world, line)? else {
+        return Ok(Some(kinds::due(world.alloc, b"report", b"groups ..")?));
+    };
+    let alloc = world.alloc;
+    let Phase::Collecting(collection) = &mut world.phase else {
+        return Ok(None);
+    };
+    if let Some(fault) = parts(alloc, collection.zones, groups.as_slice())? {
+        return Ok(Some(fault));
+    }
+    let fault = judge_edges(
+        alloc,
+        graph,
+        &world.places,
+        &world.former,
+        collection,
+        groups.as_slice(),
+    )?;
+    if fault.is_none() {
+        collection.groups = Some(Vec::from_slice(alloc, groups.as_slice())?);
+    }
+    Ok(fault)
+}
+
+// In each group edges lead from each zone to each other, by what was known as marking began, and none leads from a
+// later group to an earlier one, by what is known now.
+fn judge_edges(
+    alloc: Global,
+    graph: &Graph,
+    places: &BTreeMap<Name, Place>,
+    former: &Former,
+    collection: &mut Collection,
+    groups: &[ZoneSet],
+) -> Result<Fault, NoMemory> {
+    let keys = wrapper_keys(alloc, former.graph(), places)?;
+    let first = zone_edges(graph, places, collection, &keys);
+    for group in groups {
+        if let Some(zone) = zone_apart(&first, *group) {
+            return Ok(Some(kinds::apart(alloc, *group, zone)?));
+        }
+    }
+    collection.catch_up(former.graph())?;
+    backward(alloc, graph, places, collection, groups)
+}
+
+// The groups part the zones of the collection: each zone is in one of them, and no group is empty.
+fn parts(alloc: Global, zones: ZoneSet, groups: &[ZoneSet]) -> Result<Fault, NoMemory> {
+    let mut seen = ZoneSet::new();
+    for group in groups {
+        let twice = group.intersection(seen);
+        let other = group.without(zones);
+        if group.is_empty() || !twice.is_empty() || !other.is_empty() {
+            return Ok(Some(kinds::partition(alloc, zones)?));
+        }
+        seen = seen.union(*group);
+    }
+    if zones.without(seen).is_empty() {
+        Ok(None)
+    } else {
+        Ok(Some(kinds::partition(alloc, zones)?))
+    }
+}
+
+// The zones of a group that edges lead to from one of them, or from which they lead to it.
+fn reached_in(edges: &ZoneEdges, group: ZoneSet, start: ZoneNo, is_forward: bool) -> ZoneSet {
+    let mut reached = ZoneSet::only(start);
+    for _ in 0..64 {
+        for index in 0..64u8 {
+            let Some(zone) = ZoneNo::new(index) else {
+                break;
+            };
+            if !group.contains(zone) {
+                continue;
+            }
+            let next = edges.to[index as usize].intersection(group);
+            if is_forward && reached.contains(zone) {
+                reached = reached.union(next);
+            }
+            if !is_forward && !next.intersection(reached).is_empty() {
+                reached.insert(zone);
+            }
+        }
+    }
+    reached
+}
+
+// A zone of a group from which, or to which, no edges lead within the group.
+fn zone_apart(edges: &ZoneEdges, group: ZoneSet) -> Option<ZoneNo> {
+    let start = group.first()?;
+    let both = reached_in(edges, group, start, true).intersection(reached_in(
+        edges, group, start, false,
+    ));
+    group.without(both).first()
+}
+
+// No edge leads from a later group to an earlier one.
+fn backward(
+    alloc: Global,
+    graph: &Graph,
+    places: &BTreeMap<Name, Place>,
+    collection: &Collection,
+    groups: &[ZoneSet],
+) -> Result<Fault, NoMemory> {
+    let keys = wrapper_keys(alloc, graph, places)?;
+    for (name, _) in places {
+        let Some((from, to)) = collection.edge_of(graph, *name) else {
+            continue;
+        };
+        if is_backward(groups, from, to) {
+            return Ok(Some(kinds::backward(alloc, *name, from, to)?));
+        }
+        if keys.contains(name) && is_backward(groups, to, from) {
+            return Ok(Some(kinds::key_backward(alloc, *name, from, to)?));
+        }
+    }
+    Ok(None)
+}
+
+// Whether the group of a zone comes after that of another.
+fn is_backward(groups: &[ZoneSet], from: ZoneNo, to: ZoneNo) -> bool {
+    for group in groups {
+        if group.contains(from) {
+            return false;
+        }
+        if group.contains(to) {
+            return true;
+        }
+    }
+    false
+}

@@ -1,0 +1,303 @@
+// The world of the definitions, but for the graph: the present cells and their places, what is black, and the
+// collection.
+use crate::arenas::Arenas;
+use crate::collection::{Collection, Tally, counts_entry, is_wrapper, marking_tally};
+use crate::former::{Former, fields_of, is_in};
+use crate::preparation::{Preparation, target_of};
+use gz_names::{
+    DumpColour, DumpLine, GraphCmd, Name, NoMemory, Place, Refusal, Reg, Reply, ZoneSet,
+};
+use plain_graph::{Graph, Walk};
+use std::alloc::Global;
+use std::collections::BTreeMap;
+
+/// A white cell that is not yet swept.
+#[derive(Clone, Copy, PartialEq, Eq, PartialOrd, Ord)]
+pub struct White {
+    pub arena: u32,
+    pub name: Name,
+}
+
+/// Where a collection stands.
+#[derive(Drop)]
+pub enum Phase {
+    /// None runs.
+    Idle,
+    /// Its zones are being prepared.
+    Preparing(Preparation),
+    /// It marks or sweeps.
+    Collecting(Collection),
+}
+
+/// What a collector's output is judged by, beside the graph.
+#[derive(Drop)]
+pub struct World {
+    pub alloc: Global,
+    pub former: Former,
+    pub places: BTreeMap<Name, Place>,
+    pub arenas: Arenas,
+    /// The white cells that are not yet swept, by arena and name; those before `swept` are.
+    pub white: Vec<White>,
+    pub swept: usize,
+    /// What is black; it counts while no zone is marking, and none is being prepared.
+    pub black: Walk,
+    pub phase: Phase,
+    /// What was counted for the last collection that began.
+    pub tally: Tally,
+}
+
+impl World {
+    pub fn new(alloc: Global) -> Self {
+        World {
+            alloc,
+            former: Former::new(alloc),
+            places: BTreeMap::new(alloc),
+            arenas: Arenas::new(alloc),
+            white: Vec::new(alloc),
+            swept: 0,
+            black: Walk::new(alloc),
+            phase: Phase::Idle,
+            tally: Tally::new(),
+        }
+    }
+
+    pub fn is_running(&self) -> bool {
+        !matches!(self.phase, Phase::Idle)
+    }
+
+    /// The collection that marks or sweeps.
+    pub fn collection(&self) -> Option<&Collection> {
+        match &self.phase {
+            Phase::Collecting(collection) => Some(collection),
+            _ => None,
+        }
+    }
+
+    /// The zones that a collection is preparing or marking.
+    pub fn unfinished(&self) -> ZoneSet {
+        match &self.phase {
+            Phase::Idle => ZoneSet::new(),
+            Phase::Preparing(preparation) => preparation.zones,
+            Phase::Collecting(collection) => collection.marking,
+        }
+    }
+
+    /// Whether no zone is marking, and none is being prepared.
+    pub fn is_settled(&self) -> bool {
+        self.unfinished().is_empty()
+    }
+
+    /// Whether a name is black by what a collection that runs has found so far.
+    pub fn is_black_so_far(&self, name: Name) -> bool {
+        match &self.phase {
+            Phase::Idle => self.black.contains(name),
+            Phase::Preparing(preparation) => preparation.black.contains(name),
+            Phase::Collecting(collection) => collection.black.contains(name),
+        }
+    }
+
+    pub fn is_present(&self, name: Name) -> bool {
+        self.places.contains_key(&name)
+    }
+
+    /// What a command on the graph wakes and counts for, by the graph after it.
+    pub fn follow(
+        &mut self,
+        graph: &Graph,
+        command: &GraphCmd,
+        reply: &Reply,
+    ) -> Result<(), NoMemory> {
+        self.former.command(command)?;
+        if let Reply::Refused(_) = reply {
+            return Ok(());
+        }
+        match command {
+            GraphCmd::New(register, _, _) => self.wake(graph, *register),
+            GraphCmd::Map(register, _) => self.wake(graph, *register),
+            GraphCmd::Expose(register, _) => self.wake(graph, *register),
+            GraphCmd::Wrap(register, _, _) => self.wake_wrapper(graph, *register),
+            GraphCmd::Unwrap(register, _) => self.wake_target(graph, *register),
+            GraphCmd::Put(map, key, _) => {
+                self.count_put(graph, *map, *key);
+                Ok(())
+            }
+            _ => Ok(()),
+        }
+    }
+
+    // While zones are being prepared, the target that was read through a wrapper is woken.
+    fn wake_target(&mut self, graph: &Graph, register: Reg) -> Result<(), NoMemory> {
+        match (&mut self.phase, graph.register(register)) {
+            (Phase::Preparing(preparation), Some(name)) => {
+                preparation.black.blacken(graph, target_of(name))
+            }
+            _ => Ok(()),
+        }
+    }
+
+    // The register holds a wrapper, unless its target needs none.
+    fn wake_wrapper(&mut self, graph: &Graph, register: Reg) -> Result<(), NoMemory> {
+        self.wake_target(graph, register)?;
+        match graph.register(register) {
+            Some(Name::Wrap(_, _)) => self.wake(graph, register),
+            _ => Ok(()),
+        }
+    }
+
+    // Wakes what a register holds.
+    fn wake(&mut self, graph: &Graph, register: Reg) -> Result<(), NoMemory> {
+        let Some(name) = graph.register(register) else {
+            return Ok(());
+        };
+        self.give_place(graph, name)?;
+        match &mut self.phase {
+            Phase::Idle => blacken(&mut self.black, graph, name),
+            Phase::Preparing(preparation) => preparation.black.blacken(graph, name),
+            Phase::Collecting(collection) => {
+                let is_counted = is_wrapper(name) && is_in(graph, collection.zones, name);
+                self.tally.wrappers = self.tally.wrappers.saturating_add(u64::from(is_counted));
+                if collection.marking.is_empty() {
+                    blacken(&mut self.black, graph, name)
+                } else {
+                    collection.wake(name)
+                }
+            }
+        }
+    }
+
+    fn give_place(&mut self, graph: &Graph, name: Name) -> Result<(), NoMemory> {
+        if self.is_present(name) {
+            return Ok(());
+        }
+        if let Some(zone) = graph.zone_of(name) {
+            let place = self.arenas.give(zone)?;
+            self.places.insert(name, place)?;
+        }
+        Ok(())
+    }
+
+    fn count_put(&mut self, graph: &Graph, map: Reg, key: Reg) {
+        let (Some(map), Some(key)) = (graph.register(map), graph.register(key)) else {
+            return;
+        };
+        if let Phase::Collecting(collection) = &self.phase {
+            let is_counted = counts_entry(graph, collection.zones, map, key);
+            self.tally.entries = self.tally.entries.saturating_add(u64::from(is_counted));
+        }
+    }
+
+    /// Why a collection of these zones may not begin, if it may not.
+    pub fn refusal(&self, graph: &Graph, zones: ZoneSet) -> Option<Refusal> {
+        if self.is_running() {
+            return Some(Refusal::Running);
+        }
+        let made = graph.zones();
+        if made < 64 && zones.bits >> made != 0 {
+            return Some(Refusal::NoZone);
+        }
+        None
+    }
+
+    /// What collects goes on to another phase.
+    pub fn enter(&mut self, phase: Phase) {
+        self.phase = phase;
+    }
+
+    /// A collection of these zones begins: they are being prepared.
+    pub fn begin(&mut self, graph: &Graph, zones: ZoneSet) -> Result<(), NoMemory> {
+        self.tally = Tally {
+            arenas: self.arenas.count(zones),
+            ..Tally::new()
+        };
+        let preparation = Preparation::new(self.alloc, graph, zones, &self.places, &self.black)?;
+        self.enter(Phase::Preparing(preparation));
+        Ok(())
+    }
+
+    /// The marking of the collection that is being prepared begins.
+    pub fn start(&mut self, graph: &Graph) -> Result<(), NoMemory> {
+        let Phase::Preparing(preparation) = &self.phase else {
+            return Ok(());
+        };
+        let zones = preparation.zones;
+        let collection = Collection::start(self.alloc, graph, preparation, &self.places)?;
+        self.tally = marking_tally(self, graph, zones);
+        self.former.keep();
+        self.enter(Phase::Collecting(collection));
+        Ok(())
+    }
+
+    /// The most units that the collection may have taken by now. It has one for each arena while it is being prepared.
+    pub fn unit_limit(&self) -> u64 {
+        match &self.phase {
+            Phase::Preparing(_) => self.tally.arenas,
+            _ => self.tally.limit(),
+        }
+    }
+
+    /// The gray names, ascending.
+    pub fn gray_names(&self) -> Result<Vec<Name>, NoMemory> {
+        let mut names = Vec::new(self.alloc);
+        for (name, _) in &self.places {
+            if !self.black.contains(*name) {
+                names.push(*name)?;
+            }
+        }
+        Ok(names)
+    }
+
+    fn colour(&self, name: Name) -> DumpColour {
+        if self.black.contains(name) {
+            DumpColour::Black
+        } else {
+            DumpColour::Gray
+        }
+    }
+
+    /// The lines of a dump.
+    pub fn dump_lines(&self, graph: &Graph) -> Result<Vec<DumpLine>, NoMemory> {
+        let mut lines = Vec::new(self.alloc);
+        for (name, _) in &self.places {
+            lines.push(DumpLine::Cell(*name, self.colour(*name)))?;
+        }
+        for (name, _) in &self.places {
+            push_edges(graph, &mut lines, *name)?;
+        }
+        self.push_entries(graph, &mut lines)?;
+        lines.push(DumpLine::End)?;
+        Ok(lines)
+    }
+
+    fn push_entries(&self, graph: &Graph, lines: &mut Vec<DumpLine>) -> Result<(), NoMemory> {
+        let mut found = BTreeMap::new(self.alloc);
+        for entry in graph.entries() {
+            if self.is_present(entry.map) && self.is_present(entry.key) {
+                found.insert((entry.map, entry.key), entry.value)?;
+            }
+        }
+        for (names, value) in &found {
+            if let (Name::Cell(map), key) = *names {
+                lines.push(DumpLine::Weak(map, key, *value))?;
+            }
+        }
+        Ok(())
+    }
+}
+
+// A name turns black, and what is reached from there.
+fn blacken(black: &mut Walk, graph: &Graph, name: Name) -> Result<(), NoMemory> {
+    black.add(name, None)?;
+    black.finish(graph)
+}
+
+// Adds the lines of what an object holds.
+fn push_edges(graph: &Graph, lines: &mut Vec<DumpLine>, name: Name) -> Result<(), NoMemory> {
+    if let Name::Cell(number) = name {
+        for held in fields_of(graph, number) {
+            if let Some(held) = held {
+                lines.push(DumpLine::Edge(number, *held))?;
+            }
+        }
+    }
+    Ok(())
+}
