@@ -9,6 +9,7 @@ const KINDS = { o: "object", m: "weak map", w: "wrapper" };
 const STATES = {
   b: ["black", "Registers led to it when its zone was last collected, or it was made or read since."],
   g: ["gray", "Only gray slots led to it when its zone was last collected."],
+  p: ["not marked yet", "Its zone is being prepared: marks are cleared, and it has no colour until marking begins."],
   B: ["sure to be black", "The snapshot leads to it from a black start or from a woken cell. It will be kept."],
   G: ["gray so far", "Only gray starts lead to it in the snapshot. It ends gray, or black if something wakes it."],
   W: ["not reached", "The snapshot does not lead to it. It is freed, unless it is a wrapper and wrap finds it."],
@@ -26,8 +27,9 @@ function each(pairs, act) {
   for (let index = 0; index < pairs.length; index += 2) act(pairs[index], pairs[index + 1]);
 }
 const value = key => picture.get(key) ?? null;
+const isState = key => key[0] === "s" && key !== "since";
 const stateOf = id => value(`s${id}`) || "";
-const isPresent = id => "bgBGW".includes(stateOf(id) || "-");
+const isPresent = id => "bgpBGW".includes(stateOf(id) || "-");
 const zoneOf = id => value(`k${cells[id].comp}`);
 const hasName = (id, name) => isPresent(id) && cells[id].name === name;
 
@@ -87,7 +89,7 @@ function mostAtOnce() {
       }
     });
     each(step.changes, (key, to) => {
-      if (key[0] !== "s" || key === "since") return;
+      if (!isState(key)) return;
       const id = Number(key.slice(1)), is = to !== "";
       if (alive.has(id) === is) return;
       alive[is ? "add" : "delete"](id);
@@ -141,12 +143,15 @@ function openSpan(zone, kind) {
 function noteSpans(step, index) {
   each(step.changes, (key, to) => {
     if (key[0] === "z" && key !== "zones") {
-      const zone = Number(key.slice(1)), open = openSpan(zone, "marking");
-      if (to === "m" && !open) row(zone).push({ kind: "marking", from: index, to: null, ticks: [] });
+      const zone = Number(key.slice(1)), prepared = openSpan(zone, "preparing"), open = openSpan(zone, "marking");
+      if (to === "p" && !prepared) row(zone).push({ kind: "preparing", from: index, to: null, ticks: [] });
+      if (to !== "p" && prepared) prepared.to = index + 1;
+      if (to === "m" && !open) row(zone).push({ kind: "marking", from: index + 1, to: null, ticks: [] });
       if (to !== "m" && open) {
+        open.to = index + 1;
+        if (to !== "e") return;
         const groups = value("groups").split(" | ");
         const group = groups.findIndex(text => text.split(" ").includes(`${zone}`));
-        open.to = index + 1;
         open.group = `, group ${group + 1} of ${groups.length}`;
       }
     }
@@ -178,7 +183,7 @@ function survey() {
       picture.set(key, to);
     });
     each(step.changes, (key, to) => {
-      if (key[0] !== "s" || key === "since") return;
+      if (!isState(key)) return;
       const id = Number(key.slice(1));
       if (to && !cells[id].spot) placeCell(id, near);
       if (!to && cells[id].spot) comps.get(cells[id].comp).taken.delete(cells[id].spot.join(" "));
@@ -257,6 +262,19 @@ function* edgesFrom(id, get) {
   if (cell.target !== null) yield { to: cell.target, how: "its target", kind: "wrapper" };
 }
 
+// What two cells hold together: map and key the value of an entry, and map and delegate its key.
+function pairsOf(get, keys) {
+  const found = [];
+  for (const { map, key, to } of entriesOf(get, keys)) {
+    const [kept, owner, delegate] = [cells[key].name, cells[map].name, cells[key].target];
+    found.push([map, key, to, `its entry with key ${kept}`], [key, map, to, `as key in map ${owner}`]);
+    if (delegate !== null) {
+      found.push([map, delegate, key, "key of its entry"], [delegate, map, key, `behind its key in map ${owner}`]);
+    }
+  }
+  return found;
+}
+
 function entriesOf(get, keys) {
   const found = [];
   for (const key of keys) {
@@ -272,9 +290,7 @@ function entriesOf(get, keys) {
 // From these starts, each with what it is, the shortest way to a cell: the starts' text and the steps, or null.
 function wayTo(goal, starts, get, keys) {
   const reached = new Map(), queue = [], byEnd = new Map();
-  for (const entry of entriesOf(get, keys)) {
-    for (const end of new Set([entry.map, entry.key])) byEnd.set(end, [...(byEnd.get(end) ?? []), entry]);
-  }
+  for (const [end, ...rest] of pairsOf(get, keys)) byEnd.set(end, [...(byEnd.get(end) ?? []), rest]);
   const reach = (id, from) => {
     if (!reached.has(id)) { reached.set(id, from); queue.push(id) }
   };
@@ -282,13 +298,7 @@ function wayTo(goal, starts, get, keys) {
   for (let index = 0; index < queue.length && !reached.has(goal); index++) {
     const id = queue[index];
     for (const edge of edgesFrom(id, get)) reach(edge.to, { from: id, how: edge.how });
-    for (const entry of byEnd.get(id) ?? []) {
-      const other = entry.map === id ? entry.key : entry.map;
-      if (!reached.has(other)) continue;
-      const name = cells[other].name;
-      const how = entry.map === id ? `its entry with key ${name}` : `as key in map ${name}`;
-      reach(entry.to, { from: id, how });
-    }
+    for (const [other, to, how] of byEnd.get(id) ?? []) if (reached.has(other)) reach(to, { from: id, how });
   }
   if (!reached.has(goal)) return null;
   const way = [];
@@ -313,10 +323,12 @@ function pictureAt(step) {
   return [key => copy.get(key) ?? null, copy];
 }
 
-// The shortest way to a cell now: from registers, or else from gray slots.
+// The shortest way to a cell now: from registers, or else from gray slots and what registers hold.
 function wayNow(id) {
-  const keys = picture.keys.bind(picture);
-  return wayTo(id, rootsIn(value, REGISTERS), value, keys()) ?? wayTo(id, rootsIn(value, SLOTS), value, keys());
+  const keys = picture.keys.bind(picture), black = wayTo(id, rootsIn(value, REGISTERS), value, keys());
+  if (black) return { ...black, isGray: false };
+  const live = wayTo(id, rootsIn(value, [...SLOTS, ...REGISTERS]), value, keys());
+  return live && { ...live, isGray: true };
 }
 
 // The shortest way to a cell in the snapshot of the collection: from its black starts and woken cells, or else from
@@ -332,7 +344,7 @@ function wayInSnapshot(id) {
     ?? wayTo(id, [...black, ...rootsIn(get, SLOTS), ...left("bg")], get, copy.keys());
 }
 
-const isMarking = () => [...zones.keys()].some(zone => value(`z${zone}`) === "m");
+const isAnyIn = state => [...zones.keys()].some(zone => value(`z${zone}`) === state);
 
 // ---- Drawing.
 const escaped = text => String(text).replace(/[&<>"]/g, sign => `&#${sign.charCodeAt(0)};`);
@@ -470,7 +482,7 @@ function sweptText(arenas) {
 }
 
 function zoneTitle(number) {
-  const state = { m: "marking", e: "ended", i: "" }[value(`z${number}`)];
+  const state = { p: "being prepared", m: "marking", e: "ended", i: "" }[value(`z${number}`)];
   const sweep = sweptText(zones.get(number).arenas.filter(arena => value(`o${arena}`)));
   const present = cells.filter(cell => isPresent(cell.id) && zoneOf(cell.id) === number).length;
   const count = `${present} ${present === 1 ? "cell" : "cells"}`;
@@ -503,7 +515,7 @@ function changedCells() {
   const found = new Set();
   if (at > 0) {
     each(steps[at - 1].changes, key => {
-      if ("sfwe".includes(key[0]) && key !== "since") found.add(Number(key.slice(1).split(".")[0]));
+      if (isState(key) || "fwe".includes(key[0])) found.add(Number(key.slice(1).split(".")[0]));
     });
   }
   return found;
@@ -512,7 +524,7 @@ function changedCells() {
 function waysOfChosen() {
   if (chosen === null || !isPresent(chosen)) return null;
   const now = wayNow(chosen);
-  return { now, snapshot: now || !isMarking() ? null : wayInSnapshot(chosen) };
+  return { now, snapshot: now || !isAnyIn("m") ? null : wayInSnapshot(chosen) };
 }
 
 function drawHeap(ways) {
@@ -555,7 +567,8 @@ const timeX = step => step * times.step + 4;
 
 function drawSpan(span, y) {
   const x = timeX(span.from), wide = Math.max(timeX(span.to) - x, 3);
-  const text = span.kind === "marking" ? `marking${span.group ?? ""}` : sweptText(span.arenas);
+  const texts = { preparing: "being prepared", marking: `marking${span.group ?? ""}` };
+  const text = texts[span.kind] ?? sweptText(span.arenas);
   const ticks = span.ticks.map(([step, arena]) =>
     `<path class="tick" d="M${timeX(step)} ${y + 2}v16"><title>arena ${arena} is swept</title></path>`);
   if (span.group) ticks.push(`<path class="end" d="M${timeX(span.to)} ${y}v20"><title>its group ends</title></path>`);
@@ -609,7 +622,7 @@ function drawChanges(step) {
   each(step.undo, (key, old) => was.set(key, old));
   for (const [key, old] of was) {
     const now = value(key);
-    if (key[0] === "s" && key !== "since") {
+    if (isState(key)) {
       const text = `${old ? `${STATES[old][0]} → ` : "made: "}${now ? STATES[now][0] : "its slot is free"}`;
       moved.set(text, [...(moved.get(text) ?? []), nameOf(Number(key.slice(1)))]);
     } else if (key[0] === "r" || (key[0] === "g" && key !== "groups")) {
@@ -640,7 +653,7 @@ function drawStep() {
 }
 
 function unitsSoFar() {
-  const done = spans.units.filter(unit => unit.step >= value("since") && unit.step < at);
+  const done = spans.units.filter(unit => unit.step >= value("begun") && unit.step < at);
   return done.reduce((sum, unit) => sum + unit.count, 0);
 }
 
@@ -655,7 +668,10 @@ function drawCollection() {
     const out = all.filter(arena => value(`o${arena}`));
     const woken = cells.filter(cell => isPresent(cell.id) && value(`w${cell.id}`)).map(cell => cell.name);
     lines.push(`A collection of ${numbered("zone", value("zones"))} runs. It began at line`
-      + ` ${steps[value("since")].line}, and finds what that moment's graph, the snapshot, reaches.`);
+      + ` ${steps[value("begun")].line}.`);
+    if (by("p").length) lines.push("Its zones are being prepared: their marks are cleared, and then marking begins.");
+    else lines.push(`Its marking began at line ${steps[value("since")].line}, and finds what that moment's graph, the`
+      + " snapshot, reaches.");
     if (by("m").length) lines.push(`Marking: ${numbered("zone", by("m"))}.`);
     if (value("groups")) lines.push(`Zones end in this order: ${value("groups").replaceAll(" | ", ", then ")}.`);
     if (by("e").length) lines.push(`Ended: ${numbered("zone", by("e"))}.`);
@@ -693,14 +709,15 @@ function wayText(way) {
 
 function drawPaths(ways) {
   if (ways.now) {
-    const isGray = ways.now.start[0] === "g", root = isGray ? "gray slot" : "register";
-    const none = isGray ? "No register leads to it. " : "";
+    const root = ways.now.start[0] === "g" ? "gray slot" : "register";
+    const none = ways.now.isGray ? `No register ${root === "register" ? "alone " : ""}leads to it. ` : "";
     return `<p>${none}The shortest way from a ${root}: ${wayText(ways.now)}</p>`;
   }
   if (ways.snapshot) {
     return `<p>No root leads to it now. In the snapshot there is a way: ${wayText(ways.snapshot)}</p>`;
   }
-  const next = isMarking() ? "The snapshot does not lead to it either." : "A collection of all zones would free it.";
+  const next = isAnyIn("m") ? "The snapshot does not lead to it either."
+    : isAnyIn("p") ? "Marking has not begun." : "A collection of all zones would free it.";
   return `<p>No root leads to it. ${next}</p>`;
 }
 
@@ -739,7 +756,8 @@ function drawLegend() {
     `<tr><td>${sample("o", state, "7")}</td><td><b>${name}</b>. ${text}</td></tr>`);
   const kinds = [
     ["o", "7", "An object: its fields hold other cells."],
-    ["m", "8", "A weak map. A dot is an entry: dotted to map and key, dashed to the value, which lives while both do."],
+    ["m", "8", "A weak map. A dot is an entry: dotted to map and key, dashed to the value, which lives while both do. A"
+      + " key that is a wrapper lives while the map and its target do."],
     ["w", "2:7", "A wrapper: stands in compartment 2 for cell 7."],
   ];
   const others = kinds.map(([kind, name, text]) => `<tr><td>${sample(kind, "b", name)}</td><td>${text}</td></tr>`);

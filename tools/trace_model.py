@@ -4,6 +4,7 @@ The model is plain Python and proved in nothing. It replays the commands of a tr
 output tells which cells were freed, and the model tells which cells there are and what holds what.
 """
 
+import copy
 import difflib
 import heapq
 import signal
@@ -14,14 +15,14 @@ from crate_list import TOP
 from program import find_program
 
 SLOTS = 64
-REPORTS = ("groups", "ended", "swept", "done")
+REPORTS = ("started", "groups", "ended", "swept", "done", "stopped")
 
 # The forms of the commands: r a register, t a register or `-`, g a gray slot, z a zone, c a compartment, n the number
 # of fields of an object, f a field, u a number of units, Z one or more zones that ascend.
 FORMS = {
     "zone": "", "comp": "z", "new": "rcn", "map": "rc", "get": "rrf", "set": "rft", "wrap": "rrc", "unwrap": "rr",
     "copy": "rr", "drop": "r", "hold": "gr", "release": "g", "expose": "rg", "put": "rrr", "del": "rr", "find": "rrr",
-    "gc": "Z", "slice": "u", "finish": "", "collect": "Z", "colours": "", "dump": "",
+    "gc": "Z", "slice": "u", "finish": "", "collect": "Z", "reset": "", "colours": "", "dump": "",
 }
 PARTS = {
     "r": ("a register, r0 to r15", "r", 15), "t": ("a register, r0 to r15, or -", "r", 15),
@@ -205,7 +206,7 @@ class Model:
         self.room = {}
         self.out = set()
         self.collecting = None
-        self.marking = set()
+        self.preparing, self.marking = set(), set()
         self.crossing = []
         self.objects = 0
 
@@ -241,6 +242,23 @@ class Model:
 
     def zone_of(self, cell):
         return self.comps[cell.comp]
+
+    def is_settled(self):
+        """Whether no zone is marking, and none is being prepared."""
+        return not self.marking and not self.preparing
+
+    def is_prepared(self, cell):
+        """Whether a cell is of a zone that is being prepared, so that its colour counts for nothing."""
+        return self.zone_of(cell) in self.preparing
+
+    def without_prepared(self):
+        """This model without the cells whose colours count for nothing."""
+        rest = copy.copy(self)
+        rest.cells = {name: cell for name, cell in self.cells.items() if not self.is_prepared(cell)}
+        rest.entries = {
+            names: entry for names, entry in self.entries.items() if all(cell.name in rest.cells for cell in entry)
+        }
+        return rest
 
     def wrappers_between(self, zones):
         """The names of the wrappers that lead from these zones to other ones of them."""
@@ -297,12 +315,14 @@ class Model:
             regs[args[0]] = entry[2] if entry else None
         elif word in ("gc", "collect"):
             self.collecting = {int(part) for part in args}
-            self.marking = set(self.collecting)
+            self.preparing = set(self.collecting)
 
     def report(self, line, dead):
         """Takes in a report of a collection; `dead` has the names that `swept` lines tell after an `ended` line."""
         word, *rest = line.split(" ")
-        if word == "groups":
+        if word == "started":
+            self.preparing, self.marking = set(), self.preparing
+        elif word == "groups":
             self.crossing = self.wrappers_between(self.collecting)
         elif word == "ended":
             zones = {int(part) for part in rest[: rest.index("gray")]}
@@ -318,8 +338,9 @@ class Model:
             }
         elif word == "swept":
             self.take_in(int(rest[0]), set(rest[1:]))
-        elif word == "done":
+        elif word in ("done", "stopped"):
             self.collecting = None
+            self.preparing, self.marking = set(), set()
 
 
 def dead_after(reports, at):
@@ -327,7 +348,7 @@ def dead_after(reports, at):
     names = []
     for line in reports[at + 1:]:
         word, *rest = line.split(" ")
-        if word in ("ended", "done"):
+        if word in ("ended", "done", "stopped"):
             break
         if word == "swept":
             names += [name for name in rest[1:] if name != "-"]
@@ -335,7 +356,7 @@ def dead_after(reports, at):
 
 
 REFUSALS = {
-    "full", "no-zone", "no-comp", "empty", "kind", "no-field", "cross", "wrapper-key", "running", "idle", "marking",
+    "full", "no-zone", "no-comp", "empty", "kind", "no-field", "cross", "running", "idle", "marking",
 }
 
 

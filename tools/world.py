@@ -3,8 +3,9 @@ for. Shared by tools/page and tools/prompt.
 
 The colours follow crates/colour_defs/specs (World, Ends, Lawful), also while zones are marking. Then a cell is black
 by the black closure, gray by the live closure without it, and white else: the black closure only grows, so black is
-sure, gray may still turn black, and white is freed unless `wrap` finds the wrapper. This is plain Python, and proved in
-nothing; where a line of the program says something else, a note says what the definitions ask for.
+sure, gray may still turn black, and white is freed unless `wrap` finds the wrapper. A cell of a zone that is being
+prepared has no colour. This is plain Python, and proved in nothing; where a line of the program says something else, a
+note says what the definitions ask for.
 """
 
 import importlib.machinery
@@ -17,9 +18,13 @@ from progress import Progress
 from trace_model import REFUSALS, Model, answers, is_report, name_order
 
 LONGEST = 200
-# The states of a cell: those of a settled heap, those while zones are marking, and a dead one that is not swept yet.
-BLACK, GRAY, SURE, OPEN, WHITE, DEAD, NONE = "b", "g", "B", "G", "W", "d", ""
-STATE_NAMES = {BLACK: "black", GRAY: "gray", SURE: "sure to be black", OPEN: "gray so far", WHITE: "not reached"}
+# The states of a cell: those of a settled heap, one of a zone that is being prepared, those while zones are marking,
+# and a dead one that is not swept yet.
+BLACK, GRAY, PREPARED, SURE, OPEN, WHITE, DEAD, NONE = "b", "g", "p", "B", "G", "W", "d", ""
+STATE_NAMES = {
+    BLACK: "black", GRAY: "gray", PREPARED: "not marked yet", SURE: "sure to be black", OPEN: "gray so far",
+    WHITE: "not reached",
+}
 WAKING = {"new", "map", "wrap", "expose"}
 
 
@@ -50,22 +55,29 @@ class Graph:
         for name, cell in model.cells.items():
             held = [*cell.fields, cell.target] if cell.target else cell.fields
             self.ends[name] = [value.name for value in held if value]
-        self.entries = {}
+        self.pairs = {}
         for owner, key, value in model.entries.values():
-            self.entries.setdefault(owner.name, []).append((key.name, value.name))
-            self.entries.setdefault(key.name, []).append((owner.name, value.name))
+            self.add_pair(owner.name, key.name, value.name)
+            if key.target:
+                self.add_pair(owner.name, key.target.name, key.name)
+
+    def add_pair(self, one, other, both):
+        """Two cells that lead to a third one together: map and key to the value, and map and delegate to the key."""
+        self.pairs.setdefault(one, []).append((other, both))
+        self.pairs.setdefault(other, []).append((one, both))
 
     def from_cell(self, name, reached):
-        """What a cell leads to: its edges, and the values of its entries whose other end is reached."""
-        values = (value for other, value in self.entries.get(name, ()) if other in reached)
-        return [*self.ends.get(name, ()), *values]
+        """What a cell leads to: its edges, and what it leads to together with a cell that is reached."""
+        both = (both for other, both in self.pairs.get(name, ()) if other in reached)
+        return [*self.ends.get(name, ()), *both]
 
 
 class Closure:
-    """The least set of names with its starts, the ends of edges, and the values of entries. `closed` is such a set."""
+    """The least set of names with its starts, the ends of edges, and what two of its cells lead to together. `closed`
+    is such a set, and names that are left out are never in it."""
 
-    def __init__(self, graph, starts, closed=()):
-        self.graph, self.names = graph, set(closed)
+    def __init__(self, graph, starts, closed=(), left_out=()):
+        self.graph, self.names, self.left_out = graph, set(closed), left_out
         self.add(starts)
 
     def add(self, starts):
@@ -73,7 +85,7 @@ class Closure:
         fresh, work = [], list(starts)
         while work:
             name = work.pop()
-            if name not in self.names:
+            if name not in self.names and name not in self.left_out:
                 self.names.add(name)
                 fresh.append(name)
                 work += self.graph.from_cell(name, self.names)
@@ -81,7 +93,7 @@ class Closure:
 
 
 class Collection:
-    """A collection from its beginning: the closures in its snapshot, and what was woken since."""
+    """A collection from the beginning of its marking: the closures in its snapshot, and what was woken since."""
 
     def __init__(self, model, black):
         zones = model.collecting
@@ -110,6 +122,8 @@ class World:
 
     def status(self, name):
         """The state of a present cell."""
+        if self.model.is_prepared(self.model.cells[name]):
+            return PREPARED
         if not self.model.marking:
             return BLACK if name in self.black else GRAY
         if name in self.collection.black.names:
@@ -118,33 +132,40 @@ class World:
 
     def begin(self, words):
         self.model.command(words, "")
-        self.collection = Collection(self.model, self.black)
+        self.black -= self.prepared()
 
-    def wake(self, name, is_made):
-        """Wakes a cell, and returns the names whose colour may have changed."""
+    def prepared(self):
+        """The names of the cells whose colours count for nothing."""
+        return {name for name, cell in self.model.cells.items() if self.model.is_prepared(cell)}
+
+    def wake(self, names, is_made):
+        """Wakes cells, and returns the names whose colour may have changed."""
         if self.collection:
-            fresh = self.collection.wake(name)
+            fresh = [found for name in names for found in self.collection.wake(name)]
             if self.model.marking:
                 return fresh
-        if name in self.black:
+        if self.black.issuperset(names):
             return []
-        if is_made:
+        if is_made and not self.model.preparing:
             # It leads to nothing, or to the target in a register, which is black.
-            self.black.add(name)
-            return [name]
-        closure = Closure(Graph(self.model), (), self.black)
-        fresh = closure.add([name])
+            self.black.update(names)
+            return names
+        closure = Closure(Graph(self.model), (), self.black, self.prepared())
+        fresh = closure.add(names)
         self.black = closure.names
         return fresh
 
     def command(self, words, reply):
         """Does an accepted command on the graph, and returns the names whose colour may have changed."""
         count = len(self.model.cells)
+        read = self.model.registers.get(words[2]) if words[0] in ("wrap", "unwrap") else None
         self.model.command(words, reply)
         cell = self.model.registers.get(words[1]) if words[0] in WAKING else None
-        if not cell or (words[0] == "wrap" and not cell.target):
-            return []
-        return self.wake(cell.name, len(self.model.cells) > count)
+        names = [cell.name] if cell and (words[0] != "wrap" or cell.target) else []
+        if self.model.preparing and read:
+            # The wrapper that is read may be of a zone whose colours count for nothing.
+            names.append((read.target or read).name)
+        return self.wake(names, len(self.model.cells) > count) if names else []
 
     def gray_names(self, zones):
         """The gray names of these zones, once none of them is marking."""
@@ -161,12 +182,26 @@ class World:
             self.black = self.collection.black.names & self.model.cells.keys()
         return f"ended {' '.join(map(str, sorted(zones)))} gray {listed(self.gray_names(zones))}"
 
+    def stop(self, line):
+        """Gives the collection up, and returns the line that the definitions ask for."""
+        zones = self.model.preparing or self.model.marking
+        held = [name for name, cell in self.model.cells.items() if self.model.zone_of(cell) in zones]
+        found = self.collection.black.names & self.model.cells.keys() if self.collection else self.black
+        self.black = Closure(Graph(self.model), [*found, *held]).names
+        self.collection = None
+        self.model.report(line, ())
+        return f"stopped {' '.join(map(str, sorted(zones)))}"
+
     def report(self, line):
         """Takes in a report, and returns the line that the definitions ask for."""
         word, *rest = line.split(" ")
         if word == "ended":
             return self.end_group(line, {int(zone) for zone in rest[: rest.index("gray")]})
+        if word == "stopped":
+            return self.stop(line)
         self.model.report(line, ())
+        if word == "started":
+            self.collection = Collection(self.model, self.black)
         if word == "swept":
             places = [place for place in self.dead if place[0] == int(rest[0])]
             return f"swept {rest[0]} {listed(self.dead.pop(place).name for place in places)}"
@@ -177,7 +212,8 @@ class World:
     def wanted(self, words, reply):
         """The reply that the definitions ask for, as far as this world tells it."""
         if words[0] == "colours":
-            return "marking" if self.model.marking else f"gray {listed(self.gray_names(range(self.model.zones)))}"
+            is_settled = self.model.is_settled()
+            return f"gray {listed(self.gray_names(range(self.model.zones)))}" if is_settled else "marking"
         return reply
 
 
@@ -193,9 +229,10 @@ class Recorder:
 
     A picture is a map from keys to values: `s` and a cell's number to its state, `w` to whether it was woken, `f`, a
     cell and a field to what it holds, `r` and `g` to what registers and gray slots hold, `e`, a map and a key to the
-    entry's value, `z` to the state of a zone (`i` idle, `m` marking, `e` ended), `k` to the zone of a compartment, `a`
-    to that of an arena, `o` to whether an arena is out, `groups` and `zones` to those of the collection, and `since` to
-    how many steps stood before it. Cells are numbered in order of making, since a name may be made again.
+    entry's value, `z` to the state of a zone (`i` idle, `p` being prepared, `m` marking, `e` ended), `k` to the zone of
+    a compartment, `a` to that of an arena, `o` to whether an arena is out, `groups` and `zones` to those of the
+    collection, `begun` to how many steps stood before it, and `since` to how many stood before its marking, or null.
+    Cells are numbered in order of making, since a name may be made again.
     """
 
     def __init__(self):
@@ -231,7 +268,8 @@ class Recorder:
         model = self.world.model
         for zone in range(model.zones):
             of_collection = model.collecting and zone in model.collecting
-            self.put(f"z{zone}", "m" if zone in model.marking else "e" if of_collection else "i")
+            state = "p" if zone in model.preparing else "m" if zone in model.marking else "e" if of_collection else "i"
+            self.put(f"z{zone}", state)
         for comp, zone in enumerate(model.comps):
             self.put(f"k{comp}", zone)
         for arena, zone in enumerate(model.arenas):
@@ -277,7 +315,8 @@ class Recorder:
 
     def begin(self, words):
         self.world.begin(words)
-        self.put("since", len(self.steps))
+        self.put("begun", len(self.steps))
+        self.put("since", None)
         self.put("groups", None)
         self.put_collection()
 
@@ -293,6 +332,8 @@ class Recorder:
         for key, (owner, kept, _) in entries.items():
             if key not in model.entries:
                 self.put(f"e{self.number(owner)}.{self.number(kept)}", None)
+        if line == "started":
+            self.put("since", len(self.steps))
         if line.startswith("groups "):
             self.put("groups", line.removeprefix("groups "))
         self.put_collection()

@@ -42,7 +42,7 @@ LATE_GRAY_SLOT = Class(
     "Gray roots are read as a group begins gray marking, and the embedder must put a barrier before it changes one."
     " Counted: slices without that barrier. With it, as in all other runs, there is no difference",
     "`traceEmbeddingGrayRoots`, gc/RootMarking.cpp",
-    "Ours buffers gray slots as a collection begins, as version 78 does; `hold` and `release` need no barrier",
+    "Ours buffers gray slots as marking begins, as version 78 does; `hold` and `release` need no barrier",
 )
 ENDLESS_BUDGET = Class(
     "budget without end", f"{TRACES}/chain_above_budget.trace",
@@ -52,22 +52,19 @@ ENDLESS_BUDGET = Class(
     "What the slices count in all is bounded by what lies in the heap and what changed (`unit_limit`), whatever the"
     " budget",
 )
-# gczone refuses wrappers as keys of weak maps. Once it serves them, traces.py draws such keys, definitions.py follows
-# their targets, and these two are counted as the others are.
 KEY_EDGE = Class(
     "wrapper key makes edges", f"{FOLDER}/wrapper_as_key.trace",
-    "A wrapper that is a key makes an edge between zones whatever its target's colour, so groups are unions of those of"
-    " the definitions",
+    "A wrapper that is a key makes an edge from its target's zone to its own whatever the target's colour, so groups"
+    " are unions of ours",
     "`ObjectValueWeakMap::findSweepGroupEdges`, gc/WeakMap.cpp",
-    "The definitions have an edge only if the target is not black",
+    "Ours has an edge each way, and only if the target is not black",
 )
 GRAY_DELEGATE = Class(
     "gray delegate counts as black", f"{FOLDER}/wrapper_as_key.trace",
     "A key's target in a zone that is not collected counts as black, even if it is gray",
     "`GetEffectiveColor`, gc/WeakMap-inl.h",
-    "The definitions keep key and value gray",
+    "Ours counts by its colour, so key and value are gray",
 )
 # Rules of the engine that definitions.py knows.
-RULES = (EXPOSED_KEY, LATE_WEAK_VALUE, LARGER_GROUPS)
+RULES = (EXPOSED_KEY, LATE_WEAK_VALUE, LARGER_GROUPS, KEY_EDGE, GRAY_DELEGATE)
 COUNTED = (*RULES, LATE_GRAY_SLOT)
-NOT_SERVED = (KEY_EDGE, GRAY_DELEGATE)

@@ -1,8 +1,8 @@
 """Judges the reports of a run, one by one, by the definitions of crates/colour_defs: what is lawful as a group ends
 (specs/Ends), which sweep groups are lawful (specs/Groups), what a woken cell turns black (specs/World).
 
-The graph is that of tools/trace_model.py. Closures are computed anew from the snapshot each time. Nothing here is
-proved.
+The graph is that of tools/trace_model.py. Closures are computed anew from the snapshot each time. Between `gc` and the
+beginning of marking the zones are being prepared, and their colours count for nothing. Nothing here is proved.
 
 In place of a rule of the definitions the engine's own may be taken (classes.py):
 
@@ -10,14 +10,16 @@ In place of a rule of the definitions the engine's own may be taken (classes.py)
   `find` exposes what it returns;
 - LATE_WEAK_VALUE: the black pass over weak maps runs group by group, so a weak value in a zone that is still marking
   may be late;
-- LARGER_GROUPS: a wrapper that leads to such a value may make an edge between zones.
+- LARGER_GROUPS: a wrapper that leads to such a value may make an edge between zones;
+- KEY_EDGE: the target of a wrapper that is a key may make an edge to the key's zone, though it is black;
+- GRAY_DELEGATE: such a target in a zone that is not collected counts as black.
 """
 
 from collections import defaultdict
 
 from trace_model import REFUSALS
 
-from classes import EXPOSED_KEY, LARGER_GROUPS, LATE_WEAK_VALUE
+from classes import EXPOSED_KEY, GRAY_DELEGATE, KEY_EDGE, LARGER_GROUPS, LATE_WEAK_VALUE
 from traces import Graph
 
 WAKES = {"new", "map", "wrap", "expose"}
@@ -29,12 +31,18 @@ class Snapshot:
 
     def __init__(self, model):
         self.edges = {name: self.edges_of(cell) for name, cell in model.cells.items()}
-        self.entries = defaultdict(list)
-        for (map_name, key), (map_cell, _, value) in model.entries.items():
-            entry = (map_name, key, value.name, model.zone_of(map_cell))
-            self.entries[map_name].append(entry)
-            self.entries[key].append(entry)
-        # Once wrapper keys are served, a closure has the key, too, where it has the map and the key's target.
+        # What a name leads to together with another one: map and key to the value, map and delegate to the key.
+        self.pairs = defaultdict(list)
+        self.keys = wrapper_keys(model)
+        for (map_name, key), (map_cell, key_cell, value) in model.entries.items():
+            zone = model.zone_of(map_cell)
+            self.add_pair(map_name, key, value.name, zone)
+            if key_cell.target:
+                self.add_pair(map_name, key_cell.target.name, key, zone)
+
+    def add_pair(self, one, other, both, zone):
+        self.pairs[one].append((other, both, zone))
+        self.pairs[other].append((one, both, zone))
 
     @staticmethod
     def edges_of(cell):
@@ -42,19 +50,26 @@ class Snapshot:
             return [cell.target.name]
         return [held.name for held in cell.fields if held]
 
-    def close(self, starts, zones=None):
-        """What these names reach. Entries count of maps of these zones, or of all."""
+    def close(self, starts, zones=None, delegates=NOTHING):
+        """What these names reach. Entries count of maps of these zones, or of all. These delegates count as reached,
+        and lead nowhere else."""
         found, work = set(starts), list(starts)
         while work:
             name = work.pop()
             reached = list(self.edges.get(name, ()))
-            for map_name, key, value, zone in self.entries.get(name, ()):
-                if map_name in found and key in found and (zones is None or zone in zones):
-                    reached.append(value)
+            for other, both, zone in self.pairs.get(name, ()):
+                is_delegate = other in delegates and both in self.keys and self.edges[both] == [other]
+                if (other in found or is_delegate) and (zones is None or zone in zones):
+                    reached.append(both)
             fresh = [other for other in reached if other not in found]
             found.update(fresh)
             work += fresh
         return found
+
+
+def wrapper_keys(model):
+    """The wrappers that are keys."""
+    return {key for (_, key), (_, cell, _) in model.entries.items() if cell.target}
 
 
 class World:
@@ -70,6 +85,7 @@ class World:
 
     def forget(self):
         self.zones, self.marking, self.woken = set(), set(), set()
+        self.model.preparing = set()
         self.settled_black, self.surely_black = set(), set()
         self.snapshot = self.black_starts = self.live_starts = None
         self.told, self.groups, self.components = [], [], set()
@@ -88,7 +104,11 @@ class World:
     def command(self, words, reply):
         if reply in REFUSALS:
             return
+        read = self.model.registers.get(words[2]) if words[0] in ("wrap", "unwrap") else None
         self.model.command(words, reply)
+        if read and self.model.preparing:
+            # The wrapper that is read may be of a zone whose colours count for nothing.
+            self.wake((read.target or read).name)
         woken = self.model.registers.get(words[1]) if len(words) > 1 else None
         if woken and (words[0] in WAKES or (words[0] == "find" and EXPOSED_KEY in self.rules)):
             self.wake(woken.name)
@@ -96,43 +116,64 @@ class World:
     def wake(self, name):
         if self.marking:
             self.woken.add(name)
-        elif name not in self.black:
-            self.black = Snapshot(self.model).close(self.black | {name}, self.maps_of(NOTHING))
+        elif name not in self.black and not self.model.is_prepared(self.model.cells[name]):
+            counted = self.model.without_prepared() if self.model.preparing else self.model
+            reached = Snapshot(counted).close(self.black | {name}, self.maps_of(NOTHING))
+            self.black = {other for other in reached if other in counted.cells}
 
     # Collections.
 
     def begin(self, zones):
-        self.zones, self.marking, self.is_running = zones, set(zones), True
-        model = self.model
+        self.zones, self.is_running = zones, True
+        self.model.preparing = set(zones)
+        self.black -= self.present(lambda zone: zone in zones)
+
+    def start(self):
+        zones, model = self.zones, self.model
+        self.marking, model.preparing = set(zones), set()
         held = {cell.name for cell in model.registers.values() if cell}
         outside = self.present(lambda zone: zone not in self.zones)
         self.snapshot = Snapshot(model)
         self.black_starts = held | (self.black & outside)
         self.live_starts = self.black_starts | {cell.name for cell in model.gray.values() if cell} | outside
-        self.components = components(zones, self.edges(self.snapshot.close(self.black_starts, self.maps_of(zones))))
+        self.components = components(zones, self.first_edges(NOTHING))
 
     def maps_of(self, zones):
         """The zones of the maps whose entries count where the engine looks at those of these zones alone; or all."""
         return zones if EXPOSED_KEY in self.rules else None
 
     def black_closure(self):
-        return self.snapshot.close(self.black_starts | self.woken | self.settled_black, self.maps_of(self.marking))
+        starts = self.black_starts | self.woken | self.settled_black
+        return self.snapshot.close(starts, self.maps_of(self.marking), self.delegates(self.rules))
+
+    def delegates(self, rules):
+        """What counts as black as a delegate, though it is not."""
+        return self.present(lambda zone: zone not in self.zones) if GRAY_DELEGATE in rules else NOTHING
 
     def live_closure(self):
         return self.snapshot.close(self.live_starts | self.woken)
 
-    def edges(self, black):
-        """The edges between zones of the collection: a wrapper leads from the first to a cell that is not black."""
+    def edges(self, black, keys, rules=NOTHING):
+        """The edges between zones of the collection: a wrapper leads from the first to a cell that is not black, and
+        back, if it is one of these keys."""
         found = set()
         for cell in self.model.wrappers.values():
             ends = self.model.zone_of(cell), self.model.zone_of(cell.target)
-            if ends[0] != ends[1] and set(ends) <= self.zones and cell.target.name not in black:
+            if ends[0] == ends[1] or not set(ends) <= self.zones:
+                continue
+            is_black = cell.target.name in black
+            if not is_black:
                 found.add(ends)
+            if cell.name in keys and (not is_black or KEY_EDGE in rules):
+                found.add(ends[::-1])
         return found
 
-    def first_edges(self):
-        maps = NOTHING if LARGER_GROUPS in self.rules else self.maps_of(self.zones)
-        return self.edges(self.snapshot.close(self.black_starts, maps))
+    def first_edges(self, rules):
+        maps = NOTHING if LARGER_GROUPS in rules else self.maps_of(self.zones)
+        black = self.snapshot.close(self.black_starts, maps, self.delegates(self.rules))
+        # The engine looks at the entries as they stand when it forms the groups.
+        keys = self.snapshot.keys | (wrapper_keys(self.model) if KEY_EDGE in rules else NOTHING)
+        return self.edges(black, keys, rules)
 
     def end(self, end):
         """Judges a group's end, and takes in what dies."""
@@ -161,7 +202,8 @@ class World:
         self.expect(f"outside at the end of {zones}", end.outside, others & (live - black))
         marked = self.present(lambda zone: zone in marking)
         # By then the engine has followed the entries of the maps of groups that have ended.
-        self.surely_black = self.snapshot.close(self.black_starts | self.woken | self.surely_black, end.zones)
+        starts = self.black_starts | self.woken | self.surely_black
+        self.surely_black = self.snapshot.close(starts, end.zones, self.delegates(self.rules))
         if LATE_WEAK_VALUE not in self.rules or not marked & self.surely_black <= end.marking_black <= black:
             self.expect(f"marking at the end of {zones}", end.marking_black, marked & black)
 
@@ -177,16 +219,17 @@ class World:
 
     def judge_group(self, group, later, black):
         """A group is strongly connected by first edges, and no edge leads into it from a zone that ends later."""
-        if not is_strong(group, self.first_edges()):
+        if not is_strong(group, self.first_edges(self.rules)):
             self.differences.append(f"groups: {sorted(group)} is not strongly connected")
-        for source, target in self.edges(black):
+        for source, target in self.edges(black, wrapper_keys(self.model)):
             if target in group and source in later:
                 self.differences.append(f"groups: zone {source} leads into {sorted(group)}, and ends later")
 
     def judge_components(self):
         """In one piece, the groups are the components. The engine's larger ones are unions of these."""
         found, wanted = set(self.groups), self.components
-        are_unions = LARGER_GROUPS in self.rules and all(any(each <= group for group in found) for each in wanted)
+        may_be_larger = LARGER_GROUPS in self.rules or KEY_EDGE in self.rules
+        are_unions = may_be_larger and all(any(each <= group for group in found) for each in wanted)
         if found != wanted and not are_unions:
             self.differences.append(f"groups: {sorted(map(sorted, found))} for {sorted(map(sorted, wanted))}")
 
@@ -195,6 +238,9 @@ class World:
             self.differences.append(f"done: zones {sorted(self.marking)} have not ended")
         self.is_running = False
         self.forget()
+
+    def is_settled(self):
+        return not self.marking and not self.model.preparing
 
     def gray(self):
         return set(self.model.cells) - self.black
@@ -236,7 +282,7 @@ def judge_line(world, words, answer):
         if wanted:
             world.expect("reply", answer.reply, wanted)
             return
-        world.begin(set(map(int, words[1:])))
+        world.begin({int(zone) for zone in words[1:]})
         in_one_piece = word == "collect"
         world.expect("reply", answer.reply, "collected" if in_one_piece else "gc ok")
         take_reports(world, answer, in_one_piece)
@@ -245,7 +291,7 @@ def judge_line(world, words, answer):
         take_reports(world, answer, False)
         if word == "finish" and world.is_running:
             world.differences.append("finish: the collection is not over")
-    elif word == "colours" and not world.marking:
+    elif word == "colours" and world.is_settled():
         world.expect("colours", names_of(answer.reply), world.gray())
     elif word == "colours":
         world.expect("reply", answer.reply, "marking")
@@ -260,6 +306,8 @@ def reply_to_begin(world, words):
 
 
 def take_reports(world, answer, in_one_piece):
+    if answer.is_started:
+        world.start()
     if answer.groups:
         world.form_groups(answer.groups)
     for end in answer.ends:

@@ -549,8 +549,7 @@ std::string Replay::refusal_of_entry(const std::vector<JSObject*>& map_key_value
       return "cross";
     }
   }
-  // gczone refuses wrappers as keys. Once it serves them, this line goes.
-  return registry_.cell_of(map_key_value[1]).kind == Kind::Wrapper ? "wrapper-key" : "";
+  return "";
 }
 
 void Replay::add(const Name& name, const Cell& cell) {

@@ -28,11 +28,13 @@ class End(NamedTuple):
 
 
 class Answer(NamedTuple):
-    """What is written for a line: its reply, and the reports before. The engine does not tell its groups at once."""
+    """What is written for a line: its reply, whether marking began with it, and the reports before. The engine does not
+    tell its groups at once."""
     reply: str
     groups: tuple = ()
     ends: tuple = ()
     is_done: bool = False
+    is_started: bool = False
 
 
 def build(target="replay"):
@@ -83,7 +85,7 @@ def answers_of_program(program, lines):
             elif line.startswith("ended "):
                 ends.append(End(*zones_and_gray(line), names(dead_after(reports, at))))
             at += 1
-        found.append(Answer(short(reply), groups, tuple(ends), "done" in own))
+        found.append(Answer(short(reply), groups, tuple(ends), "done" in own, "started" in own))
     return found
 
 
@@ -105,6 +107,7 @@ def answers_of_engine(lines, options=()):
         elif word == "finalizers:":
             raise Fault(f"the engine's {line}", 1)
         else:
-            found.append(Answer(short(line), (), tuple(ends), is_done))
+            # It goes on with `gc` until marking has begun.
+            found.append(Answer(short(line), (), tuple(ends), is_done, line in ("gc ok", "collected")))
             ends, is_done = [], False
     return found

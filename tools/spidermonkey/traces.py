@@ -19,8 +19,6 @@ READS = {
     "get": ((1,), "object"), "set": ((0, 2), "object"), "wrap": ((1,), None), "unwrap": ((1,), "wrapper"),
     "put": ((0, 1, 2), "map"), "del": ((0, 1), "map"), "find": ((1, 2), "map"),
 }
-# Wrappers are refused as keys. Once they are served, they are added here.
-KEYS = ("object", "map")
 ANY = ("object", "map", "wrapper")
 
 
@@ -36,8 +34,6 @@ def is_accepted(model, word, args):
         field = args[2] if word == "get" else args[1]
         if int(field) >= len(cells[0].fields):
             return False
-    if kind == "map" and cells[1].kind not in KEYS:
-        return False
     return word == "wrap" or all(cell.comp == cells[0].comp for cell in cells)
 
 
@@ -99,7 +95,7 @@ class Trace:
             return into, self.held("wrapper")
         if word in ("put", "find", "del"):
             found = self.held("map")
-            key = self.held(*KEYS, beside=found)
+            key = self.held(*ANY, beside=found)
             value = self.held(*ANY, beside=found)
             return {"put": (found, key, value), "find": (into, found, key), "del": (found, key)}[word]
         return {

@@ -156,7 +156,8 @@ class Trace:
         ["new r c n"] * 5 + ["map r c"] * 2 + ["get r r f"] * 4 + ["set r f r"] * 5 + ["wrap r r c"] * 2
         + ["put r r r"] * 2 + ["set r f -", "unwrap r r", "copy r r", "drop r", "hold g r", "release g", "expose r g"]
         + ["del r r"]
-        + ["find r r r", "slice s", "slice s", "slice s", "gc z", "collect z", "finish", "colours", "dump", "comp 2"]
+        + ["find r r r", "slice s", "slice s", "slice s", "gc z", "collect z", "finish", "reset", "colours", "dump"]
+        + ["comp 2"]
     )
 
     def __init__(self, seed):

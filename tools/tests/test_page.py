@@ -70,7 +70,7 @@ def random_lines(seed, count):
         "new r r c 2", "new r c 2", "map r c", "get r r f", "set r f r", "set r f r", "set r f -", "wrap r r c",
         "wrap r r c", "unwrap r r", "copy r r", "drop r", "drop r", "hold g r", "hold g r", "release g", "expose r g",
         "put r r r", "put r r r", "find r r r", "del r r", "gc Z", "slice u", "slice u", "slice u", "finish",
-        "collect Z",
+        "collect Z", "reset",
     )
     most = {"r": 5, "g": 4, "c": 5, "f": 2, "u": 12}
 
@@ -137,12 +137,12 @@ class WorldTest(unittest.TestCase):
                 recorder = self.check(random_lines(seed, 300))
                 changes = sum((step.changes for step in recorder.steps), [])
                 states |= {value for key, value in changes if re.fullmatch(r"s\d+", key)}
-        self.assertEqual(states, {"b", "g", "B", "G", "W", "d", ""})
+        self.assertEqual(states, {"b", "g", "p", "B", "G", "W", "d", ""})
 
     def test_the_colours_of_tools_why(self):
         """tools/why follows the definitions by itself, and for a line at a time."""
         why = load_script("why")
-        words_of = {"b": "black", "g": "gray", "B": "black", "G": "gray", "W": "white"}
+        words_of = {"b": "black", "g": "gray", "p": "not marked yet", "B": "black", "G": "gray", "W": "white"}
         for seed in range(20, 24):
             lines = random_lines(seed, 200)
             output = ask([*lines, "finish"])
@@ -166,10 +166,13 @@ class WorldTest(unittest.TestCase):
                 break
         self.assertEqual([shown[f"s{cell}"] for cell in range(4)], ["B"] * 4)
         lines = ["zone", "comp 0", "new r0 0 1", "new r1 0 0", "set r0 0 r1", "hold g0 r0", "drop r0", "drop r1"]
-        lines += ["new r2 0 0", "new r3 0 0", "drop r3", "gc 0", "new r4 0 0", "expose r5 g0"]
+        lines += ["new r2 0 0", "new r3 0 0", "drop r3", "gc 0", "slice 2", "new r4 0 0", "expose r5 g0"]
         recorder = record(lines, ask(lines))
         shown = {}
-        for step in recorder.steps[:-2]:
+        for step in recorder.steps[:-4]:
+            shown.update(step.changes)
+        self.assertEqual([shown[f"s{cell}"] for cell in range(4)], ["p"] * 4)
+        for step in recorder.steps[-4:-2]:
             shown.update(step.changes)
         self.assertEqual([shown[f"s{cell}"] for cell in range(4)], ["G", "G", "B", "W"])
         shown.update(recorder.steps[-2].changes)
@@ -513,6 +516,8 @@ class BrowserTest(unittest.TestCase):
 
     def test_a_reply_and_its_reason(self):
         self.open(read_lines("first"), step=8)
+        self.assertIn("Its marking began at line 8", self.text("collection"))
+        self.browser.press("ArrowRight")
         self.assertIn("zones end in this order", self.text("step"))
         self.browser.press("ArrowRight")
         self.assertIn("none is gray", self.text("step"))
@@ -522,6 +527,27 @@ class BrowserTest(unittest.TestCase):
         self.assertIn("no root reached 2", self.text("step"))
         self.assertIn("2: dead → its slot is free", self.text("step"))
 
+    def test_a_zone_that_is_prepared(self):
+        self.open(read_lines("prepared"), step=16)
+        self.assertIn("being prepared", self.text("heap"))
+        self.assertIn("Its zones are being prepared", self.text("collection"))
+        self.browser.value("findCell('1')")
+        self.assertIn("not marked yet", self.text("cell"))
+        self.assertIn("being prepared", self.text("times"))
+
+    def test_a_collection_that_is_given_up(self):
+        lines = read_lines("reset")
+        self.open(lines)
+        self.browser.press("End")
+        self.assertIn("No collection runs", self.text("collection"))
+        self.browser.value("goTo(lastStep.get(16))")
+        self.assertIn("No collection runs", self.text("collection"))
+
+    def test_a_key_lives_by_its_delegate(self):
+        self.open(read_lines("delegate"))
+        self.browser.value("goTo(lastStep.get(20)); findCell('0:1')")
+        self.assertIn("from a gray slot: g0 → 1 → 0:1 (behind its key in map 0)", self.text("cell"))
+
     def test_a_cell_and_its_way_from_a_root(self):
         self.open(read_lines("ends_before_another"), step=13)
         self.browser.click('[data-cell="1"]')
@@ -529,7 +555,7 @@ class BrowserTest(unittest.TestCase):
         self.assertIn("shortest way from a gray slot: g0 → 0 → 0:1 (its field) → 1 (its target)", self.text("cell"))
         self.assertIn("wrapper 0:1", self.text("cell"))
         self.assertEqual(self.browser.value('document.querySelectorAll("#heap .edge.path").length'), 2)
-        self.browser.value("goTo(19)")
+        self.browser.value("goTo(20)")
         self.assertIn("shortest way from a register: r0 → 0", self.text("cell"))
         self.browser.press("Escape")
         self.assertIn("Click on a cell", self.text("cell"))
@@ -610,7 +636,7 @@ class BrowserTest(unittest.TestCase):
     def test_the_picture(self):
         """A black cell is dark, a gray one is between, in a light and in a dark page."""
         for dark in (False, True):
-            self.open(read_lines("ephemeron"), step=22, dark=dark)
+            self.open(read_lines("ephemeron"), step=24, dark=dark)
             width, height, rows = self.browser.picture(800, 400)
             self.assertEqual((width, height), (800, 400))
             ground = sum(rows[3][3])

@@ -19,7 +19,7 @@ EXAMPLES = TOP / "examples"
 sys.dont_write_bytecode = True
 sys.path.insert(0, str(TOP / "tools"))
 from program import find_program  # noqa: E402 (the folder of tools is no package)
-from trace_model import FORMS, REFUSALS  # noqa: E402
+from trace_model import FORMS, REFUSALS, REPORTS  # noqa: E402
 
 SECONDS = 300
 START = ["zone", "comp 0", "new r0 0 1", "new r1 0 0", "set r0 0 r1"]
@@ -35,7 +35,7 @@ for line in sys.stdin:
     while True:
         told = program.stdout.readline()
         os.write(1, told)
-        if told.split()[0] not in (b"groups", b"ended", b"swept", b"done"):
+        if told.decode().split()[0] not in {reports}:
             break
 """
 
@@ -50,7 +50,7 @@ def run_prompt(*lines, words=(), data=None):
 def write_program(folder, ends):
     """A program that answers as gczone does until `finish`, which it does this at."""
     file = Path(folder) / "program"
-    file.write_text(DIES.format(program=find_program(), ends=ends))
+    file.write_text(DIES.format(program=find_program(), ends=ends, reports=REPORTS))
     file.chmod(0o755)
     return file
 
@@ -132,7 +132,14 @@ class PipeTest(unittest.TestCase):
 
     def test_draw_shows_the_heap(self):
         lines = ["zone", "comp 1", "wrap r2 r1 1", "hold g0 r0", "drop r0", "drop r1", "gc 0", "draw"]
-        self.assertEqual(self.after_start(*lines)[7:], [
+        self.assertEqual(self.after_start(*lines, "slice 2", "draw")[7:], [
+            "zone 0, being prepared, compartment 0",
+            "  0       object  not marked yet    [1]                 g0",
+            "  1       object  not marked yet    []",
+            "zone 1, compartment 1",
+            "  1:1     wrapper black             -> 1                r2",
+            "started",
+            "slice 2",
             "zone 0, marking, compartment 0",
             "  0       object  gray so far       [1]                 g0",
             "  1       object  sure to be black  []",

@@ -29,8 +29,9 @@ class Stats(unittest.TestCase):
             path.write_text("".join(line + "\n" for line in lines))
             return self.ask(path)
 
-    # The table of docs/COLLECTOR.md has a unit in each of its slices, and six in its `finish`. The `collect` behind
-    # them scans 0, 1 and 2, forms the groups, begins and ends zone 0, and takes in arena 0. It frees 3.
+    # The table of docs/EXAMPLES.md has three units in its first slice, one in the second, and six in its `finish`. The
+    # `collect` behind them clears arena 0, begins marking, scans 0, 1 and 2, forms the groups, begins and ends zone 0,
+    # and takes in arena 0. It frees 3.
     def test_three_slices(self):
         found = self.ask(EXAMPLES / "three_slices.trace")
         times, memory = found.pop("seconds"), found.pop("memory_bytes")
@@ -42,10 +43,10 @@ class Stats(unittest.TestCase):
             "lines": 25,
             "commands": {word: {"lines": count, "refused": 0} for word, count in counts.items()},
             "cells": {"made": 4, "objects": 4, "maps": 0, "wrappers": 0, "freed": 1, "left": 3},
-            "collections": {"begun": 2, "over": 2, "groups_ended": 2},
+            "collections": {"begun": 2, "over": 2, "given_up": 0, "groups_ended": 2},
             "units": {
-                "slice or finish": {"count": 3, "sum": 8, "p50": 1, "p99": 6, "longest": 6, "longest_line": 23},
-                "collect": {"count": 1, "sum": 7, "p50": 7, "p99": 7, "longest": 7, "longest_line": 25},
+                "slice or finish": {"count": 3, "sum": 10, "p50": 3, "p99": 6, "longest": 6, "longest_line": 23},
+                "collect": {"count": 1, "sum": 9, "p50": 9, "p99": 9, "longest": 9, "longest_line": 25},
             },
         })
         self.assertEqual(times["count"], 25)
@@ -56,18 +57,18 @@ class Stats(unittest.TestCase):
         status, output, _ = run_tool("stats", str(EXAMPLES / "three_slices.trace"))
         self.assertEqual(status, 0)
         self.assertIn("cells: 4 made (4 objects, 0 maps, 0 wrappers), 1 freed, 3 left\n", output)
-        self.assertIn("collections: 2 begun, 2 over, 2 groups ended\n", output)
-        self.assertIn("units a slice or finish: p50 1, p99 6, longest 6 (line 23), of 3\n", output)
+        self.assertIn("collections: 2 begun, 2 over, 0 given up, 2 groups ended\n", output)
+        self.assertIn("units a slice or finish: p50 3, p99 6, longest 6 (line 23), of 3\n", output)
         self.assertIn("  slice    2\n", output)
 
     # The wrapper 0:0 is made, freed by line 8 and made again. Line 8 ends one group, and line 11 two.
     def test_a_wrapper_that_is_made_again_counts_twice(self):
         found = self.ask(EXAMPLES / "wrapper_made_again.trace")
         self.assertEqual(found["cells"], {"made": 3, "objects": 1, "maps": 0, "wrappers": 2, "freed": 1, "left": 2})
-        self.assertEqual(found["collections"], {"begun": 2, "over": 2, "groups_ended": 3})
+        self.assertEqual(found["collections"], {"begun": 2, "over": 2, "given_up": 0, "groups_ended": 3})
 
     # The second `gc` and `collect` are refused while the first runs, and so is `slice` when it is over. The collection
-    # of an empty zone forms its group, begins it and ends it, and has no arena to take in.
+    # of an empty zone begins marking, forms its group, begins it and ends it, and has no arena to clear or to take in.
     def test_what_is_refused(self):
         found = self.ask_lines("zone", "gc 0", "gc 0", "collect 0", "finish", "slice 5", "collect 1", "map r0 0")
         self.assertEqual(found["commands"], {
@@ -75,16 +76,20 @@ class Stats(unittest.TestCase):
             "slice": {"lines": 1, "refused": 1}, "finish": {"lines": 1, "refused": 0},
             "collect": {"lines": 2, "refused": 2},
         })
-        self.assertEqual(found["collections"], {"begun": 1, "over": 1, "groups_ended": 1})
+        self.assertEqual(found["collections"], {"begun": 1, "over": 1, "given_up": 0, "groups_ended": 1})
         self.assertEqual(found["units"], {
-            "slice or finish": {"count": 1, "sum": 3, "p50": 3, "p99": 3, "longest": 3, "longest_line": 5},
+            "slice or finish": {"count": 1, "sum": 4, "p50": 4, "p99": 4, "longest": 4, "longest_line": 5},
             "collect": {"count": 0},
         })
 
     def test_a_collection_that_is_not_over(self):
         found = self.ask_lines("zone", "comp 0", "new r0 0 0", "map r1 0", "gc 0", "slice 1")
         self.assertEqual(found["cells"], {"made": 2, "objects": 1, "maps": 1, "wrappers": 0, "freed": 0, "left": 2})
-        self.assertEqual(found["collections"], {"begun": 1, "over": 0, "groups_ended": 0})
+        self.assertEqual(found["collections"], {"begun": 1, "over": 0, "given_up": 0, "groups_ended": 0})
+
+    def test_a_collection_that_is_given_up(self):
+        found = self.ask_lines("zone", "comp 0", "new r0 0 0", "gc 0", "reset", "collect 0", "reset")
+        self.assertEqual(found["collections"], {"begun": 2, "over": 1, "given_up": 1, "groups_ended": 1})
 
     def test_ranks(self):
         found = stats.ranks([(line, line % 200) for line in range(1, 401)])
@@ -95,7 +100,7 @@ class Stats(unittest.TestCase):
         self.assertEqual([stats.rank([5], part) for part in (50, 99)], [5, 5])
         self.assertEqual([stats.rank([5, 6, 7], part) for part in (50, 99)], [6, 7])
 
-    # Four pauses, of 1, 1, 6 and 7 units: the highest bar has the whole height, the others parts of it.
+    # Four pauses, of 3, 1, 6 and 9 units: the highest bar has the whole height, the others parts of it.
     def test_the_plot(self):
         with tempfile.TemporaryDirectory() as folder:
             plot = Path(folder) / "plot.svg"
@@ -104,11 +109,11 @@ class Stats(unittest.TestCase):
             root = ElementTree.parse(plot).getroot()
         bars = [rect for rect in root.iter("{http://www.w3.org/2000/svg}rect") if len(rect)]
         self.assertEqual([bar[0].text for bar in bars], [f"line {line}: {units} units" for line, units in (
-            (14, 1), (22, 1), (23, 6), (25, 7),
+            (14, 3), (22, 1), (23, 6), (25, 9),
         )])
         heights = [float(bar.get("height")) for bar in bars]
-        for height, units in zip(heights, (1, 1, 6, 7)):
-            self.assertAlmostEqual(height, 240 * units / 7, delta=0.1)
+        for height, units in zip(heights, (3, 1, 6, 9)):
+            self.assertAlmostEqual(height, 240 * units / 9, delta=0.1)
         self.assertEqual(len({bar.get("fill") for bar in bars}), 2)
 
     def test_a_plot_that_cannot_be_written(self):

@@ -22,6 +22,7 @@ from program import find_program  # noqa: E402
 from trace_model import Model, answers, replay, split_lines  # noqa: E402
 
 FIRST = str(EXAMPLES / "first.trace")
+FIRST_OUTPUT = str(EXAMPLES / "first.out")
 HEAP_LOG = str(EXAMPLES / "heap.log")
 # Each tool with words that it takes, {} in the place of what it reads, and whether that is a trace or a log.
 READERS = [
@@ -42,14 +43,15 @@ RUNNERS = [
     ("explain", [FIRST]), ("why", [FIRST, "5", "1"]), ("stats", [FIRST]), ("page", [FIRST]),
     ("page", ["--documents", "--check"]),
     ("check-heap-log", [HEAP_LOG]), ("check-piles", []), ("check-storms", ["--count", "1"]),
-    ("check-step", ["--collector", "true", "--seeds", "0"]),
+    ("check-step", ["--collector", "true", "--seeds", "0"]), ("judge", [FIRST, FIRST_OUTPUT]),
 ]
 # All scripts that one runs, with words that each needs before any other.
 WORDS = {
     **dict(RUNNERS), "heap-log": [HEAP_LOG], "prompt": [FIRST], "versus": ["1", "1"], "check-faults": [],
     "after-edit": [], "uses": ["replay"], "lint": [], "test": [], "prove": [], "build-unproved": [],
     "check-bindings": [], "spidermonkey/check-logs": [], "../bench/speed.py": [], "../bench/helpers.py": [],
-    "../bench/dumps.py": [], "../bench/engines.py": [], "../bench/calls.py": [],
+    "../bench/dumps.py": [], "../bench/engines.py": [], "../bench/calls.py": [], "../bench/latency.py": [],
+    "../bench/memory.py": [],
 }
 SHELL = ["find-program"]
 
@@ -338,15 +340,15 @@ class Steps(Tools):
 
     def test_the_least_trace_is_shown(self):
         # It loses wrappers among gray names. So one has to be gray, and each of these lines is needed for that: the
-        # register is emptied by the copy of an empty one.
+        # register that holds it gets a map.
         loses = self.collector("$program run | sed '/^gray/s/ [0-9]*:[0-9]*//g; /^gray$/s/$/ -/'")
-        least = ["zone", "comp 0", "comp 0", "new r6 0 1", "wrap r0 r6 1", "hold g3 r0", "copy r0 r7", "collect 0"]
+        least = ["zone", *["comp 0"] * 3, "new r5 0 1", "wrap r0 r5 1", "hold g3 r0", "map r0 2", "collect 0"]
         wanted = "".join(line + "\n" for line in [*least, "colours"]) + (
-            "check-step: seed 3: line 9, 'colours': the specification answers 'gray 1:0', the collector 'gray -'\n"
+            "check-step: seed 4: line 10, 'colours': the specification answers 'gray 1:0', the collector 'gray -'\n"
         )
-        for more in (["--seeds", "3"], ["--seeds", "0-9", "--jobs", "3"]):
+        for more in (["--seeds", "4"], ["--seeds", "0-9", "--jobs", "3"]):
             self.assertEqual(run_tool("check-step", "--collector", loses, "--slices", *more), (1, wanted, ""))
-        status, output, _ = run_tool("check-step", "--collector", loses, "--slices", "--seeds", "3", "--whole")
+        status, output, _ = run_tool("check-step", "--collector", loses, "--slices", "--seeds", "4", "--whole")
         self.assertEqual(status, 1)
         self.assertGreater(len(output.splitlines()), 61)
 

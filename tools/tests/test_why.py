@@ -111,28 +111,32 @@ class Why(unittest.TestCase):
         8 drop r1
         9 collect 0
         10 gc 0
-        11 expose r2 g0
-        12 drop r2
-        13 finish
-        14 collect 0
-        15 gc 0
-        16 finish
+        11 slice 2
+        12 expose r2 g0
+        13 drop r2
+        14 finish
+        15 collect 0
+        16 gc 0
+        17 slice 2
+        18 finish
     """)
 
-    # g0 holds 0, which leads to 1; both are gray after line 9. The exposure of line 11 is all that makes them black.
+    # g0 holds 0, which leads to 1; both are gray after line 9. The exposure of line 12 is all that makes them black.
     def test_a_cell_that_was_exposed_while_a_collection_ran(self):
-        texts = self.ask(self.EXPOSED, 12, "0")
-        self.check_has(texts, "line 11 (`expose r2 g0`) exposed it while the collection ran")
-        self.check_has(texts, "it is black only for that: only gray slots lead to it now")
-        texts = self.ask(self.EXPOSED, 12, "1")
-        self.check_has(texts, "line 11 (`expose r2 g0`) handed out 0 while the collection ran")
-        self.check_has(texts, "this led to it as that began:", "woken at line 11 0", "field 0 of 0 1")
+        texts = self.ask(self.EXPOSED, 10, "0")
+        self.check_has(texts, "colours are not settled: the collection of line 10 is being prepared, in these zones: 0")
+        texts = self.ask(self.EXPOSED, 13, "0")
+        self.check_has(texts, "line 12 (`expose r2 g0`) exposed it while the collection ran")
         self.check_has(texts, "it is black only for that: only gray slots lead to it now")
         texts = self.ask(self.EXPOSED, 13, "1")
-        self.check_has(texts, "it is black since line 13 (`finish`): the collection that began at line 10 found it so")
+        self.check_has(texts, "line 12 (`expose r2 g0`) handed out 0 while the collection ran")
+        self.check_has(texts, "this led to it as that began:", "woken at line 12 0", "field 0 of 0 1")
+        self.check_has(texts, "it is black only for that: only gray slots lead to it now")
+        texts = self.ask(self.EXPOSED, 14, "1")
+        self.check_has(texts, "it is black since line 14 (`finish`): the collection that began at line 10 found it so")
         self.check_has(texts, "the next collection of its zone that begins turns it gray, unless another zone keeps it")
-        self.assertEqual(self.ask(self.EXPOSED, 14, "1")[0], "object 1 is gray after line 14 (`collect 0`)")
-        texts = self.ask(self.EXPOSED, 15, "1")
+        self.assertEqual(self.ask(self.EXPOSED, 15, "1")[0], "object 1 is gray after line 15 (`collect 0`)")
+        texts = self.ask(self.EXPOSED, 17, "1")
         self.check_has(texts, "the collection keeps it, and finds it gray if no command turns it black")
 
     # Line 8 leaves 2 with nothing that leads to it, as lines 6 and 7 say of r1 and r0; it is born black.
@@ -146,13 +150,27 @@ class Why(unittest.TestCase):
             6 drop r1
             7 set r0 0 -
             8 gc 0
+            9 slice 2
         """)
         texts = self.ask(lines, 7, "1")
         self.assertEqual(texts[2], "no root leads to it since line 7 (`set r0 0 -`)")
         self.check_has(texts, "it is black since line 4 (`new r1 0 0`): a cell is born black")
-        texts = self.ask(lines, 8, "1")
+        texts = self.ask(lines, 9, "1")
         self.check_has(texts, "nothing led to it as that began: the collection frees it")
         self.check_has_not(texts, "frees it:")
+
+    # Map 0 in r0 and 1, which g0 holds, keep the wrapper 0:1, and so its value 2.
+    def test_a_key_that_its_delegate_keeps(self):
+        texts = self.example("delegate", 20, "2")
+        self.check_has(texts, "* key 0:1 of map 0 0:1", "* value of key 0:1 in map 0 2")
+        self.check_has(texts, "roots that lead to it: r0, g0")
+        self.assertEqual(texts[0], "object 2 is gray after line 20 (`collect 0`)")
+
+    # Line 16 gives the collection of zone 0 up, which holds 0 and the wrapper 0:1, and that leads to 1.
+    def test_a_cell_that_is_black_since_a_reset(self):
+        texts = self.example("reset", 17, "1")
+        self.check_has(texts, "it is black since line 16 (`reset`), which gave the collection up")
+        self.check_has(texts, "in a zone that was stopped 0:1", "target of 0:1 1")
 
     # r0 holds map 0, and g0 key 1. The value is as the weaker of the two, gray, and needs both roots and the entry.
     def test_the_value_of_a_weak_entry(self):
@@ -196,7 +214,7 @@ class Why(unittest.TestCase):
         self.assertEqual(texts, [
             "cell 2 is gone after line 12 (`colours`): it was made by line 6 (`new r1 0 0`)",
             "no root led to it after line 9 (`drop r1`)",
-            "line 11 (`slice 6`) frees it: group 0 ended, and nothing had reached it; its arena, 0, was swept by "
+            "line 11 (`slice 8`) frees it: group 0 ended, and nothing had reached it; its arena, 0, was swept by "
             "line 17 (`finish`)",
         ])
 
