@@ -23,6 +23,7 @@ Times are those of one machine. A collector that has no such cells has no number
 program is missing or fails.
 """
 
+import contextlib
 import fcntl
 import itertools
 import math
@@ -238,8 +239,10 @@ class Process:
     def end(self):
         self.child.kill()
         for stream in (self.child.stdin, self.child.stdout):
-            if stream:
-                stream.close()
+            # What is still held back for a program that ended cannot be sent.
+            with contextlib.suppress(BrokenPipeError):
+                if stream:
+                    stream.close()
         self.child.wait()
 
 

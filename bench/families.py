@@ -269,6 +269,33 @@ def entries(scale):
 
 
 @family
+def weak_zones(scale):
+    """64 zones with a map and a list of its keys each, and a gray wrapper into the next zone: 64 groups, four times;
+    then all is let go."""
+    yield from places(64)
+    yield "new r0 0 3"
+    yield "hold g0 r0"
+    for zone in range(64):
+        yield f"map r1 {zone}"
+        yield "set r0 0 r1"
+        yield f"new r2 {zone} 1"
+        for _ in range(int(3_000 * scale)):
+            yield from grow(2, comp=zone)
+            yield f"new r3 {zone} 0"
+            yield "put r1 r2 r3"
+        yield "set r0 1 r2"
+        if zone < 63:
+            yield f"new r4 {zone + 1} 3"
+            yield f"wrap r5 r4 {zone}"
+            yield "set r0 2 r5"
+            yield "copy r0 r4"
+    yield from drop_all()
+    yield from collect(4, 64)
+    yield "release g0"
+    yield from collect(1, 64)
+
+
+@family
 def slices(scale):
     """Slices of 100 units between writes and reads, over a heap of 200,000 cells in two zones."""
     draw = random.Random("slices").randrange

@@ -42,7 +42,7 @@ TRIES = 3
 # gczone sweeps by itself here, as the plain Rust does, which has no helpers.
 WITHOUT_HELPERS = [("--helpers", "0"), ()]
 MEGABYTE = 1 << 20
-COLLECTION_LINE = re.compile(rb"(groups|ended|swept|done|slice|collected|gray|idle|running|marking|gc ok)\b")
+COLLECTION_LINE = re.compile(rb"(started|groups|ended|swept|done|slice|collected|gray|idle|running|marking|gc ok)\b")
 
 
 def build_plain(folder):

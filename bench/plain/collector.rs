@@ -1,8 +1,10 @@
 //! The collector: barriers, marking, sweep groups and sweeping, by units.
 //!
-//! A unit is one small step: a cell is followed, an entry is looked at, a cell that waits is taken, a wrapper is
-//! looked at, a zone has its grouping step or begins, an arena is taken in, a group ends. docs/COLLECTOR.md tells what
-//! each does; `units` tells which comes first.
+//! A unit is one small step: an arena is cleared, a cell is followed, an entry is looked at, a cell that waits is
+//! taken, a wrapper is looked at, a zone has its grouping step or begins, an arena is taken in, a group ends.
+//! docs/COLLECTOR.md tells what each does; `units` tells which comes first.
+
+use std::ops::Range;
 
 use crate::groups::Search;
 use crate::heap::{By, Entry, Heap, MAP, NONE, Place, WRAPPER, arena_of, bit_of};
@@ -21,6 +23,10 @@ pub struct Collector {
     pub heap: Heap,
     /// The zones of the collection that runs; none when none runs.
     zones: u64,
+    /// Those that are being prepared: all of them until marking begins, and none then. Their bits mean nothing.
+    preparing: u64,
+    /// The arenas among which those that are still to be cleared lie.
+    uncleared: Range<usize>,
     /// Those that take black marks: they have not ended.
     marking: u64,
     /// Those of the current group that take gray marks.
@@ -53,6 +59,8 @@ impl Collector {
         Collector {
             heap: Heap::new(),
             zones: 0,
+            preparing: 0,
+            uncleared: 0..0,
             marking: 0,
             graying: 0,
             ungrouped: 0,
@@ -74,8 +82,9 @@ impl Collector {
         self.zones != 0
     }
 
-    pub fn is_marking(&self) -> bool {
-        self.marking != 0
+    /// Whether no zone is being prepared or marking.
+    pub fn is_settled(&self) -> bool {
+        self.preparing | self.marking == 0
     }
 
     /// Whether a walk may stand on an entry.
@@ -86,6 +95,10 @@ impl Collector {
     #[inline(always)]
     fn takes_black(&self, place: Place) -> bool {
         self.marking >> self.heap.zone_of(place) & 1 == 1
+    }
+
+    fn is_prepared(&self, place: Place) -> bool {
+        self.preparing >> self.heap.zone_of(place) & 1 == 1
     }
 
     // Barriers
@@ -133,11 +146,15 @@ impl Collector {
             if cell.is_key {
                 self.turn_values(By::Key, place);
             }
+            if cell.is_delegate {
+                self.turn_keys(place);
+            }
         }
     }
 
+    /// Turns a cell black, unless it is of a zone that is being prepared.
     fn turn(&mut self, place: Place) {
-        if self.heap.is_black(place) {
+        if self.heap.is_black(place) || self.is_prepared(place) {
             return;
         }
         if self.takes_black(place) {
@@ -148,11 +165,29 @@ impl Collector {
         }
     }
 
-    /// Turns the values of the entries whose map and key are black.
+    /// Turns the keys of the entries whose map and delegate are black, where this is the delegate.
+    fn turn_keys(&mut self, place: Place) {
+        for entry in self.heap.entries_of_delegate(place).to_vec() {
+            let found = self.heap.entries[entry as usize];
+            if found.value != NONE && self.heap.is_black(found.map) {
+                self.turn(found.key);
+            }
+        }
+    }
+
+    /// Turns the values of the entries whose map and key are black, and the keys of those whose map and delegate are.
     fn turn_values(&mut self, by: By, place: Place) {
         let mut entry = self.heap.first_entry(by, place);
         while entry != NONE {
             let found = self.heap.entries[entry as usize];
+            if let Some(delegate) = self.heap.delegate(&found)
+                && found.value != NONE
+                && self.heap.is_black(found.map)
+                && self.heap.is_black(delegate)
+                && !self.is_prepared(delegate)
+            {
+                self.turn(found.key);
+            }
             if found.value != NONE && self.heap.is_black(found.map) && self.heap.is_black(found.key) {
                 self.turn(found.value);
             }
@@ -162,21 +197,43 @@ impl Collector {
 
     // The beginning
 
-    /// Begins a collection: the zones turn white, the black starts are marked, and the gray ones wait.
+    /// Begins a collection: from now on its zones are being prepared.
     pub fn begin(&mut self, zones: u64) {
         self.zones = zones;
+        self.preparing = zones;
+        self.uncleared = 0..self.heap.arenas.len();
+        self.heap.born_white = zones;
+    }
+
+    /// Clears the bits of arenas that are still to be cleared.
+    fn clear_units(&mut self, limit: u64) -> u64 {
+        let mut done = 0;
+        while done < limit
+            && let Some(index) = self.uncleared.next()
+        {
+            let arena = &mut self.heap.arenas[index];
+            if self.preparing >> arena.zone & 1 == 1 {
+                (arena.black, arena.marked) = (0, 0);
+                done += 1;
+            }
+        }
+        done
+    }
+
+    /// Begins marking: the zones are white, the black starts are marked, and the gray ones wait.
+    fn start(&mut self, output: &mut Output) {
+        let zones = self.zones;
+        self.preparing = 0;
+        self.heap.born_white = 0;
         self.marking = zones;
         self.ungrouped = zones;
         self.search = Search::default();
         self.groups.clear();
         self.ended = 0;
         for zone in members(zones) {
-            for arena in &self.heap.zones[zone].arenas {
-                let arena = &mut self.heap.arenas[*arena as usize];
-                (arena.black, arena.marked) = (0, 0);
-            }
             self.heap.zones[zone].looked_at = 0;
         }
+        output.line("started");
         for register in 0..self.heap.registers.len() {
             let place = self.heap.registers[register];
             if place != NONE && self.takes_black(place) {
@@ -231,6 +288,13 @@ impl Collector {
 
     /// Does units of the first kind that has work: at least one, and at most `limit`.
     fn units(&mut self, limit: u64, output: &mut Output) -> u64 {
+        if self.preparing != 0 {
+            let done = self.clear_units(limit);
+            if done == 0 {
+                self.start(output);
+            }
+            return done.max(1);
+        }
         let done = self.black_units(limit);
         if done > 0 {
             return done;
@@ -245,7 +309,7 @@ impl Collector {
         let group = self.groups.get(self.ended).copied().unwrap_or(0);
         let waiting = group & !self.graying;
         if waiting != 0 {
-            self.graying |= lowest(waiting);
+            self.begin_gray(lowest(waiting));
             return 1;
         }
         let done = self.gray_units(limit);
@@ -297,8 +361,44 @@ impl Collector {
                 }
             }
         }
-        if self.heap.cell(place).is_key {
+        let cell = self.heap.cell(place);
+        let is_delegate = cell.is_delegate;
+        if cell.is_key {
             self.black_walks.extend(walk_of(&self.heap, By::Key, place));
+        }
+        if is_delegate {
+            self.raise_keys_of(place);
+        }
+    }
+
+    /// Each key that is a wrapper of this cell gets the lesser colour of its map and this one.
+    #[cold]
+    fn raise_keys_of(&mut self, place: Place) {
+        for entry in self.heap.entries_of_delegate(place).to_vec() {
+            self.raise_key(self.heap.entries[entry as usize]);
+        }
+    }
+
+    /// A key that is a wrapper gets the lesser colour of its map and of what it leads to.
+    #[inline(always)]
+    fn raise_key(&mut self, entry: Entry) {
+        if let Some(delegate) = self.heap.delegate(&entry) {
+            self.raise_key_by(entry, delegate);
+        }
+    }
+
+    #[cold]
+    fn raise_key_by(&mut self, entry: Entry, delegate: Place) {
+        if entry.value == NONE {
+            return;
+        }
+        if self.heap.is_black(entry.map) && self.heap.is_black(delegate) {
+            self.expose(entry.key);
+        } else if self.graying >> self.heap.zone_of(entry.map) & 1 == 1
+            && !self.heap.is_white(entry.map)
+            && !self.heap.is_white(delegate)
+        {
+            self.mark_gray(entry.key);
         }
     }
 
@@ -306,6 +406,7 @@ impl Collector {
     fn look_for_black(&mut self, walk: Walk) {
         let entry = self.heap.entries[walk.entry as usize];
         if entry.value != NONE {
+            self.raise_key(entry);
             if self.heap.is_black(entry.map) && self.heap.is_black(entry.key) {
                 self.mark_black(entry.value);
             } else if self.graying >> self.heap.zone_of(entry.map) & 1 == 1 {
@@ -327,6 +428,9 @@ impl Collector {
                 let to = self.heap.zone_of(target);
                 if to != zone && self.zones >> to & 1 == 1 && !self.heap.is_black(target) {
                     self.search.add_edge(zone, to);
+                    if self.heap.is_key_now(*wrapper) {
+                        self.search.add_edge(to, zone);
+                    }
                 }
             }
             done += (last - first) as u64;
@@ -349,6 +453,15 @@ impl Collector {
                 output.zones(*group);
             }
             output.end_line();
+        }
+    }
+
+    /// A zone of the current group begins its gray marking. What lies outside the collection is not followed then, so
+    /// the keys that it may keep are looked at now.
+    fn begin_gray(&mut self, zone: u64) {
+        self.graying |= zone;
+        for entry in self.heap.delegated_in(zone.trailing_zeros() as usize) {
+            self.raise_key(self.heap.entries[entry as usize]);
         }
     }
 
@@ -417,8 +530,13 @@ impl Collector {
                 }
             }
         }
-        if self.heap.cell(place).is_key {
+        let cell = self.heap.cell(place);
+        let is_delegate = cell.is_delegate;
+        if cell.is_key {
             self.gray_walks.extend(walk_of(&self.heap, By::Key, place));
+        }
+        if is_delegate {
+            self.raise_keys_of(place);
         }
     }
 
@@ -435,6 +553,7 @@ impl Collector {
     fn look_for_gray(&mut self, walk: Walk) {
         let entry = self.heap.entries[walk.entry as usize];
         if entry.value != NONE {
+            self.raise_key(entry);
             self.give_gray(entry);
         }
         self.gray_walks.extend(rest_of(&self.heap, walk));

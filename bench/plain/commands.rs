@@ -191,10 +191,7 @@ impl Collector {
         if map.kind != MAP {
             return Err("kind");
         }
-        if key.comp != map.comp || value.comp != map.comp {
-            return Err("cross");
-        }
-        if key.kind == WRAPPER { Err("wrapper-key") } else { Ok(()) }
+        if key.comp == map.comp && value.comp == map.comp { Ok(()) } else { Err("cross") }
     }
 
     fn put(&mut self, map: u8, key: u8, value: u8, output: &mut Output) -> Result<(), Refusal> {
@@ -271,7 +268,7 @@ impl Collector {
     }
 
     fn colours(&mut self, output: &mut Output) -> Result<(), Refusal> {
-        if self.is_marking() {
+        if !self.is_settled() {
             return Err("marking");
         }
         self.write_colours(output);

@@ -33,11 +33,14 @@ pub struct Cell {
     pub kind: u8,
     /// Whether an entry had this cell for its key.
     pub is_key: bool,
+    /// Whether an entry had a wrapper of this cell for its key.
+    pub is_delegate: bool,
     /// An object's fields; a wrapper's target in the first; the first entry of a map in the first.
     pub fields: [Place; OBJECT_LIMIT as usize],
 }
 
-const NO_CELL: Cell = Cell { number: 0, comp: 0, kind: 0, is_key: false, fields: [NONE; OBJECT_LIMIT as usize] };
+const NO_CELL: Cell =
+    Cell { number: 0, comp: 0, kind: 0, is_key: false, is_delegate: false, fields: [NONE; OBJECT_LIMIT as usize] };
 
 #[derive(Clone, Copy)]
 pub struct Arena {
@@ -122,6 +125,7 @@ impl Hasher for NumberHasher {
 }
 
 type NumberMap = HashMap<u64, u32, BuildHasherDefault<NumberHasher>>;
+type ListMap = HashMap<u64, Vec<u32>, BuildHasherDefault<NumberHasher>>;
 
 pub struct Heap {
     pub cells: Vec<Cell>,
@@ -131,6 +135,8 @@ pub struct Heap {
     pub registers: [Place; 16],
     pub slots: [Place; 64],
     pub made: u32,
+    /// The zones in which cells are born white.
+    pub born_white: u64,
     /// By compartment and number of the target.
     wrappers: NumberMap,
     /// By map and key.
@@ -141,6 +147,8 @@ pub struct Heap {
     removed: Vec<u32>,
     /// For each arena with keys the first entry of each.
     first_of_key: Vec<Option<Box<[u32; SLOTS]>>>,
+    /// The entries whose keys are wrappers, by what these lead to.
+    delegated: ListMap,
 }
 
 #[inline(always)]
@@ -167,12 +175,14 @@ impl Heap {
             registers: [NONE; 16],
             slots: [NONE; 64],
             made: 0,
+            born_white: 0,
             wrappers: NumberMap::default(),
             entry_of: NumberMap::default(),
             entries: Vec::new(),
             free_entry: NONE,
             removed: Vec::new(),
             first_of_key: Vec::new(),
+            delegated: ListMap::default(),
         }
     }
 
@@ -212,7 +222,7 @@ impl Heap {
         number
     }
 
-    /// Puts a black cell at the lowest free place of its zone.
+    /// Puts a cell at the lowest free place of its zone. It is black, where cells are not born white.
     #[inline(always)]
     pub fn add_cell(&mut self, comp: u8, kind: u8, number: u32) -> Place {
         let zone = self.comps[usize::from(comp)];
@@ -224,7 +234,7 @@ impl Heap {
         let arena = &mut self.arenas[number_of_arena as usize];
         let slot = arena.used.trailing_ones();
         arena.used |= 1 << slot;
-        arena.black |= 1 << slot;
+        arena.black |= (!self.born_white >> zone & 1) << slot;
         if arena.used == u64::MAX {
             self.zones[usize::from(zone)].free.remove(arena.index as usize);
         }
@@ -324,6 +334,36 @@ impl Heap {
         }
     }
 
+    /// Whether an entry has this cell for its key.
+    pub fn is_key_now(&self, place: Place) -> bool {
+        let mut entry = if self.cell(place).is_key { self.first_entry(By::Key, place) } else { NONE };
+        while entry != NONE && self.entries[entry as usize].value == NONE {
+            entry = self.entry_after(By::Key, entry);
+        }
+        entry != NONE
+    }
+
+    /// What the key of an entry leads to, when it is a wrapper.
+    #[inline(always)]
+    pub fn delegate(&self, entry: &Entry) -> Option<Place> {
+        if self.delegated.is_empty() {
+            return None;
+        }
+        let key = self.cell(entry.key);
+        (key.kind == WRAPPER).then_some(key.fields[0])
+    }
+
+    /// The entries whose keys are wrappers of a cell.
+    pub fn entries_of_delegate(&self, place: Place) -> &[u32] {
+        self.delegated.get(&u64::from(place)).map_or(&[], Vec::as_slice)
+    }
+
+    /// The entries of the maps of a zone whose keys are wrappers.
+    pub fn delegated_in(&self, zone: usize) -> Vec<u32> {
+        let all = self.delegated.values().flatten().copied();
+        all.filter(|entry| self.zone_of(self.entries[*entry as usize].map) == zone).collect()
+    }
+
     pub fn entry_after(&self, by: By, entry: u32) -> u32 {
         self.entries[entry as usize].links[by as usize].after
     }
@@ -376,6 +416,11 @@ impl Heap {
         self.link(By::Map, map, entry);
         self.link(By::Key, key, entry);
         self.cells[key as usize].is_key = true;
+        let Cell { kind, fields: [delegate, ..], .. } = self.cells[key as usize];
+        if kind == WRAPPER {
+            self.cells[delegate as usize].is_delegate = true;
+            self.delegated.entry(u64::from(delegate)).or_default().push(entry);
+        }
         self.entry_of.insert(pair(map, key), entry);
         let zone = self.zone_of(map);
         self.zones[zone].entries += 1;
@@ -397,8 +442,21 @@ impl Heap {
             let Entry { map, key, .. } = self.entries[entry as usize];
             self.unlink(By::Map, map, entry);
             self.unlink(By::Key, key, entry);
+            self.forget_delegate(key, entry);
             self.entries[entry as usize].links[By::Map as usize].after = self.free_entry;
             self.free_entry = entry;
+        }
+    }
+
+    fn forget_delegate(&mut self, key: Place, entry: u32) {
+        let Cell { kind, fields: [delegate, ..], .. } = self.cells[key as usize];
+        if kind == WRAPPER
+            && let Some(listed) = self.delegated.get_mut(&u64::from(delegate))
+        {
+            listed.retain(|other| *other != entry);
+            if listed.is_empty() {
+                self.delegated.remove(&u64::from(delegate));
+            }
         }
     }
 
