@@ -14,7 +14,7 @@ from pathlib import Path
 from checks import Check, Outcome
 
 EXAMPLES = Path(__file__).resolve().parent
-REPORTS = (b"groups ", b"ended ", b"swept ", b"done")
+REPORTS = (b"started", b"groups ", b"ended ", b"swept ", b"done", b"stopped ")
 WRITE_FAILED = (5, b"gczone: write failed\n")
 WORDS = ("", "walk", "run walk", "check walk", "run --helpers 5", "storm 1", "storm 1 0", "--help")
 SECONDS = 120
