@@ -18,7 +18,7 @@ use Rattle.gz_names.specs.Zones.{zones_in}
 use Rattle.colour_defs.specs.declared.graph.Object.{Object}
 use Rattle.colour_defs.specs.Graph.{GraphState, comp_of_object, zone_of, zone_of_comp}
 use Rattle.colour_defs.specs.Ends.{IsLawfulEnd, IsWhiteOf}
-use Rattle.colour_defs.specs.Lawful.{Beginning, by_units, at_once, Begins, BeginsBy, Prepares, IsLawfulReport}
+use Rattle.colour_defs.specs.Lawful.{Begins, Prepares, IsLawfulReport}
 use Rattle.colour_defs.specs.Lawful.{IsLawfulSweep, IsLawfulUnit}
 use Rattle.colour_defs.specs.Lawful.{quiet, says, last, AreLawfulUnits}
 use Rattle.colour_defs.specs.Laws.{HasSomeZone, IsValid}
@@ -238,7 +238,7 @@ still_accounts w v given freed graph places owner out white a =
     }) (ap (λ (g : GraphState). length g.objects) graph) a
 
 -- a collection begins
-prepares_accounts : (w : World) (zones : List ℕ) (v : World) (given : ℕ) (freed : List Name) → Prepares w zones v
+pub prepares_accounts : (w : World) (zones : List ℕ) (v : World) (given : ℕ) (freed : List Name) → Prepares w zones v
     → IsAccounted w given freed → IsAccounted v given freed
 prepares_accounts w zones v given freed h a =
     still_accounts w v given freed (ap (λ (u : World). u.graph) h.world_is) (ap (λ (u : World). u.places) h.world_is)
@@ -251,13 +251,6 @@ begins_accounts w zones v given freed h a =
     still_accounts w v given freed (ap (λ (u : World). u.graph) h.world_is) (ap (λ (u : World). u.places) h.world_is)
     (ap (λ (u : World). u.owner) h.world_is) (ap (λ (u : World). u.out) h.world_is)
     (ap (λ (u : World). u.white) h.world_is) a
-
-pub beginning_accounts : (how : Beginning) (w : World) (zones : List ℕ) (v : World) (given : ℕ) (freed : List Name)
-    → BeginsBy how w zones v → IsAccounted w given freed → IsAccounted v given freed
-beginning_accounts by_units w zones v given freed h a = prepares_accounts w zones v given freed h a
-beginning_accounts at_once w zones v given freed h a =
-    begins_accounts h.between zones v given freed h.begins
-    (prepares_accounts w zones h.between given freed h.prepares a)
 
 -- the end of a group
 ends_accounts : (w : World) (k : Collection) (group : List ℕ) (rest : List (List ℕ)) (grays : List Name) (v : World)

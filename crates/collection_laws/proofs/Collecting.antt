@@ -13,15 +13,14 @@ use Rattle.colour_defs.specs.Graph.{GraphState, IsInZones}
 use Rattle.colour_defs.specs.Closure.{Closure, from, along, weak, delegate}
 use Rattle.colour_defs.specs.World.{Has, World, Preparation, Collection, IsPresent, IsIdle}
 use Rattle.colour_defs.specs.World.{first_world, marking_of, first_preparation}
-use Rattle.colour_defs.specs.Lawful.{Beginning, by_units, at_once, Prepares, BeginsBy, Collects, RunBy}
+use Rattle.colour_defs.specs.Lawful.{Prepares, Collects, Run}
 use Rattle.colour_defs.specs.Lawful.{IsRunning, IsLawfulReport, IsLawfulUnit, quiet, says, last, AreLawfulUnits}
 use Rattle.colour_defs.specs.Lawful.{Finishes, with_sweep}
 use Rattle.colour_defs.specs.Laws.{IsClosed, IsValid}
 use Rattle.colour_defs.proofs.Lists.{decided, nothing_in_none}
 use Rattle.colour_defs.proofs.Membership.{in_zone, zone_in}
 use Rattle.colour_defs.proofs.Carried.{made_zone, present_closed, reached_more}
-use Rattle.colour_defs.proofs.ValidReports.{no_marking, report_valid, unit_valid}
-use Rattle.colour_defs.proofs.ValidRuns.{beginning_valid}
+use Rattle.colour_defs.proofs.ValidReports.{no_marking, prepare_valid, report_valid, unit_valid}
 use Rattle.colour_defs.proofs.LawsOfRuns.{lawful_valid}
 use Rattle.collection_laws.specs.Collected.{AreAllZones, IsCollected, IsUsed, IsKept}
 use Rattle.collection_laws.proofs.Graphs.{begins_graph, units_graph}
@@ -183,32 +182,28 @@ ready_for w zones v ok made named p =
     } in
     subst (λ (z : World). IsReady z zones) (sym p.world_is) ready
 
-begun : (how : Beginning) (w : World) (zones : List ℕ) (v : World) → IsValid w → CompsAreMade w.graph
-    → AreAllZones w.graph zones → BeginsBy how w zones v → Phase v
-begun by_units w zones v ok made named p =
+begun : (w : World) (zones : List ℕ) (v : World) → IsValid w → CompsAreMade w.graph
+    → AreAllZones w.graph zones → Prepares w zones v → Phase v
+begun w zones v ok made named p =
     preparing (first_preparation w zones) (ap (λ (u : World). u.preparing) p.world_is)
     (ap (λ (u : World). u.collection) p.world_is ∙ p.idle.none_running) (ready_for w zones v ok made named p)
-begun at_once w zones v ok made named h =
-    collecting h.begins.collection
-    (begins_fresh h.between zones v (ready_for w zones h.between ok made named h.prepares) h.begins)
-    (ap (λ (u : World). u.preparing) h.begins.world_is)
 
-pub collected : (how : Beginning) (w : World) (zones : List ℕ) (reports : List Report) (v : World) → IsValid w
-    → CompsAreMade w.graph → AreAllZones w.graph zones → Collects how w zones reports v → IsCollected v
-collected how w zones reports v ok made named c =
-    units_on c.begun c.units v (beginning_valid how w zones c.begun ok c.begins)
-    (begun how w zones c.begun ok made named c.begins) c.done c.over
+pub collected : (w : World) (zones : List ℕ) (reports : List Report) (v : World) → IsValid w
+    → CompsAreMade w.graph → AreAllZones w.graph zones → Collects w zones reports v → IsCollected v
+collected w zones reports v ok made named c =
+    units_on c.begun c.units v (prepare_valid w zones c.begun ok c.begins)
+    (begun w zones c.begun ok made named c.begins) c.done c.over
 
-pub collects_graph : (how : Beginning) (w : World) (zones : List ℕ) (reports : List Report) (v : World)
-    → Collects how w zones reports v → v.graph ≡ w.graph
-collects_graph how w zones reports v c =
-    units_graph c.begun c.units v c.done ∙ begins_graph how w zones c.begun c.begins
+pub collects_graph : (w : World) (zones : List ℕ) (reports : List Report) (v : World)
+    → Collects w zones reports v → v.graph ≡ w.graph
+collects_graph w zones reports v c =
+    units_graph c.begun c.units v c.done ∙ begins_graph w zones c.begun c.begins
 
-pub collected_in_run : (how : Beginning) (cs : List Cmd) (answers : List (List Report × Reply)) (w v : World)
-    (zones : List ℕ) (reports : List Report) → RunBy how first_world cs answers w → AreAllZones w.graph zones
-    → Collects how w zones reports v → IsCollected v × (v.graph ≡ w.graph)
-collected_in_run how cs answers w v zones reports run named c = (
-  collected how w zones reports v (lawful_valid how cs answers w run)
-      (run_made how first_world cs answers w none_made run) named c,
-  collects_graph how w zones reports v c,
+pub collected_in_run : (cs : List Cmd) (answers : List (List Report × Reply)) (w v : World)
+    (zones : List ℕ) (reports : List Report) → Run first_world cs answers w → AreAllZones w.graph zones
+    → Collects w zones reports v → IsCollected v × (v.graph ≡ w.graph)
+collected_in_run cs answers w v zones reports run named c = (
+  collected w zones reports v (lawful_valid cs answers w run)
+      (run_made first_world cs answers w none_made run) named c,
+  collects_graph w zones reports v c,
 )

@@ -22,7 +22,7 @@ use Rattle.colour_defs.specs.Step.{step_of, refusal_in, with_register}
 use Rattle.colour_defs.specs.World.{World, Preparation, Collection, Accepts, AcceptsPreparing, AcceptsIn}
 use Rattle.colour_defs.specs.World.{AcceptsUnless, CommandInWorld, with_counts, woken_by, also_woken_by}
 use Rattle.colour_defs.specs.WeakRefs.{WeakInWorld, weak_cell, watch_cell, unwatch_cell, with_read, without_watched}
-use Rattle.colour_defs.specs.Lawful.{Beginning, by_units, at_once, BeginsBy, AnswersBy, RunBy, IsLawfulReport}
+use Rattle.colour_defs.specs.Lawful.{Prepares, Answers, Run, IsLawfulReport}
 use Rattle.colour_defs.specs.Lawful.{IsLawfulUnit, quiet, says, last, AreLawfulUnits, AreLawfulSweeps, LastOfReset}
 use Rattle.colour_defs.specs.Lawful.{RefusesToBegin, RefusesIdle, Slices}
 use Rattle.colour_defs.specs.Laws.{IsNoWeakCmd}
@@ -93,11 +93,8 @@ reset_graph w (Swept arena freed) v h = absurd h
 reset_graph w Done v h = ap (λ (u : World). u.graph) h.world_is
 reset_graph w (Stopped zones) v h = ap (λ (u : World). u.graph) h.world_is
 
-pub begins_graph : (how : Beginning) (w : World) (zones : List ℕ) (v : World) → BeginsBy how w zones v
-    → v.graph ≡ w.graph
-begins_graph by_units w zones v h = ap (λ (u : World). u.graph) h.world_is
-begins_graph at_once w zones v h =
-    ap (λ (u : World). u.graph) h.begins.world_is ∙ ap (λ (u : World). u.graph) h.prepares.world_is
+pub begins_graph : (w : World) (zones : List ℕ) (v : World) → Prepares w zones v → v.graph ≡ w.graph
+begins_graph w zones v h = ap (λ (u : World). u.graph) h.world_is
 
 slices_graph : (w : World) (reports : List Report) (n : ℕ) (v : World) → Slices w reports n v → v.graph ≡ w.graph
 slices_graph w reports n v h =
@@ -113,28 +110,28 @@ idle_graph : (w : World) (reports : List Report) (answer : Reply) (v : World) �
 idle_graph w reports answer v h = ap (λ (u : World). u.graph) h.2.same
 
 -- an answer to a command that is no weak one
-pub answer_graph : (how : Beginning) (w : World) (c : Cmd) (reports : List Report) (answer : Reply) (v : World)
-    → IsNoWeakCmd c → AnswersBy how w c reports answer v → v.graph ≡ graph_by w.graph c
-answer_graph how w (Graph c) reports answer v strong h = command_graph w c answer v h.1
-answer_graph how w (Weak c) reports answer v strong h = absurd (strong c refl)
-answer_graph how w (Gc zones) reports answer v strong (inl h) = begins_graph how w (zones_in zones) v h.2
-answer_graph how w (Gc zones) reports answer v strong (inr h) = refused_graph w (zones_in zones) reports answer v h
-answer_graph how w (Slice n) reports answer v strong (inl h) = slices_graph w reports h.0 v h.2
-answer_graph how w (Slice n) reports answer v strong (inr h) = idle_graph w reports answer v h
-answer_graph how w Finish reports answer v strong (inl h) = slices_graph w reports h.0 v h.2
-answer_graph how w Finish reports answer v strong (inr h) = idle_graph w reports answer v h
-answer_graph how w (Collect zones) reports answer v strong (inl h) =
-    units_graph h.1.begun h.1.units v h.1.done ∙ begins_graph how w (zones_in zones) h.1.begun h.1.begins
-answer_graph how w (Collect zones) reports answer v strong (inr h) = refused_graph w (zones_in zones) reports answer v h
-answer_graph how w Reset reports answer v strong (inl h) =
+pub answer_graph : (w : World) (c : Cmd) (reports : List Report) (answer : Reply) (v : World)
+    → IsNoWeakCmd c → Answers w c reports answer v → v.graph ≡ graph_by w.graph c
+answer_graph w (Graph c) reports answer v strong h = command_graph w c answer v h.1
+answer_graph w (Weak c) reports answer v strong h = absurd (strong c refl)
+answer_graph w (Gc zones) reports answer v strong (inl h) = begins_graph w (zones_in zones) v h.2
+answer_graph w (Gc zones) reports answer v strong (inr h) = refused_graph w (zones_in zones) reports answer v h
+answer_graph w (Slice n) reports answer v strong (inl h) = slices_graph w reports h.0 v h.2
+answer_graph w (Slice n) reports answer v strong (inr h) = idle_graph w reports answer v h
+answer_graph w Finish reports answer v strong (inl h) = slices_graph w reports h.0 v h.2
+answer_graph w Finish reports answer v strong (inr h) = idle_graph w reports answer v h
+answer_graph w (Collect zones) reports answer v strong (inl h) =
+    units_graph h.1.begun h.1.units v h.1.done ∙ begins_graph w (zones_in zones) h.1.begun h.1.begins
+answer_graph w (Collect zones) reports answer v strong (inr h) = refused_graph w (zones_in zones) reports answer v h
+answer_graph w Reset reports answer v strong (inl h) =
     reset_graph h.1.after h.1.final v h.1.ends ∙ sweeps_graph w h.1.sweeps h.1.after h.1.swept
-answer_graph how w Reset reports answer v strong (inr h) = idle_graph w reports answer v h
-answer_graph how w Colours reports answer v strong (inl h) = ap (λ (u : World). u.graph) h.4.same
-answer_graph how w Colours reports answer v strong (inr h) = ap (λ (u : World). u.graph) h.2.same
-answer_graph how w Dump reports answer v strong (inl h) = ap (λ (u : World). u.graph) h.4.same
-answer_graph how w Dump reports answer v strong (inr h) = ap (λ (u : World). u.graph) h.2.same
-answer_graph how w (Compact zone) reports answer v strong (inl h) = ap (λ (u : World). u.graph) h.4.world_is
-answer_graph how w (Compact zone) reports answer v strong (inr h) = refused_graph w (zone ∷ []) reports answer v h
+answer_graph w Reset reports answer v strong (inr h) = idle_graph w reports answer v h
+answer_graph w Colours reports answer v strong (inl h) = ap (λ (u : World). u.graph) h.4.same
+answer_graph w Colours reports answer v strong (inr h) = ap (λ (u : World). u.graph) h.2.same
+answer_graph w Dump reports answer v strong (inl h) = ap (λ (u : World). u.graph) h.4.same
+answer_graph w Dump reports answer v strong (inr h) = ap (λ (u : World). u.graph) h.2.same
+answer_graph w (Compact zone) reports answer v strong (inl h) = ap (λ (u : World). u.graph) h.4.world_is
+answer_graph w (Compact zone) reports answer v strong (inr h) = refused_graph w (zone ∷ []) reports answer v h
 
 -- a weak command keeps the zones and the compartments
 pub weak_zones : (w : World) (c : WeakCmd) (answer : Reply) (v : World) → WeakInWorld w c answer v
@@ -165,11 +162,11 @@ weak_zones w (Unwatch r) answer v h = go (register_cell w.graph r) h.1
     go (Some x) e = by x (set.contains w.weak.watched x) e
 
 -- a run without weak commands
-pub run_graph : (how : Beginning) (w : World) (cs : List Cmd) (answers : List (List Report × Reply)) (v : World)
-    → All IsNoWeakCmd cs → RunBy how w cs answers v → v.graph ≡ graph_after w.graph cs
-run_graph how w [] [] v all h = ap (λ (u : World). u.graph) h
-run_graph how w (c ∷ cs) (a ∷ answers) v all (u, first, rest) =
-    run_graph how u cs answers v (All-tail IsNoWeakCmd c cs all) rest
-    ∙ ap (λ g. graph_after g cs) (answer_graph how w c a.0 a.1 u (All-head IsNoWeakCmd c cs all) first)
-run_graph how w [] (a ∷ answers) v all h = absurd h
-run_graph how w (c ∷ cs) [] v all h = absurd h
+pub run_graph : (w : World) (cs : List Cmd) (answers : List (List Report × Reply)) (v : World)
+    → All IsNoWeakCmd cs → Run w cs answers v → v.graph ≡ graph_after w.graph cs
+run_graph w [] [] v all h = ap (λ (u : World). u.graph) h
+run_graph w (c ∷ cs) (a ∷ answers) v all (u, first, rest) =
+    run_graph u cs answers v (All-tail IsNoWeakCmd c cs all) rest
+    ∙ ap (λ g. graph_after g cs) (answer_graph w c a.0 a.1 u (All-head IsNoWeakCmd c cs all) first)
+run_graph w [] (a ∷ answers) v all h = absurd h
+run_graph w (c ∷ cs) [] v all h = absurd h

@@ -24,7 +24,7 @@ use Rattle.colour_defs.specs.Step.{set_in, value_to_set, fits_comp, wrap_from, u
 use Rattle.colour_defs.specs.Step.{is_in_comp, put_from, put_unless, del_from, del_unless, del_value, find_from}
 use Rattle.colour_defs.specs.Step.{find_unless, entry_refusal}
 use Rattle.colour_defs.specs.World.{World, first_world}
-use Rattle.colour_defs.specs.Lawful.{Beginning, AnswersBy, RunBy}
+use Rattle.colour_defs.specs.Lawful.{Answers, Run}
 use Rattle.colour_defs.proofs.Lists.{choose, contains_at, nothing_in_none}
 use Rattle.collection_laws.specs.Graphs.{MakesNoZone, graph_after, graph_by}
 use Rattle.collection_laws.proofs.Graphs.{answer_graph, weak_zones}
@@ -197,37 +197,37 @@ step_made g (cmd.Find r m k) ok = unless_made g (cmd.Find r m k) tt ok
 made_by : (g h : GraphState) → h ≡ g → CompsAreMade g → CompsAreMade h
 made_by g h e ok = subst CompsAreMade (sym e) ok
 
-answer_made : (how : Beginning) (w : World) (c : Cmd) (reports : List Report) (answer : Reply) (v : World)
-    → CompsAreMade w.graph → AnswersBy how w c reports answer v → CompsAreMade v.graph
-answer_made how w (Graph c) reports answer v ok h =
-    made_by (step_of w.graph c).0 v.graph (answer_graph how w (Graph c) reports answer v (λ k e. cc e) h)
+answer_made : (w : World) (c : Cmd) (reports : List Report) (answer : Reply) (v : World)
+    → CompsAreMade w.graph → Answers w c reports answer v → CompsAreMade v.graph
+answer_made w (Graph c) reports answer v ok h =
+    made_by (step_of w.graph c).0 v.graph (answer_graph w (Graph c) reports answer v (λ k e. cc e) h)
     (step_made w.graph c ok)
-answer_made how w (Weak c) reports answer v ok h =
+answer_made w (Weak c) reports answer v ok h =
     same_made w.graph v.graph (weak_zones w c answer v h.1) ok
-answer_made how w (Gc zones) reports answer v ok h =
-    made_by w.graph v.graph (answer_graph how w (Gc zones) reports answer v (λ k e. cc e) h) ok
-answer_made how w (Slice n) reports answer v ok h =
-    made_by w.graph v.graph (answer_graph how w (Slice n) reports answer v (λ k e. cc e) h) ok
-answer_made how w Finish reports answer v ok h =
-    made_by w.graph v.graph (answer_graph how w Finish reports answer v (λ k e. cc e) h) ok
-answer_made how w (Collect zones) reports answer v ok h =
-    made_by w.graph v.graph (answer_graph how w (Collect zones) reports answer v (λ k e. cc e) h) ok
-answer_made how w Reset reports answer v ok h =
-    made_by w.graph v.graph (answer_graph how w Reset reports answer v (λ k e. cc e) h) ok
-answer_made how w Colours reports answer v ok h =
-    made_by w.graph v.graph (answer_graph how w Colours reports answer v (λ k e. cc e) h) ok
-answer_made how w Dump reports answer v ok h =
-    made_by w.graph v.graph (answer_graph how w Dump reports answer v (λ k e. cc e) h) ok
-answer_made how w (Compact zone) reports answer v ok h =
-    made_by w.graph v.graph (answer_graph how w (Compact zone) reports answer v (λ k e. cc e) h) ok
+answer_made w (Gc zones) reports answer v ok h =
+    made_by w.graph v.graph (answer_graph w (Gc zones) reports answer v (λ k e. cc e) h) ok
+answer_made w (Slice n) reports answer v ok h =
+    made_by w.graph v.graph (answer_graph w (Slice n) reports answer v (λ k e. cc e) h) ok
+answer_made w Finish reports answer v ok h =
+    made_by w.graph v.graph (answer_graph w Finish reports answer v (λ k e. cc e) h) ok
+answer_made w (Collect zones) reports answer v ok h =
+    made_by w.graph v.graph (answer_graph w (Collect zones) reports answer v (λ k e. cc e) h) ok
+answer_made w Reset reports answer v ok h =
+    made_by w.graph v.graph (answer_graph w Reset reports answer v (λ k e. cc e) h) ok
+answer_made w Colours reports answer v ok h =
+    made_by w.graph v.graph (answer_graph w Colours reports answer v (λ k e. cc e) h) ok
+answer_made w Dump reports answer v ok h =
+    made_by w.graph v.graph (answer_graph w Dump reports answer v (λ k e. cc e) h) ok
+answer_made w (Compact zone) reports answer v ok h =
+    made_by w.graph v.graph (answer_graph w (Compact zone) reports answer v (λ k e. cc e) h) ok
 
-pub run_made : (how : Beginning) (w : World) (cs : List Cmd) (answers : List (List Report × Reply)) (v : World)
-    → CompsAreMade w.graph → RunBy how w cs answers v → CompsAreMade v.graph
-run_made how w [] [] v ok h = made_by w.graph v.graph (ap (λ (u : World). u.graph) h) ok
-run_made how w (c ∷ cs) (a ∷ answers) v ok (u, first, rest) =
-    run_made how u cs answers v (answer_made how w c a.0 a.1 u ok first) rest
-run_made how w [] (a ∷ answers) v ok h = absurd h
-run_made how w (c ∷ cs) [] v ok h = absurd h
+pub run_made : (w : World) (cs : List Cmd) (answers : List (List Report × Reply)) (v : World)
+    → CompsAreMade w.graph → Run w cs answers v → CompsAreMade v.graph
+run_made w [] [] v ok h = made_by w.graph v.graph (ap (λ (u : World). u.graph) h) ok
+run_made w (c ∷ cs) (a ∷ answers) v ok (u, first, rest) =
+    run_made u cs answers v (answer_made w c a.0 a.1 u ok first) rest
+run_made w [] (a ∷ answers) v ok h = absurd h
+run_made w (c ∷ cs) [] v ok h = absurd h
 
 pub none_made : CompsAreMade first_world.graph
 none_made z c = absurd (nothing_in_none z c)

@@ -29,7 +29,7 @@ ghost use Rattle.gz_names.specs.declared.zone_sets.ZoneSet.{ZoneSet};
 ghost use Rattle.gz_names.specs.Zones.{zones_in};
 ghost use Rattle.colour_defs.specs.Graph.{GraphState, empty_graph};
 ghost use Rattle.colour_defs.specs.World.{CommandInWorld, World, first_world};
-ghost use Rattle.colour_defs.specs.Lawful.{AreLawfulUnits, Beginning, BeginsBy, Collects, RunBy};
+ghost use Rattle.colour_defs.specs.Lawful.{AreLawfulUnits, Prepares, Collects, Run};
 ghost use Rattle.colour_defs.specs.Laws.{IsNoWeakCmd, IsValid};
 ghost use Rattle.collection_laws.specs.Collected.{AreAllZones, IsCollected};
 ghost use Rattle.collection_laws.specs.Graphs.{MakesNoZone, graph_after};
@@ -37,8 +37,8 @@ ghost use Rattle.collection_laws.specs.Numbers.{GivesNext, IsAccounted, freed_in
 
 /// A run without weak commands leads to the graph that its commands on the graph lead to.
 pub fn graph_law()
-    ensures { (how : Beginning) (commands : List Cmd) (answers : List (List Report × Reply)) (w v : World)
-        → All IsNoWeakCmd commands → RunBy how w commands answers v
+    ensures { (commands : List Cmd) (answers : List (List Report × Reply)) (w v : World)
+        → All IsNoWeakCmd commands → Run w commands answers v
         → v.graph ≡ graph_after w.graph commands }
 {}
 
@@ -51,19 +51,18 @@ pub fn zones_law()
 /// A collection of all zones keeps exactly what registers and gray slots reach, and of this exactly what
 /// registers reach is black.
 pub fn collection_law()
-    ensures { (how : Beginning) (commands : List Cmd) (answers : List (List Report × Reply)) (w v : World)
+    ensures { (commands : List Cmd) (answers : List (List Report × Reply)) (w v : World)
         (zones : List ℕ) (reports : List Report)
-        → RunBy how first_world commands answers w → AreAllZones w.graph zones → Collects how w zones reports v
+        → Run first_world commands answers w → AreAllZones w.graph zones → Collects w zones reports v
         → IsCollected v × (v.graph ≡ w.graph) }
 {}
 
 /// So does a run that ends with `finish`, `collect` of all zones, and `colours`: none of the three is refused for
 /// another cause than that no collection runs, and `colours` changes nothing.
 pub fn last_collection_law()
-    ensures { (how : Beginning) (commands : List Cmd) (answers : List (List Report × Reply)) (v : World)
-        (zones : ZoneSet)
+    ensures { (commands : List Cmd) (answers : List (List Report × Reply)) (v : World) (zones : ZoneSet)
         → All IsNoWeakCmd commands → AreAllZones (graph_after empty_graph commands) (zones_in zones)
-        → RunBy how first_world (commands ++ command.Finish ∷ command.Collect zones ∷ command.Colours ∷ []) answers v
+        → Run first_world (commands ++ command.Finish ∷ command.Collect zones ∷ command.Colours ∷ []) answers v
         → IsCollected v × (v.graph ≡ graph_after empty_graph commands) }
 {}
 
@@ -74,8 +73,8 @@ pub fn numbers_law()
     ensures command { (w v : World) (c : GraphCmd) (answer : Reply) (given : ℕ) (freed : List Name)
         → IsValid w → IsAccounted w given freed → CommandInWorld w c answer v
         → GivesNext given answer × IsAccounted v (given_after given answer) freed }
-    ensures begins { (how : Beginning) (w v : World) (zones : List ℕ) (given : ℕ) (freed : List Name)
-        → IsAccounted w given freed → BeginsBy how w zones v → IsAccounted v given freed }
+    ensures begins { (w v : World) (zones : List ℕ) (given : ℕ) (freed : List Name)
+        → IsAccounted w given freed → Prepares w zones v → IsAccounted v given freed }
     ensures units { (w v : World) (units : List (List Report)) (given : ℕ) (freed : List Name)
         → IsAccounted w given freed → AreLawfulUnits w units v
         → IsAccounted v given (freed ++ freed_in (flat_map (λ u. u) units)) }

@@ -6,7 +6,7 @@ use Rattle.colour_defs.specs.World.{World, Has, IsLeftOut, BlackClosure, LiveClo
 use Rattle.gz_names.specs.declared.replies.Report.{Report}
 use Rattle.gz_names.specs.declared.commands.Cmd.{Cmd}
 use Rattle.gz_names.specs.declared.replies.Reply.{Reply}
-use Rattle.colour_defs.specs.Lawful.{Beginning, RunBy, EndsGroup, Finishes}
+use Rattle.colour_defs.specs.Lawful.{Run, EndsGroup, Finishes}
 use Rattle.colour_defs.specs.Laws.{IsValid, RegistersAreBlack, ClosuresAreClosed, ClosuresAreClosedAtEnd}
 use Rattle.colour_defs.specs.Laws.{GarbageGoesAtEnd, GarbageIsGone, ReachedIsInClosures, IsInRegister, IsRoot, IsClosed}
 use Rattle.colour_defs.specs.Laws.{IsClosedWithin}
@@ -19,9 +19,9 @@ use Rattle.colour_defs.proofs.Membership.{zone_in}
 use Rattle.colour_defs.proofs.ValidReports.{no_marking}
 use Rattle.colour_defs.proofs.ValidRuns.{run_valid, first_valid}
 
-pub lawful_valid : (how : Beginning) (cs : List Cmd) (answers : List (List Report × Reply)) (w : World)
-    → RunBy how first_world cs answers w → IsValid w
-lawful_valid how cs answers w h = run_valid how first_world cs answers w first_valid h
+pub lawful_valid : (cs : List Cmd) (answers : List (List Report × Reply)) (w : World)
+    → Run first_world cs answers w → IsValid w
+lawful_valid cs answers w h = run_valid first_world cs answers w first_valid h
 
 pub registers_black : (w : World) → IsValid w → RegistersAreBlack w
 registers_black w ok = record {

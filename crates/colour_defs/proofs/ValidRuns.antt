@@ -14,14 +14,13 @@ use Rattle.gz_names.specs.declared.commands.Cmd.TheVariants.{Graph, Weak, Gc, Sl
 use Rattle.gz_names.specs.declared.commands.Cmd.TheVariants.{Dump, Compact}
 use Rattle.gz_names.specs.declared.commands.Cmd.{Cmd}
 use Rattle.gz_names.specs.declared.replies.Reply.{Reply}
-use Rattle.colour_defs.specs.Lawful.{Beginning, by_units, at_once, BeginsBy, AnswersBy, Slices, RunBy, RefusesToBegin}
-use Rattle.colour_defs.specs.Lawful.{RefusesIdle}
+use Rattle.colour_defs.specs.Lawful.{Answers, Slices, Run, RefusesToBegin, RefusesIdle}
 use Rattle.colour_defs.specs.Laws.{IsValid}
 use Rattle.colour_defs.proofs.Lists.{get_contains, no_name_in_nulls}
 use Rattle.colour_defs.proofs.ValidCommands.{command_valid}
 use Rattle.colour_defs.proofs.ValidWeak.{weak_valid}
 use Rattle.colour_defs.proofs.ValidCompaction.{compact_valid}
-use Rattle.colour_defs.proofs.ValidReports.{units_valid, prepare_valid, begin_valid, reset_valid, retallied_valid}
+use Rattle.colour_defs.proofs.ValidReports.{units_valid, prepare_valid, reset_valid, retallied_valid}
 use Rattle.colour_defs.proofs.ValidReports.{spent_retallied, preparing_respent}
 
 slice_valid : (w : World) (reports : List Report) (n : ℕ) (v : World) → IsValid w → Slices w reports n v → IsValid v
@@ -39,41 +38,35 @@ idle_valid : (w : World) (reports : List Report) (answer : Reply) (v : World) �
     → RefusesIdle w reports answer v → IsValid v
 idle_valid w reports answer v ok h = subst (λ z. IsValid z) (sym h.2.same) ok
 
-pub beginning_valid : (how : Beginning) (w : World) (zones : List ℕ) (v : World) → IsValid w → BeginsBy how w zones v
-    → IsValid v
-beginning_valid by_units w zones v ok h = prepare_valid w zones v ok h
-beginning_valid at_once w zones v ok h = begin_valid h.between zones v (prepare_valid w zones h.between ok h.prepares)
-    h.begins
+pub answer_valid : (w : World) (c : Cmd) (reports : List Report) (answer : Reply) (v : World)
+    → IsValid w → Answers w c reports answer v → IsValid v
+answer_valid w (Graph c) reports answer v ok h = command_valid w v c answer ok h.1
+answer_valid w (Weak c) reports answer v ok h = weak_valid w v c answer ok h.1
+answer_valid w (Gc zones) reports answer v ok (inl h) = prepare_valid w (zones_in zones) v ok h.2
+answer_valid w (Gc zones) reports answer v ok (inr h) = refused_valid w (zones_in zones) reports answer v ok h
+answer_valid w (Slice n) reports answer v ok (inl h) = slice_valid w reports h.0 v ok h.2
+answer_valid w (Slice n) reports answer v ok (inr h) = idle_valid w reports answer v ok h
+answer_valid w Finish reports answer v ok (inl h) = slice_valid w reports h.0 v ok h.2
+answer_valid w Finish reports answer v ok (inr h) = idle_valid w reports answer v ok h
+answer_valid w (Collect zones) reports answer v ok (inl h) =
+    units_valid h.1.begun h.1.units v (prepare_valid w (zones_in zones) h.1.begun ok h.1.begins) h.1.done
+answer_valid w (Collect zones) reports answer v ok (inr h) = refused_valid w (zones_in zones) reports answer v ok h
+answer_valid w Reset reports answer v ok (inl h) = reset_valid w reports v ok h.1
+answer_valid w Reset reports answer v ok (inr h) = idle_valid w reports answer v ok h
+answer_valid w Colours reports answer v ok (inl h) = subst (λ z. IsValid z) (sym h.4.same) ok
+answer_valid w Colours reports answer v ok (inr h) = subst (λ z. IsValid z) (sym h.2.same) ok
+answer_valid w Dump reports answer v ok (inl h) = subst (λ z. IsValid z) (sym h.4.same) ok
+answer_valid w Dump reports answer v ok (inr h) = subst (λ z. IsValid z) (sym h.2.same) ok
+answer_valid w (Compact zone) reports answer v ok (inl h) = compact_valid w zone h.0 h.1 v ok h.4
+answer_valid w (Compact zone) reports answer v ok (inr h) = refused_valid w (zone ∷ []) reports answer v ok h
 
-pub answer_valid : (how : Beginning) (w : World) (c : Cmd) (reports : List Report) (answer : Reply) (v : World)
-    → IsValid w → AnswersBy how w c reports answer v → IsValid v
-answer_valid how w (Graph c) reports answer v ok h = command_valid w v c answer ok h.1
-answer_valid how w (Weak c) reports answer v ok h = weak_valid w v c answer ok h.1
-answer_valid how w (Gc zones) reports answer v ok (inl h) = beginning_valid how w (zones_in zones) v ok h.2
-answer_valid how w (Gc zones) reports answer v ok (inr h) = refused_valid w (zones_in zones) reports answer v ok h
-answer_valid how w (Slice n) reports answer v ok (inl h) = slice_valid w reports h.0 v ok h.2
-answer_valid how w (Slice n) reports answer v ok (inr h) = idle_valid w reports answer v ok h
-answer_valid how w Finish reports answer v ok (inl h) = slice_valid w reports h.0 v ok h.2
-answer_valid how w Finish reports answer v ok (inr h) = idle_valid w reports answer v ok h
-answer_valid how w (Collect zones) reports answer v ok (inl h) =
-    units_valid h.1.begun h.1.units v (beginning_valid how w (zones_in zones) h.1.begun ok h.1.begins) h.1.done
-answer_valid how w (Collect zones) reports answer v ok (inr h) = refused_valid w (zones_in zones) reports answer v ok h
-answer_valid how w Reset reports answer v ok (inl h) = reset_valid w reports v ok h.1
-answer_valid how w Reset reports answer v ok (inr h) = idle_valid w reports answer v ok h
-answer_valid how w Colours reports answer v ok (inl h) = subst (λ z. IsValid z) (sym h.4.same) ok
-answer_valid how w Colours reports answer v ok (inr h) = subst (λ z. IsValid z) (sym h.2.same) ok
-answer_valid how w Dump reports answer v ok (inl h) = subst (λ z. IsValid z) (sym h.4.same) ok
-answer_valid how w Dump reports answer v ok (inr h) = subst (λ z. IsValid z) (sym h.2.same) ok
-answer_valid how w (Compact zone) reports answer v ok (inl h) = compact_valid w zone h.0 h.1 v ok h.4
-answer_valid how w (Compact zone) reports answer v ok (inr h) = refused_valid w (zone ∷ []) reports answer v ok h
-
-pub run_valid : (how : Beginning) (w : World) (cs : List Cmd) (answers : List (List Report × Reply)) (v : World)
-    → IsValid w → RunBy how w cs answers v → IsValid v
-run_valid how w [] [] v ok h = subst (λ z. IsValid z) (sym h) ok
-run_valid how w (c ∷ cs) (a ∷ answers) v ok (u, first, rest) =
-    run_valid how u cs answers v (answer_valid how w c a.0 a.1 u ok first) rest
-run_valid how w [] (a ∷ answers) v ok h = absurd h
-run_valid how w (c ∷ cs) [] v ok h = absurd h
+pub run_valid : (w : World) (cs : List Cmd) (answers : List (List Report × Reply)) (v : World)
+    → IsValid w → Run w cs answers v → IsValid v
+run_valid w [] [] v ok h = subst (λ z. IsValid z) (sym h) ok
+run_valid w (c ∷ cs) (a ∷ answers) v ok (u, first, rest) =
+    run_valid u cs answers v (answer_valid w c a.0 a.1 u ok first) rest
+run_valid w [] (a ∷ answers) v ok h = absurd h
+run_valid w (c ∷ cs) [] v ok h = absurd h
 
 pub no_one : (x : Name) → IsPresent first_world x → ⊥
 no_one x p = cc (p, ap is_some (map.get-empty {X = ℕ × ℕ} name_cmp x))

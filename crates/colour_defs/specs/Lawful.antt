@@ -110,34 +110,14 @@ abbrev pub AreLawfulUnits : World → List (List Report) → World → Type 0
 AreLawfulUnits w [] v = v ≡ w
 AreLawfulUnits w (unit ∷ units) v = (u : World) × IsLawfulUnit w unit u × AreLawfulUnits u units v
 
--- a collection of these zones begins: they are being prepared, and what was black in them counts no longer
+-- a collection of these zones begins: they are being prepared, arena by arena, and what was black in them counts no
+-- longer. The unit that reports `started` begins its marking
 pub record Prepares (w : World) (zones : List ℕ) (v : World) : Type 0 where
   pub idle : IsIdle w
   pub made : (z : ℕ) → Contains zones z → z < w.graph.zones
   pub some : zones ≢ []
   pub world_is : v ≡ record w { black = v.black; preparing = Some (first_preparation w zones) }
   pub black_are : (x : Name) → Has v.black x ↔ (Has w.black x × (IsInZones w.graph zones x → ⊥))
-
--- How a collection begins. by_units: `gc` and `collect` have its zones prepared, arena by arena, and the unit that
--- reports `started` begins its marking. at_once: `gc` and `collect` do both before they answer, and no line tells of it
-pub data Beginning : Type 0 where
-  by_units : Beginning
-  at_once : Beginning
-
--- how a collection begins in the program
-abbrev pub beginning : Beginning
-beginning = by_units
-
--- a collection of these zones is prepared, and its marking begins, with nothing between
-pub record BeginsAtOnce (w : World) (zones : List ℕ) (v : World) : Type 0 where
-  pub between : World
-  pub prepares : Prepares w zones between
-  pub begins : Begins between zones v
-
--- a collection of these zones begins
-abbrev pub BeginsBy : Beginning → World → List ℕ → World → Type 0
-BeginsBy by_units w zones v = Prepares w zones v
-BeginsBy at_once w zones v = BeginsAtOnce w zones v
 
 -- a command that reports nothing and changes nothing
 pub record ChangesNothing (w : World) (reports : List Report) (v : World) : Type 0 where
@@ -187,9 +167,9 @@ pub record Slices (w : World) (reports : List Report) (n : ℕ) (v : World) : Ty
   pub within : MeetsUnitBound (is_some after.preparing) tally reports n
 
 -- a collection of these zones, from its beginning until it is over
-pub record Collects (how : Beginning) (w : World) (zones : List ℕ) (reports : List Report) (v : World) : Type 0 where
+pub record Collects (w : World) (zones : List ℕ) (reports : List Report) (v : World) : Type 0 where
   pub begun : World
-  pub begins : BeginsBy how w zones begun
+  pub begins : Prepares w zones begun
   pub units : List (List Report)
   pub done : AreLawfulUnits begun units v
   pub reports_are : reports ≡ flat_map (λ u. u) units
@@ -250,59 +230,49 @@ pub record Resets (w : World) (reports : List Report) (v : World) : Type 0 where
   pub reports_are : reports ≡ sweeps ++ final ∷ []
 
 -- one command: its reports, its last line, and the world after it
-abbrev pub AnswersBy : Beginning → World → Cmd → List Report → Reply → World → Type 0
-AnswersBy how w (command.Graph c) reports answer v = (reports ≡ []) × CommandInWorld w c answer v
-AnswersBy how w (command.Weak c) reports answer v = (reports ≡ []) × WeakInWorld w c answer v
-AnswersBy how w (command.Gc zones) reports answer v =
-    ((answer ≡ reply.GcBegun) × (reports ≡ []) × BeginsBy how w (zones_in zones) v)
+abbrev pub Answers : World → Cmd → List Report → Reply → World → Type 0
+Answers w (command.Graph c) reports answer v = (reports ≡ []) × CommandInWorld w c answer v
+Answers w (command.Weak c) reports answer v = (reports ≡ []) × WeakInWorld w c answer v
+Answers w (command.Gc zones) reports answer v =
+    ((answer ≡ reply.GcBegun) × (reports ≡ []) × Prepares w (zones_in zones) v)
     ⊎ RefusesToBegin w (zones_in zones) reports answer v
-AnswersBy how w (command.Slice n) reports answer v =
+Answers w (command.Slice n) reports answer v =
     ((k : ℕ) × (answer ≡ reply.Sliced k) × Slices w reports k v × (k ≤ n) × (k < n → IsIdle v))
     ⊎ RefusesIdle w reports answer v
-AnswersBy how w command.Finish reports answer v =
+Answers w command.Finish reports answer v =
     ((k : ℕ) × (answer ≡ reply.Sliced k) × Slices w reports k v × IsIdle v) ⊎ RefusesIdle w reports answer v
-AnswersBy how w (command.Collect zones) reports answer v =
-    ((answer ≡ reply.Collected) × Collects how w (zones_in zones) reports v)
+Answers w (command.Collect zones) reports answer v =
+    ((answer ≡ reply.Collected) × Collects w (zones_in zones) reports v)
     ⊎ RefusesToBegin w (zones_in zones) reports answer v
-AnswersBy how w command.Reset reports answer v =
+Answers w command.Reset reports answer v =
     ((answer ≡ reply.ResetDone) × Resets w reports v) ⊎ RefusesIdle w reports answer v
-AnswersBy how w command.Colours reports answer v =
+Answers w command.Colours reports answer v =
     ((names : List Name) × (answer ≡ reply.Gray names) × IsSettled w
     × Lists (λ x. IsPresent w x × (Has w.black x → ⊥)) names × ChangesNothing w reports v)
     ⊎ ((answer ≡ reply.Refused refusal.Marking) × (IsSettled w → ⊥) × ChangesNothing w reports v)
-AnswersBy how w command.Dump reports answer v =
+Answers w command.Dump reports answer v =
     ((lines : List DumpLine) × (answer ≡ reply.Dump lines) × IsSettled w × IsDump w lines × ChangesNothing w reports v)
     ⊎ ((answer ≡ reply.Refused refusal.Marking) × (IsSettled w → ⊥) × ChangesNothing w reports v)
-AnswersBy how w (command.Compact zone) reports answer v =
+Answers w (command.Compact zone) reports answer v =
     ((moved : ℕ) × (given : ℕ) × (answer ≡ reply.Compacted moved given) × (reports ≡ [])
     × Compacts w zone moved given v)
     ⊎ RefusesToBegin w (zone ∷ []) reports answer v
 
-abbrev pub Answers : World → Cmd → List Report → Reply → World → Type 0
-Answers = AnswersBy beginning
-
 -- a whole run: for each command its reports and its last line
-abbrev pub RunBy : Beginning → World → List Cmd → List (List Report × Reply) → World → Type 0
-RunBy how w [] [] v = v ≡ w
-RunBy how w (c ∷ cs) (a ∷ answers) v = (u : World) × AnswersBy how w c a.0 a.1 u × RunBy how u cs answers v
-RunBy how w [] (a ∷ answers) v = ⊥
-RunBy how w (c ∷ cs) [] v = ⊥
-
 abbrev pub Run : World → List Cmd → List (List Report × Reply) → World → Type 0
-Run = RunBy beginning
+Run w [] [] v = v ≡ w
+Run w (c ∷ cs) (a ∷ answers) v = (u : World) × Answers w c a.0 a.1 u × Run u cs answers v
+Run w [] (a ∷ answers) v = ⊥
+Run w (c ∷ cs) [] v = ⊥
 
--- P holds of every world that a lawful run reaches, however collections begin
+-- P holds of every world that a lawful run reaches
 abbrev pub HoldsInEveryRun : (World → Type 0) → Type 0
 HoldsInEveryRun P =
-    (how : Beginning) (commands : List Cmd) (answers : List (List Report × Reply)) (w : World)
-    → RunBy how first_world commands answers w → P w
+    (commands : List Cmd) (answers : List (List Report × Reply)) (w : World) → Run first_world commands answers w → P w
 
 -- these answers are lawful for these commands
-abbrev pub IsLawfulOutputBy : Beginning → List Cmd → List (List Report × Reply) → Type 0
-IsLawfulOutputBy how commands answers = (v : World) × RunBy how first_world commands answers v
-
 abbrev pub IsLawfulOutput : List Cmd → List (List Report × Reply) → Type 0
-IsLawfulOutput = IsLawfulOutputBy beginning
+IsLawfulOutput commands answers = (v : World) × Run first_world commands answers v
 
 -- the reports of the units that were done so far, each unit whole
 pub record DoesUnits (w : World) (units : List (List Report)) (reports : List Report) : Type 0 where
@@ -316,20 +286,17 @@ StartsToReset w reports =
     IsRunning w × (((v : World) × AreLawfulSweeps w reports v) ⊎ ((v : World) × Resets w reports v))
 
 -- what a command may have written by some moment before its last line
-abbrev pub StartsToAnswerBy : Beginning → World → Cmd → List Report → Type 0
-StartsToAnswerBy how w (command.Graph c) reports = reports ≡ []
-StartsToAnswerBy how w (command.Weak c) reports = reports ≡ []
-StartsToAnswerBy how w (command.Gc zones) reports = reports ≡ []
-StartsToAnswerBy how w (command.Slice n) reports =
-    (units : List (List Report)) × (length units ≤ n) × DoesUnits w units reports
-StartsToAnswerBy how w command.Finish reports = (units : List (List Report)) × DoesUnits w units reports
-StartsToAnswerBy how w (command.Collect zones) reports =
-    (reports ≡ []) ⊎ ((begun : World) × BeginsBy how w (zones_in zones) begun × (units : List (List Report))
-    × DoesUnits begun units reports)
-StartsToAnswerBy how w command.Reset reports = (reports ≡ []) ⊎ StartsToReset w reports
-StartsToAnswerBy how w command.Colours reports = reports ≡ []
-StartsToAnswerBy how w command.Dump reports = reports ≡ []
-StartsToAnswerBy how w (command.Compact zone) reports = reports ≡ []
-
 abbrev pub StartsToAnswer : World → Cmd → List Report → Type 0
-StartsToAnswer = StartsToAnswerBy beginning
+StartsToAnswer w (command.Graph c) reports = reports ≡ []
+StartsToAnswer w (command.Weak c) reports = reports ≡ []
+StartsToAnswer w (command.Gc zones) reports = reports ≡ []
+StartsToAnswer w (command.Slice n) reports =
+    (units : List (List Report)) × (length units ≤ n) × DoesUnits w units reports
+StartsToAnswer w command.Finish reports = (units : List (List Report)) × DoesUnits w units reports
+StartsToAnswer w (command.Collect zones) reports =
+    (reports ≡ []) ⊎ ((begun : World) × Prepares w (zones_in zones) begun × (units : List (List Report))
+    × DoesUnits begun units reports)
+StartsToAnswer w command.Reset reports = (reports ≡ []) ⊎ StartsToReset w reports
+StartsToAnswer w command.Colours reports = reports ≡ []
+StartsToAnswer w command.Dump reports = reports ≡ []
+StartsToAnswer w (command.Compact zone) reports = reports ≡ []

@@ -10,7 +10,7 @@ ghost use Rattle.gz_names.specs.declared.replies.Refusal.{Refusal};
 ghost use Rattle.colour_defs.specs.Graph.{GraphState};
 ghost use Rattle.colour_defs.specs.Step.{step_of};
 ghost use Rattle.colour_defs.specs.World.{World, Collection, Has, CommandInWorld};
-ghost use Rattle.colour_defs.specs.Lawful.{Beginning, AnswersBy, Prepares, Begins, EndsGroup, IsLawfulUnit, Finishes};
+ghost use Rattle.colour_defs.specs.Lawful.{Answers, Prepares, Begins, EndsGroup, IsLawfulUnit, Finishes};
 ghost use Rattle.colour_defs.specs.Lawful.{HoldsInEveryRun};
 ghost use Rattle.colour_defs.specs.Laws.{IsValid, IsMarking, NamesOnlyPresent};
 ghost use Rattle.colour_defs.specs.Laws.{RegistersAreBlack, ClosuresAreClosed, ReachedIsInClosures};
@@ -25,8 +25,8 @@ pub fn valid_law()
 
 /// One more lawful answer keeps a world valid.
 pub fn answer_law()
-    ensures { (how : Beginning) (w v : World) (c : Cmd) (reports : List Report) (answer : Reply)
-        → IsValid w → AnswersBy how w c reports answer v → IsValid v }
+    ensures { (w v : World) (c : Cmd) (reports : List Report) (answer : Reply)
+        → IsValid w → Answers w c reports answer v → IsValid v }
 {}
 
 /// The reports of one unit keep a world valid, also between two commands' answers.

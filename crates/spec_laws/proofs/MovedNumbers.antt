@@ -1,5 +1,5 @@
 -- What becomes of numbers as a compaction moves cells: nothing.
-use Rattle.std.proofs.Common.{◌≡◌, ℕ, ◌+◌, zero, suc, ◌⊎◌, inl, inr, List, [], ◌∷◌, ◌++◌, Bool, true, false, cond, refl}
+use Rattle.std.proofs.Common.{◌≡◌, ℕ, ◌+◌, zero, suc, ◌⊎◌, inl, inr, List, [], ◌∷◌, Bool, true, false, cond, refl}
 use Rattle.std.proofs.Common.{sym, ap, subst, ◌∙◌, arith, append-nil, eqb, length, Option, Some, None, Contains}
 use Rattle.std.proofs.Common.{is_some}
 use Rattle.std.proofs.Common.{slice_get}

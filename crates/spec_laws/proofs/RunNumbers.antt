@@ -18,13 +18,13 @@ use Rattle.colour_defs.specs.Graph.{GraphState, register_cell, zone_of}
 use Rattle.colour_defs.specs.Step.{named_or_null, with_register}
 use Rattle.colour_defs.specs.World.{World, Collection, Preparation, HasPlace, IsPresent, AcceptsIn, first_world}
 use Rattle.colour_defs.specs.WeakRefs.{WeakInWorld, unwatch_cell, watch_cell, weak_cell, with_read, without_watched}
-use Rattle.colour_defs.specs.Lawful.{Beginning, AnswersBy, AreLawfulSweeps, LastOfReset, RefusesIdle, RefusesToBegin}
-use Rattle.colour_defs.specs.Lawful.{RunBy, Slices}
+use Rattle.colour_defs.specs.Lawful.{Answers, AreLawfulSweeps, LastOfReset, RefusesIdle, RefusesToBegin, Run}
+use Rattle.colour_defs.specs.Lawful.{Slices}
 use Rattle.colour_defs.specs.Laws.{IsValid}
 use Rattle.colour_defs.proofs.ValidRuns.{answer_valid, first_valid}
 use Rattle.collection_laws.specs.Numbers.{GivesNext, IsAccounted, freed_in, given_after}
 use Rattle.spec_laws.specs.NumbersInRuns.{GiveInOrder, freed_by, given_in}
-use Rattle.collection_laws.proofs.Accounts.{beginning_accounts, command_accounts, first_accounts, report_accounts}
+use Rattle.collection_laws.proofs.Accounts.{command_accounts, first_accounts, prepares_accounts, report_accounts}
 use Rattle.collection_laws.proofs.Accounts.{same_accounts, still_accounts, tells_none, units_accounts}
 use Rattle.collection_laws.proofs.Lying.{StaysInPlace}
 use Rattle.collection_laws.proofs.Times.{freed_append}
@@ -207,32 +207,32 @@ quiet_goes given freed reports answer v silent h =
     (h.0, silent_accounts v (given_after given answer) freed reports silent h.1)
 
 -- an answer
-answer_goes : (how : Beginning) (w : World) (c : Cmd) (reports : List Report) (answer : Reply) (v : World) (given : ℕ)
-    (freed : List Name) → IsValid w → IsAccounted w given freed → AnswersBy how w c reports answer v
+answer_goes : (w : World) (c : Cmd) (reports : List Report) (answer : Reply) (v : World) (given : ℕ)
+    (freed : List Name) → IsValid w → IsAccounted w given freed → Answers w c reports answer v
     → Goes given freed reports answer v
-answer_goes how w (Graph c) reports answer v given freed ok a h =
+answer_goes w (Graph c) reports answer v given freed ok a h =
     quiet_goes given freed reports answer v h.0 (command_accounts w c answer v given freed ok a h.1)
-answer_goes how w (Weak c) reports answer v given freed ok a h =
+answer_goes w (Weak c) reports answer v given freed ok a h =
     quiet_goes given freed reports answer v h.0 (weak_goes w c answer v given freed ok a h.1)
-answer_goes how w (Gc zones) reports answer v given freed ok a (inl h) =
+answer_goes w (Gc zones) reports answer v given freed ok a (inl h) =
     no_number given freed reports answer reply.GcBegun v h.0 tt refl
-    (silent_accounts v given freed reports h.1 (beginning_accounts how w (zones_in zones) v given freed h.2 a))
-answer_goes how w (Gc zones) reports answer v given freed ok a (inr h) =
+    (silent_accounts v given freed reports h.1 (prepares_accounts w (zones_in zones) v given freed h.2 a))
+answer_goes w (Gc zones) reports answer v given freed ok a (inr h) =
     refused_goes w (zones_in zones) reports answer v given freed a h
-answer_goes how w (Slice n) reports answer v given freed ok a (inl h) =
+answer_goes w (Slice n) reports answer v given freed ok a (inl h) =
     slices_goes w reports h.0 answer v given freed a h.1 h.2
-answer_goes how w (Slice n) reports answer v given freed ok a (inr h) = idle_goes w reports answer v given freed a h
-answer_goes how w Finish reports answer v given freed ok a (inl h) =
+answer_goes w (Slice n) reports answer v given freed ok a (inr h) = idle_goes w reports answer v given freed a h
+answer_goes w Finish reports answer v given freed ok a (inl h) =
     slices_goes w reports h.0 answer v given freed a h.1 h.2
-answer_goes how w Finish reports answer v given freed ok a (inr h) = idle_goes w reports answer v given freed a h
-answer_goes how w (Collect zones) reports answer v given freed ok a (inl h) =
+answer_goes w Finish reports answer v given freed ok a (inr h) = idle_goes w reports answer v given freed a h
+answer_goes w (Collect zones) reports answer v given freed ok a (inl h) =
     no_number given freed reports answer reply.Collected v h.0 tt refl
     (subst (λ (rs : List Report). IsAccounted v given (freed ++ freed_in rs)) (sym h.1.reports_are)
     (units_accounts h.1.begun h.1.units v given freed h.1.done
-    (beginning_accounts how w (zones_in zones) h.1.begun given freed h.1.begins a)))
-answer_goes how w (Collect zones) reports answer v given freed ok a (inr h) =
+    (prepares_accounts w (zones_in zones) h.1.begun given freed h.1.begins a)))
+answer_goes w (Collect zones) reports answer v given freed ok a (inr h) =
     refused_goes w (zones_in zones) reports answer v given freed a h
-answer_goes how w Reset reports answer v given freed ok a (inl h) =
+answer_goes w Reset reports answer v given freed ok a (inl h) =
     let swept = sweeps_goes w h.1.sweeps h.1.after given freed a h.1.swept in
     let over : IsAccounted v given ((freed ++ freed_in h.1.sweeps) ++ freed_in (h.1.final ∷ [])) =
     last_goes h.1.after h.1.final v given (freed ++ freed_in h.1.sweeps) swept h.1.ends in
@@ -241,42 +241,42 @@ answer_goes how w Reset reports answer v given freed ok a (inl h) =
     (subst (λ (l : List Name). IsAccounted v given l)
     (append_assoc freed (freed_in h.1.sweeps) (freed_in (h.1.final ∷ []))
     ∙ ap (λ (l : List Name). freed ++ l) (sym (freed_append h.1.sweeps (h.1.final ∷ [])))) over))
-answer_goes how w Reset reports answer v given freed ok a (inr h) = idle_goes w reports answer v given freed a h
-answer_goes how w Colours reports answer v given freed ok a (inl h) =
+answer_goes w Reset reports answer v given freed ok a (inr h) = idle_goes w reports answer v given freed a h
+answer_goes w Colours reports answer v given freed ok a (inl h) =
     no_number given freed reports answer (reply.Gray h.0) v h.1 tt refl
     (silent_accounts v given freed reports h.4.silent (same_world w v given freed h.4.same a))
-answer_goes how w Colours reports answer v given freed ok a (inr h) =
+answer_goes w Colours reports answer v given freed ok a (inr h) =
     no_number given freed reports answer _ v h.0 tt refl
     (silent_accounts v given freed reports h.2.silent (same_world w v given freed h.2.same a))
-answer_goes how w Dump reports answer v given freed ok a (inl h) =
+answer_goes w Dump reports answer v given freed ok a (inl h) =
     no_number given freed reports answer (reply.Dump h.0) v h.1 tt refl
     (silent_accounts v given freed reports h.4.silent (same_world w v given freed h.4.same a))
-answer_goes how w Dump reports answer v given freed ok a (inr h) =
+answer_goes w Dump reports answer v given freed ok a (inr h) =
     no_number given freed reports answer _ v h.0 tt refl
     (silent_accounts v given freed reports h.2.silent (same_world w v given freed h.2.same a))
-answer_goes how w (Compact zone) reports answer v given freed ok a (inl h) =
+answer_goes w (Compact zone) reports answer v given freed ok a (inl h) =
     no_number given freed reports answer (reply.Compacted h.0 h.1) v h.2 tt refl
     (silent_accounts v given freed reports h.3 (compacts_accounts w zone h.0 h.1 v h.4 given freed a))
-answer_goes how w (Compact zone) reports answer v given freed ok a (inr h) =
+answer_goes w (Compact zone) reports answer v given freed ok a (inr h) =
     refused_goes w (zone ∷ []) reports answer v given freed a h
 
-run_goes : (how : Beginning) (w : World) (cs : List Cmd) (answers : List (List Report × Reply)) (v : World) (given : ℕ)
-    (freed : List Name) → IsValid w → IsAccounted w given freed → RunBy how w cs answers v
+run_goes : (w : World) (cs : List Cmd) (answers : List (List Report × Reply)) (v : World) (given : ℕ)
+    (freed : List Name) → IsValid w → IsAccounted w given freed → Run w cs answers v
     → GiveInOrder given answers × IsAccounted v (given_in given answers) (freed ++ freed_by answers)
-run_goes how w [] [] v given freed ok a h = (tt, same_world w v given (freed ++ []) h (tells_none w given freed a))
-run_goes how w (c ∷ cs) (one ∷ answers) v given freed ok a (u, first, rest) =
-    let next = answer_goes how w c one.0 one.1 u given freed ok a first in
-    let more = run_goes how u cs answers v (given_after given one.1) (freed ++ freed_in one.0)
-    (answer_valid how w c one.0 one.1 u ok first) next.1 rest in (
+run_goes w [] [] v given freed ok a h = (tt, same_world w v given (freed ++ []) h (tells_none w given freed a))
+run_goes w (c ∷ cs) (one ∷ answers) v given freed ok a (u, first, rest) =
+    let next = answer_goes w c one.0 one.1 u given freed ok a first in
+    let more = run_goes u cs answers v (given_after given one.1) (freed ++ freed_in one.0)
+    (answer_valid w c one.0 one.1 u ok first) next.1 rest in (
       (next.0, more.0),
       subst (λ (l : List Name). IsAccounted v (given_in (given_after given one.1) answers) l)
           (append_assoc freed (freed_in one.0) (freed_by answers)) more.1,
     )
-run_goes how w [] (one ∷ answers) v given freed ok a h = absurd h
-run_goes how w (c ∷ cs) [] v given freed ok a h = absurd h
+run_goes w [] (one ∷ answers) v given freed ok a h = absurd h
+run_goes w (c ∷ cs) [] v given freed ok a h = absurd h
 
-pub numbers_in_run : (how : Beginning) (commands : List Cmd) (answers : List (List Report × Reply)) (w : World)
-    → RunBy how first_world commands answers w
+pub numbers_in_run : (commands : List Cmd) (answers : List (List Report × Reply)) (w : World)
+    → Run first_world commands answers w
     → GiveInOrder 0 answers × IsAccounted w (given_in 0 answers) (freed_by answers)
-numbers_in_run how commands answers w run =
-    run_goes how first_world commands answers w 0 [] first_valid first_accounts run
+numbers_in_run commands answers w run =
+    run_goes first_world commands answers w 0 [] first_valid first_accounts run

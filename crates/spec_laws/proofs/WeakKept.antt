@@ -18,14 +18,13 @@ use Rattle.colour_defs.specs.World.{World, WeakNames, Preparation, Collection, H
 use Rattle.colour_defs.specs.World.{AcceptsUnless, CommandInWorld, with_counts, woken_by, also_woken_by}
 use Rattle.colour_defs.specs.WeakRefs.{weak_cell, if_present}
 use Rattle.colour_defs.specs.Lawful.{IsLawfulReport, IsLawfulUnit, quiet, says, last, AreLawfulUnits, AreLawfulSweeps}
-use Rattle.colour_defs.specs.Lawful.{LastOfReset, Resets, Slices, Beginning, by_units, at_once, BeginsBy, AnswersBy}
-use Rattle.colour_defs.specs.Lawful.{RefusesToBegin}
+use Rattle.colour_defs.specs.Lawful.{LastOfReset, Resets, Slices, Prepares, Answers, RefusesToBegin}
 use Rattle.colour_defs.specs.Laws.{IsValid, IsNoWeakCmd}
 use Rattle.spec_laws.specs.Kept.{KeepsWeak}
 use Rattle.colour_defs.proofs.ValidCommands.{place_kept}
 use Rattle.spec_laws.proofs.Tight.{compact_tight}
-use Rattle.colour_defs.proofs.ValidRuns.{beginning_valid}
-use Rattle.colour_defs.proofs.ValidReports.{report_valid, unit_valid, units_valid, sweep_valid, sweeps_valid}
+use Rattle.colour_defs.proofs.ValidReports.{prepare_valid, report_valid, unit_valid, units_valid, sweep_valid}
+use Rattle.colour_defs.proofs.ValidReports.{sweeps_valid}
 
 same_weak : (w v : World) → IsValid w → v.weak ≡ w.weak → ((x : Name) → IsPresent w x → IsPresent v x) → KeepsWeak w v
 same_weak w v ok e kept = record {
@@ -167,42 +166,38 @@ command_keeps w v c answer ok h = go (refusal_in (step_of w.graph c).1) h.1
     go None a = accepts_keeps w v (with_counts w.graph c w.collection) (step_of w.graph c).0 w.preparing
         (woken_by w.graph c) (also_woken_by w.graph c) ok a
 
-beginning_leaves : (how : Beginning) (w : World) (zones : List ℕ) (v : World) → IsValid w → BeginsBy how w zones v
-    → Leaves w v
-beginning_leaves by_units w zones v ok h =
+beginning_leaves : (w : World) (zones : List ℕ) (v : World) → IsValid w → Prepares w zones v → Leaves w v
+beginning_leaves w zones v ok h =
     same_names w v ok (ap (λ (z : World). z.weak) h.world_is) (ap (λ (z : World). z.places) h.world_is)
-beginning_leaves at_once w zones v ok h = same_names w v ok
-    (ap (λ (z : World). z.weak) h.begins.world_is ∙ ap (λ (z : World). z.weak) h.prepares.world_is)
-    (ap (λ (z : World). z.places) h.begins.world_is ∙ ap (λ (z : World). z.places) h.prepares.world_is)
 
-pub line_keeps : (how : Beginning) (w : World) (c : Cmd) (reports : List Report) (answer : Reply) (v : World)
-    → IsValid w → IsNoWeakCmd c → AnswersBy how w c reports answer v → KeepsWeak w v
-line_keeps how w (command.Graph c) reports answer v ok plain h = command_keeps w v c answer ok h.1
-line_keeps how w (command.Weak c) reports answer v ok plain h = absurd (plain c refl)
-line_keeps how w (command.Gc zones) reports answer v ok plain (inl h) =
-    (beginning_leaves how w (zones_in zones) v ok h.2).keeps
-line_keeps how w (command.Gc zones) reports answer v ok plain (inr h) =
+pub line_keeps : (w : World) (c : Cmd) (reports : List Report) (answer : Reply) (v : World)
+    → IsValid w → IsNoWeakCmd c → Answers w c reports answer v → KeepsWeak w v
+line_keeps w (command.Graph c) reports answer v ok plain h = command_keeps w v c answer ok h.1
+line_keeps w (command.Weak c) reports answer v ok plain h = absurd (plain c refl)
+line_keeps w (command.Gc zones) reports answer v ok plain (inl h) =
+    (beginning_leaves w (zones_in zones) v ok h.2).keeps
+line_keeps w (command.Gc zones) reports answer v ok plain (inr h) =
     (refused_leaves w (zones_in zones) reports answer v ok h).keeps
-line_keeps how w (command.Slice n) reports answer v ok plain (inl h) = (slice_leaves w reports h.0 v ok h.2).keeps
-line_keeps how w (command.Slice n) reports answer v ok plain (inr h) = (stays w v ok h.2.same).keeps
-line_keeps how w command.Finish reports answer v ok plain (inl h) = (slice_leaves w reports h.0 v ok h.2).keeps
-line_keeps how w command.Finish reports answer v ok plain (inr h) = (stays w v ok h.2.same).keeps
-line_keeps how w (command.Collect zones) reports answer v ok plain (inl h) =
-    (leaves_then w h.1.begun v (beginning_leaves how w (zones_in zones) h.1.begun ok h.1.begins)
-    (units_leaves h.1.begun h.1.units v (beginning_valid how w (zones_in zones) h.1.begun ok h.1.begins)
+line_keeps w (command.Slice n) reports answer v ok plain (inl h) = (slice_leaves w reports h.0 v ok h.2).keeps
+line_keeps w (command.Slice n) reports answer v ok plain (inr h) = (stays w v ok h.2.same).keeps
+line_keeps w command.Finish reports answer v ok plain (inl h) = (slice_leaves w reports h.0 v ok h.2).keeps
+line_keeps w command.Finish reports answer v ok plain (inr h) = (stays w v ok h.2.same).keeps
+line_keeps w (command.Collect zones) reports answer v ok plain (inl h) =
+    (leaves_then w h.1.begun v (beginning_leaves w (zones_in zones) h.1.begun ok h.1.begins)
+    (units_leaves h.1.begun h.1.units v (prepare_valid w (zones_in zones) h.1.begun ok h.1.begins)
     h.1.done)).keeps
-line_keeps how w (command.Collect zones) reports answer v ok plain (inr h) =
+line_keeps w (command.Collect zones) reports answer v ok plain (inr h) =
     (refused_leaves w (zones_in zones) reports answer v ok h).keeps
-line_keeps how w command.Reset reports answer v ok plain (inl h) = (reset_leaves w reports v ok h.1).keeps
-line_keeps how w command.Reset reports answer v ok plain (inr h) = (stays w v ok h.2.same).keeps
-line_keeps how w command.Colours reports answer v ok plain (inl h) = (stays w v ok h.4.same).keeps
-line_keeps how w command.Colours reports answer v ok plain (inr h) = (stays w v ok h.2.same).keeps
-line_keeps how w command.Dump reports answer v ok plain (inl h) = (stays w v ok h.4.same).keeps
-line_keeps how w command.Dump reports answer v ok plain (inr h) = (stays w v ok h.2.same).keeps
-line_keeps how w (command.Compact zone) reports answer v ok plain (inl h) =
+line_keeps w command.Reset reports answer v ok plain (inl h) = (reset_leaves w reports v ok h.1).keeps
+line_keeps w command.Reset reports answer v ok plain (inr h) = (stays w v ok h.2.same).keeps
+line_keeps w command.Colours reports answer v ok plain (inl h) = (stays w v ok h.4.same).keeps
+line_keeps w command.Colours reports answer v ok plain (inr h) = (stays w v ok h.2.same).keeps
+line_keeps w command.Dump reports answer v ok plain (inl h) = (stays w v ok h.4.same).keeps
+line_keeps w command.Dump reports answer v ok plain (inr h) = (stays w v ok h.2.same).keeps
+line_keeps w (command.Compact zone) reports answer v ok plain (inl h) =
     same_weak w v ok (ap (λ (z : World). z.weak) h.4.world_is)
     (λ x p. ((compact_tight w zone h.0 h.1 v h.4).present x).1 p)
-line_keeps how w (command.Compact zone) reports answer v ok plain (inr h) =
+line_keeps w (command.Compact zone) reports answer v ok plain (inr h) =
     (refused_leaves w (zone ∷ []) reports answer v ok h).keeps
 
 -- a weak slot that is read leaves them as they are

@@ -28,8 +28,7 @@ ghost use Rattle.gz_names.specs.declared.dumps.DumpLine.{DumpLine};
 ghost use Rattle.gz_names.specs.Dumps.{IsSoundDump};
 ghost use Rattle.colour_defs.specs.Dumps.{IsDump};
 ghost use Rattle.colour_defs.specs.World.{World, IsSettled, first_world};
-ghost use Rattle.colour_defs.specs.Lawful.{Beginning, AnswersBy, RunBy};
-ghost use Rattle.colour_defs.specs.Lawful.{AreLawfulUnits, StartsToAnswerBy};
+ghost use Rattle.colour_defs.specs.Lawful.{Answers, AreLawfulUnits, Run, StartsToAnswer};
 ghost use Rattle.colour_defs.specs.Laws.{IsValid, IsNoWeakCmd};
 ghost use Rattle.colour_defs.specs.Compaction.{Compacts};
 ghost use Rattle.colour_defs.specs.WeakRefs.{WeakInWorld};
@@ -40,8 +39,8 @@ ghost use Rattle.spec_laws.specs.NumbersInRuns.{GiveInOrder, freed_by, given_in}
 /// The reports of a lawful answer may be written before its last line, and the first units of
 /// lawful units are lawful.
 pub fn starts_law()
-    ensures whole { (how : Beginning) (w v : World) (c : Cmd) (reports : List Report) (answer : Reply)
-        → AnswersBy how w c reports answer v → StartsToAnswerBy how w c reports }
+    ensures whole { (w v : World) (c : Cmd) (reports : List Report) (answer : Reply)
+        → Answers w c reports answer v → StartsToAnswer w c reports }
     ensures first_units { (w v : World) (units more : List (List Report))
         → AreLawfulUnits w (units ++ more) v
         → (u : World) × AreLawfulUnits w units u × AreLawfulUnits u more v }
@@ -62,8 +61,8 @@ pub fn compaction_law()
 /// Each line but a weak command leaves in weak slots and among watched cells exactly what is still
 /// present, and reading a weak slot changes none of them.
 pub fn weak_law()
-    ensures line { (how : Beginning) (w v : World) (c : Cmd) (reports : List Report) (answer : Reply)
-        → IsValid w → IsNoWeakCmd c → AnswersBy how w c reports answer v → KeepsWeak w v }
+    ensures line { (w v : World) (c : Cmd) (reports : List Report) (answer : Reply)
+        → IsValid w → IsNoWeakCmd c → Answers w c reports answer v → KeepsWeak w v }
     ensures deref { (w v : World) (r q : ℕ) (answer : Reply)
         → WeakInWorld w (weak_cmd.Deref r q) answer v → v.weak ≡ w.weak }
 {}
@@ -71,7 +70,7 @@ pub fn weak_law()
 /// In every run replies give the numbers of objects and maps from 0 on, each once, and reports list each number
 /// once as freed, whose cell is neither present nor still to be swept.
 pub fn run_numbers_law()
-    ensures { (how : Beginning) (commands : List Cmd) (answers : List (List Report × Reply)) (w : World)
-        → RunBy how first_world commands answers w
+    ensures { (commands : List Cmd) (answers : List (List Report × Reply)) (w : World)
+        → Run first_world commands answers w
         → GiveInOrder 0 answers × IsAccounted w (given_in 0 answers) (freed_by answers) }
 {}

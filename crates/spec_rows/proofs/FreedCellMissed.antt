@@ -1,5 +1,5 @@
 -- Linked and dropped: without the freed cell the answers are not lawful.
-use Rattle.std.proofs.Common.{◌≡◌, ℕ, ◌+◌, inl, inr, List, [], ◌∷◌, ◌++◌, cond, refl, sym, ap, subst}
+use Rattle.std.proofs.Common.{◌≡◌, ℕ, inl, inr, [], ◌∷◌, cond, refl, sym, ap, subst}
 use Rattle.std.proofs.Common.{◌∙◌, Some, None, Contains, slice_get}
 use Rattle.std.specs.FinMap as map
 use Rattle.gz_names.specs.Order.{names_total}
@@ -14,9 +14,8 @@ use Rattle.colour_defs.specs.Closure.{HasEdge}
 use Rattle.colour_defs.specs.World.{World, Preparation, Names, Has, IsPresent, IsSettled, IsIdle}
 use Rattle.colour_defs.specs.World.{BlackClosure, LiveClosure, first_world, first_preparation, marking_of}
 use Rattle.colour_defs.specs.World.{CommandInWorld}
-use Rattle.colour_defs.specs.Lawful.{Beginning, by_units, at_once, BeginsBy, Prepares, Begins, Collects}
-use Rattle.colour_defs.specs.Lawful.{IsLawfulOutputBy}
-use Rattle.spec_rows.specs.Rows.{comp_0, only_zone_0, linked_and_dropped, answers_without_freed_cell, started}
+use Rattle.colour_defs.specs.Lawful.{Prepares, Begins, Collects, IsLawfulOutput}
+use Rattle.spec_rows.specs.Rows.{comp_0, only_zone_0, linked_and_dropped, answers_without_freed_cell}
 use Rattle.colour_defs.specs.Laws.{IsValid, IsMade}
 use Rattle.colour_defs.proofs.Lists.{nothing_in_none, contains_head, contains_tail, contains_cases, no_name_in_nulls}
 use Rattle.colour_defs.proofs.Names.{eq_name-refl}
@@ -108,10 +107,10 @@ module _ (w : World) (ok : IsValid w) (at : w.graph ≡ w7.graph) (p : ℕ × �
       white_is_told u (Cell 2) p b.collection (ap (λ (z : World). z.collection) b.world_is)
       (subst (λ g. IsInZones g (0 ∷ []) (Cell 2)) (sym graph) refl) lying owner (not_in q.black empty u b) v all
 
-  no_collect : (how : Beginning) (v : World)
-      → Collects how w (0 ∷ [])
-      (started how ++ (Groups (only_zone_0 ∷ []) ∷ Ended only_zone_0 [] [] ∷ Swept 0 [] ∷ Done ∷ [])) v → ⊥
-  no_collect by_units v c =
+  no_collect : (v : World)
+      → Collects w (0 ∷ [])
+      (Started ∷ Groups (only_zone_0 ∷ []) ∷ Ended only_zone_0 [] [] ∷ Swept 0 [] ∷ Done ∷ []) v → ⊥
+  no_collect v c =
       let all : ReportsAll c.begun (Started ∷ Groups (only_zone_0 ∷ []) ∷ Ended only_zone_0 [] [] ∷ Swept 0 [] ∷ Done
       ∷ []) v = subst (λ rs. ReportsAll c.begun rs v) (sym c.reports_are) (units_reports c.begun c.units v c.done)
       in
@@ -121,12 +120,6 @@ module _ (w : World) (ok : IsValid w) (at : w.graph ≡ w7.graph) (p : ℕ × �
       cc (ap (λ (z : World). z.preparing) pr.world_is, b0.was) in
       let zones : (all.1).0 ≡ 0 ∷ [] = sym b0.of_zones ∙ sym (ap (λ (q : Preparation). q.zones) same) in
       no_rest c.begun pr all.0 (subst (λ z. Begins c.begun z all.0) zones b0) v all.2
-  no_collect at_once v c = no_rest c.begins.between c.begins.prepares c.begun c.begins.begins v
-      (subst (λ rs. ReportsAll c.begun rs v) (sym c.reports_are) (units_reports c.begun c.units v c.done))
-
-idle_before : (how : Beginning) (w : World) (zones : List ℕ) (v : World) → BeginsBy how w zones v → IsIdle w
-idle_before by_units w zones v h = h.idle
-idle_before at_once w zones v h = h.prepares.idle
 
 -- the collection of a run over these lines
 no_run : (u2 : World) → IsValid u2 → u2.graph ≡ w2.graph → u2.preparing ≡ None
@@ -134,9 +127,9 @@ no_run : (u2 : World) → IsValid u2 → u2.graph ≡ w2.graph → u2.preparing 
     → CommandInWorld u2 (cmd.New 0 comp_0 1) r3 u3 → CommandInWorld u3 (cmd.New 1 comp_0 0) r4 u4
     → CommandInWorld u4 (cmd.Set 0 0 (Some 1)) r5 u5 → CommandInWorld u5 (cmd.New 1 comp_0 0) r6 u6
     → CommandInWorld u6 (cmd.Drop 1) r7 u7
-    → (how : Beginning) → Collects how u7 (0 ∷ [])
-    (started how ++ (Groups (only_zone_0 ∷ []) ∷ Ended only_zone_0 [] [] ∷ Swept 0 [] ∷ Done ∷ [])) v → ⊥
-no_run u2 ok2 g2 c2 u3 u4 u5 u6 u7 v r3 r4 r5 r6 r7 h3 h4 h5 h6 h7 how c =
+    → Collects u7 (0 ∷ [])
+    (Started ∷ Groups (only_zone_0 ∷ []) ∷ Ended only_zone_0 [] [] ∷ Swept 0 [] ∷ Done ∷ []) v → ⊥
+no_run u2 ok2 g2 c2 u3 u4 u5 u6 u7 v r3 r4 r5 r6 r7 h3 h4 h5 h6 h7 c =
     let p3 = placed_after u2 u3 (cmd.New 0 comp_0 1) r3 w2.graph g2 refl c2 h3 (Cell 0) refl in
     let c3 : u3.preparing ≡ None = p3.preparing_is ∙ c2 in
     let p4 = placed_after u3 u4 (cmd.New 1 comp_0 0) r4 w3.graph p3.graph_is refl c3 h4 (Cell 1) refl in
@@ -162,12 +155,12 @@ no_run u2 ok2 g2 c2 u3 u4 u5 u6 u7 v r3 r4 r5 r6 r7 h3 h4 h5 h6 h7 how c =
     ∙ map.get-insert names_total u5.places (Cell 2) m.1 (Cell 2)
     ∙ ap (λ b. cond b (Some m.1) (map.get u5.places (Cell 2))) (eq_name-refl (Cell 2)) in
     no_collect u7 ok7 g7 m.1 (ap (λ (z : World). map.get z.places (Cell 2)) q7 ∙ lies)
-    (ap (λ (z : World). slice_get z.owner (m.1).0) q7 ∙ owned) (idle_before how u7 (0 ∷ []) c.begun c.begins) how v
+    (ap (λ (z : World). slice_get z.owner (m.1).0) q7 ∙ owned) c.begins.idle v
     c
 
-pub freed_cell_is_missed : (how : Beginning) → IsLawfulOutputBy how linked_and_dropped (answers_without_freed_cell how)
+pub freed_cell_is_missed : IsLawfulOutput linked_and_dropped answers_without_freed_cell
     → ⊥
-freed_cell_is_missed how (v, (u1, a1, (u2, a2, (u3, a3, (u4, a4, (u5, a5, (u6, a6, (u7, a7, (u8, a8, more))))))))) =
+freed_cell_is_missed (v, (u1, a1, (u2, a2, (u3, a3, (u4, a4, (u5, a5, (u6, a6, (u7, a7, (u8, a8, more))))))))) =
     let q1 = quiet_after first_world u1 cmd.Zone (reply.Zone 0) first_world.graph refl refl refl a1.1 refl in
     let g1 : u1.graph ≡ w1.graph = ap (λ (z : World). z.graph) q1 in
     let c1 : u1.preparing ≡ None = ap (λ (z : World). z.preparing) q1 in
@@ -178,9 +171,9 @@ freed_cell_is_missed how (v, (u1, a1, (u2, a2, (u3, a3, (u4, a4, (u5, a5, (u6, a
     (command_valid first_world u1 cmd.Zone (reply.Zone 0) first_valid a1.1) a2.1 in
     elim a8 [
       | inl h ↦ no_run u2 ok2 g2 c2 u3 u4 u5 u6 u7 u8 (reply.Made 0) (reply.Made 1) reply.Accepted (reply.Made 2)
-          reply.Accepted a3.1 a4.1 a5.1 a6.1 a7.1 how
-          (subst (λ z. Collects how u7 z
-          (started how ++ (Groups (only_zone_0 ∷ []) ∷ Ended only_zone_0 [] [] ∷ Swept 0 [] ∷ Done ∷ [])) u8)
+          reply.Accepted a3.1 a4.1 a5.1 a6.1 a7.1
+          (subst (λ z. Collects u7 z
+          (Started ∷ Groups (only_zone_0 ∷ []) ∷ Ended only_zone_0 [] [] ∷ Swept 0 [] ∷ Done ∷ []) u8)
           zones_in-first h.1)
       | inr n ↦ elim n [ inl h ↦ cc h.0 | inr h ↦ cc h.0 ]
     ]

@@ -1,6 +1,6 @@
 -- Given up: the answers are lawful, and are not where the cell stays gray.
 use Rattle.std.proofs.Common.{◌≡◌, ℕ, ◌⊎◌, inl, inr, List, [], ◌∷◌, ◌++◌, refl, sym, ap, subst, ◌∙◌, arith, Some, None}
-use Rattle.std.proofs.Common.{Contains, is_some, replicate}
+use Rattle.std.proofs.Common.{Contains, is_some}
 use Rattle.std.specs.FinSet as set
 use Rattle.gz_names.specs.Zones.{zones_in}
 use Rattle.gz_names.specs.declared.names.Name.{Name}
@@ -13,22 +13,20 @@ use Rattle.gz_names.specs.declared.replies.Report.TheVariants.{Started, Groups, 
 use Rattle.colour_defs.specs.Graph.{slot_cell, IsInZones}
 use Rattle.colour_defs.specs.Closure.{Closure, from}
 use Rattle.colour_defs.specs.Step.{step_of}
-use Rattle.colour_defs.specs.World.{World, Preparation, Collection, Names, Has, IsPresent, first_world}
-use Rattle.colour_defs.specs.World.{first_preparation, first_tally}
+use Rattle.colour_defs.specs.World.{World, Preparation, Names, Has, IsPresent, first_world}
+use Rattle.colour_defs.specs.World.{first_preparation}
 use Rattle.colour_defs.specs.Ends.{Lists}
-use Rattle.colour_defs.specs.Lawful.{Beginning, by_units, at_once, BeginsBy, Answers, AnswersBy, Begins, IsOver}
-use Rattle.colour_defs.specs.Lawful.{IsRunning, IsUnfinished, IsBlackSoFar, AreLawfulSweeps, LastOfReset, Stops, Resets}
-use Rattle.colour_defs.specs.Lawful.{IsLawfulOutputBy}
+use Rattle.colour_defs.specs.Lawful.{Answers, Prepares, IsRunning, IsUnfinished, IsBlackSoFar, AreLawfulSweeps}
+use Rattle.colour_defs.specs.Lawful.{LastOfReset, Stops, Resets, IsLawfulOutput}
 use Rattle.spec_rows.specs.Rows.{comp_0, only_zone_0, given_up, answers_given_up}
 use Rattle.colour_defs.specs.Laws.{IsValid}
-use Rattle.colour_defs.proofs.Lists.{nothing_in_none, contains_head, contains_set_cases, no_name_in_nulls}
+use Rattle.colour_defs.proofs.Lists.{nothing_in_none, contains_head}
 use Rattle.colour_defs.proofs.ZoneSets.{zones_in-first}
 use Rattle.colour_defs.proofs.ValidCommands.{insert_has}
 use Rattle.colour_defs.proofs.ValidRuns.{answer_valid, first_valid}
 use Rattle.colour_defs.proofs.Finite.{no_name, insert_cases}
 use Rattle.spec_rows.proofs.Places.{place_named, single}
 use Rattle.spec_rows.proofs.Making.{room_first, made_world, new_lawful}
-use Rattle.spec_rows.proofs.Beginnings.{begun_world, begins_either}
 use Rattle.spec_rows.proofs.OneZone.{prepared, prepares_one}
 use Rattle.spec_rows.proofs.OneGarbage.{made_graph, one_place}
 use Rattle.spec_rows.proofs.Inverted.{quiet_after, placed_after}
@@ -37,168 +35,85 @@ use Rattle.spec_rows.proofs.LinkedAndDropped.{w1, w2, a1, a2, v2}
 abbrev pub w3 : World
 w3 = made_world w2 0 comp_0 0 (0, 0) (Some 0 ∷ [])
 
-abbrev w4 : World
+abbrev pub w4 : World
 w4 = record w3 { graph = (step_of w3.graph (cmd.Hold 0 0)).0 }
 
-abbrev w5 : World
+abbrev pub w5 : World
 w5 = record w4 { graph = (step_of w4.graph (cmd.Drop 0)).0 }
 
 pub a3 : Answers w2 (Graph (cmd.New 0 comp_0 0)) [] (reply.Made 0) w3
 a3 = new_lawful w2 0 comp_0 0 0 (0, 0) (Some 0 ∷ []) v2 (record { none_running = refl; none_preparing = refl }) refl
     refl (room_first w2 0 (λ b e. cc e))
 
-abbrev roots : Names
+abbrev pub roots : Names
 roots = set.insert set.empty (Cell 0)
 
-abbrev k0 : Collection
-k0 = record {
-  zones = 0 ∷ [];
-  marking = 0 ∷ [];
-  snapshot = w5.graph;
-  black_starts = set.empty;
-  live_starts = roots;
-  woken = set.empty;
-  groups = None;
-  tally = first_tally (prepared w5) (first_preparation w5 (0 ∷ []));
-}
-
-abbrev u0 : World
-u0 = record w5 { black = set.empty; collection = Some k0 }
-
-abbrev w6 : World
+abbrev pub w6 : World
 w6 = record w5 { black = roots }
 
-present : (x : Name) → IsPresent w5 x → Cell 0 ≡ x
+pub present : (x : Name) → IsPresent w5 x → Cell 0 ≡ x
 present x h = single (Cell 0) x (place_named ((Cell 0, (0, 0)) ∷ []) x (sym (ap is_some (one_place x)) ∙ h))
 
-here0 : IsPresent w5 (Cell 0)
+pub here0 : IsPresent w5 (Cell 0)
 here0 = ap is_some (one_place (Cell 0))
 
-in_zone : (x : Name) → Cell 0 ≡ x → IsInZones w5.graph (0 ∷ []) x
+pub in_zone : (x : Name) → Cell 0 ≡ x → IsInZones w5.graph (0 ∷ []) x
 in_zone x e = subst (λ z. IsInZones w5.graph (0 ∷ []) z) e refl
 
-root : (x : Name) → Has roots x → Cell 0 ≡ x
+pub root : (x : Name) → Has roots x → Cell 0 ≡ x
 root x h = elim (insert_cases set.empty (Cell 0) x h) [ inl none ↦ absurd (no_name x none) | inr e ↦ e ]
 
-in_slot : (x : Name) → Contains w5.graph.slots (Some x) → Cell 0 ≡ x
-in_slot x c = elim (contains_set_cases (replicate 64 None) 0 (Some (Cell 0)) (Some x) c)
-    [ inl t ↦ absurd (no_name_in_nulls 64 x t) | inr e ↦ cc e ]
-
-begins : Begins (prepared w5) (0 ∷ []) u0
-begins = record {
-  preparation = first_preparation w5 (0 ∷ []);
-  was = refl;
-  of_zones = refl;
-  collection = k0;
-  world_is = refl;
-  zones_are = refl;
-  marking_are = refl;
-  snapshot_is = refl;
-  woken_is = refl;
-  groups_are = refl;
-  tally_is = refl;
-  black_starts = λ x. (
-    (λ h. absurd (no_name x h)),
-    λ h. elim h [ inl c ↦ absurd (no_name_in_nulls 16 x c) | inr b ↦ absurd (no_name x b) ],
-  );
-  live_starts = λ x. (
-    (λ h. inr (inl (subst (λ z. Contains w5.graph.slots (Some z)) (root x h) (0, omega arith, refl)))),
-    λ h. elim h [
-      | inl b ↦ absurd (no_name x b)
-      | inr o ↦ elim o [
-        | inl s ↦ subst (λ z. Has roots z) (in_slot x s) (insert_has set.empty (Cell 0))
-        | inr p
-            ↦ absurd (p.1 (in_zone x (present x p.0)))
-      ]
-    ],
-  );
-}
-
-begun : (how : Beginning) → AnswersBy how w5 (Gc only_zone_0) [] reply.GcBegun (begun_world how (prepared w5) u0)
-begun how = inl (
+pub begun : Answers w5 (Gc only_zone_0) [] reply.GcBegun (prepared w5)
+begun = inl (
   refl,
   refl,
-  subst (λ z. BeginsBy how w5 z (begun_world how (prepared w5) u0)) (sym zones_in-first)
-      (begins_either how (0 ∷ []) w5 (prepared w5) u0
+  subst (λ z. Prepares w5 z (prepared w5)) (sym zones_in-first)
       (prepares_one w5 (record { none_running = refl; none_preparing = refl }) (omega arith)
-      (λ x h. in_zone x (root x h))) begins),
+      (λ x h. in_zone x (root x h))),
 )
 
-runs : (how : Beginning) → IsRunning (begun_world how (prepared w5) u0)
-runs by_units = inr (first_preparation w5 (0 ∷ []), refl)
-runs at_once = inl (k0, refl)
+runs : IsRunning (prepared w5)
+runs = inr (first_preparation w5 (0 ∷ []), refl)
 
-not_over : (how : Beginning) → IsOver (begun_world how (prepared w5) u0) → ⊥
-not_over by_units o = cc o.running
-not_over at_once o = cc (o.running, o.ended)
-
-unfinished : (how : Beginning) (z : ℕ) → Contains (0 ∷ []) z → IsUnfinished (begun_world how (prepared w5) u0) z
-unfinished by_units z c = inr (first_preparation w5 (0 ∷ []), refl, c)
-unfinished at_once z c = inl c
-
-in_it : (how : Beginning) (z : ℕ) → IsUnfinished (begun_world how (prepared w5) u0) z → Contains (0 ∷ []) z
-in_it by_units z (inl c) = absurd (nothing_in_none z c)
-in_it by_units z (inr h) = let same : first_preparation w5 (0 ∷ []) ≡ h.0 = cc h.1 in
+in_it : (z : ℕ) → IsUnfinished (prepared w5) z → Contains (0 ∷ []) z
+in_it z (inl c) = absurd (nothing_in_none z c)
+in_it z (inr h) = let same : first_preparation w5 (0 ∷ []) ≡ h.0 = cc h.1 in
     subst (λ l. Contains l z) (sym (ap (λ (p : Preparation). p.zones) same)) h.2
-in_it at_once z (inl c) = c
-in_it at_once z (inr h) = absurd (cc h.1)
-
-world_after : (how : Beginning)
-    → w6 ≡ record (begun_world how (prepared w5) u0) { black = roots; preparing = None; collection = None }
-world_after by_units = refl
-world_after at_once = refl
-
-none_out : (how : Beginning) → (begun_world how (prepared w5) u0).out ≡ []
-none_out by_units = refl
-none_out at_once = refl
-
-same_places : (how : Beginning) (x : Name) → IsPresent (begun_world how (prepared w5) u0) x → Cell 0 ≡ x
-same_places by_units x h = present x h
-same_places at_once x h = present x h
-
-there : (how : Beginning) → IsPresent (begun_world how (prepared w5) u0) (Cell 0)
-there by_units = here0
-there at_once = here0
-
-inside : (how : Beginning) → IsInZones (begun_world how (prepared w5) u0).graph (0 ∷ []) (Cell 0)
-inside by_units = refl
-inside at_once = refl
 
 -- what a reset blackens first
-abbrev BlackAsItStops : Beginning → Name → Type 0
-BlackAsItStops how s = IsBlackSoFar (begun_world how (prepared w5) u0) s
-    ⊎ (IsPresent (begun_world how (prepared w5) u0) s × IsInZones (begun_world how (prepared w5) u0).graph (0 ∷ []) s)
+abbrev BlackAsItStops : Name → Type 0
+BlackAsItStops s = IsBlackSoFar (prepared w5) s
+    ⊎ (IsPresent (prepared w5) s × IsInZones (prepared w5).graph (0 ∷ []) s)
 
-stops : (how : Beginning) → Stops (begun_world how (prepared w5) u0) (0 ∷ []) w6
-stops how = record {
-  running = runs how;
-  none_out = none_out how;
-  not_over = not_over how;
-  zones_are = λ z. (unfinished how z, in_it how z);
-  world_is = world_after how;
+stops : Stops (prepared w5) (0 ∷ []) w6
+stops = record {
+  running = runs;
+  none_out = refl;
+  not_over = λ o. cc o.running;
+  zones_are = λ z. ((λ c. inr (first_preparation w5 (0 ∷ []), refl, c)), in_it z);
+  world_is = refl;
   black_are = λ x. (
-    (λ h. subst (λ z. Closure (begun_world how (prepared w5) u0).graph (BlackAsItStops how) z
-        × IsPresent (begun_world how (prepared w5) u0) z) (root x h) (from (inr (there how, inside how)), there how)),
-    λ h. subst (λ z. Has roots z) (same_places how x h.1) (insert_has set.empty (Cell 0)),
+    (λ h. subst (λ z. Closure (prepared w5).graph BlackAsItStops z × IsPresent (prepared w5) z) (root x h)
+        (from (inr (here0, refl)), here0)),
+    λ h. subst (λ z. Has roots z) (present x h.1) (insert_has set.empty (Cell 0)),
   );
 }
 
-stopped : (how : Beginning) → AnswersBy how (begun_world how (prepared w5) u0) Reset (Stopped only_zone_0 ∷ [])
-    reply.ResetDone w6
-stopped how = inl (
+stopped : Answers (prepared w5) Reset (Stopped only_zone_0 ∷ []) reply.ResetDone w6
+stopped = inl (
   refl,
   record {
-    running = runs how;
+    running = runs;
     sweeps = [];
-    after = begun_world how (prepared w5) u0;
+    after = prepared w5;
     swept = refl;
     final = Stopped only_zone_0;
-    ends = subst (λ z. Stops (begun_world how (prepared w5) u0) z w6) (sym zones_in-first) (stops how);
+    ends = subst (λ z. Stops (prepared w5) z w6) (sym zones_in-first) stops;
     reports_are = refl;
   },
 )
 
-none_gray : Lists (λ x. IsPresent w6 x × (Has w6.black x → ⊥)) []
+pub none_gray : Lists (λ x. IsPresent w6 x × (Has w6.black x → ⊥)) []
 none_gray = record {
   ascending = tt;
   has = λ x. (
@@ -207,8 +122,8 @@ none_gray = record {
   );
 }
 
-pub given_up_lawful : (how : Beginning) → IsLawfulOutputBy how given_up (answers_given_up [])
-given_up_lawful how = (
+pub given_up_lawful : IsLawfulOutput given_up (answers_given_up [])
+given_up_lawful = (
   w6,
   (
     w1,
@@ -225,7 +140,7 @@ given_up_lawful how = (
           (
             w5,
             (refl, (refl, refl)),
-            (begun_world how (prepared w5) u0, begun how, (w6, stopped how, (w6, told, refl))),
+            (prepared w5, begun, (w6, stopped, (w6, told, refl))),
           ),
         ),
       ),
@@ -243,7 +158,7 @@ given_up_lawful how = (
     )
 
 -- a reset that reports that it gave a collection up, and nothing else
-one_report : (w v : World) → Resets w (Stopped only_zone_0 ∷ []) v → Stops w (0 ∷ []) v
+pub one_report : (w v : World) → Resets w (Stopped only_zone_0 ∷ []) v → Stops w (0 ∷ []) v
 one_report w v r = go r.sweeps r.swept r.final r.ends r.reports_are
   where
     go : (sweeps : List Report) → AreLawfulSweeps w sweeps r.after → (final : Report) → LastOfReset r.after final v
@@ -259,14 +174,8 @@ one_report w v r = go r.sweeps r.swept r.final r.ends r.reports_are
     go (s ∷ []) h final ends e = absurd (cc e)
     go (s ∷ t ∷ more) h final ends e = absurd (cc e)
 
--- the graph and the places as a collection begins
-same_graph : (how : Beginning) (w v : World) → BeginsBy how w (0 ∷ []) v → v.graph ≡ w.graph
-same_graph by_units w v h = ap (λ (z : World). z.graph) h.world_is
-same_graph at_once w v h = ap (λ (z : World). z.graph) h.begins.world_is
-    ∙ ap (λ (z : World). z.graph) h.prepares.world_is
-
-pub not_gray_then : (how : Beginning) → IsLawfulOutputBy how given_up (answers_given_up (Cell 0 ∷ [])) → ⊥
-not_gray_then how (v, (u1, b1, (u2, b2, (u3, b3, (u4, b4, (u5, b5, (u6, b6, (u7, b7, (u8, b8, more))))))))) =
+pub not_gray_then : IsLawfulOutput given_up (answers_given_up (Cell 0 ∷ [])) → ⊥
+not_gray_then (v, (u1, b1, (u2, b2, (u3, b3, (u4, b4, (u5, b5, (u6, b6, (u7, b7, (u8, b8, more))))))))) =
     let q1 = quiet_after first_world u1 cmd.Zone (reply.Zone 0) first_world.graph refl refl refl b1.1 refl in
     let c1 : u1.preparing ≡ None = ap (λ (z : World). z.preparing) q1 in
     let q2 = quiet_after u1 u2 (cmd.Comp 0) (reply.Comp comp_0) w1.graph (ap (λ (z : World). z.graph) q1) refl c1 b2.1
@@ -279,17 +188,17 @@ not_gray_then how (v, (u1, b1, (u2, b2, (u3, b3, (u4, b4, (u5, b5, (u6, b6, (u7,
     let c4 : u4.preparing ≡ None = ap (λ (z : World). z.preparing) q4 ∙ c3 in
     let q5 = quiet_after u4 u5 (cmd.Drop 0) reply.Accepted w4.graph (ap (λ (z : World). z.graph) q4) refl c4 b5.1 refl
     in
-    let ok2 : IsValid u2 = answer_valid how u1 (Graph (cmd.Comp 0)) [] (reply.Comp comp_0) u2
-    (answer_valid how first_world (Graph cmd.Zone) [] (reply.Zone 0) u1 first_valid b1) b2 in
-    let ok3 : IsValid u3 = answer_valid how u2 (Graph (cmd.New 0 comp_0 0)) [] (reply.Made 0) u3 ok2 b3 in
-    let ok4 : IsValid u4 = answer_valid how u3 (Graph (cmd.Hold 0 0)) [] reply.Accepted u4 ok3 b4 in
-    let ok5 : IsValid u5 = answer_valid how u4 (Graph (cmd.Drop 0)) [] reply.Accepted u5 ok4 b5 in
-    let ok6 : IsValid u6 = answer_valid how u5 (Gc only_zone_0) [] reply.GcBegun u6 ok5 b6 in
+    let ok2 : IsValid u2 = answer_valid u1 (Graph (cmd.Comp 0)) [] (reply.Comp comp_0) u2
+    (answer_valid first_world (Graph cmd.Zone) [] (reply.Zone 0) u1 first_valid b1) b2 in
+    let ok3 : IsValid u3 = answer_valid u2 (Graph (cmd.New 0 comp_0 0)) [] (reply.Made 0) u3 ok2 b3 in
+    let ok4 : IsValid u4 = answer_valid u3 (Graph (cmd.Hold 0 0)) [] reply.Accepted u4 ok3 b4 in
+    let ok5 : IsValid u5 = answer_valid u4 (Graph (cmd.Drop 0)) [] reply.Accepted u5 ok4 b5 in
+    let ok6 : IsValid u6 = answer_valid u5 (Gc only_zone_0) [] reply.GcBegun u6 ok5 b6 in
     elim b6 [
       | inl h ↦ elim b7 [
         | inl r ↦ elim b8 [
           | inl t ↦
-              let g6 : u6.graph ≡ w5.graph = same_graph how u5 u6 (subst (λ z. BeginsBy how u5 z u6) zones_in-first h.2)
+              let g6 : u6.graph ≡ w5.graph = ap (λ (z : World). z.graph) h.2.world_is
               ∙ ap (λ (z : World). z.graph) q5 in
               let held : IsPresent u6 (Cell 0) =
               ok6.presence.slots 0 (Cell 0) (subst (λ g. slot_cell g 0 ≡ Some (Cell 0)) (sym g6) refl) in

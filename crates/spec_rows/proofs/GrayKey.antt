@@ -1,5 +1,5 @@
 -- A black map with a gray key: the answers are lawful.
-use Rattle.std.proofs.Common.{◌≡◌, ℕ, zero, suc, ◌+◌, ◌<◌, ◌⊎◌, inl, inr, List, [], ◌∷◌, ◌++◌, Bool, true, false, ◌&&◌}
+use Rattle.std.proofs.Common.{◌≡◌, ℕ, zero, suc, ◌+◌, ◌<◌, ◌⊎◌, inl, inr, List, [], ◌∷◌, Bool, true, false, ◌&&◌}
 use Rattle.std.proofs.Common.{cond, refl, sym, ap, subst, ◌∙◌, arith, Some, None, Contains, is_some, replicate}
 use Rattle.std.specs.FinSet as set
 use Rattle.std.specs.FinMap as map
@@ -10,15 +10,15 @@ use Rattle.gz_names.specs.declared.numbers.CompNo.{CompNo}
 use Rattle.gz_names.specs.declared.commands.GraphCmd.TheVariants as cmd
 use Rattle.gz_names.specs.declared.commands.Cmd.TheVariants.{Graph, Collect, Colours}
 use Rattle.gz_names.specs.declared.replies.Reply.TheVariants as reply
-use Rattle.gz_names.specs.declared.replies.Report.TheVariants.{Groups, Ended, Swept, Done}
+use Rattle.gz_names.specs.declared.replies.Report.TheVariants.{Started, Groups, Ended, Swept, Done}
 use Rattle.colour_defs.specs.Graph.{value_of, IsInZones}
 use Rattle.colour_defs.specs.Closure.{HasEdge, Closure, from, weak}
 use Rattle.colour_defs.specs.Step.{step_of, new_map}
 use Rattle.colour_defs.specs.World.{World, Collection, first_preparation, Names, Has, IsPresent, BlackClosure}
 use Rattle.colour_defs.specs.World.{LiveClosure, first_tally}
 use Rattle.colour_defs.specs.Ends.{IsLawfulEnd, IsWhiteOf, Lists}
-use Rattle.colour_defs.specs.Lawful.{Beginning, at_once, Answers, AnswersBy, Begins, IsLawfulOutputBy}
-use Rattle.spec_rows.specs.Rows.{comp_0, only_zone_0, gray_key, answers_gray_key, started}
+use Rattle.colour_defs.specs.Lawful.{Answers, Begins, IsLawfulOutput}
+use Rattle.spec_rows.specs.Rows.{comp_0, only_zone_0, gray_key, answers_gray_key}
 use Rattle.colour_defs.specs.Laws.{IsValid}
 use Rattle.colour_defs.proofs.Lists.{nothing_in_none, contains_head, contains_tail, contains_cases, no_name_in_nulls}
 use Rattle.colour_defs.proofs.Lists.{contains_set_cases}
@@ -60,7 +60,7 @@ a3 = map_lawful w2 0 comp_0 0 (0, 0) (Some 0 ∷ []) v2 (record { none_running =
     (room_first w2 0 (λ b e. cc e))
 
 v3 : IsValid w3
-v3 = answer_valid at_once w2 (Graph (cmd.Map 0 comp_0)) [] (reply.Made 0) w3 v2 a3
+v3 = answer_valid w2 (Graph (cmd.Map 0 comp_0)) [] (reply.Made 0) w3 v2 a3
 
 abbrev p3 : List (Name × (ℕ × ℕ))
 p3 = (Cell 0, (0, 0)) ∷ []
@@ -95,7 +95,7 @@ a4 = new_lawful w3 1 comp_0 0 0 (0, 1) (Some 0 ∷ []) v3 (record { none_running
     (λ x e. fresh_slot p3 (0, 1) refl x (sym (places3 x) ∙ e)))
 
 v4 : IsValid w4
-v4 = answer_valid at_once w3 (Graph (cmd.New 1 comp_0 0)) [] (reply.Made 1) w4 v3 a4
+v4 = answer_valid w3 (Graph (cmd.New 1 comp_0 0)) [] (reply.Made 1) w4 v3 a4
 
 a5 : Answers w4 (Graph (cmd.New 2 comp_0 0)) [] (reply.Made 2) w5
 a5 = new_lawful w4 2 comp_0 0 0 (0, 2) (Some 0 ∷ []) v4 (record { none_running = refl; none_preparing = refl }) refl
@@ -310,11 +310,10 @@ ends = record {
   );
 }
 
-collected : (how : Beginning)
-    → AnswersBy how w8 (Collect only_zone_0)
-    (started how ++ (Groups (only_zone_0 ∷ []) ∷ Ended only_zone_0 grays [] ∷ Swept 0 [] ∷ Done ∷ [])) reply.Collected
+collected : Answers w8 (Collect only_zone_0)
+    (Started ∷ Groups (only_zone_0 ∷ []) ∷ Ended only_zone_0 grays [] ∷ Swept 0 [] ∷ Done ∷ []) reply.Collected
     w9
-collected how = collect_lawful how w8 u0 u1 u2 u3 w9 grays []
+collected = collect_lawful w8 u0 u1 u2 u3 w9 grays []
     (prepares_one w8 (record { none_running = refl; none_preparing = refl }) (omega arith)
     (λ x h. all_in_zone x ((black8 x).0 h))) begins (forms_one_group u0 k0 refl refl refl)
     (record {
@@ -387,8 +386,8 @@ no_gray = record {
 abbrev w11 : World
 w11 = record w10 { graph = (step_of w10.graph (cmd.Find 3 0 1)).0 }
 
-pub gray_key_lawful : (how : Beginning) → IsLawfulOutputBy how gray_key (answers_gray_key how)
-gray_key_lawful how = (
+pub gray_key_lawful : IsLawfulOutput gray_key answers_gray_key
+gray_key_lawful = (
   w11,
   (
     w1,
@@ -417,7 +416,7 @@ gray_key_lawful how = (
                   (
                     w8,
                     (refl, (refl, refl)),
-                    (w9, collected how, (w10, exposed, (w10, colours, (w11, (refl, (refl, refl)), refl)))),
+                    (w9, collected, (w10, exposed, (w10, colours, (w11, (refl, (refl, refl)), refl)))),
                   ),
                 ),
               ),

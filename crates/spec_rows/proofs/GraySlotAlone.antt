@@ -1,5 +1,5 @@
 -- A gray slot alone: the answers are lawful.
-use Rattle.std.proofs.Common.{◌≡◌, zero, suc, ◌+◌, ◌⊎◌, inl, inr, [], ◌∷◌, ◌++◌, refl, sym, ap, subst, ◌∙◌, arith, Some}
+use Rattle.std.proofs.Common.{◌≡◌, zero, suc, ◌+◌, ◌⊎◌, inl, inr, [], ◌∷◌, refl, sym, ap, subst, ◌∙◌, arith, Some}
 use Rattle.std.proofs.Common.{None, Contains, is_some, replicate}
 use Rattle.std.specs.FinSet as set
 use Rattle.gz_names.specs.declared.names.Name.{Name}
@@ -7,15 +7,15 @@ use Rattle.gz_names.specs.declared.names.Name.TheVariants.{Cell, Wrap}
 use Rattle.gz_names.specs.declared.commands.GraphCmd.TheVariants as cmd
 use Rattle.gz_names.specs.declared.commands.Cmd.TheVariants.{Graph, Collect, Colours}
 use Rattle.gz_names.specs.declared.replies.Reply.TheVariants as reply
-use Rattle.gz_names.specs.declared.replies.Report.TheVariants.{Groups, Ended, Swept, Done}
+use Rattle.gz_names.specs.declared.replies.Report.TheVariants.{Started, Groups, Ended, Swept, Done}
 use Rattle.colour_defs.specs.Graph.{value_of, IsInZones}
 use Rattle.colour_defs.specs.Closure.{HasEdge, Closure, from, along}
 use Rattle.colour_defs.specs.Step.{step_of}
 use Rattle.colour_defs.specs.World.{World, Collection, first_preparation, Names, Has, IsPresent, BlackClosure}
 use Rattle.colour_defs.specs.World.{LiveClosure, first_tally}
 use Rattle.colour_defs.specs.Ends.{IsLawfulEnd, IsWhiteOf, Lists}
-use Rattle.colour_defs.specs.Lawful.{Beginning, Answers, AnswersBy, Begins, IsLawfulOutputBy}
-use Rattle.spec_rows.specs.Rows.{only_zone_0, gray_slot_alone, answers_gray_slot_alone, started}
+use Rattle.colour_defs.specs.Lawful.{Answers, Begins, IsLawfulOutput}
+use Rattle.spec_rows.specs.Rows.{only_zone_0, gray_slot_alone, answers_gray_slot_alone}
 use Rattle.colour_defs.proofs.Lists.{nothing_in_none, contains_head, contains_tail, no_name_in_nulls}
 use Rattle.colour_defs.proofs.Lists.{contains_set_cases}
 use Rattle.colour_defs.proofs.Membership.{gray_of, white_is_not_live}
@@ -192,11 +192,10 @@ ends = record {
   black_are = λ s x. ((λ h. absurd (no_name x h)), λ h. absurd (none_black x h.0));
 }
 
-collected : (how : Beginning)
-    → AnswersBy how w8 (Collect only_zone_0)
-    (started how ++ (Groups (only_zone_0 ∷ []) ∷ Ended only_zone_0 (Cell 0 ∷ Cell 1 ∷ []) [] ∷ Swept 0 [] ∷ Done ∷ []))
+collected : Answers w8 (Collect only_zone_0)
+    (Started ∷ Groups (only_zone_0 ∷ []) ∷ Ended only_zone_0 (Cell 0 ∷ Cell 1 ∷ []) [] ∷ Swept 0 [] ∷ Done ∷ [])
     reply.Collected w9
-collected how = collect_lawful how w8 u0 u1 u2 u3 w9 (Cell 0 ∷ Cell 1 ∷ []) []
+collected = collect_lawful w8 u0 u1 u2 u3 w9 (Cell 0 ∷ Cell 1 ∷ []) []
     (prepares_one w8 (record { none_running = refl; none_preparing = refl }) (omega arith)
     (λ x h. all_in_zone x ((black4 x).0 h))) begins (forms_one_group u0 k0 refl refl refl)
     (record {
@@ -274,8 +273,8 @@ no_gray = record {
   has = λ x. ((λ c. absurd (nothing_in_none x c)), λ h. absurd (h.1 ((black4 x).1 (present4 x h.0))));
 }
 
-pub gray_slot_alone_lawful : (how : Beginning) → IsLawfulOutputBy how gray_slot_alone (answers_gray_slot_alone how)
-gray_slot_alone_lawful how = (
+pub gray_slot_alone_lawful : IsLawfulOutput gray_slot_alone answers_gray_slot_alone
+gray_slot_alone_lawful = (
   w10,
   (
     w1,
@@ -301,7 +300,7 @@ gray_slot_alone_lawful how = (
                 (
                   w8,
                   (refl, (refl, refl)),
-                  (w9, collected how, (w9, first_colours, (w10, exposed, (w10, second_colours, refl)))),
+                  (w9, collected, (w9, first_colours, (w10, exposed, (w10, second_colours, refl)))),
                 ),
               ),
             ),

@@ -13,6 +13,7 @@ pub mod Told
 pub mod FreedCellMissed
 pub mod MadeWhilePreparing
 pub mod GivenUp
+pub mod GivenUpWhileMarking
 pub mod WeaklyNamed
 pub mod WeaklyMissed
 pub mod WrapperKey

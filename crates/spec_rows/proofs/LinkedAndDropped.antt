@@ -1,5 +1,5 @@
 -- Linked and dropped: the answers are lawful.
-use Rattle.std.proofs.Common.{◌≡◌, ℕ, zero, suc, ◌+◌, ◌<◌, inl, inr, List, [], ◌∷◌, ◌++◌, Bool, true, false, cond, refl}
+use Rattle.std.proofs.Common.{◌≡◌, ℕ, zero, suc, ◌+◌, ◌<◌, inl, inr, List, [], ◌∷◌, Bool, true, false, cond, refl}
 use Rattle.std.proofs.Common.{sym, ap, subst, ◌∙◌, arith, Option, Some, None, Contains, is_some, slice_get, replicate}
 use Rattle.std.specs.FinSet as set
 use Rattle.std.specs.FinMap as map
@@ -9,15 +9,15 @@ use Rattle.gz_names.specs.declared.names.Name.TheVariants.{Cell, Wrap}
 use Rattle.gz_names.specs.declared.commands.GraphCmd.TheVariants as cmd
 use Rattle.gz_names.specs.declared.commands.Cmd.TheVariants.{Graph, Collect}
 use Rattle.gz_names.specs.declared.replies.Reply.TheVariants as reply
-use Rattle.gz_names.specs.declared.replies.Report.TheVariants.{Groups, Ended, Swept, Done}
+use Rattle.gz_names.specs.declared.replies.Report.TheVariants.{Started, Groups, Ended, Swept, Done}
 use Rattle.colour_defs.specs.Graph.{value_of, IsInZones}
 use Rattle.colour_defs.specs.Closure.{HasEdge, from, along}
 use Rattle.colour_defs.specs.Step.{step_of}
 use Rattle.colour_defs.specs.World.{World, Collection, first_preparation, Names, Has, IsPresent, BlackClosure}
 use Rattle.colour_defs.specs.World.{LiveClosure, first_world, first_tally}
 use Rattle.colour_defs.specs.Ends.{IsLawfulEnd, IsWhiteOf}
-use Rattle.colour_defs.specs.Lawful.{Beginning, at_once, Answers, AnswersBy, Begins, IsLawfulOutputBy}
-use Rattle.spec_rows.specs.Rows.{comp_0, only_zone_0, linked_and_dropped, answers_linked_and_dropped, started}
+use Rattle.colour_defs.specs.Lawful.{Answers, Begins, IsLawfulOutput}
+use Rattle.spec_rows.specs.Rows.{comp_0, only_zone_0, linked_and_dropped, answers_linked_and_dropped}
 use Rattle.colour_defs.specs.Laws.{IsValid}
 use Rattle.colour_defs.proofs.Lists.{nothing_in_none, contains_head, contains_tail, contains_cases, no_name_in_nulls}
 use Rattle.colour_defs.proofs.Names.{same_name-is}
@@ -60,15 +60,15 @@ pub a2 : Answers w1 (Graph (cmd.Comp 0)) [] (reply.Comp comp_0) w2
 a2 = (refl, (refl, refl))
 
 pub v2 : IsValid w2
-v2 = answer_valid at_once w1 (Graph (cmd.Comp 0)) [] (reply.Comp comp_0) w2
-    (answer_valid at_once first_world (Graph cmd.Zone) [] (reply.Zone 0) w1 first_valid a1) a2
+v2 = answer_valid w1 (Graph (cmd.Comp 0)) [] (reply.Comp comp_0) w2
+    (answer_valid first_world (Graph cmd.Zone) [] (reply.Zone 0) w1 first_valid a1) a2
 
 pub a3 : Answers w2 (Graph (cmd.New 0 comp_0 1)) [] (reply.Made 0) w3
 a3 = new_lawful w2 0 comp_0 1 0 (0, 0) (Some 0 ∷ []) v2 (record { none_running = refl; none_preparing = refl }) refl
     refl (room_first w2 0 (λ b e. cc e))
 
 v3 : IsValid w3
-v3 = answer_valid at_once w2 (Graph (cmd.New 0 comp_0 1)) [] (reply.Made 0) w3 v2 a3
+v3 = answer_valid w2 (Graph (cmd.New 0 comp_0 1)) [] (reply.Made 0) w3 v2 a3
 
 pub only_arena : (b : ℕ) → slice_get {X = Option ℕ} (Some 0 ∷ []) b ≡ Some (Some 0) → b ≡ 0
 only_arena zero e = refl
@@ -102,13 +102,13 @@ a4 = new_lawful w3 1 comp_0 0 0 (0, 1) (Some 0 ∷ []) v3 (record { none_running
     (λ x e. fresh_slot p3 (0, 1) refl x (sym (places3 x) ∙ e)))
 
 v4 : IsValid w4
-v4 = answer_valid at_once w3 (Graph (cmd.New 1 comp_0 0)) [] (reply.Made 1) w4 v3 a4
+v4 = answer_valid w3 (Graph (cmd.New 1 comp_0 0)) [] (reply.Made 1) w4 v3 a4
 
 pub a5 : Answers w4 (Graph (cmd.Set 0 0 (Some 1))) [] reply.Accepted w5
 a5 = (refl, (refl, refl))
 
 pub v5 : IsValid w5
-v5 = answer_valid at_once w4 (Graph (cmd.Set 0 0 (Some 1))) [] reply.Accepted w5 v4 a5
+v5 = answer_valid w4 (Graph (cmd.Set 0 0 (Some 1))) [] reply.Accepted w5 v4 a5
 
 used5 : (s : ℕ) → s < 2 → (x : Name) × (map.get w5.places x ≡ Some (0, s))
 used5 zero h = (Cell 0, places4 (Cell 0))
@@ -319,11 +319,10 @@ u3 = record u2 { out = []; white = []; collection = Some k3 }
 abbrev pub w8 : World
 w8 = record u3 { collection = None }
 
-pub a8 : (how : Beginning)
-    → AnswersBy how w7 (Collect only_zone_0)
-    (started how ++ (Groups (only_zone_0 ∷ []) ∷ Ended only_zone_0 [] [] ∷ Swept 0 (Cell 2 ∷ []) ∷ Done ∷ []))
+pub a8 : Answers w7 (Collect only_zone_0)
+    (Started ∷ Groups (only_zone_0 ∷ []) ∷ Ended only_zone_0 [] [] ∷ Swept 0 (Cell 2 ∷ []) ∷ Done ∷ [])
     reply.Collected w8
-a8 how = collect_lawful how w7 u0 u1 u2 u3 w8 [] (Cell 2 ∷ [])
+a8 = collect_lawful w7 u0 u1 u2 u3 w8 [] (Cell 2 ∷ [])
     (prepares_one w7 (record { none_running = refl; none_preparing = refl }) (omega arith)
     (λ x h. all_in_zone x ((black7 x).0 h))) begins (forms_one_group u0 k0 refl refl refl)
     (record {
@@ -342,7 +341,6 @@ w9 = record w8 { graph = (step_of w8.graph (cmd.Get 2 0 0)).0 }
 pub a9 : Answers w8 (Graph (cmd.Get 2 0 0)) [] (reply.Named (Cell 1)) w9
 a9 = (refl, (refl, refl))
 
-pub linked_and_dropped_lawful : (how : Beginning)
-    → IsLawfulOutputBy how linked_and_dropped (answers_linked_and_dropped how)
-linked_and_dropped_lawful how =
-    (w9, (w1, a1, (w2, a2, (w3, a3, (w4, a4, (w5, a5, (w6, a6, (w7, a7, (w8, a8 how, (w9, a9, refl))))))))))
+pub linked_and_dropped_lawful : IsLawfulOutput linked_and_dropped answers_linked_and_dropped
+linked_and_dropped_lawful =
+    (w9, (w1, a1, (w2, a2, (w3, a3, (w4, a4, (w5, a5, (w6, a6, (w7, a7, (w8, a8, (w9, a9, refl))))))))))

@@ -1,5 +1,5 @@
 -- Made and dropped while marking: the answers are lawful.
-use Rattle.std.proofs.Common.{◌≡◌, ℕ, ◌+◌, ◌≤◌, inl, inr, [], ◌∷◌, ◌++◌, refl, sym, ap, subst, ◌∙◌, arith}
+use Rattle.std.proofs.Common.{◌≡◌, ◌+◌, ◌≤◌, inl, inr, [], ◌∷◌, refl, sym, ap, subst, ◌∙◌, arith}
 use Rattle.std.proofs.Common.{Some, None, is_some}
 use Rattle.std.specs.FinSet as set
 use Rattle.std.specs.FinMap as map
@@ -16,10 +16,8 @@ use Rattle.colour_defs.specs.Units.{unit_limit}
 use Rattle.colour_defs.specs.World.{World, Collection, first_preparation, Has, IsPresent, BlackClosure, LiveClosure}
 use Rattle.colour_defs.specs.World.{first_tally, no_weak_names}
 use Rattle.colour_defs.specs.Ends.{IsLawfulEnd, IsWhiteOf}
-use Rattle.colour_defs.specs.Lawful.{Beginning, by_units, at_once, Answers, AnswersBy, Begins, BeginsBy}
-use Rattle.colour_defs.specs.Lawful.{IsLawfulOutputBy}
-use Rattle.spec_rows.specs.Rows.{comp_0, only_zone_0, made_while_marking, answers_made_while_marking, started}
-use Rattle.spec_rows.specs.Rows.{units_to_start}
+use Rattle.colour_defs.specs.Lawful.{Answers, Prepares, Begins, IsLawfulOutput}
+use Rattle.spec_rows.specs.Rows.{comp_0, only_zone_0, made_while_marking, answers_made_while_marking}
 use Rattle.colour_defs.proofs.Lists.{nothing_in_none, no_name_in_nulls}
 use Rattle.colour_defs.proofs.ZoneSets.{zones_in-first}
 use Rattle.colour_defs.proofs.ValidCommands.{insert_has}
@@ -27,7 +25,7 @@ use Rattle.colour_defs.proofs.ValidRuns.{no_one, no_black}
 use Rattle.colour_defs.proofs.Finite.{Members, members_empty, members_insert, no_name}
 use Rattle.spec_rows.proofs.Places.{Places, places_empty, places_insert, reached_within, place_named, single}
 use Rattle.spec_rows.proofs.Making.{room_first}
-use Rattle.spec_rows.proofs.Beginnings.{begun_world, begins_unit, begins_either}
+use Rattle.spec_rows.proofs.Beginnings.{begins_unit}
 use Rattle.colour_defs.proofs.NothingWeak.{loses_nothing}
 use Rattle.spec_rows.proofs.OneZone.{prepared, prepares_one, grouped, forms_one_group, one_zone_units}
 use Rattle.spec_rows.proofs.OneZone.{one_zone_lawful, units_collect, sweep_of_nothing}
@@ -82,184 +80,173 @@ begun_again = garbage_begun 1 no_weak_names no_weak_names []
 abbrev freed : World
 freed = garbage_freed 1 no_weak_names no_weak_names []
 
--- the rest of the run, by the units that the beginning took
-module _ (n : ℕ) where
-  abbrev k1 : Collection
-  k1 = record k0 { tally = record k0.tally { spent = k0.tally.spent + n } }
+-- the rest of the run
+abbrev k1 : Collection
+k1 = record k0 { tally = record k0.tally { spent = k0.tally.spent + 1 } }
 
-  abbrev u1 : World
-  u1 = record w2 { black = set.empty; collection = Some k1 }
+abbrev u1 : World
+u1 = record w2 { black = set.empty; collection = Some k1 }
 
-  abbrev k2 : Collection
-  k2 = record k1 { woken = set.insert set.empty (Cell 0) }
+abbrev k2 : Collection
+k2 = record k1 { woken = set.insert set.empty (Cell 0) }
 
-  abbrev u2 : World
-  u2 = record u1 {
-    graph = (step_of w2.graph (cmd.New 0 comp_0 0)).0;
-    places = map.insert map.empty (Cell 0) (0, 0);
-    owner = Some 0 ∷ [];
-    collection = Some k2;
-  }
+abbrev u2 : World
+u2 = record u1 {
+  graph = (step_of w2.graph (cmd.New 0 comp_0 0)).0;
+  places = map.insert map.empty (Cell 0) (0, 0);
+  owner = Some 0 ∷ [];
+  collection = Some k2;
+}
 
-  abbrev u3 : World
-  u3 = record u2 { graph = (step_of u2.graph (cmd.Drop 0)).0 }
+abbrev u3 : World
+u3 = record u2 { graph = (step_of u2.graph (cmd.Drop 0)).0 }
 
-  abbrev k4 : Collection
-  k4 = grouped k2
+abbrev k4 : Collection
+k4 = grouped k2
 
-  abbrev u4 : World
-  u4 = record u3 { collection = Some k4 }
+abbrev u4 : World
+u4 = record u3 { collection = Some k4 }
 
-  abbrev k5 : Collection
-  k5 = record k4 { marking = []; groups = Some [] }
+abbrev k5 : Collection
+k5 = record k4 { marking = []; groups = Some [] }
 
-  abbrev u5 : World
-  u5 = record u3 { out = 0 ∷ []; black = set.insert set.empty (Cell 0); collection = Some k5 }
+abbrev u5 : World
+u5 = record u3 { out = 0 ∷ []; black = set.insert set.empty (Cell 0); collection = Some k5 }
 
-  abbrev k6 : Collection
-  k6 = record k5 { tally = record k5.tally { sweeps = k5.tally.sweeps + 1 } }
+abbrev k6 : Collection
+k6 = record k5 { tally = record k5.tally { sweeps = k5.tally.sweeps + 1 } }
 
-  abbrev u6 : World
-  u6 = record u5 { out = []; white = []; collection = Some k6 }
+abbrev u6 : World
+u6 = record u5 { out = []; white = []; collection = Some k6 }
 
-  abbrev u7 : World
-  u7 = record u6 { collection = None }
+abbrev u7 : World
+u7 = record u6 { collection = None }
 
-  made : Answers u1 (Graph (cmd.New 0 comp_0 0)) [] (reply.Made 0) u2
-  made = (
+made : Answers u1 (Graph (cmd.New 0 comp_0 0)) [] (reply.Made 0) u2
+made = (
+  refl,
+  (
     refl,
     (
-      refl,
-      (
-        record {
-          graph_is = refl;
-          found = λ h. absurd (no_one (Cell 0) h);
-          made = λ n. (0, (0, 0), refl, room_first u1 0 (λ b e. cc e), refl);
-          out_is = refl;
-          white_is = refl;
-          weak_is = refl;
-          preparing_is = refl;
-        },
-        (refl, refl),
-      ),
+      record {
+        graph_is = refl;
+        found = λ h. absurd (no_one (Cell 0) h);
+        made = λ n. (0, (0, 0), refl, room_first u1 0 (λ b e. cc e), refl);
+        out_is = refl;
+        white_is = refl;
+        weak_is = refl;
+        preparing_is = refl;
+      },
+      (refl, refl),
     ),
-  )
+  ),
+)
 
-  awake : Members (set.insert set.empty (Cell 0)) (Cell 0 ∷ [])
-  awake = members_insert set.empty [] (Cell 0) members_empty
+awake : Members (set.insert set.empty (Cell 0)) (Cell 0 ∷ [])
+awake = members_insert set.empty [] (Cell 0) members_empty
 
-  places : Places u3.places ((Cell 0, (0, 0)) ∷ [])
-  places = places_insert map.empty [] (Cell 0) (0, 0) places_empty
+places : Places u3.places ((Cell 0, (0, 0)) ∷ [])
+places = places_insert map.empty [] (Cell 0) (0, 0) places_empty
 
-  present : (x : Name) → IsPresent u3 x → Cell 0 ≡ x
-  present x h = single (Cell 0) x (place_named ((Cell 0, (0, 0)) ∷ []) x (sym (ap is_some (places x)) ∙ h))
+present : (x : Name) → IsPresent u3 x → Cell 0 ≡ x
+present x h = single (Cell 0) x (place_named ((Cell 0, (0, 0)) ∷ []) x (sym (ap is_some (places x)) ∙ h))
 
-  here0 : IsPresent u3 (Cell 0)
-  here0 = ap is_some (places (Cell 0))
+here0 : IsPresent u3 (Cell 0)
+here0 = ap is_some (places (Cell 0))
 
-  -- nothing has an edge in the snapshot, so what is reached is what was woken
-  no_edge2 : (x y : Name) → HasEdge w2.graph x y → ⊥
-  no_edge2 (Cell n) y e = e
-  no_edge2 (Wrap c t) y e = cc e.1
+-- nothing has an edge in the snapshot, so what is reached is what was woken
+no_edge2 : (x y : Name) → HasEdge w2.graph x y → ⊥
+no_edge2 (Cell n) y e = e
+no_edge2 (Wrap c t) y e = cc e.1
 
-  within : (x : Name) → LiveClosure k4 x → Cell 0 ≡ x
-  within x h = single (Cell 0) x
-      (reached_within w2.graph _ (Cell 0 ∷ []) (λ y s. elim s [ inl a ↦ absurd (no_name y a) | inr t ↦ (awake y).0 t ])
-      (λ y z c d. absurd (no_edge2 y z d)) (λ m q v at hm hq. absurd (cc at)) (λ m v c t at hm ht. absurd (cc at)) h)
+within : (x : Name) → LiveClosure k4 x → Cell 0 ≡ x
+within x h = single (Cell 0) x
+    (reached_within w2.graph _ (Cell 0 ∷ []) (λ y s. elim s [ inl a ↦ absurd (no_name y a) | inr t ↦ (awake y).0 t ])
+    (λ y z c d. absurd (no_edge2 y z d)) (λ m q v at hm hq. absurd (cc at)) (λ m v c t at hm ht. absurd (cc at)) h)
 
-  black0 : BlackClosure k4 (Cell 0)
-  black0 = from (inr (insert_has set.empty (Cell 0)))
+black0 : BlackClosure k4 (Cell 0)
+black0 = from (inr (insert_has set.empty (Cell 0)))
 
-  no_white : (x : Name) → IsWhiteOf u4 k4 (0 ∷ []) x → ⊥
-  no_white x h = h.white.not_black (subst (λ z. BlackClosure k4 z) (present x h.present) black0)
+no_white : (x : Name) → IsWhiteOf u4 k4 (0 ∷ []) x → ⊥
+no_white x h = h.white.not_black (subst (λ z. BlackClosure k4 z) (present x h.present) black0)
 
-  ends : IsLawfulEnd u4 k4 (0 ∷ []) [] [] u5
-  ends = record {
-    ready = refl;
-    grays_are = record {
-      ascending = tt;
-      has = λ x. (
-        (λ c. absurd (nothing_in_none x c)),
-        λ g. absurd (g.gray.not_black (subst (λ z. BlackClosure k4 z) (present x g.present) black0)),
-      );
-    };
-    graph_is = refl;
-    owner_is = refl;
-    gone = λ x h. absurd (no_white x h);
-    stay = λ x n. refl;
-    white_are = λ x p. ((λ c. absurd (nothing_in_none (x, p) c)), λ h. absurd (no_white x h.0));
-    out_is = refl;
-    preparing_is = refl;
-    collection_is = refl;
-    black_are = λ s x. (
-      (λ h. subst (λ z. BlackClosure k4 z × IsPresent u5 z) (single (Cell 0) x ((awake x).0 h)) (black0, here0)),
-      λ h. subst (λ z. Has u5.black z) (present x h.1) (insert_has set.empty (Cell 0)),
+ends : IsLawfulEnd u4 k4 (0 ∷ []) [] [] u5
+ends = record {
+  ready = refl;
+  grays_are = record {
+    ascending = tt;
+    has = λ x. (
+      (λ c. absurd (nothing_in_none x c)),
+      λ g. absurd (g.gray.not_black (subst (λ z. BlackClosure k4 z) (present x g.present) black0)),
     );
-  }
+  };
+  graph_is = refl;
+  owner_is = refl;
+  gone = λ x h. absurd (no_white x h);
+  stay = λ x n. refl;
+  white_are = λ x p. ((λ c. absurd (nothing_in_none (x, p) c)), λ h. absurd (no_white x h.0));
+  out_is = refl;
+  preparing_is = refl;
+  collection_is = refl;
+  black_are = λ s x. (
+    (λ h. subst (λ z. BlackClosure k4 z × IsPresent u5 z) (single (Cell 0) x ((awake x).0 h)) (black0, here0)),
+    λ h. subst (λ z. Has u5.black z) (present x h.1) (insert_has set.empty (Cell 0)),
+  );
+}
 
-  few_units : n ≤ 1 → k2.tally.spent + 3 ≤ unit_limit k2.tally + 1
-  few_units few = omega (arith, few)
+few_units : k2.tally.spent + 3 ≤ unit_limit k2.tally + 1
+few_units = omega arith
 
-  finished : n ≤ 1 → Answers u3 Finish (Groups (only_zone_0 ∷ []) ∷ Ended only_zone_0 [] [] ∷ Swept 0 [] ∷ Done ∷ [])
-      (reply.Sliced 3) u7
-  finished few = inl (
-    3,
-    refl,
-    record {
-      running = inl (k2, refl);
-      units = one_zone_units [] [] [];
-      after = u7;
-      done = one_zone_lawful u3 u4 u5 u6 u7 [] [] [] (forms_one_group u3 k2 refl refl refl)
-          (record {
-            collection = k4;
-            rest = [];
-            running = refl;
-            first = refl;
-            ends = ends;
-            loses = loses_nothing _ _ refl refl;
-          }) (sweep_of_nothing u5 refl refl)
-          (record {
-            over = record { collection = k6; running = refl; ended = refl; none_out = refl };
-            world_is = refl;
-          });
-      number = refl;
-      reports_are = refl;
-      world_is = refl;
-      tally = k2.tally;
-      tally_is = inl (k2, refl, refl);
-      within = few_units few;
-    },
-    record { none_running = refl; none_preparing = refl },
-  )
+finished : Answers u3 Finish (Groups (only_zone_0 ∷ []) ∷ Ended only_zone_0 [] [] ∷ Swept 0 [] ∷ Done ∷ [])
+    (reply.Sliced 3) u7
+finished = inl (
+  3,
+  refl,
+  record {
+    running = inl (k2, refl);
+    units = one_zone_units [] [] [];
+    after = u7;
+    done = one_zone_lawful u3 u4 u5 u6 u7 [] [] [] (forms_one_group u3 k2 refl refl refl)
+        (record {
+          collection = k4;
+          rest = [];
+          running = refl;
+          first = refl;
+          ends = ends;
+          loses = loses_nothing _ _ refl refl;
+        }) (sweep_of_nothing u5 refl refl)
+        (record {
+          over = record { collection = k6; running = refl; ended = refl; none_out = refl };
+          world_is = refl;
+        });
+    number = refl;
+    reports_are = refl;
+    world_is = refl;
+    tally = k2.tally;
+    tally_is = inl (k2, refl, refl);
+    within = few_units;
+  },
+  record { none_running = refl; none_preparing = refl },
+)
 
-  -- the second collection
-  in_zone : (x : Name) → Cell 0 ≡ x → IsInZones u7.graph (0 ∷ []) x
-  in_zone x e = subst (λ z. IsInZones u7.graph (0 ∷ []) z) e refl
+-- the second collection
+in_zone : (x : Name) → Cell 0 ≡ x → IsInZones u7.graph (0 ∷ []) x
+in_zone x e = subst (λ z. IsInZones u7.graph (0 ∷ []) z) e refl
 
-  collected : (how : Beginning)
-      → AnswersBy how u7 (Collect only_zone_0)
-      (started how ++ (Groups (only_zone_0 ∷ []) ∷ Ended only_zone_0 [] [] ∷ Swept 0 (Cell 0 ∷ []) ∷ Done ∷ []))
-      reply.Collected freed
-  collected how = units_collect how u7 begun_again freed [] [] (Cell 0 ∷ [])
-      (prepares_one u7 (record { none_running = refl; none_preparing = refl }) (omega arith)
-      (λ x h. in_zone x (single (Cell 0) x ((awake x).0 h)))) (garbage_begins 1 no_weak_names no_weak_names [])
-      (garbage_units 1 no_weak_names no_weak_names [] (loses_nothing _ _ refl refl))
-      (record { none_running = refl; none_preparing = refl })
+collected : Answers u7 (Collect only_zone_0)
+    (Started ∷ Groups (only_zone_0 ∷ []) ∷ Ended only_zone_0 [] [] ∷ Swept 0 (Cell 0 ∷ []) ∷ Done ∷ [])
+    reply.Collected freed
+collected = units_collect u7 begun_again freed [] [] (Cell 0 ∷ [])
+    (prepares_one u7 (record { none_running = refl; none_preparing = refl }) (omega arith)
+    (λ x h. in_zone x (single (Cell 0) x ((awake x).0 h)))) (garbage_begins 1 no_weak_names no_weak_names [])
+    (garbage_units 1 no_weak_names no_weak_names [] (loses_nothing _ _ refl refl))
+    (record { none_running = refl; none_preparing = refl })
 
 one_unit : k0.tally.spent + 1 ≤ unit_limit k0.tally + 0
 one_unit = omega arith
 
-no_unit : k0.tally.spent + 0 ≤ unit_limit k0.tally + 0
-no_unit = omega arith
-
-few_to_start : (how : Beginning) → units_to_start how ≤ 1
-few_to_start by_units = omega arith
-few_to_start at_once = omega arith
-
-first_slice : (how : Beginning)
-    → AnswersBy how (begun_world how (prepared w2) u0) (Slice (units_to_start how)) (started how)
-    (reply.Sliced (units_to_start how)) (u1 (units_to_start how))
-first_slice by_units = inl (
+first_slice : Answers (prepared w2) (Slice 1) (Started ∷ []) (reply.Sliced 1) u1
+first_slice = inl (
   1,
   refl,
   record {
@@ -277,38 +264,18 @@ first_slice by_units = inl (
   omega arith,
   λ h. absurd (omega arith),
 )
-first_slice at_once = inl (
-  0,
-  refl,
-  record {
-    running = inl (k0, refl);
-    units = [];
-    after = u0;
-    done = refl;
-    number = refl;
-    reports_are = refl;
-    world_is = refl;
-    tally = k0.tally;
-    tally_is = inl (k0, refl, refl);
-    within = no_unit;
-  },
-  omega arith,
-  λ h. absurd (omega arith),
-)
 
-begun : (how : Beginning) → AnswersBy how w2 (Gc only_zone_0) [] reply.GcBegun (begun_world how (prepared w2) u0)
-begun how = inl (
+begun : Answers w2 (Gc only_zone_0) [] reply.GcBegun (prepared w2)
+begun = inl (
   refl,
   refl,
-  subst (λ z. BeginsBy how w2 z (begun_world how (prepared w2) u0)) (sym zones_in-first)
-      (begins_either how (0 ∷ []) w2 (prepared w2) u0
+  subst (λ z. Prepares w2 z (prepared w2)) (sym zones_in-first)
       (prepares_one w2 (record { none_running = refl; none_preparing = refl }) (omega arith)
-      (λ x h. absurd (no_black x h))) begins),
+      (λ x h. absurd (no_black x h))),
 )
 
-pub made_while_marking_lawful : (how : Beginning)
-    → IsLawfulOutputBy how (made_while_marking how) (answers_made_while_marking how)
-made_while_marking_lawful how = let n = units_to_start how in (
+pub made_while_marking_lawful : IsLawfulOutput made_while_marking answers_made_while_marking
+made_while_marking_lawful = (
   freed,
   (
     w1,
@@ -317,18 +284,18 @@ made_while_marking_lawful how = let n = units_to_start how in (
       w2,
       a2,
       (
-        begun_world how (prepared w2) u0,
-        begun how,
+        prepared w2,
+        begun,
         (
-          u1 n,
-          first_slice how,
+          u1,
+          first_slice,
           (
-            u2 n,
-            made n,
+            u2,
+            made,
             (
-              u3 n,
+              u3,
               (refl, (refl, refl)),
-              (u7 n, finished n (few_to_start how), (freed, collected n how, refl)),
+              (u7, finished, (freed, collected, refl)),
             ),
           ),
         ),

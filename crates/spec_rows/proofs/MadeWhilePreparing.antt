@@ -16,7 +16,7 @@ use Rattle.colour_defs.specs.World.{World, Preparation, Has, IsPresent, IsLeftOu
 use Rattle.colour_defs.specs.Units.{Tally, unit_limit}
 use Rattle.colour_defs.specs.World.{LiveClosure, CommandInWorld, first_world, first_preparation, first_tally}
 use Rattle.colour_defs.specs.World.{no_weak_names}
-use Rattle.colour_defs.specs.Lawful.{by_units, AnswersBy, Prepares, Begins, Slices, IsLawfulOutputBy}
+use Rattle.colour_defs.specs.Lawful.{Answers, Prepares, Begins, Slices, IsLawfulOutput}
 use Rattle.spec_rows.specs.Rows.{comp_0, only_zone_0, made_while_preparing, answers_while_preparing}
 use Rattle.colour_defs.specs.Laws.{IsValid, IsMade}
 use Rattle.colour_defs.proofs.Lists.{nothing_in_none, no_name_in_nulls}
@@ -49,7 +49,7 @@ q2 = garbage_prepared 0 no_weak_names no_weak_names []
 abbrev freed : World
 freed = garbage_freed 0 no_weak_names no_weak_names []
 
-begun : AnswersBy by_units w2 (Gc only_zone_0) [] reply.GcBegun q0
+begun : Answers w2 (Gc only_zone_0) [] reply.GcBegun q0
 begun = inl (
   refl,
   refl,
@@ -62,7 +62,7 @@ here : (x : Name) → IsPresent q1 x → IsInZones q1.graph (0 ∷ []) x
 here x h = subst (λ z. IsInZones q1.graph (0 ∷ []) z)
     (single (Cell 0) x (place_named ((Cell 0, (0, 0)) ∷ []) x (sym (ap is_some (one_place x)) ∙ h))) refl
 
-made : AnswersBy by_units q0 (Graph (cmd.New 0 comp_0 0)) [] (reply.Made 0) q1
+made : Answers q0 (Graph (cmd.New 0 comp_0 0)) [] (reply.Made 0) q1
 made = (
   refl,
   (
@@ -83,7 +83,7 @@ made = (
   ),
 )
 
-told : AnswersBy by_units q2 Colours [] (reply.Refused refusal.Marking) q2
+told : Answers q2 Colours [] (reply.Refused refusal.Marking) q2
 told = inr (refl, (λ s. cc s.none_preparing), record { silent = refl; same = refl })
 
 abbrev first : Tally
@@ -92,7 +92,7 @@ first = first_tally q2 (record { zones = 0 ∷ []; arenas = 0; spent = 0 })
 four_units : first.spent + 4 ≤ unit_limit first + 1
 four_units = omega arith
 
-finished : AnswersBy by_units q2 Finish
+finished : Answers q2 Finish
     (Started ∷ Groups (only_zone_0 ∷ []) ∷ Ended only_zone_0 [] [] ∷ Swept 0 (Cell 0 ∷ []) ∷ Done ∷ []) (reply.Sliced 4)
     freed
 finished = inl (
@@ -118,7 +118,7 @@ finished = inl (
   record { none_running = refl; none_preparing = refl },
 )
 
-pub made_while_preparing_lawful : IsLawfulOutputBy by_units made_while_preparing (answers_while_preparing (Cell 0 ∷ []))
+pub made_while_preparing_lawful : IsLawfulOutput made_while_preparing (answers_while_preparing (Cell 0 ∷ []))
 made_while_preparing_lawful = (
   freed,
   (
@@ -230,18 +230,18 @@ no_run u2 ok2 g2 u3 u4 u5 v pr h4 h5 ok5 n s =
     (ap (λ (z : World). slice_get z.owner (m.1).0) q5 ∙ owned) q (ap (λ (z : World). z.preparing) q5 ∙ c4) refl n v
     s
 
-pub freed_cell_is_missed_too : IsLawfulOutputBy by_units made_while_preparing (answers_while_preparing []) → ⊥
+pub freed_cell_is_missed_too : IsLawfulOutput made_while_preparing (answers_while_preparing []) → ⊥
 freed_cell_is_missed_too (v, (u1, a1, (u2, a2, (u3, a3, (u4, a4, (u5, a5, (u6, a6, (u7, a7, more)))))))) =
     let q1 = quiet_after first_world u1 cmd.Zone (reply.Zone 0) first_world.graph refl refl refl a1.1 refl in
     let g1 : u1.graph ≡ w1.graph = ap (λ (z : World). z.graph) q1 in
     let c1 : u1.preparing ≡ None = ap (λ (z : World). z.preparing) q1 in
     let q2 = quiet_after u1 u2 (cmd.Comp 0) (reply.Comp comp_0) w1.graph g1 refl c1 a2.1 refl in
     let g2 : u2.graph ≡ w2.graph = ap (λ (z : World). z.graph) q2 in
-    let ok2 : IsValid u2 = answer_valid by_units u1 (Graph (cmd.Comp 0)) [] (reply.Comp comp_0) u2
-    (answer_valid by_units first_world (Graph cmd.Zone) [] (reply.Zone 0) u1 first_valid a1) a2 in
-    let ok3 : IsValid u3 = answer_valid by_units u2 (Gc only_zone_0) [] reply.GcBegun u3 ok2 a3 in
-    let ok4 : IsValid u4 = answer_valid by_units u3 (Graph (cmd.New 0 comp_0 0)) [] (reply.Made 0) u4 ok3 a4 in
-    let ok5 : IsValid u5 = answer_valid by_units u4 (Graph (cmd.Drop 0)) [] reply.Accepted u5 ok4 a5 in
+    let ok2 : IsValid u2 = answer_valid u1 (Graph (cmd.Comp 0)) [] (reply.Comp comp_0) u2
+    (answer_valid first_world (Graph cmd.Zone) [] (reply.Zone 0) u1 first_valid a1) a2 in
+    let ok3 : IsValid u3 = answer_valid u2 (Gc only_zone_0) [] reply.GcBegun u3 ok2 a3 in
+    let ok4 : IsValid u4 = answer_valid u3 (Graph (cmd.New 0 comp_0 0)) [] (reply.Made 0) u4 ok3 a4 in
+    let ok5 : IsValid u5 = answer_valid u4 (Graph (cmd.Drop 0)) [] reply.Accepted u5 ok4 a5 in
     let same : u6 ≡ u5 = elim a6 [ inl h ↦ cc h.1 | inr h ↦ h.2.same ] in
     elim a3 [
       | inl h ↦ elim a7 [

@@ -1,5 +1,5 @@
 -- One way, gray: the answers are lawful.
-use Rattle.std.proofs.Common.{◌≡◌, ℕ, zero, suc, ◌+◌, ◌<◌, ◌⊎◌, inl, inr, List, [], ◌∷◌, ◌++◌, Bool, true, false, refl}
+use Rattle.std.proofs.Common.{◌≡◌, ℕ, zero, suc, ◌+◌, ◌<◌, ◌⊎◌, inl, inr, List, [], ◌∷◌, Bool, true, false, refl}
 use Rattle.std.proofs.Common.{sym, ap, subst, ◌∙◌, arith, Option, Some, None, IsTrue, Contains, is_some, slice_get}
 use Rattle.std.proofs.Common.{replicate, eqb, eqb-true, ◌&&◌, ◌||◌}
 use Rattle.std.specs.FinSet as set
@@ -12,7 +12,7 @@ use Rattle.gz_names.specs.declared.commands.GraphCmd.TheVariants as cmd
 use Rattle.gz_names.specs.declared.commands.Cmd.TheVariants.{Graph, Collect}
 use Rattle.gz_names.specs.declared.replies.Reply.TheVariants as reply
 use Rattle.gz_names.specs.declared.replies.Report.{Report}
-use Rattle.gz_names.specs.declared.replies.Report.TheVariants.{Groups, Ended, Swept, Done}
+use Rattle.gz_names.specs.declared.replies.Report.TheVariants.{Started, Groups, Ended, Swept, Done}
 use Rattle.colour_defs.specs.Graph.{zone_of, has_wrapper, IsInZones}
 use Rattle.colour_defs.specs.Closure.{HasEdge, Closure, from, along}
 use Rattle.colour_defs.specs.Step.{step_of}
@@ -20,10 +20,10 @@ use Rattle.colour_defs.specs.World.{World, Collection, Names, Has, IsPresent, Bl
 use Rattle.colour_defs.specs.World.{first_preparation, first_tally}
 use Rattle.colour_defs.specs.Groups.{AreLawfulGroups, AreAscending, IsFirstEdge, LeadsWithin, here}
 use Rattle.colour_defs.specs.Ends.{IsLawfulEnd}
-use Rattle.colour_defs.specs.Lawful.{Beginning, at_once, Answers, AnswersBy, Prepares, Begins, BeginsBy, AreLawfulUnits}
-use Rattle.colour_defs.specs.Lawful.{FormsGroups, EndsGroup, IsLawfulSweep, says, last, IsLawfulOutputBy}
+use Rattle.colour_defs.specs.Lawful.{Answers, Prepares, Begins, AreLawfulUnits}
+use Rattle.colour_defs.specs.Lawful.{FormsGroups, EndsGroup, IsLawfulSweep, says, last, IsLawfulOutput}
 use Rattle.spec_rows.specs.Rows.{comp_0, comp_1, only_zone_0, only_zone_1, zones_0_and_1, one_way_gray}
-use Rattle.spec_rows.specs.Rows.{answers_one_way_gray, started}
+use Rattle.spec_rows.specs.Rows.{answers_one_way_gray}
 use Rattle.colour_defs.specs.Laws.{IsValid}
 use Rattle.colour_defs.proofs.Lists.{nothing_in_none, contains_head, contains_tail, contains_cases, no_name_in_nulls}
 use Rattle.colour_defs.proofs.Lists.{contains_set_cases}
@@ -34,7 +34,7 @@ use Rattle.colour_defs.proofs.Finite.{Members, members_empty, members_insert, no
 use Rattle.spec_rows.proofs.Places.{Places, places_empty, places_insert, reached_within, fresh_slot, place_named}
 use Rattle.spec_rows.proofs.Places.{single, each_has}
 use Rattle.colour_defs.proofs.NothingWeak.{loses_nothing}
-use Rattle.spec_rows.proofs.Beginnings.{begun_world, starting_units, begins_either, units_either, reports_either}
+use Rattle.spec_rows.proofs.Beginnings.{begins_unit}
 use Rattle.spec_rows.proofs.Making.{room_next, room_first, made_world, new_lawful}
 
 abbrev w1 : World
@@ -90,17 +90,17 @@ a4 : Answers w3 (Graph (cmd.Comp 1)) [] (reply.Comp comp_1) w4
 a4 = (refl, (refl, refl))
 
 v4 : IsValid w4
-v4 = answer_valid at_once w3 (Graph (cmd.Comp 1)) [] (reply.Comp comp_1) w4
-    (answer_valid at_once w2 (Graph (cmd.Comp 0)) [] (reply.Comp comp_0) w3
-    (answer_valid at_once w1 (Graph cmd.Zone) [] (reply.Zone 1) w2
-    (answer_valid at_once first_world (Graph cmd.Zone) [] (reply.Zone 0) w1 first_valid a1) a2) a3) a4
+v4 = answer_valid w3 (Graph (cmd.Comp 1)) [] (reply.Comp comp_1) w4
+    (answer_valid w2 (Graph (cmd.Comp 0)) [] (reply.Comp comp_0) w3
+    (answer_valid w1 (Graph cmd.Zone) [] (reply.Zone 1) w2
+    (answer_valid first_world (Graph cmd.Zone) [] (reply.Zone 0) w1 first_valid a1) a2) a3) a4
 
 a5 : Answers w4 (Graph (cmd.New 0 comp_0 1)) [] (reply.Made 0) w5
 a5 = new_lawful w4 0 comp_0 1 0 (0, 0) (Some 0 ∷ []) v4 (record { none_running = refl; none_preparing = refl }) refl
     refl (room_first w4 0 (λ b e. cc e))
 
 v5 : IsValid w5
-v5 = answer_valid at_once w4 (Graph (cmd.New 0 comp_0 1)) [] (reply.Made 0) w5 v4 a5
+v5 = answer_valid w4 (Graph (cmd.New 0 comp_0 1)) [] (reply.Made 0) w5 v4 a5
 
 no_one_arena : (b : ℕ) → slice_get {X = Option ℕ} (Some 0 ∷ []) b ≡ Some (Some 1) → ⊥
 no_one_arena zero e = cc e
@@ -589,25 +589,23 @@ done12 = (
     forms : FormsGroups u0 gs u1
     forms = record { collection = k0; running = refl; none_yet = refl; lawful = groups; world_is = refl }
 
-collected : (how : Beginning)
-    → AnswersBy how w12 (Collect zones_0_and_1)
-    (started how ++ (Groups (only_zone_0 ∷ only_zone_1 ∷ []) ∷ Ended only_zone_0 first_grays [] ∷ Swept 0 []
-    ∷ Ended only_zone_1 (Cell 1 ∷ []) [] ∷ Swept 1 [] ∷ Done ∷ [])) reply.Collected w13
-collected how = inl (
+collected : Answers w12 (Collect zones_0_and_1)
+    (Started ∷ Groups (only_zone_0 ∷ only_zone_1 ∷ []) ∷ Ended only_zone_0 first_grays [] ∷ Swept 0 []
+    ∷ Ended only_zone_1 (Cell 1 ∷ []) [] ∷ Swept 1 [] ∷ Done ∷ []) reply.Collected w13
+collected = inl (
   refl,
   record {
-    begun = begun_world how prepared12 u0;
-    begins = subst (λ z. BeginsBy how w12 z (begun_world how prepared12 u0)) (sym zones_01)
-        (begins_either how both w12 prepared12 u0 prepares begins);
-    units = starting_units how ++ units12;
-    done = units_either how both prepared12 u0 begins units12 w13 done12;
-    reports_are = reports_either how units12;
+    begun = prepared12;
+    begins = subst (λ z. Prepares w12 z prepared12) (sym zones_01) prepares;
+    units = (Started ∷ []) ∷ units12;
+    done = (u0, begins_unit both prepared12 u0 begins, done12);
+    reports_are = refl;
     over = record { none_running = refl; none_preparing = refl };
   },
 )
 
-pub one_way_gray_lawful : (how : Beginning) → IsLawfulOutputBy how one_way_gray (answers_one_way_gray how)
-one_way_gray_lawful how = (
+pub one_way_gray_lawful : IsLawfulOutput one_way_gray answers_one_way_gray
+one_way_gray_lawful = (
   w13,
   (
     w1,
@@ -639,7 +637,7 @@ one_way_gray_lawful how = (
                     (
                       w10,
                       (refl, (refl, refl)),
-                      (w11, (refl, (refl, refl)), (w12, (refl, (refl, refl)), (w13, collected how, refl))),
+                      (w11, (refl, (refl, refl)), (w12, (refl, (refl, refl)), (w13, collected, refl))),
                     ),
                   ),
                 ),

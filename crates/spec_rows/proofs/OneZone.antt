@@ -1,20 +1,20 @@
--- A collection of zone 0 alone, which has all cells, by units: its marking begins, in a unit or at once; the groups,
--- the end of the only group, and the sweep of its only arena with `done`.
-use Rattle.std.proofs.Common.{◌≡◌, ℕ, inl, List, [], ◌∷◌, ◌++◌, ◌<◌, refl, sym, ap, subst, ◌∙◌, Some, None}
+-- A collection of zone 0 alone, which has all cells, by units: the beginning of its marking, the groups, the end of the
+-- only group, and the sweep of its only arena with `done`.
+use Rattle.std.proofs.Common.{◌≡◌, ℕ, inl, List, [], ◌∷◌, ◌<◌, refl, sym, ap, subst, ◌∙◌, Some, None}
 use Rattle.std.proofs.Common.{Contains}
 use Rattle.gz_names.specs.declared.names.Name.{Name}
 use Rattle.gz_names.specs.declared.commands.Cmd.TheVariants.{Collect}
 use Rattle.gz_names.specs.declared.replies.Reply.TheVariants as reply
 use Rattle.gz_names.specs.declared.replies.Report.{Report}
-use Rattle.gz_names.specs.declared.replies.Report.TheVariants.{Groups, Ended, Swept, Done}
+use Rattle.gz_names.specs.declared.replies.Report.TheVariants.{Started, Groups, Ended, Swept, Done}
 use Rattle.std.specs.FinSet as set
 use Rattle.colour_defs.specs.Graph.{IsInZones}
 use Rattle.colour_defs.specs.World.{World, Collection, Has, IsIdle, first_preparation}
 use Rattle.colour_defs.specs.Groups.{AreLawfulGroups, IsFirstEdge, LeadsWithin, here, AreAscending}
 use Rattle.colour_defs.specs.Lawful.{FormsGroups, EndsGroup, IsLawfulSweep, Finishes, IsOver, says, last}
-use Rattle.colour_defs.specs.Lawful.{AreLawfulUnits, Beginning, Prepares, Begins, BeginsBy, AnswersBy, with_sweep}
-use Rattle.spec_rows.specs.Rows.{only_zone_0, started}
-use Rattle.spec_rows.proofs.Beginnings.{begun_world, starting_units, begins_either, units_either, reports_either}
+use Rattle.colour_defs.specs.Lawful.{AreLawfulUnits, Prepares, Begins, Answers, with_sweep}
+use Rattle.spec_rows.specs.Rows.{only_zone_0}
+use Rattle.spec_rows.proofs.Beginnings.{begins_unit}
 use Rattle.colour_defs.proofs.Lists.{nothing_in_none, contains_head}
 use Rattle.colour_defs.proofs.Finite.{no_name}
 use Rattle.spec_rows.proofs.Places.{single}
@@ -83,32 +83,31 @@ one_zone_lawful u0 u1 u2 u3 v grays told freed f e s d = (
         cc (ap (λ (k : Collection). k.groups) same, o.ended)
 
 -- a whole collection, by the units after its beginning
-pub units_collect : (how : Beginning) (w u v : World) (grays told freed : List Name) → Prepares w (0 ∷ []) (prepared w)
+pub units_collect : (w u v : World) (grays told freed : List Name) → Prepares w (0 ∷ []) (prepared w)
     → Begins (prepared w) (0 ∷ []) u → AreLawfulUnits u (one_zone_units grays told freed) v → IsIdle v
-    → AnswersBy how w (Collect only_zone_0)
-    (started how ++ (Groups (only_zone_0 ∷ []) ∷ Ended only_zone_0 grays told ∷ Swept 0 freed ∷ Done ∷ []))
+    → Answers w (Collect only_zone_0)
+    (Started ∷ Groups (only_zone_0 ∷ []) ∷ Ended only_zone_0 grays told ∷ Swept 0 freed ∷ Done ∷ [])
     reply.Collected v
-units_collect how w u v grays told freed p b units idle = inl (
+units_collect w u v grays told freed p b units idle = inl (
   refl,
   record {
-    begun = begun_world how (prepared w) u;
-    begins = subst (λ z. BeginsBy how w z (begun_world how (prepared w) u)) (sym zones_in-first)
-        (begins_either how (0 ∷ []) w (prepared w) u p b);
-    units = starting_units how ++ one_zone_units grays told freed;
-    done = units_either how (0 ∷ []) (prepared w) u b (one_zone_units grays told freed) v units;
-    reports_are = reports_either how (one_zone_units grays told freed);
+    begun = prepared w;
+    begins = subst (λ z. Prepares w z (prepared w)) (sym zones_in-first) p;
+    units = (Started ∷ []) ∷ one_zone_units grays told freed;
+    done = (u, begins_unit (0 ∷ []) (prepared w) u b, units);
+    reports_are = refl;
     over = idle;
   },
 )
 
-pub collect_lawful : (how : Beginning) (w u0 u1 u2 u3 v : World) (grays freed : List Name)
+pub collect_lawful : (w u0 u1 u2 u3 v : World) (grays freed : List Name)
     → Prepares w (0 ∷ []) (prepared w) → Begins (prepared w) (0 ∷ []) u0 → FormsGroups u0 ((0 ∷ []) ∷ []) u1
     → EndsGroup u1 (0 ∷ []) grays [] u2 → IsLawfulSweep u2 0 freed u3 → Finishes u3 v → v.preparing ≡ None
-    → AnswersBy how w (Collect only_zone_0)
-    (started how ++ (Groups (only_zone_0 ∷ []) ∷ Ended only_zone_0 grays [] ∷ Swept 0 freed ∷ Done ∷ []))
+    → Answers w (Collect only_zone_0)
+    (Started ∷ Groups (only_zone_0 ∷ []) ∷ Ended only_zone_0 grays [] ∷ Swept 0 freed ∷ Done ∷ [])
     reply.Collected v
-collect_lawful how w u0 u1 u2 u3 v grays freed p b f e s d calm =
-    units_collect how w u0 v grays [] freed p b (one_zone_lawful u0 u1 u2 u3 v grays [] freed f e s d)
+collect_lawful w u0 u1 u2 u3 v grays freed p b f e s d calm =
+    units_collect w u0 v grays [] freed p b (one_zone_lawful u0 u1 u2 u3 v grays [] freed f e s d)
     (record { none_running = ap (λ (z : World). z.collection) d.world_is; none_preparing = calm })
 
 -- an arena without white cells

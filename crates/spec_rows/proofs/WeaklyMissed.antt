@@ -1,6 +1,6 @@
 -- Named by a weak slot and watched: the answers are not lawful where the slot keeps what died, nor, after a compaction,
 -- where the empty arena is kept.
-use Rattle.std.proofs.Common.{◌≡◌, ◌+◌, ℕ, inl, inr, List, [], ◌∷◌, ◌++◌, true, refl, sym, ap, subst, ◌∙◌}
+use Rattle.std.proofs.Common.{◌≡◌, ◌+◌, ℕ, inl, inr, List, [], ◌∷◌, true, refl, sym, ap, subst, ◌∙◌}
 use Rattle.std.proofs.Common.{arith, length, length-append, Option, Some, None, Contains, is_some, slice_get}
 use Rattle.std.specs.Prelude.{count_by}
 use Rattle.std.specs.FinMap as map
@@ -17,10 +17,10 @@ use Rattle.colour_defs.specs.World.{World, IsPresent, HasPlace, AcceptsIn, first
 use Rattle.colour_defs.specs.WeakRefs.{weak_cell, with_read, with_weak_slot, watch_cell}
 use Rattle.colour_defs.specs.Ends.{arenas_from}
 use Rattle.colour_defs.specs.Compaction.{Compacts}
-use Rattle.colour_defs.specs.Lawful.{Beginning, by_units, at_once, AnswersBy, Collects, EndsGroup, FormsGroups}
-use Rattle.colour_defs.specs.Lawful.{IsLawfulSweep, Finishes, IsLawfulOutputBy}
+use Rattle.colour_defs.specs.Lawful.{Answers, Collects, EndsGroup, FormsGroups, IsLawfulSweep, Finishes}
+use Rattle.colour_defs.specs.Lawful.{IsLawfulOutput}
 use Rattle.spec_rows.specs.Rows.{comp_0, only_zone_0, weakly_named, answers_weakly_named, compacted}
-use Rattle.spec_rows.specs.Rows.{answers_compacted, started}
+use Rattle.spec_rows.specs.Rows.{answers_compacted}
 use Rattle.colour_defs.specs.Laws.{IsValid}
 use Rattle.colour_defs.proofs.Lists.{nothing_in_none, contains_head}
 use Rattle.colour_defs.proofs.ZoneSets.{zones_in-first}
@@ -71,11 +71,11 @@ same_cells w u v places owner l = record {
   owner_is = l.owner_is ∙ owner;
 }
 
-after_collection : (how : Beginning) (w v : World)
-    → Collects how w (0 ∷ [])
-    (started how ++ (Groups (only_zone_0 ∷ []) ∷ Ended only_zone_0 [] (Cell 0 ∷ []) ∷ Swept 0 (Cell 0 ∷ []) ∷ Done
-    ∷ [])) v → Leaves w v
-after_collection by_units w v c =
+after_collection : (w v : World)
+    → Collects w (0 ∷ [])
+    (Started ∷ Groups (only_zone_0 ∷ []) ∷ Ended only_zone_0 [] (Cell 0 ∷ []) ∷ Swept 0 (Cell 0 ∷ []) ∷ Done
+    ∷ []) v → Leaves w v
+after_collection w v c =
     let all : ReportsAll c.begun (Started ∷ Groups (only_zone_0 ∷ []) ∷ Ended only_zone_0 [] (Cell 0 ∷ [])
     ∷ Swept 0 (Cell 0 ∷ []) ∷ Done ∷ []) v =
     subst (λ rs. ReportsAll c.begun rs v) (sym c.reports_are) (units_reports c.begun c.units v c.done) in
@@ -83,13 +83,6 @@ after_collection by_units w v c =
     let b = (all.1).1 in
     same_cells w all.0 v (ap (λ (z : World). z.places) b.world_is ∙ ap (λ (z : World). z.places) p.world_is)
     (ap (λ (z : World). z.owner) b.world_is ∙ ap (λ (z : World). z.owner) p.world_is) (after_units all.0 v all.2)
-after_collection at_once w v c =
-    let p = c.begins.prepares in
-    let b = c.begins.begins in
-    same_cells w c.begun v (ap (λ (z : World). z.places) b.world_is ∙ ap (λ (z : World). z.places) p.world_is)
-    (ap (λ (z : World). z.owner) b.world_is ∙ ap (λ (z : World). z.owner) p.world_is)
-    (after_units c.begun v
-    (subst (λ rs. ReportsAll c.begun rs v) (sym c.reports_are) (units_reports c.begun c.units v c.done)))
 
 -- what a weak slot names, by what reading it answers
 named_is_present : (w : World) → IsValid w → reply.Named (Cell 0) ≡ named_or_null (weak_cell w 0) → IsPresent w (Cell 0)
@@ -120,40 +113,40 @@ watch_preparing w None = refl
 watch_preparing w (Some x) = refl
 
 -- the lines up to the collection
-module _ (how : Beginning) (u1 u2 u3 u4 u5 u6 u7 : World)
-    (b1 : AnswersBy how first_world (Graph cmd.Zone) [] (reply.Zone 0) u1)
-    (b2 : AnswersBy how u1 (Graph (cmd.Comp 0)) [] (reply.Comp comp_0) u2)
-    (b3 : AnswersBy how u2 (Graph (cmd.New 0 comp_0 0)) [] (reply.Made 0) u3)
-    (b4 : AnswersBy how u3 (Weak (weak_cmd.Weaken 0 0)) [] reply.Accepted u4)
-    (b5 : AnswersBy how u4 (Weak (weak_cmd.Watch 0)) [] reply.Accepted u5)
-    (b6 : AnswersBy how u5 (Graph (cmd.Drop 0)) [] reply.Accepted u6)
-    (c : Collects how u6 (0 ∷ [])
-    (started how ++ (Groups (only_zone_0 ∷ []) ∷ Ended only_zone_0 [] (Cell 0 ∷ []) ∷ Swept 0 (Cell 0 ∷ []) ∷ Done
-    ∷ [])) u7) where
-  b7 : AnswersBy how u6 (Collect only_zone_0)
-      (started how ++ (Groups (only_zone_0 ∷ []) ∷ Ended only_zone_0 [] (Cell 0 ∷ []) ∷ Swept 0 (Cell 0 ∷ []) ∷ Done
-      ∷ [])) reply.Collected u7
+module _ (u1 u2 u3 u4 u5 u6 u7 : World)
+    (b1 : Answers first_world (Graph cmd.Zone) [] (reply.Zone 0) u1)
+    (b2 : Answers u1 (Graph (cmd.Comp 0)) [] (reply.Comp comp_0) u2)
+    (b3 : Answers u2 (Graph (cmd.New 0 comp_0 0)) [] (reply.Made 0) u3)
+    (b4 : Answers u3 (Weak (weak_cmd.Weaken 0 0)) [] reply.Accepted u4)
+    (b5 : Answers u4 (Weak (weak_cmd.Watch 0)) [] reply.Accepted u5)
+    (b6 : Answers u5 (Graph (cmd.Drop 0)) [] reply.Accepted u6)
+    (c : Collects u6 (0 ∷ [])
+    (Started ∷ Groups (only_zone_0 ∷ []) ∷ Ended only_zone_0 [] (Cell 0 ∷ []) ∷ Swept 0 (Cell 0 ∷ []) ∷ Done
+    ∷ []) u7) where
+  b7 : Answers u6 (Collect only_zone_0)
+      (Started ∷ Groups (only_zone_0 ∷ []) ∷ Ended only_zone_0 [] (Cell 0 ∷ []) ∷ Swept 0 (Cell 0 ∷ []) ∷ Done
+      ∷ []) reply.Collected u7
   b7 = inl (
     refl,
     subst
-        (λ z. Collects how u6 z
-        (started how ++ (Groups (only_zone_0 ∷ []) ∷ Ended only_zone_0 [] (Cell 0 ∷ []) ∷ Swept 0 (Cell 0 ∷ []) ∷ Done
-        ∷ [])) u7) (sym zones_in-first) c,
+        (λ z. Collects u6 z
+        (Started ∷ Groups (only_zone_0 ∷ []) ∷ Ended only_zone_0 [] (Cell 0 ∷ []) ∷ Swept 0 (Cell 0 ∷ []) ∷ Done
+        ∷ []) u7) (sym zones_in-first) c,
   )
 
   ok3 : IsValid u3
-  ok3 = answer_valid how u2 (Graph (cmd.New 0 comp_0 0)) [] (reply.Made 0) u3
-      (answer_valid how u1 (Graph (cmd.Comp 0)) [] (reply.Comp comp_0) u2
-      (answer_valid how first_world (Graph cmd.Zone) [] (reply.Zone 0) u1 first_valid b1) b2) b3
+  ok3 = answer_valid u2 (Graph (cmd.New 0 comp_0 0)) [] (reply.Made 0) u3
+      (answer_valid u1 (Graph (cmd.Comp 0)) [] (reply.Comp comp_0) u2
+      (answer_valid first_world (Graph cmd.Zone) [] (reply.Zone 0) u1 first_valid b1) b2) b3
 
   ok7 : IsValid u7
-  ok7 = answer_valid how u6 (Collect only_zone_0) _ reply.Collected u7
-      (answer_valid how u5 (Graph (cmd.Drop 0)) [] reply.Accepted u6
-      (answer_valid how u4 (Weak (weak_cmd.Watch 0)) [] reply.Accepted u5
-      (answer_valid how u3 (Weak (weak_cmd.Weaken 0 0)) [] reply.Accepted u4 ok3 b4) b5) b6) b7
+  ok7 = answer_valid u6 (Collect only_zone_0) _ reply.Collected u7
+      (answer_valid u5 (Graph (cmd.Drop 0)) [] reply.Accepted u6
+      (answer_valid u4 (Weak (weak_cmd.Watch 0)) [] reply.Accepted u5
+      (answer_valid u3 (Weak (weak_cmd.Weaken 0 0)) [] reply.Accepted u4 ok3 b4) b5) b6) b7
 
   left : Leaves u6 u7
-  left = after_collection how u6 u7 c
+  left = after_collection u6 u7 c
 
   pub reads_nothing : reply.Named (Cell 0) ≡ named_or_null (weak_cell u7 0) → ⊥
   reads_nothing e = left.freed (named_is_present u7 ok7 e)
@@ -219,7 +212,7 @@ module _ (how : Beginning) (u1 u2 u3 u4 u5 u6 u7 : World)
       ∙ ap (λ z. Some (Some z)) z0 in
       ((m.1).0, ap (λ o. slice_get o (m.1).0) (left.owner_is ∙ same6.1) ∙ owned)
 
-  module _ (u8 u9 : World) (b8 : AnswersBy how u7 (Weak (weak_cmd.Deref 1 0)) [] reply.Null u8) where
+  module _ (u8 u9 : World) (b8 : Answers u7 (Weak (weak_cmd.Deref 1 0)) [] reply.Null u8) where
     same8 : (u8.places ≡ u7.places) × (u8.owner ≡ u7.owner)
     same8 =
         let a : AcceptsIn None u7 (with_read u7.graph (weak_cell u7 0) u7.collection)
@@ -250,32 +243,30 @@ module _ (how : Beginning) (u1 u2 u3 u4 u5 u6 u7 : World)
         nothing_in_none (0 + owned7.0) (subst (λ l. Contains l (0 + owned7.0)) empty listed)
 
 -- these lines are a collection
-collects : (how : Beginning) (w v : World)
-    → AnswersBy how w (Collect only_zone_0)
-    (started how ++ (Groups (only_zone_0 ∷ []) ∷ Ended only_zone_0 [] (Cell 0 ∷ []) ∷ Swept 0 (Cell 0 ∷ []) ∷ Done
-    ∷ [])) reply.Collected v
-    → Collects how w (0 ∷ [])
-    (started how ++ (Groups (only_zone_0 ∷ []) ∷ Ended only_zone_0 [] (Cell 0 ∷ []) ∷ Swept 0 (Cell 0 ∷ []) ∷ Done
-    ∷ [])) v
-collects how w v (inl h) =
-    subst (λ z. Collects how w z
-    (started how ++ (Groups (only_zone_0 ∷ []) ∷ Ended only_zone_0 [] (Cell 0 ∷ []) ∷ Swept 0 (Cell 0 ∷ []) ∷ Done
-    ∷ [])) v) zones_in-first h.1
-collects how w v (inr (inl h)) = absurd (cc h.0)
-collects how w v (inr (inr h)) = absurd (cc h.0)
+collects : (w v : World)
+    → Answers w (Collect only_zone_0)
+    (Started ∷ Groups (only_zone_0 ∷ []) ∷ Ended only_zone_0 [] (Cell 0 ∷ []) ∷ Swept 0 (Cell 0 ∷ []) ∷ Done
+    ∷ []) reply.Collected v
+    → Collects w (0 ∷ [])
+    (Started ∷ Groups (only_zone_0 ∷ []) ∷ Ended only_zone_0 [] (Cell 0 ∷ []) ∷ Swept 0 (Cell 0 ∷ []) ∷ Done ∷ []) v
+collects w v (inl h) =
+    subst (λ z. Collects w z
+    (Started ∷ Groups (only_zone_0 ∷ []) ∷ Ended only_zone_0 [] (Cell 0 ∷ []) ∷ Swept 0 (Cell 0 ∷ []) ∷ Done
+    ∷ []) v) zones_in-first h.1
+collects w v (inr (inl h)) = absurd (cc h.0)
+collects w v (inr (inr h)) = absurd (cc h.0)
 
-pub slot_keeps_nothing : (how : Beginning)
-    → IsLawfulOutputBy how weakly_named (answers_weakly_named how (reply.Named (Cell 0))) → ⊥
-slot_keeps_nothing how (v, (u1, b1, (u2, b2, (u3, b3, (u4, b4, (u5, b5, (u6, b6, (u7, b7, (u8, b8, more))))))))) =
-    reads_nothing how u1 u2 u3 u4 u5 u6 u7 b1 b2 b3 b4 b5 b6 (collects how u6 u7 b7) b8.1.0
+pub slot_keeps_nothing : IsLawfulOutput weakly_named (answers_weakly_named (reply.Named (Cell 0))) → ⊥
+slot_keeps_nothing (v, (u1, b1, (u2, b2, (u3, b3, (u4, b4, (u5, b5, (u6, b6, (u7, b7, (u8, b8, more))))))))) =
+    reads_nothing u1 u2 u3 u4 u5 u6 u7 b1 b2 b3 b4 b5 b6 (collects u6 u7 b7) b8.1.0
 
-pub arena_is_given_up : (how : Beginning) → IsLawfulOutputBy how compacted (answers_compacted how 0) → ⊥
-arena_is_given_up how
+pub arena_is_given_up : IsLawfulOutput compacted (answers_compacted 0) → ⊥
+arena_is_given_up
     (v, (u1, b1, (u2, b2, (u3, b3, (u4, b4, (u5, b5, (u6, b6, (u7, b7, (u8, b8, (u9, b9, more)))))))))) = elim b9 [
       | inl h ↦
           let moved : 0 ≡ h.0 = cc h.2 in
           let given : 0 ≡ h.1 = cc h.2 in
-          gives_none_up how u1 u2 u3 u4 u5 u6 u7 b1 b2 b3 b4 b5 b6 (collects how u6 u7 b7) u8 u9 b8
+          gives_none_up u1 u2 u3 u4 u5 u6 u7 b1 b2 b3 b4 b5 b6 (collects u6 u7 b7) u8 u9 b8
           (subst (λ n. Compacts u8 0 0 n u9) (sym given) (subst (λ n. Compacts u8 0 n h.1 u9) (sym moved) h.4))
       | inr n ↦ elim n [ inl h ↦ cc h.0 | inr h ↦ cc h.0 ]
     ]

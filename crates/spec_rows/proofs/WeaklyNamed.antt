@@ -1,6 +1,6 @@
 -- Named by a weak slot and watched: the answers are lawful, and are not where the slot keeps the cell. Then a
 -- compaction: its answers are lawful, and are not where the arena is kept.
-use Rattle.std.proofs.Common.{◌≡◌, inl, inr, List, [], ◌∷◌, ◌++◌, Bool, true, false, ◌||◌, if◌then◌else◌}
+use Rattle.std.proofs.Common.{◌≡◌, inl, inr, List, [], ◌∷◌, Bool, true, false, ◌||◌, if◌then◌else◌}
 use Rattle.std.proofs.Common.{refl, sym, ap, subst, ◌∙◌, arith, Some, None, Contains, is_some}
 use Rattle.std.proofs.Common.{replicate, slice_set}
 use Rattle.std.specs.Prelude.{count_by}
@@ -15,16 +15,15 @@ use Rattle.gz_names.specs.declared.commands.GraphCmd.TheVariants as cmd
 use Rattle.gz_names.specs.declared.commands.WeakCmd.TheVariants as weak_cmd
 use Rattle.gz_names.specs.declared.commands.Cmd.TheVariants.{Weak, Collect, Compact}
 use Rattle.gz_names.specs.declared.replies.Reply.TheVariants as reply
-use Rattle.gz_names.specs.declared.replies.Report.TheVariants.{Groups, Ended, Swept, Done}
+use Rattle.gz_names.specs.declared.replies.Report.TheVariants.{Started, Groups, Ended, Swept, Done}
 use Rattle.colour_defs.specs.Graph.{is_in_zones}
 use Rattle.colour_defs.specs.Step.{step_of}
 use Rattle.colour_defs.specs.World.{World, WeakNames, Has, IsPresent, no_weak_names}
 use Rattle.colour_defs.specs.WeakRefs.{LosesWeak, with_weak_slot, with_watched}
 use Rattle.colour_defs.specs.Compaction.{Compacts}
-use Rattle.colour_defs.specs.Lawful.{Beginning, Answers, AnswersBy}
-use Rattle.colour_defs.specs.Lawful.{IsLawfulOutputBy}
+use Rattle.colour_defs.specs.Lawful.{Answers, IsLawfulOutput}
 use Rattle.spec_rows.specs.Rows.{only_zone_0, weakly_named, answers_weakly_named, compacted}
-use Rattle.spec_rows.specs.Rows.{answers_compacted, started}
+use Rattle.spec_rows.specs.Rows.{answers_compacted}
 use Rattle.colour_defs.proofs.Lists.{nothing_in_none, contains_head}
 use Rattle.colour_defs.proofs.Names.{eq_name-refl}
 use Rattle.colour_defs.proofs.ValidCommands.{insert_has}
@@ -95,11 +94,10 @@ loses = record {
 in_black : (x : Name) → Has w6.black x → Cell 0 ≡ x
 in_black x h = watched x h
 
-collected : (how : Beginning)
-    → AnswersBy how w6 (Collect only_zone_0)
-    (started how ++ (Groups (only_zone_0 ∷ []) ∷ Ended only_zone_0 [] told ∷ Swept 0 (Cell 0 ∷ []) ∷ Done ∷ []))
+collected : Answers w6 (Collect only_zone_0)
+    (Started ∷ Groups (only_zone_0 ∷ []) ∷ Ended only_zone_0 [] told ∷ Swept 0 (Cell 0 ∷ []) ∷ Done ∷ [])
     reply.Collected w7
-collected how = units_collect how w6 (garbage_begun 1 kept no_weak_names told) w7 [] told (Cell 0 ∷ [])
+collected = units_collect w6 (garbage_begun 1 kept no_weak_names told) w7 [] told (Cell 0 ∷ [])
     (prepares_one w6 (record { none_running = refl; none_preparing = refl }) (omega arith)
     (λ x h. subst (λ z. is_in_zones w6.graph (0 ∷ []) z ≡ true) (in_black x h) refl))
     (garbage_begins 1 kept no_weak_names told) (garbage_units 1 kept no_weak_names told loses)
@@ -109,8 +107,8 @@ read : Answers w7 (Weak (weak_cmd.Deref 1 0)) [] reply.Null w8
 read = (refl, (refl, refl))
 
 -- the run up to the compaction
-pub weakly_named_lawful : (how : Beginning) → IsLawfulOutputBy how weakly_named (answers_weakly_named how reply.Null)
-weakly_named_lawful how = (
+pub weakly_named_lawful : IsLawfulOutput weakly_named (answers_weakly_named reply.Null)
+weakly_named_lawful = (
   w8,
   (
     w1,
@@ -124,7 +122,7 @@ weakly_named_lawful how = (
         (
           w4,
           (refl, (refl, refl)),
-          (w5, (refl, (refl, refl)), (w6, (refl, (refl, refl)), (w7, collected how, (w8, read, refl)))),
+          (w5, (refl, (refl, refl)), (w6, (refl, (refl, refl)), (w7, collected, (w8, read, refl)))),
         ),
       ),
     ),
@@ -165,8 +163,8 @@ compacts = record {
   given_is = refl;
 }
 
-pub compacted_lawful : (how : Beginning) → IsLawfulOutputBy how compacted (answers_compacted how 1)
-compacted_lawful how = (
+pub compacted_lawful : IsLawfulOutput compacted (answers_compacted 1)
+compacted_lawful = (
   w9,
   (
     w1,
@@ -180,7 +178,7 @@ compacted_lawful how = (
         (
           w4,
           (refl, (refl, refl)),
-          (w5, (refl, (refl, refl)), (w6, (refl, (refl, refl)), (w7, collected how, (w8, read, (w9, done, refl))))),
+          (w5, (refl, (refl, refl)), (w6, (refl, (refl, refl)), (w7, collected, (w8, read, (w9, done, refl))))),
         ),
       ),
     ),

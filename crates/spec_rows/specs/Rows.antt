@@ -18,7 +18,6 @@ use Rattle.gz_names.specs.declared.replies.Report.TheVariants.{Started, Groups, 
 use Rattle.gz_names.specs.declared.replies.Refusal.TheVariants as refusal
 use Rattle.colour_defs.specs.Graph.{GraphState}
 use Rattle.colour_defs.specs.Step.{new_map, new_object}
-use Rattle.colour_defs.specs.Lawful.{Beginning, by_units, at_once}
 
 abbrev pub comp_0 : CompNo
 comp_0 = record { 0 = 0 }
@@ -31,38 +30,27 @@ only_zone_0 = record { bits = 1 }
 abbrev pub quiet : Reply → List Report × Reply
 quiet answer = ([], answer)
 
--- what a collection of zones without arenas, or of arenas that are prepared already, reports as it begins
-abbrev pub started : Beginning → List Report
-started by_units = Started ∷ []
-started at_once = []
-
--- and the units that this takes
-abbrev pub units_to_start : Beginning → ℕ
-units_to_start by_units = 1
-units_to_start at_once = 0
-
 -- linked and dropped: cell 1 is held by cell 0, cell 2 by nothing
 abbrev pub linked_and_dropped : List Cmd
 linked_and_dropped =
     Graph Zone ∷ Graph (Comp 0) ∷ Graph (New 0 comp_0 1) ∷ Graph (New 1 comp_0 0) ∷ Graph (Set 0 0 (Some 1))
     ∷ Graph (New 1 comp_0 0) ∷ Graph (Drop 1) ∷ Collect only_zone_0 ∷ Graph (Get 2 0 0) ∷ []
 
-abbrev pub answers_linked_and_dropped : Beginning → List (List Report × Reply)
-answers_linked_and_dropped how =
+abbrev pub answers_linked_and_dropped : List (List Report × Reply)
+answers_linked_and_dropped =
     quiet (reply.Zone 0) ∷ quiet (reply.Comp comp_0) ∷ quiet (reply.Made 0) ∷ quiet (reply.Made 1)
     ∷ quiet reply.Accepted ∷ quiet (reply.Made 2) ∷ quiet reply.Accepted
     ∷ (
-      started how ++ (Groups (only_zone_0 ∷ []) ∷ Ended only_zone_0 [] [] ∷ Swept 0 (Cell 2 ∷ []) ∷ Done
-          ∷ []),
+      Started ∷ Groups (only_zone_0 ∷ []) ∷ Ended only_zone_0 [] [] ∷ Swept 0 (Cell 2 ∷ []) ∷ Done ∷ [],
       reply.Collected,
     ) ∷ quiet (reply.Named (Cell 1)) ∷ []
 
 -- these answers without the freed cell, which are wrong
-abbrev pub answers_without_freed_cell : Beginning → List (List Report × Reply)
-answers_without_freed_cell how =
+abbrev pub answers_without_freed_cell : List (List Report × Reply)
+answers_without_freed_cell =
     quiet (reply.Zone 0) ∷ quiet (reply.Comp comp_0) ∷ quiet (reply.Made 0) ∷ quiet (reply.Made 1)
     ∷ quiet reply.Accepted ∷ quiet (reply.Made 2) ∷ quiet reply.Accepted
-    ∷ (started how ++ (Groups (only_zone_0 ∷ []) ∷ Ended only_zone_0 [] [] ∷ Swept 0 [] ∷ Done ∷ []), reply.Collected)
+    ∷ (Started ∷ Groups (only_zone_0 ∷ []) ∷ Ended only_zone_0 [] [] ∷ Swept 0 [] ∷ Done ∷ [], reply.Collected)
     ∷ quiet (reply.Named (Cell 1)) ∷ []
 
 -- a gray slot alone holds cell 0, which holds cell 1; handed out, both turn black
@@ -72,13 +60,12 @@ gray_slot_alone =
     ∷ Graph (Hold 3 0) ∷ Graph (Drop 0) ∷ Graph (Drop 1) ∷ Collect only_zone_0 ∷ Colours ∷ Graph (Expose 5 3)
     ∷ Colours ∷ []
 
-abbrev pub answers_gray_slot_alone : Beginning → List (List Report × Reply)
-answers_gray_slot_alone how =
+abbrev pub answers_gray_slot_alone : List (List Report × Reply)
+answers_gray_slot_alone =
     quiet (reply.Zone 0) ∷ quiet (reply.Comp comp_0) ∷ quiet (reply.Made 0) ∷ quiet (reply.Made 1)
     ∷ quiet reply.Accepted ∷ quiet reply.Accepted ∷ quiet reply.Accepted ∷ quiet reply.Accepted
     ∷ (
-      started how ++ (Groups (only_zone_0 ∷ []) ∷ Ended only_zone_0 (Cell 0 ∷ Cell 1 ∷ []) [] ∷ Swept 0 [] ∷ Done
-          ∷ []),
+      Started ∷ Groups (only_zone_0 ∷ []) ∷ Ended only_zone_0 (Cell 0 ∷ Cell 1 ∷ []) [] ∷ Swept 0 [] ∷ Done ∷ [],
       reply.Collected,
     ) ∷ quiet (reply.Gray (Cell 0 ∷ Cell 1 ∷ [])) ∷ quiet (reply.Named (Cell 0))
     ∷ quiet (reply.Gray []) ∷ []
@@ -90,32 +77,30 @@ gray_key =
     ∷ Graph (Put 0 1 2) ∷ Graph (Hold 0 1) ∷ Graph (Drop 1) ∷ Graph (Drop 2) ∷ Collect only_zone_0
     ∷ Graph (Expose 1 0) ∷ Colours ∷ Graph (Find 3 0 1) ∷ []
 
-abbrev pub answers_gray_key : Beginning → List (List Report × Reply)
-answers_gray_key how =
+abbrev pub answers_gray_key : List (List Report × Reply)
+answers_gray_key =
     quiet (reply.Zone 0) ∷ quiet (reply.Comp comp_0) ∷ quiet (reply.Made 0) ∷ quiet (reply.Made 1)
     ∷ quiet (reply.Made 2) ∷ quiet reply.Accepted ∷ quiet reply.Accepted ∷ quiet reply.Accepted ∷ quiet reply.Accepted
     ∷ (
-      started how ++ (Groups (only_zone_0 ∷ []) ∷ Ended only_zone_0 (Cell 1 ∷ Cell 2 ∷ []) [] ∷ Swept 0 [] ∷ Done
-          ∷ []),
+      Started ∷ Groups (only_zone_0 ∷ []) ∷ Ended only_zone_0 (Cell 1 ∷ Cell 2 ∷ []) [] ∷ Swept 0 [] ∷ Done ∷ [],
       reply.Collected,
     ) ∷ quiet (reply.Named (Cell 1)) ∷ quiet (reply.Gray []) ∷ quiet (reply.Named (Cell 2))
     ∷ []
 
 -- made and dropped while marking: the slice before begins the marking, this collection keeps the cell, and the next
 -- one frees it
-abbrev pub made_while_marking : Beginning → List Cmd
-made_while_marking how =
-    Graph Zone ∷ Graph (Comp 0) ∷ Gc only_zone_0 ∷ Slice (units_to_start how) ∷ Graph (New 0 comp_0 0)
+abbrev pub made_while_marking : List Cmd
+made_while_marking =
+    Graph Zone ∷ Graph (Comp 0) ∷ Gc only_zone_0 ∷ Slice 1 ∷ Graph (New 0 comp_0 0)
     ∷ Graph (Drop 0) ∷ Finish ∷ Collect only_zone_0 ∷ []
 
-abbrev pub answers_made_while_marking : Beginning → List (List Report × Reply)
-answers_made_while_marking how =
+abbrev pub answers_made_while_marking : List (List Report × Reply)
+answers_made_while_marking =
     quiet (reply.Zone 0) ∷ quiet (reply.Comp comp_0) ∷ quiet reply.GcBegun
-    ∷ (started how, reply.Sliced (units_to_start how)) ∷ quiet (reply.Made 0) ∷ quiet reply.Accepted
+    ∷ (Started ∷ [], reply.Sliced 1) ∷ quiet (reply.Made 0) ∷ quiet reply.Accepted
     ∷ (Groups (only_zone_0 ∷ []) ∷ Ended only_zone_0 [] [] ∷ Swept 0 [] ∷ Done ∷ [], reply.Sliced 3)
     ∷ (
-      started how ++ (Groups (only_zone_0 ∷ []) ∷ Ended only_zone_0 [] [] ∷ Swept 0 (Cell 0 ∷ []) ∷ Done
-          ∷ []),
+      Started ∷ Groups (only_zone_0 ∷ []) ∷ Ended only_zone_0 [] [] ∷ Swept 0 (Cell 0 ∷ []) ∷ Done ∷ [],
       reply.Collected,
     ) ∷ []
 
@@ -136,14 +121,14 @@ one_way_gray =
     ∷ Graph (Wrap 2 1 comp_0) ∷ Graph (Set 0 0 (Some 2)) ∷ Graph (Hold 0 0) ∷ Graph (Drop 0) ∷ Graph (Drop 1)
     ∷ Graph (Drop 2) ∷ Collect zones_0_and_1 ∷ []
 
-abbrev pub answers_one_way_gray : Beginning → List (List Report × Reply)
-answers_one_way_gray how =
+abbrev pub answers_one_way_gray : List (List Report × Reply)
+answers_one_way_gray =
     quiet (reply.Zone 0) ∷ quiet (reply.Zone 1) ∷ quiet (reply.Comp comp_0) ∷ quiet (reply.Comp comp_1)
     ∷ quiet (reply.Made 0) ∷ quiet (reply.Made 1) ∷ quiet (reply.Named (name.Wrap comp_0 1)) ∷ quiet reply.Accepted
     ∷ quiet reply.Accepted ∷ quiet reply.Accepted ∷ quiet reply.Accepted ∷ quiet reply.Accepted
     ∷ (
-      started how ++ (Groups (only_zone_0 ∷ only_zone_1 ∷ []) ∷ Ended only_zone_0 (Cell 0 ∷ name.Wrap comp_0 1
-          ∷ []) [] ∷ Swept 0 [] ∷ Ended only_zone_1 (Cell 1 ∷ []) [] ∷ Swept 1 [] ∷ Done ∷ []),
+      Started ∷ Groups (only_zone_0 ∷ only_zone_1 ∷ []) ∷ Ended only_zone_0 (Cell 0 ∷ name.Wrap comp_0 1
+          ∷ []) [] ∷ Swept 0 [] ∷ Ended only_zone_1 (Cell 1 ∷ []) [] ∷ Swept 1 [] ∷ Done ∷ [],
       reply.Collected,
     ) ∷ []
 
@@ -158,7 +143,7 @@ answers_while_preparing freed =
     ∷ quiet reply.Accepted ∷ quiet (reply.Refused refusal.Marking)
     ∷ (Started ∷ Groups (only_zone_0 ∷ []) ∷ Ended only_zone_0 [] [] ∷ Swept 0 freed ∷ Done ∷ [], reply.Sliced 4) ∷ []
 
--- given up: the cell that a gray slot holds becomes black with all of its zone
+-- given up while its zone is prepared: the cell that a gray slot holds becomes black with all of its zone
 abbrev pub given_up : List Cmd
 given_up =
     Graph Zone ∷ Graph (Comp 0) ∷ Graph (New 0 comp_0 0) ∷ Graph (Hold 0 0) ∷ Graph (Drop 0) ∷ Gc only_zone_0 ∷ Reset
@@ -170,19 +155,30 @@ answers_given_up grays =
     ∷ quiet reply.Accepted ∷ quiet reply.GcBegun
     ∷ (Stopped only_zone_0 ∷ [], reply.ResetDone) ∷ quiet (reply.Gray grays) ∷ []
 
+-- given up once its marking has begun, which takes a unit for the arena and one more: the cell becomes black, too
+abbrev pub given_up_while_marking : List Cmd
+given_up_while_marking =
+    Graph Zone ∷ Graph (Comp 0) ∷ Graph (New 0 comp_0 0) ∷ Graph (Hold 0 0) ∷ Graph (Drop 0) ∷ Gc only_zone_0 ∷ Slice 2
+    ∷ Reset ∷ Colours ∷ []
+
+abbrev pub answers_given_up_while_marking : List Name → List (List Report × Reply)
+answers_given_up_while_marking grays =
+    quiet (reply.Zone 0) ∷ quiet (reply.Comp comp_0) ∷ quiet (reply.Made 0) ∷ quiet reply.Accepted
+    ∷ quiet reply.Accepted ∷ quiet reply.GcBegun ∷ (Started ∷ [], reply.Sliced 2)
+    ∷ (Stopped only_zone_0 ∷ [], reply.ResetDone) ∷ quiet (reply.Gray grays) ∷ []
+
 -- named by a weak slot and watched: neither keeps cell 0; its death is told, and the slot loses it
 abbrev pub weakly_named : List Cmd
 weakly_named =
     Graph Zone ∷ Graph (Comp 0) ∷ Graph (New 0 comp_0 0) ∷ Weak (Weaken 0 0) ∷ Weak (Watch 0) ∷ Graph (Drop 0)
     ∷ Collect only_zone_0 ∷ Weak (Deref 1 0) ∷ []
 
-abbrev pub answers_weakly_named : Beginning → Reply → List (List Report × Reply)
-answers_weakly_named how read =
+abbrev pub answers_weakly_named : Reply → List (List Report × Reply)
+answers_weakly_named read =
     quiet (reply.Zone 0) ∷ quiet (reply.Comp comp_0) ∷ quiet (reply.Made 0) ∷ quiet reply.Accepted
     ∷ quiet reply.Accepted ∷ quiet reply.Accepted
     ∷ (
-      started how ++ (Groups (only_zone_0 ∷ []) ∷ Ended only_zone_0 [] (Cell 0 ∷ []) ∷ Swept 0 (Cell 0 ∷ []) ∷ Done
-          ∷ []),
+      Started ∷ Groups (only_zone_0 ∷ []) ∷ Ended only_zone_0 [] (Cell 0 ∷ []) ∷ Swept 0 (Cell 0 ∷ []) ∷ Done ∷ [],
       reply.Collected,
     ) ∷ quiet read ∷ []
 
@@ -190,11 +186,11 @@ answers_weakly_named how read =
 abbrev pub compacted : List Cmd
 compacted = weakly_named ++ Compact 0 ∷ []
 
-abbrev pub answers_compacted : Beginning → ℕ → List (List Report × Reply)
-answers_compacted how given = answers_weakly_named how reply.Null ++ quiet (reply.Compacted 0 given) ∷ []
+abbrev pub answers_compacted : ℕ → List (List Report × Reply)
+answers_compacted given = answers_weakly_named reply.Null ++ quiet (reply.Compacted 0 given) ∷ []
 
 -- a wrapper key: map 0 of compartment 0 has as a key the wrapper of cell 1, which is of compartment 1, and as its
--- value cell 2. No trace makes such an entry while a wrapper as a key is refused
+-- value cell 2
 abbrev pub wrapper_key : GraphState
 wrapper_key = record {
   zones = 2;

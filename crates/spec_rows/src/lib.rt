@@ -14,11 +14,11 @@
 //     one way, gray            a group comes before those into which its gray wrappers lead
 //     made while preparing     a cell that is made before marking begins can be freed by this collection
 //     given up                 a collection that is given up leaves all cells of its zones black
+//     given up while marking   so does one whose marking has begun
 //     weakly named, compacted  a weak slot and a watch keep nothing; what is then empty is given up
 //     wrapper key              a wrapper key is reached with its map and its target, and not with its map alone
 //
-// Most are proved for both ways in which a collection may begin (`Beginning` in colour_defs/specs/Lawful). Four of them
-// use commands or units that are defined and that the program does not serve.
+// Two of them use commands that are defined and that the program does not serve: weak slots, and a compaction.
 //
 // No crate uses this one: the proofs are long, since they write each world out, and nothing else needs them.
 #![tactic(auto)]
@@ -28,65 +28,71 @@ ghost use Rattle.gz_names.specs.declared.names.Name.{Name};
 ghost use Rattle.gz_names.specs.declared.names.Name.TheVariants.{Cell, Wrap};
 ghost use Rattle.gz_names.specs.declared.replies.Reply.TheVariants as reply;
 ghost use Rattle.colour_defs.specs.Closure.{Closure};
-ghost use Rattle.colour_defs.specs.Lawful.{Beginning, by_units, IsLawfulOutputBy};
+ghost use Rattle.colour_defs.specs.Lawful.{IsLawfulOutput};
 ghost use Rattle.spec_rows.specs.Rows.{linked_and_dropped, answers_linked_and_dropped, answers_without_freed_cell};
 ghost use Rattle.spec_rows.specs.Rows.{gray_slot_alone, answers_gray_slot_alone, gray_key, answers_gray_key};
 ghost use Rattle.spec_rows.specs.Rows.{made_while_marking, answers_made_while_marking, one_way_gray};
 ghost use Rattle.spec_rows.specs.Rows.{answers_one_way_gray, made_while_preparing, answers_while_preparing, given_up};
-ghost use Rattle.spec_rows.specs.Rows.{answers_given_up, weakly_named, answers_weakly_named, compacted};
-ghost use Rattle.spec_rows.specs.Rows.{answers_compacted, comp_0, wrapper_key};
+ghost use Rattle.spec_rows.specs.Rows.{answers_given_up, given_up_while_marking, answers_given_up_while_marking};
+ghost use Rattle.spec_rows.specs.Rows.{weakly_named, answers_weakly_named, compacted, answers_compacted};
+ghost use Rattle.spec_rows.specs.Rows.{comp_0, wrapper_key};
 
 /// A cell is linked to another one, a third one is dropped: the third is freed, and nothing else.
 pub fn linked_and_dropped_law()
-    ensures lawful { (how : Beginning) → IsLawfulOutputBy how linked_and_dropped (answers_linked_and_dropped how) }
-    ensures freed { (how : Beginning) → IsLawfulOutputBy how linked_and_dropped (answers_without_freed_cell how) → ⊥ }
+    ensures lawful { IsLawfulOutput linked_and_dropped answers_linked_and_dropped }
+    ensures freed { IsLawfulOutput linked_and_dropped answers_without_freed_cell → ⊥ }
 {}
 
 /// What a gray slot alone holds is gray, with what it leads to, until the slot hands it out.
 pub fn gray_slot_alone_law()
-    ensures { (how : Beginning) → IsLawfulOutputBy how gray_slot_alone (answers_gray_slot_alone how) }
+    ensures { IsLawfulOutput gray_slot_alone answers_gray_slot_alone }
 {}
 
 /// The value of a black map's gray key is gray, and turns black with the key.
 pub fn gray_key_law()
-    ensures { (how : Beginning) → IsLawfulOutputBy how gray_key (answers_gray_key how) }
+    ensures { IsLawfulOutput gray_key answers_gray_key }
 {}
 
 /// A cell made and dropped while its zone is marking lives through this collection, and not through
 /// the next.
 pub fn made_while_marking_law()
-    ensures { (how : Beginning) → IsLawfulOutputBy how (made_while_marking how) (answers_made_while_marking how) }
+    ensures { IsLawfulOutput made_while_marking answers_made_while_marking }
 {}
 
 /// A gray cell holds a wrapper into another zone: its zone ends first, and the target is gray too.
 pub fn one_way_gray_law()
-    ensures { (how : Beginning) → IsLawfulOutputBy how one_way_gray (answers_one_way_gray how) }
+    ensures { IsLawfulOutput one_way_gray answers_one_way_gray }
 {}
 
 /// A cell made and dropped while its zone is prepared is white, and this collection frees it; until
 /// marking begins and ends, colours are not told.
 pub fn made_while_preparing_law()
-    ensures lawful { IsLawfulOutputBy by_units made_while_preparing (answers_while_preparing (Cell 0 ∷ [])) }
-    ensures freed { IsLawfulOutputBy by_units made_while_preparing (answers_while_preparing []) → ⊥ }
+    ensures lawful { IsLawfulOutput made_while_preparing (answers_while_preparing (Cell 0 ∷ [])) }
+    ensures freed { IsLawfulOutput made_while_preparing (answers_while_preparing []) → ⊥ }
 {}
 
-/// A collection that is given up leaves every cell of its zones black.
+/// A collection that is given up while it is prepared leaves every cell of its zones black.
 pub fn given_up_law()
-    ensures lawful { (how : Beginning) → IsLawfulOutputBy how given_up (answers_given_up []) }
-    ensures black { (how : Beginning) → IsLawfulOutputBy how given_up (answers_given_up (Cell 0 ∷ [])) → ⊥ }
+    ensures lawful { IsLawfulOutput given_up (answers_given_up []) }
+    ensures black { IsLawfulOutput given_up (answers_given_up (Cell 0 ∷ [])) → ⊥ }
+{}
+
+/// So does one that is given up once its marking has begun.
+pub fn given_up_while_marking_law()
+    ensures lawful { IsLawfulOutput given_up_while_marking (answers_given_up_while_marking []) }
+    ensures black { IsLawfulOutput given_up_while_marking (answers_given_up_while_marking (Cell 0 ∷ [])) → ⊥ }
 {}
 
 /// A weak slot and a watch keep no cell: its death is told, and the slot names nothing then.
 pub fn weakly_named_law()
-    ensures lawful { (how : Beginning) → IsLawfulOutputBy how weakly_named (answers_weakly_named how reply.Null) }
-    ensures nothing_named { (how : Beginning)
-        → IsLawfulOutputBy how weakly_named (answers_weakly_named how (reply.Named (Cell 0))) → ⊥ }
+    ensures lawful { IsLawfulOutput weakly_named (answers_weakly_named reply.Null) }
+    ensures nothing_named { IsLawfulOutput weakly_named (answers_weakly_named (reply.Named (Cell 0))) → ⊥ }
 {}
 
 /// A compaction gives up the arena in which no cell is left.
 pub fn compacted_law()
-    ensures lawful { (how : Beginning) → IsLawfulOutputBy how compacted (answers_compacted how 1) }
-    ensures none_kept { (how : Beginning) → IsLawfulOutputBy how compacted (answers_compacted how 0) → ⊥ }
+    ensures lawful { IsLawfulOutput compacted (answers_compacted 1) }
+    ensures none_kept { IsLawfulOutput compacted (answers_compacted 0) → ⊥ }
 {}
 
 /// A wrapper that is a key is reached with its map and its target, and with it the value; with the

@@ -2,4 +2,4 @@ use Rattle.collection_laws.proofs.Graphs.{run_graph}
 use Rattle.collection_laws.proofs.graph_law.Goals as goal
 
 pub returns : goal.returns
-returns c = λ how commands answers w v plain run. run_graph how w commands answers v plain run
+returns c = λ commands answers w v plain run. run_graph w commands answers v plain run

@@ -1,10 +1,10 @@
-use Rattle.collection_laws.proofs.Accounts.{beginning_accounts, command_accounts, first_accounts, units_accounts}
+use Rattle.collection_laws.proofs.Accounts.{command_accounts, first_accounts, prepares_accounts, units_accounts}
 use Rattle.collection_laws.proofs.numbers_law.Goals as goal
 
 pub returns : goal.returns
 returns c = record {
   first = first_accounts;
   command = λ w v cmd answer given freed ok a h. command_accounts w cmd answer v given freed ok a h;
-  begins = λ how w v zones given freed a h. beginning_accounts how w zones v given freed h a;
+  begins = λ w v zones given freed a h. prepares_accounts w zones v given freed h a;
   units = λ w v units given freed a h. units_accounts w units v given freed h a;
 }
