@@ -1,6 +1,6 @@
 pub mod Reading
 pub mod Places
-pub mod Octets
+pub mod Numbering
 pub mod Queueing
 pub mod Seating
 pub mod Looks

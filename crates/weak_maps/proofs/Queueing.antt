@@ -1,13 +1,15 @@
 -- A list is added to a queue, and taken out.
-use Rattle.std.proofs.Common.{◌≡◌, ◌⊎◌, ◌<◌, ◌≤◌, ◌+◌, ◌++◌, ◌∷◌, [], inl, inr, ℕ, Bool, true, false, cond, List, Some}
+use Rattle.std.proofs.Common.{◌≡◌, ◌⊎◌, ◌<◌, ◌≤◌, ◌+◌, ◌-◌, ◌++◌, ◌∷◌, [], inl, inr, ℕ, Bool, true, false, cond, List}
+use Rattle.std.proofs.Common.{Some, None}
 use Rattle.std.proofs.Common.{length, set, get_or, slice_get, Contains, refl, sym, ◌∙◌, ap, subst, arith, length-set}
 use Rattle.std.proofs.Common.{length-append}
 use Rattle.std.specs.List.{count_by}
 use Rattle.std.proofs.lemmas.Bool.{false≢true, cases_eq}
 use Rattle.std.proofs.lemmas.List.Elements.{Contains-append_left, Contains-append_right, Contains-append_cases}
 use Rattle.std.proofs.lemmas.List.Sums.{sum_by-set, sum_by_push, count_by-le-length}
-use Rattle.std.proofs.lemmas.Option.{slice_get_within, get_or_from_slice_get, slice_get_read}
-use Rattle.weak_maps.specs.Queues.{IsQueue}
+use Rattle.std.proofs.lemmas.Option.{slice_get_within, get_or_from_slice_get, slice_get_read, slice_get-get_or}
+use Rattle.std.proofs.lemmas.Option.{none-some, same_Some}
+use Rattle.weak_maps.specs.Queues.{IsQueue, IsDropped}
 use Rattle.weak_maps.proofs.Reading.{slice_get-set_same, slice_get-set_other, slice_get-set_cases, slice_get-push_at}
 use Rattle.weak_maps.proofs.Reading.{slice_get-push_before, slice_get-push_cases}
 
@@ -148,3 +150,32 @@ read_as xs i x y less is same = slice_get_read xs (length xs) i x refl less is �
 pub is_free : (waits : List Bool) (i : ℕ) (x : Bool) → i < length waits → x ≡ get_or waits i x → x ≡ false
     → get_or waits i true ≡ false
 is_free waits i x less is free = get_or_from_slice_get waits i false true (read_as waits i x false less is free)
+
+-- the last one
+pub contains_last : (waiting : List ℕ) (k : ℕ) → slice_get waiting (length waiting - 1) ≡ Some k → Contains waiting k
+contains_last waiting k is = (
+  length waiting - 1,
+  slice_get_within waiting (length waiting - 1) k is,
+  get_or_from_slice_get waiting (length waiting - 1) k k is,
+)
+
+-- there is none
+pub none_contains : (waiting : List ℕ) (k : ℕ) → slice_get waiting (length waiting - 1) ≡ None → Contains waiting k → ⊥
+none_contains waiting k is (i, less, _) =
+    none-some _ (sym is ∙ slice_get-get_or waiting (length waiting - 1) k (omega (arith, less)))
+
+-- the last one is taken out
+pub dropped_last : (waiting rest : List ℕ) (k was now : ℕ) → waiting ≡ rest ++ k ∷ [] → now ≡ was → (list : ℕ)
+    → slice_get waiting (length waiting - 1) ≡ Some list
+    → IsDropped (record { waiting = waiting; room = was }) list (record { waiting = rest; room = now })
+dropped_last waiting rest k was now all same list at =
+    let long : length waiting ≡ length (rest ++ k ∷ []) = ap length all in
+    let more = length-append rest (k ∷ []) in
+    let index : length rest ≡ length waiting - 1 = omega (arith, long, more) in
+    let is : k ≡ list = same_Some _ _ (sym (slice_get-push_at rest k)
+    ∙ (ap (λ (w : List ℕ). slice_get w (length rest)) (sym all) ∙ (ap (slice_get waiting) index ∙ at))) in
+    record {
+      those = λ n. rw (← is, all) (Contains-push rest k n);
+      fewer = omega (arith, long, more);
+      room = same;
+    }

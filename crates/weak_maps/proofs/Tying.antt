@@ -9,6 +9,7 @@ use Rattle.std.proofs.lemmas.Option.{slice_get_within, slice_get-get_or, slice_g
 use Rattle.weak_maps.specs.declared.colours.MarkColour.{MarkColour}
 use Rattle.weak_maps.specs.declared.colours.MarkColour.TheVariants as colour
 use Rattle.gz_names.specs.declared.numbers.Place.{Place}
+use Rattle.weak_maps.specs.Heads.{no_heads}
 use Rattle.weak_maps.specs.Places.{is_same}
 use Rattle.weak_maps.specs.Sides.{SideState, IsSide, IsAdded, IsUndone, Starts as StartsLists, number_of, shown}
 use Rattle.weak_maps.specs.Entries.{AreDistinct, AreTied, CarriesEntries, EntriesState, HaveLooks, state_of}
@@ -282,8 +283,8 @@ AreTied-left entries by_map by_key map_now key_now tied map_rest map_side key_re
 }
 
 pub AreTied-none : (entries : List WeakEntry) (by_map by_key : SideState) → entries ≡ []
-    → by_map ≡ record { heads = []; lists = []; owners = []; left = [] }
-    → by_key ≡ record { heads = []; lists = []; owners = []; left = [] } → IsSide by_map → IsSide by_key
+    → by_map ≡ record { heads = no_heads; lists = []; owners = []; left = [] }
+    → by_key ≡ record { heads = no_heads; lists = []; owners = []; left = [] } → IsSide by_map → IsSide by_key
     → AreTied entries by_map by_key
 AreTied-none entries by_map by_key none map_none key_none map_side key_side = record {
   distinct = λ i j d less within. absurd (let len = ap length none in omega (arith, len, within));

@@ -68,6 +68,7 @@ impl Delegates {
     }
 
     /// What a key of a map leads to, if it is a wrapper.
+    #[inline(always)]
     pub fn target(&self, map: Place, key: Place) -> Option<Place>
         ensures target { result ≡ delegate_at self.now.rows map key }
         ensures sound { AreSoundRows self.now }
@@ -75,6 +76,15 @@ impl Delegates {
         if self.rows.is_empty() {
             return None;
         }
+        self.find_target(map, key)
+    }
+
+    // What a key of a map leads to, if it has a row.
+    #[cold]
+    #[inline(never)]
+    fn find_target(&self, map: Place, key: Place) -> Option<Place>
+        ensures { result ≡ delegate_at self.now.rows map key }
+    {
         let delegate = self.rows.get(&EntryKey { map, key })?;
         Some(delegate.target)
     }

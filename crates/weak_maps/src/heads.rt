@@ -1,56 +1,61 @@
 // The numbers of the lists of places.
-ghost use Rattle.std.specs.Prelude.{◌≡◌, ◌<◌, ℕ, [], Some, OnOk, OnErr, if◌then◌else◌};
-ghost use Rattle.weak_maps.specs.Heads.{octet_of as octet_of_place, number_from as number_kept};
+ghost use Rattle.std.specs.Prelude.{◌≡◌, ◌<◌, ℕ, [], None, Some, IfOk, OnOk, OnErr, if◌then◌else◌};
+ghost use Rattle.weak_maps.specs.Heads.{number_from as number_kept};
 
 use gz_names::{NoMemory, Place};
-use std::alloc::Global;
-use std::collections::HashMap;
+use std::alloc::{AllocError, Global};
 use std::marker::Model;
 
-/// Eight slots of an arena, side by side.
-#[derive(Clone, Copy, PartialEq, Eq, Hash)]
-pub(crate) struct Octet {
-    arena: u32,
-    octet: u8,
-}
-
-/// The number of each place's list. Cells that are keys lie mostly side by side, so the numbers of eight
-/// slots are kept together: a look at one brings the others into the cache. They take about eight bytes
-/// a key where all eight are keys, and 67 where only one is.
+/// The number of each place's list. The numbers of an arena's slots lie side by side, so a cell is asked about without
+/// a search. They take 256 bytes for each arena that has or had a list, and four bytes for each arena before it.
 #[derive(Drop)]
 pub(crate) struct Heads {
+    // One more than the number of each arena's page, and zero for an arena that has none.
+    arenas: Vec<u32>,
     // One more than the number of each slot's list, and zero for a slot that has none.
-    octets: HashMap<Octet, [u32; 8]>,
+    pages: Vec<[u32; 64]>,
 }
 
 impl Model for Heads {
-    ghost use Rattle.std.specs.Prelude.{ℕ, List};
-    ghost use Rattle.weak_maps.specs.Heads.{HeadsState};
+    ghost use Rattle.weak_maps.specs.Heads.{HeadsState, ArePages};
 
     ghost Value = { HeadsState };
 
-    ghost view = { λ h. h.octets.entries };
+    ghost view = { λ h. record { arenas = h.arenas.items; pages = h.pages.items } };
+
+    ghost invariant = { λ h. ArePages (record { arenas = h.arenas.items; pages = h.pages.items }) };
 }
 
 impl Heads {
-    ghost use Rattle.weak_maps.specs.Heads.{head_of};
+    ghost use Rattle.weak_maps.specs.Heads.{head_of, no_heads, page_of};
     ghost use Rattle.weak_maps.specs.Places.{is_same};
 
     /// No place has a list.
     pub fn new(alloc: Global) -> Self
-        ensures { result ≡ [] }
+        ensures { result ≡ no_heads }
     {
         Heads {
-            octets: HashMap::new(alloc),
+            arenas: Vec::new(alloc),
+            pages: Vec::new(alloc),
         }
     }
 
     /// The number of a place's list.
+    #[inline(always)]
     pub fn get(&self, place: Place) -> Option<u32>
         ensures { result ≡ head_of self.now place }
     {
-        let numbers = self.octets.get(&octet_of(place))?;
-        number_from(numbers[(place.slot() % 8) as usize])
+        let page = self.page(place.arena())?;
+        number_from(self.pages[page as usize][place.slot() as usize])
+    }
+
+    // The number of an arena's page.
+    #[inline(always)]
+    fn page(&self, arena: u32) -> Option<u32>
+        ensures { result ≡ page_of self.now arena }
+    {
+        let kept = self.arenas.get(arena as usize)?;
+        number_from(*kept)
     }
 
     /// A place has a list with this number from now on.
@@ -60,25 +65,47 @@ impl Heads {
             ≡ (if is_same place q then Some list else head_of self.old q)) }
         ensures err { OnErr result (self.new ≡ self.old) }
     {
-        let octet = octet_of(place);
-        let mut numbers = self.octets.get(&octet).copied().unwrap_or([0; 8]);
-        numbers[(place.slot() % 8) as usize] = list + 1;
-        self.octets.insert(octet, numbers)?;
+        let page = self.page_for(place.arena())?;
+        self.pages[page as usize][place.slot() as usize] = list + 1;
         Ok(())
     }
-}
 
-// The slots among which a place lies.
-fn octet_of(place: Place) -> Octet
-    ensures { result ≡ octet_of_place place }
-{
-    Octet {
-        arena: place.arena(),
-        octet: place.slot() / 8,
+    // The number of an arena's page, which it has from now on.
+    fn page_for(&mut self, arena: u32) -> Result<u32, NoMemory>
+        ensures page { IfOk result (λ page. page_of self.new arena ≡ Some page) }
+        ensures same { OnOk result ((q : Place) → head_of self.new q ≡ head_of self.old q) }
+        ensures err { OnErr result (self.new ≡ self.old) }
+    {
+        match self.page(arena) {
+            Some(page) => Ok(page),
+            None => self.add_page(arena),
+        }
+    }
+
+    // An arena has a page from now on, with no lists.
+    #[cold]
+    #[inline(never)]
+    fn add_page(&mut self, arena: u32) -> Result<u32, NoMemory>
+        requires { page_of self.old arena ≡ None }
+        ensures page { IfOk result (λ page. page_of self.new arena ≡ Some page) }
+        ensures same { OnOk result ((q : Place) → head_of self.new q ≡ head_of self.old q) }
+        ensures err { OnErr result (self.new ≡ self.old) }
+    {
+        if self.pages.len() >= u32::MAX as usize {
+            return Err(AllocError);
+        }
+        self.pages.reserve(1)?;
+        let arenas = self.arenas.len().max(arena as usize + 1);
+        self.arenas.resize(arenas, 0)?;
+        let page = self.pages.len() as u32;
+        self.arenas[arena as usize] = page + 1;
+        self.pages.push_reserved([0; 64]);
+        Ok(page)
     }
 }
 
 // The number that is kept as one more.
+#[inline(always)]
 fn number_from(kept: u32) -> Option<u32>
     ensures { result ≡ number_kept kept }
 {

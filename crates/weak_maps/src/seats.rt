@@ -173,11 +173,11 @@ pub(crate) fn next_left(lists: &mut [Listing], queue: &mut Queue, colour: MarkCo
     ensures none { IfNone result ((lists.new ≡ lists.old) × NoneIsLeft colour lists.old) }
     ensures queue { IsQueueFor colour lists.new queue.new }
 {
-    while let Some(list) = queue.drop_last() {
+    while let Some(list) = queue.last() {
         if let Some(entry) = lists[list as usize].next(colour) {
-            queue.add(list);
             return Some(entry);
         }
+        queue.drop_last();
     }
     None
 }

@@ -1,6 +1,7 @@
 // The entries by their maps, or by their keys.
 ghost use Rattle.std.specs.Prelude.{◌≡◌, ◌≢◌, ◌<◌, [], ℕ, None, Some, Contains, IfSome, IfNone, OnOk, OnErr, length};
 ghost use Rattle.std.specs.Prelude.{slice_get, slice_set, swap_remove};
+ghost use Rattle.weak_maps.specs.Heads.{no_heads};
 ghost use Rattle.weak_maps.specs.Sides.{IsAdded, IsSide, IsUndone, Starts, WasAdded, listed, number_of};
 
 use crate::colours::MarkColour;
@@ -40,7 +41,7 @@ impl Side {
 
     /// No entries.
     pub fn new(alloc: Global) -> Self
-        ensures none { result ≡ record { heads = []; lists = []; owners = []; left = [] } }
+        ensures none { result ≡ record { heads = no_heads; lists = []; owners = []; left = [] } }
         ensures side { IsSide result }
     {
         Side {

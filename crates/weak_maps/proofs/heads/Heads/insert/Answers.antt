@@ -1,20 +1,29 @@
-use Rattle.std.proofs.Common.{◌≡◌, ℕ, length, List, Option, unwrap_or, sym, ◌∙◌, ap, rules}
-use Rattle.std.specs.Map.{lookup}
-use Rattle.weak_maps.specs.Heads.{is_octet}
-use Rattle.weak_maps.specs.declared.heads.Octet.{Octet}
-use Rattle.weak_maps.proofs.Octets.{head_of-put, zeros}
+use Rattle.std.proofs.Common.{◌≡◌, ◌<◌, ◌∙◌, length, refl, sym, ap, cond, Some, slice_get, arith}
+use Rattle.std.proofs.lemmas.Option.{slice_get_read}
+use Rattle.weak_maps.specs.Places.{is_same}
+use Rattle.weak_maps.specs.Heads.{HeadsState, page_of, head_of}
+use Rattle.weak_maps.proofs.Numbering.{head_of-put}
 use Rattle.weak_maps.proofs.heads.Heads.insert.Goals as goal
 
 pub returns-clause-ok : goal.returns-clause-ok
-returns-clause-ok c =
-    let was = c.unwrap_or-numbers.ensures
-    ∙ ap (λ (o : Option (List ℕ)). unwrap_or o zeros)
-    (c.copied.ensures
-    ∙ (c.get.ensures.value
-    ∙ ap (λ (k : Octet). lookup (is_octet k) c.self.inside.octets.entries) c.octet_of-octet.ensures))
-    in
-    let sized : length c.unwrap_or-numbers.result ≡ 8 = search rules in
-    rw (← c.self.view_is)
-    (head_of-put c.self.inside.octets.entries c.insert.new.self.entries c.args.place c.args.list
-    c.unwrap_or-numbers.result (sym was) sized
-    (rw (c.octet_of-octet.ensures, c.slot.ensures.value) at c.in_ok-insert.ensures.updates.0))
+returns-clause-ok c = λ q.
+    let heads : HeadsState = record { arenas = c.self.inside.arenas.items; pages = c.self.inside.pages.items } in
+    let has : page_of heads c.args.place.0 ≡ Some c.in_ok-page.page =
+    ap (λ (h : HeadsState). page_of h c.args.place.0) c.self.view_is
+    ∙ (ap (page_of c.page_for.new.self) (sym c.arena.ensures) ∙ c.in_ok-page.ensures.page) in
+    let inside : c.in_ok-page.page < length heads.pages =
+    c.self.invariant.within c.args.place.0 c.in_ok-page.page has in
+    let read : slice_get heads.pages c.in_ok-page.page ≡ Some c.index_mut.result.now =
+    slice_get_read heads.pages (length heads.pages) c.in_ok-page.page c.index_mut.result.now refl inside
+    c.index_mut.ensures.value in
+    let sized = c.self.invariant.sized c.in_ok-page.page c.index_mut.result.now read in
+    head_of-put heads c.args.place c.args.list c.in_ok-page.page c.slot.result c.index_mut.result.now
+    (record {
+      are = c.self.invariant;
+      has = has;
+      read = read;
+      slot_is = c.slot.ensures.value;
+      within = omega (arith, sized, c.slot.ensures.value, c.slot.ensures.below);
+    }) q
+    ∙ ap (cond (is_same c.args.place q) (Some c.args.list))
+    (ap (λ (h : HeadsState). head_of h q) c.self.view_is ∙ c.in_ok-page.ensures.same q)
