@@ -169,9 +169,8 @@ fn follow<L: Ledger>(heap: &mut Heap, stack: &mut Stack, place: Place, steps: &m
     follow_entries(heap, stack, Part::Delegate, place);
 }
 
-/// A cell is handed to the program: if its colour counts, it turns black, and so does all that it reaches by cells
-/// whose
-/// colours count. It reads at most eight edges for each cell that turns black.
+/// A cell is handed to the program: if its colour counts, it turns black, and so does all that it reaches by
+/// cells whose colours count. It reads at most eight edges for each cell that turns black.
 #[cold]
 #[inline(never)]
 pub(crate) fn expose_left_out<L: Ledger>(

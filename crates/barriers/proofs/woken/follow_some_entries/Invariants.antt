@@ -7,7 +7,7 @@ use Rattle.barriers.specs.Pending.{pending}
 use Rattle.barriers.specs.Spreading.{Covers}
 use Rattle.barriers.proofs.Loops.{marking_walk}
 use Rattle.barriers.proofs.Walks.{EntriesSeen}
-use Rattle.barriers.proofs.woken.follow_entries.Given as goal
+use Rattle.barriers.proofs.woken.follow_some_entries.Given as goal
 
 abbrev pub invariant-loop-entry : goal.invariant-loop-entry
 invariant-loop-entry g l = record {
