@@ -3,6 +3,7 @@ pub mod Listed
 pub mod Fields
 pub mod Held
 pub mod Reading
+pub mod NextGray
 pub mod Worlds
 pub mod Orders
 pub mod Entries

@@ -19,6 +19,7 @@ pub mod UnitsToCome
 pub mod Advancing
 pub mod Rooms
 pub mod Grays
+pub mod NextGray
 pub mod HandingOut
 pub mod EdgesRead
 pub mod Working

@@ -25,6 +25,7 @@ use Rattle.slice_driver.specs.declared.session.told.SessionStep.{SessionStep}
 use Rattle.slice_driver.specs.declared.advance.Step.{Step}
 use Rattle.slice_driver.specs.Advances.{Advances}
 use Rattle.slice_driver.specs.Collector.{CollectorState}
+use Rattle.slice_driver.specs.NextGray.{IsNext}
 use Rattle.slice_driver.specs.Represents.{Represents}
 use Rattle.slice_driver.specs.Resets.{ResetsOn}
 
@@ -131,6 +132,12 @@ pub record SessionResets (old : CollectorState) (flown : ℕ → Option Bits) (b
 abbrev pub AreGrayNames : CollectorState → (ℕ → Option Bits) → List Name → Type 0
 AreGrayNames c flown names = (w : World) → IsValid w → Represents c flown w → IsSettled w
     × Lists (λ x. IsPresent w x × (Has w.black x → ⊥)) names
+
+-- the first gray name behind another one, if there is one, in each valid world that a collector stands for; each of
+-- these is settled
+abbrev pub IsNextGray : CollectorState → (ℕ → Option Bits) → Option Name → Option Name → Type 0
+IsNextGray c flown after next = (w : World) → IsValid w → Represents c flown w → IsSettled w
+    × IsNext (λ x. IsPresent w x × (Has w.black x → ⊥)) after next
 
 -- the lines are the dump of each valid world that a collector stands for; each of these is settled
 abbrev pub AreDumpLines : CollectorState → (ℕ → Option Bits) → List DumpLine → Type 0

@@ -98,7 +98,7 @@ pub(crate) fn push_own_gray(heap: &Heap, arena: u32, names: &mut Vec<Name>) -> R
 }
 
 // The slots of the gray cells.
-fn gray_slots(bits: &Bits) -> u64
+pub(crate) fn gray_slots(bits: &Bits) -> u64
     ensures { (slot : ℕ) → slot < 64
         → (bit_at result slot ≡ 1) ↔ (colour_of bits.now slot ≡ Colour.Gray) }
 {

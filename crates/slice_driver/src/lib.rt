@@ -26,9 +26,9 @@
 // black. Were its target not exposed first, a black cell that no pile names would lead to a white one.
 // In a zone that is being prepared no barrier marks, and no cell is born black.
 //
-// `gray_names` lists what is gray where no zone is marking and none is being prepared, and `dump` the present
-// cells with their colours, their edges and the weak entries. `begin` begins a collection: its zones are being
-// prepared from then on.
+// `gray_names` lists what is gray where no zone is marking and none is being prepared, `next_gray` returns one name
+// after the other, and `dump` lists the present cells with their colours, their edges and the weak entries. `begin`
+// begins a collection: its zones are being prepared from then on.
 //
 // A collection goes on unit by unit, and each unit does the first of these steps that has work. They stand in
 // `advance` and `advance_one`, and those that report nothing in `quiet_units`, which does any number of them:
@@ -63,6 +63,7 @@ mod grouping_steps;
 mod laws;
 mod listings;
 mod marking_steps;
+mod next_gray;
 mod preparing;
 mod present;
 mod quiet_units;

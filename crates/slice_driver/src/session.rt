@@ -11,7 +11,7 @@ ghost use Rattle.slice_driver.specs.Accounts.{Accounts, FreesOn, GivesOn, freed_
 ghost use Rattle.slice_driver.specs.Begins.{AreMade};
 ghost use Rattle.slice_driver.specs.Commands.{WantsMemory};
 ghost use Rattle.slice_driver.specs.Represents.{Represents};
-ghost use Rattle.slice_driver.specs.Sessions.{AreDumpLines, AreGrayNames, IsNowhereSettled};
+ghost use Rattle.slice_driver.specs.Sessions.{AreDumpLines, AreGrayNames, IsNextGray, IsNowhereSettled};
 ghost use Rattle.slice_driver.specs.Sessions.{SessionResets, SessionSteps, counted_in, groups_of, kind_of, names_of};
 ghost use Rattle.slice_driver.specs.Sessions.{outcome_of};
 ghost use Rattle.slice_driver.specs.Units.{BeginsIn, BeginsWithin, DoesCommand, RaisesWithin};
@@ -254,6 +254,27 @@ impl<S: Sweeper> Session<S> {
             return Ok(None);
         }
         Ok(Some(self.collector.gray_names(self.alloc, &mut self.sweeper)?))
+    }
+
+    /// The first gray name behind this one, or the first of all; `Some(None)` if there is none, and `None`
+    /// exactly when a zone is being prepared or marking. It takes no memory, and walks over the whole heap:
+    /// for a few names. `gray_names` lists all by one walk.
+    pub fn next_gray(&mut self, after: Option<Name>) -> Option<Option<Name>>
+        ensures next { IfSome result
+            (IsNextGray self.old.collector (S.bits self.old.sweeper) after) }
+        ensures marking { result ≡ None
+            → IsNowhereSettled self.old.collector (S.bits self.old.sweeper) }
+        ensures collector { self.new.collector ≡ self.old.collector }
+        ensures worlds { (w : World) → Represents self.old.collector (S.bits self.old.sweeper) w
+            → Represents self.new.collector (S.bits self.new.sweeper) w }
+        ensures colours { joined self.new.collector.heap (S.bits self.new.sweeper)
+            ≡ joined self.old.collector.heap (S.bits self.old.sweeper) }
+        ensures report { self.new.report ≡ self.old.report }
+    {
+        if !self.collector.settled() {
+            return None;
+        }
+        Some(self.collector.next_gray(&mut self.sweeper, after))
     }
 
     /// The dump of the heap: its present cells with their colours, by name; its edges, by object and

@@ -15,6 +15,7 @@ use Rattle.colour_defs.specs.World.{World, Has, IsPresent as IsPresentName, IsSe
 use Rattle.heap_core.specs.Shape.{ArenaShape, AreWhole, IsPresent, Shape, is_white, out_in, out_of, present_in}
 use Rattle.heap_core.specs.Shape.{zone_of}
 use Rattle.heap_core.specs.Heap.{HeapState, joined}
+use Rattle.barriers.specs.Colours.{IsGray}
 use Rattle.barriers.specs.Invariant.{ColourInvariant}
 use Rattle.slice_driver.specs.Collector.{CollectorState, heap_with}
 use Rattle.slice_driver.specs.Grays.{IsGrayIn, grays_up_to}
@@ -59,33 +60,23 @@ lists_as P Q xs same l = record {
   has = λ x. ((λ c. (same x).0 ((l.has x).0 c)), λ q. (l.has x).1 ((same x).1 q));
 }
 
--- in a settled world the gray names are those that are present and not black
-pub settled_grays : (c : CollectorState) (flown : ℕ → Option Bits) (w : World) (names : List Name)
-    → RepresentsMarking c flown w → IsSettled w
-    → IsPermutation (grays_up_to (joined c.heap flown) (λ a. true) (length c.heap.shape.arenas)) names
-    → IsSorted name_cmp names → Lists (λ x. IsPresentName w x × (Has w.black x → ⊥)) names
-settled_grays c flown w names rep settled moved sorted =
-    lists_as (IsGrayIn h all) (λ x. IsPresentName w x × (Has w.black x → ⊥)) names (λ x. (out x, back x))
-    (grays_listed h all (length c.heap.shape.arenas) names rep.placed.lies.shown.apart
-    (λ p g. present_within c.heap.shape p rep.placed.lies.whole (colours.seen_present p (inl g))) moved sorted)
+-- in a settled world the gray cells are those that are present and not black
+pub settled_gray : (c : CollectorState) (flown : ℕ → Option Bits) (w : World) → RepresentsMarking c flown w
+    → IsSettled w → (x : Name) → IsGrayIn (joined c.heap flown) (λ a. true) x
+    ↔ (IsPresentName w x × (Has w.black x → ⊥))
+settled_gray c flown w rep settled x = (out, back)
   where
-    h : HeapState
-    h = joined c.heap flown
-
-    all : ℕ → Bool
-    all a = true
-
     colours : ColourInvariant (joined c.heap flown)
     colours = rep.coloured.marks.holds.colours
 
-    out : (x : Name) → IsGrayIn (joined c.heap flown) (λ a. true) x → IsPresentName w x × (Has w.black x → ⊥)
-    out x g = (
+    out : IsGrayIn (joined c.heap flown) (λ a. true) x → IsPresentName w x × (Has w.black x → ⊥)
+    out g = (
       present_named c.heap w rep.placed.lies g.place x g.named,
       λ has. (let black = (rep.phase.black settled x g.place g.named).0 has in cc (g.gray, black)),
     )
 
-    back : (x : Name) → IsPresentName w x × (Has w.black x → ⊥) → IsGrayIn (joined c.heap flown) (λ a. true) x
-    back x at =
+    back : IsPresentName w x × (Has w.black x → ⊥) → IsGrayIn (joined c.heap flown) (λ a. true) x
+    back at =
         let p = place_of c.heap w rep.placed.lies x at.0 in
         let none = settled_states (heap_with c flown) c w c.run w.collection rep.phase.runs settled.none_marking
         (zone_of c.heap.shape p.0) in
@@ -93,3 +84,20 @@ settled_grays c flown w names rep settled moved sorted =
           | inl gray ↦ record { place = p.0; named = p.1; here = refl; gray = gray }
           | inr black ↦ absurd (at.1 ((rep.phase.black settled x p.0 p.1).1 black))
         ]
+
+-- gray cells lie in the arenas of the heap
+pub gray_within : (c : CollectorState) (flown : ℕ → Option Bits) (w : World) → RepresentsMarking c flown w
+    → (p : Place) → IsGray (joined c.heap flown) p → (p.0 < length c.heap.shape.arenas) × (p.1 < 64)
+gray_within c flown w rep p gray = present_within c.heap.shape p rep.placed.lies.whole
+    (rep.coloured.marks.holds.colours.seen_present p (inl gray))
+
+-- so the gray names are exactly those
+pub settled_grays : (c : CollectorState) (flown : ℕ → Option Bits) (w : World) (names : List Name)
+    → RepresentsMarking c flown w → IsSettled w
+    → IsPermutation (grays_up_to (joined c.heap flown) (λ a. true) (length c.heap.shape.arenas)) names
+    → IsSorted name_cmp names → Lists (λ x. IsPresentName w x × (Has w.black x → ⊥)) names
+settled_grays c flown w names rep settled moved sorted =
+    lists_as (IsGrayIn (joined c.heap flown) (λ a. true)) (λ x. IsPresentName w x × (Has w.black x → ⊥)) names
+    (settled_gray c flown w rep settled)
+    (grays_listed (joined c.heap flown) (λ a. true) (length c.heap.shape.arenas) names rep.placed.lies.shown.apart
+    (gray_within c flown w rep) moved sorted)

@@ -1,6 +1,6 @@
 -- The names of gray cells, listed arena by arena and slot by slot: all of them, and none twice.
-use Rattle.std.proofs.Common.{◌≡◌, ◌<◌, ◌++◌, ◌+◌, ℕ, zero, suc, Bool, true, false, List, [], ◌∷◌, Option, Some, None}
-use Rattle.std.proofs.Common.{Contains, refl, sym, ap, subst, ◌∙◌, inl, inr, arith}
+use Rattle.std.proofs.Common.{◌≡◌, ◌↔◌, ◌<◌, ◌++◌, ◌+◌, ℕ, zero, suc, Bool, true, false, List, [], ◌∷◌, Option, Some}
+use Rattle.std.proofs.Common.{None, Contains, refl, sym, ap, subst, ◌∙◌, inl, inr, arith}
 use Rattle.std.specs.List.{AllByRecursion, IsDistinct}
 use Rattle.std.specs.List.Sorted.{IsPermutation, IsSorted}
 use Rattle.std.specs.Prelude.{if◌then◌else◌}
@@ -174,15 +174,21 @@ module _ (h : HeapState) (apart : AreNamedApart h) where
       go true = distinct_below n 64
       go false = distinct_none
 
--- sorted, they are a list of exactly the names of the gray cells of these arenas
+-- they are exactly the names of the gray cells of these arenas
+pub has_grays : (h : HeapState) (test : ℕ → Bool) (n : ℕ)
+    → ((p : Place) → IsGray h p → (p.0 < n) × (p.1 < 64)) → (x : Name)
+    → Contains (grays_up_to h test n) x ↔ IsGrayIn h test x
+has_grays h test n within x = (
+  λ c. (let r = up_to_listed h test n x c in record { place = r.0; named = r.4; here = r.2; gray = r.3 }),
+  λ g. (let at = within g.place g.gray in listed_up_to h test n g.place x at.0 at.1 g.here g.gray g.named),
+)
+
+-- sorted, they are a list of these
 pub grays_listed : (h : HeapState) (test : ℕ → Bool) (n : ℕ) (names : List Name) → AreNamedApart h
     → ((p : Place) → IsGray h p → (p.0 < n) × (p.1 < 64)) → IsPermutation (grays_up_to h test n) names
     → IsSorted name_cmp names → Lists (IsGrayIn h test) names
 grays_listed h test n names apart within moved sorted = lists_from_sort (IsGrayIn h test) (grays_up_to h test n) names
-    (λ x. (
-      λ c. (let r = up_to_listed h test n x c in record { place = r.0; named = r.4; here = r.2; gray = r.3 }),
-      λ g. (let at = within g.place g.gray in listed_up_to h test n g.place x at.0 at.1 g.here g.gray g.named),
-    )) (distinct_up_to h apart test n) moved sorted
+    (has_grays h test n within) (distinct_up_to h apart test n) moved sorted
 
 -- one arena more
 pub grays_more : (h : HeapState) (test : ℕ → Bool) (a : ℕ) (xs ys : List Name) → xs ≡ grays_up_to h test a

@@ -12,13 +12,12 @@ use Rattle.gz_names.specs.declared.replies.Report.{Report}
 use Rattle.gz_names.specs.declared.replies.Report.TheVariants as report
 use Rattle.cell_bits.specs.declared.bits.Bits.{Bits}
 use Rattle.cell_bits.specs.declared.jobs.Job.{Job}
-use Rattle.colour_defs.specs.Lawful.{by_units}
 use Rattle.colour_defs.specs.World.{World, first_world}
 use Rattle.colour_defs.proofs.ValidCommands.{command_valid}
 use Rattle.colour_defs.proofs.ValidReports.{unit_valid}
 use Rattle.colour_defs.proofs.ValidRuns.{first_valid}
 use Rattle.collection_laws.specs.Numbers.{IsAccounted, freed_in}
-use Rattle.collection_laws.proofs.Accounts.{beginning_accounts, command_accounts, first_accounts, still_accounts}
+use Rattle.collection_laws.proofs.Accounts.{command_accounts, first_accounts, prepares_accounts, still_accounts}
 use Rattle.collection_laws.proofs.Accounts.{unit_accounts, units_accounts}
 use Rattle.sweeping.specs.ArenasOut.{flown_by}
 use Rattle.slice_driver.specs.Accounts.{Accounts, FreesOn, GivesOn, freed_by, freed_by_report}
@@ -111,7 +110,7 @@ begins_on c f d (Ok done) zones begun same given freed a =
       valid = b.2;
       represents = b.3;
       accounted = subst (λ (l : List Name). IsAccounted b.0 given l) (sym (append-nil freed))
-          (beginning_accounts by_units a.world (zones_in (record { bits = zones })) b.0 given freed b.1 a.accounted);
+          (prepares_accounts a.world (zones_in (record { bits = zones })) b.0 given freed b.1 a.accounted);
     }
 begins_on c f d (Err why) zones begun same given freed a = stays_on c f d f same (λ w rep. rep) given freed a
 

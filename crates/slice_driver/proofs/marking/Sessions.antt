@@ -168,7 +168,6 @@ module _ (c : CollectorState) (f : ℕ → Option Bits) (d : CollectorState) (g 
         → SessionResets b f before (session_step step now) d g outs now
     resets_told b before step outs running is r =
         let says = resets_tell step outs r in
-        let is_reported : step.reported ≡ true = ap (λ (s : Step). s.reported) r.step_is in
         let none_handed : step.handed ≡ None = ap (λ (s : Step). s.handed) r.step_is in
         let reported : is_some (cond step.reported (kind_of now) None) ≡ step.reported =
         told_of step.reported now (λ e. says) in

@@ -362,7 +362,7 @@ module _ (c : CollectorState) (flown : ℕ → Option Bits) (w : World) (zones :
     };
   }
 
--- the zones that are stopped are those that are marking or being prepared
+-- the zones that are stopped: exactly those that are being prepared or marking
 abbrev pub AreStopping : Shape → ZoneSet → Type 0
 AreStopping s zones = (z : ℕ) → HasZone zones.bits z
     ↔ (IsSomeAnd (slice_get s.states z) IsMarking ⊎ (slice_get s.states z ≡ Some state.Prepare))

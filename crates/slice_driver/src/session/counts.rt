@@ -1,9 +1,12 @@
 // How much a session holds.
-ghost use Rattle.std.specs.Prelude.{◌≡◌, length};
-ghost use Rattle.slice_driver.specs.Present.{present_in_all};
+ghost use Rattle.std.specs.Prelude.{◌≡◌, ◌*◌, length};
+ghost use Rattle.slice_driver.specs.Present.{arena_bytes, present_in_all};
 
 use super::Session;
 use sweeping::Sweeper;
+
+// What an arena takes: its cells, their marks and its zone.
+const ARENA_BYTES: u64 = 64 * 40 + 32;
 
 impl<S: Sweeper> Session<S> {
     /// How many cells are present, wrappers among them. It walks over arenas only while some are being
@@ -26,6 +29,15 @@ impl<S: Sweeper> Session<S> {
         ensures { result ≡ length self.now.collector.heap.shape.arenas }
     {
         self.collector.heap.arenas()
+    }
+
+    /// How many bytes the arenas take: 64 cells of 40 bytes each, used or not, and 32 beside them. Not
+    /// counted are the room that vectors keep to grow, the tables of wrappers and of weak entries, and
+    /// what a collection keeps of its own.
+    pub fn bytes(&self) -> u64
+        ensures { result ≡ arena_bytes * length self.now.collector.heap.shape.arenas }
+    {
+        ARENA_BYTES * u64::from(self.arenas())
     }
 
     /// How many entries the weak maps have.
