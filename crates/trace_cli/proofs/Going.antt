@@ -10,7 +10,7 @@ use Rattle.gz_names.specs.declared.replies.Reply.{Reply}
 use Rattle.gz_names.specs.declared.replies.Report.{Report}
 use Rattle.cell_bits.specs.declared.bits.Bits.{Bits}
 use Rattle.colour_defs.specs.Laws.{IsValid}
-use Rattle.colour_defs.specs.Lawful.{Answers, IsRunning, beginning}
+use Rattle.colour_defs.specs.Lawful.{Answers, IsRunning}
 use Rattle.colour_defs.specs.World.{World, first_world}
 use Rattle.colour_defs.proofs.ValidRuns.{answer_valid}
 use Rattle.command_source.specs.Giving.{GivesCommand, GivesBad}
@@ -144,7 +144,7 @@ opened_amid {e} {m} {more} {i} {written} {writes} {outs} {flown} some (amid othe
 -- an answer keeps a world valid
 keeps_valid : (w v : World) (c : Cmd) (reports : List Report) (answer : Reply) → IsValid w
     → Answers w c reports answer v → IsValid v
-keeps_valid w v c reports answer ok answers = answer_valid beginning w c reports answer v ok answers
+keeps_valid w v c reports answer ok answers = answer_valid w c reports answer v ok answers
 
 -- nothing was done yet of a line that was begun
 first_so_far : (w : World) (command : Cmd) (left : Pending) (d : CollectorState) (g : ℕ → Option Bits)

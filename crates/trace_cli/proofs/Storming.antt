@@ -22,7 +22,7 @@ use Rattle.gz_names.specs.declared.commands.GraphCmd.TheVariants as cmd
 use Rattle.cell_bits.specs.declared.bits.Bits.{Bits}
 use Rattle.colour_defs.specs.Ends.{IsAscending, Lists}
 use Rattle.colour_defs.specs.Graph.{GraphState, empty_graph}
-use Rattle.colour_defs.specs.Lawful.{beginning, Run}
+use Rattle.colour_defs.specs.Lawful.{Run}
 use Rattle.colour_defs.specs.Laws.{IsNoWeakCmd, IsValid}
 use Rattle.colour_defs.specs.World.{Has, World, IsPresent, IsSettled, first_world, marking_of}
 use Rattle.colour_defs.proofs.Lists.{contains_cases, contains_head, contains_tail, nothing_in_none}
@@ -231,7 +231,7 @@ storm_left seed lines output w c flown leads rep ok =
     subst (λ (cs : List Cmd). Run first_world cs leads.answers w) of.commands_are leads.run in
     let first = all_front IsNoWeakCmd (with_zones of.between) tail
     (subst (λ (cs : List Cmd). All IsNoWeakCmd cs) of.commands_are plain) in
-    let end = run_collected beginning (with_zones of.between) leads.answers w of.zones first
+    let end = run_collected (with_zones of.between) leads.answers w of.zones first
     (all_named of.between (zones_in of.zones) of.none_made of.zones_are) run in
     let idle = idle_run c flown w rep end.0.idle in
     record {
@@ -241,7 +241,7 @@ storm_left seed lines output w c flown leads rep ok =
       represents = subst (λ (f : ℕ → Option Bits). Represents c f w) (idle_flown c flown w rep idle) rep;
       valid = ok;
       collected = end.0;
-      graph_is = run_graph beginning first_world leads.commands leads.answers w plain leads.run;
+      graph_is = run_graph first_world leads.commands leads.answers w plain leads.run;
     }
 
 all_led : (input : List ℕ) (rest written : Option (List ℕ)) (n : ℕ) (w : World)

@@ -8,7 +8,7 @@ use Rattle.gz_names.specs.declared.zone_sets.ZoneSet.{ZoneSet}
 use Rattle.cell_bits.specs.declared.bits.Bits.{Bits}
 use Rattle.colour_defs.specs.World.{Collection, Preparation, World}
 use Rattle.colour_defs.specs.Laws.{IsValid}
-use Rattle.colour_defs.specs.Lawful.{BeginsBy, IsRunning, beginning}
+use Rattle.colour_defs.specs.Lawful.{Prepares, IsRunning}
 use Rattle.slice_driver.specs.Collector.{CollectorState}
 use Rattle.slice_driver.specs.Represents.{Represents}
 use Rattle.slice_driver.specs.UnitsToCome.{IsWithinBound, units_to_come}
@@ -28,7 +28,7 @@ pub record RunsWithin (w : World) (most : ℕ) : Type 0 where
 -- come at most, and so many were done
 pub data IsAnswering (w : World) (cmd : Cmd) (left : Pending) (n : ℕ) (begun : World) (most : ℕ) : Type 0 where
   collects : (zones : ZoneSet) → cmd ≡ command.Collect zones → left ≡ pending.Collect
-      → BeginsBy beginning w (zones_in zones) begun → IsAnswering w cmd left n begun most
+      → Prepares w (zones_in zones) begun → IsAnswering w cmd left n begun most
   slices : (budget more : ℕ) → cmd ≡ command.Slice budget → left ≡ pending.Slice more n → more + n ≡ budget
       → RunsWithin w most → begun ≡ w → IsAnswering w cmd left n begun most
   finishes : cmd ≡ command.Finish → left ≡ pending.Finish n → RunsWithin w most → begun ≡ w
