@@ -1,4 +1,6 @@
 pub mod Feeds
 pub mod Reading
+pub mod Results
 pub mod Runs
+pub mod Stages
 pub mod Ends

@@ -1,11 +1,13 @@
 -- Lines that are judged, one more behind the others.
-use Rattle.std.proofs.Common.{◌≡◌, ℕ, ◌+◌, List, [], Option, Some, None, refl, subst, sym}
+use Rattle.std.proofs.Common.{◌≡◌, ℕ, ◌+◌, List, [], Option, Some, None, drop, refl, subst, sym}
 use Rattle.std.specs.Io.KnownBytes.{prepend_known}
 use Rattle.gz_io.specs.Lines.{EndsLine}
 use Rattle.colour_defs.specs.Graph.{GraphState, empty_graph}
 use Rattle.judge.specs.Lines.{GivesKnownLine, GivesLine, IsOneLine}
-use Rattle.judge.specs.Replies.{Due, nothing, reply, others, Judged, none, due_as}
-use Rattle.judge.specs.Verdicts.{IsBadLine, IsCut, IsFirstBad, IsFirstWrong, IsJudgedWhole, IsNext, IsWrongLine}
+use Rattle.judge.specs.Stages.{Shown, idle}
+use Rattle.judge.specs.Replies.{Due, nothing, reply, dump, units, resets, Judged, none, due_as}
+use Rattle.judge.specs.Verdicts.{HasJudged, IsBadLine, IsCut, IsFirstBad, IsFirstWrong, IsJudgedWhole, IsNext}
+use Rattle.judge.specs.Verdicts.{IsWrongLine}
 use Rattle.judge.specs.declared.answers.Awaited.{Awaited}
 use Rattle.judge.specs.declared.answers.Awaited.TheVariants as awaited
 use Rattle.judge.specs.declared.lines.NextLine.{NextLine}
@@ -26,57 +28,42 @@ none_held held left input e f =
     subst (λ h. prepend_known h left ≡ Some input) (sym e) (subst (λ o. prepend_known [] o ≡ Some input) (sym f) refl)
 
 -- nothing was read yet
-pub start_judged : (input : List ℕ) (g : GraphState) (due : Due) → g ≡ empty_graph → due ≡ nothing
-    → Judged input 0 input g due
-start_judged input g due e f =
-    subst (λ h. Judged input 0 input h due) (sym e) (subst (λ d. Judged input 0 input empty_graph d) (sym f) none)
+pub start_judged : (input : List ℕ) (g : GraphState) (s : Shown) (due : Due) → g ≡ empty_graph
+    → s ≡ record { stage = idle; out = [] } → due ≡ nothing → Judged input 0 input g s due
+start_judged input g s due e r f =
+    subst (λ h. Judged input 0 input h s due) (sym e) (subst (λ t. Judged input 0 input empty_graph t due) (sym r)
+    (subst (λ d. Judged input 0 input empty_graph (record { stage = idle; out = [] }) d) (sym f) none))
 
 -- something is due where something is awaited
 pub some_due : (a : Awaited) → (a ≡ awaited.Nothing → ⊥) → due_as a ≡ nothing → ⊥
 some_due awaited.Nothing n e = n refl
 some_due (awaited.Reply text) n e = let q : reply text.items ≡ nothing = e in cc q
-some_due (awaited.Line text) n e = let q : others ≡ nothing = e in cc q
-some_due (awaited.Dump lines next) n e = let q : others ≡ nothing = e in cc q
-some_due (awaited.Units running) n e = let q : others ≡ nothing = e in cc q
-some_due awaited.Reset n e = let q : others ≡ nothing = e in cc q
+some_due (awaited.Dump lines next) n e = let q : dump (drop next lines.items) ≡ nothing = e in cc q
+some_due (awaited.Units running) n e = let q : units running.most running.collects ≡ nothing = e in cc q
+some_due awaited.Reset n e = let q : resets ≡ nothing = e in cc q
 
 -- how a transcript ends, or goes wrong
-pub whole_judged : (input rest : List ℕ) (n : ℕ) (g : GraphState) (a : Awaited) → Judged input n rest g (due_as a)
-    → rest ≡ [] → a ≡ awaited.Nothing → IsJudgedWhole input
-whole_judged input rest n g a j over whole = (
-  n,
-  record {
-    graph = g;
-    judged = subst (λ ys. Judged input n ys g nothing) over
-        (subst (λ b. Judged input n rest g (due_as b)) whole j);
-  },
-)
+pub whole_judged : (input rest : List ℕ) (n : ℕ) (a : Awaited) → HasJudged input n rest (due_as a) → rest ≡ []
+    → a ≡ awaited.Nothing → IsJudgedWhole input
+whole_judged input rest n a j over whole =
+    (n, subst (λ ys. HasJudged input n ys nothing) over (subst (λ b. HasJudged input n rest (due_as b)) whole j))
 
-pub cut_judged : (input rest : List ℕ) (n : ℕ) (g : GraphState) (a : Awaited) → Judged input n rest g (due_as a)
-    → rest ≡ [] → (a ≡ awaited.Nothing → ⊥) → IsCut input
-cut_judged input rest n g a j over some = (
-  n,
-  due_as a,
-  record { graph = g; judged = subst (λ ys. Judged input n ys g (due_as a)) over j },
-  some_due a some,
-)
+pub cut_judged : (input rest : List ℕ) (n : ℕ) (a : Awaited) → HasJudged input n rest (due_as a) → rest ≡ []
+    → (a ≡ awaited.Nothing → ⊥) → IsCut input
+cut_judged input rest n a j over some =
+    (n, due_as a, subst (λ ys. HasJudged input n ys (due_as a)) over j, some_due a some)
 
-next_of : (input rest more line : List ℕ) (n : ℕ) (g : GraphState) (due : Due) → Judged input n rest g due
-    → IsOneLine line → EndsLine rest more line → IsNext input n due line
-next_of input rest more line n g due j one e = record {
-  rest = rest;
-  more = more;
-  before = record { graph = g; judged = j };
-  one = one;
-  ends = e;
-}
+next_of : (input rest more line : List ℕ) (n : ℕ) (due : Due) → HasJudged input n rest due → IsOneLine line
+    → EndsLine rest more line → IsNext input n due line
+next_of input rest more line n due j one e =
+    record { rest = rest; more = more; before = j; one = one; ends = e }
 
-pub bad_judged : (input rest more line : List ℕ) (n : ℕ) (g : GraphState) (due : Due) → Judged input n rest g due
+pub bad_judged : (input rest more line : List ℕ) (n : ℕ) (due : Due) → HasJudged input n rest due
     → GivesLine rest more next.Line line → IsBadLine line → IsFirstBad input (n + 1)
-bad_judged input rest more line n g due j gives bad =
-    (n, due, line, refl, next_of input rest more line n g due j gives.0 gives.1, bad)
+bad_judged input rest more line n due j gives bad =
+    (n, due, line, refl, next_of input rest more line n due j gives.0 gives.1, bad)
 
-pub wrong_judged : (input rest more line : List ℕ) (n : ℕ) (g : GraphState) (due : Due) → Judged input n rest g due
+pub wrong_judged : (input rest more line : List ℕ) (n : ℕ) (due : Due) → HasJudged input n rest due
     → GivesLine rest more next.Line line → IsWrongLine due line → IsFirstWrong input (n + 1)
-wrong_judged input rest more line n g due j gives wrong =
-    (n, due, line, refl, next_of input rest more line n g due j gives.0 gives.1, wrong)
+wrong_judged input rest more line n due j gives wrong =
+    (n, due, line, refl, next_of input rest more line n due j gives.0 gives.1, wrong)

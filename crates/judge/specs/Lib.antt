@@ -1,3 +1,4 @@
 pub mod Lines
+pub mod Stages
 pub mod Replies
 pub mod Verdicts

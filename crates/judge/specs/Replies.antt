@@ -1,15 +1,25 @@
--- What a verdict says: each line of the trace is one of the language, and each command on the graph has
--- the reply that the definitions give it. Of the lines of collections it says nothing.
-use Rattle.std.specs.Prelude.{◌≡◌, ◌≢◌, ◌⊎◌, ℕ, ◌+◌, List, [], ◌∷◌, Result, Ok, Err, ⊤}
+-- What a verdict says: each line of the trace is one of the language; each command on the graph has the reply that the
+-- definitions give it; a collection begins, goes on, ends and is refused as they say; and each answer has its last
+-- line, behind the reports that its collection is due, in their order. Which cells these name is not said.
+use Rattle.std.specs.Prelude.{◌≡◌, ◌≢◌, ◌⊎◌, ℕ, ◌+◌, ◌<◌, ◌≤◌, Bool, true, false, List, [], ◌∷◌, drop, Option, Some}
+use Rattle.std.specs.Prelude.{None, Result, Ok, Err, codes, ⊤}
 use Rattle.gz_io.specs.Lines.{EndsLine}
+use Rattle.gz_names.specs.Zones.{HasZone}
+use Rattle.gz_names.specs.declared.zone_sets.ZoneSet.{ZoneSet}
+use Rattle.gz_names.specs.declared.names.Name.{Name}
 use Rattle.gz_names.specs.declared.commands.Cmd.{Cmd}
 use Rattle.gz_names.specs.declared.commands.Cmd.TheVariants as command
-use Rattle.gz_names.specs.declared.replies.Reply.{Reply}
+use Rattle.gz_names.specs.declared.replies.Reply.TheVariants as answer
+use Rattle.gz_names.specs.declared.replies.Refusal.{Refusal}
+use Rattle.gz_names.specs.declared.replies.Refusal.TheVariants as refusal
+use Rattle.gz_names.specs.declared.dumps.DumpLine.{DumpLine}
 use Rattle.colour_defs.specs.Graph.{GraphState, empty_graph}
 use Rattle.colour_defs.specs.Step.{step_of}
 use Rattle.trace_lang.specs.Grammar.{Spells}
 use Rattle.trace_lang.specs.Texts.{reply_text}
 use Rattle.judge.specs.Lines.{IsOneLine}
+use Rattle.judge.specs.Stages.{Stage, idle, preparing, collecting, Shown, IsOver, IsSettled, IsReportedLine}
+use Rattle.judge.specs.Stages.{IsResetLine}
 use Rattle.judge.specs.declared.answers.Awaited.{Awaited}
 use Rattle.judge.specs.declared.answers.Awaited.TheVariants as awaited
 
@@ -21,24 +31,66 @@ marked text = 62 ∷ 32 ∷ text
 abbrev pub IsUnmarked : List ℕ → Type 0
 IsUnmarked line = (text : List ℕ) → line ≡ marked text → ⊥
 
--- what is due: nothing, this line, or lines of which nothing is said
+-- what is due: nothing; this line; these lines of a dump; reports and a last line, with the most units that a
+-- slice may have, and whether the line is that of `collect`; or the reports of a reset
 pub data Due : Type 0 where
   nothing : Due
   reply : List ℕ → Due
-  others : Due
+  dump : List DumpLine → Due
+  units : Option ℕ → Bool → Due
+  resets : Due
 
--- what is due for a command. The last two are no lines of the language
-abbrev pub due_of : GraphState → Cmd → Due
-due_of g (command.Graph c) = reply (reply_text (step_of g c).1)
-due_of g (command.Gc zones) = others
-due_of g (command.Slice n) = others
-due_of g command.Finish = others
-due_of g (command.Collect zones) = others
-due_of g command.Colours = others
-due_of g command.Dump = others
-due_of g command.Reset = others
-due_of g (command.Weak c) = nothing
-due_of g (command.Compact zone) = nothing
+-- each of these zones is made
+abbrev pub AreMade : GraphState → ZoneSet → Type 0
+AreMade g zones = (z : ℕ) → HasZone zones.bits z → z < g.zones
+
+-- a reply that refuses a command
+abbrev pub refused : Refusal → Due
+refused why = reply (reply_text (answer.Refused why))
+
+-- what is due where a collection begins, for `collect` or for `gc`
+abbrev pub begun_due : Bool → Due
+begun_due true = units None true
+begun_due false = reply (reply_text answer.GcBegun)
+
+-- why a collection does not begin: one runs already; or one of the zones is not made
+abbrev pub IsRefusal : GraphState → ZoneSet → Stage → Refusal → Type 0
+IsRefusal g zones s why =
+    ((why ≡ refusal.Running) × (s ≢ idle)) ⊎ ((why ≡ refusal.NoZone) × (s ≡ idle) × (AreMade g zones → ⊥))
+
+-- what is due for `gc` and `collect`, and what the world shows then
+abbrev pub Begins : GraphState → ZoneSet → Due → Shown → Due → Shown → Type 0
+Begins g zones begun old due new =
+    ((why : Refusal) × IsRefusal g zones old.stage why × (due ≡ refused why) × (new ≡ old))
+    ⊎ ((old.stage ≡ idle) × AreMade g zones × (due ≡ begun) × (new ≡ record { stage = preparing zones; out = old.out }))
+
+-- what is due for `slice`, `finish` and `reset`: `idle` where no collection runs
+abbrev pub GoesOn : Due → Stage → Due → Type 0
+GoesOn running s due = ((s ≢ idle) × (due ≡ running)) ⊎ ((s ≡ idle) × (due ≡ refused refusal.Idle))
+
+-- what is due for `colours`: `marking` while zones are being prepared or are marking
+abbrev pub ListsGray : Stage → Due → Type 0
+ListsGray s due =
+    (IsSettled s × (names : List Name) × (due ≡ reply (reply_text (answer.Gray names))))
+    ⊎ ((IsSettled s → ⊥) × (due ≡ refused refusal.Marking))
+
+-- what is due for `dump`
+abbrev pub Dumps : Stage → Due → Type 0
+Dumps s due =
+    (IsSettled s × (lines : List DumpLine) × (due ≡ dump lines)) ⊎ ((IsSettled s → ⊥) × (due ≡ refused refusal.Marking))
+
+-- what is due for a command, by what the world shows before it and after it. The last two are no lines of the language
+abbrev pub Asks : GraphState → Shown → Cmd → Due → Shown → Type 0
+Asks g old (command.Graph c) due new = (due ≡ reply (reply_text (step_of g c).1)) × (new ≡ old)
+Asks g old (command.Gc zones) due new = Begins g zones (begun_due false) old due new
+Asks g old (command.Slice n) due new = GoesOn (units (Some n) false) old.stage due × (new ≡ old)
+Asks g old command.Finish due new = GoesOn (units None false) old.stage due × (new ≡ old)
+Asks g old (command.Collect zones) due new = Begins g zones (begun_due true) old due new
+Asks g old command.Colours due new = ListsGray old.stage due × (new ≡ old)
+Asks g old command.Dump due new = Dumps old.stage due × (new ≡ old)
+Asks g old command.Reset due new = GoesOn resets old.stage due × (new ≡ old)
+Asks g old (command.Weak c) due new = (due ≡ nothing) × (new ≡ old)
+Asks g old (command.Compact zone) due new = (due ≡ nothing) × (new ≡ old)
 
 -- the graph that never frees after a command: a collection leaves it as it is
 abbrev pub graph_after : GraphState → Cmd → GraphState
@@ -53,46 +105,78 @@ graph_after g command.Reset = g
 graph_after g (command.Weak c) = g
 graph_after g (command.Compact zone) = g
 
--- what may be due after a line of an answer
-abbrev pub IsAnswered : Due → List ℕ → Due → Type 0
-IsAnswered nothing line next = ⊥
-IsAnswered (reply due) line next = (line ≡ due) × (next ≡ nothing)
-IsAnswered others line next = (next ≡ others) ⊎ (next ≡ nothing)
+-- a number of units for `finish`, or for a slice of at most n: fewer only if the collection is over
+abbrev pub IsWithin : Option ℕ → ℕ → Stage → Type 0
+IsWithin None k s = s ≡ idle
+IsWithin (Some n) k s = (k ≤ n) × (k < n → s ≡ idle)
 
--- a line that may be wrong where this is due. Of lines of collections nothing is said
+-- the last line of an answer with units. That of `collect` comes once the collection is over; that of a slice not
+-- between the last arena and `done`
+abbrev pub IsLast : Option ℕ → Bool → Shown → List ℕ → Type 0
+IsLast most true s line = (line ≡ codes "collected") × (s.stage ≡ idle)
+IsLast most false s line =
+    (k : ℕ) × (line ≡ reply_text (answer.Sliced k)) × (IsOver s → ⊥) × IsWithin most k s.stage
+
+-- what is due after some lines of a dump
+abbrev pub dump_due : List DumpLine → Due
+dump_due [] = nothing
+dump_due (l ∷ ls) = dump (l ∷ ls)
+
+abbrev pub IsDumped : List DumpLine → List ℕ → Due → Type 0
+IsDumped [] line next = ⊥
+IsDumped (l ∷ ls) line next = (line ≡ reply_text (answer.Dump (l ∷ []))) × (next ≡ dump_due ls)
+
+-- what is due after a report of a reset
+abbrev pub after_reset : Stage → Due
+after_reset idle = reply (reply_text answer.ResetDone)
+after_reset (preparing zones) = resets
+after_reset (collecting zones marking groups) = resets
+
+-- what may be due after a line of an answer, by what the world shows before the line and after it
+abbrev pub IsAnswered : Shown → Due → List ℕ → Shown → Due → Type 0
+IsAnswered old nothing line new next = ⊥
+IsAnswered old (reply due) line new next = (line ≡ due) × (next ≡ nothing) × (new ≡ old)
+IsAnswered old (dump lines) line new next = IsDumped lines line next × (new ≡ old)
+IsAnswered old (units most collects) line new next =
+    (IsReportedLine old line new × (next ≡ units most collects))
+    ⊎ (IsLast most collects old line × (next ≡ nothing) × (new ≡ old))
+IsAnswered old resets line new next = IsResetLine old line new × (next ≡ after_reset new.stage)
+
+-- a line that may be wrong where this is due. Of the lines of collections nothing is said
 abbrev pub MayBeWrong : Due → List ℕ → Type 0
 MayBeWrong nothing line = ⊤
 MayBeWrong (reply due) line = line ≢ due
-MayBeWrong others line = ⊤
+MayBeWrong (dump lines) line = (next : Due) → IsDumped lines line next → ⊥
+MayBeWrong (units most collects) line = ⊤
+MayBeWrong resets line = ⊤
 
 -- what is due while this is awaited
 abbrev pub due_as : Awaited → Due
 due_as awaited.Nothing = nothing
 due_as (awaited.Reply text) = reply text.items
-due_as (awaited.Line text) = others
-due_as (awaited.Dump lines next) = others
-due_as (awaited.Units running) = others
-due_as awaited.Reset = others
+due_as (awaited.Dump lines next) = dump (drop next lines.items)
+due_as (awaited.Units running) = units running.most running.collects
+due_as awaited.Reset = resets
 
 -- what is said of a line of an answer: what is awaited after it, or that it is wrong
-abbrev pub IsJudgedLine : {K : Type 0} → Due → List ℕ → Result Awaited K → Type 0
-IsJudgedLine due line (Ok awaited) = IsAnswered due line (due_as awaited)
-IsJudgedLine due line (Err kind) = MayBeWrong due line
+abbrev pub IsJudgedLine : {K : Type 0} → Shown → Due → List ℕ → Shown → Result Awaited K → Type 0
+IsJudgedLine old due line new (Ok awaited) = IsAnswered old due line new (due_as awaited)
+IsJudgedLine old due line new (Err kind) = MayBeWrong due line
 
--- n lines come first, the rest is left; the commands among them lead to this graph, each one on the graph has its reply
--- behind it, and this is due
-pub data Judged (input : List ℕ) : ℕ → List ℕ → GraphState → Due → Type 0 where
-  none : Judged input 0 input empty_graph nothing
-  asked : {n : ℕ} {rest more line text : List ℕ} {g : GraphState} {c : Cmd} → Judged input n rest g nothing
-      → IsOneLine line → EndsLine rest more line → line ≡ marked text → Spells text c
-      → Judged input (n + 1) more (graph_after g c) (due_of g c)
-  answered : {n : ℕ} {rest more line : List ℕ} {g : GraphState} {due next : Due} → Judged input n rest g due
-      → IsOneLine line → EndsLine rest more line → IsUnmarked line → IsAnswered due line next
-      → Judged input (n + 1) more g next
+-- n lines come first, the rest is left; the commands among them lead to this graph, each has behind it what is due for
+-- it; this is what the world shows then, and this is due
+pub data Judged (input : List ℕ) : ℕ → List ℕ → GraphState → Shown → Due → Type 0 where
+  none : Judged input 0 input empty_graph (record { stage = idle; out = [] }) nothing
+  asked : {n : ℕ} {rest more line text : List ℕ} {g : GraphState} {c : Cmd} {old new : Shown} {due : Due}
+      → Judged input n rest g old nothing → IsOneLine line → EndsLine rest more line → line ≡ marked text
+      → Spells text c → Asks g old c due new → Judged input (n + 1) more (graph_after g c) new due
+  answered : {n : ℕ} {rest more line : List ℕ} {g : GraphState} {due next : Due} {old new : Shown}
+      → Judged input n rest g old due → IsOneLine line → EndsLine rest more line → IsUnmarked line
+      → IsAnswered old due line new next → Judged input (n + 1) more g new next
 
--- a line that is fine: the graph after it, and what is due then
-abbrev pub Steps : GraphState → Due → List ℕ → GraphState → Due → Type 0
-Steps g due line h next =
+-- a line that is fine: the graph after it, what the world shows, and what is due then
+abbrev pub Steps : GraphState → Shown → Due → List ℕ → GraphState → Shown → Due → Type 0
+Steps g old due line h new next =
     ((text : List ℕ) × (c : Cmd) × (due ≡ nothing) × (line ≡ marked text) × Spells text c × (h ≡ graph_after g c)
-    × (next ≡ due_of g c))
-    ⊎ (IsUnmarked line × (h ≡ g) × IsAnswered due line next)
+    × Asks g old c next new)
+    ⊎ (IsUnmarked line × (h ≡ g) × IsAnswered old due line new next)

@@ -8,6 +8,7 @@ use Rattle.gz_names.specs.declared.commands.Cmd.{Cmd}
 use Rattle.colour_defs.specs.Graph.{GraphState}
 use Rattle.trace_lang.specs.Grammar.{Spells}
 use Rattle.judge.specs.Lines.{IsOneLine}
+use Rattle.judge.specs.Stages.{Shown}
 use Rattle.judge.specs.Replies.{Due, nothing, Judged, IsUnmarked, MayBeWrong, marked}
 use Rattle.judge.specs.declared.judging.JudgeEnd.{JudgeEnd}
 use Rattle.judge.specs.declared.judging.JudgeEnd.TheVariants as end
@@ -28,7 +29,8 @@ IsWrongLine due line =
 -- the first n lines were judged, and the rest is left
 pub record HasJudged (input : List ℕ) (n : ℕ) (rest : List ℕ) (due : Due) : Type 0 where
   pub graph : GraphState
-  pub judged : Judged input n rest graph due
+  pub shows : Shown
+  pub judged : Judged input n rest graph shows due
 
 -- the line after n judged ones
 pub record IsNext (input : List ℕ) (n : ℕ) (due : Due) (line : List ℕ) : Type 0 where

@@ -1,14 +1,23 @@
 // The answer to one command: which of its lines come next.
-ghost use Rattle.std.specs.Prelude.{◌≡◌, ◌↔◌, ℕ, IfOk, IsTrue, List, OnOk};
-ghost use Rattle.judge.specs.Replies.{IsJudgedLine, due_as, due_of, graph_after, nothing, others, reply};
+ghost use Rattle.std.specs.Prelude.{◌≡◌, ◌≢◌, ◌↔◌, ℕ, Bool, IfNone, IfOk, IfSome, IsTrue, List, None, OnOk, Some};
+ghost use Rattle.std.specs.Prelude.{codes, drop, false, true, ◌∷◌, []};
+ghost use Rattle.gz_names.specs.declared.replies.Reply.TheVariants as the_reply;
+ghost use Rattle.colour_defs.specs.Step.{step_of};
+ghost use Rattle.trace_lang.specs.Texts.{reply_text};
+ghost use Rattle.judge.specs.Stages.{IsReportedLine, IsResetLine, IsOver, Shown, idle, shown, stage_of};
+ghost use Rattle.judge.specs.Replies.{Asks, Begins, Dumps, GoesOn, IsJudgedLine, IsLast, IsWithin, ListsGray};
+ghost use Rattle.judge.specs.Replies.{after_reset, begun_due, due_as, dump as dump_of, graph_after, nothing, reply};
+ghost use Rattle.judge.specs.Replies.{resets, units as units_of};
 
 use crate::checks::{self, Fault};
 use crate::kinds;
 use crate::parse::{after, parse_number};
 use crate::text::{is_same, reply_text};
 use crate::world::World;
-use gz_names::{Cmd, DumpLine, DumpLines, NameList, NoMemory, Refusal, Reply, ZoneSet};
+use gz_names::{Cmd, DumpLine, DumpLines, GraphCmd, NameList, NoMemory, Refusal, Reply, ZoneSet};
 use plain_graph::{Graph, step};
+
+const NOT_OVER: &[u8] = b"report, the collection is not over";
 
 /// What an answer to a command that runs units may still be.
 #[derive(Clone, Copy)]
@@ -25,10 +34,8 @@ pub struct Running {
 #[derive(Drop)]
 pub enum Awaited {
     Nothing,
-    /// The reply to a command on the graph: this line.
+    /// A reply: this line.
     Reply(Vec<u8>),
-    /// Another reply: this line.
-    Line(Vec<u8>),
     /// These lines of a dump, from this one on.
     Dump(Vec<DumpLine>, usize),
     Units(Running),
@@ -37,11 +44,11 @@ pub enum Awaited {
 }
 
 // A reply and nothing else.
-fn only(world: &World, reply: &Reply) -> Result<Awaited, NoMemory>
-    ensures { IfOk result (λ awaited. due_as awaited ≡ others) }
+fn only(world: &World, answer: &Reply) -> Result<Awaited, NoMemory>
+    ensures { IfOk result (λ awaited. due_as awaited ≡ reply (reply_text answer.now)) }
 {
-    let text = reply_text(world.alloc, reply)?;
-    Ok(Awaited::Line(text))
+    let text = reply_text(world.alloc, answer)?;
+    Ok(Awaited::Reply(text))
 }
 
 /// What is due for a command; it does what the command does before its first line.
@@ -50,16 +57,12 @@ pub fn begin_answer(
     world: &mut World,
     command: &Cmd,
 ) -> Result<Awaited, NoMemory>
-    ensures awaits { IfOk result (λ awaited. due_as awaited ≡ due_of graph.old command.now) }
+    ensures asks { IfOk result (λ awaited. Asks graph.old (shown world.old) command.now (due_as awaited)
+        (shown world.new)) }
     ensures graph { OnOk result (graph.new ≡ graph_after graph.old command.now) }
 {
     match command {
-        Cmd::Graph(command) => {
-            let reply = step(world.alloc, graph, command)?;
-            world.follow(graph, command, &reply)?;
-            let text = reply_text(world.alloc, &reply)?;
-            Ok(Awaited::Reply(text))
-        }
+        Cmd::Graph(command) => follow(graph, world, command),
         Cmd::Gc(zones) => begin(graph, world, *zones, false),
         Cmd::Collect(zones) => begin(graph, world, *zones, true),
         Cmd::Slice(units) => slice(world, Some(u64::from(*units))),
@@ -73,18 +76,37 @@ pub fn begin_answer(
     }
 }
 
+// A command on the graph.
+fn follow(graph: &mut Graph, world: &mut World, command: &GraphCmd) -> Result<Awaited, NoMemory>
+    ensures due { IfOk result (λ awaited. due_as awaited ≡ reply (reply_text (step_of graph.old command.now).1)) }
+    ensures graph { OnOk result (graph.new ≡ (step_of graph.old command.now).0) }
+    ensures same { OnOk result (shown world.new ≡ shown world.old) }
+{
+    let reply = step(world.alloc, graph, command)?;
+    world.follow(graph, command, &reply)?;
+    only(world, &reply)
+}
+
 fn begin(
     graph: &Graph,
     world: &mut World,
     zones: ZoneSet,
     collects: bool,
 ) -> Result<Awaited, NoMemory>
-    ensures { IfOk result (λ awaited. due_as awaited ≡ others) }
+    ensures { IfOk result (λ awaited. Begins graph.now zones (begun_due collects) (shown world.old)
+        (due_as awaited) (shown world.new)) }
 {
     if let Some(why) = world.refusal(graph, zones) {
         return only(world, &Reply::Refused(why));
     }
     world.begin(graph, zones)?;
+    begun(world, collects)
+}
+
+// What is due where a collection begins.
+fn begun(world: &World, collects: bool) -> Result<Awaited, NoMemory>
+    ensures { IfOk result (λ awaited. due_as awaited ≡ begun_due collects) }
+{
     if !collects {
         return only(world, &Reply::GcBegun);
     }
@@ -96,7 +118,7 @@ fn begin(
 }
 
 fn slice(world: &World, most: Option<u64>) -> Result<Awaited, NoMemory>
-    ensures { IfOk result (λ awaited. due_as awaited ≡ others) }
+    ensures { IfOk result (λ awaited. GoesOn (units_of most false) (stage_of world.now.phase) (due_as awaited)) }
 {
     if !world.is_running() {
         return only(world, &Reply::Refused(Refusal::Idle));
@@ -109,7 +131,7 @@ fn slice(world: &World, most: Option<u64>) -> Result<Awaited, NoMemory>
 }
 
 fn reset(world: &World) -> Result<Awaited, NoMemory>
-    ensures { IfOk result (λ awaited. due_as awaited ≡ others) }
+    ensures { IfOk result (λ awaited. GoesOn resets (stage_of world.now.phase) (due_as awaited)) }
 {
     if !world.is_running() {
         return only(world, &Reply::Refused(Refusal::Idle));
@@ -118,7 +140,7 @@ fn reset(world: &World) -> Result<Awaited, NoMemory>
 }
 
 fn colours(world: &World) -> Result<Awaited, NoMemory>
-    ensures { IfOk result (λ awaited. due_as awaited ≡ others) }
+    ensures { IfOk result (λ awaited. ListsGray (stage_of world.now.phase) (due_as awaited)) }
 {
     if !world.is_settled() {
         return only(world, &Reply::Refused(Refusal::Marking));
@@ -128,7 +150,7 @@ fn colours(world: &World) -> Result<Awaited, NoMemory>
 }
 
 fn dump(graph: &Graph, world: &World) -> Result<Awaited, NoMemory>
-    ensures { IfOk result (λ awaited. due_as awaited ≡ others) }
+    ensures { IfOk result (λ awaited. Dumps (stage_of world.now.phase) (due_as awaited)) }
 {
     if !world.is_settled() {
         return only(world, &Reply::Refused(Refusal::Marking));
@@ -138,7 +160,9 @@ fn dump(graph: &Graph, world: &World) -> Result<Awaited, NoMemory>
 }
 
 // The text of a line of a dump.
-fn dump_text(world: &World, line: DumpLine) -> Result<Vec<u8>, NoMemory> {
+fn dump_text(world: &World, line: DumpLine) -> Result<Vec<u8>, NoMemory>
+    ensures { IfOk result (λ text. text.items ≡ reply_text (the_reply.Dump (line ∷ []))) }
+{
     let lines = DumpLines::from_vec(Vec::from_slice(world.alloc, &[line])?);
     reply_text(world.alloc, &Reply::Dump(lines))
 }
@@ -154,7 +178,6 @@ impl Awaited {
     pub fn unfinished(&self, world: &World) -> Result<Vec<u8>, NoMemory> {
         match self {
             Awaited::Reply(line) => kinds::unfinished(world.alloc, line.as_slice()),
-            Awaited::Line(line) => kinds::unfinished(world.alloc, line.as_slice()),
             Awaited::Dump(lines, next) => match lines.get(*next) {
                 None => kinds::unfinished(world.alloc, b""),
                 Some(line) => {
@@ -177,43 +200,32 @@ pub fn judge_line(
     awaited: Awaited,
     text: &[u8],
 ) -> Result<Judgement, NoMemory>
-    ensures { IfOk result (IsJudgedLine (due_as awaited) text.now) }
+    ensures { IfOk result (IsJudgedLine (shown world.old) (due_as awaited) text.now (shown world.new)) }
 {
     match awaited {
         Awaited::Nothing => too_many(world),
         Awaited::Reply(due) => reply_line(world, due, text),
-        Awaited::Line(due) => other_line(world, due, text),
         Awaited::Dump(lines, next) => dump_line(world, lines, next, text),
-        Awaited::Units(running) => units(graph, world, running, text),
+        Awaited::Units(running) => units_line(graph, world, running, text),
         Awaited::Reset => reset_line(graph, world, text),
     }
 }
 
 // A line that comes where none is due.
 fn too_many(world: &World) -> Result<Judgement, NoMemory>
-    ensures { IfOk result (λ it. (line : List ℕ) → IsJudgedLine nothing line it) }
+    ensures { IfOk result (λ it. (s : Shown) (line : List ℕ) → IsJudgedLine s nothing line s it) }
 {
     let kind = kinds::said(world.alloc, b"end, no line is due")?;
     Ok(Err(kind))
 }
 
 fn reply_line(world: &World, wanted: Vec<u8>, text: &[u8]) -> Result<Judgement, NoMemory>
-    ensures { IfOk result (IsJudgedLine (reply wanted.items) text.now) }
+    ensures { IfOk result (λ it. (s : Shown) → IsJudgedLine s (reply wanted.items) text.now s it) }
 {
     if is_same(text, wanted.as_slice()) {
         return Ok(Ok(Awaited::Nothing));
     }
     let kind = kinds::settled(world, wanted.as_slice(), text)?;
-    Ok(Err(kind))
-}
-
-fn other_line(world: &World, due: Vec<u8>, text: &[u8]) -> Result<Judgement, NoMemory>
-    ensures { IfOk result (IsJudgedLine others text.now) }
-{
-    if is_same(text, due.as_slice()) {
-        return Ok(Ok(Awaited::Nothing));
-    }
-    let kind = kinds::settled(world, due.as_slice(), text)?;
     Ok(Err(kind))
 }
 
@@ -223,7 +235,8 @@ fn dump_line(
     next: usize,
     text: &[u8],
 ) -> Result<Judgement, NoMemory>
-    ensures { IfOk result (IsJudgedLine others text.now) }
+    ensures { IfOk result (λ it. (s : Shown)
+        → IsJudgedLine s (dump_of (drop next lines.items)) text.now s it) }
 {
     let Some(line) = lines.get(next).copied() else {
         let kind = kinds::said(world.alloc, b"end, no line is due")?;
@@ -241,13 +254,14 @@ fn dump_line(
     }
 }
 
-fn units(
+fn units_line(
     graph: &Graph,
     world: &mut World,
     running: Running,
     text: &[u8],
 ) -> Result<Judgement, NoMemory>
-    ensures { IfOk result (IsJudgedLine others text.now) }
+    ensures { IfOk result (IsJudgedLine (shown world.old) (units_of running.most running.collects) text.now
+        (shown world.new)) }
 {
     if is_last(running, text) {
         return match last_line(world, running, text)? {
@@ -262,29 +276,41 @@ fn units(
 }
 
 fn reset_line(graph: &Graph, world: &mut World, text: &[u8]) -> Result<Judgement, NoMemory>
-    ensures { IfOk result (IsJudgedLine others text.now) }
+    ensures { IfOk result (IsJudgedLine (shown world.old) resets text.now (shown world.new)) }
 {
     if let Some(kind) = checks::judge_reset(graph, world, text)? {
         return Ok(Err(kind));
     }
-    if world.is_running() {
-        return Ok(Ok(Awaited::Reset));
-    }
-    let awaited = only(world, &Reply::ResetDone)?;
+    let awaited = after_reset(world)?;
     Ok(Ok(awaited))
 }
 
+// What is due after a report of a reset.
+fn after_reset(world: &World) -> Result<Awaited, NoMemory>
+    ensures { IfOk result (λ awaited. due_as awaited ≡ after_reset (stage_of world.now.phase)) }
+{
+    if world.is_running() {
+        return Ok(Awaited::Reset);
+    }
+    only(world, &Reply::ResetDone)
+}
+
 // Whether a line looks as the last one of an answer.
-fn is_last(running: Running, text: &[u8]) -> bool {
+fn is_last(running: Running, text: &[u8]) -> bool
+    ensures { IsTrue result → running.collects ≡ true → text.now ≡ codes "collected" }
+{
     if running.collects {
-        text == b"collected".as_slice()
+        is_same(text, b"collected")
     } else {
         after(text, b"slice").is_some()
     }
 }
 
 // A report more; `done` comes with the last one.
-fn with_report(running: Running, text: &[u8]) -> Running {
+fn with_report(running: Running, text: &[u8]) -> Running
+    ensures most { result.most ≡ running.most }
+    ensures collects { result.collects ≡ running.collects }
+{
     let is_counted = text != b"done".as_slice();
     Running {
         reports: running.reports.saturating_add(u64::from(is_counted)),
@@ -297,7 +323,9 @@ fn next_report(
     world: &mut World,
     running: Running,
     text: &[u8],
-) -> Result<Fault, NoMemory> {
+) -> Result<Fault, NoMemory>
+    ensures { IfOk result (λ fault. IfNone fault (IsReportedLine (shown world.old) text.now (shown world.new))) }
+{
     if !world.is_running() {
         let words: &[u8] = if running.collects {
             b"report, the collection is over, due is \"collected\""
@@ -316,21 +344,36 @@ fn next_report(
 }
 
 // What is wrong with the last line of an answer.
-fn last_line(world: &mut World, running: Running, text: &[u8]) -> Result<Fault, NoMemory> {
+fn last_line(world: &mut World, running: Running, text: &[u8]) -> Result<Fault, NoMemory>
+    requires { running.collects ≡ true → text.now ≡ codes "collected" }
+    ensures same { OnOk result (shown world.new ≡ shown world.old) }
+    ensures last { IfOk result (λ fault. IfNone fault
+        (IsLast running.most running.collects (shown world.old) text.now)) }
+{
     if world.is_over() {
         return Ok(Some(kinds::due(world.alloc, b"report", b"done")?));
     }
-    if running.most.is_none() && world.is_running() {
-        return Ok(Some(kinds::said(world.alloc, b"report, the collection is not over")?));
-    }
     if running.collects {
-        return Ok(None);
+        collected(world)
+    } else {
+        slice_line(world, running, text)
     }
-    slice_line(world, running, text)
+}
+
+// What is wrong with the last line of `collect`.
+fn collected(world: &World) -> Result<Fault, NoMemory>
+    ensures { IfOk result (λ fault. IfNone fault (stage_of world.now.phase ≡ idle)) }
+{
+    if world.is_running() {
+        return Ok(Some(kinds::said(world.alloc, NOT_OVER)?));
+    }
+    Ok(None)
 }
 
 // The number of a slice's last line, if the line is its text.
-fn sliced(world: &World, text: &[u8]) -> Result<Option<u64>, NoMemory> {
+fn sliced(world: &World, text: &[u8]) -> Result<Option<u64>, NoMemory>
+    ensures { IfOk result (λ it. IfSome it (λ k. text.now ≡ reply_text (the_reply.Sliced k))) }
+{
     let Some(word) = after(text, b"slice") else {
         return Ok(None);
     };
@@ -345,22 +388,31 @@ fn sliced(world: &World, text: &[u8]) -> Result<Option<u64>, NoMemory> {
     }
 }
 
-fn slice_line(world: &mut World, running: Running, text: &[u8]) -> Result<Fault, NoMemory> {
+fn slice_line(world: &mut World, running: Running, text: &[u8]) -> Result<Fault, NoMemory>
+    requires { IsOver (shown world.old) → ⊥ }
+    ensures same { OnOk result (shown world.new ≡ shown world.old) }
+    ensures last { IfOk result (λ fault. IfNone fault (IsLast running.most false (shown world.old) text.now)) }
+{
     let Some(units) = sliced(world, text)? else {
         return Ok(Some(kinds::due(world.alloc, b"reply", b"slice ..")?));
     };
-    if let Some(words) = wrong_number(running, units, world.is_running()) {
+    if let Some(words) = wrong_number(world, running, units) {
         return Ok(Some(kinds::said(world.alloc, words)?));
     }
     spend(world, units)
 }
 
 // What is wrong with the number of units of a slice.
-fn wrong_number(running: Running, units: u64, is_running: bool) -> Option<&'static [u8]> {
+fn wrong_number(world: &World, running: Running, units: u64) -> Option<&'static [u8]>
+    ensures { IfNone result (IsWithin running.most units (stage_of world.now.phase)) }
+{
+    let is_running = world.is_running();
     if units < running.reports {
         return Some(b"units, there are more reports than units");
     }
-    let most = running.most?;
+    let Some(most) = running.most else {
+        return if is_running { Some(NOT_OVER) } else { None };
+    };
     if units > most {
         return Some(b"units, there are more than the slice may have");
     }
@@ -371,7 +423,9 @@ fn wrong_number(running: Running, units: u64, is_running: bool) -> Option<&'stat
 }
 
 // Counts units; whether they are more than the bound allows.
-fn spend(world: &mut World, units: u64) -> Result<Fault, NoMemory> {
+fn spend(world: &mut World, units: u64) -> Result<Fault, NoMemory>
+    ensures { OnOk result (shown world.new ≡ shown world.old) }
+{
     let spent = world.tally.spent.saturating_add(units);
     let limit = world.unit_limit();
     if spent > limit {

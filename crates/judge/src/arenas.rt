@@ -1,4 +1,6 @@
 // Arenas: whose they are, which of their slots are taken, and which are out for sweeping.
+ghost use Rattle.std.specs.Prelude.{◌≡◌, ℕ, [], ◌∷◌, List, IfNone, IfSome, OnOk, drop, reverse};
+
 use gz_names::{NoMemory, Place, ZoneNo, ZoneSet};
 use std::alloc::{AllocError, Global};
 
@@ -36,7 +38,9 @@ fn first_free(arenas: &[Arena], from: usize, zone: ZoneNo) -> usize {
 }
 
 impl Arenas {
-    pub fn new(alloc: Global) -> Self {
+    pub fn new(alloc: Global) -> Self
+        ensures { result.out.items ≡ [] }
+    {
         Arenas {
             arenas: Vec::new(alloc),
             lowest: [0; 64],
@@ -45,7 +49,9 @@ impl Arenas {
     }
 
     // The lowest arena of a zone with a free slot; a new one if there is none.
-    fn arena_for(&mut self, zone: ZoneNo) -> Result<usize, NoMemory> {
+    fn arena_for(&mut self, zone: ZoneNo) -> Result<usize, NoMemory>
+        ensures { self.new.out.items ≡ self.old.out.items }
+    {
         let arena = first_free(
             self.arenas.as_slice(),
             self.lowest[zone.index() as usize],
@@ -63,7 +69,9 @@ impl Arenas {
     }
 
     /// The place of a new cell.
-    pub fn give(&mut self, zone: ZoneNo) -> Result<Place, NoMemory> {
+    pub fn give(&mut self, zone: ZoneNo) -> Result<Place, NoMemory>
+        ensures { OnOk result (self.new.out.items ≡ self.old.out.items) }
+    {
         let number = self.arena_for(zone)?;
         let Some(arena) = self.arenas.get_mut(number) else {
             return Err(AllocError);
@@ -80,7 +88,9 @@ impl Arenas {
     }
 
     /// A slot is free again.
-    pub fn take_back(&mut self, place: Place) {
+    pub fn take_back(&mut self, place: Place)
+        ensures { self.new.out.items ≡ self.old.out.items }
+    {
         if let Some(arena) = self.arenas.get_mut(place.arena() as usize) {
             arena.used &= !(1 << place.slot());
         }
@@ -110,7 +120,10 @@ impl Arenas {
     }
 
     /// The lowest arena that is out.
-    pub fn first_out(&self) -> Option<u32> {
+    pub fn first_out(&self) -> Option<u32>
+        ensures some { IfSome result (λ a. (rest : List ℕ) × (reverse self.now.out.items ≡ a ∷ rest)) }
+        ensures none { IfNone result (reverse self.now.out.items ≡ []) }
+    {
         self.out.last().copied()
     }
 
@@ -130,7 +143,9 @@ impl Arenas {
     }
 
     /// The lowest arena that is out is taken in.
-    pub fn take_in(&mut self) {
+    pub fn take_in(&mut self)
+        ensures { reverse self.new.out.items ≡ drop 1 (reverse self.old.out.items) }
+    {
         if let Some(number) = self.out.pop() {
             if let Some(arena) = self.arenas.get_mut(number as usize) {
                 arena.is_out = false;

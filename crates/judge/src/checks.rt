@@ -1,11 +1,20 @@
 // The checks of reports, by the definitions: which report is due, and what is wrong with another one.
+ghost use Rattle.std.specs.Prelude.{◌≡◌, ℕ, [], ◌∷◌, IfNone, IfOk, IfSome, List, OnOk, codes};
+ghost use Rattle.gz_names.specs.declared.names.Name.{Name as AName};
+ghost use Rattle.gz_names.specs.declared.zone_sets.ZoneSet.{ZoneSet as AZoneSet};
+ghost use Rattle.gz_names.specs.declared.replies.Report.TheVariants as the_report;
+ghost use Rattle.trace_lang.specs.Texts.{report_text};
+ghost use Rattle.judge.specs.declared.world.DueReport.TheVariants as due;
+ghost use Rattle.judge.specs.Stages.{Finishes, Forms, IsDue, IsEndedLine, IsGroupsLine, IsOver, IsReportedLine};
+ghost use Rattle.judge.specs.Stages.{IsResetLine, Starts, Stops, Sweeps, shown, stage_in};
+
 use crate::collection::{Collection, GroupEnd, ZoneEdges, wrapper_keys, zone_edges};
 use crate::former::Former;
 use crate::kinds;
 use crate::parse::{after, parse_groups};
 use crate::text::{is_same, report_text};
-use crate::world::{Phase, World};
-use gz_names::{Groups, Name, NameList, Names64, NoMemory, Place, Report, ZoneNo, ZoneSet};
+use crate::world::{DueReport, Phase, World};
+use gz_names::{Name, NameList, Names64, NoMemory, Place, Report, ZoneNo, ZoneSet};
 use plain_graph::Graph;
 use std::alloc::Global;
 use std::collections::BTreeMap;
@@ -14,33 +23,43 @@ use std::collections::BTreeMap;
 pub type Fault = Option<Vec<u8>>;
 
 /// Judges a line as the next report of a unit, and does what the report does.
-pub fn judge_report(graph: &Graph, world: &mut World, line: &[u8]) -> Result<Fault, NoMemory> {
-    if world.is_over() {
-        return done(world, line);
-    }
-    if let Some(arena) = world.arenas.first_out() {
-        return swept(world, arena, line);
-    }
-    match &world.phase {
-        Phase::Idle => Ok(Some(kinds::said(world.alloc, b"report, no collection runs")?)),
-        Phase::Preparing(_) => started(graph, world, line),
-        Phase::Collecting(collection) if !collection.has_groups() => formed(graph, world, line),
-        Phase::Collecting(_) => ended(graph, world, line),
+pub fn judge_report(graph: &Graph, world: &mut World, line: &[u8]) -> Result<Fault, NoMemory>
+    ensures { IfOk result (λ fault. IfNone fault (IsReportedLine (shown world.old) line.now (shown world.new))) }
+{
+    match world.due_report() {
+        DueReport::Idle => none_due(world),
+        DueReport::Started => started(graph, world, line),
+        DueReport::Groups => formed(graph, world, line),
+        DueReport::Ended => ended(graph, world, line),
+        DueReport::Swept(arena) => swept(world, arena, line),
+        DueReport::Done => done(world, line),
     }
 }
 
 /// Judges a line as the next report of a reset, and does what the report does.
-pub fn judge_reset(graph: &Graph, world: &mut World, line: &[u8]) -> Result<Fault, NoMemory> {
-    if let Some(arena) = world.arenas.first_out() {
-        return swept(world, arena, line);
+pub fn judge_reset(graph: &Graph, world: &mut World, line: &[u8]) -> Result<Fault, NoMemory>
+    ensures { IfOk result (λ fault. IfNone fault (IsResetLine (shown world.old) line.now (shown world.new))) }
+{
+    match world.due_report() {
+        DueReport::Swept(arena) => swept(world, arena, line),
+        DueReport::Done => done(world, line),
+        _ => stopped(graph, world, line),
     }
-    if world.is_over() {
-        return done(world, line);
-    }
-    stopped(graph, world, line)
 }
 
-fn started(graph: &Graph, world: &mut World, line: &[u8]) -> Result<Fault, NoMemory> {
+// No report is due.
+fn none_due(world: &World) -> Result<Fault, NoMemory>
+    ensures { IfOk result (λ fault. IfNone fault ⊥) }
+{
+    let kind = kinds::said(world.alloc, b"report, no collection runs")?;
+    Ok(Some(kind))
+}
+
+fn started(graph: &Graph, world: &mut World, line: &[u8]) -> Result<Fault, NoMemory>
+    requires { IsDue due.Started (shown world.old) }
+    ensures { IfOk result (λ fault. IfNone fault ((line.now ≡ codes "started")
+        × Starts (shown world.old) (shown world.new))) }
+{
     if is_same(line, b"started") {
         world.start(graph)?;
         return Ok(None);
@@ -48,7 +67,12 @@ fn started(graph: &Graph, world: &mut World, line: &[u8]) -> Result<Fault, NoMem
     Ok(Some(kinds::due(world.alloc, b"report", b"started")?))
 }
 
-fn stopped(graph: &Graph, world: &mut World, line: &[u8]) -> Result<Fault, NoMemory> {
+fn stopped(graph: &Graph, world: &mut World, line: &[u8]) -> Result<Fault, NoMemory>
+    requires none_out { (shown world.old).out ≡ [] }
+    requires not_over { IsOver (shown world.old) → ⊥ }
+    ensures { IfOk result (λ fault. IfNone fault ((zones : AZoneSet)
+        × (line.now ≡ report_text (the_report.Stopped zones)) × Stops (shown world.old) zones (shown world.new))) }
+{
     let due = report_text(world.alloc, &Report::Stopped(world.unfinished()))?;
     if is_same(line, due.as_slice()) {
         world.stop(graph)?;
@@ -57,7 +81,11 @@ fn stopped(graph: &Graph, world: &mut World, line: &[u8]) -> Result<Fault, NoMem
     Ok(Some(kinds::due(world.alloc, b"report", due.as_slice())?))
 }
 
-fn done(world: &mut World, line: &[u8]) -> Result<Fault, NoMemory> {
+fn done(world: &mut World, line: &[u8]) -> Result<Fault, NoMemory>
+    requires { IsDue due.Done (shown world.old) }
+    ensures { IfOk result (λ fault. IfNone fault ((line.now ≡ codes "done")
+        × Finishes (shown world.old) (shown world.new))) }
+{
     if is_same(line, b"done") {
         world.finish();
         return Ok(None);
@@ -66,7 +94,9 @@ fn done(world: &mut World, line: &[u8]) -> Result<Fault, NoMemory> {
 }
 
 // The report of the lowest arena that is out.
-fn swept_report(world: &World, arena: u32) -> Report {
+fn swept_report(world: &World, arena: u32) -> Report
+    ensures { (names : List AName) × (result ≡ the_report.Swept arena names) }
+{
     let mut names = Names64::new();
     for white in world.next_freed() {
         if names.len() < 64 {
@@ -76,7 +106,11 @@ fn swept_report(world: &World, arena: u32) -> Report {
     Report::Swept(arena, names)
 }
 
-fn swept(world: &mut World, arena: u32, line: &[u8]) -> Result<Fault, NoMemory> {
+fn swept(world: &mut World, arena: u32, line: &[u8]) -> Result<Fault, NoMemory>
+    requires { IsDue (due.Swept arena) (shown world.old) }
+    ensures { IfOk result (λ fault. IfNone fault ((names : List AName)
+        × (line.now ≡ report_text (the_report.Swept arena names)) × Sweeps (shown world.old) arena (shown world.new))) }
+{
     let due = report_text(world.alloc, &swept_report(world, arena))?;
     if is_same(line, due.as_slice()) {
         world.sweep();
@@ -90,15 +124,21 @@ fn listed(names: &[Name], world: &World) -> Result<NameList, NoMemory> {
     Ok(NameList::from_vec(Vec::from_slice(world.alloc, names)?))
 }
 
-fn ended_text(world: &World, end: &GroupEnd) -> Result<Vec<u8>, NoMemory> {
+fn ended_text(world: &World, end: &GroupEnd) -> Result<Vec<u8>, NoMemory>
+    ensures { IfOk result (λ text. (grays : List AName)
+        × (text.items ≡ report_text (the_report.Ended end.now.zones grays []))) }
+{
     let grays = listed(end.grays.as_slice(), world)?;
     let report = Report::Ended(end.zones, grays, NameList::new(world.alloc));
     report_text(world.alloc, &report)
 }
 
-fn ended(graph: &Graph, world: &mut World, line: &[u8]) -> Result<Fault, NoMemory> {
+fn ended(graph: &Graph, world: &mut World, line: &[u8]) -> Result<Fault, NoMemory>
+    requires { IsDue due.Ended (shown world.old) }
+    ensures { IfOk result (λ fault. IfNone fault (IsEndedLine (shown world.old) line.now (shown world.new))) }
+{
     let Some(end) = world.group_end(graph)? else {
-        return Ok(None);
+        return none_due(world);
     };
     let due = ended_text(world, &end)?;
     if is_same(line, due.as_slice()) {
@@ -108,53 +148,51 @@ fn ended(graph: &Graph, world: &mut World, line: &[u8]) -> Result<Fault, NoMemor
     Ok(Some(kinds::ended(world, &end, due.as_slice(), line)?))
 }
 
-fn copied(groups: &Groups) -> Groups {
-    let mut copy = Groups::new();
-    for group in groups.as_slice() {
-        if copy.len() < 64 {
-            copy.push(*group);
-        }
-    }
-    copy
-}
-
 // The groups that a line writes, if it is their text.
-fn groups_of(world: &World, line: &[u8]) -> Result<Option<Groups>, NoMemory> {
+fn groups_of(world: &World, line: &[u8]) -> Result<Option<Vec<ZoneSet>>, NoMemory>
+    ensures { IfOk result (λ it. IfSome it (λ groups. line.now ≡ report_text (the_report.Groups groups.items))) }
+{
     let Some(text) = after(line, b"groups") else {
         return Ok(None);
     };
     let Some(read) = parse_groups(text) else {
         return Ok(None);
     };
-    let due = report_text(world.alloc, &Report::Groups(copied(&read)))?;
+    let groups = Vec::from_slice(world.alloc, read.as_slice())?;
+    let due = report_text(world.alloc, &Report::Groups(read))?;
     if is_same(line, due.as_slice()) {
-        Ok(Some(read))
+        Ok(Some(groups))
     } else {
         Ok(None)
     }
 }
 
-fn formed(graph: &Graph, world: &mut World, line: &[u8]) -> Result<Fault, NoMemory> {
+fn formed(graph: &Graph, world: &mut World, line: &[u8]) -> Result<Fault, NoMemory>
+    requires { IsDue due.Groups (shown world.old) }
+    ensures { IfOk result (λ fault. IfNone fault (IsGroupsLine (shown world.old) line.now (shown world.new))) }
+{
     let Some(groups) = groups_of(world, line)? else {
         return Ok(Some(kinds::due(world.alloc, b"report", b"groups ..")?));
     };
+    form(graph, world, groups)
+}
+
+// Judges the groups of a line, and forms them if nothing is wrong with them.
+fn form(graph: &Graph, world: &mut World, groups: Vec<ZoneSet>) -> Result<Fault, NoMemory>
+    requires { IsDue due.Groups (shown world.old) }
+    ensures { IfOk result (λ fault. IfNone fault (Forms (shown world.old) groups.items (shown world.new))) }
+{
     let alloc = world.alloc;
     let Phase::Collecting(collection) = &mut world.phase else {
-        return Ok(None);
+        return none_due(world);
     };
     if let Some(fault) = parts(alloc, collection.zones, groups.as_slice())? {
         return Ok(Some(fault));
     }
-    let fault = judge_edges(
-        alloc,
-        graph,
-        &world.places,
-        &world.former,
-        collection,
-        groups.as_slice(),
-    )?;
+    let (places, former) = (&world.places, &world.former);
+    let fault = judge_edges(alloc, graph, places, former, collection, groups.as_slice())?;
     if fault.is_none() {
-        collection.groups = Some(Vec::from_slice(alloc, groups.as_slice())?);
+        collection.form(groups);
     }
     Ok(fault)
 }
@@ -168,7 +206,9 @@ fn judge_edges(
     former: &Former,
     collection: &mut Collection,
     groups: &[ZoneSet],
-) -> Result<Fault, NoMemory> {
+) -> Result<Fault, NoMemory>
+    ensures { OnOk result (stage_in collection.new ≡ stage_in collection.old) }
+{
     let keys = wrapper_keys(alloc, former.graph(), places)?;
     let first = zone_edges(graph, places, collection, &keys);
     for group in groups {

@@ -1,7 +1,12 @@
 // A collection: its zones, what it finds black and live, its groups, and how many units it may take.
+ghost use Rattle.std.specs.Prelude.{◌≡◌, [], IfOk, IfSome, List, None, OnOk, Some, drop};
+ghost use Rattle.gz_names.specs.declared.zone_sets.ZoneSet.{ZoneSet as AZoneSet};
+ghost use Rattle.judge.specs.Stages.{Ends, IsDueOf, IsFirstGroup, collecting, groups_in, idle, shown, stage_in};
+ghost use Rattle.judge.specs.Stages.{stage_of};
+
 use crate::former::{is_in, leads_into};
 use crate::preparation::Preparation;
-use crate::world::{Phase, White, World};
+use crate::world::{DueReport, Phase, White, World};
 use gz_names::{GrayNo, Name, NoMemory, Place, Reg, ZoneNo, ZoneSet};
 use plain_graph::{Graph, Walk};
 use std::alloc::Global;
@@ -68,9 +73,8 @@ pub struct Collection {
     pub live: Walk,
     /// Names woken that are in neither of the two yet.
     woken: Vec<Name>,
-    /// The groups; those before `ended` have ended.
+    /// The groups that have not ended, once they are formed.
     pub groups: Option<Vec<ZoneSet>>,
-    pub ended: usize,
 }
 
 /// What a group's end makes of the cells of its zones.
@@ -165,7 +169,10 @@ impl Collection {
         graph: &Graph,
         preparation: &Preparation,
         places: &BTreeMap<Name, Place>,
-    ) -> Result<Self, NoMemory> {
+    ) -> Result<Self, NoMemory>
+        ensures { let zones = preparation.now.zones in
+            IfOk result (λ it. stage_in it ≡ collecting zones zones None) }
+    {
         let roots = roots_of(alloc, graph)?;
         let mut collection = Collection {
             zones: preparation.zones,
@@ -175,7 +182,6 @@ impl Collection {
             live: Walk::new(alloc),
             woken: Vec::new(alloc),
             groups: None,
-            ended: 0,
         };
         collection.find(graph, preparation, places)?;
         Ok(collection)
@@ -187,7 +193,9 @@ impl Collection {
         graph: &Graph,
         preparation: &Preparation,
         places: &BTreeMap<Name, Place>,
-    ) -> Result<(), NoMemory> {
+    ) -> Result<(), NoMemory>
+        ensures { OnOk result (stage_in self.new ≡ stage_in self.old) }
+    {
         self.add_roots()?;
         for (name, _) in places {
             if !is_in(graph, self.zones, *name) {
@@ -199,7 +207,9 @@ impl Collection {
     }
 
     // What registers and gray slots held are starts.
-    fn add_roots(&mut self) -> Result<(), NoMemory> {
+    fn add_roots(&mut self) -> Result<(), NoMemory>
+        ensures { OnOk result (stage_in self.new ≡ stage_in self.old) }
+    {
         for (name, root) in &self.roots {
             if let Root::Register(_) = root {
                 self.black.add(*name, None)?;
@@ -210,7 +220,9 @@ impl Collection {
     }
 
     // A present cell of a zone that is not collected is a start of its own colour.
-    fn add_outside(&mut self, name: Name, is_black: bool) -> Result<(), NoMemory> {
+    fn add_outside(&mut self, name: Name, is_black: bool) -> Result<(), NoMemory>
+        ensures { OnOk result (stage_in self.new ≡ stage_in self.old) }
+    {
         if is_black {
             self.black.add(name, None)?;
         }
@@ -218,7 +230,9 @@ impl Collection {
     }
 
     /// A name was woken.
-    pub fn wake(&mut self, name: Name) -> Result<(), NoMemory> {
+    pub fn wake(&mut self, name: Name) -> Result<(), NoMemory>
+        ensures { OnOk result (stage_in self.new ≡ stage_in self.old) }
+    {
         if !self.marking.is_empty() {
             self.woken.push(name)?;
         }
@@ -226,7 +240,9 @@ impl Collection {
     }
 
     /// Finds what the names woken reach, in the graph as it was when marking began.
-    pub fn catch_up(&mut self, former: &Graph) -> Result<(), NoMemory> {
+    pub fn catch_up(&mut self, former: &Graph) -> Result<(), NoMemory>
+        ensures { OnOk result (stage_in self.new ≡ stage_in self.old) }
+    {
         add_all(&mut self.black, self.woken.as_slice())?;
         add_all(&mut self.live, self.woken.as_slice())?;
         self.woken.clear();
@@ -252,15 +268,56 @@ impl Collection {
     }
 
     /// The first group that has not ended.
-    pub fn next_group(&self) -> Option<ZoneSet> {
+    fn next_group(&self) -> Option<ZoneSet>
+        ensures { IfSome result (IsFirstGroup (stage_in self.now)) }
+    {
         match &self.groups {
             None => None,
-            Some(groups) => groups.get(self.ended).copied(),
+            Some(groups) => groups.first().copied(),
         }
     }
 
-    pub fn has_groups(&self) -> bool {
-        self.groups.is_some()
+    /// Which report is due, if no arena is out.
+    pub fn due_report(&self) -> DueReport
+        ensures { IsDueOf result (stage_in self.now) }
+    {
+        match &self.groups {
+            None => DueReport::Groups,
+            Some(groups) if groups.is_empty() => DueReport::Done,
+            Some(_) => DueReport::Ended,
+        }
+    }
+
+    /// Its groups are formed.
+    pub fn form(&mut self, groups: Vec<ZoneSet>)
+        ensures { stage_in self.new
+            ≡ collecting self.old.zones self.old.marking (Some groups.items) }
+    {
+        self.groups = Some(groups);
+    }
+
+    // What it found black, where no zone is marking any more.
+    fn settled_black(&mut self, alloc: Global) -> Option<Walk>
+        ensures { stage_in self.new ≡ stage_in self.old }
+    {
+        if self.marking.is_empty() {
+            Some(mem::replace(&mut self.black, Walk::new(alloc)))
+        } else {
+            None
+        }
+    }
+
+    // The first group that has not ended ends.
+    fn end_first(&mut self, group: ZoneSet)
+        requires { IsFirstGroup (stage_in self.old) group }
+        ensures { Ends (stage_in self.old) group (stage_in self.new) }
+    {
+        self.marking = self.marking.without(group);
+        if let Some(groups) = &mut self.groups
+            && !groups.is_empty()
+        {
+            groups.remove(0);
+        }
     }
 }
 
@@ -302,49 +359,73 @@ pub fn zone_edges(
 }
 
 impl World {
-    /// Whether nothing is left to do: all groups have ended, and no arena is out.
-    pub fn is_over(&self) -> bool {
-        match &self.phase {
-            Phase::Collecting(collection) => {
-                collection.has_groups()
-                    && collection.next_group().is_none()
-                    && self.arenas.first_out().is_none()
-            }
-            _ => false,
-        }
-    }
-
     /// What the end of the first group that has not ended makes of its cells.
-    pub fn group_end(&mut self, graph: &Graph) -> Result<Option<GroupEnd>, NoMemory> {
-        let Phase::Collecting(collection) = &mut self.phase else {
+    pub fn group_end(&mut self, graph: &Graph) -> Result<Option<GroupEnd>, NoMemory>
+        ensures same { OnOk result (shown self.new ≡ shown self.old) }
+        ensures first { IfOk result (λ end. IfSome end (λ e. IsFirstGroup (stage_of self.old.phase) e.zones)) }
+    {
+        let Some(zones) = self.first_group()? else {
             return Ok(None);
         };
-        let Some(zones) = collection.next_group() else {
-            return Ok(None);
-        };
-        collection.catch_up(self.former.graph())?;
-        let mut end = GroupEnd {
-            zones,
-            grays: Vec::new(self.alloc),
-            whites: Vec::new(self.alloc),
-        };
-        for (name, _) in &self.places {
-            if is_in(graph, zones, *name) {
-                if !collection.live.contains(*name) {
-                    end.whites.push(*name)?;
-                } else if !collection.black.contains(*name) {
-                    end.grays.push(*name)?;
-                }
-            }
-        }
+        let end = self.colours_at_end(graph, zones)?;
         Ok(Some(end))
     }
 
+    // The first group that has not ended, once what the names woken reach is found.
+    fn first_group(&mut self) -> Result<Option<ZoneSet>, NoMemory>
+        ensures same { OnOk result (shown self.new ≡ shown self.old) }
+        ensures first { IfOk result (λ group. IfSome group (IsFirstGroup (stage_of self.old.phase))) }
+    {
+        let Phase::Collecting(collection) = &mut self.phase else {
+            return Ok(None);
+        };
+        let group = collection.next_group();
+        collection.catch_up(self.former.graph())?;
+        Ok(group)
+    }
+
+    // The gray cells of these zones, and the white ones.
+    fn colours_at_end(&self, graph: &Graph, zones: ZoneSet) -> Result<GroupEnd, NoMemory>
+        ensures { IfOk result (λ end. end.zones ≡ zones) }
+    {
+        let mut grays = Vec::new(self.alloc);
+        let mut whites = Vec::new(self.alloc);
+        if let Phase::Collecting(collection) = &self.phase {
+            for (name, _) in &self.places {
+                if is_in(graph, zones, *name) {
+                    if !collection.live.contains(*name) {
+                        whites.push(*name)?;
+                    } else if !collection.black.contains(*name) {
+                        grays.push(*name)?;
+                    }
+                }
+            }
+        }
+        Ok(GroupEnd {
+            zones,
+            grays,
+            whites,
+        })
+    }
+
     /// The first group that has not ended ends.
-    pub fn end_group(&mut self, end: &GroupEnd) -> Result<(), NoMemory> {
+    pub fn end_group(&mut self, end: &GroupEnd) -> Result<(), NoMemory>
+        requires { IsFirstGroup (stage_of self.old.phase) end.now.zones }
+        ensures { OnOk result (Ends (stage_of self.old.phase) end.now.zones (stage_of self.new.phase)) }
+    {
+        self.let_go(end.whites.as_slice())?;
+        self.arenas.hand_out(end.zones)?;
+        self.end_first(end.zones);
+        self.settle()
+    }
+
+    // White cells are no longer present, and wait to be swept.
+    fn let_go(&mut self, whites: &[Name]) -> Result<(), NoMemory>
+        ensures { OnOk result (stage_of self.new.phase ≡ stage_of self.old.phase) }
+    {
         self.white.clear();
         self.swept = 0;
-        for name in &end.whites {
+        for name in whites {
             if let Some(place) = self.places.remove(name) {
                 self.arenas.take_back(place);
                 self.white.push(White {
@@ -354,23 +435,38 @@ impl World {
             }
         }
         self.white.sort()?;
-        self.arenas.hand_out(end.zones)?;
+        Ok(())
+    }
+
+    // The first group that has not ended ends.
+    fn end_first(&mut self, group: ZoneSet)
+        requires { IsFirstGroup (stage_of self.old.phase) group }
+        ensures { Ends (stage_of self.old.phase) group (stage_of self.new.phase) }
+    {
         if let Phase::Collecting(collection) = &mut self.phase {
-            collection.marking = collection.marking.without(end.zones);
-            collection.ended = collection.ended.saturating_add(1);
+            collection.end_first(group);
         }
-        self.settle()
     }
 
     // Where no zone is marking any more, what was found black counts from then on.
-    fn settle(&mut self) -> Result<(), NoMemory> {
-        if let Phase::Collecting(collection) = &mut self.phase
-            && collection.marking.is_empty()
-        {
-            self.black = mem::replace(&mut collection.black, Walk::new(self.alloc));
+    fn settle(&mut self) -> Result<(), NoMemory>
+        ensures { OnOk result (stage_of self.new.phase ≡ stage_of self.old.phase) }
+    {
+        if let Some(black) = self.settled_black() {
+            self.black = black;
             self.former.let_go()?;
         }
         Ok(())
+    }
+
+    // What was found black, where no zone is marking any more.
+    fn settled_black(&mut self) -> Option<Walk>
+        ensures { stage_of self.new.phase ≡ stage_of self.old.phase }
+    {
+        match &mut self.phase {
+            Phase::Collecting(collection) => collection.settled_black(self.alloc),
+            _ => None,
+        }
     }
 
     /// The names that are freed with the lowest arena that is out.
@@ -388,19 +484,26 @@ impl World {
     }
 
     /// The lowest arena that is out is taken in.
-    pub fn sweep(&mut self) {
+    pub fn sweep(&mut self)
+        ensures { shown self.new
+            ≡ record { stage = stage_of self.old.phase; out = drop 1 (shown self.old).out } }
+    {
         self.swept = self.swept.saturating_add(self.next_freed().len());
         self.arenas.take_in();
         self.tally.sweeps = self.tally.sweeps.saturating_add(1);
     }
 
     /// The collection is over.
-    pub fn finish(&mut self) {
+    pub fn finish(&mut self)
+        ensures { shown self.new ≡ record { stage = idle; out = (shown self.old).out } }
+    {
         self.enter(Phase::Idle);
     }
 
     /// The collection is given up.
-    pub fn stop(&mut self, graph: &Graph) -> Result<(), NoMemory> {
+    pub fn stop(&mut self, graph: &Graph) -> Result<(), NoMemory>
+        ensures { OnOk result (shown self.new ≡ record { stage = idle; out = (shown self.old).out }) }
+    {
         if let Phase::Collecting(collection) = &mut self.phase {
             collection.catch_up(self.former.graph())?;
         }

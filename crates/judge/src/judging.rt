@@ -1,8 +1,9 @@
 // The reading loop.
-ghost use Rattle.std.specs.Prelude.{◌≡◌, ◌↔◌, ◌⊎◌, ℕ, List, Some, IfOk, IfSome, IfNone, IsTrue};
+ghost use Rattle.std.specs.Prelude.{◌≡◌, ◌↔◌, ◌⊎◌, ℕ, [], List, Some, IfOk, IfSome, IfNone, IsTrue};
 ghost use Rattle.std.specs.Io.KnownBytes.{Appends};
 ghost use Rattle.gz_io.specs.Causes.{AppendsFront, Rose};
 ghost use Rattle.colour_defs.specs.Graph.{empty_graph};
+ghost use Rattle.judge.specs.Stages.{idle, shown};
 ghost use Rattle.judge.specs.Replies.{IsUnmarked, Steps, due_as, marked, nothing};
 ghost use Rattle.judge.specs.Verdicts.{EndsBy, HasVerdict, IsFirstWrong, IsSaid, IsVerdictOn, wrong_text};
 ghost use Rattle.trace_lang.specs.Grammar.{Spells};
@@ -108,6 +109,7 @@ fn unmarked(line: &[u8]) -> Option<&[u8]>
 impl Known {
     fn new(alloc: Global) -> Self
         ensures graph { result.graph ≡ empty_graph }
+        ensures shows { shown result.world ≡ record { stage = idle; out = [] } }
         ensures due { due_as result.awaited ≡ nothing }
     {
         Known {
@@ -120,8 +122,8 @@ impl Known {
     // Judges the next line of a transcript.
     fn next(&mut self, line: &[u8]) -> Result<Said, NoMemory>
         ensures said { IfOk result (IsSaid (due_as self.old.awaited) line.now) }
-        ensures fine { result ≡ Ok Said.Fine → Steps self.old.graph (due_as self.old.awaited) line.now
-            self.new.graph (due_as self.new.awaited) }
+        ensures fine { result ≡ Ok Said.Fine → Steps self.old.graph (shown self.old.world)
+            (due_as self.old.awaited) line.now self.new.graph (shown self.new.world) (due_as self.new.awaited) }
     {
         match unmarked(line) {
             Some(text) => self.trace_line(text),
@@ -132,8 +134,9 @@ impl Known {
     // Judges a line of the trace, given without its mark.
     fn trace_line(&mut self, text: &[u8]) -> Result<Said, NoMemory>
         ensures said { IfOk result (IsSaid (due_as self.old.awaited) (marked text.now)) }
-        ensures fine { result ≡ Ok Said.Fine → Steps self.old.graph (due_as self.old.awaited) (marked text.now)
-            self.new.graph (due_as self.new.awaited) }
+        ensures fine { result ≡ Ok Said.Fine → Steps self.old.graph (shown self.old.world)
+            (due_as self.old.awaited) (marked text.now) self.new.graph (shown self.new.world)
+            (due_as self.new.awaited) }
     {
         match parse(text) {
             Err(_) => Ok(Said::Bad),
@@ -145,8 +148,9 @@ impl Known {
     fn command(&mut self, text: &[u8], command: &Cmd) -> Result<Said, NoMemory>
         requires { Spells text.now command.now }
         ensures said { IfOk result (IsSaid (due_as self.old.awaited) (marked text.now)) }
-        ensures fine { result ≡ Ok Said.Fine → Steps self.old.graph (due_as self.old.awaited) (marked text.now)
-            self.new.graph (due_as self.new.awaited) }
+        ensures fine { result ≡ Ok Said.Fine → Steps self.old.graph (shown self.old.world)
+            (due_as self.old.awaited) (marked text.now) self.new.graph (shown self.new.world)
+            (due_as self.new.awaited) }
     {
         if self.awaited.is_whole() {
             let awaited = begin_answer(&mut self.graph, &mut self.world, command)?;
@@ -161,8 +165,8 @@ impl Known {
     fn answer_line(&mut self, line: &[u8]) -> Result<Said, NoMemory>
         requires { IsUnmarked line.now }
         ensures said { IfOk result (IsSaid (due_as self.old.awaited) line.now) }
-        ensures fine { result ≡ Ok Said.Fine → Steps self.old.graph (due_as self.old.awaited) line.now
-            self.new.graph (due_as self.new.awaited) }
+        ensures fine { result ≡ Ok Said.Fine → Steps self.old.graph (shown self.old.world)
+            (due_as self.old.awaited) line.now self.new.graph (shown self.new.world) (due_as self.new.awaited) }
     {
         let awaited = mem::replace(&mut self.awaited, Awaited::Nothing);
         match judge_line(&self.graph, &mut self.world, awaited, line)? {
@@ -193,6 +197,7 @@ fn judge_lines<S: Source>(
     known: &mut Known,
 ) -> Result<Verdict, NoMemory>
     requires graph { known.old.graph ≡ empty_graph }
+    requires shows { shown known.old.world ≡ record { stage = idle; out = [] } }
     requires due { due_as known.old.awaited ≡ nothing }
     ensures verdict { (input : List ℕ) → S.left source.old ≡ Some input → IfOk result (IsVerdictOn input) }
     ensures read { IfOk result (λ verdict. verdict ≡ Verdict.ReadFault

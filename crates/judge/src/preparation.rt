@@ -1,4 +1,6 @@
 // A collection between `gc` and `started`: its zones are being prepared, and nothing is marked yet.
+ghost use Rattle.std.specs.Prelude.{◌≡◌, IfOk};
+
 use crate::former::{fields_of, is_in};
 use gz_names::{Name, NoMemory, Place, ZoneSet};
 use plain_graph::{Graph, Walk};
@@ -38,7 +40,9 @@ impl Preparation {
         zones: ZoneSet,
         places: &BTreeMap<Name, Place>,
         black: &Walk,
-    ) -> Result<Self, NoMemory> {
+    ) -> Result<Self, NoMemory>
+        ensures { IfOk result (λ it. it.zones ≡ zones) }
+    {
         let mut left_out = LeftOut {
             zones,
             names: BTreeSet::new(alloc),

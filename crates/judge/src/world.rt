@@ -1,11 +1,18 @@
 // The world of the definitions, but for the graph: the present cells and their places, what is black, and the
 // collection.
+ghost use Rattle.std.specs.Prelude.{◌≡◌, ◌≢◌, ◌↔◌, ◌<◌, ℕ, [], IfNone, IfSome, IsTrue, None, OnOk, false};
+ghost use Rattle.gz_names.specs.Zones.{HasZone};
+ghost use Rattle.gz_names.specs.declared.zone_sets.ZoneSet.{ZoneSet as AZoneSet};
+ghost use Rattle.judge.specs.Stages.{IsDue, IsOver, IsSettled, idle, preparing, collecting, shown, stage_of};
+ghost use Rattle.judge.specs.Stages.{unfinished_in};
+ghost use Rattle.judge.specs.Replies.{AreMade, IsRefusal};
+
 use crate::arenas::Arenas;
 use crate::collection::{Collection, Tally, counts_entry, is_wrapper, marking_tally};
 use crate::former::{Former, fields_of, is_in};
 use crate::preparation::{Preparation, target_of};
 use gz_names::{
-    DumpColour, DumpLine, GraphCmd, Name, NoMemory, Place, Refusal, Reg, Reply, ZoneSet,
+    DumpColour, DumpLine, GraphCmd, Name, NoMemory, Place, Refusal, Reg, Reply, ZoneNo, ZoneSet,
 };
 use plain_graph::{Graph, Walk};
 use std::alloc::Global;
@@ -29,6 +36,33 @@ pub enum Phase {
     Collecting(Collection),
 }
 
+/// Which report is due.
+#[derive(Clone, Copy, Debug, PartialEq, Eq)]
+pub enum DueReport {
+    /// None: no collection runs.
+    Idle,
+    Started,
+    Groups,
+    Ended,
+    /// That of this arena, the lowest one that is out.
+    Swept(u32),
+    Done,
+}
+
+// Whether each of these zones is among the first ones, of this number.
+fn are_made(zones: ZoneSet, made: u8) -> bool
+    ensures { IsTrue result ↔ ((z : ℕ) → HasZone zones.bits z → z < made) }
+{
+    for index in made..64 {
+        if let Some(zone) = ZoneNo::new(index)
+            && zones.contains(zone)
+        {
+            return false;
+        }
+    }
+    true
+}
+
 /// What a collector's output is judged by, beside the graph.
 #[derive(Drop)]
 pub struct World {
@@ -47,7 +81,9 @@ pub struct World {
 }
 
 impl World {
-    pub fn new(alloc: Global) -> Self {
+    pub fn new(alloc: Global) -> Self
+        ensures { shown result ≡ record { stage = idle; out = [] } }
+    {
         World {
             alloc,
             former: Former::new(alloc),
@@ -61,7 +97,10 @@ impl World {
         }
     }
 
-    pub fn is_running(&self) -> bool {
+    pub fn is_running(&self) -> bool
+        ensures running { IsTrue result → stage_of self.now.phase ≢ idle }
+        ensures idle { result ≡ false → stage_of self.now.phase ≡ idle }
+    {
         !matches!(self.phase, Phase::Idle)
     }
 
@@ -74,7 +113,9 @@ impl World {
     }
 
     /// The zones that a collection is preparing or marking.
-    pub fn unfinished(&self) -> ZoneSet {
+    pub fn unfinished(&self) -> ZoneSet
+        ensures { result ≡ unfinished_in (stage_of self.now.phase) }
+    {
         match &self.phase {
             Phase::Idle => ZoneSet::new(),
             Phase::Preparing(preparation) => preparation.zones,
@@ -83,7 +124,9 @@ impl World {
     }
 
     /// Whether no zone is marking, and none is being prepared.
-    pub fn is_settled(&self) -> bool {
+    pub fn is_settled(&self) -> bool
+        ensures { IsTrue result ↔ IsSettled (stage_of self.now.phase) }
+    {
         self.unfinished().is_empty()
     }
 
@@ -106,7 +149,9 @@ impl World {
         graph: &Graph,
         command: &GraphCmd,
         reply: &Reply,
-    ) -> Result<(), NoMemory> {
+    ) -> Result<(), NoMemory>
+        ensures { OnOk result (shown self.new ≡ shown self.old) }
+    {
         self.former.command(command)?;
         if let Reply::Refused(_) = reply {
             return Ok(());
@@ -126,7 +171,9 @@ impl World {
     }
 
     // While zones are being prepared, the target that was read through a wrapper is woken.
-    fn wake_target(&mut self, graph: &Graph, register: Reg) -> Result<(), NoMemory> {
+    fn wake_target(&mut self, graph: &Graph, register: Reg) -> Result<(), NoMemory>
+        ensures { OnOk result (shown self.new ≡ shown self.old) }
+    {
         match (&mut self.phase, graph.register(register)) {
             (Phase::Preparing(preparation), Some(name)) => {
                 preparation.black.blacken(graph, target_of(name))
@@ -136,7 +183,9 @@ impl World {
     }
 
     // The register holds a wrapper, unless its target needs none.
-    fn wake_wrapper(&mut self, graph: &Graph, register: Reg) -> Result<(), NoMemory> {
+    fn wake_wrapper(&mut self, graph: &Graph, register: Reg) -> Result<(), NoMemory>
+        ensures { OnOk result (shown self.new ≡ shown self.old) }
+    {
         self.wake_target(graph, register)?;
         match graph.register(register) {
             Some(Name::Wrap(_, _)) => self.wake(graph, register),
@@ -145,7 +194,9 @@ impl World {
     }
 
     // Wakes what a register holds.
-    fn wake(&mut self, graph: &Graph, register: Reg) -> Result<(), NoMemory> {
+    fn wake(&mut self, graph: &Graph, register: Reg) -> Result<(), NoMemory>
+        ensures { OnOk result (shown self.new ≡ shown self.old) }
+    {
         let Some(name) = graph.register(register) else {
             return Ok(());
         };
@@ -165,7 +216,9 @@ impl World {
         }
     }
 
-    fn give_place(&mut self, graph: &Graph, name: Name) -> Result<(), NoMemory> {
+    fn give_place(&mut self, graph: &Graph, name: Name) -> Result<(), NoMemory>
+        ensures { OnOk result (shown self.new ≡ shown self.old) }
+    {
         if self.is_present(name) {
             return Ok(());
         }
@@ -176,7 +229,9 @@ impl World {
         Ok(())
     }
 
-    fn count_put(&mut self, graph: &Graph, map: Reg, key: Reg) {
+    fn count_put(&mut self, graph: &Graph, map: Reg, key: Reg)
+        ensures { shown self.new ≡ shown self.old }
+    {
         let (Some(map), Some(key)) = (graph.register(map), graph.register(key)) else {
             return;
         };
@@ -187,24 +242,53 @@ impl World {
     }
 
     /// Why a collection of these zones may not begin, if it may not.
-    pub fn refusal(&self, graph: &Graph, zones: ZoneSet) -> Option<Refusal> {
+    pub fn refusal(&self, graph: &Graph, zones: ZoneSet) -> Option<Refusal>
+        ensures some { IfSome result (IsRefusal graph.now zones (stage_of self.now.phase)) }
+        ensures idle { IfNone result (stage_of self.now.phase ≡ idle) }
+        ensures made { IfNone result (AreMade graph.now zones) }
+    {
         if self.is_running() {
             return Some(Refusal::Running);
         }
-        let made = graph.zones();
-        if made < 64 && zones.bits >> made != 0 {
+        if !are_made(zones, graph.zones()) {
             return Some(Refusal::NoZone);
         }
         None
     }
 
+    /// Which report is due.
+    pub fn due_report(&self) -> DueReport
+        ensures { IsDue result (shown self.now) }
+    {
+        if let Some(arena) = self.arenas.first_out() {
+            return DueReport::Swept(arena);
+        }
+        match &self.phase {
+            Phase::Idle => DueReport::Idle,
+            Phase::Preparing(_) => DueReport::Started,
+            Phase::Collecting(collection) => collection.due_report(),
+        }
+    }
+
+    /// Whether nothing is left to do: all groups have ended, and no arena is out.
+    pub fn is_over(&self) -> bool
+        ensures { IsTrue result ↔ IsOver (shown self.now) }
+    {
+        matches!(self.due_report(), DueReport::Done)
+    }
+
     /// What collects goes on to another phase.
-    pub fn enter(&mut self, phase: Phase) {
+    pub fn enter(&mut self, phase: Phase)
+        ensures { self.new ≡ record self.old { phase = phase } }
+    {
         self.phase = phase;
     }
 
     /// A collection of these zones begins: they are being prepared.
-    pub fn begin(&mut self, graph: &Graph, zones: ZoneSet) -> Result<(), NoMemory> {
+    pub fn begin(&mut self, graph: &Graph, zones: ZoneSet) -> Result<(), NoMemory>
+        ensures { OnOk result
+            (shown self.new ≡ record { stage = preparing zones; out = (shown self.old).out }) }
+    {
         self.tally = Tally {
             arenas: self.arenas.count(zones),
             ..Tally::new()
@@ -215,7 +299,10 @@ impl World {
     }
 
     /// The marking of the collection that is being prepared begins.
-    pub fn start(&mut self, graph: &Graph) -> Result<(), NoMemory> {
+    pub fn start(&mut self, graph: &Graph) -> Result<(), NoMemory>
+        ensures { OnOk result ((zones : AZoneSet) → stage_of self.old.phase ≡ preparing zones
+            → shown self.new ≡ record { stage = collecting zones zones None; out = (shown self.old).out }) }
+    {
         let Phase::Preparing(preparation) = &self.phase else {
             return Ok(());
         };

@@ -2,8 +2,9 @@ use Rattle.std.proofs.Common.{◌≡◌, ◌∙◌, ℕ, ◌+◌, inl, inr, List
 use Rattle.gz_io.specs.Lines.{EndsLine}
 use Rattle.colour_defs.specs.Graph.{GraphState}
 use Rattle.judge.specs.Lines.{GivesLine, IsOneLine}
-use Rattle.judge.specs.Replies.{Due, Judged, asked, answered, Steps, due_as, graph_after}
-use Rattle.judge.specs.Verdicts.{IsBadLine, IsSaid, IsWrongLine}
+use Rattle.judge.specs.Stages.{Shown, shown}
+use Rattle.judge.specs.Replies.{Due, Judged, asked, answered, Steps, due_as}
+use Rattle.judge.specs.Verdicts.{HasJudged, IsBadLine, IsSaid, IsWrongLine}
 use Rattle.judge.specs.declared.judging.Said.{Said}
 use Rattle.judge.specs.declared.lines.NextLine.{NextLine}
 use Rattle.judge.specs.declared.lines.NextLine.TheVariants as next_line
@@ -11,15 +12,18 @@ use Rattle.judge.proofs.Runs.{bad_judged, cut_judged, gives_of, none_held, start
 use Rattle.judge.proofs.judging.judge_lines.Goals as goal
 
 -- a line more
-one_more_judged : (input rest more line : List ℕ) (n : ℕ) (g h : GraphState) (due next : Due)
-    → Judged input n rest g due → IsOneLine line → EndsLine rest more line → Steps g due line h next
-    → Judged input (n + 1) more h next
-one_more_judged input rest more line n g h due next j one e (inl (text, c, is, m, s, after, follows)) =
-    subst (λ k. Judged input (n + 1) more k next) (sym after)
-    (subst (λ d. Judged input (n + 1) more (graph_after g c) d) (sym follows)
-    (asked (subst (λ d. Judged input n rest g d) is j) one e m s))
-one_more_judged input rest more line n g h due next j one e (inr (u, same, ans)) =
-    subst (λ k. Judged input (n + 1) more k next) (sym same) (answered j one e u ans)
+one_more_judged : (input rest more line : List ℕ) (n : ℕ) (g h : GraphState) (old new : Shown) (due next : Due)
+    → Judged input n rest g old due → IsOneLine line → EndsLine rest more line → Steps g old due line h new next
+    → Judged input (n + 1) more h new next
+one_more_judged input rest more line n g h old new due next j one e (inl (text, c, is, m, s, after, asks)) =
+    subst (λ k. Judged input (n + 1) more k new next) (sym after)
+    (asked (subst (λ d. Judged input n rest g old d) is j) one e m s asks)
+one_more_judged input rest more line n g h old new due next j one e (inr (u, same, ans)) =
+    subst (λ k. Judged input (n + 1) more k new next) (sym same) (answered j one e u ans)
+
+judged_of : (input rest : List ℕ) (n : ℕ) (g : GraphState) (s : Shown) (due : Due) → Judged input n rest g s due
+    → HasJudged input n rest due
+judged_of input rest n g s due j = record { graph = g; shows = s; judged = j }
 
 pub loop-read-init : goal.loop-read-init
 loop-read-init g c = record {
@@ -27,7 +31,7 @@ loop-read-init g c = record {
   so = λ input e. (
     input,
     none_held _ _ input c.new-lines.ensures e,
-    start_judged input _ _ c.requires.graph c.requires.due,
+    start_judged input _ _ _ c.requires.graph c.requires.shows c.requires.due,
   );
 }
 
@@ -43,12 +47,14 @@ loop-read-preserved g c = record {
       let steps = c.next-in-loop-read.ensures.fine (cc (c.in_ok-next-2.was, c.in-Fine.is)) in
       let before : GraphState = c.loop-read.known.graph in
       let after : GraphState = c.next-in-loop-read.new.self.graph in
+      let old : Shown = shown c.loop-read.known.world in
+      let new : Shown = shown c.next-in-loop-read.new.self.world in
       let due : Due = due_as c.loop-read.known.awaited in
       let then : Due = due_as c.next-in-loop-read.new.self.awaited in
-      let stepped = subst (λ (l : List ℕ). Steps before due l after then) c.as_slice.ensures.value steps in (
+      let stepped = subst (λ (l : List ℕ). Steps before old due l after new then) c.as_slice.ensures.value steps in (
         given.0,
         given.1,
-        one_more_judged input i.0 given.0 line c.loop-read.read before after due then i.2 one.0 one.1 stepped,
+        one_more_judged input i.0 given.0 line c.loop-read.read before after old new due then i.2 one.0 one.1 stepped,
       );
 }
 
@@ -57,7 +63,8 @@ returns-then-is_whole-clause-verdict g c = λ input e.
     let i = c.loop-read.invariant.so input e in
     let given = gives_of _ _ _ _ i.0 c.in_ok-next.ensures.bytes i.1 in
     let over = subst (λ (r : NextLine). GivesLine i.0 given.0 r c.next.new.line.items) c.in-End.is given.2 in
-    whole_judged input i.0 c.loop-read.read c.loop-read.known.graph c.loop-read.known.awaited i.2 over.0
+    let judged = judged_of input i.0 c.loop-read.read c.loop-read.known.graph _ _ i.2 in
+    whole_judged input i.0 c.loop-read.read c.loop-read.known.awaited judged over.0
     (c.is_whole.ensures.0 c.if-is_whole.true)
 
 pub returns-in-End-clause-verdict : goal.returns-in-End-clause-verdict
@@ -65,7 +72,8 @@ returns-in-End-clause-verdict g c = λ input e.
     let i = c.loop-read.invariant.so input e in
     let given = gives_of _ _ _ _ i.0 c.in_ok-next.ensures.bytes i.1 in
     let over = subst (λ (r : NextLine). GivesLine i.0 given.0 r c.next.new.line.items) c.in-End.is given.2 in
-    cut_judged input i.0 c.loop-read.read c.loop-read.known.graph c.loop-read.known.awaited i.2 over.0
+    let judged = judged_of input i.0 c.loop-read.read c.loop-read.known.graph _ _ i.2 in
+    cut_judged input i.0 c.loop-read.read c.loop-read.known.awaited judged over.0
     (λ is. let whole = c.is_whole.ensures.1 is in cc (whole, c.if-is_whole.false))
 
 pub returns-in-Bad-clause-verdict : goal.returns-in-Bad-clause-verdict
@@ -76,7 +84,8 @@ returns-in-Bad-clause-verdict g c = λ input e.
     let one = subst (λ (r : NextLine). GivesLine i.0 given.0 r line) c.in-Line.is given.2 in
     let due : Due = due_as c.loop-read.known.awaited in
     let bad = subst (λ (s : Said). IsSaid due c.as_slice.result.now s) c.in-Bad.is c.in_ok-next-2.ensures.said in
-    bad_judged input i.0 given.0 line c.loop-read.read c.loop-read.known.graph due i.2 one
+    let judged = judged_of input i.0 c.loop-read.read c.loop-read.known.graph _ due i.2 in
+    bad_judged input i.0 given.0 line c.loop-read.read due judged one
     (subst (λ (l : List ℕ). IsBadLine l) c.as_slice.ensures.value bad)
 
 pub returns-in-Wrong-clause-verdict : goal.returns-in-Wrong-clause-verdict
@@ -87,5 +96,6 @@ returns-in-Wrong-clause-verdict g c = λ input e.
     let one = subst (λ (r : NextLine). GivesLine i.0 given.0 r line) c.in-Line.is given.2 in
     let due : Due = due_as c.loop-read.known.awaited in
     let wrong = subst (λ (s : Said). IsSaid due c.as_slice.result.now s) c.in-Wrong.is c.in_ok-next-2.ensures.said in
-    wrong_judged input i.0 given.0 line c.loop-read.read c.loop-read.known.graph due i.2 one
+    let judged = judged_of input i.0 c.loop-read.read c.loop-read.known.graph _ due i.2 in
+    wrong_judged input i.0 given.0 line c.loop-read.read due judged one
     (subst (λ (l : List ℕ). IsWrongLine due l) c.as_slice.ensures.value wrong)

@@ -1,6 +1,5 @@
-use Rattle.std.proofs.Common.{◌≡◌, false, inl, ap, refl}
+use Rattle.std.proofs.Common.{inl, ap, refl}
 use Rattle.judge.specs.Replies.{due_as}
-use Rattle.judge.specs.declared.answers.Awaited.TheVariants as awaited
 use Rattle.judge.proofs.Runs.{some_due}
 use Rattle.judge.proofs.judging.Known.command.Goals as goal
 
@@ -12,7 +11,7 @@ returns-then-is_whole-clause-fine c = λ e. inl (
   refl,
   c.requires,
   c.in_ok-awaited.ensures.graph,
-  c.in_ok-awaited.ensures.awaits,
+  c.in_ok-awaited.ensures.asks,
 )
 
 pub returns-clause-said : goal.returns-clause-said

@@ -1,0 +1,16 @@
+-- What holds of a call's result that is returned as it is.
+use Rattle.std.proofs.Common.{Result, Ok, Err, Option, Some, None, IfOk}
+use Rattle.std.specs.Prelude.{IfNone}
+
+-- two clauses together
+pub both_ok : {X E : Type 0} (r : Result X E) (P Q R : X → Type 0) → ((x : X) → P x → Q x → R x) → IfOk r P → IfOk r Q
+    → IfOk r R
+both_ok (Ok x) P Q R f p q = f x p q
+both_ok (Err e) P Q R f p q = tt
+
+-- where there is no fault, more is known
+pub no_fault : {K E A B : Type 0} (r : Result (Option K) E) → (A → B) → IfOk r (λ fault. IfNone fault A)
+    → IfOk r (λ fault. IfNone fault B)
+no_fault (Ok None) f p = f p
+no_fault (Ok (Some k)) f p = tt
+no_fault (Err e) f p = tt

@@ -1,0 +1,12 @@
+use Rattle.std.proofs.Common.{inl, inr, refl}
+use Rattle.std.proofs.lemmas.Result.{IfOk-weaker}
+use Rattle.judge.proofs.answers.begin.Goals as goal
+
+pub returns-in-Some : goal.returns-in-Some
+returns-in-Some c =
+    IfOk-weaker c.only.result _ _ (λ a e. inl (c.in-Some.why, c.in-Some.ensures.some, e, refl)) c.only.ensures
+
+pub returns : goal.returns
+returns c =
+    let none = c.in_default.ensures in
+    IfOk-weaker c.begun.result _ _ (λ a e. inr (none.idle, none.made, e, c.in_ok-begin.ensures)) c.begun.ensures

@@ -1,0 +1,167 @@
+-- How far a collection is, by its zones, its groups and the arenas that are out; and what a report makes of it.
+use Rattle.std.specs.Prelude.{◌≡◌, ◌↔◌, ℕ, List, [], ◌∷◌, reverse, Option, Some, None, Vec}
+use Rattle.std.specs.declared.alloc.Global.{Global}
+use Rattle.gz_names.specs.Zones.{HasZone}
+use Rattle.gz_names.specs.declared.zone_sets.ZoneSet.{ZoneSet}
+use Rattle.gz_names.specs.declared.names.Name.{Name}
+use Rattle.gz_names.specs.declared.replies.Report.{Report}
+use Rattle.gz_names.specs.declared.replies.Report.TheVariants as report
+use Rattle.trace_lang.specs.Texts.{report_text}
+use Rattle.judge.specs.declared.collection.Collection.{Collection}
+use Rattle.judge.specs.declared.world.Phase.{Phase}
+use Rattle.judge.specs.declared.world.Phase.TheVariants as phase
+use Rattle.judge.specs.declared.world.World.{World}
+use Rattle.judge.specs.declared.world.DueReport.{DueReport}
+use Rattle.judge.specs.declared.world.DueReport.TheVariants as due
+
+-- no collection runs; or these zones are being prepared for one; or one runs, of these zones, of which these are
+-- marking, and these are the groups that have not ended, once they are formed
+pub data Stage : Type 0 where
+  idle : Stage
+  preparing : ZoneSet → Stage
+  collecting : ZoneSet → ZoneSet → Option (List ZoneSet) → Stage
+
+-- a stage, and the arenas that are out, the lowest first
+pub record Shown : Type 0 where
+  pub stage : Stage
+  pub out : List ℕ
+
+abbrev pub groups_in : Option (Vec ZoneSet Global) → Option (List ZoneSet)
+groups_in None = None
+groups_in (Some groups) = Some groups.items
+
+abbrev pub stage_in : Collection → Stage
+stage_in k = collecting k.zones k.marking (groups_in k.groups)
+
+abbrev pub stage_of : Phase → Stage
+stage_of phase.Idle = idle
+stage_of (phase.Preparing p) = preparing p.zones
+stage_of (phase.Collecting k) = stage_in k
+
+-- what the judge's world shows of a collection
+abbrev pub shown : World → Shown
+shown w = record { stage = stage_of w.phase; out = reverse w.arenas.out.items }
+
+-- the zones that are being prepared or are marking
+abbrev pub unfinished_in : Stage → ZoneSet
+unfinished_in idle = record { bits = 0 }
+unfinished_in (preparing zones) = zones
+unfinished_in (collecting zones marking groups) = marking
+
+-- none is
+abbrev pub IsSettled : Stage → Type 0
+IsSettled s = (unfinished_in s).bits ≡ 0
+
+-- all groups have ended, and no arena is out
+pub record IsOver (s : Shown) : Type 0 where
+  pub zones : ZoneSet
+  pub marking : ZoneSet
+  pub ended : s.stage ≡ collecting zones marking (Some [])
+  pub none_out : s.out ≡ []
+
+-- marking begins
+pub record Starts (old new : Shown) : Type 0 where
+  pub zones : ZoneSet
+  pub was : old.stage ≡ preparing zones
+  pub none_out : old.out ≡ []
+  pub new_is : new ≡ record { stage = collecting zones zones None; out = [] }
+
+-- the groups are formed, once
+pub record Forms (old : Shown) (groups : List ZoneSet) (new : Shown) : Type 0 where
+  pub zones : ZoneSet
+  pub marking : ZoneSet
+  pub was : old.stage ≡ collecting zones marking None
+  pub none_out : old.out ≡ []
+  pub new_is : new ≡ record { stage = collecting zones marking (Some groups); out = [] }
+
+-- the zones of one set without those of another
+abbrev pub AreWithout : ZoneSet → ZoneSet → ZoneSet → Type 0
+AreWithout zones group rest = (z : ℕ) → HasZone rest.bits z ↔ (HasZone zones.bits z × ¬ HasZone group.bits z)
+
+-- the first group that has not ended ends, and its zones mark no longer
+pub record Ends (old : Stage) (group : ZoneSet) (new : Stage) : Type 0 where
+  pub zones : ZoneSet
+  pub marking : ZoneSet
+  pub after : ZoneSet
+  pub rest : List ZoneSet
+  pub was : old ≡ collecting zones marking (Some (group ∷ rest))
+  pub after_are : AreWithout marking group after
+  pub new_is : new ≡ collecting zones after (Some rest)
+
+-- the lowest arena that is out is taken in
+pub record Sweeps (old : Shown) (arena : ℕ) (new : Shown) : Type 0 where
+  pub rest : List ℕ
+  pub first : old.out ≡ arena ∷ rest
+  pub new_is : new ≡ record { stage = old.stage; out = rest }
+
+-- a collection that is over runs no longer
+pub record Finishes (old new : Shown) : Type 0 where
+  pub over : IsOver old
+  pub new_is : new ≡ record { stage = idle; out = [] }
+
+-- a collection that is not over is given up, with no arena out, while these zones are being prepared or are marking
+pub record Stops (old : Shown) (zones : ZoneSet) (new : Shown) : Type 0 where
+  pub none_out : old.out ≡ []
+  pub not_over : IsOver old → ⊥
+  pub zones_are : zones ≡ unfinished_in old.stage
+  pub new_is : new ≡ record { stage = idle; out = [] }
+
+-- a report of a unit
+abbrev pub IsReported : Shown → Report → Shown → Type 0
+IsReported old report.Started new = Starts old new
+IsReported old (report.Groups groups) new = Forms old groups new
+IsReported old (report.Ended group grays told) new = (old.out ≡ []) × (told ≡ []) × Ends old.stage group new.stage
+IsReported old (report.Swept arena freed) new = Sweeps old arena new
+IsReported old report.Done new = Finishes old new
+IsReported old (report.Stopped zones) new = ⊥
+
+-- a line that is a report of a unit
+abbrev pub IsReportedLine : Shown → List ℕ → Shown → Type 0
+IsReportedLine old line new = (r : Report) × (line ≡ report_text r) × IsReported old r new
+
+-- a line by which the groups are formed, and one by which a group ends
+abbrev pub IsGroupsLine : Shown → List ℕ → Shown → Type 0
+IsGroupsLine old line new =
+    (groups : List ZoneSet) × (line ≡ report_text (report.Groups groups)) × Forms old groups new
+
+abbrev pub IsEndedLine : Shown → List ℕ → Shown → Type 0
+IsEndedLine old line new =
+    (group : ZoneSet) × (grays : List Name) × (line ≡ report_text (report.Ended group grays []))
+    × Ends old.stage group new.stage
+
+-- a report of a reset
+abbrev pub IsResetReport : Shown → Report → Shown → Type 0
+IsResetReport old report.Started new = ⊥
+IsResetReport old (report.Groups groups) new = ⊥
+IsResetReport old (report.Ended group grays told) new = ⊥
+IsResetReport old (report.Swept arena freed) new = Sweeps old arena new
+IsResetReport old report.Done new = Finishes old new
+IsResetReport old (report.Stopped zones) new = Stops old zones new
+
+-- a line that is a report of a reset
+abbrev pub IsResetLine : Shown → List ℕ → Shown → Type 0
+IsResetLine old line new = (r : Report) × (line ≡ report_text r) × IsResetReport old r new
+
+-- the first group of this stage
+abbrev pub IsFirstGroup : Stage → ZoneSet → Type 0
+IsFirstGroup s group =
+    (zones : ZoneSet) × (marking : ZoneSet) × (rest : List ZoneSet)
+    × (s ≡ collecting zones marking (Some (group ∷ rest)))
+
+-- which report is due of a collection that marks or sweeps, with no arena out
+abbrev pub IsDueOf : DueReport → Stage → Type 0
+IsDueOf due.Idle s = s ≡ idle
+IsDueOf due.Started s = (zones : ZoneSet) × (s ≡ preparing zones)
+IsDueOf due.Groups s = (zones : ZoneSet) × (marking : ZoneSet) × (s ≡ collecting zones marking None)
+IsDueOf due.Ended s = (group : ZoneSet) × IsFirstGroup s group
+IsDueOf (due.Swept arena) s = ⊥
+IsDueOf due.Done s = (zones : ZoneSet) × (marking : ZoneSet) × (s ≡ collecting zones marking (Some []))
+
+-- which report is due
+abbrev pub IsDue : DueReport → Shown → Type 0
+IsDue (due.Swept arena) s = (rest : List ℕ) × (s.out ≡ arena ∷ rest)
+IsDue due.Idle s = (s.out ≡ []) × IsDueOf due.Idle s.stage
+IsDue due.Started s = (s.out ≡ []) × IsDueOf due.Started s.stage
+IsDue due.Groups s = (s.out ≡ []) × IsDueOf due.Groups s.stage
+IsDue due.Ended s = (s.out ≡ []) × IsDueOf due.Ended s.stage
+IsDue due.Done s = (s.out ≡ []) × IsDueOf due.Done s.stage
