@@ -62,6 +62,7 @@ enum gcz_status {
     GCZ_BAD_SLOT = 11,        /* above 63 */
     GCZ_BAD_FIELD = 12,       /* above 7 */
     GCZ_BAD_FIELD_COUNT = 13, /* above 8 */
+    GCZ_BAD_KIND = 14,        /* of a name: neither GCZ_NOTHING nor GCZ_CELL nor GCZ_WRAPPER */
     /* The command is refused, and nothing was done. */
     GCZ_FULL = 16,            /* 64 zones, or 256 compartments, are there */
     GCZ_NO_ZONE = 17,         /* a zone is not made, or no zone is given */
@@ -122,6 +123,7 @@ typedef struct gcz_counts {
     uint64_t cells;   /* that are there, wrappers among them */
     uint64_t objects; /* objects and maps that were ever made */
     uint64_t entries; /* of weak maps */
+    uint64_t bytes;   /* of the arenas: 64 cells of 40 bytes each, and 32 beside them */
     uint32_t arenas;  /* of 64 slots each; none is given back but by gcz_close */
 } gcz_counts_t;
 
@@ -177,7 +179,7 @@ GCZ_CALL uint32_t gcz_running(gcz_t *gcz, bool *running);
 /* Gives the collection up, step by step: each takes in an arena that is out, and the last one does the rest. */
 GCZ_CALL uint32_t gcz_reset(gcz_t *gcz, gcz_step_t *done);
 
-/* How many cells, objects and maps, weak entries and arenas there are. */
+/* How many cells, objects and maps, weak entries, bytes and arenas there are. */
 GCZ_CALL uint32_t gcz_counts(gcz_t *gcz, gcz_counts_t *counts);
 
 /* The last report, until the next one, and what it lists by its place. */
@@ -188,6 +190,10 @@ GCZ_CALL uint32_t gcz_report_group(gcz_t *gcz, size_t index, uint64_t *zones);
 /* The gray names, ascending: lists them, and then each by its place, until the next list. */
 GCZ_CALL uint32_t gcz_grays(gcz_t *gcz, size_t *count);
 GCZ_CALL uint32_t gcz_gray(gcz_t *gcz, size_t index, gcz_name_t *name);
+
+/* Writes over a name the first gray name behind it, and over GCZ_NOTHING the first of all; GCZ_NONE if there is none. It
+ * takes no memory, and walks over the whole heap: for a few names. */
+GCZ_CALL uint32_t gcz_next_gray(gcz_t *gcz, gcz_name_t *name);
 
 /* A dump of the heap: lists its lines, and then each by its place, until the next dump. */
 GCZ_CALL uint32_t gcz_dump(gcz_t *gcz, size_t *count);

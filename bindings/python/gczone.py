@@ -22,7 +22,7 @@ from pathlib import Path
 
 INTERFACE = 1
 DONE, CLOSED, OPEN, NO_MEMORY, HEAP_FULL, NONE = range(6)
-BAD_REGISTER, BAD_ZONE, BAD_COMPARTMENT, BAD_SLOT, BAD_FIELD, BAD_FIELD_COUNT = range(8, 14)
+BAD_REGISTER, BAD_ZONE, BAD_COMPARTMENT, BAD_SLOT, BAD_FIELD, BAD_FIELD_COUNT, BAD_KIND = range(8, 15)
 FULL, NO_ZONE, NO_COMPARTMENT, EMPTY, KIND, NO_FIELD, CROSS = range(16, 23)
 RUNNING, IDLE, MARKING = range(24, 27)
 NOTHING, CELL, WRAPPER, ZONE, COMPARTMENT = range(5)
@@ -36,7 +36,7 @@ Stopped = namedtuple("Stopped", "zones")
 Cell = namedtuple("Cell", "name black")
 Edge = namedtuple("Edge", "object name")
 Entry = namedtuple("Entry", "map key value")
-Counts = namedtuple("Counts", "cells objects entries arenas")
+Counts = namedtuple("Counts", "cells objects entries bytes arenas")
 
 
 class Started(namedtuple("Started", ())):
@@ -70,7 +70,9 @@ class _Step(ctypes.Structure):
 
 
 class _Counts(ctypes.Structure):
-    _fields_ = [("cells", c_uint64), ("objects", c_uint64), ("entries", c_uint64), ("arenas", c_uint32)]
+    _fields_ = [
+        ("cells", c_uint64), ("objects", c_uint64), ("entries", c_uint64), ("bytes", c_uint64), ("arenas", c_uint32),
+    ]
 
 
 class _Report(ctypes.Structure):
@@ -91,7 +93,8 @@ _CALLS = {
     "find": ([c_uint32] * 3, _Name), "begin": ([c_uint64], None), "advance": ([c_uint64], _Step),
     "reset": ([], _Step), "running": ([], c_bool), "counts": ([], _Counts), "report": ([], _Report),
     "report_name": ([c_size_t], _Name), "report_group": ([c_size_t], c_uint64), "grays": ([], c_size_t),
-    "gray": ([c_size_t], _Name), "dump": ([], c_size_t), "dump_line": ([c_size_t], _Line), "open": ([], None),
+    "gray": ([c_size_t], _Name), "next_gray": ([], _Name), "dump": ([], c_size_t), "dump_line": ([c_size_t], _Line),
+    "open": ([], None),
 }
 
 
@@ -146,19 +149,14 @@ class Heap:
         """Frees all that the heap holds. Each later call but this one is a fault."""
         self._library.gcz_close(byref(self._gcz))
 
-    def _call(self, name, *numbers):
-        answer = _CALLS[name][1] and _CALLS[name][1]()
-        # A number that C has no room for is out of range, too.
-        clipped = [min(max(number, -1), limit) & limit for number, limit in zip(numbers, self._limits(name))]
+    def _call(self, name, *numbers, answer=None):
+        answer = answer or _CALLS[name][1] and _CALLS[name][1]()
+        clipped = [_clip(number, kind) for number, kind in zip(numbers, _CALLS[name][0])]
         places = [] if answer is None else [byref(answer)]
         status = getattr(self._library, f"gcz_{name}")(byref(self._gcz), *clipped, *places)
         if status != DONE:
             raise Fault(status, self.status_text(status))
         return answer
-
-    @staticmethod
-    def _limits(name):
-        return [2 ** (8 * ctypes.sizeof(kind)) - 1 for kind in _CALLS[name][0]]
 
     def status_text(self, status):
         """A status in words."""
@@ -250,7 +248,7 @@ class Heap:
         return self._call("running").value
 
     def counts(self):
-        """How many cells are there, objects and maps were made, weak entries and arenas there are."""
+        """How many cells are there, objects and maps were made, weak entries, bytes of arenas and arenas there are."""
         counts = self._call("counts")
         return Counts(*(getattr(counts, name) for name in Counts._fields))
 
@@ -283,6 +281,16 @@ class Heap:
         """The gray names, ascending."""
         return [self._call("gray", index).value() for index in range(self._call("grays").value)]
 
+    def next_gray(self, after=None):
+        """The first gray name behind this one, or the first of all; None if there is none. It walks over the whole heap
+        and takes no memory of it."""
+        try:
+            return self._call("next_gray", answer=_name_of(after)).value()
+        except Fault as fault:
+            if fault.status != NONE:
+                raise
+            return None
+
     def dump(self):
         """The cells by name, the edges by object and field, and the weak entries by map and key."""
         lines = (self._call("dump_line", index) for index in range(self._call("dump").value))
@@ -300,6 +308,20 @@ class Heap:
             return Stopped(zones_of(report.zones))
         names = [self._call("report_name", index).value() for index in range(report.count)]
         return Ended(zones_of(report.zones), names) if kind == ENDED else Swept(report.arena, names)
+
+
+def _clip(number, kind):
+    """A number that C has no room for is out of range, too."""
+    limit = 2 ** (8 * ctypes.sizeof(kind)) - 1
+    return min(max(number, -1), limit) & limit
+
+
+def _name_of(value):
+    if value is None:
+        return _Name()
+    compartment, number = value if isinstance(value, tuple) else (0, value)
+    kind = WRAPPER if isinstance(value, tuple) else CELL
+    return _Name(_clip(number, c_uint64), kind, _clip(compartment, c_uint32))
 
 
 def _line(line):

@@ -189,12 +189,29 @@ static void reset(gcz_t *gcz) {
     puts("reset ok");
 }
 
+/* Whether the gray names, one after the other, are those that were listed. */
+static bool next_grays_are_listed(gcz_t *gcz, size_t count) {
+    gcz_name_t name = {0, GCZ_NOTHING, 0};
+    for (size_t index = 0; index < count; index++) {
+        gcz_name_t listed;
+        must(gcz_gray(gcz, index, &listed));
+        must(gcz_next_gray(gcz, &name));
+        if (name.number != listed.number || name.kind != listed.kind || name.compartment != listed.compartment)
+            return false;
+    }
+    return gcz_next_gray(gcz, &name) == GCZ_NONE;
+}
+
 static void print_grays(gcz_t *gcz) {
     size_t count;
     uint32_t status = gcz_grays(gcz, &count);
     if (print_refusal(status))
         return;
     must(status);
+    if (!next_grays_are_listed(gcz, count)) {
+        fprintf(stderr, "replay: the next gray names are not those of the list\n");
+        exit(1);
+    }
     printf("gray");
     print_names(gcz, count, gcz_gray);
     putchar('\n');

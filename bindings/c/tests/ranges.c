@@ -86,6 +86,29 @@ static void fields(gcz_t *g, uint32_t bad) {
     WANT(gcz_clear(g, 0, bad), GCZ_BAD_FIELD);
 }
 
+/* The next gray name behind each kind of name: with this status, nothing is written. */
+static void next_grays(gcz_t *g, uint32_t status) {
+    const gcz_name_t names[] = {{0, GCZ_NOTHING, 0}, {UINT64_MAX, GCZ_NOTHING, UINT32_MAX}, {0, GCZ_CELL, 0},
+                                {UINT64_MAX, GCZ_CELL, UINT32_MAX}, {0, GCZ_WRAPPER, 0},
+                                {UINT64_MAX, GCZ_WRAPPER, 255}};
+    for (size_t i = 0; i < sizeof names / sizeof *names; i++) {
+        gcz_name_t name = names[i];
+        WANT(gcz_next_gray(g, &name), status);
+        WANT(memcmp(&name, &names[i], sizeof name) == 0, 1);
+    }
+}
+
+/* Behind what is no name. */
+static void names_beyond(gcz_t *g, uint32_t bad) {
+    gcz_name_t kind = {0, bad, 0}, wrapper = {0, GCZ_WRAPPER, bad};
+    if (bad > GCZ_WRAPPER)
+        WANT(gcz_next_gray(g, &kind), GCZ_BAD_KIND);
+    if (bad > 255)
+        WANT(gcz_next_gray(g, &wrapper), GCZ_BAD_COMPARTMENT);
+    WANT(kind.number == 0 && kind.kind == bad && kind.compartment == 0, 1);
+    WANT(bad <= 255 || (wrapper.number == 0 && wrapper.kind == GCZ_WRAPPER && wrapper.compartment == bad), 1);
+}
+
 static void all_beyond(gcz_t *g) {
     for (int i = 0; i < BEYOND_COUNT; i++) {
         registers(g, BEYOND[i]);
@@ -94,6 +117,7 @@ static void all_beyond(gcz_t *g) {
         compartments(g, BEYOND[i]);
         fields(g, BEYOND[i]);
         REFUSED(gcz_new(g, 0, 0, BEYOND[i], &n), GCZ_BAD_FIELD_COUNT);
+        names_beyond(g, BEYOND[i]);
     }
     for (uint32_t bad = 16; bad < 300; bad++)
         registers(g, bad);
@@ -105,6 +129,8 @@ static void all_beyond(gcz_t *g) {
         compartments(g, bad);
     for (uint32_t bad = 8; bad < 300; bad++)
         fields(g, bad);
+    for (uint32_t bad = 0; bad < 600; bad++)
+        names_beyond(g, bad);
     for (uint32_t bad = 9; bad < 300; bad++)
         REFUSED(gcz_new(g, 0, 0, bad, &n), GCZ_BAD_FIELD_COUNT);
 }
@@ -113,7 +139,7 @@ static void all_beyond(gcz_t *g) {
 static void all_closed(gcz_t *g) {
     gcz_step_t step = {99, 98, true};
     gcz_report_t report = {99, 98, 97, 96};
-    gcz_counts_t counts = {99, 98, 97, 96};
+    gcz_counts_t counts = {99, 98, 97, 96, 95};
     gcz_line_t line = {.owner = 99};
     size_t count = 99;
     uint64_t bits = 99;
@@ -145,6 +171,7 @@ static void all_closed(gcz_t *g) {
     WANT(gcz_report_group(g, 0, &bits), GCZ_CLOSED);
     WANT(gcz_grays(g, &count), GCZ_CLOSED);
     REFUSED(gcz_gray(g, 0, &n), GCZ_CLOSED);
+    next_grays(g, GCZ_CLOSED);
     WANT(gcz_dump(g, &count), GCZ_CLOSED);
     WANT(gcz_dump_line(g, 0, &line), GCZ_CLOSED);
     WANT(step.units == 99 && step.finished && report.count == 98 && line.owner == 99 && count == 99 && bits == 99
@@ -203,13 +230,15 @@ static void limits(gcz_t *g) {
     WANT(gcz_del(g, 2, 15), GCZ_NONE);
     WANT(gcz_put(g, 2, 15, 15), GCZ_DONE);
     WANT(gcz_counts(g, &counts), GCZ_DONE);
-    WANT(counts.cells == 2 && counts.objects == 2 && counts.entries == 1 && counts.arenas == 1, 1);
+    WANT(counts.cells == 2 && counts.objects == 2 && counts.entries == 1 && counts.bytes == 2592
+             && counts.arenas == 1, 1);
     WANT(gcz_begin(g, UINT64_MAX), GCZ_DONE);
     WANT(gcz_begin(g, 1), GCZ_RUNNING);
     count = 99;
     WANT(gcz_grays(g, &count), GCZ_MARKING);
     WANT(gcz_dump(g, &count), GCZ_MARKING);
     WANT(count == 99, 1);
+    next_grays(g, GCZ_MARKING);
     WANT(gcz_advance(g, 0, &step), GCZ_DONE);
     WANT(step.units == 0 && !step.finished, 1);
     WANT(gcz_reset(g, &step), GCZ_DONE);
@@ -225,7 +254,7 @@ static void limits(gcz_t *g) {
 }
 
 static void texts(void) {
-    static const uint32_t none[] = {6, 7, 14, 15, 23, 27, 99, UINT32_MAX};
+    static const uint32_t none[] = {6, 7, 15, 23, 27, 99, UINT32_MAX};
     uint8_t whole[80], other[80];
     size_t length = gcz_status_text(none[0], whole, sizeof whole);
     for (size_t i = 0; i < sizeof none / sizeof *none; i++)

@@ -84,6 +84,15 @@ class Replay:
         self.advance(2**64 - 1)
         return "collected"
 
+    def grays(self):
+        """The gray names, one after the other, which are those of the list."""
+        names = []
+        while (name := self.heap.next_gray(names[-1] if names else None)) is not None:
+            names.append(name)
+        if names != self.heap.grays():
+            raise SystemExit("replay: the next gray names are not those of the list")
+        return names
+
     def answer(self, word, *words):
         """The answer to a line, the last lines that are printed of it."""
         heap, numbers = self.heap, [int(it.lstrip("rg")) for it in words if it != "-"]
@@ -108,7 +117,7 @@ class Replay:
             "slice": lambda: self.slice(*numbers),
             "finish": lambda: self.slice(2**64 - 1),
             "reset": self.reset,
-            "colours": lambda: f"gray {list_text(heap.grays())}",
+            "colours": lambda: f"gray {list_text(self.grays())}",
             "dump": lambda: "\n".join([*map(line_text, heap.dump()), "end"]),
         }
         return others[word]()

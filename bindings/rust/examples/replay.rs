@@ -178,12 +178,22 @@ impl<W: Write> Replay<W> {
             ["slice", n] => Ok(self.slice(n.parse().map_err(|_| Ended::BadLine)?)?),
             ["finish"] => Ok(self.slice(u64::MAX)?),
             ["reset"] => Ok(self.reset()?),
-            ["colours"] => self.heap.grays().map(|names| format!("gray {}", list_of(&names))),
+            ["colours"] => self.grays().map(|names| format!("gray {}", list_of(&names))),
             ["dump"] => self.heap.dump().map(|lines| {
                 lines.iter().map(|line| line_text(line) + "\n").collect::<String>() + "end"
             }),
             _ => return Err(Ended::BadLine),
         })
+    }
+
+    // The gray names, one after the other, which are those of the list.
+    fn grays(&mut self) -> Result<Vec<Name>> {
+        let mut names = Vec::new();
+        while let Some(name) = self.heap.next_gray(names.last().copied())? {
+            names.push(name);
+        }
+        assert_eq!(names, self.heap.grays()?);
+        Ok(names)
     }
 
     fn run(&mut self, input: impl BufRead) -> std::result::Result<(), Ended> {

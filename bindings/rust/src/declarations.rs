@@ -37,6 +37,7 @@ pub struct Counts {
     pub cells: u64,
     pub objects: u64,
     pub entries: u64,
+    pub bytes: u64,
     pub arenas: u32,
 }
 
@@ -73,6 +74,7 @@ pub const GCZ_BAD_COMPARTMENT: u32 = 10;
 pub const GCZ_BAD_SLOT: u32 = 11;
 pub const GCZ_BAD_FIELD: u32 = 12;
 pub const GCZ_BAD_FIELD_COUNT: u32 = 13;
+pub const GCZ_BAD_KIND: u32 = 14;
 pub const GCZ_FULL: u32 = 16;
 pub const GCZ_NO_ZONE: u32 = 17;
 pub const GCZ_NO_COMPARTMENT: u32 = 18;
@@ -134,6 +136,7 @@ extern "C" {
     fn gcz_report_group(gcz: *mut Gcz, index: usize, zones: *mut u64) -> u32;
     fn gcz_grays(gcz: *mut Gcz, count: *mut usize) -> u32;
     fn gcz_gray(gcz: *mut Gcz, index: usize, name: *mut Name) -> u32;
+    fn gcz_next_gray(gcz: *mut Gcz, name: *mut Name) -> u32;
     fn gcz_dump(gcz: *mut Gcz, count: *mut usize) -> u32;
     fn gcz_dump_line(gcz: *mut Gcz, index: usize, line: *mut Line) -> u32;
 }
@@ -174,9 +177,19 @@ impl Handle {
             status => Err(status),
         }
     }
+
+    /// The first gray name behind this one, or behind none the first of all.
+    pub fn next_gray(&mut self, after: Name) -> Result<Name, u32> {
+        let mut name = after;
+        // SAFETY: as of `calls!`, where the answer is a local, too.
+        match unsafe { gcz_next_gray(&mut self.0, &mut name) } {
+            GCZ_DONE => Ok(name),
+            status => Err(status),
+        }
+    }
 }
 
-// A method for each call: with an answer, which it returns, or without.
+// A method for each other call: with an answer, which it returns, or without.
 macro_rules! calls {
     ($($name:ident = $call:ident($($number:ident: $type:ty),*) $(-> $answer:ty)?;)*) => {
         impl Handle {

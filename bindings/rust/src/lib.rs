@@ -239,6 +239,8 @@ pub struct Counts {
     pub objects: u64,
     /// The entries of weak maps.
     pub entries: u64,
+    /// The bytes of the arenas: 64 cells of 40 bytes each, and 32 beside them.
+    pub bytes: u64,
     /// The arenas of 64 slots each. None is given back but with the heap.
     pub arenas: u32,
 }
@@ -270,6 +272,16 @@ fn name_of(name: sys::Name) -> Option<Name> {
             Some(Name::Wrapper { compartment: Compartment(name.compartment as u8), target: name.number })
         }
         _ => None,
+    }
+}
+
+fn as_name(name: Option<Name>) -> sys::Name {
+    match name {
+        None => sys::Name::default(),
+        Some(Name::Cell(number)) => sys::Name { number, kind: sys::GCZ_CELL, compartment: 0 },
+        Some(Name::Wrapper { compartment, target }) => {
+            sys::Name { number: target, kind: sys::GCZ_WRAPPER, compartment: compartment.0.into() }
+        }
     }
 }
 
@@ -390,6 +402,7 @@ impl Heap {
             cells: counts.cells,
             objects: counts.objects,
             entries: counts.entries,
+            bytes: counts.bytes,
             arenas: counts.arenas,
         })
     }
@@ -422,6 +435,15 @@ impl Heap {
     pub fn grays(&mut self) -> Result<Vec<Name>> {
         let count = checked(self.handle.grays())?;
         self.names(count, sys::Handle::gray)
+    }
+
+    /// The first gray name behind this one, or the first of all, if there is one. It takes no memory, and walks over
+    /// the whole heap: for a few names.
+    pub fn next_gray(&mut self, after: Option<Name>) -> Result<Option<Name>> {
+        match checked(self.handle.next_gray(as_name(after))) {
+            Err(Error::Absent) => Ok(None),
+            next => next.map(name_of),
+        }
     }
 
     /// A dump of the heap: its cells by name, its edges by object and field, and the weak entries by map and key.

@@ -37,6 +37,10 @@ fn ring_is_gray_and_then_freed() -> Result<(), Error> {
     assert_eq!(events[..2], [Event::Started, Event::Groups(vec![zones.to_vec()])]);
     let grays = heap.grays()?;
     assert_eq!(events[2], Event::Ended { zones: zones.to_vec(), grays: grays.clone() });
+    assert_eq!(grays.first().copied(), heap.next_gray(None)?);
+    for (index, name) in grays.iter().enumerate() {
+        assert_eq!(grays.get(index + 1).copied(), heap.next_gray(Some(*name))?);
+    }
     assert_eq!((grays.len(), freed(&events)), (4, 0));
     let lines = heap.dump()?;
     assert_eq!(lines.iter().filter(|line| matches!(line, Line::Cell { black: false, .. })).count(), 4);
@@ -46,7 +50,8 @@ fn ring_is_gray_and_then_freed() -> Result<(), Error> {
     assert_eq!(freed(&collect(&mut heap, &zones, 1000)?), 4);
     assert_eq!(heap.dump()?, []);
     let counts = heap.counts()?;
-    assert_eq!((counts.cells, counts.objects, counts.entries, counts.arenas), (0, 2, 0, 2));
+    assert_eq!((counts.cells, counts.objects, counts.entries), (0, 2, 0));
+    assert_eq!((counts.bytes, counts.arenas), (2 * 2592, 2));
     Ok(())
 }
 
@@ -104,6 +109,7 @@ fn errors_have_words() -> Result<(), Error> {
     heap.begin(&[zone])?;
     assert_eq!(heap.begin(&[zone]), Err(Error::Running));
     assert_eq!(heap.grays(), Err(Error::Marking));
+    assert_eq!(heap.next_gray(None), Err(Error::Marking));
     assert_eq!(Error::Empty.to_string(), "a register that is read is empty");
     assert_eq!(Error::NoMemory.to_string(), "out of memory");
     Ok(())

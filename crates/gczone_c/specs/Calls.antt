@@ -1,7 +1,7 @@
 -- What calls from C do with what a handle leads to, and what C gets: what the calls of `Session` promise, and that the
 -- lists beside the session stay.
 use Rattle.std.specs.Prelude.{◌≡◌, ◌↔◌, ◌⊎◌, ◌≤◌, ℕ, Bool, true, false, Option, None, Some, Result, Ok, Err}
-use Rattle.std.specs.Prelude.{List, [], IfOk, IfSome, IsSome, OnErr, OnOk, length}
+use Rattle.std.specs.Prelude.{List, [], IfOk, IfSome, IsSome, OnErr, OnOk, length, nat_lt, ◌==◌, if◌then◌else◌}
 use Rattle.std.specs.declared.alloc.AllocError.{AllocError}
 use Rattle.gz_names.specs.Zones.{HasZone}
 use Rattle.gz_names.specs.declared.commands.GraphCmd.{GraphCmd}
@@ -17,7 +17,7 @@ use Rattle.slice_driver.specs.Begins.{AreMade}
 use Rattle.slice_driver.specs.Collector.{CollectorState}
 use Rattle.slice_driver.specs.Commands.{WantsMemory}
 use Rattle.slice_driver.specs.Represents.{Represents}
-use Rattle.slice_driver.specs.Sessions.{AreDumpLines, AreGrayNames, IsNowhereSettled}
+use Rattle.slice_driver.specs.Sessions.{AreDumpLines, AreGrayNames, IsNextGray, IsNowhereSettled}
 use Rattle.slice_driver.specs.Sessions.{SessionResets, SessionSteps, counted_in, outcome_of}
 use Rattle.slice_driver.specs.Units.{BeginsIn, BeginsWithin, DoesCommand, RaisesWithin}
 use Rattle.slice_driver.specs.Working.{IsStill, MayWantMemory}
@@ -30,7 +30,7 @@ use Rattle.slice_driver.specs.declared.session.told.SessionReply.TheVariants as 
 use Rattle.slice_driver.specs.declared.session.told.SessionReport.{SessionReport}
 use Rattle.slice_driver.specs.declared.session.told.SessionReport.TheVariants as report
 use Rattle.slice_driver.specs.declared.session.told.SessionStep.{SessionStep}
-use Rattle.gczone_c.specs.Statuses.{begin_status, command_status, list_status, step_status}
+use Rattle.gczone_c.specs.Statuses.{begin_status, command_status, list_status, next_status, step_status}
 use Rattle.gczone_c.specs.declared.told.Answer.{Answer}
 use Rattle.gczone_c.specs.declared.told.StepDone.{StepDone}
 use Rattle.gczone_c.specs.declared.handle.Gcz.{Gcz}
@@ -88,6 +88,15 @@ no_name = record { number = 0; kind = 0; compartment = 0 }
 abbrev pub name_told : Name → Answer
 name_told (name.Cell n) = record { number = n; kind = 1; compartment = 0 }
 name_told (name.Wrap c n) = record { number = n; kind = 2; compartment = c.0 }
+
+-- the name that C gives, if it gives one: a cell, or a wrapper in a compartment below 256; else the status of the
+-- number that is out of range
+abbrev pub name_asked : Answer → Result (Option Name) ℕ
+name_asked given =
+    if given.kind == 0 then Ok None
+    else (if given.kind == 1 then Ok (Some (name.Cell given.number))
+    else (if given.kind == 2 then (if nat_lt given.compartment 256
+    then Ok (Some (name.Wrap (comp_no given.compartment) given.number)) else Err 10) else Err 14))
 
 -- what C gets by a reply, where it had something else before
 abbrev pub answer_told : SessionReply → Answer → Answer
@@ -230,6 +239,22 @@ pub record GraysListed (before count : ℕ) (status : ℕ) (old new : Held) : Ty
   pub lines : new.lines ≡ old.lines
   pub status_is : status ≡ list_status result
   pub count_is : count ≡ count_told result length before
+
+-- what C gets of the next gray name
+abbrev pub next_told : Option (Option Name) → Answer → Answer
+next_told (Some (Some x)) before = name_told x
+next_told (Some None) before = before
+next_told None before = before
+
+-- the first gray name behind another one was asked for, with this result, and C gets it
+pub record NextGrayTold (asked : Option Name) (before after : Answer) (status : ℕ) (old new : Held) : Type 0 where
+  pub result : Option (Option Name)
+  pub gray : IfSome result (IsNextGray old.session.collector (flown_by old.session.sweeper) asked)
+  pub marking : result ≡ None → IsNowhereSettled old.session.collector (flown_by old.session.sweeper)
+  pub stays : StaysListed old.session.collector old new
+  pub lists : KeepsLists old new
+  pub status_is : status ≡ next_status result
+  pub answer_is : after ≡ next_told result before
 
 -- a dump was asked for, with this result: its lines are listed, or the list is as it was
 pub record LinesListed (before count : ℕ) (status : ℕ) (old new : Held) : Type 0 where

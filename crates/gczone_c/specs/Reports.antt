@@ -1,12 +1,12 @@
 -- What C gets of the last report, of gray names, and of whether a collection runs: the session stays as it is.
 use Rattle.std.specs.Prelude.{◌≡◌, ◌↔◌, ℕ, Bool, true, false, List, [], Option, None, Some, IsSome, IsTrue}
-use Rattle.std.specs.Prelude.{length, slice_get}
+use Rattle.std.specs.Prelude.{◌*◌, length, slice_get}
 use Rattle.gz_names.specs.declared.dumps.DumpColour.TheVariants as colour
 use Rattle.gz_names.specs.declared.dumps.DumpLine.{DumpLine}
 use Rattle.gz_names.specs.declared.dumps.DumpLine.TheVariants as line
 use Rattle.gz_names.specs.declared.names.Name.{Name}
 use Rattle.gz_names.specs.declared.zone_sets.ZoneSet.{ZoneSet}
-use Rattle.slice_driver.specs.Present.{present_in_all}
+use Rattle.slice_driver.specs.Present.{arena_bytes, present_in_all}
 use Rattle.slice_driver.specs.Sessions.{groups_of, kind_of, names_of}
 use Rattle.slice_driver.specs.declared.session.told.SessionReport.{SessionReport}
 use Rattle.slice_driver.specs.declared.session.told.SessionReport.TheVariants as report
@@ -71,6 +71,7 @@ counts_told held = record {
   cells = present_in_all held.session.collector.heap.shape.arenas;
   objects = held.session.collector.heap.shape.objects;
   entries = length held.session.collector.heap.shape.weak.entries;
+  bytes = arena_bytes * length held.session.collector.heap.shape.arenas;
   arenas = length held.session.collector.heap.shape.arenas;
 }
 

@@ -55,3 +55,8 @@ list_status (Err why) = 3
 abbrev pub found_status : {T : Type 0} → Option T → ℕ
 found_status (Some x) = 0
 found_status None = 5
+
+-- the next name of a list was asked for: there it is, or there is none, or a zone is marking
+abbrev pub next_status : {T : Type 0} → Option (Option T) → ℕ
+next_status (Some next) = found_status next
+next_status None = 26

@@ -1,8 +1,10 @@
 // Numbers of C as those of a command, where they are in range.
 ghost use Rattle.std.specs.Prelude.{◌≡◌, ◌<◌, ◌≤◌, SomeIff};
-ghost use Rattle.gczone_c.specs.Calls.{comp_no};
+ghost use Rattle.gczone_c.specs.Calls.{comp_no, name_asked};
 
-use gz_names::{CompNo, FIELD_LIMIT, GrayNo, Reg, ZoneNo};
+use crate::statuses;
+use crate::told::{Answer, CELL, NOTHING, WRAPPER};
+use gz_names::{CompNo, FIELD_LIMIT, GrayNo, Name, Reg, ZoneNo};
 
 /// The register with this number, if there is one.
 pub fn register(number: u32) -> Option<Reg>
@@ -53,5 +55,20 @@ pub fn field_count(number: u32) -> Option<u8>
         Some(count)
     } else {
         None
+    }
+}
+
+/// The name that C gives, if it gives one; else the status of the number that is out of range.
+pub fn name(given: &Answer) -> Result<Option<Name>, u32>
+    ensures { result ≡ name_asked given.now }
+{
+    match given.kind {
+        NOTHING => Ok(None),
+        CELL => Ok(Some(Name::Cell(given.number))),
+        WRAPPER => match compartment(given.compartment) {
+            Some(comp) => Ok(Some(Name::Wrap(comp, given.number))),
+            None => Err(statuses::BAD_COMPARTMENT),
+        },
+        _ => Err(statuses::BAD_KIND),
     }
 }

@@ -6,7 +6,8 @@ ghost use Rattle.slice_driver.specs.Accounts.{Accounts};
 ghost use Rattle.slice_driver.specs.Represents.{Represents};
 ghost use Rattle.slice_driver.specs.Sessions.{groups_of, kind_of, names_of};
 ghost use Rattle.sweeping.specs.ArenasOut.{flown_by};
-ghost use Rattle.gczone_c.specs.Calls.{AdvanceDone, BeginDone, CommandDone, GraysListed, LinesListed, ResetDone};
+ghost use Rattle.gczone_c.specs.Calls.{AdvanceDone, BeginDone, CommandDone, GraysListed, LinesListed, NextGrayTold};
+ghost use Rattle.gczone_c.specs.Calls.{ResetDone};
 ghost use Rattle.gczone_c.specs.Reports.{counts_told, report_status, report_told};
 
 use crate::told::{Answer, Counts, ReportTold, StepDone};
@@ -90,6 +91,7 @@ impl Held {
             cells: self.session.cells(),
             objects: self.session.objects(),
             entries: self.session.entries(),
+            bytes: self.session.bytes(),
             arenas: self.session.arenas(),
         }
     }
@@ -138,6 +140,16 @@ impl Held {
         ensures { result ≡ slice_get self.now.grays index }
     {
         self.grays.as_slice().get(index).copied()
+    }
+
+    /// Writes the first gray name behind this one, or the first of all.
+    pub fn next_gray(&mut self, after: Option<Name>, name: &mut Answer) -> u32
+        ensures told { NextGrayTold after name.old name.new result self.old self.new }
+    {
+        match self.session.next_gray(after) {
+            Some(next) => told::tell_name(next, name),
+            None => statuses::MARKING,
+        }
     }
 
     /// Lists the lines of a dump, and writes how many there are.

@@ -13,11 +13,12 @@ mod loose;
 mod statuses;
 mod told;
 
-ghost use Rattle.std.specs.Prelude.{◌≡◌, ◌<◌, ◌≤◌, None, Some};
+ghost use Rattle.std.specs.Prelude.{◌≡◌, ◌<◌, ◌≤◌, Err, None, Ok, Some};
 ghost use Rattle.colour_defs.specs.Step.{HasFewFields};
 ghost use Rattle.gz_names.specs.declared.commands.GraphCmd.TheVariants as cmd;
 ghost use Rattle.gczone_c.specs.Calls.{AdvanceDone, BeginDone, Does, DoesOrder, Goes, GraysListed, IsClosed};
-ghost use Rattle.gczone_c.specs.Calls.{IsRefused, IsUndone, LinesListed, Opens, ResetDone, comp_no};
+ghost use Rattle.gczone_c.specs.Calls.{IsRefused, IsUndone, LinesListed, NextGrayTold, Opens, ResetDone, comp_no};
+ghost use Rattle.gczone_c.specs.Calls.{name_asked};
 ghost use Rattle.gczone_c.specs.Reports.{CountsTold, GrayTold, GroupTold, LineIsTold, NameTold};
 ghost use Rattle.gczone_c.specs.Reports.{ReportIsTold, RunningTold};
 
@@ -485,7 +486,7 @@ pub extern "C" fn gcz_running(alloc: Global, gcz: &mut Gcz, running: &mut bool) 
     status
 }
 
-/// Writes how many cells, objects and maps, weak entries and arenas there are.
+/// Writes how many cells, objects and maps, weak entries, bytes and arenas there are.
 #[unsafe(no_mangle)]
 pub extern "C" fn gcz_counts(alloc: Global, gcz: &mut Gcz, counts: &mut Counts) -> u32
     ensures done { Goes (IsClosed result counts.old counts.new)
@@ -576,6 +577,27 @@ pub extern "C" fn gcz_gray(alloc: Global, gcz: &mut Gcz, index: usize, name: &mu
         return statuses::CLOSED;
     };
     let status = told::tell_name(held.gray(index), name);
+    gcz.put(alloc, held);
+    status
+}
+
+/// Writes over a name the first gray name behind it; over no name the first of all.
+#[unsafe(no_mangle)]
+pub extern "C" fn gcz_next_gray(alloc: Global, gcz: &mut Gcz, name: &mut Answer) -> u32
+    ensures done { (after : _) → name_asked name.old ≡ Ok after
+        → Goes (IsClosed result name.old name.new)
+        (NextGrayTold after name.old name.new result) gcz.old gcz.new }
+    ensures name { (fault : _) → name_asked name.old ≡ Err fault
+        → IsRefused fault result gcz.old gcz.new name.old name.new }
+{
+    let after = match asked::name(name) {
+        Ok(after) => after,
+        Err(fault) => return fault,
+    };
+    let Some(mut held) = gcz.take(alloc) else {
+        return statuses::CLOSED;
+    };
+    let status = held.next_gray(after, name);
     gcz.put(alloc, held);
     status
 }

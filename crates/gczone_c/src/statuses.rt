@@ -28,6 +28,8 @@ pub const BAD_SLOT: u32 = 11;
 pub const BAD_FIELD: u32 = 12;
 
 pub const BAD_FIELD_COUNT: u32 = 13;
+
+pub const BAD_KIND: u32 = 14;
 // The command is refused.
 pub const FULL: u32 = 16;
 
@@ -93,6 +95,7 @@ pub fn text(status: u32) -> &'static str {
         BAD_SLOT => "a gray slot is above 63",
         BAD_FIELD => "a field is above 7",
         BAD_FIELD_COUNT => "an object has at most 8 fields",
+        BAD_KIND => "a name is of no cell or wrapper",
         FULL => refusal_words(Refusal::Full),
         NO_ZONE => refusal_words(Refusal::NoZone),
         NO_COMPARTMENT => refusal_words(Refusal::NoComp),

@@ -85,6 +85,7 @@ pub struct Counts {
     pub cells: u64,
     pub objects: u64,
     pub entries: u64,
+    pub bytes: u64,
     pub arenas: u32,
 }
 
