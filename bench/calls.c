@@ -1,4 +1,7 @@
-/* Does one call of the library a number of times: calls CALL COUNT. bench/calls.py measures it. */
+/* Does one call of the library a number of times: calls CALL COUNT. bench/calls.py measures it.
+ *
+ * With OWN it is linked with a library that has one export more, which does a command of the session in a loop of its
+ * own: what is left of a call then is the session's own work. */
 #include <stdio.h>
 #include <stdlib.h>
 #include <string.h>
@@ -9,6 +12,18 @@ static gcz_t heap = GCZ_CLOSED_HANDLE;
 static gcz_name_t name;
 static gcz_step_t step;
 static bool running;
+
+#ifdef OWN
+uint32_t gcz_repeat(gcz_t *gcz, uint32_t which, uint64_t times);
+
+static uint32_t which_of(const char *word) {
+    static const char *const words[] = {"gcz_copy", "gcz_get", "gcz_set", "gcz_new", "refused"};
+    for (uint32_t i = 0; i < sizeof words / sizeof *words; i++)
+        if (strcmp(words[i], word) == 0)
+            return i;
+    return 99;
+}
+#endif
 
 static uint32_t nothing(void) { return GCZ_DONE; }
 static uint32_t is_running(void) { return gcz_running(&heap, &running); }
@@ -48,6 +63,9 @@ int main(int count, char **words) {
     for (size_t i = 0; i < sizeof calls / sizeof *calls; i++) {
         if (strcmp(calls[i].word, words[1]) != 0)
             continue;
+#ifdef OWN
+        return gcz_repeat(&heap, which_of(words[1]), strtoull(words[2], NULL, 10)) != GCZ_DONE;
+#endif
         for (long left = strtol(words[2], NULL, 10); left > 0; left--)
             if (calls[i].does() != calls[i].status)
                 return 1;
