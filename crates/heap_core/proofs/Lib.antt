@@ -23,3 +23,4 @@ pub mod Resolved
 pub mod Planned
 pub mod NotedTargets
 pub mod Forgetting
+pub mod Dropping

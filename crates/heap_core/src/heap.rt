@@ -23,7 +23,8 @@ ghost use Rattle.heap_core.specs.Births.{ColoursAtBirth};
 ghost use Rattle.heap_core.specs.MarkBits.{TakesBlack, TakesGray};
 ghost use Rattle.heap_core.specs.TargetZones.{IsListedWrapper, owner_in};
 ghost use Rattle.wrappers.specs.TargetZones.{IsNoted};
-ghost use Rattle.heap_core.specs.Sweeping.{AreKept, held_in_all, is_absent, is_absent_in, is_lost_in, jobs_of};
+ghost use Rattle.heap_core.specs.Sweeping.{AreAbsent, AreKept, AreWithout, HaveWhiteOwners, IsWhiteAt, IsWhiteIn};
+ghost use Rattle.heap_core.specs.Sweeping.{held_in_all, is_absent, is_absent_in, is_lost_in, jobs_of};
 ghost use Rattle.heap_core.specs.Sweeping.{with_handed, with_taken};
 ghost use Rattle.arena_table.specs.Slots.{IsWithin, alloc_word_of, at_bits, cell_at, names_of};
 ghost use Rattle.wrappers.specs.WrapperMaps.{AreApart, list_of, place_of, without_dead};
@@ -42,7 +43,7 @@ ghost use Rattle.gz_names.specs.declared.commands.Kind.TheVariants as kind;
 
 use crate::steps::Steps;
 use arena_table::{Arenas, Jobs};
-use cell_bits::{Bits, Colour};
+use cell_bits::{Bits, Colour, Job};
 use gz_names::{
     COMP_LIMIT, CompNo, GrayNo, Kind, Name, Names64, NoMemory, Place, Reg, ZONE_LIMIT, ZoneNo,
     ZoneSet,
@@ -686,8 +687,11 @@ impl Heap {
 
     /// Drops the wrappers of these zones, and the weak entries, that name a cell which is not
     /// present any more. The other entries are to be looked at as they were. It walks the wrapper maps
-    /// of these zones and the entries, and takes no memory.
-    pub fn drop_dead(&mut self, zones: ZoneSet)
+    /// of these zones, and looks at the entries alone whose map or key is white in these jobs: where the
+    /// value of an entry is dead, so is its map or its key. It takes no memory.
+    pub fn drop_dead(&mut self, zones: ZoneSet, jobs: &[Job])
+        requires absent { AreAbsent jobs.now self.old.shape }
+        requires owners { HaveWhiteOwners jobs.now self.old.shape }
         ensures rest { self.new ≡ record self.old {
           shape = record self.old.shape {
             wrappers = self.new.shape.wrappers;
@@ -711,7 +715,7 @@ impl Heap {
         let arenas = &self.arenas;
         self.wrappers
             .drop_dead(zones, |place: Place| is_dead(arenas, place));
-        self.weak.drop_dead(|place: Place| is_dead(arenas, place));
+        drop_entries(&mut self.weak, jobs);
     }
 
     /// How many cells there are, those included that are not swept yet.
@@ -1033,6 +1037,38 @@ fn colour_at_birth(arenas: &mut Arenas, place: Place, is_prepared: bool)
     let mut bits = arenas.bits(place.arena());
     bits.mark_black(place.slot());
     arenas.set_bits(place.arena(), bits);
+}
+
+// Drops the weak entries whose map or key is white in these jobs.
+fn drop_entries(weak: &mut WeakMaps, jobs: &[Job])
+    ensures dropped { AreWithout (IsWhiteIn jobs.now) weak.old.table weak.new.table }
+    ensures was { AreEntries weak.old.table }
+    ensures fewer { length weak.new.table.entries ≤ length weak.old.table.entries }
+    ensures rows { KeepsRows weak.old.table weak.new.table }
+    ensures carries { Carries weak.old weak.new }
+    ensures parallel { AreParallel weak.new }
+    ensures sound { AreEntries weak.new.table }
+{
+    if weak.count() == 0 {
+        return;
+    }
+    // From the last arena on: entries are mostly put in the order of their cells, and if the last of the table goes, no
+    // other takes its number.
+    for index in (0..jobs.len()).rev() {
+        drop_white(weak, jobs[index]);
+    }
+}
+
+// Drops the weak entries whose map or key is white in a job.
+fn drop_white(weak: &mut WeakMaps, job: Job)
+    ensures dropped { AreWithout (IsWhiteAt job) weak.old.table weak.new.table }
+    ensures fewer { length weak.new.table.entries ≤ length weak.old.table.entries }
+    ensures rows { KeepsRows weak.old.table weak.new.table }
+    ensures carries { Carries weak.old weak.new }
+    ensures parallel { AreParallel weak.new }
+    ensures sound { AreEntries weak.new.table }
+{
+    weak.drop_entries_in(job.arena, job.bits.white_mask(job.alloc_word));
 }
 
 // Whether no present cell is at a place.

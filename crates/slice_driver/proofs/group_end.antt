@@ -18,5 +18,6 @@ pub mod Places
 pub mod Ready
 pub mod Runs
 pub mod Steps
+pub mod WhiteOwners
 pub mod Worlds
 pub mod Wrappers

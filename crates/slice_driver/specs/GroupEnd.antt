@@ -1,5 +1,5 @@
 -- The end of a group: when it may come, the colours then, and what it leaves.
-use Rattle.std.specs.Prelude.{◌≡◌, ◌↔◌, ◌<◌, ℕ, true, List, [], ◌∷◌, length, Option, Some, None, IsSome, slice_get}
+use Rattle.std.specs.Prelude.{◌≡◌, ◌↔◌, ◌⊎◌, ◌<◌, ℕ, true, List, [], ◌∷◌, length, Option, Some, None, IsSome, slice_get}
 use Rattle.std.specs.Int.{bit_at}
 use Rattle.gz_names.specs.Zones.{HasZone}
 use Rattle.gz_names.specs.declared.names.Name.{Name}
@@ -15,7 +15,8 @@ use Rattle.gray_lists.specs.Incoming.{Incoming, list_of as waiting_for}
 use Rattle.colour_defs.specs.Graph.{GraphState}
 use Rattle.colour_defs.specs.World.{Collection}
 use Rattle.colour_defs.specs.Ends.{IsBlackAtEnd, IsGrayAtEnd, IsWhiteAtEnd}
-use Rattle.heap_core.specs.Shape.{IsDelegate, Shape, is_marking, name_at, out_of, state_in, zone_of}
+use Rattle.arena_table.specs.Indexed.{in_zones}
+use Rattle.heap_core.specs.Shape.{IsDelegate, IsPresent, Shape, is_marking, name_at, out_of, state_in, zone_of}
 use Rattle.heap_core.specs.Heap.{HeapState, weak_of}
 use Rattle.heap_core.specs.Sweeping.{handed, is_absent}
 use Rattle.barriers.specs.Reached.{HasEntry}
@@ -103,6 +104,17 @@ pub record EndsIn (c : CollectorState) (g : ZoneSet) (rest : List ZoneSet) (d : 
 -- exactly the arenas that are handed to sweeping are in flight, with the bits that they had then
 abbrev pub AreJustFlown : Shape → (ℕ → Option Bits) → Type 0
 AreJustFlown s flown = (a : ℕ) → flown a ≡ out_of s a
+
+-- a cell is white, in a zone of a group
+abbrev pub IsWhiteHere : HeapState → ZoneSet → Place → Type 0
+IsWhiteHere h g p = (in_zones g.bits (zone_of h.shape p) ≡ true) × IsWhite h p
+
+-- the cells of weak entries are present, and an entry whose value dies with a group has a map or a key that does
+pub record DieWithOwners (h : HeapState) (g : ZoneSet) : Type 0 where
+  pub present : (m k v : Place) → HasEntry h.shape m k v → IsPresent h.shape m × IsPresent h.shape k
+      × IsPresent h.shape v
+  pub owned : (m k v : Place) → HasEntry h.shape m k v → IsWhiteHere h g v
+      → IsWhiteHere h g m ⊎ IsWhiteHere h g k
 
 -- wrappers of a group and entries that name a cell which is not present are dropped, and the other entries are to be
 -- looked at as they were

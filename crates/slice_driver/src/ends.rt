@@ -16,7 +16,7 @@ ghost use Rattle.barriers.specs.Colours.{IsGray};
 ghost use Rattle.slice_driver.specs.Advances.{MayTakeIn, TakesIn};
 ghost use Rattle.slice_driver.specs.Advancing.{EndsSweeping};
 ghost use Rattle.slice_driver.specs.Grays.{grays_up_to};
-ghost use Rattle.slice_driver.specs.GroupEnd.{IsReady};
+ghost use Rattle.slice_driver.specs.GroupEnd.{DieWithOwners, IsReady};
 ghost use Rattle.slice_driver.specs.HandingOut.{HandsOut};
 ghost use Rattle.slice_driver.specs.NameKinds.{is_cell};
 ghost use Rattle.slice_driver.specs.Sweeping.{AreFreed};
@@ -173,15 +173,18 @@ fn sort_names(names: &mut Names64)
 }
 
 // Hands the arenas of a group to sweeping, drops what names a cell that is not present any more, and
-// takes the group's zones on. The memory is taken before anything changes.
+// takes the group's zones on. The memory is taken before anything changes. Marking has ended: an entry
+// goes only if its map or its key is white.
 fn hand_out_group(alloc: Global, heap: &mut Heap, group: ZoneSet) -> Result<Option<Jobs>, NoMemory>
     requires kept { (a : ℕ) → out_of heap.old.shape a ≡ None }
+    requires sized { length heap.old.colours ≡ length heap.old.shape.arenas }
+    requires owners { DieWithOwners heap.old group }
     requires made { (z : ℕ) → HasZone group.bits z → z < length heap.old.shape.states }
     ensures ok { IfOk result (λ jobs. HandsOut heap.old group jobs heap.new) }
     ensures err { OnErr result (heap.new ≡ heap.old) }
 {
     let jobs = heap.hand_out(alloc, group)?;
-    heap.drop_dead(group);
+    heap.drop_dead(group, jobs.as_slice());
     advance_all(heap, group);
     if jobs.as_slice().is_empty() {
         return Ok(None);

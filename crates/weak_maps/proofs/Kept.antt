@@ -1,9 +1,8 @@
 -- The entries and the rows of those whose key is a wrapper, together.
-use Rattle.std.proofs.Common.{◌≡◌, ◌≢◌, ◌<◌, ◌+◌, ◌-◌, ◌⊎◌, MatchOption, get_or, is_some, set, sum_by, ◌&&◌, ◌++◌, ◌∷◌}
+use Rattle.std.proofs.Common.{◌≡◌, ◌≢◌, ◌<◌, ◌+◌, get_or, is_some, set, sum_by, ◌&&◌, ◌++◌, ◌∷◌}
 use Rattle.std.proofs.Common.{[], inl, inr, ℕ, Bool, true, false, cond, List, Option, Some}
 use Rattle.std.proofs.Common.{None, Result, Ok, Err, OnOk, OnErr, Contains, IfNone, IfSome, arith, length, refl, sym}
 use Rattle.std.proofs.Common.{slice_get, unwrap_or, ◌∙◌, ap, subst}
-use Rattle.std.specs.List.{swap_remove}
 use Rattle.std.specs.Option.{option_map}
 use Rattle.std.proofs.lemmas.List.Elements.{Contains-append_cases}
 use Rattle.std.proofs.lemmas.Bool.{false≢true}
@@ -14,7 +13,7 @@ use Rattle.weak_maps.specs.Places.{is_same}
 use Rattle.weak_maps.specs.Entries.{AreEntries, EntriesState, HaveLooks, value_at}
 use Rattle.weak_maps.specs.Delegates.{AreSoundRows, DelegateRow, DelegatesState, LooksAtRow, TakesRow, key_of_row}
 use Rattle.weak_maps.specs.Delegates.{delegate_at, is_row, row_of, rows_of_target, rows_of_zone, rows_shown}
-use Rattle.weak_maps.specs.WeakMaps.{AnsweredAlive, AnsweredDead, Carries, IsLeftFewer, LooksAt, NoneLeft}
+use Rattle.weak_maps.specs.WeakMaps.{Carries, IsLeftFewer, NoneLeft}
 use Rattle.weak_maps.specs.WeakMaps.{WeakMapsState}
 use Rattle.weak_maps.specs.WeakMaps.{AreParallel, HasLooked, HaveEntries, IsKept, IsSound, KeepsRows, LooksState}
 use Rattle.weak_maps.specs.WeakMaps.{WeakTableState, entry_of_row, listed_of_delegate, maps_delegated_in, state_with}
@@ -24,13 +23,12 @@ use Rattle.weak_maps.specs.declared.delegates.Delegate.{Delegate}
 use Rattle.weak_maps.specs.declared.entries.EntryKey.{EntryKey}
 use Rattle.weak_maps.specs.declared.entries.WeakEntry.{WeakEntry}
 use Rattle.weak_maps.proofs.Places.{is_same-flip, is_same-self, is_same-true}
-use Rattle.weak_maps.proofs.Reading.{slice_get-set_cases, swap_remove_cases}
+use Rattle.weak_maps.proofs.Reading.{slice_get-set_cases}
 use Rattle.weak_maps.proofs.Rows.{AreDelegates-sound, found_row}
 use Rattle.weak_maps.proofs.Siding.{Contains-at}
 use Rattle.weak_maps.proofs.Sound.{Contains-cases, stands_at}
 use Rattle.weak_maps.proofs.Table.{and-true}
 use Rattle.weak_maps.proofs.Tying.{same_length}
-use Rattle.weak_maps.proofs.Walking.{Walked}
 
 pub IsSound-kept : (e : EntriesState) (d : DelegatesState) → IsKept e d → IsSound (state_with e d).table
 IsSound-kept e d kept = record {
@@ -224,33 +222,6 @@ KeepsRows-trans old mid new before first second = record {
   );
   delegates = λ m k v there. second.delegates m k v there ∙ first.delegates m k v (before m k v there);
 }
-
--- what is there after one entry was looked at was there before
-pub there_before : (ask : Place → Bool → Type 0) (first old new : WeakTableState) (i n : ℕ) → Walked ask first old i
-    → IsSound new → LooksAt ask n old.entries new.entries → (m k v : Place) → value_of new m k ≡ Some v
-    → value_of old m k ≡ Some v
-there_before ask first old new i n walked is looks m k v there =
-    (walked.sound.found m k v).0 (inside (slice_get old.entries n) looks ((is.found m k v).1 there))
-  where
-    same : new.entries ≡ old.entries → Contains new.entries (entry_with (record { map = m; key = k }) v)
-        → Contains old.entries (entry_with (record { map = m; key = k }) v)
-    same e has = subst (λ (es : List WeakEntry). Contains es (entry_with (record { map = m; key = k }) v)) e has
-
-    inside : (o : Option WeakEntry)
-        → MatchOption o (new.entries ≡ old.entries) (λ entry. ((new.entries ≡ old.entries) × AnsweredAlive ask entry)
-        ⊎ ((new.entries ≡ swap_remove old.entries n entry) × AnsweredDead ask entry))
-        → Contains new.entries (entry_with (record { map = m; key = k }) v)
-        → Contains old.entries (entry_with (record { map = m; key = k }) v)
-    inside None e has = same e has
-    inside (Some entry) (inl (e, alive)) has = same e has
-    inside (Some entry) (inr (taken, dead)) has =
-        let at = stands_at new.entries _ has in
-        let read = swap_remove_cases old.entries n at.0 entry _
-        (sym (ap (λ (es : List WeakEntry). slice_get es at.0) taken) ∙ at.1) in
-        elim read.1 [
-          | inl last ↦ Contains-at old.entries (length old.entries - 1) _ last.1
-          | inr other ↦ Contains-at old.entries at.0 _ other.1
-        ]
 
 pub Carries-same : (weak : WeakMapsState) → Carries weak weak
 Carries-same weak = record { from = λ i e at. (i, at, refl, refl); from_row = λ i row at. (i, at, refl) }

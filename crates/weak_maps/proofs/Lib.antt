@@ -17,9 +17,10 @@ pub mod SwapRemove
 pub mod Table
 pub mod Tying
 pub mod Sound
-pub mod Walking
 pub mod Rows
 pub mod RowsKept
 pub mod Kept
+pub mod Dropping
 pub mod Listed
+pub mod Owning
 pub mod Taking

@@ -27,9 +27,8 @@ use Rattle.weak_maps.proofs.Reading.{swap_remove_cases}
 use Rattle.weak_maps.proofs.Siding.{Contains-at}
 use Rattle.weak_maps.proofs.Listed.{listed_at, listed_none}
 use Rattle.weak_maps.proofs.Sound.{Contains-cases, Contains-tail, list_of-side, listed_entry, listed_exact, stands_at}
-use Rattle.weak_maps.proofs.SwapRemove.{swap_remove-map}
+use Rattle.weak_maps.proofs.SwapRemove.{at_other, swap_remove-map}
 use Rattle.weak_maps.proofs.Table.{and-true, distinct-from_unique}
-use Rattle.weak_maps.proofs.Walking.{at_other}
 
 abbrev pub RowTable : Type 0
 RowTable = IndexMap EntryKey Delegate (BuildHasherDefault FoldHasher)

@@ -145,6 +145,14 @@ pub listed-none : (heads : HeadsState) (lists : List ListingState) (seats : List
 listed-none heads lists seats p h =
     ap (λ o. unwrap_or (option_map (entries_at (map (λ (l : ListingState). l.entries) lists)) o) []) h
 
+pub listed-is : (heads : HeadsState) (lists : List ListingState) (seats : List Seat) (p : Place) (j : ℕ)
+    (l : ListingState) → head_of heads p ≡ Some j → slice_get lists j ≡ Some l
+    → listed (state_of heads lists seats) p ≡ l.entries
+listed-is heads lists seats p j l h at =
+    ap (λ o. unwrap_or (option_map (entries_at (map (λ (l : ListingState). l.entries) lists)) o) []) h
+    ∙ ap (λ (o : Option (List ℕ)). unwrap_or o []) (slice_get-map (λ (l : ListingState). l.entries) lists j
+    ∙ ap (option_map (λ (l : ListingState). l.entries)) at)
+
 -- a list came, and an entry in it
 pub IsSound-new : (heads heads' : HeadsState) (lists new : List ListingState) (seats seats' : List Seat)
     (black gray b g : QueueState) (p : Place) (j : ℕ) → IsSound heads lists seats black gray → AreSeated new seats'

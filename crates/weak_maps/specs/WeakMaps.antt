@@ -1,7 +1,8 @@
 -- The entries of weak maps, and the delegates of their keys.
-use Rattle.std.specs.Prelude.{◌≡◌, ◌↔◌, ◌⊎◌, ◌||◌, ◌∷◌, [], ℕ, Bool, true, false, List, Option, Some, None}
-use Rattle.std.specs.Prelude.{Contains, MatchOption, length, slice_get, slice_set, swap_remove, map, unwrap_or}
+use Rattle.std.specs.Prelude.{◌≡◌, ◌↔◌, ◌⊎◌, ◌==◌, ◌&&◌, ◌||◌, ◌∷◌, [], ℕ, Bool, false, List, Option, Some, None}
+use Rattle.std.specs.Prelude.{Contains, length, slice_get, slice_set, map, unwrap_or}
 use Rattle.std.specs.Prelude.{◌++◌, if◌then◌else◌}
+use Rattle.std.specs.Int.{bit_at}
 use Rattle.gz_names.specs.declared.numbers.Place.{Place}
 use Rattle.weak_maps.specs.Entries.{AreDistinct, AreEntries, AreThose, EntriesState, HaveLooks, NoEntryLeft, listed_of}
 use Rattle.weak_maps.specs.Entries.{value_at}
@@ -75,11 +76,6 @@ abbrev pub HaveEntries : List DelegateRow → List WeakEntry → Type 0
 HaveEntries rows entries =
     (row : DelegateRow) → Contains rows row → (v : Place) × (value_at entries row.map row.key ≡ Some v)
 
--- an entry has a number
-abbrev pub IsAt : List WeakEntry → ℕ → EntryKey → Type 0
-IsAt entries n key =
-    (entry : WeakEntry) × (slice_get entries n ≡ Some entry) × (entry.map ≡ key.map) × (entry.key ≡ key.key)
-
 -- what always holds
 pub record IsKept (e : EntriesState) (d : DelegatesState) : Type 0 where
   pub entries : AreEntries e.table
@@ -113,10 +109,6 @@ pub record Carries (old new : WeakMapsState) : Type 0 where
       × (slice_get old.table.delegates.rows j ≡ Some row)
       × (slice_get new.looks.by_delegate i ≡ slice_get old.looks.by_delegate j)
 
--- all answers are those of a test
-abbrev pub AnswersBy : (Place → Bool → Type 0) → (Place → Bool) → Type 0
-AnswersBy ask test = (place : Place) (answer : Bool) → ask place answer → answer ≡ test place
-
 -- whether the map, the key or the value of an entry is dead
 abbrev pub is_dead_entry : (Place → Bool) → WeakEntry → Bool
 is_dead_entry is_dead entry = is_dead entry.map || is_dead entry.key || is_dead entry.value
@@ -133,25 +125,19 @@ pub record IsWithoutDead (is_dead : Place → Bool) (old new : WeakTableState) :
       ↔ (Contains old.entries entry × (is_dead_entry is_dead entry ≡ false))
   pub found : (m k : Place) → value_of new m k ≡ alive_value is_dead m k (value_of old m k)
 
--- one of the three places of an entry was answered to be dead
-abbrev pub AnsweredDead : (Place → Bool → Type 0) → WeakEntry → Type 0
-AnsweredDead ask entry = ask entry.map true ⊎ ask entry.key true ⊎ ask entry.value true
+-- whether a place is at one of these slots of an arena
+abbrev pub is_slot_of : ℕ → ℕ → Place → Bool
+is_slot_of arena slots p = (p.0 == arena) && (bit_at slots p.1 == 1)
 
--- each of the three was answered not to be
-abbrev pub AnsweredAlive : (Place → Bool → Type 0) → WeakEntry → Type 0
-AnsweredAlive ask entry = ask entry.map false × ask entry.key false × ask entry.value false
+-- whether the map or the key of an entry meets a test
+abbrev pub is_owned_by : (Place → Bool) → WeakEntry → Bool
+is_owned_by test entry = test entry.map || test entry.key
 
--- an entry is kept only if it was answered alive, and dropped only if it was answered dead
-pub record KeepsAlive (ask : Place → Bool → Type 0) (old new : List WeakEntry) : Type 0 where
-  pub kept : (entry : WeakEntry) → Contains new entry → Contains old entry × AnsweredAlive ask entry
-  pub dropped : (entry : WeakEntry) → Contains old entry → Contains new entry ⊎ AnsweredDead ask entry
-
--- one entry is looked at: where it was answered alive, or there is none, all stay; where it was answered dead, the last
--- has its place
-abbrev pub LooksAt : (Place → Bool → Type 0) → ℕ → List WeakEntry → List WeakEntry → Type 0
-LooksAt ask index old new =
-    MatchOption (slice_get old index) (new ≡ old) (λ entry. ((new ≡ old) × AnsweredAlive ask entry)
-    ⊎ ((new ≡ swap_remove old index entry) × AnsweredDead ask entry))
+-- the entries without those whose map or key meets a test, in some order
+pub record IsWithoutOwned (test : Place → Bool) (old new : WeakTableState) : Type 0 where
+  pub exact : (entry : WeakEntry) → Contains new.entries entry
+      ↔ (Contains old.entries entry × (is_owned_by test entry ≡ false))
+  pub found : (m k : Place) → value_of new m k ≡ (if test m || test k then None else value_of old m k)
 
 -- each entry, and each row, has its looks
 abbrev pub AreParallel : WeakMapsState → Type 0

@@ -1,5 +1,6 @@
 // The entries, with the lists of each map and of each key.
-ghost use Rattle.std.specs.Prelude.{◌≡◌, ◌<◌, ◌≤◌, ◌+◌, ◌++◌, ◌∷◌, ◌&&◌, Bool, true, Some, None, [], length, slice_get};
+ghost use Rattle.std.specs.Prelude.{◌≡◌, ◌≢◌, ◌<◌, ◌≤◌, ◌+◌, ◌++◌, ◌∷◌, ◌&&◌, ◌||◌, Bool, true, false, Some, None, []};
+ghost use Rattle.std.specs.Prelude.{Contains, length, slice_get};
 ghost use Rattle.std.specs.Prelude.{swap_remove, is_some, IfSome, IfNone, IfOk, OnOk, OnErr, if◌then◌else◌};
 
 use crate::colours::MarkColour;
@@ -123,6 +124,31 @@ impl Entries {
     {
         let entry = self.by_key.get(key, index)?;
         self.entry(u64::from(entry))
+    }
+
+    /// Whether maps or keys may lie in an arena. If not, it takes a few steps.
+    #[inline(always)]
+    pub fn may_own(&self, arena: u32) -> bool
+        ensures none { result ≡ false → (entry : WeakEntry) → Contains self.now.table.entries entry
+            → (entry.map.0 ≢ arena) × (entry.key.0 ≢ arena) }
+        ensures sound { AreEntries self.now.table }
+    {
+        self.by_map.may_list(arena) || self.by_key.may_list(arena)
+    }
+
+    /// The number of an entry of which a place is the map or the key; none if there is no such entry.
+    pub fn last_of(&self, place: Place) -> Option<u32>
+        ensures some { IfSome result (λ index. (entry : WeakEntry)
+            × (slice_get self.now.table.entries index ≡ Some entry)
+            × ((is_same place entry.map || is_same place entry.key) ≡ true)) }
+        ensures none { IfNone result ((entry : WeakEntry) → Contains self.now.table.entries entry
+            → (is_same place entry.map || is_same place entry.key) ≡ false) }
+        ensures sound { AreEntries self.now.table }
+    {
+        match self.by_map.last(place) {
+            Some(entry) => Some(entry),
+            None => self.by_key.last(place),
+        }
     }
 
     /// Gives a value to a key that has one in the map, and returns the old one; none if there is no such entry.

@@ -1,5 +1,5 @@
 // The numbers of the lists of places.
-ghost use Rattle.std.specs.Prelude.{◌≡◌, ◌<◌, ℕ, [], None, Some, IfOk, OnOk, OnErr, if◌then◌else◌};
+ghost use Rattle.std.specs.Prelude.{◌≡◌, ◌<◌, ℕ, [], false, None, Some, IfOk, OnOk, OnErr, if◌then◌else◌};
 ghost use Rattle.weak_maps.specs.Heads.{number_from as number_kept};
 
 use gz_names::{NoMemory, Place};
@@ -47,6 +47,14 @@ impl Heads {
     {
         let page = self.page(place.arena())?;
         number_from(self.pages[page as usize][place.slot() as usize])
+    }
+
+    /// Whether an arena has a page. If it has none, no place of it has a list.
+    #[inline(always)]
+    pub fn has_page(&self, arena: u32) -> bool
+        ensures { result ≡ false → (place : Place) → place.0 ≡ arena → head_of self.now place ≡ None }
+    {
+        self.page(arena).is_some()
     }
 
     // The number of an arena's page.

@@ -53,9 +53,10 @@
 // queue at most once, so there is always room, and neither starting nor looking takes memory.
 //
 // Places are given again, so an entry must not outlive a cell that it names: its new tenant would
-// be found under the old one's name. Where a group of zones ends, `drop_dead` takes out each entry
-// with a dead cell. It walks from the last entry on: what takes the number of one that goes was
-// asked about already.
+// be found under the old one's name. Where a group of zones ends, `drop_entries_in` takes out the
+// entries of the dead maps and keys of an arena, and looks at no others. An entry whose value is dead
+// needs no look of its own: marking has ended, so its map or its key is dead as well. An arena none of
+// whose cells ever had entries costs a few steps.
 //
 // Only `put` takes memory. A table changes last, once all of it is there; where a list is refused
 // some, the entry goes from the other lists again. What may stay is an empty list, which no

@@ -76,6 +76,16 @@ impl Listing {
         self.entries.get(at as usize)
     }
 
+    /// The last entry.
+    pub fn last(&self) -> Option<u32>
+        ensures { result ≡ slice_get self.now.entries (length self.now.entries - 1) }
+    {
+        match self.entries.len() {
+            0 => None,
+            more => self.entries.get(more - 1),
+        }
+    }
+
     /// The entry at an index need not be looked at any more: the last of those that are still to be
     /// looked at takes its place, and it that one's.
     pub fn leave(&mut self, at: u32) -> Option<u32>

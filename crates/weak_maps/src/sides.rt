@@ -1,6 +1,6 @@
 // The entries by their maps, or by their keys.
-ghost use Rattle.std.specs.Prelude.{◌≡◌, ◌≢◌, ◌<◌, [], ℕ, None, Some, Contains, IfSome, IfNone, OnOk, OnErr, length};
-ghost use Rattle.std.specs.Prelude.{slice_get, slice_set, swap_remove};
+ghost use Rattle.std.specs.Prelude.{◌≡◌, ◌≢◌, ◌<◌, ◌-◌, [], ℕ, false, None, Some, Contains, IfSome, IfNone, OnOk};
+ghost use Rattle.std.specs.Prelude.{OnErr, length, slice_get, slice_set, swap_remove};
 ghost use Rattle.weak_maps.specs.Heads.{no_heads};
 ghost use Rattle.weak_maps.specs.Sides.{IsAdded, IsSide, IsUndone, Starts, WasAdded, listed, number_of};
 
@@ -61,6 +61,23 @@ impl Side {
     {
         let list = self.heads.get(place)?;
         self.lists[list as usize].get(index)
+    }
+
+    /// The number of the last entry of a place's list.
+    pub fn last(&self, place: Place) -> Option<u32>
+        ensures entry { result ≡ slice_get (listed self.now place) (length (listed self.now place) - 1) }
+        ensures side { IsSide self.now }
+    {
+        let list = self.heads.get(place)?;
+        self.lists[list as usize].last()
+    }
+
+    /// Whether places of an arena may have entries.
+    #[inline(always)]
+    pub fn may_list(&self, arena: u32) -> bool
+        ensures { result ≡ false → (place : Place) → place.0 ≡ arena → number_of self.now place ≡ None }
+    {
+        self.heads.has_page(arena)
     }
 
     /// An entry of a place comes, with the next number. It is not to be looked at.

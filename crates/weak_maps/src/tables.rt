@@ -1,8 +1,9 @@
 // The entries of all weak maps, with the delegates of their keys.
-ghost use Rattle.std.specs.Prelude.{◌≡◌, ◌<◌, ◌≤◌, ◌+◌, ◌&&◌, ℕ, Bool, Some, None, [], length, slice_get, is_none};
-ghost use Rattle.std.specs.Prelude.{is_some};
+ghost use Rattle.std.specs.Prelude.{◌≡◌, ◌<◌, ◌≤◌, ◌+◌, ◌==◌, ◌&&◌, ℕ, true, false, Some, None, [], Contains, length};
+ghost use Rattle.std.specs.Prelude.{slice_get, is_none, is_some};
 ghost use Rattle.std.specs.Prelude.{IfNone, IfOk, IfSome, IsTrue, ◌↔◌, ◌≢◌, ◌++◌, ◌∷◌, OnOk, OnErr, if◌then◌else◌};
 ghost use Rattle.std.specs.Prelude.{swap_remove};
+ghost use Rattle.std.specs.Int.{bit_at};
 ghost use Rattle.std.specs.Option.{option_map};
 
 use crate::colours::MarkColour;
@@ -34,8 +35,8 @@ impl WeakMaps {
     ghost use Rattle.weak_maps.specs.Places.{is_same};
     ghost use Rattle.weak_maps.specs.Entries.{Starts, put_at};
     ghost use Rattle.weak_maps.specs.Delegates.{DelegateRow};
-    ghost use Rattle.weak_maps.specs.WeakMaps.{WeakMapsState, AnswersBy, AreParallel, Carries, HasLooked, IsSound};
-    ghost use Rattle.weak_maps.specs.WeakMaps.{IsAt, IsLeftFewer, IsWithoutDead, KeepsAlive, KeepsRows, LooksAt};
+    ghost use Rattle.weak_maps.specs.WeakMaps.{WeakMapsState, AreParallel, Carries, HasLooked, IsSound};
+    ghost use Rattle.weak_maps.specs.WeakMaps.{IsLeftFewer, IsWithoutOwned, KeepsRows, is_owned_by, is_slot_of};
     ghost use Rattle.weak_maps.specs.WeakMaps.{NoneLeft};
     ghost use Rattle.weak_maps.specs.WeakMaps.{PutsLeft};
     ghost use Rattle.weak_maps.specs.declared.colours.MarkColour.{MarkColour};
@@ -261,46 +262,69 @@ impl WeakMaps {
         self.entries.del(map, key)
     }
 
-    /// Takes out the entries whose map, key or value is dead. The others may change their numbers, and
-    /// are still to be looked at as they were.
-    pub fn drop_dead<D: Fn(Place) -> bool + Drop>(&mut self, dead: D)
-        requires { D.IsAlwaysCallable dead }
-        ensures dropped { (is_dead : Place → Bool) → AnswersBy (D.post dead) is_dead
-            → IsWithoutDead is_dead self.old.table self.new.table }
-
-        // What holds of a test that may answer this or that.
-        ensures kept { KeepsAlive (D.post dead) self.old.table.entries self.new.table.entries }
+    /// Takes out the entries whose map or key lies in an arena at one of these slots. The others may change their
+    /// numbers, and are still to be looked at as they were. It looks at no other entry.
+    pub fn drop_entries_in(&mut self, arena: u32, slots: u64)
+        ensures dropped { IsWithoutOwned (is_slot_of arena slots) self.old.table self.new.table }
         ensures fewer { length self.new.table.entries ≤ length self.old.table.entries }
         ensures rows { KeepsRows self.old.table self.new.table }
         ensures carries { Carries self.old self.new }
         ensures parallel { AreParallel self.new }
         ensures sound { IsSound self.new.table }
     {
-        // From the last on: where one is taken out, the last, which was asked about, takes its number.
-        for index in (0..self.count()).rev() {
-            self.drop_if_dead(index, &dead);
+        if !self.may_own(arena) {
+            return;
+        }
+        // From the last slot on: entries are mostly put in the order of their cells, and if the last of the table goes,
+        // no other takes its number.
+        for slot in (0..64u8).rev() {
+            if let Some(place) = place_among(arena, slots, slot) {
+                self.drop_entries_of(place);
+            }
         }
     }
 
-    // Takes out an entry if its map, its key or its value is dead.
-    fn drop_if_dead<D: Fn(Place) -> bool>(&mut self, index: u64, dead: &D)
-        requires { D.IsAlwaysCallable dead.now }
-        ensures looked { LooksAt (D.post dead.now) index self.old.table.entries self.new.table.entries }
+    // Whether maps or keys of entries may lie in an arena.
+    #[inline(always)]
+    fn may_own(&self, arena: u32) -> bool
+        ensures none { result ≡ false → (entry : WeakEntry) → Contains self.now.table.entries entry
+            → (entry.map.0 ≢ arena) × (entry.key.0 ≢ arena) }
+        ensures parallel { AreParallel self.now }
+        ensures sound { IsSound self.now.table }
+    {
+        self.entries.may_own(arena)
+    }
+
+    // Takes out the entries of which a place is the map or the key.
+    fn drop_entries_of(&mut self, place: Place)
+        ensures dropped { IsWithoutOwned (is_same place) self.old.table self.new.table }
+        ensures fewer { length self.new.table.entries ≤ length self.old.table.entries }
         ensures rows { KeepsRows self.old.table self.new.table }
         ensures carries { Carries self.old self.new }
         ensures parallel { AreParallel self.new }
         ensures sound { IsSound self.new.table }
     {
-        if let Some(WeakEntry { map, key, value }) = self.entry(index) {
-            if dead(map) || dead(key) || dead(value) {
-                self.take_at(index, EntryKey { map, key });
-            }
+        while let Some(index) = self.last_of(place) {
+            self.take_at(index);
         }
     }
 
-    // Takes out the entry with this number, which is that of this key; the last has its number then.
-    fn take_at(&mut self, index: u64, key: EntryKey)
-        requires { IsAt self.old.table.entries index key }
+    // The number of an entry of which a place is the map or the key; none if there is no such entry.
+    #[inline(always)]
+    fn last_of(&self, place: Place) -> Option<u64>
+        ensures some { IfSome result (λ index. (entry : WeakEntry)
+            × (slice_get self.now.table.entries index ≡ Some entry) × (is_owned_by (is_same place) entry ≡ true)) }
+        ensures none { IfNone result ((entry : WeakEntry) → Contains self.now.table.entries entry
+            → is_owned_by (is_same place) entry ≡ false) }
+        ensures parallel { AreParallel self.now }
+        ensures sound { IsSound self.now.table }
+    {
+        let index = self.entries.last_of(place)?;
+        Some(u64::from(index))
+    }
+
+    // Takes out the entry with this number; the last has its number then.
+    fn take_at(&mut self, index: u64)
         ensures taken { IfSome (slice_get self.old.table.entries index) (λ entry.
             self.new.table.entries ≡ swap_remove self.old.table.entries index entry) }
         ensures rows { KeepsRows self.old.table self.new.table }
@@ -308,8 +332,14 @@ impl WeakMaps {
         ensures parallel { AreParallel self.new }
         ensures sound { IsSound self.new.table }
     {
-        self.delegates.take(key);
-        self.entries.take_at(index);
+        if let Some(entry) = self.entry(index) {
+            let key = EntryKey {
+                map: entry.map,
+                key: entry.key,
+            };
+            self.delegates.take(key);
+            self.entries.take_at(index);
+        }
     }
 
     /// Marking has followed a cell in a colour: the entries of which it is the map or the key, or whose key is a
@@ -386,5 +416,17 @@ impl WeakMaps {
         ensures sound { IsSound self.new.table }
     {
         while self.next_left(colour).is_some() {}
+    }
+}
+
+// The place of a slot, if it is one of these.
+fn place_among(arena: u32, slots: u64, slot: u8) -> Option<Place>
+    requires { slot < 64 }
+    ensures { result ≡ (if bit_at slots slot == 1 then Some (arena, slot) else None) }
+{
+    if (slots >> slot) & 1 == 1 {
+        Place::new(arena, slot)
+    } else {
+        None
     }
 }

@@ -1,6 +1,6 @@
 -- The current group, as a collector has it, and what holds of the heap where no arena is out.
 use Rattle.std.proofs.Common.{◌≡◌, ℕ, Option, None, Some, List, length, drop, slice_get, is_some, sym, ap, subst, ◌∙◌}
-use Rattle.std.proofs.Common.{inl}
+use Rattle.std.proofs.Common.{inl, inr}
 use Rattle.gz_names.specs.Zones.{zones_in}
 use Rattle.gz_names.specs.declared.numbers.Place.{Place}
 use Rattle.gz_names.specs.declared.zone_sets.ZoneSet.{ZoneSet}
@@ -8,16 +8,18 @@ use Rattle.cell_bits.specs.declared.bits.Bits.{Bits}
 use Rattle.colour_defs.specs.Ends.{zones_without}
 use Rattle.colour_defs.specs.Laws.{IsValid}
 use Rattle.colour_defs.specs.World.{Collection, World}
-use Rattle.heap_core.specs.Shape.{IsPresent, out_of}
+use Rattle.arena_table.specs.Indexed.{in_zones}
+use Rattle.heap_core.specs.Shape.{IsPresent, out_of, zone_of}
 use Rattle.heap_core.specs.Heap.{HeapState}
 use Rattle.barriers.specs.Colours.{IsGray}
 use Rattle.barriers.specs.Invariant.{MarkingInvariant}
 use Rattle.slice_driver.specs.Collector.{CollectorState, heap_with}
-use Rattle.slice_driver.specs.GroupEnd.{AreColoured, IsReady}
+use Rattle.slice_driver.specs.GroupEnd.{AreColoured, DieWithOwners, IsReady}
 use Rattle.slice_driver.specs.Represents.{Represents}
 use Rattle.slice_driver.proofs.abstraction.Phases.{marking_of, none_formed}
 use Rattle.slice_driver.specs.Units.{IsSoundMarking}
-use Rattle.slice_driver.proofs.group_end.Colours.{coloured}
+use Rattle.slice_driver.proofs.group_end.Cells.{in_zones_has}
+use Rattle.slice_driver.proofs.group_end.Colours.{coloured, colours_are}
 use Rattle.slice_driver.proofs.group_end.Ready.{joined_none, no_some}
 use Rattle.slice_driver.proofs.abstraction.Named.{some_one}
 
@@ -59,6 +61,25 @@ module _ (v : CollectorState) (flown : ℕ → Option Bits) (kept : (a : ℕ) �
 
   pub sized_here : length v.heap.colours ≡ length v.heap.shape.arenas
   sized_here = marks.holds.colours.sized
+
+  -- an entry whose value is white has a white map or key: else its value would have been marked
+  pub die_with_owners : (g : ZoneSet) (rest : List ZoneSet) → IsReady v g rest → DieWithOwners v.heap g
+  die_with_owners g rest ready = record {
+    present = marks.holds.colours.shape.entries;
+    owned = λ m k q has here. (
+        let zones = marks.holds.colours.shape.one_zone m k q has in
+        elim (colours_are v.heap m) [
+          | inl white ↦ inl (ap (in_zones g.bits) zones.0 ∙ here.0, white)
+          | inr seen ↦ elim (colours_are v.heap k) [
+            | inl white ↦ inr (ap (in_zones g.bits) zones.1 ∙ here.0, white)
+            | inr too ↦ absurd (elim (ready.marked.gray_fixed m k q has seen too
+                (in_zones_has g ready.small (zone_of v.heap.shape q) here.0)) [
+                  | inl gray ↦ cc (here.1, gray)
+                  | inr black ↦ cc (here.1, black)
+                ])
+          ]
+        ]);
+  }
 
   pub gray_present : (p : Place) → IsGray v.heap p → IsPresent v.heap.shape p
   gray_present p gray = marks.holds.colours.seen_present p (inl gray)

@@ -13,14 +13,14 @@ use Rattle.slice_driver.specs.Units.{AreAscendingJobs, AreJobs, AreJobsOf, Hands
 use Rattle.slice_driver.proofs.abstraction.Named.{some_one}
 
 -- a job is that of an arena which is handed out
-record IsJobAt (word n : ℕ) (arenas : List ArenaShape) (colours : List Bits) (job : Job) : Type 0 where
-  index : ℕ
-  arena : ArenaShape
-  number : job.arena ≡ n + index
-  there : slice_get (handed word arenas colours) index ≡ Some (record arena { out = Some job.bits })
-  word_is : job.alloc_word ≡ alloc_word_of arena.slots
+pub record IsJobAt (word n : ℕ) (arenas : List ArenaShape) (colours : List Bits) (job : Job) : Type 0 where
+  pub index : ℕ
+  pub arena : ArenaShape
+  pub number : job.arena ≡ n + index
+  pub there : slice_get (handed word arenas colours) index ≡ Some (record arena { out = Some job.bits })
+  pub word_is : job.alloc_word ≡ alloc_word_of arena.slots
 
-job_at : (word n : ℕ) (arenas : List ArenaShape) (colours : List Bits) (job : Job)
+pub job_at : (word n : ℕ) (arenas : List ArenaShape) (colours : List Bits) (job : Job)
     → Contains (jobs_of word n arenas colours) job → IsJobAt word n arenas colours job
 job_at word n [] colours job c = absurd (nothing_in_none job c)
 job_at word n (arena ∷ arenas) [] job c = absurd (nothing_in_none job c)

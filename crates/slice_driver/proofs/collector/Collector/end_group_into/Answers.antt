@@ -26,7 +26,8 @@ use Rattle.slice_driver.specs.Left.{units_left}
 use Rattle.slice_driver.specs.UnitsToCome.{units_to_come}
 use Rattle.slice_driver.specs.contracts.collector.Collector.{the_view}
 use Rattle.slice_driver.proofs.measure.FewerEnded.{ending_lowers, ending_to_come}
-use Rattle.slice_driver.proofs.group_end.EndReady.{IsReadyHere, ends_coloured, gray_present, ready_here, sized_here}
+use Rattle.slice_driver.proofs.group_end.EndReady.{IsReadyHere, die_with_owners, ends_coloured, gray_present}
+use Rattle.slice_driver.proofs.group_end.EndReady.{ready_here, sized_here}
 use Rattle.slice_driver.proofs.group_end.GraysHere.{grays_here}
 use Rattle.slice_driver.proofs.taking_in.GroupEnding.{ends_group}
 use Rattle.slice_driver.proofs.group_end.Laws.{jobs_flown}
@@ -47,6 +48,23 @@ gray_names_in-requires-clause-present c =
     let kept = c.requires.ready.2.kept in
     subst (λ (x : CollectorState). (p : Place) → IsGray x.heap p → IsPresent x.heap.shape p) (sym c.self.view_is)
     (gray_present c.args.self.now c.requires.sound.0 kept c.requires.sound.1)
+
+pub hand_out_group-requires-clause-sized : goal.hand_out_group-requires-clause-sized
+hand_out_group-requires-clause-sized c =
+    let kept = c.requires.ready.2.kept in
+    subst (λ (x : CollectorState). length x.heap.colours ≡ length x.heap.shape.arenas) (sym c.self.view_is)
+    (sized_here c.args.self.now c.requires.sound.0 kept c.requires.sound.1)
+
+pub hand_out_group-requires-clause-owners : goal.hand_out_group-requires-clause-owners
+hand_out_group-requires-clause-owners c =
+    let v : CollectorState = the_view c.self.inside in
+    let is : v ≡ c.args.self.now = c.self.view_is in
+    let here : IsReadyHere v c.in-Some.group = ready_here v c.args.self.now is c.requires.ready.0 c.requires.ready.1
+    c.requires.ready.2 c.in-Some.group (sym c.current.ensures ∙ c.in-Some.is) in
+    let die = die_with_owners v c.requires.sound.0 here.ready.kept
+    (subst (λ (x : CollectorState). IsSoundMarking x c.requires.sound.0) (sym is) c.requires.sound.1) c.in-Some.group
+    here.rest here.ready in
+    record { present = die.present; owned = die.owned }
 
 pub invariant_of-self-else-finished : goal.invariant_of-self-else-finished
 invariant_of-self-else-finished c = go c.self.inside.phase c.if-finished.ensures c.self.invariant
