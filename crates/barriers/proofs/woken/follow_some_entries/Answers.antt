@@ -35,18 +35,15 @@ loop-entry-preserved g c =
       origin = did.origin ∙ c.loop-entry.invariant.origin;
     }
 
-pub returns-clause-follows : goal.returns-clause-follows
-returns-clause-follows g c = λ followed holds.
-    let seen = c.loop-entry.invariant.seen followed holds in
-    record {
-      holds = seen.holds;
-      grows = seen.grows;
-      covers = c.loop-entry.invariant.covers;
-      origin = c.loop-entry.invariant.origin;
-    }
-
-pub returns-clause-entries : goal.returns-clause-entries
-returns-clause-entries g c =
-    listed_end (marking_walk c.requires.holds.0) c.args.part c.args.place c.loop-entry.index _ _ _ _
-    (c.loop-entry.invariant.seen c.requires.holds.0 c.requires.holds.1) _ c.entry_of.ensures.entry c.in_default.is
-    c.entry_of.ensures.sound c.requires.holds.1.colours.shape
+pub returns : goal.returns
+returns g c = record {
+  follows = λ followed holds. (let seen = c.loop-entry.invariant.seen followed holds in record {
+    holds = seen.holds;
+    grows = seen.grows;
+    covers = c.loop-entry.invariant.covers;
+    origin = c.loop-entry.invariant.origin;
+  });
+  entries = listed_end (marking_walk c.requires.holds.0) c.args.part c.args.place c.loop-entry.index _ _ _ _
+      (c.loop-entry.invariant.seen c.requires.holds.0 c.requires.holds.1) _ c.entry_of.ensures.entry c.in_default.is
+      c.entry_of.ensures.sound c.requires.holds.1.colours.shape;
+}
