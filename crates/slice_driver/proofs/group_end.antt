@@ -14,6 +14,7 @@ pub mod Laws
 pub mod Lies
 pub mod Maps
 pub mod Marks
+pub mod NameKeys
 pub mod Places
 pub mod Ready
 pub mod Runs

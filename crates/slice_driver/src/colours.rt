@@ -84,7 +84,7 @@ fn push_flown_gray<F: Flight>(
 
 // Adds the names of the gray cells of an arena that is not out: only its gray slots are looked at.
 #[inline(always)]
-pub(crate) fn push_own_gray(heap: &Heap, arena: u32, names: &mut Vec<Name>) -> Result<(), NoMemory>
+fn push_own_gray(heap: &Heap, arena: u32, names: &mut Vec<Name>) -> Result<(), NoMemory>
     requires made { arena < length heap.now.colours }
     requires present { (slot : ℕ) → IsGray heap.now (arena, slot)
         → IsPresent heap.now.shape (arena, slot) }

@@ -1,6 +1,7 @@
 // The end of a group, and taking arenas in.
-ghost use Rattle.std.specs.Prelude.{◌≡◌, ◌<◌, ◌≤◌, ℕ, List, Option, None, Some, true, IsSomeAnd, IfOk};
-ghost use Rattle.std.specs.Prelude.{IfSome, IfNone, OnErr, is_some, length, slice_get};
+ghost use Rattle.std.specs.Prelude.{◌≡◌, ◌<◌, ◌≤◌, ◌↔◌, ◌++◌, ℕ, List, Option, None, Some, true, IsSomeAnd, IfOk};
+ghost use Rattle.std.specs.Prelude.{IfSome, IfNone, OnErr, OnOk, is_some, length, slice_get};
+ghost use Rattle.std.specs.Int.{bit_at};
 ghost use Rattle.gz_names.specs.Zones.{HasZone};
 ghost use Rattle.std.specs.List.Sorted.{IsPermutation, IsSorted};
 ghost use Rattle.gz_names.specs.Order.{name_cmp};
@@ -15,10 +16,9 @@ ghost use Rattle.heap_core.specs.Sweeping.{with_taken};
 ghost use Rattle.barriers.specs.Colours.{IsGray};
 ghost use Rattle.slice_driver.specs.Advances.{MayTakeIn, TakesIn};
 ghost use Rattle.slice_driver.specs.Advancing.{EndsSweeping};
-ghost use Rattle.slice_driver.specs.Grays.{grays_up_to};
+ghost use Rattle.slice_driver.specs.Grays.{grays_below, grays_up_to};
 ghost use Rattle.slice_driver.specs.GroupEnd.{DieWithOwners, IsReady};
 ghost use Rattle.slice_driver.specs.HandingOut.{HandsOut};
-ghost use Rattle.slice_driver.specs.NameKinds.{is_cell};
 ghost use Rattle.slice_driver.specs.Sweeping.{AreFreed};
 ghost use Rattle.slice_driver.specs.Units.{IsLowestOut, IsSoundMarking};
 ghost use Rattle.slice_driver.specs.Units.{TellsSweep};
@@ -26,18 +26,16 @@ ghost use Rattle.slice_driver.specs.Working.{EndsGroup};
 
 use crate::advance::Step;
 use crate::collector::{Collector, Phase};
-use crate::colours::push_own_gray;
+use crate::colours::gray_slots;
+use crate::name_keys::NameKeys;
 use crate::zone_states::advance_all;
 use arena_table::Jobs;
 use cell_bits::Taken;
-use gz_names::{Name, NameList, Names64, NoMemory, Report, ZoneSet};
+use gz_names::{NameList, Names64, NoMemory, Place, Report, ZoneSet};
 use heap_core::Heap;
 use std::alloc::Global;
 use sweep_groups::GroupOrder;
 use zones::State;
-
-// The number of names of gray cells for which memory is taken before they are listed.
-const NAMES_AHEAD: usize = 64;
 
 impl Collector {
     // Takes in the lowest arena that is handed to sweeping, with the slots of its white cells at hand-out and
@@ -217,43 +215,44 @@ fn gray_names_in(alloc: Global, heap: &Heap, zones: ZoneSet) -> Result<NameList,
         (is_owned heap.now.shape zones.bits) (length heap.now.shape.arenas)) names) }
     ensures sorted { IfOk result (IsSorted name_cmp) }
 {
-    let mut names = Vec::with_capacity(alloc, NAMES_AHEAD)?;
+    let mut keys = NameKeys::new(alloc);
     let mut from = 0;
     while let Some(arena) = heap.next_in(zones, from) {
         prove!(arena < heap.arenas());
-        push_own_gray(heap, arena, &mut names)?;
+        push_own_keys(heap, arena, &mut keys)?;
         from = arena + 1;
     }
-    let mut parted = with_cells_first(alloc, &names)?;
-    parted.sort_unstable();
-    Ok(NameList::from_vec(parted))
+    Ok(NameList::from_vec(keys.into_names(alloc)?))
 }
 
-// Lists the cells before the wrappers, and each kind in the order that it has. Both often ascend already,
-// and a list that ascends is sorted quickly.
-fn with_cells_first(alloc: Global, names: &[Name]) -> Result<Vec<Name>, NoMemory>
-    ensures { IfOk result (λ parted. IsPermutation names.now parted.items) }
+// Adds the names of the gray cells of an arena that is not out.
+fn push_own_keys(heap: &Heap, arena: u32, keys: &mut NameKeys) -> Result<(), NoMemory>
+    requires made { arena < length heap.now.colours }
+    requires present { (slot : ℕ) → IsGray heap.now (arena, slot)
+        → IsPresent heap.now.shape (arena, slot) }
+    ensures { OnOk result (IsPermutation (keys.old ++ grays_below heap.now arena 64) keys.new) }
 {
-    let mut parted = Vec::with_capacity(alloc, names.len())?;
-    for name in names {
-        if is_cell_name(*name) {
-            parted.push(*name)?;
-        }
+    let slots = gray_slots(&heap.bits(arena));
+    if slots != 0 {
+        keys.reserve(slots.count_ones() as usize)?;
     }
-    'wrappers: for name in names {
-        if !is_cell_name(*name) {
-            parted.push(*name)?;
-        }
-    }
-    Ok(parted)
+    push_keys_at(heap, arena, slots, keys)
 }
 
-// Whether a name is that of a cell that is no wrapper.
-fn is_cell_name(name: Name) -> bool
-    ensures { result ≡ is_cell name }
+// Adds the names of the cells at the gray slots of an arena.
+fn push_keys_at(heap: &Heap, arena: u32, slots: u64, keys: &mut NameKeys) -> Result<(), NoMemory>
+    requires gray { (slot : ℕ) → slot < 64
+        → (bit_at slots slot ≡ 1) ↔ IsGray heap.now (arena, slot) }
+    requires present { (slot : ℕ) → IsGray heap.now (arena, slot)
+        → IsPresent heap.now.shape (arena, slot) }
+    ensures { OnOk result (IsPermutation (keys.old ++ grays_below heap.now arena 64) keys.new) }
 {
-    match name {
-        Name::Cell(_) => true,
-        Name::Wrap(_, _) => false,
+    let mut left = slots;
+    while left != 0 {
+        if let Some(place) = Place::new(arena, left.trailing_zeros() as u8) {
+            keys.push(heap.name(place))?;
+        }
+        left &= left - 1;
     }
+    Ok(())
 }

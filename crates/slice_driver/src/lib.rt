@@ -63,6 +63,7 @@ mod grouping_steps;
 mod laws;
 mod listings;
 mod marking_steps;
+mod name_keys;
 mod next_gray;
 mod preparing;
 mod present;

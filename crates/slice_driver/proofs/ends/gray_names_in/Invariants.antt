@@ -1,11 +1,12 @@
-use Rattle.std.proofs.Common.{◌≡◌, ◌≤◌, ◌-◌, length}
+use Rattle.std.proofs.Common.{◌≤◌, ◌-◌, length}
+use Rattle.std.specs.List.Sorted.{IsPermutation}
 use Rattle.heap_core.specs.Shape.{is_owned}
 use Rattle.slice_driver.specs.Grays.{grays_up_to}
 use Rattle.slice_driver.proofs.ends.gray_names_in.Given as goal
 
 abbrev pub invariant-loop-arena : goal.invariant-loop-arena
 invariant-loop-arena l = record {
-  names : l.names.items ≡ grays_up_to l.heap (is_owned l.heap.shape l.zones.bits) l.from;
+  names : IsPermutation (grays_up_to l.heap (is_owned l.heap.shape l.zones.bits) l.from) l.keys;
   within : l.from ≤ length l.heap.shape.arenas;
 }
 
