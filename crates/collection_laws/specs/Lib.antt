@@ -1,3 +1,4 @@
 pub mod Collected
 pub mod Graphs
 pub mod Numbers
+pub mod Replies

@@ -17,7 +17,7 @@
 // the commands alone, and not on how they were cut into slices, where cells lay, or what earlier collections freed.
 #![tactic(auto)]
 
-ghost use Rattle.std.specs.Prelude.{◌≡◌, ◌++◌, ◌∷◌, [], ℕ, List, All};
+ghost use Rattle.std.specs.Prelude.{◌≡◌, ◌++◌, ◌∷◌, [], ℕ, List, All, None};
 ghost use Rattle.std.specs.List.{flat_map};
 ghost use Rattle.gz_names.specs.declared.commands.Cmd.{Cmd};
 ghost use Rattle.gz_names.specs.declared.commands.Cmd.TheVariants as command;
@@ -28,12 +28,14 @@ ghost use Rattle.gz_names.specs.declared.replies.Report.{Report};
 ghost use Rattle.gz_names.specs.declared.zone_sets.ZoneSet.{ZoneSet};
 ghost use Rattle.gz_names.specs.Zones.{zones_in};
 ghost use Rattle.colour_defs.specs.Graph.{GraphState, empty_graph};
+ghost use Rattle.colour_defs.specs.Step.{refusal_in, step_of};
 ghost use Rattle.colour_defs.specs.World.{CommandInWorld, World, first_world};
 ghost use Rattle.colour_defs.specs.Lawful.{AreLawfulUnits, Prepares, Collects, Run};
 ghost use Rattle.colour_defs.specs.Laws.{IsNoWeakCmd, IsValid};
 ghost use Rattle.collection_laws.specs.Collected.{AreAllZones, IsCollected};
 ghost use Rattle.collection_laws.specs.Graphs.{MakesNoZone, graph_after};
 ghost use Rattle.collection_laws.specs.Numbers.{GivesNext, IsAccounted, freed_in, given_after};
+ghost use Rattle.collection_laws.specs.Replies.{IsReplyTo};
 
 /// A run without weak commands leads to the graph that its commands on the graph lead to.
 pub fn graph_law()
@@ -64,6 +66,13 @@ pub fn last_collection_law()
         → All IsNoWeakCmd commands → AreAllZones (graph_after empty_graph commands) (zones_in zones)
         → Run first_world (commands ++ command.Finish ∷ command.Collect zones ∷ command.Colours ∷ []) answers v
         → IsCollected v × (v.graph ≡ graph_after empty_graph commands) }
+{}
+
+/// A command on the graph that is not refused has a reply of its form: `get` names what a register holds or says that
+/// it is null, `set` says that it is done, and so on.
+pub fn reply_law()
+    ensures { (g : GraphState) (c : GraphCmd) → refusal_in (step_of g c).1 ≡ None
+        → IsReplyTo c (step_of g c).1 }
 {}
 
 /// A number is given once, to an object or a map, and listed once as freed: so it is from the first world on, with
