@@ -7,6 +7,7 @@ pub mod Flights
 pub mod GroupingSteps
 pub mod MarkingSteps
 pub mod MarkingUnits
+pub mod SessionCommands
 pub mod SessionReports
 pub mod Sessions
 pub mod Settled

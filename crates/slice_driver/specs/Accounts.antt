@@ -1,6 +1,7 @@
 -- Which numbers a session has given, and which its reports have listed as freed.
 use Rattle.std.specs.Prelude.{ℕ, List, [], ◌++◌, Option, Some, None, Result, Ok, Err}
 use Rattle.gz_names.specs.declared.names.Name.{Name}
+use Rattle.gz_names.specs.declared.replies.Reply.{Reply}
 use Rattle.gz_names.specs.declared.replies.Report.{Report}
 use Rattle.cell_bits.specs.declared.bits.Bits.{Bits}
 use Rattle.colour_defs.specs.Laws.{IsValid}
@@ -8,9 +9,8 @@ use Rattle.colour_defs.specs.World.{World}
 use Rattle.collection_laws.specs.Numbers.{GivesNext, IsAccounted, given_after}
 use Rattle.slice_driver.specs.Collector.{CollectorState}
 use Rattle.slice_driver.specs.Represents.{Represents}
-use Rattle.slice_driver.specs.Sessions.{as_reply, names_of}
+use Rattle.slice_driver.specs.Sessions.{names_of}
 use Rattle.slice_driver.specs.declared.session.SessionFault.{SessionFault}
-use Rattle.slice_driver.specs.declared.session.told.SessionReply.{SessionReply}
 use Rattle.slice_driver.specs.declared.session.told.SessionReport.{SessionReport}
 use Rattle.slice_driver.specs.declared.session.told.SessionReport.TheVariants as told
 use Rattle.slice_driver.specs.declared.session.told.SessionStep.{SessionStep}
@@ -24,17 +24,17 @@ pub record Accounts (c : CollectorState) (flown : ℕ → Option Bits) (given : 
   pub accounted : IsAccounted world given freed
 
 -- a command that makes a cell gives the next number
-abbrev pub TellsNext : ℕ → Result SessionReply SessionFault → Type 0
-TellsNext given (Ok answer) = GivesNext given (as_reply answer)
+abbrev pub TellsNext : ℕ → Result Reply SessionFault → Type 0
+TellsNext given (Ok answer) = GivesNext given answer
 TellsNext given (Err why) = Unit {0}
 
 -- how many numbers were given after a command
-abbrev pub given_with : ℕ → Result SessionReply SessionFault → ℕ
-given_with given (Ok answer) = given_after given (as_reply answer)
+abbrev pub given_with : ℕ → Result Reply SessionFault → ℕ
+given_with given (Ok answer) = given_after given answer
 given_with given (Err why) = given
 
 -- a command gives the next number or none, and frees nothing
-abbrev pub GivesOn : CollectorState → (ℕ → Option Bits) → Result SessionReply SessionFault → CollectorState
+abbrev pub GivesOn : CollectorState → (ℕ → Option Bits) → Result Reply SessionFault → CollectorState
     → (ℕ → Option Bits) → Type 0
 GivesOn old flown result new flying = (given : ℕ) (freed : List Name) → Accounts old flown given freed
     → TellsNext given result × Accounts new flying (given_with given result) freed

@@ -30,6 +30,7 @@ pub mod Preparing
 pub mod Resets
 pub mod Sessions
 pub mod Accounts
+pub mod SessionCommands
 pub mod NameKeys
 pub mod ListedWrappers
 pub mod Listings

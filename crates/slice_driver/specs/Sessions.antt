@@ -45,9 +45,14 @@ as_reply answer.Null = reply.Null
 as_reply answer.Accepted = reply.Accepted
 as_reply answer.Absent = reply.Absent
 
+-- the result of a call, with the reply that says what it returns
+abbrev pub replied : {T : Type 0} → (T → Reply) → Result T SessionFault → Result Reply SessionFault
+replied saying (Ok x) = Ok (saying x)
+replied saying (Err why) = Err why
+
 -- what came of a command, if it was asked for at all
-abbrev pub outcome_of : Result SessionReply SessionFault → Option (Result Reply CmdFault)
-outcome_of (Ok answer) = Some (Ok (as_reply answer))
+abbrev pub outcome_of : Result Reply SessionFault → Option (Result Reply CmdFault)
+outcome_of (Ok answer) = Some (Ok answer)
 outcome_of (Err (session.Refused why)) = Some (Err (fault.Refused why))
 outcome_of (Err session.NoMemory) = Some (Err fault.NoMemory)
 outcome_of (Err session.Full) = None

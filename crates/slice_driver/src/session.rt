@@ -4,20 +4,21 @@ ghost use Rattle.std.specs.Prelude.{Some, false, [], ℕ};
 ghost use Rattle.gz_names.specs.Zones.{HasZone};
 ghost use Rattle.colour_defs.specs.Step.{HasFewFields, refusal_in};
 ghost use Rattle.colour_defs.specs.World.{World, first_world};
-ghost use Rattle.heap_core.specs.Effects.{HasRoom, takes_memory};
+ghost use Rattle.heap_core.specs.Effects.{HasRoom};
 ghost use Rattle.collection_laws.specs.Numbers.{IsGraphReply};
 ghost use Rattle.heap_core.specs.Heap.{HeapState, joined};
-ghost use Rattle.slice_driver.specs.Accounts.{Accounts, FreesOn, GivesOn, freed_by, freed_by_report};
+ghost use Rattle.slice_driver.specs.Accounts.{Accounts, FreesOn, freed_by, freed_by_report};
 ghost use Rattle.slice_driver.specs.Begins.{AreMade};
-ghost use Rattle.slice_driver.specs.Commands.{WantsMemory};
 ghost use Rattle.slice_driver.specs.Represents.{Represents};
 ghost use Rattle.slice_driver.specs.Sessions.{AreDumpLines, AreGrayNames, IsNextGray, IsNowhereSettled};
-ghost use Rattle.slice_driver.specs.Sessions.{SessionResets, SessionSteps, counted_in, groups_of, kind_of, names_of};
-ghost use Rattle.slice_driver.specs.Sessions.{outcome_of};
-ghost use Rattle.slice_driver.specs.Units.{BeginsIn, BeginsWithin, DoesCommand, RaisesWithin};
+ghost use Rattle.slice_driver.specs.SessionCommands.{SessionDoes};
+ghost use Rattle.slice_driver.specs.Sessions.{SessionResets, SessionSteps, as_reply, counted_in, groups_of, kind_of};
+ghost use Rattle.slice_driver.specs.Sessions.{names_of, outcome_of, replied};
+ghost use Rattle.slice_driver.specs.Units.{BeginsIn, BeginsWithin};
 ghost use Rattle.slice_driver.specs.Working.{IsStill, MayWantMemory};
 ghost use Rattle.sweeping.specs.ArenasOut.{flown_by};
 
+mod calls;
 mod counts;
 mod faults;
 mod told;
@@ -96,27 +97,11 @@ impl<S: Sweeper> Session<S> {
     /// changes nothing. Only a command that is not refused returns `NoMemory`, and only one that makes
     /// something: then the graph is as it was.
     ///
-    /// An object or a map gets the next number, from 0 on.
+    /// An object or a map gets the next number, from 0 on. A command that is no value of the program's has
+    /// a call of its own, from `new_zone` to `find`, which returns what that command can answer.
     pub fn command(&mut self, cmd: GraphCmd) -> Result<SessionReply, SessionFault>
         requires fields { HasFewFields cmd }
-        ensures done { IfSome (outcome_of result) (λ outcome. DoesCommand self.old.collector
-            (S.bits self.old.sweeper) cmd outcome self.new.collector (S.bits self.new.sweeper)) }
-        ensures to_come { IfSome (outcome_of result) (λ outcome. RaisesWithin
-            (counted_in self.old.collector self.new.collector.heap.ledger) (S.bits self.old.sweeper) cmd outcome
-            self.new.collector (S.bits self.new.sweeper)) }
-        ensures accounts { GivesOn self.old.collector (S.bits self.old.sweeper) result
-            self.new.collector (S.bits self.new.sweeper) }
-        ensures refused { (why : _) → result ≡ Err (SessionFault.Refused why)
-            → (self.new.collector ≡ counted_in self.old.collector self.new.collector.heap.ledger)
-            × (S.bits self.new.sweeper ≡ S.bits self.old.sweeper) }
-        ensures wanted { result ≡ Err SessionFault.NoMemory → WantsMemory
-            (counted_in self.old.collector self.new.collector.heap.ledger) (S.bits self.old.sweeper) cmd
-            self.new.collector (S.bits self.new.sweeper) }
-        ensures sure { takes_memory cmd ≡ false → result ≡ Err SessionFault.NoMemory → ⊥ }
-        ensures full { result ≡ Err SessionFault.Full
-            → (self.new ≡ self.old) × (4294967295 ≤ self.old.collector.heap.made) }
-        ensures run { self.new.collector.run ≡ self.old.collector.run }
-        ensures report { self.new.report ≡ self.old.report }
+        ensures done { SessionDoes S.bits cmd (replied as_reply result) self.old self.new }
     {
         if !has_room(self.collector.made(), &cmd) {
             return Err(SessionFault::Full);
@@ -317,7 +302,7 @@ impl<S: Sweeper> Session<S> {
 fn result_of(outcome: Result<Reply, CmdFault>) -> Result<SessionReply, SessionFault>
     requires graph { IfOk outcome IsGraphReply }
     requires answered { IfOk outcome (λ reply. refusal_in reply ≡ None) }
-    ensures { outcome_of result ≡ Some outcome }
+    ensures { outcome_of (replied as_reply result) ≡ Some outcome }
 {
     match outcome {
         Ok(reply) => Ok(told::reply_of(&reply)),

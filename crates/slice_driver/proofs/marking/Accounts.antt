@@ -25,14 +25,13 @@ use Rattle.slice_driver.specs.Advances.{Advances}
 use Rattle.slice_driver.specs.Collector.{CollectorState}
 use Rattle.slice_driver.specs.Represents.{Represents}
 use Rattle.slice_driver.specs.Resets.{ResetsOn}
-use Rattle.slice_driver.specs.Sessions.{as_reply, counted_in, kind_of, no_step, outcome_of, session_result}
+use Rattle.slice_driver.specs.Sessions.{counted_in, kind_of, no_step, outcome_of, session_result}
 use Rattle.slice_driver.specs.Sessions.{session_step}
 use Rattle.slice_driver.specs.Units.{AnswersIn, BeginsIn, DoesCommand, IsAfterWant, none_flown, reports_of, with_done}
 use Rattle.slice_driver.specs.Working.{IsStill}
 use Rattle.slice_driver.specs.declared.advance.Step.{Step}
 use Rattle.slice_driver.specs.declared.session.SessionFault.{SessionFault}
 use Rattle.slice_driver.specs.declared.session.SessionFault.TheVariants as session
-use Rattle.slice_driver.specs.declared.session.told.SessionReply.{SessionReply}
 use Rattle.slice_driver.specs.declared.session.told.SessionStep.{SessionStep}
 use Rattle.slice_driver.proofs.abstraction.Named.{some_one}
 use Rattle.slice_driver.proofs.abstraction.Counting.{counts_alike}
@@ -57,17 +56,17 @@ wanted_accounts w cmd v given freed (inr s) a = still_accounts w v given freed (
     (ap (λ (u : World). u.white) s.2) a
 
 module _ (c : CollectorState) (f : ℕ → Option Bits) (d : CollectorState) (g : ℕ → Option Bits) where
-  pub gives_on : (cmd : GraphCmd) (r : Result SessionReply SessionFault) (o : Result Reply CmdFault)
+  pub gives_on : (cmd : GraphCmd) (r : Result Reply SessionFault) (o : Result Reply CmdFault)
       → outcome_of r ≡ Some o → DoesCommand c f cmd o d g → GivesOn c f r d g
   gives_on cmd (Ok answer) o is does given freed a =
-      let did : AnswersIn a.world cmd (Ok (as_reply answer)) d g =
+      let did : AnswersIn a.world cmd (Ok answer) d g =
       subst (λ (x : Result Reply CmdFault). AnswersIn a.world cmd x d g) (sym (some_one _ _ is))
       (does a.world a.valid a.represents) in
-      let next = command_accounts a.world cmd (as_reply answer) did.0 given freed a.valid a.accounted did.1 in (
+      let next = command_accounts a.world cmd answer did.0 given freed a.valid a.accounted did.1 in (
         next.0,
         record {
           world = did.0;
-          valid = command_valid a.world did.0 cmd (as_reply answer) a.valid did.1;
+          valid = command_valid a.world did.0 cmd answer a.valid did.1;
           represents = did.2;
           accounted = next.1;
         },

@@ -12,12 +12,14 @@ use Rattle.gz_names.specs.declared.replies.Report.TheVariants.{Started, Groups, 
 use Rattle.cell_bits.specs.declared.bits.Bits.{Bits}
 use Rattle.colour_defs.specs.Lawful.{IsLawfulUnit, quiet, says, last, AreLawfulUnits}
 use Rattle.colour_defs.specs.World.{World}
+use Rattle.colour_defs.specs.Step.{refusal_in}
 use Rattle.collection_laws.specs.Numbers.{IsGraphReply}
+use Rattle.collection_laws.specs.Replies.{IsReplyTo}
 use Rattle.collection_laws.proofs.Replies.{answered}
 use Rattle.slice_driver.specs.Advances.{Advances, told}
 use Rattle.slice_driver.specs.Collector.{CollectorState}
 use Rattle.slice_driver.specs.Sessions.{kind_of}
-use Rattle.slice_driver.specs.Units.{DoesCommand, IsSound, reports_of, with_done}
+use Rattle.slice_driver.specs.Units.{AnswersIn, DoesCommand, IsSound, reports_of, with_done}
 use Rattle.slice_driver.specs.declared.advance.Step.{Step}
 
 of_kind : (r : Report) → r ≢ Done → IsSome (kind_of (Some r))
@@ -63,10 +65,26 @@ says_kind limit c f before step d g outs now s a reported = go now refl (a.told_
         subst (λ (o : Option Report). IsSome (kind_of o)) (sym e)
         (units_say s.world u.units u.after u.done r (with_done step.finished) (u.reports_are ∙ at))
 
--- the reply to a command is one to a command on the graph
-pub graph_reply : (c : CollectorState) (f : ℕ → Option Bits) (cmd : GraphCmd) (r : Result Reply CmdFault)
-    (d : CollectorState) (g : ℕ → Option Bits) → IsSound c f → DoesCommand c f cmd r d g → IfOk r IsGraphReply
-graph_reply c f cmd (Ok reply) d g s does =
-    let did = does s.world s.valid s.represents in
-    subst (λ (x : Reply). IsGraphReply x) (sym did.1.0) (answered s.world.graph cmd).reply
-graph_reply c f cmd (Err why) d g s does = tt
+-- a reply is one to a command on the graph, and to this one if it is not refused
+module _ (c : CollectorState) (f : ℕ → Option Bits) (cmd : GraphCmd) (r : Result Reply CmdFault) (d : CollectorState)
+    (g : ℕ → Option Bits) (s : IsSound c f) (does : DoesCommand c f cmd r d g) where
+  graph_in : (o : Result Reply CmdFault) → r ≡ o → IfOk o IsGraphReply
+  graph_in (Ok reply) is =
+      let did =
+      subst (λ (x : Result Reply CmdFault). AnswersIn s.world cmd x d g) is (does s.world s.valid s.represents) in
+      subst (λ (x : Reply). IsGraphReply x) (sym did.1.0) (answered s.world.graph cmd).reply
+  graph_in (Err why) is = tt
+
+  says_in : (o : Result Reply CmdFault) → r ≡ o → IfOk o (λ reply. refusal_in reply ≡ None) → IfOk o (IsReplyTo cmd)
+  says_in (Ok reply) is done =
+      let did =
+      subst (λ (x : Result Reply CmdFault). AnswersIn s.world cmd x d g) is (does s.world s.valid s.represents) in
+      subst (λ (x : Reply). IsReplyTo cmd x) (sym did.1.0)
+      ((answered s.world.graph cmd).says (subst (λ (x : Reply). refusal_in x ≡ None) did.1.0 done))
+  says_in (Err why) is done = tt
+
+  pub graph_reply : IfOk r IsGraphReply
+  graph_reply = graph_in r refl
+
+  pub says_reply : IfOk r (λ reply. refusal_in reply ≡ None) → IfOk r (IsReplyTo cmd)
+  says_reply = says_in r refl

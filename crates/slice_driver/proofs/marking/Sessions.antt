@@ -2,7 +2,7 @@
 use Rattle.std.proofs.Common.{◌≡◌, ◌↔◌, ◌⊎◌, ◌<◌, ℕ, zero, suc, [], ◌∷◌, Bool, true, false, List, Option, Some, None}
 use Rattle.std.proofs.Common.{Result}
 use Rattle.std.proofs.Common.{Ok, Err, IfOk, slice_get, inl, inr, arith}
-use Rattle.std.proofs.Common.{IfSome, OnErr, OnOk, IsSome, is_some, cond, refl, sym, ap, ◌∙◌, subst}
+use Rattle.std.proofs.Common.{OnErr, OnOk, IsSome, is_some, cond, refl, sym, ap, subst}
 use Rattle.gz_names.specs.declared.commands.GraphCmd.{GraphCmd}
 use Rattle.gz_names.specs.declared.commands.GraphCmd.TheVariants as command
 use Rattle.gz_names.specs.declared.replies.CmdFault.{CmdFault}
@@ -19,7 +19,7 @@ use Rattle.marker.specs.UnitsToCome.{units_at}
 use Rattle.heap_core.specs.Shape.{ArenaShape, Shape, out_in, out_of}
 use Rattle.heap_core.specs.Effects.{HasRoom}
 use Rattle.slice_driver.specs.Resets.{ResetsOn}
-use Rattle.slice_driver.specs.Sessions.{SessionResets, SessionSteps, counted_in, kind_of, no_step, outcome_of}
+use Rattle.slice_driver.specs.Sessions.{SessionResets, SessionSteps, counted_in, kind_of, no_step}
 use Rattle.slice_driver.specs.Sessions.{session_result, session_step, step_told}
 use Rattle.slice_driver.specs.Left.{units_left}
 use Rattle.slice_driver.specs.Represents.{Represents}
@@ -27,11 +27,8 @@ use Rattle.slice_driver.specs.Units.{DoesCommand, IsLowestOut, IsSound, KeepsFre
 use Rattle.slice_driver.specs.UnitsToCome.{units_to_come}
 use Rattle.slice_driver.specs.Working.{IsStill}
 use Rattle.slice_driver.specs.declared.advance.Step.{Step}
-use Rattle.slice_driver.specs.declared.session.SessionFault.{SessionFault}
-use Rattle.slice_driver.specs.declared.session.told.SessionReply.{SessionReply}
 use Rattle.slice_driver.specs.declared.session.told.SessionStep.{SessionStep}
 use Rattle.slice_driver.proofs.abstraction.Counting.{counts_alike}
-use Rattle.slice_driver.proofs.abstraction.Named.{some_one}
 use Rattle.slice_driver.proofs.marking.MarkingUnits.{still_sound}
 use Rattle.slice_driver.proofs.marking.SessionReports.{says_kind}
 use Rattle.slice_driver.proofs.taking_in.TakingDue.{out_none}
@@ -202,15 +199,6 @@ new_sound c jobs is rep = subst (λ (xs : List Job). IsSound c (flown_by xs) × 
 pub new_first : (c : CollectorState) (jobs : List Job) → jobs ≡ [] → Represents c none_flown first_world
     → Represents c (flown_by jobs) first_world
 new_first c jobs is rep = subst (λ (xs : List Job). Represents c (flown_by xs) first_world) (sym is) rep
-
--- what a session tells of a command is what came of it
-pub told_done : (r : Result SessionReply SessionFault) (o : Result Reply CmdFault) (P : Result Reply CmdFault → Type 0)
-    → outcome_of r ≡ Some o → P o → IfSome (outcome_of r) P
-told_done r o P is p = subst (λ (x : Option (Result Reply CmdFault)). IfSome x P) (sym is) p
-
-pub told_as : (r s : Result SessionReply SessionFault) (o p : Result Reply CmdFault) → outcome_of r ≡ Some o → r ≡ s
-    → outcome_of s ≡ Some p → o ≡ p
-told_as r s o p is same other = some_one _ _ (sym is ∙ (ap outcome_of same ∙ other))
 
 -- what is done over a collector whose edges are counted is done in the worlds for which it stands otherwise
 pub does_counted : (b : CollectorState) (ledger : Option ℕ) (f : ℕ → Option Bits) (cmd : GraphCmd)
