@@ -5,10 +5,8 @@
 // objects and both wrappers. docs/EMBEDDING.md goes through the lines.
 #![tactic(auto)]
 
-ghost use Rattle.colour_defs.specs.Step.{HasFewFields};
-
-use gz_names::{CompNo, GraphCmd, GrayNo, Reg, ZoneNo, ZoneSet};
-use slice_driver::{Session, SessionReport};
+use gz_names::{CompNo, GrayNo, Reg, ZoneNo, ZoneSet};
+use slice_driver::{Session, SessionFault, SessionReport};
 use std::process::ExitCode;
 use sweeping::MainSweeper;
 
@@ -59,46 +57,57 @@ fn print_colours(rt: &HostRuntime, session: &mut Session<MainSweeper>) -> Option
     println!(rt; "gray: {grays}, lines of a dump: {lines}").ok()
 }
 
-// Gives a command that is not to be refused.
-fn give(session: &mut Session<MainSweeper>, cmd: GraphCmd) -> Option<()>
-    requires fields { HasFewFields cmd }
-{
-    session.command(cmd).ok()?;
-    Some(())
+// Makes a zone with one compartment.
+fn make_zone(session: &mut Session<MainSweeper>) -> Result<(ZoneNo, CompNo), SessionFault> {
+    let zone = session.new_zone()?;
+    let compartment = session.new_compartment(zone)?;
+    Ok((zone, compartment))
 }
 
-// Makes two zones, and a compartment in each.
-fn make_zones(session: &mut Session<MainSweeper>, left: ZoneNo, right: ZoneNo) -> Option<()> {
-    give(session, GraphCmd::Zone)?;
-    give(session, GraphCmd::Zone)?;
-    give(session, GraphCmd::Comp(left))?;
-    give(session, GraphCmd::Comp(right))
+// Makes an object in each of two compartments, each with a wrapper of the other.
+fn link(
+    session: &mut Session<MainSweeper>,
+    (a, left): (Reg, CompNo),
+    (b, right): (Reg, CompNo),
+    wrapper: Reg,
+) -> Result<(), SessionFault> {
+    session.new_object(a, left, 1)?;
+    session.new_object(b, right, 1)?;
+    session.wrap(wrapper, b, left)?;
+    session.set(a, 0, Some(wrapper))?;
+    session.wrap(wrapper, a, right)?;
+    session.set(b, 0, Some(wrapper))
 }
 
-// An object in each of two compartments, each with a wrapper of the other; a gray slot holds the first.
-fn link(session: &mut Session<MainSweeper>, root: GrayNo) -> Option<()> {
-    let (a, b, w) = (Reg::new(0)?, Reg::new(1)?, Reg::new(2)?);
-    give(session, GraphCmd::New(a, CompNo(0), 1))?;
-    give(session, GraphCmd::New(b, CompNo(1), 1))?;
-    give(session, GraphCmd::Wrap(w, b, CompNo(0)))?;
-    give(session, GraphCmd::Set(a, 0, Some(w)))?;
-    give(session, GraphCmd::Wrap(w, a, CompNo(1)))?;
-    give(session, GraphCmd::Set(b, 0, Some(w)))?;
-    give(session, GraphCmd::Hold(root, a))?;
-    give(session, GraphCmd::Drop(a))?;
-    give(session, GraphCmd::Drop(b))?;
-    give(session, GraphCmd::Drop(w))
+// A gray slot holds what the first register holds, and the registers become empty.
+fn hold_gray(
+    session: &mut Session<MainSweeper>,
+    root: GrayNo,
+    (a, b, wrapper): (Reg, Reg, Reg),
+) -> Result<(), SessionFault> {
+    session.hold(root, a)?;
+    session.drop_register(a)?;
+    session.drop_register(b)?;
+    session.drop_register(wrapper)
+}
+
+// Links two objects of two zones, which a gray slot holds. Returns the zones.
+fn build(session: &mut Session<MainSweeper>, root: GrayNo) -> Option<ZoneSet> {
+    let (a, b, wrapper) = (Reg::new(0)?, Reg::new(1)?, Reg::new(2)?);
+    let (first, left) = make_zone(session).ok()?;
+    let (second, right) = make_zone(session).ok()?;
+    link(session, (a, left), (b, right), wrapper).ok()?;
+    hold_gray(session, root, (a, b, wrapper)).ok()?;
+    Some(ZoneSet::only(first).union(ZoneSet::only(second)))
 }
 
 // Links two objects, and collects their zones with a root and without.
 fn run(rt: &HostRuntime, session: &mut Session<MainSweeper>) -> Option<()> {
-    let (left, right, root) = (ZoneNo::new(0)?, ZoneNo::new(1)?, GrayNo::new(0)?);
-    make_zones(session, left, right)?;
-    link(session, root)?;
-    let both = ZoneSet::only(left).union(ZoneSet::only(right));
+    let root = GrayNo::new(0)?;
+    let both = build(session, root)?;
     collect(rt, session, both)?;
     print_colours(rt, session)?;
-    give(session, GraphCmd::Release(root))?;
+    session.release(root).ok()?;
     collect(rt, session, both)?;
     print_colours(rt, session)
 }

@@ -26,6 +26,7 @@
 //                stays the same
 //     devices    a reader goes on after a fault, and a sink that holds bytes back writes each of them once
 //     again      a step of a session that ran out of memory is taken again (tools/check-faults refuses each growth)
+//     calls      each call of a session for a command answers once: no clause says that memory is left
 //     texts      what no trace can show: texts of exits, of replies that no line gets yet, and of the largest numbers
 //
 // There is nothing here but tests: they stand above all other crates, since they need the whole program. A crate with

@@ -1,4 +1,5 @@
 mod again;
+mod calls;
 mod devices;
 mod gates;
 mod texts;

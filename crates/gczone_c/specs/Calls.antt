@@ -1,6 +1,6 @@
 -- What calls from C do with what a handle leads to, and what C gets: what the calls of `Session` promise, and that the
 -- lists beside the session stay.
-use Rattle.std.specs.Prelude.{◌≡◌, ◌↔◌, ◌⊎◌, ◌≤◌, ℕ, Bool, true, false, Option, None, Some, Result, Ok, Err}
+use Rattle.std.specs.Prelude.{◌≡◌, ◌↔◌, ◌⊎◌, ℕ, Option, None, Some, Result, Ok, Err}
 use Rattle.std.specs.Prelude.{List, [], IfOk, IfSome, IsSome, OnErr, OnOk, length, nat_lt, ◌==◌, if◌then◌else◌}
 use Rattle.std.specs.declared.alloc.AllocError.{AllocError}
 use Rattle.gz_names.specs.Zones.{HasZone}
@@ -10,21 +10,19 @@ use Rattle.gz_names.specs.declared.names.Name.{Name}
 use Rattle.gz_names.specs.declared.names.Name.TheVariants as name
 use Rattle.gz_names.specs.declared.numbers.CompNo.{CompNo}
 use Rattle.colour_defs.specs.World.{World, first_world}
-use Rattle.heap_core.specs.Effects.{takes_memory}
 use Rattle.sweeping.specs.ArenasOut.{flown_by, outs_of}
-use Rattle.slice_driver.specs.Accounts.{Accounts, FreesOn, GivesOn, freed_by, freed_by_report}
+use Rattle.slice_driver.specs.Accounts.{Accounts, FreesOn, freed_by, freed_by_report}
 use Rattle.slice_driver.specs.Begins.{AreMade}
 use Rattle.slice_driver.specs.Collector.{CollectorState}
-use Rattle.slice_driver.specs.Commands.{WantsMemory}
 use Rattle.slice_driver.specs.Represents.{Represents}
+use Rattle.slice_driver.specs.SessionCommands.{SessionDoes}
 use Rattle.slice_driver.specs.Sessions.{AreDumpLines, AreGrayNames, IsNextGray, IsNowhereSettled}
-use Rattle.slice_driver.specs.Sessions.{SessionResets, SessionSteps, counted_in, outcome_of}
-use Rattle.slice_driver.specs.Units.{BeginsIn, BeginsWithin, DoesCommand, RaisesWithin}
+use Rattle.slice_driver.specs.Sessions.{SessionResets, SessionSteps, as_reply, counted_in, replied}
+use Rattle.slice_driver.specs.Units.{BeginsIn, BeginsWithin}
 use Rattle.slice_driver.specs.Working.{IsStill, MayWantMemory}
 use Rattle.slice_driver.specs.declared.begin.BeginFault.{BeginFault}
 use Rattle.slice_driver.specs.declared.begin.BeginFault.TheVariants as begin
 use Rattle.slice_driver.specs.declared.session.SessionFault.{SessionFault}
-use Rattle.slice_driver.specs.declared.session.SessionFault.TheVariants as session
 use Rattle.slice_driver.specs.declared.session.told.SessionReply.{SessionReply}
 use Rattle.slice_driver.specs.declared.session.told.SessionReply.TheVariants as reply
 use Rattle.slice_driver.specs.declared.session.told.SessionReport.{SessionReport}
@@ -115,24 +113,7 @@ command_told (Err why) before = before
 -- a session did a command with this result, and C gets it
 pub record CommandDone (cmd : GraphCmd) (before after : Answer) (status : ℕ) (old new : Held) : Type 0 where
   pub result : Result SessionReply SessionFault
-  pub does : IfSome (outcome_of result) (λ outcome. DoesCommand old.session.collector (flown_by old.session.sweeper)
-      cmd outcome new.session.collector (flown_by new.session.sweeper))
-  pub to_come : IfSome (outcome_of result) (λ outcome. RaisesWithin
-      (counted_in old.session.collector new.session.collector.heap.ledger) (flown_by old.session.sweeper) cmd outcome
-      new.session.collector (flown_by new.session.sweeper))
-  pub accounts : GivesOn old.session.collector (flown_by old.session.sweeper) result new.session.collector
-      (flown_by new.session.sweeper)
-  pub refused : (why : _) → result ≡ Err (session.Refused why)
-      → (new.session.collector ≡ counted_in old.session.collector new.session.collector.heap.ledger)
-      × (flown_by new.session.sweeper ≡ flown_by old.session.sweeper)
-  pub wanted : result ≡ Err session.NoMemory
-      → WantsMemory (counted_in old.session.collector new.session.collector.heap.ledger)
-      (flown_by old.session.sweeper) cmd new.session.collector (flown_by new.session.sweeper)
-  pub sure : takes_memory cmd ≡ false → result ≡ Err session.NoMemory → ⊥
-  pub full : result ≡ Err session.Full → (new.session ≡ old.session)
-      × (4294967295 ≤ old.session.collector.heap.made)
-  pub run : new.session.collector.run ≡ old.session.collector.run
-  pub report : new.session.report ≡ old.session.report
+  pub does : SessionDoes flown_by cmd (replied as_reply result) old.session new.session
   pub lists : KeepsLists old new
   pub status_is : status ≡ command_status result
   pub answer_is : after ≡ command_told result before

@@ -8,7 +8,7 @@ use std::alloc::Global;
 use std::test::Fail;
 use sweeping::MainSweeper;
 
-fn reg(index: u8) -> Reg {
+pub(super) fn reg(index: u8) -> Reg {
     Reg::new(index % 16).unwrap()
 }
 
@@ -16,7 +16,7 @@ fn zone(index: u8) -> ZoneNo {
     ZoneNo::new(index % 64).unwrap()
 }
 
-fn slot(index: u8) -> GrayNo {
+pub(super) fn slot(index: u8) -> GrayNo {
     GrayNo::new(index % 64).unwrap()
 }
 
