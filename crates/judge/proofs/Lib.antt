@@ -4,3 +4,4 @@ pub mod Results
 pub mod Runs
 pub mod Stages
 pub mod Ends
+pub mod Parts

@@ -1,4 +1,5 @@
 pub mod Lines
+pub mod Parts
 pub mod Stages
 pub mod Replies
 pub mod Verdicts

@@ -7,6 +7,7 @@ use Rattle.gz_names.specs.declared.names.Name.{Name}
 use Rattle.gz_names.specs.declared.replies.Report.{Report}
 use Rattle.gz_names.specs.declared.replies.Report.TheVariants as report
 use Rattle.trace_lang.specs.Texts.{report_text}
+use Rattle.judge.specs.Parts.{AreParts}
 use Rattle.judge.specs.declared.collection.Collection.{Collection}
 use Rattle.judge.specs.declared.world.Phase.{Phase}
 use Rattle.judge.specs.declared.world.Phase.TheVariants as phase
@@ -66,12 +67,13 @@ pub record Starts (old new : Shown) : Type 0 where
   pub none_out : old.out ≡ []
   pub new_is : new ≡ record { stage = collecting zones zones None; out = [] }
 
--- the groups are formed, once
+-- the groups are formed, once, and part the zones
 pub record Forms (old : Shown) (groups : List ZoneSet) (new : Shown) : Type 0 where
   pub zones : ZoneSet
   pub marking : ZoneSet
   pub was : old.stage ≡ collecting zones marking None
   pub none_out : old.out ≡ []
+  pub parts : AreParts zones groups
   pub new_is : new ≡ record { stage = collecting zones marking (Some groups); out = [] }
 
 -- the zones of one set without those of another

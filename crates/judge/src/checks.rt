@@ -1,10 +1,11 @@
 // The checks of reports, by the definitions: which report is due, and what is wrong with another one.
-ghost use Rattle.std.specs.Prelude.{◌≡◌, ℕ, [], ◌∷◌, IfNone, IfOk, IfSome, List, OnOk, codes};
+ghost use Rattle.std.specs.Prelude.{◌≡◌, ℕ, [], ◌∷◌, IfNone, IfOk, IfSome, IsTrue, List, OnOk, codes};
 ghost use Rattle.gz_names.specs.declared.names.Name.{Name as AName};
 ghost use Rattle.gz_names.specs.declared.zone_sets.ZoneSet.{ZoneSet as AZoneSet};
 ghost use Rattle.gz_names.specs.declared.replies.Report.TheVariants as the_report;
 ghost use Rattle.trace_lang.specs.Texts.{report_text};
 ghost use Rattle.judge.specs.declared.world.DueReport.TheVariants as due;
+ghost use Rattle.judge.specs.Parts.{AreParts, Fits};
 ghost use Rattle.judge.specs.Stages.{Finishes, Forms, IsDue, IsEndedLine, IsGroupsLine, IsOver, IsReportedLine};
 ghost use Rattle.judge.specs.Stages.{IsResetLine, Starts, Stops, Sweeps, shown, stage_in};
 
@@ -221,12 +222,12 @@ fn judge_edges(
 }
 
 // The groups part the zones of the collection: each zone is in one of them, and no group is empty.
-fn parts(alloc: Global, zones: ZoneSet, groups: &[ZoneSet]) -> Result<Fault, NoMemory> {
+fn parts(alloc: Global, zones: ZoneSet, groups: &[ZoneSet]) -> Result<Fault, NoMemory>
+    ensures { IfOk result (λ fault. IfNone fault (AreParts zones groups.now)) }
+{
     let mut seen = ZoneSet::new();
     for group in groups {
-        let twice = group.intersection(seen);
-        let other = group.without(zones);
-        if group.is_empty() || !twice.is_empty() || !other.is_empty() {
+        if !fits(zones, seen, *group) {
             return Ok(Some(kinds::partition(alloc, zones)?));
         }
         seen = seen.union(*group);
@@ -236,6 +237,19 @@ fn parts(alloc: Global, zones: ZoneSet, groups: &[ZoneSet]) -> Result<Fault, NoM
     } else {
         Ok(Some(kinds::partition(alloc, zones)?))
     }
+}
+
+// Whether a group has zones, all of them among these, and none that was seen before.
+fn fits(zones: ZoneSet, seen: ZoneSet, group: ZoneSet) -> bool
+    ensures { IsTrue result → Fits zones seen group }
+{
+    if group.is_empty() {
+        return false;
+    }
+    if !group.intersection(seen).is_empty() {
+        return false;
+    }
+    group.without(zones).is_empty()
 }
 
 // The zones of a group that edges lead to from one of them, or from which they lead to it.
