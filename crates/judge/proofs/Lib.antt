@@ -5,3 +5,11 @@ pub mod Runs
 pub mod Stages
 pub mod Ends
 pub mod Parts
+pub mod Cells
+pub mod Colours
+pub mod LetGo
+pub mod Formers
+pub mod Follows
+pub mod Found
+pub mod Sound
+pub mod Starts

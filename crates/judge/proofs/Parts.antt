@@ -1,6 +1,6 @@
 -- Groups are added one after another.
 use Rattle.std.proofs.Common.{◌≡◌, ◌⊎◌, ◌↔◌, ◌∙◌, ℕ, ◌+◌, ◌/◌, ◌^◌, ◌<◌, ◌≤◌, inl, inr, Bool, true, false, List, []}
-use Rattle.std.proofs.Common.{◌∷◌, ◌++◌, length, get_or, take, Contains, IsTrue, refl, ap, subst, sym, arith}
+use Rattle.std.proofs.Common.{◌∷◌, ◌++◌, length, get_or, take, refl, ap, subst, sym, arith}
 use Rattle.std.specs.Prelude.{bit_and, nat_eq}
 use Rattle.std.proofs.lemmas.List.{take_all, take_more}
 use Rattle.std.proofs.lemmas.List.Elements.{Contains-append_left, Contains-get_or, Contains-push, Contains-push_cases}

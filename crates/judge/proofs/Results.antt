@@ -1,6 +1,6 @@
 -- What holds of a call's result that is returned as it is.
 use Rattle.std.proofs.Common.{Result, Ok, Err, Option, Some, None, IfOk}
-use Rattle.std.specs.Prelude.{IfNone}
+use Rattle.std.specs.Prelude.{IfNone, OnOk}
 
 -- two clauses together
 pub both_ok : {X E : Type 0} (r : Result X E) (P Q R : X → Type 0) → ((x : X) → P x → Q x → R x) → IfOk r P → IfOk r Q
@@ -14,3 +14,20 @@ pub no_fault : {K E A B : Type 0} (r : Result (Option K) E) → (A → B) → If
 no_fault (Ok None) f p = f p
 no_fault (Ok (Some k)) f p = tt
 no_fault (Err e) f p = tt
+
+-- a clause that holds whatever the result
+pub on_ok_known : {X E P : Type 0} (r : Result X E) → P → OnOk r P
+on_ok_known (Ok x) p = p
+on_ok_known (Err e) p = tt
+
+pub none_known : {K X P : Type 0} (r : Result (Option K) X) → P → IfOk r (λ fault. IfNone fault P)
+none_known (Ok None) p = p
+none_known (Ok (Some k)) p = tt
+none_known (Err e) p = tt
+
+-- two clauses together, where there is no fault
+pub none_both : {K X A B C : Type 0} (r : Result (Option K) X) → (A → B → C) → IfOk r (λ fault. IfNone fault A)
+    → IfOk r (λ fault. IfNone fault B) → IfOk r (λ fault. IfNone fault C)
+none_both (Ok None) f a b = f a b
+none_both (Ok (Some k)) f a b = tt
+none_both (Err e) f a b = tt

@@ -4,7 +4,7 @@ use Rattle.std.specs.Io.KnownBytes.{prepend_known}
 use Rattle.gz_io.specs.Lines.{EndsLine}
 use Rattle.colour_defs.specs.Graph.{GraphState, empty_graph}
 use Rattle.judge.specs.Lines.{GivesKnownLine, GivesLine, IsOneLine}
-use Rattle.judge.specs.Stages.{Shown, idle}
+use Rattle.judge.specs.Stages.{Shown, IsFirst}
 use Rattle.judge.specs.Replies.{Due, nothing, reply, dump, units, resets, Judged, none, due_as}
 use Rattle.judge.specs.Verdicts.{HasJudged, IsBadLine, IsCut, IsFirstBad, IsFirstWrong, IsJudgedWhole, IsNext}
 use Rattle.judge.specs.Verdicts.{IsWrongLine}
@@ -28,11 +28,11 @@ none_held held left input e f =
     subst (λ h. prepend_known h left ≡ Some input) (sym e) (subst (λ o. prepend_known [] o ≡ Some input) (sym f) refl)
 
 -- nothing was read yet
-pub start_judged : (input : List ℕ) (g : GraphState) (s : Shown) (due : Due) → g ≡ empty_graph
-    → s ≡ record { stage = idle; out = [] } → due ≡ nothing → Judged input 0 input g s due
-start_judged input g s due e r f =
-    subst (λ h. Judged input 0 input h s due) (sym e) (subst (λ t. Judged input 0 input empty_graph t due) (sym r)
-    (subst (λ d. Judged input 0 input empty_graph (record { stage = idle; out = [] }) d) (sym f) none))
+pub start_judged : (input : List ℕ) (g : GraphState) (s : Shown) (due : Due) → g ≡ empty_graph → IsFirst s
+    → due ≡ nothing → Judged input 0 input g s due
+start_judged input g s due e first f =
+    subst (λ h. Judged input 0 input h s due) (sym e)
+    (subst (λ d. Judged input 0 input empty_graph s d) (sym f) (none first))
 
 -- something is due where something is awaited
 pub some_due : (a : Awaited) → (a ≡ awaited.Nothing → ⊥) → due_as a ≡ nothing → ⊥

@@ -1,10 +1,17 @@
 -- Which report is due, and whether the collection is over.
-use Rattle.std.proofs.Common.{◌≡◌, ◌∙◌, ℕ, ◌-◌, List, [], ◌∷◌, ◌++◌, length, Option, Some, refl, sym, ap}
-use Rattle.std.proofs.Common.{subst, arith, length-append}
+use Rattle.std.proofs.Common.{◌≡◌, ◌↔◌, ◌∙◌, ℕ, ◌-◌, false, IsTrue, List, [], ◌∷◌, ◌++◌, length, Option, Some, None}
+use Rattle.std.proofs.Common.{refl, sym, ap, subst, arith, length-append}
 use Rattle.std.specs.Prelude.{reverse, slice_get, IfSome}
 use Rattle.std.proofs.lemmas.List.{reverse-append, reverse-reverse}
 use Rattle.std.proofs.lemmas.Option.{MatchOption-from_none}
-use Rattle.judge.specs.Stages.{Shown, IsDue, IsDueOf, IsOver}
+use Rattle.gz_names.specs.declared.zone_sets.ZoneSet.{ZoneSet}
+use Rattle.judge.specs.Stages.{Shown, Stage, HasGroups, IsDue, IsDueOf, IsOver, collecting, preparing, stage_of}
+use Rattle.judge.specs.Walks.{Walks}
+use Rattle.judge.specs.declared.former.Former.{Former}
+use Rattle.judge.specs.declared.collection.Collection.{Collection}
+use Rattle.judge.specs.declared.preparation.Preparation.{Preparation}
+use Rattle.judge.specs.declared.world.Phase.{Phase}
+use Rattle.judge.specs.declared.world.Phase.TheVariants as phase
 use Rattle.judge.specs.declared.world.DueReport.{DueReport}
 use Rattle.judge.specs.declared.world.DueReport.TheVariants as due
 
@@ -57,3 +64,25 @@ last_first xs r e = at (reverse xs) refl
 pub some_first : {X : Type 0} (xs : List X) → (length xs ≡ 0 → ⊥) → (x : X) × (rest : List X) × (xs ≡ x ∷ rest)
 some_first [] some = absurd (some refl)
 some_first (x ∷ xs) some = (x, xs, refl)
+
+-- a collection that is being prepared
+pub not_preparing : (p : Phase) (zones : ZoneSet) → ((q : Preparation) → p ≡ phase.Preparing q → ⊥)
+    → stage_of p ≡ preparing zones → ⊥
+not_preparing phase.Idle zones n e = cc e
+not_preparing (phase.Preparing q) zones n e = n q refl
+not_preparing (phase.Collecting k) zones n e = cc e
+
+-- marking has begun
+pub started_is : (old new : Shown) (f : Former) (zones : ZoneSet) (s : Stage) (w : Walks)
+    → new ≡ record old { stage = s; former = f; walks = Some w } → s ≡ collecting zones zones None
+    → new ≡ record old { stage = collecting zones zones None; former = new.former; walks = Some w }
+started_is old new f zones s w e stage = e
+    ∙ ap (λ (k : Stage). record old { stage = k; former = f; walks = Some w }) stage
+    ∙ ap (λ (h : Former). record old { stage = collecting zones zones None; former = h; walks = Some w })
+    (sym (ap (λ (t : Shown). t.former) e))
+
+-- no groups are left where none is marking
+pub none_left : (p : Phase) → ((k : Collection) → p ≡ phase.Collecting k → ⊥) → IsTrue false ↔ HasGroups (stage_of p)
+none_left phase.Idle n = (λ t. absurd (cc t), λ h. absurd h)
+none_left (phase.Preparing q) n = (λ t. absurd (cc t), λ h. absurd h)
+none_left (phase.Collecting k) n = absurd (n k refl)

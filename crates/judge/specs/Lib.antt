@@ -1,5 +1,10 @@
 pub mod Lines
+pub mod Former
+pub mod Walks
+pub mod Cells
+pub mod Starts
 pub mod Parts
 pub mod Stages
+pub mod Sound
 pub mod Replies
 pub mod Verdicts

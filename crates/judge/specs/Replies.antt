@@ -18,8 +18,8 @@ use Rattle.colour_defs.specs.Step.{step_of}
 use Rattle.trace_lang.specs.Grammar.{Spells}
 use Rattle.trace_lang.specs.Texts.{reply_text}
 use Rattle.judge.specs.Lines.{IsOneLine}
-use Rattle.judge.specs.Stages.{Stage, idle, preparing, collecting, Shown, IsOver, IsSettled, IsReportedLine}
-use Rattle.judge.specs.Stages.{IsResetLine}
+use Rattle.judge.specs.Stages.{Stage, idle, preparing, collecting, Shown, IsFirst, IsOver, IsSettled, IsReportedLine}
+use Rattle.judge.specs.Stages.{IsResetLine, Obeys}
 use Rattle.judge.specs.declared.answers.Awaited.{Awaited}
 use Rattle.judge.specs.declared.answers.Awaited.TheVariants as awaited
 
@@ -62,7 +62,8 @@ IsRefusal g zones s why =
 abbrev pub Begins : GraphState → ZoneSet → Due → Shown → Due → Shown → Type 0
 Begins g zones begun old due new =
     ((why : Refusal) × IsRefusal g zones old.stage why × (due ≡ refused why) × (new ≡ old))
-    ⊎ ((old.stage ≡ idle) × AreMade g zones × (due ≡ begun) × (new ≡ record { stage = preparing zones; out = old.out }))
+    ⊎ ((old.stage ≡ idle) × AreMade g zones × (due ≡ begun)
+    × (new ≡ record old { stage = preparing zones; walks = None }))
 
 -- what is due for `slice`, `finish` and `reset`: `idle` where no collection runs
 abbrev pub GoesOn : Due → Stage → Due → Type 0
@@ -81,7 +82,8 @@ Dumps s due =
 
 -- what is due for a command, by what the world shows before it and after it. The last two are no lines of the language
 abbrev pub Asks : GraphState → Shown → Cmd → Due → Shown → Type 0
-Asks g old (command.Graph c) due new = (due ≡ reply (reply_text (step_of g c).1)) × (new ≡ old)
+Asks g old (command.Graph c) due new =
+    (due ≡ reply (reply_text (step_of g c).1)) × Obeys g c old new
 Asks g old (command.Gc zones) due new = Begins g zones (begun_due false) old due new
 Asks g old (command.Slice n) due new = GoesOn (units (Some n) false) old.stage due × (new ≡ old)
 Asks g old command.Finish due new = GoesOn (units None false) old.stage due × (new ≡ old)
@@ -133,14 +135,14 @@ after_reset (preparing zones) = resets
 after_reset (collecting zones marking groups) = resets
 
 -- what may be due after a line of an answer, by what the world shows before the line and after it
-abbrev pub IsAnswered : Shown → Due → List ℕ → Shown → Due → Type 0
-IsAnswered old nothing line new next = ⊥
-IsAnswered old (reply due) line new next = (line ≡ due) × (next ≡ nothing) × (new ≡ old)
-IsAnswered old (dump lines) line new next = IsDumped lines line next × (new ≡ old)
-IsAnswered old (units most collects) line new next =
-    (IsReportedLine old line new × (next ≡ units most collects))
+abbrev pub IsAnswered : GraphState → Shown → Due → List ℕ → Shown → Due → Type 0
+IsAnswered g old nothing line new next = ⊥
+IsAnswered g old (reply due) line new next = (line ≡ due) × (next ≡ nothing) × (new ≡ old)
+IsAnswered g old (dump lines) line new next = IsDumped lines line next × (new ≡ old)
+IsAnswered g old (units most collects) line new next =
+    (IsReportedLine g old line new × (next ≡ units most collects))
     ⊎ (IsLast most collects old line × (next ≡ nothing) × (new ≡ old))
-IsAnswered old resets line new next = IsResetLine old line new × (next ≡ after_reset new.stage)
+IsAnswered g old resets line new next = IsResetLine old line new × (next ≡ after_reset new.stage)
 
 -- a line that may be wrong where this is due. Of the lines of collections nothing is said
 abbrev pub MayBeWrong : Due → List ℕ → Type 0
@@ -159,24 +161,24 @@ due_as (awaited.Units running) = units running.most running.collects
 due_as awaited.Reset = resets
 
 -- what is said of a line of an answer: what is awaited after it, or that it is wrong
-abbrev pub IsJudgedLine : {K : Type 0} → Shown → Due → List ℕ → Shown → Result Awaited K → Type 0
-IsJudgedLine old due line new (Ok awaited) = IsAnswered old due line new (due_as awaited)
-IsJudgedLine old due line new (Err kind) = MayBeWrong due line
+abbrev pub IsJudgedLine : {K : Type 0} → GraphState → Shown → Due → List ℕ → Shown → Result Awaited K → Type 0
+IsJudgedLine g old due line new (Ok awaited) = IsAnswered g old due line new (due_as awaited)
+IsJudgedLine g old due line new (Err kind) = MayBeWrong due line
 
 -- n lines come first, the rest is left; the commands among them lead to this graph, each has behind it what is due for
 -- it; this is what the world shows then, and this is due
 pub data Judged (input : List ℕ) : ℕ → List ℕ → GraphState → Shown → Due → Type 0 where
-  none : Judged input 0 input empty_graph (record { stage = idle; out = [] }) nothing
+  none : {s : Shown} → IsFirst s → Judged input 0 input empty_graph s nothing
   asked : {n : ℕ} {rest more line text : List ℕ} {g : GraphState} {c : Cmd} {old new : Shown} {due : Due}
       → Judged input n rest g old nothing → IsOneLine line → EndsLine rest more line → line ≡ marked text
       → Spells text c → Asks g old c due new → Judged input (n + 1) more (graph_after g c) new due
   answered : {n : ℕ} {rest more line : List ℕ} {g : GraphState} {due next : Due} {old new : Shown}
       → Judged input n rest g old due → IsOneLine line → EndsLine rest more line → IsUnmarked line
-      → IsAnswered old due line new next → Judged input (n + 1) more g new next
+      → IsAnswered g old due line new next → Judged input (n + 1) more g new next
 
 -- a line that is fine: the graph after it, what the world shows, and what is due then
 abbrev pub Steps : GraphState → Shown → Due → List ℕ → GraphState → Shown → Due → Type 0
 Steps g old due line h new next =
     ((text : List ℕ) × (c : Cmd) × (due ≡ nothing) × (line ≡ marked text) × Spells text c × (h ≡ graph_after g c)
     × Asks g old c next new)
-    ⊎ (IsUnmarked line × (h ≡ g) × IsAnswered old due line new next)
+    ⊎ (IsUnmarked line × (h ≡ g) × IsAnswered g old due line new next)

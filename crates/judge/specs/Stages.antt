@@ -1,13 +1,21 @@
 -- How far a collection is, by its zones, its groups and the arenas that are out; and what a report makes of it.
-use Rattle.std.specs.Prelude.{◌≡◌, ◌↔◌, ℕ, List, [], ◌∷◌, reverse, Option, Some, None, Vec}
+use Rattle.std.specs.Prelude.{◌≡◌, ◌↔◌, ℕ, List, [], ◌∷◌, ◌++◌, false, reverse, Option, Some, None, Vec, ⊤}
 use Rattle.std.specs.declared.alloc.Global.{Global}
-use Rattle.gz_names.specs.Zones.{HasZone}
+use Rattle.gz_names.specs.Zones.{HasZone, zones_in}
 use Rattle.gz_names.specs.declared.zone_sets.ZoneSet.{ZoneSet}
 use Rattle.gz_names.specs.declared.names.Name.{Name}
 use Rattle.gz_names.specs.declared.replies.Report.{Report}
 use Rattle.gz_names.specs.declared.replies.Report.TheVariants as report
+use Rattle.gz_names.specs.declared.commands.GraphCmd.{GraphCmd}
+use Rattle.colour_defs.specs.Graph.{GraphState, empty_graph}
+use Rattle.colour_defs.specs.Step.{step_of}
 use Rattle.trace_lang.specs.Texts.{report_text}
+use Rattle.judge.specs.Cells.{Cells, Colours, GivesPlaces, wakes}
+use Rattle.judge.specs.Former.{IsFormer, Keeps, Releases, Takes}
 use Rattle.judge.specs.Parts.{AreParts}
+use Rattle.judge.specs.Starts.{IsBegun}
+use Rattle.judge.specs.Walks.{CatchUp, CatchesUp, Walks, walks_of}
+use Rattle.judge.specs.declared.former.Former.{Former}
 use Rattle.judge.specs.declared.collection.Collection.{Collection}
 use Rattle.judge.specs.declared.world.Phase.{Phase}
 use Rattle.judge.specs.declared.world.Phase.TheVariants as phase
@@ -22,10 +30,14 @@ pub data Stage : Type 0 where
   preparing : ZoneSet → Stage
   collecting : ZoneSet → ZoneSet → Option (List ZoneSet) → Stage
 
--- a stage, and the arenas that are out, the lowest first
+-- a stage, the arenas that are out, the lowest first, the present cells, the graph as it stood when marking began, and
+-- what was found since
 pub record Shown : Type 0 where
   pub stage : Stage
   pub out : List ℕ
+  pub cells : Cells
+  pub former : Former
+  pub walks : Option Walks
 
 abbrev pub groups_in : Option (Vec ZoneSet Global) → Option (List ZoneSet)
 groups_in None = None
@@ -41,7 +53,22 @@ stage_of (phase.Collecting k) = stage_in k
 
 -- what the judge's world shows of a collection
 abbrev pub shown : World → Shown
-shown w = record { stage = stage_of w.phase; out = reverse w.arenas.out.items }
+shown w = record {
+  stage = stage_of w.phase;
+  out = reverse w.arenas.out.items;
+  cells = w.places;
+  former = w.former;
+  walks = walks_of w.phase;
+}
+
+-- nothing has happened yet
+pub record IsFirst (s : Shown) : Type 0 where
+  pub none_running : s.stage ≡ idle
+  pub none_out : s.out ≡ []
+  pub none_made : s.cells.entries ≡ []
+  pub former : IsFormer s.former empty_graph
+  pub taken : s.former.is_kept ≡ false
+  pub none_found : s.walks ≡ None
 
 -- the zones that are being prepared or are marking
 abbrev pub unfinished_in : Stage → ZoneSet
@@ -53,6 +80,28 @@ unfinished_in (collecting zones marking groups) = marking
 abbrev pub IsSettled : Stage → Type 0
 IsSettled s = (unfinished_in s).bits ≡ 0
 
+-- a name is woken while zones are marking
+pub record IsWoken (s : Stage) (x : Name) (old new : Walks) : Type 0 where
+  pub marking : (IsSettled s → ⊥) → new.woken ≡ old.woken ++ x ∷ []
+  pub settled : IsSettled s → new.woken ≡ old.woken
+  pub rest : new ≡ record old { woken = new.woken }
+
+abbrev pub Wakes : Stage → Name → Option Walks → Option Walks → Type 0
+Wakes s x None new = new ≡ None
+Wakes s x (Some w) new = (after : Walks) × (new ≡ Some after) × IsWoken s x w after
+
+abbrev pub WakesAny : Stage → Option Name → Option Walks → Option Walks → Type 0
+WakesAny s None old new = new ≡ old
+WakesAny s (Some x) old new = Wakes s x old new
+
+-- a command on the graph
+pub record Obeys (g : GraphState) (c : GraphCmd) (old new : Shown) : Type 0 where
+  pub places : GivesPlaces (step_of g c).0 (wakes g c) old.cells new.cells
+  pub takes : Takes c old.former new.former
+  pub walks : WakesAny old.stage (wakes g c) old.walks new.walks
+  pub stage_is : new.stage ≡ old.stage
+  pub out_is : new.out ≡ old.out
+
 -- all groups have ended, and no arena is out
 pub record IsOver (s : Shown) : Type 0 where
   pub zones : ZoneSet
@@ -60,12 +109,20 @@ pub record IsOver (s : Shown) : Type 0 where
   pub ended : s.stage ≡ collecting zones marking (Some [])
   pub none_out : s.out ≡ []
 
+-- the marking of these zones begins
+pub record IsStarted (g : GraphState) (zones : ZoneSet) (old new : Shown) : Type 0 where
+  pub walks : Walks
+  pub begun : IsBegun g (zones_in zones) old.cells walks
+  pub keeps : Keeps old.former new.former
+  pub new_is : new
+      ≡ record old { stage = collecting zones zones None; former = new.former; walks = Some walks }
+
 -- marking begins
-pub record Starts (old new : Shown) : Type 0 where
+pub record Starts (g : GraphState) (old new : Shown) : Type 0 where
   pub zones : ZoneSet
   pub was : old.stage ≡ preparing zones
   pub none_out : old.out ≡ []
-  pub new_is : new ≡ record { stage = collecting zones zones None; out = [] }
+  pub started : IsStarted g zones old new
 
 -- the groups are formed, once, and part the zones
 pub record Forms (old : Shown) (groups : List ZoneSet) (new : Shown) : Type 0 where
@@ -74,7 +131,7 @@ pub record Forms (old : Shown) (groups : List ZoneSet) (new : Shown) : Type 0 wh
   pub was : old.stage ≡ collecting zones marking None
   pub none_out : old.out ≡ []
   pub parts : AreParts zones groups
-  pub new_is : new ≡ record { stage = collecting zones marking (Some groups); out = [] }
+  pub new_is : new ≡ record old { stage = collecting zones marking (Some groups); walks = new.walks }
 
 -- the zones of one set without those of another
 abbrev pub AreWithout : ZoneSet → ZoneSet → ZoneSet → Type 0
@@ -90,46 +147,74 @@ pub record Ends (old : Stage) (group : ZoneSet) (new : Stage) : Type 0 where
   pub after_are : AreWithout marking group after
   pub new_is : new ≡ collecting zones after (Some rest)
 
+-- the marking of a collection is not over: it has groups that have not ended, or has none yet
+abbrev pub HasGroups : Stage → Type 0
+HasGroups idle = ⊥
+HasGroups (preparing zones) = ⊥
+HasGroups (collecting zones marking None) = ⊤
+HasGroups (collecting zones marking (Some [])) = ⊥
+HasGroups (collecting zones marking (Some (group ∷ rest))) = ⊤
+
+-- what was found is kept while groups are left. After that the former graph takes the commands that it has not taken
+pub record GoesOn (old : Shown) (walks : Walks) (new : Shown) : Type 0 where
+  pub after : Walks
+  pub caught : CatchesUp old.former.graph walks after
+  pub left : HasGroups new.stage → (new.walks ≡ Some after) × (new.former ≡ old.former)
+  pub over : (HasGroups new.stage → ⊥) → Releases old.former new.former
+
+-- the first group that has not ended ends: its gray cells are named, its white ones are present no longer
+pub record EndsGroup (g : GraphState) (old : Shown) (group : ZoneSet) (grays : List Name) (new : Shown) : Type 0 where
+  pub none_out : old.out ≡ []
+  pub ends : Ends old.stage group new.stage
+  pub walks : Walks
+  pub found : old.walks ≡ Some walks
+  pub colours : Colours g (zones_in group) old.former.graph walks old.cells grays new.cells
+  pub goes_on : GoesOn old walks new
+
 -- the lowest arena that is out is taken in
 pub record Sweeps (old : Shown) (arena : ℕ) (new : Shown) : Type 0 where
   pub rest : List ℕ
   pub first : old.out ≡ arena ∷ rest
-  pub new_is : new ≡ record { stage = old.stage; out = rest }
+  pub new_is : new ≡ record old { out = rest }
 
 -- a collection that is over runs no longer
 pub record Finishes (old new : Shown) : Type 0 where
   pub over : IsOver old
-  pub new_is : new ≡ record { stage = idle; out = [] }
+  pub releases : Releases old.former new.former
+  pub new_is : new ≡ record old { stage = idle; former = new.former; walks = None }
 
 -- a collection that is not over is given up, with no arena out, while these zones are being prepared or are marking
 pub record Stops (old : Shown) (zones : ZoneSet) (new : Shown) : Type 0 where
   pub none_out : old.out ≡ []
   pub not_over : IsOver old → ⊥
   pub zones_are : zones ≡ unfinished_in old.stage
-  pub new_is : new ≡ record { stage = idle; out = [] }
+  pub releases : Releases old.former new.former
+  pub new_is : new ≡ record old { stage = idle; former = new.former; walks = None }
 
 -- a report of a unit
-abbrev pub IsReported : Shown → Report → Shown → Type 0
-IsReported old report.Started new = Starts old new
-IsReported old (report.Groups groups) new = Forms old groups new
-IsReported old (report.Ended group grays told) new = (old.out ≡ []) × (told ≡ []) × Ends old.stage group new.stage
-IsReported old (report.Swept arena freed) new = Sweeps old arena new
-IsReported old report.Done new = Finishes old new
-IsReported old (report.Stopped zones) new = ⊥
+abbrev pub IsReported : GraphState → Shown → Report → Shown → Type 0
+IsReported g old report.Started new = Starts g old new
+IsReported g old (report.Groups groups) new =
+    Forms old groups new × CatchUp old.former.graph old.walks new.walks
+IsReported g old (report.Ended group grays told) new = (told ≡ []) × EndsGroup g old group grays new
+IsReported g old (report.Swept arena freed) new = Sweeps old arena new
+IsReported g old report.Done new = Finishes old new
+IsReported g old (report.Stopped zones) new = ⊥
 
 -- a line that is a report of a unit
-abbrev pub IsReportedLine : Shown → List ℕ → Shown → Type 0
-IsReportedLine old line new = (r : Report) × (line ≡ report_text r) × IsReported old r new
+abbrev pub IsReportedLine : GraphState → Shown → List ℕ → Shown → Type 0
+IsReportedLine g old line new = (r : Report) × (line ≡ report_text r) × IsReported g old r new
 
 -- a line by which the groups are formed, and one by which a group ends
 abbrev pub IsGroupsLine : Shown → List ℕ → Shown → Type 0
 IsGroupsLine old line new =
     (groups : List ZoneSet) × (line ≡ report_text (report.Groups groups)) × Forms old groups new
+    × CatchUp old.former.graph old.walks new.walks
 
-abbrev pub IsEndedLine : Shown → List ℕ → Shown → Type 0
-IsEndedLine old line new =
+abbrev pub IsEndedLine : GraphState → Shown → List ℕ → Shown → Type 0
+IsEndedLine g old line new =
     (group : ZoneSet) × (grays : List Name) × (line ≡ report_text (report.Ended group grays []))
-    × Ends old.stage group new.stage
+    × EndsGroup g old group grays new
 
 -- a report of a reset
 abbrev pub IsResetReport : Shown → Report → Shown → Type 0

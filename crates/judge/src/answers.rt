@@ -2,9 +2,11 @@
 ghost use Rattle.std.specs.Prelude.{◌≡◌, ◌≢◌, ◌↔◌, ℕ, Bool, IfNone, IfOk, IfSome, IsTrue, List, None, OnOk, Some};
 ghost use Rattle.std.specs.Prelude.{codes, drop, false, true, ◌∷◌, []};
 ghost use Rattle.gz_names.specs.declared.replies.Reply.TheVariants as the_reply;
+ghost use Rattle.colour_defs.specs.Graph.{GraphState};
 ghost use Rattle.colour_defs.specs.Step.{step_of};
 ghost use Rattle.trace_lang.specs.Texts.{reply_text};
-ghost use Rattle.judge.specs.Stages.{IsReportedLine, IsResetLine, IsOver, Shown, idle, shown, stage_of};
+ghost use Rattle.judge.specs.Sound.{IsSound};
+ghost use Rattle.judge.specs.Stages.{IsReportedLine, IsResetLine, IsOver, Obeys, Shown, idle, shown, stage_of};
 ghost use Rattle.judge.specs.Replies.{Asks, Begins, Dumps, GoesOn, IsJudgedLine, IsLast, IsWithin, ListsGray};
 ghost use Rattle.judge.specs.Replies.{after_reset, begun_due, due_as, dump as dump_of, graph_after, nothing, reply};
 ghost use Rattle.judge.specs.Replies.{resets, units as units_of};
@@ -80,7 +82,7 @@ pub fn begin_answer(
 fn follow(graph: &mut Graph, world: &mut World, command: &GraphCmd) -> Result<Awaited, NoMemory>
     ensures due { IfOk result (λ awaited. due_as awaited ≡ reply (reply_text (step_of graph.old command.now).1)) }
     ensures graph { OnOk result (graph.new ≡ (step_of graph.old command.now).0) }
-    ensures same { OnOk result (shown world.new ≡ shown world.old) }
+    ensures obeys { OnOk result (Obeys graph.old command.now (shown world.old) (shown world.new)) }
 {
     let reply = step(world.alloc, graph, command)?;
     world.follow(graph, command, &reply)?;
@@ -200,7 +202,8 @@ pub fn judge_line(
     awaited: Awaited,
     text: &[u8],
 ) -> Result<Judgement, NoMemory>
-    ensures { IfOk result (IsJudgedLine (shown world.old) (due_as awaited) text.now (shown world.new)) }
+    requires { IsSound graph.now (shown world.old) }
+    ensures { IfOk result (IsJudgedLine graph.now (shown world.old) (due_as awaited) text.now (shown world.new)) }
 {
     match awaited {
         Awaited::Nothing => too_many(world),
@@ -213,14 +216,16 @@ pub fn judge_line(
 
 // A line that comes where none is due.
 fn too_many(world: &World) -> Result<Judgement, NoMemory>
-    ensures { IfOk result (λ it. (s : Shown) (line : List ℕ) → IsJudgedLine s nothing line s it) }
+    ensures { IfOk result (λ it. (g : GraphState) (s : Shown) (line : List ℕ)
+        → IsJudgedLine g s nothing line s it) }
 {
     let kind = kinds::said(world.alloc, b"end, no line is due")?;
     Ok(Err(kind))
 }
 
 fn reply_line(world: &World, wanted: Vec<u8>, text: &[u8]) -> Result<Judgement, NoMemory>
-    ensures { IfOk result (λ it. (s : Shown) → IsJudgedLine s (reply wanted.items) text.now s it) }
+    ensures { IfOk result (λ it. (g : GraphState) (s : Shown)
+        → IsJudgedLine g s (reply wanted.items) text.now s it) }
 {
     if is_same(text, wanted.as_slice()) {
         return Ok(Ok(Awaited::Nothing));
@@ -235,8 +240,8 @@ fn dump_line(
     next: usize,
     text: &[u8],
 ) -> Result<Judgement, NoMemory>
-    ensures { IfOk result (λ it. (s : Shown)
-        → IsJudgedLine s (dump_of (drop next lines.items)) text.now s it) }
+    ensures { IfOk result (λ it. (g : GraphState) (s : Shown)
+        → IsJudgedLine g s (dump_of (drop next lines.items)) text.now s it) }
 {
     let Some(line) = lines.get(next).copied() else {
         let kind = kinds::said(world.alloc, b"end, no line is due")?;
@@ -260,7 +265,8 @@ fn units_line(
     running: Running,
     text: &[u8],
 ) -> Result<Judgement, NoMemory>
-    ensures { IfOk result (IsJudgedLine (shown world.old) (units_of running.most running.collects) text.now
+    requires { IsSound graph.now (shown world.old) }
+    ensures { IfOk result (IsJudgedLine graph.now (shown world.old) (units_of running.most running.collects) text.now
         (shown world.new)) }
 {
     if is_last(running, text) {
@@ -276,7 +282,7 @@ fn units_line(
 }
 
 fn reset_line(graph: &Graph, world: &mut World, text: &[u8]) -> Result<Judgement, NoMemory>
-    ensures { IfOk result (IsJudgedLine (shown world.old) resets text.now (shown world.new)) }
+    ensures { IfOk result (IsJudgedLine graph.now (shown world.old) resets text.now (shown world.new)) }
 {
     if let Some(kind) = checks::judge_reset(graph, world, text)? {
         return Ok(Err(kind));
@@ -324,7 +330,9 @@ fn next_report(
     running: Running,
     text: &[u8],
 ) -> Result<Fault, NoMemory>
-    ensures { IfOk result (λ fault. IfNone fault (IsReportedLine (shown world.old) text.now (shown world.new))) }
+    requires { IsSound graph.now (shown world.old) }
+    ensures { IfOk result (λ fault. IfNone fault (IsReportedLine graph.now (shown world.old) text.now
+        (shown world.new))) }
 {
     if !world.is_running() {
         let words: &[u8] = if running.collects {

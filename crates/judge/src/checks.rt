@@ -6,6 +6,8 @@ ghost use Rattle.gz_names.specs.declared.replies.Report.TheVariants as the_repor
 ghost use Rattle.trace_lang.specs.Texts.{report_text};
 ghost use Rattle.judge.specs.declared.world.DueReport.TheVariants as due;
 ghost use Rattle.judge.specs.Parts.{AreParts, Fits};
+ghost use Rattle.judge.specs.Sound.{IsSound};
+ghost use Rattle.judge.specs.Walks.{CatchUp, CatchesUp, walks_in, walks_of};
 ghost use Rattle.judge.specs.Stages.{Finishes, Forms, IsDue, IsEndedLine, IsGroupsLine, IsOver, IsReportedLine};
 ghost use Rattle.judge.specs.Stages.{IsResetLine, Starts, Stops, Sweeps, shown, stage_in};
 
@@ -25,7 +27,9 @@ pub type Fault = Option<Vec<u8>>;
 
 /// Judges a line as the next report of a unit, and does what the report does.
 pub fn judge_report(graph: &Graph, world: &mut World, line: &[u8]) -> Result<Fault, NoMemory>
-    ensures { IfOk result (λ fault. IfNone fault (IsReportedLine (shown world.old) line.now (shown world.new))) }
+    requires { IsSound graph.now (shown world.old) }
+    ensures { IfOk result (λ fault. IfNone fault (IsReportedLine graph.now (shown world.old) line.now
+        (shown world.new))) }
 {
     match world.due_report() {
         DueReport::Idle => none_due(world),
@@ -59,7 +63,7 @@ fn none_due(world: &World) -> Result<Fault, NoMemory>
 fn started(graph: &Graph, world: &mut World, line: &[u8]) -> Result<Fault, NoMemory>
     requires { IsDue due.Started (shown world.old) }
     ensures { IfOk result (λ fault. IfNone fault ((line.now ≡ codes "started")
-        × Starts (shown world.old) (shown world.new))) }
+        × Starts graph.now (shown world.old) (shown world.new))) }
 {
     if is_same(line, b"started") {
         world.start(graph)?;
@@ -88,7 +92,7 @@ fn done(world: &mut World, line: &[u8]) -> Result<Fault, NoMemory>
         × Finishes (shown world.old) (shown world.new))) }
 {
     if is_same(line, b"done") {
-        world.finish();
+        world.finish()?;
         return Ok(None);
     }
     Ok(Some(kinds::due(world.alloc, b"report", b"done")?))
@@ -121,13 +125,15 @@ fn swept(world: &mut World, arena: u32, line: &[u8]) -> Result<Fault, NoMemory>
 }
 
 // A copy of names for a report.
-fn listed(names: &[Name], world: &World) -> Result<NameList, NoMemory> {
+fn listed(names: &[Name], world: &World) -> Result<NameList, NoMemory>
+    ensures { IfOk result (λ list. list ≡ names.now) }
+{
     Ok(NameList::from_vec(Vec::from_slice(world.alloc, names)?))
 }
 
 fn ended_text(world: &World, end: &GroupEnd) -> Result<Vec<u8>, NoMemory>
-    ensures { IfOk result (λ text. (grays : List AName)
-        × (text.items ≡ report_text (the_report.Ended end.now.zones grays []))) }
+    ensures { IfOk result (λ text.
+        text.items ≡ report_text (the_report.Ended end.now.zones end.now.grays.items [])) }
 {
     let grays = listed(end.grays.as_slice(), world)?;
     let report = Report::Ended(end.zones, grays, NameList::new(world.alloc));
@@ -135,8 +141,10 @@ fn ended_text(world: &World, end: &GroupEnd) -> Result<Vec<u8>, NoMemory>
 }
 
 fn ended(graph: &Graph, world: &mut World, line: &[u8]) -> Result<Fault, NoMemory>
-    requires { IsDue due.Ended (shown world.old) }
-    ensures { IfOk result (λ fault. IfNone fault (IsEndedLine (shown world.old) line.now (shown world.new))) }
+    requires due { IsDue due.Ended (shown world.old) }
+    requires sound { IsSound graph.now (shown world.old) }
+    ensures { IfOk result (λ fault. IfNone fault (IsEndedLine graph.now (shown world.old) line.now
+        (shown world.new))) }
 {
     let Some(end) = world.group_end(graph)? else {
         return none_due(world);
@@ -181,7 +189,9 @@ fn formed(graph: &Graph, world: &mut World, line: &[u8]) -> Result<Fault, NoMemo
 // Judges the groups of a line, and forms them if nothing is wrong with them.
 fn form(graph: &Graph, world: &mut World, groups: Vec<ZoneSet>) -> Result<Fault, NoMemory>
     requires { IsDue due.Groups (shown world.old) }
-    ensures { IfOk result (λ fault. IfNone fault (Forms (shown world.old) groups.items (shown world.new))) }
+    ensures forms { IfOk result (λ fault. IfNone fault (Forms (shown world.old) groups.items (shown world.new))) }
+    ensures caught { IfOk result (λ fault. IfNone fault
+        (CatchUp world.old.former.graph (walks_of world.old.phase) (walks_of world.new.phase))) }
 {
     let alloc = world.alloc;
     let Phase::Collecting(collection) = &mut world.phase else {
@@ -192,10 +202,11 @@ fn form(graph: &Graph, world: &mut World, groups: Vec<ZoneSet>) -> Result<Fault,
     }
     let (places, former) = (&world.places, &world.former);
     let fault = judge_edges(alloc, graph, places, former, collection, groups.as_slice())?;
-    if fault.is_none() {
-        collection.form(groups);
+    if let Some(fault) = fault {
+        return Ok(Some(fault));
     }
-    Ok(fault)
+    collection.form(groups);
+    Ok(None)
 }
 
 // In each group edges lead from each zone to each other, by what was known as marking began, and none leads from a
@@ -208,7 +219,9 @@ fn judge_edges(
     collection: &mut Collection,
     groups: &[ZoneSet],
 ) -> Result<Fault, NoMemory>
-    ensures { OnOk result (stage_in collection.new ≡ stage_in collection.old) }
+    ensures stage { OnOk result (stage_in collection.new ≡ stage_in collection.old) }
+    ensures walks { IfOk result (λ fault. IfNone fault
+        (CatchesUp former.now.graph (walks_in collection.old) (walks_in collection.new))) }
 {
     let keys = wrapper_keys(alloc, former.graph(), places)?;
     let first = zone_edges(graph, places, collection, &keys);

@@ -1,8 +1,19 @@
 // A collection: its zones, what it finds black and live, its groups, and how many units it may take.
-ghost use Rattle.std.specs.Prelude.{◌≡◌, [], IfOk, IfSome, List, None, OnOk, Some, drop};
+ghost use Rattle.std.specs.Prelude.{◌≡◌, ◌↔◌, ◌<◌, ◌++◌, Contains, IfOk, IfSome, IsTrue, List, None, OnOk, Some, drop};
+ghost use Rattle.gz_names.specs.Zones.{zones_in};
+ghost use Rattle.gz_names.specs.declared.names.Name.{Name as AName};
 ghost use Rattle.gz_names.specs.declared.zone_sets.ZoneSet.{ZoneSet as AZoneSet};
-ghost use Rattle.judge.specs.Stages.{Ends, IsDueOf, IsFirstGroup, collecting, groups_in, idle, shown, stage_in};
-ghost use Rattle.judge.specs.Stages.{stage_of};
+ghost use Rattle.colour_defs.specs.Ends.{Lists};
+ghost use Rattle.colour_defs.specs.Graph.{GraphState, register_cell, slot_cell};
+ghost use Rattle.plain_graph.specs.Reach.{Follows, IsDone};
+ghost use Rattle.judge.specs.Cells.{HasCell, HasColours, HasShade, IsGrayBy, IsWhiteBy, LetsGo, Removes};
+ghost use Rattle.judge.specs.Former.{Releases};
+ghost use Rattle.judge.specs.Sound.{Settles};
+ghost use Rattle.judge.specs.Stages.{Ends, HasGroups, IsDueOf, IsFirstGroup, IsWoken, collecting, groups_in};
+ghost use Rattle.judge.specs.Stages.{idle, shown, stage_in, stage_of};
+ghost use Rattle.judge.specs.Walks.{CatchUp, CatchesUp, GoesOnFrom, Walks as AWalks, walks_in, walks_of};
+ghost use Rattle.judge.specs.Starts.{AreBlackStarts, AreLiveStarts, IsBegun, IsInRegister, IsInSlot, IsListOf};
+ghost use Rattle.judge.specs.Starts.{IsOutside};
 
 use crate::former::{is_in, leads_into};
 use crate::preparation::Preparation;
@@ -77,6 +88,13 @@ pub struct Collection {
     pub groups: Option<Vec<ZoneSet>>,
 }
 
+/// What a cell of a group is that is not black, as the group ends.
+#[derive(Clone, Copy)]
+enum Shade {
+    Gray,
+    White,
+}
+
 /// What a group's end makes of the cells of its zones.
 #[derive(Drop)]
 pub struct GroupEnd {
@@ -95,11 +113,31 @@ pub fn is_wrapper(name: Name) -> bool {
     matches!(name, Name::Wrap(_, _))
 }
 
-fn add_all(walk: &mut Walk, names: &[Name]) -> Result<(), NoMemory> {
+fn add_all(walk: &mut Walk, names: &[Name]) -> Result<(), NoMemory>
+    ensures { OnOk result ((g : GraphState) (starts : List AName) → Follows g starts walk.old
+        → Follows g (starts ++ names.now) walk.new) }
+{
     for name in names {
         walk.add(*name, None)?;
     }
     Ok(())
+}
+
+// Adds names to a walk, and follows them.
+fn follow_all(walk: &mut Walk, names: &[Name], graph: &Graph) -> Result<(), NoMemory>
+    ensures { OnOk result (GoesOnFrom graph.now names.now walk.old walk.new) }
+{
+    add_all(walk, names)?;
+    walk.finish(graph)
+}
+
+// A walk over what these names reach.
+fn walk_from(alloc: Global, names: &[Name], graph: &Graph) -> Result<Walk, NoMemory>
+    ensures { IfOk result (IsDone graph.now names.now) }
+{
+    let mut walk = Walk::new(alloc);
+    follow_all(&mut walk, names, graph)?;
+    Ok(walk)
 }
 
 fn zone_count(zones: ZoneSet) -> u64 {
@@ -162,6 +200,131 @@ fn roots_of(alloc: Global, graph: &Graph) -> Result<Vec<(Name, Root)>, NoMemory>
     Ok(roots)
 }
 
+// What a register holds.
+fn register_at(graph: &Graph, index: u8) -> Option<Name>
+    requires { index < 16 }
+    ensures { result ≡ register_cell graph.now index }
+{
+    match Reg::new(index) {
+        None => None,
+        Some(register) => graph.register(register),
+    }
+}
+
+// What a gray slot holds.
+fn slot_at(graph: &Graph, index: u8) -> Option<Name>
+    requires { index < 64 }
+    ensures { result ≡ slot_cell graph.now index }
+{
+    match GrayNo::new(index) {
+        None => None,
+        Some(slot) => graph.slot(slot),
+    }
+}
+
+fn in_registers(alloc: Global, graph: &Graph) -> Result<Vec<Name>, NoMemory>
+    ensures { IfOk result (λ names. IsListOf names.items (IsInRegister graph.now)) }
+{
+    let mut names = Vec::new(alloc);
+    for index in 0..16u8 {
+        let Some(name) = register_at(graph, index) else {
+            continue;
+        };
+        names.push(name)?;
+    }
+    Ok(names)
+}
+
+fn in_slots(alloc: Global, graph: &Graph) -> Result<Vec<Name>, NoMemory>
+    ensures { IfOk result (λ names. IsListOf names.items (IsInSlot graph.now)) }
+{
+    let mut names = Vec::new(alloc);
+    for index in 0..64u8 {
+        let Some(name) = slot_at(graph, index) else {
+            continue;
+        };
+        names.push(name)?;
+    }
+    Ok(names)
+}
+
+// The present cells that are of none of these zones.
+fn outside(
+    alloc: Global,
+    graph: &Graph,
+    zones: ZoneSet,
+    places: &BTreeMap<Name, Place>,
+) -> Result<Vec<Name>, NoMemory>
+    ensures { IfOk result (λ names. IsListOf names.items (IsOutside graph.now (zones_in zones) places.now)) }
+{
+    let mut names = Vec::new(alloc);
+    for (name, _) in places {
+        if is_in(graph, zones, *name) {
+            continue;
+        }
+        names.push(*name)?;
+    }
+    Ok(names)
+}
+
+// Those of some names that are black in a zone that a preparation leaves out.
+fn blacks_of(
+    alloc: Global,
+    preparation: &Preparation,
+    names: &[Name],
+) -> Result<Vec<Name>, NoMemory>
+    ensures { IfOk result (λ blacks. (x : AName) → Contains blacks.items x → Contains names.now x) }
+{
+    let mut blacks = Vec::new(alloc);
+    for name in names {
+        if !preparation.black.contains(*name) {
+            continue;
+        }
+        blacks.push(*name)?;
+    }
+    Ok(blacks)
+}
+
+fn joined(first: &[Name], second: Vec<Name>) -> Result<Vec<Name>, NoMemory>
+    ensures { IfOk result (λ names. names.items ≡ second.items ++ first.now) }
+{
+    let mut names = second;
+    names.extend_from_slice(first)?;
+    Ok(names)
+}
+
+// What registers hold, and the black cells of zones that are not collected.
+fn black_starts(
+    alloc: Global,
+    graph: &Graph,
+    preparation: &Preparation,
+    places: &BTreeMap<Name, Place>,
+) -> Result<Vec<Name>, NoMemory>
+    ensures { IfOk result (λ names.
+        AreBlackStarts graph.now (zones_in preparation.now.zones) places.now names.items) }
+{
+    let held = in_registers(alloc, graph)?;
+    let others = outside(alloc, graph, preparation.zones, places)?;
+    let blacks = blacks_of(alloc, preparation, others.as_slice())?;
+    joined(blacks.as_slice(), held)
+}
+
+// What registers and gray slots hold, and the cells of zones that are not collected.
+fn live_starts(
+    alloc: Global,
+    graph: &Graph,
+    zones: ZoneSet,
+    places: &BTreeMap<Name, Place>,
+) -> Result<Vec<Name>, NoMemory>
+    ensures { IfOk result (λ names. AreLiveStarts graph.now (zones_in zones) places.now names.items) }
+{
+    let held = in_registers(alloc, graph)?;
+    let gray = in_slots(alloc, graph)?;
+    let others = outside(alloc, graph, zones, places)?;
+    let both = joined(gray.as_slice(), held)?;
+    joined(others.as_slice(), both)
+}
+
 impl Collection {
     /// The marking of a collection that was prepared begins: what its starts reach.
     pub fn start(
@@ -170,84 +333,48 @@ impl Collection {
         preparation: &Preparation,
         places: &BTreeMap<Name, Place>,
     ) -> Result<Self, NoMemory>
-        ensures { let zones = preparation.now.zones in
+        ensures stage { let zones = preparation.now.zones in
             IfOk result (λ it. stage_in it ≡ collecting zones zones None) }
+        ensures begun { IfOk result
+            (λ it. IsBegun graph.now (zones_in preparation.now.zones) places.now (walks_in it)) }
     {
-        let roots = roots_of(alloc, graph)?;
-        let mut collection = Collection {
-            zones: preparation.zones,
-            marking: preparation.zones,
-            roots,
-            black: Walk::new(alloc),
-            live: Walk::new(alloc),
+        let zones = preparation.zones;
+        let starts = black_starts(alloc, graph, preparation, places)?;
+        let black = walk_from(alloc, starts.as_slice(), graph)?;
+        let starts = live_starts(alloc, graph, zones, places)?;
+        let live = walk_from(alloc, starts.as_slice(), graph)?;
+        Ok(Collection {
+            zones,
+            marking: zones,
+            roots: roots_of(alloc, graph)?,
+            black,
+            live,
             woken: Vec::new(alloc),
             groups: None,
-        };
-        collection.find(graph, preparation, places)?;
-        Ok(collection)
-    }
-
-    // Finds what the starts reach.
-    fn find(
-        &mut self,
-        graph: &Graph,
-        preparation: &Preparation,
-        places: &BTreeMap<Name, Place>,
-    ) -> Result<(), NoMemory>
-        ensures { OnOk result (stage_in self.new ≡ stage_in self.old) }
-    {
-        self.add_roots()?;
-        for (name, _) in places {
-            if !is_in(graph, self.zones, *name) {
-                self.add_outside(*name, preparation.black.contains(*name))?;
-            }
-        }
-        self.black.finish(graph)?;
-        self.live.finish(graph)
-    }
-
-    // What registers and gray slots held are starts.
-    fn add_roots(&mut self) -> Result<(), NoMemory>
-        ensures { OnOk result (stage_in self.new ≡ stage_in self.old) }
-    {
-        for (name, root) in &self.roots {
-            if let Root::Register(_) = root {
-                self.black.add(*name, None)?;
-            }
-            self.live.add(*name, None)?;
-        }
-        Ok(())
-    }
-
-    // A present cell of a zone that is not collected is a start of its own colour.
-    fn add_outside(&mut self, name: Name, is_black: bool) -> Result<(), NoMemory>
-        ensures { OnOk result (stage_in self.new ≡ stage_in self.old) }
-    {
-        if is_black {
-            self.black.add(name, None)?;
-        }
-        self.live.add(name, None)
+        })
     }
 
     /// A name was woken.
     pub fn wake(&mut self, name: Name) -> Result<(), NoMemory>
-        ensures { OnOk result (stage_in self.new ≡ stage_in self.old) }
+        ensures stage { OnOk result (stage_in self.new ≡ stage_in self.old) }
+        ensures walks { OnOk result (IsWoken (stage_in self.old) name (walks_in self.old) (walks_in self.new)) }
     {
-        if !self.marking.is_empty() {
-            self.woken.push(name)?;
+        if self.marking.is_empty() {
+            return Ok(());
         }
+        self.woken.push(name)?;
         Ok(())
     }
 
     /// Finds what the names woken reach, in the graph as it was when marking began.
     pub fn catch_up(&mut self, former: &Graph) -> Result<(), NoMemory>
-        ensures { OnOk result (stage_in self.new ≡ stage_in self.old) }
+        ensures stage { OnOk result (stage_in self.new ≡ stage_in self.old) }
+        ensures walks { OnOk result (CatchesUp former.now (walks_in self.old) (walks_in self.new)) }
     {
-        add_all(&mut self.black, self.woken.as_slice())?;
-        add_all(&mut self.live, self.woken.as_slice())?;
+        follow_all(&mut self.black, self.woken.as_slice(), former)?;
+        follow_all(&mut self.live, self.woken.as_slice(), former)?;
         self.woken.clear();
-        self.black.finish(former)?;
-        self.live.finish(former)
+        Ok(())
     }
 
     /// The two zones, if a name is a wrapper that leads from a collected zone to a cell of another one that is not
@@ -277,6 +404,16 @@ impl Collection {
         }
     }
 
+    // Whether some group has not ended, or none is formed yet.
+    fn has_groups(&self) -> bool
+        ensures { IsTrue result ↔ HasGroups (stage_in self.now) }
+    {
+        match &self.groups {
+            None => true,
+            Some(groups) => !groups.is_empty(),
+        }
+    }
+
     /// Which report is due, if no arena is out.
     pub fn due_report(&self) -> DueReport
         ensures { IsDueOf result (stage_in self.now) }
@@ -290,27 +427,94 @@ impl Collection {
 
     /// Its groups are formed.
     pub fn form(&mut self, groups: Vec<ZoneSet>)
-        ensures { stage_in self.new
+        ensures stage { stage_in self.new
             ≡ collecting self.old.zones self.old.marking (Some groups.items) }
+        ensures walks { walks_in self.new ≡ walks_in self.old }
     {
         self.groups = Some(groups);
     }
 
-    // What it found black, where no zone is marking any more.
-    fn settled_black(&mut self, alloc: Global) -> Option<Walk>
-        ensures { stage_in self.new ≡ stage_in self.old }
+    // Whether a cell of these zones is gray.
+    fn is_gray(&self, graph: &Graph, zones: ZoneSet, name: Name) -> bool
+        ensures { IsTrue result
+            ↔ IsGrayBy graph.now (zones_in zones) self.now.black.names self.now.live.names name }
     {
-        if self.marking.is_empty() {
-            Some(mem::replace(&mut self.black, Walk::new(alloc)))
-        } else {
-            None
+        if !is_in(graph, zones, name) {
+            return false;
         }
+        if !self.live.contains(name) {
+            return false;
+        }
+        !self.black.contains(name)
+    }
+
+    // Whether a cell of these zones is white.
+    fn is_white(&self, graph: &Graph, zones: ZoneSet, name: Name) -> bool
+        ensures { IsTrue result ↔ IsWhiteBy graph.now (zones_in zones) self.now.live.names name }
+    {
+        if !is_in(graph, zones, name) {
+            return false;
+        }
+        !self.live.contains(name)
+    }
+
+    fn has_shade(&self, graph: &Graph, zones: ZoneSet, name: Name, shade: Shade) -> bool
+        ensures { IsTrue result
+            ↔ HasShade graph.now (zones_in zones) self.now.black.names self.now.live.names name shade }
+    {
+        match shade {
+            Shade::Gray => self.is_gray(graph, zones, name),
+            Shade::White => self.is_white(graph, zones, name),
+        }
+    }
+
+    // The present cells of these zones that are gray, or white, ascending.
+    fn pick(
+        &self,
+        alloc: Global,
+        graph: &Graph,
+        zones: ZoneSet,
+        places: &BTreeMap<Name, Place>,
+        shade: Shade,
+    ) -> Result<Vec<Name>, NoMemory>
+        ensures { IfOk result (λ names. Lists (λ x. HasCell places.now x
+            × HasShade graph.now (zones_in zones) self.now.black.names self.now.live.names x shade) names.items) }
+    {
+        let mut names = Vec::new(alloc);
+        for (name, _) in places {
+            if !self.has_shade(graph, zones, *name, shade) {
+                continue;
+            }
+            names.push(*name)?;
+        }
+        Ok(names)
+    }
+
+    // What the end of a group of these zones makes of their cells.
+    fn end_of(
+        &self,
+        alloc: Global,
+        graph: &Graph,
+        zones: ZoneSet,
+        places: &BTreeMap<Name, Place>,
+    ) -> Result<GroupEnd, NoMemory>
+        ensures zones { IfOk result (λ end. end.zones ≡ zones) }
+        ensures colours { IfOk result (HasColours graph.now places.now self.now.black.names self.now.live.names) }
+    {
+        let grays = self.pick(alloc, graph, zones, places, Shade::Gray)?;
+        let whites = self.pick(alloc, graph, zones, places, Shade::White)?;
+        Ok(GroupEnd {
+            zones,
+            grays,
+            whites,
+        })
     }
 
     // The first group that has not ended ends.
     fn end_first(&mut self, group: ZoneSet)
         requires { IsFirstGroup (stage_in self.old) group }
-        ensures { Ends (stage_in self.old) group (stage_in self.new) }
+        ensures ends { Ends (stage_in self.old) group (stage_in self.new) }
+        ensures walks { walks_in self.new ≡ walks_in self.old }
     {
         self.marking = self.marking.without(group);
         if let Some(groups) = &mut self.groups
@@ -359,59 +563,33 @@ pub fn zone_edges(
 }
 
 impl World {
-    /// What the end of the first group that has not ended makes of its cells.
+    /// What the end of the first group that has not ended makes of its cells, once what the names woken reach is found.
     pub fn group_end(&mut self, graph: &Graph) -> Result<Option<GroupEnd>, NoMemory>
-        ensures same { OnOk result (shown self.new ≡ shown self.old) }
+        ensures same { OnOk result
+            (shown self.new ≡ record (shown self.old) { walks = walks_of self.new.phase }) }
         ensures first { IfOk result (λ end. IfSome end (λ e. IsFirstGroup (stage_of self.old.phase) e.zones)) }
-    {
-        let Some(zones) = self.first_group()? else {
-            return Ok(None);
-        };
-        let end = self.colours_at_end(graph, zones)?;
-        Ok(Some(end))
-    }
-
-    // The first group that has not ended, once what the names woken reach is found.
-    fn first_group(&mut self) -> Result<Option<ZoneSet>, NoMemory>
-        ensures same { OnOk result (shown self.new ≡ shown self.old) }
-        ensures first { IfOk result (λ group. IfSome group (IsFirstGroup (stage_of self.old.phase))) }
+        ensures colours { IfOk result (λ end. IfSome end (λ e. (before : AWalks) × (after : AWalks)
+            × (walks_of self.old.phase ≡ Some before) × (walks_of self.new.phase ≡ Some after)
+            × CatchesUp self.old.former.graph before after
+            × HasColours graph.now self.old.places after.black.names after.live.names e)) }
     {
         let Phase::Collecting(collection) = &mut self.phase else {
             return Ok(None);
         };
-        let group = collection.next_group();
+        let Some(zones) = collection.next_group() else {
+            return Ok(None);
+        };
         collection.catch_up(self.former.graph())?;
-        Ok(group)
-    }
-
-    // The gray cells of these zones, and the white ones.
-    fn colours_at_end(&self, graph: &Graph, zones: ZoneSet) -> Result<GroupEnd, NoMemory>
-        ensures { IfOk result (λ end. end.zones ≡ zones) }
-    {
-        let mut grays = Vec::new(self.alloc);
-        let mut whites = Vec::new(self.alloc);
-        if let Phase::Collecting(collection) = &self.phase {
-            for (name, _) in &self.places {
-                if is_in(graph, zones, *name) {
-                    if !collection.live.contains(*name) {
-                        whites.push(*name)?;
-                    } else if !collection.black.contains(*name) {
-                        grays.push(*name)?;
-                    }
-                }
-            }
-        }
-        Ok(GroupEnd {
-            zones,
-            grays,
-            whites,
-        })
+        let end = collection.end_of(self.alloc, graph, zones, &self.places)?;
+        Ok(Some(end))
     }
 
     /// The first group that has not ended ends.
     pub fn end_group(&mut self, end: &GroupEnd) -> Result<(), NoMemory>
         requires { IsFirstGroup (stage_of self.old.phase) end.now.zones }
-        ensures { OnOk result (Ends (stage_of self.old.phase) end.now.zones (stage_of self.new.phase)) }
+        ensures ends { OnOk result (Ends (stage_of self.old.phase) end.now.zones (stage_of self.new.phase)) }
+        ensures places { OnOk result (LetsGo end.now.whites.items self.old.places self.new.places) }
+        ensures settles { OnOk result (Settles self.old self.new) }
     {
         self.let_go(end.whites.as_slice())?;
         self.arenas.hand_out(end.zones)?;
@@ -421,51 +599,84 @@ impl World {
 
     // White cells are no longer present, and wait to be swept.
     fn let_go(&mut self, whites: &[Name]) -> Result<(), NoMemory>
-        ensures { OnOk result (stage_of self.new.phase ≡ stage_of self.old.phase) }
+        ensures phase { OnOk result (self.new.phase ≡ self.old.phase) }
+        ensures former { OnOk result (self.new.former ≡ self.old.former) }
+        ensures places { OnOk result (LetsGo whites.now self.old.places self.new.places) }
     {
         self.white.clear();
         self.swept = 0;
         for name in whites {
-            if let Some(place) = self.places.remove(name) {
-                self.arenas.take_back(place);
-                self.white.push(White {
-                    arena: place.arena(),
-                    name: *name,
-                })?;
-            }
+            self.let_one_go(*name)?;
         }
         self.white.sort()?;
+        Ok(())
+    }
+
+    // A white cell is no longer present, and waits to be swept.
+    fn let_one_go(&mut self, name: Name) -> Result<(), NoMemory>
+        ensures phase { OnOk result (self.new.phase ≡ self.old.phase) }
+        ensures former { OnOk result (self.new.former ≡ self.old.former) }
+        ensures places { OnOk result (Removes self.old.places name self.new.places) }
+    {
+        let Some(place) = self.places.remove(&name) else {
+            return Ok(());
+        };
+        self.arenas.take_back(place);
+        self.white.push(White {
+            arena: place.arena(),
+            name,
+        })?;
         Ok(())
     }
 
     // The first group that has not ended ends.
     fn end_first(&mut self, group: ZoneSet)
         requires { IsFirstGroup (stage_of self.old.phase) group }
-        ensures { Ends (stage_of self.old.phase) group (stage_of self.new.phase) }
+        ensures ends { Ends (stage_of self.old.phase) group (stage_of self.new.phase) }
+        ensures walks { walks_of self.new.phase ≡ walks_of self.old.phase }
+        ensures rest { self.new ≡ record self.old { phase = self.new.phase } }
     {
-        if let Phase::Collecting(collection) = &mut self.phase {
-            collection.end_first(group);
+        match &mut self.phase {
+            Phase::Collecting(collection) => collection.end_first(group),
+            _ => {}
+        }
+    }
+
+    // Whether the marking of a collection is not over.
+    fn has_groups(&self) -> bool
+        ensures { IsTrue result ↔ HasGroups (stage_of self.now.phase) }
+    {
+        match &self.phase {
+            Phase::Collecting(collection) => collection.has_groups(),
+            _ => false,
         }
     }
 
     // Where no zone is marking any more, what was found black counts from then on.
     fn settle(&mut self) -> Result<(), NoMemory>
-        ensures { OnOk result (stage_of self.new.phase ≡ stage_of self.old.phase) }
+        ensures stage { OnOk result (stage_of self.new.phase ≡ stage_of self.old.phase) }
+        ensures places { self.new.places ≡ self.old.places }
+        ensures settles { OnOk result (Settles self.old self.new) }
     {
-        if let Some(black) = self.settled_black() {
-            self.black = black;
-            self.former.let_go()?;
+        if self.has_groups() {
+            return Ok(());
         }
+        self.take_black();
+        self.former.let_go()?;
         Ok(())
     }
 
-    // What was found black, where no zone is marking any more.
-    fn settled_black(&mut self) -> Option<Walk>
-        ensures { stage_of self.new.phase ≡ stage_of self.old.phase }
+    // What was found black counts from here on.
+    fn take_black(&mut self)
+        ensures stage { stage_of self.new.phase ≡ stage_of self.old.phase }
+        ensures places { self.new.places ≡ self.old.places }
+        ensures former { self.new.former ≡ self.old.former }
     {
         match &mut self.phase {
-            Phase::Collecting(collection) => collection.settled_black(self.alloc),
-            _ => None,
+            Phase::Collecting(collection) => {
+                self.black = mem::replace(&mut collection.black, Walk::new(self.alloc));
+            }
+            _ => {}
         }
     }
 
@@ -485,8 +696,7 @@ impl World {
 
     /// The lowest arena that is out is taken in.
     pub fn sweep(&mut self)
-        ensures { shown self.new
-            ≡ record { stage = stage_of self.old.phase; out = drop 1 (shown self.old).out } }
+        ensures { shown self.new ≡ record (shown self.old) { out = drop 1 (shown self.old).out } }
     {
         self.swept = self.swept.saturating_add(self.next_freed().len());
         self.arenas.take_in();
@@ -494,23 +704,37 @@ impl World {
     }
 
     /// The collection is over.
-    pub fn finish(&mut self)
-        ensures { shown self.new ≡ record { stage = idle; out = (shown self.old).out } }
+    pub fn finish(&mut self) -> Result<(), NoMemory>
+        ensures shows { OnOk result (shown self.new
+            ≡ record (shown self.old) { stage = idle; former = self.new.former; walks = None }) }
+        ensures releases { OnOk result (Releases self.old.former self.new.former) }
     {
         self.enter(Phase::Idle);
+        self.former.let_go()?;
+        Ok(())
     }
 
     /// The collection is given up.
     pub fn stop(&mut self, graph: &Graph) -> Result<(), NoMemory>
-        ensures { OnOk result (shown self.new ≡ record { stage = idle; out = (shown self.old).out }) }
+        ensures shows { OnOk result (shown self.new
+            ≡ record (shown self.old) { stage = idle; former = self.new.former; walks = None }) }
+        ensures releases { OnOk result (Releases self.old.former self.new.former) }
     {
-        if let Phase::Collecting(collection) = &mut self.phase {
-            collection.catch_up(self.former.graph())?;
-        }
+        self.catch_up()?;
         self.black = self.black_where_given_up(graph)?;
         self.former.let_go()?;
         self.enter(Phase::Idle);
         Ok(())
+    }
+
+    // A collection that runs finds what the names woken reach.
+    fn catch_up(&mut self) -> Result<(), NoMemory>
+        ensures { OnOk result (self.new ≡ record self.old { phase = self.new.phase }) }
+    {
+        match &mut self.phase {
+            Phase::Collecting(collection) => collection.catch_up(self.former.graph()),
+            _ => Ok(()),
+        }
     }
 
     // What is present in the zones that were not finished turns black, and what is reached from there and from what was

@@ -2,6 +2,11 @@
 //
 // Nothing is copied as a collection begins. This graph is made by the commands that made the other; while a collection
 // marks, it takes none, and these are kept and done on it afterwards.
+ghost use Rattle.std.specs.Prelude.{◌≡◌, ◌↔◌, ◌++◌, ◌∷◌, [], IsTrue, OnOk, false};
+ghost use Rattle.gz_names.specs.Zones.{zones_in};
+ghost use Rattle.colour_defs.specs.Graph.{IsInZones, empty_graph};
+ghost use Rattle.judge.specs.Former.{IsFormer, Keeps, Releases, Takes, graph_by, kept_of};
+
 use gz_names::{GraphCmd, Name, NoMemory, ZoneSet};
 use plain_graph::{Graph, step};
 use std::alloc::Global;
@@ -23,7 +28,10 @@ pub struct Former {
 }
 
 impl Former {
-    pub fn new(alloc: Global) -> Self {
+    pub fn new(alloc: Global) -> Self
+        ensures former { IsFormer result empty_graph }
+        ensures kept { result.is_kept ≡ false }
+    {
         Former {
             alloc,
             graph: Graph::new(alloc),
@@ -32,12 +40,16 @@ impl Former {
         }
     }
 
-    pub fn graph(&self) -> &Graph {
+    pub fn graph(&self) -> &Graph
+        ensures { result.now ≡ self.now.graph }
+    {
         &self.graph
     }
 
     /// Takes a command, or keeps it.
-    pub fn command(&mut self, command: &GraphCmd) -> Result<(), NoMemory> {
+    pub fn command(&mut self, command: &GraphCmd) -> Result<(), NoMemory>
+        ensures { OnOk result (Takes command.now self.old self.new) }
+    {
         if self.is_kept {
             return keep_command(&mut self.kept, command);
         }
@@ -46,12 +58,16 @@ impl Former {
     }
 
     /// From here on it stays as it is.
-    pub fn keep(&mut self) {
+    pub fn keep(&mut self)
+        ensures { Keeps self.old self.new }
+    {
         self.is_kept = true;
     }
 
     /// It takes the commands that were kept, and each one from here on.
-    pub fn let_go(&mut self) -> Result<(), NoMemory> {
+    pub fn let_go(&mut self) -> Result<(), NoMemory>
+        ensures { OnOk result (Releases self.old self.new) }
+    {
         do_all(self.alloc, &mut self.graph, self.kept.as_slice())?;
         self.kept.clear();
         self.is_kept = false;
@@ -59,16 +75,22 @@ impl Former {
     }
 }
 
-fn add<T: Drop>(list: &mut Vec<T>, item: T) -> Result<(), NoMemory> {
+fn add<T: Drop>(list: &mut Vec<T>, item: T) -> Result<(), NoMemory>
+    ensures { OnOk result (list.new.items ≡ list.old.items ++ item ∷ []) }
+{
     list.push(item)?;
     Ok(())
 }
 
-fn keep_command(kept: &mut Vec<Kept>, command: &GraphCmd) -> Result<(), NoMemory> {
+fn keep_command(kept: &mut Vec<Kept>, command: &GraphCmd) -> Result<(), NoMemory>
+    ensures { OnOk result (kept.new.items ≡ kept.old.items ++ kept_of command.now ∷ []) }
+{
     add(kept, Kept { command: *command })
 }
 
-fn do_all(alloc: Global, graph: &mut Graph, commands: &[Kept]) -> Result<(), NoMemory> {
+fn do_all(alloc: Global, graph: &mut Graph, commands: &[Kept]) -> Result<(), NoMemory>
+    ensures { OnOk result (graph.new ≡ graph_by graph.old commands.now) }
+{
     for kept in commands {
         step(alloc, graph, &kept.command)?;
     }
@@ -76,7 +98,9 @@ fn do_all(alloc: Global, graph: &mut Graph, commands: &[Kept]) -> Result<(), NoM
 }
 
 /// Whether a cell is of one of these zones.
-pub fn is_in(graph: &Graph, zones: ZoneSet, name: Name) -> bool {
+pub fn is_in(graph: &Graph, zones: ZoneSet, name: Name) -> bool
+    ensures { IsTrue result ↔ IsInZones graph.now (zones_in zones) name }
+{
     match graph.zone_of(name) {
         None => false,
         Some(zone) => zones.contains(zone),

@@ -3,7 +3,8 @@ ghost use Rattle.std.specs.Prelude.{◌≡◌, ◌↔◌, ◌⊎◌, ℕ, [], Li
 ghost use Rattle.std.specs.Io.KnownBytes.{Appends};
 ghost use Rattle.gz_io.specs.Causes.{AppendsFront, Rose};
 ghost use Rattle.colour_defs.specs.Graph.{empty_graph};
-ghost use Rattle.judge.specs.Stages.{idle, shown};
+ghost use Rattle.judge.specs.Sound.{IsSound};
+ghost use Rattle.judge.specs.Stages.{IsFirst, shown};
 ghost use Rattle.judge.specs.Replies.{IsUnmarked, Steps, due_as, marked, nothing};
 ghost use Rattle.judge.specs.Verdicts.{EndsBy, HasVerdict, IsFirstWrong, IsSaid, IsVerdictOn, wrong_text};
 ghost use Rattle.trace_lang.specs.Grammar.{Spells};
@@ -109,7 +110,7 @@ fn unmarked(line: &[u8]) -> Option<&[u8]>
 impl Known {
     fn new(alloc: Global) -> Self
         ensures graph { result.graph ≡ empty_graph }
-        ensures shows { shown result.world ≡ record { stage = idle; out = [] } }
+        ensures shows { IsFirst (shown result.world) }
         ensures due { due_as result.awaited ≡ nothing }
     {
         Known {
@@ -121,6 +122,7 @@ impl Known {
 
     // Judges the next line of a transcript.
     fn next(&mut self, line: &[u8]) -> Result<Said, NoMemory>
+        requires { IsSound self.old.graph (shown self.old.world) }
         ensures said { IfOk result (IsSaid (due_as self.old.awaited) line.now) }
         ensures fine { result ≡ Ok Said.Fine → Steps self.old.graph (shown self.old.world)
             (due_as self.old.awaited) line.now self.new.graph (shown self.new.world) (due_as self.new.awaited) }
@@ -163,7 +165,8 @@ impl Known {
 
     // Judges a line of an answer.
     fn answer_line(&mut self, line: &[u8]) -> Result<Said, NoMemory>
-        requires { IsUnmarked line.now }
+        requires unmarked { IsUnmarked line.now }
+        requires sound { IsSound self.old.graph (shown self.old.world) }
         ensures said { IfOk result (IsSaid (due_as self.old.awaited) line.now) }
         ensures fine { result ≡ Ok Said.Fine → Steps self.old.graph (shown self.old.world)
             (due_as self.old.awaited) line.now self.new.graph (shown self.new.world) (due_as self.new.awaited) }
@@ -197,7 +200,7 @@ fn judge_lines<S: Source>(
     known: &mut Known,
 ) -> Result<Verdict, NoMemory>
     requires graph { known.old.graph ≡ empty_graph }
-    requires shows { shown known.old.world ≡ record { stage = idle; out = [] } }
+    requires shows { IsFirst (shown known.old.world) }
     requires due { due_as known.old.awaited ≡ nothing }
     ensures verdict { (input : List ℕ) → S.left source.old ≡ Some input → IfOk result (IsVerdictOn input) }
     ensures read { IfOk result (λ verdict. verdict ≡ Verdict.ReadFault

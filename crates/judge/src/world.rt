@@ -3,8 +3,11 @@
 ghost use Rattle.std.specs.Prelude.{◌≡◌, ◌≢◌, ◌↔◌, ◌<◌, ℕ, [], IfNone, IfSome, IsTrue, None, OnOk, false};
 ghost use Rattle.gz_names.specs.Zones.{HasZone};
 ghost use Rattle.gz_names.specs.declared.zone_sets.ZoneSet.{ZoneSet as AZoneSet};
-ghost use Rattle.judge.specs.Stages.{IsDue, IsOver, IsSettled, idle, preparing, collecting, shown, stage_of};
-ghost use Rattle.judge.specs.Stages.{unfinished_in};
+ghost use Rattle.judge.specs.Cells.{GivesPlace, GivesPlaces, HasCell, made_in, named_in, woken_in, wrapper_in};
+ghost use Rattle.judge.specs.Former.{Takes};
+ghost use Rattle.judge.specs.Stages.{IsDue, IsFirst, IsOver, IsSettled, IsStarted, Wakes, WakesAny, idle};
+ghost use Rattle.judge.specs.Stages.{preparing, shown, stage_of, unfinished_in};
+ghost use Rattle.judge.specs.Walks.{walks_of};
 ghost use Rattle.judge.specs.Replies.{AreMade, IsRefusal};
 
 use crate::arenas::Arenas;
@@ -12,7 +15,7 @@ use crate::collection::{Collection, Tally, counts_entry, is_wrapper, marking_tal
 use crate::former::{Former, fields_of, is_in};
 use crate::preparation::{Preparation, target_of};
 use gz_names::{
-    DumpColour, DumpLine, GraphCmd, Name, NoMemory, Place, Refusal, Reg, Reply, ZoneNo, ZoneSet,
+    DumpColour, DumpLine, GraphCmd, Name, NoMemory, Place, Refusal, Reply, ZoneNo, ZoneSet,
 };
 use plain_graph::{Graph, Walk};
 use std::alloc::Global;
@@ -82,7 +85,7 @@ pub struct World {
 
 impl World {
     pub fn new(alloc: Global) -> Self
-        ensures { shown result ≡ record { stage = idle; out = [] } }
+        ensures { IsFirst (shown result) }
     {
         World {
             alloc,
@@ -139,7 +142,9 @@ impl World {
         }
     }
 
-    pub fn is_present(&self, name: Name) -> bool {
+    pub fn is_present(&self, name: Name) -> bool
+        ensures { IsTrue result ↔ HasCell self.now.places name }
+    {
         self.places.contains_key(&name)
     }
 
@@ -150,31 +155,37 @@ impl World {
         command: &GraphCmd,
         reply: &Reply,
     ) -> Result<(), NoMemory>
-        ensures { OnOk result (shown self.new ≡ shown self.old) }
+        ensures stage { OnOk result (stage_of self.new.phase ≡ stage_of self.old.phase) }
+        ensures out { OnOk result ((shown self.new).out ≡ (shown self.old).out) }
+        ensures places { OnOk result (GivesPlaces graph.now (woken_in command.now reply.now)
+            self.old.places self.new.places) }
+        ensures takes { OnOk result (Takes command.now self.old.former self.new.former) }
+        ensures walks { OnOk result (WakesAny (stage_of self.old.phase) (woken_in command.now reply.now)
+            (walks_of self.old.phase) (walks_of self.new.phase)) }
     {
-        self.former.command(command)?;
-        if let Reply::Refused(_) = reply {
-            return Ok(());
-        }
-        match command {
-            GraphCmd::New(register, _, _) => self.wake(graph, *register),
-            GraphCmd::Map(register, _) => self.wake(graph, *register),
-            GraphCmd::Expose(register, _) => self.wake(graph, *register),
-            GraphCmd::Wrap(register, _, _) => self.wake_wrapper(graph, *register),
-            GraphCmd::Unwrap(register, _) => self.wake_target(graph, *register),
-            GraphCmd::Put(map, key, _) => {
-                self.count_put(graph, *map, *key);
-                Ok(())
-            }
-            _ => Ok(()),
+        self.take(graph, command, reply)?;
+        match woken_in(command, reply) {
+            None => Ok(()),
+            Some(name) => self.wake(graph, name),
         }
     }
 
-    // While zones are being prepared, the target that was read through a wrapper is woken.
-    fn wake_target(&mut self, graph: &Graph, register: Reg) -> Result<(), NoMemory>
+    // What a command is beside what it wakes: the former graph takes it, what it reads turns black, and it counts.
+    fn take(&mut self, graph: &Graph, command: &GraphCmd, reply: &Reply) -> Result<(), NoMemory>
+        ensures same { OnOk result
+            (shown self.new ≡ record (shown self.old) { former = self.new.former }) }
+        ensures takes { OnOk result (Takes command.now self.old.former self.new.former) }
+    {
+        self.former.command(command)?;
+        self.count_put(graph, command, reply);
+        self.wake_target(graph, read_in(command, reply))
+    }
+
+    // While zones are being prepared, the target of a name that was read is woken.
+    fn wake_target(&mut self, graph: &Graph, read: Option<Name>) -> Result<(), NoMemory>
         ensures { OnOk result (shown self.new ≡ shown self.old) }
     {
-        match (&mut self.phase, graph.register(register)) {
+        match (&mut self.phase, read) {
             (Phase::Preparing(preparation), Some(name)) => {
                 preparation.black.blacken(graph, target_of(name))
             }
@@ -182,25 +193,25 @@ impl World {
         }
     }
 
-    // The register holds a wrapper, unless its target needs none.
-    fn wake_wrapper(&mut self, graph: &Graph, register: Reg) -> Result<(), NoMemory>
-        ensures { OnOk result (shown self.new ≡ shown self.old) }
+    fn wake(&mut self, graph: &Graph, name: Name) -> Result<(), NoMemory>
+        ensures stage { OnOk result (stage_of self.new.phase ≡ stage_of self.old.phase) }
+        ensures out { OnOk result ((shown self.new).out ≡ (shown self.old).out) }
+        ensures places { OnOk result (GivesPlace graph.now self.old.places name self.new.places) }
+        ensures former { OnOk result (self.new.former ≡ self.old.former) }
+        ensures walks { OnOk result (Wakes (stage_of self.old.phase) name (walks_of self.old.phase)
+            (walks_of self.new.phase)) }
     {
-        self.wake_target(graph, register)?;
-        match graph.register(register) {
-            Some(Name::Wrap(_, _)) => self.wake(graph, register),
-            _ => Ok(()),
-        }
+        self.give_place(graph, name)?;
+        self.turn_black(graph, name)
     }
 
-    // Wakes what a register holds.
-    fn wake(&mut self, graph: &Graph, register: Reg) -> Result<(), NoMemory>
-        ensures { OnOk result (shown self.new ≡ shown self.old) }
+    // What a name that was woken reaches turns black, by and by if zones are marking.
+    fn turn_black(&mut self, graph: &Graph, name: Name) -> Result<(), NoMemory>
+        ensures same { OnOk result
+            (shown self.new ≡ record (shown self.old) { walks = walks_of self.new.phase }) }
+        ensures walks { OnOk result (Wakes (stage_of self.old.phase) name (walks_of self.old.phase)
+            (walks_of self.new.phase)) }
     {
-        let Some(name) = graph.register(register) else {
-            return Ok(());
-        };
-        self.give_place(graph, name)?;
         match &mut self.phase {
             Phase::Idle => blacken(&mut self.black, graph, name),
             Phase::Preparing(preparation) => preparation.black.blacken(graph, name),
@@ -217,22 +228,28 @@ impl World {
     }
 
     fn give_place(&mut self, graph: &Graph, name: Name) -> Result<(), NoMemory>
-        ensures { OnOk result (shown self.new ≡ shown self.old) }
+        ensures same { OnOk result (shown self.new ≡ record (shown self.old) { cells = self.new.places }) }
+        ensures phase { self.new.phase ≡ self.old.phase }
+        ensures places { OnOk result (GivesPlace graph.now self.old.places name self.new.places) }
     {
         if self.is_present(name) {
             return Ok(());
         }
-        if let Some(zone) = graph.zone_of(name) {
-            let place = self.arenas.give(zone)?;
-            self.places.insert(name, place)?;
-        }
+        let Some(zone) = graph.zone_of(name) else {
+            return Ok(());
+        };
+        let place = self.arenas.give(zone)?;
+        self.places.insert(name, place)?;
         Ok(())
     }
 
-    fn count_put(&mut self, graph: &Graph, map: Reg, key: Reg)
+    fn count_put(&mut self, graph: &Graph, command: &GraphCmd, reply: &Reply)
         ensures { shown self.new ≡ shown self.old }
     {
-        let (Some(map), Some(key)) = (graph.register(map), graph.register(key)) else {
+        let (GraphCmd::Put(map, key, _), Reply::Accepted) = (command, reply) else {
+            return;
+        };
+        let (Some(map), Some(key)) = (graph.register(*map), graph.register(*key)) else {
             return;
         };
         if let Phase::Collecting(collection) = &self.phase {
@@ -287,7 +304,7 @@ impl World {
     /// A collection of these zones begins: they are being prepared.
     pub fn begin(&mut self, graph: &Graph, zones: ZoneSet) -> Result<(), NoMemory>
         ensures { OnOk result
-            (shown self.new ≡ record { stage = preparing zones; out = (shown self.old).out }) }
+            (shown self.new ≡ record (shown self.old) { stage = preparing zones; walks = None }) }
     {
         self.tally = Tally {
             arenas: self.arenas.count(zones),
@@ -301,7 +318,7 @@ impl World {
     /// The marking of the collection that is being prepared begins.
     pub fn start(&mut self, graph: &Graph) -> Result<(), NoMemory>
         ensures { OnOk result ((zones : AZoneSet) → stage_of self.old.phase ≡ preparing zones
-            → shown self.new ≡ record { stage = collecting zones zones None; out = (shown self.old).out }) }
+            → IsStarted graph.now zones (shown self.old) (shown self.new)) }
     {
         let Phase::Preparing(preparation) = &self.phase else {
             return Ok(());
@@ -368,6 +385,57 @@ impl World {
             }
         }
         Ok(())
+    }
+}
+
+// What a reply says was made, and what it names.
+fn made_in(reply: &Reply) -> Option<Name>
+    ensures { result ≡ made_in reply.now }
+{
+    match reply {
+        Reply::Made(number) => Some(Name::Cell(*number)),
+        _ => None,
+    }
+}
+
+fn named_in(reply: &Reply) -> Option<Name>
+    ensures { result ≡ named_in reply.now }
+{
+    match reply {
+        Reply::Named(name) => Some(*name),
+        _ => None,
+    }
+}
+
+fn wrapper_in(name: Option<Name>) -> Option<Name>
+    ensures { result ≡ wrapper_in name }
+{
+    match name {
+        None => None,
+        Some(Name::Cell(_)) => None,
+        Some(Name::Wrap(comp, target)) => Some(Name::Wrap(comp, target)),
+    }
+}
+
+// The name that a command wakes, by its reply.
+fn woken_in(command: &GraphCmd, reply: &Reply) -> Option<Name>
+    ensures { result ≡ woken_in command.now reply.now }
+{
+    match command {
+        GraphCmd::New(_, _, _) => made_in(reply),
+        GraphCmd::Map(_, _) => made_in(reply),
+        GraphCmd::Expose(_, _) => named_in(reply),
+        GraphCmd::Wrap(_, _, _) => wrapper_in(named_in(reply)),
+        _ => None,
+    }
+}
+
+// The name that `wrap` and `unwrap` give, which stands for the target that they read.
+fn read_in(command: &GraphCmd, reply: &Reply) -> Option<Name> {
+    match command {
+        GraphCmd::Wrap(_, _, _) => named_in(reply),
+        GraphCmd::Unwrap(_, _) => named_in(reply),
+        _ => None,
     }
 }
 

@@ -1,7 +1,5 @@
-use Rattle.std.proofs.Common.{[], refl, subst}
+use Rattle.std.proofs.Common.{[], refl}
 use Rattle.gz_names.specs.declared.replies.Report.TheVariants as report
-use Rattle.judge.specs.Stages.{IsDue, shown}
-use Rattle.judge.specs.declared.world.DueReport.{DueReport}
 use Rattle.judge.proofs.Results.{no_fault}
 use Rattle.judge.proofs.checks.judge_report.Goals as goal
 
@@ -12,12 +10,11 @@ pub returns-in-Started : goal.returns-in-Started
 returns-in-Started c = no_fault c.started.result (λ p. (report.Started, p.0, p.1)) c.started.ensures
 
 pub returns-in-Groups : goal.returns-in-Groups
-returns-in-Groups c = no_fault c.formed.result (λ p. (report.Groups p.0, p.1, p.2)) c.formed.ensures
+returns-in-Groups c = no_fault c.formed.result (λ p. (report.Groups p.0, p.1, (p.2, p.3))) c.formed.ensures
 
 pub returns-in-Ended : goal.returns-in-Ended
 returns-in-Ended c =
-    let d = subst (λ (r : DueReport). IsDue r (shown c.args.world.now)) c.in-Ended.is c.due_report.ensures in
-    no_fault c.ended.result (λ p. (report.Ended p.0 p.1 [], p.2, (d.0, refl, p.3))) c.ended.ensures
+    no_fault c.ended.result (λ p. (report.Ended p.0 p.1 [], p.2, (refl, p.3))) c.ended.ensures
 
 pub returns-in-Swept : goal.returns-in-Swept
 returns-in-Swept c =

@@ -2,6 +2,7 @@ use Rattle.std.proofs.Common.{◌≡◌, ◌∙◌, ℕ, ◌+◌, inl, inr, List
 use Rattle.gz_io.specs.Lines.{EndsLine}
 use Rattle.colour_defs.specs.Graph.{GraphState}
 use Rattle.judge.specs.Lines.{GivesLine, IsOneLine}
+use Rattle.judge.specs.Sound.{IsSound}
 use Rattle.judge.specs.Stages.{Shown, shown}
 use Rattle.judge.specs.Replies.{Due, Judged, asked, answered, Steps, due_as}
 use Rattle.judge.specs.Verdicts.{HasJudged, IsBadLine, IsSaid, IsWrongLine}
@@ -9,6 +10,7 @@ use Rattle.judge.specs.declared.judging.Said.{Said}
 use Rattle.judge.specs.declared.lines.NextLine.{NextLine}
 use Rattle.judge.specs.declared.lines.NextLine.TheVariants as next_line
 use Rattle.judge.proofs.Runs.{bad_judged, cut_judged, gives_of, none_held, start_judged, whole_judged, wrong_judged}
+use Rattle.judge.proofs.Sound.{sound_first, sound_steps}
 use Rattle.judge.proofs.judging.judge_lines.Goals as goal
 
 -- a line more
@@ -28,6 +30,8 @@ judged_of input rest n g s due j = record { graph = g; shows = s; judged = j }
 pub loop-read-init : goal.loop-read-init
 loop-read-init g c = record {
   calm = refl;
+  sound = subst (λ (h : GraphState). IsSound h (shown c.args.known.now.world)) (sym c.requires.graph)
+      (sound_first (shown c.args.known.now.world) c.requires.shows);
   so = λ input e. (
     input,
     none_held _ _ input c.new-lines.ensures e,
@@ -39,6 +43,8 @@ pub loop-read-preserved : goal.loop-read-preserved
 loop-read-preserved g c = record {
   calm = c.in_ok-next.ensures.same (λ p. let q : next_line.Line ≡ next_line.ReadFault = sym c.in-Line.is ∙ p in cc q)
       ∙ c.loop-read.invariant.calm;
+  sound = sound_steps c.loop-read.known.graph c.next-in-loop-read.new.self.graph _ _ _ _ _
+      (c.next-in-loop-read.ensures.fine (cc (c.in_ok-next-2.was, c.in-Fine.is))) c.loop-read.invariant.sound;
   so = λ input e.
       let i = c.loop-read.invariant.so input e in
       let given = gives_of _ _ _ _ i.0 c.in_ok-next.ensures.bytes i.1 in

@@ -1,6 +1,10 @@
-use Rattle.std.proofs.Common.{◌≡◌}
-use Rattle.judge.specs.Stages.{stage_of}
+use Rattle.std.proofs.Common.{◌≡◌, take}
+use Rattle.judge.specs.Cells.{LetsGo}
 use Rattle.judge.proofs.world.World.let_go.Given as goal
 
 abbrev pub invariant-loop-name : goal.invariant-loop-name
-invariant-loop-name l = stage_of l.self.phase ≡ stage_of l.fn.self.phase
+invariant-loop-name l = record {
+  phase : l.self.phase ≡ l.fn.self.phase;
+  former : l.self.former ≡ l.fn.self.former;
+  places : LetsGo (take l.name-index l.whites) l.fn.self.places l.self.places;
+}

@@ -1,0 +1,229 @@
+-- What is shown stays sound, line by line.
+use Rattle.std.proofs.Common.{◌≡◌, ◌⊎◌, ◌∙◌, inl, inr, ℕ, List, [], ◌∷◌, ◌++◌, Option, Some, None, refl, sym, ap, subst}
+use Rattle.gz_names.specs.declared.names.Name.{Name}
+use Rattle.gz_names.specs.declared.zone_sets.ZoneSet.{ZoneSet}
+use Rattle.gz_names.specs.declared.commands.Cmd.{Cmd}
+use Rattle.gz_names.specs.declared.commands.Cmd.TheVariants as command
+use Rattle.gz_names.specs.declared.commands.GraphCmd.{GraphCmd}
+use Rattle.gz_names.specs.declared.replies.Report.{Report}
+use Rattle.gz_names.specs.declared.replies.Report.TheVariants as report
+use Rattle.colour_defs.specs.Graph.{GraphState, empty_graph}
+use Rattle.colour_defs.specs.Step.{step_of}
+use Rattle.plain_graph.specs.Reach.{WalkState}
+use Rattle.judge.specs.Former.{IsFormer, Releases}
+use Rattle.judge.specs.Replies.{Asks, Begins, Due, IsAnswered, Steps, graph_after, dump, nothing, reply, resets, units}
+use Rattle.judge.specs.Sound.{IsSound, IsWalked}
+use Rattle.judge.specs.Stages.{EndsGroup, Forms, HasGroups, IsFirst, IsReported, IsResetReport}
+use Rattle.judge.specs.Stages.{Obeys, Shown, Stage, Starts, Sweeps, WakesAny, collecting, idle, preparing}
+use Rattle.judge.specs.Walks.{CatchUp, CatchesUp, Walks}
+use Rattle.judge.proofs.Formers.{former_is}
+
+pub sound_first : (s : Shown) → IsFirst s → IsSound empty_graph s
+sound_first s first = record {
+  former = first.former;
+  none_kept = λ e. first.taken;
+  none_yet = λ zones e. first.taken;
+  walks = λ w e left. absurd (cc (e, first.none_found));
+}
+
+sound_same : (g : GraphState) (old new : Shown) → new ≡ old → IsSound g old → IsSound g new
+sound_same g old new e is = subst (IsSound g) (sym e) is
+
+-- a command on the graph
+walks_before : (s : Stage) (x : Option Name) (old new : Option Walks) (w : Walks) → WakesAny s x old new → new ≡ Some w
+    → (v : Walks) × (old ≡ Some v) × (w.black ≡ v.black) × (w.live ≡ v.live)
+walks_before s None old new w same e = (w, sym same ∙ e, refl, refl)
+walks_before s (Some x) None new w gone e = absurd (cc (e, gone))
+walks_before s (Some x) (Some v) new w (after, is, woken) e =
+    let same : w ≡ after = cc (e, is) in (
+      v,
+      refl,
+      ap (λ (z : Walks). z.black) (same ∙ woken.rest),
+      ap (λ (z : Walks). z.live) (same ∙ woken.rest),
+    )
+
+walked_as : (g h : GraphState) (v w : WalkState) → h ≡ g → w ≡ v → IsWalked g v → IsWalked h w
+walked_as g h v w e f is = subst (λ k. IsWalked k w) (sym e) (subst (IsWalked g) (sym f) is)
+
+sound_obeys : (g : GraphState) (c : GraphCmd) (old new : Shown) → Obeys g c old new → IsSound g old
+    → IsSound (step_of g c).0 new
+sound_obeys g c old new o is =
+    let stage = o.stage_is in record {
+      former = o.takes.former g is.former;
+      none_kept = λ e. o.takes.kept_is ∙ is.none_kept (sym stage ∙ e);
+      none_yet = λ zones e. o.takes.kept_is ∙ is.none_yet zones (sym stage ∙ e);
+      walks = λ w e left.
+          let b = walks_before old.stage _ old.walks new.walks w o.walks e in
+          let f = is.walks b.0 b.1 (subst HasGroups stage left) in
+          let graph : new.former.graph ≡ old.former.graph = o.takes.graph_is f.kept in record {
+            kept = o.takes.kept_is ∙ f.kept;
+            black = walked_as old.former.graph new.former.graph b.0.black w.black graph b.2 f.black;
+            live = walked_as old.former.graph new.former.graph b.0.live w.live graph b.3 f.live;
+          };
+    }
+
+-- a collection begins, or is refused
+sound_begins : (g : GraphState) (zones : ZoneSet) (begun due : Due) (old new : Shown) → Begins g zones begun old due new
+    → IsSound g old → IsSound g new
+sound_begins g zones begun due old new (inl (why, refused, d, same)) is = sound_same g old new same is
+sound_begins g zones begun due old new (inr (idle_is, made, d, same)) is =
+    subst (IsSound g) (sym same) (record {
+      former = is.former;
+      none_kept = λ e. is.none_kept idle_is;
+      none_yet = λ z e. is.none_kept idle_is;
+      walks = λ w e left. absurd (cc e);
+    })
+
+sound_asks : (g : GraphState) (c : Cmd) (due : Due) (old new : Shown) → Asks g old c due new → IsSound g old
+    → IsSound (graph_after g c) new
+sound_asks g (command.Graph c) due old new (d, o) is = sound_obeys g c old new o is
+sound_asks g (command.Gc zones) due old new b is = sound_begins g zones _ due old new b is
+sound_asks g (command.Slice n) due old new (d, same) is = sound_same g old new same is
+sound_asks g command.Finish due old new (d, same) is = sound_same g old new same is
+sound_asks g (command.Collect zones) due old new b is = sound_begins g zones _ due old new b is
+sound_asks g command.Colours due old new (d, same) is = sound_same g old new same is
+sound_asks g command.Dump due old new (d, same) is = sound_same g old new same is
+sound_asks g command.Reset due old new (d, same) is = sound_same g old new same is
+sound_asks g (command.Weak c) due old new (d, same) is = sound_same g old new same is
+sound_asks g (command.Compact zone) due old new (d, same) is = sound_same g old new same is
+
+-- reports
+sound_starts : (g : GraphState) (old new : Shown) → Starts g old new → IsSound g old → IsSound g new
+sound_starts g old new s is =
+    let st = s.started in
+    let stage : new.stage ≡ collecting s.zones s.zones None = ap (λ (t : Shown). t.stage) st.new_is in
+    let found : new.walks ≡ Some st.walks = ap (λ (t : Shown). t.walks) st.new_is in
+    let graph : new.former.graph ≡ g =
+    st.keeps.graph_is ∙ former_is old.former g is.former (is.none_yet s.zones s.was) in record {
+      former = st.keeps.former g is.former;
+      none_kept = λ e. absurd (cc (e, stage));
+      none_yet = λ zones e. absurd (cc (e, stage));
+      walks = λ w e left.
+          let same : w ≡ st.walks = cc (e, found) in record {
+            kept = st.keeps.kept_is;
+            black = walked_as g new.former.graph st.walks.black w.black graph (ap (λ (z : Walks). z.black) same)
+                (record { starts = st.begun.black; follows = st.begun.black_done.follows });
+            live = walked_as g new.former.graph st.walks.live w.live graph (ap (λ (z : Walks). z.live) same)
+                (record { starts = st.begun.live; follows = st.begun.live_done.follows });
+          };
+    }
+
+-- walks that go on are walks
+goes_walked : (g : GraphState) (v w : Walks) → CatchesUp g v w → IsWalked g v.black → IsWalked g v.live
+    → IsWalked g w.black × IsWalked g w.live
+goes_walked g v w c b l = (
+  record { starts = b.starts ++ v.woken; follows = (c.black b.starts b.follows).follows },
+  record { starts = l.starts ++ v.woken; follows = (c.live l.starts l.follows).follows },
+)
+
+caught_before : (g : GraphState) (old new : Option Walks) (w : Walks) → CatchUp g old new → new ≡ Some w
+    → (v : Walks) × (old ≡ Some v) × CatchesUp g v w
+caught_before g None new w gone e = absurd (cc (e, gone))
+caught_before g (Some v) new w (after, is, caught) e =
+    let same : after ≡ w = cc (e, is) in (v, refl, subst (λ z. CatchesUp g v z) same caught)
+
+sound_forms : (g : GraphState) (old new : Shown) (groups : List ZoneSet) → Forms old groups new
+    → CatchUp old.former.graph old.walks new.walks → IsSound g old → IsSound g new
+sound_forms g old new groups f up is =
+    let stage : new.stage ≡ collecting f.zones f.marking (Some groups) = ap (λ (t : Shown). t.stage) f.new_is in
+    let former : new.former ≡ old.former = ap (λ (t : Shown). t.former) f.new_is in record {
+      former = subst (λ h. IsFormer h g) (sym former) is.former;
+      none_kept = λ e. absurd (cc (e, stage));
+      none_yet = λ zones e. absurd (cc (e, stage));
+      walks = λ w e left.
+          let b = caught_before old.former.graph old.walks new.walks w up e in
+          let was = is.walks b.0 b.1 (subst HasGroups (sym f.was) tt) in
+          let graph = ap (λ h. h.graph) former in
+          let both = goes_walked old.former.graph b.0 w b.2 was.black was.live in record {
+            kept = ap (λ h. h.is_kept) former ∙ was.kept;
+            black = walked_as old.former.graph new.former.graph w.black w.black graph refl both.0;
+            live = walked_as old.former.graph new.former.graph w.live w.live graph refl both.1;
+          };
+    }
+
+-- whether groups are left
+left_or_over : (s : Stage) → HasGroups s ⊎ (HasGroups s → ⊥)
+left_or_over idle = inr (λ h. h)
+left_or_over (preparing zones) = inr (λ h. h)
+left_or_over (collecting zones marking None) = inl tt
+left_or_over (collecting zones marking (Some [])) = inr (λ h. h)
+left_or_over (collecting zones marking (Some (group ∷ rest))) = inl tt
+
+sound_ends : (g : GraphState) (old new : Shown) (group : ZoneSet) (grays : List Name) → EndsGroup g old group grays new
+    → IsSound g old → IsSound g new
+sound_ends g old new group grays e is =
+    let stage = e.ends.new_is in record {
+      former = elim (left_or_over new.stage) [
+        | inl left ↦ subst (λ h. IsFormer h g) (sym (e.goes_on.left left).1) is.former
+        | inr over ↦ (e.goes_on.over over).former g is.former
+      ];
+      none_kept = λ i. absurd (cc (i, stage));
+      none_yet = λ zones i. absurd (cc (i, stage));
+      walks = λ w i left.
+          let goes = e.goes_on.left left in
+          let same : e.goes_on.after ≡ w = cc (goes.0, i) in
+          let was = is.walks e.walks e.found (subst HasGroups (sym e.ends.was) tt) in
+          let graph = ap (λ h. h.graph) goes.1 in
+          let caught = subst (λ z. CatchesUp old.former.graph e.walks z) same e.goes_on.caught in
+          let both = goes_walked old.former.graph e.walks w caught was.black was.live in record {
+            kept = ap (λ h. h.is_kept) goes.1 ∙ was.kept;
+            black = walked_as old.former.graph new.former.graph w.black w.black graph refl both.0;
+            live = walked_as old.former.graph new.former.graph w.live w.live graph refl both.1;
+          };
+    }
+
+-- arenas are taken in
+sound_sweeps : (g : GraphState) (old new : Shown) (arena : ℕ) → Sweeps old arena new → IsSound g old → IsSound g new
+sound_sweeps g old new arena s is = subst (IsSound g) (sym s.new_is)
+    (record {
+      former = is.former;
+      none_kept = is.none_kept;
+      none_yet = is.none_yet;
+      walks = λ w e left.
+          let f = is.walks w e left in record { kept = f.kept; black = f.black; live = f.live };
+    })
+
+-- a collection is over, or is given up
+sound_idle : (g : GraphState) (old new : Shown) → Releases old.former new.former
+    → new ≡ record old { stage = idle; former = new.former; walks = None } → IsSound g old → IsSound g new
+sound_idle g old new r same is =
+    let gone : new.walks ≡ None = ap (λ (t : Shown). t.walks) same in record {
+      former = r.former g is.former;
+      none_kept = λ e. r.kept_is;
+      none_yet = λ zones e. r.kept_is;
+      walks = λ w e left. absurd (cc (e, gone));
+    }
+
+sound_reported : (g : GraphState) (r : Report) (old new : Shown) → IsReported g old r new → IsSound g old
+    → IsSound g new
+sound_reported g report.Started old new s is = sound_starts g old new s is
+sound_reported g (report.Groups groups) old new (f, up) is = sound_forms g old new groups f up is
+sound_reported g (report.Ended group grays told) old new e is = sound_ends g old new group grays e.1 is
+sound_reported g (report.Swept arena freed) old new s is = sound_sweeps g old new arena s is
+sound_reported g report.Done old new f is = sound_idle g old new f.releases f.new_is is
+sound_reported g (report.Stopped zones) old new s is = absurd s
+
+sound_reset : (g : GraphState) (r : Report) (old new : Shown) → IsResetReport old r new → IsSound g old → IsSound g new
+sound_reset g report.Started old new s is = absurd s
+sound_reset g (report.Groups groups) old new s is = absurd s
+sound_reset g (report.Ended group grays told) old new s is = absurd s
+sound_reset g (report.Swept arena freed) old new s is = sound_sweeps g old new arena s is
+sound_reset g report.Done old new f is = sound_idle g old new f.releases f.new_is is
+sound_reset g (report.Stopped zones) old new s is = sound_idle g old new s.releases s.new_is is
+
+sound_answered : (g : GraphState) (old new : Shown) (due next : Due) (line : List ℕ)
+    → IsAnswered g old due line new next → IsSound g old → IsSound g new
+sound_answered g old new nothing next line a is = absurd a
+sound_answered g old new (reply text) next line (e, n, same) is = sound_same g old new same is
+sound_answered g old new (dump lines) next line (d, same) is = sound_same g old new same is
+sound_answered g old new (units most collects) next line (inl ((r, text, reported), n)) is =
+    sound_reported g r old new reported is
+sound_answered g old new (units most collects) next line (inr (l, n, same)) is = sound_same g old new same is
+sound_answered g old new resets next line ((r, text, reported), n) is = sound_reset g r old new reported is
+
+pub sound_steps : (g h : GraphState) (old new : Shown) (due next : Due) (line : List ℕ)
+    → Steps g old due line h new next → IsSound g old → IsSound h new
+sound_steps g h old new due next line (inl (text, c, whole, mark, spells, after, asks)) is =
+    subst (λ k. IsSound k new) (sym after) (sound_asks g c next old new asks is)
+sound_steps g h old new due next line (inr (unmarked, same, ans)) is =
+    subst (λ k. IsSound k new) (sym same) (sound_answered g old new due next line ans is)

@@ -1,0 +1,49 @@
+use Rattle.std.proofs.Common.{◌≡◌, ◌∙◌, Option, Some, ap, subst, sym}
+use Rattle.std.specs.Prelude.{IfSome}
+use Rattle.judge.specs.Cells.{Cells, HasColours, LetsGo}
+use Rattle.judge.specs.Former.{Releases}
+use Rattle.judge.specs.Stages.{Ends, HasGroups, IsFirstGroup, Shown, Stage, stage_of}
+use Rattle.judge.specs.Walks.{CatchesUp, Walks, walks_of}
+use Rattle.judge.specs.declared.collection.GroupEnd.{GroupEnd}
+use Rattle.judge.specs.declared.former.Former.{Former}
+use Rattle.judge.proofs.Found.{colours_of}
+use Rattle.judge.proofs.checks.ended.Goals as goal
+
+pub returns-then-is_same : goal.returns-then-is_same
+returns-then-is_same c =
+    let end = c.in-Some.end in
+    let before = c.args.world.now in
+    let mid = c.group_end.new.self in
+    let after = c.end_group.new.self in
+    let same = c.in_ok-end.ensures.same in
+    let places : mid.places ≡ before.places = ap (λ (s : Shown). s.cells) same in
+    let former : mid.former ≡ before.former = ap (λ (s : Shown). s.former) same in
+    let first = subst (λ (o : Option GroupEnd). IfSome o (λ e. IsFirstGroup (stage_of before.phase) e.zones))
+    c.in-Some.is c.in_ok-end.ensures.first in
+    let found = subst (λ (o : Option GroupEnd). IfSome o (λ e. (b : Walks) × (a : Walks)
+    × (walks_of before.phase ≡ Some b) × (walks_of mid.phase ≡ Some a) × CatchesUp before.former.graph b a
+    × HasColours c.args.graph.now before.places a.black.names a.live.names e)) c.in-Some.is
+    c.in_ok-end.ensures.colours in
+    let goes = subst (λ (cells : Cells). LetsGo end.whites.items cells after.places) places
+    c.in_ok-end_group.ensures.places in
+    let settles = c.in_ok-end_group.ensures.settles in
+    let walked = c.requires.sound.walks found.0 found.2 (subst HasGroups (sym first.3) tt) in (
+      end.zones,
+      end.grays.items,
+      c.is_same.ensures.0 c.if-is_same.true ∙ c.as_slice.ensures.value ∙ c.in_ok-due.ensures,
+      record {
+        none_out = c.requires.due.0;
+        ends = subst (λ (s : Stage). Ends s end.zones (stage_of after.phase)) (ap (λ (s : Shown). s.stage) same)
+            c.in_ok-end_group.ensures.ends;
+        walks = found.0;
+        found = found.2;
+        colours = colours_of c.args.graph.now before.places after.places before.former.graph found.0 found.1 end
+            (record { black = walked.black; live = walked.live; caught = found.4 }) found.5 goes;
+        goes_on = record {
+          after = found.1;
+          caught = found.4;
+          left = λ h. ((settles.left h).0 ∙ found.3, (settles.left h).1 ∙ former);
+          over = λ n. subst (λ (f : Former). Releases f after.former) former (settles.over n);
+        };
+      },
+    )

@@ -1,0 +1,12 @@
+use Rattle.judge.proofs.checks.started.Goals as goal
+
+pub returns-then-is_same : goal.returns-then-is_same
+returns-then-is_same c = (
+  c.is_same.ensures.0 c.if-is_same.true,
+  record {
+    zones = c.requires.1.0;
+    was = c.requires.1.1;
+    none_out = c.requires.0;
+    started = c.in_ok-start.ensures c.requires.1.0 c.requires.1.1;
+  },
+)

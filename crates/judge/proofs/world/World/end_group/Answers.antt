@@ -1,0 +1,31 @@
+use Rattle.std.proofs.Common.{◌≡◌, ◌∙◌, List, ap, subst, sym}
+use Rattle.std.proofs.lemmas.Result.{on_ok_weaker}
+use Rattle.gz_names.specs.declared.names.Name.{Name}
+use Rattle.judge.specs.Cells.{Cells, LetsGo}
+use Rattle.judge.specs.Former.{Releases}
+use Rattle.judge.specs.Walks.{walks_of}
+use Rattle.judge.specs.declared.former.Former.{Former}
+use Rattle.judge.specs.declared.world.World.{World}
+use Rattle.judge.proofs.Results.{on_ok_known}
+use Rattle.judge.proofs.world.World.end_group.Goals as goal
+
+pub returns-clause-places : goal.returns-clause-places
+returns-clause-places c =
+    let old = c.args.self.now.places in
+    let mid = c.let_go.new.self.places in
+    let names = c.args.end.now.whites.items in
+    let same : c.settle.new.self.places ≡ mid =
+    c.settle.ensures.places ∙ ap (λ (w : World). w.places) c.end_first.ensures.rest in
+    on_ok_known c.settle.result (subst (λ (cells : Cells). LetsGo names old cells) (sym same)
+    (subst (λ (ns : List Name). LetsGo ns old mid) c.as_slice.ensures.value c.in_ok-let_go.ensures.places))
+
+pub returns-clause-settles : goal.returns-clause-settles
+returns-clause-settles c =
+    let former = ap (λ (w : World). w.former) c.end_first.ensures.rest ∙ c.in_ok-let_go.ensures.former in
+    on_ok_weaker c.settle.result (λ s. record {
+      left = λ h. (
+        (s.left h).0 ∙ c.end_first.ensures.walks ∙ ap walks_of c.in_ok-let_go.ensures.phase,
+        (s.left h).1 ∙ former,
+      );
+      over = λ n. subst (λ (f : Former). Releases f c.settle.new.self.former) former (s.over n);
+    }) c.settle.ensures.settles

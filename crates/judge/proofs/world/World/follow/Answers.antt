@@ -1,0 +1,44 @@
+use Rattle.std.proofs.Common.{◌≡◌, Option, ap, subst}
+use Rattle.std.proofs.lemmas.Result.{on_ok_weaker}
+use Rattle.gz_names.specs.declared.names.Name.{Name}
+use Rattle.judge.specs.Cells.{Cells, GivesPlace, GivesPlaces}
+use Rattle.judge.specs.Stages.{Shown, Stage, Wakes, WakesAny, stage_of}
+use Rattle.judge.specs.Walks.{Walks, walks_of}
+use Rattle.judge.proofs.world.World.follow.Goals as goal
+
+pub returns-in-None-clause-places : goal.returns-in-None-clause-places
+returns-in-None-clause-places c =
+    let before = c.args.self.now in
+    let after = c.take.new.self in
+    subst (λ (o : Option Name). GivesPlaces c.args.graph.now o before.places after.places) c.in-None.ensures
+    (ap (λ (s : Shown). s.cells) c.in_ok-take.ensures.same)
+
+pub returns-in-None-clause-walks : goal.returns-in-None-clause-walks
+returns-in-None-clause-walks c =
+    let before = c.args.self.now in
+    let after = c.take.new.self in
+    subst (λ (o : Option Name). WakesAny (stage_of before.phase) o (walks_of before.phase) (walks_of after.phase))
+    c.in-None.ensures (ap (λ (s : Shown). s.walks) c.in_ok-take.ensures.same)
+
+pub returns-in-Some-clause-places : goal.returns-in-Some-clause-places
+returns-in-Some-clause-places c =
+    let g = c.args.graph.now in
+    let before = c.args.self.now in
+    let after = c.wake.new.self in
+    let same = ap (λ (s : Shown). s.cells) c.in_ok-take.ensures.same in
+    on_ok_weaker c.wake.result (λ p. subst (λ (o : Option Name). GivesPlaces g o before.places after.places)
+    c.in-Some.ensures (subst (λ (cells : Cells). GivesPlace g cells c.in-Some.name after.places) same p))
+    c.wake.ensures.places
+
+pub returns-in-Some-clause-walks : goal.returns-in-Some-clause-walks
+returns-in-Some-clause-walks c =
+    let before = c.args.self.now in
+    let mid = c.take.new.self in
+    let after = c.wake.new.self in
+    let stage : stage_of mid.phase ≡ stage_of before.phase = ap (λ (s : Shown). s.stage) c.in_ok-take.ensures.same in
+    let walks : walks_of mid.phase ≡ walks_of before.phase = ap (λ (s : Shown). s.walks) c.in_ok-take.ensures.same in
+    on_ok_weaker c.wake.result (λ p. subst (λ (o : Option Name). WakesAny (stage_of before.phase) o
+    (walks_of before.phase) (walks_of after.phase)) c.in-Some.ensures
+    (subst (λ (s : Stage). Wakes s c.in-Some.name (walks_of before.phase) (walks_of after.phase)) stage
+    (subst (λ (o : Option Walks). Wakes (stage_of mid.phase) c.in-Some.name o (walks_of after.phase)) walks p)))
+    c.wake.ensures.walks

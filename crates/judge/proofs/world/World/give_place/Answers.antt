@@ -1,0 +1,17 @@
+use Rattle.std.proofs.Common.{◌∙◌}
+use Rattle.judge.proofs.Cells.{gives_found, gives_made, gives_nothing}
+use Rattle.judge.proofs.world.World.give_place.Goals as goal
+
+pub returns-then-is_present-clause-places : goal.returns-then-is_present-clause-places
+returns-then-is_present-clause-places c =
+    gives_found c.args.graph.now c.args.self.now.places c.args.name (c.is_present.ensures.0 c.if-is_present.true)
+
+pub returns-in_default-clause-places : goal.returns-in_default-clause-places
+returns-in_default-clause-places c =
+    gives_nothing c.args.graph.now c.args.self.now.places c.args.name
+    (λ z e. c.in_default.not-Some z (c.zone_of.ensures ∙ e))
+
+pub returns-clause-places : goal.returns-clause-places
+returns-clause-places c =
+    gives_made c.args.graph.now c.args.self.now.places c.insert.new.self c.args.name c.in_ok-place.place
+    (λ h. let t = c.is_present.ensures.1 h in cc (t, c.if-is_present.false)) c.in_ok-insert.ensures.updates

@@ -1,0 +1,13 @@
+use Rattle.std.proofs.Common.{ap, refl}
+use Rattle.std.specs.Prelude.{reverse}
+use Rattle.judge.proofs.world.World.new.Goals as goal
+
+pub returns : goal.returns
+returns c = record {
+  none_running = refl;
+  none_out = ap reverse c.new-3.ensures;
+  none_made = c.new-2.ensures.empty;
+  former = c.new.ensures.former;
+  taken = c.new.ensures.kept;
+  none_found = refl;
+}

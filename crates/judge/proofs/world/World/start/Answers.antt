@@ -1,0 +1,34 @@
+use Rattle.std.proofs.Common.{◌≡◌, ◌∙◌, None, ap, subst, sym}
+use Rattle.gz_names.specs.Zones.{zones_in}
+use Rattle.gz_names.specs.declared.zone_sets.ZoneSet.{ZoneSet}
+use Rattle.judge.specs.Former.{Keeps}
+use Rattle.judge.specs.Starts.{IsBegun}
+use Rattle.judge.specs.Stages.{collecting, preparing, shown, stage_in, stage_of}
+use Rattle.judge.specs.Walks.{walks_in}
+use Rattle.judge.specs.declared.former.Former.{Former}
+use Rattle.judge.specs.declared.world.World.{World}
+use Rattle.judge.proofs.Stages.{not_preparing, started_is}
+use Rattle.judge.proofs.world.World.start.Goals as goal
+
+pub returns-in_default : goal.returns-in_default
+returns-in_default c = λ zones e.
+    absurd (not_preparing c.args.self.now.phase zones (λ q is. c.in_default.not-Preparing q is) e)
+
+pub returns : goal.returns
+returns c = λ zones e.
+    let before = c.args.self.now in
+    let after = c.enter.new.self in
+    let collection = c.in_ok-collection.collection in
+    let first = c.in-Preparing.preparation.zones in
+    let same : preparing first ≡ preparing zones = sym (ap stage_of c.in-Preparing.is) ∙ e in
+    let zones_are : first ≡ zones = cc same in
+    let stage : stage_in collection ≡ collecting zones zones None =
+    c.in_ok-collection.ensures.stage ∙ ap (λ (z : ZoneSet). collecting z z None) zones_are in record {
+      walks = walks_in collection;
+      begun = subst (λ (z : ZoneSet). IsBegun c.args.graph.now (zones_in z) before.places (walks_in collection))
+          zones_are c.in_ok-collection.ensures.begun;
+      keeps = subst (λ (f : Former). Keeps before.former f) (sym (ap (λ (w : World). w.former) c.enter.ensures))
+          c.keep.ensures;
+      new_is = started_is (shown before) (shown after) _ zones (stage_in collection) (walks_in collection)
+          (ap shown c.enter.ensures) stage;
+    }

@@ -1,0 +1,19 @@
+use Rattle.std.proofs.Common.{ap, subst, sym}
+use Rattle.std.proofs.lemmas.Result.{on_ok_weaker}
+use Rattle.judge.specs.Cells.{Cells, GivesPlace}
+use Rattle.judge.specs.Stages.{Shown, Wakes, stage_of}
+use Rattle.judge.specs.Walks.{walks_of}
+use Rattle.judge.specs.declared.world.Phase.{Phase}
+use Rattle.judge.proofs.world.World.wake.Goals as goal
+
+pub returns-clause-places : goal.returns-clause-places
+returns-clause-places c =
+    on_ok_weaker c.turn_black.result (λ same. subst (λ (cells : Cells). GivesPlace c.args.graph.now
+    c.args.self.now.places c.args.name cells) (sym (ap (λ (s : Shown). s.cells) same))
+    c.in_ok-give_place.ensures.places)
+    c.turn_black.ensures.same
+
+pub returns-clause-walks : goal.returns-clause-walks
+returns-clause-walks c =
+    on_ok_weaker c.turn_black.result (λ w. subst (λ (p : Phase). Wakes (stage_of p) c.args.name (walks_of p)
+    (walks_of c.turn_black.new.self.phase)) c.give_place.ensures.phase w) c.turn_black.ensures.walks

@@ -1,0 +1,38 @@
+-- The graph as it stood when marking began, and the commands since.
+use Rattle.std.specs.Prelude.{◌≡◌, true, false, List, [], ◌∷◌}
+use Rattle.gz_names.specs.declared.commands.GraphCmd.{GraphCmd}
+use Rattle.colour_defs.specs.Graph.{GraphState}
+use Rattle.colour_defs.specs.Step.{step_of}
+use Rattle.judge.specs.declared.former.Former.{Former}
+use Rattle.judge.specs.declared.former.Kept.{Kept}
+
+-- a command as it is kept
+abbrev pub kept_of : GraphCmd → Kept
+kept_of c = record { command = c }
+
+-- a graph after commands
+abbrev pub graph_by : GraphState → List Kept → GraphState
+graph_by g [] = g
+graph_by g (k ∷ ks) = graph_by (step_of g k.command).0 ks
+
+-- the commands that were kept lead from the former graph to this one
+pub record IsFormer (f : Former) (g : GraphState) : Type 0 where
+  pub leads : graph_by f.graph f.kept.items ≡ g
+  pub taken : f.is_kept ≡ false → f.kept.items ≡ []
+
+-- a command is taken, or kept where the graph is to stay
+pub record Takes (c : GraphCmd) (old new : Former) : Type 0 where
+  pub former : (g : GraphState) → IsFormer old g → IsFormer new (step_of g c).0
+  pub kept_is : new.is_kept ≡ old.is_kept
+  pub graph_is : old.is_kept ≡ true → new.graph ≡ old.graph
+
+-- the graph is to stay from here on
+pub record Keeps (old new : Former) : Type 0 where
+  pub former : (g : GraphState) → IsFormer old g → IsFormer new g
+  pub kept_is : new.is_kept ≡ true
+  pub graph_is : new.graph ≡ old.graph
+
+-- the commands that were kept are done
+pub record Releases (old new : Former) : Type 0 where
+  pub former : (g : GraphState) → IsFormer old g → IsFormer new g
+  pub kept_is : new.is_kept ≡ false
