@@ -1,4 +1,5 @@
 pub mod DumpTexts
 pub mod Dumps
+pub mod Moves
 pub mod Order
 pub mod Zones
