@@ -59,6 +59,7 @@ impl<K: Sink + Drop> Buffered<K> {
     }
 
     // Holds the piece where there is room for all of it, and tells whether there is.
+    #[inline(always)]
     fn hold_whole(&mut self, piece: &[u8]) -> bool
         ensures whole { result ≡ true → self.new.held ≡ self.old.held ++ piece.now }
         ensures none { result ≡ false → self.new ≡ self.old }
@@ -151,6 +152,7 @@ impl<K: Sink + Drop> Sink for Buffered<K> {
 
     ghost behind = { λ b. length b.held + K.behind b.inner };
 
+    #[inline(always)]
     fn put(&mut self, piece: &[u8]) -> Result<usize, Failed> {
         if self.hold_whole(piece) {
             return Ok(piece.len());

@@ -68,6 +68,7 @@ fn write_rest<K: Sink>(sink: &mut K, piece: &[u8]) -> Result<(), WriteFault>
 }
 
 /// Writes the whole piece, or fails after a prefix of it.
+#[inline(always)]
 pub fn write_all<K: Sink>(sink: &mut K, piece: &[u8]) -> Result<(), WriteFault>
     ensures ok { OnOk result (Appends (K.written sink.old) (K.written sink.new) piece.now) }
     ensures err { OnErr result (AppendsFront (K.written sink.old) (K.written sink.new) piece.now) }
