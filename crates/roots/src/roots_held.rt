@@ -1,11 +1,13 @@
 // What the roots hold.
-ghost use Rattle.std.specs.Prelude.{◌≡◌, ◌≢◌, ◌+◌, ◌++◌, ◌<◌, ◌^◌, ◌↔◌, ℕ, None, Some, [], length, replicate};
+ghost use Rattle.std.specs.Prelude.{◌≡◌, ◌≢◌, ◌+◌, ◌++◌, ◌<◌, ◌^◌, ◌↔◌, ℕ, None, Some, [], length, map, replicate};
 ghost use Rattle.std.specs.Prelude.{slice_get, slice_set, IfOk, IfSome, IfNone, OnOk, OnErr};
+ghost use Rattle.std.specs.Option.{option_map};
+ghost use Rattle.gz_names.specs.Moves.{moved};
 ghost use Rattle.gz_names.specs.Zones.{HasZone};
 ghost use Rattle.roots.specs.Buffers.{places_in};
 
 use crate::buffers::{clear_waiting, new_buffers, put_both, take_item};
-use gz_names::{GrayNo, NoMemory, Place, Reg, ZoneNo, ZoneSet};
+use gz_names::{GrayNo, Moves, NoMemory, Place, Reg, ZoneNo, ZoneSet};
 use std::alloc::Global;
 use std::marker::Model;
 
@@ -89,6 +91,17 @@ impl Roots {
         self.slots[g.index() as usize] = v;
     }
 
+    /// Registers and gray slots hold their cells where these have gone. What waits is as it was.
+    pub fn forward(&mut self, moves: &Moves)
+        ensures { self.new ≡ record self.old {
+          regs = map (option_map (moved moves.now)) self.old.regs;
+          slots = map (option_map (moved moves.now)) self.old.slots;
+        } }
+    {
+        forward_all(&mut self.regs, moves);
+        forward_all(&mut self.slots, moves);
+    }
+
     /// Puts the cells of gray slots and the gray wrappers into the buffers of the zones that they
     /// are given with. All memory is taken before anything is put in.
     pub fn buffer_gray(
@@ -134,4 +147,20 @@ impl Roots {
     {
         self.waiting
     }
+}
+
+// What holds cells holds them where they have gone.
+fn forward_all(held: &mut [Option<Place>], moves: &Moves)
+    ensures { held.new ≡ map (option_map (moved moves.now)) held.old }
+{
+    for place in held.iter_mut() {
+        *place = forwarded(*place, moves);
+    }
+}
+
+// A cell that is held, where it has gone.
+fn forwarded(held: Option<Place>, moves: &Moves) -> Option<Place>
+    ensures { result ≡ option_map (moved moves.now) held }
+{
+    Some(moves.moved_to(held?))
 }

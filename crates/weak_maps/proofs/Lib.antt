@@ -5,6 +5,8 @@ pub mod Queueing
 pub mod Seating
 pub mod Looks
 pub mod Leaving
+pub mod Exchanging
+pub mod Forwarding
 pub mod Filling
 pub mod Renaming
 pub mod Adding

@@ -26,10 +26,10 @@ pub record StandsAt (heads : HeadsState) (p : Place) (page slot : ℕ) (numbers 
   pub within : p.1 < length numbers
 
 -- a number is put there
-module _ (heads : HeadsState) (p : Place) (n page slot : ℕ) (numbers : List ℕ)
+module _ (heads : HeadsState) (p : Place) (kept page slot : ℕ) (numbers : List ℕ)
     (at : StandsAt heads p page slot numbers) where
   abbrev pub put : List ℕ
-  put = set numbers slot (n + 1)
+  put = set numbers slot kept
 
   abbrev pub new : HeadsState
   new = record { arenas = heads.arenas; pages = set heads.pages page put }
@@ -37,13 +37,12 @@ module _ (heads : HeadsState) (p : Place) (n page slot : ℕ) (numbers : List �
   here : slice_get new.pages page ≡ Some put
   here = slice_get-set_same heads.pages page put (slice_get_within heads.pages page numbers at.read)
 
-  at_slot : number_at put p.1 ≡ Some n
+  at_slot : number_at put p.1 ≡ number_from kept
   at_slot = ap (λ (i : ℕ). number_at put i) (sym at.slot_is)
-      ∙ (ap (option_and_then number_from)
-      (slice_get-set_same numbers slot (n + 1) (omega (arith, at.slot_is, at.within)))
-      ∙ ap number_from (let next : n + 1 ≡ suc n = omega arith in next))
+      ∙ ap (option_and_then number_from)
+      (slice_get-set_same numbers slot kept (omega (arith, at.slot_is, at.within)))
 
-  pub head_of-put : (q : Place) → head_of new q ≡ cond (is_same p q) (Some n) (head_of heads q)
+  pub head_of-put : (q : Place) → head_of new q ≡ cond (is_same p q) (number_from kept) (head_of heads q)
   head_of-put q = by (is_same p q) refl
     where
       other_arena : (o : Option ℕ) → page_of heads q.0 ≡ o → q.0 ≢ p.0
@@ -52,7 +51,7 @@ module _ (heads : HeadsState) (p : Place) (n page slot : ℕ) (numbers : List �
       other_arena (Some m) e other = ap (on q.1) (slice_get-set_other heads.pages page m put
           (λ same. other (at.are.apart q.0 p.0 page (e ∙ ap (λ (m : ℕ). Some m) same) at.has)))
 
-      by : (b : Bool) → is_same p q ≡ b → head_of new q ≡ cond b (Some n) (head_of heads q)
+      by : (b : Bool) → is_same p q ≡ b → head_of new q ≡ cond b (number_from kept) (head_of heads q)
       by true e = ap (λ (r : Place). head_of new r) (sym (is_same-true p q e))
           ∙ (ap (on_page new.pages p.1) at.has ∙ (ap (on p.1) here ∙ at_slot))
       by false e = elim (cases_eq q.0 p.0) [
@@ -61,7 +60,7 @@ module _ (heads : HeadsState) (p : Place) (n page slot : ℕ) (numbers : List �
             false≢true (sym e ∙ (ap (is_same p) (λ i. (same i, (slots ∙ at.slot_is) i)) ∙ is_same-self p)) in
             let there : page_of heads q.0 ≡ Some page = ap (page_of heads) same ∙ at.has in
             ap (on_page new.pages q.1) there ∙ (ap (on q.1) here
-            ∙ (ap (option_and_then number_from) (slice_get-set_other numbers slot q.1 (n + 1) apart)
+            ∙ (ap (option_and_then number_from) (slice_get-set_other numbers slot q.1 kept apart)
             ∙ (ap (on q.1) (sym at.read) ∙ ap (on_page heads.pages q.1) (sym there))))
         | inr other ↦ other_arena (page_of heads q.0) refl other
       ]
@@ -75,9 +74,9 @@ module _ (heads : HeadsState) (p : Place) (n page slot : ℕ) (numbers : List �
       | inl same ↦
           let is = same_Some _ _ (sym here ∙ (ap (slice_get new.pages) (sym same) ∙ there)) in
           let long : length put ≡ length ns = ap (λ (l : List ℕ). length l) is in
-          let kept = length-set numbers slot (n + 1) in
+          let as_long = length-set numbers slot kept in
           let was = at.are.sized page numbers at.read in
-          omega (arith, long, kept, was)
+          omega (arith, long, as_long, was)
       | inr other ↦ at.are.sized m ns (sym (slice_get-set_other heads.pages page m put other) ∙ there)
     ];
   }

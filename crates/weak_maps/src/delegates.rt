@@ -1,13 +1,18 @@
 // The entries whose key is a wrapper, by what the wrapper leads to and by zone.
 ghost use Rattle.std.specs.Prelude.{◌≡◌, ◌↔◌, ◌<◌, ◌≤◌, ◌&&◌, None, Some, [], IfNone, IfSome, IsTrue, OnErr, OnOk};
-ghost use Rattle.std.specs.Prelude.{slice_get};
+ghost use Rattle.std.specs.Prelude.{◌+◌, IfOk, IsOk, List, map, slice_get};
 ghost use Rattle.std.specs.Option.{option_map};
-ghost use Rattle.weak_maps.specs.Delegates.{place_of_zone};
+ghost use Rattle.indexmap.specs.IndexMap.{IsUnique, insert_entry, spare};
+ghost use Rattle.gz_names.specs.Moves.{GoApart};
+ghost use Rattle.weak_maps.specs.Delegates.{place_of_zone, rows_of};
+ghost use Rattle.weak_maps.specs.Moving.{AreNamedByRows, row_forwarded};
+ghost use Rattle.weak_maps.specs.Tables.{is_key};
 
 use crate::colours::MarkColour;
 use crate::entries::EntryKey;
+use crate::heads::Heads;
 use crate::sides::Side;
-use gz_names::{NoMemory, Place, ZoneNo};
+use gz_names::{Moves, NoMemory, Place, ZoneNo};
 use indexmap::IndexMap;
 use std::alloc::{AllocError, Global};
 use std::marker::Model;
@@ -29,6 +34,13 @@ pub(crate) struct Delegates {
     by_zone: Side,
 }
 
+/// The rows and the numbers of the targets' lists anew, with the cells where they have gone.
+#[derive(Drop)]
+pub(crate) struct ForwardedRows {
+    rows: IndexMap<EntryKey, Delegate>,
+    by_target: Heads,
+}
+
 impl Model for Delegates {
     ghost use Rattle.weak_maps.specs.Delegates.{DelegatesState, AreRows, rows_of};
 
@@ -40,6 +52,9 @@ impl Model for Delegates {
 }
 
 impl Delegates {
+    ghost use Rattle.gz_names.specs.declared.moves.Move.{Move as AMove};
+    ghost use Rattle.weak_maps.specs.Moving.{delegates_forwarded};
+    ghost use Rattle.weak_maps.specs.ForwardedRows.{AreForwardedRows};
     ghost use Rattle.weak_maps.specs.Entries.{Starts};
     ghost use Rattle.weak_maps.specs.Delegates.{AddsRow, AreSameRows, AreSoundRows, CarriesRows, DelegateRow};
     ghost use Rattle.weak_maps.specs.Delegates.{DelegatesState, HasNewRow, LooksAtRow, NoRowLeft, TakesRow};
@@ -138,7 +153,7 @@ impl Delegates {
         self.by_target.add(delegate.target)?;
         match self.by_zone.add(place_of(delegate.zone)) {
             Ok(()) => {
-                self.rows.insert(key, delegate)?;
+                enter(&mut self.rows, key, delegate)?;
                 Ok(())
             }
             Err(refused) => {
@@ -158,6 +173,31 @@ impl Delegates {
         self.rows.pop();
         self.by_target.undo_add();
         self.by_zone.undo_add();
+    }
+
+    /// The rows anew, with the cells where they have gone. It takes the memory that `set_rows` needs.
+    pub fn forwarded(&self, alloc: Global, moves: &Moves) -> Result<ForwardedRows, NoMemory>
+        requires { GoApart (AreNamedByRows self.now.rows) moves.now }
+        ensures forwarded { IfOk result (AreForwardedRows self.now moves.now) }
+        ensures sound { AreSoundRows self.now }
+    {
+        let rows = forwarded_rows(alloc, &self.rows, moves)?;
+        let by_target = self.by_target.exchanged(moves)?;
+        Ok(ForwardedRows { rows, by_target })
+    }
+
+    /// The rows name their cells where these have gone after some moves. Each keeps its number and its places in the
+    /// lists, and is still to be looked at as it was.
+    pub fn set_rows(&mut self, gone: ForwardedRows)
+        requires { (moves : List AMove) × AreForwardedRows self.old moves gone
+            × GoApart (AreNamedByRows self.old.rows) moves }
+        ensures forwarded { (moves : List AMove) → AreForwardedRows self.old moves gone
+            → (rows_shown self.new ≡ delegates_forwarded moves (rows_shown self.old))
+            × (self.new.by_target.left ≡ self.old.by_target.left) }
+        ensures sound { AreSoundRows self.new }
+    {
+        self.rows = gone.rows;
+        self.by_target.set_heads(gone.by_target);
     }
 
     /// Takes out the row of a key, if it has one. The last row has its number then.
@@ -208,4 +248,42 @@ fn place_of(zone: ZoneNo) -> Place
     ensures { result ≡ place_of_zone zone }
 {
     Place::first_of(u32::from(zone.index()))
+}
+
+// Gives a key its delegate. All that adds to the rows comes by here.
+fn enter(
+    rows: &mut IndexMap<EntryKey, Delegate>,
+    key: EntryKey,
+    delegate: Delegate,
+) -> Result<(), NoMemory>
+    ensures ok { OnOk result (rows.new.entries ≡ insert_entry is_key rows.old.entries key delegate) }
+    ensures err { OnErr result (rows.new.entries ≡ rows.old.entries) }
+    ensures succeeds { 0 < spare rows.old → IsOk result }
+    ensures room { spare rows.old ≤ spare rows.new + 1 }
+    ensures unique { IsUnique is_key rows.new }
+{
+    rows.insert(key, delegate)?;
+    Ok(())
+}
+
+// Rows anew, which name their cells where these have gone.
+fn forwarded_rows(
+    alloc: Global,
+    rows: &IndexMap<EntryKey, Delegate>,
+    moves: &Moves,
+) -> Result<IndexMap<EntryKey, Delegate>, NoMemory>
+    requires { GoApart (AreNamedByRows (rows_of rows.now)) moves.now }
+    ensures { IfOk result (λ gone. rows_of gone ≡ map (row_forwarded moves.now) (rows_of rows.now)) }
+{
+    let mut gone = IndexMap::with_capacity(alloc, rows.len())?;
+    for (key, delegate) in rows.iter() {
+        let moved = EntryKey {
+            map: moves.moved_to(key.map),
+            key: moves.moved_to(key.key),
+        };
+        let target = moves.moved_to(delegate.target);
+        let zone = delegate.zone;
+        enter(&mut gone, moved, Delegate { target, zone })?;
+    }
+    Ok(gone)
 }

@@ -1,11 +1,15 @@
 // The entries, with the lists of each map and of each key.
 ghost use Rattle.std.specs.Prelude.{◌≡◌, ◌≢◌, ◌<◌, ◌≤◌, ◌+◌, ◌++◌, ◌∷◌, ◌&&◌, ◌||◌, Bool, true, false, Some, None, []};
-ghost use Rattle.std.specs.Prelude.{Contains, length, slice_get};
-ghost use Rattle.std.specs.Prelude.{swap_remove, is_some, IfSome, IfNone, IfOk, OnOk, OnErr, if◌then◌else◌};
+ghost use Rattle.std.specs.Prelude.{Contains, length, map, slice_get};
+ghost use Rattle.std.specs.Prelude.{swap_remove, is_some, IfSome, IfNone, IfOk, IsOk, OnOk, OnErr, if◌then◌else◌};
+ghost use Rattle.indexmap.specs.IndexMap.{IsUnique, insert_entry, spare};
+ghost use Rattle.gz_names.specs.Moves.{GoApart};
+ghost use Rattle.weak_maps.specs.Moving.{AreNamed, entry_forwarded};
+ghost use Rattle.weak_maps.specs.Tables.{entries_of, is_key};
 
 use crate::colours::MarkColour;
 use crate::sides::Side;
-use gz_names::{NoMemory, Place};
+use gz_names::{Moves, NoMemory, Place};
 use indexmap::IndexMap;
 use std::alloc::{AllocError, Global};
 use std::marker::Model;
@@ -50,6 +54,7 @@ impl Model for Entries {
 }
 
 impl Entries {
+    ghost use Rattle.weak_maps.specs.Moving.{entries_forwarded};
     ghost use Rattle.weak_maps.specs.Places.{is_same};
     ghost use Rattle.weak_maps.specs.Entries.{EntriesState, HaveLooks, AreEntries, CarriesEntries, PutsEntry};
     ghost use Rattle.weak_maps.specs.Entries.{LooksAtEntry, NoEntryLeft, Starts, listed_of, put_at, value_at};
@@ -196,7 +201,7 @@ impl Entries {
                     map: entry.map,
                     key: entry.key,
                 };
-                self.table.insert(key, entry.value)?;
+                enter(&mut self.table, key, entry.value)?;
                 Ok(())
             }
             Err(refused) => {
@@ -204,6 +209,24 @@ impl Entries {
                 Err(refused)
             }
         }
+    }
+
+    /// The entries name their cells where these have gone. Each keeps its number and its places in the lists, and is
+    /// still to be looked at as it was. All memory is taken before anything changes: the table is made anew.
+    pub fn forward(&mut self, alloc: Global, moves: &Moves) -> Result<(), NoMemory>
+        requires { GoApart (AreNamed self.old.table.entries) moves.now }
+        ensures ok { OnOk result (self.new ≡ entries_forwarded moves.now self.old) }
+        ensures err { OnErr result (self.new ≡ self.old) }
+        ensures parallel { HaveLooks self.new }
+        ensures sound { AreEntries self.new.table }
+    {
+        let table = forwarded_table(alloc, &self.table, moves)?;
+        let by_map = self.by_map.exchanged(moves)?;
+        let by_key = self.by_key.exchanged(moves)?;
+        self.table = table;
+        self.by_map.set_heads(by_map);
+        self.by_key.set_heads(by_key);
+        Ok(())
     }
 
     /// Takes an entry out, and returns the value that was there. The last entry has its number then. The others are
@@ -286,4 +309,36 @@ impl Entries {
             }
         }
     }
+}
+
+// Gives a value to a key of a table. All that adds to the table comes by here, so that its `insert` stays in line.
+fn enter(table: &mut IndexMap<EntryKey, Place>, key: EntryKey, value: Place) -> Result<(), NoMemory>
+    ensures ok { OnOk result (table.new.entries ≡ insert_entry is_key table.old.entries key value) }
+    ensures err { OnErr result (table.new.entries ≡ table.old.entries) }
+    ensures succeeds { 0 < spare table.old → IsOk result }
+    ensures room { spare table.old ≤ spare table.new + 1 }
+    ensures unique { IsUnique is_key table.new }
+{
+    table.insert(key, value)?;
+    Ok(())
+}
+
+// A table anew, whose entries name their cells where these have gone.
+fn forwarded_table(
+    alloc: Global,
+    table: &IndexMap<EntryKey, Place>,
+    moves: &Moves,
+) -> Result<IndexMap<EntryKey, Place>, NoMemory>
+    requires { GoApart (AreNamed (entries_of table.now)) moves.now }
+    ensures { IfOk result (λ gone. entries_of gone ≡ map (entry_forwarded moves.now) (entries_of table.now)) }
+{
+    let mut gone = IndexMap::with_capacity(alloc, table.len())?;
+    for (key, value) in table.iter() {
+        let moved = EntryKey {
+            map: moves.moved_to(key.map),
+            key: moves.moved_to(key.key),
+        };
+        enter(&mut gone, moved, moves.moved_to(*value))?;
+    }
+    Ok(gone)
 }

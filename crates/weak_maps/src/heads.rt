@@ -2,7 +2,7 @@
 ghost use Rattle.std.specs.Prelude.{◌≡◌, ◌<◌, ℕ, [], false, None, Some, IfOk, OnOk, OnErr, if◌then◌else◌};
 ghost use Rattle.weak_maps.specs.Heads.{number_from as number_kept};
 
-use gz_names::{NoMemory, Place};
+use gz_names::{Move, Moves, NoMemory, Place};
 use std::alloc::{AllocError, Global};
 use std::marker::Model;
 
@@ -28,6 +28,7 @@ impl Model for Heads {
 
 impl Heads {
     ghost use Rattle.weak_maps.specs.Heads.{head_of, no_heads, page_of};
+    ghost use Rattle.weak_maps.specs.Moving.{exchanged, other_of};
     ghost use Rattle.weak_maps.specs.Places.{is_same};
 
     /// No place has a list.
@@ -73,9 +74,62 @@ impl Heads {
             ≡ (if is_same place q then Some list else head_of self.old q)) }
         ensures err { OnErr result (self.new ≡ self.old) }
     {
+        self.keep(place, list + 1)
+    }
+
+    // What is kept for a place.
+    fn kept_for(&self, place: Place) -> u32
+        ensures { number_kept result ≡ head_of self.now place }
+    {
+        match self.page(place.arena()) {
+            Some(page) => self.pages[page as usize][place.slot() as usize],
+            None => 0,
+        }
+    }
+
+    // This is kept for a place from now on.
+    fn keep(&mut self, place: Place, number: u32) -> Result<(), NoMemory>
+        ensures ok { OnOk result ((q : Place) → head_of self.new q
+            ≡ (if is_same place q then number_kept number else head_of self.old q)) }
+        ensures err { OnErr result (self.new ≡ self.old) }
+    {
         let page = self.page_for(place.arena())?;
-        self.pages[page as usize][place.slot() as usize] = list + 1;
+        self.pages[page as usize][place.slot() as usize] = number;
         Ok(())
+    }
+
+    // Two places exchange their lists.
+    fn exchange(&mut self, step: Move) -> Result<(), NoMemory>
+        ensures { OnOk result ((q : Place) → head_of self.new q ≡ head_of self.old (other_of step q)) }
+    {
+        let (first, second) = (self.kept_for(step.from), self.kept_for(step.to));
+        if first == 0 && second == 0 {
+            return Ok(());
+        }
+        self.keep(step.from, second)?;
+        self.keep(step.to, first)
+    }
+
+    // The numbers of the lists of all places, anew.
+    fn copied(&self) -> Result<Self, NoMemory>
+        ensures { IfOk result (λ heads. heads ≡ self.now) }
+    {
+        let arenas = Vec::from_slice(*self.arenas.allocator(), self.arenas.as_slice())?;
+        let pages = Vec::from_slice(*self.pages.allocator(), self.pages.as_slice())?;
+        Ok(Heads { arenas, pages })
+    }
+
+    /// The numbers of the lists, anew, where the places of each move have exchanged their lists, one move after
+    /// the other. A place to which a cell goes may have an empty list, which goes to the place that is left.
+    pub fn exchanged(&self, moves: &Moves) -> Result<Self, NoMemory>
+        ensures { IfOk result (λ heads. (q : Place)
+            → head_of heads q ≡ head_of self.now (exchanged moves.now q)) }
+    {
+        let mut heads = self.copied()?;
+        for step in moves.as_slice() {
+            heads.exchange(*step)?;
+        }
+        Ok(heads)
     }
 
     // The number of an arena's page, which it has from now on.

@@ -1,6 +1,6 @@
 // The entries by their maps, or by their keys.
-ghost use Rattle.std.specs.Prelude.{◌≡◌, ◌≢◌, ◌<◌, ◌-◌, [], ℕ, false, None, Some, Contains, IfSome, IfNone, OnOk};
-ghost use Rattle.std.specs.Prelude.{OnErr, length, slice_get, slice_set, swap_remove};
+ghost use Rattle.std.specs.Prelude.{◌≡◌, ◌≢◌, ◌<◌, ◌-◌, [], ℕ, List, false, None, Some, Contains, IfOk, IfSome, IfNone};
+ghost use Rattle.std.specs.Prelude.{OnOk, OnErr, length, slice_get, slice_set, swap_remove};
 ghost use Rattle.weak_maps.specs.Heads.{no_heads};
 ghost use Rattle.weak_maps.specs.Sides.{IsAdded, IsSide, IsUndone, Starts, WasAdded, listed, number_of};
 
@@ -9,7 +9,7 @@ use crate::heads::Heads;
 use crate::listings::Listing;
 use crate::queues::Queue;
 use crate::seats::{Seat, add_entry, add_first, next_left, take_entry, undo_add};
-use gz_names::{NoMemory, Place};
+use gz_names::{Moves, NoMemory, Place};
 use std::alloc::{AllocError, Global};
 use std::marker::Model;
 
@@ -37,6 +37,9 @@ impl Model for Side {
 }
 
 impl Side {
+    ghost use Rattle.gz_names.specs.declared.moves.Move.{Move as AMove};
+    ghost use Rattle.weak_maps.specs.Heads.{head_of};
+    ghost use Rattle.weak_maps.specs.Moving.{exchanged};
     ghost use Rattle.weak_maps.specs.Sides.{SideState};
 
     /// No entries.
@@ -112,6 +115,25 @@ impl Side {
         self.heads.insert(place, self.lists.len() as u32)?;
         add_first(&mut self.lists, &mut self.seats, listing);
         Ok(())
+    }
+
+    /// The numbers of the places' lists, anew, where the places of each move have exchanged their lists.
+    pub fn exchanged(&self, moves: &Moves) -> Result<Heads, NoMemory>
+        ensures numbers { IfOk result (λ heads. (q : Place)
+            → head_of heads q ≡ number_of self.now (exchanged moves.now q)) }
+        ensures side { IsSide self.now }
+    {
+        self.heads.exchanged(moves)
+    }
+
+    /// Places have these lists from now on, after some moves by which the places have exchanged them.
+    pub fn set_heads(&mut self, heads: Heads)
+        requires { (moves : List AMove) × ((q : Place)
+            → head_of heads q ≡ number_of self.old (exchanged moves q)) }
+        ensures heads { self.new ≡ record self.old { heads = heads } }
+        ensures side { IsSide self.new }
+    {
+        self.heads = heads;
     }
 
     /// An entry goes, and the last one has its number then.

@@ -9,7 +9,7 @@ ghost use Rattle.std.specs.Option.{option_map};
 use crate::colours::MarkColour;
 use crate::delegates::{Delegate, Delegates};
 use crate::entries::{Entries, EntryKey, WeakEntry};
-use gz_names::{NoMemory, Place, ZoneNo};
+use gz_names::{Moves, NoMemory, Place, ZoneNo};
 use std::alloc::Global;
 use std::marker::Model;
 
@@ -32,6 +32,8 @@ impl Model for WeakMaps {
 }
 
 impl WeakMaps {
+    ghost use Rattle.gz_names.specs.Moves.{GoApart};
+    ghost use Rattle.weak_maps.specs.Moving.{IsNamed, maps_forwarded};
     ghost use Rattle.weak_maps.specs.Places.{is_same};
     ghost use Rattle.weak_maps.specs.Entries.{Starts, put_at};
     ghost use Rattle.weak_maps.specs.Delegates.{DelegateRow};
@@ -260,6 +262,21 @@ impl WeakMaps {
     {
         self.delegates.take(EntryKey { map, key });
         self.entries.del(map, key)
+    }
+
+    /// The entries name their cells where these have gone, delegates among them. Each keeps its number and its places
+    /// in the lists, and is still to be looked at as it was. All memory is taken before anything changes.
+    pub fn forward(&mut self, alloc: Global, moves: &Moves) -> Result<(), NoMemory>
+        requires { GoApart (IsNamed self.old.table) moves.now }
+        ensures ok { OnOk result (self.new ≡ maps_forwarded moves.now self.old) }
+        ensures err { OnErr result (self.new ≡ self.old) }
+        ensures parallel { AreParallel self.new }
+        ensures sound { IsSound self.new.table }
+    {
+        let rows = self.delegates.forwarded(alloc, moves)?;
+        self.entries.forward(alloc, moves)?;
+        self.delegates.set_rows(rows);
+        Ok(())
     }
 
     /// Takes out the entries whose map or key lies in an arena at one of these slots. The others may change their

@@ -1,9 +1,10 @@
 -- Where a wrapper is found.
 use Rattle.std.proofs.Common.{◌≡◌, ◌≢◌, ◌<◌, ◌⊎◌, inl, inr, ℕ, zero, suc, Bool, true, false, cond, List, [], ◌∷◌}
 use Rattle.std.proofs.Common.{length, get_or, Option, Some, None, IfSome, IfNone, Contains, slice_get, refl, sym, ◌∙◌}
-use Rattle.std.proofs.Common.{ap, subst, arith}
+use Rattle.std.proofs.Common.{AllPairs, ap, subst, arith}
+use Rattle.std.proofs.lemmas.List.{get_or_default}
 use Rattle.std.proofs.lemmas.List.Elements.{Contains-get_or, Contains-append_right}
-use Rattle.std.proofs.lemmas.Bool.{false≢true}
+use Rattle.std.proofs.lemmas.Bool.{cases_order, false≢true}
 use Rattle.std.proofs.lemmas.Bool.Decides.{nat_tests}
 use Rattle.std.proofs.lemmas.Option.{slice_get-get_or}
 use Rattle.std.specs.Map.{lookup}
@@ -144,3 +145,32 @@ AreApart-from_sound lists homes h = record {
   one_zone = λ y z d e first second same.
       let here = sym (h.at_home y d first) ∙ (ap (slice_get homes) same ∙ h.at_home z e second) in cc;
 }
+
+-- two entries of a list with one key have one place
+one-place : (es : List (WrapperKey × Place)) (d e : WrapperKey × Place)
+    → AllPairs (λ (x y : WrapperKey × Place). x.0 ≢ y.0) es → Contains es d → Contains es e → d.0 ≡ e.0 → d.1 ≡ e.1
+one-place es d e apart (i, below, here) (j, within, there) same = elim (cases_order i j) [
+  | inl one ↦ ap (λ (x : WrapperKey × Place). x.1)
+      (sym here ∙ get_or_default es i d e below ∙ ap (λ (k : ℕ). get_or es k e) one ∙ there)
+  | inr two ↦ elim two [
+    | inl lt ↦ absurd (apart i j d lt within (ap (λ (x : WrapperKey × Place). x.0) here ∙ same
+        ∙ ap (λ (x : WrapperKey × Place). x.0) (sym there ∙ get_or_default es j e d within)))
+    | inr gt ↦ absurd (apart j i d gt below
+        (ap (λ (x : WrapperKey × Place). x.0) (get_or_default es j d e within ∙ there) ∙ sym same
+        ∙ ap (λ (x : WrapperKey × Place). x.0) (sym here)))
+  ]
+]
+
+-- an entry's place is found under its key
+pub found-there : (lists : List (List (WrapperKey × Place))) (z : ℕ) (e : WrapperKey × Place) → AreApart lists
+    → Contains (list_at lists z) e → place_at lists e.0.comp e.0.target ≡ Some e.1
+found-there lists z e apart there =
+    place_at-home lists z e.0.comp e.0.target (λ y d m k. apart.one_zone y z d e m there k)
+    ∙ go (lookup (is_key e.0.comp e.0.target) (list_at lists z)) refl
+    (lookup-Contains (list_at lists z) e.0.comp e.0.target)
+  where
+    go : (o : Option Place) → lookup (is_key e.0.comp e.0.target) (list_at lists z) ≡ o
+        → IfSome o (λ p. Contains (list_at lists z) (record { comp = e.0.comp; target = e.0.target }, p)) → o ≡ Some e.1
+    go None none found = absurd (lookup-none (list_at lists z) e.0.comp e.0.target e.1 none there)
+    go (Some p) is found =
+        ap (λ (q : Place). Some q) (one-place (list_at lists z) (e.0, p) e (apart.distinct z) found there refl)

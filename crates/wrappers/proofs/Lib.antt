@@ -1,4 +1,5 @@
 pub mod Finding
+mod Forwarding
 pub mod Adding
 pub mod Dropping
 pub mod Lists

@@ -6,6 +6,8 @@ use Rattle.std.specs.Map.{lookup}
 use Rattle.std.specs.declared.hash.FoldHasher.{FoldHasher}
 use Rattle.std.specs.declared.hash.BuildHasherDefault.{BuildHasherDefault}
 use Rattle.indexmap.specs.IndexMap.{IndexMap}
+use Rattle.gz_names.specs.Moves.{moved}
+use Rattle.gz_names.specs.declared.moves.Move.{Move}
 use Rattle.gz_names.specs.declared.numbers.Place.{Place}
 use Rattle.gz_names.specs.declared.numbers.ZoneNo.{ZoneNo}
 use Rattle.wrappers.specs.declared.wrapper_maps.WrapperKey.{WrapperKey}
@@ -59,6 +61,10 @@ AnswersBy ask test = (place : Place) (answer : Bool) → ask place answer → an
 -- the wrappers without those at places that pass a test, where a bit of a word says so
 abbrev pub without_dead : ℕ → (Place → Bool) → List (WrapperKey × Place) → List (WrapperKey × Place)
 without_dead bit is_dead entries = if bit == 1 then filter (λ e. not (is_dead e.1)) entries else entries
+
+-- the wrappers at the places to which moves take them
+abbrev pub all_forwarded : List Move → List (WrapperKey × Place) → List (WrapperKey × Place)
+all_forwarded moves entries = map (λ e. (e.0, moved moves e.1)) entries
 
 -- the lists that maps hold
 abbrev pub lists_of : List (IndexMap WrapperKey Place (BuildHasherDefault FoldHasher))

@@ -1,14 +1,14 @@
 // The wrappers of each zone.
 ghost use Rattle.std.specs.Prelude.{◌<◌, ◌≡◌, ◌↔◌, IsTrue, ◌+◌, ◌++◌, ◌∷◌, ◌==◌, ◌&&◌, ℕ, Bool, List, None, Some, []};
-ghost use Rattle.std.specs.Prelude.{length, map, replicate, slice_get, slice_index_or, not, filter, Contains, IfOk};
-ghost use Rattle.std.specs.Prelude.{IfSome, IfNone, OnOk, OnErr, is_some, if◌then◌else◌};
+ghost use Rattle.std.specs.Prelude.{length, map, replicate, slice_get, slice_set, slice_index_or, not, filter};
+ghost use Rattle.std.specs.Prelude.{Contains, IfOk, IfSome, IfNone, OnOk, OnErr, is_some, if◌then◌else◌};
 ghost use Rattle.std.specs.Int.{bit_at};
 ghost use Rattle.std.specs.Map.{lookup};
 ghost use Rattle.std.specs.Option.{option_map};
 ghost use Rattle.gz_names.specs.declared.numbers.Place.{Place};
-ghost use Rattle.wrappers.specs.WrapperMaps.{is_key, list_at, lists_of, add_at, DropsDead, KeptBy};
+ghost use Rattle.wrappers.specs.WrapperMaps.{is_key, list_at, lists_of, add_at, all_forwarded, DropsDead, KeptBy};
 
-use gz_names::{CompNo, NoMemory, Place, ZoneNo, ZoneSet};
+use gz_names::{CompNo, Moves, NoMemory, Place, ZoneNo, ZoneSet};
 use indexmap::IndexMap;
 use std::alloc::Global;
 use std::marker::Model;
@@ -111,6 +111,16 @@ impl Wrappers {
         ensures apart { AreApart self.old.lists }
     {
         drop_in_zones(&mut self.maps, zones, &dead);
+    }
+
+    /// The wrappers of a zone are found where they have gone. They keep their order.
+    pub fn forward(&mut self, zone: ZoneNo, moves: &Moves)
+        ensures lists { self.new ≡ record {
+          lists = slice_set self.old.lists zone (all_forwarded moves.now (list_of self.old zone));
+        } }
+        ensures apart { AreApart self.new.lists }
+    {
+        forward_in_zone(&mut self.maps, zone, moves);
     }
 
     /// The next wrapper of a zone. From cursor 0 it visits each one once, in the order in which they
@@ -223,6 +233,18 @@ fn has_none_in_zone(maps: &[IndexMap<WrapperKey, Place>], zone: ZoneNo) -> bool
 {
     let map = &maps[zone.index() as usize];
     map.is_empty()
+}
+
+// The wrappers of a zone are found where they have gone.
+fn forward_in_zone(maps: &mut [IndexMap<WrapperKey, Place>], zone: ZoneNo, moves: &Moves)
+    requires zones { length maps.old ≡ 64 }
+    ensures { lists_of maps.new ≡ slice_set (lists_of maps.old) zone
+        (all_forwarded moves.now (list_at (lists_of maps.old) zone)) }
+{
+    maps[zone.index() as usize].retain(|_key, place| {
+        *place = moves.moved_to(*place);
+        true
+    });
 }
 
 // Drops the entries of dead cells from the maps of these zones.

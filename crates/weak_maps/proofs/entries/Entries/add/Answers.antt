@@ -12,17 +12,17 @@ pub invariant_of-self-in-Ok : goal.invariant_of-self-in-Ok
 invariant_of-self-in-Ok c =
     let none : value_at (entries_of c.self.inside.table) c.args.entry.now.map c.args.entry.now.key ≡ None =
     rw (← c.self.view_is) at c.requires.absent in
-    let fresh = c.in_ok-insert-in-Ok.ensures in
-    let put = put_at-inserted c.self.inside.table c.reserve.new.self c.insert.new.self c.args.entry.now.map
-    c.args.entry.now.key c.args.entry.now.value c.in_ok-reserve.ensures.entries none fresh.entries in
+    let fresh = c.in_ok-enter-in-Ok.ensures in
+    let put = put_at-inserted c.self.inside.table c.reserve.new.self c.enter.new.table c.args.entry.now.map
+    c.args.entry.now.key c.args.entry.now.value c.in_ok-reserve.ensures.entries none fresh.ok in
     let pushed = put ∙ put_at-new (entries_of c.self.inside.table) c.args.entry.now.map c.args.entry.now.key
     c.args.entry.now.value none in
     let few : length (entries_of c.self.inside.table) < 4294967295 =
     (let len = length-map c.self.inside.table.entries seen_entry in let count = c.len.ensures.len in let low =
     c.if-len.false in omega (arith, len, count, low)) in
-    (AreTied-added (entries_of c.self.inside.table) (entries_of c.insert.new.self) c.self.inside.by_map
+    (AreTied-added (entries_of c.self.inside.table) (entries_of c.enter.new.table) c.self.inside.by_map
     c.self.inside.by_key c.add.new.self c.add-2.new.self c.args.entry.now c.self.invariant pushed
-    (AreDistinct-entries c.insert.new.self fresh.unique) few c.in_ok-add.ensures.added c.in_ok-add.ensures.side
+    (AreDistinct-entries c.enter.new.table fresh.unique) few c.in_ok-add.ensures.added c.in_ok-add.ensures.side
     c.in-Ok.ensures.added c.in-Ok.ensures.side)
 
 pub invariant_of-self-in-Err : goal.invariant_of-self-in-Err
@@ -52,29 +52,29 @@ returns-in_err-add-clause-sound c = AreEntries-from_tied (entries_of c.reserve.n
       c.in_err-add.ensures.err,
     ) c.self.invariant)
 
-pub returns-in_ok-insert-in-Ok : goal.returns-in_ok-insert-in-Ok
-returns-in_ok-insert-in-Ok c =
+pub returns-in_ok-enter-in-Ok : goal.returns-in_ok-enter-in-Ok
+returns-in_ok-enter-in-Ok c =
     let none : value_at (entries_of c.self.inside.table) c.args.entry.now.map c.args.entry.now.key ≡ None =
     rw (← c.self.view_is) at c.requires.absent in
-    let fresh = c.in_ok-insert-in-Ok.ensures in
-    let put = put_at-inserted c.self.inside.table c.reserve.new.self c.insert.new.self c.args.entry.now.map
-    c.args.entry.now.key c.args.entry.now.value c.in_ok-reserve.ensures.entries none fresh.entries in
+    let fresh = c.in_ok-enter-in-Ok.ensures in
+    let put = put_at-inserted c.self.inside.table c.reserve.new.self c.enter.new.table c.args.entry.now.map
+    c.args.entry.now.key c.args.entry.now.value c.in_ok-reserve.ensures.entries none fresh.ok in
     let pushed = put ∙ put_at-new (entries_of c.self.inside.table) c.args.entry.now.map c.args.entry.now.key
     c.args.entry.now.value none in
     let few : length (entries_of c.self.inside.table) < 4294967295 =
     (let len = length-map c.self.inside.table.entries seen_entry in let count = c.len.ensures.len in let low =
     c.if-len.false in omega (arith, len, count, low)) in
-    let tied = AreTied-added (entries_of c.self.inside.table) (entries_of c.insert.new.self) c.self.inside.by_map
+    let tied = AreTied-added (entries_of c.self.inside.table) (entries_of c.enter.new.table) c.self.inside.by_map
     c.self.inside.by_key c.add.new.self c.add-2.new.self c.args.entry.now c.self.invariant pushed
-    (AreDistinct-entries c.insert.new.self fresh.unique) few c.in_ok-add.ensures.added c.in_ok-add.ensures.side
+    (AreDistinct-entries c.enter.new.table fresh.unique) few c.in_ok-add.ensures.added c.in_ok-add.ensures.side
     c.in-Ok.ensures.added c.in-Ok.ensures.side in
     rw (← c.self.view_is) record {
       entries = pushed;
       found = λ m k. ap (λ es. value_at es m k) put ∙ value_at-put_at (entries_of c.self.inside.table)
           c.args.entry.now.map c.args.entry.now.key c.args.entry.now.value m k;
       left = λ i. record { by_map = c.in_ok-add.ensures.added.left i; by_key = c.in-Ok.ensures.added.left i };
-      parallel = AreParallel-tied (entries_of c.insert.new.self) c.add.new.self c.add-2.new.self tied;
-      sound = AreEntries-from_tied (entries_of c.insert.new.self) c.add.new.self c.add-2.new.self tied;
+      parallel = AreParallel-tied (entries_of c.enter.new.table) c.add.new.self c.add-2.new.self tied;
+      sound = AreEntries-from_tied (entries_of c.enter.new.table) c.add.new.self c.add-2.new.self tied;
       err = tt;
     }
 

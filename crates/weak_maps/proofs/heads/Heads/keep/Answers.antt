@@ -1,9 +1,9 @@
 use Rattle.std.proofs.Common.{◌≡◌, ◌<◌, ◌∙◌, length, refl, sym, ap, cond, Some, slice_get, arith}
 use Rattle.std.proofs.lemmas.Option.{slice_get_read}
 use Rattle.weak_maps.specs.Places.{is_same}
-use Rattle.weak_maps.specs.Heads.{HeadsState, page_of, head_of}
+use Rattle.weak_maps.specs.Heads.{HeadsState, head_of, number_from, page_of}
 use Rattle.weak_maps.proofs.Numbering.{head_of-put}
-use Rattle.weak_maps.proofs.heads.Heads.insert.Goals as goal
+use Rattle.weak_maps.proofs.heads.Heads.keep.Goals as goal
 
 pub returns-clause-ok : goal.returns-clause-ok
 returns-clause-ok c = λ q.
@@ -17,7 +17,7 @@ returns-clause-ok c = λ q.
     slice_get_read heads.pages (length heads.pages) c.in_ok-page.page c.index_mut.result.now refl inside
     c.index_mut.ensures.value in
     let sized = c.self.invariant.sized c.in_ok-page.page c.index_mut.result.now read in
-    head_of-put heads c.args.place c.args.list c.in_ok-page.page c.slot.result c.index_mut.result.now
+    head_of-put heads c.args.place c.args.number c.in_ok-page.page c.slot.result c.index_mut.result.now
     (record {
       are = c.self.invariant;
       has = has;
@@ -25,5 +25,5 @@ returns-clause-ok c = λ q.
       slot_is = c.slot.ensures.value;
       within = omega (arith, sized, c.slot.ensures.value, c.slot.ensures.below);
     }) q
-    ∙ ap (cond (is_same c.args.place q) (Some c.args.list))
+    ∙ ap (cond (is_same c.args.place q) (number_from c.args.number))
     (ap (λ (h : HeadsState). head_of h q) c.self.view_is ∙ c.in_ok-page.ensures.same q)
