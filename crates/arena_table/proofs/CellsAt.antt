@@ -80,6 +80,15 @@ cell_at-field xs place f value p within = cell_at-changed (with_field place.1 f 
     xs place.0 place.1 p (λ x e. cell_in-change_same (with_value f value) x.slots place.1)
     (λ x k n. cell_in-change_other (change_cell (with_value f value)) x.slots place.1 k n) within
 
+-- any change of one cell
+pub cell_at-cell : (xs : List Arena) (place : Place) (f : CellState → CellState) (p : Place) → place.0 < length xs
+    → cell_at (change_at (λ (a : Arena). record a { slots = change_at (change_cell f) a.slots place.1 }) xs place.0) p
+    ≡ (if is_place p place then option_map f (cell_at xs p) else cell_at xs p)
+cell_at-cell xs place f p within = cell_at-changed
+    (λ (a : Arena). record a { slots = change_at (change_cell f) a.slots place.1 }) (option_map f) xs place.0 place.1 p
+    (λ x e. cell_in-change_same f x.slots place.1)
+    (λ x k n. cell_in-change_other (change_cell f) x.slots place.1 k n) within
+
 -- a cell is put
 cell_in-set_same : (slots : List (Option CellState)) (s : ℕ) (o : Option CellState) → s < length slots
     → cell_in (slice_set slots s o) s ≡ o
@@ -118,14 +127,20 @@ cell_at-grown xs zone a p = by (a == length xs)
     by true = cell_at-push xs zone p
     by false = refl
 
+pub cell_at-set : (xs : List Arena) (place : Place) (cell : CellState) (p : Place) → place.0 < length xs
+    → ((x : Arena) → slice_get xs place.0 ≡ Some x → place.1 < length x.slots)
+    → cell_at (change_at (with_cell place.1 cell) xs place.0) p ≡ (if is_place p place then Some cell else cell_at xs p)
+cell_at-set xs place cell p within long =
+    cell_at-changed (with_cell place.1 cell) (λ o. Some cell) xs place.0 place.1 p
+    (λ x e. cell_in-set_same x.slots place.1 (Some cell) (long x e))
+    (λ x k n. cell_in-set_other x.slots place.1 k (Some cell) n) within
+
 pub cell_at-put : (xs : List Arena) (zone : ℕ) (place : Place) (cell : CellState) (p : Place)
     → place.0 < length (grown_to xs zone place.0)
     → ((x : Arena) → slice_get (grown_to xs zone place.0) place.0 ≡ Some x → place.1 < length x.slots)
     → cell_at (put_at xs zone place cell) p ≡ (if is_place p place then Some cell else cell_at xs p)
 cell_at-put xs zone place cell p within long =
-    cell_at-changed (with_cell place.1 cell) (λ o. Some cell) (grown_to xs zone place.0) place.0 place.1 p
-    (λ x e. cell_in-set_same x.slots place.1 (Some cell) (long x e))
-    (λ x k n. cell_in-set_other x.slots place.1 k (Some cell) n) within
+    cell_at-set (grown_to xs zone place.0) place cell p within long
     ∙ ap (λ o. if is_place p place then Some cell else o) (cell_at-grown xs zone place.0 p)
 
 -- cells are freed

@@ -1,5 +1,6 @@
 -- What a change of one arena, or of some, does to all.
-use Rattle.std.proofs.Common.{◌≡◌, ◌≢◌, ◌<◌, ◌==◌, ◌&&◌, ℕ, zero, suc, Bool, true, false, not, if◌then◌else◌, List, []}
+use Rattle.std.proofs.Common.{◌≡◌, ◌≢◌, ◌<◌, ◌≤◌, ◌==◌, ◌&&◌, ℕ, zero, suc, Bool, true, false, not, if◌then◌else◌, List}
+use Rattle.std.proofs.Common.{[]}
 use Rattle.std.proofs.Common.{◌∷◌, length, Option, Some, None, slice_get, All, option_map, refl, sym, ◌∙◌, ap, subst}
 use Rattle.std.proofs.Common.{◌+◌, arith}
 use Rattle.std.proofs.lemmas.List.Elements.{All-nil, All-cons, All-head, All-tail}
@@ -12,7 +13,7 @@ use Rattle.arena_table.specs.Stored.{StoreState}
 use Rattle.arena_table.specs.Indexed.{IndexState, IsIndexed, IsOwnedBy, is_open, is_owned, in_zones}
 use Rattle.arena_table.specs.Placement.{place_from}
 use Rattle.arena_table.specs.Delayed.{AreCovered, DelayedSets}
-use Rattle.arena_table.specs.Table.{AreArenas, in_these}
+use Rattle.arena_table.specs.Table.{AreArenas, IsEmptyIfGivenUp, in_these}
 use Rattle.arena_table.specs.declared.arenas.Reserved.{Reserved}
 
 pub length-change_at : {X : Type 0} (f : X → X) (xs : List X) (i : ℕ) → length (change_at f xs i) ≡ length xs
@@ -105,14 +106,14 @@ like-open zone (x ∷ xs) [] a h = absurd h
 like-open zone (x ∷ xs) (y ∷ ys) zero h = like-one zone x y h.0
 like-open zone (x ∷ xs) (y ∷ ys) (suc a) h = like-open zone xs ys a h.1
 
-like-zones : (xs ys : List Arena) → AreLike xs ys → All (λ (x : Arena). x.zone < 64) xs
-    → All (λ (x : Arena). x.zone < 64) ys
-like-zones xs [] h all = All-nil (λ (x : Arena). x.zone < 64)
+like-zones : (xs ys : List Arena) → AreLike xs ys → All (λ (x : Arena). x.zone ≤ 64) xs
+    → All (λ (x : Arena). x.zone ≤ 64) ys
+like-zones xs [] h all = All-nil (λ (x : Arena). x.zone ≤ 64)
 like-zones [] (y ∷ ys) h all = absurd h
 like-zones (x ∷ xs) (y ∷ ys) h all =
-    All-cons (λ (x : Arena). x.zone < 64) y ys
-    (subst (λ z. z < 64) (sym h.0.zone) (All-head (λ (x : Arena). x.zone < 64) x xs all))
-    (like-zones xs ys h.1 (All-tail (λ (x : Arena). x.zone < 64) x xs all))
+    All-cons (λ (x : Arena). x.zone ≤ 64) y ys
+    (subst (λ z. z ≤ 64) (sym h.0.zone) (All-head (λ (x : Arena). x.zone ≤ 64) x xs all))
+    (like-zones xs ys h.1 (All-tail (λ (x : Arena). x.zone ≤ 64) x xs all))
 
 like-held : (xs ys : List Arena) → AreLike xs ys → held_by ys ≡ held_by xs
 like-held [] [] h = refl
@@ -150,6 +151,16 @@ like-out (x ∷ xs) [] a h = absurd h
 like-out (x ∷ xs) (y ∷ ys) zero h = sym h.0.is_out
 like-out (x ∷ xs) (y ∷ ys) (suc a) h = like-out xs ys a h.1
 
+-- what was given up stays empty
+empty-like : (xs ys : List Arena) → AreLike xs ys → All IsEmptyIfGivenUp xs → All IsEmptyIfGivenUp ys
+empty-like [] [] h all = all
+empty-like [] (y ∷ ys) h all = absurd h
+empty-like (x ∷ xs) [] h all = absurd h
+empty-like (x ∷ xs) (y ∷ ys) h all =
+    All-cons IsEmptyIfGivenUp y ys (λ none.
+    (let was = All-head IsEmptyIfGivenUp x xs all (sym h.0.zone ∙ none) in (h.0.held ∙ was.0, h.0.is_out ∙ was.1)))
+    (empty-like xs ys h.1 (All-tail IsEmptyIfGivenUp x xs all))
+
 -- all that always holds, where only such arenas are changed
 pub AreArenas-like : (store changed : StoreState) (index : IndexState) (out : List ℕ) (delayed : DelayedSets)
     (made held : ℕ) (reserved : Option Reserved) → AreArenas store index out delayed made held reserved
@@ -162,6 +173,7 @@ AreArenas-like store changed index out delayed made held reserved h like room = 
     room = (let was = h.out_of.room in let long = like-length store.arenas changed.arenas like in omega arith);
   };
   covered = subst (AreCovered delayed) (sym (like-length store.arenas changed.arenas like)) h.covered;
+  empty = empty-like store.arenas changed.arenas like h.empty;
   few = h.few;
   counted = h.counted ∙ sym (like-held store.arenas changed.arenas like);
   fewer = h.fewer;
@@ -211,11 +223,15 @@ held_in-cell f (Some cell ∷ slots) zero = refl
 held_in-cell f (None ∷ slots) (suc s) = held_in-cell f slots s
 held_in-cell f (Some cell ∷ slots) (suc s) = ap suc (held_in-cell f slots s)
 
-pub IsLike-field : (slot f : ℕ) (value : Option Place) (x : Arena) → IsLike x (with_field slot f value x)
-IsLike-field slot f value x = record {
+pub IsLike-cell : (f : CellState → CellState) (slot : ℕ) (x : Arena)
+    → IsLike x (record x { slots = change_at (change_cell f) x.slots slot })
+IsLike-cell f slot x = record {
   zone = refl;
   is_out = refl;
-  free = has_free-cell (with_value f value) x.slots slot;
-  first = first_free-cell (with_value f value) x.slots slot;
-  held = held_in-cell (with_value f value) x.slots slot;
+  free = has_free-cell f x.slots slot;
+  first = first_free-cell f x.slots slot;
+  held = held_in-cell f x.slots slot;
 }
+
+pub IsLike-field : (slot f : ℕ) (value : Option Place) (x : Arena) → IsLike x (with_field slot f value x)
+IsLike-field slot f value x = IsLike-cell (with_value f value) slot x

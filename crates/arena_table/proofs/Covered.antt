@@ -55,6 +55,7 @@ covered-delayed store index out old new made held reserved h roomy = record {
   indexed = h.indexed;
   out_of = h.out_of;
   covered = roomy (length store.arenas) h.covered;
+  empty = h.empty;
   few = h.few;
   counted = h.counted;
   fewer = h.fewer;

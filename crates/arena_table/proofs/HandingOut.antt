@@ -1,5 +1,6 @@
 -- What stays where the arenas of a set of zones are handed to sweeping.
-use Rattle.std.proofs.Common.{◌≡◌, ◌<◌, ◌*◌, ◌==◌, ◌&&◌, inl, inr, ℕ, zero, suc, Bool, true, false, if◌then◌else◌, List}
+use Rattle.std.proofs.Common.{◌≡◌, ◌<◌, ◌≤◌, ◌*◌, ◌==◌, ◌&&◌, inl, inr, ℕ, zero, suc, Bool, true, false, if◌then◌else◌}
+use Rattle.std.proofs.Common.{List}
 use Rattle.std.proofs.Common.{[], ◌∷◌, length, Option, Some, None, slice_get, All, option_map, refl, sym, ◌∙◌, ap}
 use Rattle.std.proofs.Common.{subst, arith, ne_eqb, eq-eqb}
 use Rattle.std.proofs.lemmas.Bool.{cases_eq, and_left}
@@ -64,12 +65,12 @@ open-handed word z None = by (in_zones word z)
     by false = refl
 open-handed word z (Some x) = open-one word z x
 
-zones-handed : (word : ℕ) (xs : List Arena) → All (λ (x : Arena). x.zone < 64) xs
-    → All (λ (x : Arena). x.zone < 64) (in_these handed_out word xs)
-zones-handed word [] all = All-nil (λ (x : Arena). x.zone < 64)
-zones-handed word (x ∷ xs) all = All-cons (λ (x : Arena). x.zone < 64) (handed word x) (in_these handed_out word xs)
-    (subst (λ z. z < 64) (sym (zone-handed word x)) (All-head (λ (x : Arena). x.zone < 64) x xs all))
-    (zones-handed word xs (All-tail (λ (x : Arena). x.zone < 64) x xs all))
+zones-handed : (word : ℕ) (xs : List Arena) → All (λ (x : Arena). x.zone ≤ 64) xs
+    → All (λ (x : Arena). x.zone ≤ 64) (in_these handed_out word xs)
+zones-handed word [] all = All-nil (λ (x : Arena). x.zone ≤ 64)
+zones-handed word (x ∷ xs) all = All-cons (λ (x : Arena). x.zone ≤ 64) (handed word x) (in_these handed_out word xs)
+    (subst (λ z. z ≤ 64) (sym (zone-handed word x)) (All-head (λ (x : Arena). x.zone ≤ 64) x xs all))
+    (zones-handed word xs (All-tail (λ (x : Arena). x.zone ≤ 64) x xs all))
 
 -- the index after it
 pub IsIndexed-handed : (xs ys : List Arena) (index next : IndexState) (word : ℕ) → IsIndexed xs index

@@ -1,5 +1,5 @@
 -- The index after a change of one arena.
-use Rattle.std.proofs.Common.{◌≡◌, ◌≢◌, ◌<◌, ◌*◌, ◌==◌, ◌&&◌, inl, inr, ℕ, zero, suc, Bool, true, false, not}
+use Rattle.std.proofs.Common.{◌≡◌, ◌≢◌, ◌<◌, ◌≤◌, ◌*◌, ◌==◌, ◌&&◌, inl, inr, ℕ, zero, suc, Bool, true, false, not}
 use Rattle.std.proofs.Common.{if◌then◌else◌, IsSomeAnd, List, [], ◌∷◌, ◌++◌, length, Option, Some, None, slice_get, All}
 use Rattle.std.proofs.Common.{option_map, refl, sym, ◌∙◌, ap, subst, arith, eqb-true, eq-eqb, ne_eqb}
 use Rattle.std.proofs.lemmas.Bool.{false≢true, cases_eq, and_left, and_from}
@@ -11,6 +11,7 @@ use Rattle.arena_table.specs.Slots.{Arena, change_at, empty_arena, with_cell, ta
 use Rattle.arena_table.specs.Stored.{IsHeadOf}
 use Rattle.arena_table.specs.Indexed.{IndexState, IsIndexed, words_at, is_open, is_owned}
 use Rattle.arena_table.specs.declared.store.Head.{Head}
+use Rattle.arena_table.specs.Slots.{given_up}
 use Rattle.arena_table.proofs.Changing.{slice_get-change_same, slice_get-change_other}
 use Rattle.arena_table.proofs.Placing.{open-parts, has_free-word, has_free-full}
 use Rattle.arena_table.proofs.WordBits.{if_same, if_other}
@@ -19,14 +20,14 @@ abbrev OfSome : (Arena → Arena) → (Arena → Type 0) → Option Arena → Ty
 OfSome f P None = ⊥
 OfSome f P (Some z) = P (f z)
 
-All-change_at : (f : Arena → Arena) (P : Arena → Type 0) (xs : List Arena) (a : ℕ) (x : Arena) → All P xs
+pub All-change_at : (f : Arena → Arena) (P : Arena → Type 0) (xs : List Arena) (a : ℕ) (x : Arena) → All P xs
     → slice_get xs a ≡ Some x → P (f x) → All P (change_at f xs a)
 All-change_at f P [] a x all e p = absurd (cc)
 All-change_at f P (y ∷ xs) zero x all e p = All-cons P (f y) xs (subst (OfSome f P) (sym e) p) (All-tail P y xs all)
 All-change_at f P (y ∷ xs) (suc a) x all e p =
     All-cons P y (change_at f xs a) (All-head P y xs all) (All-change_at f P xs a x (All-tail P y xs all) e p)
 
-All-at : (P : Arena → Type 0) (xs : List Arena) (a : ℕ) (x : Arena) → All P xs → slice_get xs a ≡ Some x → P x
+pub All-at : (P : Arena → Type 0) (xs : List Arena) (a : ℕ) (x : Arena) → All P xs → slice_get xs a ≡ Some x → P x
 All-at P [] a x all e = absurd (cc)
 All-at P (y ∷ xs) zero x all e = subst (OfSome (λ z. z) P) e (All-head P y xs all)
 All-at P (y ∷ xs) (suc a) x all e = All-at P xs a x (All-tail P y xs all) e
@@ -40,8 +41,8 @@ pub IsIndexed-change : (f : Arena → Arena) (xs : List Arena) (index next : Ind
     → IsIndexed (change_at f xs a) next
 IsIndexed-change f xs index next a x h e zone own room others here = record {
   owned = record {
-    zones = All-change_at f (λ (y : Arena). y.zone < 64) xs a x h.owned.zones e
-        (subst (λ z. z < 64) (sym zone) (All-at (λ (y : Arena). y.zone < 64) xs a x h.owned.zones e));
+    zones = All-change_at f (λ (y : Arena). y.zone ≤ 64) xs a x h.owned.zones e
+        (subst (λ z. z ≤ 64) (sym zone) (All-at (λ (y : Arena). y.zone ≤ 64) xs a x h.owned.zones e));
     bits = λ z b lt. ap (λ ws. arena_bit (words_at ws z) b) own
         ∙ (h.owned.bits z b lt ∙ ap bit_of (sym (owned-same z b)));
   };
@@ -101,7 +102,7 @@ pub IsIndexed-grown : (xs : List Arena) (index added next : IndexState) (zone a 
 IsIndexed-grown xs index added next zone a h below end room own own-others same takes long takes-others own-same =
     record {
       owned = record {
-        zones = All-push (λ (y : Arena). y.zone < 64) xs (empty_arena zone) h.owned.zones below;
+        zones = All-push (λ (y : Arena). y.zone ≤ 64) xs (empty_arena zone) h.owned.zones (omega (arith, below));
         bits = λ z b lt. ap (λ ws. arena_bit (words_at ws z) b) own-same ∙ owned-bit z b lt;
       };
       open_ = λ z b lt. open-bit z b lt;
@@ -218,6 +219,17 @@ head-changed : (f : Arena → Arena) (xs : List Arena) (a : ℕ) (x : Arena) (h 
 head-changed f xs a x h e is = subst (λ (o : Option Arena). IsSomeAnd o (λ y. IsHeadOf y h))
     (slice_get-change_same f xs a ∙ ap (option_map f) e) is
 
+-- the zone of an arena that was not given up
+pub head-zone : (x : Arena) (h : Head) → IsHeadOf x h → x.zone ≢ 64 → x.zone ≡ h.zone
+head-zone x h is owned = by h.is_given_up is.zone
+  where
+    by : (b : Bool) → x.zone ≡ (if b then 64 else h.zone) → x.zone ≡ h.zone
+    by true e = absurd (owned e)
+    by false e = e
+
+abbrev pub IsOwned : Option Arena → Type 0
+IsOwned o = IsSomeAnd o (λ (x : Arena). x.zone ≢ 64)
+
 pub IsIndexed-put_more : (xs : List Arena) (index : IndexState) (a s zone : ℕ) (cell : CellState) (h : Head)
     → IsIndexed xs index → is_open zone (slice_get xs a) ≡ true
     → IsSomeAnd (slice_get (change_at (with_cell s cell) xs a) a) (λ y. IsHeadOf y h)
@@ -291,17 +303,20 @@ IsIndexed-taken_full xs index a freed bits h i out head full =
 
 -- the sets of its zone have room for it
 pub room-for : (xs : List Arena) (index : IndexState) (a zone : ℕ) (h : Head) (f : Arena → Arena) → IsIndexed xs index
-    → a < length xs → ((x : Arena) → (f x).zone ≡ x.zone)
+    → a < length xs → IsOwned (slice_get xs a) → ((x : Arena) → (f x).zone ≡ x.zone)
     → IsSomeAnd (slice_get (change_at f xs a) a) (λ y. IsHeadOf y h) → zone ≡ h.zone
     → a < 64 * length (words_at index.open_ zone)
-room-for xs index a zone h f i within keeps head e = by xs a within refl
+room-for xs index a zone h f i within owned keeps head e = by xs a within refl
   where
     got : (x : Arena) → slice_get xs a ≡ Some x → a < 64 * length (words_at index.open_ zone)
     got x g =
         let of-head = head-changed f xs a x h g head in
-        let below = All-at (λ (y : Arena). y.zone < 64) xs a x i.owned.zones g in
-        let mine : x.zone ≡ zone = sym (keeps x) ∙ (of-head.zone ∙ sym e) in
-        i.covered zone a (subst (λ z. z < 64) mine below) (ap (is_owned zone) g ∙ eq-eqb _ _ mine)
+        let below = All-at (λ (y : Arena). y.zone ≤ 64) xs a x i.owned.zones g in
+        let own : x.zone ≢ 64 = subst IsOwned g owned in
+        let mine : x.zone ≡ zone =
+        sym (keeps x) ∙ (head-zone (f x) h of-head (λ none. own (sym (keeps x) ∙ none)) ∙ sym e) in
+        let under : x.zone < 64 = omega (arith, below, own) in
+        i.covered zone a (subst (λ z. z < 64) mine under) (ap (is_owned zone) g ∙ eq-eqb _ _ mine)
 
     by : (ys : List Arena) (b : ℕ) → b < length ys → slice_get xs a ≡ slice_get ys b
         → a < 64 * length (words_at index.open_ zone)
@@ -309,8 +324,15 @@ room-for xs index a zone h f i within keeps head e = by xs a within refl
     by (y ∷ ys) zero lt g = got y g
     by (y ∷ ys) (suc b) lt g = by ys b (omega arith) g
 
-pub IsIndexed-taken_open : (xs : List Arena) (index next : IndexState) (a freed zone : ℕ) (bits : Bits) (h : Head)
-    → IsIndexed xs index → IsSomeAnd (slice_get xs a) (λ (x : Arena). x.is_out ≡ true)
+-- what there is at the number of an arena
+pub at-number : (xs : List Arena) (a : ℕ) → a < length xs → (x : Arena) × (slice_get xs a ≡ Some x)
+at-number [] a lt = absurd (omega arith)
+at-number (x ∷ xs) zero lt = (x, refl)
+at-number (x ∷ xs) (suc a) lt = at-number xs a (omega arith)
+
+-- slots are freed, and the arena takes cells then
+pub IsIndexed-freed : (xs : List Arena) (index next : IndexState) (a freed zone : ℕ) (bits : Bits) (h : Head)
+    → IsIndexed xs index → a < length xs → IsOwned (slice_get xs a)
     → IsSomeAnd (slice_get (change_at (taken_in freed bits) xs a) a) (λ y. IsHeadOf y h)
     → h.alloc_word ≢ 18446744073709551615 → zone ≡ h.zone → next.owned ≡ index.owned
     → ((b : ℕ) → arena_bit (words_at next.open_ zone) b
@@ -318,11 +340,12 @@ pub IsIndexed-taken_open : (xs : List Arena) (index next : IndexState) (a freed 
     → length (words_at next.open_ zone) ≡ length (words_at index.open_ zone)
     → ((z : ℕ) → z ≢ zone → words_at next.open_ z ≡ words_at index.open_ z)
     → IsIndexed (change_at (taken_in freed bits) xs a) next
-IsIndexed-taken_open xs index next a freed zone bits h i out head n own-zone own bit long others =
-    let x = there-out xs a out in
+IsIndexed-freed xs index next a freed zone bits h i within owned head n own-zone own bit long others =
+    let x = at-number xs a within in
     let of-head = head-changed (taken_in freed bits) xs a x.0 h x.1 head in
     let free = has_free-word (taken_in freed bits x.0).slots h.alloc_word of-head.whole of-head.alloc_word n in
-    let mine : x.0.zone ≡ zone = of-head.zone ∙ sym own-zone in
+    let mine : x.0.zone ≡ zone =
+    head-zone (taken_in freed bits x.0) h of-head (subst IsOwned x.1 owned) ∙ sym own-zone in
     IsIndexed-change (taken_in freed bits) xs index next a x.0 i x.1 refl own (written-long index next zone long others)
     (written-others index next zone a 1 bit others) (λ z lt. (elim (cases_eq z zone) [
       | inl e ↦ (ap (λ y. arena_bit (words_at next.open_ y) a) e
@@ -331,7 +354,117 @@ IsIndexed-taken_open xs index next a freed zone bits h i out head n own-zone own
           (eq-eqb _ _ (mine ∙ sym e)) free)))))
       | inr m ↦ (ap (λ ws. arena_bit ws a) (others z m)
           ∙ (i.open_ z a lt ∙ (ap (λ o. bit_of (is_open z o)) x.1
-          ∙ ap bit_of (out-closed z x.0 x.2
+          ∙ ap bit_of (and_left (x.0.zone == z) (not x.0.is_out && has_free x.0.slots)
+          (ne_eqb _ _ (λ e. m (sym e ∙ mine)))
           ∙ sym (and_left (x.0.zone == z) (true && has_free (taken_in freed bits x.0).slots)
           (ne_eqb _ _ (λ e. m (sym e ∙ mine))))))))
     ]))
+
+-- an arena is given up: its bits in the sets of its zone are cleared
+pub record IsTakenOut (xs : List Arena) (index next : IndexState) (a zone : ℕ) : Type 0 where
+  pub indexed : IsIndexed xs index
+  pub below : zone < 64
+  pub mine : is_owned zone (slice_get xs a) ≡ true
+  pub owned : (b : ℕ) → arena_bit (words_at next.owned zone) b
+      ≡ (if b == a then 0 else arena_bit (words_at index.owned zone) b)
+  pub takes : (b : ℕ) → arena_bit (words_at next.open_ zone) b
+      ≡ (if b == a then 0 else arena_bit (words_at index.open_ zone) b)
+  pub room : length (words_at next.open_ zone) ≡ length (words_at index.open_ zone)
+  pub others : (z : ℕ) → z ≢ zone
+      → (words_at next.owned z ≡ words_at index.owned z) × (words_at next.open_ z ≡ words_at index.open_ z)
+
+module _ (xs : List Arena) (index next : IndexState) (a zone : ℕ) (c : IsTakenOut xs index next a zone) where
+  abbrev given : List Arena
+  given = change_at given_up xs a
+
+  its : (x : Arena) × (slice_get xs a ≡ Some x) × (x.zone ≡ zone)
+  its = by (slice_get xs a) refl c.mine
+    where
+      by : (o : Option Arena) → slice_get xs a ≡ o → is_owned zone o ≡ true
+          → (x : Arena) × (slice_get xs a ≡ Some x) × (x.zone ≡ zone)
+      by None at is = absurd (false≢true is)
+      by (Some x) at is = (x, at, eqb-true x.zone zone is)
+
+  now : slice_get given a ≡ Some (given_up its.0)
+  now = slice_get-change_same given_up xs a ∙ ap (option_map given_up) its.1
+
+  -- no zone has it now, and only its own had it
+  none-owned : (z : ℕ) → z < 64 → is_owned z (slice_get given a) ≡ false
+  none-owned z lt = ap (is_owned z) now ∙ ne_eqb 64 z (λ e. omega (arith, lt, e))
+
+  none-open : (z : ℕ) → z < 64 → is_open z (slice_get given a) ≡ false
+  none-open z lt =
+      ap (is_open z) now
+      ∙ and_left (64 == z) (not its.0.is_out && has_free its.0.slots) (ne_eqb 64 z (λ e. omega (arith, lt, e)))
+
+  not-owned : (z : ℕ) → z ≢ zone → is_owned z (slice_get xs a) ≡ false
+  not-owned z ne = ap (is_owned z) its.1 ∙ ne_eqb its.0.zone z (λ e. ne (sym e ∙ its.2))
+
+  not-its : (z : ℕ) → z ≢ zone → is_open z (slice_get xs a) ≡ false
+  not-its z ne =
+      ap (is_open z) its.1
+      ∙ and_left (its.0.zone == z) (not its.0.is_out && has_free its.0.slots)
+      (ne_eqb its.0.zone z (λ e. ne (sym e ∙ its.2)))
+
+  owned-bit : (z b : ℕ) → z < 64 → arena_bit (words_at next.owned z) b ≡ bit_of (is_owned z (slice_get given b))
+  owned-bit z b lt = elim (cases_eq b a) [
+    | inl e ↦ elim (cases_eq z zone) [
+      | inl d ↦ ap (λ y. arena_bit (words_at next.owned y) b) d ∙ c.owned b
+          ∙ if_same b a 0 (arena_bit (words_at index.owned zone) b) e
+          ∙ sym (ap bit_of (ap (λ n. is_owned z (slice_get given n)) e ∙ none-owned z lt))
+      | inr n ↦ ap (λ ws. arena_bit ws b) (c.others z n).0 ∙ c.indexed.owned.bits z b lt
+          ∙ ap bit_of (ap (λ n. is_owned z (slice_get xs n)) e ∙ not-owned z n ∙ sym (none-owned z lt)
+          ∙ ap (λ n. is_owned z (slice_get given n)) (sym e))
+    ]
+    | inr ne ↦ elim (cases_eq z zone) [
+      | inl d ↦ ap (λ y. arena_bit (words_at next.owned y) b) d ∙ c.owned b
+          ∙ if_other b a 0 (arena_bit (words_at index.owned zone) b) ne
+          ∙ ap (λ y. arena_bit (words_at index.owned y) b) (sym d) ∙ c.indexed.owned.bits z b lt
+          ∙ ap (λ o. bit_of (is_owned z o)) (sym (slice_get-change_other given_up xs a b ne))
+      | inr n ↦ ap (λ ws. arena_bit ws b) (c.others z n).0 ∙ c.indexed.owned.bits z b lt
+          ∙ ap (λ o. bit_of (is_owned z o)) (sym (slice_get-change_other given_up xs a b ne))
+    ]
+  ]
+
+  open-bit : (z b : ℕ) → z < 64 → arena_bit (words_at next.open_ z) b ≡ bit_of (is_open z (slice_get given b))
+  open-bit z b lt = elim (cases_eq b a) [
+    | inl e ↦ elim (cases_eq z zone) [
+      | inl d ↦ ap (λ y. arena_bit (words_at next.open_ y) b) d ∙ c.takes b
+          ∙ if_same b a 0 (arena_bit (words_at index.open_ zone) b) e
+          ∙ sym (ap bit_of (ap (λ n. is_open z (slice_get given n)) e ∙ none-open z lt))
+      | inr n ↦ ap (λ ws. arena_bit ws b) (c.others z n).1 ∙ c.indexed.open_ z b lt
+          ∙ ap bit_of (ap (λ n. is_open z (slice_get xs n)) e ∙ not-its z n ∙ sym (none-open z lt)
+          ∙ ap (λ n. is_open z (slice_get given n)) (sym e))
+    ]
+    | inr ne ↦ elim (cases_eq z zone) [
+      | inl d ↦ ap (λ y. arena_bit (words_at next.open_ y) b) d ∙ c.takes b
+          ∙ if_other b a 0 (arena_bit (words_at index.open_ zone) b) ne
+          ∙ ap (λ y. arena_bit (words_at index.open_ y) b) (sym d) ∙ c.indexed.open_ z b lt
+          ∙ ap (λ o. bit_of (is_open z o)) (sym (slice_get-change_other given_up xs a b ne))
+      | inr n ↦ ap (λ ws. arena_bit ws b) (c.others z n).1 ∙ c.indexed.open_ z b lt
+          ∙ ap (λ o. bit_of (is_open z o)) (sym (slice_get-change_other given_up xs a b ne))
+    ]
+  ]
+
+  covers : (z b : ℕ) → z < 64 → is_owned z (slice_get given b) ≡ true → b < 64 * length (words_at next.open_ z)
+  covers z b lt is = elim (cases_eq b a) [
+    | inl e ↦ absurd (false≢true (sym (ap (λ n. is_owned z (slice_get given n)) e ∙ none-owned z lt) ∙ is))
+    | inr ne ↦ (let old = c.indexed.covered z b lt
+        (ap (is_owned z) (sym (slice_get-change_other given_up xs a b ne)) ∙ is) in
+        subst (λ n. b < 64 * n) (elim (cases_eq z zone) [
+          | inl d ↦ ap (λ y. length (words_at index.open_ y)) d ∙ sym c.room
+              ∙ ap (λ y. length (words_at next.open_ y)) (sym d)
+          | inr n ↦ ap length (sym (c.others z n).1)
+        ]) old)
+  ]
+
+  pub IsIndexed-given_up : IsIndexed given next
+  IsIndexed-given_up = record {
+    owned = record {
+      zones = All-change_at given_up (λ (y : Arena). y.zone ≤ 64) xs a its.0 c.indexed.owned.zones its.1
+          (omega arith);
+      bits = owned-bit;
+    };
+    open_ = open-bit;
+    covered = covers;
+  }

@@ -19,5 +19,8 @@ pub mod Visiting
 pub mod Outs
 pub mod Laws
 pub mod DelayedCells
+pub mod GivenUp
+mod Forwarding
+mod MovingCells
 mod CellSets
 mod Covered

@@ -21,7 +21,7 @@ multiple (suc t) n low = by (multiple t (n / 2) (λ i lt. sym (bit_at-suc n i) �
     by (q, e) = (q, rw (pow-suc 2 t) (doubled n q (2 ^ t) e (sym (bit_at_lowest n) ∙ low 0 (omega arith))))
 
 -- and where the next bit is 1, it is that bit and a multiple of what is above it
-split : (t n : ℕ) → ((i : ℕ) → i < t → bit_at n i ≡ 0) → bit_at n t ≡ 1 → (m : ℕ) × (n ≡ m * 2 ^ suc t + 2 ^ t)
+pub split : (t n : ℕ) → ((i : ℕ) → i < t → bit_at n i ≡ 0) → bit_at n t ≡ 1 → (m : ℕ) × (n ≡ m * 2 ^ suc t + 2 ^ t)
 split t n low one = by (multiple t n low)
   where
     odd : (q p m : ℕ) → n ≡ q * p → q ≡ 2 * m + 1 → n ≡ m * (p * 2) + p

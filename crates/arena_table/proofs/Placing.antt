@@ -260,7 +260,7 @@ pub IsIndexed-none : (arenas : List Arena) (index : IndexState) → arenas ≡ [
     → index ≡ record { owned = replicate 64 []; open_ = replicate 64 [] } → IsIndexed arenas index
 IsIndexed-none arenas index e f = rw e (rw f (record {
   owned = record {
-    zones = All-nil (λ (arena : Arena). arena.zone < 64);
+    zones = All-nil (λ (arena : Arena). arena.zone ≤ 64);
     bits = λ z a lt. no-bit z a;
   };
   open_ = λ z a lt. no-bit z a;

@@ -130,8 +130,8 @@ pub grown-slot : (xs : List Arena) (zone : ℕ) (p : Place) → p ≡ place_for 
 grown-slot xs zone p e x g = (let h = place_for-free_in xs zone p e in subst (SlotIn p.1) (sym h.1.at ∙ g) h.1.within)
 
 -- there is one cell more
-held_in-put : (slots : List (Option CellState)) (s : ℕ) (cell : CellState) → cell_in slots s ≡ None → s < length slots
-    → held_in (slice_set slots s (Some cell)) ≡ suc (held_in slots)
+pub held_in-put : (slots : List (Option CellState)) (s : ℕ) (cell : CellState) → cell_in slots s ≡ None
+    → s < length slots → held_in (slice_set slots s (Some cell)) ≡ suc (held_in slots)
 held_in-put [] s cell e lt = absurd (omega arith)
 held_in-put (None ∷ slots) zero cell e lt = refl
 held_in-put (Some other ∷ slots) zero cell e lt = absurd (cc)
@@ -142,7 +142,7 @@ abbrev Adds : (Arena → Arena) → ℕ → Option Arena → Type 0
 Adds f n None = ⊥
 Adds f n (Some z) = held_in (f z).slots ≡ n + held_in z.slots
 
-held_by-change : (f : Arena → Arena) (xs : List Arena) (a n : ℕ) (x : Arena) → slice_get xs a ≡ Some x
+pub held_by-change : (f : Arena → Arena) (xs : List Arena) (a n : ℕ) (x : Arena) → slice_get xs a ≡ Some x
     → held_in (f x).slots ≡ n + held_in x.slots → held_by (change_at f xs a) ≡ n + held_by xs
 held_by-change f [] a n x e h = absurd (cc)
 held_by-change f (y ∷ xs) zero n x e h =

@@ -1,5 +1,5 @@
 -- A place is kept for a cell, and memory is taken for it.
-use Rattle.std.proofs.Common.{◌≡◌, ◌<◌, ◌≤◌, ◌+◌, ◌*◌, ℕ, true, List, Option, Some, length, slice_get, sym, ap}
+use Rattle.std.proofs.Common.{◌≡◌, ◌<◌, ◌≤◌, ◌+◌, ◌*◌, ℕ, true, All, List, Option, Some, length, slice_get, sym, ap}
 use Rattle.std.proofs.Common.{◌∙◌, subst, arith}
 use Rattle.gz_names.specs.declared.numbers.Place.{Place}
 use Rattle.arena_table.specs.Sets.{arena_bit}
@@ -8,7 +8,7 @@ use Rattle.arena_table.specs.Delayed.{AreCovered, DelayedSets, IsAsRoomy}
 use Rattle.arena_table.specs.Indexed.{IndexState, IsIndexed, is_open}
 use Rattle.arena_table.specs.Placement.{place_for}
 use Rattle.arena_table.specs.Stored.{StoreState}
-use Rattle.arena_table.specs.Table.{AreArenas, HasRoom, IsReserved}
+use Rattle.arena_table.specs.Table.{AreArenas, HasRoom, IsEmptyIfGivenUp, IsReserved}
 use Rattle.arena_table.specs.declared.arenas.Reserved.{Reserved}
 use Rattle.arena_table.proofs.Placing.{open-within}
 
@@ -29,6 +29,7 @@ AreArenas-roomier store wider index more out longer delayed later made held rese
       };
       covered = subst (λ (xs : List Arena). AreCovered later (length xs)) (sym same)
           (roomy (length store.arenas) h.covered);
+      empty = subst (All IsEmptyIfGivenUp) (sym same) h.empty;
       few = h.few;
       counted = h.counted ∙ ap held_by (sym same);
       fewer = h.fewer;
@@ -53,6 +54,7 @@ keeping store index out delayed made held old r h k = record {
   indexed = h.indexed;
   out_of = h.out_of;
   covered = h.covered;
+  empty = h.empty;
   few = h.few;
   counted = h.counted;
   fewer = h.fewer;

@@ -2,11 +2,11 @@
 use Rattle.std.proofs.Common.{◌≡◌, ◌<◌, ◌≤◌, ◌^◌, ◌==◌, Bool, true, false, if◌then◌else◌, IsSome, IsSomeAnd, ℕ, zero}
 use Rattle.std.proofs.Common.{suc, List, [], ◌∷◌, ◌++◌, length, get_or, set, take, drop, Option, Some, None, slice_get}
 use Rattle.std.proofs.Common.{refl, sym, ◌∙◌, ap, subst, arith, length-set, length-append, length-drop, replicate, ◌+◌}
-use Rattle.std.proofs.Common.{bit_or, bit_and, w64, ◌*◌, ◌%◌}
+use Rattle.std.proofs.Common.{All, bit_or, bit_and, w64, ◌*◌, ◌%◌}
 use Rattle.std.proofs.lemmas.List.{set-get_or, get_or_default, get_or-take, get_or-drop, drop-drop, length-take-le}
 use Rattle.std.proofs.lemmas.List.{take_all, take-append-le, drop-append-le, take-set-le, drop-set-lt, drop-set-add}
 use Rattle.std.proofs.lemmas.List.{length-replicate}
-use Rattle.std.proofs.lemmas.List.Elements.{All-set, All-push}
+use Rattle.std.proofs.lemmas.List.Elements.{All-cons, All-nil, All-set, All-push}
 use Rattle.std.proofs.lemmas.Nat.Bits.{bit_at_set_same, bit_at_set_other}
 use Rattle.std.specs.Int.{bit_at, bit_not}
 use Rattle.std.specs.Option.{option_and_then}
@@ -14,6 +14,7 @@ use Rattle.gz_names.specs.declared.numbers.Place.{Place}
 use Rattle.cell_bits.specs.declared.bits.Bits.{Bits}
 use Rattle.arena_table.specs.Cells.{CellState, state_of}
 use Rattle.arena_table.specs.Slots.{Arena, change_at, change_cell, cell_at, cell_in, with_cell, taken_in, empty_arena}
+use Rattle.arena_table.specs.Slots.{no_zone}
 use Rattle.arena_table.specs.Stored.{arena_of, arenas_of, AreStored, IsHeadOf}
 use Rattle.arena_table.proofs.Fields.{take-set_within}
 use Rattle.arena_table.proofs.SlotBits.{length-slots_of, cell_in-slots_of, alloc_word_of-slots_of, slots_of-put}
@@ -81,7 +82,13 @@ arenas_of-changed (y ∷ hs) cs (suc i) s j h k c x f lt slot at read cells same
     (cells ∙ sym (cells_in-suc i cs)) same)
 
 abbrev pub no_head : Head
-no_head = record { alloc_word = 0; bits = record { black = 0; gob = 0 }; zone = 0; is_out = false }
+no_head = record {
+  alloc_word = 0;
+  bits = record { black = 0; gob = 0 };
+  zone = 0;
+  is_out = false;
+  is_given_up = false;
+}
 
 -- a number of an arena is one of a head
 pub in_heads : (hs : List Head) (cs : List Cell) (arenas : List Arena) (i : ℕ) → arenas_of hs cs ≡ arenas
@@ -172,7 +179,7 @@ arenas_of-put hs cs arenas a s j h cell stored e lt slot at read =
     (bit_at_set_same w64 h.alloc_word s slot) (λ k _ n. bit_at_set_other w64 h.alloc_word s slot k n) in
     arenas_of-changed hs cs a s j h _ c cell (with_cell s (state_of cell)) within slot at read refl
     (ap (λ (slots : List (Option CellState)). record {
-      zone = h.zone;
+      zone = if h.is_given_up then no_zone else h.zone;
       is_out = h.is_out;
       bits = h.bits;
       slots = slots;
@@ -207,7 +214,7 @@ arenas_of-cell hs cs arenas p j g cell d is written =
     ap (λ xs. arenas_of xs (set cs j cell)) (sym same)
     ∙ (arenas_of-changed hs cs p.0 p.1 j h h c cell change within slot is.at read refl
     (ap (λ (slots : List (Option CellState)). record {
-      zone = h.zone;
+      zone = if h.is_given_up then no_zone else h.zone;
       is_out = h.is_out;
       bits = h.bits;
       slots = slots;
@@ -258,9 +265,15 @@ pub arena_of-taken : (h : Head) (freed : ℕ) (bits : Bits) (c : List Cell) → 
       bits = bits;
       zone = h.zone;
       is_out = false;
+      is_given_up = h.is_given_up;
     }) c ≡ taken_in freed bits (arena_of h c)
 arena_of-taken h freed bits c fits long =
-    ap (λ (slots : List (Option CellState)). record { zone = h.zone; is_out = false; bits = bits; slots = slots })
+    ap (λ (slots : List (Option CellState)). record {
+      zone = if h.is_given_up then no_zone else h.zone;
+      is_out = false;
+      bits = bits;
+      slots = slots;
+    })
     (slots_of-freed (bit_and h.alloc_word (bit_not w64 freed)) h.alloc_word freed c
     (λ k lt. bit_at-minus h.alloc_word freed k fits (omega arith)))
 
@@ -275,15 +288,22 @@ AreStored-push hs cs h cell stored word few =
       few = omega arith;
     }
 
+-- the head of an arena that is made
+abbrev pub new_head : ℕ → Head
+new_head zone = record {
+  alloc_word = 0;
+  bits = record { black = 0; gob = 0 };
+  zone = zone;
+  is_out = false;
+  is_given_up = false;
+}
+
 pub arenas_of-empty : (hs : List Head) (cs : List Cell) (arenas : List Arena) (zone : ℕ) (cell : Cell)
     → AreStored hs cs → arenas_of hs cs ≡ arenas
-    → arenas_of (hs ++ record { alloc_word = 0; bits = record { black = 0; gob = 0 }; zone = zone; is_out = false }
-    ∷ []) (cs ++ replicate 64 cell) ≡ arenas ++ empty_arena zone ∷ []
+    → arenas_of (hs ++ new_head zone ∷ []) (cs ++ replicate 64 cell) ≡ arenas ++ empty_arena zone ∷ []
 arenas_of-empty hs cs arenas zone cell stored e =
     arenas_of-push hs cs (replicate 64 cell) _ stored.whole (length-replicate 64 cell)
-    ∙ (ap (λ xs. xs ++ arena_of
-    (record { alloc_word = 0; bits = record { black = 0; gob = 0 }; zone = zone; is_out = false })
-    (replicate 64 cell) ∷ []) e
+    ∙ (ap (λ xs. xs ++ arena_of (new_head zone) (replicate 64 cell) ∷ []) e
     ∙ ap (λ (slots : List (Option CellState)). arenas
     ++ record { zone = zone; is_out = false; bits = record { black = 0; gob = 0 }; slots = slots } ∷ [])
     (slots_of-zero 64 cell))
@@ -291,3 +311,17 @@ arenas_of-empty hs cs arenas zone cell stored e =
 pub is_some-from : {X : Type 0} (P : X → Type 0) (o : Option X) → IsSomeAnd o P → IsSome o
 is_some-from P None h = absurd h
 is_some-from P (Some x) h = refl
+
+-- each arena has 64 slots
+whole-arenas : (hs : List Head) (cs : List Cell) → length cs ≡ 64 * length hs
+    → All (λ (a : Arena). length a.slots ≡ 64) (arenas_of hs cs)
+whole-arenas [] cs long = All-nil (λ (a : Arena). length a.slots ≡ 64)
+whole-arenas (h ∷ hs) cs long =
+    All-cons (λ (a : Arena). length a.slots ≡ 64) (arena_of h (take 64 cs)) (arenas_of hs (drop 64 cs))
+    (length-slots_of h.alloc_word (take 64 cs) ∙ length-take-le 64 cs (omega (arith, long)))
+    (whole-arenas hs (drop 64 cs) (let rest = length-drop 64 cs in omega (arith, long, rest)))
+
+pub whole-stored : (hs : List Head) (cs : List Cell) (arenas : List Arena) → AreStored hs cs → arenas_of hs cs ≡ arenas
+    → All (λ (a : Arena). length a.slots ≡ 64) arenas
+whole-stored hs cs arenas stored is =
+    subst (All (λ (a : Arena). length a.slots ≡ 64)) is (whole-arenas hs cs stored.whole)

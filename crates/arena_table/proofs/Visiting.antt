@@ -149,15 +149,15 @@ rest-change f xs walk a h = ap (λ ns. at_bits walk.left (range_with_len walk.ba
     (numbers-change f walk.zones.bits (64 * walk.at) (64 * walk.at) a xs h)
 
 zones-change : (f : Arena → Arena) (xs : List Arena) (a : ℕ) → ((x : Arena) → (f x).zone ≡ x.zone)
-    → All (λ (x : Arena). x.zone < 64) xs → All (λ (x : Arena). x.zone < 64) (change_at f xs a)
+    → All (λ (x : Arena). x.zone ≤ 64) xs → All (λ (x : Arena). x.zone ≤ 64) (change_at f xs a)
 zones-change f [] a h all = all
 zones-change f (x ∷ xs) zero h all =
-    All-cons (λ (x : Arena). x.zone < 64) (f x) xs
-    (subst (λ z. z < 64) (sym (h x)) (All-head (λ (x : Arena). x.zone < 64) x xs all))
-    (All-tail (λ (x : Arena). x.zone < 64) x xs all)
+    All-cons (λ (x : Arena). x.zone ≤ 64) (f x) xs
+    (subst (λ z. z ≤ 64) (sym (h x)) (All-head (λ (x : Arena). x.zone ≤ 64) x xs all))
+    (All-tail (λ (x : Arena). x.zone ≤ 64) x xs all)
 zones-change f (x ∷ xs) (suc a) h all =
-    All-cons (λ (x : Arena). x.zone < 64) x (change_at f xs a) (All-head (λ (x : Arena). x.zone < 64) x xs all)
-    (zones-change f xs a h (All-tail (λ (x : Arena). x.zone < 64) x xs all))
+    All-cons (λ (x : Arena). x.zone ≤ 64) x (change_at f xs a) (All-head (λ (x : Arena). x.zone ≤ 64) x xs all)
+    (zones-change f xs a h (All-tail (λ (x : Arena). x.zone ≤ 64) x xs all))
 
 owned-change : (f : Arena → Arena) (xs : List Arena) (a z b : ℕ) → ((x : Arena) → (f x).zone ≡ x.zone)
     → is_owned z (slice_get (change_at f xs a) b) ≡ is_owned z (slice_get xs b)

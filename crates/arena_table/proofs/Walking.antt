@@ -23,7 +23,7 @@ use Rattle.arena_table.proofs.WordBits.{bit_at-shifted}
 
 abbrev zone-below : Option Arena → Type 0
 zone-below None = ⊥
-zone-below (Some arena) = arena.zone < 64
+zone-below (Some arena) = arena.zone ≤ 64
 
 bit-cases : (b : Bool) (n : ℕ) → n ≡ bit_of b → (n == 1) ≡ b
 bit-cases true n e = ap (λ k. k == 1) e
@@ -93,11 +93,12 @@ drop-past (suc n) [] h = refl
 drop-past (suc n) (x ∷ xs) h = drop-past n xs (omega arith)
 
 -- the bit of an arena in a word of the arenas of a set of zones
-word-bit : (word w at k : ℕ) (owned : List (List ℕ)) (arenas : List Arena) → k < 64 → IsOwnedBy arenas owned
+word-bit : (word w at k : ℕ) (owned : List (List ℕ)) (arenas : List Arena) → word < 2 ^ 64 → k < 64
+    → IsOwnedBy arenas owned
     → ((bit_at w k ≡ 1) ↔ ((z : ℕ) × HasZone word z × HasBit (words_at owned z) at k))
     → bit_at w k ≡ bit_of (is_among word (slice_get arenas (64 * at + k)))
 unfolding HasZone
-word-bit word w at k owned arenas lt h bits = by (slice_get arenas (64 * at + k)) refl
+word-bit word w at k owned arenas fits lt h bits = by (slice_get arenas (64 * at + k)) refl
   where
     here : (z : ℕ) → z < 64 → bit_at (slice_index (words_at owned z) at) k
         ≡ bit_of (is_owned z (slice_get arenas (64 * at + k)))
@@ -121,7 +122,7 @@ word-bit word w at k owned arenas lt h bits = by (slice_get arenas (64 * at + k)
     ]
     by (Some arena) e =
         let same-zone : arena.zone ≡ arena.zone = refl in
-        let zone : arena.zone < 64 = get-zone arenas (64 * at + k) arena h.zones e in
+        let most : arena.zone ≤ 64 = get-zone arenas (64 * at + k) arena h.zones e in
         elim (cases_eq (bit_at w k) 1) [
           | inl one ↦ (let s = bits.0 one in
               let set : bit_of (arena.zone == s.0) ≡ 1 = sym (ap (λ o. bit_of (is_owned s.0 o)) e)
@@ -130,35 +131,43 @@ word-bit word w at k owned arenas lt h bits = by (slice_get arenas (64 * at + k)
               let in_zone : bit_at word arena.zone ≡ 1 = ap (bit_at word) same ∙ s.1.1 in
               one ∙ sym (ap bit_of (eq-eqb _ _ in_zone)))
           | inr n ↦ (elim (cases_eq (bit_at word arena.zone) 1) [
-            | inl in_zone ↦ absurd
+            | inl in_zone ↦ (let zone : arena.zone < 64 = own-zone arena.zone most in_zone in absurd
                 (n (bits.1 (
                   arena.zone,
                   (zone, in_zone),
                   here arena.zone zone
                       ∙ (ap (λ o. bit_of (is_owned arena.zone o)) e ∙ ap bit_of (eq-eqb _ _ same-zone)),
-                )))
+                ))))
             | inr out ↦ (let lt2 = bit_at-lt w k in
                 let off : bit_of (bit_at word arena.zone == 1) ≡ 0 = grind (arith, nat_tests) in omega arith)
           ])
         ]
       where
-        get-zone : (xs : List Arena) (i : ℕ) (x : Arena) → All (λ (a : Arena). a.zone < 64) xs → slice_get xs i ≡ Some x
-            → x.zone < 64
+        own-zone : (zone : ℕ) → zone ≤ 64 → bit_at word zone ≡ 1 → zone < 64
+        own-zone zone most one = elim (cases_eq zone 64) [
+          | inl e ↦ (let none : bit_at word zone ≡ 0 = ap (bit_at word) e ∙ bit_at_above word 64 64 fits (omega arith)
+              in
+              absurd (omega (arith, none, one)))
+          | inr ne ↦ omega (arith, most, ne)
+        ]
+
+        get-zone : (xs : List Arena) (i : ℕ) (x : Arena) → All (λ (a : Arena). a.zone ≤ 64) xs → slice_get xs i ≡ Some x
+            → x.zone ≤ 64
         get-zone [] i x all e = cc
         get-zone (y ∷ xs) zero x all e =
-            (let first : y.zone < 64 = all 0 y (omega arith) in subst (λ (o : Option Arena). zone-below o) e first)
-        get-zone (y ∷ xs) (suc i) x all e = get-zone xs i x (All-tail (λ (a : Arena). a.zone < 64) y xs all) e
+            (let first : y.zone ≤ 64 = all 0 y (omega arith) in subst (λ (o : Option Arena). zone-below o) e first)
+        get-zone (y ∷ xs) (suc i) x all e = get-zone xs i x (All-tail (λ (a : Arena). a.zone ≤ 64) y xs all) e
 
 -- the next word of the walk
 pub walk-on : (word w at n : ℕ) (owned : List (List ℕ)) (arenas : List Arena) (left base : ℕ) → left ≡ 0 → at + 1 ≡ n
-    → IsOwnedBy arenas owned
+    → word < 2 ^ 64 → IsOwnedBy arenas owned
     → ((k : ℕ) → k < 64 → (bit_at w k ≡ 1) ↔ ((z : ℕ) × HasZone word z × HasBit (words_at owned z) at k))
     → at_bits w (range_with_len (64 * at) 64) ++ numbers_from word (64 * n) (drop (64 * n) arenas)
     ≡ at_bits left (range_with_len base 64) ++ numbers_from word (64 * at) (drop (64 * at) arenas)
-walk-on word w at n owned arenas left base none next h bits =
+walk-on word w at n owned arenas left base none next fits h bits =
     let after : 64 * at + 64 ≡ 64 * n = omega arith in
     let block = numbers_from-block word w (64 * at) 64 (64 * n) (drop (64 * at) arenas) after
-    (λ k lt. word-bit word w at k owned arenas lt h (bits k lt)
+    (λ k lt. word-bit word w at k owned arenas fits lt h (bits k lt)
     ∙ ap (λ o. bit_of (is_among word o)) (sym (slice_get-drop (64 * at) k (64 * at + k) arenas refl))) in
     ap (λ xs. at_bits w (range_with_len (64 * at) 64) ++ numbers_from word (64 * n) xs)
     (sym (drop-drop (64 * at) 64 (64 * n) arenas after))
@@ -170,80 +179,81 @@ walk-on word w at n owned arenas left base none next h bits =
 abbrev pub AreEmpty : ℕ → List (List ℕ) → (ℕ → Type 0) → Type 0
 AreEmpty word owned P = (z w : ℕ) → HasZone word z → P w → slice_index (words_at owned z) w ≡ 0
 
-module _ (word : ℕ) (owned : List (List ℕ)) (arenas : List Arena) (h : IsOwnedBy arenas owned) where
-  -- one such word is passed
-  walk-passed : (at : ℕ) → ((z : ℕ) → HasZone word z → slice_index (words_at owned z) at ≡ 0)
-      → numbers_from word (64 * suc at) (drop (64 * suc at) arenas)
-      ≡ numbers_from word (64 * at) (drop (64 * at) arenas)
-  walk-passed at empty =
-      let on = walk-on word 0 at (suc at) owned arenas 0 0 refl (omega arith) h
-      (λ k lt. (
-        λ one. absurd (let none : bit_at 0 k ≡ 0 = bit_at-zero k in omega arith),
-        λ s. absurd (let none : bit_at (slice_index (words_at owned s.0) at) k ≡ 0 =
-            ap (λ v. bit_at v k) (empty s.0 s.1) ∙ bit_at-zero k in
-            let one : bit_at (slice_index (words_at owned s.0) at) k ≡ 1 = s.2 in omega arith),
-      )) in
-      ap (λ ys. ys ++ numbers_from word (64 * suc at) (drop (64 * suc at) arenas))
-      (sym (at_bits-zero (range_with_len (64 * at) 64)))
-      ∙ (on ∙ ap (λ ys. ys ++ numbers_from word (64 * at) (drop (64 * at) arenas))
-      (at_bits-zero (range_with_len 0 64)))
+module _ (word : ℕ) (owned : List (List ℕ)) (arenas : List Arena) (within : word < 2 ^ 64) (h : IsOwnedBy arenas owned)
+  where
+    -- one such word is passed
+    walk-passed : (at : ℕ) → ((z : ℕ) → HasZone word z → slice_index (words_at owned z) at ≡ 0)
+        → numbers_from word (64 * suc at) (drop (64 * suc at) arenas)
+        ≡ numbers_from word (64 * at) (drop (64 * at) arenas)
+    walk-passed at empty =
+        let on = walk-on word 0 at (suc at) owned arenas 0 0 refl (omega arith) within h
+        (λ k lt. (
+          λ one. absurd (let none : bit_at 0 k ≡ 0 = bit_at-zero k in omega arith),
+          λ s. absurd (let none : bit_at (slice_index (words_at owned s.0) at) k ≡ 0 =
+              ap (λ v. bit_at v k) (empty s.0 s.1) ∙ bit_at-zero k in
+              let one : bit_at (slice_index (words_at owned s.0) at) k ≡ 1 = s.2 in omega arith),
+        )) in
+        ap (λ ys. ys ++ numbers_from word (64 * suc at) (drop (64 * suc at) arenas))
+        (sym (at_bits-zero (range_with_len (64 * at) 64)))
+        ∙ (on ∙ ap (λ ys. ys ++ numbers_from word (64 * at) (drop (64 * at) arenas))
+        (at_bits-zero (range_with_len 0 64)))
 
-  -- several are
-  walk-skipped : (d at n : ℕ) → at + d ≡ n → AreEmpty word owned (λ w. (at ≤ w) × (w < n))
-      → numbers_from word (64 * n) (drop (64 * n) arenas) ≡ numbers_from word (64 * at) (drop (64 * at) arenas)
-  walk-skipped zero at n e empty = ap (λ i. numbers_from word (64 * i) (drop (64 * i) arenas))
-      (let same : n ≡ at = omega arith in same)
-  walk-skipped (suc d) at n e empty =
-      walk-skipped d (suc at) n (omega arith) (λ z w has within. empty z w has (omega (arith, within.0), within.1))
-      ∙ walk-passed at (λ z has. empty z at has (omega arith, omega arith))
+    -- several are
+    walk-skipped : (d at n : ℕ) → at + d ≡ n → AreEmpty word owned (λ w. (at ≤ w) × (w < n))
+        → numbers_from word (64 * n) (drop (64 * n) arenas) ≡ numbers_from word (64 * at) (drop (64 * at) arenas)
+    walk-skipped zero at n e empty = ap (λ i. numbers_from word (64 * i) (drop (64 * i) arenas))
+        (let same : n ≡ at = omega arith in same)
+    walk-skipped (suc d) at n e empty =
+        walk-skipped d (suc at) n (omega arith) (λ z w has within. empty z w has (omega (arith, within.0), within.1))
+        ∙ walk-passed at (λ z has. empty z at has (omega arith, omega arith))
 
-  -- where no word is left, no arena is
-  pub walk-none : (left base at : ℕ) → left ≡ 0 → AreEmpty word owned (λ w. at ≤ w)
-      → at_bits left (range_with_len base 64) ++ numbers_from word (64 * at) (drop (64 * at) arenas) ≡ []
-  walk-none left base at e empty =
-      let far = at + length arenas in
-      ap (λ l. at_bits l (range_with_len base 64) ++ numbers_from word (64 * at) (drop (64 * at) arenas)) e
-      ∙ (ap (λ ys. ys ++ numbers_from word (64 * at) (drop (64 * at) arenas))
-      (at_bits-zero (range_with_len base 64))
-      ∙ (sym (walk-skipped (length arenas) at (at + length arenas) refl (λ z w has within. empty z w has within.0))
-      ∙ ap (numbers_from word (64 * (at + length arenas)))
-      (drop-past (64 * (at + length arenas)) arenas (omega arith))))
+    -- where no word is left, no arena is
+    pub walk-none : (left base at : ℕ) → left ≡ 0 → AreEmpty word owned (λ w. at ≤ w)
+        → at_bits left (range_with_len base 64) ++ numbers_from word (64 * at) (drop (64 * at) arenas) ≡ []
+    walk-none left base at e empty =
+        let far = at + length arenas in
+        ap (λ l. at_bits l (range_with_len base 64) ++ numbers_from word (64 * at) (drop (64 * at) arenas)) e
+        ∙ (ap (λ ys. ys ++ numbers_from word (64 * at) (drop (64 * at) arenas))
+        (at_bits-zero (range_with_len base 64))
+        ∙ (sym (walk-skipped (length arenas) at (at + length arenas) refl (λ z w has within. empty z w has within.0))
+        ∙ ap (numbers_from word (64 * (at + length arenas)))
+        (drop-past (64 * (at + length arenas)) arenas (omega arith))))
 
-  -- the next word that is not empty
-  pub walk-found : (w at found n left base : ℕ) → left ≡ 0 → at ≤ found → found + 1 ≡ n
-      → AreEmpty word owned (λ k. (at ≤ k) × (k < found))
-      → ((k : ℕ) → k < 64 → (bit_at w k ≡ 1) ↔ ((z : ℕ) × HasZone word z × HasBit (words_at owned z) found k))
-      → at_bits w (range_with_len (64 * found) 64) ++ numbers_from word (64 * n) (drop (64 * n) arenas)
-      ≡ at_bits left (range_with_len base 64) ++ numbers_from word (64 * at) (drop (64 * at) arenas)
-  walk-found w at found n left base none le next empty bits =
-      walk-on word w found n owned arenas left base none next h bits
-      ∙ ap (λ ns. at_bits left (range_with_len base 64) ++ ns)
-      (walk-skipped (found - at) at found (omega arith) empty)
+    -- the next word that is not empty
+    pub walk-found : (w at found n left base : ℕ) → left ≡ 0 → at ≤ found → found + 1 ≡ n
+        → AreEmpty word owned (λ k. (at ≤ k) × (k < found))
+        → ((k : ℕ) → k < 64 → (bit_at w k ≡ 1) ↔ ((z : ℕ) × HasZone word z × HasBit (words_at owned z) found k))
+        → at_bits w (range_with_len (64 * found) 64) ++ numbers_from word (64 * n) (drop (64 * n) arenas)
+        ≡ at_bits left (range_with_len base 64) ++ numbers_from word (64 * at) (drop (64 * at) arenas)
+    walk-found w at found n left base none le next empty bits =
+        walk-on word w found n owned arenas left base none next within h bits
+        ∙ ap (λ ns. at_bits left (range_with_len base 64) ++ ns)
+        (walk-skipped (found - at) at found (omega arith) empty)
 
-  -- a walk that starts in the middle of a word
-  pub walk-started : (w from : ℕ) → w < 2 ^ 64
-      → ((k : ℕ) → k < 64 → (bit_at w k ≡ 1) ↔ ((z : ℕ) × HasZone word z × HasBit (words_at owned z) (from / 64) k))
-      → at_bits (w / 2 ^ (from % 64)) (range_with_len from 64) ++ numbers_from word (64 * (from / 64 + 1))
-      (drop (64 * (from / 64 + 1)) arenas) ≡ numbers_from word from (drop from arenas)
-  walk-started w from fits bits =
-      let s = from % 64 in
-      let q = from / 64 in
-      let m = 64 - s in
-      let after : from + (64 - from % 64) ≡ 64 * (from / 64 + 1) = omega arith in
-      let block = numbers_from-block word (w / 2 ^ (from % 64)) from (64 - from % 64) (64 * (from / 64 + 1))
-      (drop from arenas) after (λ k lt.
-      (let under : from % 64 + k < 64 = omega arith in
-      let place : 64 * (from / 64) + (from % 64 + k) ≡ from + k = omega arith in
-      bit_at-shifted w (from % 64) k
-      ∙ (word-bit word w (from / 64) (from % 64 + k) owned arenas under h (bits (from % 64 + k) under)
-      ∙ ap (λ o. bit_of (is_among word o))
-      (ap (slice_get arenas) place ∙ sym (slice_get-drop from k (from + k) arenas refl))))) in
-      ap (λ ys. ys ++ numbers_from word (64 * (from / 64 + 1)) (drop (64 * (from / 64 + 1)) arenas))
-      (at_bits-fewer (w / 2 ^ (from % 64)) from 64 (64 - from % 64) (omega arith)
-      (λ k ge. bit_at-shifted w (from % 64) k ∙ bit_at_above w 64 (from % 64 + k) fits (omega arith)))
-      ∙ (ap (λ xs. at_bits (w / 2 ^ (from % 64)) (range_with_len from (64 - from % 64))
-      ++ numbers_from word (64 * (from / 64 + 1)) xs)
-      (sym (drop-drop from (64 - from % 64) (64 * (from / 64 + 1)) arenas after)) ∙ block)
+    -- a walk that starts in the middle of a word
+    pub walk-started : (w from : ℕ) → w < 2 ^ 64
+        → ((k : ℕ) → k < 64 → (bit_at w k ≡ 1) ↔ ((z : ℕ) × HasZone word z × HasBit (words_at owned z) (from / 64) k))
+        → at_bits (w / 2 ^ (from % 64)) (range_with_len from 64) ++ numbers_from word (64 * (from / 64 + 1))
+        (drop (64 * (from / 64 + 1)) arenas) ≡ numbers_from word from (drop from arenas)
+    walk-started w from fits bits =
+        let s = from % 64 in
+        let q = from / 64 in
+        let m = 64 - s in
+        let after : from + (64 - from % 64) ≡ 64 * (from / 64 + 1) = omega arith in
+        let block = numbers_from-block word (w / 2 ^ (from % 64)) from (64 - from % 64) (64 * (from / 64 + 1))
+        (drop from arenas) after (λ k lt.
+        (let under : from % 64 + k < 64 = omega arith in
+        let place : 64 * (from / 64) + (from % 64 + k) ≡ from + k = omega arith in
+        bit_at-shifted w (from % 64) k
+        ∙ (word-bit word w (from / 64) (from % 64 + k) owned arenas within under h (bits (from % 64 + k) under)
+        ∙ ap (λ o. bit_of (is_among word o))
+        (ap (slice_get arenas) place ∙ sym (slice_get-drop from k (from + k) arenas refl))))) in
+        ap (λ ys. ys ++ numbers_from word (64 * (from / 64 + 1)) (drop (64 * (from / 64 + 1)) arenas))
+        (at_bits-fewer (w / 2 ^ (from % 64)) from 64 (64 - from % 64) (omega arith)
+        (λ k ge. bit_at-shifted w (from % 64) k ∙ bit_at_above w 64 (from % 64 + k) fits (omega arith)))
+        ∙ (ap (λ xs. at_bits (w / 2 ^ (from % 64)) (range_with_len from (64 - from % 64))
+        ++ numbers_from word (64 * (from / 64 + 1)) xs)
+        (sym (drop-drop from (64 - from % 64) (64 * (from / 64 + 1)) arenas after)) ∙ block)
 
 -- a walk that has none left of its word
 pub walk-no_left : (arenas : List Arena) (walk : Walk) → walk.left ≡ 0
@@ -255,14 +265,15 @@ walk-no_left arenas walk none =
 
 -- an arena is told by its head
 pub among-of_head : (word a : ℕ) (arenas : List Arena) (head : Head)
-    → IsSomeAnd (slice_get arenas a) (λ x. IsHeadOf x head) → HasZone word head.zone
+    → IsSomeAnd (slice_get arenas a) (λ x. IsHeadOf x head) → HasZone word head.zone → head.is_given_up ≡ false
     → is_among word (slice_get arenas a) ≡ true
 unfolding HasZone
-among-of_head word a arenas head h has = by (slice_get arenas a) h
+among-of_head word a arenas head h has owned = by (slice_get arenas a) h
   where
     by : (o : Option Arena) → IsSomeAnd o (λ x. IsHeadOf x head) → is_among word o ≡ true
     by None none = absurd none
-    by (Some x) is = eq-eqb _ _ (ap (bit_at word) is.zone ∙ has.1)
+    by (Some x) is =
+        eq-eqb _ _ (ap (bit_at word) (is.zone ∙ ap (λ b. if b then 64 else head.zone) owned) ∙ has.1)
 
 -- the next arena of the walk
 pub walk-step : (word left base n : ℕ) (arenas : List Arena) → left ≢ 0 → left < 2 ^ 64

@@ -7,7 +7,7 @@ use Rattle.std.proofs.lemmas.Nat.{shr-shr, shr_le}
 use Rattle.std.proofs.lemmas.Bool.{cases_eq, cases_lt}
 use Rattle.std.proofs.lemmas.Bool.Decides.{nat_tests}
 use Rattle.std.proofs.lemmas.Nat.Bits.{bit_at-zero, bit_at_above, bit_at_set_same, bit_at_set_other, bit_at_clear_same}
-use Rattle.std.proofs.lemmas.Nat.Bits.{bit_at_clear_other, bit_at-trailing_zeros}
+use Rattle.std.proofs.lemmas.Nat.Bits.{bit_at_and, bit_at_clear_other, bit_at_or, bit_at-trailing_zeros}
 use Rattle.std.specs.Int.{bit_at, bit_not, trailing_zeros}
 use Rattle.arena_table.specs.Sets.{arena_bit, IsSummed}
 
@@ -61,6 +61,43 @@ arena_bit-clear ws i j h =
     let below : i % 64 < 64 = omega arith in
     arena_bit-written ws i j _ 0 (omega arith) (bit_at_clear_same w64 w (i % 64) below)
     (λ k lt n. bit_at_clear_other w64 w (i % 64) below k lt n)
+
+-- a word where the bit of a slot is this
+module _ (word slot : ℕ) (fits : word < 2 ^ 64) (below : slot < 64) where
+  abbrev pub cleared : ℕ
+  cleared = bit_and word (bit_not w64 (1 * 2 ^ slot % 18446744073709551616))
+
+  cleared-other : (s : ℕ) → s ≢ slot → bit_at cleared s ≡ bit_at word s
+  cleared-other s ne = elim (cases_lt s 64) [
+    | inl lt ↦ bit_at_clear_other w64 word slot below s lt ne
+    | inr le ↦
+        (let none = bit_at_above word 64 s fits le in
+        let both = bit_at_and word (bit_not w64 (1 * 2 ^ slot % 18446744073709551616)) s in
+        omega (arith, none, both))
+  ]
+
+  or-zero : (s : ℕ) → bit_at (bit_or cleared (0 * 2 ^ slot % 18446744073709551616)) s ≡ bit_at cleared s
+  or-zero s =
+      let none : 0 * 2 ^ slot % 18446744073709551616 ≡ 0 = omega arith in
+      let either = bit_at_or cleared 0 s in
+      let nothing = bit_at-zero s in
+      ap (λ m. bit_at (bit_or cleared m) s) none ∙ omega (arith, either, nothing)
+
+  pub bit_at-marked : (bit s : ℕ) → bit < 2
+      → bit_at (bit_or cleared (bit * 2 ^ slot % 18446744073709551616)) s
+      ≡ (if s == slot then bit else bit_at word s)
+  bit_at-marked zero s small = elim (cases_eq s slot) [
+    | inl e ↦ or-zero s ∙ ap (bit_at cleared) e ∙ bit_at_clear_same w64 word slot below
+        ∙ sym (if_same s slot 0 (bit_at word s) e)
+    | inr ne ↦ or-zero s ∙ cleared-other s ne ∙ sym (if_other s slot 0 (bit_at word s) ne)
+  ]
+  bit_at-marked (suc zero) s small = elim (cases_eq s slot) [
+    | inl e ↦ ap (bit_at (bit_or cleared (1 * 2 ^ slot % 18446744073709551616))) e
+        ∙ bit_at_set_same w64 cleared slot below ∙ sym (if_same s slot 1 (bit_at word s) e)
+    | inr ne ↦ bit_at_set_other w64 cleared slot below s ne ∙ cleared-other s ne
+        ∙ sym (if_other s slot 1 (bit_at word s) ne)
+  ]
+  bit_at-marked (suc (suc n)) s small = absurd (omega (arith, small))
 
 -- a word that is 0, put at the end, changes nothing
 pub get_or-push_zero : (ws : List ℕ) (k : ℕ) → get_or (ws ++ 0 ∷ []) k 0 ≡ get_or ws k 0

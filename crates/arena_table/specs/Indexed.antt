@@ -1,9 +1,9 @@
 -- Which arenas a zone has, and which of them take cells.
-use Rattle.std.specs.Prelude.{◌≡◌, ◌<◌, ℕ, suc, ◌*◌, ◌==◌, ◌&&◌, Bool, true, false, not, List, [], ◌∷◌, Option, Some}
-use Rattle.std.specs.Prelude.{None, length, slice_get, slice_index, slice_index_or, All, if◌then◌else◌}
+use Rattle.std.specs.Prelude.{◌≡◌, ◌<◌, ◌≤◌, ℕ, suc, ◌*◌, ◌==◌, ◌&&◌, Bool, true, false, not, List, [], ◌∷◌, Option}
+use Rattle.std.specs.Prelude.{Some, None, length, slice_get, slice_index, slice_index_or, All, if◌then◌else◌}
 use Rattle.std.specs.Int.{bit_at}
 use Rattle.arena_table.specs.Sets.{arena_bit}
-use Rattle.arena_table.specs.Slots.{Arena, has_free, bit_of}
+use Rattle.arena_table.specs.Slots.{Arena, has_free, bit_of, no_zone}
 
 -- the words of the sets of each zone
 pub record IndexState : Type 0 where
@@ -26,9 +26,9 @@ abbrev pub is_open : ℕ → Option Arena → Bool
 is_open zone None = false
 is_open zone (Some arena) = (arena.zone == zone) && (not arena.is_out && has_free arena.slots)
 
--- the sets have the arenas of their zones
+-- the sets have the arenas of their zones, and none that was given up
 pub record IsOwnedBy (arenas : List Arena) (owned : List (List ℕ)) : Type 0 where
-  pub zones : All (λ (arena : Arena). arena.zone < 64) arenas
+  pub zones : All (λ (arena : Arena). arena.zone ≤ no_zone) arenas
   pub bits : (z a : ℕ) → z < 64 → arena_bit (words_at owned z) a ≡ bit_of (is_owned z (slice_get arenas a))
 
 -- the sets say so of the arenas that there are

@@ -8,3 +8,4 @@ pub mod Walks
 pub mod Placement
 pub mod Delayed
 pub mod Table
+pub mod Moving

@@ -12,6 +12,10 @@ use Rattle.arena_table.specs.Cells.{CellState, with_value}
 abbrev pub is_place : Place → Place → Bool
 is_place p q = (p.0 == q.0) && (p.1 == q.1)
 
+-- the zone of an arena that was given up: none, as zones are below 64
+abbrev pub no_zone : ℕ
+no_zone = 64
+
 -- an arena: its zone, whether it is handed to sweeping, its mark bits, and its 64 slots with the cells that stand there
 pub record Arena : Type 0 where
   pub zone : ℕ
@@ -76,6 +80,10 @@ taken_in freed bits arena = record arena {
   bits = bits;
   slots = without_freed freed arena.slots;
 }
+
+-- an arena is given up
+abbrev pub given_up : Arena → Arena
+given_up arena = record arena { zone = no_zone }
 
 -- the slots with a cell, as a word whose lowest bit is that of the first slot
 abbrev pub alloc_word_of : List (Option CellState) → ℕ

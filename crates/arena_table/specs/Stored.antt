@@ -2,7 +2,7 @@
 use Rattle.std.specs.Prelude.{◌≡◌, ◌<◌, ◌≤◌, ℕ, ◌*◌, ◌/◌, ◌%◌, ◌==◌, List, [], ◌∷◌, Option, Some, None, length, All}
 use Rattle.std.specs.Prelude.{take, drop, if◌then◌else◌}
 use Rattle.arena_table.specs.Cells.{CellState, state_of}
-use Rattle.arena_table.specs.Slots.{Arena, alloc_word_of}
+use Rattle.arena_table.specs.Slots.{Arena, alloc_word_of, no_zone}
 use Rattle.arena_table.specs.declared.cells.Cell.{Cell}
 use Rattle.arena_table.specs.declared.store.Head.{Head}
 
@@ -14,7 +14,7 @@ slots_of word (cell ∷ cells) = (if word % 2 == 1 then Some (state_of cell) els
 -- an arena by its head and its cells
 abbrev pub arena_of : Head → List Cell → Arena
 arena_of head cells = record {
-  zone = head.zone;
+  zone = if head.is_given_up then no_zone else head.zone;
   is_out = head.is_out;
   bits = head.bits;
   slots = slots_of head.alloc_word cells;
@@ -38,7 +38,7 @@ pub record StoreState : Type 0 where
 
 -- what a head says of its arena
 pub record IsHeadOf (arena : Arena) (head : Head) : Type 0 where
-  pub zone : arena.zone ≡ head.zone
+  pub zone : arena.zone ≡ (if head.is_given_up then no_zone else head.zone)
   pub is_out : arena.is_out ≡ head.is_out
   pub bits : arena.bits ≡ head.bits
   pub alloc_word : alloc_word_of arena.slots ≡ head.alloc_word

@@ -9,7 +9,8 @@ use Rattle.gz_names.specs.declared.numbers.Place.{Place}
 use Rattle.cell_bits.specs.declared.bits.Bits.{Bits}
 use Rattle.cell_bits.specs.declared.jobs.Job.{Job}
 use Rattle.arena_table.specs.Cells.{CellState, field_count}
-use Rattle.arena_table.specs.Slots.{Arena, change_at, empty_arena, with_cell, alloc_word_of, held_by, bit_of, is_out_at}
+use Rattle.arena_table.specs.Slots.{Arena, change_at, empty_arena, with_cell, alloc_word_of, held_by, held_in, bit_of}
+use Rattle.arena_table.specs.Slots.{is_out_at, no_zone}
 use Rattle.arena_table.specs.Sets.{arena_bit}
 use Rattle.mark_stack.specs.Stack.{Piles, no_places}
 use Rattle.arena_table.specs.Delayed.{AreCovered, DelayedSets}
@@ -84,12 +85,17 @@ pub record IsReserved (store : StoreState) (index : IndexState) (out : List ℕ)
   pub out_room : r.place.0 ≡ length store.arenas → length store.arenas < 64 * length out
   pub covered : r.place.0 ≡ length store.arenas → AreCovered delayed (length store.arenas + 1)
 
+-- an arena that was given up is handed to nobody, and no cell stands in it
+abbrev pub IsEmptyIfGivenUp : Arena → Type 0
+IsEmptyIfGivenUp arena = arena.zone ≡ no_zone → (held_in arena.slots ≡ 0) × (arena.is_out ≡ false)
+
 -- what always holds
 pub record AreArenas (store : StoreState) (index : IndexState) (out : List ℕ) (delayed : DelayedSets) (made held : ℕ)
     (reserved : Option Reserved) : Type 0 where
   pub indexed : IsIndexed store.arenas index
   pub out_of : AreOut store.arenas out
   pub covered : AreCovered delayed (length store.arenas)
+  pub empty : All IsEmptyIfGivenUp store.arenas
   pub few : made ≤ 4294967295
   pub counted : held ≡ held_by store.arenas
   pub fewer : held ≤ made

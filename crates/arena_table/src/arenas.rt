@@ -1,7 +1,7 @@
 // The arenas of all zones.
-ghost use Rattle.std.specs.Prelude.{◌≡◌, ◌≢◌, ◌≤◌, ◌<◌, ◌+◌, ◌*◌, ◌==◌, ◌&&◌, [], ℕ, Bool, true, false, IsSome};
+ghost use Rattle.std.specs.Prelude.{◌≡◌, ◌≢◌, ◌≤◌, ◌<◌, ◌+◌, ◌*◌, ◌==◌, ◌&&◌, ◌∷◌, [], ℕ, Bool, true, false, IsSome};
 ghost use Rattle.std.specs.Prelude.{IsSomeAnd, Some, None, Contains, length, replicate, slice_get, slice_set, IfOk};
-ghost use Rattle.std.specs.Prelude.{OnOk, OnErr};
+ghost use Rattle.std.specs.Prelude.{◌^◌, ◌↔◌, All, IsTrue, OnOk, OnErr};
 ghost use Rattle.std.specs.Prelude.{IfSome, IfNone, MatchBool, is_some, if◌then◌else◌};
 ghost use Rattle.std.specs.Int.{bit_at};
 ghost use Rattle.std.specs.Option.{ForSome, option_map};
@@ -10,23 +10,26 @@ ghost use Rattle.gz_names.specs.declared.numbers.Place.{Place};
 ghost use Rattle.arena_table.specs.Cells.{field_count, field_of, name_of, state_of, with_value};
 ghost use Rattle.arena_table.specs.Slots.{Arena, IsWithin, alloc_word_of, at_bits, bit_of, cell_at, change_at};
 ghost use Rattle.arena_table.specs.Slots.{handed_out, held_by, is_out_at, names_of, taken_in, with_bits, with_cell};
-ghost use Rattle.arena_table.specs.Slots.{with_field};
+ghost use Rattle.arena_table.specs.Slots.{no_zone, with_field};
 ghost use Rattle.arena_table.specs.Sets.{arena_bit};
-ghost use Rattle.arena_table.specs.Indexed.{IsIndexed, IsOwnedBy, is_among, is_open, words_at};
+ghost use Rattle.arena_table.specs.Indexed.{IsIndexed, IsOwnedBy, is_among, is_open, is_owned, words_at};
 ghost use Rattle.arena_table.specs.Placement.{place_for};
+ghost use Rattle.arena_table.specs.Moving.{AreEmptyFrom, GoInside, MayMove, MovesCells, all_forwarded, count_from};
+ghost use Rattle.arena_table.specs.Moving.{forwarded, forwarded_at, given_up_from, in_zone, owner_of};
 ghost use Rattle.arena_table.specs.Delayed.{AreCovered, IsAsRoomy, delayed_of};
 ghost use Rattle.mark_stack.specs.Stack.{IsPushed, no_places, pile_of};
-ghost use Rattle.arena_table.specs.Table.{AreIn, AreOut, HasRoom, grown_to, new_cell, in_these, jobs_from, no_bits};
+ghost use Rattle.arena_table.specs.Table.{AreIn, AreOut, HasRoom, IsEmptyIfGivenUp, grown_to, new_cell, in_these};
+ghost use Rattle.arena_table.specs.Table.{jobs_from, no_bits};
 ghost use Rattle.arena_table.specs.Table.{put_at, is_place};
 
 use crate::arena_sets::ArenaSet;
 use crate::cells::{ARENA_LIMIT, Cell};
 use crate::delayed::Delayed;
 use crate::index::Index;
-use crate::store::Store;
+use crate::store::{Store, marked};
 use crate::walk::Walk;
 use cell_bits::{Bits, Job};
-use gz_names::{CompNo, Kind, Name, Names64, NoMemory, Place, ZoneNo, ZoneSet};
+use gz_names::{CompNo, Kind, Move, Moves, Name, Names64, NoMemory, Place, ZoneNo, ZoneSet};
 use mark_stack::Pile;
 use std::alloc::{AllocError, Global};
 use std::marker::Model;
@@ -324,14 +327,7 @@ impl Arenas {
         ensures none { IfNone result ((other : ℕ) → from ≤ other
             → is_among zones.bits (slice_get self.now.arenas other) ≡ false) }
     {
-        // Mostly it is that arena itself, which its head tells without a look at the sets.
-        if is_in_zones(&self.store, zones, from as usize) {
-            return Some(from);
-        }
-        let walk = Walk::starting_at(&self.index, zones, from as usize);
-        let arena = walk.first(&self.index)?;
-        prove!(arena < self.store.len());
-        Some(arena as u32)
+        next_among(&self.store, &self.index, zones, from)
     }
 
     /// Takes an arena back from sweeping: its bits are the heap's again, the freed cells are gone,
@@ -357,6 +353,60 @@ impl Arenas {
         self.out.remove(arena);
         self.held -= names.len() as u64;
         self.reserved = None;
+    }
+
+    /// Cells go to free slots of arenas of their zone, with their mark bits. What leads to them leads to where
+    /// they were until it is forwarded.
+    pub fn move_cells(&mut self, moves: &Moves)
+        requires { MayMove self.old.arenas moves.now }
+        ensures moves { MovesCells self.old.arenas moves.now self.new.arenas }
+        ensures rest { self.new ≡ record self.old { arenas = self.new.arenas; reserved = None } }
+    {
+        move_all(&mut self.store, &mut self.index, moves);
+        self.reserved = None;
+    }
+
+    /// The fields of the cells of a zone lead to where their cells have gone.
+    pub fn forward_in(&mut self, zone: ZoneNo, moves: &Moves)
+        requires { GoInside self.old.arenas moves.now }
+        ensures state { self.new ≡ record self.old {
+          arenas = in_zone (all_forwarded moves.now) zone self.old.arenas;
+        } }
+        ensures cells { (p : Place) → cell_at self.new.arenas p
+            ≡ (if is_owned zone (slice_get self.old.arenas p.0)
+            then option_map (forwarded moves.now) (cell_at self.old.arenas p)
+            else cell_at self.old.arenas p) }
+    {
+        forward_zones(&mut self.store, &self.index, ZoneSet::only(zone), moves);
+    }
+
+    /// The fields of a cell lead to where their cells have gone.
+    pub fn forward(&mut self, place: Place, moves: &Moves)
+        requires cell { IsSome (cell_at self.old.arenas place) }
+        requires goals { GoInside self.old.arenas moves.now }
+        ensures state { self.new ≡ record self.old {
+          arenas = change_at (forwarded_at moves.now place.1) self.old.arenas place.0;
+        } }
+        ensures cells { (p : Place) → cell_at self.new.arenas p ≡ (if is_place p place
+            then option_map (forwarded moves.now) (cell_at self.old.arenas p)
+            else cell_at self.old.arenas p) }
+    {
+        self.store.forward(place, moves);
+    }
+
+    /// The arenas of a zone from a number on, in which no cell stands, are given up: no zone owns them from now
+    /// on, and their numbers are not used again. Returns how many these are.
+    pub fn give_up(&mut self, zone: ZoneNo, first: u32) -> u32
+        requires { AreEmptyFrom self.old.arenas zone first }
+        ensures count { result ≡ count_from zone first 0 self.old.arenas }
+        ensures state { self.new ≡ record self.old {
+          arenas = given_up_from zone first 0 self.old.arenas;
+          reserved = None;
+        } }
+        ensures cells { (p : Place) → cell_at self.new.arenas p ≡ cell_at self.old.arenas p }
+    {
+        self.reserved = None;
+        give_up_all(&mut self.store, &mut self.index, zone, first)
     }
 
     /// A cell for which a pile of the mark stack has no room is delayed for it.
@@ -406,28 +456,34 @@ impl Arenas {
         self.held
     }
 
-    /// How many arenas were made.
+    /// How many arenas were made, those that were given up among them.
     pub fn arenas(&self) -> u32
         ensures { result ≡ length self.now.arenas }
     {
         self.store.len() as u32
     }
 
-    /// The zone of an arena, if it was made.
+    /// The zone that owns an arena: none if it was not made, or was given up.
     pub fn owner(&self, arena: u32) -> Option<ZoneNo>
-        ensures { result ≡ option_map (λ a. a.zone) (slice_get self.now.arenas arena) }
+        ensures { result ≡ owner_of (slice_get self.now.arenas arena) }
     {
         let arena = arena as usize;
-        if arena < self.store.len() {
-            Some(self.store.head(arena).zone)
-        } else {
+        if arena >= self.store.len() {
+            return None;
+        }
+        let head = self.store.head(arena);
+        // What stands for no zone is no zone's number.
+        let _ = head.zone.index();
+        if head.is_given_up {
             None
+        } else {
+            Some(head.zone)
         }
     }
 
-    /// The zone of a place whose arena was made.
+    /// The zone of a cell.
     pub fn zone_at(&self, place: Place) -> ZoneNo
-        requires { place.0 < length self.now.arenas }
+        requires { IsSome (cell_at self.now.arenas place) }
         ensures { option_map (λ a. a.zone) (slice_get self.now.arenas place.0) ≡ Some result }
     {
         self.store.head(place.arena() as usize).zone
@@ -534,12 +590,41 @@ fn put_in_arena(store: &mut Store, index: &mut Index, zone: ZoneNo, place: Place
     }
 }
 
-// Whether an arena that was made is one of these zones.
+// Whether an arena that was made and not given up is one of these zones.
 #[inline(always)]
 fn is_in_zones(store: &Store, zones: ZoneSet, arena: usize) -> bool
     ensures { result ≡ true → is_among zones.bits (slice_get store.now.arenas arena) ≡ true }
 {
-    arena < store.len() && zones.contains(store.head(arena).zone)
+    if arena >= store.len() {
+        return false;
+    }
+    let head = store.head(arena);
+    if head.is_given_up {
+        return false;
+    }
+    zones.contains(head.zone)
+}
+
+// The lowest arena of these zones from a number on.
+#[inline(always)]
+fn next_among(store: &Store, index: &Index, zones: ZoneSet, from: u32) -> Option<u32>
+    requires { IsOwnedBy store.now.arenas index.now.owned }
+    ensures among { IfSome result (λ arena. (from ≤ arena)
+        × (is_among zones.bits (slice_get store.now.arenas arena) ≡ true)) }
+    ensures lowest { IfSome result (λ arena. (other : ℕ) → from ≤ other → other < arena
+        → is_among zones.bits (slice_get store.now.arenas other) ≡ false) }
+    ensures none { IfNone result ((other : ℕ) → from ≤ other
+        → is_among zones.bits (slice_get store.now.arenas other) ≡ false) }
+    ensures fits { zones.bits < 2 ^ 64 }
+{
+    // Mostly it is that arena itself, which its head tells without a look at the sets.
+    if is_in_zones(store, zones, from as usize) {
+        return Some(from);
+    }
+    let walk = Walk::starting_at(index, zones, from as usize);
+    let arena = walk.first(index)?;
+    prove!(arena < store.len());
+    Some(arena as u32)
 }
 
 // What of these zones is handed to sweeping.
@@ -579,10 +664,142 @@ fn send_out(store: &mut Store, index: &Index, out: &mut ArenaSet, zones: ZoneSet
     }
 }
 
+// The arenas of a zone from a number on, in which no cell stands, are given up. Returns how many these are.
+fn give_up_all(store: &mut Store, index: &mut Index, zone: ZoneNo, first: u32) -> u32
+    requires indexed { IsIndexed store.old.arenas index.old }
+    ensures count { result ≡ count_from zone first 0 store.old.arenas }
+    ensures arenas { store.new.arenas ≡ given_up_from zone first 0 store.old.arenas }
+    ensures indexed { IsIndexed store.new.arenas index.new }
+{
+    let zones = ZoneSet::only(zone);
+    let mut count = 0;
+    let mut from = first;
+    while let Some(arena) = next_among(store, index, zones, from) {
+        index.remove(zone, arena as usize);
+        store.give_up(arena as usize);
+        count += 1;
+        from = arena + 1;
+    }
+    count
+}
+
+// Cells go to free slots of arenas of their zone, with their mark bits.
+fn move_all(store: &mut Store, index: &mut Index, moves: &Moves)
+    requires indexed { IsIndexed store.old.arenas index.old }
+    requires moves { MayMove store.old.arenas moves.now }
+    requires empty { All IsEmptyIfGivenUp store.old.arenas }
+    ensures moves { MovesCells store.old.arenas moves.now store.new.arenas }
+    ensures indexed { IsIndexed store.new.arenas index.new }
+    ensures empty { All IsEmptyIfGivenUp store.new.arenas }
+    ensures held { held_by store.new.arenas ≡ held_by store.old.arenas }
+{
+    for step in moves.as_slice() {
+        move_between(store, index, *step);
+    }
+}
+
+// A cell goes to a free slot of an arena of its zone, with its mark bits.
+fn move_between(store: &mut Store, index: &mut Index, step: Move)
+    requires indexed { IsIndexed store.old.arenas index.old }
+    requires moves { MayMove store.old.arenas (step ∷ []) }
+    requires empty { All IsEmptyIfGivenUp store.old.arenas }
+    ensures moves { MovesCells store.old.arenas (step ∷ []) store.new.arenas }
+    ensures indexed { IsIndexed store.new.arenas index.new }
+    ensures empty { All IsEmptyIfGivenUp store.new.arenas }
+    ensures held { held_by store.new.arenas ≡ held_by store.old.arenas }
+{
+    store.whole_law();
+    let Move { from, to } = step;
+    let left = from.arena() as usize;
+    let goal = to.arena() as usize;
+    let zone = store.head(left).zone;
+    let cell = *store.cell(from);
+    let was = store.head(left).bits;
+    let slot = from.slot();
+    let seat = to.slot();
+    let before = marked(was, slot, 0, 0);
+    free_slot(store, index, from, before);
+    put_in_arena(store, index, zone, to, cell);
+    let black = (was.black >> slot) & 1;
+    let gob = (was.gob >> slot) & 1;
+    let now = store.head(goal).bits;
+    let after = marked(now, seat, black, gob);
+    store.set_bits(goal, after);
+}
+
+// A slot becomes free, as its cell goes elsewhere. Its arena has these bits then.
+fn free_slot(store: &mut Store, index: &mut Index, place: Place, bits: Bits)
+    requires indexed { IsIndexed store.old.arenas index.old }
+    requires cell { IsSome (cell_at store.old.arenas place) }
+    requires owned { IsSomeAnd (slice_get store.old.arenas place.0) (λ a. a.zone ≢ no_zone) }
+    requires kept { is_out_at store.old.arenas place.0 ≡ false }
+    ensures arenas { store.new.arenas
+        ≡ change_at (taken_in (2 ^ place.1) bits) store.old.arenas place.0 }
+    ensures indexed { IsIndexed store.new.arenas index.new }
+    ensures slot { place.1 < 64 }
+{
+    let arena = place.arena() as usize;
+    store.take_in(arena, 1 << place.slot(), bits);
+    index.open(store.head(arena).zone, arena);
+}
+
+// The fields of the cells of some zones lead to where their cells have gone.
+fn forward_zones(store: &mut Store, index: &Index, zones: ZoneSet, moves: &Moves)
+    requires owned { IsOwnedBy store.old.arenas index.now.owned }
+    requires goals { GoInside store.old.arenas moves.now }
+    ensures arenas { store.new.arenas
+        ≡ in_these (all_forwarded moves.now) zones.bits store.old.arenas }
+    ensures room { store.new.room ≡ store.old.room }
+    ensures fits { zones.bits < 2 ^ 64 }
+{
+    let mut walk = Walk::over(zones);
+    while let Some(arena) = walk.next(index) {
+        forward_all(store, arena, moves);
+    }
+}
+
+// The fields of an arena's cells lead to where their cells have gone.
+fn forward_all(store: &mut Store, arena: usize, moves: &Moves)
+    requires made { arena < length store.old.arenas }
+    requires goals { GoInside store.old.arenas moves.now }
+    ensures arenas { store.new.arenas ≡ change_at (all_forwarded moves.now) store.old.arenas arena }
+    ensures room { store.new.room ≡ store.old.room }
+{
+    let cells = store.head(arena).alloc_word;
+    for slot in 0..64u8 {
+        if has_bit(cells, slot) {
+            forward_slot(store, arena, slot, moves);
+        }
+    }
+}
+
+// The fields of the cell at a slot lead to where their cells have gone.
+fn forward_slot(store: &mut Store, arena: usize, slot: u8, moves: &Moves)
+    requires cell { IsSome (cell_at store.old.arenas (arena, slot)) }
+    requires slot { slot < 64 }
+    requires few { arena < ARENA_LIMIT }
+    requires goals { GoInside store.old.arenas moves.now }
+    ensures arenas { store.new.arenas ≡ change_at (forwarded_at moves.now slot) store.old.arenas arena }
+    ensures room { store.new.room ≡ store.old.room }
+{
+    if let Some(place) = Place::new(arena as u32, slot) {
+        store.forward(place, moves);
+    }
+}
+
+// Whether a word has the bit of a slot.
+fn has_bit(word: u64, slot: u8) -> bool
+    requires { slot < 64 }
+    ensures { IsTrue result ↔ (bit_at word slot ≡ 1) }
+{
+    (word >> slot) & 1 == 1
+}
+
 // An arena comes back from sweeping, without the freed cells.
 fn come_in(store: &mut Store, index: &mut Index, arena: usize, freed: u64, bits: Bits)
     requires indexed { IsIndexed store.old.arenas index.old }
     requires out { IsSomeAnd (slice_get store.old.arenas arena) (λ a. a.is_out ≡ true) }
+    requires owned { IsSomeAnd (slice_get store.old.arenas arena) (λ a. a.zone ≢ no_zone) }
     ensures arenas { store.new.arenas ≡ change_at (taken_in freed bits) store.old.arenas arena }
     ensures indexed { IsIndexed store.new.arenas index.new }
 {

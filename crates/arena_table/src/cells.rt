@@ -1,10 +1,11 @@
 // Cells as they are kept.
-ghost use Rattle.std.specs.Prelude.{◌≡◌, ◌≤◌, ◌<◌, ◌+◌, ◌*◌, ◌-◌, ◌^◌, ℕ, None, replicate, slice_set, length};
-ghost use Rattle.std.specs.Option.{ForSome};
+ghost use Rattle.std.specs.Prelude.{◌≡◌, ◌≤◌, ◌<◌, ◌+◌, ◌*◌, ◌-◌, ◌^◌, ℕ, All, None, replicate, slice_set, length};
+ghost use Rattle.std.specs.Option.{ForSome, option_map};
+ghost use Rattle.gz_names.specs.Moves.{moved};
 ghost use Rattle.gz_names.specs.Order.{number_of};
 ghost use Rattle.arena_table.specs.Kinds.{AreNullFrom, field_count};
 
-use gz_names::{CompNo, Kind, Name, Place};
+use gz_names::{CompNo, Kind, Moves, Name, Place};
 
 /// More arenas than can be made: a link to the last slot of the last arena still fits its four
 /// bytes.
@@ -102,7 +103,8 @@ fn number_in(name: Name) -> u32
 }
 
 impl Cell {
-    ghost use Rattle.arena_table.specs.Cells.{CellState, field_of, name_of, state_of};
+    ghost use Rattle.arena_table.specs.Cells.{CellState, field_of, name_of, state_of, with_value};
+    ghost use Rattle.arena_table.specs.Moving.{forwarded};
 
     /// A cell whose fields are null.
     pub fn new(kind: Kind, comp: CompNo, name: Name) -> Self
@@ -163,5 +165,31 @@ impl Cell {
         } }
     {
         self.fields[f as usize] = Link::to(value);
+    }
+
+    /// The fields lead to where their cells have gone.
+    pub fn forward(&mut self, moves: &Moves)
+        requires { All (λ m. m.to.0 < ARENA_LIMIT) moves.now }
+        ensures { state_of self.new ≡ forwarded moves.now (state_of self.old) }
+    {
+        for f in 0..self.field_count() {
+            self.forward_field(f, moves);
+        }
+    }
+
+    // A field leads to where its cell has gone.
+    fn forward_field(&mut self, f: u8, moves: &Moves)
+        requires field { f < length (state_of self.old).fields }
+        requires goals { All (λ m. m.to.0 < ARENA_LIMIT) moves.now }
+        ensures { state_of self.new ≡ with_value f (option_map (moved moves.now)
+            (field_of (state_of self.old) f)) (state_of self.old) }
+    {
+        let Some(place) = self.field(f) else {
+            return;
+        };
+        let gone = moves.moved_to(place);
+        if gone != place {
+            self.set_field(f, Some(gone));
+        }
     }
 }

@@ -84,6 +84,25 @@ impl Index {
         self.owned[zone.index() as usize].insert(arena);
     }
 
+    /// A zone has an arena less, which takes no cells either.
+    pub fn remove(&mut self, zone: ZoneNo, arena: usize)
+        requires owned { arena < 64 * length (words_at self.old.owned zone) }
+        requires open_ { arena < 64 * length (words_at self.old.open_ zone) }
+        ensures below { zone < 64 }
+        ensures bits { (a : ℕ) → arena_bit (words_at self.new.owned zone) a
+            ≡ (if a == arena then 0 else arena_bit (words_at self.old.owned zone) a) }
+        ensures open_bits { (a : ℕ) → arena_bit (words_at self.new.open_ zone) a
+            ≡ (if a == arena then 0 else arena_bit (words_at self.old.open_ zone) a) }
+        ensures room { length (words_at self.new.open_ zone)
+            ≡ length (words_at self.old.open_ zone) }
+        ensures others { (z : ℕ) → z ≢ zone
+            → (words_at self.new.owned z ≡ words_at self.old.owned z)
+            × (words_at self.new.open_ z ≡ words_at self.old.open_ z) }
+    {
+        self.owned[zone.index() as usize].remove(arena);
+        self.open[zone.index() as usize].remove(arena);
+    }
+
     /// An arena takes cells of its zone.
     pub fn open(&mut self, zone: ZoneNo, arena: usize)
         requires { arena < 64 * length (words_at self.old.open_ zone) }
@@ -121,14 +140,16 @@ impl Index {
         ensures others { (z : ℕ) → ¬ HasZone zones.bits z
             → words_at self.new.open_ z ≡ words_at self.old.open_ z }
         ensures owned { self.new.owned ≡ self.old.owned }
+        ensures fits { zones.bits < 2 ^ 64 }
     {
         clear_sets(&mut self.open, zones.bits);
     }
 
     /// The bits of 64 arenas: those of the arenas of a set of zones.
     pub fn word(&self, zones: ZoneSet, at: usize) -> u64
-        ensures { (k : ℕ) → k < 64 → (bit_at result k ≡ 1)
+        ensures bits { (k : ℕ) → k < 64 → (bit_at result k ≡ 1)
             ↔ ((z : ℕ) × HasZone zones.bits z × HasBit (words_at self.now.owned z) at k) }
+        ensures fits { zones.bits < 2 ^ 64 }
     {
         united(&self.owned, zones.bits, at)
     }
@@ -141,6 +162,7 @@ impl Index {
             × (slice_index (words_at self.now.owned z) at ≢ 0)) }
         ensures lowest { (z word : ℕ) → HasZone zones.bits z → from ≤ word → IsBefore result word
             → slice_index (words_at self.now.owned z) word ≡ 0 }
+        ensures fits { zones.bits < 2 ^ 64 }
     {
         next_of_all(&self.owned, zones.bits, from)
     }

@@ -4,11 +4,12 @@
 //
 // An arena is 64 slots for cells of one zone (js/src/gc/Heap.h has arenas of 4,096 bytes; 64 cells
 // of one size are our choice). Arenas are numbered over all zones in the order in which they are
-// made, and are never given up. A cell's place, arena and slot, stays the same while it lives. What
+// made. A cell's place, arena and slot, stays the same while it lives, but where its zone is compacted. What
 // marking and sweeping look at is kept apart from the cells (as mark bits are in Heap.h):
 //
 //     heads     [ 0 | 1 | 2 | .. ]    32 bytes an arena: the word of its allocated slots, its two
-//                                     words of mark bits, its zone, whether it is out
+//                                     words of mark bits, its zone, whether it is out, and
+//                                     whether it was given up
 //     cells     [ 0 | 1 | 2 | .. ]    64 cells of 40 bytes an arena: kind, compartment, 8 fields of four
 //                                     bytes, null past those that the cell has, and a number, which with
 //                                     the kind and the compartment tells the name
@@ -60,6 +61,13 @@
 // back. `take_in` ends that, with the freed slots and the bits with every wake. It puts names
 // into a list that the caller lends, since a list of 64 names is dear to move, and takes no memory: the
 // sets have a bit for the arena since it was made.
+//
+// Compaction (compact) has cells go to free slots of lower arenas of their zone. `move_cells` takes them there
+// with their mark bits; then what leads to them is forwarded (`forward_in`, `forward`), as no slot can tell where
+// its cell has gone: a free slot's memory says nothing. An arena that all cells have left may be given up:
+// `give_up` takes it out of both sets of its zone, so that no walk meets it and no cell comes into it. Its number
+// is not used again, since a report names arenas by number. Its memory stays as it is: the cells of all arenas are
+// one list, and to give back a piece of it each path to a cell would have to pay a look-up.
 #![tactic(auto)]
 
 mod arena_sets;

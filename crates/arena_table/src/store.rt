@@ -1,14 +1,15 @@
 // Arenas as they are kept.
 ghost use Rattle.std.specs.Prelude.{◌≡◌, ◌≤◌, ◌<◌, ◌+◌, ◌++◌, ◌∷◌, ◌^◌, [], ℕ, Bool, true, false, IsSome, IsSomeAnd};
 ghost use Rattle.std.specs.Prelude.{IsTrue, Some, None, length, map, replicate, slice_get, slice_set, OnOk, OnErr};
-ghost use Rattle.std.specs.Prelude.{vec_len, vec_capacity};
+ghost use Rattle.std.specs.Prelude.{◌==◌, All, if◌then◌else◌, vec_len, vec_capacity};
+ghost use Rattle.std.specs.Int.{bit_at};
 ghost use Rattle.std.specs.Option.{ForSome, option_map};
 ghost use Rattle.arena_table.specs.Cells.{state_of};
 ghost use Rattle.arena_table.specs.Slots.{at_bits};
 
 use crate::cells::{ARENA_LIMIT, Cell, NO_CELL, position};
 use cell_bits::Bits;
-use gz_names::{Names64, Place, ZoneNo};
+use gz_names::{Moves, Names64, Place, ZoneNo};
 use std::alloc::{AllocError, Global};
 use std::marker::Model;
 
@@ -24,6 +25,8 @@ pub(crate) struct Head {
     pub bits: Bits,
     pub zone: ZoneNo,
     pub is_out: bool,
+    /// Whether the arena was given up: no zone owns it, and no cell stands in it.
+    pub is_given_up: bool,
 }
 
 /// All arenas by number: what marking and sweeping look at most is kept apart from the cells, which
@@ -52,6 +55,8 @@ impl Store {
     ghost use Rattle.arena_table.specs.Cells.{state_of};
     ghost use Rattle.arena_table.specs.Slots.{Arena, IsWithin, alloc_word_of, names_of, empty_arena, change_at};
     ghost use Rattle.arena_table.specs.Slots.{cell_at, with_cell, with_field, with_bits, handed_out, taken_in};
+    ghost use Rattle.arena_table.specs.Slots.{given_up};
+    ghost use Rattle.arena_table.specs.Moving.{GoInside, forwarded_at};
     ghost use Rattle.arena_table.specs.Stored.{StoreState, IsHeadOf};
 
     /// No arenas. It takes no memory.
@@ -101,6 +106,7 @@ impl Store {
             bits: Bits { black: 0, gob: 0 },
             zone,
             is_out: false,
+            is_given_up: false,
         });
         push_alike(&mut self.cells, NO_CELL);
     }
@@ -181,6 +187,35 @@ impl Store {
         head.is_out = false;
     }
 
+    /// Each arena has 64 slots. It does nothing.
+    pub fn whole_law(&self)
+        ensures { All (λ (a : Arena). length a.slots ≡ 64) self.now.arenas }
+    {
+        let _ = &self.heads;
+    }
+
+    /// The fields of a cell lead to where their cells have gone.
+    pub fn forward(&mut self, place: Place, moves: &Moves)
+        requires cell { IsSome (cell_at self.old.arenas place) }
+        requires goals { GoInside self.old.arenas moves.now }
+        ensures arenas { self.new.arenas
+            ≡ change_at (forwarded_at moves.now place.1) self.old.arenas place.0 }
+        ensures room { self.new.room ≡ self.old.room }
+    {
+        self.cells[position(place) as usize].forward(moves);
+    }
+
+    /// An arena is given up, in which no cell stands.
+    pub fn give_up(&mut self, arena: usize)
+        requires { arena < length self.old.arenas }
+        ensures arenas { self.new.arenas
+            ≡ change_at given_up self.old.arenas arena }
+        ensures room { self.new.room ≡ self.old.room }
+        ensures few { arena < ARENA_LIMIT }
+    {
+        self.heads[arena].is_given_up = true;
+    }
+
     /// Puts the names of the cells at the slots of a word, in slot order, in the place of those of a list.
     pub fn names_at(&self, arena: usize, word: u64, names: &mut Names64)
         requires made { arena < length self.now.arenas }
@@ -193,6 +228,29 @@ impl Store {
         let first = 64 * arena;
         names_of_cells(&cells[first..first + 64], word, names)
     }
+}
+
+// The bits of an arena, where those of a slot are these.
+pub(crate) fn marked(bits: Bits, slot: u8, black: u64, gob: u64) -> Bits
+    requires slot { slot < 64 }
+    requires black { black < 2 }
+    requires gob { gob < 2 }
+    ensures black { (s : ℕ) → bit_at result.black s ≡ (if s == slot then black else bit_at bits.black s) }
+    ensures gob { (s : ℕ) → bit_at result.gob s ≡ (if s == slot then gob else bit_at bits.gob s) }
+{
+    Bits {
+        black: with_bit(bits.black, slot, black),
+        gob: with_bit(bits.gob, slot, gob),
+    }
+}
+
+// A word where the bit of a slot is this.
+fn with_bit(word: u64, slot: u8, bit: u64) -> u64
+    requires slot { slot < 64 }
+    requires bit { bit < 2 }
+    ensures { (s : ℕ) → bit_at result s ≡ (if s == slot then bit else bit_at word s) }
+{
+    (word & !(1 << slot)) | (bit << slot)
 }
 
 // Pushes the cells of an arena, all alike, for which there is room.

@@ -4,6 +4,7 @@ use Rattle.arena_table.proofs.Covered.{covered-same}
 use Rattle.arena_table.specs.Slots.{cell_at}
 use Rattle.arena_table.specs.Table.{ArenasState}
 use Rattle.arena_table.proofs.CellsAt.{cell_at-handed}
+use Rattle.arena_table.proofs.GivenUp.{empty-handed}
 use Rattle.arena_table.proofs.HandingOut.{IsIndexed-handed, held_by-out}
 use Rattle.arena_table.proofs.arenas.Arenas.hand_out.Goals as goal
 
@@ -16,6 +17,8 @@ invariant_of-self c = record {
   covered = covered-same c.self.inside.delayed (length c.send_out.new.store.arenas)
       (length c.self.inside.store.arenas)
       (ap length c.send_out.ensures.arenas ∙ length-map c.self.inside.store.arenas _) c.self.invariant.covered;
+  empty = empty-handed c.args.zones.bits c.self.inside.store.arenas c.send_out.new.store.arenas c.close_all.ensures.fits
+      c.send_out.ensures.arenas c.self.invariant.empty;
   few = c.self.invariant.few;
   counted = c.self.invariant.counted
       ∙ sym (held_by-out c.args.zones.bits c.self.inside.store.arenas c.send_out.new.store.arenas

@@ -5,6 +5,7 @@ use Rattle.arena_table.specs.Slots.{cell_at, held_by}
 use Rattle.arena_table.specs.Table.{ArenasState, new_cell, is_place}
 use Rattle.arena_table.proofs.Putting.{grown-within, grown-slot, held_by-put, kept-place}
 use Rattle.arena_table.proofs.CellsAt.{cell_at-put}
+use Rattle.arena_table.proofs.GivenUp.{empty-put}
 use Rattle.arena_table.proofs.Outs.{AreOut-put}
 use Rattle.arena_table.proofs.Covered.{covered-put}
 use Rattle.arena_table.proofs.arenas.Arenas.put_cell.Goals as goal
@@ -29,6 +30,8 @@ invariant_of-self c =
       covered = covered-put c.self.inside.delayed c.self.inside.store.arenas c.put_in_zone.new.store.arenas
           c.in-Some.reserved.zone c.args.place (state_of c.new-cell.result) c.self.invariant.covered
           (λ end. kept.covered (sym (ap (λ (p : Place). p.0) placed) ∙ end)) c.put_in_zone.ensures.arenas;
+      empty = empty-put c.self.inside.store.arenas c.put_in_zone.new.store.arenas c.in-Some.reserved.zone c.args.place
+          (state_of c.new-cell.result) kept.zone place c.put_in_zone.ensures.arenas c.self.invariant.empty;
       few = omega arith;
       counted = omega arith;
       fewer = omega arith;

@@ -6,6 +6,7 @@ use Rattle.arena_table.proofs.Putting.{held_by-taken}
 use Rattle.arena_table.proofs.CellsAt.{cell_at-taken}
 use Rattle.arena_table.proofs.Changing.{length-change_at}
 use Rattle.arena_table.proofs.Covered.{covered-same}
+use Rattle.arena_table.proofs.GivenUp.{empty-taken, owned-out}
 use Rattle.arena_table.proofs.Indexing.{out-within}
 use Rattle.arena_table.proofs.Outs.{AreOut-turned}
 use Rattle.arena_table.proofs.arenas.Arenas.take_in.Goals as goal
@@ -36,6 +37,9 @@ invariant_of-self c =
           (ap length c.come_in.ensures.arenas
           ∙ length-change_at (taken_in c.args.freed c.args.bits) c.self.inside.store.arenas c.args.arena)
           c.self.invariant.covered;
+      empty = empty-taken c.args.freed c.args.bits c.self.inside.store.arenas c.come_in.new.store.arenas c.args.arena
+          c.come_in.ensures.arenas (rw (ap (λ (s : ArenasState). s.arenas) c.self.view_is) c.requires.out)
+          c.self.invariant.empty;
       few = c.self.invariant.few;
       counted = omega (arith, c.len.ensures.value);
       fewer = omega arith;
@@ -48,3 +52,8 @@ returns-clause-cells c = λ p.
     ap (λ as'. cell_at as' p) c.come_in.ensures.arenas
     ∙ (cell_at-taken c.self.inside.store.arenas c.args.arena c.args.freed c.args.bits p
     ∙ ap (λ o. if (p.0 == c.args.arena) && (bit_at c.args.freed p.1 == 1) then None else o) same)
+
+pub come_in-requires-clause-owned : goal.come_in-requires-clause-owned
+come_in-requires-clause-owned c =
+    owned-out c.self.inside.store.arenas c.args.arena c.self.invariant.empty
+    (rw (ap (λ (s : ArenasState). s.arenas) c.self.view_is) c.requires.out)
