@@ -24,3 +24,12 @@ pub mod Planned
 pub mod NotedTargets
 pub mod Forgetting
 pub mod Dropping
+pub mod Forwarded
+pub mod Relocated
+pub mod Carrying
+pub mod Leading
+pub mod Naming
+pub mod Staying
+pub mod GivingUp
+pub mod Arrived
+pub mod Going

@@ -303,6 +303,7 @@ pub record IsMade (s t : ArenasState) (zone : ℕ) (p : Place) (cell : CellState
   pub put : List Arena
   pub bits : Bits
   pub place_is : p ≡ place_for s.arenas zone
+  pub below : zone < 64
   pub free : cell_at s.arenas p ≡ None
   pub put_is : put ≡ put_at s.arenas zone p cell
   pub cells : (q : Place) → cell_at put q ≡ (if is_place q p then Some cell else cell_at s.arenas q)
@@ -327,6 +328,7 @@ makes-seen h k s t zone p cell v is_kept m same =
           ∙ (length-change_at (with_cell p.1 cell) (grown_to xs zone p.0) p.0
           ∙ (length-grown xs zone p.0 ∙ ap (λ n. if p.0 == n then n + 1 else n) (sym (length-map xs arena_shape))))));
       coloured = length-map t.arenas (λ (x : Arena). x.bits) ∙ sym (length-map t.arenas arena_shape);
+      below = m.below;
       zone_is = ap (λ ss. zone_in (slice_get ss p.0)) shapes
           ∙ (ap (λ ys. zone_at ys p.0) m.put_is ∙ put-zone xs zone p cell m.place_is);
       zones = λ q lt. ap (λ ss. zone_in (slice_get ss q.0)) shapes
@@ -433,7 +435,7 @@ put-kept-in s r u zone p cell e k put =
     (sym (put-state s r u zone p cell k put)) (put-kept s.arenas zone p cell e)
 
 pub made-by : (s r u t : ArenasState) (zone : ℕ) (p : Place) (cell : CellState) → p ≡ place_for s.arenas zone
-    → cell_at s.arenas p ≡ None → r ≡ record s { reserved = Some (record { zone = zone; place = p }) }
+    → zone < 64 → cell_at s.arenas p ≡ None → r ≡ record s { reserved = Some (record { zone = zone; place = p }) }
     → IfSome r.reserved (λ k. u ≡ record r {
       arenas = put_at r.arenas k.zone p cell;
       made = r.made + 1;
@@ -441,10 +443,11 @@ pub made-by : (s r u t : ArenasState) (zone : ℕ) (p : Place) (cell : CellState
     })
     → ((q : Place) → cell_at u.arenas q ≡ (if is_place q p then Some cell else cell_at r.arenas q))
     → (is_kept : Bool) → ColoursAtBirth is_kept u p t → IsMade s t zone p cell is_kept
-made-by s r u t zone p cell e free k put cells is_kept b = record {
+made-by s r u t zone p cell e below free k put cells is_kept b = record {
   put = u.arenas;
   bits = b.bits;
   place_is = e;
+  below = below;
   free = free;
   put_is = ap (λ (x : ArenasState). x.arenas) (put-state s r u zone p cell k put);
   cells = λ q. cells q ∙ ap (λ (x : ArenasState). if is_place q p then Some cell else cell_at x.arenas q) k;

@@ -28,6 +28,7 @@ bare comp number = new_cell kind.Wrapper comp (Wrap comp number)
 -- a place was kept, and the wrapper put there: the arenas before, with the place kept, and after
 pub record IsPut (s r u : ArenasState) (zone : ℕ) (comp : CompNo) (number : ℕ) (p : Place) : Type 0 where
   pub place_is : p ≡ place_for s.arenas zone
+  pub below : zone < 64
   pub free : cell_at s.arenas p ≡ None
   pub kept : r ≡ record s { reserved = Some (record { zone = zone; place = p }) }
   pub put : IfSome r.reserved
@@ -90,6 +91,7 @@ wrapper-made s r u x t zone comp number p target put cells e written is_kept b =
   put = x.arenas;
   bits = b.bits;
   place_is = put.place_is;
+  below = put.below;
   free = put.free;
   put_is = (written-is s r u x zone comp number p target put e).0;
   cells = λ q. written q

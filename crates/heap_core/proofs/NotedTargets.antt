@@ -1,6 +1,7 @@
 -- What keeps the zones of all targets noted.
 use Rattle.std.proofs.Common.{◌≡◌, ◌<◌, ◌==◌, ◌&&◌, ◌++◌, ◌∷◌, ◌↔◌, ℕ, zero, suc, Bool, true, false, List, [], length}
 use Rattle.std.proofs.Common.{replicate, Option, Some, None, IsSomeAnd, OnErr, OnOk, Result, Ok, Err, slice_get}
+use Rattle.std.proofs.Common.{IsSome, is_some}
 use Rattle.std.proofs.Common.{option_map, if◌then◌else◌, refl, sym, ◌∙◌, ap, subst}
 use Rattle.std.specs.Int.{bit_at}
 use Rattle.gz_names.specs.declared.commands.Kind.{Kind}
@@ -21,7 +22,7 @@ use Rattle.wrappers.specs.WrapperMaps.{list_of}
 use Rattle.wrappers.specs.declared.wrapper_maps.WrapperKey.{WrapperKey}
 use Rattle.gz_names.specs.Zones.{HasZone}
 use Rattle.heap_core.specs.Heap.{HeapState}
-use Rattle.heap_core.specs.Shape.{Shape, cell_of, field_in, is_white, zone_of}
+use Rattle.heap_core.specs.Shape.{IsPresent, Shape, cell_of, field_in, is_white, zone_of}
 use Rattle.heap_core.specs.TargetZones.{AreTargetsNoted, IsListedWrapper, IsTargetNoted, IsWrapperOf, owner_in}
 use Rattle.heap_core.proofs.MakingCells.{IsMade, cells-seen, out_at, put-kept, put-zone, visible, zone_at}
 use Rattle.heap_core.proofs.Views.{with_state}
@@ -301,7 +302,16 @@ stands-seen : (h k : HeapState) (s : ArenasState) (p : Place) (cell : CellState)
 stands-seen h k s p cell view at = visible-some (out_at s.arenas p.0) p.1 (cell_at s.arenas p) cell
     (sym (cells-seen (with_state h s).shape s.arenas p refl) ∙ (ap (λ (x : HeapState). cell_of x.shape p) view ∙ at))
 
-owner-seen : (xs : List Arena) (a z : ℕ) → owner_in xs a ≡ Some z → zone_at xs a ≡ z
+-- a cell that is present stands in the arenas
+pub present-stands : (h k : HeapState) (s : ArenasState) (p : Place) → with_state h s ≡ k → IsPresent k.shape p
+    → IsSome (cell_at s.arenas p)
+present-stands h k s p view = go (cell_of k.shape p) refl
+  where
+    go : (o : Option CellState) → cell_of k.shape p ≡ o → IsSome o → IsSome (cell_at s.arenas p)
+    go None at some = absurd (cc some)
+    go (Some cell) at some = ap is_some (stands-seen h k s p cell view at)
+
+pub owner-seen : (xs : List Arena) (a z : ℕ) → owner_in xs a ≡ Some z → zone_at xs a ≡ z
 owner-seen [] a z e = absurd (cc e)
 owner-seen (x ∷ xs) zero z e = cc e
 owner-seen (x ∷ xs) (suc a) z e = owner-seen xs a z e

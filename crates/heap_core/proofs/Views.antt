@@ -13,8 +13,10 @@ use Rattle.mark_stack.specs.declared.stack.Pile.{Pile}
 use Rattle.arena_table.specs.Slots.{Arena, alloc_word_of, change_at, handed_out, held_by, held_in, is_out_at, taken_in}
 use Rattle.arena_table.specs.Slots.{with_bits}
 use Rattle.arena_table.specs.Indexed.{in_zones, is_among}
+use Rattle.arena_table.specs.Moving as table
 use Rattle.arena_table.specs.Table.{ArenasState, AreIn, in_these, jobs_from}
 use Rattle.heap_core.specs.Shape.{ArenaShape, arena_shape, arena_shapes, is_owned_in, is_white, out_in, out_of}
+use Rattle.heap_core.specs.Shape.{owner_in}
 use Rattle.heap_core.specs.Heap.{HeapState, bits_of}
 use Rattle.heap_core.specs.Sweeping.{AreKept, come_in, handed, held_in_all, is_lost_in, jobs_of}
 use Rattle.heap_core.specs.Sweeping.{with_handed, with_taken}
@@ -63,6 +65,12 @@ out-seen xs a e = by (out_in (slice_get (arena_shapes xs) a)) (sym (is_out-seen 
     by : (o : Option Bits) → is_some o ≡ true → IsSome o
     by None some = absurd (cc some)
     by (Some bits) some = some
+
+-- the zone that owns an arena
+pub owner-shown : (xs : List Arena) (a : ℕ) → table.owner_of (slice_get xs a) ≡ owner_in (slice_get (arena_shapes xs) a)
+owner-shown [] a = refl
+owner-shown (x ∷ xs) zero = refl
+owner-shown (x ∷ xs) (suc a) = owner-shown xs a
 
 -- whether an arena is one of a set of zones
 pub among-seen : (xs : List Arena) (word a : ℕ) → is_owned_in word (slice_get (arena_shapes xs) a)

@@ -61,6 +61,7 @@ pub record Makes (old : HeapState) (zone : ℕ) (p : Place) (cell : CellState) (
   pub grown : length new.shape.arenas
       ≡ (if p.0 == length old.shape.arenas then length old.shape.arenas + 1 else length old.shape.arenas)
   pub coloured : length new.colours ≡ length new.shape.arenas
+  pub below : zone < 64
   pub zone_is : zone_of new.shape p ≡ zone
   pub zones : (q : Place) → q.0 < length old.shape.arenas → zone_of new.shape q ≡ zone_of old.shape q
   pub outs : (a : ℕ) → out_of new.shape a ≡ out_of old.shape a

@@ -9,11 +9,13 @@ use Rattle.cell_bits.specs.Colours as bits
 use Rattle.mark_stack.specs.Stack.{Piles, no_places}
 use Rattle.arena_table.specs.Slots.{Arena}
 use Rattle.weak_maps.specs.WeakMaps.{LooksState, WeakMapsState, value_of}
+use Rattle.weak_refs.specs.WeakNames.{WeakNamesState, no_names}
 use Rattle.heap_core.specs.Shape.{Shape}
 
 -- the mark bits of each arena, for each zone the places that wait for its gray marking, how many cells were ever made,
 -- in which colour each weak entry is still to be looked at, the places for which piles of the mark stack had no room,
--- and the name of the ledger in which the edges that are read are counted, if they are
+-- what weak slots name and which cells are watched, and the name of the ledger in which the edges that are read are
+-- counted, if they are
 pub record HeapState : Type 0 where
   pub shape : Shape
   pub colours : List Bits
@@ -21,6 +23,7 @@ pub record HeapState : Type 0 where
   pub made : ℕ
   pub looks : LooksState
   pub delayed : Piles
+  pub weak_names : WeakNamesState
   pub ledger : Option ℕ
 
 -- the weak entries, and which of them are still to be looked at
@@ -90,4 +93,5 @@ pub record IsEmpty (h : HeapState) : Type 0 where
   pub made : h.made ≡ 0
   pub looks : h.looks ≡ record { by_map = []; by_key = []; by_delegate = [] }
   pub delayed : h.delayed ≡ no_places
+  pub weak_names : h.weak_names ≡ no_names
   pub ledger : h.ledger ≡ None

@@ -12,3 +12,5 @@ pub mod Effects
 pub mod Peeks
 pub mod Plans
 pub mod TargetZones
+pub mod WeakNames
+pub mod Moving

@@ -1,6 +1,6 @@
 -- What is in the heap, by places: its cells and what they name, and what holds them.
 use Rattle.std.specs.Prelude.{◌≡◌, ◌<◌, ℕ, Bool, true, false, ◌==◌, ◌&&◌, not, List, length, map, Option, Some, None}
-use Rattle.std.specs.Prelude.{IsSome, slice_get, if◌then◌else◌, option_and_then}
+use Rattle.std.specs.Prelude.{IsSome, nat_lt, slice_get, if◌then◌else◌, option_and_then}
 use Rattle.std.specs.Option.{option_map}
 use Rattle.std.specs.Int.{bit_at}
 use Rattle.gz_names.specs.declared.names.Name.{Name}
@@ -12,7 +12,7 @@ use Rattle.cell_bits.specs.declared.bits.Bits.{Bits}
 use Rattle.zones.specs.declared.states.State.{State}
 use Rattle.zones.specs.declared.states.State.TheVariants as state
 use Rattle.arena_table.specs.Cells.{CellState, field_of}
-use Rattle.arena_table.specs.Slots.{Arena, cell_in}
+use Rattle.arena_table.specs.Slots.{Arena, cell_in, no_zone}
 use Rattle.arena_table.specs.Indexed.{in_zones}
 use Rattle.wrappers.specs.WrapperMaps.{WrappersState}
 use Rattle.weak_maps.specs.WeakMaps.{WeakTableState}
@@ -87,6 +87,14 @@ zone_in (Some arena) = arena.zone
 -- the zone of a place: that of its arena
 abbrev pub zone_of : Shape → Place → ℕ
 zone_of s p = zone_in (slice_get s.arenas p.0)
+
+-- the zone that owns an arena: none owns one that was not made, or was given up
+abbrev pub owner_in : Option ArenaShape → Option ℕ
+owner_in None = None
+owner_in (Some arena) = if nat_lt arena.zone no_zone then Some arena.zone else None
+
+abbrev pub owner_of : Shape → ℕ → Option ℕ
+owner_of s a = owner_in (slice_get s.arenas a)
 
 -- whether an arena is one of these zones
 abbrev pub is_owned_in : ℕ → Option ArenaShape → Bool

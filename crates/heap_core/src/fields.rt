@@ -12,6 +12,7 @@ use gz_names::{CompNo, Kind, Place, Refusal, Reg};
 
 impl Heap {
     // What a `get` hands to its register, or why it is refused.
+    #[inline(always)]
     pub(crate) fn got(&self, s: Reg, f: u8) -> Result<Option<Place>, Refusal>
         requires sound { IsSound self.now }
         ensures step { Hands self.now (λ r. cmd.Get r s f) result }
@@ -28,6 +29,7 @@ impl Heap {
     }
 
     // What an `unwrap` hands to its register, or why it is refused.
+    #[inline(always)]
     pub(crate) fn unwrapped(&self, s: Reg) -> Result<Option<Place>, Refusal>
         requires sound { IsSound self.now }
         ensures step { Hands self.now (λ r. cmd.Unwrap r s) result }
@@ -45,6 +47,7 @@ impl Heap {
     }
 
     // The object that a `set` writes, or why it is refused.
+    #[inline(always)]
     pub(crate) fn written(&self, s: Reg, f: u8, t: &Option<Reg>) -> Result<Place, Refusal>
         requires sound { IsSound self.now }
         ensures ok { IfOk result (IsWritable self.now s f t.now) }

@@ -6,6 +6,7 @@ ghost use Rattle.std.specs.Prelude.{OnOk, OnErr, Contains, Err, All};
 ghost use Rattle.cell_bits.specs.declared.bits.Colour.TheVariants as colour;
 ghost use Rattle.gz_names.specs.declared.numbers.Place.{Place as APlace};
 ghost use Rattle.std.specs.Int.{bit_at};
+ghost use Rattle.std.specs.List.{IsDistinct};
 ghost use Rattle.std.specs.Option.{ForSome, option_map};
 ghost use Rattle.gz_names.specs.Order.{number_of};
 ghost use Rattle.gz_names.specs.Zones.{HasZone};
@@ -14,7 +15,7 @@ ghost use Rattle.zones.specs.declared.states.State.{State as AState};
 ghost use Rattle.arena_table.specs.Cells.{field_count, name_of};
 ghost use Rattle.arena_table.specs.Table.{new_cell};
 ghost use Rattle.heap_core.specs.Shape.{Shape, IsPresent, is_owned, is_white, cell_of, field_at, out_of, stored_at};
-ghost use Rattle.heap_core.specs.Shape.{delegate_of_key, is_prepared, zone_of};
+ghost use Rattle.heap_core.specs.Shape.{delegate_of_key, is_prepared, owner_of, zone_of};
 ghost use Rattle.heap_core.specs.Edges.{edge_count};
 ghost use Rattle.heap_core.specs.Heap.{HeapState, colour_of, reg_of, slot_of, weak_of, with_reg, with_slot};
 ghost use Rattle.heap_core.specs.Changes.{IsWith, IsWithout, Makes, MakesWrapper, Writes, next_place, with_comp};
@@ -22,6 +23,7 @@ ghost use Rattle.heap_core.specs.Changes.{with_number, with_zone, wrapper_cell};
 ghost use Rattle.heap_core.specs.Births.{ColoursAtBirth};
 ghost use Rattle.heap_core.specs.MarkBits.{TakesBlack, TakesGray};
 ghost use Rattle.heap_core.specs.TargetZones.{IsListedWrapper, owner_in};
+ghost use Rattle.heap_core.specs.WeakNames.{is_watched, weak_slot_of, with_watched, with_weak_slot, without_watched};
 ghost use Rattle.wrappers.specs.TargetZones.{IsNoted};
 ghost use Rattle.heap_core.specs.Sweeping.{AreAbsent, AreKept, AreWithout, HaveWhiteOwners, IsWhiteAt, IsWhiteIn};
 ghost use Rattle.heap_core.specs.Sweeping.{held_in_all, is_absent, is_absent_in, is_lost_in, jobs_of};
@@ -33,6 +35,7 @@ ghost use Rattle.weak_maps.specs.Entries.{Starts};
 ghost use Rattle.weak_maps.specs.WeakMaps.{AreParallel, Carries, HasLooked, IsSound as AreEntries, IsWithoutDead};
 ghost use Rattle.weak_maps.specs.WeakMaps.{KeepsRows, NoneLeft, delegate_of, listed_of_delegate, listed_of_key};
 ghost use Rattle.weak_maps.specs.WeakMaps.{listed_of_map, maps_delegated_in, value_of};
+ghost use Rattle.weak_refs.specs.WeakNames.{is_same, without_dead as without_dead_names};
 ghost use Rattle.weak_maps.specs.declared.colours.MarkColour.{MarkColour};
 ghost use Rattle.weak_maps.specs.declared.entries.WeakEntry.{WeakEntry as AnEntry};
 ghost use Rattle.mark_stack.specs.Stack.{IsPushed, no_places, pile_of};
@@ -41,12 +44,14 @@ ghost use Rattle.roots.specs.Buffers.{buffer_at, places_in, put_all, put_at};
 ghost use Rattle.gz_names.specs.declared.names.Name.TheVariants.{Cell as ACell, Wrap as AWrap};
 ghost use Rattle.gz_names.specs.declared.commands.Kind.TheVariants as kind;
 
+mod moving;
+
 use crate::steps::Steps;
 use arena_table::{Arenas, Jobs};
 use cell_bits::{Bits, Colour, Job};
 use gz_names::{
-    COMP_LIMIT, CompNo, GrayNo, Kind, Name, Names64, NoMemory, Place, Reg, ZONE_LIMIT, ZoneNo,
-    ZoneSet,
+    COMP_LIMIT, CompNo, GrayNo, Kind, Name, Names64, NoMemory, Place, Reg, WeakNo, ZONE_LIMIT,
+    ZoneNo, ZoneSet,
 };
 use mark_stack::Pile;
 use roots::Roots;
@@ -55,6 +60,7 @@ use std::marker::Model;
 use std::snapshot::Snapshot;
 use std::sync::ledger::{Blank, Ledger};
 use weak_maps::{Delegate, MarkColour, WeakEntry, WeakMaps};
+use weak_refs::WeakRefs;
 use wrappers::{TargetZones, Wrappers};
 use zones::{CompFault, State, ZoneFault, Zones};
 
@@ -68,6 +74,7 @@ pub struct Heap {
     target_zones: TargetZones,
     roots: Roots,
     weak: WeakMaps,
+    weak_refs: WeakRefs,
     // How many objects and maps were made: the number of the next.
     objects: u64,
     // The ledger in which the edges that are read are counted, if they are.
@@ -97,6 +104,7 @@ impl Model for Heap {
       made = h.arenas.made;
       looks = h.weak.looks;
       delayed = h.arenas.delayed;
+      weak_names = h.weak_refs;
       ledger = option_map (λ s. s.value.name) h.counted_in;
     } };
 
@@ -121,6 +129,7 @@ impl Heap {
             target_zones: TargetZones::new(),
             roots: Roots::new(alloc)?,
             weak: WeakMaps::new(alloc),
+            weak_refs: WeakRefs::new(alloc),
             objects: 0,
             counted_in: None,
         })
@@ -219,6 +228,30 @@ impl Heap {
         self.roots.slot(g)
     }
 
+    /// What a weak slot names.
+    pub fn weak_slot(&self, q: WeakNo) -> Option<Place>
+        ensures value { result ≡ weak_slot_of self.now q }
+        ensures held { slice_get self.now.weak_names.slots q ≡ Some result }
+        ensures count { length self.now.weak_names.slots ≡ 64 }
+    {
+        self.weak_refs.named(q.index())
+    }
+
+    /// How many cells are watched, each of them once.
+    pub fn watched_count(&self) -> usize
+        ensures count { result ≡ length self.now.weak_names.watched }
+        ensures apart { IsDistinct is_same self.now.weak_names.watched }
+    {
+        self.weak_refs.watched_count()
+    }
+
+    /// A watched cell, by its index; `None` past the last.
+    pub fn watched_at(&self, index: usize) -> Option<Place>
+        ensures { result ≡ slice_get self.now.weak_names.watched index }
+    {
+        self.weak_refs.watched_at(index)
+    }
+
     /// How many cells were ever made.
     pub fn made(&self) -> u64
         ensures { result ≡ self.now.made }
@@ -226,31 +259,31 @@ impl Heap {
         self.arenas.made()
     }
 
-    /// How many arenas were made.
+    /// How many arenas were made, those that were given up among them.
     pub fn arenas(&self) -> u32
         ensures { result ≡ length self.now.shape.arenas }
     {
         self.arenas.arenas()
     }
 
-    /// The zone of an arena, if it was made.
+    /// The zone that owns an arena: none if it was not made, or was given up.
     pub fn owner(&self, arena: u32) -> Option<ZoneNo>
-        ensures { result ≡ option_map (λ a. a.zone) (slice_get self.now.shape.arenas arena) }
+        ensures { result ≡ owner_of self.now.shape arena }
     {
         self.arenas.owner(arena)
     }
 
-    /// The zone of a place whose arena was made.
+    /// The zone of a present cell.
     pub fn zone_at(&self, place: Place) -> ZoneNo
-        requires { place.0 < length self.now.shape.arenas }
+        requires { IsPresent self.now.shape place }
         ensures { result ≡ zone_of self.now.shape place }
     {
         self.arenas.zone_at(place)
     }
 
-    /// Whether a place, whose arena was made, lies in one of these zones.
+    /// Whether a present cell lies in one of these zones.
     pub fn lies_in(&self, place: Place, zones: ZoneSet) -> bool
-        requires { place.0 < length self.now.shape.arenas }
+        requires { IsPresent self.now.shape place }
         ensures { IsTrue result ↔ HasZone zones.bits (zone_of self.now.shape place) }
     {
         zones.contains(self.zone_at(place))
@@ -686,9 +719,10 @@ impl Heap {
     }
 
     /// Drops the wrappers of these zones, and the weak entries, that name a cell which is not
-    /// present any more. The other entries are to be looked at as they were. It walks the wrapper maps
-    /// of these zones, and looks at the entries alone whose map or key is white in these jobs: where the
-    /// value of an entry is dead, so is its map or its key. It takes no memory.
+    /// present any more; weak slots that name one become empty, and it is watched no longer. The other
+    /// entries are to be looked at as they were. It walks the wrapper maps of these zones and the watched
+    /// cells, and looks at the entries alone whose map or key is white in these jobs: where the value of
+    /// an entry is dead, so is its map or its key. It takes no memory.
     pub fn drop_dead(&mut self, zones: ZoneSet, jobs: &[Job])
         requires absent { AreAbsent jobs.now self.old.shape }
         requires owners { HaveWhiteOwners jobs.now self.old.shape }
@@ -698,6 +732,7 @@ impl Heap {
             weak = self.new.shape.weak;
           };
           looks = self.new.looks;
+          weak_names = without_dead_names (is_absent self.old.shape) self.old.weak_names;
         } }
         ensures wrappers { (z : ℕ) → list_of self.new.shape.wrappers z
             ≡ without_dead (bit_at zones.bits z) (is_absent self.old.shape)
@@ -716,6 +751,8 @@ impl Heap {
         self.wrappers
             .drop_dead(zones, |place: Place| is_dead(arenas, place));
         drop_entries(&mut self.weak, jobs);
+        self.weak_refs
+            .drop_dead(|place: Place| is_dead(arenas, place));
     }
 
     /// How many cells there are, those included that are not swept yet.
@@ -764,6 +801,30 @@ impl Heap {
         ensures { self.new ≡ with_slot self.old g v }
     {
         self.roots.set_slot(g, v);
+    }
+
+    // A weak slot names a cell, or becomes empty.
+    pub(crate) fn set_weak_slot(&mut self, q: WeakNo, v: Option<Place>)
+        ensures { self.new ≡ with_weak_slot self.old q v }
+    {
+        self.weak_refs.weaken(q.index(), v);
+    }
+
+    // A cell is watched from now on.
+    pub(crate) fn watch_cell(&mut self, place: Place) -> Result<(), NoMemory>
+        ensures ok { OnOk result (self.new ≡ with_watched self.old place) }
+        ensures err { OnErr result (self.new ≡ self.old) }
+        ensures fresh { OnErr result (is_watched self.old place ≡ false) }
+    {
+        self.weak_refs.watch(place)
+    }
+
+    // A cell is watched no longer. False exactly where it was not.
+    pub(crate) fn unwatch_cell(&mut self, place: Place) -> bool
+        ensures was { result ≡ is_watched self.old place }
+        ensures rest { self.new ≡ without_watched self.old place }
+    {
+        self.weak_refs.unwatch(place)
     }
 
     // What a field of a present cell holds.
@@ -1016,14 +1077,12 @@ impl Heap {
 
 // Notes the zone in which the target of a wrapper lies for the wrapper's zone.
 fn note_target(arenas: &Arenas, target_zones: &mut TargetZones, zone: ZoneNo, target: Place)
-    requires { target.0 < length arenas.now.arenas }
+    requires { IsSome (cell_at arenas.now.arenas target) }
     ensures noted { (to : ℕ) × (owner_in arenas.now.arenas target.0 ≡ Some to)
         × IsNoted target_zones.new zone to }
     ensures kept { (a b : ℕ) → IsNoted target_zones.old a b → IsNoted target_zones.new a b }
 {
-    if let Some(to) = arenas.owner(target.arena()) {
-        target_zones.note(zone, to);
-    }
+    target_zones.note(zone, arenas.zone_at(target));
 }
 
 // A new cell of an arena that is not out is black, unless its zone is being prepared: then its bits stay clear.

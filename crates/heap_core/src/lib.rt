@@ -13,6 +13,7 @@
 //     buffers    what waits for the gray marking of each zone
 //     looks      in which colour marking has still to look at each weak entry
 //     delayed    the cells for which a pile of the mark stack had no room
+//     weak_names what each weak slot names, and which cells are watched
 //     ledger     the name of the ledger in which the edges that are read are counted, if they are
 //
 // An edge is read by `reached_by`, which asks for the count in that ledger, so that a body which is handed a
@@ -73,6 +74,7 @@ mod making;
 mod plans;
 mod resolve;
 mod steps;
+mod weak_names;
 mod wrapping;
 
 pub use heap::Heap;

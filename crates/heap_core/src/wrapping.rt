@@ -14,6 +14,7 @@ use gz_names::{CompNo, Kind, Name, NoMemory, Place, Refusal, Reg, Reply, ZoneNo}
 
 impl Heap {
     // The object or map that a `wrap` is about, or why it is refused.
+    #[inline(always)]
     pub(crate) fn wrappable(&self, s: Reg, c: CompNo) -> Result<Place, Refusal>
         requires sound { IsSound self.now }
         ensures ok { IfOk result (IsWrappable self.now s c) }

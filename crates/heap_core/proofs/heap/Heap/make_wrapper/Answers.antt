@@ -1,15 +1,14 @@
-use Rattle.std.proofs.Common.{◌≡◌, ◌<◌, ◌∙◌, Some, ap, refl, sym, subst, length, ℕ, Contains}
+use Rattle.std.proofs.Common.{◌≡◌, ◌∙◌, Some, ap, arith, sym, subst, ℕ, Contains, IsSome}
 use Rattle.wrappers.specs.WrapperMaps.{list_of, place_of}
 use Rattle.heap_core.specs.contracts.heap.Heap.{the_view}
 use Rattle.heap_core.specs.Heap.{HeapState}
 use Rattle.heap_core.proofs.MakingWrappers.{target-within, wrapper-made, wrapper-seen, written-kept}
+use Rattle.arena_table.specs.Slots.{cell_at}
 use Rattle.arena_table.specs.Table.{ArenasState}
 use Rattle.heap_core.specs.Changes.{wrapper_cell}
-use Rattle.heap_core.specs.Shape.{IsPresent, is_prepared}
+use Rattle.heap_core.specs.Shape.{is_prepared}
 use Rattle.heap_core.specs.TargetZones.{owner_in}
-use Rattle.heap_core.proofs.NotedTargets.{noted-made, wrapper-noted}
-use Rattle.heap_core.proofs.Views.{with_state}
-use Rattle.heap_core.proofs.WritingFields.{present-within}
+use Rattle.heap_core.proofs.NotedTargets.{noted-made, present-stands, wrapper-noted}
 use Rattle.heap_core.proofs.heap.Heap.make_wrapper.Goals as goal
 
 pub add-requires-clause-one_zone : goal.add-requires-clause-one_zone
@@ -21,8 +20,8 @@ set_field-requires-clause-value c = target-within (the_view c.self.inside) c.arg
     c.reserve_place.new.self c.put_cell.new.self c.args.zone c.args.comp c.args.number c.in_ok-place.place c.args.target
     c.self.view_is c.requires.target (record {
       place_is = c.in_ok-place.ensures.place;
-      free =
-          c.in_ok-place.ensures.free;
+      below = omega arith;
+      free = c.in_ok-place.ensures.free;
       kept = c.in_ok-place.ensures.kept;
       put = c.put_cell.ensures.put;
     })
@@ -33,6 +32,7 @@ colour_at_birth-requires c = record {
       c.set_field.new.self c.args.zone c.args.comp c.args.number c.in_ok-place.place c.args.target
       (record {
         place_is = c.in_ok-place.ensures.place;
+        below = omega arith;
         free = c.in_ok-place.ensures.free;
         kept =
             c.in_ok-place.ensures.kept;
@@ -49,6 +49,7 @@ returns-clause-ok c = wrapper-seen (the_view c.self.inside) c.args.self.now c.se
     c.colour_at_birth.new.arenas c.args.zone c.args.comp c.args.number c.in_ok-place.place c.args.target
     (record {
       place_is = c.in_ok-place.ensures.place;
+      below = omega arith;
       free = c.in_ok-place.ensures.free;
       kept =
           c.in_ok-place.ensures.kept;
@@ -64,10 +65,10 @@ returns-clause-ok c = wrapper-seen (the_view c.self.inside) c.args.self.now c.se
     (c.is_prepared-is_prepared.ensures ∙ ap (λ (h : HeapState). is_prepared h.shape c.args.zone) (sym c.self.view_is))
 
 pub note_target-requires : goal.note_target-requires
-note_target-requires c = subst (λ (s : ArenasState). c.args.target.0 < length s.arenas) (sym c.in_ok-place.ensures.kept)
-    (present-within (with_state (the_view c.self.inside) c.self.inside.arenas).shape c.self.inside.arenas.arenas
-    c.args.target refl (subst (λ (h : HeapState). IsPresent h.shape c.args.target) (sym c.self.view_is)
-    c.requires.target))
+note_target-requires c = subst (λ (s : ArenasState). IsSome (cell_at s.arenas c.args.target))
+    (sym c.in_ok-place.ensures.kept)
+    (present-stands (the_view c.self.inside) c.args.self.now c.self.inside.arenas c.args.target c.self.view_is
+    c.requires.target)
 
 pub invariant_of-self-2 : goal.invariant_of-self-2
 invariant_of-self-2 c =
@@ -78,6 +79,7 @@ invariant_of-self-2 c =
     c.colour_at_birth.new.arenas c.args.zone c.args.comp c.args.number c.in_ok-place.place c.args.target
     (record {
       place_is = c.in_ok-place.ensures.place;
+      below = omega arith;
       free = c.in_ok-place.ensures.free;
       kept =
           c.in_ok-place.ensures.kept;

@@ -25,6 +25,7 @@ returns-clause-empty c = record {
   made = ap (λ (s : ArenasState). s.made) c.in_ok-new.ensures;
   looks = c.new-6.ensures.none;
   delayed = ap (λ (s : ArenasState). s.delayed) c.in_ok-new.ensures;
+  weak_names = c.new-7.ensures;
   ledger = refl;
 }
 
