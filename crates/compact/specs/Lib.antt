@@ -1,0 +1,4 @@
+pub mod Arenas
+pub mod Packing
+pub mod Holes
+pub mod Packed
