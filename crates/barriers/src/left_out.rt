@@ -30,7 +30,7 @@ use weak_maps::WeakEntry;
 
 // Whether the colour of a cell counts, and it is black.
 fn is_black(heap: &Heap, place: Place) -> bool
-    requires made { place.0 < length heap.now.shape.arenas }
+    requires present { IsPresent heap.now.shape place }
     requires sized { length heap.now.colours ≡ length heap.now.shape.arenas }
     ensures { IsTrue result ↔ Counts heap.now.shape place × IsBlack heap.now place }
 {
@@ -39,7 +39,7 @@ fn is_black(heap: &Heap, place: Place) -> bool
 
 // Whether the colour of a cell counts.
 fn counts(heap: &Heap, place: Place) -> bool
-    requires { place.0 < length heap.now.shape.arenas }
+    requires { IsPresent heap.now.shape place }
     ensures { IsTrue result ↔ Counts heap.now.shape place }
 {
     !heap.is_prepared(heap.zone_at(place))

@@ -9,6 +9,7 @@ use Rattle.wrappers.proofs.wrapper_maps.Wrappers.TheSendSync as wrappers
 use Rattle.wrappers.proofs.target_zones.TargetZones.TheSendSync as target_zones
 use Rattle.roots.proofs.roots_held.Roots.TheSendSync as roots
 use Rattle.weak_maps.proofs.tables.WeakMaps.TheSendSync as weak_maps
+use Rattle.weak_refs.proofs.weak_names.WeakRefs.TheSendSync as weak_refs
 use Rattle.heap_core.specs.contracts.heap.Heap as heap
 
 pub heap_sync : IsSync heap.the_row
@@ -22,5 +23,6 @@ heap_sync = search (
   target_zones.the_sync,
   roots.the_sync,
   weak_maps.the_sync,
+  weak_refs.the_sync,
   sendable,
 ) depth 20

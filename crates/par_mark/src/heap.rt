@@ -28,10 +28,7 @@ impl Graph for Heap {
     }
 
     fn is_marking(&self, place: Place) -> bool {
-        match self.owner(place.arena()) {
-            Some(zone) => self.state(zone).is_marking(),
-            None => false,
-        }
+        self.state(self.zone_at(place)).is_marking()
     }
 
     fn most_edges(&self) -> usize {

@@ -1,7 +1,6 @@
 use Rattle.std.proofs.Common.{subst, sym}
 use Rattle.heap_core.specs.Heap.{without_delayed}
 use Rattle.heap_core.specs.Shape.{Shape, IsPresent}
-use Rattle.heap_core.proofs.Places.{present_within}
 use Rattle.barriers.specs.Colours.{IsBlack}
 use Rattle.barriers.specs.LeftOut.{ReachedLeftOut}
 use Rattle.barriers.specs.Pending.{pending}
@@ -10,9 +9,8 @@ use Rattle.barriers.proofs.Spreading.{grows_none}
 use Rattle.barriers.proofs.Walks.{same_shape}
 use Rattle.barriers.proofs.left_out.follow_entry.Goals as goal
 
-pub is_black-requires-clause-made : goal.is_black-requires-clause-made
-is_black-requires-clause-made c = present_within c.args.heap.now.shape c.args.entry.now.map
-    (c.requires.holds.1.colours.shape.entries _ _ _ c.requires.entry).0
+pub is_black-requires-clause-present : goal.is_black-requires-clause-present
+is_black-requires-clause-present c = (c.requires.holds.1.colours.shape.entries _ _ _ c.requires.entry).0
 
 pub is_black-requires-clause-sized : goal.is_black-requires-clause-sized
 is_black-requires-clause-sized c = c.requires.holds.1.colours.sized

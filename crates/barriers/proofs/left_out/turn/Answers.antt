@@ -1,9 +1,8 @@
 use Rattle.std.proofs.Common.{inl, inr, refl}
-use Rattle.heap_core.proofs.Places.{present_within}
 use Rattle.barriers.proofs.left_out.turn.Goals as goal
 
 pub counts-requires : goal.counts-requires
-counts-requires c = present_within c.args.heap.now.shape c.args.place c.requires.present
+counts-requires c = c.requires.present
 
 pub returns-then-counts : goal.returns-then-counts
 returns-then-counts c = inl (c.counts.ensures.0 c.if-counts.true, c.blacken.ensures)

@@ -1,9 +1,8 @@
 use Rattle.std.proofs.Common.{inl, inr, refl}
-use Rattle.heap_core.proofs.Places.{present_within}
 use Rattle.barriers.proofs.left_out.turn_with.Goals as goal
 
-pub is_black-requires-clause-made : goal.is_black-requires-clause-made
-is_black-requires-clause-made c = present_within c.args.heap.now.shape c.args.other c.requires.other
+pub is_black-requires-clause-present : goal.is_black-requires-clause-present
+is_black-requires-clause-present c = c.requires.other
 
 pub is_black-requires-clause-sized : goal.is_black-requires-clause-sized
 is_black-requires-clause-sized c = c.requires.colours.sized
