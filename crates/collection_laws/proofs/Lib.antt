@@ -7,3 +7,5 @@ pub mod Replies
 pub mod Times
 pub mod Lying
 pub mod Accounts
+pub mod KeptArenas
+pub mod MovedNumbers

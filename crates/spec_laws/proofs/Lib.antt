@@ -2,5 +2,4 @@ pub mod Starts
 pub mod Dumped
 pub mod Tight
 pub mod WeakKept
-pub mod MovedNumbers
 pub mod RunNumbers

@@ -28,7 +28,7 @@ use Rattle.collection_laws.proofs.Accounts.{command_accounts, first_accounts, pr
 use Rattle.collection_laws.proofs.Accounts.{same_accounts, still_accounts, tells_none, units_accounts}
 use Rattle.collection_laws.proofs.Lying.{StaysInPlace}
 use Rattle.collection_laws.proofs.Times.{freed_append}
-use Rattle.spec_laws.proofs.MovedNumbers.{compacts_accounts}
+use Rattle.collection_laws.proofs.MovedNumbers.{compacts_accounts}
 
 -- an answer gives the next number or none, and tells its reports' names as freed
 abbrev Goes : ℕ → List Name → List Report → Reply → World → Type 0

@@ -19,7 +19,7 @@ use Rattle.colour_defs.proofs.Membership.{among_to}
 use Rattle.colour_defs.proofs.Names.{eq_name-is, eq_name-refl}
 use Rattle.colour_defs.proofs.ValidCompaction.{moved_kept, moved_was}
 use Rattle.collection_laws.specs.Numbers.{IsAccounted, IsUnswept, LiesInArenas}
-use Rattle.spec_laws.proofs.Tight.{owned_after}
+use Rattle.collection_laws.proofs.KeptArenas.{owned_after}
 
 get_insert_apart : (m : Places) (x : Name) (p : ℕ × ℕ) (y : Name) (q : ℕ × ℕ) → map.get (map.insert m x p) y ≡ Some q
     → ((x ≡ y) × (p ≡ q)) ⊎ ((map.get m y ≡ Some q) × (x ≡ y → ⊥))
