@@ -11,4 +11,5 @@ pub mod beginning
 pub mod commanding
 pub mod resetting
 pub mod dumping
+pub mod packing
 pub mod Sent

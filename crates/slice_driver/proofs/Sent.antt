@@ -9,6 +9,7 @@ use Rattle.wrappers.proofs.wrapper_maps.Wrappers.TheSendSync as wrappers
 use Rattle.wrappers.proofs.target_zones.TargetZones.TheSendSync as target_zones
 use Rattle.roots.proofs.roots_held.Roots.TheSendSync as roots
 use Rattle.weak_maps.proofs.tables.WeakMaps.TheSendSync as weak_maps
+use Rattle.weak_refs.proofs.weak_names.WeakRefs.TheSendSync as weak_refs
 use Rattle.mark_stack.proofs.stack.Stack.TheSendSync as stack
 use Rattle.gray_lists.proofs.incoming.Lists.TheSendSync as lists
 use Rattle.zone_edges.proofs.edges.Edges.TheSendSync as edges
@@ -28,6 +29,7 @@ heap_send = search (
   target_zones.the_send,
   roots.the_send,
   weak_maps.the_send,
+  weak_refs.the_send,
   sendable,
 ) depth 20
 

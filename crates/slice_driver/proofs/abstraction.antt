@@ -11,6 +11,7 @@ pub mod Moving
 pub mod Named
 pub mod Phases
 pub mod Placing
+pub mod Renaming
 pub mod Serving
 pub mod SoundAfter
 pub mod Steps

@@ -2,6 +2,8 @@
 pub mod Cells
 pub mod LeftLooks
 pub mod Marks
+pub mod NamesWeakly
+pub mod Owners
 pub mod Rows
 pub mod Sorted
 pub mod Woken

@@ -3,6 +3,10 @@ pub mod Answering
 pub mod CommandRuns
 pub mod Commanded
 pub mod Commanding
+pub mod Deref
+pub mod DerefAnswers
+pub mod DerefPreparing
+pub mod DerefSteps
 pub mod FreedWords
 pub mod Handed
 pub mod JoinedChanges
@@ -15,3 +19,6 @@ pub mod Rooms
 pub mod Through
 pub mod Viewed
 pub mod Waking
+pub mod WeakArms
+pub mod WeakCommands
+pub mod WeakNames

@@ -2,6 +2,7 @@
 pub mod Cells
 pub mod Colours
 pub mod EndReady
+pub mod Ending
 pub mod FewWrappers
 pub mod Graphs
 pub mod GrayNames
@@ -19,6 +20,9 @@ pub mod Places
 pub mod Ready
 pub mod Runs
 pub mod Steps
+pub mod ToldNames
+pub mod WeakEnd
+pub mod WeakLeft
 pub mod WhiteOwners
 pub mod Worlds
 pub mod Wrappers

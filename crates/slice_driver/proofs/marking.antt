@@ -2,6 +2,7 @@
 pub mod Accounts
 pub mod AtGroupEnd
 pub mod BlackMaps
+pub mod CompactAccounts
 pub mod EdgesRead
 pub mod Flights
 pub mod GroupingSteps
@@ -14,4 +15,7 @@ pub mod Settled
 pub mod UnitSteps
 pub mod Units
 pub mod Views
+pub mod WeakAccounts
+pub mod WeakOutcomes
+pub mod WeakSessions
 pub mod ZoneSteps

@@ -52,6 +52,7 @@ pub record BeginsMarking (h : HeapState) (zones : ZoneSet) (k : HeapState) (stac
   where
     pub shape_is : k.shape ≡ record h.shape { states = k.shape.states }
     pub made_is : k.made ≡ h.made
+    pub weak_names_is : k.weak_names ≡ h.weak_names
     pub ledger_is : k.ledger ≡ h.ledger
     pub delayed_is : k.delayed ≡ h.delayed
     pub looks_is : k.looks ≡ h.looks

@@ -1,5 +1,5 @@
 -- What a command on the graph leaves in place, what it makes, and what it does in a world.
-use Rattle.std.specs.Prelude.{◌≡◌, ◌↔◌, ◌==◌, ◌++◌, ℕ, List, [], ◌∷◌, length, Option, Some, None, if◌then◌else◌}
+use Rattle.std.specs.Prelude.{◌≡◌, ◌↔◌, ◌<◌, ◌==◌, ◌++◌, ℕ, List, [], ◌∷◌, length, Option, Some, None, if◌then◌else◌}
 use Rattle.gz_names.specs.declared.names.Name.{Name}
 use Rattle.gz_names.specs.declared.numbers.Place.{Place}
 use Rattle.gz_names.specs.declared.commands.GraphCmd.{GraphCmd}
@@ -39,6 +39,7 @@ pub record ComesTo (s t : Shape) (zone : ℕ) (p : Place) (x : Name) : Type 0 wh
   pub place_is : p ≡ next_place s zone
   pub free : IsPresent s p → ⊥
   pub names : (q : Place) → name_at t q ≡ (if is_place q p then Some x else name_at s q)
+  pub below : zone < 64
   pub zone_is : zone_of t p ≡ zone
   pub owners : owners_of t.arenas
       ≡ (if p.0 == length s.arenas then owners_of s.arenas ++ Some zone ∷ [] else owners_of s.arenas)

@@ -10,6 +10,7 @@ use Rattle.zones.specs.declared.states.State.TheVariants as state
 use Rattle.wrappers.specs.WrapperMaps.{AreApart, list_of, without_dead}
 use Rattle.weak_maps.specs.WeakMaps.{AreParallel, Carries, IsSound as AreEntries, IsWithoutDead, KeepsRows, NoneLeft}
 use Rattle.weak_maps.specs.declared.colours.MarkColour.TheVariants as mark
+use Rattle.weak_refs.specs.WeakNames.{without_dead as without_dead_names}
 use Rattle.mark_stack.specs.Stack.{Piles}
 use Rattle.gray_lists.specs.Incoming.{Incoming, list_of as waiting_for}
 use Rattle.colour_defs.specs.Graph.{GraphState}
@@ -61,8 +62,8 @@ pub record AreColoured (h : HeapState) (graph : GraphState) (k : Collection) (ma
   pub white : (x : Name) (p : Place) → name_at h.shape p ≡ Some x → IsWhite h p ↔ IsWhiteAtEnd graph k marking x
 
 -- a heap after the end of a group: the arenas of its zones are handed to sweeping; its zones are swept, or are finished
--- where they have no arena; wrappers and entries that name a cell which is not present any more are dropped, and the
--- other entries are to be looked at as they were
+-- where they have no arena; wrappers and entries that name a cell which is not present any more are dropped, weak slots
+-- that name one become empty, and it is watched no longer; the other entries are to be looked at as they were
 pub record IsEnded (old : HeapState) (g : ZoneSet) (new : HeapState) : Type 0 where
   pub rest : new ≡ record old {
     shape = record old.shape {
@@ -72,6 +73,7 @@ pub record IsEnded (old : HeapState) (g : ZoneSet) (new : HeapState) : Type 0 wh
       weak = new.shape.weak;
     };
     looks = new.looks;
+    weak_names = without_dead_names (is_absent new.shape) old.weak_names;
   }
   pub sized : length new.shape.states ≡ length old.shape.states
   pub others : (z : ℕ) → (HasZone g.bits z → ⊥) → state_in new.shape z ≡ state_in old.shape z
@@ -116,12 +118,13 @@ pub record DieWithOwners (h : HeapState) (g : ZoneSet) : Type 0 where
   pub owned : (m k v : Place) → HasEntry h.shape m k v → IsWhiteHere h g v
       → IsWhiteHere h g m ⊎ IsWhiteHere h g k
 
--- wrappers of a group and entries that name a cell which is not present are dropped, and the other entries are to be
--- looked at as they were
+-- wrappers of a group and entries that name a cell which is not present are dropped, weak slots that name one become
+-- empty, and it is watched no longer; the other entries are to be looked at as they were
 pub record DropsDead (old : HeapState) (g : ZoneSet) (new : HeapState) : Type 0 where
   pub rest : new ≡ record old {
     shape = record old.shape { wrappers = new.shape.wrappers; weak = new.shape.weak };
     looks = new.looks;
+    weak_names = without_dead_names (is_absent old.shape) old.weak_names;
   }
   pub apart : AreApart old.shape.wrappers.lists
   pub wrappers : (z : ℕ) → list_of new.shape.wrappers z ≡ without_dead (bit_at g.bits z) (is_absent old.shape)

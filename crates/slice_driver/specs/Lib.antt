@@ -35,3 +35,7 @@ pub mod NameKeys
 pub mod ListedWrappers
 pub mod Listings
 pub mod Dumps
+pub mod Told
+pub mod WeakCommands
+pub mod WeakCalls
+pub mod Compacting

@@ -46,6 +46,7 @@ pub record IsQuiet (c : CollectorState) (flown : ℕ → Option Bits) (d : Colle
     0 where
   pub shape_is : d.heap.shape ≡ record c.heap.shape { states = d.heap.shape.states }
   pub made_is : d.heap.made ≡ c.heap.made
+  pub weak_names_is : d.heap.weak_names ≡ c.heap.weak_names
   pub delayed_is : d.heap.delayed ≡ c.heap.delayed
   pub run_is : d.run ≡ c.run
   pub groups_is : d.groups ≡ c.groups

@@ -77,6 +77,16 @@ names_of (Some (report.Swept arena names)) = names
 names_of (Some report.Done) = []
 names_of (Some (report.Stopped zones)) = []
 
+-- the watched cells that died with a group, as a report tells them
+abbrev pub told_of : Option Report → List Name
+told_of None = []
+told_of (Some report.Started) = []
+told_of (Some (report.Groups groups)) = []
+told_of (Some (report.Ended zones grays dead)) = dead
+told_of (Some (report.Swept arena names)) = []
+told_of (Some report.Done) = []
+told_of (Some (report.Stopped zones)) = []
+
 -- the groups that a report lists
 abbrev pub groups_of : Option Report → List ZoneSet
 groups_of None = []

@@ -1,4 +1,4 @@
-// Commands on the graph, with their barriers.
+// Commands on the graph, and on weak slots and watched cells, with their barriers.
 ghost use Rattle.std.specs.Prelude.{◌≡◌, ◌⊎◌, IsSome, OnErr, OnOk, length, Some};
 ghost use Rattle.std.specs.Option.{ForSome};
 ghost use Rattle.colour_defs.specs.Step.{HasFewFields};
@@ -10,11 +10,12 @@ ghost use Rattle.slice_driver.specs.Calls.{CommandDone};
 ghost use Rattle.slice_driver.specs.Rooms.{IsRoomy, Widens, arenas_after};
 ghost use Rattle.slice_driver.specs.Steps.{GoesThrough, IsMarkable, IsPrepared};
 ghost use Rattle.slice_driver.specs.Units.{IsSound};
+ghost use Rattle.slice_driver.specs.WeakCommands.{Derefs, WeakCommandDone};
 
 use crate::collector::Collector;
 use barriers::expose;
 use cell_bits::Flight;
-use gz_names::{CmdFault, GraphCmd, NoMemory, Place, Reply, ZoneNo};
+use gz_names::{CmdFault, GraphCmd, NoMemory, Place, Reg, Reply, WeakCmd, WeakNo, ZoneNo};
 use heap_core::Steps;
 use std::sync::ledger::Ledger;
 
@@ -58,6 +59,55 @@ impl Collector {
         }
     }
 
+    /// Does a command on weak slots and watched cells, also between two units of a collection. What a weak
+    /// slot names is exposed before a register holds it (js/src/builtin/WeakRefObject.cpp, the read barrier of
+    /// `deref`).
+    ///
+    /// `Watch` and `Unwatch` are refused where their register is empty. Only `Watch` returns `NoMemory`, and only
+    /// for a cell that is not watched. In both cases nothing changed.
+    #[inline(never)]
+    pub fn weak_command<F: Flight, L: Ledger>(
+        &mut self,
+        flight: &mut F,
+        cmd: WeakCmd,
+        steps: &mut Steps<L>,
+    ) -> Result<Reply, CmdFault>
+        requires counted { self.old.heap.ledger ≡ Some L.name }
+        requires sound { IsSound self.old (F.bits flight.old) }
+        ensures { WeakCommandDone F.bits F.origin self.old flight.old cmd result self.new
+            flight.new }
+    {
+        match cmd {
+            WeakCmd::Weaken(q, r) => self.heap.do_weaken(q, r),
+            WeakCmd::Deref(r, q) => Ok(self.deref(flight, r, q, steps)),
+            WeakCmd::Watch(r) => self.heap.do_watch(r),
+            WeakCmd::Unwatch(r) => self.heap.do_unwatch(r),
+        }
+    }
+
+    // A register holds what a weak slot names, exposed.
+    fn deref<F: Flight, L: Ledger>(
+        &mut self,
+        flight: &mut F,
+        r: Reg,
+        q: WeakNo,
+        steps: &mut Steps<L>,
+    ) -> Reply
+        requires counted { self.old.heap.ledger ≡ Some L.name }
+        requires sound { IsSound self.old (F.bits flight.old) }
+        ensures derefs { Derefs self.old (F.bits flight.old) r q result self.new
+            (F.bits flight.new) }
+        ensures origin { F.origin flight.new ≡ F.origin flight.old }
+    {
+        let plan = self.heap.plan_deref(r, q);
+        let held = plan.handed();
+        self.expose(flight, held, steps);
+        match self.heap.commit(&plan) {
+            Ok(reply) => reply,
+            Err(_) => unreachable!(),
+        }
+    }
+
     // Makes room on the lists for the cells of a new arena, where a cell is made in a zone and comes
     // into one.
     #[inline(always)]
@@ -77,6 +127,7 @@ impl Collector {
     }
 
     // Exposes a cell, if there is one to expose.
+    #[inline(always)]
     fn expose<F: Flight, L: Ledger>(
         &mut self,
         flight: &mut F,

@@ -14,11 +14,12 @@ ghost use Rattle.slice_driver.specs.Represents.{Represents};
 ghost use Rattle.slice_driver.specs.Resets.{ResetsOn};
 ghost use Rattle.slice_driver.specs.Sessions.{counted_in};
 ghost use Rattle.slice_driver.specs.Units.{IsSound};
+ghost use Rattle.slice_driver.specs.WeakCommands.{WeakCommandDone};
 ghost use Rattle.slice_driver.specs.Working.{IsStill, MayWantMemory};
 
 use crate::advance::Step;
 use crate::collector::Collector;
-use gz_names::{CmdFault, DumpLine, GraphCmd, NoMemory, Reply, Report};
+use gz_names::{CmdFault, DumpLine, GraphCmd, NoMemory, Reply, Report, WeakCmd};
 use std::alloc::Global;
 use std::sync::ledger::{Blank, Ledger};
 use sweeping::Sweeper;
@@ -43,6 +44,26 @@ pub(crate) fn command<S: Sweeper, L: Ledger>(
 {
     let mut steps = collector.count_edges::<L>(blank);
     collector.command(sweeper, cmd, &mut steps)
+}
+
+/// Does a command on weak slots and watched cells; see `Collector::weak_command`.
+pub(crate) fn weak_command<S: Sweeper, L: Ledger>(
+    collector: &mut Collector,
+    sweeper: &mut S,
+    cmd: WeakCmd,
+    blank: Blank,
+) -> Result<Reply, CmdFault>
+    requires name { blank.name ≡ L.name }
+    requires parts { blank.parts ≡ L.parts }
+    requires some { 0 < blank.parts }
+    requires sound { IsSound collector.old (S.bits sweeper.old) }
+    requires out { AreOut collector.old.heap.shape (S.left (S.origin sweeper.old)) }
+    ensures done { WeakCommandDone S.bits S.origin (counted_in collector.old (Some L.name)) sweeper.old cmd result
+        collector.new sweeper.new }
+    ensures out { AreOut collector.new.heap.shape (S.left (S.origin sweeper.new)) }
+{
+    let mut steps = collector.count_edges::<L>(blank);
+    collector.weak_command(sweeper, cmd, &mut steps)
 }
 
 /// Does a step of the collection that runs; see `Collector::advance_over`.

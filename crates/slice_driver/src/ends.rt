@@ -1,6 +1,6 @@
 // The end of a group, and taking arenas in.
 ghost use Rattle.std.specs.Prelude.{◌≡◌, ◌<◌, ◌≤◌, ◌↔◌, ◌++◌, ℕ, List, Option, None, Some, true, IsSomeAnd, IfOk};
-ghost use Rattle.std.specs.Prelude.{IfSome, IfNone, OnErr, OnOk, is_some, length, slice_get};
+ghost use Rattle.std.specs.Prelude.{Contains, IfSome, IfNone, OnErr, OnOk, is_some, length, slice_get};
 ghost use Rattle.std.specs.Int.{bit_at};
 ghost use Rattle.gz_names.specs.Zones.{HasZone};
 ghost use Rattle.std.specs.List.Sorted.{IsPermutation, IsSorted};
@@ -11,7 +11,8 @@ ghost use Rattle.gz_names.specs.declared.replies.Report.TheVariants as AReport;
 ghost use Rattle.gz_names.specs.declared.zone_sets.ZoneSet.{ZoneSet as AZoneSet};
 ghost use Rattle.cell_bits.specs.declared.bits.Bits.{Bits as ABits};
 ghost use Rattle.arena_table.specs.Slots.{IsWithin, alloc_word_of};
-ghost use Rattle.heap_core.specs.Shape.{IsPresent, is_owned, out_of};
+ghost use Rattle.colour_defs.specs.Ends.{Lists};
+ghost use Rattle.heap_core.specs.Shape.{IsPresent, is_owned, name_at, out_of};
 ghost use Rattle.heap_core.specs.Sweeping.{with_taken};
 ghost use Rattle.barriers.specs.Colours.{IsGray};
 ghost use Rattle.slice_driver.specs.Advances.{MayTakeIn, TakesIn};
@@ -20,6 +21,7 @@ ghost use Rattle.slice_driver.specs.Grays.{grays_below, grays_up_to};
 ghost use Rattle.slice_driver.specs.GroupEnd.{DieWithOwners, IsReady};
 ghost use Rattle.slice_driver.specs.HandingOut.{HandsOut};
 ghost use Rattle.slice_driver.specs.Sweeping.{AreFreed};
+ghost use Rattle.slice_driver.specs.Told.{IsTold, TellsOf};
 ghost use Rattle.slice_driver.specs.Units.{IsLowestOut, IsSoundMarking};
 ghost use Rattle.slice_driver.specs.Units.{TellsSweep};
 ghost use Rattle.slice_driver.specs.Working.{EndsGroup};
@@ -30,8 +32,8 @@ use crate::colours::gray_slots;
 use crate::name_keys::NameKeys;
 use crate::zone_states::advance_all;
 use arena_table::Jobs;
-use cell_bits::Taken;
-use gz_names::{NameList, Names64, NoMemory, Place, Report, ZoneSet};
+use cell_bits::{Colour, Taken};
+use gz_names::{Name, NameList, Names64, NoMemory, Place, Report, ZoneSet};
 use heap_core::Heap;
 use std::alloc::Global;
 use sweep_groups::GroupOrder;
@@ -71,9 +73,9 @@ impl Collector {
     }
 
     // Ends the current group, which is ready: its gray names are reported, its arenas are handed to
-    // sweeping, what names a cell that is not present any more is dropped, and its zones go on. All
-    // memory is taken before anything changes. No cell is watched, so the report, which is put into a
-    // place, tells of none.
+    // sweeping, what names a cell that is not present any more is dropped, and its zones go on. The report,
+    // which is put into a place, tells the watched cells that are lost. All memory is taken before anything
+    // changes.
     pub(crate) fn end_group_into(
         &mut self,
         alloc: Global,
@@ -95,13 +97,14 @@ impl Collector {
             return Ok(Step::none());
         };
         let grays = gray_names_in(alloc, &self.heap, group)?;
+        let told = told_names_in(alloc, &self.heap, group)?;
         let handed = hand_out_group(alloc, &mut self.heap, group)?;
         self.order.advance();
         let finished = end_sweeping(&mut self.heap, &self.order);
         if finished {
             self.phase = Phase::Idle;
         }
-        *report = Some(Report::Ended(group, grays, NameList::new(alloc)));
+        *report = Some(Report::Ended(group, grays, told));
         Ok(Step {
             units: 1,
             reported: true,
@@ -223,6 +226,44 @@ fn gray_names_in(alloc: Global, heap: &Heap, zones: ZoneSet) -> Result<NameList,
         from = arena + 1;
     }
     Ok(NameList::from_vec(keys.into_names(alloc)?))
+}
+
+// The names of the watched cells of these zones that are white, ascending: as the zones' group ends they stop
+// being present. It takes no memory where none is.
+fn told_names_in(alloc: Global, heap: &Heap, zones: ZoneSet) -> Result<NameList, NoMemory>
+    requires sized { length heap.now.colours ≡ length heap.now.shape.arenas }
+    requires present { (p : APlace) → Contains heap.now.weak_names.watched p
+        → IsPresent heap.now.shape p }
+    requires apart { (p q : APlace) (x : AName) → name_at heap.now.shape p ≡ Some x
+        → name_at heap.now.shape q ≡ Some x
+        → p ≡ q }
+    ensures { IfOk result (Lists (IsTold heap.now zones.bits)) }
+{
+    let mut names = Vec::new(alloc);
+    for index in 0..heap.watched_count() {
+        if let Some(place) = heap.watched_at(index) {
+            push_told(heap, zones, place, &mut names)?;
+        }
+    }
+    names.sort_unstable();
+    Ok(NameList::from_vec(names))
+}
+
+// Adds the name of a cell, if it is a white one of these zones.
+fn push_told(
+    heap: &Heap,
+    zones: ZoneSet,
+    place: Place,
+    names: &mut Vec<Name>,
+) -> Result<(), NoMemory>
+    requires sized { length heap.now.colours ≡ length heap.now.shape.arenas }
+    requires present { IsPresent heap.now.shape place }
+    ensures { OnOk result (TellsOf heap.now zones.bits place names.old.items names.new.items) }
+{
+    if heap.lies_in(place, zones) && heap.colour(place) == Colour::White {
+        names.push(heap.name(place))?;
+    }
+    Ok(())
 }
 
 // Adds the names of the gray cells of an arena that is not out.

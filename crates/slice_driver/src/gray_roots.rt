@@ -167,7 +167,7 @@ fn gather(
     place: Place,
     found: &mut Vec<(ZoneNo, Place)>,
 ) -> Result<(), NoMemory>
-    requires { cell.0 < length heap.now.shape.arenas }
+    requires { IsPresent heap.now.shape cell }
     ensures gathered { OnOk result (Gathers (IsFor heap.now.shape zones cell place)
         found.old.items found.new.items) }
     ensures few { OnOk result (length found.new.items ≤ length found.old.items + 1) }

@@ -150,7 +150,7 @@ fn mark_target<L: Ledger>(
 // Marks a cell black and pending, if it lies in one of these zones and is not black yet.
 fn mark_root(heap: &mut Heap, stack: &mut Stack, zones: ZoneSet, place: Place)
     requires ready { IsReady (without_delayed heap.old) (pending heap.old stack.old) }
-    requires made { place.0 < length heap.old.shape.arenas }
+    requires present { IsPresent heap.old.shape place }
     ensures { Marks (λ x. x ≡ place) zones
         (without_delayed heap.old) (pending heap.old stack.old)
         (without_delayed heap.new) (pending heap.new stack.new) }

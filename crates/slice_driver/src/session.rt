@@ -9,11 +9,12 @@ ghost use Rattle.collection_laws.specs.Numbers.{IsGraphReply};
 ghost use Rattle.heap_core.specs.Heap.{HeapState, joined};
 ghost use Rattle.slice_driver.specs.Accounts.{Accounts, FreesOn, freed_by, freed_by_report};
 ghost use Rattle.slice_driver.specs.Begins.{AreMade};
+ghost use Rattle.slice_driver.specs.Compacting.{CompactCalled};
 ghost use Rattle.slice_driver.specs.Represents.{Represents};
 ghost use Rattle.slice_driver.specs.Sessions.{AreDumpLines, AreGrayNames, IsNextGray, IsNowhereSettled};
 ghost use Rattle.slice_driver.specs.SessionCommands.{SessionDoes};
 ghost use Rattle.slice_driver.specs.Sessions.{SessionResets, SessionSteps, as_reply, counted_in, groups_of, kind_of};
-ghost use Rattle.slice_driver.specs.Sessions.{names_of, outcome_of, replied};
+ghost use Rattle.slice_driver.specs.Sessions.{names_of, outcome_of, replied, told_of};
 ghost use Rattle.slice_driver.specs.Units.{BeginsIn, BeginsWithin};
 ghost use Rattle.slice_driver.specs.Working.{IsStill, MayWantMemory};
 ghost use Rattle.sweeping.specs.ArenasOut.{flown_by};
@@ -22,13 +23,16 @@ mod calls;
 mod counts;
 mod faults;
 mod told;
+mod weak_names;
 
 use crate::begin::BeginFault;
 use crate::collector::Collector;
+use crate::compacting::CompactFault;
 use crate::counted::{advance, command, dump, reset};
+use compact::Compacted;
 pub use faults::refusal_words;
 use gz_names::{
-    CmdFault, DumpLine, GraphCmd, Name, NameList, NoMemory, Refusal, Reply, Report, ZoneSet,
+    CmdFault, DumpLine, GraphCmd, Name, NameList, NoMemory, Refusal, Reply, Report, ZoneNo, ZoneSet,
 };
 use std::alloc::Global;
 use std::marker::{Brand, Model};
@@ -200,6 +204,15 @@ impl<S: Sweeper> Session<S> {
         told::step_of(&step, &self.report)
     }
 
+    /// Moves the cells of a zone together, and gives up the arenas that this empties. It is refused while a
+    /// collection runs, and then where the zone is not made. All memory is taken before anything changes; after a
+    /// fault everything is as it was.
+    pub fn compact(&mut self, zone: ZoneNo) -> Result<Compacted, CompactFault>
+        ensures { CompactCalled S.bits self.old zone result self.new }
+    {
+        self.collector.compact(self.alloc, zone)
+    }
+
     /// What the last report is about, until the next one.
     pub fn report(&self) -> Option<SessionReport>
         ensures { result ≡ kind_of self.now.report }
@@ -213,6 +226,14 @@ impl<S: Sweeper> Session<S> {
         ensures { result.now ≡ names_of self.now.report }
     {
         told::names(&self.report)
+    }
+
+    /// The names of the watched cells that died with the group whose end is the last report, ascending. None of
+    /// them is watched any more, and none was freed yet.
+    pub fn told(&self) -> &[Name]
+        ensures { result.now ≡ told_of self.now.report }
+    {
+        told::told_names(&self.report)
     }
 
     /// The groups that the last report lists, in the order in which they end.

@@ -65,6 +65,7 @@ module _ (c : CollectorState) (name : Option ℕ) (flown : ℕ → Option Bits) 
       record {
         shape_is = refl;
         made_is = refl;
+        weak_names_is = refl;
         delayed_is = refl;
         run_is = refl;
         groups_is = refl;
@@ -113,7 +114,7 @@ module _ (c : CollectorState) (name : Option ℕ) (flown : ℕ → Option Bits) 
     uncleared = p.uncleared;
     clearing = p.clearing;
     unformed = p.unformed;
-    placed = placed_same c.heap d.heap w same_cells refl refl p.placed;
+    placed = placed_same c.heap d.heap w same_cells refl refl refl p.placed;
     swept = p.swept;
     none_out = p.none_out;
     cleared = record {

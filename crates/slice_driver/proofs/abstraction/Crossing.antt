@@ -51,16 +51,22 @@ same_part g = record {
   entries = λ m k hm hk. refl;
 }
 
+-- a cell of the heap stands for this name
+pub record StandsAt (h : HeapState) (g : GraphState) (p : Place) (x : Name) : Type 0 where
+  pub cell : CellState
+  pub there : cell_of h.shape p ≡ Some cell
+  pub is : cell.name ≡ x
+  pub stands : StandsFor h.shape g p cell x
+
 -- an object leads into its own zone
-leads_inside : (h : HeapState) (g : GraphState) (p q : Place) (cell : CellState) (n : ℕ) → Shows h g → IsWellFormed g
-    → cell_of h.shape p ≡ Some cell → cell.name ≡ Cell n → StandsFor h.shape g p cell (Cell n) → HasEdge h.shape p q
-    → zone_of h.shape p ≡ zone_of h.shape q
-leads_inside h g p q cell n s well there is stands e =
-    let named : name_at h.shape p ≡ Some (Cell n) = ap (λ o. option_map (λ (c : CellState). c.name) o) there
-    ∙ ap (λ z. Some z) is in
+pub leads_inside : (h : HeapState) (g : GraphState) (p q : Place) (n : ℕ) → Shows h g → IsWellFormed g
+    → StandsAt h g p (Cell n) → HasEdge h.shape p q → zone_of h.shape p ≡ zone_of h.shape q
+leads_inside h g p q n s well at e =
+    let named : name_at h.shape p ≡ Some (Cell n) = ap (λ o. option_map (λ (c : CellState). c.name) o) at.there
+    ∙ ap (λ z. Some z) at.is in
     let y = name_of h.shape q (s.fields_held p q e.0 e.2) in
     let edge : names.HasEdge g (Cell n) y.0 =
-    edge_as h.shape g p cell (Cell n) y.0 q e.0 stands (sym (ap (λ o. field_in o e.0) there) ∙ e.2) y.1 in
+    edge_as h.shape g p at.cell (Cell n) y.0 q e.0 at.stands (sym (ap (λ o. field_in o e.0) at.there) ∙ e.2) y.1 in
     let same = same_zone_of g (Cell n) y.0 (well.fields n y.0 edge) in
     some_one _ _ (sym (zone_named h g g p (Cell n) s (same_part g) named)
     ∙ (same ∙ zone_named h g g q y.0 s (same_part g) y.1))
@@ -70,7 +76,7 @@ crosses_as : (h : HeapState) (g : GraphState) (p q : Place) (cell : CellState) (
     → slice_get h.shape.comps cell.comp.0 ≡ Some (zone_of h.shape p) → HasEdge h.shape p q
     → zone_of h.shape p ≢ zone_of h.shape q → IsListed h.shape p q
 crosses_as h g p q cell (Cell n) s well there is stands home e apart =
-    absurd (apart (leads_inside h g p q cell n s well there is stands e))
+    absurd (apart (leads_inside h g p q n s well (record { cell = cell; there = there; is = is; stands = stands }) e))
 crosses_as h g p q cell (Wrap c t) s well there is stands home e apart =
     let found = found_listed h.shape.wrappers.lists c.0 t p stands.mapped in
     let at_home : slice_get h.shape.comps c.0 ≡ Some found.0 =
@@ -111,7 +117,8 @@ crosses_named h g p q s well e apart = go (cell_of h.shape p) refl
   where
     by : (cell : CellState) (x : Name) → cell_of h.shape p ≡ Some cell → cell.name ≡ x
         → StandsFor h.shape g p cell x → (c : CompNo) × (t : ℕ) × (name_at h.shape p ≡ Some (Wrap c t))
-    by cell (Cell n) there is stands = absurd (apart (leads_inside h g p q cell n s well there is stands e))
+    by cell (Cell n) there is stands = absurd
+        (apart (leads_inside h g p q n s well (record { cell = cell; there = there; is = is; stands = stands }) e))
     by cell (Wrap c t) there is stands = (
       c,
       t,

@@ -15,6 +15,7 @@ use Rattle.heap_core.specs.Changes.{Makes, MakesWrapper, Writes, wrapper_cell}
 use Rattle.heap_core.proofs.MakingCells.{same-place}
 use Rattle.slice_driver.specs.Worlds.{IsUnswept, outs_from, owners_of}
 use Rattle.slice_driver.specs.Commands.{ComesTo, StayInPlace}
+use Rattle.slice_driver.proofs.basics.Owners.{owner_below, owner_by}
 use Rattle.slice_driver.proofs.abstraction.Named.{some_one}
 
 abbrev name_in : Option CellState → Option Name
@@ -36,17 +37,20 @@ pub owners_same : (xs ys : List ArenaShape) → length xs ≡ length ys
 owners_same [] [] e f = refl
 owners_same [] (y ∷ ys) e f = absurd (omega (arith, e))
 owners_same (x ∷ xs) [] e f = absurd (omega (arith, e))
-owners_same (x ∷ xs) (y ∷ ys) e f = ap (λ z. Some z ∷ owners_of xs) (f 0 (omega arith))
-    ∙ ap (λ zs. Some y.zone ∷ zs) (owners_same xs ys (omega (arith, e)) (λ a lt. f (suc a) (omega (arith, lt))))
+owners_same (x ∷ xs) (y ∷ ys) e f = ap (λ z. owner_by z ∷ owners_of xs) (f 0 (omega arith))
+    ∙ ap (λ zs. owner_by y.zone ∷ zs) (owners_same xs ys (omega (arith, e)) (λ a lt. f (suc a) (omega (arith, lt))))
 
 pub owners_more : (xs ys : List ArenaShape) (zone : ℕ) → length xs ≡ length ys + 1
     → ((a : ℕ) → a < length ys → zone_in (slice_get xs a) ≡ zone_in (slice_get ys a))
-    → zone_in (slice_get xs (length ys)) ≡ zone → owners_of xs ≡ owners_of ys ++ Some zone ∷ []
-owners_more [] ys zone e f z = absurd (omega (arith, e))
-owners_more (x ∷ xs) [] zone e f z = ap (λ k. Some k ∷ owners_of xs) z
+    → zone_in (slice_get xs (length ys)) ≡ zone → zone < 64 → owners_of xs ≡ owners_of ys ++ Some zone ∷ []
+owners_more [] ys zone e f z below = absurd (omega (arith, e))
+owners_more (x ∷ xs) [] zone e f z below =
+    ap (λ o. o ∷ owners_of xs) (ap owner_by z ∙ owner_below zone below)
     ∙ ap (λ zs. Some zone ∷ zs) (owners_same xs [] (omega (arith, e)) (λ a lt. absurd (omega (arith, lt))))
-owners_more (x ∷ xs) (y ∷ ys) zone e f z = ap (λ k. Some k ∷ owners_of xs) (f 0 (omega arith))
-    ∙ ap (λ zs. Some y.zone ∷ zs) (owners_more xs ys zone (omega (arith, e)) (λ a lt. f (suc a) (omega (arith, lt))) z)
+owners_more (x ∷ xs) (y ∷ ys) zone e f z below =
+    ap (λ k. owner_by k ∷ owners_of xs) (f 0 (omega arith))
+    ∙ ap (λ zs. owner_by y.zone ∷ zs)
+    (owners_more xs ys zone (omega (arith, e)) (λ a lt. f (suc a) (omega (arith, lt))) z below)
 
 -- cells that are not swept, where what stands there keeps its name
 stored_named : (o u : Option CellState) (cell : CellState) → name_in u ≡ name_in o → o ≡ Some cell → (other : CellState)
@@ -108,6 +112,7 @@ comes_makes old zone p cell new m whole = record {
   place_is = m.place_is;
   free = λ some. cc (some, m.free);
   names = λ q. ap name_in (m.cells q) ∙ named (is_place q p) (cell_of old.shape q);
+  below = m.below;
   zone_is = m.zone_is;
   owners = owners (p.0 == length old.shape.arenas) refl;
   outs = outs_same 0 new.shape.arenas old.shape.arenas m.outs;
@@ -134,7 +139,7 @@ comes_makes old zone p cell new m whole = record {
         (m.grown ∙ ap (λ b. if b then length old.shape.arenas + 1 else length old.shape.arenas) e)
         (λ a lt. m.zones (a, 0) lt)
         (ap (λ (n : ℕ). zone_in (slice_get new.shape.arenas n)) (sym (eqb-true p.0 (length old.shape.arenas) e))
-        ∙ m.zone_is)
+        ∙ m.zone_is) m.below
     owners false e = owners_same new.shape.arenas old.shape.arenas
         (m.grown ∙ ap (λ b. if b then length old.shape.arenas + 1 else length old.shape.arenas) e)
         (λ a lt. m.zones (a, 0) lt)
@@ -152,6 +157,7 @@ comes_then s t u zone p x m e =
       place_is = m.place_is;
       free = m.free;
       names = λ q. stay.names q ∙ m.names q;
+      below = m.below;
       zone_is = ap (λ xs. zone_in (slice_get xs p.0)) e ∙ m.zone_is;
       owners = stay.owners ∙ m.owners;
       outs = stay.outs ∙ m.outs;

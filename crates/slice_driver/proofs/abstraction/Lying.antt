@@ -16,7 +16,7 @@ use Rattle.colour_defs.specs.declared.graph.Object.{Object}
 use Rattle.colour_defs.specs.Graph.{GraphState, object_of, comp_of, comp_of_object, zone_of_comp}
 use Rattle.colour_defs.specs.Graph as graph
 use Rattle.colour_defs.specs.Step.{IsAccepted, step_of, refusal_in}
-use Rattle.colour_defs.specs.World.{World, no_weak_names, Preparation, Accepts, AcceptsIn, AcceptsUnless}
+use Rattle.colour_defs.specs.World.{World, Preparation, Accepts, AcceptsIn, AcceptsUnless}
 use Rattle.colour_defs.specs.World.{CommandInWorld, also_woken_by, IsPresent as IsPresentName, with_counts, woken_by}
 use Rattle.colour_defs.specs.Laws.{IsValid, IsWellFormed}
 use Rattle.colour_defs.specs.Present as present
@@ -28,7 +28,7 @@ use Rattle.heap_core.specs.Shows.{Shows, StandsFor, object_at}
 use Rattle.heap_core.specs.Answers.{DoesStep}
 use Rattle.heap_core.proofs.Resolved.{shows_coloured}
 use Rattle.mark_stack.specs.Stack.{Piles, no_places}
-use Rattle.slice_driver.specs.Worlds.{IsUnswept, LiesIn, outs_from, owners_of}
+use Rattle.slice_driver.specs.Worlds.{IsUnswept, LiesIn, NamesWeakly, outs_from, owners_of}
 use Rattle.slice_driver.specs.Commands.{Wakes, with_colours}
 use Rattle.slice_driver.proofs.abstraction.Named.{named_cell}
 
@@ -65,7 +65,7 @@ present_at v x there = go (places.get v.places x) refl there
 pub lies_from : (h : HeapState) (g : GraphState) (v : World) → Shows h g → IsWellFormed g → present.IsPartOf v.graph g
     → AreWhole h.shape.arenas
     → ((x : Name) (p : Place) → (places.get v.places x ≡ Some p) ↔ (name_at h.shape p ≡ Some x))
-    → v.owner ≡ owners_of h.shape.arenas → v.weak ≡ no_weak_names → v.out ≡ outs_from 0 h.shape.arenas
+    → v.owner ≡ owners_of h.shape.arenas → NamesWeakly h.shape h.weak_names v.weak → v.out ≡ outs_from 0 h.shape.arenas
     → ((x : Name) (p : Place) → Contains {X = Name × (ℕ × ℕ)} v.white (x, p) ↔ IsUnswept h.shape p x) → LiesIn h v
 lies_from h g v s well part whole at owner weak out white = record {
   whole = whole;
@@ -81,7 +81,7 @@ lies_from h g v s well part whole at owner weak out white = record {
   };
   places_are = at;
   owner_is = owner;
-  weak_is = weak;
+  weak_are = weak;
   out_is = out;
   white_are = white;
 }
@@ -150,7 +150,7 @@ lies_marked h ds d w l = record {
   part = l.part;
   places_are = l.places_are;
   owner_is = l.owner_is;
-  weak_is = l.weak_is;
+  weak_are = l.weak_are;
   out_is = l.out_is;
   white_are = l.white_are;
 }

@@ -14,6 +14,7 @@ use Rattle.heap_core.specs.Shape.{ArenaShape, AreWhole, Shape, cell_in_arena, ce
 use Rattle.heap_core.specs.Heap.{HeapState}
 use Rattle.heap_core.specs.Changes.{next_place, next_place_from, takes_cells}
 use Rattle.slice_driver.specs.Worlds.{LiesIn, outs_from, owners_of}
+use Rattle.slice_driver.proofs.basics.Owners.{owner_below, owner_by, owner_is}
 use Rattle.slice_driver.proofs.abstraction.Named.{name_of, named_present, some_one}
 
 -- a free slot of an arena of a zone that is not handed to sweeping
@@ -199,13 +200,13 @@ outs_only n (x ∷ xs) k c = go (λ t. outs_only (suc n) xs k t) x.out refl c
 arena_owned : (xs : List ArenaShape) (a zone : ℕ) → slice_get (owners_of xs) a ≡ Some (Some zone) → (arena : ArenaShape)
     × (slice_get xs a ≡ Some arena) × (arena.zone ≡ zone)
 arena_owned [] a zone e = absurd (cc e)
-arena_owned (x ∷ xs) zero zone e = (x, refl, cc e)
+arena_owned (x ∷ xs) zero zone e = (x, refl, owner_is x.zone zone (cc e))
 arena_owned (x ∷ xs) (suc a) zone e = arena_owned xs a zone e
 
 owned_arena : (xs : List ArenaShape) (a : ℕ) (arena : ArenaShape) → slice_get xs a ≡ Some arena
-    → slice_get (owners_of xs) a ≡ Some (Some arena.zone)
+    → slice_get (owners_of xs) a ≡ Some (owner_by arena.zone)
 owned_arena [] a arena e = absurd (cc e)
-owned_arena (x ∷ xs) zero arena e = ap (λ o. option_map (λ (y : ArenaShape). Some y.zone) o) e
+owned_arena (x ∷ xs) zero arena e = ap (λ o. option_map (λ (y : ArenaShape). owner_by y.zone) o) e
 owned_arena (x ∷ xs) (suc a) arena e = owned_arena xs a arena e
 
 kept_cell : (s : Shape) (p : Place) (arena : ArenaShape) → slice_get s.arenas p.0 ≡ Some arena → arena.out ≡ None
@@ -244,10 +245,11 @@ module _ (h : HeapState) (w : World) (l : LiesIn h w) where
       no_cell None n = refl
       no_cell (Some c) n = absurd (n refl)
 
-  free_in_world : (zone : ℕ) (q : Place) → IsFreeIn h.shape.arenas zone q → IsFreeSlot w zone q
-  free_in_world zone q f = record {
+  free_in_world : (zone : ℕ) (q : Place) → zone < 64 → IsFreeIn h.shape.arenas zone q → IsFreeSlot w zone q
+  free_in_world zone q small f = record {
     owned = subst (λ xs. slice_get xs q.0 ≡ Some (Some zone)) (sym l.owner_is)
-        (owned_arena h.shape.arenas q.0 f.arena f.there ∙ ap (λ z. Some (Some z)) f.zone_is);
+        (owned_arena h.shape.arenas q.0 f.arena f.there
+        ∙ ap (λ o. Some o) (ap owner_by f.zone_is ∙ owner_below zone small));
     not_out = λ c. (let o = outs_only 0 h.shape.arenas q.0 (subst (λ xs. Contains xs q.0) l.out_is c) in
         let some : IsSome (out_in (slice_get h.shape.arenas q.0)) =
         subst (λ k. IsSome (out_in (slice_get h.shape.arenas k))) (sym (o.1 ∙ from_zero o.0)) o.2 in
@@ -258,10 +260,10 @@ module _ (h : HeapState) (w : World) (l : LiesIn h w) where
   }
 
   -- the next place is the one for a new cell of the zone
-  pub place_is_for : (zone : ℕ) (p : Place) (owner : List (Option ℕ)) → p ≡ next_place h.shape zone
+  pub place_is_for : (zone : ℕ) (p : Place) (owner : List (Option ℕ)) → zone < 64 → p ≡ next_place h.shape zone
       → owner ≡ (if p.0 == length h.shape.arenas then owners_of h.shape.arenas ++ Some zone ∷ []
       else owners_of h.shape.arenas) → IsPlaceFor w zone p owner
-  place_is_for zone p owner e owners = elim (lowest_or_none 0 h.shape.arenas zone l.whole) [
+  place_is_for zone p owner small e owners = elim (lowest_or_none 0 h.shape.arenas zone l.whole) [
     | inl low ↦
         let is : low.place ≡ p = ap (λ (k : ℕ). (k, low.place.1)) (sym (from_zero low.place.0))
         ∙ (sym low.next_is ∙ sym e) in
@@ -272,7 +274,7 @@ module _ (h : HeapState) (w : World) (l : LiesIn h w) where
         subst (λ q. owner ≡ (if q.0 == length h.shape.arenas then owners_of h.shape.arenas ++ Some zone ∷ []
         else owners_of h.shape.arenas) → IsPlaceFor w zone q owner) is
         (λ o. inl (
-          free_in_world zone low.place low.free,
+          free_in_world zone low.place small low.free,
           o ∙ ap (λ b. if b then owners_of h.shape.arenas ++ Some zone ∷ [] else owners_of h.shape.arenas) other
               ∙ sym l.owner_is,
           λ q f. low.lowest q (free_in_heap zone q f),
@@ -281,7 +283,7 @@ module _ (h : HeapState) (w : World) (l : LiesIn h w) where
         let is : (length h.shape.arenas, 0) ≡ p = ap (λ (k : ℕ). (k, 0)) (sym (from_zero (length h.shape.arenas)))
         ∙ (sym none.next_is ∙ sym e) in
         let size : length w.owner ≡ length h.shape.arenas = ap (λ (xs : List (Option ℕ)). length xs) l.owner_is
-        ∙ length-map h.shape.arenas (λ (arena : ArenaShape). Some arena.zone) in
+        ∙ length-map h.shape.arenas (λ (arena : ArenaShape). owner_by arena.zone) in
         subst (λ q. owner ≡ (if q.0 == length h.shape.arenas then owners_of h.shape.arenas ++ Some zone ∷ []
         else owners_of h.shape.arenas) → IsPlaceFor w zone q owner) is
         (λ o. inr (

@@ -80,6 +80,7 @@ module _ (c : CollectorState) (flown : ℕ → Option Bits) (d : CollectorState)
         colours = d.heap.colours;
         buffers = d.heap.buffers;
         made = d.heap.made;
+        weak_names = d.heap.weak_names;
         ledger = d.heap.ledger;
         looks = d.heap.looks;
         delayed = d.heap.delayed;
@@ -309,7 +310,7 @@ module _ (c : CollectorState) (flown : ℕ → Option Bits) (d : CollectorState)
 
     pub quiet : RepresentsMarking d flying w
     quiet = record {
-      placed = placed_same c.heap d.heap w same_cells same_arenas q.delayed_is old.placed;
+      placed = placed_same c.heap d.heap w same_cells same_arenas q.delayed_is q.weak_names_is old.placed;
       swept = swept_in c.heap.shape d.heap.shape flown flying same_arenas q.flies old.swept;
       coloured = q.coloured;
       phase = record {

@@ -1,5 +1,5 @@
 -- Heaps with the same cells and the same arenas have the same cells of a world.
-use Rattle.std.proofs.Common.{◌≡◌, ℕ, List, Option, Some, sym, ap, subst, ◌∙◌}
+use Rattle.std.proofs.Common.{◌≡◌, ℕ, List, Option, Some, refl, sym, ap, subst, ◌∙◌}
 use Rattle.gz_names.specs.declared.names.Name.{Name}
 use Rattle.gz_names.specs.declared.numbers.Place.{Place}
 use Rattle.colour_defs.specs.World.{Collection, Preparation, World}
@@ -10,6 +10,7 @@ use Rattle.heap_core.specs.Heap.{HeapState}
 use Rattle.slice_driver.specs.Represents.{IsBeingSwept, IsPlaced}
 use Rattle.slice_driver.specs.Worlds.{IsInFlight, IsUnswept, LiesIn, outs_from, owners_of}
 use Rattle.slice_driver.proofs.basics.Cells.{HasSameCells, name_same, shows_same}
+use Rattle.slice_driver.proofs.basics.NamesWeakly.{names_weakly_on}
 use Rattle.slice_driver.proofs.basics.Rows.{rows_same}
 
 -- what lies in a world does not tell what runs in it
@@ -22,7 +23,7 @@ lies_running h w o p l = record {
   part = record { well_formed = l.part.well_formed; part = l.part.part; here = l.part.here };
   places_are = l.places_are;
   owner_is = l.owner_is;
-  weak_is = l.weak_is;
+  weak_are = l.weak_are;
   out_is = l.out_is;
   white_are = l.white_are;
 }
@@ -42,9 +43,9 @@ unswept_same s t p x e u = record {
   name_is = u.name_is;
 }
 
-pub lies_same : (h k : HeapState) (w : World) → HasSameCells h k → k.shape.arenas ≡ h.shape.arenas → LiesIn h w
-    → LiesIn k w
-lies_same h k w same e l = record {
+pub lies_same : (h k : HeapState) (w : World) → HasSameCells h k → k.shape.arenas ≡ h.shape.arenas
+    → k.weak_names ≡ h.weak_names → LiesIn h w → LiesIn k w
+lies_same h k w same e weak l = record {
   whole = subst (λ (xs : List ArenaShape). AreWhole xs) (sym e) l.whole;
   graph = l.graph;
   shown = shows_same h k same l.graph l.shown;
@@ -54,7 +55,8 @@ lies_same h k w same e l = record {
     λ named. (l.places_are x p).1 (sym (name_same h k same p) ∙ named),
   );
   owner_is = l.owner_is ∙ ap owners_of (sym e);
-  weak_is = l.weak_is;
+  weak_are = names_weakly_on h.shape k.shape (λ p x at. name_same h k same p ∙ at) h.weak_names k.weak_names w.weak
+      w.weak weak refl l.weak_are;
   out_is = l.out_is ∙ ap (outs_from 0) (sym e);
   white_are = λ x p. (
     (λ c. unswept_same h.shape k.shape p x e ((l.white_are x p).0 c)),
@@ -71,10 +73,10 @@ flies_same s t flown e f = record {
 }
 
 pub placed_same : (h k : HeapState) (w : World) → HasSameCells h k → k.shape.arenas ≡ h.shape.arenas
-    → k.delayed ≡ h.delayed → IsPlaced h w → IsPlaced k w
-placed_same h k w same e delayed i = record {
+    → k.delayed ≡ h.delayed → k.weak_names ≡ h.weak_names → IsPlaced h w → IsPlaced k w
+placed_same h k w same e delayed weak i = record {
   delayed = delayed ∙ i.delayed;
-  lies = lies_same h k w same e i.lies;
+  lies = lies_same h k w same e weak i.lies;
   homes = rows_same h.shape k.shape same.weak e i.homes;
 }
 

@@ -180,6 +180,7 @@ module _ (c d : CollectorState) (zone : ℕ) (flown : ℕ → Option Bits) (w : 
   begins_quiet = record {
     shape_is = ap (λ (z : HeapState). z.shape) b.heap_is;
     made_is = ap (λ (z : HeapState). z.made) b.heap_is;
+    weak_names_is = ap (λ (z : HeapState). z.weak_names) b.heap_is;
     delayed_is = ap (λ (z : HeapState). z.delayed) b.heap_is;
     run_is = b.run_is;
     groups_is = b.groups_is;

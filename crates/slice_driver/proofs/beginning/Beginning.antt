@@ -51,6 +51,7 @@ use Rattle.slice_driver.specs.Begins.{BeginsMarking, IsWithin}
 use Rattle.slice_driver.proofs.abstraction.Named.{AreSameStarts, closure_present, named_present, present_named}
 use Rattle.slice_driver.proofs.abstraction.Named.{same_reached, some_one}
 use Rattle.slice_driver.proofs.abstraction.Lying.{zone_named}
+use Rattle.slice_driver.proofs.basics.NamesWeakly.{names_weakly_on}
 use Rattle.slice_driver.proofs.basics.Woken.{reached_kept}
 use Rattle.slice_driver.proofs.abstraction.Keeping.{stay_same}
 use Rattle.arena_table.specs.Cells.{CellState}
@@ -656,7 +657,9 @@ module _ (h : HeapState) (old : Piles) (w v : World) (zones : ZoneSet) (k : Heap
     places_are = subst (λ (s : Shape). (x : Name) (p : Place) → (places.get w.places x ≡ Some p)
         ↔ (name_at s p ≡ Some x)) (sym b.shape_is) l.places_are;
     owner_is = l.owner_is ∙ ap (λ (s : Shape). owners_of s.arenas) (sym b.shape_is);
-    weak_is = l.weak_is;
+    weak_are = names_weakly_on h.shape k.shape (λ p x at. (stay_same h.shape k.shape
+        (ap (λ (s : Shape). s.arenas) b.shape_is) l.whole).names p ∙ at) h.weak_names k.weak_names w.weak w.weak
+        b.weak_names_is refl l.weak_are;
     out_is = l.out_is ∙ ap (λ (s : Shape). outs_from 0 s.arenas) (sym b.shape_is);
     white_are = λ x p. (let same = (stay_same h.shape k.shape (ap (λ (s : Shape). s.arenas) b.shape_is) l.whole).unswept
         p x in (

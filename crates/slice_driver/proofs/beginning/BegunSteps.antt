@@ -368,6 +368,7 @@ module _ (c : CollectorState) (zones : ZoneSet) (at : IsStarting c zones) (buffe
         begins = record {
           shape_is = ap (λ (s : Shape). record s { states = states }) shape_last;
           made_is = ap (λ (x : HeapState). x.made) both.rest;
+          weak_names_is = ap (λ (x : HeapState). x.weak_names) both.rest;
           ledger_is = ap (λ (x : HeapState). x.ledger) both.rest;
           delayed_is = ap (λ (x : HeapState). x.delayed) both.rest;
           looks_is = ap (λ (x : HeapState). x.looks) both.rest;

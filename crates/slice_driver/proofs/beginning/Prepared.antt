@@ -47,13 +47,14 @@ use Rattle.slice_driver.proofs.abstraction.Named.{some_one}
 use Rattle.slice_driver.proofs.abstraction.Waits.{none_in_it}
 use Rattle.slice_driver.proofs.basics.Cells.{HasSameCells}
 use Rattle.slice_driver.proofs.basics.Marks.{HasSameMarks, coloured_kept}
+use Rattle.slice_driver.proofs.basics.Owners.{owner_by}
 use Rattle.slice_driver.proofs.basics.Rows.{rows_same}
 use Rattle.slice_driver.proofs.basics.Worlds.{lies_same, swept_same}
 use Rattle.slice_driver.proofs.abstraction.Phases.{marking_of, none_idle}
 use Rattle.slice_driver.proofs.beginning.Beginning.{zones_placed}
 use Rattle.slice_driver.proofs.beginning.Begun.{none_runs}
 use Rattle.slice_driver.proofs.beginning.BeginsIn.{prepares_in}
-use Rattle.slice_driver.proofs.group_end.Cells.{listed_zones}
+use Rattle.slice_driver.proofs.group_end.Cells.{listed_owners}
 use Rattle.slice_driver.proofs.clearing.ToCome.{to_come_is}
 use Rattle.slice_driver.proofs.grouping.Looks.{own_heap}
 use Rattle.slice_driver.proofs.taking_in.Runs.{has_zone_or_not}
@@ -215,7 +216,8 @@ module _ (c : CollectorState) (flown : ℕ → Option Bits) (w v : World) (zones
     placed = record {
       delayed = ap (λ (z : HeapState). z.delayed) on.rest ∙ rep.placed.delayed;
       lies = subst (λ (u : World). LiesIn k u) (sym prepares.world_is)
-          (lies_prepared k w v (lies_same c.heap k w same_cells arenas_same rep.placed.lies));
+          (lies_prepared k w v (lies_same c.heap k w same_cells arenas_same
+          (ap (λ (z : HeapState). z.weak_names) on.rest) rep.placed.lies));
       homes = rows_same c.heap.shape k.shape same_cells.weak arenas_same rep.placed.homes;
     };
     swept = swept_same c.heap.shape k.shape flown arenas_same rep.swept;
@@ -264,7 +266,7 @@ module _ (c : CollectorState) (flown : ℕ → Option Bits) (w v : World) (zones
         part = record { well_formed = l.part.well_formed; part = l.part.part; here = l.part.here };
         places_are = l.places_are;
         owner_is = l.owner_is;
-        weak_is = l.weak_is;
+        weak_are = l.weak_are;
         out_is = l.out_is;
         white_are = l.white_are;
       }
@@ -305,13 +307,13 @@ owned_counted s zones small (x ∷ arenas) from same =
     let start : from ≡ from + 0 = omega arith in
     let at : slice_get s.arenas from ≡ Some x = ap (slice_get s.arenas) start ∙ same 0 in
     let here : ◌≡◌ {A = ℕ} (if is_owned s zones.bits from then 1 else 0)
-    (cond (is_among (zones_in zones) (Some x.zone)) 1 0) =
-    ap {B = ℕ} (λ (b : Bool). cond b 1 0) (ap (is_owned_in zones.bits) at ∙ sym (listed_zones zones small x.zone)) in
+    (cond (is_among (zones_in zones) (owner_by x.zone)) 1 0) =
+    ap {B = ℕ} (λ (b : Bool). cond b 1 0) (ap (is_owned_in zones.bits) at ∙ sym (listed_owners zones small x.zone)) in
     let rest = owned_counted s zones small arenas (suc from)
     (λ i. (let next : suc from + i ≡ from + suc i = omega arith in
     ap (slice_get s.arenas) next ∙ same (suc i))) in
-    let both = sum_by-cons (λ (o : Option ℕ). cond (is_among (zones_in zones) o) 1 0) (Some x.zone) (owners_of arenas)
-    in
+    let both = sum_by-cons (λ (o : Option ℕ). cond (is_among (zones_in zones) o) 1 0) (owner_by x.zone)
+    (owners_of arenas) in
     omega (arith, here, rest, both)
 
 -- what is to come of it is within its arenas

@@ -41,6 +41,7 @@ use Rattle.slice_driver.specs.Represents.{NothingLeft, RepresentsMarking, RunsAs
 use Rattle.slice_driver.specs.Units as flight
 use Rattle.slice_driver.proofs.abstraction.Waits.{none_waiting}
 use Rattle.slice_driver.proofs.basics.LeftLooks.{none_of}
+use Rattle.slice_driver.proofs.basics.NamesWeakly.{nothing_weak}
 use Rattle.slice_driver.proofs.abstraction.Crossing.{same_part}
 
 pub no_buffer : (n z : ℕ) → slice_index_or (replicate {A = List Place} n []) z [] ≡ []
@@ -110,7 +111,7 @@ module _ (c : CollectorState) (e : IsEmpty c.heap) where
       λ is. absurd (cc (no_name c.heap e p, is)),
     );
     owner_is = sym (ap owners_of e.arenas);
-    weak_is = refl;
+    weak_are = nothing_weak c.heap.shape c.heap.weak_names e.weak_names;
     out_is = sym (ap (outs_from 0) e.arenas);
     white_are = λ x p. (
       (λ has. absurd (nothing_in_none {X = Name × (ℕ × ℕ)} (x, p) has)),
@@ -235,6 +236,7 @@ empty_viewed h e = record {
   made = e.made;
   looks = e.looks;
   delayed = refl;
+  weak_names = e.weak_names;
   ledger = e.ledger;
 }
 

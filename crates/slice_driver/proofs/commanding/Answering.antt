@@ -98,7 +98,7 @@ use Rattle.slice_driver.proofs.abstraction.Serving.{serves}
 use Rattle.slice_driver.proofs.commanding.Through.{IsReached, represents_exposed, represents_through}
 use Rattle.slice_driver.proofs.commanding.Through.{represents_widened}
 use Rattle.slice_driver.proofs.abstraction.Tying.{objects_grow, tied_exposed, tied_made, tied_served}
-use Rattle.slice_driver.proofs.commanding.Viewed.{delayed_kept}
+use Rattle.slice_driver.proofs.commanding.Viewed.{delayed_kept, weak_names_kept}
 use Rattle.slice_driver.proofs.commanding.Waking.{does_found, does_made}
 use Rattle.slice_driver.proofs.basics.Woken.{made_black, one_spreads, others_keep, reached_kept}
 
@@ -307,7 +307,7 @@ module _ (b : CollectorState) (flown : ℕ → Option Bits) (command : GraphCmd)
           λ black. ap (λ (bs : List Bits). colour_in (slice_get (with_flown flying 0 bs) p.0) p.1) colours ∙ black,
         ) in
         let done : DoesInWorld w command answer new es = does_quiet w m new command answer (with_flown flying 0 ds) es
-        ok lies rep.phase.calm there.phase.black does stay wakes same in
+        ok lies rep.phase.calm there.phase.black does stay (weak_names_kept m new ch answer change) wakes same in
         let none : woken_by w.graph command ≡ None = woken_in w m command None ok lies wakes in
         represents_after done stay.unswept there.swept.flies there.coloured.waits
         (runs_all done (names_stay m.shape new.shape stay) b.run w.collection refl there.phase.runs
@@ -376,7 +376,8 @@ module _ (b : CollectorState) (flown : ℕ → Option Bits) (command : GraphCmd)
 
         done : DoesInWorld w command answer new es
         done = does_found w m new command answer (with_flown flown 0 b.heap.colours) es p x ok lies
-            rep.phase.calm rep.coloured.marks.holds.colours (λ s. rep.phase.black s) does stay wakes named spreads
+            rep.phase.calm rep.coloured.marks.holds.colours (λ s. rep.phase.black s) does stay
+            (weak_names_kept m new ch answer change) wakes named spreads
 
         woken : woken_by w.graph command ≡ Some x
         woken = woken_in w m command (Some x) ok lies wakes
@@ -522,7 +523,7 @@ module _ (b : CollectorState) (flown : ℕ → Option Bits) (command : GraphCmd)
         done : DoesInWorld w command answer new es
         done = does_made w m new command answer (with_flown flying 0 ds) es p x ok lies rep.phase.calm
             there.coloured.marks.holds.colours
-            (λ s. there.phase.black s) zone does comes wakes spreads
+            (λ s. there.phase.black s) zone does comes (weak_names_kept m new ch answer change) wakes spreads
 
         woken : woken_by w.graph command ≡ Some x
         woken = woken_in w m command (Some x) ok lies wakes

@@ -81,6 +81,7 @@ module _ (old : HeapState) (flown : ℕ → Option Bits) (covers : Covers old.sh
     grown = m.grown;
     coloured = flown_length flown 0 new.colours ∙ m.coloured;
     zone_is = m.zone_is;
+    below = m.below;
     zones = m.zones;
     outs = m.outs;
     in_place = m.in_place;

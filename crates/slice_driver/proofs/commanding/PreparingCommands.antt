@@ -69,7 +69,7 @@ use Rattle.slice_driver.proofs.commanding.PreparingChanges.{GraphStays, KeepsCou
 use Rattle.slice_driver.proofs.commanding.PreparingChanges.{bears_stays, bears_was, graph_same, keeps_counts}
 use Rattle.slice_driver.proofs.commanding.PreparingChanges.{reached_stays}
 use Rattle.slice_driver.proofs.commanding.Quiet.{lies_still}
-use Rattle.slice_driver.proofs.commanding.Viewed.{delayed_kept}
+use Rattle.slice_driver.proofs.commanding.Viewed.{delayed_kept, weak_names_kept}
 use Rattle.slice_driver.proofs.commanding.Waking.{has_made, lies_made, there_made}
 use Rattle.slice_driver.proofs.taking_in.Runs.{has_zone_or_not}
 use Rattle.slice_driver.proofs.clearing.ClearingUnits.{preparing_of}
@@ -101,7 +101,7 @@ same_owned word (x ∷ xs) [] a lt le e = absurd (omega (arith, le))
 same_owned word (x ∷ xs) (y ∷ ys) zero lt le e = ap (in_zones word) e
 same_owned word (x ∷ xs) (y ∷ ys) (suc a) lt le e = same_owned word xs ys a (omega (arith, lt)) (omega (arith, le)) e
 
-owned_same : (s t : Shape) (word from n : ℕ)
+pub owned_same : (s t : Shape) (word from n : ℕ)
     → ((a : ℕ) → from ≤ a → a < from + n → is_owned t word a ≡ is_owned s word a)
     → owned_from t word from n ≡ owned_from s word from n
 unfolding owned_from
@@ -112,7 +112,7 @@ owned_same s t word from (suc n) same =
     omega (arith, here, rest)
 
 -- which starts a command wakes
-wakes_as : (w v : World) (p : Preparation) (S T : Name → Type 0) → ((x : Name) → S x ↔ T x) → WakesLeftOut w p S v
+pub wakes_as : (w v : World) (p : Preparation) (S T : Name → Type 0) → ((x : Name) → S x ↔ T x) → WakesLeftOut w p S v
     → WakesLeftOut w p T v
 wakes_as w v p S T same wakes y = (
   λ has. starts_as (λ s. Has w.black s ⊎ S s) (λ s. Has w.black s ⊎ T s)
@@ -508,7 +508,7 @@ module _ (c : CollectorState) (flown : ℕ → Option Bits) (command : GraphCmd)
       part = record { well_formed = lies.part.well_formed; part = lies.part.part; here = lies.part.here };
       places_are = lies.places_are;
       owner_is = lies.owner_is;
-      weak_is = lies.weak_is;
+      weak_are = lies.weak_are;
       out_is = lies.out_is;
       white_are = lies.white_are;
     })
@@ -588,6 +588,9 @@ module _ (c : CollectorState) (flown : ℕ → Option Bits) (command : GraphCmd)
     delayed_ok : k.delayed ≡ m.delayed
     delayed_ok = delayed_kept m k ch answer change_ok
 
+    named_ok : k.weak_names ≡ m.weak_names
+    named_ok = weak_names_kept m k ch answer change_ok
+
     looks_ok : NothingLeft c.heap.looks
         → NothingLeft k.looks
     looks_ok nothing = nothing_changed m k ch answer change_ok
@@ -622,7 +625,7 @@ module _ (c : CollectorState) (flown : ℕ → Option Bits) (command : GraphCmd)
       still = record w { graph = (step_of w.graph command).0 }
 
       lies_quiet : LiesIn k still
-      lies_quiet = lies_still w still m k command answer lies step stay refl refl refl refl refl refl
+      lies_quiet = lies_still w still m k command answer lies step stay named_ok refl refl refl refl refl refl
 
       -- all that was exposed was black
       black_exposed : (q : Place) → Counts c.heap.shape q → Exposes q → IsBlack c.heap q
@@ -682,7 +685,7 @@ module _ (c : CollectorState) (flown : ℕ → Option Bits) (command : GraphCmd)
         found = record w { graph = (step_of w.graph command).0; black = left_out_names k w.places }
 
         lies_found : LiesIn k found
-        lies_found = lies_still w found m k command answer lies step stay refl refl refl refl refl refl
+        lies_found = lies_still w found m k command answer lies step stay named_ok refl refl refl refl refl refl
 
         woken_found : IsWokenIn c.heap k w p woken also
         woken_found = is_woken keeps_ok woken also (λ q x e. stay.names q ∙ e) (graph_same m.shape k.shape arenas weak)
@@ -741,7 +744,7 @@ module _ (c : CollectorState) (flown : ℕ → Option Bits) (command : GraphCmd)
       }
 
       lies_new : LiesIn k made
-      lies_new = lies_made w m k command answer q x lies made step zone comes refl refl refl refl refl refl
+      lies_new = lies_made w m k command answer q x lies made step zone comes named_ok refl refl refl refl refl refl
 
       names_kept : (r : Place) (y : Name) → name_at m.shape r ≡ Some y → name_at k.shape r ≡ Some y
       names_kept = (there_made w m k command answer q x lies zone comes).kept

@@ -18,6 +18,7 @@ use Rattle.slice_driver.specs.Worlds.{LiesIn}
 use Rattle.slice_driver.specs.Closures.{AreBlack}
 use Rattle.slice_driver.specs.Commands.{DoesInWorld, StayInPlace, Wakes, waking, with_colours}
 use Rattle.slice_driver.proofs.abstraction.Named.{named_present}
+use Rattle.slice_driver.proofs.basics.NamesWeakly.{names_weakly_on}
 use Rattle.slice_driver.proofs.abstraction.Lying.{IsStepIn, command_accepted, lies_from, step_in, woken_in}
 
 pub counted_marking : (w : World) (c : GraphCmd) (o : Option Collection)
@@ -27,9 +28,10 @@ counted_marking w c (Some k) = refl
 
 -- where all cells stay in place, the heap lies in each world with the graph after the step, and else as before
 pub lies_still : (w v : World) (old new : HeapState) (c : GraphCmd) (answer : Reply) (l : LiesIn old w)
-    → IsStepIn w old new c answer l → StayInPlace old.shape new.shape → v.graph ≡ (step_of w.graph c).0
-    → v.places ≡ w.places → v.owner ≡ w.owner → v.weak ≡ w.weak → v.out ≡ w.out → v.white ≡ w.white → LiesIn new v
-lies_still w v old new c answer l step stay graph at owner weak out white =
+    → IsStepIn w old new c answer l → StayInPlace old.shape new.shape → new.weak_names ≡ old.weak_names
+    → v.graph ≡ (step_of w.graph c).0 → v.places ≡ w.places → v.owner ≡ w.owner → v.weak ≡ w.weak → v.out ≡ w.out
+    → v.white ≡ w.white → LiesIn new v
+lies_still w v old new c answer l step stay named graph at owner weak out white =
     lies_from new (step_of l.graph c).0 v step.shown step.well_formed
     (subst (λ g. IsPartOf g (step_of l.graph c).0) (sym graph) step.part) stay.whole
     (λ x p. (
@@ -37,7 +39,8 @@ lies_still w v old new c answer l step stay graph at owner weak out white =
       λ e. ap (λ m. places.get m x) at ∙ (l.places_are x p).1 (sym (stay.names p) ∙ e),
     ))
     (owner ∙ (l.owner_is ∙ sym stay.owners))
-    (weak ∙ l.weak_is)
+    (names_weakly_on old.shape new.shape (λ p x e. stay.names p ∙ e) old.weak_names new.weak_names w.weak v.weak named
+    weak l.weak_are)
     (out ∙ (l.out_is ∙ sym stay.outs))
     (λ x p. (
       λ has. (stay.unswept p x).1
@@ -49,17 +52,17 @@ lies_still w v old new c answer l step stay graph at owner weak out white =
 pub does_quiet : (w : World) (old new : HeapState) (c : GraphCmd) (answer : Reply) (ds es : List Bits) → IsValid w
     → LiesIn old w → w.preparing ≡ None → (IsSettled w → AreBlack (with_colours old ds) w) → DoesStep old c
     (Ok answer) new
-    → StayInPlace old.shape new.shape → Wakes old c None
+    → StayInPlace old.shape new.shape → new.weak_names ≡ old.weak_names → Wakes old c None
     → ((p : Place) → IsPresent old.shape p → IsBlack (with_colours new es) p ↔ IsBlack (with_colours old ds) p)
     → DoesInWorld w c answer new es
-does_quiet w old new c answer ds es ok l calm black does stay quiet same =
+does_quiet w old new c answer ds es ok l calm black does stay named quiet same =
     let step = step_in w old new c answer ok l does in
     let none : woken_by w.graph c ≡ None = woken_in w old c None ok l quiet in
     let v : World = record w { graph = (step_of w.graph c).0; collection = with_counts w.graph c w.collection } in
     record {
       after = v;
       command = command_accepted w v c answer None calm step.answer_is step.accepted none refl;
-      lies = lies_still w v old new c answer l step stay refl refl refl refl refl refl;
+      lies = lies_still w v old new c answer l step stay named refl refl refl refl refl refl;
       black = λ settled x p e. (
           let was : name_at old.shape p ≡ Some x = sym (stay.names p) ∙ e in
           let both = black (record {

@@ -32,7 +32,7 @@ unfolding units_to_come units_at
 widened_to_come c d flown wide = ap (λ (e : CollectorState). units_to_come e flown) wide.rest
 
 -- a barrier raises nothing of it
-through_to_come : (o : Option Place) (c : CollectorState) (flown : ℕ → Option Bits) (d : CollectorState)
+pub through_to_come : (o : Option Place) (c : CollectorState) (flown : ℕ → Option Bits) (d : CollectorState)
     (flying : ℕ → Option Bits) (w : World) → GoesThrough o c flown d flying → RepresentsMarking c flown w
     → units_to_come d flying ≤ units_to_come c flown
 unfolding units_to_come

@@ -48,6 +48,7 @@ module _ (c : CollectorState) (flown : ℕ → Option Bits) (w : World) (rep : R
   marked_spread bl inv gray live = record {
     shape_is = ap (λ (z : HeapState). z.shape) bl.rest;
     made_is = ap (λ (z : HeapState). z.made) bl.rest;
+    weak_names_is = ap (λ (z : HeapState). z.weak_names) bl.rest;
     ledger_is = ap (λ (z : HeapState). z.ledger) bl.rest;
     delayed_is = delayed;
     edges_is = refl;
@@ -160,6 +161,7 @@ represents_widened c d flown w wide rep =
     m = record {
       shape_is = refl;
       made_is = refl;
+      weak_names_is = refl;
       ledger_is = refl;
       delayed_is = refl;
       edges_is = refl;

@@ -8,6 +8,7 @@ use Rattle.gz_names.specs.declared.replies.Reply.{Reply}
 use Rattle.gz_names.specs.declared.replies.Refusal.{Refusal}
 use Rattle.mark_stack.specs.Stack.{Piles}
 use Rattle.arena_table.specs.Cells.{CellState}
+use Rattle.weak_refs.specs.WeakNames.{WeakNamesState}
 use Rattle.heap_core.specs.declared.plans.Change.{Change}
 use Rattle.heap_core.specs.declared.plans.Change.TheVariants as change
 use Rattle.heap_core.specs.Answers.{IsSound}
@@ -32,6 +33,9 @@ delayed_of h = h.delayed
 abbrev ledger_of : HeapState → Option ℕ
 ledger_of h = h.ledger
 
+abbrev weak_names_of : HeapState → WeakNamesState
+weak_names_of h = h.weak_names
+
 -- a change
 module _ (old new : HeapState) where
   writes_viewed : (p : Place) (f : ℕ) (v : Option Place) → Writes old p f v new
@@ -55,6 +59,7 @@ module _ (old new : HeapState) where
     grown = m.grown;
     coloured = m.coloured;
     zone_is = m.zone_is;
+    below = m.below;
     zones = m.zones;
     outs = m.outs;
     in_place = m.in_place;
@@ -147,6 +152,19 @@ module _ (old new : HeapState) where
   delayed_kept (change.Field p f v) answer by = ap delayed_of by.0.rest
   delayed_kept (change.Put m k v) answer by = ap delayed_of by.0.rest
   delayed_kept (change.Del m k) answer by = ap delayed_of by.0.rest
+
+  -- what is named weakly
+  pub weak_names_kept : (ch : Change) (answer : Reply) → ChangesBy old ch answer new → new.weak_names ≡ old.weak_names
+  weak_names_kept change.Zone answer by = ap weak_names_of by.0
+  weak_names_kept (change.Comp z) answer by = ap weak_names_of by.0
+  weak_names_kept (change.Cell r z c k) answer by = ap weak_names_of by.0.rest ∙ ap weak_names_of by.0.makes.rest
+  weak_names_kept (change.Wrapper r z c t) answer by = ap weak_names_of by.0.rest
+      ∙ (ap weak_names_of by.0.makes.rest ∙ ap weak_names_of by.0.makes.makes.rest)
+  weak_names_kept (change.Register r v named) answer by = ap weak_names_of by.0
+  weak_names_kept (change.Slot g v) answer by = ap weak_names_of by.0
+  weak_names_kept (change.Field p f v) answer by = ap weak_names_of by.0.rest
+  weak_names_kept (change.Put m k v) answer by = ap weak_names_of by.0.rest
+  weak_names_kept (change.Del m k) answer by = ap weak_names_of by.0.rest
 
   -- and the ledger in which edges are counted
   pub ledger_kept : (ch : Change) (answer : Reply) → ChangesBy old ch answer new → new.ledger ≡ old.ledger

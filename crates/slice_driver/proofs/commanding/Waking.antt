@@ -27,6 +27,7 @@ use Rattle.barriers.specs.Invariant.{ColourInvariant}
 use Rattle.slice_driver.specs.Worlds.{LiesIn, owners_of}
 use Rattle.slice_driver.specs.Closures.{AreBlack}
 use Rattle.slice_driver.specs.Commands.{ComesTo, DoesInWorld, StayInPlace, Wakes, waking, with_colours}
+use Rattle.slice_driver.proofs.basics.NamesWeakly.{names_weakly_on}
 use Rattle.slice_driver.proofs.abstraction.Named.{AreSameStarts, name_of, named_present, place_of, present_named}
 use Rattle.slice_driver.proofs.abstraction.Named.{same_reached, some_one}
 use Rattle.slice_driver.proofs.abstraction.BlackNames.{black_named, black_names, named_black}
@@ -121,9 +122,9 @@ module _ (w : World) (old new : HeapState) (c : GraphCmd) (answer : Reply) (p : 
         ]
 
     pub lies_made : (v : World) → IsStepIn w old new c answer l → (zone : ℕ) → ComesTo old.shape new.shape zone p x
-        → v.graph ≡ (step_of w.graph c).0 → v.places ≡ placed → v.owner ≡ owners_of new.shape.arenas → v.weak ≡ w.weak
-        → v.out ≡ w.out → v.white ≡ w.white → LiesIn new v
-    lies_made v step zone m graph at owner weak out white =
+        → new.weak_names ≡ old.weak_names → v.graph ≡ (step_of w.graph c).0 → v.places ≡ placed
+        → v.owner ≡ owners_of new.shape.arenas → v.weak ≡ w.weak → v.out ≡ w.out → v.white ≡ w.white → LiesIn new v
+    lies_made v step zone m named graph at owner weak out white =
         lies_from new (step_of l.graph c).0 v step.shown step.well_formed
         (subst (λ g. IsPartOf g (step_of l.graph c).0) (sym graph) step.part) m.whole
         (λ y q. (
@@ -131,7 +132,8 @@ module _ (w : World) (old new : HeapState) (c : GraphCmd) (answer : Reply) (p : 
           λ e. ap (λ ps. places.get ps y) at ∙ (placed_are step zone m y q).1 e,
         ))
         owner
-        (weak ∙ l.weak_is)
+        (names_weakly_on old.shape new.shape (there_made zone m).kept old.weak_names new.weak_names w.weak v.weak named
+        weak l.weak_are)
         (out ∙ (l.out_is ∙ sym m.outs))
         (λ y q. (
           λ has. (m.unswept q y).1
@@ -155,7 +157,7 @@ module _ (w : World) (old new : HeapState) (c : GraphCmd) (answer : Reply) (p : 
             zone_named new (step_of l.graph c).0 (step_of w.graph c).0 p x step.shown step.part
                 is.named ∙ ap (λ z. Some z) m.zone_is,
             subst (λ o. IsPlaceFor w zone p o) (sym owner)
-                (place_is_for old w l zone p (owners_of new.shape.arenas) m.place_is m.owners),
+                (place_is_for old w l zone p (owners_of new.shape.arenas) m.below m.place_is m.owners),
             at,
           );
           out_is = out;
@@ -164,37 +166,47 @@ module _ (w : World) (old new : HeapState) (c : GraphCmd) (answer : Reply) (p : 
           preparing_is = preparing;
         }
 
+-- a heap lies in a valid world in which nothing is marked, and its black cells are the black ones there
+pub record IsBlackHere (w : World) (old : HeapState) (ds : List Bits) : Type 0 where
+  pub valid : IsValid w
+  pub lies : LiesIn old w
+  pub colours : ColourInvariant (with_colours old ds)
+  pub settled : IsSettled w
+  pub black : AreBlack (with_colours old ds) w
+
+-- so black spreads from the same cells as it does there
+pub starts_same : (w : World) (old new : HeapState) (ds : List Bits) (p : Place) (x : Name) (v : World)
+    → IsBlackHere w old ds → LiesIn new v → IsThere old.shape new.shape p x
+    → AreSameStarts new v (BlackOr (with_colours old ds) p) (λ s. Has w.black s ⊎ (x ≡ s))
+starts_same w old new ds p x v here lv is = record {
+  same = λ q y e. (
+    λ s. elim s [
+      | inr at ↦ inr (some_one _ _ (sym is.named ∙ (ap (name_at new.shape) (sym at) ∙ e)))
+      | inl b ↦ elim (is.fresh q y e) [ inl was ↦ inl ((here.black y q was).1 b) | inr n ↦ inr n.1 ]
+    ],
+    λ s. elim s [
+      | inr same ↦ inr (lv.shown.apart q p x (e ∙ ap (λ z. Some z) (sym same)) is.named)
+      | inl has ↦ (let at = place_of old w here.lies y ((here.valid.settled here.settled).present y has) in
+          inl (subst (IsBlack (with_colours old ds)) (lv.shown.apart at.0 q y (is.kept at.0 y at.1) e)
+          ((here.black y at.0 at.1).0 has)))
+    ],
+  );
+  placed = λ q s. elim s [
+    | inl b ↦ (let n = name_of old.shape q (here.colours.seen_present q (inr b)) in
+        named_present new.shape q n.0 (is.kept q n.0 n.1))
+    | inr at ↦ subst (IsPresent new.shape) (sym at) (named_present new.shape p x is.named)
+  ];
+  named = λ y s. elim s [
+    | inl has ↦ (let at = place_of old w here.lies y ((here.valid.settled here.settled).present y has) in
+        present_named new v lv at.0 y (is.kept at.0 y at.1))
+    | inr same ↦ subst (world.IsPresent v) same (present_named new v lv p x is.named)
+  ];
+}
+
 module _ (w : World) (old new : HeapState) (c : GraphCmd) (answer : Reply) (ds es : List Bits) (p : Place) (x : Name)
     (ok : IsValid w) (l : LiesIn old w) (calm : w.preparing ≡ None) (colours : ColourInvariant (with_colours old ds))
     (black : IsSettled w
     → AreBlack (with_colours old ds) w) where
-  starts_same : (v : World) → LiesIn new v → IsThere old.shape new.shape p x → IsSettled w
-      → AreSameStarts new v (BlackOr (with_colours old ds) p) (λ s. Has w.black s ⊎ (x ≡ s))
-  starts_same v lv is settled = record {
-    same = λ q y e. (
-      λ s. elim s [
-        | inr at ↦ inr (some_one _ _ (sym is.named ∙ (ap (name_at new.shape) (sym at) ∙ e)))
-        | inl b ↦ elim (is.fresh q y e) [ inl was ↦ inl ((black settled y q was).1 b) | inr n ↦ inr n.1 ]
-      ],
-      λ s. elim s [
-        | inr same ↦ inr (lv.shown.apart q p x (e ∙ ap (λ z. Some z) (sym same)) is.named)
-        | inl has ↦ (let at = place_of old w l y ((ok.settled settled).present y has) in
-            inl (subst (IsBlack (with_colours old ds)) (lv.shown.apart at.0 q y (is.kept at.0 y at.1) e)
-            ((black settled y at.0 at.1).0 has)))
-      ],
-    );
-    placed = λ q s. elim s [
-      | inl b ↦ (let n = name_of old.shape q (colours.seen_present q (inr b)) in
-          named_present new.shape q n.0 (is.kept q n.0 n.1))
-      | inr at ↦ subst (IsPresent new.shape) (sym at) (named_present new.shape p x is.named)
-    ];
-    named = λ y s. elim s [
-      | inl has ↦ (let at = place_of old w l y ((ok.settled settled).present y has) in
-          present_named new v lv at.0 y (is.kept at.0 y at.1))
-      | inr same ↦ subst (world.IsPresent v) same (present_named new v lv p x is.named)
-    ];
-  }
-
   module _ (at : places.FinMap name_cmp (ℕ × ℕ)) (owner : List (Option ℕ)) (step : IsStepIn w old new c answer l)
       (is : IsThere old.shape new.shape p x) (wakes : woken_by w.graph c ≡ Some x) (lies : (b : Names)
       → LiesIn new (world_after w c x at owner b))
@@ -229,7 +241,13 @@ module _ (w : World) (old new : HeapState) (c : GraphCmd) (answer : Reply) (ds e
         let lv : LiesIn new v = lies (black_names k at) in
         let P : Place → Type 0 = BlackOr (with_colours old ds) p in
         let Q : Name → Type 0 = λ s. Has w.black s ⊎ (x ≡ s) in
-        let st : AreSameStarts new v P Q = starts_same v lv is settled in
+        let st : AreSameStarts new v P Q = starts_same w old new ds p x v (record {
+          valid = ok;
+          lies = l;
+          colours = colours;
+          settled = settled;
+          black = black settled;
+        }) lv is in
         does_in (black_names k at)
         (subst (λ zs. world.Wakes w (with_counts w.graph c w.collection) zs (step_of w.graph c).0 x v)
         (sym settled.none_marking) (
@@ -262,11 +280,11 @@ module _ (w : World) (old new : HeapState) (c : GraphCmd) (answer : Reply) (ds e
             (λ settled. absurd (cc (settled.none_marking, e)))
 
   -- the cell was there
-  pub does_found : DoesStep old c (Ok answer) new → StayInPlace old.shape new.shape → Wakes old c (Some x)
-      → name_at old.shape p ≡ Some x
+  pub does_found : DoesStep old c (Ok answer) new → StayInPlace old.shape new.shape → new.weak_names ≡ old.weak_names
+      → Wakes old c (Some x) → name_at old.shape p ≡ Some x
       → (IsSettled w → (q : Place) → IsBlack (with_colours new es) q
       ↔ Reached new.shape (BlackOr (with_colours old ds) p) q) → DoesInWorld w c answer new es
-  does_found does stay wakes e spread =
+  does_found does stay named wakes e spread =
       let step = step_in w old new c answer ok l does in
       does_waking w.places w.owner step
       (record {
@@ -275,8 +293,8 @@ module _ (w : World) (old new : HeapState) (c : GraphCmd) (answer : Reply) (ds e
         fresh = λ q y now. inl (sym (stay.names q) ∙ now);
       })
       (woken_in w old c (Some x) ok l wakes)
-      (λ b. lies_still w (world_after w c x w.places w.owner b) old new c answer l step stay refl refl refl refl refl
-      refl)
+      (λ b. lies_still w (world_after w c x w.places w.owner b) old new c answer l step stay named refl refl refl refl
+      refl refl)
       (λ b. record {
         graph_is = refl;
         found = λ there. (refl, refl);
@@ -290,17 +308,17 @@ module _ (w : World) (old new : HeapState) (c : GraphCmd) (answer : Reply) (ds e
 
   -- the cell was made
   pub does_made : (zone : ℕ) → DoesStep old c (Ok answer) new → ComesTo old.shape new.shape zone p x
-      → Wakes old c (Some x)
+      → new.weak_names ≡ old.weak_names → Wakes old c (Some x)
       → (IsSettled w → (q : Place) → IsBlack (with_colours new es) q
       ↔ Reached new.shape (BlackOr (with_colours old ds) p) q) → DoesInWorld w c answer new es
-  does_made zone does m wakes spread =
+  does_made zone does m named wakes spread =
       let step = step_in w old new c answer ok l does in
       does_waking (places.insert w.places x p) (owners_of new.shape.arenas) step
       (there_made w old new c answer p x l zone m)
       (woken_in w old c (Some x) ok l wakes)
       (λ b. lies_made w old new c answer p x l
-      (world_after w c x (places.insert w.places x p) (owners_of new.shape.arenas) b) step zone m refl refl refl refl
-      refl refl)
+      (world_after w c x (places.insert w.places x p) (owners_of new.shape.arenas) b) step zone m named refl refl refl
+      refl refl refl)
       (λ b. has_made w old new c answer p x l
       (world_after w c x (places.insert w.places x p) (owners_of new.shape.arenas) b) step zone m refl refl refl refl
       refl refl refl)

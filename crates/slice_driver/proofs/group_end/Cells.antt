@@ -1,7 +1,8 @@
 -- What the end of a group leaves of the arenas.
 use Rattle.std.proofs.Common.{◌≡◌, ◌⊎◌, ◌+◌, ◌<◌, ◌==◌, ◌&&◌, if◌then◌else◌, ℕ, zero, suc, Bool, true, false, not, cond}
 use Rattle.std.proofs.Common.{inl, inr, refl, sym, ap, ◌∙◌, arith, eqb, eqb-true, eq-eqb, Option, None, Some, IsSome}
-use Rattle.std.proofs.Common.{is_some, List, [], ◌∷◌, length, slice_get}
+use Rattle.std.proofs.Common.{is_some, List, [], ◌∷◌, length, nat_lt, slice_get}
+use Rattle.std.proofs.lemmas.Bool.{lt-ltb}
 use Rattle.std.specs.Int.{bit_at}
 use Rattle.std.specs.List.{list_any}
 use Rattle.gz_names.specs.Zones.{HasZone, zones_in}
@@ -13,8 +14,9 @@ use Rattle.cell_bits.specs.declared.bits.Colour.TheVariants as colour
 use Rattle.cell_bits.specs.Colours as bits
 use Rattle.arena_table.specs.Cells.{CellState}
 use Rattle.arena_table.specs.Indexed.{in_zones}
-use Rattle.arena_table.specs.Slots.{cell_in}
+use Rattle.arena_table.specs.Slots.{cell_in, no_zone}
 use Rattle.colour_defs.specs.Ends.{arenas_from}
+use Rattle.colour_defs.specs.Graph.{is_among}
 use Rattle.colour_defs.proofs.Membership.{among_from, among_to}
 use Rattle.colour_defs.proofs.ZoneSets.{zones_in-has}
 use Rattle.heap_core.specs.Shape.{ArenaShape, AreWhole, Shape, cell_in_arena, cell_of, is_white, out_in, out_of}
@@ -22,6 +24,7 @@ use Rattle.heap_core.specs.Shape.{present_in, stored_at, stored_in, zone_in, zon
 use Rattle.heap_core.specs.Heap.{HeapState, colour_in, colour_of}
 use Rattle.heap_core.specs.Sweeping.{handed}
 use Rattle.slice_driver.specs.Worlds.{outs_from, owners_of}
+use Rattle.slice_driver.proofs.basics.Owners.{owner_by}
 
 abbrev pub is_white_colour : Colour → Bool
 is_white_colour colour.White = true
@@ -51,6 +54,20 @@ pub listed_zones : (g : ZoneSet) → ((z : ℕ) → bit_at g.bits z ≡ 1 → z 
     → list_any (eqb z) (zones_in g) ≡ in_zones g.bits z
 listed_zones g small z = same_test _ _ (λ e. has_in_zones g z ((zones_in-has g z).0 (among_to z (zones_in g) e)))
     (λ e. among_from z (zones_in g) ((zones_in-has g z).1 (in_zones_has g small z e)))
+
+-- and so by the owner of an arena
+pub listed_owners : (g : ZoneSet) → ((z : ℕ) → bit_at g.bits z ≡ 1 → z < 64) → (z : ℕ)
+    → is_among (zones_in g) (owner_by z) ≡ in_zones g.bits z
+listed_owners g small z = go (nat_lt z no_zone) refl
+  where
+    go : (b : Bool) → nat_lt z no_zone ≡ b
+        → is_among (zones_in g) (if b then Some z else None) ≡ in_zones g.bits z
+    go true e = listed_zones g small z
+    go false e = sym (none (in_zones g.bits z) refl)
+      where
+        none : (t : Bool) → in_zones g.bits z ≡ t → in_zones g.bits z ≡ false
+        none true has = absurd (let lt = lt-ltb z no_zone (small z (eqb-true _ _ has)) in cc (lt, e))
+        none false has = has
 
 pub white_test : (b : Bits) (i : ℕ) → is_white b i ≡ is_white_colour (bits.colour_of b i)
 white_test b i = go (bit_at b.black i == 1) (bit_at b.gob i == 1)
@@ -195,7 +212,7 @@ handed_owners : (word : ℕ) (arenas : List ArenaShape) (colours : List Bits) �
     → owners_of (handed word arenas colours) ≡ owners_of arenas
 handed_owners word [] colours e = refl
 handed_owners word (arena ∷ arenas) [] e = absurd (omega arith)
-handed_owners word (arena ∷ arenas) (own ∷ colours) e = λ i. Some (by (in_zones word arena.zone) i)
+handed_owners word (arena ∷ arenas) (own ∷ colours) e = λ i. owner_by (by (in_zones word arena.zone) i)
     ∷ handed_owners word arenas colours (omega arith) i
   where
     by : (t : Bool) → (cond t (record arena { out = Some own }) arena).zone ≡ arena.zone
@@ -218,6 +235,12 @@ all_kept (arena ∷ arenas) kept n = ap (λ o. cond (is_some o) (n ∷ outs_from
 pub none_out_listed : (s : Shape) → ((a : ℕ) → out_of s a ≡ None) → outs_from 0 s.arenas ≡ []
 none_out_listed s kept = all_kept s.arenas kept 0
 
+-- by the owner of the first arena
+arenas_by : (n : ℕ) (o : Option ℕ) (owner : List (Option ℕ)) (zones : List ℕ) → arenas_from n (o ∷ owner) zones
+    ≡ cond (is_among zones o) (n ∷ arenas_from (n + 1) owner zones) (arenas_from (n + 1) owner zones)
+arenas_by n None owner zones = refl
+arenas_by n (Some z) owner zones = refl
+
 handed_listed : (g : ZoneSet) → ((z : ℕ) → bit_at g.bits z ≡ 1 → z < 64)
     → (arenas : List ArenaShape) (colours : List Bits) → length colours ≡ length arenas
     → ((a : ℕ) → out_in (slice_get arenas a) ≡ None) → (n : ℕ) → outs_from n (handed g.bits arenas colours)
@@ -228,7 +251,8 @@ handed_listed g small (arena ∷ arenas) (own ∷ colours) e kept n =
     by (in_zones g.bits arena.zone) (handed_listed g small arenas colours (omega arith) (λ a. kept (suc a)) (suc n)
     ∙ ap (λ m. arenas_from m (owners_of arenas) (zones_in g)) (let next : suc n ≡ n + 1 = omega arith in next))
     ∙ ap (λ t. cond t (n ∷ arenas_from (n + 1) (owners_of arenas) (zones_in g))
-    (arenas_from (n + 1) (owners_of arenas) (zones_in g))) (sym (listed_zones g small arena.zone))
+    (arenas_from (n + 1) (owners_of arenas) (zones_in g))) (sym (listed_owners g small arena.zone))
+    ∙ sym (arenas_by n (owner_by arena.zone) (owners_of arenas) (zones_in g))
   where
     by : (t : Bool) → outs_from (suc n) (handed g.bits arenas colours) ≡ arenas_from (n + 1) (owners_of arenas)
         (zones_in g) → outs_from n (cond t (record arena { out = Some own }) arena ∷ handed g.bits arenas colours)

@@ -13,12 +13,12 @@ use Rattle.gz_names.specs.declared.names.Name.TheVariants.{Wrap}
 use Rattle.gz_names.specs.declared.numbers.CompNo.{CompNo}
 use Rattle.gz_names.specs.declared.numbers.Place.{Place}
 use Rattle.wrappers.specs.WrapperMaps.{AreApart, list_of}
+use Rattle.wrappers.proofs.Finding.{found-there}
 use Rattle.wrappers.specs.declared.wrapper_maps.WrapperKey.{WrapperKey}
 use Rattle.colour_defs.specs.Graph.{GraphState}
 use Rattle.heap_core.specs.Shape.{AreWhole, name_at}
 use Rattle.heap_core.specs.Heap.{HeapState}
 use Rattle.heap_core.specs.Shows.{Shows}
-use Rattle.zone_edges.proofs.SoundWrappers.{found_there}
 use Rattle.slice_driver.proofs.group_end.GrayNames.{present_within}
 use Rattle.slice_driver.proofs.abstraction.Named.{named_present}
 
@@ -48,7 +48,7 @@ module _ (h : HeapState) (g : GraphState) (whole : AreWhole h.shape.arenas) (sho
 
   named : (e : WrapperKey × Place) → Contains entries e → name_at h.shape e.1 ≡ Some (key_name e.0)
   named e there = shown.mapped (record { 0 = e.0.comp }) e.0.target e.1
-      (found_there h.shape.wrappers.lists z e apart there)
+      (found-there h.shape.wrappers.lists z e apart there)
 
   within : (e : WrapperKey × Place) → Contains entries e → (e.1.0 < length h.shape.arenas) × (e.1.1 < 64)
   within e there = present_within h.shape e.1 whole (named_present h.shape e.1 (key_name e.0) (named e there))

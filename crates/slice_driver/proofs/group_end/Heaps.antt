@@ -11,8 +11,6 @@ use Rattle.gz_names.specs.declared.names.Name.{Name}
 use Rattle.gz_names.specs.declared.names.Name.TheVariants.{Cell, Wrap}
 use Rattle.gz_names.specs.declared.numbers.CompNo.{CompNo}
 use Rattle.gz_names.specs.declared.numbers.Place.{Place}
-use Rattle.gz_names.specs.declared.zone_sets.ZoneSet.{ZoneSet}
-use Rattle.cell_bits.specs.declared.bits.Bits.{Bits}
 use Rattle.arena_table.specs.Cells.{CellState, field_of, joined}
 use Rattle.arena_table.specs.Indexed.{in_zones}
 use Rattle.wrappers.specs.WrapperMaps.{list_of, place_of}
@@ -20,11 +18,9 @@ use Rattle.wrappers.specs.declared.wrapper_maps.WrapperKey.{WrapperKey}
 use Rattle.weak_maps.specs.WeakMaps.{alive_value, is_dead_entry, value_of}
 use Rattle.colour_defs.specs.Graph.{GraphState, register_cell, slot_cell}
 use Rattle.colour_defs.specs.Graph as graph
-use Rattle.colour_defs.specs.World.{World, Collection, IsPresent as IsPresentName}
-use Rattle.colour_defs.specs.Ends.{Lists}
+use Rattle.colour_defs.specs.World.{World, IsPresent as IsPresentName}
 use Rattle.colour_defs.specs.Laws.{IsValid}
 use Rattle.colour_defs.specs.Present as present
-use Rattle.colour_defs.proofs.NothingWeak.{loses_nothing}
 use Rattle.colour_defs.proofs.Lists.{contains_cases, contains_head, nothing_in_none}
 use Rattle.colour_defs.proofs.ValidEnds.{end_valid}
 use Rattle.heap_core.specs.Shape.{HasEdge, IsPresent, cell_of, field_at, field_in, held_name, name_at, zone_of}
@@ -32,15 +28,16 @@ use Rattle.heap_core.specs.Heap.{HeapState, colour_of}
 use Rattle.heap_core.specs.Sweeping.{handed, is_absent}
 use Rattle.heap_core.specs.Shows.{Shows, StandsFor, is_map, object_at}
 use Rattle.slice_driver.specs.Collector.{CollectorState}
-use Rattle.slice_driver.specs.GroupEnd.{IsEnded, IsGrayHere}
 use Rattle.slice_driver.proofs.abstraction.Named.{edge_named, name_of, named_cell, named_present, present_named}
-use Rattle.slice_driver.proofs.group_end.Ready.{AtGroupEnd, groups_are, inv}
+use Rattle.slice_driver.proofs.group_end.Ready.{groups_are, inv}
 use Rattle.slice_driver.proofs.group_end.Cells.{cell_at_end, is_dead, is_white_colour, zone_at_end}
 use Rattle.slice_driver.proofs.group_end.Graphs.{object_back, object_on, objects_kept, restrict, shows_restricted}
 use Rattle.slice_driver.proofs.group_end.Graphs.{value_back, value_kept_too, value_on, wrapper_back, wrapper_on}
 use Rattle.slice_driver.proofs.group_end.Worlds.{ended, get_ended, is_kept, lawful_end}
 use Rattle.slice_driver.proofs.group_end.Worlds.{not_true}
+use Rattle.slice_driver.proofs.group_end.WeakEnd.{loses_ended}
 use Rattle.slice_driver.proofs.group_end.Wrappers.{AreAtHome, found_listed, has_kept, kept_has, listed_found, listed_is}
+use Rattle.slice_driver.proofs.group_end.Ending.{Ending}
 
 -- what is held somewhere is held at an index
 held_index : (f : Option Place → Option Name) (os : List (Option Place)) (p : Place) (x : Name) → Contains os (Some p)
@@ -80,17 +77,17 @@ some_is : {X : Type 0} (o : Option X) → is_some o ≡ true → is_none o ≡ f
 some_is None e = absurd (cc e)
 some_is (Some x) e = refl
 
-module _ (c : CollectorState) (flown : ℕ → Option Bits) (w : World) (k : Collection) (g : ZoneSet) (rest : List ZoneSet)
-    (ending : AtGroupEnd c flown w k g rest)
-    (grays : List Name) (listed : Lists (IsGrayHere c.heap g) grays) (n : HeapState) (e : IsEnded c.heap g n) where
+module _ (c : CollectorState) (w : World) (n : HeapState) (end : Ending c w n) where
+  open end use {flown, collection as k, group as g, rest, ready as ending, ended as e, lists.{grays, told, grays_are}}
+
   abbrev pub after : World
   after = ended c.heap w k g rest
 
   pub valid : IsValid after
   valid = end_valid w after k (zones_in g) (map zones_in rest) grays ending.valid ending.running
       (groups_are c flown w k g rest ending)
-      [] (lawful_end c flown w k g rest ending grays listed)
-      (loses_nothing w after ending.represents.placed.lies.weak_is ending.represents.placed.lies.weak_is)
+      told (lawful_end c flown w k g rest ending grays grays_are)
+      (loses_ended c w n end)
 
   pub sized : length c.heap.colours ≡ length c.heap.shape.arenas
   sized = (inv c flown w k g rest ending).holds.colours.sized

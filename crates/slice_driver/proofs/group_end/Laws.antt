@@ -2,11 +2,8 @@
 use Rattle.std.proofs.Common.{◌≡◌, ◌+◌, ◌<◌, ℕ, zero, suc, Bool, true, false, cond, refl, sym, ap, ◌∙◌, arith, eqb}
 use Rattle.std.proofs.Common.{eqb-true, eq-eqb, Option, None, Some, List, [], ◌∷◌, length, slice_get}
 use Rattle.gz_names.specs.Zones.{zones_in}
-use Rattle.gz_names.specs.declared.names.Name.{Name}
-use Rattle.gz_names.specs.declared.zone_sets.ZoneSet.{ZoneSet}
 use Rattle.cell_bits.specs.declared.bits.Bits.{Bits}
 use Rattle.arena_table.specs.Indexed.{in_zones}
-use Rattle.colour_defs.specs.Ends.{Lists}
 use Rattle.colour_defs.specs.Lawful.{EndsGroup}
 use Rattle.colour_defs.specs.Laws.{IsValid}
 use Rattle.colour_defs.specs.World.{World}
@@ -15,25 +12,34 @@ use Rattle.heap_core.specs.Shape.{ArenaShape, out_in, out_of}
 use Rattle.heap_core.specs.Sweeping.{handed, jobs_of}
 use Rattle.slice_driver.specs.Collector.{CollectorState, heap_with}
 use Rattle.slice_driver.specs.Represents.{RepresentsMarking}
-use Rattle.slice_driver.specs.GroupEnd.{AreJustFlown, EndsIn, IsGrayHere, IsReady}
+use Rattle.slice_driver.specs.GroupEnd.{AreJustFlown}
 use Rattle.slice_driver.specs.Units.{flown_by}
 use Rattle.slice_driver.proofs.group_end.Heaps.{valid}
-use Rattle.slice_driver.proofs.group_end.Ready.{AtGroupEnd, collection_of}
+use Rattle.slice_driver.proofs.group_end.Ready.{collection_of}
 use Rattle.slice_driver.proofs.group_end.Runs.{represents_after}
-use Rattle.slice_driver.proofs.group_end.Worlds.{ended, ends_group}
+use Rattle.slice_driver.proofs.group_end.WeakEnd.{ends_group}
+use Rattle.slice_driver.proofs.group_end.Worlds.{ended}
+use Rattle.slice_driver.proofs.group_end.Ending.{Ending, EndsOn}
 
-pub group_ends : (c d : CollectorState) (flown flying : ℕ → Option Bits) (w : World) (g : ZoneSet) (rest : List ZoneSet)
-    (grays : List Name) → IsValid w → RepresentsMarking c flown w → IsReady c g rest → EndsIn c g rest d
-    → AreJustFlown d.heap.shape flying → Lists (IsGrayHere c.heap g) grays
-    → (v : World) × EndsGroup w (zones_in g) grays [] v × IsValid v × RepresentsMarking d flying v
-group_ends c d flown flying w g rest grays ok s ready ends flies listed =
-    let k = collection_of c (heap_with c flown) w ready.run ready.running s.phase.runs in
-    let ending : AtGroupEnd c flown w k.0 g rest = record { valid = ok; represents = s; ready = ready; running = k.1 }
-    in (
-      ended c.heap w k.0 g rest,
-      ends_group c flown w k.0 g rest ending grays listed,
-      valid c flown w k.0 g rest ending grays listed d.heap ends.heap,
-      represents_after c flown w k.0 g rest ending grays listed d ends flying flies,
+pub group_ends : (c d : CollectorState) (flown flying : ℕ → Option Bits) (w : World) (on : EndsOn c d flying)
+    → IsValid w → RepresentsMarking c flown w
+    → (v : World) × EndsGroup w (zones_in on.group) on.lists.grays on.lists.told v × IsValid v
+    × RepresentsMarking d flying v
+group_ends c d flown flying w on ok s =
+    let k = collection_of c (heap_with c flown) w on.ready.run on.ready.running s.phase.runs in
+    let end : Ending c w d.heap = record {
+      flown = flown;
+      collection = k.0;
+      group = on.group;
+      rest = on.rest;
+      ready = record { valid = ok; represents = s; ready = on.ready; running = k.1 };
+      lists = on.lists;
+      ended = on.ends.heap;
+    } in (
+      ended c.heap w k.0 on.group on.rest,
+      ends_group c w d.heap end,
+      valid c w d.heap end,
+      represents_after c d w end on.ends flying on.flies,
     )
 
 -- no job is that of an arena before the first

@@ -3,17 +3,14 @@ use Rattle.std.proofs.Common.{◌≡◌, ◌≢◌, ◌⊎◌, ◌↔◌, ◌<�
 use Rattle.std.proofs.Common.{ap, ◌∙◌, subst, arith, Option, None, Some, List, [], length, Contains, slice_get}
 use Rattle.std.specs.Option.{option_map}
 use Rattle.gz_names.specs.Zones.{HasZone}
-use Rattle.gz_names.specs.declared.names.Name.{Name}
 use Rattle.gz_names.specs.declared.numbers.Place.{Place}
-use Rattle.gz_names.specs.declared.zone_sets.ZoneSet.{ZoneSet}
 use Rattle.cell_bits.specs.declared.bits.Bits.{Bits}
 use Rattle.zones.specs.declared.states.State.TheVariants as state
 use Rattle.arena_table.specs.Cells.{CellState}
 use Rattle.arena_table.specs.Indexed.{in_zones}
 use Rattle.roots.specs.Buffers.{buffer_at}
 use Rattle.gray_lists.specs.Incoming.{waiting_count}
-use Rattle.colour_defs.specs.World.{World, Collection}
-use Rattle.colour_defs.specs.Ends.{Lists}
+use Rattle.colour_defs.specs.World.{World}
 use Rattle.colour_defs.proofs.Lists.{both_of, first_of_both, second_of_both}
 use Rattle.heap_core.specs.Shape.{ArenaShape, HasEdge, IsDelegate, IsPresent, cell_of, field_at, field_in, is_marking}
 use Rattle.heap_core.specs.Shape.{is_marking_state, is_white, out_of, state_in, zone_of}
@@ -33,8 +30,7 @@ use Rattle.barriers.proofs.Places.{nothing_in_none}
 use Rattle.barriers.proofs.BlackClosure.{pending_is_reached, reached_is_pending}
 use Rattle.barriers.proofs.LiveClosure.{live_is_reached, reached_is_live}
 use Rattle.slice_driver.specs.Collector.{CollectorState}
-use Rattle.slice_driver.specs.GroupEnd.{IsEnded, IsGrayHere}
-use Rattle.slice_driver.proofs.group_end.Ready.{AtGroupEnd, gray, inv, ordered}
+use Rattle.slice_driver.proofs.group_end.Ready.{gray, inv, ordered}
 use Rattle.slice_driver.proofs.group_end.Colours.{colours_are}
 use Rattle.slice_driver.proofs.group_end.Cells.{handed_length, has_in_zones, in_zones_has, is_dead, is_white_colour}
 use Rattle.slice_driver.proofs.group_end.Cells.{out_at_end, some_out, zone_or_not}
@@ -42,10 +38,11 @@ use Rattle.slice_driver.proofs.group_end.Heaps.{arenas_are, cell_back, cell_on, 
 use Rattle.slice_driver.proofs.group_end.Heaps.{entry_was, present_back, present_on, shows_after, sized, zones}
 use Rattle.slice_driver.proofs.group_end.Places.{black_follows, black_values, edge_from, pending_black, pending_live}
 use Rattle.slice_driver.proofs.group_end.Worlds.{is_white_test}
+use Rattle.slice_driver.proofs.group_end.Ending.{Ending}
 
-module _ (c : CollectorState) (flown : ℕ → Option Bits) (w : World) (k : Collection) (g : ZoneSet) (rest : List ZoneSet)
-    (ending : AtGroupEnd c flown w k g rest)
-    (grays : List Name) (listed : Lists (IsGrayHere c.heap g) grays) (n : HeapState) (e : IsEnded c.heap g n) where
+module _ (c : CollectorState) (w : World) (n : HeapState) (end : Ending c w n) where
+  open end use {flown, collection as k, group as g, rest, ready as ending, ended as e}
+
   was : MarkingInvariant c.heap c.stack
   was = inv c flown w k g rest ending
 
@@ -74,7 +71,7 @@ module _ (c : CollectorState) (flown : ℕ → Option Bits) (w : World) (k : Col
   seen_back p sn = elim sn [ inl gr ↦ inl (sym (colour_same p) ∙ gr) | inr b ↦ inr (sym (colour_same p) ∙ b) ]
 
   zone_same : (p : Place) → zone_of n.shape p ≡ zone_of c.heap.shape p
-  zone_same p = zones c flown w k g rest ending grays listed n e p
+  zone_same p = zones c w n end p
 
   pub alive : (p : Place) → IsSeen c.heap p → is_dead c.heap g p ≡ false
   alive p sn = go (is_dead c.heap g p) refl
@@ -115,10 +112,10 @@ module _ (c : CollectorState) (flown : ℕ → Option Bits) (w : World) (k : Col
   ]
 
   present_was : (p : Place) → IsPresent n.shape p → IsPresent c.heap.shape p × (is_dead c.heap g p ≡ false)
-  present_was p there = present_back c flown w k g rest ending grays listed n e p there
+  present_was p there = present_back c w n end p there
 
   present_stays : (p : Place) → IsPresent c.heap.shape p → is_dead c.heap g p ≡ false → IsPresent n.shape p
-  present_stays p there stays = present_on c flown w k g rest ending grays listed n e p there stays
+  present_stays p there stays = present_on c w n end p there stays
 
   pub edge_was : (p q : Place) → HasEdge n.shape p q → HasEdge c.heap.shape p q × (is_dead c.heap g p ≡ false)
   edge_was p q ed =
@@ -126,29 +123,33 @@ module _ (c : CollectorState) (flown : ℕ → Option Bits) (w : World) (k : Col
         (
           ed.0,
           ed.1,
-          sym (ap (λ o. field_in o ed.0) (cell_on c flown w k g rest ending grays listed n e p stays))
+          sym (ap (λ o. field_in o ed.0) (cell_on c w n end p stays))
               ∙ ed.2,
         ),
         stays,
       )
 
   pub edge_stays : (p q : Place) → HasEdge c.heap.shape p q → is_dead c.heap g p ≡ false → HasEdge n.shape p q
-  edge_stays p q ed stays =
-      (ed.0, ed.1, ap (λ o. field_in o ed.0) (cell_on c flown w k g rest ending grays listed n e p stays) ∙ ed.2)
+  edge_stays p q ed stays = (
+    ed.0,
+    ed.1,
+    ap (λ o. field_in o ed.0) (cell_on c w n end p stays)
+        ∙ ed.2,
+  )
 
   delegate_was : (q d : Place) → IsDelegate n.shape q d → IsDelegate c.heap.shape q d
   delegate_was q d is =
       let stays = (present_was q (edge_from n.shape q d (0, omega arith, is.1))).1 in
-      let same = cell_on c flown w k g rest ending grays listed n e q stays in
+      let same = cell_on c w n end q stays in
       (sym (ap (option_map (λ (z : CellState). z.kind)) same) ∙ is.0, sym (ap (λ o. field_in o 0) same) ∙ is.1)
 
   delegate_stays : (q d : Place) → IsDelegate c.heap.shape q d → is_dead c.heap g q ≡ false → IsDelegate n.shape q d
   delegate_stays q d is stays =
-      let same = cell_on c flown w k g rest ending grays listed n e q stays in
+      let same = cell_on c w n end q stays in
       (ap (option_map (λ (z : CellState). z.kind)) same ∙ is.0, ap (λ o. field_in o 0) same ∙ is.1)
 
   target_alive : (p q : Place) → HasEdge c.heap.shape p q → is_dead c.heap g p ≡ false → is_dead c.heap g q ≡ false
-  target_alive p q ed stays = edge_alive c flown w k g rest ending grays listed n e p q ed stays
+  target_alive p q ed stays = edge_alive c w n end p q ed stays
 
   shape_after : ShapeInvariant n.shape
   shape_after = record {
@@ -157,19 +158,19 @@ module _ (c : CollectorState) (flown : ℕ → Option Bits) (w : World) (k : Col
         (was.holds.colours.shape.made x (present_was x there).0));
     at_home = λ x cell there. ap (λ (z : HeapState). slice_get z.shape.comps cell.comp.0) e.rest
         ∙ was.holds.colours.shape.at_home x cell
-        (cell_back c flown w k g rest ending grays listed n e x cell there).0
+        (cell_back c w n end x cell there).0
         ∙ ap (λ z. Some z) (sym (zone_same x));
-    targets = λ x y ed. (shows_after c flown w k g rest ending grays listed n e).fields_held x y ed.0 ed.2;
+    targets = λ x y ed. (shows_after c w n end).fields_held x y ed.0 ed.2;
     across = across;
-    entries = λ m q v f. entry_present c flown w k g rest ending grays listed n e m q v f;
+    entries = λ m q v f. entry_present c w n end m q v f;
     one_zone = λ m q v f.
         (let z = was.holds.colours.shape.one_zone m q v
-        (entry_was c flown w k g rest ending grays listed n e m q v f) in
+        (entry_was c w n end m q v f) in
         (zone_same m ∙ z.0 ∙ sym (zone_same v), zone_same q ∙ z.1 ∙ sym (zone_same v)));
     delegates = λ m q v d f.
-        (let before = entry_was c flown w k g rest ending grays listed n e m q v f in
+        (let before = entry_was c w n end m q v f in
         let both = was.holds.colours.shape.delegates m q v d before in
-        let stays = (present_was q (entry_present c flown w k g rest ending grays listed n e m q v f).1).1 in
+        let stays = (present_was q (entry_present c w n end m q v f).1).1 in
         let same = e.rows.delegates m q v f in (
           λ is. same ∙ both.0 (delegate_was q d is),
           λ is. delegate_stays q d (both.1 (sym same ∙ is)) stays,
@@ -185,7 +186,8 @@ module _ (c : CollectorState) (flown : ℕ → Option Bits) (w : World) (k : Col
           go None there h = absurd (cc h)
           go (Some cell) there h =
               was.holds.colours.shape.across x y f lt
-              (ap (λ o. field_in o f) (cell_back c flown w k g rest ending grays listed n e x cell there).0 ∙ h)
+              (ap (λ o. field_in o f) (cell_back c w n end x cell there).0
+              ∙ h)
               (λ z. apart (zone_same x ∙ z ∙ sym (zone_same y)))
 
       kept : (x : Place) (t : Bool) → in_zones g.bits (zone_of c.heap.shape x) ≡ t → is_marking n.shape x ≡ true
@@ -196,17 +198,18 @@ module _ (c : CollectorState) (flown : ℕ → Option Bits) (w : World) (k : Col
                 (subst (λ z. HasZone g.bits z) (sym (zone_same x)) (in_zones_has g ending.ready.small _ t)),
             m,
           ))
-      kept x false t m = out_at_end c.heap n g (arenas_are c flown w k g rest ending grays listed n e)
-          (sized c flown w k g rest ending grays listed n e) ending.ready.kept x.0
+      kept x false t m = out_at_end c.heap n g (arenas_are c w n end)
+          (sized c w n end) ending.ready.kept x.0
           ∙ ap (λ b. cond b (slice_get c.heap.colours x.0) None) t
 
   colours_after : ColourInvariant n
   colours_after = record {
     shape = shape_after;
-    sized = ap (λ (cs : List Bits). length cs) colours_same ∙ sized c flown w k g rest ending grays listed n e
-        ∙ sym (ap (λ (xs : List ArenaShape). length xs) (arenas_are c flown w k g rest ending grays listed n e)
+    sized = ap (λ (cs : List Bits). length cs) colours_same ∙ sized c w n end
+        ∙ sym (ap (λ (xs : List ArenaShape). length xs)
+        (arenas_are c w n end)
         ∙ handed_length g.bits c.heap.shape.arenas c.heap.colours
-        (sized c flown w k g rest ending grays listed n e));
+        (sized c w n end));
     seen_present = λ x sn. (let o = seen_back x sn in present_stays x (was.holds.colours.seen_present x o) (alive x o));
     no_white = λ x there m. (let o = present_was x there in elim (in_group (zone_of c.heap.shape x)) [
       | inl here ↦ seen_on x (alive_seen x here o.1)
@@ -229,7 +232,7 @@ module _ (c : CollectorState) (flown : ℕ → Option Bits) (w : World) (k : Col
   empty xs x none held = nothing_in_none x (subst (λ ys. Contains ys x) none held)
 
   entry_then : (m q v : Place) → HasEntry n.shape m q v → HasEntry c.heap.shape m q v
-  entry_then m q v f = entry_was c flown w k g rest ending grays listed n e m q v f
+  entry_then m q v f = entry_was c w n end m q v f
 
   -- where a zone still takes gray it did, and entries are left as they were
   weak_after : WeakPoint n c.stack (left_of n)
@@ -273,7 +276,8 @@ module _ (c : CollectorState) (flown : ℕ → Option Bits) (w : World) (k : Col
           (edge_was x y ed).0));
       weak_closed = λ m q v f bm bq mv.
           inl (black_on v (black_values c.heap c.stack c.lists was was_gray g ending.ready.marked m q v
-          (entry_was c flown w k g rest ending grays listed n e m q v f) (black_back m bm) (black_back q bq)));
+          (entry_was c w n end m q v f) (black_back m bm)
+          (black_back q bq)));
       key_closed = λ m q v d f is bm bd.
           inl (black_on q (ending.ready.marked.black_keys m q v d (entry_then m q v f) (delegate_was q d is)
           (black_back m bm) (black_back d bd)));
@@ -316,7 +320,7 @@ module _ (c : CollectorState) (flown : ℕ → Option Bits) (w : World) (k : Col
         ↦ inr (inr (inr (
           noted.0,
           ap (option_map (λ (z : CellState). z.comp))
-              (cell_on c flown w k g rest ending grays listed n e y stays)
+              (cell_on c w n end y stays)
               ∙ noted.1,
           noted.2,
         )))
@@ -350,7 +354,7 @@ module _ (c : CollectorState) (flown : ℕ → Option Bits) (w : World) (k : Col
       back (reached.from {x} b) = reached.from (black_back x b)
       back (reached.along {x} {y} r ed) = reached.along (back r) (edge_was x y ed).0
       back (reached.weak {m} {k = q} {v} f a b) =
-          reached.weak (entry_was c flown w k g rest ending grays listed n e m q v f) (back a) (back b)
+          reached.weak (entry_was c w n end m q v f) (back a) (back b)
       back (reached.delegate {m} {k = q} {v} {d} f is a b) =
           reached.delegate (entry_then m q v f) (delegate_was q d is) (back a) (back b)
 
@@ -381,7 +385,7 @@ module _ (c : CollectorState) (flown : ℕ → Option Bits) (w : World) (k : Col
   live_back (reached.from {x} st) = reached.from (start_back x st)
   live_back (reached.along {x} {y} r ed) = reached.along (live_back r) (edge_was x y ed).0
   live_back (reached.weak {m} {k = q} {v} f a b) =
-      reached.weak (entry_was c flown w k g rest ending grays listed n e m q v f) (live_back a) (live_back b)
+      reached.weak (entry_was c w n end m q v f) (live_back a) (live_back b)
   live_back (reached.delegate {m} {k = q} {v} {d} f is a b) =
       reached.delegate (entry_then m q v f) (delegate_was q d is) (live_back a) (live_back b)
 
@@ -393,13 +397,13 @@ module _ (c : CollectorState) (flown : ℕ → Option Bits) (w : World) (k : Col
   live_on (reached.along {x} {y} r ed) = reached.along (live_on r) (edge_stays x y ed (reached_alive x r))
   live_on (reached.weak {m} {k = q} {v} f a b) =
       let there = was.holds.colours.shape.entries m q v f in
-      reached.weak (entry_on c flown w k g rest ending grays listed n e m q v f
+      reached.weak (entry_on c w n end m q v f
       (present_stays m there.0 (reached_alive m a)) (present_stays q there.1 (reached_alive q b))
       (present_stays v there.2 (reached_alive v (reached.weak f a b)))) (live_on a) (live_on b)
   live_on (reached.delegate {m} {k = q} {v} {d} f is a b) =
       let there = was.holds.colours.shape.entries m q v f in
       let key = reached_alive q (reached.delegate f is a b) in
-      reached.delegate (entry_on c flown w k g rest ending grays listed n e m q v f
+      reached.delegate (entry_on c w n end m q v f
       (present_stays m there.0 (reached_alive m a)) (present_stays q there.1 key)
       (present_stays v there.2 (reached_alive v (reached.weak f a (reached.delegate f is a b)))))
       (delegate_stays q d is key) (live_on a) (live_on b)

@@ -13,9 +13,9 @@ use Rattle.zones.specs.declared.states.State.TheVariants as state
 use Rattle.arena_table.specs.Indexed.{in_zones}
 use Rattle.mark_stack.specs.Stack.{Piles, no_places}
 use Rattle.gray_lists.specs.Incoming.{Incoming}
-use Rattle.colour_defs.specs.World.{World, Collection}
+use Rattle.colour_defs.specs.World.{World}
 use Rattle.colour_defs.specs.World as names
-use Rattle.colour_defs.specs.Ends.{Lists, zones_without}
+use Rattle.colour_defs.specs.Ends.{zones_without}
 use Rattle.colour_defs.proofs.Lists.{contains_cases, contains_tail, nothing_in_none}
 use Rattle.colour_defs.proofs.Membership.{among_from, among_to, without_has, without_was}
 use Rattle.colour_defs.proofs.ZoneSets.{zones_in-has}
@@ -30,10 +30,10 @@ use Rattle.slice_driver.specs.Closures.{AreBlack, AreTied}
 use Rattle.slice_driver.specs.Worlds.{IsInFlight, IsWokenFrom}
 use Rattle.slice_driver.specs.Represents.{AreInStates, IsCurrent, IsInGroups, RepresentsMarking, Runs, RunsAs}
 use Rattle.slice_driver.specs.Represents.{IsColoured, IsInPhase, NothingLeft, WaitsWhileMarking}
-use Rattle.slice_driver.specs.GroupEnd.{AreJustFlown, EndsIn, IsEnded, IsGrayHere}
+use Rattle.slice_driver.specs.GroupEnd.{AreJustFlown, EndsIn}
 use Rattle.slice_driver.proofs.abstraction.Waits.{none_carried}
 use Rattle.slice_driver.proofs.abstraction.Named.{some_one}
-use Rattle.slice_driver.proofs.group_end.Ready.{AtGroupEnd, groups_ok, in_groups_to, runs, tied}
+use Rattle.slice_driver.proofs.group_end.Ready.{groups_ok, in_groups_to, runs, tied}
 use Rattle.slice_driver.proofs.group_end.Cells.{in_zones_has, out_at_end}
 use Rattle.slice_driver.proofs.group_end.Heaps.{after, arenas_are, name_back, sized, zones}
 use Rattle.slice_driver.proofs.group_end.Lies.{lies_after, unswept_apart_after}
@@ -44,6 +44,7 @@ use Rattle.slice_driver.proofs.basics.LeftLooks.{none_of}
 use Rattle.slice_driver.proofs.basics.Rows.{rows_kept}
 use Rattle.slice_driver.proofs.group_end.Worlds.{black_has, ended, ended_collection, ended_place, has_black}
 use Rattle.slice_driver.proofs.group_end.Worlds.{place_ended}
+use Rattle.slice_driver.proofs.group_end.Ending.{Ending}
 
 -- where what is in flight is what arenas have, the heap's own bits count
 own_flown : (flown : ℕ → Option Bits) (n : ℕ) (colours : List Bits)
@@ -59,17 +60,14 @@ own_flown flown n (b ∷ colours) own = λ i. here (flown n) refl i ∷ own_flow
         ∙ (let zero_more : n + 0 ≡ n = omega arith in let is : Some b ≡ Some d = own 0 d (ap flown zero_more ∙ e) in
         sym (some_one b d is))
 
-module _ (c : CollectorState) (flown : ℕ → Option Bits) (w : World) (k : Collection) (g : ZoneSet) (rest : List ZoneSet)
-    (ending : AtGroupEnd c flown w k g rest)
-    (grays : List Name) (listed : Lists (IsGrayHere c.heap g) grays) (d : CollectorState) (ends : EndsIn c g rest d)
+module _ (c d : CollectorState) (w : World) (end : Ending c w d.heap) (ends : EndsIn c end.group end.rest d)
     (flying : ℕ → Option Bits) (flies : AreJustFlown d.heap.shape flying) where
-  e : IsEnded c.heap g d.heap
-  e = ends.heap
+  open end use {flown, collection as k, group as g, rest, ready as ending, ended as e}
 
   out_is : (a : ℕ) → out_of d.heap.shape a ≡ cond (in_zones g.bits (zone_in (slice_get c.heap.shape.arenas a)))
       (slice_get c.heap.colours a) None
-  out_is a = out_at_end c.heap d.heap g (arenas_are c flown w k g rest ending grays listed d.heap e)
-      (sized c flown w k g rest ending grays listed d.heap e) ending.ready.kept a
+  out_is a = out_at_end c.heap d.heap g (arenas_are c w d.heap end)
+      (sized c w d.heap end) ending.ready.kept a
 
   -- an arena that is out is one of the group, and has its bits
   out_of_group : (a : ℕ) (b : Bits) → out_of d.heap.shape a ≡ Some b
@@ -89,7 +87,7 @@ module _ (c : CollectorState) (flown : ℕ → Option Bits) (w : World) (k : Col
   heap_is = ap (λ (cs : List Bits). record d.heap { colours = cs; delayed = no_places })
       (own_flown flying 0 d.heap.colours (λ a b f.
       let same : 0 + a ≡ a = omega arith in
-      ap (λ (cs : List Bits). slice_get cs a) (colours_same c flown w k g rest ending grays listed d.heap e)
+      ap (λ (cs : List Bits). slice_get cs a) (colours_same c w d.heap end)
       ∙ (out_of_group a b (sym (flies a) ∙ ap flying (sym same) ∙ f)).1))
       ∙ ap (λ (ps : Piles). record d.heap { delayed = ps }) (sym delayed_after)
 
@@ -132,11 +130,11 @@ module _ (c : CollectorState) (flown : ℕ → Option Bits) (w : World) (k : Col
   ]
 
   group_of : (z : ℕ) → HasZone g.bits z ⊎ (HasZone g.bits z → ⊥)
-  group_of z = in_group c flown w k g rest ending grays listed d.heap e z
+  group_of z = in_group c w d.heap end z
 
   state_end : (z : ℕ) → HasZone g.bits z → (state_in d.heap.shape z ≡ state.Sweep)
       ⊎ (state_in d.heap.shape z ≡ state.Finished)
-  state_end z here = state_group c flown w k g rest ending grays listed d.heap e z here
+  state_end z here = state_group c w d.heap end z here
 
   states_after : AreInStates d ending.ready.run
   states_after = record {
@@ -165,7 +163,7 @@ module _ (c : CollectorState) (flown : ℕ → Option Bits) (w : World) (k : Col
       sweeping z a p is zone None f out = absurd (cc (f, out))
       sweeping z a p is zone (Some b) f out =
           e.swept a out z (subst (λ y. HasZone g.bits y) (ap (λ i. zone_in (slice_get c.heap.shape.arenas i)) (sym is)
-          ∙ sym (zones c flown w k g rest ending grays listed d.heap e p) ∙ zone) (out_of_group a b f).0)
+          ∙ sym (zones c w d.heap end p) ∙ zone) (out_of_group a b f).0)
 
   left_marking : (z : ℕ) → Contains (zones_without k.marking (zones_in g)) z
       ↔ (is_marking_state (state_in d.heap.shape z) ≡ true)
@@ -173,7 +171,7 @@ module _ (c : CollectorState) (flown : ℕ → Option Bits) (w : World) (k : Col
     λ m. (let r = without_was k.marking (zones_in g) z m in
         ap is_marking_state (e.others z (λ here. cc (among_from z (zones_in g) ((zones_in-has g z).1 here), r.1)))
         ∙ ((runs c flown w k g rest ending).marking_are z).0 r.0),
-    λ m. (let b = marking_before c flown w k g rest ending grays listed d.heap e z m in
+    λ m. (let b = marking_before c w d.heap end z m in
         without_has k.marking (zones_in g) z
         (((runs c flown w k g rest ending).marking_are z).1 (ap is_marking_state (sym b.1) ∙ m))
         (unlisted (list_any (eqb z) (zones_in g)) refl b.0)),
@@ -188,10 +186,10 @@ module _ (c : CollectorState) (flown : ℕ → Option Bits) (w : World) (k : Col
   was_tied = tied c flown w k g rest ending
 
   name_was : (p : Place) (x : Name) → name_at d.heap.shape p ≡ Some x → name_at c.heap.shape p ≡ Some x
-  name_was p x named = (name_back c flown w k g rest ending grays listed d.heap e p x named).0
+  name_was p x named = (name_back c w d.heap end p x named).0
 
   abbrev world_after : World
-  world_after = after c flown w k g rest ending grays listed d.heap e
+  world_after = after c w d.heap end
 
   present_was : (x : Name) → names.IsPresent world_after x → names.IsPresent w x
   present_was x there = go (places.get world_after.places x) refl there
@@ -204,21 +202,21 @@ module _ (c : CollectorState) (flown : ℕ → Option Bits) (w : World) (k : Col
   tied_here = record {
     black = λ x p named. (
       (λ l. (was_tied.black x p (name_was p x named)).0
-          ((pending_after c flown w k g rest ending grays listed d.heap e p).0 l)),
-      λ u. (pending_after c flown w k g rest ending grays listed d.heap e p).1
+          ((pending_after c w d.heap end p).0 l)),
+      λ u. (pending_after c w d.heap end p).1
           ((was_tied.black x p (name_was p x named)).1 u),
     );
     live = λ x p named. (
       (λ l. (was_tied.live x p (name_was p x named)).0
-          ((live_after c flown w k g rest ending grays listed d.heap e p).0 l)),
-      λ u. (live_after c flown w k g rest ending grays listed d.heap e p).1
+          ((live_after c w d.heap end p).0 l)),
+      λ u. (live_after c w d.heap end p).1
           ((was_tied.live x p (name_was p x named)).1 u),
     );
     present = λ x u. (let p = Rattle.slice_driver.proofs.abstraction.Named.place_of c.heap w
         ending.represents.placed.lies x
         (was_tied.present x u) in
         ap is_some (place_ended c.heap g w x p.0 ((ending.represents.placed.lies.places_are x p.0).1 p.1)
-        (live_alive c flown w k g rest ending grays listed d.heap e p.0 ((was_tied.live x p.0 p.1).1 u))));
+        (live_alive c w d.heap end p.0 ((was_tied.live x p.0 p.1).1 u))));
     edges_then = λ x y there ed. was_tied.edges_then x y (present_was x there) ed;
     entries_then = λ m q v pm pq f. was_tied.entries_then m q v (present_was m pm) (present_was q pq) f;
     grown = was_tied.grown;
@@ -276,35 +274,36 @@ module _ (c : CollectorState) (flown : ℕ → Option Bits) (w : World) (k : Col
       let o = name_was p x named in (
         λ b. (let r = black_has c flown w k g rest ending x b in
             let same : r.0 ≡ p = some_one r.0 p (sym r.1 ∙ (ending.represents.placed.lies.places_are x p).1 o) in
-            black_on c flown w k g rest ending grays listed d.heap e p (subst (λ y. IsBlack c.heap y) same r.2)),
+            black_on c w d.heap end p
+            (subst (λ y. IsBlack c.heap y) same r.2)),
         λ b. has_black c flown w k g rest ending x p ((ending.represents.placed.lies.places_are x p).1 o)
-            (black_back c flown w k g rest ending grays listed d.heap e p b),
+            (black_back c w d.heap end p b),
       )
 
   pub represents_after : RepresentsMarking d flying (ended c.heap w k g rest)
   represents_after = record {
     placed = record {
       delayed = delayed_after;
-      lies = lies_after c flown w k g rest ending grays listed d.heap e;
+      lies = lies_after c w d.heap end;
       homes = rows_kept c.heap.shape d.heap.shape (λ row has. ((e.rows.rows row).0 has).0)
           (λ a lt.
-          (let now = (marks_after c flown w k g rest ending grays listed d.heap e).holds.colours.sized in
+          (let now = (marks_after c w d.heap end).holds.colours.sized in
           let same = ap (λ (bs : List Bits). length bs)
-          (colours_same c flown w k g rest ending grays listed d.heap e) in
-          let was = sized c flown w k g rest ending grays listed d.heap e in
+          (colours_same c w d.heap end) in
+          let was = sized c w d.heap end in
           omega (arith, now, same, was, lt)))
-          (λ p lt. zones c flown w k g rest ending grays listed d.heap e p) ending.represents.placed.homes;
+          (λ p lt. zones c w d.heap end p) ending.represents.placed.homes;
     };
     swept = record {
-      apart = unswept_apart_after c flown w k g rest ending grays listed d.heap e;
+      apart = unswept_apart_after c w d.heap end;
       flies = in_flight;
     };
     coloured = subst (λ h. IsColoured h d.stack d.lists) (sym heap_is) (record {
       marks = subst (λ p. MarkingInvariant d.heap p) (sym ends.stack_is)
-          (marks_after c flown w k g rest ending grays listed d.heap e);
+          (marks_after c w d.heap end);
       gray = subst (λ p. GrayInvariant d.heap p d.lists) (sym ends.stack_is)
           (subst (λ l. GrayInvariant d.heap c.stack l) (sym ends.lists_is)
-          (gray_after c flown w k g rest ending grays listed d.heap e));
+          (gray_after c w d.heap end));
       waits = waits_after;
     });
     phase = subst (λ h. IsInPhase h d world_after) (sym heap_is) (record {

@@ -7,6 +7,7 @@ use Rattle.gz_names.specs.declared.zone_sets.ZoneSet.{ZoneSet}
 use Rattle.wrappers.specs.WrapperMaps.{WrappersState, list_of, without_dead}
 use Rattle.weak_maps.specs.WeakMaps.{KeepsRows, AreParallel, Carries, IsWithoutDead, LooksState, WeakMapsState}
 use Rattle.weak_maps.specs.WeakMaps.{WeakTableState}
+use Rattle.weak_refs.specs.WeakNames.{without_dead as without_dead_names}
 use Rattle.heap_core.specs.Heap.{HeapState, weak_of}
 use Rattle.heap_core.specs.Sweeping.{is_absent, with_handed}
 use Rattle.slice_driver.specs.GroupEnd.{DropsDead, EndsZones, IsEnded}
@@ -28,6 +29,7 @@ ended_with : (h : HeapState) (g : ZoneSet) (ws : WrappersState) (es : WeakTableS
       shape =
           record (with_handed h g.bits).shape { states = n.shape.states; wrappers = ws; weak = es };
       looks = ls;
+      weak_names = without_dead_names (is_absent (with_handed h g.bits).shape) h.weak_names;
     }
     → EndsZones h g n → ((z : ℕ)
     → list_of ws z ≡ without_dead (bit_at g.bits z) (is_absent (with_handed h g.bits).shape)
@@ -47,6 +49,7 @@ ended_with h g ws es ls n is zones wrappers entries rows carries parallel apart 
             weak = n.shape.weak;
           };
       looks = n.looks;
+      weak_names = without_dead_names (is_absent n.shape) h.weak_names;
     } =
     is ∙ (λ i. record (with_handed h g.bits) {
       shape =
@@ -56,6 +59,7 @@ ended_with h g ws es ls n is zones wrappers entries rows carries parallel apart 
             weak = sym same_weak i;
           };
       looks = sym same_looks i;
+      weak_names = ap (λ (x : HeapState). without_dead_names (is_absent x.shape) h.weak_names) (sym is) i;
     }) in
     record {
       rest = whole;

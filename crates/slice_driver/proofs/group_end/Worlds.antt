@@ -1,7 +1,9 @@
 -- The world after the end of a group.
 use Rattle.std.proofs.Common.{◌≡◌, ◌↔◌, ℕ, Bool, true, false, not, cond, refl, sym, ap, ◌∙◌, subst, Option, None, Some}
-use Rattle.std.proofs.Common.{is_some, List, [], map, Contains}
+use Rattle.std.proofs.Common.{is_some, if◌then◌else◌, List, map, Contains}
 use Rattle.std.specs.FinMap as places
+use Rattle.std.specs.FinSet as set
+use Rattle.gz_names.specs.Order.{name_cmp}
 use Rattle.gz_names.specs.Zones.{HasZone, zones_in}
 use Rattle.gz_names.specs.declared.names.Name.{Name}
 use Rattle.gz_names.specs.declared.numbers.Place.{Place}
@@ -12,14 +14,12 @@ use Rattle.cell_bits.specs.declared.bits.Colour.TheVariants as colour
 use Rattle.arena_table.specs.Indexed.{in_zones}
 use Rattle.colour_defs.specs.Graph.{IsInZones}
 use Rattle.colour_defs.specs.Graph as graph
-use Rattle.colour_defs.specs.World.{World, Collection, BlackClosure, Has, IsPresent}
+use Rattle.colour_defs.specs.World.{World, Collection, BlackClosure, Has, IsPresent, WeakNames}
 use Rattle.colour_defs.specs.Ends.{IsGrayOf, IsLawfulEnd, IsWhiteOf, Lists, arenas_from, zones_without}
-use Rattle.colour_defs.specs.Lawful.{EndsGroup}
 use Rattle.colour_defs.proofs.Lists.{first_of_both, second_of_both, both_of}
 use Rattle.colour_defs.proofs.Membership.{in_zone, zone_in}
 use Rattle.colour_defs.proofs.Names.{names_apart}
 use Rattle.colour_defs.proofs.ZoneSets.{zones_in-has}
-use Rattle.colour_defs.proofs.NothingWeak.{loses_nothing}
 use Rattle.heap_core.specs.Shape.{name_at, zone_of}
 use Rattle.heap_core.specs.Heap.{HeapState, colour_of}
 use Rattle.barriers.specs.Colours.{IsBlack, IsWhite}
@@ -27,7 +27,7 @@ use Rattle.slice_driver.specs.Collector.{CollectorState}
 use Rattle.slice_driver.specs.GroupEnd.{AreColoured, IsGrayHere}
 use Rattle.slice_driver.proofs.abstraction.Named.{place_of, present_named, some_one}
 use Rattle.slice_driver.proofs.abstraction.Lying.{zone_named}
-use Rattle.slice_driver.proofs.group_end.Ready.{AtGroupEnd, groups_are}
+use Rattle.slice_driver.proofs.group_end.Ready.{AtGroupEnd}
 use Rattle.slice_driver.proofs.group_end.Colours.{coloured_here}
 use Rattle.slice_driver.proofs.group_end.Cells.{has_in_zones, in_zones_has, is_dead, is_white_colour, none_out_listed}
 use Rattle.slice_driver.proofs.group_end.Maps.{entries_are, has_named_by, has_placed_by, named_by, named_by_has}
@@ -69,12 +69,24 @@ abbrev pub ended_collection : Collection → ZoneSet → List ZoneSet → Collec
 ended_collection k g rest =
     record k { marking = zones_without k.marking (zones_in g); groups = Some (map zones_in rest) }
 
+-- what weak slots and watches still name: what is placed
+abbrev pub if_placed : places.FinMap name_cmp (ℕ × ℕ) → Option Name → Option Name
+if_placed there None = None
+if_placed there (Some x) = if places.contains_key there x then Some x else None
+
+abbrev pub weak_left : places.FinMap name_cmp (ℕ × ℕ) → WeakNames → WeakNames
+weak_left there weak = record {
+  slots = map (if_placed there) weak.slots;
+  watched = set.retain weak.watched (places.contains_key there);
+}
+
 abbrev pub ended : HeapState → World → Collection → ZoneSet → List ZoneSet → World
 ended h w k g rest = record w {
   places = places.retain_keys w.places (is_kept h g w);
   out = arenas_from 0 w.owner (zones_in g);
   white = placed_by (is_dead h g) (places.entries w.places);
   black = set_of (named_by (λ p. is_black_at h p) (places.entries w.places));
+  weak = weak_left (places.retain_keys w.places (is_kept h g w)) w.weak;
   collection = Some (ended_collection k g rest);
 }
 
@@ -111,7 +123,7 @@ pub place_ended : (h : HeapState) (g : ZoneSet) (w : World) (x : Name) (p : Plac
 place_ended h g w x p at alive = get_ended h g w x ∙ ap (λ z. cond (kept_place h g z) z None) at
     ∙ ap (λ b. cond (not b) (Some p) None) alive
 
-gone_ended : (h : HeapState) (g : ZoneSet) (w : World) (x : Name) (p : Place) → places.get w.places x ≡ Some p
+pub gone_ended : (h : HeapState) (g : ZoneSet) (w : World) (x : Name) (p : Place) → places.get w.places x ≡ Some p
     → is_dead h g p ≡ true → places.get (places.retain_keys w.places (is_kept h g w)) x ≡ None
 gone_ended h g w x p at dead = get_ended h g w x ∙ ap (λ z. cond (kept_place h g z) z None) at
     ∙ ap (λ b. cond (not b) (Some p) None) dead
@@ -257,16 +269,4 @@ module _ (c : CollectorState) (flown : ℕ → Option Bits) (w : World) (k : Col
     out_is = refl;
     collection_is = refl;
     black_are = λ settled x. black_are x;
-  }
-
-  pub ends_group : (grays : List Name) → Lists (IsGrayHere c.heap g) grays
-      → EndsGroup w (zones_in g) grays [] (ended c.heap w k g rest)
-  ends_group grays l = record {
-    collection = k;
-    rest = map zones_in rest;
-    running = ending.running;
-    first = groups_are c flown w k g rest ending;
-    ends = lawful_end grays l;
-    loses = loses_nothing w (ended c.heap w k g rest) ending.represents.placed.lies.weak_is
-        ending.represents.placed.lies.weak_is;
   }

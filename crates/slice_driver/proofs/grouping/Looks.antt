@@ -84,6 +84,7 @@ module _ (c d : CollectorState) (l : LooksIn c d) where
   quiet_look flown w s = subst (λ (z : CollectorState). IsQuiet c flown z flown) (sym l.rest) (record {
     shape_is = refl;
     made_is = refl;
+    weak_names_is = refl;
     delayed_is = refl;
     run_is = refl;
     groups_is = refl;

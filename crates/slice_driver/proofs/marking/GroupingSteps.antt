@@ -243,6 +243,7 @@ module _ (c : CollectorState) (zone : ℕ) (edges : Noted) (g : IsGrouping c)
       let q : IsQuiet c flown d flown = record {
         shape_is = refl;
         made_is = refl;
+        weak_names_is = refl;
         delayed_is = refl;
         run_is = refl;
         groups_is = refl;

@@ -30,6 +30,7 @@ pub record Marked (c : CollectorState) (flown : ℕ → Option Bits) (d : Collec
     0 where
   pub shape_is : d.heap.shape ≡ c.heap.shape
   pub made_is : d.heap.made ≡ c.heap.made
+  pub weak_names_is : d.heap.weak_names ≡ c.heap.weak_names
   pub ledger_is : d.heap.ledger ≡ c.heap.ledger
   pub delayed_is : d.heap.delayed ≡ c.heap.delayed
   pub edges_is : d.edges ≡ c.edges
@@ -53,6 +54,7 @@ module _ (c : CollectorState) (flown : ℕ → Option Bits) (d : CollectorState)
   marked_quiet = record {
     shape_is = subst (λ (t : Shape). t ≡ record c.heap.shape { states = t.states }) (sym m.shape_is) refl;
     made_is = m.made_is;
+    weak_names_is = m.weak_names_is;
     delayed_is = m.delayed_is;
     run_is = m.run_is;
     groups_is = m.groups_is;

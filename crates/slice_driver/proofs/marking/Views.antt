@@ -19,6 +19,7 @@ use Rattle.barriers.specs.Pending.{pending}
 use Rattle.marker.specs.Units.{IsGrayIdle}
 use Rattle.slice_driver.specs.Advancing.{Advances, EndsSweeping}
 use Rattle.slice_driver.specs.GroupEnd.{DropsDead, IsGrayHere}
+use Rattle.slice_driver.specs.Told.{IsTold}
 use Rattle.slice_driver.specs.HandingOut.{HandsOut}
 use Rattle.slice_driver.specs.Quiet.{QueuesBlackMaps}
 use Rattle.slice_driver.proofs.marking.ZoneSteps.{advanced_to}
@@ -225,5 +226,23 @@ grays_seen h g names l = record {
     (λ c. (let i = (l.has x).0 c in
         record { place = i.place; named = i.named; here = i.here; gray = i.gray })),
     λ i. (l.has x).1 (record { place = i.place; named = i.named; here = i.here; gray = i.gray }),
+  );
+}
+
+-- and the names that it tells
+pub told_seen : (h : HeapState) (zones : ℕ) (names : List Name) → Lists (IsTold h zones) names
+    → Lists (IsTold (without_delayed h) zones) names
+told_seen h zones names l = record {
+  ascending = l.ascending;
+  has = λ x. (
+    (λ c. (let i = (l.has x).0 c in
+        record { place = i.place; watched = i.watched; named = i.named; here = i.here; white = i.white })),
+    λ i. (l.has x).1 (record {
+      place = i.place;
+      watched = i.watched;
+      named = i.named;
+      here = i.here;
+      white = i.white;
+    }),
   );
 }

@@ -37,7 +37,7 @@ use Rattle.heap_core.specs.declared.plans.Change.{Change}
 use Rattle.heap_core.specs.declared.plans.Change.TheVariants as change
 use Rattle.heap_core.specs.Shape.{ArenaShape, AreWhole, IsDelegate, IsPresent, Shape, cell_of, delegate_in}
 use Rattle.heap_core.specs.Shape.{delegate_of_key, field_in, is_marking, is_marking_state, is_prepared, name_at}
-use Rattle.heap_core.specs.Shape.{state_in, state_of, state_or, wrapped_by, zone_of}
+use Rattle.heap_core.specs.Shape.{owner_in, state_in, state_of, state_or, wrapped_by, zone_of}
 use Rattle.heap_core.specs.Heap.{HeapState, colour_in, colour_of, joined, reg_of, weak_of, with_flown, with_reg}
 use Rattle.heap_core.specs.Heap.{with_slot}
 use Rattle.heap_core.specs.Changes.{IsWith, IsWithout, Makes, Writes, with_comp, with_zone}
@@ -178,7 +178,7 @@ steps_by_state (x ∷ xs) (y ∷ ys) few =
     omega (arith, first, rest)
 
 -- as many wrappers are to be looked at, where lists are as they were
-left_same : (s t : Shape) (n : Noted) (k : ℕ) → ((z : ℕ) → z < k → list_of t.wrappers z ≡ list_of s.wrappers z)
+pub left_same : (s t : Shape) (n : Noted) (k : ℕ) → ((z : ℕ) → z < k → list_of t.wrappers z ≡ list_of s.wrappers z)
     → left_below t n k ≡ left_below s n k
 unfolding left_below
 left_same s t n zero same = refl
@@ -234,7 +234,7 @@ module _ (m new : HeapState) (flying : ℕ → Option Bits) (stack : Piles) (lis
   marking_kept y there = ap is_marking_state (states_kept y there)
 
   length_owners : (xs : List ArenaShape) → length (owners_of xs) ≡ length xs
-  length_owners xs = length-map xs (λ (a : ArenaShape). Some a.zone)
+  length_owners xs = length-map xs (λ (a : ArenaShape). owner_in (Some a))
 
   -- no cell moved, and no colour changed
   module _ (stay : StayInPlace m.shape new.shape) (colours : new.colours ≡ m.colours) where

@@ -15,6 +15,7 @@ use Rattle.gz_names.specs.declared.names.Name.{Name}
 use Rattle.gz_names.specs.declared.numbers.Place.{Place}
 use Rattle.arena_table.specs.Indexed.{in_zones}
 use Rattle.wrappers.specs.WrapperMaps.{AreApart, WrappersState, list_of}
+use Rattle.wrappers.proofs.Finding.{found-there}
 use Rattle.wrappers.specs.declared.wrapper_maps.WrapperKey.{WrapperKey}
 use Rattle.colour_defs.specs.Graph.{zone_of}
 use Rattle.colour_defs.specs.World.{World, is_wrapper}
@@ -24,7 +25,6 @@ use Rattle.heap_core.specs.Shape.{Shape, name_at}
 use Rattle.heap_core.specs.Heap.{HeapState}
 use Rattle.zone_edges.specs.Looks.{cursor_of, left_below}
 use Rattle.zone_edges.specs.Noted.{Noted}
-use Rattle.zone_edges.proofs.SoundWrappers.{found_there}
 use Rattle.slice_driver.specs.ListedWrappers.{listed_below}
 use Rattle.slice_driver.specs.UnitsToCome.{present_places}
 use Rattle.slice_driver.specs.Worlds.{LiesIn}
@@ -144,7 +144,7 @@ module _ (h : HeapState) (w : World) (lies : LiesIn h w) (apart : AreApart h.sha
   named : (z : ℕ) (e : WrapperKey × Place) → Contains (list_of h.shape.wrappers z) e
       → name_at h.shape e.1 ≡ Some (entry_name e)
   named z e there = lies.shown.mapped (record { 0 = e.0.comp }) e.0.target e.1
-      (found_there h.shape.wrappers.lists z e apart there)
+      (found-there h.shape.wrappers.lists z e apart there)
 
   into : (z : ℕ) (e : WrapperKey × Place) → Contains (list_of h.shape.wrappers z) e
       → Contains (places.keys w.places) (entry_name e)

@@ -6,7 +6,6 @@ use Rattle.std.proofs.Common.{arith}
 use Rattle.std.specs.Option.{option_map}
 use Rattle.gz_names.specs.Zones.{HasZone}
 use Rattle.gz_names.specs.declared.numbers.Place.{Place}
-use Rattle.gz_names.specs.declared.zone_sets.ZoneSet.{ZoneSet}
 use Rattle.cell_bits.specs.declared.bits.Bits.{Bits}
 use Rattle.cell_bits.specs.declared.jobs.Job.{Job}
 use Rattle.arena_table.specs.Cells.{CellState}
@@ -23,8 +22,6 @@ use Rattle.marker.specs.UnitsToCome.{is_black_only}
 use Rattle.weak_maps.specs.declared.entries.WeakEntry.{WeakEntry}
 use Rattle.slice_driver.specs.Advancing.{EndsSweeping}
 use Rattle.slice_driver.specs.Collector.{CollectorState, heap_with}
-use Rattle.slice_driver.specs.GroupEnd.{IsReady}
-use Rattle.slice_driver.specs.HandingOut.{HandsOut}
 use Rattle.slice_driver.specs.Left.{marking_left, starting_left, units_left}
 use Rattle.slice_driver.specs.Quiet.{IsStarted}
 use Rattle.slice_driver.specs.Remaining.{arenas_left, clearing_left, grouping_left, left_of, steps_left, steps_of}
@@ -42,6 +39,7 @@ use Rattle.slice_driver.proofs.group_end.Cells.{is_white_colour, zone_at_end, zo
 use Rattle.slice_driver.proofs.group_end.Laws.{jobs_flown}
 use Rattle.slice_driver.proofs.group_end.Ready.{collection_of, no_some, some_zone}
 use Rattle.slice_driver.proofs.taking_in.GroupEnding.{group_swept, others_stay}
+use Rattle.slice_driver.proofs.group_end.Ending.{HandsGroup}
 
 -- what an arena has as it goes out is the heap's
 handed_bits : (word : ℕ) (arenas : List ArenaShape) (colours : List Bits)
@@ -57,10 +55,10 @@ handed_bits word (arena ∷ arenas) (bits ∷ colours) kept zero b e = go (in_zo
 handed_bits word (arena ∷ arenas) (bits ∷ colours) kept (suc i) b e =
     handed_bits word arenas colours (λ a. kept (suc a)) i b e
 
-module _ (c : CollectorState) (g : ZoneSet) (rest : List ZoneSet) (ready : IsReady c g rest) (jobs : Option (List Job))
-    (m : HeapState) (out : HandsOut c.heap g jobs m) (flown : ℕ → Option Bits) (s : IsSoundMarking c flown)
-    (k : HeapState)
-    (over : Bool) (e : EndsSweeping m rest over k) where
+module _ (c : CollectorState) (m : HeapState) (on : HandsGroup c m) (flown : ℕ → Option Bits)
+    (s : IsSoundMarking c flown) (k : HeapState) (over : Bool) (e : EndsSweeping m on.rest over k) where
+  open on use {group as g, rest, ready, jobs, out}
+
   none_flown : (a : ℕ) → flown a ≡ None
   none_flown a = no_some (flown a) (s.represents.swept.flies.covers a ∙ ap is_some (ready.kept a))
 
@@ -105,9 +103,9 @@ module _ (c : CollectorState) (g : ZoneSet) (rest : List ZoneSet) (ready : IsRea
       let same = steps_kept m k rest over e z in
       elim (zone_or_not g ready.small z) [
         | inl has ↦ (let none : steps_of (state_in m.shape z) ≡ 0 =
-            ap steps_of (group_swept c g rest ready jobs m out z has) in omega (arith, same, none))
+            ap steps_of (group_swept c m on z has) in omega (arith, same, none))
         | inr other ↦ (let as_was : steps_of (state_in m.shape z) ≡ steps_of (state_in c.heap.shape z) =
-            ap steps_of (others_stay c g rest ready jobs m out z other) in omega (arith, same, as_was))
+            ap steps_of (others_stay c m on z other) in omega (arith, same, as_was))
       ]
 
   a_zone : (z : ℕ) × HasZone g.bits z
@@ -121,7 +119,7 @@ module _ (c : CollectorState) (g : ZoneSet) (rest : List ZoneSet) (ready : IsRea
   steps_less =
       let z = a_zone.0 in
       let same = steps_kept m k rest over e z in
-      let none : steps_of (state_in m.shape z) ≡ 0 = ap steps_of (group_swept c g rest ready jobs m out z a_zone.1) in
+      let none : steps_of (state_in m.shape z) ≡ 0 = ap steps_of (group_swept c m on z a_zone.1) in
       let one : steps_of (state_in c.heap.shape z) ≡ 1 = ap steps_of (ready.marked.begun z a_zone.1) in
       fewer_steps c.heap.shape.states k.shape.states z
       (e.sized ∙ (out.goes.sized ∙ ap (λ (x : HeapState). length x.shape.states) out.drops.rest)) steps_at
@@ -133,7 +131,7 @@ module _ (c : CollectorState) (g : ZoneSet) (rest : List ZoneSet) (ready : IsRea
       (λ z here. ap is_marking_state (ready.marked.begun z (in_zones_has g ready.small z here)))
       (λ z other. marking_kept m k rest over e z
       ∙ ap is_marking_state
-      (others_stay c g rest ready jobs m out z (λ has. (let here = has_in_zones g z has in cc (here, other))))) in
+      (others_stay c m on z (λ has. (let here = has_in_zones g z has in cc (here, other))))) in
       let same : arenas_left k.shape k.shape.arenas
       ≡ arenas_left k.shape (handed g.bits c.heap.shape.arenas c.heap.colours) =
       ap (arenas_left k.shape) arenas_are in
@@ -195,14 +193,14 @@ module _ (c : CollectorState) (g : ZoneSet) (rest : List ZoneSet) (ready : IsRea
   still_marking : (x : Place) → is_marking k.shape x ≡ true
       → IsStillMarking (heap_with c flown)
       (heap_with (record c { heap = k; groups = rest; run = if over then None else c.run }) (flying_after jobs flown)) x
-  still_marking x on = record {
+  still_marking x marks = record {
     name_is = ap (λ (o : Option CellState). option_map (λ (c : CellState). c.name) o)
         (cell_at_end c.heap k g arenas_are sized ready.kept x
         ∙ ap (λ (b : Bool). cond b None (cell_of c.heap.shape x)) alive);
-    was = sym (marking_then other) ∙ on;
+    was = sym (marking_then other) ∙ marks;
     colour_is = ap (λ (cs : List Bits). colour_in (slice_get cs x.0) x.1) colours_same;
     black_only = λ only. sym (ap is_black_only
-        (others_stay c g rest ready jobs m out (zone_of c.heap.shape x) other))
+        (others_stay c m on (zone_of c.heap.shape x) other))
         ∙ (sym (ap (λ z. is_black_only (state_in k.shape z)) zone_same
         ∙ black_only_kept m k rest over e (zone_of c.heap.shape x)) ∙ only);
   }
@@ -215,13 +213,13 @@ module _ (c : CollectorState) (g : ZoneSet) (rest : List ZoneSet) (ready : IsRea
           ∙ marking_kept m k rest over e (zone_of c.heap.shape x)
 
       other : HasZone g.bits (zone_of c.heap.shape x) → ⊥
-      other has = (let off = ap is_marking_state (group_swept c g rest ready jobs m out (zone_of c.heap.shape x) has) in
-          let now = marking_now in cc (on, off, now))
+      other has = (let off = ap is_marking_state (group_swept c m on (zone_of c.heap.shape x) has) in
+          let now = marking_now in cc (marks, off, now))
 
       marking_then : (HasZone g.bits (zone_of c.heap.shape x) → ⊥)
           → is_marking k.shape x ≡ is_marking c.heap.shape x
       marking_then none = marking_now
-          ∙ ap is_marking_state (others_stay c g rest ready jobs m out (zone_of c.heap.shape x) none)
+          ∙ ap is_marking_state (others_stay c m on (zone_of c.heap.shape x) none)
 
       alive : is_dead c.heap g x ≡ false
       alive = go (in_zones g.bits (zone_of c.heap.shape x)) refl

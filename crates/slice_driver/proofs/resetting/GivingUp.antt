@@ -81,6 +81,7 @@ pub record GivenUp (c : CollectorState) (zones : ZoneSet) (k : HeapState) (d : C
   pub looks : NothingLeft k.looks
   pub buffers : k.buffers ≡ replicate 64 []
   pub made : k.made ≡ c.heap.made
+  pub weak_names : k.weak_names ≡ c.heap.weak_names
   pub ledger : k.ledger ≡ c.heap.ledger
   pub grown : Blackens (Reached k.shape (IsBlack k)) k (heap_with d flying)
   pub invariant : MarkingInvariant (heap_with d flying) d.stack
@@ -178,7 +179,8 @@ module _ (c : CollectorState) (flown : ℕ → Option Bits) (w : World) (zones :
       settled_before
 
   lies : LiesIn d.heap w
-  lies = lies_same c.heap d.heap w same arenas_are placed.lies
+  lies = lies_same c.heap d.heap w same arenas_are
+      (ap (λ (z : HeapState). z.weak_names) up.grown.rest ∙ up.weak_names) placed.lies
 
   abbrev after : World
   after = record w { black = black_names end w.places; preparing = None; collection = None }
@@ -313,7 +315,7 @@ module _ (c : CollectorState) (flown : ℕ → Option Bits) (w : World) (zones :
     part = record { well_formed = l.part.well_formed; part = l.part.part; here = l.part.here };
     places_are = l.places_are;
     owner_is = l.owner_is;
-    weak_is = l.weak_is;
+    weak_are = l.weak_are;
     out_is = l.out_is;
     white_are = l.white_are;
   }

@@ -241,6 +241,8 @@ module _ (c : CollectorState) (flown : ℕ → Option Bits) (s : IsSound c flown
                 ∙ ap (λ (z : HeapState). z.buffers) forgets);
             made = ap (λ (z : HeapState). z.made) blackens.rest ∙ (ap (λ (z : HeapState). z.made) rest
                 ∙ ap (λ (z : HeapState). z.made) forgets);
+            weak_names = ap (λ (z : HeapState). z.weak_names) blackens.rest
+                ∙ (ap (λ (z : HeapState). z.weak_names) rest ∙ ap (λ (z : HeapState). z.weak_names) forgets);
             ledger = ap (λ (z : HeapState). z.ledger) blackens.rest ∙ (ap (λ (z : HeapState). z.ledger) rest
                 ∙ ap (λ (z : HeapState). z.ledger) forgets);
             grown = subst (λ (z : HeapState). Blackens from_black black (joined z (bits_of j))) (sym heap_is)

@@ -142,7 +142,7 @@ module _ (c d : CollectorState) (flown : ℕ → Option Bits) (w : World) (k : C
   pub represents_done : RepresentsMarking d flown (record w { collection = None })
   represents_done = record {
     placed = placed_running d.heap w None w.preparing (placed_same c.heap d.heap w same_cells arenas_same
-        (ap (λ (h : HeapState). h.delayed) f.heap_is) s.placed);
+        (ap (λ (h : HeapState). h.delayed) f.heap_is) (ap (λ (h : HeapState). h.weak_names) f.heap_is) s.placed);
     swept = swept_same c.heap.shape d.heap.shape flown arenas_same s.swept;
     coloured = coloured_after;
     phase = record {

@@ -3,23 +3,19 @@ use Rattle.std.proofs.Common.{◌≡◌, ◌≢◌, ℕ, Bool, true, false, if�
 use Rattle.std.proofs.Common.{[], ◌∷◌, length, refl, sym, ap, subst, ◌∙◌, inl, inr}
 use Rattle.std.proofs.lemmas.List.{length-map}
 use Rattle.gz_names.specs.Zones.{HasZone}
-use Rattle.gz_names.specs.declared.names.Name.{Name}
 use Rattle.gz_names.specs.declared.replies.Report.TheVariants as report
-use Rattle.gz_names.specs.declared.zone_sets.ZoneSet.{ZoneSet}
 use Rattle.cell_bits.specs.declared.bits.Bits.{Bits}
 use Rattle.cell_bits.specs.declared.jobs.Job.{Job}
 use Rattle.zones.specs.States.{next_state}
 use Rattle.zones.specs.declared.states.State.{State}
 use Rattle.zones.specs.declared.states.State.TheVariants as state
-use Rattle.colour_defs.specs.Ends.{Lists}
 use Rattle.colour_defs.specs.World.{World}
 use Rattle.heap_core.specs.Shape.{out_of, state_in}
 use Rattle.heap_core.specs.Heap.{HeapState}
 use Rattle.heap_core.specs.Sweeping.{handed, jobs_of, with_handed}
 use Rattle.slice_driver.specs.Advancing.{EndsSweeping}
 use Rattle.slice_driver.specs.Collector.{CollectorState, heap_with}
-use Rattle.slice_driver.specs.GroupEnd.{AreJustFlown, EndsIn, EndsZones, IsEnded, IsGrayHere, IsReady}
-use Rattle.slice_driver.specs.HandingOut.{HandsOut}
+use Rattle.slice_driver.specs.GroupEnd.{AreJustFlown, EndsIn, EndsZones, IsEnded}
 use Rattle.slice_driver.specs.Represents.{AreInStates, Represents, RepresentsMarking}
 use Rattle.slice_driver.specs.Sweeping.{after_sweep}
 use Rattle.slice_driver.specs.Units.{AreJobs, DoesUnit, flown_by, flying_after, reports_of}
@@ -30,6 +26,7 @@ use Rattle.slice_driver.proofs.group_end.Ready.{collection_of, no_some, runs_of}
 use Rattle.slice_driver.proofs.group_end.Steps.{ended_by_steps}
 use Rattle.slice_driver.proofs.taking_in.Laws.{end_last_unit, end_unit}
 use Rattle.slice_driver.proofs.taking_in.TakingIn.{after_both, all_swept, ends_all, states_mapped}
+use Rattle.slice_driver.proofs.group_end.Ending.{EndListed, EndsOn, HandsGroup}
 
 not_swept : (t : State) → t ≢ state.Sweep → after_sweep t ≡ t
 not_swept state.NoGC n = refl
@@ -43,8 +40,9 @@ nothing_out : (o : Option Bits) → IsSome o → o ≡ None → ⊥
 nothing_out None s e = cc s
 nothing_out (Some b) s e = cc e
 
-module _ (c : CollectorState) (g : ZoneSet) (rest : List ZoneSet) (ready : IsReady c g rest) (jobs : Option (List Job))
-    (m : HeapState) (out : HandsOut c.heap g jobs m) where
+module _ (c : CollectorState) (m : HeapState) (on : HandsGroup c m) where
+  open on use {group as g, rest, ready, jobs, out}
+
   state_dropped : (z : ℕ) → state_in out.dropped.shape z ≡ state_in c.heap.shape z
   state_dropped z = ap (λ (x : HeapState). state_in x.shape z) out.drops.rest
 
@@ -104,90 +102,102 @@ module _ (c : CollectorState) (g : ZoneSet) (rest : List ZoneSet) (ready : IsRea
         go None e a = none a ∙ (sym (ap (λ (js : List Job). flown_by js a) e) ∙ by_jobs a)
         go (Some js) e a = ap (λ (js : List Job). flown_by js a) e.0 ∙ by_jobs a
 
-  module _ (grays : List Name) (listed : Lists (IsGrayHere c.heap g) grays) (k : HeapState) (flown : ℕ → Option Bits)
-    where
-      marking : (w : World) → Represents c flown w → RepresentsMarking c flown w
-      marking w r = marking_of c flown w (none_formed c flown w (ready.run, ready.running, ready.formed)) r
+module _ (c : CollectorState) (m : HeapState) (on : HandsGroup c m) (lists : EndListed c.heap on.group) (k : HeapState)
+    (flown : ℕ → Option Bits) where
+  open on use {group as g, rest, ready, jobs}
 
-      none_flown : (w : World) → RepresentsMarking c flown w → (a : ℕ) → flown a ≡ None
-      none_flown w s a = no_some (flown a) (s.swept.flies.covers a ∙ ap is_some (ready.kept a))
+  abbrev ended_on : (d : CollectorState) → EndsIn c g rest d → AreJustFlown d.heap.shape (flying_after jobs flown)
+      → EndsOn c d (flying_after jobs flown)
+  ended_on d ends flies = record {
+    group = g;
+    rest = rest;
+    ready = ready;
+    lists = lists;
+    ends = ends;
+    flies = flies;
+  }
 
-      sized_in : (w : World) → RepresentsMarking c flown w → length c.heap.colours ≡ length c.heap.shape.arenas
-      sized_in w s = sym (Rattle.barriers.proofs.Flying.flown_length flown 0 c.heap.colours)
-          ∙ s.coloured.marks.holds.colours.sized
+  marking : (w : World) → Represents c flown w → RepresentsMarking c flown w
+  marking w r = marking_of c flown w (none_formed c flown w (ready.run, ready.running, ready.formed)) r
 
-      states_in : (w : World) → RepresentsMarking c flown w → AreInStates c ready.run
-      states_in w s = let kind = collection_of c (heap_with c flown) w ready.run ready.running s.phase.runs in
-          (runs_of c (heap_with c flown) w ready.run kind.0 ready.running kind.1 s.phase.runs).states
+  none_flown : (w : World) → RepresentsMarking c flown w → (a : ℕ) → flown a ≡ None
+  none_flown w s a = no_some (flown a) (s.swept.flies.covers a ∙ ap is_some (ready.kept a))
 
-      ends_on : EndsSweeping m rest false k
-          → DoesUnit c flown (report.Ended g grays [] ∷ []) (record c { heap = k; groups = rest })
-          (flying_after jobs flown)
-      ends_on e w ok r =
-          let s = marking w r in
-          let has : HasStates k = record {
-            rest_is = e.rest;
-            sized = e.sized;
-            still = λ b some. (e.still b some).1;
-            swept = λ none. (e.swept none refl).1;
-          } in
-          let no_sweep = (states_in w s).swept ready.kept in
-          end_unit c (record c { heap = k; groups = rest }) flown (flying_after jobs flown) g rest grays ready
-          (ends_in k has no_sweep) (just_flown k has no_sweep flown (none_flown w s) (sized_in w s)) listed
-          (λ done. (e.swept (λ b. sym (out_same k has no_sweep b) ∙ done.kept b) refl).0 done.none_left)
-          w ok r
+  sized_in : (w : World) → RepresentsMarking c flown w → length c.heap.colours ≡ length c.heap.shape.arenas
+  sized_in w s = sym (Rattle.barriers.proofs.Flying.flown_length flown 0 c.heap.colours)
+      ∙ s.coloured.marks.holds.colours.sized
 
-      ends_last : EndsSweeping m rest true k
-          → DoesUnit c flown (report.Ended g grays [] ∷ report.Done ∷ [])
-          (record c { heap = k; groups = rest; run = None }) (flying_after jobs flown)
-      ends_last e w ok r =
-          let s = marking w r in
-          let over = e.ended refl in
-          let n : HeapState = all_swept m in
-          let has : HasStates n = record {
-            rest_is = refl;
-            sized = length-map m.shape.states after_sweep;
-            still = λ b some. absurd (nothing_out (out_of m.shape b) some (over.1 b));
-            swept = λ none z. states_mapped after_sweep refl m.shape.states z;
-          } in
-          let no_sweep = (states_in w s).swept ready.kept in
-          let d : CollectorState = record c { heap = n; groups = rest } in
-          let flies = just_flown n has no_sweep flown (none_flown w s) (sized_in w s) in
-          let v = group_ends c d flown (flying_after jobs flown) w g rest grays ok s ready (ends_in n has no_sweep)
-          flies
-          listed in
-          let kind = collection_of d (heap_with d (flying_after jobs flown)) v.0 ready.run ready.running v.3.phase.runs
-          in
-          let states : AreInStates d ready.run =
-          (runs_of d (heap_with d (flying_after jobs flown)) v.0 ready.run kind.0 ready.running kind.1
-          v.3.phase.runs).states in
-          let none_now : (b : ℕ) → out_of d.heap.shape b ≡ None = over.1 in
-          end_last_unit c d (record c { heap = k; groups = rest; run = None }) flown (flying_after jobs flown) g rest
-          grays ready (ends_in n has no_sweep) flies listed
-          (record {
-            run = ready.run;
-            running = ready.running;
-            formed = ready.formed;
-            none_left = over.0;
-            kept = none_now;
-          })
-          (record {
-            heap_is = e.rest;
-            sized = e.sized ∙ sym (length-map m.shape.states after_sweep);
-            states = λ z. over.2 z
-                ∙ (sym (after_both (state_in m.shape z))
-                ∙ (ap Rattle.slice_driver.specs.Advancing.after_end
-                (sym (states_mapped after_sweep refl m.shape.states z))
-                ∙ ends_all d ready.run states ready.formed over.0
-                z));
-            stack_is = refl;
-            lists_is = refl;
-            run_is = refl;
-          })
-          w ok r
+  states_in : (w : World) → RepresentsMarking c flown w → AreInStates c ready.run
+  states_in w s = let kind = collection_of c (heap_with c flown) w ready.run ready.running s.phase.runs in
+      (runs_of c (heap_with c flown) w ready.run kind.0 ready.running kind.1 s.phase.runs).states
 
-      pub ends_group : (over : Bool) → EndsSweeping m rest over k
-          → DoesUnit c flown (reports_of (Some (report.Ended g grays [])) over)
-          (record c { heap = k; groups = rest; run = if over then None else c.run }) (flying_after jobs flown)
-      ends_group true e = ends_last e
-      ends_group false e = ends_on e
+  ends_on : EndsSweeping m rest false k
+      → DoesUnit c flown (report.Ended g lists.grays lists.told ∷ []) (record c { heap = k; groups = rest })
+      (flying_after jobs flown)
+  ends_on e w ok r =
+      let s = marking w r in
+      let has : HasStates c m on k = record {
+        rest_is = e.rest;
+        sized = e.sized;
+        still = λ b some. (e.still b some).1;
+        swept = λ none. (e.swept none refl).1;
+      } in
+      let no_sweep = (states_in w s).swept ready.kept in
+      end_unit c (record c { heap = k; groups = rest }) flown (flying_after jobs flown)
+      (ended_on (record c { heap = k; groups = rest }) (ends_in c m on k has no_sweep)
+      (just_flown c m on k has no_sweep flown (none_flown w s) (sized_in w s)))
+      (λ done. (e.swept (λ b. sym (out_same c m on k has no_sweep b) ∙ done.kept b) refl).0 done.none_left)
+      w ok r
+
+  ends_last : EndsSweeping m rest true k
+      → DoesUnit c flown (report.Ended g lists.grays lists.told ∷ report.Done ∷ [])
+      (record c { heap = k; groups = rest; run = None }) (flying_after jobs flown)
+  ends_last e w ok r =
+      let s = marking w r in
+      let over = e.ended refl in
+      let n : HeapState = all_swept m in
+      let has : HasStates c m on n = record {
+        rest_is = refl;
+        sized = length-map m.shape.states after_sweep;
+        still = λ b some. absurd (nothing_out (out_of m.shape b) some (over.1 b));
+        swept = λ none z. states_mapped after_sweep refl m.shape.states z;
+      } in
+      let no_sweep = (states_in w s).swept ready.kept in
+      let d : CollectorState = record c { heap = n; groups = rest } in
+      let here : EndsOn c d (flying_after jobs flown) = ended_on d (ends_in c m on n has no_sweep)
+      (just_flown c m on n has no_sweep flown (none_flown w s) (sized_in w s)) in
+      let v = group_ends c d flown (flying_after jobs flown) w here ok s in
+      let kind = collection_of d (heap_with d (flying_after jobs flown)) v.0 ready.run ready.running v.3.phase.runs
+      in
+      let states : AreInStates d ready.run =
+      (runs_of d (heap_with d (flying_after jobs flown)) v.0 ready.run kind.0 ready.running kind.1
+      v.3.phase.runs).states in
+      let none_now : (b : ℕ) → out_of d.heap.shape b ≡ None = over.1 in
+      end_last_unit c d (record c { heap = k; groups = rest; run = None }) flown (flying_after jobs flown) here
+      (record {
+        run = ready.run;
+        running = ready.running;
+        formed = ready.formed;
+        none_left = over.0;
+        kept = none_now;
+      })
+      (record {
+        heap_is = e.rest;
+        sized = e.sized ∙ sym (length-map m.shape.states after_sweep);
+        states = λ z. over.2 z
+            ∙ (sym (after_both (state_in m.shape z))
+            ∙ (ap Rattle.slice_driver.specs.Advancing.after_end
+            (sym (states_mapped after_sweep refl m.shape.states z))
+            ∙ ends_all d ready.run states ready.formed over.0
+            z));
+        stack_is = refl;
+        lists_is = refl;
+        run_is = refl;
+      })
+      w ok r
+
+  pub ends_group : (over : Bool) → EndsSweeping m rest over k
+      → DoesUnit c flown (reports_of (Some (report.Ended g lists.grays lists.told)) over)
+      (record c { heap = k; groups = rest; run = if over then None else c.run }) (flying_after jobs flown)
+  ends_group true e = ends_last e
+  ends_group false e = ends_on e

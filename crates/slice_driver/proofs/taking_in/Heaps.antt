@@ -23,6 +23,7 @@ use Rattle.slice_driver.specs.Worlds.{IsInFlight, IsUnswept, outs_from, owners_o
 use Rattle.slice_driver.proofs.abstraction.Named.{some_one}
 use Rattle.slice_driver.proofs.group_end.Cells.{some_out}
 use Rattle.slice_driver.proofs.basics.Cells.{HasSameCells}
+use Rattle.slice_driver.proofs.basics.Owners.{owner_by}
 use Rattle.slice_driver.proofs.basics.Marks.{HasSameMarks}
 use Rattle.slice_driver.proofs.taking_in.Slots.{left_in, length_freed}
 
@@ -78,8 +79,8 @@ outs_after f out n (suc a) (x ∷ arenas) some low =
 owners_after : (f : ArenaShape → ArenaShape) → ((x : ArenaShape) → (f x).zone ≡ x.zone)
     → (a : ℕ) (arenas : List ArenaShape) → owners_of (change_at f arenas a) ≡ owners_of arenas
 owners_after f zone a [] = refl
-owners_after f zone zero (x ∷ arenas) = λ i. Some (zone x i) ∷ owners_of arenas
-owners_after f zone (suc a) (x ∷ arenas) = ap (λ l. Some x.zone ∷ l) (owners_after f zone a arenas)
+owners_after f zone zero (x ∷ arenas) = λ i. owner_by (zone x i) ∷ owners_of arenas
+owners_after f zone (suc a) (x ∷ arenas) = ap (λ l. owner_by x.zone ∷ l) (owners_after f zone a arenas)
 
 pub marking_after_sweep : (t : State) → is_marking_state (after_sweep t) ≡ is_marking_state t
 marking_after_sweep state.NoGC = refl

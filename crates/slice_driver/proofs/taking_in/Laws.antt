@@ -6,12 +6,10 @@ use Rattle.gz_names.specs.declared.names.Name.{Name}
 use Rattle.gz_names.specs.declared.replies.Report.TheVariants as report
 use Rattle.gz_names.specs.declared.zone_sets.ZoneSet.{ZoneSet}
 use Rattle.cell_bits.specs.declared.bits.Bits.{Bits}
-use Rattle.colour_defs.specs.Ends.{Lists}
 use Rattle.colour_defs.specs.Lawful.{Finishes, IsLawfulSweep, IsOver, IsRunning, says, last}
 use Rattle.colour_defs.specs.World.{World, Collection}
 use Rattle.heap_core.specs.Shape.{ArenaShape, out_in}
 use Rattle.slice_driver.specs.Collector.{CollectorState, RunState, heap_with}
-use Rattle.slice_driver.specs.GroupEnd.{AreJustFlown, EndsIn, IsGrayHere, IsReady}
 use Rattle.slice_driver.proofs.abstraction.Phases.{marking_of, none_formed, none_out}
 use Rattle.slice_driver.specs.Represents.{going, RepresentsMarking, Runs, RunsAs}
 use Rattle.slice_driver.specs.Sweeping.{AreFreed, FinishesIn, IsAllDone, TakesIn}
@@ -22,6 +20,7 @@ use Rattle.slice_driver.proofs.group_end.Ready.{collection_of}
 use Rattle.slice_driver.proofs.abstraction.Named.{some_one}
 use Rattle.slice_driver.proofs.taking_in.Done.{finishes, represents_done}
 use Rattle.slice_driver.proofs.taking_in.Runs.{represents_after, swept_world, sweeps}
+use Rattle.slice_driver.proofs.group_end.Ending.{EndsOn}
 
 -- an arena came in
 pub takes_in : (c d : CollectorState) (flown : ℕ → Option Bits) (w : World) (a freed : ℕ) (bits : Bits)
@@ -106,27 +105,25 @@ some_running c flown w some s = go c.run refl some
     go (Some r) e f = running_of c flown w r e s
 
 -- the unit that ends a group
-pub end_unit : (c d : CollectorState) (flown flying : ℕ → Option Bits) (g : ZoneSet) (rest : List ZoneSet)
-    (grays : List Name) → IsReady c g rest → EndsIn c g rest d → AreJustFlown d.heap.shape flying
-    → Lists (IsGrayHere c.heap g) grays → (IsAllDone d → ⊥) → DoesUnit c flown (report.Ended g grays [] ∷ []) d flying
-end_unit c d flown flying g rest grays ready ends flies listed more w ok rep =
-    let s = marking_of c flown w (none_formed c flown w (ready.run, ready.running, ready.formed)) rep in
-    let e = group_ends c d flown flying w g rest grays ok s ready ends flies listed in (
+pub end_unit : (c d : CollectorState) (flown flying : ℕ → Option Bits) (on : EndsOn c d flying) → (IsAllDone d → ⊥)
+    → DoesUnit c flown (report.Ended on.group on.lists.grays on.lists.told ∷ []) d flying
+end_unit c d flown flying on more w ok rep =
+    let s = marking_of c flown w (none_formed c flown w (on.ready.run, on.ready.running, on.ready.formed)) rep in
+    let e = group_ends c d flown flying w on ok s in (
       e.0,
-      says (running_of c flown w ready.run ready.running s) (λ q. cc q) e.1
+      says (running_of c flown w on.ready.run on.ready.running s) (λ q. cc q) e.1
           (λ over. more (over_done d flying e.0 e.3 over)),
       going e.3,
     )
 
-pub end_last_unit : (c d f : CollectorState) (flown flying : ℕ → Option Bits) (g : ZoneSet) (rest : List ZoneSet)
-    (grays : List Name) → IsReady c g rest → EndsIn c g rest d → AreJustFlown d.heap.shape flying
-    → Lists (IsGrayHere c.heap g) grays → IsAllDone d → FinishesIn d f
-    → DoesUnit c flown (report.Ended g grays [] ∷ report.Done ∷ []) f flying
-end_last_unit c d f flown flying g rest grays ready ends flies listed done finish w ok rep =
-    let s = marking_of c flown w (none_formed c flown w (ready.run, ready.running, ready.formed)) rep in
-    let e = group_ends c d flown flying w g rest grays ok s ready ends flies listed in
+pub end_last_unit : (c d f : CollectorState) (flown flying : ℕ → Option Bits) (on : EndsOn c d flying) → IsAllDone d
+    → FinishesIn d f
+    → DoesUnit c flown (report.Ended on.group on.lists.grays on.lists.told ∷ report.Done ∷ []) f flying
+end_last_unit c d f flown flying on done finish w ok rep =
+    let s = marking_of c flown w (none_formed c flown w (on.ready.run, on.ready.running, on.ready.formed)) rep in
+    let e = group_ends c d flown flying w on ok s in
     let o = finishes_here d f flying e.0 e.3 done finish in
-    (o.0, last (running_of c flown w ready.run ready.running s) (λ q. cc q) e.1 o.1, going o.2)
+    (o.0, last (running_of c flown w on.ready.run on.ready.running s) (λ q. cc q) e.1 o.1, going o.2)
 
 -- the unit that takes an arena in
 pub sweep_unit : (c d : CollectorState) (flown : ℕ → Option Bits) (a freed : ℕ) (bits : Bits) (names : List Name)

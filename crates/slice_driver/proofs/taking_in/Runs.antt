@@ -30,6 +30,7 @@ use Rattle.slice_driver.proofs.group_end.Wrappers.{filter_has, has_filter}
 use Rattle.slice_driver.proofs.basics.Cells.{name_same, shows_same}
 use Rattle.slice_driver.proofs.basics.Marks.{black_back, black_on, coloured_as, coloured_kept, live_back, live_on}
 use Rattle.slice_driver.proofs.basics.Marks.{pending_back, pending_on}
+use Rattle.slice_driver.proofs.basics.NamesWeakly.{names_weakly_on}
 use Rattle.slice_driver.proofs.basics.Rows.{rows_in}
 use Rattle.slice_driver.proofs.taking_in.Heaps.{flies_after, marking_same, no_sweep_after}
 use Rattle.slice_driver.proofs.taking_in.Heaps.{outs_are, owners_same, same_cells, same_marks, state_on}
@@ -105,7 +106,9 @@ module _ (c : CollectorState) (flown : ℕ → Option Bits) (w : World) (k : Col
           ∙ named),
     );
     owner_is = s.placed.lies.owner_is ∙ sym (owners_same c flown w a freed bits d s t);
-    weak_is = s.placed.lies.weak_is;
+    weak_are = names_weakly_on c.heap.shape d.heap.shape
+        (λ p x at. name_same c.heap d.heap (same_cells c flown w a freed bits d s t) p ∙ at) c.heap.weak_names
+        d.heap.weak_names w.weak w.weak (ap (λ (z : HeapState). z.weak_names) t.heap_is) refl s.placed.lies.weak_are;
     out_is = refl;
     white_are = λ x p. (
       λ l. (let f = (white_are x p).0 l in

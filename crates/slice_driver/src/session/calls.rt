@@ -14,7 +14,7 @@ use gz_names::{CompNo, GraphCmd, GrayNo, Name, Reg, ZoneNo};
 use sweeping::Sweeper;
 
 // What commands of one form answer.
-trait Answer: Sized {
+pub(super) trait Answer: Sized {
     // The reply that says it.
     ghost saying: { Self → Reply };
 

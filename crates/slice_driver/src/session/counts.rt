@@ -24,7 +24,8 @@ impl<S: Sweeper> Session<S> {
         self.collector.objects()
     }
 
-    /// How many arenas there are, each of 64 slots. None is given back but by the end of the session.
+    /// How many arenas were made, each of 64 slots, those that compaction gave up among them. Memory is given back
+    /// by the end of the session alone.
     pub fn arenas(&self) -> u32
         ensures { result ≡ length self.now.collector.heap.shape.arenas }
     {

@@ -1,6 +1,7 @@
 // What went wrong, in words.
 use super::SessionFault;
 use crate::begin::BeginFault;
+use crate::compacting::CompactFault;
 use gz_names::Refusal;
 use std::alloc::AllocError;
 use std::fmt::{self, Display, Formatter, Write};
@@ -31,6 +32,16 @@ impl Display for BeginFault {
         match self {
             BeginFault::Running => f.write_str(refusal_words(Refusal::Running)),
             BeginFault::NoZone => f.write_str(refusal_words(Refusal::NoZone)),
+        }
+    }
+}
+
+impl Display for CompactFault {
+    fn fmt<W: Write>(&self, f: &mut Formatter<W>) -> fmt::Result {
+        match self {
+            CompactFault::Running => f.write_str(refusal_words(Refusal::Running)),
+            CompactFault::NoZone => f.write_str(refusal_words(Refusal::NoZone)),
+            CompactFault::NoMemory => f.write_str("out of memory"),
         }
     }
 }

@@ -3,7 +3,7 @@ ghost use Rattle.std.specs.Prelude.{◌≡◌, None};
 ghost use Rattle.colour_defs.specs.Step.{refusal_in};
 ghost use Rattle.collection_laws.specs.Numbers.{IsGraphReply};
 ghost use Rattle.slice_driver.specs.Sessions.{as_reply, groups_of, kind_of};
-ghost use Rattle.slice_driver.specs.Sessions.{names_of, no_step, session_result, session_step};
+ghost use Rattle.slice_driver.specs.Sessions.{names_of, no_step, session_result, session_step, told_of};
 
 use crate::advance::Step;
 use gz_names::{CompNo, Name, NoMemory, Reply, Report, ZoneNo, ZoneSet};
@@ -34,7 +34,8 @@ pub enum SessionReport {
     Started,
     /// The groups were formed. `Session::groups` lists them.
     Groups,
-    /// The group of these zones ended. `Session::names` lists its gray cells.
+    /// The group of these zones ended. `Session::names` lists its gray cells, and `Session::told` the watched
+    /// cells that died with it.
     Ended(ZoneSet),
     /// The arena with this number was taken in. `Session::names` lists what was freed from it.
     Swept(u32),
@@ -142,6 +143,16 @@ pub(super) fn names(report: &Option<Report>) -> &[Name]
         Some(Report::Ended(_, grays, _)) => grays.as_slice(),
         Some(Report::Swept(_, names)) => names.as_slice(),
         Some(Report::Groups(_) | Report::Started | Report::Done | Report::Stopped(_)) | None => &[],
+    }
+}
+
+// The watched cells that died with a group, as a report tells them.
+pub(super) fn told_names(report: &Option<Report>) -> &[Name]
+    ensures { result.now ≡ told_of report.now }
+{
+    match report {
+        Some(Report::Ended(_, _, told)) => told.as_slice(),
+        _ => &[],
     }
 }
 

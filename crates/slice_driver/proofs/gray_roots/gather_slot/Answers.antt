@@ -1,15 +1,12 @@
 use Rattle.std.proofs.Common.{Some}
 use Rattle.colour_defs.proofs.Lists.{contains_at}
-use Rattle.heap_core.proofs.Added.{arena_made}
 use Rattle.slice_driver.proofs.beginning.GatheredRoots.{on_ok, slot_at}
 use Rattle.slice_driver.proofs.gray_roots.gather_slot.Goals as goal
 
 pub gather-requires : goal.gather-requires
 gather-requires c =
-    let s = c.args.heap.now.shape in
-    arena_made s c.in-Some.place
-    (c.requires.held c.in-Some.place
-    (contains_at s.slots c.args.index (Some c.in-Some.place) c.in-Some.ensures.held))
+    c.requires.held c.in-Some.place
+    (contains_at c.args.heap.now.shape.slots c.args.index (Some c.in-Some.place) c.in-Some.ensures.held)
 
 pub returns-in-Some-clause-gathered : goal.returns-in-Some-clause-gathered
 returns-in-Some-clause-gathered c = on_ok c.gather.result

@@ -1,7 +1,6 @@
-use Rattle.std.proofs.Common.{arith, ◌≡◌, ◌<◌, length, slice_get, Some, None, subst, sym}
+use Rattle.std.proofs.Common.{arith, ◌≡◌, length, slice_get, Some, None, subst, sym}
 use Rattle.colour_defs.proofs.Lists.{contains_at}
-use Rattle.heap_core.specs.Shape.{Shape}
-use Rattle.heap_core.proofs.Added.{arena_made}
+use Rattle.heap_core.specs.Shape.{IsPresent, Shape}
 use Rattle.slice_driver.proofs.beginning.MarkedRoots.{held_all, held_first, held_skip, held_step, marks_seen}
 use Rattle.slice_driver.proofs.beginning.MarkedRoots.{ready_still, shape_still}
 use Rattle.slice_driver.proofs.root_marking.mark_registers.Goals as goal
@@ -16,15 +15,15 @@ loop-index-init c = record {
 pub mark_root-requires-clause-ready : goal.mark_root-requires-clause-ready
 mark_root-requires-clause-ready c = ready_still _ _ _ _ _ _ c.requires.ready c.loop-index.invariant.marks
 
-pub mark_root-requires-clause-made : goal.mark_root-requires-clause-made
-mark_root-requires-clause-made c =
+pub mark_root-requires-clause-present : goal.mark_root-requires-clause-present
+mark_root-requires-clause-present c =
     let h = c.args.heap.now.shape in
     let place = c.in-Some.place in
     let same = shape_still _ _ _ _ _ _ c.loop-index.invariant.marks in
     let at : slice_get h.regs c.loop-index.index ≡ Some (Some place) =
     subst (λ (s : Shape). slice_get s.regs c.loop-index.index ≡ Some (Some place)) same c.in-Some.ensures.held in
-    subst (λ (s : Shape). place.0 < length s.arenas) (sym same)
-    (arena_made h place (c.requires.held place (contains_at h.regs c.loop-index.index (Some place) at)))
+    subst (λ (s : Shape). IsPresent s place) (sym same)
+    (c.requires.held place (contains_at h.regs c.loop-index.index (Some place) at))
 
 pub loop-index-preserved : goal.loop-index-preserved
 loop-index-preserved c =

@@ -1,5 +1,5 @@
-use Rattle.std.proofs.Common.{◌≡◌, ◌<◌, ℕ, Bool, Option, None, Some, false, List, [], length, if◌then◌else◌, sym, ap}
-use Rattle.std.proofs.Common.{refl, rules, subst, ◌∙◌}
+use Rattle.std.proofs.Common.{◌≡◌, ◌<◌, ℕ, Bool, Option, None, Some, false, List, length, if◌then◌else◌, sym, ap}
+use Rattle.std.proofs.Common.{Contains, refl, rules, subst, ◌∙◌}
 use Rattle.gz_names.specs.declared.names.Name.{Name}
 use Rattle.gz_names.specs.declared.numbers.Place.{Place}
 use Rattle.gz_names.specs.declared.replies.Report.{Report}
@@ -8,7 +8,7 @@ use Rattle.gz_names.specs.declared.zone_sets.ZoneSet.{ZoneSet}
 use Rattle.cell_bits.specs.declared.bits.Bits.{Bits}
 use Rattle.cell_bits.specs.declared.jobs.Job.{Job}
 use Rattle.colour_defs.specs.Ends.{Lists}
-use Rattle.heap_core.specs.Shape.{IsPresent, out_of}
+use Rattle.heap_core.specs.Shape.{IsPresent, name_at, out_of}
 use Rattle.mark_stack.specs.Stack.{Piles}
 use Rattle.heap_core.specs.Heap.{HeapState, without_delayed}
 use Rattle.barriers.specs.Pending.{pending}
@@ -18,6 +18,7 @@ use Rattle.slice_driver.specs.Advancing.{EndsSweeping}
 use Rattle.slice_driver.specs.Collector.{CollectorState, IsKept}
 use Rattle.slice_driver.specs.GroupEnd.{IsGrayHere}
 use Rattle.slice_driver.specs.HandingOut.{HandsOut}
+use Rattle.slice_driver.specs.Told.{IsTold}
 use Rattle.slice_driver.specs.Units.{AreJobs, DoesUnit, EndsColoured, HandsJobs, IsSoundMarking, flying_after, jobs_at}
 use Rattle.slice_driver.specs.Units.{reports_of}
 use Rattle.slice_driver.specs.declared.collector.Phase.{Phase}
@@ -28,12 +29,14 @@ use Rattle.slice_driver.specs.contracts.collector.Collector.{the_view}
 use Rattle.slice_driver.proofs.measure.FewerEnded.{ending_lowers, ending_to_come}
 use Rattle.slice_driver.proofs.group_end.EndReady.{IsReadyHere, die_with_owners, ends_coloured, gray_present}
 use Rattle.slice_driver.proofs.group_end.EndReady.{ready_here, sized_here}
+use Rattle.slice_driver.proofs.group_end.Ending.{HandsGroup}
 use Rattle.slice_driver.proofs.group_end.GraysHere.{grays_here}
 use Rattle.slice_driver.proofs.taking_in.GroupEnding.{ends_group}
 use Rattle.slice_driver.proofs.group_end.Laws.{jobs_flown}
 use Rattle.slice_driver.proofs.group_end.JobsHanded.{hands_jobs}
 use Rattle.slice_driver.proofs.taking_in.Kept.{more_left}
 use Rattle.slice_driver.proofs.marking.Views.{ends_seen, ended_pending, grays_seen, handed_pending, hands_seen}
+use Rattle.slice_driver.proofs.marking.Views.{told_seen}
 use Rattle.slice_driver.proofs.collector.Collector.end_group_into.Goals as goal
 use Rattle.slice_driver.proofs.collector.Collector.end_group_into.Goals.{then-finished, else-finished}
 
@@ -48,6 +51,22 @@ gray_names_in-requires-clause-present c =
     let kept = c.requires.ready.2.kept in
     subst (λ (x : CollectorState). (p : Place) → IsGray x.heap p → IsPresent x.heap.shape p) (sym c.self.view_is)
     (gray_present c.args.self.now c.requires.sound.0 kept c.requires.sound.1)
+
+pub told_names_in-requires-clause-sized : goal.told_names_in-requires-clause-sized
+told_names_in-requires-clause-sized c =
+    subst (λ (x : CollectorState). length x.heap.colours ≡ length x.heap.shape.arenas) (sym c.self.view_is)
+    (sized_here c.args.self.now c.requires.sound.0 c.requires.ready.2.kept c.requires.sound.1)
+
+pub told_names_in-requires-clause-present : goal.told_names_in-requires-clause-present
+told_names_in-requires-clause-present c =
+    subst (λ (x : CollectorState). (p : Place) → Contains x.heap.weak_names.watched p → IsPresent x.heap.shape p)
+    (sym c.self.view_is) c.requires.sound.1.represents.placed.lies.weak_are.watched_held
+
+pub told_names_in-requires-clause-apart : goal.told_names_in-requires-clause-apart
+told_names_in-requires-clause-apart c =
+    subst (λ (x : CollectorState). (p q : Place) (y : Name) → name_at x.heap.shape p ≡ Some y
+    → name_at x.heap.shape q ≡ Some y → p ≡ q) (sym c.self.view_is)
+    c.requires.sound.1.represents.placed.lies.shown.apart
 
 pub hand_out_group-requires-clause-sized : goal.hand_out_group-requires-clause-sized
 hand_out_group-requires-clause-sized c =
@@ -95,13 +114,20 @@ returns-clause-done c =
     let k : HeapState = c.end_sweeping-finished.new.heap in
     let over : Bool = c.end_sweeping-finished.result in
     let grays : List Name = c.in_ok-grays.grays in
-    let told : List Name = c.new.result in
+    let told : List Name = c.in_ok-told.told in
     let said : Option Report = Some (report.Ended group grays told) in
     let behind : c.advance.new.self ≡ here.rest = c.advance.ensures ∙ here.behind in
     let ends : EndsSweeping m here.rest over k = subst (λ (gs : List ZoneSet). EndsSweeping m gs over k) behind
     c.end_sweeping-finished.ensures in
     let handed_out : HandsOut h group jobs m = c.in_ok-handed.ensures.ok in
     let out : HandsOut (without_delayed h) group jobs (without_delayed m) = hands_seen h group jobs m handed_out in
+    let on : HandsGroup v (without_delayed m) = record {
+      group = group;
+      rest = here.rest;
+      ready = here.ready;
+      jobs = jobs;
+      out = out;
+    } in
     let ends_here : EndsSweeping (without_delayed m) here.rest over (without_delayed k) =
     ends_seen m here.rest over k ends in
     let piles : Piles = pending k c.self.inside.stack in
@@ -113,7 +139,7 @@ returns-clause-done c =
     sound.represents.placed.lies.shown.apart
     (gray_present v c.requires.sound.0 here.ready.kept sound) c.in_ok-grays.ensures.moved
     c.in_ok-grays.ensures.sorted) in
-    let none : [] ≡ told = sym c.new.ensures in
+    let lost : Lists (IsTold v.heap group.bits) told = told_seen h group.bits told c.in_ok-told.ensures in
     let after : Piles → List ZoneSet → Bool → CollectorState =
     λ p gs b. record v { heap = without_delayed k; stack = p; groups = gs; run = if b then None else v.run } in
     let moved : after v.stack here.rest over ≡ after piles c.advance.new.self over =
@@ -142,12 +168,13 @@ returns-clause-done c =
     record {
       done = λ flown.
           subst (λ (x : CollectorState). DoesUnit x flown (reports_of said over) new (flying_after jobs flown)) is
-          (subst (λ (xs : List Name). DoesUnit v flown (reports_of (Some (report.Ended group grays xs)) over) new
-          (flying_after jobs flown)) none
-          (subst (λ (x : CollectorState). DoesUnit v flown (reports_of (Some (report.Ended group grays [])) over) x
-          (flying_after jobs flown)) new_is
-          (ends_group v group here.rest here.ready jobs (without_delayed m) out grays listed (without_delayed k) flown
-          over ends_here)));
+          (subst (λ (x : CollectorState). DoesUnit v flown (reports_of said over) x (flying_after jobs flown)) new_is
+          (ends_group v (without_delayed m) on (record {
+            grays = grays;
+            told = told;
+            grays_are = listed;
+            told_are = lost;
+          }) (without_delayed k) flown over ends_here));
       handed_are = subst (λ (x : CollectorState). AreJobs jobs (jobs_at said x.heap)) is handed_out.jobs_are;
       jobs = subst (λ (x : HeapState). HandsJobs jobs old.heap.shape x.shape) (sym heap_is)
           (subst (λ (x : CollectorState). HandsJobs jobs x.heap.shape k.shape) is
@@ -161,13 +188,13 @@ returns-clause-done c =
       left = λ flown sound_then.
           subst (λ (x : CollectorState). units_left new (flying_after jobs flown) < units_left x flown) is
           (subst (λ (x : CollectorState). units_left x (flying_after jobs flown) < units_left v flown) new_is
-          (ending_lowers v group here.rest here.ready jobs (without_delayed m) out flown
+          (ending_lowers v (without_delayed m) on flown
           (subst (λ (x : CollectorState). IsSoundMarking x flown) (sym is) sound_then) (without_delayed k) over
           ends_here));
       to_come = λ flown sound_then.
           subst (λ (x : CollectorState). units_to_come new (flying_after jobs flown) < units_to_come x flown) is
           (subst (λ (x : CollectorState). units_to_come x (flying_after jobs flown) < units_to_come v flown) new_is
-          (ending_to_come v group here.rest here.ready jobs (without_delayed m) out flown
+          (ending_to_come v (without_delayed m) on flown
           (subst (λ (x : CollectorState). IsSoundMarking x flown) (sym is) sound_then) (without_delayed k) over
           ends_here));
       finished = search rules;

@@ -1,0 +1,20 @@
+-- Compaction of a zone, in the world that an idle collector stands for.
+pub mod Arenas
+pub mod Coloured
+pub mod Compacted
+pub mod Delegates
+pub mod Entries
+pub mod Fields
+pub mod Held
+pub mod InWorld
+pub mod Lies
+pub mod May
+pub mod Moved
+pub mod Movers
+pub mod NamedWeakly
+pub mod Names
+pub mod Packed
+pub mod Phase
+pub mod Shape
+pub mod Standing
+pub mod Viewed
