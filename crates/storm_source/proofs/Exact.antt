@@ -11,8 +11,10 @@ use Rattle.std.proofs.lemmas.Str.Parse.{digit_from_value}
 use Rattle.gz_names.specs.Zones.{zones_from, zones_in}
 use Rattle.gz_names.specs.declared.zone_sets.ZoneSet.{ZoneSet}
 use Rattle.gz_names.specs.declared.commands.Cmd.{Cmd}
-use Rattle.gz_names.specs.declared.commands.Cmd.TheVariants.{Graph, Finish, Collect, Colours}
+use Rattle.gz_names.specs.declared.commands.Cmd.TheVariants.{Graph, Weak, Finish, Collect, Colours}
 use Rattle.gz_names.specs.declared.commands.GraphCmd.TheVariants as cmd
+use Rattle.gz_names.specs.declared.commands.WeakCmd.{WeakCmd}
+use Rattle.gz_names.specs.declared.commands.WeakCmd.TheVariants as weak
 use Rattle.trace_lang.specs.Grammar.{Spells, SpellsRest}
 use Rattle.trace_lang.specs.Words.{IsBreak, IsWord, number_words, word_text}
 use Rattle.trace_lang.specs.declared.words.Word.{Word}
@@ -20,9 +22,10 @@ use Rattle.trace_lang.specs.declared.words.Word.TheVariants as word
 use Rattle.trace_lang.proofs.Rests.{rest_break}
 use Rattle.trace_lang.proofs.Spelling.{same_word, word_text_one, word_text_word}
 use Rattle.trace_lang.proofs.ZoneLists.{number_words-break}
-use Rattle.storm_source.specs.Commands.{AreOfStorm, MakesNoZone, SpellAll}
+use Rattle.storm_source.specs.Commands.{AreOfStorm, IsNoWeakCommand, MakesNoZone, SpellAll}
 use Rattle.storm_source.specs.Trace.{drawn_lines, head_lines, storm_lines, tail_lines}
 use Rattle.storm_source.proofs.Spelled.{all_drawn, all_four, first_commands, firsts_made, firsts_make_none}
+use Rattle.storm_source.proofs.Spelled.{firsts_plain}
 use Rattle.storm_source.proofs.Spelled.{zone_made}
 
 -- a line has one first word, and one rest
@@ -58,6 +61,43 @@ zone_word word.Collect rest c h e = absurd (cc (e, h.1))
 zone_word word.Colours rest c h e = absurd (cc (e, h.0))
 zone_word word.Dump rest c h e = absurd (cc (e, h.0))
 zone_word word.Reset rest c h e = absurd (cc (e, h.0))
+zone_word word.Weaken rest c h e = absurd (cc (e, h.2))
+zone_word word.Deref rest c h e = absurd (cc (e, h.2))
+zone_word word.Watch rest c h e = absurd (cc (e, h.1))
+zone_word word.Unwatch rest c h e = absurd (cc (e, h.1))
+zone_word word.Compact rest c h e = absurd (cc (e, h.1))
+
+-- all that a first word and a rest stand for is about weak slots or watched cells, if something is
+weak_word : (w : Word) (rest : List ℕ) (c d : Cmd) (k : WeakCmd) → SpellsRest w rest c → SpellsRest w rest d
+    → d ≡ Weak k → (j : WeakCmd) × (c ≡ Weak j)
+weak_word word.Zone rest c d k p h e = absurd (cc (e, h.0))
+weak_word word.Comp rest c d k p h e = absurd (cc (e, h.1))
+weak_word word.New rest c d k p h e = absurd (cc (e, h.3))
+weak_word word.Map rest c d k p h e = absurd (cc (e, h.2))
+weak_word word.Get rest c d k p h e = absurd (cc (e, h.3))
+weak_word word.Set rest c d k p h e = absurd (cc (e, h.3))
+weak_word word.Wrap rest c d k p h e = absurd (cc (e, h.3))
+weak_word word.Unwrap rest c d k p h e = absurd (cc (e, h.2))
+weak_word word.Copy rest c d k p h e = absurd (cc (e, h.2))
+weak_word word.Drop rest c d k p h e = absurd (cc (e, h.1))
+weak_word word.Hold rest c d k p h e = absurd (cc (e, h.2))
+weak_word word.Release rest c d k p h e = absurd (cc (e, h.1))
+weak_word word.Expose rest c d k p h e = absurd (cc (e, h.2))
+weak_word word.Put rest c d k p h e = absurd (cc (e, h.3))
+weak_word word.Del rest c d k p h e = absurd (cc (e, h.2))
+weak_word word.Find rest c d k p h e = absurd (cc (e, h.3))
+weak_word word.Gc rest c d k p h e = absurd (cc (e, h.1))
+weak_word word.Slice rest c d k p h e = absurd (cc (e, h.1))
+weak_word word.Finish rest c d k p h e = absurd (cc (e, h.0))
+weak_word word.Collect rest c d k p h e = absurd (cc (e, h.1))
+weak_word word.Colours rest c d k p h e = absurd (cc (e, h.0))
+weak_word word.Dump rest c d k p h e = absurd (cc (e, h.0))
+weak_word word.Reset rest c d k p h e = absurd (cc (e, h.0))
+weak_word word.Weaken rest c d k p h e = (weak.Weaken p.0 p.1, p.2)
+weak_word word.Deref rest c d k p h e = (weak.Deref p.0 p.1, p.2)
+weak_word word.Watch rest c d k p h e = (weak.Watch p.0, p.1)
+weak_word word.Unwatch rest c d k p h e = (weak.Unwatch p.0, p.1)
+weak_word word.Compact rest c d k p h e = absurd (cc (e, h.1))
 
 -- what a line stands for makes a zone, if anything that it stands for does
 one_zone : (line : List ℕ) (c d : Cmd) → Spells line c → Spells line d → d ≡ Graph cmd.Zone → c ≡ Graph cmd.Zone
@@ -65,6 +105,26 @@ one_zone line c d (v, r, e, s) (w, t, f, u) is =
     let same = parted line w t f (rest_break w t d u) c (v, r, e, s) in
     let zone : v ≡ word.Zone = same.0 ∙ zone_word w t d u is in
     (subst (λ (x : Word). SpellsRest x r c) zone s).0
+
+-- and so is what a line stands for
+one_weak : (line : List ℕ) (c d : Cmd) → Spells line c → Spells line d → (k : WeakCmd) → d ≡ Weak k
+    → (j : WeakCmd) × (c ≡ Weak j)
+one_weak line c d (v, r, e, s) (w, t, f, u) k is =
+    let same = parted line w t f (rest_break w t d u) c (v, r, e, s) in
+    weak_word w t c d k (subst (λ (x : Word). SpellsRest x t c) same.0
+    (subst (λ (y : List ℕ). SpellsRest v y c) same.1 s)) u is
+
+none_weak : (lines : List (List ℕ)) (cs ds : List Cmd) → SpellAll lines cs → All IsNoWeakCommand cs
+    → SpellAll lines ds → All IsNoWeakCommand ds
+none_weak [] [] [] a all b = all
+none_weak (line ∷ lines) (c ∷ cs) (d ∷ ds) a all b =
+    All-cons IsNoWeakCommand d ds
+    (λ k is. (let j = one_weak line c d a.0 b.0 k is in All-head IsNoWeakCommand c cs all j.0 j.1))
+    (none_weak lines cs ds a.1 (All-tail IsNoWeakCommand c cs all) b.1)
+none_weak [] [] (d ∷ ds) a all b = absurd b
+none_weak [] (c ∷ cs) ds a all b = absurd a
+none_weak (line ∷ lines) [] ds a all b = absurd a
+none_weak (line ∷ lines) (c ∷ cs) [] a all b = absurd b
 
 make_none : (lines : List (List ℕ)) (cs ds : List Cmd) → SpellAll lines cs → All MakesNoZone cs → SpellAll lines ds
     → All MakesNoZone ds
@@ -174,6 +234,9 @@ storm_exact seed lines (a ∷ b ∷ c ∷ d ∷ cs) (p, (q, (r, (t, rest)))) =
       none_made = All-append MakesNoZone first.0 next.0
           (make_none (drop 4 head_lines) first_commands first.0 firsts_made firsts_make_none first.3)
           (make_none (drawn_lines lines seed) drawn.0 next.0 drawn.1.0 drawn.1.1 next.3);
+      none_weak = All-append IsNoWeakCommand first.0 next.0
+          (none_weak (drop 4 head_lines) first_commands first.0 firsts_made firsts_plain first.3)
+          (none_weak (drawn_lines lines seed) drawn.0 next.0 drawn.1.0 drawn.1.2 next.3);
       zones_are = final.1;
       commands_are = zones
           ∙ ap (λ (xs : List Cmd). Graph cmd.Zone ∷ Graph cmd.Zone ∷ Graph cmd.Zone ∷ Graph cmd.Zone ∷ xs) parts;

@@ -10,13 +10,14 @@ use Rattle.gz_names.specs.Zones.{zones_from, zones_in}
 use Rattle.gz_names.specs.declared.zone_sets.ZoneSet.{ZoneSet}
 use Rattle.gz_names.specs.declared.commands.Cmd.{Cmd}
 use Rattle.gz_names.specs.declared.commands.Cmd.TheVariants.{Graph, Gc, Slice, Finish, Collect, Colours}
+use Rattle.gz_names.specs.declared.commands.GraphCmd.{GraphCmd}
 use Rattle.gz_names.specs.declared.commands.GraphCmd.TheVariants as cmd
 use Rattle.trace_lang.specs.Grammar.{Spells, SpellsRest}
 use Rattle.trace_lang.specs.Words.{gray_word, number_word, number_words, reg_word, word_text}
 use Rattle.trace_lang.specs.declared.words.Word.{Word}
 use Rattle.trace_lang.specs.declared.words.Word.TheVariants as word
-use Rattle.storm_source.specs.Commands.{MakesNoZone, SpellAll, collection_command, drawn_command, head_command}
-use Rattle.storm_source.specs.Commands.{row_command, tail_command}
+use Rattle.storm_source.specs.Commands.{IsNoWeakCommand, MakesNoZone, SpellAll, collection_command, drawn_command}
+use Rattle.storm_source.specs.Commands.{head_command, row_command, tail_command}
 use Rattle.storm_source.specs.Draws.{choice_of, next_state}
 use Rattle.storm_source.specs.Trace.{collection_line, drawn_line, drawn_lines, head_lines, line_state, row_choices}
 use Rattle.storm_source.specs.Trace.{below, row_word, storm_lines, tail_lines, words_text, zone_bits}
@@ -236,17 +237,37 @@ pub drawn_spells : (x : ℕ) → IsDrawn (drawn_line x) (drawn_command x)
 drawn_spells x =
     let row = choice_of (next_state x) 16 in by_row row (next_state x) (nat_lt row 15) refl
 
+-- which names nothing weakly
+graph_plain : (c : GraphCmd) → IsNoWeakCommand (Graph c)
+graph_plain c k q = cc q
+
+draw_plain : (y : ℕ) (b : Bool) → IsNoWeakCommand (cond b (Gc (record { bits = zone_bits (next_state (next_state y)) }))
+    (Slice (choice_of (next_state (next_state y)) 64)))
+draw_plain y true k q = cc q
+draw_plain y false k q = cc q
+
+row_plain : (row y : ℕ) (b : Bool) → IsNoWeakCommand (cond b (Graph (row_command row y)) (collection_command y))
+row_plain row y true = graph_plain (row_command row y)
+row_plain row y false = draw_plain y (eqb (choice_of (next_state y) 4) 0)
+
+drawn_plain : (x : ℕ) → IsNoWeakCommand (drawn_command x)
+drawn_plain x = let row = choice_of (next_state x) 16 in row_plain row (next_state x) (nat_lt row 15)
+
 -- the commands of drawn lines
 abbrev pub AreDrawn : List (List ℕ) → List Cmd → Type 0
-AreDrawn lines cs = SpellAll lines cs × All MakesNoZone cs
+AreDrawn lines cs = SpellAll lines cs × All MakesNoZone cs × All IsNoWeakCommand cs
 
 pub all_drawn : (n x : ℕ) → (cs : List Cmd) × AreDrawn (drawn_lines n x) cs
-all_drawn zero x = ([], (tt, All-nil MakesNoZone))
+all_drawn zero x = ([], (tt, All-nil MakesNoZone, All-nil IsNoWeakCommand))
 all_drawn (suc n) x =
     let first = drawn_spells x in
     let rest = all_drawn n (line_state x) in (
       drawn_command x ∷ rest.0,
-      ((first.0, rest.1.0), All-cons MakesNoZone (drawn_command x) rest.0 first.1 rest.1.1),
+      (
+        (first.0, rest.1.0),
+        All-cons MakesNoZone (drawn_command x) rest.0 first.1 rest.1.1,
+        All-cons IsNoWeakCommand (drawn_command x) rest.0 (drawn_plain x) rest.1.2,
+      ),
     )
 
 -- the lines of the head and of the tail
@@ -322,6 +343,33 @@ firsts_made = (
                   new_made 0 (omega arith),
                   (new_made 1 (omega arith), (new_made 2 (omega arith), (new_made 3 (omega arith), tt))),
                 ),
+              ),
+            ),
+          ),
+        ),
+      ),
+    ),
+  ),
+)
+
+pub firsts_plain : All IsNoWeakCommand first_commands
+firsts_plain = All-from_recursion IsNoWeakCommand first_commands (
+  graph_plain _,
+  (
+    graph_plain _,
+    (
+      graph_plain _,
+      (
+        graph_plain _,
+        (
+          graph_plain _,
+          (
+            graph_plain _,
+            (
+              graph_plain _,
+              (
+                graph_plain _,
+                (graph_plain _, (graph_plain _, (graph_plain _, (graph_plain _, tt)))),
               ),
             ),
           ),

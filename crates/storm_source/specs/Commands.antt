@@ -4,9 +4,10 @@ use Rattle.std.specs.Prelude.{if◌then◌else◌, ⊤}
 use Rattle.gz_names.specs.Zones.{zones_in}
 use Rattle.gz_names.specs.declared.zone_sets.ZoneSet.{ZoneSet}
 use Rattle.gz_names.specs.declared.commands.Cmd.{Cmd}
-use Rattle.gz_names.specs.declared.commands.Cmd.TheVariants.{Graph, Gc, Slice, Finish, Collect, Colours}
+use Rattle.gz_names.specs.declared.commands.Cmd.TheVariants.{Graph, Weak, Gc, Slice, Finish, Collect, Colours}
 use Rattle.gz_names.specs.declared.commands.GraphCmd.{GraphCmd}
 use Rattle.gz_names.specs.declared.commands.GraphCmd.TheVariants as cmd
+use Rattle.gz_names.specs.declared.commands.WeakCmd.{WeakCmd}
 use Rattle.trace_lang.specs.Grammar.{Spells}
 use Rattle.storm_source.specs.Draws.{choice_of, next_state}
 use Rattle.storm_source.specs.Trace.{zone_bits}
@@ -59,11 +60,15 @@ drawn_command x =
 abbrev pub MakesNoZone : Cmd → Type 0
 MakesNoZone c = c ≢ Graph cmd.Zone
 
--- four zones are made first, and none later; at the end they are collected
+abbrev pub IsNoWeakCommand : Cmd → Type 0
+IsNoWeakCommand c = (weak : WeakCmd) → c ≢ Weak weak
+
+-- four zones are made first, and none later; nothing is named weakly; at the end the zones are collected
 pub record AreOfStorm (commands : List Cmd) : Type 0 where
   pub between : List Cmd
   pub zones : ZoneSet
   pub none_made : All MakesNoZone between
+  pub none_weak : All IsNoWeakCommand between
   pub zones_are : zones_in zones ≡ 0 ∷ 1 ∷ 2 ∷ 3 ∷ []
   pub commands_are : commands
       ≡ (Graph cmd.Zone ∷ Graph cmd.Zone ∷ Graph cmd.Zone ∷ Graph cmd.Zone ∷ between)

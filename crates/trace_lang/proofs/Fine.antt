@@ -15,7 +15,8 @@ use Rattle.gz_names.specs.declared.commands.Cmd.{Cmd}
 use Rattle.gz_names.specs.declared.zone_sets.ZoneSet.{ZoneSet}
 use Rattle.trace_lang.specs.declared.words.Word.{Word}
 use Rattle.trace_lang.specs.declared.words.Word.TheVariants as word
-use Rattle.trace_lang.specs.Words.{word_text, number_word, reg_word, gray_word, target_word, FitsTarget, number_words}
+use Rattle.trace_lang.specs.Words.{word_text, number_word, reg_word, gray_word, weak_word, target_word, FitsTarget}
+use Rattle.trace_lang.specs.Words.{number_words}
 use Rattle.trace_lang.specs.Grammar.{Spells, SpellsRest, SpellsZones}
 use Rattle.trace_lang.proofs.Decimals.{own}
 use Rattle.trace_lang.proofs.ZoneLists.{has_or_not, zones_from-has, zones_from-lacks, zones_from-nil, zones_from-split}
@@ -85,6 +86,11 @@ gray_fine : (g : ℕ) → g < 64 → IsFine 4 (gray_word g)
 gray_fine g h =
     spaced_fine 3 (103 ∷ decimal g) (fine_cons 2 103 (decimal g) (omega arith) (omega arith)
     (two_digits g (omega arith)))
+
+weak_fine : (q : ℕ) → q < 64 → IsFine 4 (weak_word q)
+weak_fine q h =
+    spaced_fine 3 (113 ∷ decimal q) (fine_cons 2 113 (decimal q) (omega arith) (omega arith)
+    (two_digits q (omega arith)))
 
 target_fine : (t : Option ℕ) → FitsTarget t → IsFine 4 (target_word t)
 target_fine None h =
@@ -172,6 +178,13 @@ rest_fine word.Collect rest c s = list_fine s.0 rest s.2
 rest_fine word.Colours rest c s = at_text 0 rest [] s.1 (omega arith) fine_nil
 rest_fine word.Dump rest c s = at_text 0 rest [] s.1 (omega arith) fine_nil
 rest_fine word.Reset rest c s = at_text 0 rest [] s.1 (omega arith) fine_nil
+rest_fine word.Weaken rest c s =
+    at_text 182 rest _ s.5 (omega arith) (two_fine _ _ (weak_fine s.0 s.3) (reg_fine s.1 s.4))
+rest_fine word.Deref rest c s =
+    at_text 182 rest _ s.5 (omega arith) (two_fine _ _ (reg_fine s.0 s.3) (weak_fine s.1 s.4))
+rest_fine word.Watch rest c s = at_text 4 rest _ s.3 (omega arith) (reg_fine s.0 s.2)
+rest_fine word.Unwatch rest c s = at_text 4 rest _ s.3 (omega arith) (reg_fine s.0 s.2)
+rest_fine word.Compact rest c s = at_text 4 rest _ s.3 (omega arith) (number_fine s.0 (omega (arith, s.2)))
 
 -- first words, by a test that computes
 abbrev is_plain : List ℕ → Bool
@@ -214,6 +227,11 @@ word_plain word.Collect = refl
 word_plain word.Colours = refl
 word_plain word.Dump = refl
 word_plain word.Reset = refl
+word_plain word.Weaken = refl
+word_plain word.Deref = refl
+word_plain word.Watch = refl
+word_plain word.Unwatch = refl
+word_plain word.Compact = refl
 
 word_short : (w : Word) → length (word_text w) ≤ 7
 word_short word.Zone = omega arith
@@ -239,6 +257,11 @@ word_short word.Collect = omega arith
 word_short word.Colours = omega arith
 word_short word.Dump = omega arith
 word_short word.Reset = omega arith
+word_short word.Weaken = omega arith
+word_short word.Deref = omega arith
+word_short word.Watch = omega arith
+word_short word.Unwatch = omega arith
+word_short word.Compact = omega arith
 
 -- `collect` with all 64 zones has 189 bytes
 pub spells_fine : (line : List ℕ) (c : Cmd) → Spells line c → IsFine 189 line

@@ -35,6 +35,11 @@ rest_break word.Collect rest c s = break_at rest _ s.2.2 (number_words-break (zo
 rest_break word.Colours rest c s = break_at rest _ s.1 tt
 rest_break word.Dump rest c s = break_at rest _ s.1 tt
 rest_break word.Reset rest c s = break_at rest _ s.1 tt
+rest_break word.Weaken rest c s = break_at rest _ s.5 refl
+rest_break word.Deref rest c s = break_at rest _ s.5 refl
+rest_break word.Watch rest c s = break_at rest _ s.3 refl
+rest_break word.Unwatch rest c s = break_at rest _ s.3 refl
+rest_break word.Compact rest c s = break_at rest _ s.3 refl
 
 -- a word and the rest of a line that are these ones
 pub rest_is : (v w : Word) (rest r : List ℕ) (c : Cmd) → (v ≡ w) × (rest ≡ r) → SpellsRest w r c → SpellsRest v rest c

@@ -66,6 +66,11 @@ no_space_text word.Collect = refl
 no_space_text word.Colours = refl
 no_space_text word.Dump = refl
 no_space_text word.Reset = refl
+no_space_text word.Weaken = refl
+no_space_text word.Deref = refl
+no_space_text word.Watch = refl
+no_space_text word.Unwatch = refl
+no_space_text word.Compact = refl
 
 pub word_text_word : (w : Word) → IsWord (word_text w)
 word_text_word w = no_space_word (word_text w) (no_space_text w)

@@ -4,18 +4,21 @@ use Rattle.gz_names.specs.Zones.{zones_in}
 use Rattle.gz_names.specs.declared.numbers.CompNo.{CompNo}
 use Rattle.gz_names.specs.declared.zone_sets.ZoneSet.{ZoneSet}
 use Rattle.gz_names.specs.declared.commands.Cmd.{Cmd}
-use Rattle.gz_names.specs.declared.commands.Cmd.TheVariants.{Graph, Gc, Slice, Finish, Collect, Colours, Dump, Reset}
+use Rattle.gz_names.specs.declared.commands.Cmd.TheVariants.{Graph, Weak, Gc, Slice, Finish, Collect, Colours, Dump}
+use Rattle.gz_names.specs.declared.commands.Cmd.TheVariants.{Compact, Reset}
 use Rattle.gz_names.specs.declared.commands.GraphCmd.TheVariants as cmd
+use Rattle.gz_names.specs.declared.commands.WeakCmd.TheVariants as weak
 use Rattle.trace_lang.specs.declared.words.Word.{Word}
 use Rattle.trace_lang.specs.declared.words.Word.TheVariants as word
-use Rattle.trace_lang.specs.Words.{word_text, number_word, reg_word, gray_word, target_word, FitsTarget, number_words}
+use Rattle.trace_lang.specs.Words.{word_text, number_word, reg_word, gray_word, weak_word, target_word, FitsTarget}
+use Rattle.trace_lang.specs.Words.{number_words}
 
 -- a set of zones that is not empty, by its zones in order
 abbrev pub SpellsZones : ZoneSet → List ℕ → Type 0
 SpellsZones zones rest = (0 < zones.bits) × (zones.bits < 2 ^ 64) × (rest ≡ number_words (zones_in zones))
 
 -- the table of commands: after this first word this rest of a line stands for the command. Registers
--- are below 16, gray slots and zones below 64, compartments below 256; an object has at most 8 fields,
+-- are below 16, gray slots, weak slots and zones below 64, compartments below 256; an object has at most 8 fields,
 -- from 0 to 7; a slice has less than 2^32 units.
 abbrev pub SpellsRest : Word → List ℕ → Cmd → Type 0
 SpellsRest word.Zone rest c = (c ≡ Graph cmd.Zone) × (rest ≡ [])
@@ -59,6 +62,13 @@ SpellsRest word.Collect rest c = (zones : ZoneSet) × (c ≡ Collect zones) × S
 SpellsRest word.Colours rest c = (c ≡ Colours) × (rest ≡ [])
 SpellsRest word.Dump rest c = (c ≡ Dump) × (rest ≡ [])
 SpellsRest word.Reset rest c = (c ≡ Reset) × (rest ≡ [])
+SpellsRest word.Weaken rest c =
+    (q r : ℕ) × (c ≡ Weak (weak.Weaken q r)) × (q < 64) × (r < 16) × (rest ≡ weak_word q ++ reg_word r)
+SpellsRest word.Deref rest c =
+    (r q : ℕ) × (c ≡ Weak (weak.Deref r q)) × (r < 16) × (q < 64) × (rest ≡ reg_word r ++ weak_word q)
+SpellsRest word.Watch rest c = (r : ℕ) × (c ≡ Weak (weak.Watch r)) × (r < 16) × (rest ≡ reg_word r)
+SpellsRest word.Unwatch rest c = (r : ℕ) × (c ≡ Weak (weak.Unwatch r)) × (r < 16) × (rest ≡ reg_word r)
+SpellsRest word.Compact rest c = (z : ℕ) × (c ≡ Compact z) × (z < 64) × (rest ≡ number_word z)
 
 -- the line stands for the command
 abbrev pub Spells : List ℕ → Cmd → Type 0

@@ -29,6 +29,11 @@ word_text word.Collect = codes "collect"
 word_text word.Colours = codes "colours"
 word_text word.Dump = codes "dump"
 word_text word.Reset = codes "reset"
+word_text word.Weaken = codes "weaken"
+word_text word.Deref = codes "deref"
+word_text word.Watch = codes "watch"
+word_text word.Unwatch = codes "unwatch"
+word_text word.Compact = codes "compact"
 
 -- a number behind a space
 abbrev pub number_word : ℕ → List ℕ
@@ -41,6 +46,10 @@ reg_word r = 32 ∷ 114 ∷ decimal r
 -- a gray slot behind a space
 abbrev pub gray_word : ℕ → List ℕ
 gray_word g = 32 ∷ 103 ∷ decimal g
+
+-- a weak slot behind a space
+abbrev pub weak_word : ℕ → List ℕ
+weak_word q = 32 ∷ 113 ∷ decimal q
 
 -- a register, or `-` for none, behind a space
 abbrev pub target_word : Option ℕ → List ℕ

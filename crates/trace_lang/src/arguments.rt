@@ -2,10 +2,10 @@
 ghost use Rattle.std.specs.Prelude.{◌≡◌, ◌<◌, ◌≤◌, ◌++◌, ◌∷◌, ◌^◌, ℕ, List, [], Some, refl, IfSome, MatchOption};
 ghost use Rattle.std.specs.Fmt.{decimal};
 ghost use Rattle.trace_lang.specs.Words.{IsBreak, number_word, reg_word, gray_word, target_word, target_spaced};
-ghost use Rattle.trace_lang.specs.Words.{FitsTarget};
+ghost use Rattle.trace_lang.specs.Words.{FitsTarget, weak_word};
 
 use crate::numbers::{lettered_number, spaced_digit, spaced_number};
-use gz_names::{CompNo, GrayNo, Reg, ZoneNo};
+use gz_names::{CompNo, GrayNo, Reg, WeakNo, ZoneNo};
 
 /// What a word of a line stands for.
 pub trait Argument: Copy {
@@ -50,6 +50,20 @@ impl Argument for GrayNo {
     fn read(text: &[u8]) -> Option<(Self, &[u8])> {
         let (n, rest) = lettered_number(text, b'g', 64)?;
         Some((GrayNo::new(n as u8)?, rest))
+    }
+}
+
+impl Argument for WeakNo {
+    ghost word = { weak_word };
+
+    ghost fits = { λ q. q < 64 };
+
+    ghost spaced = { λ q. (_, refl) };
+
+    #[inline(always)]
+    fn read(text: &[u8]) -> Option<(Self, &[u8])> {
+        let (n, rest) = lettered_number(text, b'q', 64)?;
+        Some((WeakNo::new(n as u8)?, rest))
     }
 }
 

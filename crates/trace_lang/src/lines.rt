@@ -14,7 +14,7 @@ use crate::numbers::spaced_number;
 use crate::rows::{CopyRow, DropRow, GetRow, NewRow, Row, SetRow};
 use crate::words::{Word, word_of};
 use crate::zone_bits::with_zone;
-use gz_names::{Cmd, GraphCmd, ZoneSet};
+use gz_names::{Cmd, GraphCmd, WeakCmd, ZoneSet};
 
 /// The line is outside the grammar.
 #[derive(Clone, Copy, Debug, PartialEq, Eq)]
@@ -146,6 +146,17 @@ fn command(word: Word, rest: &[u8]) -> Option<Cmd>
         Word::Colours => no_more(rest, Cmd::Colours),
         Word::Dump => no_more(rest, Cmd::Dump),
         Word::Reset => no_more(rest, Cmd::Reset),
+        Word::Weaken => {
+            let (q, r) = two(rest)?;
+            Some(Cmd::Weak(WeakCmd::Weaken(q, r)))
+        }
+        Word::Deref => {
+            let (r, q) = two(rest)?;
+            Some(Cmd::Weak(WeakCmd::Deref(r, q)))
+        }
+        Word::Watch => Some(Cmd::Weak(WeakCmd::Watch(one(rest)?))),
+        Word::Unwatch => Some(Cmd::Weak(WeakCmd::Unwatch(one(rest)?))),
+        Word::Compact => Some(Cmd::Compact(one(rest)?)),
     }
 }
 

@@ -26,6 +26,7 @@ impl Model for Tail {
 }
 
 impl Tail {
+    #[inline(always)]
     pub fn new() -> Self
         ensures { result ≡ [] }
     {
@@ -42,6 +43,7 @@ impl Tail {
     }
 
     /// Puts a byte in front.
+    #[inline(always)]
     pub fn byte(&mut self, byte: u8)
         requires { length self.old < 48 }
         ensures { self.new ≡ byte ∷ self.old }
@@ -51,6 +53,7 @@ impl Tail {
     }
 
     /// Puts bytes in front.
+    #[inline(always)]
     pub fn bytes(&mut self, bytes: &[u8])
         requires { length bytes.now + length self.old ≤ 48 }
         ensures { self.new ≡ bytes.now ++ self.old }

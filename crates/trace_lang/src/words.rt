@@ -29,6 +29,11 @@ pub enum Word {
     Colours,
     Dump,
     Reset,
+    Weaken,
+    Deref,
+    Watch,
+    Unwatch,
+    Compact,
 }
 
 // The word of three letters that a text is.
@@ -84,6 +89,11 @@ fn other_word(text: &[u8]) -> Option<Word>
         b"collect" => Some(Word::Collect),
         b"colours" => Some(Word::Colours),
         b"reset" => Some(Word::Reset),
+        b"weaken" => Some(Word::Weaken),
+        b"deref" => Some(Word::Deref),
+        b"watch" => Some(Word::Watch),
+        b"unwatch" => Some(Word::Unwatch),
+        b"compact" => Some(Word::Compact),
         _ => None,
     }
 }
