@@ -5,6 +5,9 @@ pub mod UnitBound
 pub mod Units
 pub mod Spelled
 pub mod Answered
+pub mod WeakBound
+pub mod WeakAnswered
+pub mod Compacted
 pub mod Dumped
 pub mod DumpRead
 pub mod Lined

@@ -10,13 +10,14 @@ use Rattle.std.specs.declared.cmp.Ordering.TheVariants as ordering
 use Rattle.std.specs.List.{AllByRecursion, IsDistinct}
 use Rattle.std.proofs.KnownBytes.{Appends-trans}
 use Rattle.std.proofs.lemmas.Bool.{cases_lt}
-use Rattle.std.proofs.lemmas.List.Elements.{All-cons, All-head, All-nil, All-tail}
+use Rattle.std.proofs.lemmas.List.Elements.{All-append, All-cons, All-nil}
 use Rattle.std.proofs.lemmas.Map.Made.{AllPairs-from_IsDistinct}
 use Rattle.gz_io.specs.Causes.{Rose}
 use Rattle.gz_names.specs.Order.{name_cmp, same_name}
 use Rattle.gz_names.specs.Zones.{zones_in}
 use Rattle.gz_names.specs.declared.names.Name.{Name}
 use Rattle.gz_names.specs.declared.commands.Cmd.{Cmd}
+use Rattle.gz_names.specs.declared.zone_sets.ZoneSet.{ZoneSet}
 use Rattle.gz_names.specs.declared.commands.Cmd.TheVariants as command
 use Rattle.gz_names.specs.declared.commands.GraphCmd.TheVariants as cmd
 use Rattle.cell_bits.specs.declared.bits.Bits.{Bits}
@@ -38,7 +39,6 @@ use Rattle.slice_driver.specs.Present.{present_in_all}
 use Rattle.slice_driver.specs.Units.{IsSound, none_flown}
 use Rattle.slice_driver.proofs.abstraction.IdleFlight.{idle_flown}
 use Rattle.slice_driver.proofs.abstraction.Phases.{placed_in}
-use Rattle.trace_lang.specs.Grammar.{Spells}
 use Rattle.trace_lang.proofs.Fine.{spells_fine}
 use Rattle.storm_source.specs.Commands.{MakesNoZone, SpellAll}
 use Rattle.storm_source.specs.Trace.{drawn_lines, head_lines, line_state, storm_lines, storm_text, tail_lines}
@@ -48,7 +48,6 @@ use Rattle.storm_source.proofs.Exact.{storm_exact}
 use Rattle.trace_cli.specs.Headline.{Ends, EndsSo, LeadsTo, StandForAll}
 use Rattle.trace_cli.specs.Lines.{lines_of}
 use Rattle.trace_cli.specs.Reaching.{Stands}
-use Rattle.trace_cli.specs.Served.{FitsLanguage}
 use Rattle.trace_cli.specs.Standing.{Entry, HandsOn, HasEnded, ReplayEnds, entry_of}
 use Rattle.command_source.specs.Input.{Input}
 use Rattle.trace_cli.specs.Storms.{Counts, IsLeftByStorm, IsSummary, StopsStorm, Storms, summary_text}
@@ -60,7 +59,6 @@ use Rattle.trace_cli.proofs.Complete.{by_exit}
 use Rattle.trace_cli.proofs.Counted.{present_counted, same_decides}
 use Rattle.trace_cli.proofs.Flights.{idle_run}
 use Rattle.trace_cli.proofs.Lined.{lines_of-line}
-use Rattle.trace_cli.proofs.Spelled.{fits_language}
 
 -- lines and the commands that they stand for
 stand_all : (lines : List (List ℕ)) (cs : List Cmd) → SpellAll lines cs → StandForAll lines cs
@@ -165,22 +163,6 @@ pub storm_stops : {lines : ℕ} {e : Exit} → StormEnds lines e → e ≢ exit.
 storm_stops (at_end is) other = absurd (other is)
 storm_stops (before_end so) other = so
 
--- commands of the language are no weak ones
-no_weak : (line : List ℕ) (c : Cmd) → Spells line c → IsNoWeakCmd c
-no_weak line c s k e = subst FitsLanguage e (fits_language line c s)
-
-all_plain : (lines : List (List ℕ)) (cs : List Cmd) → SpellAll lines cs → All IsNoWeakCmd cs
-all_plain [] [] s = All-nil IsNoWeakCmd
-all_plain (line ∷ lines) (c ∷ cs) s =
-    All-cons IsNoWeakCmd c cs (no_weak line c s.0) (all_plain lines cs s.1)
-all_plain [] (c ∷ cs) s = absurd s
-all_plain (line ∷ lines) [] s = absurd s
-
-all_front : (P : Cmd → Type 0) (xs ys : List Cmd) → All P (xs ++ ys) → All P xs
-all_front P [] ys all = All-nil P
-all_front P (x ∷ xs) ys all =
-    All-cons P x xs (All-head P x (xs ++ ys) all) (all_front P xs ys (All-tail P x (xs ++ ys) all))
-
 -- the zones that are collected at the end
 below_four : (z : ℕ) → z < 4 → Contains (0 ∷ 1 ∷ 2 ∷ 3 ∷ []) z
 below_four zero lt = contains_head 0 (1 ∷ 2 ∷ 3 ∷ [])
@@ -207,6 +189,23 @@ four_below z c = elim (contains_cases 0 (1 ∷ 2 ∷ 3 ∷ []) z c) [
 abbrev with_zones : List Cmd → List Cmd
 with_zones cs = command.Graph cmd.Zone ∷ command.Graph cmd.Zone ∷ command.Graph cmd.Zone ∷ command.Graph cmd.Zone ∷ cs
 
+abbrev collecting : ZoneSet → List Cmd
+collecting zones = command.Finish ∷ command.Collect zones ∷ command.Colours ∷ []
+
+-- to make a zone names nothing weakly, and so does no command at the end
+one_plain : (cs : List Cmd) → All IsNoWeakCmd cs → All IsNoWeakCmd (command.Graph cmd.Zone ∷ cs)
+one_plain cs none = All-cons IsNoWeakCmd (command.Graph cmd.Zone) cs (λ k e. cc e) none
+
+zones_plain : (cs : List Cmd) → All IsNoWeakCmd cs → All IsNoWeakCmd (with_zones cs)
+zones_plain cs none = one_plain (command.Graph cmd.Zone ∷ command.Graph cmd.Zone ∷ command.Graph cmd.Zone ∷ cs)
+    (one_plain (command.Graph cmd.Zone ∷ command.Graph cmd.Zone ∷ cs)
+    (one_plain (command.Graph cmd.Zone ∷ cs) (one_plain cs none)))
+
+end_plain : (zones : ZoneSet) → All IsNoWeakCmd (collecting zones)
+end_plain zones = All-cons IsNoWeakCmd command.Finish (command.Collect zones ∷ command.Colours ∷ []) (λ k e. cc e)
+    (All-cons IsNoWeakCmd (command.Collect zones) (command.Colours ∷ []) (λ k e. cc e)
+    (All-cons IsNoWeakCmd command.Colours [] (λ k e. cc e) (All-nil IsNoWeakCmd)))
+
 four_made : (cs : List Cmd) → All MakesNoZone cs → (graph_after empty_graph (with_zones cs)).zones ≡ 4
 four_made cs none = zones_kept (graph_after empty_graph (with_zones [])) cs none
 
@@ -225,13 +224,9 @@ storm_left : (seed lines : ℕ) (output : List ℕ) (w : World) (c : CollectorSt
 storm_left seed lines output w c flown leads rep ok =
     let spelled = spell_all (storm_lines seed lines) leads.commands leads.stand in
     let of = storm_exact seed lines leads.commands spelled in
-    let plain = all_plain (storm_lines seed lines) leads.commands spelled in
-    let tail : List Cmd = command.Finish ∷ command.Collect of.zones ∷ command.Colours ∷ [] in
-    let run : Run first_world (with_zones of.between ++ tail) leads.answers w =
+    let run : Run first_world (with_zones of.between ++ collecting of.zones) leads.answers w =
     subst (λ (cs : List Cmd). Run first_world cs leads.answers w) of.commands_are leads.run in
-    let first = all_front IsNoWeakCmd (with_zones of.between) tail
-    (subst (λ (cs : List Cmd). All IsNoWeakCmd cs) of.commands_are plain) in
-    let end = run_collected (with_zones of.between) leads.answers w of.zones first
+    let end = run_collected (with_zones of.between) leads.answers w of.zones (zones_plain of.between of.none_weak)
     (all_named of.between (zones_in of.zones) of.none_made of.zones_are) run in
     let idle = idle_run c flown w rep end.0.idle in
     record {
@@ -241,7 +236,10 @@ storm_left seed lines output w c flown leads rep ok =
       represents = subst (λ (f : ℕ → Option Bits). Represents c f w) (idle_flown c flown w rep idle) rep;
       valid = ok;
       collected = end.0;
-      graph_is = run_graph first_world leads.commands leads.answers w plain leads.run;
+      graph_is = run_graph first_world leads.commands leads.answers w
+          (subst (λ (cs : List Cmd). All IsNoWeakCmd cs) (sym of.commands_are)
+          (zones_plain (of.between ++ collecting of.zones)
+          (All-append IsNoWeakCmd of.between (collecting of.zones) of.none_weak (end_plain of.zones)))) leads.run;
     }
 
 all_led : (input : List ℕ) (rest written : Option (List ℕ)) (n : ℕ) (w : World)

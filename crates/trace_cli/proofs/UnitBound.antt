@@ -70,7 +70,8 @@ waking_tally : (x : Name) (o : Option Collection) (k : Collection) → with_waki
 waking_tally x None k e = absurd (cc e)
 waking_tally x (Some j) k e = (j, refl, ap (λ (i : Collection). i.tally) (sym (some_is _ _ e)))
 
-accepts_tally : (w : World) (o : Option Collection) (g : GraphState) (x : Option Name) (v : World) → Accepts w o g x v
+pub accepts_tally : (w : World) (o : Option Collection) (g : GraphState) (x : Option Name) (v : World)
+    → Accepts w o g x v
     → (k : Collection) → v.collection ≡ Some k → (j : Collection) × (o ≡ Some j) × (k.tally ≡ j.tally)
 accepts_tally w o g None v same k e = (k, sym (ap (λ (u : World). u.collection) same) ∙ e, refl)
 accepts_tally w o g (Some x) v h k e =
@@ -96,7 +97,7 @@ command_tally w c answer v calm taken done k e =
     let was = counted_tally w.graph c w.collection made.0 made.1 in
     (was.0, was.1, made.2 ∙ was.2)
 
-woken_spent : (g : GraphState) (zones : List ℕ) (x : Option Name) (t : Tally)
+pub woken_spent : (g : GraphState) (zones : List ℕ) (x : Option Name) (t : Tally)
     → (with_woken g zones x t).spent ≡ t.spent
 woken_spent g zones None t = refl
 woken_spent g zones (Some (Cell n)) t = refl
@@ -155,7 +156,7 @@ preparing_alone w c answer v p is taken done =
 raised : (spent old new limit more : ℕ) → spent + old ≤ limit → new + limit ≤ old + more → spent + new ≤ more
 raised spent old new limit more within rise = omega (arith, within, rise)
 
-lowered : (spent old new limit : ℕ) → spent + old ≤ limit → new ≤ old → spent + new ≤ limit
+pub lowered : (spent old new limit : ℕ) → spent + old ≤ limit → new ≤ old → spent + new ≤ limit
 lowered spent old new limit bound fewer = omega (arith, bound, fewer)
 
 -- a command that was accepted, and one that was not done

@@ -6,17 +6,17 @@ ghost use Rattle.gz_names.specs.declared.commands.Cmd.TheVariants as ACmd;
 ghost use Rattle.trace_lang.specs.Texts.{reply_text, line_of};
 ghost use Rattle.colour_defs.specs.Step.{HasFewFields};
 ghost use Rattle.heap_core.specs.Effects.{takes_memory};
-ghost use Rattle.trace_cli.specs.Served.{FitsLanguage};
+ghost use Rattle.trace_cli.specs.Served.{FitsLanguage, IsNoWatch};
 ghost use Rattle.trace_cli.specs.Answering.{AnswersCommand, CountsFaults, StartsCommand};
-ghost use Rattle.trace_cli.specs.Standing.{HasRoomForOne, MakesAtMostOne, StandsWith};
+ghost use Rattle.trace_cli.specs.Standing.{HasRoomForOne, MakesAtMostOne, MakesNone, StandsWith};
 
 use crate::begin::{begin_collect, begin_finish, begin_reset, begin_slice, gc};
 use crate::dump::answer_dump;
 use crate::pending::Pending;
 use gz_io::Sink;
-use gz_names::{Cmd, CmdFault, GraphCmd, Refusal, Reply};
+use gz_names::{Cmd, CmdFault, GraphCmd, Refusal, Reply, WeakCmd, ZoneNo};
 use heap_core::Steps;
-use slice_driver::Collector;
+use slice_driver::{Collector, CompactFault};
 use std::alloc::Global;
 use std::sync::ledger::Ledger;
 use sweeping::Sweeping;
@@ -70,6 +70,56 @@ fn answer_command<F: Sweeping, K: Sink, L: Ledger>(
         Ok(reply) => write_last(sink, &reply),
         Err(CmdFault::Refused(why)) => write_last(sink, &Reply::Refused(why)),
         Err(CmdFault::NoMemory) => Err(AnswerFault::Memory),
+    }
+}
+
+// Does a command on weak slots and watched cells, and writes the reply.
+#[inline(never)]
+fn answer_weak<F: Sweeping, K: Sink, L: Ledger>(
+    collector: &mut Collector,
+    flight: &mut F,
+    command: &WeakCmd,
+    sink: &mut K,
+    steps: &mut Steps<L>,
+) -> Result<(), AnswerFault>
+    requires counted { collector.old.heap.ledger ≡ Some L.name }
+    requires flight { StandsWith collector.old (F.left (F.origin flight.old)) (F.bits flight.old) }
+    ensures answer { AnswersCommand (ACmd.Weak command.now) collector.old (F.bits flight.old) collector.new
+        (F.bits flight.new) (K.written sink.old) (K.written sink.new) result }
+    ensures flight { StandsWith collector.new (F.left (F.origin flight.new)) (F.bits flight.new) }
+    ensures origin { F.origin flight.new ≡ F.origin flight.old }
+    ensures size { MakesNone collector.old collector.new }
+    ensures sure { IsNoWatch command.now → result ≢ Err AnswerFault.Memory }
+    ensures faults { CountsFaults (K.faults sink.old) (K.faults sink.new) result }
+{
+    match collector.weak_command(flight, *command, steps) {
+        Ok(reply) => write_last(sink, &reply),
+        Err(CmdFault::Refused(why)) => write_last(sink, &Reply::Refused(why)),
+        Err(CmdFault::NoMemory) => Err(AnswerFault::Memory),
+    }
+}
+
+// Compacts a zone, and writes the reply.
+#[inline(never)]
+fn answer_compact<F: Sweeping, K: Sink>(
+    alloc: Global,
+    collector: &mut Collector,
+    _flight: &F,
+    zone: ZoneNo,
+    sink: &mut K,
+) -> Result<(), AnswerFault>
+    requires { StandsWith collector.old (F.left (F.origin _flight.now)) (F.bits _flight.now) }
+    ensures answer { AnswersCommand (ACmd.Compact zone) collector.old (F.bits _flight.now) collector.new
+        (F.bits _flight.now) (K.written sink.old) (K.written sink.new) result }
+    ensures flight { StandsWith collector.new (F.left (F.origin _flight.now)) (F.bits _flight.now) }
+    ensures size { MakesNone collector.old collector.new }
+    ensures faults { CountsFaults (K.faults sink.old) (K.faults sink.new) result }
+{
+    match collector.compact(alloc, zone) {
+        Ok(done) => write_last(sink, &Reply::Compacted(done.moved, done.given_up)),
+        Err(CompactFault::Running) => write_last(sink, &Reply::Refused(Refusal::Running)),
+        Err(CompactFault::NoZone) => write_last(sink, &Reply::Refused(Refusal::NoZone)),
+        Err(CompactFault::NoMemory) => Err(AnswerFault::Memory),
     }
 }
 
@@ -129,7 +179,7 @@ pub fn start_command<F: Sweeping, K: Sink, L: Ledger>(
         Cmd::Slice(budget) => begin_slice(collector, flight, *budget, pending, sink),
         Cmd::Finish => begin_finish(collector, flight, pending, sink),
         Cmd::Reset => begin_reset(collector, flight, pending, sink),
-        // No line of the language stands for these.
-        Cmd::Weak(_) | Cmd::Compact(_) => unreachable!(),
+        Cmd::Weak(command) => answer_weak(collector, flight, command, sink, steps),
+        Cmd::Compact(zone) => answer_compact(alloc, collector, flight, *zone, sink),
     }
 }

@@ -60,3 +60,17 @@ returns-in-Reset-clause-answer g c = subst (λ (d : Cmd). StartsCommand d c.begi
     (g.K.Sink.written c.args.sink.now) (g.K.Sink.written c.begin_reset.new.sink) c.begin_reset.result)
     (sym c.in-Reset.is)
     c.begin_reset.ensures.answer
+
+pub returns-in-Weak-clause-answer : goal.returns-in-Weak-clause-answer
+returns-in-Weak-clause-answer g c = subst (λ (d : Cmd). StartsCommand d c.args.pending.now c.args.collector.now
+    (g.F.Flight.bits c.args.flight.now) c.answer_weak.new.collector (g.F.Flight.bits c.answer_weak.new.flight)
+    (g.K.Sink.written c.args.sink.now) (g.K.Sink.written c.answer_weak.new.sink) c.answer_weak.result)
+    (sym c.in-Weak.is)
+    (started c.answer_weak.result c.requires.none c.answer_weak.ensures.answer)
+
+pub returns-in-Compact-clause-answer : goal.returns-in-Compact-clause-answer
+returns-in-Compact-clause-answer g c = subst (λ (d : Cmd). StartsCommand d c.args.pending.now c.args.collector.now
+    (g.F.Flight.bits c.args.flight.now) c.answer_compact.new.collector (g.F.Flight.bits c.args.flight.now)
+    (g.K.Sink.written c.args.sink.now) (g.K.Sink.written c.answer_compact.new.sink) c.answer_compact.result)
+    (sym c.in-Compact.is)
+    (started c.answer_compact.result c.requires.none c.answer_compact.ensures.answer)

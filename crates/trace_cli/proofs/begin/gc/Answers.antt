@@ -1,4 +1,5 @@
 use Rattle.std.proofs.Common.{inr, refl, ap, Err}
+use Rattle.gz_names.specs.Zones.{zones_in}
 use Rattle.slice_driver.specs.declared.begin.BeginFault.{BeginFault}
 use Rattle.trace_cli.proofs.Answered.{gc_breaks, gc_writes, no_zone, one_runs}
 use Rattle.trace_cli.proofs.Answered.{refusal_breaks, refusal_writes}
@@ -28,12 +29,14 @@ returns-in-Err-Running-clause-answer g c =
     let runs = c.in-Err-Running.ensures.running.0 (ap (λ (f : BeginFault). Err f) c.in-Err-Running.field-0-is) in
     let last = c.write_last-in-Err-Running.ensures in
     replied c.write_last-in-Err-Running.result last.fault last.ok last.err
-    (λ written. refusal_writes c.args.collector.now c.begin.new.self (g.F.Flight.bits c.args._flight.now) c.args.zones _
+    (λ written. refusal_writes c.args.collector.now c.begin.new.self (g.F.Flight.bits c.args._flight.now)
+    (zones_in c.args.zones) _
     _ _ _
     (λ w answer refuses. inr refuses)
     (λ w r. one_runs c.args.collector.now (g.F.Flight.bits c.args._flight.now) w c.args.zones r runs)
     c.in-Err-Running.ensures.refused written)
-    (λ written. refusal_breaks c.args.collector.now (g.F.Flight.bits c.args._flight.now) c.args.zones _ _ _ _
+    (λ written. refusal_breaks c.args.collector.now (g.F.Flight.bits c.args._flight.now)
+    (zones_in c.args.zones) _ _ _ _
     (λ w answer refuses. inr refuses)
     (λ w r. one_runs c.args.collector.now (g.F.Flight.bits c.args._flight.now) w c.args.zones r runs) written)
 
@@ -47,12 +50,14 @@ returns-in-Err-NoZone-clause-answer g c =
     let none = c.in-Err-NoZone.ensures.no_zone.0 (ap (λ (f : BeginFault). Err f) c.in-Err-NoZone.field-0-is) in
     let last = c.write_last-in-Err-NoZone.ensures in
     replied c.write_last-in-Err-NoZone.result last.fault last.ok last.err
-    (λ written. refusal_writes c.args.collector.now c.begin.new.self (g.F.Flight.bits c.args._flight.now) c.args.zones _
+    (λ written. refusal_writes c.args.collector.now c.begin.new.self (g.F.Flight.bits c.args._flight.now)
+    (zones_in c.args.zones) _
     _ _ _
     (λ w answer refuses. inr refuses)
     (λ w r. no_zone c.args.collector.now (g.F.Flight.bits c.args._flight.now) w c.args.zones
     r none.0 none.1) c.in-Err-NoZone.ensures.refused written)
-    (λ written. refusal_breaks c.args.collector.now (g.F.Flight.bits c.args._flight.now) c.args.zones _ _ _ _
+    (λ written. refusal_breaks c.args.collector.now (g.F.Flight.bits c.args._flight.now)
+    (zones_in c.args.zones) _ _ _ _
     (λ w answer refuses. inr refuses)
     (λ w r. no_zone c.args.collector.now (g.F.Flight.bits c.args._flight.now) w c.args.zones
     r none.0 none.1) written)
