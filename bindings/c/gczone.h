@@ -63,6 +63,7 @@ enum gcz_status {
     GCZ_BAD_FIELD = 12,       /* above 7 */
     GCZ_BAD_FIELD_COUNT = 13, /* above 8 */
     GCZ_BAD_KIND = 14,        /* of a name: neither GCZ_NOTHING nor GCZ_CELL nor GCZ_WRAPPER */
+    GCZ_BAD_WEAK_SLOT = 15,   /* above 63 */
     /* The command is refused, and nothing was done. */
     GCZ_FULL = 16,            /* 64 zones, or 256 compartments, are there */
     GCZ_NO_ZONE = 17,         /* a zone is not made, or no zone is given */
@@ -124,8 +125,14 @@ typedef struct gcz_counts {
     uint64_t objects; /* objects and maps that were ever made */
     uint64_t entries; /* of weak maps */
     uint64_t bytes;   /* of the arenas: 64 cells of 40 bytes each, and 32 beside them */
-    uint32_t arenas;  /* of 64 slots each; none is given back but by gcz_close */
+    uint32_t arenas;  /* of 64 slots each, with those that were given up; none is given back but by gcz_close */
 } gcz_counts_t;
+
+/* What a compaction did: how many cells moved, and how many arenas were given up. */
+typedef struct gcz_compacted {
+    uint64_t moved;
+    uint32_t given_up;
+} gcz_compacted_t;
 
 /* What a line of a dump is. */
 enum gcz_line_kind {
@@ -171,6 +178,15 @@ GCZ_CALL uint32_t gcz_put(gcz_t *gcz, uint32_t map, uint32_t key, uint32_t value
 GCZ_CALL uint32_t gcz_del(gcz_t *gcz, uint32_t map, uint32_t key);
 GCZ_CALL uint32_t gcz_find(gcz_t *gcz, uint32_t reg, uint32_t map, uint32_t key, gcz_name_t *answer);
 
+/* Weak slots, which name cells and keep none, and cells that are watched until they die: also between two steps. */
+GCZ_CALL uint32_t gcz_weaken(gcz_t *gcz, uint32_t slot, uint32_t reg);
+GCZ_CALL uint32_t gcz_deref(gcz_t *gcz, uint32_t reg, uint32_t slot, gcz_name_t *answer);
+GCZ_CALL uint32_t gcz_watch(gcz_t *gcz, uint32_t reg);
+GCZ_CALL uint32_t gcz_unwatch(gcz_t *gcz, uint32_t reg);
+
+/* Moves the cells of a zone together, while no collection runs, and gives up the arenas that this empties. */
+GCZ_CALL uint32_t gcz_compact(gcz_t *gcz, uint32_t zone, gcz_compacted_t *done);
+
 /* A collection of the zones whose bits are set, step by step: each of at most limit units. */
 GCZ_CALL uint32_t gcz_begin(gcz_t *gcz, uint64_t zones);
 GCZ_CALL uint32_t gcz_advance(gcz_t *gcz, uint64_t limit, gcz_step_t *done);
@@ -182,9 +198,11 @@ GCZ_CALL uint32_t gcz_reset(gcz_t *gcz, gcz_step_t *done);
 /* How many cells, objects and maps, weak entries, bytes and arenas there are. */
 GCZ_CALL uint32_t gcz_counts(gcz_t *gcz, gcz_counts_t *counts);
 
-/* The last report, until the next one, and what it lists by its place. */
+/* The last report, until the next one, and what it lists by its place; of GCZ_ENDED also the watched cells that died
+ * with the group, GCZ_NONE behind the last of them. */
 GCZ_CALL uint32_t gcz_report(gcz_t *gcz, gcz_report_t *told);
 GCZ_CALL uint32_t gcz_report_name(gcz_t *gcz, size_t index, gcz_name_t *name);
+GCZ_CALL uint32_t gcz_report_lost(gcz_t *gcz, size_t index, gcz_name_t *name);
 GCZ_CALL uint32_t gcz_report_group(gcz_t *gcz, size_t index, uint64_t *zones);
 
 /* The gray names, ascending: lists them, and then each by its place, until the next list. */

@@ -22,7 +22,8 @@ from pathlib import Path
 
 INTERFACE = 1
 DONE, CLOSED, OPEN, NO_MEMORY, HEAP_FULL, NONE = range(6)
-BAD_REGISTER, BAD_ZONE, BAD_COMPARTMENT, BAD_SLOT, BAD_FIELD, BAD_FIELD_COUNT, BAD_KIND = range(8, 15)
+BAD_REGISTER, BAD_ZONE, BAD_COMPARTMENT, BAD_SLOT = range(8, 12)
+BAD_FIELD, BAD_FIELD_COUNT, BAD_KIND, BAD_WEAK_SLOT = range(12, 16)
 FULL, NO_ZONE, NO_COMPARTMENT, EMPTY, KIND, NO_FIELD, CROSS = range(16, 23)
 RUNNING, IDLE, MARKING = range(24, 27)
 NOTHING, CELL, WRAPPER, ZONE, COMPARTMENT = range(5)
@@ -37,6 +38,7 @@ Cell = namedtuple("Cell", "name black")
 Edge = namedtuple("Edge", "object name")
 Entry = namedtuple("Entry", "map key value")
 Counts = namedtuple("Counts", "cells objects entries bytes arenas")
+Compacted = namedtuple("Compacted", "moved given_up")
 
 
 class Started(namedtuple("Started", ())):
@@ -75,6 +77,10 @@ class _Counts(ctypes.Structure):
     ]
 
 
+class _Compacted(ctypes.Structure):
+    _fields_ = [("moved", c_uint64), ("given_up", c_uint32)]
+
+
 class _Report(ctypes.Structure):
     _fields_ = [("zones", c_uint64), ("count", c_size_t), ("kind", c_uint32), ("arena", c_uint32)]
 
@@ -90,9 +96,11 @@ _CALLS = {
     "copy": ([c_uint32] * 2, None), "drop": ([c_uint32], None), "wrap": ([c_uint32] * 3, _Name),
     "unwrap": ([c_uint32] * 2, _Name), "hold": ([c_uint32] * 2, None), "release": ([c_uint32], None),
     "expose": ([c_uint32] * 2, _Name), "put": ([c_uint32] * 3, None), "del": ([c_uint32] * 2, None),
-    "find": ([c_uint32] * 3, _Name), "begin": ([c_uint64], None), "advance": ([c_uint64], _Step),
-    "reset": ([], _Step), "running": ([], c_bool), "counts": ([], _Counts), "report": ([], _Report),
-    "report_name": ([c_size_t], _Name), "report_group": ([c_size_t], c_uint64), "grays": ([], c_size_t),
+    "find": ([c_uint32] * 3, _Name), "weaken": ([c_uint32] * 2, None), "deref": ([c_uint32] * 2, _Name),
+    "watch": ([c_uint32], None), "unwatch": ([c_uint32], None), "compact": ([c_uint32], _Compacted),
+    "begin": ([c_uint64], None), "advance": ([c_uint64], _Step), "reset": ([], _Step), "running": ([], c_bool),
+    "counts": ([], _Counts), "report": ([], _Report), "report_name": ([c_size_t], _Name),
+    "report_lost": ([c_size_t], _Name), "report_group": ([c_size_t], c_uint64), "grays": ([], c_size_t),
     "gray": ([c_size_t], _Name), "next_gray": ([], _Name), "dump": ([], c_size_t), "dump_line": ([c_size_t], _Line),
     "open": ([], None),
 }
@@ -157,6 +165,15 @@ class Heap:
         if status != DONE:
             raise Fault(status, self.status_text(status))
         return answer
+
+    def _found(self, name, *numbers):
+        try:
+            self._call(name, *numbers)
+        except Fault as fault:
+            if fault.status != NONE:
+                raise
+            return False
+        return True
 
     def status_text(self, status):
         """A status in words."""
@@ -225,17 +242,43 @@ class Heap:
 
     def delete(self, map_register, key):
         """Removes the entry of a key. Returns whether there was one."""
-        try:
-            self._call("del", map_register, key)
-        except Fault as fault:
-            if fault.status != NONE:
-                raise
-            return False
-        return True
+        return self._found("del", map_register, key)
 
     def find(self, register, map_register, key):
         """The register holds the value of a key, or becomes empty."""
         return self._call("find", register, map_register, key).value()
+
+    def weaken(self, slot, register):
+        """The weak slot names what the register holds, or becomes empty. It keeps no cell."""
+        self._call("weaken", slot, register)
+
+    def deref(self, register, slot):
+        """The register holds what the weak slot names, and that turns black; or it becomes empty."""
+        return self._call("deref", register, slot).value()
+
+    def watch(self, register):
+        """What the register holds is watched: `lost` names it once the group with which it dies has ended."""
+        self._call("watch", register)
+
+    def unwatch(self, register):
+        """What the register holds is watched no longer. Returns whether it was."""
+        return self._found("unwatch", register)
+
+    def compact(self, zone):
+        """Moves the cells of a zone together, and gives up the arenas that this empties. No collection may run."""
+        done = self._call("compact", zone)
+        return Compacted(done.moved, done.given_up)
+
+    def lost(self):
+        """The watched cells that died with the group whose end is the last event, ascending."""
+        names = []
+        while True:
+            try:
+                names.append(self._call("report_lost", len(names)).value())
+            except Fault as fault:
+                if fault.status != NONE:
+                    raise
+                return names
 
     def begin(self, zones):
         """Begins a collection of these zones."""

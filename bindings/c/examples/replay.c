@@ -60,6 +60,15 @@ static void print_zones(uint64_t zones) {
             printf(" %d", zone);
 }
 
+/* Writes the watched cells that died with the group that ended, on a line of their own, if there are any. */
+static void print_lost(gcz_t *gcz) {
+    gcz_name_t name;
+    for (size_t index = 0; gcz_report_lost(gcz, index, &name) == GCZ_DONE; index++) {
+        fputs(index == 0 ? "\ntold " : " ", stdout);
+        print_name(name);
+    }
+}
+
 static void print_report(gcz_t *gcz) {
     gcz_report_t report;
     must(gcz_report(gcz, &report));
@@ -80,6 +89,7 @@ static void print_report(gcz_t *gcz) {
         print_zones(report.zones);
         printf(" gray");
         print_names(gcz, report.count, gcz_report_name);
+        print_lost(gcz);
         break;
     case GCZ_STOPPED:
         printf("stopped");
@@ -145,9 +155,9 @@ static void print_order(uint32_t status) {
     puts(status == GCZ_NONE ? "absent" : "ok");
 }
 
-/* The number of a word such as r7, g3 or 12. */
+/* The number of a word such as r7, g3, q5 or 12. */
 static uint32_t number_of(const char *word) {
-    return (uint32_t)strtoul(word + (*word == 'r' || *word == 'g'), NULL, 10);
+    return (uint32_t)strtoul(word + (*word == 'r' || *word == 'g' || *word == 'q'), NULL, 10);
 }
 
 static uint64_t zones_of(char **words, int count) {
@@ -155,6 +165,15 @@ static uint64_t zones_of(char **words, int count) {
     for (int index = 0; index < count; index++)
         zones |= UINT64_C(1) << number_of(words[index]);
     return zones;
+}
+
+static void compact(gcz_t *gcz, uint32_t zone) {
+    gcz_compacted_t done;
+    uint32_t status = gcz_compact(gcz, zone, &done);
+    if (print_refusal(status))
+        return;
+    must(status);
+    printf("compacted %" PRIu64 " %" PRIu32 "\n", done.moved, done.given_up);
 }
 
 static void collect(gcz_t *gcz, uint64_t zones) {
@@ -284,6 +303,11 @@ static bool do_line(gcz_t *gcz, char **words, int count) {
     if (IS("put", 4)) return ORDER(gcz_put(gcz, a, b, c));
     if (IS("del", 3)) return ORDER(gcz_del(gcz, a, b));
     if (IS("find", 4)) return ANSWER(gcz_find(gcz, a, b, c, &answer));
+    if (IS("weaken", 3)) return ORDER(gcz_weaken(gcz, a, b));
+    if (IS("deref", 3)) return ANSWER(gcz_deref(gcz, a, b, &answer));
+    if (IS("watch", 2)) return ORDER(gcz_watch(gcz, a));
+    if (IS("unwatch", 2)) return ORDER(gcz_unwatch(gcz, a));
+    if (IS("compact", 2)) return compact(gcz, a), true;
     if (IS("slice", 2)) return slice(gcz, strtoull(words[1], NULL, 10)), true;
     if (IS("finish", 1)) return slice(gcz, UINT64_MAX), true;
     if (IS("reset", 1)) return reset(gcz), true;

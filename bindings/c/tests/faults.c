@@ -48,6 +48,7 @@ static uint64_t history(void) {
     gcz_t g = GCZ_CLOSED_HANDLE;
     gcz_name_t n;
     gcz_step_t step;
+    gcz_compacted_t done;
     size_t grays, lines;
     uint64_t sum = 0;
     bool running = true;
@@ -64,6 +65,7 @@ static uint64_t history(void) {
             DO(gcz_map(&g, 2, 0, &n));
             DO(gcz_new(&g, 3, 0, 1, &n));
             DO(gcz_put(&g, 2, 3, 1));
+            DO(gcz_watch(&g, 3));
         }
         if (count == 100)
             DO(gcz_begin(&g, 7));
@@ -80,6 +82,10 @@ static uint64_t history(void) {
     do
         DO(gcz_reset(&g, &step));
     while (!step.finished);
+    for (uint32_t zone = 0; zone < 3; zone++) {
+        DO(gcz_compact(&g, zone, &done));
+        sum = 31 * sum + done.moved;
+    }
     DO(gcz_grays(&g, &grays));
     DO(gcz_dump(&g, &lines));
     gcz_close(&g);

@@ -62,16 +62,25 @@ static void registers(gcz_t *g, uint32_t bad) {
     REFUSED(gcz_find(g, bad, 0, 0, &n), GCZ_BAD_REGISTER);
     REFUSED(gcz_find(g, 0, bad, 0, &n), GCZ_BAD_REGISTER);
     REFUSED(gcz_find(g, 0, 0, bad, &n), GCZ_BAD_REGISTER);
+    WANT(gcz_weaken(g, 0, bad), GCZ_BAD_REGISTER);
+    REFUSED(gcz_deref(g, bad, 0, &n), GCZ_BAD_REGISTER);
+    WANT(gcz_watch(g, bad), GCZ_BAD_REGISTER);
+    WANT(gcz_unwatch(g, bad), GCZ_BAD_REGISTER);
 }
 
 static void slots(gcz_t *g, uint32_t bad) {
     WANT(gcz_hold(g, bad, 0), GCZ_BAD_SLOT);
     WANT(gcz_release(g, bad), GCZ_BAD_SLOT);
     REFUSED(gcz_expose(g, 0, bad, &n), GCZ_BAD_SLOT);
+    WANT(gcz_weaken(g, bad, 0), GCZ_BAD_WEAK_SLOT);
+    REFUSED(gcz_deref(g, 0, bad, &n), GCZ_BAD_WEAK_SLOT);
 }
 
 static void zones(gcz_t *g, uint32_t bad) {
+    gcz_compacted_t done = {99, 98};
     REFUSED(gcz_comp(g, bad, &n), GCZ_BAD_ZONE);
+    WANT(gcz_compact(g, bad, &done), GCZ_BAD_ZONE);
+    WANT(done.moved == 99 && done.given_up == 98, 1);
 }
 
 static void compartments(gcz_t *g, uint32_t bad) {
@@ -141,6 +150,7 @@ static void all_closed(gcz_t *g) {
     gcz_report_t report = {99, 98, 97, 96};
     gcz_counts_t counts = {99, 98, 97, 96, 95};
     gcz_line_t line = {.owner = 99};
+    gcz_compacted_t done = {99, 98};
     size_t count = 99;
     uint64_t bits = 99;
     bool running = true;
@@ -161,6 +171,11 @@ static void all_closed(gcz_t *g) {
     WANT(gcz_put(g, 0, 0, 0), GCZ_CLOSED);
     WANT(gcz_del(g, 0, 0), GCZ_CLOSED);
     REFUSED(gcz_find(g, 0, 0, 0, &n), GCZ_CLOSED);
+    WANT(gcz_weaken(g, 0, 0), GCZ_CLOSED);
+    REFUSED(gcz_deref(g, 0, 0, &n), GCZ_CLOSED);
+    WANT(gcz_watch(g, 0), GCZ_CLOSED);
+    WANT(gcz_unwatch(g, 0), GCZ_CLOSED);
+    WANT(gcz_compact(g, 0, &done), GCZ_CLOSED);
     WANT(gcz_begin(g, 1), GCZ_CLOSED);
     WANT(gcz_advance(g, 1, &step), GCZ_CLOSED);
     WANT(gcz_reset(g, &step), GCZ_CLOSED);
@@ -168,6 +183,7 @@ static void all_closed(gcz_t *g) {
     WANT(gcz_counts(g, &counts), GCZ_CLOSED);
     WANT(gcz_report(g, &report), GCZ_CLOSED);
     REFUSED(gcz_report_name(g, 0, &n), GCZ_CLOSED);
+    REFUSED(gcz_report_lost(g, 0, &n), GCZ_CLOSED);
     WANT(gcz_report_group(g, 0, &bits), GCZ_CLOSED);
     WANT(gcz_grays(g, &count), GCZ_CLOSED);
     REFUSED(gcz_gray(g, 0, &n), GCZ_CLOSED);
@@ -175,7 +191,7 @@ static void all_closed(gcz_t *g) {
     WANT(gcz_dump(g, &count), GCZ_CLOSED);
     WANT(gcz_dump_line(g, 0, &line), GCZ_CLOSED);
     WANT(step.units == 99 && step.finished && report.count == 98 && line.owner == 99 && count == 99 && bits == 99
-             && running && counts.cells == 99, 1);
+             && running && counts.cells == 99 && done.moved == 99 && done.given_up == 98, 1);
 }
 
 /* Places of lists beyond their ends. */
@@ -186,6 +202,7 @@ static void beyond_lists(gcz_t *g, size_t names, size_t groups, size_t lines) {
         gcz_line_t line = {.owner = 99};
         if (far[i] >= names) {
             REFUSED(gcz_report_name(g, far[i], &n), GCZ_NONE);
+            REFUSED(gcz_report_lost(g, far[i], &n), GCZ_NONE);
             REFUSED(gcz_gray(g, far[i], &n), GCZ_NONE);
         }
         if (far[i] >= groups)
@@ -201,6 +218,7 @@ static void limits(gcz_t *g) {
     gcz_step_t step;
     gcz_report_t report = {99, 98, 97, 96};
     gcz_counts_t counts;
+    gcz_compacted_t done = {99, 98};
     size_t count;
     WANT(gcz_begin(g, 0), GCZ_NO_ZONE);
     WANT(gcz_begin(g, UINT64_MAX), GCZ_NO_ZONE);
@@ -232,7 +250,20 @@ static void limits(gcz_t *g) {
     WANT(gcz_counts(g, &counts), GCZ_DONE);
     WANT(counts.cells == 2 && counts.objects == 2 && counts.entries == 1 && counts.bytes == 2592
              && counts.arenas == 1, 1);
+    WANT(gcz_weaken(g, 63, 15), GCZ_DONE);
+    WANT(gcz_deref(g, 3, 63, &n), GCZ_DONE);
+    WANT(n.kind == GCZ_CELL && n.number == 0, 1);
+    WANT(gcz_deref(g, 3, 62, &n), GCZ_DONE);
+    WANT(n.kind == GCZ_NOTHING, 1);
+    WANT(gcz_watch(g, 1), GCZ_EMPTY);
+    WANT(gcz_unwatch(g, 1), GCZ_EMPTY);
+    WANT(gcz_unwatch(g, 15), GCZ_NONE);
+    WANT(gcz_watch(g, 15), GCZ_DONE);
+    WANT(gcz_unwatch(g, 15), GCZ_DONE);
+    WANT(gcz_compact(g, 63, &done), GCZ_DONE);
+    WANT(done.moved == 0 && done.given_up == 0, 1);
     WANT(gcz_begin(g, UINT64_MAX), GCZ_DONE);
+    WANT(gcz_compact(g, 63, &done), GCZ_RUNNING);
     WANT(gcz_begin(g, 1), GCZ_RUNNING);
     count = 99;
     WANT(gcz_grays(g, &count), GCZ_MARKING);
@@ -254,7 +285,7 @@ static void limits(gcz_t *g) {
 }
 
 static void texts(void) {
-    static const uint32_t none[] = {6, 7, 15, 23, 27, 99, UINT32_MAX};
+    static const uint32_t none[] = {6, 7, 23, 27, 99, UINT32_MAX};
     uint8_t whole[80], other[80];
     size_t length = gcz_status_text(none[0], whole, sizeof whole);
     for (size_t i = 0; i < sizeof none / sizeof *none; i++)

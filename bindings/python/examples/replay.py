@@ -63,6 +63,8 @@ class Replay:
             done += units
             if event:
                 print(event_text(event))
+            if isinstance(event, gczone.Ended) and (lost := self.heap.lost()):
+                print("told", list_text(lost))
             if finished:
                 print("done")
         return done
@@ -95,11 +97,14 @@ class Replay:
 
     def answer(self, word, *words):
         """The answer to a line, the last lines that are printed of it."""
-        heap, numbers = self.heap, [int(it.lstrip("rg")) for it in words if it != "-"]
-        answered = {"get": heap.get, "wrap": heap.wrap, "unwrap": heap.unwrap, "expose": heap.expose, "find": heap.find}
+        heap, numbers = self.heap, [int(it.lstrip("rgq")) for it in words if it != "-"]
+        answered = {
+            "get": heap.get, "wrap": heap.wrap, "unwrap": heap.unwrap, "expose": heap.expose, "find": heap.find,
+            "deref": heap.deref,
+        }
         ordered = {
             "set": heap.set, "copy": heap.copy, "drop": heap.drop, "hold": heap.hold, "release": heap.release,
-            "put": heap.put,
+            "put": heap.put, "weaken": heap.weaken, "watch": heap.watch,
         }
         numbered = {"zone": heap.zone, "comp": heap.compartment, "new": heap.object, "map": heap.map}
         if word in answered:
@@ -112,6 +117,8 @@ class Replay:
             return "ok"
         others = {
             "del": lambda: "ok" if heap.delete(*numbers) else "absent",
+            "unwatch": lambda: "ok" if heap.unwatch(*numbers) else "absent",
+            "compact": lambda: "compacted {} {}".format(*heap.compact(*numbers)),
             "gc": lambda: heap.begin(numbers) or "gc ok",
             "collect": lambda: self.collect(numbers),
             "slice": lambda: self.slice(*numbers),

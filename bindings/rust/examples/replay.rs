@@ -2,7 +2,8 @@
 
 use std::io::{self, BufRead, BufWriter, Write};
 
-use gczone::{Compartment, Error, Event, Heap, Line, Name, Register, Result, Slot, Zone, REGISTERS, SLOTS};
+use gczone::{Compartment, Error, Event, Heap, Line, Name, Register, Result, Slot, WeakSlot, Zone};
+use gczone::{REGISTERS, SLOTS, WEAK_SLOTS};
 
 struct Replay<W> {
     heap: Heap,
@@ -72,7 +73,7 @@ fn name_text(name: Option<Name>) -> String {
 }
 
 fn number(word: &str) -> std::result::Result<usize, Ended> {
-    word.trim_start_matches(['r', 'g']).parse().map_err(|_| Ended::BadLine)
+    word.trim_start_matches(['r', 'g', 'q']).parse().map_err(|_| Ended::BadLine)
 }
 
 fn register(word: &str) -> std::result::Result<Register, Ended> {
@@ -81,6 +82,10 @@ fn register(word: &str) -> std::result::Result<Register, Ended> {
 
 fn slot(word: &str) -> std::result::Result<Slot, Ended> {
     SLOTS.get(number(word)?).copied().ok_or(Ended::BadLine)
+}
+
+fn weak_slot(word: &str) -> std::result::Result<WeakSlot, Ended> {
+    WEAK_SLOTS.get(number(word)?).copied().ok_or(Ended::BadLine)
 }
 
 fn zone(word: &str) -> std::result::Result<Zone, Ended> {
@@ -108,12 +113,24 @@ impl<W: Write> Replay<W> {
             units += step.units;
             if let Some(event) = step.event {
                 writeln!(self.out, "{}", event_text(&event))?;
+                if let Event::Ended { .. } = event {
+                    self.tell_lost()?;
+                }
             }
             if step.finished {
                 writeln!(self.out, "done")?;
             }
         }
         Ok(units)
+    }
+
+    /// Prints the watched cells that died with the group that ended, if there are any.
+    fn tell_lost(&mut self) -> std::result::Result<(), Ended> {
+        let lost = self.heap.lost().map_err(Ended::Heap)?;
+        if !lost.is_empty() {
+            writeln!(self.out, "told {}", list_of(&lost))?;
+        }
+        Ok(())
     }
 
     fn slice(&mut self, limit: u64) -> std::result::Result<String, Ended> {
@@ -165,6 +182,17 @@ impl<W: Write> Replay<W> {
                 there.map(|there| if there { "ok" } else { "absent" }.to_owned())
             }
             ["find", r, m, k] => self.heap.find(register(r)?, register(m)?, register(k)?).map(name_text),
+            ["weaken", q, r] => self.heap.weaken(weak_slot(q)?, register(r)?).map(ok),
+            ["deref", r, q] => self.heap.deref(register(r)?, weak_slot(q)?).map(name_text),
+            ["watch", r] => self.heap.watch(register(r)?).map(ok),
+            ["unwatch", r] => {
+                let was = self.heap.unwatch(register(r)?);
+                was.map(|was| if was { "ok" } else { "absent" }.to_owned())
+            }
+            ["compact", z] => {
+                let done = self.heap.compact(zone(z)?);
+                done.map(|done| format!("compacted {} {}", done.moved, done.given_up))
+            }
             ["gc", ref words @ ..] if !words.is_empty() => {
                 self.heap.begin(&zones(words)?).map(|()| "gc ok".to_owned())
             }

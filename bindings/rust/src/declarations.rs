@@ -43,6 +43,13 @@ pub struct Counts {
 
 #[repr(C)]
 #[derive(Clone, Copy, Default)]
+pub struct Compacted {
+    pub moved: u64,
+    pub given_up: u32,
+}
+
+#[repr(C)]
+#[derive(Clone, Copy, Default)]
 pub struct Report {
     pub zones: u64,
     pub count: usize,
@@ -75,6 +82,7 @@ pub const GCZ_BAD_SLOT: u32 = 11;
 pub const GCZ_BAD_FIELD: u32 = 12;
 pub const GCZ_BAD_FIELD_COUNT: u32 = 13;
 pub const GCZ_BAD_KIND: u32 = 14;
+pub const GCZ_BAD_WEAK_SLOT: u32 = 15;
 pub const GCZ_FULL: u32 = 16;
 pub const GCZ_NO_ZONE: u32 = 17;
 pub const GCZ_NO_COMPARTMENT: u32 = 18;
@@ -126,6 +134,11 @@ extern "C" {
     fn gcz_put(gcz: *mut Gcz, map: u32, key: u32, value: u32) -> u32;
     fn gcz_del(gcz: *mut Gcz, map: u32, key: u32) -> u32;
     fn gcz_find(gcz: *mut Gcz, reg: u32, map: u32, key: u32, answer: *mut Name) -> u32;
+    fn gcz_weaken(gcz: *mut Gcz, slot: u32, reg: u32) -> u32;
+    fn gcz_deref(gcz: *mut Gcz, reg: u32, slot: u32, answer: *mut Name) -> u32;
+    fn gcz_watch(gcz: *mut Gcz, reg: u32) -> u32;
+    fn gcz_unwatch(gcz: *mut Gcz, reg: u32) -> u32;
+    fn gcz_compact(gcz: *mut Gcz, zone: u32, done: *mut Compacted) -> u32;
     fn gcz_begin(gcz: *mut Gcz, zones: u64) -> u32;
     fn gcz_advance(gcz: *mut Gcz, limit: u64, done: *mut Step) -> u32;
     fn gcz_running(gcz: *mut Gcz, running: *mut bool) -> u32;
@@ -133,6 +146,7 @@ extern "C" {
     fn gcz_counts(gcz: *mut Gcz, counts: *mut Counts) -> u32;
     fn gcz_report(gcz: *mut Gcz, told: *mut Report) -> u32;
     fn gcz_report_name(gcz: *mut Gcz, index: usize, name: *mut Name) -> u32;
+    fn gcz_report_lost(gcz: *mut Gcz, index: usize, name: *mut Name) -> u32;
     fn gcz_report_group(gcz: *mut Gcz, index: usize, zones: *mut u64) -> u32;
     fn gcz_grays(gcz: *mut Gcz, count: *mut usize) -> u32;
     fn gcz_gray(gcz: *mut Gcz, index: usize, name: *mut Name) -> u32;
@@ -236,6 +250,11 @@ calls! {
     put = gcz_put(map: u32, key: u32, value: u32);
     del = gcz_del(map: u32, key: u32);
     find = gcz_find(reg: u32, map: u32, key: u32) -> Name;
+    weaken = gcz_weaken(slot: u32, reg: u32);
+    deref = gcz_deref(reg: u32, slot: u32) -> Name;
+    watch = gcz_watch(reg: u32);
+    unwatch = gcz_unwatch(reg: u32);
+    compact = gcz_compact(zone: u32) -> Compacted;
     begin = gcz_begin(zones: u64);
     advance = gcz_advance(limit: u64) -> Step;
     running = gcz_running() -> bool;
@@ -243,6 +262,7 @@ calls! {
     counts = gcz_counts() -> Counts;
     report = gcz_report() -> Report;
     report_name = gcz_report_name(index: usize) -> Name;
+    report_lost = gcz_report_lost(index: usize) -> Name;
     report_group = gcz_report_group(index: usize) -> u64;
     grays = gcz_grays() -> usize;
     gray = gcz_gray(index: usize) -> Name;

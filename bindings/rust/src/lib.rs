@@ -64,6 +64,30 @@ pub const SLOTS: [Slot; 64] = {
     all
 };
 
+/// A weak slot: it names a cell, and keeps none. There are 64, `WEAK_SLOTS`.
+#[derive(Clone, Copy, Debug, PartialEq, Eq, Hash)]
+pub struct WeakSlot(u8);
+
+/// The weak slots.
+pub const WEAK_SLOTS: [WeakSlot; 64] = {
+    let mut all = [WeakSlot(0); 64];
+    let mut index = 0;
+    while index < 64 {
+        all[index as usize] = WeakSlot(index);
+        index += 1;
+    }
+    all
+};
+
+/// What a compaction did.
+#[derive(Clone, Copy, Debug, PartialEq, Eq, Hash)]
+pub struct Compacted {
+    /// How many cells moved.
+    pub moved: u64,
+    /// How many arenas were given up.
+    pub given_up: u32,
+}
+
 /// A zone of a heap.
 #[derive(Clone, Copy, Debug, PartialEq, Eq, Hash, PartialOrd, Ord)]
 pub struct Zone(u8);
@@ -383,6 +407,46 @@ impl Heap {
     /// The register holds the value of a key, or becomes empty.
     pub fn find(&mut self, register: Register, map: Register, key: Register) -> Result<Option<Name>> {
         checked(self.handle.find(register.0.into(), map.0.into(), key.0.into())).map(name_of)
+    }
+
+    /// The weak slot names what the register holds, or becomes empty. When its cell dies, it becomes empty.
+    pub fn weaken(&mut self, slot: WeakSlot, register: Register) -> Result<()> {
+        checked(self.handle.weaken(slot.0.into(), register.0.into()))
+    }
+
+    /// The register holds what the weak slot names, and that turns black; or it becomes empty.
+    pub fn deref(&mut self, register: Register, slot: WeakSlot) -> Result<Option<Name>> {
+        checked(self.handle.deref(register.0.into(), slot.0.into())).map(name_of)
+    }
+
+    /// What the register holds is watched: `lost` names it once the group with which it dies has ended.
+    pub fn watch(&mut self, register: Register) -> Result<()> {
+        checked(self.handle.watch(register.0.into()))
+    }
+
+    /// What the register holds is watched no longer. Returns whether it was.
+    pub fn unwatch(&mut self, register: Register) -> Result<bool> {
+        match checked(self.handle.unwatch(register.0.into())) {
+            Err(Error::Absent) => Ok(false),
+            done => done.map(|()| true),
+        }
+    }
+
+    /// Moves the cells of a zone together, and gives up the arenas that this empties. A collection must not run.
+    pub fn compact(&mut self, zone: Zone) -> Result<Compacted> {
+        let done = checked(self.handle.compact(zone.0.into()))?;
+        Ok(Compacted { moved: done.moved, given_up: done.given_up })
+    }
+
+    /// The watched cells that died with the group whose end is the last event, ascending.
+    pub fn lost(&mut self) -> Result<Vec<Name>> {
+        let mut names = Vec::new();
+        loop {
+            match checked(self.handle.report_lost(names.len())) {
+                Err(Error::Absent) => return Ok(names),
+                name => names.extend(name_of(name?)),
+            }
+        }
     }
 
     /// Begins a collection of these zones.

@@ -5,31 +5,38 @@ use Rattle.std.specs.Prelude.{List, [], IfOk, IfSome, IsSome, OnErr, OnOk, lengt
 use Rattle.std.specs.declared.alloc.AllocError.{AllocError}
 use Rattle.gz_names.specs.Zones.{HasZone}
 use Rattle.gz_names.specs.declared.commands.GraphCmd.{GraphCmd}
+use Rattle.gz_names.specs.declared.commands.WeakCmd.{WeakCmd}
 use Rattle.gz_names.specs.declared.dumps.DumpLine.{DumpLine}
 use Rattle.gz_names.specs.declared.names.Name.{Name}
 use Rattle.gz_names.specs.declared.names.Name.TheVariants as name
 use Rattle.gz_names.specs.declared.numbers.CompNo.{CompNo}
 use Rattle.colour_defs.specs.World.{World, first_world}
+use Rattle.compact.specs.declared.Compacted.{Compacted}
 use Rattle.sweeping.specs.ArenasOut.{flown_by, outs_of}
 use Rattle.slice_driver.specs.Accounts.{Accounts, FreesOn, freed_by, freed_by_report}
 use Rattle.slice_driver.specs.Begins.{AreMade}
 use Rattle.slice_driver.specs.Collector.{CollectorState}
+use Rattle.slice_driver.specs.Compacting.{CompactCalled}
 use Rattle.slice_driver.specs.Represents.{Represents}
 use Rattle.slice_driver.specs.SessionCommands.{SessionDoes}
 use Rattle.slice_driver.specs.Sessions.{AreDumpLines, AreGrayNames, IsNextGray, IsNowhereSettled}
 use Rattle.slice_driver.specs.Sessions.{SessionResets, SessionSteps, as_reply, counted_in, replied}
 use Rattle.slice_driver.specs.Units.{BeginsIn, BeginsWithin}
+use Rattle.slice_driver.specs.WeakCalls.{WeakReturns}
 use Rattle.slice_driver.specs.Working.{IsStill, MayWantMemory}
 use Rattle.slice_driver.specs.declared.begin.BeginFault.{BeginFault}
 use Rattle.slice_driver.specs.declared.begin.BeginFault.TheVariants as begin
+use Rattle.slice_driver.specs.declared.compacting.CompactFault.{CompactFault}
 use Rattle.slice_driver.specs.declared.session.SessionFault.{SessionFault}
 use Rattle.slice_driver.specs.declared.session.told.SessionReply.{SessionReply}
 use Rattle.slice_driver.specs.declared.session.told.SessionReply.TheVariants as reply
 use Rattle.slice_driver.specs.declared.session.told.SessionReport.{SessionReport}
 use Rattle.slice_driver.specs.declared.session.told.SessionReport.TheVariants as report
 use Rattle.slice_driver.specs.declared.session.told.SessionStep.{SessionStep}
-use Rattle.gczone_c.specs.Statuses.{begin_status, command_status, list_status, next_status, step_status}
+use Rattle.gczone_c.specs.Statuses.{begin_status, command_status, compact_status, list_status, next_status}
+use Rattle.gczone_c.specs.Statuses.{step_status}
 use Rattle.gczone_c.specs.declared.told.Answer.{Answer}
+use Rattle.gczone_c.specs.declared.told.CompactedTold.{CompactedTold}
 use Rattle.gczone_c.specs.declared.told.StepDone.{StepDone}
 use Rattle.gczone_c.specs.declared.handle.Gcz.{Gcz}
 use Rattle.gczone_c.specs.declared.held.Held.{Held}
@@ -128,6 +135,44 @@ Does cmd status old new before after = Goes (IsClosed status before after) (Comm
 
 abbrev pub DoesOrder : GraphCmd → ℕ → Gcz → Gcz → Type 0
 DoesOrder cmd status old new = Goes (status ≡ 1) (OrderDone cmd status) old new
+
+-- a session did a command on weak slots and watched cells with this result, and C gets it
+pub record WeakCommandDone (cmd : WeakCmd) (before after : Answer) (status : ℕ) (old new : Held) : Type 0 where
+  pub result : Result SessionReply SessionFault
+  pub does : WeakReturns flown_by old.session cmd (replied as_reply result) new.session
+  pub lists : KeepsLists old new
+  pub status_is : status ≡ command_status result
+  pub answer_is : after ≡ command_told result before
+
+-- likewise where C gets no answer
+abbrev pub WeakOrderDone : WeakCmd → ℕ → Held → Held → Type 0
+WeakOrderDone cmd status old new = (after : Answer) × WeakCommandDone cmd no_name after status old new
+
+-- the command of a call is done, if the handle is open
+abbrev pub DoesWeak : WeakCmd → ℕ → Gcz → Gcz → Answer → Answer → Type 0
+DoesWeak cmd status old new before after =
+    Goes (IsClosed status before after) (WeakCommandDone cmd before after status) old new
+
+abbrev pub DoesWeakOrder : WeakCmd → ℕ → Gcz → Gcz → Type 0
+DoesWeakOrder cmd status old new = Goes (status ≡ 1) (WeakOrderDone cmd status) old new
+
+-- what C gets of a compaction
+abbrev pub compacted_told : Result Compacted CompactFault → CompactedTold → CompactedTold
+compacted_told (Ok done) before = record { moved = done.moved; given_up = done.given_up }
+compacted_told (Err why) before = before
+
+-- a session was asked to compact a zone, with this result, which C gets
+pub record ZoneCompacted (zone : ℕ) (before after : CompactedTold) (status : ℕ) (old new : Held) : Type 0 where
+  pub result : Result Compacted CompactFault
+  pub done : CompactCalled flown_by old.session zone result new.session
+  pub lists : KeepsLists old new
+  pub status_is : status ≡ compact_status result
+  pub told_is : after ≡ compacted_told result before
+
+-- a zone is out of range: this status is returned, nothing is done, and nothing is written
+abbrev pub IsNotCompacted : ℕ → ℕ → Gcz → Gcz → CompactedTold → CompactedTold → Type 0
+IsNotCompacted fault status old new before after =
+    (status ≡ fault) × (new.slot.held ≡ old.slot.held) × (after ≡ before)
 
 -- a session was asked to begin a collection of these zones, with this result
 pub record BeginDone (zones : ℕ) (status : ℕ) (old new : Held) : Type 0 where

@@ -7,7 +7,7 @@ use Rattle.gz_names.specs.declared.dumps.DumpLine.TheVariants as line
 use Rattle.gz_names.specs.declared.names.Name.{Name}
 use Rattle.gz_names.specs.declared.zone_sets.ZoneSet.{ZoneSet}
 use Rattle.slice_driver.specs.Present.{arena_bytes, present_in_all}
-use Rattle.slice_driver.specs.Sessions.{groups_of, kind_of, names_of}
+use Rattle.slice_driver.specs.Sessions.{groups_of, kind_of, names_of, told_of}
 use Rattle.slice_driver.specs.declared.session.told.SessionReport.{SessionReport}
 use Rattle.slice_driver.specs.declared.session.told.SessionReport.TheVariants as report
 use Rattle.gczone_c.specs.Calls.{name_told, no_name}
@@ -87,6 +87,11 @@ abbrev pub NameTold : ℕ → Answer → Answer → ℕ → Held → Held → Ty
 NameTold index before told status old new = (new ≡ old)
     × (status ≡ found_status (slice_get (names_of old.session.report) index))
     × (told ≡ name_answer (slice_get (names_of old.session.report) index) before)
+
+abbrev pub LostTold : ℕ → Answer → Answer → ℕ → Held → Held → Type 0
+LostTold index before told status old new = (new ≡ old)
+    × (status ≡ found_status (slice_get (told_of old.session.report) index))
+    × (told ≡ name_answer (slice_get (told_of old.session.report) index) before)
 
 abbrev pub GroupTold : ℕ → ℕ → ℕ → ℕ → Held → Held → Type 0
 GroupTold index before told status old new = (new ≡ old)

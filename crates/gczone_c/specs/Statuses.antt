@@ -4,6 +4,8 @@ use Rattle.gz_names.specs.declared.replies.Refusal.{Refusal}
 use Rattle.gz_names.specs.declared.replies.Refusal.TheVariants as why
 use Rattle.slice_driver.specs.declared.begin.BeginFault.{BeginFault}
 use Rattle.slice_driver.specs.declared.begin.BeginFault.TheVariants as begin
+use Rattle.slice_driver.specs.declared.compacting.CompactFault.{CompactFault}
+use Rattle.slice_driver.specs.declared.compacting.CompactFault.TheVariants as compact
 use Rattle.slice_driver.specs.declared.session.SessionFault.{SessionFault}
 use Rattle.slice_driver.specs.declared.session.SessionFault.TheVariants as session
 use Rattle.slice_driver.specs.declared.session.told.SessionReply.{SessionReply}
@@ -40,6 +42,12 @@ abbrev pub begin_status : {T : Type 0} → Result T BeginFault → ℕ
 begin_status (Ok done) = 0
 begin_status (Err begin.Running) = 24
 begin_status (Err begin.NoZone) = 17
+
+abbrev pub compact_status : {T : Type 0} → Result T CompactFault → ℕ
+compact_status (Ok done) = 0
+compact_status (Err compact.Running) = 24
+compact_status (Err compact.NoZone) = 17
+compact_status (Err compact.NoMemory) = 3
 
 abbrev pub step_status : {T E : Type 0} → Result T E → ℕ
 step_status (Ok step) = 0

@@ -4,7 +4,7 @@ ghost use Rattle.gczone_c.specs.Calls.{comp_no, name_asked};
 
 use crate::statuses;
 use crate::told::{Answer, CELL, NOTHING, WRAPPER};
-use gz_names::{CompNo, FIELD_LIMIT, GrayNo, Name, Reg, ZoneNo};
+use gz_names::{CompNo, FIELD_LIMIT, GrayNo, Name, Reg, WeakNo, ZoneNo};
 
 /// The register with this number, if there is one.
 pub fn register(number: u32) -> Option<Reg>
@@ -25,6 +25,13 @@ pub fn slot(number: u32) -> Option<GrayNo>
     ensures { SomeIff result (number < 64) number }
 {
     GrayNo::new(u8::try_from(number).ok()?)
+}
+
+/// The weak slot with this number, if there is one.
+pub fn weak_slot(number: u32) -> Option<WeakNo>
+    ensures { SomeIff result (number < 64) number }
+{
+    WeakNo::new(u8::try_from(number).ok()?)
 }
 
 /// The compartment with this number, if there can be one.

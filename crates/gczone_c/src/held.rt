@@ -4,15 +4,15 @@ ghost use Rattle.colour_defs.specs.Step.{HasFewFields};
 ghost use Rattle.colour_defs.specs.World.{first_world};
 ghost use Rattle.slice_driver.specs.Accounts.{Accounts};
 ghost use Rattle.slice_driver.specs.Represents.{Represents};
-ghost use Rattle.slice_driver.specs.Sessions.{groups_of, kind_of, names_of};
+ghost use Rattle.slice_driver.specs.Sessions.{groups_of, kind_of, names_of, told_of};
 ghost use Rattle.sweeping.specs.ArenasOut.{flown_by};
 ghost use Rattle.gczone_c.specs.Calls.{AdvanceDone, BeginDone, CommandDone, GraysListed, LinesListed, NextGrayTold};
-ghost use Rattle.gczone_c.specs.Calls.{ResetDone};
+ghost use Rattle.gczone_c.specs.Calls.{ResetDone, WeakCommandDone, ZoneCompacted};
 ghost use Rattle.gczone_c.specs.Reports.{counts_told, report_status, report_told};
 
-use crate::told::{Answer, Counts, ReportTold, StepDone};
+use crate::told::{Answer, CompactedTold, Counts, ReportTold, StepDone};
 use crate::{statuses, told};
-use gz_names::{DumpLine, GraphCmd, Name, NameList, NoMemory, ZoneSet};
+use gz_names::{DumpLine, GraphCmd, Name, NameList, NoMemory, WeakCmd, ZoneNo, ZoneSet};
 use slice_driver::Session;
 use std::alloc::Global;
 use sweeping::MainSweeper;
@@ -49,6 +49,22 @@ impl Held {
     {
         let outcome = self.session.command(cmd);
         told::tell_outcome(&outcome, answer)
+    }
+
+    /// Does a command on weak slots and watched cells, and writes what it answers.
+    pub fn weak_command(&mut self, cmd: WeakCmd, answer: &mut Answer) -> u32
+        ensures done { WeakCommandDone cmd answer.old answer.new result self.old self.new }
+    {
+        let outcome = self.session.weak_command(cmd);
+        told::tell_outcome(&outcome, answer)
+    }
+
+    /// Compacts a zone, and writes what that did.
+    pub fn compact(&mut self, zone: ZoneNo, told: &mut CompactedTold) -> u32
+        ensures done { ZoneCompacted zone told.old told.new result self.old self.new }
+    {
+        let done = self.session.compact(zone);
+        told::tell_compaction(&done, told)
     }
 
     /// Begins a collection of these zones.
@@ -111,6 +127,13 @@ impl Held {
         ensures { result ≡ slice_get (names_of self.now.session.report) index }
     {
         self.session.names().get(index).copied()
+    }
+
+    /// A watched cell that died with the group whose end is the last report.
+    pub fn lost_name(&self, index: usize) -> Option<Name>
+        ensures { result ≡ slice_get (told_of self.now.session.report) index }
+    {
+        self.session.told().get(index).copied()
     }
 
     /// A group that the last report lists.

@@ -16,17 +16,18 @@ mod told;
 ghost use Rattle.std.specs.Prelude.{◌≡◌, ◌<◌, ◌≤◌, Err, None, Ok, Some};
 ghost use Rattle.colour_defs.specs.Step.{HasFewFields};
 ghost use Rattle.gz_names.specs.declared.commands.GraphCmd.TheVariants as cmd;
-ghost use Rattle.gczone_c.specs.Calls.{AdvanceDone, BeginDone, Does, DoesOrder, Goes, GraysListed, IsClosed};
-ghost use Rattle.gczone_c.specs.Calls.{IsRefused, IsUndone, LinesListed, NextGrayTold, Opens, ResetDone, comp_no};
-ghost use Rattle.gczone_c.specs.Calls.{name_asked};
-ghost use Rattle.gczone_c.specs.Reports.{CountsTold, GrayTold, GroupTold, LineIsTold, NameTold};
+ghost use Rattle.gz_names.specs.declared.commands.WeakCmd.TheVariants as weak;
+ghost use Rattle.gczone_c.specs.Calls.{AdvanceDone, BeginDone, Does, DoesOrder, DoesWeak, DoesWeakOrder, Goes};
+ghost use Rattle.gczone_c.specs.Calls.{GraysListed, IsClosed, IsNotCompacted, IsRefused, IsUndone, LinesListed};
+ghost use Rattle.gczone_c.specs.Calls.{NextGrayTold, Opens, ResetDone, ZoneCompacted, comp_no, name_asked};
+ghost use Rattle.gczone_c.specs.Reports.{CountsTold, GrayTold, GroupTold, LineIsTold, LostTold, NameTold};
 ghost use Rattle.gczone_c.specs.Reports.{ReportIsTold, RunningTold};
 
-use gz_names::{GraphCmd, ZoneSet};
+use gz_names::{GraphCmd, WeakCmd, ZoneNo, ZoneSet};
 use handle::Gcz;
 use held::Held;
 use std::alloc::Global;
-use told::{Answer, Counts, LineTold, ReportTold, StepDone};
+use told::{Answer, CompactedTold, Counts, LineTold, ReportTold, StepDone};
 
 // Does a command on what a handle leads to.
 fn command(alloc: Global, gcz: &mut Gcz, cmd: GraphCmd, answer: &mut Answer) -> u32
@@ -48,6 +49,39 @@ fn order(alloc: Global, gcz: &mut Gcz, cmd: GraphCmd) -> u32
 {
     let mut answer = told::nothing();
     command(alloc, gcz, cmd, &mut answer)
+}
+
+// Does a command on weak slots and watched cells on what a handle leads to.
+fn weak_command(alloc: Global, gcz: &mut Gcz, cmd: WeakCmd, answer: &mut Answer) -> u32
+    ensures done { DoesWeak cmd result gcz.old gcz.new answer.old answer.new }
+{
+    let Some(mut held) = gcz.take(alloc) else {
+        return statuses::CLOSED;
+    };
+    let status = held.weak_command(cmd, answer);
+    gcz.put(alloc, held);
+    status
+}
+
+// Does such a command whose answer is no name.
+fn weak_order(alloc: Global, gcz: &mut Gcz, cmd: WeakCmd) -> u32
+    ensures done { DoesWeakOrder cmd result gcz.old gcz.new }
+{
+    let mut answer = told::nothing();
+    weak_command(alloc, gcz, cmd, &mut answer)
+}
+
+// Compacts a zone of what a handle leads to.
+fn compact_zone(alloc: Global, gcz: &mut Gcz, zone: ZoneNo, done: &mut CompactedTold) -> u32
+    ensures done { Goes (IsClosed result done.old done.new)
+        (ZoneCompacted zone done.old done.new result) gcz.old gcz.new }
+{
+    let Some(mut held) = gcz.take(alloc) else {
+        return statuses::CLOSED;
+    };
+    let status = held.compact(zone, done);
+    gcz.put(alloc, held);
+    status
 }
 
 /// The number of this interface. It changes with a signature, a struct or the meaning of a number.
@@ -431,6 +465,89 @@ pub extern "C" fn gcz_find(
     command(alloc, gcz, GraphCmd::Find(reg, map, key), answer)
 }
 
+/// A weak slot names what a register holds, or becomes empty. It keeps no cell.
+#[unsafe(no_mangle)]
+pub extern "C" fn gcz_weaken(alloc: Global, gcz: &mut Gcz, slot: u32, reg: u32) -> u32
+    ensures done { (slot < 64) × (reg < 16)
+        → DoesWeakOrder (weak.Weaken slot reg) result gcz.old gcz.new }
+    ensures slot { 64 ≤ slot → IsUndone 15 result gcz.old gcz.new }
+    ensures reg { slot < 64 → 16 ≤ reg → IsUndone 8 result gcz.old gcz.new }
+{
+    let Some(slot) = asked::weak_slot(slot) else {
+        return statuses::BAD_WEAK_SLOT;
+    };
+    let Some(reg) = asked::register(reg) else {
+        return statuses::BAD_REGISTER;
+    };
+    weak_order(alloc, gcz, WeakCmd::Weaken(slot, reg))
+}
+
+/// A register holds what a weak slot names, exposed, or becomes empty.
+#[unsafe(no_mangle)]
+pub extern "C" fn gcz_deref(
+    alloc: Global,
+    gcz: &mut Gcz,
+    reg: u32,
+    slot: u32,
+    answer: &mut Answer,
+) -> u32
+    ensures done { (reg < 16) × (slot < 64)
+        → DoesWeak (weak.Deref reg slot) result gcz.old gcz.new answer.old answer.new }
+    ensures reg { 16 ≤ reg → IsRefused 8 result gcz.old gcz.new answer.old answer.new }
+    ensures slot { reg < 16 → 64 ≤ slot
+        → IsRefused 15 result gcz.old gcz.new answer.old answer.new }
+{
+    let Some(reg) = asked::register(reg) else {
+        return statuses::BAD_REGISTER;
+    };
+    let Some(slot) = asked::weak_slot(slot) else {
+        return statuses::BAD_WEAK_SLOT;
+    };
+    weak_command(alloc, gcz, WeakCmd::Deref(reg, slot), answer)
+}
+
+/// What a register holds is watched: the report of the group's end with which it dies tells its name, once.
+#[unsafe(no_mangle)]
+pub extern "C" fn gcz_watch(alloc: Global, gcz: &mut Gcz, reg: u32) -> u32
+    ensures done { reg < 16 → DoesWeakOrder (weak.Watch reg) result gcz.old gcz.new }
+    ensures reg { 16 ≤ reg → IsUndone 8 result gcz.old gcz.new }
+{
+    let Some(reg) = asked::register(reg) else {
+        return statuses::BAD_REGISTER;
+    };
+    weak_order(alloc, gcz, WeakCmd::Watch(reg))
+}
+
+/// What a register holds is watched no longer.
+#[unsafe(no_mangle)]
+pub extern "C" fn gcz_unwatch(alloc: Global, gcz: &mut Gcz, reg: u32) -> u32
+    ensures done { reg < 16 → DoesWeakOrder (weak.Unwatch reg) result gcz.old gcz.new }
+    ensures reg { 16 ≤ reg → IsUndone 8 result gcz.old gcz.new }
+{
+    let Some(reg) = asked::register(reg) else {
+        return statuses::BAD_REGISTER;
+    };
+    weak_order(alloc, gcz, WeakCmd::Unwatch(reg))
+}
+
+/// Moves the cells of a zone together, and gives up the arenas that this empties.
+#[unsafe(no_mangle)]
+pub extern "C" fn gcz_compact(
+    alloc: Global,
+    gcz: &mut Gcz,
+    zone: u32,
+    done: &mut CompactedTold,
+) -> u32
+    ensures done { zone < 64 → Goes (IsClosed result done.old done.new)
+        (ZoneCompacted zone done.old done.new result) gcz.old gcz.new }
+    ensures zone { 64 ≤ zone → IsNotCompacted 9 result gcz.old gcz.new done.old done.new }
+{
+    let Some(zone) = asked::zone(zone) else {
+        return statuses::BAD_ZONE;
+    };
+    compact_zone(alloc, gcz, zone, done)
+}
+
 /// Begins a collection of the zones whose bits are set.
 #[unsafe(no_mangle)]
 pub extern "C" fn gcz_begin(alloc: Global, gcz: &mut Gcz, zones: u64) -> u32
@@ -530,6 +647,26 @@ pub extern "C" fn gcz_report_name(
         return statuses::CLOSED;
     };
     let status = told::tell_name(held.reported_name(index), name);
+    gcz.put(alloc, held);
+    status
+}
+
+/// Writes the name of a watched cell that died with the group whose end is the last report, by its place in the
+/// list.
+#[unsafe(no_mangle)]
+pub extern "C" fn gcz_report_lost(
+    alloc: Global,
+    gcz: &mut Gcz,
+    index: usize,
+    name: &mut Answer,
+) -> u32
+    ensures done { Goes (IsClosed result name.old name.new)
+        (LostTold index name.old name.new result) gcz.old gcz.new }
+{
+    let Some(held) = gcz.take(alloc) else {
+        return statuses::CLOSED;
+    };
+    let status = told::tell_name(held.lost_name(index), name);
     gcz.put(alloc, held);
     status
 }

@@ -1,9 +1,9 @@
 // What a call returns: a number for each way in which it can end. gczone.h has the same numbers.
 ghost use Rattle.std.specs.Prelude.{◌≡◌};
-ghost use Rattle.gczone_c.specs.Statuses.{begin_status, refusal_status};
+ghost use Rattle.gczone_c.specs.Statuses.{begin_status, compact_status, refusal_status};
 
 use gz_names::Refusal;
-use slice_driver::{BeginFault, refusal_words};
+use slice_driver::{BeginFault, CompactFault, Compacted, refusal_words};
 
 pub const DONE: u32 = 0;
 /// The handle is closed.
@@ -30,6 +30,8 @@ pub const BAD_FIELD: u32 = 12;
 pub const BAD_FIELD_COUNT: u32 = 13;
 
 pub const BAD_KIND: u32 = 14;
+
+pub const BAD_WEAK_SLOT: u32 = 15;
 // The command is refused.
 pub const FULL: u32 = 16;
 
@@ -80,6 +82,18 @@ pub fn of_begin(begun: &Result<(), BeginFault>) -> u32
     }
 }
 
+/// The status of a compaction.
+pub fn of_compaction(done: &Result<Compacted, CompactFault>) -> u32
+    ensures { result ≡ compact_status done.now }
+{
+    match done {
+        Ok(_) => DONE,
+        Err(CompactFault::Running) => RUNNING,
+        Err(CompactFault::NoZone) => NO_ZONE,
+        Err(CompactFault::NoMemory) => NO_MEMORY,
+    }
+}
+
 /// A status in plain words.
 pub fn text(status: u32) -> &'static str {
     match status {
@@ -96,6 +110,7 @@ pub fn text(status: u32) -> &'static str {
         BAD_FIELD => "a field is above 7",
         BAD_FIELD_COUNT => "an object has at most 8 fields",
         BAD_KIND => "a name is of no cell or wrapper",
+        BAD_WEAK_SLOT => "a weak slot is above 63",
         FULL => refusal_words(Refusal::Full),
         NO_ZONE => refusal_words(Refusal::NoZone),
         NO_COMPARTMENT => refusal_words(Refusal::NoComp),

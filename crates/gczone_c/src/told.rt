@@ -1,13 +1,15 @@
 // What C gets: the structs of gczone.h.
 ghost use Rattle.std.specs.Prelude.{◌≡◌};
 ghost use Rattle.gczone_c.specs.Calls.{answer_told, command_told, done_told, name_told, no_name};
-ghost use Rattle.gczone_c.specs.Calls.{report_kind, step_told};
+ghost use Rattle.gczone_c.specs.Calls.{compacted_told, report_kind, step_told};
 ghost use Rattle.gczone_c.specs.Reports.{group_told, line_answer, line_told, name_answer, report_status, report_told};
-ghost use Rattle.gczone_c.specs.Statuses.{command_status, found_status, reply_status, step_status};
+ghost use Rattle.gczone_c.specs.Statuses.{command_status, compact_status, found_status, reply_status, step_status};
 
 use crate::statuses;
 use gz_names::{CompNo, DumpColour, DumpLine, Name, NoMemory, ZoneSet};
-use slice_driver::{SessionFault, SessionReply, SessionReport, SessionStep};
+use slice_driver::{
+    CompactFault, Compacted, SessionFault, SessionReply, SessionReport, SessionStep,
+};
 
 pub const NOTHING: u32 = 0;
 
@@ -87,6 +89,14 @@ pub struct Counts {
     pub entries: u64,
     pub bytes: u64,
     pub arenas: u32,
+}
+
+/// What a compaction did: `gcz_compacted_t`.
+#[repr(C)]
+#[derive(Drop)]
+pub struct CompactedTold {
+    pub moved: u64,
+    pub given_up: u32,
 }
 
 /// No name.
@@ -346,4 +356,18 @@ pub fn tell_line(found: Option<DumpLine>, told: &mut LineTold) -> u32
         }
         None => statuses::NONE,
     }
+}
+
+/// Writes what a compaction did, and returns the status.
+pub fn tell_compaction(done: &Result<Compacted, CompactFault>, told: &mut CompactedTold) -> u32
+    ensures status { result ≡ compact_status done.now }
+    ensures told { told.new ≡ compacted_told done.now told.old }
+{
+    if let Ok(compacted) = done {
+        *told = CompactedTold {
+            moved: compacted.moved,
+            given_up: compacted.given_up,
+        };
+    }
+    statuses::of_compaction(done)
 }
