@@ -84,8 +84,8 @@ sound_asks g (command.Collect zones) due old new b is = sound_begins g zones _ d
 sound_asks g command.Colours due old new (d, same) is = sound_same g old new same is
 sound_asks g command.Dump due old new (d, same) is = sound_same g old new same is
 sound_asks g command.Reset due old new (d, same) is = sound_same g old new same is
-sound_asks g (command.Weak c) due old new (d, same) is = sound_same g old new same is
-sound_asks g (command.Compact zone) due old new (d, same) is = sound_same g old new same is
+sound_asks g (command.Weak c) due old new none is = absurd none
+sound_asks g (command.Compact zone) due old new none is = absurd none
 
 -- reports
 sound_starts : (g : GraphState) (old new : Shown) → Starts g old new → IsSound g old → IsSound g new
@@ -155,7 +155,7 @@ sound_ends g old new group grays e is =
     let stage = e.ends.new_is in record {
       former = elim (left_or_over new.stage) [
         | inl left ↦ subst (λ h. IsFormer h g) (sym (e.goes_on.left left).1) is.former
-        | inr over ↦ (e.goes_on.over over).former g is.former
+        | inr over ↦ (e.goes_on.over over).0.former g is.former
       ];
       none_kept = λ i. absurd (cc (i, stage));
       none_yet = λ zones i. absurd (cc (i, stage));
@@ -184,15 +184,14 @@ sound_sweeps g old new arena s is = subst (IsSound g) (sym s.new_is)
     })
 
 -- a collection is over, or is given up
-sound_idle : (g : GraphState) (old new : Shown) → Releases old.former new.former
-    → new ≡ record old { stage = idle; former = new.former; walks = None } → IsSound g old → IsSound g new
-sound_idle g old new r same is =
-    let gone : new.walks ≡ None = ap (λ (t : Shown). t.walks) same in record {
-      former = r.former g is.former;
-      none_kept = λ e. r.kept_is;
-      none_yet = λ zones e. r.kept_is;
-      walks = λ w e left. absurd (cc (e, gone));
-    }
+sound_idle : (g : GraphState) (old new : Shown) → Releases old.former new.former → new.walks ≡ None → IsSound g old
+    → IsSound g new
+sound_idle g old new r gone is = record {
+  former = r.former g is.former;
+  none_kept = λ e. r.kept_is;
+  none_yet = λ zones e. r.kept_is;
+  walks = λ w e left. absurd (cc (e, gone));
+}
 
 sound_reported : (g : GraphState) (r : Report) (old new : Shown) → IsReported g old r new → IsSound g old
     → IsSound g new
@@ -200,7 +199,7 @@ sound_reported g report.Started old new s is = sound_starts g old new s is
 sound_reported g (report.Groups groups) old new (f, up) is = sound_forms g old new groups f up is
 sound_reported g (report.Ended group grays told) old new e is = sound_ends g old new group grays e.1 is
 sound_reported g (report.Swept arena freed) old new s is = sound_sweeps g old new arena s is
-sound_reported g report.Done old new f is = sound_idle g old new f.releases f.new_is is
+sound_reported g report.Done old new f is = sound_idle g old new f.releases (ap (λ (t : Shown). t.walks) f.new_is) is
 sound_reported g (report.Stopped zones) old new s is = absurd s
 
 sound_reset : (g : GraphState) (r : Report) (old new : Shown) → IsResetReport old r new → IsSound g old → IsSound g new
@@ -208,8 +207,9 @@ sound_reset g report.Started old new s is = absurd s
 sound_reset g (report.Groups groups) old new s is = absurd s
 sound_reset g (report.Ended group grays told) old new s is = absurd s
 sound_reset g (report.Swept arena freed) old new s is = sound_sweeps g old new arena s is
-sound_reset g report.Done old new f is = sound_idle g old new f.releases f.new_is is
-sound_reset g (report.Stopped zones) old new s is = sound_idle g old new s.releases s.new_is is
+sound_reset g report.Done old new f is = sound_idle g old new f.releases (ap (λ (t : Shown). t.walks) f.new_is) is
+sound_reset g (report.Stopped zones) old new s is =
+    sound_idle g old new s.releases (ap (λ (t : Shown). t.walks) s.new_is) is
 
 sound_answered : (g : GraphState) (old new : Shown) (due next : Due) (line : List ℕ)
     → IsAnswered g old due line new next → IsSound g old → IsSound g new

@@ -2,7 +2,7 @@
 -- definitions give it; a collection begins, goes on, ends and is refused as they say; and each answer has its last
 -- line, behind the reports that its collection is due, in their order. Which cells these name is not said.
 use Rattle.std.specs.Prelude.{◌≡◌, ◌≢◌, ◌⊎◌, ℕ, ◌+◌, ◌<◌, ◌≤◌, Bool, true, false, List, [], ◌∷◌, drop, Option, Some}
-use Rattle.std.specs.Prelude.{None, Result, Ok, Err, codes, ⊤}
+use Rattle.std.specs.Prelude.{None, Result, Ok, Err, Contains, codes, ⊤}
 use Rattle.gz_io.specs.Lines.{EndsLine}
 use Rattle.gz_names.specs.Zones.{HasZone}
 use Rattle.gz_names.specs.declared.zone_sets.ZoneSet.{ZoneSet}
@@ -17,6 +17,8 @@ use Rattle.colour_defs.specs.Graph.{GraphState, empty_graph}
 use Rattle.colour_defs.specs.Step.{step_of}
 use Rattle.trace_lang.specs.Grammar.{Spells}
 use Rattle.trace_lang.specs.Texts.{reply_text}
+use Rattle.colour_defs.specs.Ends.{Lists}
+use Rattle.judge.specs.Cells.{HasCell}
 use Rattle.judge.specs.Lines.{IsOneLine}
 use Rattle.judge.specs.Stages.{Stage, idle, preparing, collecting, Shown, IsFirst, IsOver, IsSettled, IsReportedLine}
 use Rattle.judge.specs.Stages.{IsResetLine, Obeys}
@@ -69,18 +71,33 @@ Begins g zones begun old due new =
 abbrev pub GoesOn : Due → Stage → Due → Type 0
 GoesOn running s due = ((s ≢ idle) × (due ≡ running)) ⊎ ((s ≡ idle) × (due ≡ refused refusal.Idle))
 
--- what is due for `colours`: `marking` while zones are being prepared or are marking
-abbrev pub ListsGray : Stage → Due → Type 0
+-- what is due for `colours`: the present names that are not black; `marking` while zones are being prepared or are
+-- marking
+abbrev pub ListsGray : Shown → Due → Type 0
 ListsGray s due =
-    (IsSettled s × (names : List Name) × (due ≡ reply (reply_text (answer.Gray names))))
-    ⊎ ((IsSettled s → ⊥) × (due ≡ refused refusal.Marking))
+    (IsSettled s.stage × (names : List Name) × Lists (λ x. HasCell s.cells x × (Contains s.black.names x → ⊥)) names
+    × (due ≡ reply (reply_text (answer.Gray names))))
+    ⊎ ((IsSettled s.stage → ⊥) × (due ≡ refused refusal.Marking))
 
 -- what is due for `dump`
 abbrev pub Dumps : Stage → Due → Type 0
 Dumps s due =
     (IsSettled s × (lines : List DumpLine) × (due ≡ dump lines)) ⊎ ((IsSettled s → ⊥) × (due ≡ refused refusal.Marking))
 
--- what is due for a command, by what the world shows before it and after it. The last two are no lines of the language
+-- there are rules for all commands but those on weak slots and watched cells, and compactions
+abbrev pub IsJudged : Cmd → Type 0
+IsJudged (command.Graph c) = ⊤
+IsJudged (command.Gc zones) = ⊤
+IsJudged (command.Slice n) = ⊤
+IsJudged command.Finish = ⊤
+IsJudged (command.Collect zones) = ⊤
+IsJudged command.Colours = ⊤
+IsJudged command.Dump = ⊤
+IsJudged command.Reset = ⊤
+IsJudged (command.Weak c) = ⊥
+IsJudged (command.Compact zone) = ⊥
+
+-- what is due for a command, by what the world shows before it and after it
 abbrev pub Asks : GraphState → Shown → Cmd → Due → Shown → Type 0
 Asks g old (command.Graph c) due new =
     (due ≡ reply (reply_text (step_of g c).1)) × Obeys g c old new
@@ -88,11 +105,11 @@ Asks g old (command.Gc zones) due new = Begins g zones (begun_due false) old due
 Asks g old (command.Slice n) due new = GoesOn (units (Some n) false) old.stage due × (new ≡ old)
 Asks g old command.Finish due new = GoesOn (units None false) old.stage due × (new ≡ old)
 Asks g old (command.Collect zones) due new = Begins g zones (begun_due true) old due new
-Asks g old command.Colours due new = ListsGray old.stage due × (new ≡ old)
+Asks g old command.Colours due new = ListsGray old due × (new ≡ old)
 Asks g old command.Dump due new = Dumps old.stage due × (new ≡ old)
 Asks g old command.Reset due new = GoesOn resets old.stage due × (new ≡ old)
-Asks g old (command.Weak c) due new = (due ≡ nothing) × (new ≡ old)
-Asks g old (command.Compact zone) due new = (due ≡ nothing) × (new ≡ old)
+Asks g old (command.Weak c) due new = ⊥
+Asks g old (command.Compact zone) due new = ⊥
 
 -- the graph that never frees after a command: a collection leaves it as it is
 abbrev pub graph_after : GraphState → Cmd → GraphState

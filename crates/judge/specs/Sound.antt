@@ -27,7 +27,10 @@ pub record IsSound (g : GraphState) (s : Shown) : Type 0 where
   pub none_yet : (zones : ZoneSet) → s.stage ≡ preparing zones → s.former.is_kept ≡ false
   pub walks : (w : Walks) → s.walks ≡ Some w → HasGroups s.stage → AreFollowed s w
 
--- what was found is kept while groups are left. After that the former graph takes the commands that it has not taken
+-- what was found is kept while groups are left. After that what was found black is black, and the former graph takes
+-- the commands that it has not taken
 pub record Settles (old new : World) : Type 0 where
   pub left : HasGroups (stage_of new.phase) → (walks_of new.phase ≡ walks_of old.phase) × (new.former ≡ old.former)
+      × (new.black ≡ old.black)
   pub over : (HasGroups (stage_of new.phase) → ⊥) → Releases old.former new.former
+      × ((w : Walks) → walks_of old.phase ≡ Some w → new.black ≡ w.black)

@@ -14,7 +14,8 @@ use Rattle.judge.specs.Cells.{Cells, Colours, GivesPlaces, wakes}
 use Rattle.judge.specs.Former.{IsFormer, Keeps, Releases, Takes}
 use Rattle.judge.specs.Parts.{AreParts}
 use Rattle.judge.specs.Starts.{IsBegun}
-use Rattle.judge.specs.Walks.{CatchUp, CatchesUp, Walks, walks_of}
+use Rattle.plain_graph.specs.Reach.{WalkState}
+use Rattle.judge.specs.Walks.{CatchUp, CatchesUp, GoesOnFrom, Walks, walks_of}
 use Rattle.judge.specs.declared.former.Former.{Former}
 use Rattle.judge.specs.declared.collection.Collection.{Collection}
 use Rattle.judge.specs.declared.world.Phase.{Phase}
@@ -30,12 +31,13 @@ pub data Stage : Type 0 where
   preparing : ZoneSet → Stage
   collecting : ZoneSet → ZoneSet → Option (List ZoneSet) → Stage
 
--- a stage, the arenas that are out, the lowest first, the present cells, the graph as it stood when marking began, and
--- what was found since
+-- a stage, the arenas that are out, the lowest first, the present cells, what is black while no zone is marking, the
+-- graph as it stood when marking began, and what was found since
 pub record Shown : Type 0 where
   pub stage : Stage
   pub out : List ℕ
   pub cells : Cells
+  pub black : WalkState
   pub former : Former
   pub walks : Option Walks
 
@@ -57,6 +59,7 @@ shown w = record {
   stage = stage_of w.phase;
   out = reverse w.arenas.out.items;
   cells = w.places;
+  black = w.black;
   former = w.former;
   walks = walks_of w.phase;
 }
@@ -69,6 +72,7 @@ pub record IsFirst (s : Shown) : Type 0 where
   pub former : IsFormer s.former empty_graph
   pub taken : s.former.is_kept ≡ false
   pub none_found : s.walks ≡ None
+  pub none_black : s.black ≡ record { names = []; next = 0 }
 
 -- the zones that are being prepared or are marking
 abbrev pub unfinished_in : Stage → ZoneSet
@@ -94,11 +98,23 @@ abbrev pub WakesAny : Stage → Option Name → Option Walks → Option Walks �
 WakesAny s None old new = new ≡ old
 WakesAny s (Some x) old new = Wakes s x old new
 
+-- what a name that is woken reaches turns black where nothing is prepared or marked. Nothing else changes there
+abbrev pub BlackensOne : GraphState → Stage → Name → WalkState → WalkState → Type 0
+BlackensOne g idle x old new = GoesOnFrom g (x ∷ []) old new
+BlackensOne g (preparing zones) x old new = new ≡ old
+BlackensOne g (collecting zones marking groups) x old new =
+    (marking.bits ≡ 0 → GoesOnFrom g (x ∷ []) old new) × ((marking.bits ≡ 0 → ⊥) → new ≡ old)
+
+abbrev pub Blackens : GraphState → Stage → Option Name → WalkState → WalkState → Type 0
+Blackens g s None old new = new ≡ old
+Blackens g s (Some x) old new = BlackensOne g s x old new
+
 -- a command on the graph
 pub record Obeys (g : GraphState) (c : GraphCmd) (old new : Shown) : Type 0 where
   pub places : GivesPlaces (step_of g c).0 (wakes g c) old.cells new.cells
   pub takes : Takes c old.former new.former
   pub walks : WakesAny old.stage (wakes g c) old.walks new.walks
+  pub blackens : Blackens (step_of g c).0 old.stage (wakes g c) old.black new.black
   pub stage_is : new.stage ≡ old.stage
   pub out_is : new.out ≡ old.out
 
@@ -155,12 +171,13 @@ HasGroups (collecting zones marking None) = ⊤
 HasGroups (collecting zones marking (Some [])) = ⊥
 HasGroups (collecting zones marking (Some (group ∷ rest))) = ⊤
 
--- what was found is kept while groups are left. After that the former graph takes the commands that it has not taken
+-- what was found is kept while groups are left. After that what was found black is black, and the former graph takes
+-- the commands that it has not taken
 pub record GoesOn (old : Shown) (walks : Walks) (new : Shown) : Type 0 where
   pub after : Walks
   pub caught : CatchesUp old.former.graph walks after
-  pub left : HasGroups new.stage → (new.walks ≡ Some after) × (new.former ≡ old.former)
-  pub over : (HasGroups new.stage → ⊥) → Releases old.former new.former
+  pub left : HasGroups new.stage → (new.walks ≡ Some after) × (new.former ≡ old.former) × (new.black ≡ old.black)
+  pub over : (HasGroups new.stage → ⊥) → Releases old.former new.former × (new.black ≡ after.black)
 
 -- the first group that has not ended ends: its gray cells are named, its white ones are present no longer
 pub record EndsGroup (g : GraphState) (old : Shown) (group : ZoneSet) (grays : List Name) (new : Shown) : Type 0 where
@@ -189,7 +206,7 @@ pub record Stops (old : Shown) (zones : ZoneSet) (new : Shown) : Type 0 where
   pub not_over : IsOver old → ⊥
   pub zones_are : zones ≡ unfinished_in old.stage
   pub releases : Releases old.former new.former
-  pub new_is : new ≡ record old { stage = idle; former = new.former; walks = None }
+  pub new_is : new ≡ record old { stage = idle; black = new.black; former = new.former; walks = None }
 
 -- a report of a unit
 abbrev pub IsReported : GraphState → Shown → Report → Shown → Type 0

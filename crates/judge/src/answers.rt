@@ -7,7 +7,7 @@ ghost use Rattle.colour_defs.specs.Step.{step_of};
 ghost use Rattle.trace_lang.specs.Texts.{reply_text};
 ghost use Rattle.judge.specs.Sound.{IsSound};
 ghost use Rattle.judge.specs.Stages.{IsReportedLine, IsResetLine, IsOver, Obeys, Shown, idle, shown, stage_of};
-ghost use Rattle.judge.specs.Replies.{Asks, Begins, Dumps, GoesOn, IsJudgedLine, IsLast, IsWithin, ListsGray};
+ghost use Rattle.judge.specs.Replies.{Asks, Begins, Dumps, GoesOn, IsJudged, IsJudgedLine, IsLast, IsWithin, ListsGray};
 ghost use Rattle.judge.specs.Replies.{after_reset, begun_due, due_as, dump as dump_of, graph_after, nothing, reply};
 ghost use Rattle.judge.specs.Replies.{resets, units as units_of};
 
@@ -59,6 +59,7 @@ pub fn begin_answer(
     world: &mut World,
     command: &Cmd,
 ) -> Result<Awaited, NoMemory>
+    requires { IsJudged command.now }
     ensures asks { IfOk result (λ awaited. Asks graph.old (shown world.old) command.now (due_as awaited)
         (shown world.new)) }
     ensures graph { OnOk result (graph.new ≡ graph_after graph.old command.now) }
@@ -72,9 +73,7 @@ pub fn begin_answer(
         Cmd::Colours => colours(world),
         Cmd::Dump => dump(graph, world),
         Cmd::Reset => reset(world),
-        // None of these is a line of the language.
-        Cmd::Weak(_) => Ok(Awaited::Nothing),
-        Cmd::Compact(_) => Ok(Awaited::Nothing),
+        Cmd::Weak(_) | Cmd::Compact(_) => unreachable!(),
     }
 }
 
@@ -142,7 +141,7 @@ fn reset(world: &World) -> Result<Awaited, NoMemory>
 }
 
 fn colours(world: &World) -> Result<Awaited, NoMemory>
-    ensures { IfOk result (λ awaited. ListsGray (stage_of world.now.phase) (due_as awaited)) }
+    ensures { IfOk result (λ awaited. ListsGray (shown world.now) (due_as awaited)) }
 {
     if !world.is_settled() {
         return only(world, &Reply::Refused(Refusal::Marking));

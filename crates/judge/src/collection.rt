@@ -601,6 +601,7 @@ impl World {
     fn let_go(&mut self, whites: &[Name]) -> Result<(), NoMemory>
         ensures phase { OnOk result (self.new.phase ≡ self.old.phase) }
         ensures former { OnOk result (self.new.former ≡ self.old.former) }
+        ensures black { OnOk result (self.new.black ≡ self.old.black) }
         ensures places { OnOk result (LetsGo whites.now self.old.places self.new.places) }
     {
         self.white.clear();
@@ -616,6 +617,7 @@ impl World {
     fn let_one_go(&mut self, name: Name) -> Result<(), NoMemory>
         ensures phase { OnOk result (self.new.phase ≡ self.old.phase) }
         ensures former { OnOk result (self.new.former ≡ self.old.former) }
+        ensures black { OnOk result (self.new.black ≡ self.old.black) }
         ensures places { OnOk result (Removes self.old.places name self.new.places) }
     {
         let Some(place) = self.places.remove(&name) else {
@@ -671,6 +673,7 @@ impl World {
         ensures stage { stage_of self.new.phase ≡ stage_of self.old.phase }
         ensures places { self.new.places ≡ self.old.places }
         ensures former { self.new.former ≡ self.old.former }
+        ensures black { (w : AWalks) → walks_of self.old.phase ≡ Some w → self.new.black ≡ w.black }
     {
         match &mut self.phase {
             Phase::Collecting(collection) => {
@@ -717,7 +720,12 @@ impl World {
     /// The collection is given up.
     pub fn stop(&mut self, graph: &Graph) -> Result<(), NoMemory>
         ensures shows { OnOk result (shown self.new
-            ≡ record (shown self.old) { stage = idle; former = self.new.former; walks = None }) }
+            ≡ record (shown self.old) {
+              stage = idle;
+              black = self.new.black;
+              former = self.new.former;
+              walks = None;
+            }) }
         ensures releases { OnOk result (Releases self.old.former self.new.former) }
     {
         self.catch_up()?;

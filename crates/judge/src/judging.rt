@@ -5,7 +5,7 @@ ghost use Rattle.gz_io.specs.Causes.{AppendsFront, Rose};
 ghost use Rattle.colour_defs.specs.Graph.{empty_graph};
 ghost use Rattle.judge.specs.Sound.{IsSound};
 ghost use Rattle.judge.specs.Stages.{IsFirst, shown};
-ghost use Rattle.judge.specs.Replies.{IsUnmarked, Steps, due_as, marked, nothing};
+ghost use Rattle.judge.specs.Replies.{IsJudged, IsUnmarked, Steps, due_as, marked, nothing};
 ghost use Rattle.judge.specs.Verdicts.{EndsBy, HasVerdict, IsFirstWrong, IsSaid, IsVerdictOn, wrong_text};
 ghost use Rattle.trace_lang.specs.Grammar.{Spells};
 
@@ -30,7 +30,7 @@ pub enum JudgeEnd {
     Unlawful(u64),
     /// The transcript ends within an answer that is lawful so far.
     Cut,
-    /// This line, counted from 1, is marked as one of a trace, and is no line of the language.
+    /// This line, counted from 1, is marked as one of a trace, and is no line of the language, or none that is judged.
     BadLine(u64),
     ReadFault,
     WriteFault,
@@ -90,7 +90,7 @@ struct Known {
 pub enum Said {
     /// It is lawful so far.
     Fine,
-    /// It is marked, and is no line of the language.
+    /// It is marked, and is no line of the language, or none that is judged.
     Bad,
     /// It is unlawful; why.
     Wrong(Vec<u8>),
@@ -105,6 +105,13 @@ fn unmarked(line: &[u8]) -> Option<&[u8]>
         [b'>', b' ', text @ ..] => Some(text),
         _ => None,
     }
+}
+
+// Whether there are rules for a command: there are none for weak slots, watched cells and compactions.
+fn is_judged(command: &Cmd) -> bool
+    ensures { IsTrue result ↔ IsJudged command.now }
+{
+    !matches!(command, Cmd::Weak(_) | Cmd::Compact(_))
 }
 
 impl Known {
@@ -146,14 +153,18 @@ impl Known {
         }
     }
 
-    // Judges a command, and does what it does before its first line.
+    // Judges the command that a line stands for, and does what it does before its first line.
     fn command(&mut self, text: &[u8], command: &Cmd) -> Result<Said, NoMemory>
-        requires { Spells text.now command.now }
+        requires spelled { Spells text.now command.now }
+        requires only { (other : _) → Spells text.now other → other ≡ command.now }
         ensures said { IfOk result (IsSaid (due_as self.old.awaited) (marked text.now)) }
         ensures fine { result ≡ Ok Said.Fine → Steps self.old.graph (shown self.old.world)
             (due_as self.old.awaited) (marked text.now) self.new.graph (shown self.new.world)
             (due_as self.new.awaited) }
     {
+        if !is_judged(command) {
+            return Ok(Said::Bad);
+        }
         if self.awaited.is_whole() {
             let awaited = begin_answer(&mut self.graph, &mut self.world, command)?;
             self.awaited = awaited;

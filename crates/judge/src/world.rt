@@ -1,13 +1,15 @@
 // The world of the definitions, but for the graph: the present cells and their places, what is black, and the
 // collection.
-ghost use Rattle.std.specs.Prelude.{◌≡◌, ◌≢◌, ◌↔◌, ◌<◌, ℕ, [], IfNone, IfSome, IsTrue, None, OnOk, false};
+ghost use Rattle.std.specs.Prelude.{◌≡◌, ◌≢◌, ◌↔◌, ◌<◌, ◌∷◌, ℕ, [], Contains, IfNone, IfOk, IfSome, IsTrue, None};
+ghost use Rattle.std.specs.Prelude.{OnOk, false};
 ghost use Rattle.gz_names.specs.Zones.{HasZone};
 ghost use Rattle.gz_names.specs.declared.zone_sets.ZoneSet.{ZoneSet as AZoneSet};
+ghost use Rattle.colour_defs.specs.Ends.{Lists};
 ghost use Rattle.judge.specs.Cells.{GivesPlace, GivesPlaces, HasCell, made_in, named_in, woken_in, wrapper_in};
 ghost use Rattle.judge.specs.Former.{Takes};
-ghost use Rattle.judge.specs.Stages.{IsDue, IsFirst, IsOver, IsSettled, IsStarted, Wakes, WakesAny, idle};
-ghost use Rattle.judge.specs.Stages.{preparing, shown, stage_of, unfinished_in};
-ghost use Rattle.judge.specs.Walks.{walks_of};
+ghost use Rattle.judge.specs.Stages.{Blackens, BlackensOne, IsDue, IsFirst, IsOver, IsSettled, IsStarted, Wakes};
+ghost use Rattle.judge.specs.Stages.{WakesAny, idle, preparing, shown, stage_of, unfinished_in};
+ghost use Rattle.judge.specs.Walks.{GoesOnFrom, walks_of};
 ghost use Rattle.judge.specs.Replies.{AreMade, IsRefusal};
 
 use crate::arenas::Arenas;
@@ -160,6 +162,8 @@ impl World {
         ensures places { OnOk result (GivesPlaces graph.now (woken_in command.now reply.now)
             self.old.places self.new.places) }
         ensures takes { OnOk result (Takes command.now self.old.former self.new.former) }
+        ensures black { OnOk result (Blackens graph.now (stage_of self.old.phase) (woken_in command.now reply.now)
+            self.old.black self.new.black) }
         ensures walks { OnOk result (WakesAny (stage_of self.old.phase) (woken_in command.now reply.now)
             (walks_of self.old.phase) (walks_of self.new.phase)) }
     {
@@ -198,6 +202,8 @@ impl World {
         ensures out { OnOk result ((shown self.new).out ≡ (shown self.old).out) }
         ensures places { OnOk result (GivesPlace graph.now self.old.places name self.new.places) }
         ensures former { OnOk result (self.new.former ≡ self.old.former) }
+        ensures black { OnOk result (BlackensOne graph.now (stage_of self.old.phase) name self.old.black
+            self.new.black) }
         ensures walks { OnOk result (Wakes (stage_of self.old.phase) name (walks_of self.old.phase)
             (walks_of self.new.phase)) }
     {
@@ -208,7 +214,9 @@ impl World {
     // What a name that was woken reaches turns black, by and by if zones are marking.
     fn turn_black(&mut self, graph: &Graph, name: Name) -> Result<(), NoMemory>
         ensures same { OnOk result
-            (shown self.new ≡ record (shown self.old) { walks = walks_of self.new.phase }) }
+            (shown self.new ≡ record (shown self.old) { black = self.new.black; walks = walks_of self.new.phase }) }
+        ensures black { OnOk result (BlackensOne graph.now (stage_of self.old.phase) name self.old.black
+            self.new.black) }
         ensures walks { OnOk result (Wakes (stage_of self.old.phase) name (walks_of self.old.phase)
             (walks_of self.new.phase)) }
     {
@@ -340,12 +348,16 @@ impl World {
     }
 
     /// The gray names, ascending.
-    pub fn gray_names(&self) -> Result<Vec<Name>, NoMemory> {
+    pub fn gray_names(&self) -> Result<Vec<Name>, NoMemory>
+        ensures { IfOk result (λ names. Lists
+            (λ x. HasCell self.now.places x × (Contains self.now.black.names x → ⊥)) names.items) }
+    {
         let mut names = Vec::new(self.alloc);
         for (name, _) in &self.places {
-            if !self.black.contains(*name) {
-                names.push(*name)?;
+            if self.black.contains(*name) {
+                continue;
             }
+            names.push(*name)?;
         }
         Ok(names)
     }
@@ -440,7 +452,9 @@ fn read_in(command: &GraphCmd, reply: &Reply) -> Option<Name> {
 }
 
 // A name turns black, and what is reached from there.
-fn blacken(black: &mut Walk, graph: &Graph, name: Name) -> Result<(), NoMemory> {
+fn blacken(black: &mut Walk, graph: &Graph, name: Name) -> Result<(), NoMemory>
+    ensures { OnOk result (GoesOnFrom graph.now (name ∷ []) black.old black.new) }
+{
     black.add(name, None)?;
     black.finish(graph)
 }

@@ -4,7 +4,7 @@ use Rattle.gz_names.specs.declared.names.Name.{Name}
 use Rattle.colour_defs.specs.Graph.{GraphState}
 use Rattle.colour_defs.specs.Step.{step_of}
 use Rattle.judge.specs.Cells.{GivesPlaces, woken_in}
-use Rattle.judge.specs.Stages.{WakesAny, stage_of}
+use Rattle.judge.specs.Stages.{Blackens, WakesAny, stage_of}
 use Rattle.judge.specs.Walks.{walks_of}
 use Rattle.judge.proofs.Cells.{woken_is}
 use Rattle.judge.proofs.answers.follow.Goals as goal
@@ -23,6 +23,9 @@ returns-clause-obeys c =
       takes = c.in_ok-follow.ensures.takes;
       walks = subst (λ (o : Option Name). WakesAny (stage_of old.phase) o (walks_of old.phase)
           (walks_of new.phase)) woken c.in_ok-follow.ensures.walks;
+      blackens = subst (λ (o : Option Name). Blackens (step_of g command).0 (stage_of old.phase) o old.black new.black)
+          woken (subst (λ (h : GraphState). Blackens h (stage_of old.phase) (woken_in command c.in_ok-reply.reply)
+          old.black new.black) c.in_ok-reply.ensures.graph c.in_ok-follow.ensures.black);
       stage_is = c.in_ok-follow.ensures.stage;
       out_is = c.in_ok-follow.ensures.out;
     }) c.only.ensures

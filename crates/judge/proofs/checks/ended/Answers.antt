@@ -18,6 +18,7 @@ returns-then-is_same c =
     let same = c.in_ok-end.ensures.same in
     let places : mid.places ≡ before.places = ap (λ (s : Shown). s.cells) same in
     let former : mid.former ≡ before.former = ap (λ (s : Shown). s.former) same in
+    let black : mid.black ≡ before.black = ap (λ (s : Shown). s.black) same in
     let first = subst (λ (o : Option GroupEnd). IfSome o (λ e. IsFirstGroup (stage_of before.phase) e.zones))
     c.in-Some.is c.in_ok-end.ensures.first in
     let found = subst (λ (o : Option GroupEnd). IfSome o (λ e. (b : Walks) × (a : Walks)
@@ -42,8 +43,11 @@ returns-then-is_same c =
         goes_on = record {
           after = found.1;
           caught = found.4;
-          left = λ h. ((settles.left h).0 ∙ found.3, (settles.left h).1 ∙ former);
-          over = λ n. subst (λ (f : Former). Releases f after.former) former (settles.over n);
+          left = λ h. let l = settles.left h in (l.0 ∙ found.3, l.1 ∙ former, l.2 ∙ black);
+          over = λ n. let o = settles.over n in (
+            subst (λ (f : Former). Releases f after.former) former o.0,
+            o.1 found.1 found.3,
+          );
         };
       },
     )

@@ -21,11 +21,15 @@ returns-clause-places c =
 
 pub returns-clause-settles : goal.returns-clause-settles
 returns-clause-settles c =
-    let former = ap (λ (w : World). w.former) c.end_first.ensures.rest ∙ c.in_ok-let_go.ensures.former in
+    let rest = c.end_first.ensures.rest in
+    let went = c.in_ok-let_go.ensures in
+    let former = ap (λ (w : World). w.former) rest ∙ went.former in
+    let black = ap (λ (w : World). w.black) rest ∙ went.black in
+    let walks = c.end_first.ensures.walks ∙ ap walks_of went.phase in
     on_ok_weaker c.settle.result (λ s. record {
-      left = λ h. (
-        (s.left h).0 ∙ c.end_first.ensures.walks ∙ ap walks_of c.in_ok-let_go.ensures.phase,
-        (s.left h).1 ∙ former,
+      left = λ h. let l = s.left h in (l.0 ∙ walks, l.1 ∙ former, l.2 ∙ black);
+      over = λ n. let o = s.over n in (
+        subst (λ (f : Former). Releases f c.settle.new.self.former) former o.0,
+        λ w e. o.1 w (walks ∙ e),
       );
-      over = λ n. subst (λ (f : Former). Releases f c.settle.new.self.former) former (s.over n);
     }) c.settle.ensures.settles

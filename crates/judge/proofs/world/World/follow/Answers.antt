@@ -2,7 +2,8 @@ use Rattle.std.proofs.Common.{◌≡◌, Option, ap, subst}
 use Rattle.std.proofs.lemmas.Result.{on_ok_weaker}
 use Rattle.gz_names.specs.declared.names.Name.{Name}
 use Rattle.judge.specs.Cells.{Cells, GivesPlace, GivesPlaces}
-use Rattle.judge.specs.Stages.{Shown, Stage, Wakes, WakesAny, stage_of}
+use Rattle.plain_graph.specs.Reach.{WalkState}
+use Rattle.judge.specs.Stages.{Blackens, BlackensOne, Shown, Stage, Wakes, WakesAny, stage_of}
 use Rattle.judge.specs.Walks.{Walks, walks_of}
 use Rattle.judge.proofs.world.World.follow.Goals as goal
 
@@ -42,3 +43,23 @@ returns-in-Some-clause-walks c =
     (subst (λ (s : Stage). Wakes s c.in-Some.name (walks_of before.phase) (walks_of after.phase)) stage
     (subst (λ (o : Option Walks). Wakes (stage_of mid.phase) c.in-Some.name o (walks_of after.phase)) walks p)))
     c.wake.ensures.walks
+
+pub returns-in-None-clause-black : goal.returns-in-None-clause-black
+returns-in-None-clause-black c =
+    let before = c.args.self.now in
+    let after = c.take.new.self in
+    subst (λ (o : Option Name). Blackens c.args.graph.now (stage_of before.phase) o before.black after.black)
+    c.in-None.ensures (ap (λ (s : Shown). s.black) c.in_ok-take.ensures.same)
+
+pub returns-in-Some-clause-black : goal.returns-in-Some-clause-black
+returns-in-Some-clause-black c =
+    let g = c.args.graph.now in
+    let name = c.in-Some.name in
+    let before = c.args.self.now in
+    let mid = c.take.new.self in
+    let after = c.wake.new.self in
+    let stage : stage_of mid.phase ≡ stage_of before.phase = ap (λ (s : Shown). s.stage) c.in_ok-take.ensures.same in
+    let black : mid.black ≡ before.black = ap (λ (s : Shown). s.black) c.in_ok-take.ensures.same in
+    on_ok_weaker c.wake.result (λ p. subst (λ (o : Option Name). Blackens g (stage_of before.phase) o before.black
+    after.black) c.in-Some.ensures (subst (λ (s : Stage). BlackensOne g s name before.black after.black) stage
+    (subst (λ (b : WalkState). BlackensOne g (stage_of mid.phase) name b after.black) black p))) c.wake.ensures.black

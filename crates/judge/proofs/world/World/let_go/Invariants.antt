@@ -6,5 +6,6 @@ abbrev pub invariant-loop-name : goal.invariant-loop-name
 invariant-loop-name l = record {
   phase : l.self.phase ≡ l.fn.self.phase;
   former : l.self.former ≡ l.fn.self.former;
+  black : l.self.black ≡ l.fn.self.black;
   places : LetsGo (take l.name-index l.whites) l.fn.self.places l.self.places;
 }

@@ -10,4 +10,5 @@ returns c = record {
   former = c.new.ensures.former;
   taken = c.new.ensures.kept;
   none_found = refl;
+  none_black = c.new-5.ensures;
 }

@@ -6,7 +6,7 @@ use Rattle.judge.proofs.world.World.settle.Goals as goal
 
 pub returns-then-has_groups-clause-settles : goal.returns-then-has_groups-clause-settles
 returns-then-has_groups-clause-settles c = record {
-  left = λ h. (refl, refl);
+  left = λ h. (refl, refl, refl);
   over = λ n. absurd (n (c.has_groups.ensures.0 c.if-has_groups.true));
 }
 
@@ -14,5 +14,8 @@ pub returns-clause-settles : goal.returns-clause-settles
 returns-clause-settles c = record {
   left = λ h. absurd (let t = c.has_groups.ensures.1 (subst HasGroups c.take_black.ensures.stage h) in
       cc (t, c.if-has_groups.false));
-  over = λ n. subst (λ (f : Former). Releases f c.let_go.new.self) c.take_black.ensures.former c.in_ok-let_go.ensures;
+  over = λ n. (
+    subst (λ (f : Former). Releases f c.let_go.new.self) c.take_black.ensures.former c.in_ok-let_go.ensures,
+    c.take_black.ensures.black,
+  );
 }

@@ -1,7 +1,8 @@
 use Rattle.std.proofs.Common.{ap, subst, sym}
 use Rattle.std.proofs.lemmas.Result.{on_ok_weaker}
 use Rattle.judge.specs.Cells.{Cells, GivesPlace}
-use Rattle.judge.specs.Stages.{Shown, Wakes, stage_of}
+use Rattle.plain_graph.specs.Reach.{WalkState}
+use Rattle.judge.specs.Stages.{BlackensOne, Shown, Wakes, stage_of}
 use Rattle.judge.specs.Walks.{walks_of}
 use Rattle.judge.specs.declared.world.Phase.{Phase}
 use Rattle.judge.proofs.world.World.wake.Goals as goal
@@ -17,3 +18,12 @@ pub returns-clause-walks : goal.returns-clause-walks
 returns-clause-walks c =
     on_ok_weaker c.turn_black.result (λ w. subst (λ (p : Phase). Wakes (stage_of p) c.args.name (walks_of p)
     (walks_of c.turn_black.new.self.phase)) c.give_place.ensures.phase w) c.turn_black.ensures.walks
+
+pub returns-clause-black : goal.returns-clause-black
+returns-clause-black c =
+    let after = c.turn_black.new.self.black in
+    let black = ap (λ (s : Shown). s.black) c.in_ok-give_place.ensures.same in
+    on_ok_weaker c.turn_black.result (λ b. subst (λ (w : WalkState). BlackensOne c.args.graph.now
+    (stage_of c.args.self.now.phase) c.args.name w after) black (subst (λ (p : Phase). BlackensOne c.args.graph.now
+    (stage_of p) c.args.name c.give_place.new.self.black after) c.give_place.ensures.phase b))
+    c.turn_black.ensures.black
