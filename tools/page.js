@@ -5,6 +5,7 @@ const cells = trace.cells.map(([name, kind, comp, arena, slot, fields, target], 
 const steps = trace.steps.map(([line, text, why, changes]) => ({ line, text, why, changes, undo: [] }));
 const REGISTERS = Array.from({ length: 16 }, (_, n) => `r${n}`);
 const SLOTS = Array.from({ length: 64 }, (_, n) => `g${n}`);
+const WEAK_SLOTS = Array.from({ length: 64 }, (_, n) => `q${n}`);
 const KINDS = { o: "object", m: "weak map", w: "wrapper" };
 const STATES = {
   b: ["black", "Registers led to it when its zone was last collected, or it was made or read since."],
@@ -31,6 +32,8 @@ const isState = key => key[0] === "s" && key !== "since";
 const stateOf = id => value(`s${id}`) || "";
 const isPresent = id => "bgpBGW".includes(stateOf(id) || "-");
 const zoneOf = id => value(`k${cells[id].comp}`);
+// The arena and the slot of a cell, which compaction may have moved.
+const placeOf = id => value(`p${id}`) ?? [cells[id].arena, cells[id].slot];
 const hasName = (id, name) => isPresent(id) && cells[id].name === name;
 
 function goForward() {
@@ -83,7 +86,7 @@ function mostAtOnce() {
       if (key[0] === "z" && key !== "zones" && !zones.has(Number(key.slice(1)))) {
         zones.set(Number(key.slice(1)), { comps: [], arenas: [], now: 0, most: 0 });
       }
-      if (key[0] === "a") {
+      if (key[0] === "a" && to !== null) {
         const owned = zones.get(to).arenas, arena = Number(key.slice(1));
         if (!owned.includes(arena)) owned.push(arena);
       }
@@ -245,8 +248,8 @@ function arrange(width) {
 function spotOf(id) {
   const cell = cells[id];
   if (folded.has(comps.get(cell.comp).zone)) {
-    const box = layout.arenas.get(cell.arena);
-    return [box.x + 11 + cell.slot % 16 * 8, box.y + 22 + Math.floor(cell.slot / 16) * 8, 4, 4];
+    const [arena, slot] = placeOf(id), box = layout.arenas.get(arena);
+    return [box.x + 11 + slot % 16 * 8, box.y + 22 + Math.floor(slot / 16) * 8, 4, 4];
   }
   const box = layout.comps.get(cell.comp), [wide, high] = comps.get(cell.comp).pitch;
   return [box.x + 6 + (cell.spot[0] + 0.5) * wide, box.y + 22 + (cell.spot[1] + 0.5) * high + 4, 25, 13];
@@ -371,17 +374,18 @@ function cellLook(kind, state, name, woken) {
 function tagsOf(names) {
   const shown = names.length > 3 ? [...names.slice(0, 2), `+${names.length - 2}`] : names;
   return shown.map((name, index) => {
-    const gray = name[0] === "g" ? " gray" : "", x = -25 + index * 21;
+    const gray = "gq".includes(name[0]) ? " gray" : "", x = -25 + index * 21;
     return `<rect class="tag${gray}" x="${x}" y="-26" width="20" height="12" rx="3"/>`
       + `<text class="tag-text${gray}" x="${x + 10}" y="-16.5">${name}</text>`;
   }).join("");
 }
 
-function rootsOf() {
+function heldIn(names) {
   const found = new Map();
-  for (const [id, name] of rootsIn(value, [...REGISTERS, ...SLOTS])) found.set(id, [...(found.get(id) ?? []), name]);
+  for (const [id, name] of rootsIn(value, names)) found.set(id, [...(found.get(id) ?? []), name]);
   return found;
 }
+const rootsOf = () => heldIn([...REGISTERS, ...SLOTS]);
 
 function saidOf(id, roots) {
   const cell = cells[id], woken = value(`w${id}`) ? ", woken" : "";
@@ -389,12 +393,13 @@ function saidOf(id, roots) {
   return `${KINDS[cell.kind]} ${cell.name}, ${STATES[stateOf(id)][0]}${woken}${held}`;
 }
 
-function drawCell(id, roots) {
+function drawCell(id, roots, weak) {
   const cell = cells[id], [x, y] = spotOf(id), said = saidOf(id, roots);
   const ring = id === chosen ? '<rect class="ring" x="-30" y="-18" width="60" height="36" rx="10"/>' : "";
   return `<g class="cell s-${stateOf(id)} k-${cell.kind}" data-cell="${id}" transform="translate(${x} ${y})"`
     + ` role="button" tabindex="0" aria-label="${said}"><title>${said}</title>`
-    + cellLook(cell.kind, stateOf(id), cell.name, value(`w${id}`)) + tagsOf(roots.get(id) ?? []) + ring + "</g>";
+    + cellLook(cell.kind, stateOf(id), cell.name, value(`w${id}`))
+    + tagsOf([...(roots.get(id) ?? []), ...(weak.get(id) ?? [])]) + ring + "</g>";
 }
 
 function slotLook(state, x, y) {
@@ -515,7 +520,7 @@ function changedCells() {
   const found = new Set();
   if (at > 0) {
     each(steps[at - 1].changes, key => {
-      if (isState(key) || "fwe".includes(key[0])) found.add(Number(key.slice(1).split(".")[0]));
+      if (isState(key) || "fwep".includes(key[0])) found.add(Number(key.slice(1).split(".")[0]));
     });
   }
   return found;
@@ -548,7 +553,7 @@ function drawHeap(ways) {
   for (const part of ways?.snapshot?.way ?? []) if (!isEdge(part.from, part.to)) edges.push(drawGone(part));
   const halos = [...changedCells()].filter(stateOf).map(drawHalo);
   const slots = shown.filter(id => !isOpen(id)).map(id => drawSlot(id, roots));
-  const open = shown.filter(isOpen).map(id => drawCell(id, roots));
+  const weak = heldIn(WEAK_SLOTS), open = shown.filter(isOpen).map(id => drawCell(id, roots, weak));
   const crowded = edges.length > 60 ? ' class="crowded"' : "";
   const empty = value("z0") !== null ? "" : '<text x="20" y="40">The heap is empty. Press the right arrow.</text>';
   const focus = document.activeElement?.dataset ?? {};
@@ -625,7 +630,7 @@ function drawChanges(step) {
     if (isState(key)) {
       const text = `${old ? `${STATES[old][0]} → ` : "made: "}${now ? STATES[now][0] : "its slot is free"}`;
       moved.set(text, [...(moved.get(text) ?? []), nameOf(Number(key.slice(1)))]);
-    } else if (key[0] === "r" || (key[0] === "g" && key !== "groups")) {
+    } else if ("rq".includes(key[0]) || (key[0] === "g" && key !== "groups")) {
       texts.push(`${key}: ${nameOf(old)} → ${nameOf(now)}`);
     } else if (key[0] === "f") {
       const [owner, field] = key.slice(1).split(".");
@@ -635,6 +640,9 @@ function drawChanges(step) {
       texts.push(`entry of map ${nameOf(map)} with key ${nameOf(held)}: ${nameOf(old)} → ${nameOf(now)}`);
     } else if (key[0] === "w" && now) {
       texts.push(`${nameOf(Number(key.slice(1)))} is woken`);
+    } else if (key[0] === "p") {
+      const [arena, slot] = placeOf(Number(key.slice(1)));
+      texts.push(`${nameOf(Number(key.slice(1)))} lies in arena ${arena}, slot ${slot}`);
     }
   }
   const lines = [...texts.slice(0, 8), ...[...moved].map(([text, names]) => `${joined(inOrder(names))}: ${text}`)];
@@ -688,6 +696,7 @@ function drawCollection() {
 function heldBy(id) {
   const found = rootsIn(value, [...REGISTERS, ...SLOTS]).filter(([held]) => held === id).map(([, name]) =>
     `${name[0] === "r" ? "register" : "gray slot"} ${name}`);
+  for (const name of heldIn(WEAK_SLOTS).get(id) ?? []) found.push(`weak slot ${name}, which does not keep it`);
   for (const cell of cells.filter(cell => isPresent(cell.id))) {
     for (const edge of edgesFrom(cell.id, value)) {
       const holder = edge.kind === "field" ? `field ${edge.field} of` : "wrapper";
@@ -727,7 +736,7 @@ function drawChosen(ways) {
     return;
   }
   const cell = cells[chosen], state = stateOf(chosen);
-  const place = `compartment ${cell.comp}, arena ${cell.arena}, slot ${cell.slot}`;
+  const [arena, slot] = placeOf(chosen), place = `compartment ${cell.comp}, arena ${arena}, slot ${slot}`;
   const head = `<p><b>${KINDS[cell.kind]} ${cell.name}</b>, ${place}</p>`;
   if (!state) {
     BY_ID("cell").innerHTML = `${head}<p>It is not there at this step.</p>`;
@@ -768,7 +777,8 @@ function drawLegend() {
     what the browser around it holds. A collection of zones turns cells black or gray, and frees the others, piece by
     piece, while the program runs on.</p>
     <table>${rows.join("")}</table><table>${others.join("")}
-    <tr><td>${tags}</td><td>A register, and a gray slot, that hold the cell.</td></tr>
+    <tr><td>${tags}</td><td>A register, and a gray slot, that hold the cell. A weak slot, as q2, names it and does not
+    keep it.</td></tr>
     <tr><td>${star}</td><td><b>Woken</b>: made or handed to the program while the collection runs.</td></tr></table>
     <p class="after">A folded zone shows its arenas, the pieces of memory with 64 slots: dark squares are black,
     triangles gray, white squares not reached, crosses dead; a thick border marks what a root holds. A halo marks what

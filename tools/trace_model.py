@@ -15,18 +15,20 @@ from crate_list import TOP
 from program import find_program
 
 SLOTS = 64
-REPORTS = ("started", "groups", "ended", "swept", "done", "stopped")
+REPORTS = ("started", "groups", "ended", "told", "swept", "done", "stopped")
 
-# The forms of the commands: r a register, t a register or `-`, g a gray slot, z a zone, c a compartment, n the number
-# of fields of an object, f a field, u a number of units, Z one or more zones that ascend.
+# The forms of the commands: r a register, t a register or `-`, g a gray slot, q a weak slot, z a zone, c a compartment,
+# n the number of fields of an object, f a field, u a number of units, Z one or more zones that ascend.
 FORMS = {
     "zone": "", "comp": "z", "new": "rcn", "map": "rc", "get": "rrf", "set": "rft", "wrap": "rrc", "unwrap": "rr",
     "copy": "rr", "drop": "r", "hold": "gr", "release": "g", "expose": "rg", "put": "rrr", "del": "rr", "find": "rrr",
+    "weaken": "qr", "deref": "rq", "watch": "r", "unwatch": "r", "compact": "z",
     "gc": "Z", "slice": "u", "finish": "", "collect": "Z", "reset": "", "colours": "", "dump": "",
 }
 PARTS = {
     "r": ("a register, r0 to r15", "r", 15), "t": ("a register, r0 to r15, or -", "r", 15),
-    "g": ("a gray slot, g0 to g63", "g", 63), "z": ("a zone, 0 to 63", "", 63),
+    "g": ("a gray slot, g0 to g63", "g", 63), "q": ("a weak slot, q0 to q63", "q", 63),
+    "z": ("a zone, 0 to 63", "", 63),
     "c": ("a compartment, 0 to 255", "", 255),
     "n": ("a number of fields, 0 to 8", "", 8), "f": ("a field, 0 to 7", "", 7),
     "u": ("a number of units, 0 to 4294967295", "", 4294967295),
@@ -200,6 +202,9 @@ class Model:
         self.wrappers = {}
         self.entries = {}
         self.registers, self.gray = {}, {}
+        # What weak slots name, and the names of the watched cells. Neither keeps a cell.
+        self.weak, self.watched = {}, set()
+        # The zone of each arena, or None for one that compaction gave up.
         self.arenas = []
         self.slots = {}
         self.used = []
@@ -233,6 +238,19 @@ class Model:
         if arena in self.out:
             self.out.remove(arena)
             heapq.heappush(self.room[self.arenas[arena]], arena)
+
+    def compact(self, zone):
+        """Moves the cells of a zone to as few of its arenas as they fill, the lowest ones, and gives up the others."""
+        own = [arena for arena, owner in enumerate(self.arenas) if owner == zone]
+        cells = [self.slots[place] for place in sorted(self.slots) if self.arenas[place[0]] == zone]
+        kept = own[:-(-len(cells) // SLOTS)]
+        self.room[zone] = list(kept)
+        for cell in (cell for cell in cells if cell.place[0] not in kept):
+            del self.slots[cell.place]
+            cell.place = self.place_for(zone)
+            self.slots[cell.place] = cell
+        for arena in own[len(kept):]:
+            self.arenas[arena] = None
 
     def make(self, name, kind, comp):
         cell = Cell(name, kind, comp, self.place_for(self.comps[comp]))
@@ -313,6 +331,16 @@ class Model:
         elif word == "find":
             entry = self.entries.get((regs[args[1]].name, regs[args[2]].name))
             regs[args[0]] = entry[2] if entry else None
+        elif word == "weaken":
+            self.weak[args[0]] = regs.get(args[1])
+        elif word == "deref":
+            regs[args[0]] = self.weak.get(args[1])
+        elif word == "watch":
+            self.watched.add(regs[args[0]].name)
+        elif word == "unwatch":
+            self.watched.discard(regs[args[0]].name)
+        elif word == "compact":
+            self.compact(int(args[0]))
         elif word in ("gc", "collect"):
             self.collecting = {int(part) for part in args}
             self.preparing = set(self.collecting)
@@ -333,6 +361,8 @@ class Model:
                 cell = self.cells.pop(name)
                 if cell.target:
                     del self.wrappers[cell.comp, cell.target.name]
+            self.watched -= set(dead)
+            self.weak = {slot: cell for slot, cell in self.weak.items() if cell and id(cell) not in gone}
             self.entries = {
                 key: entry for key, entry in self.entries.items() if not any(id(cell) in gone for cell in entry)
             }

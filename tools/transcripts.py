@@ -75,5 +75,6 @@ class Transcript:
             return f'at line {in_output}, for line {in_trace} of the trace, "{command}": {kind}'
         if ran.returncode == STATUS_BAD_LINE:
             place = int(ran.stderr.split()[2].rstrip(b":"))
-            raise Fault(f"line {self.places[place - 1][0]} of the trace is none of the language")
+            line = self.places[place - 1][0]
+            raise Fault(f"line {line} of the trace is none of the language, or none that is judged")
         raise Fault(ran.stderr.decode(errors="replace").strip() or f"gcjudge ended with status {ran.returncode}", 1)

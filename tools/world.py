@@ -25,7 +25,7 @@ STATE_NAMES = {
     BLACK: "black", GRAY: "gray", PREPARED: "not marked yet", SURE: "sure to be black", OPEN: "gray so far",
     WHITE: "not reached",
 }
-WAKING = {"new", "map", "wrap", "expose"}
+WAKING = {"new", "map", "wrap", "expose", "deref"}
 
 
 def load_script(name):
@@ -119,6 +119,8 @@ class World:
         self.black = set()
         self.collection = None
         self.dead = {}
+        # The watched cells that died with the last group.
+        self.lost = set()
 
     def status(self, name):
         """The state of a present cell."""
@@ -176,6 +178,7 @@ class World:
         """Ends a group, and returns the line that the definitions ask for."""
         cells = [cell for cell in self.model.cells.values() if self.model.zone_of(cell) in zones]
         white = [cell for cell in cells if cell.name not in self.collection.live.names]
+        self.lost = {cell.name for cell in white} & self.model.watched
         self.dead.update({cell.place: cell for cell in white})
         self.model.report(line, [cell.name for cell in white])
         if not self.model.marking:
@@ -200,6 +203,8 @@ class World:
         if word == "stopped":
             return self.stop(line)
         self.model.report(line, ())
+        if word == "told":
+            return f"told {listed(self.lost)}"
         if word == "started":
             self.collection = Collection(self.model, self.black)
         if word == "swept":
@@ -230,8 +235,9 @@ class Recorder:
     A picture is a map from keys to values: `s` and a cell's number to its state, `w` to whether it was woken, `f`, a
     cell and a field to what it holds, `r` and `g` to what registers and gray slots hold, `e`, a map and a key to the
     entry's value, `z` to the state of a zone (`i` idle, `p` being prepared, `m` marking, `e` ended), `k` to the zone of
-    a compartment, `a` to that of an arena, `o` to whether an arena is out, `groups` and `zones` to those of the
-    collection, `begun` to how many steps stood before it, and `since` to how many stood before its marking, or null.
+    a compartment, `a` to that of an arena, `o` to whether an arena is out, `q` to what weak slots name, `p` and a
+    cell's number to its arena and slot once compaction has moved it, `groups` and `zones` to those of the collection,
+    `begun` to how many steps stood before it, and `since` to how many stood before its marking, or null.
     Cells are numbered in order of making, since a name may be made again.
     """
 
@@ -276,13 +282,22 @@ class Recorder:
             self.put(f"a{arena}", zone)
             self.put(f"o{arena}", int(arena in model.out))
 
+    def put_places(self):
+        """Records where the cells lie that were moved."""
+        for cell in self.world.model.slots.values():
+            number = self.numbers[cell]
+            if list(cell.place) != (self.shown.get(f"p{number}") or self.cells[number][3:5]):
+                self.put(f"p{number}", list(cell.place))
+
     def put_graph(self, words):
         """Records what a command on the graph may have changed."""
         model = self.world.model
         self.add_cells()
-        if words[0] in ("zone", "comp", *WAKING):
+        if words[0] in ("zone", "comp", "compact", *WAKING):
             self.put_zones()
-        for name, cell in [*model.registers.items(), *model.gray.items()]:
+        if words[0] == "compact":
+            self.put_places()
+        for name, cell in [*model.registers.items(), *model.gray.items(), *model.weak.items()]:
             self.put(name, self.number(cell))
         if words[0] == "set":
             owner = model.registers[words[1]]
@@ -322,7 +337,7 @@ class Recorder:
 
     def report(self, number, line):
         model = self.world.model
-        entries, dead = dict(model.entries), dict(self.world.dead)
+        entries, dead, weak = dict(model.entries), dict(self.world.dead), dict(model.weak)
         wanted = self.world.report(line)
         for place, cell in dead.items():
             if place not in self.world.dead:
@@ -332,6 +347,8 @@ class Recorder:
         for key, (owner, kept, _) in entries.items():
             if key not in model.entries:
                 self.put(f"e{self.number(owner)}.{self.number(kept)}", None)
+        for name in weak.keys() - model.weak.keys():
+            self.put(name, None)
         if line == "started":
             self.put("since", len(self.steps))
         if line.startswith("groups "):

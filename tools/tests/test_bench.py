@@ -1,9 +1,10 @@
-"""Small runs of bench/latency.py and bench/memory.py, and how the one ranks times."""
+"""Small runs of bench/latency.py, bench/memory.py and bench/compaction.py, and how the first ranks times."""
 
 import importlib.util
 import json
 import os
 import re
+import shutil
 import sys
 import tempfile
 import unittest
@@ -16,7 +17,7 @@ sys.path[:0] = [str(TOP / "tools"), str(TOP / "tools/tests"), str(TOP / "bench")
 from program import find_program  # noqa: E402 (the folder of tools is no package)
 from test_tools import run_tool  # noqa: E402
 
-LATENCY, MEMORY = "../bench/latency.py", "../bench/memory.py"
+LATENCY, MEMORY, COMPACTION = "../bench/latency.py", "../bench/memory.py", "../bench/compaction.py"
 SMALL = ["--cells", "2000", "--rounds", "1"]
 KINDS = ["gc", "slice 100", "slice 100, a group ends", "get", "set", "new", "expose"]
 TIME = r"(?:-|\d+\.\d|[\d,]+)"
@@ -139,6 +140,27 @@ class Memory(Benches):
     def test_a_program_that_ends(self):
         wanted = "memory.py: script ended with status 7"
         self.check_fails(wanted, MEMORY, "--count", "10", beside=self.script("exit 7"))
+
+
+class Compaction(Benches):
+    @unittest.skipUnless(shutil.which("valgrind"), "valgrind is not there")
+    def test_the_table(self):
+        status, output, error = run_tool(COMPACTION, "--cells", "200,400", "--program", self.program)
+        self.assertEqual(status, 0, error)
+        rows = [[cell.strip() for cell in row.strip("|").split("|")] for row in output.splitlines()]
+        self.assertEqual(rows[0], ["cells", "a cell", "a pointer", "a wrapper", "a weak entry"])
+        self.assertEqual([row[0] for row in rows[2:]], ["200", "400"])
+        for row in rows[2:]:
+            for cost in map(float, row[1:]):
+                self.assertTrue(10 < cost < 20_000, row)
+
+    def test_wrong_words(self):
+        for words, wanted in (
+            (["--cells", "0"], "'0' is no list of numbers from 1 on"), (["--limit", "0"], "'0' is no number from 1 on"),
+        ):
+            status, output, error = run_tool(COMPACTION, *words)
+            self.assertEqual((status, output), (2, ""))
+            self.assertIn(wanted, error)
 
 
 if __name__ == "__main__":

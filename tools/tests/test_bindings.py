@@ -156,6 +156,7 @@ class Trace:
         ["new r c n"] * 5 + ["map r c"] * 2 + ["get r r f"] * 4 + ["set r f r"] * 5 + ["wrap r r c"] * 2
         + ["put r r r"] * 2 + ["set r f -", "unwrap r r", "copy r r", "drop r", "hold g r", "release g", "expose r g"]
         + ["del r r"]
+        + ["weaken q r", "deref r q", "watch r", "watch r", "unwatch r", "compact o"]
         + ["find r r r", "slice s", "slice s", "slice s", "gc z", "collect z", "finish", "reset", "colours", "dump"]
         + ["comp 2"]
     )
@@ -164,13 +165,13 @@ class Trace:
         self.random = random.Random(seed)
 
     def word(self, kind):
-        below = {"r": 16, "g": 64, "c": 6, "n": 9, "f": 8, "s": 40}
+        below = {"r": 16, "g": 64, "q": 64, "o": 3, "c": 6, "n": 9, "f": 8, "s": 40}
         if kind in ("-", "2"):
             return kind
         if kind == "z":
             return " ".join(map(str, sorted(self.random.sample(range(3), self.random.randint(1, 2)))))
         number = self.random.randrange(below[kind])
-        return f"{kind}{min(number, number % 7) if kind == 'r' else number % 5}" if kind in "rg" else str(number)
+        return f"{kind}{min(number, number % 7) if kind == 'r' else number % 5}" if kind in "rgq" else str(number)
 
     def text(self, lines):
         head = ["zone", "zone", *(f"comp {number % 2}" for number in range(5))]

@@ -297,7 +297,7 @@ class TerminalTest(unittest.TestCase):
         self.assertIn("`help` lists what there is", self.start())
         self.assertEqual(self.type("zone\n"), "zone\nzone 0\n")
         self.assertEqual(self.type("\x1b[A\n"), "zone\nzone 1\n")
-        self.assertIn("comp 0\n", self.type("com\t1\n"))
+        self.assertIn("comp 0\n", self.type("com\t 1\n"))
         self.assertIn("makes an object with n null fields", self.type("hel\tnew\n"))
         self.assertIn("cell 0\n", self.type("new r0 0 2\n"))
         self.assertIn("object 0 is black", self.type("why 0\t\n"))

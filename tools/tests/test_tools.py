@@ -51,7 +51,7 @@ WORDS = {
     "after-edit": [], "uses": ["replay"], "lint": [], "test": [], "prove": [], "build-unproved": [],
     "check-bindings": [], "spidermonkey/check-logs": [], "../bench/speed.py": [], "../bench/helpers.py": [],
     "../bench/dumps.py": [], "../bench/engines.py": [], "../bench/calls.py": [], "../bench/latency.py": [],
-    "../bench/memory.py": [],
+    "../bench/memory.py": [], "../bench/compaction.py": [],
 }
 SHELL = ["find-program"]
 
@@ -204,7 +204,7 @@ class WrongWords(Tools):
         self.check_refuses([["test", "frobnicate"]], "no check is named frobnicate: see --list")
         benches = [["../bench/speed.py"], ["../bench/helpers.py"], ["../bench/dumps.py"], ["../bench/engines.py"]]
         self.check_refuses([[*call, "--only", "frobnicate"] for call in benches], "'frobnicate' is none of ")
-        self.check_refuses([["draw", "heep", FIRST]], "'heep'", "'heap', 'timeline'")
+        self.check_refuses([["draw", "heep", FIRST]], "'heep'", "'heap', 'arenas', 'timeline'")
 
     def test_a_word_that_is_missing_is_named(self):
         calls = [["draw"], ["explain"], ["why"], ["why", FIRST, "1"], ["stats"], ["heap-log"], ["check-heap-log"]]
