@@ -29,7 +29,7 @@ use Rattle.gz_names.specs.declared.moves.Move.{Move}
 use Rattle.gz_names.specs.declared.numbers.Place.{Place}
 use Rattle.gz_names.specs.Moves.{is_same, IsBefore, LeaveBefore, AreInOrder, moved, IsLeft, leaves, number_of}
 use Rattle.gz_names.specs.Moves.{with_slot, GoApart}
-use Rattle.gz_names.specs.Moves.{left_at, with_left, AreOutOf, IsOutOf, EndsAt, AreKept}
+use Rattle.gz_names.specs.Moves.{left_at, with_left, AreOutOf, IsOutOf, EndsAt, Ascend, AreKept}
 
 -- places that are one, and places that are not
 pub same-true : (p : Place) → is_same p p ≡ true
@@ -593,3 +593,26 @@ AreKept-nil = record {
   every = λ m has. (let lt = has.1 in absurd (omega (arith, lt)));
   ends = tt;
 }
+
+-- an arena that comes before the first of those that ascend, or behind the last, is none of them
+pub outside : (arenas : List Leaving) (first last : Leaving) (arena : ℕ) → Ascend arenas
+    → slice_get arenas 0 ≡ Some first → slice_get arenas (length arenas - 1) ≡ Some last
+    → (arena < first.arena) ⊎ (last.arena < arena) → All (λ (a : Leaving). a.arena ≢ arena) arenas
+outside arenas first last arena up front back (inl before) k d within same =
+    let lowest = ap (λ (a : Leaving). a.arena) (get_or_from_slice_get arenas 0 first d front) in
+    elim (cases_lt 0 k) [
+      | inl later ↦ (let less = up 0 k d later within in absurd (omega (arith, lowest, before, less, same)))
+      | inr here ↦ (let zeroth : k ≡ 0 = omega (arith, here) in
+          let there = ap (λ i. (get_or arenas i d).arena) zeroth in
+          absurd (omega (arith, lowest, before, there, same)))
+    ]
+outside arenas first last arena up front back (inr behind) k d within same =
+    let end = length arenas - 1 in
+    let highest = ap (λ (a : Leaving). a.arena) (get_or_from_slice_get arenas end last d back) in
+    elim (cases_lt k end) [
+      | inl earlier ↦ (let less = up k end d earlier (omega (arith, within)) in
+          absurd (omega (arith, highest, behind, less, same)))
+      | inr here ↦ (let at_end : k ≡ length arenas - 1 = omega (arith, here, within) in
+          let there = ap (λ i. (get_or arenas i d).arena) at_end in
+          absurd (omega (arith, highest, behind, there, same)))
+    ]

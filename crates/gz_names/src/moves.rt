@@ -24,8 +24,9 @@ struct Leaving {
     first: usize,
 }
 
-/// Moves of cells, in the order of the places that they leave. To tell where the cell of a place goes takes one
-/// step where the arenas that are left lie side by side, and else as many more as their number has binary digits.
+/// Moves of cells, in the order of the places that they leave. To tell where the cell of a place goes takes one step
+/// where its arena comes before or behind all that are left, or where those lie side by side, and else as many more as
+/// their number has binary digits.
 #[derive(Drop)]
 pub struct Moves {
     moves: Vec<Move>,
@@ -127,14 +128,18 @@ impl Leaving {
     }
 }
 
-// The index of an arena among those that are left. Those of one zone often lie side by side: then it is how far the
-// arena is from the first.
+// The index of an arena among those that are left: none before the first or behind the last. Those of one zone often
+// lie side by side: then it is how far the arena is from the first.
 fn find_arena(arenas: &[Leaving], arena: u32) -> Option<usize>
     requires { Ascend arenas.now }
     ensures { MatchOption result (All (λ leaving. leaving.arena ≢ arena) arenas.now) (StandsAt arenas.now arena) }
 {
     let first = arenas.first()?;
-    let near = arena.wrapping_sub(first.arena) as usize;
+    let last = arenas.last()?;
+    if arena < first.arena || last.arena < arena {
+        return None;
+    }
+    let near = (arena - first.arena) as usize;
     match arenas.get(near) {
         Some(leaving) if leaving.arena == arena => Some(near),
         _ => search_arena(arenas, arena),
