@@ -12,7 +12,7 @@ pub(super) fn reg(index: u8) -> Reg {
     Reg::new(index % 16).unwrap()
 }
 
-fn zone(index: u8) -> ZoneNo {
+pub(super) fn zone(index: u8) -> ZoneNo {
     ZoneNo::new(index % 64).unwrap()
 }
 

@@ -1,7 +1,7 @@
 // Each call of a session for a command, on its way to an answer.
-use super::again::{reg, slot};
-use gz_names::{CompNo, Name};
-use slice_driver::{Session, SessionFault};
+use super::again::{reg, slot, zone};
+use gz_names::{CompNo, Name, WeakNo};
+use slice_driver::{Compacted, Session, SessionFault};
 use std::test::Fail;
 use sweeping::MainSweeper;
 
@@ -50,6 +50,17 @@ fn enter(
     Ok((value, was, is, session.find(reg(5), reg(1), reg(0))?))
 }
 
+// A weak slot names the object, which is watched for a while.
+fn name_weakly(
+    session: &mut Session<MainSweeper>,
+) -> Result<(Option<Name>, bool, bool), SessionFault> {
+    let weak_slot = WeakNo::new(63).unwrap();
+    session.weaken(weak_slot, reg(0));
+    let named = session.deref(reg(5), weak_slot);
+    session.watch(reg(5))?;
+    Ok((named, session.unwatch(reg(0))?, session.unwatch(reg(0))?))
+}
+
 #[test]
 fn each_call_returns_what_its_command_answers(rt: HostRuntime) -> Result<(), Fail> {
     let mut session = Session::new(rt.alloc())?;
@@ -57,6 +68,8 @@ fn each_call_returns_what_its_command_answers(rt: HostRuntime) -> Result<(), Fai
     let named = name(&mut session);
     let held = hold(&mut session);
     let entered = enter(&mut session);
+    let weakly_named = name_weakly(&mut session);
+    let packed = session.compact(zone(0));
     drop(session);
     let (object, map) = (Name::Cell(0), Name::Cell(1));
     assert_eq!(rt; made, Ok((CompNo(1), 0, 1)));
@@ -66,5 +79,13 @@ fn each_call_returns_what_its_command_answers(rt: HostRuntime) -> Result<(), Fai
     );
     assert_eq!(rt; held, Ok((Some(object), None)));
     assert_eq!(rt; entered, Ok((Some(map), true, false, None)));
+    assert_eq!(rt; weakly_named, Ok((Some(object), true, false)));
+    assert_eq!(rt;
+        packed,
+        Ok(Compacted {
+            moved: 0,
+            given_up: 0
+        })
+    );
     Ok(())
 }
