@@ -23,8 +23,8 @@
 // it stays said through all of them.
 //
 // The definitions know no places. Their graph (colour_defs) keeps everything that was ever made under
-// its name, and never frees, so no reply tells when a collection ran. Here cells go, and their places
-// are given again. What lies between is presence: a cell is *present* unless it was white as its
+// its name, and never frees, so no reply on the graph tells when a collection ran. Here cells go, and
+// their places are given again. What lies between is presence: a cell is *present* unless it was white as its
 // arena was handed to sweeping.
 //
 //     an arena that is out    slot     0        1       2
