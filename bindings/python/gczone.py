@@ -31,7 +31,7 @@ NO_REPORT, GROUPS, ENDED, SWEPT, STARTED, STOPPED = range(6)
 LINE_END, LINE_CELL, LINE_EDGE, LINE_ENTRY = range(4)
 
 Groups = namedtuple("Groups", "groups")
-Ended = namedtuple("Ended", "zones grays")
+Ended = namedtuple("Ended", "zones grays lost")
 Swept = namedtuple("Swept", "arena freed")
 Stopped = namedtuple("Stopped", "zones")
 Cell = namedtuple("Cell", "name black")
@@ -115,10 +115,13 @@ class Fault(Exception):
 
 
 def load(path=None):
-    """Loads the library, and declares its calls."""
+    """Loads the library, and declares its calls. Python's lock is held in each, so no two run at once in any heap."""
     folder = os.environ.get("GCZONE_LIB_DIR", Path(__file__).resolve().parent.parent / "c/out")
     built = Path(folder, "libgczone.so")
-    library = ctypes.CDLL(str(path or (built if built.exists() else f"libgczone.so.{INTERFACE}")))
+    try:
+        library = ctypes.PyDLL(str(path or (built if built.exists() else f"libgczone.so.{INTERFACE}")))
+    except OSError as error:
+        raise OSError(f"{error}: `make -C bindings/c` builds it, and GCZONE_LIB_DIR names its folder") from None
     library.gcz_interface.restype = c_uint32
     if library.gcz_interface() != INTERFACE:
         raise OSError(f"the library has interface {library.gcz_interface()}, and {INTERFACE} is wanted")
@@ -137,7 +140,7 @@ def zones_of(bits):
 
 
 class Heap:
-    """A heap with its collector. It is in one call at a time, whichever thread calls."""
+    """A heap with its collector. It is in one call at a time, whichever thread calls: Python's lock sees to that."""
 
     def __init__(self, library=None):
         self._library, self._gcz = library or load(), _Gcz()
@@ -174,6 +177,15 @@ class Heap:
                 raise
             return False
         return True
+
+    def _name(self, name, *numbers, answer=None):
+        """The name that a call answers, or None if there is none."""
+        try:
+            return self._call(name, *numbers, answer=answer).value()
+        except Fault as fault:
+            if fault.status != NONE:
+                raise
+            return None
 
     def status_text(self, status):
         """A status in words."""
@@ -257,7 +269,7 @@ class Heap:
         return self._call("deref", register, slot).value()
 
     def watch(self, register):
-        """What the register holds is watched: `lost` names it once the group with which it dies has ended."""
+        """What the register holds is watched: the Ended event of the group with which it dies names it, once."""
         self._call("watch", register)
 
     def unwatch(self, register):
@@ -268,17 +280,6 @@ class Heap:
         """Moves the cells of a zone together, and gives up the arenas that this empties. No collection may run."""
         done = self._call("compact", zone)
         return Compacted(done.moved, done.given_up)
-
-    def lost(self):
-        """The watched cells that died with the group whose end is the last event, ascending."""
-        names = []
-        while True:
-            try:
-                names.append(self._call("report_lost", len(names)).value())
-            except Fault as fault:
-                if fault.status != NONE:
-                    raise
-                return names
 
     def begin(self, zones):
         """Begins a collection of these zones."""
@@ -327,17 +328,19 @@ class Heap:
     def next_gray(self, after=None):
         """The first gray name behind this one, or the first of all; None if there is none. It walks over the whole heap
         and takes no memory of it."""
-        try:
-            return self._call("next_gray", answer=_name_of(after)).value()
-        except Fault as fault:
-            if fault.status != NONE:
-                raise
-            return None
+        return self._name("next_gray", answer=_name_of(after))
 
     def dump(self):
         """The cells by name, the edges by object and field, and the weak entries by map and key."""
         lines = (self._call("dump_line", index) for index in range(self._call("dump").value))
         return [_line(line) for line in lines if line.kind != LINE_END]
+
+    def _lost(self):
+        """The watched cells that died with the group whose end is the last report, ascending."""
+        names = []
+        while (name := self._name("report_lost", len(names))) is not None:
+            names.append(name)
+        return names
 
     def _event(self, kind):
         if kind == NO_REPORT:
@@ -350,7 +353,7 @@ class Heap:
         if kind == STOPPED:
             return Stopped(zones_of(report.zones))
         names = [self._call("report_name", index).value() for index in range(report.count)]
-        return Ended(zones_of(report.zones), names) if kind == ENDED else Swept(report.arena, names)
+        return Ended(zones_of(report.zones), names, self._lost()) if kind == ENDED else Swept(report.arena, names)
 
 
 def _clip(number, kind):

@@ -9,7 +9,11 @@ fn main() {
         Some(folder) => PathBuf::from(folder),
         None => PathBuf::from(env::var_os("CARGO_MANIFEST_DIR").expect("cargo sets it")).join("../c/out"),
     };
+    let archive = folder.join("libgczone.a");
+    if !archive.is_file() {
+        println!("cargo:warning={} is not there; `make -C bindings/c` makes it", archive.display());
+    }
     println!("cargo:rustc-link-search=native={}", folder.display());
     println!("cargo:rustc-link-lib=static=gczone");
-    println!("cargo:rerun-if-changed={}", folder.join("libgczone.a").display());
+    println!("cargo:rerun-if-changed={}", archive.display());
 }

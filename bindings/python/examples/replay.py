@@ -37,7 +37,8 @@ def event_text(event):
     if isinstance(event, gczone.Groups):
         return "groups " + " | ".join(map(zones_text, event.groups))
     if isinstance(event, gczone.Ended):
-        return f"ended {zones_text(event.zones)} gray {list_text(event.grays)}"
+        told = f"\ntold {list_text(event.lost)}" if event.lost else ""
+        return f"ended {zones_text(event.zones)} gray {list_text(event.grays)}{told}"
     return f"swept {event.arena} {list_text(event.freed)}"
 
 
@@ -63,8 +64,6 @@ class Replay:
             done += units
             if event:
                 print(event_text(event))
-            if isinstance(event, gczone.Ended) and (lost := self.heap.lost()):
-                print("told", list_text(lost))
             if finished:
                 print("done")
         return done

@@ -54,7 +54,10 @@ fn event_text(event: &Event) -> String {
         Event::Groups(groups) => {
             format!("groups {}", groups.iter().map(|zones| zones_text(zones)).collect::<Vec<_>>().join(" | "))
         }
-        Event::Ended { zones, grays } => format!("ended {} gray {}", zones_text(zones), list_of(grays)),
+        Event::Ended { zones, grays, lost } => {
+            let told = if lost.is_empty() { String::new() } else { format!("\ntold {}", list_of(lost)) };
+            format!("ended {} gray {}{told}", zones_text(zones), list_of(grays))
+        }
         Event::Swept { arena, freed } => format!("swept {arena} {}", list_of(freed)),
         Event::Stopped(zones) => format!("stopped {}", zones_text(zones)),
     }
@@ -113,24 +116,12 @@ impl<W: Write> Replay<W> {
             units += step.units;
             if let Some(event) = step.event {
                 writeln!(self.out, "{}", event_text(&event))?;
-                if let Event::Ended { .. } = event {
-                    self.tell_lost()?;
-                }
             }
             if step.finished {
                 writeln!(self.out, "done")?;
             }
         }
         Ok(units)
-    }
-
-    /// Prints the watched cells that died with the group that ended, if there are any.
-    fn tell_lost(&mut self) -> std::result::Result<(), Ended> {
-        let lost = self.heap.lost().map_err(Ended::Heap)?;
-        if !lost.is_empty() {
-            writeln!(self.out, "told {}", list_of(&lost))?;
-        }
-        Ok(())
     }
 
     fn slice(&mut self, limit: u64) -> std::result::Result<String, Ended> {

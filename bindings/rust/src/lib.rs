@@ -237,8 +237,9 @@ pub enum Event {
     Started,
     /// The sweep groups, in the order in which they end.
     Groups(Vec<Vec<Zone>>),
-    /// The marking of a group ended: its zones, and its gray names.
-    Ended { zones: Vec<Zone>, grays: Vec<Name> },
+    /// The marking of a group ended: its zones, its gray names, and the watched cells that died with it, which are
+    /// watched no longer.
+    Ended { zones: Vec<Zone>, grays: Vec<Name>, lost: Vec<Name> },
     /// An arena was swept: the names of what was freed.
     Swept { arena: u32, freed: Vec<Name> },
     /// The collection was given up: its zones that were still being prepared or marking.
@@ -282,6 +283,12 @@ pub enum Line {
 /// A heap with its collector. It may go to another thread, and is in one call at a time.
 pub struct Heap {
     handle: sys::Handle,
+}
+
+impl fmt::Debug for Heap {
+    fn fmt(&self, to: &mut fmt::Formatter<'_>) -> fmt::Result {
+        to.debug_struct("Heap").finish_non_exhaustive()
+    }
 }
 
 fn checked<T>(result: std::result::Result<T, u32>) -> Result<T> {
@@ -419,7 +426,7 @@ impl Heap {
         checked(self.handle.deref(register.0.into(), slot.0.into())).map(name_of)
     }
 
-    /// What the register holds is watched: `lost` names it once the group with which it dies has ended.
+    /// What the register holds is watched: the `Event::Ended` of the group with which it dies names it, once.
     pub fn watch(&mut self, register: Register) -> Result<()> {
         checked(self.handle.watch(register.0.into()))
     }
@@ -436,17 +443,6 @@ impl Heap {
     pub fn compact(&mut self, zone: Zone) -> Result<Compacted> {
         let done = checked(self.handle.compact(zone.0.into()))?;
         Ok(Compacted { moved: done.moved, given_up: done.given_up })
-    }
-
-    /// The watched cells that died with the group whose end is the last event, ascending.
-    pub fn lost(&mut self) -> Result<Vec<Name>> {
-        let mut names = Vec::new();
-        loop {
-            match checked(self.handle.report_lost(names.len())) {
-                Err(Error::Absent) => return Ok(names),
-                name => names.extend(name_of(name?)),
-            }
-        }
     }
 
     /// Begins a collection of these zones.
@@ -538,6 +534,17 @@ impl Heap {
         Ok(names)
     }
 
+    // The watched cells that died with the group whose end is the last report, ascending.
+    fn lost(&mut self) -> Result<Vec<Name>> {
+        let mut names = Vec::new();
+        loop {
+            match checked(self.handle.report_lost(names.len())) {
+                Err(Error::Absent) => return Ok(names),
+                name => names.extend(name_of(name?)),
+            }
+        }
+    }
+
     fn last_event(&mut self) -> Result<Event> {
         let report = checked(self.handle.report())?;
         Ok(match report.kind {
@@ -552,6 +559,7 @@ impl Heap {
             sys::GCZ_ENDED => Event::Ended {
                 zones: zones_of(report.zones),
                 grays: self.names(report.count, sys::Handle::report_name)?,
+                lost: self.lost()?,
             },
             sys::GCZ_STOPPED => Event::Stopped(zones_of(report.zones)),
             _ => Event::Swept { arena: report.arena, freed: self.names(report.count, sys::Handle::report_name)? },
@@ -570,6 +578,7 @@ fn line_of(line: sys::Line) -> Option<Line> {
 }
 
 /// The events of a collection.
+#[derive(Debug)]
 pub struct Events<'a> {
     heap: &'a mut Heap,
     limit: u64,

@@ -1,6 +1,6 @@
 //! What the package adds to the library: errors in words, events, a heap that moves to another thread, and dropping.
 
-use gczone::{Error, Event, Heap, Line, Name, Zone, REGISTERS, SLOTS};
+use gczone::{Error, Event, Heap, Line, Name, Payloads, Zone, REGISTERS, SLOTS, WEAK_SLOTS};
 
 /// Two zones, an object in each, which lead to each other by wrappers; a gray slot holds the first.
 fn ring() -> Result<(Heap, [Zone; 2]), Error> {
@@ -36,7 +36,7 @@ fn ring_is_gray_and_then_freed() -> Result<(), Error> {
     let events = collect(&mut heap, &zones, 1)?;
     assert_eq!(events[..2], [Event::Started, Event::Groups(vec![zones.to_vec()])]);
     let grays = heap.grays()?;
-    assert_eq!(events[2], Event::Ended { zones: zones.to_vec(), grays: grays.clone() });
+    assert_eq!(events[2], Event::Ended { zones: zones.to_vec(), grays: grays.clone(), lost: vec![] });
     assert_eq!(grays.first().copied(), heap.next_gray(None)?);
     for (index, name) in grays.iter().enumerate() {
         assert_eq!(grays.get(index + 1).copied(), heap.next_gray(Some(*name))?);
@@ -90,6 +90,96 @@ fn wrapper_is_a_key() -> Result<(), Error> {
     }
     assert_eq!(freed(&collect(&mut heap, &zones, 1000)?), 3);
     assert_eq!(heap.counts()?.entries, 0);
+    Ok(())
+}
+
+#[test]
+fn watched_cell_is_lost_with_its_group() -> Result<(), Error> {
+    let [kept, dead, ..] = REGISTERS;
+    let mut heap = Heap::new()?;
+    let zone = heap.zone()?;
+    let compartment = heap.compartment(zone)?;
+    let names = [heap.object(kept, compartment, 0)?, heap.object(dead, compartment, 0)?];
+    for (register, slot) in [kept, dead].into_iter().zip(WEAK_SLOTS) {
+        heap.watch(register)?;
+        heap.weaken(slot, register)?;
+    }
+    heap.empty(dead)?;
+    heap.begin(&[zone])?;
+    let mut told = Vec::new();
+    for event in heap.events(1) {
+        if let Event::Ended { lost, .. } = event? {
+            told.extend(lost);
+        }
+    }
+    assert_eq!(told, names[1..]);
+    assert_eq!(heap.deref(dead, WEAK_SLOTS[0])?, Some(names[0]));
+    assert_eq!(heap.deref(dead, WEAK_SLOTS[1])?, None);
+    assert_eq!((heap.unwatch(kept)?, heap.unwatch(kept)?), (true, false));
+    Ok(())
+}
+
+/// Numbers that look random: a linear congruence.
+struct Random(u64);
+
+impl Random {
+    fn below(&mut self, limit: u64) -> usize {
+        self.0 = self.0.wrapping_mul(6_364_136_223_846_793_005).wrapping_add(1_442_695_040_888_963_407);
+        ((self.0 >> 33) % limit) as usize
+    }
+}
+
+/// Does commands in two zones, with collections in slices between them. Each object has its number as its data.
+fn churn(random: &mut Random, steps: usize) -> Result<(Heap, Payloads<u64>), Error> {
+    let mut heap = Heap::new()?;
+    let mut numbers = Payloads::new();
+    let zones = [heap.zone()?, heap.zone()?];
+    let compartments = [heap.compartment(zones[0])?, heap.compartment(zones[1])?];
+    for _ in 0..steps {
+        let side = random.below(2);
+        let registers = &REGISTERS[8 * side..8 * side + 8];
+        let (register, other) = (registers[random.below(8)], registers[random.below(8)]);
+        match random.below(12) {
+            0..=4 => {
+                let name = heap.object(register, compartments[side], 2)?;
+                let number = heap.counts()?.objects - 1;
+                assert_eq!((name, numbers.insert(name, number)), (Name::Cell(number), None));
+            }
+            5..=6 => match heap.set(register, random.below(2) as u8, Some(other)) {
+                Ok(()) | Err(Error::Empty) => {}
+                Err(error) => return Err(error),
+            },
+            7 => heap.empty(register)?,
+            8 if !heap.is_running() => heap.begin(&zones[..=side])?,
+            _ => {
+                if let Some(event) = heap.advance(random.below(20) as u64)?.event {
+                    for (name, number) in numbers.let_go(&event) {
+                        assert_eq!(name, Name::Cell(number));
+                    }
+                }
+            }
+        }
+    }
+    for event in heap.events(u64::MAX) {
+        numbers.let_go(&event?);
+    }
+    Ok((heap, numbers))
+}
+
+#[test]
+fn data_is_that_of_the_cells_that_are_there() -> Result<(), Error> {
+    for seed in 0..10 {
+        let (mut heap, numbers) = churn(&mut Random(seed), 5000)?;
+        let mut names = Vec::new();
+        for line in heap.dump()? {
+            if let Line::Cell { name, .. } = line {
+                names.push(name);
+            }
+        }
+        assert_eq!(numbers.len(), names.len());
+        assert!(names.len() > 10 && heap.counts()?.objects > 2000);
+        assert!(names.iter().all(|name| numbers.get(*name).map(|number| Name::Cell(*number)) == Some(*name)));
+    }
     Ok(())
 }
 
