@@ -11,6 +11,7 @@ import shutil
 import subprocess
 import sys
 import tempfile
+import textwrap
 import unittest
 from pathlib import Path
 
@@ -18,8 +19,16 @@ TOP = Path(__file__).resolve().parent.parent.parent
 BINDINGS = TOP / "bindings"
 CHECK = TOP / "tools/check-bindings"
 SECONDS = 600
-# How many random commands go through C and Rust in all is their product; Python takes some of the traces.
-SEEDS, COMMANDS, PYTHON_SEEDS = 25, 4000, 3
+VALGRIND = ("valgrind", "-q", "--leak-check=full", "--error-exitcode=9")
+# At least the product of the first two is how many random commands go through C and through Rust; Python takes some of
+# the traces. A pile stands before as many random commands as the last one says.
+SEEDS, COMMANDS, PYTHON_SEEDS, PILE_EACH = 25, 4000, 3, 600
+# What some of their answers are, so that the commands do what they can do.
+ANSWERS = (
+    "groups .*[|]", "ended .* gray [0-9]", "told ", "swept [0-9]+ [0-9]", "stopped ", "reset ok", "slice [1-9]",
+    "weak ", "compacted [1-9][0-9]* [1-9]", "null", "absent", "idle", "empty", "kind", "no-field", "cross", "running",
+    "marking", "no-comp", "no-zone",
+)
 # What the list machine prints, whatever the slices: 8 closures keep 160 numbers of the 12,000 that were made.
 LISTS = re.compile(
     r"total 93120\nevaluated: (\d+) numbers, (\d+) let go by \d+ collections\n"
@@ -77,6 +86,42 @@ class DeclarationTest(unittest.TestCase):
         self.assertIn("call gcz_drop: missing in the header", self.refused(call, ""))
 
 
+class RangesTest(unittest.TestCase):
+    """tests/ranges.c tries each number of each call out of its range, and each call at a closed handle."""
+
+    # By the names of parameters: which are numbers of any size, and which have a range.
+    ANY = {"zones", "limit", "index", "status", "size"}
+    RANGED = {"reg", "from", "map", "key", "value", "slot", "zone", "comp", "field", "fields"}
+
+    def setUp(self):
+        header = re.sub(r"/\*.*?\*/", "", (BINDINGS / "c/gczone.h").read_text(encoding="utf-8"), flags=re.DOTALL)
+        self.calls = {
+            name: [word.split()[-1] for word in words.split(", ")[1:] if "*" not in word]
+            for name, words in re.findall(r"GCZ_CALL uint32_t (gcz_\w+)\((gcz_t \*gcz[^)]*)\);", header)
+        }
+        self.ranges = (BINDINGS / "c/tests/ranges.c").read_text(encoding="utf-8")
+
+    def test_each_number_is_tried(self):
+        tried = {
+            (name, place)
+            for name, words in re.findall(r"(gcz_\w+)\(g, ([^()]*)\)", self.ranges)
+            for place, word in enumerate(words.split(", "))
+            if word in ("bad", "BEYOND[i]")
+        }
+        wanted = {
+            (name, place)
+            for name, numbers in self.calls.items() for place, number in enumerate(numbers) if number not in self.ANY
+        }
+        self.assertEqual({number for numbers in self.calls.values() for number in numbers} - self.ANY, self.RANGED)
+        self.assertEqual(tried, wanted)
+
+    def test_each_call_is_tried_at_a_closed_handle(self):
+        closed = re.search(r"static void all_closed\(.*?\n}", self.ranges, re.DOTALL)[0]
+        tried = set(re.findall(r"\b(gcz_\w+)\(g\b[^()]*\), GCZ_CLOSED\)", closed))
+        self.assertIn("next_grays(g, GCZ_CLOSED);", closed)
+        self.assertEqual(tried, self.calls.keys() - {"gcz_open", "gcz_next_gray"})
+
+
 class LibraryTest(unittest.TestCase):
     """Has a folder with the library, and with the C programs."""
 
@@ -122,10 +167,9 @@ class ProgramTest(LibraryTest):
 
     def test_memory_under_valgrind(self):
         self.need("valgrind")
-        words = ("valgrind", "-q", "--leak-check=full", "--error-exitcode=9")
         for program, text in (("ranges", "ok\n"), ("faults", "ok\n"), ("lists", LISTS)):
             with self.subTest(program):
-                self.assert_prints(text, *words, self.out / program)
+                self.assert_prints(text, *VALGRIND, self.out / program)
 
     def test_header_is_of_c_plus_plus_too(self):
         self.need("c++")
@@ -135,14 +179,59 @@ class ProgramTest(LibraryTest):
         self.assert_prints("", *words, self.out / "closed.cpp", self.out / "libgczone.a")
         self.assert_prints("", self.out / "closed")
 
+    def install(self, *words):
+        built = ("-o", self.out / "libgczone.a", "-o", self.out / "libgczone.so")
+        made = run("make", "-C", BINDINGS / "c", f"OUT={self.out}", "ARCHIVE=", "HEAP=", *built, *words, "install")
+        self.assertEqual(made.returncode, 0, made.stdout)
+
+    def test_first_program_of_the_document(self):
+        page = (TOP / "docs/EMBEDDING.md").read_text(encoding="utf-8")
+        text = re.search(r"^    #include <gczone.h>\n(?:(?:    .*)?\n)*", page, re.MULTILINE)[0]
+        (self.out / "first.c").write_text(textwrap.dedent(text), encoding="utf-8")
+        words = ("-std=c11", "-Wall", "-Wextra", "-Werror", f"-I{BINDINGS / 'c'}", "-o", self.out / "first")
+        self.assert_prints("", "cc", *words, self.out / "first.c", self.out / "libgczone.a")
+        self.assert_prints("cell 2 is freed\n", self.out / "first")
+
     def test_install(self):
         root = self.out / "root"
-        words = ("make", "-C", BINDINGS / "c", f"OUT={self.out}", "ARCHIVE=", "HEAP=", f"DESTDIR={root}", "install")
-        made = run(*words, "-o", self.out / "libgczone.a", "-o", self.out / "libgczone.so")
-        self.assertEqual(made.returncode, 0, made.stdout)
+        self.install(f"DESTDIR={root}")
         lines = (root / "usr/local/lib/pkgconfig/gczone.pc").read_text(encoding="utf-8").splitlines()
         self.assertIn("prefix=/usr/local", lines)
         self.assertTrue((root / "usr/local/lib/libgczone.so").resolve().is_file())
+
+    def test_what_is_installed_is_found(self):
+        self.need("pkg-config")
+        prefix = self.out / "prefix"
+        self.install(f"PREFIX={prefix}")
+        environment = {"PKG_CONFIG_PATH": str(prefix / "lib/pkgconfig"), "LD_LIBRARY_PATH": str(prefix / "lib")}
+        words = run("pkg-config", "--cflags", "--libs", "gczone", env={**os.environ, **environment}).stdout.split()
+        made = run("cc", "-o", self.out / "installed", BINDINGS / "c/examples/lists.c", *words)
+        self.assertEqual(made.returncode, 0, made.stdout)
+        self.assert_prints(LISTS, self.out / "installed", env={**os.environ, **environment})
+
+    def test_names_of_the_library_are_its_calls(self):
+        self.need("nm")
+        header = (BINDINGS / "c/gczone.h").read_text(encoding="utf-8")
+        calls = sorted(re.findall(r"^(?:\w+ )*(gcz_\w+)\(", header, re.MULTILINE))
+        for words in (["-g", self.out / "libgczone.a"], ["-D", self.out / "libgczone.so"]):
+            names = re.findall(r"^[0-9a-f]+ [A-Z] (\w+)", run("nm", *words).stdout, re.MULTILINE)
+            self.assertEqual(sorted(names), calls)
+
+    def test_threads_of_python(self):
+        program = """
+            import threading, gczone
+            heap = gczone.Heap()
+            compartment = heap.compartment(heap.zone())
+            def work(register):
+                for _ in range(3000):
+                    heap.object(register, compartment, 1)
+            threads = [threading.Thread(target=work, args=[register]) for register in range(4)]
+            for each in threads: each.start()
+            for each in threads: each.join()
+            print(heap.counts().objects)
+        """
+        environment = {**self.environment, "PYTHONPATH": str(BINDINGS / "python")}
+        self.assert_prints("12000\n", sys.executable, "-B", "-c", textwrap.dedent(program), env=environment)
 
     def test_cycle_collector(self):
         words = (sys.executable, "-B", BINDINGS / "python/examples/cycles.py")
@@ -150,7 +239,7 @@ class ProgramTest(LibraryTest):
 
 
 class Trace:
-    """Random commands, two zones in five compartments, with collections in slices between them."""
+    """Random commands, two zones in five compartments, with collections in slices and piles of cells between them."""
 
     ROWS = (
         ["new r c n"] * 5 + ["map r c"] * 2 + ["get r r f"] * 4 + ["set r f r"] * 5 + ["wrap r r c"] * 2
@@ -173,11 +262,27 @@ class Trace:
         number = self.random.randrange(below[kind])
         return f"{kind}{min(number, number % 7) if kind == 'r' else number % 5}" if kind in "rgq" else str(number)
 
+    def row(self):
+        word, *kinds = self.random.choice(self.ROWS).split()
+        return " ".join([word, *map(self.word, kinds)])
+
+    def pile(self):
+        """The lines of a list whose cells lie among garbage, which a collection frees: then some have to move."""
+        compartment = self.random.randrange(5)
+        yield from ("finish", "drop r6")
+        for number in range(self.random.randint(70, 150)):
+            yield f"new r5 {compartment} 2"
+            if number % 3 == 0:
+                yield from ("set r5 0 r6", "copy r6 r5")
+        yield from (f"watch r{self.random.choice('56')}", "weaken q0 r6", f"collect {compartment % 2}")
+        yield from (f"compact {compartment % 2}", "deref r5 q0", "dump")
+
     def text(self, lines):
-        head = ["zone", "zone", *(f"comp {number % 2}" for number in range(5))]
-        rows = (self.random.choice(self.ROWS).split() for _ in range(lines))
-        body = [" ".join([row[0], *map(self.word, row[1:])]) for row in rows]
-        return "\n".join([*head, *body, "finish", "collect 0 1", "dump", ""])
+        body = ["zone", "zone", *(f"comp {number % 2}" for number in range(5))]
+        while len(body) < lines:
+            body += self.pile()
+            body += (self.row() for _ in range(PILE_EACH))
+        return "\n".join([*body, "finish", "collect 0 1", "dump", ""])
 
 
 class ReplyTest(LibraryTest):
@@ -204,6 +309,7 @@ class ReplyTest(LibraryTest):
             wanted = answers(self.program, "run")
             for language in languages:
                 self.assertTrue(answers(*self.replays()[language]) == wanted, f"{language} answers {name} otherwise")
+        return wanted
 
     def test_examples(self):
         traces = sorted((TOP / "examples").glob("*.trace"))
@@ -214,9 +320,23 @@ class ReplyTest(LibraryTest):
                     self.compare(trace.read_text(encoding="ascii"), trace.name, *self.replays())
 
     def test_random_commands(self):
+        answers = []
         for seed in range(SEEDS):
             with self.subTest(seed):
-                self.compare(Trace(seed).text(COMMANDS), f"seed {seed}", "C", *["Python"] * (seed < PYTHON_SEEDS))
+                languages = ["C", *["Python"] * (seed < PYTHON_SEEDS)]
+                answers.append(self.compare(Trace(seed).text(COMMANDS), f"seed {seed}", *languages))
+        text = "".join(answers)
+        self.assertEqual([it for it in ANSWERS if not re.search(f"^{it}", text, re.MULTILINE)], [])
+
+    def test_replay_under_valgrind(self):
+        self.need("valgrind")
+        with tempfile.TemporaryFile("w+") as file:
+            file.write(Trace(SEEDS).text(COMMANDS))
+            for language, words in self.replays().items():
+                if language != "Python":
+                    file.seek(0)
+                    done = run(*VALGRIND, *words, stdin=file)
+                    self.assertEqual((done.returncode, done.stdout[-5:]), (0, "\nend\n"), done.stdout[-2000:])
 
 
 class RustTest(ReplyTest):
@@ -245,7 +365,16 @@ class RustTest(ReplyTest):
 
     def test_memory_under_valgrind(self):
         self.need("valgrind")
-        self.assert_prints(LISTS, "valgrind", "-q", "--leak-check=full", "--error-exitcode=9", self.example("lists"))
+        self.assert_prints(LISTS, *VALGRIND, self.example("lists"))
+
+    def test_package_under_valgrind(self):
+        self.need("valgrind")
+        # What runs the tests loses blocks of threads in part.
+        definite = ("--show-leak-kinds=definite", "--errors-for-leak-kinds=definite")
+        runner = {"CARGO_TARGET_X86_64_UNKNOWN_LINUX_GNU_RUNNER": " ".join([*VALGRIND, *definite])}
+        words = ("cargo", "test", "--offline", "--quiet", "--test", "calls")
+        done = run(*words, cwd=BINDINGS / "rust", env={**self.environment, **runner})
+        self.assertEqual((done.returncode, "test result: ok" in done.stdout), (0, True), done.stdout)
 
     def test_random_commands(self):
         for seed in range(SEEDS):
