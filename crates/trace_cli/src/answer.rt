@@ -78,21 +78,21 @@ fn answer_command<F: Sweeping, K: Sink, L: Ledger>(
 fn answer_weak<F: Sweeping, K: Sink, L: Ledger>(
     collector: &mut Collector,
     flight: &mut F,
-    command: &WeakCmd,
+    command: WeakCmd,
     sink: &mut K,
     steps: &mut Steps<L>,
 ) -> Result<(), AnswerFault>
     requires counted { collector.old.heap.ledger ≡ Some L.name }
     requires flight { StandsWith collector.old (F.left (F.origin flight.old)) (F.bits flight.old) }
-    ensures answer { AnswersCommand (ACmd.Weak command.now) collector.old (F.bits flight.old) collector.new
+    ensures answer { AnswersCommand (ACmd.Weak command) collector.old (F.bits flight.old) collector.new
         (F.bits flight.new) (K.written sink.old) (K.written sink.new) result }
     ensures flight { StandsWith collector.new (F.left (F.origin flight.new)) (F.bits flight.new) }
     ensures origin { F.origin flight.new ≡ F.origin flight.old }
     ensures size { MakesNone collector.old collector.new }
-    ensures sure { IsNoWatch command.now → result ≢ Err AnswerFault.Memory }
+    ensures sure { IsNoWatch command → result ≢ Err AnswerFault.Memory }
     ensures faults { CountsFaults (K.faults sink.old) (K.faults sink.new) result }
 {
-    match collector.weak_command(flight, *command, steps) {
+    match collector.weak_command(flight, command, steps) {
         Ok(reply) => write_last(sink, &reply),
         Err(CmdFault::Refused(why)) => write_last(sink, &Reply::Refused(why)),
         Err(CmdFault::NoMemory) => Err(AnswerFault::Memory),
@@ -179,7 +179,7 @@ pub fn start_command<F: Sweeping, K: Sink, L: Ledger>(
         Cmd::Slice(budget) => begin_slice(collector, flight, *budget, pending, sink),
         Cmd::Finish => begin_finish(collector, flight, pending, sink),
         Cmd::Reset => begin_reset(collector, flight, pending, sink),
-        Cmd::Weak(command) => answer_weak(collector, flight, command, sink, steps),
+        Cmd::Weak(command) => answer_weak(collector, flight, *command, sink, steps),
         Cmd::Compact(zone) => answer_compact(alloc, collector, flight, *zone, sink),
     }
 }

@@ -12,12 +12,12 @@ pub returns-in-Ok-clause-answer : goal.returns-in-Ok-clause-answer
 returns-in-Ok-clause-answer g c =
     let f = g.F.Flight.bits c.args.flight.now in
     let after = g.F.Flight.bits c.weak_command.new.flight in
-    let did = weak_ok c.args.collector.now c.weak_command.new.self f after c.args.command.now c.weak_command.result
+    let did = weak_ok c.args.collector.now c.weak_command.new.self f after c.args.command c.weak_command.result
     c.weak_command.ensures.done c.weak_command.ensures.to_come c.in-Ok.reply c.in-Ok.is in
     replied c.write_last.result c.write_last.ensures.fault c.write_last.ensures.ok c.write_last.ensures.err
-    (λ written. weak_writes c.args.collector.now c.weak_command.new.self f after c.args.command.now c.in-Ok.reply did
+    (λ written. weak_writes c.args.collector.now c.weak_command.new.self f after c.args.command c.in-Ok.reply did
     _ _ written)
-    (λ written. weak_breaks c.args.collector.now c.weak_command.new.self f after c.args.command.now c.in-Ok.reply did
+    (λ written. weak_breaks c.args.collector.now c.weak_command.new.self f after c.args.command c.in-Ok.reply did
     _ _ written)
 
 pub returns-in-Ok-clause-flight : goal.returns-in-Ok-clause-flight
@@ -31,14 +31,14 @@ pub returns-in-Err-Refused-clause-answer : goal.returns-in-Err-Refused-clause-an
 returns-in-Err-Refused-clause-answer g c =
     let f = g.F.Flight.bits c.args.flight.now in
     let after = g.F.Flight.bits c.weak_command.new.flight in
-    let did = weak_refused c.args.collector.now c.weak_command.new.self f after c.args.command.now c.weak_command.result
+    let did = weak_refused c.args.collector.now c.weak_command.new.self f after c.args.command c.weak_command.result
     c.weak_command.ensures.done c.weak_command.ensures.to_come c.in-Err-Refused.why
     (c.in-Err-Refused.is ∙ ap (λ (x : CmdFault). Err x) c.in-Err-Refused.field-0-is) in
     let last = c.write_last-in-Err-Refused.ensures in
     replied c.write_last-in-Err-Refused.result last.fault last.ok last.err
-    (λ written. weak_writes c.args.collector.now c.weak_command.new.self f after c.args.command.now
+    (λ written. weak_writes c.args.collector.now c.weak_command.new.self f after c.args.command
     (reply.Refused c.in-Err-Refused.why) did _ _ written)
-    (λ written. weak_breaks c.args.collector.now c.weak_command.new.self f after c.args.command.now
+    (λ written. weak_breaks c.args.collector.now c.weak_command.new.self f after c.args.command
     (reply.Refused c.in-Err-Refused.why) did _ _ written)
 
 pub returns-in-Err-Refused-clause-flight : goal.returns-in-Err-Refused-clause-flight
@@ -50,7 +50,7 @@ returns-in-Err-Refused-clause-flight g c = record {
 
 pub returns-in-Err-NoMemory-clause-answer : goal.returns-in-Err-NoMemory-clause-answer
 returns-in-Err-NoMemory-clause-answer g c =
-    wanted (weak_stops c.args.collector.now (g.F.Flight.bits c.args.flight.now) c.args.command.now _ _
+    wanted (weak_stops c.args.collector.now (g.F.Flight.bits c.args.flight.now) c.args.command _ _
     (c.weak_command.ensures.wanted (c.in-Err-NoMemory.is ∙ ap (λ (x : CmdFault). Err x)
     c.in-Err-NoMemory.field-0-is)).watches (Appends-nil _))
 
@@ -66,4 +66,4 @@ returns-in-Err-NoMemory-clause-sure g c = λ none same.
     (let wants = c.weak_command.ensures.wanted (c.in-Err-NoMemory.is ∙ ap (λ (x : CmdFault). Err x)
     c.in-Err-NoMemory.field-0-is) in
     let sound = c.requires.flight.sound in
-    wants_no_memory sound.world c.args.command.now (wants.watches sound.world sound.valid sound.represents) none)
+    wants_no_memory sound.world c.args.command (wants.watches sound.world sound.valid sound.represents) none)
