@@ -51,7 +51,7 @@ WORDS = {
     "after-edit": [], "uses": ["replay"], "lint": [], "test": [], "prove": [], "build-unproved": [],
     "check-bindings": [], "spidermonkey/check-logs": [], "../bench/speed.py": [], "../bench/helpers.py": [],
     "../bench/dumps.py": [], "../bench/engines.py": [], "../bench/calls.py": [], "../bench/latency.py": [],
-    "../bench/memory.py": [], "../bench/compaction.py": [],
+    "../bench/memory.py": [], "../bench/compaction.py": [], "../bench/unchecked.py": [],
 }
 SHELL = ["find-program"]
 
