@@ -12,7 +12,6 @@ use Rattle.gz_names.specs.Moves.{moved}
 use Rattle.gz_names.specs.declared.moves.Move.{Move}
 use Rattle.gz_names.specs.declared.numbers.Place.{Place}
 use Rattle.gz_names.proofs.Moving.{contained, moved-apart, moved-at, moved-cases}
-use Rattle.cell_bits.specs.Colours as bits
 use Rattle.cell_bits.specs.declared.bits.Bits.{Bits}
 use Rattle.cell_bits.specs.declared.bits.Colour.{Colour}
 use Rattle.cell_bits.specs.declared.bits.Colour.TheVariants as colour

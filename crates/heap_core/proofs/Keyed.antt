@@ -9,7 +9,6 @@ use Rattle.gz_names.specs.declared.replies.Reply.{Reply}
 use Rattle.gz_names.specs.declared.replies.Reply.TheVariants as reply
 use Rattle.gz_names.specs.declared.replies.CmdFault.TheVariants as fault
 use Rattle.gz_names.specs.declared.replies.Refusal.{Refusal}
-use Rattle.gz_names.specs.declared.replies.Refusal.TheVariants as refusal
 use Rattle.gz_names.specs.Order.{same_name}
 use Rattle.arena_table.specs.Cells.{CellState}
 use Rattle.weak_maps.specs.Places.{is_same}

@@ -33,3 +33,4 @@ pub mod Staying
 pub mod GivingUp
 pub mod Arrived
 pub mod Going
+pub mod PinnedPlaces

@@ -15,7 +15,7 @@ use Rattle.arena_table.specs.Cells.{CellState, field_count, field_of, with_value
 use Rattle.arena_table.specs.Indexed.{in_zones}
 use Rattle.arena_table.specs.Slots.{Arena, cell_at, cell_in, change_at, empty_arena, handed_out, taken_in, with_bits}
 use Rattle.arena_table.specs.Slots.{with_cell, with_field}
-use Rattle.arena_table.specs.Table.{ArenasState, grown_to, in_these, is_place, new_cell, no_bits, put_at}
+use Rattle.arena_table.specs.Table.{ArenasState, grown_to, in_these, is_place, new_cell, put_at}
 use Rattle.wrappers.specs.TargetZones.{IsNoted}
 use Rattle.heap_core.specs.Changes.{wrapper_cell}
 use Rattle.wrappers.specs.WrapperMaps.{list_of}

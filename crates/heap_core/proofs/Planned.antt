@@ -1,6 +1,5 @@
 -- What a plan says of the change that is made by it.
 use Rattle.std.proofs.Common.{◌≡◌, ◌+◌, ℕ, Option, Ok, IsSome, is_some, if◌then◌else◌, sym, ap, subst, ◌∙◌, arith}
-use Rattle.gz_names.specs.declared.numbers.Place.{Place}
 use Rattle.gz_names.specs.declared.commands.GraphCmd.{GraphCmd}
 use Rattle.gz_names.specs.declared.replies.Reply.{Reply}
 use Rattle.heap_core.specs.declared.plans.Change.{Change}

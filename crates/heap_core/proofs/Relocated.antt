@@ -12,7 +12,6 @@ use Rattle.gz_names.specs.declared.names.Name.{Name}
 use Rattle.gz_names.specs.declared.names.Name.TheVariants.{Cell, Wrap}
 use Rattle.gz_names.specs.declared.numbers.CompNo.{CompNo}
 use Rattle.gz_names.specs.declared.numbers.Place.{Place}
-use Rattle.colour_defs.specs.Graph as graph
 use Rattle.colour_defs.specs.Graph.{GraphState}
 use Rattle.arena_table.specs.Cells.{CellState, field_of, joined}
 use Rattle.arena_table.specs.Moving.{forwarded}

@@ -14,3 +14,4 @@ pub mod Plans
 pub mod TargetZones
 pub mod WeakNames
 pub mod Moving
+pub mod Pinned

@@ -9,7 +9,6 @@ use Rattle.cell_bits.specs.declared.bits.Colour.TheVariants as colour
 use Rattle.cell_bits.specs.declared.jobs.Job.{Job}
 use Rattle.arena_table.specs.Indexed.{in_zones}
 use Rattle.arena_table.specs.Slots.{Arena, alloc_word_of, change_at, held_in, without_freed}
-use Rattle.arena_table.specs.Table.{no_bits}
 use Rattle.weak_maps.specs.WeakMaps.{WeakTableState, is_dead_entry, value_of}
 use Rattle.weak_maps.specs.declared.entries.WeakEntry.{WeakEntry}
 use Rattle.heap_core.specs.Shape.{ArenaShape, Shape, arena_shapes, cell_in_arena, cell_of, is_white}

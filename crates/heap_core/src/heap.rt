@@ -45,6 +45,7 @@ ghost use Rattle.gz_names.specs.declared.names.Name.TheVariants.{Cell as ACell, 
 ghost use Rattle.gz_names.specs.declared.commands.Kind.TheVariants as kind;
 
 mod moving;
+mod pinned;
 
 use crate::steps::Steps;
 use arena_table::{Arenas, Jobs};
@@ -214,7 +215,7 @@ impl Heap {
     pub fn reg(&self, r: Reg) -> Option<Place>
         ensures value { result ≡ reg_of self.now r }
         ensures held { slice_get self.now.shape.regs r ≡ Some result }
-        ensures count { length self.now.shape.regs ≡ 16 }
+        ensures count { 16 ≤ length self.now.shape.regs }
     {
         self.roots.reg(r)
     }
@@ -645,6 +646,13 @@ impl Heap {
             × (self.new ≡ self.old)) }
     {
         self.roots.next_buffered(zone)
+    }
+
+    /// How many places wait for gray marking, for all zones together.
+    pub fn waiting_count(&self) -> usize
+        ensures { result ≡ sum_by length self.now.buffers }
+    {
+        self.roots.waiting_count()
     }
 
     /// The zones whose buffers hold something.

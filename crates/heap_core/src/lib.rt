@@ -2,13 +2,14 @@
 //
 // [gczone] The heap by places
 //
-// The heap puts its parts together: cells in arenas, zones and compartments, wrapper maps, registers
-// and gray slots, entries of weak maps. It does each of the sixteen commands on the graph, without
+// The heap puts its parts together: cells in arenas, zones and compartments, wrapper maps, registers,
+// pinned roots and gray slots, entries of weak maps. It does each of the sixteen commands on the graph, without
 // barriers; of colours it knows only that a new cell is black, unless its zone is being prepared. It speaks
 // of places, not of names, and contracts see it as plain data:
 //
 //     shape      the arenas with their cells; the states of zones, the homes of compartments, the
-//                wrapper maps, the entries, what registers and gray slots hold
+//                wrapper maps, the entries, what registers and gray slots hold; pinned root n is
+//                register 16 + n, which no command names
 //     colours    the two words of mark bits of each arena
 //     buffers    what waits for the gray marking of each zone
 //     looks      in which colour marking has still to look at each weak entry

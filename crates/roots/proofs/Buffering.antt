@@ -2,11 +2,11 @@
 use Rattle.std.proofs.Common.{Bool, true, false, nat_eq, vec_len, eqb-true, eq-eqb, replicate, Option, Some, None}
 use Rattle.std.proofs.Common.{IfSome, IfNone, drop, ◌≡◌, ◌≢◌, ◌<◌, ◌≤◌, ◌+◌, ◌==◌, ◌↔◌, ◌⊎◌, inl, inr, ℕ, zero, suc}
 use Rattle.std.proofs.Common.{List, [], ◌∷◌, ◌++◌, length, get_or, set, map, filter, sum_by, slice_index, vec_capacity}
-use Rattle.std.proofs.Common.{Vec, append-nil, append_assoc, refl, sym, subst, ◌∙◌, ap, arith, length-set}
+use Rattle.std.proofs.Common.{Vec, take, append-nil, append_assoc, refl, sym, subst, ◌∙◌, ap, arith, length-set}
 use Rattle.std.proofs.Common.{length-append, get_or-set_same, get_or-set_other, if◌then◌else◌}
 use Rattle.std.proofs.lemmas.List.{nil_from_length, get_or-replicate, drop_more, length-map, get_or-map, get_or_read}
 use Rattle.std.proofs.lemmas.List.{map-set, set-set, set-get_or, get_or_past}
-use Rattle.std.proofs.lemmas.List.Sums.{sum_by-set, sum_by-cons, length-filter}
+use Rattle.std.proofs.lemmas.List.Sums.{sum_by-set, sum_by-cons, sum_by_more, length-filter}
 use Rattle.std.proofs.lemmas.Bool.{false≢true, cases_eq, cases_lt}
 use Rattle.std.proofs.lemmas.Grind.{common_steps}
 use Rattle.std.specs.Option.{option_to_list}
@@ -30,6 +30,16 @@ buffer_at-lists_of : (bs : List (Vec Place Global)) (i : ℕ) (b : Vec Place Glo
     → buffer_at (lists_of bs) i ≡ b.items
 buffer_at-lists_of bs i b h e = get_or-map (λ (v : Vec Place Global). v.items) bs i b [] h
     ∙ ap (λ (v : Vec Place Global). v.items) (sym e)
+
+-- one buffer more is counted
+pub waiting-more : (bs : List (Vec Place Global)) (i count : ℕ) (b : Vec Place Global) → i < length bs
+    → b ≡ get_or bs i b → count ≡ sum_by length (take i (lists_of bs))
+    → count + vec_len b ≡ sum_by length (take (i + 1) (lists_of bs))
+waiting-more bs i count b h e counted =
+    let inside : i < length (lists_of bs) = rw length-map h in
+    let more = sum_by_more length (lists_of bs) i [] inside in
+    let here = ap length (buffer_at-lists_of bs i b h e) in
+    omega (arith, b.ok.0)
 
 pub lists_of-put : (bs : List (Vec Place Global)) (i : ℕ) (b c : Vec Place Global) (p : Place) → i < length bs
     → b ≡ get_or bs i b → c.items ≡ b.items ++ p ∷ [] → lists_of (set bs i c) ≡ put_at (lists_of bs) i p

@@ -155,3 +155,15 @@ pub(crate) fn clear_waiting(buffers: &mut [Vec<Place>], waiting: &mut ZoneSet)
     }
     *waiting = left;
 }
+
+// How many places all buffers hold.
+pub(crate) fn count_waiting(buffers: &[Vec<Place>]) -> usize
+    requires { sum_by length (lists_of buffers.now) < 2 ^ 63 }
+    ensures { result ≡ sum_by length (lists_of buffers.now) }
+{
+    let mut count = 0;
+    for buffer in buffers {
+        count += buffer.len();
+    }
+    count
+}

@@ -2,9 +2,16 @@
 //
 // [gczone] Roots
 //
-// The 16 registers are the black roots: what a program holds itself. The 64 gray slots are the gray
-// roots: what the world around it holds (in Firefox the cycle collector's side, which may find that
-// nothing else holds it, and drop it). Both are arrays of places, each full or empty.
+// The registers are the black roots: what a program holds itself. The first 16 are an array; behind
+// them stand the pinned roots, as many as there is memory for: pinned root n is register 16 + n, which
+// no command names (a pinned root is what a JS::PersistentRooted of js/public/RootingAPI.h is). So
+// whatever is said of registers is said of both: a pinned root that marking or a move overlooked would
+// hold a cell that is freed, or the place that the cell has left. Its number stays its own until it is
+// unpinned, and only then can another cell get it.
+//
+// The 64 gray slots are the gray roots: what the world around the program holds (in Firefox the cycle
+// collector's side, which may find that nothing else holds it, and drop it). Registers and slots are
+// places, each full or empty.
 //
 // A collection may not look at the gray slots late: a program that runs between two slices moves
 // cells from slots to registers and back, and a slot that is emptied before it is looked at would

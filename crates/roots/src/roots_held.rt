@@ -1,20 +1,24 @@
 // What the roots hold.
-ghost use Rattle.std.specs.Prelude.{◌≡◌, ◌≢◌, ◌+◌, ◌++◌, ◌<◌, ◌^◌, ◌↔◌, ℕ, None, Some, [], length, map, replicate};
+ghost use Rattle.std.specs.Prelude.{◌≡◌, ◌≢◌, ◌+◌, ◌++◌, ◌<◌, ◌≤◌, ◌^◌, ◌↔◌, ℕ, None, Some, [], length, map, replicate};
 ghost use Rattle.std.specs.Prelude.{slice_get, slice_set, IfOk, IfSome, IfNone, OnOk, OnErr};
 ghost use Rattle.std.specs.Option.{option_map};
 ghost use Rattle.gz_names.specs.Moves.{moved};
 ghost use Rattle.gz_names.specs.Zones.{HasZone};
 ghost use Rattle.roots.specs.Buffers.{places_in};
+ghost use Rattle.roots.specs.Pinned.{Pins, pinned_in};
 
-use crate::buffers::{clear_waiting, new_buffers, put_both, take_item};
+use crate::buffers::{clear_waiting, count_waiting, new_buffers, put_both, take_item};
 use gz_names::{GrayNo, Moves, NoMemory, Place, Reg, ZoneNo, ZoneSet};
+use slab::Slab;
 use std::alloc::Global;
 use std::marker::Model;
 
-/// The registers, the gray slots, and for each zone what waits for its gray marking.
+/// The registers, the pinned roots, the gray slots, and for each zone what waits for its gray marking.
 #[derive(Drop)]
 pub struct Roots {
     regs: [Option<Place>; 16],
+    // The pinned roots: cells that are held by numbers of their own.
+    pinned: Slab<Place>,
     slots: [Option<Place>; 64],
     // The places that wait for each zone.
     buffers: Vec<Vec<Place>>,
@@ -23,21 +27,21 @@ pub struct Roots {
 }
 
 impl Model for Roots {
-    ghost use Rattle.std.specs.Prelude.{◌≡◌, ◌<◌, ◌^◌, length, sum_by};
+    ghost use Rattle.std.specs.Prelude.{◌≡◌, ◌<◌, ◌^◌, ◌++◌, length, sum_by};
     ghost use Rattle.roots.specs.Buffers.{lists_of, IsWaiting};
     ghost use Rattle.roots.specs.RootsHeld.{RootsState};
 
     ghost Value = { RootsState };
 
     ghost view = { λ r. record {
-      regs = r.regs;
+      regs = r.regs ++ r.pinned.slots;
       slots = r.slots;
       buffers = lists_of r.buffers.items;
     } };
 
     ghost invariant = { λ r. (length r.buffers.items ≡ 64)
         × IsWaiting (lists_of r.buffers.items) r.waiting.bits
-        × (sum_by length (lists_of r.buffers.items) < 2 ^ 63) };
+        × (sum_by length (lists_of r.buffers.items) < 2 ^ 63) × (length r.regs ≡ 16) };
 }
 
 impl Roots {
@@ -55,6 +59,7 @@ impl Roots {
         let buffers = new_buffers(alloc)?;
         Ok(Roots {
             regs: [None; 16],
+            pinned: Slab::new(alloc),
             slots: [None; 64],
             buffers,
             waiting: ZoneSet { bits: 0 },
@@ -64,7 +69,7 @@ impl Roots {
     /// What a register holds.
     pub fn reg(&self, r: Reg) -> Option<Place>
         ensures held { slice_get self.now.regs r ≡ Some result }
-        ensures count { length self.now.regs ≡ 16 }
+        ensures count { 16 ≤ length self.now.regs }
     {
         self.regs[r.index() as usize]
     }
@@ -74,6 +79,37 @@ impl Roots {
         ensures { self.new ≡ record self.old { regs = slice_set self.old.regs r v } }
     {
         self.regs[r.index() as usize] = v;
+    }
+
+    /// A pinned root holds a cell from now on: one that held none. Returns its number. After `NoMemory` nothing
+    /// changed.
+    pub fn pin(&mut self, place: Place) -> Result<usize, NoMemory>
+        ensures pins { IfOk result (λ root. Pins self.old place root self.new) }
+        ensures err { OnErr result (self.new ≡ self.old) }
+    {
+        Ok(self.pinned.insert(place)?)
+    }
+
+    /// What a pinned root holds.
+    pub fn pinned(&self, root: usize) -> Option<Place>
+        ensures { result ≡ pinned_in self.now root }
+    {
+        self.pinned.get(root).copied()
+    }
+
+    /// A pinned root holds nothing any more, and its number may be given again. Returns what it held.
+    pub fn unpin(&mut self, root: usize) -> Option<Place>
+        ensures held { result ≡ pinned_in self.old root }
+        ensures rest { self.new ≡ record self.old { regs = slice_set self.old.regs (16 + root) None } }
+    {
+        self.pinned.try_remove(root)
+    }
+
+    /// A number from which on no pinned root holds a cell.
+    pub fn pinned_end(&self) -> usize
+        ensures { (root : ℕ) → result ≤ root → pinned_in self.now root ≡ None }
+    {
+        self.pinned.capacity()
     }
 
     /// What a gray slot holds.
@@ -91,7 +127,7 @@ impl Roots {
         self.slots[g.index() as usize] = v;
     }
 
-    /// Registers and gray slots hold their cells where these have gone. What waits is as it was.
+    /// Registers, pinned roots and gray slots hold their cells where these have gone. What waits is as it was.
     pub fn forward(&mut self, moves: &Moves)
         ensures { self.new ≡ record self.old {
           regs = map (option_map (moved moves.now)) self.old.regs;
@@ -99,6 +135,7 @@ impl Roots {
         } }
     {
         forward_all(&mut self.regs, moves);
+        forward_pinned(&mut self.pinned, moves);
         forward_all(&mut self.slots, moves);
     }
 
@@ -139,6 +176,13 @@ impl Roots {
         clear_waiting(&mut self.buffers, &mut self.waiting);
     }
 
+    /// How many places wait, for all zones together.
+    pub fn waiting_count(&self) -> usize
+        ensures { result ≡ waiting_count self.now }
+    {
+        count_waiting(&self.buffers)
+    }
+
     /// The zones whose buffers hold something.
     pub fn waiting(&self) -> ZoneSet
         ensures waiting { (z : ℕ) → HasZone result.bits z ↔ (buffer_of self.now z ≢ []) }
@@ -155,6 +199,17 @@ fn forward_all(held: &mut [Option<Place>], moves: &Moves)
 {
     for place in held.iter_mut() {
         *place = forwarded(*place, moves);
+    }
+}
+
+// What is pinned is pinned where it has gone.
+fn forward_pinned(pinned: &mut Slab<Place>, moves: &Moves)
+    ensures { pinned.new.slots ≡ map (option_map (moved moves.now)) pinned.old.slots }
+{
+    for root in 0..pinned.capacity() {
+        if let Some(place) = pinned.get_mut(root) {
+            *place = moves.moved_to(*place);
+        }
     }
 }
 

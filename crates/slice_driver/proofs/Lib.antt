@@ -12,4 +12,5 @@ pub mod commanding
 pub mod resetting
 pub mod dumping
 pub mod packing
+pub mod pinning
 pub mod Sent

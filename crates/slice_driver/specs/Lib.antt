@@ -39,3 +39,5 @@ pub mod Told
 pub mod WeakCommands
 pub mod WeakCalls
 pub mod Compacting
+pub mod Pins
+pub mod Bounds

@@ -1,5 +1,5 @@
 -- Roots are marked as a collection begins.
-use Rattle.std.specs.Prelude.{◌≡◌, ◌⊎◌, ◌↔◌, ◌<◌, ℕ, length, Some, None, Contains, slice_get}
+use Rattle.std.specs.Prelude.{◌≡◌, ◌⊎◌, ◌↔◌, ◌<◌, ℕ, length, Some, None, Contains, slice_index_or}
 use Rattle.gz_names.specs.Zones.{HasZone}
 use Rattle.gz_names.specs.declared.numbers.Place.{Place}
 use Rattle.gz_names.specs.declared.zone_sets.ZoneSet.{ZoneSet}
@@ -39,9 +39,9 @@ pub record IsReady (h : HeapState) (p : Piles) : Type 0 where
   pub kept : (a : ℕ) → out_of h.shape a ≡ None
   pub piled : (x : Place) → Contains p.black x → IsBlack h x
 
--- one of the first registers holds a cell
+-- one of the first registers, of which those behind the sixteenth are pinned roots, holds a cell
 abbrev pub IsHeldBefore : Shape → ℕ → Place → Type 0
-IsHeldBefore s n x = (i : ℕ) × (i < n) × (slice_get s.regs i ≡ Some (Some x))
+IsHeldBefore s n x = (i : ℕ) × (i < n) × (slice_index_or s.regs i None ≡ Some x)
 
 -- a wrapper of a zone's list has this colour, and leads to a cell
 pub record LeadsAt (c : Colour) (h : HeapState) (zone i : ℕ) (u x : Place) : Type 0 where

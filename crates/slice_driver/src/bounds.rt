@@ -1,15 +1,36 @@
 // What bounds the work of a collection.
-ghost use Rattle.std.specs.Prelude.{◌<◌, ◌≤◌, ◌^◌, ℕ, Option, length, sum_by};
+ghost use Rattle.std.specs.Prelude.{◌≡◌, ◌<◌, ◌≤◌, ◌+◌, ◌^◌, ◌↔◌, ℕ, None, Option, length, sum_by};
 ghost use Rattle.cell_bits.specs.declared.bits.Bits.{Bits};
 ghost use Rattle.weak_maps.specs.WeakMaps.{AreParallel, IsSound as AreEntries};
 ghost use Rattle.heap_core.specs.Heap.{weak_of};
+ghost use Rattle.slice_driver.specs.Bounds.{grouping_bound, marking_bound, preparing_bound, units_bound};
 ghost use Rattle.slice_driver.specs.GrayRoots.{HasFewWrappers};
 ghost use Rattle.slice_driver.specs.Left.{units_left};
 ghost use Rattle.slice_driver.specs.Units.{IsSound};
 
-use crate::collector::Collector;
+use crate::collector::{Collector, Phase, Uncleared};
+use heap_core::Heap;
 
 impl Collector {
+    /// How many units the collection that runs may still take at most, if no command comes between: a bound by how much
+    /// the heap holds and what is buffered, and not by what marking has found. It is 0 exactly where none runs.
+    pub fn units_left(&self) -> u64
+        ensures bound { (flown : ℕ → Option Bits) → IsSound self.now flown
+            → units_left self.now flown ≤ result }
+        ensures value { result ≡ units_bound self.now }
+        ensures none { (result ≡ 0) ↔ (self.now.run ≡ None) }
+    {
+        self.wrappers_law();
+        self.entries_law();
+        self.sizes_law();
+        match self.phase {
+            Phase::Idle => 0,
+            Phase::Preparing { uncleared, .. } => preparing_units(&self.heap, uncleared),
+            Phase::Grouping { .. } => marking_units(&self.heap) + grouping_units(&self.heap),
+            Phase::Grouped { .. } => marking_units(&self.heap),
+        }
+    }
+
     /// Fewer units are left of a collection than a `u64` counts. It does nothing.
     pub fn units_law(&self)
         ensures { (flown : ℕ → Option Bits) → IsSound self.now flown
@@ -50,4 +71,32 @@ impl Collector {
         self.heap.zones();
         self.heap.entries();
     }
+}
+
+// While a collection is being prepared: what is still to be cleared, and all that may come after it.
+fn preparing_units(heap: &Heap, uncleared: Uncleared) -> u64
+    ensures { result ≡ preparing_bound heap.now uncleared }
+{
+    let uncleared = u64::from(uncleared.end.saturating_sub(uncleared.from));
+    let arenas = u64::from(heap.arenas());
+    uncleared + 449 * arenas + 6 * heap.entries() + 4 * u64::from(heap.zones()) + 65
+}
+
+// From the beginning of marking on.
+fn marking_units(heap: &Heap) -> u64
+    ensures value { result ≡ marking_bound heap.now }
+    ensures few { result < 2 ^ 63 + 2 ^ 62 }
+{
+    heap.waiting();
+    let arenas = u64::from(heap.arenas());
+    let buffered = heap.waiting_count() as u64;
+    257 * arenas + 10 * heap.entries() + buffered + 2 * u64::from(heap.zones()) + 1
+}
+
+// Till the groups are formed.
+fn grouping_units(heap: &Heap) -> u64
+    ensures value { result ≡ grouping_bound heap.now }
+    ensures few { result < 2 ^ 62 }
+{
+    64 * u64::from(heap.arenas()) + 64
 }

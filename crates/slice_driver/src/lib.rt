@@ -30,6 +30,13 @@
 // after the other, and `dump` lists the present cells with their colours, their edges and the weak entries. `begin`
 // begins a collection: its zones are being prepared from then on.
 //
+// `pin` has a pinned root hold what a register holds, `load` has a register hold what a pinned root holds, and `unpin`
+// empties one. In every definition a pinned root is a register behind the sixteenth: a black root as marking begins,
+// and black from then on. No barrier is needed, since what a register holds is black, or of a zone that is being
+// prepared, whose marking begins with what registers and pinned roots hold. Were a pinned root left out then, its cell
+// would be freed while the one who pinned it holds its number. The language does not name pinned roots, so a replay has
+// none.
+//
 // A collection goes on unit by unit, and each unit does the first of these steps that has work. They stand in
 // `advance` and `advance_one`, and those that report nothing in `quiet_units`, which does any number of them:
 // each leaves the world as it is, so one definition tells of all, and no report is built for them.
@@ -66,6 +73,7 @@ mod listings;
 mod marking_steps;
 mod name_keys;
 mod next_gray;
+mod pinned;
 mod preparing;
 mod present;
 mod quiet_units;
@@ -80,4 +88,5 @@ pub use collector::{Collector, Phase, Uncleared};
 pub use compact::Compacted;
 pub use compacting::CompactFault;
 pub use laws::zones_made_law;
+pub use pinned::NotPinned;
 pub use session::{Session, SessionFault, SessionReply, SessionReport, SessionStep, refusal_words};

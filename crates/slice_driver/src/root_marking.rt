@@ -2,7 +2,7 @@
 ghost use Rattle.std.specs.Prelude.{◌≡◌, ◌<◌, None, Some, Contains, IfNone, IfSome, IsTrue, length, slice_get};
 ghost use Rattle.gz_names.specs.Zones.{HasZone};
 ghost use Rattle.heap_core.specs.Shape.{IsPresent, field_at};
-ghost use Rattle.heap_core.specs.Heap.{without_delayed};
+ghost use Rattle.heap_core.specs.Heap.{reg_of, without_delayed};
 ghost use Rattle.zone_edges.specs.Looks.{AreWrappers, IsWrapperIn};
 ghost use Rattle.barriers.specs.Pending.{pending};
 ghost use Rattle.barriers.specs.Colours.{IsBlack};
@@ -16,7 +16,7 @@ use heap_core::{Heap, Steps};
 use mark_stack::{Pile, Stack};
 use std::sync::ledger::Ledger;
 
-/// Marks the cells of these zones that registers hold.
+/// Marks the cells of these zones that registers and pinned roots hold.
 pub(crate) fn mark_registers(heap: &mut Heap, stack: &mut Stack, zones: ZoneSet)
     requires ready { IsReady (without_delayed heap.old) (pending heap.old stack.old) }
     requires held { (x : _) → Contains heap.old.shape.regs (Some x) → IsPresent heap.old.shape x }
@@ -26,6 +26,11 @@ pub(crate) fn mark_registers(heap: &mut Heap, stack: &mut Stack, zones: ZoneSet)
 {
     for index in 0..16u8 {
         if let Some(place) = held_in(heap, index) {
+            mark_root(heap, stack, zones, place);
+        }
+    }
+    for root in 0..heap.pinned_end() {
+        if let Some(place) = heap.pinned(root) {
             mark_root(heap, stack, zones, place);
         }
     }
@@ -93,8 +98,7 @@ fn outsider_at(zones: ZoneSet, index: u8) -> Option<ZoneNo>
 // What a register holds.
 fn held_in(heap: &Heap, index: u8) -> Option<Place>
     requires { index < 16 }
-    ensures held { slice_get heap.now.shape.regs index ≡ Some result }
-    ensures count { length heap.now.shape.regs ≡ 16 }
+    ensures { result ≡ reg_of heap.now index }
 {
     match Reg::new(index) {
         Some(reg) => heap.reg(reg),

@@ -22,6 +22,7 @@ ghost use Rattle.sweeping.specs.ArenasOut.{flown_by};
 mod calls;
 mod counts;
 mod faults;
+mod pinned;
 mod told;
 mod weak_names;
 

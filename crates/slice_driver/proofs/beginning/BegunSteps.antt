@@ -540,7 +540,7 @@ module _ (c : CollectorState) (zones : ZoneSet) (l : HeapState) (r : Piles) (at 
         cleared = start_to_come c flown known start;
         within = λ w p ok rep is. within_begun c started flown w p zones
             (starting_in c zones start zones_are flown w rep) ok is (begun_marking k2 on) small sound apart fresh.are
-            fresh.start refl;
+            refl;
       };
       left = less_left flown known;
       run_is = refl;
@@ -554,7 +554,7 @@ module _ (c : CollectorState) (zones : ZoneSet) (l : HeapState) (r : Piles) (at 
             let preparing = starting_in c zones start zones_are flown known.world known.represents in
             let phase = phase_of c flown known.world zones preparing in
             let less = less_begun c started flown known.world phase.preparation zones preparing known.valid
-            phase.preparing_is (begun_marking k2 on) small sound apart fresh.are fresh.start refl in
+            phase.preparing_is (begun_marking k2 on) small sound apart fresh.are refl in
             let left = ap (marking_left c.heap.shape) start.run_is
             ∙ ap (starting_left c.heap.shape) start.clearing in
             omega (arith, less, left)

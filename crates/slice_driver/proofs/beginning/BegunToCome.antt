@@ -26,7 +26,6 @@ use Rattle.colour_defs.proofs.ZoneSets.{zones_in-has}
 use Rattle.heap_core.specs.Shape.{Shape, is_marking, is_marking_state, name_at, state_in, zone_of}
 use Rattle.heap_core.specs.Heap.{HeapState}
 use Rattle.barriers.specs.LeftOut.{PreparingInvariant}
-use Rattle.zone_edges.specs.Looks.{cursor_of}
 use Rattle.slice_driver.specs.Begins.{BeginsMarking}
 use Rattle.slice_driver.specs.Collector.{CollectorState, heap_with}
 use Rattle.slice_driver.specs.ListedWrappers.{is_outside, listed_below}
@@ -61,7 +60,7 @@ module _ (c d : CollectorState) (flown : ℕ → Option Bits) (w : World) (p : P
     (at : IsPreparingIn c flown w zones) (ok : IsValid w) (was : w.preparing ≡ Some p)
     (b : BeginsMarking c.heap zones d.heap d.stack d.lists) (small : (z : ℕ) → bit_at zones.bits z ≡ 1 → z < 64)
     (sound : AreEntries c.heap.shape.weak) (apart : AreApart c.heap.shape.wrappers.lists) (are : d.edges.zones ≡ zones)
-    (start : (z : ℕ) → cursor_of d.edges z ≡ 0) (run : d.run ≡ Some (run_begun zones)) where
+    (run : d.run ≡ Some (run_begun zones)) where
   -- the preparation is of these zones
   abbrev of_zones : Preparation
   of_zones = record p { zones = zones_in zones }
@@ -207,7 +206,7 @@ module _ (c d : CollectorState) (flown : ℕ → Option Bits) (w : World) (p : P
   grouping : grouping_left d.heap.shape d.edges d.run ≤ tally.wrappers + tally.zones
   grouping =
       let is = ap (grouping_left d.heap.shape d.edges) run in
-      let looks = left_listed d.heap.shape d.edges start 64 in
+      let looks = left_listed d.heap.shape d.edges 64 in
       let inside : listed_below d.heap.shape (in_zones d.edges.zones.bits) 64
       ≡ listed_below c.heap.shape (in_zones zones.bits) 64 =
       ap (λ (y : ZoneSet). listed_below d.heap.shape (in_zones y.bits) 64) are
@@ -284,7 +283,7 @@ module _ (c d : CollectorState) (flown : ℕ → Option Bits) (w : World) (p : P
       ≤ length (present_places d.heap.shape) + length (zones_in zones)
   grouping_most =
       let is = ap (grouping_left d.heap.shape d.edges) run in
-      let looks = left_listed d.heap.shape d.edges start 64 in
+      let looks = left_listed d.heap.shape d.edges 64 in
       let inside : listed_below d.heap.shape (in_zones d.edges.zones.bits) 64
       ≡ listed_below c.heap.shape (in_zones d.edges.zones.bits) 64 =
       listed_same d.heap.shape c.heap.shape (in_zones d.edges.zones.bits)

@@ -1,16 +1,17 @@
 -- Roots marked one after another.
 use Rattle.std.proofs.Common.{◌≡◌, ◌≢◌, ◌⊎◌, ◌↔◌, ◌<◌, ◌+◌, ℕ, length, length-set, Option}
 use Rattle.std.proofs.Common.{Some, None, refl, sym, ap, subst, ◌∙◌, inl, inr, arith, Contains, option_map, slice_get}
+use Rattle.std.proofs.Common.{◌≤◌, slice_index_or}
 use Rattle.std.proofs.Common.{slice_set}
 use Rattle.std.proofs.lemmas.Bool.{cases_lt}
 use Rattle.std.proofs.lemmas.Bool.Decides.{eqb_tells}
-use Rattle.std.proofs.lemmas.Option.{slice_get-get_or, slice_get_within}
+use Rattle.std.proofs.lemmas.Option.{get_or_from_slice_get, slice_get-get_or, slice_get_within}
 use Rattle.gz_names.specs.Zones.{HasZone}
 use Rattle.gz_names.specs.declared.numbers.Place.{Place}
 use Rattle.gz_names.specs.declared.zone_sets.ZoneSet.{ZoneSet}
 use Rattle.cell_bits.specs.declared.bits.Bits.{Bits}
 use Rattle.gray_lists.proofs.Reading.{slice_get-set_same, slice_get-set_other}
-use Rattle.colour_defs.proofs.Lists.{contains_at}
+use Rattle.colour_defs.proofs.Lists.{get_contains}
 use Rattle.wrappers.proofs.Finding.{slice_get-read}
 use Rattle.wrappers.specs.WrapperMaps.{list_of}
 use Rattle.wrappers.specs.declared.wrapper_maps.WrapperKey.{WrapperKey}
@@ -222,43 +223,54 @@ marks_black h p x zones k q within (inr (t, more)) =
 pub before_or_last : (j i : ℕ) → j < i + 1 → (j < i) ⊎ (j ≡ i)
 before_or_last j i lt = elim (cases_lt j i) [ inl less ↦ inl less | inr ge ↦ inr (omega (arith, lt, ge)) ]
 
--- registers, one after another
+-- registers and pinned roots, one after another
 module _ (h : HeapState) (zones : ZoneSet) (p : Piles) where
   pub held_first : Marks (IsHeldBefore h.shape 0) zones h p h p
   held_first = marks_still (IsHeldBefore h.shape 0) zones h p (λ x held w. absurd (omega (arith, held.1)))
 
   pub held_step : (i : ℕ) (x : Place) (k : HeapState) (q : Piles) (l : HeapState) (r : Piles)
-      → slice_get h.shape.regs i ≡ Some (Some x) → Marks (IsHeldBefore h.shape i) zones h p k q
+      → slice_index_or h.shape.regs i None ≡ Some x → Marks (IsHeldBefore h.shape i) zones h p k q
       → Marks (λ y. y ≡ x) zones k q l r → Marks (IsHeldBefore h.shape (i + 1)) zones h p l r
   held_step i x k q l r at m n = marks_same (λ y. IsHeldBefore h.shape i y ⊎ (y ≡ x)) (IsHeldBefore h.shape (i + 1))
       zones h p l r (λ y w. (
         (λ o. elim o [
           | inl held ↦ (held.0, omega (arith, held.1), held.2)
-          | inr e ↦ (i, omega arith, at ∙ ap (λ (z : Place). Some (Some z)) (sym e))
+          | inr e ↦ (i, omega arith, at ∙ ap (λ (z : Place). Some z) (sym e))
         ]),
         λ held. elim (before_or_last held.0 i held.1) [
           | inl less ↦ inl (held.0, less, held.2)
-          | inr e ↦ inr (some_one y x (some_one _ _ (sym held.2 ∙ (ap (slice_get h.shape.regs) e ∙ at))))
+          | inr e ↦ inr (some_one y x (sym held.2 ∙ (ap (λ (j : ℕ). slice_index_or h.shape.regs j None) e ∙ at)))
         ],
       )) (marks_then (IsHeldBefore h.shape i) (λ y. y ≡ x) zones h p k q l r m n)
 
-  pub held_skip : (i : ℕ) (k : HeapState) (q : Piles) → slice_get h.shape.regs i ≡ Some None
+  pub held_skip : (i : ℕ) (k : HeapState) (q : Piles) → slice_index_or h.shape.regs i None ≡ None
       → Marks (IsHeldBefore h.shape i) zones h p k q → Marks (IsHeldBefore h.shape (i + 1)) zones h p k q
   held_skip i k q at m = marks_same (IsHeldBefore h.shape i) (IsHeldBefore h.shape (i + 1)) zones h p k q (λ y w. (
     (λ held. (held.0, omega (arith, held.1), held.2)),
     λ held. elim (before_or_last held.0 i held.1) [
       | inl less ↦ (held.0, less, held.2)
-      | inr e ↦ absurd (let same : Some y ≡ None = some_one _ _ (sym held.2 ∙ (ap (slice_get h.shape.regs) e ∙ at)) in
+      | inr e ↦ absurd (
+          let same : Some y ≡ None =
+          sym held.2 ∙ (ap (λ (j : ℕ). slice_index_or h.shape.regs j None) e ∙ at) in
           cc same)
     ],
   )) m
 
-  pub held_all : (n : ℕ) (k : HeapState) (q : Piles) → length h.shape.regs ≡ n
+  -- from a number on none holds a cell
+  pub held_all : (n : ℕ) (k : HeapState) (q : Piles)
+      → ((i : ℕ) → n ≤ i → slice_index_or h.shape.regs i None ≡ None)
       → Marks (IsHeldBefore h.shape n) zones h p k q → Marks (λ x. Contains h.shape.regs (Some x)) zones h p k q
-  held_all n k q count m = marks_same (IsHeldBefore h.shape n) (λ x. Contains h.shape.regs (Some x)) zones h p k q
+  held_all n k q none m = marks_same (IsHeldBefore h.shape n) (λ x. Contains h.shape.regs (Some x)) zones h p k q
       (λ y w. (
-        (λ held. contains_at h.shape.regs held.0 (Some y) held.2),
-        λ c. (c.0, omega (arith, c.1, count), slice_get-read h.shape.regs c.0 (Some y) (Some y) c.1 c.2),
+        (λ held. get_contains h.shape.regs held.0 y held.2),
+        λ c.
+            let at : slice_index_or h.shape.regs c.0 None ≡ Some y =
+            get_or_from_slice_get h.shape.regs c.0 (Some y) None
+            (slice_get-read h.shape.regs c.0 (Some y) (Some y) c.1 c.2) in
+            elim (cases_lt c.0 n) [
+              | inl less ↦ (c.0, less, at)
+              | inr ge ↦ absurd (let past = none c.0 ge in cc (past, at))
+            ],
       )) m
 
 -- a list that has no element at a number is no longer

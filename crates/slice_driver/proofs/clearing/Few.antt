@@ -15,7 +15,7 @@ use Rattle.slice_driver.specs.Units.{IsSound}
 use Rattle.slice_driver.proofs.measure.FewUnits.{few_arenas, few_marking}
 use Rattle.slice_driver.proofs.clearing.ToCome.{to_come_is}
 
-few_owned : (s : Shape) (word from n : ℕ) → owned_from s word from n ≤ n
+pub few_owned : (s : Shape) (word from n : ℕ) → owned_from s word from n ≤ n
 unfolding owned_from
 few_owned s word from zero = omega arith
 few_owned s word from (suc n) =

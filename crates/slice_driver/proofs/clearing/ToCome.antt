@@ -9,7 +9,10 @@ use Rattle.zones.specs.declared.states.State.{State}
 use Rattle.zones.specs.declared.states.State.TheVariants as state
 use Rattle.weak_maps.specs.declared.entries.WeakEntry.{WeakEntry}
 use Rattle.colour_defs.specs.World.{World}
-use Rattle.heap_core.specs.Shape.{Shape, is_owned, name_at, state_in, state_of, state_or, zone_of}
+use Rattle.gray_lists.specs.Incoming.{Incoming, list_of as waiting_for}
+use Rattle.mark_stack.specs.Stack.{Piles}
+use Rattle.barriers.specs.PendingLive.{buffer_of}
+use Rattle.heap_core.specs.Shape.{Shape, is_marking_state, is_owned, name_at, state_in, state_of, state_or, zone_of}
 use Rattle.heap_core.specs.Heap.{HeapState, colour_of}
 use Rattle.barriers.specs.Scans.{black_scans, black_turns, gray_scans}
 use Rattle.zone_edges.specs.Looks.{left_to_look}
@@ -17,7 +20,7 @@ use Rattle.marker.specs.UnitsToCome.{is_black_only, map_starts, row_starts, scan
 use Rattle.slice_driver.specs.Collector.{CollectorState, heap_with}
 use Rattle.slice_driver.specs.Remaining.{clearing_left, grouping_left, owned_from, steps_left, steps_of}
 use Rattle.slice_driver.specs.Remaining.{ungrouped_below}
-use Rattle.slice_driver.specs.Represents.{RepresentsPreparing}
+use Rattle.slice_driver.specs.Represents.{NothingLeft, RepresentsPreparing}
 use Rattle.slice_driver.specs.UnitsToCome.{is_wrapper_named, marking_to_come, notes, present_places, units_to_come}
 use Rattle.slice_driver.proofs.abstraction.Waits.{none_waiting}
 use Rattle.slice_driver.proofs.measure.FewUnits.{none_buffered}
@@ -78,55 +81,82 @@ either : (p q : Bool) → q ≡ true → (p || q) ≡ true
 either true q e = refl
 either false q e = e
 
-module _ (c : CollectorState) (flown : ℕ → Option Bits) (w : World) (rep : RepresentsPreparing c flown w) where
-  abbrev h : HeapState
-  h = heap_with c flown
+-- no zone is marking, and nothing waits for one
+pub record NothingMarks (h : HeapState) (lists : Incoming) : Type 0 where
+  pub off : (z : ℕ) → is_marking_state (state_in h.shape z) ≡ false
+  pub looks : NothingLeft h.looks
+  pub buffered : (z : ℕ) → buffer_of h z ≡ []
+  pub incoming : (n : ℕ) → waiting_for lists n ≡ []
 
-  -- a zone is in no collection, or is being prepared
-  state_is : (z : ℕ) → (state_in c.heap.shape z ≡ state.NoGC) ⊎ (state_in c.heap.shape z ≡ state.Prepare)
-  state_is z = elim (has_zone_or_not rep.run.zones.bits z) [
-    | inl has ↦ inr (rep.phase.inside z has)
-    | inr out ↦ inl (rep.phase.outside z out)
-  ]
+not_black_only : (s : State) → is_marking_state s ≡ false → is_black_only s ≡ false
+not_black_only state.NoGC off = refl
+not_black_only state.Prepare off = refl
+not_black_only state.MarkBlackOnly off = absurd (cc off)
+not_black_only state.MarkBlackAndGray off = absurd (cc off)
+not_black_only state.Sweep off = refl
+not_black_only state.Finished off = refl
 
-  no_scans : (x : Place) → scans h c.stack x ≡ 0
-  no_scans x = ap (λ (b : Bool). if b then black_scans h c.stack x
-      + gray_scans h c.stack x else 0)
-      (rep.cleared.invariant.holds.colours.none_marking x)
+no_step : (s : State) → is_marking_state s ≡ false → steps_of s ≡ 0
+no_step state.NoGC off = refl
+no_step state.Prepare off = refl
+no_step state.MarkBlackOnly off = absurd (cc off)
+no_step state.MarkBlackAndGray off = absurd (cc off)
+no_step state.Sweep off = refl
+no_step state.Finished off = refl
 
-  not_black_only : (x : Place) → is_black_only (state_of c.heap.shape x) ≡ false
-  not_black_only x = elim (state_is (zone_of c.heap.shape x))
-      [ inl e ↦ ap is_black_only e | inr e ↦ ap is_black_only e ]
+-- so no unit of marking is to come, and no step
+module _ (h : HeapState) (p : Piles) (lists : Incoming) (none : NothingMarks h lists) where
+  no_scans : (x : Place) → scans h p x ≡ 0
+  no_scans x = ap (λ (b : Bool). if b then black_scans h p x + gray_scans h p x else 0)
+      (none.off (zone_of h.shape x))
 
-  no_map_starts : (x : Place) → map_starts h c.stack x ≡ 0
+  no_map_starts : (x : Place) → map_starts h p x ≡ 0
   no_map_starts x =
-      let none = no_scans x in
+      let scanned = no_scans x in
       let more = ap (λ (b : Bool). if b then 1 - black_turns (colour_of h x) else 0)
-      (not_black_only x) in
-      omega (arith, none, more)
+      (not_black_only (state_of h.shape x) (none.off (zone_of h.shape x))) in
+      omega (arith, scanned, more)
 
-  no_starts : (e : WeakEntry) → starts_of h c.stack e ≡ 0
+  no_starts : (e : WeakEntry) → starts_of h p e ≡ 0
   no_starts e =
       let map = no_map_starts e.map in
       let key = no_scans e.key in
       omega (arith, map, key)
 
-  no_notes : (x : Place) → notes h c.stack x ≡ 0
-  no_notes x = ap (λ (b : Bool). if b && is_wrapper_named (name_at c.heap.shape x)
-      then gray_scans h c.stack x else 0)
-      (rep.cleared.invariant.holds.colours.none_marking x)
+  no_notes : (x : Place) → notes h p x ≡ 0
+  no_notes x = ap (λ (b : Bool). if b && is_wrapper_named (name_at h.shape x) then gray_scans h p x else 0)
+      (none.off (zone_of h.shape x))
 
-  pub none_marking : marking_to_come h c.stack c.lists ≡ 0
+  pub none_marking : marking_to_come h p lists ≡ 0
   unfolding units_at
   none_marking =
-      let cells = sum_none (scans h c.stack) (present_places h.shape) no_scans in
-      let entries = sum_none (starts_of h c.stack) h.shape.weak.entries no_starts in
-      let rows = sum_none (row_starts h c.stack) h.shape.weak.delegates.rows (λ row. no_scans row.target) in
-      let noted = sum_none (notes h c.stack) (present_places h.shape) no_notes in
-      let looks = none_now c.heap.looks rep.cleared.waits.looks.0 rep.cleared.waits.looks.1 in
-      let lists = none_waiting c.lists rep.cleared.waits.incoming in
-      let buffers = none_buffered c.heap.buffers rep.cleared.waits.buffered in
-      omega (arith, cells, entries, rows, noted, looks, lists, buffers)
+      let cells = sum_none (scans h p) (present_places h.shape) no_scans in
+      let entries = sum_none (starts_of h p) h.shape.weak.entries no_starts in
+      let rows = sum_none (row_starts h p) h.shape.weak.delegates.rows (λ row. no_scans row.target) in
+      let noted = sum_none (notes h p) (present_places h.shape) no_notes in
+      let looks = none_now h.looks none.looks.0 none.looks.1 in
+      let waiting = none_waiting lists none.incoming in
+      let buffers = none_buffered h.buffers none.buffered in
+      omega (arith, cells, entries, rows, noted, looks, waiting, buffers)
+
+  pub none_steps : steps_left h.shape.states ≡ 0
+  none_steps = no_steps h.shape.states (λ z. no_step (state_in h.shape z) (none.off z))
+
+module _ (c : CollectorState) (flown : ℕ → Option Bits) (w : World) (rep : RepresentsPreparing c flown w) where
+  abbrev h : HeapState
+  h = heap_with c flown
+
+  -- a zone is in no collection, or is being prepared
+  nothing_marks : NothingMarks h c.lists
+  nothing_marks = record {
+    off = λ z. elim (has_zone_or_not rep.run.zones.bits z) [
+      | inl has ↦ ap is_marking_state (rep.phase.inside z has)
+      | inr out ↦ ap is_marking_state (rep.phase.outside z out)
+    ];
+    looks = rep.cleared.waits.looks;
+    buffered = rep.cleared.waits.buffered;
+    incoming = rep.cleared.waits.incoming;
+  }
 
   none_grouping : grouping_left c.heap.shape c.edges c.run ≡ 0
   none_grouping = ap (grouping_left c.heap.shape c.edges) rep.run_is
@@ -134,14 +164,11 @@ module _ (c : CollectorState) (flown : ℕ → Option Bits) (w : World) (rep : R
       + ungrouped_below c.edges 64)
       (either rep.run.formed (is_some rep.run.clearing) (ap is_some rep.clearing))
 
-  none_steps : steps_left c.heap.shape.states ≡ 0
-  none_steps = no_steps c.heap.shape.states (λ z. elim (state_is z) [ inl e ↦ ap steps_of e | inr e ↦ ap steps_of e ])
-
   -- what is to come is what is still to be cleared
   pub to_come_is : units_to_come c flown ≡ clearing_left c.heap.shape c.run
   unfolding units_to_come
   to_come_is =
-      let marking = none_marking in
+      let marking = none_marking h c.stack c.lists nothing_marks in
       let grouping = none_grouping in
-      let steps = none_steps in
+      let steps = none_steps h c.stack c.lists nothing_marks in
       omega (arith, marking, grouping, steps)

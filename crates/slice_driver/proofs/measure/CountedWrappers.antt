@@ -191,13 +191,12 @@ module _ (h : HeapState) (w : World) (lies : LiesIn h w) (apart : AreApart h.sha
       let same = listed_length n in
       omega (arith, all, long, cells, same)
 
--- before the first look all wrappers of the zones are to be looked at
-pub left_listed : (s : Shape) (n : Noted) → ((z : ℕ) → cursor_of n z ≡ 0) → (k : ℕ)
-    → left_below s n k ≤ listed_below s (in_zones n.zones.bits) k
+-- no more than all wrappers of the zones are to be looked at
+pub left_listed : (s : Shape) (n : Noted) (k : ℕ) → left_below s n k ≤ listed_below s (in_zones n.zones.bits) k
 unfolding left_below listed_below
-left_listed s n start zero = omega arith
-left_listed s n start (suc z) =
-    let rest = left_listed s n start z in
+left_listed s n zero = omega arith
+left_listed s n (suc z) =
+    let rest = left_listed s n z in
     let here = go (bit_at n.zones.bits z) (length (list_of s.wrappers z) - cursor_of n z)
     (length (list_of s.wrappers z)) (bit_at-lt n.zones.bits z) (omega arith) in
     omega (arith, rest, here)

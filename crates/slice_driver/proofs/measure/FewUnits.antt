@@ -54,7 +54,7 @@ few_looks s n most each (suc z) =
     let few = each z in
     omega (arith, rest, here, few)
 
-few_ungrouped : (n : Noted) (k : ℕ) → ungrouped_below n k ≤ k
+pub few_ungrouped : (n : Noted) (k : ℕ) → ungrouped_below n k ≤ k
 unfolding ungrouped_below
 few_ungrouped n zero = omega arith
 few_ungrouped n (suc z) =
@@ -79,7 +79,7 @@ two_steps state.MarkBlackAndGray = omega arith
 two_steps state.Sweep = omega arith
 two_steps state.Finished = omega arith
 
-few_steps : (states : List State) → steps_left states ≤ 2 * length states
+pub few_steps : (states : List State) → steps_left states ≤ 2 * length states
 few_steps [] = omega arith
 few_steps (s ∷ states) = let here = two_steps s in let rest = few_steps states in omega (arith, here, rest)
 
@@ -210,7 +210,7 @@ few_present s =
     omega (arith, some, all)
 
 -- what is to come of marking
-few_marks : (h : HeapState) (p : Piles) (lists : Incoming) → AreScannedOnce h p → AreParallel (weak_of h)
+pub few_marks : (h : HeapState) (p : Piles) (lists : Incoming) → AreScannedOnce h p → AreParallel (weak_of h)
     → AreEntries h.shape.weak
     → marking_to_come h p lists
     ≤ 192 * length h.shape.arenas + (10 * length h.shape.weak.entries + (waiting_count lists + sum_by length h.buffers))

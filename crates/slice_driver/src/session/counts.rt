@@ -1,5 +1,7 @@
 // How much a session holds.
-ghost use Rattle.std.specs.Prelude.{◌≡◌, ◌*◌, length};
+ghost use Rattle.std.specs.Prelude.{◌≡◌, ◌≤◌, ◌*◌, ◌↔◌, None, length};
+ghost use Rattle.slice_driver.specs.Bounds.{units_bound};
+ghost use Rattle.slice_driver.specs.Left.{units_left};
 ghost use Rattle.slice_driver.specs.Present.{arena_bytes, present_in_all};
 
 use super::Session;
@@ -46,5 +48,16 @@ impl<S: Sweeper> Session<S> {
         ensures { result ≡ length self.now.collector.heap.shape.weak.entries }
     {
         self.collector.entries()
+    }
+
+    /// How many units the collection that runs may still take at most, if no command comes between. It counts what the
+    /// heap holds and what is buffered, not what marking has found, so most collections take far fewer. It is 0
+    /// exactly where none runs.
+    pub fn units_left(&self) -> u64
+        ensures bound { units_left self.now.collector (S.bits self.now.sweeper) ≤ result }
+        ensures value { result ≡ units_bound self.now.collector }
+        ensures none { (result ≡ 0) ↔ (self.now.collector.run ≡ None) }
+    {
+        self.collector.units_left()
     }
 }

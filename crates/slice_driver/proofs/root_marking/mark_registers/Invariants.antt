@@ -1,4 +1,4 @@
-use Rattle.std.proofs.Common.{◌≡◌, ◌<◌, length}
+use Rattle.std.proofs.Common.{◌≡◌, ◌<◌, ◌+◌}
 use Rattle.heap_core.specs.Heap.{without_delayed}
 use Rattle.barriers.specs.Pending.{pending}
 use Rattle.slice_driver.specs.RootMarking.{IsHeldBefore, Marks}
@@ -8,5 +8,10 @@ abbrev pub invariant-loop-index : goal.invariant-loop-index
 invariant-loop-index l = record {
   marks : Marks (IsHeldBefore l.fn.heap.shape l.index) l.zones (without_delayed l.fn.heap)
       (pending l.fn.heap l.fn.stack) (without_delayed l.heap) (pending l.heap l.stack);
-  counted : 0 < l.index → length l.fn.heap.shape.regs ≡ 16;
+}
+
+abbrev pub invariant-loop-root : goal.invariant-loop-root
+invariant-loop-root l = record {
+  marks : Marks (IsHeldBefore l.fn.heap.shape (16 + l.root)) l.zones (without_delayed l.fn.heap)
+      (pending l.fn.heap l.fn.stack) (without_delayed l.heap) (pending l.heap l.stack);
 }

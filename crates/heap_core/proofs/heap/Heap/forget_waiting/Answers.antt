@@ -1,5 +1,5 @@
 use Rattle.std.proofs.Common.{◌≡◌, ◌∙◌, [], replicate, ap, subst, sym}
-use Rattle.mark_stack.specs.Stack.{Piles, no_places}
+use Rattle.mark_stack.specs.Stack.{no_places}
 use Rattle.mark_stack.specs.declared.stack.Pile.TheVariants as pile
 use Rattle.weak_maps.specs.WeakMaps.{NoneLeft}
 use Rattle.weak_maps.specs.declared.colours.MarkColour.{MarkColour}

@@ -1,4 +1,4 @@
-use Rattle.std.proofs.Common.{◌≡◌, ap, arith, length, sum_by}
+use Rattle.std.proofs.Common.{◌≡◌, ap, arith, length, refl, sum_by}
 use Rattle.roots.specs.Buffers.{lists_of}
 use Rattle.roots.proofs.Buffering.{IsWaiting-none, length-empty}
 use Rattle.roots.proofs.roots_held.Roots.new.Goals as goal
@@ -10,4 +10,5 @@ invariant_of-result c =
       length-empty c.in_ok-buffers.buffers.items c.in_ok-buffers.ensures,
       IsWaiting-none _ c.in_ok-buffers.ensures,
       omega (arith, none),
+      refl,
     )
