@@ -12,6 +12,7 @@ static gcz_t heap = GCZ_CLOSED_HANDLE;
 static gcz_name_t name;
 static gcz_step_t step;
 static bool running;
+static uint64_t root, pinned; /* the root that a call gives, and the next one to unpin */
 
 #ifdef OWN
 uint32_t gcz_repeat(gcz_t *gcz, uint32_t which, uint64_t times);
@@ -33,18 +34,23 @@ static uint32_t get(void) { return gcz_get(&heap, 1, 0, 0, &name); }
 static uint32_t set(void) { return gcz_set(&heap, 0, 0, 2); }
 static uint32_t new(void) { return gcz_new(&heap, 1, 0, 1, &name); }
 static uint32_t refused(void) { return gcz_get(&heap, 1, 9, 0, &name); }
+static uint32_t pin(void) { return gcz_pin(&heap, 0, &root); }
+static uint32_t load(void) { return gcz_load(&heap, 1, root); }
+static uint32_t unpin(void) { return gcz_unpin(&heap, pinned++); }
 static uint32_t idle_step(void) { return gcz_advance(&heap, 1, &step); }
 
 static const struct {
     const char *word;
     uint32_t (*does)(void);
     uint32_t status;
+    uint32_t (*before)(void); /* what is done as often before */
 } calls[] = {
-    {"nothing", nothing, GCZ_DONE}, {"gcz_running", is_running, GCZ_DONE},
-    {"gcz_copy", copy, GCZ_DONE},   {"gcz_get", get, GCZ_DONE},
-    {"gcz_set", set, GCZ_DONE},     {"gcz_new", new, GCZ_DONE},
-    {"refused", refused, GCZ_EMPTY}, {"out-of-range", beyond, GCZ_BAD_REGISTER},
-    {"gcz_advance", idle_step, GCZ_DONE},
+    {"nothing", nothing, GCZ_DONE, NULL},  {"gcz_running", is_running, GCZ_DONE, NULL},
+    {"gcz_copy", copy, GCZ_DONE, NULL},    {"gcz_get", get, GCZ_DONE, NULL},
+    {"gcz_set", set, GCZ_DONE, NULL},      {"gcz_new", new, GCZ_DONE, NULL},
+    {"refused", refused, GCZ_EMPTY, NULL}, {"out-of-range", beyond, GCZ_BAD_REGISTER, NULL},
+    {"gcz_pin", pin, GCZ_DONE, NULL},      {"gcz_load", load, GCZ_DONE, NULL},
+    {"gcz_unpin", unpin, GCZ_DONE, pin},   {"gcz_advance", idle_step, GCZ_DONE, NULL},
 };
 
 static uint32_t prepare(void) {
@@ -54,6 +60,7 @@ static uint32_t prepare(void) {
     status |= gcz_new(&heap, 0, 0, 1, &name);
     status |= gcz_new(&heap, 2, 0, 1, &name);
     status |= gcz_set(&heap, 0, 0, 2);
+    status |= pin();
     return status;
 }
 
@@ -66,7 +73,11 @@ int main(int count, char **words) {
 #ifdef OWN
         return gcz_repeat(&heap, which_of(words[1]), strtoull(words[2], NULL, 10)) != GCZ_DONE;
 #endif
-        for (long left = strtol(words[2], NULL, 10); left > 0; left--)
+        long times = strtol(words[2], NULL, 10);
+        for (long left = calls[i].before ? times : 0; left > 0; left--)
+            if (calls[i].before() != GCZ_DONE)
+                return 1;
+        for (long left = times; left > 0; left--)
             if (calls[i].does() != calls[i].status)
                 return 1;
         gcz_close(&heap);

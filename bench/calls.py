@@ -6,7 +6,8 @@
 For each call: the instructions that it takes, as valgrind counts them, and the nanoseconds of processor time, of five
 runs the quickest; what the loop takes without the call is taken off. `gcz_running` does next to nothing behind the
 handle, so it shows what the handle costs; `refused` is a `gcz_get` from an empty register, `out-of-range` a `gcz_copy`
-to register 16, and `gcz_advance` is one where no collection runs. `over` is what a call takes more than the session's
+to register 16, and `gcz_advance` is one where no collection runs. Before each `gcz_unpin` stands a `gcz_pin`, which is
+taken off, too. `over` is what a call takes more than the session's
 own: the same command of `Session`, done by a loop in Rattle. For that the library is built once more, from a copy of
 the sources in which gczone_c has that loop as an export, so it takes two minutes longer; both builds are without proof
 then. Last, a line that is written to `gczone run` and whose answer is read, in microseconds of wall time. Say nothing
@@ -30,7 +31,9 @@ from progress import Progress  # noqa: E402
 from speed import TOP, count_instructions, find_program, print_head, print_row, require  # noqa: E402
 
 BINDINGS = TOP / "bindings/c"
-CALLS = ["gcz_running", "out-of-range", "refused", "gcz_copy", "gcz_get", "gcz_set", "gcz_new", "gcz_advance"]
+CALLS = ["gcz_running", "out-of-range", "refused", "gcz_copy", "gcz_get", "gcz_set", "gcz_new", "gcz_pin", "gcz_load"]
+CALLS += ["gcz_unpin", "gcz_advance"]
+BEFORE = {"gcz_unpin": "gcz_pin"}
 OWN = ["refused", "gcz_copy", "gcz_get", "gcz_set", "gcz_new"]
 COUNTED, TIMED, LINES, TRIES, LIMIT = 20_000, 2_000_000, 20_000, 5, 120
 
@@ -186,10 +189,12 @@ def main():
         calls = build(words.library, Path(folder))
         empty = instructions(calls, "nothing"), nanoseconds(calls, "nothing")
         over = Over(Path(folder))
-        rows = [
-            (call, instructions(calls, call) - empty[0], nanoseconds(calls, call) - empty[1], over.measure(call, empty))
-            for call in measured.over(CALLS)
-        ]
+        rows = []
+        for call in measured.over(CALLS):
+            before = BEFORE.get(call, "nothing")
+            counted = instructions(calls, call) - instructions(calls, before)
+            timed = nanoseconds(calls, call) - nanoseconds(calls, before)
+            rows.append((call, counted, timed, over.measure(call, empty)))
         trip = min(round_trip(program) for _ in range(TRIES))
     print_head("call", "instructions", "ns", "over: instructions", "over: ns")
     for call, count, time_taken, more in rows:

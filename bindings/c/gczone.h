@@ -74,7 +74,8 @@ enum gcz_status {
     GCZ_CROSS = 22,           /* two cells are of different compartments */
     GCZ_RUNNING = 24,         /* a collection runs */
     GCZ_IDLE = 25,            /* no collection runs: no call of this interface returns it */
-    GCZ_MARKING = 26          /* a zone is being prepared or marking, so colours are not settled */
+    GCZ_MARKING = 26,         /* a zone is being prepared or marking, so colours are not settled */
+    GCZ_NOT_PINNED = 27       /* no cell is pinned under this number */
 };
 
 /* What a name is of. */
@@ -184,6 +185,13 @@ GCZ_CALL uint32_t gcz_deref(gcz_t *gcz, uint32_t reg, uint32_t slot, gcz_name_t 
 GCZ_CALL uint32_t gcz_watch(gcz_t *gcz, uint32_t reg);
 GCZ_CALL uint32_t gcz_unwatch(gcz_t *gcz, uint32_t reg);
 
+/* Pinned roots: black roots beside the registers, as many as there is memory for, by numbers that gcz_pin gives. A new
+ * one holds what a register holds; a register holds what one holds; one holds nothing any more, and its number may be
+ * given again. Only gcz_pin takes memory. Also between two steps. */
+GCZ_CALL uint32_t gcz_pin(gcz_t *gcz, uint32_t reg, uint64_t *root);
+GCZ_CALL uint32_t gcz_load(gcz_t *gcz, uint32_t reg, uint64_t root);
+GCZ_CALL uint32_t gcz_unpin(gcz_t *gcz, uint64_t root);
+
 /* Moves the cells of a zone together, while no collection runs, and gives up the arenas that this empties. */
 GCZ_CALL uint32_t gcz_compact(gcz_t *gcz, uint32_t zone, gcz_compacted_t *done);
 
@@ -194,6 +202,9 @@ GCZ_CALL uint32_t gcz_running(gcz_t *gcz, bool *running);
 
 /* Gives the collection up, step by step: each takes in an arena that is out, and the last one does the rest. */
 GCZ_CALL uint32_t gcz_reset(gcz_t *gcz, gcz_step_t *done);
+
+/* A bound on the units that the collection that runs may still take while no command comes; 0 exactly when none runs. */
+GCZ_CALL uint32_t gcz_units_left(gcz_t *gcz, uint64_t *units);
 
 /* How many cells, objects and maps, weak entries, bytes and arenas there are. */
 GCZ_CALL uint32_t gcz_counts(gcz_t *gcz, gcz_counts_t *counts);

@@ -9,9 +9,10 @@
         for event in heap.collect([zone]):
             print(event)
 
-A register, 0 to 15, is a black root, and a gray slot, 0 to 63, a gray one. A name is the number of an object or a map,
-or a pair of a compartment and a number for a wrapper. docs/EMBEDDING.md tells what each call does. The library is
-libgczone.so in the folder that GCZONE_LIB_DIR names, or in bindings/c/out, or where the system's linker finds it.
+A register, 0 to 15, and a pinned root, whose number `pin` returns, are black roots; a gray slot, 0 to 63, is a gray
+one. A name is the number of an object or a map, or a pair of a compartment and a number for a wrapper.
+docs/EMBEDDING.md tells what each call does. The library is libgczone.so in the folder that GCZONE_LIB_DIR names, or in
+bindings/c/out, or where the system's linker finds it.
 """
 
 import ctypes
@@ -25,7 +26,7 @@ DONE, CLOSED, OPEN, NO_MEMORY, HEAP_FULL, NONE = range(6)
 BAD_REGISTER, BAD_ZONE, BAD_COMPARTMENT, BAD_SLOT = range(8, 12)
 BAD_FIELD, BAD_FIELD_COUNT, BAD_KIND, BAD_WEAK_SLOT = range(12, 16)
 FULL, NO_ZONE, NO_COMPARTMENT, EMPTY, KIND, NO_FIELD, CROSS = range(16, 23)
-RUNNING, IDLE, MARKING = range(24, 27)
+RUNNING, IDLE, MARKING, NOT_PINNED = range(24, 28)
 NOTHING, CELL, WRAPPER, ZONE, COMPARTMENT = range(5)
 NO_REPORT, GROUPS, ENDED, SWEPT, STARTED, STOPPED = range(6)
 LINE_END, LINE_CELL, LINE_EDGE, LINE_ENTRY = range(4)
@@ -97,9 +98,10 @@ _CALLS = {
     "unwrap": ([c_uint32] * 2, _Name), "hold": ([c_uint32] * 2, None), "release": ([c_uint32], None),
     "expose": ([c_uint32] * 2, _Name), "put": ([c_uint32] * 3, None), "del": ([c_uint32] * 2, None),
     "find": ([c_uint32] * 3, _Name), "weaken": ([c_uint32] * 2, None), "deref": ([c_uint32] * 2, _Name),
-    "watch": ([c_uint32], None), "unwatch": ([c_uint32], None), "compact": ([c_uint32], _Compacted),
+    "watch": ([c_uint32], None), "unwatch": ([c_uint32], None), "pin": ([c_uint32], c_uint64),
+    "load": ([c_uint32, c_uint64], None), "unpin": ([c_uint64], None), "compact": ([c_uint32], _Compacted),
     "begin": ([c_uint64], None), "advance": ([c_uint64], _Step), "reset": ([], _Step), "running": ([], c_bool),
-    "counts": ([], _Counts), "report": ([], _Report), "report_name": ([c_size_t], _Name),
+    "units_left": ([], c_uint64), "counts": ([], _Counts), "report": ([], _Report), "report_name": ([c_size_t], _Name),
     "report_lost": ([c_size_t], _Name), "report_group": ([c_size_t], c_uint64), "grays": ([], c_size_t),
     "gray": ([c_size_t], _Name), "next_gray": ([], _Name), "dump": ([], c_size_t), "dump_line": ([c_size_t], _Line),
     "open": ([], None),
@@ -276,6 +278,18 @@ class Heap:
         """What the register holds is watched no longer. Returns whether it was."""
         return self._found("unwatch", register)
 
+    def pin(self, register):
+        """A new pinned root holds what the register holds. Returns its number, which is its own until `unpin`."""
+        return self._call("pin", register).value
+
+    def load(self, register, root):
+        """The register holds what the pinned root holds."""
+        self._call("load", register, root)
+
+    def unpin(self, root):
+        """The pinned root holds nothing any more, and its number may be given again."""
+        self._call("unpin", root)
+
     def compact(self, zone):
         """Moves the cells of a zone together, and gives up the arenas that this empties. No collection may run."""
         done = self._call("compact", zone)
@@ -290,6 +304,10 @@ class Heap:
     def running(self):
         """Whether a collection runs."""
         return self._call("running").value
+
+    def units_left(self):
+        """A bound on the units that the collection that runs may still take while no command comes; 0 if none runs."""
+        return self._call("units_left").value
 
     def counts(self):
         """How many cells are there, objects and maps were made, weak entries, bytes of arenas and arenas there are."""

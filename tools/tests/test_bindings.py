@@ -90,7 +90,7 @@ class RangesTest(unittest.TestCase):
     """tests/ranges.c tries each number of each call out of its range, and each call at a closed handle."""
 
     # By the names of parameters: which are numbers of any size, and which have a range.
-    ANY = {"zones", "limit", "index", "status", "size"}
+    ANY = {"zones", "limit", "index", "status", "size", "root"}
     RANGED = {"reg", "from", "map", "key", "value", "slot", "zone", "comp", "field", "fields"}
 
     def setUp(self):
@@ -233,19 +233,47 @@ class ProgramTest(LibraryTest):
         environment = {**self.environment, "PYTHONPATH": str(BINDINGS / "python")}
         self.assert_prints("12000\n", sys.executable, "-B", "-c", textwrap.dedent(program), env=environment)
 
+    def test_pinned_roots_of_python(self):
+        program = """
+            import gczone
+            heap = gczone.Heap()
+            zone = heap.zone()
+            made = heap.object(0, heap.compartment(zone), 1)
+            root = heap.pin(0)
+            heap.set(0, 0, 0)
+            heap.drop(0)
+            events = list(heap.collect([zone]))
+            heap.load(0, root)
+            print(heap.get(1, 0, 0) == made, heap.units_left(), heap.begin([zone]), heap.units_left() > 0)
+            heap.unpin(root)
+            for number in (root, root + 1, -1, 2**64 - 1, 2**64):
+                try:
+                    heap.load(0, number)
+                except gczone.Fault as fault:
+                    print(fault.status == gczone.NOT_PINNED, fault)
+        """
+        environment = {**self.environment, "PYTHONPATH": str(BINDINGS / "python")}
+        wanted = "True 0 None True\n" + 5 * "True no cell is pinned under this number\n"
+        self.assert_prints(wanted, sys.executable, "-B", "-c", textwrap.dedent(program), env=environment)
+
     def test_cycle_collector(self):
         words = (sys.executable, "-B", BINDINGS / "python/examples/cycles.py")
         self.assert_prints(CYCLES, *words, env=self.environment)
 
 
 class Trace:
-    """Random commands, two zones in five compartments, with collections in slices and piles of cells between them."""
+    """Random commands, two zones in five compartments, with collections in slices and piles of cells between them.
+
+    Commands go by the registers r0 to r6. Those from r8 on are written and read by copy and drop alone, so that they
+    can be pinned roots.
+    """
 
     ROWS = (
         ["new r c n"] * 5 + ["map r c"] * 2 + ["get r r f"] * 4 + ["set r f r"] * 5 + ["wrap r r c"] * 2
         + ["put r r r"] * 2 + ["set r f -", "unwrap r r", "copy r r", "drop r", "hold g r", "release g", "expose r g"]
         + ["del r r"]
         + ["weaken q r", "deref r q", "watch r", "watch r", "unwatch r", "compact o"]
+        + ["copy p r", "copy p r", "copy r p", "drop p"]
         + ["find r r r", "slice s", "slice s", "slice s", "gc z", "collect z", "finish", "reset", "colours", "dump"]
         + ["comp 2"]
     )
@@ -259,6 +287,8 @@ class Trace:
             return kind
         if kind == "z":
             return " ".join(map(str, sorted(self.random.sample(range(3), self.random.randint(1, 2)))))
+        if kind == "p":
+            return f"r{self.random.randrange(8, 16)}"
         number = self.random.randrange(below[kind])
         return f"{kind}{min(number, number % 7) if kind == 'r' else number % 5}" if kind in "rgq" else str(number)
 
@@ -274,8 +304,8 @@ class Trace:
             yield f"new r5 {compartment} 2"
             if number % 3 == 0:
                 yield from ("set r5 0 r6", "copy r6 r5")
-        yield from (f"watch r{self.random.choice('56')}", "weaken q0 r6", f"collect {compartment % 2}")
-        yield from (f"compact {compartment % 2}", "deref r5 q0", "dump")
+        yield from (f"watch r{self.random.choice('56')}", "weaken q0 r6", "copy r15 r6", "drop r6")
+        yield from (f"collect {compartment % 2}", f"compact {compartment % 2}", "copy r6 r15", "deref r5 q0", "dump")
 
     def text(self, lines):
         body = ["zone", "zone", *(f"comp {number % 2}" for number in range(5))]
@@ -298,7 +328,7 @@ class ReplyTest(LibraryTest):
             "Python": [sys.executable, "-B", BINDINGS / "python/examples/replay.py"],
         }
 
-    def compare(self, text, name, *languages):
+    def compare(self, text, name, *languages, words=()):
         with tempfile.TemporaryFile("w+") as file:
             file.write(text)
 
@@ -308,7 +338,8 @@ class ReplyTest(LibraryTest):
 
             wanted = answers(self.program, "run")
             for language in languages:
-                self.assertTrue(answers(*self.replays()[language]) == wanted, f"{language} answers {name} otherwise")
+                answered = answers(*self.replays()[language], *words)
+                self.assertTrue(answered == wanted, f"{language} answers {name} otherwise")
         return wanted
 
     def test_examples(self):
@@ -324,7 +355,8 @@ class ReplyTest(LibraryTest):
         for seed in range(SEEDS):
             with self.subTest(seed):
                 languages = ["C", *["Python"] * (seed < PYTHON_SEEDS)]
-                answers.append(self.compare(Trace(seed).text(COMMANDS), f"seed {seed}", *languages))
+                text = Trace(seed).text(COMMANDS)
+                answers.append(self.compare(text, f"seed {seed}", *languages, words=["--pin"]))
         text = "".join(answers)
         self.assertEqual([it for it in ANSWERS if not re.search(f"^{it}", text, re.MULTILINE)], [])
 
@@ -335,7 +367,7 @@ class ReplyTest(LibraryTest):
             for language, words in self.replays().items():
                 if language != "Python":
                     file.seek(0)
-                    done = run(*VALGRIND, *words, stdin=file)
+                    done = run(*VALGRIND, *words, "--pin", stdin=file)
                     self.assertEqual((done.returncode, done.stdout[-5:]), (0, "\nend\n"), done.stdout[-2000:])
 
 
@@ -379,7 +411,7 @@ class RustTest(ReplyTest):
     def test_random_commands(self):
         for seed in range(SEEDS):
             with self.subTest(seed):
-                self.compare(Trace(seed).text(COMMANDS), f"seed {seed}", "Rust")
+                self.compare(Trace(seed).text(COMMANDS), f"seed {seed}", "Rust", words=["--pin"])
 
 
 if __name__ == "__main__":

@@ -1,7 +1,7 @@
 /* A list machine: pairs and numbers of a Lisp, collected in slices while it evaluates.
  *
- * Zone 0 has the lists. The machine's stack is a list, too, so one register is enough for any number of values. What a
- * number is worth stands in a table beside the heap, by the number of its cell, and goes as a report names the cell.
+ * Zone 0 has the lists. The machine's stack has a pinned root for each value. What a number is worth stands in a table
+ * beside the heap, by the number of its cell, and goes as a report names the cell.
  * Zone 1 has the closures: an object that leads by a wrapper to the list that it captured, held by a gray slot.
  */
 #include "gczone.h"
@@ -10,13 +10,18 @@
 #include <stdio.h>
 #include <stdlib.h>
 
-/* Registers: the stack, the operands, and the cell that is made. */
-enum { STACK, LEFT, RIGHT, CELL };
+/* Registers: the operands, and the cell that is made. */
+enum { LEFT, RIGHT, CELL };
 enum { LISTS, CODE };
-enum { BOTH_ZONES = 3, ROUNDS = 300, LENGTH = 20, CLOSURES = 8, SLICE = 24, CELLS_BETWEEN = 2000 };
+enum { BOTH_ZONES = 3, ROUNDS = 300, LENGTH = 20, CLOSURES = 8, SLICE = 24, CELLS_BETWEEN = 2000, DEPTH = 64 };
+
+/* On the stack: the empty list, which has no cell. No root has this number. */
+static const uint64_t NIL = UINT64_MAX;
 
 struct machine {
     gcz_t heap;
+    uint64_t stack[DEPTH]; /* pinned roots */
+    size_t depth;
     int64_t *worth; /* by the number of a cell */
     size_t room;
     size_t numbers; /* how many cells have a worth */
@@ -103,16 +108,25 @@ static void pair(struct machine *machine, uint32_t head, uint32_t tail) {
 
 /* Pushes what a register holds, and leaves that register empty. */
 static void push(struct machine *machine, uint32_t reg) {
-    pair(machine, reg, STACK);
-    must(gcz_copy(&machine->heap, STACK, CELL));
+    if (machine->depth == DEPTH)
+        must(GCZ_NO_MEMORY);
+    uint64_t *top = &machine->stack[machine->depth++];
+    uint32_t status = gcz_pin(&machine->heap, reg, top);
+    if (status == GCZ_EMPTY)
+        *top = NIL;
+    else
+        must(status);
     drop(machine, reg);
-    drop(machine, CELL);
 }
 
 static void pop(struct machine *machine, uint32_t reg) {
-    gcz_name_t name;
-    must(gcz_get(&machine->heap, reg, STACK, 0, &name));
-    must(gcz_get(&machine->heap, STACK, STACK, 1, &name));
+    uint64_t top = machine->stack[--machine->depth];
+    if (top == NIL) {
+        drop(machine, reg);
+        return;
+    }
+    must(gcz_load(&machine->heap, reg, top));
+    must(gcz_unpin(&machine->heap, top));
 }
 
 static void push_nil(struct machine *machine) {
@@ -124,8 +138,7 @@ static void push_number(struct machine *machine, int64_t worth) {
     uint64_t number = make(machine, LISTS, 0); /* It may move the table. */
     machine->worth[number] = worth;
     machine->numbers++;
-    must(gcz_copy(&machine->heap, LEFT, CELL));
-    push(machine, LEFT);
+    push(machine, CELL);
 }
 
 /* The top of the stack is the tail of a pair, and what lies below is its head. */
@@ -133,9 +146,9 @@ static void cons(struct machine *machine) {
     pop(machine, RIGHT);
     pop(machine, LEFT);
     pair(machine, LEFT, RIGHT);
-    must(gcz_copy(&machine->heap, LEFT, CELL));
+    drop(machine, LEFT);
     drop(machine, RIGHT);
-    push(machine, LEFT);
+    push(machine, CELL);
 }
 
 /* Adds up the list on the stack, and pops it. */

@@ -1,6 +1,8 @@
 /* Answers a trace of docs/TRACE.md by calls of the library, and writes what `gczone run` writes.
  *
- *     replay < TRACE
+ *     replay [--pin] < TRACE
+ *
+ * With --pin the registers from r8 on are pinned roots: copy to one pins, copy from one loads, and drop unpins.
  *
  * Exit status: 0 if each line was answered, 3 for a line that is no command, 6 if there is no memory.
  */
@@ -11,7 +13,7 @@
 #include <stdlib.h>
 #include <string.h>
 
-enum { MOST_WORDS = 80, BAD_LINE = 3, OUT_OF_MEMORY = 6 };
+enum { MOST_WORDS = 80, BAD_LINE = 3, OUT_OF_MEMORY = 6, REGISTERS = 16 };
 
 static const char *const REFUSALS[] = {
     [GCZ_FULL] = "full",
@@ -167,6 +169,37 @@ static uint64_t zones_of(char **words, int count) {
     return zones;
 }
 
+/* The registers of the trace that are pinned roots, from this one on; and the root of each, if it holds a cell. */
+static uint32_t first_pinned = REGISTERS;
+static struct {
+    bool holds;
+    uint64_t number;
+} roots[REGISTERS];
+
+static uint32_t drop(gcz_t *gcz, uint32_t reg) {
+    if (reg < first_pinned)
+        return gcz_drop(gcz, reg);
+    if (!roots[reg].holds)
+        return GCZ_DONE;
+    roots[reg].holds = false;
+    return gcz_unpin(gcz, roots[reg].number);
+}
+
+static uint32_t pin(gcz_t *gcz, uint32_t reg, uint32_t from) {
+    must(drop(gcz, reg));
+    uint32_t status = gcz_pin(gcz, from, &roots[reg].number);
+    roots[reg].holds = status == GCZ_DONE;
+    return status == GCZ_EMPTY ? GCZ_DONE : status;
+}
+
+static uint32_t copy(gcz_t *gcz, uint32_t reg, uint32_t from) {
+    if (reg >= first_pinned)
+        return pin(gcz, reg, from);
+    if (from < first_pinned)
+        return gcz_copy(gcz, reg, from);
+    return roots[from].holds ? gcz_load(gcz, reg, roots[from].number) : gcz_drop(gcz, reg);
+}
+
 static void compact(gcz_t *gcz, uint32_t zone) {
     gcz_compacted_t done;
     uint32_t status = gcz_compact(gcz, zone, &done);
@@ -295,8 +328,8 @@ static bool do_line(gcz_t *gcz, char **words, int count) {
     if (IS("set", 4)) return ORDER(words[3][0] == '-' ? gcz_clear(gcz, a, b) : gcz_set(gcz, a, b, c));
     if (IS("wrap", 4)) return ANSWER(gcz_wrap(gcz, a, b, c, &answer));
     if (IS("unwrap", 3)) return ANSWER(gcz_unwrap(gcz, a, b, &answer));
-    if (IS("copy", 3)) return ORDER(gcz_copy(gcz, a, b));
-    if (IS("drop", 2)) return ORDER(gcz_drop(gcz, a));
+    if (IS("copy", 3)) return ORDER(copy(gcz, a, b));
+    if (IS("drop", 2)) return ORDER(drop(gcz, a));
     if (IS("hold", 3)) return ORDER(gcz_hold(gcz, a, b));
     if (IS("release", 2)) return ORDER(gcz_release(gcz, a));
     if (IS("expose", 3)) return ANSWER(gcz_expose(gcz, a, b, &answer));
@@ -325,10 +358,12 @@ static bool do_line(gcz_t *gcz, char **words, int count) {
     return false;
 }
 
-int main(void) {
+int main(int count_of_words, char **words_given) {
     gcz_t gcz = GCZ_CLOSED_HANDLE;
     char line[512];
     int status = 0;
+    if (count_of_words == 2 && strcmp(words_given[1], "--pin") == 0)
+        first_pinned = 8;
     must(gcz_open(&gcz));
     while (status == 0 && fgets(line, sizeof line, stdin)) {
         char *words[MOST_WORDS];

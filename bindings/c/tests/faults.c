@@ -50,7 +50,7 @@ static uint64_t history(void) {
     gcz_step_t step;
     gcz_compacted_t done;
     size_t grays, lines;
-    uint64_t sum = 0;
+    uint64_t sum = 0, root;
     bool running = true;
     DO(gcz_open(&g));
     for (uint32_t zone = 0; zone < 3; zone++) {
@@ -60,6 +60,12 @@ static uint64_t history(void) {
     for (uint32_t count = 0; count < 200; count++) {
         DO(gcz_new(&g, 0, count % 3, 2, &n));
         sum = 31 * sum + n.number;
+        if (count % 4 == 0) {
+            DO(gcz_pin(&g, 0, &root));
+            sum = 31 * sum + root;
+        }
+        if (count % 16 == 0)
+            DO(gcz_unpin(&g, root));
         if (count % 3 == 1) {
             DO(gcz_wrap(&g, 1, 0, 0, &n));
             DO(gcz_map(&g, 2, 0, &n));
@@ -86,6 +92,10 @@ static uint64_t history(void) {
         DO(gcz_compact(&g, zone, &done));
         sum = 31 * sum + done.moved;
     }
+    DO(gcz_load(&g, 4, root));
+    DO(gcz_set(&g, 4, 1, 4));
+    DO(gcz_get(&g, 4, 4, 1, &n));
+    sum = 31 * sum + n.number;
     DO(gcz_grays(&g, &grays));
     DO(gcz_dump(&g, &lines));
     gcz_close(&g);

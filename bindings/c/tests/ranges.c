@@ -66,6 +66,10 @@ static void registers(gcz_t *g, uint32_t bad) {
     REFUSED(gcz_deref(g, bad, 0, &n), GCZ_BAD_REGISTER);
     WANT(gcz_watch(g, bad), GCZ_BAD_REGISTER);
     WANT(gcz_unwatch(g, bad), GCZ_BAD_REGISTER);
+    uint64_t root = 99;
+    WANT(gcz_pin(g, bad, &root), GCZ_BAD_REGISTER);
+    WANT(gcz_load(g, bad, 0), GCZ_BAD_REGISTER);
+    WANT(root == 99, 1);
 }
 
 static void slots(gcz_t *g, uint32_t bad) {
@@ -93,6 +97,16 @@ static void fields(gcz_t *g, uint32_t bad) {
     REFUSED(gcz_get(g, 0, 0, bad, &n), GCZ_BAD_FIELD);
     WANT(gcz_set(g, 0, bad, 0), GCZ_BAD_FIELD);
     WANT(gcz_clear(g, 0, bad), GCZ_BAD_FIELD);
+}
+
+/* No cell is pinned under this number or one above it. */
+static void not_pinned(gcz_t *g, uint64_t first) {
+    const uint64_t far[] = {first, first + 1, first + 16, 65535, 65536, UINT32_MAX, UINT64_C(1) << 32, UINT64_C(1) << 59,
+                            UINT64_C(1) << 63, UINT64_MAX - 16, UINT64_MAX - 15, UINT64_MAX - 1, UINT64_MAX};
+    for (size_t i = 0; i < sizeof far / sizeof *far; i++) {
+        WANT(gcz_load(g, 0, far[i]), GCZ_NOT_PINNED);
+        WANT(gcz_unpin(g, far[i]), GCZ_NOT_PINNED);
+    }
 }
 
 /* The next gray name behind each kind of name: with this status, nothing is written. */
@@ -152,7 +166,7 @@ static void all_closed(gcz_t *g) {
     gcz_line_t line = {.owner = 99};
     gcz_compacted_t done = {99, 98};
     size_t count = 99;
-    uint64_t bits = 99;
+    uint64_t bits = 99, root = 99, units = 99;
     bool running = true;
     REFUSED(gcz_zone(g, &n), GCZ_CLOSED);
     REFUSED(gcz_comp(g, 0, &n), GCZ_CLOSED);
@@ -175,11 +189,15 @@ static void all_closed(gcz_t *g) {
     REFUSED(gcz_deref(g, 0, 0, &n), GCZ_CLOSED);
     WANT(gcz_watch(g, 0), GCZ_CLOSED);
     WANT(gcz_unwatch(g, 0), GCZ_CLOSED);
+    WANT(gcz_pin(g, 0, &root), GCZ_CLOSED);
+    WANT(gcz_load(g, 0, 0), GCZ_CLOSED);
+    WANT(gcz_unpin(g, 0), GCZ_CLOSED);
     WANT(gcz_compact(g, 0, &done), GCZ_CLOSED);
     WANT(gcz_begin(g, 1), GCZ_CLOSED);
     WANT(gcz_advance(g, 1, &step), GCZ_CLOSED);
     WANT(gcz_reset(g, &step), GCZ_CLOSED);
     WANT(gcz_running(g, &running), GCZ_CLOSED);
+    WANT(gcz_units_left(g, &units), GCZ_CLOSED);
     WANT(gcz_counts(g, &counts), GCZ_CLOSED);
     WANT(gcz_report(g, &report), GCZ_CLOSED);
     REFUSED(gcz_report_name(g, 0, &n), GCZ_CLOSED);
@@ -191,7 +209,7 @@ static void all_closed(gcz_t *g) {
     WANT(gcz_dump(g, &count), GCZ_CLOSED);
     WANT(gcz_dump_line(g, 0, &line), GCZ_CLOSED);
     WANT(step.units == 99 && step.finished && report.count == 98 && line.owner == 99 && count == 99 && bits == 99
-             && running && counts.cells == 99 && done.moved == 99 && done.given_up == 98, 1);
+             && running && counts.cells == 99 && done.moved == 99 && done.given_up == 98 && root == 99 && units == 99, 1);
 }
 
 /* Places of lists beyond their ends. */
@@ -284,13 +302,94 @@ static void limits(gcz_t *g) {
     while (!step.finished);
 }
 
+/* The numbers of the cells that a collection of all zones frees, added up, each plus one. At each step no more units
+ * are left than the bound on them. */
+static uint64_t collect(gcz_t *g) {
+    uint64_t freed = 0, units = 0, most = UINT64_MAX, left;
+    gcz_step_t step;
+    WANT(gcz_begin(g, UINT64_MAX), GCZ_DONE);
+    do {
+        gcz_name_t n;
+        WANT(gcz_units_left(g, &left), GCZ_DONE);
+        if (left < most - units)
+            most = units + left;
+        WANT(gcz_advance(g, 1, &step), GCZ_DONE);
+        units += step.units;
+        for (size_t i = 0; step.report == GCZ_SWEPT && gcz_report_name(g, i, &n) == GCZ_DONE; i++)
+            freed += n.number + 1;
+    } while (!step.finished);
+    WANT(units <= most, 1);
+    WANT(gcz_units_left(g, &left), GCZ_DONE);
+    WANT(left, 0);
+    return freed;
+}
+
+/* Pinned roots keep their cells in collections and compactions, and no number is given twice at a time. The handle has
+ * each zone, and register 15 the cell 0. */
+static void pinned(gcz_t *g) {
+    enum { PINNED = 1000 };
+    static uint64_t roots[PINNED], cells[PINNED];
+    static bool held[PINNED];
+    gcz_compacted_t done;
+    gcz_name_t n;
+    uint64_t root = 99, freed = 0;
+    WANT(gcz_pin(g, 1, &root), GCZ_EMPTY);
+    WANT(root == 99, 1);
+    not_pinned(g, 0);
+    for (size_t i = 0; i < PINNED; i++) {
+        WANT(gcz_new(g, 0, 0, 1, &n), GCZ_DONE);
+        cells[i] = n.number;
+        WANT(gcz_pin(g, 0, &roots[i]), GCZ_DONE);
+        WANT(roots[i] < PINNED && !held[roots[i]], 1);
+        held[roots[i]] = true;
+    }
+    WANT(gcz_drop(g, 0), GCZ_DONE);
+    not_pinned(g, PINNED);
+    WANT(collect(g), 0);
+    for (size_t i = 0; i < PINNED; i++) {
+        if (i % 3 == 0)
+            continue;
+        WANT(gcz_unpin(g, roots[i]), GCZ_DONE);
+        WANT(gcz_load(g, 0, roots[i]), GCZ_NOT_PINNED);
+        WANT(gcz_unpin(g, roots[i]), GCZ_NOT_PINNED);
+        held[roots[i]] = false;
+        freed += cells[i] + 1;
+    }
+    WANT(collect(g), freed);
+    WANT(gcz_compact(g, 0, &done), GCZ_DONE);
+    WANT(done.moved > 0 && done.given_up > 0, 1);
+    for (size_t i = 0; i < PINNED; i++) {
+        if (i % 3 == 0) {
+            WANT(gcz_load(g, 0, roots[i]), GCZ_DONE);
+            WANT(gcz_set(g, 0, 0, 0), GCZ_DONE);
+            WANT(gcz_get(g, 1, 0, 0, &n), GCZ_DONE);
+            WANT(n.kind == GCZ_CELL && n.number == cells[i], 1);
+        } else {
+            WANT(gcz_pin(g, 15, &roots[i]), GCZ_DONE);
+            WANT(roots[i] < PINNED && !held[roots[i]], 1);
+            held[roots[i]] = true;
+        }
+    }
+    for (size_t i = 0; i < PINNED; i++)
+        WANT(gcz_unpin(g, roots[i]), GCZ_DONE);
+    WANT(gcz_drop(g, 0), GCZ_DONE);
+    WANT(gcz_drop(g, 1), GCZ_DONE);
+    not_pinned(g, 0);
+    WANT(gcz_load(g, 15, 0), GCZ_NOT_PINNED);
+    WANT(gcz_get(g, 0, 15, 7, &n), GCZ_DONE);
+    freed = 0;
+    for (size_t i = 0; i < PINNED; i += 3)
+        freed += cells[i] + 1;
+    WANT(collect(g), freed);
+}
+
 static void texts(void) {
-    static const uint32_t none[] = {6, 7, 23, 27, 99, UINT32_MAX};
+    static const uint32_t none[] = {6, 7, 23, 28, 99, UINT32_MAX};
     uint8_t whole[80], other[80];
     size_t length = gcz_status_text(none[0], whole, sizeof whole);
     for (size_t i = 0; i < sizeof none / sizeof *none; i++)
         WANT(gcz_status_text(none[i], other, sizeof other) == length && memcmp(whole, other, length + 1) == 0, 1);
-    for (uint32_t status = 0; status <= GCZ_MARKING; status++) {
+    for (uint32_t status = 0; status <= GCZ_NOT_PINNED; status++) {
         length = gcz_status_text(status, whole, sizeof whole);
         WANT(length > 0 && length < sizeof whole && strlen((char *)whole) == length, 1);
         for (size_t size = 0; size <= length; size++) {
@@ -317,6 +416,7 @@ int main(void) {
     all_beyond(&g);
     beyond_lists(&g, 0, 0, lines);
     limits(&g);
+    pinned(&g);
     all_beyond(&g);
     gcz_t moved = g;
     memset(&g, 0, sizeof g);

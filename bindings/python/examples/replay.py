@@ -1,5 +1,8 @@
 #!/usr/bin/env python3
-"""Answers a trace of docs/TRACE.md by calls of the library, and prints what `gczone run` prints."""
+"""Answers a trace of docs/TRACE.md by calls of the library, and prints what `gczone run` prints.
+
+With --pin the registers from r8 on are pinned roots: copy to one pins, copy from one loads, and drop unpins.
+"""
 
 import sys
 from pathlib import Path
@@ -51,10 +54,34 @@ def line_text(line):
 
 
 class Replay:
-    """A heap, and the answers to lines."""
+    """A heap, and the answers to lines. The roots are those of the registers that are pinned, if they hold a cell."""
 
-    def __init__(self, heap):
-        self.heap = heap
+    def __init__(self, heap, first_pinned):
+        self.heap, self.first_pinned, self.roots = heap, first_pinned, {}
+
+    def copy(self, register, source):
+        if register >= self.first_pinned:
+            self.pin(register, source)
+        elif source < self.first_pinned:
+            self.heap.copy(register, source)
+        elif source in self.roots:
+            self.heap.load(register, self.roots[source])
+        else:
+            self.heap.drop(register)
+
+    def pin(self, register, source):
+        self.drop(register)
+        try:
+            self.roots[register] = self.heap.pin(source)
+        except gczone.Fault as fault:
+            if fault.status != gczone.EMPTY:
+                raise
+
+    def drop(self, register):
+        if register < self.first_pinned:
+            self.heap.drop(register)
+        elif register in self.roots:
+            self.heap.unpin(self.roots.pop(register))
 
     def advance(self, limit):
         """Does units, prints what they report, and returns how many they are."""
@@ -102,7 +129,7 @@ class Replay:
             "deref": heap.deref,
         }
         ordered = {
-            "set": heap.set, "copy": heap.copy, "drop": heap.drop, "hold": heap.hold, "release": heap.release,
+            "set": heap.set, "copy": self.copy, "drop": self.drop, "hold": heap.hold, "release": heap.release,
             "put": heap.put, "weaken": heap.weaken, "watch": heap.watch,
         }
         numbered = {"zone": heap.zone, "comp": heap.compartment, "new": heap.object, "map": heap.map}
@@ -131,7 +158,7 @@ class Replay:
 
 def main():
     with gczone.Heap() as heap:
-        replay = Replay(heap)
+        replay = Replay(heap, 8 if sys.argv[1:] == ["--pin"] else 16)
         for number, line in enumerate(sys.stdin, 1):
             try:
                 print(replay.answer(*line.split()))

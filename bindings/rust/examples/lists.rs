@@ -1,16 +1,15 @@
 //! A list machine: pairs and numbers of a Lisp, collected in slices while it evaluates. It does what
 //! bindings/c/examples/lists.c does, and prints the same.
 //!
-//! Zone 0 has the lists. The machine's stack is a list, too, so one register is enough for any number of values. What a
-//! number is worth stands beside the heap, by the name of its cell, and goes as an event names the cell.
+//! Zone 0 has the lists. The machine's stack has a pinned root for each value. What a number is worth stands beside the
+//! heap, by the name of its cell, and goes as an event names the cell.
 //! Zone 1 has the closures: an object that leads by a wrapper to the list that it captured, held by a gray slot.
 
-use gczone::{Compartment, Error, Heap, Name, Payloads, Register, Result, Slot, Zone, REGISTERS, SLOTS};
+use gczone::{Compartment, Error, Heap, Name, Payloads, Register, Result, Root, Slot, Zone, REGISTERS, SLOTS};
 
-const STACK: Register = REGISTERS[0];
-const LEFT: Register = REGISTERS[1];
-const RIGHT: Register = REGISTERS[2];
-const CELL: Register = REGISTERS[3];
+const LEFT: Register = REGISTERS[0];
+const RIGHT: Register = REGISTERS[1];
+const CELL: Register = REGISTERS[2];
 const ROUNDS: usize = 300;
 const LENGTH: i64 = 20;
 const CLOSURES: usize = 8;
@@ -19,6 +18,8 @@ const CELLS_BETWEEN: u64 = 2000;
 
 struct Machine {
     heap: Heap,
+    /// The values; the empty list has no cell.
+    stack: Vec<Option<Root>>,
     zones: [Zone; 2],
     lists: Compartment,
     code: Compartment,
@@ -33,7 +34,8 @@ impl Machine {
         let mut heap = Heap::new()?;
         let zones = [heap.zone()?, heap.zone()?];
         let (lists, code) = (heap.compartment(zones[0])?, heap.compartment(zones[1])?);
-        Ok(Machine { heap, zones, lists, code, worth: Payloads::new(), let_go: 0, collections: 0, made_since: 0 })
+        let (stack, worth) = (Vec::new(), Payloads::new());
+        Ok(Machine { heap, stack, zones, lists, code, worth, let_go: 0, collections: 0, made_since: 0 })
     }
 
     /// Goes on with the collection that runs. Returns whether it still does.
@@ -77,16 +79,21 @@ impl Machine {
 
     /// Pushes what a register holds, and leaves that register empty.
     fn push(&mut self, register: Register) -> Result<()> {
-        self.pair(register, STACK)?;
-        self.heap.copy(STACK, CELL)?;
-        self.heap.empty(register)?;
-        self.heap.empty(CELL)
+        self.stack.push(match self.heap.pin(register) {
+            Err(Error::Empty) => None,
+            root => Some(root?),
+        });
+        self.heap.empty(register)
     }
 
     fn pop(&mut self, register: Register) -> Result<()> {
-        self.heap.get(register, STACK, 0)?;
-        self.heap.get(STACK, STACK, 1)?;
-        Ok(())
+        match self.stack.pop().flatten() {
+            Some(root) => {
+                self.heap.load(register, &root)?;
+                self.heap.unpin(root)
+            }
+            None => self.heap.empty(register),
+        }
     }
 
     fn push_nil(&mut self) -> Result<()> {
@@ -97,8 +104,7 @@ impl Machine {
     fn push_number(&mut self, worth: i64) -> Result<()> {
         let name = self.make(self.lists, 0)?;
         self.worth.insert(name, worth);
-        self.heap.copy(LEFT, CELL)?;
-        self.push(LEFT)
+        self.push(CELL)
     }
 
     /// The top of the stack is the tail of a pair, and what lies below is its head.
@@ -106,9 +112,9 @@ impl Machine {
         self.pop(RIGHT)?;
         self.pop(LEFT)?;
         self.pair(LEFT, RIGHT)?;
-        self.heap.copy(LEFT, CELL)?;
+        self.heap.empty(LEFT)?;
         self.heap.empty(RIGHT)?;
-        self.push(LEFT)
+        self.push(CELL)
     }
 
     /// Adds up the list on the stack, and pops it.

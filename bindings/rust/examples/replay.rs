@@ -1,13 +1,25 @@
 //! Answers a trace of docs/TRACE.md by calls of the library, and prints what `gczone run` prints.
+//!
+//! With `--pin` the registers from r8 on are pinned roots: copy to one pins, copy from one loads, and drop unpins.
 
 use std::io::{self, BufRead, BufWriter, Write};
+use std::mem;
 
-use gczone::{Compartment, Error, Event, Heap, Line, Name, Register, Result, Slot, WeakSlot, Zone};
+use gczone::{Compartment, Error, Event, Heap, Line, Name, Register, Result, Root, Slot, WeakSlot, Zone};
 use gczone::{REGISTERS, SLOTS, WEAK_SLOTS};
 
 struct Replay<W> {
     heap: Heap,
     out: W,
+    /// The registers of the trace that are pinned roots: the root of each, if it holds a cell.
+    pinned: Vec<Option<Root>>,
+}
+
+/// What a register of the trace is.
+enum Place {
+    Register(Register),
+    /// A pinned root, by its place among them.
+    Pinned(usize),
 }
 
 enum Ended {
@@ -146,6 +158,40 @@ impl<W: Write> Replay<W> {
         Ok("reset ok".to_owned())
     }
 
+    fn place(&self, word: &str) -> std::result::Result<Place, Ended> {
+        let index = number(word)?;
+        match index.checked_sub(REGISTERS.len() - self.pinned.len()) {
+            Some(at) if at < self.pinned.len() => Ok(Place::Pinned(at)),
+            _ => register(word).map(Place::Register),
+        }
+    }
+
+    fn copy(&mut self, to: Place, from: Place) -> Result<()> {
+        match (to, from) {
+            (Place::Register(to), Place::Register(from)) => self.heap.copy(to, from),
+            (Place::Register(to), Place::Pinned(at)) => match &self.pinned[at] {
+                Some(root) => self.heap.load(to, root),
+                None => self.heap.empty(to),
+            },
+            (Place::Pinned(at), Place::Register(from)) => {
+                self.empty(Place::Pinned(at))?;
+                self.pinned[at] = match self.heap.pin(from) {
+                    Err(Error::Empty) => None,
+                    root => Some(root?),
+                };
+                Ok(())
+            }
+            (Place::Pinned(_), Place::Pinned(_)) => Err(Error::NotPinned),
+        }
+    }
+
+    fn empty(&mut self, place: Place) -> Result<()> {
+        match place {
+            Place::Register(register) => self.heap.empty(register),
+            Place::Pinned(at) => mem::take(&mut self.pinned[at]).map_or(Ok(()), |root| self.heap.unpin(root)),
+        }
+    }
+
     /// Answers a line. The answer is the last line that is printed.
     fn answer(&mut self, words: &[&str]) -> std::result::Result<Result<String>, Ended> {
         let ok = |()| "ok".to_owned();
@@ -162,8 +208,14 @@ impl<W: Write> Replay<W> {
             ["set", s, f, t] => self.heap.set(register(s)?, byte(f)?, Some(register(t)?)).map(ok),
             ["wrap", r, s, c] => self.heap.wrap(register(r)?, register(s)?, compartment(c)?).map(name_text),
             ["unwrap", r, s] => self.heap.unwrap(register(r)?, register(s)?).map(name_text),
-            ["copy", r, s] => self.heap.copy(register(r)?, register(s)?).map(ok),
-            ["drop", r] => self.heap.empty(register(r)?).map(ok),
+            ["copy", r, s] => {
+                let (to, from) = (self.place(r)?, self.place(s)?);
+                self.copy(to, from).map(ok)
+            }
+            ["drop", r] => {
+                let place = self.place(r)?;
+                self.empty(place).map(ok)
+            }
             ["hold", g, r] => self.heap.hold(slot(g)?, register(r)?).map(ok),
             ["release", g] => self.heap.release(slot(g)?).map(ok),
             ["expose", r, g] => self.heap.expose(register(r)?, slot(g)?).map(name_text),
@@ -237,7 +289,8 @@ fn main() {
         }
     };
     let out = BufWriter::new(io::stdout().lock());
-    let mut replay = Replay { heap, out };
+    let pinned = if std::env::args().any(|word| word == "--pin") { 8 } else { 0 };
+    let mut replay = Replay { heap, out, pinned: (0..pinned).map(|_| None).collect() };
     let status = match replay.run(io::stdin().lock()) {
         Ok(()) => 0,
         Err(Ended::BadLine) => {

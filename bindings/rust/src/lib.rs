@@ -21,7 +21,8 @@
 //! # }
 //! ```
 //!
-//! A register is a black root and a gray slot a gray one. docs/EMBEDDING.md tells what each call does.
+//! A register and a pinned root are black roots, and a gray slot is a gray one. docs/EMBEDDING.md tells what each call
+//! does.
 
 #![deny(unsafe_code)]
 
@@ -78,6 +79,12 @@ pub const WEAK_SLOTS: [WeakSlot; 64] = {
     }
     all
 };
+
+/// A pinned root: a black root of one heap, as a register is, until `Heap::unpin` takes it back. There are as many as
+/// there is memory for. One that is dropped without that holds its cell as long as there is the heap.
+#[must_use = "its cell is held until `Heap::unpin` takes it back"]
+#[derive(Debug, PartialEq, Eq, Hash)]
+pub struct Root(u64);
 
 /// What a compaction did.
 #[derive(Clone, Copy, Debug, PartialEq, Eq, Hash)]
@@ -169,6 +176,8 @@ pub enum Error {
     Running,
     /// A zone is being prepared or marking, so colours are not settled.
     Marking,
+    /// This heap has no such pinned root.
+    NotPinned,
     /// A status that this package does not know.
     Other(u32),
 }
@@ -190,6 +199,7 @@ impl Error {
             sys::GCZ_CROSS => Error::Cross,
             sys::GCZ_RUNNING => Error::Running,
             sys::GCZ_MARKING => Error::Marking,
+            sys::GCZ_NOT_PINNED => Error::NotPinned,
             other => Error::Other(other),
         }
     }
@@ -210,6 +220,7 @@ impl Error {
             Error::Cross => sys::GCZ_CROSS,
             Error::Running => sys::GCZ_RUNNING,
             Error::Marking => sys::GCZ_MARKING,
+            Error::NotPinned => sys::GCZ_NOT_PINNED,
             Error::Other(status) | Error::OtherInterface(status) => status,
         }
     }
@@ -439,6 +450,21 @@ impl Heap {
         }
     }
 
+    /// A new pinned root holds what the register holds. It takes memory, and no other call on pinned roots does.
+    pub fn pin(&mut self, register: Register) -> Result<Root> {
+        checked(self.handle.pin(register.0.into())).map(Root)
+    }
+
+    /// The register holds what the pinned root holds.
+    pub fn load(&mut self, register: Register, root: &Root) -> Result<()> {
+        checked(self.handle.load(register.0.into(), root.0))
+    }
+
+    /// The pinned root holds nothing any more.
+    pub fn unpin(&mut self, root: Root) -> Result<()> {
+        checked(self.handle.unpin(root.0))
+    }
+
     /// Moves the cells of a zone together, and gives up the arenas that this empties. A collection must not run.
     pub fn compact(&mut self, zone: Zone) -> Result<Compacted> {
         let done = checked(self.handle.compact(zone.0.into()))?;
@@ -453,6 +479,12 @@ impl Heap {
     /// Whether a collection runs.
     pub fn is_running(&mut self) -> bool {
         matches!(self.handle.running(), Ok(true))
+    }
+
+    /// A bound on the units that the collection that runs may still take while no command comes; 0 exactly when none
+    /// runs.
+    pub fn units_left(&mut self) -> Result<u64> {
+        checked(self.handle.units_left())
     }
 
     /// How much the heap holds.

@@ -1,6 +1,6 @@
 //! What the package adds to the library: errors in words, events, a heap that moves to another thread, and dropping.
 
-use gczone::{Error, Event, Heap, Line, Name, Payloads, Zone, REGISTERS, SLOTS, WEAK_SLOTS};
+use gczone::{Error, Event, Heap, Line, Name, Payloads, Root, Zone, REGISTERS, SLOTS, WEAK_SLOTS};
 
 /// Two zones, an object in each, which lead to each other by wrappers; a gray slot holds the first.
 fn ring() -> Result<(Heap, [Zone; 2]), Error> {
@@ -119,6 +119,77 @@ fn watched_cell_is_lost_with_its_group() -> Result<(), Error> {
     Ok(())
 }
 
+#[test]
+fn pinned_cells_are_kept_where_they_go() -> Result<(), Error> {
+    let [cell, held, ..] = REGISTERS;
+    let mut heap = Heap::new()?;
+    let zone = heap.zone()?;
+    let compartment = heap.compartment(zone)?;
+    assert_eq!(heap.pin(cell), Err(Error::Empty));
+    let mut roots = Vec::new();
+    for _ in 0..1000 {
+        let name = heap.object(cell, compartment, 1)?;
+        roots.push((name, heap.pin(cell)?));
+    }
+    heap.empty(cell)?;
+    assert_eq!(freed(&collect(&mut heap, &[zone], 100)?), 0);
+    let (kept, dead): (Vec<_>, Vec<_>) = roots.into_iter().partition(|(name, _)| *name < Name::Cell(100));
+    for (_, root) in dead {
+        heap.unpin(root)?;
+    }
+    for _ in 0..500 {
+        heap.object(cell, compartment, 0)?;
+    }
+    for (name, root) in &kept {
+        heap.load(cell, root)?;
+        heap.set(cell, 0, Some(cell))?;
+        assert_eq!(heap.get(held, cell, 0)?, Some(*name));
+    }
+    let again = heap.pin(cell)?;
+    assert_eq!(freed(&collect(&mut heap, &[zone], 100)?), 1400);
+    heap.compact(zone)?;
+    for (name, root) in kept {
+        heap.load(cell, &root)?;
+        assert_eq!(heap.get(held, cell, 0)?, Some(name));
+        heap.unpin(root)?;
+    }
+    heap.empty(cell)?;
+    heap.empty(held)?;
+    assert_eq!(freed(&collect(&mut heap, &[zone], 100)?), 99);
+    heap.unpin(again)?;
+    assert_eq!(freed(&collect(&mut heap, &[zone], 100)?), 1);
+    Ok(())
+}
+
+#[test]
+fn root_of_another_heap_is_not_pinned() -> Result<(), Error> {
+    let (mut heap, _) = ring()?;
+    let (mut other, _) = ring()?;
+    heap.expose(REGISTERS[0], SLOTS[0])?;
+    let root = heap.pin(REGISTERS[0])?;
+    assert_eq!(other.load(REGISTERS[0], &root), Err(Error::NotPinned));
+    assert_eq!(other.unpin(root), Err(Error::NotPinned));
+    assert_eq!(Error::NotPinned.to_string(), "no cell is pinned under this number");
+    Ok(())
+}
+
+#[test]
+fn units_left_bound_the_units_that_come() -> Result<(), Error> {
+    let (mut heap, zones) = ring()?;
+    assert_eq!(heap.units_left(), Ok(0));
+    heap.begin(&zones)?;
+    let (mut units, mut most) = (0, u64::MAX);
+    while heap.is_running() {
+        let left = heap.units_left()?;
+        assert!(left > 0);
+        most = most.min(units + left);
+        units += heap.advance(1)?.units;
+    }
+    assert!(units <= most);
+    assert_eq!(heap.units_left(), Ok(0));
+    Ok(())
+}
+
 /// Numbers that look random: a linear congruence.
 struct Random(u64);
 
@@ -135,11 +206,12 @@ fn churn(random: &mut Random, steps: usize) -> Result<(Heap, Payloads<u64>), Err
     let mut numbers = Payloads::new();
     let zones = [heap.zone()?, heap.zone()?];
     let compartments = [heap.compartment(zones[0])?, heap.compartment(zones[1])?];
+    let mut pinned: [Vec<Root>; 2] = [Vec::new(), Vec::new()];
     for _ in 0..steps {
         let side = random.below(2);
         let registers = &REGISTERS[8 * side..8 * side + 8];
         let (register, other) = (registers[random.below(8)], registers[random.below(8)]);
-        match random.below(12) {
+        match random.below(14) {
             0..=4 => {
                 let name = heap.object(register, compartments[side], 2)?;
                 let number = heap.counts()?.objects - 1;
@@ -150,7 +222,18 @@ fn churn(random: &mut Random, steps: usize) -> Result<(Heap, Payloads<u64>), Err
                 Err(error) => return Err(error),
             },
             7 => heap.empty(register)?,
-            8 if !heap.is_running() => heap.begin(&zones[..=side])?,
+            8 => match heap.pin(register) {
+                Ok(root) => pinned[side].push(root),
+                Err(Error::Empty) => {}
+                Err(error) => return Err(error),
+            },
+            9 if !pinned[side].is_empty() => {
+                let root = random.below(pinned[side].len() as u64);
+                let root = pinned[side].swap_remove(root);
+                heap.load(register, &root)?;
+                heap.unpin(root)?;
+            }
+            10 if !heap.is_running() => heap.begin(&zones[..=side])?,
             _ => {
                 if let Some(event) = heap.advance(random.below(20) as u64)?.event {
                     for (name, number) in numbers.let_go(&event) {
@@ -169,7 +252,7 @@ fn churn(random: &mut Random, steps: usize) -> Result<(Heap, Payloads<u64>), Err
 #[test]
 fn data_is_that_of_the_cells_that_are_there() -> Result<(), Error> {
     for seed in 0..10 {
-        let (mut heap, numbers) = churn(&mut Random(seed), 5000)?;
+        let (mut heap, numbers) = churn(&mut Random(seed), 6000)?;
         let mut names = Vec::new();
         for line in heap.dump()? {
             if let Line::Cell { name, .. } = line {

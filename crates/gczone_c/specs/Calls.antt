@@ -17,6 +17,7 @@ use Rattle.slice_driver.specs.Accounts.{Accounts, FreesOn, freed_by, freed_by_re
 use Rattle.slice_driver.specs.Begins.{AreMade}
 use Rattle.slice_driver.specs.Collector.{CollectorState}
 use Rattle.slice_driver.specs.Compacting.{CompactCalled}
+use Rattle.slice_driver.specs.Pins.{PinCalled, RootCalled}
 use Rattle.slice_driver.specs.Represents.{Represents}
 use Rattle.slice_driver.specs.SessionCommands.{SessionDoes}
 use Rattle.slice_driver.specs.Sessions.{AreDumpLines, AreGrayNames, IsNextGray, IsNowhereSettled}
@@ -27,6 +28,7 @@ use Rattle.slice_driver.specs.Working.{IsStill, MayWantMemory}
 use Rattle.slice_driver.specs.declared.begin.BeginFault.{BeginFault}
 use Rattle.slice_driver.specs.declared.begin.BeginFault.TheVariants as begin
 use Rattle.slice_driver.specs.declared.compacting.CompactFault.{CompactFault}
+use Rattle.slice_driver.specs.declared.pinned.NotPinned.{NotPinned}
 use Rattle.slice_driver.specs.declared.session.SessionFault.{SessionFault}
 use Rattle.slice_driver.specs.declared.session.told.SessionReply.{SessionReply}
 use Rattle.slice_driver.specs.declared.session.told.SessionReply.TheVariants as reply
@@ -34,7 +36,7 @@ use Rattle.slice_driver.specs.declared.session.told.SessionReport.{SessionReport
 use Rattle.slice_driver.specs.declared.session.told.SessionReport.TheVariants as report
 use Rattle.slice_driver.specs.declared.session.told.SessionStep.{SessionStep}
 use Rattle.gczone_c.specs.Statuses.{begin_status, command_status, compact_status, list_status, next_status}
-use Rattle.gczone_c.specs.Statuses.{step_status}
+use Rattle.gczone_c.specs.Statuses.{pin_status, root_status, step_status}
 use Rattle.gczone_c.specs.declared.told.Answer.{Answer}
 use Rattle.gczone_c.specs.declared.told.CompactedTold.{CompactedTold}
 use Rattle.gczone_c.specs.declared.told.StepDone.{StepDone}
@@ -64,7 +66,7 @@ abbrev pub IsUndone : ℕ → ℕ → Gcz → Gcz → Type 0
 IsUndone fault status old new = (status ≡ fault) × (new.slot.held ≡ old.slot.held)
 
 -- likewise, and nothing is written
-abbrev pub IsRefused : ℕ → ℕ → Gcz → Gcz → Answer → Answer → Type 0
+abbrev pub IsRefused : {T : Type 0} → ℕ → ℕ → Gcz → Gcz → T → T → Type 0
 IsRefused fault status old new before after = (status ≡ fault) × (new.slot.held ≡ old.slot.held) × (after ≡ before)
 
 -- a handle is opened: it leads to a session of the first world; or there is no memory, and it stays closed; or it was
@@ -156,6 +158,26 @@ DoesWeak cmd status old new before after =
 abbrev pub DoesWeakOrder : WeakCmd → ℕ → Gcz → Gcz → Type 0
 DoesWeakOrder cmd status old new = Goes (status ≡ 1) (WeakOrderDone cmd status) old new
 
+-- what C gets of a root that is pinned
+abbrev pub root_told : {E : Type 0} → Result ℕ E → ℕ → ℕ
+root_told (Ok root) before = root
+root_told (Err why) before = before
+
+-- a session was asked to pin what a register holds, with this result, and C gets the number of the root
+pub record PinDone (register before after : ℕ) (status : ℕ) (old new : Held) : Type 0 where
+  pub result : Result ℕ SessionFault
+  pub done : PinCalled flown_by old.session register result new.session
+  pub lists : KeepsLists old new
+  pub status_is : status ≡ pin_status result
+  pub root_is : after ≡ root_told result before
+
+-- a session was asked to do this with a pinned root, with this result
+pub record RootDone (Does : World → World → Type 0) (root : ℕ) (status : ℕ) (old new : Held) : Type 0 where
+  pub result : Result Unit NotPinned
+  pub done : RootCalled flown_by Does old.session root result new.session
+  pub lists : KeepsLists old new
+  pub status_is : status ≡ root_status result
+
 -- what C gets of a compaction
 abbrev pub compacted_told : Result Compacted CompactFault → CompactedTold → CompactedTold
 compacted_told (Ok done) before = record { moved = done.moved; given_up = done.given_up }
@@ -168,11 +190,6 @@ pub record ZoneCompacted (zone : ℕ) (before after : CompactedTold) (status : �
   pub lists : KeepsLists old new
   pub status_is : status ≡ compact_status result
   pub told_is : after ≡ compacted_told result before
-
--- a zone is out of range: this status is returned, nothing is done, and nothing is written
-abbrev pub IsNotCompacted : ℕ → ℕ → Gcz → Gcz → CompactedTold → CompactedTold → Type 0
-IsNotCompacted fault status old new before after =
-    (status ≡ fault) × (new.slot.held ≡ old.slot.held) × (after ≡ before)
 
 -- a session was asked to begin a collection of these zones, with this result
 pub record BeginDone (zones : ℕ) (status : ℕ) (old new : Held) : Type 0 where

@@ -1,15 +1,18 @@
 -- What C gets of the last report, of gray names, and of whether a collection runs: the session stays as it is.
-use Rattle.std.specs.Prelude.{◌≡◌, ◌↔◌, ℕ, Bool, true, false, List, [], Option, None, Some, IsSome, IsTrue}
+use Rattle.std.specs.Prelude.{◌≡◌, ◌≤◌, ◌↔◌, ℕ, Bool, true, false, List, [], Option, None, Some, IsSome, IsTrue}
 use Rattle.std.specs.Prelude.{◌*◌, length, slice_get}
 use Rattle.gz_names.specs.declared.dumps.DumpColour.TheVariants as colour
 use Rattle.gz_names.specs.declared.dumps.DumpLine.{DumpLine}
 use Rattle.gz_names.specs.declared.dumps.DumpLine.TheVariants as line
 use Rattle.gz_names.specs.declared.names.Name.{Name}
 use Rattle.gz_names.specs.declared.zone_sets.ZoneSet.{ZoneSet}
+use Rattle.slice_driver.specs.Bounds.{units_bound}
+use Rattle.slice_driver.specs.Left.{units_left}
 use Rattle.slice_driver.specs.Present.{arena_bytes, present_in_all}
 use Rattle.slice_driver.specs.Sessions.{groups_of, kind_of, names_of, told_of}
 use Rattle.slice_driver.specs.declared.session.told.SessionReport.{SessionReport}
 use Rattle.slice_driver.specs.declared.session.told.SessionReport.TheVariants as report
+use Rattle.sweeping.specs.ArenasOut.{flown_by}
 use Rattle.gczone_c.specs.Calls.{name_told, no_name}
 use Rattle.gczone_c.specs.Statuses.{found_status}
 use Rattle.gczone_c.specs.declared.told.Answer.{Answer}
@@ -64,6 +67,14 @@ line_answer None before = before
 abbrev pub RunningTold : Bool → ℕ → Held → Held → Type 0
 RunningTold running status old new = (new ≡ old) × (status ≡ 0)
     × (IsTrue running ↔ IsSome old.session.collector.run)
+
+-- a bound on the units that are left of the collection that runs, and 0 exactly if none does
+pub record UnitsLeftTold (units status : ℕ) (old new : Held) : Type 0 where
+  pub held : new ≡ old
+  pub status_is : status ≡ 0
+  pub bound : units_left old.session.collector (flown_by old.session.sweeper) ≤ units
+  pub value : units ≡ units_bound old.session.collector
+  pub none : (units ≡ 0) ↔ (old.session.collector.run ≡ None)
 
 -- how much a session holds
 abbrev pub counts_told : Held → Counts

@@ -32,11 +32,24 @@ reply_status reply.Null = 0
 reply_status reply.Accepted = 0
 reply_status reply.Absent = 5
 
+abbrev pub fault_status : SessionFault → ℕ
+fault_status (session.Refused why) = refusal_status why
+fault_status session.Full = 4
+fault_status session.NoMemory = 3
+
 abbrev pub command_status : Result SessionReply SessionFault → ℕ
 command_status (Ok r) = reply_status r
-command_status (Err (session.Refused why)) = refusal_status why
-command_status (Err session.Full) = 4
-command_status (Err session.NoMemory) = 3
+command_status (Err why) = fault_status why
+
+-- a cell was to be pinned
+abbrev pub pin_status : {T : Type 0} → Result T SessionFault → ℕ
+pin_status (Ok root) = 0
+pin_status (Err why) = fault_status why
+
+-- something was to be done with a pinned root
+abbrev pub root_status : {T E : Type 0} → Result T E → ℕ
+root_status (Ok done) = 0
+root_status (Err why) = 27
 
 abbrev pub begin_status : {T : Type 0} → Result T BeginFault → ℕ
 begin_status (Ok done) = 0

@@ -1,18 +1,21 @@
 // What a handle leads to: a session, and the lists that were last asked for.
-ghost use Rattle.std.specs.Prelude.{◌≡◌, ◌↔◌, [], IfOk, IsSome, IsTrue, None, slice_get};
+ghost use Rattle.std.specs.Prelude.{◌≡◌, ◌≤◌, ◌↔◌, [], IfOk, IsSome, IsTrue, None, slice_get};
 ghost use Rattle.colour_defs.specs.Step.{HasFewFields};
 ghost use Rattle.colour_defs.specs.World.{first_world};
 ghost use Rattle.slice_driver.specs.Accounts.{Accounts};
+ghost use Rattle.slice_driver.specs.Bounds.{units_bound};
+ghost use Rattle.slice_driver.specs.Left.{units_left};
+ghost use Rattle.slice_driver.specs.Pins.{LoadsIn, UnpinsIn};
 ghost use Rattle.slice_driver.specs.Represents.{Represents};
 ghost use Rattle.slice_driver.specs.Sessions.{groups_of, kind_of, names_of, told_of};
 ghost use Rattle.sweeping.specs.ArenasOut.{flown_by};
 ghost use Rattle.gczone_c.specs.Calls.{AdvanceDone, BeginDone, CommandDone, GraysListed, LinesListed, NextGrayTold};
-ghost use Rattle.gczone_c.specs.Calls.{ResetDone, WeakCommandDone, ZoneCompacted};
+ghost use Rattle.gczone_c.specs.Calls.{PinDone, ResetDone, RootDone, WeakCommandDone, ZoneCompacted};
 ghost use Rattle.gczone_c.specs.Reports.{counts_told, report_status, report_told};
 
 use crate::told::{Answer, CompactedTold, Counts, ReportTold, StepDone};
 use crate::{statuses, told};
-use gz_names::{DumpLine, GraphCmd, Name, NameList, NoMemory, WeakCmd, ZoneNo, ZoneSet};
+use gz_names::{DumpLine, GraphCmd, Name, NameList, NoMemory, Reg, WeakCmd, ZoneNo, ZoneSet};
 use slice_driver::Session;
 use std::alloc::Global;
 use sweeping::MainSweeper;
@@ -59,6 +62,30 @@ impl Held {
         told::tell_outcome(&outcome, answer)
     }
 
+    /// Pins what a register holds, and writes the number of the root.
+    pub fn pin(&mut self, register: Reg, root: &mut u64) -> u32
+        ensures done { PinDone register root.old root.new result self.old self.new }
+    {
+        let pinned = self.session.pin(register);
+        told::tell_root(&pinned, root)
+    }
+
+    /// Has a register hold what a pinned root holds.
+    pub fn load(&mut self, register: Reg, root: usize) -> u32
+        ensures done { RootDone (LoadsIn register root) root result self.old self.new }
+    {
+        let loaded = self.session.load(register, root);
+        statuses::of_root(&loaded)
+    }
+
+    /// Has a pinned root hold nothing any more.
+    pub fn unpin(&mut self, root: usize) -> u32
+        ensures done { RootDone (UnpinsIn root) root result self.old self.new }
+    {
+        let unpinned = self.session.unpin(root);
+        statuses::of_root(&unpinned)
+    }
+
     /// Compacts a zone, and writes what that did.
     pub fn compact(&mut self, zone: ZoneNo, told: &mut CompactedTold) -> u32
         ensures done { ZoneCompacted zone told.old told.new result self.old self.new }
@@ -97,6 +124,15 @@ impl Held {
         ensures { IsTrue result ↔ IsSome self.now.session.collector.run }
     {
         self.session.running()
+    }
+
+    /// A bound on the units that the collection that runs may still take, or 0.
+    pub fn units_left(&self) -> u64
+        ensures bound { units_left self.now.session.collector (flown_by self.now.session.sweeper) ≤ result }
+        ensures value { result ≡ units_bound self.now.session.collector }
+        ensures none { (result ≡ 0) ↔ (self.now.session.collector.run ≡ None) }
+    {
+        self.session.units_left()
     }
 
     /// How much the session holds.

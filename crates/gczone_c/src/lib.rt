@@ -17,13 +17,15 @@ ghost use Rattle.std.specs.Prelude.{◌≡◌, ◌<◌, ◌≤◌, Err, None, Ok
 ghost use Rattle.colour_defs.specs.Step.{HasFewFields};
 ghost use Rattle.gz_names.specs.declared.commands.GraphCmd.TheVariants as cmd;
 ghost use Rattle.gz_names.specs.declared.commands.WeakCmd.TheVariants as weak;
+ghost use Rattle.slice_driver.specs.Pins.{LoadsIn, UnpinsIn};
 ghost use Rattle.gczone_c.specs.Calls.{AdvanceDone, BeginDone, Does, DoesOrder, DoesWeak, DoesWeakOrder, Goes};
-ghost use Rattle.gczone_c.specs.Calls.{GraysListed, IsClosed, IsNotCompacted, IsRefused, IsUndone, LinesListed};
-ghost use Rattle.gczone_c.specs.Calls.{NextGrayTold, Opens, ResetDone, ZoneCompacted, comp_no, name_asked};
+ghost use Rattle.gczone_c.specs.Calls.{GraysListed, IsClosed, IsRefused, IsUndone, LinesListed};
+ghost use Rattle.gczone_c.specs.Calls.{NextGrayTold, Opens, PinDone, ResetDone, RootDone, ZoneCompacted, comp_no};
+ghost use Rattle.gczone_c.specs.Calls.{name_asked};
 ghost use Rattle.gczone_c.specs.Reports.{CountsTold, GrayTold, GroupTold, LineIsTold, LostTold, NameTold};
-ghost use Rattle.gczone_c.specs.Reports.{ReportIsTold, RunningTold};
+ghost use Rattle.gczone_c.specs.Reports.{ReportIsTold, RunningTold, UnitsLeftTold};
 
-use gz_names::{GraphCmd, WeakCmd, ZoneNo, ZoneSet};
+use gz_names::{GraphCmd, Reg, WeakCmd, ZoneNo, ZoneSet};
 use handle::Gcz;
 use held::Held;
 use std::alloc::Global;
@@ -80,6 +82,31 @@ fn compact_zone(alloc: Global, gcz: &mut Gcz, zone: ZoneNo, done: &mut Compacted
         return statuses::CLOSED;
     };
     let status = held.compact(zone, done);
+    gcz.put(alloc, held);
+    status
+}
+
+// Pins what a register holds in what a handle leads to.
+fn pin(alloc: Global, gcz: &mut Gcz, reg: Reg, root: &mut u64) -> u32
+    ensures done { Goes (IsClosed result root.old root.new)
+        (PinDone reg root.old root.new result) gcz.old gcz.new }
+{
+    let Some(mut held) = gcz.take(alloc) else {
+        return statuses::CLOSED;
+    };
+    let status = held.pin(reg, root);
+    gcz.put(alloc, held);
+    status
+}
+
+// Has a register hold what a pinned root holds in what a handle leads to.
+fn load(alloc: Global, gcz: &mut Gcz, reg: Reg, root: usize) -> u32
+    ensures done { Goes (result ≡ 1) (RootDone (LoadsIn reg root) root result) gcz.old gcz.new }
+{
+    let Some(mut held) = gcz.take(alloc) else {
+        return statuses::CLOSED;
+    };
+    let status = held.load(reg, root);
     gcz.put(alloc, held);
     status
 }
@@ -530,6 +557,44 @@ pub extern "C" fn gcz_unwatch(alloc: Global, gcz: &mut Gcz, reg: u32) -> u32
     weak_order(alloc, gcz, WeakCmd::Unwatch(reg))
 }
 
+/// A new pinned root holds what a register holds, and its number is written.
+#[unsafe(no_mangle)]
+pub extern "C" fn gcz_pin(alloc: Global, gcz: &mut Gcz, reg: u32, root: &mut u64) -> u32
+    ensures done { reg < 16 → Goes (IsClosed result root.old root.new)
+        (PinDone reg root.old root.new result) gcz.old gcz.new }
+    ensures reg { 16 ≤ reg → IsRefused 8 result gcz.old gcz.new root.old root.new }
+{
+    let Some(reg) = asked::register(reg) else {
+        return statuses::BAD_REGISTER;
+    };
+    pin(alloc, gcz, reg, root)
+}
+
+/// A register holds what a pinned root holds.
+#[unsafe(no_mangle)]
+pub extern "C" fn gcz_load(alloc: Global, gcz: &mut Gcz, reg: u32, root: u64) -> u32
+    ensures done { reg < 16 → Goes (result ≡ 1) (RootDone (LoadsIn reg root) root result) gcz.old gcz.new }
+    ensures reg { 16 ≤ reg → IsUndone 8 result gcz.old gcz.new }
+{
+    let Some(reg) = asked::register(reg) else {
+        return statuses::BAD_REGISTER;
+    };
+    load(alloc, gcz, reg, root as usize)
+}
+
+/// A pinned root holds nothing any more, and its number may be given again.
+#[unsafe(no_mangle)]
+pub extern "C" fn gcz_unpin(alloc: Global, gcz: &mut Gcz, root: u64) -> u32
+    ensures done { Goes (result ≡ 1) (RootDone (UnpinsIn root) root result) gcz.old gcz.new }
+{
+    let Some(mut held) = gcz.take(alloc) else {
+        return statuses::CLOSED;
+    };
+    let status = held.unpin(root as usize);
+    gcz.put(alloc, held);
+    status
+}
+
 /// Moves the cells of a zone together, and gives up the arenas that this empties.
 #[unsafe(no_mangle)]
 pub extern "C" fn gcz_compact(
@@ -540,7 +605,7 @@ pub extern "C" fn gcz_compact(
 ) -> u32
     ensures done { zone < 64 → Goes (IsClosed result done.old done.new)
         (ZoneCompacted zone done.old done.new result) gcz.old gcz.new }
-    ensures zone { 64 ≤ zone → IsNotCompacted 9 result gcz.old gcz.new done.old done.new }
+    ensures zone { 64 ≤ zone → IsRefused 9 result gcz.old gcz.new done.old done.new }
 {
     let Some(zone) = asked::zone(zone) else {
         return statuses::BAD_ZONE;
@@ -598,6 +663,21 @@ pub extern "C" fn gcz_running(alloc: Global, gcz: &mut Gcz, running: &mut bool) 
         return statuses::CLOSED;
     };
     *running = held.running();
+    let status = statuses::DONE;
+    gcz.put(alloc, held);
+    status
+}
+
+/// Writes a bound on the units that the collection that runs may still take while no command comes, or 0.
+#[unsafe(no_mangle)]
+pub extern "C" fn gcz_units_left(alloc: Global, gcz: &mut Gcz, units: &mut u64) -> u32
+    ensures done { Goes (IsClosed result units.old units.new)
+        (UnitsLeftTold units.new result) gcz.old gcz.new }
+{
+    let Some(held) = gcz.take(alloc) else {
+        return statuses::CLOSED;
+    };
+    *units = held.units_left();
     let status = statuses::DONE;
     gcz.put(alloc, held);
     status

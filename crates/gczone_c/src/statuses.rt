@@ -1,9 +1,9 @@
 // What a call returns: a number for each way in which it can end. gczone.h has the same numbers.
 ghost use Rattle.std.specs.Prelude.{◌≡◌};
-ghost use Rattle.gczone_c.specs.Statuses.{begin_status, compact_status, refusal_status};
+ghost use Rattle.gczone_c.specs.Statuses.{begin_status, compact_status, fault_status, refusal_status, root_status};
 
 use gz_names::Refusal;
-use slice_driver::{BeginFault, CompactFault, Compacted, refusal_words};
+use slice_driver::{BeginFault, CompactFault, Compacted, NotPinned, SessionFault, refusal_words};
 
 pub const DONE: u32 = 0;
 /// The handle is closed.
@@ -52,6 +52,8 @@ pub const RUNNING: u32 = 24;
 pub const IDLE: u32 = 25;
 
 pub const MARKING: u32 = 26;
+/// No cell is pinned under this number.
+pub const NOT_PINNED: u32 = 27;
 
 /// The status of a refusal.
 pub fn of_refusal(why: Refusal) -> u32
@@ -68,6 +70,27 @@ pub fn of_refusal(why: Refusal) -> u32
         Refusal::Running => RUNNING,
         Refusal::Idle => IDLE,
         Refusal::Marking => MARKING,
+    }
+}
+
+/// The status of a command that was not done.
+pub fn of_fault(fault: &SessionFault) -> u32
+    ensures { result ≡ fault_status fault.now }
+{
+    match fault {
+        SessionFault::Refused(why) => of_refusal(*why),
+        SessionFault::Full => HEAP_FULL,
+        SessionFault::NoMemory => NO_MEMORY,
+    }
+}
+
+/// The status of what was done with a pinned root.
+pub fn of_root(done: &Result<(), NotPinned>) -> u32
+    ensures { result ≡ root_status done.now }
+{
+    match done {
+        Ok(()) => DONE,
+        Err(NotPinned) => NOT_PINNED,
     }
 }
 
@@ -121,6 +144,7 @@ pub fn text(status: u32) -> &'static str {
         RUNNING => refusal_words(Refusal::Running),
         IDLE => refusal_words(Refusal::Idle),
         MARKING => refusal_words(Refusal::Marking),
+        NOT_PINNED => "no cell is pinned under this number",
         _ => "no status of this interface",
     }
 }

@@ -1,9 +1,10 @@
 // What C gets: the structs of gczone.h.
 ghost use Rattle.std.specs.Prelude.{◌≡◌};
 ghost use Rattle.gczone_c.specs.Calls.{answer_told, command_told, done_told, name_told, no_name};
-ghost use Rattle.gczone_c.specs.Calls.{compacted_told, report_kind, step_told};
+ghost use Rattle.gczone_c.specs.Calls.{compacted_told, report_kind, root_told, step_told};
 ghost use Rattle.gczone_c.specs.Reports.{group_told, line_answer, line_told, name_answer, report_status, report_told};
-ghost use Rattle.gczone_c.specs.Statuses.{command_status, compact_status, found_status, reply_status, step_status};
+ghost use Rattle.gczone_c.specs.Statuses.{command_status, compact_status, found_status, pin_status, reply_status};
+ghost use Rattle.gczone_c.specs.Statuses.{step_status};
 
 use crate::statuses;
 use gz_names::{CompNo, DumpColour, DumpLine, Name, NoMemory, ZoneSet};
@@ -177,9 +178,21 @@ pub fn tell_outcome(outcome: &Result<SessionReply, SessionFault>, answer: &mut A
 {
     match outcome {
         Ok(reply) => tell_reply(reply, answer),
-        Err(SessionFault::Refused(why)) => statuses::of_refusal(*why),
-        Err(SessionFault::Full) => statuses::HEAP_FULL,
-        Err(SessionFault::NoMemory) => statuses::NO_MEMORY,
+        Err(fault) => statuses::of_fault(fault),
+    }
+}
+
+/// Writes the number of a root that was pinned, and returns the status.
+pub fn tell_root(pinned: &Result<usize, SessionFault>, root: &mut u64) -> u32
+    ensures status { result ≡ pin_status pinned.now }
+    ensures told { root.new ≡ root_told pinned.now root.old }
+{
+    match pinned {
+        Ok(number) => {
+            *root = *number as u64;
+            statuses::DONE
+        }
+        Err(fault) => statuses::of_fault(fault),
     }
 }
 
