@@ -34,7 +34,7 @@ order_is (Cell a) (Wrap d b) = refl
 order_is (Wrap c a) (Cell b) = refl
 order_is (Wrap c a) (Wrap d b) = refl
 
-names_ordered : IsTotalOrder order_of
+pub names_ordered : IsTotalOrder order_of
 names_ordered = record {
   antisymm = λ x y. order_is x y ∙ names_total.antisymm x y ∙ ap ordering_reverse (sym (order_is y x));
   trans = λ x y z p q.
@@ -42,7 +42,7 @@ names_ordered = record {
   congr = λ x y z p. order_is x z ∙ names_total.congr x y z (sym (order_is x y) ∙ p) ∙ sym (order_is y z);
 }
 
-names_exact : CmpEqualImpliesEq order_of
+pub names_exact : CmpEqualImpliesEq order_of
 names_exact x y e = order_ties x y (ap is_eq e)
 
 pub cell_among : (cells : Cells) (x : Name) → HasCell cells x ↔ Contains (tree.keys cells) x

@@ -1,16 +1,24 @@
 -- What walks have found, and the colours that follow.
-use Rattle.std.proofs.Common.{◌⊎◌, ◌↔◌, inl, inr, List, ◌++◌, Contains}
+use Rattle.std.proofs.Common.{◌≡◌, ◌∙◌, ◌⊎◌, ◌↔◌, inl, inr, ℕ, Bool, true, false, cond, List, [], ◌∷◌, ◌++◌, Contains}
+use Rattle.std.proofs.Common.{IsTrue, refl, sym, ap, subst}
+use Rattle.std.specs.List.{AllByRecursion, filter}
+use Rattle.std.specs.Ordering.{is_lt}
 use Rattle.std.proofs.lemmas.List.Elements.{Contains-append_cases, Contains-append_left, Contains-append_right}
 use Rattle.gz_names.specs.Zones.{zones_in}
 use Rattle.gz_names.specs.declared.names.Name.{Name}
+use Rattle.gz_names.specs.Order.{name_cmp}
 use Rattle.colour_defs.specs.Graph.{GraphState}
 use Rattle.colour_defs.specs.Closure.{Closure, from, along, weak, delegate}
-use Rattle.colour_defs.specs.Ends.{Lists}
+use Rattle.colour_defs.specs.Ends.{IsAscending, Lists}
+use Rattle.colour_defs.proofs.Lists.{nothing_in_none, contains_head, contains_tail, contains_cases}
 use Rattle.plain_graph.specs.Reach.{Follows, IsDone, WalkState}
-use Rattle.judge.specs.Cells.{Cells, Colours, HasCell, HasColours, IsGray, IsGrayBy, LetsGo}
+use Rattle.judge.specs.Cells.{Cells, Colours, HasCell, HasColours, IsGray, IsGrayBy, IsWhite, IsWhiteBy, LetsGo}
 use Rattle.judge.specs.Sound.{IsWalked}
+use Rattle.judge.specs.Stages.{AreWhitesIn, Shown}
+use Rattle.judge.specs.Whites.{AreByArena, lies_in, whites_in}
 use Rattle.judge.specs.Walks.{CatchesUp, IsFoundBlack, IsFoundLive, Walks}
 use Rattle.judge.specs.declared.collection.GroupEnd.{GroupEnd}
+use Rattle.judge.specs.declared.whites.Whites.{Whites}
 
 -- what is reached from names that are reached
 reached_from : (g : GraphState) (P Q : Name → Type 0) → ((x : Name) → P x → Closure g Q x) → {x : Name} → Closure g P x
@@ -46,7 +54,7 @@ live_is : (g : GraphState) (before after : Walks) → CatchesUp g before after �
 live_is g before after caught l x =
     found_is g before.woken before.live after.live l.starts l.follows (caught.live l.starts l.follows) x
 
-lists_as : (P Q : Name → Type 0) (xs : List Name) → ((x : Name) → P x → Q x) → ((x : Name) → Q x → P x) → Lists P xs
+pub lists_as : (P Q : Name → Type 0) (xs : List Name) → ((x : Name) → P x → Q x) → ((x : Name) → Q x → P x) → Lists P xs
     → Lists Q xs
 lists_as P Q xs h k l =
     record { ascending = l.ascending; has = λ x. (λ c. h x ((l.has x).0 c), λ q. (l.has x).1 (k x q)) }
@@ -75,3 +83,75 @@ colours_of g old new former before after end known has goes = record {
 
     live : (x : Name) → Contains after.live.names x ↔ IsFoundLive former before x
     live = live_is former before after known.caught known.live
+
+-- what a test leaves of a list of names
+ascending_after : (f : Name → Bool) (x : Name) (xs : List Name)
+    → AllByRecursion (λ y. IsTrue (is_lt (name_cmp x y))) xs
+    → AllByRecursion (λ y. IsTrue (is_lt (name_cmp x y))) (filter f xs)
+ascending_after f x [] all = tt
+ascending_after f x (y ∷ ys) all = go (f y) (ascending_after f x ys all.1)
+  where
+    go : (b : Bool) → AllByRecursion (λ y. IsTrue (is_lt (name_cmp x y))) (filter f ys)
+        → AllByRecursion (λ y. IsTrue (is_lt (name_cmp x y))) (cond b (y ∷ filter f ys) (filter f ys))
+    go true rest = (all.0, rest)
+    go false rest = rest
+
+ascending_left : (f : Name → Bool) (xs : List Name) → IsAscending xs → IsAscending (filter f xs)
+ascending_left f [] up = tt
+ascending_left f (x ∷ xs) up = go (f x) (ascending_left f xs up.1)
+  where
+    go : (b : Bool) → IsAscending (filter f xs) → IsAscending (cond b (x ∷ filter f xs) (filter f xs))
+    go true rest = (ascending_after f x xs up.0, rest)
+    go false rest = rest
+
+left_was : (f : Name → Bool) (xs : List Name) (x : Name) → Contains (filter f xs) x → Contains xs x × IsTrue (f x)
+left_was f [] x c = absurd (nothing_in_none x c)
+left_was f (y ∷ ys) x c = go (left_was f ys x) (f y) refl c
+  where
+    go : (Contains (filter f ys) x → Contains ys x × IsTrue (f x)) → (b : Bool) → f y ≡ b
+        → Contains (cond b (y ∷ filter f ys) (filter f ys)) x → Contains (y ∷ ys) x × IsTrue (f x)
+    go rest true e c = elim (contains_cases y (filter f ys) x c) [
+      | inl same ↦ (subst (λ z. Contains (y ∷ ys) z) same (contains_head y ys), ap f (sym same) ∙ e)
+      | inr t ↦ let r = rest t in (contains_tail y ys x r.0, r.1)
+    ]
+    go rest false e c = let r = rest c in (contains_tail y ys x r.0, r.1)
+
+left_has : (f : Name → Bool) (xs : List Name) (x : Name) → Contains xs x → IsTrue (f x) → Contains (filter f xs) x
+left_has f [] x c t = absurd (nothing_in_none x c)
+left_has f (y ∷ ys) x c t = go (λ h. left_has f ys x h t) (f y) refl (contains_cases y ys x c)
+  where
+    go : (Contains ys x → Contains (filter f ys) x) → (b : Bool) → f y ≡ b → (y ≡ x) ⊎ Contains ys x
+        → Contains (cond b (y ∷ filter f ys) (filter f ys)) x
+    go rest true e (inl same) = subst (λ z. Contains (y ∷ filter f ys) z) same (contains_head y (filter f ys))
+    go rest true e (inr h) = contains_tail y (filter f ys) x (rest h)
+    go rest false e (inl same) = absurd (cc (e, t, ap f same))
+    go rest false e (inr h) = rest h
+
+lists_left : (f : Name → Bool) (P : Name → Type 0) (xs : List Name) → Lists P xs
+    → Lists (λ x. P x × IsTrue (f x)) (filter f xs)
+lists_left f P xs l = record {
+  ascending = ascending_left f xs l.ascending;
+  has = λ x. (
+    λ c. let r = left_was f xs x c in ((l.has x).0 r.0, r.1),
+    λ h. left_has f xs x ((l.has x).1 h.0) h.1,
+  );
+}
+
+-- the white cells of an arena as a group ends
+pub whites_of : (g : GraphState) (old : Shown) (before after : Walks) (end : GroupEnd) (whites : Whites)
+    → HasCaught old.former.graph before after → HasColours g old.cells after.black.names after.live.names end
+    → AreByArena old.cells end.whites.items whites → (arena : ℕ)
+    → AreWhitesIn g (zones_in end.zones) old before arena (whites_in whites arena)
+whites_of g old before after end whites known has by arena =
+    let zones = zones_in end.zones in
+    let White = λ (x : Name). HasCell old.cells x × IsWhiteBy g zones after.live.names x in
+    subst (λ xs. AreWhitesIn g zones old before arena xs) (sym (by arena))
+    (lists_as (λ x. White x × IsTrue (lies_in old.cells arena x))
+    (λ x. HasCell old.cells x × IsWhite g zones old.former.graph before x × IsTrue (lies_in old.cells arena x))
+    (filter (lies_in old.cells arena) end.whites.items)
+    (λ x h. (h.0.0, (h.0.1.0, λ f. h.0.1.1 ((live x).1 f)), h.1))
+    (λ x h. ((h.0, (h.1.0, λ c. h.1.1 ((live x).0 c))), h.2))
+    (lists_left (lies_in old.cells arena) White end.whites.items has.whites))
+  where
+    live : (x : Name) → Contains after.live.names x ↔ IsFoundLive old.former.graph before x
+    live = live_is old.former.graph before after known.caught known.live

@@ -6,10 +6,13 @@ pub mod Stages
 pub mod Ends
 pub mod Parts
 pub mod Cells
+pub mod Swept
+pub mod Owners
 pub mod Colours
 pub mod LetGo
 pub mod Formers
 pub mod Follows
 pub mod Found
+pub mod DumpLines
 pub mod Sound
 pub mod Starts

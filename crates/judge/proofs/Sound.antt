@@ -173,8 +173,9 @@ sound_ends g old new group grays e is =
     }
 
 -- arenas are taken in
-sound_sweeps : (g : GraphState) (old new : Shown) (arena : ℕ) → Sweeps old arena new → IsSound g old → IsSound g new
-sound_sweeps g old new arena s is = subst (IsSound g) (sym s.new_is)
+sound_sweeps : (g : GraphState) (old new : Shown) (arena : ℕ) (freed : List Name) → Sweeps old arena freed new
+    → IsSound g old → IsSound g new
+sound_sweeps g old new arena freed s is = subst (IsSound g) (sym s.new_is)
     (record {
       former = is.former;
       none_kept = is.none_kept;
@@ -198,7 +199,7 @@ sound_reported : (g : GraphState) (r : Report) (old new : Shown) → IsReported 
 sound_reported g report.Started old new s is = sound_starts g old new s is
 sound_reported g (report.Groups groups) old new (f, up) is = sound_forms g old new groups f up is
 sound_reported g (report.Ended group grays told) old new e is = sound_ends g old new group grays e.1 is
-sound_reported g (report.Swept arena freed) old new s is = sound_sweeps g old new arena s is
+sound_reported g (report.Swept arena freed) old new s is = sound_sweeps g old new arena freed s is
 sound_reported g report.Done old new f is = sound_idle g old new f.releases (ap (λ (t : Shown). t.walks) f.new_is) is
 sound_reported g (report.Stopped zones) old new s is = absurd s
 
@@ -206,7 +207,7 @@ sound_reset : (g : GraphState) (r : Report) (old new : Shown) → IsResetReport 
 sound_reset g report.Started old new s is = absurd s
 sound_reset g (report.Groups groups) old new s is = absurd s
 sound_reset g (report.Ended group grays told) old new s is = absurd s
-sound_reset g (report.Swept arena freed) old new s is = sound_sweeps g old new arena s is
+sound_reset g (report.Swept arena freed) old new s is = sound_sweeps g old new arena freed s is
 sound_reset g report.Done old new f is = sound_idle g old new f.releases (ap (λ (t : Shown). t.walks) f.new_is) is
 sound_reset g (report.Stopped zones) old new s is =
     sound_idle g old new s.releases (ap (λ (t : Shown). t.walks) s.new_is) is

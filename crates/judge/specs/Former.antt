@@ -1,6 +1,8 @@
 -- The graph as it stood when marking began, and the commands since.
-use Rattle.std.specs.Prelude.{◌≡◌, true, false, List, [], ◌∷◌}
+use Rattle.std.specs.Prelude.{◌≡◌, true, false, List, [], ◌∷◌, Option, Some, None}
+use Rattle.gz_names.specs.declared.names.Name.{Name}
 use Rattle.gz_names.specs.declared.commands.GraphCmd.{GraphCmd}
+use Rattle.colour_defs.specs.declared.graph.Object.{Object}
 use Rattle.colour_defs.specs.Graph.{GraphState}
 use Rattle.colour_defs.specs.Step.{step_of}
 use Rattle.judge.specs.declared.former.Former.{Former}
@@ -36,3 +38,8 @@ pub record Keeps (old new : Former) : Type 0 where
 pub record Releases (old new : Former) : Type 0 where
   pub former : (g : GraphState) → IsFormer old g → IsFormer new g
   pub kept_is : new.is_kept ≡ false
+
+-- what an object holds, field by field
+abbrev pub held_in : Option Object → List (Option Name)
+held_in None = []
+held_in (Some o) = o.fields

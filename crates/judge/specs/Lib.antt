@@ -2,9 +2,12 @@ pub mod Lines
 pub mod Former
 pub mod Walks
 pub mod Cells
+pub mod Whites
+pub mod Arenas
 pub mod Starts
 pub mod Parts
 pub mod Stages
 pub mod Sound
+pub mod Dumps
 pub mod Replies
 pub mod Verdicts

@@ -1,6 +1,6 @@
 -- What a verdict says: each line of the trace is one of the language; each command on the graph has the reply that the
 -- definitions give it; a collection begins, goes on, ends and is refused as they say; and each answer has its last
--- line, behind the reports that its collection is due, in their order. Which cells these name is not said.
+-- line, behind the reports that its collection is due, in their order, with the cells that they name.
 use Rattle.std.specs.Prelude.{◌≡◌, ◌≢◌, ◌⊎◌, ℕ, ◌+◌, ◌<◌, ◌≤◌, Bool, true, false, List, [], ◌∷◌, drop, Option, Some}
 use Rattle.std.specs.Prelude.{None, Result, Ok, Err, Contains, codes, ⊤}
 use Rattle.gz_io.specs.Lines.{EndsLine}
@@ -19,6 +19,7 @@ use Rattle.trace_lang.specs.Grammar.{Spells}
 use Rattle.trace_lang.specs.Texts.{reply_text}
 use Rattle.colour_defs.specs.Ends.{Lists}
 use Rattle.judge.specs.Cells.{HasCell}
+use Rattle.judge.specs.Dumps.{ListsDump}
 use Rattle.judge.specs.Lines.{IsOneLine}
 use Rattle.judge.specs.Stages.{Stage, idle, preparing, collecting, Shown, IsFirst, IsOver, IsSettled, IsReportedLine}
 use Rattle.judge.specs.Stages.{IsResetLine, Obeys}
@@ -80,9 +81,10 @@ ListsGray s due =
     ⊎ ((IsSettled s.stage → ⊥) × (due ≡ refused refusal.Marking))
 
 -- what is due for `dump`
-abbrev pub Dumps : Stage → Due → Type 0
-Dumps s due =
-    (IsSettled s × (lines : List DumpLine) × (due ≡ dump lines)) ⊎ ((IsSettled s → ⊥) × (due ≡ refused refusal.Marking))
+abbrev pub Dumps : GraphState → Shown → Due → Type 0
+Dumps g s due =
+    (IsSettled s.stage × (lines : List DumpLine) × ListsDump g s lines × (due ≡ dump lines))
+    ⊎ ((IsSettled s.stage → ⊥) × (due ≡ refused refusal.Marking))
 
 -- there are rules for all commands but those on weak slots and watched cells, and compactions
 abbrev pub IsJudged : Cmd → Type 0
@@ -106,7 +108,7 @@ Asks g old (command.Slice n) due new = GoesOn (units (Some n) false) old.stage d
 Asks g old command.Finish due new = GoesOn (units None false) old.stage due × (new ≡ old)
 Asks g old (command.Collect zones) due new = Begins g zones (begun_due true) old due new
 Asks g old command.Colours due new = ListsGray old due × (new ≡ old)
-Asks g old command.Dump due new = Dumps old.stage due × (new ≡ old)
+Asks g old command.Dump due new = Dumps g old due × (new ≡ old)
 Asks g old command.Reset due new = GoesOn resets old.stage due × (new ≡ old)
 Asks g old (command.Weak c) due new = ⊥
 Asks g old (command.Compact zone) due new = ⊥

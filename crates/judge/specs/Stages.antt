@@ -1,21 +1,29 @@
 -- How far a collection is, by its zones, its groups and the arenas that are out; and what a report makes of it.
-use Rattle.std.specs.Prelude.{◌≡◌, ◌↔◌, ℕ, List, [], ◌∷◌, ◌++◌, false, reverse, Option, Some, None, Vec, ⊤}
+use Rattle.std.specs.Prelude.{◌≡◌, ◌↔◌, ℕ, List, [], ◌∷◌, ◌++◌, false, reverse, slice_get, Option}
+use Rattle.std.specs.Prelude.{Some, None, Vec, IsTrue, ◌⊎◌, ⊤}
+use Rattle.std.specs.BTreeMap as tree
 use Rattle.std.specs.declared.alloc.Global.{Global}
 use Rattle.gz_names.specs.Zones.{HasZone, zones_in}
 use Rattle.gz_names.specs.declared.zone_sets.ZoneSet.{ZoneSet}
 use Rattle.gz_names.specs.declared.names.Name.{Name}
+use Rattle.gz_names.specs.declared.numbers.Place.{Place}
 use Rattle.gz_names.specs.declared.replies.Report.{Report}
 use Rattle.gz_names.specs.declared.replies.Report.TheVariants as report
 use Rattle.gz_names.specs.declared.commands.GraphCmd.{GraphCmd}
-use Rattle.colour_defs.specs.Graph.{GraphState, empty_graph}
+use Rattle.colour_defs.specs.Ends.{Lists, arenas_from}
+use Rattle.colour_defs.specs.Graph.{GraphState, empty_graph, zone_of}
 use Rattle.colour_defs.specs.Step.{step_of}
 use Rattle.trace_lang.specs.Texts.{report_text}
-use Rattle.judge.specs.Cells.{Cells, Colours, GivesPlaces, wakes}
+use Rattle.judge.specs.Arenas.{Grows, owners_in}
+use Rattle.judge.specs.Cells.{Cells, Colours, GivesPlaces, HasCell, IsWhite, wakes}
 use Rattle.judge.specs.Former.{IsFormer, Keeps, Releases, Takes}
 use Rattle.judge.specs.Parts.{AreParts}
 use Rattle.judge.specs.Starts.{IsBegun}
+use Rattle.plain_graph.specs.Indexed.{order_of}
 use Rattle.plain_graph.specs.Reach.{WalkState}
 use Rattle.judge.specs.Walks.{CatchUp, CatchesUp, GoesOnFrom, Walks, walks_of}
+use Rattle.judge.specs.Whites.{Clears, lies_in, whites_in}
+use Rattle.judge.specs.declared.whites.Whites.{Whites}
 use Rattle.judge.specs.declared.former.Former.{Former}
 use Rattle.judge.specs.declared.collection.Collection.{Collection}
 use Rattle.judge.specs.declared.world.Phase.{Phase}
@@ -31,11 +39,14 @@ pub data Stage : Type 0 where
   preparing : ZoneSet → Stage
   collecting : ZoneSet → ZoneSet → Option (List ZoneSet) → Stage
 
--- a stage, the arenas that are out, the lowest first, the present cells, what is black while no zone is marking, the
--- graph as it stood when marking began, and what was found since
+-- a stage, whose the arenas are, those that are out, the lowest first, and the white cells that are not yet swept; the
+-- present cells, what is black while no zone is marking, the graph as it stood when marking began, and what was found
+-- since
 pub record Shown : Type 0 where
   pub stage : Stage
+  pub owners : List (Option ℕ)
   pub out : List ℕ
+  pub whites : Whites
   pub cells : Cells
   pub black : WalkState
   pub former : Former
@@ -57,7 +68,9 @@ stage_of (phase.Collecting k) = stage_in k
 abbrev pub shown : World → Shown
 shown w = record {
   stage = stage_of w.phase;
+  owners = owners_in w.arenas;
   out = reverse w.arenas.out.items;
+  whites = w.whites;
   cells = w.places;
   black = w.black;
   former = w.former;
@@ -67,6 +80,7 @@ shown w = record {
 -- nothing has happened yet
 pub record IsFirst (s : Shown) : Type 0 where
   pub none_running : s.stage ≡ idle
+  pub none_owned : s.owners ≡ []
   pub none_out : s.out ≡ []
   pub none_made : s.cells.entries ≡ []
   pub former : IsFormer s.former empty_graph
@@ -109,14 +123,23 @@ abbrev pub Blackens : GraphState → Stage → Option Name → WalkState → Wal
 Blackens g s None old new = new ≡ old
 Blackens g s (Some x) old new = BlackensOne g s x old new
 
+-- an arena may be made, and a name that gets a place lies in an arena of its zone
+pub record LiesIn (g : GraphState) (old new : Shown) : Type 0 where
+  pub grows : Grows old.owners new.owners
+  pub owned : (x : Name) (p : Place) → tree.get order_of new.cells x ≡ Some p
+      → (tree.get order_of old.cells x ≡ Some p)
+      ⊎ ((z : ℕ) × (zone_of g x ≡ Some z) × (slice_get new.owners p.0 ≡ Some (Some z)))
+
 -- a command on the graph
 pub record Obeys (g : GraphState) (c : GraphCmd) (old new : Shown) : Type 0 where
   pub places : GivesPlaces (step_of g c).0 (wakes g c) old.cells new.cells
+  pub lies : LiesIn (step_of g c).0 old new
   pub takes : Takes c old.former new.former
   pub walks : WakesAny old.stage (wakes g c) old.walks new.walks
   pub blackens : Blackens (step_of g c).0 old.stage (wakes g c) old.black new.black
   pub stage_is : new.stage ≡ old.stage
   pub out_is : new.out ≡ old.out
+  pub whites_is : new.whites ≡ old.whites
 
 -- all groups have ended, and no arena is out
 pub record IsOver (s : Shown) : Type 0 where
@@ -179,20 +202,32 @@ pub record GoesOn (old : Shown) (walks : Walks) (new : Shown) : Type 0 where
   pub left : HasGroups new.stage → (new.walks ≡ Some after) × (new.former ≡ old.former) × (new.black ≡ old.black)
   pub over : (HasGroups new.stage → ⊥) → Releases old.former new.former × (new.black ≡ after.black)
 
--- the first group that has not ended ends: its gray cells are named, its white ones are present no longer
+-- an arena that is out has these white cells: those that lay in it
+abbrev pub AreWhitesIn : GraphState → List ℕ → Shown → Walks → ℕ → List Name → Type 0
+AreWhitesIn g zones old walks arena names =
+    Lists (λ x. HasCell old.cells x × IsWhite g zones old.former.graph walks x
+    × IsTrue (lies_in old.cells arena x)) names
+
+-- the first group that has not ended ends: its gray cells are named, its white ones are present no longer and wait to
+-- be swept, each in its arena, and the arenas of its zones are out
 pub record EndsGroup (g : GraphState) (old : Shown) (group : ZoneSet) (grays : List Name) (new : Shown) : Type 0 where
   pub none_out : old.out ≡ []
   pub ends : Ends old.stage group new.stage
   pub walks : Walks
   pub found : old.walks ≡ Some walks
   pub colours : Colours g (zones_in group) old.former.graph walks old.cells grays new.cells
+  pub owners_is : new.owners ≡ old.owners
+  pub out_is : new.out ≡ arenas_from 0 old.owners (zones_in group)
+  pub whites_are : (arena : ℕ) → AreWhitesIn g (zones_in group) old walks arena (whites_in new.whites arena)
   pub goes_on : GoesOn old walks new
 
--- the lowest arena that is out is taken in
-pub record Sweeps (old : Shown) (arena : ℕ) (new : Shown) : Type 0 where
+-- the lowest arena that is out is taken in, and its white cells are freed
+pub record Sweeps (old : Shown) (arena : ℕ) (freed : List Name) (new : Shown) : Type 0 where
   pub rest : List ℕ
   pub first : old.out ≡ arena ∷ rest
-  pub new_is : new ≡ record old { out = rest }
+  pub freed_are : freed ≡ whites_in old.whites arena
+  pub clears : Clears old.whites arena new.whites
+  pub new_is : new ≡ record old { out = rest; whites = new.whites }
 
 -- a collection that is over runs no longer
 pub record Finishes (old new : Shown) : Type 0 where
@@ -214,7 +249,7 @@ IsReported g old report.Started new = Starts g old new
 IsReported g old (report.Groups groups) new =
     Forms old groups new × CatchUp old.former.graph old.walks new.walks
 IsReported g old (report.Ended group grays told) new = (told ≡ []) × EndsGroup g old group grays new
-IsReported g old (report.Swept arena freed) new = Sweeps old arena new
+IsReported g old (report.Swept arena freed) new = Sweeps old arena freed new
 IsReported g old report.Done new = Finishes old new
 IsReported g old (report.Stopped zones) new = ⊥
 
@@ -238,7 +273,7 @@ abbrev pub IsResetReport : Shown → Report → Shown → Type 0
 IsResetReport old report.Started new = ⊥
 IsResetReport old (report.Groups groups) new = ⊥
 IsResetReport old (report.Ended group grays told) new = ⊥
-IsResetReport old (report.Swept arena freed) new = Sweeps old arena new
+IsResetReport old (report.Swept arena freed) new = Sweeps old arena freed new
 IsResetReport old report.Done new = Finishes old new
 IsResetReport old (report.Stopped zones) new = Stops old zones new
 

@@ -12,6 +12,7 @@ ghost use Rattle.judge.specs.Replies.{after_reset, begun_due, due_as, dump as du
 ghost use Rattle.judge.specs.Replies.{resets, units as units_of};
 
 use crate::checks::{self, Fault};
+use crate::dumps::dump_lines;
 use crate::kinds;
 use crate::parse::{after, parse_number};
 use crate::text::{is_same, reply_text};
@@ -151,12 +152,12 @@ fn colours(world: &World) -> Result<Awaited, NoMemory>
 }
 
 fn dump(graph: &Graph, world: &World) -> Result<Awaited, NoMemory>
-    ensures { IfOk result (λ awaited. Dumps (stage_of world.now.phase) (due_as awaited)) }
+    ensures { IfOk result (λ awaited. Dumps graph.now (shown world.now) (due_as awaited)) }
 {
     if !world.is_settled() {
         return only(world, &Reply::Refused(Refusal::Marking));
     }
-    let lines = world.dump_lines(graph)?;
+    let lines = dump_lines(graph, world)?;
     Ok(Awaited::Dump(lines, 0))
 }
 

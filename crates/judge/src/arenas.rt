@@ -1,5 +1,10 @@
 // Arenas: whose they are, which of their slots are taken, and which are out for sweeping.
-ghost use Rattle.std.specs.Prelude.{◌≡◌, ℕ, [], ◌∷◌, List, IfNone, IfSome, OnOk, drop, reverse};
+ghost use Rattle.std.specs.Prelude.{◌≡◌, ℕ, [], ◌∷◌, ◌++◌, ◌+◌, ◌<◌, ◌≤◌, List, IfNone, IfOk, IfSome, IsTrue, OnOk};
+ghost use Rattle.std.specs.Prelude.{Some, drop, length, reverse, slice_get};
+ghost use Rattle.gz_names.specs.Zones.{zones_in};
+ghost use Rattle.colour_defs.specs.Ends.{arenas_from};
+ghost use Rattle.judge.specs.Arenas.{AreSameArenas, Grows, owners_in, owners_of};
+ghost use Rattle.judge.specs.declared.arenas.Arena.{Arena as AnArena};
 
 use gz_names::{NoMemory, Place, ZoneNo, ZoneSet};
 use std::alloc::{AllocError, Global};
@@ -22,15 +27,20 @@ pub struct Arenas {
 }
 
 impl Arena {
-    fn is_free_for(&self, zone: ZoneNo) -> bool {
+    fn is_free_for(&self, zone: ZoneNo) -> bool
+        ensures { IsTrue result → self.now.owner ≡ zone }
+    {
         self.owner == zone && !self.is_out && self.used != u64::MAX
     }
 }
 
 // The lowest arena from a number on that is free for a zone; the number of arenas if there is none.
-fn first_free(arenas: &[Arena], from: usize, zone: ZoneNo) -> usize {
-    for (number, arena) in arenas.iter().enumerate().skip(from) {
-        if arena.is_free_for(zone) {
+fn first_free(arenas: &[Arena], from: usize, zone: ZoneNo) -> usize
+    ensures most { result ≤ length arenas.now }
+    ensures owned { result < length arenas.now → slice_get (owners_of arenas.now) result ≡ Some (Some zone) }
+{
+    for number in from..arenas.len() {
+        if arenas[number].is_free_for(zone) {
             return number;
         }
     }
@@ -39,7 +49,8 @@ fn first_free(arenas: &[Arena], from: usize, zone: ZoneNo) -> usize {
 
 impl Arenas {
     pub fn new(alloc: Global) -> Self
-        ensures { result.out.items ≡ [] }
+        ensures out { result.out.items ≡ [] }
+        ensures owners { owners_in result ≡ [] }
     {
         Arenas {
             arenas: Vec::new(alloc),
@@ -50,7 +61,9 @@ impl Arenas {
 
     // The lowest arena of a zone with a free slot; a new one if there is none.
     fn arena_for(&mut self, zone: ZoneNo) -> Result<usize, NoMemory>
-        ensures { self.new.out.items ≡ self.old.out.items }
+        ensures out { self.new.out.items ≡ self.old.out.items }
+        ensures grows { OnOk result (Grows (owners_in self.old) (owners_in self.new)) }
+        ensures owned { IfOk result (λ n. slice_get (owners_in self.new) n ≡ Some (Some zone)) }
     {
         let arena = first_free(
             self.arenas.as_slice(),
@@ -70,7 +83,9 @@ impl Arenas {
 
     /// The place of a new cell.
     pub fn give(&mut self, zone: ZoneNo) -> Result<Place, NoMemory>
-        ensures { OnOk result (self.new.out.items ≡ self.old.out.items) }
+        ensures out { OnOk result (self.new.out.items ≡ self.old.out.items) }
+        ensures grows { OnOk result (Grows (owners_in self.old) (owners_in self.new)) }
+        ensures owned { IfOk result (λ p. slice_get (owners_in self.new) p.0 ≡ Some (Some zone)) }
     {
         let number = self.arena_for(zone)?;
         let Some(arena) = self.arenas.get_mut(number) else {
@@ -89,7 +104,7 @@ impl Arenas {
 
     /// A slot is free again.
     pub fn take_back(&mut self, place: Place)
-        ensures { self.new.out.items ≡ self.old.out.items }
+        ensures { AreSameArenas self.old self.new }
     {
         if let Some(arena) = self.arenas.get_mut(place.arena() as usize) {
             arena.used &= !(1 << place.slot());
@@ -105,17 +120,35 @@ impl Arenas {
     }
 
     /// The arenas of these zones go out.
-    pub fn hand_out(&mut self, zones: ZoneSet) -> Result<(), NoMemory> {
-        for back in 0..self.arenas.len() {
-            let number = self.arenas.len() - 1 - back;
-            if zones.contains(self.arenas[number].owner) {
-                if number > u32::MAX as usize {
-                    return Err(AllocError);
-                }
-                self.arenas[number].is_out = true;
-                self.out.push(number as u32)?;
-            }
+    pub fn hand_out(&mut self, zones: ZoneSet) -> Result<(), NoMemory>
+        ensures out { OnOk result (reverse self.new.out.items
+            ≡ arenas_from 0 (owners_in self.old) (zones_in zones) ++ reverse self.old.out.items) }
+        ensures owners { OnOk result (owners_in self.new ≡ owners_in self.old) }
+    {
+        let count = self.arenas.len();
+        for back in 0..count {
+            self.hand_one_out(zones, count - 1 - back)?;
         }
+        Ok(())
+    }
+
+    // An arena goes out, if it is of one of these zones, below those that are out.
+    fn hand_one_out(&mut self, zones: ZoneSet, number: usize) -> Result<(), NoMemory>
+        requires { number < length self.old.arenas.items }
+        ensures out { OnOk result ((rest : List ℕ) → reverse self.old.out.items
+            ≡ arenas_from (number + 1) (drop (number + 1) (owners_in self.old)) (zones_in zones) ++ rest
+            → reverse self.new.out.items
+            ≡ arenas_from number (drop number (owners_in self.old)) (zones_in zones) ++ rest) }
+        ensures owners { OnOk result (owners_in self.new ≡ owners_in self.old) }
+    {
+        if !zones.contains(self.arenas[number].owner) {
+            return Ok(());
+        }
+        if number > u32::MAX as usize {
+            return Err(AllocError);
+        }
+        self.arenas[number].is_out = true;
+        self.out.push(number as u32)?;
         Ok(())
     }
 
@@ -144,13 +177,20 @@ impl Arenas {
 
     /// The lowest arena that is out is taken in.
     pub fn take_in(&mut self)
-        ensures { reverse self.new.out.items ≡ drop 1 (reverse self.old.out.items) }
+        ensures out { reverse self.new.out.items ≡ drop 1 (reverse self.old.out.items) }
+        ensures owners { owners_in self.new ≡ owners_in self.old }
     {
         if let Some(number) = self.out.pop() {
-            if let Some(arena) = self.arenas.get_mut(number as usize) {
-                arena.is_out = false;
-            }
+            self.come_in(number);
             self.lowest = [0; 64];
+        }
+    }
+
+    fn come_in(&mut self, number: u32)
+        ensures { AreSameArenas self.old self.new }
+    {
+        if let Some(arena) = self.arenas.get_mut(number as usize) {
+            arena.is_out = false;
         }
     }
 }

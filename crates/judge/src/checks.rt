@@ -7,6 +7,7 @@ ghost use Rattle.trace_lang.specs.Texts.{report_text};
 ghost use Rattle.judge.specs.declared.world.DueReport.TheVariants as due;
 ghost use Rattle.judge.specs.Parts.{AreParts, Fits};
 ghost use Rattle.judge.specs.Sound.{IsSound};
+ghost use Rattle.judge.specs.Whites.{whites_in};
 ghost use Rattle.judge.specs.Walks.{CatchUp, CatchesUp, walks_in, walks_of};
 ghost use Rattle.judge.specs.Stages.{Finishes, Forms, IsDue, IsEndedLine, IsGroupsLine, IsOver, IsReportedLine};
 ghost use Rattle.judge.specs.Stages.{IsResetLine, Starts, Stops, Sweeps, shown, stage_in};
@@ -19,7 +20,7 @@ use crate::text::{is_same, report_text};
 use crate::world::{DueReport, Phase, World};
 use gz_names::{Name, NameList, Names64, NoMemory, Place, Report, ZoneNo, ZoneSet};
 use plain_graph::Graph;
-use std::alloc::Global;
+use std::alloc::{AllocError, Global};
 use std::collections::BTreeMap;
 
 /// What is wrong with a line, as a text; None where nothing is.
@@ -99,26 +100,37 @@ fn done(world: &mut World, line: &[u8]) -> Result<Fault, NoMemory>
 }
 
 // The report of the lowest arena that is out.
-fn swept_report(world: &World, arena: u32) -> Report
-    ensures { (names : List AName) × (result ≡ the_report.Swept arena names) }
+fn swept_report(world: &World, arena: u32) -> Result<Report, NoMemory>
+    ensures { IfOk result (λ report. report ≡ the_report.Swept arena (whites_in world.now.whites arena)) }
 {
-    let mut names = Names64::new();
-    for white in world.next_freed() {
-        if names.len() < 64 {
-            names.push(white.name);
+    let names = names_64(world.whites.of(arena))?;
+    Ok(Report::Swept(arena, names))
+}
+
+// The names of an arena's cells. An arena has 64 slots, so that there are no more.
+fn names_64(names: &[Name]) -> Result<Names64, NoMemory>
+    ensures { IfOk result (λ list. list ≡ names.now) }
+{
+    let mut list = Names64::new();
+    for name in names {
+        if list.len() >= 64 {
+            return Err(AllocError);
         }
+        list.push(*name);
     }
-    Report::Swept(arena, names)
+    Ok(list)
 }
 
 fn swept(world: &mut World, arena: u32, line: &[u8]) -> Result<Fault, NoMemory>
     requires { IsDue (due.Swept arena) (shown world.old) }
     ensures { IfOk result (λ fault. IfNone fault ((names : List AName)
-        × (line.now ≡ report_text (the_report.Swept arena names)) × Sweeps (shown world.old) arena (shown world.new))) }
+        × (line.now ≡ report_text (the_report.Swept arena names))
+        × Sweeps (shown world.old) arena names (shown world.new))) }
 {
-    let due = report_text(world.alloc, &swept_report(world, arena))?;
+    let report = swept_report(world, arena)?;
+    let due = report_text(world.alloc, &report)?;
     if is_same(line, due.as_slice()) {
-        world.sweep();
+        world.sweep(arena);
         return Ok(None);
     }
     Ok(Some(kinds::swept(world, arena, due.as_slice(), line)?))

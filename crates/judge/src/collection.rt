@@ -1,23 +1,27 @@
 // A collection: its zones, what it finds black and live, its groups, and how many units it may take.
-ghost use Rattle.std.specs.Prelude.{◌≡◌, ◌↔◌, ◌<◌, ◌++◌, Contains, IfOk, IfSome, IsTrue, List, None, OnOk, Some, drop};
+ghost use Rattle.std.specs.Prelude.{◌≡◌, ◌↔◌, ◌<◌, ◌++◌, ℕ, Contains, IfOk, IfSome, IsTrue, List, None, OnOk, Some};
+ghost use Rattle.std.specs.Prelude.{drop, reverse};
 ghost use Rattle.gz_names.specs.Zones.{zones_in};
 ghost use Rattle.gz_names.specs.declared.names.Name.{Name as AName};
 ghost use Rattle.gz_names.specs.declared.zone_sets.ZoneSet.{ZoneSet as AZoneSet};
-ghost use Rattle.colour_defs.specs.Ends.{Lists};
+ghost use Rattle.colour_defs.specs.Ends.{Lists, arenas_from};
 ghost use Rattle.colour_defs.specs.Graph.{GraphState, register_cell, slot_cell};
 ghost use Rattle.plain_graph.specs.Reach.{Follows, IsDone};
+ghost use Rattle.judge.specs.Arenas.{AreSameArenas, owners_in};
 ghost use Rattle.judge.specs.Cells.{HasCell, HasColours, HasShade, IsGrayBy, IsWhiteBy, LetsGo, Removes};
 ghost use Rattle.judge.specs.Former.{Releases};
 ghost use Rattle.judge.specs.Sound.{Settles};
 ghost use Rattle.judge.specs.Stages.{Ends, HasGroups, IsDueOf, IsFirstGroup, IsWoken, collecting, groups_in};
 ghost use Rattle.judge.specs.Stages.{idle, shown, stage_in, stage_of};
 ghost use Rattle.judge.specs.Walks.{CatchUp, CatchesUp, GoesOnFrom, Walks as AWalks, walks_in, walks_of};
+ghost use Rattle.judge.specs.Whites.{AreByArena, Clears};
 ghost use Rattle.judge.specs.Starts.{AreBlackStarts, AreLiveStarts, IsBegun, IsInRegister, IsInSlot, IsListOf};
 ghost use Rattle.judge.specs.Starts.{IsOutside};
 
 use crate::former::{is_in, leads_into};
 use crate::preparation::Preparation;
-use crate::world::{DueReport, Phase, White, World};
+use crate::whites::Whites;
+use crate::world::{DueReport, Phase, World};
 use gz_names::{GrayNo, Name, NoMemory, Place, Reg, ZoneNo, ZoneSet};
 use plain_graph::{Graph, Walk};
 use std::alloc::Global;
@@ -588,46 +592,48 @@ impl World {
     pub fn end_group(&mut self, end: &GroupEnd) -> Result<(), NoMemory>
         requires { IsFirstGroup (stage_of self.old.phase) end.now.zones }
         ensures ends { OnOk result (Ends (stage_of self.old.phase) end.now.zones (stage_of self.new.phase)) }
+        ensures owners { OnOk result (owners_in self.new.arenas ≡ owners_in self.old.arenas) }
+        ensures out { OnOk result (reverse self.new.arenas.out.items
+            ≡ arenas_from 0 (owners_in self.old.arenas) (zones_in end.now.zones) ++ reverse self.old.arenas.out.items) }
+        ensures whites { OnOk result (AreByArena self.old.places end.now.whites.items self.new.whites) }
         ensures places { OnOk result (LetsGo end.now.whites.items self.old.places self.new.places) }
         ensures settles { OnOk result (Settles self.old self.new) }
     {
+        self.whites = Whites::of_names(self.alloc, &self.places, end.whites.as_slice())?;
         self.let_go(end.whites.as_slice())?;
         self.arenas.hand_out(end.zones)?;
         self.end_first(end.zones);
         self.settle()
     }
 
-    // White cells are no longer present, and wait to be swept.
+    // White cells are no longer present.
     fn let_go(&mut self, whites: &[Name]) -> Result<(), NoMemory>
         ensures phase { OnOk result (self.new.phase ≡ self.old.phase) }
         ensures former { OnOk result (self.new.former ≡ self.old.former) }
         ensures black { OnOk result (self.new.black ≡ self.old.black) }
+        ensures arenas { OnOk result (AreSameArenas self.old.arenas self.new.arenas) }
+        ensures whites { OnOk result (self.new.whites ≡ self.old.whites) }
         ensures places { OnOk result (LetsGo whites.now self.old.places self.new.places) }
     {
-        self.white.clear();
-        self.swept = 0;
         for name in whites {
             self.let_one_go(*name)?;
         }
-        self.white.sort()?;
         Ok(())
     }
 
-    // A white cell is no longer present, and waits to be swept.
+    // A white cell is no longer present.
     fn let_one_go(&mut self, name: Name) -> Result<(), NoMemory>
         ensures phase { OnOk result (self.new.phase ≡ self.old.phase) }
         ensures former { OnOk result (self.new.former ≡ self.old.former) }
         ensures black { OnOk result (self.new.black ≡ self.old.black) }
+        ensures arenas { OnOk result (AreSameArenas self.old.arenas self.new.arenas) }
+        ensures whites { OnOk result (self.new.whites ≡ self.old.whites) }
         ensures places { OnOk result (Removes self.old.places name self.new.places) }
     {
         let Some(place) = self.places.remove(&name) else {
             return Ok(());
         };
         self.arenas.take_back(place);
-        self.white.push(White {
-            arena: place.arena(),
-            name,
-        })?;
         Ok(())
     }
 
@@ -657,6 +663,8 @@ impl World {
     // Where no zone is marking any more, what was found black counts from then on.
     fn settle(&mut self) -> Result<(), NoMemory>
         ensures stage { OnOk result (stage_of self.new.phase ≡ stage_of self.old.phase) }
+        ensures arenas { self.new.arenas ≡ self.old.arenas }
+        ensures whites { self.new.whites ≡ self.old.whites }
         ensures places { self.new.places ≡ self.old.places }
         ensures settles { OnOk result (Settles self.old self.new) }
     {
@@ -671,6 +679,8 @@ impl World {
     // What was found black counts from here on.
     fn take_black(&mut self)
         ensures stage { stage_of self.new.phase ≡ stage_of self.old.phase }
+        ensures arenas { self.new.arenas ≡ self.old.arenas }
+        ensures whites { self.new.whites ≡ self.old.whites }
         ensures places { self.new.places ≡ self.old.places }
         ensures former { self.new.former ≡ self.old.former }
         ensures black { (w : AWalks) → walks_of self.old.phase ≡ Some w → self.new.black ≡ w.black }
@@ -683,25 +693,13 @@ impl World {
         }
     }
 
-    /// The names that are freed with the lowest arena that is out.
-    pub fn next_freed(&self) -> &[White] {
-        let Some(arena) = self.arenas.first_out() else {
-            return &[];
-        };
-        let Some(rest) = self.white.get(self.swept..) else {
-            return &[];
-        };
-        match rest.iter().position(|white| white.arena != arena) {
-            None => rest,
-            Some(end) => &rest[..end],
-        }
-    }
-
-    /// The lowest arena that is out is taken in.
-    pub fn sweep(&mut self)
-        ensures { shown self.new ≡ record (shown self.old) { out = drop 1 (shown self.old).out } }
+    /// The lowest arena that is out is taken in, with this number, and its white cells are freed.
+    pub fn sweep(&mut self, arena: u32)
+        ensures same { shown self.new
+            ≡ record (shown self.old) { out = drop 1 (shown self.old).out; whites = self.new.whites } }
+        ensures clears { Clears self.old.whites arena self.new.whites }
     {
-        self.swept = self.swept.saturating_add(self.next_freed().len());
+        self.whites.take(arena);
         self.arenas.take_in();
         self.tally.sweeps = self.tally.sweeps.saturating_add(1);
     }

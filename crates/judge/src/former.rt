@@ -4,8 +4,8 @@
 // marks, it takes none, and these are kept and done on it afterwards.
 ghost use Rattle.std.specs.Prelude.{◌≡◌, ◌↔◌, ◌++◌, ◌∷◌, [], IsTrue, OnOk, false};
 ghost use Rattle.gz_names.specs.Zones.{zones_in};
-ghost use Rattle.colour_defs.specs.Graph.{IsInZones, empty_graph};
-ghost use Rattle.judge.specs.Former.{IsFormer, Keeps, Releases, Takes, graph_by, kept_of};
+ghost use Rattle.colour_defs.specs.Graph.{IsInZones, empty_graph, object_of};
+ghost use Rattle.judge.specs.Former.{IsFormer, Keeps, Releases, Takes, graph_by, held_in, kept_of};
 
 use gz_names::{GraphCmd, Name, NoMemory, ZoneSet};
 use plain_graph::{Graph, step};
@@ -116,7 +116,9 @@ pub fn leads_into(graph: &Graph, zones: ZoneSet, name: Name) -> bool {
 }
 
 /// What an object holds, field by field.
-pub fn fields_of(graph: &Graph, number: u64) -> &[Option<Name>] {
+pub fn fields_of(graph: &Graph, number: u64) -> &[Option<Name>]
+    ensures { result.now ≡ held_in (object_of graph.now number) }
+{
     match graph.object(number) {
         None => &[],
         Some(object) => object.fields.as_slice(),

@@ -233,7 +233,7 @@ pub fn swept(world: &World, arena: u32, line_due: &[u8], line: &[u8]) -> Result<
     match parse_number(word) {
         None => due(world.alloc, b"report", line_due),
         Some(given) if given != u64::from(arena) => other_arena(world, arena, given),
-        Some(_) => freed(world, line_due, list),
+        Some(_) => freed(world, arena, line_due, list),
     }
 }
 
@@ -263,19 +263,16 @@ fn is_of_ended(world: &World, arena: u64) -> bool {
     }
 }
 
-fn freed(world: &World, line_due: &[u8], list: &[u8]) -> Result<Vec<u8>, NoMemory> {
+fn freed(world: &World, arena: u32, line_due: &[u8], list: &[u8]) -> Result<Vec<u8>, NoMemory> {
     let Some(mut given) = parse_names(world.alloc, list)? else {
         return due(world.alloc, b"report", line_due);
     };
     given.sort_unstable();
-    let mut wanted = Vec::new(world.alloc);
-    for white in world.next_freed() {
-        wanted.push(white.name)?;
-    }
-    if let Some(name) = first_missing(given.as_slice(), wanted.as_slice()) {
+    let wanted = world.whites.of(arena);
+    if let Some(name) = first_missing(given.as_slice(), wanted) {
         return freed_wrongly(world, name);
     }
-    if let Some(name) = first_missing(wanted.as_slice(), given.as_slice()) {
+    if let Some(name) = first_missing(wanted, given.as_slice()) {
         let mut text = Text::new(world.alloc);
         text.push(b"kept, ")?;
         text.push_name(name)?;

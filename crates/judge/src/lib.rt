@@ -24,6 +24,7 @@ mod answers;
 mod arenas;
 mod checks;
 mod collection;
+mod dumps;
 mod former;
 mod judging;
 mod kinds;
@@ -31,6 +32,7 @@ mod lines;
 mod parse;
 mod preparation;
 mod text;
+mod whites;
 mod world;
 
 pub use judging::{JudgeEnd, judge};

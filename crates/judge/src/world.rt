@@ -5,30 +5,23 @@ ghost use Rattle.std.specs.Prelude.{OnOk, false};
 ghost use Rattle.gz_names.specs.Zones.{HasZone};
 ghost use Rattle.gz_names.specs.declared.zone_sets.ZoneSet.{ZoneSet as AZoneSet};
 ghost use Rattle.colour_defs.specs.Ends.{Lists};
+ghost use Rattle.judge.specs.Arenas.{owners_in};
 ghost use Rattle.judge.specs.Cells.{GivesPlace, GivesPlaces, HasCell, made_in, named_in, woken_in, wrapper_in};
 ghost use Rattle.judge.specs.Former.{Takes};
-ghost use Rattle.judge.specs.Stages.{Blackens, BlackensOne, IsDue, IsFirst, IsOver, IsSettled, IsStarted, Wakes};
-ghost use Rattle.judge.specs.Stages.{WakesAny, idle, preparing, shown, stage_of, unfinished_in};
+ghost use Rattle.judge.specs.Stages.{Blackens, BlackensOne, IsDue, IsFirst, IsOver, IsSettled, IsStarted, LiesIn};
+ghost use Rattle.judge.specs.Stages.{Wakes, WakesAny, idle, preparing, shown, stage_of, unfinished_in};
 ghost use Rattle.judge.specs.Walks.{GoesOnFrom, walks_of};
 ghost use Rattle.judge.specs.Replies.{AreMade, IsRefusal};
 
 use crate::arenas::Arenas;
 use crate::collection::{Collection, Tally, counts_entry, is_wrapper, marking_tally};
-use crate::former::{Former, fields_of, is_in};
+use crate::former::{Former, is_in};
 use crate::preparation::{Preparation, target_of};
-use gz_names::{
-    DumpColour, DumpLine, GraphCmd, Name, NoMemory, Place, Refusal, Reply, ZoneNo, ZoneSet,
-};
+use crate::whites::Whites;
+use gz_names::{GraphCmd, Name, NoMemory, Place, Refusal, Reply, ZoneNo, ZoneSet};
 use plain_graph::{Graph, Walk};
 use std::alloc::Global;
 use std::collections::BTreeMap;
-
-/// A white cell that is not yet swept.
-#[derive(Clone, Copy, PartialEq, Eq, PartialOrd, Ord)]
-pub struct White {
-    pub arena: u32,
-    pub name: Name,
-}
 
 /// Where a collection stands.
 #[derive(Drop)]
@@ -75,9 +68,8 @@ pub struct World {
     pub former: Former,
     pub places: BTreeMap<Name, Place>,
     pub arenas: Arenas,
-    /// The white cells that are not yet swept, by arena and name; those before `swept` are.
-    pub white: Vec<White>,
-    pub swept: usize,
+    /// The white cells of groups that have ended, until they are swept.
+    pub whites: Whites,
     /// What is black; it counts while no zone is marking, and none is being prepared.
     pub black: Walk,
     pub phase: Phase,
@@ -94,8 +86,7 @@ impl World {
             former: Former::new(alloc),
             places: BTreeMap::new(alloc),
             arenas: Arenas::new(alloc),
-            white: Vec::new(alloc),
-            swept: 0,
+            whites: Whites::new(alloc),
             black: Walk::new(alloc),
             phase: Phase::Idle,
             tally: Tally::new(),
@@ -159,6 +150,8 @@ impl World {
     ) -> Result<(), NoMemory>
         ensures stage { OnOk result (stage_of self.new.phase ≡ stage_of self.old.phase) }
         ensures out { OnOk result ((shown self.new).out ≡ (shown self.old).out) }
+        ensures whites { OnOk result (self.new.whites ≡ self.old.whites) }
+        ensures lies { OnOk result (LiesIn graph.now (shown self.old) (shown self.new)) }
         ensures places { OnOk result (GivesPlaces graph.now (woken_in command.now reply.now)
             self.old.places self.new.places) }
         ensures takes { OnOk result (Takes command.now self.old.former self.new.former) }
@@ -200,6 +193,8 @@ impl World {
     fn wake(&mut self, graph: &Graph, name: Name) -> Result<(), NoMemory>
         ensures stage { OnOk result (stage_of self.new.phase ≡ stage_of self.old.phase) }
         ensures out { OnOk result ((shown self.new).out ≡ (shown self.old).out) }
+        ensures whites { OnOk result (self.new.whites ≡ self.old.whites) }
+        ensures lies { OnOk result (LiesIn graph.now (shown self.old) (shown self.new)) }
         ensures places { OnOk result (GivesPlace graph.now self.old.places name self.new.places) }
         ensures former { OnOk result (self.new.former ≡ self.old.former) }
         ensures black { OnOk result (BlackensOne graph.now (stage_of self.old.phase) name self.old.black
@@ -236,7 +231,9 @@ impl World {
     }
 
     fn give_place(&mut self, graph: &Graph, name: Name) -> Result<(), NoMemory>
-        ensures same { OnOk result (shown self.new ≡ record (shown self.old) { cells = self.new.places }) }
+        ensures same { OnOk result (shown self.new
+            ≡ record (shown self.old) { owners = owners_in self.new.arenas; cells = self.new.places }) }
+        ensures lies { OnOk result (LiesIn graph.now (shown self.old) (shown self.new)) }
         ensures phase { self.new.phase ≡ self.old.phase }
         ensures places { OnOk result (GivesPlace graph.now self.old.places name self.new.places) }
     {
@@ -361,43 +358,6 @@ impl World {
         }
         Ok(names)
     }
-
-    fn colour(&self, name: Name) -> DumpColour {
-        if self.black.contains(name) {
-            DumpColour::Black
-        } else {
-            DumpColour::Gray
-        }
-    }
-
-    /// The lines of a dump.
-    pub fn dump_lines(&self, graph: &Graph) -> Result<Vec<DumpLine>, NoMemory> {
-        let mut lines = Vec::new(self.alloc);
-        for (name, _) in &self.places {
-            lines.push(DumpLine::Cell(*name, self.colour(*name)))?;
-        }
-        for (name, _) in &self.places {
-            push_edges(graph, &mut lines, *name)?;
-        }
-        self.push_entries(graph, &mut lines)?;
-        lines.push(DumpLine::End)?;
-        Ok(lines)
-    }
-
-    fn push_entries(&self, graph: &Graph, lines: &mut Vec<DumpLine>) -> Result<(), NoMemory> {
-        let mut found = BTreeMap::new(self.alloc);
-        for entry in graph.entries() {
-            if self.is_present(entry.map) && self.is_present(entry.key) {
-                found.insert((entry.map, entry.key), entry.value)?;
-            }
-        }
-        for (names, value) in &found {
-            if let (Name::Cell(map), key) = *names {
-                lines.push(DumpLine::Weak(map, key, *value))?;
-            }
-        }
-        Ok(())
-    }
 }
 
 // What a reply says was made, and what it names.
@@ -457,16 +417,4 @@ fn blacken(black: &mut Walk, graph: &Graph, name: Name) -> Result<(), NoMemory>
 {
     black.add(name, None)?;
     black.finish(graph)
-}
-
-// Adds the lines of what an object holds.
-fn push_edges(graph: &Graph, lines: &mut Vec<DumpLine>, name: Name) -> Result<(), NoMemory> {
-    if let Name::Cell(number) = name {
-        for held in fields_of(graph, number) {
-            if let Some(held) = held {
-                lines.push(DumpLine::Edge(number, *held))?;
-            }
-        }
-    }
-    Ok(())
 }

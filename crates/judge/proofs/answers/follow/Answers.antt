@@ -4,7 +4,7 @@ use Rattle.gz_names.specs.declared.names.Name.{Name}
 use Rattle.colour_defs.specs.Graph.{GraphState}
 use Rattle.colour_defs.specs.Step.{step_of}
 use Rattle.judge.specs.Cells.{GivesPlaces, woken_in}
-use Rattle.judge.specs.Stages.{Blackens, WakesAny, stage_of}
+use Rattle.judge.specs.Stages.{Blackens, LiesIn, WakesAny, shown, stage_of}
 use Rattle.judge.specs.Walks.{walks_of}
 use Rattle.judge.proofs.Cells.{woken_is}
 use Rattle.judge.proofs.answers.follow.Goals as goal
@@ -20,6 +20,8 @@ returns-clause-obeys c =
     c.in_ok-reply.ensures.graph c.in_ok-follow.ensures.places in
     IfOk-weaker c.only.result _ _ (λ a e. record {
       places = subst (λ (o : Option Name). GivesPlaces (step_of g command).0 o old.places new.places) woken places;
+      lies = subst (λ (h : GraphState). LiesIn h (shown old) (shown new)) c.in_ok-reply.ensures.graph
+          c.in_ok-follow.ensures.lies;
       takes = c.in_ok-follow.ensures.takes;
       walks = subst (λ (o : Option Name). WakesAny (stage_of old.phase) o (walks_of old.phase)
           (walks_of new.phase)) woken c.in_ok-follow.ensures.walks;
@@ -28,4 +30,5 @@ returns-clause-obeys c =
           old.black new.black) c.in_ok-reply.ensures.graph c.in_ok-follow.ensures.black);
       stage_is = c.in_ok-follow.ensures.stage;
       out_is = c.in_ok-follow.ensures.out;
+      whites_is = c.in_ok-follow.ensures.whites;
     }) c.only.ensures

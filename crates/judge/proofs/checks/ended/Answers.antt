@@ -1,12 +1,17 @@
-use Rattle.std.proofs.Common.{◌≡◌, ◌∙◌, Option, Some, ap, subst, sym}
+use Rattle.std.proofs.Common.{◌≡◌, ◌∙◌, ◌++◌, ℕ, List, [], Option, Some, reverse, ap, subst, sym}
 use Rattle.std.specs.Prelude.{IfSome}
+use Rattle.std.proofs.lemmas.List.{append-nil}
+use Rattle.gz_names.specs.Zones.{zones_in}
+use Rattle.colour_defs.specs.Ends.{arenas_from}
+use Rattle.judge.specs.Arenas.{owners_in}
 use Rattle.judge.specs.Cells.{Cells, HasColours, LetsGo}
 use Rattle.judge.specs.Former.{Releases}
-use Rattle.judge.specs.Stages.{Ends, HasGroups, IsFirstGroup, Shown, Stage, stage_of}
+use Rattle.judge.specs.Stages.{Ends, HasGroups, IsFirstGroup, Shown, Stage, shown, stage_of}
 use Rattle.judge.specs.Walks.{CatchesUp, Walks, walks_of}
+use Rattle.judge.specs.Whites.{AreByArena}
 use Rattle.judge.specs.declared.collection.GroupEnd.{GroupEnd}
 use Rattle.judge.specs.declared.former.Former.{Former}
-use Rattle.judge.proofs.Found.{colours_of}
+use Rattle.judge.proofs.Found.{colours_of, whites_of}
 use Rattle.judge.proofs.checks.ended.Goals as goal
 
 pub returns-then-is_same : goal.returns-then-is_same
@@ -28,6 +33,11 @@ returns-then-is_same c =
     let goes = subst (λ (cells : Cells). LetsGo end.whites.items cells after.places) places
     c.in_ok-end_group.ensures.places in
     let settles = c.in_ok-end_group.ensures.settles in
+    let owners : owners_in mid.arenas ≡ owners_in before.arenas = ap (λ (s : Shown). s.owners) same in
+    let none : reverse mid.arenas.out.items ≡ [] = ap (λ (s : Shown). s.out) same ∙ c.requires.due.0 in
+    let zones = zones_in end.zones in
+    let whites = subst (λ (cells : Cells). AreByArena cells end.whites.items after.whites) places
+    c.in_ok-end_group.ensures.whites in
     let walked = c.requires.sound.walks found.0 found.2 (subst HasGroups (sym first.3) tt) in (
       end.zones,
       end.grays.items,
@@ -40,6 +50,13 @@ returns-then-is_same c =
         found = found.2;
         colours = colours_of c.args.graph.now before.places after.places before.former.graph found.0 found.1 end
             (record { black = walked.black; live = walked.live; caught = found.4 }) found.5 goes;
+        owners_is = c.in_ok-end_group.ensures.owners ∙ owners;
+        out_is = c.in_ok-end_group.ensures.out
+            ∙ ap (λ (xs : List ℕ). arenas_from 0 (owners_in mid.arenas) zones ++ xs) none
+            ∙ append-nil (arenas_from 0 (owners_in mid.arenas) zones)
+            ∙ ap (λ (os : List (Option ℕ)). arenas_from 0 os zones) owners;
+        whites_are = whites_of c.args.graph.now (shown before) found.0 found.1 end after.whites
+            (record { black = walked.black; live = walked.live; caught = found.4 }) found.5 whites;
         goes_on = record {
           after = found.1;
           caught = found.4;

@@ -1,10 +1,16 @@
-use Rattle.std.proofs.Common.{◌≡◌, ◌∙◌, List, ap, subst, sym}
+use Rattle.std.proofs.Common.{◌≡◌, ◌∙◌, ◌++◌, ℕ, List, Option, reverse, ap, subst, sym}
 use Rattle.std.proofs.lemmas.Result.{on_ok_weaker}
+use Rattle.gz_names.specs.Zones.{zones_in}
 use Rattle.gz_names.specs.declared.names.Name.{Name}
+use Rattle.colour_defs.specs.Ends.{arenas_from}
+use Rattle.judge.specs.Arenas.{owners_in}
 use Rattle.judge.specs.Cells.{Cells, LetsGo}
 use Rattle.judge.specs.Former.{Releases}
 use Rattle.judge.specs.Walks.{walks_of}
+use Rattle.judge.specs.Whites.{AreByArena}
+use Rattle.judge.specs.declared.arenas.Arenas.{Arenas}
 use Rattle.judge.specs.declared.former.Former.{Former}
+use Rattle.judge.specs.declared.whites.Whites.{Whites}
 use Rattle.judge.specs.declared.world.World.{World}
 use Rattle.judge.proofs.Results.{on_ok_known}
 use Rattle.judge.proofs.world.World.end_group.Goals as goal
@@ -17,7 +23,7 @@ returns-clause-places c =
     let same : c.settle.new.self.places ≡ mid =
     c.settle.ensures.places ∙ ap (λ (w : World). w.places) c.end_first.ensures.rest in
     on_ok_known c.settle.result (subst (λ (cells : Cells). LetsGo names old cells) (sym same)
-    (subst (λ (ns : List Name). LetsGo ns old mid) c.as_slice.ensures.value c.in_ok-let_go.ensures.places))
+    (subst (λ (ns : List Name). LetsGo ns old mid) c.as_slice-2.ensures.value c.in_ok-let_go.ensures.places))
 
 pub returns-clause-settles : goal.returns-clause-settles
 returns-clause-settles c =
@@ -33,3 +39,29 @@ returns-clause-settles c =
         λ w e. o.1 w (walks ∙ e),
       );
     }) c.settle.ensures.settles
+
+pub returns-clause-owners : goal.returns-clause-owners
+returns-clause-owners c =
+    on_ok_known c.settle.result (ap owners_in c.settle.ensures.arenas
+    ∙ ap (λ (w : World). owners_in w.arenas) c.end_first.ensures.rest ∙ c.in_ok-hand_out.ensures.owners
+    ∙ c.in_ok-let_go.ensures.arenas.owners)
+
+pub returns-clause-out : goal.returns-clause-out
+returns-clause-out c =
+    let zones = zones_in c.args.end.now.zones in
+    let mid = c.let_go.new.self.arenas in
+    on_ok_known c.settle.result (ap (λ (a : Arenas). reverse a.out.items) c.settle.ensures.arenas
+    ∙ ap (λ (w : World). reverse w.arenas.out.items) c.end_first.ensures.rest ∙ c.in_ok-hand_out.ensures.out
+    ∙ ap (λ (os : List (Option ℕ)). arenas_from 0 os zones ++ reverse mid.out.items)
+    c.in_ok-let_go.ensures.arenas.owners
+    ∙ ap (λ (xs : List ℕ). arenas_from 0 (owners_in c.args.self.now.arenas) zones ++ reverse xs)
+    c.in_ok-let_go.ensures.arenas.out)
+
+pub returns-clause-whites : goal.returns-clause-whites
+returns-clause-whites c =
+    let cells = c.args.self.now.places in
+    let kept = c.in_ok-self.field-0 in
+    let same = c.settle.ensures.whites ∙ ap (λ (w : World). w.whites) c.end_first.ensures.rest
+    ∙ c.in_ok-let_go.ensures.whites in
+    on_ok_known c.settle.result (subst (λ (ws : Whites). AreByArena cells c.args.end.now.whites.items ws) (sym same)
+    (subst (λ (ns : List Name). AreByArena cells ns kept) c.as_slice.ensures.value c.in_ok-self.ensures))

@@ -1,10 +1,11 @@
-use Rattle.std.proofs.Common.{◌≡◌, Option, ap, subst}
+use Rattle.std.proofs.Common.{◌≡◌, ◌∙◌, Option, ap, subst}
 use Rattle.std.proofs.lemmas.Result.{on_ok_weaker}
 use Rattle.gz_names.specs.declared.names.Name.{Name}
 use Rattle.judge.specs.Cells.{Cells, GivesPlace, GivesPlaces}
 use Rattle.plain_graph.specs.Reach.{WalkState}
-use Rattle.judge.specs.Stages.{Blackens, BlackensOne, Shown, Stage, Wakes, WakesAny, stage_of}
+use Rattle.judge.specs.Stages.{Blackens, BlackensOne, Shown, Stage, Wakes, WakesAny, shown, stage_of}
 use Rattle.judge.specs.Walks.{Walks, walks_of}
+use Rattle.judge.proofs.Owners.{lies_after, lies_same}
 use Rattle.judge.proofs.world.World.follow.Goals as goal
 
 pub returns-in-None-clause-places : goal.returns-in-None-clause-places
@@ -63,3 +64,24 @@ returns-in-Some-clause-black c =
     on_ok_weaker c.wake.result (λ p. subst (λ (o : Option Name). Blackens g (stage_of before.phase) o before.black
     after.black) c.in-Some.ensures (subst (λ (s : Stage). BlackensOne g s name before.black after.black) stage
     (subst (λ (b : WalkState). BlackensOne g (stage_of mid.phase) name b after.black) black p))) c.wake.ensures.black
+
+pub returns-in-None-clause-lies : goal.returns-in-None-clause-lies
+returns-in-None-clause-lies c =
+    let same = c.in_ok-take.ensures.same in
+    lies_same c.args.graph.now (shown c.args.self.now) (shown c.take.new.self) (ap (λ (s : Shown). s.owners) same)
+    (ap (λ (s : Shown). s.cells) same)
+
+pub returns-in-Some-clause-lies : goal.returns-in-Some-clause-lies
+returns-in-Some-clause-lies c =
+    let same = c.in_ok-take.ensures.same in
+    on_ok_weaker c.wake.result (λ l. lies_after c.args.graph.now (shown c.args.self.now) (shown c.take.new.self)
+    (shown c.wake.new.self) (ap (λ (s : Shown). s.owners) same) (ap (λ (s : Shown). s.cells) same) l)
+    c.wake.ensures.lies
+
+pub returns-in-None-clause-whites : goal.returns-in-None-clause-whites
+returns-in-None-clause-whites c = ap (λ (s : Shown). s.whites) c.in_ok-take.ensures.same
+
+pub returns-in-Some-clause-whites : goal.returns-in-Some-clause-whites
+returns-in-Some-clause-whites c =
+    on_ok_weaker c.wake.result (λ e. e ∙ ap (λ (s : Shown). s.whites) c.in_ok-take.ensures.same)
+    c.wake.ensures.whites

@@ -3,13 +3,25 @@ use Rattle.judge.proofs.LetGo.{lets_all, lets_more, lets_none}
 use Rattle.judge.proofs.world.World.let_go.Goals as goal
 
 pub loop-name-init : goal.loop-name-init
-loop-name-init c = record { phase = refl; former = refl; black = refl; places = lets_none _ }
+loop-name-init c = record {
+  phase = refl;
+  former = refl;
+  black = refl;
+  whites = refl;
+  arenas = record { owners = refl; out = refl };
+  places = lets_none _;
+}
 
 pub loop-name-preserved : goal.loop-name-preserved
 loop-name-preserved c = record {
   phase = c.in_ok-let_one_go.ensures.phase ∙ c.loop-name.invariant.phase;
   former = c.in_ok-let_one_go.ensures.former ∙ c.loop-name.invariant.former;
   black = c.in_ok-let_one_go.ensures.black ∙ c.loop-name.invariant.black;
+  whites = c.in_ok-let_one_go.ensures.whites ∙ c.loop-name.invariant.whites;
+  arenas = record {
+    owners = c.in_ok-let_one_go.ensures.arenas.owners ∙ c.loop-name.invariant.arenas.owners;
+    out = c.in_ok-let_one_go.ensures.arenas.out ∙ c.loop-name.invariant.arenas.out;
+  };
   places = lets_more _ c.loop-name.self.places c.let_one_go.new.self.places c.args.whites.now c.loop-name.name-index _
       c.loop-name-test.true c.loop-name.invariant.places c.in_ok-let_one_go.ensures.places;
 }

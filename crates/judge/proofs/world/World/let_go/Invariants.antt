@@ -1,4 +1,5 @@
 use Rattle.std.proofs.Common.{◌≡◌, take}
+use Rattle.judge.specs.Arenas.{AreSameArenas}
 use Rattle.judge.specs.Cells.{LetsGo}
 use Rattle.judge.proofs.world.World.let_go.Given as goal
 
@@ -7,5 +8,7 @@ invariant-loop-name l = record {
   phase : l.self.phase ≡ l.fn.self.phase;
   former : l.self.former ≡ l.fn.self.former;
   black : l.self.black ≡ l.fn.self.black;
+  whites : l.self.whites ≡ l.fn.self.whites;
+  arenas : AreSameArenas l.fn.self.arenas l.self.arenas;
   places : LetsGo (take l.name-index l.whites) l.fn.self.places l.self.places;
 }

@@ -5,7 +5,8 @@ use Rattle.judge.proofs.world.World.new.Goals as goal
 pub returns : goal.returns
 returns c = record {
   none_running = refl;
-  none_out = ap reverse c.new-3.ensures;
+  none_owned = c.new-3.ensures.owners;
+  none_out = ap reverse c.new-3.ensures.out;
   none_made = c.new-2.ensures.empty;
   former = c.new.ensures.former;
   taken = c.new.ensures.kept;

@@ -1,10 +1,11 @@
-use Rattle.std.proofs.Common.{ap, subst, sym}
+use Rattle.std.proofs.Common.{◌∙◌, ap, subst, sym}
 use Rattle.std.proofs.lemmas.Result.{on_ok_weaker}
 use Rattle.judge.specs.Cells.{Cells, GivesPlace}
 use Rattle.plain_graph.specs.Reach.{WalkState}
-use Rattle.judge.specs.Stages.{BlackensOne, Shown, Wakes, stage_of}
+use Rattle.judge.specs.Stages.{BlackensOne, Shown, Wakes, shown, stage_of}
 use Rattle.judge.specs.Walks.{walks_of}
 use Rattle.judge.specs.declared.world.Phase.{Phase}
+use Rattle.judge.proofs.Owners.{lies_before}
 use Rattle.judge.proofs.world.World.wake.Goals as goal
 
 pub returns-clause-places : goal.returns-clause-places
@@ -27,3 +28,16 @@ returns-clause-black c =
     (stage_of c.args.self.now.phase) c.args.name w after) black (subst (λ (p : Phase). BlackensOne c.args.graph.now
     (stage_of p) c.args.name c.give_place.new.self.black after) c.give_place.ensures.phase b))
     c.turn_black.ensures.black
+
+pub returns-clause-lies : goal.returns-clause-lies
+returns-clause-lies c =
+    let mid = shown c.give_place.new.self in
+    let after = shown c.turn_black.new.self in
+    on_ok_weaker c.turn_black.result (λ same. lies_before c.args.graph.now (shown c.args.self.now) mid after
+    (ap (λ (s : Shown). s.owners) same) (ap (λ (s : Shown). s.cells) same) c.in_ok-give_place.ensures.lies)
+    c.turn_black.ensures.same
+
+pub returns-clause-whites : goal.returns-clause-whites
+returns-clause-whites c =
+    on_ok_weaker c.turn_black.result (λ same. ap (λ (s : Shown). s.whites) same
+    ∙ ap (λ (s : Shown). s.whites) c.in_ok-give_place.ensures.same) c.turn_black.ensures.same
