@@ -7,11 +7,10 @@ For each call: the instructions that it takes, as valgrind counts them, and the 
 runs the quickest; what the loop takes without the call is taken off. `gcz_running` does next to nothing behind the
 handle, so it shows what the handle costs; `refused` is a `gcz_get` from an empty register, `out-of-range` a `gcz_copy`
 to register 16, and `gcz_advance` is one where no collection runs. Before each `gcz_unpin` stands a `gcz_pin`, which is
-taken off, too. `over` is what a call takes more than the session's
-own: the same command of `Session`, done by a loop in Rattle. For that the library is built once more, from a copy of
-the sources in which gczone_c has that loop as an export, so it takes two minutes longer; both builds are without proof
-then. Last, a line that is written to `gczone run` and whose answer is read, in microseconds of wall time. Say nothing
-of times but what one run on one machine shows.
+taken off, too. `over` is what a call takes more than the session's own: the same command of `Session`, done by a loop
+in Rattle. For that the library is built once more, from a copy of the sources in which gczone_c has that loop as an
+export, so it takes two minutes longer; both builds are without proof then. Last, a line that is written to `gczone run`
+and whose answer is read, in microseconds of wall time. Say nothing of times but what one run on one machine shows.
 """
 
 import os
@@ -172,6 +171,12 @@ def round_trip(program):
     return taken / LINES * 1e6
 
 
+def without_loop(measure, program, call, loop):
+    """What a call takes without the loop around it, and without the loop of the call that stands before it."""
+    taken = measure(program, call) - loop
+    return taken - measure(program, BEFORE[call]) if call in BEFORE else taken
+
+
 def read_words():
     words = Parser(__doc__)
     words.add_argument("--library", type=Path, default=BINDINGS / "out/libgczone.a", help="the libgczone.a to measure")
@@ -189,12 +194,15 @@ def main():
         calls = build(words.library, Path(folder))
         empty = instructions(calls, "nothing"), nanoseconds(calls, "nothing")
         over = Over(Path(folder))
-        rows = []
-        for call in measured.over(CALLS):
-            before = BEFORE.get(call, "nothing")
-            counted = instructions(calls, call) - instructions(calls, before)
-            timed = nanoseconds(calls, call) - nanoseconds(calls, before)
-            rows.append((call, counted, timed, over.measure(call, empty)))
+        rows = [
+            (
+                call,
+                without_loop(instructions, calls, call, empty[0]),
+                without_loop(nanoseconds, calls, call, empty[1]),
+                over.measure(call, empty),
+            )
+            for call in measured.over(CALLS)
+        ]
         trip = min(round_trip(program) for _ in range(TRIES))
     print_head("call", "instructions", "ns", "over: instructions", "over: ns")
     for call, count, time_taken, more in rows:
