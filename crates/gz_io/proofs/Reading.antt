@@ -68,6 +68,13 @@ next_bytes None b h mid new f result k e g = tt
 next_bytes (Some xs) None h mid new f result k e g = absurd k
 next_bytes (Some xs) (Some ys) h mid new f result k e g = gives_bytes (h ++ xs) ys mid new f result k e g
 
+-- where a whole line is held, nothing is taken
+pub line_bytes : (a : Option (List ℕ)) (old new : Kept) (f : Found) (result : Next) (n : ℕ) → f ≡ found.Line n
+    → GivesFound f old new result → GivesKnown (prepend_known old.held a) (prepend_known new.held a) result new.line
+line_bytes None old new f result n e g = tt
+line_bytes (Some ys) old new f result n e g =
+    gives_bytes (old.held ++ ys) ys old new f result refl (λ m. absurd (let d = sym e ∙ m in cc d)) g
+
 pub fault_bytes : (a b : Option (List ℕ)) (line : List ℕ) → Keeps a b → GivesKnown a b next.ReadFault line
 fault_bytes None b line k = tt
 fault_bytes (Some xs) None line k = absurd k

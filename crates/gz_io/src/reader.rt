@@ -234,6 +234,10 @@ impl LineReader {
         ensures later { S.faults source.old ≤ S.faults source.new }
         ensures same { result ≢ Next.ReadFault → S.faults source.new ≡ S.faults source.old }
     {
+        let found = self.found();
+        if let Found::Line(_) = found {
+            return self.give_found(found);
+        }
         match self.fetch(source) {
             Ok(found) => self.give_found(found),
             Err(_) => Next::ReadFault,
