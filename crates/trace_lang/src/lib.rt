@@ -27,6 +27,7 @@
 #![tactic(auto)]
 
 mod arguments;
+mod fronts;
 mod lines;
 mod numbers;
 mod piece;

@@ -10,6 +10,7 @@ ghost use Rattle.trace_lang.specs.Words.{word_text, number_word, IsBreak, IsWord
 ghost use Rattle.trace_lang.specs.Grammar.{Spells, SpellsRest, SpellsZones};
 
 use crate::arguments::{one, three, two};
+use crate::fronts::{begins_spaced, begins_with};
 use crate::numbers::spaced_number;
 use crate::rows::{CopyRow, DropRow, GetRow, NewRow, Row, SetRow};
 use crate::words::{Word, word_of};
@@ -160,13 +161,45 @@ fn command(word: Word, rest: &[u8]) -> Option<Cmd>
     }
 }
 
+// This word, of this number of bytes, with which the line begins, and the rest.
+#[inline(always)]
+fn word_at(word: Word, line: &[u8], len: usize) -> (Word, &[u8])
+    requires front { StartsWith line.now (word_text word ++ codes " ") }
+    requires len { len ≡ length (word_text word) }
+    ensures parts { line.now ≡ word_text result.0 ++ result.1.now }
+    ensures exact { (w : Word) (rest : List ℕ) → IsBreak rest → line.now ≡ word_text w ++ rest
+        → (result.0 ≡ w) × (result.1.now ≡ rest) }
+{
+    (word, &line[len..])
+}
+
+// Returns what `first_word` would, in a few steps for eight frequent words.
+#[inline(always)]
+fn front_word(line: &[u8]) -> Option<(Word, &[u8])>
+    ensures some { IfSome result (λ p. line.now ≡ word_text p.0 ++ p.1.now) }
+    ensures exact { (w : Word) (rest : List ℕ) → IsBreak rest → line.now ≡ word_text w ++ rest
+        → MatchOption result ⊥ (λ p. (p.0 ≡ w) × (p.1.now ≡ rest)) }
+{
+    match line {
+        [b'm', b'a', b'p', b' ', ..] => Some(word_at(Word::Map, line, 3)),
+        [b'p', b'u', b't', b' ', ..] => Some(word_at(Word::Put, line, 3)),
+        [b'w', b'r', b'a', b'p', b' ', ..] => Some(word_at(Word::Wrap, line, 4)),
+        [b'h', b'o', b'l', b'd', b' ', ..] => Some(word_at(Word::Hold, line, 4)),
+        [b'f', b'i', b'n', b'd', b' ', ..] => Some(word_at(Word::Find, line, 4)),
+        [b's', b'l', b'i', b'c', b'e', b' ', ..] => Some(word_at(Word::Slice, line, 5)),
+        [b'u', b'n', b'w', b'r', b'a', b'p', b' ', ..] => Some(word_at(Word::Unwrap, line, 6)),
+        [b'e', b'x', b'p', b'o', b's', b'e', b' ', ..] => Some(word_at(Word::Expose, line, 6)),
+        _ => first_word(line),
+    }
+}
+
 // The command that a line stands for, whatever its first word is.
 #[inline(never)]
 fn any_command(line: &[u8]) -> Option<Cmd>
     ensures some { IfSome result (Spells line.now) }
     ensures exact { (c : Cmd) → Spells line.now c → result ≡ Some c }
 {
-    let (word, rest) = first_word(line)?;
+    let (word, rest) = front_word(line)?;
     command(word, rest)
 }
 
@@ -187,14 +220,22 @@ fn command_of(line: &[u8]) -> Option<Cmd>
     ensures some { IfSome result (Spells line.now) }
     ensures exact { (c : Cmd) → Spells line.now c → result ≡ Some c }
 {
-    match line {
-        [b'g', b'e', b't', b' ', ..] => command_after::<GetRow>(line, 3),
-        [b's', b'e', b't', b' ', ..] => command_after::<SetRow>(line, 3),
-        [b'n', b'e', b'w', b' ', ..] => command_after::<NewRow>(line, 3),
-        [b'c', b'o', b'p', b'y', b' ', ..] => command_after::<CopyRow>(line, 4),
-        [b'd', b'r', b'o', b'p', b' ', ..] => command_after::<DropRow>(line, 4),
-        _ => any_command(line),
+    if begins_with(line, *b"get ") {
+        return command_after::<GetRow>(line, 3);
     }
+    if begins_with(line, *b"set ") {
+        return command_after::<SetRow>(line, 3);
+    }
+    if begins_with(line, *b"new ") {
+        return command_after::<NewRow>(line, 3);
+    }
+    if begins_spaced(line, *b"copy") {
+        return command_after::<CopyRow>(line, 4);
+    }
+    if begins_spaced(line, *b"drop") {
+        return command_after::<DropRow>(line, 4);
+    }
+    any_command(line)
 }
 
 /// The command that a line stands for.

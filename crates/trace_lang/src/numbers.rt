@@ -6,6 +6,8 @@ ghost use Rattle.std.specs.Fmt.{decimal};
 ghost use Rattle.trace_lang.specs.Words.{IsBreak, number_word};
 ghost use Rattle.trace_lang.specs.Numbers.{front_digits, after_digits, read_on};
 
+use crate::fronts::is_spaced;
+
 // The number that a number goes on to by the first digits, if it is below the limit, and what follows
 // them.
 #[inline(never)]
@@ -45,7 +47,6 @@ fn digit(byte: u8) -> Option<u64>
 }
 
 // The digit that a text begins with, or a number above 9 where it begins with none.
-#[inline(always)]
 fn digit_or_more(text: &[u8]) -> u8
     ensures digit { result < 10 → text.now ≡ (48 + result) ∷ drop 1 text.now }
     ensures more { 10 ≤ result → 0 < length text.now → is_ascii_digit (slice_index text.now 0) ≡ false }
@@ -98,7 +99,6 @@ fn short_number(first: u64, rest: &[u8], limit: u64) -> Option<(u64, &[u8])>
 
 // The number of one digit below a limit, and what follows it. Of two digits the second begins no word,
 // so the rest of the line is refused.
-#[inline(always)]
 fn single_digit(first: u64, rest: &[u8], limit: u64) -> Option<(u64, &[u8])>
     requires digit { first < 10 }
     requires most { limit ≤ 10 }
@@ -179,7 +179,7 @@ pub fn lettered_number(text: &[u8], letter: u8, limit: u64) -> Option<(u64, &[u8
         → MatchOption result ⊥ (λ p. (p.0 ≡ n) × (p.1.now ≡ rest)) }
 {
     match text {
-        [b' ', second, first, rest @ ..] if *second == letter => {
+        [space, second, first, rest @ ..] if is_spaced(*space, *second, letter) => {
             short_number(digit(*first)?, rest, limit)
         }
         _ => None,

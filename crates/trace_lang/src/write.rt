@@ -267,6 +267,16 @@ pub fn write_name<K: Sink>(sink: &mut K, name: Name) -> Result<(), WriteFault>
     write_all(sink, tail.text())
 }
 
+// Writes a line, or fails after a prefix of it.
+#[inline(always)]
+fn write_line<K: Sink, const N: usize>(sink: &mut K, line: [u8; N]) -> Result<(), WriteFault>
+    ensures ok { OnOk result (Appends (K.written sink.old) (K.written sink.new) line.entry) }
+    ensures err { OnErr result (AppendsFront (K.written sink.old) (K.written sink.new) line.entry) }
+    ensures cause { HasCause (K.faults sink.old) (K.faults sink.new) result }
+{
+    write_all(sink, &line)
+}
+
 /// Writes a reply with its line feed, or fails after a prefix of it.
 #[inline(always)]
 pub fn write_reply<K: Sink>(sink: &mut K, reply: &Reply) -> Result<(), WriteFault>
@@ -281,9 +291,9 @@ pub fn write_reply<K: Sink>(sink: &mut K, reply: &Reply) -> Result<(), WriteFaul
         Reply::Comp(comp) => write_numbered(sink, b"comp ", u64::from(comp.0)),
         Reply::Made(n) => write_numbered(sink, b"cell ", *n),
         Reply::Named(name) => write_named(sink, *name),
-        Reply::Null => write_all(sink, b"null\n"),
-        Reply::Accepted => write_all(sink, b"ok\n"),
-        Reply::Absent => write_all(sink, b"absent\n"),
+        Reply::Null => write_line(sink, *b"null\n"),
+        Reply::Accepted => write_line(sink, *b"ok\n"),
+        Reply::Absent => write_line(sink, *b"absent\n"),
         Reply::GcBegun => write_all(sink, b"gc ok\n"),
         Reply::Sliced(k) => write_numbered(sink, b"slice ", *k),
         Reply::Collected => write_all(sink, b"collected\n"),
