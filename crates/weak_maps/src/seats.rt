@@ -167,6 +167,7 @@ pub(crate) fn add_first(lists: &mut Vec<Listing>, seats: &mut Vec<Seat>, listing
 }
 
 // The next entry that is to be looked at in this colour.
+#[inline(always)]
 pub(crate) fn next_left(lists: &mut [Listing], queue: &mut Queue, colour: MarkColour) -> Option<u32>
     requires queue { IsQueueFor colour lists.old queue.old }
     ensures some { IfSome result (λ entry. LooksAt colour entry lists.old lists.new) }

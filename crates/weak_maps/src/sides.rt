@@ -177,6 +177,7 @@ impl Side {
     }
 
     /// The next entry that is to be looked at in this colour. It is not any more.
+    #[inline(always)]
     pub fn next(&mut self, colour: MarkColour) -> Option<u32>
         ensures some { IfSome result (λ entry.
             (slice_get self.old.left entry ≡ Some (Some colour))
