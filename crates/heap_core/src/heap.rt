@@ -58,6 +58,7 @@ use mark_stack::Pile;
 use roots::Roots;
 use std::alloc::{AllocError, Global};
 use std::marker::Model;
+use std::mem;
 use std::snapshot::Snapshot;
 use std::sync::ledger::{Blank, Ledger};
 use weak_maps::{Delegate, MarkColour, WeakEntry, WeakMaps};
@@ -80,6 +81,21 @@ pub struct Heap {
     objects: u64,
     // The ledger in which the edges that are read are counted, if they are.
     counted_in: Option<Snapshot<Blank>>,
+}
+
+/// Where a heap counted the edges that are read, while it does not: in a ledger, or nowhere.
+#[derive(Drop)]
+pub struct CountedIn {
+    blank: Option<Snapshot<Blank>>,
+}
+
+impl Model for CountedIn {
+    ghost use Rattle.std.specs.Prelude.{ℕ, Option};
+    ghost use Rattle.std.specs.Option.{option_map};
+
+    ghost Value = { Option ℕ };
+
+    ghost view = { λ c. option_map (λ s. s.value.name) c.blank };
 }
 
 impl Model for Heap {
@@ -148,11 +164,21 @@ impl Heap {
         Steps::new(blank)
     }
 
-    /// From now on the edges that are read are not counted, and `edge_at` reads them.
-    pub fn uncount_edges(&mut self)
-        ensures { self.new ≡ record self.old { ledger = None } }
+    /// From now on the edges that are read are not counted, and `edge_at` reads them. Returns where they were counted.
+    pub fn uncount_edges(&mut self) -> CountedIn
+        ensures heap { self.new ≡ record self.old { ledger = None } }
+        ensures ledger { result ≡ self.old.ledger }
     {
-        self.counted_in = None;
+        CountedIn {
+            blank: mem::replace(&mut self.counted_in, None),
+        }
+    }
+
+    /// From now on the edges that are read are counted where they were as `uncount_edges` was called.
+    pub fn recount_edges(&mut self, counted_in: CountedIn)
+        ensures { self.new ≡ record self.old { ledger = counted_in } }
+    {
+        self.counted_in = counted_in.blank;
     }
 
     /// The kind of a present cell.

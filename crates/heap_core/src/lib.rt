@@ -78,6 +78,6 @@ mod steps;
 mod weak_names;
 mod wrapping;
 
-pub use heap::Heap;
+pub use heap::{CountedIn, Heap};
 pub use plans::{Change, Plan};
 pub use steps::Steps;
