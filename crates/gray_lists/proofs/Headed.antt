@@ -11,7 +11,7 @@ use Rattle.gz_names.specs.Zones.{HasZone}
 use Rattle.gz_names.proofs.Words.{HasZone-none}
 use Rattle.gz_names.specs.declared.numbers.Place.{Place}
 use Rattle.gray_lists.specs.Incoming.{list_at}
-use Rattle.gray_lists.specs.CompSets.{HasComp, AreHeaded}
+use Rattle.gray_lists.specs.CompSets.{HasComp, AreHeaded, IsEnd}
 use Rattle.gray_lists.specs.Nodes.{lists_of, walk, Chain, Links}
 use Rattle.gray_lists.specs.declared.nodes.Node.{Node}
 use Rattle.gray_lists.proofs.Noting.{list_at-headless}
@@ -46,27 +46,6 @@ HasComp-more words k word h is c = elim (cases_eq (c / 64) (k / 64)) [
           | inl old ↦ subst (λ v. HasZone v (c % 64)) (sym other) old
           | inr same ↦ absurd (n (ap (λ m. m / 64) same))
         ],
-      ))
-]
-
-pub HasComp-less : (words : List ℕ) (k word : ℕ) → k / 64 < length words
-    → ((b : ℕ) → HasZone word b ↔ (HasZone (get_or words (k / 64) 0) b × (b ≢ k % 64))) → (c : ℕ)
-    → HasComp (set words (k / 64) word) c ↔ (HasComp words c × (c ≢ k))
-HasComp-less words k word h is c = elim (cases_eq (c / 64) (k / 64)) [
-  | inl e ↦ (
-      let here : get_or (set words (k / 64) word) (c / 64) 0 ≡ word = ap (λ n. get_or (set words (k / 64) word) n 0) e
-      ∙ get_or-set_same words (k / 64) word 0 h in
-      let there : get_or words (c / 64) 0 ≡ get_or words (k / 64) 0 = ap (λ n. get_or words n 0) e in (
-        λ x. (let y = (is (c % 64)).0 (subst (λ v. HasZone v (c % 64)) here x) in
-            (subst (λ v. HasZone v (c % 64)) (sym there) y.0, λ same. y.1 (ap (λ n. n % 64) same))),
-        λ x. subst (λ v. HasZone v (c % 64)) (sym here)
-            ((is (c % 64)).1 (subst (λ v. HasZone v (c % 64)) there x.0, λ same. x.1 (comp_parts c k e same))),
-      ))
-  | inr n ↦ (
-      let other : get_or (set words (k / 64) word) (c / 64) 0 ≡ get_or words (c / 64) 0 =
-      get_or-set_other words (k / 64) (c / 64) word 0 n in (
-        λ x. (subst (λ v. HasZone v (c % 64)) other x, λ same. n (ap (λ m. m / 64) same)),
-        λ x. subst (λ v. HasZone v (c % 64)) (sym other) x.0,
       ))
 ]
 
@@ -240,3 +219,16 @@ headless-empty nodes heads words c headed none = go (get_or heads c None) refl
       | inr le ↦ (let same = length-map heads (walk nodes (length nodes)) in get_or_past (lists_of nodes heads) c []
           (omega arith))
     ]
+
+-- a wrapper more stands first, whether the list had one or not
+pub AreHeaded-noted : (heads : List (Option ℕ)) (words news : List ℕ) (k at : ℕ) (first : Option ℕ) → k < length heads
+    → get_or heads k None ≡ first → AreHeaded heads words → IfSome first (λ _. news ≡ words)
+    → IfNone first ((c : ℕ) → HasComp news c ↔ (HasComp words c ⊎ (c ≡ k))) → AreHeaded (set heads k (Some at)) news
+AreHeaded-noted heads words news k at None h is old same more = AreHeaded-more heads words news k at h old more
+AreHeaded-noted heads words news k at (Some i) h is old same more =
+    subst (λ (ws : List ℕ). AreHeaded (set heads k (Some at)) ws) (sym same)
+    (AreHeaded-same heads words k i (Some at) h is (λ none. cc none) old)
+
+-- a number is above each compartment of a set that has none
+pub IsEnd-none : (words : List ℕ) → ((c : ℕ) → HasComp words c → ⊥) → IsEnd words 0
+IsEnd-none words none = (omega arith, λ c has. absurd (none c has))

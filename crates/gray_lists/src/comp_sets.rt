@@ -1,7 +1,7 @@
 // Sets of compartments, a bit a compartment.
 ghost use Rattle.std.specs.Prelude.{◌≡◌, ◌≢◌, ◌≤◌, ◌*◌, ◌<◌, ◌↔◌, ◌⊎◌, ℕ, IsTrue, IfSome, IfNone};
 ghost use Rattle.gz_names.specs.Zones.{HasZone};
-ghost use Rattle.gray_lists.specs.CompSets.{HasComp};
+ghost use Rattle.gray_lists.specs.CompSets.{HasComp, IsEnd};
 
 use gz_names::CompNo;
 
@@ -9,32 +9,46 @@ use gz_names::CompNo;
 #[derive(Clone, Copy)]
 pub(crate) struct CompSet {
     pub(crate) words: [u64; 4],
+    // Above each compartment of the set: a search goes no further.
+    pub(crate) end: u16,
 }
 
 impl CompSet {
     // No compartment.
     pub(crate) fn new() -> Self
-        ensures { (c : ℕ) → HasComp result.words c → ⊥ }
+        ensures none { (c : ℕ) → HasComp result.words c → ⊥ }
+        ensures end { IsEnd result.words result.end }
     {
-        CompSet { words: [0; 4] }
+        CompSet {
+            words: [0; 4],
+            end: 0,
+        }
     }
 
     // Adds a compartment, if it is not there.
     pub(crate) fn insert(&mut self, comp: CompNo)
-        ensures { (c : ℕ) → HasComp self.new.words c
+        requires { IsEnd self.old.words self.old.end }
+        ensures added { (c : ℕ) → HasComp self.new.words c
             ↔ (HasComp self.old.words c ⊎ (c ≡ comp.0)) }
+        ensures end { IsEnd self.new.words self.new.end }
     {
         let at = (comp.0 / 64) as usize;
         self.words[at] = with_bit(self.words[at], comp.0 % 64);
+        self.end = self.end.max(u16::from(comp.0) + 1);
     }
 
     // Takes a compartment out, if it is there.
     pub(crate) fn remove(&mut self, comp: CompNo)
-        ensures { (c : ℕ) → HasComp self.new.words c
+        requires { IsEnd self.old.words self.old.end }
+        ensures removed { (c : ℕ) → HasComp self.new.words c
             ↔ (HasComp self.old.words c × (c ≢ comp.0)) }
+        ensures end { IsEnd self.new.words self.new.end }
     {
         let at = (comp.0 / 64) as usize;
         self.words[at] = without_bit(self.words[at], comp.0 % 64);
+        if self.is_empty() {
+            self.end = 0;
+        }
     }
 
     // Whether no compartment is in the set.
@@ -46,15 +60,13 @@ impl CompSet {
 
     // The lowest compartment from a number on. It looks at four words at most.
     pub(crate) fn first_from(&self, from: u16) -> Option<CompNo>
+        requires { IsEnd self.now.words self.now.end }
         ensures some { IfSome result (λ c. (from ≤ c.0) × HasComp self.now.words c.0) }
         ensures between { IfSome result
             (λ c. (n : ℕ) → from ≤ n → n < c.0 → HasComp self.now.words n → ⊥) }
         ensures none { IfNone result ((n : ℕ) → from ≤ n → HasComp self.now.words n → ⊥) }
     {
-        if self.is_empty() {
-            return None;
-        }
-        if from >= 256 {
+        if from >= self.end {
             return None;
         }
         let word = from / 64;

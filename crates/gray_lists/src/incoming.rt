@@ -1,7 +1,7 @@
 // The incoming gray wrappers, by the compartment of their targets.
-ghost use Rattle.std.specs.Prelude.{◌≡◌, ◌≢◌, ◌≤◌, ◌<◌, ◌↔◌, ◌+◌, ◌∷◌, ℕ, [], length, replicate, Contains, IfSome};
+ghost use Rattle.std.specs.Prelude.{◌≡◌, ◌≢◌, ◌≤◌, ◌<◌, ◌↔◌, ◌⊎◌, ◌+◌, ◌∷◌, ℕ, [], length, replicate, Contains, IfSome};
 ghost use Rattle.std.specs.Prelude.{IfNone, OnOk, OnErr};
-ghost use Rattle.gray_lists.specs.CompSets.{HasComp};
+ghost use Rattle.gray_lists.specs.CompSets.{HasComp, IsEnd};
 
 use crate::comp_sets::CompSet;
 use crate::nodes::{Node, put_node, take_node};
@@ -27,7 +27,7 @@ impl Model for Lists {
     ghost use Rattle.std.specs.Prelude.{vec_capacity};
     ghost use Rattle.gray_lists.specs.Incoming.{Incoming};
     ghost use Rattle.gray_lists.specs.Nodes.{lists_of, IsSound};
-    ghost use Rattle.gray_lists.specs.CompSets.{AreHeaded};
+    ghost use Rattle.gray_lists.specs.CompSets.{AreHeaded, IsEnd};
 
     ghost Value = { Incoming };
 
@@ -37,7 +37,7 @@ impl Model for Lists {
     } };
 
     ghost invariant = { λ l. IsSound l.nodes.items (vec_capacity l.nodes) l.heads l.free l.room
-        × AreHeaded l.heads l.waiting.words };
+        × AreHeaded l.heads l.waiting.words × IsEnd l.waiting.words l.waiting.end };
 }
 
 impl Lists {
@@ -84,7 +84,7 @@ impl Lists {
         let next = self.heads[comp.0 as usize];
         let at = put_node(&mut self.nodes, &mut self.free, Node { wrapper, next });
         self.heads[comp.0 as usize] = Some(at);
-        self.waiting.insert(comp);
+        begin_waiting(&mut self.waiting, comp, next);
     }
 
     /// Takes the wrapper that was noted last off the list of a compartment; `None` where the list is
@@ -126,11 +126,26 @@ impl Lists {
     }
 }
 
+// A compartment goes into the set, if its list had no first node.
+fn begin_waiting(waiting: &mut CompSet, comp: CompNo, first: Option<u32>)
+    requires { IsEnd waiting.old.words waiting.old.end }
+    ensures some { IfSome first (λ _. waiting.new.words ≡ waiting.old.words) }
+    ensures none { IfNone first ((c : ℕ) → HasComp waiting.new.words c
+        ↔ (HasComp waiting.old.words c ⊎ (c ≡ comp.0))) }
+    ensures end { IsEnd waiting.new.words waiting.new.end }
+{
+    if first.is_none() {
+        waiting.insert(comp);
+    }
+}
+
 // A compartment goes out of the set, if its list has no first node any more.
 fn leave_empty(waiting: &mut CompSet, comp: CompNo, first: Option<u32>)
+    requires { IsEnd waiting.old.words waiting.old.end }
     ensures some { IfSome first (λ _. waiting.new.words ≡ waiting.old.words) }
     ensures none { IfNone first ((c : ℕ) → HasComp waiting.new.words c
         ↔ (HasComp waiting.old.words c × (c ≢ comp.0))) }
+    ensures end { IsEnd waiting.new.words waiting.new.end }
 {
     if first.is_none() {
         waiting.remove(comp);

@@ -29,7 +29,8 @@
 // writes, however many wrappers wait, and nobody searches.
 //
 // Beside the lists stands the set of the compartments whose lists are not empty, a bit a compartment,
-// so that gray marking finds what waits by four words and not by 256 lists.
+// with a number above them all. So gray marking finds what waits by four words at most and not by 256
+// lists, and that nothing waits behind a compartment by one comparison.
 //
 // Gray marking has no answer for want of memory, so memory comes first: `reserve` is called before a
 // wrapper is made. A wrapper stands on at most one list, and once, so no more can wait than there

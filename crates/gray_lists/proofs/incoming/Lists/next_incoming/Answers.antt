@@ -22,6 +22,7 @@ invariant_of-self c =
           c.in_ok-at.was c.take_node-node.ensures.node c.take_node-node.ensures.nodes,
       AreHeaded-taken _ _ _ c.args.comp.0 c.in_ok-at.at c.take_node-node.result.next (omega arith) c.in_ok-at.was
           c.self.invariant.1 c.leave_empty.ensures.some c.leave_empty.ensures.none,
+      c.leave_empty.ensures.end,
     )
 
 pub returns-clause-some : goal.returns-clause-some

@@ -1,7 +1,7 @@
 use Rattle.std.proofs.Common.{arith, ◌≡◌, ◌<◌, length, refl}
 use Rattle.gray_lists.specs.Nodes.{lists_of}
 use Rattle.gray_lists.proofs.Apart.{AreApart-noted}
-use Rattle.gray_lists.proofs.Headed.{AreHeaded-more}
+use Rattle.gray_lists.proofs.Headed.{AreHeaded-noted}
 use Rattle.gray_lists.proofs.Noting.{free-within, room-held, notes, IsSound-noted, count-more}
 use Rattle.gray_lists.proofs.incoming.Lists.note.Goals as goal
 
@@ -18,8 +18,9 @@ invariant_of-self c =
       IsSound-noted _ _ _ _ _ c.args.comp.0 c.put_node-at.result c.args.wrapper _ _ c.self.invariant.0 (omega arith)
           (rw (← c.self.view_is) at c.requires.room) (rw (← c.self.view_is) at c.requires.apart)
           c.put_node-at.ensures.puts,
-      AreHeaded-more _ _ _ c.args.comp.0 c.put_node-at.result (omega arith)
-          c.self.invariant.1 c.insert.ensures,
+      AreHeaded-noted _ _ _ c.args.comp.0 c.put_node-at.result _ (omega arith) refl c.self.invariant.1
+          c.begin_waiting.ensures.some c.begin_waiting.ensures.none,
+      c.begin_waiting.ensures.end,
     )
 
 pub returns-clause-noted : goal.returns-clause-noted

@@ -14,6 +14,7 @@ invariant_of-self c =
         limit = old.limit;
       },
       c.self.invariant.1,
+      c.self.invariant.2,
     )
 
 pub invariant_of-self-2 : goal.invariant_of-self-2
@@ -29,4 +30,5 @@ invariant_of-self-2 c =
         limit = omega (arith, old.limit);
       },
       c.self.invariant.1,
+      c.self.invariant.2,
     )
