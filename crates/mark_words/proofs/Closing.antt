@@ -1,6 +1,6 @@
 -- The words as marks are closed.
-use Rattle.std.proofs.Common.{◌≡◌, ◌≢◌, ℕ, zero, suc, ◌+◌, ◌<◌, ◌≤◌, List, [], ◌∷◌, length, get_or, set, sym, refl, ap}
-use Rattle.std.proofs.Common.{◌∙◌, subst, arith, get_or-set_same, get_or-set_other}
+use Rattle.std.proofs.Common.{◌≡◌, ℕ, zero, suc, ◌+◌, ◌<◌, List, [], ◌∷◌, length, get_or, set, sym, ap}
+use Rattle.std.proofs.Common.{◌∙◌, arith, get_or-set_same, get_or-set_other}
 use Rattle.std.specs.Int.{bit_at}
 use mathlib.Core.Logic.{dite}
 use mathlib.Core.Option.{some, some-injective, some-ne-none}
@@ -8,7 +8,7 @@ use native.Mathlib.Decide.{ℕ_discrete}
 use lib.ListN.{get_elem?}
 use Rattle.atomic_table.specs.Table.{State, Final, Seen}
 use Rattle.mark_words.specs.declared.view.MarkView.{MarkView}
-use Rattle.mark_words.specs.Sums.{times, total, whole}
+use Rattle.mark_words.specs.Sums.{times, whole}
 use Rattle.mark_words.specs.Rule.{bit_of, MarkRule}
 use Rattle.mark_words.proofs.TableSteps.{alone}
 

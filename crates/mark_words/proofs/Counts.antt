@@ -5,7 +5,7 @@ use mathlib.Core.Logic.{dite}
 use mathlib.Core.Option.{some, some-injective, some-ne-none}
 use native.Mathlib.Decide.{ℕ_discrete}
 use lib.ListN.{get_elem?}
-use Rattle.mark_words.specs.Sums.{weight, weigh, only, times, total}
+use Rattle.mark_words.specs.Sums.{weight, weigh, only, total}
 
 module _ {V : Type 0} (f : V → ℕ) where
   -- the total after a change of one view

@@ -1,14 +1,12 @@
 -- The rule of marks in sentences.
-use Rattle.std.proofs.Common.{◌≡◌, ◌≢◌, ℕ, ◌+◌, ◌<◌, ◌≤◌, ◌⊎◌, List, length, inl, inr, refl, arith}
+use Rattle.std.proofs.Common.{ℕ, ◌<◌, List, inl, inr, arith}
 use Rattle.std.specs.Int.{bit_at}
 use Rattle.std.proofs.lemmas.Nat.Bits.{bit_at-lt}
 use mathlib.Core.Logic.{dite}
-use mathlib.Core.Option.{some}
 use native.Mathlib.Decide.{ℕ_discrete}
-use lib.ListN.{get_elem?}
 use Rattle.atomic_table.specs.Table.{State}
 use Rattle.mark_words.specs.declared.view.MarkView.{MarkView}
-use Rattle.mark_words.specs.Sums.{times, total}
+use Rattle.mark_words.specs.Sums.{times}
 use Rattle.mark_words.specs.Rule.{bit_of, MarkRule}
 use Rattle.mark_words.specs.InWords.{MarkRuleInWords}
 use Rattle.mark_words.proofs.Counts.{total-at, total-two, some_counts}

@@ -1,69 +1,52 @@
 -- Each step keeps the rule.
-use Rattle.std.proofs.Common.{◌≡◌, ◌≢◌, ℕ, zero, suc, ◌+◌, ◌-◌, ◌*◌, ◌^◌, ◌<◌, ◌≤◌, ◌⊎◌, Bool, true, false, eqb, List}
-use Rattle.std.proofs.Common.{[], ◌∷◌, ◌++◌, length, get_or, set, sym, refl, ap, ◌∙◌, subst, inl, inr, ⊎_elim, arith}
-use Rattle.std.proofs.Common.{length-set, get_or-set_same, get_or-set_other, eq-eqb, ne_eqb, bit_or, bit_and, min, max}
-use Rattle.std.proofs.Common.{All, MatchBool}
-use Rattle.std.specs.Int.{bit_at}
-use Rattle.std.proofs.lemmas.List.Elements.{All-cons, All-nil, All-append, All-weaker, All-get_or, All-from_get_or}
+use Rattle.std.proofs.Common.{◌≡◌, ◌≢◌, ℕ, zero, suc, ◌+◌, ◌-◌, ◌^◌, ◌<◌, List}
+use Rattle.std.proofs.Common.{[], ◌∷◌, ◌++◌, length, get_or, set, sym, refl, ap, ◌∙◌, subst, ⊎_elim, arith}
+use Rattle.std.proofs.Common.{length-set, get_or-set_same, get_or-set_other, bit_or, bit_and, min}
+use Rattle.std.proofs.Common.{All, w64}
+use Rattle.std.specs.Int.{bit_at, bit_not}
+use Rattle.std.proofs.lemmas.List.Elements.{All-nil, All-append, All-weaker, All-get_or, All-from_get_or}
 use Rattle.std.proofs.lemmas.List.{set-get_or}
-use Rattle.std.proofs.lemmas.Nat.Bits.{bit_at_and, bit_at_or, bit_at-zero, bit_at-lt, and_pow, same_from_bits}
-use Rattle.std.proofs.lemmas.Nat.Bits.{bit_at-pow_same, bit_at-pow_other}
+use Rattle.std.proofs.lemmas.Nat.Bits.{bit_at_above, bit_at_and, bit_at_not, bit_at_or, bit_at-lt}
 use mathlib.Core.Logic.{dite}
-use mathlib.Core.Option.{Option, none, some, some-injective, some-ne-none}
+use mathlib.Core.Option.{none, some, some-injective, some-ne-none}
 use native.Mathlib.Decide.{ℕ_discrete}
 use lib.ListN.{get_elem?}
 use Rattle.atomic_table.specs.Table.{State, Me, step, keeps, stepped, opening, Allows, Splits, Joins}
 use Rattle.atomic_table.proofs.Lists.{at_set, at_snoc, set_again}
 use Rattle.mark_words.specs.declared.view.MarkLog.{MarkLog}
 use Rattle.mark_words.specs.declared.view.MarkView.{MarkView}
-use Rattle.mark_words.specs.Sums.{weight, weigh, only, times, total, whole}
+use Rattle.mark_words.specs.Sums.{only, times, total, whole}
 use Rattle.mark_words.specs.Rule.{bit_of, IsBlackIn, SeatRule, MarkRule}
-use Rattle.mark_words.specs.Views.{first_view, new_log, with_less, split_off, joined, spent, with_won, with_known}
-use Rattle.mark_words.specs.Steps.{Wins, KnowsAll, tries, settles}
-use Rattle.mark_words.proofs.Counts.{total-set, total-snoc, total-at, total-alone, weigh-append, weigh-snoc, only-same}
-use Rattle.mark_words.proofs.Counts.{only-arena, only-slot}
+use Rattle.mark_words.specs.Places.{places_of}
+use Rattle.mark_words.specs.Views.{first_view, new_log, with_less, split_off, joined, spent, with_tried}
+use Rattle.mark_words.specs.Steps.{KnowsAll, tries, settles}
+use Rattle.mark_words.proofs.Counts.{total-set, total-snoc, total-at, total-alone, weigh-append}
+use Rattle.mark_words.proofs.Places.{all_below, each_below, times-away, times-inside, times-past}
 
 abbrev Sat : Type 0
 Sat = Me (Unit {0}) MarkView
 
--- one bit is that of one slot
-one_bit : (a k i : ℕ) → bit_at (2 ^ k) i ≡ only (a, i) (a, k)
-one_bit a k i = dite (ℕ_discrete i k)
-    (λ e. ap (bit_at (2 ^ k)) e ∙ bit_at-pow_same k ∙ sym (only-same (a, k))
-    ∙ ap (λ (z : ℕ). only (a, z) (a, k)) (sym e))
-    (λ ne. bit_at-pow_other k i ne ∙ sym (only-slot (a, i) (a, k) (λ e. ne (sym e))))
+module _ (P : ℕ × ℕ → Type 0) (first : List ℕ) (slots id : ℕ) (me : Sat) (a m : ℕ) (lt : a < length first)
+    (fits : m < 2 ^ 64) (listed : All P (places_of a m)) (some_part : 0 < me.0.parts) where
+  -- the slots that the word lacks
+  abbrev lacked : ℕ → ℕ
+  lacked n = bit_and m (bit_not w64 n)
 
-pub one_slot : (k j : ℕ) → 2 ^ k ≡ 2 ^ j → k ≡ j
-one_slot k j e = dite (ℕ_discrete k j) (λ same. same)
-    (λ ne. let on = bit_at-pow_same k in let off = bit_at-pow_other j k ne in
-    let is : bit_at (2 ^ k) k ≡ bit_at (2 ^ j) k = ap (λ (z : ℕ). bit_at z k) e in absurd (omega arith))
+  lacked_bit : (n i : ℕ) → n < 2 ^ 64 → i < 64 → bit_at (lacked n) i ≡ min (bit_at m i) (1 - bit_at n i)
+  lacked_bit n i small low = bit_at_and m (bit_not w64 n) i
+      ∙ ap (λ (b : ℕ). min (bit_at m i) b) (bit_at_not w64 n i small low)
 
--- whether a word has the mask of a slot is whether its bit is set
-lacks_bit : (n k : ℕ) → bit_and n (2 ^ k) ≡ 0 → bit_at n k ≡ 0
-lacks_bit n k e = let a = bit_at_and n (2 ^ k) k in
-    let z : bit_at (bit_and n (2 ^ k)) k ≡ 0 = ap (λ (m : ℕ). bit_at m k) e ∙ bit_at-zero k in
-    let s = bit_at-pow_same k in omega arith
-
-has_bit : (n k : ℕ) → bit_and n (2 ^ k) ≢ 0 → bit_at n k ≡ 1
-has_bit n k some' =
-    let lt = bit_at-lt n k in
-    dite (ℕ_discrete (bit_at n k) 0)
-    (λ z. absurd (some' (and_pow n k ∙ ap (λ (b : ℕ). b * 2 ^ k) z ∙ (let q : 0 * 2 ^ k ≡ 0 = omega arith in q))))
-    (λ nz. omega arith)
-
-module _ (P : ℕ × ℕ → Type 0) (first : List ℕ) (slots id : ℕ) (me : Sat) (a k : ℕ) (lt : a < length first)
-    (listed : P (a, k)) (some_part : 0 < me.0.parts) where
   after : (s : State (Unit {0}) MarkView) → MarkRule P first s → get_elem? s.views id ≡ some me.0 → (w : MarkView)
       → w.parts ≡ me.0.parts
-      → ((i : ℕ) → bit_at (bit_or (get_or s.words a 0) (2 ^ k)) i + times (a, i) me.0.won
+      → ((i : ℕ) → bit_at (bit_or (get_or s.words a 0) m) i + times (a, i) me.0.won
       ≡ bit_at (get_or s.words a 0) i + times (a, i) w.won)
       → ((p : ℕ × ℕ) → p.0 ≢ a → times p w.won ≡ times p me.0.won)
       → All P w.won
-      → w.known ≡ me.0.known ++ (a, k) ∷ []
-      → MarkRule P first (stepped s a (bit_or (get_or s.words a 0) (2 ^ k)) id me.1 w keeps)
+      → w.known ≡ me.0.known ++ places_of a m
+      → MarkRule P first (stepped s a (bit_or (get_or s.words a 0) m) id me.1 w keeps)
   after s r at w parts here away won known =
       let ws : List ℕ = s.words in
-      let n : ℕ = bit_or (get_or ws a 0) (2 ^ k) in
+      let n : ℕ = bit_or (get_or ws a 0) m in
       let ws' : List ℕ = set ws a n in
       let wide = r.sized in
       let now : get_or ws' a 0 ≡ n = get_or-set_same ws a n 0 (omega arith) in
@@ -73,12 +56,13 @@ module _ (P : ℕ × ℕ → Type 0) (first : List ℕ) (slots id : ℕ) (me : S
       let was : bit_at (get_or ws a 0) p.1 ≡ 1 = ap (λ (z : ℕ). bit_at (get_or ws z 0) p.1) (sym e) ∙ h in
       let is : bit_at (get_or ws' p.0 0) p.1 ≡ bit_at n p.1 = ap (λ (z : ℕ). bit_at (get_or ws' z 0) p.1) e
       ∙ ap (λ (z : ℕ). bit_at z p.1) now in
-      let o = bit_at_or (get_or ws a 0) (2 ^ k) p.1 in
-      let l = bit_at-lt (2 ^ k) p.1 in omega arith)
+      let o = bit_at_or (get_or ws a 0) m p.1 in
+      let l = bit_at-lt m p.1 in omega arith)
       (λ ne. ap (λ (z : ℕ). bit_at z p.1) (get_or-set_other ws a p.0 n 0 ne) ∙ h) in
-      let mine : IsBlackIn ws' (a, k) = let o = bit_at_or (get_or ws a 0) (2 ^ k) k in let s' = bit_at-pow_same k in
-      let l = bit_at-lt (get_or ws a 0) k in let is : bit_at (get_or ws' a 0) k ≡ bit_at n k =
-      ap (λ (z : ℕ). bit_at z k) now in omega arith in
+      let mine : All (IsBlackIn ws') (places_of a m) = all_below (IsBlackIn ws') a m 64 (λ i low one.
+      let o = bit_at_or (get_or ws a 0) m i in let l = bit_at-lt (get_or ws a 0) i in
+      let is : bit_at (get_or ws' a 0) i ≡ bit_at n i = ap (λ (z : ℕ). bit_at z i) now in omega arith) in
+      let Inside : ℕ × ℕ → Type 0 = λ p. p.0 < length first in
       let moved : (u : MarkView) → SeatRule P first ws u
       → SeatRule P first ws' u = λ u f. record {
         listed = f.listed;
@@ -88,13 +72,10 @@ module _ (P : ℕ × ℕ → Type 0) (first : List ℕ) (slots id : ℕ) (me : S
       } in
       let own : SeatRule P first ws' w = record {
         listed = won;
-        inside = subst (All (λ (p : ℕ × ℕ). p.0 < length first)) (sym known)
-            (All-append (λ (p : ℕ × ℕ). p.0 < length first) me.0.known ((a, k) ∷ []) old.inside
-            (All-cons (λ (p : ℕ × ℕ). p.0 < length first) (a, k) [] lt (All-nil (λ (p : ℕ × ℕ). p.0 < length first))));
-        black = subst (All (IsBlackIn ws')) (sym known)
-            (All-append (IsBlackIn ws') me.0.known ((a, k) ∷ [])
-            (All-weaker (IsBlackIn ws) (IsBlackIn ws') still me.0.known old.black)
-            (All-cons (IsBlackIn ws') (a, k) [] mine (All-nil (IsBlackIn ws'))));
+        inside = subst (All Inside) (sym known) (All-append Inside me.0.known (places_of a m) old.inside
+            (all_below Inside a m 64 (λ i low one. lt)));
+        black = subst (All (IsBlackIn ws')) (sym known) (All-append (IsBlackIn ws') me.0.known (places_of a m)
+            (All-weaker (IsBlackIn ws) (IsBlackIn ws') still me.0.known old.black) mine);
         idle = λ none. absurd (omega arith);
       } in record {
         sized = length-set ws a n ∙ wide;
@@ -112,58 +93,50 @@ module _ (P : ℕ × ℕ → Type 0) (first : List ℕ) (slots id : ℕ) (me : S
             (λ h. moved u (r.seats other u h.1)) (at_set s.views id other w u there);
       }
 
-  pub trying : me.0.first ≡ first → Allows (MarkRule P first) slots id me a (λ n. bit_or n (2 ^ k))
-      (tries (step slots a (2 ^ k) 0 none) me)
-  trying firsts s r _ at _ = let n : ℕ = get_or s.words a 0 in let p : ℕ × ℕ = (a, k) in let old = r.seats id me.0 at in
-      dite (ℕ_discrete (bit_and n (2 ^ k)) 0)
-      (λ lacks. let w : MarkView = with_won me.0 p in let zero_bit = lacks_bit n k lacks in let b = r.bits p lt in
-      let m = total-at (λ (v : MarkView). times p v.won) s.views id me.0 at in
-      let wins : Wins me.0 p w = (
-        refl,
-        (omega arith),
-        ap (λ (l : List ℕ). bit_of l p) firsts
-            ∙ (let z : bit_of first p ≡ 0 = omega arith in z),
-      ) in (
+  -- a slot that the word lacked was white at first, and this seat had not won it
+  was_white : (s : State (Unit {0}) MarkView) → MarkRule P first s → get_elem? s.views id ≡ some me.0 → (i : ℕ)
+      → bit_at (get_or s.words a 0) i ≡ 0 → (times (a, i) me.0.won ≡ 0) × (bit_of first (a, i) ≡ 0)
+  was_white s r at i lack = let b = r.bits (a, i) lt in
+      let t = total-at (λ (v : MarkView). times (a, i) v.won) s.views id me.0 at in ((omega arith), (omega arith))
+
+  pub trying : me.0.first ≡ first → Allows (MarkRule P first) slots id me a (λ n. bit_or n m)
+      (tries (step slots a m 0 none) me)
+  trying firsts s r _ at small =
+      let n : ℕ = get_or s.words a 0 in
+      let old = r.seats id me.0 at in
+      let won : List (ℕ × ℕ) = places_of a (lacked n) in
+      let w : MarkView = with_tried me.0 (places_of a m) won in
+      let white : (i : ℕ) → i < 64 → bit_at (lacked n) i ≡ 1 → bit_at n i ≡ 0 = λ i low one.
+      let l = lacked_bit n i small low in let b = bit_at-lt n i in omega arith in
+      let Unwon : ℕ × ℕ → Type 0 = λ p. times p me.0.won ≡ 0 in
+      let White : ℕ × ℕ → Type 0 = λ p. bit_of me.0.first p ≡ 0 in
+      let listed' : All P won = all_below P a (lacked n) 64 (λ i low one. each_below P a m 64 listed i low
+      (let l = lacked_bit n i small low in let b = bit_at-lt m i in omega arith)) in (
         w,
         keeps,
         tt,
         after s r at w refl
-            (λ i. let o = bit_at_or n (2 ^ k) i in let one = one_bit a k i in
-            let t = weigh-snoc (only (a, i)) me.0.won p in
-            dite (ℕ_discrete i k)
-            (λ e. let z : bit_at n i ≡ 0 = ap (bit_at n) e ∙ zero_bit in omega arith)
-            (λ ne. let z = bit_at-pow_other k i ne in omega arith))
-            (λ q ne. let t = weigh-snoc (only q) me.0.won p in let z = only-arena q p (λ e. ne (sym e)) in omega arith)
-            (All-append P me.0.won (p ∷ []) old.listed (All-cons P p [] listed (All-nil P)))
+            (λ i. let o = bit_at_or n m i in let x = bit_at-lt n i in let y = bit_at-lt m i in
+            let t = weigh-append (only (a, i)) me.0.won won in
+            dite (ℕ_discrete (64 - i) 0)
+            (λ high. let p = times-past a (lacked n) 64 i (omega arith) in
+            let z = bit_at_above m 64 i fits (omega arith) in omega arith)
+            (λ low. let p = times-inside a (lacked n) 64 i (omega arith) in
+            let l = lacked_bit n i small (omega arith) in omega arith))
+            (λ q ne. let t = weigh-append (only q) me.0.won won in let z = times-away a (lacked n) 64 q ne in omega arith)
+            (All-append P me.0.won won old.listed listed')
             refl,
         (
           refl,
           refl,
-          λ slot e. subst (λ (c : Bool). MatchBool c (Wins me.0 (a, slot) w)
-              (w ≡ with_known me.0 (a, slot))) (sym (eq-eqb (bit_and n (2 ^ k)) 0 lacks))
-              (subst (λ (z : ℕ). Wins me.0 (a, z) w) (one_slot k slot e) wins),
+          record {
+            view_is = refl;
+            unwon = all_below Unwon a (lacked n) 64 (λ i low one. (was_white s r at i (white i low one)).0);
+            white = all_below White a (lacked n) 64 (λ i low one. ap (λ (l : List ℕ). bit_of l (a, i)) firsts
+                ∙ (was_white s r at i (white i low one)).1);
+          },
         ),
-      ))
-      (λ has. let w : MarkView = with_known me.0 p in let on = has_bit n k has in (
-        w,
-        keeps,
-        tt,
-        after s r at w refl
-            (λ i. let o = bit_at_or n (2 ^ k) i in let l = bit_at-lt (2 ^ k) i in let l' = bit_at-lt n i in
-            dite (ℕ_discrete i k)
-            (λ e. let z : bit_at n i ≡ 1 = ap (bit_at n) e ∙ on in omega arith)
-            (λ ne. let z = bit_at-pow_other k i ne in omega arith))
-            (λ q ne. refl)
-            old.listed
-            refl,
-        (
-          refl,
-          refl,
-          λ slot e. subst (λ (c : Bool). MatchBool c (Wins me.0 (a, slot) w)
-              (w ≡ with_known me.0 (a, slot))) (sym (ne_eqb (bit_and n (2 ^ k)) 0 has))
-              (ap (λ (z : ℕ). with_known me.0 (a, z)) (one_slot k slot e)),
-        ),
-      ))
+      )
 
 module _ (P : ℕ × ℕ → Type 0) (first : List ℕ) where
   fresh : (words firsts : List ℕ) (parts : ℕ) (logs : List MarkLog) → SeatRule P first words

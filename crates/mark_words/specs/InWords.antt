@@ -1,11 +1,11 @@
 -- The mark rule in sentences.
-use Rattle.std.specs.Prelude.{◌≡◌, ℕ, ◌<◌, ◌⊎◌, List, length, Contains, All}
+use Rattle.std.specs.Prelude.{◌≡◌, ℕ, ◌<◌, ◌⊎◌, List, length, All}
 use mathlib.Core.Option.{some}
 use lib.ListN.{get_elem?}
 use Rattle.atomic_table.specs.Table.{State}
 use Rattle.mark_words.specs.declared.view.MarkView.{MarkView}
 use Rattle.mark_words.specs.Sums.{times}
-use Rattle.mark_words.specs.Rule.{bit_of, IsBlackIn}
+use Rattle.mark_words.specs.Rule.{bit_of}
 
 -- the view stands at this place among all views
 abbrev pub IsViewAt : State (Unit {0}) MarkView → ℕ → MarkView → Type 0

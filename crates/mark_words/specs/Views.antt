@@ -1,5 +1,5 @@
 -- The views of seats, and how steps change them.
-use Rattle.std.specs.Prelude.{◌≡◌, ℕ, ◌+◌, ◌-◌, List, [], ◌∷◌, ◌++◌}
+use Rattle.std.specs.Prelude.{ℕ, ◌+◌, ◌-◌, List, [], ◌∷◌, ◌++◌}
 use Rattle.mark_words.specs.declared.view.MarkLog.{MarkLog}
 use Rattle.mark_words.specs.declared.view.MarkView.{MarkView}
 use Rattle.mark_words.specs.Sums.{whole}
@@ -35,10 +35,10 @@ joined v w = view_with v.first (v.parts + w.parts) (v.won ++ w.won) (v.known ++ 
 abbrev pub spent : MarkView
 spent = view_with [] 0 [] [] []
 
--- after a try: the seat won the place, or the place was black before
-abbrev pub with_won : MarkView → ℕ × ℕ → MarkView
-with_won v p =
-    record v { won = v.won ++ p ∷ []; known = v.known ++ p ∷ []; logs = logs_with (p ∷ []) (p ∷ []) v.logs }
-
-abbrev pub with_known : MarkView → ℕ × ℕ → MarkView
-with_known v p = record v { known = v.known ++ p ∷ []; logs = logs_with [] (p ∷ []) v.logs }
+-- after a step that tried the first places, of which it won the second
+abbrev pub with_tried : MarkView → List (ℕ × ℕ) → List (ℕ × ℕ) → MarkView
+with_tried v tried won = record v {
+  won = v.won ++ won;
+  known = v.known ++ tried;
+  logs = logs_with won tried v.logs;
+}

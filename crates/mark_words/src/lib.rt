@@ -3,13 +3,13 @@
 // [gczone] Black words for parallel marking
 //
 // While threads mark in parallel, the black word of each arena stands in a table of atomic words. To
-// *try* a cell is one `fetch_or` of the cell's bit: the cell is black from then on, and the thread
-// whose step saw the word without the bit has *won* the cell, and will scan it. So each cell has one
-// winner:
+// *try* some cells of an arena is one `fetch_or` of their bits: these cells are black from then on, and
+// the thread whose step saw the word without the bit of a cell has *won* that cell, and will scan it. So
+// each cell has one winner:
 //
 //     word      0 1 0 0
-//     A tries the first slot: fetch_or saw 0 1 0 0     A has won the cell      1 1 0 0
-//     B tries the first slot: fetch_or saw 1 1 0 0     B has not               1 1 0 0
+//     A tries the first two slots: fetch_or saw 0 1 0 0     A has won the first cell      1 1 0 0
+//     B tries the first slot:      fetch_or saw 1 1 0 0     B has won nothing             1 1 0 0
 //
 // If a try were a load and then a store, both threads could load 0 1 0 0, and both would store. The
 // cell would be scanned twice. Worse, if they tried different slots of the arena, the later store would

@@ -1,5 +1,6 @@
 // Marks and their seats.
-ghost use Rattle.std.specs.Prelude.{◌≡◌, ℕ, ◌+◌, ◌<◌, [], length, slice_index, IfOk, IsTrue, MatchBool};
+ghost use Rattle.std.specs.Prelude.{◌≡◌, ℕ, ◌+◌, ◌<◌, ◌≤◌, [], length, slice_index, IfOk, All};
+ghost use Rattle.std.specs.Int.{bit_at};
 ghost use Rattle.mark_words.specs.Sums.{times, whole};
 ghost use Rattle.mark_words.specs.Rule.{bit_of};
 
@@ -29,8 +30,9 @@ pub struct Seat {
 }
 
 impl<L: PlaceList> Marks<L> {
-    ghost use Rattle.mark_words.specs.Views.{first_view, with_less, split_off, joined, with_known};
-    ghost use Rattle.mark_words.specs.Steps.{Wins, KnowsAll};
+    ghost use Rattle.mark_words.specs.Places.{places_of};
+    ghost use Rattle.mark_words.specs.Views.{first_view, with_less, split_off, joined};
+    ghost use Rattle.mark_words.specs.Steps.{HasTried, KnowsAll};
     ghost use Rattle.mark_words.specs.Seats.{first_of, view_of, IsSeatOf};
 
     /// Marks over these black words, one an arena, and their first seat, which holds all parts and has
@@ -67,25 +69,24 @@ impl<L: PlaceList> Marks<L> {
         self.table.shared.join_seat::<Joins>(&mut seat.seat, other);
     }
 
-    /// Makes a cell black in one atomic step. True exactly if the word that the step saw lacked the bit:
-    /// then the seat has won the cell, which was white at first and which no seat had won before. Either
-    /// way the seat knows the cell to be black afterwards (our choice).
-    pub fn try_black(&self, seat: &mut Seat, arena: u32, slot: u8) -> bool
+    /// Makes the cells of these slots of an arena black in one atomic step. Returns those of the slots that
+    /// the word lacked as the step saw it: the seat has won these cells, which were white at first and which
+    /// no seat had won before. Either way the seat knows all of the cells to be black afterwards.
+    pub fn try_slots(&self, seat: &mut Seat, arena: u32, slots: u64) -> u64
         requires seat { IsSeatOf self.now seat.old }
         requires parts { 0 < (view_of seat.old).parts }
         requires arena { arena < length (first_of self.now) }
-        requires slot { slot < 64 }
-        requires listed { L.places (arena, slot) }
+        requires listed { All L.places (places_of arena slots) }
         ensures seat { IsSeatOf self.now seat.new }
-        ensures won { MatchBool result (Wins (view_of seat.old) (arena, slot) (view_of seat.new))
-            (view_of seat.new ≡ with_known (view_of seat.old) (arena, slot)) }
+        ensures within { (slot : ℕ) → bit_at result slot ≤ bit_at slots slot }
+        ensures tried { HasTried (view_of seat.old) (places_of arena slots) (places_of arena result)
+            (view_of seat.new) }
     {
-        let mask = 1u64 << slot;
         let found = self
             .table
             .shared
-            .fetch_or::<Tries>(&mut seat.seat, arena as usize, mask);
-        found & mask == 0
+            .fetch_or::<Tries>(&mut seat.seat, arena as usize, slots);
+        slots & !found
     }
 
     /// A seat that holds all parts learns of each cell that it tried that it was black at first, or that

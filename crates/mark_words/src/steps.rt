@@ -37,7 +37,7 @@ impl Join<MarkView> for Joins {
     ghost spent = { spent };
 }
 
-/// A seat tries a place.
+/// A seat tries some slots of an arena.
 pub struct Tries;
 
 impl Play<(), MarkView> for Tries {

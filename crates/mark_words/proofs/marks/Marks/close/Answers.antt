@@ -1,7 +1,4 @@
-use Rattle.std.proofs.Common.{rules, ◌≡◌, ℕ, ◌<◌, List, length, slice_index, sym, ap, ◌∙◌, subst, arith, length-set}
-use Rattle.std.proofs.lemmas.Grind.{common_steps}
-use Rattle.mark_words.specs.Rule.{bit_of}
-use Rattle.mark_words.specs.Sums.{times}
+use Rattle.std.proofs.Common.{rules, ◌≡◌, ℕ, ◌<◌, List, length, ap, ◌∙◌, length-set}
 use Rattle.mark_words.proofs.Closing.{copied, closing}
 use Rattle.mark_words.proofs.marks.Marks.close.Goals as goal
 
