@@ -1,13 +1,13 @@
 -- One cell of the black pile was followed.
-use Rattle.std.proofs.Common.{◌≡◌, ◌↔◌, ◌⊎◌, ◌<◌, ◌≤◌, true, inl, inr, refl, sym, ap, ◌∙◌, subst, arith, ◌∷◌, []}
-use Rattle.std.proofs.Common.{ℕ, ◌+◌, Option, Some, length}
+use Rattle.std.proofs.Common.{◌≡◌, ◌↔◌, ◌<◌, ◌≤◌, true, inl, inr, sym, ap, ◌∙◌, subst, arith, ◌∷◌, []}
+use Rattle.std.proofs.Common.{ℕ, ◌+◌, Option, length}
 use Rattle.gz_names.specs.declared.numbers.Place.{Place}
 use Rattle.mark_stack.specs.Stack.{Piles, IsPushed}
 use Rattle.mark_stack.specs.declared.stack.Pile.TheVariants as pile
 use Rattle.mark_stack.proofs.Pushed.{gray_black, more_length, wake_black}
 use Rattle.weak_maps.specs.WeakMaps.{IsSound, LooksState, WeakMapsState}
 use Rattle.weak_maps.specs.declared.colours.MarkColour.TheVariants as mark
-use Rattle.heap_core.specs.Shape.{Shape, HasEdge, IsDelegate, is_marking}
+use Rattle.heap_core.specs.Shape.{Shape, HasEdge, is_marking}
 use Rattle.cell_bits.specs.declared.bits.Bits.{Bits}
 use Rattle.heap_core.specs.Heap.{HeapState, joined, weak_of}
 use Rattle.barriers.specs.Reached.{HasEntry, Reached}
@@ -20,22 +20,18 @@ use Rattle.barriers.specs.Spreading.{Blackens, Grows, Spreads}
 use Rattle.barriers.specs.Exposing.{KeepsLive}
 use Rattle.barriers.specs.Scans.{AreScannedOnce, ScansNoMore, black_scans}
 use Rattle.barriers.proofs.Spreading.{shape_is, spreads_more, spreads_within}
-use Rattle.barriers.specs.WeakPoint.{IsLeft, WeakPoint, left_of}
+use Rattle.barriers.specs.WeakPoint.{WeakPoint, left_of}
 use Rattle.barriers.proofs.Following.{Taken, followed, taken_black}
-use Rattle.barriers.proofs.StayingLeft.{left_weaker, starts_entries}
-use Rattle.barriers.proofs.WeakPoint.{StartsEntries, black_starts, spread_point}
+use Rattle.barriers.proofs.WeakPoint.{spread_point}
 use Rattle.barriers.proofs.BlackClosure.{pending_same, reached_from}
 use Rattle.barriers.proofs.LiveClosure.{gray_kept, live_same}
 use Rattle.barriers.proofs.Scans.{no_more_twice, once_kept, pops_black, pops_black_once}
 use Rattle.marker.specs.Looks.{StartsLooks, with_looks}
+use Rattle.marker.proofs.Starting as starting
+use Rattle.marker.proofs.Starting.{AreLeft, Stands}
 use Rattle.marker.specs.Units.{FollowsBlack, ScansBlack}
-use Rattle.marker.proofs.Looking.{gray_on, live_on, marking_on, pending_on, point_on}
+use Rattle.marker.proofs.Looking.{gray_on, live_on, marking_on, pending_on}
 use Rattle.marker.proofs.Looking.{starts_on}
-
--- the entries of which a cell is the map or the delegate are left in black
-abbrev pub AreLeft : Place → HeapState → Type 0
-AreLeft x k = (m n v d : Place) → HasEntry k.shape m n v → IsDelegate k.shape n d → (x ≡ m) ⊎ (x ≡ d)
-    → left_of k mark.Black m n
 
 -- before what was woken is followed: the cell's zone is marking, so its entries are left to be looked at
 pub scanned : (h : HeapState) (p q : Piles) (x : Place) (k : HeapState) (r : Piles) → InvariantWhile [] h p
@@ -95,28 +91,26 @@ module _ (h : HeapState) (p q : Piles) (x : Place) (looks : LooksState) (inv : M
   abbrev m : HeapState
   m = with_looks h looks
 
-  entries : StartsEntries h.shape mark.Black x (left_of h) (left_of m)
-  entries = starts_entries h mark.Black x m refl sound starts.map starts.key starts.delegate
+  stood : Stands h p
+  stood = record { holds = inv.holds; weak = inv.weak; once = inv.once }
 
   marks : MarkingInvariant m p
-  marks = marking_on h looks p inv entries.kept
-
-  point : WeakPoint m q (left_of m)
-  point = point_on h looks q (left_of m)
-      (black_starts h q p x (left_of h) (left_of m) popped inv.weak inv.holds.colours.shape entries
-      (left_weaker (weak_of m)))
+  marks = marking_on h looks p inv (starting.started_entries h p q x looks stood popped sound starts).kept
 
   point_scanned : (k : HeapState) (r : Piles) → Grows (HasEdge m.shape x) m q k r → WeakPoint k r (left_of k)
   point_scanned k r scan =
-      spread_point (HasEdge m.shape x) m q k r scan.spreads marks.holds.colours point
+      spread_point (HasEdge m.shape x) m q k r scan.spreads marks.holds.colours
+      (starting.started_point h p q x looks stood popped sound starts)
 
   once_scanned : (k : HeapState) (r : Piles) → Grows (HasEdge m.shape x) m q k r → AreScannedOnce k r
   once_scanned k r scan =
-      once_kept m q k r scan.spreads.scans
-      (once_kept m p m q (pops_black m q p x popped) marks.once)
+      once_kept m q k r scan.spreads.scans (starting.started_once h p q x looks stood popped sound starts)
 
   taken_started : Taken [] m q x true
-  taken_started = taken_black [] m p q x marks.holds popped
+  taken_started = starting.started_taken h p q x looks stood popped sound starts
+
+  left_started : AreLeft x m
+  left_started = starting.started_left h p q x looks stood popped sound starts
 
   module _ (k : HeapState) (r : Piles) (l : HeapState) (t : Piles) (scan : Grows (HasEdge m.shape x) m q k r)
       (sp : Spreads (Reached k.shape (IsBlack k)) k r l t) (new : MarkingInvariant l t) where
@@ -210,18 +204,9 @@ module _ (h : HeapState) (p q : Piles) (x : Place) (m : HeapState) (s : Started 
 
   -- its entries are left, also after the scan
   pub started_left : (k : HeapState) (r : Piles) → Grows (HasEdge m.shape x) m q k r → AreLeft x k
-  started_left k r scan a n v d e is at =
-      let begun = entries h p q x m.looks s.inv s.popped s.sound starts_here in
-      let then : k.shape ≡ h.shape = shape_is m k scan.spreads.blackens.rest ∙ ap (λ (z : HeapState). z.shape) s.rest in
-      let left : (left_of (with_looks h m.looks) mark.Black a n → left_of k mark.Black a n) =
-      subst (λ (z : WeakMapsState). IsLeft z mark.Black a n)
-      (sym (ap weak_of scan.spreads.blackens.rest ∙ ap weak_of s.rest)) in
-      left (elim at [
-        | inl map ↦ subst (λ z. left_of (with_looks h m.looks) mark.Black z n) map (begun.as_map n)
-        | inr here ↦ begun.as_delegate a n
-            ((s.inv.holds.colours.shape.delegates a n v d (subst (λ (z : Shape). HasEntry z a n v) then e)).0
-            (subst (λ (z : Shape). IsDelegate z n d) then is) ∙ ap (λ z. Some z) (sym here))
-      ])
+  started_left k r scan = subst (λ (z : HeapState). AreLeft x z) (sym scan.spreads.blackens.rest)
+      (subst (λ (z : HeapState). AreLeft x z) (sym s.rest)
+      (left_started h p q x m.looks s.inv s.popped s.sound starts_here))
 
   -- it was scanned: what it woke were gray cells outside marking zones
   pub started_grays : (k : HeapState) (r : Piles) → Grows (HasEdge m.shape x) m q k r

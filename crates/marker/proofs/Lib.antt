@@ -1,4 +1,5 @@
 pub mod BlackSteps
+pub mod Starting
 pub mod Graying
 mod Scans
 pub mod Shading
@@ -11,3 +12,12 @@ pub mod GraySteps
 pub mod GrayUnits
 mod LookSteps
 pub mod UnitsToCome
+pub mod Members
+pub mod BlackBits
+pub mod WonCells
+pub mod AllStarted
+pub mod PresentCells
+pub mod AllFollowed
+pub mod MarkingArenas
+pub mod TurnedSome
+pub mod MarkedAhead
