@@ -5,6 +5,7 @@ pub mod BlackMaps
 pub mod CompactAccounts
 pub mod EdgesRead
 pub mod Flights
+pub mod Followed
 pub mod GroupingSteps
 pub mod MarkingSteps
 pub mod MarkingUnits

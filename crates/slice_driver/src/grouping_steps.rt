@@ -1,10 +1,10 @@
 // The steps of a collection that form the groups.
-ghost use Rattle.std.specs.Prelude.{◌≡◌, ◌≤◌, ◌+◌, ℕ, None, Option, Some, false, if◌then◌else◌};
+ghost use Rattle.std.specs.Prelude.{◌≡◌, ◌<◌, ◌≤◌, ◌+◌, ℕ, None, Option, Some, false, if◌then◌else◌};
 ghost use Rattle.cell_bits.specs.declared.bits.Bits.{Bits as ABits};
 ghost use Rattle.zone_edges.specs.Looks.{AreAllLookedAt};
 ghost use Rattle.slice_driver.specs.Collector.{WaitsToGroup};
 ghost use Rattle.slice_driver.specs.Units.{IsSoundMarking};
-ghost use Rattle.slice_driver.specs.Working.{IsGrouping, LooksOrAll, TellsGrouping};
+ghost use Rattle.slice_driver.specs.Working.{DoesQuietUnits, IsBlackDone, IsGrouping, LooksOrAll, TellsGrouping};
 
 use crate::collector::{Collector, Phase};
 use gz_names::{Groups, Report, ZoneSet};
@@ -13,15 +13,36 @@ use std::sync::ledger::Ledger;
 
 impl Collector {
     // Looks at a wrapper. False where each was looked at.
-    pub(crate) fn looks<L: Ledger>(&mut self, steps: &mut Steps<L>) -> bool
+    fn looks<L: Ledger>(&mut self, steps: &mut Steps<L>) -> bool
         requires counted { self.old.heap.ledger ≡ Some L.name }
         requires sound { (flown : ℕ → Option ABits) × IsSoundMarking self.old flown }
         requires grouping { IsGrouping self.old }
         ensures looks { LooksOrAll result self.old self.new }
-        ensures heap { self.new.heap ≡ self.old.heap }
+        ensures edges { self.new ≡ record self.old { edges = self.new.edges } }
         ensures steps { steps.new ≤ steps.old + (if result then 1 else 0) }
     {
         self.edges.edge_unit(&self.heap, steps)
+    }
+
+    // Looks at wrappers, at most `limit` of them, and returns at how many. Fewer are looked at only where each was. A
+    // look makes no work for black marking.
+    pub(crate) fn looks_up_to<L: Ledger>(&mut self, limit: u64, steps: &mut Steps<L>) -> u64
+        requires counted { self.old.heap.ledger ≡ Some L.name }
+        requires sound { (flown : ℕ → Option ABits) × IsSoundMarking self.old flown × IsBlackDone self.old flown }
+        requires grouping { IsGrouping self.old }
+        ensures most { result ≤ limit }
+        ensures done { (flown : ℕ → Option ABits) → IsSoundMarking self.old flown → IsBlackDone self.old flown
+            → DoesQuietUnits result self.old flown self.new flown }
+        ensures looked { result < limit → AreAllLookedAt self.new.heap.shape self.new.edges }
+        ensures edges { self.new ≡ record self.old { edges = self.new.edges } }
+        ensures steps { steps.new ≤ steps.old + result }
+    {
+        for count in 0..limit {
+            if !self.looks(steps) {
+                return count;
+            }
+        }
+        limit
     }
 
     // One grouping step; the last one forms the groups, and puts them into a place. Returns whether it did.

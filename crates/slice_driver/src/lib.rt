@@ -50,6 +50,10 @@
 //     6 take_due           the lowest arena that is out is taken in
 //     7 end_group_into     the current group ends
 //
+// `mark_two` follows at once all cells that are pending in black, and all that edges reach from them through marking
+// zones, in place of as many units of step 2. What marks the heap meanwhile, by one thread or by two, is handed to it
+// (`MarksBlack` of marker).
+//
 // So a group is grouped once black marking rests, and ends once all of its marking rests and no arena
 // of the group before is out. Each unit lowers one number (`units_left`), which is below 2^64
 // (`units_law`), so a collection comes to its end. `give_up` ends one at any time at which no arena is out:
@@ -70,6 +74,7 @@ mod gray_roots;
 mod grouping_steps;
 mod laws;
 mod listings;
+mod mark_two;
 mod marking_steps;
 mod name_keys;
 mod next_gray;

@@ -55,7 +55,7 @@ impl Collector {
     }
 
     // Does units that report nothing, at most `limit`, which is not 0. Returns how many: 0 where there is
-    // none to do. Gray marking goes on by itself, since it makes no work for what goes before it.
+    // none to do. Looks and gray marking go on by themselves, since they make no work for what goes before them.
     #[inline(always)]
     fn some_quiet_units<F: Flight, L: Ledger>(
         &mut self,
@@ -80,10 +80,7 @@ impl Collector {
             return 1;
         }
         if self.is_grouping() {
-            if self.looks(steps) {
-                return 1;
-            }
-            return 0;
+            return self.looks_up_to(limit, steps);
         }
         if self.begins_zone() {
             return 1;

@@ -326,11 +326,7 @@ fn result_of(outcome: Result<Reply, CmdFault>) -> Result<SessionReply, SessionFa
     requires answered { IfOk outcome (λ reply. refusal_in reply ≡ None) }
     ensures { outcome_of (replied as_reply result) ≡ Some outcome }
 {
-    match outcome {
-        Ok(reply) => Ok(told::reply_of(&reply)),
-        Err(CmdFault::Refused(why)) => Err(SessionFault::Refused(why)),
-        Err(CmdFault::NoMemory) => Err(SessionFault::NoMemory),
-    }
+    Ok(told::reply_of(&outcome?))
 }
 
 // Returns whether a command has room for what it may make, when this number of cells was made.

@@ -3,7 +3,7 @@ ghost use Rattle.std.specs.Prelude.{◌<◌, ℕ, length};
 ghost use Rattle.gz_names.specs.Zones.{HasZone};
 ghost use Rattle.slice_driver.specs.Advancing.{Advances};
 
-use gz_names::{ZoneNo, ZoneSet};
+use gz_names::ZoneSet;
 use heap_core::Heap;
 
 // Takes each of these zones on to its next state.
@@ -11,11 +11,9 @@ pub(crate) fn advance_all(heap: &mut Heap, zones: ZoneSet)
     requires made { (z : ℕ) → HasZone zones.bits z → z < length heap.old.shape.states }
     ensures { Advances heap.old zones.bits heap.new }
 {
-    for index in 0..heap.zones() {
-        if let Some(zone) = ZoneNo::new(index)
-            && zones.contains(zone)
-        {
-            heap.advance(zone);
-        }
+    let mut left = zones;
+    'zones: while let Some(zone) = left.first() {
+        heap.advance(zone);
+        left.remove(zone);
     }
 }

@@ -25,7 +25,9 @@ use Rattle.barriers.specs.Reached.{HasEntry}
 use Rattle.barriers.specs.WeakPoint.{left_of}
 use Rattle.barriers.proofs.Places.{same_or_other}
 use Rattle.gray_lists.proofs.Reading.{slice_get-push_before}
-use Rattle.marker.specs.Looks.{StartsLooks}
+use Rattle.marker.specs.Ahead.{StartsEach}
+use Rattle.marker.specs.Ahead as ahead
+use Rattle.marker.specs.Looks.{StartsLooks, with_looks}
 use Rattle.weak_maps.proofs.Places.{is_same-self, is_same-true}
 use Rattle.slice_driver.specs.Quiet.{QueuesBlackMaps}
 use Rattle.slice_driver.specs.Represents.{AreOfMarking, IsOfMarking, LooksOfMarking, NothingLeft}
@@ -144,6 +146,37 @@ started_left c x h k starts shape here = subst (λ (t : Shape). LooksLeftFrom h.
       rows = started_one (λ (row : DelegateRow). row.target) c x h.shape h.shape.weak.delegates.rows
           h.looks.by_delegate k.looks.by_delegate starts.delegate here;
     })
+
+-- one step after another
+module _ {E : Type 0} (place_of : E → Place) (t : Shape) (es : List E) (ls ms ns : List (Option MarkColour)) where
+  left_through : AreLeftFrom place_of t es ls es ms → AreLeftFrom place_of t es ms es ns
+      → AreLeftFrom place_of t es ls es ns
+  left_through first second = record {
+    from = λ n f c there at. elim (second.from n f c there at) [
+      | inr here ↦ inr here
+      | inl mid ↦ elim (first.from mid.0 mid.1 c mid.2 mid.4) [
+        | inl old ↦ inl (old.0, old.1, old.2, old.3 ∙ mid.3, old.4)
+        | inr here ↦ inr (subst (λ (p : Place). IsOfMarking t p) mid.3 here)
+      ]
+    ];
+  }
+
+-- those of one cell of a marking zone after another were started
+pub each_started_left : (c : MarkColour) (P : Place → Type 0) (h : HeapState)
+    → ((x : Place) → P x → IsOfMarking h.shape x) → (a : LooksState) {d : LooksState} → StartsEach c P h a d
+    → LooksLeftFrom h.shape a h.shape d
+each_started_left c P h here a ahead.none = same_left h.shape a h.shape a refl refl
+each_started_left c P h here a (ahead.more {b} {d} before x has begun) =
+    let first = each_started_left c P h here a before in
+    let second = started_left c x (with_looks h b) (with_looks h d) begun refl (here x has) in
+    record {
+      maps = left_through (λ (entry : WeakEntry). entry.map) h.shape h.shape.weak.entries a.by_map b.by_map d.by_map
+          first.maps second.maps;
+      keys = left_through (λ (entry : WeakEntry). entry.key) h.shape h.shape.weak.entries a.by_key b.by_key d.by_key
+          first.keys second.keys;
+      rows = left_through (λ (row : DelegateRow). row.target) h.shape h.shape.weak.delegates.rows a.by_delegate
+          b.by_delegate d.by_delegate first.rows second.rows;
+    }
 
 -- one was looked at
 cleared : (ls : List (Option MarkColour)) (i n : ℕ) (c : MarkColour) → slice_get (set ls i None) n ≡ Some (Some c)

@@ -1,17 +1,15 @@
 -- The bound on the units that are left of a collection, by how much the heap holds.
-use Rattle.std.proofs.Common.{◌≡◌, ◌≤◌, ◌-◌, ◌+◌, ◌*◌, ◌||◌, ℕ, Bool, true, false, List, [], ◌∷◌, length, Option, Some}
-use Rattle.std.proofs.Common.{None, is_some, sum_by, slice_get, suc, refl, ap, ◌∙◌, arith}
+use Rattle.std.proofs.Common.{◌≡◌, ◌≤◌, ◌-◌, ◌+◌, ◌||◌, ℕ, Bool, true, false, List, [], ◌∷◌, Option, Some}
+use Rattle.std.proofs.Common.{None, is_some, slice_get, suc, refl, ap, ◌∙◌, arith}
 use Rattle.std.specs.Prelude.{if◌then◌else◌}
 use Rattle.cell_bits.specs.declared.bits.Bits.{Bits}
 use Rattle.arena_table.specs.Indexed.{in_zones}
-use Rattle.gray_lists.specs.Incoming.{waiting_count}
 use Rattle.wrappers.specs.WrapperMaps.{AreApart}
 use Rattle.weak_maps.specs.WeakMaps.{AreParallel, IsSound as AreEntries}
 use Rattle.colour_defs.specs.World.{Collection}
-use Rattle.heap_core.specs.Shape.{ArenaShape, Shape, is_marking_state, out_in, out_of, state_in}
+use Rattle.heap_core.specs.Shape.{ArenaShape, Shape, is_marking_state, out_in, state_in}
 use Rattle.heap_core.specs.Heap.{weak_of}
 use Rattle.zone_edges.specs.Looks.{left_to_look}
-use Rattle.zone_edges.specs.Noted.{Noted}
 use Rattle.slice_driver.specs.Bounds.{bound_of, grouping_bound, marking_bound, run_bound, units_bound}
 use Rattle.slice_driver.specs.Collector.{CollectorState, RunState, heap_with}
 use Rattle.slice_driver.specs.Left.{marking_left, starting_left, units_left}
@@ -19,7 +17,7 @@ use Rattle.slice_driver.specs.Remaining.{arenas_left, clearing_left, grouping_le
 use Rattle.slice_driver.specs.Represents.{IsIdle, Represents, RepresentsMarking, RepresentsPreparing, RunsAs, going}
 use Rattle.slice_driver.specs.Represents.{prepared}
 use Rattle.slice_driver.specs.Units.{IsSound}
-use Rattle.slice_driver.specs.UnitsToCome.{marking_to_come, present_places, units_to_come}
+use Rattle.slice_driver.specs.UnitsToCome.{units_to_come}
 use Rattle.slice_driver.proofs.abstraction.Phases.{nothing_to_clear}
 use Rattle.slice_driver.proofs.abstraction.Waits.{none_in_it}
 use Rattle.slice_driver.proofs.clearing.Few.{few_owned}

@@ -14,7 +14,7 @@ use Rattle.colour_defs.specs.Ends.{Lists}
 use Rattle.colour_defs.specs.World.{World, Has, IsPresent as IsPresentName, IsSettled}
 use Rattle.heap_core.specs.Shape.{ArenaShape, AreWhole, IsPresent, Shape, is_white, out_in, out_of, present_in}
 use Rattle.heap_core.specs.Shape.{zone_of}
-use Rattle.heap_core.specs.Heap.{HeapState, joined}
+use Rattle.heap_core.specs.Heap.{joined}
 use Rattle.barriers.specs.Colours.{IsGray}
 use Rattle.barriers.specs.Invariant.{ColourInvariant}
 use Rattle.slice_driver.specs.Collector.{CollectorState, heap_with}

@@ -1,5 +1,6 @@
 -- What units of marking do for a collector.
 use Rattle.std.proofs.Common.{◌≡◌, ◌⊎◌, ◌↔◌, ◌<◌, ◌+◌, ℕ, Bool, true, false, List, [], Option, Some}
+use Rattle.std.proofs.Common.{Result, Ok, Err, IfOk}
 use Rattle.std.proofs.Common.{IsSome, Contains, slice_get, inl, inr, refl, sym, ap, subst, ◌∙◌, arith}
 use Rattle.gz_names.specs.declared.numbers.Place.{Place}
 use Rattle.gz_names.specs.declared.replies.Report.{Report}
@@ -24,7 +25,8 @@ use Rattle.barriers.proofs.StayingLeft.{none_left}
 use Rattle.weak_maps.specs.WeakMaps.{LooksState, NoneLeft}
 use Rattle.weak_maps.specs.declared.colours.MarkColour.{MarkColour}
 use Rattle.weak_maps.specs.declared.colours.MarkColour.TheVariants as mark
-use Rattle.marker.specs.Units.{DoesGray, DoesLook, FollowsBlack, IsGrayIdle, TakesOne}
+use Rattle.marker.specs.Ahead.{FollowsAll}
+use Rattle.marker.specs.Units.{DoesGray, DoesLook, IsGrayIdle, TakesOne}
 use Rattle.slice_driver.specs.Collector.{CollectorState, heap_with}
 use Rattle.slice_driver.specs.EdgesRead.{TriesFew}
 use Rattle.slice_driver.specs.Left.{marking_left, units_left}
@@ -43,6 +45,7 @@ use Rattle.slice_driver.proofs.abstraction.Waits.{looked_one, none_piled, none_i
 use Rattle.slice_driver.proofs.measure.GrayPiles.{gray_pile}
 use Rattle.slice_driver.proofs.measure.MarkingToCome.{black_falls, does_gray_falls, looks_fall}
 use Rattle.slice_driver.proofs.marking.Flights.{still_flies}
+use Rattle.slice_driver.proofs.marking.Followed.{FollowsCells, all_followed}
 use Rattle.slice_driver.proofs.marking.MarkingSteps.{Marked, marked_goes, own_sized}
 use Rattle.slice_driver.proofs.basics.Marks.{coloured_as}
 use Rattle.slice_driver.proofs.basics.Worlds.{flies_same, swept_in}
@@ -90,16 +93,15 @@ module _ (g h : HeapState) (s p : Piles) (lists : Incoming) (shape_is : h.shape 
         ));
   }
 
--- a cell of the black pile was followed
+-- cells that were pending in black were followed
 pub black_followed : (c : CollectorState) (flown flying : ℕ → Option Bits) (h : HeapState) (p : Piles)
     → IsSoundMarking c flown
     → IsSome c.run → h.delayed ≡ c.heap.delayed → Covers h.shape flying
-    → FollowsBlack (heap_with c flown) c.stack (joined h flying) p
+    → FollowsCells (heap_with c flown) c.stack (joined h flying) p
     → GoesOn c flown [] (record c { heap = h; stack = p }) flying
 black_followed c flown flying h p s running delayed covers does =
     let inv = does.invariant in
     let bl = does.blackens in
-    let scanned = does.scans in
     let rep = s.represents in
     let d : CollectorState = record c { heap = h; stack = p } in
     let shape_is : h.shape ≡ c.heap.shape = ap (λ (z : HeapState). z.shape) bl.rest in
@@ -124,19 +126,17 @@ black_followed c flown flying h p s running delayed covers does =
         waits = waits_on (heap_with c flown) (joined h flying) c.stack p c.lists shape_is buffers_is rep.coloured.waits
             (piled_still (heap_with c flown) (joined h flying) c.stack p c.lists shape_is buffers_is rep.coloured.waits
             does.gray_is)
-            (λ quiet. absurd (let off = quiet_before (heap_with c flown) (joined h flying) c.stack p c.lists shape_is
-            buffers_is rep.coloured.waits quiet (zone_of c.heap.shape scanned.cell) in
-            let on = scanned.zone in cc (on, off)))
-            (started_left mark.Black scanned.cell (heap_with c flown) (joined h flying) scanned.starts shape_is
-            (rep.coloured.marks.holds.colours.seen_present scanned.cell (inr scanned.black), scanned.zone));
+            (λ quiet. absurd (does.busy (quiet_before (heap_with c flown) (joined h flying) c.stack p c.lists shape_is
+            buffers_is rep.coloured.waits quiet)))
+            does.left;
       };
       darker = bl.kept;
       black = does.pending_black;
       live = both.1;
     } in
     marked_goes c flown d flying m (started_of c flown s.world rep running)
-    (black_falls (heap_with c flown) c.stack c.lists (joined h flying) p shape_is buffers_is rep.placed.lies.whole
-    rep.coloured.marks.holds.colours.seen_present rep.coloured.marks does.gray_is scanned)
+    (black_falls (heap_with c flown) c.stack (joined h flying) p shape_is rep.coloured.marks does.gray_is c.lists
+    buffers_is does.scans does.fewer)
 
 -- a weak entry was looked at
 pub entry_looked : (c : CollectorState) (flown flying : ℕ → Option Bits) (h : HeapState) (p : Piles)
@@ -313,7 +313,7 @@ IsUnmarked c flown h p flying = (h ≡ c.heap) × (p ≡ c.stack) × (heap_with 
 module _ (c : CollectorState) (flown flying : ℕ → Option Bits) (h : HeapState) (p : Piles) (s : IsSoundMarking c flown)
     (running : IsSome c.run) (delayed : h.delayed ≡ c.heap.delayed) where
   pub black_tried : (did : Bool) → Covers h.shape flying
-      → (did ≡ true → FollowsBlack (heap_with c flown) c.stack (joined h flying) p)
+      → (did ≡ true → FollowsCells (heap_with c flown) c.stack (joined h flying) p)
       → ((did ≡ false) ↔ (c.stack.black ≡ [])) → (did ≡ false → IsUnmarked c flown h p flying)
       → DidOrStill did (c.stack.black ≡ []) c flown (record c { heap = h; stack = p }) flying
   black_tried true covers does none same = (
@@ -325,6 +325,19 @@ module _ (c : CollectorState) (flown flying : ℕ → Option Bits) (h : HeapStat
         (same refl).2,
     none.0 refl,
   )
+
+  -- all cells that are pending in black were followed at once, or there is none, or memory was wanted
+  pub ahead_tried : {E : Type 0} (r : Result Bool E) → Covers h.shape flying
+      → (r ≡ Ok true → FollowsAll (heap_with c flown) c.stack (joined h flying) p)
+      → ((r ≡ Ok false) ↔ (c.stack.black ≡ [])) → (r ≡ Ok false → IsUnmarked c flown h p flying)
+      → IfOk r (λ did. DidOrStill did (c.stack.black ≡ []) c flown (record c { heap = h; stack = p }) flying)
+  ahead_tried (Ok true) covers does none same = black_tried true covers
+      (λ did. all_followed (heap_with c flown) c.stack (joined h flying) p s.represents.placed.lies.whole
+      s.represents.coloured.marks (λ empty. let no = none.1 empty in cc no) (does refl))
+      (λ is. cc is, λ empty. let no = none.1 empty in cc no) (λ is. cc is)
+  ahead_tried (Ok false) covers does none same =
+      black_tried false covers (λ did. cc did) (λ is. none.0 refl, λ empty. refl) (λ is. same refl)
+  ahead_tried (Err why) covers does none same = tt
 
   pub look_tried : (colour_is : MarkColour) (did : Bool) → Covers h.shape flying
       → (did ≡ true → DoesLook colour_is (heap_with c flown) c.stack (joined h flying) p)

@@ -13,7 +13,7 @@ use Rattle.slice_driver.specs.Quiet.{IsFormed, IsStarted}
 use Rattle.slice_driver.specs.Remaining.{clearing_left}
 use Rattle.slice_driver.specs.Represents.{Represents, going}
 use Rattle.slice_driver.specs.Units.{IsSound, IsSoundMarking, KeepsFreedWords}
-use Rattle.slice_driver.specs.Working.{DidOrStill, DoesQuietUnits, GoesOn, LooksOrAll, QuietOrNone, HasBegun}
+use Rattle.slice_driver.specs.Working.{DidOrStill, DoesQuietUnits, GoesOn, QuietOrNone, HasBegun}
 use Rattle.slice_driver.specs.Working.{IsBlackDone, IsGroupDone, IsGrouping, IsQuietDone, IsStill}
 use Rattle.slice_driver.proofs.marking.MarkingUnits.{both_still, group_done_before, still_black_done, still_goes}
 use Rattle.slice_driver.proofs.marking.MarkingUnits.{still_group_done, still_left, still_marking, still_sound}
@@ -116,6 +116,12 @@ pub one_quiet : (c : CollectorState) (f : ℕ → Option Bits) (d : CollectorSta
     → GoesOn c f [] d g → DoesQuietUnits 1 c f d g
 one_quiet c f d g goes = more_quiet 0 c f c f d g (no_quiet c f) goes
 
+-- a change of edges leaves black marking done
+pub black_done_on : (c d : CollectorState) (f : ℕ → Option Bits) → d ≡ record c { edges = d.edges } → IsBlackDone c f
+    → IsBlackDone d f
+black_done_on c d f same done = subst (λ (x : CollectorState). IsBlackDone x f) (sym same)
+    (record { pile = done.pile; looked = done.looked })
+
 pub still_quiet : (c : CollectorState) (f : ℕ → Option Bits) (d : CollectorState) (g : ℕ → Option Bits)
     → IsStill c f d g → DoesQuietUnits 0 c f d g
 still_quiet c f d g still = last_quiet 0 c f c f d g (no_quiet c f) still
@@ -167,20 +173,15 @@ quiet_marking (suc k) c f d g did s = goes_marking c f d g (did.some (omega arit
 -- after black marking that found nothing to do
 module _ (c : CollectorState) (f : ℕ → Option Bits) (s : IsSoundMarking c f) (e : CollectorState) (g : ℕ → Option Bits)
     (still : IsStill c f e g) (black : IsBlackDone c f) where
-  -- a look at a wrapper
-  pub looks_quietly : (b : Bool) (d : CollectorState) → IsGrouping e → LooksOrAll b e d → QuietOrNone b c f d g
-  looks_quietly true d grouping looks =
-      still_goes c f e g [] d g still (looks g (still_marking c f e g still s) (still_black_done c f e g still black))
-  looks_quietly false d grouping looks = (
-    subst (λ (x : CollectorState). IsStill c f x g) (sym looks.1) still,
-    record {
-      cleared = none_to_clear c (subst IsStarted still.same (grouping.0, grouping.1, grouping.3));
-      black = black;
-      looked = λ g. subst (λ (x : CollectorState). AreAllLookedAt x.heap.shape x.edges) still.same looks.0;
-      begun = λ formed. absurd (not_both e grouping (subst IsFormed (sym still.same) formed));
-      group = λ formed. absurd (not_both e grouping (subst IsFormed (sym still.same) formed));
-    },
-  )
+  -- each wrapper was looked at
+  all_looked : IsGrouping e → AreAllLookedAt e.heap.shape e.edges → IsQuietDone c f
+  all_looked grouping all = record {
+    cleared = none_to_clear c (subst IsStarted still.same (grouping.0, grouping.1, grouping.3));
+    black = black;
+    looked = λ g. subst (λ (x : CollectorState). AreAllLookedAt x.heap.shape x.edges) still.same all;
+    begun = λ formed. absurd (not_both e grouping (subst IsFormed (sym still.same) formed));
+    group = λ formed. absurd (not_both e grouping (subst IsFormed (sym still.same) formed));
+  }
 
   -- gray marking, once the zones of the group have begun
   pub grays_quietly : (b : Bool) (d : CollectorState) (h : ℕ → Option Bits) → IsFormed e → HasBegun e
@@ -202,6 +203,14 @@ module _ (c : CollectorState) (f : ℕ → Option Bits) (s : IsSoundMarking c f)
       → DoesQuietUnits n c f d h
   many_quietly n d h did = subst (λ (m : ℕ). DoesQuietUnits m c f d h) (omega arith)
       (then_quiet 0 n c f e g d h (still_quiet c f e g still) did)
+
+  -- none was, since each wrapper was looked at
+  pub none_looked : (n : ℕ) (d : CollectorState) → IsGrouping e → DoesQuietUnits n e g d g
+      → AreAllLookedAt d.heap.shape d.edges → n ≡ 0 → IsQuietDone d g
+  none_looked n d grouping did all is =
+      let here : IsStill e g d g = did.none is in
+      let before = subst (λ (x : CollectorState). AreAllLookedAt x.heap.shape x.edges) here.same all in
+      still_quiet_done c f d g (both_still c f e g d g still here) (all_looked grouping before)
 
   pub none_rests : (n : ℕ) (d : CollectorState) (h : ℕ → Option Bits) → IsFormed e → HasBegun e
       → DoesQuietUnits n e g d h → IsGroupDone d h → n ≡ 0 → IsQuietDone d h

@@ -31,6 +31,15 @@ pub record IsGrayPile (h : HeapState) (p : Piles) : Type 0 where
   pub inside : (x y : Place) → Contains p.gray x → is_wrapper_named (name_at h.shape x) ≡ false
       → field_at h.shape x 0 ≡ Some y → state_of h.shape y ≡ state.MarkBlackOnly → ⊥
 
+-- a present cell was scanned and its entries started: fewer units are to come at cells and entries
+scanned_fewer : (h : HeapState) (p : Piles) (k : HeapState) (q : Piles) → k.shape ≡ h.shape → ScansNoMore h p k q
+    → ((x : Place) → map_starts k q x ≤ map_starts h p x) → AreWhole h.shape.arenas → (c : MarkColour) (x : Place)
+    → IsPresent h.shape x → scans k q x < scans h p x → map_starts k q x < map_starts h p x → StartsLooks c x h k
+    → units_at k q (present_places h.shape) < units_at h p (present_places h.shape)
+scanned_fewer h p k q same none maps whole c x present fewer fewer_maps starts =
+    scan_lowers h p k q (present_places h.shape) (ap (λ (s : Shape). s.weak) same) (scans_no_more h p k q same none)
+    maps c x (present_listed h.shape whole x present) fewer fewer_maps starts
+
 -- a step that changes no shape and lets no cell be scanned more often
 module _ (h : HeapState) (p : Piles) (a : Incoming) (k : HeapState) (q : Piles) (b : Incoming)
     (same : k.shape ≡ h.shape) (none : ScansNoMore h p k q)
@@ -90,15 +99,11 @@ module _ (h : HeapState) (p : Piles) (a : Incoming) (k : HeapState) (q : Piles) 
       let units = look_lowers h p k q cells weak_same no_more maps fewer in
       omega (arith, units, units_here, notes_here, notes_sum, waits)
 
-  -- a present cell was scanned and its entries started, and what is noted and waits is no more than before
-  scan_falls : AreWhole h.shape.arenas → (c : MarkColour) (x : Place) → IsPresent h.shape x
-      → scans k q x < scans h p x → map_starts k q x < map_starts h p x → StartsLooks c x h k
+  -- fewer units are to come at cells and entries, and what is noted and waits is no more than before
+  units_fall : units_at k q cells < units_at h p cells
       → sum_by (notes k q) cells + waits_after ≤ sum_by (notes h p) cells + waits_before
       → marking_to_come k q b < marking_to_come h p a
-  scan_falls whole c x present fewer fewer_maps starts waits =
-      let listed = present_listed h.shape whole x present in
-      let units = scan_lowers h p k q cells weak_same no_more maps c x listed fewer fewer_maps starts in
-      omega (arith, units, units_here, notes_here, waits)
+  units_fall units waits = omega (arith, units, units_here, notes_here, waits)
 
   notes_fewer : AreWhole h.shape.arenas → (x : Place) → IsPresent h.shape x → may_be_noted h.shape x ≡ true
       → gray_scans k q x < gray_scans h p x → sum_by (notes k q) cells < sum_by (notes h p) cells
@@ -120,7 +125,8 @@ module _ (h : HeapState) (p : Piles) (a : Incoming) (k : HeapState) (q : Piles) 
       let present = seen x (gray.seen x taken.piled) in
       let on = gray.marking x taken.piled in
       let fewer = gray_fewer h p k q same none x on taken.fewer in
-      scan_falls whole mark.Gray x present fewer (maps_fewer h p k q same x fewer (still x)) taken.starts
+      units_fall (scanned_fewer h p k q same none maps whole mark.Gray x present fewer
+      (maps_fewer h p k q same x fewer (still x)) taken.starts)
       (waits (is_wrapper_named (name_at h.shape x)) refl present on)
     where
       buffers_sum : sum_by length k.buffers ≡ sum_by length h.buffers
@@ -164,21 +170,32 @@ pile_same : (h : HeapState) (p q : Piles) → q.gray ≡ p.gray → (x : Place) 
     → Contains p.gray x ⊎ (state_of h.shape x ≡ state.MarkBlackAndGray)
 pile_same h p q same x has = inl (subst (λ (xs : List Place). Contains xs x) same has)
 
--- a cell of the black pile was scanned
-pub black_falls : (h : HeapState) (p : Piles) (lists : Incoming) (k : HeapState) (q : Piles) → k.shape ≡ h.shape
-    → k.buffers ≡ h.buffers → AreWhole h.shape.arenas → ((x : Place) → IsSeen h x → IsPresent h.shape x)
-    → MarkingInvariant h p → q.gray ≡ p.gray → ScansBlack h p k q
-    → marking_to_come k q lists < marking_to_come h p lists
-black_falls h p lists k q same buffers whole seen inv gray scanned =
-    let none = scanned.no_more in
-    let sums : sum_by length k.buffers ≡ sum_by length h.buffers =
-    ap (λ (bs : List (List Place)). sum_by length bs) buffers in
-    let maps = maps_no_more h p k q same none inv.holds.colours.no_gray inv.once (pile_same h p q gray) in
-    let notes_less = notes_sum h p lists k q lists same none maps in
-    let fewer = black_fewer h p k q same none scanned.cell scanned.zone scanned.fewer in
-    scan_falls h p lists k q lists same none maps whole mark.Black scanned.cell (seen scanned.cell (inr scanned.black))
-    fewer (maps_fewer h p k q same scanned.cell fewer (λ b. scanned.black)) scanned.starts
-    (omega (arith, sums, notes_less))
+-- a step of black marking, which lets no cell be scanned more often
+module _ (h : HeapState) (p : Piles) (k : HeapState) (q : Piles) (same : k.shape ≡ h.shape) (inv : MarkingInvariant h p)
+    (gray : q.gray ≡ p.gray) where
+  maps_kept : ScansNoMore h p k q → (x : Place) → map_starts k q x ≤ map_starts h p x
+  maps_kept none = maps_no_more h p k q same none inv.holds.colours.no_gray inv.once (pile_same h p q gray)
+
+  -- a cell of the black pile was scanned
+  pub black_fewer_units : AreWhole h.shape.arenas → ScansBlack h p k q
+      → units_at k q (present_places h.shape) < units_at h p (present_places h.shape)
+  black_fewer_units whole scanned =
+      let x = scanned.cell in
+      let none = scanned.no_more in
+      let fewer = black_fewer h p k q same none x scanned.zone scanned.fewer in
+      scanned_fewer h p k q same none (maps_kept none) whole mark.Black x
+      (inv.holds.colours.seen_present x (inr scanned.black)) fewer
+      (maps_fewer h p k q same x fewer (λ b. scanned.black)) scanned.starts
+
+  -- fewer units are to come at cells and entries
+  pub black_falls : (lists : Incoming) → k.buffers ≡ h.buffers → ScansNoMore h p k q
+      → units_at k q (present_places h.shape) < units_at h p (present_places h.shape)
+      → marking_to_come k q lists < marking_to_come h p lists
+  black_falls lists buffers none units =
+      let sums : sum_by length k.buffers ≡ sum_by length h.buffers =
+      ap (λ (bs : List (List Place)). sum_by length bs) buffers in
+      let notes_less = notes_sum h p lists k q lists same none (maps_kept none) in
+      units_fall h p lists k q lists same none (maps_kept none) units (omega (arith, sums, notes_less))
 
 -- an entry was looked at
 pub looks_fall : (c : MarkColour) (h : HeapState) (p : Piles) (lists : Incoming) (k : HeapState) (q : Piles)

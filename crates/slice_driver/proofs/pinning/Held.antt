@@ -1,8 +1,8 @@
 -- A collector whose registers and pinned roots hold other cells of those that they held stands for the worlds in which
 -- they hold these: what they hold is there, and is black or of a zone that is being prepared.
-use Rattle.std.proofs.Common.{◌≡◌, ◌≤◌, ◌<◌, ◌+◌, ◌-◌, ◌||◌, ◌↔◌, ℕ, is_some, if◌then◌else◌, List, map, Option, Some}
+use Rattle.std.proofs.Common.{◌≡◌, ◌+◌, ◌-◌, ◌||◌, ℕ, is_some, if◌then◌else◌, List, map, Option, Some}
 use Rattle.std.proofs.Common.{None}
-use Rattle.std.proofs.Common.{Contains, slice_index_or, refl, sym, ap, subst, ◌∙◌, inl, inr, arith}
+use Rattle.std.proofs.Common.{Contains, slice_index_or, refl, sym, ap, ◌∙◌, inl, inr, arith}
 use Rattle.std.proofs.Math.ListN.{get_or-map}
 use Rattle.std.proofs.lemmas.Option.{get_or_from_slice_get}
 use Rattle.gz_names.specs.declared.names.Name.{Name}
@@ -11,16 +11,14 @@ use Rattle.gz_names.specs.declared.numbers.CompNo.{CompNo}
 use Rattle.gz_names.specs.declared.numbers.Place.{Place}
 use Rattle.cell_bits.specs.declared.bits.Bits.{Bits}
 use Rattle.arena_table.specs.Cells.{CellState}
-use Rattle.mark_stack.specs.Stack.{Piles}
-use Rattle.gray_lists.specs.Incoming.{Incoming}
 use Rattle.colour_defs.specs.Graph.{GraphState, register_cell}
 use Rattle.colour_defs.specs.Groups.{IsFirstEdge, LeadsOutside}
-use Rattle.colour_defs.specs.Laws.{IsValid, IsWellFormed}
+use Rattle.colour_defs.specs.Laws.{IsWellFormed}
 use Rattle.colour_defs.specs.Present.{IsPartOf}
 use Rattle.colour_defs.specs.World.{Collection, IsSettled, World}
 use Rattle.colour_defs.proofs.Lists.{get_contains}
 use Rattle.wrappers.proofs.Finding.{slice_get-read}
-use Rattle.heap_core.specs.Heap.{HeapState, reg_of}
+use Rattle.heap_core.specs.Heap.{HeapState}
 use Rattle.heap_core.specs.Shape.{Shape, held_name}
 use Rattle.heap_core.specs.Shows.{Shows, StandsFor}
 use Rattle.heap_core.proofs.Shown.{reg_shown}
@@ -32,7 +30,6 @@ use Rattle.barriers.proofs.Changing.{rewired_held}
 use Rattle.barriers.proofs.LeftOutChanges.{holds_dark, rewired_preparing}
 use Rattle.barriers.proofs.Rewiring.{rewired_black, rewired_gray, rewired_invariant, rewired_live}
 use Rattle.marker.specs.UnitsToCome.{units_at}
-use Rattle.zone_edges.specs.Looks.{left_to_look}
 use Rattle.slice_driver.specs.Closures.{AreTied}
 use Rattle.slice_driver.specs.Collector.{CollectorState, RunState, heap_with}
 use Rattle.slice_driver.specs.Commands.{StayInPlace}

@@ -1,12 +1,11 @@
 -- Roots are pinned, loaded and unpinned, in each world that a collector stands for.
-use Rattle.std.proofs.Common.{◌≡◌, ◌≢◌, ◌⊎◌, ◌↔◌, ◌+◌, ℕ, List, map, Option, Some, None, Result, Ok, Err, IsErr, IsSome}
+use Rattle.std.proofs.Common.{◌≡◌, ◌≢◌, ◌+◌, ℕ, List, map, Option, Some, None, Ok, Err, IsErr, IsSome}
 use Rattle.std.proofs.Common.{Contains, slice_index_or, slice_set, refl, sym, ap, subst, ◌∙◌, inl, inr}
 use Rattle.std.proofs.Math.ListN.{get_or-map}
 use Rattle.std.proofs.lemmas.List.{map-set, set-get_or}
 use Rattle.std.proofs.lemmas.Bool.Decides.{eqb_tells}
 use Rattle.gz_names.specs.declared.names.Name.{Name}
 use Rattle.gz_names.specs.declared.numbers.Place.{Place}
-use Rattle.gz_names.specs.declared.replies.CmdFault.{CmdFault}
 use Rattle.gz_names.specs.declared.replies.CmdFault.TheVariants as fault
 use Rattle.gz_names.specs.declared.replies.Refusal.TheVariants as refusal
 use Rattle.cell_bits.specs.declared.bits.Bits.{Bits}
@@ -16,7 +15,7 @@ use Rattle.colour_defs.specs.World.{World}
 use Rattle.colour_defs.proofs.Lists.{contains_set_cases, get_contains}
 use Rattle.heap_core.specs.Heap.{HeapState, reg_of, with_reg, without_delayed}
 use Rattle.heap_core.specs.Pinned.{Pins, pinned_of}
-use Rattle.heap_core.specs.Shape.{Shape, held_name, name_at}
+use Rattle.heap_core.specs.Shape.{Shape, held_name}
 use Rattle.heap_core.proofs.Shown.{reg_present, reg_shown}
 use Rattle.zone_edges.specs.Noted.{Noted}
 use Rattle.gz_names.specs.declared.zone_sets.ZoneSet.{ZoneSet}
@@ -24,10 +23,9 @@ use Rattle.slice_driver.specs.Collector.{CollectorState, IsKept}
 use Rattle.slice_driver.specs.Pins.{Holds, IsWhereEmpty, LoadsIn, PinDone, PinsIn, RootDone, UnpinsIn, holding}
 use Rattle.slice_driver.specs.Pins.{pinned_cell}
 use Rattle.slice_driver.specs.Pins.{with_registers}
-use Rattle.slice_driver.specs.Represents.{Represents}
 use Rattle.slice_driver.specs.Worlds.{LiesIn}
 use Rattle.slice_driver.specs.declared.collector.Phase.{Phase}
-use Rattle.slice_driver.proofs.abstraction.Named.{name_of, some_one}
+use Rattle.slice_driver.proofs.abstraction.Named.{name_of}
 use Rattle.slice_driver.proofs.abstraction.Renaming.{lies_of}
 use Rattle.slice_driver.proofs.commanding.DerefSteps.{kept_registers}
 use Rattle.slice_driver.proofs.pinning.Held.{Reholds, from_registers, held_at, held_to_come, represents_held}

@@ -1,6 +1,5 @@
 -- What a session promises of pinned roots, from what its collector does.
-use Rattle.std.proofs.Common.{◌≡◌, ◌+◌, ℕ, Some, List, [], ◌++◌, append-nil, length, Option, Result, Ok, Err, IfOk}
-use Rattle.std.proofs.Common.{IsErr, OnErr}
+use Rattle.std.proofs.Common.{◌≡◌, ◌+◌, ℕ, Some, List, [], append-nil, length, Option, Result, Ok, Err}
 use Rattle.std.proofs.Common.{refl, sym, ap, subst, ◌∙◌, inl, inr}
 use Rattle.gz_names.specs.declared.names.Name.{Name}
 use Rattle.gz_names.specs.declared.replies.CmdFault.{CmdFault}

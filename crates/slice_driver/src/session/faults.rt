@@ -2,7 +2,8 @@
 use super::SessionFault;
 use crate::begin::BeginFault;
 use crate::compacting::CompactFault;
-use gz_names::Refusal;
+use crate::pinned::NotPinned;
+use gz_names::{CmdFault, Refusal};
 use std::alloc::AllocError;
 use std::fmt::{self, Display, Formatter, Write};
 
@@ -14,6 +15,20 @@ impl From<AllocError> for SessionFault {
 
     fn from(_error: AllocError) -> Self {
         SessionFault::NoMemory
+    }
+}
+
+impl From<CmdFault> for SessionFault {
+    ghost use Rattle.std.specs.Prelude.{◌≡◌};
+    ghost use Rattle.slice_driver.specs.Pins.{as_fault};
+
+    ghost from_gives = { λ fault told. told ≡ as_fault fault };
+
+    fn from(fault: CmdFault) -> Self {
+        match fault {
+            CmdFault::Refused(why) => SessionFault::Refused(why),
+            CmdFault::NoMemory => SessionFault::NoMemory,
+        }
     }
 }
 
@@ -43,6 +58,12 @@ impl Display for CompactFault {
             CompactFault::NoZone => f.write_str(refusal_words(Refusal::NoZone)),
             CompactFault::NoMemory => f.write_str("out of memory"),
         }
+    }
+}
+
+impl Display for NotPinned {
+    fn fmt<W: Write>(&self, f: &mut Formatter<W>) -> fmt::Result {
+        f.write_str("the pinned root holds no cell")
     }
 }
 

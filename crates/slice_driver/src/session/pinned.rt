@@ -1,10 +1,9 @@
 // Pinned roots: what an embedder holds beyond the sixteen registers.
-ghost use Rattle.std.specs.Prelude.{◌≡◌};
-ghost use Rattle.slice_driver.specs.Pins.{LoadsIn, PinCalled, RootCalled, UnpinsIn, as_fault};
+ghost use Rattle.slice_driver.specs.Pins.{LoadsIn, PinCalled, RootCalled, UnpinsIn};
 
 use super::{Session, SessionFault};
 use crate::pinned::NotPinned;
-use gz_names::{CmdFault, Reg};
+use gz_names::Reg;
 use sweeping::Sweeper;
 
 impl<S: Sweeper> Session<S> {
@@ -14,10 +13,7 @@ impl<S: Sweeper> Session<S> {
     pub fn pin(&mut self, register: Reg) -> Result<usize, SessionFault>
         ensures { PinCalled S.bits self.old register result self.new }
     {
-        match self.collector.pin(register) {
-            Ok(root) => Ok(root),
-            Err(fault) => Err(fault_of(fault)),
-        }
+        Ok(self.collector.pin(register)?)
     }
 
     /// A register holds what a pinned root holds. `NotPinned` is returned exactly where that holds nothing; then
@@ -34,15 +30,5 @@ impl<S: Sweeper> Session<S> {
         ensures { RootCalled S.bits (UnpinsIn root) self.old root result self.new }
     {
         self.collector.unpin(root)
-    }
-}
-
-// Why a command was not done, told as a session tells it.
-fn fault_of(fault: CmdFault) -> SessionFault
-    ensures { result ≡ as_fault fault }
-{
-    match fault {
-        CmdFault::Refused(why) => SessionFault::Refused(why),
-        CmdFault::NoMemory => SessionFault::NoMemory,
     }
 }

@@ -1,12 +1,11 @@
 use Rattle.std.proofs.Common.{arith, ◌≡◌, ◌≤◌, ◌-◌, ◌+◌, ℕ, slice_index_or, Some, None, ap, subst, sym, ◌∙◌}
 use Rattle.colour_defs.proofs.Lists.{get_contains}
 use Rattle.heap_core.specs.Heap.{without_delayed}
-use Rattle.heap_core.specs.Pinned.{pinned_of}
 use Rattle.heap_core.specs.Shape.{IsPresent, Shape}
 use Rattle.barriers.specs.Pending.{pending}
 use Rattle.slice_driver.specs.RootMarking.{IsHeldBefore, Marks}
 use Rattle.slice_driver.proofs.beginning.MarkedRoots.{held_all, held_first, held_skip, held_step, marks_seen}
-use Rattle.slice_driver.proofs.beginning.MarkedRoots.{ready_still, shape_still}
+use Rattle.slice_driver.proofs.beginning.MarkedRoots.{shape_still}
 use Rattle.slice_driver.proofs.root_marking.mark_registers.Goals as goal
 use Rattle.slice_driver.proofs.root_marking.mark_registers.Goals.{in-Some, in-Some-pinned, in_default}
 use Rattle.slice_driver.proofs.root_marking.mark_registers.Goals.{in_default-pinned}

@@ -1,4 +1,4 @@
-use Rattle.std.proofs.Common.{◌≡◌, ◌<◌, ◌+◌}
+use Rattle.std.proofs.Common.{◌+◌}
 use Rattle.heap_core.specs.Heap.{without_delayed}
 use Rattle.barriers.specs.Pending.{pending}
 use Rattle.slice_driver.specs.RootMarking.{IsHeldBefore, Marks}

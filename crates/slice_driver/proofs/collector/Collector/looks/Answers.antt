@@ -61,5 +61,5 @@ returns-clause-looks g c =
     (looks_seen c.self.inside.heap c.self.inside.edges c.edge_unit.result edges c.edge_unit.ensures.looked)
     c.edge_unit.ensures.zones c.edge_unit.ensures.stepped)
 
-pub returns-clause-heap : goal.returns-clause-heap
-returns-clause-heap g c = ap (λ (x : CollectorState). x.heap) c.self.view_is
+pub returns-clause-edges : goal.returns-clause-edges
+returns-clause-edges g c = ap (λ (x : CollectorState). record x { edges = c.edge_unit.new.self }) c.self.view_is

@@ -1,13 +1,14 @@
 use Rattle.std.proofs.Common.{◌≡◌, [], Bool, IsSome, false, true, refl, sym, ap, subst, arith}
 use Rattle.weak_maps.specs.WeakMaps.{NoneLeft}
 use Rattle.weak_maps.specs.declared.colours.MarkColour.TheVariants as mark
-use Rattle.heap_core.specs.Heap.{without_delayed}
+use Rattle.heap_core.specs.Heap.{joined, without_delayed}
 use Rattle.barriers.specs.Pending.{pending}
 use Rattle.barriers.specs.Colours.{grays_outside}
 use Rattle.slice_driver.specs.Collector.{CollectorState, heap_with}
 use Rattle.slice_driver.specs.Units.{IsSoundMarking}
 use Rattle.slice_driver.specs.Working.{DidOrStill, IsBlackDone}
 use Rattle.slice_driver.specs.contracts.collector.Collector.{the_view}
+use Rattle.slice_driver.proofs.marking.Followed.{one_followed}
 use Rattle.slice_driver.proofs.marking.MarkingUnits.{black_tried, look_tried, still_looked}
 use Rattle.slice_driver.proofs.marking.MarkingUnits.{still_marking, then_marks, tries_few}
 use Rattle.slice_driver.proofs.marking.Views.{unmarked_seen}
@@ -41,7 +42,12 @@ cell : (g : Over) (c : After-black_unit g) → DidOrStill c.black_unit.result ((
     (g.F.Flight.bits c.black_unit.new.flight)
 cell g c = black_tried (the_view c.self.inside) (g.F.Flight.bits c.args.flight.now)
     (g.F.Flight.bits c.black_unit.new.flight) (followed g c).heap (followed g c).stack (sound g c) (running g c) refl
-    c.black_unit.result c.black_unit.ensures.covers c.black_unit.ensures.does c.black_unit.ensures.empty
+    c.black_unit.result c.black_unit.ensures.covers
+    (λ did. one_followed (heap_with (the_view c.self.inside) (g.F.Flight.bits c.args.flight.now))
+    (the_view c.self.inside).stack
+    (joined (followed g c).heap (g.F.Flight.bits c.black_unit.new.flight)) (followed g c).stack
+    (sound g c).represents.placed.lies.whole (sound g c).represents.coloured.marks (c.black_unit.ensures.does did))
+    c.black_unit.ensures.empty
     (λ is. let same = c.black_unit.ensures.same is in
     unmarked_seen c.self.inside.heap c.black_unit.new.heap c.self.inside.stack c.black_unit.new.stack
     (g.F.Flight.bits c.args.flight.now) (g.F.Flight.bits c.black_unit.new.flight) same.0 same.1 same.2)

@@ -1,7 +1,6 @@
-use Rattle.std.proofs.Common.{◌≡◌, ◌∙◌, None, Ok, Err, ap, refl, sym, subst}
+use Rattle.std.proofs.Common.{◌∙◌, ap, refl, sym, subst}
 use Rattle.heap_core.specs.Heap.{HeapState, reg_of}
-use Rattle.heap_core.specs.Shape.{Shape}
-use Rattle.slice_driver.specs.Collector.{CollectorState, IsKept}
+use Rattle.slice_driver.specs.Collector.{CollectorState}
 use Rattle.slice_driver.specs.Pins.{PinDone}
 use Rattle.slice_driver.specs.contracts.collector.Collector.{the_view}
 use Rattle.slice_driver.proofs.pinning.Pinned.{SeenBy, kept_held, kept_same, pin_done, pin_empty, pin_wanted}

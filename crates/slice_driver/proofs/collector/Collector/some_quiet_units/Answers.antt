@@ -1,36 +1,53 @@
-use Rattle.std.proofs.Common.{[], true, false, sym, ap, subst, arith}
-use Rattle.heap_core.specs.Heap.{HeapState, joined}
+use Rattle.std.proofs.Common.{[], sym, ap, subst, arith}
+use Rattle.heap_core.specs.Heap.{joined}
 use Rattle.barriers.specs.Colours.{grays_outside}
+use Rattle.slice_driver.specs.Collector.{CollectorState}
 use Rattle.slice_driver.specs.Quiet.{IsFormed}
 use Rattle.slice_driver.specs.Working.{HasBegun}
-use Rattle.slice_driver.proofs.marking.MarkingUnits.{still_goes, still_group_done, still_marking}
+use Rattle.slice_driver.proofs.marking.MarkingUnits.{still_black_done, still_goes, still_group_done}
+use Rattle.slice_driver.proofs.marking.MarkingUnits.{still_marking}
 use Rattle.slice_driver.proofs.marking.AtGroupEnd.{still_on}
-use Rattle.slice_driver.proofs.marking.Units.{looks_quietly, many_quietly, none_rests, not_both, one_quiet}
-use Rattle.slice_driver.proofs.marking.Units.{still_quiet, still_quiet_done}
+use Rattle.slice_driver.proofs.marking.Units.{many_quietly, none_looked, none_rests, not_both, one_quiet}
 use Rattle.slice_driver.proofs.collector.Collector.some_quiet_units.Goals as goal
 
 pub returns-then-marks_black-clause-done : goal.returns-then-marks_black-clause-done
 returns-then-marks_black-clause-done g c = one_quiet _ _ _ _ c.if-marks_black.ensures.done.0
 
-pub returns-then-looks-clause-done : goal.returns-then-looks-clause-done
-returns-then-looks-clause-done g c = one_quiet _ _ _ _
-    (looks_quietly c.args.self.now (g.F.Flight.bits c.args.flight.now) c.requires.sound c.marks_black.new.self
-    (g.F.Flight.bits c.marks_black.new.flight) c.if-marks_black.ensures.done.0 c.if-marks_black.ensures.done.1
-    true c.looks.new.self c.if-is_grouping.ensures c.if-looks.ensures.looks)
+pub looks_up_to-requires-clause-sound : goal.looks_up_to-requires-clause-sound
+looks_up_to-requires-clause-sound g c =
+    let old = c.args.self.now in
+    let flown = g.F.Flight.bits c.args.flight.now in
+    let still = c.if-marks_black.ensures.done.0 in
+    let f1 = g.F.Flight.bits c.marks_black.new.flight in (
+      f1,
+      still_marking old flown c.marks_black.new.self f1 still c.requires.sound,
+      still_black_done old flown c.marks_black.new.self f1 still c.if-marks_black.ensures.done.1,
+    )
 
 pub returns-then-is_grouping-clause-done : goal.returns-then-is_grouping-clause-done
 returns-then-is_grouping-clause-done g c =
-    let quiet = looks_quietly c.args.self.now (g.F.Flight.bits c.args.flight.now) c.requires.sound
-    c.marks_black.new.self (g.F.Flight.bits c.marks_black.new.flight) c.if-marks_black.ensures.done.0
-    c.if-marks_black.ensures.done.1 false c.looks.new.self c.if-is_grouping.ensures c.if-looks.ensures.looks in
-    still_quiet _ _ _ _ quiet.0
+    let old = c.args.self.now in
+    let flown = g.F.Flight.bits c.args.flight.now in
+    let still = c.if-marks_black.ensures.done.0 in
+    let black = c.if-marks_black.ensures.done.1 in
+    let f1 = g.F.Flight.bits c.marks_black.new.flight in
+    many_quietly old flown c.requires.sound c.marks_black.new.self f1 still black c.looks_up_to.result
+    c.looks_up_to.new.self f1
+    (c.looks_up_to.ensures.done f1 (still_marking old flown c.marks_black.new.self f1 still c.requires.sound)
+    (still_black_done old flown c.marks_black.new.self f1 still black))
 
 pub returns-then-is_grouping-clause-rests : goal.returns-then-is_grouping-clause-rests
 returns-then-is_grouping-clause-rests g c = λ is.
-    let quiet = looks_quietly c.args.self.now (g.F.Flight.bits c.args.flight.now) c.requires.sound
-    c.marks_black.new.self (g.F.Flight.bits c.marks_black.new.flight) c.if-marks_black.ensures.done.0
-    c.if-marks_black.ensures.done.1 false c.looks.new.self c.if-is_grouping.ensures c.if-looks.ensures.looks in
-    still_quiet_done _ _ _ _ quiet.0 quiet.1
+    let old = c.args.self.now in
+    let flown = g.F.Flight.bits c.args.flight.now in
+    let still = c.if-marks_black.ensures.done.0 in
+    let black = c.if-marks_black.ensures.done.1 in
+    let f1 = g.F.Flight.bits c.marks_black.new.flight in
+    none_looked old flown c.requires.sound c.marks_black.new.self f1 still black c.looks_up_to.result
+    c.looks_up_to.new.self c.if-is_grouping.ensures
+    (c.looks_up_to.ensures.done f1 (still_marking old flown c.marks_black.new.self f1 still c.requires.sound)
+    (still_black_done old flown c.marks_black.new.self f1 still black))
+    (let some = c.requires.some in c.looks_up_to.ensures.looked (omega (arith, is, some))) is
 
 pub returns-then-begins_zone-clause-done : goal.returns-then-begins_zone-clause-done
 returns-then-begins_zone-clause-done g c =
@@ -78,20 +95,12 @@ returns-clause-rests g c = λ is.
 pub returns-then-marks_black-clause-steps : goal.returns-then-marks_black-clause-steps
 returns-then-marks_black-clause-steps g c = c.if-marks_black.ensures.steps
 
-pub returns-then-looks-clause-steps : goal.returns-then-looks-clause-steps
-returns-then-looks-clause-steps g c =
-    let none = c.if-marks_black.ensures.steps in
-    let looked = c.if-looks.ensures.steps in
-    let grays = ap (λ (h : HeapState). grays_outside (joined h (g.F.Flight.bits c.marks_black.new.flight)))
-    c.if-looks.ensures.heap in
-    omega (arith, none, looked, grays)
-
 pub returns-then-is_grouping-clause-steps : goal.returns-then-is_grouping-clause-steps
 returns-then-is_grouping-clause-steps g c =
     let none = c.if-marks_black.ensures.steps in
-    let looked = c.if-looks.ensures.steps in
-    let grays = ap (λ (h : HeapState). grays_outside (joined h (g.F.Flight.bits c.marks_black.new.flight)))
-    c.if-looks.ensures.heap in
+    let looked = c.looks_up_to.ensures.steps in
+    let grays = ap (λ (x : CollectorState). grays_outside (joined x.heap (g.F.Flight.bits c.marks_black.new.flight)))
+    c.looks_up_to.ensures.edges in
     omega (arith, none, looked, grays)
 
 pub returns-then-begins_zone-clause-steps : goal.returns-then-begins_zone-clause-steps
@@ -110,8 +119,8 @@ returns-clause-steps g c =
 pub returns-then-marks_black-clause-resting : goal.returns-then-marks_black-clause-resting
 returns-then-marks_black-clause-resting g c = λ rests. absurd (c.if-marks_black.ensures.done.1 rests.black)
 
-pub returns-then-looks-clause-resting : goal.returns-then-looks-clause-resting
-returns-then-looks-clause-resting g c = λ rests. absurd (not_both c.marks_black.new.self c.if-is_grouping.ensures
+pub returns-then-is_grouping-clause-resting : goal.returns-then-is_grouping-clause-resting
+returns-then-is_grouping-clause-resting g c = λ rests. absurd (not_both c.marks_black.new.self c.if-is_grouping.ensures
     (subst IsFormed (sym c.if-marks_black.ensures.done.0.same) rests.formed))
 
 pub returns-then-begins_zone-clause-resting : goal.returns-then-begins_zone-clause-resting

@@ -1,5 +1,4 @@
-use Rattle.std.proofs.Common.{◌≡◌, ◌+◌, ◌∙◌, ℕ, Option, ap, arith, sym}
-use Rattle.cell_bits.specs.declared.bits.Bits.{Bits}
+use Rattle.std.proofs.Common.{◌≡◌, ◌+◌, ◌∙◌, ap, arith, sym}
 use Rattle.heap_core.specs.Heap.{HeapState}
 use Rattle.slice_driver.specs.Bounds.{bound_of, grouping_bound, marking_bound, units_bound}
 use Rattle.slice_driver.specs.Collector.{run_of}
