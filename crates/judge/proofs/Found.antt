@@ -44,7 +44,7 @@ found_is g more old new starts f done x = (
       ]) c),
 )
 
-black_is : (g : GraphState) (before after : Walks) → CatchesUp g before after → IsWalked g before.black → (x : Name)
+pub black_is : (g : GraphState) (before after : Walks) → CatchesUp g before after → IsWalked g before.black → (x : Name)
     → Contains after.black.names x ↔ IsFoundBlack g before x
 black_is g before after caught b x =
     found_is g before.woken before.black after.black b.starts b.follows (caught.black b.starts b.follows) x

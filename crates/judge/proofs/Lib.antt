@@ -6,6 +6,8 @@ pub mod Stages
 pub mod Ends
 pub mod Parts
 pub mod Cells
+pub mod ZoneEdges
+pub mod Groups
 pub mod Swept
 pub mod Owners
 pub mod Colours

@@ -1,6 +1,6 @@
 -- What holds of a call's result that is returned as it is.
-use Rattle.std.proofs.Common.{Result, Ok, Err, Option, Some, None, IfOk}
-use Rattle.std.specs.Prelude.{IfNone, OnOk}
+use Rattle.std.proofs.Common.{◌≡◌, Bool, true, false, not, refl, Result, Ok, Err, Option, Some, None, IfOk}
+use Rattle.std.specs.Prelude.{IfNone, IfSome, OnOk, is_some}
 
 -- two clauses together
 pub both_ok : {X E : Type 0} (r : Result X E) (P Q R : X → Type 0) → ((x : X) → P x → Q x → R x) → IfOk r P → IfOk r Q
@@ -31,3 +31,27 @@ pub none_both : {K X A B C : Type 0} (r : Result (Option K) X) → (A → B → 
 none_both (Ok None) f a b = f a b
 none_both (Ok (Some k)) f a b = tt
 none_both (Err e) f a b = tt
+
+-- an option that is there, or is not
+pub none_there : {X P : Type 0} (o : Option X) → is_some o ≡ false → IfNone o P → P
+none_there None e p = p
+none_there (Some x) e p = absurd (cc e)
+
+pub some_there : {X : Type 0} {P : X → Type 0} (o : Option X) → is_some o ≡ true → IfSome o P → (x : X) × P x
+some_there None e p = absurd (cc e)
+some_there (Some x) e p = (x, p)
+
+-- where there is no such value, it is not there
+pub not_there : {X : Type 0} {P : X → Type 0} (o : Option X) (b : Bool) → is_some o ≡ not b → IfSome o P
+    → ((x : X) → P x → ⊥) → b ≡ true
+not_there o true e p none = refl
+not_there o false e p none = let x = some_there o e p in absurd (none x.0 x.1)
+
+-- what is known where an option is there, and where it is not
+pub some_is : {X P : Type 0} (o : Option X) (x : X) → o ≡ Some x → IfSome o (λ y. P) → P
+some_is None x e p = absurd (cc e)
+some_is (Some y) x e p = p
+
+pub none_is : {X P : Type 0} (o : Option X) → o ≡ None → IfNone o P → P
+none_is None e p = p
+none_is (Some x) e p = absurd (cc e)

@@ -122,7 +122,7 @@ caught_before g None new w gone e = absurd (cc (e, gone))
 caught_before g (Some v) new w (after, is, caught) e =
     let same : after ≡ w = cc (e, is) in (v, refl, subst (λ z. CatchesUp g v z) same caught)
 
-sound_forms : (g : GraphState) (old new : Shown) (groups : List ZoneSet) → Forms old groups new
+sound_forms : (g : GraphState) (old new : Shown) (groups : List ZoneSet) → Forms g old groups new
     → CatchUp old.former.graph old.walks new.walks → IsSound g old → IsSound g new
 sound_forms g old new groups f up is =
     let stage : new.stage ≡ collecting f.zones f.marking (Some groups) = ap (λ (t : Shown). t.stage) f.new_is in

@@ -6,6 +6,8 @@ pub mod Whites
 pub mod Arenas
 pub mod Starts
 pub mod Parts
+pub mod Edges
+pub mod Groups
 pub mod Stages
 pub mod Sound
 pub mod Dumps

@@ -1,5 +1,5 @@
 -- Groups that part the zones of a collection.
-use Rattle.std.specs.Prelude.{◌≡◌, ◌↔◌, ℕ, List, Contains, AllPairs}
+use Rattle.std.specs.Prelude.{◌↔◌, ℕ, List, Contains, AllPairs}
 use Rattle.gz_names.specs.Zones.{HasZone}
 use Rattle.gz_names.specs.declared.zone_sets.ZoneSet.{ZoneSet}
 
@@ -10,12 +10,12 @@ AreApart g h = (z : ℕ) → HasZone g.bits z → HasZone h.bits z → ⊥
 pub record AreParts (zones : ZoneSet) (groups : List ZoneSet) : Type 0 where
   pub all : (z : ℕ) → HasZone zones.bits z → (g : ZoneSet) × Contains groups g × HasZone g.bits z
   pub only : (g : ZoneSet) (z : ℕ) → Contains groups g → HasZone g.bits z → HasZone zones.bits z
-  pub full : (g : ZoneSet) → Contains groups g → g.bits ≡ 0 → ⊥
+  pub full : (g : ZoneSet) → Contains groups g → (z : ℕ) × HasZone g.bits z
   pub apart : AllPairs AreApart groups
 
 -- a group has zones, all of them among these, and none that was seen before
 pub record Fits (zones seen group : ZoneSet) : Type 0 where
-  pub some : group.bits ≡ 0 → ⊥
+  pub some : (z : ℕ) × HasZone group.bits z
   pub fresh : AreApart group seen
   pub within : (z : ℕ) → HasZone group.bits z → HasZone zones.bits z
 
@@ -23,5 +23,5 @@ pub record Fits (zones seen group : ZoneSet) : Type 0 where
 pub record ArePartsSoFar (zones seen : ZoneSet) (groups : List ZoneSet) : Type 0 where
   pub seen_are : (z : ℕ) → HasZone seen.bits z ↔ ((g : ZoneSet) × Contains groups g × HasZone g.bits z)
   pub only : (g : ZoneSet) (z : ℕ) → Contains groups g → HasZone g.bits z → HasZone zones.bits z
-  pub full : (g : ZoneSet) → Contains groups g → g.bits ≡ 0 → ⊥
+  pub full : (g : ZoneSet) → Contains groups g → (z : ℕ) × HasZone g.bits z
   pub apart : AllPairs AreApart groups

@@ -18,6 +18,7 @@ use Rattle.judge.specs.Arenas.{Grows, owners_in}
 use Rattle.judge.specs.Cells.{Cells, Colours, GivesPlaces, HasCell, IsWhite, wakes}
 use Rattle.judge.specs.Former.{IsFormer, Keeps, Releases, Takes}
 use Rattle.judge.specs.Parts.{AreParts}
+use Rattle.judge.specs.Groups.{AreAllowed, AreRefused, Forming}
 use Rattle.judge.specs.Starts.{IsBegun}
 use Rattle.plain_graph.specs.Indexed.{order_of}
 use Rattle.plain_graph.specs.Reach.{WalkState}
@@ -163,14 +164,28 @@ pub record Starts (g : GraphState) (old new : Shown) : Type 0 where
   pub none_out : old.out ≡ []
   pub started : IsStarted g zones old new
 
--- the groups are formed, once, and part the zones
-pub record Forms (old : Shown) (groups : List ZoneSet) (new : Shown) : Type 0 where
+-- what groups are formed by, while these zones are collected and this was found
+abbrev pub forming_in : GraphState → Shown → ZoneSet → Walks → Forming
+forming_in g s zones walks =
+    record { graph = g; cells = s.cells; zones = zones; former = s.former.graph; walks = walks }
+
+-- the groups are formed, once: they part the zones, and are lawful
+pub record Forms (g : GraphState) (old : Shown) (groups : List ZoneSet) (new : Shown) : Type 0 where
   pub zones : ZoneSet
   pub marking : ZoneSet
   pub was : old.stage ≡ collecting zones marking None
   pub none_out : old.out ≡ []
   pub parts : AreParts zones groups
+  pub walks : Walks
+  pub found : old.walks ≡ Some walks
+  pub lawful : AreAllowed (forming_in g old zones walks) groups
   pub new_is : new ≡ record old { stage = collecting zones marking (Some groups); walks = new.walks }
+
+-- these groups may not be formed: they are not lawful
+abbrev pub AreForbidden : GraphState → Shown → List ZoneSet → Type 0
+AreForbidden g s groups =
+    (zones : ZoneSet) (marking : ZoneSet) (walks : Walks) → s.stage ≡ collecting zones marking None
+    → s.walks ≡ Some walks → AreRefused (forming_in g s zones walks) groups
 
 -- the zones of one set without those of another
 abbrev pub AreWithout : ZoneSet → ZoneSet → ZoneSet → Type 0
@@ -247,7 +262,7 @@ pub record Stops (old : Shown) (zones : ZoneSet) (new : Shown) : Type 0 where
 abbrev pub IsReported : GraphState → Shown → Report → Shown → Type 0
 IsReported g old report.Started new = Starts g old new
 IsReported g old (report.Groups groups) new =
-    Forms old groups new × CatchUp old.former.graph old.walks new.walks
+    Forms g old groups new × CatchUp old.former.graph old.walks new.walks
 IsReported g old (report.Ended group grays told) new = (told ≡ []) × EndsGroup g old group grays new
 IsReported g old (report.Swept arena freed) new = Sweeps old arena freed new
 IsReported g old report.Done new = Finishes old new
@@ -258,9 +273,9 @@ abbrev pub IsReportedLine : GraphState → Shown → List ℕ → Shown → Type
 IsReportedLine g old line new = (r : Report) × (line ≡ report_text r) × IsReported g old r new
 
 -- a line by which the groups are formed, and one by which a group ends
-abbrev pub IsGroupsLine : Shown → List ℕ → Shown → Type 0
-IsGroupsLine old line new =
-    (groups : List ZoneSet) × (line ≡ report_text (report.Groups groups)) × Forms old groups new
+abbrev pub IsGroupsLine : GraphState → Shown → List ℕ → Shown → Type 0
+IsGroupsLine g old line new =
+    (groups : List ZoneSet) × (line ≡ report_text (report.Groups groups)) × Forms g old groups new
     × CatchUp old.former.graph old.walks new.walks
 
 abbrev pub IsEndedLine : GraphState → Shown → List ℕ → Shown → Type 0

@@ -1,24 +1,26 @@
 // The checks of reports, by the definitions: which report is due, and what is wrong with another one.
-ghost use Rattle.std.specs.Prelude.{◌≡◌, ℕ, [], ◌∷◌, IfNone, IfOk, IfSome, IsTrue, List, OnOk, codes};
+ghost use Rattle.std.specs.Prelude.{◌≡◌, ◌↔◌, ℕ, [], ◌∷◌, IfNone, IfOk, IfSome, IsTrue, List, OnOk, codes};
 ghost use Rattle.gz_names.specs.declared.names.Name.{Name as AName};
 ghost use Rattle.gz_names.specs.declared.zone_sets.ZoneSet.{ZoneSet as AZoneSet};
 ghost use Rattle.gz_names.specs.declared.replies.Report.TheVariants as the_report;
 ghost use Rattle.trace_lang.specs.Texts.{report_text};
 ghost use Rattle.judge.specs.declared.world.DueReport.TheVariants as due;
+ghost use Rattle.judge.specs.Edges.{AreInOrder};
 ghost use Rattle.judge.specs.Parts.{AreParts, Fits};
 ghost use Rattle.judge.specs.Sound.{IsSound};
 ghost use Rattle.judge.specs.Whites.{whites_in};
 ghost use Rattle.judge.specs.Walks.{CatchUp, CatchesUp, walks_in, walks_of};
-ghost use Rattle.judge.specs.Stages.{Finishes, Forms, IsDue, IsEndedLine, IsGroupsLine, IsOver, IsReportedLine};
-ghost use Rattle.judge.specs.Stages.{IsResetLine, Starts, Stops, Sweeps, shown, stage_in};
+ghost use Rattle.judge.specs.Stages.{AreForbidden, Finishes, Forms, IsDue, IsEndedLine, IsGroupsLine, IsOver};
+ghost use Rattle.judge.specs.Stages.{IsReportedLine, IsResetLine, Starts, Stops, Sweeps, shown, stage_in};
 
-use crate::collection::{Collection, GroupEnd, ZoneEdges, wrapper_keys, zone_edges};
+use crate::collection::{Collection, GroupEnd};
+use crate::edges::{first_apart, first_backward, zone_edges};
 use crate::former::Former;
 use crate::kinds;
 use crate::parse::{after, parse_groups};
 use crate::text::{is_same, report_text};
 use crate::world::{DueReport, Phase, World};
-use gz_names::{Name, NameList, Names64, NoMemory, Place, Report, ZoneNo, ZoneSet};
+use gz_names::{Name, NameList, Names64, NoMemory, Place, Report, ZoneSet};
 use plain_graph::Graph;
 use std::alloc::{AllocError, Global};
 use std::collections::BTreeMap;
@@ -189,8 +191,10 @@ fn groups_of(world: &World, line: &[u8]) -> Result<Option<Vec<ZoneSet>>, NoMemor
 }
 
 fn formed(graph: &Graph, world: &mut World, line: &[u8]) -> Result<Fault, NoMemory>
-    requires { IsDue due.Groups (shown world.old) }
-    ensures { IfOk result (λ fault. IfNone fault (IsGroupsLine (shown world.old) line.now (shown world.new))) }
+    requires due { IsDue due.Groups (shown world.old) }
+    requires sound { IsSound graph.now (shown world.old) }
+    ensures { IfOk result (λ fault. IfNone fault (IsGroupsLine graph.now (shown world.old) line.now
+        (shown world.new))) }
 {
     let Some(groups) = groups_of(world, line)? else {
         return Ok(Some(kinds::due(world.alloc, b"report", b"groups ..")?));
@@ -200,10 +204,14 @@ fn formed(graph: &Graph, world: &mut World, line: &[u8]) -> Result<Fault, NoMemo
 
 // Judges the groups of a line, and forms them if nothing is wrong with them.
 fn form(graph: &Graph, world: &mut World, groups: Vec<ZoneSet>) -> Result<Fault, NoMemory>
-    requires { IsDue due.Groups (shown world.old) }
-    ensures forms { IfOk result (λ fault. IfNone fault (Forms (shown world.old) groups.items (shown world.new))) }
+    requires due { IsDue due.Groups (shown world.old) }
+    requires sound { IsSound graph.now (shown world.old) }
+    ensures forms { IfOk result (λ fault. IfNone fault (Forms graph.now (shown world.old) groups.items
+        (shown world.new))) }
     ensures caught { IfOk result (λ fault. IfNone fault
         (CatchUp world.old.former.graph (walks_of world.old.phase) (walks_of world.new.phase))) }
+    ensures forbidden { IfOk result (λ fault. IfSome fault (λ _. AreForbidden graph.now (shown world.old)
+        groups.items)) }
 {
     let alloc = world.alloc;
     let Phase::Collecting(collection) = &mut world.phase else {
@@ -232,115 +240,59 @@ fn judge_edges(
     groups: &[ZoneSet],
 ) -> Result<Fault, NoMemory>
     ensures stage { OnOk result (stage_in collection.new ≡ stage_in collection.old) }
-    ensures walks { IfOk result (λ fault. IfNone fault
-        (CatchesUp former.now.graph (walks_in collection.old) (walks_in collection.new))) }
+    ensures walks { OnOk result
+        (CatchesUp former.now.graph (walks_in collection.old) (walks_in collection.new)) }
+    ensures allowed { IfOk result (λ fault. IfNone fault (AreInOrder graph.now former.now.graph places.now
+        collection.old collection.new groups.now)) }
+    ensures forbidden { IfOk result (λ fault. IfSome fault (λ _. AreInOrder graph.now former.now.graph places.now
+        collection.old collection.new groups.now → ⊥)) }
 {
-    let keys = wrapper_keys(alloc, former.graph(), places)?;
-    let first = zone_edges(graph, places, collection, &keys);
-    for group in groups {
-        if let Some(zone) = zone_apart(&first, *group) {
-            return Ok(Some(kinds::apart(alloc, *group, zone)?));
-        }
-    }
+    let first = zone_edges(graph, former.graph(), places, collection);
     collection.catch_up(former.graph())?;
-    backward(alloc, graph, places, collection, groups)
+    let last = zone_edges(graph, graph, places, collection);
+    if let Some((group, zone)) = first_apart(&first, groups) {
+        return Ok(Some(kinds::apart(alloc, group, zone)?));
+    }
+    match first_backward(&last, groups) {
+        None => Ok(None),
+        Some(edge) => Ok(Some(kinds::backward(alloc, graph, places, collection, edge)?)),
+    }
 }
 
 // The groups part the zones of the collection: each zone is in one of them, and no group is empty.
 fn parts(alloc: Global, zones: ZoneSet, groups: &[ZoneSet]) -> Result<Fault, NoMemory>
-    ensures { IfOk result (λ fault. IfNone fault (AreParts zones groups.now)) }
+    ensures none { IfOk result (λ fault. IfNone fault (AreParts zones groups.now)) }
+    ensures some { IfOk result (λ fault. IfSome fault (λ _. AreParts zones groups.now → ⊥)) }
 {
-    let mut seen = ZoneSet::new();
-    for group in groups {
-        if !fits(zones, seen, *group) {
-            return Ok(Some(kinds::partition(alloc, zones)?));
-        }
-        seen = seen.union(*group);
-    }
-    if zones.without(seen).is_empty() {
+    if are_parts(zones, groups) {
         Ok(None)
     } else {
         Ok(Some(kinds::partition(alloc, zones)?))
     }
 }
 
-// Whether a group has zones, all of them among these, and none that was seen before.
-fn fits(zones: ZoneSet, seen: ZoneSet, group: ZoneSet) -> bool
-    ensures { IsTrue result → Fits zones seen group }
+fn are_parts(zones: ZoneSet, groups: &[ZoneSet]) -> bool
+    ensures { IsTrue result ↔ AreParts zones groups.now }
 {
-    if group.is_empty() {
-        return false;
-    }
-    if !group.intersection(seen).is_empty() {
-        return false;
-    }
-    group.without(zones).is_empty()
-}
-
-// The zones of a group that edges lead to from one of them, or from which they lead to it.
-fn reached_in(edges: &ZoneEdges, group: ZoneSet, start: ZoneNo, is_forward: bool) -> ZoneSet {
-    let mut reached = ZoneSet::only(start);
-    for _ in 0..64 {
-        for index in 0..64u8 {
-            let Some(zone) = ZoneNo::new(index) else {
-                break;
-            };
-            if !group.contains(zone) {
-                continue;
-            }
-            let next = edges.to[index as usize].intersection(group);
-            if is_forward && reached.contains(zone) {
-                reached = reached.union(next);
-            }
-            if !is_forward && !next.intersection(reached).is_empty() {
-                reached.insert(zone);
-            }
-        }
-    }
-    reached
-}
-
-// A zone of a group from which, or to which, no edges lead within the group.
-fn zone_apart(edges: &ZoneEdges, group: ZoneSet) -> Option<ZoneNo> {
-    let start = group.first()?;
-    let both = reached_in(edges, group, start, true).intersection(reached_in(
-        edges, group, start, false,
-    ));
-    group.without(both).first()
-}
-
-// No edge leads from a later group to an earlier one.
-fn backward(
-    alloc: Global,
-    graph: &Graph,
-    places: &BTreeMap<Name, Place>,
-    collection: &Collection,
-    groups: &[ZoneSet],
-) -> Result<Fault, NoMemory> {
-    let keys = wrapper_keys(alloc, graph, places)?;
-    for (name, _) in places {
-        let Some((from, to)) = collection.edge_of(graph, *name) else {
-            continue;
-        };
-        if is_backward(groups, from, to) {
-            return Ok(Some(kinds::backward(alloc, *name, from, to)?));
-        }
-        if keys.contains(name) && is_backward(groups, to, from) {
-            return Ok(Some(kinds::key_backward(alloc, *name, from, to)?));
-        }
-    }
-    Ok(None)
-}
-
-// Whether the group of a zone comes after that of another.
-fn is_backward(groups: &[ZoneSet], from: ZoneNo, to: ZoneNo) -> bool {
+    let mut seen = ZoneSet::new();
     for group in groups {
-        if group.contains(from) {
+        if !fits(zones, seen, *group) {
             return false;
         }
-        if group.contains(to) {
-            return true;
-        }
+        seen = seen.union(*group);
     }
-    false
+    zones.without(seen).first().is_none()
+}
+
+// Whether a group has zones, all of them among these, and none that was seen before.
+fn fits(zones: ZoneSet, seen: ZoneSet, group: ZoneSet) -> bool
+    ensures { IsTrue result ↔ Fits zones seen group }
+{
+    if group.first().is_none() {
+        return false;
+    }
+    if group.intersection(seen).first().is_some() {
+        return false;
+    }
+    group.without(zones).first().is_none()
 }

@@ -1,6 +1,6 @@
 // A collection: its zones, what it finds black and live, its groups, and how many units it may take.
-ghost use Rattle.std.specs.Prelude.{◌≡◌, ◌↔◌, ◌<◌, ◌++◌, ℕ, Contains, IfOk, IfSome, IsTrue, List, None, OnOk, Some};
-ghost use Rattle.std.specs.Prelude.{drop, reverse};
+ghost use Rattle.std.specs.Prelude.{◌≡◌, ◌↔◌, ◌<◌, ◌++◌, ℕ, Contains, IfNone, IfOk, IfSome, IsTrue, List, None, OnOk};
+ghost use Rattle.std.specs.Prelude.{Some, drop, reverse};
 ghost use Rattle.gz_names.specs.Zones.{zones_in};
 ghost use Rattle.gz_names.specs.declared.names.Name.{Name as AName};
 ghost use Rattle.gz_names.specs.declared.zone_sets.ZoneSet.{ZoneSet as AZoneSet};
@@ -8,7 +8,8 @@ ghost use Rattle.colour_defs.specs.Ends.{Lists, arenas_from};
 ghost use Rattle.colour_defs.specs.Graph.{GraphState, register_cell, slot_cell};
 ghost use Rattle.plain_graph.specs.Reach.{Follows, IsDone};
 ghost use Rattle.judge.specs.Arenas.{AreSameArenas, owners_in};
-ghost use Rattle.judge.specs.Cells.{HasCell, HasColours, HasShade, IsGrayBy, IsWhiteBy, LetsGo, Removes};
+ghost use Rattle.judge.specs.Cells.{Cells, HasCell, HasColours, HasShade, IsGrayBy, IsWhiteBy, LetsGo, Removes};
+ghost use Rattle.judge.specs.Edges.{Leads, sources_of};
 ghost use Rattle.judge.specs.Former.{Releases};
 ghost use Rattle.judge.specs.Sound.{Settles};
 ghost use Rattle.judge.specs.Stages.{Ends, HasGroups, IsDueOf, IsFirstGroup, IsWoken, collecting, groups_in};
@@ -25,7 +26,7 @@ use crate::world::{DueReport, Phase, World};
 use gz_names::{GrayNo, Name, NoMemory, Place, Reg, ZoneNo, ZoneSet};
 use plain_graph::{Graph, Walk};
 use std::alloc::Global;
-use std::collections::{BTreeMap, BTreeSet};
+use std::collections::BTreeMap;
 use std::mem;
 
 /// What is counted for the bound on units.
@@ -105,12 +106,6 @@ pub struct GroupEnd {
     pub zones: ZoneSet,
     pub grays: Vec<Name>,
     pub whites: Vec<Name>,
-}
-
-/// Edges between zones: for each zone, those to which one leads.
-#[derive(Clone, Copy)]
-pub struct ZoneEdges {
-    pub to: [ZoneSet; 64],
 }
 
 pub fn is_wrapper(name: Name) -> bool {
@@ -383,19 +378,30 @@ impl Collection {
 
     /// The two zones, if a name is a wrapper that leads from a collected zone to a cell of another one that is not
     /// black.
-    pub fn edge_of(&self, graph: &Graph, name: Name) -> Option<(ZoneNo, ZoneNo)> {
+    pub fn edge_of(&self, graph: &Graph, name: Name) -> Option<(ZoneNo, ZoneNo)>
+        ensures some { IfSome result (λ e. (entries : GraphState) (cells : Cells)
+            → Leads (sources_of graph.now entries cells self.now) name e.0 e.1) }
+        ensures none { IfNone result ((entries : GraphState) (cells : Cells) (a b : ℕ)
+            → Leads (sources_of graph.now entries cells self.now) name a b → ⊥) }
+    {
         let Name::Wrap(_, target) = name else {
             return None;
         };
-        let target = Name::Cell(target);
         let from = graph.zone_of(name)?;
-        let to = graph.zone_of(target)?;
-        let is_inside = self.zones.contains(from) && self.zones.contains(to);
-        if is_inside && from != to && !self.black.contains(target) {
-            Some((from, to))
-        } else {
-            None
+        let to = graph.zone_of(Name::Cell(target))?;
+        if from == to {
+            return None;
         }
+        if !self.zones.contains(from) {
+            return None;
+        }
+        if !self.zones.contains(to) {
+            return None;
+        }
+        if self.black.contains(Name::Cell(target)) {
+            return None;
+        }
+        Some((from, to))
     }
 
     /// The first group that has not ended.
@@ -527,43 +533,6 @@ impl Collection {
             groups.remove(0);
         }
     }
-}
-
-/// The wrappers that are keys of entries whose maps are present.
-pub fn wrapper_keys(
-    alloc: Global,
-    graph: &Graph,
-    places: &BTreeMap<Name, Place>,
-) -> Result<BTreeSet<Name>, NoMemory> {
-    let mut keys = BTreeSet::new(alloc);
-    for entry in graph.entries() {
-        if is_wrapper(entry.key) && places.contains_key(&entry.map) {
-            keys.insert(entry.key)?;
-        }
-    }
-    Ok(keys)
-}
-
-/// The edges between the zones of a collection, by what it has found black so far. A wrapper leads to its target's
-/// zone. Where it is a key, its target keeps it, so that an edge leads back as well.
-pub fn zone_edges(
-    graph: &Graph,
-    places: &BTreeMap<Name, Place>,
-    collection: &Collection,
-    keys: &BTreeSet<Name>,
-) -> ZoneEdges {
-    let mut edges = ZoneEdges {
-        to: [ZoneSet::new(); 64],
-    };
-    for (name, _) in places {
-        if let Some((from, to)) = collection.edge_of(graph, *name) {
-            edges.to[from.index() as usize].insert(to);
-            if keys.contains(name) {
-                edges.to[to.index() as usize].insert(from);
-            }
-        }
-    }
-    edges
 }
 
 impl World {

@@ -9,13 +9,15 @@
 //     arena     another arena is to be swept, or this one was swept before
 //     groups    the groups do not part the zones, or an edge between zones forbids them
 //     units     the number of units
-use crate::collection::GroupEnd;
+use crate::collection::{Collection, GroupEnd};
+use crate::edges::wrapper_between;
 use crate::parse::{after, next_word, parse_name, parse_names, parse_number};
 use crate::text::Text;
 use crate::world::World;
-use gz_names::{Name, NoMemory, ZoneNo, ZoneSet};
-use plain_graph::Walk;
+use gz_names::{Name, NoMemory, Place, ZoneNo, ZoneSet};
+use plain_graph::{Graph, Walk};
 use std::alloc::Global;
+use std::collections::BTreeMap;
 
 /// Another line is due.
 pub fn due(alloc: Global, kind: &[u8], line: &[u8]) -> Result<Vec<u8>, NoMemory> {
@@ -72,39 +74,32 @@ pub fn apart(alloc: Global, group: ZoneSet, zone: ZoneNo) -> Result<Vec<u8>, NoM
     Ok(text.into_bytes())
 }
 
-/// A wrapper leads from a later group to an earlier one.
+/// An edge leads from a later group to an earlier one.
 pub fn backward(
     alloc: Global,
-    wrapper: Name,
-    from: ZoneNo,
-    to: ZoneNo,
+    graph: &Graph,
+    places: &BTreeMap<Name, Place>,
+    collection: &Collection,
+    edge: (ZoneNo, ZoneNo),
 ) -> Result<Vec<u8>, NoMemory> {
     let mut text = Text::new(alloc);
     text.push(b"groups, zone ")?;
-    text.push_zone(from)?;
+    text.push_zone(edge.0)?;
     text.push(b" ends after zone ")?;
-    text.push_zone(to)?;
-    text.push(b", into which ")?;
-    text.push_name(wrapper)?;
-    text.push(b" leads, whose target is not black")?;
-    Ok(text.into_bytes())
-}
-
-/// A wrapper that is a key leads from an earlier group to a later one.
-pub fn key_backward(
-    alloc: Global,
-    wrapper: Name,
-    from: ZoneNo,
-    to: ZoneNo,
-) -> Result<Vec<u8>, NoMemory> {
-    let mut text = Text::new(alloc);
-    text.push(b"groups, zone ")?;
-    text.push_zone(to)?;
-    text.push(b" ends after zone ")?;
-    text.push_zone(from)?;
-    text.push(b", out of which ")?;
-    text.push_name(wrapper)?;
-    text.push(b" leads, which is a key and whose target is not black")?;
+    text.push_zone(edge.1)?;
+    match wrapper_between(graph, places, collection, edge) {
+        None => {}
+        Some((wrapper, true)) => {
+            text.push(b", into which ")?;
+            text.push_name(wrapper)?;
+            text.push(b" leads, whose target is not black")?;
+        }
+        Some((wrapper, false)) => {
+            text.push(b", out of which ")?;
+            text.push_name(wrapper)?;
+            text.push(b" leads, which is a key and whose target is not black")?;
+        }
+    }
     Ok(text.into_bytes())
 }
 

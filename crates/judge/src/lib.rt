@@ -25,6 +25,7 @@ mod arenas;
 mod checks;
 mod collection;
 mod dumps;
+mod edges;
 mod former;
 mod judging;
 mod kinds;
