@@ -1,42 +1,27 @@
--- What turns do to a marker's account.
+-- What turns do to a caller's account.
 use Rattle.std.proofs.Common.{◌≡◌, ℕ, zero, suc, ◌+◌, ◌<◌, ◌≤◌, Bool, true, false, List, [], ◌∷◌, ◌++◌, length, Option}
-use Rattle.std.proofs.Common.{Some, None, sym, refl, ap, ◌∙◌, subst, arith, All}
-use Rattle.std.proofs.lemmas.List.Elements.{All-cons, All-nil, All-append, All-head, All-tail}
-use Rattle.std.proofs.lemmas.List.{length-append}
+use Rattle.std.proofs.Common.{Some, None, sym, refl, ◌∙◌, subst, arith, All, append_assoc, append-nil}
+use Rattle.std.proofs.lemmas.List.Elements.{All-cons, All-nil, All-append, All-head, All-tail, All-weaker}
 use mathlib.Core.Logic.{dite}
 use native.Mathlib.Decide.{ℕ_discrete}
 use Rattle.mark_words.specs.declared.view.MarkView.{MarkView}
-use Rattle.mark_words.specs.Sums.{weigh, only, times, whole}
+use Rattle.mark_words.specs.Sums.{weigh, only, times}
 use Rattle.mark_words.specs.Rule.{bit_of}
-use Rattle.mark_words.specs.Views.{with_known, with_won}
-use Rattle.mark_words.specs.Steps.{Wins}
-use Rattle.mark_words.proofs.Counts.{weigh-append, weigh-snoc, only-same, only-arena, only-slot}
+use Rattle.mark_words.proofs.Counts.{weigh-append, weigh-snoc}
+use Rattle.mark_words.proofs.Places.{all_front}
 use Rattle.par_mark.specs.declared.donations.QueueView.{QueueView}
 use Rattle.par_mark.specs.Donations.{HasTaken}
-use Rattle.par_mark.specs.Edges.{held, first_targets, targets, out, degree}
+use Rattle.marker.specs.Edges.{held, first_targets, targets, out}
+use Rattle.par_mark.specs.Edges.{all_targets}
 use Rattle.par_mark.specs.Accounts.{Accounts, HasRoom}
-use Rattle.par_mark.specs.Tries.{IsTaken, own, queued, IsDonated, kept, given, IsTried, beyond, black, fresh, Serves}
-use Rattle.par_mark.specs.Tries.{HasTurned, TakenWasPut, done}
-use Rattle.par_mark.proofs.Balancing.{last_listed}
-use Rattle.par_mark.proofs.Growing.{grown_more, taken_grows, tried_grows}
+use Rattle.par_mark.specs.States.{AccountsAt, CallerState}
+use Rattle.par_mark.specs.Tries.{AreMade, IsTaken, own, queued, IsDonated, kept, given, IsTried, beyond, within, Serves}
+use Rattle.par_mark.specs.Tries.{HasTriedSome, HasTurned}
+use Rattle.par_mark.proofs.Cells.{weigh-all_targets}
+use Rattle.marker.proofs.Members.{from_times}
+use Rattle.par_mark.proofs.Listed.{listed_by_weight}
+use Rattle.par_mark.proofs.Moving.{moved_none, moved_more, taken_moved, made_moved, beyond_moved, with_taken}
 use Rattle.par_mark.proofs.Scanning.{weigh-one}
-
-one : ℕ × ℕ → ℕ
-one _ = 1
-
--- a place that was won once more, where it had not been won
-once_more : (ps : List (ℕ × ℕ)) (p : ℕ × ℕ) → times p ps ≡ 0 → ((q : ℕ × ℕ) → times q ps ≤ 1) → (q : ℕ × ℕ)
-    → times q (ps ++ p ∷ []) ≤ 1
-once_more ps p none once q =
-    let s = weigh-snoc (only q) ps p in
-    let o = once q in
-    dite (ℕ_discrete p.0 q.0)
-    (λ e. dite (ℕ_discrete p.1 q.1)
-    (λ f. let same : p ≡ q = λ i. (e i, f i) in let z : times q ps ≡ 0 =
-    subst (λ (r : ℕ × ℕ). times r ps ≡ 0) same none in
-    let u : only q p ≡ 1 = subst (λ (r : ℕ × ℕ). only r p ≡ 1) same (only-same p) in omega arith)
-    (λ n. let z = only-slot q p n in omega arith))
-    (λ n. let z = only-arena q p n in omega arith)
 
 -- all targets are listed
 pub targets_listed : (P : ℕ × ℕ → Type 0) (field : ℕ → Option (ℕ × ℕ)) (n : ℕ)
@@ -50,35 +35,33 @@ targets_listed P field (suc n) all = All-append P (first_targets field n) (held 
     one_held (Some q) e = All-cons P q [] (all n q (omega arith) e) (All-nil P)
 
 module _ (edge : ℕ × ℕ → ℕ → Option (ℕ × ℕ)) (marking : ℕ × ℕ → Bool) (P : ℕ × ℕ → Type 0) where
-  abbrev Books : List (ℕ × ℕ) → List (ℕ × ℕ) → List (ℕ × ℕ) → List (ℕ × ℕ) → MarkView → QueueView → Type 0
+  abbrev Books : List (ℕ × ℕ) → List (ℕ × ℕ) → List (ℕ × ℕ) → List (ℕ × ℕ) → List (ℕ × ℕ) → MarkView → QueueView
+      → Type 0
   Books = Accounts edge marking P
 
-  all_front : (ps : List (ℕ × ℕ)) (p : ℕ × ℕ) → All P (ps ++ p ∷ []) → All P ps
-  all_front [] p all = All-nil P
-  all_front (q ∷ ps) p all = All-cons P q ps (All-head P q (ps ++ p ∷ []) all)
-      (all_front ps p (All-tail P q (ps ++ p ∷ []) all))
-
-  took_own : (firsts tries outside : List (ℕ × ℕ)) (v : MarkView) (d : QueueView) (p : ℕ × ℕ)
-      → Books firsts [] (tries ++ p ∷ []) outside v d → Books firsts (p ∷ []) tries outside v d
-  took_own firsts tries outside v d p a = record {
+  took_own : (firsts u tries outside : List (ℕ × ℕ)) (v : MarkView) (d : QueueView) (p : ℕ × ℕ)
+      → Books firsts [] u (tries ++ p ∷ []) outside v d → Books firsts (p ∷ []) u tries outside v d
+  took_own firsts u tries outside v d p a = record {
     balance = λ h. let b = a.balance h in let s = weigh-snoc h tries p in omega arith;
     taken = λ h. let b = a.taken h in omega arith;
+    unscanned_won = a.unscanned_won;
     won_known = a.won_known;
     once = a.once;
     fresh = a.fresh;
     inside = a.inside;
     tried_inside = a.tried_inside;
     beyond = a.beyond;
-    listed = All-cons P p [] (last_listed P tries p a.tries_listed) (All-nil P);
-    tries_listed = all_front tries p a.tries_listed;
+    listed = All-cons P p [] (all_front P tries p a.tries_listed).1 (All-nil P);
+    tries_listed = (all_front P tries p a.tries_listed).0;
     won_listed = a.won_listed;
   }
 
-  took_queued : (firsts tries outside : List (ℕ × ℕ)) (v : MarkView) (d d' : QueueView) (p : ℕ × ℕ)
-      → HasTaken P d p d' → Books firsts [] tries outside v d → Books firsts (p ∷ []) tries outside v d'
-  took_queued firsts tries outside v d d' p t a = subst (Books firsts (p ∷ []) tries outside v) (sym t.0) record {
+  took_queued : (firsts u tries outside : List (ℕ × ℕ)) (v : MarkView) (d d' : QueueView) (p : ℕ × ℕ)
+      → HasTaken P d p d' → Books firsts [] u tries outside v d → Books firsts (p ∷ []) u tries outside v d'
+  took_queued firsts u tries outside v d d' p t a = subst (Books firsts (p ∷ []) u tries outside v) (sym t.0) record {
     balance = λ h. let b = a.balance h in let s = weigh-snoc h d.taken p in omega arith;
     taken = λ h. let b = a.taken h in let s = weigh-snoc h d.taken p in omega arith;
+    unscanned_won = a.unscanned_won;
     won_known = a.won_known;
     once = a.once;
     fresh = a.fresh;
@@ -90,23 +73,31 @@ module _ (edge : ℕ × ℕ → ℕ → Option (ℕ × ℕ)) (marking : ℕ × �
     won_listed = a.won_listed;
   }
 
-  pub took : (firsts tries tries' outside : List (ℕ × ℕ)) (v : MarkView) (d d' : QueueView) (p : ℕ × ℕ)
-      → IsTaken P p tries d tries' d' → Books firsts [] tries outside v d → Books firsts (p ∷ []) tries' outside v d'
-  took firsts tries tries' outside v d d' p (own e f) a =
-      subst (Books firsts (p ∷ []) tries' outside v) (sym f)
-      (took_own firsts tries' outside v d p (subst (λ (l : List (ℕ × ℕ)). Books firsts [] l outside v d) e a))
-  took firsts tries tries' outside v d d' p (queued e f t) a =
-      took_queued firsts tries' outside v d d' p t (subst (λ (l : List (ℕ × ℕ)). Books firsts [] l outside v d)
+  pub took : (firsts u tries tries' outside : List (ℕ × ℕ)) (v : MarkView) (d d' : QueueView) (p : ℕ × ℕ)
+      → IsTaken P p tries d tries' d' → Books firsts [] u tries outside v d
+      → Books firsts (p ∷ []) u tries' outside v d'
+  took firsts u tries tries' outside v d d' p (own e f) a =
+      subst (Books firsts (p ∷ []) u tries' outside v) (sym f)
+      (took_own firsts u tries' outside v d p (subst (λ (l : List (ℕ × ℕ)). Books firsts [] u l outside v d) e a))
+  took firsts u tries tries' outside v d d' p (queued e f t) a =
+      took_queued firsts u tries' outside v d d' p t (subst (λ (l : List (ℕ × ℕ)). Books firsts [] u l outside v d)
       (e ∙ sym f) a)
 
+  -- what was taken is listed, and so is what is left
+  pub listed_taken : (tries tries' : List (ℕ × ℕ)) (d d' : QueueView) (p : ℕ × ℕ) → IsTaken P p tries d tries' d'
+      → All P tries → P p × All P tries'
+  listed_taken tries tries' d d' p (own e f) all = let b = all_front P tries' p (subst (All P) e all) in (b.1, b.0)
+  listed_taken tries tries' d d' p (queued e f t) all = (t.1, subst (All P) (sym f) (All-nil P))
+
   pub gave : (firsts tries tries' outside : List (ℕ × ℕ)) (v : MarkView) (d d' : QueueView)
-      → IsDonated tries d tries' d' → Books firsts [] tries outside v d → Books firsts [] tries' outside v d'
+      → IsDonated tries d tries' d' → Books firsts [] [] tries outside v d → Books firsts [] [] tries' outside v d'
   gave firsts tries tries' outside v d d' (kept e f) a =
-      subst (λ (x : List (ℕ × ℕ) × QueueView). Books firsts [] x.0 outside v x.1) (λ i. (sym e i, sym f i)) a
-  gave firsts tries tries' outside v d d' (given p e f) a = subst (Books firsts [] tries' outside v) (sym f)
-      (let b = subst (λ (l : List (ℕ × ℕ)). Books firsts [] l outside v d) e a in record {
+      subst (λ (x : List (ℕ × ℕ) × QueueView). Books firsts [] [] x.0 outside v x.1) (λ i. (sym e i, sym f i)) a
+  gave firsts tries tries' outside v d d' (given p e f) a = subst (Books firsts [] [] tries' outside v) (sym f)
+      (let b = subst (λ (l : List (ℕ × ℕ)). Books firsts [] [] l outside v d) e a in record {
         balance = λ h. let c = b.balance h in let t = weigh-snoc h d.put p in omega arith;
         taken = b.taken;
+        unscanned_won = b.unscanned_won;
         won_known = b.won_known;
         once = b.once;
         fresh = b.fresh;
@@ -118,142 +109,206 @@ module _ (edge : ℕ × ℕ → ℕ → Option (ℕ × ℕ)) (marking : ℕ × �
         won_listed = b.won_listed;
       })
 
-  -- there is room for the targets of a cell that was won
-  pub room_for : (firsts tries outside : List (ℕ × ℕ)) (v w : MarkView) (d : QueueView) (p : ℕ × ℕ) (room : ℕ)
-      → Books firsts (p ∷ []) tries outside v d → Wins v p w → HasRoom edge marking P (weigh (λ _. 1) firsts) room
-      → length tries + length (targets edge p) ≤ room
-  room_for firsts tries outside v w d p room a wins has =
+  -- what tries in one step name is listed
+  tried_listed : (made : ℕ) (p : ℕ × ℕ) (s s' : CallerState) → (m : AreMade marking made p s s') → P p
+      → All P s.tries → All P m.tried × All P s'.tries
+  tried_listed made p s s' m here all = let both : All P (p ∷ s.tries) = All-cons P p s.tries here all in (
+    listed_by_weight P m.tried (p ∷ s.tries) (λ h. let t = m.tries_are h in omega arith) both,
+    listed_by_weight P s'.tries (p ∷ s.tries) (λ h. let t = m.tries_are h in omega arith) both,
+  )
+
+  pub listed_tried : (made : ℕ) (p : ℕ × ℕ) (s s' : CallerState) → IsTried marking made p s s' → P p
+      → All P s.tries → All P s'.tries
+  listed_tried made p s s' (beyond m o e) here all = subst (λ (x : CallerState). All P x.tries) (sym e) all
+  listed_tried made p s s' (within m) here all = (tried_listed made p s s' m here all).1
+
+  -- places that were won once more, where they had not been won
+  once_more : (v : MarkView) (won : List (ℕ × ℕ)) → All (λ p. times p v.won ≡ 0) won
+      → ((q : ℕ × ℕ) → times q won ≤ 1) → ((q : ℕ × ℕ) → times q v.won ≤ 1) → (q : ℕ × ℕ)
+      → times q (v.won ++ won) ≤ 1
+  once_more v won unwon once' once q =
+      let a = weigh-append (only q) v.won won in
+      let o = once q in
+      let p = once' q in
+      dite (ℕ_discrete (times q won) 0)
+      (λ none. omega arith)
+      (λ some'. let z = from_times (λ (p : ℕ × ℕ). times p v.won ≡ 0) won q unwon (omega arith) in omega arith)
+
+  -- tries that were made in one step keep the books
+  made_books : (firsts u : List (ℕ × ℕ)) (made : ℕ) (p : ℕ × ℕ) (s s' : CallerState)
+      → (m : AreMade marking made p s s') → AccountsAt edge marking P firsts (p ∷ []) u s
+      → AccountsAt edge marking P firsts [] (u ++ m.won) s'
+  made_books firsts u made p s s' m a =
+      let v : MarkView = s.seat in
+      let Fresh : ℕ × ℕ → Type 0 = λ q. bit_of v.first q ≡ 0 in
+      let Marking : ℕ × ℕ → Type 0 = λ q. marking q ≡ true in
+      let l = tried_listed made p s s' m (All-head P p [] a.listed) a.tries_listed in
+      subst (λ (x : List (ℕ × ℕ) × (MarkView × QueueView)). Books firsts [] (u ++ m.won) s'.tries x.0 x.1.0 x.1.1)
+      (λ i. (sym m.outside_is i, (sym m.wins.view_is i, sym m.pass_is i))) record {
+        balance = λ h. let b = a.balance h in let t = m.tries_are h in let k = weigh-append h v.known m.tried in
+            let w = weigh-append (out edge h) v.won m.won in let n = weigh-append (out edge h) u m.won in omega arith;
+        taken = λ h. let b = a.taken h in let k = weigh-append h v.known m.tried in let f = m.first_tried h in
+            omega arith;
+        unscanned_won = λ h. let b = a.unscanned_won h in let w = weigh-append h v.won m.won in
+            let n = weigh-append h u m.won in omega arith;
+        won_known = λ h. let b = a.won_known h in let w = weigh-append h v.won m.won in
+            let k = weigh-append h v.known m.tried in let t = m.won_tried h in omega arith;
+        once = once_more v m.won m.wins.unwon m.once a.once;
+        fresh = All-append Fresh v.won m.won a.fresh m.wins.white;
+        inside = All-append Marking v.won m.won a.inside (listed_by_weight Marking m.won m.tried m.won_tried m.inside);
+        tried_inside = All-append Marking v.known m.tried a.tried_inside m.inside;
+        beyond = a.beyond;
+        listed = All-nil P;
+        tries_listed = l.1;
+        won_listed = All-append P v.won m.won a.won_listed (listed_by_weight P m.won m.tried m.won_tried l.0);
+      }
+
+  -- so does one that lies outside the marking zones
+  beyond_books : (firsts u : List (ℕ × ℕ)) (p : ℕ × ℕ) (s : CallerState) → marking p ≡ false
+      → AccountsAt edge marking P firsts (p ∷ []) u s
+      → AccountsAt edge marking P firsts [] u (record s { outside = s.outside ++ p ∷ [] })
+  beyond_books firsts u p s m a = let Beyond : ℕ × ℕ → Type 0 = λ q. marking q ≡ false in record {
+    balance = λ h. let b = a.balance h in let t = weigh-snoc h s.outside p in omega arith;
+    taken = λ h. let b = a.taken h in let t = weigh-snoc h s.outside p in omega arith;
+    unscanned_won = a.unscanned_won;
+    won_known = a.won_known;
+    once = a.once;
+    fresh = a.fresh;
+    inside = a.inside;
+    tried_inside = a.tried_inside;
+    beyond = All-append Beyond s.outside (p ∷ []) a.beyond (All-cons Beyond p [] m (All-nil Beyond));
+    listed = All-nil P;
+    tries_listed = a.tries_listed;
+    won_listed = a.won_listed;
+  }
+
+  -- a try was taken and made
+  pub tried_one : (s s' : CallerState) (tries : List (ℕ × ℕ)) (d : QueueView) (made : ℕ) (p : ℕ × ℕ)
+      → IsTaken P p s.tries s.pass tries d → IsTried marking made p (with_taken s tries d) s'
+      → (won : List (ℕ × ℕ)) × HasTriedSome edge marking P made won s s'
+  tried_one s s' tries d made p t (beyond m o e) = (
+    [],
+    subst (λ (x : ℕ × CallerState). HasTriedSome edge marking P x.0 [] s x.1) (λ i. (sym o i, sym e i)) record {
+      moved = moved_more 0 1 1 [] [] s (with_taken s tries d) _ (omega arith) (taken_moved P s tries d p t)
+          (beyond_moved (with_taken s tries d) p);
+      accounts = λ firsts u a. subst (λ (l : List (ℕ × ℕ)). AccountsAt edge marking P firsts [] l
+          (record s { tries = tries; pass = d; outside = s.outside ++ p ∷ [] })) (sym (append-nil u))
+          (beyond_books firsts u p (with_taken s tries d) m
+          (took firsts u s.tries tries s.outside s.seat s.pass d p t a));
+      tries_listed = λ all. (listed_taken s.tries tries s.pass d p t all).1;
+    },
+  )
+  tried_one s s' tries d made p t (within m) = (
+    m.won,
+    record {
+      moved = moved_more 0 made made [] m.won s (with_taken s tries d) s' (omega arith) (taken_moved P s tries d p t)
+          (made_moved marking (with_taken s tries d) s' made p m);
+      accounts = λ firsts u a. made_books firsts u made p (with_taken s tries d) s' m
+          (took firsts u s.tries tries s.outside s.seat s.pass d p t a);
+      tries_listed = λ all. let l = listed_taken s.tries tries s.pass d p t all in
+          (tried_listed made p (with_taken s tries d) s' m l.0 l.1).1;
+    },
+  )
+
+  pub tried_none : (s : CallerState) → HasTriedSome edge marking P 0 [] s s
+  tried_none s = record {
+    moved = moved_none s;
+    accounts = λ firsts u a. subst (λ (l : List (ℕ × ℕ)). AccountsAt edge marking P firsts [] l s)
+        (sym (append-nil u)) a;
+    tries_listed = λ all. all;
+  }
+
+  pub tried_more : (n m : ℕ) (xs ys : List (ℕ × ℕ)) (a b c : CallerState) → HasTriedSome edge marking P n xs a b
+      → HasTriedSome edge marking P m ys b c → HasTriedSome edge marking P (n + m) (xs ++ ys) a c
+  tried_more n m xs ys a b c x y = record {
+    moved = moved_more n m (n + m) xs ys a b c refl x.moved y.moved;
+    accounts = λ firsts u k. subst (λ (l : List (ℕ × ℕ)). AccountsAt edge marking P firsts [] l c)
+        (append_assoc u xs ys) (y.accounts firsts (u ++ xs) (x.accounts firsts u k));
+    tries_listed = λ all. y.tries_listed (x.tries_listed all);
+  }
+
+  pub turned_none : (s : CallerState) → HasTurned edge marking P 0 s s
+  turned_none s = record { won = []; moved = moved_none s; accounts = λ firsts a. a }
+
+  pub turned_more : (n m k : ℕ) (a b c : CallerState) → n + m ≡ k → HasTurned edge marking P n a b
+      → HasTurned edge marking P m b c → HasTurned edge marking P k a c
+  turned_more n m k a b c e x y = record {
+    won = x.won ++ y.won;
+    moved = moved_more n m k x.won y.won a b c e x.moved y.moved;
+    accounts = λ firsts l. y.accounts firsts (x.accounts firsts l);
+  }
+
+  -- there is room for the targets of the cells that were won and not scanned yet
+  pub room_for : (firsts u tries outside : List (ℕ × ℕ)) (v : MarkView) (d : QueueView) (room : ℕ)
+      → Books firsts [] u tries outside v d → HasRoom edge marking P (weigh (λ _. 1) firsts) room
+      → length tries + length (all_targets edge u) ≤ room
+  room_for firsts u tries outside v d room a has =
       let b = a.balance (λ _. 1) in
       let t = a.taken (λ _. 1) in
-      let r = has (v.won ++ p ∷ []) (once_more v.won p wins.1 a.once)
-      (All-append P v.won (p ∷ []) a.won_listed a.listed) in
-      let s = weigh-snoc (degree edge) v.won p in
+      let r = has v.won a.once a.won_listed in
       let l = weigh-one tries in
-      let m = weigh-one (targets edge p) in omega arith
+      let w = weigh-all_targets edge (λ _. 1) u in
+      let m = weigh-one (all_targets edge u) in omega arith
 
-  -- a try keeps the books
+  -- scanning them keeps the books
   module _ (has : ℕ × ℕ → Type 0) (first : List ℕ) (serves : Serves has edge marking first P) where
-    pub tried : (firsts tries won outside tries' won' outside' : List (ℕ × ℕ)) (v v' : MarkView) (d : QueueView)
-        (p : ℕ × ℕ) → v.first ≡ first → IsTried edge marking p tries won outside v tries' won' outside' v'
-        → Books firsts (p ∷ []) tries outside v d → Books firsts [] tries' outside' v' d
-    tried firsts tries won outside tries' won' outside' v v' d p same (beyond m e f g u) a =
-        subst (λ (x : List (ℕ × ℕ) × (List (ℕ × ℕ) × MarkView)). Books firsts [] x.0 x.1.0 x.1.1 d)
-        (λ i. (sym e i, (sym g i, sym u i))) (record {
-          balance = λ h. let b = a.balance h in let s = weigh-snoc h outside p in omega arith;
-          taken = λ h. let b = a.taken h in let s = weigh-snoc h outside p in omega arith;
+    leads_listed : (u : List (ℕ × ℕ)) → All P u → All (λ q. marking q ≡ true) u → All (λ q. bit_of first q ≡ 0) u
+        → All P (all_targets edge u)
+    leads_listed [] listed inside white = All-nil P
+    leads_listed (p ∷ u) listed inside white = All-append P (targets edge p) (all_targets edge u)
+        (targets_listed P (edge p) 8 (λ i q lt is. serves.closed p q (All-head P p u listed)
+        (All-head (λ (q : ℕ × ℕ). marking q ≡ true) p u inside)
+        (All-head (λ (q : ℕ × ℕ). bit_of first q ≡ 0) p u white) (i, lt, is)))
+        (leads_listed u (All-tail P p u listed) (All-tail (λ (q : ℕ × ℕ). marking q ≡ true) p u inside)
+        (All-tail (λ (q : ℕ × ℕ). bit_of first q ≡ 0) p u white))
+
+    pub scanned : (firsts u tries outside : List (ℕ × ℕ)) (v : MarkView) (d : QueueView) → v.first ≡ first
+        → Books firsts [] u tries outside v d → Books firsts [] [] (tries ++ all_targets edge u) outside v d
+    scanned firsts u tries outside v d same a =
+        let Marking : ℕ × ℕ → Type 0 = λ q. marking q ≡ true in
+        let White : ℕ × ℕ → Type 0 = λ q. bit_of first q ≡ 0 in
+        let won_white : All White v.won = subst (λ (l : List ℕ). All (λ (q : ℕ × ℕ). bit_of l q ≡ 0) v.won) same
+        a.fresh in record {
+          balance = λ h. let b = a.balance h in let t = weigh-append h tries (all_targets edge u) in
+              let w = weigh-all_targets edge h u in omega arith;
+          taken = a.taken;
+          unscanned_won = λ h. omega arith;
           won_known = a.won_known;
           once = a.once;
           fresh = a.fresh;
           inside = a.inside;
           tried_inside = a.tried_inside;
-          beyond = All-append (λ (q : ℕ × ℕ). marking q ≡ false) outside (p ∷ []) a.beyond
-              (All-cons (λ (q : ℕ × ℕ). marking q ≡ false) p [] m (All-nil (λ (q : ℕ × ℕ). marking q ≡ false)));
-          listed = All-nil P;
-          tries_listed = a.tries_listed;
-          won_listed = a.won_listed;
-        })
-    tried firsts tries won outside tries' won' outside' v v' d p same (black m e f g u) a =
-        subst (λ (x : List (ℕ × ℕ) × (List (ℕ × ℕ) × MarkView)). Books firsts [] x.0 x.1.0 x.1.1 d)
-        (λ i. (sym e i, (sym g i, sym u i))) (record {
-          balance = λ h. let b = a.balance h in let s = weigh-snoc h v.known p in omega arith;
-          taken = λ h. let b = a.taken h in let s = weigh-snoc h v.known p in omega arith;
-          won_known = λ h. let b = a.won_known h in let s = weigh-snoc h v.known p in omega arith;
-          once = a.once;
-          fresh = a.fresh;
-          inside = a.inside;
-          tried_inside = All-append (λ (q : ℕ × ℕ). marking q ≡ true) v.known (p ∷ []) a.tried_inside
-              (All-cons (λ (q : ℕ × ℕ). marking q ≡ true) p [] m (All-nil (λ (q : ℕ × ℕ). marking q ≡ true)));
           beyond = a.beyond;
           listed = All-nil P;
-          tries_listed = a.tries_listed;
+          tries_listed = All-append P tries (all_targets edge u) a.tries_listed (leads_listed u
+              (listed_by_weight P u v.won a.unscanned_won a.won_listed)
+              (listed_by_weight Marking u v.won a.unscanned_won a.inside)
+              (listed_by_weight White u v.won a.unscanned_won won_white));
           won_listed = a.won_listed;
-        })
-    tried firsts tries won outside tries' won' outside' v v' d p same (fresh m e f g wins) a =
-        subst (λ (x : List (ℕ × ℕ) × (List (ℕ × ℕ) × MarkView)). Books firsts [] x.0 x.1.0 x.1.1 d)
-        (λ i. (sym e i, (sym g i, sym wins.0 i))) (
-        let here : P p = All-head P p [] a.listed in
-        let white : bit_of first p ≡ 0 = ap (λ (l : List ℕ). bit_of l p) (sym same) ∙ wins.2 in
-        let Fresh : ℕ × ℕ → Type 0 = λ q. bit_of v.first q ≡ 0 in
-        let Marking : ℕ × ℕ → Type 0 = λ q. marking q ≡ true in record {
-          balance = λ h. let b = a.balance h in let s = weigh-snoc h v.known p in
-              let t = weigh-snoc (out edge h) v.won p in let u = weigh-append h tries (targets edge p) in omega arith;
-          taken = λ h. let b = a.taken h in let s = weigh-snoc h v.known p in omega arith;
-          won_known = λ h. let b = a.won_known h in let s = weigh-snoc h v.known p in let t = weigh-snoc h v.won p in
-              omega arith;
-          once = once_more v.won p wins.1 a.once;
-          fresh = All-append Fresh v.won (p ∷ []) a.fresh (All-cons Fresh p [] wins.2 (All-nil Fresh));
-          inside = All-append Marking v.won (p ∷ []) a.inside (All-cons Marking p [] m (All-nil Marking));
-          tried_inside = All-append Marking v.known (p ∷ []) a.tried_inside (All-cons Marking p [] m (All-nil Marking));
-          beyond = a.beyond;
-          listed = All-nil P;
-          tries_listed = All-append P tries (targets edge p) a.tries_listed
-              (targets_listed P (edge p) 8 (λ i q lt is. serves.closed p q here m white (i, lt, is)));
-          won_listed = All-append P v.won (p ∷ []) a.won_listed a.listed;
-        })
+        }
 
-    -- a place was taken and tried
-    pub turned : (tries tries'' won outside tries' won' outside' : List (ℕ × ℕ)) (v v' : MarkView) (d d' : QueueView)
-        (p : ℕ × ℕ) → v.first ≡ first
-        → IsTaken P p tries d tries'' d' → IsTried edge marking p tries'' won outside v tries' won' outside' v'
-        → HasTurned edge marking P tries won outside v d tries' won' outside' v' d'
-    turned tries tries'' won outside tries' won' outside' v v' d d' p same t y = record {
-      accounts = λ firsts a. tried firsts tries'' won outside tries' won' outside' v v' d' p same y
-          (took firsts tries tries'' outside v d d' p t a);
-      grown = grown_more outside outside outside' v v v' d d' d'
-          (taken_grows edge marking P tries tries'' outside v d d' p t)
-          (tried_grows edge marking P tries'' won outside tries' won' outside' v v' d' p y);
-      won_is = won_was y;
-      won_most = won_more y;
-      outside_most = outside_more y;
-      one_done = did y;
-      first_is = first_kept y;
-      parts_is = parts_kept y;
-      queue_parts = queue_parts_kept t;
-      whole_taken = λ all w. taken_was t all w;
+    -- the cells that were won are there
+    pub won_here : (firsts u tries outside : List (ℕ × ℕ)) (v : MarkView) (d : QueueView)
+        → Books firsts [] u tries outside v d → All has u
+    won_here firsts u tries outside v d a = All-weaker P has serves.here u
+        (listed_by_weight P u v.won a.unscanned_won a.won_listed)
+
+    -- a turn: tries were made, and then the cells that were won were scanned
+    pub turned : (n : ℕ) (won : List (ℕ × ℕ)) (s m s' : CallerState) → s.seat.first ≡ first
+        → HasTriedSome edge marking P n won s m → s' ≡ record m { tries = m.tries ++ all_targets edge won }
+        → HasTurned edge marking P n s s'
+    turned n won s m s' same t e = subst (HasTurned edge marking P n s) (sym e) record {
+      won = won;
+      moved = record {
+        grown = t.moved.grown;
+        grown_won = t.moved.grown_won;
+        won_is = t.moved.won_is;
+        count = t.moved.count;
+        first_is = t.moved.first_is;
+        parts_is = t.moved.parts_is;
+        queue_parts = t.moved.queue_parts;
+        whole_taken = t.moved.whole_taken;
+      };
+      accounts = λ firsts a. scanned firsts won m.tries m.outside m.seat m.pass (t.moved.first_is ∙ same)
+          (t.accounts firsts [] a);
     }
-      where
-        won_was : IsTried edge marking p tries'' won outside v tries' won' outside' v' → won ≡ v.won → won' ≡ v'.won
-        won_was (beyond m e f g u) is = f ∙ is ∙ ap (λ (x : MarkView). x.won) (sym u)
-        won_was (black m e f g u) is = f ∙ is ∙ ap (λ (x : MarkView). x.won) (sym u)
-        won_was (fresh m e f g wins) is = f ∙ ap (λ (l : List (ℕ × ℕ)). l ++ p ∷ []) is
-            ∙ ap (λ (x : MarkView). x.won) (sym wins.0)
-
-        won_more : IsTried edge marking p tries'' won outside v tries' won' outside' v' → length won' ≤ length won + 1
-        won_more (beyond m e f g u) = let l : length won' ≡ length won = ap length f in omega arith
-        won_more (black m e f g u) = let l : length won' ≡ length won = ap length f in omega arith
-        won_more (fresh m e f g wins) = let l : length won' ≡ length (won ++ p ∷ []) = ap length f in
-            let s = length-append won (p ∷ []) in omega arith
-
-        outside_more : IsTried edge marking p tries'' won outside v tries' won' outside' v'
-            → length outside' ≤ length outside + 1
-        outside_more (beyond m e f g u) = let l : length outside' ≡ length (outside ++ p ∷ []) = ap length g in
-            let s = length-append outside (p ∷ []) in omega arith
-        outside_more (black m e f g u) = let l : length outside' ≡ length outside = ap length g in omega arith
-        outside_more (fresh m e f g wins) = let l : length outside' ≡ length outside = ap length g in omega arith
-
-        did : IsTried edge marking p tries'' won outside v tries' won' outside' v'
-            → done v' outside' ≡ done v outside + 1
-        did (beyond m e f g u) = let x : done v' outside' ≡ done v (outside ++ p ∷ []) = λ i. done (u i) (g i) in
-            let s = weigh-snoc (λ _. 1) outside p in omega arith
-        did (black m e f g u) = let x : done v' outside' ≡ done (with_known v p) outside = λ i. done (u i) (g i) in
-            let s = weigh-snoc (λ _. 1) v.known p in omega arith
-        did (fresh m e f g wins) = let x : done v' outside' ≡ done (with_won v p) outside =
-            λ i. done (wins.0 i) (g i) in let s = weigh-snoc (λ _. 1) v.known p in omega arith
-
-        first_kept : IsTried edge marking p tries'' won outside v tries' won' outside' v' → v'.first ≡ v.first
-        first_kept (beyond m e f g u) = ap (λ (x : MarkView). x.first) u
-        first_kept (black m e f g u) = ap (λ (x : MarkView). x.first) u
-        first_kept (fresh m e f g wins) = ap (λ (x : MarkView). x.first) wins.0
-
-        parts_kept : IsTried edge marking p tries'' won outside v tries' won' outside' v' → v'.parts ≡ v.parts
-        parts_kept (beyond m e f g u) = ap (λ (x : MarkView). x.parts) u
-        parts_kept (black m e f g u) = ap (λ (x : MarkView). x.parts) u
-        parts_kept (fresh m e f g wins) = ap (λ (x : MarkView). x.parts) wins.0
-
-        queue_parts_kept : IsTaken P p tries d tries'' d' → d'.parts ≡ d.parts
-        queue_parts_kept (own e f) = ap (λ (x : QueueView). x.parts) f
-        queue_parts_kept (queued e f u) = ap (λ (x : QueueView). x.parts) u.0
-
-        taken_was : IsTaken P p tries d tries'' d' → d.parts ≡ whole → TakenWasPut d → TakenWasPut d'
-        taken_was (own e f) all w = subst TakenWasPut (sym f) w
-        taken_was (queued e f u) all w = u.2 all

@@ -1,6 +1,5 @@
 -- What turns add to lists.
-use Rattle.std.proofs.Common.{◌≡◌, ℕ, Bool, List, [], ◌∷◌, ◌++◌, Option, sym, refl, ap, ◌∙◌, subst, arith, append_assoc}
-use Rattle.std.proofs.Common.{append-nil}
+use Rattle.std.proofs.Common.{◌≡◌, ℕ, List, [], ◌∷◌, ◌++◌, sym, refl, ap, ◌∙◌, arith, append_assoc, append-nil}
 use Rattle.mark_words.specs.declared.view.MarkLog.{MarkLog}
 use Rattle.mark_words.specs.declared.view.MarkView.{MarkView}
 use Rattle.mark_words.specs.Views.{logs_with}
@@ -8,14 +7,14 @@ use Rattle.mark_words.proofs.Counts.{weigh-append}
 use Rattle.par_mark.specs.declared.donations.Moves.{Moves}
 use Rattle.par_mark.specs.declared.donations.QueueView.{QueueView}
 use Rattle.par_mark.specs.Donations.{moves_with}
-use Rattle.par_mark.specs.Tries.{IsTaken, own, queued, IsTried, beyond, black, fresh, HasGrown}
+use Rattle.par_mark.specs.Tries.{HasGrown}
 
 -- logs to which nothing was added, and to which was added twice
-logs_none : (ls : List MarkLog) → ls ≡ logs_with [] [] ls
+pub logs_none : (ls : List MarkLog) → ls ≡ logs_with [] [] ls
 logs_none [] = refl
 logs_none (l ∷ ls) = λ i. record { won = sym (append-nil l.won) i; tried = sym (append-nil l.tried) i } ∷ ls
 
-logs_more : (ls : List MarkLog) (a b c d : List (ℕ × ℕ))
+pub logs_more : (ls : List MarkLog) (a b c d : List (ℕ × ℕ))
     → logs_with c d (logs_with a b ls) ≡ logs_with (a ++ c) (b ++ d) ls
 logs_more [] a b c d = refl
 logs_more (l ∷ ls) a b c d =
@@ -25,13 +24,13 @@ pub moves_none : (ms : List Moves) → ms ≡ moves_with [] [] ms
 moves_none [] = refl
 moves_none (m ∷ ms) = λ i. record { given = sym (append-nil m.given) i; taken = sym (append-nil m.taken) i } ∷ ms
 
-moves_more : (ms : List Moves) (a b : List (ℕ × ℕ))
+pub moves_more : (ms : List Moves) (a b : List (ℕ × ℕ))
     → moves_with [] b (moves_with [] a ms) ≡ moves_with [] (a ++ b) ms
 moves_more [] a b = refl
 moves_more (m ∷ ms) a b =
     λ i. record { given = append-nil (m.given ++ []) i; taken = append_assoc m.taken a b i } ∷ ms
 
-pub grown_none : (outside : List (ℕ × ℕ)) (v : MarkView) (d : QueueView) → HasGrown outside v d outside v d
+abbrev pub grown_none : (outside : List (ℕ × ℕ)) (v : MarkView) (d : QueueView) → HasGrown outside v d outside v d
 grown_none outside v d = record {
   won = [];
   tried = [];
@@ -47,7 +46,7 @@ grown_none outside v d = record {
   won_tried = λ h. omega arith;
 }
 
-pub grown_more : (o p q : List (ℕ × ℕ)) (u v w : MarkView) (c d e : QueueView) → HasGrown o u c p v d
+abbrev pub grown_more : (o p q : List (ℕ × ℕ)) (u v w : MarkView) (c d e : QueueView) → HasGrown o u c p v d
     → HasGrown p v d q w e → HasGrown o u c q w e
 grown_more o p q u v w c d e a b = record {
   won = a.won ++ b.won;
@@ -67,71 +66,3 @@ grown_more o p q u v w c d e a b = record {
   won_tried = λ h. let x = a.won_tried h in let y = b.won_tried h in let s = weigh-append h a.won b.won in
       let t = weigh-append h a.tried b.tried in omega arith;
 }
-
-module _ (edge : ℕ × ℕ → ℕ → Option (ℕ × ℕ)) (marking : ℕ × ℕ → Bool) (P : ℕ × ℕ → Type 0) where
-  -- a try was made
-  pub tried_grows : (tries won outside tries' won' outside' : List (ℕ × ℕ)) (v v' : MarkView) (d : QueueView)
-      (p : ℕ × ℕ) → IsTried edge marking p tries won outside v tries' won' outside' v'
-      → HasGrown outside v d outside' v' d
-  tried_grows tries won outside tries' won' outside' v v' d p (beyond m e f g u) = record {
-    won = [];
-    tried = [];
-    taken = [];
-    beyond = p ∷ [];
-    won_is = ap (λ (x : MarkView). x.won) u ∙ sym (append-nil v.won);
-    tried_is = ap (λ (x : MarkView). x.known) u ∙ sym (append-nil v.known);
-    taken_is = sym (append-nil d.taken);
-    beyond_is = g;
-    put_is = refl;
-    logs_are = ap (λ (x : MarkView). x.logs) u ∙ logs_none v.logs;
-    moves_are = moves_none d.moves;
-    won_tried = λ h. omega arith;
-  }
-  tried_grows tries won outside tries' won' outside' v v' d p (black m e f g u) = record {
-    won = [];
-    tried = p ∷ [];
-    taken = [];
-    beyond = [];
-    won_is = ap (λ (x : MarkView). x.won) u ∙ sym (append-nil v.won);
-    tried_is = ap (λ (x : MarkView). x.known) u;
-    taken_is = sym (append-nil d.taken);
-    beyond_is = g ∙ sym (append-nil outside);
-    put_is = refl;
-    logs_are = ap (λ (x : MarkView). x.logs) u;
-    moves_are = moves_none d.moves;
-    won_tried = λ h. omega arith;
-  }
-  tried_grows tries won outside tries' won' outside' v v' d p (fresh m e f g wins) = record {
-    won = p ∷ [];
-    tried = p ∷ [];
-    taken = [];
-    beyond = [];
-    won_is = ap (λ (x : MarkView). x.won) wins.0;
-    tried_is = ap (λ (x : MarkView). x.known) wins.0;
-    taken_is = sym (append-nil d.taken);
-    beyond_is = g ∙ sym (append-nil outside);
-    put_is = refl;
-    logs_are = ap (λ (x : MarkView). x.logs) wins.0;
-    moves_are = moves_none d.moves;
-    won_tried = λ h. omega arith;
-  }
-
-  -- a try was taken
-  pub taken_grows : (tries tries' outside : List (ℕ × ℕ)) (v : MarkView) (d d' : QueueView) (p : ℕ × ℕ)
-      → IsTaken P p tries d tries' d' → HasGrown outside v d outside v d'
-  taken_grows tries tries' outside v d d' p (own e f) =
-      subst (λ (x : QueueView). HasGrown outside v d outside v x) (sym f) (grown_none outside v d)
-  taken_grows tries tries' outside v d d' p (queued e f t) = record {
-    won = [];
-    tried = [];
-    taken = p ∷ [];
-    beyond = [];
-    won_is = sym (append-nil v.won);
-    tried_is = sym (append-nil v.known);
-    taken_is = ap (λ (x : QueueView). x.taken) t.0;
-    beyond_is = sym (append-nil outside);
-    put_is = ap (λ (x : QueueView). x.put) t.0;
-    logs_are = logs_none v.logs;
-    moves_are = ap (λ (x : QueueView). x.moves) t.0;
-    won_tried = λ h. omega arith;
-  }

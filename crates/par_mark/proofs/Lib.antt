@@ -1,8 +1,10 @@
-pub mod Members
+pub mod Listed
 pub mod Balancing
 pub mod Scanning
-pub mod Counting
+pub mod Gathering
 pub mod Growing
+pub mod Moving
+pub mod Trying
 pub mod Accounting
 pub mod Running
 pub mod Cells

@@ -13,15 +13,15 @@ use Rattle.mark_words.specs.Steps.{KnowsAll}
 use Rattle.mark_words.specs.Seats.{view_of}
 use Rattle.mark_words.proofs.Counts.{weigh-append}
 use Rattle.par_mark.specs.declared.donations.QueueView.{QueueView}
-use Rattle.par_mark.specs.declared.marker.Marker.{Marker}
+use Rattle.par_mark.specs.declared.caller.Caller.{Caller}
 use Rattle.par_mark.specs.declared.lists.Lists.{Lists}
-use Rattle.par_mark.specs.Edges.{out}
+use Rattle.marker.specs.Edges.{out}
 use Rattle.par_mark.specs.Accounts.{Accounts, HasRoom}
 use Rattle.par_mark.specs.Donations.{Total}
 use Rattle.par_mark.specs.Lists.{tries_of, won_of, outside_of}
-use Rattle.par_mark.specs.Markers.{HasRun, HasSettled}
+use Rattle.par_mark.specs.Callers.{HasRun, HasSettled}
 use Rattle.par_mark.specs.Tries.{TakenWasPut}
-use Rattle.par_mark.proofs.Members.{from_times}
+use Rattle.marker.proofs.Members.{from_times}
 use Rattle.par_mark.proofs.Scanning.{weigh-one}
 use Rattle.par_mark.proofs.Running.{within, won_within, outside_within}
 
@@ -34,10 +34,10 @@ once_known v knows won_known q = dite (ℕ_discrete (times q v.won) 0)
 
 module _ (edge : ℕ × ℕ → ℕ → Option (ℕ × ℕ)) (marking : ℕ × ℕ → Bool) (P : ℕ × ℕ → Type 0) where
   pub merged : (fa fb ta tb oa ob : List (ℕ × ℕ)) (va vb v : MarkView) (da db d : QueueView)
-      → Accounts edge marking P fa [] ta oa va da → Accounts edge marking P fb [] tb ob vb db
+      → Accounts edge marking P fa [] [] ta oa va da → Accounts edge marking P fb [] [] tb ob vb db
       → v.won ≡ va.won ++ vb.won → v.known ≡ va.known ++ vb.known → d.put ≡ da.put ++ db.put
       → d.taken ≡ da.taken ++ db.taken → va.first ≡ v.first → vb.first ≡ v.first → KnowsAll v
-      → Accounts edge marking P (fa ++ fb) [] (ta ++ tb) (oa ++ ob) v d
+      → Accounts edge marking P (fa ++ fb) [] [] (ta ++ tb) (oa ++ ob) v d
   merged fa fb ta tb oa ob va vb v da db d a b won known put taken sa sb knows =
       let Fresh : ℕ × ℕ → Type 0 = λ q. bit_of v.first q ≡ 0 in
       let Marking : ℕ × ℕ → Type 0 = λ q. marking q ≡ true in
@@ -64,6 +64,7 @@ module _ (edge : ℕ × ℕ → ℕ → Option (ℕ × ℕ)) (marking : ℕ × �
             let o = weigh-append h oa ob in omega arith;
         taken = λ h. let p = a.taken h in let q = b.taken h in let k = known_weighs h in let y = taken_weighs h in
             let o = weigh-append h oa ob in omega arith;
+        unscanned_won = λ h. omega arith;
         won_known = won_known;
         once = once_known v knows won_known;
         fresh = All-same Fresh v.won (va.won ++ vb.won) won
@@ -79,16 +80,16 @@ module _ (edge : ℕ × ℕ → ℕ → Option (ℕ × ℕ)) (marking : ℕ × �
       }
 
   -- both callers, and what main's seat and pass know
-  pub record Together (fa fb : List (ℕ × ℕ)) (turns : ℕ) (one two : Lists) (v : MarkView) (d : QueueView) : Type 0 where
-    pub accounts : Accounts edge marking P (fa ++ fb) [] (tries_of one ++ tries_of two)
+  pub record Together (fa fb : List (ℕ × ℕ)) (most : ℕ) (one two : Lists) (v : MarkView) (d : QueueView) : Type 0 where
+    pub accounts : Accounts edge marking P (fa ++ fb) [] [] (tries_of one ++ tries_of two)
         (outside_of one ++ outside_of two) v d
     pub won_are : v.won ≡ won_of one ++ won_of two
-    pub room : HasRoom edge marking P (weigh (λ _. 1) (fa ++ fb)) turns
-    pub tries_fit : length (tries_of one) + length (tries_of two) ≤ turns
-    pub won_fit : length (won_of one) + length (won_of two) ≤ turns
-    pub outside_fit : length (outside_of one) + length (outside_of two) ≤ turns
+    pub room : HasRoom edge marking P (weigh (λ _. 1) (fa ++ fb)) most
+    pub tries_fit : length (tries_of one) + length (tries_of two) ≤ most
+    pub won_fit : length (won_of one) + length (won_of two) ≤ most
+    pub outside_fit : length (outside_of one) + length (outside_of two) ≤ most
 
-  pub together : (m n one two : Marker) (v0 v : MarkView) (d0 d : QueueView) (turns : ℕ) → HasRun edge marking P m one
+  pub together : (m n one two : Caller) (v0 v : MarkView) (d0 d : QueueView) (most : ℕ) → HasRun edge marking P m one
       → HasRun edge marking P n two
       → v.won ≡ (v0.won ++ (view_of one.seat).won) ++ (view_of two.seat).won
       → v.known ≡ (v0.known ++ (view_of one.seat).known) ++ (view_of two.seat).known
@@ -96,9 +97,9 @@ module _ (edge : ℕ × ℕ → ℕ → Option (ℕ × ℕ)) (marking : ℕ × �
       → d.taken ≡ (d0.taken ++ (view one.pass).taken) ++ (view two.pass).taken
       → v0.won ≡ [] → v0.known ≡ [] → d0.put ≡ [] → d0.taken ≡ [] → (view_of one.seat).first ≡ v.first
       → (view_of two.seat).first ≡ v.first → KnowsAll v → TakenWasPut d
-      → HasRoom edge marking P (weigh (λ _. 1) (tries_of m.lists) + weigh (λ _. 1) (tries_of n.lists)) turns
-      → Together (tries_of m.lists) (tries_of n.lists) turns one.lists two.lists v d
-  together m n one two v0 v d0 d turns r s won known put taken w0 k0 p0 t0 sa sb knows tp has =
+      → HasRoom edge marking P (weigh (λ _. 1) (tries_of m.lists) + weigh (λ _. 1) (tries_of n.lists)) most
+      → Together (tries_of m.lists) (tries_of n.lists) most one.lists two.lists v d
+  together m n one two v0 v d0 d most r s won known put taken w0 k0 p0 t0 sa sb knows tp has =
       let va = view_of one.seat in
       let vb = view_of two.seat in
       let da = view one.pass in
@@ -112,10 +113,10 @@ module _ (edge : ℕ × ℕ → ℕ → Option (ℕ × ℕ)) (marking : ℕ × �
       let a = merged fa fb (tries_of one.lists) (tries_of two.lists) (outside_of one.lists) (outside_of two.lists) va
       vb v da db d r.accounts s.accounts won' known' put' taken' sa sb knows in
       let won_are : v.won ≡ won_of one.lists ++ won_of two.lists = won' ∙ (λ i. sym r.won_is i ++ sym s.won_is i) in
-      let room : HasRoom edge marking P (weigh (λ _. 1) (fa ++ fb)) turns = λ ps once all. let h = has ps once all in
+      let room : HasRoom edge marking P (weigh (λ _. 1) (fa ++ fb)) most = λ ps once all. let h = has ps once all in
       let f = weigh-append (λ _. 1) fa fb in omega arith in
       let w = within edge marking P (fa ++ fb) (tries_of one.lists ++ tries_of two.lists)
-      (outside_of one.lists ++ outside_of two.lists) v d turns a tp room in
+      (outside_of one.lists ++ outside_of two.lists) v d most a tp room in
       let ww = won_within edge marking P (fa ++ fb) (tries_of one.lists ++ tries_of two.lists)
       (outside_of one.lists ++ outside_of two.lists) v d a in
       let oo = outside_within edge marking P (outside_of one.lists ++ outside_of two.lists) v in
@@ -134,7 +135,7 @@ module _ (edge : ℕ × ℕ → ℕ → Option (ℕ × ℕ)) (marking : ℕ × �
 
   -- at the end
   pub settled : (firsts outside : List (ℕ × ℕ)) (v : MarkView) (d : QueueView)
-      → Accounts edge marking P firsts [] [] outside v d → d.parts ≡ whole → Total d [] → KnowsAll v
+      → Accounts edge marking P firsts [] [] [] outside v d → d.parts ≡ whole → Total d [] → KnowsAll v
       → (won : List (ℕ × ℕ)) → v.won ≡ won
       → HasSettled edge marking P firsts won outside v
   settled firsts outside v d a all total knows won is =

@@ -11,12 +11,14 @@ use Rattle.mark_words.specs.declared.view.MarkView.{MarkView}
 use Rattle.mark_words.specs.Sums.{weigh, only, times}
 use Rattle.mark_words.specs.Rule.{bit_of}
 use Rattle.mark_words.proofs.Counts.{weigh-append, only-same, only-arena, only-slot}
-use Rattle.par_mark.specs.Edges.{held, first_targets, targets, out, all_targets, Leads}
-use Rattle.par_mark.specs.Markers.{HasSettled}
-use Rattle.par_mark.specs.Marking.{Reached, near, far, Sought, HasMarked, HasBlackened}
+use Rattle.marker.specs.Edges.{held, first_targets, targets, out, Leads}
+use Rattle.par_mark.specs.Edges.{all_targets}
+use Rattle.par_mark.specs.Callers.{HasSettled}
+use Rattle.marker.specs.Blackening.{Reached, near, far, HasBlackened}
+use Rattle.par_mark.specs.Marking.{Sought, HasMarked}
 use Rattle.par_mark.specs.Tries.{Serves}
 use Rattle.par_mark.proofs.Accounting.{targets_listed}
-use Rattle.par_mark.proofs.Members.{from_times, in_sum, times_in, in_times}
+use Rattle.marker.proofs.Members.{from_times, in_sum, times_in, in_times}
 
 -- what counts as a place is that place
 only_is : (q r : ℕ × ℕ) → 0 < only q r → r ≡ q
@@ -192,6 +194,7 @@ blackened edge marking first from last won outside v m sized bits = record {
   sized = sized;
   black = λ q lt. ((λ on. (m.black q).0 (sym (turned q lt) ∙ on)), (λ r. turned q lt ∙ (m.black q).1 r));
   turned = turned;
+  reached = reached;
   inside = m.inside;
   outside_is = m.outside_is;
   outside_times = m.outside_times;
@@ -199,3 +202,10 @@ blackened edge marking first from last won outside v m sized bits = record {
   where
     turned : (q : ℕ × ℕ) → q.0 < length first → bit_of last q ≡ bit_of first q + times q won
     turned q lt = bits q lt ∙ ap (λ (l : List (ℕ × ℕ)). bit_of first q + times q l) m.won_is
+
+    reached : (q : ℕ × ℕ) → Contains won q → Reached edge marking first from q
+    reached q c =
+        let white = All-contains (λ (p : ℕ × ℕ). bit_of first p ≡ 0) won q m.fresh c in
+        let some = in_times won q c in
+        let once = m.once q in
+        ⊎_elim (λ on. absurd (omega (arith, on, white))) (λ r. r) ((m.black q).0 (omega (arith, white, some, once)))

@@ -7,18 +7,18 @@ use Rattle.mark_words.specs.Seats.{view_of}
 use Rattle.mark_words.specs.Sums.{weigh, whole}
 use Rattle.mark_words.proofs.Counts.{weigh-append}
 use Rattle.par_mark.specs.declared.donations.QueueView.{QueueView}
-use Rattle.par_mark.specs.declared.marker.Marker.{Marker}
+use Rattle.par_mark.specs.declared.caller.Caller.{Caller}
 use Rattle.par_mark.specs.Accounts.{Accounts}
 use Rattle.par_mark.specs.Donations.{Total, moves_with, new_moves}
-use Rattle.par_mark.specs.Edges.{out}
+use Rattle.marker.specs.Edges.{out}
 use Rattle.par_mark.specs.Lists.{tries_of, outside_of}
-use Rattle.par_mark.specs.Markers.{HasRun, own_log, own_moves}
+use Rattle.par_mark.specs.Callers.{HasRun, own_log, own_moves}
 use Rattle.par_mark.specs.Shares.{Share, ScansItsOwn, AreShared}
 use Rattle.par_mark.specs.Tries.{HasGrown}
 
 module _ (edge : ℕ × ℕ → ℕ → Option (ℕ × ℕ)) (marking : ℕ × ℕ → Bool) (P : ℕ × ℕ → Type 0) where
   -- a caller's share, by what it began with and what it ended with
-  abbrev share_of : Marker → Marker → Share
+  abbrev share_of : Caller → Caller → Share
   share_of m one = record {
     firsts = tries_of m.lists;
     left = tries_of one.lists;
@@ -27,7 +27,7 @@ module _ (edge : ℕ × ℕ → ℕ → Option (ℕ × ℕ)) (marking : ℕ × �
     outside = outside_of one.lists;
   }
 
-  scans : (m one : Marker) → HasRun edge marking P m one → ScansItsOwn edge (share_of m one)
+  scans : (m one : Caller) → HasRun edge marking P m one → ScansItsOwn edge (share_of m one)
   scans m one r = record {
     scanned = λ h. let b = r.accounts.balance h in omega arith;
     won_tried = r.accounts.won_known;
@@ -44,7 +44,7 @@ module _ (edge : ℕ × ℕ → ℕ → Option (ℕ × ℕ)) (marking : ℕ × �
   }
 
   main_scans : (firsts tries o o' : List (ℕ × ℕ)) (v v' : MarkView) (d d' : QueueView) → (g : HasGrown o v d o' v' d')
-      → Accounts edge marking P firsts [] tries o v d → Accounts edge marking P firsts [] [] o' v' d'
+      → Accounts edge marking P firsts [] [] tries o v d → Accounts edge marking P firsts [] [] [] o' v' d'
       → ScansItsOwn edge (main_share tries g.won g.tried g.taken g.beyond)
   main_scans firsts tries o o' v v' d d' g a b = record {
     scanned = λ h.
@@ -62,7 +62,7 @@ module _ (edge : ℕ × ℕ → ℕ → Option (ℕ × ℕ)) (marking : ℕ × �
     won_tried = g.won_tried;
   }
 
-  pub shared : (m n one two : Marker) (tries o o' won : List (ℕ × ℕ)) (v v' : MarkView) (d d' : QueueView)
+  pub shared : (m n one two : Caller) (tries o o' won : List (ℕ × ℕ)) (v v' : MarkView) (d d' : QueueView)
       → HasRun edge marking P m one → HasRun edge marking P n two
       → v.won ≡ (view_of one.seat).won ++ (view_of two.seat).won
       → v.known ≡ (view_of one.seat).known ++ (view_of two.seat).known
@@ -72,8 +72,8 @@ module _ (edge : ℕ × ℕ → ℕ → Option (ℕ × ℕ)) (marking : ℕ × �
       → d.moves ≡ (new_moves ∷ (view one.pass).moves) ++ (view two.pass).moves
       → tries ≡ tries_of one.lists ++ tries_of two.lists
       → o ≡ outside_of one.lists ++ outside_of two.lists
-      → Accounts edge marking P (tries_of m.lists ++ tries_of n.lists) [] tries o v d
-      → Accounts edge marking P (tries_of m.lists ++ tries_of n.lists) [] [] o' v' d'
+      → Accounts edge marking P (tries_of m.lists ++ tries_of n.lists) [] [] tries o v d
+      → Accounts edge marking P (tries_of m.lists ++ tries_of n.lists) [] [] [] o' v' d'
       → HasGrown o v d o' v' d' → d'.parts ≡ whole → Total d' [] → v'.won ≡ won
       → AreShared edge (tries_of m.lists ++ tries_of n.lists) won o' v' d'
   shared m n one two tries o o' won v v' d d' r s won_is known_is logs_are put_is taken_is moves_are tries_is outside_is

@@ -1,19 +1,16 @@
 -- What marking has to make black, and what it leaves.
-use Rattle.std.specs.Prelude.{◌≡◌, ℕ, ◌+◌, ◌<◌, ◌≤◌, ◌⊎◌, ◌↔◌, Bool, true, false, List, length, Option, All, Contains}
+use Rattle.std.specs.Prelude.{◌≡◌, ℕ, ◌+◌, ◌≤◌, ◌⊎◌, ◌↔◌, Bool, true, false, List, Option, All, Contains}
 use Rattle.mark_words.specs.declared.view.MarkView.{MarkView}
 use Rattle.mark_words.specs.Sums.{only, weigh, times}
 use Rattle.mark_words.specs.Rule.{bit_of}
-use Rattle.par_mark.specs.Edges.{Leads, out}
+use Rattle.marker.specs.Edges.{Leads, out}
+use Rattle.marker.specs.Blackening.{Reached}
 
 module _ (edge : ℕ × ℕ → ℕ → Option (ℕ × ℕ)) (marking : ℕ × ℕ → Bool) (first : List ℕ) (from : List (ℕ × ℕ)) where
-  -- the cells of marking zones that edges reach from the given cells, through cells of marking zones that were white
-  pub data Reached : ℕ × ℕ → Type 0 where
-    near : {p q : ℕ × ℕ} → Contains from p → Leads edge p q → marking q ≡ true → Reached q
-    far : {p q : ℕ × ℕ} → Reached p → bit_of first p ≡ 0 → Leads edge p q → marking q ≡ true → Reached q
-
   -- the targets of the given cells, and of the reached cells that were white: what may be tried
   abbrev pub Sought : ℕ × ℕ → Type 0
-  Sought q = (p : ℕ × ℕ) × (Contains from p ⊎ (Reached p × (bit_of first p ≡ 0))) × Leads edge p q
+  Sought q = (p : ℕ × ℕ) × (Contains from p ⊎ (Reached edge marking first from p × (bit_of first p ≡ 0)))
+      × Leads edge p q
 
   pub record HasMarked (won outside : List (ℕ × ℕ)) (v : MarkView) : Type 0 where
     -- the cells that were won differ, were white at first, and are in marking zones
@@ -22,26 +19,12 @@ module _ (edge : ℕ × ℕ → ℕ → Option (ℕ × ℕ)) (marking : ℕ × �
     pub fresh : All (λ q. bit_of first q ≡ 0) won
     pub inside : All (λ q. marking q ≡ true) won
     -- the black cells are those of before and all that are reached
-    pub black : (q : ℕ × ℕ) → (bit_of first q + times q won ≡ 1) ↔ ((bit_of first q ≡ 1) ⊎ Reached q)
+    pub black : (q : ℕ × ℕ) → (bit_of first q + times q won ≡ 1)
+        ↔ ((bit_of first q ≡ 1) ⊎ Reached edge marking first from q)
     -- each given cell and each cell that was won was scanned once: each of its targets was tried or lies outside, as
     -- often as it is a target
     pub scanned : (h : ℕ × ℕ → ℕ) → weigh h v.known + weigh h outside ≡ weigh (out edge h) from + weigh (out edge h) won
     -- outside are the targets that lie outside the marking zones, of the given cells and of those that were won,
-    pub outside_is : (q : ℕ × ℕ) → Contains outside q
-        ↔ ((marking q ≡ false) × ((p : ℕ × ℕ) × (Contains from p ⊎ Contains won p) × Leads edge p q))
-    -- and as often as they are targets
-    pub outside_times : (q : ℕ × ℕ) → marking q ≡ false
-        → times q outside ≡ weigh (out edge (only q)) from + weigh (out edge (only q)) won
-
-  -- the words after marking
-  pub record HasBlackened (last : List ℕ) (won outside : List (ℕ × ℕ)) : Type 0 where
-    pub sized : length last ≡ length first
-    -- the black cells are those of before and all that are reached
-    pub black : (q : ℕ × ℕ) → q.0 < length first → (bit_of last q ≡ 1) ↔ ((bit_of first q ≡ 1) ⊎ Reached q)
-    -- those that turned black, each once
-    pub turned : (q : ℕ × ℕ) → q.0 < length first → bit_of last q ≡ bit_of first q + times q won
-    pub inside : All (λ q. marking q ≡ true) won
-    -- outside are the targets that lie outside the marking zones, of the given cells and of those that turned black,
     pub outside_is : (q : ℕ × ℕ) → Contains outside q
         ↔ ((marking q ≡ false) × ((p : ℕ × ℕ) × (Contains from p ⊎ Contains won p) × Leads edge p q))
     -- and as often as they are targets

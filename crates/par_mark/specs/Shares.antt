@@ -5,7 +5,7 @@ use Rattle.mark_words.specs.declared.view.MarkView.{MarkView}
 use Rattle.mark_words.specs.Sums.{weigh}
 use Rattle.par_mark.specs.declared.donations.Moves.{Moves}
 use Rattle.par_mark.specs.declared.donations.QueueView.{QueueView}
-use Rattle.par_mark.specs.Edges.{out}
+use Rattle.marker.specs.Edges.{out}
 
 -- one caller's share of marking: the tries that it began with and those that it left, the log of its seat, which has
 -- the places that it tried and the cells that it won, what it gave to the queue and took from it by its pass, and what

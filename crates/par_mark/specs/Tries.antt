@@ -1,14 +1,14 @@
 -- What a turn does: a try is taken and made, and one may be given away.
-use Rattle.std.specs.Prelude.{◌≡◌, ℕ, ◌+◌, ◌<◌, ◌≤◌, Bool, true, false, List, [], ◌∷◌, ◌++◌, length, Option}
+use Rattle.std.specs.Prelude.{◌≡◌, ℕ, ◌+◌, ◌<◌, ◌≤◌, Bool, true, false, List, [], ◌∷◌, ◌++◌, length, Option, All}
 use Rattle.mark_words.specs.declared.view.MarkView.{MarkView}
-use Rattle.mark_words.specs.Sums.{weigh, whole}
+use Rattle.mark_words.specs.Sums.{weigh, times, whole}
 use Rattle.mark_words.specs.Rule.{bit_of}
-use Rattle.mark_words.specs.Views.{logs_with, with_known}
-use Rattle.mark_words.specs.Steps.{Wins}
+use Rattle.mark_words.specs.Views.{logs_with}
+use Rattle.mark_words.specs.Steps.{HasTried}
 use Rattle.par_mark.specs.declared.donations.QueueView.{QueueView}
-use Rattle.par_mark.specs.Donations.{HasPut, HasTaken, moves_with}
-use Rattle.par_mark.specs.Accounts.{Accounts}
-use Rattle.par_mark.specs.Edges.{Leads, targets}
+use Rattle.par_mark.specs.Donations.{HasPut, HasTaken, moves_with, Total}
+use Rattle.marker.specs.Edges.{Leads}
+use Rattle.par_mark.specs.States.{AccountsAt, CallerState}
 
 -- a try is taken from the list, or from the queue if the list is empty
 pub data IsTaken (P : ℕ × ℕ → Type 0) (p : ℕ × ℕ) (tries : List (ℕ × ℕ)) (d : QueueView) (tries' : List (ℕ × ℕ))
@@ -21,18 +21,30 @@ pub data IsDonated (tries : List (ℕ × ℕ)) (d : QueueView) (tries' : List (�
   kept : tries' ≡ tries → d' ≡ d → IsDonated tries d tries' d'
   given : (p : ℕ × ℕ) → tries ≡ p ∷ tries' → HasPut d p d' → IsDonated tries d tries' d'
 
-module _ (edge : ℕ × ℕ → ℕ → Option (ℕ × ℕ)) (marking : ℕ × ℕ → Bool) where
-  pub data IsTried (p : ℕ × ℕ) (tries won outside : List (ℕ × ℕ)) (v : MarkView) (tries' won' outside' : List (ℕ × ℕ))
-      (v' : MarkView) : Type 0 where
+module _ (marking : ℕ × ℕ → Bool) where
+  -- tries were made in one step
+  pub record AreMade (made : ℕ) (p : ℕ × ℕ) (s s' : CallerState) : Type 0 where
+    -- this one and others of the list, all in marking zones
+    pub tried : List (ℕ × ℕ)
+    pub tries_are : (h : ℕ × ℕ → ℕ) → weigh h tried + weigh h s'.tries ≡ h p + weigh h s.tries
+    pub first_tried : (h : ℕ × ℕ → ℕ) → h p ≤ weigh h tried
+    pub inside : All (λ q. marking q ≡ true) tried
+    pub count : length tried ≡ made
+    -- the cells that were won stand behind those of before
+    pub won : List (ℕ × ℕ)
+    pub wins : HasTried s.seat tried won s'.seat
+    pub won_tried : (h : ℕ × ℕ → ℕ) → weigh h won ≤ weigh h tried
+    pub once : (q : ℕ × ℕ) → times q won ≤ 1
+    pub won_is : s'.won ≡ s.won ++ won
+    pub outside_is : s'.outside ≡ s.outside
+    pub pass_is : s'.pass ≡ s.pass
+
+  -- a try was made
+  pub data IsTried (made : ℕ) (p : ℕ × ℕ) (s s' : CallerState) : Type 0 where
     -- its zone isn't marking
-    beyond : marking p ≡ false → tries' ≡ tries → won' ≡ won → outside' ≡ outside ++ p ∷ [] → v' ≡ v
-        → IsTried p tries won outside v tries' won' outside' v'
-    -- its cell was black
-    black : marking p ≡ true → tries' ≡ tries → won' ≡ won → outside' ≡ outside → v' ≡ with_known v p
-        → IsTried p tries won outside v tries' won' outside' v'
-    -- its cell was won, and the targets are to be tried
-    fresh : marking p ≡ true → tries' ≡ tries ++ targets edge p → won' ≡ won ++ p ∷ [] → outside' ≡ outside
-        → Wins v p v' → IsTried p tries won outside v tries' won' outside' v'
+    beyond : marking p ≡ false → made ≡ 1 → s' ≡ record s { outside = s.outside ++ p ∷ [] } → IsTried made p s s'
+    -- its zone is marking
+    within : AreMade made p s s' → IsTried made p s s'
 
 -- what callers need of the listed places: cells are there, their arenas have words, and edges of the cells that marking
 -- may win lead to listed places
@@ -67,18 +79,34 @@ pub record HasGrown (outside : List (ℕ × ℕ)) (v : MarkView) (d : QueueView)
   pub moves_are : d'.moves ≡ moves_with [] taken d.moves
   pub won_tried : (h : ℕ × ℕ → ℕ) → weigh h won ≤ weigh h tried
 
--- a try was taken and made
-pub record HasTurned (edge : ℕ × ℕ → ℕ → Option (ℕ × ℕ)) (marking : ℕ × ℕ → Bool) (P : ℕ × ℕ → Type 0)
-    (tries won outside : List (ℕ × ℕ)) (v : MarkView) (d : QueueView) (tries' won' outside' : List (ℕ × ℕ))
-    (v' : MarkView) (d' : QueueView) : Type 0 where
-  pub accounts : (firsts : List (ℕ × ℕ)) → Accounts edge marking P firsts [] tries outside v d
-      → Accounts edge marking P firsts [] tries' outside' v' d'
-  pub grown : HasGrown outside v d outside' v' d'
-  pub won_is : won ≡ v.won → won' ≡ v'.won
-  pub won_most : length won' ≤ length won + 1
-  pub outside_most : length outside' ≤ length outside + 1
-  pub one_done : done v' outside' ≡ done v outside + 1
-  pub first_is : v'.first ≡ v.first
-  pub parts_is : v'.parts ≡ v.parts
-  pub queue_parts : d'.parts ≡ d.parts
-  pub whole_taken : d.parts ≡ whole → TakenWasPut d → TakenWasPut d'
+-- this number of tries was taken and made, and these cells were won
+pub record HasMoved (n : ℕ) (won : List (ℕ × ℕ)) (s s' : CallerState) : Type 0 where
+  pub grown : HasGrown s.outside s.seat s.pass s'.outside s'.seat s'.pass
+  pub grown_won : grown.won ≡ won
+  pub won_is : s'.won ≡ s.won ++ won
+  pub count : weigh (λ _. 1) grown.tried + weigh (λ _. 1) grown.beyond ≡ n
+  pub first_is : s'.seat.first ≡ s.seat.first
+  pub parts_is : s'.seat.parts ≡ s.seat.parts
+  pub queue_parts : s'.pass.parts ≡ s.pass.parts
+  pub whole_taken : s.pass.parts ≡ whole → TakenWasPut s.pass → TakenWasPut s'.pass
+
+module _ (edge : ℕ × ℕ → ℕ → Option (ℕ × ℕ)) (marking : ℕ × ℕ → Bool) (P : ℕ × ℕ → Type 0) where
+  -- and are not scanned yet
+  pub record HasTriedSome (n : ℕ) (won : List (ℕ × ℕ)) (s s' : CallerState) : Type 0 where
+    pub moved : HasMoved n won s s'
+    pub accounts : (firsts unscanned : List (ℕ × ℕ)) → AccountsAt edge marking P firsts [] unscanned s
+        → AccountsAt edge marking P firsts [] (unscanned ++ won) s'
+    pub tries_listed : All P s.tries → All P s'.tries
+
+  -- and were scanned
+  pub record HasTurned (n : ℕ) (s s' : CallerState) : Type 0 where
+    pub won : List (ℕ × ℕ)
+    pub moved : HasMoved n won s s'
+    pub accounts : (firsts : List (ℕ × ℕ)) → AccountsAt edge marking P firsts [] [] s
+        → AccountsAt edge marking P firsts [] [] s'
+
+-- there was nothing to try, in the list and, for the holder of all parts, in the queue, and nothing was done
+pub record IsDone (s s' : CallerState) : Type 0 where
+  pub no_tries : s.tries ≡ []
+  pub same : s' ≡ s
+  pub empty : Total s.pass []

@@ -5,39 +5,31 @@ ghost use Rattle.crossbeam_queue.specs.Passes.{view, IsPassOf};
 ghost use Rattle.mark_words.specs.Seats.{first_of, view_of, IsSeatOf};
 ghost use Rattle.mark_words.specs.Sums.{weigh, whole};
 ghost use Rattle.mark_words.specs.Views.{first_view};
-ghost use Rattle.par_mark.specs.Edges.{Leads, all_targets};
+ghost use Rattle.marker.specs.Edges.{Leads};
+ghost use Rattle.par_mark.specs.Edges.{all_targets};
 ghost use Rattle.par_mark.specs.Marking.{HasMarked, Sought};
 ghost use Rattle.par_mark.specs.Accounts.{HasRoom};
 ghost use Rattle.par_mark.specs.Lists.{AreNew, tries_of};
-ghost use Rattle.par_mark.specs.Markers.{HasRun, HasSettled, IsReady};
+ghost use Rattle.par_mark.specs.Callers.{HasRun, HasSettled, IsReady};
 ghost use Rattle.par_mark.specs.Queues.{IsUnused, pass_view};
 ghost use Rattle.par_mark.specs.Shares.{AreShared};
 ghost use Rattle.par_mark.specs.Tries.{Serves};
 
+use crate::caller::Caller;
 use crate::donations::{Ring, Splits};
 use crate::first_tries::first_tries;
 use crate::gather::{append_lists, join_one, new_lists, settle};
 use crate::graph::Graph;
 use crate::lists::Lists;
-use crate::marker::Marker;
 use crate::queue::Queue;
 use crate::run::{drain, run};
 use gz_io::Gate;
 use gz_names::{NoMemory, Place};
 use mark_words::{Marks, PlaceList, Seat};
+use marker::Marked;
 use std::alloc::{AllocError, Global};
 use std::sync::Wait;
 use std::thread::{Threads, join};
-
-/// What marking found.
-#[derive(Debug, Drop)]
-pub struct Marked {
-    /// The cells that turned black, each once.
-    pub won: Vec<Place>,
-    /// The targets that lie outside the marking zones, of the cells that turned black and of those that
-    /// marking began from. One that is a target of several edges comes as often.
-    pub outside: Vec<Place>,
-}
 
 // Runs both callers, each in a thread of its own if one can be made.
 fn run_both<R: Threads + Wait + Sync, H: Graph + Sync, L: PlaceList + Sync, G: Gate + Sync>(
@@ -46,15 +38,15 @@ fn run_both<R: Threads + Wait + Sync, H: Graph + Sync, L: PlaceList + Sync, G: G
     marks: &Marks<L>,
     ring: &Ring<L>,
     gate: &G,
-    turns: usize,
-    one: Marker,
-    two: Marker,
-) -> (Marker, Marker)
+    most: usize,
+    one: Caller,
+    two: Caller,
+) -> (Caller, Caller)
     requires serves { Serves (H.has heap.now) (H.edge heap.now) (H.marking heap.now) (first_of marks.now) L.places }
     requires seats { IsSeatOf marks.now one.seat × IsSeatOf marks.now two.seat }
     requires passes { IsPassOf ring.now one.pass × IsPassOf ring.now two.pass }
-    requires one { IsReady (H.edge heap.now) (H.marking heap.now) L.places turns one }
-    requires two { IsReady (H.edge heap.now) (H.marking heap.now) L.places turns two }
+    requires one { IsReady (H.edge heap.now) (H.marking heap.now) L.places most one }
+    requires two { IsReady (H.edge heap.now) (H.marking heap.now) L.places most two }
     ensures seats { IsSeatOf marks.now result.0.seat × IsSeatOf marks.now result.1.seat }
     ensures passes { IsPassOf ring.now result.0.pass × IsPassOf ring.now result.1.pass }
     ensures one { HasRun (H.edge heap.now) (H.marking heap.now) L.places one result.0 }
@@ -65,17 +57,17 @@ fn run_both<R: Threads + Wait + Sync, H: Graph + Sync, L: PlaceList + Sync, G: G
         move ||
             requires { IsSeatOf marks.now one.seat × IsPassOf ring.now one.pass
                 × Serves (H.has heap.now) (H.edge heap.now) (H.marking heap.now) (first_of marks.now) L.places
-                × IsReady (H.edge heap.now) (H.marking heap.now) L.places turns one }
+                × IsReady (H.edge heap.now) (H.marking heap.now) L.places most one }
             ensures { IsSeatOf marks.entry.now result.seat × IsPassOf ring.entry.now result.pass
                 × HasRun (H.edge heap.entry.now) (H.marking heap.entry.now) L.places one result }
-        { run(rt, heap, marks, ring, gate, turns, one) },
+        { run(rt, heap, marks, ring, gate, most, one) },
         move ||
             requires { IsSeatOf marks.now two.seat × IsPassOf ring.now two.pass
                 × Serves (H.has heap.now) (H.edge heap.now) (H.marking heap.now) (first_of marks.now) L.places
-                × IsReady (H.edge heap.now) (H.marking heap.now) L.places turns two }
+                × IsReady (H.edge heap.now) (H.marking heap.now) L.places most two }
             ensures { IsSeatOf marks.entry.now result.seat × IsPassOf ring.entry.now result.pass
                 × HasRun (H.edge heap.entry.now) (H.marking heap.entry.now) L.places two result }
-        { run(rt, heap, marks, ring, gate, turns, two) },
+        { run(rt, heap, marks, ring, gate, most, two) },
     )
 }
 
@@ -87,8 +79,8 @@ fn run_both<R: Threads + Wait + Sync, H: Graph + Sync, L: PlaceList + Sync, G: G
 /// was given to the queue was taken from it. Who tried and won a cell, and who gave and took one, is what
 /// the logs of main's seat and main's pass say.
 /// The place list of the marks is exactly what may be tried. `NoMemory` comes before any step, and then
-/// the marks and the queue are as they were. The gate is called before each try that one of the callers
-/// makes.
+/// the marks and the queue are as they were. The gate is called before each step by which one of the callers
+/// makes tries.
 pub fn mark<R: Threads + Wait + Sync, H: Graph + Sync, L: PlaceList + Sync, G: Gate + Sync>(
     rt: &R,
     alloc: Global,
@@ -136,43 +128,43 @@ fn mark_from<R: Threads + Wait + Sync, H: Graph + Sync, L: PlaceList + Sync, G: 
     seat: &mut Seat,
     queue: &mut Queue<L>,
     gate: &G,
-    turns: usize,
+    most: usize,
     front: Lists,
     back: Lists,
 ) -> Marked
     requires serves { Serves (H.has heap.now) (H.edge heap.now) (H.marking heap.now) (first_of marks.now) L.places }
     requires seat { IsSeatOf marks.now seat.old × (view_of seat.old ≡ first_view (first_of marks.now)) }
     requires queue { IsUnused queue.old }
-    requires front { AreNew (tries_of front) turns (turns + 1) front }
-    requires back { AreNew (tries_of back) turns (turns + 1) back }
+    requires front { AreNew (tries_of front) most (most + 1) front }
+    requires back { AreNew (tries_of back) most (most + 1) back }
     requires front_listed { All L.places (tries_of front) }
     requires back_listed { All L.places (tries_of back) }
     requires room { HasRoom (H.edge heap.now) (H.marking heap.now) L.places
-        (weigh (λ _. 1) (tries_of front) + weigh (λ _. 1) (tries_of back)) turns }
+        (weigh (λ _. 1) (tries_of front) + weigh (λ _. 1) (tries_of back)) most }
     ensures seat { IsSeatOf marks.now seat.new × ((view_of seat.new).parts ≡ whole) }
     ensures accounts { HasSettled (H.edge heap.now) (H.marking heap.now) L.places (tries_of front ++ tries_of back)
         result.won.items result.outside.items (view_of seat.new) }
     ensures shares { AreShared (H.edge heap.now) (tries_of front ++ tries_of back) result.won.items result.outside.items
         (view_of seat.new) (pass_view queue.new) }
 {
-    let one = Marker {
+    let one = Caller {
         seat: marks.split(seat),
         pass: queue.ring.another::<Splits>(&mut queue.pass),
         lists: front,
     };
-    let two = Marker {
+    let two = Caller {
         seat: marks.split(seat),
         pass: queue.ring.another::<Splits>(&mut queue.pass),
         lists: back,
     };
     let ring = &queue.ring;
-    let (one, two) = run_both(rt, heap, marks, ring, gate, turns, one, two);
-    let Marker {
+    let (one, two) = run_both(rt, heap, marks, ring, gate, most, one, two);
+    let Caller {
         seat: one_seat,
         pass: one_pass,
         mut lists,
     } = one;
-    let Marker {
+    let Caller {
         seat: two_seat,
         pass: two_pass,
         lists: others,

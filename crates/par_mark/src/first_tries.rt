@@ -3,7 +3,7 @@ ghost use Rattle.std.specs.Prelude.{◌≡◌, ◌+◌, ◌*◌, ◌<◌, ◌≤
 ghost use Rattle.par_mark.specs.Edges.{all_targets};
 
 use crate::graph::Graph;
-use crate::turns::scan;
+use crate::scans::scan_all;
 use gz_names::{NoMemory, Place};
 use std::alloc::{AllocError, Global};
 use std::collections::VecDeque;
@@ -19,8 +19,6 @@ pub(crate) fn first_tries<H: Graph>(
 {
     let room = from.len().checked_mul(8).ok_or(AllocError)?;
     let mut tries = VecDeque::with_capacity(alloc, room)?;
-    for place in from {
-        scan(heap, *place, &mut tries);
-    }
+    scan_all(heap, from, &mut tries);
     Ok(tries.into_vec())
 }

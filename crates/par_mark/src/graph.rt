@@ -1,7 +1,7 @@
 // What marking reads of a heap.
 ghost use Rattle.std.specs.Prelude.{◌≡◌, ◌<◌, ◌≤◌, ℕ, Bool, List, All, Option, None};
 ghost use Rattle.mark_words.specs.Sums.{times, weigh};
-ghost use Rattle.par_mark.specs.Edges.{degree};
+ghost use Rattle.marker.specs.Edges.{degree};
 
 use gz_names::Place;
 
@@ -31,10 +31,10 @@ pub trait Graph {
         ensures most { result ≤ 8 }
         ensures past { (i : ℕ) → result ≤ i → i < 8 → edge self.now place i ≡ None };
 
-    /// Whether the zone of a cell is marking.
+    /// Whether the zone of a cell is marking. The cells of an arena lie in one zone.
     fn is_marking(&self, place: Place) -> bool
         requires { has self.now place }
-        ensures { result ≡ marking self.now place };
+        ensures { (slot : ℕ) → marking self.now (place.0, slot) ≡ result };
 
     /// A bound on edges: no set of cells has more edges than this together.
     fn most_edges(&self) -> usize

@@ -2,10 +2,9 @@
 ghost use Rattle.std.specs.Prelude.{◌≡◌, ◌≤◌, ℕ, Bool, List, All, Option, None};
 ghost use Rattle.mark_words.specs.Sums.{times, weigh};
 ghost use Rattle.heap_core.specs.Shape.{field_at, is_marking};
-ghost use Rattle.par_mark.specs.Edges.{degree};
+ghost use Rattle.marker.specs.Edges.{degree};
 ghost use Rattle.par_mark.specs.Heaps.{HasCell};
 
-use crate::edges::count_edges;
 use crate::graph::Graph;
 use gz_names::Place;
 use heap_core::Heap;
@@ -32,6 +31,6 @@ impl Graph for Heap {
     }
 
     fn most_edges(&self) -> usize {
-        count_edges(self)
+        512 * self.arenas() as usize
     }
 }

@@ -3,10 +3,11 @@ ghost use Rattle.std.specs.Prelude.{◌≡◌, ◌<◌, false, length};
 ghost use Rattle.colour_defs.specs.Step.{HasFewFields};
 ghost use Rattle.par_mark.specs.TestHeaps.{IsMarkable, IsTakenOn};
 
-use crate::{Marked, mark_heap};
+use crate::mark_heap;
 use gz_io::FreeGate;
 use gz_names::{CompNo, GraphCmd, NoMemory, Place, Reg, ZoneNo};
 use heap_core::Heap;
+use marker::Marked;
 use std::alloc::Global;
 use std::marker::Model;
 use std::sync::Wait;

@@ -4,7 +4,8 @@
 //
 // Marking begins from black cells that were not scanned yet. Main reads their edges, and each target is
 // a *try*: a place that is to be tried. The list of tries is cut in two, and two callers work on the
-// halves in parallel, each with a list of its own. What one caller does with a try:
+// halves in parallel, each with a list of its own. A caller works in *turns*. In a turn it makes up to 16
+// tries, the newest of its list first, and then scans the cells that they won:
 //
 //      own list, or, if it is empty, the queue
 //                      |
@@ -15,22 +16,29 @@
 //                      | its bit was clear             | marking, its bit   | marking
 //                      v                               v was set            v
 //            the caller has *won* the cell,        nothing more         the cell goes to
-//            and scans it: its targets become                           `outside`, for main
-//            tries in the caller's list
+//            and scans it when the tries of                             `outside`, for main
+//            the turn are made: its targets
+//            become tries in the caller's list
 //                      |
 //                      | more than 16 tries: the oldest goes to the queue, where the other caller finds it
 //                      v
 //                    queue, of 256 places
 //
+// The order makes it fast. A try is a locked step of the processor, which waits for all loads before it; so
+// if each cell were scanned as it is won, the caller would wait for one cell after the other. The cells of a
+// turn are read one behind the other, and their waits overlap. Tries of one arena that follow each other in
+// the list are made in one step, as those of the children of a cell often are.
+//
 // What comes from the queue is tried at once, so no try is given away twice. A caller stops when its
-// list is empty and it finds nothing in the queue. The other may still have work then, and may still
-// give some away; so main tries whatever is left when both callers have ended.
+// list is empty and it has looked into the queue a number of times and found nothing. The other may still
+// have work then, and may still give some away; so main tries whatever is left when both callers have ended.
 //
 // Nothing is forgotten and nothing is scanned twice, in every order of the callers' steps. The proof is
 // a conservation law. Count tries, each as often as it comes up. For each caller, at all times,
 //
 //     tries that it began with + targets of the cells that it won + tries that it took
-//         = tries in its list + tries that it gave away + tries that it made + what it found outside
+//         = tries in its list + targets of the cells that it has not scanned yet
+//           + tries that it gave away + tries that it made + what it found outside
 //
 // (`Accounts`), and for the queue (`Balanced`)
 //
@@ -59,14 +67,14 @@
 // `Graph` is what marking reads of a heap, so that the proof, and a test, can do without one. `mark`
 // works on marks and a queue, `mark_black` takes black words and answers them, and `mark_heap` does so
 // for the heap. All memory is reserved before the first step: the lists have room for as many tries as
-// there are edges, which one pass over the heap counts first. Each caller's list stands in a
-// `CachePadded`, so that one caller's pushes don't slow down the other's.
+// there can be edges, 512 an arena. Memory that is reserved and not used takes addresses alone. Each
+// caller's list stands in a `CachePadded`, so that one caller's pushes don't slow down the other's.
 #![tactic(auto)]
 
+mod caller;
 mod callers;
 mod closed;
 mod donations;
-mod edges;
 mod first_tries;
 mod gather;
 mod graph;
@@ -74,16 +82,17 @@ mod heap;
 #[cfg(test)]
 mod heap_tests;
 mod lists;
-mod marker;
 mod over_heap;
 mod over_words;
 mod queue;
 mod run;
+mod scans;
+mod slots;
 #[cfg(test)]
 mod tests;
 mod turns;
 
-pub use callers::{Marked, mark};
+pub use callers::mark;
 pub use closed::closes_up_law;
 pub use donations::{DonationRule, Moves, QueueView};
 pub use graph::Graph;

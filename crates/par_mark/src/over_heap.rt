@@ -1,13 +1,13 @@
 // Marking a heap.
 ghost use Rattle.std.specs.Prelude.{◌≡◌, ◌<◌, ℕ, length, All, IfOk, None};
 ghost use Rattle.heap_core.specs.Shape.{AreWhole, HasEdge, IsPresent, field_at, is_marking, zone_of};
-ghost use Rattle.par_mark.specs.Marking.{HasBlackened};
+ghost use Rattle.marker.specs.Blackening.{HasBlackened};
 
-use crate::callers::Marked;
 use crate::over_words::mark_black;
 use gz_io::Gate;
 use gz_names::{NoMemory, Place};
 use heap_core::Heap;
+use marker::Marked;
 use std::alloc::Global;
 use std::sync::Wait;
 use std::thread::Threads;

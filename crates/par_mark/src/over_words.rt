@@ -1,14 +1,16 @@
 // Marking over black words.
 ghost use Rattle.std.specs.Prelude.{◌<◌, ℕ, length, All, IfOk};
-ghost use Rattle.par_mark.specs.Edges.{Leads};
-ghost use Rattle.par_mark.specs.Marking.{HasBlackened, Sought};
+ghost use Rattle.marker.specs.Edges.{Leads};
+ghost use Rattle.marker.specs.Blackening.{HasBlackened};
+ghost use Rattle.par_mark.specs.Marking.{Sought};
 
-use crate::callers::{Marked, mark};
+use crate::callers::mark;
 use crate::graph::Graph;
 use crate::queue::Queue;
 use gz_io::Gate;
 use gz_names::{NoMemory, Place};
 use mark_words::{Marks, PlaceList};
+use marker::Marked;
 use std::alloc::Global;
 use std::marker::Brand;
 use std::sync::Wait;

@@ -6,17 +6,24 @@ ghost use Rattle.mark_words.specs.Sums.{weigh, whole};
 ghost use Rattle.par_mark.specs.Accounts.{Accounts, HasRoom};
 ghost use Rattle.par_mark.specs.Donations.{Total};
 ghost use Rattle.par_mark.specs.Lists.{AreAsLarge, outside_of, tries_of, tries_room, won_of};
-ghost use Rattle.par_mark.specs.Markers.{IsOpen, IsReady, HasRun};
-ghost use Rattle.par_mark.specs.Tries.{HasGrown, Serves, TakenWasPut};
+ghost use Rattle.par_mark.specs.Callers.{IsOpen, IsReady, HasRun};
+ghost use Rattle.par_mark.specs.States.{AccountsAt, state_of};
+ghost use Rattle.par_mark.specs.Tries.{HasGrown, HasTurned, Serves, TakenWasPut};
 
+use crate::caller::Caller;
 use crate::donations::{QueuePass, Ring};
 use crate::graph::Graph;
 use crate::lists::Lists;
-use crate::marker::Marker;
 use crate::turns::{donate, turn};
 use gz_io::{FreeGate, Gate};
 use mark_words::{Marks, PlaceList, Seat};
 use std::sync::Wait;
+
+// How many tries a caller makes in a turn, at most.
+const BATCH: usize = 16;
+
+// How often a caller looks for something to try before it ends.
+const LOOKS: u32 = 1024;
 
 /// One caller's turns: until it finds nothing to try, or has made this number of tries.
 pub(crate) fn run<R: Wait, H: Graph, L: PlaceList, G: Gate>(
@@ -25,33 +32,76 @@ pub(crate) fn run<R: Wait, H: Graph, L: PlaceList, G: Gate>(
     marks: &Marks<L>,
     ring: &Ring<L>,
     gate: &G,
-    turns: usize,
-    mut marker: Marker,
-) -> Marker
+    most: usize,
+    mut caller: Caller,
+) -> Caller
     requires serves { Serves (H.has heap.now) (H.edge heap.now) (H.marking heap.now) (first_of marks.now) L.places }
-    requires seat { IsSeatOf marks.now marker.seat }
-    requires pass { IsPassOf ring.now marker.pass }
-    requires ready { IsReady (H.edge heap.now) (H.marking heap.now) L.places turns marker }
+    requires seat { IsSeatOf marks.now caller.seat }
+    requires pass { IsPassOf ring.now caller.pass }
+    requires ready { IsReady (H.edge heap.now) (H.marking heap.now) L.places most caller }
     ensures seat { IsSeatOf marks.now result.seat }
     ensures pass { IsPassOf ring.now result.pass }
-    ensures ran { HasRun (H.edge heap.now) (H.marking heap.now) L.places marker result }
+    ensures ran { HasRun (H.edge heap.now) (H.marking heap.now) L.places caller result }
 {
-    for _ in 0..turns {
-        if !turn(
+    let mut left = most;
+    while left > 0 {
+        let made = find_and_try(
             rt,
             heap,
             marks,
             ring,
             gate,
-            &mut marker.seat,
-            &mut marker.pass,
-            &mut marker.lists,
-        ) {
-            return marker;
+            &mut caller.seat,
+            &mut caller.pass,
+            &mut caller.lists,
+            left.min(BATCH),
+        );
+        if made == 0 {
+            break;
         }
-        donate(rt, ring, &mut marker.pass, &mut marker.lists.tries);
+        left -= made;
+        donate(rt, ring, &mut caller.pass, &mut caller.lists.tries);
     }
-    marker
+    caller
+}
+
+// A caller's turn. If it finds nothing to try it looks again, a number of times, since the other caller may give some
+// tries away meanwhile.
+fn find_and_try<R: Wait, H: Graph, L: PlaceList, G: Gate>(
+    rt: &R,
+    heap: &H,
+    marks: &Marks<L>,
+    ring: &Ring<L>,
+    gate: &G,
+    seat: &mut Seat,
+    pass: &mut QueuePass,
+    lists: &mut Lists,
+    most: usize,
+) -> usize
+    requires serves { Serves (H.has heap.now) (H.edge heap.now) (H.marking heap.now) (first_of marks.now) L.places }
+    requires seat { IsSeatOf marks.now seat.old × (0 < (view_of seat.old).parts) }
+    requires pass { IsPassOf ring.now pass.old × (0 < (view pass.old).parts) }
+    requires accounts { (firsts : List (ℕ × ℕ)) × AccountsAt (H.edge heap.now) (H.marking heap.now) L.places firsts []
+        [] (state_of lists.old (view_of seat.old) (view pass.old))
+        × HasRoom (H.edge heap.now) (H.marking heap.now) L.places (weigh (λ _. 1) firsts) (tries_room lists.old) }
+    requires some { 0 < most }
+    requires won_room { length (won_of lists.old) + most ≤ vec_capacity lists.old.won }
+    requires outside_room { length (outside_of lists.old) + most ≤ vec_capacity lists.old.outside }
+    ensures seat { IsSeatOf marks.now seat.new }
+    ensures pass { IsPassOf ring.now pass.new }
+    ensures room { AreAsLarge lists.old lists.new }
+    ensures most { result ≤ most }
+    ensures turned { HasTurned (H.edge heap.now) (H.marking heap.now) L.places result
+        (state_of lists.old (view_of seat.old) (view pass.old))
+        (state_of lists.new (view_of seat.new) (view pass.new)) }
+{
+    for _ in 0..LOOKS {
+        let made = turn(rt, heap, marks, ring, gate, seat, pass, lists, most);
+        if made != 0 {
+            return made;
+        }
+    }
+    0
 }
 
 /// Main's turns, when no caller runs any more: until there is nothing to try, in the list and in the
@@ -72,14 +122,14 @@ pub(crate) fn drain<R: Wait, H: Graph, L: PlaceList>(
         (view pass.old) }
     ensures seat { IsSeatOf marks.now seat.new × ((view_of seat.new).parts ≡ (view_of seat.old).parts) }
     ensures pass { IsPassOf ring.now pass.new × ((view pass.new).parts ≡ whole) }
-    ensures accounts { (firsts : List (ℕ × ℕ)) → Accounts (H.edge heap.now) (H.marking heap.now) L.places firsts []
+    ensures accounts { (firsts : List (ℕ × ℕ)) → Accounts (H.edge heap.now) (H.marking heap.now) L.places firsts [] []
         (tries_of lists.old) (outside_of lists.old) (view_of seat.old) (view pass.old)
-        → Accounts (H.edge heap.now) (H.marking heap.now) L.places firsts [] [] (outside_of lists.new)
+        → Accounts (H.edge heap.now) (H.marking heap.now) L.places firsts [] [] [] (outside_of lists.new)
         (view_of seat.new) (view pass.new) }
     ensures won_is { won_of lists.new ≡ (view_of seat.new).won }
     ensures grown { HasGrown (outside_of lists.old) (view_of seat.old) (view pass.old) (outside_of lists.new)
         (view_of seat.new) (view pass.new) }
     ensures empty { Total (view pass.new) [] }
 {
-    while turn(rt, heap, marks, ring, &FreeGate, seat, pass, lists) {}
+    while turn(rt, heap, marks, ring, &FreeGate, seat, pass, lists, 1) != 0 {}
 }

@@ -1,21 +1,22 @@
-// A caller's turn: it takes a try, makes it, and may give one away.
-ghost use Rattle.std.specs.Prelude.{◌≡◌, ◌+◌, ◌<◌, ◌≤◌, ℕ, List, [], ◌∷◌, ◌++◌, length, vec_len, vec_capacity, IfSome};
-ghost use Rattle.std.specs.Prelude.{IfNone, All, IsTrue, true, false};
-ghost use Rattle.std.specs.VecDeque.{deque_len, deque_capacity};
-ghost use Rattle.crossbeam_queue.specs.Passes.{view, IsSamePass, IsPassOf};
-ghost use Rattle.mark_words.specs.declared.view.MarkView.{MarkView as AView};
+// A caller's turn: it takes tries, makes them, and scans the cells that it won. And what it gives away.
+ghost use Rattle.std.specs.Prelude.{◌≡◌, ◌+◌, ◌<◌, ◌≤◌, ℕ, List, [], ◌∷◌, ◌++◌, length, vec_capacity, IfSome, IfNone};
+ghost use Rattle.std.specs.Prelude.{All};
+ghost use Rattle.std.specs.VecDeque.{deque_capacity};
+ghost use Rattle.crossbeam_queue.specs.Passes.{view, IsPassOf};
 ghost use Rattle.mark_words.specs.Seats.{first_of, view_of, IsSeatOf};
-ghost use Rattle.mark_words.specs.Steps.{Wins};
 ghost use Rattle.mark_words.specs.Sums.{weigh};
-ghost use Rattle.par_mark.specs.Donations.{HasPut, HasTaken, Total};
-ghost use Rattle.par_mark.specs.Edges.{targets};
+ghost use Rattle.par_mark.specs.declared.donations.QueueView.{QueueView as AQueueView};
+ghost use Rattle.par_mark.specs.Accounts.{HasRoom};
+ghost use Rattle.par_mark.specs.Donations.{Total};
 ghost use Rattle.par_mark.specs.Lists.{AreAsLarge, outside_of, tries_of, tries_room, won_of};
-ghost use Rattle.par_mark.specs.Tries.{HasTurned, IsDonated, IsTaken, IsTried, Serves};
-ghost use Rattle.par_mark.specs.Accounts.{Accounts, HasRoom};
+ghost use Rattle.par_mark.specs.States.{AccountsAt, state_of};
+ghost use Rattle.par_mark.specs.Tries.{HasTriedSome, HasTurned, IsDonated, IsDone, IsTaken, IsTried, Serves};
 
 use crate::donations::{Donates, QueuePass, Ring, Takes};
 use crate::graph::Graph;
 use crate::lists::Lists;
+use crate::scans::scan_all;
+use crate::slots::{gather_slots, push_slots};
 use gz_io::{Gate, Point};
 use gz_names::Place;
 use mark_words::{Marks, PlaceList, Seat};
@@ -24,55 +25,6 @@ use std::sync::Wait;
 
 // A caller with more tries than this gives one away.
 const OWN_TRIES: usize = 16;
-
-/// Scans a cell: the targets of its edges become tries.
-pub(crate) fn scan<H: Graph>(heap: &H, place: Place, tries: &mut VecDeque<Place>)
-    requires present { H.has heap.now place }
-    requires room { deque_len tries.old + length (targets (H.edge heap.now) place) ≤ deque_capacity tries.old }
-    ensures tries { tries.new.items ≡ tries.old.items ++ targets (H.edge heap.now) place }
-    ensures room { deque_capacity tries.new ≡ deque_capacity tries.old }
-{
-    for i in 0..heap.edge_count(place) {
-        if let Some(target) = heap.edge_at(place, i) {
-            tries.push_back_reserved(target);
-        }
-    }
-}
-
-/// Makes a try: a cell outside the marking zones goes to `outside`; a cell that is won is scanned.
-pub(crate) fn try_place<H: Graph, L: PlaceList, G: Gate>(
-    heap: &H,
-    marks: &Marks<L>,
-    gate: &G,
-    seat: &mut Seat,
-    lists: &mut Lists,
-    place: Place,
-)
-    requires present { H.has heap.now place }
-    requires listed { L.places place }
-    requires seat { IsSeatOf marks.now seat.old }
-    requires parts { 0 < (view_of seat.old).parts }
-    requires word { place.0 < length (first_of marks.now) }
-    requires tries_room { (w : AView) → Wins (view_of seat.old) place w
-        → length (tries_of lists.old) + length (targets (H.edge heap.now) place) ≤ tries_room lists.old }
-    requires won_room { vec_len lists.old.won < vec_capacity lists.old.won }
-    requires outside_room { vec_len lists.old.outside < vec_capacity lists.old.outside }
-    ensures seat { IsSeatOf marks.now seat.new }
-    ensures tried { IsTried (H.edge heap.now) (H.marking heap.now) place (tries_of lists.old) (won_of lists.old)
-        (outside_of lists.old) (view_of seat.old) (tries_of lists.new) (won_of lists.new) (outside_of lists.new)
-        (view_of seat.new) }
-    ensures room { AreAsLarge lists.old lists.new }
-{
-    if !heap.is_marking(place) {
-        lists.outside.push_reserved(place);
-        return;
-    }
-    gate.at(Point::Tried, place.arena());
-    if marks.try_black(seat, place.arena(), place.slot()) {
-        lists.won.push_reserved(place);
-        scan(heap, place, &mut lists.tries);
-    }
-}
 
 /// The next try: the newest of the list, or, if that is empty, one from the queue. `None` comes only if
 /// the queue was empty too.
@@ -126,7 +78,8 @@ pub(crate) fn donate<L: PlaceList, R: Wait>(
     }
 }
 
-/// Takes a try and makes it. False comes only if there was nothing to try.
+/// A turn: takes up to this number of tries, makes them, and then scans the cells that were won. Returns how many
+/// tries were made: none only if there was nothing to try.
 pub(crate) fn turn<R: Wait, H: Graph, L: PlaceList, G: Gate>(
     rt: &R,
     heap: &H,
@@ -136,28 +89,108 @@ pub(crate) fn turn<R: Wait, H: Graph, L: PlaceList, G: Gate>(
     seat: &mut Seat,
     pass: &mut QueuePass,
     lists: &mut Lists,
-) -> bool
+    most: usize,
+) -> usize
     requires serves { Serves (H.has heap.now) (H.edge heap.now) (H.marking heap.now) (first_of marks.now) L.places }
     requires seat { IsSeatOf marks.now seat.old × (0 < (view_of seat.old).parts) }
     requires pass { IsPassOf ring.now pass.old × (0 < (view pass.old).parts) }
-    requires accounts { (firsts : List (ℕ × ℕ)) × Accounts (H.edge heap.now) (H.marking heap.now) L.places firsts []
-        (tries_of lists.old) (outside_of lists.old) (view_of seat.old) (view pass.old)
+    requires accounts { (firsts : List (ℕ × ℕ)) × AccountsAt (H.edge heap.now) (H.marking heap.now) L.places firsts []
+        [] (state_of lists.old (view_of seat.old) (view pass.old))
         × HasRoom (H.edge heap.now) (H.marking heap.now) L.places (weigh (λ _. 1) firsts) (tries_room lists.old) }
-    requires won_room { vec_len lists.old.won < vec_capacity lists.old.won }
-    requires outside_room { vec_len lists.old.outside < vec_capacity lists.old.outside }
+    requires some { 0 < most }
+    requires won_room { length (won_of lists.old) + most ≤ vec_capacity lists.old.won }
+    requires outside_room { length (outside_of lists.old) + most ≤ vec_capacity lists.old.outside }
     ensures seat { IsSeatOf marks.now seat.new }
     ensures pass { IsPassOf ring.now pass.new }
     ensures room { AreAsLarge lists.old lists.new }
-    ensures turned { result ≡ true → HasTurned (H.edge heap.now) (H.marking heap.now) L.places (tries_of lists.old)
-        (won_of lists.old) (outside_of lists.old) (view_of seat.old) (view pass.old) (tries_of lists.new)
-        (won_of lists.new) (outside_of lists.new) (view_of seat.new) (view pass.new) }
-    ensures none { result ≡ false → (tries_of lists.old ≡ []) × (tries_of lists.new ≡ [])
-        × (won_of lists.new ≡ won_of lists.old) × (outside_of lists.new ≡ outside_of lists.old)
-        × (view_of seat.new ≡ view_of seat.old) × (view pass.new ≡ view pass.old) × Total (view pass.old) [] }
+    ensures most { result ≤ most }
+    ensures turned { HasTurned (H.edge heap.now) (H.marking heap.now) L.places result
+        (state_of lists.old (view_of seat.old) (view pass.old))
+        (state_of lists.new (view_of seat.new) (view pass.new)) }
+    ensures none { result ≡ 0 → IsDone (state_of lists.old (view_of seat.old) (view pass.old))
+        (state_of lists.new (view_of seat.new) (view pass.new)) }
 {
-    let Some(place) = take(rt, ring, pass, &mut lists.tries) else {
-        return false;
+    let scanned = lists.won.len();
+    let made = try_places(rt, heap, marks, ring, gate, seat, pass, lists, most);
+    scan_all(heap, &lists.won[scanned..], &mut lists.tries);
+    made
+}
+
+// Takes up to this number of tries and makes them: the newest of the list, or one from the queue if the list is empty.
+fn try_places<R: Wait, H: Graph, L: PlaceList, G: Gate>(
+    rt: &R,
+    heap: &H,
+    marks: &Marks<L>,
+    ring: &Ring<L>,
+    gate: &G,
+    seat: &mut Seat,
+    pass: &mut QueuePass,
+    lists: &mut Lists,
+    most: usize,
+) -> usize
+    requires serves { Serves (H.has heap.now) (H.edge heap.now) (H.marking heap.now) (first_of marks.now) L.places }
+    requires seat { IsSeatOf marks.now seat.old × (0 < (view_of seat.old).parts) }
+    requires pass { IsPassOf ring.now pass.old × (0 < (view pass.old).parts) }
+    requires listed { All L.places (tries_of lists.old) }
+    requires some { 0 < most }
+    requires won_room { length (won_of lists.old) + most ≤ vec_capacity lists.old.won }
+    requires outside_room { length (outside_of lists.old) + most ≤ vec_capacity lists.old.outside }
+    ensures seat { IsSeatOf marks.now seat.new }
+    ensures pass { IsPassOf ring.now pass.new }
+    ensures room { AreAsLarge lists.old lists.new }
+    ensures most { result ≤ most }
+    ensures tried { (won : List (ℕ × ℕ)) × HasTriedSome (H.edge heap.now) (H.marking heap.now) L.places result won
+        (state_of lists.old (view_of seat.old) (view pass.old))
+        (state_of lists.new (view_of seat.new) (view pass.new)) }
+    ensures none { result ≡ 0 → IsDone (state_of lists.old (view_of seat.old) (view pass.old))
+        (state_of lists.new (view_of seat.new) (view pass.new)) }
+{
+    let Some(first) = take(rt, ring, pass, &mut lists.tries) else {
+        return 0;
     };
-    try_place(heap, marks, gate, seat, lists, place);
-    true
+    let mut made = try_place(heap, marks, gate, seat, lists, first, most);
+    while made < most {
+        let Some(place) = lists.tries.pop_back() else {
+            break;
+        };
+        made += try_place(heap, marks, gate, seat, lists, place, most - made);
+    }
+    made
+}
+
+// Makes a try. A cell outside the marking zones goes to `outside`. Else tries of the same arena that come next in the
+// list are made in the same step, up to this number with it. Returns how many were made.
+fn try_place<H: Graph, L: PlaceList, G: Gate>(
+    heap: &H,
+    marks: &Marks<L>,
+    gate: &G,
+    seat: &mut Seat,
+    lists: &mut Lists,
+    place: Place,
+    most: usize,
+) -> usize
+    requires serves { Serves (H.has heap.now) (H.edge heap.now) (H.marking heap.now) (first_of marks.now) L.places }
+    requires seat { IsSeatOf marks.now seat.old × (0 < (view_of seat.old).parts) }
+    requires place { L.places place }
+    requires listed { All L.places (tries_of lists.old) }
+    requires some { 0 < most }
+    requires won_room { length (won_of lists.old) + most ≤ vec_capacity lists.old.won }
+    requires outside_room { length (outside_of lists.old) + most ≤ vec_capacity lists.old.outside }
+    ensures seat { IsSeatOf marks.now seat.new }
+    ensures room { AreAsLarge lists.old lists.new }
+    ensures made { (0 < result) × (result ≤ most) }
+    ensures tried { (d : AQueueView) → IsTried (H.marking heap.now) result place
+        (state_of lists.old (view_of seat.old) d) (state_of lists.new (view_of seat.new) d) }
+{
+    if !heap.is_marking(place) {
+        lists.outside.push_reserved(place);
+        return 1;
+    }
+    let arena = place.arena();
+    let before = lists.tries.len();
+    let slots = gather_slots(&mut lists.tries, place, most);
+    gate.at(Point::Tried, arena);
+    let won = marks.try_slots(seat, arena, slots);
+    push_slots(&mut lists.won, arena, won);
+    before - lists.tries.len() + 1
 }

@@ -44,8 +44,8 @@ append_lists-requires g c =
     let d0_is : d0 ≡ fewer_parts (fewer_parts (unused_view)) = c.another-2.ensures.rule.0
     ∙ ap fewer_parts (c.another.ensures.rule.0 ∙ ap fewer_parts c.requires.queue) in
     let first_is = c.settle.ensures.seat.0.1 in
-    let t : Together e m P (tries_of c.args.front) (tries_of c.args.back) c.args.turns one.lists two.lists v d =
-    together e m P _ _ one two v0 v d0 d c.args.turns c.run_both-one.ensures.one c.run_both-one.ensures.two
+    let t : Together e m P (tries_of c.args.front) (tries_of c.args.back) c.args.most one.lists two.lists v d =
+    together e m P _ _ one two v0 v d0 d c.args.most c.run_both-one.ensures.one c.run_both-one.ensures.two
     (ap (λ (u : MarkView). u.won) v_is) (ap (λ (u : MarkView). u.known) v_is) (ap (λ (u : QueueView). u.put) d_is)
     (ap (λ (u : QueueView). u.taken) d_is)
     (ap (λ (u : MarkView). u.won) v0_is) (ap (λ (u : MarkView). u.known) v0_is) (ap (λ (u : QueueView). u.put) d0_is)
@@ -85,8 +85,8 @@ drain-requires-clause-accounts g c =
     let d0_is : d0 ≡ fewer_parts (fewer_parts (unused_view)) = c.another-2.ensures.rule.0
     ∙ ap fewer_parts (c.another.ensures.rule.0 ∙ ap fewer_parts c.requires.queue) in
     let first_is = c.settle.ensures.seat.0.1 in
-    let t : Together e m P (tries_of c.args.front) (tries_of c.args.back) c.args.turns one.lists two.lists v d =
-    together e m P _ _ one two v0 v d0 d c.args.turns c.run_both-one.ensures.one c.run_both-one.ensures.two
+    let t : Together e m P (tries_of c.args.front) (tries_of c.args.back) c.args.most one.lists two.lists v d =
+    together e m P _ _ one two v0 v d0 d c.args.most c.run_both-one.ensures.one c.run_both-one.ensures.two
     (ap (λ (u : MarkView). u.won) v_is) (ap (λ (u : MarkView). u.known) v_is) (ap (λ (u : QueueView). u.put) d_is)
     (ap (λ (u : QueueView). u.taken) d_is)
     (ap (λ (u : MarkView). u.won) v0_is) (ap (λ (u : MarkView). u.known) v0_is) (ap (λ (u : QueueView). u.put) d0_is)
@@ -107,11 +107,11 @@ drain-requires-clause-accounts g c =
     let s = n.room.2 in record {
       firsts = tries_of c.args.front ++ tries_of c.args.back;
       accounts = subst (λ (l : List (ℕ × ℕ) × List (ℕ × ℕ)). Accounts e m P
-          (tries_of c.args.front ++ tries_of c.args.back) [] l.0 l.1 v d) (λ i. (sym n.tries i, sym n.outside i))
+          (tries_of c.args.front ++ tries_of c.args.back) [] [] l.0 l.1 v d) (λ i. (sym n.tries i, sym n.outside i))
           t.accounts;
       taken_put = c.settle.ensures.taken;
       won_is = n.won ∙ sym t.won_are;
-      most = c.args.turns;
+      most = c.args.most;
       room = t.room;
       tries_most = omega arith;
       won_most = omega arith;
@@ -139,8 +139,8 @@ returns-clause-accounts g c =
     let d0_is : d0 ≡ fewer_parts (fewer_parts (unused_view)) = c.another-2.ensures.rule.0
     ∙ ap fewer_parts (c.another.ensures.rule.0 ∙ ap fewer_parts c.requires.queue) in
     let first_is = c.settle.ensures.seat.0.1 in
-    let t : Together e m P (tries_of c.args.front) (tries_of c.args.back) c.args.turns one.lists two.lists v d =
-    together e m P _ _ one two v0 v d0 d c.args.turns c.run_both-one.ensures.one c.run_both-one.ensures.two
+    let t : Together e m P (tries_of c.args.front) (tries_of c.args.back) c.args.most one.lists two.lists v d =
+    together e m P _ _ one two v0 v d0 d c.args.most c.run_both-one.ensures.one c.run_both-one.ensures.two
     (ap (λ (u : MarkView). u.won) v_is) (ap (λ (u : MarkView). u.known) v_is) (ap (λ (u : QueueView). u.put) d_is)
     (ap (λ (u : QueueView). u.taken) d_is)
     (ap (λ (u : MarkView). u.won) v0_is) (ap (λ (u : MarkView). u.known) v0_is) (ap (λ (u : QueueView). u.put) d0_is)
@@ -149,12 +149,12 @@ returns-clause-accounts g c =
     c.settle.ensures.knows c.settle.ensures.taken c.requires.room in
     let n = c.append_lists.ensures in
     let firsts : List (ℕ × ℕ) = tries_of c.args.front ++ tries_of c.args.back in
-    let a = subst (λ (l : List (ℕ × ℕ) × List (ℕ × ℕ)). Accounts e m P firsts [] l.0 l.1 v d)
+    let a = subst (λ (l : List (ℕ × ℕ) × List (ℕ × ℕ)). Accounts e m P firsts [] [] l.0 l.1 v d)
     (λ i. (sym n.tries i, sym n.outside i)) t.accounts in
     let b = c.drain.ensures.accounts firsts a in
     let same = c.settle-2.ensures.seat.1 in
     settled e m P firsts (outside_of c.drain.new.lists) (view_of c.settle-2.new.seat) (view c.drain.new.pass)
-    (subst (λ (u : MarkView). Accounts e m P firsts [] [] (outside_of c.drain.new.lists) u
+    (subst (λ (u : MarkView). Accounts e m P firsts [] [] [] (outside_of c.drain.new.lists) u
     (view c.drain.new.pass)) (sym same) b) c.drain.ensures.pass.1 c.drain.ensures.empty c.settle-2.ensures.knows
     (won_of c.drain.new.lists) (ap (λ (u : MarkView). u.won) same ∙ sym c.drain.ensures.won_is)
 
@@ -179,8 +179,8 @@ returns-clause-shares g c =
     let d0_is : d0 ≡ fewer_parts (fewer_parts (unused_view)) = c.another-2.ensures.rule.0
     ∙ ap fewer_parts (c.another.ensures.rule.0 ∙ ap fewer_parts c.requires.queue) in
     let first_is = c.settle.ensures.seat.0.1 in
-    let t : Together e m P (tries_of c.args.front) (tries_of c.args.back) c.args.turns one.lists two.lists v d =
-    together e m P _ _ one two v0 v d0 d c.args.turns c.run_both-one.ensures.one c.run_both-one.ensures.two
+    let t : Together e m P (tries_of c.args.front) (tries_of c.args.back) c.args.most one.lists two.lists v d =
+    together e m P _ _ one two v0 v d0 d c.args.most c.run_both-one.ensures.one c.run_both-one.ensures.two
     (ap (λ (u : MarkView). u.won) v_is) (ap (λ (u : MarkView). u.known) v_is) (ap (λ (u : QueueView). u.put) d_is)
     (ap (λ (u : QueueView). u.taken) d_is)
     (ap (λ (u : MarkView). u.won) v0_is) (ap (λ (u : MarkView). u.known) v0_is) (ap (λ (u : QueueView). u.put) d0_is)
@@ -189,7 +189,7 @@ returns-clause-shares g c =
     c.settle.ensures.knows c.settle.ensures.taken c.requires.room in
     let n = c.append_lists.ensures in
     let firsts : List (ℕ × ℕ) = tries_of c.args.front ++ tries_of c.args.back in
-    let a = subst (λ (l : List (ℕ × ℕ) × List (ℕ × ℕ)). Accounts e m P firsts [] l.0 l.1 v d)
+    let a = subst (λ (l : List (ℕ × ℕ) × List (ℕ × ℕ)). Accounts e m P firsts [] [] l.0 l.1 v d)
     (λ i. (sym n.tries i, sym n.outside i)) t.accounts in
     let b = c.drain.ensures.accounts firsts a in
     let same = c.settle-2.ensures.seat.1 in

@@ -1,12 +1,11 @@
-use Rattle.std.proofs.Common.{rules, ◌<◌, ℕ, List, [], sym, subst, refl, ◌∙◌, arith, vec_capacity, vec_len}
+use Rattle.std.proofs.Common.{rules, ◌≡◌, ◌+◌, ◌≤◌, ℕ, List, [], length, ap, subst, refl, ◌∙◌, arith, vec_capacity}
 use Rattle.crossbeam_queue.specs.Passes.{view}
 use Rattle.mark_words.specs.Seats.{view_of}
-use Rattle.mark_words.specs.declared.view.MarkView.{MarkView}
-use Rattle.par_mark.specs.declared.donations.QueueView.{QueueView}
 use Rattle.par_mark.specs.Accounts.{Accounts}
-use Rattle.par_mark.specs.Lists.{outside_of, tries_of}
-use Rattle.par_mark.specs.Tries.{HasGrown}
+use Rattle.par_mark.specs.Lists.{outside_of, tries_of, won_of}
+use Rattle.par_mark.specs.States.{CallerState, state_of}
 use Rattle.par_mark.proofs.Growing.{grown_more, grown_none}
+use Rattle.par_mark.proofs.Moving.{done_made, still_won}
 use Rattle.par_mark.proofs.Running.{still_room, less_left}
 use Rattle.par_mark.proofs.run.drain.Goals as goal
 
@@ -25,8 +24,7 @@ turn-requires-clause-won_room g c =
     let r = still_room (g.H.Graph.edge c.args.heap.now) (g.H.Graph.marking c.args.heap.now) g.L.PlaceList.places
     c.loop.lists _ (view_of c.loop.seat) _ (view c.loop.pass) c.args.lists.now b (i.7 b.firsts b.accounts) i.5 i.6
     i.4 in
-    let s : vec_len c.loop.lists.won < vec_capacity c.loop.lists.won =
-    (let h = r.0 in let o = c.loop.lists.won.ok.0 in omega arith) in s
+    let s : length (won_of c.loop.lists) + 1 ≤ vec_capacity c.loop.lists.won = (let h = r.0 in omega arith) in s
 
 pub turn-requires-clause-outside_room : goal.turn-requires-clause-outside_room
 turn-requires-clause-outside_room g c =
@@ -35,8 +33,7 @@ turn-requires-clause-outside_room g c =
     let r = still_room (g.H.Graph.edge c.args.heap.now) (g.H.Graph.marking c.args.heap.now) g.L.PlaceList.places
     c.loop.lists _ (view_of c.loop.seat) _ (view c.loop.pass) c.args.lists.now b (i.7 b.firsts b.accounts) i.5 i.6
     i.4 in
-    let s : vec_len c.loop.lists.outside < vec_capacity c.loop.lists.outside =
-    (let h = r.1 in let o = c.loop.lists.outside.ok.0 in omega arith) in s
+    let s : length (outside_of c.loop.lists) + 1 ≤ vec_capacity c.loop.lists.outside = (let h = r.1 in omega arith) in s
 
 pub loop-init : goal.loop-init
 loop-init g c = (
@@ -55,39 +52,37 @@ pub loop-smaller : goal.loop-smaller
 loop-smaller g c =
     let b = c.requires.accounts in
     let i = c.loop.invariant in
-    let t = c.loop-test.ensures.turned refl in
+    let t = c.turn.ensures.turned in
     less_left (g.H.Graph.edge c.args.heap.now) (g.H.Graph.marking c.args.heap.now) g.L.PlaceList.places
-    (tries_of c.loop.lists) (outside_of c.loop.lists) (outside_of c.turn.new.lists) b.firsts
+    c.turn.result (outside_of c.loop.lists) (outside_of c.turn.new.lists) b.firsts
     (tries_of c.turn.new.lists) (view_of c.loop.seat) (view_of c.turn.new.seat) (view c.turn.new.pass) b.most _
-    t.one_done (t.accounts b.firsts (i.7 b.firsts b.accounts)) (t.whole_taken i.3 i.5) b.room b.won_most
+    (omega (arith, c.loop-test.true)) (done_made c.turn.result t.won
+    (state_of c.loop.lists (view_of c.loop.seat) (view c.loop.pass))
+    (state_of c.turn.new.lists (view_of c.turn.new.seat) (view c.turn.new.pass)) t.moved)
+    (t.accounts b.firsts (i.7 b.firsts b.accounts)) (t.moved.whole_taken i.3 i.5) b.room b.won_most
 
 pub loop-preserved : goal.loop-preserved
 loop-preserved g c =
     let i = c.loop.invariant in
-    let t = c.loop-test.ensures.turned refl in
+    let t = c.turn.ensures.turned in
     let l = c.turn.ensures.room in (
       search rules,
-      t.parts_is ∙ i.1,
+      t.moved.parts_is ∙ i.1,
       search rules,
-      t.queue_parts ∙ i.3,
+      t.moved.queue_parts ∙ i.3,
       record { tries = l.tries ∙ i.4.tries; won = l.won ∙ i.4.won; outside = l.outside ∙ i.4.outside },
-      t.whole_taken i.3 i.5,
-      t.won_is i.6,
+      t.moved.whole_taken i.3 i.5,
+      still_won c.turn.result t.won (state_of c.loop.lists (view_of c.loop.seat) (view c.loop.pass))
+          (state_of c.turn.new.lists (view_of c.turn.new.seat) (view c.turn.new.pass)) t.moved i.6,
       λ firsts a. t.accounts firsts (i.7 firsts a),
-      grown_more _ _ _ _ _ _ _ _ _ i.8 t.grown,
+      grown_more _ _ _ _ _ _ _ _ _ i.8 t.moved.grown,
     )
 
 pub returns-clause-accounts : goal.returns-clause-accounts
 returns-clause-accounts g c = λ firsts a.
-    let n = c.loop-test.ensures.none refl in
+    let n = c.turn.ensures.none (omega (arith, c.loop-test.false)) in
     let b = c.loop.invariant.7 firsts a in
-    subst (λ (x : List (ℕ × ℕ) × (List (ℕ × ℕ) × (MarkView × QueueView))). Accounts (g.H.Graph.edge c.args.heap.now)
-    (g.H.Graph.marking c.args.heap.now) g.L.PlaceList.places firsts [] x.0 x.1.0 x.1.1.0 x.1.1.1)
-    (λ k. (n.0 k, (sym n.3 k, (sym n.4 k, sym n.5 k)))) b
-
-pub returns-clause-grown : goal.returns-clause-grown
-returns-clause-grown g c =
-    let n = c.loop-test.ensures.none refl in
-    subst (λ (x : List (ℕ × ℕ) × (MarkView × QueueView)). HasGrown (outside_of c.args.lists.now)
-    (view_of c.args.seat.now) (view c.args.pass.now) x.0 x.1.0 x.1.1)
-    (λ k. (sym n.3 k, (sym n.4 k, sym n.5 k))) c.loop.invariant.8
+    let empty : tries_of c.turn.new.lists ≡ [] = ap (λ (s : CallerState). s.tries) n.same ∙ n.no_tries in
+    subst (λ (tries : List (ℕ × ℕ)). Accounts (g.H.Graph.edge c.args.heap.now) (g.H.Graph.marking c.args.heap.now)
+    g.L.PlaceList.places firsts [] [] tries (outside_of c.turn.new.lists) (view_of c.turn.new.seat)
+    (view c.turn.new.pass)) empty (c.turn.ensures.turned.accounts firsts b)

@@ -12,8 +12,8 @@ invariant-loop g l = IsSeatOf l.marks l.seat × ((view_of l.seat).parts ≡ (vie
     × IsPassOf l.ring l.pass × ((view l.pass).parts ≡ whole) × AreAsLarge l.fn.lists l.lists
     × TakenWasPut (view l.pass) × (won_of l.lists ≡ (view_of l.seat).won)
     × ((firsts : List (ℕ × ℕ)) → Accounts (g.H.Graph.edge l.heap) (g.H.Graph.marking l.heap) g.L.PlaceList.places
-    firsts [] (tries_of l.fn.lists) (outside_of l.fn.lists) (view_of l.fn.seat) (view l.fn.pass)
-    → Accounts (g.H.Graph.edge l.heap) (g.H.Graph.marking l.heap) g.L.PlaceList.places firsts [] (tries_of l.lists)
+    firsts [] [] (tries_of l.fn.lists) (outside_of l.fn.lists) (view_of l.fn.seat) (view l.fn.pass)
+    → Accounts (g.H.Graph.edge l.heap) (g.H.Graph.marking l.heap) g.L.PlaceList.places firsts [] [] (tries_of l.lists)
     (outside_of l.lists) (view_of l.seat) (view l.pass))
     × HasGrown (outside_of l.fn.lists) (view_of l.fn.seat) (view l.fn.pass) (outside_of l.lists) (view_of l.seat)
     (view l.pass)

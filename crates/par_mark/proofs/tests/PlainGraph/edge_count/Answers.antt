@@ -1,4 +1,4 @@
-use Rattle.std.proofs.Common.{rules, arith}
+use Rattle.std.proofs.Common.{arith}
 use Rattle.par_mark.proofs.tests.PlainGraph.edge_count.Goals as goal
 
 pub returns-clause-past : goal.returns-clause-past

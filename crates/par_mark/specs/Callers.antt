@@ -4,11 +4,11 @@ use Rattle.crossbeam_queue.specs.Passes.{view}
 use Rattle.mark_words.specs.Sums.{weigh, times}
 use Rattle.mark_words.specs.Rule.{bit_of}
 use Rattle.mark_words.specs.Steps.{KnowsAll}
-use Rattle.par_mark.specs.Edges.{out}
+use Rattle.marker.specs.Edges.{out}
 use Rattle.mark_words.specs.Seats.{view_of}
 use Rattle.mark_words.specs.Views.{new_log}
 use Rattle.mark_words.specs.declared.view.MarkLog.{MarkLog}
-use Rattle.par_mark.specs.declared.marker.Marker.{Marker}
+use Rattle.par_mark.specs.declared.caller.Caller.{Caller}
 use Rattle.par_mark.specs.Accounts.{Accounts, HasRoom}
 use Rattle.par_mark.specs.Lists.{AreAsLarge, tries_of, tries_room, won_of, outside_of}
 use Rattle.mark_words.specs.declared.view.MarkView.{MarkView}
@@ -26,8 +26,8 @@ abbrev pub own_moves : QueueView → Moves
 own_moves d = record { given = d.put; taken = d.taken }
 
 module _ (edge : ℕ × ℕ → ℕ → Option (ℕ × ℕ)) (marking : ℕ × ℕ → Bool) (P : ℕ × ℕ → Type 0) where
-  -- it has done nothing yet, and has room for this number of turns
-  pub record IsReady (turns : ℕ) (m : Marker) : Type 0 where
+  -- it has done nothing yet, and has room for this number of tries
+  pub record IsReady (most : ℕ) (m : Caller) : Type 0 where
     pub parts : 0 < (view_of m.seat).parts
     pub queue_parts : 0 < (view m.pass).parts
     pub no_won : (view_of m.seat).won ≡ []
@@ -40,12 +40,12 @@ module _ (edge : ℕ × ℕ → ℕ → Option (ℕ × ℕ)) (marking : ℕ × �
     pub outside_empty : outside_of m.lists ≡ []
     pub listed : All P (tries_of m.lists)
     pub room : HasRoom edge marking P (weigh (λ _. 1) (tries_of m.lists)) (tries_room m.lists)
-    pub won_room : turns ≤ vec_capacity m.lists.won
-    pub outside_room : turns ≤ vec_capacity m.lists.outside
+    pub won_room : most ≤ vec_capacity m.lists.won
+    pub outside_room : most ≤ vec_capacity m.lists.outside
 
-  -- it has made turns, and accounts for all that it began with
-  pub record HasRun (m m' : Marker) : Type 0 where
-    pub accounts : Accounts edge marking P (tries_of m.lists) [] (tries_of m'.lists) (outside_of m'.lists)
+  -- it has made tries, and accounts for all that it began with
+  pub record HasRun (m m' : Caller) : Type 0 where
+    pub accounts : Accounts edge marking P (tries_of m.lists) [] [] (tries_of m'.lists) (outside_of m'.lists)
         (view_of m'.seat) (view m'.pass)
     pub logs_are : (view_of m'.seat).logs ≡ own_log (view_of m'.seat) ∷ []
     pub moves_are : (view m'.pass).moves ≡ own_moves (view m'.pass) ∷ []
@@ -57,7 +57,7 @@ module _ (edge : ℕ × ℕ → ℕ → Option (ℕ × ℕ)) (marking : ℕ × �
   -- main's account after both callers have ended, and room for all that may come
   pub record IsOpen (lists : Lists) (v : MarkView) (d : QueueView) : Type 0 where
     pub firsts : List (ℕ × ℕ)
-    pub accounts : Accounts edge marking P firsts [] (tries_of lists) (outside_of lists) v d
+    pub accounts : Accounts edge marking P firsts [] [] (tries_of lists) (outside_of lists) v d
     pub taken_put : TakenWasPut d
     pub won_is : won_of lists ≡ v.won
     pub most : ℕ

@@ -5,7 +5,7 @@ use mark_words::Seat;
 
 /// What one of the two callers marks with.
 #[derive(Drop)]
-pub(crate) struct Marker {
+pub(crate) struct Caller {
     pub(crate) seat: Seat,
     pub(crate) pass: QueuePass,
     pub(crate) lists: Lists,

@@ -1,8 +1,8 @@
 use Rattle.std.proofs.Common.{rules, ◌≡◌, ℕ, List, [], ◌∷◌, ◌++◌, Option, sym, ap, ◌∙◌}
-use Rattle.par_mark.specs.Edges.{first_targets}
+use Rattle.marker.specs.Edges.{first_targets}
 use Rattle.par_mark.proofs.Scanning.{all_fields, one_more, none_more, nothing}
-use Rattle.par_mark.proofs.turns.scan.Goals as goal
-use Rattle.par_mark.proofs.turns.scan.Goals.{in-Some, in_default}
+use Rattle.par_mark.proofs.scans.scan.Goals as goal
+use Rattle.par_mark.proofs.scans.scan.Goals.{in-Some, in_default}
 
 pub loop-i-preserved : goal.loop-i-preserved
 loop-i-preserved g c =

@@ -1,7 +1,7 @@
 use Rattle.std.proofs.Common.{◌≡◌, ◌++◌}
 use Rattle.std.specs.VecDeque.{deque_capacity}
-use Rattle.par_mark.specs.Edges.{first_targets}
-use Rattle.par_mark.proofs.turns.scan.Given as goal
+use Rattle.marker.specs.Edges.{first_targets}
+use Rattle.par_mark.proofs.scans.scan.Given as goal
 
 abbrev pub invariant-loop-i : goal.invariant-loop-i
 invariant-loop-i g l = (l.tries.items ≡ l.fn.tries.items ++ first_targets (g.H.Graph.edge l.heap l.place) l.i)

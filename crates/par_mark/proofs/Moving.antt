@@ -1,0 +1,170 @@
+-- What tries add up to.
+use Rattle.std.proofs.Common.{◌≡◌, ℕ, ◌+◌, ◌-◌, ◌≤◌, Bool, List, [], ◌∷◌, ◌++◌, length, sym, refl, ap, ◌∙◌, subst}
+use Rattle.std.proofs.Common.{arith, append_assoc, append-nil, length-append, take, drop}
+use Rattle.std.proofs.Math.Seq.{drop-append_seam}
+use Rattle.std.proofs.lemmas.List.{take_all}
+use Rattle.mark_words.specs.declared.view.MarkView.{MarkView}
+use Rattle.mark_words.specs.Sums.{weigh}
+use Rattle.mark_words.proofs.Counts.{weigh-append}
+use Rattle.par_mark.specs.declared.donations.QueueView.{QueueView}
+use Rattle.par_mark.specs.States.{CallerState}
+use Rattle.par_mark.specs.Tries.{AreMade, IsTaken, own, queued, HasMoved, TakenWasPut}
+use Rattle.par_mark.specs.Tries.{done}
+use Rattle.par_mark.proofs.Growing.{grown_none, grown_more, logs_none, moves_none}
+use Rattle.par_mark.proofs.Scanning.{weigh-one}
+
+pub moved_none : (s : CallerState) → HasMoved 0 [] s s
+moved_none s = record {
+  grown = grown_none s.outside s.seat s.pass;
+  grown_won = refl;
+  won_is = sym (append-nil s.won);
+  count = omega arith;
+  first_is = refl;
+  parts_is = refl;
+  queue_parts = refl;
+  whole_taken = λ _ t. t;
+}
+
+pub moved_more : (n m k : ℕ) (xs ys : List (ℕ × ℕ)) (a b c : CallerState) → n + m ≡ k → HasMoved n xs a b
+    → HasMoved m ys b c → HasMoved k (xs ++ ys) a c
+moved_more n m k xs ys a b c e x y = record {
+  grown = grown_more a.outside b.outside c.outside a.seat b.seat c.seat a.pass b.pass c.pass x.grown y.grown;
+  grown_won = (λ i. x.grown_won i ++ y.grown_won i);
+  won_is = y.won_is ∙ ap (λ (l : List (ℕ × ℕ)). l ++ ys) x.won_is ∙ append_assoc a.won xs ys;
+  count = (let p = x.count in let q = y.count in let t = weigh-append (λ _. 1) x.grown.tried y.grown.tried in
+      let o = weigh-append (λ _. 1) x.grown.beyond y.grown.beyond in omega arith);
+  first_is = y.first_is ∙ x.first_is;
+  parts_is = y.parts_is ∙ x.parts_is;
+  queue_parts = y.queue_parts ∙ x.queue_parts;
+  whole_taken = λ all t. y.whole_taken (x.queue_parts ∙ all) (x.whole_taken all t);
+}
+
+-- the state in which a try was taken
+abbrev pub with_taken : CallerState → List (ℕ × ℕ) → QueueView → CallerState
+with_taken s tries d = record s { tries = tries; pass = d }
+
+pub taken_moved : (P : ℕ × ℕ → Type 0) (s : CallerState) (tries : List (ℕ × ℕ)) (d : QueueView) (p : ℕ × ℕ)
+    → IsTaken P p s.tries s.pass tries d → HasMoved 0 [] s (with_taken s tries d)
+taken_moved P s tries d p (own e f) = subst (λ (x : QueueView). HasMoved 0 [] s (with_taken s tries x)) (sym f) record {
+  grown = grown_none s.outside s.seat s.pass;
+  grown_won = refl;
+  won_is = sym (append-nil s.won);
+  count = omega arith;
+  first_is = refl;
+  parts_is = refl;
+  queue_parts = refl;
+  whole_taken = λ _ t. t;
+}
+taken_moved P s tries d p (queued e f t) = record {
+  grown = record {
+    won = [];
+    tried = [];
+    taken = p ∷ [];
+    beyond = [];
+    won_is = sym (append-nil s.seat.won);
+    tried_is = sym (append-nil s.seat.known);
+    taken_is = ap (λ (x : QueueView). x.taken) t.0;
+    beyond_is = sym (append-nil s.outside);
+    put_is = ap (λ (x : QueueView). x.put) t.0;
+    logs_are = logs_none s.seat.logs;
+    moves_are = ap (λ (x : QueueView). x.moves) t.0;
+    won_tried = λ h. omega arith;
+  };
+  grown_won = refl;
+  won_is = sym (append-nil s.won);
+  count = omega arith;
+  first_is = refl;
+  parts_is = refl;
+  queue_parts = ap (λ (x : QueueView). x.parts) t.0;
+  whole_taken = λ all _. t.2 all;
+}
+
+-- tries were made in one step
+pub made_moved : (marking : ℕ × ℕ → Bool) (s s' : CallerState) (made : ℕ) (p : ℕ × ℕ)
+    → (m : AreMade marking made p s s') → HasMoved made m.won s s'
+made_moved marking s s' made p m = record {
+  grown = record {
+    won = m.won;
+    tried = m.tried;
+    taken = [];
+    beyond = [];
+    won_is = ap (λ (x : MarkView). x.won) m.wins.view_is;
+    tried_is = ap (λ (x : MarkView). x.known) m.wins.view_is;
+    taken_is = ap (λ (x : QueueView). x.taken) m.pass_is ∙ sym (append-nil s.pass.taken);
+    beyond_is = m.outside_is ∙ sym (append-nil s.outside);
+    put_is = ap (λ (x : QueueView). x.put) m.pass_is;
+    logs_are = ap (λ (x : MarkView). x.logs) m.wins.view_is;
+    moves_are = ap (λ (x : QueueView). x.moves) m.pass_is ∙ moves_none s.pass.moves;
+    won_tried = m.won_tried;
+  };
+  grown_won = refl;
+  won_is = m.won_is;
+  count = (let l = weigh-one m.tried in let c = m.count in omega arith);
+  first_is = ap (λ (x : MarkView). x.first) m.wins.view_is;
+  parts_is = ap (λ (x : MarkView). x.parts) m.wins.view_is;
+  queue_parts = ap (λ (x : QueueView). x.parts) m.pass_is;
+  whole_taken = λ _ t. subst TakenWasPut (sym m.pass_is) t;
+}
+
+-- one was found outside the marking zones
+pub beyond_moved : (s : CallerState) (p : ℕ × ℕ) → HasMoved 1 [] s (record s { outside = s.outside ++ p ∷ [] })
+beyond_moved s p = record {
+  grown = record {
+    won = [];
+    tried = [];
+    taken = [];
+    beyond = p ∷ [];
+    won_is = sym (append-nil s.seat.won);
+    tried_is = sym (append-nil s.seat.known);
+    taken_is = sym (append-nil s.pass.taken);
+    beyond_is = refl;
+    put_is = refl;
+    logs_are = logs_none s.seat.logs;
+    moves_are = moves_none s.pass.moves;
+    won_tried = λ h. omega arith;
+  };
+  grown_won = refl;
+  won_is = sym (append-nil s.won);
+  count = omega arith;
+  first_is = refl;
+  parts_is = refl;
+  queue_parts = refl;
+  whole_taken = λ _ t. t;
+}
+
+-- the lists grow by no more than the number of tries
+pub within_made : (n : ℕ) (won : List (ℕ × ℕ)) (s s' : CallerState) → HasMoved n won s s'
+    → (length s'.won ≤ length s.won + n) × (length s'.outside ≤ length s.outside + n)
+within_made n won s s' m =
+    let w = ap length m.won_is in
+    let a = length-append s.won won in
+    let x = weigh-one won in
+    let y : weigh (λ _. 1) m.grown.won ≡ weigh (λ _. 1) won = ap (weigh (λ _. 1)) m.grown_won in
+    let t = m.grown.won_tried (λ _. 1) in
+    let c = m.count in
+    let o = ap length m.grown.beyond_is in
+    let b = length-append s.outside m.grown.beyond in
+    let z = weigh-one m.grown.beyond in ((omega arith), (omega arith))
+
+-- as much was done as tries were made
+pub done_made : (n : ℕ) (won : List (ℕ × ℕ)) (s s' : CallerState) → HasMoved n won s s'
+    → done s'.seat s'.outside ≡ done s.seat s.outside + n
+done_made n won s s' m =
+    let k : weigh (λ _. 1) s'.seat.known ≡ weigh (λ _. 1) s.seat.known + weigh (λ _. 1) m.grown.tried =
+    ap (weigh (λ _. 1)) m.grown.tried_is ∙ weigh-append (λ _. 1) s.seat.known m.grown.tried in
+    let o : weigh (λ _. 1) s'.outside ≡ weigh (λ _. 1) s.outside + weigh (λ _. 1) m.grown.beyond =
+    ap (weigh (λ _. 1)) m.grown.beyond_is ∙ weigh-append (λ _. 1) s.outside m.grown.beyond in
+    let c = m.count in omega arith
+
+-- what stands behind a list
+pub behind : (ws xs ws' : List (ℕ × ℕ)) (k : ℕ) → ws' ≡ ws ++ xs → k ≡ length ws
+    → take (length ws' - k) (drop k ws') ≡ xs
+behind ws xs ws' k e f = subst (λ (l : List (ℕ × ℕ)). take (length l - k) (drop k l) ≡ xs) (sym e)
+    (let d : drop k (ws ++ xs) ≡ xs = ap (λ (n : ℕ). drop n (ws ++ xs)) f ∙ drop-append_seam ws xs in
+    ap (take (length (ws ++ xs) - k)) d ∙ take_all (length (ws ++ xs) - k) xs
+    (let a = length-append ws xs in omega arith))
+
+-- the list of cells that were won goes on to be what the seat has won
+pub still_won : (n : ℕ) (won : List (ℕ × ℕ)) (s s' : CallerState) → HasMoved n won s s' → s.won ≡ s.seat.won
+    → s'.won ≡ s'.seat.won
+still_won n won s s' m is = m.won_is ∙ (λ i. is i ++ sym m.grown_won i) ∙ sym m.grown.won_is
