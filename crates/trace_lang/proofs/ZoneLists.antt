@@ -1,11 +1,14 @@
 -- The zones of a word in order.
-use Rattle.std.proofs.Common.{◌≡◌, ◌≢◌, ℕ, ◌+◌, ◌-◌, ◌^◌, ◌<◌, ◌≤◌, ◌⊎◌, ◌↔◌, inl, inr, zero, suc, List, [], ◌∷◌, ◌++◌}
+use Rattle.std.proofs.Common.{◌≡◌, ◌≢◌, ℕ, ◌+◌, ◌-◌, ◌/◌, ◌%◌, ◌^◌, ◌<◌, ◌≤◌, ◌⊎◌, ◌↔◌, inl, inr}
+use Rattle.std.proofs.Common.{zero, suc, List, [], ◌∷◌, ◌++◌}
 use Rattle.std.proofs.Common.{refl, ap, sym, subst, append_assoc, ◌∙◌, arith, Bool, true, false, if◌then◌else◌}
 use Rattle.std.specs.Prelude.{◌==◌}
 use Rattle.std.specs.Int.{bit_at}
 use Rattle.std.proofs.lemmas.Bool.{eqb-true, eqb-false, cases_lt}
 use Rattle.std.proofs.lemmas.List.{append-nil}
-use Rattle.std.proofs.lemmas.Nat.Bits.{bit_at-lt, same_from_bits_below}
+use Rattle.std.proofs.lemmas.Nat.{shr-shr}
+use Rattle.std.proofs.lemmas.Nat.Bits.{bit_at-lt, bit_at_above, same_from_bits_below}
+use Rattle.gz_names.proofs.Words.{HasZone-below}
 use Rattle.gz_names.specs.Zones.{HasZone, zones_from}
 use Rattle.trace_lang.specs.Words.{IsBreak, number_word, number_words}
 
@@ -173,19 +176,47 @@ pub number_words-break : (xs : List ℕ) → IsBreak (number_words xs)
 number_words-break [] = tt
 number_words-break (x ∷ xs) = refl
 
-pub one_zone-has : (w z : ℕ) → HasZone w z → number_words (zones_from w z 1) ≡ number_word z
-one_zone-has w z h =
-    ap number_words (zones_from-has w z 0 h ∙ ap (λ t. z ∷ t) (zones_from-nil w (z + 1))) ∙ append-nil (number_word z)
+-- the zones below a place, none for a while, and one that is there
+pub zones_below-next : (w from z : ℕ) → from ≤ z → HasZone w z → ((y : ℕ) → from ≤ y → y < z → HasZone w y → ⊥)
+    → number_words (zones_from w 0 (z + 1)) ≡ number_words (zones_from w 0 from) ++ number_word z
+zones_below-next w from z le h none =
+    let below = HasZone-below w z h in
+    let gap : zones_from w from (z - from) ≡ [] =
+    zones_from-none w from (z - from) (omega arith) (λ y ge lt. none y ge (omega arith)) in
+    let front : zones_from w 0 z ≡ zones_from w 0 from =
+    zones_from-split w 0 from (z - from) z from (omega arith) (omega arith) (omega arith)
+    ∙ ap (λ t. zones_from w 0 from ++ t) gap ∙ append-nil (zones_from w 0 from) in
+    let one : zones_from w z 1 ≡ z ∷ [] = zones_from-has w z 0 h ∙ ap (λ t. z ∷ t) (zones_from-nil w (z + 1)) in
+    ap number_words (zones_from-split w 0 z 1 (z + 1) z refl (omega arith) (omega arith)
+    ∙ ap (λ t. t ++ zones_from w z 1) front ∙ ap (λ t. zones_from w 0 from ++ t) one)
+    ∙ number_words-append (zones_from w 0 from) (z ∷ [])
+    ∙ ap (λ t. number_words (zones_from w 0 from) ++ t) (append-nil (number_word z))
 
-pub one_zone-lacks : (w z : ℕ) → z < 64 → (HasZone w z → ⊥) → number_words (zones_from w z 1) ≡ []
-one_zone-lacks w z l h = ap number_words (zones_from-lacks w z 0 l h ∙ zones_from-nil w (z + 1))
+-- where there are none from a place on, the zones are those below it
+pub zones_below-all : (w from : ℕ) → from ≤ 64 → ((y : ℕ) → from ≤ y → HasZone w y → ⊥)
+    → zones_from w 0 from ≡ zones_from w 0 64
+zones_below-all w from le none =
+    let rest : zones_from w from (64 - from) ≡ [] =
+    zones_from-none w from (64 - from) (omega arith) (λ y ge lt. none y ge) in
+    sym (zones_from-split w 0 from (64 - from) 64 from (omega arith) (omega arith) (omega arith)
+    ∙ ap (λ t. zones_from w 0 from ++ t) rest ∙ append-nil (zones_from w 0 from))
 
--- the zones below a place, and whether that one is there
-pub zones_below-more : (w z : ℕ) → z < 64
-    → number_words (zones_from w 0 (z + 1)) ≡ number_words (zones_from w 0 z) ++ number_words (zones_from w z 1)
-zones_below-more w z l =
-    ap number_words (zones_from-split w 0 z 1 (z + 1) z refl (omega arith) (omega arith))
-    ∙ number_words-append (zones_from w 0 z) (zones_from w z 1)
+shifted : (w a k : ℕ) → bit_at (w / 2 ^ a) k ≡ bit_at w (a + k)
+shifted w a k = ap (λ v. v % 2) (shr-shr w a k)
+
+-- the zones of a word that was shifted down are those from a place on
+pub zone_from-shifted : (w a k : ℕ) → w < 2 ^ 64 → HasZone (w / 2 ^ a) k → HasZone w (a + k)
+unfolding HasZone
+zone_from-shifted w a k fits h =
+    let one : bit_at w (a + k) ≡ 1 = sym (shifted w a k) ∙ h.1 in
+    elim (cases_lt (a + k) 64) [
+      | inl l ↦ (l, one)
+      | inr g ↦ absurd (let none : bit_at w (a + k) ≡ 0 = bit_at_above w 64 (a + k) fits g in omega arith)
+    ]
+
+pub zone_shifted : (w a z : ℕ) → a ≤ z → HasZone w z → HasZone (w / 2 ^ a) (z - a)
+unfolding HasZone
+zone_shifted w a z le h = (omega (arith, h.0), shifted w a (z - a) ∙ ap (bit_at w) (omega arith) ∙ h.1)
 
 -- the next zone is added
 pub listed_more : (text : List ℕ) (word next zone new : ℕ) (rest others : List ℕ) → Listed text word next rest

@@ -9,10 +9,13 @@ ghost use Rattle.trace_lang.specs.declared.words.Word.{Word};
 ghost use Rattle.trace_lang.specs.Words.{word_text, number_word, IsBreak, IsWord};
 ghost use Rattle.trace_lang.specs.Grammar.{Spells, SpellsRest, SpellsZones};
 
-use crate::arguments::{one, three, two};
+use crate::arguments::{one, two};
 use crate::fronts::{begins_spaced, begins_with};
 use crate::numbers::spaced_number;
-use crate::rows::{CopyRow, DropRow, GetRow, NewRow, Row, SetRow};
+use crate::rows::{
+    CopyRow, DropRow, ExposeRow, FindRow, GetRow, HoldRow, MapRow, NewRow, PutRow, Row, SetRow,
+    SliceRow, UnwrapRow, WrapRow,
+};
 use crate::words::{Word, word_of};
 use crate::zone_bits::with_zone;
 use gz_names::{Cmd, GraphCmd, WeakCmd, ZoneSet};
@@ -103,45 +106,24 @@ fn command(word: Word, rest: &[u8]) -> Option<Cmd>
         Word::Zone => no_more(rest, Cmd::Graph(GraphCmd::Zone)),
         Word::Comp => Some(Cmd::Graph(GraphCmd::Comp(one(rest)?))),
         Word::New => NewRow::read(rest),
-        Word::Map => {
-            let (r, c) = two(rest)?;
-            Some(Cmd::Graph(GraphCmd::Map(r, c)))
-        }
+        Word::Map => MapRow::read(rest),
         Word::Get => GetRow::read(rest),
         Word::Set => SetRow::read(rest),
-        Word::Wrap => {
-            let (r, s, c) = three(rest)?;
-            Some(Cmd::Graph(GraphCmd::Wrap(r, s, c)))
-        }
-        Word::Unwrap => {
-            let (r, s) = two(rest)?;
-            Some(Cmd::Graph(GraphCmd::Unwrap(r, s)))
-        }
+        Word::Wrap => WrapRow::read(rest),
+        Word::Unwrap => UnwrapRow::read(rest),
         Word::Copy => CopyRow::read(rest),
         Word::Drop => DropRow::read(rest),
-        Word::Hold => {
-            let (g, r) = two(rest)?;
-            Some(Cmd::Graph(GraphCmd::Hold(g, r)))
-        }
+        Word::Hold => HoldRow::read(rest),
         Word::Release => Some(Cmd::Graph(GraphCmd::Release(one(rest)?))),
-        Word::Expose => {
-            let (r, g) = two(rest)?;
-            Some(Cmd::Graph(GraphCmd::Expose(r, g)))
-        }
-        Word::Put => {
-            let (m, k, v) = three(rest)?;
-            Some(Cmd::Graph(GraphCmd::Put(m, k, v)))
-        }
+        Word::Expose => ExposeRow::read(rest),
+        Word::Put => PutRow::read(rest),
         Word::Del => {
             let (m, k) = two(rest)?;
             Some(Cmd::Graph(GraphCmd::Del(m, k)))
         }
-        Word::Find => {
-            let (r, m, k) = three(rest)?;
-            Some(Cmd::Graph(GraphCmd::Find(r, m, k)))
-        }
+        Word::Find => FindRow::read(rest),
         Word::Gc => Some(Cmd::Gc(zone_list(rest)?)),
-        Word::Slice => Some(Cmd::Slice(one(rest)?)),
+        Word::Slice => SliceRow::read(rest),
         Word::Finish => no_more(rest, Cmd::Finish),
         Word::Collect => Some(Cmd::Collect(zone_list(rest)?)),
         Word::Colours => no_more(rest, Cmd::Colours),
@@ -161,45 +143,13 @@ fn command(word: Word, rest: &[u8]) -> Option<Cmd>
     }
 }
 
-// This word, of this number of bytes, with which the line begins, and the rest.
-#[inline(always)]
-fn word_at(word: Word, line: &[u8], len: usize) -> (Word, &[u8])
-    requires front { StartsWith line.now (word_text word ++ codes " ") }
-    requires len { len ≡ length (word_text word) }
-    ensures parts { line.now ≡ word_text result.0 ++ result.1.now }
-    ensures exact { (w : Word) (rest : List ℕ) → IsBreak rest → line.now ≡ word_text w ++ rest
-        → (result.0 ≡ w) × (result.1.now ≡ rest) }
-{
-    (word, &line[len..])
-}
-
-// Returns what `first_word` would, in a few steps for eight frequent words.
-#[inline(always)]
-fn front_word(line: &[u8]) -> Option<(Word, &[u8])>
-    ensures some { IfSome result (λ p. line.now ≡ word_text p.0 ++ p.1.now) }
-    ensures exact { (w : Word) (rest : List ℕ) → IsBreak rest → line.now ≡ word_text w ++ rest
-        → MatchOption result ⊥ (λ p. (p.0 ≡ w) × (p.1.now ≡ rest)) }
-{
-    match line {
-        [b'm', b'a', b'p', b' ', ..] => Some(word_at(Word::Map, line, 3)),
-        [b'p', b'u', b't', b' ', ..] => Some(word_at(Word::Put, line, 3)),
-        [b'w', b'r', b'a', b'p', b' ', ..] => Some(word_at(Word::Wrap, line, 4)),
-        [b'h', b'o', b'l', b'd', b' ', ..] => Some(word_at(Word::Hold, line, 4)),
-        [b'f', b'i', b'n', b'd', b' ', ..] => Some(word_at(Word::Find, line, 4)),
-        [b's', b'l', b'i', b'c', b'e', b' ', ..] => Some(word_at(Word::Slice, line, 5)),
-        [b'u', b'n', b'w', b'r', b'a', b'p', b' ', ..] => Some(word_at(Word::Unwrap, line, 6)),
-        [b'e', b'x', b'p', b'o', b's', b'e', b' ', ..] => Some(word_at(Word::Expose, line, 6)),
-        _ => first_word(line),
-    }
-}
-
 // The command that a line stands for, whatever its first word is.
 #[inline(never)]
-fn any_command(line: &[u8]) -> Option<Cmd>
+fn rare_command(line: &[u8]) -> Option<Cmd>
     ensures some { IfSome result (Spells line.now) }
     ensures exact { (c : Cmd) → Spells line.now c → result ≡ Some c }
 {
-    let (word, rest) = front_word(line)?;
+    let (word, rest) = first_word(line)?;
     command(word, rest)
 }
 
@@ -212,6 +162,25 @@ fn command_after<R: Row>(line: &[u8], len: usize) -> Option<Cmd>
     ensures exact { (c : Cmd) → Spells line.now c → result ≡ Some c }
 {
     R::read(&line[len..])
+}
+
+// Returns what `rare_command` would, in a few steps for eight frequent words.
+#[inline(never)]
+fn any_command(line: &[u8]) -> Option<Cmd>
+    ensures some { IfSome result (Spells line.now) }
+    ensures exact { (c : Cmd) → Spells line.now c → result ≡ Some c }
+{
+    match line {
+        [b'm', b'a', b'p', b' ', ..] => command_after::<MapRow>(line, 3),
+        [b'p', b'u', b't', b' ', ..] => command_after::<PutRow>(line, 3),
+        [b'w', b'r', b'a', b'p', b' ', ..] => command_after::<WrapRow>(line, 4),
+        [b'h', b'o', b'l', b'd', b' ', ..] => command_after::<HoldRow>(line, 4),
+        [b'f', b'i', b'n', b'd', b' ', ..] => command_after::<FindRow>(line, 4),
+        [b's', b'l', b'i', b'c', b'e', b' ', ..] => command_after::<SliceRow>(line, 5),
+        [b'u', b'n', b'w', b'r', b'a', b'p', b' ', ..] => command_after::<UnwrapRow>(line, 6),
+        [b'e', b'x', b'p', b'o', b's', b'e', b' ', ..] => command_after::<ExposeRow>(line, 6),
+        _ => rare_command(line),
+    }
 }
 
 // Returns what `any_command` would, in a few steps for the words that most lines begin with.

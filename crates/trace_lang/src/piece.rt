@@ -1,12 +1,12 @@
 // A piece of a line that may be long.
 ghost use Rattle.std.specs.Prelude.{◌≡◌, ◌≤◌, ◌<◌, ◌+◌, ◌++◌, ◌∷◌, ℕ, [], length};
 ghost use Rattle.std.specs.Fmt.{decimal};
-ghost use Rattle.gz_names.specs.Zones.{zones_in, zones_from};
+ghost use Rattle.gz_names.specs.Zones.{zones_in};
 ghost use Rattle.trace_lang.specs.Words.{number_word, number_words};
 ghost use Rattle.gz_names.specs.DumpTexts.{dump_text};
 ghost use Rattle.trace_lang.specs.Texts.{name_text, bar_text, break_text};
 
-use crate::zone_bits::has_zone;
+use crate::zone_bits::next_zone;
 use gz_names::{DumpColour, DumpLine, Name, ZoneSet};
 use itoa::write_digits;
 use std::marker::Model;
@@ -151,20 +151,10 @@ impl Piece {
         ensures text { self.new ≡ self.old ++ number_words (zones_in zones) }
         ensures size { length self.new ≤ length self.old + 192 }
     {
-        for zone in 0..64u64 {
-            self.push_zone(zone, zones.bits);
-        }
-    }
-
-    // Adds a zone behind a space, if the word has it.
-    fn push_zone(&mut self, zone: u64, bits: u64)
-        requires small { zone < 64 }
-        requires room { length self.old ≤ 490 }
-        ensures text { self.new ≡ self.old ++ number_words (zones_from bits zone 1) }
-        ensures size { length self.new ≤ length self.old + 3 }
-    {
-        if has_zone(bits, zone) {
+        let mut from = 0u64;
+        while let Some(zone) = next_zone(zones.bits, from) {
             self.push_number(zone);
+            from = zone + 1;
         }
     }
 

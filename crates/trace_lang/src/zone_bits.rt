@@ -1,13 +1,22 @@
 // Single zones of the word of a set.
-ghost use Rattle.std.specs.Prelude.{◌≡◌, ◌<◌, ◌⊎◌, ◌↔◌, ℕ, IsTrue};
+ghost use Rattle.std.specs.Prelude.{◌≡◌, ◌<◌, ◌≤◌, ◌⊎◌, ◌↔◌, ℕ, IfNone, IfSome};
 ghost use Rattle.gz_names.specs.Zones.{HasZone};
 
-/// Whether a word has a zone.
-pub fn has_zone(bits: u64, zone: u64) -> bool
-    requires { zone < 64 }
-    ensures { IsTrue result ↔ HasZone bits zone }
+/// The lowest zone of a word from a number on.
+#[inline(always)]
+pub fn next_zone(bits: u64, from: u64) -> Option<u64>
+    ensures some { IfSome result (λ z. (from ≤ z) × HasZone bits z) }
+    ensures lowest { IfSome result (λ z. (y : ℕ) → from ≤ y → y < z → HasZone bits y → ⊥) }
+    ensures none { IfNone result ((y : ℕ) → from ≤ y → HasZone bits y → ⊥) }
 {
-    (bits >> zone) & 1 == 1
+    if from >= 64 {
+        return None;
+    }
+    let rest = bits >> from;
+    if rest == 0 {
+        return None;
+    }
+    Some(from + u64::from(rest.trailing_zeros()))
 }
 
 /// The zones of a word and one more.

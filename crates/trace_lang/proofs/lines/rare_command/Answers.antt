@@ -1,5 +1,5 @@
 use Rattle.trace_lang.proofs.Rests.{rest_break}
-use Rattle.trace_lang.proofs.lines.any_command.Goals as goal
+use Rattle.trace_lang.proofs.lines.rare_command.Goals as goal
 
 pub returns-in_err-word-clause-exact : goal.returns-in_err-word-clause-exact
 returns-in_err-word-clause-exact c = λ d s.
