@@ -98,7 +98,7 @@ exposed_is : (x : Option Name)
 exposed_is None = refl
 exposed_is (Some x) = refl
 
-abbrev wrapped_by : Bool → Bool → Bool → GraphState → ℕ → CompNo → ℕ → GraphState × Reply
+abbrev pub wrapped_by : Bool → Bool → Bool → GraphState → ℕ → CompNo → ℕ → GraphState × Reply
 wrapped_by made here known g r c t =
     cond made (cond here (with_register g r (Some (Cell t)), reply.Named (Cell t)) (
     cond known (with_register g r (Some (Wrap c t)), reply.Named (Wrap c t)) (

@@ -8,6 +8,11 @@ pub mod Parts
 pub mod Cells
 pub mod ZoneEdges
 pub mod Groups
+pub mod Counted
+pub mod Tallies
+pub mod FirstTally
+pub mod Spent
+pub mod LastLines
 pub mod Swept
 pub mod Owners
 pub mod Colours

@@ -15,6 +15,13 @@ no_fault (Ok None) f p = f p
 no_fault (Ok (Some k)) f p = tt
 no_fault (Err e) f p = tt
 
+-- where there is a fault, more is known
+pub a_fault : {K E A B : Type 0} (r : Result (Option K) E) → (A → B) → IfOk r (λ fault. IfSome fault (λ k. A))
+    → IfOk r (λ fault. IfSome fault (λ k. B))
+a_fault (Ok None) f p = tt
+a_fault (Ok (Some k)) f p = f p
+a_fault (Err e) f p = tt
+
 -- a clause that holds whatever the result
 pub on_ok_known : {X E P : Type 0} (r : Result X E) → P → OnOk r P
 on_ok_known (Ok x) p = p

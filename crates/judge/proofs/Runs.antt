@@ -39,7 +39,7 @@ pub some_due : (a : Awaited) → (a ≡ awaited.Nothing → ⊥) → due_as a �
 some_due awaited.Nothing n e = n refl
 some_due (awaited.Reply text) n e = let q : reply text.items ≡ nothing = e in cc q
 some_due (awaited.Dump lines next) n e = let q : dump (drop next lines.items) ≡ nothing = e in cc q
-some_due (awaited.Units running) n e = let q : units running.most running.collects ≡ nothing = e in cc q
+some_due (awaited.Units running) n e = let q : units running.most running.collects running.reports ≡ nothing = e in cc q
 some_due awaited.Reset n e = let q : resets ≡ nothing = e in cc q
 
 -- how a transcript ends, or goes wrong
@@ -53,7 +53,7 @@ pub cut_judged : (input rest : List ℕ) (n : ℕ) (a : Awaited) → HasJudged i
 cut_judged input rest n a j over some =
     (n, due_as a, subst (λ ys. HasJudged input n ys (due_as a)) over j, some_due a some)
 
-next_of : (input rest more line : List ℕ) (n : ℕ) (due : Due) → HasJudged input n rest due → IsOneLine line
+abbrev next_of : (input rest more line : List ℕ) (n : ℕ) (due : Due) → HasJudged input n rest due → IsOneLine line
     → EndsLine rest more line → IsNext input n due line
 next_of input rest more line n due j one e =
     record { rest = rest; more = more; before = j; one = one; ends = e }
@@ -63,7 +63,7 @@ pub bad_judged : (input rest more line : List ℕ) (n : ℕ) (due : Due) → Has
 bad_judged input rest more line n due j gives bad =
     (n, due, line, refl, next_of input rest more line n due j gives.0 gives.1, bad)
 
-pub wrong_judged : (input rest more line : List ℕ) (n : ℕ) (due : Due) → HasJudged input n rest due
-    → GivesLine rest more next.Line line → IsWrongLine due line → IsFirstWrong input (n + 1)
+pub wrong_judged : (input rest more line : List ℕ) (n : ℕ) (due : Due) (j : HasJudged input n rest due)
+    → GivesLine rest more next.Line line → IsWrongLine j.shows due line → IsFirstWrong input (n + 1)
 wrong_judged input rest more line n due j gives wrong =
     (n, due, line, refl, next_of input rest more line n due j gives.0 gives.1, wrong)

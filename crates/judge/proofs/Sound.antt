@@ -1,5 +1,6 @@
 -- What is shown stays sound, line by line.
-use Rattle.std.proofs.Common.{◌≡◌, ◌⊎◌, ◌∙◌, inl, inr, ℕ, List, [], ◌∷◌, ◌++◌, Option, Some, None, refl, sym, ap, subst}
+use Rattle.std.proofs.Common.{◌≡◌, ◌⊎◌, ◌∙◌, inl, inr, ℕ, Bool, true, false, List, [], ◌∷◌, ◌++◌, Option, Some, None}
+use Rattle.std.proofs.Common.{refl, sym, ap, subst}
 use Rattle.gz_names.specs.declared.names.Name.{Name}
 use Rattle.gz_names.specs.declared.zone_sets.ZoneSet.{ZoneSet}
 use Rattle.gz_names.specs.declared.commands.Cmd.{Cmd}
@@ -11,7 +12,8 @@ use Rattle.colour_defs.specs.Graph.{GraphState, empty_graph}
 use Rattle.colour_defs.specs.Step.{step_of}
 use Rattle.plain_graph.specs.Reach.{WalkState}
 use Rattle.judge.specs.Former.{IsFormer, Releases}
-use Rattle.judge.specs.Replies.{Asks, Begins, Due, IsAnswered, Steps, graph_after, dump, nothing, reply, resets, units}
+use Rattle.judge.specs.Replies.{Asks, Begins, Due, IsAnswered, IsLast, Steps, graph_after, dump, nothing, reply}
+use Rattle.judge.specs.Replies.{resets, units}
 use Rattle.judge.specs.Sound.{IsSound, IsWalked}
 use Rattle.judge.specs.Stages.{EndsGroup, Forms, HasGroups, IsFirst, IsReported, IsResetReport}
 use Rattle.judge.specs.Stages.{Obeys, Shown, Stage, Starts, Sweeps, WakesAny, collecting, idle, preparing}
@@ -212,14 +214,28 @@ sound_reset g report.Done old new f is = sound_idle g old new f.releases (ap (λ
 sound_reset g (report.Stopped zones) old new s is =
     sound_idle g old new s.releases (ap (λ (t : Shown). t.walks) s.new_is) is
 
+-- units are counted
+sound_last : (g : GraphState) (most : Option ℕ) (collects : Bool) (reports : ℕ) (old new : Shown) (line : List ℕ)
+    → IsLast most collects reports old line new → IsSound g old → IsSound g new
+sound_last g most true reports old new line (text, stage, same) is = sound_same g old new same is
+sound_last g most false reports old new line sliced is = subst (IsSound g) (sym sliced.spends.new_is)
+    (record {
+      former = is.former;
+      none_kept = is.none_kept;
+      none_yet = is.none_yet;
+      walks = λ w e left.
+          let f = is.walks w e left in record { kept = f.kept; black = f.black; live = f.live };
+    })
+
 sound_answered : (g : GraphState) (old new : Shown) (due next : Due) (line : List ℕ)
     → IsAnswered g old due line new next → IsSound g old → IsSound g new
 sound_answered g old new nothing next line a is = absurd a
 sound_answered g old new (reply text) next line (e, n, same) is = sound_same g old new same is
 sound_answered g old new (dump lines) next line (d, same) is = sound_same g old new same is
-sound_answered g old new (units most collects) next line (inl ((r, text, reported), n)) is =
+sound_answered g old new (units most collects reports) next line (inl ((r, text, reported), more, counts, n)) is =
     sound_reported g r old new reported is
-sound_answered g old new (units most collects) next line (inr (l, n, same)) is = sound_same g old new same is
+sound_answered g old new (units most collects reports) next line (inr (l, n)) is =
+    sound_last g most collects reports old new line l is
 sound_answered g old new resets next line ((r, text, reported), n) is = sound_reset g r old new reported is
 
 pub sound_steps : (g h : GraphState) (old new : Shown) (due next : Due) (line : List ℕ)

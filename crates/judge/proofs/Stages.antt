@@ -5,6 +5,7 @@ use Rattle.std.specs.Prelude.{reverse, slice_get, IfSome}
 use Rattle.std.proofs.lemmas.List.{reverse-append, reverse-reverse}
 use Rattle.std.proofs.lemmas.Option.{MatchOption-from_none}
 use Rattle.gz_names.specs.declared.zone_sets.ZoneSet.{ZoneSet}
+use Rattle.colour_defs.specs.Units.{Tally}
 use Rattle.judge.specs.Stages.{Shown, Stage, HasGroups, IsDue, IsDueOf, IsOver, collecting, preparing, stage_of}
 use Rattle.judge.specs.Walks.{Walks}
 use Rattle.judge.specs.declared.former.Former.{Former}
@@ -73,12 +74,14 @@ not_preparing (phase.Preparing q) zones n e = n q refl
 not_preparing (phase.Collecting k) zones n e = cc e
 
 -- marking has begun
-pub started_is : (old new : Shown) (f : Former) (zones : ZoneSet) (s : Stage) (w : Walks)
-    → new ≡ record old { stage = s; former = f; walks = Some w } → s ≡ collecting zones zones None
-    → new ≡ record old { stage = collecting zones zones None; former = new.former; walks = Some w }
-started_is old new f zones s w e stage = e
-    ∙ ap (λ (k : Stage). record old { stage = k; former = f; walks = Some w }) stage
-    ∙ ap (λ (h : Former). record old { stage = collecting zones zones None; former = h; walks = Some w })
+pub started_is : (old new : Shown) {f : Former} (zones : ZoneSet) (s : Stage) (w : Walks) {m n : Tally}
+    → new ≡ record old { stage = s; former = f; walks = Some w; tally = m } → s ≡ collecting zones zones None → m ≡ n
+    → new ≡ record old { stage = collecting zones zones None; former = new.former; walks = Some w; tally = n }
+started_is old new {f = f} zones s w {m = m} {n = n} e stage counted = e
+    ∙ ap (λ (k : Stage). record old { stage = k; former = f; walks = Some w; tally = m }) stage
+    ∙ ap (λ (t : Tally). record old { stage = collecting zones zones None; former = f; walks = Some w; tally = t })
+    counted
+    ∙ ap (λ (h : Former). record old { stage = collecting zones zones None; former = h; walks = Some w; tally = n })
     (sym (ap (λ (t : Shown). t.former) e))
 
 -- no groups are left where none is marking

@@ -6,6 +6,7 @@ pub mod Whites
 pub mod Arenas
 pub mod Starts
 pub mod Parts
+pub mod Bounds
 pub mod Edges
 pub mod Groups
 pub mod Stages

@@ -1,10 +1,10 @@
 -- What a verdict says: each line of the trace is one of the language; each command on the graph has the reply that the
 -- definitions give it; a collection begins, goes on, ends and is refused as they say; and each answer has its last
 -- line, behind the reports that its collection is due, in their order, with the cells that they name.
-use Rattle.std.specs.Prelude.{◌≡◌, ◌≢◌, ◌⊎◌, ℕ, ◌+◌, ◌<◌, ◌≤◌, Bool, true, false, List, [], ◌∷◌, drop, Option, Some}
-use Rattle.std.specs.Prelude.{None, Result, Ok, Err, Contains, codes, ⊤}
+use Rattle.std.specs.Prelude.{◌≡◌, ◌≢◌, ◌⊎◌, ℕ, ◌+◌, ◌^◌, ◌<◌, ◌≤◌, Bool, true, false, List, [], ◌∷◌, drop, Option}
+use Rattle.std.specs.Prelude.{Some, None, Result, Ok, Err, Contains, codes, ⊤}
 use Rattle.gz_io.specs.Lines.{EndsLine}
-use Rattle.gz_names.specs.Zones.{HasZone}
+use Rattle.gz_names.specs.Zones.{HasZone, zones_in}
 use Rattle.gz_names.specs.declared.zone_sets.ZoneSet.{ZoneSet}
 use Rattle.gz_names.specs.declared.names.Name.{Name}
 use Rattle.gz_names.specs.declared.commands.Cmd.{Cmd}
@@ -18,11 +18,12 @@ use Rattle.colour_defs.specs.Step.{step_of}
 use Rattle.trace_lang.specs.Grammar.{Spells}
 use Rattle.trace_lang.specs.Texts.{reply_text}
 use Rattle.colour_defs.specs.Ends.{Lists}
+use Rattle.judge.specs.Bounds.{arena_count, with_arenas}
 use Rattle.judge.specs.Cells.{HasCell}
 use Rattle.judge.specs.Dumps.{ListsDump}
 use Rattle.judge.specs.Lines.{IsOneLine}
 use Rattle.judge.specs.Stages.{Stage, idle, preparing, collecting, Shown, IsFirst, IsOver, IsSettled, IsReportedLine}
-use Rattle.judge.specs.Stages.{IsResetLine, Obeys}
+use Rattle.judge.specs.Stages.{IsResetLine, Obeys, Spends}
 use Rattle.judge.specs.declared.answers.Awaited.{Awaited}
 use Rattle.judge.specs.declared.answers.Awaited.TheVariants as awaited
 
@@ -35,12 +36,13 @@ abbrev pub IsUnmarked : List ℕ → Type 0
 IsUnmarked line = (text : List ℕ) → line ≡ marked text → ⊥
 
 -- what is due: nothing; this line; these lines of a dump; reports and a last line, with the most units that a
--- slice may have, and whether the line is that of `collect`; or the reports of a reset
+-- slice may have, whether the line is that of `collect`, and how many reports came before, but for `done`; or the
+-- reports of a reset
 pub data Due : Type 0 where
   nothing : Due
   reply : List ℕ → Due
   dump : List DumpLine → Due
-  units : Option ℕ → Bool → Due
+  units : Option ℕ → Bool → ℕ → Due
   resets : Due
 
 -- each of these zones is made
@@ -53,7 +55,7 @@ refused why = reply (reply_text (answer.Refused why))
 
 -- what is due where a collection begins, for `collect` or for `gc`
 abbrev pub begun_due : Bool → Due
-begun_due true = units None true
+begun_due true = units None true 0
 begun_due false = reply (reply_text answer.GcBegun)
 
 -- why a collection does not begin: one runs already; or one of the zones is not made
@@ -66,7 +68,11 @@ abbrev pub Begins : GraphState → ZoneSet → Due → Shown → Due → Shown �
 Begins g zones begun old due new =
     ((why : Refusal) × IsRefusal g zones old.stage why × (due ≡ refused why) × (new ≡ old))
     ⊎ ((old.stage ≡ idle) × AreMade g zones × (due ≡ begun)
-    × (new ≡ record old { stage = preparing zones; walks = None }))
+    × (new ≡ record old {
+      stage = preparing zones;
+      walks = None;
+      tally = with_arenas (arena_count (zones_in zones) old.owners);
+    }))
 
 -- what is due for `slice`, `finish` and `reset`: `idle` where no collection runs
 abbrev pub GoesOn : Due → Stage → Due → Type 0
@@ -104,8 +110,8 @@ abbrev pub Asks : GraphState → Shown → Cmd → Due → Shown → Type 0
 Asks g old (command.Graph c) due new =
     (due ≡ reply (reply_text (step_of g c).1)) × Obeys g c old new
 Asks g old (command.Gc zones) due new = Begins g zones (begun_due false) old due new
-Asks g old (command.Slice n) due new = GoesOn (units (Some n) false) old.stage due × (new ≡ old)
-Asks g old command.Finish due new = GoesOn (units None false) old.stage due × (new ≡ old)
+Asks g old (command.Slice n) due new = GoesOn (units (Some n) false 0) old.stage due × (new ≡ old)
+Asks g old command.Finish due new = GoesOn (units None false 0) old.stage due × (new ≡ old)
 Asks g old (command.Collect zones) due new = Begins g zones (begun_due true) old due new
 Asks g old command.Colours due new = ListsGray old due × (new ≡ old)
 Asks g old command.Dump due new = Dumps g old due × (new ≡ old)
@@ -131,12 +137,31 @@ abbrev pub IsWithin : Option ℕ → ℕ → Stage → Type 0
 IsWithin None k s = s ≡ idle
 IsWithin (Some n) k s = (k ≤ n) × (k < n → s ≡ idle)
 
--- the last line of an answer with units. That of `collect` comes once the collection is over; that of a slice not
--- between the last arena and `done`
-abbrev pub IsLast : Option ℕ → Bool → Shown → List ℕ → Type 0
-IsLast most true s line = (line ≡ codes "collected") × (s.stage ≡ idle)
-IsLast most false s line =
-    (k : ℕ) × (line ≡ reply_text (answer.Sliced k)) × (IsOver s → ⊥) × IsWithin most k s.stage
+-- the last line of a slice names a number of units that 64 bits hold: at least one for each report but `done`. It does
+-- not come between the last arena and `done`, and the units keep the bound
+pub record IsSliced (most : Option ℕ) (reports : ℕ) (old : Shown) (line : List ℕ) (new : Shown) : Type 0 where
+  pub number : ℕ
+  pub small : number < 2 ^ 64
+  pub line_is : line ≡ reply_text (answer.Sliced number)
+  pub enough : reports ≤ number
+  pub not_over : IsOver old → ⊥
+  pub within : IsWithin most number old.stage
+  pub spends : Spends old number new
+
+-- the last line of an answer with units. That of `collect` comes once the collection is over
+abbrev pub IsLast : Option ℕ → Bool → ℕ → Shown → List ℕ → Shown → Type 0
+IsLast most true reports old line new = (line ≡ codes "collected") × (old.stage ≡ idle) × (new ≡ old)
+IsLast most false reports old line new = IsSliced most reports old line new
+
+-- the texts that a last line may have
+abbrev pub HasLastText : Bool → List ℕ → Type 0
+HasLastText true line = line ≡ codes "collected"
+HasLastText false line = (k : ℕ) × (line ≡ reply_text (answer.Sliced k))
+
+-- how many reports came, but for `done`, with this one
+abbrev pub Counts : ℕ → List ℕ → ℕ → Type 0
+Counts reports line more =
+    ((line ≡ codes "done") × (more ≡ reports)) ⊎ ((line ≢ codes "done") × (more ≡ reports + 1))
 
 -- what is due after some lines of a dump
 abbrev pub dump_due : List DumpLine → Due
@@ -158,31 +183,32 @@ abbrev pub IsAnswered : GraphState → Shown → Due → List ℕ → Shown → 
 IsAnswered g old nothing line new next = ⊥
 IsAnswered g old (reply due) line new next = (line ≡ due) × (next ≡ nothing) × (new ≡ old)
 IsAnswered g old (dump lines) line new next = IsDumped lines line next × (new ≡ old)
-IsAnswered g old (units most collects) line new next =
-    (IsReportedLine g old line new × (next ≡ units most collects))
-    ⊎ (IsLast most collects old line × (next ≡ nothing) × (new ≡ old))
+IsAnswered g old (units most collects reports) line new next =
+    (IsReportedLine g old line new × (more : ℕ) × Counts reports line more × (next ≡ units most collects more))
+    ⊎ (IsLast most collects reports old line new × (next ≡ nothing))
 IsAnswered g old resets line new next = IsResetLine old line new × (next ≡ after_reset new.stage)
 
--- a line that may be wrong where this is due. Of the lines of collections nothing is said
-abbrev pub MayBeWrong : Due → List ℕ → Type 0
-MayBeWrong nothing line = ⊤
-MayBeWrong (reply due) line = line ≢ due
-MayBeWrong (dump lines) line = (next : Due) → IsDumped lines line next → ⊥
-MayBeWrong (units most collects) line = ⊤
-MayBeWrong resets line = ⊤
+-- a line that may be wrong where this is due: it is not the one that is due, and no last line that is right. Of reports
+-- nothing is said
+abbrev pub MayBeWrong : Shown → Due → List ℕ → Type 0
+MayBeWrong s nothing line = ⊤
+MayBeWrong s (reply due) line = line ≢ due
+MayBeWrong s (dump lines) line = (next : Due) → IsDumped lines line next → ⊥
+MayBeWrong s (units most collects reports) line = (new : Shown) → IsLast most collects reports s line new → ⊥
+MayBeWrong s resets line = ⊤
 
 -- what is due while this is awaited
 abbrev pub due_as : Awaited → Due
 due_as awaited.Nothing = nothing
 due_as (awaited.Reply text) = reply text.items
 due_as (awaited.Dump lines next) = dump (drop next lines.items)
-due_as (awaited.Units running) = units running.most running.collects
+due_as (awaited.Units running) = units running.most running.collects running.reports
 due_as awaited.Reset = resets
 
 -- what is said of a line of an answer: what is awaited after it, or that it is wrong
 abbrev pub IsJudgedLine : {K : Type 0} → GraphState → Shown → Due → List ℕ → Shown → Result Awaited K → Type 0
 IsJudgedLine g old due line new (Ok awaited) = IsAnswered g old due line new (due_as awaited)
-IsJudgedLine g old due line new (Err kind) = MayBeWrong due line
+IsJudgedLine g old due line new (Err kind) = MayBeWrong old due line
 
 -- n lines come first, the rest is left; the commands among them lead to this graph, each has behind it what is due for
 -- it; this is what the world shows then, and this is due

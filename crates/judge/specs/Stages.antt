@@ -1,5 +1,5 @@
 -- How far a collection is, by its zones, its groups and the arenas that are out; and what a report makes of it.
-use Rattle.std.specs.Prelude.{◌≡◌, ◌↔◌, ℕ, List, [], ◌∷◌, ◌++◌, false, reverse, slice_get, Option}
+use Rattle.std.specs.Prelude.{◌≡◌, ◌↔◌, ℕ, ◌+◌, List, [], ◌∷◌, ◌++◌, Bool, true, false, reverse, slice_get, Option}
 use Rattle.std.specs.Prelude.{Some, None, Vec, IsTrue, ◌⊎◌, ⊤}
 use Rattle.std.specs.BTreeMap as tree
 use Rattle.std.specs.declared.alloc.Global.{Global}
@@ -7,16 +7,21 @@ use Rattle.gz_names.specs.Zones.{HasZone, zones_in}
 use Rattle.gz_names.specs.declared.zone_sets.ZoneSet.{ZoneSet}
 use Rattle.gz_names.specs.declared.names.Name.{Name}
 use Rattle.gz_names.specs.declared.numbers.Place.{Place}
+use Rattle.gz_names.specs.declared.replies.Refusal.{Refusal}
+use Rattle.gz_names.specs.declared.replies.Reply.{Reply}
 use Rattle.gz_names.specs.declared.replies.Report.{Report}
 use Rattle.gz_names.specs.declared.replies.Report.TheVariants as report
 use Rattle.gz_names.specs.declared.commands.GraphCmd.{GraphCmd}
 use Rattle.colour_defs.specs.Ends.{Lists, arenas_from}
 use Rattle.colour_defs.specs.Graph.{GraphState, empty_graph, zone_of}
-use Rattle.colour_defs.specs.Step.{step_of}
+use Rattle.colour_defs.specs.Step.{refusal_in, step_of}
+use Rattle.colour_defs.specs.Units.{MeetsUnitBound, Tally, sweeps_in, unit_limit, with_put, with_woken}
+use Rattle.colour_defs.specs.World.{woken_by}
 use Rattle.trace_lang.specs.Texts.{report_text}
 use Rattle.judge.specs.Arenas.{Grows, owners_in}
-use Rattle.judge.specs.Cells.{Cells, Colours, GivesPlaces, HasCell, IsWhite, wakes}
+use Rattle.judge.specs.Cells.{Cells, Colours, GivesPlaces, HasCell, IsWhite, wakes, woken_in}
 use Rattle.judge.specs.Former.{IsFormer, Keeps, Releases, Takes}
+use Rattle.judge.specs.Bounds.{IsFirstTally, is_accepted, marking_tally, put_if, tally_of, with_sweep, with_units}
 use Rattle.judge.specs.Parts.{AreParts}
 use Rattle.judge.specs.Groups.{AreAllowed, AreRefused, Forming}
 use Rattle.judge.specs.Starts.{IsBegun}
@@ -42,7 +47,7 @@ pub data Stage : Type 0 where
 
 -- a stage, whose the arenas are, those that are out, the lowest first, and the white cells that are not yet swept; the
 -- present cells, what is black while no zone is marking, the graph as it stood when marking began, and what was found
--- since
+-- since; and what is counted for the bound on units
 pub record Shown : Type 0 where
   pub stage : Stage
   pub owners : List (Option ℕ)
@@ -52,6 +57,7 @@ pub record Shown : Type 0 where
   pub black : WalkState
   pub former : Former
   pub walks : Option Walks
+  pub tally : Tally
 
 abbrev pub groups_in : Option (Vec ZoneSet Global) → Option (List ZoneSet)
 groups_in None = None
@@ -76,6 +82,7 @@ shown w = record {
   black = w.black;
   former = w.former;
   walks = walks_of w.phase;
+  tally = tally_of w.tally;
 }
 
 -- nothing has happened yet
@@ -131,6 +138,32 @@ pub record LiesIn (g : GraphState) (old new : Shown) : Type 0 where
       → (tree.get order_of old.cells x ≡ Some p)
       ⊎ ((z : ℕ) × (zone_of g x ≡ Some z) × (slice_get new.owners p.0 ≡ Some (Some z)))
 
+-- what a command counts for by its reply, if it puts an entry while a collection marks or sweeps; and what a name that
+-- is woken then counts for
+abbrev pub put_in : GraphState → Stage → GraphCmd → Reply → Tally → Tally
+put_in g idle c r t = t
+put_in g (preparing zones) c r t = t
+put_in g (collecting zones marking groups) c r t = put_if (is_accepted r) g (zones_in zones) c t
+
+abbrev pub woken_tally : GraphState → Stage → Option Name → Tally → Tally
+woken_tally g idle x t = t
+woken_tally g (preparing zones) x t = t
+woken_tally g (collecting zones marking groups) x t = with_woken g (zones_in zones) x t
+
+abbrev pub counted_by : GraphState → Stage → GraphCmd → Reply → Tally → Tally
+counted_by g s c r t = woken_tally g s (woken_in c r) (put_in g s c r t)
+
+-- what a command counts for, by the definitions
+abbrev pub counts_for : GraphState → Stage → GraphCmd → Tally → Tally
+counts_for g idle c t = t
+counts_for g (preparing zones) c t = t
+counts_for g (collecting zones marking groups) c t =
+    with_woken g (zones_in zones) (woken_by g c) (with_put g (zones_in zones) c t)
+
+abbrev pub tally_unless : Option Refusal → GraphState → Stage → GraphCmd → Tally → Tally
+tally_unless (Some why) g s c t = t
+tally_unless None g s c t = counts_for g s c t
+
 -- a command on the graph
 pub record Obeys (g : GraphState) (c : GraphCmd) (old new : Shown) : Type 0 where
   pub places : GivesPlaces (step_of g c).0 (wakes g c) old.cells new.cells
@@ -141,6 +174,7 @@ pub record Obeys (g : GraphState) (c : GraphCmd) (old new : Shown) : Type 0 wher
   pub stage_is : new.stage ≡ old.stage
   pub out_is : new.out ≡ old.out
   pub whites_is : new.whites ≡ old.whites
+  pub tally_is : new.tally ≡ tally_unless (refusal_in (step_of g c).1) g old.stage c old.tally
 
 -- all groups have ended, and no arena is out
 pub record IsOver (s : Shown) : Type 0 where
@@ -154,8 +188,13 @@ pub record IsStarted (g : GraphState) (zones : ZoneSet) (old new : Shown) : Type
   pub walks : Walks
   pub begun : IsBegun g (zones_in zones) old.cells walks
   pub keeps : Keeps old.former new.former
-  pub new_is : new
-      ≡ record old { stage = collecting zones zones None; former = new.former; walks = Some walks }
+  pub counted : IsFirstTally g zones old.cells old.tally new.tally
+  pub new_is : new ≡ record old {
+    stage = collecting zones zones None;
+    former = new.former;
+    walks = Some walks;
+    tally = marking_tally g (zones_in zones) old.cells old.tally;
+  }
 
 -- marking begins
 pub record Starts (g : GraphState) (old new : Shown) : Type 0 where
@@ -235,6 +274,7 @@ pub record EndsGroup (g : GraphState) (old : Shown) (group : ZoneSet) (grays : L
   pub out_is : new.out ≡ arenas_from 0 old.owners (zones_in group)
   pub whites_are : (arena : ℕ) → AreWhitesIn g (zones_in group) old walks arena (whites_in new.whites arena)
   pub goes_on : GoesOn old walks new
+  pub tally_is : new.tally ≡ old.tally
 
 -- the lowest arena that is out is taken in, and its white cells are freed
 pub record Sweeps (old : Shown) (arena : ℕ) (freed : List Name) (new : Shown) : Type 0 where
@@ -242,7 +282,7 @@ pub record Sweeps (old : Shown) (arena : ℕ) (freed : List Name) (new : Shown) 
   pub first : old.out ≡ arena ∷ rest
   pub freed_are : freed ≡ whites_in old.whites arena
   pub clears : Clears old.whites arena new.whites
-  pub new_is : new ≡ record old { out = rest; whites = new.whites }
+  pub new_is : new ≡ record old { out = rest; whites = new.whites; tally = with_sweep old.tally }
 
 -- a collection that is over runs no longer
 pub record Finishes (old new : Shown) : Type 0 where
@@ -319,3 +359,34 @@ IsDue due.Started s = (s.out ≡ []) × IsDueOf due.Started s.stage
 IsDue due.Groups s = (s.out ≡ []) × IsDueOf due.Groups s.stage
 IsDue due.Ended s = (s.out ≡ []) × IsDueOf due.Ended s.stage
 IsDue due.Done s = (s.out ≡ []) × IsDueOf due.Done s.stage
+
+-- the most units that a collection may have taken: while it is prepared, one for each arena that its zones had
+abbrev pub limit_in : Stage → Tally → ℕ
+limit_in idle t = unit_limit t
+limit_in (preparing zones) t = t.arenas
+limit_in (collecting zones marking groups) t = unit_limit t
+
+abbrev pub is_prepared : Stage → Bool
+is_prepared idle = false
+is_prepared (preparing zones) = true
+is_prepared (collecting zones marking groups) = false
+
+-- as a slice ends with these reports, the definitions count the same since it began: the arenas and the units while the
+-- collection is prepared; all there is from then on, beside the arenas that the slice swept
+abbrev pub CountsAs : Bool → Tally → Tally → List Report → Type 0
+CountsAs true mine t reports = (mine.arenas ≡ t.arenas) × (mine.spent ≡ t.spent)
+CountsAs false mine t reports = mine ≡ record t { sweeps = t.sweeps + sweeps_in reports }
+
+-- a slice of this number of units keeps the bound of the definitions, or is over it, by each tally that counts the same
+abbrev pub KeepsBound : Shown → ℕ → Type 0
+KeepsBound s k = (t : Tally) (reports : List Report) → CountsAs (is_prepared s.stage) s.tally t reports
+    → MeetsUnitBound (is_prepared s.stage) t reports k
+
+abbrev pub IsOverBound : Shown → ℕ → Type 0
+IsOverBound s k = (t : Tally) (reports : List Report) → CountsAs (is_prepared s.stage) s.tally t reports
+    → MeetsUnitBound (is_prepared s.stage) t reports k → ⊥
+
+-- this number of units is done, within the bound
+pub record Spends (old : Shown) (k : ℕ) (new : Shown) : Type 0 where
+  pub within : KeepsBound old k
+  pub new_is : new ≡ record old { tally = with_units k old.tally }

@@ -1,24 +1,29 @@
 // The answer to one command: which of its lines come next.
-ghost use Rattle.std.specs.Prelude.{◌≡◌, ◌≢◌, ◌↔◌, ℕ, Bool, IfNone, IfOk, IfSome, IsTrue, List, None, OnOk, Some};
-ghost use Rattle.std.specs.Prelude.{codes, drop, false, true, ◌∷◌, []};
+ghost use Rattle.std.specs.Prelude.{◌≡◌, ◌≢◌, ◌↔◌, ◌<◌, ◌≤◌, ◌^◌, ◌++◌, ℕ, Bool, IfNone, IfOk, IfSome, IsTrue, List};
+ghost use Rattle.std.specs.Prelude.{None, OnOk, Some, codes, drop, false, true, ◌∷◌, []};
+ghost use Rattle.std.specs.Fmt.{decimal};
 ghost use Rattle.gz_names.specs.declared.replies.Reply.TheVariants as the_reply;
 ghost use Rattle.colour_defs.specs.Graph.{GraphState};
 ghost use Rattle.colour_defs.specs.Step.{step_of};
 ghost use Rattle.trace_lang.specs.Texts.{reply_text};
 ghost use Rattle.judge.specs.Sound.{IsSound};
-ghost use Rattle.judge.specs.Stages.{IsReportedLine, IsResetLine, IsOver, Obeys, Shown, idle, shown, stage_of};
-ghost use Rattle.judge.specs.Replies.{Asks, Begins, Dumps, GoesOn, IsJudged, IsJudgedLine, IsLast, IsWithin, ListsGray};
-ghost use Rattle.judge.specs.Replies.{after_reset, begun_due, due_as, dump as dump_of, graph_after, nothing, reply};
+ghost use Rattle.judge.specs.Stages.{IsOver, IsOverBound, IsReportedLine, IsResetLine, Obeys, Shown, Spends, idle};
+ghost use Rattle.judge.specs.Stages.{shown, stage_of};
+ghost use Rattle.judge.specs.Replies.{Asks, Begins, Counts, Dumps, GoesOn, HasLastText, IsJudged, IsJudgedLine, IsLast};
+ghost use Rattle.judge.specs.Replies.{IsSliced, IsWithin, ListsGray, after_reset, begun_due, due_as, dump as dump_of};
+ghost use Rattle.judge.specs.Replies.{graph_after, nothing, reply};
 ghost use Rattle.judge.specs.Replies.{resets, units as units_of};
 
 use crate::checks::{self, Fault};
 use crate::dumps::dump_lines;
 use crate::kinds;
-use crate::parse::{after, parse_number};
+use crate::tally::with_one;
 use crate::text::{is_same, reply_text};
 use crate::world::World;
 use gz_names::{Cmd, DumpLine, DumpLines, GraphCmd, NameList, NoMemory, Refusal, Reply, ZoneSet};
 use plain_graph::{Graph, step};
+use std::alloc::AllocError;
+use std::str;
 
 const NOT_OVER: &[u8] = b"report, the collection is not over";
 
@@ -120,7 +125,7 @@ fn begun(world: &World, collects: bool) -> Result<Awaited, NoMemory>
 }
 
 fn slice(world: &World, most: Option<u64>) -> Result<Awaited, NoMemory>
-    ensures { IfOk result (λ awaited. GoesOn (units_of most false) (stage_of world.now.phase) (due_as awaited)) }
+    ensures { IfOk result (λ awaited. GoesOn (units_of most false 0) (stage_of world.now.phase) (due_as awaited)) }
 {
     if !world.is_running() {
         return only(world, &Reply::Refused(Refusal::Idle));
@@ -266,8 +271,8 @@ fn units_line(
     text: &[u8],
 ) -> Result<Judgement, NoMemory>
     requires { IsSound graph.now (shown world.old) }
-    ensures { IfOk result (IsJudgedLine graph.now (shown world.old) (units_of running.most running.collects) text.now
-        (shown world.new)) }
+    ensures { IfOk result (IsJudgedLine graph.now (shown world.old)
+        (units_of running.most running.collects running.reports) text.now (shown world.new)) }
 {
     if is_last(running, text) {
         return match last_line(world, running, text)? {
@@ -276,7 +281,7 @@ fn units_line(
         };
     }
     match next_report(graph, world, running, text)? {
-        None => Ok(Ok(Awaited::Units(with_report(running, text)))),
+        None => Ok(Ok(Awaited::Units(with_report(running, text)?))),
         Some(kind) => Ok(Err(kind)),
     }
 }
@@ -301,27 +306,39 @@ fn after_reset(world: &World) -> Result<Awaited, NoMemory>
     only(world, &Reply::ResetDone)
 }
 
+// What follows `slice ` in a line.
+fn after_slice(text: &[u8]) -> Option<&[u8]>
+    ensures some { IfSome result (λ rest. text.now ≡ codes "slice " ++ rest.now) }
+    ensures none { IfNone result ((rest : List ℕ) → text.now ≡ codes "slice " ++ rest → ⊥) }
+{
+    text.strip_prefix(b"slice ".as_slice())
+}
+
 // Whether a line looks as the last one of an answer.
 fn is_last(running: Running, text: &[u8]) -> bool
-    ensures { IsTrue result → running.collects ≡ true → text.now ≡ codes "collected" }
+    ensures is { IsTrue result → running.collects ≡ true → text.now ≡ codes "collected" }
+    ensures other { result ≡ false → HasLastText running.collects text.now → ⊥ }
 {
     if running.collects {
         is_same(text, b"collected")
     } else {
-        after(text, b"slice").is_some()
+        after_slice(text).is_some()
     }
 }
 
 // A report more; `done` comes with the last one.
-fn with_report(running: Running, text: &[u8]) -> Running
-    ensures most { result.most ≡ running.most }
-    ensures collects { result.collects ≡ running.collects }
+fn with_report(running: Running, text: &[u8]) -> Result<Running, NoMemory>
+    ensures most { IfOk result (λ more. more.most ≡ running.most) }
+    ensures collects { IfOk result (λ more. more.collects ≡ running.collects) }
+    ensures reports { IfOk result (λ more. Counts running.reports text.now more.reports) }
 {
-    let is_counted = text != b"done".as_slice();
-    Running {
-        reports: running.reports.saturating_add(u64::from(is_counted)),
-        ..running
+    if is_same(text, b"done") {
+        return Ok(running);
     }
+    Ok(Running {
+        reports: with_one(running.reports, true)?,
+        ..running
+    })
 }
 
 fn next_report(
@@ -354,9 +371,10 @@ fn next_report(
 // What is wrong with the last line of an answer.
 fn last_line(world: &mut World, running: Running, text: &[u8]) -> Result<Fault, NoMemory>
     requires { running.collects ≡ true → text.now ≡ codes "collected" }
-    ensures same { OnOk result (shown world.new ≡ shown world.old) }
-    ensures last { IfOk result (λ fault. IfNone fault
-        (IsLast running.most running.collects (shown world.old) text.now)) }
+    ensures right { IfOk result (λ fault. IfNone fault
+        (IsLast running.most running.collects running.reports (shown world.old) text.now (shown world.new))) }
+    ensures wrong { IfOk result (λ fault. IfSome fault (λ _. (new : Shown)
+        → IsLast running.most running.collects running.reports (shown world.old) text.now new → ⊥)) }
 {
     if world.is_over() {
         return Ok(Some(kinds::due(world.alloc, b"report", b"done")?));
@@ -370,7 +388,8 @@ fn last_line(world: &mut World, running: Running, text: &[u8]) -> Result<Fault, 
 
 // What is wrong with the last line of `collect`.
 fn collected(world: &World) -> Result<Fault, NoMemory>
-    ensures { IfOk result (λ fault. IfNone fault (stage_of world.now.phase ≡ idle)) }
+    ensures right { IfOk result (λ fault. IfNone fault (stage_of world.now.phase ≡ idle)) }
+    ensures wrong { IfOk result (λ fault. IfSome fault (λ _. stage_of world.now.phase ≢ idle)) }
 {
     if world.is_running() {
         return Ok(Some(kinds::said(world.alloc, NOT_OVER)?));
@@ -378,14 +397,26 @@ fn collected(world: &World) -> Result<Fault, NoMemory>
     Ok(None)
 }
 
+// The number that a text writes.
+fn number_in(text: &[u8]) -> Option<u64>
+    ensures { (k : ℕ) → k < 2 ^ 64 → text.now ≡ decimal k → result ≡ Some k }
+{
+    match str::from_utf8(text) {
+        Err(_) => None,
+        Ok(digits) => digits.parse().ok(),
+    }
+}
+
 // The number of a slice's last line, if the line is its text.
 fn sliced(world: &World, text: &[u8]) -> Result<Option<u64>, NoMemory>
-    ensures { IfOk result (λ it. IfSome it (λ k. text.now ≡ reply_text (the_reply.Sliced k))) }
+    ensures some { IfOk result (λ it. IfSome it (λ k. text.now ≡ reply_text (the_reply.Sliced k))) }
+    ensures none { IfOk result (λ it. IfNone it
+        ((k : ℕ) → k < 2 ^ 64 → text.now ≡ reply_text (the_reply.Sliced k) → ⊥)) }
 {
-    let Some(word) = after(text, b"slice") else {
+    let Some(word) = after_slice(text) else {
         return Ok(None);
     };
-    let Some(units) = parse_number(word) else {
+    let Some(units) = number_in(word) else {
         return Ok(None);
     };
     let due = reply_text(world.alloc, &Reply::Sliced(units))?;
@@ -398,8 +429,10 @@ fn sliced(world: &World, text: &[u8]) -> Result<Option<u64>, NoMemory>
 
 fn slice_line(world: &mut World, running: Running, text: &[u8]) -> Result<Fault, NoMemory>
     requires { IsOver (shown world.old) → ⊥ }
-    ensures same { OnOk result (shown world.new ≡ shown world.old) }
-    ensures last { IfOk result (λ fault. IfNone fault (IsLast running.most false (shown world.old) text.now)) }
+    ensures right { IfOk result (λ fault. IfNone fault
+        (IsSliced running.most running.reports (shown world.old) text.now (shown world.new))) }
+    ensures wrong { IfOk result (λ fault. IfSome fault (λ _. (new : Shown)
+        → IsSliced running.most running.reports (shown world.old) text.now new → ⊥)) }
 {
     let Some(units) = sliced(world, text)? else {
         return Ok(Some(kinds::due(world.alloc, b"reply", b"slice ..")?));
@@ -412,7 +445,10 @@ fn slice_line(world: &mut World, running: Running, text: &[u8]) -> Result<Fault,
 
 // What is wrong with the number of units of a slice.
 fn wrong_number(world: &World, running: Running, units: u64) -> Option<&'static [u8]>
-    ensures { IfNone result (IsWithin running.most units (stage_of world.now.phase)) }
+    ensures enough { IfNone result (running.reports ≤ units) }
+    ensures within { IfNone result (IsWithin running.most units (stage_of world.now.phase)) }
+    ensures wrong { IfSome result (λ _. running.reports ≤ units
+        → IsWithin running.most units (stage_of world.now.phase) → ⊥) }
 {
     let is_running = world.is_running();
     if units < running.reports {
@@ -432,13 +468,19 @@ fn wrong_number(world: &World, running: Running, units: u64) -> Option<&'static 
 
 // Counts units; whether they are more than the bound allows.
 fn spend(world: &mut World, units: u64) -> Result<Fault, NoMemory>
-    ensures { OnOk result (shown world.new ≡ shown world.old) }
+    ensures spent { IfOk result (λ fault. IfNone fault (Spends (shown world.old) units (shown world.new))) }
+    ensures over { IfOk result (λ fault. IfSome fault (λ _. IsOverBound (shown world.old) units)) }
 {
-    let spent = world.tally.spent.saturating_add(units);
+    let spent = u128::from(world.tally.spent) + u128::from(units);
     let limit = world.unit_limit();
     if spent > limit {
         return Ok(Some(kinds::bound(world.alloc, spent, limit)?));
     }
-    world.tally.spent = spent;
-    Ok(None)
+    match u64::try_from(spent) {
+        Err(_) => Err(AllocError),
+        Ok(spent) => {
+            world.tally.spent = spent;
+            Ok(None)
+        }
+    }
 }

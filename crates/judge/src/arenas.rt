@@ -3,6 +3,7 @@ ghost use Rattle.std.specs.Prelude.{◌≡◌, ℕ, [], ◌∷◌, ◌++◌, ◌
 ghost use Rattle.std.specs.Prelude.{Some, drop, length, reverse, slice_get};
 ghost use Rattle.gz_names.specs.Zones.{zones_in};
 ghost use Rattle.colour_defs.specs.Ends.{arenas_from};
+ghost use Rattle.judge.specs.Bounds.{arena_count};
 ghost use Rattle.judge.specs.Arenas.{AreSameArenas, Grows, owners_in, owners_of};
 ghost use Rattle.judge.specs.declared.arenas.Arena.{Arena as AnArena};
 
@@ -112,11 +113,14 @@ impl Arenas {
     }
 
     /// How many arenas these zones own.
-    pub fn count(&self, zones: ZoneSet) -> u64 {
-        self.arenas
-            .iter()
-            .filter(|arena| zones.contains(arena.owner))
-            .count() as u64
+    pub fn count(&self, zones: ZoneSet) -> u64
+        ensures { result ≡ arena_count (zones_in zones) (owners_in self.now) }
+    {
+        let mut count = 0;
+        for arena in &self.arenas {
+            count += u64::from(zones.contains(arena.owner));
+        }
+        count
     }
 
     /// The arenas of these zones go out.

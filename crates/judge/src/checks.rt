@@ -132,7 +132,7 @@ fn swept(world: &mut World, arena: u32, line: &[u8]) -> Result<Fault, NoMemory>
     let report = swept_report(world, arena)?;
     let due = report_text(world.alloc, &report)?;
     if is_same(line, due.as_slice()) {
-        world.sweep(arena);
+        world.sweep(arena)?;
         return Ok(None);
     }
     Ok(Some(kinds::swept(world, arena, due.as_slice(), line)?))

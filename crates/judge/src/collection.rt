@@ -9,6 +9,7 @@ ghost use Rattle.colour_defs.specs.Graph.{GraphState, register_cell, slot_cell};
 ghost use Rattle.plain_graph.specs.Reach.{Follows, IsDone};
 ghost use Rattle.judge.specs.Arenas.{AreSameArenas, owners_in};
 ghost use Rattle.judge.specs.Cells.{Cells, HasCell, HasColours, HasShade, IsGrayBy, IsWhiteBy, LetsGo, Removes};
+ghost use Rattle.judge.specs.Bounds.{tally_of, with_sweep};
 ghost use Rattle.judge.specs.Edges.{Leads, sources_of};
 ghost use Rattle.judge.specs.Former.{Releases};
 ghost use Rattle.judge.specs.Sound.{Settles};
@@ -19,8 +20,9 @@ ghost use Rattle.judge.specs.Whites.{AreByArena, Clears};
 ghost use Rattle.judge.specs.Starts.{AreBlackStarts, AreLiveStarts, IsBegun, IsInRegister, IsInSlot, IsListOf};
 ghost use Rattle.judge.specs.Starts.{IsOutside};
 
-use crate::former::{is_in, leads_into};
+use crate::former::is_in;
 use crate::preparation::Preparation;
+use crate::tally::with_one;
 use crate::whites::Whites;
 use crate::world::{DueReport, Phase, World};
 use gz_names::{GrayNo, Name, NoMemory, Place, Reg, ZoneNo, ZoneSet};
@@ -28,46 +30,6 @@ use plain_graph::{Graph, Walk};
 use std::alloc::Global;
 use std::collections::BTreeMap;
 use std::mem;
-
-/// What is counted for the bound on units.
-#[derive(Clone, Copy)]
-pub struct Tally {
-    pub arenas: u64,
-    pub cells: u64,
-    pub entries: u64,
-    pub outside: u64,
-    pub wrappers: u64,
-    pub zones: u64,
-    pub sweeps: u64,
-    pub spent: u64,
-}
-
-impl Tally {
-    pub fn new() -> Self {
-        Tally {
-            arenas: 0,
-            cells: 0,
-            entries: 0,
-            outside: 0,
-            wrappers: 0,
-            zones: 0,
-            sweeps: 0,
-            spent: 0,
-        }
-    }
-
-    /// The most units that a collection may have taken once its marking has begun.
-    pub fn limit(&self) -> u64 {
-        self.arenas
-            .saturating_add(self.cells.saturating_mul(2))
-            .saturating_add(self.entries.saturating_mul(6))
-            .saturating_add(64)
-            .saturating_add(self.outside)
-            .saturating_add(self.wrappers.saturating_mul(2))
-            .saturating_add(self.zones.saturating_mul(4))
-            .saturating_add(self.sweeps)
-    }
-}
 
 /// What held a name as marking began.
 #[derive(Clone, Copy)]
@@ -108,10 +70,6 @@ pub struct GroupEnd {
     pub whites: Vec<Name>,
 }
 
-pub fn is_wrapper(name: Name) -> bool {
-    matches!(name, Name::Wrap(_, _))
-}
-
 fn add_all(walk: &mut Walk, names: &[Name]) -> Result<(), NoMemory>
     ensures { OnOk result ((g : GraphState) (starts : List AName) → Follows g starts walk.old
         → Follows g (starts ++ names.now) walk.new) }
@@ -137,46 +95,6 @@ fn walk_from(alloc: Global, names: &[Name], graph: &Graph) -> Result<Walk, NoMem
     let mut walk = Walk::new(alloc);
     follow_all(&mut walk, names, graph)?;
     Ok(walk)
-}
-
-fn zone_count(zones: ZoneSet) -> u64 {
-    u64::from(zones.bits.count_ones())
-}
-
-/// What is counted as marking begins, beside what was counted since `gc`.
-pub fn marking_tally(world: &World, graph: &Graph, zones: ZoneSet) -> Tally {
-    let mut tally = Tally {
-        arenas: world.tally.arenas,
-        zones: zone_count(zones),
-        spent: world.tally.spent,
-        ..Tally::new()
-    };
-    for (name, _) in &world.places {
-        count_cell(&mut tally, is_in(graph, zones, *name), is_wrapper(*name));
-    }
-    for entry in graph.entries() {
-        if counts_entry(graph, zones, entry.map, entry.key)
-            && world.is_present(entry.map)
-            && world.is_present(entry.key)
-        {
-            tally.entries = tally.entries.saturating_add(1);
-        }
-    }
-    tally
-}
-
-fn count_cell(tally: &mut Tally, is_inside: bool, is_wrapper: bool) {
-    if is_inside {
-        tally.cells = tally.cells.saturating_add(1);
-        tally.wrappers = tally.wrappers.saturating_add(u64::from(is_wrapper));
-    } else {
-        tally.outside = tally.outside.saturating_add(u64::from(is_wrapper));
-    }
-}
-
-/// Whether an entry of this map and key counts for a collection of these zones.
-pub fn counts_entry(graph: &Graph, zones: ZoneSet, map: Name, key: Name) -> bool {
-    is_in(graph, zones, map) || leads_into(graph, zones, key)
 }
 
 // What registers and gray slots hold.
@@ -567,6 +485,7 @@ impl World {
         ensures whites { OnOk result (AreByArena self.old.places end.now.whites.items self.new.whites) }
         ensures places { OnOk result (LetsGo end.now.whites.items self.old.places self.new.places) }
         ensures settles { OnOk result (Settles self.old self.new) }
+        ensures tally { OnOk result (self.new.tally ≡ self.old.tally) }
     {
         self.whites = Whites::of_names(self.alloc, &self.places, end.whites.as_slice())?;
         self.let_go(end.whites.as_slice())?;
@@ -583,6 +502,7 @@ impl World {
         ensures arenas { OnOk result (AreSameArenas self.old.arenas self.new.arenas) }
         ensures whites { OnOk result (self.new.whites ≡ self.old.whites) }
         ensures places { OnOk result (LetsGo whites.now self.old.places self.new.places) }
+        ensures tally { OnOk result (self.new.tally ≡ self.old.tally) }
     {
         for name in whites {
             self.let_one_go(*name)?;
@@ -598,6 +518,7 @@ impl World {
         ensures arenas { OnOk result (AreSameArenas self.old.arenas self.new.arenas) }
         ensures whites { OnOk result (self.new.whites ≡ self.old.whites) }
         ensures places { OnOk result (Removes self.old.places name self.new.places) }
+        ensures tally { OnOk result (self.new.tally ≡ self.old.tally) }
     {
         let Some(place) = self.places.remove(&name) else {
             return Ok(());
@@ -636,6 +557,7 @@ impl World {
         ensures whites { self.new.whites ≡ self.old.whites }
         ensures places { self.new.places ≡ self.old.places }
         ensures settles { OnOk result (Settles self.old self.new) }
+        ensures tally { OnOk result (self.new.tally ≡ self.old.tally) }
     {
         if self.has_groups() {
             return Ok(());
@@ -652,6 +574,7 @@ impl World {
         ensures whites { self.new.whites ≡ self.old.whites }
         ensures places { self.new.places ≡ self.old.places }
         ensures former { self.new.former ≡ self.old.former }
+        ensures tally { self.new.tally ≡ self.old.tally }
         ensures black { (w : AWalks) → walks_of self.old.phase ≡ Some w → self.new.black ≡ w.black }
     {
         match &mut self.phase {
@@ -663,14 +586,18 @@ impl World {
     }
 
     /// The lowest arena that is out is taken in, with this number, and its white cells are freed.
-    pub fn sweep(&mut self, arena: u32)
-        ensures same { shown self.new
-            ≡ record (shown self.old) { out = drop 1 (shown self.old).out; whites = self.new.whites } }
-        ensures clears { Clears self.old.whites arena self.new.whites }
+    pub fn sweep(&mut self, arena: u32) -> Result<(), NoMemory>
+        ensures same { OnOk result (shown self.new ≡ record (shown self.old) {
+          out = drop 1 (shown self.old).out;
+          whites = self.new.whites;
+          tally = with_sweep (tally_of self.old.tally);
+        }) }
+        ensures clears { OnOk result (Clears self.old.whites arena self.new.whites) }
     {
+        self.tally.sweeps = with_one(self.tally.sweeps, true)?;
         self.whites.take(arena);
         self.arenas.take_in();
-        self.tally.sweeps = self.tally.sweeps.saturating_add(1);
+        Ok(())
     }
 
     /// The collection is over.

@@ -107,14 +107,6 @@ pub fn is_in(graph: &Graph, zones: ZoneSet, name: Name) -> bool
     }
 }
 
-/// Whether a name is a wrapper whose target is of one of these zones.
-pub fn leads_into(graph: &Graph, zones: ZoneSet, name: Name) -> bool {
-    match name {
-        Name::Cell(_) => false,
-        Name::Wrap(_, target) => is_in(graph, zones, Name::Cell(target)),
-    }
-}
-
 /// What an object holds, field by field.
 pub fn fields_of(graph: &Graph, number: u64) -> &[Option<Name>]
     ensures { result.now ≡ held_in (object_of graph.now number) }

@@ -45,13 +45,18 @@ pub fn unfinished(alloc: Global, line: &[u8]) -> Result<Vec<u8>, NoMemory> {
 }
 
 /// More units are counted than the bound allows.
-pub fn bound(alloc: Global, units: u64, limit: u64) -> Result<Vec<u8>, NoMemory> {
+pub fn bound(alloc: Global, units: u128, limit: u128) -> Result<Vec<u8>, NoMemory> {
     let mut text = Text::new(alloc);
     text.push(b"units, the collection has taken ")?;
-    text.push_number(units)?;
+    text.push_number(shown_number(units))?;
     text.push(b" units, and may take ")?;
-    text.push_number(limit)?;
+    text.push_number(shown_number(limit))?;
     Ok(text.into_bytes())
+}
+
+// A number as it is printed: 2^64 - 1 stands for a larger one.
+fn shown_number(number: u128) -> u64 {
+    u64::try_from(number).unwrap_or(u64::MAX)
 }
 
 /// The groups do not part the zones of the collection.

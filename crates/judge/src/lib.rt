@@ -32,6 +32,7 @@ mod kinds;
 mod lines;
 mod parse;
 mod preparation;
+mod tally;
 mod text;
 mod whites;
 mod world;

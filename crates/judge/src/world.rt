@@ -1,22 +1,25 @@
 // The world of the definitions, but for the graph: the present cells and their places, what is black, and the
 // collection.
 ghost use Rattle.std.specs.Prelude.{◌≡◌, ◌≢◌, ◌↔◌, ◌<◌, ◌∷◌, ℕ, [], Contains, IfNone, IfOk, IfSome, IsTrue, None};
-ghost use Rattle.std.specs.Prelude.{OnOk, false};
-ghost use Rattle.gz_names.specs.Zones.{HasZone};
+ghost use Rattle.std.specs.Prelude.{OnOk, Some, false};
+ghost use Rattle.gz_names.specs.Zones.{HasZone, zones_in};
 ghost use Rattle.gz_names.specs.declared.zone_sets.ZoneSet.{ZoneSet as AZoneSet};
 ghost use Rattle.colour_defs.specs.Ends.{Lists};
 ghost use Rattle.judge.specs.Arenas.{owners_in};
 ghost use Rattle.judge.specs.Cells.{GivesPlace, GivesPlaces, HasCell, made_in, named_in, woken_in, wrapper_in};
+ghost use Rattle.judge.specs.Bounds.{arena_count, tally_of, with_arenas};
 ghost use Rattle.judge.specs.Former.{Takes};
 ghost use Rattle.judge.specs.Stages.{Blackens, BlackensOne, IsDue, IsFirst, IsOver, IsSettled, IsStarted, LiesIn};
-ghost use Rattle.judge.specs.Stages.{Wakes, WakesAny, idle, preparing, shown, stage_of, unfinished_in};
+ghost use Rattle.judge.specs.Stages.{Wakes, WakesAny, counted_by, idle, limit_in, preparing, put_in, shown, stage_of};
+ghost use Rattle.judge.specs.Stages.{unfinished_in, woken_tally};
 ghost use Rattle.judge.specs.Walks.{GoesOnFrom, walks_of};
 ghost use Rattle.judge.specs.Replies.{AreMade, IsRefusal};
 
 use crate::arenas::Arenas;
-use crate::collection::{Collection, Tally, counts_entry, is_wrapper, marking_tally};
+use crate::collection::Collection;
 use crate::former::{Former, is_in};
 use crate::preparation::{Preparation, target_of};
+use crate::tally::{Tally, counts_entry, is_wrapper_in, marking_tally, with_one};
 use crate::whites::Whites;
 use gz_names::{GraphCmd, Name, NoMemory, Place, Refusal, Reply, ZoneNo, ZoneSet};
 use plain_graph::{Graph, Walk};
@@ -159,6 +162,8 @@ impl World {
             self.old.black self.new.black) }
         ensures walks { OnOk result (WakesAny (stage_of self.old.phase) (woken_in command.now reply.now)
             (walks_of self.old.phase) (walks_of self.new.phase)) }
+        ensures tally { OnOk result (tally_of self.new.tally ≡ counted_by graph.now (stage_of self.old.phase)
+            command.now reply.now (tally_of self.old.tally)) }
     {
         self.take(graph, command, reply)?;
         match woken_in(command, reply) {
@@ -169,12 +174,14 @@ impl World {
 
     // What a command is beside what it wakes: the former graph takes it, what it reads turns black, and it counts.
     fn take(&mut self, graph: &Graph, command: &GraphCmd, reply: &Reply) -> Result<(), NoMemory>
-        ensures same { OnOk result
-            (shown self.new ≡ record (shown self.old) { former = self.new.former }) }
+        ensures same { OnOk result (shown self.new
+            ≡ record (shown self.old) { former = self.new.former; tally = tally_of self.new.tally }) }
         ensures takes { OnOk result (Takes command.now self.old.former self.new.former) }
+        ensures tally { OnOk result (tally_of self.new.tally ≡ counted_by graph.now (stage_of self.old.phase)
+            command.now reply.now (tally_of self.old.tally)) }
     {
         self.former.command(command)?;
-        self.count_put(graph, command, reply);
+        self.count(graph, command, reply)?;
         self.wake_target(graph, read_in(command, reply))
     }
 
@@ -201,6 +208,7 @@ impl World {
             self.new.black) }
         ensures walks { OnOk result (Wakes (stage_of self.old.phase) name (walks_of self.old.phase)
             (walks_of self.new.phase)) }
+        ensures tally { OnOk result (tally_of self.new.tally ≡ tally_of self.old.tally) }
     {
         self.give_place(graph, name)?;
         self.turn_black(graph, name)
@@ -219,8 +227,6 @@ impl World {
             Phase::Idle => blacken(&mut self.black, graph, name),
             Phase::Preparing(preparation) => preparation.black.blacken(graph, name),
             Phase::Collecting(collection) => {
-                let is_counted = is_wrapper(name) && is_in(graph, collection.zones, name);
-                self.tally.wrappers = self.tally.wrappers.saturating_add(u64::from(is_counted));
                 if collection.marking.is_empty() {
                     blacken(&mut self.black, graph, name)
                 } else {
@@ -248,19 +254,57 @@ impl World {
         Ok(())
     }
 
-    fn count_put(&mut self, graph: &Graph, command: &GraphCmd, reply: &Reply)
-        ensures { shown self.new ≡ shown self.old }
+    // What a command counts for.
+    fn count(&mut self, graph: &Graph, command: &GraphCmd, reply: &Reply) -> Result<(), NoMemory>
+        ensures same { OnOk result
+            (shown self.new ≡ record (shown self.old) { tally = tally_of self.new.tally }) }
+        ensures former { self.new.former ≡ self.old.former }
+        ensures tally { OnOk result (tally_of self.new.tally ≡ counted_by graph.now (stage_of self.old.phase)
+            command.now reply.now (tally_of self.old.tally)) }
+    {
+        self.count_put(graph, command, reply)?;
+        self.count_woken(graph, woken_in(command, reply))
+    }
+
+    // A wrapper that is woken counts.
+    fn count_woken(&mut self, graph: &Graph, woken: Option<Name>) -> Result<(), NoMemory>
+        ensures same { OnOk result
+            (shown self.new ≡ record (shown self.old) { tally = tally_of self.new.tally }) }
+        ensures former { self.new.former ≡ self.old.former }
+        ensures tally { OnOk result (tally_of self.new.tally ≡ woken_tally graph.now (stage_of self.old.phase)
+            woken (tally_of self.old.tally)) }
+    {
+        let Phase::Collecting(collection) = &self.phase else {
+            return Ok(());
+        };
+        let is_counted = is_wrapper_in(graph, collection.zones, woken);
+        self.tally.wrappers = with_one(self.tally.wrappers, is_counted)?;
+        Ok(())
+    }
+
+    // An entry that is put counts.
+    fn count_put(
+        &mut self,
+        graph: &Graph,
+        command: &GraphCmd,
+        reply: &Reply,
+    ) -> Result<(), NoMemory>
+        ensures same { OnOk result
+            (shown self.new ≡ record (shown self.old) { tally = tally_of self.new.tally }) }
+        ensures former { self.new.former ≡ self.old.former }
+        ensures tally { OnOk result (tally_of self.new.tally ≡ put_in graph.now (stage_of self.old.phase)
+            command.now reply.now (tally_of self.old.tally)) }
     {
         let (GraphCmd::Put(map, key, _), Reply::Accepted) = (command, reply) else {
-            return;
+            return Ok(());
         };
-        let (Some(map), Some(key)) = (graph.register(*map), graph.register(*key)) else {
-            return;
+        let Phase::Collecting(collection) = &self.phase else {
+            return Ok(());
         };
-        if let Phase::Collecting(collection) = &self.phase {
-            let is_counted = counts_entry(graph, collection.zones, map, key);
-            self.tally.entries = self.tally.entries.saturating_add(u64::from(is_counted));
-        }
+        let (map, key) = (graph.register(*map), graph.register(*key));
+        let is_counted = counts_entry(graph, collection.zones, map, key);
+        self.tally.entries = with_one(self.tally.entries, is_counted)?;
+        Ok(())
     }
 
     /// Why a collection of these zones may not begin, if it may not.
@@ -308,8 +352,11 @@ impl World {
 
     /// A collection of these zones begins: they are being prepared.
     pub fn begin(&mut self, graph: &Graph, zones: ZoneSet) -> Result<(), NoMemory>
-        ensures { OnOk result
-            (shown self.new ≡ record (shown self.old) { stage = preparing zones; walks = None }) }
+        ensures { OnOk result (shown self.new ≡ record (shown self.old) {
+          stage = preparing zones;
+          walks = None;
+          tally = with_arenas (arena_count (zones_in zones) (owners_in self.old.arenas));
+        }) }
     {
         self.tally = Tally {
             arenas: self.arenas.count(zones),
@@ -330,16 +377,18 @@ impl World {
         };
         let zones = preparation.zones;
         let collection = Collection::start(self.alloc, graph, preparation, &self.places)?;
-        self.tally = marking_tally(self, graph, zones);
+        self.tally = marking_tally(&self.tally, graph, zones, &self.places)?;
         self.former.keep();
         self.enter(Phase::Collecting(collection));
         Ok(())
     }
 
     /// The most units that the collection may have taken by now. It has one for each arena while it is being prepared.
-    pub fn unit_limit(&self) -> u64 {
+    pub fn unit_limit(&self) -> u128
+        ensures { result ≡ limit_in (stage_of self.now.phase) (tally_of self.now.tally) }
+    {
         match &self.phase {
-            Phase::Preparing(_) => self.tally.arenas,
+            Phase::Preparing(_) => u128::from(self.tally.arenas),
             _ => self.tally.limit(),
         }
     }

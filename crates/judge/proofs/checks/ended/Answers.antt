@@ -4,6 +4,7 @@ use Rattle.std.proofs.lemmas.List.{append-nil}
 use Rattle.gz_names.specs.Zones.{zones_in}
 use Rattle.colour_defs.specs.Ends.{arenas_from}
 use Rattle.judge.specs.Arenas.{owners_in}
+use Rattle.judge.specs.Bounds.{tally_of}
 use Rattle.judge.specs.Cells.{Cells, HasColours, LetsGo}
 use Rattle.judge.specs.Former.{Releases}
 use Rattle.judge.specs.Stages.{Ends, HasGroups, IsFirstGroup, Shown, Stage, shown, stage_of}
@@ -66,5 +67,6 @@ returns-then-is_same c =
             o.1 found.1 found.3,
           );
         };
+        tally_is = ap tally_of c.in_ok-end_group.ensures.tally ∙ ap (λ (s : Shown). s.tally) same;
       },
     )

@@ -1,5 +1,6 @@
 use Rattle.std.proofs.Common.{◌∙◌, ℕ, List, ap, drop, refl}
 use Rattle.trace_lang.specs.Texts.{report_text}
+use Rattle.judge.specs.Bounds.{tally_of, with_sweep}
 use Rattle.judge.specs.Stages.{shown}
 use Rattle.judge.specs.Whites.{whites_in}
 use Rattle.judge.proofs.checks.swept.Goals as goal
@@ -13,10 +14,11 @@ returns-then-is_same c = (
     rest = c.requires.0;
     first = c.requires.1;
     freed_are = refl;
-    clears = c.sweep.ensures.clears;
-    new_is = c.sweep.ensures.same ∙ ap (λ (xs : List ℕ). record (shown c.args.world.now) {
+    clears = c.in_ok-sweep.ensures.clears;
+    new_is = c.in_ok-sweep.ensures.same ∙ ap (λ (xs : List ℕ). record (shown c.args.world.now) {
       out = drop 1 xs;
       whites = c.sweep.new.self.whites;
+      tally = with_sweep (tally_of c.args.world.now.tally);
     }) c.requires.1;
   },
 )

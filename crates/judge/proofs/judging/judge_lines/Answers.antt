@@ -23,7 +23,7 @@ one_more_judged input rest more line n g h old new due next j one e (inl (text, 
 one_more_judged input rest more line n g h old new due next j one e (inr (u, same, ans)) =
     subst (λ k. Judged input (n + 1) more k new next) (sym same) (answered j one e u ans)
 
-judged_of : (input rest : List ℕ) (n : ℕ) (g : GraphState) (s : Shown) (due : Due) → Judged input n rest g s due
+abbrev judged_of : (input rest : List ℕ) (n : ℕ) (g : GraphState) (s : Shown) (due : Due) → Judged input n rest g s due
     → HasJudged input n rest due
 judged_of input rest n g s due j = record { graph = g; shows = s; judged = j }
 
@@ -89,8 +89,9 @@ returns-in-Bad-clause-verdict g c = λ input e.
     let line : List ℕ = c.next.new.line.items in
     let one = subst (λ (r : NextLine). GivesLine i.0 given.0 r line) c.in-Line.is given.2 in
     let due : Due = due_as c.loop-read.known.awaited in
-    let bad = subst (λ (s : Said). IsSaid due c.as_slice.result.now s) c.in-Bad.is c.in_ok-next-2.ensures.said in
-    let judged = judged_of input i.0 c.loop-read.read c.loop-read.known.graph _ due i.2 in
+    let shows : Shown = shown c.loop-read.known.world in
+    let bad = subst (λ (s : Said). IsSaid shows due c.as_slice.result.now s) c.in-Bad.is c.in_ok-next-2.ensures.said in
+    let judged = judged_of input i.0 c.loop-read.read c.loop-read.known.graph shows due i.2 in
     bad_judged input i.0 given.0 line c.loop-read.read due judged one
     (subst (λ (l : List ℕ). IsBadLine l) c.as_slice.ensures.value bad)
 
@@ -101,7 +102,9 @@ returns-in-Wrong-clause-verdict g c = λ input e.
     let line : List ℕ = c.next.new.line.items in
     let one = subst (λ (r : NextLine). GivesLine i.0 given.0 r line) c.in-Line.is given.2 in
     let due : Due = due_as c.loop-read.known.awaited in
-    let wrong = subst (λ (s : Said). IsSaid due c.as_slice.result.now s) c.in-Wrong.is c.in_ok-next-2.ensures.said in
-    let judged = judged_of input i.0 c.loop-read.read c.loop-read.known.graph _ due i.2 in
+    let shows : Shown = shown c.loop-read.known.world in
+    let said = c.in_ok-next-2.ensures.said in
+    let wrong = subst (λ (s : Said). IsSaid shows due c.as_slice.result.now s) c.in-Wrong.is said in
+    let judged = judged_of input i.0 c.loop-read.read c.loop-read.known.graph shows due i.2 in
     wrong_judged input i.0 given.0 line c.loop-read.read due judged one
-    (subst (λ (l : List ℕ). IsWrongLine due l) c.as_slice.ensures.value wrong)
+    (subst (λ (l : List ℕ). IsWrongLine shows due l) c.as_slice.ensures.value wrong)

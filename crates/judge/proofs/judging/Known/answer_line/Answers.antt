@@ -26,5 +26,5 @@ returns-in-Err-clause-said c =
     let new : Shown = shown c.judge_line.new.world in
     let judged = subst (λ r. IsJudgedLine g old due c.args.line.now new r) c.in-Err.is c.in_ok-awaited.ensures in inr (
       c.requires.unmarked,
-      subst (λ (a : Awaited). MayBeWrong (due_as a) c.args.line.now) c.replace-awaited.ensures.value judged,
+      subst (λ (a : Awaited). MayBeWrong old (due_as a) c.args.line.now) c.replace-awaited.ensures.value judged,
     )

@@ -6,7 +6,8 @@ use Rattle.judge.proofs.judging.Known.next.Goals as goal
 
 pub returns-in-Some-clause-said : goal.returns-in-Some-clause-said
 returns-in-Some-clause-said c =
-    subst (λ (l : List ℕ). IfOk c.trace_line.result (IsSaid (due_as c.args.self.now.awaited) l))
+    let before = c.args.self.now in
+    subst (λ (l : List ℕ). IfOk c.trace_line.result (IsSaid (shown before.world) (due_as before.awaited) l))
     (sym c.in-Some.ensures.some) c.trace_line.ensures.said
 
 pub returns-in-Some-clause-fine : goal.returns-in-Some-clause-fine

@@ -65,3 +65,8 @@ returns-clause-whites c =
     ∙ c.in_ok-let_go.ensures.whites in
     on_ok_known c.settle.result (subst (λ (ws : Whites). AreByArena cells c.args.end.now.whites.items ws) (sym same)
     (subst (λ (ns : List Name). AreByArena cells ns kept) c.as_slice.ensures.value c.in_ok-self.ensures))
+
+pub returns-clause-tally : goal.returns-clause-tally
+returns-clause-tally c =
+    on_ok_weaker c.settle.result (λ e. e ∙ ap (λ (w : World). w.tally) c.end_first.ensures.rest
+    ∙ c.in_ok-let_go.ensures.tally) c.settle.ensures.tally

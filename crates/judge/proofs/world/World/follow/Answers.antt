@@ -85,3 +85,7 @@ pub returns-in-Some-clause-whites : goal.returns-in-Some-clause-whites
 returns-in-Some-clause-whites c =
     on_ok_weaker c.wake.result (λ e. e ∙ ap (λ (s : Shown). s.whites) c.in_ok-take.ensures.same)
     c.wake.ensures.whites
+
+pub returns-in-Some-clause-tally : goal.returns-in-Some-clause-tally
+returns-in-Some-clause-tally c =
+    on_ok_weaker c.wake.result (λ e. e ∙ c.in_ok-take.ensures.tally) c.wake.ensures.tally

@@ -9,6 +9,7 @@ loop-name-init c = record {
   black = refl;
   whites = refl;
   arenas = record { owners = refl; out = refl };
+  tally = refl;
   places = lets_none _;
 }
 
@@ -22,6 +23,7 @@ loop-name-preserved c = record {
     owners = c.in_ok-let_one_go.ensures.arenas.owners ∙ c.loop-name.invariant.arenas.owners;
     out = c.in_ok-let_one_go.ensures.arenas.out ∙ c.loop-name.invariant.arenas.out;
   };
+  tally = c.in_ok-let_one_go.ensures.tally ∙ c.loop-name.invariant.tally;
   places = lets_more _ c.loop-name.self.places c.let_one_go.new.self.places c.args.whites.now c.loop-name.name-index _
       c.loop-name-test.true c.loop-name.invariant.places c.in_ok-let_one_go.ensures.places;
 }

@@ -10,5 +10,6 @@ invariant-loop-name l = record {
   black : l.self.black ≡ l.fn.self.black;
   whites : l.self.whites ≡ l.fn.self.whites;
   arenas : AreSameArenas l.fn.self.arenas l.self.arenas;
+  tally : l.self.tally ≡ l.fn.self.tally;
   places : LetsGo (take l.name-index l.whites) l.fn.self.places l.self.places;
 }

@@ -1,6 +1,7 @@
 use Rattle.std.proofs.Common.{◌≡◌, ◌∙◌, None, ap, subst, sym}
 use Rattle.gz_names.specs.Zones.{zones_in}
 use Rattle.gz_names.specs.declared.zone_sets.ZoneSet.{ZoneSet}
+use Rattle.judge.specs.Bounds.{IsFirstTally, marking_tally, tally_of}
 use Rattle.judge.specs.Former.{Keeps}
 use Rattle.judge.specs.Starts.{IsBegun}
 use Rattle.judge.specs.Stages.{collecting, preparing, shown, stage_in, stage_of}
@@ -23,12 +24,20 @@ returns c = λ zones e.
     let same : preparing first ≡ preparing zones = sym (ap stage_of c.in-Preparing.is) ∙ e in
     let zones_are : first ≡ zones = cc same in
     let stage : stage_in collection ≡ collecting zones zones None =
-    c.in_ok-collection.ensures.stage ∙ ap (λ (z : ZoneSet). collecting z z None) zones_are in record {
+    c.in_ok-collection.ensures.stage ∙ ap (λ (z : ZoneSet). collecting z z None) zones_are in
+    let tally : tally_of after.tally ≡ tally_of c.in_ok-self.field-0 =
+    ap (λ (w : World). tally_of w.tally) c.enter.ensures in
+    let counted = c.in_ok-self.ensures.is
+    ∙ ap (λ (z : ZoneSet). marking_tally c.args.graph.now (zones_in z) before.places (tally_of before.tally))
+    zones_are in
+    let counts = subst (λ (z : ZoneSet). IsFirstTally c.args.graph.now z before.places (tally_of before.tally)
+    (tally_of c.in_ok-self.field-0)) zones_are c.in_ok-self.ensures.first in record {
       walks = walks_in collection;
       begun = subst (λ (z : ZoneSet). IsBegun c.args.graph.now (zones_in z) before.places (walks_in collection))
           zones_are c.in_ok-collection.ensures.begun;
       keeps = subst (λ (f : Former). Keeps before.former f) (sym (ap (λ (w : World). w.former) c.enter.ensures))
           c.keep.ensures;
-      new_is = started_is (shown before) (shown after) _ zones (stage_in collection) (walks_in collection)
-          (ap shown c.enter.ensures) stage;
+      counted = λ w p stands. tally ∙ counts w p stands;
+      new_is = started_is (shown before) (shown after) zones (stage_in collection) (walks_in collection)
+          (ap shown c.enter.ensures) stage counted;
     }

@@ -41,3 +41,8 @@ pub returns-clause-whites : goal.returns-clause-whites
 returns-clause-whites c =
     on_ok_weaker c.turn_black.result (λ same. ap (λ (s : Shown). s.whites) same
     ∙ ap (λ (s : Shown). s.whites) c.in_ok-give_place.ensures.same) c.turn_black.ensures.same
+
+pub returns-clause-tally : goal.returns-clause-tally
+returns-clause-tally c =
+    on_ok_weaker c.turn_black.result (λ same. ap (λ (s : Shown). s.tally) same
+    ∙ ap (λ (s : Shown). s.tally) c.in_ok-give_place.ensures.same) c.turn_black.ensures.same
