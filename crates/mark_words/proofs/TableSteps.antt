@@ -6,7 +6,8 @@ use Rattle.std.proofs.Common.{All, w64}
 use Rattle.std.specs.Int.{bit_at, bit_not}
 use Rattle.std.proofs.lemmas.List.Elements.{All-nil, All-append, All-weaker, All-get_or, All-from_get_or}
 use Rattle.std.proofs.lemmas.List.{set-get_or}
-use Rattle.std.proofs.lemmas.Nat.Bits.{bit_at_above, bit_at_and, bit_at_not, bit_at_or, bit_at-lt}
+use Rattle.std.proofs.lemmas.Nat.Bits.{bit_at_above, bit_at_and, bit_at_not, bit_at_or, bit_at-lt, bit_at-zero}
+use Rattle.std.proofs.lemmas.Nat.Bits.{same_from_bits}
 use mathlib.Core.Logic.{dite}
 use mathlib.Core.Option.{none, some, some-injective, some-ne-none}
 use native.Mathlib.Decide.{ℕ_discrete}
@@ -19,15 +20,28 @@ use Rattle.mark_words.specs.Sums.{only, times, total, whole}
 use Rattle.mark_words.specs.Rule.{bit_of, IsBlackIn, SeatRule, MarkRule}
 use Rattle.mark_words.specs.Places.{places_of}
 use Rattle.mark_words.specs.Views.{first_view, new_log, with_less, split_off, joined, spent, with_tried}
-use Rattle.mark_words.specs.Steps.{KnowsAll, tries, settles}
+use Rattle.mark_words.specs.Steps.{HasTried, KnowsAll, looks, tries, settles}
 use Rattle.mark_words.proofs.Counts.{total-set, total-snoc, total-at, total-alone, weigh-append}
-use Rattle.mark_words.proofs.Places.{all_below, each_below, times-away, times-inside, times-past}
+use Rattle.mark_words.proofs.Places.{all_below, below-zero, each_below, times-away, times-inside, times-past}
 
 abbrev Sat : Type 0
 Sat = Me (Unit {0}) MarkView
 
-module _ (P : ℕ × ℕ → Type 0) (first : List ℕ) (slots id : ℕ) (me : Sat) (a m : ℕ) (lt : a < length first)
-    (fits : m < 2 ^ 64) (listed : All P (places_of a m)) (some_part : 0 < me.0.parts) where
+-- a step that writes what it found and leaves the seat as it was changes nothing
+unchanged : (s : State (Unit {0}) MarkView) (id : ℕ) (me : Sat) (a : ℕ) → get_elem? s.views id ≡ some me.0
+    → stepped s a (get_or s.words a 0) id me.1 me.0 keeps ≡ s
+unchanged s id me a at =
+    λ i. record { words = set-get_or s.words a 0 i; homes = s.homes; views = set_again s.views id me.0 at i }
+
+-- a seat may try the slots of a mask, of an arena that has a word
+pub record MayTry (P : ℕ × ℕ → Type 0) (first : List ℕ) (me : Sat) (a m : ℕ) : Type 0 where
+  pub inside : a < length first
+  pub fits : m < 2 ^ 64
+  pub listed : All P (places_of a m)
+  pub some_part : 0 < me.0.parts
+  pub first_is : me.0.first ≡ first
+
+module _ (P : ℕ × ℕ → Type 0) (first : List ℕ) (slots id : ℕ) (me : Sat) (a m : ℕ) (t : MayTry P first me a m) where
   -- the slots that the word lacks
   abbrev lacked : ℕ → ℕ
   lacked n = bit_and m (bit_not w64 n)
@@ -73,7 +87,7 @@ module _ (P : ℕ × ℕ → Type 0) (first : List ℕ) (slots id : ℕ) (me : S
       let own : SeatRule P first ws' w = record {
         listed = won;
         inside = subst (All Inside) (sym known) (All-append Inside me.0.known (places_of a m) old.inside
-            (all_below Inside a m 64 (λ i low one. lt)));
+            (all_below Inside a m 64 (λ i low one. t.inside)));
         black = subst (All (IsBlackIn ws')) (sym known) (All-append (IsBlackIn ws') me.0.known (places_of a m)
             (All-weaker (IsBlackIn ws) (IsBlackIn ws') still me.0.known old.black) mine);
         idle = λ none. absurd (omega arith);
@@ -96,12 +110,11 @@ module _ (P : ℕ × ℕ → Type 0) (first : List ℕ) (slots id : ℕ) (me : S
   -- a slot that the word lacked was white at first, and this seat had not won it
   was_white : (s : State (Unit {0}) MarkView) → MarkRule P first s → get_elem? s.views id ≡ some me.0 → (i : ℕ)
       → bit_at (get_or s.words a 0) i ≡ 0 → (times (a, i) me.0.won ≡ 0) × (bit_of first (a, i) ≡ 0)
-  was_white s r at i lack = let b = r.bits (a, i) lt in
-      let t = total-at (λ (v : MarkView). times (a, i) v.won) s.views id me.0 at in ((omega arith), (omega arith))
+  was_white s r at i lack = let b = r.bits (a, i) t.inside in
+      let u = total-at (λ (v : MarkView). times (a, i) v.won) s.views id me.0 at in ((omega arith), (omega arith))
 
-  pub trying : me.0.first ≡ first → Allows (MarkRule P first) slots id me a (λ n. bit_or n m)
-      (tries (step slots a m 0 none) me)
-  trying firsts s r _ at small =
+  pub trying : Allows (MarkRule P first) slots id me a (λ n. bit_or n m) (tries (step slots a m 0 none) me)
+  trying s r _ at small =
       let n : ℕ = get_or s.words a 0 in
       let old = r.seats id me.0 at in
       let won : List (ℕ × ℕ) = places_of a (lacked n) in
@@ -110,20 +123,21 @@ module _ (P : ℕ × ℕ → Type 0) (first : List ℕ) (slots id : ℕ) (me : S
       let l = lacked_bit n i small low in let b = bit_at-lt n i in omega arith in
       let Unwon : ℕ × ℕ → Type 0 = λ p. times p me.0.won ≡ 0 in
       let White : ℕ × ℕ → Type 0 = λ p. bit_of me.0.first p ≡ 0 in
-      let listed' : All P won = all_below P a (lacked n) 64 (λ i low one. each_below P a m 64 listed i low
+      let listed' : All P won = all_below P a (lacked n) 64 (λ i low one. each_below P a m 64 t.listed i low
       (let l = lacked_bit n i small low in let b = bit_at-lt m i in omega arith)) in (
         w,
         keeps,
         tt,
         after s r at w refl
             (λ i. let o = bit_at_or n m i in let x = bit_at-lt n i in let y = bit_at-lt m i in
-            let t = weigh-append (only (a, i)) me.0.won won in
+            let u = weigh-append (only (a, i)) me.0.won won in
             dite (ℕ_discrete (64 - i) 0)
             (λ high. let p = times-past a (lacked n) 64 i (omega arith) in
-            let z = bit_at_above m 64 i fits (omega arith) in omega arith)
+            let z = bit_at_above m 64 i t.fits (omega arith) in omega arith)
             (λ low. let p = times-inside a (lacked n) 64 i (omega arith) in
             let l = lacked_bit n i small (omega arith) in omega arith))
-            (λ q ne. let t = weigh-append (only q) me.0.won won in let z = times-away a (lacked n) 64 q ne in omega arith)
+            (λ q ne. let u = weigh-append (only q) me.0.won won in
+            let z = times-away a (lacked n) 64 q ne in omega arith)
             (All-append P me.0.won won old.listed listed')
             refl,
         (
@@ -132,11 +146,44 @@ module _ (P : ℕ × ℕ → Type 0) (first : List ℕ) (slots id : ℕ) (me : S
           record {
             view_is = refl;
             unwon = all_below Unwon a (lacked n) 64 (λ i low one. (was_white s r at i (white i low one)).0);
-            white = all_below White a (lacked n) 64 (λ i low one. ap (λ (l : List ℕ). bit_of l (a, i)) firsts
+            white = all_below White a (lacked n) 64 (λ i low one. ap (λ (l : List ℕ). bit_of l (a, i)) t.first_is
                 ∙ (was_white s r at i (white i low one)).1);
           },
         ),
       )
+
+  -- a word that lacks none of the slots has them all
+  covered : (n : ℕ) → n < 2 ^ 64 → lacked n ≡ 0 → bit_or n m ≡ n
+  covered n small none' = same_from_bits (bit_or n m) n (λ i. let o = bit_at_or n m i in
+      let x = bit_at-lt n i in let y = bit_at-lt m i in dite (ℕ_discrete (64 - i) 0)
+      (λ high. let z = bit_at_above m 64 i t.fits (omega arith) in omega arith)
+      (λ low. let l = lacked_bit n i small (omega arith) in
+      let z : bit_at (lacked n) i ≡ 0 = ap (λ (k : ℕ). bit_at k i) none' ∙ bit_at-zero i in omega arith))
+
+  pub looking : Allows (MarkRule P first) slots id me a (λ n. n) (looks m (step slots a 0 0 none) me)
+  looking s r homed at small =
+      let n : ℕ = get_or s.words a 0 in
+      dite (ℕ_discrete (lacked n) 0)
+      (λ none'. let u = trying s r homed at small in (
+        u.0,
+        u.1,
+        u.2,
+        subst (λ (k : ℕ). MarkRule P first (stepped s a k id me.1 u.0 u.1)) (covered n small none') u.3,
+        (
+          u.4.0,
+          u.4.1,
+          (λ _. subst (λ (won : List (ℕ × ℕ)). HasTried me.0 (places_of a m) won u.0)
+              (ap (places_of a) none' ∙ below-zero a 64) u.4.2),
+          (λ some'. absurd (some' none')),
+        ),
+      ))
+      (λ some'. (
+        me.0,
+        keeps,
+        tt,
+        subst (MarkRule P first) (sym (unchanged s id me a at)) r,
+        (refl, refl, (λ none'. absurd (some' none')), (λ _. refl)),
+      ))
 
 module _ (P : ℕ × ℕ → Type 0) (first : List ℕ) where
   fresh : (words firsts : List ℕ) (parts : ℕ) (logs : List MarkLog) → SeatRule P first words
@@ -249,6 +296,5 @@ module _ (P : ℕ × ℕ → Type 0) (first : List ℕ) where
   pub settling : (slots id a : ℕ) (me : Sat) → me.0.first ≡ first
       → Allows (MarkRule P first) slots id me a (λ n. n) (settles (step slots a 0 0 none) me)
   settling slots id a me firsts s r _ at _ =
-      let same : stepped s a (get_or s.words a 0) id me.1 me.0 keeps ≡ s =
-      λ i. record { words = set-get_or s.words a 0 i; homes = s.homes; views = set_again s.views id me.0 at i } in
+      let same = unchanged s id me a at in
       (me.0, keeps, tt, subst (MarkRule P first) (sym same) r, (refl, λ all. knows s r id me.0 at firsts all))

@@ -1,5 +1,5 @@
 -- What a step tells a seat.
-use Rattle.std.specs.Prelude.{◌≡◌, ℕ, ◌+◌, List, bit_and, All}
+use Rattle.std.specs.Prelude.{◌≡◌, ◌≢◌, ℕ, ◌+◌, List, [], bit_and, All}
 use Rattle.std.specs.Int.{bit_not, w64}
 use Rattle.atomic_table.specs.Table.{Me, Step}
 use Rattle.mark_words.specs.declared.view.MarkView.{MarkView}
@@ -22,6 +22,12 @@ pub record HasTried (v : MarkView) (tried won : List (ℕ × ℕ)) (w : MarkView
 abbrev pub tries : Step (Unit {0}) → Sat → ℕ → Sat → Type 0
 tries st m n m' = (m'.1 ≡ m.1) × (m'.0.first ≡ m.0.first)
     × HasTried m.0 (places_of st.word st.first) (places_of st.word (bit_and st.first (bit_not w64 n))) m'.0
+
+-- the seat looks whether the word has all of these slots: if so, it has tried their places, and has won none
+abbrev pub looks : ℕ → Step (Unit {0}) → Sat → ℕ → Sat → Type 0
+looks slots st m n m' = (m'.1 ≡ m.1) × (m'.0.first ≡ m.0.first)
+    × (bit_and slots (bit_not w64 n) ≡ 0 → HasTried m.0 (places_of st.word slots) [] m'.0)
+    × (bit_and slots (bit_not w64 n) ≢ 0 → m'.0 ≡ m.0)
 
 -- each place that the seat tried was black at first, or was won by it, once
 abbrev pub KnowsAll : MarkView → Type 0

@@ -11,6 +11,9 @@
 //     A tries the first two slots: fetch_or saw 0 1 0 0     A has won the first cell      1 1 0 0
 //     B tries the first slot:      fetch_or saw 1 1 0 0     B has won nothing             1 1 0 0
 //
+// A try looks first, by a load. If the word has all of these bits, the cells were black, and the seat has tried
+// them and won nothing: the word need not be written, and stays in the caches of both threads.
+//
 // If a try were a load and then a store, both threads could load 0 1 0 0, and both would store. The
 // cell would be scanned twice. Worse, if they tried different slots of the arena, the later store would
 // clear the bit that the earlier one set: a reached cell would be white at the end, and be swept.

@@ -1,15 +1,16 @@
 // Marks and their seats.
-ghost use Rattle.std.specs.Prelude.{◌≡◌, ℕ, ◌+◌, ◌<◌, ◌≤◌, [], length, slice_index, IfOk, All};
+ghost use Rattle.std.specs.Prelude.{◌≡◌, ℕ, ◌+◌, ◌<◌, ◌≤◌, [], true, false, length, slice_index, IfOk, All};
 ghost use Rattle.std.specs.Int.{bit_at};
 ghost use Rattle.mark_words.specs.Sums.{times, whole};
 ghost use Rattle.mark_words.specs.Rule.{bit_of};
 
-use crate::place_list::PlaceList;
-use crate::steps::{Joins, Ruled, Settles, Splits, Tries};
+use crate::place_list::{PlaceList, SlotMask};
+use crate::steps::{Joins, Looks, Ruled, Settles, Splits, Tries};
 use crate::view::MarkView;
 use atomic_table::{Seat as TableSeat, Table};
 use gz_names::NoMemory;
 use std::alloc::Global;
+use std::marker::Brand;
 
 /// The black word of each arena, as atomic words that several threads may step on.
 #[derive(Drop)]
@@ -82,11 +83,34 @@ impl<L: PlaceList> Marks<L> {
         ensures tried { HasTried (view_of seat.old) (places_of arena slots) (places_of arena result)
             (view_of seat.new) }
     {
+        if self.are_black::<Brand>(seat, arena, slots) {
+            return 0;
+        }
         let found = self
             .table
             .shared
             .fetch_or::<Tries>(&mut seat.seat, arena as usize, slots);
         slots & !found
+    }
+
+    // Whether these slots of an arena are all black. If they are, they were tried by this look, which is cheaper than a
+    // step that writes and leaves the word with other threads.
+    fn are_black<K: SlotMask>(&self, seat: &mut Seat, arena: u32, slots: u64) -> bool
+        requires slots { slots ≡ K.slots }
+        requires seat { IsSeatOf self.now seat.old }
+        requires parts { 0 < (view_of seat.old).parts }
+        requires arena { arena < length (first_of self.now) }
+        requires listed { All L.places (places_of arena slots) }
+        ensures seat { IsSeatOf self.now seat.new }
+        ensures tried { result ≡ true → HasTried (view_of seat.old) (places_of arena slots) [] (view_of seat.new) }
+        ensures same { result ≡ false → view_of seat.new ≡ view_of seat.old }
+    {
+        let found = self
+            .table
+            .shared
+            .load::<Looks<K>>(&mut seat.seat, arena as usize);
+        let lacked = slots & !found;
+        lacked == 0
     }
 
     /// A seat that holds all parts learns of each cell that it tried that it was black at first, or that

@@ -10,6 +10,15 @@ pub trait PlaceList {
     ghost places: { ℕ × ℕ → Type 0 };
 }
 
+/// The slots of an arena that a seat looks at. Contracts alone see them, as they see the places of a list.
+pub trait SlotMask {
+    ghost slots: { ℕ };
+}
+
+impl SlotMask for Brand {
+    ghost slots = { 0 };
+}
+
 impl PlaceList for Brand {
     ghost places = { λ _. ⊥ };
 }

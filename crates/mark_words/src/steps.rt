@@ -1,9 +1,9 @@
 // The rule of the table of black words, and the kinds of step on it.
 ghost use Rattle.mark_words.specs.Rule.{MarkRule};
 ghost use Rattle.mark_words.specs.Views.{first_view, with_less, split_off, joined, spent};
-ghost use Rattle.mark_words.specs.Steps.{tries, settles};
+ghost use Rattle.mark_words.specs.Steps.{looks, tries, settles};
 
-use crate::place_list::PlaceList;
+use crate::place_list::{PlaceList, SlotMask};
 use crate::view::MarkView;
 use atomic_table::{Join, Play, Split, TableRule};
 use std::marker::PhantomData;
@@ -42,6 +42,15 @@ pub struct Tries;
 
 impl Play<(), MarkView> for Tries {
     ghost then = { tries };
+}
+
+/// A seat looks whether some slots of an arena are all black, and has tried them if they are.
+pub struct Looks<K> {
+    slots: PhantomData<K>,
+}
+
+impl<K: SlotMask> Play<(), MarkView> for Looks<K> {
+    ghost then = { looks K.slots };
 }
 
 /// A seat that holds all parts learns that all that was won was won by it.
