@@ -12,12 +12,3 @@ pub mod GraySteps
 pub mod GrayUnits
 mod LookSteps
 pub mod UnitsToCome
-pub mod Members
-pub mod BlackBits
-pub mod WonCells
-pub mod AllStarted
-pub mod PresentCells
-pub mod AllFollowed
-pub mod MarkingArenas
-pub mod TurnedSome
-pub mod MarkedAhead

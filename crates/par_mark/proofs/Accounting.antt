@@ -1,6 +1,6 @@
 -- What turns do to a caller's account.
 use Rattle.std.proofs.Common.{◌≡◌, ℕ, zero, suc, ◌+◌, ◌<◌, ◌≤◌, Bool, true, false, List, [], ◌∷◌, ◌++◌, length, Option}
-use Rattle.std.proofs.Common.{Some, None, sym, refl, ◌∙◌, subst, arith, All, append_assoc, append-nil}
+use Rattle.std.proofs.Common.{Some, None, sym, refl, ap, ◌∙◌, subst, arith, All, append_assoc, append-nil}
 use Rattle.std.proofs.lemmas.List.Elements.{All-cons, All-nil, All-append, All-head, All-tail, All-weaker}
 use mathlib.Core.Logic.{dite}
 use native.Mathlib.Decide.{ℕ_discrete}
@@ -11,14 +11,14 @@ use Rattle.mark_words.proofs.Counts.{weigh-append, weigh-snoc}
 use Rattle.mark_words.proofs.Places.{all_front}
 use Rattle.par_mark.specs.declared.donations.QueueView.{QueueView}
 use Rattle.par_mark.specs.Donations.{HasTaken}
-use Rattle.marker.specs.Edges.{held, first_targets, targets, out}
+use Rattle.mark_ahead.specs.Edges.{held, first_targets, targets, out}
 use Rattle.par_mark.specs.Edges.{all_targets}
 use Rattle.par_mark.specs.Accounts.{Accounts, HasRoom}
 use Rattle.par_mark.specs.States.{AccountsAt, CallerState}
 use Rattle.par_mark.specs.Tries.{AreMade, IsTaken, own, queued, IsDonated, kept, given, IsTried, beyond, within, Serves}
 use Rattle.par_mark.specs.Tries.{HasTriedSome, HasTurned}
 use Rattle.par_mark.proofs.Cells.{weigh-all_targets}
-use Rattle.marker.proofs.Members.{from_times}
+use Rattle.mark_ahead.proofs.Members.{from_times}
 use Rattle.par_mark.proofs.Listed.{listed_by_weight}
 use Rattle.par_mark.proofs.Moving.{moved_none, moved_more, taken_moved, made_moved, beyond_moved, with_taken}
 use Rattle.par_mark.proofs.Scanning.{weigh-one}
@@ -191,6 +191,7 @@ module _ (edge : ℕ × ℕ → ℕ → Option (ℕ × ℕ)) (marking : ℕ × �
     subst (λ (x : ℕ × CallerState). HasTriedSome edge marking P x.0 [] s x.1) (λ i. (sym o i, sym e i)) record {
       moved = moved_more 0 1 1 [] [] s (with_taken s tries d) _ (omega arith) (taken_moved P s tries d p t)
           (beyond_moved (with_taken s tries d) p);
+      won_is = sym (append-nil s.won);
       accounts = λ firsts u a. subst (λ (l : List (ℕ × ℕ)). AccountsAt edge marking P firsts [] l
           (record s { tries = tries; pass = d; outside = s.outside ++ p ∷ [] })) (sym (append-nil u))
           (beyond_books firsts u p (with_taken s tries d) m
@@ -203,6 +204,7 @@ module _ (edge : ℕ × ℕ → ℕ → Option (ℕ × ℕ)) (marking : ℕ × �
     record {
       moved = moved_more 0 made made [] m.won s (with_taken s tries d) s' (omega arith) (taken_moved P s tries d p t)
           (made_moved marking (with_taken s tries d) s' made p m);
+      won_is = m.won_is;
       accounts = λ firsts u a. made_books firsts u made p (with_taken s tries d) s' m
           (took firsts u s.tries tries s.outside s.seat s.pass d p t a);
       tries_listed = λ all. let l = listed_taken s.tries tries s.pass d p t all in
@@ -213,6 +215,7 @@ module _ (edge : ℕ × ℕ → ℕ → Option (ℕ × ℕ)) (marking : ℕ × �
   pub tried_none : (s : CallerState) → HasTriedSome edge marking P 0 [] s s
   tried_none s = record {
     moved = moved_none s;
+    won_is = sym (append-nil s.won);
     accounts = λ firsts u a. subst (λ (l : List (ℕ × ℕ)). AccountsAt edge marking P firsts [] l s)
         (sym (append-nil u)) a;
     tries_listed = λ all. all;
@@ -222,19 +225,21 @@ module _ (edge : ℕ × ℕ → ℕ → Option (ℕ × ℕ)) (marking : ℕ × �
       → HasTriedSome edge marking P m ys b c → HasTriedSome edge marking P (n + m) (xs ++ ys) a c
   tried_more n m xs ys a b c x y = record {
     moved = moved_more n m (n + m) xs ys a b c refl x.moved y.moved;
+    won_is = y.won_is ∙ ap (λ (l : List (ℕ × ℕ)). l ++ ys) x.won_is ∙ append_assoc a.won xs ys;
     accounts = λ firsts u k. subst (λ (l : List (ℕ × ℕ)). AccountsAt edge marking P firsts [] l c)
         (append_assoc u xs ys) (y.accounts firsts (u ++ xs) (x.accounts firsts u k));
     tries_listed = λ all. y.tries_listed (x.tries_listed all);
   }
 
-  pub turned_none : (s : CallerState) → HasTurned edge marking P 0 s s
-  turned_none s = record { won = []; moved = moved_none s; accounts = λ firsts a. a }
+  pub turned_none : (s : CallerState) → s.won ≡ [] → HasTurned edge marking P 0 s s
+  turned_none s none = record { won = []; moved = moved_none s; none_left = none; accounts = λ firsts a. a }
 
   pub turned_more : (n m k : ℕ) (a b c : CallerState) → n + m ≡ k → HasTurned edge marking P n a b
       → HasTurned edge marking P m b c → HasTurned edge marking P k a c
   turned_more n m k a b c e x y = record {
     won = x.won ++ y.won;
     moved = moved_more n m k x.won y.won a b c e x.moved y.moved;
+    none_left = y.none_left;
     accounts = λ firsts l. y.accounts firsts (x.accounts firsts l);
   }
 
@@ -295,20 +300,20 @@ module _ (edge : ℕ × ℕ → ℕ → Option (ℕ × ℕ)) (marking : ℕ × �
 
     -- a turn: tries were made, and then the cells that were won were scanned
     pub turned : (n : ℕ) (won : List (ℕ × ℕ)) (s m s' : CallerState) → s.seat.first ≡ first
-        → HasTriedSome edge marking P n won s m → s' ≡ record m { tries = m.tries ++ all_targets edge won }
-        → HasTurned edge marking P n s s'
+        → HasTriedSome edge marking P n won s m
+        → s' ≡ record m { tries = m.tries ++ all_targets edge won; won = [] } → HasTurned edge marking P n s s'
     turned n won s m s' same t e = subst (HasTurned edge marking P n s) (sym e) record {
       won = won;
       moved = record {
         grown = t.moved.grown;
         grown_won = t.moved.grown_won;
-        won_is = t.moved.won_is;
         count = t.moved.count;
         first_is = t.moved.first_is;
         parts_is = t.moved.parts_is;
         queue_parts = t.moved.queue_parts;
         whole_taken = t.moved.whole_taken;
       };
+      none_left = refl;
       accounts = λ firsts a. scanned firsts won m.tries m.outside m.seat m.pass (t.moved.first_is ∙ same)
           (t.accounts firsts [] a);
     }

@@ -4,7 +4,7 @@ use Rattle.std.proofs.Common.{Option, Some, None, sym, refl, ap, ◌∙◌, arit
 use Rattle.std.proofs.lemmas.List.{length-append, take_more, take-append-drop}
 use Rattle.mark_words.specs.Sums.{weigh}
 use Rattle.mark_words.proofs.Counts.{weigh-append}
-use Rattle.marker.specs.Edges.{held, first_targets, targets, out}
+use Rattle.mark_ahead.specs.Edges.{held, first_targets, targets, out}
 use Rattle.par_mark.specs.Edges.{all_targets}
 
 length-held : (o : Option (ℕ × ℕ)) → length (held o) ≤ 1

@@ -6,9 +6,9 @@ use native.Mathlib.Decide.{ℕ_discrete}
 use Rattle.std.specs.Int.{bit_at}
 use Rattle.std.proofs.lemmas.Nat.Bits.{bit_at-lt}
 use Rattle.mark_words.specs.Rule.{bit_of}
-use Rattle.marker.specs.Blackening.{Reached, near, far}
+use Rattle.mark_ahead.specs.Blackening.{Reached, near, far}
 use Rattle.par_mark.specs.Closed.{ClosesUp}
-use Rattle.marker.proofs.Members.{from_times}
+use Rattle.mark_ahead.proofs.Members.{from_times}
 
 either : (b : Bool) → (b ≡ true) ⊎ (b ≡ false)
 either true = inl refl

@@ -1,10 +1,10 @@
 -- Where the cells of a heap are.
-use Rattle.std.proofs.Common.{◌≡◌, ℕ, ◌<◌, length}
+use Rattle.std.proofs.Common.{ℕ, ◌<◌, length}
 use Rattle.heap_core.specs.Shape.{HasEdge, IsPresent, field_at, zone_of}
 use Rattle.heap_core.specs.Heap.{HeapState}
-use Rattle.marker.specs.Edges.{Leads}
+use Rattle.mark_ahead.specs.Edges.{Leads}
 use Rattle.par_mark.specs.Heaps.{HasCell}
-use Rattle.marker.proofs.PresentCells.{present_inside}
+use Rattle.mark_ahead.proofs.PresentCells.{present_inside}
 
 -- a present cell lies in an arena that was made, in one of its 64 slots
 pub inside : (h : HeapState) (p : ℕ × ℕ) → HasCell h p → (p.0 < length h.shape.arenas) × (p.1 < 64)

@@ -15,5 +15,8 @@ pub mod Pigeons
 pub mod TestCells
 pub mod HeapCells
 pub mod HeapSync
+pub mod MarkingArenas
 pub mod Closing
+pub mod TurnedCells
+pub mod Ending
 pub mod TestHeaps

@@ -1,5 +1,5 @@
 -- The books of both callers in one.
-use Rattle.std.proofs.Common.{◌≡◌, ℕ, ◌+◌, ◌≤◌, Bool, true, false, List, [], ◌++◌, length, Option, sym, refl, ap, ◌∙◌}
+use Rattle.std.proofs.Common.{◌≡◌, ℕ, ◌+◌, ◌≤◌, Bool, true, false, List, [], ◌++◌, length, Option, ap, ◌∙◌}
 use Rattle.std.proofs.Common.{subst, arith, All}
 use Rattle.std.proofs.lemmas.List.Elements.{All-nil, All-same, All-append}
 use Rattle.std.proofs.lemmas.List.{length-append}
@@ -15,15 +15,15 @@ use Rattle.mark_words.proofs.Counts.{weigh-append}
 use Rattle.par_mark.specs.declared.donations.QueueView.{QueueView}
 use Rattle.par_mark.specs.declared.caller.Caller.{Caller}
 use Rattle.par_mark.specs.declared.lists.Lists.{Lists}
-use Rattle.marker.specs.Edges.{out}
+use Rattle.mark_ahead.specs.Edges.{out}
 use Rattle.par_mark.specs.Accounts.{Accounts, HasRoom}
 use Rattle.par_mark.specs.Donations.{Total}
-use Rattle.par_mark.specs.Lists.{tries_of, won_of, outside_of}
+use Rattle.par_mark.specs.Lists.{tries_of, outside_of}
 use Rattle.par_mark.specs.Callers.{HasRun, HasSettled}
 use Rattle.par_mark.specs.Tries.{TakenWasPut}
-use Rattle.marker.proofs.Members.{from_times}
+use Rattle.mark_ahead.proofs.Members.{from_times}
 use Rattle.par_mark.proofs.Scanning.{weigh-one}
-use Rattle.par_mark.proofs.Running.{within, won_within, outside_within}
+use Rattle.par_mark.proofs.Running.{within, outside_within}
 
 pub once_known : (v : MarkView) → KnowsAll v → ((h : ℕ × ℕ → ℕ) → weigh h v.won ≤ weigh h v.known) → (q : ℕ × ℕ)
     → times q v.won ≤ 1
@@ -83,10 +83,8 @@ module _ (edge : ℕ × ℕ → ℕ → Option (ℕ × ℕ)) (marking : ℕ × �
   pub record Together (fa fb : List (ℕ × ℕ)) (most : ℕ) (one two : Lists) (v : MarkView) (d : QueueView) : Type 0 where
     pub accounts : Accounts edge marking P (fa ++ fb) [] [] (tries_of one ++ tries_of two)
         (outside_of one ++ outside_of two) v d
-    pub won_are : v.won ≡ won_of one ++ won_of two
     pub room : HasRoom edge marking P (weigh (λ _. 1) (fa ++ fb)) most
     pub tries_fit : length (tries_of one) + length (tries_of two) ≤ most
-    pub won_fit : length (won_of one) + length (won_of two) ≤ most
     pub outside_fit : length (outside_of one) + length (outside_of two) ≤ most
 
   pub together : (m n one two : Caller) (v0 v : MarkView) (d0 d : QueueView) (most : ℕ) → HasRun edge marking P m one
@@ -112,41 +110,31 @@ module _ (edge : ℕ × ℕ → ℕ → Option (ℕ × ℕ)) (marking : ℕ × �
       let taken' : d.taken ≡ da.taken ++ db.taken = taken ∙ ap (λ (l : List (ℕ × ℕ)). (l ++ da.taken) ++ db.taken) t0 in
       let a = merged fa fb (tries_of one.lists) (tries_of two.lists) (outside_of one.lists) (outside_of two.lists) va
       vb v da db d r.accounts s.accounts won' known' put' taken' sa sb knows in
-      let won_are : v.won ≡ won_of one.lists ++ won_of two.lists = won' ∙ (λ i. sym r.won_is i ++ sym s.won_is i) in
       let room : HasRoom edge marking P (weigh (λ _. 1) (fa ++ fb)) most = λ ps once all. let h = has ps once all in
       let f = weigh-append (λ _. 1) fa fb in omega arith in
       let w = within edge marking P (fa ++ fb) (tries_of one.lists ++ tries_of two.lists)
       (outside_of one.lists ++ outside_of two.lists) v d most a tp room in
-      let ww = won_within edge marking P (fa ++ fb) (tries_of one.lists ++ tries_of two.lists)
-      (outside_of one.lists ++ outside_of two.lists) v d a in
       let oo = outside_within edge marking P (outside_of one.lists ++ outside_of two.lists) v in
       let lt = weigh-one (tries_of one.lists ++ tries_of two.lists) in
       let at = length-append (tries_of one.lists) (tries_of two.lists) in
-      let aw = length-append (won_of one.lists) (won_of two.lists) in
-      let ao = length-append (outside_of one.lists) (outside_of two.lists) in
-      let lw : length v.won ≡ length (won_of one.lists ++ won_of two.lists) = ap length won_are in record {
+      let ao = length-append (outside_of one.lists) (outside_of two.lists) in record {
         accounts = a;
-        won_are = won_are;
         room = room;
         tries_fit = omega arith;
-        won_fit = omega arith;
         outside_fit = omega arith;
       }
 
   -- at the end
   pub settled : (firsts outside : List (ℕ × ℕ)) (v : MarkView) (d : QueueView)
       → Accounts edge marking P firsts [] [] [] outside v d → d.parts ≡ whole → Total d [] → KnowsAll v
-      → (won : List (ℕ × ℕ)) → v.won ≡ won
-      → HasSettled edge marking P firsts won outside v
-  settled firsts outside v d a all total knows won is =
-      subst (λ (l : List (ℕ × ℕ)). HasSettled edge marking P firsts l outside v) is record {
-        won_is = refl;
-        settled = λ h. let b = a.balance h in let t = total all h in omega arith;
-        once = a.once;
-        fresh = a.fresh;
-        inside = a.inside;
-        tried_inside = a.tried_inside;
-        beyond = a.beyond;
-        listed = a.won_listed;
-        knows = knows;
-      }
+      → HasSettled edge marking P firsts outside v
+  settled firsts outside v d a all total knows = record {
+    settled = λ h. let b = a.balance h in let t = total all h in omega arith;
+    once = a.once;
+    fresh = a.fresh;
+    inside = a.inside;
+    tried_inside = a.tried_inside;
+    beyond = a.beyond;
+    listed = a.won_listed;
+    knows = knows;
+  }

@@ -1,8 +1,6 @@
 -- What tries add up to.
-use Rattle.std.proofs.Common.{◌≡◌, ℕ, ◌+◌, ◌-◌, ◌≤◌, Bool, List, [], ◌∷◌, ◌++◌, length, sym, refl, ap, ◌∙◌, subst}
-use Rattle.std.proofs.Common.{arith, append_assoc, append-nil, length-append, take, drop}
-use Rattle.std.proofs.Math.Seq.{drop-append_seam}
-use Rattle.std.proofs.lemmas.List.{take_all}
+use Rattle.std.proofs.Common.{◌≡◌, ℕ, ◌+◌, ◌≤◌, Bool, List, [], ◌∷◌, ◌++◌, length, sym, refl, ap, ◌∙◌, subst}
+use Rattle.std.proofs.Common.{arith, append-nil, length-append}
 use Rattle.mark_words.specs.declared.view.MarkView.{MarkView}
 use Rattle.mark_words.specs.Sums.{weigh}
 use Rattle.mark_words.proofs.Counts.{weigh-append}
@@ -17,7 +15,6 @@ pub moved_none : (s : CallerState) → HasMoved 0 [] s s
 moved_none s = record {
   grown = grown_none s.outside s.seat s.pass;
   grown_won = refl;
-  won_is = sym (append-nil s.won);
   count = omega arith;
   first_is = refl;
   parts_is = refl;
@@ -30,7 +27,6 @@ pub moved_more : (n m k : ℕ) (xs ys : List (ℕ × ℕ)) (a b c : CallerState)
 moved_more n m k xs ys a b c e x y = record {
   grown = grown_more a.outside b.outside c.outside a.seat b.seat c.seat a.pass b.pass c.pass x.grown y.grown;
   grown_won = (λ i. x.grown_won i ++ y.grown_won i);
-  won_is = y.won_is ∙ ap (λ (l : List (ℕ × ℕ)). l ++ ys) x.won_is ∙ append_assoc a.won xs ys;
   count = (let p = x.count in let q = y.count in let t = weigh-append (λ _. 1) x.grown.tried y.grown.tried in
       let o = weigh-append (λ _. 1) x.grown.beyond y.grown.beyond in omega arith);
   first_is = y.first_is ∙ x.first_is;
@@ -48,7 +44,6 @@ pub taken_moved : (P : ℕ × ℕ → Type 0) (s : CallerState) (tries : List (�
 taken_moved P s tries d p (own e f) = subst (λ (x : QueueView). HasMoved 0 [] s (with_taken s tries x)) (sym f) record {
   grown = grown_none s.outside s.seat s.pass;
   grown_won = refl;
-  won_is = sym (append-nil s.won);
   count = omega arith;
   first_is = refl;
   parts_is = refl;
@@ -71,7 +66,6 @@ taken_moved P s tries d p (queued e f t) = record {
     won_tried = λ h. omega arith;
   };
   grown_won = refl;
-  won_is = sym (append-nil s.won);
   count = omega arith;
   first_is = refl;
   parts_is = refl;
@@ -98,7 +92,6 @@ made_moved marking s s' made p m = record {
     won_tried = m.won_tried;
   };
   grown_won = refl;
-  won_is = m.won_is;
   count = (let l = weigh-one m.tried in let c = m.count in omega arith);
   first_is = ap (λ (x : MarkView). x.first) m.wins.view_is;
   parts_is = ap (λ (x : MarkView). x.parts) m.wins.view_is;
@@ -124,7 +117,6 @@ beyond_moved s p = record {
     won_tried = λ h. omega arith;
   };
   grown_won = refl;
-  won_is = sym (append-nil s.won);
   count = omega arith;
   first_is = refl;
   parts_is = refl;
@@ -132,12 +124,10 @@ beyond_moved s p = record {
   whole_taken = λ _ t. t;
 }
 
--- the lists grow by no more than the number of tries
+-- no more was won, and no more found outside, than tries were made
 pub within_made : (n : ℕ) (won : List (ℕ × ℕ)) (s s' : CallerState) → HasMoved n won s s'
-    → (length s'.won ≤ length s.won + n) × (length s'.outside ≤ length s.outside + n)
+    → (length won ≤ n) × (length s'.outside ≤ length s.outside + n)
 within_made n won s s' m =
-    let w = ap length m.won_is in
-    let a = length-append s.won won in
     let x = weigh-one won in
     let y : weigh (λ _. 1) m.grown.won ≡ weigh (λ _. 1) won = ap (weigh (λ _. 1)) m.grown_won in
     let t = m.grown.won_tried (λ _. 1) in
@@ -155,16 +145,3 @@ done_made n won s s' m =
     let o : weigh (λ _. 1) s'.outside ≡ weigh (λ _. 1) s.outside + weigh (λ _. 1) m.grown.beyond =
     ap (weigh (λ _. 1)) m.grown.beyond_is ∙ weigh-append (λ _. 1) s.outside m.grown.beyond in
     let c = m.count in omega arith
-
--- what stands behind a list
-pub behind : (ws xs ws' : List (ℕ × ℕ)) (k : ℕ) → ws' ≡ ws ++ xs → k ≡ length ws
-    → take (length ws' - k) (drop k ws') ≡ xs
-behind ws xs ws' k e f = subst (λ (l : List (ℕ × ℕ)). take (length l - k) (drop k l) ≡ xs) (sym e)
-    (let d : drop k (ws ++ xs) ≡ xs = ap (λ (n : ℕ). drop n (ws ++ xs)) f ∙ drop-append_seam ws xs in
-    ap (take (length (ws ++ xs) - k)) d ∙ take_all (length (ws ++ xs) - k) xs
-    (let a = length-append ws xs in omega arith))
-
--- the list of cells that were won goes on to be what the seat has won
-pub still_won : (n : ℕ) (won : List (ℕ × ℕ)) (s s' : CallerState) → HasMoved n won s s' → s.won ≡ s.seat.won
-    → s'.won ≡ s'.seat.won
-still_won n won s s' m is = m.won_is ∙ (λ i. is i ++ sym m.grown_won i) ∙ sym m.grown.won_is

@@ -5,7 +5,7 @@ use mathlib.Core.Logic.{dite}
 use native.Mathlib.Decide.{ℕ_discrete}
 use Rattle.mark_words.specs.Sums.{weigh, only, times}
 use Rattle.mark_words.proofs.Counts.{only-same}
-use Rattle.marker.specs.Edges.{targets, degree}
+use Rattle.mark_ahead.specs.Edges.{targets, degree}
 use Rattle.par_mark.specs.Edges.{slots_sum, arenas_sum}
 use Rattle.par_mark.proofs.Cells.{eight}
 use Rattle.par_mark.proofs.Scanning.{weigh-one}

@@ -11,14 +11,14 @@ use Rattle.mark_words.specs.declared.view.MarkView.{MarkView}
 use Rattle.mark_words.specs.Sums.{weigh, only, times}
 use Rattle.mark_words.specs.Rule.{bit_of}
 use Rattle.mark_words.proofs.Counts.{weigh-append, only-same, only-arena, only-slot}
-use Rattle.marker.specs.Edges.{held, first_targets, targets, out, Leads}
+use Rattle.mark_ahead.specs.Edges.{held, first_targets, targets, out, Leads}
 use Rattle.par_mark.specs.Edges.{all_targets}
 use Rattle.par_mark.specs.Callers.{HasSettled}
-use Rattle.marker.specs.Blackening.{Reached, near, far, HasBlackened}
+use Rattle.mark_ahead.specs.Blackening.{Reached, near, far}
 use Rattle.par_mark.specs.Marking.{Sought, HasMarked}
 use Rattle.par_mark.specs.Tries.{Serves}
 use Rattle.par_mark.proofs.Accounting.{targets_listed}
-use Rattle.marker.proofs.Members.{from_times, in_sum, times_in, in_times}
+use Rattle.mark_ahead.proofs.Members.{from_times, in_sum, times_in, in_times}
 
 -- what counts as a place is that place
 only_is : (q r : ℕ × ℕ) → 0 < only q r → r ≡ q
@@ -64,7 +64,7 @@ module _ (edge : ℕ × ℕ → ℕ → Option (ℕ × ℕ)) (marking : ℕ × �
   count_leads p q lt = counts_edge (edge p) q 8 lt
 
   module _ (has : ℕ × ℕ → Type 0) (here : All has from) (closed : (p q : ℕ × ℕ) → has p → Leads edge p q → has q) where
-    reached_here : (q : ℕ × ℕ) → Reached edge marking first from q → has q
+    pub reached_here : (q : ℕ × ℕ) → Reached edge marking first from q → has q
     reached_here q (near {p} c l m) = closed p q (All-contains has from p here c) l
     reached_here q (far {p} r w l m) = closed p q (reached_here p r) l
 
@@ -92,19 +92,18 @@ module _ (edge : ℕ × ℕ → ℕ → Option (ℕ × ℕ)) (marking : ℕ × �
       (tries_sought P of ps (All-tail (Contains from) p ps all))
 
   module _ (P : ℕ × ℕ → Type 0) (to : (q : ℕ × ℕ) → P q → Sought edge marking first from q)
-      (firsts won outside : List (ℕ × ℕ)) (v : MarkView) (s : HasSettled edge marking P firsts won outside v)
+      (firsts outside : List (ℕ × ℕ)) (v : MarkView) (s : HasSettled edge marking P firsts outside v)
       (begun : (h : ℕ × ℕ → ℕ) → weigh h firsts ≡ weigh (out edge h) from) (same : v.first ≡ first) where
     abbrev IsBlack : ℕ × ℕ → Type 0
-    IsBlack q = bit_of first q + times q won ≡ 1
+    IsBlack q = bit_of first q + times q v.won ≡ 1
 
     -- what was tried is black
     known_black : (q : ℕ × ℕ) → 0 < times q v.known → IsBlack q
     known_black q lt = let k = from_times (λ (p : ℕ × ℕ). bit_of v.first p + times p v.won ≡ 1) v.known q s.knows lt in
-        let b : bit_of v.first q ≡ bit_of first q = ap (λ (l : List ℕ). bit_of l q) same in
-        let w : times q v.won ≡ times q won = ap (times q) s.won_is in omega arith
+        let b : bit_of v.first q ≡ bit_of first q = ap (λ (l : List ℕ). bit_of l q) same in omega arith
 
     -- a target in a marking zone was tried
-    target_black : (q : ℕ × ℕ) → marking q ≡ true → 0 < weigh (out edge (only q)) from + weigh (out edge (only q)) won
+    target_black : (q : ℕ × ℕ) → marking q ≡ true → 0 < weigh (out edge (only q)) from + weigh (out edge (only q)) v.won
         → IsBlack q
     target_black q m lt = dite (ℕ_discrete (times q outside) 0)
         (λ z. let e = s.settled (only q) in let b = begun (only q) in known_black q (omega arith))
@@ -115,53 +114,52 @@ module _ (edge : ℕ × ℕ → ℕ → Option (ℕ × ℕ)) (marking : ℕ × �
     complete q (near {p} c l m) = let i = in_sum (out edge (only q)) from p c in let o = leads_count p q l in
         target_black q m (omega arith)
     complete q (far {p} r white l m) = let h = complete p r in
-        let i = in_sum (out edge (only q)) won p (times_in won p (omega arith)) in let o = leads_count p q l in
+        let i = in_sum (out edge (only q)) v.won p (times_in v.won p (omega arith)) in let o = leads_count p q l in
         target_black q m (omega arith)
 
     sound : (q : ℕ × ℕ) → IsBlack q → (bit_of first q ≡ 1) ⊎ Reached edge marking first from q
     sound q b = dite (ℕ_discrete (bit_of first q) 1)
         (λ e. inl e)
         (λ ne. let l = bit_at-lt (Rattle.std.specs.List.slice_index first q.0) q.1 in
-        let x = to q (from_times P won q s.listed (omega arith)) in
-        let m = from_times (λ (p : ℕ × ℕ). marking p ≡ true) won q s.inside (omega arith) in
+        let x = to q (from_times P v.won q s.listed (omega arith)) in
+        let m = from_times (λ (p : ℕ × ℕ). marking p ≡ true) v.won q s.inside (omega arith) in
         inr (⊎_elim (λ c. near c x.2 m) (λ r. far r.0 r.1 x.2 m) x.1))
 
     still_black : (q : ℕ × ℕ) → bit_of first q ≡ 1 → IsBlack q
-    still_black q e = dite (ℕ_discrete (times q won) 0)
+    still_black q e = dite (ℕ_discrete (times q v.won) 0)
         (λ z. omega arith)
-        (λ ne. let f = from_times (λ (p : ℕ × ℕ). bit_of v.first p ≡ 0) won q s.fresh (omega arith) in
+        (λ ne. let f = from_times (λ (p : ℕ × ℕ). bit_of v.first p ≡ 0) v.won q s.fresh (omega arith) in
         let b : bit_of v.first q ≡ bit_of first q = ap (λ (l : List ℕ). bit_of l q) same in absurd (omega arith))
 
-    source : (q : ℕ × ℕ) → 0 < weigh (out edge (only q)) from + weigh (out edge (only q)) won → (p : ℕ × ℕ)
-        × (Contains from p ⊎ Contains won p) × Leads edge p q
+    source : (q : ℕ × ℕ) → 0 < weigh (out edge (only q)) from + weigh (out edge (only q)) v.won → (p : ℕ × ℕ)
+        × (Contains from p ⊎ Contains v.won p) × Leads edge p q
     source q lt = dite (ℕ_discrete (weigh (out edge (only q)) from) 0)
-        (λ z. let r = sum_has (Contains won) (out edge (only q)) won (All-contains_itself won) (omega arith) in
+        (λ z. let r = sum_has (Contains v.won) (out edge (only q)) v.won (All-contains_itself v.won) (omega arith) in
         (r.0, inr r.1, count_leads r.0 q r.2))
         (λ ne. let r = sum_has (Contains from) (out edge (only q)) from (All-contains_itself from) (omega arith) in
         (r.0, inl r.1, count_leads r.0 q r.2))
 
     -- no place outside the marking zones was tried, so each such target is outside, as often as it is a target
     outside_is_all : (q : ℕ × ℕ) → marking q ≡ false
-        → times q outside ≡ weigh (out edge (only q)) from + weigh (out edge (only q)) won
+        → times q outside ≡ weigh (out edge (only q)) from + weigh (out edge (only q)) v.won
     outside_is_all q m = let e = s.settled (only q) in let b = begun (only q) in dite (ℕ_discrete (times q v.known) 0)
         (λ z. omega arith)
         (λ ne. absurd (true≢false (sym (from_times (λ (r : ℕ × ℕ). marking r ≡ true) v.known q s.tried_inside
         (omega arith)) ∙ m)))
 
-    is_outside : (q p : ℕ × ℕ) → marking q ≡ false → Contains from p ⊎ Contains won p → Leads edge p q
+    is_outside : (q p : ℕ × ℕ) → marking q ≡ false → Contains from p ⊎ Contains v.won p → Leads edge p q
         → Contains outside q
     is_outside q p m side l =
         let o = leads_count p q l in
-        let lt : 0 < weigh (out edge (only q)) from + weigh (out edge (only q)) won =
+        let lt : 0 < weigh (out edge (only q)) from + weigh (out edge (only q)) v.won =
         ⊎_elim (λ c. let i = in_sum (out edge (only q)) from p c in omega arith)
-        (λ c. let i = in_sum (out edge (only q)) won p c in omega arith) side in
+        (λ c. let i = in_sum (out edge (only q)) v.won p c in omega arith) side in
         let t = outside_is_all q m in times_in outside q (omega arith)
 
-    pub marked : HasMarked edge marking first from won outside v
+    pub marked : HasMarked edge marking first from outside v
     marked = record {
-      won_is = s.won_is;
       once = s.once;
-      fresh = subst (λ (l : List ℕ). All (λ (q : ℕ × ℕ). bit_of l q ≡ 0) won) same s.fresh;
+      fresh = subst (λ (l : List ℕ). All (λ (q : ℕ × ℕ). bit_of l q ≡ 0) v.won) same s.fresh;
       inside = s.inside;
       black = λ q. (sound q, ⊎_elim (still_black q) (complete q));
       scanned = λ h. let e = s.settled h in let b = begun h in omega arith;
@@ -184,28 +182,3 @@ front_all P (x ∷ xs) ys all = All-cons P x xs (All-head P x (xs ++ ys) all)
 pub back_all : (P : ℕ × ℕ → Type 0) (xs ys : List (ℕ × ℕ)) → All P (xs ++ ys) → All P ys
 back_all P [] ys all = all
 back_all P (x ∷ xs) ys all = back_all P xs ys (All-tail P x (xs ++ ys) all)
-
--- the words, by what was won
-pub blackened : (edge : ℕ × ℕ → ℕ → Option (ℕ × ℕ)) (marking : ℕ × ℕ → Bool) (first : List ℕ) (from : List (ℕ × ℕ))
-    (last : List ℕ) (won outside : List (ℕ × ℕ)) (v : MarkView) → HasMarked edge marking first from won outside v
-    → length last ≡ length first → ((p : ℕ × ℕ) → p.0 < length first → bit_of last p ≡ bit_of first p + times p v.won)
-    → HasBlackened edge marking first from last won outside
-blackened edge marking first from last won outside v m sized bits = record {
-  sized = sized;
-  black = λ q lt. ((λ on. (m.black q).0 (sym (turned q lt) ∙ on)), (λ r. turned q lt ∙ (m.black q).1 r));
-  turned = turned;
-  reached = reached;
-  inside = m.inside;
-  outside_is = m.outside_is;
-  outside_times = m.outside_times;
-}
-  where
-    turned : (q : ℕ × ℕ) → q.0 < length first → bit_of last q ≡ bit_of first q + times q won
-    turned q lt = bits q lt ∙ ap (λ (l : List (ℕ × ℕ)). bit_of first q + times q l) m.won_is
-
-    reached : (q : ℕ × ℕ) → Contains won q → Reached edge marking first from q
-    reached q c =
-        let white = All-contains (λ (p : ℕ × ℕ). bit_of first p ≡ 0) won q m.fresh c in
-        let some = in_times won q c in
-        let once = m.once q in
-        ⊎_elim (λ on. absurd (omega (arith, on, white))) (λ r. r) ((m.black q).0 (omega (arith, white, some, once)))

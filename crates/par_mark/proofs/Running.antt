@@ -13,14 +13,13 @@ use Rattle.par_mark.specs.declared.donations.QueueView.{QueueView}
 use Rattle.par_mark.specs.declared.caller.Caller.{Caller}
 use Rattle.par_mark.specs.declared.lists.Lists.{Lists}
 use Rattle.par_mark.specs.Donations.{moves_with}
-use Rattle.marker.specs.Edges.{out}
+use Rattle.mark_ahead.specs.Edges.{out}
 use Rattle.par_mark.specs.Accounts.{Accounts, HasRoom}
 use Rattle.par_mark.specs.Lists.{AreAsLarge, tries_of, tries_room, won_of, outside_of}
 use Rattle.par_mark.specs.Callers.{IsOpen, IsReady, HasRun, own_log, own_moves}
 use Rattle.par_mark.specs.States.{state_of}
 use Rattle.par_mark.specs.Tries.{IsDonated, kept, given, HasGrown, HasTurned, TakenWasPut, done}
 use Rattle.par_mark.proofs.Accounting.{gave}
-use Rattle.par_mark.proofs.Moving.{still_won}
 use Rattle.par_mark.proofs.Scanning.{weigh-one}
 
 module _ (edge : ℕ × ℕ → ℕ → Option (ℕ × ℕ)) (marking : ℕ × ℕ → Bool) (P : ℕ × ℕ → Type 0) where
@@ -51,7 +50,7 @@ module _ (edge : ℕ × ℕ → ℕ → Option (ℕ × ℕ)) (marking : ℕ × �
         r.no_known r.no_put r.no_taken r.listed;
     logs_are = r.new_logs ∙ (λ i. record { won = sym r.no_won i; tried = sym r.no_known i } ∷ []);
     moves_are = r.no_moves ∙ (λ i. record { given = sym r.no_put i; taken = sym r.no_taken i } ∷ []);
-    won_is = r.won_empty ∙ sym r.no_won;
+    none_left = r.won_empty;
     room = record { tries = refl; won = refl; outside = refl };
     parts_is = refl;
     queue_parts = refl;
@@ -89,8 +88,7 @@ module _ (edge : ℕ × ℕ → ℕ → Option (ℕ × ℕ)) (marking : ℕ × �
     accounts = t.accounts (tries_of m.lists) r.accounts;
     logs_are = own_turned _ _ _ _ _ _ t.moved.grown r.logs_are;
     moves_are = own_moved _ _ _ _ _ _ t.moved.grown r.moves_are;
-    won_is = still_won n t.won (state_of old.lists (view_of old.seat) (view old.pass))
-        (state_of new.lists (view_of new.seat) (view new.pass)) t.moved r.won_is;
+    none_left = t.none_left;
     room = record {
       tries = room.tries ∙ r.room.tries;
       won = room.won ∙ r.room.won;
@@ -118,7 +116,7 @@ module _ (edge : ℕ × ℕ → ℕ → Option (ℕ × ℕ)) (marking : ℕ × �
             (view_of old.seat) (view old.pass) (view new.pass) g r.accounts);
         logs_are = subst (λ (x : MarkView). x.logs ≡ own_log x ∷ []) (sym same) r.logs_are;
         moves_are = own_donated _ _ (view old.pass) (view new.pass) g r.moves_are;
-        won_is = won ∙ r.won_is ∙ ap (λ (x : MarkView). x.won) (sym same);
+        none_left = won ∙ r.none_left;
         room = record {
           tries = room.tries ∙ r.room.tries;
           won = room.won ∙ r.room.won;
@@ -136,30 +134,21 @@ module _ (edge : ℕ × ℕ → ℕ → Option (ℕ × ℕ)) (marking : ℕ × �
   within firsts tries outside v d most a t has = let b = a.balance (λ _. 1) in let u = t (λ _. 1) in
       let r = has v.won a.once a.won_listed in omega arith
 
-  pub won_within : (firsts tries outside : List (ℕ × ℕ)) (v : MarkView) (d : QueueView)
-      → Accounts edge marking P firsts [] [] tries outside v d → length v.won ≤ done v outside
-  won_within firsts tries outside v d a = let k = a.won_known (λ _. 1) in let l = weigh-one v.won in omega arith
-
   pub outside_within : (outside : List (ℕ × ℕ)) (v : MarkView) → length outside ≤ done v outside
   outside_within outside v = let l = weigh-one outside in omega arith
 
   -- main's books as turns go on
   pub still_room : (now : Lists) (v w : MarkView) (d f : QueueView) (old : Lists) → (b : IsOpen edge marking P old v d)
-      → Accounts edge marking P b.firsts [] [] (tries_of now) (outside_of now) w f → TakenWasPut f → won_of now ≡ w.won
-      → AreAsLarge old now
-      → (length (won_of now) < vec_capacity now.won) × (length (outside_of now) < vec_capacity now.outside)
+      → Accounts edge marking P b.firsts [] [] (tries_of now) (outside_of now) w f → TakenWasPut f
+      → AreAsLarge old now → (length (outside_of now) < vec_capacity now.outside)
       × HasRoom edge marking P (weigh (λ _. 1) b.firsts) (tries_room now)
-  still_room now v w d f old b a t is large =
+  still_room now v w d f old b a t large =
       let r = within b.firsts (tries_of now) (outside_of now) w f b.most a t b.room in
-      let k = won_within b.firsts (tries_of now) (outside_of now) w f a in
       let o = outside_within (outside_of now) w in
-      let e : length (won_of now) ≡ length w.won = ap length is in
-      let l0 = large.won in
       let l1 = large.outside in
       let l2 = large.tries in
-      let m0 = b.won_most in
       let m1 = b.outside_most in
-      let m2 = b.tries_most in ((omega arith), (omega arith), λ ps once all. let h = b.room ps once all in omega arith)
+      let m2 = b.tries_most in (omega arith, λ ps once all. let h = b.room ps once all in omega arith)
 
   pub less_left : (n : ℕ) (outside outside' firsts tries' : List (ℕ × ℕ)) (v w : MarkView)
       (d : QueueView) (most room : ℕ) → 0 < n → done w outside' ≡ done v outside + n

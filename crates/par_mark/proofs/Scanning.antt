@@ -5,7 +5,7 @@ use Rattle.std.proofs.lemmas.List.{length-append}
 use mathlib.Core.Logic.{dite}
 use native.Mathlib.Decide.{ℕ_discrete}
 use Rattle.mark_words.specs.Sums.{weigh}
-use Rattle.marker.specs.Edges.{held, first_targets}
+use Rattle.mark_ahead.specs.Edges.{held, first_targets}
 
 -- fewer fields hold no more
 pub length-first_targets : (field : ℕ → Option (ℕ × ℕ)) (n m : ℕ) → n ≤ m

@@ -1,5 +1,5 @@
 -- The shares of the two callers and of main.
-use Rattle.std.proofs.Common.{◌≡◌, ℕ, ◌+◌, Bool, List, [], ◌∷◌, ◌++◌, Option, sym, refl, ap, ◌∙◌, arith}
+use Rattle.std.proofs.Common.{◌≡◌, ℕ, ◌+◌, Bool, List, [], ◌∷◌, ◌++◌, Option, refl, ap, ◌∙◌, arith}
 use Rattle.crossbeam_queue.specs.Passes.{view}
 use Rattle.mark_words.specs.declared.view.MarkView.{MarkView}
 use Rattle.mark_words.specs.Views.{logs_with, new_log}
@@ -10,7 +10,7 @@ use Rattle.par_mark.specs.declared.donations.QueueView.{QueueView}
 use Rattle.par_mark.specs.declared.caller.Caller.{Caller}
 use Rattle.par_mark.specs.Accounts.{Accounts}
 use Rattle.par_mark.specs.Donations.{Total, moves_with, new_moves}
-use Rattle.marker.specs.Edges.{out}
+use Rattle.mark_ahead.specs.Edges.{out}
 use Rattle.par_mark.specs.Lists.{tries_of, outside_of}
 use Rattle.par_mark.specs.Callers.{HasRun, own_log, own_moves}
 use Rattle.par_mark.specs.Shares.{Share, ScansItsOwn, AreShared}
@@ -62,7 +62,7 @@ module _ (edge : ℕ × ℕ → ℕ → Option (ℕ × ℕ)) (marking : ℕ × �
     won_tried = g.won_tried;
   }
 
-  pub shared : (m n one two : Caller) (tries o o' won : List (ℕ × ℕ)) (v v' : MarkView) (d d' : QueueView)
+  pub shared : (m n one two : Caller) (tries o o' : List (ℕ × ℕ)) (v v' : MarkView) (d d' : QueueView)
       → HasRun edge marking P m one → HasRun edge marking P n two
       → v.won ≡ (view_of one.seat).won ++ (view_of two.seat).won
       → v.known ≡ (view_of one.seat).known ++ (view_of two.seat).known
@@ -74,10 +74,10 @@ module _ (edge : ℕ × ℕ → ℕ → Option (ℕ × ℕ)) (marking : ℕ × �
       → o ≡ outside_of one.lists ++ outside_of two.lists
       → Accounts edge marking P (tries_of m.lists ++ tries_of n.lists) [] [] tries o v d
       → Accounts edge marking P (tries_of m.lists ++ tries_of n.lists) [] [] [] o' v' d'
-      → HasGrown o v d o' v' d' → d'.parts ≡ whole → Total d' [] → v'.won ≡ won
-      → AreShared edge (tries_of m.lists ++ tries_of n.lists) won o' v' d'
-  shared m n one two tries o o' won v v' d d' r s won_is known_is logs_are put_is taken_is moves_are tries_is outside_is
-      a b g all total is = record {
+      → HasGrown o v d o' v' d' → d'.parts ≡ whole → Total d' []
+      → AreShared edge (tries_of m.lists ++ tries_of n.lists) o' v' d'
+  shared m n one two tries o o' v v' d d' r s won_is known_is logs_are put_is taken_is moves_are tries_is outside_is a b
+      g all total = record {
         one = share_of m one;
         two = share_of n two;
         main = main_share tries g.won g.tried g.taken g.beyond;
@@ -100,7 +100,7 @@ module _ (edge : ℕ × ℕ → ℕ → Option (ℕ × ℕ)) (marking : ℕ × �
             ∙ weigh-append h d.taken g.taken in
             let y : weigh h d.taken ≡ weigh h (view one.pass).taken + weigh h (view two.pass).taken =
             ap (weigh h) taken_is ∙ weigh-append h (view one.pass).taken (view two.pass).taken in omega arith;
-        won_is = sym is ∙ g.won_is ∙ ap (λ (l : List (ℕ × ℕ)). l ++ g.won) won_is;
+        won_is = g.won_is ∙ ap (λ (l : List (ℕ × ℕ)). l ++ g.won) won_is;
         outside_is = g.beyond_is ∙ ap (λ (l : List (ℕ × ℕ)). l ++ g.beyond) outside_is;
         tried_is = g.tried_is ∙ ap (λ (l : List (ℕ × ℕ)). l ++ g.tried) known_is;
       }

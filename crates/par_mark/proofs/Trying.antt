@@ -23,21 +23,26 @@ once_named a m q = dite (ℕ_discrete q.0 a)
     (λ low. let t = times-inside q.0 m 64 q.1 (omega arith) in let b = bit_at-lt m q.1 in omega arith)))
     (λ ne. let t = times-away a m 64 q ne in omega arith)
 
--- the tries that were gathered are listed
+-- tries were gathered, as slots of this arena
+pub record IsGathering (place : ℕ × ℕ) (most a slots : ℕ) (tries tries' : List (ℕ × ℕ)) : Type 0 where
+  pub gathered : AreGathered place most tries tries' slots
+  pub arena_is : a ≡ place.0
+
+-- they are listed
 pub gathered_listed : (P : ℕ × ℕ → Type 0) (place : ℕ × ℕ) (most a slots : ℕ) (tries tries' : List (ℕ × ℕ))
-    → AreGathered place most tries tries' slots → a ≡ place.0 → P place → All P tries → All P (places_of a slots)
-gathered_listed P place most a slots tries tries' g same here all =
-    subst (λ (z : ℕ). All P (places_of z slots)) (sym same) (listed_by_weight P (places_of place.0 slots)
-    (place ∷ tries) (λ h. let s = g.same h in omega arith) (All-cons P place tries here all))
+    → IsGathering place most a slots tries tries' → P place → All P tries → All P (places_of a slots)
+gathered_listed P place most a slots tries tries' g here all =
+    subst (λ (z : ℕ). All P (places_of z slots)) (sym g.arena_is) (listed_by_weight P (places_of place.0 slots)
+    (place ∷ tries) (λ h. let s = g.gathered.same h in omega arith) (All-cons P place tries here all))
 
 -- no more are won
 pub few_won : (place : ℕ × ℕ) (most a slots won : ℕ) (tries tries' : List (ℕ × ℕ))
-    → AreGathered place most tries tries' slots → a ≡ place.0 → ((i : ℕ) → bit_at won i ≤ bit_at slots i)
+    → IsGathering place most a slots tries tries' → ((i : ℕ) → bit_at won i ≤ bit_at slots i)
     → length (places_of a won) ≤ most
-few_won place most a slots won tries tries' g same less =
-    subst (λ (z : ℕ). length (places_of z won) ≤ most) (sym same)
+few_won place most a slots won tries tries' g less =
+    subst (λ (z : ℕ). length (places_of z won) ≤ most) (sym g.arena_is)
     (let w = weigh-within (λ _. 1) place.0 won slots 64 (λ i _. less i) in let l = weigh-one (places_of place.0 won) in
-    let k = weigh-one (places_of place.0 slots) in let f = g.few in omega arith)
+    let k = weigh-one (places_of place.0 slots) in let f = g.gathered.few in omega arith)
 
 -- the list is shorter by what was gathered beside the first
 pub shorter : (place : ℕ × ℕ) (most slots : ℕ) (tries tries' : List (ℕ × ℕ))
@@ -52,24 +57,33 @@ shorter place most slots tries tries' g =
     let z = weigh-one (places_of place.0 slots) in
     let w = g.few in ((omega arith), (omega arith), (omega arith))
 
--- a step
+-- the slots that were gathered were tried in one step, and some of these cells were won
+pub record IsStep (marking : ℕ × ℕ → Bool) (place : ℕ × ℕ) (most a slots won made : ℕ) (s s' : CallerState)
+    : Type 0 where
+  pub gathering : IsGathering place most a slots s.tries s'.tries
+  pub won_slots : (i : ℕ) → bit_at won i ≤ bit_at slots i
+  pub wins : HasTried s.seat (places_of a slots) (places_of a won) s'.seat
+  pub inside : (i : ℕ) → marking (place.0, i) ≡ true
+  pub won_is : s'.won ≡ s.won ++ places_of a won
+  pub outside_is : s'.outside ≡ s.outside
+  pub pass_is : s'.pass ≡ s.pass
+  pub count : made + length s'.tries ≡ length s.tries + 1
+
 pub made_step : (marking : ℕ × ℕ → Bool) (place : ℕ × ℕ) (most a slots won made : ℕ) (s s' : CallerState)
-    → AreGathered place most s.tries s'.tries slots → a ≡ place.0 → ((i : ℕ) → bit_at won i ≤ bit_at slots i)
-    → HasTried s.seat (places_of a slots) (places_of a won) s'.seat → ((i : ℕ) → marking (place.0, i) ≡ true)
-    → s'.won ≡ s.won ++ places_of a won → s'.outside ≡ s.outside → s'.pass ≡ s.pass
-    → made + length s'.tries ≡ length s.tries + 1
-    → AreMade marking made place s s'
-made_step marking place most a slots won made s s' g same less wins inside won_is outside_is pass_is count = record {
-  tried = places_of place.0 slots;
-  tries_are = g.same;
-  first_tried = g.first_in;
-  inside = all_below (λ (q : ℕ × ℕ). marking q ≡ true) place.0 slots 64 (λ i _ _. inside i);
-  count = (let r = (shorter place most slots s.tries s'.tries g).2 in omega arith);
-  won = places_of place.0 won;
-  wins = subst (λ (z : ℕ). HasTried s.seat (places_of z slots) (places_of z won) s'.seat) same wins;
-  won_tried = λ h. weigh-within h place.0 won slots 64 (λ i _. less i);
-  once = once_named place.0 won;
-  won_is = subst (λ (z : ℕ). s'.won ≡ s.won ++ places_of z won) same won_is;
-  outside_is = outside_is;
-  pass_is = pass_is;
-}
+    → IsStep marking place most a slots won made s s' → AreMade marking made place s s'
+made_step marking place most a slots won made s s' t =
+    let g = t.gathering.gathered in
+    let arena_is = t.gathering.arena_is in record {
+      tried = places_of place.0 slots;
+      tries_are = g.same;
+      first_tried = g.first_in;
+      inside = all_below (λ (q : ℕ × ℕ). marking q ≡ true) place.0 slots 64 (λ i _ _. t.inside i);
+      count = (let r = (shorter place most slots s.tries s'.tries g).2 in let c = t.count in omega arith);
+      won = places_of place.0 won;
+      wins = subst (λ (z : ℕ). HasTried s.seat (places_of z slots) (places_of z won) s'.seat) arena_is t.wins;
+      won_tried = λ h. weigh-within h place.0 won slots 64 (λ i _. t.won_slots i);
+      once = once_named place.0 won;
+      won_is = subst (λ (z : ℕ). s'.won ≡ s.won ++ places_of z won) arena_is t.won_is;
+      outside_is = t.outside_is;
+      pass_is = t.pass_is;
+    }

@@ -4,7 +4,7 @@ use Rattle.mark_words.specs.declared.view.MarkView.{MarkView}
 use Rattle.mark_words.specs.Sums.{weigh, times}
 use Rattle.mark_words.specs.Rule.{bit_of}
 use Rattle.par_mark.specs.declared.donations.QueueView.{QueueView}
-use Rattle.marker.specs.Edges.{out, degree}
+use Rattle.mark_ahead.specs.Edges.{out, degree}
 
 module _ (edge : ℕ × ℕ → ℕ → Option (ℕ × ℕ)) (marking : ℕ × ℕ → Bool) (P : ℕ × ℕ → Type 0) where
   -- the tries that a caller began with, the targets of the cells that it won and the tries that it took from the

@@ -4,13 +4,13 @@ use Rattle.crossbeam_queue.specs.Passes.{view}
 use Rattle.mark_words.specs.Sums.{weigh, times}
 use Rattle.mark_words.specs.Rule.{bit_of}
 use Rattle.mark_words.specs.Steps.{KnowsAll}
-use Rattle.marker.specs.Edges.{out}
+use Rattle.mark_ahead.specs.Edges.{out}
 use Rattle.mark_words.specs.Seats.{view_of}
 use Rattle.mark_words.specs.Views.{new_log}
 use Rattle.mark_words.specs.declared.view.MarkLog.{MarkLog}
 use Rattle.par_mark.specs.declared.caller.Caller.{Caller}
 use Rattle.par_mark.specs.Accounts.{Accounts, HasRoom}
-use Rattle.par_mark.specs.Lists.{AreAsLarge, tries_of, tries_room, won_of, outside_of}
+use Rattle.par_mark.specs.Lists.{AreAsLarge, batch, tries_of, tries_room, won_of, outside_of}
 use Rattle.mark_words.specs.declared.view.MarkView.{MarkView}
 use Rattle.par_mark.specs.declared.donations.Moves.{Moves}
 use Rattle.par_mark.specs.declared.donations.QueueView.{QueueView}
@@ -40,7 +40,7 @@ module _ (edge : ℕ × ℕ → ℕ → Option (ℕ × ℕ)) (marking : ℕ × �
     pub outside_empty : outside_of m.lists ≡ []
     pub listed : All P (tries_of m.lists)
     pub room : HasRoom edge marking P (weigh (λ _. 1) (tries_of m.lists)) (tries_room m.lists)
-    pub won_room : most ≤ vec_capacity m.lists.won
+    pub won_room : batch ≤ vec_capacity m.lists.won
     pub outside_room : most ≤ vec_capacity m.lists.outside
 
   -- it has made tries, and accounts for all that it began with
@@ -49,7 +49,7 @@ module _ (edge : ℕ × ℕ → ℕ → Option (ℕ × ℕ)) (marking : ℕ × �
         (view_of m'.seat) (view m'.pass)
     pub logs_are : (view_of m'.seat).logs ≡ own_log (view_of m'.seat) ∷ []
     pub moves_are : (view m'.pass).moves ≡ own_moves (view m'.pass) ∷ []
-    pub won_is : won_of m'.lists ≡ (view_of m'.seat).won
+    pub none_left : won_of m'.lists ≡ []
     pub room : AreAsLarge m.lists m'.lists
     pub parts_is : (view_of m'.seat).parts ≡ (view_of m.seat).parts
     pub queue_parts : (view m'.pass).parts ≡ (view m.pass).parts
@@ -59,21 +59,20 @@ module _ (edge : ℕ × ℕ → ℕ → Option (ℕ × ℕ)) (marking : ℕ × �
     pub firsts : List (ℕ × ℕ)
     pub accounts : Accounts edge marking P firsts [] [] (tries_of lists) (outside_of lists) v d
     pub taken_put : TakenWasPut d
-    pub won_is : won_of lists ≡ v.won
+    pub none_left : won_of lists ≡ []
     pub most : ℕ
     pub room : HasRoom edge marking P (weigh (λ _. 1) firsts) most
     pub tries_most : most ≤ tries_room lists
-    pub won_most : most < vec_capacity lists.won
+    pub won_room : batch ≤ vec_capacity lists.won
     pub outside_most : most < vec_capacity lists.outside
 
   -- all is tried: each first try and each target of a won cell was tried or lies outside, as often as it came up
-  pub record HasSettled (firsts won outside : List (ℕ × ℕ)) (v : MarkView) : Type 0 where
-    pub won_is : v.won ≡ won
-    pub settled : (h : ℕ × ℕ → ℕ) → weigh h v.known + weigh h outside ≡ weigh h firsts + weigh (out edge h) won
-    pub once : (q : ℕ × ℕ) → times q won ≤ 1
-    pub fresh : All (λ q. bit_of v.first q ≡ 0) won
-    pub inside : All (λ q. marking q ≡ true) won
+  pub record HasSettled (firsts outside : List (ℕ × ℕ)) (v : MarkView) : Type 0 where
+    pub settled : (h : ℕ × ℕ → ℕ) → weigh h v.known + weigh h outside ≡ weigh h firsts + weigh (out edge h) v.won
+    pub once : (q : ℕ × ℕ) → times q v.won ≤ 1
+    pub fresh : All (λ q. bit_of v.first q ≡ 0) v.won
+    pub inside : All (λ q. marking q ≡ true) v.won
     pub tried_inside : All (λ q. marking q ≡ true) v.known
     pub beyond : All (λ q. marking q ≡ false) outside
-    pub listed : All P won
+    pub listed : All P v.won
     pub knows : KnowsAll v

@@ -1,8 +1,8 @@
 -- Edges of black cells after marking.
 use Rattle.std.specs.Prelude.{◌≡◌, ℕ, ◌<◌, ◌⊎◌, Bool, List, length, Option, Contains}
 use Rattle.mark_words.specs.Rule.{bit_of}
-use Rattle.marker.specs.Edges.{Leads}
-use Rattle.marker.specs.Blackening.{HasBlackened}
+use Rattle.mark_ahead.specs.Edges.{Leads}
+use Rattle.mark_ahead.specs.Blackening.{HasBlackened}
 
 -- each edge of a black cell leads to a black one, unless marking begins from that cell
 abbrev pub IsClosedBut : (ℕ × ℕ → ℕ → Option (ℕ × ℕ)) → List ℕ → List (ℕ × ℕ) → Type 0

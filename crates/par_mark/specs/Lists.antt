@@ -22,17 +22,20 @@ pub record AreAsLarge (l l' : Lists) : Type 0 where
   pub won : vec_capacity l'.won ≡ vec_capacity l.won
   pub outside : vec_capacity l'.outside ≡ vec_capacity l.outside
 
--- lists that begin with these tries, and with so much room
+-- how many tries a caller makes in a turn, at most
+abbrev pub batch : ℕ
+batch = 64
+
+-- lists that begin with these tries, and with so much room for tries and for places outside
 pub record AreNew (tries : List (ℕ × ℕ)) (room spare : ℕ) (l : Lists) : Type 0 where
   pub tries_are : tries_of l ≡ tries
   pub no_won : won_of l ≡ []
   pub no_outside : outside_of l ≡ []
   pub tries_have : room ≤ tries_room l
-  pub won_has : spare ≤ vec_capacity l.won
+  pub won_has : batch ≤ vec_capacity l.won
   pub outside_has : spare ≤ vec_capacity l.outside
 
--- the first lists have room for the others
+-- the first lists have room for the tries and the places outside of the others
 pub record HaveRoomFor (l o : Lists) : Type 0 where
   pub tries : length (tries_of l) + length (tries_of o) ≤ tries_room l
-  pub won : length (won_of l) + length (won_of o) ≤ vec_capacity l.won
   pub outside : length (outside_of l) + length (outside_of o) ≤ vec_capacity l.outside

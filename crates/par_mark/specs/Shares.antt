@@ -5,7 +5,7 @@ use Rattle.mark_words.specs.declared.view.MarkView.{MarkView}
 use Rattle.mark_words.specs.Sums.{weigh}
 use Rattle.par_mark.specs.declared.donations.Moves.{Moves}
 use Rattle.par_mark.specs.declared.donations.QueueView.{QueueView}
-use Rattle.marker.specs.Edges.{out}
+use Rattle.mark_ahead.specs.Edges.{out}
 
 -- one caller's share of marking: the tries that it began with and those that it left, the log of its seat, which has
 -- the places that it tried and the cells that it won, what it gave to the queue and took from it by its pass, and what
@@ -29,7 +29,7 @@ module _ (edge : ℕ × ℕ → ℕ → Option (ℕ × ℕ)) where
 
   -- what came of these tries: the shares of the two callers, and of main, which tried what they left. Main's seat and
   -- main's pass tell them apart
-  pub record AreShared (firsts won outside : List (ℕ × ℕ)) (v : MarkView) (d : QueueView) : Type 0 where
+  pub record AreShared (firsts outside : List (ℕ × ℕ)) (v : MarkView) (d : QueueView) : Type 0 where
     pub one : Share
     pub two : Share
     pub main : Share
@@ -48,6 +48,6 @@ module _ (edge : ℕ × ℕ → ℕ → Option (ℕ × ℕ)) where
     pub queue : (h : ℕ × ℕ → ℕ) → weigh h one.moves.given + weigh h two.moves.given
         ≡ weigh h one.moves.taken + (weigh h two.moves.taken + weigh h main.moves.taken)
     -- all shares together
-    pub won_is : won ≡ (one.log.won ++ two.log.won) ++ main.log.won
+    pub won_is : v.won ≡ (one.log.won ++ two.log.won) ++ main.log.won
     pub outside_is : outside ≡ (one.outside ++ two.outside) ++ main.outside
     pub tried_is : v.known ≡ (one.log.tried ++ two.log.tried) ++ main.log.tried

@@ -9,6 +9,7 @@ use Rattle.par_mark.specs.Lists.{outside_of, tries_of, won_of}
 -- a caller's lists, and what its seat and its pass know
 pub record CallerState : Type 0 where
   pub tries : List (ℕ × ℕ)
+  -- the cells that it won and has not scanned yet
   pub won : List (ℕ × ℕ)
   pub outside : List (ℕ × ℕ)
   pub seat : MarkView

@@ -7,7 +7,7 @@ use Rattle.mark_words.specs.Views.{logs_with}
 use Rattle.mark_words.specs.Steps.{HasTried}
 use Rattle.par_mark.specs.declared.donations.QueueView.{QueueView}
 use Rattle.par_mark.specs.Donations.{HasPut, HasTaken, moves_with, Total}
-use Rattle.marker.specs.Edges.{Leads}
+use Rattle.mark_ahead.specs.Edges.{Leads}
 use Rattle.par_mark.specs.States.{AccountsAt, CallerState}
 
 -- a try is taken from the list, or from the queue if the list is empty
@@ -30,7 +30,7 @@ module _ (marking : ℕ × ℕ → Bool) where
     pub first_tried : (h : ℕ × ℕ → ℕ) → h p ≤ weigh h tried
     pub inside : All (λ q. marking q ≡ true) tried
     pub count : length tried ≡ made
-    -- the cells that were won stand behind those of before
+    -- the cells that were won stand behind those that were not scanned yet
     pub won : List (ℕ × ℕ)
     pub wins : HasTried s.seat tried won s'.seat
     pub won_tried : (h : ℕ × ℕ → ℕ) → weigh h won ≤ weigh h tried
@@ -83,7 +83,6 @@ pub record HasGrown (outside : List (ℕ × ℕ)) (v : MarkView) (d : QueueView)
 pub record HasMoved (n : ℕ) (won : List (ℕ × ℕ)) (s s' : CallerState) : Type 0 where
   pub grown : HasGrown s.outside s.seat s.pass s'.outside s'.seat s'.pass
   pub grown_won : grown.won ≡ won
-  pub won_is : s'.won ≡ s.won ++ won
   pub count : weigh (λ _. 1) grown.tried + weigh (λ _. 1) grown.beyond ≡ n
   pub first_is : s'.seat.first ≡ s.seat.first
   pub parts_is : s'.seat.parts ≡ s.seat.parts
@@ -94,14 +93,16 @@ module _ (edge : ℕ × ℕ → ℕ → Option (ℕ × ℕ)) (marking : ℕ × �
   -- and are not scanned yet
   pub record HasTriedSome (n : ℕ) (won : List (ℕ × ℕ)) (s s' : CallerState) : Type 0 where
     pub moved : HasMoved n won s s'
+    pub won_is : s'.won ≡ s.won ++ won
     pub accounts : (firsts unscanned : List (ℕ × ℕ)) → AccountsAt edge marking P firsts [] unscanned s
         → AccountsAt edge marking P firsts [] (unscanned ++ won) s'
     pub tries_listed : All P s.tries → All P s'.tries
 
-  -- and were scanned
+  -- and were scanned, so that none is left
   pub record HasTurned (n : ℕ) (s s' : CallerState) : Type 0 where
     pub won : List (ℕ × ℕ)
     pub moved : HasMoved n won s s'
+    pub none_left : s'.won ≡ []
     pub accounts : (firsts : List (ℕ × ℕ)) → AccountsAt edge marking P firsts [] [] s
         → AccountsAt edge marking P firsts [] [] s'
 

@@ -5,7 +5,7 @@ ghost use Rattle.crossbeam_queue.specs.Passes.{view, IsPassOf};
 ghost use Rattle.mark_words.specs.Seats.{first_of, view_of, IsSeatOf};
 ghost use Rattle.mark_words.specs.Sums.{weigh, whole};
 ghost use Rattle.mark_words.specs.Views.{first_view};
-ghost use Rattle.marker.specs.Edges.{Leads};
+ghost use Rattle.mark_ahead.specs.Edges.{Leads};
 ghost use Rattle.par_mark.specs.Edges.{all_targets};
 ghost use Rattle.par_mark.specs.Marking.{HasMarked, Sought};
 ghost use Rattle.par_mark.specs.Accounts.{HasRoom};
@@ -20,18 +20,18 @@ use crate::donations::{Ring, Splits};
 use crate::first_tries::first_tries;
 use crate::gather::{append_lists, join_one, new_lists, settle};
 use crate::graph::Graph;
-use crate::lists::Lists;
+use crate::lists::{BATCH, Lists};
 use crate::queue::Queue;
 use crate::run::{drain, run};
 use gz_io::Gate;
 use gz_names::{NoMemory, Place};
 use mark_words::{Marks, PlaceList, Seat};
-use marker::Marked;
 use std::alloc::{AllocError, Global};
 use std::sync::Wait;
 use std::thread::{Threads, join};
 
-// Runs both callers, each in a thread of its own if one can be made.
+// Runs both callers, each in a thread of its own if one can be made. Where the first caller has nothing to try, the
+// second one does all, and no thread starts.
 fn run_both<R: Threads + Wait + Sync, H: Graph + Sync, L: PlaceList + Sync, G: Gate + Sync>(
     rt: &R,
     heap: &H,
@@ -52,6 +52,9 @@ fn run_both<R: Threads + Wait + Sync, H: Graph + Sync, L: PlaceList + Sync, G: G
     ensures one { HasRun (H.edge heap.now) (H.marking heap.now) L.places one result.0 }
     ensures two { HasRun (H.edge heap.now) (H.marking heap.now) L.places two result.1 }
 {
+    if one.lists.tries.is_empty() {
+        return (one, run(rt, heap, marks, ring, gate, most, two));
+    }
     join(
         rt,
         move ||
@@ -71,8 +74,21 @@ fn run_both<R: Threads + Wait + Sync, H: Graph + Sync, L: PlaceList + Sync, G: G
     )
 }
 
+// How many of this number of tries the first caller begins with: half of them, or, where all would be made in one turn,
+// all but one.
+fn first_share(tries: usize) -> usize
+    ensures { result ≤ tries }
+{
+    if tries > BATCH {
+        tries / 2
+    } else {
+        tries.saturating_sub(1)
+    }
+}
+
 /// Marks black, by two callers, the cells of marking zones that edges reach from the cells of `from`,
-/// through cells of marking zones that are not black. `HasMarked` tells what is left: which cells
+/// through cells of marking zones that are not black. Returns the targets that lie outside the marking
+/// zones, each as often as it is a target. `HasMarked` tells what is left: which cells
 /// are black, that each cell of `from` and each cell won was scanned once, and what lies outside.
 /// `AreShared` tells it for each caller and for main, which tries what the callers left: what it began
 /// with, won and found outside, that it scanned each cell that it won, once, and no other, and that what
@@ -90,7 +106,7 @@ pub fn mark<R: Threads + Wait + Sync, H: Graph + Sync, L: PlaceList + Sync, G: G
     seat: &mut Seat,
     queue: &mut Queue<L>,
     gate: &G,
-) -> Result<Marked, NoMemory>
+) -> Result<Vec<Place>, NoMemory>
     requires uncounted { H.uncounted heap.now }
     requires present { All (H.has heap.now) from.now }
     requires targets { (p q : ℕ × ℕ) → H.has heap.now p → Leads (H.edge heap.now) p q → H.has heap.now q }
@@ -102,10 +118,10 @@ pub fn mark<R: Threads + Wait + Sync, H: Graph + Sync, L: PlaceList + Sync, G: G
     requires seat { IsSeatOf marks.now seat.old × (view_of seat.old ≡ first_view (first_of marks.now)) }
     requires queue { IsUnused queue.old }
     ensures seat { IsSeatOf marks.now seat.new × ((view_of seat.new).parts ≡ whole) }
-    ensures marked { IfOk result (λ m. HasMarked (H.edge heap.now) (H.marking heap.now) (first_of marks.now) from.now
-        m.won.items m.outside.items (view_of seat.new)) }
-    ensures shares { IfOk result (λ m. AreShared (H.edge heap.now) (all_targets (H.edge heap.now) from.now) m.won.items
-        m.outside.items (view_of seat.new) (pass_view queue.new)) }
+    ensures marked { IfOk result (λ outside. HasMarked (H.edge heap.now) (H.marking heap.now) (first_of marks.now)
+        from.now outside.items (view_of seat.new)) }
+    ensures shares { IfOk result (λ outside. AreShared (H.edge heap.now) (all_targets (H.edge heap.now) from.now)
+        outside.items (view_of seat.new) (pass_view queue.new)) }
     ensures unchanged { OnErr result ((view_of seat.new ≡ view_of seat.old) × IsUnused queue.new) }
 {
     let tries = first_tries(alloc, heap, from)?;
@@ -114,13 +130,13 @@ pub fn mark<R: Threads + Wait + Sync, H: Graph + Sync, L: PlaceList + Sync, G: G
         .checked_add(heap.most_edges())
         .ok_or(AllocError)?;
     let spare = room.checked_add(1).ok_or(AllocError)?;
-    let (front, back) = tries.as_slice().split_at(tries.len() / 2);
+    let (front, back) = tries.as_slice().split_at(first_share(tries.len()));
     let front = new_lists(alloc, front, room, spare)?;
     let back = new_lists(alloc, back, room, spare)?;
     Ok(mark_from(rt, heap, marks, seat, queue, gate, room, front, back))
 }
 
-// Marks from these tries: the callers run, and then main tries what they left.
+// Marks from these tries: the callers run, and then main tries what they left. Returns what lies outside.
 fn mark_from<R: Threads + Wait + Sync, H: Graph + Sync, L: PlaceList + Sync, G: Gate + Sync>(
     rt: &R,
     heap: &H,
@@ -131,7 +147,7 @@ fn mark_from<R: Threads + Wait + Sync, H: Graph + Sync, L: PlaceList + Sync, G: 
     most: usize,
     front: Lists,
     back: Lists,
-) -> Marked
+) -> Vec<Place>
     requires serves { Serves (H.has heap.now) (H.edge heap.now) (H.marking heap.now) (first_of marks.now) L.places }
     requires seat { IsSeatOf marks.now seat.old × (view_of seat.old ≡ first_view (first_of marks.now)) }
     requires queue { IsUnused queue.old }
@@ -143,9 +159,9 @@ fn mark_from<R: Threads + Wait + Sync, H: Graph + Sync, L: PlaceList + Sync, G: 
         (weigh (λ _. 1) (tries_of front) + weigh (λ _. 1) (tries_of back)) most }
     ensures seat { IsSeatOf marks.now seat.new × ((view_of seat.new).parts ≡ whole) }
     ensures accounts { HasSettled (H.edge heap.now) (H.marking heap.now) L.places (tries_of front ++ tries_of back)
-        result.won.items result.outside.items (view_of seat.new) }
-    ensures shares { AreShared (H.edge heap.now) (tries_of front ++ tries_of back) result.won.items result.outside.items
-        (view_of seat.new) (pass_view queue.new) }
+        result.items (view_of seat.new) }
+    ensures shares { AreShared (H.edge heap.now) (tries_of front ++ tries_of back) result.items (view_of seat.new)
+        (pass_view queue.new) }
 {
     let one = Caller {
         seat: marks.split(seat),
@@ -175,10 +191,5 @@ fn mark_from<R: Threads + Wait + Sync, H: Graph + Sync, L: PlaceList + Sync, G: 
     append_lists(&mut lists, others);
     drain(rt, heap, marks, ring, seat, &mut queue.pass, &mut lists);
     settle(marks, ring, seat, &mut queue.pass);
-    let Lists {
-        tries: _,
-        won,
-        outside,
-    } = lists;
-    Marked { won, outside }
+    lists.outside
 }

@@ -7,19 +7,19 @@ ghost use Rattle.mark_words.specs.Steps.{KnowsAll};
 ghost use Rattle.mark_words.specs.Sums.{whole};
 ghost use Rattle.mark_words.specs.Views.{joined};
 ghost use Rattle.par_mark.specs.Donations.{joined_view};
-ghost use Rattle.par_mark.specs.Lists.{AreNew, HaveRoomFor, outside_of, tries_of, tries_room, won_of};
+ghost use Rattle.par_mark.specs.Lists.{AreNew, HaveRoomFor, outside_of, tries_of, tries_room};
 ghost use Rattle.par_mark.specs.Tries.{TakenWasPut};
 
 use crate::donations::{Donates, Joins, QueuePass, Ring};
-use crate::lists::Lists;
+use crate::lists::{BATCH, Lists};
 use crossbeam_utils::CachePadded;
 use gz_names::{NoMemory, Place};
 use mark_words::{Marks, PlaceList, Seat};
 use std::alloc::Global;
 use std::collections::VecDeque;
 
-/// Lists for a caller that begins with these tries: room for that number of tries, and spare places for what
-/// it wins and finds outside.
+/// Lists for a caller that begins with these tries: room for that number of tries, for the cells that a turn wins,
+/// and spare places for what it finds outside.
 pub(crate) fn new_lists(
     alloc: Global,
     tries: &[Place],
@@ -31,7 +31,7 @@ pub(crate) fn new_lists(
 {
     let mut own = Vec::with_capacity(alloc, room)?;
     own.extend_from_slice(tries)?;
-    let won = Vec::with_capacity(alloc, spare)?;
+    let won = Vec::with_capacity(alloc, BATCH)?;
     let outside = Vec::with_capacity(alloc, spare)?;
     Ok(Lists {
         tries: CachePadded::new(VecDeque::from_vec(own)),
@@ -40,26 +40,22 @@ pub(crate) fn new_lists(
     })
 }
 
-/// Puts the second caller's lists behind the first one's, which have room for them.
+/// Puts the second caller's tries and what it found outside behind the first one's, which have room for them.
 pub(crate) fn append_lists(lists: &mut Lists, others: Lists)
     requires { HaveRoomFor lists.old others }
     ensures tries { tries_of lists.new ≡ tries_of lists.old ++ tries_of others }
-    ensures won { won_of lists.new ≡ won_of lists.old ++ won_of others }
+    ensures won { lists.new.won ≡ lists.old.won }
     ensures outside { outside_of lists.new ≡ outside_of lists.old ++ outside_of others }
     ensures room { (tries_room lists.old ≤ tries_room lists.new)
-        × (vec_capacity lists.old.won ≤ vec_capacity lists.new.won)
         × (vec_capacity lists.old.outside ≤ vec_capacity lists.new.outside) }
 {
     let Lists {
         tries,
-        mut won,
+        won: _,
         mut outside,
     } = others;
     let mut tries = tries.into_inner();
     let Ok(()) = lists.tries.append(&mut tries) else {
-        unreachable!()
-    };
-    let Ok(()) = lists.won.append(&mut won) else {
         unreachable!()
     };
     let Ok(()) = lists.outside.append(&mut outside) else {

@@ -1,7 +1,7 @@
 // What marking reads of a heap.
 ghost use Rattle.std.specs.Prelude.{◌≡◌, ◌<◌, ◌≤◌, ℕ, Bool, List, All, Option, None};
 ghost use Rattle.mark_words.specs.Sums.{times, weigh};
-ghost use Rattle.marker.specs.Edges.{degree};
+ghost use Rattle.mark_ahead.specs.Edges.{degree};
 
 use gz_names::Place;
 

@@ -7,7 +7,7 @@ use crate::mark_heap;
 use gz_io::FreeGate;
 use gz_names::{CompNo, GraphCmd, NoMemory, Place, Reg, ZoneNo};
 use heap_core::Heap;
-use marker::Marked;
+use mark_ahead::Marked;
 use std::alloc::Global;
 use std::marker::Model;
 use std::sync::Wait;

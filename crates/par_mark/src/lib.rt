@@ -4,7 +4,7 @@
 //
 // Marking begins from black cells that were not scanned yet. Main reads their edges, and each target is
 // a *try*: a place that is to be tried. The list of tries is cut in two, and two callers work on the
-// halves in parallel, each with a list of its own. A caller works in *turns*. In a turn it makes up to 16
+// halves in parallel, each with a list of its own. A caller works in *turns*. In a turn it makes up to 64
 // tries, the newest of its list first, and then scans the cells that they won:
 //
 //      own list, or, if it is empty, the queue
@@ -90,6 +90,7 @@ mod scans;
 mod slots;
 #[cfg(test)]
 mod tests;
+mod turned;
 mod turns;
 
 pub use callers::mark;

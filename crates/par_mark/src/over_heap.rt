@@ -1,13 +1,14 @@
 // Marking a heap.
 ghost use Rattle.std.specs.Prelude.{◌≡◌, ◌<◌, ℕ, length, All, IfOk, None};
 ghost use Rattle.heap_core.specs.Shape.{AreWhole, HasEdge, IsPresent, field_at, is_marking, zone_of};
-ghost use Rattle.marker.specs.Blackening.{HasBlackened};
+ghost use Rattle.mark_ahead.specs.Blackening.{HasBlackened};
 
+use crate::heap::MarkedHeap;
 use crate::over_words::mark_black;
 use gz_io::Gate;
 use gz_names::{NoMemory, Place};
 use heap_core::Heap;
-use marker::Marked;
+use mark_ahead::Marked;
 use std::alloc::Global;
 use std::sync::Wait;
 use std::thread::Threads;
@@ -15,7 +16,7 @@ use std::thread::Threads;
 /// Marks black, by two callers, the cells of marking zones that edges of a heap reach from these cells,
 /// through cells of marking zones that are not black. It takes the black word of each arena, and answers
 /// the black word of each arena as marking leaves it, with the cells that turned black and the targets
-/// outside the marking zones. The heap does not change. `NoMemory` comes before any step.
+/// outside the marking zones. The heap does not change.
 pub fn mark_heap<R: Threads + Wait + Sync, G: Gate + Sync>(
     rt: &R,
     alloc: Global,
@@ -33,5 +34,6 @@ pub fn mark_heap<R: Threads + Wait + Sync, G: Gate + Sync>(
     ensures blackened { IfOk result (λ r. HasBlackened (field_at heap.now.shape) (is_marking heap.now.shape)
         words.items from.now r.0.items r.1.won.items r.1.outside.items) }
 {
-    mark_black(rt, alloc, heap, from, words, gate)
+    let marked = MarkedHeap::new(alloc, heap)?;
+    mark_black(rt, alloc, &marked, from, words, gate)
 }

@@ -1,16 +1,17 @@
 // Marking over black words.
-ghost use Rattle.std.specs.Prelude.{◌<◌, ℕ, length, All, IfOk};
-ghost use Rattle.marker.specs.Edges.{Leads};
-ghost use Rattle.marker.specs.Blackening.{HasBlackened};
+ghost use Rattle.std.specs.Prelude.{◌≡◌, ◌<◌, ℕ, length, All, IfOk};
+ghost use Rattle.mark_ahead.specs.Edges.{Leads};
+ghost use Rattle.mark_ahead.specs.Blackening.{HasBlackened};
 ghost use Rattle.par_mark.specs.Marking.{Sought};
 
 use crate::callers::mark;
 use crate::graph::Graph;
 use crate::queue::Queue;
+use crate::turned::turned_cells;
 use gz_io::Gate;
 use gz_names::{NoMemory, Place};
+use mark_ahead::Marked;
 use mark_words::{Marks, PlaceList};
-use marker::Marked;
 use std::alloc::Global;
 use std::marker::Brand;
 use std::sync::Wait;
@@ -34,15 +35,26 @@ fn mark_listed<R: Threads + Wait + Sync, H: Graph + Sync, L: PlaceList + Sync, G
     ensures blackened { IfOk result (λ r. HasBlackened (H.edge heap.now) (H.marking heap.now) words.items from.now
         r.0.items r.1.won.items r.1.outside.items) }
 {
+    let before = copied(alloc, &words)?;
     let (marks, mut seat) = Marks::<L>::new(alloc, words)?;
     let mut queue = Queue::<L>::new(alloc)?;
-    let marked = mark(rt, alloc, heap, from, &marks, &mut seat, &mut queue, gate)?;
-    Ok((marks.close(seat), marked))
+    let outside = mark(rt, alloc, heap, from, &marks, &mut seat, &mut queue, gate)?;
+    let words = marks.close(seat);
+    let won = turned_cells(alloc, &before, &words)?;
+    Ok((words, Marked { won, outside }))
+}
+
+// A copy of the black words.
+fn copied(alloc: Global, words: &[u64]) -> Result<Vec<u64>, NoMemory>
+    ensures { IfOk result (λ copy. copy.items ≡ words.now) }
+{
+    words.to_vec(alloc)
 }
 
 /// Marks black, by two callers, the cells of marking zones that edges reach from these cells, through
 /// cells of marking zones that are not black. It takes the black word of each arena, and answers the
-/// black word of each arena as marking leaves it. `NoMemory` comes before any step.
+/// black word of each arena as marking leaves it, with the cells that turned black, in ascending order.
+/// After `NoMemory` the heap is as it was.
 pub fn mark_black<R: Threads + Wait + Sync, H: Graph + Sync, G: Gate + Sync>(
     rt: &R,
     alloc: Global,

@@ -2,25 +2,23 @@
 ghost use Rattle.std.specs.Prelude.{◌≡◌, ◌+◌, ◌<◌, ◌≤◌, ℕ, List, [], ◌∷◌, ◌++◌, length, vec_len, vec_capacity, All};
 ghost use Rattle.crossbeam_queue.specs.Passes.{view, IsPassOf};
 ghost use Rattle.mark_words.specs.Seats.{first_of, view_of, IsSeatOf};
-ghost use Rattle.mark_words.specs.Sums.{weigh, whole};
-ghost use Rattle.par_mark.specs.Accounts.{Accounts, HasRoom};
+ghost use Rattle.mark_words.specs.Sums.{whole};
+ghost use Rattle.par_mark.specs.Accounts.{Accounts};
 ghost use Rattle.par_mark.specs.Donations.{Total};
-ghost use Rattle.par_mark.specs.Lists.{AreAsLarge, outside_of, tries_of, tries_room, won_of};
+ghost use Rattle.par_mark.specs.Lists.{AreAsLarge, outside_of, tries_of};
 ghost use Rattle.par_mark.specs.Callers.{IsOpen, IsReady, HasRun};
-ghost use Rattle.par_mark.specs.States.{AccountsAt, state_of};
+ghost use Rattle.par_mark.specs.States.{state_of};
 ghost use Rattle.par_mark.specs.Tries.{HasGrown, HasTurned, Serves, TakenWasPut};
+ghost use Rattle.par_mark.specs.Turns.{MayTurn};
 
 use crate::caller::Caller;
 use crate::donations::{QueuePass, Ring};
 use crate::graph::Graph;
-use crate::lists::Lists;
+use crate::lists::{BATCH, Lists};
 use crate::turns::{donate, turn};
 use gz_io::{FreeGate, Gate};
 use mark_words::{Marks, PlaceList, Seat};
 use std::sync::Wait;
-
-// How many tries a caller makes in a turn, at most.
-const BATCH: usize = 16;
 
 // How often a caller looks for something to try before it ends.
 const LOOKS: u32 = 1024;
@@ -81,12 +79,8 @@ fn find_and_try<R: Wait, H: Graph, L: PlaceList, G: Gate>(
     requires serves { Serves (H.has heap.now) (H.edge heap.now) (H.marking heap.now) (first_of marks.now) L.places }
     requires seat { IsSeatOf marks.now seat.old × (0 < (view_of seat.old).parts) }
     requires pass { IsPassOf ring.now pass.old × (0 < (view pass.old).parts) }
-    requires accounts { (firsts : List (ℕ × ℕ)) × AccountsAt (H.edge heap.now) (H.marking heap.now) L.places firsts []
-        [] (state_of lists.old (view_of seat.old) (view pass.old))
-        × HasRoom (H.edge heap.now) (H.marking heap.now) L.places (weigh (λ _. 1) firsts) (tries_room lists.old) }
-    requires some { 0 < most }
-    requires won_room { length (won_of lists.old) + most ≤ vec_capacity lists.old.won }
-    requires outside_room { length (outside_of lists.old) + most ≤ vec_capacity lists.old.outside }
+    requires ready { MayTurn (H.edge heap.now) (H.marking heap.now) L.places most lists.old (view_of seat.old)
+        (view pass.old) }
     ensures seat { IsSeatOf marks.now seat.new }
     ensures pass { IsPassOf ring.now pass.new }
     ensures room { AreAsLarge lists.old lists.new }
@@ -126,7 +120,6 @@ pub(crate) fn drain<R: Wait, H: Graph, L: PlaceList>(
         (tries_of lists.old) (outside_of lists.old) (view_of seat.old) (view pass.old)
         → Accounts (H.edge heap.now) (H.marking heap.now) L.places firsts [] [] [] (outside_of lists.new)
         (view_of seat.new) (view pass.new) }
-    ensures won_is { won_of lists.new ≡ (view_of seat.new).won }
     ensures grown { HasGrown (outside_of lists.old) (view_of seat.old) (view pass.old) (outside_of lists.new)
         (view_of seat.new) (view pass.new) }
     ensures empty { Total (view pass.new) [] }

@@ -1,7 +1,7 @@
 // Scanning cells.
 ghost use Rattle.std.specs.Prelude.{◌≡◌, ◌+◌, ◌<◌, ◌≤◌, ℕ, List, [], ◌∷◌, ◌++◌, length, All, false};
 ghost use Rattle.std.specs.VecDeque.{deque_len, deque_capacity};
-ghost use Rattle.marker.specs.Edges.{targets};
+ghost use Rattle.mark_ahead.specs.Edges.{targets};
 ghost use Rattle.par_mark.specs.Edges.{all_targets};
 
 use crate::graph::Graph;

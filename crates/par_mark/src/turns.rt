@@ -4,13 +4,12 @@ ghost use Rattle.std.specs.Prelude.{All};
 ghost use Rattle.std.specs.VecDeque.{deque_capacity};
 ghost use Rattle.crossbeam_queue.specs.Passes.{view, IsPassOf};
 ghost use Rattle.mark_words.specs.Seats.{first_of, view_of, IsSeatOf};
-ghost use Rattle.mark_words.specs.Sums.{weigh};
 ghost use Rattle.par_mark.specs.declared.donations.QueueView.{QueueView as AQueueView};
-ghost use Rattle.par_mark.specs.Accounts.{HasRoom};
 ghost use Rattle.par_mark.specs.Donations.{Total};
-ghost use Rattle.par_mark.specs.Lists.{AreAsLarge, outside_of, tries_of, tries_room, won_of};
-ghost use Rattle.par_mark.specs.States.{AccountsAt, state_of};
+ghost use Rattle.par_mark.specs.Lists.{AreAsLarge, outside_of, tries_of, won_of};
+ghost use Rattle.par_mark.specs.States.{state_of};
 ghost use Rattle.par_mark.specs.Tries.{HasTriedSome, HasTurned, IsDonated, IsDone, IsTaken, IsTried, Serves};
+ghost use Rattle.par_mark.specs.Turns.{MayTurn};
 
 use crate::donations::{Donates, QueuePass, Ring, Takes};
 use crate::graph::Graph;
@@ -78,8 +77,8 @@ pub(crate) fn donate<L: PlaceList, R: Wait>(
     }
 }
 
-/// A turn: takes up to this number of tries, makes them, and then scans the cells that were won. Returns how many
-/// tries were made: none only if there was nothing to try.
+/// A turn: takes up to this number of tries, makes them, and then scans the cells that were won, so that none is left
+/// to scan. Returns how many tries were made: none only if there was nothing to try.
 pub(crate) fn turn<R: Wait, H: Graph, L: PlaceList, G: Gate>(
     rt: &R,
     heap: &H,
@@ -94,12 +93,8 @@ pub(crate) fn turn<R: Wait, H: Graph, L: PlaceList, G: Gate>(
     requires serves { Serves (H.has heap.now) (H.edge heap.now) (H.marking heap.now) (first_of marks.now) L.places }
     requires seat { IsSeatOf marks.now seat.old × (0 < (view_of seat.old).parts) }
     requires pass { IsPassOf ring.now pass.old × (0 < (view pass.old).parts) }
-    requires accounts { (firsts : List (ℕ × ℕ)) × AccountsAt (H.edge heap.now) (H.marking heap.now) L.places firsts []
-        [] (state_of lists.old (view_of seat.old) (view pass.old))
-        × HasRoom (H.edge heap.now) (H.marking heap.now) L.places (weigh (λ _. 1) firsts) (tries_room lists.old) }
-    requires some { 0 < most }
-    requires won_room { length (won_of lists.old) + most ≤ vec_capacity lists.old.won }
-    requires outside_room { length (outside_of lists.old) + most ≤ vec_capacity lists.old.outside }
+    requires ready { MayTurn (H.edge heap.now) (H.marking heap.now) L.places most lists.old (view_of seat.old)
+        (view pass.old) }
     ensures seat { IsSeatOf marks.now seat.new }
     ensures pass { IsPassOf ring.now pass.new }
     ensures room { AreAsLarge lists.old lists.new }
@@ -110,9 +105,9 @@ pub(crate) fn turn<R: Wait, H: Graph, L: PlaceList, G: Gate>(
     ensures none { result ≡ 0 → IsDone (state_of lists.old (view_of seat.old) (view pass.old))
         (state_of lists.new (view_of seat.new) (view pass.new)) }
 {
-    let scanned = lists.won.len();
     let made = try_places(rt, heap, marks, ring, gate, seat, pass, lists, most);
-    scan_all(heap, &lists.won[scanned..], &mut lists.tries);
+    scan_all(heap, &lists.won, &mut lists.tries);
+    lists.won.clear();
     made
 }
 
@@ -131,10 +126,8 @@ fn try_places<R: Wait, H: Graph, L: PlaceList, G: Gate>(
     requires serves { Serves (H.has heap.now) (H.edge heap.now) (H.marking heap.now) (first_of marks.now) L.places }
     requires seat { IsSeatOf marks.now seat.old × (0 < (view_of seat.old).parts) }
     requires pass { IsPassOf ring.now pass.old × (0 < (view pass.old).parts) }
-    requires listed { All L.places (tries_of lists.old) }
-    requires some { 0 < most }
-    requires won_room { length (won_of lists.old) + most ≤ vec_capacity lists.old.won }
-    requires outside_room { length (outside_of lists.old) + most ≤ vec_capacity lists.old.outside }
+    requires ready { MayTurn (H.edge heap.now) (H.marking heap.now) L.places most lists.old (view_of seat.old)
+        (view pass.old) }
     ensures seat { IsSeatOf marks.now seat.new }
     ensures pass { IsPassOf ring.now pass.new }
     ensures room { AreAsLarge lists.old lists.new }

@@ -51,8 +51,8 @@
 //     7 end_group_into     the current group ends
 //
 // `mark_two` follows at once all cells that are pending in black, and all that edges reach from them through marking
-// zones, in place of as many units of step 2. What marks the heap meanwhile, by one thread or by two, is handed to it
-// (`MarksBlack` of marker).
+// zones, in place of as many units of step 2. The function that marks the heap meanwhile, by one thread or by two, is
+// handed to it (`MarksBlack` of mark_ahead).
 //
 // So a group is grouped once black marking rests, and ends once all of its marking rests and no arena
 // of the group before is out. Each unit lowers one number (`units_left`), which is below 2^64

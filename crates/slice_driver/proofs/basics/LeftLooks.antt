@@ -25,8 +25,8 @@ use Rattle.barriers.specs.Reached.{HasEntry}
 use Rattle.barriers.specs.WeakPoint.{left_of}
 use Rattle.barriers.proofs.Places.{same_or_other}
 use Rattle.gray_lists.proofs.Reading.{slice_get-push_before}
-use Rattle.marker.specs.Ahead.{StartsEach}
-use Rattle.marker.specs.Ahead as ahead
+use Rattle.mark_ahead.specs.Ahead.{StartsEach}
+use Rattle.mark_ahead.specs.Ahead as ahead
 use Rattle.marker.specs.Looks.{StartsLooks, with_looks}
 use Rattle.weak_maps.proofs.Places.{is_same-self, is_same-true}
 use Rattle.slice_driver.specs.Quiet.{QueuesBlackMaps}

@@ -12,7 +12,7 @@ use Rattle.barriers.specs.Invariant.{MarkingInvariant}
 use Rattle.barriers.specs.Exposing.{KeepsLive}
 use Rattle.barriers.specs.Scans.{ScansNoMore}
 use Rattle.barriers.specs.Spreading.{Blackens}
-use Rattle.marker.specs.Ahead.{FollowsAll, IsMarkedBlack}
+use Rattle.mark_ahead.specs.Ahead.{FollowsAll, IsMarkedBlack}
 use Rattle.marker.specs.Looks.{with_looks}
 use Rattle.marker.specs.Units.{FollowsBlack}
 use Rattle.marker.specs.UnitsToCome.{units_at}

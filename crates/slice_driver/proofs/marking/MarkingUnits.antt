@@ -25,7 +25,7 @@ use Rattle.barriers.proofs.StayingLeft.{none_left}
 use Rattle.weak_maps.specs.WeakMaps.{LooksState, NoneLeft}
 use Rattle.weak_maps.specs.declared.colours.MarkColour.{MarkColour}
 use Rattle.weak_maps.specs.declared.colours.MarkColour.TheVariants as mark
-use Rattle.marker.specs.Ahead.{FollowsAll}
+use Rattle.mark_ahead.specs.Ahead.{FollowsAll}
 use Rattle.marker.specs.Units.{DoesGray, DoesLook, IsGrayIdle, TakesOne}
 use Rattle.slice_driver.specs.Collector.{CollectorState, heap_with}
 use Rattle.slice_driver.specs.EdgesRead.{TriesFew}

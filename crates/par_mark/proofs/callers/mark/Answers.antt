@@ -83,8 +83,8 @@ returns-clause-marked g c =
     let is : front ++ back ≡ all_targets edge from =
     (λ i. c.in_ok-front.ensures.tries_are i ++ c.in_ok-back.ensures.tries_are i)
     ∙ sym c.split_at.ensures.by_index.0 ∙ c.as_slice.ensures.value ∙ c.in_ok-tries.ensures in
-    marked edge marking first from P c.requires.listed (front ++ back) c.mark_from.result.won.items
-    c.mark_from.result.outside.items (view_of c.mark_from.new.seat) c.mark_from.ensures.accounts
+    marked edge marking first from P c.requires.listed (front ++ back) c.mark_from.result.items
+    (view_of c.mark_from.new.seat) c.mark_from.ensures.accounts
     (λ h. ap (weigh h) is ∙ weigh-all_targets edge h from)
     c.mark_from.ensures.seat.0.1
 
@@ -97,6 +97,6 @@ returns-clause-shares g c =
     let is : front ++ back ≡ all_targets edge from =
     (λ i. c.in_ok-front.ensures.tries_are i ++ c.in_ok-back.ensures.tries_are i)
     ∙ sym c.split_at.ensures.by_index.0 ∙ c.as_slice.ensures.value ∙ c.in_ok-tries.ensures in
-    subst (λ (firsts : List (ℕ × ℕ)). AreShared edge firsts c.mark_from.result.won.items
-    c.mark_from.result.outside.items (view_of c.mark_from.new.seat) (pass_view c.mark_from.new.queue)) is
+    subst (λ (firsts : List (ℕ × ℕ)). AreShared edge firsts c.mark_from.result.items (view_of c.mark_from.new.seat)
+    (pass_view c.mark_from.new.queue)) is
     c.mark_from.ensures.shares

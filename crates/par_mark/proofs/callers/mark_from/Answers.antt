@@ -1,4 +1,4 @@
-use Rattle.std.proofs.Common.{rules, ◌≡◌, ℕ, List, [], ◌++◌, sym, ap, subst, ◌∙◌, arith}
+use Rattle.std.proofs.Common.{rules, ◌≡◌, ℕ, List, [], ◌++◌, vec_capacity, sym, ap, subst, ◌∙◌, arith}
 use Rattle.crossbeam_queue.specs.Passes.{view}
 use Rattle.mark_words.specs.declared.view.MarkView.{MarkView}
 use Rattle.mark_words.specs.Seats.{first_of, view_of}
@@ -7,7 +7,7 @@ use Rattle.par_mark.specs.declared.donations.QueueView.{QueueView}
 use Rattle.par_mark.specs.Accounts.{Accounts}
 use Rattle.par_mark.specs.Donations.{unused_view, joined_view}
 use Rattle.par_mark.specs.Donations as donations
-use Rattle.par_mark.specs.Lists.{tries_of, won_of, outside_of}
+use Rattle.par_mark.specs.Lists.{tries_of, outside_of}
 use Rattle.par_mark.proofs.Balancing.{forks}
 use Rattle.par_mark.specs.Shares.{AreShared}
 use Rattle.par_mark.proofs.Merging.{Together, together, settled}
@@ -55,14 +55,11 @@ append_lists-requires g c =
     let r = c.run_both-one.ensures.one.room in
     let f = c.requires.front in
     let tf = t.tries_fit in
-    let wf = t.won_fit in
     let of = t.outside_fit in
     let a = f.tries_have in
-    let b = f.won_has in
     let o = f.outside_has in
     let x = r.tries in
-    let y = r.won in
-    let z = r.outside in record { tries = omega arith; won = omega arith; outside = omega arith }
+    let z = r.outside in record { tries = omega arith; outside = omega arith }
 
 pub drain-requires-clause-accounts : goal.drain-requires-clause-accounts
 drain-requires-clause-accounts g c =
@@ -104,17 +101,17 @@ drain-requires-clause-accounts g c =
     let z = r.outside in
     let p = n.room.0 in
     let q = n.room.1 in
-    let s = n.room.2 in record {
+    let won = ap (λ w. vec_capacity w) n.won in record {
       firsts = tries_of c.args.front ++ tries_of c.args.back;
       accounts = subst (λ (l : List (ℕ × ℕ) × List (ℕ × ℕ)). Accounts e m P
           (tries_of c.args.front ++ tries_of c.args.back) [] [] l.0 l.1 v d) (λ i. (sym n.tries i, sym n.outside i))
           t.accounts;
       taken_put = c.settle.ensures.taken;
-      won_is = n.won ∙ sym t.won_are;
+      none_left = ap (λ w. w.items) n.won ∙ c.run_both-one.ensures.one.none_left;
       most = c.args.most;
       room = t.room;
       tries_most = omega arith;
-      won_most = omega arith;
+      won_room = omega arith;
       outside_most = omega arith;
     }
 
@@ -156,7 +153,6 @@ returns-clause-accounts g c =
     settled e m P firsts (outside_of c.drain.new.lists) (view_of c.settle-2.new.seat) (view c.drain.new.pass)
     (subst (λ (u : MarkView). Accounts e m P firsts [] [] [] (outside_of c.drain.new.lists) u
     (view c.drain.new.pass)) (sym same) b) c.drain.ensures.pass.1 c.drain.ensures.empty c.settle-2.ensures.knows
-    (won_of c.drain.new.lists) (ap (λ (u : MarkView). u.won) same ∙ sym c.drain.ensures.won_is)
 
 pub returns-clause-shares : goal.returns-clause-shares
 returns-clause-shares g c =
@@ -194,7 +190,7 @@ returns-clause-shares g c =
     let b = c.drain.ensures.accounts firsts a in
     let same = c.settle-2.ensures.seat.1 in
     let s = shared e m P _ _ one two (tries_of c.append_lists.new.lists) (outside_of c.append_lists.new.lists)
-    (outside_of c.drain.new.lists) (won_of c.drain.new.lists) v (view_of c.drain.new.seat) d (view c.drain.new.pass)
+    (outside_of c.drain.new.lists) v (view_of c.drain.new.seat) d (view c.drain.new.pass)
     c.run_both-one.ensures.one c.run_both-one.ensures.two
     (ap (λ (u : MarkView). u.won) v_is ∙ ap (λ (u : MarkView). (u.won ++ (view_of one.seat).won)
     ++ (view_of two.seat).won) v0_is)
@@ -208,7 +204,6 @@ returns-clause-shares g c =
     ++ (view two.pass).taken) d0_is)
     (ap (λ (u : QueueView). u.moves) d_is ∙ ap (λ (u : QueueView). (u.moves ++ (view one.pass).moves)
     ++ (view two.pass).moves) d0_is)
-    n.tries n.outside a b c.drain.ensures.grown c.drain.ensures.pass.1 c.drain.ensures.empty
-    (sym c.drain.ensures.won_is) in
-    subst (λ (x : MarkView × QueueView). AreShared e firsts (won_of c.drain.new.lists) (outside_of c.drain.new.lists)
-    x.0 x.1) (λ i. (sym same i, sym c.settle-2.ensures.pass.1 i)) s
+    n.tries n.outside a b c.drain.ensures.grown c.drain.ensures.pass.1 c.drain.ensures.empty in
+    subst (λ (x : MarkView × QueueView). AreShared e firsts (outside_of c.drain.new.lists) x.0 x.1)
+    (λ i. (sym same i, sym c.settle-2.ensures.pass.1 i)) s

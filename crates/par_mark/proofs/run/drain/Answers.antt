@@ -1,39 +1,29 @@
-use Rattle.std.proofs.Common.{rules, ◌≡◌, ◌+◌, ◌≤◌, ℕ, List, [], length, ap, subst, refl, ◌∙◌, arith, vec_capacity}
+use Rattle.std.proofs.Common.{rules, ◌≡◌, ℕ, List, [], ap, subst, refl, ◌∙◌, arith}
 use Rattle.crossbeam_queue.specs.Passes.{view}
 use Rattle.mark_words.specs.Seats.{view_of}
 use Rattle.par_mark.specs.Accounts.{Accounts}
-use Rattle.par_mark.specs.Lists.{outside_of, tries_of, won_of}
+use Rattle.par_mark.specs.Lists.{outside_of, tries_of}
 use Rattle.par_mark.specs.States.{CallerState, state_of}
 use Rattle.par_mark.proofs.Growing.{grown_more, grown_none}
-use Rattle.par_mark.proofs.Moving.{done_made, still_won}
+use Rattle.par_mark.proofs.Moving.{done_made}
 use Rattle.par_mark.proofs.Running.{still_room, less_left}
 use Rattle.par_mark.proofs.run.drain.Goals as goal
 
-pub turn-requires-clause-accounts : goal.turn-requires-clause-accounts
-turn-requires-clause-accounts g c =
+pub turn-requires-clause-ready : goal.turn-requires-clause-ready
+turn-requires-clause-ready g c =
     let b = c.requires.accounts in
     let i = c.loop.invariant in
     let a = i.7 b.firsts b.accounts in
     let r = still_room (g.H.Graph.edge c.args.heap.now) (g.H.Graph.marking c.args.heap.now) g.L.PlaceList.places
-    c.loop.lists _ (view_of c.loop.seat) _ (view c.loop.pass) c.args.lists.now b a i.5 i.6 i.4 in (b.firsts, a, r.2)
-
-pub turn-requires-clause-won_room : goal.turn-requires-clause-won_room
-turn-requires-clause-won_room g c =
-    let b = c.requires.accounts in
-    let i = c.loop.invariant in
-    let r = still_room (g.H.Graph.edge c.args.heap.now) (g.H.Graph.marking c.args.heap.now) g.L.PlaceList.places
-    c.loop.lists _ (view_of c.loop.seat) _ (view c.loop.pass) c.args.lists.now b (i.7 b.firsts b.accounts) i.5 i.6
-    i.4 in
-    let s : length (won_of c.loop.lists) + 1 ≤ vec_capacity c.loop.lists.won = (let h = r.0 in omega arith) in s
-
-pub turn-requires-clause-outside_room : goal.turn-requires-clause-outside_room
-turn-requires-clause-outside_room g c =
-    let b = c.requires.accounts in
-    let i = c.loop.invariant in
-    let r = still_room (g.H.Graph.edge c.args.heap.now) (g.H.Graph.marking c.args.heap.now) g.L.PlaceList.places
-    c.loop.lists _ (view_of c.loop.seat) _ (view c.loop.pass) c.args.lists.now b (i.7 b.firsts b.accounts) i.5 i.6
-    i.4 in
-    let s : length (outside_of c.loop.lists) + 1 ≤ vec_capacity c.loop.lists.outside = (let h = r.1 in omega arith) in s
+    c.loop.lists _ (view_of c.loop.seat) _ (view c.loop.pass) c.args.lists.now b a i.5 i.4 in record {
+      firsts = b.firsts;
+      accounts = a;
+      tries_have = r.1;
+      some_tries = omega arith;
+      none_left = i.6;
+      won_has = (let has = b.won_room in let same = i.4.won in omega arith);
+      outside_has = (let has = r.0 in omega arith);
+    }
 
 pub loop-init : goal.loop-init
 loop-init g c = (
@@ -43,7 +33,7 @@ loop-init g c = (
   c.requires.pass.1,
   record { tries = refl; won = refl; outside = refl },
   c.requires.accounts.taken_put,
-  c.requires.accounts.won_is,
+  c.requires.accounts.none_left,
   λ firsts a. a,
   grown_none (outside_of c.args.lists.now) (view_of c.args.seat.now) (view c.args.pass.now),
 )
@@ -59,7 +49,7 @@ loop-smaller g c =
     (omega (arith, c.loop-test.true)) (done_made c.turn.result t.won
     (state_of c.loop.lists (view_of c.loop.seat) (view c.loop.pass))
     (state_of c.turn.new.lists (view_of c.turn.new.seat) (view c.turn.new.pass)) t.moved)
-    (t.accounts b.firsts (i.7 b.firsts b.accounts)) (t.moved.whole_taken i.3 i.5) b.room b.won_most
+    (t.accounts b.firsts (i.7 b.firsts b.accounts)) (t.moved.whole_taken i.3 i.5) b.room b.outside_most
 
 pub loop-preserved : goal.loop-preserved
 loop-preserved g c =
@@ -72,8 +62,7 @@ loop-preserved g c =
       t.moved.queue_parts ∙ i.3,
       record { tries = l.tries ∙ i.4.tries; won = l.won ∙ i.4.won; outside = l.outside ∙ i.4.outside },
       t.moved.whole_taken i.3 i.5,
-      still_won c.turn.result t.won (state_of c.loop.lists (view_of c.loop.seat) (view c.loop.pass))
-          (state_of c.turn.new.lists (view_of c.turn.new.seat) (view c.turn.new.pass)) t.moved i.6,
+      t.none_left,
       λ firsts a. t.accounts firsts (i.7 firsts a),
       grown_more _ _ _ _ _ _ _ _ _ i.8 t.moved.grown,
     )

@@ -10,7 +10,7 @@ use Rattle.par_mark.proofs.run.drain.Given as goal
 abbrev pub invariant-loop : goal.invariant-loop
 invariant-loop g l = IsSeatOf l.marks l.seat × ((view_of l.seat).parts ≡ (view_of l.fn.seat).parts)
     × IsPassOf l.ring l.pass × ((view l.pass).parts ≡ whole) × AreAsLarge l.fn.lists l.lists
-    × TakenWasPut (view l.pass) × (won_of l.lists ≡ (view_of l.seat).won)
+    × TakenWasPut (view l.pass) × (won_of l.lists ≡ [])
     × ((firsts : List (ℕ × ℕ)) → Accounts (g.H.Graph.edge l.heap) (g.H.Graph.marking l.heap) g.L.PlaceList.places
     firsts [] [] (tries_of l.fn.lists) (outside_of l.fn.lists) (view_of l.fn.seat) (view l.fn.pass)
     → Accounts (g.H.Graph.edge l.heap) (g.H.Graph.marking l.heap) g.L.PlaceList.places firsts [] [] (tries_of l.lists)
@@ -19,4 +19,4 @@ invariant-loop g l = IsSeatOf l.marks l.seat × ((view_of l.seat).parts ≡ (vie
     (view l.pass)
 
 abbrev pub decreases-loop : goal.decreases-loop
-decreases-loop g l = vec_capacity l.fn.lists.won - done (view_of l.seat) (outside_of l.lists)
+decreases-loop g l = vec_capacity l.fn.lists.outside - done (view_of l.seat) (outside_of l.lists)

@@ -1,9 +1,8 @@
-use Rattle.std.proofs.Common.{◌+◌, ◌≤◌, length, vec_capacity, refl, sym, subst, arith}
+use Rattle.std.proofs.Common.{refl, sym, subst, arith}
 use Rattle.crossbeam_queue.specs.Passes.{view}
 use Rattle.mark_words.specs.Seats.{view_of}
 use Rattle.mark_words.specs.Sums.{weigh}
 use Rattle.par_mark.specs.Accounts.{HasRoom}
-use Rattle.par_mark.specs.Lists.{won_of, outside_of}
 use Rattle.par_mark.specs.States.{state_of}
 use Rattle.par_mark.proofs.Accounting.{turned_none, turned_more}
 use Rattle.par_mark.proofs.Moving.{within_made}
@@ -15,36 +14,28 @@ loop-init g c = (
   c.requires.pass.0,
   record { tries = refl; won = refl; outside = refl },
   turned_none (g.H.Graph.edge c.args.heap.now) (g.H.Graph.marking c.args.heap.now) g.L.PlaceList.places
-      (state_of c.args.lists.now (view_of c.args.seat.now) (view c.args.pass.now)),
+      (state_of c.args.lists.now (view_of c.args.seat.now) (view c.args.pass.now)) c.requires.ready.none_left,
 )
 
-pub turn-made-requires-clause-accounts : goal.turn-made-requires-clause-accounts
-turn-made-requires-clause-accounts g c =
-    let a = c.requires.accounts in (
-      a.0,
-      c.loop.invariant.3.accounts a.0 a.1,
-      subst (HasRoom (g.H.Graph.edge c.args.heap.now) (g.H.Graph.marking c.args.heap.now) g.L.PlaceList.places
-          (weigh (λ _. 1) a.0)) (sym c.loop.invariant.2.tries) a.2,
-    )
-
-pub turn-made-requires-clause-won_room : goal.turn-made-requires-clause-won_room
-turn-made-requires-clause-won_room g c =
+pub turn-made-requires-clause-ready : goal.turn-made-requires-clause-ready
+turn-made-requires-clause-ready g c =
+    let r = c.requires.ready in
     let i = c.loop.invariant in
-    let w = (within_made 0 i.3.won (state_of c.args.lists.now (view_of c.args.seat.now) (view c.args.pass.now))
-    (state_of c.loop.lists (view_of c.loop.seat) (view c.loop.pass)) i.3.moved).0 in
-    let r = c.requires.won_room in
-    let l = i.2.won in
-    let goal_is : length (won_of c.loop.lists) + c.args.most ≤ vec_capacity c.loop.lists.won = omega arith in goal_is
-
-pub turn-made-requires-clause-outside_room : goal.turn-made-requires-clause-outside_room
-turn-made-requires-clause-outside_room g c =
-    let i = c.loop.invariant in
-    let w = (within_made 0 i.3.won (state_of c.args.lists.now (view_of c.args.seat.now) (view c.args.pass.now))
-    (state_of c.loop.lists (view_of c.loop.seat) (view c.loop.pass)) i.3.moved).1 in
-    let r = c.requires.outside_room in
-    let l = i.2.outside in
-    let goal_is : length (outside_of c.loop.lists) + c.args.most ≤ vec_capacity c.loop.lists.outside = omega arith in
-    goal_is
+    let s = state_of c.args.lists.now (view_of c.args.seat.now) (view c.args.pass.now) in
+    let t = state_of c.loop.lists (view_of c.loop.seat) (view c.loop.pass) in
+    let tries = i.2.tries in
+    let won = i.2.won in
+    let outside = i.2.outside in
+    let few = (within_made 0 i.3.won s t i.3.moved).1 in record {
+      firsts = r.firsts;
+      accounts = i.3.accounts r.firsts r.accounts;
+      tries_have = subst (HasRoom (g.H.Graph.edge c.args.heap.now) (g.H.Graph.marking c.args.heap.now)
+          g.L.PlaceList.places (weigh (λ _. 1) r.firsts)) (sym tries) r.tries_have;
+      some_tries = r.some_tries;
+      none_left = i.3.none_left;
+      won_has = (let has = r.won_has in omega arith);
+      outside_has = (let has = r.outside_has in omega arith);
+    }
 
 pub returns-then-made-ne0-clause-turned : goal.returns-then-made-ne0-clause-turned
 returns-then-made-ne0-clause-turned g c =

@@ -1,14 +1,14 @@
 use Rattle.std.proofs.Common.{◌+◌, ◌≤◌, length}
 use Rattle.crossbeam_queue.specs.Passes.{IsPassOf}
 use Rattle.mark_words.specs.Seats.{IsSeatOf}
-use Rattle.par_mark.specs.Lists.{won_of, outside_of}
+use Rattle.par_mark.specs.Lists.{outside_of}
 use Rattle.par_mark.specs.Callers.{HasRun}
 use Rattle.par_mark.proofs.run.run.Given as goal
 
 abbrev pub invariant-loop-left : goal.invariant-loop-left
 invariant-loop-left g l = IsSeatOf l.marks l.caller.seat × IsPassOf l.ring l.caller.pass
     × HasRun (g.H.Graph.edge l.heap) (g.H.Graph.marking l.heap) g.L.PlaceList.places l.fn.caller l.caller
-    × (length (won_of l.caller.lists) + l.left ≤ l.most) × (length (outside_of l.caller.lists) + l.left ≤ l.most)
+    × (length (outside_of l.caller.lists) + l.left ≤ l.most)
 
 abbrev pub decreases-loop-left : goal.decreases-loop-left
 decreases-loop-left g l = l.left

@@ -1,5 +1,5 @@
 use Rattle.std.proofs.Common.{◌≡◌, ℕ, List, [], ◌++◌, get_or, sym, ap, ◌∙◌, arith}
-use Rattle.marker.specs.Edges.{targets}
+use Rattle.mark_ahead.specs.Edges.{targets}
 use Rattle.par_mark.proofs.Cells.{one_cell}
 use Rattle.par_mark.proofs.Scanning.{all_fields}
 use Rattle.par_mark.proofs.scans.have_fields.Goals as goal

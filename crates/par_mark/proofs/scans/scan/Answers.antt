@@ -1,5 +1,5 @@
 use Rattle.std.proofs.Common.{rules, ◌≡◌, ℕ, List, [], ◌∷◌, ◌++◌, Option, sym, ap, ◌∙◌}
-use Rattle.marker.specs.Edges.{first_targets}
+use Rattle.mark_ahead.specs.Edges.{first_targets}
 use Rattle.par_mark.proofs.Scanning.{all_fields, one_more, none_more, nothing}
 use Rattle.par_mark.proofs.scans.scan.Goals as goal
 use Rattle.par_mark.proofs.scans.scan.Goals.{in-Some, in_default}

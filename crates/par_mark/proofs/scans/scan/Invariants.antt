@@ -1,6 +1,6 @@
 use Rattle.std.proofs.Common.{◌≡◌, ◌++◌}
 use Rattle.std.specs.VecDeque.{deque_capacity}
-use Rattle.marker.specs.Edges.{first_targets}
+use Rattle.mark_ahead.specs.Edges.{first_targets}
 use Rattle.par_mark.proofs.scans.scan.Given as goal
 
 abbrev pub invariant-loop-i : goal.invariant-loop-i

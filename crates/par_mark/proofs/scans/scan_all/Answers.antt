@@ -1,6 +1,6 @@
 use Rattle.std.proofs.Common.{◌≤◌, ◌+◌, ℕ, List, ◌++◌, length, sym, ap, ◌∙◌, arith, take, append_assoc, length-append}
 use Rattle.std.specs.VecDeque.{deque_len, deque_capacity}
-use Rattle.marker.specs.Edges.{targets}
+use Rattle.mark_ahead.specs.Edges.{targets}
 use Rattle.par_mark.specs.Edges.{all_targets}
 use Rattle.par_mark.proofs.Cells.{one_cell, one_room}
 use Rattle.par_mark.proofs.scans.scan_all.Goals as goal

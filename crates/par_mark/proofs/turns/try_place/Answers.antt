@@ -6,7 +6,7 @@ use Rattle.par_mark.specs.Lists.{tries_of}
 use Rattle.par_mark.specs.Slots.{AreGathered}
 use Rattle.par_mark.specs.States.{state_of}
 use Rattle.par_mark.specs.Tries.{within}
-use Rattle.par_mark.proofs.Trying.{gathered_listed, few_won, shorter, made_step}
+use Rattle.par_mark.proofs.Trying.{IsGathering, gathered_listed, few_won, shorter, made_step}
 use Rattle.par_mark.proofs.turns.try_place.Goals as goal
 
 pub try_slots-won-requires-clause-listed : goal.try_slots-won-requires-clause-listed
@@ -16,8 +16,8 @@ try_slots-won-requires-clause-listed g c =
     c.gather_slots-slots.new.tries.items c.gather_slots-slots.result) (ap (λ v. v.items) c.deref_mut.ensures.value)
     c.gather_slots-slots.ensures.gathered in
     gathered_listed g.L.PlaceList.places c.args.place c.args.most c.arena-arena.result c.gather_slots-slots.result
-    (tries_of c.args.lists.now) c.gather_slots-slots.new.tries.items gathered c.arena-arena.ensures c.requires.place
-    c.requires.listed
+    (tries_of c.args.lists.now) c.gather_slots-slots.new.tries.items
+    record { gathered = gathered; arena_is = c.arena-arena.ensures } c.requires.place c.requires.listed
 
 pub push_slots-requires : goal.push_slots-requires
 push_slots-requires g c =
@@ -25,12 +25,14 @@ push_slots-requires g c =
     c.gather_slots-slots.result = subst (λ (v : List (ℕ × ℕ)). AreGathered c.args.place c.args.most v
     c.gather_slots-slots.new.tries.items c.gather_slots-slots.result) (ap (λ v. v.items) c.deref_mut.ensures.value)
     c.gather_slots-slots.ensures.gathered in
+    let gathering : IsGathering c.args.place c.args.most c.arena-arena.result c.gather_slots-slots.result
+    (tries_of c.args.lists.now) c.gather_slots-slots.new.tries.items =
+    record { gathered = gathered; arena_is = c.arena-arena.ensures } in
     let f = few_won c.args.place c.args.most c.arena-arena.result c.gather_slots-slots.result c.try_slots-won.result
-    (tries_of c.args.lists.now) c.gather_slots-slots.new.tries.items gathered c.arena-arena.ensures
-    c.try_slots-won.ensures.within in
+    (tries_of c.args.lists.now) c.gather_slots-slots.new.tries.items gathering c.try_slots-won.ensures.within in
     let k = few_won c.args.place c.args.most c.arena-arena.result c.gather_slots-slots.result
-    c.gather_slots-slots.result (tries_of c.args.lists.now) c.gather_slots-slots.new.tries.items gathered
-    c.arena-arena.ensures (λ i. omega arith) in
+    c.gather_slots-slots.result (tries_of c.args.lists.now) c.gather_slots-slots.new.tries.items gathering
+    (λ i. omega arith) in
     let r = c.requires.won_room in omega arith
 
 pub overflow_sub-result : goal.overflow_sub-result
@@ -87,7 +89,13 @@ returns-clause-tried g c = λ d.
       won = c.push_slots.new.list;
       outside = c.args.lists.now.outside;
     } (view_of c.try_slots-won.new.seat) d)
-    gathered c.arena-arena.ensures c.try_slots-won.ensures.within c.try_slots-won.ensures.tried
-    (λ i. c.is_marking.ensures i ∙ search rules) c.push_slots.ensures.items refl refl
-    (let r : c.len-before.result - c.len.result + 1 + length c.gather_slots-slots.new.tries.items
-    ≡ length (tries_of c.args.lists.now) + 1 = omega arith in r))
+    record {
+      gathering = record { gathered = gathered; arena_is = c.arena-arena.ensures };
+      won_slots = c.try_slots-won.ensures.within;
+      wins = c.try_slots-won.ensures.tried;
+      inside = λ i. c.is_marking.ensures i ∙ search rules;
+      won_is = c.push_slots.ensures.items;
+      outside_is = refl;
+      pass_is = refl;
+      count = omega arith;
+    })

@@ -1,5 +1,5 @@
 use Rattle.std.proofs.Common.{rules, ◌≡◌, ◌+◌, ◌-◌, ◌≤◌, ℕ, List, [], ◌∷◌, ◌++◌, length, vec_capacity, All, refl}
-use Rattle.std.proofs.Common.{sym, ap, subst, ◌∙◌, arith}
+use Rattle.std.proofs.Common.{sym, ap, subst, ◌∙◌, arith, length-append}
 use Rattle.crossbeam_queue.specs.Passes.{view}
 use Rattle.mark_words.specs.Seats.{view_of}
 use Rattle.mark_words.proofs.Places.{all_front}
@@ -33,7 +33,7 @@ try_place-made-requires-clause-listed g c =
     c.in-Some.ensures.some in
     (listed_taken (g.H.Graph.edge c.args.heap.now) (g.H.Graph.marking c.args.heap.now) g.L.PlaceList.places
     (tries_of c.args.lists.now) c.take.new.tries.items (view c.args.pass.now) (view c.take.new.pass) c.in-Some.first
-    taken c.requires.listed).1
+    taken c.requires.ready.accounts.tries_listed).1
 
 pub try_place-made-requires-clause-place : goal.try_place-made-requires-clause-place
 try_place-made-requires-clause-place g c =
@@ -44,7 +44,12 @@ try_place-made-requires-clause-place g c =
     c.in-Some.ensures.some in
     (listed_taken (g.H.Graph.edge c.args.heap.now) (g.H.Graph.marking c.args.heap.now) g.L.PlaceList.places
     (tries_of c.args.lists.now) c.take.new.tries.items (view c.args.pass.now) (view c.take.new.pass) c.in-Some.first
-    taken c.requires.listed).0
+    taken c.requires.ready.accounts.tries_listed).0
+
+pub try_place-made-requires-clause-won_room : goal.try_place-made-requires-clause-won_room
+try_place-made-requires-clause-won_room g c =
+    let none = ap length c.requires.ready.none_left in
+    let has = c.requires.ready.won_has in omega arith
 
 pub loop-made-init : goal.loop-made-init
 loop-made-init g c =
@@ -68,7 +73,8 @@ loop-made-init g c =
 pub try_place-made-requires-in-loop-made-clause-listed : goal.try_place-made-requires-in-loop-made-clause-listed
 try_place-made-requires-in-loop-made-clause-listed g c =
     let P = g.L.PlaceList.places in
-    let all : All P (tries_of c.loop-made.lists) = c.loop-made.invariant.5.1.tries_listed c.requires.listed in
+    let all : All P (tries_of c.loop-made.lists) = c.loop-made.invariant.5.1.tries_listed
+    c.requires.ready.accounts.tries_listed in
     let items : tries_of c.loop-made.lists ≡ c.pop_back.new.self.items ++ c.in-Some-pop_back.place ∷ [] =
     ap (λ v. v.items) (sym c.deref_mut-in-loop-made.ensures.value) ∙ c.in-Some-pop_back.ensures.items in
     (all_front P c.pop_back.new.self.items c.in-Some-pop_back.place (subst (All P) items all)).0
@@ -76,7 +82,8 @@ try_place-made-requires-in-loop-made-clause-listed g c =
 pub try_place-made-requires-in-loop-made-clause-place : goal.try_place-made-requires-in-loop-made-clause-place
 try_place-made-requires-in-loop-made-clause-place g c =
     let P = g.L.PlaceList.places in
-    let all : All P (tries_of c.loop-made.lists) = c.loop-made.invariant.5.1.tries_listed c.requires.listed in
+    let all : All P (tries_of c.loop-made.lists) = c.loop-made.invariant.5.1.tries_listed
+    c.requires.ready.accounts.tries_listed in
     let items : tries_of c.loop-made.lists ≡ c.pop_back.new.self.items ++ c.in-Some-pop_back.place ∷ [] =
     ap (λ v. v.items) (sym c.deref_mut-in-loop-made.ensures.value) ∙ c.in-Some-pop_back.ensures.items in
     (all_front P c.pop_back.new.self.items c.in-Some-pop_back.place (subst (All P) items all)).1
@@ -87,7 +94,10 @@ try_place-made-requires-in-loop-made-clause-won_room g c =
     let w = (within_made c.loop-made.made i.5.0 (state_of c.args.lists.now (view_of c.args.seat.now)
     (view c.args.pass.now))
     (state_of c.loop-made.lists (view_of c.loop-made.seat) (view c.take.new.pass)) i.5.1.moved).0 in
-    let r = c.requires.won_room in
+    let won = ap length i.5.1.won_is in
+    let a = length-append (won_of c.args.lists.now) i.5.0 in
+    let none = ap length c.requires.ready.none_left in
+    let r = c.requires.ready.won_has in
     let l = i.2.won in
     let m = i.4 in
     let goal_is : length (won_of c.loop-made.lists) + (c.args.most - c.loop-made.made)
@@ -100,7 +110,7 @@ try_place-made-requires-in-loop-made-clause-outside_room g c =
     let w = (within_made c.loop-made.made i.5.0 (state_of c.args.lists.now (view_of c.args.seat.now)
     (view c.args.pass.now))
     (state_of c.loop-made.lists (view_of c.loop-made.seat) (view c.take.new.pass)) i.5.1.moved).1 in
-    let r = c.requires.outside_room in
+    let r = c.requires.ready.outside_has in
     let l = i.2.outside in
     let m = i.4 in
     let goal_is : length (outside_of c.loop-made.lists) + (c.args.most - c.loop-made.made)

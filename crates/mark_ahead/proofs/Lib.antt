@@ -1,0 +1,9 @@
+pub mod Members
+pub mod BlackBits
+pub mod WonCells
+pub mod AllStarted
+pub mod PresentCells
+pub mod AllFollowed
+pub mod MarkingArenas
+pub mod TurnedSome
+pub mod MarkedAhead

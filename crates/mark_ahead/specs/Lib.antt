@@ -1,0 +1,4 @@
+pub mod Edges
+pub mod Blackening
+pub mod Markers
+pub mod Ahead

@@ -1,9 +1,0 @@
-use Rattle.std.proofs.Common.{◌-◌, length}
-use Rattle.marker.proofs.MarkingArenas.{TakesBelow}
-use Rattle.marker.proofs.black_words.take_words.Given as goal
-
-abbrev pub invariant-loop-arena : goal.invariant-loop-arena
-invariant-loop-arena l = TakesBelow l.words l.fn.heap l.from l.heap
-
-abbrev pub decreases-loop-arena : goal.decreases-loop-arena
-decreases-loop-arena l = length l.fn.heap.shape.arenas - l.from

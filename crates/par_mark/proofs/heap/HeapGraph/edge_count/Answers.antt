@@ -1,4 +1,0 @@
-use Rattle.par_mark.proofs.heap.HeapGraph.edge_count.Goals as goal
-
-pub returns-clause-past : goal.returns-clause-past
-returns-clause-past c = λ i low _. c.edge_count.ensures.past i low
