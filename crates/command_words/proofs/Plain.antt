@@ -1,6 +1,6 @@
 -- Clap takes the plain words, and finds what they say.
-use Rattle.std.proofs.Common.{◌≡◌, ◌<◌, ◌≤◌, ◌+◌, ◌-◌, ◌^◌, ℕ, zero, suc, List, [], ◌∷◌, Option, Some, None}
-use Rattle.std.proofs.Common.{true}
+use Rattle.std.proofs.Common.{◌≡◌, ◌<◌, ◌≤◌, ◌+◌, ◌-◌, ◌^◌, ◌++◌, ℕ, zero, suc, List, [], ◌∷◌, Option, Some, None}
+use Rattle.std.proofs.Common.{true, ap₂}
 use Rattle.std.proofs.Common.{false, refl, sym, subst, ◌∙◌, ap, arith, inl, inr, codes, option_map}
 use Rattle.std.proofs.Common.{get_or}
 use Rattle.std.specs.Option.{option_and_then}
@@ -20,7 +20,7 @@ use Rattle.clap.specs.Words.{Row, Text, fault_of, one_of, subcommand_of}
 use Rattle.clap.specs.declared.builder.value_parser.ValueParser.TheVariants.{Unsigned}
 use Rattle.clap.proofs.OnLiterals.{clap_on_literals}
 use Rattle.command_words.specs.Numbers.{FoundSays, GivesNumber, Says}
-use Rattle.command_words.specs.Plain.{AreHelpersWords, ArePlainFor}
+use Rattle.command_words.specs.Plain.{AreHelpersWords, AreMarkersWords, ArePlainFor}
 use Rattle.command_words.specs.Program.{gczone}
 use Rattle.command_words.specs.declared.line.CommandLine.{CommandLine as ALine}
 use Rattle.command_words.specs.declared.line.CommandLine.TheVariants as line
@@ -36,27 +36,59 @@ text_in id words = option_and_then (λ p. one_of id p.1) (subcommand_of gczone w
 abbrev number_of : Text → ℕ
 number_of text = digits_value 10 (without_leading_plus text)
 
--- the two ways to say how many helpers there are
+-- the words of `run`
 abbrev run_words : Text → List Text → List Text
 run_words name rest = name ∷ codes "run" ∷ rest
 
-two_helpers : (name : Text) → (fault_of gczone (run_words name []) ≡ [])
-    × (name_in (run_words name []) ≡ Some (codes "run"))
-    × (text_in (codes "helpers") (run_words name []) ≡ Some (codes "2"))
-unfolding clap_on_literals
-two_helpers name = (refl, refl, refl)
-
-some_helpers : (name : Text) (n : ℕ) → n ≤ 4 → let rest = codes "--helpers" ∷ ((48 + n) ∷ []) ∷ [] in
-    (fault_of gczone (run_words name rest) ≡ [])
+-- `run` is taken with these words behind it, and these texts are given
+abbrev IsFound : Text → List Text → Text → Text → Type 0
+IsFound name rest helpers markers = (fault_of gczone (run_words name rest) ≡ [])
     × (name_in (run_words name rest) ≡ Some (codes "run"))
-    × (text_in (codes "helpers") (run_words name rest) ≡ Some ((48 + n) ∷ []))
+    × (text_in (codes "helpers") (run_words name rest) ≡ Some helpers)
+    × (text_in (codes "markers") (run_words name rest) ≡ Some markers)
+
+abbrev digit : ℕ → Text
+digit n = (48 + n) ∷ []
+
+none_said : (name : Text) → IsFound name [] (codes "2") (codes "1")
 unfolding clap_on_literals
-some_helpers name zero most = (refl, refl, refl)
-some_helpers name (suc zero) most = (refl, refl, refl)
-some_helpers name (suc (suc zero)) most = (refl, refl, refl)
-some_helpers name (suc (suc (suc zero))) most = (refl, refl, refl)
-some_helpers name (suc (suc (suc (suc zero)))) most = (refl, refl, refl)
-some_helpers name (suc (suc (suc (suc (suc n))))) most = absurd (omega arith)
+none_said name = (refl, refl, refl, refl)
+
+helpers_said : (name : Text) (n : ℕ) → n ≤ 4
+    → IsFound name (codes "--helpers" ∷ digit n ∷ []) (digit n) (codes "1")
+unfolding clap_on_literals
+helpers_said name zero most = (refl, refl, refl, refl)
+helpers_said name (suc zero) most = (refl, refl, refl, refl)
+helpers_said name (suc (suc zero)) most = (refl, refl, refl, refl)
+helpers_said name (suc (suc (suc zero))) most = (refl, refl, refl, refl)
+helpers_said name (suc (suc (suc (suc zero)))) most = (refl, refl, refl, refl)
+helpers_said name (suc (suc (suc (suc (suc n))))) most = absurd (omega arith)
+
+markers_said : (name : Text) (m : ℕ) → 1 ≤ m → m ≤ 2
+    → IsFound name (codes "--markers" ∷ digit m ∷ []) (codes "2") (digit m)
+unfolding clap_on_literals
+markers_said name zero some most = absurd (omega (arith, some))
+markers_said name (suc zero) some most = (refl, refl, refl, refl)
+markers_said name (suc (suc zero)) some most = (refl, refl, refl, refl)
+markers_said name (suc (suc (suc m))) some most = absurd (omega (arith, most))
+
+both_said : (name : Text) (n m : ℕ) → n ≤ 4 → 1 ≤ m → m ≤ 2
+    → IsFound name (codes "--helpers" ∷ digit n ∷ codes "--markers" ∷ digit m ∷ []) (digit n) (digit m)
+unfolding clap_on_literals
+both_said name n zero most some few = absurd (omega (arith, some))
+both_said name n (suc (suc (suc m))) most some few = absurd (omega (arith, few))
+both_said name zero (suc zero) most some few = (refl, refl, refl, refl)
+both_said name (suc zero) (suc zero) most some few = (refl, refl, refl, refl)
+both_said name (suc (suc zero)) (suc zero) most some few = (refl, refl, refl, refl)
+both_said name (suc (suc (suc zero))) (suc zero) most some few = (refl, refl, refl, refl)
+both_said name (suc (suc (suc (suc zero)))) (suc zero) most some few = (refl, refl, refl, refl)
+both_said name (suc (suc (suc (suc (suc n))))) (suc zero) most some few = absurd (omega (arith, most))
+both_said name zero (suc (suc zero)) most some few = (refl, refl, refl, refl)
+both_said name (suc zero) (suc (suc zero)) most some few = (refl, refl, refl, refl)
+both_said name (suc (suc zero)) (suc (suc zero)) most some few = (refl, refl, refl, refl)
+both_said name (suc (suc (suc zero))) (suc (suc zero)) most some few = (refl, refl, refl, refl)
+both_said name (suc (suc (suc (suc zero)))) (suc (suc zero)) most some few = (refl, refl, refl, refl)
+both_said name (suc (suc (suc (suc (suc n))))) (suc (suc zero)) most some few = absurd (omega (arith, most))
 
 plain_check : (name : Text) → (fault_of gczone (name ∷ codes "check" ∷ []) ≡ [])
     × (name_in (name ∷ codes "check" ∷ []) ≡ Some (codes "check"))
@@ -303,21 +335,23 @@ reads rows id t n m at value given = given.2 ∙ ap number_of (same_text (one_of
 other_name : (t u v : Text) → t ≡ u → t ≡ v → (get_or u 0 0 ≡ get_or v 0 0 → ⊥) → ⊥
 other_name t u v e f ne = ne (ap (λ (x : Text). get_or x 0 0) (sym e ∙ f))
 
-run_said : (o : Option (Text × List Row)) (t : Text) (n : ℕ) → option_map (λ p. p.0) o ≡ Some (codes "run")
-    → option_and_then (λ p. one_of (codes "helpers") p.1) o ≡ Some t → number_of t ≡ n → (other : ALine)
-    → FoundSays o other → other ≡ line.Run n
-run_said None t n name text value other says = absurd says
-run_said (Some p) t n name text value (line.Run m) says =
-    ap line.Run (reads p.1 (codes "helpers") t n m text value says.1)
-run_said (Some p) t n name text value (line.Storm a b c) says =
+run_said : (o : Option (Text × List Row)) (t u : Text) (n m : ℕ) → option_map (λ p. p.0) o ≡ Some (codes "run")
+    → option_and_then (λ p. one_of (codes "helpers") p.1) o ≡ Some t
+    → option_and_then (λ p. one_of (codes "markers") p.1) o ≡ Some u → number_of t ≡ n → number_of u ≡ m
+    → (other : ALine) → FoundSays o other → other ≡ line.Run n m
+run_said None t u n m name text other_text value second other says = absurd says
+run_said (Some p) t u n m name text other_text value second (line.Run a b) says =
+    ap (λ (x : ℕ). line.Run x b) (reads p.1 (codes "helpers") t n a text value says.1)
+    ∙ ap (λ (x : ℕ). line.Run n x) (reads p.1 (codes "markers") u m b other_text second says.2)
+run_said (Some p) t u n m name text other_text value second (line.Storm a b c) says =
     absurd (other_name p.0 (codes "run") (codes "storm") (cc name) says.0 (λ e. omega (arith, e)))
-run_said (Some p) t n name text value line.Check says =
+run_said (Some p) t u n m name text other_text value second line.Check says =
     absurd (other_name p.0 (codes "run") (codes "check") (cc name) says (λ e. omega (arith, e)))
 
 check_said : (o : Option (Text × List Row)) → option_map (λ p. p.0) o ≡ Some (codes "check") → (other : ALine)
     → FoundSays o other → other ≡ line.Check
 check_said None name other says = absurd says
-check_said (Some p) name (line.Run m) says =
+check_said (Some p) name (line.Run n m) says =
     absurd (other_name p.0 (codes "check") (codes "run") (cc name) says.0 (λ e. omega (arith, e)))
 check_said (Some p) name (line.Storm a b c) says =
     absurd (other_name p.0 (codes "check") (codes "storm") (cc name) says.0 (λ e. omega (arith, e)))
@@ -325,7 +359,7 @@ check_said (Some p) name line.Check says = refl
 
 storm_said : (rows : List Row) (s t u : Text) (a b c : ℕ) → GivesTexts rows s t u → number_of s ≡ a → number_of t ≡ b
     → number_of u ≡ c → (other : ALine) → Says (codes "storm") rows other → other ≡ line.Storm a b c
-storm_said rows s t u a b c given first second third (line.Run m) says =
+storm_said rows s t u a b c given first second third (line.Run n m) says =
     absurd (other_name (codes "storm") (codes "storm") (codes "run") refl says.0 (λ e. omega (arith, e)))
 storm_said rows s t u a b c given first second third (line.Storm x y z) says =
     ap (λ (n : ℕ). line.Storm n y z) (reads rows (codes "seed") s a x given.0 first says.1)
@@ -345,18 +379,36 @@ digit_text n most = decimal_digit n (omega (arith, most))
 digit_reads : (n : ℕ) → n ≤ 4 → number_of ((48 + n) ∷ []) ≡ n
 digit_reads n most = ap number_of (sym (digit_text n most)) ∙ decimal_reads n (omega (arith, most))
 
-run_read : (name : Text) (rest : List Text) (n : ℕ) → AreHelpersWords rest n
-    → AreRead (run_words name rest) (line.Run n)
-run_read name rest n (inl h) =
-    let two = two_helpers name in
-    subst (λ (r : List Text). AreRead (run_words name r) (line.Run n)) (sym h.0)
-    (two.0, run_said (subcommand_of gczone (run_words name [])) (codes "2") n two.1 two.2 (sym h.1))
-run_read name rest n (inr h) =
-    let some = some_helpers name n h.1 in
-    let words = codes "--helpers" ∷ ((48 + n) ∷ []) ∷ [] in
-    subst (λ (r : List Text). AreRead (run_words name r) (line.Run n))
-    (sym (h.0 ∙ ap (λ (t : Text). codes "--helpers" ∷ t ∷ []) (digit_text n h.1)))
-    (some.0, run_said (subcommand_of gczone (run_words name words)) ((48 + n) ∷ []) n some.1 some.2 (digit_reads n h.1))
+said_so : (name : Text) (rest : List Text) (n m : ℕ) (t u : Text) → IsFound name rest t u → number_of t ≡ n
+    → number_of u ≡ m → AreRead (run_words name rest) (line.Run n m)
+said_so name rest n m t u found first second = (
+  found.0,
+  run_said (subcommand_of gczone (run_words name rest)) t u n m found.1 found.2 found.3 first second,
+)
+
+run_read : (name : Text) (first rest : List Text) (n m : ℕ) → AreHelpersWords first n → AreMarkersWords rest m
+    → AreRead (run_words name (first ++ rest)) (line.Run n m)
+run_read name first rest n m (inl h) (inl k) =
+    subst (λ (r : List Text). AreRead (run_words name r) (line.Run n m)) (sym (ap₂ (λ x y. x ++ y) h.0 k.0))
+    (said_so name [] n m (codes "2") (codes "1") (none_said name) (sym h.1) (sym k.1))
+run_read name first rest n m (inr h) (inl k) =
+    let words = h.0 ∙ ap (λ (t : Text). codes "--helpers" ∷ t ∷ []) (digit_text n h.1) in
+    subst (λ (r : List Text). AreRead (run_words name r) (line.Run n m)) (sym (ap₂ (λ x y. x ++ y) words k.0))
+    (said_so name (codes "--helpers" ∷ digit n ∷ []) n m (digit n) (codes "1") (helpers_said name n h.1)
+    (digit_reads n h.1) (sym k.1))
+run_read name first rest n m (inl h) (inr k) =
+    let most : m ≤ 4 = omega (arith, k.2) in
+    let words = k.0 ∙ ap (λ (t : Text). codes "--markers" ∷ t ∷ []) (digit_text m most) in
+    subst (λ (r : List Text). AreRead (run_words name r) (line.Run n m)) (sym (ap₂ (λ x y. x ++ y) h.0 words))
+    (said_so name (codes "--markers" ∷ digit m ∷ []) n m (codes "2") (digit m) (markers_said name m k.1 k.2)
+    (sym h.1) (digit_reads m most))
+run_read name first rest n m (inr h) (inr k) =
+    let most : m ≤ 4 = omega (arith, k.2) in
+    let words = h.0 ∙ ap (λ (t : Text). codes "--helpers" ∷ t ∷ []) (digit_text n h.1) in
+    let others = k.0 ∙ ap (λ (t : Text). codes "--markers" ∷ t ∷ []) (digit_text m most) in
+    subst (λ (r : List Text). AreRead (run_words name r) (line.Run n m)) (sym (ap₂ (λ x y. x ++ y) words others))
+    (said_so name (codes "--helpers" ∷ digit n ∷ codes "--markers" ∷ digit m ∷ []) n m (digit n) (digit m)
+    (both_said name n m h.1 k.1 k.2) (digit_reads n h.1) (digit_reads m most))
 
 storm_read : (name : Text) (rest : List Text) (a b n : ℕ) → a < 2147483648 → 0 < b → b ≤ 1000000
     → AreHelpersWords rest n → AreRead (name ∷ codes "storm" ∷ decimal a ∷ decimal b ∷ rest) (line.Storm a b n)
@@ -390,8 +442,8 @@ storm_read name rest a b n small some few (inr h) =
     )
 
 pub plain_read : (words : List Text) (line : ALine) → ArePlainFor words line → AreRead words line
-plain_read words (line.Run n) (name, rest, e, h) =
-    subst (λ (w : List Text). AreRead w (line.Run n)) (sym e) (run_read name rest n h)
+plain_read words (line.Run n m) (name, first, rest, e, h, k) =
+    subst (λ (w : List Text). AreRead w (line.Run n m)) (sym e) (run_read name first rest n m h k)
 plain_read words (line.Storm a b n) (name, rest, e, small, some, few, h) =
     subst (λ (w : List Text). AreRead w (line.Storm a b n)) (sym e) (storm_read name rest a b n small some few h)
 plain_read words line.Check (name, e) =

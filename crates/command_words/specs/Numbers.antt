@@ -12,7 +12,8 @@ GivesNumber rows id n =
 
 -- what a subcommand's name and what was given to its arguments say
 abbrev pub Says : Text → List Row → CommandLine → Type 0
-Says name rows (line.Run helpers) = (name ≡ codes "run") × GivesNumber rows (codes "helpers") helpers
+Says name rows (line.Run helpers markers) =
+    (name ≡ codes "run") × GivesNumber rows (codes "helpers") helpers × GivesNumber rows (codes "markers") markers
 Says name rows (line.Storm seed lines helpers) =
     (name ≡ codes "storm") × GivesNumber rows (codes "seed") seed × GivesNumber rows (codes "lines") lines
     × GivesNumber rows (codes "helpers") helpers
@@ -25,6 +26,6 @@ FoundSays (Some found) line = Says found.0 found.1 line
 
 -- the ranges of the numbers
 abbrev pub IsInRange : CommandLine → Type 0
-IsInRange (line.Run helpers) = helpers ≤ 4
+IsInRange (line.Run helpers markers) = (helpers ≤ 4) × (1 ≤ markers) × (markers ≤ 2)
 IsInRange (line.Storm seed lines helpers) = (seed < 2147483648) × (0 < lines) × (lines ≤ 1000000) × (helpers ≤ 4)
 IsInRange line.Check = ⊤

@@ -15,6 +15,15 @@ helpers_rule = record (new_rule (codes "helpers")) {
   defaults = codes "2" ∷ [];
 }
 
+-- `--markers M`, M 1 or 2, and 1 where it is left out
+abbrev pub markers_rule : Rule
+markers_rule = record (new_rule (codes "markers")) {
+  long = Some (codes "markers");
+  action = Some Set;
+  parser = Some (Unsigned 1 2);
+  defaults = codes "1" ∷ [];
+}
+
 -- SEED and LINES
 abbrev pub seed_rule : Rule
 seed_rule = record (new_rule (codes "seed")) {
@@ -31,7 +40,7 @@ lines_rule = record (new_rule (codes "lines")) {
 }
 
 abbrev pub run : App
-run = with_rule (new_app (codes "run")) helpers_rule
+run = with_rule (with_rule (new_app (codes "run")) helpers_rule) markers_rule
 
 abbrev pub storm : App
 storm = with_rule (with_rule (with_rule (new_app (codes "storm")) seed_rule) lines_rule) helpers_rule
@@ -42,7 +51,7 @@ check = new_app (codes "check")
 abbrev pub wants_subcommand : App → App
 wants_subcommand a = record a { top = record a.top { subcommand_required = true } }
 
--- `gczone run [--helpers N]`, `gczone storm SEED LINES [--helpers N]`, `gczone check`
+-- `gczone run [--helpers N] [--markers M]`, `gczone storm SEED LINES [--helpers N]`, `gczone check`
 abbrev pub gczone : App
 gczone =
     with_subcommand

@@ -15,7 +15,7 @@ use std::alloc::Global;
 #[derive(Clone, Copy, Debug, PartialEq, Eq)]
 pub enum CommandLine {
     /// Answers the trace on standard input.
-    Run { helpers: u8 },
+    Run { helpers: u8, markers: u8 },
     /// Answers a generated trace.
     Storm { seed: u32, lines: u32, helpers: u8 },
     /// Checks the dump of colours on standard input.
@@ -42,13 +42,26 @@ fn helpers_of(matches: &ArgMatches) -> Option<u8>
     Some(helpers)
 }
 
+// How many markers there are to be. Clap takes 1 and 2.
+fn markers_of(matches: &ArgMatches) -> Option<u8>
+    ensures given { IfSome result (GivesNumber (rows_of (found_of matches.now)) (codes "markers")) }
+    ensures range { IfSome result (λ n. (1 ≤ n) × (n ≤ 2)) }
+{
+    let markers = matches.get_one("markers")?;
+    if markers == 0 || 2 < markers {
+        return None;
+    }
+    Some(markers)
+}
+
 // What is given to `run`.
 fn run_line(matches: &ArgMatches) -> Option<CommandLine>
     ensures numbers { IfSome result (Says (codes "run") (rows_of (found_of matches.now))) }
     ensures ranges { IfSome result IsInRange }
 {
     let helpers = helpers_of(matches)?;
-    Some(CommandLine::Run { helpers })
+    let markers = markers_of(matches)?;
+    Some(CommandLine::Run { helpers, markers })
 }
 
 // What is given to `storm`. Clap takes numbers in their ranges alone.

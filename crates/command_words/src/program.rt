@@ -1,7 +1,8 @@
 // The command that clap reads.
 ghost use Rattle.std.specs.Prelude.{◌≡◌, IfOk, false, map};
 ghost use Rattle.clap.specs.Words.{FailsBy, fault_of, rule_of, subcommand_of, subcommand_rows_of};
-ghost use Rattle.command_words.specs.Program.{Tells, check, gczone, helpers_rule, lines_rule, run, seed_rule, storm};
+ghost use Rattle.command_words.specs.Program.{Tells, check, gczone, helpers_rule, lines_rule, markers_rule};
+ghost use Rattle.command_words.specs.Program.{run, seed_rule, storm};
 
 use clap::builder::ValueParser;
 use clap::{Arg, ArgAction, ArgMatches, Command, Error};
@@ -16,6 +17,17 @@ fn helpers<'a>(alloc: Global) -> Arg<'a>
         .action(ArgAction::Set)
         .value_parser(ValueParser::Unsigned(0, 4))
         .default_value("2")
+}
+
+fn markers<'a>(alloc: Global) -> Arg<'a>
+    ensures rule { rule_of result ≡ markers_rule }
+    ensures local { result.global ≡ false }
+{
+    Arg::new(alloc, "markers")
+        .long("markers")
+        .action(ArgAction::Set)
+        .value_parser(ValueParser::Unsigned(1, 2))
+        .default_value("1")
 }
 
 fn seed<'a>(alloc: Global) -> Arg<'a>
@@ -41,7 +53,9 @@ fn lines<'a>(alloc: Global) -> Arg<'a>
 fn run_command<'a>(alloc: Global) -> Result<Command<'a>, AllocError>
     ensures { IfOk result (Tells run) }
 {
-    let command = Command::new(alloc, "run").arg(helpers(alloc))?;
+    let command = Command::new(alloc, "run")
+        .arg(helpers(alloc))?
+        .arg(markers(alloc))?;
     Ok(command)
 }
 
