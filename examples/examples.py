@@ -1,6 +1,6 @@
 """Checks the program by the examples, and what becomes of pipes, full devices and wrong words. tools/test runs this.
 
-NAME.trace, here or in a folder, is the input of `gczone run` with any number of helpers, NAME.dump that of
+NAME.trace, here or in a folder, is the input of `gczone run` with any number of helpers and markers, NAME.dump that of
 `gczone check`, and NAME.out the output; NAME.status and NAME.err stand where the exit status is not 0 or a text is
 printed on standard error.
 """
@@ -16,7 +16,10 @@ from checks import Check, Outcome
 EXAMPLES = Path(__file__).resolve().parent
 REPORTS = (b"started", b"groups ", b"ended ", b"swept ", b"done", b"stopped ")
 WRITE_FAILED = (5, b"gczone: write failed\n")
-WORDS = ("", "walk", "run walk", "check walk", "run --helpers 5", "storm 1", "storm 1 0", "--help")
+WORDS = (
+    "", "walk", "run walk", "check walk", "run --helpers 5", "run --markers 0", "run --markers 3", "storm 1",
+    "storm 1 0", "storm 1 2 --markers 2", "check --markers 2", "--help",
+)
 SECONDS = 120
 
 
@@ -96,18 +99,18 @@ def check_broken_pipe(program):
 def check_words(program, words):
     """The program itself refuses words that it does not take, and writes which it takes."""
     run = subprocess.run([program, *words], input=b"", capture_output=True, timeout=SECONDS, check=False)
-    forms = (b"gczone run [--helpers N]", b"gczone storm SEED LINES [--helpers N]", b"gczone check")
+    forms = (b"gczone run [--helpers N] [--markers M]", b"gczone storm SEED LINES [--helpers N]", b"gczone check")
     wanted = (2, b"", b"gczone: usage: " + b" | ".join(forms) + b"\n")
     found = (run.returncode, run.stdout, run.stderr)
     return Outcome([] if found == wanted else [f"status, output and error text are {found}"])
 
 
 def example_checks(program):
-    """Each trace without a number of helpers, with none and with four; each dump."""
+    """Each trace without a number of helpers, with none, and with four and two markers; each dump."""
     for source in sorted([*EXAMPLES.rglob("*.trace"), *EXAMPLES.rglob("*.dump")]):
         ways = (["check"],)
         if source.suffix == ".trace":
-            ways = (["run"], ["run", "--helpers", "0"], ["run", "--helpers", "4"])
+            ways = (["run"], ["run", "--helpers", "0"], ["run", "--helpers", "4", "--markers", "2"])
         for words in ways:
             name = " ".join([f"examples/{source.relative_to(EXAMPLES)}", *words[1:]])
             yield Check(name, 0.1, partial(check_example, program, source, words))

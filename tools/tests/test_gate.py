@@ -146,7 +146,7 @@ class ToolTest(unittest.TestCase):
                 done.stdout.splitlines(),
                 [
                     "examples/first.trace: ok", "examples/first.trace --helpers 0: ok",
-                    "examples/first.trace --helpers 4: FAILED: another output", "2 passed, 1 failed",
+                    "examples/first.trace --helpers 4 --markers 2: FAILED: another output", "2 passed, 1 failed",
                 ],
             )
             self.assertEqual(self.run_tool("--program", program, "first.trace --helpers 0").returncode, 0)

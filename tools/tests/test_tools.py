@@ -50,8 +50,8 @@ WORDS = {
     **dict(RUNNERS), "heap-log": [HEAP_LOG], "prompt": [FIRST], "versus": ["1", "1"], "check-faults": [],
     "after-edit": [], "uses": ["replay"], "lint": [], "test": [], "prove": [], "build-unproved": [],
     "check-bindings": [], "spidermonkey/check-logs": [], "../bench/speed.py": [], "../bench/helpers.py": [],
-    "../bench/dumps.py": [], "../bench/engines.py": [], "../bench/calls.py": [], "../bench/latency.py": [],
-    "../bench/memory.py": [], "../bench/compaction.py": [], "../bench/unchecked.py": [],
+    "../bench/markers.py": [], "../bench/dumps.py": [], "../bench/engines.py": [], "../bench/calls.py": [],
+    "../bench/latency.py": [], "../bench/memory.py": [], "../bench/compaction.py": [], "../bench/unchecked.py": [],
 }
 SHELL = ["find-program"]
 
@@ -202,8 +202,9 @@ class WrongWords(Tools):
         self.check_refuses([["prove", "frobnicate"]], "frobnicate is no crate of crates.txt")
         self.check_refuses([["build-unproved", "frobnicate"]], "frobnicate is no program of this repository")
         self.check_refuses([["test", "frobnicate"]], "no check is named frobnicate: see --list")
-        benches = [["../bench/speed.py"], ["../bench/helpers.py"], ["../bench/dumps.py"], ["../bench/engines.py"]]
-        self.check_refuses([[*call, "--only", "frobnicate"] for call in benches], "'frobnicate' is none of ")
+        benches = ("speed", "helpers", "markers", "dumps", "engines")
+        calls = [[f"../bench/{name}.py", "--only", "frobnicate"] for name in benches]
+        self.check_refuses(calls, "'frobnicate' is none of ")
         self.check_refuses([["draw", "heep", FIRST]], "'heep'", "'heap', 'arenas', 'timeline'")
 
     def test_a_word_that_is_missing_is_named(self):

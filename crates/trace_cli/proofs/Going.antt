@@ -664,6 +664,9 @@ amid_pauses e m left now i p q f g behind outs others flown flying d pause.None 
 amid_pauses e m left now i p q f g behind outs others flown flying d pause.BoardEmpty so goes size stands writes by =
     no_flight by.0 by.1
     (stands_amid e m left now i p q f g outs others flown flying d pause.BoardEmpty so goes size stands writes)
+amid_pauses e m left now i p q f g behind outs others flown flying d pause.MarkingBegan so goes size stands writes by =
+    no_flight by.0 by.1
+    (stands_amid e m left now i p q f g outs others flown flying d pause.MarkingBegan so goes size stands writes)
 amid_pauses e m left now i p q f g behind outs others flown flying d (pause.Sweep jobs) so goes size stands writes by =
     record {
       amid = refl;
@@ -691,6 +694,8 @@ amid_over e m k left now i p q r f g h outs others flown flying d pause.None so 
     so.reads_are (later ∙ writes ∙ so.writes_are))
 amid_over e m k left now i p q r f g h outs others flown flying d pause.BoardEmpty so goes size stands writes none over
     ended later = absurd (cc none)
+amid_over e m k left now i p q r f g h outs others flown flying d pause.MarkingBegan so goes size stands writes none
+    over ended later = absurd (cc none)
 amid_over e m k left now i p q r f g h outs others flown flying d (pause.Sweep jobs) so goes size stands writes none
     over ended later = absurd (cc none)
 amid_over e m k left now i p q r f g h outs others flown flying d (pause.Over x) so goes size stands writes none over
@@ -710,6 +715,8 @@ amid_unended e m k left now i p q r f g h behind outs others flown flying d paus
     (let same = so.writes_are in omega (arith, same, writes)) rose
 amid_unended e m k left now i p q r f g h behind outs others flown flying d pause.BoardEmpty so goes size stands writes
     none over broken rose = absurd (cc none)
+amid_unended e m k left now i p q r f g h behind outs others flown flying d pause.MarkingBegan so goes size stands
+    writes none over broken rose = absurd (cc none)
 amid_unended e m k left now i p q r f g h behind outs others flown flying d (pause.Sweep jobs) so goes size stands
     writes none over broken rose = absurd (cc none)
 amid_unended e m k left now i p q r f g h behind outs others flown flying d (pause.Over x) so goes size stands writes

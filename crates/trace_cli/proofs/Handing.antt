@@ -26,6 +26,7 @@ pub paused : (e : Entry) (m : Machine) (i : Input) (written : Option (List ℕ))
     → PausesSo t e m i written writes behind outs flown → PausesSo t e m i written writes behind [] none_flown
 paused e m i written writes behind outs flown pause.None other so = absurd (other refl)
 paused e m i written writes behind outs flown pause.BoardEmpty other so = so
+paused e m i written writes behind outs flown pause.MarkingBegan other so = so
 paused e m i written writes behind outs flown (pause.Sweep jobs) other so = so
 paused e m i written writes behind outs flown (pause.Over x) other so = so
 
@@ -44,6 +45,10 @@ module _ (e : Entry) (m : Machine) (i : Input) (written : Option (List ℕ)) (wr
   pub pause_over : (x : Exit) → t ≡ pause.Over x → HasEnded e x m i written writes behind
   pause_over x is = at_pause (pause.Over x) is
 
+  -- the marking of a `collect` began
+  pub pause_marks : t ≡ pause.MarkingBegan → Standing e m i written writes [] none_flown
+  pause_marks is = at_pause pause.MarkingBegan is
+
   -- arenas are to be swept
   pub pause_sweeps : (jobs : List Job) → t ≡ pause.Sweep jobs
       → Sweeps e m i written writes (outs_of jobs) (flown_by jobs)
@@ -60,22 +65,36 @@ module _ (e : Entry) (m : Machine) (i : Input) (written : Option (List ℕ)) (wr
       standing (inl is) = at_pause pause.None (sym same ∙ is)
       standing (inr is) = at_pause pause.BoardEmpty (sym same ∙ is)
 
--- so it does from some standing at the start
-pub some_ends : (m k : Machine) (i j : Input) (written text : Option (List ℕ)) (writes fell behind : ℕ) (t : Pause)
-    → ((e : Entry) → Standing e m i written writes [] none_flown
-    → PausesSo t e k j text fell behind [] none_flown) → IsStanding m i written writes [] none_flown
-    → (jobs : List Job) (v : Pause) → v ≡ t → (v ≡ pause.None) ⊎ (v ≡ pause.BoardEmpty) → jobs ≡ []
-    → IsStanding k j text fell (outs_of jobs) (flown_by jobs)
-some_ends m k i j written text writes fell behind t so (somewhere e s) jobs v same or none =
-    somewhere e (pause_ends e k j text fell behind t (so e s) jobs v same or none)
+-- the loop paused so, wherever the replay began
+pub record Pausing (t : Pause) (k : Machine) (j : Input) (text : Option (List ℕ)) (fell behind : ℕ) : Type 0 where
+  pub entry : Entry
+  pub so : PausesSo t entry k j text fell behind [] none_flown
 
-pub some_sweeps : (m k : Machine) (i j : Input) (written text : Option (List ℕ)) (writes fell behind : ℕ) (t : Pause)
+pub pausing : (m k : Machine) (i j : Input) (written text : Option (List ℕ)) (writes fell behind : ℕ) (t : Pause)
     → ((e : Entry) → Standing e m i written writes [] none_flown
     → PausesSo t e k j text fell behind [] none_flown) → IsStanding m i written writes [] none_flown
-    → (jobs : List Job) → t ≡ pause.Sweep jobs
+    → Pausing t k j text fell behind
+pausing m k i j written text writes fell behind t so (somewhere e s) = record { entry = e; so = so e s }
+
+-- then it goes on over no arenas
+pub some_ends : (k : Machine) (j : Input) (text : Option (List ℕ)) (fell behind : ℕ) (t : Pause)
+    → Pausing t k j text fell behind → (jobs : List Job) (v : Pause) → v ≡ t
+    → (v ≡ pause.None) ⊎ (v ≡ pause.BoardEmpty) → jobs ≡ [] → IsStanding k j text fell (outs_of jobs) (flown_by jobs)
+some_ends k j text fell behind t p jobs v same or none =
+    somewhere p.entry (pause_ends p.entry k j text fell behind t p.so jobs v same or none)
+
+-- or marks by markers
+pub some_marks : (k : Machine) (j : Input) (text : Option (List ℕ)) (fell behind : ℕ) (t : Pause)
+    → Pausing t k j text fell behind → t ≡ pause.MarkingBegan → IsStanding k j text fell [] none_flown
+some_marks k j text fell behind t p is = somewhere p.entry (pause_marks p.entry k j text fell behind t p.so is)
+
+-- or goes on over arenas that are to be swept
+pub some_sweeps : (k : Machine) (j : Input) (text : Option (List ℕ)) (fell behind : ℕ) (t : Pause)
+    → Pausing t k j text fell behind → (jobs : List Job) → t ≡ pause.Sweep jobs
     → IsStanding k j text fell (outs_of jobs) (flown_by jobs) × Ascend (outs_of jobs)
-some_sweeps m k i j written text writes fell behind t so (somewhere e s) jobs is =
-    let sweeps = pause_sweeps e k j text fell behind t (so e s) jobs is in (somewhere e sweeps.stands, sweeps.ascend)
+some_sweeps k j text fell behind t p jobs is =
+    let sweeps = pause_sweeps p.entry k j text fell behind t p.so jobs is in
+    (somewhere p.entry sweeps.stands, sweeps.ascend)
 
 none_left : (o : Option Pending) → o ≡ None → IsSome o → ⊥
 none_left None none some = cc some

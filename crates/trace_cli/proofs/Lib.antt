@@ -11,6 +11,7 @@ pub mod Compacted
 pub mod Dumped
 pub mod DumpRead
 pub mod Lined
+pub mod Marked
 pub mod Stands
 pub mod Complete
 pub mod Concluding

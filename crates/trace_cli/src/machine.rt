@@ -40,6 +40,8 @@ pub enum Pause {
     None,
     /// The last arena was taken in.
     BoardEmpty,
+    /// The marking of a `collect` began.
+    MarkingBegan,
     /// Arenas are to be swept.
     Sweep(Jobs),
     /// The replay is over.

@@ -1,8 +1,11 @@
 // The whole replay: what the words ask for is done to its end.
-ghost use Rattle.std.specs.Prelude.{◌≡◌, ◌≢◌, ◌<◌, ℕ, [], map, ◌⊎◌, Some};
+ghost use Rattle.std.specs.Prelude.{◌≡◌, ◌≢◌, ◌<◌, ℕ, [], map, ◌⊎◌, IfOk, Some};
 ghost use Rattle.clap.specs.Words.{fault_of};
 ghost use Rattle.gz_io.specs.Causes.{Rose};
 ghost use Rattle.command_words.specs.Program.{gczone};
+ghost use Rattle.heap_core.specs.Shape.{field_at, is_marking};
+ghost use Rattle.mark_ahead.specs.Blackening.{HasBlackened};
+ghost use Rattle.mark_ahead.specs.Markers.{MayBeMarked};
 ghost use Rattle.slice_driver.specs.Units.{none_flown};
 ghost use Rattle.trace_cli.specs.CommandLine.{ArePlain, IsCheck, IsStorm, IsStormOf};
 ghost use Rattle.trace_cli.specs.Headline.{Replays, Completes, Checks, Concluded};
@@ -20,7 +23,9 @@ use crate::storm::answer_storm;
 use command_source::{CommandSource, TraceSource};
 use command_words::{CommandLine, WordsFault, read_words};
 use gz_io::{Gate, LineReader, Sink, Source};
-use heap_core::Steps;
+use gz_names::Place;
+use heap_core::{Heap, Steps};
+use par_mark::mark_heap;
 use std::alloc::Global;
 use std::marker::Brand;
 use std::mem;
@@ -39,6 +44,8 @@ pub struct Resources<'r, R, G> {
     /// For how many arenas begun one helper at most starts.
     pub arenas_a_helper: usize,
     pub gate: &'r G,
+    /// Whether two markers follow what is black as the marking of a `collect` begins.
+    pub two_markers: bool,
     ghost some: { 0 < arenas_a_helper },
 }
 
@@ -70,6 +77,18 @@ fn run_on<
         match mem::replace(replaying.pause, Pause::None) {
             Pause::None | Pause::BoardEmpty => {
                 replaying.run(&mut MainSweeper::new(resources.alloc));
+            }
+            Pause::MarkingBegan => {
+                if resources.two_markers {
+                    replaying.mark_by(
+                        &|alloc: Global, heap: &Heap, from: &[Place], words: Vec<u64>|
+                            requires { MayBeMarked heap.now from.now words.items }
+                            ensures { IfOk result (λ r. HasBlackened (field_at heap.entry.now.shape)
+                                (is_marking heap.entry.now.shape) words.items from.entry.now r.0.items r.1.won.items
+                                r.1.outside.items) }
+                        { mark_heap(resources.rt, alloc, heap, from, words, resources.gate) },
+                    );
+                }
             }
             Pause::Sweep(jobs) => {
                 let count = resources.helpers.beside(&jobs);
@@ -198,13 +217,14 @@ pub fn replay<R: Threads + Wait + Sync, S: Source + Send, K: Sink + Send, G: Gat
     ensures no_fault { result ≡ Exit.Unsound → IsCheck (map (λ w. w.now) words.now) }
 {
     match read_words(alloc, words) {
-        Ok(CommandLine::Run { helpers }) => {
+        Ok(CommandLine::Run { helpers, markers }) => {
             let resources = Resources {
                 rt,
                 alloc,
                 helpers: Helpers::of(words, helpers),
                 arenas_a_helper,
                 gate,
+                two_markers: markers == 2,
             };
             answer_lines::<Brand, R, S, K, G>(&resources, source, sink, Blank::new(1))
         }
@@ -221,6 +241,7 @@ pub fn replay<R: Threads + Wait + Sync, S: Source + Send, K: Sink + Send, G: Gat
                 helpers: Helpers::of(words, helpers),
                 arenas_a_helper,
                 gate,
+                two_markers: false,
             };
             answer_storm::<Brand, R, K, G>(&resources, seed, lines, sink, Blank::new(1))
         }

@@ -1,14 +1,19 @@
 // A replay, as main's work beside helpers.
 ghost use Rattle.std.specs.Prelude.{◌≡◌, [], Some};
+ghost use Rattle.mark_ahead.specs.Markers.{MarksBlack};
 ghost use Rattle.slice_driver.specs.Units.{none_flown};
 ghost use Rattle.trace_cli.specs.Pauses.{PausesSo};
 ghost use Rattle.trace_cli.specs.Standing.{Entry, IsStanding, Standing};
 
 use crate::lines::go;
 use crate::machine::{Machine, Pause};
+use crate::pending::Pending;
+use cell_bits::NoFlight;
 use command_source::CommandSource;
 use gz_io::Sink;
-use heap_core::Steps;
+use gz_names::{NoMemory, Place};
+use heap_core::{Heap, Steps};
+use mark_ahead::Marked;
 use std::alloc::Global;
 use std::sync::ledger::Ledger;
 use sweep_beside::Works;
@@ -24,6 +29,49 @@ pub struct Replaying<'m, 's, 'k, 't, 'p, S: CommandSource, K: Sink, L: Ledger> {
     pub steps: &'t mut Steps<L>,
     /// Why the last stretch ended.
     pub pause: &'p mut Pause,
+}
+
+impl<'m, 's, 'k, 't, 'p, S: CommandSource, K: Sink, L: Ledger> Replaying<
+    'm,
+    's,
+    'k,
+    't,
+    'p,
+    S,
+    K,
+    L,
+> {
+    /// As the marking of a `collect` begins, the function `mark` follows at once what is black. Where memory runs out,
+    /// units of the collection follow it cell by cell.
+    pub fn mark_by<
+        M: Fn(Global, &Heap, &[Place], Vec<u64>) -> Result<(Vec<u64>, Marked), NoMemory>,
+    >(&mut self, mark: &M)
+        requires marks { MarksBlack (M.pre mark.now) (M.post mark.now) }
+        requires counted { self.old.machine.now.collector.heap.ledger ≡ Some L.name }
+        requires standing { IsStanding self.old.machine.now (S.input self.old.source.now)
+            (K.written self.old.sink.now) (K.faults self.old.sink.now) [] none_flown }
+        ensures machine { self.new.machine.ghost_name ≡ self.old.machine.ghost_name }
+        ensures rest { self.new ≡ record self.old { machine = self.new.machine; steps = self.new.steps } }
+        ensures steps { self.new.steps.ghost_name ≡ self.old.steps.ghost_name }
+        ensures ledger { self.new.machine.now.collector.heap.ledger
+            ≡ self.old.machine.now.collector.heap.ledger }
+        ensures stands { (e : Entry)
+            → Standing e self.old.machine.now (S.input self.old.source.now) (K.written self.old.sink.now)
+            (K.faults self.old.sink.now) [] none_flown
+            → Standing e self.new.machine.now (S.input self.new.source.now) (K.written self.new.sink.now)
+            (K.faults self.new.sink.now) [] none_flown }
+    {
+        let Some(pending) = self.machine.pending else {
+            return;
+        };
+        let Pending::Collect = pending else {
+            return;
+        };
+        let collector = &mut self.machine.collector;
+        if collector.running() {
+            let _ = collector.mark_two(self.alloc, mark, &mut NoFlight, self.steps);
+        }
+    }
 }
 
 // Takes in the arenas that are still out.

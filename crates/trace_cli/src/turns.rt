@@ -27,8 +27,9 @@ use std::sync::ledger::Ledger;
 use sweeping::Sweeping;
 use trace_lang::write_report;
 
-// Why the loop pauses after a step, by whether an arena was out before it.
-fn pause_after<F: Sweeping>(some_out: bool, flight: &F, handed: Option<Jobs>) -> Pause
+// Why the loop pauses after a step, by whether an arena was out before it, and whether the marking of a `collect` began
+// with it.
+fn pause_after<F: Sweeping>(some_out: bool, began: bool, flight: &F, handed: Option<Jobs>) -> Pause
     ensures bits { bits_in result (F.bits flight.now) ≡ flying_after handed (F.bits flight.now) }
     ensures out { outs_in result (F.left (F.origin flight.now)) ≡ outs_after handed (F.left (F.origin flight.now)) }
     ensures by { AscendHanded handed → IsLeftBy result (F.left (F.origin flight.now)) (F.bits flight.now) }
@@ -36,8 +37,14 @@ fn pause_after<F: Sweeping>(some_out: bool, flight: &F, handed: Option<Jobs>) ->
     if let Some(jobs) = handed {
         return Pause::Sweep(jobs);
     }
-    if some_out && flight.is_empty() {
+    if !flight.is_empty() {
+        return Pause::None;
+    }
+    if some_out {
         return Pause::BoardEmpty;
+    }
+    if began {
+        return Pause::MarkingBegan;
     }
     Pause::None
 }
@@ -78,6 +85,11 @@ fn write_step<K: Sink>(sink: &mut K, report: &Option<Report>, step: &Step) -> Re
     write_reports(sink, report, step.finished)
 }
 
+// Whether a step reports that marking began.
+fn tells_start(step: &Step, report: &Option<Report>) -> bool {
+    step.reported && matches!(report, Some(Report::Started))
+}
+
 // Does a step of the collection that runs, as many units as are left at most, and writes what they
 // report. `report` is a place for a report, lent for as long as steps go on.
 fn answer_step<F: Sweeping, K: Sink, L: Ledger>(
@@ -113,8 +125,9 @@ fn answer_step<F: Sweeping, K: Sink, L: Ledger>(
         return Err(AnswerFault::Memory);
     };
     pending.count(step.units);
+    let began = *pending == Pending::Collect && tells_start(&step, report);
     match write_step(sink, report, &step) {
-        Ok(()) => Ok(pause_after(some_out, flight, step.handed)),
+        Ok(()) => Ok(pause_after(some_out, began, flight, step.handed)),
         Err(_) => Err(AnswerFault::Write),
     }
 }

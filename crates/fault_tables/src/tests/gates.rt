@@ -1,5 +1,5 @@
-// Helpers that a gate holds up: they sweep what is printed, as many as the words ask for, and what is written does not
-// depend on them.
+// Helpers and markers that a gate holds up: they sweep what is printed, and mark, as many as the words ask for, and
+// what is written does not depend on them.
 ghost use Rattle.std.specs.Prelude.{None};
 
 use crate::tests::ARENAS_A_HELPER;
@@ -49,6 +49,15 @@ const RING_ANSWERS: &[u8] = b"zone 0\nzone 1\nzone 2\nzone 3\ncomp 0\ncomp 1\nco
 
 // The line of `RING_ANSWERS`, counted from 1, that answers `colours`.
 const LISTED: u64 = 31;
+
+// Two objects that registers hold, with one child each, and a third object that nothing holds.
+const TWO_PARENTS: &[u8] =
+    b"zone\ncomp 0\nnew r0 0 1\nnew r1 0 1\nnew r2 0 0\nset r0 0 r2\nnew r2 0 0\nset r1 0 r2\n\
+    new r2 0 0\ndrop r2\ncollect 0\n";
+
+const TWO_PARENTS_ANSWERS: &[u8] =
+    b"zone 0\ncomp 0\ncell 0\ncell 1\ncell 2\nok\ncell 3\nok\ncell 4\nok\n\
+    started\ngroups 0\nended 0 gray -\nswept 0 4\ndone\ncollected\n";
 
 // A gate that yields often.
 struct SlowGate;
@@ -221,24 +230,26 @@ fn a_helper_sweeps_what_is_printed(rt: HostRuntime) -> Result<(), Fail> {
     Ok(())
 }
 
-// A gate at which each helper waits until four were there, or gives up.
+// A gate at which each caller waits until this number of them were there, or gives up.
 #[derive(Drop)]
-struct FourMeet {
+struct AllMeet {
+    wanted: u64,
     arrived: AtomicU64,
     gave_up: AtomicU64,
 }
 
-impl FourMeet {
-    fn new() -> Self {
-        FourMeet {
+impl AllMeet {
+    fn new(wanted: u64) -> Self {
+        AllMeet {
+            wanted,
             arrived: AtomicU64::new(0),
             gave_up: AtomicU64::new(0),
         }
     }
 
-    fn wait_for_four(&self) {
+    fn wait_for_all(&self) {
         for _ in 0..1_000_000 {
-            if self.arrived.load(SeqCst) >= 4 {
+            if self.arrived.load(SeqCst) >= self.wanted {
                 return;
             }
             yield_now();
@@ -247,17 +258,17 @@ impl FourMeet {
     }
 }
 
-impl Gate for FourMeet {
+impl Gate for AllMeet {
     fn at(&self, _point: Point, _arena: u32) {
         self.arrived.fetch_add(1, SeqCst);
-        self.wait_for_four();
+        self.wait_for_all();
     }
 }
 
 // A sink that waits at the answer to `colours`, behind the end of the group, until four helpers are at the gate.
 #[derive(Drop)]
 struct WaitForFour<'m> {
-    meeting: &'m FourMeet,
+    meeting: &'m AllMeet,
     lines: u64,
 }
 
@@ -265,7 +276,7 @@ impl<'m> WaitForFour<'m> {
     fn end_line(&mut self) {
         self.lines = self.lines.saturating_add(1);
         if self.lines == LISTED {
-            self.meeting.wait_for_four();
+            self.meeting.wait_for_all();
         }
     }
 }
@@ -295,7 +306,7 @@ impl<'m> Sink for WaitForFour<'m> {
 // once, an arena each.
 #[test]
 fn four_helpers_sweep_at_once(rt: HostRuntime) -> Result<(), Fail> {
-    let meeting = FourMeet::new();
+    let meeting = AllMeet::new(4);
     let mut source = MemSource::new(RING, 64, &[]);
     let mut sink = WaitForFour {
         meeting: &meeting,
@@ -313,5 +324,28 @@ fn four_helpers_sweep_at_once(rt: HostRuntime) -> Result<(), Fail> {
     assert_eq!(rt; ended, Exit::Done);
     assert_eq!(rt; meeting.gave_up.load(SeqCst), 0);
     assert_eq!(rt; meeting.arrived.load(SeqCst), 4);
+    Ok(())
+}
+
+// Each child is a try of one marker, and no marker tries it before the other one is at the gate.
+#[test]
+fn two_markers_mark_at_once(rt: HostRuntime) -> Result<(), Fail> {
+    let words = ["gczone", "run", "--helpers", "0", "--markers", "2"];
+    let meeting = AllMeet::new(2);
+    let mut source = MemSource::new(TWO_PARENTS, 64, &[]);
+    let mut sink = MemSink::new(Vec::new(rt.alloc()), 64, &[]);
+    let ended = replay(
+        &rt,
+        rt.alloc(),
+        &words,
+        ARENAS_A_HELPER,
+        &mut source,
+        &mut sink,
+        &meeting,
+    );
+    assert_eq!(rt; ended, Exit::Done);
+    assert_eq!(rt; sink.bytes(), TWO_PARENTS_ANSWERS);
+    assert_eq!(rt; meeting.gave_up.load(SeqCst), 0);
+    assert_eq!(rt; meeting.arrived.load(SeqCst), 2);
     Ok(())
 }

@@ -12,7 +12,8 @@ fn statuses_and_texts(rt: HostRuntime) -> Result<(), Fail> {
         (
             Exit::Usage,
             2,
-            "gczone: usage: gczone run [--helpers N] | gczone storm SEED LINES [--helpers N] | gczone check",
+            "gczone: usage: gczone run [--helpers N] [--markers M] | gczone storm SEED LINES [--helpers N] \
+            | gczone check",
         ),
         (Exit::BadLine(7), 3, "gczone: line 7: bad line"),
         (Exit::ReadFault, 4, "gczone: read failed"),

@@ -17,6 +17,7 @@ returns-in-Ok-Run-clause-complete g c = complete (map (λ w. w.now) c.args.words
 pub returns-in-Ok-Run-clause-verdict : goal.returns-in-Ok-Run-clause-verdict
 returns-in-Ok-Run-clause-verdict g c = λ check. absurd (run_or_check (map (λ w. w.now) c.args.words.now) (
   c.in-Ok-Run.helpers,
+  c.in-Ok-Run.markers,
   said (map (λ w. w.now) c.args.words.now) _ c.in-Ok-Run.field-0
       c.in-Ok-Run.field-0-is c.in-Ok-Run.ensures.taken c.in-Ok-Run.ensures.numbers,
 ) check)
@@ -24,6 +25,7 @@ returns-in-Ok-Run-clause-verdict g c = λ check. absurd (run_or_check (map (λ w
 pub returns-in-Ok-Run-clause-concludes : goal.returns-in-Ok-Run-clause-concludes
 returns-in-Ok-Run-clause-concludes g c = λ check. absurd (run_or_check (map (λ w. w.now) c.args.words.now) (
   c.in-Ok-Run.helpers,
+  c.in-Ok-Run.markers,
   said (map (λ w. w.now) c.args.words.now) _ c.in-Ok-Run.field-0
       c.in-Ok-Run.field-0-is c.in-Ok-Run.ensures.taken c.in-Ok-Run.ensures.numbers,
 ) check)
@@ -31,6 +33,7 @@ returns-in-Ok-Run-clause-concludes g c = λ check. absurd (run_or_check (map (λ
 pub returns-in-Ok-Run-clause-storm : goal.returns-in-Ok-Run-clause-storm
 returns-in-Ok-Run-clause-storm g c = λ seed lines storm. absurd (run_or_storm (map (λ w. w.now) c.args.words.now) (
   c.in-Ok-Run.helpers,
+  c.in-Ok-Run.markers,
   said (map (λ w. w.now) c.args.words.now) _ c.in-Ok-Run.field-0
       c.in-Ok-Run.field-0-is c.in-Ok-Run.ensures.taken c.in-Ok-Run.ensures.numbers,
 ) (seed, lines, storm))
@@ -143,7 +146,7 @@ returns-in-Err-Usage-clause-storm g c =
 
 pub returns-in-Err-Usage-clause-complete : goal.returns-in-Err-Usage-clause-complete
 returns-in-Err-Usage-clause-complete g c = complete_unless (map (λ w. w.now) c.args.words.now) _ _ _ _ _ _
-    (λ run. (c.in-Err-Usage.ensures.usage (ap (λ (f : WordsFault). Err f) c.in-Err-Usage.field-0-is)) run.1.0)
+    (λ run. (c.in-Err-Usage.ensures.usage (ap (λ (f : WordsFault). Err f) c.in-Err-Usage.field-0-is)) run.2.0)
 
 pub returns-in-Err-Usage-clause-usage : goal.returns-in-Err-Usage-clause-usage
 returns-in-Err-Usage-clause-usage g c =
@@ -176,6 +179,7 @@ returns-in-Ok-Run-clause-handed_on g c = λ written verdict. inl (c.answer_lines
 pub returns-in-Ok-Run-clause-unread : goal.returns-in-Ok-Run-clause-unread
 returns-in-Ok-Run-clause-unread g c = λ storm. absurd (run_or_storm (map (λ w. w.now) c.args.words.now) (
   c.in-Ok-Run.helpers,
+  c.in-Ok-Run.markers,
   said (map (λ w. w.now) c.args.words.now) _ c.in-Ok-Run.field-0
       c.in-Ok-Run.field-0-is c.in-Ok-Run.ensures.taken c.in-Ok-Run.ensures.numbers,
 ) storm)
