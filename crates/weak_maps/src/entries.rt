@@ -2,8 +2,12 @@
 ghost use Rattle.std.specs.Prelude.{◌≡◌, ◌≢◌, ◌<◌, ◌≤◌, ◌+◌, ◌++◌, ◌∷◌, ◌&&◌, ◌||◌, Bool, true, false, Some, None, []};
 ghost use Rattle.std.specs.Prelude.{Contains, length, map, slice_get};
 ghost use Rattle.std.specs.Prelude.{swap_remove, is_some, IfSome, IfNone, IfOk, IsOk, OnOk, OnErr, if◌then◌else◌};
+ghost use Rattle.std.specs.Cmp.Rules.{hashing};
+ghost use Rattle.std.specs.Hash as fed;
+ghost use Rattle.std.proofs.Common.{rules};
 ghost use Rattle.indexmap.specs.IndexMap.{IsUnique, insert_entry, spare};
 ghost use Rattle.gz_names.specs.Moves.{GoApart};
+ghost use Rattle.weak_maps.specs.Places.{place_index};
 ghost use Rattle.weak_maps.specs.Moving.{AreNamed, entry_forwarded};
 ghost use Rattle.weak_maps.specs.Tables.{entries_of, is_key};
 
@@ -12,6 +16,7 @@ use crate::sides::Side;
 use gz_names::{Moves, NoMemory, Place};
 use indexmap::IndexMap;
 use std::alloc::{AllocError, Global};
+use std::hash::{Hash, Hasher};
 use std::marker::Model;
 use std::mem;
 
@@ -25,12 +30,32 @@ pub struct WeakEntry {
 }
 
 /// What an entry is found by.
-#[derive(Clone, Copy, Debug, PartialEq, Eq, Hash)]
+#[derive(Clone, Copy, Debug, PartialEq, Eq)]
 pub struct EntryKey {
     /// The weak map.
     pub map: Place,
     /// A key of it.
     pub key: Place,
+}
+
+// Each place is hashed as one number, since every look-up of an entry takes a hash.
+impl Hash for EntryKey {
+    ghost hash_input = { λ k. fed.u64 (place_index k.map) ++ fed.u64 (place_index k.key) };
+
+    ghost respects_eq = { Prim.search (hashing, rules) };
+
+    fn hash<H: Hasher>(&self, state: &mut H) {
+        state.write_u64(index_of(self.map));
+        state.write_u64(index_of(self.key));
+    }
+}
+
+// The arena and the slot of a place as one number.
+#[inline(always)]
+fn index_of(place: Place) -> u64
+    ensures { result ≡ place_index place }
+{
+    u64::from(place.arena()) * 64 + u64::from(place.slot())
 }
 
 /// The entries of all weak maps, at most 4,294,967,295.
@@ -241,10 +266,10 @@ impl Entries {
         ensures parallel { HaveLooks self.new }
         ensures sound { AreEntries self.new.table }
     {
-        let entry = self.table.get_index_of(&EntryKey { map, key })?;
-        let value = self.find(map, key);
+        let (entry, _, value) = self.table.get_full(&EntryKey { map, key })?;
+        let value = *value;
         self.take_at(entry as u64);
-        value
+        Some(value)
     }
 
     /// Takes an entry out; the last has its number then.

@@ -63,7 +63,7 @@
 // caller sees, and which is used again as soon as its place has an entry.
 //
 //     colours    black and gray
-//     numbers    short lists of numbers; one number takes no memory of its own
+//     numbers    lists of numbers; up to three numbers take no memory of their own
 //     listings   the entries of one place, and how many of them are still to be looked at
 //     queues     the lists that wait
 //     seats      where each entry stands in the lists of one side

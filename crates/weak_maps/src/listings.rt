@@ -130,6 +130,7 @@ impl Listing {
 
     /// An entry comes last. It is not to be looked at. More than 4,294,967,295 are refused as want of
     /// memory; there are never more than that (our choice).
+    #[inline(always)]
     pub fn push(&mut self, alloc: Global, entry: u32) -> Result<(), NoMemory>
         ensures ok { OnOk result
             (self.new ≡ record self.old { entries = self.old.entries ++ entry ∷ [] }) }

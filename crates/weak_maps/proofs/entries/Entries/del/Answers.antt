@@ -1,4 +1,4 @@
-use Rattle.std.proofs.Common.{is_some, true, length, ap, arith, ◌≡◌, ◌∙◌, ◌&&◌, Some, None, slice_get, cond, sym}
+use Rattle.std.proofs.Common.{length, ap, arith, ◌≡◌, ◌∙◌, ◌&&◌, Some, None, slice_get, cond, sym}
 use Rattle.gz_names.specs.declared.numbers.Place.{Place}
 use Rattle.weak_maps.specs.Places.{is_same}
 use Rattle.weak_maps.specs.Tables.{entries_of}
@@ -7,7 +7,7 @@ use Rattle.weak_maps.proofs.Sound.{AreEntries-from_tied}
 use Rattle.std.proofs.lemmas.Option.{slice_get_within}
 use Rattle.weak_maps.proofs.Reading.{length-swap_remove}
 use Rattle.weak_maps.proofs.Table.{value_at-entries}
-use Rattle.weak_maps.proofs.Taking.{none_from, found-none, at_position}
+use Rattle.weak_maps.proofs.Taking.{found-none, at_position}
 use Rattle.weak_maps.proofs.Tying.{Carries-same}
 use Rattle.weak_maps.proofs.entries.Entries.del.Goals as goal
 
@@ -19,16 +19,20 @@ returns-in_err-entry-clause-sound c =
 pub returns-in_err-entry-clause-old : goal.returns-in_err-entry-clause-old
 returns-in_err-entry-clause-old c = c.from_residual.ensures
     ∙ rw (← c.self.view_is)
-    (sym (value_at-entries c.self.inside.table c.args.map c.args.key ∙ none_from _ c.in_err-entry.ensures.found))
+    (sym (value_at-entries c.self.inside.table c.args.map c.args.key ∙ sym c.in_err-entry.ensures.value))
 
 pub returns-in_err-entry-clause-found : goal.returns-in_err-entry-clause-found
 returns-in_err-entry-clause-found c =
     rw (← c.self.view_is)
     (found-none (entries_of c.self.inside.table) c.args.map c.args.key
-    (value_at-entries c.self.inside.table c.args.map c.args.key ∙ none_from _ c.in_err-entry.ensures.found))
+    (value_at-entries c.self.inside.table c.args.map c.args.key ∙ sym c.in_err-entry.ensures.value))
 
 pub returns-in_err-entry-clause-carries : goal.returns-in_err-entry-clause-carries
 returns-in_err-entry-clause-carries c = Carries-same c.args.self.now
+
+pub returns-clause-old : goal.returns-clause-old
+returns-clause-old c = rw (← c.self.view_is)
+    (c.in_ok-entry.ensures.value ∙ sym (value_at-entries c.self.inside.table c.args.map c.args.key))
 
 pub returns-clause-found : goal.returns-clause-found
 returns-clause-found c =
@@ -49,7 +53,4 @@ returns-clause-count c =
     let taken = rw there at c.take_at.ensures.taken in
     let short = ap length taken ∙ length-swap_remove c.args.self.now.table.entries c.in_ok-entry.entry at.0 in
     let less = slice_get_within c.args.self.now.table.entries c.in_ok-entry.entry at.0 there in
-    let some : is_some c.find-value.result ≡ true = ap is_some c.find-value.ensures.value
-    ∙ rw (← c.self.view_is) (ap is_some (value_at-entries c.self.inside.table c.args.map c.args.key)
-    ∙ sym c.in_ok-entry.ensures.found) in
-    rw some (omega (arith, short, less))
+    omega (arith, short, less)
