@@ -1,13 +1,15 @@
 -- The places that a mask names, by its bits.
-use Rattle.std.proofs.Common.{◌≡◌, ◌≢◌, ℕ, zero, suc, ◌+◌, ◌<◌, ◌≤◌, Bool, if◌then◌else◌, List, [], ◌∷◌, ◌++◌}
+use Rattle.std.proofs.Common.{◌≡◌, ◌≢◌, ℕ, zero, suc, ◌+◌, ◌*◌, ◌%◌, ◌^◌, ◌<◌, ◌≤◌, Bool, if◌then◌else◌}
+use Rattle.std.proofs.Common.{List, [], ◌∷◌, ◌++◌}
 use Rattle.std.proofs.Common.{sym, refl, ap, ◌∙◌, subst, arith, All, ne_eqb, append-nil}
 use Rattle.std.specs.Int.{bit_at}
 use Rattle.std.proofs.lemmas.List.Elements.{All-cons, All-nil, All-head, All-tail, All-push}
-use Rattle.std.proofs.lemmas.Nat.Bits.{bit_at-lt, bit_at-zero}
+use Rattle.std.proofs.lemmas.Nat.{one_shl}
+use Rattle.std.proofs.lemmas.Nat.Bits.{bit_at-lt, bit_at-pow_other, bit_at-pow_same, bit_at-zero}
 use mathlib.Core.Logic.{dite}
 use native.Mathlib.Decide.{ℕ_discrete}
 use Rattle.mark_words.specs.Sums.{weigh, only, times}
-use Rattle.mark_words.specs.Places.{place_if, places_below}
+use Rattle.mark_words.specs.Places.{place_if, places_below, places_of}
 use Rattle.mark_words.proofs.Counts.{weigh-snoc, only-same, only-arena, only-slot}
 
 -- a slot whose bit is 0, and one whose bit is 1
@@ -161,3 +163,13 @@ below-lowest a w v t (suc n) lt one gone low others = dite (ℕ_discrete t n)
     (λ e. below-none a w n e ∙ r ∙ ap (λ (l : List (ℕ × ℕ)). (a, t) ∷ l) (sym (below-none a v n (omega arith))))
     (λ e. below-one a w n e ∙ ap (λ (l : List (ℕ × ℕ)). l ++ (a, n) ∷ []) r
     ∙ ap (λ (l : List (ℕ × ℕ)). (a, t) ∷ l) (sym (below-one a v n (omega arith)))))
+
+-- the mask of one slot
+pub one_place : (p : ℕ × ℕ) → p.1 < 64 → places_of p.0 (1 * 2 ^ p.1 % 2 ^ 64) ≡ p ∷ []
+one_place p low =
+    let e : 1 * 2 ^ p.1 % 2 ^ 64 ≡ 2 ^ p.1 = one_shl p.1 64 low in
+    ap (places_of p.0) e
+    ∙ below-lowest p.0 (2 ^ p.1) 0 p.1 64 low (bit_at-pow_same p.1) (bit_at-zero p.1)
+    (λ i less. bit_at-pow_other p.1 i (λ same. omega (arith, same, less)))
+    (λ i ne. bit_at-zero i ∙ sym (bit_at-pow_other p.1 i ne))
+    ∙ ap (λ (l : List (ℕ × ℕ)). p ∷ l) (below-zero p.0 64)

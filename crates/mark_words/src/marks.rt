@@ -1,5 +1,5 @@
 // Marks and their seats.
-ghost use Rattle.std.specs.Prelude.{◌≡◌, ℕ, ◌+◌, ◌<◌, ◌≤◌, [], true, false, length, slice_index, IfOk, All};
+ghost use Rattle.std.specs.Prelude.{◌≡◌, ℕ, ◌+◌, ◌<◌, ◌≤◌, [], ◌∷◌, true, false, length, slice_index, IfOk, All};
 ghost use Rattle.std.specs.Int.{bit_at};
 ghost use Rattle.mark_words.specs.Sums.{times, whole};
 ghost use Rattle.mark_words.specs.Rule.{bit_of};
@@ -8,7 +8,7 @@ use crate::place_list::{PlaceList, SlotMask};
 use crate::steps::{Joins, Looks, Ruled, Settles, Splits, Tries};
 use crate::view::MarkView;
 use atomic_table::{Seat as TableSeat, Table};
-use gz_names::NoMemory;
+use gz_names::{NoMemory, Place};
 use std::alloc::Global;
 use std::marker::Brand;
 
@@ -91,6 +91,20 @@ impl<L: PlaceList> Marks<L> {
             .shared
             .fetch_or::<Tries>(&mut seat.seat, arena as usize, slots);
         slots & !found
+    }
+
+    /// Whether the cell of this place is black, by one look. If it is, the seat has tried it, and did not win it.
+    #[inline(always)]
+    pub fn is_black(&self, seat: &mut Seat, place: Place) -> bool
+        requires seat { IsSeatOf self.now seat.old }
+        requires parts { 0 < (view_of seat.old).parts }
+        requires arena { place.0 < length (first_of self.now) }
+        requires listed { L.places place }
+        ensures seat { IsSeatOf self.now seat.new }
+        ensures tried { result ≡ true → HasTried (view_of seat.old) (place ∷ []) [] (view_of seat.new) }
+        ensures same { result ≡ false → view_of seat.new ≡ view_of seat.old }
+    {
+        self.are_black::<Brand>(seat, place.arena(), 1 << place.slot())
     }
 
     // Whether these slots of an arena are all black. If they are, they were tried by this look, which is cheaper than a
