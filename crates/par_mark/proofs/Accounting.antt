@@ -14,13 +14,15 @@ use Rattle.par_mark.specs.Donations.{HasTaken}
 use Rattle.mark_ahead.specs.Edges.{held, first_targets, targets, out}
 use Rattle.par_mark.specs.Edges.{all_targets}
 use Rattle.par_mark.specs.Accounts.{Accounts, HasRoom}
+use Rattle.par_mark.specs.Scans.{HasScanned}
 use Rattle.par_mark.specs.States.{AccountsAt, CallerState}
 use Rattle.par_mark.specs.Tries.{AreMade, IsTaken, own, queued, IsDonated, kept, given, IsTried, beyond, within, Serves}
 use Rattle.par_mark.specs.Tries.{HasTriedSome, HasTurned}
 use Rattle.par_mark.proofs.Cells.{weigh-all_targets}
 use Rattle.mark_ahead.proofs.Members.{from_times}
 use Rattle.par_mark.proofs.Listed.{listed_by_weight}
-use Rattle.par_mark.proofs.Moving.{moved_none, moved_more, taken_moved, made_moved, beyond_moved, with_taken}
+use Rattle.par_mark.proofs.Moving.{moved_none, moved_more, taken_moved, made_moved, beyond_moved}
+use Rattle.par_mark.proofs.Moving.{scanned_moved, with_taken}
 use Rattle.par_mark.proofs.Scanning.{weigh-one}
 
 -- all targets are listed
@@ -267,53 +269,65 @@ module _ (edge : ℕ × ℕ → ℕ → Option (ℕ × ℕ)) (marking : ℕ × �
         (leads_listed u (All-tail P p u listed) (All-tail (λ (q : ℕ × ℕ). marking q ≡ true) p u inside)
         (All-tail (λ (q : ℕ × ℕ). bit_of first q ≡ 0) p u white))
 
-    pub scanned : (firsts u tries outside : List (ℕ × ℕ)) (v : MarkView) (d : QueueView) → v.first ≡ first
-        → Books firsts [] u tries outside v d → Books firsts [] [] (tries ++ all_targets edge u) outside v d
-    scanned firsts u tries outside v d same a =
+    -- the cells that were won are there, and their targets are listed
+    pub won_here : (firsts u tries outside : List (ℕ × ℕ)) (v : MarkView) (d : QueueView) → v.first ≡ first
+        → Books firsts [] u tries outside v d → All has u × All P (all_targets edge u)
+    won_here firsts u tries outside v d same a =
         let Marking : ℕ × ℕ → Type 0 = λ q. marking q ≡ true in
         let White : ℕ × ℕ → Type 0 = λ q. bit_of first q ≡ 0 in
-        let won_white : All White v.won = subst (λ (l : List ℕ). All (λ (q : ℕ × ℕ). bit_of l q ≡ 0) v.won) same
-        a.fresh in record {
-          balance = λ h. let b = a.balance h in let t = weigh-append h tries (all_targets edge u) in
-              let w = weigh-all_targets edge h u in omega arith;
-          taken = a.taken;
+        let listed : All P u = listed_by_weight P u v.won a.unscanned_won a.won_listed in (
+          All-weaker P has serves.here u listed,
+          leads_listed u listed (listed_by_weight Marking u v.won a.unscanned_won a.inside)
+              (listed_by_weight White u v.won a.unscanned_won
+              (subst (λ (l : List ℕ). All (λ (q : ℕ × ℕ). bit_of l q ≡ 0) v.won) same a.fresh)),
+        )
+
+    -- scanned cells leave nothing that is not accounted for
+    scanned : (firsts u tries outside tries' : List (ℕ × ℕ)) (v w : MarkView) (d : QueueView) → v.first ≡ first
+        → Books firsts [] u tries outside v d → HasScanned marking (all_targets edge u) (tries, v) (tries', w)
+        → Books firsts [] [] tries' outside w d
+    scanned firsts u tries outside tries' v w d same a s =
+        let Marking : ℕ × ℕ → Type 0 = λ q. marking q ≡ true in
+        let won_is : w.won ≡ v.won = ap (λ (x : MarkView). x.won) s.looked.view_is ∙ append-nil v.won in
+        let known_is : w.known ≡ v.known ++ s.seen = ap (λ (x : MarkView). x.known) s.looked.view_is in
+        let first_is : w.first ≡ v.first = ap (λ (x : MarkView). x.first) s.looked.view_is in
+        let known : (h : ℕ × ℕ → ℕ) → weigh h w.known ≡ weigh h v.known + weigh h s.seen = λ h.
+        ap (weigh h) known_is ∙ weigh-append h v.known s.seen in record {
+          balance = λ h.
+              let b = a.balance h in
+              let t = ap (weigh h) s.tries_are ∙ weigh-append h tries s.rest in
+              let p = s.parts_are h in
+              let k = known h in
+              let o = ap (weigh (out edge h)) won_is in
+              let x = weigh-all_targets edge h u in omega arith;
+          taken = λ h. let t = a.taken h in let k = known h in omega arith;
           unscanned_won = λ h. omega arith;
-          won_known = a.won_known;
-          once = a.once;
-          fresh = a.fresh;
-          inside = a.inside;
-          tried_inside = a.tried_inside;
+          won_known = λ h. let o = ap (weigh h) won_is in let t = a.won_known h in let k = known h in omega arith;
+          once = λ p. let o = ap (times p) won_is in let t = a.once p in omega arith;
+          fresh = subst (λ (x : List ℕ × List (ℕ × ℕ)). All (λ (q : ℕ × ℕ). bit_of x.0 q ≡ 0) x.1)
+              (λ i. (sym first_is i, sym won_is i)) a.fresh;
+          inside = subst (All Marking) (sym won_is) a.inside;
+          tried_inside = subst (All Marking) (sym known_is) (All-append Marking v.known s.seen a.tried_inside
+              s.inside);
           beyond = a.beyond;
           listed = All-nil P;
-          tries_listed = All-append P tries (all_targets edge u) a.tries_listed (leads_listed u
-              (listed_by_weight P u v.won a.unscanned_won a.won_listed)
-              (listed_by_weight Marking u v.won a.unscanned_won a.inside)
-              (listed_by_weight White u v.won a.unscanned_won won_white));
-          won_listed = a.won_listed;
+          tries_listed = subst (All P) (sym s.tries_are) (All-append P tries s.rest a.tries_listed
+              (listed_by_weight P s.rest (all_targets edge u) (λ h. let p = s.parts_are h in omega arith)
+              (won_here firsts u tries outside v d same a).1));
+          won_listed = subst (All P) (sym won_is) a.won_listed;
         }
-
-    -- the cells that were won are there
-    pub won_here : (firsts u tries outside : List (ℕ × ℕ)) (v : MarkView) (d : QueueView)
-        → Books firsts [] u tries outside v d → All has u
-    won_here firsts u tries outside v d a = All-weaker P has serves.here u
-        (listed_by_weight P u v.won a.unscanned_won a.won_listed)
 
     -- a turn: tries were made, and then the cells that were won were scanned
     pub turned : (n : ℕ) (won : List (ℕ × ℕ)) (s m s' : CallerState) → s.seat.first ≡ first
         → HasTriedSome edge marking P n won s m
-        → s' ≡ record m { tries = m.tries ++ all_targets edge won; won = [] } → HasTurned edge marking P n s s'
-    turned n won s m s' same t e = subst (HasTurned edge marking P n s) (sym e) record {
-      won = won;
-      moved = record {
-        grown = t.moved.grown;
-        grown_won = t.moved.grown_won;
-        count = t.moved.count;
-        first_is = t.moved.first_is;
-        parts_is = t.moved.parts_is;
-        queue_parts = t.moved.queue_parts;
-        whole_taken = t.moved.whole_taken;
-      };
-      none_left = refl;
-      accounts = λ firsts a. scanned firsts won m.tries m.outside m.seat m.pass (t.moved.first_is ∙ same)
-          (t.accounts firsts [] a);
+        → HasScanned marking (all_targets edge won) (m.tries, m.seat) (s'.tries, s'.seat) → s'.won ≡ []
+        → s'.outside ≡ m.outside → s'.pass ≡ m.pass → HasTurned edge marking P n s s'
+    turned n won s m s' same t x none outside pass = record {
+      won = won ++ [];
+      moved = moved_more n 0 n won [] s m s' (omega arith) t.moved
+          (scanned_moved marking (all_targets edge won) m s' x outside pass);
+      none_left = none;
+      accounts = λ firsts a. subst (λ (y : List (ℕ × ℕ) × QueueView). Books firsts [] [] s'.tries y.0 s'.seat y.1)
+          (λ i. (sym outside i, sym pass i)) (scanned firsts won m.tries m.outside s'.tries m.seat s'.seat m.pass
+          (t.moved.first_is ∙ same) (t.accounts firsts [] a) x);
     }

@@ -7,6 +7,7 @@ pub mod Moving
 pub mod Trying
 pub mod Accounting
 pub mod Running
+pub mod Scanned
 pub mod Cells
 pub mod Merging
 pub mod Sharing

@@ -5,6 +5,7 @@ use Rattle.mark_words.specs.declared.view.MarkView.{MarkView}
 use Rattle.mark_words.specs.Sums.{weigh}
 use Rattle.mark_words.proofs.Counts.{weigh-append}
 use Rattle.par_mark.specs.declared.donations.QueueView.{QueueView}
+use Rattle.par_mark.specs.Scans.{HasScanned}
 use Rattle.par_mark.specs.States.{CallerState}
 use Rattle.par_mark.specs.Tries.{AreMade, IsTaken, own, queued, HasMoved, TakenWasPut}
 use Rattle.par_mark.specs.Tries.{done}
@@ -15,7 +16,8 @@ pub moved_none : (s : CallerState) → HasMoved 0 [] s s
 moved_none s = record {
   grown = grown_none s.outside s.seat s.pass;
   grown_won = refl;
-  count = omega arith;
+  made = omega arith;
+  few = omega arith;
   first_is = refl;
   parts_is = refl;
   queue_parts = refl;
@@ -27,7 +29,9 @@ pub moved_more : (n m k : ℕ) (xs ys : List (ℕ × ℕ)) (a b c : CallerState)
 moved_more n m k xs ys a b c e x y = record {
   grown = grown_more a.outside b.outside c.outside a.seat b.seat c.seat a.pass b.pass c.pass x.grown y.grown;
   grown_won = (λ i. x.grown_won i ++ y.grown_won i);
-  count = (let p = x.count in let q = y.count in let t = weigh-append (λ _. 1) x.grown.tried y.grown.tried in
+  made = (let p = x.made in let q = y.made in let t = weigh-append (λ _. 1) x.grown.tried y.grown.tried in
+      let o = weigh-append (λ _. 1) x.grown.beyond y.grown.beyond in omega arith);
+  few = (let p = x.few in let q = y.few in let w = weigh-append (λ _. 1) x.grown.won y.grown.won in
       let o = weigh-append (λ _. 1) x.grown.beyond y.grown.beyond in omega arith);
   first_is = y.first_is ∙ x.first_is;
   parts_is = y.parts_is ∙ x.parts_is;
@@ -44,7 +48,8 @@ pub taken_moved : (P : ℕ × ℕ → Type 0) (s : CallerState) (tries : List (�
 taken_moved P s tries d p (own e f) = subst (λ (x : QueueView). HasMoved 0 [] s (with_taken s tries x)) (sym f) record {
   grown = grown_none s.outside s.seat s.pass;
   grown_won = refl;
-  count = omega arith;
+  made = omega arith;
+  few = omega arith;
   first_is = refl;
   parts_is = refl;
   queue_parts = refl;
@@ -66,7 +71,8 @@ taken_moved P s tries d p (queued e f t) = record {
     won_tried = λ h. omega arith;
   };
   grown_won = refl;
-  count = omega arith;
+  made = omega arith;
+  few = omega arith;
   first_is = refl;
   parts_is = refl;
   queue_parts = ap (λ (x : QueueView). x.parts) t.0;
@@ -92,7 +98,8 @@ made_moved marking s s' made p m = record {
     won_tried = m.won_tried;
   };
   grown_won = refl;
-  count = (let l = weigh-one m.tried in let c = m.count in omega arith);
+  made = (let l = weigh-one m.tried in let c = m.count in omega arith);
+  few = (let l = weigh-one m.tried in let c = m.count in let w = m.won_tried (λ _. 1) in omega arith);
   first_is = ap (λ (x : MarkView). x.first) m.wins.view_is;
   parts_is = ap (λ (x : MarkView). x.parts) m.wins.view_is;
   queue_parts = ap (λ (x : QueueView). x.parts) m.pass_is;
@@ -117,11 +124,40 @@ beyond_moved s p = record {
     won_tried = λ h. omega arith;
   };
   grown_won = refl;
-  count = omega arith;
+  made = omega arith;
+  few = omega arith;
   first_is = refl;
   parts_is = refl;
   queue_parts = refl;
   whole_taken = λ _ t. t;
+}
+
+-- the cells that were won were scanned
+pub scanned_moved : (marking : ℕ × ℕ → Bool) (targets : List (ℕ × ℕ)) (s s' : CallerState)
+    → HasScanned marking targets (s.tries, s.seat) (s'.tries, s'.seat) → s'.outside ≡ s.outside → s'.pass ≡ s.pass
+    → HasMoved 0 [] s s'
+scanned_moved marking targets s s' x outside pass = record {
+  grown = record {
+    won = [];
+    tried = x.seen;
+    taken = [];
+    beyond = [];
+    won_is = ap (λ (v : MarkView). v.won) x.looked.view_is;
+    tried_is = ap (λ (v : MarkView). v.known) x.looked.view_is;
+    taken_is = ap (λ (d : QueueView). d.taken) pass ∙ sym (append-nil s.pass.taken);
+    beyond_is = outside ∙ sym (append-nil s.outside);
+    put_is = ap (λ (d : QueueView). d.put) pass;
+    logs_are = ap (λ (v : MarkView). v.logs) x.looked.view_is;
+    moves_are = ap (λ (d : QueueView). d.moves) pass ∙ moves_none s.pass.moves;
+    won_tried = λ h. omega arith;
+  };
+  grown_won = refl;
+  made = omega arith;
+  few = omega arith;
+  first_is = ap (λ (v : MarkView). v.first) x.looked.view_is;
+  parts_is = ap (λ (v : MarkView). v.parts) x.looked.view_is;
+  queue_parts = ap (λ (d : QueueView). d.parts) pass;
+  whole_taken = λ _ t. subst TakenWasPut (sym pass) t;
 }
 
 -- no more was won, and no more found outside, than tries were made
@@ -130,18 +166,17 @@ pub within_made : (n : ℕ) (won : List (ℕ × ℕ)) (s s' : CallerState) → H
 within_made n won s s' m =
     let x = weigh-one won in
     let y : weigh (λ _. 1) m.grown.won ≡ weigh (λ _. 1) won = ap (weigh (λ _. 1)) m.grown_won in
-    let t = m.grown.won_tried (λ _. 1) in
-    let c = m.count in
+    let f = m.few in
     let o = ap length m.grown.beyond_is in
     let b = length-append s.outside m.grown.beyond in
     let z = weigh-one m.grown.beyond in ((omega arith), (omega arith))
 
--- as much was done as tries were made
+-- at least as much was done as tries were made
 pub done_made : (n : ℕ) (won : List (ℕ × ℕ)) (s s' : CallerState) → HasMoved n won s s'
-    → done s'.seat s'.outside ≡ done s.seat s.outside + n
+    → done s.seat s.outside + n ≤ done s'.seat s'.outside
 done_made n won s s' m =
     let k : weigh (λ _. 1) s'.seat.known ≡ weigh (λ _. 1) s.seat.known + weigh (λ _. 1) m.grown.tried =
     ap (weigh (λ _. 1)) m.grown.tried_is ∙ weigh-append (λ _. 1) s.seat.known m.grown.tried in
     let o : weigh (λ _. 1) s'.outside ≡ weigh (λ _. 1) s.outside + weigh (λ _. 1) m.grown.beyond =
     ap (weigh (λ _. 1)) m.grown.beyond_is ∙ weigh-append (λ _. 1) s.outside m.grown.beyond in
-    let c = m.count in omega arith
+    let c = m.made in omega arith

@@ -34,7 +34,7 @@ sum_has R w (p ∷ ps) all lt = dite (ℕ_discrete (w p) 0)
     (λ n. (p, All-head R p ps all, omega arith))
 
 -- an edge counts among the targets, and what counts there is an edge
-edge_counts : (field : ℕ → Option (ℕ × ℕ)) (q : ℕ × ℕ) (n i : ℕ) → i < n → field i ≡ Some q
+pub edge_counts : (field : ℕ → Option (ℕ × ℕ)) (q : ℕ × ℕ) (n i : ℕ) → i < n → field i ≡ Some q
     → 0 < weigh (only q) (first_targets field n)
 edge_counts field q zero i lt e = absurd (omega arith)
 edge_counts field q (suc n) i lt e = let a = weigh-append (only q) (first_targets field n) (held (field n)) in

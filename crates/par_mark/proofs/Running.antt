@@ -44,8 +44,8 @@ module _ (edge : ℕ × ℕ → ℕ → Option (ℕ × ℕ)) (marking : ℕ × �
     won_listed = All-same P v.won [] w (All-nil P);
   }
 
-  pub starts : (most : ℕ) (m : Caller) → IsReady edge marking P most m → HasRun edge marking P m m
-  starts most m r = record {
+  pub starts : (m : Caller) → IsReady edge marking P m → HasRun edge marking P m m
+  starts m r = record {
     accounts = opened (tries_of m.lists) (outside_of m.lists) (view_of m.seat) (view m.pass) r.outside_empty r.no_won
         r.no_known r.no_put r.no_taken r.listed;
     logs_are = r.new_logs ∙ (λ i. record { won = sym r.no_won i; tried = sym r.no_known i } ∷ []);
@@ -151,7 +151,7 @@ module _ (edge : ℕ × ℕ → ℕ → Option (ℕ × ℕ)) (marking : ℕ × �
       let m2 = b.tries_most in (omega arith, λ ps once all. let h = b.room ps once all in omega arith)
 
   pub less_left : (n : ℕ) (outside outside' firsts tries' : List (ℕ × ℕ)) (v w : MarkView)
-      (d : QueueView) (most room : ℕ) → 0 < n → done w outside' ≡ done v outside + n
+      (d : QueueView) (most room : ℕ) → 0 < n → done v outside + n ≤ done w outside'
       → Accounts edge marking P firsts [] [] tries' outside' w d → TakenWasPut d
       → HasRoom edge marking P (weigh (λ _. 1) firsts) most → most < room
       → room - done w outside' < room - done v outside

@@ -26,8 +26,8 @@ abbrev pub own_moves : QueueView → Moves
 own_moves d = record { given = d.put; taken = d.taken }
 
 module _ (edge : ℕ × ℕ → ℕ → Option (ℕ × ℕ)) (marking : ℕ × ℕ → Bool) (P : ℕ × ℕ → Type 0) where
-  -- it has done nothing yet, and has room for this number of tries
-  pub record IsReady (most : ℕ) (m : Caller) : Type 0 where
+  -- it has done nothing yet, and has room for all tries that may come
+  pub record IsReady (m : Caller) : Type 0 where
     pub parts : 0 < (view_of m.seat).parts
     pub queue_parts : 0 < (view m.pass).parts
     pub no_won : (view_of m.seat).won ≡ []
@@ -41,7 +41,6 @@ module _ (edge : ℕ × ℕ → ℕ → Option (ℕ × ℕ)) (marking : ℕ × �
     pub listed : All P (tries_of m.lists)
     pub room : HasRoom edge marking P (weigh (λ _. 1) (tries_of m.lists)) (tries_room m.lists)
     pub won_room : batch ≤ vec_capacity m.lists.won
-    pub outside_room : most ≤ vec_capacity m.lists.outside
 
   -- it has made tries, and accounts for all that it began with
   pub record HasRun (m m' : Caller) : Type 0 where

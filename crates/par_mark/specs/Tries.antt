@@ -79,11 +79,12 @@ pub record HasGrown (outside : List (ℕ × ℕ)) (v : MarkView) (d : QueueView)
   pub moves_are : d'.moves ≡ moves_with [] taken d.moves
   pub won_tried : (h : ℕ × ℕ → ℕ) → weigh h won ≤ weigh h tried
 
--- this number of tries was taken and made, and these cells were won
+-- this number of tries was taken and made, and these cells were won; looks at cells that were black may have tried more
 pub record HasMoved (n : ℕ) (won : List (ℕ × ℕ)) (s s' : CallerState) : Type 0 where
   pub grown : HasGrown s.outside s.seat s.pass s'.outside s'.seat s'.pass
   pub grown_won : grown.won ≡ won
-  pub count : weigh (λ _. 1) grown.tried + weigh (λ _. 1) grown.beyond ≡ n
+  pub made : n ≤ weigh (λ _. 1) grown.tried + weigh (λ _. 1) grown.beyond
+  pub few : weigh (λ _. 1) grown.won + weigh (λ _. 1) grown.beyond ≤ n
   pub first_is : s'.seat.first ≡ s.seat.first
   pub parts_is : s'.seat.parts ≡ s.seat.parts
   pub queue_parts : s'.pass.parts ≡ s.pass.parts

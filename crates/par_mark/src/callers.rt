@@ -20,6 +20,7 @@ use crate::donations::{Ring, Splits};
 use crate::first_tries::first_tries;
 use crate::gather::{append_lists, join_one, new_lists, settle};
 use crate::graph::Graph;
+use crate::idle::Idle;
 use crate::lists::{BATCH, Lists};
 use crate::queue::Queue;
 use crate::run::{drain, run};
@@ -38,39 +39,43 @@ fn run_both<R: Threads + Wait + Sync, H: Graph + Sync, L: PlaceList + Sync, G: G
     marks: &Marks<L>,
     ring: &Ring<L>,
     gate: &G,
-    most: usize,
     one: Caller,
     two: Caller,
 ) -> (Caller, Caller)
     requires serves { Serves (H.has heap.now) (H.edge heap.now) (H.marking heap.now) (first_of marks.now) L.places }
     requires seats { IsSeatOf marks.now one.seat × IsSeatOf marks.now two.seat }
     requires passes { IsPassOf ring.now one.pass × IsPassOf ring.now two.pass }
-    requires one { IsReady (H.edge heap.now) (H.marking heap.now) L.places most one }
-    requires two { IsReady (H.edge heap.now) (H.marking heap.now) L.places most two }
+    requires one { IsReady (H.edge heap.now) (H.marking heap.now) L.places one }
+    requires two { IsReady (H.edge heap.now) (H.marking heap.now) L.places two }
     ensures seats { IsSeatOf marks.now result.0.seat × IsSeatOf marks.now result.1.seat }
     ensures passes { IsPassOf ring.now result.0.pass × IsPassOf ring.now result.1.pass }
     ensures one { HasRun (H.edge heap.now) (H.marking heap.now) L.places one result.0 }
     ensures two { HasRun (H.edge heap.now) (H.marking heap.now) L.places two result.1 }
 {
+    let idle = &Idle::new();
     if one.lists.tries.is_empty() {
-        return (one, run(rt, heap, marks, ring, gate, most, two));
+        idle.enter(0);
+        return (one, run(rt, heap, marks, ring, gate, idle, two));
     }
     join(
         rt,
         move ||
             requires { IsSeatOf marks.now one.seat × IsPassOf ring.now one.pass
                 × Serves (H.has heap.now) (H.edge heap.now) (H.marking heap.now) (first_of marks.now) L.places
-                × IsReady (H.edge heap.now) (H.marking heap.now) L.places most one }
+                × IsReady (H.edge heap.now) (H.marking heap.now) L.places one }
             ensures { IsSeatOf marks.entry.now result.seat × IsPassOf ring.entry.now result.pass
                 × HasRun (H.edge heap.entry.now) (H.marking heap.entry.now) L.places one result }
-        { run(rt, heap, marks, ring, gate, most, one) },
+        { run(rt, heap, marks, ring, gate, idle, one) },
         move ||
             requires { IsSeatOf marks.now two.seat × IsPassOf ring.now two.pass
                 × Serves (H.has heap.now) (H.edge heap.now) (H.marking heap.now) (first_of marks.now) L.places
-                × IsReady (H.edge heap.now) (H.marking heap.now) L.places most two }
+                × IsReady (H.edge heap.now) (H.marking heap.now) L.places two }
             ensures { IsSeatOf marks.entry.now result.seat × IsPassOf ring.entry.now result.pass
                 × HasRun (H.edge heap.entry.now) (H.marking heap.entry.now) L.places two result }
-        { run(rt, heap, marks, ring, gate, most, two) },
+        {
+            idle.let_start(rt);
+            run(rt, heap, marks, ring, gate, idle, two)
+        },
     )
 }
 
@@ -133,7 +138,7 @@ pub fn mark<R: Threads + Wait + Sync, H: Graph + Sync, L: PlaceList + Sync, G: G
     let (front, back) = tries.as_slice().split_at(first_share(tries.len()));
     let front = new_lists(alloc, front, room, spare)?;
     let back = new_lists(alloc, back, room, spare)?;
-    Ok(mark_from(rt, heap, marks, seat, queue, gate, room, front, back))
+    Ok(mark_from(rt, heap, marks, seat, queue, gate, front, back))
 }
 
 // Marks from these tries: the callers run, and then main tries what they left. Returns what lies outside.
@@ -144,18 +149,17 @@ fn mark_from<R: Threads + Wait + Sync, H: Graph + Sync, L: PlaceList + Sync, G: 
     seat: &mut Seat,
     queue: &mut Queue<L>,
     gate: &G,
-    most: usize,
     front: Lists,
     back: Lists,
 ) -> Vec<Place>
     requires serves { Serves (H.has heap.now) (H.edge heap.now) (H.marking heap.now) (first_of marks.now) L.places }
     requires seat { IsSeatOf marks.now seat.old × (view_of seat.old ≡ first_view (first_of marks.now)) }
     requires queue { IsUnused queue.old }
-    requires front { AreNew (tries_of front) most (most + 1) front }
-    requires back { AreNew (tries_of back) most (most + 1) back }
     requires front_listed { All L.places (tries_of front) }
     requires back_listed { All L.places (tries_of back) }
-    requires room { HasRoom (H.edge heap.now) (H.marking heap.now) L.places
+    requires room { (most : ℕ) × AreNew (tries_of front) most (most + 1) front
+        × AreNew (tries_of back) most (most + 1) back
+        × HasRoom (H.edge heap.now) (H.marking heap.now) L.places
         (weigh (λ _. 1) (tries_of front) + weigh (λ _. 1) (tries_of back)) most }
     ensures seat { IsSeatOf marks.now seat.new × ((view_of seat.new).parts ≡ whole) }
     ensures accounts { HasSettled (H.edge heap.now) (H.marking heap.now) L.places (tries_of front ++ tries_of back)
@@ -174,7 +178,7 @@ fn mark_from<R: Threads + Wait + Sync, H: Graph + Sync, L: PlaceList + Sync, G: 
         lists: back,
     };
     let ring = &queue.ring;
-    let (one, two) = run_both(rt, heap, marks, ring, gate, most, one, two);
+    let (one, two) = run_both(rt, heap, marks, ring, gate, one, two);
     let Caller {
         seat: one_seat,
         pass: one_pass,

@@ -1,12 +1,11 @@
 // The tries that marking begins with.
-ghost use Rattle.std.specs.Prelude.{◌≡◌, ◌+◌, ◌*◌, ◌<◌, ◌≤◌, ℕ, List, [], ◌∷◌, ◌++◌, length, All, IfOk};
+ghost use Rattle.std.specs.Prelude.{◌≡◌, ◌+◌, ◌≤◌, ◌++◌, length, vec_capacity, All, IfOk};
+ghost use Rattle.mark_ahead.specs.Edges.{targets};
 ghost use Rattle.par_mark.specs.Edges.{all_targets};
 
 use crate::graph::Graph;
-use crate::scans::scan_all;
 use gz_names::{NoMemory, Place};
 use std::alloc::{AllocError, Global};
-use std::collections::VecDeque;
 
 /// The targets of all these cells, in order.
 pub(crate) fn first_tries<H: Graph>(
@@ -18,7 +17,23 @@ pub(crate) fn first_tries<H: Graph>(
     ensures { IfOk result (λ tries. tries.items ≡ all_targets (H.edge heap.now) from.now) }
 {
     let room = from.len().checked_mul(8).ok_or(AllocError)?;
-    let mut tries = VecDeque::with_capacity(alloc, room)?;
-    scan_all(heap, from, &mut tries);
-    Ok(tries.into_vec())
+    let mut tries = Vec::with_capacity(alloc, room)?;
+    for place in from {
+        push_targets(heap, *place, &mut tries);
+    }
+    Ok(tries)
+}
+
+// Puts the targets of a cell behind a list.
+fn push_targets<H: Graph>(heap: &H, place: Place, tries: &mut Vec<Place>)
+    requires present { H.has heap.now place }
+    requires room { length tries.old.items + length (targets (H.edge heap.now) place) ≤ vec_capacity tries.old }
+    ensures tries { tries.new.items ≡ tries.old.items ++ targets (H.edge heap.now) place }
+    ensures room { vec_capacity tries.new ≡ vec_capacity tries.old }
+{
+    for i in 0..heap.edge_count(place) {
+        if let Some(target) = heap.edge_at(place, i) {
+            tries.push_reserved(target);
+        }
+    }
 }

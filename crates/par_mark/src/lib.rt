@@ -27,11 +27,12 @@
 // The order makes it fast. A try is a locked step of the processor, which waits for all loads before it; so
 // if each cell were scanned as it is won, the caller would wait for one cell after the other. The cells of a
 // turn are read one behind the other, and their waits overlap. Tries of one arena that follow each other in
-// the list are made in one step, as those of the children of a cell often are.
+// the list are made in one step, as those of the children of a cell often are. A scan looks at each target
+// first: one that is black in a marking zone is tried by that look, and does not come into the list.
 //
-// What comes from the queue is tried at once, so no try is given away twice. A caller stops when its
-// list is empty and it has looked into the queue a number of times and found nothing. The other may still
-// have work then, and may still give some away; so main tries whatever is left when both callers have ended.
+// What comes from the queue is tried at once, so no try is given away twice. A caller that has nothing to try
+// waits for the other one to give some away, for a while or until that one has nothing either. What is left
+// when both callers have ended, main tries.
 //
 // Nothing is forgotten and nothing is scanned twice, in every order of the callers' steps. The proof is
 // a conservation law. Count tries, each as often as it comes up. For each caller, at all times,
@@ -66,9 +67,10 @@
 //
 // `Graph` is what marking reads of a heap, so that the proof, and a test, can do without one. `mark`
 // works on marks and a queue, `mark_black` takes black words and answers them, and `mark_heap` does so
-// for the heap. All memory is reserved before the first step: the lists have room for as many tries as
-// there can be edges, 512 an arena. Memory that is reserved and not used takes addresses alone. Each
-// caller's list stands in a `CachePadded`, so that one caller's pushes don't slow down the other's.
+// for the heap. The callers' lists are reserved before the first step, with room for as many tries as there
+// can be edges, 512 an arena; memory that is reserved and not used takes addresses alone. `mark_black` lists
+// the cells that turned black at the end; if there is no memory for that, nothing has changed. Each caller's
+// list of tries stands in a `CachePadded`, so that one caller's pushes don't slow down the other's.
 #![tactic(auto)]
 
 mod caller;
@@ -81,6 +83,7 @@ mod graph;
 mod heap;
 #[cfg(test)]
 mod heap_tests;
+mod idle;
 mod lists;
 mod over_heap;
 mod over_words;

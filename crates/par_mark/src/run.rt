@@ -14,6 +14,7 @@ ghost use Rattle.par_mark.specs.Turns.{MayTurn};
 use crate::caller::Caller;
 use crate::donations::{QueuePass, Ring};
 use crate::graph::Graph;
+use crate::idle::Idle;
 use crate::lists::{BATCH, Lists};
 use crate::turns::{donate, turn};
 use gz_io::{FreeGate, Gate};
@@ -23,25 +24,26 @@ use std::sync::Wait;
 // How often a caller looks for something to try before it ends.
 const LOOKS: u32 = 1024;
 
-/// One caller's turns: until it finds nothing to try, or has made this number of tries.
+/// One caller's turns: until it finds nothing to try, or has made as many tries as its list of places outside has room
+/// for. It is idle then.
 pub(crate) fn run<R: Wait, H: Graph, L: PlaceList, G: Gate>(
     rt: &R,
     heap: &H,
     marks: &Marks<L>,
     ring: &Ring<L>,
     gate: &G,
-    most: usize,
+    idle: &Idle,
     mut caller: Caller,
 ) -> Caller
     requires serves { Serves (H.has heap.now) (H.edge heap.now) (H.marking heap.now) (first_of marks.now) L.places }
     requires seat { IsSeatOf marks.now caller.seat }
     requires pass { IsPassOf ring.now caller.pass }
-    requires ready { IsReady (H.edge heap.now) (H.marking heap.now) L.places most caller }
+    requires ready { IsReady (H.edge heap.now) (H.marking heap.now) L.places caller }
     ensures seat { IsSeatOf marks.now result.seat }
     ensures pass { IsPassOf ring.now result.pass }
     ensures ran { HasRun (H.edge heap.now) (H.marking heap.now) L.places caller result }
 {
-    let mut left = most;
+    let mut left = caller.lists.outside.capacity();
     while left > 0 {
         let made = find_and_try(
             rt,
@@ -49,28 +51,31 @@ pub(crate) fn run<R: Wait, H: Graph, L: PlaceList, G: Gate>(
             marks,
             ring,
             gate,
+            idle,
             &mut caller.seat,
             &mut caller.pass,
             &mut caller.lists,
             left.min(BATCH),
         );
         if made == 0 {
-            break;
+            return caller;
         }
         left -= made;
         donate(rt, ring, &mut caller.pass, &mut caller.lists.tries);
     }
+    idle.enter(0);
     caller
 }
 
-// A caller's turn. If it finds nothing to try it looks again, a number of times, since the other caller may give some
-// tries away meanwhile.
+// A caller's turn. If it finds nothing to try it is idle, and looks again, a number of times, for as long as the other
+// caller is not idle, since that one may give some tries away. If it finds none it stays idle.
 fn find_and_try<R: Wait, H: Graph, L: PlaceList, G: Gate>(
     rt: &R,
     heap: &H,
     marks: &Marks<L>,
     ring: &Ring<L>,
     gate: &G,
+    idle: &Idle,
     seat: &mut Seat,
     pass: &mut QueuePass,
     lists: &mut Lists,
@@ -89,11 +94,17 @@ fn find_and_try<R: Wait, H: Graph, L: PlaceList, G: Gate>(
         (state_of lists.old (view_of seat.old) (view pass.old))
         (state_of lists.new (view_of seat.new) (view pass.new)) }
 {
-    for _ in 0..LOOKS {
+    for look in 0..LOOKS {
         let made = turn(rt, heap, marks, ring, gate, seat, pass, lists, most);
         if made != 0 {
+            idle.leave(look);
             return made;
         }
+        idle.enter(look);
+        if idle.are_all() {
+            break;
+        }
+        idle.wait(rt, look);
     }
     0
 }

@@ -1,25 +1,41 @@
 // Scanning cells.
-ghost use Rattle.std.specs.Prelude.{◌≡◌, ◌+◌, ◌<◌, ◌≤◌, ℕ, List, [], ◌∷◌, ◌++◌, length, All, false};
+ghost use Rattle.std.specs.Prelude.{◌≡◌, ◌+◌, ◌≤◌, ◌<◌, ℕ, [], ◌∷◌, true, false, length, All};
 ghost use Rattle.std.specs.VecDeque.{deque_len, deque_capacity};
+ghost use Rattle.mark_words.specs.Seats.{first_of, view_of, IsSeatOf};
 ghost use Rattle.mark_ahead.specs.Edges.{targets};
 ghost use Rattle.par_mark.specs.Edges.{all_targets};
+ghost use Rattle.par_mark.specs.Scans.{HasScanned};
+ghost use Rattle.par_mark.specs.Tries.{Serves};
 
 use crate::graph::Graph;
 use gz_names::Place;
+use mark_words::{Marks, PlaceList, Seat};
 use std::collections::VecDeque;
 
-/// Scans these cells: the targets of their edges become tries, in order.
-pub(crate) fn scan_all<H: Graph>(heap: &H, cells: &[Place], tries: &mut VecDeque<Place>)
+/// Scans these cells: the targets of their edges become tries, but for those that a look finds black, which are tried
+/// by it.
+pub(crate) fn scan_all<H: Graph, L: PlaceList>(
+    heap: &H,
+    marks: &Marks<L>,
+    seat: &mut Seat,
+    cells: &[Place],
+    tries: &mut VecDeque<Place>,
+)
+    requires seat { IsSeatOf marks.now seat.old × (0 < (view_of seat.old).parts) }
+    requires serves { Serves (H.has heap.now) (H.edge heap.now) (H.marking heap.now) (first_of marks.now) L.places }
+    requires listed { All L.places (all_targets (H.edge heap.now) cells.now) }
     requires present { All (H.has heap.now) cells.now }
     requires room { deque_len tries.old + length (all_targets (H.edge heap.now) cells.now) ≤ deque_capacity tries.old }
-    ensures tries { tries.new.items ≡ tries.old.items ++ all_targets (H.edge heap.now) cells.now }
+    ensures seat { IsSeatOf marks.now seat.new }
+    ensures scanned { HasScanned (H.marking heap.now) (all_targets (H.edge heap.now) cells.now)
+        (tries.old.items, view_of seat.old) (tries.new.items, view_of seat.new) }
     ensures room { deque_capacity tries.new ≡ deque_capacity tries.old }
 {
     if !have_fields(heap, cells) {
         return;
     }
     for place in cells {
-        scan(heap, *place, tries);
+        scan(heap, marks, seat, *place, tries);
     }
 }
 
@@ -37,15 +53,49 @@ fn have_fields<H: Graph>(heap: &H, cells: &[Place]) -> bool
 }
 
 // Scans a cell.
-fn scan<H: Graph>(heap: &H, place: Place, tries: &mut VecDeque<Place>)
+fn scan<H: Graph, L: PlaceList>(
+    heap: &H,
+    marks: &Marks<L>,
+    seat: &mut Seat,
+    place: Place,
+    tries: &mut VecDeque<Place>,
+)
+    requires seat { IsSeatOf marks.now seat.old × (0 < (view_of seat.old).parts) }
+    requires serves { Serves (H.has heap.now) (H.edge heap.now) (H.marking heap.now) (first_of marks.now) L.places }
+    requires listed { All L.places (targets (H.edge heap.now) place) }
     requires present { H.has heap.now place }
     requires room { deque_len tries.old + length (targets (H.edge heap.now) place) ≤ deque_capacity tries.old }
-    ensures tries { tries.new.items ≡ tries.old.items ++ targets (H.edge heap.now) place }
+    ensures seat { IsSeatOf marks.now seat.new }
+    ensures scanned { HasScanned (H.marking heap.now) (targets (H.edge heap.now) place)
+        (tries.old.items, view_of seat.old) (tries.new.items, view_of seat.new) }
     ensures room { deque_capacity tries.new ≡ deque_capacity tries.old }
 {
     for i in 0..heap.edge_count(place) {
         if let Some(target) = heap.edge_at(place, i) {
-            tries.push_back_reserved(target);
+            push_unless_black(heap, marks, seat, target, tries);
         }
+    }
+}
+
+// Makes a try of a target, unless it is in a marking zone and a look finds it black.
+#[inline(always)]
+fn push_unless_black<H: Graph, L: PlaceList>(
+    heap: &H,
+    marks: &Marks<L>,
+    seat: &mut Seat,
+    target: Place,
+    tries: &mut VecDeque<Place>,
+)
+    requires seat { IsSeatOf marks.now seat.old × (0 < (view_of seat.old).parts) }
+    requires serves { Serves (H.has heap.now) (H.edge heap.now) (H.marking heap.now) (first_of marks.now) L.places }
+    requires listed { L.places target }
+    requires room { deque_len tries.old < deque_capacity tries.old }
+    ensures seat { IsSeatOf marks.now seat.new }
+    ensures scanned { HasScanned (H.marking heap.now) (target ∷ [])
+        (tries.old.items, view_of seat.old) (tries.new.items, view_of seat.new) }
+    ensures room { deque_capacity tries.new ≡ deque_capacity tries.old }
+{
+    if !heap.is_marking(target) || !marks.is_black(seat, target) {
+        tries.push_back_reserved(target);
     }
 }

@@ -106,7 +106,10 @@ pub(crate) fn turn<R: Wait, H: Graph, L: PlaceList, G: Gate>(
         (state_of lists.new (view_of seat.new) (view pass.new)) }
 {
     let made = try_places(rt, heap, marks, ring, gate, seat, pass, lists, most);
-    scan_all(heap, &lists.won, &mut lists.tries);
+    if made == 0 {
+        return 0;
+    }
+    scan_all(heap, marks, seat, &lists.won, &mut lists.tries);
     lists.won.clear();
     made
 }
@@ -153,6 +156,7 @@ fn try_places<R: Wait, H: Graph, L: PlaceList, G: Gate>(
 
 // Makes a try. A cell outside the marking zones goes to `outside`. Else tries of the same arena that come next in the
 // list are made in the same step, up to this number with it. Returns how many were made.
+#[inline(always)]
 fn try_place<H: Graph, L: PlaceList, G: Gate>(
     heap: &H,
     marks: &Marks<L>,

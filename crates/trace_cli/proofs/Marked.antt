@@ -44,7 +44,8 @@ marked_by c d false p stands did = as_it_was c d p stands did.0.same
 marked_by c d true p stands did =
     let goes = did.0 in
     let advances : Advances 18446744073709551615 c none_flown None one_unit d none_flown [] None =
-    quiet_advances 18446744073709551615 1 c d none_flown none_flown [] [] None (one_quiet c none_flown d none_flown goes)
+    quiet_advances 18446744073709551615 1 c d none_flown none_flown [] [] None
+    (one_quiet c none_flown d none_flown goes)
     (omega arith) (omega arith) (λ rests. absurd (did.1 rests.black.pile)) stands.sound
     (unit_sound c d none_flown none_flown [] goes.done stands.sound) refl stands.out in record {
       goes = step_goes 18446744073709551615 pending.Collect c d none_flown none_flown [] None None one_unit p p refl

@@ -51,25 +51,48 @@ mark_from-requires-clause-back_listed g c κs within =
     back_all P front back all
 
 pub mark_from-requires-clause-room : goal.mark_from-requires-clause-room
-mark_from-requires-clause-room g c κs within = λ ps once all.
-    let edge = g.H.Graph.edge c.args.heap.now in
-    let marking = g.H.Graph.marking c.args.heap.now in
-    let P = g.L.PlaceList.places in
-    let first : List ℕ = first_of c.args.marks.now in
-    let from : List (ℕ × ℕ) = c.args.from.now in
-    let front : List (ℕ × ℕ) = tries_of c.in_ok-front.front in
-    let back : List (ℕ × ℕ) = tries_of c.in_ok-back.back in
-    let is : front ++ back ≡ all_targets edge from =
-    (λ i. c.in_ok-front.ensures.tries_are i ++ c.in_ok-back.ensures.tries_are i)
-    ∙ sym c.split_at.ensures.by_index.0 ∙ c.as_slice.ensures.value ∙ c.in_ok-tries.ensures in
-    let s = serves edge marking first from (g.H.Graph.has c.args.heap.now) c.requires.present c.requires.targets P
-    c.requires.listed c.requires.lists c.requires.words in
-    let m = c.most_edges.ensures ps once (All-weaker P (g.H.Graph.has c.args.heap.now) s.here ps all) in
-    let w = weigh-append (λ _. 1) front back in
-    let l = weigh-one (front ++ back) in
-    let k : length (front ++ back) ≡ length c.in_ok-tries.tries.items = ap length (is ∙ sym c.in_ok-tries.ensures) in
-    let o = c.in_ok-tries.tries.ok.0 in
-    let sum : c.in_ok-room.room ≡ c.in_ok-tries.tries.len + c.most_edges.result = search rules in omega arith
+mark_from-requires-clause-room g c κs within =
+    let more : c.in_ok-spare.spare ≡ c.in_ok-room.room + 1 = search rules in
+    let f = c.in_ok-front.ensures in
+    let b = c.in_ok-back.ensures in (
+      c.in_ok-room.room,
+      record {
+        tries_are = λ i. tries_of c.in_ok-front.front;
+        no_won = f.no_won;
+        no_outside = f.no_outside;
+        tries_have = f.tries_have;
+        won_has = f.won_has;
+        outside_has = (let has = f.outside_has in omega (arith, has, more));
+      },
+      record {
+        tries_are = λ i. tries_of c.in_ok-back.back;
+        no_won = b.no_won;
+        no_outside = b.no_outside;
+        tries_have = b.tries_have;
+        won_has = b.won_has;
+        outside_has = (let has = b.outside_has in omega (arith, has, more));
+      },
+      λ ps once all.
+          let edge = g.H.Graph.edge c.args.heap.now in
+          let marking = g.H.Graph.marking c.args.heap.now in
+          let P = g.L.PlaceList.places in
+          let first : List ℕ = first_of c.args.marks.now in
+          let from : List (ℕ × ℕ) = c.args.from.now in
+          let front : List (ℕ × ℕ) = tries_of c.in_ok-front.front in
+          let back : List (ℕ × ℕ) = tries_of c.in_ok-back.back in
+          let is : front ++ back ≡ all_targets edge from =
+          (λ i. c.in_ok-front.ensures.tries_are i ++ c.in_ok-back.ensures.tries_are i)
+          ∙ sym c.split_at.ensures.by_index.0 ∙ c.as_slice.ensures.value ∙ c.in_ok-tries.ensures in
+          let s = serves edge marking first from (g.H.Graph.has c.args.heap.now) c.requires.present c.requires.targets P
+          c.requires.listed c.requires.lists c.requires.words in
+          let m = c.most_edges.ensures ps once (All-weaker P (g.H.Graph.has c.args.heap.now) s.here ps all) in
+          let w = weigh-append (λ _. 1) front back in
+          let l = weigh-one (front ++ back) in
+          let k : length (front ++ back) ≡ length c.in_ok-tries.tries.items =
+          ap length (is ∙ sym c.in_ok-tries.ensures) in
+          let o = c.in_ok-tries.tries.ok.0 in
+          let sum : c.in_ok-room.room ≡ c.in_ok-tries.tries.len + c.most_edges.result = search rules in omega arith,
+    )
 
 pub returns-clause-marked : goal.returns-clause-marked
 returns-clause-marked g c =

@@ -44,16 +44,16 @@ append_lists-requires g c =
     let d0_is : d0 ≡ fewer_parts (fewer_parts (unused_view)) = c.another-2.ensures.rule.0
     ∙ ap fewer_parts (c.another.ensures.rule.0 ∙ ap fewer_parts c.requires.queue) in
     let first_is = c.settle.ensures.seat.0.1 in
-    let t : Together e m P (tries_of c.args.front) (tries_of c.args.back) c.args.most one.lists two.lists v d =
-    together e m P _ _ one two v0 v d0 d c.args.most c.run_both-one.ensures.one c.run_both-one.ensures.two
+    let t : Together e m P (tries_of c.args.front) (tries_of c.args.back) c.requires.room.0 one.lists two.lists v d =
+    together e m P _ _ one two v0 v d0 d c.requires.room.0 c.run_both-one.ensures.one c.run_both-one.ensures.two
     (ap (λ (u : MarkView). u.won) v_is) (ap (λ (u : MarkView). u.known) v_is) (ap (λ (u : QueueView). u.put) d_is)
     (ap (λ (u : QueueView). u.taken) d_is)
     (ap (λ (u : MarkView). u.won) v0_is) (ap (λ (u : MarkView). u.known) v0_is) (ap (λ (u : QueueView). u.put) d0_is)
     (ap (λ (u : QueueView). u.taken) d0_is)
     (c.run_both-one.ensures.seats.0.1 ∙ sym first_is) (c.run_both-one.ensures.seats.1.1 ∙ sym first_is)
-    c.settle.ensures.knows c.settle.ensures.taken c.requires.room in
+    c.settle.ensures.knows c.settle.ensures.taken c.requires.room.3 in
     let r = c.run_both-one.ensures.one.room in
-    let f = c.requires.front in
+    let f = c.requires.room.1 in
     let tf = t.tries_fit in
     let of = t.outside_fit in
     let a = f.tries_have in
@@ -82,16 +82,16 @@ drain-requires-clause-accounts g c =
     let d0_is : d0 ≡ fewer_parts (fewer_parts (unused_view)) = c.another-2.ensures.rule.0
     ∙ ap fewer_parts (c.another.ensures.rule.0 ∙ ap fewer_parts c.requires.queue) in
     let first_is = c.settle.ensures.seat.0.1 in
-    let t : Together e m P (tries_of c.args.front) (tries_of c.args.back) c.args.most one.lists two.lists v d =
-    together e m P _ _ one two v0 v d0 d c.args.most c.run_both-one.ensures.one c.run_both-one.ensures.two
+    let t : Together e m P (tries_of c.args.front) (tries_of c.args.back) c.requires.room.0 one.lists two.lists v d =
+    together e m P _ _ one two v0 v d0 d c.requires.room.0 c.run_both-one.ensures.one c.run_both-one.ensures.two
     (ap (λ (u : MarkView). u.won) v_is) (ap (λ (u : MarkView). u.known) v_is) (ap (λ (u : QueueView). u.put) d_is)
     (ap (λ (u : QueueView). u.taken) d_is)
     (ap (λ (u : MarkView). u.won) v0_is) (ap (λ (u : MarkView). u.known) v0_is) (ap (λ (u : QueueView). u.put) d0_is)
     (ap (λ (u : QueueView). u.taken) d0_is)
     (c.run_both-one.ensures.seats.0.1 ∙ sym first_is) (c.run_both-one.ensures.seats.1.1 ∙ sym first_is)
-    c.settle.ensures.knows c.settle.ensures.taken c.requires.room in
+    c.settle.ensures.knows c.settle.ensures.taken c.requires.room.3 in
     let r = c.run_both-one.ensures.one.room in
-    let f = c.requires.front in
+    let f = c.requires.room.1 in
     let n = c.append_lists.ensures in
     let a = f.tries_have in
     let b = f.won_has in
@@ -108,7 +108,7 @@ drain-requires-clause-accounts g c =
           t.accounts;
       taken_put = c.settle.ensures.taken;
       none_left = ap (λ w. w.items) n.won ∙ c.run_both-one.ensures.one.none_left;
-      most = c.args.most;
+      most = c.requires.room.0;
       room = t.room;
       tries_most = omega arith;
       won_room = omega arith;
@@ -136,14 +136,14 @@ returns-clause-accounts g c =
     let d0_is : d0 ≡ fewer_parts (fewer_parts (unused_view)) = c.another-2.ensures.rule.0
     ∙ ap fewer_parts (c.another.ensures.rule.0 ∙ ap fewer_parts c.requires.queue) in
     let first_is = c.settle.ensures.seat.0.1 in
-    let t : Together e m P (tries_of c.args.front) (tries_of c.args.back) c.args.most one.lists two.lists v d =
-    together e m P _ _ one two v0 v d0 d c.args.most c.run_both-one.ensures.one c.run_both-one.ensures.two
+    let t : Together e m P (tries_of c.args.front) (tries_of c.args.back) c.requires.room.0 one.lists two.lists v d =
+    together e m P _ _ one two v0 v d0 d c.requires.room.0 c.run_both-one.ensures.one c.run_both-one.ensures.two
     (ap (λ (u : MarkView). u.won) v_is) (ap (λ (u : MarkView). u.known) v_is) (ap (λ (u : QueueView). u.put) d_is)
     (ap (λ (u : QueueView). u.taken) d_is)
     (ap (λ (u : MarkView). u.won) v0_is) (ap (λ (u : MarkView). u.known) v0_is) (ap (λ (u : QueueView). u.put) d0_is)
     (ap (λ (u : QueueView). u.taken) d0_is)
     (c.run_both-one.ensures.seats.0.1 ∙ sym first_is) (c.run_both-one.ensures.seats.1.1 ∙ sym first_is)
-    c.settle.ensures.knows c.settle.ensures.taken c.requires.room in
+    c.settle.ensures.knows c.settle.ensures.taken c.requires.room.3 in
     let n = c.append_lists.ensures in
     let firsts : List (ℕ × ℕ) = tries_of c.args.front ++ tries_of c.args.back in
     let a = subst (λ (l : List (ℕ × ℕ) × List (ℕ × ℕ)). Accounts e m P firsts [] [] l.0 l.1 v d)
@@ -175,14 +175,14 @@ returns-clause-shares g c =
     let d0_is : d0 ≡ fewer_parts (fewer_parts (unused_view)) = c.another-2.ensures.rule.0
     ∙ ap fewer_parts (c.another.ensures.rule.0 ∙ ap fewer_parts c.requires.queue) in
     let first_is = c.settle.ensures.seat.0.1 in
-    let t : Together e m P (tries_of c.args.front) (tries_of c.args.back) c.args.most one.lists two.lists v d =
-    together e m P _ _ one two v0 v d0 d c.args.most c.run_both-one.ensures.one c.run_both-one.ensures.two
+    let t : Together e m P (tries_of c.args.front) (tries_of c.args.back) c.requires.room.0 one.lists two.lists v d =
+    together e m P _ _ one two v0 v d0 d c.requires.room.0 c.run_both-one.ensures.one c.run_both-one.ensures.two
     (ap (λ (u : MarkView). u.won) v_is) (ap (λ (u : MarkView). u.known) v_is) (ap (λ (u : QueueView). u.put) d_is)
     (ap (λ (u : QueueView). u.taken) d_is)
     (ap (λ (u : MarkView). u.won) v0_is) (ap (λ (u : MarkView). u.known) v0_is) (ap (λ (u : QueueView). u.put) d0_is)
     (ap (λ (u : QueueView). u.taken) d0_is)
     (c.run_both-one.ensures.seats.0.1 ∙ sym first_is) (c.run_both-one.ensures.seats.1.1 ∙ sym first_is)
-    c.settle.ensures.knows c.settle.ensures.taken c.requires.room in
+    c.settle.ensures.knows c.settle.ensures.taken c.requires.room.3 in
     let n = c.append_lists.ensures in
     let firsts : List (ℕ × ℕ) = tries_of c.args.front ++ tries_of c.args.back in
     let a = subst (λ (l : List (ℕ × ℕ) × List (ℕ × ℕ)). Accounts e m P firsts [] [] l.0 l.1 v d)

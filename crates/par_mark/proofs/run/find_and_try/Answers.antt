@@ -8,8 +8,8 @@ use Rattle.par_mark.proofs.Accounting.{turned_none, turned_more}
 use Rattle.par_mark.proofs.Moving.{within_made}
 use Rattle.par_mark.proofs.run.find_and_try.Goals as goal
 
-pub loop-init : goal.loop-init
-loop-init g c = (
+pub loop-look-init : goal.loop-look-init
+loop-look-init g c = (
   c.requires.seat.0,
   c.requires.pass.0,
   record { tries = refl; won = refl; outside = refl },
@@ -20,9 +20,9 @@ loop-init g c = (
 pub turn-made-requires-clause-ready : goal.turn-made-requires-clause-ready
 turn-made-requires-clause-ready g c =
     let r = c.requires.ready in
-    let i = c.loop.invariant in
+    let i = c.loop-look.invariant in
     let s = state_of c.args.lists.now (view_of c.args.seat.now) (view c.args.pass.now) in
-    let t = state_of c.loop.lists (view_of c.loop.seat) (view c.loop.pass) in
+    let t = state_of c.loop-look.lists (view_of c.loop-look.seat) (view c.loop-look.pass) in
     let tries = i.2.tries in
     let won = i.2.won in
     let outside = i.2.outside in
@@ -42,6 +42,6 @@ returns-then-made-ne0-clause-turned g c =
     turned_more (g.H.Graph.edge c.args.heap.now) (g.H.Graph.marking c.args.heap.now) g.L.PlaceList.places 0
     c.turn-made.result c.turn-made.result
     (state_of c.args.lists.now (view_of c.args.seat.now) (view c.args.pass.now))
-    (state_of c.loop.lists (view_of c.loop.seat) (view c.loop.pass))
+    (state_of c.loop-look.lists (view_of c.loop-look.seat) (view c.loop-look.pass))
     (state_of c.turn-made.new.lists (view_of c.turn-made.new.seat) (view c.turn-made.new.pass)) (omega arith)
-    c.loop.invariant.3 c.turn-made.ensures.turned
+    c.loop-look.invariant.3 c.turn-made.ensures.turned

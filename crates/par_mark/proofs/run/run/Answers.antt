@@ -35,7 +35,7 @@ find_and_try-made-requires-clause-ready g c =
       some_tries = omega arith;
       none_left = ran.none_left;
       won_has = (let has = r.won_room in omega arith);
-      outside_has = (let has = r.outside_room in omega arith);
+      outside_has = omega arith;
     }
 
 pub loop-left-preserved : goal.loop-left-preserved
