@@ -20,7 +20,7 @@ from program import find_program  # noqa: E402 (the folder of tools is no packag
 from test_tools import run_tool  # noqa: E402
 
 # gcjudge has no rules for these.
-NOT_JUDGED = re.compile("(weaken|deref|watch|unwatch|compact) ")
+NOT_JUDGED = re.compile("(watch|unwatch|compact) ")
 
 TWO_GRAY = """\
 > zone
@@ -39,6 +39,22 @@ ok
 ok
 > drop r1
 ok
+"""
+# A weak slot names a cell that nothing keeps.
+WEAK = """\
+> zone
+zone 0
+> comp 0
+comp 0
+> new r0 0 0
+cell 0
+> weaken q0 r0
+ok
+> drop r0
+ok
+> collect 0
+started
+groups 0
 """
 COLLECTED = "> collect 0\nstarted\ngroups 0\nended 0 gray 0 1\nswept 0 -\ndone\ncollected\n"
 # The target of a wrapper of another zone is gray, and keeps the wrapper, which is a key of a map that is black.
@@ -119,6 +135,16 @@ class Judge(unittest.TestCase):
 
     def test_a_value_by_its_map_alone(self):
         self.check_collector("value_by_map", "colour, 2 is black or white here and has to be gray: r0 > 0 > 2")
+
+    def test_a_weak_slot_loses_a_dead_cell(self):
+        ends = "ended 0 gray -\nswept 0 0\ndone\ncollected\n> deref r1 q0\nnull\n"
+        self.assertEqual(judged(WEAK + ends), ("lawful\n", 0))
+
+    def test_a_weak_slot_that_keeps_a_cell(self):
+        kind = "colour, 0 is gray here and has to be white: nothing reaches it"
+        self.check_wrong(WEAK + "ended 0 gray 0\n", 14, kind)
+        ends = WEAK + "ended 0 gray -\nswept 0 0\ndone\ncollected\n> deref r1 q0\n0\n"
+        self.check_wrong(ends, 19, 'reply, due is "null"')
 
     def test_a_lawful_transcript(self):
         self.assertEqual(judged(TWO_GRAY + COLLECTED), ("lawful\n", 0))

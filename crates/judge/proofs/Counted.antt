@@ -20,7 +20,7 @@ use Rattle.judge.specs.Stages.{Stage, idle, preparing, collecting, counted_by, p
 use Rattle.judge.proofs.Cells.{woken_is, wrapped_by}
 
 -- what is counted of a name that is woken, by the compartments
-woken_comps : (g h : GraphState) (zones : List ℕ) (x : Option Name) (t : Tally) → h.comps ≡ g.comps
+pub woken_comps : (g h : GraphState) (zones : List ℕ) (x : Option Name) (t : Tally) → h.comps ≡ g.comps
     → with_woken h zones x t ≡ with_woken g zones x t
 woken_comps g h zones None t e = refl
 woken_comps g h zones (Some (Cell n)) t e = refl

@@ -23,3 +23,4 @@ pub mod Found
 pub mod DumpLines
 pub mod Sound
 pub mod Starts
+pub mod Taking

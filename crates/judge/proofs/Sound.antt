@@ -5,19 +5,25 @@ use Rattle.gz_names.specs.declared.names.Name.{Name}
 use Rattle.gz_names.specs.declared.zone_sets.ZoneSet.{ZoneSet}
 use Rattle.gz_names.specs.declared.commands.Cmd.{Cmd}
 use Rattle.gz_names.specs.declared.commands.Cmd.TheVariants as command
-use Rattle.gz_names.specs.declared.commands.GraphCmd.{GraphCmd}
+use Rattle.gz_names.specs.declared.commands.WeakCmd.{WeakCmd}
+use Rattle.gz_names.specs.declared.commands.WeakCmd.TheVariants as weak_command
 use Rattle.gz_names.specs.declared.replies.Report.{Report}
 use Rattle.gz_names.specs.declared.replies.Report.TheVariants as report
 use Rattle.colour_defs.specs.Graph.{GraphState, empty_graph}
-use Rattle.colour_defs.specs.Step.{step_of}
 use Rattle.plain_graph.specs.Reach.{WalkState}
-use Rattle.judge.specs.Former.{IsFormer, Releases}
-use Rattle.judge.specs.Replies.{Asks, Begins, Due, IsAnswered, IsLast, Steps, graph_after, dump, nothing, reply}
+use Rattle.judge.specs.Cells.{wakes}
+use Rattle.judge.specs.Former.{IsFormer, Releases, changed}
+use Rattle.judge.specs.Replies.{Asks, AsksWeak, graph_after_weak}
+use Rattle.judge.specs.Replies.{Begins, Due, IsAnswered, IsLast, Steps, graph_after, dump, nothing, reply}
 use Rattle.judge.specs.Replies.{resets, units}
 use Rattle.judge.specs.Sound.{IsSound, IsWalked}
 use Rattle.judge.specs.Stages.{EndsGroup, Forms, HasGroups, IsFirst, IsReported, IsResetReport}
-use Rattle.judge.specs.Stages.{Obeys, Shown, Stage, Starts, Sweeps, WakesAny, collecting, idle, preparing}
+use Rattle.judge.specs.Stages.{Changes, Shown, Stage, Starts, Sweeps, WakesAny, collecting, idle, preparing}
 use Rattle.judge.specs.Walks.{CatchUp, CatchesUp, Walks}
+use Rattle.judge.specs.Weak.{weak_slot}
+use Rattle.judge.specs.declared.former.Change.{Change}
+use Rattle.judge.specs.declared.former.Change.TheVariants as change
+use Rattle.judge.specs.declared.weak.WeakNames.{WeakNames}
 use Rattle.judge.proofs.Formers.{former_is}
 
 pub sound_first : (s : Shown) → IsFirst s → IsSound empty_graph s
@@ -47,9 +53,9 @@ walks_before s (Some x) (Some v) new w (after, is, woken) e =
 walked_as : (g h : GraphState) (v w : WalkState) → h ≡ g → w ≡ v → IsWalked g v → IsWalked h w
 walked_as g h v w e f is = subst (λ k. IsWalked k w) (sym e) (subst (IsWalked g) (sym f) is)
 
-sound_obeys : (g : GraphState) (c : GraphCmd) (old new : Shown) → Obeys g c old new → IsSound g old
-    → IsSound (step_of g c).0 new
-sound_obeys g c old new o is =
+sound_changes : (k : Change) (g : GraphState) (x : Option Name) (old new : Shown) → Changes k (changed g k) x old new
+    → IsSound g old → IsSound (changed g k) new
+sound_changes k g x old new o is =
     let stage = o.stage_is in record {
       former = o.takes.former g is.former;
       none_kept = λ e. o.takes.kept_is ∙ is.none_kept (sym stage ∙ e);
@@ -64,6 +70,26 @@ sound_obeys g c old new o is =
           };
     }
 
+-- a weak slot names another cell
+sound_named : (g : GraphState) (old new : Shown) (weak : WeakNames) → new ≡ record old { weak = weak } → IsSound g old
+    → IsSound g new
+sound_named g old new weak same is = subst (IsSound g) (sym same)
+    (record {
+      former = is.former;
+      none_kept = is.none_kept;
+      none_yet = is.none_yet;
+      walks = λ w e left.
+          let f = is.walks w e left in record { kept = f.kept; black = f.black; live = f.live };
+    })
+
+sound_weak : (g : GraphState) (c : WeakCmd) (due : Due) (old new : Shown) → AsksWeak g old c due new → IsSound g old
+    → IsSound (graph_after_weak g old c) new
+sound_weak g (weak_command.Weaken q r) due old new (d, same) is = sound_named g old new _ same is
+sound_weak g (weak_command.Deref r q) due old new (d, taken) is =
+    sound_changes (change.Take r (weak_slot old.weak q)) g _ old new taken.changes is
+sound_weak g (weak_command.Watch r) due old new none is = absurd none
+sound_weak g (weak_command.Unwatch r) due old new none is = absurd none
+
 -- a collection begins, or is refused
 sound_begins : (g : GraphState) (zones : ZoneSet) (begun due : Due) (old new : Shown) → Begins g zones begun old due new
     → IsSound g old → IsSound g new
@@ -77,8 +103,9 @@ sound_begins g zones begun due old new (inr (idle_is, made, d, same)) is =
     })
 
 sound_asks : (g : GraphState) (c : Cmd) (due : Due) (old new : Shown) → Asks g old c due new → IsSound g old
-    → IsSound (graph_after g c) new
-sound_asks g (command.Graph c) due old new (d, o) is = sound_obeys g c old new o is
+    → IsSound (graph_after g old c) new
+sound_asks g (command.Graph c) due old new (d, o) is =
+    sound_changes (change.Command c) g (wakes g c) old new o.changes is
 sound_asks g (command.Gc zones) due old new b is = sound_begins g zones _ due old new b is
 sound_asks g (command.Slice n) due old new (d, same) is = sound_same g old new same is
 sound_asks g command.Finish due old new (d, same) is = sound_same g old new same is
@@ -86,7 +113,7 @@ sound_asks g (command.Collect zones) due old new b is = sound_begins g zones _ d
 sound_asks g command.Colours due old new (d, same) is = sound_same g old new same is
 sound_asks g command.Dump due old new (d, same) is = sound_same g old new same is
 sound_asks g command.Reset due old new (d, same) is = sound_same g old new same is
-sound_asks g (command.Weak c) due old new none is = absurd none
+sound_asks g (command.Weak c) due old new asked is = sound_weak g c due old new asked is
 sound_asks g (command.Compact zone) due old new none is = absurd none
 
 -- reports

@@ -1,30 +1,36 @@
--- The graph as it stood when marking began, and the commands since.
+-- The graph as it stood when marking began, and the changes since.
 use Rattle.std.specs.Prelude.{◌≡◌, true, false, List, [], ◌∷◌, Option, Some, None}
 use Rattle.gz_names.specs.declared.names.Name.{Name}
-use Rattle.gz_names.specs.declared.commands.GraphCmd.{GraphCmd}
 use Rattle.colour_defs.specs.declared.graph.Object.{Object}
 use Rattle.colour_defs.specs.Graph.{GraphState}
-use Rattle.colour_defs.specs.Step.{step_of}
+use Rattle.colour_defs.specs.Step.{step_of, with_register}
 use Rattle.judge.specs.declared.former.Former.{Former}
+use Rattle.judge.specs.declared.former.Change.{Change}
+use Rattle.judge.specs.declared.former.Change.TheVariants as change
 use Rattle.judge.specs.declared.former.Kept.{Kept}
 
--- a command as it is kept
-abbrev pub kept_of : GraphCmd → Kept
-kept_of c = record { command = c }
+-- a change as it is kept
+abbrev pub kept_of : Change → Kept
+kept_of k = record { change = k }
 
--- a graph after commands
+-- a graph after a change
+abbrev pub changed : GraphState → Change → GraphState
+changed g (change.Command c) = (step_of g c).0
+changed g (change.Take r x) = with_register g r x
+
+-- a graph after changes
 abbrev pub graph_by : GraphState → List Kept → GraphState
 graph_by g [] = g
-graph_by g (k ∷ ks) = graph_by (step_of g k.command).0 ks
+graph_by g (k ∷ ks) = graph_by (changed g k.change) ks
 
--- the commands that were kept lead from the former graph to this one
+-- the changes that were kept lead from the former graph to this one
 pub record IsFormer (f : Former) (g : GraphState) : Type 0 where
   pub leads : graph_by f.graph f.kept.items ≡ g
   pub taken : f.is_kept ≡ false → f.kept.items ≡ []
 
--- a command is taken, or kept where the graph is to stay
-pub record Takes (c : GraphCmd) (old new : Former) : Type 0 where
-  pub former : (g : GraphState) → IsFormer old g → IsFormer new (step_of g c).0
+-- a change is taken, or kept where the graph is to stay
+pub record Takes (k : Change) (old new : Former) : Type 0 where
+  pub former : (g : GraphState) → IsFormer old g → IsFormer new (changed g k)
   pub kept_is : new.is_kept ≡ old.is_kept
   pub graph_is : old.is_kept ≡ true → new.graph ≡ old.graph
 
@@ -34,7 +40,7 @@ pub record Keeps (old new : Former) : Type 0 where
   pub kept_is : new.is_kept ≡ true
   pub graph_is : new.graph ≡ old.graph
 
--- the commands that were kept are done
+-- the changes that were kept are done
 pub record Releases (old new : Former) : Type 0 where
   pub former : (g : GraphState) → IsFormer old g → IsFormer new g
   pub kept_is : new.is_kept ≡ false

@@ -1,6 +1,7 @@
 pub mod Lines
 pub mod Former
 pub mod Walks
+pub mod Weak
 pub mod Cells
 pub mod Whites
 pub mod Arenas

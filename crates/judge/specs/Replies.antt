@@ -9,12 +9,14 @@ use Rattle.gz_names.specs.declared.zone_sets.ZoneSet.{ZoneSet}
 use Rattle.gz_names.specs.declared.names.Name.{Name}
 use Rattle.gz_names.specs.declared.commands.Cmd.{Cmd}
 use Rattle.gz_names.specs.declared.commands.Cmd.TheVariants as command
+use Rattle.gz_names.specs.declared.commands.WeakCmd.{WeakCmd}
+use Rattle.gz_names.specs.declared.commands.WeakCmd.TheVariants as weak_command
 use Rattle.gz_names.specs.declared.replies.Reply.TheVariants as answer
 use Rattle.gz_names.specs.declared.replies.Refusal.{Refusal}
 use Rattle.gz_names.specs.declared.replies.Refusal.TheVariants as refusal
 use Rattle.gz_names.specs.declared.dumps.DumpLine.{DumpLine}
-use Rattle.colour_defs.specs.Graph.{GraphState, empty_graph}
-use Rattle.colour_defs.specs.Step.{step_of}
+use Rattle.colour_defs.specs.Graph.{GraphState, empty_graph, register_cell}
+use Rattle.colour_defs.specs.Step.{named_or_null, step_of, with_register}
 use Rattle.trace_lang.specs.Grammar.{Spells}
 use Rattle.trace_lang.specs.Texts.{reply_text}
 use Rattle.colour_defs.specs.Ends.{Lists}
@@ -23,7 +25,8 @@ use Rattle.judge.specs.Cells.{HasCell}
 use Rattle.judge.specs.Dumps.{ListsDump}
 use Rattle.judge.specs.Lines.{IsOneLine}
 use Rattle.judge.specs.Stages.{Stage, idle, preparing, collecting, Shown, IsFirst, IsOver, IsSettled, IsReportedLine}
-use Rattle.judge.specs.Stages.{IsResetLine, Obeys, Spends}
+use Rattle.judge.specs.Stages.{IsResetLine, Obeys, Spends, TakesNamed}
+use Rattle.judge.specs.Weak.{weak_slot, with_weak_slot}
 use Rattle.judge.specs.declared.answers.Awaited.{Awaited}
 use Rattle.judge.specs.declared.answers.Awaited.TheVariants as awaited
 
@@ -92,7 +95,13 @@ Dumps g s due =
     (IsSettled s.stage × (lines : List DumpLine) × ListsDump g s lines × (due ≡ dump lines))
     ⊎ ((IsSettled s.stage → ⊥) × (due ≡ refused refusal.Marking))
 
--- there are rules for all commands but those on weak slots and watched cells, and compactions
+-- there are rules for all commands but those on watched cells, and compactions
+abbrev pub IsJudgedWeak : WeakCmd → Type 0
+IsJudgedWeak (weak_command.Weaken q r) = ⊤
+IsJudgedWeak (weak_command.Deref r q) = ⊤
+IsJudgedWeak (weak_command.Watch r) = ⊥
+IsJudgedWeak (weak_command.Unwatch r) = ⊥
+
 abbrev pub IsJudged : Cmd → Type 0
 IsJudged (command.Graph c) = ⊤
 IsJudged (command.Gc zones) = ⊤
@@ -102,8 +111,19 @@ IsJudged (command.Collect zones) = ⊤
 IsJudged command.Colours = ⊤
 IsJudged command.Dump = ⊤
 IsJudged command.Reset = ⊤
-IsJudged (command.Weak c) = ⊥
+IsJudged (command.Weak c) = IsJudgedWeak c
 IsJudged (command.Compact zone) = ⊥
+
+-- what is due for a command on weak slots. A weak slot names what a register holds, or becomes empty; a register takes
+-- what a weak slot names, or becomes empty
+abbrev pub AsksWeak : GraphState → Shown → WeakCmd → Due → Shown → Type 0
+AsksWeak g old (weak_command.Weaken q r) due new =
+    (due ≡ reply (reply_text answer.Accepted))
+    × (new ≡ record old { weak = with_weak_slot old.weak q (register_cell g r) })
+AsksWeak g old (weak_command.Deref r q) due new =
+    (due ≡ reply (reply_text (named_or_null (weak_slot old.weak q)))) × TakesNamed g r (weak_slot old.weak q) old new
+AsksWeak g old (weak_command.Watch r) due new = ⊥
+AsksWeak g old (weak_command.Unwatch r) due new = ⊥
 
 -- what is due for a command, by what the world shows before it and after it
 abbrev pub Asks : GraphState → Shown → Cmd → Due → Shown → Type 0
@@ -116,21 +136,27 @@ Asks g old (command.Collect zones) due new = Begins g zones (begun_due true) old
 Asks g old command.Colours due new = ListsGray old due × (new ≡ old)
 Asks g old command.Dump due new = Dumps g old due × (new ≡ old)
 Asks g old command.Reset due new = GoesOn resets old.stage due × (new ≡ old)
-Asks g old (command.Weak c) due new = ⊥
+Asks g old (command.Weak c) due new = AsksWeak g old c due new
 Asks g old (command.Compact zone) due new = ⊥
 
 -- the graph that never frees after a command: a collection leaves it as it is
-abbrev pub graph_after : GraphState → Cmd → GraphState
-graph_after g (command.Graph c) = (step_of g c).0
-graph_after g (command.Gc zones) = g
-graph_after g (command.Slice n) = g
-graph_after g command.Finish = g
-graph_after g (command.Collect zones) = g
-graph_after g command.Colours = g
-graph_after g command.Dump = g
-graph_after g command.Reset = g
-graph_after g (command.Weak c) = g
-graph_after g (command.Compact zone) = g
+abbrev pub graph_after_weak : GraphState → Shown → WeakCmd → GraphState
+graph_after_weak g s (weak_command.Weaken q r) = g
+graph_after_weak g s (weak_command.Deref r q) = with_register g r (weak_slot s.weak q)
+graph_after_weak g s (weak_command.Watch r) = g
+graph_after_weak g s (weak_command.Unwatch r) = g
+
+abbrev pub graph_after : GraphState → Shown → Cmd → GraphState
+graph_after g s (command.Graph c) = (step_of g c).0
+graph_after g s (command.Gc zones) = g
+graph_after g s (command.Slice n) = g
+graph_after g s command.Finish = g
+graph_after g s (command.Collect zones) = g
+graph_after g s command.Colours = g
+graph_after g s command.Dump = g
+graph_after g s command.Reset = g
+graph_after g s (command.Weak c) = graph_after_weak g s c
+graph_after g s (command.Compact zone) = g
 
 -- a number of units for `finish`, or for a slice of at most n: fewer only if the collection is over
 abbrev pub IsWithin : Option ℕ → ℕ → Stage → Type 0
@@ -216,7 +242,7 @@ pub data Judged (input : List ℕ) : ℕ → List ℕ → GraphState → Shown �
   none : {s : Shown} → IsFirst s → Judged input 0 input empty_graph s nothing
   asked : {n : ℕ} {rest more line text : List ℕ} {g : GraphState} {c : Cmd} {old new : Shown} {due : Due}
       → Judged input n rest g old nothing → IsOneLine line → EndsLine rest more line → line ≡ marked text
-      → Spells text c → Asks g old c due new → Judged input (n + 1) more (graph_after g c) new due
+      → Spells text c → Asks g old c due new → Judged input (n + 1) more (graph_after g old c) new due
   answered : {n : ℕ} {rest more line : List ℕ} {g : GraphState} {due next : Due} {old new : Shown}
       → Judged input n rest g old due → IsOneLine line → EndsLine rest more line → IsUnmarked line
       → IsAnswered g old due line new next → Judged input (n + 1) more g new next
@@ -224,6 +250,6 @@ pub data Judged (input : List ℕ) : ℕ → List ℕ → GraphState → Shown �
 -- a line that is fine: the graph after it, what the world shows, and what is due then
 abbrev pub Steps : GraphState → Shown → Due → List ℕ → GraphState → Shown → Due → Type 0
 Steps g old due line h new next =
-    ((text : List ℕ) × (c : Cmd) × (due ≡ nothing) × (line ≡ marked text) × Spells text c × (h ≡ graph_after g c)
+    ((text : List ℕ) × (c : Cmd) × (due ≡ nothing) × (line ≡ marked text) × Spells text c × (h ≡ graph_after g old c)
     × Asks g old c next new)
     ⊎ (IsUnmarked line × (h ≡ g) × IsAnswered g old due line new next)

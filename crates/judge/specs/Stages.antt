@@ -1,6 +1,6 @@
 -- How far a collection is, by its zones, its groups and the arenas that are out; and what a report makes of it.
 use Rattle.std.specs.Prelude.{◌≡◌, ◌↔◌, ℕ, ◌+◌, List, [], ◌∷◌, ◌++◌, Bool, true, false, reverse, slice_get, Option}
-use Rattle.std.specs.Prelude.{Some, None, Vec, IsTrue, ◌⊎◌, ⊤}
+use Rattle.std.specs.Prelude.{Some, None, Vec, IsTrue, ◌⊎◌, ⊤, map, replicate}
 use Rattle.std.specs.BTreeMap as tree
 use Rattle.std.specs.declared.alloc.Global.{Global}
 use Rattle.gz_names.specs.Zones.{HasZone, zones_in}
@@ -14,7 +14,7 @@ use Rattle.gz_names.specs.declared.replies.Report.TheVariants as report
 use Rattle.gz_names.specs.declared.commands.GraphCmd.{GraphCmd}
 use Rattle.colour_defs.specs.Ends.{Lists, arenas_from}
 use Rattle.colour_defs.specs.Graph.{GraphState, empty_graph, zone_of}
-use Rattle.colour_defs.specs.Step.{refusal_in, step_of}
+use Rattle.colour_defs.specs.Step.{refusal_in, step_of, with_register}
 use Rattle.colour_defs.specs.Units.{MeetsUnitBound, Tally, sweeps_in, unit_limit, with_put, with_woken}
 use Rattle.colour_defs.specs.World.{woken_by}
 use Rattle.trace_lang.specs.Texts.{report_text}
@@ -28,8 +28,12 @@ use Rattle.judge.specs.Starts.{IsBegun}
 use Rattle.plain_graph.specs.Indexed.{order_of}
 use Rattle.plain_graph.specs.Reach.{WalkState}
 use Rattle.judge.specs.Walks.{CatchUp, CatchesUp, GoesOnFrom, Walks, walks_of}
+use Rattle.judge.specs.Weak.{if_present}
 use Rattle.judge.specs.Whites.{Clears, lies_in, whites_in}
 use Rattle.judge.specs.declared.whites.Whites.{Whites}
+use Rattle.judge.specs.declared.weak.WeakNames.{WeakNames}
+use Rattle.judge.specs.declared.former.Change.{Change}
+use Rattle.judge.specs.declared.former.Change.TheVariants as change
 use Rattle.judge.specs.declared.former.Former.{Former}
 use Rattle.judge.specs.declared.collection.Collection.{Collection}
 use Rattle.judge.specs.declared.world.Phase.{Phase}
@@ -47,7 +51,7 @@ pub data Stage : Type 0 where
 
 -- a stage, whose the arenas are, those that are out, the lowest first, and the white cells that are not yet swept; the
 -- present cells, what is black while no zone is marking, the graph as it stood when marking began, and what was found
--- since; and what is counted for the bound on units
+-- since; what is counted for the bound on units; and what weak slots name
 pub record Shown : Type 0 where
   pub stage : Stage
   pub owners : List (Option ℕ)
@@ -58,6 +62,7 @@ pub record Shown : Type 0 where
   pub former : Former
   pub walks : Option Walks
   pub tally : Tally
+  pub weak : WeakNames
 
 abbrev pub groups_in : Option (Vec ZoneSet Global) → Option (List ZoneSet)
 groups_in None = None
@@ -83,6 +88,7 @@ shown w = record {
   former = w.former;
   walks = walks_of w.phase;
   tally = tally_of w.tally;
+  weak = w.weak;
 }
 
 -- nothing has happened yet
@@ -95,6 +101,7 @@ pub record IsFirst (s : Shown) : Type 0 where
   pub taken : s.former.is_kept ≡ false
   pub none_found : s.walks ≡ None
   pub none_black : s.black ≡ record { names = []; next = 0 }
+  pub none_named : s.weak.slots ≡ replicate 64 None
 
 -- the zones that are being prepared or are marking
 abbrev pub unfinished_in : Stage → ZoneSet
@@ -164,16 +171,26 @@ abbrev pub tally_unless : Option Refusal → GraphState → Stage → GraphCmd �
 tally_unless (Some why) g s c t = t
 tally_unless None g s c t = counts_for g s c t
 
--- a command on the graph
-pub record Obeys (g : GraphState) (c : GraphCmd) (old new : Shown) : Type 0 where
-  pub places : GivesPlaces (step_of g c).0 (wakes g c) old.cells new.cells
-  pub lies : LiesIn (step_of g c).0 old new
-  pub takes : Takes c old.former new.former
-  pub walks : WakesAny old.stage (wakes g c) old.walks new.walks
-  pub blackens : Blackens (step_of g c).0 old.stage (wakes g c) old.black new.black
+-- a change of the graph, by the graph after it and the name that it wakes
+pub record Changes (k : Change) (h : GraphState) (x : Option Name) (old new : Shown) : Type 0 where
+  pub places : GivesPlaces h x old.cells new.cells
+  pub lies : LiesIn h old new
+  pub takes : Takes k old.former new.former
+  pub walks : WakesAny old.stage x old.walks new.walks
+  pub blackens : Blackens h old.stage x old.black new.black
   pub stage_is : new.stage ≡ old.stage
   pub out_is : new.out ≡ old.out
   pub whites_is : new.whites ≡ old.whites
+  pub weak_is : new.weak ≡ old.weak
+
+-- a register takes what a weak slot names, which is woken as what a gray slot hands out is
+pub record TakesNamed (g : GraphState) (r : ℕ) (x : Option Name) (old new : Shown) : Type 0 where
+  pub changes : Changes (change.Take r x) (with_register g r x) x old new
+  pub tally_is : new.tally ≡ woken_tally g old.stage x old.tally
+
+-- a command on the graph
+pub record Obeys (g : GraphState) (c : GraphCmd) (old new : Shown) : Type 0 where
+  pub changes : Changes (change.Command c) (step_of g c).0 (wakes g c) old new
   pub tally_is : new.tally ≡ tally_unless (refusal_in (step_of g c).1) g old.stage c old.tally
 
 -- all groups have ended, and no arena is out
@@ -263,7 +280,7 @@ AreWhitesIn g zones old walks arena names =
     × IsTrue (lies_in old.cells arena x)) names
 
 -- the first group that has not ended ends: its gray cells are named, its white ones are present no longer and wait to
--- be swept, each in its arena, and the arenas of its zones are out
+-- be swept, each in its arena, weak slots lose them, and the arenas of its zones are out
 pub record EndsGroup (g : GraphState) (old : Shown) (group : ZoneSet) (grays : List Name) (new : Shown) : Type 0 where
   pub none_out : old.out ≡ []
   pub ends : Ends old.stage group new.stage
@@ -275,6 +292,7 @@ pub record EndsGroup (g : GraphState) (old : Shown) (group : ZoneSet) (grays : L
   pub whites_are : (arena : ℕ) → AreWhitesIn g (zones_in group) old walks arena (whites_in new.whites arena)
   pub goes_on : GoesOn old walks new
   pub tally_is : new.tally ≡ old.tally
+  pub slots_are : new.weak.slots ≡ map (if_present new.cells) old.weak.slots
 
 -- the lowest arena that is out is taken in, and its white cells are freed
 pub record Sweeps (old : Shown) (arena : ℕ) (freed : List Name) (new : Shown) : Type 0 where

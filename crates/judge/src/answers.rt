@@ -2,17 +2,19 @@
 ghost use Rattle.std.specs.Prelude.{◌≡◌, ◌≢◌, ◌↔◌, ◌<◌, ◌≤◌, ◌^◌, ◌++◌, ℕ, Bool, IfNone, IfOk, IfSome, IsTrue, List};
 ghost use Rattle.std.specs.Prelude.{None, OnOk, Some, codes, drop, false, true, ◌∷◌, []};
 ghost use Rattle.std.specs.Fmt.{decimal};
+ghost use Rattle.gz_names.specs.declared.commands.WeakCmd.TheVariants as cmd;
 ghost use Rattle.gz_names.specs.declared.replies.Reply.TheVariants as the_reply;
 ghost use Rattle.colour_defs.specs.Graph.{GraphState};
-ghost use Rattle.colour_defs.specs.Step.{step_of};
+ghost use Rattle.colour_defs.specs.Step.{step_of, with_register};
 ghost use Rattle.trace_lang.specs.Texts.{reply_text};
 ghost use Rattle.judge.specs.Sound.{IsSound};
 ghost use Rattle.judge.specs.Stages.{IsOver, IsOverBound, IsReportedLine, IsResetLine, Obeys, Shown, Spends, idle};
 ghost use Rattle.judge.specs.Stages.{shown, stage_of};
 ghost use Rattle.judge.specs.Replies.{Asks, Begins, Counts, Dumps, GoesOn, HasLastText, IsJudged, IsJudgedLine, IsLast};
 ghost use Rattle.judge.specs.Replies.{IsSliced, IsWithin, ListsGray, after_reset, begun_due, due_as, dump as dump_of};
-ghost use Rattle.judge.specs.Replies.{graph_after, nothing, reply};
+ghost use Rattle.judge.specs.Replies.{AsksWeak, IsJudgedWeak, graph_after, graph_after_weak, nothing, reply};
 ghost use Rattle.judge.specs.Replies.{resets, units as units_of};
+ghost use Rattle.judge.specs.Weak.{weak_slot};
 
 use crate::checks::{self, Fault};
 use crate::dumps::dump_lines;
@@ -20,8 +22,11 @@ use crate::kinds;
 use crate::tally::with_one;
 use crate::text::{is_same, reply_text};
 use crate::world::World;
-use gz_names::{Cmd, DumpLine, DumpLines, GraphCmd, NameList, NoMemory, Refusal, Reply, ZoneSet};
-use plain_graph::{Graph, step};
+use gz_names::{
+    Cmd, DumpLine, DumpLines, GraphCmd, NameList, NoMemory, Refusal, Reg, Reply, WeakCmd, WeakNo,
+    ZoneSet,
+};
+use plain_graph::{Graph, step, take_in_register};
 use std::alloc::AllocError;
 use std::str;
 
@@ -68,7 +73,7 @@ pub fn begin_answer(
     requires { IsJudged command.now }
     ensures asks { IfOk result (λ awaited. Asks graph.old (shown world.old) command.now (due_as awaited)
         (shown world.new)) }
-    ensures graph { OnOk result (graph.new ≡ graph_after graph.old command.now) }
+    ensures graph { OnOk result (graph.new ≡ graph_after graph.old (shown world.old) command.now) }
 {
     match command {
         Cmd::Graph(command) => follow(graph, world, command),
@@ -79,7 +84,8 @@ pub fn begin_answer(
         Cmd::Colours => colours(world),
         Cmd::Dump => dump(graph, world),
         Cmd::Reset => reset(world),
-        Cmd::Weak(_) | Cmd::Compact(_) => unreachable!(),
+        Cmd::Weak(command) => weak(graph, world, command),
+        Cmd::Compact(_) => unreachable!(),
     }
 }
 
@@ -91,6 +97,39 @@ fn follow(graph: &mut Graph, world: &mut World, command: &GraphCmd) -> Result<Aw
 {
     let reply = step(world.alloc, graph, command)?;
     world.follow(graph, command, &reply)?;
+    only(world, &reply)
+}
+
+// A command on weak slots.
+fn weak(graph: &mut Graph, world: &mut World, command: &WeakCmd) -> Result<Awaited, NoMemory>
+    requires { IsJudgedWeak command.now }
+    ensures asks { IfOk result (λ awaited. AsksWeak graph.old (shown world.old) command.now (due_as awaited)
+        (shown world.new)) }
+    ensures graph { OnOk result (graph.new ≡ graph_after_weak graph.old (shown world.old) command.now) }
+{
+    match command {
+        WeakCmd::Weaken(slot, register) => {
+            world.weak.set_slot(*slot, graph.register(*register));
+            only(world, &Reply::Accepted)
+        }
+        WeakCmd::Deref(register, slot) => deref(graph, world, *register, *slot),
+        WeakCmd::Watch(_) | WeakCmd::Unwatch(_) => unreachable!(),
+    }
+}
+
+fn deref(
+    graph: &mut Graph,
+    world: &mut World,
+    register: Reg,
+    slot: WeakNo,
+) -> Result<Awaited, NoMemory>
+    ensures asks { IfOk result (λ awaited. AsksWeak graph.old (shown world.old) (cmd.Deref register slot)
+        (due_as awaited) (shown world.new)) }
+    ensures graph { OnOk result (graph.new ≡ with_register graph.old register (weak_slot world.old.weak slot)) }
+{
+    let named = world.weak.slot(slot);
+    let reply = take_in_register(graph, register, named);
+    world.take_named(graph, register, named)?;
     only(world, &reply)
 }
 

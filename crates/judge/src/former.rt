@@ -1,20 +1,28 @@
 // The graph as it stood when a collection began, and what is asked of a graph.
 //
-// Nothing is copied as a collection begins. This graph is made by the commands that made the other; while a collection
+// Nothing is copied as a collection begins. This graph is made by the changes that made the other; while a collection
 // marks, it takes none, and these are kept and done on it afterwards.
 ghost use Rattle.std.specs.Prelude.{◌≡◌, ◌↔◌, ◌++◌, ◌∷◌, [], IsTrue, OnOk, false};
 ghost use Rattle.gz_names.specs.Zones.{zones_in};
 ghost use Rattle.colour_defs.specs.Graph.{IsInZones, empty_graph, object_of};
-ghost use Rattle.judge.specs.Former.{IsFormer, Keeps, Releases, Takes, graph_by, held_in, kept_of};
+ghost use Rattle.judge.specs.Former.{IsFormer, Keeps, Releases, Takes, changed, graph_by, held_in, kept_of};
 
-use gz_names::{GraphCmd, Name, NoMemory, ZoneSet};
-use plain_graph::{Graph, step};
+use gz_names::{GraphCmd, Name, NoMemory, Reg, ZoneSet};
+use plain_graph::{Graph, step, take_in_register};
 use std::alloc::Global;
 
-// A command that was not taken.
+/// A change of a graph.
+#[derive(Clone, Copy)]
+pub enum Change {
+    Command(GraphCmd),
+    /// A register takes what a weak slot names.
+    Take(Reg, Option<Name>),
+}
+
+// A change that was not taken.
 #[derive(Clone, Copy)]
 struct Kept {
-    command: GraphCmd,
+    change: Change,
 }
 
 /// The graph as it stood when a collection began; where none marks, as it is.
@@ -22,7 +30,7 @@ struct Kept {
 pub struct Former {
     alloc: Global,
     graph: Graph,
-    /// Commands that it has not taken.
+    /// Changes that it has not taken.
     kept: Vec<Kept>,
     is_kept: bool,
 }
@@ -46,15 +54,14 @@ impl Former {
         &self.graph
     }
 
-    /// Takes a command, or keeps it.
-    pub fn command(&mut self, command: &GraphCmd) -> Result<(), NoMemory>
-        ensures { OnOk result (Takes command.now self.old self.new) }
+    /// Takes a change, or keeps it.
+    pub fn change(&mut self, change: &Change) -> Result<(), NoMemory>
+        ensures { OnOk result (Takes change.now self.old self.new) }
     {
         if self.is_kept {
-            return keep_command(&mut self.kept, command);
+            return keep_change(&mut self.kept, change);
         }
-        step(self.alloc, &mut self.graph, command)?;
-        Ok(())
+        do_one(self.alloc, &mut self.graph, change)
     }
 
     /// From here on it stays as it is.
@@ -64,7 +71,7 @@ impl Former {
         self.is_kept = true;
     }
 
-    /// It takes the commands that were kept, and each one from here on.
+    /// It takes the changes that were kept, and each one from here on.
     pub fn let_go(&mut self) -> Result<(), NoMemory>
         ensures { OnOk result (Releases self.old self.new) }
     {
@@ -82,17 +89,31 @@ fn add<T: Drop>(list: &mut Vec<T>, item: T) -> Result<(), NoMemory>
     Ok(())
 }
 
-fn keep_command(kept: &mut Vec<Kept>, command: &GraphCmd) -> Result<(), NoMemory>
-    ensures { OnOk result (kept.new.items ≡ kept.old.items ++ kept_of command.now ∷ []) }
+fn keep_change(kept: &mut Vec<Kept>, change: &Change) -> Result<(), NoMemory>
+    ensures { OnOk result (kept.new.items ≡ kept.old.items ++ kept_of change.now ∷ []) }
 {
-    add(kept, Kept { command: *command })
+    add(kept, Kept { change: *change })
 }
 
-fn do_all(alloc: Global, graph: &mut Graph, commands: &[Kept]) -> Result<(), NoMemory>
-    ensures { OnOk result (graph.new ≡ graph_by graph.old commands.now) }
+fn do_one(alloc: Global, graph: &mut Graph, change: &Change) -> Result<(), NoMemory>
+    ensures { OnOk result (graph.new ≡ changed graph.old change.now) }
 {
-    for kept in commands {
-        step(alloc, graph, &kept.command)?;
+    match change {
+        Change::Command(command) => {
+            step(alloc, graph, command)?;
+        }
+        Change::Take(register, cell) => {
+            take_in_register(graph, *register, *cell);
+        }
+    }
+    Ok(())
+}
+
+fn do_all(alloc: Global, graph: &mut Graph, changes: &[Kept]) -> Result<(), NoMemory>
+    ensures { OnOk result (graph.new ≡ graph_by graph.old changes.now) }
+{
+    for kept in changes {
+        do_one(alloc, graph, &kept.change)?;
     }
     Ok(())
 }

@@ -9,6 +9,7 @@ ghost use Rattle.judge.specs.Arenas.{owners_in};
 ghost use Rattle.judge.specs.Cells.{GivesPlace, GivesPlaces, HasCell, made_in, named_in, woken_in, wrapper_in};
 ghost use Rattle.judge.specs.Bounds.{arena_count, tally_of, with_arenas};
 ghost use Rattle.judge.specs.Former.{Takes};
+ghost use Rattle.judge.specs.declared.former.Change.TheVariants as change;
 ghost use Rattle.judge.specs.Stages.{Blackens, BlackensOne, IsDue, IsFirst, IsOver, IsSettled, IsStarted, LiesIn};
 ghost use Rattle.judge.specs.Stages.{Wakes, WakesAny, counted_by, idle, limit_in, preparing, put_in, shown, stage_of};
 ghost use Rattle.judge.specs.Stages.{unfinished_in, woken_tally};
@@ -17,11 +18,12 @@ ghost use Rattle.judge.specs.Replies.{AreMade, IsRefusal};
 
 use crate::arenas::Arenas;
 use crate::collection::Collection;
-use crate::former::{Former, is_in};
+use crate::former::{Change, Former, is_in};
 use crate::preparation::{Preparation, target_of};
 use crate::tally::{Tally, counts_entry, is_wrapper_in, marking_tally, with_one};
+use crate::weak::WeakNames;
 use crate::whites::Whites;
-use gz_names::{GraphCmd, Name, NoMemory, Place, Refusal, Reply, ZoneNo, ZoneSet};
+use gz_names::{GraphCmd, Name, NoMemory, Place, Refusal, Reg, Reply, ZoneNo, ZoneSet};
 use plain_graph::{Graph, Walk};
 use std::alloc::Global;
 use std::collections::BTreeMap;
@@ -78,6 +80,7 @@ pub struct World {
     pub phase: Phase,
     /// What was counted for the last collection that began.
     pub tally: Tally,
+    pub weak: WeakNames,
 }
 
 impl World {
@@ -93,6 +96,7 @@ impl World {
             black: Walk::new(alloc),
             phase: Phase::Idle,
             tally: Tally::new(),
+            weak: WeakNames::new(),
         }
     }
 
@@ -157,7 +161,8 @@ impl World {
         ensures lies { OnOk result (LiesIn graph.now (shown self.old) (shown self.new)) }
         ensures places { OnOk result (GivesPlaces graph.now (woken_in command.now reply.now)
             self.old.places self.new.places) }
-        ensures takes { OnOk result (Takes command.now self.old.former self.new.former) }
+        ensures takes { OnOk result (Takes (change.Command command.now) self.old.former self.new.former) }
+        ensures weak { OnOk result (self.new.weak ≡ self.old.weak) }
         ensures black { OnOk result (Blackens graph.now (stage_of self.old.phase) (woken_in command.now reply.now)
             self.old.black self.new.black) }
         ensures walks { OnOk result (WakesAny (stage_of self.old.phase) (woken_in command.now reply.now)
@@ -166,7 +171,51 @@ impl World {
             command.now reply.now (tally_of self.old.tally)) }
     {
         self.take(graph, command, reply)?;
-        match woken_in(command, reply) {
+        self.wake_any(graph, woken_in(command, reply))
+    }
+
+    /// A register has taken what a weak slot names, and the name is woken; by the graph after it.
+    pub fn take_named(
+        &mut self,
+        graph: &Graph,
+        register: Reg,
+        named: Option<Name>,
+    ) -> Result<(), NoMemory>
+        ensures stage { OnOk result (stage_of self.new.phase ≡ stage_of self.old.phase) }
+        ensures out { OnOk result ((shown self.new).out ≡ (shown self.old).out) }
+        ensures whites { OnOk result (self.new.whites ≡ self.old.whites) }
+        ensures lies { OnOk result (LiesIn graph.now (shown self.old) (shown self.new)) }
+        ensures places { OnOk result (GivesPlaces graph.now named self.old.places self.new.places) }
+        ensures takes { OnOk result (Takes (change.Take register named) self.old.former self.new.former) }
+        ensures weak { OnOk result (self.new.weak ≡ self.old.weak) }
+        ensures black { OnOk result (Blackens graph.now (stage_of self.old.phase) named self.old.black
+            self.new.black) }
+        ensures walks { OnOk result (WakesAny (stage_of self.old.phase) named (walks_of self.old.phase)
+            (walks_of self.new.phase)) }
+        ensures tally { OnOk result (tally_of self.new.tally
+            ≡ woken_tally graph.now (stage_of self.old.phase) named (tally_of self.old.tally)) }
+    {
+        self.former.change(&Change::Take(register, named))?;
+        self.count_woken(graph, named)?;
+        self.wake_any(graph, named)
+    }
+
+    // A name that may be there is woken.
+    fn wake_any(&mut self, graph: &Graph, name: Option<Name>) -> Result<(), NoMemory>
+        ensures stage { OnOk result (stage_of self.new.phase ≡ stage_of self.old.phase) }
+        ensures out { OnOk result ((shown self.new).out ≡ (shown self.old).out) }
+        ensures whites { OnOk result (self.new.whites ≡ self.old.whites) }
+        ensures lies { OnOk result (LiesIn graph.now (shown self.old) (shown self.new)) }
+        ensures places { OnOk result (GivesPlaces graph.now name self.old.places self.new.places) }
+        ensures former { OnOk result (self.new.former ≡ self.old.former) }
+        ensures weak { OnOk result (self.new.weak ≡ self.old.weak) }
+        ensures black { OnOk result (Blackens graph.now (stage_of self.old.phase) name self.old.black
+            self.new.black) }
+        ensures walks { OnOk result (WakesAny (stage_of self.old.phase) name (walks_of self.old.phase)
+            (walks_of self.new.phase)) }
+        ensures tally { OnOk result (tally_of self.new.tally ≡ tally_of self.old.tally) }
+    {
+        match name {
             None => Ok(()),
             Some(name) => self.wake(graph, name),
         }
@@ -176,11 +225,11 @@ impl World {
     fn take(&mut self, graph: &Graph, command: &GraphCmd, reply: &Reply) -> Result<(), NoMemory>
         ensures same { OnOk result (shown self.new
             ≡ record (shown self.old) { former = self.new.former; tally = tally_of self.new.tally }) }
-        ensures takes { OnOk result (Takes command.now self.old.former self.new.former) }
+        ensures takes { OnOk result (Takes (change.Command command.now) self.old.former self.new.former) }
         ensures tally { OnOk result (tally_of self.new.tally ≡ counted_by graph.now (stage_of self.old.phase)
             command.now reply.now (tally_of self.old.tally)) }
     {
-        self.former.command(command)?;
+        self.former.change(&Change::Command(*command))?;
         self.count(graph, command, reply)?;
         self.wake_target(graph, read_in(command, reply))
     }
@@ -204,6 +253,7 @@ impl World {
         ensures lies { OnOk result (LiesIn graph.now (shown self.old) (shown self.new)) }
         ensures places { OnOk result (GivesPlace graph.now self.old.places name self.new.places) }
         ensures former { OnOk result (self.new.former ≡ self.old.former) }
+        ensures weak { OnOk result (self.new.weak ≡ self.old.weak) }
         ensures black { OnOk result (BlackensOne graph.now (stage_of self.old.phase) name self.old.black
             self.new.black) }
         ensures walks { OnOk result (Wakes (stage_of self.old.phase) name (walks_of self.old.phase)

@@ -21,8 +21,8 @@ fn named_or_null(cell: &Option<Name>) -> Reply
     }
 }
 
-// A register takes a cell or becomes empty, and the reply names it.
-fn take_in_register(graph: &mut Graph, register: Reg, cell: Option<Name>) -> Reply
+/// A register takes a cell or becomes empty, and the reply names it.
+pub fn take_in_register(graph: &mut Graph, register: Reg, cell: Option<Name>) -> Reply
     ensures graph { graph.new ≡ (take_in_register graph.old register cell).0 }
     ensures reply { result ≡ (take_in_register graph.old register cell).1 }
 {

@@ -18,6 +18,6 @@ mod graph;
 mod reach;
 mod waiting;
 
-pub use commands::step;
+pub use commands::{step, take_in_register};
 pub use graph::Graph;
 pub use reach::{Walk, closure};

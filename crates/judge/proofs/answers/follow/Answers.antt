@@ -28,17 +28,21 @@ returns-clause-obeys c =
     c.in_ok-reply.ensures.reply
     ∙ counted_is g (stage_of old.phase) command (tally_of old.tally) in
     IfOk-weaker c.only.result _ _ (λ a e. record {
-      places = subst (λ (o : Option Name). GivesPlaces (step_of g command).0 o old.places new.places) woken places;
-      lies = subst (λ (h : GraphState). LiesIn h (shown old) (shown new)) c.in_ok-reply.ensures.graph
-          c.in_ok-follow.ensures.lies;
-      takes = c.in_ok-follow.ensures.takes;
-      walks = subst (λ (o : Option Name). WakesAny (stage_of old.phase) o (walks_of old.phase)
-          (walks_of new.phase)) woken c.in_ok-follow.ensures.walks;
-      blackens = subst (λ (o : Option Name). Blackens (step_of g command).0 (stage_of old.phase) o old.black new.black)
-          woken (subst (λ (h : GraphState). Blackens h (stage_of old.phase) (woken_in command c.in_ok-reply.reply)
-          old.black new.black) c.in_ok-reply.ensures.graph c.in_ok-follow.ensures.black);
-      stage_is = c.in_ok-follow.ensures.stage;
-      out_is = c.in_ok-follow.ensures.out;
-      whites_is = c.in_ok-follow.ensures.whites;
+      changes = record {
+        places = subst (λ (o : Option Name). GivesPlaces (step_of g command).0 o old.places new.places) woken places;
+        lies = subst (λ (h : GraphState). LiesIn h (shown old) (shown new)) c.in_ok-reply.ensures.graph
+            c.in_ok-follow.ensures.lies;
+        takes = c.in_ok-follow.ensures.takes;
+        walks = subst (λ (o : Option Name). WakesAny (stage_of old.phase) o (walks_of old.phase)
+            (walks_of new.phase)) woken c.in_ok-follow.ensures.walks;
+        blackens = subst (λ (o : Option Name). Blackens (step_of g command).0 (stage_of old.phase) o old.black
+            new.black) woken (subst (λ (h : GraphState). Blackens h (stage_of old.phase)
+            (woken_in command c.in_ok-reply.reply) old.black new.black) c.in_ok-reply.ensures.graph
+            c.in_ok-follow.ensures.black);
+        stage_is = c.in_ok-follow.ensures.stage;
+        out_is = c.in_ok-follow.ensures.out;
+        whites_is = c.in_ok-follow.ensures.whites;
+        weak_is = c.in_ok-follow.ensures.weak;
+      };
       tally_is = tally;
     }) c.only.ensures

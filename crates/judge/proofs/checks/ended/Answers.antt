@@ -1,4 +1,4 @@
-use Rattle.std.proofs.Common.{◌≡◌, ◌∙◌, ◌++◌, ℕ, List, [], Option, Some, reverse, ap, subst, sym}
+use Rattle.std.proofs.Common.{◌≡◌, ◌∙◌, ◌++◌, ℕ, List, [], Option, Some, map, reverse, ap, subst, sym}
 use Rattle.std.specs.Prelude.{IfSome}
 use Rattle.std.proofs.lemmas.List.{append-nil}
 use Rattle.gz_names.specs.Zones.{zones_in}
@@ -9,6 +9,7 @@ use Rattle.judge.specs.Cells.{Cells, HasColours, LetsGo}
 use Rattle.judge.specs.Former.{Releases}
 use Rattle.judge.specs.Stages.{Ends, HasGroups, IsFirstGroup, Shown, Stage, shown, stage_of}
 use Rattle.judge.specs.Walks.{CatchesUp, Walks, walks_of}
+use Rattle.judge.specs.Weak.{if_present}
 use Rattle.judge.specs.Whites.{AreByArena}
 use Rattle.judge.specs.declared.collection.GroupEnd.{GroupEnd}
 use Rattle.judge.specs.declared.former.Former.{Former}
@@ -68,5 +69,7 @@ returns-then-is_same c =
           );
         };
         tally_is = ap tally_of c.in_ok-end_group.ensures.tally ∙ ap (λ (s : Shown). s.tally) same;
+        slots_are = c.in_ok-end_group.ensures.weak
+            ∙ ap (λ (s : Shown). map (if_present after.places) s.weak.slots) same;
       },
     )

@@ -1,4 +1,4 @@
-use Rattle.std.proofs.Common.{◌≡◌, ◌∙◌, ◌++◌, ℕ, List, Option, reverse, ap, subst, sym}
+use Rattle.std.proofs.Common.{◌≡◌, ◌∙◌, ◌++◌, ℕ, List, Option, map, reverse, ap, subst, sym}
 use Rattle.std.proofs.lemmas.Result.{on_ok_weaker}
 use Rattle.gz_names.specs.Zones.{zones_in}
 use Rattle.gz_names.specs.declared.names.Name.{Name}
@@ -7,9 +7,11 @@ use Rattle.judge.specs.Arenas.{owners_in}
 use Rattle.judge.specs.Cells.{Cells, LetsGo}
 use Rattle.judge.specs.Former.{Releases}
 use Rattle.judge.specs.Walks.{walks_of}
+use Rattle.judge.specs.Weak.{if_present}
 use Rattle.judge.specs.Whites.{AreByArena}
 use Rattle.judge.specs.declared.arenas.Arenas.{Arenas}
 use Rattle.judge.specs.declared.former.Former.{Former}
+use Rattle.judge.specs.declared.weak.WeakNames.{WeakNames}
 use Rattle.judge.specs.declared.whites.Whites.{Whites}
 use Rattle.judge.specs.declared.world.World.{World}
 use Rattle.judge.proofs.Results.{on_ok_known}
@@ -70,3 +72,13 @@ pub returns-clause-tally : goal.returns-clause-tally
 returns-clause-tally c =
     on_ok_weaker c.settle.result (λ e. e ∙ ap (λ (w : World). w.tally) c.end_first.ensures.rest
     ∙ c.in_ok-let_go.ensures.tally) c.settle.ensures.tally
+
+pub returns-clause-weak : goal.returns-clause-weak
+returns-clause-weak c =
+    let mid = c.let_go.new.self.places in
+    let same : c.settle.new.self.places ≡ mid =
+    c.settle.ensures.places ∙ ap (λ (w : World). w.places) c.end_first.ensures.rest in
+    on_ok_weaker c.settle.result (λ e. ap (λ (w : WeakNames). w.slots)
+    (e ∙ ap (λ (w : World). w.weak) c.end_first.ensures.rest) ∙ c.lose.ensures
+    ∙ ap (λ (w : WeakNames). map (if_present mid) w.slots) c.in_ok-let_go.ensures.weak
+    ∙ ap (λ (cells : Cells). map (if_present cells) c.args.self.now.weak.slots) (sym same)) c.settle.ensures.weak

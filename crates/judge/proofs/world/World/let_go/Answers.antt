@@ -10,6 +10,7 @@ loop-name-init c = record {
   whites = refl;
   arenas = record { owners = refl; out = refl };
   tally = refl;
+  weak = refl;
   places = lets_none _;
 }
 
@@ -24,6 +25,7 @@ loop-name-preserved c = record {
     out = c.in_ok-let_one_go.ensures.arenas.out ∙ c.loop-name.invariant.arenas.out;
   };
   tally = c.in_ok-let_one_go.ensures.tally ∙ c.loop-name.invariant.tally;
+  weak = c.in_ok-let_one_go.ensures.weak ∙ c.loop-name.invariant.weak;
   places = lets_more _ c.loop-name.self.places c.let_one_go.new.self.places c.args.whites.now c.loop-name.name-index _
       c.loop-name-test.true c.loop-name.invariant.places c.in_ok-let_one_go.ensures.places;
 }

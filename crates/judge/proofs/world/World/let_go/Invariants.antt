@@ -11,5 +11,6 @@ invariant-loop-name l = record {
   whites : l.self.whites ≡ l.fn.self.whites;
   arenas : AreSameArenas l.fn.self.arenas l.self.arenas;
   tally : l.self.tally ≡ l.fn.self.tally;
+  weak : l.self.weak ≡ l.fn.self.weak;
   places : LetsGo (take l.name-index l.whites) l.fn.self.places l.self.places;
 }

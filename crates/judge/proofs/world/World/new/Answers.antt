@@ -12,4 +12,5 @@ returns c = record {
   taken = c.new.ensures.kept;
   none_found = refl;
   none_black = c.new-5.ensures;
+  none_named = c.new-7.ensures;
 }
