@@ -2,13 +2,14 @@
 """Measures collections by two markers beside collections by one, and prints one table.
 
     ./gczone prove                               # proves and builds the program
-    bench/markers.py [--cells N,..] [--rounds N] [--only HEAP,..] [--program PATH]
+    bench/markers.py [--cells N,..] [--rounds N] [--only HEAP,..] [--program PATH] [--beside PATH]
 
 A heap of --cells cells (1,000,000 and 10,000,000) is made, all of which live, and then `collect` comes --rounds times
 (7), each timed by the wall clock from the line that is sent to its last reply, so with the sweeping of all arenas. The
 programs with one and with two markers take turns, a round each; no helper sweeps. A figure is the quickest round, in
-nanoseconds a cell, with the slowest in brackets. Two markers need two free processors: say nothing of times but what
-one run on one machine shows. Both must write the same; the exit status is 1 if they do not.
+nanoseconds a cell, with the slowest in brackets. With --beside a second program, an older one say, takes turns with
+them, by one marker and without the option --markers. Two markers need two free processors: say nothing of times but
+what one run on one machine shows. All must write the same; the exit status is 1 if they do not.
 """
 
 import hashlib
@@ -69,8 +70,7 @@ CHUNK = 1 << 20
 class Running:
     """A program that has answered a trace, and waits for more lines."""
 
-    def __init__(self, program, markers, trace, lines):
-        words = [str(program), "run", "--helpers", "0", "--markers", str(markers)]
+    def __init__(self, words, trace, lines):
         self.process = subprocess.Popen(words, stdin=subprocess.PIPE, stdout=subprocess.PIPE)
         self.seen = hashlib.sha256()
         feeder = threading.Thread(target=self.feed, args=(trace,), daemon=True)
@@ -108,17 +108,24 @@ class Running:
         return self.process.wait()
 
 
-def measure(program, folder, name, cells, rounds):
-    """Prints the row of a heap, and answers whether both numbers of markers wrote the same."""
+def commands_of(program, beside):
+    """What starts each of the programs that take turns: two markers come last."""
+    run = [str(program), "run", "--helpers", "0"]
+    older = [[str(beside), "run", "--helpers", "0"]] if beside else []
+    return [*older, *([*run, "--markers", str(markers)] for markers in MARKERS)]
+
+
+def measure(commands, folder, name, cells, rounds):
+    """Prints the row of a heap, and answers whether all programs wrote the same."""
     trace = folder / "trace"
     lines = write_trace(trace, made(name, cells))
-    programs = [Running(program, markers, trace, lines) for markers in MARKERS]
+    programs = [Running(words, trace, lines) for words in commands]
     times = [[running.collect() * 1e9 / cells for running in programs] for _ in range(rounds)]
     if any(running.finish() for running in programs):
-        raise Fault("the program failed", 1)
-    one, two = zip(*times)
-    figures = (f"{min(each):.1f} ({max(each):.1f})" for each in (one, two))
-    print_row(name, f"{cells:,}", *figures, f"{min(one) / min(two):.2f}")
+        raise Fault("a program failed", 1)
+    *others, two = zip(*times)
+    figures = (f"{min(each):.1f} ({max(each):.1f})" for each in (*others, two))
+    print_row(name, f"{cells:,}", *figures, *(f"{min(each) / min(two):.2f}" for each in others))
     return len({running.seen.digest() for running in programs}) == 1
 
 
@@ -133,6 +140,7 @@ def main():
     words.add_argument("--rounds", type=at_least(1), default=7, metavar="N", help="collections of each heap (7)")
     words.add_argument("--only", help="heaps, with a comma between two")
     words.add_argument("--program", type=Path, help="the gczone to measure")
+    words.add_argument("--beside", type=Path, metavar="PATH", help="another gczone, measured by one marker")
     given = words.parse_args()
     try:
         sizes = [int(size) for size in given.cells.split(",")]
@@ -140,12 +148,14 @@ def main():
         raise Fault(f"{given.cells} is no list of numbers of cells", 2) from None
     names = names_of(given.only, HEAPS)
     with tempfile.TemporaryDirectory() as folder:
-        program = find_program(given.program)
-        print_head("heap", "cells", "one marker: ns a cell", "two markers", "ratio")
+        commands = commands_of(find_program(given.program), given.beside)
+        older = ["the other program: ns a cell"] if given.beside else []
+        ratios = ["other to two"] if given.beside else []
+        print_head("heap", "cells", *older, "one marker: ns a cell", "two markers", *ratios, "one to two")
         cases = [(name, size) for size in sizes for name in names]
         with Progress("heaps", len(cases)) as progress:
             differing = [
-                case for case in progress.over(cases) if not measure(program, Path(folder), *case, given.rounds)
+                case for case in progress.over(cases) if not measure(commands, Path(folder), *case, given.rounds)
             ]
     if differing:
         raise Fault(f"the outputs differ: {', '.join(f'{name} of {size:,}' for name, size in differing)}", 1)
