@@ -19,8 +19,8 @@ sys.path[:0] = [str(TOP / "tools"), str(TOP / "tools/tests")]
 from program import find_program  # noqa: E402 (the folder of tools is no package)
 from test_tools import run_tool  # noqa: E402
 
-# gcjudge has no rules for these.
-NOT_JUDGED = re.compile("(watch|unwatch|compact) ")
+# gcjudge has no rules for this.
+NOT_JUDGED = re.compile("compact ")
 
 TWO_GRAY = """\
 > zone
@@ -55,6 +55,43 @@ ok
 > collect 0
 started
 groups 0
+"""
+# Two watched cells, of which a gray slot keeps one.
+WATCHED = """\
+> zone
+zone 0
+> comp 0
+comp 0
+> new r0 0 0
+cell 0
+> new r1 0 0
+cell 1
+> watch r0
+ok
+> watch r1
+ok
+> hold g0 r0
+ok
+> drop r0
+ok
+> drop r1
+ok
+> collect 0
+started
+groups 0
+ended 0 gray 0
+told 1
+swept 0 1
+done
+collected
+> expose r0 g0
+0
+> unwatch r0
+ok
+> unwatch r0
+absent
+> unwatch r1
+empty
 """
 COLLECTED = "> collect 0\nstarted\ngroups 0\nended 0 gray 0 1\nswept 0 -\ndone\ncollected\n"
 # The target of a wrapper of another zone is gray, and keeps the wrapper, which is a key of a map that is black.
@@ -145,6 +182,18 @@ class Judge(unittest.TestCase):
         self.check_wrong(WEAK + "ended 0 gray 0\n", 14, kind)
         ends = WEAK + "ended 0 gray -\nswept 0 0\ndone\ncollected\n> deref r1 q0\n0\n"
         self.check_wrong(ends, 19, 'reply, due is "null"')
+
+    def test_watched_cells_are_told_as_they_die(self):
+        self.assertEqual(judged(WATCHED), ("lawful\n", 0))
+
+    def test_watched_cells_that_are_told_otherwise(self):
+        due = 'report, due is "told 1"'
+        self.check_wrong(WATCHED.replace("told 1\n", ""), 23, due)
+        self.check_wrong(WATCHED.replace("told 1", "told 0 1"), 23, due)
+        self.check_wrong(WATCHED.replace("told 1\n", "told 1\ntold 1\n"), 24, 'report, due is "swept 0 1"')
+        self.check_wrong(WATCHED.replace("absent", "ok"), 32, 'reply, due is "absent"')
+        sliced = WATCHED.replace("> collect 0", "> gc 0\ngc ok\n> slice 3")
+        self.check_wrong(sliced.replace("told 1\n", "slice 3\n"), 25, 'report, due is "told .."')
 
     def test_a_lawful_transcript(self):
         self.assertEqual(judged(TWO_GRAY + COLLECTED), ("lawful\n", 0))

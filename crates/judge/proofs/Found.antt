@@ -15,6 +15,7 @@ use Rattle.plain_graph.specs.Reach.{Follows, IsDone, WalkState}
 use Rattle.judge.specs.Cells.{Cells, Colours, HasCell, HasColours, IsGray, IsGrayBy, IsWhite, IsWhiteBy, LetsGo}
 use Rattle.judge.specs.Sound.{IsWalked}
 use Rattle.judge.specs.Stages.{AreWhitesIn, Shown}
+use Rattle.judge.specs.Weak.{IsWatched, is_watched}
 use Rattle.judge.specs.Whites.{AreByArena, lies_in, whites_in}
 use Rattle.judge.specs.Walks.{CatchesUp, IsFoundBlack, IsFoundLive, Walks}
 use Rattle.judge.specs.declared.collection.GroupEnd.{GroupEnd}
@@ -152,6 +153,26 @@ whites_of g old before after end whites known has by arena =
     (λ x h. (h.0.0, (h.0.1.0, λ f. h.0.1.1 ((live x).1 f)), h.1))
     (λ x h. ((h.0, (h.1.0, λ c. h.1.1 ((live x).0 c))), h.2))
     (lists_left (lies_in old.cells arena) White end.whites.items has.whites))
+  where
+    live : (x : Name) → Contains after.live.names x ↔ IsFoundLive old.former.graph before x
+    live = live_is old.former.graph before after known.caught known.live
+
+-- the white cells that are watched
+pub told_of : (g : GraphState) (old : Shown) (before after : Walks) (end : GroupEnd) (told : List Name)
+    → HasCaught old.former.graph before after → HasColours g old.cells after.black.names after.live.names end
+    → told ≡ filter (is_watched old.weak) end.whites.items
+    → Lists (λ x. (HasCell old.cells x × IsWhite g (zones_in end.zones) old.former.graph before x)
+    × IsWatched old.weak x) told
+told_of g old before after end told known has is =
+    let zones = zones_in end.zones in
+    let White = λ (x : Name). HasCell old.cells x × IsWhiteBy g zones after.live.names x in
+    let Told = λ (x : Name). (HasCell old.cells x × IsWhite g zones old.former.graph before x)
+    × IsWatched old.weak x in
+    subst (λ xs. Lists Told xs) (sym is)
+    (lists_as (λ x. White x × IsTrue (is_watched old.weak x)) Told (filter (is_watched old.weak) end.whites.items)
+    (λ x h. ((h.0.0, (h.0.1.0, λ f. h.0.1.1 ((live x).1 f))), h.1))
+    (λ x h. ((h.0.0, (h.0.1.0, λ c. h.0.1.1 ((live x).0 c))), h.1))
+    (lists_left (is_watched old.weak) White end.whites.items has.whites))
   where
     live : (x : Name) → Contains after.live.names x ↔ IsFoundLive old.former.graph before x
     live = live_is old.former.graph before after known.caught known.live

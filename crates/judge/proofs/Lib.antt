@@ -24,3 +24,4 @@ pub mod DumpLines
 pub mod Sound
 pub mod Starts
 pub mod Taking
+pub mod Watching

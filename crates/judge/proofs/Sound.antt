@@ -9,15 +9,15 @@ use Rattle.gz_names.specs.declared.commands.WeakCmd.{WeakCmd}
 use Rattle.gz_names.specs.declared.commands.WeakCmd.TheVariants as weak_command
 use Rattle.gz_names.specs.declared.replies.Report.{Report}
 use Rattle.gz_names.specs.declared.replies.Report.TheVariants as report
-use Rattle.colour_defs.specs.Graph.{GraphState, empty_graph}
+use Rattle.colour_defs.specs.Graph.{GraphState, empty_graph, register_cell}
 use Rattle.plain_graph.specs.Reach.{WalkState}
 use Rattle.judge.specs.Cells.{wakes}
 use Rattle.judge.specs.Former.{IsFormer, Releases, changed}
-use Rattle.judge.specs.Replies.{Asks, AsksWeak, graph_after_weak}
+use Rattle.judge.specs.Replies.{Asks, AsksUnwatch, AsksWatch, AsksWeak, graph_after_weak}
 use Rattle.judge.specs.Replies.{Begins, Due, IsAnswered, IsLast, Steps, graph_after, dump, nothing, reply}
 use Rattle.judge.specs.Replies.{resets, units}
 use Rattle.judge.specs.Sound.{IsSound, IsWalked}
-use Rattle.judge.specs.Stages.{EndsGroup, Forms, HasGroups, IsFirst, IsReported, IsResetReport}
+use Rattle.judge.specs.Stages.{EndsGroup, Forms, HasGroups, IsFirst, IsReported, IsReportedLine, IsResetReport}
 use Rattle.judge.specs.Stages.{Changes, Shown, Stage, Starts, Sweeps, WakesAny, collecting, idle, preparing}
 use Rattle.judge.specs.Walks.{CatchUp, CatchesUp, Walks}
 use Rattle.judge.specs.Weak.{weak_slot}
@@ -70,10 +70,10 @@ sound_changes k g x old new o is =
           };
     }
 
--- a weak slot names another cell
-sound_named : (g : GraphState) (old new : Shown) (weak : WeakNames) → new ≡ record old { weak = weak } → IsSound g old
-    → IsSound g new
-sound_named g old new weak same is = subst (IsSound g) (sym same)
+-- weak names, and the watched cells that wait for a line, change alone
+sound_beside : (g : GraphState) (old new : Shown) (weak : WeakNames) (told : List Name)
+    → new ≡ record old { weak = weak; told = told } → IsSound g old → IsSound g new
+sound_beside g old new weak told same is = subst (IsSound g) (sym same)
     (record {
       former = is.former;
       none_kept = is.none_kept;
@@ -82,13 +82,24 @@ sound_named g old new weak same is = subst (IsSound g) (sym same)
           let f = is.walks w e left in record { kept = f.kept; black = f.black; live = f.live };
     })
 
+sound_watch : (g : GraphState) (x : Option Name) (due : Due) (old new : Shown) → AsksWatch x old due new → IsSound g old
+    → IsSound g new
+sound_watch g None due old new (d, same) is = sound_same g old new same is
+sound_watch g (Some x) due old new (d, same, w) is = sound_beside g old new new.weak old.told same is
+
+sound_unwatch : (g : GraphState) (x : Option Name) (due : Due) (old new : Shown) → AsksUnwatch x old due new
+    → IsSound g old → IsSound g new
+sound_unwatch g None due old new (d, same) is = sound_same g old new same is
+sound_unwatch g (Some x) due old new (inl (was, d, same)) is = sound_same g old new same is
+sound_unwatch g (Some x) due old new (inr (was, d, same, w)) is = sound_beside g old new new.weak old.told same is
+
 sound_weak : (g : GraphState) (c : WeakCmd) (due : Due) (old new : Shown) → AsksWeak g old c due new → IsSound g old
     → IsSound (graph_after_weak g old c) new
-sound_weak g (weak_command.Weaken q r) due old new (d, same) is = sound_named g old new _ same is
+sound_weak g (weak_command.Weaken q r) due old new (d, same) is = sound_beside g old new _ old.told same is
 sound_weak g (weak_command.Deref r q) due old new (d, taken) is =
     sound_changes (change.Take r (weak_slot old.weak q)) g _ old new taken.changes is
-sound_weak g (weak_command.Watch r) due old new none is = absurd none
-sound_weak g (weak_command.Unwatch r) due old new none is = absurd none
+sound_weak g (weak_command.Watch r) due old new asked is = sound_watch g (register_cell g r) due old new asked is
+sound_weak g (weak_command.Unwatch r) due old new asked is = sound_unwatch g (register_cell g r) due old new asked is
 
 -- a collection begins, or is refused
 sound_begins : (g : GraphState) (zones : ZoneSet) (begun due : Due) (old new : Shown) → Begins g zones begun old due new
@@ -244,7 +255,7 @@ sound_reset g (report.Stopped zones) old new s is =
 -- units are counted
 sound_last : (g : GraphState) (most : Option ℕ) (collects : Bool) (reports : ℕ) (old new : Shown) (line : List ℕ)
     → IsLast most collects reports old line new → IsSound g old → IsSound g new
-sound_last g most true reports old new line (text, stage, same) is = sound_same g old new same is
+sound_last g most true reports old new line (text, stage, same, none) is = sound_same g old new same is
 sound_last g most false reports old new line sliced is = subst (IsSound g) (sym sliced.spends.new_is)
     (record {
       former = is.former;
@@ -254,13 +265,19 @@ sound_last g most false reports old new line sliced is = subst (IsSound g) (sym 
           let f = is.walks w e left in record { kept = f.kept; black = f.black; live = f.live };
     })
 
+-- a report of a unit, or the line that tells watched cells
+sound_line : (g : GraphState) (old new : Shown) (line : List ℕ) → IsReportedLine g old line new → IsSound g old
+    → IsSound g new
+sound_line g old new line (inl (r, text, reported, none)) is = sound_reported g r old new reported is
+sound_line g old new line (inr (text, same)) is = sound_beside g old new old.weak [] same is
+
 sound_answered : (g : GraphState) (old new : Shown) (due next : Due) (line : List ℕ)
     → IsAnswered g old due line new next → IsSound g old → IsSound g new
 sound_answered g old new nothing next line a is = absurd a
 sound_answered g old new (reply text) next line (e, n, same) is = sound_same g old new same is
 sound_answered g old new (dump lines) next line (d, same) is = sound_same g old new same is
-sound_answered g old new (units most collects reports) next line (inl ((r, text, reported), more, counts, n)) is =
-    sound_reported g r old new reported is
+sound_answered g old new (units most collects reports) next line (inl (reported, more, counts, n)) is =
+    sound_line g old new line reported is
 sound_answered g old new (units most collects reports) next line (inr (l, n)) is =
     sound_last g most collects reports old new line l is
 sound_answered g old new resets next line ((r, text, reported), n) is = sound_reset g r old new reported is

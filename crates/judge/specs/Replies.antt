@@ -1,7 +1,8 @@
 -- What a verdict says: each line of the trace is one of the language; each command on the graph has the reply that the
 -- definitions give it; a collection begins, goes on, ends and is refused as they say; and each answer has its last
 -- line, behind the reports that its collection is due, in their order, with the cells that they name.
-use Rattle.std.specs.Prelude.{◌≡◌, ◌≢◌, ◌⊎◌, ℕ, ◌+◌, ◌^◌, ◌<◌, ◌≤◌, Bool, true, false, List, [], ◌∷◌, drop, Option}
+use Rattle.std.specs.Prelude.{◌≡◌, ◌≢◌, ◌⊎◌, ℕ, ◌+◌, ◌^◌, ◌<◌, ◌≤◌, Bool, true, false, List, [], ◌∷◌, ◌++◌, drop}
+use Rattle.std.specs.Prelude.{Option}
 use Rattle.std.specs.Prelude.{Some, None, Result, Ok, Err, Contains, codes, ⊤}
 use Rattle.gz_io.specs.Lines.{EndsLine}
 use Rattle.gz_names.specs.Zones.{HasZone, zones_in}
@@ -26,7 +27,7 @@ use Rattle.judge.specs.Dumps.{ListsDump}
 use Rattle.judge.specs.Lines.{IsOneLine}
 use Rattle.judge.specs.Stages.{Stage, idle, preparing, collecting, Shown, IsFirst, IsOver, IsSettled, IsReportedLine}
 use Rattle.judge.specs.Stages.{IsResetLine, Obeys, Spends, TakesNamed}
-use Rattle.judge.specs.Weak.{weak_slot, with_weak_slot}
+use Rattle.judge.specs.Weak.{Unwatches, Watches, is_watched, weak_slot, with_weak_slot}
 use Rattle.judge.specs.declared.answers.Awaited.{Awaited}
 use Rattle.judge.specs.declared.answers.Awaited.TheVariants as awaited
 
@@ -39,8 +40,8 @@ abbrev pub IsUnmarked : List ℕ → Type 0
 IsUnmarked line = (text : List ℕ) → line ≡ marked text → ⊥
 
 -- what is due: nothing; this line; these lines of a dump; reports and a last line, with the most units that a
--- slice may have, whether the line is that of `collect`, and how many reports came before, but for `done`; or the
--- reports of a reset
+-- slice may have, whether the line is that of `collect`, and how many reports came before, but for `told` and `done`;
+-- or the reports of a reset
 pub data Due : Type 0 where
   nothing : Due
   reply : List ℕ → Due
@@ -95,13 +96,7 @@ Dumps g s due =
     (IsSettled s.stage × (lines : List DumpLine) × ListsDump g s lines × (due ≡ dump lines))
     ⊎ ((IsSettled s.stage → ⊥) × (due ≡ refused refusal.Marking))
 
--- there are rules for all commands but those on watched cells, and compactions
-abbrev pub IsJudgedWeak : WeakCmd → Type 0
-IsJudgedWeak (weak_command.Weaken q r) = ⊤
-IsJudgedWeak (weak_command.Deref r q) = ⊤
-IsJudgedWeak (weak_command.Watch r) = ⊥
-IsJudgedWeak (weak_command.Unwatch r) = ⊥
-
+-- there are rules for all commands but compactions
 abbrev pub IsJudged : Cmd → Type 0
 IsJudged (command.Graph c) = ⊤
 IsJudged (command.Gc zones) = ⊤
@@ -111,19 +106,32 @@ IsJudged (command.Collect zones) = ⊤
 IsJudged command.Colours = ⊤
 IsJudged command.Dump = ⊤
 IsJudged command.Reset = ⊤
-IsJudged (command.Weak c) = IsJudgedWeak c
+IsJudged (command.Weak c) = ⊤
 IsJudged (command.Compact zone) = ⊥
 
--- what is due for a command on weak slots. A weak slot names what a register holds, or becomes empty; a register takes
--- what a weak slot names, or becomes empty
+-- what is due for `watch` and `unwatch`, by what their register holds
+abbrev pub AsksWatch : Option Name → Shown → Due → Shown → Type 0
+AsksWatch None old due new = (due ≡ refused refusal.Empty) × (new ≡ old)
+AsksWatch (Some x) old due new =
+    (due ≡ reply (reply_text answer.Accepted)) × (new ≡ record old { weak = new.weak }) × Watches old.weak x new.weak
+
+abbrev pub AsksUnwatch : Option Name → Shown → Due → Shown → Type 0
+AsksUnwatch None old due new = (due ≡ refused refusal.Empty) × (new ≡ old)
+AsksUnwatch (Some x) old due new =
+    ((is_watched old.weak x ≡ false) × (due ≡ reply (reply_text answer.Absent)) × (new ≡ old))
+    ⊎ ((is_watched old.weak x ≡ true) × (due ≡ reply (reply_text answer.Accepted))
+    × (new ≡ record old { weak = new.weak }) × Unwatches old.weak x new.weak)
+
+-- what is due for a command on weak slots and watched cells. A weak slot names what a register holds, or becomes
+-- empty; a register takes what a weak slot names, or becomes empty
 abbrev pub AsksWeak : GraphState → Shown → WeakCmd → Due → Shown → Type 0
 AsksWeak g old (weak_command.Weaken q r) due new =
     (due ≡ reply (reply_text answer.Accepted))
     × (new ≡ record old { weak = with_weak_slot old.weak q (register_cell g r) })
 AsksWeak g old (weak_command.Deref r q) due new =
     (due ≡ reply (reply_text (named_or_null (weak_slot old.weak q)))) × TakesNamed g r (weak_slot old.weak q) old new
-AsksWeak g old (weak_command.Watch r) due new = ⊥
-AsksWeak g old (weak_command.Unwatch r) due new = ⊥
+AsksWeak g old (weak_command.Watch r) due new = AsksWatch (register_cell g r) old due new
+AsksWeak g old (weak_command.Unwatch r) due new = AsksUnwatch (register_cell g r) old due new
 
 -- what is due for a command, by what the world shows before it and after it
 abbrev pub Asks : GraphState → Shown → Cmd → Due → Shown → Type 0
@@ -163,20 +171,23 @@ abbrev pub IsWithin : Option ℕ → ℕ → Stage → Type 0
 IsWithin None k s = s ≡ idle
 IsWithin (Some n) k s = (k ≤ n) × (k < n → s ≡ idle)
 
--- the last line of a slice names a number of units that 64 bits hold: at least one for each report but `done`. It does
--- not come between the last arena and `done`, and the units keep the bound
+-- the last line of a slice names a number of units that 64 bits hold: at least one for each report but `told` and
+-- `done`. It does not come before a `told` line that is due, nor between the last arena and `done`, and the units keep
+-- the bound
 pub record IsSliced (most : Option ℕ) (reports : ℕ) (old : Shown) (line : List ℕ) (new : Shown) : Type 0 where
   pub number : ℕ
   pub small : number < 2 ^ 64
   pub line_is : line ≡ reply_text (answer.Sliced number)
   pub enough : reports ≤ number
+  pub none_told : old.told ≡ []
   pub not_over : IsOver old → ⊥
   pub within : IsWithin most number old.stage
   pub spends : Spends old number new
 
 -- the last line of an answer with units. That of `collect` comes once the collection is over
 abbrev pub IsLast : Option ℕ → Bool → ℕ → Shown → List ℕ → Shown → Type 0
-IsLast most true reports old line new = (line ≡ codes "collected") × (old.stage ≡ idle) × (new ≡ old)
+IsLast most true reports old line new =
+    (line ≡ codes "collected") × (old.stage ≡ idle) × (new ≡ old) × (old.told ≡ [])
 IsLast most false reports old line new = IsSliced most reports old line new
 
 -- the texts that a last line may have
@@ -184,10 +195,14 @@ abbrev pub HasLastText : Bool → List ℕ → Type 0
 HasLastText true line = line ≡ codes "collected"
 HasLastText false line = (k : ℕ) × (line ≡ reply_text (answer.Sliced k))
 
--- how many reports came, but for `done`, with this one
+-- a report that comes with another one
+abbrev pub IsUncounted : List ℕ → Type 0
+IsUncounted line = (line ≡ codes "done") ⊎ ((rest : List ℕ) × (line ≡ codes "told " ++ rest))
+
+-- how many reports came, but for `told` and `done`, with this one
 abbrev pub Counts : ℕ → List ℕ → ℕ → Type 0
 Counts reports line more =
-    ((line ≡ codes "done") × (more ≡ reports)) ⊎ ((line ≢ codes "done") × (more ≡ reports + 1))
+    (IsUncounted line × (more ≡ reports)) ⊎ ((IsUncounted line → ⊥) × (more ≡ reports + 1))
 
 -- what is due after some lines of a dump
 abbrev pub dump_due : List DumpLine → Due

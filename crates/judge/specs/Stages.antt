@@ -17,7 +17,7 @@ use Rattle.colour_defs.specs.Graph.{GraphState, empty_graph, zone_of}
 use Rattle.colour_defs.specs.Step.{refusal_in, step_of, with_register}
 use Rattle.colour_defs.specs.Units.{MeetsUnitBound, Tally, sweeps_in, unit_limit, with_put, with_woken}
 use Rattle.colour_defs.specs.World.{woken_by}
-use Rattle.trace_lang.specs.Texts.{report_text}
+use Rattle.trace_lang.specs.Texts.{report_text, told_text}
 use Rattle.judge.specs.Arenas.{Grows, owners_in}
 use Rattle.judge.specs.Cells.{Cells, Colours, GivesPlaces, HasCell, IsWhite, wakes, woken_in}
 use Rattle.judge.specs.Former.{IsFormer, Keeps, Releases, Takes}
@@ -28,7 +28,7 @@ use Rattle.judge.specs.Starts.{IsBegun}
 use Rattle.plain_graph.specs.Indexed.{order_of}
 use Rattle.plain_graph.specs.Reach.{WalkState}
 use Rattle.judge.specs.Walks.{CatchUp, CatchesUp, GoesOnFrom, Walks, walks_of}
-use Rattle.judge.specs.Weak.{if_present}
+use Rattle.judge.specs.Weak.{AreUnwatched, IsWatched, if_present}
 use Rattle.judge.specs.Whites.{Clears, lies_in, whites_in}
 use Rattle.judge.specs.declared.whites.Whites.{Whites}
 use Rattle.judge.specs.declared.weak.WeakNames.{WeakNames}
@@ -51,7 +51,8 @@ pub data Stage : Type 0 where
 
 -- a stage, whose the arenas are, those that are out, the lowest first, and the white cells that are not yet swept; the
 -- present cells, what is black while no zone is marking, the graph as it stood when marking began, and what was found
--- since; what is counted for the bound on units; and what weak slots name
+-- since; what is counted for the bound on units; what weak slots name and which cells are watched; and the watched
+-- cells that died with the group that ended last, until a line tells them
 pub record Shown : Type 0 where
   pub stage : Stage
   pub owners : List (Option ℕ)
@@ -63,6 +64,7 @@ pub record Shown : Type 0 where
   pub walks : Option Walks
   pub tally : Tally
   pub weak : WeakNames
+  pub told : List Name
 
 abbrev pub groups_in : Option (Vec ZoneSet Global) → Option (List ZoneSet)
 groups_in None = None
@@ -89,6 +91,7 @@ shown w = record {
   walks = walks_of w.phase;
   tally = tally_of w.tally;
   weak = w.weak;
+  told = w.told;
 }
 
 -- nothing has happened yet
@@ -102,6 +105,8 @@ pub record IsFirst (s : Shown) : Type 0 where
   pub none_found : s.walks ≡ None
   pub none_black : s.black ≡ record { names = []; next = 0 }
   pub none_named : s.weak.slots ≡ replicate 64 None
+  pub none_watched : s.weak.watched.keys ≡ []
+  pub none_told : s.told ≡ []
 
 -- the zones that are being prepared or are marking
 abbrev pub unfinished_in : Stage → ZoneSet
@@ -182,6 +187,7 @@ pub record Changes (k : Change) (h : GraphState) (x : Option Name) (old new : Sh
   pub out_is : new.out ≡ old.out
   pub whites_is : new.whites ≡ old.whites
   pub weak_is : new.weak ≡ old.weak
+  pub told_is : new.told ≡ old.told
 
 -- a register takes what a weak slot names, which is woken as what a gray slot hands out is
 pub record TakesNamed (g : GraphState) (r : ℕ) (x : Option Name) (old new : Shown) : Type 0 where
@@ -279,8 +285,16 @@ AreWhitesIn g zones old walks arena names =
     Lists (λ x. HasCell old.cells x × IsWhite g zones old.former.graph walks x
     × IsTrue (lies_in old.cells arena x)) names
 
+-- weak slots lose what is present no longer; of the white cells those that were watched wait for a line that tells
+-- them, and are watched no longer
+pub record LosesWeak (g : GraphState) (zones : List ℕ) (old : Shown) (walks : Walks) (new : Shown) : Type 0 where
+  pub slots_are : new.weak.slots ≡ map (if_present new.cells) old.weak.slots
+  pub told_are : Lists (λ x. (HasCell old.cells x × IsWhite g zones old.former.graph walks x)
+      × IsWatched old.weak x) new.told
+  pub watched_are : AreUnwatched old.weak new.told new.weak
+
 -- the first group that has not ended ends: its gray cells are named, its white ones are present no longer and wait to
--- be swept, each in its arena, weak slots lose them, and the arenas of its zones are out
+-- be swept, each in its arena, weak names lose them, and the arenas of its zones are out
 pub record EndsGroup (g : GraphState) (old : Shown) (group : ZoneSet) (grays : List Name) (new : Shown) : Type 0 where
   pub none_out : old.out ≡ []
   pub ends : Ends old.stage group new.stage
@@ -292,7 +306,7 @@ pub record EndsGroup (g : GraphState) (old : Shown) (group : ZoneSet) (grays : L
   pub whites_are : (arena : ℕ) → AreWhitesIn g (zones_in group) old walks arena (whites_in new.whites arena)
   pub goes_on : GoesOn old walks new
   pub tally_is : new.tally ≡ old.tally
-  pub slots_are : new.weak.slots ≡ map (if_present new.cells) old.weak.slots
+  pub loses : LosesWeak g (zones_in group) old walks new
 
 -- the lowest arena that is out is taken in, and its white cells are freed
 pub record Sweeps (old : Shown) (arena : ℕ) (freed : List Name) (new : Shown) : Type 0 where
@@ -326,9 +340,14 @@ IsReported g old (report.Swept arena freed) new = Sweeps old arena freed new
 IsReported g old report.Done new = Finishes old new
 IsReported g old (report.Stopped zones) new = ⊥
 
--- a line that is a report of a unit
+-- the line behind that of a group's end, which tells the watched cells that died with it
+abbrev pub IsToldLine : Shown → List ℕ → Shown → Type 0
+IsToldLine old line new = (told_text old.told ≡ 10 ∷ line) × (new ≡ record old { told = [] })
+
+-- a line that is a report of a unit, or the line that tells watched cells, which comes first where it is due
 abbrev pub IsReportedLine : GraphState → Shown → List ℕ → Shown → Type 0
-IsReportedLine g old line new = (r : Report) × (line ≡ report_text r) × IsReported g old r new
+IsReportedLine g old line new =
+    ((r : Report) × (line ≡ report_text r) × IsReported g old r new × (old.told ≡ [])) ⊎ IsToldLine old line new
 
 -- a line by which the groups are formed, and one by which a group ends
 abbrev pub IsGroupsLine : GraphState → Shown → List ℕ → Shown → Type 0

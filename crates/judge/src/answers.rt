@@ -1,10 +1,10 @@
 // The answer to one command: which of its lines come next.
 ghost use Rattle.std.specs.Prelude.{◌≡◌, ◌≢◌, ◌↔◌, ◌<◌, ◌≤◌, ◌^◌, ◌++◌, ℕ, Bool, IfNone, IfOk, IfSome, IsTrue, List};
-ghost use Rattle.std.specs.Prelude.{None, OnOk, Some, codes, drop, false, true, ◌∷◌, []};
+ghost use Rattle.std.specs.Prelude.{Decides, None, OnOk, Some, codes, drop, false, true, ◌∷◌, []};
 ghost use Rattle.std.specs.Fmt.{decimal};
 ghost use Rattle.gz_names.specs.declared.commands.WeakCmd.TheVariants as cmd;
 ghost use Rattle.gz_names.specs.declared.replies.Reply.TheVariants as the_reply;
-ghost use Rattle.colour_defs.specs.Graph.{GraphState};
+ghost use Rattle.colour_defs.specs.Graph.{GraphState, register_cell};
 ghost use Rattle.colour_defs.specs.Step.{step_of, with_register};
 ghost use Rattle.trace_lang.specs.Texts.{reply_text};
 ghost use Rattle.judge.specs.Sound.{IsSound};
@@ -12,7 +12,8 @@ ghost use Rattle.judge.specs.Stages.{IsOver, IsOverBound, IsReportedLine, IsRese
 ghost use Rattle.judge.specs.Stages.{shown, stage_of};
 ghost use Rattle.judge.specs.Replies.{Asks, Begins, Counts, Dumps, GoesOn, HasLastText, IsJudged, IsJudgedLine, IsLast};
 ghost use Rattle.judge.specs.Replies.{IsSliced, IsWithin, ListsGray, after_reset, begun_due, due_as, dump as dump_of};
-ghost use Rattle.judge.specs.Replies.{AsksWeak, IsJudgedWeak, graph_after, graph_after_weak, nothing, reply};
+ghost use Rattle.judge.specs.Replies.{AsksUnwatch, AsksWatch, AsksWeak, IsUncounted, graph_after, graph_after_weak};
+ghost use Rattle.judge.specs.Replies.{nothing, reply};
 ghost use Rattle.judge.specs.Replies.{resets, units as units_of};
 ghost use Rattle.judge.specs.Weak.{weak_slot};
 
@@ -39,7 +40,7 @@ pub struct Running {
     most: Option<u64>,
     /// Whether the last line is that of `collect`.
     collects: bool,
-    /// The reports so far, without `done`.
+    /// The reports so far, without `told` and `done`.
     reports: u64,
 }
 
@@ -100,9 +101,8 @@ fn follow(graph: &mut Graph, world: &mut World, command: &GraphCmd) -> Result<Aw
     only(world, &reply)
 }
 
-// A command on weak slots.
+// A command on weak slots and watched cells.
 fn weak(graph: &mut Graph, world: &mut World, command: &WeakCmd) -> Result<Awaited, NoMemory>
-    requires { IsJudgedWeak command.now }
     ensures asks { IfOk result (λ awaited. AsksWeak graph.old (shown world.old) command.now (due_as awaited)
         (shown world.new)) }
     ensures graph { OnOk result (graph.new ≡ graph_after_weak graph.old (shown world.old) command.now) }
@@ -113,7 +113,8 @@ fn weak(graph: &mut Graph, world: &mut World, command: &WeakCmd) -> Result<Await
             only(world, &Reply::Accepted)
         }
         WeakCmd::Deref(register, slot) => deref(graph, world, *register, *slot),
-        WeakCmd::Watch(_) | WeakCmd::Unwatch(_) => unreachable!(),
+        WeakCmd::Watch(register) => watch(graph, world, *register),
+        WeakCmd::Unwatch(register) => unwatch(graph, world, *register),
     }
 }
 
@@ -131,6 +132,31 @@ fn deref(
     let reply = take_in_register(graph, register, named);
     world.take_named(graph, register, named)?;
     only(world, &reply)
+}
+
+fn watch(graph: &Graph, world: &mut World, register: Reg) -> Result<Awaited, NoMemory>
+    ensures { IfOk result (λ awaited. AsksWatch (register_cell graph.now register) (shown world.old)
+        (due_as awaited) (shown world.new)) }
+{
+    let Some(name) = graph.register(register) else {
+        return only(world, &Reply::Refused(Refusal::Empty));
+    };
+    world.weak.watch(name)?;
+    only(world, &Reply::Accepted)
+}
+
+fn unwatch(graph: &Graph, world: &mut World, register: Reg) -> Result<Awaited, NoMemory>
+    ensures { IfOk result (λ awaited. AsksUnwatch (register_cell graph.now register) (shown world.old)
+        (due_as awaited) (shown world.new)) }
+{
+    let Some(name) = graph.register(register) else {
+        return only(world, &Reply::Refused(Refusal::Empty));
+    };
+    if !world.weak.is_watched(name) {
+        return only(world, &Reply::Absent);
+    }
+    world.weak.unwatch(name);
+    only(world, &Reply::Accepted)
 }
 
 fn begin(
@@ -365,13 +391,20 @@ fn is_last(running: Running, text: &[u8]) -> bool
     }
 }
 
-// A report more; `done` comes with the last one.
+// Whether a line is a report that comes with another one.
+fn is_uncounted(text: &[u8]) -> bool
+    ensures { Decides result (IsUncounted text.now) }
+{
+    is_same(text, b"done") || text.strip_prefix(b"told ".as_slice()).is_some()
+}
+
+// A report more; `done` comes with the last one, and `told` with the end of a group.
 fn with_report(running: Running, text: &[u8]) -> Result<Running, NoMemory>
     ensures most { IfOk result (λ more. more.most ≡ running.most) }
     ensures collects { IfOk result (λ more. more.collects ≡ running.collects) }
     ensures reports { IfOk result (λ more. Counts running.reports text.now more.reports) }
 {
-    if is_same(text, b"done") {
+    if is_uncounted(text) {
         return Ok(running);
     }
     Ok(Running {
@@ -398,7 +431,7 @@ fn next_report(
         };
         return Ok(Some(kinds::said(world.alloc, words)?));
     }
-    if running.most == Some(running.reports) && !world.is_over() {
+    if running.most == Some(running.reports) && !world.is_over() && world.has_told() {
         return Ok(Some(kinds::said(
             world.alloc,
             b"units, the slice has a report for each of its units, due is its last line",
@@ -415,6 +448,9 @@ fn last_line(world: &mut World, running: Running, text: &[u8]) -> Result<Fault, 
     ensures wrong { IfOk result (λ fault. IfSome fault (λ _. (new : Shown)
         → IsLast running.most running.collects running.reports (shown world.old) text.now new → ⊥)) }
 {
+    if !world.has_told() {
+        return Ok(Some(kinds::said(world.alloc, b"report, due is \"told ..\"")?));
+    }
     if world.is_over() {
         return Ok(Some(kinds::due(world.alloc, b"report", b"done")?));
     }
@@ -467,7 +503,8 @@ fn sliced(world: &World, text: &[u8]) -> Result<Option<u64>, NoMemory>
 }
 
 fn slice_line(world: &mut World, running: Running, text: &[u8]) -> Result<Fault, NoMemory>
-    requires { IsOver (shown world.old) → ⊥ }
+    requires over { IsOver (shown world.old) → ⊥ }
+    requires told { world.old.told ≡ [] }
     ensures right { IfOk result (λ fault. IfNone fault
         (IsSliced running.most running.reports (shown world.old) text.now (shown world.new))) }
     ensures wrong { IfOk result (λ fault. IfSome fault (λ _. (new : Shown)

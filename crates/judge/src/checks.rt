@@ -1,9 +1,9 @@
 // The checks of reports, by the definitions: which report is due, and what is wrong with another one.
-ghost use Rattle.std.specs.Prelude.{◌≡◌, ◌↔◌, ℕ, [], ◌∷◌, IfNone, IfOk, IfSome, IsTrue, List, OnOk, codes};
+ghost use Rattle.std.specs.Prelude.{◌≡◌, ◌↔◌, ℕ, [], ◌∷◌, IfNone, IfOk, IfSome, IsTrue, List, OnOk, codes, drop};
 ghost use Rattle.gz_names.specs.declared.names.Name.{Name as AName};
 ghost use Rattle.gz_names.specs.declared.zone_sets.ZoneSet.{ZoneSet as AZoneSet};
 ghost use Rattle.gz_names.specs.declared.replies.Report.TheVariants as the_report;
-ghost use Rattle.trace_lang.specs.Texts.{report_text};
+ghost use Rattle.trace_lang.specs.Texts.{report_text, told_text};
 ghost use Rattle.judge.specs.declared.world.DueReport.TheVariants as due;
 ghost use Rattle.judge.specs.Edges.{AreInOrder};
 ghost use Rattle.judge.specs.Parts.{AreParts, Fits};
@@ -11,6 +11,7 @@ ghost use Rattle.judge.specs.Sound.{IsSound};
 ghost use Rattle.judge.specs.Whites.{whites_in};
 ghost use Rattle.judge.specs.Walks.{CatchUp, CatchesUp, walks_in, walks_of};
 ghost use Rattle.judge.specs.Stages.{AreForbidden, Finishes, Forms, IsDue, IsEndedLine, IsGroupsLine, IsOver};
+ghost use Rattle.judge.specs.Stages.{IsToldLine};
 ghost use Rattle.judge.specs.Stages.{IsReportedLine, IsResetLine, Starts, Stops, Sweeps, shown, stage_in};
 
 use crate::collection::{Collection, GroupEnd};
@@ -34,6 +35,9 @@ pub fn judge_report(graph: &Graph, world: &mut World, line: &[u8]) -> Result<Fau
     ensures { IfOk result (λ fault. IfNone fault (IsReportedLine graph.now (shown world.old) line.now
         (shown world.new))) }
 {
+    if !world.has_told() {
+        return told(world, line);
+    }
     match world.due_report() {
         DueReport::Idle => none_due(world),
         DueReport::Started => started(graph, world, line),
@@ -99,6 +103,50 @@ fn done(world: &mut World, line: &[u8]) -> Result<Fault, NoMemory>
         return Ok(None);
     }
     Ok(Some(kinds::due(world.alloc, b"report", b"done")?))
+}
+
+// The line feed and the line that the writer of reports puts behind the end of a group, to tell these names; nothing
+// where there are none.
+fn told_text(world: &World) -> Result<Vec<u8>, NoMemory>
+    ensures { IfOk result (λ text. text.items ≡ told_text world.now.told) }
+{
+    let none = ended_line(world, &[])?;
+    let text = ended_line(world, world.told.as_slice())?;
+    rest_of(world.alloc, text.as_slice(), none.len())
+}
+
+// The report of a group without zones and gray cells that ends, and tells these names.
+fn ended_line(world: &World, told: &[Name]) -> Result<Vec<u8>, NoMemory>
+    ensures { IfOk result (λ text. text.items ≡ report_text (the_report.Ended (record { bits = 0 }) [] told.now)) }
+{
+    let told = listed(told, world)?;
+    let report = Report::Ended(ZoneSet::new(), NameList::new(world.alloc), told);
+    report_text(world.alloc, &report)
+}
+
+// What is behind the first bytes of a text.
+fn rest_of(alloc: Global, text: &[u8], first: usize) -> Result<Vec<u8>, NoMemory>
+    ensures { IfOk result (λ rest. rest.items ≡ drop first text.now) }
+{
+    match text.get(first..) {
+        None => Ok(Vec::new(alloc)),
+        Some(rest) => Vec::from_slice(alloc, rest),
+    }
+}
+
+// The line of the watched cells that died with a group.
+fn told(world: &mut World, line: &[u8]) -> Result<Fault, NoMemory>
+    ensures { IfOk result (λ fault. IfNone fault (IsToldLine (shown world.old) line.now (shown world.new))) }
+{
+    let text = told_text(world)?;
+    if let [b'\n', due @ ..] = text.as_slice() {
+        if is_same(line, due) {
+            world.told = NameList::new(world.alloc);
+            return Ok(None);
+        }
+        return Ok(Some(kinds::due(world.alloc, b"report", due)?));
+    }
+    none_due(world)
 }
 
 // The report of the lowest arena that is out.

@@ -1,6 +1,6 @@
 // A collection: its zones, what it finds black and live, its groups, and how many units it may take.
 ghost use Rattle.std.specs.Prelude.{◌≡◌, ◌↔◌, ◌<◌, ◌++◌, ℕ, Contains, IfNone, IfOk, IfSome, IsTrue, List, None, OnOk};
-ghost use Rattle.std.specs.Prelude.{Some, drop, map, reverse};
+ghost use Rattle.std.specs.Prelude.{Some, drop, filter, map, reverse};
 ghost use Rattle.gz_names.specs.Zones.{zones_in};
 ghost use Rattle.gz_names.specs.declared.names.Name.{Name as AName};
 ghost use Rattle.gz_names.specs.declared.zone_sets.ZoneSet.{ZoneSet as AZoneSet};
@@ -16,7 +16,7 @@ ghost use Rattle.judge.specs.Sound.{Settles};
 ghost use Rattle.judge.specs.Stages.{Ends, HasGroups, IsDueOf, IsFirstGroup, IsWoken, collecting, groups_in};
 ghost use Rattle.judge.specs.Stages.{idle, shown, stage_in, stage_of};
 ghost use Rattle.judge.specs.Walks.{CatchUp, CatchesUp, GoesOnFrom, Walks as AWalks, walks_in, walks_of};
-ghost use Rattle.judge.specs.Weak.{if_present};
+ghost use Rattle.judge.specs.Weak.{AreUnwatched, if_present, is_watched};
 ghost use Rattle.judge.specs.Whites.{AreByArena, Clears};
 ghost use Rattle.judge.specs.Starts.{AreBlackStarts, AreLiveStarts, IsBegun, IsInRegister, IsInSlot, IsListOf};
 ghost use Rattle.judge.specs.Starts.{IsOutside};
@@ -485,14 +485,18 @@ impl World {
             ≡ arenas_from 0 (owners_in self.old.arenas) (zones_in end.now.zones) ++ reverse self.old.arenas.out.items) }
         ensures whites { OnOk result (AreByArena self.old.places end.now.whites.items self.new.whites) }
         ensures places { OnOk result (LetsGo end.now.whites.items self.old.places self.new.places) }
-        ensures weak { OnOk result (self.new.weak.slots
+        ensures slots { OnOk result (self.new.weak.slots
             ≡ map (if_present self.new.places) self.old.weak.slots) }
+        ensures watched { OnOk result (AreUnwatched self.old.weak self.new.told self.new.weak) }
+        ensures told { OnOk result (self.new.told ≡ filter (is_watched self.old.weak) end.now.whites.items) }
         ensures settles { OnOk result (Settles self.old self.new) }
         ensures tally { OnOk result (self.new.tally ≡ self.old.tally) }
     {
         self.whites = Whites::of_names(self.alloc, &self.places, end.whites.as_slice())?;
         self.let_go(end.whites.as_slice())?;
-        self.weak.lose(&self.places);
+        self.told = self
+            .weak
+            .lose(self.alloc, &self.places, end.whites.as_slice())?;
         self.arenas.hand_out(end.zones)?;
         self.end_first(end.zones);
         self.settle()
@@ -507,6 +511,7 @@ impl World {
         ensures whites { OnOk result (self.new.whites ≡ self.old.whites) }
         ensures places { OnOk result (LetsGo whites.now self.old.places self.new.places) }
         ensures weak { OnOk result (self.new.weak ≡ self.old.weak) }
+        ensures told { OnOk result (self.new.told ≡ self.old.told) }
         ensures tally { OnOk result (self.new.tally ≡ self.old.tally) }
     {
         for name in whites {
@@ -524,6 +529,7 @@ impl World {
         ensures whites { OnOk result (self.new.whites ≡ self.old.whites) }
         ensures places { OnOk result (Removes self.old.places name self.new.places) }
         ensures weak { OnOk result (self.new.weak ≡ self.old.weak) }
+        ensures told { OnOk result (self.new.told ≡ self.old.told) }
         ensures tally { OnOk result (self.new.tally ≡ self.old.tally) }
     {
         let Some(place) = self.places.remove(&name) else {
@@ -562,7 +568,8 @@ impl World {
         ensures arenas { self.new.arenas ≡ self.old.arenas }
         ensures whites { self.new.whites ≡ self.old.whites }
         ensures places { self.new.places ≡ self.old.places }
-        ensures weak { OnOk result (self.new.weak ≡ self.old.weak) }
+        ensures weak { self.new.weak ≡ self.old.weak }
+        ensures told { self.new.told ≡ self.old.told }
         ensures settles { OnOk result (Settles self.old self.new) }
         ensures tally { OnOk result (self.new.tally ≡ self.old.tally) }
     {
@@ -582,6 +589,7 @@ impl World {
         ensures places { self.new.places ≡ self.old.places }
         ensures former { self.new.former ≡ self.old.former }
         ensures weak { self.new.weak ≡ self.old.weak }
+        ensures told { self.new.told ≡ self.old.told }
         ensures tally { self.new.tally ≡ self.old.tally }
         ensures black { (w : AWalks) → walks_of self.old.phase ≡ Some w → self.new.black ≡ w.black }
     {

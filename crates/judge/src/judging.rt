@@ -13,7 +13,7 @@ use crate::answers::{Awaited, begin_answer, judge_line};
 use crate::lines::{Lines, NextLine};
 use crate::world::World;
 use gz_io::{Sink, Source, write_all};
-use gz_names::{Cmd, NoMemory, WeakCmd};
+use gz_names::{Cmd, NoMemory};
 use itoa::Buffer;
 use plain_graph::Graph;
 use std::alloc::Global;
@@ -107,14 +107,11 @@ fn unmarked(line: &[u8]) -> Option<&[u8]>
     }
 }
 
-// Whether there are rules for a command: there are none for watched cells and compactions.
+// Whether there are rules for a command: there are none for compactions.
 fn is_judged(command: &Cmd) -> bool
     ensures { IsTrue result ↔ IsJudged command.now }
 {
-    !matches!(
-        command,
-        Cmd::Weak(WeakCmd::Watch(_) | WeakCmd::Unwatch(_)) | Cmd::Compact(_)
-    )
+    !matches!(command, Cmd::Compact(_))
 }
 
 impl Known {

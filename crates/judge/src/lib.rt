@@ -6,11 +6,12 @@
 // right. So its output is not compared with another one. Each line is asked whether a lawful output may go on so.
 //
 // What is kept is the world of the definitions (colour_defs, specs/World): the graph that never frees, the places of
-// the present cells, what is black, what weak slots name, and of a collection the graph as its marking began and the
-// two closures. In a world next to nothing is open. A command on the graph has one reply. Of the reports one is due:
-// `started`, `groups`, then for each group `ended` and its `swept` lines, and `done`; and the text of each but `groups`
-// is settled. So the text that is due is composed by the writers of trace_lang, and compared. What is open is the
-// partition into groups, which is judged by the edges between zones, and how many units a slice has, within the bound.
+// the present cells, what is black, what weak slots name, which cells are watched, and of a collection the graph as its
+// marking began and the two closures. In a world next to nothing is open. A command has one reply. Of the reports one
+// is due: `started`, `groups`, then for each group `ended`, `told` where watched cells died, and its `swept` lines, and
+// `done`; and the text of each but `groups` is settled. So the text that is due is composed by the writers of
+// trace_lang, and compared. What is open is the partition into groups, which is judged by the edges between zones, and
+// how many units a slice has, within the bound.
 //
 //     bytes -> lines -> judging -> answers -> checks -> world -> collection, preparation -> former (plain_graph)
 //                                     |          |

@@ -23,7 +23,7 @@ use crate::preparation::{Preparation, target_of};
 use crate::tally::{Tally, counts_entry, is_wrapper_in, marking_tally, with_one};
 use crate::weak::WeakNames;
 use crate::whites::Whites;
-use gz_names::{GraphCmd, Name, NoMemory, Place, Refusal, Reg, Reply, ZoneNo, ZoneSet};
+use gz_names::{GraphCmd, Name, NameList, NoMemory, Place, Refusal, Reg, Reply, ZoneNo, ZoneSet};
 use plain_graph::{Graph, Walk};
 use std::alloc::Global;
 use std::collections::BTreeMap;
@@ -81,6 +81,8 @@ pub struct World {
     /// What was counted for the last collection that began.
     pub tally: Tally,
     pub weak: WeakNames,
+    /// The watched cells that died with the group that ended last, until the next line tells them.
+    pub told: NameList,
 }
 
 impl World {
@@ -96,7 +98,8 @@ impl World {
             black: Walk::new(alloc),
             phase: Phase::Idle,
             tally: Tally::new(),
-            weak: WeakNames::new(),
+            weak: WeakNames::new(alloc),
+            told: NameList::new(alloc),
         }
     }
 
@@ -163,6 +166,7 @@ impl World {
             self.old.places self.new.places) }
         ensures takes { OnOk result (Takes (change.Command command.now) self.old.former self.new.former) }
         ensures weak { OnOk result (self.new.weak ≡ self.old.weak) }
+        ensures told { OnOk result (self.new.told ≡ self.old.told) }
         ensures black { OnOk result (Blackens graph.now (stage_of self.old.phase) (woken_in command.now reply.now)
             self.old.black self.new.black) }
         ensures walks { OnOk result (WakesAny (stage_of self.old.phase) (woken_in command.now reply.now)
@@ -188,6 +192,7 @@ impl World {
         ensures places { OnOk result (GivesPlaces graph.now named self.old.places self.new.places) }
         ensures takes { OnOk result (Takes (change.Take register named) self.old.former self.new.former) }
         ensures weak { OnOk result (self.new.weak ≡ self.old.weak) }
+        ensures told { OnOk result (self.new.told ≡ self.old.told) }
         ensures black { OnOk result (Blackens graph.now (stage_of self.old.phase) named self.old.black
             self.new.black) }
         ensures walks { OnOk result (WakesAny (stage_of self.old.phase) named (walks_of self.old.phase)
@@ -209,6 +214,7 @@ impl World {
         ensures places { OnOk result (GivesPlaces graph.now name self.old.places self.new.places) }
         ensures former { OnOk result (self.new.former ≡ self.old.former) }
         ensures weak { OnOk result (self.new.weak ≡ self.old.weak) }
+        ensures told { OnOk result (self.new.told ≡ self.old.told) }
         ensures black { OnOk result (Blackens graph.now (stage_of self.old.phase) name self.old.black
             self.new.black) }
         ensures walks { OnOk result (WakesAny (stage_of self.old.phase) name (walks_of self.old.phase)
@@ -254,6 +260,7 @@ impl World {
         ensures places { OnOk result (GivesPlace graph.now self.old.places name self.new.places) }
         ensures former { OnOk result (self.new.former ≡ self.old.former) }
         ensures weak { OnOk result (self.new.weak ≡ self.old.weak) }
+        ensures told { OnOk result (self.new.told ≡ self.old.told) }
         ensures black { OnOk result (BlackensOne graph.now (stage_of self.old.phase) name self.old.black
             self.new.black) }
         ensures walks { OnOk result (Wakes (stage_of self.old.phase) name (walks_of self.old.phase)
@@ -370,6 +377,13 @@ impl World {
             return Some(Refusal::NoZone);
         }
         None
+    }
+
+    /// Whether no watched cell waits for a line that tells it.
+    pub fn has_told(&self) -> bool
+        ensures { IsTrue result ↔ (self.now.told ≡ []) }
+    {
+        self.told.as_slice().is_empty()
     }
 
     /// Which report is due.

@@ -27,6 +27,7 @@ returns-clause-asks c =
               out_is = took.out;
               whites_is = took.whites;
               weak_is = took.weak;
+              told_is = took.told;
             };
             tally_is = took.tally;
           }),

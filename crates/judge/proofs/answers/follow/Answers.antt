@@ -43,6 +43,7 @@ returns-clause-obeys c =
         out_is = c.in_ok-follow.ensures.out;
         whites_is = c.in_ok-follow.ensures.whites;
         weak_is = c.in_ok-follow.ensures.weak;
+        told_is = c.in_ok-follow.ensures.told;
       };
       tally_is = tally;
     }) c.only.ensures

@@ -1,4 +1,4 @@
-use Rattle.std.proofs.Common.{◌≡◌, ◌∙◌, ◌++◌, ℕ, List, [], Option, Some, map, reverse, ap, subst, sym}
+use Rattle.std.proofs.Common.{◌≡◌, ◌∙◌, ◌++◌, ℕ, List, [], Option, Some, filter, map, reverse, ap, subst, sym}
 use Rattle.std.specs.Prelude.{IfSome}
 use Rattle.std.proofs.lemmas.List.{append-nil}
 use Rattle.gz_names.specs.Zones.{zones_in}
@@ -9,11 +9,12 @@ use Rattle.judge.specs.Cells.{Cells, HasColours, LetsGo}
 use Rattle.judge.specs.Former.{Releases}
 use Rattle.judge.specs.Stages.{Ends, HasGroups, IsFirstGroup, Shown, Stage, shown, stage_of}
 use Rattle.judge.specs.Walks.{CatchesUp, Walks, walks_of}
-use Rattle.judge.specs.Weak.{if_present}
+use Rattle.judge.specs.Weak.{AreUnwatched, if_present, is_watched}
 use Rattle.judge.specs.Whites.{AreByArena}
 use Rattle.judge.specs.declared.collection.GroupEnd.{GroupEnd}
 use Rattle.judge.specs.declared.former.Former.{Former}
-use Rattle.judge.proofs.Found.{colours_of, whites_of}
+use Rattle.judge.specs.declared.weak.WeakNames.{WeakNames}
+use Rattle.judge.proofs.Found.{colours_of, told_of, whites_of}
 use Rattle.judge.proofs.checks.ended.Goals as goal
 
 pub returns-then-is_same : goal.returns-then-is_same
@@ -69,7 +70,15 @@ returns-then-is_same c =
           );
         };
         tally_is = ap tally_of c.in_ok-end_group.ensures.tally ∙ ap (λ (s : Shown). s.tally) same;
-        slots_are = c.in_ok-end_group.ensures.weak
-            ∙ ap (λ (s : Shown). map (if_present after.places) s.weak.slots) same;
+        loses = record {
+          slots_are = c.in_ok-end_group.ensures.slots
+              ∙ ap (λ (s : Shown). map (if_present after.places) s.weak.slots) same;
+          told_are = told_of c.args.graph.now (shown before) found.0 found.1 end after.told
+              (record { black = walked.black; live = walked.live; caught = found.4 }) found.5
+              (c.in_ok-end_group.ensures.told
+              ∙ ap (λ (s : Shown). filter (is_watched s.weak) end.whites.items) same);
+          watched_are = subst (λ (w : WeakNames). AreUnwatched w after.told after.weak)
+              (ap (λ (s : Shown). s.weak) same) c.in_ok-end_group.ensures.watched;
+        };
       },
     )

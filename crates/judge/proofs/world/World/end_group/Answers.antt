@@ -1,4 +1,4 @@
-use Rattle.std.proofs.Common.{◌≡◌, ◌∙◌, ◌++◌, ℕ, List, Option, map, reverse, ap, subst, sym}
+use Rattle.std.proofs.Common.{◌≡◌, ◌∙◌, ◌++◌, ℕ, List, Option, filter, map, reverse, ap, subst, sym}
 use Rattle.std.proofs.lemmas.Result.{on_ok_weaker}
 use Rattle.gz_names.specs.Zones.{zones_in}
 use Rattle.gz_names.specs.declared.names.Name.{Name}
@@ -7,7 +7,7 @@ use Rattle.judge.specs.Arenas.{owners_in}
 use Rattle.judge.specs.Cells.{Cells, LetsGo}
 use Rattle.judge.specs.Former.{Releases}
 use Rattle.judge.specs.Walks.{walks_of}
-use Rattle.judge.specs.Weak.{if_present}
+use Rattle.judge.specs.Weak.{AreUnwatched, if_present, is_watched}
 use Rattle.judge.specs.Whites.{AreByArena}
 use Rattle.judge.specs.declared.arenas.Arenas.{Arenas}
 use Rattle.judge.specs.declared.former.Former.{Former}
@@ -15,6 +15,7 @@ use Rattle.judge.specs.declared.weak.WeakNames.{WeakNames}
 use Rattle.judge.specs.declared.whites.Whites.{Whites}
 use Rattle.judge.specs.declared.world.World.{World}
 use Rattle.judge.proofs.Results.{on_ok_known}
+use Rattle.judge.proofs.Watching.{unwatched_as}
 use Rattle.judge.proofs.world.World.end_group.Goals as goal
 
 pub returns-clause-places : goal.returns-clause-places
@@ -73,12 +74,30 @@ returns-clause-tally c =
     on_ok_weaker c.settle.result (λ e. e ∙ ap (λ (w : World). w.tally) c.end_first.ensures.rest
     ∙ c.in_ok-let_go.ensures.tally) c.settle.ensures.tally
 
-pub returns-clause-weak : goal.returns-clause-weak
-returns-clause-weak c =
+pub returns-clause-slots : goal.returns-clause-slots
+returns-clause-slots c =
     let mid = c.let_go.new.self.places in
     let same : c.settle.new.self.places ≡ mid =
     c.settle.ensures.places ∙ ap (λ (w : World). w.places) c.end_first.ensures.rest in
-    on_ok_weaker c.settle.result (λ e. ap (λ (w : WeakNames). w.slots)
-    (e ∙ ap (λ (w : World). w.weak) c.end_first.ensures.rest) ∙ c.lose.ensures
+    let weak = c.settle.ensures.weak ∙ ap (λ (w : World). w.weak) c.end_first.ensures.rest in
+    on_ok_known c.settle.result (ap (λ (w : WeakNames). w.slots) weak ∙ c.in_ok-self-2.ensures.slots
     ∙ ap (λ (w : WeakNames). map (if_present mid) w.slots) c.in_ok-let_go.ensures.weak
-    ∙ ap (λ (cells : Cells). map (if_present cells) c.args.self.now.weak.slots) (sym same)) c.settle.ensures.weak
+    ∙ ap (λ (cells : Cells). map (if_present cells) c.args.self.now.weak.slots) (sym same))
+
+pub returns-clause-watched : goal.returns-clause-watched
+returns-clause-watched c =
+    let before = c.args.self.now.weak in
+    let weak = c.settle.ensures.weak ∙ ap (λ (w : World). w.weak) c.end_first.ensures.rest in
+    let told = c.settle.ensures.told ∙ ap (λ (w : World). w.told) c.end_first.ensures.rest in
+    let names = c.in_ok-self-2.field-0 in
+    on_ok_known c.settle.result (unwatched_as before c.lose.new.self c.settle.new.self.weak names
+    c.settle.new.self.told (ap (λ (w : WeakNames). w.watched) weak) told
+    (subst (λ (w : WeakNames). AreUnwatched w names c.lose.new.self) c.in_ok-let_go.ensures.weak
+    c.in_ok-self-2.ensures.watched))
+
+pub returns-clause-told : goal.returns-clause-told
+returns-clause-told c =
+    let told = c.settle.ensures.told ∙ ap (λ (w : World). w.told) c.end_first.ensures.rest in
+    on_ok_known c.settle.result (told ∙ c.in_ok-self-2.ensures.told
+    ∙ ap (λ (ns : List Name). filter (is_watched c.let_go.new.self.weak) ns) c.as_slice-3.ensures.value
+    ∙ ap (λ (w : WeakNames). filter (is_watched w) c.args.end.now.whites.items) c.in_ok-let_go.ensures.weak)

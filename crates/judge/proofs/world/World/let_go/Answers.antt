@@ -11,6 +11,7 @@ loop-name-init c = record {
   arenas = record { owners = refl; out = refl };
   tally = refl;
   weak = refl;
+  told = refl;
   places = lets_none _;
 }
 
@@ -26,6 +27,7 @@ loop-name-preserved c = record {
   };
   tally = c.in_ok-let_one_go.ensures.tally ∙ c.loop-name.invariant.tally;
   weak = c.in_ok-let_one_go.ensures.weak ∙ c.loop-name.invariant.weak;
+  told = c.in_ok-let_one_go.ensures.told ∙ c.loop-name.invariant.told;
   places = lets_more _ c.loop-name.self.places c.let_one_go.new.self.places c.args.whites.now c.loop-name.name-index _
       c.loop-name-test.true c.loop-name.invariant.places c.in_ok-let_one_go.ensures.places;
 }

@@ -12,5 +12,6 @@ invariant-loop-name l = record {
   arenas : AreSameArenas l.fn.self.arenas l.self.arenas;
   tally : l.self.tally ≡ l.fn.self.tally;
   weak : l.self.weak ≡ l.fn.self.weak;
+  told : l.self.told ≡ l.fn.self.told;
   places : LetsGo (take l.name-index l.whites) l.fn.self.places l.self.places;
 }

@@ -12,5 +12,7 @@ returns c = record {
   taken = c.new.ensures.kept;
   none_found = refl;
   none_black = c.new-5.ensures;
-  none_named = c.new-7.ensures;
+  none_named = c.new-7.ensures.slots;
+  none_watched = c.new-7.ensures.watched;
+  none_told = c.new-8.ensures;
 }
