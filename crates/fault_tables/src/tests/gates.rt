@@ -101,9 +101,6 @@ fn helpers_may_be_slow(rt: HostRuntime) -> Result<(), Fail> {
     Ok(())
 }
 
-// How often a thread that stands at a gate looks before it gives up: some minutes, since the others may be slow.
-const LOOKS: u64 = 1_000_000_000;
-
 // Where main and the helper that claimed the arena meet.
 #[derive(Drop)]
 struct Meeting {
@@ -124,7 +121,7 @@ impl Meeting {
     }
 
     fn wait_for(&self, word: &AtomicU64) {
-        for _ in 0..LOOKS {
+        for _ in 0..1_000_000 {
             if word.load(SeqCst) == 1 {
                 return;
             }
@@ -251,7 +248,7 @@ impl AllMeet {
     }
 
     fn wait_for_all(&self) {
-        for _ in 0..LOOKS {
+        for _ in 0..1_000_000 {
             if self.arrived.load(SeqCst) >= self.wanted {
                 return;
             }
