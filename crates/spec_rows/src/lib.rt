@@ -18,8 +18,6 @@
 //     weakly named, compacted  a weak slot and a watch keep nothing; what is then empty is given up
 //     wrapper key              a wrapper key is reached with its map and its target, and not with its map alone
 //
-// Two of them use commands that are defined and that the program does not serve: weak slots, and a compaction.
-//
 // No crate uses this one: the proofs are long, since they write each world out, and nothing else needs them.
 #![tactic(auto)]
 
