@@ -21,8 +21,8 @@ pub record MayBeMarked (h : HeapState) (from : List Place) (first : List ℕ) : 
 -- a function may be called with each such heap, and marks it black: it takes the black word of each arena, and answers
 -- them as marking leaves them, with the cells that turned black and the targets outside the marking zones
 pub record MarksBlack (pre : Global → Bor HeapState → Bor (List Place) → Vec ℕ Global → Type 0)
-    (post : Global → Bor HeapState → Bor (List Place) → Vec ℕ Global → Result (Vec ℕ Global × Marked) AllocError → Type 0)
-    : Type 0 where
+    (post : Global → Bor HeapState → Bor (List Place) → Vec ℕ Global → Result (Vec ℕ Global × Marked) AllocError
+    → Type 0) : Type 0 where
   pub callable : (alloc : Global) (heap : Bor HeapState) (from : Bor (List Place)) (words : Vec ℕ Global)
       → MayBeMarked heap.now from.now words.items → pre alloc heap from words
   pub blackens : (alloc : Global) (heap : Bor HeapState) (from : Bor (List Place)) (words : Vec ℕ Global)

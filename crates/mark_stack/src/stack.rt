@@ -79,6 +79,17 @@ impl Stack {
         self.wake.clear();
     }
 
+    /// How many places are on a pile.
+    pub fn len(&self, pile: Pile) -> usize
+        ensures { result ≡ length (pile_of self.now pile) }
+    {
+        match pile {
+            Pile::Black => self.black.len(),
+            Pile::Gray => self.gray.len(),
+            Pile::Wake => self.wake.len(),
+        }
+    }
+
     /// Whether a pile is empty.
     #[inline(always)]
     pub fn is_empty(&self, pile: Pile) -> bool

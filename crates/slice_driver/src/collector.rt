@@ -10,7 +10,7 @@ ghost use Rattle.slice_driver.specs.Represents.{Represents};
 use gray_lists::Lists;
 use gz_names::{NoMemory, ZoneSet};
 use heap_core::{Heap, Steps};
-use mark_stack::Stack;
+use mark_stack::{Pile, Stack};
 use std::alloc::Global;
 use std::marker::Model;
 use std::sync::ledger::{Blank, Ledger};
@@ -132,6 +132,13 @@ impl Collector {
             → IsTrue result ↔ IsSettled w }
     {
         self.heap.marking().is_empty() && self.heap.preparing().is_empty()
+    }
+
+    /// How many cells are pending in black, those apart that are delayed.
+    pub fn pending_black(&self) -> usize
+        ensures { result ≡ length self.now.stack.black }
+    {
+        self.stack.len(Pile::Black)
     }
 
     /// From now on the edges that are read are counted, from 0 on, in a new ledger and in no other.
