@@ -1,5 +1,6 @@
 // The collector's parts, and what may be asked of it at any time.
-ghost use Rattle.std.specs.Prelude.{◌≡◌, ◌↔◌, ◌<◌, ℕ, None, Option, Some, false, IsSome, IsTrue, IfOk, IfSome, length};
+ghost use Rattle.std.specs.Prelude.{◌≡◌, ◌↔◌, ◌<◌, ◌≤◌, ℕ, None, Option, Some, false, IsSome, IsTrue, IfOk, IfSome};
+ghost use Rattle.std.specs.Prelude.{length};
 ghost use Rattle.cell_bits.specs.declared.bits.Bits.{Bits as ABits};
 ghost use Rattle.colour_defs.specs.Lawful.{IsRunning};
 ghost use Rattle.colour_defs.specs.World.{World, IsSettled, first_world};
@@ -134,9 +135,9 @@ impl Collector {
         self.heap.marking().is_empty() && self.heap.preparing().is_empty()
     }
 
-    /// How many cells are pending in black, those apart that are delayed.
+    /// How many cells are pending in black and not delayed, which is how many are pending at least.
     pub fn pending_black(&self) -> usize
-        ensures { result ≡ length self.now.stack.black }
+        ensures { result ≤ length self.now.stack.black }
     {
         self.stack.len(Pile::Black)
     }
