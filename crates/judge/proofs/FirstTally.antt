@@ -26,7 +26,7 @@ use Rattle.colour_defs.proofs.Lists.{contains_cases, contains_head, contains_tai
 use Rattle.colour_defs.proofs.Names.{eq_name-is}
 use Rattle.plain_graph.specs.Indexed.{order_of}
 use Rattle.judge.specs.Bounds.{IsFirstTally, StandsPrepared, marking_tally}
-use Rattle.judge.specs.Cells.{Cells}
+use Rattle.judge.specs.Cells.{Cells, HasCell}
 use Rattle.judge.proofs.Cells.{cell_among, order_is}
 use Rattle.judge.proofs.Tallies.{same_test}
 
@@ -142,17 +142,22 @@ tally_by g zones names present arenas spent = record {
   spent = spent;
 }
 
+-- the present cells, ascending, by what is present
+pub same_keys : (cells : Cells) (w : World) → tree.IsOrdered order_of cells
+    → ((x : Name) → IsPresent w x ↔ HasCell cells x) → tree.keys cells ≡ map.keys w.places
+same_keys cells w up present = same_names (tree.keys cells) (map.keys w.places) (record {
+  left = tree_ascends (tree.keys cells) up;
+  right = map_ascends (map.entries w.places) (map.entries_sorted w.places);
+  same = λ x. (
+    λ c. (present_among w x).0 ((present x).1 ((cell_among cells x).1 c)),
+    λ c. (cell_among cells x).0 ((present x).0 ((present_among w x).1 c)),
+  );
+})
+
 module _ (g : GraphState) (zones : ZoneSet) (cells : Cells) (before : Tally) (w : World) (p : Preparation)
     (up : tree.IsOrdered order_of cells) (stands : StandsPrepared g zones cells before w p) where
   names_are : tree.keys cells ≡ map.keys w.places
-  names_are = same_names (tree.keys cells) (map.keys w.places) (record {
-    left = tree_ascends (tree.keys cells) up;
-    right = map_ascends (map.entries w.places) (map.entries_sorted w.places);
-    same = λ x. (
-      λ c. (present_among w x).0 ((stands.present x).1 ((cell_among cells x).1 c)),
-      λ c. (cell_among cells x).0 ((stands.present x).0 ((present_among w x).1 c)),
-    );
-  })
+  names_are = same_keys cells w up stands.present
 
   present_are : (x : Name) → is_some (tree.get order_of cells x) ≡ is_present w x
   present_are x = same_test (is_some (tree.get order_of cells x)) (is_present w x)

@@ -24,4 +24,9 @@ pub mod DumpLines
 pub mod Sound
 pub mod Starts
 pub mod Taking
+pub mod GivenUp
+pub mod Lying
+pub mod Freed
+pub mod Determined
+pub mod Packing
 pub mod Watching

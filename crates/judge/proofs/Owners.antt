@@ -1,6 +1,6 @@
 -- Whose the arenas are, and which are out.
 use Rattle.std.proofs.Common.{◌≡◌, ◌∙◌, ◌↔◌, ◌⊎◌, inl, inr, ℕ, ◌+◌, ◌<◌, ◌≤◌, Bool, true, false, cond, List, [], ◌∷◌}
-use Rattle.std.proofs.Common.{◌++◌, length, get_or, drop, map, reverse, set, Option, Some, refl, sym, ap, subst}
+use Rattle.std.proofs.Common.{◌++◌, length, get_or, drop, map, reverse, set, Option, Some, None, refl, sym, ap, subst}
 use Rattle.std.proofs.Common.{arith, IsTrue}
 use Rattle.std.specs.Prelude.{nat_eq, slice_get}
 use Rattle.std.specs.BTreeMap as tree
@@ -15,7 +15,7 @@ use Rattle.gz_names.specs.declared.names.Name.{Name}
 use Rattle.gz_names.specs.declared.numbers.Place.{Place}
 use Rattle.gz_names.specs.declared.zone_sets.ZoneSet.{ZoneSet}
 use Rattle.colour_defs.specs.Ends.{arenas_from}
-use Rattle.colour_defs.specs.Graph.{GraphState, zone_of}
+use Rattle.colour_defs.specs.Graph.{GraphState, is_among, zone_of}
 use Rattle.colour_defs.proofs.Lists.{get_push_here}
 use Rattle.colour_defs.proofs.Membership.{among_from, among_to}
 use Rattle.colour_defs.proofs.ZoneSets.{zones_in-has}
@@ -35,7 +35,7 @@ owner_at arenas i d below =
 -- an arena that is written over
 pub same_owner : (arenas : List Arena) (i : ℕ) (was now : Arena) → was ≡ get_or arenas i was
     → now.owner ≡ was.owner → owners_of (set arenas i now) ≡ owners_of arenas
-same_owner arenas i was now at same = map-set_same owner_of arenas i now was (ap Some same ∙ ap owner_of at)
+same_owner arenas i was now at same = map-set_same owner_of arenas i now was (same ∙ ap owner_of at)
 
 -- an arena more
 pub owner_pushed : (xs ys : List Arena) (a : Arena) (n : ℕ) → ys ≡ xs ++ a ∷ [] → n ≤ length xs → length xs ≤ n
@@ -59,15 +59,22 @@ zone_test zones z false has = go (list_any (nat_eq z) (zones_in zones)) refl
     go false e = refl
 
 -- the arenas of some zones from one on
+pub from_first : (n : ℕ) (o : Option ℕ) (os : List (Option ℕ)) (zones : List ℕ)
+    → arenas_from n (o ∷ os) zones
+    ≡ cond (is_among zones o) (n ∷ arenas_from (n + 1) os zones) (arenas_from (n + 1) os zones)
+from_first n None os zones = refl
+from_first n (Some z) os zones = refl
+
 pub from_one : (arenas : List Arena) (i : ℕ) (d : Arena) (zones : List ℕ) → i < length arenas
     → arenas_from i (drop i (owners_of arenas)) zones
-    ≡ cond (list_any (nat_eq (get_or arenas i d).owner) zones)
+    ≡ cond (is_among zones (get_or arenas i d).owner)
     (i ∷ arenas_from (i + 1) (drop (i + 1) (owners_of arenas)) zones)
     (arenas_from (i + 1) (drop (i + 1) (owners_of arenas)) zones)
 from_one arenas i d zones below =
     ap (λ os. arenas_from i os zones)
     (drop-map owner_of i arenas ∙ ap (map owner_of) (drop_more arenas i d below))
-    ∙ ap (λ os. cond (list_any (nat_eq (get_or arenas i d).owner) zones) (i ∷ arenas_from (i + 1) os zones)
+    ∙ from_first i (get_or arenas i d).owner (map owner_of (drop (i + 1) arenas)) zones
+    ∙ ap (λ os. cond (is_among zones (get_or arenas i d).owner) (i ∷ arenas_from (i + 1) os zones)
     (arenas_from (i + 1) os zones)) (sym (drop-map owner_of (i + 1) arenas))
 
 -- an arena that is looked at: it is of one of the zones, or not
@@ -75,9 +82,9 @@ pub record IsLooked (arenas : List Arena) (i : ℕ) (zones : ZoneSet) (r : Bool)
   pub below : i < length arenas
   pub one : Arena
   pub one_is : get_or arenas i one ≡ one
-  pub test : IsTrue r ↔ HasZone zones.bits one.owner
+  pub test : r ≡ is_among (zones_in zones) one.owner
 
-looked_at : (arenas : List Arena) (i : ℕ) (zones : ZoneSet) (r : Bool) → IsLooked arenas i zones r
+pub looked_at : (arenas : List Arena) (i : ℕ) (zones : ZoneSet) (r : Bool) → IsLooked arenas i zones r
     → arenas_from i (drop i (owners_of arenas)) (zones_in zones)
     ≡ cond r (i ∷ arenas_from (i + 1) (drop (i + 1) (owners_of arenas)) (zones_in zones))
     (arenas_from (i + 1) (drop (i + 1) (owners_of arenas)) (zones_in zones))
@@ -85,7 +92,7 @@ looked_at arenas i zones r l =
     from_one arenas i l.one (zones_in zones) l.below
     ∙ ap (λ b. cond b (i ∷ arenas_from (i + 1) (drop (i + 1) (owners_of arenas)) (zones_in zones))
     (arenas_from (i + 1) (drop (i + 1) (owners_of arenas)) (zones_in zones)))
-    (ap (λ (a : Arena). list_any (nat_eq a.owner) (zones_in zones)) l.one_is ∙ zone_test zones l.one.owner r l.test)
+    (ap (λ (a : Arena). is_among (zones_in zones) a.owner) l.one_is ∙ sym l.test)
 
 pub stays_in : (arenas : List Arena) (i : ℕ) (zones : ZoneSet) (out rest : List ℕ) → IsLooked arenas i zones false
     → reverse out ≡ arenas_from (i + 1) (drop (i + 1) (owners_of arenas)) (zones_in zones) ++ rest

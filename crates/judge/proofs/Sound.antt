@@ -13,7 +13,7 @@ use Rattle.colour_defs.specs.Graph.{GraphState, empty_graph, register_cell}
 use Rattle.plain_graph.specs.Reach.{WalkState}
 use Rattle.judge.specs.Cells.{wakes}
 use Rattle.judge.specs.Former.{IsFormer, Releases, changed}
-use Rattle.judge.specs.Replies.{Asks, AsksUnwatch, AsksWatch, AsksWeak, graph_after_weak}
+use Rattle.judge.specs.Replies.{Asks, AsksCompact, AsksUnwatch, AsksWatch, AsksWeak, graph_after_weak}
 use Rattle.judge.specs.Replies.{Begins, Due, IsAnswered, IsLast, Steps, graph_after, dump, nothing, reply}
 use Rattle.judge.specs.Replies.{resets, units}
 use Rattle.judge.specs.Sound.{IsSound, IsWalked}
@@ -113,6 +113,19 @@ sound_begins g zones begun due old new (inr (idle_is, made, d, same)) is =
       walks = λ w e left. absurd (cc e);
     })
 
+-- cells move, and arenas are given up
+sound_compact : (g : GraphState) (zone : ℕ) (due : Due) (old new : Shown) → AsksCompact g zone old due new
+    → IsSound g old → IsSound g new
+sound_compact g zone due old new (inl (why, refused, d, same)) is = sound_same g old new same is
+sound_compact g zone due old new (inr (idle_is, made, moved, given_up, d, packs)) is =
+    subst (IsSound g) (sym packs.new_is) (record {
+      former = is.former;
+      none_kept = is.none_kept;
+      none_yet = is.none_yet;
+      walks = λ w e left.
+          let f = is.walks w e left in record { kept = f.kept; black = f.black; live = f.live };
+    })
+
 sound_asks : (g : GraphState) (c : Cmd) (due : Due) (old new : Shown) → Asks g old c due new → IsSound g old
     → IsSound (graph_after g old c) new
 sound_asks g (command.Graph c) due old new (d, o) is =
@@ -125,7 +138,7 @@ sound_asks g command.Colours due old new (d, same) is = sound_same g old new sam
 sound_asks g command.Dump due old new (d, same) is = sound_same g old new same is
 sound_asks g command.Reset due old new (d, same) is = sound_same g old new same is
 sound_asks g (command.Weak c) due old new asked is = sound_weak g c due old new asked is
-sound_asks g (command.Compact zone) due old new none is = absurd none
+sound_asks g (command.Compact zone) due old new asked is = sound_compact g zone due old new asked is
 
 -- reports
 sound_starts : (g : GraphState) (old new : Shown) → Starts g old new → IsSound g old → IsSound g new

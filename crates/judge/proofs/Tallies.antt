@@ -1,6 +1,6 @@
 -- What is counted as the marking of a collection begins.
 use Rattle.std.proofs.Common.{◌≡◌, ◌↔◌, ◌∙◌, ℕ, zero, suc, ◌+◌, ◌<◌, ◌≤◌, Bool, true, false, cond, not, ◌&&◌, List, []}
-use Rattle.std.proofs.Common.{◌∷◌, length, get_or, take, Some, None, IsTrue, count_by, refl, sym, ap, subst}
+use Rattle.std.proofs.Common.{◌∷◌, length, get_or, take, None, IsTrue, count_by, refl, sym, ap, subst}
 use Rattle.std.proofs.Common.{arith, add-one}
 use Rattle.std.specs.Prelude.{◌==◌}
 use Rattle.std.specs.Int.{bit_at}
@@ -8,15 +8,13 @@ use Rattle.std.specs.Map.{keys_of}
 use Rattle.std.proofs.lemmas.List.{get_or-map, length-map, take-map}
 use Rattle.std.proofs.lemmas.List.Sums.{count_by_more_no, count_by_more_yes, sum_by-cons}
 use mir.Val.{bool_byte}
-use Rattle.gz_names.specs.Zones.{HasZone, zones_from, zones_in}
+use Rattle.gz_names.specs.Zones.{zones_from, zones_in}
 use Rattle.gz_names.specs.declared.zone_sets.ZoneSet.{ZoneSet}
 use Rattle.gz_names.specs.declared.names.Name.{Name}
 use Rattle.gz_names.specs.declared.numbers.Place.{Place}
 use Rattle.colour_defs.specs.Graph.{GraphState, is_among, is_in_zones}
 use Rattle.colour_defs.specs.World.{is_wrapper}
 use Rattle.colour_defs.specs.Units.{Tally}
-use Rattle.colour_defs.proofs.Membership.{among_from, among_to}
-use Rattle.colour_defs.proofs.ZoneSets.{zones_in-has}
 use Rattle.judge.specs.Arenas.{owner_of, owners_of}
 use Rattle.judge.specs.declared.arenas.Arena.{Arena}
 use Rattle.judge.specs.Bounds.{arena_count, with_cells}
@@ -48,7 +46,7 @@ same_test false false e = refl
 
 -- the arenas of these zones, one after another
 pub arenas_more : (zones : ZoneSet) (items : List Arena) (i : ℕ) (d : Arena) (b : Bool) → i < length items
-    → (IsTrue b ↔ HasZone zones.bits (get_or items i d).owner)
+    → b ≡ is_among (zones_in zones) (get_or items i d).owner
     → arena_count (zones_in zones) (owners_of (take (i + 1) items))
     ≡ arena_count (zones_in zones) (owners_of (take i items)) + cond b 1 0
 arenas_more zones items i d b below is =
@@ -57,16 +55,7 @@ arenas_more zones items i d b below is =
     ∙ ap (λ (n : ℕ). n + cond (is_among (zones_in zones) (get_or (owners_of items) i None)) 1 0)
     (ap (arena_count (zones_in zones)) (take-map owner_of i items))
     ∙ ap (λ (c : Bool). arena_count (zones_in zones) (owners_of (take i items)) + cond c 1 0)
-    (ap (is_among (zones_in zones)) (get_or-map owner_of items i d None below) ∙ sym same)
-  where
-    owner : ℕ
-    owner = (get_or items i d).owner
-
-    same : b ≡ is_among (zones_in zones) (Some owner)
-    same = same_test b (is_among (zones_in zones) (Some owner)) (
-      λ t. among_from owner (zones_in zones) ((zones_in-has zones owner).1 (is.0 t)),
-      λ t. is.1 ((zones_in-has zones owner).0 (among_to owner (zones_in zones) t)),
-    )
+    (ap (is_among (zones_in zones)) (get_or-map owner_of items i d None below) ∙ sym is)
 
 -- how many zones there are below a number
 zones_more : (w n c m : ℕ) → m ≡ n + c

@@ -3,9 +3,9 @@ use Rattle.std.specs.Prelude.{◌≡◌, ◌⊎◌, ℕ, List, [], ◌∷◌, �
 use Rattle.judge.specs.declared.arenas.Arena.{Arena}
 use Rattle.judge.specs.declared.arenas.Arenas.{Arenas}
 
--- the zone of each arena: none is ever given up
+-- the zone of each arena; one that was given up has none
 abbrev pub owner_of : Arena → Option ℕ
-owner_of arena = Some arena.owner
+owner_of arena = arena.owner
 
 abbrev pub owners_of : List Arena → List (Option ℕ)
 owners_of arenas = map owner_of arenas

@@ -13,5 +13,6 @@ pub mod Groups
 pub mod Stages
 pub mod Sound
 pub mod Dumps
+pub mod Compaction
 pub mod Replies
 pub mod Verdicts

@@ -23,6 +23,7 @@ use Rattle.trace_lang.specs.Texts.{reply_text}
 use Rattle.colour_defs.specs.Ends.{Lists}
 use Rattle.judge.specs.Bounds.{arena_count, with_arenas}
 use Rattle.judge.specs.Cells.{HasCell}
+use Rattle.judge.specs.Compaction.{Packs}
 use Rattle.judge.specs.Dumps.{ListsDump}
 use Rattle.judge.specs.Lines.{IsOneLine}
 use Rattle.judge.specs.Stages.{Stage, idle, preparing, collecting, Shown, IsFirst, IsOver, IsSettled, IsReportedLine}
@@ -62,15 +63,15 @@ abbrev pub begun_due : Bool → Due
 begun_due true = units None true 0
 begun_due false = reply (reply_text answer.GcBegun)
 
--- why a collection does not begin: one runs already; or one of the zones is not made
-abbrev pub IsRefusal : GraphState → ZoneSet → Stage → Refusal → Type 0
-IsRefusal g zones s why =
-    ((why ≡ refusal.Running) × (s ≢ idle)) ⊎ ((why ≡ refusal.NoZone) × (s ≡ idle) × (AreMade g zones → ⊥))
+-- why a collection or a compaction does not begin: a collection runs already; or what it is of is not made
+abbrev pub IsRefusal : Type 0 → Stage → Refusal → Type 0
+IsRefusal Made s why =
+    ((why ≡ refusal.Running) × (s ≢ idle)) ⊎ ((why ≡ refusal.NoZone) × (s ≡ idle) × (Made → ⊥))
 
 -- what is due for `gc` and `collect`, and what the world shows then
 abbrev pub Begins : GraphState → ZoneSet → Due → Shown → Due → Shown → Type 0
 Begins g zones begun old due new =
-    ((why : Refusal) × IsRefusal g zones old.stage why × (due ≡ refused why) × (new ≡ old))
+    ((why : Refusal) × IsRefusal (AreMade g zones) old.stage why × (due ≡ refused why) × (new ≡ old))
     ⊎ ((old.stage ≡ idle) × AreMade g zones × (due ≡ begun)
     × (new ≡ record old {
       stage = preparing zones;
@@ -96,18 +97,12 @@ Dumps g s due =
     (IsSettled s.stage × (lines : List DumpLine) × ListsDump g s lines × (due ≡ dump lines))
     ⊎ ((IsSettled s.stage → ⊥) × (due ≡ refused refusal.Marking))
 
--- there are rules for all commands but compactions
-abbrev pub IsJudged : Cmd → Type 0
-IsJudged (command.Graph c) = ⊤
-IsJudged (command.Gc zones) = ⊤
-IsJudged (command.Slice n) = ⊤
-IsJudged command.Finish = ⊤
-IsJudged (command.Collect zones) = ⊤
-IsJudged command.Colours = ⊤
-IsJudged command.Dump = ⊤
-IsJudged command.Reset = ⊤
-IsJudged (command.Weak c) = ⊤
-IsJudged (command.Compact zone) = ⊥
+-- what is due for `compact`, and what the world shows then
+abbrev pub AsksCompact : GraphState → ℕ → Shown → Due → Shown → Type 0
+AsksCompact g zone old due new =
+    ((why : Refusal) × IsRefusal (zone < g.zones) old.stage why × (due ≡ refused why) × (new ≡ old))
+    ⊎ ((old.stage ≡ idle) × (zone < g.zones) × (moved : ℕ) × (given_up : ℕ)
+    × (due ≡ reply (reply_text (answer.Compacted moved given_up))) × Packs g zone old moved given_up new)
 
 -- what is due for `watch` and `unwatch`, by what their register holds
 abbrev pub AsksWatch : Option Name → Shown → Due → Shown → Type 0
@@ -145,7 +140,7 @@ Asks g old command.Colours due new = ListsGray old due × (new ≡ old)
 Asks g old command.Dump due new = Dumps g old due × (new ≡ old)
 Asks g old command.Reset due new = GoesOn resets old.stage due × (new ≡ old)
 Asks g old (command.Weak c) due new = AsksWeak g old c due new
-Asks g old (command.Compact zone) due new = ⊥
+Asks g old (command.Compact zone) due new = AsksCompact g zone old due new
 
 -- the graph that never frees after a command: a collection leaves it as it is
 abbrev pub graph_after_weak : GraphState → Shown → WeakCmd → GraphState

@@ -9,7 +9,7 @@ use Rattle.colour_defs.specs.Graph.{GraphState}
 use Rattle.trace_lang.specs.Grammar.{Spells}
 use Rattle.judge.specs.Lines.{IsOneLine}
 use Rattle.judge.specs.Stages.{Shown}
-use Rattle.judge.specs.Replies.{Due, nothing, IsJudged, Judged, IsUnmarked, MayBeWrong, marked}
+use Rattle.judge.specs.Replies.{Due, nothing, Judged, IsUnmarked, MayBeWrong, marked}
 use Rattle.judge.specs.declared.judging.JudgeEnd.{JudgeEnd}
 use Rattle.judge.specs.declared.judging.JudgeEnd.TheVariants as end
 use Rattle.judge.specs.declared.judging.Verdict.{Verdict}
@@ -17,9 +17,9 @@ use Rattle.judge.specs.declared.judging.Verdict.TheVariants as verdict
 use Rattle.judge.specs.declared.judging.Said.{Said}
 use Rattle.judge.specs.declared.judging.Said.TheVariants as said
 
--- a line that stands for no command that is judged, and is one of a trace
+-- a line that stands for no command, and is one of a trace
 abbrev pub IsBadLine : List ℕ → Type 0
-IsBadLine line = (text : List ℕ) × (line ≡ marked text) × ((c : Cmd) → Spells text c → IsJudged c → ⊥)
+IsBadLine line = (text : List ℕ) × (line ≡ marked text) × ((c : Cmd) → Spells text c → ⊥)
 
 -- a line that is wrong after these: a command before the answer to the last one is whole, or a wrong answer
 abbrev pub IsWrongLine : Shown → Due → List ℕ → Type 0

@@ -10,10 +10,10 @@ ghost use Rattle.trace_lang.specs.Texts.{reply_text};
 ghost use Rattle.judge.specs.Sound.{IsSound};
 ghost use Rattle.judge.specs.Stages.{IsOver, IsOverBound, IsReportedLine, IsResetLine, Obeys, Shown, Spends, idle};
 ghost use Rattle.judge.specs.Stages.{shown, stage_of};
-ghost use Rattle.judge.specs.Replies.{Asks, Begins, Counts, Dumps, GoesOn, HasLastText, IsJudged, IsJudgedLine, IsLast};
+ghost use Rattle.judge.specs.Replies.{Asks, AsksCompact, Begins, Counts, Dumps, GoesOn, HasLastText, IsJudgedLine};
 ghost use Rattle.judge.specs.Replies.{IsSliced, IsWithin, ListsGray, after_reset, begun_due, due_as, dump as dump_of};
 ghost use Rattle.judge.specs.Replies.{AsksUnwatch, AsksWatch, AsksWeak, IsUncounted, graph_after, graph_after_weak};
-ghost use Rattle.judge.specs.Replies.{nothing, reply};
+ghost use Rattle.judge.specs.Replies.{IsLast, nothing, reply};
 ghost use Rattle.judge.specs.Replies.{resets, units as units_of};
 ghost use Rattle.judge.specs.Weak.{weak_slot};
 
@@ -25,7 +25,7 @@ use crate::text::{is_same, reply_text};
 use crate::world::World;
 use gz_names::{
     Cmd, DumpLine, DumpLines, GraphCmd, NameList, NoMemory, Refusal, Reg, Reply, WeakCmd, WeakNo,
-    ZoneSet,
+    ZoneNo, ZoneSet,
 };
 use plain_graph::{Graph, step, take_in_register};
 use std::alloc::AllocError;
@@ -71,7 +71,6 @@ pub fn begin_answer(
     world: &mut World,
     command: &Cmd,
 ) -> Result<Awaited, NoMemory>
-    requires { IsJudged command.now }
     ensures asks { IfOk result (λ awaited. Asks graph.old (shown world.old) command.now (due_as awaited)
         (shown world.new)) }
     ensures graph { OnOk result (graph.new ≡ graph_after graph.old (shown world.old) command.now) }
@@ -86,7 +85,7 @@ pub fn begin_answer(
         Cmd::Dump => dump(graph, world),
         Cmd::Reset => reset(world),
         Cmd::Weak(command) => weak(graph, world, command),
-        Cmd::Compact(_) => unreachable!(),
+        Cmd::Compact(zone) => compact(graph, world, *zone),
     }
 }
 
@@ -157,6 +156,21 @@ fn unwatch(graph: &Graph, world: &mut World, register: Reg) -> Result<Awaited, N
     }
     world.weak.unwatch(name);
     only(world, &Reply::Accepted)
+}
+
+// The cells of a zone move together, where no collection runs.
+fn compact(graph: &Graph, world: &mut World, zone: ZoneNo) -> Result<Awaited, NoMemory>
+    ensures { IfOk result (λ awaited. AsksCompact graph.now zone (shown world.old) (due_as awaited)
+        (shown world.new)) }
+{
+    if let Some(why) = world.refusal(graph, ZoneSet::only(zone)) {
+        return only(world, &Reply::Refused(why));
+    }
+    let compacted = world.compact(graph, zone)?;
+    only(
+        world,
+        &Reply::Compacted(compacted.moved, compacted.given_up),
+    )
 }
 
 fn begin(

@@ -2,7 +2,9 @@
 ghost use Rattle.std.specs.Prelude.{◌≡◌, ℕ, [], ◌∷◌, ◌++◌, ◌+◌, ◌<◌, ◌≤◌, List, IfNone, IfOk, IfSome, IsTrue, OnOk};
 ghost use Rattle.std.specs.Prelude.{Some, drop, length, reverse, slice_get};
 ghost use Rattle.gz_names.specs.Zones.{zones_in};
+ghost use Rattle.colour_defs.specs.Compaction.{given_up_from};
 ghost use Rattle.colour_defs.specs.Ends.{arenas_from};
+ghost use Rattle.colour_defs.specs.Graph.{is_among};
 ghost use Rattle.judge.specs.Bounds.{arena_count};
 ghost use Rattle.judge.specs.Arenas.{AreSameArenas, Grows, owners_in, owners_of};
 ghost use Rattle.judge.specs.declared.arenas.Arena.{Arena as AnArena};
@@ -12,7 +14,8 @@ use std::alloc::{AllocError, Global};
 
 #[derive(Clone, Copy)]
 struct Arena {
-    owner: ZoneNo,
+    /// None once it was given up.
+    owner: Option<ZoneNo>,
     used: u64,
     is_out: bool,
 }
@@ -29,9 +32,19 @@ pub struct Arenas {
 
 impl Arena {
     fn is_free_for(&self, zone: ZoneNo) -> bool
-        ensures { IsTrue result → self.now.owner ≡ zone }
+        ensures { IsTrue result → self.now.owner ≡ Some zone }
     {
-        self.owner == zone && !self.is_out && self.used != u64::MAX
+        self.owner == Some(zone) && !self.is_out && self.used != u64::MAX
+    }
+
+    // Whether it is of one of these zones.
+    fn is_of(&self, zones: ZoneSet) -> bool
+        ensures { result ≡ is_among (zones_in zones) self.now.owner }
+    {
+        match self.owner {
+            None => false,
+            Some(zone) => zones.contains(zone),
+        }
     }
 }
 
@@ -74,7 +87,7 @@ impl Arenas {
         self.lowest[zone.index() as usize] = arena;
         if arena >= self.arenas.len() {
             self.arenas.push(Arena {
-                owner: zone,
+                owner: Some(zone),
                 used: 0,
                 is_out: false,
             })?;
@@ -112,13 +125,59 @@ impl Arenas {
         }
     }
 
+    /// A slot is taken.
+    pub fn occupy(&mut self, place: Place)
+        ensures { AreSameArenas self.old self.new }
+    {
+        if let Some(arena) = self.arenas.get_mut(place.arena() as usize) {
+            arena.used |= 1 << place.slot();
+        }
+    }
+
+    /// The numbers of the arenas that these zones own.
+    pub fn numbers(&self, alloc: Global, zones: ZoneSet) -> Result<Vec<u32>, NoMemory>
+        ensures { IfOk result (λ numbers. numbers.items ≡ arenas_from 0 (owners_in self.now) (zones_in zones)) }
+    {
+        let mut numbers = Vec::new(alloc);
+        for number in 0..self.arenas.len() {
+            if !self.arenas[number].is_of(zones) {
+                continue;
+            }
+            if number > u32::MAX as usize {
+                return Err(AllocError);
+            }
+            numbers.push(number as u32)?;
+        }
+        Ok(numbers)
+    }
+
+    /// These arenas are of no zone from here on.
+    pub fn give_up(&mut self, numbers: &[u32])
+        ensures owners { owners_in self.new ≡ given_up_from 0 (owners_in self.old) numbers.now }
+        ensures out { self.new.out.items ≡ self.old.out.items }
+    {
+        for number in numbers {
+            self.give_one_up(*number);
+        }
+        self.lowest = [0; 64];
+    }
+
+    fn give_one_up(&mut self, number: u32)
+        ensures owners { owners_in self.new ≡ given_up_from 0 (owners_in self.old) (number ∷ []) }
+        ensures out { self.new.out.items ≡ self.old.out.items }
+    {
+        if let Some(arena) = self.arenas.get_mut(number as usize) {
+            arena.owner = None;
+        }
+    }
+
     /// How many arenas these zones own.
     pub fn count(&self, zones: ZoneSet) -> u64
         ensures { result ≡ arena_count (zones_in zones) (owners_in self.now) }
     {
         let mut count = 0;
         for arena in &self.arenas {
-            count += u64::from(zones.contains(arena.owner));
+            count += u64::from(arena.is_of(zones));
         }
         count
     }
@@ -145,7 +204,7 @@ impl Arenas {
             ≡ arenas_from number (drop number (owners_in self.old)) (zones_in zones) ++ rest) }
         ensures owners { OnOk result (owners_in self.new ≡ owners_in self.old) }
     {
-        if !zones.contains(self.arenas[number].owner) {
+        if !self.arenas[number].is_of(zones) {
             return Ok(());
         }
         if number > u32::MAX as usize {
@@ -175,7 +234,7 @@ impl Arenas {
     pub fn is_of(&self, zones: ZoneSet, arena: u64) -> bool {
         match self.arenas.get(arena as usize) {
             None => false,
-            Some(arena) => zones.contains(arena.owner),
+            Some(arena) => arena.is_of(zones),
         }
     }
 

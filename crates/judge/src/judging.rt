@@ -5,7 +5,7 @@ ghost use Rattle.gz_io.specs.Causes.{AppendsFront, Rose};
 ghost use Rattle.colour_defs.specs.Graph.{empty_graph};
 ghost use Rattle.judge.specs.Sound.{IsSound};
 ghost use Rattle.judge.specs.Stages.{IsFirst, shown};
-ghost use Rattle.judge.specs.Replies.{IsJudged, IsUnmarked, Steps, due_as, marked, nothing};
+ghost use Rattle.judge.specs.Replies.{IsUnmarked, Steps, due_as, marked, nothing};
 ghost use Rattle.judge.specs.Verdicts.{EndsBy, HasVerdict, IsFirstWrong, IsSaid, IsVerdictOn, wrong_text};
 ghost use Rattle.trace_lang.specs.Grammar.{Spells};
 
@@ -30,7 +30,7 @@ pub enum JudgeEnd {
     Unlawful(u64),
     /// The transcript ends within an answer that is lawful so far.
     Cut,
-    /// This line, counted from 1, is marked as one of a trace, and is no line of the language, or none that is judged.
+    /// This line, counted from 1, is marked as one of a trace, and is no line of the language.
     BadLine(u64),
     ReadFault,
     WriteFault,
@@ -90,7 +90,7 @@ struct Known {
 pub enum Said {
     /// It is lawful so far.
     Fine,
-    /// It is marked, and is no line of the language, or none that is judged.
+    /// It is marked, and is no line of the language.
     Bad,
     /// It is unlawful; why.
     Wrong(Vec<u8>),
@@ -105,13 +105,6 @@ fn unmarked(line: &[u8]) -> Option<&[u8]>
         [b'>', b' ', text @ ..] => Some(text),
         _ => None,
     }
-}
-
-// Whether there are rules for a command: there are none for compactions.
-fn is_judged(command: &Cmd) -> bool
-    ensures { IsTrue result ↔ IsJudged command.now }
-{
-    !matches!(command, Cmd::Compact(_))
 }
 
 impl Known {
@@ -162,9 +155,6 @@ impl Known {
             (due_as self.old.awaited) (marked text.now) self.new.graph (shown self.new.world)
             (due_as self.new.awaited) }
     {
-        if !is_judged(command) {
-            return Ok(Said::Bad);
-        }
         if self.awaited.is_whole() {
             let awaited = begin_answer(&mut self.graph, &mut self.world, command)?;
             self.awaited = awaited;

@@ -11,7 +11,8 @@
 // is due: `started`, `groups`, then for each group `ended`, `told` where watched cells died, and its `swept` lines, and
 // `done`; and the text of each but `groups` is settled. So the text that is due is composed by the writers of
 // trace_lang, and compared. What is open is the partition into groups, which is judged by the edges between zones, and
-// how many units a slice has, within the bound.
+// how many units a slice has, within the bound. What a compaction moves and gives up is settled too, by where the cells
+// lie and whose the arenas are.
 //
 //     bytes -> lines -> judging -> answers -> checks -> world -> collection, preparation -> former (plain_graph)
 //                                     |          |
@@ -25,6 +26,7 @@ mod answers;
 mod arenas;
 mod checks;
 mod collection;
+mod compaction;
 mod dumps;
 mod edges;
 mod former;

@@ -140,8 +140,8 @@ fn count_cell(tally: &mut Tally, graph: &Graph, zones: ZoneSet, name: Name) -> R
     Ok(())
 }
 
-// Counts the present cells.
-fn count_cells(
+/// Counts the present cells.
+pub fn count_cells(
     tally: &mut Tally,
     graph: &Graph,
     zones: ZoneSet,

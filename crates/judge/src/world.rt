@@ -2,11 +2,13 @@
 // collection.
 ghost use Rattle.std.specs.Prelude.{◌≡◌, ◌≢◌, ◌↔◌, ◌<◌, ◌∷◌, ℕ, [], Contains, IfNone, IfOk, IfSome, IsTrue, None};
 ghost use Rattle.std.specs.Prelude.{OnOk, Some, false};
+ghost use Rattle.std.specs.BTreeMap.{IsOrdered};
 ghost use Rattle.gz_names.specs.Zones.{HasZone, zones_in};
 ghost use Rattle.gz_names.specs.declared.zone_sets.ZoneSet.{ZoneSet as AZoneSet};
 ghost use Rattle.colour_defs.specs.Ends.{Lists};
 ghost use Rattle.judge.specs.Arenas.{owners_in};
 ghost use Rattle.judge.specs.Cells.{GivesPlace, GivesPlaces, HasCell, made_in, named_in, woken_in, wrapper_in};
+ghost use Rattle.judge.specs.Compaction.{GoTo, Packs, place_order};
 ghost use Rattle.judge.specs.Bounds.{arena_count, tally_of, with_arenas};
 ghost use Rattle.judge.specs.Former.{Takes};
 ghost use Rattle.judge.specs.declared.former.Change.TheVariants as change;
@@ -18,6 +20,7 @@ ghost use Rattle.judge.specs.Replies.{AreMade, IsRefusal};
 
 use crate::arenas::Arenas;
 use crate::collection::Collection;
+use crate::compaction::{Compacted, filled, free_places, lying_in};
 use crate::former::{Change, Former, is_in};
 use crate::preparation::{Preparation, target_of};
 use crate::tally::{Tally, counts_entry, is_wrapper_in, marking_tally, with_one};
@@ -25,7 +28,7 @@ use crate::weak::WeakNames;
 use crate::whites::Whites;
 use gz_names::{GraphCmd, Name, NameList, NoMemory, Place, Refusal, Reg, Reply, ZoneNo, ZoneSet};
 use plain_graph::{Graph, Walk};
-use std::alloc::Global;
+use std::alloc::{AllocError, Global};
 use std::collections::BTreeMap;
 
 /// Where a collection stands.
@@ -366,7 +369,7 @@ impl World {
 
     /// Why a collection of these zones may not begin, if it may not.
     pub fn refusal(&self, graph: &Graph, zones: ZoneSet) -> Option<Refusal>
-        ensures some { IfSome result (IsRefusal graph.now zones (stage_of self.now.phase)) }
+        ensures some { IfSome result (IsRefusal (AreMade graph.now zones) (stage_of self.now.phase)) }
         ensures idle { IfNone result (stage_of self.now.phase ≡ idle) }
         ensures made { IfNone result (AreMade graph.now zones) }
     {
@@ -384,6 +387,52 @@ impl World {
         ensures { IsTrue result ↔ (self.now.told ≡ []) }
     {
         self.told.as_slice().is_empty()
+    }
+
+    /// The cells of a zone move together, and the arenas that this empties are given up.
+    pub fn compact(&mut self, graph: &Graph, zone: ZoneNo) -> Result<Compacted, NoMemory>
+        requires idle { stage_of self.old.phase ≡ idle }
+        requires made { zone < graph.now.zones }
+        ensures { IfOk result (λ done. Packs graph.now zone (shown self.old) done.moved done.given_up
+            (shown self.new)) }
+    {
+        let zones = ZoneSet::only(zone);
+        let arenas = self.arenas.numbers(self.alloc, zones)?;
+        let filled = filled(graph, zones, &self.places)?;
+        if filled > arenas.len() as u64 {
+            return Err(AllocError);
+        }
+        let (kept, given_up) = arenas.as_slice().split_at(filled as usize);
+        let movers = lying_in(self.alloc, given_up, &self.places)?;
+        let stayers = lying_in(self.alloc, kept, &self.places)?;
+        let free = free_places(self.alloc, kept, &stayers)?;
+        self.move_cells(&movers, free.as_slice())?;
+        self.arenas.give_up(given_up);
+        if given_up.len() > u32::MAX as usize {
+            return Err(AllocError);
+        }
+        Ok(Compacted {
+            moved: movers.len() as u64,
+            given_up: given_up.len() as u32,
+        })
+    }
+
+    // Each of these cells goes to the next of these places.
+    fn move_cells(&mut self, movers: &BTreeMap<Place, Name>, free: &[Place]) -> Result<(), NoMemory>
+        ensures same { OnOk result (shown self.new ≡ record (shown self.old) { cells = self.new.places }) }
+        ensures ordered { OnOk result (IsOrdered place_order movers.now) }
+        ensures moved { OnOk result (GoTo movers.now.entries free.now self.old.places self.new.places) }
+    {
+        let mut next = 0;
+        for (_, name) in movers {
+            let Some(place) = free.get(next).copied() else {
+                return Err(AllocError);
+            };
+            next += 1;
+            self.arenas.occupy(place);
+            self.places.insert(*name, place)?;
+        }
+        Ok(())
     }
 
     /// Which report is due.

@@ -1,5 +1,6 @@
-use Rattle.std.proofs.Common.{◌≡◌, ◌↔◌, ◌∙◌, ◌<◌, List, length, get_or, IsTrue, arith, ap, subst}
-use Rattle.gz_names.specs.Zones.{HasZone}
+use Rattle.std.proofs.Common.{◌≡◌, ◌∙◌, ◌<◌, List, length, get_or, arith, ap, subst}
+use Rattle.gz_names.specs.Zones.{zones_in}
+use Rattle.colour_defs.specs.Graph.{is_among}
 use Rattle.judge.specs.declared.arenas.Arena.{Arena}
 use Rattle.judge.proofs.Tallies.{arenas_more, byte_is, byte_most}
 use Rattle.judge.proofs.arenas.Arenas.count.Goals as goal
@@ -13,8 +14,8 @@ loop-arena-preserved c =
     let below : i < length items = subst (λ (xs : List Arena). i < length xs) value c.loop-arena-test.true in
     let is : arena ≡ get_or items i arena = c.arena-item.is ∙ ap (λ (xs : List Arena). get_or xs i arena) value in
     let zones = c.args.zones in
-    let has = subst (λ (a : Arena). IsTrue c.contains.result ↔ HasZone zones.bits a.owner) is c.contains.ensures in
-    let more = arenas_more zones items i arena c.contains.result below has in record {
-      few = omega (arith, c.from-count.ensures, byte_most c.contains.result);
-      counted = omega (arith, c.from-count.ensures, byte_is c.contains.result, more);
+    let has = subst (λ (a : Arena). c.is_of.result ≡ is_among (zones_in zones) a.owner) is c.is_of.ensures in
+    let more = arenas_more zones items i arena c.is_of.result below has in record {
+      few = omega (arith, c.from-count.ensures, byte_most c.is_of.result);
+      counted = omega (arith, c.from-count.ensures, byte_is c.is_of.result, more);
     }

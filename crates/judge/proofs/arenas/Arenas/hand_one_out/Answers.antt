@@ -1,19 +1,17 @@
-use Rattle.std.proofs.Common.{◌↔◌, Bool, IsTrue, ap, subst, sym}
+use Rattle.std.proofs.Common.{◌∙◌, ap, sym}
 use Rattle.std.proofs.Math.Seq.{map-set_same}
-use Rattle.gz_names.specs.Zones.{HasZone}
 use Rattle.judge.specs.Arenas.{owner_of}
 use Rattle.judge.proofs.Owners.{goes_out, stays_in}
 use Rattle.judge.proofs.arenas.Arenas.hand_one_out.Goals as goal
 
-pub returns-then-not-contains-clause-out : goal.returns-then-not-contains-clause-out
-returns-then-not-contains-clause-out c = λ rest e.
+pub returns-then-not-is_of-clause-out : goal.returns-then-not-is_of-clause-out
+returns-then-not-is_of-clause-out c = λ rest e.
     stays_in c.args.self.now.arenas.items c.args.number c.args.zones c.args.self.now.out.items rest
     (record {
       below = c.requires;
       one = c.index.result.now;
       one_is = sym c.index.ensures;
-      test = subst (λ (b : Bool). IsTrue b ↔ HasZone c.args.zones.bits c.index.result.now.owner)
-          c.if-not-contains.true c.contains.ensures;
+      test = sym c.if-not-is_of.true ∙ c.is_of.ensures;
     }) e
 
 pub returns-clause-out : goal.returns-clause-out
@@ -24,8 +22,7 @@ returns-clause-out c = λ rest e.
       below = c.requires;
       one = c.index.result.now;
       one_is = sym c.index.ensures;
-      test = subst (λ (b : Bool). IsTrue b ↔ HasZone c.args.zones.bits c.index.result.now.owner)
-          c.if-not-contains.false c.contains.ensures;
+      test = sym c.if-not-is_of.false ∙ c.is_of.ensures;
     }) c.in_ok-push.ensures.items e
 
 pub returns-clause-owners : goal.returns-clause-owners

@@ -1,18 +1,7 @@
-use Rattle.std.proofs.Common.{inl, ap, refl, subst}
-use Rattle.judge.specs.Replies.{IsJudged, due_as}
+use Rattle.std.proofs.Common.{inl, ap, refl}
+use Rattle.judge.specs.Replies.{due_as}
 use Rattle.judge.proofs.Runs.{some_due}
 use Rattle.judge.proofs.judging.Known.command.Goals as goal
-
-pub returns-then-not-is_judged-clause-said : goal.returns-then-not-is_judged-clause-said
-returns-then-not-is_judged-clause-said c = (
-  c.args.text.now,
-  refl,
-  λ d s j. (let is = c.is_judged.ensures.1 (subst IsJudged (c.requires.only d s) j) in
-      cc (is, c.if-not-is_judged.true)),
-)
-
-pub begin_answer-requires : goal.begin_answer-requires
-begin_answer-requires c = c.is_judged.ensures.0 c.if-not-is_judged.false
 
 pub returns-then-is_whole-clause-fine : goal.returns-then-is_whole-clause-fine
 returns-then-is_whole-clause-fine c = λ e. inl (

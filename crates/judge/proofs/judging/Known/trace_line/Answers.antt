@@ -6,4 +6,4 @@ command-requires-clause-only c = λ d s. (let p = c.parse.ensures.exact d s in c
 
 pub returns-in-Err-clause-said : goal.returns-in-Err-clause-said
 returns-in-Err-clause-said c =
-    (c.args.text.now, refl, λ d s j. let p = c.parse.ensures.exact d s in cc (p, c.in-Err.is))
+    (c.args.text.now, refl, λ d s. let p = c.parse.ensures.exact d s in cc (p, c.in-Err.is))
