@@ -76,5 +76,5 @@ class Transcript:
         if ran.returncode == STATUS_BAD_LINE:
             place = int(ran.stderr.split()[2].rstrip(b":"))
             line = self.places[place - 1][0]
-            raise Fault(f"line {line} of the trace is none of the language, or none that is judged")
+            raise Fault(f"line {line} of the trace is none of the language")
         raise Fault(ran.stderr.decode(errors="replace").strip() or f"gcjudge ended with status {ran.returncode}", 1)
