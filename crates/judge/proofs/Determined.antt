@@ -75,34 +75,46 @@ names_are places (x ∷ xs) (y ∷ ys) s =
 filled_once : (cells a b : ℕ) → FillArenas cells a → FillArenas cells b → a ≡ b
 filled_once cells a b f g = omega (arith, f.0, f.1, g.0, g.1)
 
-module _ (w : World) (zone : ℕ) (u v : World) (m n k l : ℕ) (c : Compacts w zone m n u) (d : Compacts w zone k l v) where
-  kept_count : length c.kept ≡ length d.kept
-  kept_count = filled_once _ (length c.kept) (length d.kept) c.few d.few
+-- a compaction, and another one of the same zone in the same world
+record AreBoth (w : World) (zone : ℕ) : Type 0 where
+  u : World
+  v : World
+  m : ℕ
+  n : ℕ
+  k : ℕ
+  l : ℕ
+  one : Compacts w zone m n u
+  other : Compacts w zone k l v
 
-  arenas_are : c.kept ++ c.given_up ≡ d.kept ++ d.given_up
-  arenas_are = sym c.arenas_are ∙ d.arenas_are
+module _ (w : World) (zone : ℕ) (both : AreBoth w zone) where
+  kept_count : length both.one.kept ≡ length both.other.kept
+  kept_count = filled_once _ (length both.one.kept) (length both.other.kept) both.one.few both.other.few
 
-  given_is : c.given_up ≡ d.given_up
+  arenas_are : both.one.kept ++ both.one.given_up ≡ both.other.kept ++ both.other.given_up
+  arenas_are = sym both.one.arenas_are ∙ both.other.arenas_are
+
+  given_is : both.one.given_up ≡ both.other.given_up
   given_is =
-      sym (drop-append_seam c.kept c.given_up) ∙ (λ i. drop (kept_count i) (arenas_are i))
-      ∙ drop-append_seam d.kept d.given_up
+      sym (drop-append_seam both.one.kept both.one.given_up) ∙ (λ i. drop (kept_count i) (arenas_are i))
+      ∙ drop-append_seam both.other.kept both.other.given_up
 
-  movers_are : c.movers ≡ d.movers
-  movers_are = names_are w.places c.movers d.movers (record {
-    there = λ x h. (let a = (c.movers_are x).0 h in (a.0, a.1));
-    left = c.in_order;
-    right = d.in_order;
+  movers_are : both.one.movers ≡ both.other.movers
+  movers_are = names_are w.places both.one.movers both.other.movers (record {
+    there = λ x h. (let a = (both.one.movers_are x).0 h in (a.0, a.1));
+    left = both.one.in_order;
+    right = both.other.in_order;
     same = λ x. (
-      λ h. (let a = (c.movers_are x).0 h in
-          (d.movers_are x).1 (a.0, a.1, subst (λ gs. Contains gs a.0.0) given_is a.2)),
-      λ h. (let a = (d.movers_are x).0 h in
-          (c.movers_are x).1 (a.0, a.1, subst (λ gs. Contains gs a.0.0) (sym given_is) a.2)),
+      λ h. (let a = (both.one.movers_are x).0 h in
+          (both.other.movers_are x).1 (a.0, a.1, subst (λ gs. Contains gs a.0.0) given_is a.2)),
+      λ h. (let a = (both.other.movers_are x).0 h in
+          (both.one.movers_are x).1 (a.0, a.1, subst (λ gs. Contains gs a.0.0) (sym given_is) a.2)),
     );
   })
 
 pub determined : (w : World) (zone : ℕ) (u v : World) (m n k l : ℕ) → Compacts w zone m n u → Compacts w zone k l v
     → (m ≡ k) × (n ≡ l)
-determined w zone u v m n k l c d = (
-  c.moved_is ∙ ap length (movers_are w zone u v m n k l c d) ∙ sym d.moved_is,
-  c.given_is ∙ ap length (given_is w zone u v m n k l c d) ∙ sym d.given_is,
-)
+determined w zone u v m n k l c d =
+    let both : AreBoth w zone = record { u = u; v = v; m = m; n = n; k = k; l = l; one = c; other = d } in (
+      c.moved_is ∙ ap length (movers_are w zone both) ∙ sym d.moved_is,
+      c.given_is ∙ ap length (given_is w zone both) ∙ sym d.given_is,
+    )
