@@ -10,7 +10,7 @@ use std::process::Abort;
 use std::sync::Wait;
 use std::test::Fail;
 use std::thread::Threads;
-use trace_cli::{Exit, replay};
+use trace_cli::{Exit, Thresholds, replay};
 
 // The lines of a trace, each with the lines that answer it.
 type Row = &'static [(&'static str, &'static str)];
@@ -101,8 +101,12 @@ const ALONE: &str = "0";
 
 const BESIDE: &str = "2";
 
-// Each arena that is out may have a helper of its own, so that as many start as the words ask for.
-const ARENAS_A_HELPER: usize = 1;
+// Each arena that is out may have a helper of its own, so that as many start as the words ask for, and two markers
+// share any two cells.
+const THRESHOLDS: Thresholds = Thresholds {
+    arenas_a_helper: 1,
+    cells_for_two: 1,
+};
 
 // The lines of a row, one after the other.
 fn trace_of(alloc: Global, row: Row) -> Result<Vec<u8>, Fail> {
@@ -138,7 +142,7 @@ fn replay_in_memory<R: Threads + Wait + Sync, K: Sink + Send>(
     source: &mut MemSource<'_>,
     sink: &mut K,
 ) -> Exit {
-    replay(rt, alloc, words, ARENAS_A_HELPER, source, sink, &FreeGate)
+    replay(rt, alloc, words, THRESHOLDS, source, sink, &FreeGate)
 }
 
 // Replays a trace in pieces of one byte, where these calls of the source and of the sink fail.

@@ -9,11 +9,15 @@ use gz_io::{Buffered, FreeGate, StdSink, StdSource};
 use std::env;
 use std::io::ErrorKind;
 use std::process::ExitCode;
-use trace_cli::{Exit, replay};
+use trace_cli::{Exit, Thresholds, replay};
 
 // For each 1,024 arenas begun one helper at most starts: starting a thread takes longer than sweeping some hundred
-// arenas (our choice).
-const ARENAS_A_HELPER: usize = 1_024;
+// arenas. Two markers start where 16 cells are pending: a few lists leave nothing to share, and one marker follows them
+// more quickly (our choice).
+const THRESHOLDS: Thresholds = Thresholds {
+    arenas_a_helper: 1_024,
+    cells_for_two: 16,
+};
 
 // The arguments. Some that are no text are no words that the program takes.
 fn arguments(rt: &HostRuntime) -> Result<Vec<String>, Exit> {
@@ -39,7 +43,7 @@ fn main(rt: HostRuntime) -> ExitCode {
                     &rt,
                     alloc,
                     words.as_slice(),
-                    ARENAS_A_HELPER,
+                    THRESHOLDS,
                     &mut source,
                     &mut sink,
                     &FreeGate,

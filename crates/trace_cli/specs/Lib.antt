@@ -8,6 +8,7 @@ pub mod Writing
 pub mod Starting
 pub mod Reaching
 pub mod Standing
+pub mod Quiet
 pub mod Pauses
 pub mod Answering
 pub mod Storms

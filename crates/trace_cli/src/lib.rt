@@ -67,4 +67,4 @@ mod storm;
 mod turns;
 
 pub use exit::Exit;
-pub use reading::replay;
+pub use reading::{Thresholds, replay};

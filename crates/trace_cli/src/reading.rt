@@ -35,18 +35,26 @@ use std::thread::Threads;
 use sweep_beside::{Works, sweep_beside};
 use sweeping::MainSweeper;
 
+/// From how much work on threads share it.
+#[derive(Clone, Copy, Debug, PartialEq, Eq)]
+pub struct Thresholds {
+    /// For how many arenas begun one helper at most starts.
+    pub arenas_a_helper: usize,
+    /// How many cells are pending in black where two markers start.
+    pub cells_for_two: usize,
+    ghost some: { 0 < arenas_a_helper },
+}
+
 /// What a replay is lent: threads and memory, how many helpers sweep, and the gate that they pass.
 #[derive(Drop)]
 pub struct Resources<'r, R, G> {
     pub rt: &'r R,
     pub alloc: Global,
     pub helpers: Helpers,
-    /// For how many arenas begun one helper at most starts.
-    pub arenas_a_helper: usize,
+    pub thresholds: Thresholds,
     pub gate: &'r G,
-    /// Whether two markers follow what is black as the marking of a `collect` begins.
+    /// Whether two markers follow what is black in a `collect`, once there is enough to share.
     pub two_markers: bool,
-    ghost some: { 0 < arenas_a_helper },
 }
 
 // Goes on until the replay is over: over no arenas, or beside the helpers that sweep those that were handed out.
@@ -81,6 +89,7 @@ fn run_on<
             Pause::MarkingBegan => {
                 if resources.two_markers {
                     replaying.mark_by(
+                        resources.thresholds.cells_for_two,
                         &|alloc: Global, heap: &Heap, from: &[Place], words: Vec<u64>|
                             requires { MayBeMarked heap.now from.now words.items }
                             ensures { IfOk result (λ r. HasBlackened (field_at heap.entry.now.shape)
@@ -97,7 +106,7 @@ fn run_on<
                     resources.alloc,
                     jobs,
                     count,
-                    resources.arenas_a_helper,
+                    resources.thresholds.arenas_a_helper,
                     resources.gate,
                     replaying,
                 )
@@ -180,17 +189,16 @@ fn answer_lines<
 }
 
 /// Replays a trace, or checks a dump of colours. The words are the command line's, the program's name first. Of the
-/// helpers that they ask for no more start than one for each `arenas_a_helper` arenas begun.
+/// helpers and markers that they ask for no more start than the thresholds allow.
 pub fn replay<R: Threads + Wait + Sync, S: Source + Send, K: Sink + Send, G: Gate + Sync>(
     rt: &R,
     alloc: Global,
     words: &[&str],
-    arenas_a_helper: usize,
+    thresholds: Thresholds,
     source: &mut S,
     sink: &mut K,
     gate: &G,
 ) -> Exit
-    requires some { 0 < arenas_a_helper }
     ensures lawful { (IsCheck (map (λ w. w.now) words.now) → ⊥) → (IsStorm (map (λ w. w.now) words.now) → ⊥)
         → Replays (S.left source.old) (S.left source.new) (K.written sink.old) (K.written sink.new) result }
     ensures storm { (seed lines : ℕ) → IsStormOf (map (λ w. w.now) words.now) seed lines
@@ -222,7 +230,7 @@ pub fn replay<R: Threads + Wait + Sync, S: Source + Send, K: Sink + Send, G: Gat
                 rt,
                 alloc,
                 helpers: Helpers::of(words, helpers),
-                arenas_a_helper,
+                thresholds,
                 gate,
                 two_markers: markers == 2,
             };
@@ -239,7 +247,7 @@ pub fn replay<R: Threads + Wait + Sync, S: Source + Send, K: Sink + Send, G: Gat
                 rt,
                 alloc,
                 helpers: Helpers::of(words, helpers),
-                arenas_a_helper,
+                thresholds,
                 gate,
                 two_markers: false,
             };

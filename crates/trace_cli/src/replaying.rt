@@ -1,9 +1,10 @@
 // A replay, as main's work beside helpers.
-ghost use Rattle.std.specs.Prelude.{◌≡◌, [], Some};
+ghost use Rattle.std.specs.Prelude.{◌≡◌, [], Some, IsSome};
 ghost use Rattle.mark_ahead.specs.Markers.{MarksBlack};
 ghost use Rattle.slice_driver.specs.Units.{none_flown};
 ghost use Rattle.trace_cli.specs.Pauses.{PausesSo};
-ghost use Rattle.trace_cli.specs.Standing.{Entry, IsStanding, Standing};
+ghost use Rattle.trace_cli.specs.Quiet.{GoesQuietly};
+ghost use Rattle.trace_cli.specs.Standing.{Entry, IsStanding, Standing, StandsWith};
 
 use crate::lines::go;
 use crate::machine::{Machine, Pause};
@@ -14,10 +15,30 @@ use gz_io::Sink;
 use gz_names::{NoMemory, Place};
 use heap_core::{Heap, Steps};
 use mark_ahead::Marked;
+use slice_driver::Collector;
 use std::alloc::Global;
 use std::sync::ledger::Ledger;
 use sweep_beside::Works;
 use sweeping::Sweeping;
+
+// How many units are done between two looks at how many cells are pending.
+const UNITS: u64 = 64;
+
+// Does units that report nothing until at least this number of cells is pending in black. False where no such unit is
+// left before.
+fn mark_until<L: Ledger>(collector: &mut Collector, least: usize, steps: &mut Steps<L>) -> bool
+    requires counted { collector.old.heap.ledger ≡ Some L.name }
+    requires stands { StandsWith collector.old [] none_flown }
+    requires running { IsSome collector.old.run }
+    ensures { GoesQuietly collector.old collector.new }
+{
+    while collector.pending_black() < least {
+        if collector.quiet_units(UNITS, &mut NoFlight, steps) < UNITS {
+            return false;
+        }
+    }
+    true
+}
 
 /// A replay between two stretches of it, with all that it is lent.
 #[derive(Drop)]
@@ -41,11 +62,11 @@ impl<'m, 's, 'k, 't, 'p, S: CommandSource, K: Sink, L: Ledger> Replaying<
     K,
     L,
 > {
-    /// As the marking of a `collect` begins, the function `mark` follows at once what is black. Where memory runs out,
-    /// units of the collection follow it cell by cell.
+    /// As the marking of a `collect` begins: units follow what is black cell by cell, until this number of cells is
+    /// pending, and then the function `mark` follows it at once. Where memory runs out, units go on.
     pub fn mark_by<
         M: Fn(Global, &Heap, &[Place], Vec<u64>) -> Result<(Vec<u64>, Marked), NoMemory>,
-    >(&mut self, mark: &M)
+    >(&mut self, least: usize, mark: &M)
         requires marks { MarksBlack (M.pre mark.now) (M.post mark.now) }
         requires counted { self.old.machine.now.collector.heap.ledger ≡ Some L.name }
         requires standing { IsStanding self.old.machine.now (S.input self.old.source.now)
@@ -68,9 +89,13 @@ impl<'m, 's, 'k, 't, 'p, S: CommandSource, K: Sink, L: Ledger> Replaying<
             return;
         };
         let collector = &mut self.machine.collector;
-        if collector.running() {
-            let _ = collector.mark_two(self.alloc, mark, &mut NoFlight, self.steps);
+        if !collector.running() {
+            return;
         }
+        if !mark_until(collector, least, self.steps) {
+            return;
+        }
+        let _ = collector.mark_two(self.alloc, mark, &mut NoFlight, self.steps);
     }
 }
 

@@ -2,7 +2,7 @@
 // what is written does not depend on them.
 ghost use Rattle.std.specs.Prelude.{None};
 
-use crate::tests::ARENAS_A_HELPER;
+use crate::tests::THRESHOLDS;
 use gz_io::{Failed, Gate, MemSink, MemSource, Point, Sink};
 use std::alloc::Global;
 use std::process::Abort;
@@ -83,7 +83,7 @@ fn check_slow<R: Abort + Threads + Wait + Sync>(
         rt,
         alloc,
         words,
-        ARENAS_A_HELPER,
+        THRESHOLDS,
         &mut source,
         &mut sink,
         &SlowGate,
@@ -212,7 +212,7 @@ fn check_meeting<R: Abort + Threads + Wait + Sync>(rt: &R, alloc: Global, words:
         rt,
         alloc,
         words,
-        ARENAS_A_HELPER,
+        THRESHOLDS,
         &mut source,
         &mut watch,
         &meeting,
@@ -316,7 +316,7 @@ fn four_helpers_sweep_at_once(rt: HostRuntime) -> Result<(), Fail> {
         &rt,
         rt.alloc(),
         &BESIDE[3],
-        ARENAS_A_HELPER,
+        THRESHOLDS,
         &mut source,
         &mut sink,
         &meeting,
@@ -338,7 +338,7 @@ fn two_markers_mark_at_once(rt: HostRuntime) -> Result<(), Fail> {
         &rt,
         rt.alloc(),
         &words,
-        ARENAS_A_HELPER,
+        THRESHOLDS,
         &mut source,
         &mut sink,
         &meeting,
